@@ -1,0 +1,78 @@
+ghost use Rattle.std.specs.Prelude.{◌≡◌, List, [], ◌∷◌, ◌++◌, OnOk, OnErr, IfOk};
+
+use std::alloc::{AllocError, Global};
+use std::marker::Model;
+
+/// Want of memory: the one answer that no clause ties to a cause.
+pub type NoMemory = AllocError;
+
+/// The bytes of a file or of a message.
+pub type Bytes = Sequence<u8>;
+
+/// A text, as its bytes.
+pub type Text = Sequence<u8>;
+
+/// Items in order, which contracts see as their list.
+#[derive(Debug, Drop)]
+pub struct Sequence<T> {
+    list: Vec<T>,
+}
+
+impl<T> Model for Sequence<T> {
+    ghost Value = { List T };
+
+    ghost view = { λ s. s.list.items };
+}
+
+impl<T> Sequence<T> {
+    /// No items yet. This takes no memory.
+    pub fn open(alloc: Global) -> Self
+        ensures { result ≡ [] }
+    {
+        Sequence {
+            list: Vec::new(alloc),
+        }
+    }
+
+    /// Puts an item behind the others.
+    pub fn push(&mut self, item: T) -> Result<(), NoMemory>
+    where
+        T: Drop,
+        ensures ok { OnOk result (self.new ≡ self.old ++ item ∷ []) }
+        ensures err { OnErr result (self.new ≡ self.old) }
+    {
+        self.list.push(item)?;
+        Ok(())
+    }
+
+    /// The items, as a slice.
+    pub fn items(&self) -> &[T]
+        ensures { result.now ≡ self.now }
+    {
+        self.list.as_slice()
+    }
+
+    /// The items of a vector, without a copy.
+    pub fn from_vec(list: Vec<T>) -> Self
+        ensures { result ≡ list.items }
+    {
+        Sequence { list }
+    }
+
+    /// The items as a vector, without a copy.
+    pub fn into_vec(self) -> Vec<T>
+        ensures { result.items ≡ self }
+    {
+        self.list
+    }
+}
+
+impl<T: Copy> Sequence<T> {
+    /// Another sequence with equal items, on the same allocator.
+    pub fn copy(&self) -> Result<Self, NoMemory>
+        ensures { IfOk result (λ other. other ≡ self.now) }
+    {
+        let list = self.list.iter().copied().collect(*self.list.allocator())?;
+        Ok(Sequence { list })
+    }
+}
