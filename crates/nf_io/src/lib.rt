@@ -1,0 +1,13 @@
+//! Reading and writing outside the program, role by role.
+//!
+//! An [`Outside`] has seven files, one for each [`Role`]. Contracts see it as a function from
+//! roles to a `Meaning`: the bytes left, the bytes written, a count of faults, and the name that
+//! was bound. A call fails only where the count of faults of its own role rose, and leaves every
+//! other role as it was.
+#![tactic(auto)]
+
+pub mod outside;
+pub mod streams;
+
+pub use outside::{Failed, Outside, Role};
+pub use streams::{RoleSink, RoleSource, Sink, Source};
