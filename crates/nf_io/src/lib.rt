@@ -8,6 +8,8 @@
 
 pub mod outside;
 pub mod streams;
+pub mod transfers;
 
 pub use outside::{Failed, Outside, Role};
 pub use streams::{RoleSink, RoleSource, Sink, Source};
+pub use transfers::{UptoFault, read_upto, write_all};
