@@ -1,4 +1,5 @@
 -- What several reads or writes in a row do together.
+use Rattle.std.proofs.lemmas.List.{length-take-le, take-append-drop, drop-drop}
 use Rattle.std.proofs.Common.{◌≡◌, ℕ, ◌+◌, ◌-◌, ◌≤◌, ◌<◌, List, [], ◌++◌, Option, None, Some, length, take, drop, refl, ap, sym, ◌∙◌, subst, arith, length-drop, length-append, append-nil}
 use Rattle.std.proofs.Math.Seq.{take-length, take-add, take-append_seam, drop-append_seam, drop-length}
 use Rattle.std.specs.Option.{ForSome}
@@ -28,3 +29,14 @@ appended_more a b c bytes at n p q =
 -- a front was appended, and then nothing
 pub appended_front : (a b c : Option (List ℕ)) (bytes : List ℕ) (at : ℕ) → at ≤ length bytes → Appends a b (take at bytes) → Keeps b c → AppendsFront a c bytes
 appended_front a b c bytes at within p q = (at, within, Appends-kept a b c _ p q)
+
+-- a front of what is left was copied over the front of a buffer, and is no longer left
+pub front_moved : (xs ys piece tail : List ℕ) (taken n : ℕ) → ys ≡ xs → piece ≡ take n (take (length ys - taken) (drop taken ys))
+    → n ≤ length (take (length ys - taken) (drop taken ys)) → drop taken xs ≡ take n (piece ++ tail) ++ drop (taken + n) xs
+front_moved xs ys piece tail taken n same is within =
+    let left : take (length ys - taken) (drop taken ys) ≡ drop taken xs = range_from taken ys ∙ ap (drop taken) same in
+    let from : piece ≡ take n (drop taken xs) = is ∙ ap (take n) left in
+    let len : length piece ≡ n = ap length is ∙ length-take-le n _ within in
+    let front : take n (piece ++ tail) ≡ piece = ap (λ k. take k (piece ++ tail)) (sym len) ∙ take-append_seam piece tail in
+    sym (take-append-drop n (drop taken xs)) ∙ ap (λ l. l ++ drop n (drop taken xs)) (sym from ∙ sym front)
+    ∙ ap (λ l. take n (piece ++ tail) ++ l) (drop-drop n taken xs)

@@ -1,3 +1,6 @@
 pub mod Roles
 pub mod Meaning
 pub mod Transfers
+pub mod Tapes
+pub mod Planned
+pub mod Memory

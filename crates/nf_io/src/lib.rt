@@ -8,8 +8,12 @@
 
 pub mod outside;
 pub mod streams;
+mod planned;
+mod tape;
+pub mod memory;
 pub mod transfers;
 
+pub use memory::MemoryOutside;
 pub use outside::{Failed, Outside, Role};
 pub use streams::{RoleSink, RoleSource, Sink, Source};
 pub use transfers::{UptoFault, read_upto, write_all};
