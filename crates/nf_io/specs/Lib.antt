@@ -4,3 +4,4 @@ pub mod Transfers
 pub mod Tapes
 pub mod Planned
 pub mod Memory
+pub mod Calm

@@ -10,9 +10,11 @@ pub mod outside;
 pub mod streams;
 mod planned;
 mod tape;
+pub mod calm;
 pub mod memory;
 pub mod transfers;
 
+pub use calm::CalmOutside;
 pub use memory::MemoryOutside;
 pub use outside::{Failed, Outside, Role};
 pub use streams::{RoleSink, RoleSource, Sink, Source};
