@@ -5,3 +5,4 @@ pub mod Tapes
 pub mod Planned
 pub mod Memory
 pub mod Calm
+pub mod Files

@@ -9,12 +9,15 @@
 pub mod outside;
 pub mod streams;
 mod planned;
+mod stream;
 mod tape;
 pub mod calm;
+pub mod file;
 pub mod memory;
 pub mod transfers;
 
 pub use calm::CalmOutside;
+pub use file::FileOutside;
 pub use memory::MemoryOutside;
 pub use outside::{Failed, Outside, Role};
 pub use streams::{RoleSink, RoleSource, Sink, Source};
