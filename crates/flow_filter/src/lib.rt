@@ -9,6 +9,7 @@ pub mod packet;
 pub mod prefix;
 pub mod sequence;
 pub mod site;
+pub mod text;
 
 pub use flow::{Dir, Flow, flow_of};
 pub use packet::{Packet, Packets, TCP, UDP};
