@@ -122,7 +122,7 @@ next_record r p way = record {
   bytes = count r.bytes p.length }
 
 -- the record after a packet
-abbrev pub stepped : Site → Option TrackRecord → Packet → TrackRecord
+unfoldable pub stepped : Site → Option TrackRecord → Packet → TrackRecord
 stepped site None p = first_record p (flow_of site p).1
 stepped site (Some r) p = next_record r p (flow_of site p).1
 

@@ -18,6 +18,7 @@ pub struct Output {
 /// Takes a packet into what is kept of its flow, and gives the output.
 ///
 /// The output's code is the number of the new state, and its other numbers are 0.
+#[tactic(auto, unfolding(crate::specs::Table::stepped))]
 pub fn step(site: &Site, kept: &mut Option<TrackRecord>, packet: &Packet) -> Output
     requires { IfSome kept.old (IsRecordOf packet.now.proto) }
     ensures kept { kept.new ≡ Some (stepped site.now kept.old packet.now) }

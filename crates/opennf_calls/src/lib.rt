@@ -1,0 +1,5 @@
+//! try
+#![tactic(auto)]
+
+pub mod fold;
+pub mod report;
