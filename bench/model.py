@@ -91,47 +91,73 @@ class Trace(NamedTuple):
     cut: bool
 
 
-MAGIC = bytes.fromhex("d4c3b2a1")
-RAW = 101
+ORDERS = {
+    bytes.fromhex("a1b2c3d4"): ">",
+    bytes.fromhex("d4c3b2a1"): "<",
+    bytes.fromhex("a1b23c4d"): ">",
+    bytes.fromhex("4d3cb2a1"): "<",
+}
+PCAPNG = bytes.fromhex("0a0d0d0a")
+ETHERNET, RAW = 1, 101
 MOST_CAPTURED = 262_144
 MOST_PACKETS = 1_000_000
 MOST_BYTES = 4_294_967_296
 
 
-def refuse_trace(offset):
-    raise Refusal(2, f"trace byte {offset}: form")
+def refuse_trace(offset, kind):
+    raise Refusal(2, f"trace byte {offset}: {kind}")
 
 
 def read_header(capture):
-    """Refuses what isn't a little-endian capture of microseconds and raw IP, from the first 24 bytes."""
-    if len(capture) < 24 or capture[:4] != MAGIC:
-        refuse_trace(0)
-    major, minor, link = struct.unpack("<4xHH12xI", capture[:24])
-    if (major, minor) != (2, 4) or link % (1 << 16) != RAW:
-        refuse_trace(0)
+    """The byte order and the link type, from the first 24 bytes."""
+    magic = capture[:4]
+    if magic == PCAPNG:
+        refuse_trace(0, "pcapng")
+    if magic not in ORDERS:
+        refuse_trace(0, "magic")
+    if len(capture) < 24:
+        refuse_trace(len(capture), "header")
+    order = ORDERS[magic]
+    major, minor, link = struct.unpack(order + "4xHH12xI", capture[:24])
+    if (major, minor) != (2, 4):
+        refuse_trace(4, "version")
+    link %= 1 << 16
+    if link not in (ETHERNET, RAW):
+        refuse_trace(20, f"link type {link}")
+    return order, link
 
 
 def read_trace(capture):
-    read_header(capture)
+    order, link = read_header(capture)
     packets, skipped, offset = [], 0, 24
     while offset < len(capture):
         if len(capture) - offset < 16:
             return Trace(packets, skipped, True)
-        (captured,) = struct.unpack_from("<8xI", capture, offset)
+        (captured,) = struct.unpack_from(order + "8xI", capture, offset)
         end = offset + 16 + captured
         if captured > MOST_CAPTURED:
-            refuse_trace(offset)
+            refuse_trace(offset, f"record length {captured}")
         if end > len(capture):
             return Trace(packets, skipped, True)
-        packet = read_packet(capture[offset + 16 : end])
+        packet = read_packet(ip_of(capture[offset + 16 : end], link))
         if end > MOST_BYTES or (packet and len(packets) == MOST_PACKETS):
-            refuse_trace(offset)
+            refuse_trace(offset, "too long")
         if packet:
             packets.append(packet)
         else:
             skipped += 1
         offset = end
     return Trace(packets, skipped, False)
+
+
+def ip_of(frame, link):
+    """What follows the frame's link header, where that says IPv4. One VLAN tag may stand in front of the type."""
+    if link == RAW:
+        return frame
+    for tag, header in (b"", 14), (b"\x81\x00", 18):
+        if len(frame) >= header and frame[12:14].startswith(tag) and frame[header - 2 : header] == b"\x08\x00":
+            return frame[header:]
+    return b""
 
 
 def read_packet(ip) -> Optional[Packet]:
