@@ -1,1 +1,5 @@
 pub mod SiteLaws
+pub mod Bools
+pub mod BlockLaws
+pub mod FieldLaws
+pub mod FilterLaws

@@ -1,2 +1,4 @@
 pub mod Block
 pub mod Flow
+pub mod Name
+pub mod Filter
