@@ -3,3 +3,5 @@ pub mod Bools
 pub mod BlockLaws
 pub mod FieldLaws
 pub mod FilterLaws
+pub mod CutLaws
+pub mod NumberLaws

@@ -2,3 +2,4 @@ pub mod Block
 pub mod Flow
 pub mod Name
 pub mod Filter
+pub mod Reading

@@ -9,6 +9,7 @@ pub mod flow;
 pub mod name;
 pub mod packet;
 pub mod prefix;
+pub mod reading;
 pub mod sequence;
 pub mod site;
 
