@@ -1,0 +1,6 @@
+pub mod Address
+pub mod Block
+pub mod Flow
+pub mod Name
+pub mod Filter
+pub mod Reading

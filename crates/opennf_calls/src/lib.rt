@@ -1,0 +1,7 @@
+//! try
+#![tactic(auto)]
+
+pub mod complaint;
+pub mod fold;
+pub mod report;
+pub mod status;
