@@ -1,7 +1,7 @@
 -- Which records of a capture are steered, and the packet of each: frames of Ethernet (IEEE 802.3) with at most one VLAN tag (IEEE 802.1Q), or none, around
 -- IPv4 (RFC 791) with TCP (RFC 9293) or UDP (RFC 768). Only first fragments are steered, and no checksum is looked at. Each definition takes how
 -- many bytes the record has, and its bytes, of which only the first 202 count.
-use Rattle.std.specs.Prelude.{ℕ, ◌+◌, ◌-◌, ◌*◌, ◌/◌, ◌%◌, ◌^◌, ◌==◌, ◌&&◌, ◌||◌, Bool, nat_le, nat_lt, min, List, ◌++◌, take, drop, replicate, Option, Some, None, option_map, option_and_then, if◌then◌else◌}
+use Rattle.std.specs.Prelude.{◌≡◌, ◌≤◌, max, ℕ, ◌+◌, ◌-◌, ◌*◌, ◌/◌, ◌%◌, ◌^◌, ◌==◌, ◌&&◌, ◌||◌, Bool, nat_le, nat_lt, min, List, ◌++◌, take, drop, replicate, Option, Some, None, option_map, option_and_then, if◌then◌else◌}
 use Rattle.flow_filter.specs.declared.packet.Packet.{Packet}
 use Rattle.trace_reader.specs.declared.form.Fraction.{Fraction}
 use Rattle.trace_reader.specs.declared.form.Fraction.TheVariants.{Micros, Nanos}
@@ -53,15 +53,24 @@ parts_at len f s h =
 unfoldable pub parts_of : Link → ℕ → List ℕ → Option Parts
 parts_of link len f = option_and_then (λ s. option_and_then (λ h. parts_at len f s h) (header_length len f s)) (start_of link len f)
 
+-- these lengths stand in the record's own bytes, and its ports and flags are captured
+pub record HasParts (len : ℕ) (f : List ℕ) (parts : Parts) : Type 0 where
+  pub start : parts.start ≤ 18
+  pub header : parts.header ≤ 60
+  pub transport : parts.transport ≤ 60
+  pub total : parts.total ≤ max len (2 ^ 16)
+  pub payload : parts.header + parts.transport ≤ parts.total
+  pub ip : parts.start + 20 ≤ len
+  pub ports : parts.start + parts.header + 8 ≤ len
+  pub flags : byte f (parts.start + 9) ≡ 6 → parts.start + parts.header + 20 ≤ len
+
 -- how many of the payload's bytes are captured and kept, of at most 64
 abbrev pub held_of : ℕ → Parts → ℕ
 held_of len parts = min 64 (min len (parts.start + parts.total) - (parts.start + parts.header + parts.transport))
 
--- those bytes, and zeros behind them
-abbrev pub head_of : ℕ → List ℕ → Parts → List ℕ
-head_of len f parts =
-    let held = held_of len parts in
-    take held (drop (parts.start + parts.header + parts.transport) f) ++ replicate (64 - held) 0
+-- those bytes
+abbrev pub payload_of : ℕ → List ℕ → Parts → List ℕ
+payload_of len f parts = take (held_of len parts) (drop (parts.start + parts.header + parts.transport) f)
 
 -- how many nanoseconds the unit of the fraction has
 abbrev pub unit_of : Fraction → ℕ
@@ -88,7 +97,7 @@ packet_with k nanos len f parts =
       flags = if byte f (parts.start + 9) == 6 then byte f (q + 13) else 0;
       length = parts.total - parts.header - parts.transport;
       held = held_of len parts;
-      head = head_of len f parts
+      head = payload_of len f parts ++ replicate (64 - held_of len parts) 0
     }
 
 -- the packet of a record with this head and these bytes, if it is steered, with the number k

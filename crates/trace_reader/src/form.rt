@@ -1,5 +1,7 @@
 ghost use Rattle.std.specs.Prelude.{◌≡◌, ◌≤◌, length};
 ghost use Rattle.trace_reader.specs.Numbers.{number_in};
+ghost use Rattle.trace_reader.specs.Steered.{nanos_of};
+ghost use Rattle.trace_reader.specs.Numbers.{captured_of};
 ghost use Rattle.trace_reader.specs.Header.{magic_of, link_of, is_version, form_of};
 
 use byteorder::{BigEndian, ByteOrder, LittleEndian};
@@ -60,6 +62,30 @@ impl Order {
             Order::Big => BigEndian::read_u32(bytes),
             Order::Little => LittleEndian::read_u32(bytes),
         }
+    }
+}
+
+impl Form {
+    /// How many bytes of the packet a record has, by its head.
+    pub(crate) fn captured(self, head: &[u8]) -> u32
+        requires { length head.now ≡ 16 }
+        ensures { result ≡ captured_of self head.now }
+    {
+        self.magic.order.long(&head[8..])
+    }
+
+    /// The time stamp at the head of a record, in nanoseconds.
+    pub(crate) fn nanos(self, head: &[u8]) -> u64
+        requires { length head.now ≡ 16 }
+        ensures { result ≡ nanos_of self head.now }
+    {
+        let seconds = u64::from(self.magic.order.long(head));
+        let fraction = u64::from(self.magic.order.long(&head[4..]));
+        let unit = match self.magic.fraction {
+            Fraction::Micros => 1000,
+            Fraction::Nanos => 1,
+        };
+        seconds * 1_000_000_000 + fraction * unit
     }
 }
 

@@ -1,17 +1,18 @@
-ghost use Rattle.std.specs.Prelude.{◌≡◌, ◌≤◌, ◌<◌, ◌+◌, ◌-◌, ◌^◌, min, length, Option, Some, IfSome, IsSome};
+ghost use Rattle.std.specs.Prelude.{◌≡◌, ◌≤◌, ◌+◌, ◌-◌, ◌^◌, ◌++◌, min, length, replicate, IfSome};
 ghost use Rattle.trace_reader.specs.Numbers.{pair, quad, byte};
-ghost use Rattle.trace_reader.specs.Steered.{start_of, header_length, is_first, transport_length, total_length, parts_of};
+ghost use Rattle.trace_reader.specs.Steered.{start_of, header_length, is_first, transport_length, total_length, parts_of, HasParts, held_of, payload_of, packet_with, packet_of};
 
 use byteorder::{BigEndian, ByteOrder};
 
-use flow_filter::{TCP, UDP};
+use flow_filter::{Packet, TCP, UDP};
 
-use crate::form::Link;
+use crate::form::{Form, Link};
 
 /// How many bytes of a record can matter: those in front of the longest payload that is kept.
 pub(crate) const FRONT: usize = 202;
 
 /// Where the datagram of a steered record starts, and how long its parts are.
+#[derive(Drop)]
 pub(crate) struct Parts {
     start: usize,
     header: usize,
@@ -107,6 +108,7 @@ fn total_length(len: usize, front: &[u8], start: usize) -> usize
 fn parts_of(link: Link, len: usize, front: &[u8]) -> Option<Parts>
     requires { min len 202 ≤ length front.now }
     ensures value { result ≡ parts_of link len front.now }
+    ensures parts { IfSome result (HasParts len front.now) }
 {
     let start = start_of(link, len, front)?;
     let header = header_length(len, front, start)?;
@@ -122,4 +124,73 @@ fn parts_of(link: Link, len: usize, front: &[u8]) -> Option<Parts>
     } else {
         None
     }
+}
+
+/// The first bytes of the payload, of those that are captured.
+fn payload_of<'a>(len: usize, front: &'a [u8], parts: &Parts) -> &'a [u8]
+    requires front { length front.now ≡ min len 202 }
+    requires len { len ≤ 2 ^ 18 }
+    requires parts { HasParts len front.now parts.now }
+    ensures bytes { result.now ≡ payload_of len front.now parts.now }
+    ensures held { length result.now ≡ held_of len parts.now }
+{
+    let at = parts.start + parts.header + parts.transport;
+    let end = len.min(parts.start + parts.total);
+    let held = end.saturating_sub(at).min(64);
+    let from = at.min(front.len());
+    &front[from..from + held]
+}
+
+/// Those bytes, and zeros behind them.
+fn padded(payload: &[u8]) -> [u8; 64]
+    requires { length payload.now ≤ 64 }
+    ensures { result ≡ payload.now ++ replicate (64 - length payload.now) 0 }
+{
+    let mut head = [0; 64];
+    head[..payload.len()].copy_from_slice(payload);
+    head
+}
+
+/// The packet of a steered record.
+fn packet_with(number: u32, nanos: u64, len: usize, front: &[u8], parts: &Parts) -> Packet
+    requires front { length front.now ≡ min len 202 }
+    requires len { len ≤ 2 ^ 18 }
+    requires parts { HasParts len front.now parts.now }
+    ensures { result ≡ packet_with number nanos len front.now parts.now }
+{
+    let at = parts.start + parts.header;
+    let proto = front[parts.start + 9];
+    let payload = payload_of(len, front, parts);
+    Packet {
+        number,
+        nanos,
+        proto,
+        src: quad(front, parts.start + 12),
+        sport: pair(front, at),
+        dst: quad(front, parts.start + 16),
+        dport: pair(front, at + 2),
+        flags: if proto == TCP { front[at + 13] } else { 0 },
+        length: (parts.total - parts.header - parts.transport) as u32,
+        held: payload.len() as u8,
+        head: padded(payload),
+    }
+}
+
+/// The packet of a record of `len` bytes, of which `front` has the first; None for one that is
+/// skipped.
+#[tactic(auto, unfolding(crate::specs::Steered::packet_of))]
+pub(crate) fn packet_of(
+    form: Form,
+    number: u32,
+    head: &[u8],
+    len: usize,
+    front: &[u8],
+) -> Option<Packet>
+    requires head { length head.now ≡ 16 }
+    requires front { length front.now ≡ min len 202 }
+    requires len { len ≤ 2 ^ 18 }
+    ensures { result ≡ packet_of form number head.now len front.now }
+{
+    let parts = parts_of(form.link, len, front)?;
+    Some(packet_with(number, form.nanos(head), len, front, &parts))
 }
