@@ -1,4 +1,4 @@
-ghost use Rattle.std.specs.Prelude.{◌≡◌, ◌≤◌, length};
+ghost use Rattle.std.specs.Prelude.{◌≡◌, ◌≢◌, ◌≤◌, Err, length};
 ghost use Rattle.trace_reader.specs.Numbers.{number_in};
 ghost use Rattle.trace_reader.specs.Steered.{nanos_of};
 ghost use Rattle.trace_reader.specs.Numbers.{captured_of};
@@ -122,7 +122,8 @@ fn is_version(magic: Magic, header: &[u8]) -> bool
 /// The form that the first 24 bytes of a capture state.
 #[tactic(auto, unfolding(crate::specs::Header::form_of))]
 pub(crate) fn form_of(header: &[u8]) -> Result<Form, TraceFault>
-    ensures { result ≡ form_of header.now }
+    ensures form { result ≡ form_of header.now }
+    ensures unread { result ≢ Err TraceFault.Read }
 {
     if header.len() < 4 {
         return Err(TraceFault::Magic);

@@ -1,6 +1,7 @@
-ghost use Rattle.std.specs.Prelude.{◌≡◌, ◌≤◌, ◌^◌, ◌+◌, min, length};
+ghost use Rattle.std.specs.Prelude.{◌≡◌, ◌≢◌, ◌<◌, ◌≤◌, ℕ, ◌^◌, ◌+◌, min, length, Ok, Err, IfOk};
 ghost use Rattle.std.specs.Option.{ForSome};
 ghost use Rattle.nf_io.specs.Meaning.{StaysOpen};
+ghost use Rattle.trace_reader.specs.Numbers.{byte};
 ghost use Rattle.trace_reader.specs.Records.{record_of};
 ghost use Rattle.trace_reader.specs.Gives.{HasReadCause, Gives, Moves, next_in, size_in, count_after};
 
@@ -56,7 +57,10 @@ fn judge(
     requires head { length head.now ≡ 16 }
     requires len { len ≤ 2 ^ 18 }
     requires front { length front.now ≡ min len 202 }
-    ensures { result ≡ record_of form place count head.now len front.now }
+    ensures gives { result ≡ record_of form place count head.now len front.now }
+    ensures fits { IfOk result (λ next. Moves place count (place + (16 + len)) (count_after count (Ok next)) (Ok next)) }
+    ensures unread { result ≢ Err TraceFault.Read }
+    ensures bytes { (i : ℕ) → byte front.now i < 256 }
 {
     if place + 16 + len as u64 > MOST_BYTES {
         return Err(TraceFault::TooLong { offset: place });
