@@ -18,3 +18,6 @@ pub use form::{Form, Fraction, Link, Magic, Order};
 pub use reader::{Stop, TraceReader};
 pub use record::Next;
 pub use trace::{Trace, read_trace};
+
+#[cfg(test)]
+mod tests;
