@@ -1,6 +1,6 @@
 -- What a caller knows of the outside once a `RoleSource` or a `RoleSink` over it is gone: each lemma takes the equation
 -- `same_rest` of the call's `StaysOpen`, and that the final outside is the last one behind the reference.
-use Rattle.std.proofs.Common.{◌≡◌, ◌≢◌, ℕ, false, Option, List, None, refl, ap, sym, ◌∙◌, subst}
+use Rattle.std.proofs.Common.{◌≡◌, ◌≢◌, false, None, refl, ap, sym, ◌∙◌, subst}
 use Rattle.std.proofs.lemmas.Bool.{ne_eqb}
 use Rattle.nf_io.specs.declared.outside.Role.{Role}
 use Rattle.nf_io.specs.declared.outside.Role.TheVariants.{Trace, Script, JournalIn, Report, JournalOut, TraceOut, Errors}

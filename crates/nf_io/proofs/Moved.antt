@@ -1,9 +1,8 @@
 -- What several reads or writes in a row do together.
 use Rattle.std.proofs.lemmas.List.{length-take-le, take-append-drop, drop-drop}
-use Rattle.std.proofs.Common.{◌≡◌, ℕ, ◌+◌, ◌-◌, ◌≤◌, ◌<◌, List, [], ◌++◌, Option, None, Some, length, take, drop, refl, ap, sym, ◌∙◌, subst, arith, length-drop, length-append, append-nil}
-use Rattle.std.proofs.Math.Seq.{take-length, take-add, take-append_seam, drop-append_seam, drop-length}
-use Rattle.std.specs.Option.{ForSome}
-use Rattle.std.specs.Io.KnownBytes.{Appends, Consumes, Keeps, IsAtEnd}
+use Rattle.std.proofs.Common.{◌≡◌, ℕ, ◌+◌, ◌-◌, ◌≤◌, List, ◌++◌, Option, length, take, drop, ap, sym, ◌∙◌, subst, length-drop}
+use Rattle.std.proofs.Math.Seq.{take-length, take-add, take-append_seam}
+use Rattle.std.specs.Io.KnownBytes.{Appends, Keeps}
 use Rattle.std.proofs.KnownBytes.{Appends-trans, Appends-kept}
 use Rattle.nf_io.specs.Meaning.{StaysOpen, AppendsFront}
 
@@ -13,7 +12,7 @@ pub StaysOpen-trans : {S Rest : Type 0} (is_open : S → Type 0) (loan : S → �
 StaysOpen-trans is_open loan rest a b c p q = record {
   still_open = q.still_open;
   same_loan = q.same_loan ∙ p.same_loan;
-  same_rest = q.same_rest ∙ p.same_rest
+  same_rest = q.same_rest ∙ p.same_rest;
 }
 
 -- what `&bytes[at..]` is

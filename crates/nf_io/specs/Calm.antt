@@ -1,5 +1,5 @@
 -- What a calm outside holds. This project's own.
-use Rattle.std.specs.Prelude.{◌≡◌, ℕ, option_map, unwrap_or, slice_get, if◌then◌else◌}
+use Rattle.std.specs.Prelude.{ℕ, option_map, unwrap_or, slice_get, if◌then◌else◌}
 use Rattle.nf_io.specs.declared.outside.Role.{Role}
 use Rattle.nf_io.specs.declared.calm.CalmOutside.{CalmOutside}
 use Rattle.nf_io.specs.Roles.{place_of, is_read}

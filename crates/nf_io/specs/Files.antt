@@ -1,5 +1,5 @@
 -- What an outside over files tells: the names and the counts of faults, and nothing of contents. This project's own.
-use Rattle.std.specs.Prelude.{ℕ, List, None, option_map, unwrap_or, slice_get, string_bytes}
+use Rattle.std.specs.Prelude.{List, None, option_map, unwrap_or, slice_get, string_bytes}
 use Rattle.nf_io.specs.declared.outside.Role.{Role}
 use Rattle.nf_io.specs.declared.file.Mark.{Mark}
 use Rattle.nf_io.specs.Roles.{place_of}

@@ -1,5 +1,5 @@
 -- What callers know of the outside, role by role, and of a source or a sink. This project's own.
-use Rattle.std.specs.Prelude.{◌≡◌, ◌≢◌, ℕ, ◌+◌, ◌-◌, ◌^◌, ◌≤◌, min, false, List, [], ◌++◌, length, take, Option, None, Some, if◌then◌else◌, IsTrue, IsSome, Result, OnErr}
+use Rattle.std.specs.Prelude.{◌≡◌, ◌≢◌, ℕ, ◌+◌, ◌-◌, ◌^◌, ◌≤◌, min, false, List, [], length, take, Option, None, Some, if◌then◌else◌, IsTrue, IsSome, Result, OnErr}
 use Rattle.std.specs.Io.KnownBytes.{Appends}
 use Rattle.nf_io.specs.declared.outside.Role.{Role}
 use Rattle.nf_io.specs.Roles.{is_read, needs_name, same_role}

@@ -1,6 +1,5 @@
 -- What the outsides in memory hold, and which of their calls are to fail. This project's own.
-use Rattle.std.specs.Prelude.{◌≡◌, ◌≢◌, ℕ, ◌+◌, ◌-◌, ◌^◌, ◌==◌, Bool, List, [], min, option_map, unwrap_or, slice_get}
-use Rattle.std.specs.List.{list_any}
+use Rattle.std.specs.Prelude.{◌≡◌, ◌≢◌, ℕ, option_map, unwrap_or, slice_get}
 use Rattle.nf_io.specs.declared.outside.Role.{Role}
 use Rattle.nf_io.specs.declared.memory.MemoryOutside.{MemoryOutside}
 use Rattle.nf_io.specs.Roles.{place_of}

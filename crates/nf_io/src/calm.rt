@@ -3,11 +3,10 @@ ghost use Rattle.std.specs.Option.{ForSome};
 ghost use Rattle.std.specs.Io.{ReadsAtMost, WritesAtMost};
 ghost use Rattle.std.specs.Io.KnownBytes.{ReadConsumes, WriteAppends, append_known};
 
-use flow_filter::NoMemory;
-use std::alloc::Global;
-
 use crate::outside::{Failed, Outside, Role};
 use crate::tape::Tape;
+use flow_filter::NoMemory;
+use std::alloc::Global;
 
 /// An outside in memory in which no read fails, and no write while there is room. A write that
 /// wants more memory than there is has no other answer than `Failed`, and that alone is counted.
@@ -45,9 +44,11 @@ impl CalmOutside {
     /// Puts bytes behind those that a role has left.
     pub fn put(&mut self, role: Role, bytes: &[u8]) -> Result<(), NoMemory>
         ensures ok { OnOk result (calm_in self.new role ≡ record (calm_in self.old role) {
-            left = append_known (calm_in self.old role).left bytes.now }) }
+          left = append_known (calm_in self.old role).left bytes.now;
+        }) }
         ensures err { OnErr result (calm_in self.new role ≡ calm_in self.old role) }
         ensures others { OthersStay role (calm_in self.old) (calm_in self.new) }
+        ensures names { (other : Role) → (calm_in self.new other).name ≡ (calm_in self.old other).name }
         ensures piece { self.new.most ≡ self.old.most }
     {
         let tape = &mut self.tapes[role as usize];

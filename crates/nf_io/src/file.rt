@@ -1,11 +1,10 @@
 ghost use Rattle.std.specs.Prelude.{◌≡◌, ◌<◌, ◌≤◌, Some, length, IfOk, IfSome};
 
+use crate::outside::{Failed, Outside, Role};
+use crate::stream::Stream;
 use flow_filter::NoMemory;
 use std::alloc::Global;
 use std::rt::Files;
-
-use crate::outside::{Failed, Outside, Role};
-use crate::stream::Stream;
 
 /// How many roles there are.
 const ROLES: usize = 7;

@@ -6,14 +6,14 @@
 //! other role as it was.
 #![tactic(auto)]
 
-pub mod outside;
-pub mod streams;
-mod planned;
-mod stream;
-mod tape;
 pub mod calm;
 pub mod file;
 pub mod memory;
+pub mod outside;
+mod planned;
+mod stream;
+pub mod streams;
+mod tape;
 pub mod transfers;
 
 pub use calm::CalmOutside;
@@ -22,3 +22,6 @@ pub use memory::MemoryOutside;
 pub use outside::{Failed, Outside, Role};
 pub use streams::{RoleSink, RoleSource, Sink, Source};
 pub use transfers::{UptoFault, read_upto, write_all};
+
+#[cfg(test)]
+mod tests;

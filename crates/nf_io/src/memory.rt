@@ -3,11 +3,10 @@ ghost use Rattle.std.specs.Option.{ForSome};
 ghost use Rattle.std.specs.Io.{ReadsAtMost, WritesAtMost};
 ghost use Rattle.std.specs.Io.KnownBytes.{ReadConsumes, WriteAppends, append_known};
 
-use flow_filter::NoMemory;
-use std::alloc::Global;
-
 use crate::outside::{Failed, Outside, Role};
 use crate::planned::PlannedTape;
+use flow_filter::NoMemory;
+use std::alloc::Global;
 
 /// An outside in memory, in which calls can be made to fail.
 #[derive(Drop)]
@@ -46,9 +45,11 @@ impl MemoryOutside {
     /// Puts bytes behind those that a role has left.
     pub fn put(&mut self, role: Role, bytes: &[u8]) -> Result<(), NoMemory>
         ensures ok { OnOk result (seen_in self.new role ≡ record (seen_in self.old role) {
-            left = append_known (seen_in self.old role).left bytes.now }) }
+          left = append_known (seen_in self.old role).left bytes.now;
+        }) }
         ensures err { OnErr result (seen_in self.new role ≡ seen_in self.old role) }
         ensures others { OthersStay role (seen_in self.old) (seen_in self.new) }
+        ensures names { (other : Role) → (seen_in self.new other).name ≡ (seen_in self.old other).name }
         ensures plans { SamePlans self.old self.new }
     {
         let tape = &mut self.tapes[role as usize];
@@ -58,7 +59,8 @@ impl MemoryOutside {
     /// Makes the call of that number on a role fail. Its calls are counted from 1.
     pub fn fail(&mut self, role: Role, call: u64) -> Result<(), NoMemory>
         ensures ok { OnOk result (plan_in self.new role ≡ record (plan_in self.old role) {
-            fails = (plan_in self.old role).fails ++ call ∷ [] }) }
+          fails = (plan_in self.old role).fails ++ call ∷ [];
+        }) }
         ensures err { OnErr result (plan_in self.new role ≡ plan_in self.old role) }
         ensures others { (other : Role) → other ≢ role → plan_in self.new other ≡ plan_in self.old other }
         ensures piece { self.new.most ≡ self.old.most }

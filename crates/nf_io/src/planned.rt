@@ -3,11 +3,10 @@ ghost use Rattle.std.specs.Option.{ForSome};
 ghost use Rattle.std.specs.Io.{ReadsAtMost, WritesAtMost};
 ghost use Rattle.std.specs.Io.KnownBytes.{ReadConsumes, WriteAppends};
 
-use flow_filter::NoMemory;
-use std::alloc::Global;
-
 use crate::outside::Failed;
 use crate::tape::Tape;
+use flow_filter::NoMemory;
+use std::alloc::Global;
 
 /// A tape on which calls can be made to fail.
 #[derive(Drop)]

@@ -1,10 +1,9 @@
 ghost use Rattle.std.specs.Prelude.{◌≡◌, ◌<◌, ◌≤◌, ◌+◌, ◌-◌, ◌^◌, ◌++◌, Some, min, length, take, IfOk, OnOk, OnErr, vec_len};
 ghost use Rattle.std.specs.Io.KnownBytes.{append_known};
 
+use crate::outside::Failed;
 use flow_filter::NoMemory;
 use std::alloc::Global;
-
-use crate::outside::Failed;
 
 /// One role's file in memory: `bytes[taken..]` is left to read.
 #[derive(Drop)]
@@ -68,7 +67,8 @@ impl Tape {
     pub(crate) fn write(&mut self, bytes: &[u8], most: usize) -> Result<usize, Failed>
         ensures count { IfOk result (λ n. n ≡ min (length bytes.now) most) }
         ensures ok { IfOk result (λ n. meaning_on self.new ≡ record (meaning_on self.old) {
-            written = append_known (meaning_on self.old).written (take n bytes.now) }) }
+          written = append_known (meaning_on self.old).written (take n bytes.now);
+        }) }
         ensures err { OnErr result (meaning_on self.new ≡ record (meaning_on self.old) { faults = (meaning_on self.new).faults }) }
         ensures cause { HasCause (meaning_on self.old).faults (meaning_on self.new).faults result }
         ensures room { OnErr result (room_on self.old < length bytes.now) }

@@ -4,12 +4,11 @@ ghost use Rattle.std.specs.Io.KnownBytes.{Appends};
 ghost use Rattle.nf_io.specs.Meaning.{AppendsFront, HasCause, StaysOpen};
 ghost use Rattle.nf_io.specs.Transfers.{HasUptoCause};
 
+use crate::outside::Failed;
+use crate::streams::{Sink, Source};
 use flow_filter::{Bytes, NoMemory};
 use std::alloc::Global;
 use thiserror::Error;
-
-use crate::outside::Failed;
-use crate::streams::{Sink, Source};
 
 /// How many bytes `read_upto` asks for at once.
 const PIECE: usize = 8_192;
