@@ -14,3 +14,6 @@ pub use record::TrackRecord;
 pub use state::State;
 pub use text::{print_output, print_record, push_output, push_record};
 pub use tracker::{Output, step};
+
+#[cfg(test)]
+mod tests;
