@@ -41,15 +41,16 @@ same_flow a b equal =
       local = same_number a.local b.local local.0 i;
       lport = same_number a.lport b.lport lport.0 i;
       remote = same_number a.remote b.remote remote.0 i;
-      rport = same_number a.rport b.rport remote.1 i }
+      rport = same_number a.rport b.rport remote.1 i;
+    }
 
 -- a record that fits its flow may be written
 pub AllFit-Updates : (old new : BTreeMap Flow TrackRecord) (unit : Flow) (r : TrackRecord)
     → Updates flow_cmp old new unit (Some r) → IsRecordOf unit.proto r → AllFit old → AllFit new
 AllFit-Updates old new unit r updates fits before other =
     rw (updates.0 other) (IfSome-cond (is_at (flow_cmp unit) other) (Some r) (get flow_cmp old other) (IsRecordOf other.proto)
-        (λ equal. let same : unit ≡ other = same_flow unit other equal in subst (λ u. IsRecordOf u.proto r) same fits)
-        (before other))
+    (λ equal. let same : unit ≡ other = same_flow unit other equal in subst (λ u. IsRecordOf u.proto r) same fits)
+    (before other))
 
 -- one more packet of a flow
 pub record_of-more : (site : Site) (ps : List Packet) (p : Packet)
@@ -65,9 +66,9 @@ mine-more site unit ps p =
     filter-append (λ q. is_eq (flow_cmp (unit_of site q) unit)) ps (p ∷ [])
     ∙ appended (is_eq (flow_cmp (unit_of site p) unit)) (mine site unit ps) p
   where
-  appended : (test : Bool) (front : List Packet) (q : Packet) → front ++ cond test (q ∷ []) [] ≡ cond test (front ++ q ∷ []) front
-  appended true front q = refl
-  appended false front q = append-nil front
+    appended : (test : Bool) (front : List Packet) (q : Packet) → front ++ cond test (q ∷ []) [] ≡ cond test (front ++ q ∷ []) front
+    appended true front q = refl
+    appended false front q = append-nil front
 
 -- no packets leave no records
 pub AreLive-none : (site : Site) (live : BTreeMap Flow TrackRecord) → live.entries ≡ [] → IsOrdered flow_cmp live → AreLive site [] live
@@ -80,16 +81,17 @@ pub AreLive-more : (site : Site) (before : List Packet) (p : Packet) (old new : 
     → AreLive site (before ++ p ∷ []) new
 AreLive-more site before p old new was updates ordered = record {
   ordered = ordered;
-  each = λ unit. updates.0 unit ∙ chosen unit (is_eq (flow_cmp (unit_of site p) unit)) refl ∙ ap (record_of site) (sym (mine-more site unit before p)) }
+  each = λ unit. updates.0 unit ∙ chosen unit (is_eq (flow_cmp (unit_of site p) unit)) refl ∙ ap (record_of site) (sym (mine-more site unit before p));
+}
   where
-  chosen : (unit : Flow) (test : Bool) → is_eq (flow_cmp (unit_of site p) unit) ≡ test
-      → cond test (Some (record_after site old p)) (get flow_cmp old unit)
+    chosen : (unit : Flow) (test : Bool) → is_eq (flow_cmp (unit_of site p) unit) ≡ test
+        → cond test (Some (record_after site old p)) (get flow_cmp old unit)
         ≡ record_of site (cond test (mine site unit before ++ p ∷ []) (mine site unit before))
-  chosen unit true equal =
-      let same : unit_of site p ≡ unit = same_flow (unit_of site p) unit equal in
-      ap (λ kept. Some (stepped site kept p)) (was.each (unit_of site p) ∙ ap (λ u. record_of site (mine site u before)) same)
-      ∙ sym (record_of-more site (mine site unit before) p)
-  chosen unit false equal = was.each unit
+    chosen unit true equal =
+        let same : unit_of site p ≡ unit = same_flow (unit_of site p) unit equal in
+        ap (λ kept. Some (stepped site kept p)) (was.each (unit_of site p) ∙ ap (λ u. record_of site (mine site u before)) same)
+        ∙ sym (record_of-more site (mine site unit before) p)
+    chosen unit false equal = was.each unit
 
 -- the record that the map gives is that of the flow's own packets
 pub record_after-live : (site : Site) (before : List Packet) (p : Packet) (live : BTreeMap Flow TrackRecord)

@@ -1,2 +1,5 @@
+pub mod Beside
+pub mod Causes
 pub mod FoldLaws
 pub mod LineLaws
+pub mod Rows

@@ -22,8 +22,26 @@ pub fn read_words<'a>(words: &'a [String]) -> Option<Simulation<'a>>
     ensures outside { IfSome result (λ s. s.site.outside ≡ None) }
 {
     match words {
-        [_, command, function, instances, name, inside, prefix, schedule, last, trace] => {
-            if are_sim_words(command.as_str(), function.as_str(), instances.as_str(), inside.as_str(), schedule.as_str(), last.as_str()) {
+        [
+            _,
+            command,
+            function,
+            instances,
+            name,
+            inside,
+            prefix,
+            schedule,
+            last,
+            trace,
+        ] => {
+            if are_sim_words(
+                command.as_str(),
+                function.as_str(),
+                instances.as_str(),
+                inside.as_str(),
+                schedule.as_str(),
+                last.as_str(),
+            ) {
                 read_values(name.as_str(), prefix.as_str(), trace.as_str())
             } else {
                 None

@@ -8,4 +8,5 @@ invariant-loop-packet l = record {
   live : AreLive l.site (take l.packet-index l.packets) l.live;
   fits : AllFit l.live;
   lines : l.text ++ out_lines l.site (take l.packet-index l.packets) (drop l.packet-index l.packets)
-    ≡ l.fn.text ++ out_lines l.site [] l.packets }
+      ≡ l.fn.text ++ out_lines l.site [] l.packets;
+}
