@@ -20,3 +20,6 @@ pub use gate::{Gate, OpenGate};
 pub use outcome::{Choice, Choices, Outcome};
 pub use status::{Status, TraceKind};
 pub use top::{opennf_calm, opennf_top};
+
+#[cfg(test)]
+mod tests;
