@@ -15,10 +15,10 @@ use Rattle.std.proofs.lemmas.Fmt.{digits_value-decimal, decimal-digits_value, di
 use Rattle.flow_filter.specs.Reading.{number_of}
 
 -- texts of digits, and their value
-abbrev AreDigits : List ℕ → Type 0
+abbrev pub AreDigits : List ℕ → Type 0
 AreDigits ds = (i : ℕ) → i < length ds → IsInRange 48 57 (get_or ds i 0)
 
-own : IsNumeralModel AreDigits (digits_value 10)
+pub own : IsNumeralModel AreDigits (digits_value 10)
 own = numerals_by_value _ tells_by_index
 
 no_number : (same below : Bool) (n : ℕ) → (same ≡ true → below ≡ true → ⊥) → cond (same && below) (Some n) None ≡ None

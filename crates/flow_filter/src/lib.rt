@@ -5,6 +5,7 @@
 #![tactic(auto)]
 
 pub mod filter;
+pub mod filter_text;
 pub mod flow;
 pub mod name;
 pub mod packet;
@@ -14,6 +15,7 @@ pub mod sequence;
 pub mod site;
 
 pub use filter::Filter;
+pub use filter_text::FilterFault;
 pub use flow::{Dir, Flow, flow_of};
 pub use name::Name;
 pub use packet::{Packet, Packets, TCP, UDP};
