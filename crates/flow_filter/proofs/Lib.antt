@@ -9,3 +9,4 @@ pub mod FieldsOfText
 pub mod PiecesLaws
 pub mod ReadAgain
 pub mod ParseAgain
+pub mod Printable

@@ -1,17 +1,17 @@
 -- The text of a filter is read as the filter.
-use Rattle.std.proofs.Common.{◌≡◌, ℕ, ◌<◌, ◌≤◌, ◌^◌, Bool, true, false, cond, eqb, ◌||◌, List, [], ◌∷◌, ◌++◌, Option, None, Some, Ok, Err, Result, option_map, refl, ap, sym, ◌∙◌, arith, inl, inr}
+use Rattle.std.proofs.Common.{◌≡◌, ℕ, ◌<◌, ◌^◌, Bool, true, false, cond, eqb, List, [], ◌∷◌, ◌++◌, Option, None, Some, Ok, Err, option_map, refl, ap, sym, ◌∙◌, arith, inl, inr}
 use Rattle.std.specs.Prelude.{codes}
 use Rattle.std.specs.Option.{ForSome}
 use Rattle.std.specs.List.{slice_split, join_with_byte}
 use Rattle.std.specs.Str.{bytes_eq}
 use Rattle.std.specs.Int.{IsInRange}
 use Rattle.std.specs.Fmt.{decimal}
-use Rattle.std.proofs.lemmas.Bool.{eqb-true, or_cases, cases_Bool}
+use Rattle.std.proofs.lemmas.Bool.{eqb-true, or_cases}
 use Rattle.std.proofs.lemmas.Slice.Eq.{bytes_eq-Decides}
 use Rattle.flow_filter.specs.declared.prefix.Prefix.{Prefix}
 use Rattle.flow_filter.specs.declared.filter.Filter.{Filter}
 use Rattle.flow_filter.specs.Filter.{IsFilter}
-use Rattle.flow_filter.specs.Reading.{number_of, prefix_of, cut, block}
+use Rattle.flow_filter.specs.Reading.{block}
 use Rattle.flow_filter.specs.FilterText.{Fields, Answer, nothing, parse, print, pieces, piece, joined, protocol_of, protocol_text, prefix_text, with_named, with_field, with_fields, and_fields, fields_of, is_printable, is_transport}
 use Rattle.flow_filter.proofs.CutLaws.{Lacks, Lacks-append, Lacks-literal, cut-append, cut_lacks, split-Some, split-None}
 use Rattle.flow_filter.proofs.ReadAgain.{number-decimal, prefix-text, Lacks-decimal, Lacks-prefix}

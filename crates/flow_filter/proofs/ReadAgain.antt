@@ -1,16 +1,14 @@
 -- Numbers, addresses and prefixes that were printed are read again.
-use Rattle.std.proofs.Common.{◌≡◌, ℕ, ◌+◌, ◌-◌, ◌/◌, ◌%◌, ◌^◌, ◌<◌, ◌≤◌, zero, suc, Bool, true, false, eqb, leb, List, [], ◌∷◌, ◌++◌, length, get_or, Option, None, Some, option_map, refl, ap, sym, ◌∙◌, append_assoc, arith, lit<}
-use Rattle.std.specs.Prelude.{codes}
+use Rattle.std.proofs.Common.{◌≡◌, ℕ, ◌-◌, ◌/◌, ◌%◌, ◌^◌, ◌<◌, ◌≤◌, suc, true, false, eqb, List, [], ◌∷◌, ◌++◌, Some, refl, ap, ◌∙◌, append_assoc, arith}
 use Rattle.std.specs.Bool.{then_some}
 use Rattle.std.specs.Int.{IsInRange, w32, to_be_bytes, from_be_bytes}
 use Rattle.std.specs.Fmt.{decimal}
 use Rattle.std.specs.Net.Text.{dotted_text, ipv4_text}
 use Rattle.std.proofs.lemmas.Bool.{le-leb, ne_eqb, eq-eqb}
 use Rattle.std.proofs.lemmas.Nat.{from_be_bytes-to_be_bytes_4}
-use Rattle.std.proofs.lemmas.Str.Parse.{IsNumeralModel, numerals_by_value, tells_by_index}
 use Rattle.std.proofs.lemmas.Fmt.{digits_decimal}
 use Rattle.flow_filter.specs.declared.prefix.Prefix.{Prefix}
-use Rattle.flow_filter.specs.Reading.{number_of, address_of, prefix_of, with_length, block_of, cut}
+use Rattle.flow_filter.specs.Reading.{number_of, address_of, prefix_of}
 use Rattle.flow_filter.specs.FilterText.{prefix_text}
 use Rattle.flow_filter.proofs.CutLaws.{Lacks, Lacks-append, cut-append}
 use Rattle.flow_filter.proofs.NumberLaws.{AreDigits, own, number_of-decimal}

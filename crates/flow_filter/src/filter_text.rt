@@ -33,7 +33,8 @@ pub enum FilterFault {
 impl Filter {
     /// The filter that the text spells, or the fault of its first field from the left that breaks a rule.
     pub fn parse(text: &str) -> Result<Self, FilterFault>
-        ensures { Gives fields_of result (parse text.now) }
+        ensures value { Gives fields_of result (parse text.now) }
+        ensures printable { IfOk result (λ f. is_printable f ≡ true) }
     {
         Filter::parse_bytes(text.as_bytes())
     }
@@ -41,7 +42,8 @@ impl Filter {
     /// The same, where the text is given as its bytes.
     #[tactic(auto, unfolding(crate::specs::FilterText::parse))]
     pub fn parse_bytes(text: &[u8]) -> Result<Self, FilterFault>
-        ensures { Gives fields_of result (parse text.now) }
+        ensures value { Gives fields_of result (parse text.now) }
+        ensures printable { IfOk result (λ f. is_printable f ≡ true) }
     {
         if text == b"any".as_slice() {
             Ok(Filter::ANY)

@@ -1,5 +1,4 @@
 -- A field up to the first comma, and then the others.
-use Rattle.std.proofs.Common.{◌≡◌, sym, rules}
 use Rattle.std.proofs.lemmas.Result.{err_from_is_err_and}
 use Rattle.flow_filter.specs.FilterText.{fields_of}
 use Rattle.flow_filter.proofs.FieldsOfText.{one_field, first_wrong, first_field}

@@ -1,4 +1,4 @@
-use Rattle.std.proofs.Common.{◌≡◌, ◌∙◌, sym, refl, Some, None}
+use Rattle.std.proofs.Common.{◌∙◌, sym, refl}
 use Rattle.flow_filter.proofs.CutLaws.{cut-Some, cut-None}
 use Rattle.flow_filter.proofs.reading.cut.Goals as goal
 

@@ -1,6 +1,5 @@
 -- Five fields, one after another.
-use Rattle.std.proofs.Common.{◌≡◌, ◌∙◌, sym, ap, rules}
-use Rattle.flow_filter.specs.Filter.{IsFilter}
+use Rattle.std.proofs.Common.{◌∙◌, rules}
 use Rattle.flow_filter.specs.FilterText.{print}
 use Rattle.flow_filter.proofs.PiecesLaws.{write_fields, written_some, written_none}
 use Rattle.flow_filter.proofs.ParseAgain.{parse-print}
