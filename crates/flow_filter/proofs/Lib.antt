@@ -1,3 +1,4 @@
+pub mod FlowLaws
 pub mod SiteLaws
 pub mod Bools
 pub mod BlockLaws

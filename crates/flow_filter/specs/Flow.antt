@@ -38,7 +38,7 @@ abbrev pub is_source_first : Packet → Bool
 is_source_first p = nat_lt p.src p.dst || (p.src == p.dst && nat_le p.sport p.dport)
 
 -- the first case that applies
-abbrev pub flow_of : Site → Packet → Flow × Dir
+unfoldable pub flow_of : Site → Packet → Flow × Dir
 flow_of site p =
     if is_inside site p.src && not (is_inside site p.dst) then (outward p, Out)
     else if is_inside site p.dst && not (is_inside site p.src) then (inward p, In)

@@ -1,3 +1,4 @@
+pub mod Address
 pub mod Block
 pub mod Flow
 pub mod Name

@@ -30,6 +30,7 @@ pub enum Dir {
 }
 
 /// The flow of a packet at a site, and the way that the packet goes.
+#[tactic(auto, unfolding(crate::specs::Flow::flow_of))]
 pub fn flow_of(site: &Site, packet: &Packet) -> (Flow, Dir)
     ensures { result ≡ flow_of site.now packet.now }
 {

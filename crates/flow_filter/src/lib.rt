@@ -13,6 +13,7 @@ pub mod prefix;
 pub mod reading;
 pub mod sequence;
 pub mod site;
+pub mod text;
 
 pub use filter::Filter;
 pub use filter_text::FilterFault;

@@ -1,0 +1,5 @@
+pub mod Command
+pub mod Fold
+pub mod Report
+pub mod Status
+pub mod Words
