@@ -1,9 +1,11 @@
 -- Numbers, addresses and prefixes that were printed are read again.
 use Rattle.std.proofs.Common.{◌≡◌, ℕ, ◌-◌, ◌/◌, ◌%◌, ◌^◌, ◌<◌, ◌≤◌, suc, true, false, eqb, List, [], ◌∷◌, ◌++◌, Some, refl, ap, ◌∙◌, append_assoc, arith}
 use Rattle.std.specs.Bool.{then_some}
-use Rattle.std.specs.Int.{IsInRange, w32, to_be_bytes, from_be_bytes}
+use Rattle.std.specs.Int.{IsInRange, w32, from_be_bytes}
 use Rattle.std.specs.Fmt.{decimal}
-use Rattle.std.specs.Net.Text.{dotted_text, ipv4_text}
+use Rattle.std.specs.Prelude.{codes}
+use Rattle.std.proofs.Math.Nat.{div-one}
+use Rattle.flow_filter.specs.Address.{address_text}
 use Rattle.std.proofs.lemmas.Bool.{le-leb, ne_eqb, eq-eqb}
 use Rattle.std.proofs.lemmas.Nat.{from_be_bytes-to_be_bytes_4}
 use Rattle.std.proofs.lemmas.Fmt.{digits_decimal}
@@ -28,6 +30,10 @@ Lacks-decimal mark n other small = lacks_digits mark (decimal n) other (digits_d
 pub number-decimal : (most n : ℕ) → n ≤ most → n < 2 ^ 64 → number_of most (decimal n) ≡ Some n
 number-decimal most n within small = number_of-decimal most n (decimal n) small refl ∙ ap (λ test. then_some test n) (le-leb n most within)
 
+-- four numbers with dots between them
+abbrev dotted_text : ℕ → ℕ → ℕ → ℕ → List ℕ
+dotted_text a b c d = decimal a ++ codes "." ++ decimal b ++ codes "." ++ decimal c ++ codes "." ++ decimal d
+
 nested : (a b c d : ℕ) → dotted_text a b c d ≡ decimal a ++ 46 ∷ (decimal b ++ 46 ∷ (decimal c ++ 46 ∷ decimal d))
 nested a b c d = simp append_assoc
 
@@ -50,9 +56,11 @@ address-dotted a b c d in_a in_b in_c in_d =
       number-decimal 255 d (omega arith) (omega arith),
     ) refl
 
-pub address-text : (bits : ℕ) → bits < 2 ^ 32 → address_of (ipv4_text (to_be_bytes w32 bits)) ≡ Some bits
+pub address-text : (bits : ℕ) → bits < 2 ^ 32 → address_of (address_text bits) ≡ Some bits
+unfolding address_text
 address-text bits small =
-    address-dotted (bits / 16777216 % 256) (bits / 65536 % 256) (bits / 256 % 256) (bits % 256) (omega arith) (omega arith) (omega arith) (omega arith) ∙ ap (λ n. Some n) (from_be_bytes-to_be_bytes_4 bits small)
+    address-dotted (bits / 16777216 % 256) (bits / 65536 % 256) (bits / 256 % 256) (bits / 1 % 256) (omega arith) (omega arith) (omega arith) (omega arith) ∙ ap (λ n. Some (from_be_bytes w32 (bits / 16777216 % 256 ∷ bits / 65536 % 256 ∷ bits / 256 % 256 ∷ n % 256 ∷ []))) (div-one bits)
+    ∙ ap (λ n. Some n) (from_be_bytes-to_be_bytes_4 bits small)
 
 Lacks-address : (mark a b c d : ℕ) → (IsInRange 48 57 mark → ⊥) → eqb 46 mark ≡ false → a < 256 → b < 256 → c < 256 → d < 256 → Lacks mark (dotted_text a b c d)
 Lacks-address mark a b c d other dot in_a in_b in_c in_d = rw (nested a b c d)
@@ -66,17 +74,18 @@ Lacks-address mark a b c d other dot in_a in_b in_c in_d = rw (nested a b c d)
 
 -- a prefix
 pub prefix-text : (p : Prefix) → p.bits < 2 ^ 32 → prefix_of (prefix_text p) ≡ Some (p.bits, p.len)
-unfolding prefix_of
+unfolding prefix_of address_text
 prefix-text p small =
     let slash : IsInRange 48 57 47 → ⊥ = λ range. omega arith in
-    let at = cut-append 47 (ipv4_text (to_be_bytes w32 p.bits)) (decimal p.len)
-    (Lacks-address 47 (p.bits / 16777216 % 256) (p.bits / 65536 % 256) (p.bits / 256 % 256) (p.bits % 256) slash refl (omega arith) (omega arith) (omega arith) (omega arith)) in
+    let at = cut-append 47 (address_text p.bits) (decimal p.len)
+    (Lacks-address 47 (p.bits / 16777216 % 256) (p.bits / 65536 % 256) (p.bits / 256 % 256) (p.bits / 1 % 256) slash refl (omega arith) (omega arith) (omega arith) (omega arith)) in
     let within : p.len ≤ 32 = p.within in
     let aligned : eqb (p.bits % 2 ^ (32 - p.len)) 0 ≡ true = eq-eqb _ _ p.aligned in
     rw (at, address-text p.bits small, number-decimal 32 p.len within (omega arith), aligned) refl
 
 -- the comma, the equals sign and a blank stand in no number, address or prefix
 pub Lacks-prefix : (mark : ℕ) (p : Prefix) → (IsInRange 48 57 mark → ⊥) → eqb 46 mark ≡ false → eqb 47 mark ≡ false → Lacks mark (prefix_text p)
-Lacks-prefix mark p other dot slash = Lacks-append mark (ipv4_text (to_be_bytes w32 p.bits)) _
-    (Lacks-address mark (p.bits / 16777216 % 256) (p.bits / 65536 % 256) (p.bits / 256 % 256) (p.bits % 256) other dot (omega arith) (omega arith) (omega arith) (omega arith))
+unfolding address_text
+Lacks-prefix mark p other dot slash = Lacks-append mark (address_text p.bits) _
+    (Lacks-address mark (p.bits / 16777216 % 256) (p.bits / 65536 % 256) (p.bits / 256 % 256) (p.bits / 1 % 256) other dot (omega arith) (omega arith) (omega arith) (omega arith))
     (slash, Lacks-decimal mark p.len other (let within : p.len ≤ 32 = p.within in omega arith))

@@ -4,8 +4,7 @@ use Rattle.std.specs.Prelude.{◌≡◌, ℕ, Bool, true, false, ◌||◌, ◌==
 use Rattle.std.specs.List.{slice_split, join_with_byte}
 use Rattle.std.specs.Str.{bytes_eq}
 use Rattle.std.specs.Fmt.{decimal}
-use Rattle.std.specs.Int.{w32, to_be_bytes}
-use Rattle.std.specs.Net.Text.{ipv4_text}
+use Rattle.flow_filter.specs.Address.{address_text}
 use Rattle.flow_filter.specs.declared.prefix.Prefix.{Prefix}
 use Rattle.flow_filter.specs.declared.filter.Filter.{Filter}
 use Rattle.flow_filter.specs.declared.filter_text.FilterFault.{FilterFault}
@@ -102,7 +101,7 @@ protocol_text n = if n == 6 then codes "tcp" else codes "udp"
 
 -- `A.B.C.D/L`
 abbrev pub prefix_text : Prefix → List ℕ
-prefix_text p = ipv4_text (to_be_bytes w32 p.bits) ++ 47 ∷ decimal p.len
+prefix_text p = address_text p.bits ++ 47 ∷ decimal p.len
 
 -- a field that is given, as its name, an equals sign and its value
 abbrev pub piece : List ℕ → Option (List ℕ) → List (List ℕ)

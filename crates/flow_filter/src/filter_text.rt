@@ -1,4 +1,4 @@
-ghost use Rattle.std.specs.Prelude.{◌≡◌, true, false, ◌++◌, ◌∷◌, ◌==◌, ◌||◌, if◌then◌else◌, IfOk, OnOk, string_bytes, codes, option_map, is_some};
+ghost use Rattle.std.specs.Prelude.{◌≡◌, true, false, ◌++◌, ◌∷◌, ◌==◌, ◌||◌, if◌then◌else◌, IfOk, OnOk, codes, option_map, is_some};
 ghost use Rattle.std.specs.Fmt.{decimal};
 ghost use Rattle.std.specs.List.{slice_split};
 ghost use Rattle.flow_filter.specs.Reading.{number_of};
@@ -9,8 +9,7 @@ use crate::packet::{TCP, UDP};
 use crate::prefix::Prefix;
 use crate::reading::{cut, number, prefix};
 use crate::sequence::{NoMemory, Text};
-use std::alloc::{AllocError, Global};
-use std::net::Ipv4Addr;
+use std::alloc::Global;
 use thiserror::Error;
 
 /// Why a text is no filter.
@@ -58,24 +57,24 @@ impl Filter {
         ensures text { IfOk result (λ text. text ≡ print self.now) }
         ensures again { IfOk result (λ text. parse text ≡ Ok (fields_of self.now)) }
     {
-        let mut out = String::new(alloc);
+        let mut out = Text::open(alloc);
         self.print_to(&mut out)?;
-        Ok(Text::from_vec(out.into_bytes()))
+        Ok(out)
     }
 
     /// Appends the canonical text.
-    pub fn print_to(self, out: &mut String) -> Result<(), NoMemory>
+    pub fn print_to(self, out: &mut Text) -> Result<(), NoMemory>
         requires { is_printable self ≡ true }
-        ensures text { OnOk result (string_bytes out.new ≡ string_bytes out.old ++ print self) }
+        ensures text { OnOk result (out.new ≡ out.old ++ print self) }
         ensures again { OnOk result (parse (print self) ≡ Ok (fields_of self)) }
     {
         let begun = print_proto(out, self.proto)?;
-        let begun = print_prefix(out, begun, "local=", self.local)?;
-        let begun = print_port(out, begun, "lport=", self.lport)?;
-        let begun = print_prefix(out, begun, "remote=", self.remote)?;
-        let begun = print_port(out, begun, "rport=", self.rport)?;
+        let begun = print_prefix(out, begun, b"local=", self.local)?;
+        let begun = print_port(out, begun, b"lport=", self.lport)?;
+        let begun = print_prefix(out, begun, b"remote=", self.remote)?;
+        let begun = print_port(out, begun, b"rport=", self.rport)?;
         if !begun {
-            out.push_str("any")?;
+            out.push_bytes(b"any")?;
         }
         Ok(())
     }
@@ -224,19 +223,19 @@ fn port(text: &[u8]) -> Option<u16>
 }
 
 /// Appends the protocol, where it is given, and answers whether a field was written.
-fn print_proto(out: &mut String, proto: Option<u8>) -> Result<bool, AllocError>
+fn print_proto(out: &mut Text, proto: Option<u8>) -> Result<bool, NoMemory>
     requires { is_transport proto ≡ true }
     ensures { IfOk result (λ begun. (begun ≡ is_some proto)
-        × (string_bytes out.new ≡ string_bytes out.old ++ behind false (piece (codes "proto=") (option_map protocol_text proto)))) }
+        × (out.new ≡ out.old ++ behind false (piece (codes "proto=") (option_map protocol_text proto)))) }
 {
     match proto {
         None => Ok(false),
         Some(TCP) => {
-            out.push_str("proto=tcp")?;
+            out.push_bytes(b"proto=tcp")?;
             Ok(true)
         }
         Some(_) => {
-            out.push_str("proto=udp")?;
+            out.push_bytes(b"proto=udp")?;
             Ok(true)
         }
     }
@@ -244,13 +243,13 @@ fn print_proto(out: &mut String, proto: Option<u8>) -> Result<bool, AllocError>
 
 /// Appends a prefix under its name, where it is given, and answers whether a field was written so far.
 fn print_prefix(
-    out: &mut String,
+    out: &mut Text,
     begun: bool,
-    name: &str,
+    name: &[u8],
     prefix: Option<Prefix>,
-) -> Result<bool, AllocError>
+) -> Result<bool, NoMemory>
     ensures { IfOk result (λ after. (after ≡ (begun || is_some prefix))
-        × (string_bytes out.new ≡ string_bytes out.old ++ behind begun (piece name.now (option_map prefix_text prefix)))) }
+        × (out.new ≡ out.old ++ behind begun (piece name.now (option_map prefix_text prefix)))) }
 {
     let Some(prefix) = prefix else {
         return Ok(begun);
@@ -261,42 +260,35 @@ fn print_prefix(
 }
 
 /// Appends a prefix as `A.B.C.D/L`.
-fn print_block(out: &mut String, prefix: Prefix) -> Result<(), AllocError>
-    ensures { OnOk result (string_bytes out.new ≡ string_bytes out.old ++ prefix_text prefix) }
+fn print_block(out: &mut Text, prefix: Prefix) -> Result<(), NoMemory>
+    ensures { OnOk result (out.new ≡ out.old ++ prefix_text prefix) }
 {
-    let address = Ipv4Addr::from(prefix.bits);
-    let len = prefix.len;
-    write!(out, "{address}/{len}")?;
-    Ok(())
+    out.push_address(prefix.bits)?;
+    out.push_bytes(b"/")?;
+    out.push_decimal(u64::from(prefix.len))
 }
 
 /// Appends a port under its name, where it is given, and answers whether a field was written so far.
-fn print_port(
-    out: &mut String,
-    begun: bool,
-    name: &str,
-    port: Option<u16>,
-) -> Result<bool, AllocError>
+fn print_port(out: &mut Text, begun: bool, name: &[u8], port: Option<u16>) -> Result<bool, NoMemory>
     ensures { IfOk result (λ after. (after ≡ (begun || is_some port))
-        × (string_bytes out.new ≡ string_bytes out.old ++ behind begun (piece name.now (option_map decimal port)))) }
+        × (out.new ≡ out.old ++ behind begun (piece name.now (option_map decimal port)))) }
 {
     let Some(port) = port else {
         return Ok(begun);
     };
     print_name(out, begun, name)?;
-    write!(out, "{port}")?;
+    out.push_decimal(u64::from(port))?;
     Ok(true)
 }
 
 /// Appends a field's name, behind a comma where a field stands before it.
-fn print_name(out: &mut String, begun: bool, name: &str) -> Result<(), AllocError>
-    ensures { OnOk result (string_bytes out.new ≡ string_bytes out.old ++ (if begun then 44 ∷ name.now else name.now)) }
+fn print_name(out: &mut Text, begun: bool, name: &[u8]) -> Result<(), NoMemory>
+    ensures { OnOk result (out.new ≡ out.old ++ (if begun then 44 ∷ name.now else name.now)) }
 {
     if begun {
-        out.push_str(",")?;
+        out.push_bytes(b",")?;
     }
-    out.push_str(name)?;
-    Ok(())
+    out.push_bytes(name)
 }
 
 #[cfg(test)]
