@@ -1,7 +1,8 @@
 ghost use Rattle.std.specs.Prelude.{◌≡◌};
 
-use crate::{Output, State, TrackRecord, print_output, print_record, step};
+use crate::{State, TrackRecord, print_output, print_record, step};
 use flow_filter::{Dir, Packet, Prefix, Site};
+use nf_function::Output;
 use std::test::Fail;
 
 /// The site 10.0.0.0/24.

@@ -7,7 +7,7 @@ use Rattle.flow_filter.specs.declared.flow.Flow.{Flow}
 use Rattle.flow_filter.specs.declared.packet.Packet.{Packet}
 use Rattle.flow_filter.specs.declared.site.Site.{Site}
 use Rattle.conn_tracker.specs.declared.record.TrackRecord.{TrackRecord}
-use Rattle.conn_tracker.specs.declared.tracker.Output.{Output}
+use Rattle.nf_function.specs.declared.output.Output.{Output}
 use Rattle.conn_tracker.specs.Text.{output_of}
 use Rattle.opennf_calls.specs.Fold.{flow_cmp, unit_of, AreLive, record_after}
 use Rattle.opennf_calls.specs.Report.{out_line, out_lines}

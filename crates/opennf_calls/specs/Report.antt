@@ -8,7 +8,7 @@ use Rattle.flow_filter.specs.declared.site.Site.{Site}
 use Rattle.flow_filter.specs.Address.{address_text}
 use Rattle.trace_reader.specs.declared.reader.Trace.{Trace}
 use Rattle.conn_tracker.specs.declared.record.TrackRecord.{TrackRecord}
-use Rattle.conn_tracker.specs.declared.tracker.Output.{Output}
+use Rattle.nf_function.specs.declared.output.Output.{Output}
 use Rattle.conn_tracker.specs.Text.{output_of, output_text, record_text}
 use Rattle.opennf_calls.specs.Fold.{AreLive, record_behind}
 

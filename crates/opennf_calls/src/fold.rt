@@ -4,8 +4,9 @@ ghost use Rattle.conn_tracker.specs.Text.{output_of};
 ghost use Rattle.conn_tracker.specs.Table.{stepped, IsRecordOf};
 ghost use Rattle.opennf_calls.specs.Fold.{AllFit, flow_cmp, record_after, unit_of};
 
-use conn_tracker::{Output, TrackRecord, step};
+use conn_tracker::{TrackRecord, step};
 use flow_filter::{Flow, NoMemory, Packet, Site, flow_of};
+use nf_function::Output;
 use std::collections::BTreeMap;
 
 /// The records of the flows that have had a packet.

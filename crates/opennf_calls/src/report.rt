@@ -4,8 +4,9 @@ ghost use Rattle.opennf_calls.specs.Fold.{AreLive};
 ghost use Rattle.opennf_calls.specs.Report.{IsReport, head_lines, trace_line, counts_text, out_line, out_lines, done_line, end_text, end_point_text, protocol_text, unit_text, state_line, tail_lines};
 
 use crate::fold::{Live, process};
-use conn_tracker::{Output, TrackRecord, push_output, push_record};
+use conn_tracker::{TrackRecord, push_output, push_record};
 use flow_filter::{Flow, NoMemory, Packet, Site, TCP, Text};
+use nf_function::Output;
 use std::alloc::Global;
 use std::collections::BTreeMap;
 use trace_reader::Trace;
