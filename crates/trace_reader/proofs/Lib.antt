@@ -1,0 +1,4 @@
+pub mod Taken
+pub mod Front
+pub mod Steps
+pub mod Opened
