@@ -5,7 +5,8 @@ use Rattle.nf_io.specs.declared.outside.Role.TheVariants.{Trace, Script, Journal
 use Rattle.nf_io.specs.Meaning.{Meaning, Rose, AppendsFront}
 use Rattle.trace_reader.specs.declared.fault.TraceFault.{TraceFault}
 use Rattle.trace_reader.specs.declared.fault.TraceFault.TheVariants.{Magic, PcapNg, Version, LinkType, RecordLength, TooLong, Header, Read, NoMemory}
-use Rattle.trace_reader.specs.Capture.{capture_of, TraceGives}
+use Rattle.trace_reader.specs.Gives.{TraceGives}
+use Rattle.trace_reader.specs.Records.{capture_of}
 use Rattle.opennf_calls.specs.declared.words.Simulation.{Simulation}
 use Rattle.opennf_calls.specs.Simulated.{SimRow}
 use Rattle.opennf_calls.specs.Status.{status_of}
@@ -14,7 +15,7 @@ use Rattle.opennf_calls.specs.Status.{status_of}
 pub fault_row : (asked : Simulation) (old new : Role → Meaning) (fault : TraceFault)
     → (new Trace).name ≡ Some asked.trace.now → (new Report).written ≡ (old Report).written
     → (fault ≡ Read → Rose (old Trace).faults (new Trace).faults)
-    → ((bytes : List ℕ) → (old Trace).left ≡ Some bytes → TraceGives (capture_of bytes) (Err fault) (new Trace).left)
+    → ((bytes : List ℕ) → (old Trace).left ≡ Some bytes → TraceGives (capture_of bytes) (new Trace).left (Err fault))
     → SimRow asked old new (status_of fault)
 fault_row asked old new Magic named silent rose gives = (named, silent, λ bytes told. (Magic, gives bytes told, refl))
 fault_row asked old new PcapNg named silent rose gives = (named, silent, λ bytes told. (PcapNg, gives bytes told, refl))

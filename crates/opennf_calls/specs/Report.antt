@@ -6,7 +6,7 @@ use Rattle.flow_filter.specs.declared.flow.Flow.{Flow}
 use Rattle.flow_filter.specs.declared.packet.Packet.{Packet}
 use Rattle.flow_filter.specs.declared.site.Site.{Site}
 use Rattle.flow_filter.specs.Address.{address_text}
-use Rattle.trace_reader.specs.declared.reader.Trace.{Trace}
+use Rattle.trace_reader.specs.declared.trace.Trace.{Trace}
 use Rattle.conn_tracker.specs.declared.record.TrackRecord.{TrackRecord}
 use Rattle.nf_function.specs.declared.output.Output.{Output}
 use Rattle.conn_tracker.specs.Text.{output_of, output_text, record_text}

@@ -4,9 +4,9 @@ use Rattle.std.specs.Io.KnownBytes.{Appends}
 use Rattle.nf_io.specs.declared.outside.Role.{Role}
 use Rattle.nf_io.specs.declared.outside.Role.TheVariants.{Trace, Report}
 use Rattle.nf_io.specs.Meaning.{Meaning, Rose, AppendsFront}
-use Rattle.trace_reader.specs.declared.reader.Trace.{Trace as Captured}
+use Rattle.trace_reader.specs.declared.trace.Trace.{Trace as Captured}
 use Rattle.trace_reader.specs.declared.fault.TraceFault.{TraceFault}
-use Rattle.trace_reader.specs.Capture.{capture_of}
+use Rattle.trace_reader.specs.Records.{capture_of}
 use Rattle.opennf_calls.specs.declared.status.Status.{Status}
 use Rattle.opennf_calls.specs.declared.status.Status.TheVariants.{Ok as Done, Usage, BadTrace, ReadFault, WriteFault, NoMemory}
 use Rattle.opennf_calls.specs.declared.words.Simulation.{Simulation}

@@ -4,7 +4,8 @@ ghost use Rattle.std.specs.Io.KnownBytes.{Appends};
 ghost use Rattle.nf_io.specs.declared.outside.Role.TheVariants.{Trace as TraceRole, Report as ReportRole, Errors as ErrorsRole};
 ghost use Rattle.nf_io.specs.declared.outside.Role.{Role as TheRole};
 ghost use Rattle.nf_io.specs.Meaning.{AppendsFront, CanRead, CanWrite, HasCause, OthersStay};
-ghost use Rattle.trace_reader.specs.Capture.{capture_of, TraceGives, HasTraceCause};
+ghost use Rattle.trace_reader.specs.Gives.{HasReadCause, TraceGives};
+ghost use Rattle.trace_reader.specs.Records.{capture_of};
 ghost use Rattle.opennf_calls.specs.Command.{plan_of};
 ghost use Rattle.opennf_calls.specs.Outcome.{CauseOf, MayBind};
 ghost use Rattle.opennf_calls.specs.Simulated.{SimRow, SimChanges};
@@ -57,8 +58,8 @@ pub fn perform<O: Outside>(alloc: Global, words: &[String], outside: &mut O) -> 
 fn read_capture<O: Outside>(alloc: Global, outside: &mut O) -> Result<Trace, TraceFault>
     requires { CanRead TraceRole (O.seen outside.old TraceRole) }
     ensures trace { ForSome (O.seen outside.old TraceRole).left (λ bytes.
-        TraceGives (capture_of bytes) result (O.seen outside.new TraceRole).left) }
-    ensures cause { HasTraceCause (O.seen outside.old TraceRole).faults (O.seen outside.new TraceRole).faults result }
+        TraceGives (capture_of bytes) (O.seen outside.new TraceRole).left result) }
+    ensures cause { HasReadCause (O.seen outside.old TraceRole).faults (O.seen outside.new TraceRole).faults result }
     ensures written { (O.seen outside.new TraceRole).written ≡ (O.seen outside.old TraceRole).written }
     ensures name { (O.seen outside.new TraceRole).name ≡ (O.seen outside.old TraceRole).name }
     ensures others { OthersStay TraceRole (O.seen outside.old) (O.seen outside.new) }

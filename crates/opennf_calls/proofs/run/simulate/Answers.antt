@@ -14,7 +14,7 @@ pub returns-in-Err-clause-row : goal.returns-in-Err-clause-row
 returns-in-Err-clause-row g c =
     rw c.of.ensures (fault_row c.args.asked.now (g.O.Outside.seen c.args.outside.now) (g.O.Outside.seen c.read_capture.new.outside) c.in-Err.fault
     (search rules) (search rules)
-    (λ is. let rose : Rose (g.O.Outside.seen c.bind.new.self TraceRole).faults (g.O.Outside.seen c.read_capture.new.outside TraceRole).faults = c.in-Err.ensures.cause.failed (ap Err is) in search rules)
+    (λ is. let rose : Rose (g.O.Outside.seen c.bind.new.self TraceRole).faults (g.O.Outside.seen c.read_capture.new.outside TraceRole).faults = c.in-Err.ensures.cause.read (ap Err is) in search rules)
     (λ bytes told. let told' : (g.O.Outside.seen c.bind.new.self TraceRole).left ≡ Some bytes = search rules in c.in-Err.ensures.trace bytes told'))
 
 pub returns-in-Ok-put-clause-row : goal.returns-in-Ok-put-clause-row
