@@ -1,5 +1,5 @@
 -- What a record gives is told by its first 202 bytes.
-use Rattle.std.proofs.Common.{◌≡◌, ℕ, ◌+◌, ◌-◌, ◌*◌, ◌/◌, ◌%◌, ◌≤◌, ◌<◌, ◌==◌, ◌&&◌, Bool, true, false, min, List, Option, None, Some, IfSome, length, take, drop, get_or, nat_le, nat_lt, ◌^◌, ◌⊎◌, inl, inr, Result, Ok, Err, take_all, refl, ap, sym, ◌∙◌, subst, arith}
+use Rattle.std.proofs.Common.{◌≡◌, ℕ, ◌+◌, ◌-◌, ◌*◌, ◌/◌, ◌%◌, ◌≤◌, ◌<◌, ◌==◌, ◌&&◌, Bool, true, false, min, List, Option, None, Some, IfSome, length, take, drop, get_or, nat_le, nat_lt, ◌^◌, inl, inr, Err, take_all, refl, ap, sym, ◌∙◌, subst, arith}
 use Rattle.std.specs.Prelude.{option_map, option_and_then, if◌then◌else◌}
 use Rattle.std.proofs.lemmas.List.{get_or-take, get_or-drop, drop-take, length-take}
 use Rattle.std.proofs.lemmas.Bool.Decides.{leb_tells}
@@ -9,7 +9,7 @@ use Rattle.trace_reader.specs.declared.form.Link.{Link}
 use Rattle.trace_reader.specs.declared.form.Link.TheVariants.{Ethernet, Raw}
 use Rattle.trace_reader.specs.declared.steer.Parts.{Parts}
 use Rattle.trace_reader.specs.Numbers.{byte, pair, quad}
-use Rattle.trace_reader.specs.Steered.{start_of, header_length, is_first, transport_length, total_length, parts_at, parts_of, held_of, payload_of, packet_with, packet_of, nanos_of}
+use Rattle.trace_reader.specs.Steered.{start_of, header_length, transport_length, total_length, parts_at, parts_of, held_of, payload_of, packet_with, packet_of, nanos_of}
 use Rattle.trace_reader.specs.Records.{record_of, steered_at}
 use Rattle.trace_reader.specs.declared.fault.TraceFault.TheVariants as fault
 
@@ -102,19 +102,19 @@ unfolding parts_of
 parts_of-front link len f =
     ap (λ o. option_and_then (λ s. option_and_then (λ h. parts_at len (take 202 f) s h) (header_length len (take 202 f) s)) o) (start_of-front link len f)
     ∙ and_then_same _ _ (λ s. s ≤ 18) (start_of link len f) (start_of-bound link len f)
-      (λ s low. ap (λ o. option_and_then (λ h. parts_at len (take 202 f) s h) o) (header_length-front len f s low)
-        ∙ and_then_same _ _ (λ h. h ≤ 60) (header_length len f s) (header_length-bound len f s) (λ h small. parts_at-front len f s h low small))
+    (λ s low. ap (λ o. option_and_then (λ h. parts_at len (take 202 f) s h) o) (header_length-front len f s low)
+    ∙ and_then_same _ _ (λ h. h ≤ 60) (header_length len f s) (header_length-bound len f s) (λ h small. parts_at-front len f s h low small))
 
 parts_of-bound : (link : Link) (len : ℕ) (f : List ℕ) → ((i : ℕ) → byte f i < 256) → IfSome (parts_of link len f) InFront
 unfolding parts_of
 parts_of-bound link len f fits =
     and_then_gives _ (λ s. s ≤ 18) InFront (start_of link len f) (start_of-bound link len f)
     (λ s low. and_then_gives _ (λ h. h ≤ 60) InFront (header_length len f s) (header_length-bound len f s)
-      (λ h small. and_then_gives _ (λ d. d ≤ 60) InFront (transport_length len f (byte f (s + 9)) (s + h)) (transport_length-bound len f (byte f (s + 9)) (s + h) fits)
-        (λ d few.
-          let parts : Parts = record { start = s; header = h; transport = d; total = total_length len f s } in
-          let bounds : InFront parts = record { start = low; header = small; transport = few } in
-          if_gives InFront _ (Some parts) None bounds tt)))
+    (λ h small. and_then_gives _ (λ d. d ≤ 60) InFront (transport_length len f (byte f (s + 9)) (s + h)) (transport_length-bound len f (byte f (s + 9)) (s + h) fits)
+    (λ d few.
+    let parts : Parts = record { start = s; header = h; transport = d; total = total_length len f s } in
+    let bounds : InFront parts = record { start = low; header = small; transport = few } in
+    if_gives InFront _ (Some parts) None bounds tt)))
 
 -- ---- the packet
 
@@ -131,30 +131,32 @@ packet_with-front : (k nanos len : ℕ) (f : List ℕ) (parts : Parts) → InFro
 packet_with-front k nanos len f parts b =
     let low : parts.start ≤ 18 = b.start in
     let small : parts.header ≤ 60 = b.header in
-    rw (byte_front f (parts.start + 9) (omega arith),
+    rw (
+      byte_front f (parts.start + 9) (omega arith),
       quad_front f (parts.start + 12) (omega arith),
       pair_front f (parts.start + parts.header) (omega arith),
       quad_front f (parts.start + 16) (omega arith),
       pair_front f (parts.start + parts.header + 2) (omega arith),
       byte_front f (parts.start + parts.header + 13) (omega arith),
-      payload_of-front len f parts b) refl
+      payload_of-front len f parts b,
+    ) refl
 
 pub packet_of-front : (form : Form) (k : ℕ) (head : List ℕ) (len : ℕ) (f : List ℕ) → ((i : ℕ) → byte (take 202 f) i < 256)
     → packet_of form k head len (take 202 f) ≡ packet_of form k head len f
 unfolding packet_of
 packet_of-front form k head len f fits =
     map_same _ _ InFront (parts_of form.link len (take 202 f)) (parts_of-bound form.link len (take 202 f) fits)
-      (λ parts b. packet_with-front k (nanos_of form head) len f parts b)
+    (λ parts b. packet_with-front k (nanos_of form head) len f parts b)
     ∙ ap (option_map (packet_with k (nanos_of form head) len f)) (parts_of-front form.link len f)
 
 -- the buffer holds the front of the record's n bytes
 front_is : (n : ℕ) (front rest : List ℕ) → length front ≡ min n 202 → front ≡ take (length front) rest → front ≡ take 202 (take n rest)
 front_is n front rest long same =
     elim (leb_tells 202 n) as (λ _. front ≡ take 202 (take n rest)) [
-      inl e ↦ (let all : length front ≡ 202 = omega (arith, e.1) in same ∙ ap (λ k. take k rest) all ∙ sym (take-take 202 n rest e.1))
-    | inr e ↦ (let all : length front ≡ n = omega (arith, e.1) in
-        let few : length (take n rest) ≤ 202 = omega (arith, length-take {A = ℕ}, e.1) in
-        same ∙ ap (λ k. take k rest) all ∙ sym (take_all 202 (take n rest) few))
+      | inl e ↦ (let all : length front ≡ 202 = omega (arith, e.1) in same ∙ ap (λ k. take k rest) all ∙ sym (take-take 202 n rest e.1))
+      | inr e ↦ (let all : length front ≡ n = omega (arith, e.1) in
+          let few : length (take n rest) ≤ 202 = omega (arith, length-take {A = ℕ}, e.1) in
+          same ∙ ap (λ k. take k rest) all ∙ sym (take_all 202 (take n rest) few))
     ]
 
 pub record_of-front : (form : Form) (place count : ℕ) (head : List ℕ) (n : ℕ) (front rest : List ℕ) → length front ≡ min n 202

@@ -2,3 +2,4 @@ pub mod Taken
 pub mod Front
 pub mod Steps
 pub mod Opened
+pub mod Whole

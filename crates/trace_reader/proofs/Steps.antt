@@ -1,5 +1,5 @@
 -- The answers of `read_record`, branch by branch of `next_of`.
-use Rattle.std.proofs.Common.{◌≡◌, ℕ, ◌+◌, ◌-◌, ◌≤◌, ◌<◌, min, Bool, true, false, List, [], Option, Some, Result, Ok, Err, length, take, drop, refl, ap, sym, ◌∙◌, subst, arith, length-drop}
+use Rattle.std.proofs.Common.{◌≡◌, ℕ, ◌+◌, ◌≤◌, ◌<◌, min, Bool, true, false, List, [], Option, Some, Ok, Err, length, take, drop, ap, sym, ◌∙◌, subst, arith, length-drop}
 use Rattle.std.proofs.Math.Seq.{take-length, drop-length}
 use Rattle.std.proofs.lemmas.List.{drop-drop}
 use Rattle.std.proofs.lemmas.Bool.{leb-true, leb-false}
@@ -15,7 +15,7 @@ use Rattle.trace_reader.specs.Takes.{Fills, TakesBody}
 use Rattle.trace_reader.specs.Records.{record_of, next_of, size_of}
 use Rattle.trace_reader.proofs.Front.{record_of-front}
 
-next_of-end : (form : Form) (place count : ℕ) (bytes : List ℕ) → length bytes ≡ 0 → next_of form place count bytes ≡ Ok next.End
+pub next_of-end : (form : Form) (place count : ℕ) (bytes : List ℕ) → length bytes ≡ 0 → next_of form place count bytes ≡ Ok next.End
 unfolding next_of
 next_of-end form place count bytes none = grind (arith, nat_tests)
 
@@ -59,7 +59,7 @@ head_taken a b head bytes n fills told long full =
     record {
       enough = omega (arith, f.0);
       same = sym (take-length head) ∙ ap (λ k. take k head) (long ∙ sym is) ∙ f.1 ∙ ap (λ k. take k bytes) is;
-      left = f.2 ∙ ap (λ k. Some (drop k bytes)) is
+      left = f.2 ∙ ap (λ k. Some (drop k bytes)) is;
     }
 
 pub gives_end : (form : Form) (place count : ℕ) (a b : Option (List ℕ)) (head bytes : List ℕ) (n : ℕ) → Fills a b head n → a ≡ Some bytes → length head ≡ 16
@@ -94,12 +94,13 @@ gives_whole form place count n b c head front bytes h is fits long small whole t
     let t = subst (TakesBody b c front n) body takes (drop 16 bytes) h.left in
     let captured : n ≡ captured_of form (take 16 bytes) = is ∙ ap (captured_of form) h.same in
     let all : n ≤ length (drop 16 bytes) = leb-true n (length (drop 16 bytes)) (sym t.0) in
-    let size : 16 + n ≡ size_of form bytes = ap (λ m. 16 + m) captured in
-    (next_of-whole form place count n bytes captured h.enough fits (omega (arith, h.enough, length-drop 16 bytes, all))
-      ∙ ap (λ l. record_of form place count l n (take n (drop 16 bytes))) (sym h.same)
-      ∙ sym (record_of-front form place count head n front (drop 16 bytes) long t.1.0 small),
-    size,
-    t.1.1 ∙ ap Some (drop-drop n 16 bytes ∙ ap (λ m. drop m bytes) size))
+    let size : 16 + n ≡ size_of form bytes = ap (λ m. 16 + m) captured in (
+      next_of-whole form place count n bytes captured h.enough fits (omega (arith, h.enough, length-drop 16 bytes, all))
+          ∙ ap (λ l. record_of form place count l n (take n (drop 16 bytes))) (sym h.same)
+          ∙ sym (record_of-front form place count head n front (drop 16 bytes) long t.1.0 small),
+      size,
+      t.1.1 ∙ ap Some (drop-drop n 16 bytes ∙ ap (λ m. drop m bytes) size),
+    )
 
 -- a fault that is due is answered
 pub gives_fault : (form : Form) (place count : ℕ) (bytes : List ℕ) (place' : ℕ) (left : Option (List ℕ)) (e : TraceFault)

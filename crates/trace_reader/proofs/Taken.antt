@@ -1,5 +1,5 @@
 -- What several reads in a row take.
-use Rattle.std.proofs.Common.{◌≡◌, ℕ, ◌+◌, ◌-◌, ◌≤◌, ◌<◌, ◌==◌, min, true, false, List, [], ◌∷◌, ◌++◌, Option, None, Some, length, take, drop, refl, ap, sym, ◌∙◌, subst, arith, nat_le, inl, inr, ◌⊎◌, Bool, length-drop, length-append}
+use Rattle.std.proofs.Common.{◌≡◌, ℕ, ◌+◌, ◌-◌, ◌≤◌, ◌<◌, ◌==◌, false, List, ◌++◌, Option, None, Some, length, take, drop, ap, sym, ◌∙◌, subst, arith, nat_le, inl, inr, Bool, length-drop, length-append}
 use Rattle.std.proofs.Math.Seq.{take-append-add, drop-append_seam, drop-length, take-length}
 use Rattle.std.proofs.lemmas.List.{length-take-le, take-append-le, drop-drop}
 use Rattle.std.specs.Io.KnownBytes.{Consumes}
@@ -55,8 +55,8 @@ body_rest a b c front len n m fills full fits skips bytes told =
     let left : c ≡ Some (drop (n + m) bytes) = s.1 ∙ ap Some (drop-drop m n bytes) in
     let Goal : Bool → Type 0 = λ b. (b ≡ nat_le len (length bytes)) × BodyGives bytes c front len b in
     elim (eqb_tells m (len - length front)) as (λ _. Goal (m == (len - length front))) [
-      inl e ↦ (let all : n + m ≡ len = omega (arith, e.1) in
-        subst Goal (sym e.0) (sym (le-leb len (length bytes) (omega (arith, f.0, s.0))), (held, left ∙ ap (λ k. Some (drop k bytes)) all)))
-    | inr e ↦ (let all : n + m ≡ length bytes = omega (arith, f.0, s.0, e.1) in
-        subst Goal (sym e.0) (sym (lt-leb len (length bytes) (omega (arith, f.0, s.0, e.1))), left ∙ ap Some (ap (λ k. drop k bytes) all ∙ drop-length bytes)))
+      | inl e ↦ (let all : n + m ≡ len = omega (arith, e.1) in
+          subst Goal (sym e.0) (sym (le-leb len (length bytes) (omega (arith, f.0, s.0))), (held, left ∙ ap (λ k. Some (drop k bytes)) all)))
+      | inr e ↦ (let all : n + m ≡ length bytes = omega (arith, f.0, s.0, e.1) in
+          subst Goal (sym e.0) (sym (lt-leb len (length bytes) (omega (arith, f.0, s.0, e.1))), left ∙ ap Some (ap (λ k. drop k bytes) all ∙ drop-length bytes)))
     ]

@@ -1,6 +1,5 @@
 -- How the calls of a reader answer, given what the bytes that are left stand for. This project's own.
 use Rattle.std.specs.Prelude.{◌≡◌, ◌≤◌, ◌<◌, ℕ, ◌+◌, ◌^◌, List, [], drop, Option, Some, None, Result, Ok, Err}
-use Rattle.flow_filter.specs.declared.packet.Packet.{Packet}
 use Rattle.nf_io.specs.Meaning.{Rose}
 use Rattle.trace_reader.specs.declared.form.Form.{Form}
 use Rattle.trace_reader.specs.declared.fault.TraceFault.{TraceFault}

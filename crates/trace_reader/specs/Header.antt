@@ -1,6 +1,6 @@
 -- The 24 bytes at the head of a capture: the pcap format (draft-ietf-opsawg-pcap), version 2.4, with microseconds or nanoseconds in either byte order. Of
 -- its link types LINKTYPE_ETHERNET (1) and LINKTYPE_RAW (101) are read. The order of the checks is this project's own.
-use Rattle.std.specs.Prelude.{ℕ, ◌%◌, ◌^◌, Bool, ◌==◌, ◌&&◌, ◌||◌, not, nat_lt, List, length, drop, Option, Some, None, Result, Ok, Err, if◌then◌else◌}
+use Rattle.std.specs.Prelude.{ℕ, ◌%◌, ◌^◌, Bool, ◌==◌, ◌&&◌, not, nat_lt, List, length, drop, Option, Some, None, Result, Ok, Err, if◌then◌else◌}
 use Rattle.byteorder.specs.Endian.{big_number}
 use Rattle.trace_reader.specs.declared.form.Order.TheVariants.{Big, Little}
 use Rattle.trace_reader.specs.declared.form.Fraction.TheVariants.{Micros, Nanos}

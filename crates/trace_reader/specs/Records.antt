@@ -32,10 +32,10 @@ unfoldable pub next_of : Form → ℕ → ℕ → List ℕ → Result Next Trace
 next_of form place count bytes =
     let n = captured_of form (take 16 bytes) in
     if nat_lt 0 (length bytes) then
-      (if nat_lt (length bytes) 16 then Ok next.Cut
-      else if nat_lt 262144 n then Err (fault.RecordLength place n)
-      else if nat_lt (length bytes) (16 + n) then Ok next.Cut
-      else record_of form place count (take 16 bytes) n (take n (drop 16 bytes)))
+    (if nat_lt (length bytes) 16 then Ok next.Cut
+    else if nat_lt 262144 n then Err (fault.RecordLength place n)
+    else if nat_lt (length bytes) (16 + n) then Ok next.Cut
+    else record_of form place count (take 16 bytes) n (take n (drop 16 bytes)))
     else Ok next.End
 
 -- one more packet at the front

@@ -1,7 +1,7 @@
 -- Which records of a capture are steered, and the packet of each: frames of Ethernet (IEEE 802.3) with at most one VLAN tag (IEEE 802.1Q), or none, around
 -- IPv4 (RFC 791) with TCP (RFC 9293) or UDP (RFC 768). Only first fragments are steered, and no checksum is looked at. Each definition takes how
 -- many bytes the record has, and its bytes, of which only the first 202 count.
-use Rattle.std.specs.Prelude.{◌≡◌, ◌≤◌, max, ℕ, ◌+◌, ◌-◌, ◌*◌, ◌/◌, ◌%◌, ◌^◌, ◌==◌, ◌&&◌, ◌||◌, Bool, nat_le, nat_lt, min, List, ◌++◌, take, drop, replicate, Option, Some, None, option_map, option_and_then, if◌then◌else◌}
+use Rattle.std.specs.Prelude.{◌≡◌, ◌≤◌, max, ℕ, ◌+◌, ◌-◌, ◌*◌, ◌/◌, ◌%◌, ◌^◌, ◌==◌, ◌&&◌, Bool, nat_le, min, List, ◌++◌, take, drop, replicate, Option, Some, None, option_map, option_and_then, if◌then◌else◌}
 use Rattle.flow_filter.specs.declared.packet.Packet.{Packet}
 use Rattle.trace_reader.specs.declared.form.Fraction.{Fraction}
 use Rattle.trace_reader.specs.declared.form.Fraction.TheVariants.{Micros, Nanos}
@@ -45,8 +45,8 @@ abbrev pub parts_at : ℕ → List ℕ → ℕ → ℕ → Option Parts
 parts_at len f s h =
     option_and_then
     (λ d. if is_first f s && nat_le (h + d) (total_length len f s)
-      then Some (record { start = s; header = h; transport = d; total = total_length len f s })
-      else None)
+    then Some (record { start = s; header = h; transport = d; total = total_length len f s })
+    else None)
     (transport_length len f (byte f (s + 9)) (s + h))
 
 -- the lengths of a steered record, None for one that is skipped
@@ -97,7 +97,7 @@ packet_with k nanos len f parts =
       flags = if byte f (parts.start + 9) == 6 then byte f (q + 13) else 0;
       length = parts.total - parts.header - parts.transport;
       held = held_of len parts;
-      head = payload_of len f parts ++ replicate (64 - held_of len parts) 0
+      head = payload_of len f parts ++ replicate (64 - held_of len parts) 0;
     }
 
 -- the packet of a record with this head and these bytes, if it is steered, with the number k

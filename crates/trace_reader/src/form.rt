@@ -4,9 +4,8 @@ ghost use Rattle.trace_reader.specs.Steered.{nanos_of};
 ghost use Rattle.trace_reader.specs.Numbers.{captured_of};
 ghost use Rattle.trace_reader.specs.Header.{magic_of, link_of, is_version, form_of};
 
-use byteorder::{BigEndian, ByteOrder, LittleEndian};
-
 use crate::fault::TraceFault;
+use byteorder::{BigEndian, ByteOrder, LittleEndian};
 
 /// The order of the bytes of a capture's own numbers.
 #[derive(Clone, Copy, Debug, PartialEq, Eq)]

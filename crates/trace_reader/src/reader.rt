@@ -1,12 +1,11 @@
 ghost use Rattle.std.specs.Prelude.{◌≡◌, ◌≤◌, ◌^◌, ◌+◌, min, None, Some, Err, length, drop, IfOk};
 ghost use Rattle.std.specs.Option.{ForSome, ForNone};
 
-use nf_io::Source;
-
 use crate::fault::TraceFault;
 use crate::form::{Form, form_of};
 use crate::record::{Next, read_record};
 use crate::takes::fill;
+use nf_io::Source;
 
 /// Why a reader is at its end.
 #[derive(Clone, Copy, Debug, PartialEq, Eq)]

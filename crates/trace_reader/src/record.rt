@@ -5,13 +5,12 @@ ghost use Rattle.trace_reader.specs.Numbers.{byte};
 ghost use Rattle.trace_reader.specs.Records.{record_of};
 ghost use Rattle.trace_reader.specs.Gives.{HasReadCause, Gives, Moves, next_in, size_in, count_after};
 
-use flow_filter::Packet;
-use nf_io::Source;
-
 use crate::fault::TraceFault;
 use crate::form::Form;
 use crate::steer::{FRONT, packet_of};
 use crate::takes::{fill, take_body};
+use flow_filter::Packet;
+use nf_io::Source;
 
 /// How many bytes of a packet a record may have.
 const MOST_CAPTURED: u32 = 262_144;

@@ -2,11 +2,9 @@ ghost use Rattle.std.specs.Prelude.{◌≡◌, ◌≤◌, ◌+◌, ◌-◌, ◌^
 ghost use Rattle.trace_reader.specs.Numbers.{pair, quad, byte};
 ghost use Rattle.trace_reader.specs.Steered.{start_of, header_length, is_first, transport_length, total_length, parts_of, HasParts, held_of, payload_of, packet_with, packet_of};
 
-use byteorder::{BigEndian, ByteOrder};
-
-use flow_filter::{Packet, TCP, UDP};
-
 use crate::form::{Form, Link};
+use byteorder::{BigEndian, ByteOrder};
+use flow_filter::{Packet, TCP, UDP};
 
 /// How many bytes of a record can matter: those in front of the longest payload that is kept.
 pub(crate) const FRONT: usize = 202;
@@ -84,7 +82,11 @@ fn transport_length(len: usize, front: &[u8], proto: u8, at: usize) -> Option<us
         UDP if len >= at + 8 => Some(8),
         TCP if len >= at + 20 => {
             let transport = 4 * usize::from(front[at + 12] / 16);
-            if transport >= 20 { Some(transport) } else { None }
+            if transport >= 20 {
+                Some(transport)
+            } else {
+                None
+            }
         }
         _ => None,
     }

@@ -4,13 +4,12 @@ ghost use Rattle.nf_io.specs.Meaning.{StaysOpen};
 ghost use Rattle.trace_reader.specs.Records.{capture_of};
 ghost use Rattle.trace_reader.specs.Gives.{HasReadCause, TraceGives};
 
-use flow_filter::Packets;
-use nf_io::Source;
-use std::alloc::Global;
-
 use crate::fault::TraceFault;
 use crate::reader::TraceReader;
 use crate::record::Next;
+use flow_filter::Packets;
+use nf_io::Source;
+use std::alloc::Global;
 
 /// What a capture holds.
 #[derive(Debug, Drop)]
@@ -33,17 +32,24 @@ pub fn read_trace<S: Source>(alloc: Global, source: &mut S) -> Result<Trace, Tra
     let mut reader = TraceReader::open(source)?;
     let mut packets = Packets::open(alloc);
     let mut skipped = 0;
-    let cut = loop {
+    'records: loop {
         match reader.next(source)? {
             Next::Packet(packet) => packets.push(packet)?,
             Next::Skipped => skipped += 1,
-            Next::End => break false,
-            Next::Cut => break true,
+            Next::End => {
+                return Ok(Trace {
+                    packets,
+                    skipped,
+                    cut: false,
+                });
+            }
+            Next::Cut => {
+                return Ok(Trace {
+                    packets,
+                    skipped,
+                    cut: true,
+                });
+            }
         }
-    };
-    Ok(Trace {
-        packets,
-        skipped,
-        cut,
-    })
+    }
 }
