@@ -3,12 +3,11 @@ ghost use Rattle.std.specs.List.{flat_map};
 ghost use Rattle.opennf_calls.specs.Fold.{AreLive};
 ghost use Rattle.opennf_calls.specs.Report.{IsReport, head_lines, trace_line, counts_text, out_line, out_lines, done_line, end_text, end_point_text, protocol_text, unit_text, state_line, tail_lines};
 
-use crate::fold::{Live, process};
+use crate::fold::{Kept, Live, ordered, process};
 use conn_tracker::{TrackRecord, push_output, push_record};
 use flow_filter::{Flow, NoMemory, Packet, Site, TCP, Text};
 use nf_function::Output;
 use std::alloc::Global;
-use std::collections::BTreeMap;
 use trace_reader::Trace;
 
 /// The report of a capture that one instance processed, with the instance's name.
@@ -72,12 +71,12 @@ fn push_outs(
     ensures live { IfOk result (λ live. AreLive site.now packets.now live) }
     ensures lines { OnOk result (text.new ≡ text.old ++ out_lines site.now [] packets.now) }
 {
-    let mut live = BTreeMap::new(alloc);
+    let mut kept = Kept::new(alloc);
     for packet in packets {
-        let output = process(&mut live, site, packet)?;
+        let output = process(&mut kept, site, packet)?;
         push_out(text, packet, &output)?;
     }
-    Ok(live)
+    ordered(alloc, &kept)
 }
 
 #[tactic(auto, unfolding(crate::specs::Report::out_line))]
