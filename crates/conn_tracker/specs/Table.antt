@@ -37,21 +37,28 @@ pub record Row : Type 0 where
 
 abbrev pub cells : (r s sf sr ff fr of or : State) → Row
 cells r s sf sr ff fr of or = record {
-  rst = r; syn = s; syn_ack_forward = sf; syn_ack_reverse = sr; fin_forward = ff; fin_reverse = fr;
-  other_forward = of; other_reverse = or }
+  rst = r;
+  syn = s;
+  syn_ack_forward = sf;
+  syn_ack_reverse = sr;
+  fin_forward = ff;
+  fin_reverse = fr;
+  other_forward = of;
+  other_reverse = or;
+}
 
 -- the table of TCP: columns as in `Row`. The states of UDP don't meet a TCP packet, and stay.
 abbrev pub row : State → Row
-row Opening     = cells Reset  Opening     Opening     Answered    FinFwd FinRev Opening     Opening
-row Answered    = cells Reset  Answered    Answered    Answered    FinFwd FinRev Established Answered
-row Established = cells Reset  Established Established Established FinFwd FinRev Established Established
-row FinFwd      = cells Reset  FinFwd      FinFwd      FinFwd      FinFwd Closed FinFwd      FinFwd
-row FinRev      = cells Reset  FinRev      FinRev      FinRev      Closed FinRev FinRev      FinRev
-row Closed      = cells Closed Opening     Closed      Closed      Closed Closed Closed      Closed
-row Reset       = cells Reset  Opening     Reset       Reset       Reset  Reset  Reset       Reset
-row Loose       = cells Reset  Loose       Loose       Loose       FinFwd FinRev Loose       Established
-row Single      = cells Single Single      Single      Single      Single Single Single      Single
-row Both        = cells Both   Both        Both        Both        Both   Both   Both        Both
+row Opening = cells Reset Opening Opening Answered FinFwd FinRev Opening Opening
+row Answered = cells Reset Answered Answered Answered FinFwd FinRev Established Answered
+row Established = cells Reset Established Established Established FinFwd FinRev Established Established
+row FinFwd = cells Reset FinFwd FinFwd FinFwd FinFwd Closed FinFwd FinFwd
+row FinRev = cells Reset FinRev FinRev FinRev Closed FinRev FinRev FinRev
+row Closed = cells Closed Opening Closed Closed Closed Closed Closed Closed
+row Reset = cells Reset Opening Reset Reset Reset Reset Reset Reset
+row Loose = cells Reset Loose Loose Loose FinFwd FinRev Loose Established
+row Single = cells Single Single Single Single Single Single Single Single
+row Both = cells Both Both Both Both Both Both Both Both
 
 -- the cell of a row for a class and a direction
 abbrev pub cell : Class → Bool → Row → State
@@ -115,11 +122,12 @@ first_record p way =
 abbrev pub next_record : TrackRecord → Packet → Dir → TrackRecord
 next_record r p way = record {
   state = (if is_tcp p.proto
-    then cell (class_of p.flags) (is_same_way way r.opener) (row r.state)
-    else next_udp (is_same_way way r.opener) r.state);
+      then cell (class_of p.flags) (is_same_way way r.opener) (row r.state)
+      else next_udp (is_same_way way r.opener) r.state);
   opener = (if is_tcp p.proto && restarts r.state (class_of p.flags) then way else r.opener);
   packets = count r.packets 1;
-  bytes = count r.bytes p.length }
+  bytes = count r.bytes p.length;
+}
 
 -- the record after a packet
 unfoldable pub stepped : Site → Option TrackRecord → Packet → TrackRecord

@@ -5,7 +5,7 @@ use Rattle.flow_filter.specs.declared.flow.Dir.{Dir}
 use Rattle.flow_filter.specs.declared.flow.Dir.TheVariants.{Out, In}
 use Rattle.conn_tracker.specs.declared.state.State.{State}
 use Rattle.conn_tracker.specs.declared.record.TrackRecord.{TrackRecord}
-use Rattle.conn_tracker.specs.declared.tracker.Output.{Output}
+use Rattle.nf_function.specs.declared.output.Output.{Output}
 use Rattle.conn_tracker.specs.Table.{name_of, number_of, state_of}
 
 -- the output of a packet: the number of the state that it left

@@ -2,8 +2,11 @@ ghost use Rattle.std.specs.Prelude.{◌≡◌};
 ghost use Rattle.conn_tracker.specs.Table.{class_of};
 
 const FIN: u8 = 1;
+
 const SYN: u8 = 2;
+
 const RST: u8 = 4;
+
 const ACK: u8 = 16;
 
 /// What the flags of a TCP packet say of its connection.

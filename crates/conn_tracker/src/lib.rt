@@ -13,4 +13,7 @@ pub mod tracker;
 pub use record::TrackRecord;
 pub use state::State;
 pub use text::{print_output, print_record, push_output, push_record};
-pub use tracker::{Output, step};
+pub use tracker::step;
+
+#[cfg(test)]
+mod tests;

@@ -3,8 +3,8 @@ ghost use Rattle.conn_tracker.specs.Text.{output_text, record_text, way_text};
 
 use crate::record::TrackRecord;
 use crate::state::State;
-use crate::tracker::Output;
 use flow_filter::{Dir, NoMemory, Text};
+use nf_function::Output;
 use std::alloc::Global;
 
 /// Puts the text of an output behind a text: the name of its state.

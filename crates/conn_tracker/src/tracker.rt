@@ -6,14 +6,7 @@ use crate::class::Class;
 use crate::record::TrackRecord;
 use crate::state::State;
 use flow_filter::{Dir, Packet, Site, TCP, flow_of};
-
-/// What a function answers for a packet: a code, and two numbers that the code gives a meaning.
-#[derive(Clone, Copy, Debug, PartialEq, Eq)]
-pub struct Output {
-    pub code: u8,
-    pub a: u32,
-    pub b: u32,
-}
+use nf_function::Output;
 
 /// Takes a packet into what is kept of its flow, and gives the output.
 ///

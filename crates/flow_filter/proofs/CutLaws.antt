@@ -1,9 +1,9 @@
 -- Where a text is cut.
-use Rattle.std.proofs.Common.{◌≡◌, ℕ, ◌+◌, ◌-◌, ◌<◌, ◌≤◌, suc, Bool, true, false, not, cond, eqb, ltb, List, [], ◌∷◌, ◌++◌, length, take, drop, Option, None, Some, option_map, refl, ap, sym, ◌∙◌, arith, add-one, length-drop}
-use Rattle.std.specs.Prelude.{◌==◌, nat_lt}
+use Rattle.std.proofs.Common.{◌≡◌, ℕ, ◌+◌, ◌-◌, suc, Bool, true, false, not, ◌&&◌, cond, eqb, ltb, List, [], ◌∷◌, ◌++◌, length, take, drop, Option, None, Some, option_map, refl, ap, sym, ◌∙◌, arith, length-drop}
+use Rattle.std.specs.Prelude.{◌==◌}
 use Rattle.std.specs.List.{position, position_or_len, prefix_len, slice_split, onto_first}
 use Rattle.std.proofs.Math.Dec.{leb-suc-suc}
-use Rattle.std.proofs.lemmas.Bool.{lt-ltb, eq-eqb}
+use Rattle.std.proofs.lemmas.Bool.{and_parts, not-true, lt-ltb, eq-eqb}
 use Rattle.std.proofs.lemmas.List.{take_all}
 use Rattle.flow_filter.specs.Reading.{cut}
 
@@ -67,6 +67,16 @@ abbrev pub Lacks : ℕ → List ℕ → Type 0
 Lacks mark [] = Unit {0}
 Lacks mark (byte ∷ more) = (eqb byte mark ≡ false) × Lacks mark more
 
+-- the same, as a test, for texts that are written out
+abbrev pub lacks : ℕ → List ℕ → Bool
+lacks mark [] = true
+lacks mark (byte ∷ more) = not (eqb byte mark) && lacks mark more
+
+pub Lacks-literal : (mark : ℕ) (text : List ℕ) → lacks mark text ≡ true → Lacks mark text
+Lacks-literal mark [] test = tt
+Lacks-literal mark (byte ∷ more) test = let both = and_parts (not (eqb byte mark)) (lacks mark more) test in
+    (not-true (eqb byte mark) both.0, Lacks-literal mark more both.1)
+
 pub Lacks-append : (mark : ℕ) (a b : List ℕ) → Lacks mark a → Lacks mark b → Lacks mark (a ++ b)
 Lacks-append mark [] b in_a in_b = in_b
 Lacks-append mark (byte ∷ a) b in_a in_b = (in_a.0, Lacks-append mark a b in_a.1 in_b)
@@ -98,3 +108,10 @@ split_by mark byte more false is before = rw is (split_step mark byte more (cut 
 pub slice_split-cut : (mark : ℕ) (text : List ℕ) → slice_split (λ b. eqb b mark) text ≡ pieces_of text (cut mark text) mark
 slice_split-cut mark [] = refl
 slice_split-cut mark (byte ∷ more) = split_by mark byte more (eqb byte mark) refl (slice_split-cut mark more)
+
+pub split-Some : (mark : ℕ) (text front behind : List ℕ) → Some (front, behind) ≡ cut mark text
+    → slice_split (λ b. eqb b mark) text ≡ front ∷ slice_split (λ b. eqb b mark) behind
+split-Some mark text front behind at = slice_split-cut mark text ∙ ap (λ r. pieces_of text r mark) (sym at)
+
+pub split-None : (mark : ℕ) (text : List ℕ) → None ≡ cut mark text → slice_split (λ b. eqb b mark) text ≡ text ∷ []
+split-None mark text at = slice_split-cut mark text ∙ ap (λ r. pieces_of text r mark) (sym at)

@@ -1,13 +1,13 @@
 -- What one field of two filters says, for numbers and prefixes alike.
-use Rattle.std.proofs.Common.{◌≡◌, ℕ, ◌+◌, ◌-◌, ◌/◌, ◌%◌, ◌^◌, ◌<◌, ◌≤◌, ◌==◌, Bool, true, false, cond, eqb, ltb, leb, ◌&&◌, Option, None, Some, refl, ap, sym, ◌∙◌, arith, inl, inr, zero, suc, lit<}
-use Rattle.std.specs.Prelude.{nat_eq, nat_le}
+use Rattle.std.proofs.Common.{◌≡◌, ℕ, ◌+◌, ◌-◌, ◌/◌, ◌%◌, ◌^◌, ◌<◌, ◌≤◌, ◌==◌, Bool, true, false, cond, eqb, leb, ◌&&◌, Option, None, Some, refl, ap, sym, ◌∙◌, arith, inl, inr, zero, suc, lit<}
+use Rattle.std.specs.Prelude.{nat_eq}
 use Rattle.std.specs.Option.{ForSome}
-use Rattle.std.proofs.lemmas.Bool.{eqb-true, eq-eqb, eqb-false, ne_eqb, leb-true, leb-false, le-leb, and_cases, and_parts}
+use Rattle.std.proofs.lemmas.Bool.{eqb-true, eq-eqb, eqb-false, ne_eqb, leb-true, leb-false, and_cases, and_parts}
 use Rattle.flow_filter.specs.declared.prefix.Prefix.{Prefix}
 use Rattle.flow_filter.specs.Block.{in_block}
 use Rattle.flow_filter.specs.Filter.{holds, agrees, meet_number, meet_prefix, longer, covers_number, covers_prefix}
-use Rattle.flow_filter.proofs.Bools.{not_both, absorbed_left, absorbed_right, and_true, true-not-false, both_true}
-use Rattle.flow_filter.proofs.BlockLaws.{same_front, block_inside, block_own, block_whole, far_same, far_other, far_small}
+use Rattle.flow_filter.proofs.Bools.{not_both, absorbed_left, absorbed_right, and_true, true-not-false}
+use Rattle.flow_filter.proofs.BlockLaws.{block_inside, block_own, block_whole, far_same, far_other, far_small}
 
 -- what the meet of one field says: nothing agrees with both, or a field that agrees exactly with what both agree with, and a value
 abbrev pub MeetsField : {X : Type 0} → (X → ℕ → Bool) → ℕ → Option X → Option X → Option (Option X) → Type 0

@@ -1,11 +1,11 @@
 -- The laws of filters, from those of their fields.
-use Rattle.std.proofs.Common.{◌≡◌, ℕ, ◌+◌, ◌<◌, ◌^◌, Bool, true, false, ◌&&◌, Option, None, Some, refl, ap, sym, ◌∙◌, arith, lit<, ◌↔◌}
+use Rattle.std.proofs.Common.{◌≡◌, ℕ, ◌^◌, Bool, true, ◌&&◌, Option, None, Some, sym, ◌∙◌, lit<, ◌↔◌}
 use Rattle.std.specs.Prelude.{nat_eq, IfSome, OnSome, IfNone}
 use Rattle.flow_filter.specs.declared.prefix.Prefix.{Prefix}
 use Rattle.flow_filter.specs.declared.flow.Flow.{Flow}
 use Rattle.flow_filter.specs.declared.filter.Filter.{Filter}
-use Rattle.flow_filter.specs.Filter.{holds, agrees, matches, meet, meet_number, meet_prefix, covers, covers_number, covers_prefix, IsFlow, IsFilter, Meet, IsMeet, Covers, ◌>>=◌}
-use Rattle.flow_filter.proofs.Bools.{and_fields, fields_both, true-not-false, true_unless, Five, five_true, true_five, both_true, true_both}
+use Rattle.flow_filter.specs.Filter.{holds, agrees, matches, meet, covers, covers_number, covers_prefix, IsFlow, IsFilter, Meet, IsMeet, Covers, ◌>>=◌}
+use Rattle.flow_filter.proofs.Bools.{and_fields, fields_both, true-not-false, true_unless, Five, five_true, true_five}
 use Rattle.flow_filter.proofs.FieldLaws.{MeetsField, number_meets, prefix_meets, CoversField, number_covers, prefix_covers}
 
 -- what the meet of two filters says

@@ -6,3 +6,8 @@ pub mod FieldLaws
 pub mod FilterLaws
 pub mod CutLaws
 pub mod NumberLaws
+pub mod FieldsOfText
+pub mod PiecesLaws
+pub mod ReadAgain
+pub mod ParseAgain
+pub mod Printable

@@ -1,24 +1,23 @@
 -- Numbers in text: what `decimal` writes is read again, and nothing else is read.
-use Rattle.std.proofs.Common.{◌≡◌, ℕ, ◌+◌, ◌^◌, ◌<◌, ◌≤◌, ◌≢◌, ◌⊎◌, Bool, true, false, not, cond, eqb, leb, ltb, ◌&&◌, ◌||◌, List, [], ◌∷◌, length, get_or, drop, Option, None, Some, Ok, Result, refl, ap, sym, ◌∙◌, arith, rules, lit<, zero, suc}
-use Rattle.std.specs.Prelude.{nat_le, nat_lt, nat_eq, slice_index}
+use Rattle.std.proofs.Common.{◌≡◌, ℕ, ◌^◌, ◌<◌, ◌≤◌, Bool, true, false, cond, eqb, leb, ◌&&◌, List, [], ◌∷◌, length, get_or, drop, None, Some, refl, ap, sym, ◌∙◌, arith, rules, lit<, zero, suc}
 use Rattle.std.specs.Str.{bytes_eq, IsUtf8, IsAscii}
 use Rattle.std.specs.Int.{IsInRange}
-use Rattle.std.specs.Str.Parse.{digits_value, without_leading_plus, IsNumeral, AllDigits, ParsesUnsigned}
+use Rattle.std.specs.Str.Parse.{digits_value, without_leading_plus, IsNumeral, AllDigits}
 use Rattle.std.specs.Fmt.{decimal}
 use Rattle.std.specs.Option.{SomeIff}
 use Rattle.std.specs.Bool.{then_some}
-use Rattle.std.proofs.lemmas.Bool.{and_parts, leb-true, eqb-true, le-leb, cases_Bool, eq-eqb}
+use Rattle.std.proofs.lemmas.Bool.{leb-true, eqb-true}
 use Rattle.std.proofs.lemmas.Slice.Eq.{bytes_eq-Decides}
 use Rattle.std.proofs.lemmas.Str.{IsUtf8-from_ascii}
-use Rattle.std.proofs.lemmas.Str.Parse.{IsNumeralModel, numerals_by_value, tells_by_index, parse_plain, without_leading_plus_none}
+use Rattle.std.proofs.lemmas.Str.Parse.{IsNumeralModel, numerals_by_value, tells_by_index, without_leading_plus_none}
 use Rattle.std.proofs.lemmas.Fmt.{digits_value-decimal, decimal-digits_value, digits_decimal, decimal_nonempty, first_decimal, IsAscii-from_digits, decimal_is_IsNumeral, decimal_digit}
 use Rattle.flow_filter.specs.Reading.{number_of}
 
 -- texts of digits, and their value
-abbrev AreDigits : List ℕ → Type 0
+abbrev pub AreDigits : List ℕ → Type 0
 AreDigits ds = (i : ℕ) → i < length ds → IsInRange 48 57 (get_or ds i 0)
 
-own : IsNumeralModel AreDigits (digits_value 10)
+pub own : IsNumeralModel AreDigits (digits_value 10)
 own = numerals_by_value _ tells_by_index
 
 no_number : (same below : Bool) (n : ℕ) → (same ≡ true → below ≡ true → ⊥) → cond (same && below) (Some n) None ≡ None

@@ -1,6 +1,6 @@
 -- Filters over flows: which flows match, what two filters say together, and when one covers another.
 -- This project's own rules. A field that isn't given says nothing.
-use Rattle.std.specs.Prelude.{◌≡◌, ℕ, ◌<◌, ◌^◌, Bool, true, false, ◌&&◌, ◌==◌, nat_eq, nat_le, ◌↔◌, if◌then◌else◌, Option, None, Some, option_and_then, is_some}
+use Rattle.std.specs.Prelude.{◌≡◌, ℕ, ◌<◌, ◌^◌, Bool, true, false, ◌&&◌, ◌==◌, nat_eq, nat_le, if◌then◌else◌, Option, None, Some, option_and_then, is_some}
 use Rattle.std.specs.Option.{ForSome}
 use Rattle.flow_filter.specs.Block.{in_block}
 use Rattle.flow_filter.specs.declared.prefix.Prefix.{Prefix}

@@ -4,3 +4,4 @@ pub mod Flow
 pub mod Name
 pub mod Filter
 pub mod Reading
+pub mod FilterText

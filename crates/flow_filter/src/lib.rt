@@ -5,6 +5,7 @@
 #![tactic(auto)]
 
 pub mod filter;
+pub mod filter_text;
 pub mod flow;
 pub mod name;
 pub mod packet;
@@ -15,6 +16,7 @@ pub mod site;
 pub mod text;
 
 pub use filter::Filter;
+pub use filter_text::FilterFault;
 pub use flow::{Dir, Flow, flow_of};
 pub use name::Name;
 pub use packet::{Packet, Packets, TCP, UDP};

@@ -72,3 +72,19 @@ fn is_name_byte(byte: u8) -> bool
 {
     byte.is_ascii_lowercase() || byte.is_ascii_digit()
 }
+
+#[cfg(test)]
+mod tests {
+    use super::*;
+    use std::test::Fail;
+
+    #[test]
+    fn a_name_has_up_to_16_letters_and_digits(rt: HostRuntime) -> Result<(), Fail> {
+        let name = Name::read(rt.alloc(), b"b2".as_slice())?.ok_or("no name")?;
+        assert_eq!(rt; name.copy()?.items(), b"b2".as_slice());
+        assert!(rt; is_name(b"abcdefghijklmno9".as_slice()));
+        assert!(rt; !is_name(b"abcdefghijklmnop9".as_slice()));
+        assert!(rt; !is_name(b"A".as_slice()));
+        Ok(())
+    }
+}

@@ -47,7 +47,8 @@ fn parsed(text: &[u8]) -> Option<u64>
 
 /// What stands before the first `mark` and what stands behind it, or `None` where there is none.
 pub fn cut(text: &[u8], mark: u8) -> Option<(&[u8], &[u8])>
-    ensures { option_map (λ p. (p.0.now, p.1.now)) result ≡ cut mark text.now }
+    ensures value { option_map (λ p. (p.0.now, p.1.now)) result ≡ cut mark text.now }
+    ensures shorter { IfSome result (λ p. length p.1.now < length text.now) }
 {
     let at = first_place(text, mark)?;
     Some((&text[..at], &text[at + 1..]))

@@ -26,12 +26,16 @@ unfoldable pub sim_of : List ℕ → List ℕ → List ℕ → Option Asked
 sim_of name inside trace =
     if is_name name && is_file_name trace then option_map (λ block. sim name block trace) (block_in inside) else None
 
+-- the words of `sim` that stand as they are
+unfoldable pub are_sim_words : (command function instances inside schedule last : List ℕ) → Bool
+are_sim_words command function instances inside schedule last =
+    bytes_eq command (codes "sim") && bytes_eq function (codes "conntrack") && bytes_eq instances (codes "--instances")
+    && bytes_eq inside (codes "--inside") && bytes_eq schedule (codes "--schedule") && bytes_eq last (codes "last")
+
 -- PROGRAM sim conntrack --instances NAME --inside PREFIX --schedule last TRACE
 unfoldable pub plan_of : List (List ℕ) → Option Asked
 plan_of (program ∷ command ∷ function ∷ instances ∷ name ∷ inside ∷ prefix ∷ schedule ∷ last ∷ trace ∷ []) =
-    if bytes_eq command (codes "sim") && bytes_eq function (codes "conntrack") && bytes_eq instances (codes "--instances")
-        && bytes_eq inside (codes "--inside") && bytes_eq schedule (codes "--schedule") && bytes_eq last (codes "last")
-    then sim_of name prefix trace else None
+    if are_sim_words command function instances inside schedule last then sim_of name prefix trace else None
 plan_of words = None
 
 -- the file that the words bind to a role

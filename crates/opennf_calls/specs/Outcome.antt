@@ -1,18 +1,20 @@
 -- What a run of the program reads, writes and answers: one row for each status. This project's own.
-use Rattle.std.specs.Prelude.{◌≡◌, ◌≢◌, ℕ, ◌≤◌, Bool, true, false, List, [], Option, None, Some, Result, Ok, Err, IsTrue, IsSome, ◌⊎◌, ⊤}
+use Rattle.std.specs.Prelude.{◌≡◌, ◌≢◌, ℕ, ◌≤◌, Bool, true, false, List, [], Option, None, Some, Result, Ok, Err, option_and_then, IsTrue, IsSome, ◌⊎◌}
 use Rattle.std.specs.Io.KnownBytes.{Appends}
 use Rattle.flow_filter.specs.declared.site.Site.{Site}
 use Rattle.nf_io.specs.declared.outside.Role.{Role}
 use Rattle.nf_io.specs.declared.outside.Role.TheVariants.{Trace, Script, JournalIn, Report, JournalOut, TraceOut, Errors}
 use Rattle.nf_io.specs.Roles.{is_read}
 use Rattle.nf_io.specs.Meaning.{Meaning, Rose, AppendsFront}
-use Rattle.trace_reader.specs.Capture.{capture_of}
+use Rattle.trace_reader.specs.declared.trace.Trace.{Trace as Captured}
+use Rattle.trace_reader.specs.declared.fault.TraceFault.{TraceFault}
+use Rattle.trace_reader.specs.Records.{capture_of}
 use Rattle.opennf_calls.specs.declared.status.Status.{Status}
 use Rattle.opennf_calls.specs.declared.status.Status.TheVariants.{Ok as Done, Usage, BadTrace, ReadFault, WriteFault, NoMemory}
 use Rattle.opennf_calls.specs.declared.outcome.Outcome.{Outcome}
 use Rattle.opennf_calls.specs.Command.{Asked, sim, file_of}
 use Rattle.opennf_calls.specs.Report.{IsReport}
-use Rattle.opennf_calls.specs.Status.{line_of}
+use Rattle.opennf_calls.specs.Status.{line_of, status_of}
 
 -- the bytes of the files that a command reads are these, where the outside tells them
 abbrev pub Tells : Asked → (Role → Meaning) → (Role → List ℕ) → Type 0

@@ -6,8 +6,9 @@ use Rattle.flow_filter.specs.declared.flow.Flow.{Flow}
 use Rattle.flow_filter.specs.declared.packet.Packet.{Packet}
 use Rattle.flow_filter.specs.declared.site.Site.{Site}
 use Rattle.flow_filter.specs.Address.{address_text}
+use Rattle.trace_reader.specs.declared.trace.Trace.{Trace}
 use Rattle.conn_tracker.specs.declared.record.TrackRecord.{TrackRecord}
-use Rattle.conn_tracker.specs.declared.tracker.Output.{Output}
+use Rattle.nf_function.specs.declared.output.Output.{Output}
 use Rattle.conn_tracker.specs.Text.{output_of, output_text, record_text}
 use Rattle.opennf_calls.specs.Fold.{AreLive, record_behind}
 
@@ -66,18 +67,12 @@ state_line name entry =
 unfoldable pub tail_lines : List ℕ → ℕ → List ℕ
 tail_lines name packets = codes "tally " ++ name ++ codes " " ++ decimal packets ++ codes "\nend\n"
 
--- what a trace was read as
-pub record Read : Type 0 where
-  pub packets : List Packet
-  pub skipped : ℕ
-  pub cut : Bool
-
 -- the report of one instance that processed every packet: outputs and states are those of each flow's own packets
-unfoldable pub IsReport : Site → List ℕ → Read → List ℕ → Type 0
+unfoldable pub IsReport : Site → List ℕ → Trace → List ℕ → Type 0
 IsReport site name trace text =
     (live : BTreeMap Flow TrackRecord) × AreLive site trace.packets live
     × (text ≡ head_lines (length trace.packets) trace.skipped trace.cut
-        ++ out_lines site [] trace.packets
-        ++ flat_map (done_line name) trace.packets
-        ++ flat_map (state_line name) live.entries
-        ++ tail_lines name (length trace.packets))
+    ++ out_lines site [] trace.packets
+    ++ flat_map (done_line name) trace.packets
+    ++ flat_map (state_line name) live.entries
+    ++ tail_lines name (length trace.packets))

@@ -2,6 +2,8 @@
 use Rattle.std.specs.Prelude.{ℕ, ◌++◌, List, [], codes, decimal}
 use Rattle.nf_io.specs.declared.outside.Role.{Role}
 use Rattle.nf_io.specs.declared.outside.Role.TheVariants.{Trace, Script, JournalIn, Report, JournalOut, TraceOut, Errors}
+use Rattle.trace_reader.specs.declared.fault.TraceFault.{TraceFault}
+use Rattle.trace_reader.specs.declared.fault.TraceFault.TheVariants as fault
 use Rattle.opennf_calls.specs.declared.status.TraceKind.{TraceKind}
 use Rattle.opennf_calls.specs.declared.status.TraceKind.TheVariants.{Magic, PcapNg, Version, LinkType, RecordLength, TooLong, Header}
 use Rattle.opennf_calls.specs.declared.status.Status.{Status}
@@ -59,3 +61,15 @@ line_of (BadTrace offset kind) = trace_line_of offset kind
 line_of (ReadFault role) = fault_line_of (codes "opennf: read fault ") role
 line_of (WriteFault role) = fault_line_of (codes "opennf: write fault ") role
 line_of NoMemory = codes "opennf: no memory\n"
+
+-- the status of a capture that can't be read
+abbrev pub status_of : TraceFault → Status
+status_of fault.Magic = BadTrace 0 Magic
+status_of fault.PcapNg = BadTrace 0 PcapNg
+status_of fault.Version = BadTrace 4 Version
+status_of (fault.LinkType n) = BadTrace 20 (LinkType n)
+status_of (fault.RecordLength offset n) = BadTrace offset (RecordLength n)
+status_of (fault.TooLong offset) = BadTrace offset TooLong
+status_of (fault.Header length) = BadTrace length Header
+status_of fault.Read = ReadFault Trace
+status_of fault.NoMemory = NoMemory

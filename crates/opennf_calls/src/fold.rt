@@ -1,28 +1,40 @@
 ghost use Rattle.std.specs.Prelude.{◌≡◌, Some, OnOk, IfOk, IfSome};
-ghost use Rattle.std.specs.BTreeMap.{Updates, IsOrdered};
-ghost use Rattle.conn_tracker.specs.Text.{output_of};
+ghost use Rattle.std.specs.HashMap.{Updates, get as kept_at};
+ghost use Rattle.std.specs.BTreeMap.{get as live_at, IsOrdered};
+ghost use Rattle.flow_filter.specs.declared.flow.Flow.{Flow as TheFlow};
 ghost use Rattle.conn_tracker.specs.Table.{stepped, IsRecordOf};
-ghost use Rattle.opennf_calls.specs.Fold.{AllFit, flow_cmp, record_after, unit_of};
+ghost use Rattle.conn_tracker.specs.Text.{output_of};
+ghost use Rattle.opennf_calls.specs.Fold.{AllFit, flow_cmp, flow_eq, record_after, unit_of};
 
-use conn_tracker::{Output, TrackRecord, step};
+use conn_tracker::{TrackRecord, step};
 use flow_filter::{Flow, NoMemory, Packet, Site, flow_of};
-use std::collections::BTreeMap;
+use nf_function::Output;
+use std::alloc::Global;
+use std::collections::{BTreeMap, HashMap};
 
-/// The records of the flows that have had a packet.
+/// The records of the flows that have had a packet, while packets come.
+pub type Kept = HashMap<Flow, TrackRecord>;
+
+/// The records of the flows that have had a packet, in the flows' order.
 pub type Live = BTreeMap<Flow, TrackRecord>;
 
 /// Takes a packet into the record of its flow, and gives the output.
-pub fn process(live: &mut Live, site: &Site, packet: &Packet) -> Result<Output, NoMemory>
-    requires { AllFit live.old }
-    ensures updates { OnOk result (Updates flow_cmp live.old live.new (unit_of site.now packet.now)
-        (Some (record_after site.now live.old packet.now))) }
-    ensures output { IfOk result (λ output. output ≡ output_of (record_after site.now live.old packet.now)) }
-    ensures ordered { OnOk result (IsOrdered flow_cmp live.new) }
-    ensures fits { OnOk result (AllFit live.new) }
+pub fn process(kept: &mut Kept, site: &Site, packet: &Packet) -> Result<Output, NoMemory>
+    requires { AllFit kept.old }
+    ensures updates { OnOk result (Updates flow_eq kept.old kept.new (unit_of site.now packet.now)
+        (Some (record_after site.now kept.old packet.now))) }
+    ensures output { IfOk result (λ output. output ≡ output_of (record_after site.now kept.old packet.now)) }
+    ensures fits { OnOk result (AllFit kept.new) }
 {
     let (flow, _) = flow_of(site, packet);
-    let (after, output) = advance(site, live.get(&flow).copied(), packet);
-    live.insert(flow, after)?;
+    if let Some(record) = kept.get_mut(&flow) {
+        let before = *record;
+        let (after, output) = advance(site, Some(before), packet);
+        *record = after;
+        return Ok(output);
+    }
+    let (after, output) = advance(site, None, packet);
+    kept.insert(flow, after)?;
     Ok(output)
 }
 
@@ -37,4 +49,14 @@ fn advance(site: &Site, before: Option<TrackRecord>, packet: &Packet) -> (TrackR
     let output = step(site, &mut kept, packet);
     let Some(after) = kept else { unreachable!() };
     (after, output)
+}
+
+/// The records in the flows' order.
+pub fn ordered(alloc: Global, kept: &Kept) -> Result<Live, NoMemory>
+    ensures ordered { IfOk result (λ live. IsOrdered flow_cmp live) }
+    ensures same { IfOk result (λ live. (unit : TheFlow) → live_at flow_cmp live unit ≡ kept_at flow_eq kept.now unit) }
+{
+    kept.iter()
+        .map(|(unit, record)| (*unit, *record))
+        .collect(alloc)
 }

@@ -3,19 +3,22 @@ ghost use Rattle.std.specs.List.{flat_map};
 ghost use Rattle.opennf_calls.specs.Fold.{AreLive};
 ghost use Rattle.opennf_calls.specs.Report.{IsReport, head_lines, trace_line, counts_text, out_line, out_lines, done_line, end_text, end_point_text, protocol_text, unit_text, state_line, tail_lines};
 
-use crate::fold::{Live, process};
-use conn_tracker::{Output, TrackRecord, push_output, push_record};
+use crate::fold::{Kept, Live, ordered, process};
+use conn_tracker::{TrackRecord, push_output, push_record};
 use flow_filter::{Flow, NoMemory, Packet, Site, TCP, Text};
+use nf_function::Output;
 use std::alloc::Global;
-use std::collections::BTreeMap;
+use trace_reader::Trace;
 
-/// The report of a trace that one instance processed, with its name.
+/// The report of a capture that one instance processed, with the instance's name.
 #[tactic(auto, unfolding(crate::specs::Report::IsReport))]
-pub fn report(alloc: Global, name: &[u8], site: &Site, packets: &[Packet], skipped: u32, is_cut: bool) -> Result<Text, NoMemory>
-    ensures { IfOk result (IsReport site.now name.now (record { packets = packets.now; skipped = skipped; cut = is_cut })) }
+pub fn report(alloc: Global, name: &str, site: &Site, trace: &Trace) -> Result<Text, NoMemory>
+    ensures { IfOk result (IsReport site.now name.now trace.now) }
 {
+    let name = name.as_bytes();
+    let packets = trace.packets.items();
     let mut text = Text::open(alloc);
-    push_head(&mut text, packets.len(), skipped, is_cut)?;
+    push_head(&mut text, packets.len(), trace.skipped, trace.cut)?;
     let live = push_outs(alloc, &mut text, site, packets)?;
     push_dones(&mut text, name, packets)?;
     push_states(&mut text, name, &live)?;
@@ -59,16 +62,21 @@ fn end_name(is_cut: bool) -> &'static str
 }
 
 /// Processes the packets in order, puts the line of each one's output, and gives the records.
-fn push_outs(alloc: Global, text: &mut Text, site: &Site, packets: &[Packet]) -> Result<Live, NoMemory>
+fn push_outs(
+    alloc: Global,
+    text: &mut Text,
+    site: &Site,
+    packets: &[Packet],
+) -> Result<Live, NoMemory>
     ensures live { IfOk result (λ live. AreLive site.now packets.now live) }
     ensures lines { OnOk result (text.new ≡ text.old ++ out_lines site.now [] packets.now) }
 {
-    let mut live = BTreeMap::new(alloc);
+    let mut kept = Kept::new(alloc);
     for packet in packets {
-        let output = process(&mut live, site, packet)?;
+        let output = process(&mut kept, site, packet)?;
         push_out(text, packet, &output)?;
     }
-    Ok(live)
+    ordered(alloc, &kept)
 }
 
 #[tactic(auto, unfolding(crate::specs::Report::out_line))]

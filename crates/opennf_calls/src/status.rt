@@ -1,7 +1,8 @@
 ghost use Rattle.std.specs.Prelude.{◌≡◌, ◌≤◌, length};
-ghost use Rattle.opennf_calls.specs.Status.{kind_name, number_of, role_name};
+ghost use Rattle.opennf_calls.specs.Status.{kind_name, number_of, role_name, status_of};
 
 use nf_io::Role;
+use trace_reader::TraceFault;
 
 /// What is wrong with a capture.
 #[derive(Clone, Copy, Debug, PartialEq, Eq)]
@@ -40,6 +41,32 @@ pub enum Status {
 }
 
 impl Status {
+    /// The status of a capture that can't be read.
+    pub fn of(fault: TraceFault) -> Status
+        ensures { result ≡ status_of fault }
+    {
+        match fault {
+            TraceFault::Magic => Status::bad_trace(0, TraceKind::Magic),
+            TraceFault::PcapNg => Status::bad_trace(0, TraceKind::PcapNg),
+            TraceFault::Version => Status::bad_trace(4, TraceKind::Version),
+            TraceFault::LinkType(number) => Status::bad_trace(20, TraceKind::LinkType(number)),
+            TraceFault::RecordLength { offset, n } => Status::bad_trace(
+                offset,
+                TraceKind::RecordLength(n),
+            ),
+            TraceFault::TooLong { offset } => Status::bad_trace(offset, TraceKind::TooLong),
+            TraceFault::Header(length) => Status::bad_trace(length, TraceKind::Header),
+            TraceFault::Read => Status::ReadFault { role: Role::Trace },
+            TraceFault::NoMemory => Status::NoMemory,
+        }
+    }
+
+    fn bad_trace(offset: u64, kind: TraceKind) -> Status
+        ensures { result ≡ Status.BadTrace offset kind }
+    {
+        Status::BadTrace { offset, kind }
+    }
+
     /// The number that the program ends with.
     pub fn number(&self) -> u8
         ensures { result ≡ number_of self.now }

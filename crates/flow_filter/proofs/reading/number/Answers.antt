@@ -1,5 +1,5 @@
 -- What is a number begins as one does, and is what `decimal` writes of its value.
-use Rattle.std.proofs.Common.{◌≡◌, ◌∙◌, sym, arith, rules}
+use Rattle.std.proofs.Common.{◌∙◌, sym, arith}
 use Rattle.flow_filter.proofs.NumberLaws.{number_of-None, number_of-decimal, decimal_plain, plain_decimal, no_decimal}
 use Rattle.flow_filter.proofs.reading.number.Goals as goal
 

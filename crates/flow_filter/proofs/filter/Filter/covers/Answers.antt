@@ -1,6 +1,4 @@
 -- `covers` is exact, by what `covered` ensures.
-use Rattle.std.proofs.Common.{◌≡◌, true, sym, ◌∙◌, ◌↔◌}
-use Rattle.flow_filter.specs.Filter.{covers}
 use Rattle.flow_filter.proofs.FilterLaws.{covers_law}
 use Rattle.flow_filter.proofs.filter.Filter.covers.Goals as goal
 
