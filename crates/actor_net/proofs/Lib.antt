@@ -1,0 +1,4 @@
+pub mod Enabled
+pub mod Runs
+pub mod Scheduling
+pub mod Steps

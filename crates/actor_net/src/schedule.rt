@@ -1,4 +1,4 @@
-ghost use Rattle.std.specs.Prelude.{◌≡◌, ◌<◌, ℕ, true, Err, IfOk, IsSome, length, slice_get};
+ghost use Rattle.std.specs.Prelude.{◌≡◌, ◌<◌, ℕ, true, Err, IfOk, OnSome};
 ghost use Rattle.actor_net.specs.Network.{run, IsRun, is_done};
 ghost use Rattle.actor_net.specs.Schedules.{enabled_choices, ports_below, place_in, later, picked, scheduled, schedule_of, StopsShort};
 
@@ -65,7 +65,7 @@ impl Picker {
     /// The choice that the schedule takes.
     fn pick<A: Actor>(&mut self, world: &World<A>) -> Option<Choice>
         ensures choice { result ≡ picked A.is_ready (schedule_of self.old) world.now }
-        ensures later { IsSome result → schedule_of self.new ≡ later (schedule_of self.old) }
+        ensures later { OnSome result (schedule_of self.new ≡ later (schedule_of self.old)) }
     {
         match self {
             Picker::First => world.nth_enabled(0),
@@ -102,8 +102,10 @@ pub fn run_schedule<A: Actor>(
         let Some(choice) = picker.pick(&world) else {
             break;
         };
-        if world.take(choice).is_err() {
-            return Err(ScheduleFault::NoMemory);
+        match world.take(choice) {
+            Ok(()) => {}
+            Err(TakeFault::NotEnabled) => unreachable!(),
+            Err(TakeFault::NoMemory) => return Err(ScheduleFault::NoMemory),
         }
         choices.push(choice)?;
     }

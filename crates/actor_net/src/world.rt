@@ -1,4 +1,4 @@
-ghost use Rattle.std.specs.Prelude.{◌≡◌, ◌==◌, ◌<◌, ◌-◌, ◌*◌, ℕ, Bool, true, false, List, [], ◌∷◌, length, drop, map, replicate, slice_get, Some, OnOk, OnErr, IfOk, IsErrOf};
+ghost use Rattle.std.specs.Prelude.{◌≡◌, ◌==◌, ◌<◌, ◌-◌, ◌*◌, ℕ, Bool, true, false, List, [], ◌∷◌, length, drop, map, replicate, slice_get, slice_index_or, Some, OnOk, OnErr, IfOk, IsErrOf};
 ghost use Rattle.std.specs.List.{list_all};
 ghost use Rattle.actor_net.specs.Network.{Network, Stepped, IsWorld, is_enabled, taken, is_done, waiting, without_first, after, delivered, reaches};
 ghost use Rattle.actor_net.specs.Schedules.{enabled_choices};
@@ -235,7 +235,8 @@ impl<A: Actor> World<A> {
             &mut self.outbox,
             &mut self.links,
         )?;
-        self.outbox.move_notes(&mut self.log)
+        self.outbox.move_notes(&mut self.log)?;
+        Ok(())
     }
 
     /// Whether nothing is left to do: no input, no message on a link, and each node has ended.
@@ -252,7 +253,7 @@ fn empty_links<M: Drop>(alloc: Global, count: usize) -> Result<Vec<Link<M>>, NoM
     ensures { IfOk result (λ links. links.items ≡ replicate count []) }
 {
     let mut links = Vec::with_capacity(alloc, count)?;
-    for _ in 0..count {
+    for _place in 0..count {
         links.push(Link::open(alloc))?;
     }
     Ok(links)
@@ -303,6 +304,7 @@ fn deliver<M: Drop, N>(
     ensures links { OnOk result (links.new.items ≡ delivered nodes from outbox.old.0 links.old.items) }
     ensures outbox { OnOk result (outbox.new ≡ ([], outbox.old.1)) }
     ensures count { length links.new.items ≡ nodes * nodes }
+    ensures loop_link { slice_index_or links.new.items 0 [] ≡ slice_index_or links.old.items 0 [] }
     ensures notes { outbox.new.1 ≡ outbox.old.1 }
 {
     while let Some((to, message)) = outbox.next_sent() {
