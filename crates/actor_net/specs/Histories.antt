@@ -34,17 +34,20 @@ abbrev pub taken_at : {M : Type 0} → ℕ → List (Event M) → List (Stamped 
 taken_at port [] = []
 taken_at port (e ∷ es) = (if e.port == port then e.took ∷ [] else []) ++ taken_at port es
 
--- the messages for one receiver among what a step sends, each with the step's clock
-abbrev pub stamped_for : {M : Type 0} → ℕ → ℕ → List (ℕ × M) → List (Stamped M)
-stamped_for clock to [] = []
-stamped_for clock to (sent ∷ rest) =
-    (if sent.0 == to then record { clock = clock; message = sent.1 } ∷ [] else []) ++ stamped_for clock to rest
+-- the messages for one receiver among what a step sends, in order
+abbrev pub sent_for : {M : Type 0} → ℕ → List (ℕ × M) → List M
+sent_for to [] = []
+sent_for to (sent ∷ rest) = (if sent.0 == to then sent.1 ∷ [] else []) ++ sent_for to rest
+
+-- messages with the clock of the step that sent them
+abbrev pub stamped : {M : Type 0} → ℕ → List M → List (Stamped M)
+stamped clock ms = map (λ m. record { clock = clock; message = m }) ms
 
 -- what these steps sent to one receiver, in order
 abbrev pub sent_to : {A M N : Type 0} → (A → ℕ → M → Stepped A M N) → ℕ → A → List (Event M) → List (Stamped M)
 sent_to step to node [] = []
 sent_to step to node (e ∷ es) =
-    stamped_for e.clock to (does step node e).sends ++ sent_to step to (does step node e).node es
+    stamped e.clock (sent_for to (does step node e).sends) ++ sent_to step to (does step node e).node es
 
 -- what these steps of one node put on its link to another, of n nodes: what doesn't arrive is dropped
 abbrev pub put_between : {A M N : Type 0} → (A → ℕ → M → Stepped A M N) → ℕ → ℕ → ℕ → A → List (Event M) → List (Stamped M)
@@ -71,7 +74,7 @@ WasReady ready step k node [] = Unit {0}
 WasReady ready step k node (e ∷ es) =
     (k ≡ 0 → e.port ≡ 0 → ready node e.took.message ≡ true) × WasReady ready step k (does step node e).node es
 
--- the lists of node k without the first, where there is one
+-- a list without its first, where there is one
 abbrev pub without_front : {X : Type 0} → List X → List X
 without_front [] = []
 without_front (x ∷ xs) = xs
