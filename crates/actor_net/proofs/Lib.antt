@@ -3,3 +3,5 @@ pub mod Links
 pub mod Runs
 pub mod Scheduling
 pub mod Steps
+pub mod Taken
+pub mod Waiting
