@@ -1,4 +1,5 @@
 pub mod Enabled
+pub mod Follow
 pub mod Links
 pub mod Runs
 pub mod Scheduling
