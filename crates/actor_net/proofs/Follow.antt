@@ -13,10 +13,10 @@ use Rattle.actor_net.proofs.Links.{put_there}
 use Rattle.actor_net.proofs.Waiting.{behind}
 use Rattle.actor_net.proofs.Taken.{Takes, Left, taken_left}
 
-same_test : (k : ℕ) → (k == k) ≡ true
+pub same_test : (k : ℕ) → (k == k) ≡ true
 same_test k = (Decides-eqb k k).1 refl
 
-other_test : (j k : ℕ) → j ≢ k → (j == k) ≡ false
+pub other_test : (j k : ℕ) → j ≢ k → (j == k) ≡ false
 other_test j k other = grind (arith, nat_tests)
 
 module _ {M : Type 0} where
@@ -44,7 +44,7 @@ module _ {M : Type 0} where
   choices_of ms = map (λ m. at m.0 m.1.port) ms
 
   -- a fact of the histories with another one at k
-  at_put : (hs : ℕ → List (Event M)) (k : ℕ) (es : List (Event M)) (P : ℕ → List (Event M) → Type 0) (j : ℕ) → P k es → (j ≢ k → P j (hs j)) → P j (put hs k es j)
+  pub at_put : (hs : ℕ → List (Event M)) (k : ℕ) (es : List (Event M)) (P : ℕ → List (Event M) → Type 0) (j : ℕ) → P k es → (j ≢ k → P j (hs j)) → P j (put hs k es j)
   at_put hs k es P j here others =
       elim (j == k) as (λ b. (j == k) ≡ b → P j (if b then es else hs j)) [
         true ↦ λ t. let same : j ≡ k = (Decides-eqb j k).0 t in subst (λ y. P y es) (sym same) here
@@ -78,7 +78,7 @@ module _ {A M N : Type 0} (ready : A → M → Bool) (step : A → ℕ → M →
     pub loop : get_or (run step cs w).links 0 [] ≡ get_or w.links 0 []
 
 -- the first of a list that is two joined, where the second begins with what is later
-head_held : {M : Type 0} (x : Stamped M) (xs ys zs : List (Stamped M)) → x ∷ xs ≡ ys ++ zs → ((z : Stamped M) (rest : List (Stamped M)) → zs ≡ z ∷ rest → x.clock < z.clock) → (rest : List (Stamped M)) × (ys ≡ x ∷ rest)
+pub head_held : {M : Type 0} (x : Stamped M) (xs ys zs : List (Stamped M)) → x ∷ xs ≡ ys ++ zs → ((z : Stamped M) (rest : List (Stamped M)) → zs ≡ z ∷ rest → x.clock < z.clock) → (rest : List (Stamped M)) × (ys ≡ x ∷ rest)
 head_held x xs [] zs is later = let never = later x xs (sym is) in absurd (omega arith)
 head_held x xs (y ∷ ys) zs is later = (ys, cc)
 
@@ -95,18 +95,18 @@ module _ {A M N : Type 0} (step : A → ℕ → M → Stepped A M N) where
   sent_late c r a (e ∷ es) z rest over is =
       stamped_head c e.clock (sent_for r (does step a e).sends) (sent_to step r (does step a e).node es) z rest over.0 is (sent_late c r (does step a e).node es z rest over.1)
 
-  put_late : (c n s r : ℕ) (a : A) (es : List (Event M)) (z : Stamped M) (rest : List (Stamped M)) → Over c es → put_between step n s r a es ≡ z ∷ rest → c ≤ z.clock
+  pub put_late : (c n s r : ℕ) (a : A) (es : List (Event M)) (z : Stamped M) (rest : List (Stamped M)) → Over c es → put_between step n s r a es ≡ z ∷ rest → c ≤ z.clock
   put_late c n s r a es z rest over is =
       elim (reaches n s r) as (λ b. (if b then sent_to step r a es else []) ≡ z ∷ rest → c ≤ z.clock) [
         true ↦ λ sent. sent_late c r a es z rest over sent
       | false ↦ λ never. cc
       ] is
 
-messages-stamped : {M : Type 0} (clock : ℕ) (ms : List M) → messages (stamped clock ms) ≡ ms
+pub messages-stamped : {M : Type 0} (clock : ℕ) (ms : List M) → messages (stamped clock ms) ≡ ms
 messages-stamped clock [] = refl
 messages-stamped clock (m ∷ ms) = ap (λ xs. m ∷ xs) (messages-stamped clock ms)
 
-messages-behind : {M : Type 0} (b : Bool) (xs : List (Stamped M)) → messages (behind b xs) ≡ behind b (messages xs)
+pub messages-behind : {M : Type 0} (b : Bool) (xs : List (Stamped M)) → messages (behind b xs) ≡ behind b (messages xs)
 messages-behind true [] = refl
 messages-behind true (x ∷ xs) = refl
 messages-behind false xs = refl

@@ -1,6 +1,8 @@
 pub mod Enabled
 pub mod Follow
+pub mod Followed
 pub mod Links
+pub mod OneStep
 pub mod Runs
 pub mod Scheduling
 pub mod Steps

@@ -34,7 +34,7 @@ within : (n from to : ℕ) → reaches n from to ≡ true → to < n
 within n from to is = grind (arith, nat_tests)
 
 -- either way nothing
-neither : {X : Type 0} (b : Bool) → ◌≡◌ {A = List X} (if b then [] else []) []
+pub neither : {X : Type 0} (b : Bool) → ◌≡◌ {A = List X} (if b then [] else []) []
 neither true = refl
 neither false = refl
 
