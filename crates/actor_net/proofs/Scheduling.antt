@@ -1,8 +1,7 @@
 -- What a schedule takes: an enabled choice, and none only where none is enabled.
-use Rattle.std.proofs.Common.{◌≡◌, ◌≢◌, ℕ, zero, suc, ◌+◌, ◌-◌, ◌<◌, ◌≤◌, Bool, true, false, Option, None, Some, List, [], ◌∷◌, ◌++◌, ◌⊎◌, length, get_or, refl, sym, ap, subst, ◌∙◌, append_assoc, append-nil, arith, inl, inr}
+use Rattle.std.proofs.Common.{◌≡◌, ℕ, zero, suc, ◌+◌, ◌-◌, ◌<◌, ◌≤◌, Bool, true, false, Option, None, Some, List, [], ◌∷◌, ◌++◌, ◌⊎◌, length, get_or, refl, sym, ap, subst, ◌∙◌, append_assoc, append-nil, arith, inl, inr}
 use Rattle.std.specs.Prelude.{if◌then◌else◌, slice_get, nat_lt, ◌*◌, ◌==◌, ◌&&◌}
 use Rattle.std.specs.List.{list_all}
-use Rattle.std.proofs.lemmas.Grind.{common_steps}
 use Rattle.std.proofs.lemmas.Bool.Decides.{Decides-eqb}
 use Rattle.std.proofs.lemmas.List.{nil_from_length}
 use Rattle.std.proofs.lemmas.Option.{slice_get-get_or}
@@ -76,8 +75,8 @@ none_waits ended w c done =
     let input = empty_one w.input (both_left (length w.input == 0) (list_all (λ l. length l == 0) w.links) quiet) in
     let link = empty_there w.links (c.port * length w.nodes + c.node) (both_right (length w.input == 0) (list_all (λ l. length l == 0) w.links) quiet) in
     elim (is_input c) as (λ b. (if b then w.input else on_link w c.port c.node) ≡ []) [
-      true ↦ input
-    | false ↦ elim (nat_lt c.port (length w.nodes) && nat_lt c.node (length w.nodes)) as (λ b. (if b then get_or w.links (c.port * length w.nodes + c.node) [] else []) ≡ []) [ true ↦ link | false ↦ refl ]
+      | true ↦ input
+      | false ↦ elim (nat_lt c.port (length w.nodes) && nat_lt c.node (length w.nodes)) as (λ b. (if b then get_or w.links (c.port * length w.nodes + c.node) [] else []) ≡ []) [ true ↦ link | false ↦ refl ]
     ]
 
 nothing : {A M : Type 0} (ready : A → M → Bool) (c : Choice) (o : Option A) (ms : List M) → ms ≡ [] → takes_first ready c o ms ≡ false
@@ -95,8 +94,8 @@ module _ {A M N : Type 0} (ready : A → M → Bool) (ended : A → Bool) (step 
   scheduled_none zero schedule w none = refl
   scheduled_none (suc most) schedule w none =
       elim (is_done ended w) as (λ b. (if b then [] else taken_then (picked ready schedule w) (λ c. scheduled ready ended step most (later schedule) (taken step w c))) ≡ []) [
-        true ↦ refl
-      | false ↦ rw none refl
+        | true ↦ refl
+        | false ↦ rw none refl
       ]
 
   pub scheduled_some : (most : ℕ) (schedule : Schedule) (w : Network A M N) (c : Choice) → picked ready schedule w ≡ Some c → scheduled ready ended step (suc most) schedule w ≡ c ∷ scheduled ready ended step most (later schedule) (taken step w c)
