@@ -10,3 +10,4 @@ pub mod Scheduling
 pub mod Steps
 pub mod Taken
 pub mod Waiting
+pub mod Weights

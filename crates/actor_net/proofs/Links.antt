@@ -13,7 +13,7 @@ use Rattle.actor_net.proofs.Steps.{loop_stays}
 abbrev pub put_there : {M : Type 0} → ℕ → ℕ → ℕ → ℕ → List (ℕ × M) → List M
 put_there n from s r sends = if (s == from) && reaches n from r then sent_for r sends else []
 
-length-put_on : {M : Type 0} (n from : ℕ) (x : ℕ × M) (ls : List (List M)) → length (put_on n from x ls) ≡ length ls
+pub length-put_on : {M : Type 0} (n from : ℕ) (x : ℕ × M) (ls : List (List M)) → length (put_on n from x ls) ≡ length ls
 length-put_on n from x ls =
     elim (reaches n from x.0) as (λ b. length (if b then set ls (from * n + x.0) (get_or ls (from * n + x.0) [] ++ x.1 ∷ []) else ls) ≡ length ls) [
       | true ↦ length-set ls (from * n + x.0) (get_or ls (from * n + x.0) [] ++ x.1 ∷ [])
@@ -30,7 +30,7 @@ inside n s r hs hr = grind (arith, common_steps, rows)
 pub other_place : (n from to s r : ℕ) → to < n → r < n → (s ≡ from → to ≡ r → ⊥) → s * n + r ≢ from * n + to
 other_place n from to s r ht hr other same = let places = same_from_place s r from to n hr ht same in other places.0 (sym places.1)
 
-within : (n from to : ℕ) → reaches n from to ≡ true → to < n
+pub within : (n from to : ℕ) → reaches n from to ≡ true → to < n
 within n from to is = grind (arith, nat_tests)
 
 -- either way nothing

@@ -22,7 +22,7 @@ module _ {A M N : Type 0} (step : A → ℕ → M → Stepped A M N) (w : Networ
   abbrev pub did : Stepped A M N
   did = step node p m
 
-  taken_is : Takes → taken step w (at k p) ≡ after (without_first w (at k p)) k did
+  pub taken_is : Takes → taken step w (at k p) ≡ after (without_first w (at k p)) k did
   taken_is h =
       let there : slice_get w.nodes k ≡ Some node = slice_get-get_or w.nodes k node h.receiver ∙ ap Some (h.node_is node) in
       ap (λ o. taken_from step w (at k p) o (waiting w (at k p))) there ∙ ap (λ ms. taken_from step w (at k p) (Some node) ms) h.waits
@@ -52,6 +52,12 @@ module _ {A M N : Type 0} (step : A → ℕ → M → Stepped A M N) (w : Networ
           loop = loop_stays (length w.nodes) p k w.links (drop 1 (waiting w (at k p))) some off;
         }
       ] refl
+
+  pub without_nodes : 0 < length w.nodes → (without_first w (at k p)).nodes ≡ w.nodes
+  without_nodes some = (kept some).nodes
+
+  pub without_links : 0 < length w.nodes → length (without_first w (at k p)).links ≡ length w.links
+  without_links some = (kept some).links
 
   -- what the choice leaves
   pub record Left (v : Network A M N) : Type 0 where

@@ -48,21 +48,28 @@ fn two(alloc: Global, items: Vec<u8>) -> Result<World<Relay>, NoMemory> {
     World::start(alloc, nodes, items)
 }
 
-/// Three nodes and four messages, which wait at the choices (0, 1), (0, 2), (1, 0) and (2, 1).
-fn four(alloc: Global) -> Result<World<Relay>, NoMemory> {
-    let nodes = Vec::from_array(alloc, [Relay { to: 1 }, Relay { to: 2 }, Relay { to: 0 }])?;
-    let world = World::start(alloc, nodes, Vec::new(alloc))?;
-    let mut parts = world.parts()?;
-    let mut links = Sequence::open(alloc);
-    for place in 0..9 {
-        let mut link = Sequence::open(alloc);
-        if place == 1 || place == 3 || place == 5 || place == 6 {
-            link.push(0)?;
-        }
-        links.push(link)?;
-    }
-    parts.links = links;
-    World::from_parts(alloc, parts)
+fn one(alloc: Global) -> Result<Sequence<u8>, NoMemory> {
+    let mut link = Sequence::open(alloc);
+    link.push(0)?;
+    Ok(link)
+}
+
+/// Two nodes and three messages, which wait at the choices (0, 1), (1, 0) and (1, 1).
+fn three(alloc: Global) -> Result<World<Relay>, NoMemory> {
+    let nodes = Vec::from_array(alloc, [Relay { to: 1 }, Relay { to: 0 }])?;
+    let links = Vec::from_array(
+        alloc,
+        [Sequence::open(alloc), one(alloc)?, one(alloc)?, one(alloc)?],
+    )?;
+    World::from_parts(
+        alloc,
+        Parts {
+            nodes: Sequence::from_vec(nodes),
+            links: Sequence::from_vec(links),
+            input: Sequence::open(alloc),
+            log: Sequence::open(alloc),
+        },
+    )
 }
 
 #[test]
@@ -138,16 +145,15 @@ fn an_outbox_gives_what_was_sent_and_noted(rt: HostRuntime) -> Result<(), Fail> 
 fn the_schedules_take_the_first_the_last_and_by_words(rt: HostRuntime) -> Result<(), Fail> {
     let alloc = rt.alloc();
     let a = Choice { node: 0, port: 1 };
-    let b = Choice { node: 0, port: 2 };
-    let c = Choice { node: 1, port: 0 };
-    let d = Choice { node: 2, port: 1 };
-    let (_, first) = run_schedule(alloc, four(alloc)?, Schedule::First)?;
-    assert_eq!(rt; first.items(), [a, b, c, d].as_slice());
-    let (_, last) = run_schedule(alloc, four(alloc)?, Schedule::Last)?;
-    assert_eq!(rt; last.items(), [d, c, b, a].as_slice());
-    // The words from 1234567 begin 6457827717110365317, 3203168211198807973 and 9817491932198370423.
-    let (_, words) = run_schedule(alloc, four(alloc)?, Schedule::Number(1234567))?;
-    assert_eq!(rt; words.items(), [b, c, d, a].as_slice());
+    let b = Choice { node: 1, port: 0 };
+    let c = Choice { node: 1, port: 1 };
+    let (_, first) = run_schedule(alloc, three(alloc)?, Schedule::First)?;
+    assert_eq!(rt; first.items(), [a, b, c].as_slice());
+    let (_, last) = run_schedule(alloc, three(alloc)?, Schedule::Last)?;
+    assert_eq!(rt; last.items(), [c, b, a].as_slice());
+    // The words from 1234567 begin 6457827717110365317 and 3203168211198807973.
+    let (_, words) = run_schedule(alloc, three(alloc)?, Schedule::Number(1234567))?;
+    assert_eq!(rt; words.items(), [a, c, b].as_slice());
     Ok(())
 }
 
