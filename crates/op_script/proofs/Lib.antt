@@ -1,1 +1,2 @@
 pub mod LeftToRead
+pub mod Written

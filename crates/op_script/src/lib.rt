@@ -8,10 +8,12 @@
 pub mod fault;
 mod form;
 mod pieces;
+mod printing;
 mod reader;
 mod reading;
 pub mod script;
 
 pub use fault::{ScriptFault, ScriptKind};
+pub use printing::print_script;
 pub use reading::read_script;
 pub use script::{Line, Script, What};
