@@ -1,6 +1,6 @@
 -- What a loop has written, when it has written one item more.
-use Rattle.std.proofs.Common.{◌≡◌, ℕ, ◌+◌, ◌<◌, ◌≤◌, true, ◌-◌, suc, Result, Ok, Err, OnOk, drop, List, [], ◌∷◌, ◌++◌, length, get_or, take, map, refl, ap, sym, ◌∙◌, append_assoc, arith}
-use Rattle.std.specs.List.{concat, join_with_byte}
+use Rattle.std.proofs.Common.{◌≡◌, ℕ, ◌+◌, ◌<◌, ◌≤◌, true, ◌-◌, zero, suc, subst, Result, Ok, Err, OnOk, drop, List, [], ◌∷◌, ◌++◌, length, get_or, take, map, refl, ap, sym, ◌∙◌, append_assoc, arith}
+use Rattle.std.specs.List.{concat, join_with_byte, AllByRecursion}
 use Rattle.std.proofs.lemmas.List.{take_more, take_all, map-append}
 use Rattle.std.proofs.lemmas.List.Folds.{concat-append}
 use Rattle.flow_filter.specs.FilterText.{behind}
@@ -56,3 +56,9 @@ members_cases (Ok x) start one all first item members some is same begun written
     members_written start one all first (take (length members - 1) (drop 1 members)) (begun ∙ ap (λ t. start ++ t) same) written
     ∙ ap (λ t. start ++ join_with_byte 44 t) (sym (first_and_more members first some is))
 members_cases (Err e) start one all first item members some is same begun written = tt
+
+-- what holds of each item, seen through a function, holds of one
+pub at_item : {X Y : Type 0} (P : Y → Type 0) (view : X → Y) (xs : List X) (i : ℕ) (x : X) → AllByRecursion P (map view xs) → i < length xs → x ≡ get_or xs i x → P (view x)
+at_item P view [] i x all below is = absurd (omega arith)
+at_item P view (y ∷ ys) zero x all below is = subst (λ z. P (view z)) (sym is) all.0
+at_item P view (y ∷ ys) (suc i) x all below is = at_item P view ys i x all.1 (omega arith) is

@@ -1,8 +1,8 @@
-ghost use Rattle.std.specs.Prelude.{◌≡◌, ◌++◌, ◌∷◌, ◌<◌, [], IfOk, OnOk, length, map, true, codes, if◌then◌else◌};
+ghost use Rattle.std.specs.Prelude.{◌≡◌, ◌++◌, ◌∷◌, ◌<◌, [], IfOk, OnOk, length, map, option_map, true, codes, if◌then◌else◌};
 ghost use Rattle.std.specs.List.{join_with_byte};
-ghost use Rattle.std.specs.Option.{ForSome};
-ghost use Rattle.flow_filter.specs.FilterText.{behind, is_printable};
-ghost use Rattle.op_script.specs.Printing.{route_words, order_words, line_words, what_words, copied, line_text, script_text, IsRoute, IsOrder, IsLine, IsScript};
+ghost use Rattle.flow_filter.specs.FilterText.{behind, fields_of};
+ghost use Rattle.op_script.specs.Reading.{script_view, route_view, line_view, order_view};
+ghost use Rattle.op_script.specs.Printing.{route_words, order_words, line_words, what_words, copied, line_text, script_text, is_writable, IsRoute, IsOrder, IsLine, IsScript};
 
 use std::alloc::Global;
 
@@ -14,7 +14,7 @@ use crate::script::{Line, Script, What};
 /// The canonical text of a script, for instances with these names.
 #[tactic(auto, unfolding(crate::specs::Printing::script_text))]
 pub fn print_script(alloc: Global, script: &Script, names: &[Name]) -> Result<Text, NoMemory>
-    requires { IsScript names.now script.now }
+    requires { IsScript names.now (script_view script.now) }
     ensures text { IfOk result (λ text. text ≡ script_text names.now script.now) }
 {
     let mut out = Text::open(alloc);
@@ -29,7 +29,7 @@ pub fn print_script(alloc: Global, script: &Script, names: &[Name]) -> Result<Te
 
 /// Appends the line of an initial rule.
 fn print_route(out: &mut Text, names: &[Name], route: &(Filter, u8)) -> Result<(), NoMemory>
-    requires { IsRoute names.now route.now }
+    requires { IsRoute names.now (route_view route.now) }
     ensures { OnOk result (out.new ≡ out.old ++ line_text (route_words names.now route.now)) }
 {
     let (filter, place) = route;
@@ -42,7 +42,7 @@ fn print_route(out: &mut Text, names: &[Name], route: &(Filter, u8)) -> Result<(
 
 /// Appends an `at` line.
 fn print_line(out: &mut Text, line: &Line) -> Result<(), NoMemory>
-    requires { IsLine line.now }
+    requires { IsLine (line_view line.now) }
     ensures { OnOk result (out.new ≡ out.old ++ line_text (line_words line.now)) }
 {
     out.push_bytes(b"at ")?;
@@ -55,7 +55,7 @@ fn print_line(out: &mut Text, line: &Line) -> Result<(), NoMemory>
 
 /// Appends the words of an order behind a space, and the line's end.
 fn print_order(out: &mut Text, order: &Order) -> Result<(), NoMemory>
-    requires { IsOrder order.now }
+    requires { IsOrder (order_view order.now) }
     ensures { OnOk result (out.new ≡ out.old ++ 32 ∷ line_text (order_words order.now)) }
 {
     match order {
@@ -132,7 +132,7 @@ fn print_how(out: &mut Text, keep: bool) -> Result<(), NoMemory>
 
 /// Appends the filter of a copy, or `all`, and the line's end.
 fn print_copied(out: &mut Text, filter: Option<Filter>) -> Result<(), NoMemory>
-    requires { ForSome filter (λ f. is_printable f ≡ true) }
+    requires { is_writable (option_map fields_of filter) ≡ true }
     ensures { OnOk result (out.new ≡ out.old ++ (copied filter ++ 10 ∷ [])) }
 {
     match filter {
