@@ -11,11 +11,11 @@ abbrev pub are_some : List (List ℕ) → Bool
 are_some [] = false
 are_some (first ∷ more) = true
 
-append_none : (a : List ℕ) → a ++ [] ≡ a
+pub append_none : (a : List ℕ) → a ++ [] ≡ a
 append_none [] = refl
 append_none (x ∷ a) = ap (λ t. x ∷ t) (append_none a)
 
-behind-append : (begun : Bool) (done more : List (List ℕ)) → behind begun (done ++ more) ≡ behind begun done ++ behind (begun || are_some done) more
+pub behind-append : (begun : Bool) (done more : List (List ℕ)) → behind begun (done ++ more) ≡ behind begun done ++ behind (begun || are_some done) more
 behind-append true [] more = refl
 behind-append false [] more = refl
 behind-append true (first ∷ done) more = ap (λ t. (44 ∷ first) ++ t) (behind-append true done more) ∙ sym (append_assoc (44 ∷ first) (behind true done) (behind true more))
@@ -40,7 +40,7 @@ write_piece before old new name begun after done value so_far is text = record {
       ∙ ap (λ t. before ++ t) (ap (λ b. behind false done ++ behind b (piece name value)) so_far.begins ∙ sym (behind-append false done (piece name value)));
 }
 
-join-behind : (first : List ℕ) (more : List (List ℕ)) → join_with_byte 44 (first ∷ more) ≡ first ++ behind true more
+pub join-behind : (first : List ℕ) (more : List (List ℕ)) → join_with_byte 44 (first ∷ more) ≡ first ++ behind true more
 join-behind first [] = sym (append_none first)
 join-behind first (next ∷ more) = ap (λ t. first ++ (44 ∷ t)) (join-behind next more)
 

@@ -1,11 +1,13 @@
 -- A filter that was read can be printed: its protocol has a name.
 use Rattle.std.proofs.Common.{◌≡◌, ℕ, Bool, true, false, cond, List, [], ◌∷◌, Option, None, Some, Ok, Err, Result, refl, ap}
 use Rattle.std.specs.Prelude.{codes, IfOk}
+use Rattle.std.specs.Prelude.{◌==◌}
+use Rattle.std.specs.List.{slice_split}
 use Rattle.std.specs.Str.{bytes_eq}
 use Rattle.flow_filter.specs.declared.filter.Filter.{Filter}
 use Rattle.flow_filter.specs.declared.filter_text.FilterFault.{FilterFault}
 use Rattle.flow_filter.specs.Reading.{cut}
-use Rattle.flow_filter.specs.FilterText.{Fields, Answer, once, protocol_of, with_named, with_sides, with_field, with_fields, and_fields, fields_of, is_printable, is_transport, Gives}
+use Rattle.flow_filter.specs.FilterText.{Fields, Answer, nothing, parse, once, protocol_of, with_named, with_sides, with_field, with_fields, and_fields, fields_of, is_printable, is_transport, Gives}
 
 -- what a field gives is what `put` makes of a value that was read
 record Put {X : Type 0} (new : Option X) (put : X → Fields) (g : Fields) : Type 0 where
@@ -60,3 +62,9 @@ pub printable : (f : Fields) (r : Result Filter FilterFault) (texts : List (List
     → IfOk r (λ g. is_printable g ≡ true)
 printable f (Ok g) texts so_far read = fields_printable f (fields_of g) texts so_far read
 printable f (Err fault) texts so_far read = tt
+
+-- the same, of a whole text
+pub parse_printable : (g : Fields) (text : List ℕ) → parse text ≡ Ok g → is_transport g.proto ≡ true
+unfolding parse
+parse_printable g text is = either (bytes_eq text (codes "any")) (Ok nothing) (with_fields nothing (slice_split (λ b. b == 44) text)) g _
+    (λ at. let same : nothing ≡ g = cc in rw (← same) refl) (fields_printable nothing g (slice_split (λ b. b == 44) text) refl) is

@@ -1,8 +1,7 @@
 ghost use Rattle.std.specs.Prelude.{◌≡◌, IfOk};
 
-use flow_filter::{Filter, Name, NoMemory};
-
 use crate::names::Names;
+use flow_filter::{Filter, Name, NoMemory};
 
 /// An order of the operator, under the number of its command.
 #[derive(Debug, Drop)]
@@ -29,7 +28,10 @@ pub enum Order {
         filter: Option<Filter>,
     },
     /// Let the members share the matching units, the first as their home.
-    Share { members: Names, filter: Filter },
+    Share {
+        members: Names,
+        filter: Filter,
+    },
 }
 
 impl Command {

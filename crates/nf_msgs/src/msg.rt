@@ -1,6 +1,5 @@
-use flow_filter::Packet;
-
 use crate::command::Command;
+use flow_filter::Packet;
 
 /// A message between two nodes of the network.
 #[derive(Debug, Drop)]

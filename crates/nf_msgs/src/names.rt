@@ -1,9 +1,8 @@
 ghost use Rattle.std.specs.Prelude.{◌≡◌, ◌++◌, ◌∷◌, [], List, ℕ, IfOk, OnOk, OnErr};
 
+use flow_filter::{Name, NoMemory};
 use std::alloc::Global;
 use std::marker::Model;
-
-use flow_filter::{Name, NoMemory};
 
 /// Names in order, which contracts see as the list of their bytes.
 #[derive(Debug, Drop)]

@@ -1,0 +1,6 @@
+pub mod LeftToRead
+pub mod Written
+pub mod Judged
+pub mod Lines
+pub mod FormsRight
+pub mod ReadScripts

@@ -1,0 +1,5 @@
+pub mod Forms
+pub mod Reading
+pub mod FormViews
+pub mod Pieces
+pub mod Printing
