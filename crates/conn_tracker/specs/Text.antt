@@ -3,7 +3,6 @@ use Rattle.std.specs.Prelude.{ℕ, ◌++◌, List, [], codes, decimal}
 use Rattle.std.specs.Option.{option_map_or}
 use Rattle.flow_filter.specs.declared.flow.Dir.{Dir}
 use Rattle.flow_filter.specs.declared.flow.Dir.TheVariants.{Out, In}
-use Rattle.conn_tracker.specs.declared.state.State.{State}
 use Rattle.conn_tracker.specs.declared.record.TrackRecord.{TrackRecord}
 use Rattle.nf_function.specs.declared.output.Output.{Output}
 use Rattle.conn_tracker.specs.Table.{name_of, number_of, state_of}

@@ -1,5 +1,5 @@
 -- The line on the standard error comes last, and leaves what was done before as it was.
-use Rattle.std.proofs.Common.{◌≡◌, ◌≢◌, ℕ, List, [], Option, None, Some, Result, Ok, Err, MatchResult, refl, ap, ◌∙◌, sym, subst, IsTrue, IsSome, ◌⊎◌, inl, inr}
+use Rattle.std.proofs.Common.{◌≡◌, ℕ, List, Option, None, Some, Result, Ok, Err, MatchResult, refl, ap, ◌∙◌, sym, subst, IsTrue, ◌⊎◌, inl, inr}
 use Rattle.std.specs.Io.KnownBytes.{Appends}
 use Rattle.nf_io.specs.declared.outside.Role.{Role}
 use Rattle.nf_io.specs.declared.outside.Role.TheVariants.{Trace, Script, JournalIn, Report, JournalOut, TraceOut, Errors}
@@ -9,7 +9,7 @@ use Rattle.nf_io.specs.Meaning.{Meaning, Rose, AppendsFront, HasCause, OthersSta
 use Rattle.opennf_calls.specs.declared.status.Status.{Status}
 use Rattle.opennf_calls.specs.declared.status.Status.TheVariants.{Ok as Done, Usage, BadTrace, ReadFault, WriteFault, NoMemory}
 use Rattle.opennf_calls.specs.Command.{Asked}
-use Rattle.opennf_calls.specs.Outcome.{Tells, IsRead, IsBound, MayBind, WroteNothing, WroteReportAlone, ForText, RowOf, CauseOf, Complains, IsComplete, refusal_of}
+use Rattle.opennf_calls.specs.Outcome.{Tells, IsBound, MayBind, WroteNothing, WroteReportAlone, ForText, RowOf, CauseOf, Complains, IsComplete, refusal_of}
 
 module _ (old mid new : Role → Meaning) (others : OthersStay Errors mid new) (name : (new Errors).name ≡ (mid Errors).name) where
   same_name : (role : Role) → (new role).name ≡ (mid role).name

@@ -1,8 +1,8 @@
 -- Why each status comes.
-use Rattle.std.proofs.Common.{◌≡◌, ◌≢◌, ℕ, List, [], Option, None, Some, Ok, Err, refl, ap, ◌∙◌, sym, inl, inr}
+use Rattle.std.proofs.Common.{◌≡◌, ℕ, List, Some, Err, refl}
 use Rattle.nf_io.specs.declared.outside.Role.{Role}
-use Rattle.nf_io.specs.declared.outside.Role.TheVariants.{Trace, Script, JournalIn, Report, JournalOut, TraceOut, Errors}
-use Rattle.nf_io.specs.Meaning.{Meaning, Rose, AppendsFront}
+use Rattle.nf_io.specs.declared.outside.Role.TheVariants.{Trace, Report}
+use Rattle.nf_io.specs.Meaning.{Meaning, Rose}
 use Rattle.trace_reader.specs.declared.fault.TraceFault.{TraceFault}
 use Rattle.trace_reader.specs.declared.fault.TraceFault.TheVariants.{Magic, PcapNg, Version, LinkType, RecordLength, TooLong, Header, Read, NoMemory}
 use Rattle.trace_reader.specs.Gives.{TraceGives}

@@ -1,17 +1,15 @@
 -- From what a simulation did to its two roles to the row of its status.
-use Rattle.std.proofs.Common.{◌≡◌, ◌≢◌, ℕ, List, [], Option, None, Some, Result, Ok, Err, refl, ap, ◌∙◌, sym, subst, IsTrue, IsSome}
+use Rattle.std.proofs.Common.{◌≡◌, ℕ, List, [], None, Some, refl, ap, ◌∙◌, sym, subst}
 use Rattle.std.specs.Io.KnownBytes.{Appends}
 use Rattle.nf_io.specs.declared.outside.Role.{Role}
 use Rattle.nf_io.specs.declared.outside.Role.TheVariants.{Trace, Script, JournalIn, Report, JournalOut, TraceOut, Errors}
-use Rattle.nf_io.specs.Roles.{is_read}
-use Rattle.nf_io.specs.Meaning.{Meaning, Rose, AppendsFront}
+use Rattle.nf_io.specs.Meaning.{Meaning, AppendsFront}
 use Rattle.opennf_calls.specs.declared.status.Status.{Status}
 use Rattle.opennf_calls.specs.declared.status.Status.TheVariants.{Ok as Done, Usage, BadTrace, ReadFault, WriteFault, NoMemory}
 use Rattle.opennf_calls.specs.declared.words.Simulation.{Simulation}
-use Rattle.opennf_calls.specs.Command.{file_of}
 use Rattle.opennf_calls.specs.Words.{asked_view}
 use Rattle.opennf_calls.specs.Simulated.{SimRow, SimChanges, ForReport}
-use Rattle.opennf_calls.specs.Outcome.{Tells, IsRead, IsBound, WroteNothing, WroteReportAlone, ForText, RowOf, trace_refusal}
+use Rattle.opennf_calls.specs.Outcome.{IsRead, IsBound, WroteNothing, WroteReportAlone, ForText, RowOf, trace_refusal}
 
 module _ (asked : Simulation) (old new : Role → Meaning) (unnamed : (role : Role) → (old role).name ≡ None)
     (outside : asked.site.outside ≡ None) (changes : SimChanges old new) where

@@ -1,5 +1,5 @@
 -- What the words ask for, and which files a command names. This project's own grammar.
-use Rattle.std.specs.Prelude.{ℕ, Bool, true, false, not, ◌&&◌, ◌||◌, ◌==◌, if◌then◌else◌, List, [], ◌∷◌, Option, None, Some, option_and_then, option_map, is_some, codes}
+use Rattle.std.specs.Prelude.{ℕ, Bool, true, false, not, ◌&&◌, ◌==◌, if◌then◌else◌, List, [], ◌∷◌, Option, None, Some, option_map, is_some, codes}
 use Rattle.std.specs.Str.{bytes_eq}
 use Rattle.flow_filter.specs.Name.{is_name}
 use Rattle.flow_filter.specs.Reading.{cut, prefix_of}

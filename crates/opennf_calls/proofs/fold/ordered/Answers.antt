@@ -1,5 +1,5 @@
 -- What is collected from a map has the map's records.
-use Rattle.std.proofs.Common.{rules, ◌≡◌, ◌∙◌, IfOk, map, ap}
+use Rattle.std.proofs.Common.{rules, ◌∙◌, IfOk, map, ap}
 use Rattle.std.proofs.lemmas.Result.{IfOk-weaker}
 use Rattle.std.proofs.lemmas.Map.Made.{update_all_none}
 use Rattle.std.proofs.lemmas.Iterator.Adapters.{fact_from_collect}

@@ -1,6 +1,6 @@
 -- A packet changes the record of its flow alone.
-use Rattle.std.proofs.Common.{rules, ◌≡◌, ℕ, Some, None, Option, IfSome, IsSome, refl, ap, sym, ◌∙◌, subst}
-use Rattle.std.specs.HashMap.{get, Updates}
+use Rattle.std.proofs.Common.{◌≡◌, ℕ, Some, None, Option, IfSome, IsSome, refl, ap, sym, ◌∙◌, subst}
+use Rattle.std.specs.HashMap.{get}
 use Rattle.flow_filter.specs.declared.flow.Flow.{Flow}
 use Rattle.flow_filter.proofs.FlowLaws.{proto-flow_of}
 use Rattle.conn_tracker.specs.declared.record.TrackRecord.{TrackRecord}

@@ -1,5 +1,5 @@
 -- Each packet adds its line, and its flow's record becomes the next.
-use Rattle.std.proofs.Common.{rules, refl}
+use Rattle.std.proofs.Common.{refl}
 use Rattle.opennf_calls.proofs.FoldLaws.{AreKept-none}
 use Rattle.opennf_calls.proofs.LineLaws.{kept-more, out_lines-more}
 use Rattle.opennf_calls.proofs.report.push_outs.Goals as goal

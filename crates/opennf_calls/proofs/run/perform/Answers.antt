@@ -1,5 +1,4 @@
 -- The row of the simulation's status.
-use Rattle.std.proofs.Common.{rules}
 use Rattle.opennf_calls.proofs.Rows.{row_of-sim}
 use Rattle.opennf_calls.proofs.run.perform.Goals as goal
 

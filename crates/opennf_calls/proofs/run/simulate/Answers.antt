@@ -1,5 +1,5 @@
 -- Why each status of a simulation comes.
-use Rattle.std.proofs.Common.{rules, ◌≡◌, ◌≢◌, Some, Err, ap, ℕ, List, refl}
+use Rattle.std.proofs.Common.{rules, ◌≡◌, ◌≢◌, Some, Err, ap, refl}
 use Rattle.nf_io.specs.declared.outside.Role.TheVariants.{Trace as TraceRole, Report as ReportRole}
 use Rattle.nf_io.specs.Meaning.{Rose, AppendsFront}
 use Rattle.std.specs.Io.KnownBytes.{Appends}

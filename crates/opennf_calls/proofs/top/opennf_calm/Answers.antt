@@ -1,5 +1,5 @@
 -- The cause of the status stands, whatever became of the line on the standard error.
-use Rattle.std.proofs.Common.{rules, ◌≡◌, List, ℕ}
+use Rattle.std.proofs.Common.{rules, ◌≡◌}
 use Rattle.nf_io.specs.declared.outside.Role.TheVariants.{Errors}
 use Rattle.opennf_calls.specs.Status.{line_of}
 use Rattle.opennf_calls.proofs.Beside.{cause-beside, names-beside, complains, complete}
