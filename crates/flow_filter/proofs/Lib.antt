@@ -11,3 +11,4 @@ pub mod PiecesLaws
 pub mod ReadAgain
 pub mod ParseAgain
 pub mod Printable
+pub mod LeftToRead

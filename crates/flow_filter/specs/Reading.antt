@@ -1,6 +1,7 @@
 -- Numbers, IPv4 addresses and prefixes in text. This project's own grammar, of RFC 4632's `A.B.C.D/L`:
 -- numbers are decimal without leading zeros, and no bit past a prefix's length is set.
 use Rattle.std.specs.Prelude.{ℕ, ◌-◌, ◌%◌, ◌^◌, ◌&&◌, ◌==◌, nat_le, if◌then◌else◌, List, [], ◌∷◌, Option, None, Some, option_map, option_and_then}
+use Rattle.std.specs.List.{slice_split}
 use Rattle.std.specs.Str.{bytes_eq}
 use Rattle.std.specs.Str.Parse.{digits_value}
 use Rattle.std.specs.Fmt.{decimal}
@@ -20,6 +21,11 @@ number_of most text = let n = digits_value 10 text in if bytes_eq text (decimal 
 abbrev pub cut : ℕ → List ℕ → Option (List ℕ × List ℕ)
 cut mark [] = None
 cut mark (byte ∷ more) = if byte == mark then Some ([], more) else option_map (λ p. (byte ∷ p.0, p.1)) (cut mark more)
+
+-- the pieces of a text between the marks, or none where nothing is left
+abbrev pub pieces_left : ℕ → Option (List ℕ) → List (List ℕ)
+pieces_left mark None = []
+pieces_left mark (Some text) = slice_split (λ b. b == mark) text
 
 -- `A.B.C.D`, each up to 255, as the number of the four bytes
 unfoldable pub address_of : List ℕ → Option ℕ

@@ -1,6 +1,7 @@
 ghost use Rattle.std.specs.Prelude.{◌≡◌, true, IfOk, List, ℕ, if◌then◌else◌};
-ghost use Rattle.std.specs.List.{list_all};
-ghost use Rattle.flow_filter.specs.Name.{is_name, is_name_byte};
+ghost use Rattle.std.specs.List.{list_all, list_any};
+ghost use Rattle.std.specs.Str.{bytes_eq};
+ghost use Rattle.flow_filter.specs.Name.{has_twice, is_name, is_name_byte};
 
 use crate::sequence::{Bytes, NoMemory};
 use std::alloc::Global;
@@ -71,6 +72,27 @@ fn is_name_byte(byte: u8) -> bool
     ensures { result ≡ is_name_byte byte }
 {
     byte.is_ascii_lowercase() || byte.is_ascii_digit()
+}
+
+/// Whether some name stands twice in the list.
+pub fn has_twice(names: &[Name]) -> bool
+    ensures { result ≡ has_twice names.now }
+{
+    let mut rest = names;
+    while let [name, more @ ..] = rest {
+        if stands_in(name, more) {
+            return true;
+        }
+        rest = more;
+    }
+    false
+}
+
+/// Whether a name is one of the others.
+fn stands_in(name: &Name, others: &[Name]) -> bool
+    ensures { result ≡ list_any (λ other. bytes_eq other name.now) others.now }
+{
+    others.iter().any(|other| other.items() == name.items())
 }
 
 #[cfg(test)]

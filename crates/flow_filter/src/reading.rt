@@ -1,10 +1,10 @@
-ghost use Rattle.std.specs.Prelude.{◌≡◌, ◌≤◌, ◌%◌, ◌-◌, ◌^◌, ◌==◌, IfSome, option_map};
+ghost use Rattle.std.specs.Prelude.{◌∷◌, Some, ◌≡◌, ◌≤◌, ◌%◌, ◌-◌, ◌^◌, ◌==◌, IfSome, option_map};
 ghost use Rattle.std.specs.Prelude.{◌<◌, ◌↔◌, IsTrue, length, slice_index};
 ghost use Rattle.std.specs.Option.{SomeIff};
 ghost use Rattle.std.specs.Int.{IsInRange};
 ghost use Rattle.std.specs.List.{position};
 ghost use Rattle.std.specs.Str.Parse.{without_leading_plus, digits_value, IsNumeral};
-ghost use Rattle.flow_filter.specs.Reading.{number_of, cut, address_of, block_of, with_length, prefix_of, block};
+ghost use Rattle.flow_filter.specs.Reading.{number_of, cut, pieces_left, address_of, block_of, with_length, prefix_of, block};
 
 use crate::prefix::Prefix;
 use std::str;
@@ -59,6 +59,17 @@ fn first_place(text: &[u8], mark: u8) -> Option<usize>
     ensures { result ≡ position (λ byte. byte == mark) text.now }
 {
     text.iter().position(|byte| *byte == mark)
+}
+
+/// The piece before the first `mark`, and what stands behind the mark, where there is one.
+pub fn first_piece(text: &[u8], mark: u8) -> (&[u8], Option<&[u8]>)
+    ensures pieces { pieces_left mark (Some text.now) ≡ result.0.now ∷ pieces_left mark (option_map (λ t. t.now) result.1) }
+    ensures shorter { IfSome result.1 (λ more. length more.now < length text.now) }
+{
+    match cut(text, mark) {
+        Some((first, more)) => (first, Some(more)),
+        None => (text, None),
+    }
 }
 
 /// The address that the text spells as `A.B.C.D`, the first byte highest.

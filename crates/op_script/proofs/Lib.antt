@@ -1,4 +1,3 @@
-pub mod LeftToRead
 pub mod Written
 pub mod Judged
 pub mod Lines

@@ -5,7 +5,7 @@ use Rattle.std.specs.Str.{bytes_eq}
 use Rattle.std.proofs.lemmas.Bool.{leb-false, ltb-false, not-false, and_parts}
 use Rattle.std.proofs.lemmas.List.Quantifiers.{position-Some}
 use Rattle.flow_filter.specs.declared.filter_text.FilterFault.{FilterFault}
-use Rattle.flow_filter.specs.Name.{is_name}
+use Rattle.flow_filter.specs.Name.{has_twice, is_name}
 use Rattle.flow_filter.specs.Reading.{cut}
 use Rattle.flow_filter.specs.FilterText.{Fields, is_transport, parse}
 use Rattle.flow_filter.proofs.Printable.{parse_printable}
@@ -13,7 +13,7 @@ use Rattle.nf_function.specs.declared.kind.Kind.{Kind}
 use Rattle.nf_function.specs.Units.{splits}
 use Rattle.op_script.specs.declared.fault.ScriptKind.{ScriptKind}
 use Rattle.op_script.specs.Forms.{Word, words, form_of, Event, Moving, Copying, Sharing, Settling, Form, Silent, Routing, Happening}
-use Rattle.op_script.specs.Reading.{State, start, OrderView, Moves, Copies, Shares, LineView, Judged, ◌>>=◌, unless, wanted, place_of, ends_of, members_of, has_twice, whole, filter_of, filter_or_all, with_route, with_line, noted, numbered, order_of, goes_back, with_event, with_form, with_text, Whole, and_lines, with_lines, script_of, said, ScriptView}
+use Rattle.op_script.specs.Reading.{State, start, OrderView, Moves, Copies, Shares, LineView, Judged, ◌>>=◌, unless, wanted, place_of, ends_of, members_of, whole, filter_of, filter_or_all, with_route, with_line, noted, numbered, order_of, goes_back, with_event, with_form, with_text, Whole, and_lines, with_lines, script_of, said, ScriptView}
 use Rattle.op_script.specs.Printing.{IsRoute, IsOrder, IsWhat, IsLine, IsScript, is_writable, follows}
 use Rattle.std.specs.Prelude.{◌==◌}
 use Rattle.std.specs.Str.Lines.{strip_carriage_return}

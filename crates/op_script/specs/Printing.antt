@@ -4,7 +4,7 @@ use Rattle.std.specs.Prelude.{◌≡◌, ℕ, ◌+◌, ◌<◌, ◌≤◌, Bool,
 use Rattle.std.specs.List.{AllByRecursion, concat, join_with_byte, list_all, slice_index_or}
 use Rattle.std.specs.Fmt.{decimal}
 use Rattle.flow_filter.specs.declared.filter.Filter.{Filter}
-use Rattle.flow_filter.specs.Name.{is_name}
+use Rattle.flow_filter.specs.Name.{has_twice, is_name}
 use Rattle.flow_filter.specs.FilterText.{Fields, print, is_transport}
 use Rattle.nf_msgs.specs.declared.command.Order.{Order}
 use Rattle.nf_msgs.specs.declared.command.Order.TheVariants.{Move, Copy, Share}
@@ -13,7 +13,7 @@ use Rattle.op_script.specs.declared.script.Line.{Line}
 use Rattle.op_script.specs.declared.script.What.{What}
 use Rattle.op_script.specs.declared.script.What.TheVariants.{Command, Settle}
 use Rattle.op_script.specs.Forms.{Word}
-use Rattle.op_script.specs.Reading.{ends_of, has_twice, OrderView, Moves, Copies, Shares, LineView, ScriptView}
+use Rattle.op_script.specs.Reading.{ends_of, OrderView, Moves, Copies, Shares, LineView, ScriptView}
 
 -- the words of an initial rule
 abbrev pub route_words : List Word → Filter × ℕ → List Word

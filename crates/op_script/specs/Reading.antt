@@ -6,7 +6,7 @@ use Rattle.std.specs.Str.{bytes_eq, is_utf8}
 use Rattle.std.specs.Str.Lines.{strip_carriage_return}
 use Rattle.flow_filter.specs.declared.filter.Filter.{Filter}
 use Rattle.flow_filter.specs.declared.filter_text.FilterFault.{FilterFault}
-use Rattle.flow_filter.specs.Name.{is_name}
+use Rattle.flow_filter.specs.Name.{has_twice, is_name}
 use Rattle.flow_filter.specs.FilterText.{Fields, fields_of, parse}
 use Rattle.nf_function.specs.declared.kind.Kind.{Kind}
 use Rattle.nf_function.specs.Units.{splits}
@@ -69,11 +69,6 @@ wanted (Some x) kind = Ok x
 -- the place of an instance among the names
 unfoldable pub place_of : Word → List Word → Option ℕ
 place_of name names = position (λ other. bytes_eq other name) names
-
--- some name stands twice in the list
-abbrev pub has_twice : List Word → Bool
-has_twice [] = false
-has_twice (name ∷ more) = list_any (λ other. bytes_eq other name) more || has_twice more
 
 -- a source and a target
 unfoldable pub ends_of : Word → Word → Judged (Word × Word)

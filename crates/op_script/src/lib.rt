@@ -7,7 +7,6 @@
 
 pub mod fault;
 mod form;
-mod pieces;
 mod printing;
 mod reader;
 mod reading;

@@ -6,13 +6,14 @@ ghost use Rattle.flow_filter.specs.Name.{is_name};
 ghost use Rattle.flow_filter.specs.FilterText.{fields_of, Gives};
 ghost use Rattle.op_script.specs.FormViews.{event_view, form_view};
 ghost use Rattle.op_script.specs.Printing.{IsScript};
-ghost use Rattle.op_script.specs.Reading.{ends_of, members_of, filter_of, filter_or_all, order_of, with_route, with_line, numbered, is_command, command_count, line_view, what_view, with_event, with_form, with_text, script_of, place_of, has_twice, goes_back, state_of, script_view, order_view, with_lines, start, Says, SaysWhole, Numbered};
+ghost use Rattle.op_script.specs.Reading.{ends_of, members_of, filter_of, filter_or_all, order_of, with_route, with_line, numbered, is_command, command_count, line_view, what_view, with_event, with_form, with_text, script_of, place_of, goes_back, state_of, script_view, order_view, with_lines, start, Says, SaysWhole, Numbered};
 
 use crate::fault::{LineFault, ScriptFault, ScriptKind};
 use crate::form::{Event, Form, form_of, words};
-use crate::pieces::first_piece;
 use crate::reader::Reader;
 use crate::script::{Line, Script, What};
+use flow_filter::name::has_twice;
+use flow_filter::reading::first_piece;
 use flow_filter::{Filter, Name, NoMemory};
 use nf_function::{Kind, splits};
 use nf_msgs::{Command, Names, Order};
@@ -95,27 +96,6 @@ fn names_of(alloc: Global, list: &[u8]) -> Result<Option<Names>, NoMemory>
         rest = more;
     }
     Ok(Some(names))
-}
-
-/// Whether some name stands twice in the list.
-fn has_twice(names: &[Name]) -> bool
-    ensures { result ≡ has_twice names.now }
-{
-    let mut rest = names;
-    while let [name, more @ ..] = rest {
-        if stands_in(name, more) {
-            return true;
-        }
-        rest = more;
-    }
-    false
-}
-
-/// Whether a name is one of the others.
-fn stands_in(name: &Name, others: &[Name]) -> bool
-    ensures { result ≡ list_any (λ other. bytes_eq other name.now) others.now }
-{
-    others.iter().any(|other| other.items() == name.items())
 }
 
 /// The reader with an initial rule more.

@@ -1,8 +1,8 @@
 use Rattle.std.proofs.Common.{◌≡◌, ◌==◌, ◌++◌, Some, None, cond, option_map}
 use Rattle.std.specs.List.{slice_split, list_all}
 use Rattle.flow_filter.specs.Name.{is_name}
-use Rattle.op_script.specs.Pieces.{pieces_left}
-use Rattle.op_script.proofs.LeftToRead.{bytes_left}
+use Rattle.flow_filter.specs.Reading.{pieces_left}
+use Rattle.flow_filter.proofs.LeftToRead.{bytes_left}
 use Rattle.op_script.proofs.reading.names_of.Given as goal
 
 -- the names so far and the pieces that are left give what the whole list gives

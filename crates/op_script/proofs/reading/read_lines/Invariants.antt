@@ -1,8 +1,8 @@
 use Rattle.std.proofs.Common.{◌≡◌, ◌==◌, ◌+◌, ◌≤◌, option_map}
 use Rattle.std.specs.List.{slice_split}
-use Rattle.op_script.specs.Pieces.{pieces_left}
+use Rattle.flow_filter.specs.Reading.{pieces_left}
 use Rattle.op_script.specs.Reading.{with_lines, state_of, start}
-use Rattle.op_script.proofs.LeftToRead.{bytes_left}
+use Rattle.flow_filter.proofs.LeftToRead.{bytes_left}
 use Rattle.op_script.proofs.reading.read_lines.Given as goal
 
 -- what is left, from here on, gives what the whole script gives

@@ -1,6 +1,6 @@
 use Rattle.std.proofs.Common.{◌≡◌, length}
-use Rattle.op_script.specs.Reading.{has_twice}
-use Rattle.op_script.proofs.reading.has_twice.Given as goal
+use Rattle.flow_filter.specs.Name.{has_twice}
+use Rattle.flow_filter.proofs.name.has_twice.Given as goal
 
 -- no name so far stands again behind it
 abbrev pub invariant-loop-rest : goal.invariant-loop-rest
