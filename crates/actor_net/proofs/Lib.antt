@@ -5,6 +5,7 @@ pub mod InOrder
 pub mod Links
 pub mod Merged
 pub mod OneStep
+pub mod Reached
 pub mod Runs
 pub mod Scheduling
 pub mod Steps
