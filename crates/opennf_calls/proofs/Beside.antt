@@ -7,8 +7,8 @@ use Rattle.nf_io.specs.declared.outside.Failed.{Failed}
 use Rattle.nf_io.specs.Roles.{is_read}
 use Rattle.nf_io.specs.Meaning.{Meaning, Rose, AppendsFront, HasCause, OthersStay}
 use Rattle.opennf_calls.specs.declared.status.Status.{Status}
-use Rattle.opennf_calls.specs.declared.status.Status.TheVariants.{Ok as Done, Usage, BadTrace, ReadFault, WriteFault, NoMemory}
-use Rattle.opennf_calls.specs.Command.{Asked}
+use Rattle.opennf_calls.specs.declared.status.Status.TheVariants.{Ok as Done, Usage, BadScript, BadTrace, ReadFault, WriteFault, NoMemory}
+use Rattle.command_words.specs.Plan.{Asked}
 use Rattle.opennf_calls.specs.Outcome.{Tells, IsBound, MayBind, WroteNothing, WroteReportAlone, ForText, RowOf, CauseOf, Complains, IsComplete, refusal_of}
 
 module _ (old mid new : Role → Meaning) (others : OthersStay Errors mid new) (name : (new Errors).name ≡ (mid Errors).name) where
@@ -65,6 +65,7 @@ module _ (old mid new : Role → Meaning) (others : OthersStay Errors mid new) (
   row-beside asked (ReadFault role) row =
       (row.0, row.1, same_name role ∙ row.2, subst (λ m. Rose (old role).faults m.faults) (sym (same_read role row.0)) row.3, silent row.4)
   row-beside asked (BadTrace offset kind) row = (bound asked row.0, silent row.1, row.2)
+  row-beside asked (BadScript line kind) row = (bound asked row.0, silent row.1, row.2)
   row-beside asked NoMemory row = silent row
   row-beside asked Usage row = row
 
@@ -92,6 +93,8 @@ complete_row asked old new NoMemory bytes row tells sound calm = inr refl
 complete_row asked old new (WriteFault role) bytes row tells sound calm = absurd (calm Report row.1)
 complete_row asked old new (ReadFault role) bytes row tells sound calm = absurd (calm role row.3)
 complete_row asked old new (BadTrace offset kind) bytes row tells sound calm =
+    let refused = row.2 bytes tells in absurd (cc)
+complete_row asked old new (BadScript line kind) bytes row tells sound calm =
     let refused = row.2 bytes tells in absurd (cc)
 complete_row asked old new Usage bytes row tells sound calm = absurd row
 

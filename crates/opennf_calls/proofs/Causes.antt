@@ -7,7 +7,7 @@ use Rattle.trace_reader.specs.declared.fault.TraceFault.{TraceFault}
 use Rattle.trace_reader.specs.declared.fault.TraceFault.TheVariants.{Magic, PcapNg, Version, LinkType, RecordLength, TooLong, Header, Read, NoMemory}
 use Rattle.trace_reader.specs.Gives.{TraceGives}
 use Rattle.trace_reader.specs.Records.{capture_of}
-use Rattle.opennf_calls.specs.declared.words.Simulation.{Simulation}
+use Rattle.command_words.specs.declared.request.Simulation.{Simulation}
 use Rattle.opennf_calls.specs.Simulated.{SimRow}
 use Rattle.opennf_calls.specs.Status.{status_of}
 

@@ -1,5 +1,5 @@
 -- What a simulation reads, writes and answers, by its two roles. This project's own.
-use Rattle.std.specs.Prelude.{◌≡◌, ◌≢◌, ℕ, List, [], Some, Ok, Err}
+use Rattle.std.specs.Prelude.{◌≡◌, ◌≢◌, ℕ, List, [], ◌∷◌, Some, Ok, Err}
 use Rattle.std.specs.Io.KnownBytes.{Appends}
 use Rattle.nf_io.specs.declared.outside.Role.{Role}
 use Rattle.nf_io.specs.declared.outside.Role.TheVariants.{Trace, Report}
@@ -7,9 +7,9 @@ use Rattle.nf_io.specs.Meaning.{Meaning, Rose, AppendsFront}
 use Rattle.trace_reader.specs.declared.trace.Trace.{Trace as Captured}
 use Rattle.trace_reader.specs.declared.fault.TraceFault.{TraceFault}
 use Rattle.trace_reader.specs.Records.{capture_of}
+use Rattle.command_words.specs.declared.request.Simulation.{Simulation}
 use Rattle.opennf_calls.specs.declared.status.Status.{Status}
-use Rattle.opennf_calls.specs.declared.status.Status.TheVariants.{Ok as Done, Usage, BadTrace, ReadFault, WriteFault, NoMemory}
-use Rattle.opennf_calls.specs.declared.words.Simulation.{Simulation}
+use Rattle.opennf_calls.specs.declared.status.Status.TheVariants.{Ok as Done, Usage, BadScript, BadTrace, ReadFault, WriteFault, NoMemory}
 use Rattle.opennf_calls.specs.Report.{IsReport}
 use Rattle.opennf_calls.specs.Status.{status_of}
 
@@ -24,7 +24,9 @@ abbrev pub ForReport : Simulation → (old new : Role → Meaning) → (List ℕ
 ForReport asked old new P =
     (bytes : List ℕ) → (old Trace).left ≡ Some bytes
     → ((new Trace).left ≡ Some [])
-    × ((captured : Captured) × (capture_of bytes ≡ Ok captured) × ((text : List ℕ) × IsReport asked.site asked.name.now captured text × P text))
+    × ((captured : Captured) × (capture_of bytes ≡ Ok captured)
+    × ((name : List ℕ) × (asked.instances.names.items ≡ name ∷ [])
+    × ((text : List ℕ) × IsReport asked.site name captured text × P text)))
 
 -- why a status comes
 abbrev pub SimRow : Simulation → (old new : Role → Meaning) → Status → Type 0
@@ -42,4 +44,5 @@ SimRow asked old new (BadTrace offset kind) =
     × ((bytes : List ℕ) → (old Trace).left ≡ Some bytes
     → (fault : TraceFault) × (capture_of bytes ≡ Err fault) × (status_of fault ≡ BadTrace offset kind))
 SimRow asked old new NoMemory = (new Report).written ≡ (old Report).written
+SimRow asked old new (BadScript line kind) = ⊥
 SimRow asked old new Usage = ⊥

@@ -2,17 +2,24 @@
 use Rattle.std.specs.Prelude.{ℕ, ◌++◌, List, [], codes, decimal}
 use Rattle.nf_io.specs.declared.outside.Role.{Role}
 use Rattle.nf_io.specs.declared.outside.Role.TheVariants.{Trace, Script, JournalIn, Report, JournalOut, TraceOut, Errors}
+use Rattle.nf_io.specs.declared.transfers.UptoFault.{UptoFault}
+use Rattle.nf_io.specs.declared.transfers.UptoFault.TheVariants as upto
+use Rattle.op_script.specs.declared.fault.ScriptKind.{ScriptKind}
+use Rattle.op_script.specs.declared.fault.ScriptKind.TheVariants as bad
+use Rattle.op_script.specs.declared.fault.ScriptFault.{ScriptFault}
+use Rattle.op_script.specs.declared.fault.ScriptFault.TheVariants as script
 use Rattle.trace_reader.specs.declared.fault.TraceFault.{TraceFault}
 use Rattle.trace_reader.specs.declared.fault.TraceFault.TheVariants as fault
 use Rattle.opennf_calls.specs.declared.status.TraceKind.{TraceKind}
 use Rattle.opennf_calls.specs.declared.status.TraceKind.TheVariants.{Magic, PcapNg, Version, LinkType, RecordLength, TooLong, Header}
 use Rattle.opennf_calls.specs.declared.status.Status.{Status}
-use Rattle.opennf_calls.specs.declared.status.Status.TheVariants.{Ok as Done, Usage, BadTrace, ReadFault, WriteFault, NoMemory}
+use Rattle.opennf_calls.specs.declared.status.Status.TheVariants.{Ok as Done, Usage, BadScript, BadTrace, ReadFault, WriteFault, NoMemory}
 
 -- the number that the program ends with
 abbrev pub number_of : Status → ℕ
 number_of Done = 0
 number_of Usage = 1
+number_of (BadScript line kind) = 2
 number_of (BadTrace offset kind) = 2
 number_of (ReadFault role) = 4
 number_of (WriteFault role) = 5
@@ -44,6 +51,21 @@ kind_number (LinkType n) = decimal n
 kind_number (RecordLength n) = decimal n
 kind_number kind = []
 
+-- what the line calls a rule that a script breaks
+abbrev pub script_name : ScriptKind → List ℕ
+script_name bad.Word = codes "word"
+script_name bad.Order = codes "order"
+script_name bad.Filter = codes "filter"
+script_name bad.SplitsUnit = codes "splits unit"
+script_name bad.SameInstance = codes "same instance"
+script_name bad.TooMany = codes "too many"
+script_name bad.Name = codes "name"
+script_name bad.NotUtf8 = codes "not utf8"
+
+-- the line on a script that breaks a rule
+abbrev pub script_line_of : ℕ → ScriptKind → List ℕ
+script_line_of line kind = codes "opennf: script line " ++ decimal line ++ codes ": " ++ script_name kind ++ codes "\n"
+
 -- the line on a capture that breaks a rule
 abbrev pub trace_line_of : ℕ → TraceKind → List ℕ
 trace_line_of offset kind =
@@ -57,6 +79,7 @@ fault_line_of front role = front ++ role_name role ++ codes "\n"
 unfoldable pub line_of : Status → List ℕ
 line_of Done = []
 line_of Usage = codes "opennf: bad words\n"
+line_of (BadScript line kind) = script_line_of line kind
 line_of (BadTrace offset kind) = trace_line_of offset kind
 line_of (ReadFault role) = fault_line_of (codes "opennf: read fault ") role
 line_of (WriteFault role) = fault_line_of (codes "opennf: write fault ") role
@@ -73,3 +96,13 @@ status_of (fault.TooLong offset) = BadTrace offset TooLong
 status_of (fault.Header length) = BadTrace length Header
 status_of fault.Read = ReadFault Trace
 status_of fault.NoMemory = NoMemory
+
+-- the status of a script that can't be read
+abbrev pub script_status : ScriptFault → Status
+script_status (script.Bad line kind) = BadScript line kind
+script_status script.NoMemory = NoMemory
+
+-- the status of a file that can't be read whole
+abbrev pub reading_status : Role → UptoFault → Status
+reading_status role upto.Failed = ReadFault role
+reading_status role upto.NoMemory = NoMemory

@@ -1,10 +1,11 @@
 ghost use Rattle.std.specs.Prelude.{◌≡◌, ◌≤◌, length};
-ghost use Rattle.opennf_calls.specs.Status.{line_of, trace_line_of, fault_line_of, kind_number};
+ghost use Rattle.opennf_calls.specs.Status.{line_of, script_line_of, trace_line_of, fault_line_of, kind_number};
 
-use crate::status::{Status, TraceKind, role_name};
+use crate::status::{Status, TraceKind, role_name, script_name};
 use arrayvec::ArrayString;
 use itoa::Buffer;
 use nf_io::Role;
+use op_script::ScriptKind;
 
 /// A line for the standard error, which takes no memory.
 pub type Line = ArrayString<128>;
@@ -17,6 +18,7 @@ pub fn line(status: &Status) -> Line
     match *status {
         Status::Ok => Line::new(),
         Status::Usage => whole_line("opennf: bad words\n"),
+        Status::BadScript { line, kind } => script_line(line, kind),
         Status::BadTrace { offset, kind } => trace_line(offset, kind),
         Status::ReadFault { role } => fault_line("opennf: read fault ", role),
         Status::WriteFault { role } => fault_line("opennf: write fault ", role),
@@ -39,6 +41,18 @@ fn fault_line(front: &str, role: Role) -> Line
 {
     let mut line = whole_line(front);
     line.push_str(role_name(role));
+    line.push_str("\n");
+    line
+}
+
+fn script_line(number: u32, kind: ScriptKind) -> Line
+    ensures { result.bytes ≡ script_line_of number kind }
+{
+    let mut line = whole_line("opennf: script line ");
+    let mut buffer = Buffer::new();
+    line.push_str(buffer.format(number));
+    line.push_str(": ");
+    line.push_str(script_name(kind));
     line.push_str("\n");
     line
 }

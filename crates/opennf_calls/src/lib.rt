@@ -1,11 +1,13 @@
 //! The calls that do all that the program does.
 //!
-//! [`opennf_top`] and [`opennf_calm`] read a capture through an [`Outside`](nf_io::Outside) and write its report. Contracts
-//! see the outside as a function from roles to what is known of them, and the words as lists of bytes. The main promise is
-//! `HasOutcome` of `specs/Outcome.antt`: at `Ok` the report is that of the capture's bytes, where each flow's outputs and
-//! record are those of its own packets; every other status has its cause.
+//! [`opennf_top`] and [`opennf_calm`] read what the words name through an [`Outside`](nf_io::Outside) and write what they ask
+//! for: the report of a capture, or the canonical text of a script. Contracts see the outside as a function from roles to
+//! what is known of them, and the words as lists of bytes. The main promise is `HasOutcome` of `specs/Outcome.antt`: at `Ok`
+//! the report is that of the capture's bytes, where each flow's outputs and record are those of its own packets, or the
+//! canonical text of the script's bytes; every other status has its cause.
 #![tactic(auto)]
 
+pub mod check;
 pub mod complaint;
 pub mod fold;
 pub mod gate;
@@ -14,7 +16,6 @@ pub mod report;
 pub mod run;
 pub mod status;
 pub mod top;
-pub mod words;
 
 pub use gate::{Gate, OpenGate};
 pub use outcome::{Choice, Choices, Outcome};

@@ -5,17 +5,17 @@ ghost use Rattle.opennf_calls.specs.Report.{IsReport, head_lines, trace_line, co
 
 use crate::fold::{Kept, Live, ordered, process};
 use conn_tracker::{TrackRecord, push_output, push_record};
-use flow_filter::{Flow, NoMemory, Packet, Site, TCP, Text};
+use flow_filter::{Flow, Name, NoMemory, Packet, Site, TCP, Text};
 use nf_function::Output;
 use std::alloc::Global;
 use trace_reader::Trace;
 
 /// The report of a capture that one instance processed, with the instance's name.
 #[tactic(auto, unfolding(crate::specs::Report::IsReport))]
-pub fn report(alloc: Global, name: &str, site: &Site, trace: &Trace) -> Result<Text, NoMemory>
+pub fn report(alloc: Global, name: &Name, site: &Site, trace: &Trace) -> Result<Text, NoMemory>
     ensures { IfOk result (IsReport site.now name.now trace.now) }
 {
-    let name = name.as_bytes();
+    let name = name.items();
     let packets = trace.packets.items();
     let mut text = Text::open(alloc);
     push_head(&mut text, packets.len(), trace.skipped, trace.cut)?;

@@ -1,4 +1,4 @@
-ghost use Rattle.std.specs.Prelude.{◌≡◌, Some, None, map, string_bytes, ◌⊎◌, MatchResult};
+ghost use Rattle.std.specs.Prelude.{◌≡◌, Some, None, length, map, string_bytes, ◌⊎◌, MatchResult};
 ghost use Rattle.std.specs.Option.{ForSome};
 ghost use Rattle.std.specs.Io.KnownBytes.{Appends};
 ghost use Rattle.nf_io.specs.declared.outside.Role.TheVariants.{Trace as TraceRole, Report as ReportRole, Errors as ErrorsRole};
@@ -6,13 +6,14 @@ ghost use Rattle.nf_io.specs.declared.outside.Role.{Role as TheRole};
 ghost use Rattle.nf_io.specs.Meaning.{AppendsFront, CanRead, CanWrite, HasCause, OthersStay};
 ghost use Rattle.trace_reader.specs.Gives.{HasReadCause, TraceGives};
 ghost use Rattle.trace_reader.specs.Records.{capture_of};
-ghost use Rattle.opennf_calls.specs.Command.{plan_of};
+ghost use Rattle.command_words.specs.Plan.{plan_of};
 ghost use Rattle.opennf_calls.specs.Outcome.{CauseOf, MayBind};
 ghost use Rattle.opennf_calls.specs.Simulated.{SimRow, SimChanges};
 
+use crate::check::check;
 use crate::report::report;
 use crate::status::Status;
-use crate::words::{Simulation, read_words};
+use command_words::{Request, Simulation, WordsFault, read_words};
 use nf_io::{Failed, Outside, Role, RoleSink, RoleSource, write_all};
 use std::alloc::Global;
 use trace_reader::{Trace, TraceFault, read_trace};
@@ -20,11 +21,14 @@ use trace_reader::{Trace, TraceFault, read_trace};
 /// Reads the capture that the words name, and writes its report.
 pub fn simulate<O: Outside>(alloc: Global, asked: &Simulation<'_>, outside: &mut O) -> Status
     requires unnamed { (O.seen outside.old TraceRole).name ≡ None }
-    requires outside { asked.now.site.outside ≡ None }
+    requires one { length asked.now.instances.names.items ≡ 1 }
     ensures row { SimRow asked.now (O.seen outside.old) (O.seen outside.new) result }
     ensures changes { SimChanges (O.seen outside.old) (O.seen outside.new) }
     ensures names { ((O.seen outside.new TraceRole).name ≡ None) ⊎ ((O.seen outside.new TraceRole).name ≡ Some asked.now.trace.now) }
 {
+    let [name] = asked.instances.names.as_slice() else {
+        return Status::Usage;
+    };
     let Ok(()) = outside.bind(Role::Trace, asked.trace) else {
         return Status::NoMemory;
     };
@@ -32,7 +36,7 @@ pub fn simulate<O: Outside>(alloc: Global, asked: &Simulation<'_>, outside: &mut
         Ok(trace) => trace,
         Err(fault) => return Status::of(fault),
     };
-    let Ok(text) = report(alloc, asked.name, &asked.site, &trace) else {
+    let Ok(text) = report(alloc, name, &asked.site, &trace) else {
         return Status::NoMemory;
     };
     match put(outside, Role::Report, text.items()) {
@@ -48,9 +52,11 @@ pub fn perform<O: Outside>(alloc: Global, words: &[String], outside: &mut O) -> 
     ensures names { MayBind (plan_of (map string_bytes words.now)) (O.seen outside.new) }
     ensures errors { (O.seen outside.new ErrorsRole) ≡ (O.seen outside.old ErrorsRole) }
 {
-    match read_words(words) {
-        Some(asked) => simulate(alloc, &asked, outside),
-        None => Status::Usage,
+    match read_words(alloc, words) {
+        Ok(Request::Sim(asked)) => simulate(alloc, &asked, outside),
+        Ok(Request::Check(asked)) => check(alloc, &asked, outside),
+        Err(WordsFault::Usage) => Status::Usage,
+        Err(WordsFault::NoMemory) => Status::NoMemory,
     }
 }
 

@@ -1,7 +1,8 @@
 ghost use Rattle.std.specs.Prelude.{◌≡◌, ◌≤◌, length};
-ghost use Rattle.opennf_calls.specs.Status.{kind_name, number_of, role_name, status_of};
+ghost use Rattle.opennf_calls.specs.Status.{kind_name, number_of, role_name, script_name, script_status, reading_status, status_of};
 
-use nf_io::Role;
+use nf_io::{Role, UptoFault};
+use op_script::{ScriptFault, ScriptKind};
 use trace_reader::TraceFault;
 
 /// What is wrong with a capture.
@@ -30,6 +31,8 @@ pub enum Status {
     Ok,
     /// The words aren't a command.
     Usage,
+    /// A line of the script, from 1, breaks a rule, or the whole does where the line is 0.
+    BadScript { line: u32, kind: ScriptKind },
     /// The capture breaks a rule at a byte.
     BadTrace { offset: u64, kind: TraceKind },
     /// A file couldn't be read.
@@ -61,6 +64,26 @@ impl Status {
         }
     }
 
+    /// The status of a script that can't be read.
+    pub fn of_script(fault: ScriptFault) -> Status
+        ensures { result ≡ script_status fault }
+    {
+        match fault {
+            ScriptFault::Bad { line, kind } => Status::BadScript { line, kind },
+            ScriptFault::NoMemory => Status::NoMemory,
+        }
+    }
+
+    /// The status of a file that can't be read whole.
+    pub fn of_reading(role: Role, fault: UptoFault) -> Status
+        ensures { result ≡ reading_status role fault }
+    {
+        match fault {
+            UptoFault::Failed => Status::ReadFault { role },
+            UptoFault::NoMemory => Status::NoMemory,
+        }
+    }
+
     fn bad_trace(offset: u64, kind: TraceKind) -> Status
         ensures { result ≡ Status.BadTrace offset kind }
     {
@@ -74,6 +97,7 @@ impl Status {
         match self {
             Status::Ok => 0,
             Status::Usage => 1,
+            Status::BadScript { .. } => 2,
             Status::BadTrace { .. } => 2,
             Status::ReadFault { .. } => 4,
             Status::WriteFault { .. } => 5,
@@ -112,5 +136,22 @@ pub fn role_name(role: Role) -> &'static str
         Role::Report => "report",
         Role::TraceOut => "capture",
         Role::Errors => "errors",
+    }
+}
+
+/// What the error line calls a rule that a script breaks.
+pub fn script_name(kind: ScriptKind) -> &'static str
+    ensures value { result.now ≡ script_name kind }
+    ensures short { length result.now ≤ 13 }
+{
+    match kind {
+        ScriptKind::Word => "word",
+        ScriptKind::Order => "order",
+        ScriptKind::Filter => "filter",
+        ScriptKind::SplitsUnit => "splits unit",
+        ScriptKind::SameInstance => "same instance",
+        ScriptKind::TooMany => "too many",
+        ScriptKind::Name => "name",
+        ScriptKind::NotUtf8 => "not utf8",
     }
 }

@@ -1,6 +1,6 @@
 ghost use Rattle.std.specs.Prelude.{◌≡◌, None, map, string_bytes};
 ghost use Rattle.nf_io.specs.declared.outside.Role.{Role as TheRole};
-ghost use Rattle.opennf_calls.specs.Command.{plan_of};
+ghost use Rattle.command_words.specs.Plan.{plan_of};
 ghost use Rattle.opennf_calls.specs.Outcome.{HasOutcome};
 
 use crate::complaint::line;
