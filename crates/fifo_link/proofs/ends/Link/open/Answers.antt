@@ -1,0 +1,6 @@
+use Rattle.std.proofs.Common.{rules}
+use Rattle.fifo_link.proofs.Relays.{forks}
+use Rattle.fifo_link.proofs.ends.Link.open.Goals as goal
+
+pub another-taker-requires-clause-rule : goal.another-taker-requires-clause-rule
+another-taker-requires-clause-rule g c = forks _ _ (search rules) (search rules)
