@@ -4,7 +4,7 @@ use mathlib.Core.Option.{some, some-ne-none}
 use lib.ListN.{get_elem?}
 use Rattle.crossbeam_queue.specs.Fifo.{Pushes, Pops, Forks, Merges, Learns}
 use Rattle.crossbeam_queue.proofs.Lists.{at_set, at_snoc}
-use Rattle.fifo_link.specs.declared.rule.Stamped.{Stamped}
+use Rattle.actor_net.specs.declared.stamped.Stamped.{Stamped}
 use Rattle.fifo_link.specs.declared.rule.Log.{Log}
 use Rattle.fifo_link.specs.Ends.{BeginsWith}
 use Rattle.fifo_link.specs.Rule.{log, Fits, Relayed}

@@ -1,7 +1,7 @@
 -- What contracts see of the two ends of a link, this project's own.
 use Rattle.std.specs.Prelude.{◌≡◌, ℕ, List, ◌++◌, length}
 use Rattle.atomic_table.specs.Seated.{TableId}
-use Rattle.fifo_link.specs.declared.rule.Stamped.{Stamped}
+use Rattle.actor_net.specs.declared.stamped.Stamped.{Stamped}
 
 module _ {M : Type 0} where
   -- the list begins with `front`

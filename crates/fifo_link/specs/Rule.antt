@@ -4,7 +4,7 @@
 use Rattle.std.specs.Prelude.{◌≡◌, ℕ, Bool, true, List, ◌++◌}
 use mathlib.Core.Option.{some}
 use lib.ListN.{get_elem?}
-use Rattle.fifo_link.specs.declared.rule.Stamped.{Stamped}
+use Rattle.actor_net.specs.declared.stamped.Stamped.{Stamped}
 use Rattle.fifo_link.specs.declared.rule.Log.{Log}
 use Rattle.fifo_link.specs.Ends.{BeginsWith}
 

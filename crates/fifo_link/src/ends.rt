@@ -4,7 +4,8 @@ ghost use Rattle.fifo_link.specs.Ends.{BeginsWith, WasFull};
 ghost use Rattle.fifo_link.specs.Rule.{log};
 ghost use Rattle.crossbeam_queue.specs.Passes.{view, IsPassOf, ruled_capacity};
 
-use crate::rule::{Drains, InOrder, Log, Roles, Sends, Stamped, Takes};
+use crate::rule::{Drains, InOrder, Log, Roles, Sends, Takes};
+use actor_net::Stamped;
 use crossbeam_queue::{Pass, RuledArrayQueue};
 use flow_filter::NoMemory;
 use std::alloc::{AllocError, Global};

@@ -11,5 +11,5 @@ mod rule;
 #[cfg(test)]
 mod tests;
 
+pub use actor_net::Stamped;
 pub use ends::{Closed, Full, Link, SendEnd, TakeEnd, close, tell};
-pub use rule::Stamped;

@@ -1,13 +1,7 @@
 //! The rule of a link, and what its steps tell.
+use actor_net::Stamped;
 use crossbeam_queue::protocol::{Join, Lesson, Outcome, Protocol, Split};
 use std::collections::LinkedList;
-
-/// A message with the clock of the step that sent it.
-#[derive(Clone, Copy, Debug, Drop, PartialEq, Eq)]
-pub struct Stamped<M> {
-    pub clock: u64,
-    pub message: M,
-}
 
 // What a holder of the queue may do, and what it knows of the lists sent and taken. No value of it is made.
 pub struct Log<M> {
@@ -62,7 +56,7 @@ impl<M> Outcome<Stamped<M>, Log<M>> for Sends {
 
 impl<M> Lesson<Stamped<M>, Log<M>> for Sends {
     ghost use Rattle.std.specs.Prelude.{◌≡◌, List, ◌++◌};
-    ghost use Rattle.fifo_link.specs.declared.rule.Stamped.{Stamped};
+    ghost use Rattle.actor_net.specs.declared.stamped.Stamped.{Stamped};
 
     ghost fact = { λ v items. (rest : List (Stamped M)) × (v.sent ≡ (v.taken ++ rest) ++ items) };
 }

@@ -1,3 +1,5 @@
+ghost use Rattle.std.specs.Prelude.{◌≡◌};
+
 use super::*;
 use std::alloc::AllocError;
 use std::sync::Wait;
@@ -22,31 +24,21 @@ fn a_full_link_hands_the_message_back(rt: HostRuntime) -> Result<(), Fail> {
     Ok(())
 }
 
-#[test]
-fn what_was_not_taken_is_left_in_order(rt: HostRuntime) -> Result<(), Fail> {
-    let (mut send, take) = Link::<u8>::open(rt.alloc(), 4)?;
-    let mut take = tell(&mut send, take);
-    for clock in 1..4u64 {
-        assert!(rt; send.send(&rt, stamped(clock)).is_ok());
-    }
-    assert_eq!(rt; take.take(&rt).map(|first| first.clock), Some(1));
-    let left = close(&rt, send, take).left;
-    assert_eq!(rt; left.len(), 2);
-    assert_eq!(rt; (left[0].clock, left[1].clock), (2, 3));
-    Ok(())
-}
-
-fn send_all(rt: &impl Wait, mut send: SendEnd<u8>) -> SendEnd<u8> {
-    for clock in 0..64u64 {
+fn send_all(rt: &impl Wait, mut send: SendEnd<u8>, count: u64) -> SendEnd<u8>
+    ensures { result.link ≡ send.link }
+{
+    for clock in 0..count {
         let _ = send.send(rt, stamped(clock));
     }
     send
 }
 
-fn take_all(rt: &impl Wait, mut take: TakeEnd<u8>) -> (TakeEnd<u8>, u64) {
+fn take_all(rt: &impl Wait, mut take: TakeEnd<u8>, count: u64) -> (TakeEnd<u8>, u64)
+    ensures { result.0.link ≡ take.link }
+{
     let mut taken = 0u64;
     for _ in rt.forever() {
-        if taken >= 32 {
+        if taken >= count {
             break;
         }
         match take.take(rt) {
@@ -59,9 +51,25 @@ fn take_all(rt: &impl Wait, mut take: TakeEnd<u8>) -> (TakeEnd<u8>, u64) {
 }
 
 #[test]
+fn what_was_not_taken_is_left_in_order(rt: HostRuntime) -> Result<(), Fail> {
+    let (mut send, take) = Link::<u8>::open(rt.alloc(), 4)?;
+    let take = tell(&mut send, take);
+    let send = send_all(&rt, send, 3);
+    let (take, taken) = take_all(&rt, take, 1);
+    let left = close(&rt, send, take).left;
+    assert_eq!(rt; (taken, left.len()), (1, 2));
+    assert_eq!(rt; (left[0].clock, left[1].clock), (1, 2));
+    Ok(())
+}
+
+#[test]
 fn messages_cross_threads_in_order(rt: HostRuntime) -> Result<(), AllocError> {
     let (send, take) = Link::<u8>::open(rt.alloc(), 64)?;
-    let (send, (take, taken)) = thread::join(&rt, || send_all(&rt, send), || take_all(&rt, take));
+    let (send, (take, taken)) = thread::join(
+        &rt,
+        || send_all(&rt, send, 64),
+        || take_all(&rt, take, 32),
+    );
     let left = close(&rt, send, take).left;
     assert_eq!(rt; (taken, left.len()), (32, 32));
     Ok(())
