@@ -1,0 +1,8 @@
+//! Actors run by threads: one worker for each node, one link for each ordered pair of nodes.
+#![tactic(auto)]
+
+pub mod gate;
+mod notes;
+pub mod ways;
+
+pub use gate::{Gate, OpenGate};
