@@ -1,2 +1,4 @@
 pub mod Drawing
 pub mod Cutting
+pub mod Finding
+pub mod Stepping

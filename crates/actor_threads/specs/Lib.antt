@@ -1,3 +1,4 @@
 pub mod Ways
 pub mod Inside
 pub mod Noted
+pub mod Work

@@ -4,5 +4,7 @@
 pub mod gate;
 mod notes;
 pub mod ways;
+pub mod worker;
 
 pub use gate::{Gate, OpenGate};
+pub use worker::Worker;
