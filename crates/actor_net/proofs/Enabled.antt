@@ -1,0 +1,106 @@
+-- The enabled choices in order: how many there are at most, and where one stands.
+use Rattle.std.proofs.Common.{◌≡◌, ℕ, zero, suc, ◌+◌, ◌-◌, ◌*◌, ◌^◌, ◌<◌, ◌≤◌, Bool, true, false, Option, None, Some, List, [], ◌∷◌, ◌++◌, length, refl, sym, ap, subst, ◌∙◌, append_assoc, append-nil, length-append, add-one, arith, inl, inr}
+use Rattle.std.specs.Prelude.{if◌then◌else◌, slice_get}
+use Rattle.std.proofs.lemmas.Grind.{common_steps}
+use Rattle.std.proofs.lemmas.Bool.{cases_lt}
+use Rattle.actor_net.specs.declared.choice.Choice.{Choice}
+use Rattle.actor_net.specs.Network.{Network, is_enabled}
+use Rattle.actor_net.specs.Schedules.{ports_below, nodes_below, enabled_choices}
+
+abbrev pub at : ℕ → ℕ → Choice
+at k p = record { node = k; port = p }
+
+-- one more element, or none, lengthens a list by at most one
+one_more : {X : Type 0} (b : Bool) (x : X) (xs : List X) (k : ℕ) → length xs ≤ k → length (xs ++ (if b then x ∷ [] else [])) ≤ k + 1
+one_more true x xs k few = grind (arith, common_steps)
+one_more false x xs k few = rw (append-nil xs) (omega arith)
+
+ports_few : {A M N : Type 0} (ready : A → M → Bool) (w : Network A M N) (k p : ℕ) → length (ports_below ready w k p) ≤ p
+ports_few ready w k zero = omega arith
+ports_few ready w k (suc p) =
+    let more : length (ports_below ready w k (suc p)) ≤ p + 1 = one_more (is_enabled ready w (at k p)) _ (ports_below ready w k p) p (ports_few ready w k p) in
+    omega arith
+
+nodes_few : {A M N : Type 0} (ready : A → M → Bool) (w : Network A M N) (k : ℕ) → length (nodes_below ready w k) ≤ k * length w.nodes
+nodes_few ready w zero = omega arith
+nodes_few ready w (suc k) = grind (arith, common_steps, nodes_few ready w k, ports_few ready w k (length w.nodes))
+
+small : (a b k p n : ℕ) → a ≤ k * n → b ≤ p → k < n → p < n → n < 256 → a + b + 1 < 2 ^ 64
+small a b k p n ha hb hk hp hn =
+    let top : k * n ≤ 255 * 255 = grind arith in
+    omega arith
+
+-- their count fits a machine's number
+pub count_fits : {A M N : Type 0} (ready : A → M → Bool) (w : Network A M N) (k p : ℕ) → k < length w.nodes → p < length w.nodes → length w.nodes < 256 → length (nodes_below ready w k ++ ports_below ready w k p) + 1 < 2 ^ 64
+count_fits ready w k p hk hp hn =
+    rw (length-append (nodes_below ready w k) (ports_below ready w k p)) (small _ _ k p (length w.nodes) (nodes_few ready w k) (ports_few ready w k p) hk hp hn)
+
+-- one more port of a node
+pub ports_below-enabled : {A M N : Type 0} (ready : A → M → Bool) (w : Network A M N) (k p : ℕ) → is_enabled ready w (at k p) ≡ true → ports_below ready w k (p + 1) ≡ ports_below ready w k p ++ at k p ∷ []
+ports_below-enabled ready w k p is = rw (add-one p, is) refl
+
+pub ports_below-disabled : {A M N : Type 0} (ready : A → M → Bool) (w : Network A M N) (k p : ℕ) → is_enabled ready w (at k p) ≡ false → ports_below ready w k (p + 1) ≡ ports_below ready w k p
+ports_below-disabled ready w k p is = rw (add-one p, is) (append-nil (ports_below ready w k p))
+
+pub nodes_below_more : {A M N : Type 0} (ready : A → M → Bool) (w : Network A M N) (k : ℕ) → nodes_below ready w (k + 1) ≡ nodes_below ready w k ++ ports_below ready w k (length w.nodes)
+nodes_below_more ready w k = rw (add-one k) refl
+
+-- a count of the enabled ones goes on by the test
+pub counted : {A M N : Type 0} (ready : A → M → Bool) (w : Network A M N) (k p n m : ℕ) (b : Bool) → is_enabled ready w (at k p) ≡ b → n ≡ length (nodes_below ready w k ++ ports_below ready w k p) → m ≡ (if b then n + 1 else n) → m ≡ length (nodes_below ready w k ++ ports_below ready w k (p + 1))
+counted ready w k p n m true is so_far more = rw (ports_below-enabled ready w k p is) (grind (arith, common_steps))
+counted ready w k p n m false is so_far more = rw (ports_below-disabled ready w k p is) (more ∙ so_far)
+
+slice_get_at : {X : Type 0} (xs : List X) (y : X) (ys : List X) (i : ℕ) → i ≡ length xs → slice_get (xs ++ y ∷ ys) i ≡ Some y
+slice_get_at [] y ys i is = rw is refl
+slice_get_at (x ∷ xs) y ys i is = rw is (slice_get_at xs y ys (length xs) refl)
+
+-- the ports of a node, split at one that is enabled
+ports_split : {A M N : Type 0} (ready : A → M → Bool) (w : Network A M N) (k p m : ℕ) → p < m → is_enabled ready w (at k p) ≡ true → (rest : List Choice) × (ports_below ready w k m ≡ ports_below ready w k p ++ at k p ∷ rest)
+ports_split ready w k p zero below is = absurd (omega arith)
+ports_split ready w k p (suc m) below is =
+    elim (cases_lt p m) [
+      inl less ↦
+        let split = ports_split ready w k p m less is in
+        let more = if is_enabled ready w (at k m) then at k m ∷ [] else [] in
+        (split.0 ++ more, ap (λ xs. xs ++ more) split.1 ∙ append_assoc (ports_below ready w k p) (at k p ∷ split.0) more)
+    | inr over ↦
+        let same : p ≡ m = omega arith in
+        ([], subst (λ q. ports_below ready w k (suc q) ≡ ports_below ready w k p ++ at k p ∷ []) same (rw is refl))
+    ]
+
+nodes_split : {A M N : Type 0} (ready : A → M → Bool) (w : Network A M N) (k m : ℕ) (xs : List Choice) (c : Choice) (rest : List Choice) → k < m → ports_below ready w k (length w.nodes) ≡ xs ++ c ∷ rest → (more : List Choice) × (nodes_below ready w m ≡ (nodes_below ready w k ++ xs) ++ c ∷ more)
+nodes_split ready w k zero xs c rest below is = absurd (omega arith)
+nodes_split ready w k (suc m) xs c rest below is =
+    elim (cases_lt k m) [
+      inl less ↦
+        let split = nodes_split ready w k m xs c rest less is in
+        let row = ports_below ready w m (length w.nodes) in
+        (split.0 ++ row, ap (λ ys. ys ++ row) split.1 ∙ append_assoc (nodes_below ready w k ++ xs) (c ∷ split.0) row)
+    | inr over ↦
+        let same : k ≡ m = omega arith in
+        (rest, subst (λ q. nodes_below ready w (suc q) ≡ (nodes_below ready w k ++ xs) ++ c ∷ rest) same (rw is (sym (append_assoc (nodes_below ready w k) xs (c ∷ rest)))))
+    ]
+
+-- an enabled choice stands behind those before it
+pub found_at : {A M N : Type 0} (ready : A → M → Bool) (w : Network A M N) (k p place : ℕ) → k < length w.nodes → p < length w.nodes → is_enabled ready w (at k p) ≡ true → place ≡ length (nodes_below ready w k ++ ports_below ready w k p) → slice_get (enabled_choices ready w) place ≡ Some (at k p)
+found_at ready w k p place hk hp is here =
+    let row = ports_split ready w k p (length w.nodes) hp is in
+    let all = nodes_split ready w k (length w.nodes) (ports_below ready w k p) (at k p) row.0 hk row.1 in
+    rw all.1 (slice_get_at (nodes_below ready w k ++ ports_below ready w k p) (at k p) all.0 place here)
+
+-- the last of a list that ends so
+pub last_at : (xs ys : List Choice) (c : Choice) → xs ≡ ys ++ c ∷ [] → slice_get xs (length xs - 1) ≡ Some c
+last_at xs ys c is = rw is (slice_get_at ys c [] (length (ys ++ c ∷ []) - 1) (grind (arith, common_steps)))
+
+-- going down
+pub nodes_below_last : {A M N : Type 0} (ready : A → M → Bool) (w : Network A M N) (k : ℕ) → 0 < k → nodes_below ready w k ≡ nodes_below ready w (k - 1) ++ ports_below ready w (k - 1) (length w.nodes)
+nodes_below_last ready w zero some = absurd (omega arith)
+nodes_below_last ready w (suc k) some = let e : suc k - 1 ≡ k = omega arith in rw e refl
+
+pub ports_below_last-enabled : {A M N : Type 0} (ready : A → M → Bool) (w : Network A M N) (k p : ℕ) → 0 < p → is_enabled ready w (at k (p - 1)) ≡ true → ports_below ready w k p ≡ ports_below ready w k (p - 1) ++ at k (p - 1) ∷ []
+ports_below_last-enabled ready w k zero some is = absurd (omega arith)
+ports_below_last-enabled ready w k (suc p) some is = let e : suc p - 1 ≡ p = omega arith in let here = rw e at is in rw (e, here) refl
+
+pub ports_below_last-disabled : {A M N : Type 0} (ready : A → M → Bool) (w : Network A M N) (k p : ℕ) → 0 < p → is_enabled ready w (at k (p - 1)) ≡ false → ports_below ready w k p ≡ ports_below ready w k (p - 1)
+ports_below_last-disabled ready w k zero some is = absurd (omega arith)
+ports_below_last-disabled ready w k (suc p) some is = let e : suc p - 1 ≡ p = omega arith in let here = rw e at is in rw (e, here) (append-nil (ports_below ready w k p))

@@ -1,0 +1,138 @@
+-- What a schedule takes: an enabled choice, and none only where none is enabled.
+use Rattle.std.proofs.Common.{◌≡◌, ◌≢◌, ℕ, zero, suc, ◌+◌, ◌-◌, ◌<◌, ◌≤◌, Bool, true, false, Option, None, Some, List, [], ◌∷◌, ◌++◌, ◌⊎◌, length, get_or, refl, sym, ap, subst, ◌∙◌, append_assoc, append-nil, arith, inl, inr}
+use Rattle.std.specs.Prelude.{if◌then◌else◌, slice_get, nat_lt, ◌*◌, ◌==◌, ◌&&◌}
+use Rattle.std.specs.List.{list_all}
+use Rattle.std.proofs.lemmas.Grind.{common_steps}
+use Rattle.std.proofs.lemmas.Bool.Decides.{Decides-eqb}
+use Rattle.std.proofs.lemmas.List.{nil_from_length}
+use Rattle.std.proofs.lemmas.Option.{slice_get-get_or}
+use Rattle.actor_net.specs.declared.choice.Choice.{Choice}
+use Rattle.actor_net.specs.declared.schedule.Schedule.{Schedule}
+use Rattle.actor_net.specs.declared.schedule.Schedule.TheVariants.{First, Last, Number}
+use Rattle.actor_net.specs.Network.{Network, Stepped, is_input, on_link, waiting, takes_first, is_enabled, taken, run, is_done}
+use Rattle.actor_net.specs.Schedules.{ports_below, nodes_below, enabled_choices, place_in, later, picked, taken_then, scheduled, StopsShort}
+
+place_within : (schedule : Schedule) (n : ℕ) → 0 < n → place_in schedule n < n
+place_within First n some = some
+place_within Last n some = omega arith
+place_within (Number state) n some = omega arith
+
+none_of : (schedule : Schedule) (xs : List Choice) → slice_get xs (place_in schedule (length xs)) ≡ None → xs ≡ []
+none_of schedule [] none = refl
+none_of schedule (x ∷ xs) none =
+    let there = slice_get-get_or (x ∷ xs) (place_in schedule (length (x ∷ xs))) x (place_within schedule (length (x ∷ xs)) (omega arith)) in
+    cc
+
+module _ {A M N : Type 0} (ready : A → M → Bool) where
+  -- each choice of the lists is enabled
+  one_enabled : (w : Network A M N) (b : Bool) (c : Choice) (i : ℕ) (x : Choice) → is_enabled ready w c ≡ b → slice_get (if b then c ∷ [] else []) i ≡ Some x → is_enabled ready w x ≡ true
+  one_enabled w true c zero x is at = let same : c ≡ x = cc in subst (λ y. is_enabled ready w y ≡ true) same is
+  one_enabled w true c (suc i) x is at = cc
+  one_enabled w false c i x is at = cc
+
+  -- an element of two lists joined is in one of them
+  both : (w : Network A M N) (xs ys : List Choice) → ((i : ℕ) (x : Choice) → slice_get xs i ≡ Some x → is_enabled ready w x ≡ true) → ((i : ℕ) (x : Choice) → slice_get ys i ≡ Some x → is_enabled ready w x ≡ true) → (i : ℕ) (x : Choice) → slice_get (xs ++ ys) i ≡ Some x → is_enabled ready w x ≡ true
+  both w [] ys first second i x at = second i x at
+  both w (y ∷ xs) ys first second zero x at = first zero x at
+  both w (y ∷ xs) ys first second (suc i) x at = both w xs ys (λ j z e. first (suc j) z e) second i x at
+
+  ports_enabled : (w : Network A M N) (k p i : ℕ) (x : Choice) → slice_get (ports_below ready w k p) i ≡ Some x → is_enabled ready w x ≡ true
+  ports_enabled w k zero i x at = cc
+  ports_enabled w k (suc p) i x at =
+      both w (ports_below ready w k p) _ (ports_enabled w k p) (λ j z e. one_enabled w (is_enabled ready w (record { node = k; port = p })) (record { node = k; port = p }) j z refl e) i x at
+
+  nodes_enabled : (w : Network A M N) (k i : ℕ) (x : Choice) → slice_get (nodes_below ready w k) i ≡ Some x → is_enabled ready w x ≡ true
+  nodes_enabled w zero i x at = cc
+  nodes_enabled w (suc k) i x at =
+      both w (nodes_below ready w k) (ports_below ready w k (length w.nodes)) (nodes_enabled w k) (ports_enabled w k (length w.nodes)) i x at
+
+  -- a schedule takes an enabled choice
+  pub picked_enabled : (schedule : Schedule) (w : Network A M N) (c : Choice) → picked ready schedule w ≡ Some c → is_enabled ready w c ≡ true
+  picked_enabled schedule w c is = nodes_enabled w (length w.nodes) (place_in schedule (length (enabled_choices ready w))) c is
+
+  -- and none only where no choice is enabled
+  pub picked_none : (schedule : Schedule) (w : Network A M N) → picked ready schedule w ≡ None → enabled_choices ready w ≡ []
+  picked_none schedule w none = none_of schedule (enabled_choices ready w) none
+
+both_left : (a b : Bool) → a && b ≡ true → a ≡ true
+both_left true b is = refl
+both_left false b is = is
+
+both_right : (a b : Bool) → a && b ≡ true → b ≡ true
+both_right true b is = is
+both_right false b is = cc
+
+empty_one : {M : Type 0} (l : List M) → (length l == 0) ≡ true → l ≡ []
+empty_one l is = nil_from_length l ((Decides-eqb (length l) 0).0 is)
+
+empty_there : {M : Type 0} (ls : List (List M)) (i : ℕ) → list_all (λ l. length l == 0) ls ≡ true → get_or ls i [] ≡ []
+empty_there [] i all = refl
+empty_there (l ∷ ls) zero all = empty_one l (both_left (length l == 0) (list_all (λ l. length l == 0) ls) all)
+empty_there (l ∷ ls) (suc i) all = empty_there ls i (both_right (length l == 0) (list_all (λ l. length l == 0) ls) all)
+
+none_waits : {A M N : Type 0} (ended : A → Bool) (w : Network A M N) (c : Choice) → is_done ended w ≡ true → waiting w c ≡ []
+none_waits ended w c done =
+    let quiet = both_left ((length w.input == 0) && list_all (λ l. length l == 0) w.links) (list_all ended w.nodes) done in
+    let input = empty_one w.input (both_left (length w.input == 0) (list_all (λ l. length l == 0) w.links) quiet) in
+    let link = empty_there w.links (c.port * length w.nodes + c.node) (both_right (length w.input == 0) (list_all (λ l. length l == 0) w.links) quiet) in
+    elim (is_input c) as (λ b. (if b then w.input else on_link w c.port c.node) ≡ []) [
+      true ↦ input
+    | false ↦ elim (nat_lt c.port (length w.nodes) && nat_lt c.node (length w.nodes)) as (λ b. (if b then get_or w.links (c.port * length w.nodes + c.node) [] else []) ≡ []) [ true ↦ link | false ↦ refl ]
+    ]
+
+nothing : {A M : Type 0} (ready : A → M → Bool) (c : Choice) (o : Option A) (ms : List M) → ms ≡ [] → takes_first ready c o ms ≡ false
+nothing ready c None [] is = refl
+nothing ready c (Some a) [] is = refl
+nothing ready c o (m ∷ ms) is = cc
+
+-- nothing is enabled in a complete world
+pub done_disabled : {A M N : Type 0} (ready : A → M → Bool) (ended : A → Bool) (w : Network A M N) (c : Choice) → is_done ended w ≡ true → is_enabled ready w c ≡ false
+done_disabled ready ended w c done = nothing ready c (slice_get w.nodes c.node) (waiting w c) (none_waits ended w c done)
+
+module _ {A M N : Type 0} (ready : A → M → Bool) (ended : A → Bool) (step : A → ℕ → M → Stepped A M N) where
+  pub scheduled_none : (most : ℕ) (schedule : Schedule) (w : Network A M N) → picked ready schedule w ≡ None → scheduled ready ended step most schedule w ≡ []
+  unfolding scheduled
+  scheduled_none zero schedule w none = refl
+  scheduled_none (suc most) schedule w none =
+      elim (is_done ended w) as (λ b. (if b then [] else taken_then (picked ready schedule w) (λ c. scheduled ready ended step most (later schedule) (taken step w c))) ≡ []) [
+        true ↦ refl
+      | false ↦ rw none refl
+      ]
+
+  pub scheduled_some : (most : ℕ) (schedule : Schedule) (w : Network A M N) (c : Choice) → picked ready schedule w ≡ Some c → scheduled ready ended step (suc most) schedule w ≡ c ∷ scheduled ready ended step most (later schedule) (taken step w c)
+  unfolding scheduled
+  scheduled_some most schedule w c is =
+      let enabled = picked_enabled ready schedule w c is in
+      let going : is_done ended w ≡ false = elim (is_done ended w) as (λ b. is_done ended w ≡ b → b ≡ false) [ true ↦ λ done. let no = done_disabled ready ended w c done in cc | false ↦ λ _. refl ] refl in
+      rw (going, is) refl
+
+  -- one more choice: what is left, from here, gives what the whole gives
+  pub scheduled_more : (most n : ℕ) (schedule : Schedule) (w : Network A M N) (cs : List Choice) (c : Choice) → n < most → picked ready schedule w ≡ Some c → (cs ++ c ∷ []) ++ scheduled ready ended step (most - (n + 1)) (later schedule) (taken step w c) ≡ cs ++ scheduled ready ended step (most - n) schedule w
+  scheduled_more most n schedule w cs c below is =
+      let left : most - n ≡ suc (most - (n + 1)) = omega arith in
+      rw (left, scheduled_some (most - (n + 1)) schedule w c is) (append_assoc cs (c ∷ []) _)
+
+  -- where a schedule ends, nothing is left
+  pub scheduled_end : (most n : ℕ) (schedule : Schedule) (w : Network A M N) → (picked ready schedule w ≡ None) ⊎ (most ≤ n) → scheduled ready ended step (most - n) schedule w ≡ []
+  unfolding scheduled
+  scheduled_end most n schedule w (inl none) = scheduled_none (most - n) schedule w none
+  scheduled_end most n schedule w (inr over) = let left : most - n ≡ zero = omega arith in rw left refl
+
+  -- the choices taken so far are then the scheduled ones
+  pub scheduled_whole : (most n : ℕ) (schedule : Schedule) (w : Network A M N) (cs all : List Choice) → (picked ready schedule w ≡ None) ⊎ (most ≤ n) → cs ++ scheduled ready ended step (most - n) schedule w ≡ all → cs ≡ all
+  scheduled_whole most n schedule w cs all end is =
+      sym (append-nil cs) ∙ ap (λ xs. cs ++ xs) (sym (scheduled_end most n schedule w end)) ∙ is
+
+  -- a schedule that ends in a world that isn't complete
+  pub stops_short : (most n : ℕ) (schedule : Schedule) (start w : Network A M N) (cs all : List Choice) (at : ℕ) → (picked ready schedule w ≡ None) ⊎ (most ≤ n) → n ≤ most → cs ++ scheduled ready ended step (most - n) schedule w ≡ all → w ≡ run step cs start → length cs ≡ n → is_done ended w ≡ false → length cs ≡ at → StopsShort ready ended step most all start at
+  stops_short most n schedule start w cs all at end below is world count incomplete here =
+      let whole = scheduled_whole most n schedule w cs all end is in
+      rw (← whole) (record {
+        count = here;
+        incomplete = rw world at incomplete;
+        stuck = stuck end;
+      })
+    where
+      stuck : (picked ready schedule w ≡ None) ⊎ (most ≤ n) → (enabled_choices ready (run step cs start) ≡ []) ⊎ (at ≡ most)
+      stuck (inl none) = let empty = picked_none ready schedule w none in inl (rw world at empty)
+      stuck (inr over) = inr (omega arith)

@@ -1,0 +1,91 @@
+-- Histories of nodes that ran beside each other: what each step took, sent and noted, and when. A step's clock is greater
+-- than its node's clock before and than the stamp of the message that it takes, and what it sends carries it. This is the
+-- project's own.
+use Rattle.std.specs.Prelude.{◌≡◌, ◌==◌, ◌<◌, ℕ, Bool, true, false, if◌then◌else◌, List, [], ◌∷◌, ◌++◌, map}
+use Rattle.actor_net.specs.declared.choice.Choice.{Choice}
+use Rattle.actor_net.specs.declared.stamped.Stamped.{Stamped}
+use Rattle.actor_net.specs.Network.{Stepped, reaches}
+
+-- one step of a node: its clock, the port that it took from, and the message with its stamp
+pub record Event (M : Type 0) : Type 0 where
+  pub clock : ℕ
+  pub port : ℕ
+  pub took : Stamped M
+
+-- stamped messages without their stamps
+abbrev pub messages : {M : Type 0} → List (Stamped M) → List M
+messages xs = map (λ x. x.message) xs
+
+-- the steps as a history notes them: each with its clock and its port
+abbrev pub noted : {M : Type 0} → List (Event M) → List (ℕ × ℕ)
+noted es = map (λ e. (e.clock, e.port)) es
+
+-- what a node does at one step
+abbrev pub does : {A M N : Type 0} → (A → ℕ → M → Stepped A M N) → A → Event M → Stepped A M N
+does step node e = step node e.port e.took.message
+
+-- the node after these steps
+abbrev pub node_after : {A M N : Type 0} → (A → ℕ → M → Stepped A M N) → A → List (Event M) → A
+node_after step node [] = node
+node_after step node (e ∷ es) = node_after step (does step node e).node es
+
+-- what these steps took from a port, in order
+abbrev pub taken_at : {M : Type 0} → ℕ → List (Event M) → List (Stamped M)
+taken_at port [] = []
+taken_at port (e ∷ es) = (if e.port == port then e.took ∷ [] else []) ++ taken_at port es
+
+-- the messages for one receiver among what a step sends, in order
+abbrev pub sent_for : {M : Type 0} → ℕ → List (ℕ × M) → List M
+sent_for to [] = []
+sent_for to (sent ∷ rest) = (if sent.0 == to then sent.1 ∷ [] else []) ++ sent_for to rest
+
+-- messages with the clock of the step that sent them
+abbrev pub stamped : {M : Type 0} → ℕ → List M → List (Stamped M)
+stamped clock ms = map (λ m. record { clock = clock; message = m }) ms
+
+-- what these steps sent to one receiver, in order
+abbrev pub sent_to : {A M N : Type 0} → (A → ℕ → M → Stepped A M N) → ℕ → A → List (Event M) → List (Stamped M)
+sent_to step to node [] = []
+sent_to step to node (e ∷ es) =
+    stamped e.clock (sent_for to (does step node e).sends) ++ sent_to step to (does step node e).node es
+
+-- what these steps of one node put on its link to another, of n nodes: what doesn't arrive is dropped
+abbrev pub put_between : {A M N : Type 0} → (A → ℕ → M → Stepped A M N) → ℕ → ℕ → ℕ → A → List (Event M) → List (Stamped M)
+put_between step n from to node es = if reaches n from to then sent_to step to node es else []
+
+-- what each of these steps noted
+abbrev pub notes_of : {A M N : Type 0} → (A → ℕ → M → Stepped A M N) → A → List (Event M) → List (List N)
+notes_of step node [] = []
+notes_of step node (e ∷ es) = (does step node e).notes ∷ notes_of step (does step node e).node es
+
+-- each clock is greater than the one before and than the stamp of what was taken
+abbrev pub Rise : {M : Type 0} → ℕ → List (Event M) → Type 0
+Rise clock [] = Unit {0}
+Rise clock (e ∷ es) = (clock < e.clock) × (e.took.clock < e.clock) × Rise e.clock es
+
+-- each step took from a port below n
+abbrev pub PortsBelow : {M : Type 0} → ℕ → List (Event M) → Type 0
+PortsBelow n [] = Unit {0}
+PortsBelow n (e ∷ es) = (e.port < n) × PortsBelow n es
+
+-- whenever these steps of node k took from the input, the node was ready for what it took
+abbrev pub WasReady : {A M N : Type 0} → (A → M → Bool) → (A → ℕ → M → Stepped A M N) → ℕ → A → List (Event M) → Type 0
+WasReady ready step k node [] = Unit {0}
+WasReady ready step k node (e ∷ es) =
+    (k ≡ 0 → e.port ≡ 0 → ready node e.took.message ≡ true) × WasReady ready step k (does step node e).node es
+
+-- a list without its first, where there is one
+abbrev pub without_front : {X : Type 0} → List X → List X
+without_front [] = []
+without_front (x ∷ xs) = xs
+
+-- the first list of a queue, where there is one
+abbrev pub front_list : {N : Type 0} → List (List N) → List N
+front_list [] = []
+front_list (x ∷ xs) = x
+
+-- the notes of all nodes in the order of the choices: each choice takes the next of its node's
+abbrev pub dealt : {N : Type 0} → (ℕ → List (List N)) → List Choice → List N
+dealt queues [] = []
+dealt queues (c ∷ cs) =
+    front_list (queues c.node) ++ dealt (λ j. if j == c.node then without_front (queues j) else queues j) cs

@@ -1,0 +1,5 @@
+pub mod Network
+pub mod Opening
+pub mod Schedules
+pub mod Histories
+pub mod Merging

@@ -1,0 +1,33 @@
+ghost use Rattle.std.specs.Prelude.{◌≡◌, ◌<◌, ◌+◌, ◌*◌};
+
+use flow_filter::Sequence;
+
+/// Which message is taken next: the node that takes it, and the port that it comes from. A port is the number of the
+/// sending node, and port 0 of node 0 is the input.
+#[derive(Clone, Copy, Debug, PartialEq, Eq)]
+pub struct Choice {
+    pub node: u8,
+    pub port: u8,
+}
+
+/// Choices in the order in which they are taken, two bytes each.
+pub type Choices = Sequence<Choice>;
+
+impl Choice {
+    ghost use Rattle.actor_net.specs.Network.{is_input};
+
+    /// Whether it takes from the input.
+    pub fn is_input(self) -> bool
+        ensures { result ≡ is_input self }
+    {
+        self.node == 0 && self.port == 0
+    }
+
+    pub(crate) fn place(self, nodes: usize) -> usize
+        requires { (self.node < nodes) × (self.port < nodes) × (nodes < 256) }
+        ensures value { result ≡ self.port * nodes + self.node }
+        ensures small { result < nodes * nodes }
+    {
+        self.port as usize * nodes + self.node as usize
+    }
+}

@@ -1,0 +1,72 @@
+ghost use Rattle.std.specs.Prelude.{◌≡◌, ◌==◌, [], ◌∷◌, ◌++◌, length, drop, OnOk, OnErr, MatchOption};
+
+use flow_filter::NoMemory;
+use std::alloc::Global;
+use std::collections::VecDeque;
+use std::marker::Model;
+
+/// The messages of a link or of the input, in order.
+#[derive(Drop)]
+pub struct Link<M> {
+    queue: VecDeque<M>,
+}
+
+impl<M> Model for Link<M> {
+    ghost use Rattle.std.specs.Prelude.{List};
+
+    ghost Value = { List M };
+
+    ghost view = { λ l. l.queue.items };
+}
+
+impl<M> Link<M> {
+    pub fn open(alloc: Global) -> Self
+        ensures { result ≡ [] }
+    {
+        Link {
+            queue: VecDeque::new(alloc),
+        }
+    }
+
+    pub fn from_vec(messages: Vec<M>) -> Self
+        ensures { result ≡ messages.items }
+    {
+        Link {
+            queue: VecDeque::from_vec(messages),
+        }
+    }
+
+    pub fn into_vec(self) -> Vec<M>
+        ensures { result.items ≡ self }
+    {
+        self.queue.into_vec()
+    }
+
+    pub fn is_empty(&self) -> bool
+        ensures { result ≡ (length self.now == 0) }
+    {
+        self.queue.is_empty()
+    }
+
+    pub fn first(&self) -> Option<&M>
+        ensures { MatchOption result (self.now ≡ []) (λ x. self.now ≡ x.now ∷ drop 1 self.now) }
+    {
+        self.queue.front()
+    }
+
+    pub fn pop(&mut self) -> Option<M>
+        ensures { MatchOption result ((self.old ≡ []) × (self.new ≡ [])) (λ x. self.old ≡ x ∷ self.new) }
+    {
+        self.queue.pop_front()
+    }
+
+    pub fn push(&mut self, message: M) -> Result<(), NoMemory>
+    where
+        M: Drop,
+        ensures ok { OnOk result (self.new ≡ self.old ++ message ∷ []) }
+        ensures err { OnErr result (self.new ≡ self.old) }
+    {
+        self.queue.push_back(message)?;
+        Ok(())
+    }
+}

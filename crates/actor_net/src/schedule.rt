@@ -1,0 +1,119 @@
+ghost use Rattle.std.specs.Prelude.{◌≡◌, ◌<◌, ℕ, true, Err, IfOk, OnSome};
+ghost use Rattle.actor_net.specs.Network.{run, IsRun, is_done};
+ghost use Rattle.actor_net.specs.Schedules.{enabled_choices, ports_below, place_in, later, picked, scheduled, schedule_of, StopsShort};
+
+use super::actor::Actor;
+use super::choice::{Choice, Choices};
+use super::world::{TakeFault, World};
+use rand_core::SeedableRng;
+use rand_core::utils::NextWord;
+use rand_xoshiro::SplitMix64;
+use std::alloc::{AllocError, Global};
+use thiserror::Error;
+
+/// The most choices of a scheduled run.
+pub const MOST_CHOICES: u64 = 200_000_000;
+
+/// Which of the enabled choices, in order of (node, port), is taken: the first, the last, or the one whose place from 0 is
+/// the next word of SplitMix64 from a number, modulo their count.
+#[derive(Clone, Copy, Debug, PartialEq, Eq)]
+pub enum Schedule {
+    First,
+    Last,
+    Number(u64),
+}
+
+/// Why a scheduled run doesn't end.
+#[derive(Clone, Copy, Debug, PartialEq, Eq, Error)]
+pub enum ScheduleFault {
+    #[error("unfinished after {step} choices")]
+    Unfinished { step: u64 },
+    #[error("out of memory")]
+    NoMemory,
+}
+
+impl From<AllocError> for ScheduleFault {
+    ghost use Rattle.std.specs.Prelude.{◌≡◌};
+    ghost use Rattle.actor_net.specs.declared.schedule.ScheduleFault.TheVariants.{NoMemory};
+
+    ghost from_gives = { λ _ e. e ≡ NoMemory };
+
+    fn from(_fault: AllocError) -> Self {
+        ScheduleFault::NoMemory
+    }
+}
+
+/// A schedule as it goes on.
+#[derive(Drop)]
+enum Picker {
+    First,
+    Last,
+    Word(SplitMix64),
+}
+
+impl Picker {
+    fn open(schedule: Schedule) -> Self
+        ensures { schedule_of result ≡ schedule }
+    {
+        match schedule {
+            Schedule::First => Picker::First,
+            Schedule::Last => Picker::Last,
+            Schedule::Number(number) => Picker::Word(SplitMix64::seed_from_u64(number)),
+        }
+    }
+
+    /// The choice that the schedule takes.
+    fn pick<A: Actor>(&mut self, world: &World<A>) -> Option<Choice>
+        ensures choice { result ≡ picked A.is_ready (schedule_of self.old) world.now }
+        ensures later { OnSome result (schedule_of self.new ≡ later (schedule_of self.old)) }
+    {
+        match self {
+            Picker::First => world.nth_enabled(0),
+            Picker::Last => world.last_enabled(),
+            Picker::Word(words) => {
+                let count = world.count_enabled();
+                if count == 0 {
+                    return None;
+                }
+                let place = words.next_word() % count as u64;
+                world.nth_enabled(place as usize)
+            }
+        }
+    }
+}
+
+/// Takes choices by a schedule until the world is complete.
+pub fn run_schedule<A: Actor>(
+    alloc: Global,
+    world: World<A>,
+    schedule: Schedule,
+) -> Result<(World<A>, Choices), ScheduleFault>
+    ensures choices { IfOk result (λ r. r.1 ≡ scheduled A.is_ready A.has_ended A.stepped MOST_CHOICES schedule world) }
+    ensures world { IfOk result (λ r. r.0 ≡ run A.stepped r.1 world) }
+    ensures run { IfOk result (λ r. IsRun A.is_ready A.stepped r.1 world) }
+    ensures complete { IfOk result (λ r. is_done A.has_ended r.0 ≡ true) }
+    ensures unfinished { (step : ℕ) → result ≡ Err (ScheduleFault.Unfinished step)
+        → StopsShort A.is_ready A.has_ended A.stepped MOST_CHOICES (scheduled A.is_ready A.has_ended A.stepped MOST_CHOICES schedule world) world step }
+{
+    let mut world = world;
+    let mut choices = Choices::open(alloc);
+    let mut picker = Picker::open(schedule);
+    for _ in 0..MOST_CHOICES {
+        let Some(choice) = picker.pick(&world) else {
+            break;
+        };
+        match world.take(choice) {
+            Ok(()) => {}
+            Err(TakeFault::NotEnabled) => unreachable!(),
+            Err(TakeFault::NoMemory) => return Err(ScheduleFault::NoMemory),
+        }
+        choices.push(choice)?;
+    }
+    if world.complete() {
+        Ok((world, choices))
+    } else {
+        Err(ScheduleFault::Unfinished {
+            step: choices.items().len() as u64,
+        })
+    }
+}

@@ -1,0 +1,320 @@
+ghost use Rattle.std.specs.Prelude.{◌≡◌, ◌==◌, ◌<◌, ◌-◌, ◌*◌, ℕ, Bool, true, false, List, [], ◌∷◌, length, drop, map, replicate, slice_get, slice_index_or, Some, OnOk, OnErr, IfOk, IsErrOf};
+ghost use Rattle.std.specs.List.{list_all};
+ghost use Rattle.actor_net.specs.Network.{Network, Stepped, IsWorld, is_enabled, taken, is_done, waiting, without_first, after, delivered, reaches};
+ghost use Rattle.actor_net.specs.Schedules.{enabled_choices};
+
+use super::actor::Actor;
+use super::choice::Choice;
+use super::link::Link;
+use super::outbox::Outbox;
+use flow_filter::{NoMemory, Sequence};
+use std::alloc::{AllocError, AllocFailed, Global};
+use std::marker::Model;
+use thiserror::Error;
+
+/// Why a choice isn't taken.
+#[derive(Clone, Copy, Debug, PartialEq, Eq, Error)]
+pub enum TakeFault {
+    #[error("not enabled")]
+    NotEnabled,
+    #[error("out of memory")]
+    NoMemory,
+}
+
+impl From<AllocError> for TakeFault {
+    ghost use Rattle.std.specs.Prelude.{◌≡◌};
+    ghost use Rattle.actor_net.specs.declared.world.TakeFault.TheVariants.{NoMemory};
+
+    ghost from_gives = { λ _ e. e ≡ NoMemory };
+
+    fn from(_fault: AllocError) -> Self {
+        TakeFault::NoMemory
+    }
+}
+
+/// All that a world holds, each list from its front. Of n nodes the link from s to r stands at place s * n + r.
+#[derive(Drop)]
+pub struct Parts<A: Actor> {
+    pub nodes: Sequence<A>,
+    pub links: Sequence<Sequence<A::Message>>,
+    pub input: Sequence<A::Message>,
+    pub log: Sequence<A::Note>,
+}
+
+/// Nodes, the links between them, the input and the log.
+#[derive(Drop)]
+pub struct World<A: Actor> {
+    nodes: Vec<A>,
+    links: Vec<Link<A::Message>>,
+    input: Link<A::Message>,
+    log: Vec<A::Note>,
+    outbox: Outbox<A::Message, A::Note>,
+}
+
+impl<A: Actor> Model for World<A> {
+    ghost use Rattle.actor_net.specs.Network.{Network, IsWorld};
+
+    ghost Value = { Network A A.Message A.Note };
+
+    ghost view = { λ w. record { nodes = w.nodes.items; links = w.links.items; input = w.input; log = w.log.items } };
+
+    ghost invariant = { λ w. IsWorld (record { nodes = w.nodes.items; links = w.links.items; input = w.input; log = w.log.items }) };
+}
+
+impl<A: Actor> World<A> {
+    ghost use Rattle.actor_net.specs.Opening.{opening, world_of};
+
+    /// The world at its start: nothing on a link and nothing noted.
+    pub fn start(alloc: Global, nodes: Vec<A>, items: Vec<A::Message>) -> Result<World<A>, NoMemory>
+        requires { (0 < length nodes.items) × (length nodes.items < 256) }
+        ensures { IfOk result (λ w. w ≡ opening nodes.items items.items) }
+    {
+        let links = empty_links(alloc, nodes.len() * nodes.len())?;
+        Ok(World {
+            nodes,
+            links,
+            input: Link::from_vec(items),
+            log: Vec::new(alloc),
+            outbox: Outbox::open(alloc),
+        })
+    }
+
+    /// The world of these parts.
+    pub fn from_parts(alloc: Global, parts: Parts<A>) -> Result<World<A>, NoMemory>
+        requires { IsWorld (world_of parts) }
+        ensures { IfOk result (λ w. w ≡ world_of parts) }
+    {
+        let links = links_of(alloc, parts.links)?;
+        Ok(World {
+            nodes: parts.nodes.into_vec(),
+            links,
+            input: Link::from_vec(parts.input.into_vec()),
+            log: parts.log.into_vec(),
+            outbox: Outbox::open(alloc),
+        })
+    }
+
+    /// All that the world holds. After want of memory it is dropped.
+    pub fn parts(self) -> Result<Parts<A>, NoMemory>
+        ensures parts { IfOk result (λ parts. world_of parts ≡ self) }
+        ensures world { IsWorld self }
+    {
+        let links = lists_of(self.links)?;
+        Ok(Parts {
+            nodes: Sequence::from_vec(self.nodes),
+            links,
+            input: Sequence::from_vec(self.input.into_vec()),
+            log: Sequence::from_vec(self.log),
+        })
+    }
+
+    /// The nodes.
+    pub fn nodes(&self) -> &[A]
+        ensures { result.now ≡ self.now.nodes }
+    {
+        self.nodes.as_slice()
+    }
+
+    /// The notes, in the order in which they were made.
+    pub fn log(&self) -> &[A::Note]
+        ensures { result.now ≡ self.now.log }
+    {
+        self.log.as_slice()
+    }
+
+    /// Whether a choice can be taken.
+    pub fn enabled(&self, choice: Choice) -> bool
+        ensures { result ≡ is_enabled A.is_ready self.now choice }
+    {
+        if choice.is_input() {
+            return match self.input.first() {
+                Some(item) => self.nodes[0].ready(item),
+                None => false,
+            };
+        }
+        let nodes = self.nodes.len();
+        if (choice.node as usize) < nodes && (choice.port as usize) < nodes {
+            !self.links[choice.place(nodes)].is_empty()
+        } else {
+            false
+        }
+    }
+
+    /// How many choices are enabled.
+    pub(crate) fn count_enabled(&self) -> usize
+        ensures { result ≡ length (enabled_choices A.is_ready self.now) }
+    {
+        let nodes = self.nodes.len() as u8;
+        let mut count = 0;
+        for node in 0..nodes {
+            for port in 0..nodes {
+                if self.enabled(Choice { node, port }) {
+                    count += 1;
+                }
+            }
+        }
+        count
+    }
+
+    /// The enabled choice at a place from 0, in order of (node, port).
+    pub(crate) fn nth_enabled(&self, place: usize) -> Option<Choice>
+        ensures { result ≡ slice_get (enabled_choices A.is_ready self.now) place }
+    {
+        let nodes = self.nodes.len() as u8;
+        let mut before = 0;
+        for node in 0..nodes {
+            for port in 0..nodes {
+                let choice = Choice { node, port };
+                if self.enabled(choice) {
+                    if before == place {
+                        return Some(choice);
+                    }
+                    before += 1;
+                }
+            }
+        }
+        None
+    }
+
+    /// The last enabled choice, in order of (node, port).
+    pub(crate) fn last_enabled(&self) -> Option<Choice>
+        ensures { result ≡ slice_get (enabled_choices A.is_ready self.now) (length (enabled_choices A.is_ready self.now) - 1) }
+    {
+        let nodes = self.nodes.len() as u8;
+        for node in (0..nodes).rev() {
+            for port in (0..nodes).rev() {
+                let choice = Choice { node, port };
+                if self.enabled(choice) {
+                    return Some(choice);
+                }
+            }
+        }
+        None
+    }
+
+    /// Takes one step. After want of memory the world is only taken apart.
+    pub fn take(&mut self, choice: Choice) -> Result<(), TakeFault>
+        ensures ok { OnOk result (self.new ≡ taken A.stepped self.old choice) }
+        ensures enabled { OnOk result (is_enabled A.is_ready self.old choice ≡ true) }
+        ensures not_enabled { IsErrOf result TakeFault.NotEnabled → (is_enabled A.is_ready self.old choice ≡ false) × (self.new ≡ self.old) }
+    {
+        if !self.enabled(choice) {
+            return Err(TakeFault::NotEnabled);
+        }
+        let message = self.take_first(choice);
+        self.step(choice, message)?;
+        Ok(())
+    }
+
+    fn take_first(&mut self, choice: Choice) -> A::Message
+        requires { is_enabled A.is_ready self.old choice ≡ true }
+        ensures first { waiting self.old choice ≡ result ∷ drop 1 (waiting self.old choice) }
+        ensures rest { self.new ≡ without_first self.old choice }
+    {
+        let first = if choice.is_input() {
+            self.input.pop()
+        } else {
+            let place = choice.place(self.nodes.len());
+            self.links[place].pop()
+        };
+        match first {
+            Some(message) => message,
+            None => unreachable!(),
+        }
+    }
+
+    fn step(&mut self, choice: Choice, message: A::Message) -> Result<(), NoMemory>
+        requires { choice.node < length self.old.nodes }
+        ensures { OnOk result ((node : A) → slice_get self.old.nodes choice.node ≡ Some node → self.new ≡ after self.old choice.node (A.stepped node choice.port message)) }
+    {
+        self.outbox.clear();
+        self.nodes[choice.node as usize].step(choice.port, message, &mut self.outbox)?;
+        deliver(
+            self.nodes.len(),
+            choice.node,
+            &mut self.outbox,
+            &mut self.links,
+        )?;
+        self.outbox.move_notes(&mut self.log)?;
+        Ok(())
+    }
+
+    /// Whether nothing is left to do: no input, no message on a link, and each node has ended.
+    pub fn complete(&self) -> bool
+        ensures { result ≡ is_done A.has_ended self.now }
+    {
+        self.input.is_empty()
+            && all_empty(self.links.as_slice())
+            && all_ended(self.nodes.as_slice())
+    }
+}
+
+fn empty_links<M: Drop>(alloc: Global, count: usize) -> Result<Vec<Link<M>>, NoMemory>
+    ensures { IfOk result (λ links. links.items ≡ replicate count []) }
+{
+    let mut links = Vec::with_capacity(alloc, count)?;
+    for _place in 0..count {
+        links.push(Link::open(alloc))?;
+    }
+    Ok(links)
+}
+
+fn links_of<M: Drop>(alloc: Global, lists: Sequence<Sequence<M>>) -> Result<Vec<Link<M>>, NoMemory>
+    ensures { IfOk result (λ links. links.items ≡ lists) }
+{
+    let lists = lists.into_vec();
+    let mut links = Vec::with_capacity(alloc, lists.len())?;
+    for list in lists {
+        links.push(Link::from_vec(list.into_vec()))?;
+    }
+    Ok(links)
+}
+
+fn lists_of<M: Drop>(links: Vec<Link<M>>) -> Result<Sequence<Sequence<M>>, NoMemory>
+    ensures { IfOk result (λ lists. lists ≡ links.items) }
+{
+    let mut lists = Vec::with_capacity(*links.allocator(), links.len())?;
+    for link in links {
+        lists.push(Sequence::from_vec(link.into_vec()))?;
+    }
+    Ok(Sequence::from_vec(lists))
+}
+
+fn all_empty<M>(links: &[Link<M>]) -> bool
+    ensures { result ≡ list_all (λ l. length l == 0) links.now }
+{
+    links.iter().all(|link| link.is_empty())
+}
+
+fn all_ended<A: Actor>(nodes: &[A]) -> bool
+    ensures { result ≡ list_all A.has_ended nodes.now }
+{
+    nodes.iter().all(|node| node.ended())
+}
+
+/// Moves what was sent to the ends of its links. What no node takes is dropped.
+fn deliver<M: Drop, N>(
+    nodes: usize,
+    from: u8,
+    outbox: &mut Outbox<M, N>,
+    links: &mut Vec<Link<M>>,
+) -> Result<(), NoMemory>
+    requires nodes { (from < nodes) × (nodes < 256) }
+    requires square { length links.old.items ≡ nodes * nodes }
+    ensures links { OnOk result (links.new.items ≡ delivered nodes from outbox.old.0 links.old.items) }
+    ensures outbox { OnOk result (outbox.new ≡ ([], outbox.old.1)) }
+    ensures count { length links.new.items ≡ nodes * nodes }
+    ensures loop_link { slice_index_or links.new.items 0 [] ≡ slice_index_or links.old.items 0 [] }
+    ensures notes { outbox.new.1 ≡ outbox.old.1 }
+{
+    while let Some((to, message)) = outbox.next_sent() {
+        let link = Choice {
+            node: to,
+            port: from,
+        };
+        if (to as usize) < nodes && !link.is_input() {
+            links[link.place(nodes)].push(message)?;
+        }
+    }
+    Ok(())
+}
