@@ -4,7 +4,7 @@ use Rattle.std.proofs.lemmas.Bool.Decides.{Decides-eqb}
 use Rattle.std.proofs.lemmas.List.{get_or_default, get_or-set_same, get_or-set_other, set-get_or}
 use Rattle.actor_net.specs.declared.stamped.Stamped.{Stamped}
 use Rattle.actor_threads.specs.Ways.{Incoming, Draws, IsBlocked, last_clock}
-use Rattle.actor_threads.specs.Work.{Shown, in_at, is_input_of, DrawsAt, Idled, Found, IsQuietAt}
+use Rattle.actor_threads.specs.Work.{Shown, no_in, in_at, is_input_of, DrawsAt, Idled, Found, IsQuietAt}
 use Rattle.actor_threads.proofs.Drawing.{drew_nothing, drew_first}
 
 -- a port of a node is the input only where both are 0
@@ -24,19 +24,19 @@ module _ {A M N : Type 0} (ready : A → M → Bool) (w : Shown A M N) (port : �
   now = record w { ins = slice_set w.ins port way }
 
   here : old ≡ in_at w.ins port
-  here = is ∙ get_or_default w.ins port old _ within
+  here = is ∙ get_or_default w.ins port old no_in within
 
   unchanged : way ≡ old → now ≡ w
-  unchanged e = ap (λ (l : List (Incoming M)). record w { ins = l }) (ap (λ (v : Incoming M). slice_set w.ins port v) (e ∙ here) ∙ set-get_or w.ins port _)
+  unchanged e = ap (λ (l : List (Incoming M)). record w { ins = l }) (ap (λ (v : Incoming M). slice_set w.ins port v) (e ∙ here) ∙ set-get_or w.ins port no_in)
 
   drawn : (used : List (Stamped M)) → DrawsAt (is_input_of w.number port) old way used
       → (p : ℕ) → p < length w.ins → DrawsAt (is_input_of w.number p) (in_at w.ins p) (in_at (slice_set w.ins port way) p) (if port == p then used else [])
   drawn used d p inside =
       let at_port : DrawsAt (is_input_of w.number port) (in_at w.ins port) (in_at (slice_set w.ins port way) port) used =
-          subst (λ (v : Incoming M × Incoming M). DrawsAt (is_input_of w.number port) v.0 v.1 used) (λ i. (here i, sym (get_or-set_same w.ins port way _ within) i)) d in
+          subst (λ (v : Incoming M × Incoming M). DrawsAt (is_input_of w.number port) v.0 v.1 used) (λ i. (here i, sym (get_or-set_same w.ins port way no_in within) i)) d in
       elim (port == p) as (λ b. (port == p) ≡ b → DrawsAt (is_input_of w.number p) (in_at w.ins p) (in_at (slice_set w.ins port way) p) (if b then used else [])) [
         true ↦ λ t. subst (λ q. DrawsAt (is_input_of w.number q) (in_at w.ins q) (in_at (slice_set w.ins port way) q) used) ((Decides-eqb port p).0 t) at_port
-        | false ↦ λ f. subst (λ (v : Incoming M). DrawsAt (is_input_of w.number p) (in_at w.ins p) v []) (sym (get_or-set_other w.ins port p way _ (λ e. true≢false (sym ((Decides-eqb port p).1 (sym e)) ∙ f)))) (still _ _)
+        | false ↦ λ f. subst (λ (v : Incoming M). DrawsAt (is_input_of w.number p) (in_at w.ins p) v []) (sym (get_or-set_other w.ins port p way no_in (λ e. true≢false (sym ((Decides-eqb port p).1 (sym e)) ∙ f)))) (still _ _)
       ] refl
 
   -- the next of what is kept
@@ -81,12 +81,12 @@ module _ {A M N : Type 0} (ready : A → M → Bool) (w : Shown A M N) (port : �
       let same : record { clock = 0; message = item } ≡ x = ap (λ (l : List (Stamped M)). slice_index_or l 0 x) (sym first ∙ ap (λ (v : Incoming M). v.kept) here ∙ e) in
       inr (inr (input, ap (λ (y : Stamped M). ready w.node y.message) (sym same) ∙ unready))
 
-  -- the node is ready for the first item of the input
-  pub ready_for : (item : M) (more : List (Stamped M)) → old.kept ≡ record { clock = 0; message = item } ∷ more → ready w.node item ≡ true
-      → (x : Stamped M) (rest : List (Stamped M)) → old.kept ≡ x ∷ rest → w.number ≡ 0 → port ≡ 0 → ready w.node x.message ≡ true
-  ready_for item more first is_so x rest e n p =
-      let same : record { clock = 0; message = item } ≡ x = ap (λ (l : List (Stamped M)). slice_index_or l 0 x) (sym first ∙ e) in
-      ap (λ (y : Stamped M). ready w.node y.message) (sym same) ∙ is_so
+-- the node is ready for the first of what is kept
+pub ready_first : {A M : Type 0} (ready : A → M → Bool) (node : A) (item : M) (kept more : List (Stamped M)) → kept ≡ record { clock = 0; message = item } ∷ more → ready node item ≡ true
+    → (x : Stamped M) (rest : List (Stamped M)) → kept ≡ x ∷ rest → ready node x.message ≡ true
+ready_first ready node item kept more first is_so x rest e =
+    let same : record { clock = 0; message = item } ≡ x = ap (λ (l : List (Stamped _)). slice_index_or l 0 x) (sym first ∙ e) in
+    ap (λ (y : Stamped _). ready node y.message) (sym same) ∙ is_so
 
 -- the same, of a worker that is seen by its fields
 module _ {A M N : Type 0} (ready : A → M → Bool) {before w : Shown A M N} (e : before ≡ w) (port : ℕ) (old way : Incoming M) (is : old ≡ slice_index_or before.ins port old) (within : port < length w.ins) where

@@ -1,4 +1,8 @@
-pub mod Drawing
 pub mod Cutting
+pub mod Drawing
 pub mod Finding
+pub mod Opening
+pub mod Rows
+pub mod Snoc
 pub mod Stepping
+pub mod Working

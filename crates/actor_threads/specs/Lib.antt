@@ -2,3 +2,4 @@ pub mod Ways
 pub mod Inside
 pub mod Noted
 pub mod Work
+pub mod Table

@@ -1,11 +1,12 @@
 -- What a worker does in a round, this project's own. A worker is one node with a way in from each node and a way out to each.
 -- Its steps are the events of a history: each has a clock, a port, and the stamped message that it took.
-use Rattle.std.specs.Prelude.{◌≡◌, ◌==◌, ◌&&◌, ◌<◌, ◌≤◌, ◌⊎◌, ℕ, ◌+◌, Bool, true, false, if◌then◌else◌, List, [], ◌∷◌, ◌++◌, length, slice_index_or, max}
+use Rattle.std.specs.Prelude.{◌≡◌, ◌==◌, ◌&&◌, ◌<◌, ◌≤◌, ◌⊎◌, ℕ, ◌+◌, Bool, true, false, if◌then◌else◌, List, [], ◌∷◌, ◌++◌, length, slice_index_or, map, max}
 use Rattle.atomic_table.specs.Seated.{TableId}
 use Rattle.actor_net.specs.declared.stamped.Stamped.{Stamped}
 use Rattle.actor_net.specs.Network.{Stepped, reaches}
-use Rattle.actor_net.specs.Histories.{Event, noted, does, node_after, notes_of, taken_at, stamped_for, put_between, PortsBelow, WasReady}
-use Rattle.actor_threads.specs.Ways.{Incoming, Outgoing, Draws, Sends, last_clock}
+use Rattle.actor_net.specs.Histories.{Event, noted, does, node_after, notes_of, taken_at, sent_for, stamped, put_between, PortsBelow, WasReady}
+use Rattle.fifo_link.specs.Ends.{End}
+use Rattle.actor_threads.specs.Ways.{Incoming, Outgoing, Draws, Sends, begun, last_clock}
 
 -- a worker: its node's number, the node, its clock, its steps, each a clock and a port, what each of them noted, and its ways
 pub record Shown (A M N : Type 0) : Type 0 where
@@ -26,13 +27,36 @@ abbrev pub is_input_of : ℕ → ℕ → Bool
 is_input_of number port = (number == 0) && (port == 0)
 
 module _ {M : Type 0} where
+  -- a way in from no node
+  abbrev pub no_in : Incoming M
+  no_in = record { link = no_link; done = []; kept = [] }
+
   -- the way in from a node
   abbrev pub in_at : List (Incoming M) → ℕ → Incoming M
-  in_at ins port = slice_index_or ins port (record { link = no_link; done = []; kept = [] })
+  in_at ins port = slice_index_or ins port no_in
+
+  -- a way out to no node
+  abbrev pub no_out : Outgoing M
+  no_out = record { link = no_link; all = [] }
 
   -- the way out to a node
   abbrev pub out_at : List (Outgoing M) → ℕ → Outgoing M
-  out_at outs to = slice_index_or outs to (record { link = no_link; all = [] })
+  out_at outs to = slice_index_or outs to no_out
+
+  -- the ways in, with what is kept from before the round
+  abbrev pub all_in : List (End M) → List (List M) → List (Incoming M)
+  all_in (take ∷ takes) (messages ∷ kept) = record { link = take.link; done = take.done; kept = begun messages } ∷ all_in takes kept
+  all_in (take ∷ takes) [] = []
+  all_in [] kept = []
+
+  -- a way out, with nothing waiting
+  abbrev pub all_out : End M → Outgoing M
+  all_out send = record { link = send.link; all = send.done }
+
+  -- what waits at each port before the round: at node 0 the input stands first
+  abbrev pub waits : ℕ → List M → List (List M) → List (List M)
+  waits number input [] = []
+  waits number input (first ∷ rest) = (if number == 0 then input else first) ∷ rest
 
   -- the clock of a step: one more than the greater of the node's clock and the stamp of what is taken
   abbrev pub tick : ℕ → Stamped M → ℕ
@@ -50,7 +74,7 @@ module _ {M : Type 0} where
 
   -- what a step of one node puts on its way to another, of n nodes: what doesn't arrive is dropped
   abbrev pub put_for : ℕ → ℕ → ℕ → ℕ → List (ℕ × M) → List (Stamped M)
-  put_for n from to clock sends = if reaches n from to then stamped_for clock to sends else []
+  put_for n from to clock sends = if reaches n from to then stamped clock (sent_for to sends) else []
 
   -- what was drawn from a port; from the input only what was kept
   pub record DrawsAt (input : Bool) (old new : Incoming M) (used : List (Stamped M)) : Type 0 where
@@ -58,6 +82,10 @@ module _ {M : Type 0} where
     pub closed : input ≡ true → new.done ≡ old.done
 
 module _ {A M N : Type 0} where
+  -- a worker without steps
+  abbrev pub opened : ℕ → A → List (List M) → List (End M) → List (End M) → Shown A M N
+  opened number node kept takes sends = record { number = number; node = node; clock = 0; steps = []; notes = []; ins = all_in takes kept; outs = map all_out sends }
+
   -- nothing was done: what was taken is kept
   pub record Idled (old new : Shown A M N) : Type 0 where
     pub rest : new ≡ record old { ins = new.ins }

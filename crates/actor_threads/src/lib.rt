@@ -2,6 +2,7 @@
 #![tactic(auto)]
 
 pub mod gate;
+mod links;
 mod notes;
 pub mod ways;
 pub mod worker;

@@ -1,5 +1,7 @@
 //! A worker's way in from one node, and its way out to one.
-ghost use Rattle.std.specs.Prelude.{◌≡◌, ◌<◌, ◌^◌, ◌-◌, List, [], ◌∷◌, ◌++◌, OnOk, IfNone, MatchOption, drop, false};
+ghost use Rattle.std.specs.Prelude.{◌≡◌, ◌<◌, ◌^◌, ◌-◌, List, [], ◌∷◌, ◌++◌, OnOk, IfOk, IfNone, MatchOption, drop, false};
+ghost use Rattle.std.specs.Option.{option_to_list};
+ghost use Rattle.actor_net.specs.Histories.{messages};
 ghost use Rattle.actor_threads.specs.Ways.{Draws, IsBlocked, begun};
 ghost use Rattle.actor_net.specs.declared.stamped.Stamped.{Stamped};
 
@@ -94,6 +96,29 @@ impl<M: Drop> WayIn<M> {
     }
 }
 
+impl<M: Drop> WayIn<M> {
+    /// The take end, and the messages that are kept.
+    pub fn parts(self) -> Result<(TakeEnd<M>, VecDeque<M>), NoMemory>
+        ensures end { IfOk result (λ p. (p.0.link ≡ self.link) × (p.0.done ≡ self.done)) }
+        ensures kept { IfOk result (λ p. p.1.items ≡ messages self.kept) }
+    {
+        let WayIn { end, held, kept } = self;
+        let kept = with_held(held, kept)?;
+        Ok((end, kept))
+    }
+}
+
+// What is held stands before what is kept.
+fn with_held<M: Drop>(held: Option<Stamped<M>>, mut kept: VecDeque<M>) -> Result<VecDeque<M>, NoMemory>
+    ensures { IfOk result (λ all. all.items ≡ messages (option_to_list held ++ begun kept.items)) }
+{
+    let Some(first) = held else {
+        return Ok(kept);
+    };
+    kept.push_front(first.message)?;
+    Ok(kept)
+}
+
 fn front<M>(kept: &VecDeque<M>) -> Option<&M>
     ensures { MatchOption result (kept.now.items ≡ []) (λ x. kept.now.items ≡ x.now ∷ drop 1 kept.now.items) }
 {
@@ -135,6 +160,14 @@ impl<M: Drop> WayOut<M> {
     {
         self.waiting.push_back(message)?;
         Ok(())
+    }
+
+    /// The send end, and what waits.
+    pub fn parts(self) -> (SendEnd<M>, Vec<Stamped<M>>)
+        ensures end { result.0.link ≡ self.link }
+        ensures all { self.all ≡ result.0.done ++ result.1.items }
+    {
+        (self.end, self.waiting.into_vec())
     }
 
     /// Sends what waits, as far as the link has room.

@@ -1,14 +1,16 @@
 //! One node in a round, with a way in from each node and a way out to each.
-ghost use Rattle.std.specs.Prelude.{◌≡◌, ◌<◌, ◌+◌, ℕ, false, length, max, OnOk, IfNone, IfSome, MatchOption};
+ghost use Rattle.std.specs.Prelude.{◌≡◌, ◌<◌, ◌+◌, ◌≢◌, ℕ, false, [], length, max, map, slice_index_or, IfOk, OnOk, IfNone, IfSome, MatchOption};
 ghost use Rattle.actor_threads.specs.Ways.{Sends, last_clock};
-ghost use Rattle.actor_threads.specs.Work.{is_input_of, out_at, put_for, Idled, Found, Acted, IsQuiet, IsQuietAt, Worked};
+ghost use Rattle.actor_threads.specs.Work.{is_input_of, opened, waits, all_in, all_out, out_at, put_for, Idled, Found, Acted, IsQuiet, IsQuietAt, Worked};
 
 use crate::gate::Gate;
 use crate::notes::Notes;
 use crate::ways::{WayIn, WayOut};
 use actor_net::{Actor, Outbox, Stamped};
+use fifo_link::{SendEnd, TakeEnd};
 use flow_filter::NoMemory;
 use std::alloc::Global;
+use std::collections::VecDeque;
 use std::marker::Model;
 use std::sync::Wait;
 use std::thread;
@@ -42,7 +44,65 @@ impl<A: Actor> Model for Worker<A> {
     ghost invariant = { λ w. (length w.ins.items < 256) × (length w.outs.items ≡ length w.ins.items) };
 }
 
+/// A worker taken apart.
+#[derive(Drop)]
+pub struct Apart<A: Actor> {
+    pub number: u8,
+    pub node: A,
+    pub steps: Vec<(u64, u8)>,
+    pub notes: Notes<A::Note>,
+    pub ins: Vec<WayIn<A::Message>>,
+    pub outs: Vec<WayOut<A::Message>>,
+}
+
 impl<A: Actor> Worker<A> {
+    /// A worker without steps. `kept` has what stood on the link from each node before the round, and `input` is the input,
+    /// which is that of node 0.
+    pub fn open(
+        alloc: Global,
+        number: u8,
+        node: A,
+        input: Vec<A::Message>,
+        kept: Vec<Vec<A::Message>>,
+        takes: Vec<TakeEnd<A::Message>>,
+        sends: Vec<SendEnd<A::Message>>,
+    ) -> Result<Worker<A>, NoMemory>
+        requires lengths { (length kept.items ≡ length takes.items) × (length sends.items ≡ length takes.items) }
+        requires few { length takes.items < 256 }
+        requires node { number < length takes.items }
+        requires input { (number ≡ 0 → slice_index_or (map (λ v. v.items) kept.items) 0 [] ≡ []) × (number ≢ 0 → input.items ≡ []) }
+        ensures { IfOk result (λ w. w ≡ opened number node (waits number input.items (map (λ v. v.items) kept.items)) takes.items sends.items) }
+    {
+        let kept = with_input(number, input, VecDeque::from_vec(kept))?;
+        let ins = ways_in(alloc, VecDeque::from_vec(takes), kept)?;
+        let outs = ways_out(alloc, sends)?;
+        Ok(Worker {
+            number,
+            node,
+            clock: 0,
+            steps: Vec::new(alloc),
+            notes: Notes::open(alloc),
+            ins,
+            outs,
+            outbox: Outbox::open(alloc),
+            turn: 0,
+        })
+    }
+
+    /// All that the worker holds.
+    pub fn parts(self) -> Apart<A>
+        ensures { self ≡ record { number = result.number; node = result.node; clock = self.clock; steps = result.steps.items; notes = result.notes; ins = result.ins.items; outs = result.outs.items } }
+    {
+        Apart {
+            number: self.number,
+            node: self.node,
+            steps: self.steps,
+            notes: self.notes,
+            ins: self.ins,
+            outs: self.outs,
+        }
+    }
+
     /// Does the steps of one round. The round ends after [`IDLE_LOOKS`] looks in a row that found no step. After want of
     /// memory the worker is only taken apart.
     pub fn work<R: Wait, G: Gate>(&mut self, rt: &R, gate: &G) -> Result<(), NoMemory>
@@ -61,13 +121,13 @@ impl<A: Actor> Worker<A> {
                 None => {
                     idle += 1;
                     if idle >= IDLE_LOOKS {
-                        break;
+                        return Ok(());
                     }
                     thread::yield_now();
                 }
             }
         }
-        Ok(())
+        unreachable!()
     }
 
     /// The steps of this round, each a clock and a port.
@@ -161,15 +221,24 @@ impl<A: Actor> Worker<A> {
     fn look_taken<R: Wait>(&mut self, rt: &R) -> Option<(u8, Stamped<A::Message>)>
         ensures { MatchOption result (Idled self.old self.new) (λ f. Found A.is_ready self.old self.new f.0 f.1) }
     {
-        let ports = self.ins.len();
-        for _ in 0..ports {
-            let port = if self.turn < ports { self.turn } else { 0 };
-            self.turn = port + 1;
+        for _ in 0..self.ins.len() {
+            let port = self.next_turn();
             if let Some(message) = self.next_taken(rt, port) {
                 return Some((port as u8, message));
             }
         }
         None
+    }
+
+    // The port at which the next look begins.
+    fn next_turn(&mut self) -> usize
+        requires { 0 < length self.old.ins }
+        ensures port { result < length self.old.ins }
+        ensures same { self.new ≡ self.old }
+    {
+        let port = if self.turn < self.ins.len() { self.turn } else { 0 };
+        self.turn = port + 1;
+        port
     }
 
     // The next message from the take end of a port. The input has none.
@@ -205,6 +274,52 @@ impl<A: Actor> Worker<A> {
         put_all(self.number, clock, &mut self.outbox, &mut self.outs)?;
         Ok(())
     }
+}
+
+// What waits at each port: at node 0 the input stands first.
+fn with_input<M: Drop>(
+    number: u8,
+    input: Vec<M>,
+    mut kept: VecDeque<Vec<M>>,
+) -> Result<VecDeque<Vec<M>>, NoMemory>
+    requires { 0 < length kept.items }
+    ensures lists { IfOk result (λ lists. map (λ v. v.items) lists.items ≡ waits number input.items (map (λ v. v.items) kept.items)) }
+    ensures count { IfOk result (λ lists. length lists.items ≡ length kept.items) }
+{
+    if number != 0 {
+        return Ok(kept);
+    }
+    let _first = kept.pop_front();
+    kept.push_front(input)?;
+    Ok(kept)
+}
+
+fn ways_in<M: Drop>(
+    alloc: Global,
+    mut takes: VecDeque<TakeEnd<M>>,
+    mut kept: VecDeque<Vec<M>>,
+) -> Result<Vec<WayIn<M>>, NoMemory>
+    requires { length kept.items ≡ length takes.items }
+    ensures { IfOk result (λ ways. ways.items ≡ all_in takes.items (map (λ v. v.items) kept.items)) }
+{
+    let mut ways = Vec::with_capacity(alloc, takes.len())?;
+    while let Some(take) = takes.pop_front() {
+        let Some(messages) = kept.pop_front() else {
+            unreachable!()
+        };
+        ways.push(WayIn::open(take, messages))?;
+    }
+    Ok(ways)
+}
+
+fn ways_out<M: Drop>(alloc: Global, sends: Vec<SendEnd<M>>) -> Result<Vec<WayOut<M>>, NoMemory>
+    ensures { IfOk result (λ ways. ways.items ≡ map all_out sends.items) }
+{
+    let mut ways = Vec::with_capacity(alloc, sends.len())?;
+    for send in sends {
+        ways.push(WayOut::open(alloc, send))?;
+    }
+    Ok(ways)
 }
 
 fn next_clock(clock: u64, stamp: u64) -> u64
