@@ -1,5 +1,12 @@
 pub mod Enabled
+pub mod Follow
+pub mod Followed
+pub mod InOrder
 pub mod Links
+pub mod Merged
+pub mod OneStep
 pub mod Runs
 pub mod Scheduling
 pub mod Steps
+pub mod Taken
+pub mod Waiting

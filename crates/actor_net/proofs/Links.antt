@@ -7,6 +7,7 @@ use Rattle.std.proofs.lemmas.Nat.{same_from_place}
 use Rattle.std.proofs.lemmas.List.{get_or-set_same, get_or-set_other, length-set}
 use Rattle.actor_net.specs.Network.{put_on, delivered, reaches}
 use Rattle.actor_net.specs.Histories.{sent_for}
+use Rattle.actor_net.proofs.Steps.{loop_stays}
 
 -- what one node's sends put on a link: those for its receiver, where it is that node's and the receiver is reached
 abbrev pub put_there : {M : Type 0} → ℕ → ℕ → ℕ → ℕ → List (ℕ × M) → List M
@@ -26,14 +27,14 @@ length-delivered n from (x ∷ xs) ls = length-delivered n from xs (put_on n fro
 pub inside : (n s r : ℕ) → s < n → r < n → s * n + r < n * n
 inside n s r hs hr = grind (arith, common_steps, rows)
 
-other_place : (n from to s r : ℕ) → to < n → r < n → (s ≡ from → to ≡ r → ⊥) → s * n + r ≢ from * n + to
+pub other_place : (n from to s r : ℕ) → to < n → r < n → (s ≡ from → to ≡ r → ⊥) → s * n + r ≢ from * n + to
 other_place n from to s r ht hr other same = let places = same_from_place s r from to n hr ht same in other places.0 (sym places.1)
 
 within : (n from to : ℕ) → reaches n from to ≡ true → to < n
 within n from to is = grind (arith, nat_tests)
 
 -- either way nothing
-neither : {X : Type 0} (b : Bool) → ◌≡◌ {A = List X} (if b then [] else []) []
+pub neither : {X : Type 0} (b : Bool) → ◌≡◌ {A = List X} (if b then [] else []) []
 neither true = refl
 neither false = refl
 
@@ -95,3 +96,17 @@ link_after_sends n from (x ∷ xs) ls s r square hf hr =
     ∙ ap (λ ys. ys ++ put_there n from s r xs) (put_one n from x ls s r square hf hr)
     ∙ append_assoc (get_or ls (s * n + r) []) (put_there n from s r (x ∷ [])) (put_there n from s r xs)
     ∙ ap (λ ys. get_or ls (s * n + r) [] ++ ys) (sym (put_there_more n from s r x xs))
+
+-- the link of node 0 to itself stays as it was
+loop_after_one : {M : Type 0} (n from : ℕ) (x : ℕ × M) (ls : List (List M)) → 0 < n → get_or (put_on n from x ls) 0 [] ≡ get_or ls 0 []
+loop_after_one n from x ls some =
+    elim (reaches n from x.0) as (λ b. reaches n from x.0 ≡ b → get_or (if b then set ls (from * n + x.0) (get_or ls (from * n + x.0) [] ++ x.1 ∷ []) else ls) 0 [] ≡ get_or ls 0 []) [
+      true ↦ λ is.
+        let other : (x.0 == 0) && (from == 0) ≡ false = grind (arith, nat_tests) in
+        loop_stays n from x.0 ls (get_or ls (from * n + x.0) [] ++ x.1 ∷ []) some other
+    | false ↦ λ _. refl
+    ] refl
+
+pub loop_after_sends : {M : Type 0} (n from : ℕ) (sends : List (ℕ × M)) (ls : List (List M)) → 0 < n → get_or (delivered n from sends ls) 0 [] ≡ get_or ls 0 []
+loop_after_sends n from [] ls some = refl
+loop_after_sends n from (x ∷ xs) ls some = loop_after_sends n from xs (put_on n from x ls) some ∙ loop_after_one n from x ls some
