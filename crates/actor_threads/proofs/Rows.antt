@@ -1,7 +1,7 @@
 -- Rows of links, one link more at a time.
-use Rattle.std.proofs.Common.{◌≡◌, ◌≢◌, ◌==◌, ◌<◌, ◌≤◌, ℕ, zero, suc, ◌+◌, Bool, true, false, true≢false, List, [], ◌∷◌, ◌++◌, length, slice_index_or, slice_set, drop, sym, ◌∙◌, ap, refl, subst, arith, length-append, length-set}
+use Rattle.std.proofs.Common.{◌≡◌, ◌≢◌, ◌==◌, ◌<◌, ◌≤◌, ℕ, zero, suc, ◌+◌, Bool, true, false, true≢false, List, [], ◌∷◌, ◌++◌, length, slice_index_or, slice_set, drop, map, sym, ◌∙◌, ap, refl, subst, arith, length-append, length-set}
 use Rattle.std.proofs.lemmas.Bool.Decides.{Decides-eqb}
-use Rattle.std.proofs.lemmas.List.{get_or-set_same, get_or-set_other, get_or_append_left}
+use Rattle.std.proofs.lemmas.List.{get_or-set_same, get_or-set_other, get_or_append_left, map-set, get_or-map}
 use Rattle.std.proofs.Math.Seq.{get_or-append_seam}
 use Rattle.fifo_link.specs.Ends.{End}
 use Rattle.actor_threads.specs.Ways.{Incoming, Outgoing}
@@ -96,3 +96,11 @@ module _ {M : Type 0} where
         same = λ r above. get_or-set_other new k r rest [] (λ e. omega (arith, e)) ∙ o.same r (omega arith);
         kept = λ i i_in. get_or_append_left after (list ∷ []) [] i (omega (arith, o.count)) ∙ o.kept i i_in;
       }
+
+-- one row of a table changes
+pub row_set : {V X : Type 0} (f : V → List X) (table : List V) (k : ℕ) (new : V) (row : List X) → f new ≡ row → map f (slice_set table k new) ≡ slice_set (map f table) k row
+row_set f table k new row e = map-set f table k new ∙ ap (λ l. slice_set (map f table) k l) e
+
+-- a row that was read
+pub row_read : {V X : Type 0} (f : V → List X) (table : List V) (k : ℕ) (old : V) → old ≡ slice_index_or table k old → k < length table → row_at (map f table) k ≡ f old
+row_read f table k old is h = get_or-map f table k old [] h ∙ ap f (sym is)

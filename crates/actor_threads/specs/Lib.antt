@@ -3,3 +3,4 @@ pub mod Inside
 pub mod Noted
 pub mod Work
 pub mod Table
+pub mod Round
