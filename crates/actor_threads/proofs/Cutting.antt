@@ -6,7 +6,7 @@ use Rattle.std.proofs.Math.Seq.{take-length}
 use Rattle.actor_threads.specs.Noted.{cut}
 
 module _ {N : Type 0} where
-  none : (all : List N) → 0 ≡ length all → all ≡ []
+  pub none : (all : List N) → 0 ≡ length all → all ≡ []
   none [] e = refl
   none (x ∷ xs) e = absurd (omega arith)
 

@@ -1,15 +1,15 @@
 -- Rows of links, one link more at a time.
-use Rattle.std.proofs.Common.{◌≡◌, ◌≢◌, ◌==◌, ◌<◌, ◌≤◌, ℕ, zero, suc, ◌+◌, Bool, true, false, true≢false, List, [], ◌∷◌, ◌++◌, length, slice_index_or, slice_set, drop, map, sym, ◌∙◌, ap, refl, subst, arith, length-append, length-set}
+use Rattle.std.proofs.Common.{◌≡◌, ◌≢◌, ◌==◌, ◌<◌, ◌≤◌, ◌-◌, ℕ, zero, suc, ◌+◌, Bool, true, false, true≢false, List, [], ◌∷◌, ◌++◌, length, slice_index_or, slice_set, drop, map, sym, ◌∙◌, ap, refl, subst, arith, length-append, length-set, length-drop}
 use Rattle.std.proofs.lemmas.Bool.Decides.{Decides-eqb}
-use Rattle.std.proofs.lemmas.List.{get_or-set_same, get_or-set_other, get_or_append_left, map-set, get_or-map}
+use Rattle.std.proofs.lemmas.List.{length-map, get_or-set_same, get_or-set_other, get_or_append_left, map-set, map-append, get_or-map}
 use Rattle.std.proofs.Math.Seq.{get_or-append_seam}
 use Rattle.fifo_link.specs.Ends.{End}
 use Rattle.actor_threads.specs.Ways.{Incoming, Outgoing}
-use Rattle.actor_threads.specs.Work.{out_at}
-use Rattle.actor_threads.specs.Table.{row_at, no_end, one_at, AreFresh, RowOpened, AllOpened, Closed, RowClosed}
+use Rattle.actor_threads.specs.Work.{no_out, out_at}
+use Rattle.actor_threads.specs.Table.{row_at, no_end, one_at, AreFresh, RowOpened, AllOpened, Closed, RowClosed, CanClose}
 
 -- the last of a list that grew
-last_of : {X : Type 0} (xs : List X) (x d : X) (k : ℕ) → length xs ≡ k → slice_index_or (xs ++ x ∷ []) k d ≡ x
+pub last_of : {X : Type 0} (xs : List X) (x d : X) (k : ℕ) → length xs ≡ k → slice_index_or (xs ++ x ∷ []) k d ≡ x
 last_of xs x d k e = subst (λ n. slice_index_or (xs ++ x ∷ []) n d ≡ x) e (get_or-append_seam xs x [] d)
 
 -- the first of what is left
@@ -19,8 +19,8 @@ first_left (suc k) [] x d rest e = absurd (cc)
 first_left (suc k) (y ∷ ys) x d rest e = first_left k ys x d rest e
 
 -- cases on whether two numbers are one
-same_or : (r k : ℕ) (P : Type 0) → (r ≡ k → P) → (r ≢ k → P) → P
-same_or r k P yes other = elim (r == k) as (λ b. (r == k) ≡ b → P) [ true ↦ λ t. yes ((Decides-eqb r k).0 t) | false ↦ λ f. other (λ e. true≢false (sym ((Decides-eqb r k).1 e) ∙ f)) ] refl
+pub same_or : (r k : ℕ) (P : Type 0) → (r ≡ k → P) → (r ≢ k → P) → P
+same_or r k P same other = elim (r == k) as (λ b. (r == k) ≡ b → P) [ true ↦ λ t. same ((Decides-eqb r k).0 t) | false ↦ λ f. other (λ e. true≢false (sym ((Decides-eqb r k).1 e) ∙ f)) ] refl
 
 module _ {M : Type 0} where
   -- no link yet
@@ -104,3 +104,29 @@ row_set f table k new row e = map-set f table k new ∙ ap (λ l. slice_set (map
 -- a row that was read
 pub row_read : {V X : Type 0} (f : V → List X) (table : List V) (k : ℕ) (old : V) → old ≡ slice_index_or table k old → k < length table → row_at (map f table) k ≡ f old
 row_read f table k old is h = get_or-map f table k old [] h ∙ ap f (sym is)
+
+-- one empty row more
+pub none_more : {V X : Type 0} (f : V → List X) (table : List V) (v : V) (k : ℕ) → length table ≡ k → ((r : ℕ) → r < k → row_at (map f table) r ≡ []) → f v ≡ [] → (r : ℕ) → r < k + 1 → row_at (map f (table ++ v ∷ [])) r ≡ []
+none_more f table v k count none empty r h =
+    ap (λ (l : List (List _)). row_at l r) (map-append f table (v ∷ []))
+    ∙ same_or r k (row_at (map f table ++ f v ∷ []) r ≡ [])
+        (λ e. subst (λ q. row_at (map f table ++ f v ∷ []) q ≡ []) (sym e) (last_of (map f table) (f v) [] k (length-map table f ∙ count) ∙ empty))
+        (λ other. let less : r < k = omega arith in get_or_append_left (map f table) (f v ∷ []) [] r (omega (arith, length-map table f, count, less)) ∙ none r less)
+
+module _ {M : Type 0} where
+  -- the way in that closes with the first way out that is left
+  pub head_way : (k : ℕ) (row left more : List (Outgoing M)) (ins now : List (List (Incoming M))) (x : Outgoing M) (before after : List (List M)) → CanClose row ins → RowClosed k row ins now before after → left ≡ drop k row → left ≡ x ∷ more
+      → (way : Incoming M) × (rest : List (Incoming M)) × ((row_at now k ≡ way ∷ rest) × (x.link ≡ way.link) × (k < length now) × (out_at row k ≡ x))
+  head_way k row left more ins now x before after can o at_left first =
+      let shown : drop k row ≡ x ∷ more = sym at_left ∙ first in
+      let some : k < length row = omega (arith, length-drop k row, ap (λ (l : List (Outgoing M)). length l) shown) in
+      let inside : k < length ins = subst (λ n. k < n) can.count some in
+      let way = can.first k inside in
+      let out : out_at row k ≡ x = first_left k row x no_out more shown in
+      (way.0, way.1, (o.same k (omega arith) ∙ way.2.0, ap (λ (v : Outgoing M). v.link) (sym out) ∙ way.2.1, subst (λ n. k < n) (sym o.rows) inside, out))
+
+-- the row of the first that is left
+pub mapped_first : {V X : Type 0} (f : V → List X) (k : ℕ) (table rest : List V) (v : V) → drop k table ≡ v ∷ rest → row_at (map f table) k ≡ f v
+mapped_first f zero table rest v e = ap (λ (l : List _). row_at (map f l) 0) e
+mapped_first f (suc k) [] rest v e = absurd (cc)
+mapped_first f (suc k) (x ∷ xs) rest v e = mapped_first f k xs rest v e

@@ -1,5 +1,6 @@
 -- The links of a round, one for each ordered pair of nodes. This project's own.
 use Rattle.std.specs.Prelude.{◌≡◌, ◌<◌, ◌≤◌, ℕ, ◌+◌, List, [], ◌∷◌, ◌++◌, length, slice_index_or}
+use Rattle.atomic_table.specs.Seated.{TableId}
 use Rattle.actor_net.specs.declared.stamped.Stamped.{Stamped}
 use Rattle.actor_net.specs.Histories.{messages}
 use Rattle.fifo_link.specs.Ends.{End}
@@ -18,6 +19,10 @@ module _ {M : Type 0} where
   -- an end in a row
   abbrev pub one_at : List (End M) → ℕ → End M
   one_at row i = slice_index_or row i no_end
+
+  -- the name of the link from s to r
+  abbrev pub name_of : List (List (End M)) → ℕ → ℕ → TableId
+  name_of sends s r = (one_at (row_at sends s) r).link
 
   -- the two ends of one link, on which nothing was sent
   pub record AreFresh (send take : End M) : Type 0 where

@@ -139,3 +139,8 @@ module _ {A M N : Type 0} where
     pub was_ready : WasReady ready step old.number old.node events
     pub ticks : Ticks old.clock events
     pub clock : new.clock ≡ clock_after old.clock events
+
+  -- a worker's round: it did steps, and at least one where one could be done with what is kept
+  pub record Ran (ready : A → M → Bool) (step : A → ℕ → M → Stepped A M N) (old new : Shown A M N) : Type 0 where
+    pub worked : Worked ready step old new
+    pub moves : length new.steps ≡ length old.steps → IsQuiet ready old

@@ -4,8 +4,12 @@
 pub mod gate;
 mod links;
 mod notes;
+pub mod round;
+#[cfg(test)]
+mod tests;
 pub mod ways;
 pub mod worker;
 
 pub use gate::{Gate, OpenGate};
+pub use round::{run_round, run_threads};
 pub use worker::Worker;
