@@ -74,7 +74,7 @@ module _ {A M N : Type 0} (ready : A → M → Bool) (step : A → ℕ → M →
   abbrev Did : ℕ → List (Event M) → Type 0
   Did j es = (j < n → (k : Worked ready step (start_of j) (end_of j)) × (k.events ≡ es)) × (n ≤ j → es ≡ [])
 
-  pick : (j : ℕ) → (es : List (Event M)) × Did j es
+  pub pick : (j : ℕ) → (es : List (Event M)) × Did j es
   pick j = elim (cases_lt j n) [
     inl h ↦ ((ran j blank h).worked.events, ((λ _. ((ran j blank h).worked, refl)), λ o. absurd (omega arith)))
     | inr o ↦ ([], ((λ h. absurd (omega arith)), λ _. refl))
@@ -162,7 +162,7 @@ module _ {A M N : Type 0} (ready : A → M → Bool) (step : A → ℕ → M →
             sym (went.all ∙ (λ i. ((starts s hs).outs r hr i).all ++ put_between step ((starts s hs).count_outs i) ((starts s hs).number i) r ((starts s hs).node d i) (ks.1 i))) ∙ c.sent ∙ ap (λ l. l ++ c.tail) grown in
         ((in_at (end_of r).ins s).kept ++ c.tail, (c.is, joined (holds s r) drew.grown (taken_at s (events r)) (in_at (end_of r).ins s).kept c.tail (put_between step n s r (node_at s) (events s)) whole put))
 
-    pick_left : (s r : ℕ) → (l : List (Stamped M)) × (s < n → r < n → LeftAt s r l)
+    pub pick_left : (s r : ℕ) → (l : List (Stamped M)) × (s < n → r < n → LeftAt s r l)
     pick_left s r = elim (cases_lt s n) [
       inl hs ↦ elim (cases_lt r n) [
         inl hr ↦ let l = left_at s r hs hr in (l.0, λ _ _. l.1)

@@ -9,28 +9,22 @@ use Rattle.std.proofs.lemmas.Option.{slice_get-get_or, slice_get_past}
 use Rattle.actor_net.specs.declared.choice.Choice.{Choice}
 use Rattle.actor_net.specs.declared.stamped.Stamped.{Stamped}
 use Rattle.actor_net.specs.declared.histories.History.{History}
-use Rattle.actor_net.specs.declared.histories.Mark.{Mark}
 use Rattle.actor_net.specs.Network.{Network, Stepped, is_input, waiting, takes_first, is_enabled, taken, IsRun}
 use Rattle.actor_net.specs.Merging.{marks_of, all_marks, key_of, key_cmp, choice_of, IsMerge}
 use Rattle.actor_threads.specs.Ways.{Incoming, begun, last_clock}
 use Rattle.actor_threads.specs.Work.{Shown, in_at, is_input_of, IsQuietAt, IsQuiet}
 use Rattle.actor_threads.specs.Round.{StartsAs}
 
--- a mark ties with itself
-self_tie : (y : Mark) → ties (λ a b. is_lt (key_cmp (key_of a) (key_of b))) y y ≡ true
-self_tie y = grind (arith, nat_tests)
+no_marks : {X : Type 0} (f : X → Choice) (marks : List X) → [] ≡ map f marks → marks ≡ []
+no_marks f [] e = refl
+no_marks f (x ∷ xs) e = absurd (cc)
 
-no_marks : (marks : List Mark) → [] ≡ map choice_of marks → marks ≡ []
-no_marks [] e = refl
-no_marks (x ∷ xs) e = absurd (cc)
-
--- a merge without a choice has no step
-no_steps_at : (all marks : List Mark) → marks ≡ [] → ((y : Mark) → filter (ties (λ a b. is_lt (key_cmp (key_of a) (key_of b))) y) marks ≡ filter (ties (λ a b. is_lt (key_cmp (key_of a) (key_of b))) y) all) → all ≡ []
-no_steps_at [] marks e same = refl
-no_steps_at (y ∷ ys) marks e same =
-    let test = ties (λ a b. is_lt (key_cmp (key_of a) (key_of b))) y in
-    let kept : [] ≡ (if test y then y ∷ filter test ys else filter test ys) = ap (λ (l : List Mark). filter test l) (sym e) ∙ same y in
-    let one : [] ≡ y ∷ filter test ys = kept ∙ ap (λ b. if b then y ∷ filter test ys else filter test ys) (self_tie y) in
+-- where nothing stands in a stable order, nothing stood before
+none_before : {X : Type 0} (R : X → X → Bool) (all marks : List X) → ((y : X) → ties R y y ≡ true) → marks ≡ [] → ((y : X) → filter (ties R y) marks ≡ filter (ties R y) all) → all ≡ []
+none_before R [] marks self e same = refl
+none_before R (y ∷ ys) marks self e same =
+    let kept : [] ≡ (if ties R y y then y ∷ filter (ties R y) ys else filter (ties R y) ys) = ap (λ (l : List _). filter (ties R y) l) (sym e) ∙ same y in
+    let one : [] ≡ y ∷ filter (ties R y) ys = kept ∙ ap (λ b. if b then y ∷ filter (ties R y) ys else filter (ties R y) ys) (self y) in
     absurd (cc)
 
 no_front : {X : Type 0} (xs ys : List X) → xs ++ ys ≡ [] → (xs ≡ []) × (ys ≡ [])
@@ -41,18 +35,7 @@ no_map : {X Y : Type 0} (f : X → Y) (xs : List X) → map f xs ≡ [] → xs �
 no_map f [] e = refl
 no_map f (x ∷ xs) e = absurd (cc)
 
-module _ {A M N : Type 0} where
-  abbrev history_of : Shown A M N → History
-  history_of s = record { node = s.number; steps = s.steps }
-
-  none_each : (blank : Shown A M N) (workers : List (Shown A M N)) → all_marks (map history_of workers) ≡ [] → (j : ℕ) → j < length workers → (slice_index_or workers j blank).steps ≡ []
-  none_each blank [] e j h = absurd (omega arith)
-  none_each blank (x ∷ xs) e zero h = no_map _ x.steps (no_front (marks_of (history_of x)) (all_marks (map history_of xs)) e).0
-  none_each blank (x ∷ xs) e (suc j) h = none_each blank xs (no_front (marks_of (history_of x)) (all_marks (map history_of xs)) e).1 j (omega arith)
-
-  pub no_steps : (blank : Shown A M N) (workers : List (Shown A M N)) (cs : List Choice) → IsMerge (map history_of workers) cs → cs ≡ [] → (j : ℕ) → j < length workers → (slice_index_or workers j blank).steps ≡ []
-  no_steps blank workers cs merge none = none_each blank workers (no_steps_at (all_marks (map history_of workers)) merge.marks (no_marks merge.marks (sym none ∙ merge.taken)) merge.stable)
-
+module _ {A M : Type 0} where
   takes_none : (ready : A → M → Bool) (c : Choice) (o : Option A) → takes_first ready c o [] ≡ false
   takes_none ready c None = refl
   takes_none ready c (Some a) = refl
@@ -65,6 +48,19 @@ module _ {A M N : Type 0} where
           (λ (y : (last_clock ≤ 0) ⊎ ((is_input_of c.node c.port ≡ true) × (ready node m ≡ false))). ⊎_elim (λ (z : last_clock ≤ 0). absurd (omega arith))
             (λ (z : (is_input_of c.node c.port ≡ true) × (ready node m ≡ false)). ap (λ b. if b then ready node m else true) z.0 ∙ z.1) y)
           (quiet (record { clock = 0; message = m }) (begun ms) refl)
+
+module _ {A M N : Type 0} where
+  -- the history of a worker
+  abbrev pub history_of : Shown A M N → History
+  history_of s = record { node = s.number; steps = s.steps }
+
+  none_each : (blank : Shown A M N) (workers : List (Shown A M N)) → all_marks (map history_of workers) ≡ [] → (j : ℕ) → j < length workers → (slice_index_or workers j blank).steps ≡ []
+  none_each blank [] e j h = absurd (omega arith)
+  none_each blank (x ∷ xs) e zero h = no_map _ x.steps (no_front (marks_of (history_of x)) (all_marks (map history_of xs)) e).0
+  none_each blank (x ∷ xs) e (suc j) h = none_each blank xs (no_front (marks_of (history_of x)) (all_marks (map history_of xs)) e).1 j (omega arith)
+
+  pub no_steps : (blank : Shown A M N) (workers : List (Shown A M N)) (cs : List Choice) → IsMerge (map history_of workers) cs → cs ≡ [] → (j : ℕ) → j < length workers → (slice_index_or workers j blank).steps ≡ []
+  no_steps blank workers cs merge none = none_each blank workers (none_before (λ a b. is_lt (key_cmp (key_of a) (key_of b))) (all_marks (map history_of workers)) merge.marks (λ y. grind (arith, nat_tests)) (no_marks choice_of merge.marks (sym none ∙ merge.taken)) merge.stable)
 
   no_wait : (w : Network A M N) (c : Choice) → 0 < length w.nodes → length w.nodes ≤ c.port → waiting w c ≡ []
   no_wait w c some far =

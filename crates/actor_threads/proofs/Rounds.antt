@@ -1,6 +1,7 @@
 -- A whole round, from its seats.
-use Rattle.std.proofs.Common.{◌≡◌, ◌<◌, ◌*◌, ℕ, zero, suc, Bool, true, false, true≢false, ◌&&◌, IsTrue, List, [], ◌∷◌, ◌++◌, length, slice_index_or, map, sym, ◌∙◌, ap, refl, subst, arith, append-nil}
+use Rattle.std.proofs.Common.{◌≡◌, ◌<◌, ◌*◌, ℕ, zero, suc, Bool, true, false, true≢false, ◌&&◌, IsTrue, List, [], ◌∷◌, ◌++◌, length, slice_index_or, map, take, drop, sym, ◌∙◌, ap, refl, subst, arith, append-nil}
 use Rattle.std.specs.List.{list_all}
+use Rattle.std.proofs.lemmas.Grind.{common_steps}
 use Rattle.std.proofs.lemmas.List.{length-map, get_or-map}
 use Rattle.actor_net.specs.declared.choice.Choice.{Choice}
 use Rattle.actor_net.specs.declared.histories.History.{History}
@@ -96,3 +97,33 @@ module _ {A M N : Type 0} (ready : A → M → Bool) (step : A → ℕ → M →
 pub no_choice : {A M N : Type 0} (ready : A → M → Bool) (step : A → ℕ → M → Stepped A M N) (w : Network A M N) (cs : List Choice) → IsRun ready step cs w → ((c : Choice) → is_enabled ready w c ≡ false) → cs ≡ []
 no_choice ready step w [] r none = refl
 no_choice ready step w (c ∷ cs) r none = absurd (true≢false (sym r.0 ∙ none c))
+
+-- what is gathered, by other names for its parts
+pub regather : {A M N : Type 0} {nodes nodes' : List A} {hs hs' : List History} {notes notes' : List (List (List N))} {ins ins' : List (List (Incoming M))} {outs outs' : List (List (Outgoing M))} {log log' : List N} {v : Network A M N} {cs : List Choice}
+    → nodes ≡ nodes' → hs ≡ hs' → notes ≡ notes' → ins ≡ ins' → outs ≡ outs' → log ≡ log' → Gathered nodes hs notes ins outs log v cs → Gathered nodes' hs' notes' ins' outs' log' v cs
+regather {A} {M} {N} {nodes} {nodes'} {hs} {hs'} {notes} {notes'} {ins} {ins'} {outs} {outs'} {log} {log'} {v} {cs} a b c d e f g =
+    subst (λ (t : List A × List History × List (List (List N)) × List (List (Incoming M)) × List (List (Outgoing M)) × List N). Gathered t.0 t.1 t.2 t.3 t.4 t.5 v cs) (λ i. (a i, b i, c i, d i, e i, f i)) g
+
+pub reclose : {M : Type 0} {n n' : ℕ} {ins ins' : List (List (Incoming M))} {outs outs' : List (List (Outgoing M))} → n ≡ n' → ins ≡ ins' → outs ≡ outs' → CanCloseAll n ins outs → CanCloseAll n' ins' outs'
+reclose {M} {n} {n'} {ins} {ins'} {outs} {outs'} a b c g = subst (λ (t : ℕ × List (List (Incoming M)) × List (List (Outgoing M))). CanCloseAll t.0 t.1 t.2) (λ i. (a i, b i, c i)) g
+
+-- what a slice wrote back
+pub written_back : {X : Type 0} (old new : List X) (n : ℕ) → length new ≡ length old → n ≡ length old → take n (new ++ drop (length new) old) ≡ new
+written_back old new n same many = grind (arith, common_steps)
+
+module _ {A M N : Type 0} where
+  -- what the workers show, by the list of the seats
+  pub seen : {X : Type 0} (f : Shown A M N → X) (seats after : List (Seat A M N)) (list : List X) → list ≡ map (λ (s : Seat A M N). f s.worker) seats → seats ≡ after → list ≡ map f (workers after)
+  seen f seats after list e back = e ∙ ap (λ (l : List (Seat A M N)). map (λ (s : Seat A M N). f s.worker) l) back ∙ of_workers f after
+
+  pub done_after : (seats after : List (Seat A M N)) → list_all (λ (s : Seat A M N). s.done) seats ≡ true → seats ≡ after → list_all (λ (s : Seat A M N). s.done) after ≡ true
+  done_after seats after e back = subst (λ (l : List (Seat A M N)). list_all (λ (s : Seat A M N). s.done) l ≡ true) back e
+
+  pub ran_from : (ready : A → M → Bool) (step : A → ℕ → M → Stepped A M N) (lent before after : List (Seat A M N)) → lent ≡ before
+      → ((i : ℕ) (e : Seat A M N) → i < length lent → IsTrue (slice_index_or after i e).done → Ran ready step (slice_index_or lent i e).worker (slice_index_or after i e).worker)
+      → (i : ℕ) (e : Seat A M N) → i < length before → IsTrue (slice_index_or after i e).done → Ran ready step (slice_index_or before i e).worker (slice_index_or after i e).worker
+  ran_from ready step lent before after is ran = subst (λ (l : List (Seat A M N)). (i : ℕ) (e : Seat A M N) → i < length l → IsTrue (slice_index_or after i e).done → Ran ready step (slice_index_or l i e).worker (slice_index_or after i e).worker) is ran
+
+  -- each seat has a worker for its node
+  pub seats_count : (w : Network A M N) (before : List (Seat A M N)) → AllStart w (workers before) → length before ≡ length w.nodes
+  seats_count w before all = sym (length-map before _) ∙ all.count

@@ -1,7 +1,8 @@
 -- The worker of one node at the start of a round.
 use Rattle.std.proofs.Common.{◌≡◌, ◌≢◌, ◌==◌, ◌&&◌, ◌<◌, ◌≤◌, ℕ, zero, suc, ◌+◌, ◌*◌, Bool, true, false, true≢false, if◌then◌else◌, nat_lt, List, [], ◌∷◌, ◌++◌, length, slice_index_or, drop, map, sym, ◌∙◌, ap, refl, subst, arith, append-nil, drop-cons}
 use Rattle.std.proofs.lemmas.Bool.Decides.{Decides-eqb, nat_tests}
-use Rattle.std.proofs.lemmas.List.{length-map, get_or-map}
+use Rattle.std.proofs.lemmas.List.{length-map, get_or-map, get_or_append_left}
+use Rattle.atomic_table.specs.Seated.{TableId}
 use Rattle.fifo_link.specs.Ends.{End}
 use Rattle.actor_net.specs.declared.stamped.Stamped.{Stamped}
 use Rattle.actor_net.specs.Network.{Network, waiting}
@@ -12,7 +13,7 @@ use Rattle.actor_threads.specs.Work.{Shown, no_in, in_at, no_out, out_at, opened
 use Rattle.actor_threads.specs.Table.{row_at, no_end, one_at, name_of, AllOpened}
 use Rattle.actor_threads.specs.Round.{StartsAs}
 use Rattle.actor_threads.proofs.Opening.{length-all_in}
-use Rattle.actor_threads.proofs.Rows.{first_left}
+use Rattle.actor_threads.proofs.Rows.{first_left, last_of, same_or}
 
 module _ {M : Type 0} where
   -- one way in
@@ -31,7 +32,10 @@ module _ {M : Type 0} where
   waits_at : (k : ℕ) (input : List M) (kept : List (List M)) (p : ℕ) → p < length kept → row_at (waits k input kept) p ≡ (if (k == 0) && (p == 0) then input else row_at kept p)
   waits_at k input [] p h = absurd (omega arith)
   waits_at k input (x ∷ xs) zero h = elim (k == 0) as (λ b. (if b then input else x) ≡ (if b && (0 == 0) then input else x)) [ true ↦ refl | false ↦ refl ]
-  waits_at k input (x ∷ xs) (suc p) h = elim (k == 0) as (λ b. row_at xs p ≡ (if b && (suc p == 0) then input else row_at xs p)) [ true ↦ refl | false ↦ refl ]
+  waits_at k input (x ∷ xs) (suc p) h = elim (k == 0) as (λ b. row_at xs p ≡ (if b && (suc p == 0) then input else row_at xs p)) [
+    true ↦ let other : (suc p == 0) ≡ false = grind (arith, nat_tests) in ap (λ b. if b then input else row_at xs p) (sym other)
+    | false ↦ refl
+  ]
 
 module _ {A M N : Type 0} (w : Network A M N) (n k : ℕ) (sends takes : List (List (End M))) (count : length w.nodes ≡ n) (h : k < n) (o : AllOpened n n sends takes) where
   -- a worker that is opened with the k-th node, what stands on its links, and its ends
@@ -63,3 +67,10 @@ module _ {A M N : Type 0} (w : Network A M N) (n k : ℕ) (sends takes : List (L
             let inside : r < n = subst (λ m. r < m) count hr in
             get_or-map all_out (row_at sends k) r no_end no_out (subst (λ m. r < m) (sym (o.send_rows k h)) inside) ∙ λ i. record { link = name_of sends k r; all = (o.fresh k r h inside).sent i };
       }
+
+-- one worker more
+pub started_more : {A M N : Type 0} (w : Network A M N) (names : ℕ → ℕ → TableId) (workers : List (Shown A M N)) (k : ℕ) (new : Shown A M N) → length workers ≡ k
+    → ((j : ℕ) (d : Shown A M N) → j < k → StartsAs w names j (slice_index_or workers j d)) → StartsAs w names k new → (j : ℕ) (d : Shown A M N) → j < k + 1 → StartsAs w names j (slice_index_or (workers ++ new ∷ []) j d)
+started_more w names workers k new count before last j d h = same_or j k (StartsAs w names j (slice_index_or (workers ++ new ∷ []) j d))
+    (λ e. subst (λ q. StartsAs w names q (slice_index_or (workers ++ new ∷ []) q d)) (sym e) (subst (λ (v : Shown _ _ _). StartsAs w names k v) (sym (last_of workers new d k count)) last))
+    (λ other. let less : j < k = omega arith in subst (λ (v : Shown _ _ _). StartsAs w names j v) (sym (get_or_append_left workers (new ∷ []) d j (subst (λ m. j < m) (sym count) less))) (before j d less))

@@ -1,5 +1,5 @@
 //! A round: all workers run beside each other, and then the world is made anew.
-ghost use Rattle.std.specs.Prelude.{◌≡◌, ◌≢◌, ◌<◌, ◌+◌, ◌*◌, ◌++◌, ℕ, List, true, IsTrue, [], ◌∷◌, length, map, slice_index_or, IfOk, OnOk, All};
+ghost use Rattle.std.specs.Prelude.{◌≡◌, ◌≢◌, ◌↔◌, false, ◌<◌, ◌+◌, ◌*◌, ◌++◌, ℕ, List, true, IsTrue, [], ◌∷◌, length, map, slice_index_or, IfOk, OnOk, All};
 ghost use Rattle.std.specs.List.{list_all};
 ghost use Rattle.actor_net.specs.Network.{IsWorld, IsRun, run, is_enabled, is_done};
 ghost use Rattle.actor_net.specs.Histories.{dealt};
@@ -298,7 +298,8 @@ where
     let (mut seats, log) = seat_all(alloc, world)?;
     run_all(rt, seats.as_mut_slice(), gate);
     let field = take_apart(alloc, seats)?;
-    gather(rt, alloc, field, log)
+    let (left, choices) = gather(rt, alloc, field, log)?;
+    Ok((left, choices))
 }
 
 /// Rounds of a world until it is complete. The choices are those of all rounds.

@@ -5,6 +5,7 @@ use Rattle.actor_threads.proofs.round.seat_all.Given as goal
 
 abbrev pub invariant-loop-number : goal.invariant-loop-number
 invariant-loop-number g l = record {
+  within : l.number ≤ l.count;
   many : l.count ≡ length l.fn.world.nodes;
   few : l.count < 256;
   seats : length l.seats.items ≡ l.number;
