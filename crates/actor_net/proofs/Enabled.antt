@@ -1,5 +1,5 @@
 -- The enabled choices in order: how many there are at most, and where one stands.
-use Rattle.std.proofs.Common.{◌≡◌, ℕ, zero, suc, ◌+◌, ◌-◌, ◌*◌, ◌^◌, ◌<◌, ◌≤◌, Bool, true, false, Option, None, Some, List, [], ◌∷◌, ◌++◌, length, refl, sym, ap, subst, ◌∙◌, append_assoc, append-nil, length-append, add-one, arith, inl, inr}
+use Rattle.std.proofs.Common.{◌≡◌, ℕ, zero, suc, ◌+◌, ◌-◌, ◌*◌, ◌^◌, ◌<◌, ◌≤◌, Bool, true, false, Some, List, [], ◌∷◌, ◌++◌, length, refl, sym, ap, subst, ◌∙◌, append_assoc, append-nil, length-append, add-one, arith, inl, inr}
 use Rattle.std.specs.Prelude.{if◌then◌else◌, slice_get}
 use Rattle.std.proofs.lemmas.Grind.{common_steps}
 use Rattle.std.proofs.lemmas.Bool.{cases_lt}
@@ -59,26 +59,26 @@ ports_split : {A M N : Type 0} (ready : A → M → Bool) (w : Network A M N) (k
 ports_split ready w k p zero below is = absurd (omega arith)
 ports_split ready w k p (suc m) below is =
     elim (cases_lt p m) [
-      inl less ↦
-        let split = ports_split ready w k p m less is in
-        let more = if is_enabled ready w (at k m) then at k m ∷ [] else [] in
-        (split.0 ++ more, ap (λ xs. xs ++ more) split.1 ∙ append_assoc (ports_below ready w k p) (at k p ∷ split.0) more)
-    | inr over ↦
-        let same : p ≡ m = omega arith in
-        ([], subst (λ q. ports_below ready w k (suc q) ≡ ports_below ready w k p ++ at k p ∷ []) same (rw is refl))
+      | inl less ↦
+          let split = ports_split ready w k p m less is in
+          let more = if is_enabled ready w (at k m) then at k m ∷ [] else [] in
+          (split.0 ++ more, ap (λ xs. xs ++ more) split.1 ∙ append_assoc (ports_below ready w k p) (at k p ∷ split.0) more)
+      | inr over ↦
+          let same : p ≡ m = omega arith in
+          ([], subst (λ q. ports_below ready w k (suc q) ≡ ports_below ready w k p ++ at k p ∷ []) same (rw is refl))
     ]
 
 nodes_split : {A M N : Type 0} (ready : A → M → Bool) (w : Network A M N) (k m : ℕ) (xs : List Choice) (c : Choice) (rest : List Choice) → k < m → ports_below ready w k (length w.nodes) ≡ xs ++ c ∷ rest → (more : List Choice) × (nodes_below ready w m ≡ (nodes_below ready w k ++ xs) ++ c ∷ more)
 nodes_split ready w k zero xs c rest below is = absurd (omega arith)
 nodes_split ready w k (suc m) xs c rest below is =
     elim (cases_lt k m) [
-      inl less ↦
-        let split = nodes_split ready w k m xs c rest less is in
-        let row = ports_below ready w m (length w.nodes) in
-        (split.0 ++ row, ap (λ ys. ys ++ row) split.1 ∙ append_assoc (nodes_below ready w k ++ xs) (c ∷ split.0) row)
-    | inr over ↦
-        let same : k ≡ m = omega arith in
-        (rest, subst (λ q. nodes_below ready w (suc q) ≡ (nodes_below ready w k ++ xs) ++ c ∷ rest) same (rw is (sym (append_assoc (nodes_below ready w k) xs (c ∷ rest)))))
+      | inl less ↦
+          let split = nodes_split ready w k m xs c rest less is in
+          let row = ports_below ready w m (length w.nodes) in
+          (split.0 ++ row, ap (λ ys. ys ++ row) split.1 ∙ append_assoc (nodes_below ready w k ++ xs) (c ∷ split.0) row)
+      | inr over ↦
+          let same : k ≡ m = omega arith in
+          (rest, subst (λ q. nodes_below ready w (suc q) ≡ (nodes_below ready w k ++ xs) ++ c ∷ rest) same (rw is (sym (append_assoc (nodes_below ready w k) xs (c ∷ rest)))))
     ]
 
 -- an enabled choice stands behind those before it

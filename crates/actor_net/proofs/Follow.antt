@@ -1,17 +1,13 @@
 -- The law of the merge, first half: steps of all nodes that stand in the order of their clocks are a run.
-use Rattle.std.proofs.Common.{◌≡◌, ◌≢◌, ℕ, zero, suc, ◌+◌, ◌*◌, ◌<◌, ◌≤◌, Bool, true, false, Some, List, [], ◌∷◌, ◌++◌, length, get_or, set, drop, map, refl, sym, ap, subst, ◌∙◌, append_assoc, append-nil, arith, inl, inr}
-use Rattle.std.specs.Prelude.{if◌then◌else◌, ◌==◌, ◌&&◌, slice_get}
-use Rattle.std.proofs.lemmas.Bool.{cases_lt}
+use Rattle.std.proofs.Common.{◌≡◌, ◌≢◌, ℕ, ◌*◌, ◌<◌, ◌≤◌, Bool, true, false, List, [], ◌∷◌, ◌++◌, length, get_or, map, refl, sym, ap, subst, ◌∙◌, arith}
+use Rattle.std.specs.Prelude.{if◌then◌else◌, ◌==◌}
 use Rattle.std.proofs.lemmas.Bool.Decides.{nat_tests, Decides-eqb}
-use Rattle.std.proofs.lemmas.List.{append_cancel_left, map-append}
 use Rattle.actor_net.specs.declared.choice.Choice.{Choice}
 use Rattle.actor_net.specs.declared.stamped.Stamped.{Stamped}
-use Rattle.actor_net.specs.Network.{Network, Stepped, is_input, waiting, is_enabled, takes_first, taken, run, IsRun, reaches}
-use Rattle.actor_net.specs.Histories.{Event, messages, does, node_after, taken_at, sent_for, stamped, sent_to, put_between, notes_of, PortsBelow, WasReady, without_front, front_list, dealt}
+use Rattle.actor_net.specs.Network.{Network, Stepped, waiting, run, IsRun, reaches}
+use Rattle.actor_net.specs.Histories.{Event, messages, does, node_after, taken_at, sent_for, stamped, sent_to, put_between, notes_of, PortsBelow, WasReady, dealt}
 use Rattle.actor_net.proofs.Enabled.{at}
-use Rattle.actor_net.proofs.Links.{put_there}
 use Rattle.actor_net.proofs.Waiting.{behind}
-use Rattle.actor_net.proofs.Taken.{Takes, Left, taken_left}
 
 pub same_test : (k : ℕ) → (k == k) ≡ true
 same_test k = (Decides-eqb k k).1 refl
@@ -47,8 +43,8 @@ module _ {M : Type 0} where
   pub at_put : (hs : ℕ → List (Event M)) (k : ℕ) (es : List (Event M)) (P : ℕ → List (Event M) → Type 0) (j : ℕ) → P k es → (j ≢ k → P j (hs j)) → P j (put hs k es j)
   at_put hs k es P j here others =
       elim (j == k) as (λ b. (j == k) ≡ b → P j (if b then es else hs j)) [
-        true ↦ λ t. let same : j ≡ k = (Decides-eqb j k).0 t in subst (λ y. P y es) (sym same) here
-      | false ↦ λ f. others (λ same. let yes = (Decides-eqb j k).1 same in let never : false ≡ true = sym f ∙ yes in cc)
+        | true ↦ λ t. let same : j ≡ k = (Decides-eqb j k).0 t in subst (λ y. P y es) (sym same) here
+        | false ↦ λ f. others (λ same. let yes = (Decides-eqb j k).1 same in let never : false ≡ true = sym f ∙ yes in cc)
       ] refl
 
 module _ {A M N : Type 0} (ready : A → M → Bool) (step : A → ℕ → M → Stepped A M N) (d : A) where
@@ -98,8 +94,8 @@ module _ {A M N : Type 0} (step : A → ℕ → M → Stepped A M N) where
   pub put_late : (c n s r : ℕ) (a : A) (es : List (Event M)) (z : Stamped M) (rest : List (Stamped M)) → Over c es → put_between step n s r a es ≡ z ∷ rest → c ≤ z.clock
   put_late c n s r a es z rest over is =
       elim (reaches n s r) as (λ b. (if b then sent_to step r a es else []) ≡ z ∷ rest → c ≤ z.clock) [
-        true ↦ λ sent. sent_late c r a es z rest over sent
-      | false ↦ λ never. cc
+        | true ↦ λ sent. sent_late c r a es z rest over sent
+        | false ↦ λ never. cc
       ] is
 
 pub messages-stamped : {M : Type 0} (clock : ℕ) (ms : List M) → messages (stamped clock ms) ≡ ms

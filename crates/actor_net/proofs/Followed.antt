@@ -1,11 +1,10 @@
 -- Steps that stand in the order of their clocks are a run, and what the run does is what the histories say.
-use Rattle.std.proofs.Common.{◌≡◌, ◌≢◌, ℕ, ◌<◌, ◌≤◌, Bool, true, false, List, [], ◌∷◌, ◌++◌, length, get_or, refl, sym, ap, ◌∙◌, append_assoc, append-nil}
+use Rattle.std.proofs.Common.{◌≡◌, ℕ, ◌<◌, Bool, true, false, List, [], ◌∷◌, ◌++◌, length, refl, sym, ap, ◌∙◌, append_assoc, append-nil}
 use Rattle.std.specs.Prelude.{if◌then◌else◌, ◌==◌}
-use Rattle.std.proofs.lemmas.Bool.Decides.{Decides-eqb}
 use Rattle.actor_net.specs.declared.choice.Choice.{Choice}
 use Rattle.actor_net.specs.declared.stamped.Stamped.{Stamped}
-use Rattle.actor_net.specs.Network.{Network, Stepped, waiting, taken, run, IsRun, reaches}
-use Rattle.actor_net.specs.Histories.{Event, messages, does, node_after, sent_to, put_between, notes_of, without_front, front_list, dealt}
+use Rattle.actor_net.specs.Network.{Network, Stepped, taken, reaches}
+use Rattle.actor_net.specs.Histories.{Event, messages, does, node_after, notes_of, without_front, front_list, dealt}
 use Rattle.actor_net.proofs.Enabled.{at}
 use Rattle.actor_net.proofs.Links.{neither}
 use Rattle.actor_net.proofs.Follow.{Past, put, at_put, same_test, other_test, choices_of, Follows, node_of, Fits, Replayed}
@@ -17,10 +16,10 @@ dealt_same q r [] same = refl
 dealt_same q r (c ∷ cs) same =
     let here = same c.node in
     rw here (ap (λ xs. front_list (r c.node) ++ xs) (dealt_same (λ j. if j == c.node then without_front (q j) else q j) (λ j. if j == c.node then without_front (r j) else r j) cs (λ j.
-      elim (j == c.node) as (λ b. (if b then without_front (q j) else q j) ≡ (if b then without_front (r j) else r j)) [
-        true ↦ ap without_front (same j)
+    elim (j == c.node) as (λ b. (if b then without_front (q j) else q j) ≡ (if b then without_front (r j) else r j)) [
+      | true ↦ ap without_front (same j)
       | false ↦ same j
-      ])))
+    ])))
 
 module _ {A M N : Type 0} (ready : A → M → Bool) (step : A → ℕ → M → Stepped A M N) (d : A) where
   -- with no step left, what is left is what the links hold
@@ -55,22 +54,22 @@ module _ {A M N : Type 0} (ready : A → M → Bool) (step : A → ℕ → M →
       let after = λ (j : ℕ). notes_of step (node_of ready step d w' j) (put hs m.0 es j) in
       let before = λ (j : ℕ). notes_of step (node_of ready step d w j) (hs j) in
       let queues : (j : ℕ) → after j ≡ (if j == m.0 then without_front (before j) else before j) = λ j.
-        at_put hs m.0 es (λ y xs. notes_of step (node_of ready step d w' y) xs ≡ (if y == m.0 then without_front (before y) else before y)) j
-          (let same = same_test m.0 in rw (own, same, is) refl)
-          (λ no. let off = other_test j m.0 no in let node = other j no in rw (off, node) refl) in
+      at_put hs m.0 es (λ y xs. notes_of step (node_of ready step d w' y) xs ≡ (if y == m.0 then without_front (before y) else before y)) j
+      (let same = same_test m.0 in rw (own, same, is) refl)
+      (λ no. let off = other_test j m.0 no in let node = other j no in rw (off, node) refl) in
       let first : front_list (before m.0) ≡ did.notes = rw is refl in
       let notes : did.notes ++ dealt after (choices_of ms) ≡ dealt before (choices_of (m ∷ ms)) =
-        ap (λ xs. did.notes ++ xs) (dealt_same after (λ j. if j == m.0 then without_front (before j) else before j) (choices_of ms) queues)
-        ∙ ap (λ xs. xs ++ dealt (λ j. if j == m.0 then without_front (before j) else before j) (choices_of ms)) (sym first) in
+      ap (λ xs. did.notes ++ xs) (dealt_same after (λ j. if j == m.0 then without_front (before j) else before j) (choices_of ms) queues)
+      ∙ ap (λ xs. xs ++ dealt (λ j. if j == m.0 then without_front (before j) else before j) (choices_of ms)) (sym first) in
       record {
         is_run = (enabled ready step d w hs holds left m.0 m.1 es h, rest.is_run);
         count = rest.count ∙ count;
         nodes = λ j. rest.nodes j ∙ at_put hs m.0 es (λ y xs. node_after step (node_of ready step d w' y) xs ≡ node_after step (node_of ready step d w y) (hs y)) j (rw (own, is) refl) (λ no. let node = other j no in rw node refl);
         waits = λ s r hs' hr. rest.waits s r (rw count hs') (rw count hr);
         log = rest.log
-          ∙ ap (λ xs. xs ++ dealt (λ j. notes_of step (node_of ready step d w' j) (put hs m.0 es j)) (choices_of ms)) l.log
-          ∙ append_assoc w.log did.notes _
-          ∙ ap (λ xs. w.log ++ xs) notes;
+            ∙ ap (λ xs. xs ++ dealt (λ j. notes_of step (node_of ready step d w' j) (put hs m.0 es j)) (choices_of ms)) l.log
+            ∙ append_assoc w.log did.notes _
+            ∙ ap (λ xs. w.log ++ xs) notes;
         links = rest.links ∙ l.links;
         loop = rest.loop ∙ l.loop;
       }

@@ -5,8 +5,10 @@ pub mod InOrder
 pub mod Links
 pub mod Merged
 pub mod OneStep
+pub mod Reached
 pub mod Runs
 pub mod Scheduling
 pub mod Steps
 pub mod Taken
 pub mod Waiting
+pub mod Weights

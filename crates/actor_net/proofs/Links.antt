@@ -1,6 +1,6 @@
 -- Links after a step: what stands on each of them, and that there are as many.
-use Rattle.std.proofs.Common.{◌≡◌, ◌≢◌, ℕ, zero, suc, ◌+◌, ◌*◌, ◌<◌, ◌≤◌, Bool, true, false, Some, List, [], ◌∷◌, ◌++◌, length, get_or, set, drop, refl, sym, ap, subst, ◌∙◌, append_assoc, append-nil, arith, inl, inr}
-use Rattle.std.specs.Prelude.{if◌then◌else◌, ◌==◌, ◌&&◌, not, nat_lt, slice_get}
+use Rattle.std.proofs.Common.{◌≡◌, ◌≢◌, ℕ, ◌+◌, ◌*◌, ◌<◌, Bool, true, false, List, [], ◌∷◌, ◌++◌, length, get_or, set, refl, sym, ap, subst, ◌∙◌, append_assoc, append-nil, arith}
+use Rattle.std.specs.Prelude.{if◌then◌else◌, ◌==◌, ◌&&◌}
 use Rattle.std.proofs.lemmas.Grind.{common_steps, rows}
 use Rattle.std.proofs.lemmas.Bool.Decides.{nat_tests, Decides-eqb}
 use Rattle.std.proofs.lemmas.Nat.{same_from_place}
@@ -13,11 +13,11 @@ use Rattle.actor_net.proofs.Steps.{loop_stays}
 abbrev pub put_there : {M : Type 0} → ℕ → ℕ → ℕ → ℕ → List (ℕ × M) → List M
 put_there n from s r sends = if (s == from) && reaches n from r then sent_for r sends else []
 
-length-put_on : {M : Type 0} (n from : ℕ) (x : ℕ × M) (ls : List (List M)) → length (put_on n from x ls) ≡ length ls
+pub length-put_on : {M : Type 0} (n from : ℕ) (x : ℕ × M) (ls : List (List M)) → length (put_on n from x ls) ≡ length ls
 length-put_on n from x ls =
     elim (reaches n from x.0) as (λ b. length (if b then set ls (from * n + x.0) (get_or ls (from * n + x.0) [] ++ x.1 ∷ []) else ls) ≡ length ls) [
-      true ↦ length-set ls (from * n + x.0) (get_or ls (from * n + x.0) [] ++ x.1 ∷ [])
-    | false ↦ refl
+      | true ↦ length-set ls (from * n + x.0) (get_or ls (from * n + x.0) [] ++ x.1 ∷ [])
+      | false ↦ refl
     ]
 
 pub length-delivered : {M : Type 0} (n from : ℕ) (sends : List (ℕ × M)) (ls : List (List M)) → length (delivered n from sends ls) ≡ length ls
@@ -30,7 +30,7 @@ inside n s r hs hr = grind (arith, common_steps, rows)
 pub other_place : (n from to s r : ℕ) → to < n → r < n → (s ≡ from → to ≡ r → ⊥) → s * n + r ≢ from * n + to
 other_place n from to s r ht hr other same = let places = same_from_place s r from to n hr ht same in other places.0 (sym places.1)
 
-within : (n from to : ℕ) → reaches n from to ≡ true → to < n
+pub within : (n from to : ℕ) → reaches n from to ≡ true → to < n
 within n from to is = grind (arith, nat_tests)
 
 -- either way nothing
@@ -44,47 +44,47 @@ arrives {M} n from x ls s r square hf hr is =
     let there = within n from x.0 is in
     let other : (s ≡ from → x.0 ≡ r → ⊥) → get_or (set ls (from * n + x.0) new) (s * n + r) [] ≡ get_or ls (s * n + r) [] = λ no. get_or-set_other ls (from * n + x.0) (s * n + r) new [] (other_place n from x.0 s r there hr no) in
     elim (s == from) as (λ b. (s == from) ≡ b → get_or (set ls (from * n + x.0) new) (s * n + r) [] ≡ get_or ls (s * n + r) [] ++ (if b && reaches n from r then (if x.0 == r then x.1 ∷ [] else []) ++ [] else [])) [
-      true ↦ λ e. elim (x.0 == r) as (λ b. (x.0 == r) ≡ b → get_or (set ls (from * n + x.0) new) (s * n + r) [] ≡ get_or ls (s * n + r) [] ++ (if reaches n from r then (if b then x.1 ∷ [] else []) ++ [] else [])) [
-        true ↦ λ t.
-          let here : s ≡ from = (Decides-eqb s from).0 e in
-          let this : x.0 ≡ r = (Decides-eqb x.0 r).0 t in
-          let on : reaches n from r ≡ true = subst (λ y. reaches n from y ≡ true) this is in
-          let place : s * n + r ≡ from * n + x.0 = rw (here, this) refl in
-          let small : from * n + x.0 < length ls = rw square (inside n from x.0 hf there) in
-          rw (on, place) (get_or-set_same ls (from * n + x.0) new [] small)
-      | false ↦ λ f.
-          let no : s ≡ from → x.0 ≡ r → ⊥ = λ _ q. let yes = (Decides-eqb x.0 r).1 q in let never : false ≡ true = sym f ∙ yes in cc in
-          rw (neither {X = M} (reaches n from r), append-nil (get_or ls (s * n + r) [])) (other no)
+      | true ↦ λ e. elim (x.0 == r) as (λ b. (x.0 == r) ≡ b → get_or (set ls (from * n + x.0) new) (s * n + r) [] ≡ get_or ls (s * n + r) [] ++ (if reaches n from r then (if b then x.1 ∷ [] else []) ++ [] else [])) [
+        | true ↦ λ t.
+            let here : s ≡ from = (Decides-eqb s from).0 e in
+            let this : x.0 ≡ r = (Decides-eqb x.0 r).0 t in
+            let on : reaches n from r ≡ true = subst (λ y. reaches n from y ≡ true) this is in
+            let place : s * n + r ≡ from * n + x.0 = rw (here, this) refl in
+            let small : from * n + x.0 < length ls = rw square (inside n from x.0 hf there) in
+            rw (on, place) (get_or-set_same ls (from * n + x.0) new [] small)
+        | false ↦ λ f.
+            let no : s ≡ from → x.0 ≡ r → ⊥ = λ _ q. let yes = (Decides-eqb x.0 r).1 q in let never : false ≡ true = sym f ∙ yes in cc in
+            rw (neither {X = M} (reaches n from r), append-nil (get_or ls (s * n + r) [])) (other no)
       ] refl
-    | false ↦ λ f.
-        let no : s ≡ from → x.0 ≡ r → ⊥ = λ q _. let yes = (Decides-eqb s from).1 q in let never : false ≡ true = sym f ∙ yes in cc in
-        rw (append-nil (get_or ls (s * n + r) [])) (other no)
+      | false ↦ λ f.
+          let no : s ≡ from → x.0 ≡ r → ⊥ = λ q _. let yes = (Decides-eqb s from).1 q in let never : false ≡ true = sym f ∙ yes in cc in
+          rw (append-nil (get_or ls (s * n + r) [])) (other no)
     ] refl
 
 nothing_there : {M : Type 0} (n from : ℕ) (x : ℕ × M) (s r : ℕ) → reaches n from x.0 ≡ false → put_there n from s r (x ∷ []) ≡ []
 nothing_there {M} n from x s r off =
     elim (x.0 == r) as (λ b. (x.0 == r) ≡ b → (if (s == from) && reaches n from r then (if b then x.1 ∷ [] else []) ++ [] else []) ≡ []) [
-      true ↦ λ t.
-        let this : x.0 ≡ r = (Decides-eqb x.0 r).0 t in
-        let no : reaches n from r ≡ false = subst (λ y. reaches n from y ≡ false) this off in
-        rw no (elim (s == from) as (λ b. (if b && false then x.1 ∷ [] else []) ≡ []) [ true ↦ refl | false ↦ refl ])
-    | false ↦ λ f. neither ((s == from) && reaches n from r)
+      | true ↦ λ t.
+          let this : x.0 ≡ r = (Decides-eqb x.0 r).0 t in
+          let no : reaches n from r ≡ false = subst (λ y. reaches n from y ≡ false) this off in
+          rw no (elim (s == from) as (λ b. (if b && false then x.1 ∷ [] else []) ≡ []) [ true ↦ refl | false ↦ refl ])
+      | false ↦ λ f. neither ((s == from) && reaches n from r)
     ] refl
 
 -- one message more
 put_one : {M : Type 0} (n from : ℕ) (x : ℕ × M) (ls : List (List M)) (s r : ℕ) → length ls ≡ n * n → from < n → r < n → get_or (put_on n from x ls) (s * n + r) [] ≡ get_or ls (s * n + r) [] ++ put_there n from s r (x ∷ [])
 put_one n from x ls s r square hf hr =
     elim (reaches n from x.0) as (λ b. reaches n from x.0 ≡ b → get_or (if b then set ls (from * n + x.0) (get_or ls (from * n + x.0) [] ++ x.1 ∷ []) else ls) (s * n + r) [] ≡ get_or ls (s * n + r) [] ++ put_there n from s r (x ∷ [])) [
-      true ↦ arrives n from x ls s r square hf hr
-    | false ↦ λ off. rw (nothing_there n from x s r off, append-nil (get_or ls (s * n + r) [])) refl
+      | true ↦ arrives n from x ls s r square hf hr
+      | false ↦ λ off. rw (nothing_there n from x s r off, append-nil (get_or ls (s * n + r) [])) refl
     ] refl
 
 -- one message, and then more
 put_there_more : {M : Type 0} (n from s r : ℕ) (x : ℕ × M) (xs : List (ℕ × M)) → put_there n from s r (x ∷ xs) ≡ put_there n from s r (x ∷ []) ++ put_there n from s r xs
 put_there_more n from s r x xs =
     elim ((s == from) && reaches n from r) as (λ b. (if b then (if x.0 == r then x.1 ∷ [] else []) ++ sent_for r xs else []) ≡ (if b then (if x.0 == r then x.1 ∷ [] else []) ++ [] else []) ++ (if b then sent_for r xs else [])) [
-      true ↦ rw (append-nil (if x.0 == r then x.1 ∷ [] else [])) refl
-    | false ↦ refl
+      | true ↦ rw (append-nil (if x.0 == r then x.1 ∷ [] else [])) refl
+      | false ↦ refl
     ]
 
 -- all that a node sends stands at the ends of its links, and the other links are as they were
@@ -101,10 +101,10 @@ link_after_sends n from (x ∷ xs) ls s r square hf hr =
 loop_after_one : {M : Type 0} (n from : ℕ) (x : ℕ × M) (ls : List (List M)) → 0 < n → get_or (put_on n from x ls) 0 [] ≡ get_or ls 0 []
 loop_after_one n from x ls some =
     elim (reaches n from x.0) as (λ b. reaches n from x.0 ≡ b → get_or (if b then set ls (from * n + x.0) (get_or ls (from * n + x.0) [] ++ x.1 ∷ []) else ls) 0 [] ≡ get_or ls 0 []) [
-      true ↦ λ is.
-        let other : (x.0 == 0) && (from == 0) ≡ false = grind (arith, nat_tests) in
-        loop_stays n from x.0 ls (get_or ls (from * n + x.0) [] ++ x.1 ∷ []) some other
-    | false ↦ λ _. refl
+      | true ↦ λ is.
+          let other : (x.0 == 0) && (from == 0) ≡ false = grind (arith, nat_tests) in
+          loop_stays n from x.0 ls (get_or ls (from * n + x.0) [] ++ x.1 ∷ []) some other
+      | false ↦ λ _. refl
     ] refl
 
 pub loop_after_sends : {M : Type 0} (n from : ℕ) (sends : List (ℕ × M)) (ls : List (List M)) → 0 < n → get_or (delivered n from sends ls) 0 [] ≡ get_or ls 0 []

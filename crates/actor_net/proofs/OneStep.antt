@@ -1,15 +1,14 @@
 -- One step of the merge's law: the first of the steps in order is enabled, and what is left of the histories fits the world
 -- behind it.
-use Rattle.std.proofs.Common.{◌≡◌, ◌≢◌, ℕ, zero, suc, ◌+◌, ◌*◌, ◌<◌, ◌≤◌, Bool, true, false, Some, List, [], ◌∷◌, ◌++◌, length, get_or, map, refl, sym, ap, subst, ◌∙◌, append_assoc, append-nil, arith, inl, inr}
+use Rattle.std.proofs.Common.{◌≡◌, ◌≢◌, ℕ, ◌<◌, ◌≤◌, Bool, true, false, Some, List, [], ◌∷◌, ◌++◌, length, refl, sym, ap, ◌∙◌, append_assoc, arith, inl, inr}
 use Rattle.std.specs.Prelude.{if◌then◌else◌, ◌==◌, ◌&&◌, slice_get}
 use Rattle.std.proofs.lemmas.Bool.{cases_lt}
 use Rattle.std.proofs.lemmas.Bool.Decides.{nat_tests, Decides-eqb}
 use Rattle.std.proofs.lemmas.List.{append_cancel_left, map-append, get_or_default}
 use Rattle.std.proofs.lemmas.Option.{slice_get-get_or}
-use Rattle.actor_net.specs.declared.choice.Choice.{Choice}
 use Rattle.actor_net.specs.declared.stamped.Stamped.{Stamped}
-use Rattle.actor_net.specs.Network.{Network, Stepped, is_input, waiting, is_enabled, takes_first, taken, run, IsRun, reaches}
-use Rattle.actor_net.specs.Histories.{Event, messages, does, node_after, taken_at, sent_for, stamped, sent_to, put_between, notes_of, PortsBelow, WasReady}
+use Rattle.actor_net.specs.Network.{Network, Stepped, waiting, is_enabled, takes_first, taken, reaches}
+use Rattle.actor_net.specs.Histories.{Event, messages, does, taken_at, sent_for, stamped, sent_to, put_between, PortsBelow, WasReady}
 use Rattle.actor_net.proofs.Enabled.{at}
 use Rattle.actor_net.proofs.Links.{put_there}
 use Rattle.actor_net.proofs.Waiting.{behind}
@@ -23,8 +22,8 @@ and_false false = refl
 test_swap : (a b : ℕ) → (a == b) ≡ (b == a) && true
 test_swap a b =
     elim (b == a) as (λ t. (b == a) ≡ t → (a == b) ≡ t && true) [
-      true ↦ λ is. (Decides-eqb a b).1 (sym ((Decides-eqb b a).0 is))
-    | false ↦ λ off. other_test a b (λ same. let yes = (Decides-eqb b a).1 (sym same) in let never : false ≡ true = sym off ∙ yes in cc)
+      | true ↦ λ is. (Decides-eqb a b).1 (sym ((Decides-eqb b a).0 is))
+      | false ↦ λ off. other_test a b (λ same. let yes = (Decides-eqb b a).1 (sym same) in let never : false ≡ true = sym off ∙ yes in cc)
     ] refl
 
 module _ {A M N : Type 0} (ready : A → M → Bool) (step : A → ℕ → M → Stepped A M N) (d : A) (w : Network A M N) (hs : ℕ → List (Event M)) (holds left : ℕ → ℕ → List (Stamped M)) (k : ℕ) (e : Event M) (es : List (Event M)) where
@@ -68,9 +67,9 @@ module _ {A M N : Type 0} (ready : A → M → Bool) (step : A → ℕ → M →
       let same = same_test e.port in
       let takes : taken_at e.port (e ∷ es) ≡ e.took ∷ taken_at e.port es = rw same refl in
       let first : e.took ∷ (taken_at e.port es ++ left e.port k) ≡ holds e.port k ++ put_between step n e.port k (node_of ready step d w e.port) (hs e.port) =
-        ap (λ xs. xs ++ left e.port k) (sym (ap (λ xs. taken_at e.port xs) is ∙ takes)) ∙ h.fits.whole e.port k (sender h) (receiver h) in
+      ap (λ xs. xs ++ left e.port k) (sym (ap (λ xs. taken_at e.port xs) is ∙ takes)) ∙ h.fits.whole e.port k (sender h) (receiver h) in
       head_held e.took (taken_at e.port es ++ left e.port k) (holds e.port k) (put_between step n e.port k (node_of ready step d w e.port) (hs e.port)) first
-        (λ z more sent. let late = put_late step e.clock n e.port k (node_of ready step d w e.port) (hs e.port) z more (h.over e.port) sent in let early = (rw is at (h.past k)).0 in omega arith)
+      (λ z more sent. let late = put_late step e.clock n e.port k (node_of ready step d w e.port) (hs e.port) z more (h.over e.port) sent in let early = (rw is at (h.past k)).0 in omega arith)
 
   takes : (h : Next) → Takes step w k e.port (node_of ready step d w k) e.took.message (messages (held h).0)
   takes h = record {
@@ -90,9 +89,9 @@ module _ {A M N : Type 0} (ready : A → M → Bool) (step : A → ℕ → M →
       ap (λ o. takes_first ready (at k e.port) o (waiting w (at k e.port))) there
       ∙ ap (λ ms. takes_first ready (at k e.port) (Some (node_of ready step d w k)) ms) (takes h).waits
       ∙ elim ((k == 0) && (e.port == 0)) as (λ b. (k == 0) && (e.port == 0) ≡ b → (if b then ready (node_of ready step d w k) e.took.message else true) ≡ true) [
-          true ↦ λ on. was (grind (arith, nat_tests)) (grind (arith, nat_tests))
+        | true ↦ λ on. was (grind (arith, nat_tests)) (grind (arith, nat_tests))
         | false ↦ λ _. refl
-        ] refl
+      ] refl
 
   pub left_by : (h : Next) → Left step w k e.port (node_of ready step d w k) e.took.message (messages (held h).0) next
   left_by h = taken_left step w k e.port (node_of ready step d w k) e.took.message (messages (held h).0) (takes h)
@@ -118,18 +117,18 @@ module _ {A M N : Type 0} (ready : A → M → Bool) (step : A → ℕ → M →
   taken_here h s r =
       let is = h.is in
       at_put hs k es (λ y xs. taken_at s (hs y) ≡ head s y ++ taken_at s xs) r
-        (let same = same_test k in rw (is, same, test_swap e.port s) refl)
-        (λ other. let off = other_test r k other in rw (off, and_false (s == e.port)) refl)
+      (let same = same_test k in rw (is, same, test_swap e.port s) refl)
+      (λ other. let off = other_test r k other in rw (off, and_false (s == e.port)) refl)
 
   held_here : Next → (s r : ℕ) → holds s r ≡ head s r ++ behind ((s == e.port) && (r == k)) (holds s r)
   held_here h s r =
       elim ((s == e.port) && (r == k)) as (λ b. (s == e.port) && (r == k) ≡ b → holds s r ≡ (if b then e.took ∷ [] else []) ++ behind b (holds s r)) [
-        true ↦ λ on.
-          let here : s ≡ e.port = grind (arith, nat_tests) in
-          let this : r ≡ k = grind (arith, nat_tests) in
-          let first = (held h).1 in
-          rw (here, this, first) refl
-      | false ↦ λ _. refl
+        | true ↦ λ on.
+            let here : s ≡ e.port = grind (arith, nat_tests) in
+            let this : r ≡ k = grind (arith, nat_tests) in
+            let first = (held h).1 in
+            rw (here, this, first) refl
+        | false ↦ λ _. refl
       ] refl
 
   sent_here : Next → (s r : ℕ) → put_between step n s r (node_of ready step d w s) (hs s) ≡ gain s r ++ put_between step n s r (node_of ready step d next s) (rest s)
@@ -137,9 +136,9 @@ module _ {A M N : Type 0} (ready : A → M → Bool) (step : A → ℕ → M →
       let is = h.is in
       let own = node_own h in
       at_put hs k es (λ y xs. put_between step n y r (node_of ready step d w y) (hs y) ≡ gain y r ++ put_between step n y r (node_of ready step d next y) xs) s
-        (let same = same_test k in
-         rw (is, own, same) (elim (reaches n k r) as (λ b. (if b then sent_to step r (node_of ready step d w k) (e ∷ es) else []) ≡ stamped e.clock (if b then sent_for r did.sends else []) ++ (if b then sent_to step r did.node es else [])) [ true ↦ refl | false ↦ refl ]))
-        (λ other. let off = other_test s k other in let node = node_other h s other in rw (off, node) refl)
+      (let same = same_test k in
+      rw (is, own, same) (elim (reaches n k r) as (λ b. (if b then sent_to step r (node_of ready step d w k) (e ∷ es) else []) ≡ stamped e.clock (if b then sent_for r did.sends else []) ++ (if b then sent_to step r did.node es else [])) [ true ↦ refl | false ↦ refl ]))
+      (λ other. let off = other_test s k other in let node = node_other h s other in rw (off, node) refl)
 
   whole' : Next → (s r : ℕ) → s < n → r < n → taken_at s (rest r) ++ left s r ≡ holds' s r ++ put_between step n s r (node_of ready step d next s) (rest s)
   whole' h s r hs' hr =
@@ -147,12 +146,12 @@ module _ {A M N : Type 0} (ready : A → M → Bool) (step : A → ℕ → M →
       let more = put_between step n s r (node_of ready step d next s) (rest s) in
       let all = put_between step n s r (node_of ready step d w s) (hs s) in
       let both : head s r ++ (taken_at s (rest r) ++ left s r) ≡ head s r ++ (lost ++ (gain s r ++ more)) =
-        sym (append_assoc (head s r) (taken_at s (rest r)) (left s r))
-        ∙ ap (λ xs. xs ++ left s r) (sym (taken_here h s r))
-        ∙ h.fits.whole s r hs' hr
-        ∙ ap (λ xs. xs ++ all) (held_here h s r)
-        ∙ append_assoc (head s r) lost all
-        ∙ ap (λ xs. head s r ++ (lost ++ xs)) (sent_here h s r) in
+      sym (append_assoc (head s r) (taken_at s (rest r)) (left s r))
+      ∙ ap (λ xs. xs ++ left s r) (sym (taken_here h s r))
+      ∙ h.fits.whole s r hs' hr
+      ∙ ap (λ xs. xs ++ all) (held_here h s r)
+      ∙ append_assoc (head s r) lost all
+      ∙ ap (λ xs. head s r ++ (lost ++ xs)) (sent_here h s r) in
       append_cancel_left (head s r) (taken_at s (rest r) ++ left s r) (lost ++ (gain s r ++ more)) both ∙ sym (append_assoc lost (gain s r) more)
 
   -- what is left of the histories fits the world behind the step
@@ -169,8 +168,8 @@ module _ {A M N : Type 0} (ready : A → M → Bool) (step : A → ℕ → M →
         within = rw count (λ j past. at_put hs k es (λ y xs. n ≤ y → xs ≡ []) j (λ over. let small = receiver h in absurd (omega arith)) (λ _. h.fits.within j) past);
         ports = rw count (λ j. at_put hs k es (λ y xs. PortsBelow n xs) j (rw is at (h.fits.ports k)).1 (λ _. h.fits.ports j));
         was_ready = λ j. at_put hs k es (λ y xs. WasReady ready step y (node_of ready step d next y) xs) j
-          (rw own (rw is at (h.fits.was_ready k)).1)
-          (λ other. let node = node_other h j other in rw node (h.fits.was_ready j));
+            (rw own (rw is at (h.fits.was_ready k)).1)
+            (λ other. let node = node_other h j other in rw node (h.fits.was_ready j));
       }
 
   pub past_on : Next → (j : ℕ) → Past (rest j)

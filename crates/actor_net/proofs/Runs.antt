@@ -1,5 +1,5 @@
 -- Runs: a list of choices is one exactly where no choice of it is at fault, and runs join.
-use Rattle.std.proofs.Common.{◌≡◌, ℕ, ◌+◌, Bool, true, false, Option, None, Some, List, [], ◌∷◌, ◌++◌, refl, sym, ◌∙◌}
+use Rattle.std.proofs.Common.{◌≡◌, ℕ, ◌+◌, Bool, true, false, None, Some, List, [], ◌∷◌, ◌++◌, refl}
 use Rattle.std.specs.Prelude.{if◌then◌else◌}
 use Rattle.actor_net.specs.declared.choice.Choice.{Choice}
 use Rattle.actor_net.specs.Network.{Network, Stepped, is_enabled, taken, run, IsRun, fault_from}
@@ -9,8 +9,8 @@ pub run_without_fault : {A M N : Type 0} (ready : A → M → Bool) (step : A �
 run_without_fault ready step at [] w none = tt
 run_without_fault ready step at (c ∷ cs) w none =
     elim (is_enabled ready w c) as (λ b. is_enabled ready w c ≡ b → (if b then fault_from ready step (at + 1) cs (taken step w c) else Some at) ≡ None → (is_enabled ready w c ≡ true) × IsRun ready step cs (taken step w c)) [
-      true ↦ λ is rest. (is, run_without_fault ready step (at + 1) cs (taken step w c) rest)
-    | false ↦ λ is never. cc
+      | true ↦ λ is rest. (is, run_without_fault ready step (at + 1) cs (taken step w c) rest)
+      | false ↦ λ is never. cc
     ] refl none
 
 -- the choices of one run and then of another, from where the first ends

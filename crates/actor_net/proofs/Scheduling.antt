@@ -1,14 +1,15 @@
 -- What a schedule takes: an enabled choice, and none only where none is enabled.
-use Rattle.std.proofs.Common.{◌≡◌, ◌≢◌, ℕ, zero, suc, ◌+◌, ◌-◌, ◌<◌, ◌≤◌, Bool, true, false, Option, None, Some, List, [], ◌∷◌, ◌++◌, ◌⊎◌, length, get_or, refl, sym, ap, subst, ◌∙◌, append_assoc, append-nil, arith, inl, inr}
+use Rattle.std.proofs.Common.{◌≡◌, ℕ, zero, suc, ◌+◌, ◌-◌, ◌<◌, ◌≤◌, Bool, true, false, Option, None, Some, List, [], ◌∷◌, ◌++◌, ◌⊎◌, length, get_or, refl, sym, ap, subst, ◌∙◌, append_assoc, append-nil, arith, inl, inr}
 use Rattle.std.specs.Prelude.{if◌then◌else◌, slice_get, nat_lt, ◌*◌, ◌==◌, ◌&&◌}
 use Rattle.std.specs.List.{list_all}
-use Rattle.std.proofs.lemmas.Grind.{common_steps}
-use Rattle.std.proofs.lemmas.Bool.Decides.{Decides-eqb}
+use Rattle.std.proofs.lemmas.Bool.Decides.{nat_tests, Decides-eqb}
 use Rattle.std.proofs.lemmas.List.{nil_from_length}
-use Rattle.std.proofs.lemmas.Option.{slice_get-get_or}
+use Rattle.std.proofs.lemmas.Option.{slice_get-get_or, slice_get_past}
+use Rattle.std.proofs.lemmas.Bool.{cases_lt}
 use Rattle.actor_net.specs.declared.choice.Choice.{Choice}
 use Rattle.actor_net.specs.declared.schedule.Schedule.{Schedule}
 use Rattle.actor_net.specs.declared.schedule.Schedule.TheVariants.{First, Last, Number}
+use Rattle.actor_net.proofs.Enabled.{found_at}
 use Rattle.actor_net.specs.Network.{Network, Stepped, is_input, on_link, waiting, takes_first, is_enabled, taken, run, is_done}
 use Rattle.actor_net.specs.Schedules.{ports_below, nodes_below, enabled_choices, place_in, later, picked, taken_then, scheduled, StopsShort}
 
@@ -76,8 +77,8 @@ none_waits ended w c done =
     let input = empty_one w.input (both_left (length w.input == 0) (list_all (λ l. length l == 0) w.links) quiet) in
     let link = empty_there w.links (c.port * length w.nodes + c.node) (both_right (length w.input == 0) (list_all (λ l. length l == 0) w.links) quiet) in
     elim (is_input c) as (λ b. (if b then w.input else on_link w c.port c.node) ≡ []) [
-      true ↦ input
-    | false ↦ elim (nat_lt c.port (length w.nodes) && nat_lt c.node (length w.nodes)) as (λ b. (if b then get_or w.links (c.port * length w.nodes + c.node) [] else []) ≡ []) [ true ↦ link | false ↦ refl ]
+      | true ↦ input
+      | false ↦ elim (nat_lt c.port (length w.nodes) && nat_lt c.node (length w.nodes)) as (λ b. (if b then get_or w.links (c.port * length w.nodes + c.node) [] else []) ≡ []) [ true ↦ link | false ↦ refl ]
     ]
 
 nothing : {A M : Type 0} (ready : A → M → Bool) (c : Choice) (o : Option A) (ms : List M) → ms ≡ [] → takes_first ready c o ms ≡ false
@@ -95,8 +96,8 @@ module _ {A M N : Type 0} (ready : A → M → Bool) (ended : A → Bool) (step 
   scheduled_none zero schedule w none = refl
   scheduled_none (suc most) schedule w none =
       elim (is_done ended w) as (λ b. (if b then [] else taken_then (picked ready schedule w) (λ c. scheduled ready ended step most (later schedule) (taken step w c))) ≡ []) [
-        true ↦ refl
-      | false ↦ rw none refl
+        | true ↦ refl
+        | false ↦ rw none refl
       ]
 
   pub scheduled_some : (most : ℕ) (schedule : Schedule) (w : Network A M N) (c : Choice) → picked ready schedule w ≡ Some c → scheduled ready ended step (suc most) schedule w ≡ c ∷ scheduled ready ended step most (later schedule) (taken step w c)
@@ -136,3 +137,45 @@ module _ {A M N : Type 0} (ready : A → M → Bool) (ended : A → Bool) (step 
       stuck : (picked ready schedule w ≡ None) ⊎ (most ≤ n) → (enabled_choices ready (run step cs start) ≡ []) ⊎ (at ≡ most)
       stuck (inl none) = let empty = picked_none ready schedule w none in inl (rw world at empty)
       stuck (inr over) = inr (omega arith)
+
+-- a choice that can be taken is one of two nodes that are there
+pub enabled_within : {A M N : Type 0} (ready : A → M → Bool) (w : Network A M N) (c : Choice) → 0 < length w.nodes → is_enabled ready w c ≡ true → (c.node < length w.nodes) × (c.port < length w.nodes)
+enabled_within {A} {M} {N} ready w c some on = (
+  elim (cases_lt c.node (length w.nodes)) [
+    | inl less ↦ less
+    | inr over ↦
+        let gone = slice_get_past w.nodes c.node over in
+        let never : takes_first ready c None (waiting w c) ≡ true = ap (λ o. takes_first ready c o (waiting w c)) (sym gone) ∙ on in
+        cc
+  ],
+  elim (cases_lt c.port (length w.nodes)) [
+    | inl less ↦ less
+    | inr over ↦
+        let far : nat_lt c.port (length w.nodes) ≡ false = grind (arith, nat_tests) in
+        let other : is_input c ≡ false = grind (arith, nat_tests) in
+        let empty : waiting w c ≡ [] = rw (other, far) refl in
+        let never = sym on ∙ nothing ready c (slice_get w.nodes c.node) (waiting w c) empty in
+        cc
+  ],
+)
+
+-- where the list of enabled choices is empty, none can be taken
+pub none_enabled : {A M N : Type 0} (ready : A → M → Bool) (w : Network A M N) (c : Choice) → 0 < length w.nodes → enabled_choices ready w ≡ [] → is_enabled ready w c ≡ false
+none_enabled ready w c some none =
+    elim (is_enabled ready w c) as (λ b. is_enabled ready w c ≡ b → b ≡ false) [
+      | true ↦ λ on.
+          let there = enabled_within ready w c some on in
+          let found = found_at ready w c.node c.port (length (nodes_below ready w c.node ++ ports_below ready w c.node c.port)) there.0 there.1 on refl in
+          let place = length (nodes_below ready w c.node ++ ports_below ready w c.node c.port) in
+          let never : slice_get [] place ≡ Some c = ap (λ xs. slice_get xs place) (sym none) ∙ found in
+          cc
+      | false ↦ λ _. refl
+    ] refl
+
+-- and where none can be taken, it is empty
+pub enabled_choices-none : {A M N : Type 0} (ready : A → M → Bool) (w : Network A M N) → ((c : Choice) → is_enabled ready w c ≡ false) → enabled_choices ready w ≡ []
+enabled_choices-none ready w none = empty (enabled_choices ready w) (λ i x at. let on = nodes_enabled ready w (length w.nodes) i x at in let off = none x in let never : false ≡ true = sym off ∙ on in cc)
+  where
+    empty : (xs : List Choice) → ((i : ℕ) (x : Choice) → slice_get xs i ≡ Some x → ⊥) → xs ≡ []
+    empty [] never = refl
+    empty (x ∷ xs) never = absurd (never 0 x refl)

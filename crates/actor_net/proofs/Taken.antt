@@ -1,11 +1,9 @@
 -- What a choice that can be taken leaves: the nodes, what waits, and the log.
-use Rattle.std.proofs.Common.{◌≡◌, ◌≢◌, ℕ, ◌+◌, ◌*◌, ◌<◌, Bool, true, false, Some, List, [], ◌∷◌, ◌++◌, length, get_or, set, drop, refl, sym, ap, ◌∙◌, arith}
+use Rattle.std.proofs.Common.{◌≡◌, ◌≢◌, ℕ, ◌+◌, ◌*◌, ◌<◌, true, false, Some, List, [], ◌∷◌, ◌++◌, length, get_or, set, drop, refl, ap, ◌∙◌}
 use Rattle.std.specs.Prelude.{if◌then◌else◌, ◌==◌, ◌&&◌, slice_get}
-use Rattle.std.proofs.lemmas.Bool.Decides.{nat_tests, Decides-eqb}
 use Rattle.std.proofs.lemmas.List.{get_or-set_same, get_or-set_other, length-set}
 use Rattle.std.proofs.lemmas.Option.{slice_get-get_or}
-use Rattle.actor_net.specs.declared.choice.Choice.{Choice}
-use Rattle.actor_net.specs.Network.{Network, Stepped, is_input, waiting, is_enabled, without_first, after, taken_from, taken}
+use Rattle.actor_net.specs.Network.{Network, Stepped, waiting, without_first, after, taken_from, taken}
 use Rattle.actor_net.proofs.Enabled.{at}
 use Rattle.actor_net.proofs.Links.{put_there, length-delivered, loop_after_sends}
 use Rattle.actor_net.proofs.Steps.{loop_stays}
@@ -24,7 +22,7 @@ module _ {A M N : Type 0} (step : A → ℕ → M → Stepped A M N) (w : Networ
   abbrev pub did : Stepped A M N
   did = step node p m
 
-  taken_is : Takes → taken step w (at k p) ≡ after (without_first w (at k p)) k did
+  pub taken_is : Takes → taken step w (at k p) ≡ after (without_first w (at k p)) k did
   taken_is h =
       let there : slice_get w.nodes k ≡ Some node = slice_get-get_or w.nodes k node h.receiver ∙ ap Some (h.node_is node) in
       ap (λ o. taken_from step w (at k p) o (waiting w (at k p))) there ∙ ap (λ ms. taken_from step w (at k p) (Some node) ms) h.waits
@@ -46,14 +44,20 @@ module _ {A M N : Type 0} (step : A → ℕ → M → Stepped A M N) (w : Networ
   unfolding from_input from_link
   kept some =
       elim ((k == 0) && (p == 0)) as (λ b. (k == 0) && (p == 0) ≡ b → Kept (if b then from_input else from_link)) [
-        true ↦ λ _. record { nodes = refl; log = refl; links = refl; loop = refl }
-      | false ↦ λ off. record {
+        | true ↦ λ _. record { nodes = refl; log = refl; links = refl; loop = refl }
+        | false ↦ λ off. record {
           nodes = refl;
           log = refl;
           links = length-set w.links (p * length w.nodes + k) (drop 1 (waiting w (at k p)));
           loop = loop_stays (length w.nodes) p k w.links (drop 1 (waiting w (at k p))) some off;
         }
       ] refl
+
+  pub without_nodes : 0 < length w.nodes → (without_first w (at k p)).nodes ≡ w.nodes
+  without_nodes some = (kept some).nodes
+
+  pub without_links : 0 < length w.nodes → length (without_first w (at k p)).links ≡ length w.links
+  without_links some = (kept some).links
 
   -- what the choice leaves
   pub record Left (v : Network A M N) : Type 0 where
@@ -78,9 +82,9 @@ module _ {A M N : Type 0} (step : A → ℕ → M → Stepped A M N) (w : Networ
         own = λ d. get_or-set_same without.nodes k did.node d small;
         others = λ j d other. get_or-set_other without.nodes k j did.node d other ∙ ap (λ xs. get_or xs j d) nodes;
         waits = λ s r hs hr.
-          waiting-after without k s r did square small (rw nodes hs) (rw nodes hr)
-          ∙ ap (λ xs. xs ++ put_there (length without.nodes) k s r did.sends) (waiting-without_first w p k s r h.square h.sender h.receiver hs hr)
-          ∙ ap (λ n. behind ((s == p) && (r == k)) (waiting w (at r s)) ++ put_there n k s r did.sends) (ap length nodes);
+            waiting-after without k s r did square small (rw nodes hs) (rw nodes hr)
+            ∙ ap (λ xs. xs ++ put_there (length without.nodes) k s r did.sends) (waiting-without_first w p k s r h.square h.sender h.receiver hs hr)
+            ∙ ap (λ n. behind ((s == p) && (r == k)) (waiting w (at r s)) ++ put_there n k s r did.sends) (ap length nodes);
         log = ap (λ xs. xs ++ did.notes) stays.log;
         links = length-delivered (length without.nodes) k did.sends without.links ∙ stays.links;
         loop = loop_after_sends (length without.nodes) k did.sends without.links (rw nodes h.some) ∙ stays.loop;

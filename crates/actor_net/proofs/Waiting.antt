@@ -1,14 +1,11 @@
 -- What waits at each choice after a step: what waited before, without the message that was taken, and then what was sent.
-use Rattle.std.proofs.Common.{◌≡◌, ◌≢◌, ℕ, zero, suc, ◌+◌, ◌*◌, ◌<◌, ◌≤◌, Bool, true, false, Some, List, [], ◌∷◌, ◌++◌, length, get_or, set, drop, refl, sym, ap, subst, ◌∙◌, append_assoc, append-nil, arith, inl, inr}
-use Rattle.std.specs.Prelude.{if◌then◌else◌, ◌==◌, ◌&&◌, not, nat_lt, slice_get}
-use Rattle.std.proofs.lemmas.Grind.{common_steps}
-use Rattle.std.proofs.lemmas.Bool.Decides.{nat_tests, Decides-eqb, Decides-ltb}
+use Rattle.std.proofs.Common.{◌≡◌, ℕ, ◌+◌, ◌*◌, ◌<◌, Bool, true, false, List, [], ◌++◌, length, get_or, set, drop, refl, sym, ◌∙◌, append-nil, arith}
+use Rattle.std.specs.Prelude.{if◌then◌else◌, ◌==◌, ◌&&◌}
+use Rattle.std.proofs.lemmas.Bool.Decides.{nat_tests, Decides-ltb}
 use Rattle.std.proofs.lemmas.List.{get_or-set_same, get_or-set_other, length-set}
-use Rattle.std.proofs.lemmas.Option.{slice_get-get_or}
-use Rattle.actor_net.specs.declared.choice.Choice.{Choice}
-use Rattle.actor_net.specs.Network.{Network, Stepped, is_input, on_link, waiting, takes_first, is_enabled, without_first, after, taken, delivered, reaches}
+use Rattle.actor_net.specs.Network.{Network, Stepped, waiting, without_first, after, delivered, reaches}
 use Rattle.actor_net.proofs.Enabled.{at}
-use Rattle.actor_net.proofs.Links.{put_there, link_after_sends, length-delivered, inside, other_place}
+use Rattle.actor_net.proofs.Links.{put_there, link_after_sends, inside, other_place}
 
 -- a list, or what is left of it behind its first
 abbrev pub behind : {X : Type 0} → Bool → List X → List X
@@ -31,12 +28,12 @@ link_without : {M : Type 0} (n : ℕ) (ls : List (List M)) (p k s r : ℕ) → l
 link_without n ls p k s r square hp hk hs hr =
     let new = drop 1 (get_or ls (p * n + k) []) in
     elim ((s == p) && (r == k)) as (λ b. (s == p) && (r == k) ≡ b → get_or (set ls (p * n + k) new) (s * n + r) [] ≡ behind b (get_or ls (s * n + r) [])) [
-      true ↦ λ on.
-        let same = alike s r p k on in
-        let place : s * n + r ≡ p * n + k = rw (same.0, same.1) refl in
-        let small : p * n + k < length ls = rw square (inside n p k hp hk) in
-        rw place (get_or-set_same ls (p * n + k) new [] small)
-    | false ↦ λ off. get_or-set_other ls (p * n + k) (s * n + r) new [] (other_place n p k s r hk hr (λ here this. apart s r p k off here (sym this)))
+      | true ↦ λ on.
+          let same = alike s r p k on in
+          let place : s * n + r ≡ p * n + k = rw (same.0, same.1) refl in
+          let small : p * n + k < length ls = rw square (inside n p k hp hk) in
+          rw place (get_or-set_same ls (p * n + k) new [] small)
+      | false ↦ λ off. get_or-set_other ls (p * n + k) (s * n + r) new [] (other_place n p k s r hk hr (λ here this. apart s r p k off here (sym this)))
     ] refl
 
 -- node 0 puts nothing on the input
@@ -58,20 +55,20 @@ module _ {A M N : Type 0} where
   waiting-without_first w p k s r square hp hk hs hr =
       let n = length w.nodes in
       rw (waiting_is w s r hs hr) (elim ((k == 0) && (p == 0)) as (λ b. (k == 0) && (p == 0) ≡ b → waiting (if b then record { nodes = w.nodes; links = w.links; input = drop 1 w.input; log = w.log } else record { nodes = w.nodes; links = set w.links (p * n + k) (drop 1 (waiting w (at k p))); input = w.input; log = w.log }) (at r s) ≡ behind ((s == p) && (r == k)) (if (r == 0) && (s == 0) then w.input else get_or w.links (s * n + r) [])) [
-        true ↦ λ on.
-          let first : Network A M N = record { nodes = w.nodes; links = w.links; input = drop 1 w.input; log = w.log } in
-          let zeros = alike k p 0 0 on in
-          let test : (s == p) && (r == k) ≡ (r == 0) && (s == 0) = rw (zeros.0, zeros.1) (and_swap (s == 0) (r == 0)) in
-          rw (waiting_is first s r hs hr, test) (elim ((r == 0) && (s == 0)) as (λ b. (if b then drop 1 w.input else get_or w.links (s * n + r) []) ≡ behind b (if b then w.input else get_or w.links (s * n + r) [])) [ true ↦ refl | false ↦ refl ])
-      | false ↦ λ off.
-          let here : waiting w (at k p) ≡ get_or w.links (p * n + k) [] = waiting_is w p k hp hk ∙ rw off refl in
-          let rest : Network A M N = record { nodes = w.nodes; links = set w.links (p * n + k) (drop 1 (get_or w.links (p * n + k) [])); input = w.input; log = w.log } in
-          rw (here, waiting_is rest s r hs hr) (elim ((r == 0) && (s == 0)) as (λ b. (r == 0) && (s == 0) ≡ b → (if b then w.input else get_or (set w.links (p * n + k) (drop 1 (get_or w.links (p * n + k) []))) (s * n + r) []) ≡ behind ((s == p) && (r == k)) (if b then w.input else get_or w.links (s * n + r) [])) [
-            true ↦ λ zero.
-              let other : (s == p) && (r == k) ≡ false = grind (arith, nat_tests) in
-              rw other refl
-          | false ↦ λ _. link_without n w.links p k s r square hp hk hs hr
-          ] refl)
+        | true ↦ λ on.
+            let first : Network A M N = record { nodes = w.nodes; links = w.links; input = drop 1 w.input; log = w.log } in
+            let zeros = alike k p 0 0 on in
+            let test : (s == p) && (r == k) ≡ (r == 0) && (s == 0) = rw (zeros.0, zeros.1) (and_swap (s == 0) (r == 0)) in
+            rw (waiting_is first s r hs hr, test) (elim ((r == 0) && (s == 0)) as (λ b. (if b then drop 1 w.input else get_or w.links (s * n + r) []) ≡ behind b (if b then w.input else get_or w.links (s * n + r) [])) [ true ↦ refl | false ↦ refl ])
+        | false ↦ λ off.
+            let here : waiting w (at k p) ≡ get_or w.links (p * n + k) [] = waiting_is w p k hp hk ∙ rw off refl in
+            let rest : Network A M N = record { nodes = w.nodes; links = set w.links (p * n + k) (drop 1 (get_or w.links (p * n + k) [])); input = w.input; log = w.log } in
+            rw (here, waiting_is rest s r hs hr) (elim ((r == 0) && (s == 0)) as (λ b. (r == 0) && (s == 0) ≡ b → (if b then w.input else get_or (set w.links (p * n + k) (drop 1 (get_or w.links (p * n + k) []))) (s * n + r) []) ≡ behind ((s == p) && (r == k)) (if b then w.input else get_or w.links (s * n + r) [])) [
+              | true ↦ λ zero.
+                  let other : (s == p) && (r == k) ≡ false = grind (arith, nat_tests) in
+                  rw other refl
+              | false ↦ λ _. link_without n w.links p k s r square hp hk hs hr
+            ] refl)
       ] refl)
 
   -- after a step at node k, what it sent stands behind what waited
@@ -80,6 +77,6 @@ module _ {A M N : Type 0} where
       let n = length w.nodes in
       let count : length (set w.nodes k did.node) ≡ n = length-set w.nodes k did.node in
       rw (waiting_is (after w k did) s r (rw count hs) (rw count hr), waiting_is w s r hs hr, count) (elim ((r == 0) && (s == 0)) as (λ b. (r == 0) && (s == 0) ≡ b → (if b then w.input else get_or (delivered n k did.sends w.links) (s * n + r) []) ≡ (if b then w.input else get_or w.links (s * n + r) []) ++ put_there n k s r did.sends) [
-        true ↦ λ zero. rw (put_on_input n k s r did.sends zero, append-nil w.input) refl
-      | false ↦ λ _. link_after_sends n k did.sends w.links s r square hk hr
+        | true ↦ λ zero. rw (put_on_input n k s r did.sends zero, append-nil w.input) refl
+        | false ↦ λ _. link_after_sends n k did.sends w.links s r square hk hr
       ] refl)

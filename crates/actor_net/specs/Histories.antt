@@ -1,7 +1,7 @@
 -- Histories of nodes that ran beside each other: what each step took, sent and noted, and when. A step's clock is greater
 -- than its node's clock before and than the stamp of the message that it takes, and what it sends carries it. This is the
 -- project's own.
-use Rattle.std.specs.Prelude.{◌≡◌, ◌==◌, ◌<◌, ℕ, Bool, true, false, if◌then◌else◌, List, [], ◌∷◌, ◌++◌, map}
+use Rattle.std.specs.Prelude.{◌≡◌, ◌==◌, ◌<◌, ℕ, Bool, true, if◌then◌else◌, List, [], ◌∷◌, ◌++◌, map}
 use Rattle.actor_net.specs.declared.choice.Choice.{Choice}
 use Rattle.actor_net.specs.declared.stamped.Stamped.{Stamped}
 use Rattle.actor_net.specs.Network.{Stepped, reaches}

@@ -1,6 +1,6 @@
 -- Actors that pass messages over links: what a step does, what a world is, and which lists of choices are its runs.
 -- Links are lossless and first in first out. This is the project's own model, and restates no standard.
-use Rattle.std.specs.Prelude.{◌≡◌, ◌==◌, ◌&&◌, ◌<◌, ℕ, suc, ◌+◌, ◌*◌, Bool, true, false, not, if◌then◌else◌, Option, None, Some, List, [], ◌∷◌, ◌++◌, length, drop, nat_lt, slice_get, slice_index_or, slice_set}
+use Rattle.std.specs.Prelude.{◌≡◌, ◌==◌, ◌&&◌, ◌<◌, ℕ, ◌+◌, ◌*◌, Bool, true, false, not, if◌then◌else◌, Option, None, Some, List, [], ◌∷◌, ◌++◌, length, drop, nat_lt, slice_get, slice_index_or, slice_set}
 use Rattle.std.specs.List.{list_all}
 use Rattle.actor_net.specs.declared.choice.Choice.{Choice}
 

@@ -1,5 +1,5 @@
 -- How a world is made and taken apart. This is the project's own.
-use Rattle.std.specs.Prelude.{ℕ, ◌*◌, List, [], length, replicate}
+use Rattle.std.specs.Prelude.{◌*◌, List, [], length, replicate}
 use Rattle.actor_net.specs.declared.world.Parts.{Parts}
 use Rattle.actor_net.specs.Network.{Network}
 

@@ -1,6 +1,6 @@
 -- Schedules: which of the enabled choices is taken next. The words of a numbered schedule are those of the generator
 -- SplitMix64 (Steele, Lea and Flood), whose state is the number itself. The rest is the project's own.
-use Rattle.std.specs.Prelude.{◌≡◌, ◌⊎◌, ℕ, zero, suc, ◌+◌, ◌-◌, ◌%◌, Bool, true, false, if◌then◌else◌, Option, None, Some, List, [], ◌∷◌, ◌++◌, length, slice_get}
+use Rattle.std.specs.Prelude.{◌≡◌, ◌⊎◌, ℕ, zero, suc, ◌-◌, ◌%◌, Bool, false, if◌then◌else◌, Option, None, Some, List, [], ◌∷◌, ◌++◌, length, slice_get}
 use Rattle.rand_xoshiro.specs.SplitMix64.{mix_u64, next_state}
 use Rattle.actor_net.specs.declared.choice.Choice.{Choice}
 use Rattle.actor_net.specs.declared.schedule.Schedule.{Schedule}

@@ -15,6 +15,8 @@ pub mod outbox;
 pub mod replays;
 pub mod schedule;
 pub mod stamped;
+#[cfg(test)]
+mod tests;
 pub mod world;
 
 pub use actor::Actor;

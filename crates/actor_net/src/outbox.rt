@@ -1,4 +1,4 @@
-ghost use Rattle.std.specs.Prelude.{◌≡◌, [], ◌∷◌, ◌++◌, OnOk, OnErr, MatchOption};
+ghost use Rattle.std.specs.Prelude.{◌≡◌, [], ◌∷◌, ◌++◌, OnOk, OnErr, MatchOption, IfNone};
 
 use flow_filter::NoMemory;
 use std::alloc::Global;
@@ -64,7 +64,7 @@ impl<M, N> Outbox<M, N> {
     /// The first of what was sent, taken out. Its place is used again.
     pub fn next_sent(&mut self) -> Option<(u8, M)>
         ensures sent { MatchOption result (self.old.0 ≡ []) (λ x. self.old.0 ≡ x ∷ self.new.0) }
-        ensures none { MatchOption result (self.new.0 ≡ []) (λ _. self.new.1 ≡ self.old.1) }
+        ensures none { IfNone result (self.new.0 ≡ []) }
         ensures notes { self.new.1 ≡ self.old.1 }
     {
         self.sent.pop_front()

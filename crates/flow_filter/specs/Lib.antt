@@ -1,0 +1,7 @@
+pub mod Address
+pub mod Block
+pub mod Flow
+pub mod Name
+pub mod Filter
+pub mod Reading
+pub mod FilterText

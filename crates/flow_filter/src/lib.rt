@@ -1,8 +1,25 @@
 //! Packets, flows and the small types that every other crate of `opennf` names.
 //!
-//! Contracts see a [`Sequence`] as the list of its items.
+//! Contracts see a [`Sequence`] as the list of its items, and every other type as its fields. The main promise is that
+//! of [`flow_of`]: it is the four cases of the definition `flow_of`, for every site and packet.
 #![tactic(auto)]
 
+pub mod filter;
+pub mod filter_text;
+pub mod flow;
+pub mod name;
+pub mod packet;
+pub mod prefix;
+pub mod reading;
 pub mod sequence;
+pub mod site;
+pub mod text;
 
+pub use filter::Filter;
+pub use filter_text::FilterFault;
+pub use flow::{Dir, Flow, flow_of};
+pub use name::Name;
+pub use packet::{Packet, Packets, TCP, UDP};
+pub use prefix::Prefix;
 pub use sequence::{Bytes, NoMemory, Sequence, Text};
+pub use site::Site;

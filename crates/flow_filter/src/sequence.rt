@@ -15,7 +15,7 @@ pub type Text = Sequence<u8>;
 /// Items in order, which contracts see as their list.
 #[derive(Debug, Drop)]
 pub struct Sequence<T> {
-    list: Vec<T>,
+    pub(crate) list: Vec<T>,
 }
 
 impl<T> Model for Sequence<T> {

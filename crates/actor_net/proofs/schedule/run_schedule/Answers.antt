@@ -1,4 +1,4 @@
-use Rattle.std.proofs.Common.{◌≡◌, ◌+◌, ◌∷◌, [], ◌++◌, ◌∙◌, Err, length, sym, ap, arith, rules, inl, inr}
+use Rattle.std.proofs.Common.{◌+◌, ◌∙◌, Err, sym, ap, inl, inr}
 use Rattle.std.proofs.lemmas.List.{length_push}
 use Rattle.actor_net.specs.Schedules.{schedule_of}
 use Rattle.actor_net.specs.declared.schedule.TheConstants.{MOST_CHOICES}
@@ -29,13 +29,13 @@ loop-preserved g c =
 pub returns-then-complete-clause-choices : goal.returns-then-complete-clause-choices
 returns-then-complete-clause-choices g c =
     elim c.loop-test.branch [
-      else-loop-test w ↦ scheduled_whole g.A.Actor.is_ready g.A.Actor.has_ended g.A.Actor.stepped MOST_CHOICES c.loop.counter (schedule_of c.loop.picker) c.loop.world c.loop.choices _ (inr w.loop-test.false) c.loop.invariant.choices
-    | then-loop-test+in_default w ↦ scheduled_whole g.A.Actor.is_ready g.A.Actor.has_ended g.A.Actor.stepped MOST_CHOICES c.loop.counter (schedule_of c.loop.picker) c.loop.world c.loop.choices _ (inl (sym w.pick.ensures.choice ∙ w.in_default.is)) c.loop.invariant.choices
+      | else-loop-test w ↦ scheduled_whole g.A.Actor.is_ready g.A.Actor.has_ended g.A.Actor.stepped MOST_CHOICES c.loop.counter (schedule_of c.loop.picker) c.loop.world c.loop.choices _ (inr w.loop-test.false) c.loop.invariant.choices
+      | then-loop-test+in_default w ↦ scheduled_whole g.A.Actor.is_ready g.A.Actor.has_ended g.A.Actor.stepped MOST_CHOICES c.loop.counter (schedule_of c.loop.picker) c.loop.world c.loop.choices _ (inl (sym w.pick.ensures.choice ∙ w.in_default.is)) c.loop.invariant.choices
     ]
 
 pub returns-else-complete-clause-unfinished : goal.returns-else-complete-clause-unfinished
 returns-else-complete-clause-unfinished g c =
     elim c.loop-test.branch [
-      else-loop-test w ↦ λ at is. stops_short g.A.Actor.is_ready g.A.Actor.has_ended g.A.Actor.stepped MOST_CHOICES c.loop.counter (schedule_of c.loop.picker) c.args.world c.loop.world c.loop.choices _ at (inr w.loop-test.false) c.loop.auto.counter-end c.loop.invariant.choices c.loop.invariant.world c.loop.invariant.count (sym c.complete.ensures ∙ c.if-complete.false) (cc)
-    | then-loop-test+in_default w ↦ λ at is. stops_short g.A.Actor.is_ready g.A.Actor.has_ended g.A.Actor.stepped MOST_CHOICES c.loop.counter (schedule_of c.loop.picker) c.args.world c.loop.world c.loop.choices _ at (inl (sym w.pick.ensures.choice ∙ w.in_default.is)) c.loop.auto.counter-end c.loop.invariant.choices c.loop.invariant.world c.loop.invariant.count (sym c.complete.ensures ∙ c.if-complete.false) (cc)
+      | else-loop-test w ↦ λ at is. stops_short g.A.Actor.is_ready g.A.Actor.has_ended g.A.Actor.stepped MOST_CHOICES c.loop.counter (schedule_of c.loop.picker) c.args.world c.loop.world c.loop.choices _ at (inr w.loop-test.false) c.loop.auto.counter-end c.loop.invariant.choices c.loop.invariant.world c.loop.invariant.count (sym c.complete.ensures ∙ c.if-complete.false) (cc)
+      | then-loop-test+in_default w ↦ λ at is. stops_short g.A.Actor.is_ready g.A.Actor.has_ended g.A.Actor.stepped MOST_CHOICES c.loop.counter (schedule_of c.loop.picker) c.args.world c.loop.world c.loop.choices _ at (inl (sym w.pick.ensures.choice ∙ w.in_default.is)) c.loop.auto.counter-end c.loop.invariant.choices c.loop.invariant.world c.loop.invariant.count (sym c.complete.ensures ∙ c.if-complete.false) (cc)
     ]

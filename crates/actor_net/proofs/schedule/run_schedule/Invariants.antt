@@ -7,8 +7,8 @@ use Rattle.actor_net.proofs.schedule.run_schedule.Given as goal
 abbrev pub invariant-loop : goal.invariant-loop
 invariant-loop g l = record {
   choices : l.choices ++ scheduled g.A.Actor.is_ready g.A.Actor.has_ended g.A.Actor.stepped (MOST_CHOICES - l.counter) (schedule_of l.picker) l.world
-    ≡ scheduled g.A.Actor.is_ready g.A.Actor.has_ended g.A.Actor.stepped MOST_CHOICES l.fn.schedule l.fn.world;
+      ≡ scheduled g.A.Actor.is_ready g.A.Actor.has_ended g.A.Actor.stepped MOST_CHOICES l.fn.schedule l.fn.world;
   world : l.world ≡ run g.A.Actor.stepped l.choices l.fn.world;
   run : IsRun g.A.Actor.is_ready g.A.Actor.stepped l.choices l.fn.world;
-  count : length l.choices ≡ l.counter
+  count : length l.choices ≡ l.counter;
 }

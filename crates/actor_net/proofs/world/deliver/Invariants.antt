@@ -8,7 +8,7 @@ invariant-loop-to g l = record {
   left : delivered l.nodes l.from l.outbox.0 l.links.items ≡ delivered l.nodes l.from l.fn.outbox.0 l.fn.links.items;
   count : length l.links.items ≡ l.nodes * l.nodes;
   loop_link : get_or l.links.items 0 [] ≡ get_or l.fn.links.items 0 [];
-  notes : l.outbox.1 ≡ l.fn.outbox.1
+  notes : l.outbox.1 ≡ l.fn.outbox.1;
 }
 
 abbrev pub decreases-loop-to : goal.decreases-loop-to

@@ -1,4 +1,4 @@
-use Rattle.std.proofs.Common.{◌≡◌, ◌+◌, ◌<◌, ◌^◌, true, false, length, ap, arith, rules}
+use Rattle.std.proofs.Common.{true, false, length, ap, arith, rules}
 use Rattle.std.proofs.lemmas.Grind.{common_steps}
 use Rattle.actor_net.proofs.Enabled.{count_fits, counted}
 use Rattle.actor_net.proofs.world.World.count_enabled.Goals as goal
@@ -13,6 +13,6 @@ overflow_add-count g c =
 pub loop-port-preserved : goal.loop-port-preserved
 loop-port-preserved g c =
     elim c.if-enabled.branch [
-      then-enabled w ↦ counted g.A.Actor.is_ready c.args.self.now c.loop-node.node c.loop-port.port _ _ true (search rules) c.loop-port.invariant w.count-is
-    | else-enabled w ↦ counted g.A.Actor.is_ready c.args.self.now c.loop-node.node c.loop-port.port _ _ false (search rules) c.loop-port.invariant w.count-is
+      | then-enabled w ↦ counted g.A.Actor.is_ready c.args.self.now c.loop-node.node c.loop-port.port _ _ true (search rules) c.loop-port.invariant w.count-is
+      | else-enabled w ↦ counted g.A.Actor.is_ready c.args.self.now c.loop-node.node c.loop-port.port _ _ false (search rules) c.loop-port.invariant w.count-is
     ]

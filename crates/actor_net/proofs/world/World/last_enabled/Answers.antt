@@ -1,6 +1,6 @@
-use Rattle.std.proofs.Common.{◌≡◌, ◌+◌, ◌-◌, ◌<◌, ◌≤◌, ◌^◌, ◌++◌, append_assoc, true, false, length, ap, sym, ◌∙◌, arith, rules}
+use Rattle.std.proofs.Common.{◌≡◌, ◌-◌, ◌<◌, ◌++◌, append_assoc, length, ap, sym, ◌∙◌, arith, rules}
 use Rattle.std.proofs.lemmas.Grind.{common_steps}
-use Rattle.actor_net.specs.Schedules.{enabled_choices, nodes_below, ports_below}
+use Rattle.actor_net.specs.Schedules.{nodes_below, ports_below}
 use Rattle.actor_net.proofs.Enabled.{at, last_at, nodes_below_last, ports_below_last-enabled, ports_below_last-disabled}
 use Rattle.actor_net.proofs.world.World.last_enabled.Goals as goal
 
@@ -19,8 +19,8 @@ returns-then-enabled g c =
     let row = ports_below g.A.Actor.is_ready c.args.self.now (c.loop-node.node - 1) (c.loop-port.port - 1) in
     let choice = at (c.loop-node.node - 1) (c.loop-port.port - 1) in
     sym (last_at _ (before ++ row) choice (c.loop-port.invariant
-      ∙ ap (λ xs. before ++ xs) (ports_below_last-enabled g.A.Actor.is_ready c.args.self.now (c.loop-node.node - 1) c.loop-port.port some (search rules))
-      ∙ sym (append_assoc before row _)))
+    ∙ ap (λ xs. before ++ xs) (ports_below_last-enabled g.A.Actor.is_ready c.args.self.now (c.loop-node.node - 1) c.loop-port.port some (search rules))
+    ∙ sym (append_assoc before row _)))
 
 pub loop-port-preserved : goal.loop-port-preserved
 loop-port-preserved g c =

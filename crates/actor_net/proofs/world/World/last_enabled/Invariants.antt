@@ -1,4 +1,4 @@
-use Rattle.std.proofs.Common.{◌≡◌, ◌++◌, length}
+use Rattle.std.proofs.Common.{◌≡◌, ◌++◌}
 use Rattle.actor_net.specs.Schedules.{ports_below, nodes_below, enabled_choices}
 use Rattle.actor_net.proofs.world.World.last_enabled.Given as goal
 

@@ -1,4 +1,4 @@
-use Rattle.std.proofs.Common.{◌≡◌, ◌+◌, ◌<◌, ◌≤◌, ◌^◌, true, false, length, ap, sym, ◌∙◌, arith, rules}
+use Rattle.std.proofs.Common.{true, false, length, ap, sym, ◌∙◌, arith, rules}
 use Rattle.std.proofs.lemmas.Grind.{common_steps}
 use Rattle.std.proofs.lemmas.Option.{slice_get_past}
 use Rattle.actor_net.specs.Schedules.{enabled_choices}
@@ -14,11 +14,11 @@ returns-then-before-place g c =
 pub loop-port-preserved : goal.loop-port-preserved
 loop-port-preserved g c =
     elim c.if-enabled.branch [
-      then-enabled+else-before-place w ↦ (
+      | then-enabled+else-before-place w ↦ (
         counted g.A.Actor.is_ready c.args.self.now c.loop-node.node c.loop-port.port _ _ true (search rules) c.loop-port.invariant.0 w.before-is,
         grind arith,
       )
-    | else-enabled w ↦ (
+      | else-enabled w ↦ (
         counted g.A.Actor.is_ready c.args.self.now c.loop-node.node c.loop-port.port _ _ false (search rules) c.loop-port.invariant.0 w.before-is,
         grind arith,
       )

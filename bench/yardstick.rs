@@ -1,0 +1,528 @@
+// The yardstick for speed: what `opennf sim conntrack --instances NAME --inside PREFIX --schedule last TRACE`
+// prints, by plain Rust with nothing proved, written to be fast. It takes the same words, in that order, and any
+// capture that the program takes; it keeps the fold alone, without a network of instances.
+//
+// Build: rustc -O yardstick.rs. The capture goes by in pieces of a megabyte. For each packet one byte is kept, the
+// state that it led to, since the line that counts the packets stands before their lines.
+use std::fs::File;
+use std::io::{self, Read, Write};
+use std::process::ExitCode;
+
+const STATES: [&str; 10] =
+    ["opening", "answered", "established", "finfwd", "finrev", "closed", "reset", "loose", "single", "both"];
+const OPENING: u8 = 0;
+const ANSWERED: u8 = 1;
+const ESTABLISHED: u8 = 2;
+const FINFWD: u8 = 3;
+const FINREV: u8 = 4;
+const CLOSED: u8 = 5;
+const RESET: u8 = 6;
+const LOOSE: u8 = 7;
+const SINGLE: u8 = 8;
+const BOTH: u8 = 9;
+
+/// What a packet means to the tracker: by its TCP flags, or that it is UDP.
+#[derive(Clone, Copy, PartialEq)]
+enum Class {
+    Reset,
+    Open,
+    Answer,
+    Finish,
+    Other,
+    Datagram,
+}
+
+const CLASSES: [Class; 6] =
+    [Class::Reset, Class::Open, Class::Answer, Class::Finish, Class::Other, Class::Datagram];
+
+const fn class_of(flags: u8) -> Class {
+    let (fin, syn, rst, ack) = (flags & 1 != 0, flags & 2 != 0, flags & 4 != 0, flags & 16 != 0);
+    if rst {
+        Class::Reset
+    } else if syn && ack {
+        Class::Answer
+    } else if syn {
+        Class::Open
+    } else if fin {
+        Class::Finish
+    } else {
+        Class::Other
+    }
+}
+
+const fn next_state(state: u8, class: Class, forward: bool) -> u8 {
+    match (state, class, forward) {
+        (SINGLE, _, false) => BOTH,
+        (SINGLE | BOTH, _, _) => state,
+        (CLOSED | RESET, Class::Open, _) => OPENING,
+        (CLOSED | RESET, _, _) => state,
+        (_, Class::Reset, _) => RESET,
+        (OPENING, Class::Answer, false) => ANSWERED,
+        (ANSWERED, Class::Other, true) | (LOOSE, Class::Other, false) => ESTABLISHED,
+        (OPENING | ANSWERED | ESTABLISHED | LOOSE, Class::Finish, true) => FINFWD,
+        (OPENING | ANSWERED | ESTABLISHED | LOOSE, Class::Finish, false) => FINREV,
+        (FINFWD, Class::Finish, false) | (FINREV, Class::Finish, true) => CLOSED,
+        _ => state,
+    }
+}
+
+/// `next_state` of each state, class and direction, at `state * 16 + class * 2 + forward`.
+static NEXT: [u8; 160] = {
+    let mut table = [0; 160];
+    let mut at = 0;
+    while at < 120 {
+        let (state, class, forward) = (at / 12, at / 2 % 6, at % 2);
+        table[state * 16 + class * 2 + forward] = next_state(state as u8, CLASSES[class], forward == 1);
+        at += 1;
+    }
+    table
+};
+
+static CLASS_OF: [Class; 32] = {
+    let mut table = [Class::Other; 32];
+    let mut flags = 0;
+    while flags < 32 {
+        table[flags] = class_of(flags as u8);
+        flags += 1;
+    }
+    table
+};
+
+/// A flow's protocol, local address and port, remote address and port, from the highest bits down, so that the
+/// order of these numbers is the order of the report.
+type Key = u128;
+
+#[derive(Clone, Copy)]
+struct Record {
+    key: Key,
+    packets: u64,
+    bytes: u64,
+    state: u8,
+    opener_out: bool,
+}
+
+/// No flow has protocol 0.
+const FREE: Record = Record { key: 0, packets: 0, bytes: 0, state: 0, opener_out: false };
+
+/// A hash table with a power of two of places, at most half of them taken.
+struct Table {
+    places: Vec<Record>,
+    taken: usize,
+}
+
+impl Table {
+    fn place_of(&self, key: Key) -> usize {
+        let (high, low) = ((key >> 64) as u64, key as u64);
+        let mixed = (high.wrapping_mul(0x9e37_79b9_7f4a_7c15) ^ low).wrapping_mul(0xd6e8_feb8_6659_fd93);
+        let mask = self.places.len() - 1;
+        let mut place = (mixed >> 32) as usize & mask;
+        while self.places[place].key != key && self.places[place].key != 0 {
+            place = (place + 1) & mask;
+        }
+        place
+    }
+
+    fn grow(&mut self) {
+        let wider = Table { places: vec![FREE; self.places.len() * 2], taken: self.taken };
+        let old = std::mem::replace(self, wider);
+        for record in old.places {
+            if record.key != 0 {
+                let place = self.place_of(record.key);
+                self.places[place] = record;
+            }
+        }
+    }
+
+    /// Counts a packet and gives the state that it leads to.
+    #[inline(always)]
+    fn step(&mut self, key: Key, out: bool, class: Class, length: u32) -> u8 {
+        let place = self.place_of(key);
+        let record = &mut self.places[place];
+        if record.key == 0 {
+            let (state, opener_out) = match class {
+                Class::Reset => (RESET, out),
+                Class::Open => (OPENING, out),
+                Class::Answer => (ANSWERED, !out),
+                Class::Finish => (FINFWD, out),
+                Class::Other => (LOOSE, out),
+                Class::Datagram => (SINGLE, out),
+            };
+            *record = Record { key, packets: 1, bytes: length as u64, state, opener_out };
+            self.taken += 1;
+            if self.taken * 2 > self.places.len() {
+                self.grow();
+            }
+            return state;
+        }
+        let forward = out == record.opener_out;
+        if class == Class::Open && (record.state == CLOSED || record.state == RESET) {
+            record.opener_out = out;
+        }
+        record.state = NEXT[record.state as usize * 16 + class as usize * 2 + forward as usize];
+        record.packets += 1;
+        record.bytes += length as u64;
+        record.state
+    }
+}
+
+struct Packet {
+    proto: u8,
+    src: u32,
+    sport: u16,
+    dst: u32,
+    dport: u16,
+    class: Class,
+    length: u32,
+}
+
+fn two(bytes: &[u8]) -> u16 {
+    u16::from_be_bytes([bytes[0], bytes[1]])
+}
+
+fn four(bytes: &[u8]) -> u32 {
+    u32::from_be_bytes([bytes[0], bytes[1], bytes[2], bytes[3]])
+}
+
+/// The packet in a frame, where it is IPv4 with TCP or UDP and not a later fragment.
+#[inline(always)]
+fn packet_of(frame: &[u8], ethernet: bool) -> Option<Packet> {
+    let ip = if !ethernet {
+        frame
+    } else if frame.len() >= 14 && two(&frame[12..]) == 0x0800 {
+        &frame[14..]
+    } else if frame.len() >= 18 && two(&frame[12..]) == 0x8100 && two(&frame[16..]) == 0x0800 {
+        &frame[18..]
+    } else {
+        return None;
+    };
+    if ip.len() < 20 || ip[0] >> 4 != 4 || two(&ip[6..]) & 0x1fff != 0 {
+        return None;
+    }
+    let header = 4 * (ip[0] & 15) as usize;
+    if header < 20 || ip.len() < header {
+        return None;
+    }
+    let total = match two(&ip[2..]) as usize {
+        0 => ip.len(),
+        total => total,
+    };
+    let segment = &ip[header..];
+    let (own, class) = match ip[9] {
+        6 if segment.len() >= 20 => (4 * (segment[12] >> 4) as usize, CLASS_OF[(segment[13] & 31) as usize]),
+        17 if segment.len() >= 8 => (8, Class::Datagram),
+        _ => return None,
+    };
+    if own < 8 || (ip[9] == 6 && own < 20) || total < header + own {
+        return None;
+    }
+    Some(Packet {
+        proto: ip[9],
+        src: four(&ip[12..]),
+        sport: two(segment),
+        dst: four(&ip[16..]),
+        dport: two(&segment[2..]),
+        class,
+        length: (total - header - own) as u32,
+    })
+}
+
+/// A prefix of addresses: an address is in it where its bits under the mask are these.
+struct Inside {
+    bits: u32,
+    mask: u32,
+}
+
+impl Inside {
+    fn read(text: &str) -> Option<Inside> {
+        let (address, len) = text.split_once('/')?;
+        let bits = u32::from(address.parse::<std::net::Ipv4Addr>().ok()?);
+        let mask = u32::MAX.checked_shl(32 - len.parse::<u32>().ok()?).unwrap_or(0);
+        Some(Inside { bits, mask })
+    }
+
+    fn has(&self, address: u32) -> bool {
+        address & self.mask == self.bits
+    }
+
+    /// The packet's flow, and whether it goes out.
+    #[inline(always)]
+    fn flow_of(&self, packet: &Packet) -> (Key, bool) {
+        let (source, target) = (self.has(packet.src), self.has(packet.dst));
+        let out = if source != target {
+            source
+        } else {
+            (packet.src, packet.sport) <= (packet.dst, packet.dport)
+        };
+        let src = (packet.src as u64) << 16 | packet.sport as u64;
+        let dst = (packet.dst as u64) << 16 | packet.dport as u64;
+        let (local, remote) = if out { (src, dst) } else { (dst, src) };
+        ((packet.proto as u128) << 96 | (local as u128) << 48 | remote as u128, out)
+    }
+}
+
+/// The bytes of a file, of which at least a wanted number is at hand.
+struct Input {
+    file: File,
+    buffer: Vec<u8>,
+    from: usize,
+    to: usize,
+}
+
+impl Input {
+    fn open(name: &str) -> io::Result<Input> {
+        Ok(Input { file: File::open(name)?, buffer: vec![0; 1 << 20], from: 0, to: 0 })
+    }
+
+    /// Whether `want` more bytes are there; they then stand in the buffer.
+    #[inline(always)]
+    fn has(&mut self, want: usize) -> io::Result<bool> {
+        if self.to - self.from >= want {
+            return Ok(true);
+        }
+        self.fill(want)
+    }
+
+    #[cold]
+    fn fill(&mut self, want: usize) -> io::Result<bool> {
+        self.buffer.copy_within(self.from..self.to, 0);
+        self.to -= self.from;
+        self.from = 0;
+        while self.to < want {
+            match self.file.read(&mut self.buffer[self.to..])? {
+                0 => return Ok(false),
+                taken => self.to += taken,
+            }
+        }
+        Ok(true)
+    }
+
+    fn take(&mut self, count: usize) -> &[u8] {
+        let from = self.from;
+        self.from += count;
+        &self.buffer[from..from + count]
+    }
+}
+
+struct Run {
+    table: Table,
+    states: Vec<u8>,
+    skipped: u32,
+    cut: bool,
+}
+
+fn run(trace: &str, inside: &Inside) -> io::Result<Run> {
+    let refused = |kind: &str| Err(io::Error::new(io::ErrorKind::InvalidData, kind));
+    let mut input = Input::open(trace)?;
+    if !input.has(24)? {
+        return refused("no capture");
+    }
+    let header = input.take(24);
+    let big = match header[..4] {
+        [0xa1, 0xb2, 0xc3, 0xd4] | [0xa1, 0xb2, 0x3c, 0x4d] => true,
+        [0xd4, 0xc3, 0xb2, 0xa1] | [0x4d, 0x3c, 0xb2, 0xa1] => false,
+        _ => return refused("no capture"),
+    };
+    let number = |bytes: &[u8]| if big { four(bytes) } else { four(bytes).swap_bytes() };
+    let ethernet = match number(&header[20..]) & 0xffff {
+        1 => true,
+        101 => false,
+        _ => return refused("link type"),
+    };
+    let table = Table { places: vec![FREE; 1 << 12], taken: 0 };
+    let mut run = Run { table, states: Vec::with_capacity(1 << 12), skipped: 0, cut: false };
+    while input.has(16)? {
+        let captured = number(&input.take(16)[8..]) as usize;
+        if captured > 262_144 {
+            return refused("record length");
+        }
+        if !input.has(captured)? {
+            run.cut = true;
+            return Ok(run);
+        }
+        match packet_of(input.take(captured), ethernet) {
+            Some(packet) => {
+                let (key, out) = inside.flow_of(&packet);
+                run.states.push(run.table.step(key, out, packet.class, packet.length));
+            }
+            None => run.skipped += 1,
+        }
+    }
+    run.cut = input.from < input.to;
+    Ok(run)
+}
+
+const ROOM: usize = 1 << 17;
+
+/// Standard output behind a buffer, and a line's worth of room behind that.
+struct Output {
+    target: io::StdoutLock<'static>,
+    buffer: Vec<u8>,
+    used: usize,
+}
+
+impl Output {
+    /// Writes out what is held, where less than a line's room is left.
+    #[inline(always)]
+    fn line(&mut self) -> io::Result<()> {
+        if self.used > ROOM {
+            self.flush()?;
+        }
+        Ok(())
+    }
+
+    #[cold]
+    fn flush(&mut self) -> io::Result<()> {
+        self.target.write_all(&self.buffer[..self.used])?;
+        self.used = 0;
+        Ok(())
+    }
+
+    #[inline(always)]
+    fn text(&mut self, text: &[u8]) {
+        self.buffer[self.used..self.used + text.len()].copy_from_slice(text);
+        self.used += text.len();
+    }
+
+    /// A text that stands in front of its block: the whole block is copied, which takes no loop.
+    #[inline(always)]
+    fn block<const N: usize>(&mut self, block: &[u8; N], len: usize) {
+        self.buffer[self.used..self.used + N].copy_from_slice(block);
+        self.used += len;
+    }
+
+    fn number(&mut self, mut number: u64) {
+        let mut digits = [0; 20];
+        let mut from = 20;
+        loop {
+            from -= 1;
+            digits[from] = b'0' + (number % 10) as u8;
+            number /= 10;
+            if number == 0 {
+                break;
+            }
+        }
+        self.text(&digits[from..]);
+    }
+
+    fn endpoint(&mut self, endpoint: u64) {
+        for shift in [40, 32, 24, 16] {
+            self.number(endpoint >> shift & 255);
+            self.text(if shift == 16 { b":" } else { b"." });
+        }
+        self.number(endpoint & 0xffff);
+    }
+}
+
+/// A word and a number that counts up from 1, as text: `out 1`, `out 2`, ..
+struct Count {
+    block: [u8; 16],
+    first: usize,
+    len: usize,
+}
+
+impl Count {
+    fn open(word: &[u8]) -> Count {
+        let mut block = [0; 16];
+        block[..word.len()].copy_from_slice(word);
+        block[word.len()] = b'0';
+        Count { block, first: word.len(), len: word.len() + 1 }
+    }
+
+    #[inline(always)]
+    fn next(&mut self) {
+        let mut at = self.len - 1;
+        while self.block[at] == b'9' {
+            self.block[at] = b'0';
+            if at == self.first {
+                self.block[at] = b'1';
+                self.block[self.len] = b'0';
+                self.len += 1;
+                return;
+            }
+            at -= 1;
+        }
+        self.block[at] += 1;
+    }
+}
+
+fn print(run: &Run, name: &str, output: &mut Output) -> io::Result<()> {
+    output.text(b"opennf report 1\nfunction conntrack instances 1 window 256\ntrace packets ");
+    output.number(run.states.len() as u64);
+    output.text(b" skipped ");
+    output.number(run.skipped as u64);
+    output.text(if run.cut { b" cut\n" } else { b" whole\n" });
+    let ends = STATES.map(|state| {
+        let mut block = [0; 16];
+        block[0] = b' ';
+        block[1..=state.len()].copy_from_slice(state.as_bytes());
+        block[state.len() + 1] = b'\n';
+        (block, state.len() + 2)
+    });
+    let mut count = Count::open(b"out ");
+    for &state in &run.states {
+        output.line()?;
+        count.next();
+        output.block(&count.block, count.len);
+        let (block, len) = &ends[state as usize];
+        output.block(block, *len);
+    }
+    let mut end = [0; 32];
+    end[0] = b' ';
+    end[1..=name.len()].copy_from_slice(name.as_bytes());
+    end[name.len() + 1] = b'\n';
+    let mut count = Count::open(b"done ");
+    for _ in &run.states {
+        output.line()?;
+        count.next();
+        output.block(&count.block, count.len);
+        output.block(&end, name.len() + 2);
+    }
+    let mut records: Vec<&Record> = run.table.places.iter().filter(|record| record.key != 0).collect();
+    records.sort_unstable_by_key(|record| record.key);
+    for record in records {
+        output.line()?;
+        output.text(if record.key >> 96 == 6 { b"state tcp " } else { b"state udp " });
+        output.endpoint((record.key >> 48) as u64 & 0xffff_ffff_ffff);
+        output.text(b" ");
+        output.endpoint(record.key as u64 & 0xffff_ffff_ffff);
+        output.text(b" ");
+        output.text(name.as_bytes());
+        output.text(b" ");
+        output.text(STATES[record.state as usize].as_bytes());
+        output.text(if record.opener_out { b" out packets " } else { b" in packets " });
+        output.number(record.packets);
+        output.text(b" bytes ");
+        output.number(record.bytes);
+        output.text(b"\n");
+    }
+    output.text(b"tally ");
+    output.text(name.as_bytes());
+    output.text(b" ");
+    output.number(run.states.len() as u64);
+    output.text(b"\nend\n");
+    output.flush()
+}
+
+fn main() -> ExitCode {
+    let words: Vec<String> = std::env::args().skip(1).collect();
+    let words: Vec<&str> = words.iter().map(String::as_str).collect();
+    let ["sim", "conntrack", "--instances", name, "--inside", inside, "--schedule", "last", trace] = words[..] else {
+        eprintln!("yardstick: sim conntrack --instances NAME --inside PREFIX --schedule last TRACE");
+        return ExitCode::from(1);
+    };
+    let Some(inside) = Inside::read(inside).filter(|_| name.len() <= 16) else {
+        eprintln!("yardstick: bad name or prefix");
+        return ExitCode::from(1);
+    };
+    let result = run(trace, &inside).and_then(|run| {
+        let mut output = Output { target: io::stdout().lock(), buffer: vec![0; ROOM + 512], used: 0 };
+        print(&run, name, &mut output)
+    });
+    match result {
+        Ok(()) => ExitCode::SUCCESS,
+        Err(fault) => {
+            eprintln!("yardstick: {fault}");
+            ExitCode::from(2)
+        }
+    }
+}

@@ -1,0 +1,147 @@
+-- What holds of each message that stands anywhere, and what messages weigh together: how both go on with a step. Generic in
+-- the actor; for invariants of a network that is built on it.
+use Rattle.std.proofs.Common.{◌≡◌, ℕ, zero, suc, ◌+◌, ◌*◌, ◌<◌, Bool, true, false, List, [], ◌∷◌, ◌++◌, length, get_or, set, drop, refl, sym, ap, subst, ◌∙◌, arith}
+use Rattle.std.specs.Prelude.{if◌then◌else◌, ◌==◌, ◌&&◌}
+use Rattle.std.proofs.lemmas.Bool.Decides.{Decides-eqb}
+use Rattle.actor_net.specs.Network.{Network, Stepped, on_link, waiting, without_first, put_on, delivered, taken, reaches}
+use Rattle.actor_net.specs.Histories.{sent_for}
+use Rattle.actor_net.proofs.Enabled.{at}
+use Rattle.actor_net.proofs.Links.{put_there, within, inside, length-put_on}
+use Rattle.actor_net.proofs.Waiting.{behind, waiting_is}
+use Rattle.actor_net.proofs.Taken.{Takes, taken_left, taken_is, without_nodes, without_links}
+
+-- a fact of each element of a list, by recursion
+abbrev pub Each : {M : Type 0} → (M → Type 0) → List M → Type 0
+Each P [] = Unit {0}
+Each P (x ∷ xs) = P x × Each P xs
+
+-- each message from one node to another has this fact
+abbrev pub OnLinks : {A M N : Type 0} → (ℕ → ℕ → M → Type 0) → Network A M N → Type 0
+OnLinks P w = (s r : ℕ) → s < length w.nodes → r < length w.nodes → Each (P s r) (waiting w (at r s))
+
+-- and so has each message that node s sends
+abbrev pub EachSent : {M : Type 0} → (ℕ → ℕ → M → Type 0) → ℕ → List (ℕ × M) → Type 0
+EachSent P s [] = Unit {0}
+EachSent P s (x ∷ xs) = P s x.0 x.1 × EachSent P s xs
+
+each-append : {M : Type 0} (P : M → Type 0) (xs ys : List M) → Each P xs → Each P ys → Each P (xs ++ ys)
+each-append P [] ys first second = second
+each-append P (x ∷ xs) ys first second = (first.0, each-append P xs ys first.1 second)
+
+each-behind : {M : Type 0} (P : M → Type 0) (b : Bool) (xs : List M) → Each P xs → Each P (behind b xs)
+each-behind P true [] each = tt
+each-behind P true (x ∷ xs) each = each.1
+each-behind P false xs each = each
+
+each-sent : {M : Type 0} (P : ℕ → ℕ → M → Type 0) (s r : ℕ) (sends : List (ℕ × M)) → EachSent P s sends → Each (P s r) (sent_for r sends)
+each-sent P s r [] each = tt
+each-sent P s r (x ∷ xs) each =
+    elim (x.0 == r) as (λ b. (x.0 == r) ≡ b → Each (P s r) ((if b then x.1 ∷ [] else []) ++ sent_for r xs)) [
+      | true ↦ λ is. let same : x.0 ≡ r = (Decides-eqb x.0 r).0 is in (subst (λ y. P s y x.1) same each.0, each-sent P s r xs each.1)
+      | false ↦ λ _. each-sent P s r xs each.1
+    ] refl
+
+each-put : {M : Type 0} (P : ℕ → ℕ → M → Type 0) (n k s r : ℕ) (sends : List (ℕ × M)) → EachSent P k sends → Each (P s r) (put_there n k s r sends)
+each-put P n k s r sends each =
+    elim (s == k) as (λ b. (s == k) ≡ b → Each (P s r) (if b && reaches n k r then sent_for r sends else [])) [
+      | true ↦ λ is.
+          let same : s ≡ k = (Decides-eqb s k).0 is in
+          elim (reaches n k r) as (λ b. Each (P s r) (if b then sent_for r sends else [])) [
+            | true ↦ subst (λ y. Each (P y r) (sent_for r sends)) (sym same) (each-sent P k r sends each)
+            | false ↦ tt
+          ]
+      | false ↦ λ _. tt
+    ] refl
+
+-- a fact of all messages goes on where each message that is sent has it
+pub on_links_after : {A M N : Type 0} (P : ℕ → ℕ → M → Type 0) (step : A → ℕ → M → Stepped A M N) (w : Network A M N) (k p : ℕ) (node : A) (m : M) (rest : List M) → Takes step w k p node m rest → OnLinks P w → EachSent P k (step node p m).sends → OnLinks P (taken step w (at k p))
+on_links_after P step w k p node m rest takes all sent s r hs hr =
+    let left = taken_left step w k p node m rest takes in
+    let count = left.count in
+    let hs' : s < length w.nodes = rw count at hs in
+    let hr' : r < length w.nodes = rw count at hr in
+    let test = (s == p) && (r == k) in
+    subst (λ xs. Each (P s r) xs) (sym (left.waits s r hs' hr'))
+    (each-append (P s r) (behind test (waiting w (at r s))) (put_there (length w.nodes) k s r (step node p m).sends)
+    (each-behind (P s r) test (waiting w (at r s)) (all s r hs' hr'))
+    (each-put P (length w.nodes) k s r (step node p m).sends sent))
+
+-- what messages weigh together
+abbrev pub weigh : {X : Type 0} → (X → ℕ) → List X → ℕ
+weigh f [] = 0
+weigh f (x ∷ xs) = f x + weigh f xs
+
+-- what stands in the input and on all links
+abbrev pub total : {A M N : Type 0} → (M → ℕ) → Network A M N → ℕ
+total f w = weigh f w.input + weigh (weigh f) w.links
+
+-- what a node sends, as far as it arrives
+abbrev pub sent_weight : {M : Type 0} → (M → ℕ) → ℕ → ℕ → List (ℕ × M) → ℕ
+sent_weight f n k [] = 0
+sent_weight f n k (x ∷ xs) = (if reaches n k x.0 then f x.1 else 0) + sent_weight f n k xs
+
+weigh-append : {M : Type 0} (f : M → ℕ) (xs ys : List M) → weigh f (xs ++ ys) ≡ weigh f xs + weigh f ys
+weigh-append f [] ys = omega arith
+weigh-append f (x ∷ xs) ys = omega (arith, weigh-append f xs ys)
+
+weigh-set : {M : Type 0} (f : M → ℕ) (ls : List (List M)) (i : ℕ) (v : List M) → i < length ls → weigh (weigh f) (set ls i v) + weigh f (get_or ls i []) ≡ weigh (weigh f) ls + weigh f v
+weigh-set f [] i v small = absurd (omega arith)
+weigh-set f (l ∷ ls) zero v small = omega arith
+weigh-set f (l ∷ ls) (suc i) v small = omega (arith, weigh-set f ls i v (omega arith))
+
+weigh-put_on : {M : Type 0} (f : M → ℕ) (n k : ℕ) (x : ℕ × M) (ls : List (List M)) → length ls ≡ n * n → k < n → weigh (weigh f) (put_on n k x ls) ≡ weigh (weigh f) ls + (if reaches n k x.0 then f x.1 else 0)
+weigh-put_on f n k x ls square hk =
+    let old = get_or ls (k * n + x.0) [] in
+    elim (reaches n k x.0) as (λ b. reaches n k x.0 ≡ b → weigh (weigh f) (if b then set ls (k * n + x.0) (old ++ x.1 ∷ []) else ls) ≡ weigh (weigh f) ls + (if b then f x.1 else 0)) [
+      | true ↦ λ is.
+          let there = within n k x.0 is in
+          let small : k * n + x.0 < length ls = rw square (inside n k x.0 hk there) in
+          let changed = weigh-set f ls (k * n + x.0) (old ++ x.1 ∷ []) small in
+          let longer = weigh-append f old (x.1 ∷ []) in
+          omega (arith, changed, longer)
+      | false ↦ λ _. omega arith
+    ] refl
+
+weigh-delivered : {M : Type 0} (f : M → ℕ) (n k : ℕ) (sends : List (ℕ × M)) (ls : List (List M)) → length ls ≡ n * n → k < n → weigh (weigh f) (delivered n k sends ls) ≡ weigh (weigh f) ls + sent_weight f n k sends
+weigh-delivered f n k [] ls square hk = omega arith
+weigh-delivered f n k (x ∷ xs) ls square hk =
+    let rest = weigh-delivered f n k xs (put_on n k x ls) (length-put_on n k x ls ∙ square) hk in
+    let one = weigh-put_on f n k x ls square hk in
+    omega (arith, rest, one)
+
+weigh-behind : {M : Type 0} (f : M → ℕ) (xs : List M) (m : M) (rest : List M) → xs ≡ m ∷ rest → weigh f (drop 1 xs) + f m ≡ weigh f xs
+weigh-behind f xs m rest is = rw is (omega arith)
+
+total-without_first : {A M N : Type 0} (f : M → ℕ) (w : Network A M N) (k p : ℕ) (m : M) (rest : List M) → length w.links ≡ length w.nodes * length w.nodes → p < length w.nodes → k < length w.nodes → waiting w (at k p) ≡ m ∷ rest → total f (without_first w (at k p)) + f m ≡ total f w
+total-without_first {A} {M} {N} f w k p m rest square hp hk waits =
+    let n = length w.nodes in
+    let first : Network A M N = record { nodes = w.nodes; links = w.links; input = drop 1 w.input; log = w.log } in
+    let other : Network A M N = record { nodes = w.nodes; links = set w.links (p * n + k) (drop 1 (waiting w (at k p))); input = w.input; log = w.log } in
+    elim ((k == 0) && (p == 0)) as (λ b. (k == 0) && (p == 0) ≡ b → total f (if b then first else other) + f m ≡ total f w) [
+      | true ↦ λ on.
+          let input : w.input ≡ m ∷ rest = ap (λ b. if b then w.input else on_link w p k) (sym on) ∙ waits in
+          let less = weigh-behind f w.input m rest input in
+          omega (arith, less)
+      | false ↦ λ off.
+          let here : waiting w (at k p) ≡ get_or w.links (p * n + k) [] = waiting_is w p k hp hk ∙ rw off refl in
+          let link : get_or w.links (p * n + k) [] ≡ m ∷ rest = sym here ∙ waits in
+          let small : p * n + k < length w.links = rw square (inside n p k hp hk) in
+          let changed = weigh-set f w.links (p * n + k) (drop 1 (waiting w (at k p))) small in
+          let less = weigh-behind f (waiting w (at k p)) m rest waits in
+          let same : weigh f (get_or w.links (p * n + k) []) ≡ weigh f (waiting w (at k p)) = ap (weigh f) (link ∙ sym waits) in
+          omega (arith, changed, less, same)
+    ] refl
+
+-- a step takes a message away and puts there what it sends
+pub total_after : {A M N : Type 0} (f : M → ℕ) (step : A → ℕ → M → Stepped A M N) (w : Network A M N) (k p : ℕ) (node : A) (m : M) (rest : List M) → Takes step w k p node m rest → total f (taken step w (at k p)) + f m ≡ total f w + sent_weight f (length w.nodes) k (step node p m).sends
+total_after f step w k p node m rest takes =
+    let is = taken_is step w k p node m rest takes in
+    let without = without_first w (at k p) in
+    let nodes = without_nodes step w k p node m rest takes.some in
+    let links = without_links step w k p node m rest takes.some in
+    let square : length without.links ≡ length without.nodes * length without.nodes = rw (nodes, links) takes.square in
+    let small : k < length without.nodes = rw nodes takes.receiver in
+    let sent = weigh-delivered f (length without.nodes) k (step node p m).sends without.links square small in
+    let count : sent_weight f (length without.nodes) k (step node p m).sends ≡ sent_weight f (length w.nodes) k (step node p m).sends = rw nodes refl in
+    let less = total-without_first f w k p m rest takes.square takes.sender takes.receiver takes.waits in
+    rw is (omega (arith, sent, count, less))

@@ -1,0 +1,215 @@
+use super::*;
+use flow_filter::{NoMemory, Sequence};
+use std::alloc::Global;
+use std::test::Fail;
+
+/// Notes each message, and sends one less to its receiver until none is left. Node 0 is ready for an item below 100.
+#[derive(Debug, Drop)]
+struct Relay {
+    to: u8,
+}
+
+impl Actor for Relay {
+    ghost use Rattle.std.specs.Prelude.{ℕ, ◌-◌, [], ◌∷◌, nat_lt, if◌then◌else◌, true};
+
+    type Message = u8;
+
+    type Note = u8;
+
+    ghost stepped = { λ node port m. record { node = node; sends = if nat_lt 0 m then (node.to, m - 1) ∷ [] else []; notes = m ∷ [] } };
+
+    ghost is_ready = { λ node m. nat_lt m 100 };
+
+    ghost has_ended = { λ node. true };
+
+    fn ready(&self, item: &u8) -> bool {
+        *item < 100
+    }
+
+    fn step(&mut self, _port: u8, message: u8, out: &mut Outbox<u8, u8>) -> Result<(), NoMemory> {
+        if message > 0 {
+            out.send(self.to, message - 1)?;
+        }
+        out.note(message)
+    }
+
+    fn ended(&self) -> bool {
+        true
+    }
+}
+
+const INPUT: Choice = Choice { node: 0, port: 0 };
+
+const FROM_ZERO: Choice = Choice { node: 1, port: 0 };
+
+/// Two nodes that send to each other.
+fn two(alloc: Global, items: Vec<u8>) -> Result<World<Relay>, NoMemory> {
+    let nodes = Vec::from_array(alloc, [Relay { to: 1 }, Relay { to: 0 }])?;
+    World::start(alloc, nodes, items)
+}
+
+fn one(alloc: Global) -> Result<Sequence<u8>, NoMemory> {
+    let mut link = Sequence::open(alloc);
+    link.push(0)?;
+    Ok(link)
+}
+
+/// Two nodes and three messages, which wait at the choices (0, 1), (1, 0) and (1, 1).
+fn three(alloc: Global) -> Result<World<Relay>, NoMemory> {
+    let nodes = Vec::from_array(alloc, [Relay { to: 1 }, Relay { to: 0 }])?;
+    let links = Vec::from_array(
+        alloc,
+        [Sequence::open(alloc), one(alloc)?, one(alloc)?, one(alloc)?],
+    )?;
+    World::from_parts(
+        alloc,
+        Parts {
+            nodes: Sequence::from_vec(nodes),
+            links: Sequence::from_vec(links),
+            input: Sequence::open(alloc),
+            log: Sequence::open(alloc),
+        },
+    )
+}
+
+#[test]
+fn a_step_sends_and_notes(rt: HostRuntime) -> Result<(), Fail> {
+    let alloc = rt.alloc();
+    let mut world = two(alloc, vec![in alloc; 1]?)?;
+    assert!(rt; world.enabled(INPUT));
+    assert!(rt; !world.enabled(FROM_ZERO));
+    world.take(INPUT)?;
+    assert!(rt; !world.complete());
+    world.take(FROM_ZERO)?;
+    assert_eq!(rt; world.log(), [1, 0].as_slice());
+    assert!(rt; world.complete());
+    assert_eq!(rt; world.nodes().len(), 2);
+    Ok(())
+}
+
+#[test]
+fn a_choice_without_a_message_is_refused(rt: HostRuntime) -> Result<(), Fail> {
+    let alloc = rt.alloc();
+    let mut world = two(alloc, vec![in alloc; 100]?)?;
+    assert_eq!(rt; world.take(INPUT), Err(TakeFault::NotEnabled));
+    assert_eq!(rt; world.take(FROM_ZERO), Err(TakeFault::NotEnabled));
+    Ok(())
+}
+
+#[test]
+fn the_parts_are_what_the_world_holds(rt: HostRuntime) -> Result<(), Fail> {
+    let alloc = rt.alloc();
+    let mut world = two(alloc, vec![in alloc; 5, 7]?)?;
+    world.take(INPUT)?;
+    let parts = world.parts()?;
+    assert_eq!(rt; parts.input.items(), [7].as_slice());
+    assert_eq!(rt; parts.log.items(), [5].as_slice());
+    assert_eq!(rt; parts.links.items().len(), 4);
+    assert_eq!(rt; parts.links.items()[1].items(), [4].as_slice());
+    let world = World::from_parts(alloc, parts)?;
+    assert!(rt; world.enabled(FROM_ZERO));
+    Ok(())
+}
+
+#[test]
+fn what_no_node_takes_is_dropped(rt: HostRuntime) -> Result<(), Fail> {
+    let alloc = rt.alloc();
+    for to in [0, 9] {
+        let nodes = Vec::from_array(alloc, [Relay { to }])?;
+        let mut world = World::start(alloc, nodes, vec![in alloc; 3]?)?;
+        world.take(INPUT)?;
+        assert!(rt; world.complete());
+    }
+    Ok(())
+}
+
+#[test]
+fn an_outbox_gives_what_was_sent_and_noted(rt: HostRuntime) -> Result<(), Fail> {
+    let alloc = rt.alloc();
+    let mut out = Outbox::open(alloc);
+    out.send(1, 10u8)?;
+    out.send(2, 20)?;
+    out.note(30u8)?;
+    let mut log = Vec::new(alloc);
+    out.move_notes(&mut log)?;
+    assert_eq!(rt; out.next_sent(), Some((1, 10)));
+    out.note(40)?;
+    let (sent, notes) = out.parts();
+    assert_eq!(rt; sent.as_slice(), [(2, 20)].as_slice());
+    assert_eq!(rt; notes.as_slice(), [40].as_slice());
+    assert_eq!(rt; log.as_slice(), [30].as_slice());
+    Ok(())
+}
+
+#[test]
+fn the_schedules_take_the_first_the_last_and_by_words(rt: HostRuntime) -> Result<(), Fail> {
+    let alloc = rt.alloc();
+    let a = Choice { node: 0, port: 1 };
+    let b = Choice { node: 1, port: 0 };
+    let c = Choice { node: 1, port: 1 };
+    let (_, first) = run_schedule(alloc, three(alloc)?, Schedule::First)?;
+    assert_eq!(rt; first.items(), [a, b, c].as_slice());
+    let (_, last) = run_schedule(alloc, three(alloc)?, Schedule::Last)?;
+    assert_eq!(rt; last.items(), [c, b, a].as_slice());
+    // The words from 1234567 begin 6457827717110365317 and 3203168211198807973.
+    let (_, words) = run_schedule(alloc, three(alloc)?, Schedule::Number(1234567))?;
+    assert_eq!(rt; words.items(), [a, c, b].as_slice());
+    Ok(())
+}
+
+#[test]
+fn a_replay_of_a_schedule_is_its_world(rt: HostRuntime) -> Result<(), Fail> {
+    let alloc = rt.alloc();
+    let (world, choices) = run_schedule(alloc, two(alloc, vec![in alloc; 2, 1]?)?, Schedule::Last)?;
+    let again = replay(two(alloc, vec![in alloc; 2, 1]?)?, choices.items())?;
+    assert_eq!(rt; again.log(), world.log());
+    assert_eq!(rt; world.log(), [2, 1, 0, 1, 0].as_slice());
+    Ok(())
+}
+
+#[test]
+fn a_replay_names_the_first_choice_that_is_not_enabled(rt: HostRuntime) -> Result<(), Fail> {
+    let alloc = rt.alloc();
+    let refused = replay(two(alloc, vec![in alloc; 1]?)?, &[INPUT, INPUT, FROM_ZERO]);
+    assert_eq!(rt; refused.err(), Some(ReplayFault::NotEnabled { index: 1 }));
+    Ok(())
+}
+
+#[test]
+fn a_schedule_stops_where_nothing_is_enabled(rt: HostRuntime) -> Result<(), Fail> {
+    let alloc = rt.alloc();
+    let stuck = run_schedule(alloc, two(alloc, vec![in alloc; 0, 100]?)?, Schedule::First);
+    assert_eq!(rt; stuck.err(), Some(ScheduleFault::Unfinished { step: 1 }));
+    Ok(())
+}
+
+#[test]
+fn a_merge_stands_by_clock_and_then_by_node(rt: HostRuntime) -> Result<(), Fail> {
+    let alloc = rt.alloc();
+    let mut zero = Sequence::open(alloc);
+    zero.push((1, 0))?;
+    zero.push((3, 1))?;
+    let mut one = Sequence::open(alloc);
+    one.push((1, 0))?;
+    one.push((2, 0))?;
+    let histories = Vec::from_array(
+        alloc,
+        [
+            History {
+                node: 1,
+                steps: one,
+            },
+            History {
+                node: 0,
+                steps: zero,
+            },
+        ],
+    )?;
+    let choices = merge(alloc, histories.as_slice())?;
+    let back = Choice { node: 0, port: 1 };
+    assert_eq!(rt;
+        choices.items(),
+        [INPUT, FROM_ZERO, FROM_ZERO, back].as_slice()
+    );
+    Ok(())
+}

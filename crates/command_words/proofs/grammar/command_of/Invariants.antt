@@ -1,0 +1,8 @@
+use Rattle.std.proofs.Common.{◌≡◌, map, take}
+use Rattle.clap.specs.Words.{app_of}
+use Rattle.command_words.specs.Grammar.{app_with, rule_by}
+use Rattle.command_words.proofs.grammar.command_of.Given as goal
+
+-- the command has the arguments so far
+abbrev pub invariant-loop-want : goal.invariant-loop-want
+invariant-loop-want l = app_of l.command ≡ app_with l.fn.title (map (λ e. rule_by e.0 e.1.now) (take l.want-index l.table))

@@ -1,0 +1,81 @@
+-- Which option or place each word of a command belongs to. The grammar of words is that of `clap`'s simple commands, at
+-- the lists of arguments written here; the lists are this project's own.
+use Rattle.std.specs.Prelude.{◌≡◌, ℕ, Bool, true, List, [], ◌∷◌, ◌++◌, Option, Some, None, option_map, codes}
+use Rattle.clap.specs.Words.{App, Rule, Row, Text, new_app, new_rule, fault_of, matches_of, first_of}
+use Rattle.clap.specs.Simple.{on_top}
+use Rattle.clap.specs.declared.error.ErrorKind.{ErrorKind}
+use Rattle.command_words.specs.declared.grammar.Want.{Want}
+use Rattle.command_words.specs.declared.grammar.Want.TheVariants.{Place, OtherPlace, Wanted, Optional}
+
+-- an argument by its name: a place or an option, and whether it must be there
+abbrev pub rule_by : Want → Text → Rule
+rule_by Place name = record (new_rule name) { required = true }
+rule_by OtherPlace name = new_rule name
+rule_by Wanted name = record (new_rule name) { long = Some name; required = true }
+rule_by Optional name = record (new_rule name) { long = Some name }
+
+-- a command without help, that reads the words behind its name
+abbrev pub bare_app : Text → App
+bare_app name = on_top (λ s. record s { no_binary_name = true; disable_help_flag = true }) (new_app name)
+
+-- the same with these arguments
+unfoldable pub app_with : Text → List Rule → App
+app_with name rules = record { top = record (bare_app name).top { rules = rules }; subs = [] }
+
+-- FUNCTION --instances LIST --inside PREFIX [--outside ADDR] [--window W] [--schedule S] TRACE [SCRIPT]
+abbrev pub sim_rules : List Rule
+sim_rules = rule_by Place (codes "function") ∷ rule_by Wanted (codes "instances") ∷ rule_by Wanted (codes "inside")
+    ∷ rule_by Optional (codes "outside") ∷ rule_by Optional (codes "window") ∷ rule_by Optional (codes "schedule")
+    ∷ rule_by Place (codes "trace") ∷ rule_by OtherPlace (codes "script") ∷ []
+
+unfoldable pub sim_app : App
+sim_app = app_with (codes "sim") sim_rules
+
+-- FUNCTION --instances LIST SCRIPT
+abbrev pub check_rules : List Rule
+check_rules = rule_by Place (codes "function") ∷ rule_by Wanted (codes "instances") ∷ rule_by Place (codes "script") ∷ []
+
+unfoldable pub check_app : App
+check_app = app_with (codes "check") check_rules
+
+-- the values of words that have no fault
+abbrev pub taken : List ErrorKind → List Row → Option (List Row)
+taken [] rows = Some rows
+taken (kind ∷ kinds) rows = None
+
+unfoldable pub rows_taken : App → List Text → Option (List Row)
+rows_taken app words = taken (fault_of app words) (matches_of app words)
+
+unfoldable pub value_of : Text → List Row → Option Text
+value_of name rows = first_of name rows
+
+-- the text that is given for each name
+pub record Given : Type 0 where
+  pub function : Option Text
+  pub instances : Option Text
+  pub inside : Option Text
+  pub outside : Option Text
+  pub window : Option Text
+  pub schedule : Option Text
+  pub trace : Option Text
+  pub script : Option Text
+
+-- nothing is given
+abbrev pub nothing : Given
+nothing = record { function = None; instances = None; inside = None; outside = None; window = None; schedule = None; trace = None; script = None }
+
+abbrev pub given_of : List Row → Given
+given_of rows = record {
+  function = value_of (codes "function") rows;
+  instances = value_of (codes "instances") rows;
+  inside = value_of (codes "inside") rows;
+  outside = value_of (codes "outside") rows;
+  window = value_of (codes "window") rows;
+  schedule = value_of (codes "schedule") rows;
+  trace = value_of (codes "trace") rows;
+  script = value_of (codes "script") rows;
+}
+
+-- the texts that the words of a command give, or None where the words aren't in its grammar
+unfoldable pub read_words : App → List Text → Option Given
+read_words app words = option_map given_of (rows_taken app words)

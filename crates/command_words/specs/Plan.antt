@@ -1,0 +1,191 @@
+-- What the words of a command line ask for. This project's own grammar; numbers are decimal without leading zeros.
+use Rattle.std.specs.Prelude.{ℕ, ◌+◌, Bool, true, false, not, ◌&&◌, ◌||◌, ◌==◌, nat_le, if◌then◌else◌, List, [], ◌∷◌, length, map, Option, None, Some, is_some, is_none, option_map, option_and_then, codes}
+use Rattle.std.specs.List.{slice_split, list_any}
+use Rattle.std.specs.Str.{bytes_eq}
+use Rattle.clap.specs.Words.{Text}
+use Rattle.flow_filter.specs.Block.{in_block}
+use Rattle.flow_filter.specs.Name.{is_name}
+use Rattle.flow_filter.specs.Reading.{cut, number_of, address_of, prefix_of}
+use Rattle.nf_function.specs.declared.kind.Kind.{Kind}
+use Rattle.nf_function.specs.declared.kind.Kind.TheVariants.{Conntrack, Nat, Monitor}
+use Rattle.command_words.specs.declared.request.Schedule.{Schedule}
+use Rattle.command_words.specs.declared.request.Schedule.TheVariants.{First, Last, Number}
+use Rattle.command_words.specs.Grammar.{Given, read_words, sim_app, check_app}
+
+-- go on with what is there
+infixl 10 ◌>>=◌
+abbrev ◌>>=◌ : {A B : Type 0} → Option A → (A → Option B) → Option B
+o >>= f = option_and_then f o
+
+-- only where the test is true
+abbrev pub only : {A : Type 0} → Bool → Option A → Option A
+only true next = next
+only false next = None
+
+-- an instance: its name, and how many live records it takes in by moves
+abbrev pub Instance : Type 0
+Instance = Text × ℕ
+
+-- what `sim` asks for
+pub record SimAsked : Type 0 where
+  pub kind : Kind
+  pub instances : List Instance
+  -- the bits and the length of the inside block
+  pub inside : ℕ × ℕ
+  pub outside : Option ℕ
+  pub window : ℕ
+  pub schedule : Schedule
+  pub trace : Text
+  pub script : Option Text
+
+-- what `check` asks for
+pub record CheckAsked : Type 0 where
+  pub kind : Kind
+  pub instances : List Instance
+  pub script : Text
+
+-- what the words ask for
+pub data Asked : Type 0 where
+  asks_sim : SimAsked → Asked
+  asks_check : CheckAsked → Asked
+
+-- FUNCTION
+unfoldable pub function_of : Text → Option Kind
+function_of text =
+    if bytes_eq text (codes "conntrack") then Some Conntrack
+    else if bytes_eq text (codes "nat") then Some Nat
+    else if bytes_eq text (codes "monitor") then Some Monitor
+    else None
+
+-- the name and the text of the limit, if there is one
+abbrev pub with_limit : Text → Option Text → Option Instance
+with_limit name None = only (is_name name) (Some (name, 1000000))
+with_limit name (Some text) = only (is_name name) (option_map (λ limit. (name, limit)) (number_of 1000000 text))
+
+-- `NAME` or `NAME:LIMIT`
+unfoldable pub instance_of : Text → Option Instance
+instance_of text = parts (cut 58 text)
+  where
+    parts : Option (Text × Text) → Option Instance
+    parts None = with_limit text None
+    parts (Some p) = with_limit p.0 (Some p.1)
+
+-- each of the texts is an instance
+abbrev pub all_instances : List Text → Option (List Instance)
+all_instances [] = Some []
+all_instances (text ∷ more) = instance_of text >>= λ i. all_instances more >>= λ rest. Some (i ∷ rest)
+
+-- some name stands twice in the list
+abbrev pub has_twice : List Instance → Bool
+has_twice [] = false
+has_twice (i ∷ more) = list_any (λ other. bytes_eq other.0 i.0) more || has_twice more
+
+-- LIST: 1 to 16 instances with commas between them, whose names differ
+unfoldable pub instances_of : Text → Option (List Instance)
+instances_of text = all_instances (slice_split (λ b. b == 44) text) >>= λ instances.
+    only (nat_le (length instances) 16 && not (has_twice instances)) (Some instances)
+
+-- PREFIX: `A.B.C.D/L`
+unfoldable pub inside_of : Text → Option (ℕ × ℕ)
+inside_of text = only (is_some (cut 47 text)) (prefix_of text)
+
+-- the outside address: the translator needs one, and a /24 that doesn't hold it; the others have none
+abbrev pub outside_of : Kind → ℕ × ℕ → Option Text → Option (Option ℕ)
+outside_of Nat inside None = None
+outside_of Nat inside (Some text) = address_of text >>= λ address.
+    only (inside.1 == 24 && not (in_block inside.0 inside.1 address)) (Some (Some address))
+outside_of Conntrack inside None = Some None
+outside_of Conntrack inside (Some text) = None
+outside_of Monitor inside None = Some None
+outside_of Monitor inside (Some text) = None
+
+-- W: 1 to 4096, and 256 where it isn't given
+unfoldable pub window_of : Option Text → Option ℕ
+window_of None = Some 256
+window_of (Some text) = number_of 4096 text >>= λ window. only (nat_le 1 window) (Some window)
+
+-- `first`, `last` or a number; `first` where it isn't given
+unfoldable pub schedule_of : Option Text → Option Schedule
+schedule_of None = Some First
+schedule_of (Some text) =
+    if bytes_eq text (codes "first") then Some First
+    else if bytes_eq text (codes "last") then Some Last
+    else option_map Number (number_of 18446744073709551615 text)
+
+-- a file's name isn't empty
+abbrev pub file_of : Text → Option Text
+file_of [] = None
+file_of (byte ∷ more) = Some (byte ∷ more)
+
+-- a file's name, if it is given
+abbrev pub file_if : Option Text → Option (Option Text)
+file_if None = Some None
+file_if (Some text) = file_of text >>= λ name. Some (Some name)
+
+-- the values of `sim`
+unfoldable pub sim_values : Given → Option SimAsked
+sim_values g = do
+  function ← g.function
+  kind ← function_of function
+  list ← g.instances
+  instances ← instances_of list
+  prefix ← g.inside
+  inside ← inside_of prefix
+  outside ← outside_of kind inside g.outside
+  window ← window_of g.window
+  schedule ← schedule_of g.schedule
+  trace ← g.trace
+  file ← file_of trace
+  script ← file_if g.script
+  Some (record {
+    kind = kind; instances = instances; inside = inside; outside = outside; window = window; schedule = schedule; trace = file; script = script;
+  })
+
+-- the list is one name, without a limit
+abbrev pub is_one_name : Option Text → Bool
+is_one_name None = false
+is_one_name (Some text) = is_name text
+
+-- the schedule is given, and it is `last`
+abbrev pub is_last : Option Text → Bool
+is_last None = false
+is_last (Some text) = bytes_eq text (codes "last")
+
+-- the connection tracker
+abbrev pub is_conntrack : Option Text → Bool
+is_conntrack None = false
+is_conntrack (Some text) = bytes_eq text (codes "conntrack")
+
+-- what `sim` does by now; each line falls away when its part is built
+unfoldable pub is_built : Given → Bool
+is_built g =
+    is_conntrack g.function
+    && is_one_name g.instances
+    && is_last g.schedule
+    && is_none g.window
+    && is_none g.script
+
+-- the values of `check`
+unfoldable pub check_values : Given → Option CheckAsked
+check_values g = do
+  function ← g.function
+  kind ← function_of function
+  list ← g.instances
+  instances ← instances_of list
+  script ← g.script
+  file ← file_of script
+  Some (record { kind = kind; instances = instances; script = file })
+
+abbrev pub sim_of : List Text → Option Asked
+sim_of words = read_words sim_app words >>= λ g. only (is_built g) (sim_values g >>= λ s. Some (asks_sim s))
+
+abbrev pub check_of : List Text → Option Asked
+check_of words = read_words check_app words >>= λ g. check_values g >>= λ c. Some (asks_check c)
+
+-- PROGRAM COMMAND and the words of the command
+unfoldable pub plan_of : List Text → Option Asked
+plan_of (program ∷ command ∷ words) =
+    if bytes_eq command (codes "sim") then sim_of words
+    else if bytes_eq command (codes "check") then check_of words
+    else None
+plan_of _ = None

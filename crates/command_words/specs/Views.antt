@@ -1,0 +1,27 @@
+-- What reading words gives: exactly what a definition reads, or a refusal exactly where it reads nothing.
+use Rattle.std.specs.Prelude.{◌≡◌, Option, Some, None, Result, Ok, Err, option_map}
+use Rattle.command_words.specs.declared.fault.WordsFault.{WordsFault}
+use Rattle.command_words.specs.declared.fault.WordsFault.TheVariants.{Usage, NoMemory}
+use Rattle.command_words.specs.declared.grammar.GivenWords.{GivenWords}
+use Rattle.command_words.specs.Grammar.{Given}
+
+-- Usage exactly where nothing is read; want of memory is free
+abbrev pub Refuses : {Y : Type 0} → WordsFault → Option Y → Type 0
+Refuses Usage reading = reading ≡ None
+Refuses NoMemory reading = Unit {0}
+
+abbrev pub Reads : {X Y : Type 0} → (X → Y) → Result X WordsFault → Option Y → Type 0
+Reads view (Ok x) reading = reading ≡ Some (view x)
+Reads view (Err e) reading = Refuses e reading
+
+abbrev pub given_view : GivenWords → Given
+given_view g = record {
+  function = option_map (λ t. t.now) g.function;
+  instances = option_map (λ t. t.now) g.instances;
+  inside = option_map (λ t. t.now) g.inside;
+  outside = option_map (λ t. t.now) g.outside;
+  window = option_map (λ t. t.now) g.window;
+  schedule = option_map (λ t. t.now) g.schedule;
+  trace = option_map (λ t. t.now) g.trace;
+  script = option_map (λ t. t.now) g.script;
+}

@@ -1,0 +1,201 @@
+ghost use Rattle.std.specs.Prelude.{◌≡◌, ◌++◌, ◌∷◌, [], true, false, List, map, IfOk, option_map, string_bytes};
+ghost use Rattle.clap.specs.Words.{Rule, Text, app_of, rule_of, rows_of, found_of, is_simple_and_free};
+ghost use Rattle.command_words.specs.Grammar.{rule_by, app_with, sim_app, check_app, rows_taken, value_of, given_of, read_words};
+ghost use Rattle.command_words.specs.Views.{Reads, given_view};
+
+use std::alloc::{AllocError, Global};
+
+use clap::error::ErrorKind;
+use clap::{Arg, ArgMatches, Command};
+
+use crate::fault::WordsFault;
+
+/// What an argument is, and whether it must be there.
+#[derive(Clone, Copy, Debug)]
+pub enum Want {
+    /// A place.
+    Place,
+    /// A place that may be there.
+    OtherPlace,
+    /// An option with a value.
+    Wanted,
+    /// An option with a value that may be there.
+    Optional,
+}
+
+/// The text that is given for each name.
+#[derive(Clone, Copy, Debug)]
+pub struct GivenWords<'a> {
+    pub function: Option<&'a str>,
+    pub instances: Option<&'a str>,
+    pub inside: Option<&'a str>,
+    pub outside: Option<&'a str>,
+    pub window: Option<&'a str>,
+    pub schedule: Option<&'a str>,
+    pub trace: Option<&'a str>,
+    pub script: Option<&'a str>,
+}
+
+/// The arguments of `sim`.
+static SIM: [(Want, &str); 8] = [
+    (Want::Place, "function"),
+    (Want::Wanted, "instances"),
+    (Want::Wanted, "inside"),
+    (Want::Optional, "outside"),
+    (Want::Optional, "window"),
+    (Want::Optional, "schedule"),
+    (Want::Place, "trace"),
+    (Want::OtherPlace, "script"),
+];
+
+/// The arguments of `check`.
+static CHECK: [(Want, &str); 3] = [
+    (Want::Place, "function"),
+    (Want::Wanted, "instances"),
+    (Want::Place, "script"),
+];
+
+/// A place that must be there.
+fn place<'a>(alloc: Global, name: &'a str) -> Arg<'a>
+    ensures rule { rule_of result ≡ rule_by Want.Place name.entry.now }
+    ensures local { result.global ≡ false }
+{
+    Arg::new(alloc, name).required(true)
+}
+
+/// A place that may be there.
+fn other_place<'a>(alloc: Global, name: &'a str) -> Arg<'a>
+    ensures rule { rule_of result ≡ rule_by Want.OtherPlace name.entry.now }
+    ensures local { result.global ≡ false }
+{
+    Arg::new(alloc, name)
+}
+
+/// An option that must be there.
+fn wanted<'a>(alloc: Global, name: &'a str) -> Arg<'a>
+    ensures rule { rule_of result ≡ rule_by Want.Wanted name.entry.now }
+    ensures local { result.global ≡ false }
+{
+    Arg::new(alloc, name).long(name).required(true)
+}
+
+/// An option that may be there.
+fn optional<'a>(alloc: Global, name: &'a str) -> Arg<'a>
+    ensures rule { rule_of result ≡ rule_by Want.Optional name.entry.now }
+    ensures local { result.global ≡ false }
+{
+    Arg::new(alloc, name).long(name)
+}
+
+/// An argument.
+fn argument<'a>(alloc: Global, want: Want, name: &'a str) -> Arg<'a>
+    ensures rule { rule_of result ≡ rule_by want name.entry.now }
+    ensures local { result.global ≡ false }
+{
+    match want {
+        Want::Place => place(alloc, name),
+        Want::OtherPlace => other_place(alloc, name),
+        Want::Wanted => wanted(alloc, name),
+        Want::Optional => optional(alloc, name),
+    }
+}
+
+/// A command without arguments and without help.
+fn bare<'a>(alloc: Global, name: &'a str) -> Command<'a>
+    ensures { app_of result ≡ app_with name.entry.now [] }
+{
+    Command::new(alloc, name).no_binary_name(true).disable_help_flag(true)
+}
+
+/// The command with an argument more.
+#[tactic(auto, unfolding(crate::specs::Grammar::app_with))]
+fn with<'a>(alloc: Global, command: Command<'a>, want: Want, name: &'a str) -> Result<Command<'a>, AllocError>
+    ensures { IfOk result (λ c. (title : Text) (rules : List Rule) → app_of command.entry ≡ app_with title rules
+        → app_of c ≡ app_with title (rules ++ rule_by want name.entry.now ∷ [])) }
+{
+    command.arg(argument(alloc, want, name))
+}
+
+/// The command with the arguments of a table.
+fn command_of<'a>(alloc: Global, title: &'a str, table: &'a [(Want, &'a str)]) -> Result<Command<'a>, AllocError>
+    ensures { IfOk result (λ c. app_of c ≡ app_with title.entry.now (map (λ e. rule_by e.0 e.1.now) table.entry.now)) }
+{
+    let mut command = bare(alloc, title);
+    for (want, name) in table {
+        command = with(alloc, command, *want, name)?;
+    }
+    Ok(command)
+}
+
+/// The command `sim`.
+fn sim_command<'a>(alloc: Global) -> Result<Command<'a>, AllocError>
+    ensures app { IfOk result (λ c. app_of c ≡ sim_app) }
+    ensures simple { IfOk result (λ c. is_simple_and_free (app_of c) ≡ true) }
+{
+    command_of(alloc, "sim", SIM.as_slice())
+}
+
+/// The command `check`.
+fn check_command<'a>(alloc: Global) -> Result<Command<'a>, AllocError>
+    ensures app { IfOk result (λ c. app_of c ≡ check_app) }
+    ensures simple { IfOk result (λ c. is_simple_and_free (app_of c) ≡ true) }
+{
+    command_of(alloc, "check", CHECK.as_slice())
+}
+
+/// What the words of a command give.
+fn parsed<'a>(command: Command<'a>, words: &'a [String]) -> Result<ArgMatches<'a>, WordsFault>
+    requires { is_simple_and_free (app_of command) ≡ true }
+    ensures { Reads (λ m. rows_of (found_of m)) result (rows_taken (app_of command.entry) (map string_bytes words.entry.now)) }
+{
+    match command.try_get_matches_from(words) {
+        Ok(matches) => Ok(matches),
+        Err(error) => match error.kind() {
+            ErrorKind::OutOfMemory => Err(WordsFault::NoMemory),
+            _ => Err(WordsFault::Usage),
+        },
+    }
+}
+
+/// The text that is given for a name.
+fn text_of<'a>(matches: &ArgMatches<'a>, name: &str) -> Option<&'a str>
+    ensures { option_map (λ s. s.now) result ≡ value_of name.now (rows_of (found_of matches.now)) }
+{
+    matches.get_str(name)
+}
+
+/// The texts that are given.
+fn given_of<'a>(matches: &ArgMatches<'a>) -> GivenWords<'a>
+    ensures { given_view result ≡ given_of (rows_of (found_of matches.now)) }
+{
+    GivenWords {
+        function: text_of(matches, "function"),
+        instances: text_of(matches, "instances"),
+        inside: text_of(matches, "inside"),
+        outside: text_of(matches, "outside"),
+        window: text_of(matches, "window"),
+        schedule: text_of(matches, "schedule"),
+        trace: text_of(matches, "trace"),
+        script: text_of(matches, "script"),
+    }
+}
+
+/// The texts that the words behind `sim` give.
+#[tactic(auto, unfolding(crate::specs::Grammar::read_words))]
+pub fn read_sim<'a>(alloc: Global, words: &'a [String]) -> Result<GivenWords<'a>, WordsFault>
+    ensures { Reads given_view result (read_words sim_app (map string_bytes words.entry.now)) }
+{
+    let command = sim_command(alloc)?;
+    let matches = parsed(command, words)?;
+    Ok(given_of(&matches))
+}
+
+/// The texts that the words behind `check` give.
+#[tactic(auto, unfolding(crate::specs::Grammar::read_words))]
+pub fn read_check<'a>(alloc: Global, words: &'a [String]) -> Result<GivenWords<'a>, WordsFault>
+    ensures { Reads given_view result (read_words check_app (map string_bytes words.entry.now)) }
+{
+    let command = check_command(alloc)?;
+    let matches = parsed(command, words)?;
+    Ok(given_of(&matches))
+}

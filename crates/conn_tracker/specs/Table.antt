@@ -1,0 +1,176 @@
+-- The connection tracker's table. The flags are those of RFC 9293; the states are this project's own.
+use Rattle.std.specs.Prelude.{ℕ, ◌+◌, ◌-◌, ◌^◌, ◌≡◌, ◌≤◌, ◌==◌, ◌&&◌, Bool, true, false, not, min, bit_and, if◌then◌else◌, List, [], ◌∷◌, slice_get, codes, Option, None, Some}
+use Rattle.flow_filter.specs.declared.packet.Packet.{Packet}
+use Rattle.flow_filter.specs.declared.site.Site.{Site}
+use Rattle.flow_filter.specs.declared.flow.Dir.{Dir}
+use Rattle.flow_filter.specs.declared.flow.Dir.TheVariants.{Out, In}
+use Rattle.flow_filter.specs.Flow.{flow_of}
+use Rattle.conn_tracker.specs.declared.state.State.{State}
+use Rattle.conn_tracker.specs.declared.state.State.TheVariants.{Opening, Answered, Established, FinFwd, FinRev, Closed, Reset, Loose, Single, Both}
+use Rattle.conn_tracker.specs.declared.class.Class.{Class}
+use Rattle.conn_tracker.specs.declared.class.Class.TheVariants.{Rst, SynAck, Syn, Fin, Other}
+use Rattle.conn_tracker.specs.declared.record.TrackRecord.{TrackRecord}
+
+-- a flag of the header is set
+abbrev pub has : ℕ → ℕ → Bool
+has flags flag = not (bit_and flags flag == 0)
+
+-- the class of a TCP packet, by its flags: the first that holds
+abbrev pub class_of : ℕ → Class
+class_of flags =
+    if has flags 4 then Rst
+    else if has flags 2 && has flags 16 then SynAck
+    else if has flags 2 then Syn
+    else if has flags 1 then Fin
+    else Other
+
+-- a row of the table: the states that follow one state. Forward packets go the opener's way, reverse ones the other.
+pub record Row : Type 0 where
+  pub rst : State
+  pub syn : State
+  pub syn_ack_forward : State
+  pub syn_ack_reverse : State
+  pub fin_forward : State
+  pub fin_reverse : State
+  pub other_forward : State
+  pub other_reverse : State
+
+abbrev pub cells : (r s sf sr ff fr of or : State) → Row
+cells r s sf sr ff fr of or = record {
+  rst = r;
+  syn = s;
+  syn_ack_forward = sf;
+  syn_ack_reverse = sr;
+  fin_forward = ff;
+  fin_reverse = fr;
+  other_forward = of;
+  other_reverse = or;
+}
+
+-- the table of TCP: columns as in `Row`. The states of UDP don't meet a TCP packet, and stay.
+abbrev pub row : State → Row
+row Opening = cells Reset Opening Opening Answered FinFwd FinRev Opening Opening
+row Answered = cells Reset Answered Answered Answered FinFwd FinRev Established Answered
+row Established = cells Reset Established Established Established FinFwd FinRev Established Established
+row FinFwd = cells Reset FinFwd FinFwd FinFwd FinFwd Closed FinFwd FinFwd
+row FinRev = cells Reset FinRev FinRev FinRev Closed FinRev FinRev FinRev
+row Closed = cells Closed Opening Closed Closed Closed Closed Closed Closed
+row Reset = cells Reset Opening Reset Reset Reset Reset Reset Reset
+row Loose = cells Reset Loose Loose Loose FinFwd FinRev Loose Established
+row Single = cells Single Single Single Single Single Single Single Single
+row Both = cells Both Both Both Both Both Both Both Both
+
+-- the cell of a row for a class and a direction
+abbrev pub cell : Class → Bool → Row → State
+cell Rst forward w = w.rst
+cell Syn forward w = w.syn
+cell SynAck true w = w.syn_ack_forward
+cell SynAck false w = w.syn_ack_reverse
+cell Fin true w = w.fin_forward
+cell Fin false w = w.fin_reverse
+cell Other true w = w.other_forward
+cell Other false w = w.other_reverse
+
+-- the table of UDP: one way, and then both ways. The states of TCP don't meet a UDP packet, and stay.
+abbrev pub next_udp : Bool → State → State
+next_udp false Single = Both
+next_udp forward state = state
+
+-- a SYN begins anew behind a connection that has ended
+abbrev pub restarts : State → Class → Bool
+restarts Closed Syn = true
+restarts Reset Syn = true
+restarts state class = false
+
+-- the state of a TCP connection whose first packet has this class
+abbrev pub first_tcp : Class → State
+first_tcp Rst = Reset
+first_tcp SynAck = Answered
+first_tcp Syn = Opening
+first_tcp Fin = FinFwd
+first_tcp Other = Loose
+
+abbrev pub is_same_way : Dir → Dir → Bool
+is_same_way Out Out = true
+is_same_way In In = true
+is_same_way a b = false
+
+abbrev pub other_way : Dir → Dir
+other_way Out = In
+other_way In = Out
+
+-- a SYN with an ACK answers an opener that wasn't seen
+abbrev pub first_opener : Class → Dir → Dir
+first_opener SynAck way = other_way way
+first_opener class way = way
+
+-- a count stays at its greatest number
+abbrev pub count : ℕ → ℕ → ℕ
+count a b = min (a + b) (2 ^ 64 - 1)
+
+abbrev pub is_tcp : ℕ → Bool
+is_tcp proto = proto == 6
+
+-- the record of a flow's first packet, which goes `way`
+abbrev pub first_record : Packet → Dir → TrackRecord
+first_record p way =
+    if is_tcp p.proto
+    then record { state = first_tcp (class_of p.flags); opener = first_opener (class_of p.flags) way; packets = 1; bytes = p.length }
+    else record { state = Single; opener = way; packets = 1; bytes = p.length }
+
+-- the record after a further packet, which goes `way`
+abbrev pub next_record : TrackRecord → Packet → Dir → TrackRecord
+next_record r p way = record {
+  state = (if is_tcp p.proto
+      then cell (class_of p.flags) (is_same_way way r.opener) (row r.state)
+      else next_udp (is_same_way way r.opener) r.state);
+  opener = (if is_tcp p.proto && restarts r.state (class_of p.flags) then way else r.opener);
+  packets = count r.packets 1;
+  bytes = count r.bytes p.length;
+}
+
+-- the record after a packet
+unfoldable pub stepped : Site → Option TrackRecord → Packet → TrackRecord
+stepped site None p = first_record p (flow_of site p).1
+stepped site (Some r) p = next_record r p (flow_of site p).1
+
+-- the numbers that outputs and stored records use for the states
+abbrev pub number_of : State → ℕ
+number_of Opening = 0
+number_of Answered = 1
+number_of Established = 2
+number_of FinFwd = 3
+number_of FinRev = 4
+number_of Closed = 5
+number_of Reset = 6
+number_of Loose = 7
+number_of Single = 8
+number_of Both = 9
+
+-- the states by their numbers
+abbrev pub state_of : ℕ → Option State
+state_of number = slice_get
+    (Opening ∷ Answered ∷ Established ∷ FinFwd ∷ FinRev ∷ Closed ∷ Reset ∷ Loose ∷ Single ∷ Both ∷ []) number
+
+-- the states' names
+abbrev pub name_of : State → List ℕ
+name_of Opening = codes "opening"
+name_of Answered = codes "answered"
+name_of Established = codes "established"
+name_of FinFwd = codes "finfwd"
+name_of FinRev = codes "finrev"
+name_of Closed = codes "closed"
+name_of Reset = codes "reset"
+name_of Loose = codes "loose"
+name_of Single = codes "single"
+name_of Both = codes "both"
+
+abbrev pub is_udp_state : State → Bool
+is_udp_state Single = true
+is_udp_state Both = true
+is_udp_state state = false
+
+-- a record that packets of this protocol can have left
+pub record IsRecordOf (proto : ℕ) (r : TrackRecord) : Type 0 where
+  pub seen : 1 ≤ r.packets
+  pub fits : is_udp_state r.state ≡ not (is_tcp proto)

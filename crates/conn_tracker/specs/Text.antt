@@ -1,0 +1,27 @@
+-- What the connection tracker answers and prints. This project's own words.
+use Rattle.std.specs.Prelude.{ℕ, ◌++◌, List, [], codes, decimal}
+use Rattle.std.specs.Option.{option_map_or}
+use Rattle.flow_filter.specs.declared.flow.Dir.{Dir}
+use Rattle.flow_filter.specs.declared.flow.Dir.TheVariants.{Out, In}
+use Rattle.conn_tracker.specs.declared.record.TrackRecord.{TrackRecord}
+use Rattle.nf_function.specs.declared.output.Output.{Output}
+use Rattle.conn_tracker.specs.Table.{name_of, number_of, state_of}
+
+-- the output of a packet: the number of the state that it left
+abbrev pub output_of : TrackRecord → Output
+output_of r = record { code = number_of r.state; a = 0; b = 0 }
+
+-- the text of an output: its state's name
+abbrev pub output_text : Output → List ℕ
+output_text output = option_map_or name_of (state_of output.code) []
+
+-- `out` or `in`
+abbrev pub way_text : Dir → List ℕ
+way_text Out = codes "out"
+way_text In = codes "in"
+
+-- `STATE out|in packets P bytes B`
+unfoldable pub record_text : TrackRecord → List ℕ
+record_text r =
+    name_of r.state ++ codes " " ++ way_text r.opener ++ codes " packets " ++ decimal r.packets
+    ++ codes " bytes " ++ decimal r.bytes

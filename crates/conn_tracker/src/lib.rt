@@ -1,0 +1,19 @@
+//! The connection tracker: what it keeps of a flow, and how each packet changes it.
+//!
+//! Contracts see a [`TrackRecord`] as its fields. The main promise is that of [`step`]: the record and the output after
+//! a packet are those of the table of states in `specs/Table.antt`, for every record and packet.
+#![tactic(auto)]
+
+pub mod class;
+pub mod record;
+pub mod state;
+pub mod text;
+pub mod tracker;
+
+pub use record::TrackRecord;
+pub use state::State;
+pub use text::{print_output, print_record, push_output, push_record};
+pub use tracker::step;
+
+#[cfg(test)]
+mod tests;

@@ -1,0 +1,143 @@
+ghost use Rattle.std.specs.Prelude.{◌≡◌};
+ghost use Rattle.conn_tracker.specs.Table.{cell, row, first_tcp, next_udp, restarts, name_of, number_of, state_of};
+ghost use Rattle.conn_tracker.specs.declared.class.Class.TheVariants.{Fin};
+
+use crate::class::Class;
+
+/// How far a connection has come. Packets that go the opener's way are forward, the others reverse.
+#[derive(Clone, Copy, Debug, PartialEq, Eq)]
+pub enum State {
+    /// TCP: the opener asked.
+    Opening,
+    /// TCP: the other end answered.
+    Answered,
+    /// TCP: the opener confirmed.
+    Established,
+    /// TCP: the opener has ended its half.
+    FinFwd,
+    /// TCP: the other end has ended its half.
+    FinRev,
+    /// TCP: both ends have ended.
+    Closed,
+    /// TCP: one end broke the connection off.
+    Reset,
+    /// TCP: the opening wasn't seen.
+    Loose,
+    /// UDP: packets one way.
+    Single,
+    /// UDP: packets both ways.
+    Both,
+}
+
+/// The states by their numbers.
+static STATES: [State; 10] = [
+    State::Opening,
+    State::Answered,
+    State::Established,
+    State::FinFwd,
+    State::FinRev,
+    State::Closed,
+    State::Reset,
+    State::Loose,
+    State::Single,
+    State::Both,
+];
+
+impl State {
+    /// The state with this number in outputs and stored records.
+    pub fn numbered(number: u8) -> Option<State>
+        ensures { result ≡ state_of number }
+    {
+        STATES.get(usize::from(number)).copied()
+    }
+
+    /// The state of a TCP connection whose first packet has this class.
+    pub fn first(class: Class) -> State
+        ensures { result ≡ first_tcp class }
+    {
+        match class {
+            Class::Rst => State::Reset,
+            Class::SynAck => State::Answered,
+            Class::Syn => State::Opening,
+            Class::Fin => State::FinFwd,
+            Class::Other => State::Loose,
+        }
+    }
+
+    /// The state of a TCP connection after a packet.
+    pub fn after(self, class: Class, is_forward: bool) -> State
+        ensures { result ≡ cell class is_forward (row self) }
+    {
+        match (self, class) {
+            (State::Single | State::Both, _) => self,
+            (State::Closed | State::Reset, Class::Syn) => State::Opening,
+            (State::Closed | State::Reset, _) => self,
+            (_, Class::Rst) => State::Reset,
+            (_, Class::Fin) => self.after_fin(is_forward),
+            (State::Opening, Class::SynAck) if !is_forward => State::Answered,
+            (State::Answered, Class::Other) if is_forward => State::Established,
+            (State::Loose, Class::Other) if !is_forward => State::Established,
+            _ => self,
+        }
+    }
+
+    /// The state of a TCP connection after a FIN.
+    fn after_fin(self, is_forward: bool) -> State
+        ensures { result ≡ cell Fin is_forward (row self) }
+    {
+        match self {
+            State::FinFwd if !is_forward => State::Closed,
+            State::FinRev if is_forward => State::Closed,
+            State::Opening | State::Answered | State::Established | State::Loose => {
+                if is_forward {
+                    State::FinFwd
+                } else {
+                    State::FinRev
+                }
+            }
+            _ => self,
+        }
+    }
+
+    /// The state of a UDP flow after a packet.
+    pub fn after_udp(self, is_forward: bool) -> State
+        ensures { result ≡ next_udp is_forward self }
+    {
+        match self {
+            State::Single if !is_forward => State::Both,
+            _ => self,
+        }
+    }
+
+    /// Whether a packet of this class begins a connection anew.
+    pub fn restarts(self, class: Class) -> bool
+        ensures { result ≡ restarts self class }
+    {
+        matches!((self, class), (State::Closed | State::Reset, Class::Syn))
+    }
+
+    /// The state's number in outputs and stored records.
+    pub fn number(self) -> u8
+        ensures { result ≡ number_of self }
+    {
+        self as u8
+    }
+
+    /// The state's name.
+    pub fn name(self) -> &'static str
+        ensures { result.now ≡ name_of self }
+    {
+        match self {
+            State::Opening => "opening",
+            State::Answered => "answered",
+            State::Established => "established",
+            State::FinFwd => "finfwd",
+            State::FinRev => "finrev",
+            State::Closed => "closed",
+            State::Reset => "reset",
+            State::Loose => "loose",
+            State::Single => "single",
+            State::Both => "both",
+        }
+    }
+}

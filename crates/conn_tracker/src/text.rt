@@ -1,0 +1,61 @@
+ghost use Rattle.std.specs.Prelude.{◌≡◌, ◌++◌, OnOk, IfOk};
+ghost use Rattle.conn_tracker.specs.Text.{output_text, record_text, way_text};
+
+use crate::record::TrackRecord;
+use crate::state::State;
+use flow_filter::{Dir, NoMemory, Text};
+use nf_function::Output;
+use std::alloc::Global;
+
+/// Puts the text of an output behind a text: the name of its state.
+pub fn push_output(text: &mut Text, output: &Output) -> Result<(), NoMemory>
+    ensures { OnOk result (text.new ≡ text.old ++ output_text output.now) }
+{
+    match State::numbered(output.code) {
+        Some(state) => text.push_bytes(state.name().as_bytes()),
+        None => Ok(()),
+    }
+}
+
+/// Puts the text of a record behind a text: `STATE out|in packets P bytes B`.
+///
+/// After a refusal a part of it may stand there.
+#[tactic(auto, unfolding(crate::specs::Text::record_text))]
+pub fn push_record(text: &mut Text, kept: &TrackRecord) -> Result<(), NoMemory>
+    ensures { OnOk result (text.new ≡ text.old ++ record_text kept.now) }
+{
+    text.push_bytes(kept.state.name().as_bytes())?;
+    text.push_bytes(b" ")?;
+    text.push_bytes(way_name(kept.opener).as_bytes())?;
+    text.push_bytes(b" packets ")?;
+    text.push_decimal(kept.packets)?;
+    text.push_bytes(b" bytes ")?;
+    text.push_decimal(kept.bytes)
+}
+
+fn way_name(way: Dir) -> &'static str
+    ensures { result.now ≡ way_text way }
+{
+    match way {
+        Dir::Out => "out",
+        Dir::In => "in",
+    }
+}
+
+/// The text of an output.
+pub fn print_output(alloc: Global, output: &Output) -> Result<Text, NoMemory>
+    ensures { IfOk result (λ text. text ≡ output_text output.now) }
+{
+    let mut text = Text::open(alloc);
+    push_output(&mut text, output)?;
+    Ok(text)
+}
+
+/// The text of a record: `STATE out|in packets P bytes B`.
+pub fn print_record(alloc: Global, kept: &TrackRecord) -> Result<Text, NoMemory>
+    ensures { IfOk result (λ text. text ≡ record_text kept.now) }
+{
+    let mut text = Text::open(alloc);
+    push_record(&mut text, kept)?;
+    Ok(text)
+}

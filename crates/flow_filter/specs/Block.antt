@@ -1,0 +1,6 @@
+-- Blocks of IPv4 addresses, written as CIDR prefixes (RFC 4632).
+use Rattle.std.specs.Prelude.{ℕ, ◌-◌, ◌/◌, ◌^◌, ◌==◌, Bool}
+
+-- whether an address and `bits` agree in their first `len` bits
+abbrev pub in_block : ℕ → ℕ → ℕ → Bool
+in_block bits len address = address / 2 ^ (32 - len) == bits / 2 ^ (32 - len)

@@ -1,0 +1,104 @@
+-- Filters over flows: which flows match, what two filters say together, and when one covers another.
+-- This project's own rules. A field that isn't given says nothing.
+use Rattle.std.specs.Prelude.{◌≡◌, ℕ, ◌<◌, ◌^◌, Bool, true, false, ◌&&◌, ◌==◌, nat_eq, nat_le, if◌then◌else◌, Option, None, Some, option_and_then, is_some}
+use Rattle.std.specs.Option.{ForSome}
+use Rattle.flow_filter.specs.Block.{in_block}
+use Rattle.flow_filter.specs.declared.prefix.Prefix.{Prefix}
+use Rattle.flow_filter.specs.declared.flow.Flow.{Flow}
+use Rattle.flow_filter.specs.declared.filter.Filter.{Filter}
+
+-- the prefix's block has the address
+abbrev pub holds : Prefix → ℕ → Bool
+holds p address = in_block p.bits p.len address
+
+-- a field agrees with a value where it isn't given, or its test passes
+abbrev pub agrees : {X : Type 0} → (X → ℕ → Bool) → Option X → ℕ → Bool
+agrees test None value = true
+agrees test (Some x) value = test x value
+
+-- every field of the filter agrees with the flow
+abbrev pub matches : Filter → Flow → Bool
+matches f flow = agrees nat_eq f.proto flow.proto && agrees holds f.local flow.local && agrees nat_eq f.lport flow.lport
+    && agrees holds f.remote flow.remote && agrees nat_eq f.rport flow.rport
+
+-- go on with what is there
+infixl 10 ◌>>=◌
+abbrev pub ◌>>=◌ : {A B : Type 0} → Option A → (A → Option B) → Option B
+o >>= f = option_and_then f o
+
+-- one field of two filters: what both say, or None where two given numbers differ
+abbrev pub meet_number : Option ℕ → Option ℕ → Option (Option ℕ)
+meet_number None y = Some y
+meet_number (Some x) None = Some (Some x)
+meet_number (Some x) (Some y) = if x == y then Some (Some x) else None
+
+-- the longer of two prefixes, or None where it lies outside the shorter
+abbrev pub longer : Prefix → Prefix → Option (Option Prefix)
+longer p q =
+    if nat_le p.len q.len then (if holds p q.bits then Some (Some q) else None)
+    else (if holds q p.bits then Some (Some p) else None)
+
+-- one field of two filters: what both say, or None where neither of two given prefixes holds the other
+abbrev pub meet_prefix : Option Prefix → Option Prefix → Option (Option Prefix)
+meet_prefix None q = Some q
+meet_prefix (Some p) None = Some (Some p)
+meet_prefix (Some p) (Some q) = longer p q
+
+-- field by field what both filters say, or None where some field has nothing in common
+abbrev pub meet : Filter → Filter → Option Filter
+meet f g = do
+  proto ← meet_number f.proto g.proto
+  local ← meet_prefix f.local g.local
+  lport ← meet_number f.lport g.lport
+  remote ← meet_prefix f.remote g.remote
+  rport ← meet_number f.rport g.rport
+  Some (record { proto = proto; local = local; lport = lport; remote = remote; rport = rport })
+
+-- the filters have something in common in every field
+abbrev pub meets : Filter → Filter → Bool
+meets f g = is_some (meet f g)
+
+-- a given number covers an equal one
+abbrev pub covers_number : Option ℕ → Option ℕ → Bool
+covers_number None y = true
+covers_number (Some x) None = false
+covers_number (Some x) (Some y) = x == y
+
+-- a given prefix covers one that it holds, and everything where its length is 0
+abbrev pub covers_prefix : Option Prefix → Option Prefix → Bool
+covers_prefix None q = true
+covers_prefix (Some p) None = p.len == 0
+covers_prefix (Some p) (Some q) = nat_le p.len q.len && holds p q.bits
+
+-- each field of the first filter covers that of the second
+abbrev pub covers : Filter → Filter → Bool
+covers f g = covers_number f.proto g.proto && covers_prefix f.local g.local && covers_number f.lport g.lport
+    && covers_prefix f.remote g.remote && covers_number f.rport g.rport
+
+-- each number of the flow is within its type
+pub record IsFlow (flow : Flow) : Type 0 where
+  pub proto : flow.proto < 2 ^ 8
+  pub local : flow.local < 2 ^ 32
+  pub lport : flow.lport < 2 ^ 16
+  pub remote : flow.remote < 2 ^ 32
+  pub rport : flow.rport < 2 ^ 16
+
+-- each number that the filter gives is within its type
+pub record IsFilter (f : Filter) : Type 0 where
+  pub proto : ForSome f.proto (λ n. n < 2 ^ 8)
+  pub local : ForSome f.local (λ p. p.bits < 2 ^ 32)
+  pub lport : ForSome f.lport (λ n. n < 2 ^ 16)
+  pub remote : ForSome f.remote (λ p. p.bits < 2 ^ 32)
+  pub rport : ForSome f.rport (λ n. n < 2 ^ 16)
+
+-- some flow matches both filters
+abbrev pub Meet : Filter → Filter → Type 0
+Meet f g = (flow : Flow) × IsFlow flow × ((matches f flow && matches g flow) ≡ true)
+
+-- the third filter matches exactly the flows that both others match
+abbrev pub IsMeet : Filter → Filter → Filter → Type 0
+IsMeet f g both = (flow : Flow) → IsFlow flow → matches both flow ≡ (matches f flow && matches g flow)
+
+-- every flow that the second filter matches is matched by the first
+abbrev pub Covers : Filter → Filter → Type 0
+Covers f g = (flow : Flow) → IsFlow flow → matches g flow ≡ true → matches f flow ≡ true

@@ -1,0 +1,48 @@
+-- The flow of a packet, seen from a site: which end is local, and which way the packet goes.
+-- This project's own rule. The outside ports are those of the address translator.
+use Rattle.std.specs.Prelude.{ℕ, ◌+◌, ◌-◌, ◌/◌, ◌==◌, ◌&&◌, ◌||◌, nat_lt, nat_le, Bool, false, not, if◌then◌else◌, Option, None, Some}
+use Rattle.flow_filter.specs.declared.packet.Packet.{Packet}
+use Rattle.flow_filter.specs.declared.site.Site.{Site}
+use Rattle.flow_filter.specs.declared.flow.Flow.{Flow}
+use Rattle.flow_filter.specs.declared.flow.Dir.{Dir}
+use Rattle.flow_filter.specs.declared.flow.Dir.TheVariants.{Out, In}
+use Rattle.flow_filter.specs.Block.{in_block}
+
+-- the address is one of the site's
+abbrev pub is_inside : Site → ℕ → Bool
+is_inside site address = in_block site.inside.bits site.inside.len address
+
+-- the flow whose local end is the packet's source
+abbrev pub outward : Packet → Flow
+outward p = record { proto = p.proto; local = p.src; lport = p.sport; remote = p.dst; rport = p.dport }
+
+-- the flow whose local end is the packet's destination
+abbrev pub inward : Packet → Flow
+inward p = record { proto = p.proto; local = p.dst; lport = p.dport; remote = p.src; rport = p.sport }
+
+-- the address is the site's outside address
+abbrev pub is_outside_address : Option ℕ → ℕ → Bool
+is_outside_address None address = false
+is_outside_address (Some outside) address = address == outside
+
+-- the packet goes to a port of the outside address that belongs to an inside host
+abbrev pub is_mapped : Site → Packet → Bool
+is_mapped site p = is_outside_address site.outside p.dst && nat_le 1024 p.dport
+
+-- the inside host that a port of the outside address belongs to: 252 ports for each, from 1024 on
+abbrev pub owner_of_port : Site → ℕ → ℕ
+owner_of_port site port = site.inside.bits + (port - 1024) / 252
+
+-- the source is the smaller end by address and then port, or the ends are equal
+abbrev pub is_source_first : Packet → Bool
+is_source_first p = nat_lt p.src p.dst || (p.src == p.dst && nat_le p.sport p.dport)
+
+-- the first case that applies
+unfoldable pub flow_of : Site → Packet → Flow × Dir
+flow_of site p =
+    if is_inside site p.src && not (is_inside site p.dst) then (outward p, Out)
+    else if is_inside site p.dst && not (is_inside site p.src) then (inward p, In)
+    else if not (is_inside site p.src) && not (is_inside site p.dst) && is_mapped site p
+    then (record (inward p) { local = owner_of_port site p.dport }, In)
+    else if is_source_first p then (outward p, Out)
+    else (inward p, In)

@@ -1,0 +1,190 @@
+ghost use Rattle.std.specs.Prelude.{◌≡◌, ◌↔◌, IsTrue, OnSome, IfSome, IfNone};
+ghost use Rattle.flow_filter.specs.Filter.{matches, meet, meet_number, meet_prefix, longer, covers, covers_number, covers_prefix, IsFilter, Meet, IsMeet, Covers};
+
+use crate::flow::Flow;
+use crate::prefix::Prefix;
+
+/// Which flows are meant: every field that is given must agree.
+#[derive(Clone, Copy, Debug, PartialEq, Eq, Hash)]
+pub struct Filter {
+    pub proto: Option<u8>,
+    pub local: Option<Prefix>,
+    pub lport: Option<u16>,
+    pub remote: Option<Prefix>,
+    pub rport: Option<u16>,
+}
+
+impl Filter {
+    /// The filter that gives no field, and so matches every flow.
+    pub const ANY: Self = Filter {
+        proto: None,
+        local: None,
+        lport: None,
+        remote: None,
+        rport: None,
+    };
+
+    /// Whether every field that is given agrees with the flow.
+    pub fn matches(&self, flow: &Flow) -> bool
+        ensures { result ≡ matches self.now flow.now }
+    {
+        self.proto.is_none_or(|proto| proto == flow.proto)
+            && self.local.is_none_or(|local| local.holds(flow.local))
+            && self.lport.is_none_or(|lport| lport == flow.lport)
+            && self.remote.is_none_or(|remote| remote.holds(flow.remote))
+            && self.rport.is_none_or(|rport| rport == flow.rport)
+    }
+
+    /// The filter that matches exactly what both match, or `None` where no flow matches both.
+    ///
+    /// It gives each field that one of them gives, and of two prefixes the longer.
+    pub fn meet(&self, other: &Filter) -> Option<Filter>
+        ensures value { result ≡ meet self.now other.now }
+        ensures exact { IfSome result (IsMeet self.now other.now) }
+        ensures some { OnSome result (Meet self.now other.now) }
+        ensures none { IfNone result (Meet self.now other.now → ⊥) }
+    {
+        met(*self, *other)
+    }
+
+    /// Whether every flow that `other` matches is matched by this filter.
+    pub fn covers(&self, other: &Filter) -> bool
+        ensures value { result ≡ covers self.now other.now }
+        ensures exact { IsTrue result ↔ Covers self.now other.now }
+    {
+        covered(*self, *other)
+    }
+}
+
+/// What both filters say, field by field.
+fn met(x: Filter, y: Filter) -> Option<Filter>
+    ensures value { result ≡ meet x y }
+    ensures x_fits { IsFilter x }
+    ensures y_fits { IsFilter y }
+{
+    Some(Filter {
+        proto: met_byte(x.proto, y.proto)?,
+        local: met_prefix(x.local, y.local)?,
+        lport: met_port(x.lport, y.lport)?,
+        remote: met_prefix(x.remote, y.remote)?,
+        rport: met_port(x.rport, y.rport)?,
+    })
+}
+
+/// What two protocol fields say together, or `None` where they contradict each other.
+fn met_byte(x: Option<u8>, y: Option<u8>) -> Option<Option<u8>>
+    ensures { result ≡ meet_number x y }
+{
+    match (x, y) {
+        (Some(a), Some(b)) if a == b => Some(x),
+        (Some(_), Some(_)) => None,
+        (Some(_), None) => Some(x),
+        (None, _) => Some(y),
+    }
+}
+
+/// What two port fields say together, or `None` where they contradict each other.
+fn met_port(x: Option<u16>, y: Option<u16>) -> Option<Option<u16>>
+    ensures { result ≡ meet_number x y }
+{
+    match (x, y) {
+        (Some(a), Some(b)) if a == b => Some(x),
+        (Some(_), Some(_)) => None,
+        (Some(_), None) => Some(x),
+        (None, _) => Some(y),
+    }
+}
+
+/// What two prefix fields say together, or `None` where they contradict each other.
+fn met_prefix(x: Option<Prefix>, y: Option<Prefix>) -> Option<Option<Prefix>>
+    ensures { result ≡ meet_prefix x y }
+{
+    match (x, y) {
+        (Some(p), Some(q)) => longer(p, q),
+        (Some(_), None) => Some(x),
+        (None, _) => Some(y),
+    }
+}
+
+/// The longer prefix, where the shorter holds it.
+fn longer(p: Prefix, q: Prefix) -> Option<Option<Prefix>>
+    ensures { result ≡ longer p q }
+{
+    let (short, long) = if p.len <= q.len { (p, q) } else { (q, p) };
+    short.holds(long.bits).then_some(Some(long))
+}
+
+/// Whether each field of the first filter covers that of the second.
+fn covered(x: Filter, y: Filter) -> bool
+    ensures value { result ≡ covers x y }
+    ensures x_fits { IsFilter x }
+    ensures y_fits { IsFilter y }
+{
+    covers_byte(x.proto, y.proto)
+        && covers_prefix(x.local, y.local)
+        && covers_port(x.lport, y.lport)
+        && covers_prefix(x.remote, y.remote)
+        && covers_port(x.rport, y.rport)
+}
+
+/// Whether a protocol field says no more than another.
+fn covers_byte(x: Option<u8>, y: Option<u8>) -> bool
+    ensures { result ≡ covers_number x y }
+{
+    x.is_none() || x == y
+}
+
+/// Whether a port field says no more than another.
+fn covers_port(x: Option<u16>, y: Option<u16>) -> bool
+    ensures { result ≡ covers_number x y }
+{
+    x.is_none() || x == y
+}
+
+/// Whether a prefix field says no more than another.
+fn covers_prefix(x: Option<Prefix>, y: Option<Prefix>) -> bool
+    ensures { result ≡ covers_prefix x y }
+{
+    match (x, y) {
+        (None, _) => true,
+        (Some(p), None) => p.len == 0,
+        (Some(p), Some(q)) => p.len <= q.len && p.holds(q.bits),
+    }
+}
+
+#[cfg(test)]
+mod tests {
+    use super::*;
+    use std::test::Fail;
+
+    const FLOW: Flow = Flow {
+        proto: 6,
+        local: 0x0a00_0009,
+        lport: 40000,
+        remote: 0xc633_6407,
+        rport: 80,
+    };
+
+    #[test]
+    fn a_longer_prefix_meets_a_shorter_one(rt: HostRuntime) -> Result<(), Fail> {
+        let block = Filter::parse("local=10.0.0.0/25,rport=80")?;
+        let host = Filter::parse("local=10.0.0.9,proto=tcp")?;
+        assert!(rt; block.matches(&FLOW));
+        assert_eq!(rt;
+            block.meet(&host),
+            Some(Filter::parse("proto=tcp,local=10.0.0.9/32,rport=80")?)
+        );
+        assert_eq!(rt; block.meet(&Filter::parse("local=10.0.0.128/25")?), None);
+        Ok(())
+    }
+
+    #[test]
+    fn a_prefix_of_length_0_covers_a_field_that_is_not_given(rt: HostRuntime) -> Result<(), Fail> {
+        let all = Filter::parse("remote=0.0.0.0/0")?;
+        let block = Filter::parse("remote=198.51.100.0/24")?;
+        assert!(rt; all.covers(&Filter::ANY));
+        assert!(rt; all.covers(&block));
+        assert!(rt; !block.covers(&all));
+        Ok(())
+    }
+}

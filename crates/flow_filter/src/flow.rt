@@ -1,0 +1,97 @@
+ghost use Rattle.std.specs.Prelude.{◌≡◌, true};
+ghost use Rattle.flow_filter.specs.Flow.{flow_of, inward, outward, owner_of_port, is_mapped, is_source_first};
+
+use crate::packet::Packet;
+use crate::site::Site;
+
+/// The first outside port that belongs to an inside host.
+const FIRST_PORT: u16 = 1024;
+
+/// How many outside ports each inside host has.
+const PORTS_PER_HOST: u16 = 252;
+
+/// The two ends of a conversation, seen from the site, ordered by the fields in turn.
+#[derive(Clone, Copy, Debug, PartialEq, Eq, PartialOrd, Ord, Hash)]
+pub struct Flow {
+    pub proto: u8,
+    pub local: u32,
+    pub lport: u16,
+    pub remote: u32,
+    pub rport: u16,
+}
+
+/// Which way a packet of a flow goes.
+#[derive(Clone, Copy, Debug, PartialEq, Eq, PartialOrd, Ord, Hash)]
+pub enum Dir {
+    /// From the local end.
+    Out,
+    /// To the local end.
+    In,
+}
+
+/// The flow of a packet at a site, and the way that the packet goes.
+#[tactic(auto, unfolding(crate::specs::Flow::flow_of))]
+pub fn flow_of(site: &Site, packet: &Packet) -> (Flow, Dir)
+    ensures { result ≡ flow_of site.now packet.now }
+{
+    match (site.inside.holds(packet.src), site.inside.holds(packet.dst)) {
+        (true, false) => (outward(packet), Dir::Out),
+        (false, true) => (inward(packet), Dir::In),
+        (false, false) if is_mapped(site, packet) => (mapped(site, packet), Dir::In),
+        _ if is_source_first(packet) => (outward(packet), Dir::Out),
+        _ => (inward(packet), Dir::In),
+    }
+}
+
+/// The flow whose local end is the packet's source.
+fn outward(packet: &Packet) -> Flow
+    ensures { result ≡ outward packet.now }
+{
+    Flow {
+        proto: packet.proto,
+        local: packet.src,
+        lport: packet.sport,
+        remote: packet.dst,
+        rport: packet.dport,
+    }
+}
+
+/// The flow whose local end is the packet's destination.
+fn inward(packet: &Packet) -> Flow
+    ensures { result ≡ inward packet.now }
+{
+    Flow {
+        proto: packet.proto,
+        local: packet.dst,
+        lport: packet.dport,
+        remote: packet.src,
+        rport: packet.sport,
+    }
+}
+
+/// Whether the packet goes to a port of the outside address that belongs to an inside host.
+fn is_mapped(site: &Site, packet: &Packet) -> bool
+    ensures { result ≡ is_mapped site.now packet.now }
+{
+    site.outside == Some(packet.dst) && packet.dport >= FIRST_PORT
+}
+
+/// The flow whose local end is the inside host that owns the packet's destination port.
+fn mapped(site: &Site, packet: &Packet) -> Flow
+    requires { is_mapped site.now packet.now ≡ true }
+    ensures { result ≡ record (inward packet.now) { local = owner_of_port site.now packet.now.dport } }
+{
+    let network = site.inside.bits;
+    let host = (packet.dport - FIRST_PORT) / PORTS_PER_HOST;
+    Flow {
+        local: network + u32::from(host),
+        ..inward(packet)
+    }
+}
+
+/// Whether the source is the smaller end by address and then port, or the ends are equal.
+fn is_source_first(packet: &Packet) -> bool
+    ensures { result ≡ is_source_first packet.now }
+{
+    (packet.src, packet.sport) <= (packet.dst, packet.dport)
+}

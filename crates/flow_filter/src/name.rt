@@ -1,0 +1,112 @@
+ghost use Rattle.std.specs.Prelude.{◌≡◌, true, IfOk, List, ℕ, if◌then◌else◌};
+ghost use Rattle.std.specs.List.{list_all, list_any};
+ghost use Rattle.std.specs.Str.{bytes_eq};
+ghost use Rattle.flow_filter.specs.Name.{has_twice, is_name, is_name_byte};
+
+use crate::sequence::{Bytes, NoMemory};
+use std::alloc::Global;
+use std::marker::Model;
+
+/// The greatest length of a name.
+const LONGEST: usize = 16;
+
+/// The name of an instance: 1 to 16 of `a` to `z` and `0` to `9`, which contracts see as their bytes.
+#[derive(Debug, Drop)]
+pub struct Name {
+    bytes: Bytes,
+}
+
+impl Model for Name {
+    ghost Value = { List ℕ };
+
+    ghost view = { λ n. n.bytes };
+
+    ghost invariant = { λ n. is_name n.bytes ≡ true };
+}
+
+impl Name {
+    /// The name that the bytes spell, or `None` where they are no name.
+    pub fn read(alloc: Global, bytes: &[u8]) -> Result<Option<Self>, NoMemory>
+        ensures { IfOk result (λ found. found ≡ (if is_name bytes.now then Some bytes.now else None)) }
+    {
+        if is_name(bytes) {
+            let bytes = Bytes::from_vec(bytes.to_vec(alloc)?);
+            Ok(Some(Name { bytes }))
+        } else {
+            Ok(None)
+        }
+    }
+
+    /// The bytes of the name.
+    pub fn items(&self) -> &[u8]
+        ensures { result.now ≡ self.now }
+    {
+        self.bytes.items()
+    }
+
+    /// The same name again, on the same allocator.
+    pub fn copy(&self) -> Result<Self, NoMemory>
+        ensures { IfOk result (λ other. other ≡ self.now) }
+    {
+        let bytes = self.bytes.copy()?;
+        Ok(Name { bytes })
+    }
+}
+
+/// Whether the bytes spell a name.
+pub fn is_name(bytes: &[u8]) -> bool
+    ensures { result ≡ is_name bytes.now }
+{
+    (1..=LONGEST).contains(&bytes.len()) && are_name_bytes(bytes)
+}
+
+/// Whether each byte may stand in a name.
+fn are_name_bytes(bytes: &[u8]) -> bool
+    ensures { result ≡ list_all is_name_byte bytes.now }
+{
+    bytes.iter().all(|byte| is_name_byte(*byte))
+}
+
+/// Whether a byte may stand in a name.
+fn is_name_byte(byte: u8) -> bool
+    ensures { result ≡ is_name_byte byte }
+{
+    byte.is_ascii_lowercase() || byte.is_ascii_digit()
+}
+
+/// Whether some name stands twice in the list.
+pub fn has_twice(names: &[Name]) -> bool
+    ensures { result ≡ has_twice names.now }
+{
+    let mut rest = names;
+    while let [name, more @ ..] = rest {
+        if stands_in(name, more) {
+            return true;
+        }
+        rest = more;
+    }
+    false
+}
+
+/// Whether a name is one of the others.
+fn stands_in(name: &Name, others: &[Name]) -> bool
+    ensures { result ≡ list_any (λ other. bytes_eq other name.now) others.now }
+{
+    others.iter().any(|other| other.items() == name.items())
+}
+
+#[cfg(test)]
+mod tests {
+    use super::*;
+    use std::test::Fail;
+
+    #[test]
+    fn a_name_has_up_to_16_letters_and_digits(rt: HostRuntime) -> Result<(), Fail> {
+        let name = Name::read(rt.alloc(), b"b2".as_slice())?.ok_or("no name")?;
+        assert_eq!(rt; name.copy()?.items(), b"b2".as_slice());
+        assert!(rt; is_name(b"abcdefghijklmno9".as_slice()));
+        assert!(rt; !is_name(b"abcdefghijklmnop9".as_slice()));
+        assert!(rt; !is_name(b"A".as_slice()));
+        Ok(())
+    }
+}

@@ -1,0 +1,35 @@
+use crate::sequence::Sequence;
+
+/// The protocol number of TCP in an IPv4 header.
+pub const TCP: u8 = 6;
+
+/// The protocol number of UDP in an IPv4 header.
+pub const UDP: u8 = 17;
+
+/// Packets in order, which contracts see as their list.
+pub type Packets = Sequence<Packet>;
+
+/// One TCP or UDP packet of a capture.
+///
+/// Addresses are the numbers of their four bytes, the first byte highest.
+#[derive(Clone, Copy, Debug, PartialEq, Eq)]
+pub struct Packet {
+    /// The place among the steered packets of the capture, from 1.
+    pub number: u32,
+    /// The capture's time stamp, in nanoseconds.
+    pub nanos: u64,
+    /// [`TCP`] or [`UDP`].
+    pub proto: u8,
+    pub src: u32,
+    pub sport: u16,
+    pub dst: u32,
+    pub dport: u16,
+    /// The flags of the TCP header, and 0 for UDP.
+    pub flags: u8,
+    /// How many bytes of payload the packet carried, captured or not.
+    pub length: u32,
+    /// How many bytes of payload `head` has.
+    pub held: u8,
+    /// The first `held` bytes of captured payload, and then zeros.
+    pub head: [u8; 64],
+}

@@ -1,0 +1,28 @@
+ghost use Rattle.std.specs.Prelude.{◌≡◌, ◌≤◌, ◌-◌, ◌/◌, ◌%◌, ◌^◌};
+ghost use Rattle.flow_filter.specs.Block.{in_block};
+
+/// The addresses that begin with the first `len` bits of `bits`, as `A.B.C.D/L` names them.
+#[derive(Clone, Copy, Debug, PartialEq, Eq, Hash)]
+pub struct Prefix {
+    pub bits: u32,
+    pub len: u8,
+    ghost within: { len ≤ 32 },
+    ghost aligned: { bits % 2 ^ (32 - len) ≡ 0 },
+}
+
+impl Prefix {
+    /// Whether the address begins with the prefix's bits.
+    pub fn holds(&self, address: u32) -> bool
+        ensures { result ≡ in_block self.now.bits self.now.len address }
+    {
+        first_bits(address, self.len) == first_bits(self.bits, self.len)
+    }
+}
+
+/// The first `len` bits of an address, as a number.
+fn first_bits(address: u32, len: u8) -> u64
+    requires { len ≤ 32 }
+    ensures { result ≡ address / 2 ^ (32 - len) }
+{
+    u64::from(address) >> (32 - len)
+}

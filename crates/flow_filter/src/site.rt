@@ -1,0 +1,15 @@
+ghost use Rattle.std.specs.Prelude.{◌≡◌, false};
+ghost use Rattle.std.specs.Option.{ForSome};
+ghost use Rattle.flow_filter.specs.Block.{in_block};
+
+use crate::prefix::Prefix;
+
+/// The addresses of a site, and the outside address where it translates.
+///
+/// A site that translates is a /24 that doesn't hold its outside address.
+#[derive(Clone, Copy, Debug, PartialEq, Eq, Hash)]
+pub struct Site {
+    pub inside: Prefix,
+    pub outside: Option<u32>,
+    ghost translates: { ForSome outside (λ address. (inside.len ≡ 24) × (in_block inside.bits inside.len address ≡ false)) },
+}

@@ -1,0 +1,57 @@
+ghost use Rattle.std.specs.Prelude.{◌≡◌, ◌||◌, is_some};
+ghost use Rattle.std.specs.Bool.{OnFalse};
+ghost use Rattle.flow_filter.specs.FilterText.{fields_of};
+ghost use Rattle.nf_function.specs.Units.{has_hosts, gives_more_than_local, splits, TakesWhole};
+
+use flow_filter::Filter;
+
+/// The network functions.
+#[derive(Clone, Copy, Debug, PartialEq, Eq, PartialOrd, Ord, Hash)]
+pub enum Kind {
+    /// The connection tracker.
+    Conntrack,
+    /// The address translator.
+    Nat,
+    /// The asset monitor.
+    Monitor,
+}
+
+/// What a piece of state belongs to.
+#[derive(Clone, Copy, Debug, PartialEq, Eq, PartialOrd, Ord, Hash)]
+pub enum Scope {
+    /// One flow.
+    PerFlow,
+    /// The flows of one local host.
+    MultiFlow,
+    /// All flows of an instance.
+    AllFlows,
+}
+
+impl Kind {
+    /// Whether the function keeps its records for hosts.
+    pub fn has_hosts(self) -> bool
+        ensures { result ≡ has_hosts self }
+    {
+        !matches!(self, Kind::Conntrack)
+    }
+}
+
+/// Whether the filter may match some flows of a unit and not others: it gives more than `local`, where units are hosts.
+///
+/// A filter that splits no unit takes the unit of a flow exactly where it matches the flow.
+pub fn splits(kind: Kind, filter: &Filter) -> bool
+    ensures value { result ≡ splits kind (fields_of filter.now) }
+    ensures whole { OnFalse result (TakesWhole kind filter.now) }
+{
+    kind.has_hosts() && gives_more_than_local(filter)
+}
+
+/// Whether the filter gives a field besides `local`.
+fn gives_more_than_local(filter: &Filter) -> bool
+    ensures { result ≡ gives_more_than_local (fields_of filter.now) }
+{
+    filter.proto.is_some()
+        || filter.lport.is_some()
+        || filter.remote.is_some()
+        || filter.rport.is_some()
+}

@@ -1,0 +1,7 @@
+use Rattle.std.proofs.Common.{rules}
+use Rattle.nf_io.proofs.Moved.{front_moved}
+use Rattle.nf_io.proofs.tape.Tape.read.Goals as goal
+
+pub returns-clause-bytes : goal.returns-clause-bytes
+returns-clause-bytes c =
+    front_moved _ _ _ _ _ _ c.deref.ensures.value c.copy_from_slice.ensures.after (search rules)

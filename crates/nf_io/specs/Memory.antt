@@ -1,0 +1,30 @@
+-- What the outsides in memory hold, and which of their calls are to fail. This project's own.
+use Rattle.std.specs.Prelude.{◌≡◌, ◌≢◌, ℕ, option_map, unwrap_or, slice_get}
+use Rattle.nf_io.specs.declared.outside.Role.{Role}
+use Rattle.nf_io.specs.declared.memory.MemoryOutside.{MemoryOutside}
+use Rattle.nf_io.specs.Roles.{place_of}
+use Rattle.nf_io.specs.Meaning.{Meaning, blank}
+use Rattle.nf_io.specs.Planned.{Plan, unplanned, meaning_of, plan_of, room_of, after_call}
+
+-- the four meanings of a role
+abbrev pub seen_in : MemoryOutside → Role → Meaning
+seen_in memory role = unwrap_or (option_map meaning_of (slice_get memory.tapes (place_of role))) blank
+
+-- the plan of a role
+abbrev pub plan_in : MemoryOutside → Role → Plan
+plan_in memory role = unwrap_or (option_map plan_of (slice_get memory.tapes (place_of role))) unplanned
+
+-- how many bytes can be appended to a role without more memory
+abbrev pub room_in : MemoryOutside → Role → ℕ
+room_in memory role = unwrap_or (option_map room_of (slice_get memory.tapes (place_of role))) 0
+
+-- the plans, and how much one call may take, are as before
+pub record SamePlans (old new : MemoryOutside) : Type 0 where
+  pub plans : (role : Role) → plan_in new role ≡ plan_in old role
+  pub piece : new.most ≡ old.most
+
+-- one more call was made on this role, and the plans are else as before
+pub record CountsCall (role : Role) (old new : MemoryOutside) : Type 0 where
+  pub called : plan_in new role ≡ after_call (plan_in old role)
+  pub others : (other : Role) → other ≢ role → plan_in new other ≡ plan_in old other
+  pub piece : new.most ≡ old.most

@@ -1,0 +1,38 @@
+-- The seven roles of files, this project's own: which are read, which need a name, and their places in a table.
+use Rattle.std.specs.Prelude.{ℕ, Bool, true, false, nat_eq}
+use Rattle.nf_io.specs.declared.outside.Role.{Role}
+use Rattle.nf_io.specs.declared.outside.Role.TheVariants.{Trace, Script, JournalIn, Report, JournalOut, TraceOut, Errors}
+
+-- the roles that are read; the others are written
+abbrev pub is_read : Role → Bool
+is_read Trace = true
+is_read Script = true
+is_read JournalIn = true
+is_read Report = false
+is_read JournalOut = false
+is_read TraceOut = false
+is_read Errors = false
+
+-- the roles that stand for a named file; the others are the standard output and the standard error
+abbrev pub needs_name : Role → Bool
+needs_name Trace = true
+needs_name Script = true
+needs_name JournalIn = true
+needs_name Report = false
+needs_name JournalOut = true
+needs_name TraceOut = true
+needs_name Errors = false
+
+-- `role as usize`
+abbrev pub place_of : Role → ℕ
+place_of Trace = 0
+place_of Script = 1
+place_of JournalIn = 2
+place_of Report = 3
+place_of JournalOut = 4
+place_of TraceOut = 5
+place_of Errors = 6
+
+-- whether two roles are one
+abbrev pub same_role : Role → Role → Bool
+same_role a b = nat_eq (place_of a) (place_of b)

@@ -1,0 +1,27 @@
+//! Reading and writing outside the program, role by role.
+//!
+//! An [`Outside`] has seven files, one for each [`Role`]. Contracts see it as a function from
+//! roles to a `Meaning`: the bytes left, the bytes written, a count of faults, and the name that
+//! was bound. A call fails only where the count of faults of its own role rose, and leaves every
+//! other role as it was.
+#![tactic(auto)]
+
+pub mod calm;
+pub mod file;
+pub mod memory;
+pub mod outside;
+mod planned;
+mod stream;
+pub mod streams;
+mod tape;
+pub mod transfers;
+
+pub use calm::CalmOutside;
+pub use file::FileOutside;
+pub use memory::MemoryOutside;
+pub use outside::{Failed, Outside, Role};
+pub use streams::{RoleSink, RoleSource, Sink, Source};
+pub use transfers::{UptoFault, read_upto, write_all};
+
+#[cfg(test)]
+mod tests;

@@ -1,0 +1,70 @@
+ghost use Rattle.std.specs.Prelude.{◌≡◌, ◌<◌, ℕ, Some, length, IfOk, OnOk, OnErr};
+ghost use Rattle.std.specs.Io.{ReadsAtMost, WritesAtMost};
+ghost use Rattle.std.specs.Io.KnownBytes.{ReadConsumes, WriteAppends};
+
+use flow_filter::NoMemory;
+use thiserror::Error;
+
+/// A call that the outside couldn't serve, which it has counted.
+#[derive(Clone, Copy, Debug, PartialEq, Eq, Error)]
+#[error("the outside failed")]
+pub struct Failed;
+
+/// What a file is for.
+#[derive(Clone, Copy, Debug, PartialEq, Eq)]
+pub enum Role {
+    /// The capture that is read.
+    Trace,
+    /// The script that is read.
+    Script,
+    /// The journal that is read.
+    JournalIn,
+    /// The report, which goes to the standard output.
+    Report,
+    /// The journal that is written.
+    JournalOut,
+    /// The capture that is written.
+    TraceOut,
+    /// The lines on what went wrong, which go to the standard error.
+    Errors,
+}
+
+/// What the program reads and writes. `Trace`, `Script` and `JournalIn` are read, the other roles
+/// are written; `Report` and `Errors` need no name.
+pub trait Outside {
+    ghost use Rattle.nf_io.specs.declared.outside.Role.{Role};
+    ghost use Rattle.nf_io.specs.Meaning.{Meaning, HasCause, OthersStay, CanRead, CanWrite, CanBind};
+
+    /// What callers know of each role.
+    ghost seen: { Self → Role → Meaning };
+
+    /// Notes the file that a role stands for. It opens nothing.
+    fn bind(&mut self, role: Role, name: &str) -> Result<(), NoMemory>
+        requires { CanBind role (seen self.old role) }
+        ensures ok { OnOk result (seen self.new role ≡ record (seen self.old role) { name = Some name.now }) }
+        ensures err { OnErr result (seen self.new role ≡ seen self.old role) }
+        ensures others { OthersStay role (seen self.old) (seen self.new) };
+
+    /// Takes the next bytes of a role into the front of a buffer. `Ok(0)` on a buffer that isn't
+    /// empty is the end of input.
+    fn read(&mut self, role: Role, buf: &mut [u8]) -> Result<usize, Failed>
+        requires { CanRead role (seen self.old role) }
+        ensures bound { ReadsAtMost result buf.new }
+        ensures bytes { ReadConsumes (seen self.old role).left (seen self.new role).left result buf.new }
+        ensures cause { HasCause (seen self.old role).faults (seen self.new role).faults result }
+        ensures written { (seen self.new role).written ≡ (seen self.old role).written }
+        ensures name { (seen self.new role).name ≡ (seen self.old role).name }
+        ensures others { OthersStay role (seen self.old) (seen self.new) };
+
+    /// Appends a front of the bytes to a role. Of a piece that isn't empty at least one byte is
+    /// taken.
+    fn write(&mut self, role: Role, bytes: &[u8]) -> Result<usize, Failed>
+        requires { CanWrite role (seen self.old role) }
+        ensures bound { WritesAtMost result bytes.now }
+        ensures moves { 0 < length bytes.now → IfOk result (λ n. 0 < n) }
+        ensures bytes { WriteAppends (seen self.old role).written (seen self.new role).written result bytes.now }
+        ensures cause { HasCause (seen self.old role).faults (seen self.new role).faults result }
+        ensures left { (seen self.new role).left ≡ (seen self.old role).left }
+        ensures name { (seen self.new role).name ≡ (seen self.old role).name }
+        ensures others { OthersStay role (seen self.old) (seen self.new) };
+}

@@ -1,0 +1,127 @@
+ghost use Rattle.std.specs.Prelude.{◌≡◌, ◌<◌, ℕ, Option, List, length, IfOk};
+ghost use Rattle.std.specs.Io.{ReadsAtMost, WritesAtMost};
+ghost use Rattle.std.specs.Io.KnownBytes.{ReadConsumes, WriteAppends};
+
+use crate::outside::{Failed, Outside, Role};
+
+/// One role's bytes to read.
+pub trait Source {
+    ghost use Rattle.nf_io.specs.Meaning.{HasCause, StaysOpen};
+
+    /// What `rest` tells.
+    ghost Rest: { Type 0 };
+
+    /// The bytes left, where they are told.
+    ghost left: { Self → Option (List ℕ) };
+
+    /// The faults so far.
+    ghost faults: { Self → ℕ };
+
+    /// The condition of each call, which each call keeps.
+    ghost IsOpen: { Self → Type 0 };
+
+    /// The name of the loan that the source holds, if it holds one.
+    ghost loan: { Self → ℕ };
+
+    /// All that a read leaves as it was.
+    ghost rest: { Self → Self.Rest };
+
+    /// Takes the next bytes into the front of a buffer. `Ok(0)` on a buffer that isn't empty is
+    /// the end of input.
+    fn read(&mut self, buf: &mut [u8]) -> Result<usize, Failed>
+        requires { IsOpen self.old }
+        ensures bound { ReadsAtMost result buf.new }
+        ensures bytes { ReadConsumes (left self.old) (left self.new) result buf.new }
+        ensures cause { HasCause (faults self.old) (faults self.new) result }
+        ensures stays { StaysOpen IsOpen loan rest self.old self.new };
+}
+
+/// One role's bytes to write.
+pub trait Sink {
+    ghost use Rattle.nf_io.specs.Meaning.{HasCause, StaysOpen};
+
+    /// What `rest` tells.
+    ghost Rest: { Type 0 };
+
+    /// The bytes written, where they are told.
+    ghost written: { Self → Option (List ℕ) };
+
+    /// The faults so far.
+    ghost faults: { Self → ℕ };
+
+    /// The condition of each call, which each call keeps.
+    ghost IsOpen: { Self → Type 0 };
+
+    /// The name of the loan that the sink holds, if it holds one.
+    ghost loan: { Self → ℕ };
+
+    /// All that a write leaves as it was.
+    ghost rest: { Self → Self.Rest };
+
+    /// Appends a front of the bytes. Of a piece that isn't empty at least one byte is taken.
+    fn write(&mut self, bytes: &[u8]) -> Result<usize, Failed>
+        requires { IsOpen self.old }
+        ensures bound { WritesAtMost result bytes.now }
+        ensures moves { 0 < length bytes.now → IfOk result (λ n. 0 < n) }
+        ensures bytes { WriteAppends (written self.old) (written self.new) result bytes.now }
+        ensures cause { HasCause (faults self.old) (faults self.new) result }
+        ensures stays { StaysOpen IsOpen loan rest self.old self.new };
+}
+
+/// A role of an outside, to read.
+#[derive(Drop)]
+pub struct RoleSource<'a, O> {
+    pub outside: &'a mut O,
+    pub role: Role,
+}
+
+/// A role of an outside, to write.
+#[derive(Drop)]
+pub struct RoleSink<'a, O> {
+    pub outside: &'a mut O,
+    pub role: Role,
+}
+
+impl<O: Outside> Source for RoleSource<'_, O> {
+    ghost use Rattle.nf_io.specs.declared.outside.Role.{Role};
+    ghost use Rattle.nf_io.specs.Meaning.{Meaning, CanRead, beside_left};
+
+    ghost Rest = { Role × (Role → Meaning) };
+
+    ghost left = { λ s. (O.seen s.outside.now s.role).left };
+
+    ghost faults = { λ s. (O.seen s.outside.now s.role).faults };
+
+    ghost IsOpen = { λ s. CanRead s.role (O.seen s.outside.now s.role) };
+
+    ghost loan = { λ s. s.outside.ghost_name };
+
+    ghost rest = { λ s. (s.role, beside_left s.role (O.seen s.outside.now)) };
+
+    #[tactic(auto, unfolding(crate::specs::Meaning::beside_left))]
+    fn read(&mut self, buf: &mut [u8]) -> Result<usize, Failed> {
+        self.outside.read(self.role, buf)
+    }
+}
+
+impl<O: Outside> Sink for RoleSink<'_, O> {
+    ghost use Rattle.nf_io.specs.declared.outside.Role.{Role};
+    ghost use Rattle.nf_io.specs.Meaning.{Meaning, CanWrite, beside_written};
+
+    ghost Rest = { Role × (Role → Meaning) };
+
+    ghost written = { λ s. (O.seen s.outside.now s.role).written };
+
+    ghost faults = { λ s. (O.seen s.outside.now s.role).faults };
+
+    ghost IsOpen = { λ s. CanWrite s.role (O.seen s.outside.now s.role) };
+
+    ghost loan = { λ s. s.outside.ghost_name };
+
+    ghost rest = { λ s. (s.role, beside_written s.role (O.seen s.outside.now)) };
+
+    #[tactic(auto, unfolding(crate::specs::Meaning::beside_written))]
+    fn write(&mut self, bytes: &[u8]) -> Result<usize, Failed> {
+        self.outside.write(self.role, bytes)
+    }
+}

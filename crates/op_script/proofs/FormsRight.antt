@@ -1,0 +1,90 @@
+-- What a form says of its words: a share's list has a comma.
+use Rattle.std.proofs.Common.{◌≡◌, ℕ, Bool, true, false, cond, List, [], ◌∷◌, Option, None, Some, is_some, option_map, refl, ap, sym, subst}
+use Rattle.std.specs.Prelude.{codes, option_and_then}
+use Rattle.std.specs.Str.{bytes_eq}
+use Rattle.flow_filter.specs.Reading.{number_of, cut}
+use Rattle.op_script.specs.Forms.{Word, Event, Moving, Copying, Sharing, Settling, Form, Silent, Routing, Happening, form_of, routing, happening, event_of, moving, copying, sharing, settling, is_comment}
+
+-- a share's list has a comma
+abbrev pub IsEvent : Event → Type 0
+IsEvent (Moving source target filter keep) = Unit {0}
+IsEvent (Copying source target filter) = Unit {0}
+IsEvent (Sharing list filter) = is_some (cut 44 list) ≡ true
+IsEvent Settling = Unit {0}
+
+abbrev pub IsForm : Form → Type 0
+IsForm Silent = Unit {0}
+IsForm (Routing filter instance) = Unit {0}
+IsForm (Happening at event) = IsEvent event
+
+-- what is there has a property
+abbrev pub OfSome : {A : Type 0} → (A → Type 0) → Option A → Type 0
+OfSome P None = Unit {0}
+OfSome P (Some x) = P x
+
+either : {A : Type 0} (P : A → Type 0) (test : Bool) (a b : Option A) → OfSome P a → OfSome P b → OfSome P (cond test a b)
+either P true a b in_a in_b = in_a
+either P false a b in_a in_b = in_b
+
+moving_right : (ws : List Word) → OfSome IsEvent (moving ws)
+unfolding moving
+moving_right [] = tt
+moving_right (a ∷ []) = tt
+moving_right (a ∷ b ∷ []) = tt
+moving_right (a ∷ b ∷ c ∷ []) = tt
+moving_right (a ∷ b ∷ c ∷ d ∷ []) = either IsEvent (bytes_eq d (codes "order")) _ _ tt (either IsEvent (bytes_eq d (codes "lossfree")) _ _ tt tt)
+moving_right (a ∷ b ∷ c ∷ d ∷ e ∷ more) = tt
+
+copying_right : (ws : List Word) → OfSome IsEvent (copying ws)
+unfolding copying
+copying_right [] = tt
+copying_right (a ∷ []) = tt
+copying_right (a ∷ b ∷ []) = tt
+copying_right (a ∷ b ∷ c ∷ []) = tt
+copying_right (a ∷ b ∷ c ∷ d ∷ more) = tt
+
+listed : (list filter : Word) (test : Bool) → is_some (cut 44 list) ≡ test → OfSome IsEvent (cond test (Some (Sharing list filter)) None)
+listed list filter true is = is
+listed list filter false is = tt
+
+sharing_right : (ws : List Word) → OfSome IsEvent (sharing ws)
+unfolding sharing
+sharing_right [] = tt
+sharing_right (a ∷ []) = tt
+sharing_right (a ∷ b ∷ []) = tt
+sharing_right (a ∷ b ∷ c ∷ []) = either IsEvent (bytes_eq c (codes "strict")) _ _ (listed a b (is_some (cut 44 a)) refl) tt
+sharing_right (a ∷ b ∷ c ∷ d ∷ more) = tt
+
+settling_right : (ws : List Word) → OfSome IsEvent (settling ws)
+settling_right [] = tt
+settling_right (a ∷ more) = tt
+
+event_right : (verb : Word) (ws : List Word) → OfSome IsEvent (event_of verb ws)
+unfolding event_of
+event_right verb ws = either IsEvent (bytes_eq verb (codes "move")) _ _ (moving_right ws) (either IsEvent (bytes_eq verb (codes "copy")) _ _ (copying_right ws)
+    (either IsEvent (bytes_eq verb (codes "share")) _ _ (sharing_right ws) (either IsEvent (bytes_eq verb (codes "settle")) _ _ (settling_right ws) tt)))
+
+routing_right : (ws : List Word) → OfSome IsForm (routing ws)
+routing_right [] = tt
+routing_right (a ∷ []) = tt
+routing_right (a ∷ b ∷ []) = tt
+routing_right (a ∷ b ∷ c ∷ more) = tt
+
+at_right : (at : Option ℕ) (event : Option Event) → OfSome IsEvent event → OfSome IsForm (option_and_then (λ k. option_map (Happening k) event) at)
+at_right None event right = tt
+at_right (Some k) None right = tt
+at_right (Some k) (Some event) right = right
+
+happening_right : (ws : List Word) → OfSome IsForm (happening ws)
+happening_right [] = tt
+happening_right (at ∷ []) = tt
+happening_right (at ∷ verb ∷ more) = at_right (number_of 4294967295 at) (event_of verb more) (event_right verb more)
+
+form_of_right : (ws : List Word) → OfSome IsForm (form_of ws)
+unfolding form_of
+form_of_right [] = tt
+form_of_right (first ∷ more) = either IsForm (is_comment first) _ _ tt (either IsForm (bytes_eq first (codes "route")) _ _ (routing_right more)
+    (either IsForm (bytes_eq first (codes "at")) _ _ (happening_right more) tt))
+
+pub form_right : (ws : List Word) (form : Form) → form_of ws ≡ Some form → IsForm form
+form_right ws form is = subst (OfSome IsForm) is (form_of_right ws)

@@ -1,0 +1,5 @@
+pub mod Written
+pub mod Judged
+pub mod Lines
+pub mod FormsRight
+pub mod ReadScripts

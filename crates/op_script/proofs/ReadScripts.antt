@@ -1,0 +1,166 @@
+-- What was read breaks no rule.
+use Rattle.std.proofs.Common.{◌≡◌, ℕ, ◌+◌, ◌<◌, ◌≤◌, Bool, true, false, not, cond, leb, ltb, ◌&&◌, List, [], ◌∷◌, ◌++◌, length, map, Option, None, Some, is_some, unwrap_or, Ok, Err, Result, refl, ap, sym, ◌∙◌, arith, subst, length-append}
+use Rattle.std.specs.List.{AllByRecursion, list_all, slice_split, position}
+use Rattle.std.specs.Str.{bytes_eq}
+use Rattle.std.proofs.lemmas.Bool.{leb-false, ltb-false, not-false, and_parts}
+use Rattle.std.proofs.lemmas.List.Quantifiers.{position-Some}
+use Rattle.flow_filter.specs.declared.filter_text.FilterFault.{FilterFault}
+use Rattle.flow_filter.specs.Name.{has_twice, is_name}
+use Rattle.flow_filter.specs.Reading.{cut}
+use Rattle.flow_filter.specs.FilterText.{Fields, is_transport, parse}
+use Rattle.flow_filter.proofs.Printable.{parse_printable}
+use Rattle.nf_function.specs.declared.kind.Kind.{Kind}
+use Rattle.nf_function.specs.Units.{splits}
+use Rattle.op_script.specs.declared.fault.ScriptKind.{ScriptKind}
+use Rattle.op_script.specs.Forms.{Word, words, form_of, Event, Moving, Copying, Sharing, Settling, Form, Silent, Routing, Happening}
+use Rattle.op_script.specs.Reading.{State, start, OrderView, Moves, Copies, Shares, LineView, Judged, ◌>>=◌, unless, wanted, place_of, ends_of, members_of, whole, filter_of, filter_or_all, with_route, with_line, noted, numbered, order_of, goes_back, with_event, with_form, with_text, Whole, and_lines, with_lines, script_of, said, ScriptView}
+use Rattle.op_script.specs.Printing.{IsRoute, IsOrder, IsWhat, IsLine, IsScript, is_writable, follows}
+use Rattle.std.specs.Prelude.{◌==◌}
+use Rattle.std.specs.Str.Lines.{strip_carriage_return}
+use Rattle.std.proofs.lemmas.List.Splits.{length-slice_split}
+use Rattle.flow_filter.proofs.CutLaws.{split-Some}
+use Rattle.op_script.specs.declared.fault.ScriptKind.TheVariants as bad
+use Rattle.op_script.proofs.FormsRight.{IsEvent, IsForm, form_right}
+use Rattle.op_script.proofs.Judged.{Steps, steps, unless_Ok, wanted_Ok}
+use Rattle.op_script.proofs.Lines.{All-append, last_at, last_at-append, follows-append, numbered_next}
+
+-- what holds while lines are read
+pub record IsState (names : List Word) (s : State) : Type 0 where
+  pub script : IsScript names (s.routes, s.lines)
+  pub last : last_at 0 s.lines ≡ unwrap_or s.last 0
+
+start_state : (names : List Word) → IsState names start
+start_state names = record {
+  script = record { few_routes = omega arith; few_lines = omega arith; routes = tt; lines = tt; follow = refl };
+  last = refl;
+}
+
+-- a filter that was read has a text
+filter_printable : (kind : Kind) (text : Word) (f : Fields) → filter_of kind text ≡ Ok f → is_transport f.proto ≡ true
+unfolding filter_of
+filter_printable kind text f is = whole_printable kind (parse text) f is (λ read. parse_printable f text read)
+  where
+    whole_printable : (kind : Kind) (r : Result Fields FilterFault) (f : Fields) → whole kind r ≡ Ok f → (r ≡ Ok f → is_transport f.proto ≡ true) → is_transport f.proto ≡ true
+    whole_printable kind (Err e) f is given = absurd cc
+    whole_printable kind (Ok g) f is given = let right = unless_Ok (splits kind g) bad.SplitsUnit (Ok g) f is in
+        let same : g ≡ f = let rest = right.1 in cc in given (ap (λ (h : Fields). Ok h) same)
+
+copied_printable : (kind : Kind) (text : Option Word) (f : Option Fields) → filter_or_all kind text ≡ Ok f → is_writable f ≡ true
+copied_printable kind None f is = let none : None ≡ f = cc in rw (← none) refl
+copied_printable kind (Some text) f is = let s = steps (filter_of kind text) (λ g. Ok (Some g)) f is in
+    let some : Some s.value ≡ f = let rest = s.rest in cc in rw (← some) (filter_printable kind text s.value s.first)
+
+two_pieces : (list : Word) (r : Option (Word × Word)) → cut 44 list ≡ r → is_some r ≡ true → 2 ≤ length (slice_split (λ b. b == 44) list)
+two_pieces list None at is = absurd cc
+two_pieces list (Some p) at is = rw (split-Some 44 list p.0 p.1 (sym at)) (omega (arith, length-slice_split (λ b. b == 44) p.1))
+
+ends_again : (source target : Word) (ends : Word × Word) → ends_of source target ≡ Ok ends → ends_of ends.0 ends.1 ≡ Ok (ends.0, ends.1)
+unfolding ends_of
+ends_again source target ends is =
+    let first = unless_Ok (not (is_name source && is_name target)) bad.Name (unless (bytes_eq source target) bad.SameInstance (Ok (source, target))) ends is in
+    let second = unless_Ok (bytes_eq source target) bad.SameInstance (Ok (source, target)) ends first.1 in
+    let same : (source, target) ≡ ends = let rest = second.1 in cc in
+    subst (λ (e : Word × Word). ends_of e.0 e.1 ≡ Ok (e.0, e.1)) same (is ∙ ap (λ (e : Word × Word). Ok e) (sym same))
+
+-- the members of a share
+members_right : (list : Word) (members : List Word) → is_some (cut 44 list) ≡ true → members_of list ≡ Ok members
+    → (2 ≤ length members) × (list_all is_name members ≡ true) × (has_twice members ≡ false)
+unfolding members_of
+members_right list members comma is =
+    let all = slice_split (λ b. b == 44) list in
+    let first = unless_Ok (not (list_all is_name all)) bad.Name (unless (has_twice all) bad.SameInstance (Ok all)) members is in
+    let second = unless_Ok (has_twice all) bad.SameInstance (Ok all) members first.1 in
+    let same : all ≡ members = let rest = second.1 in cc in
+    subst (λ (ms : List Word). (2 ≤ length ms) × (list_all is_name ms ≡ true) × (has_twice ms ≡ false)) same
+    (two_pieces list (cut 44 list) refl comma, not-false (list_all is_name all) first.0, second.0)
+
+order_right : (kind : Kind) (event : Event) (order : Option OrderView) → IsEvent event → order_of kind event ≡ Ok order → (lines : List LineView) → IsWhat (numbered lines order)
+unfolding order_of
+order_right kind (Moving source target filter keep) order right is lines =
+    let ends = steps (ends_of source target) (λ e. filter_of kind filter >>= λ f. Ok (Some (Moves e.0 e.1 f keep))) order is in
+    let read = steps (filter_of kind filter) (λ f. Ok (Some (Moves ends.value.0 ends.value.1 f keep))) order ends.rest in
+    let same : Some (Moves ends.value.0 ends.value.1 read.value keep) ≡ order = let rest = read.rest in cc in
+    subst (λ (o : Option OrderView). IsWhat (numbered lines o)) same (ends_again source target ends.value ends.first, filter_printable kind filter read.value read.first)
+order_right kind (Copying source target filter) order right is lines =
+    let ends = steps (ends_of source target) (λ e. filter_or_all kind filter >>= λ f. Ok (Some (Copies e.0 e.1 f))) order is in
+    let read = steps (filter_or_all kind filter) (λ f. Ok (Some (Copies ends.value.0 ends.value.1 f))) order ends.rest in
+    let same : Some (Copies ends.value.0 ends.value.1 read.value) ≡ order = let rest = read.rest in cc in
+    subst (λ (o : Option OrderView). IsWhat (numbered lines o)) same (ends_again source target ends.value ends.first, copied_printable kind filter read.value read.first)
+order_right kind (Sharing list filter) order right is lines =
+    let members = steps (members_of list) (λ m. filter_of kind filter >>= λ f. Ok (Some (Shares m f))) order is in
+    let read = steps (filter_of kind filter) (λ f. Ok (Some (Shares members.value f))) order members.rest in
+    let same : Some (Shares members.value read.value) ≡ order = let rest = read.rest in cc in
+    let all = members_right list members.value right members.first in
+    subst (λ (o : Option OrderView). IsWhat (numbered lines o)) same (all.0, all.1, all.2, filter_printable kind filter read.value read.first)
+order_right kind Settling order right is lines =
+    let same : None ≡ order = cc in subst (λ (o : Option OrderView). IsWhat (numbered lines o)) same tt
+
+route_kept : (kind : Kind) (names : List Word) (s t : State) (filter instance : Word) → IsState names s → with_route kind names s filter instance ≡ Ok t → IsState names t
+unfolding with_route place_of
+route_kept kind names s t filter instance kept is =
+    let first = unless_Ok (is_some s.last) bad.Order _ t is in
+    let place = steps (wanted (place_of instance names) bad.Name) _ t first.1 in
+    let read = steps (filter_of kind filter) _ t place.rest in
+    let few = unless_Ok (leb 1000 (length s.routes)) bad.TooMany (Ok (record s { routes = s.routes ++ (read.value, place.value) ∷ [] })) t read.rest in
+    let same : record s { routes = s.routes ++ (read.value, place.value) ∷ [] } ≡ t = let rest = few.1 in cc in
+    let less : length s.routes < 1000 = leb-false 1000 (length s.routes) few.0 in
+    let within = position-Some (λ other. bytes_eq other instance) names place.value [] (wanted_Ok (place_of instance names) bad.Name place.value place.first) in
+    subst (IsState names) same (record {
+      script = record {
+        few_routes = omega (arith, length-append s.routes ((read.value, place.value) ∷ []));
+        few_lines = kept.script.few_lines;
+        routes = All-append (IsRoute names) s.routes _ kept.script.routes ((within.0, filter_printable kind filter read.value read.first), tt);
+        lines = kept.script.lines;
+        follow = kept.script.follow;
+      };
+      last = kept.last;
+    })
+
+far_enough : (last : Option ℕ) (at : ℕ) → goes_back last at ≡ false → unwrap_or last 0 ≤ at
+far_enough None at is = omega arith
+far_enough (Some last) at is = ltb-false at last is
+
+event_kept : (kind : Kind) (names : List Word) (s t : State) (at : ℕ) (event : Event) → IsEvent event → IsState names s → with_event kind s at event ≡ Ok t → IsState names t
+event_kept kind names s t at event right kept is =
+    let first = unless_Ok (goes_back s.last at) bad.Order (order_of kind event >>= with_line s at) t is in
+    let order = steps (order_of kind event) (with_line s at) t first.1 in
+    let few = unless_Ok (leb 1000 (length s.lines)) bad.TooMany (Ok (noted s at order.value)) t order.rest in
+    let same : noted s at order.value ≡ t = let rest = few.1 in cc in
+    let line : LineView = record { at = at; what = numbered s.lines order.value } in
+    let less : length s.lines < 1000 = leb-false 1000 (length s.lines) few.0 in
+    let far : last_at 0 s.lines ≤ at = rw kept.last (far_enough s.last at first.0) in
+    subst (IsState names) same (record {
+      script = record {
+        few_routes = kept.script.few_routes;
+        few_lines = omega (arith, length-append s.lines (line ∷ []));
+        routes = kept.script.routes;
+        lines = All-append IsLine s.lines (line ∷ []) kept.script.lines (order_right kind event order.value right order.first s.lines, tt);
+        follow = follows-append 0 1 s.lines line kept.script.follow far (numbered_next s.lines order.value);
+      };
+      last = last_at-append 0 s.lines line;
+    })
+
+form_kept : (kind : Kind) (names : List Word) (s t : State) (form : Form) → IsForm form → IsState names s → with_form kind names s form ≡ Ok t → IsState names t
+form_kept kind names s t Silent right kept is = let same : s ≡ t = cc in rw (← same) kept
+form_kept kind names s t (Routing filter instance) right kept is = route_kept kind names s t filter instance kept is
+form_kept kind names s t (Happening at event) right kept is = event_kept kind names s t at event right kept is
+
+text_kept : (kind : Kind) (names : List Word) (s t : State) (line : List ℕ) → IsState names s → with_text kind names s line ≡ Ok t → IsState names t
+text_kept kind names s t line kept is =
+    let text = unless_Ok _ _ _ t is in
+    let form = steps _ (with_form kind names s) t text.1 in
+    form_kept kind names s t form.value (form_right (words line) form.value (wanted_Ok _ _ _ form.first)) kept form.rest
+
+lines_then : (kind : Kind) (names : List Word) (n : ℕ) (t : State) (more : List (List ℕ)) (read : Judged State) → ((u : State) → read ≡ Ok u → IsState names u)
+    → ((u : State) → IsState names u → with_lines kind names (n + 1) u more ≡ Ok t → IsState names t) → and_lines n read (λ u. with_lines kind names (n + 1) u more) ≡ Ok t → IsState names t
+lines_then kind names n t more (Ok u) first rest is = rest u (first u refl) is
+lines_then kind names n t more (Err fault) first rest is = absurd cc
+
+lines_kept : (kind : Kind) (names : List Word) (n : ℕ) (s t : State) (texts : List (List ℕ)) → IsState names s → with_lines kind names n s texts ≡ Ok t → IsState names t
+lines_kept kind names n s t [] kept is = let same : s ≡ t = cc in rw (← same) kept
+lines_kept kind names n s t (text ∷ more) kept is =
+    lines_then kind names n t more (with_text kind names s (strip_carriage_return text)) (λ u read. text_kept kind names s u (strip_carriage_return text) kept read) (λ u kept_u rest. lines_kept kind names (n + 1) u t more kept_u rest) is
+
+-- what lines that were read say breaks no rule
+pub lines_right : (kind : Kind) (names : List Word) (s : State) (texts : List (List ℕ)) → with_lines kind names 1 start texts ≡ Ok s → IsScript names (s.routes, s.lines)
+lines_right kind names s texts is = (lines_kept kind names 1 start s texts (start_state names) is).script

@@ -1,0 +1,100 @@
+-- The canonical text of a script: its routes and then its lines, one space between words, and a newline at each end.
+-- This project's own form.
+use Rattle.std.specs.Prelude.{◌≡◌, ℕ, ◌+◌, ◌<◌, ◌≤◌, Bool, true, false, ◌&&◌, ◌==◌, nat_le, if◌then◌else◌, List, [], ◌∷◌, ◌++◌, length, map, Option, None, Some, Ok, codes}
+use Rattle.std.specs.List.{AllByRecursion, concat, join_with_byte, list_all, slice_index_or}
+use Rattle.std.specs.Fmt.{decimal}
+use Rattle.flow_filter.specs.declared.filter.Filter.{Filter}
+use Rattle.flow_filter.specs.Name.{has_twice, is_name}
+use Rattle.flow_filter.specs.FilterText.{Fields, print, is_transport}
+use Rattle.nf_msgs.specs.declared.command.Order.{Order}
+use Rattle.nf_msgs.specs.declared.command.Order.TheVariants.{Move, Copy, Share}
+use Rattle.op_script.specs.declared.script.Script.{Script}
+use Rattle.op_script.specs.declared.script.Line.{Line}
+use Rattle.op_script.specs.declared.script.What.{What}
+use Rattle.op_script.specs.declared.script.What.TheVariants.{Command, Settle}
+use Rattle.op_script.specs.Forms.{Word}
+use Rattle.op_script.specs.Reading.{ends_of, OrderView, Moves, Copies, Shares, LineView, ScriptView}
+
+-- the words of an initial rule
+abbrev pub route_words : List Word → Filter × ℕ → List Word
+route_words names route = codes "route" ∷ print route.0 ∷ slice_index_or names route.1 [] ∷ []
+
+-- the word of what is copied
+abbrev pub copied : Option Filter → Word
+copied None = codes "all"
+copied (Some filter) = print filter
+
+-- the words of an order
+abbrev pub order_words : Order → List Word
+order_words (Move source target filter keep) =
+    codes "move" ∷ source ∷ target ∷ print filter ∷ (if keep then codes "order" else codes "lossfree") ∷ []
+order_words (Copy source target filter) = codes "copy" ∷ source ∷ target ∷ copied filter ∷ []
+order_words (Share members filter) = codes "share" ∷ join_with_byte 44 members ∷ print filter ∷ codes "strict" ∷ []
+
+-- the words of what happens
+abbrev pub what_words : What → List Word
+what_words (Command command) = order_words command.what
+what_words Settle = codes "settle" ∷ []
+
+-- the words of an `at` line
+abbrev pub line_words : Line → List Word
+line_words line = codes "at" ∷ decimal line.at ∷ what_words line.what
+
+-- a line of words, with its end
+abbrev pub line_text : List Word → List ℕ
+line_text words = join_with_byte 32 words ++ 10 ∷ []
+
+-- the words of each line
+abbrev pub script_words : List Word → Script → List (List Word)
+script_words names script = map (route_words names) script.routes.items ++ map line_words script.lines.items
+
+-- the text of a script, for instances with these names
+unfoldable pub script_text : List Word → Script → List ℕ
+script_text names script = concat (map line_text (script_words names script))
+
+-- a rule whose place is an instance, and whose filter has a text
+abbrev pub IsRoute : List Word → Fields × ℕ → Type 0
+IsRoute names route = (route.1 < length names) × (is_transport route.0.proto ≡ true)
+
+-- a copied filter that has a text
+abbrev pub is_writable : Option Fields → Bool
+is_writable None = true
+is_writable (Some filter) = is_transport filter.proto
+
+-- an order that a script may give
+abbrev pub IsOrder : OrderView → Type 0
+IsOrder (Moves source target filter keep) = (ends_of source target ≡ Ok (source, target)) × (is_transport filter.proto ≡ true)
+IsOrder (Copies source target filter) = (ends_of source target ≡ Ok (source, target)) × (is_writable filter ≡ true)
+IsOrder (Shares members filter) =
+    (2 ≤ length members) × (list_all is_name members ≡ true) × (has_twice members ≡ false) × (is_transport filter.proto ≡ true)
+
+-- a settle, or a command with such an order
+abbrev pub IsWhat : Option (ℕ × OrderView) → Type 0
+IsWhat None = Unit {0}
+IsWhat (Some command) = IsOrder command.1
+
+-- a line that a script may have
+abbrev pub IsLine : LineView → Type 0
+IsLine line = IsWhat line.what
+
+-- the number of the next command behind this, or None where it has another number than `next`
+abbrev pub next_after : ℕ → Option (ℕ × OrderView) → Option ℕ
+next_after next None = Some next
+next_after next (Some command) = if command.0 == next then Some (next + 1) else None
+
+abbrev pub and_then : Option ℕ → (ℕ → Bool) → Bool
+and_then None test = false
+and_then (Some n) test = test n
+
+-- no line is less far than one before it, and commands have the numbers from `next` on
+abbrev pub follows : ℕ → ℕ → List LineView → Bool
+follows last next [] = true
+follows last next (line ∷ more) = nat_le last line.at && and_then (next_after next line.what) (λ n. follows line.at n more)
+
+-- the script breaks no rule, for instances with these names
+pub record IsScript (names : List Word) (script : ScriptView) : Type 0 where
+  pub few_routes : length script.0 ≤ 1000
+  pub few_lines : length script.1 ≤ 1000
+  pub routes : AllByRecursion (IsRoute names) script.0
+  pub lines : AllByRecursion IsLine script.1
+  pub follow : follows 0 1 script.1 ≡ true

@@ -1,0 +1,213 @@
+ghost use Rattle.std.specs.Prelude.{◌≡◌, map, IfOk, option_map};
+ghost use Rattle.op_script.specs.Forms.{words, is_blank, form_of, routing, happening, event_of, moving, copying, sharing, settling, is_comment};
+ghost use Rattle.flow_filter.specs.Reading.{number_of};
+ghost use Rattle.op_script.specs.FormViews.{event_view, form_view};
+
+use flow_filter::NoMemory;
+use flow_filter::reading::{cut, number};
+use std::alloc::Global;
+
+/// What happens at a point of the trace, by its words.
+#[derive(Clone, Copy, Debug)]
+pub enum Event<'a> {
+    Move {
+        source: &'a [u8],
+        target: &'a [u8],
+        filter: &'a [u8],
+        keep: bool,
+    },
+    Copy {
+        source: &'a [u8],
+        target: &'a [u8],
+        filter: Option<&'a [u8]>,
+    },
+    Share {
+        members: &'a [u8],
+        filter: &'a [u8],
+    },
+    Settle,
+}
+
+/// What a line says.
+#[derive(Clone, Copy, Debug)]
+pub enum Form<'a> {
+    /// Nothing.
+    Silent,
+    Route {
+        filter: &'a [u8],
+        instance: &'a [u8],
+    },
+    At {
+        at: u32,
+        event: Event<'a>,
+    },
+}
+
+/// The words of a line, between spaces and tabs.
+pub fn words<'a>(alloc: Global, line: &'a [u8]) -> Result<Vec<&'a [u8]>, NoMemory>
+    ensures { IfOk result (λ found. map (λ w. w.now) found.items ≡ words line.entry.now) }
+{
+    line.split(|byte| is_blank(*byte))
+        .filter(|word| !word.is_empty())
+        .collect(alloc)
+}
+
+/// Whether the byte is a space or a tab.
+fn is_blank(byte: u8) -> bool
+    ensures { result ≡ is_blank byte }
+{
+    byte == b' ' || byte == b'\t'
+}
+
+/// What the words of a line say, or `None` where they have no form.
+#[tactic(auto, unfolding(crate::specs::Forms::form_of))]
+pub fn form_of<'a>(words: &[&'a [u8]]) -> Option<Form<'a>>
+    ensures { option_map form_view result ≡ form_of (map (λ w. w.now) words.now) }
+{
+    match words {
+        [] => Some(Form::Silent),
+        [first, more @ ..] => {
+            if is_comment(first) {
+                Some(Form::Silent)
+            } else if *first == b"route".as_slice() {
+                routing(more)
+            } else if *first == b"at".as_slice() {
+                happening(more)
+            } else {
+                None
+            }
+        }
+    }
+}
+
+/// Whether the word begins a comment.
+fn is_comment(word: &[u8]) -> bool
+    ensures { result ≡ is_comment word.now }
+{
+    matches!(word, [b'#', ..])
+}
+
+/// `FILTER INST`.
+fn routing<'a>(words: &[&'a [u8]]) -> Option<Form<'a>>
+    ensures { option_map form_view result ≡ routing (map (λ w. w.now) words.now) }
+{
+    match words {
+        [filter, instance] => Some(Form::Route { filter, instance }),
+        _ => None,
+    }
+}
+
+/// `K` and an event.
+fn happening<'a>(words: &[&'a [u8]]) -> Option<Form<'a>>
+    ensures { option_map form_view result ≡ happening (map (λ w. w.now) words.now) }
+{
+    match words {
+        [at, verb, more @ ..] => {
+            let at = point(at)?;
+            let event = event_of(verb, more)?;
+            Some(Form::At { at, event })
+        }
+        _ => None,
+    }
+}
+
+/// The point of the trace that a word spells.
+fn point(text: &[u8]) -> Option<u32>
+    ensures { result ≡ number_of 4294967295 text.now }
+{
+    let at = number(text, 4294967295)?;
+    Some(at as u32)
+}
+
+/// An event by its first word.
+#[tactic(auto, unfolding(crate::specs::Forms::event_of))]
+fn event_of<'a>(verb: &[u8], words: &[&'a [u8]]) -> Option<Event<'a>>
+    ensures { option_map event_view result ≡ event_of verb.now (map (λ w. w.now) words.now) }
+{
+    if verb == b"move".as_slice() {
+        moving(words)
+    } else if verb == b"copy".as_slice() {
+        copying(words)
+    } else if verb == b"share".as_slice() {
+        sharing(words)
+    } else if verb == b"settle".as_slice() {
+        settling(words)
+    } else {
+        None
+    }
+}
+
+/// `SRC DST FILTER order` or `SRC DST FILTER lossfree`.
+#[tactic(auto, unfolding(crate::specs::Forms::moving))]
+fn moving<'a>(words: &[&'a [u8]]) -> Option<Event<'a>>
+    ensures { option_map event_view result ≡ moving (map (λ w. w.now) words.now) }
+{
+    match words {
+        [source, target, filter, how] => {
+            let keep = if *how == b"order".as_slice() {
+                true
+            } else if *how == b"lossfree".as_slice() {
+                false
+            } else {
+                return None;
+            };
+            Some(Event::Move {
+                source,
+                target,
+                filter,
+                keep,
+            })
+        }
+        _ => None,
+    }
+}
+
+/// `SRC DST FILTER` or `SRC DST all`.
+#[tactic(auto, unfolding(crate::specs::Forms::copying))]
+fn copying<'a>(words: &[&'a [u8]]) -> Option<Event<'a>>
+    ensures { option_map event_view result ≡ copying (map (λ w. w.now) words.now) }
+{
+    match words {
+        [source, target, what] => {
+            let filter = if *what == b"all".as_slice() {
+                None
+            } else {
+                Some(*what)
+            };
+            Some(Event::Copy {
+                source,
+                target,
+                filter,
+            })
+        }
+        _ => None,
+    }
+}
+
+/// `INST,INST.. FILTER strict`, where the list has a comma.
+#[tactic(auto, unfolding(crate::specs::Forms::sharing))]
+fn sharing<'a>(words: &[&'a [u8]]) -> Option<Event<'a>>
+    ensures { option_map event_view result ≡ sharing (map (λ w. w.now) words.now) }
+{
+    match words {
+        [members, filter, how] => {
+            if *how == b"strict".as_slice() && cut(members, b',').is_some() {
+                Some(Event::Share { members, filter })
+            } else {
+                None
+            }
+        }
+        _ => None,
+    }
+}
+
+/// Nothing more.
+fn settling<'a>(words: &[&'a [u8]]) -> Option<Event<'a>>
+    ensures { option_map event_view result ≡ settling (map (λ w. w.now) words.now) }
+{
+    if words.is_empty() {
+        Some(Event::Settle)
+    } else {
+        None
+    }
+}

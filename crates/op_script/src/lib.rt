@@ -1,0 +1,18 @@
+//! Operator scripts: reading them, printing them in canonical form, and laying them between the packets of a trace.
+//!
+//! Contracts see a [`Script`] through `script_view` of `specs/Reading.antt`: each name as its bytes and each filter as its
+//! fields. The main promise is that of [`read_script`]: it accepts exactly the scripts of the definition `script_of`,
+//! gives what stands there, and refuses every other by its first line that breaks a rule, by that line's first fault.
+#![tactic(auto)]
+
+pub mod fault;
+mod form;
+mod printing;
+mod reader;
+mod reading;
+pub mod script;
+
+pub use fault::{ScriptFault, ScriptKind};
+pub use printing::print_script;
+pub use reading::read_script;
+pub use script::{Line, Script, What};

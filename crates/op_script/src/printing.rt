@@ -1,0 +1,145 @@
+ghost use Rattle.std.specs.Prelude.{◌≡◌, ◌++◌, ◌∷◌, ◌<◌, [], IfOk, OnOk, length, map, option_map, true, codes, if◌then◌else◌};
+ghost use Rattle.std.specs.List.{join_with_byte};
+ghost use Rattle.flow_filter.specs.FilterText.{behind, fields_of};
+ghost use Rattle.op_script.specs.Reading.{script_view, route_view, line_view, order_view};
+ghost use Rattle.op_script.specs.Printing.{route_words, order_words, line_words, what_words, copied, line_text, script_text, is_writable, IsRoute, IsOrder, IsLine, IsScript};
+
+use std::alloc::Global;
+
+use flow_filter::{Filter, Name, NoMemory, Text};
+use nf_msgs::{Names, Order};
+
+use crate::script::{Line, Script, What};
+
+/// The canonical text of a script, for instances with these names.
+#[tactic(auto, unfolding(crate::specs::Printing::script_text))]
+pub fn print_script(alloc: Global, script: &Script, names: &[Name]) -> Result<Text, NoMemory>
+    requires { IsScript names.now (script_view script.now) }
+    ensures text { IfOk result (λ text. text ≡ script_text names.now script.now) }
+{
+    let mut out = Text::open(alloc);
+    for route in script.routes.as_slice() {
+        print_route(&mut out, names, route)?;
+    }
+    for line in script.lines.as_slice() {
+        print_line(&mut out, line)?;
+    }
+    Ok(out)
+}
+
+/// Appends the line of an initial rule.
+fn print_route(out: &mut Text, names: &[Name], route: &(Filter, u8)) -> Result<(), NoMemory>
+    requires { IsRoute names.now (route_view route.now) }
+    ensures { OnOk result (out.new ≡ out.old ++ line_text (route_words names.now route.now)) }
+{
+    let (filter, place) = route;
+    out.push_bytes(b"route ")?;
+    filter.print_to(out)?;
+    out.push_bytes(b" ")?;
+    out.push_bytes(names[*place as usize].items())?;
+    out.push_bytes(b"\n")
+}
+
+/// Appends an `at` line.
+fn print_line(out: &mut Text, line: &Line) -> Result<(), NoMemory>
+    requires { IsLine (line_view line.now) }
+    ensures { OnOk result (out.new ≡ out.old ++ line_text (line_words line.now)) }
+{
+    out.push_bytes(b"at ")?;
+    out.push_decimal(u64::from(line.at))?;
+    match &line.what {
+        What::Command(command) => print_order(out, &command.what),
+        What::Settle => out.push_bytes(b" settle\n"),
+    }
+}
+
+/// Appends the words of an order behind a space, and the line's end.
+fn print_order(out: &mut Text, order: &Order) -> Result<(), NoMemory>
+    requires { IsOrder (order_view order.now) }
+    ensures { OnOk result (out.new ≡ out.old ++ 32 ∷ line_text (order_words order.now)) }
+{
+    match order {
+        Order::Move {
+            src,
+            dst,
+            filter,
+            keep,
+        } => {
+            print_ends(out, b" move", src, dst)?;
+            filter.print_to(out)?;
+            print_how(out, *keep)
+        }
+        Order::Copy { src, dst, filter } => {
+            print_ends(out, b" copy", src, dst)?;
+            print_copied(out, *filter)
+        }
+        Order::Share { members, filter } => {
+            out.push_bytes(b" share ")?;
+            print_members(out, members.items())?;
+            out.push_bytes(b" ")?;
+            filter.print_to(out)?;
+            out.push_bytes(b" strict\n")
+        }
+    }
+}
+
+/// Appends a verb, a source and a target, and a space behind each.
+fn print_ends(out: &mut Text, verb: &[u8], source: &Name, target: &Name) -> Result<(), NoMemory>
+    ensures { OnOk result (out.new ≡ out.old ++ (verb.now ++ 32 ∷ (source.now ++ 32 ∷ (target.now ++ 32 ∷ [])))) }
+{
+    out.push_bytes(verb)?;
+    out.push_bytes(b" ")?;
+    out.push_bytes(source.items())?;
+    out.push_bytes(b" ")?;
+    out.push_bytes(target.items())?;
+    out.push_bytes(b" ")
+}
+
+/// Appends names with commas between them.
+fn print_members(out: &mut Text, members: &[Name]) -> Result<(), NoMemory>
+    ensures { OnOk result (out.new ≡ out.old ++ join_with_byte 44 members.now) }
+{
+    match members {
+        [] => Ok(()),
+        [first, more @ ..] => {
+            out.push_bytes(first.items())?;
+            print_more(out, more)
+        }
+    }
+}
+
+/// Appends names, each behind a comma.
+fn print_more(out: &mut Text, names: &[Name]) -> Result<(), NoMemory>
+    ensures { OnOk result (out.new ≡ out.old ++ behind true names.now) }
+{
+    for name in names {
+        out.push_bytes(b",")?;
+        out.push_bytes(name.items())?;
+    }
+    Ok(())
+}
+
+/// Appends the word that says whether order is kept, behind a space, and the line's end.
+fn print_how(out: &mut Text, keep: bool) -> Result<(), NoMemory>
+    ensures { OnOk result (out.new ≡ out.old ++ 32 ∷ ((if keep then codes "order" else codes "lossfree") ++ 10 ∷ [])) }
+{
+    if keep {
+        out.push_bytes(b" order\n")
+    } else {
+        out.push_bytes(b" lossfree\n")
+    }
+}
+
+/// Appends the filter of a copy, or `all`, and the line's end.
+fn print_copied(out: &mut Text, filter: Option<Filter>) -> Result<(), NoMemory>
+    requires { is_writable (option_map fields_of filter) ≡ true }
+    ensures { OnOk result (out.new ≡ out.old ++ (copied filter ++ 10 ∷ [])) }
+{
+    match filter {
+        Some(filter) => {
+            filter.print_to(out)?;
+            out.push_bytes(b"\n")
+        }
+        None => out.push_bytes(b"all\n"),
+    }
+}

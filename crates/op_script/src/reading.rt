@@ -1,0 +1,369 @@
+ghost use Rattle.std.specs.Prelude.{vec_len, ◌≡◌, ◌≤◌, ◌==◌, ◌<◌, ◌^◌, ◌+◌, map, length, IfOk, IfSome, Ok, Some, None, option_map, if◌then◌else◌};
+ghost use Rattle.std.specs.List.{slice_split, list_all, list_any, position};
+ghost use Rattle.std.specs.Str.{bytes_eq, is_utf8};
+ghost use Rattle.std.specs.Str.Lines.{strip_carriage_return};
+ghost use Rattle.flow_filter.specs.Name.{is_name};
+ghost use Rattle.flow_filter.specs.FilterText.{fields_of, Gives};
+ghost use Rattle.op_script.specs.FormViews.{event_view, form_view};
+ghost use Rattle.op_script.specs.Printing.{IsScript};
+ghost use Rattle.op_script.specs.Reading.{ends_of, members_of, filter_of, filter_or_all, order_of, with_route, with_line, numbered, is_command, command_count, line_view, what_view, with_event, with_form, with_text, script_of, place_of, goes_back, state_of, script_view, order_view, with_lines, start, Says, SaysWhole, Numbered};
+
+use crate::fault::{LineFault, ScriptFault, ScriptKind};
+use crate::form::{Event, Form, form_of, words};
+use crate::reader::Reader;
+use crate::script::{Line, Script, What};
+use flow_filter::name::has_twice;
+use flow_filter::reading::first_piece;
+use flow_filter::{Filter, Name, NoMemory};
+use nf_function::{Kind, splits};
+use nf_msgs::{Command, Names, Order};
+use std::alloc::Global;
+use std::str;
+
+/// The most bytes of a script.
+const MOST_BYTES: usize = 1_048_576;
+
+/// The most lines of a sort.
+const MOST_LINES: usize = 1000;
+
+/// The names of a source and a target, where they are names and differ.
+#[tactic(auto, unfolding(crate::specs::Reading::ends_of))]
+fn ends_of(alloc: Global, source: &[u8], target: &[u8]) -> Result<(Name, Name), LineFault>
+    ensures { Says (λ ends. ends) result (ends_of source.now target.now) }
+{
+    let Some(source_name) = Name::read(alloc, source)? else {
+        return Err(LineFault::Bad(ScriptKind::Name));
+    };
+    let Some(target_name) = Name::read(alloc, target)? else {
+        return Err(LineFault::Bad(ScriptKind::Name));
+    };
+    if source == target {
+        return Err(LineFault::Bad(ScriptKind::SameInstance));
+    }
+    Ok((source_name, target_name))
+}
+
+/// The filter that the text spells, where it splits no unit.
+#[tactic(auto, unfolding(crate::specs::Reading::filter_of))]
+fn filter_of(kind: Kind, text: &[u8]) -> Result<Filter, LineFault>
+    ensures { Says fields_of result (filter_of kind text.now) }
+{
+    let Ok(filter) = Filter::parse_bytes(text) else {
+        return Err(LineFault::Bad(ScriptKind::Filter));
+    };
+    if splits(kind, &filter) {
+        return Err(LineFault::Bad(ScriptKind::SplitsUnit));
+    }
+    Ok(filter)
+}
+
+/// The filter of a copy, if it has one.
+fn filter_or_all(kind: Kind, text: Option<&[u8]>) -> Result<Option<Filter>, LineFault>
+    ensures { Says (λ f. option_map fields_of f) result (filter_or_all kind (option_map (λ t. t.now) text.entry)) }
+{
+    match text {
+        None => Ok(None),
+        Some(text) => Ok(Some(filter_of(kind, text)?)),
+    }
+}
+
+/// The members of a share, where they are names and differ.
+#[tactic(auto, unfolding(crate::specs::Reading::members_of))]
+fn members_of(alloc: Global, list: &[u8]) -> Result<Names, LineFault>
+    ensures { Says (λ members. members) result (members_of list.now) }
+{
+    let Some(members) = names_of(alloc, list)? else {
+        return Err(LineFault::Bad(ScriptKind::Name));
+    };
+    if has_twice(members.items()) {
+        return Err(LineFault::Bad(ScriptKind::SameInstance));
+    }
+    Ok(members)
+}
+
+/// The names of a list with commas between them, or `None` where one is malformed.
+fn names_of(alloc: Global, list: &[u8]) -> Result<Option<Names>, NoMemory>
+    ensures { IfOk result (λ found. let names = slice_split (λ b. b == 44) list.now in found ≡ (if list_all is_name names then Some names else None)) }
+{
+    let mut names = Names::open(alloc);
+    let mut rest = Some(list);
+    while let Some(text) = rest {
+        let (first, more) = first_piece(text, b',');
+        let Some(name) = Name::read(alloc, first)? else {
+            return Ok(None);
+        };
+        names.push(name)?;
+        rest = more;
+    }
+    Ok(Some(names))
+}
+
+/// The reader with an initial rule more.
+#[tactic(auto, unfolding(crate::specs::Reading::with_route))]
+fn with_route(
+    kind: Kind,
+    names: &[Name],
+    mut reader: Reader,
+    filter: &[u8],
+    instance: &[u8],
+) -> Result<Reader, LineFault>
+    requires { length names.now ≤ 256 }
+    ensures { Says state_of result (with_route kind names.now (state_of reader) filter.now instance.now) }
+{
+    if reader.last.is_some() {
+        return Err(LineFault::Bad(ScriptKind::Order));
+    }
+    let Some(place) = place_of(instance, names) else {
+        return Err(LineFault::Bad(ScriptKind::Name));
+    };
+    let filter = filter_of(kind, filter)?;
+    if reader.routes.len() >= MOST_LINES {
+        return Err(LineFault::Bad(ScriptKind::TooMany));
+    }
+    reader.routes.push((filter, place))?;
+    Ok(reader)
+}
+
+/// The place of an instance among the names.
+#[tactic(auto, unfolding(crate::specs::Reading::place_of))]
+fn place_of(name: &[u8], names: &[Name]) -> Option<u8>
+    requires { length names.now ≤ 256 }
+    ensures { result ≡ place_of name.now names.now }
+{
+    let place = first_place(name, names)?;
+    Some(place as u8)
+}
+
+/// The place of the first name with these bytes.
+fn first_place(name: &[u8], names: &[Name]) -> Option<usize>
+    ensures place { result ≡ position (λ other. bytes_eq other name.now) names.now }
+    ensures within { IfSome result (λ place. place < length names.now) }
+{
+    names.iter().position(|other| other.items() == name)
+}
+
+/// The reader with an `at` line more: an order, or a settle.
+fn with_line(mut reader: Reader, at: u32, order: Option<Order>) -> Result<Reader, LineFault>
+    ensures { Says state_of result (with_line (state_of reader) at (option_map order_view order)) }
+{
+    if reader.lines.len() >= MOST_LINES {
+        return Err(LineFault::Bad(ScriptKind::TooMany));
+    }
+    let what = numbered_order(reader.lines.as_slice(), order);
+    reader.lines.push(Line { at, what })?;
+    reader.last = Some(at);
+    Ok(reader)
+}
+
+/// An order under the number behind those of the lines so far, or a settle.
+fn numbered_order(lines: &[Line], order: Option<Order>) -> What
+    requires { length lines.now < 1000 }
+    ensures { what_view result ≡ numbered (map line_view lines.now) (option_map order_view order) }
+{
+    match order {
+        Some(what) => {
+            let op = command_count(lines) + 1;
+            What::Command(Command { op, what })
+        }
+        None => What::Settle,
+    }
+}
+
+/// How many commands stand in the lines.
+fn command_count(lines: &[Line]) -> u32
+    requires { length lines.now < 1000 }
+    ensures count { result ≡ command_count (map line_view lines.now) }
+    ensures most { result ≤ length lines.now }
+{
+    match lines {
+        [] => 0,
+        [line, more @ ..] => u32::from(is_command(line)) + command_count(more),
+    }
+}
+
+/// Whether a command stands in the line.
+fn is_command(line: &Line) -> bool
+    ensures { result ≡ is_command (line_view line.now) }
+{
+    matches!(line.what, What::Command(_))
+}
+
+/// The order of an event, or `None` for a settle.
+#[tactic(auto, unfolding(crate::specs::Reading::order_of))]
+fn order_of(alloc: Global, kind: Kind, event: Event<'_>) -> Result<Option<Order>, LineFault>
+    ensures { Says (λ order. option_map order_view order) result (order_of kind (event_view event.entry)) }
+{
+    match event {
+        Event::Move {
+            source,
+            target,
+            filter,
+            keep,
+        } => {
+            let (src, dst) = ends_of(alloc, source, target)?;
+            let filter = filter_of(kind, filter)?;
+            Ok(Some(Order::Move {
+                src,
+                dst,
+                filter,
+                keep,
+            }))
+        }
+        Event::Copy {
+            source,
+            target,
+            filter,
+        } => {
+            let (src, dst) = ends_of(alloc, source, target)?;
+            let filter = filter_or_all(kind, filter)?;
+            Ok(Some(Order::Copy { src, dst, filter }))
+        }
+        Event::Share { members, filter } => {
+            let members = members_of(alloc, members)?;
+            let filter = filter_of(kind, filter)?;
+            Ok(Some(Order::Share { members, filter }))
+        }
+        Event::Settle => Ok(None),
+    }
+}
+
+/// The reader with an event more.
+fn with_event(
+    alloc: Global,
+    kind: Kind,
+    reader: Reader,
+    at: u32,
+    event: Event<'_>,
+) -> Result<Reader, LineFault>
+    ensures { Says state_of result (with_event kind (state_of reader) at (event_view event.entry)) }
+{
+    if reader.last.is_some_and(|last| at < last) {
+        return Err(LineFault::Bad(ScriptKind::Order));
+    }
+    let order = order_of(alloc, kind, event)?;
+    with_line(reader, at, order)
+}
+
+/// The reader with what a line says, more.
+fn with_form(
+    alloc: Global,
+    kind: Kind,
+    names: &[Name],
+    reader: Reader,
+    form: Form<'_>,
+) -> Result<Reader, LineFault>
+    requires { length names.now ≤ 256 }
+    ensures { Says state_of result (with_form kind names.now (state_of reader) (form_view form.entry)) }
+{
+    match form {
+        Form::Silent => Ok(reader),
+        Form::Route { filter, instance } => with_route(kind, names, reader, filter, instance),
+        Form::At { at, event } => with_event(alloc, kind, reader, at, event),
+    }
+}
+
+/// The reader with a line more.
+fn with_text(
+    alloc: Global,
+    kind: Kind,
+    names: &[Name],
+    reader: Reader,
+    line: &[u8],
+) -> Result<Reader, LineFault>
+    requires { length names.now ≤ 256 }
+    ensures { Says state_of result (with_text kind names.now (state_of reader) line.now) }
+{
+    if !is_utf8(line) {
+        return Err(LineFault::Bad(ScriptKind::NotUtf8));
+    }
+    let words = words(alloc, line)?;
+    let Some(form) = form_of(words.as_slice()) else {
+        return Err(LineFault::Bad(ScriptKind::Word));
+    };
+    with_form(alloc, kind, names, reader, form)
+}
+
+/// Whether the bytes are UTF-8.
+fn is_utf8(line: &[u8]) -> bool
+    ensures { result ≡ is_utf8 line.now }
+{
+    match str::from_utf8(line) {
+        Ok(_) => true,
+        Err(_) => false,
+    }
+}
+
+/// A line without the carriage return at its end.
+fn without_return(line: &[u8]) -> &[u8]
+    ensures { result.now ≡ strip_carriage_return line.now }
+{
+    if line.last() == Some(&b'\r') {
+        &line[..line.len() - 1]
+    } else {
+        line
+    }
+}
+
+/// A line's fault, under its number.
+fn numbered(line: u32, read: Result<Reader, LineFault>) -> Result<Reader, ScriptFault>
+    ensures { Numbered line read result }
+{
+    match read {
+        Ok(reader) => Ok(reader),
+        Err(LineFault::Bad(kind)) => Err(ScriptFault::Bad { line, kind }),
+        Err(LineFault::NoMemory) => Err(ScriptFault::NoMemory),
+    }
+}
+
+/// Reads a script for a function and the instances with these names.
+#[tactic(auto, unfolding(crate::specs::Reading::script_of))]
+pub fn read_script(
+    alloc: Global,
+    bytes: &[u8],
+    kind: Kind,
+    names: &[Name],
+) -> Result<Script, ScriptFault>
+    requires { length names.now ≤ 256 }
+    ensures value { SaysWhole script_view result (script_of kind names.now bytes.now) }
+    ensures right { IfOk result (λ script. IsScript names.now (script_view script)) }
+{
+    if bytes.len() > MOST_BYTES {
+        return Err(ScriptFault::Bad {
+            line: 0,
+            kind: ScriptKind::TooMany,
+        });
+    }
+    let reader = read_lines(alloc, bytes, kind, names)?;
+    let Reader { routes, lines, .. } = reader;
+    Ok(Script { routes, lines })
+}
+
+/// Reads the lines of a script one after another.
+fn read_lines(
+    alloc: Global,
+    bytes: &[u8],
+    kind: Kind,
+    names: &[Name],
+) -> Result<Reader, ScriptFault>
+    requires few { length names.now ≤ 256 }
+    requires short { length bytes.now ≤ 1048576 }
+    ensures { SaysWhole state_of result (with_lines kind names.now 1 start (slice_split (λ b. b == 10) bytes.now)) }
+{
+    let mut reader = Reader {
+        routes: Vec::new(alloc),
+        lines: Vec::new(alloc),
+        last: None,
+    };
+    let mut line = 0;
+    let mut rest = Some(bytes);
+    while let Some(text) = rest {
+        line += 1;
+        let (first, more) = first_piece(text, b'\n');
+        reader = numbered(
+            line,
+            with_text(alloc, kind, names, reader, without_return(first)),
+        )?;
+        rest = more;
+    }
+    Ok(reader)
+}

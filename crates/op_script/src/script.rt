@@ -1,0 +1,26 @@
+use flow_filter::Filter;
+use nf_msgs::Command;
+
+/// What an operator wants of a run.
+#[derive(Debug, Drop)]
+pub struct Script {
+    /// The initial rules in file order: which flows go to the instance at this place.
+    pub routes: Vec<(Filter, u8)>,
+    /// What happens behind which packet, in file order.
+    pub lines: Vec<Line>,
+}
+
+/// Something that happens behind the packet with the number `at`, or in front of the first where it is 0.
+#[derive(Debug, Drop)]
+pub struct Line {
+    pub at: u32,
+    pub what: What,
+}
+
+/// What happens.
+#[derive(Debug, Drop)]
+pub enum What {
+    Command(Command),
+    /// Further input waits until every earlier command is answered.
+    Settle,
+}

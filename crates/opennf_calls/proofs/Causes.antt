@@ -1,0 +1,28 @@
+-- Why each status comes.
+use Rattle.std.proofs.Common.{◌≡◌, ℕ, List, Some, Err, refl}
+use Rattle.nf_io.specs.declared.outside.Role.{Role}
+use Rattle.nf_io.specs.declared.outside.Role.TheVariants.{Trace, Report}
+use Rattle.nf_io.specs.Meaning.{Meaning, Rose}
+use Rattle.trace_reader.specs.declared.fault.TraceFault.{TraceFault}
+use Rattle.trace_reader.specs.declared.fault.TraceFault.TheVariants.{Magic, PcapNg, Version, LinkType, RecordLength, TooLong, Header, Read, NoMemory}
+use Rattle.trace_reader.specs.Gives.{TraceGives}
+use Rattle.trace_reader.specs.Records.{capture_of}
+use Rattle.opennf_calls.specs.declared.words.Simulation.{Simulation}
+use Rattle.opennf_calls.specs.Simulated.{SimRow}
+use Rattle.opennf_calls.specs.Status.{status_of}
+
+-- the row of the status of a capture that couldn't be read
+pub fault_row : (asked : Simulation) (old new : Role → Meaning) (fault : TraceFault)
+    → (new Trace).name ≡ Some asked.trace.now → (new Report).written ≡ (old Report).written
+    → (fault ≡ Read → Rose (old Trace).faults (new Trace).faults)
+    → ((bytes : List ℕ) → (old Trace).left ≡ Some bytes → TraceGives (capture_of bytes) (new Trace).left (Err fault))
+    → SimRow asked old new (status_of fault)
+fault_row asked old new Magic named silent rose gives = (named, silent, λ bytes told. (Magic, gives bytes told, refl))
+fault_row asked old new PcapNg named silent rose gives = (named, silent, λ bytes told. (PcapNg, gives bytes told, refl))
+fault_row asked old new Version named silent rose gives = (named, silent, λ bytes told. (Version, gives bytes told, refl))
+fault_row asked old new (LinkType n) named silent rose gives = (named, silent, λ bytes told. (LinkType n, gives bytes told, refl))
+fault_row asked old new (RecordLength offset n) named silent rose gives = (named, silent, λ bytes told. (RecordLength offset n, gives bytes told, refl))
+fault_row asked old new (TooLong offset) named silent rose gives = (named, silent, λ bytes told. (TooLong offset, gives bytes told, refl))
+fault_row asked old new (Header n) named silent rose gives = (named, silent, λ bytes told. (Header n, gives bytes told, refl))
+fault_row asked old new Read named silent rose gives = (refl, rose refl, named, silent)
+fault_row asked old new NoMemory named silent rose gives = silent

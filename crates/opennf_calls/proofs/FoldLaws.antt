@@ -1,0 +1,76 @@
+-- How the records of all flows change with one more packet.
+use Rattle.std.proofs.Common.{◌≡◌, ℕ, Bool, true, false, cond, Option, None, Some, List, [], ◌∷◌, ◌++◌, refl, IfSome, ap, ◌∙◌, sym, subst, append-nil}
+use Rattle.std.proofs.lemmas.List.Sums.{fold-append}
+use Rattle.std.proofs.lemmas.List.Elements.{filter-append}
+use Rattle.std.specs.HashMap.{get, Updates}
+use Rattle.flow_filter.specs.declared.flow.Flow.{Flow}
+use Rattle.flow_filter.specs.declared.packet.Packet.{Packet}
+use Rattle.flow_filter.specs.declared.site.Site.{Site}
+use Rattle.conn_tracker.specs.declared.record.TrackRecord.{TrackRecord}
+use Rattle.conn_tracker.specs.Table.{stepped, IsRecordOf}
+use Rattle.opennf_calls.specs.Fold.{flow_eq, unit_of, mine, record_of, record_behind, Kept, AreKept, AllFit, record_after}
+use Rattle.flow_filter.proofs.FlowLaws.{proto-flow_of}
+use Rattle.opennf_calls.proofs.OrderLaws.{same_flow}
+
+-- a value chosen by a test meets what both meet
+pub IfSome-cond : {X : Type 0} (test : Bool) (a b : Option X) (P : X → Type 0) → (test ≡ true → IfSome a P) → IfSome b P → IfSome (cond test a b) P
+IfSome-cond true a b P first second = first refl
+IfSome-cond false a b P first second = second
+
+-- a record that fits its flow may be written
+pub AllFit-Updates : (old new : Kept) (unit : Flow) (r : TrackRecord)
+    → Updates flow_eq old new unit (Some r) → IsRecordOf unit.proto r → AllFit old → AllFit new
+AllFit-Updates old new unit r updates fits before other =
+    rw (updates.0 other) (IfSome-cond (flow_eq unit other) (Some r) (get flow_eq old other) (IsRecordOf other.proto)
+    (λ equal. let same : unit ≡ other = same_flow unit other equal in subst (λ u. IsRecordOf u.proto r) same fits)
+    (before other))
+
+-- a record that fits a packet fits the packet's flow
+pub fits_unit : (site : Site) (p : Packet) (r after : TrackRecord) → r ≡ after → IsRecordOf p.proto r → IsRecordOf (unit_of site p).proto after
+fits_unit site p r after same fits =
+    subst (λ (x : TrackRecord). IsRecordOf (unit_of site p).proto x) same
+    (subst (λ (proto : ℕ). IsRecordOf proto r) (sym (proto-flow_of site p)) fits)
+
+-- one more packet of a flow
+pub record_of-more : (site : Site) (ps : List Packet) (p : Packet)
+    → record_of site (ps ++ p ∷ []) ≡ Some (stepped site (record_of site ps) p)
+unfolding record_of
+record_of-more site ps p = fold-append (λ kept q. Some (stepped site kept q)) None ps (p ∷ [])
+
+-- one more packet is the flow's where it belongs to the flow
+pub mine-more : (site : Site) (unit : Flow) (ps : List Packet) (p : Packet)
+    → mine site unit (ps ++ p ∷ []) ≡ cond (flow_eq (unit_of site p) unit) (mine site unit ps ++ p ∷ []) (mine site unit ps)
+unfolding mine
+mine-more site unit ps p =
+    filter-append (λ q. flow_eq (unit_of site q) unit) ps (p ∷ [])
+    ∙ appended (flow_eq (unit_of site p) unit) (mine site unit ps) p
+  where
+    appended : (test : Bool) (front : List Packet) (q : Packet) → front ++ cond test (q ∷ []) [] ≡ cond test (front ++ q ∷ []) front
+    appended true front q = refl
+    appended false front q = append-nil front
+
+-- no packets leave no records
+pub AreKept-none : (site : Site) (kept : Kept) → kept.entries ≡ [] → AreKept site [] kept
+unfolding record_of mine
+AreKept-none site kept empty unit = rw empty refl
+
+-- the records of all flows behind one more packet
+pub AreKept-more : (site : Site) (before : List Packet) (p : Packet) (old new : Kept)
+    → AreKept site before old → Updates flow_eq old new (unit_of site p) (Some (record_after site old p))
+    → AreKept site (before ++ p ∷ []) new
+AreKept-more site before p old new was updates unit =
+    updates.0 unit ∙ chosen (flow_eq (unit_of site p) unit) refl ∙ ap (record_of site) (sym (mine-more site unit before p))
+  where
+    chosen : (test : Bool) → flow_eq (unit_of site p) unit ≡ test
+        → cond test (Some (record_after site old p)) (get flow_eq old unit)
+        ≡ record_of site (cond test (mine site unit before ++ p ∷ []) (mine site unit before))
+    chosen true equal =
+        let same : unit_of site p ≡ unit = same_flow (unit_of site p) unit equal in
+        ap (λ kept. Some (stepped site kept p)) (was (unit_of site p) ∙ ap (λ u. record_of site (mine site u before)) same)
+        ∙ sym (record_of-more site (mine site unit before) p)
+    chosen false equal = was unit
+
+-- the record that the map gives is that of the flow's own packets
+pub record_after-kept : (site : Site) (before : List Packet) (p : Packet) (kept : Kept)
+    → AreKept site before kept → record_after site kept p ≡ record_behind site before p
+record_after-kept site before p kept are = ap (λ r. stepped site r p) (are (unit_of site p))

@@ -1,0 +1,52 @@
+-- The two ways to tell flows apart agree: by their fields' equality, and by their order.
+use Rattle.std.proofs.Common.{◌≡◌, ℕ, Bool, true, false, ◌&&◌, ◌==◌, refl, subst, arith}
+use Rattle.std.proofs.lemmas.Bool.Decides.{nat_tests}
+use Rattle.std.specs.Cmp.{IsEquivalence, decided}
+use Rattle.std.specs.Ordering.{nat_cmp, ordering_then, is_eq, eq_by_cmp}
+use Rattle.std.specs.declared.cmp.Ordering.{Ordering}
+use Rattle.std.specs.declared.cmp.Ordering.TheVariants.{Less, Equal, Greater}
+use Rattle.flow_filter.specs.declared.flow.Flow.{Flow}
+use Rattle.opennf_calls.specs.Fold.{flow_eq, flow_cmp}
+
+-- numbers
+is_eq-nat_cmp : (x y : ℕ) → is_eq (nat_cmp x y) ≡ (x == y)
+is_eq-nat_cmp x y = grind (arith, nat_tests)
+
+-- two comparisons in turn
+is_eq-then : (a b : Ordering) → is_eq (ordering_then a b) ≡ is_eq a && is_eq b
+is_eq-then Less b = refl
+is_eq-then Equal b = refl
+is_eq-then Greater b = refl
+
+pub eq_by-flow_cmp : (a b : Flow) → eq_by_cmp flow_cmp a b ≡ flow_eq a b
+eq_by-flow_cmp a b = simp (is_eq-then, is_eq-nat_cmp)
+
+-- a test of two parts
+pub both : (a b : Bool) → (a && b) ≡ true → (a ≡ true) × (b ≡ true)
+both true b h = (refl, h)
+both false b h = cc
+
+-- equal numbers
+pub same_number : (x y : ℕ) → (x == y) ≡ true → x ≡ y
+same_number x y equal = grind (arith, nat_tests)
+
+-- flows that are equal in every field are one
+pub same_flow : (a b : Flow) → flow_eq a b ≡ true → a ≡ b
+same_flow a b equal =
+    let proto = both (a.proto == b.proto) _ equal in
+    let local = both (a.local == b.local) _ proto.1 in
+    let lport = both (a.lport == b.lport) _ local.1 in
+    let remote = both (a.remote == b.remote) _ lport.1 in
+    λ i. record {
+      proto = same_number a.proto b.proto proto.0 i;
+      local = same_number a.local b.local local.0 i;
+      lport = same_number a.lport b.lport lport.0 i;
+      remote = same_number a.remote b.remote remote.0 i;
+      rport = same_number a.rport b.rport remote.1 i;
+    }
+
+flow_eq-same : (a : Flow) → flow_eq a a ≡ true
+flow_eq-same a = grind (arith, nat_tests)
+
+pub flow_eq_equiv : IsEquivalence flow_eq
+flow_eq_equiv = decided flow_eq (λ a b. (same_flow a b, λ same. subst (λ (x : Flow). flow_eq a x ≡ true) same (flow_eq-same a)))

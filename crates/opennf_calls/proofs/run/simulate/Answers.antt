@@ -1,0 +1,40 @@
+-- Why each status of a simulation comes.
+use Rattle.std.proofs.Common.{rules, ◌≡◌, ◌≢◌, Some, Err, ap, refl}
+use Rattle.nf_io.specs.declared.outside.Role.TheVariants.{Trace as TraceRole, Report as ReportRole}
+use Rattle.nf_io.specs.Meaning.{Rose, AppendsFront}
+use Rattle.std.specs.Io.KnownBytes.{Appends}
+use Rattle.opennf_calls.proofs.Causes.{fault_row}
+use Rattle.opennf_calls.proofs.run.simulate.Goals as goal
+
+-- the capture's role isn't the report's
+other_role : TraceRole ≢ ReportRole
+other_role same = cc
+
+pub returns-in-Err-clause-row : goal.returns-in-Err-clause-row
+returns-in-Err-clause-row g c =
+    rw c.of.ensures (fault_row c.args.asked.now (g.O.Outside.seen c.args.outside.now) (g.O.Outside.seen c.read_capture.new.outside) c.in-Err.fault
+    (search rules) (search rules)
+    (λ is. let rose : Rose (g.O.Outside.seen c.bind.new.self TraceRole).faults (g.O.Outside.seen c.read_capture.new.outside TraceRole).faults = c.in-Err.ensures.cause.read (ap Err is) in search rules)
+    (λ bytes told. let told' : (g.O.Outside.seen c.bind.new.self TraceRole).left ≡ Some bytes = search rules in c.in-Err.ensures.trace bytes told'))
+
+pub returns-in-Ok-put-clause-row : goal.returns-in-Ok-put-clause-row
+returns-in-Ok-put-clause-row g c = (
+  search rules,
+  λ bytes told.
+      let told' : (g.O.Outside.seen c.bind.new.self TraceRole).left ≡ Some bytes = search rules in
+      let gives = c.in-Ok-read_capture.ensures.trace bytes told' in
+      let whole : Appends (g.O.Outside.seen c.args.outside.now ReportRole).written (g.O.Outside.seen c.put.new.outside ReportRole).written c.in-Ok-report.text = search rules in
+      (rw (c.in-Ok-put.ensures.others TraceRole other_role) gives.1, (c.in-Ok-read_capture.trace, gives.0, (c.in-Ok-report.text, c.in-Ok-report.ensures, whole))),
+)
+
+pub returns-clause-row : goal.returns-clause-row
+returns-clause-row g c = (
+  refl,
+  search rules,
+  search rules,
+  λ bytes told.
+      let told' : (g.O.Outside.seen c.bind.new.self TraceRole).left ≡ Some bytes = search rules in
+      let gives = c.in-Ok-read_capture.ensures.trace bytes told' in
+      let front : AppendsFront (g.O.Outside.seen c.args.outside.now ReportRole).written (g.O.Outside.seen c.put.new.outside ReportRole).written c.in-Ok-report.text = search rules in
+      (rw (c.in-Err-put.ensures.others TraceRole other_role) gives.1, (c.in-Ok-read_capture.trace, gives.0, (c.in-Ok-report.text, c.in-Ok-report.ensures, front))),
+)

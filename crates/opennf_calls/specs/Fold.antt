@@ -1,0 +1,61 @@
+-- What one unmoved instance of the connection tracker makes of a trace. This project's own.
+use Rattle.std.specs.Prelude.{◌≡◌, ◌==◌, ◌&&◌, Bool, List, Option, None, Some, filter, fold, IfSome}
+use Rattle.std.specs.Ordering.{nat_cmp, ordering_then}
+use Rattle.std.specs.declared.cmp.Ordering.{Ordering}
+use Rattle.std.specs.BTreeMap.{get, BTreeMap, IsOrdered}
+use Rattle.std.specs.HashMap as hash
+use Rattle.std.specs.declared.hash.FoldHasher.{FoldHasher}
+use Rattle.std.specs.declared.hash.BuildHasherDefault.{BuildHasherDefault}
+use Rattle.flow_filter.specs.declared.flow.Flow.{Flow}
+use Rattle.flow_filter.specs.declared.packet.Packet.{Packet}
+use Rattle.flow_filter.specs.declared.site.Site.{Site}
+use Rattle.flow_filter.specs.Flow.{flow_of}
+use Rattle.conn_tracker.specs.declared.record.TrackRecord.{TrackRecord}
+use Rattle.conn_tracker.specs.Table.{stepped, IsRecordOf}
+
+-- the flows are equal in every field
+abbrev pub flow_eq : Flow → Flow → Bool
+flow_eq a b = a.proto == b.proto && (a.local == b.local && (a.lport == b.lport && (a.remote == b.remote && a.rport == b.rport)))
+
+-- the order of flows: by their fields in turn
+abbrev pub flow_cmp : Flow → Flow → Ordering
+flow_cmp a b =
+    ordering_then (nat_cmp a.proto b.proto) (ordering_then (nat_cmp a.local b.local)
+    (ordering_then (nat_cmp a.lport b.lport) (ordering_then (nat_cmp a.remote b.remote) (nat_cmp a.rport b.rport))))
+
+-- the flow that a packet belongs to
+abbrev pub unit_of : Site → Packet → Flow
+unit_of site p = (flow_of site p).0
+
+-- the packets of a flow, in order
+unfoldable pub mine : Site → Flow → List Packet → List Packet
+mine site unit packets = filter (λ p. flow_eq (unit_of site p) unit) packets
+
+-- the record that the packets of one flow leave, one after another, from none
+unfoldable pub record_of : Site → List Packet → Option TrackRecord
+record_of site packets = fold (λ kept p. Some (stepped site kept p)) None packets
+
+-- the record of a packet's flow behind it, where `before` are the packets in front of it
+abbrev pub record_behind : Site → List Packet → Packet → TrackRecord
+record_behind site before p = stepped site (record_of site (mine site (unit_of site p) before)) p
+
+-- a finite map in the flows' order has the record that each flow's own packets leave, and no other
+pub record AreLive (site : Site) (packets : List Packet) (live : BTreeMap Flow TrackRecord) : Type 0 where
+  pub ordered : IsOrdered flow_cmp live
+  pub each : (unit : Flow) → get flow_cmp live unit ≡ record_of site (mine site unit packets)
+
+-- the records while packets come, in no order
+abbrev pub Kept : Type 0
+Kept = hash.HashMap Flow TrackRecord (BuildHasherDefault FoldHasher)
+
+-- the same of them
+abbrev pub AreKept : Site → List Packet → Kept → Type 0
+AreKept site packets kept = (unit : Flow) → hash.get flow_eq kept unit ≡ record_of site (mine site unit packets)
+
+-- each record is one that packets of its flow's protocol can have left
+abbrev pub AllFit : Kept → Type 0
+AllFit kept = (unit : Flow) → IfSome (hash.get flow_eq kept unit) (IsRecordOf unit.proto)
+
+-- the record of a packet's flow behind the packet, where the map has those of all flows in front of it
+abbrev pub record_after : Site → Kept → Packet → TrackRecord
+record_after site kept p = stepped site (hash.get flow_eq kept (unit_of site p)) p

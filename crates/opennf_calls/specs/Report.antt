@@ -1,0 +1,78 @@
+-- The lines of the report. This project's own format.
+use Rattle.std.specs.Prelude.{ℕ, ◌≡◌, ◌==◌, ◌++◌, List, [], ◌∷◌, Bool, true, false, if◌then◌else◌, codes, decimal, length}
+use Rattle.std.specs.List.{flat_map}
+use Rattle.std.specs.BTreeMap.{BTreeMap}
+use Rattle.flow_filter.specs.declared.flow.Flow.{Flow}
+use Rattle.flow_filter.specs.declared.packet.Packet.{Packet}
+use Rattle.flow_filter.specs.declared.site.Site.{Site}
+use Rattle.flow_filter.specs.Address.{address_text}
+use Rattle.trace_reader.specs.declared.trace.Trace.{Trace}
+use Rattle.conn_tracker.specs.declared.record.TrackRecord.{TrackRecord}
+use Rattle.nf_function.specs.declared.output.Output.{Output}
+use Rattle.conn_tracker.specs.Text.{output_of, output_text, record_text}
+use Rattle.opennf_calls.specs.Fold.{AreLive, record_behind}
+
+-- `whole` where the trace ends behind a record, and `cut` where it ends within one
+abbrev pub end_text : Bool → List ℕ
+end_text true = codes "cut"
+end_text false = codes "whole"
+
+-- `trace packets P skipped S `
+unfoldable pub counts_text : ℕ → ℕ → List ℕ
+counts_text packets skipped = codes "trace packets " ++ decimal packets ++ codes " skipped " ++ decimal skipped ++ codes " "
+
+-- `trace packets P skipped S whole` or `cut`
+unfoldable pub trace_line : ℕ → ℕ → Bool → List ℕ
+trace_line packets skipped cut = counts_text packets skipped ++ end_text cut ++ codes "\n"
+
+-- the three lines at the top
+unfoldable pub head_lines : ℕ → ℕ → Bool → List ℕ
+head_lines packets skipped cut =
+    codes "opennf report 1\nfunction conntrack instances 1 window 256\n" ++ trace_line packets skipped cut
+
+-- `out N OUTPUT`
+unfoldable pub out_line : Packet → Output → List ℕ
+out_line p output = codes "out " ++ decimal p.number ++ codes " " ++ output_text output ++ codes "\n"
+
+-- the lines of the packets behind `before`: each output is that of the packet's flow alone
+abbrev pub out_lines : Site → List Packet → List Packet → List ℕ
+out_lines site before [] = []
+out_lines site before (p ∷ ps) =
+    out_line p (output_of (record_behind site before p)) ++ out_lines site (before ++ p ∷ []) ps
+
+-- `done N INST`
+unfoldable pub done_line : List ℕ → Packet → List ℕ
+done_line name p = codes "done " ++ decimal p.number ++ codes " " ++ name ++ codes "\n"
+
+-- `tcp` or `udp`
+abbrev pub protocol_text : ℕ → List ℕ
+protocol_text proto = if proto == 6 then codes "tcp" else codes "udp"
+
+-- `A.B.C.D:PORT`
+abbrev pub end_point_text : ℕ → ℕ → List ℕ
+end_point_text address port = address_text address ++ codes ":" ++ decimal port
+
+-- `PROTO A.B.C.D:PORT A.B.C.D:PORT`, the local end first
+unfoldable pub unit_text : Flow → List ℕ
+unit_text unit =
+    protocol_text unit.proto ++ codes " " ++ end_point_text unit.local unit.lport
+    ++ codes " " ++ end_point_text unit.remote unit.rport
+
+-- `state UNIT INST RECORD`
+unfoldable pub state_line : List ℕ → Flow × TrackRecord → List ℕ
+state_line name entry =
+    codes "state " ++ unit_text entry.0 ++ codes " " ++ name ++ codes " " ++ record_text entry.1 ++ codes "\n"
+
+-- the lines at the bottom: the instance's tally, and the end
+unfoldable pub tail_lines : List ℕ → ℕ → List ℕ
+tail_lines name packets = codes "tally " ++ name ++ codes " " ++ decimal packets ++ codes "\nend\n"
+
+-- the report of one instance that processed every packet: outputs and states are those of each flow's own packets
+unfoldable pub IsReport : Site → List ℕ → Trace → List ℕ → Type 0
+IsReport site name trace text =
+    (live : BTreeMap Flow TrackRecord) × AreLive site trace.packets live
+    × (text ≡ head_lines (length trace.packets) trace.skipped trace.cut
+    ++ out_lines site [] trace.packets
+    ++ flat_map (done_line name) trace.packets
+    ++ flat_map (state_line name) live.entries
+    ++ tail_lines name (length trace.packets))

@@ -1,0 +1,75 @@
+-- The numbers of the statuses, and the line that each writes to the standard error. This project's own.
+use Rattle.std.specs.Prelude.{ℕ, ◌++◌, List, [], codes, decimal}
+use Rattle.nf_io.specs.declared.outside.Role.{Role}
+use Rattle.nf_io.specs.declared.outside.Role.TheVariants.{Trace, Script, JournalIn, Report, JournalOut, TraceOut, Errors}
+use Rattle.trace_reader.specs.declared.fault.TraceFault.{TraceFault}
+use Rattle.trace_reader.specs.declared.fault.TraceFault.TheVariants as fault
+use Rattle.opennf_calls.specs.declared.status.TraceKind.{TraceKind}
+use Rattle.opennf_calls.specs.declared.status.TraceKind.TheVariants.{Magic, PcapNg, Version, LinkType, RecordLength, TooLong, Header}
+use Rattle.opennf_calls.specs.declared.status.Status.{Status}
+use Rattle.opennf_calls.specs.declared.status.Status.TheVariants.{Ok as Done, Usage, BadTrace, ReadFault, WriteFault, NoMemory}
+
+-- the number that the program ends with
+abbrev pub number_of : Status → ℕ
+number_of Done = 0
+number_of Usage = 1
+number_of (BadTrace offset kind) = 2
+number_of (ReadFault role) = 4
+number_of (WriteFault role) = 5
+number_of NoMemory = 6
+
+-- what the line calls a role
+abbrev pub role_name : Role → List ℕ
+role_name Trace = codes "trace"
+role_name Script = codes "script"
+role_name JournalIn = codes "journal"
+role_name JournalOut = codes "journal"
+role_name Report = codes "report"
+role_name TraceOut = codes "capture"
+role_name Errors = codes "errors"
+
+-- what the line says of a kind, in front of its number
+abbrev pub kind_name : TraceKind → List ℕ
+kind_name Magic = codes "magic"
+kind_name PcapNg = codes "pcapng"
+kind_name Version = codes "version"
+kind_name (LinkType n) = codes "link type "
+kind_name (RecordLength n) = codes "record length "
+kind_name TooLong = codes "too long"
+kind_name Header = codes "header"
+
+-- the number of a kind
+abbrev pub kind_number : TraceKind → List ℕ
+kind_number (LinkType n) = decimal n
+kind_number (RecordLength n) = decimal n
+kind_number kind = []
+
+-- the line on a capture that breaks a rule
+abbrev pub trace_line_of : ℕ → TraceKind → List ℕ
+trace_line_of offset kind =
+    codes "opennf: trace byte " ++ decimal offset ++ codes ": " ++ kind_name kind ++ kind_number kind ++ codes "\n"
+
+-- the line on a file that couldn't be read or written
+abbrev pub fault_line_of : List ℕ → Role → List ℕ
+fault_line_of front role = front ++ role_name role ++ codes "\n"
+
+-- the line of a status, and no bytes for the one that says that all is well
+unfoldable pub line_of : Status → List ℕ
+line_of Done = []
+line_of Usage = codes "opennf: bad words\n"
+line_of (BadTrace offset kind) = trace_line_of offset kind
+line_of (ReadFault role) = fault_line_of (codes "opennf: read fault ") role
+line_of (WriteFault role) = fault_line_of (codes "opennf: write fault ") role
+line_of NoMemory = codes "opennf: no memory\n"
+
+-- the status of a capture that can't be read
+abbrev pub status_of : TraceFault → Status
+status_of fault.Magic = BadTrace 0 Magic
+status_of fault.PcapNg = BadTrace 0 PcapNg
+status_of fault.Version = BadTrace 4 Version
+status_of (fault.LinkType n) = BadTrace 20 (LinkType n)
+status_of (fault.RecordLength offset n) = BadTrace offset (RecordLength n)
+status_of (fault.TooLong offset) = BadTrace offset TooLong
+status_of (fault.Header length) = BadTrace length Header
+status_of fault.Read = ReadFault Trace
+status_of fault.NoMemory = NoMemory

@@ -1,0 +1,25 @@
+//! The calls that do all that the program does.
+//!
+//! [`opennf_top`] and [`opennf_calm`] read a capture through an [`Outside`](nf_io::Outside) and write its report. Contracts
+//! see the outside as a function from roles to what is known of them, and the words as lists of bytes. The main promise is
+//! `HasOutcome` of `specs/Outcome.antt`: at `Ok` the report is that of the capture's bytes, where each flow's outputs and
+//! record are those of its own packets; every other status has its cause.
+#![tactic(auto)]
+
+pub mod complaint;
+pub mod fold;
+pub mod gate;
+pub mod outcome;
+pub mod report;
+pub mod run;
+pub mod status;
+pub mod top;
+pub mod words;
+
+pub use gate::{Gate, OpenGate};
+pub use outcome::{Choice, Choices, Outcome};
+pub use status::{Status, TraceKind};
+pub use top::{opennf_calm, opennf_top};
+
+#[cfg(test)]
+mod tests;

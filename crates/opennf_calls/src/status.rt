@@ -1,0 +1,116 @@
+ghost use Rattle.std.specs.Prelude.{◌≡◌, ◌≤◌, length};
+ghost use Rattle.opennf_calls.specs.Status.{kind_name, number_of, role_name, status_of};
+
+use nf_io::Role;
+use trace_reader::TraceFault;
+
+/// What is wrong with a capture.
+#[derive(Clone, Copy, Debug, PartialEq, Eq)]
+pub enum TraceKind {
+    /// It doesn't begin as a capture.
+    Magic,
+    /// It is a pcapng file.
+    PcapNg,
+    /// Its version isn't 2.4.
+    Version,
+    /// Its link type, which is given, isn't Ethernet or raw IP.
+    LinkType(u16),
+    /// A record has more captured bytes, whose number is given, than any record may have.
+    RecordLength(u32),
+    /// It has more bytes or packets than are read.
+    TooLong,
+    /// It ends within its header.
+    Header,
+}
+
+/// How a run of the program ended.
+#[derive(Clone, Copy, Debug, PartialEq, Eq)]
+pub enum Status {
+    /// The command did its work and wrote all.
+    Ok,
+    /// The words aren't a command.
+    Usage,
+    /// The capture breaks a rule at a byte.
+    BadTrace { offset: u64, kind: TraceKind },
+    /// A file couldn't be read.
+    ReadFault { role: Role },
+    /// A file couldn't be written.
+    WriteFault { role: Role },
+    /// Memory ran out.
+    NoMemory,
+}
+
+impl Status {
+    /// The status of a capture that can't be read.
+    pub fn of(fault: TraceFault) -> Status
+        ensures { result ≡ status_of fault }
+    {
+        match fault {
+            TraceFault::Magic => Status::bad_trace(0, TraceKind::Magic),
+            TraceFault::PcapNg => Status::bad_trace(0, TraceKind::PcapNg),
+            TraceFault::Version => Status::bad_trace(4, TraceKind::Version),
+            TraceFault::LinkType(number) => Status::bad_trace(20, TraceKind::LinkType(number)),
+            TraceFault::RecordLength { offset, n } => Status::bad_trace(
+                offset,
+                TraceKind::RecordLength(n),
+            ),
+            TraceFault::TooLong { offset } => Status::bad_trace(offset, TraceKind::TooLong),
+            TraceFault::Header(length) => Status::bad_trace(length, TraceKind::Header),
+            TraceFault::Read => Status::ReadFault { role: Role::Trace },
+            TraceFault::NoMemory => Status::NoMemory,
+        }
+    }
+
+    fn bad_trace(offset: u64, kind: TraceKind) -> Status
+        ensures { result ≡ Status.BadTrace offset kind }
+    {
+        Status::BadTrace { offset, kind }
+    }
+
+    /// The number that the program ends with.
+    pub fn number(&self) -> u8
+        ensures { result ≡ number_of self.now }
+    {
+        match self {
+            Status::Ok => 0,
+            Status::Usage => 1,
+            Status::BadTrace { .. } => 2,
+            Status::ReadFault { .. } => 4,
+            Status::WriteFault { .. } => 5,
+            Status::NoMemory => 6,
+        }
+    }
+}
+
+impl TraceKind {
+    /// What the error line says of the kind, in front of its number where it has one.
+    pub fn name(self) -> &'static str
+        ensures value { result.now ≡ kind_name self }
+        ensures short { length result.now ≤ 14 }
+    {
+        match self {
+            TraceKind::Magic => "magic",
+            TraceKind::PcapNg => "pcapng",
+            TraceKind::Version => "version",
+            TraceKind::LinkType(_) => "link type ",
+            TraceKind::RecordLength(_) => "record length ",
+            TraceKind::TooLong => "too long",
+            TraceKind::Header => "header",
+        }
+    }
+}
+
+/// What the error line calls a role.
+pub fn role_name(role: Role) -> &'static str
+    ensures value { result.now ≡ role_name role }
+    ensures short { length result.now ≤ 7 }
+{
+    match role {
+        Role::Trace => "trace",
+        Role::Script => "script",
+        Role::JournalIn | Role::JournalOut => "journal",
+        Role::Report => "report",
+        Role::TraceOut => "capture",
+        Role::Errors => "errors",
+    }
+}

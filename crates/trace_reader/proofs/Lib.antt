@@ -1,0 +1,5 @@
+pub mod Taken
+pub mod Front
+pub mod Steps
+pub mod Opened
+pub mod Whole

@@ -1,0 +1,6 @@
+pub mod Numbers
+pub mod Header
+pub mod Steered
+pub mod Takes
+pub mod Records
+pub mod Gives

@@ -1,0 +1,148 @@
+ghost use Rattle.std.specs.Prelude.{◌≡◌, ◌≢◌, ◌≤◌, Err, length};
+ghost use Rattle.trace_reader.specs.Numbers.{number_in};
+ghost use Rattle.trace_reader.specs.Steered.{nanos_of};
+ghost use Rattle.trace_reader.specs.Numbers.{captured_of};
+ghost use Rattle.trace_reader.specs.Header.{magic_of, link_of, is_version, form_of};
+
+use crate::fault::TraceFault;
+use byteorder::{BigEndian, ByteOrder, LittleEndian};
+
+/// The order of the bytes of a capture's own numbers.
+#[derive(Clone, Copy, Debug, PartialEq, Eq)]
+pub enum Order {
+    Big,
+    Little,
+}
+
+/// What the fraction of a time stamp counts.
+#[derive(Clone, Copy, Debug, PartialEq, Eq)]
+pub enum Fraction {
+    Micros,
+    Nanos,
+}
+
+/// What the magic number says.
+#[derive(Clone, Copy, Debug, PartialEq, Eq)]
+pub struct Magic {
+    pub order: Order,
+    pub fraction: Fraction,
+}
+
+/// What stands around each datagram: an Ethernet header, or nothing.
+#[derive(Clone, Copy, Debug, PartialEq, Eq)]
+pub enum Link {
+    Ethernet,
+    Raw,
+}
+
+/// The form of a capture.
+#[derive(Clone, Copy, Debug, PartialEq, Eq)]
+pub struct Form {
+    pub magic: Magic,
+    pub link: Link,
+}
+
+impl Order {
+    fn short(self, bytes: &[u8]) -> u16
+        requires { 2 ≤ length bytes.now }
+        ensures { result ≡ number_in self 2 bytes.now }
+    {
+        match self {
+            Order::Big => BigEndian::read_u16(bytes),
+            Order::Little => LittleEndian::read_u16(bytes),
+        }
+    }
+
+    pub(crate) fn long(self, bytes: &[u8]) -> u32
+        requires { 4 ≤ length bytes.now }
+        ensures { result ≡ number_in self 4 bytes.now }
+    {
+        match self {
+            Order::Big => BigEndian::read_u32(bytes),
+            Order::Little => LittleEndian::read_u32(bytes),
+        }
+    }
+}
+
+impl Form {
+    /// How many bytes of the packet a record has, by its head.
+    pub(crate) fn captured(self, head: &[u8]) -> u32
+        requires { length head.now ≡ 16 }
+        ensures { result ≡ captured_of self head.now }
+    {
+        self.magic.order.long(&head[8..])
+    }
+
+    /// The time stamp at the head of a record, in nanoseconds.
+    pub(crate) fn nanos(self, head: &[u8]) -> u64
+        requires { length head.now ≡ 16 }
+        ensures { result ≡ nanos_of self head.now }
+    {
+        let seconds = u64::from(self.magic.order.long(head));
+        let fraction = u64::from(self.magic.order.long(&head[4..]));
+        let unit = match self.magic.fraction {
+            Fraction::Micros => 1000,
+            Fraction::Nanos => 1,
+        };
+        seconds * 1_000_000_000 + fraction * unit
+    }
+}
+
+fn magic_of(number: u32) -> Option<Magic>
+    ensures { result ≡ magic_of number }
+{
+    let (order, fraction) = match number {
+        0xa1b2_c3d4 => (Order::Big, Fraction::Micros),
+        0xd4c3_b2a1 => (Order::Little, Fraction::Micros),
+        0xa1b2_3c4d => (Order::Big, Fraction::Nanos),
+        0x4d3c_b2a1 => (Order::Little, Fraction::Nanos),
+        _ => return None,
+    };
+    Some(Magic { order, fraction })
+}
+
+fn link_of(number: u16) -> Option<Link>
+    ensures { result ≡ link_of number }
+{
+    match number {
+        1 => Some(Link::Ethernet),
+        101 => Some(Link::Raw),
+        _ => None,
+    }
+}
+
+fn is_version(magic: Magic, header: &[u8]) -> bool
+    requires { 24 ≤ length header.now }
+    ensures { result ≡ is_version magic header.now }
+{
+    magic.order.short(&header[4..]) == 2 && magic.order.short(&header[6..]) == 4
+}
+
+/// The form that the first 24 bytes of a capture state.
+#[tactic(auto, unfolding(crate::specs::Header::form_of))]
+pub(crate) fn form_of(header: &[u8]) -> Result<Form, TraceFault>
+    ensures form { result ≡ form_of header.now }
+    ensures unread { result ≢ Err TraceFault.Read }
+{
+    if header.len() < 4 {
+        return Err(TraceFault::Magic);
+    }
+    let number = BigEndian::read_u32(header);
+    if number == 0x0a0d_0d0a {
+        return Err(TraceFault::PcapNg);
+    }
+    let Some(magic) = magic_of(number) else {
+        return Err(TraceFault::Magic);
+    };
+    if header.len() < 24 {
+        return Err(TraceFault::Header(header.len() as u64));
+    }
+    if !is_version(magic, header) {
+        return Err(TraceFault::Version);
+    }
+    let number = (magic.order.long(&header[20..]) % 0x1_0000) as u16;
+    match link_of(number) {
+        Some(link) => Ok(Form { magic, link }),
+        None => Err(TraceFault::LinkType(number)),
+    }
+}

@@ -1,0 +1,106 @@
+ghost use Rattle.std.specs.Prelude.{◌≡◌, ◌≤◌, ◌^◌, ◌+◌, min, None, Some, Err, length, drop, IfOk};
+ghost use Rattle.std.specs.Option.{ForSome, ForNone};
+
+use crate::fault::TraceFault;
+use crate::form::{Form, form_of};
+use crate::record::{Next, read_record};
+use crate::takes::fill;
+use nf_io::Source;
+
+/// Why a reader is at its end.
+#[derive(Clone, Copy, Debug, PartialEq, Eq)]
+pub enum Stop {
+    End,
+    Cut,
+    Fault(TraceFault),
+}
+
+impl Stop {
+    ghost use Rattle.trace_reader.specs.Gives.{stop_of, answer_of};
+
+    fn of(answer: &Result<Next, TraceFault>) -> Option<Stop>
+        ensures { result ≡ stop_of answer.now }
+    {
+        match answer {
+            Ok(Next::Packet(_) | Next::Skipped) => None,
+            Ok(Next::End) => Some(Stop::End),
+            Ok(Next::Cut) => Some(Stop::Cut),
+            Err(fault) => Some(Stop::Fault(*fault)),
+        }
+    }
+
+    fn answer(self) -> Result<Next, TraceFault>
+        ensures { result ≡ answer_of self }
+    {
+        match self {
+            Stop::End => Ok(Next::End),
+            Stop::Cut => Ok(Next::Cut),
+            Stop::Fault(fault) => Err(fault),
+        }
+    }
+}
+
+/// Reads a capture record by record. Contracts see its form, the place of the next record, the
+/// number of packets given, and the end that it has come to, if any.
+#[derive(Debug, Drop)]
+pub struct TraceReader {
+    form: Form,
+    place: u64,
+    count: u32,
+    stop: Option<Stop>,
+    ghost in_file: { place ≤ 2 ^ 32 },
+    ghost in_count: { count ≤ 1000000 },
+}
+
+impl TraceReader {
+    ghost use Rattle.nf_io.specs.Meaning.{StaysOpen, Rose};
+    ghost use Rattle.trace_reader.specs.Records.{opened};
+    ghost use Rattle.trace_reader.specs.Gives.{HasReadCause, OpenGives, Gives, Moves, stop_of, answer_of};
+
+    /// Reads the 24 bytes at the head of a capture.
+    pub fn open<S: Source>(source: &mut S) -> Result<TraceReader, TraceFault>
+        requires { S.IsOpen source.old }
+        ensures form { ForSome (S.left source.old) (λ bytes. OpenGives (opened bytes) (drop 24 bytes) (S.left source.new) result) }
+        ensures start { IfOk result (λ reader. (reader.place ≡ 24) × (reader.count ≡ 0) × (reader.stop ≡ None)) }
+        ensures cause { HasReadCause (S.faults source.old) (S.faults source.new) result }
+        ensures stays { StaysOpen S.IsOpen S.loan S.rest source.old source.new }
+    {
+        let mut header = [0; 24];
+        let got = fill(source, &mut header)?;
+        let form = form_of(&header[..got])?;
+        Ok(TraceReader {
+            form,
+            place: 24,
+            count: 0,
+            stop: None,
+        })
+    }
+
+    /// Reads the next record. Once there is an end, each call gives it again and reads nothing.
+    pub fn next<S: Source>(&mut self, source: &mut S) -> Result<Next, TraceFault>
+        requires { S.IsOpen source.old }
+        ensures gives { ForNone self.old.stop (ForSome (S.left source.old) (λ bytes.
+            Gives self.old.form self.old.place self.old.count bytes self.new.place (S.left source.new) result)) }
+        ensures moves { ForNone self.old.stop (Moves self.old.place self.old.count self.new.place self.new.count result) }
+        ensures form { self.new.form ≡ self.old.form }
+        ensures stop { self.new.stop ≡ stop_of result }
+        ensures again { ForSome self.old.stop (λ stop. (result ≡ answer_of stop) × (self.new ≡ self.old) × (source.new ≡ source.old)) }
+        ensures later { S.faults source.old ≤ S.faults source.new }
+        ensures read { self.old.stop ≡ None → result ≡ Err TraceFault.Read → Rose (S.faults source.old) (S.faults source.new) }
+        ensures stays { StaysOpen S.IsOpen S.loan S.rest source.old source.new }
+    {
+        if let Some(stop) = self.stop {
+            return stop.answer();
+        }
+        let (answer, size) = match read_record(self.form, self.place, self.count, source) {
+            Ok(step) => (Ok(step.next), step.size),
+            Err(fault) => (Err(fault), 0),
+        };
+        self.place += size;
+        if let Ok(Next::Packet(_)) = answer {
+            self.count += 1;
+        }
+        self.stop = Stop::of(&answer);
+        answer
+    }
+}

@@ -1,0 +1,198 @@
+ghost use Rattle.std.specs.Prelude.{◌≡◌, ◌≤◌, ◌+◌, ◌-◌, ◌^◌, ◌++◌, min, length, replicate, IfSome};
+ghost use Rattle.trace_reader.specs.Numbers.{pair, quad, byte};
+ghost use Rattle.trace_reader.specs.Steered.{start_of, header_length, is_first, transport_length, total_length, parts_of, HasParts, held_of, payload_of, packet_with, packet_of};
+
+use crate::form::{Form, Link};
+use byteorder::{BigEndian, ByteOrder};
+use flow_filter::{Packet, TCP, UDP};
+
+/// How many bytes of a record can matter: those in front of the longest payload that is kept.
+pub(crate) const FRONT: usize = 202;
+
+/// Where the datagram of a steered record starts, and how long its parts are.
+#[derive(Drop)]
+pub(crate) struct Parts {
+    start: usize,
+    header: usize,
+    transport: usize,
+    total: usize,
+}
+
+fn pair(bytes: &[u8], at: usize) -> u16
+    requires { at + 2 ≤ length bytes.now }
+    ensures { result ≡ pair bytes.now at }
+{
+    BigEndian::read_u16(&bytes[at..])
+}
+
+fn quad(bytes: &[u8], at: usize) -> u32
+    requires { at + 4 ≤ length bytes.now }
+    ensures { result ≡ quad bytes.now at }
+{
+    BigEndian::read_u32(&bytes[at..])
+}
+
+/// Where the IPv4 header starts.
+fn start_of(link: Link, len: usize, front: &[u8]) -> Option<usize>
+    requires { min len 202 ≤ length front.now }
+    ensures value { result ≡ start_of link len front.now }
+    ensures bound { IfSome result (λ s. s ≤ 18) }
+{
+    match link {
+        Link::Raw => Some(0),
+        Link::Ethernet => {
+            if len >= 14 && pair(front, 12) == 0x0800 {
+                Some(14)
+            } else if len >= 18 && pair(front, 12) == 0x8100 && pair(front, 16) == 0x0800 {
+                Some(18)
+            } else {
+                None
+            }
+        }
+    }
+}
+
+/// How long the IPv4 header at `start` is.
+fn header_length(len: usize, front: &[u8], start: usize) -> Option<usize>
+    requires front { min len 202 ≤ length front.now }
+    requires start { start ≤ 18 }
+    ensures value { result ≡ header_length len front.now start }
+    ensures bound { IfSome result (λ h. (20 ≤ h) × (h ≤ 60) × (start + h ≤ len)) }
+{
+    if len < start + 20 {
+        return None;
+    }
+    let first = front[start];
+    let header = 4 * usize::from(first % 16);
+    if first / 16 == 4 && header >= 20 && len >= start + header {
+        Some(header)
+    } else {
+        None
+    }
+}
+
+/// How long the TCP or UDP header at `at` is.
+fn transport_length(len: usize, front: &[u8], proto: u8, at: usize) -> Option<usize>
+    requires front { min len 202 ≤ length front.now }
+    requires at { at ≤ 78 }
+    ensures value { result ≡ transport_length len front.now proto at }
+    ensures bound { IfSome result (λ d. (d ≤ 60) × (at + 8 ≤ len) × (proto ≡ 6 → at + 20 ≤ len)) }
+{
+    match proto {
+        UDP if len >= at + 8 => Some(8),
+        TCP if len >= at + 20 => {
+            let transport = 4 * usize::from(front[at + 12] / 16);
+            if transport >= 20 {
+                Some(transport)
+            } else {
+                None
+            }
+        }
+        _ => None,
+    }
+}
+
+/// How long the datagram at `start` says it is, or else is.
+fn total_length(len: usize, front: &[u8], start: usize) -> usize
+    requires front { min len 202 ≤ length front.now }
+    requires start { start ≤ 18 }
+    requires header { start + 20 ≤ len }
+    ensures { result ≡ total_length len front.now start }
+{
+    match pair(front, start + 2) {
+        0 => len - start,
+        total => usize::from(total),
+    }
+}
+
+/// The lengths of a steered record, None for one that is skipped.
+#[tactic(auto, unfolding(crate::specs::Steered::parts_of))]
+fn parts_of(link: Link, len: usize, front: &[u8]) -> Option<Parts>
+    requires { min len 202 ≤ length front.now }
+    ensures value { result ≡ parts_of link len front.now }
+    ensures parts { IfSome result (HasParts len front.now) }
+{
+    let start = start_of(link, len, front)?;
+    let header = header_length(len, front, start)?;
+    let transport = transport_length(len, front, front[start + 9], start + header)?;
+    let total = total_length(len, front, start);
+    if pair(front, start + 6) % 0x2000 == 0 && header + transport <= total {
+        Some(Parts {
+            start,
+            header,
+            transport,
+            total,
+        })
+    } else {
+        None
+    }
+}
+
+/// The first bytes of the payload, of those that are captured.
+fn payload_of<'a>(len: usize, front: &'a [u8], parts: &Parts) -> &'a [u8]
+    requires front { length front.now ≡ min len 202 }
+    requires len { len ≤ 2 ^ 18 }
+    requires parts { HasParts len front.now parts.now }
+    ensures bytes { result.now ≡ payload_of len front.now parts.now }
+    ensures held { length result.now ≡ held_of len parts.now }
+{
+    let at = parts.start + parts.header + parts.transport;
+    let end = len.min(parts.start + parts.total);
+    let held = end.saturating_sub(at).min(64);
+    let from = at.min(front.len());
+    &front[from..from + held]
+}
+
+/// Those bytes, and zeros behind them.
+fn padded(payload: &[u8]) -> [u8; 64]
+    requires { length payload.now ≤ 64 }
+    ensures { result ≡ payload.now ++ replicate (64 - length payload.now) 0 }
+{
+    let mut head = [0; 64];
+    head[..payload.len()].copy_from_slice(payload);
+    head
+}
+
+/// The packet of a steered record.
+fn packet_with(number: u32, nanos: u64, len: usize, front: &[u8], parts: &Parts) -> Packet
+    requires front { length front.now ≡ min len 202 }
+    requires len { len ≤ 2 ^ 18 }
+    requires parts { HasParts len front.now parts.now }
+    ensures { result ≡ packet_with number nanos len front.now parts.now }
+{
+    let at = parts.start + parts.header;
+    let proto = front[parts.start + 9];
+    let payload = payload_of(len, front, parts);
+    Packet {
+        number,
+        nanos,
+        proto,
+        src: quad(front, parts.start + 12),
+        sport: pair(front, at),
+        dst: quad(front, parts.start + 16),
+        dport: pair(front, at + 2),
+        flags: if proto == TCP { front[at + 13] } else { 0 },
+        length: (parts.total - parts.header - parts.transport) as u32,
+        held: payload.len() as u8,
+        head: padded(payload),
+    }
+}
+
+/// The packet of a record of `len` bytes, of which `front` has the first; None for one that is
+/// skipped.
+#[tactic(auto, unfolding(crate::specs::Steered::packet_of))]
+pub(crate) fn packet_of(
+    form: Form,
+    number: u32,
+    head: &[u8],
+    len: usize,
+    front: &[u8],
+) -> Option<Packet>
+    requires head { length head.now ≡ 16 }
+    requires front { length front.now ≡ min len 202 }
+    requires len { len ≤ 2 ^ 18 }
+    ensures { result ≡ packet_of form number head.now len front.now }
+{
+    let parts = parts_of(form.link, len, front)?;
+    Some(packet_with(number, form.nanos(head), len, front, &parts))
+}

@@ -1,0 +1,55 @@
+ghost use Rattle.std.specs.Prelude.{◌≡◌, ◌≤◌};
+ghost use Rattle.std.specs.Option.{ForSome};
+ghost use Rattle.nf_io.specs.Meaning.{StaysOpen};
+ghost use Rattle.trace_reader.specs.Records.{capture_of};
+ghost use Rattle.trace_reader.specs.Gives.{HasReadCause, TraceGives};
+
+use crate::fault::TraceFault;
+use crate::reader::TraceReader;
+use crate::record::Next;
+use flow_filter::Packets;
+use nf_io::Source;
+use std::alloc::Global;
+
+/// What a capture holds.
+#[derive(Debug, Drop)]
+pub struct Trace {
+    /// The steered packets in file order, numbered from 1.
+    pub packets: Packets,
+    /// How many records are of another kind.
+    pub skipped: u32,
+    /// Whether the file ends within a record.
+    pub cut: bool,
+}
+
+/// Reads a capture to its end.
+pub fn read_trace<S: Source>(alloc: Global, source: &mut S) -> Result<Trace, TraceFault>
+    requires { S.IsOpen source.old }
+    ensures trace { ForSome (S.left source.old) (λ bytes. TraceGives (capture_of bytes) (S.left source.new) result) }
+    ensures cause { HasReadCause (S.faults source.old) (S.faults source.new) result }
+    ensures stays { StaysOpen S.IsOpen S.loan S.rest source.old source.new }
+{
+    let mut reader = TraceReader::open(source)?;
+    let mut packets = Packets::open(alloc);
+    let mut skipped = 0;
+    'records: loop {
+        match reader.next(source)? {
+            Next::Packet(packet) => packets.push(packet)?,
+            Next::Skipped => skipped += 1,
+            Next::End => {
+                return Ok(Trace {
+                    packets,
+                    skipped,
+                    cut: false,
+                });
+            }
+            Next::Cut => {
+                return Ok(Trace {
+                    packets,
+                    skipped,
+                    cut: true,
+                });
+            }
+        }
+    }
+}
