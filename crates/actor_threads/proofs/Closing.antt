@@ -31,9 +31,9 @@ module _ {M : Type 0} (k n : ℕ) (ins now : List (List (Incoming M))) (outs : L
       count = c.count ∙ ap (λ m. m + n) a.count ∙ grind (arith, rows);
       closed = λ s r hs hr. same_or s k (Closed (in_at (row_at ins r) s) (out_at (row_at outs s) r) (row_at more (s * n + r)))
           (λ e. let g = c.closed r hr in
-            let way : g.0 ≡ in_at (row_at ins r) k = sym (first_left k (row_at ins r) g.0 no_in (row_at new r) (sym (left r hr) ∙ g.1.0)) in
-            subst (λ q. Closed (in_at (row_at ins r) q) (out_at (row_at outs q) r) (row_at more (q * n + r))) (sym e)
-              (subst (λ (v : Incoming M × ℕ). Closed v.0 (out_at (row_at outs k) r) (row_at more (v.1 + r))) (λ i. (way i, a.count i)) g.1.1))
+          let way : g.0 ≡ in_at (row_at ins r) k = sym (first_left k (row_at ins r) g.0 no_in (row_at new r) (sym (left r hr) ∙ g.1.0)) in
+          subst (λ q. Closed (in_at (row_at ins r) q) (out_at (row_at outs q) r) (row_at more (q * n + r))) (sym e)
+          (subst (λ (v : Incoming M × ℕ). Closed v.0 (out_at (row_at outs k) r) (row_at more (v.1 + r))) (λ i. (way i, a.count i)) g.1.1))
           (λ other. let less : s < k = omega arith in
-            subst (λ l. Closed (in_at (row_at ins r) s) (out_at (row_at outs s) r) l) (sym (c.kept (s * n + r) (subst (λ m. s * n + r < m) (sym a.count) (before s k n r less hr)))) (a.closed s r less hr));
+          subst (λ l. Closed (in_at (row_at ins r) s) (out_at (row_at outs s) r) l) (sym (c.kept (s * n + r) (subst (λ m. s * n + r < m) (sym a.count) (before s k n r less hr)))) (a.closed s r less hr));
     }

@@ -19,5 +19,5 @@ pub lists_more : {V X : Type 0} (f : V → List X) (kept : List V) (new : V) (fr
 lists_more f kept new from k count before last p h =
     ap (λ l. row_at l p) (map-append f kept (new ∷ []))
     ∙ same_or p k (row_at (map f kept ++ f new ∷ []) p ≡ from p)
-        (λ e. subst (λ q. row_at (map f kept ++ f new ∷ []) q ≡ from q) (sym e) (last_of (map f kept) (f new) [] k (length-map kept f ∙ count) ∙ last))
-        (λ other. let less : p < k = omega arith in get_or_append_left (map f kept) (f new ∷ []) [] p (omega (arith, length-map kept f, count, less)) ∙ before p less)
+    (λ e. subst (λ q. row_at (map f kept ++ f new ∷ []) q ≡ from q) (sym e) (last_of (map f kept) (f new) [] k (length-map kept f ∙ count) ∙ last))
+    (λ other. let less : p < k = omega arith in get_or_append_left (map f kept) (f new ∷ []) [] p (omega (arith, length-map kept f, count, less)) ∙ before p less)

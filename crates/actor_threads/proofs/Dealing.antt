@@ -17,7 +17,7 @@ module _ {N : Type 0} where
   -- the queue of the choice's node loses its first list
   taken_front : (table : List (List (List N))) (k : ℕ) → k < length table → (j : ℕ) → row_at (slice_set table k (without_front (row_at table k))) j ≡ (if j == k then without_front (row_at table j) else row_at table j)
   taken_front table k h j = elim (j == k) as (λ b. (j == k) ≡ b → row_at (slice_set table k (without_front (row_at table k))) j ≡ (if b then without_front (row_at table j) else row_at table j)) [
-    true ↦ λ t. let e = (Decides-eqb j k).0 t in
+    | true ↦ λ t. let e = (Decides-eqb j k).0 t in
         subst (λ q. row_at (slice_set table k (without_front (row_at table k))) q ≡ without_front (row_at table q)) (sym e) (get_or-set_same table k _ [] h)
     | false ↦ λ f. get_or-set_other table k j _ [] (λ e. true≢false (sym ((Decides-eqb j k).1 e) ∙ f))
   ] refl
@@ -29,7 +29,7 @@ module _ {N : Type 0} where
   -- there is no such queue
   no_queue : (table : List (List (List N))) (k : ℕ) → length table ≤ k → (j : ℕ) → row_at table j ≡ (if j == k then without_front (row_at table j) else row_at table j)
   no_queue table k h j = elim (j == k) as (λ b. (j == k) ≡ b → row_at table j ≡ (if b then without_front (row_at table j) else row_at table j)) [
-    true ↦ λ t. let e = (Decides-eqb j k).0 t in let none : row_at table j ≡ [] = get_or_past table j [] (omega (arith, e)) in none ∙ sym (ap without_front none)
+    | true ↦ λ t. let e = (Decides-eqb j k).0 t in let none : row_at table j ≡ [] = get_or_past table j [] (omega (arith, e)) in none ∙ sym (ap without_front none)
     | false ↦ λ f. refl
   ] refl
 

@@ -33,9 +33,9 @@ module _ {A M N : Type 0} (ready : A → M → Bool) (w : Shown A M N) (port : �
       → (p : ℕ) → p < length w.ins → DrawsAt (is_input_of w.number p) (in_at w.ins p) (in_at (slice_set w.ins port way) p) (if port == p then used else [])
   drawn used d p inside =
       let at_port : DrawsAt (is_input_of w.number port) (in_at w.ins port) (in_at (slice_set w.ins port way) port) used =
-          subst (λ (v : Incoming M × Incoming M). DrawsAt (is_input_of w.number port) v.0 v.1 used) (λ i. (here i, sym (get_or-set_same w.ins port way no_in within) i)) d in
+      subst (λ (v : Incoming M × Incoming M). DrawsAt (is_input_of w.number port) v.0 v.1 used) (λ i. (here i, sym (get_or-set_same w.ins port way no_in within) i)) d in
       elim (port == p) as (λ b. (port == p) ≡ b → DrawsAt (is_input_of w.number p) (in_at w.ins p) (in_at (slice_set w.ins port way) p) (if b then used else [])) [
-        true ↦ λ t. subst (λ q. DrawsAt (is_input_of w.number q) (in_at w.ins q) (in_at (slice_set w.ins port way) q) used) ((Decides-eqb port p).0 t) at_port
+        | true ↦ λ t. subst (λ q. DrawsAt (is_input_of w.number q) (in_at w.ins q) (in_at (slice_set w.ins port way) q) used) ((Decides-eqb port p).0 t) at_port
         | false ↦ λ f. subst (λ (v : Incoming M). DrawsAt (is_input_of w.number p) (in_at w.ins p) v []) (sym (get_or-set_other w.ins port p way no_in (λ e. true≢false (sym ((Decides-eqb port p).1 (sym e)) ∙ f)))) (still _ _)
       ] refl
 

@@ -41,8 +41,7 @@ pub matches_from : {A M N : Type 0} (events : ℕ → List (Event M)) (blank : S
 matches_from events blank i [] each none = λ j h. none j (omega arith)
 matches_from events blank i (x ∷ xs) each none =
     let first = each 0 (omega arith) in
-    let zero_i : 0 + i ≡ i = omega arith in
-    (
+    let zero_i : 0 + i ≡ i = omega arith in (
       first.0 ∙ zero_i,
       first.1 ∙ ap (λ k. noted (events k)) zero_i,
       matches_from events blank (i + 1) xs
@@ -76,7 +75,7 @@ module _ {A M N : Type 0} (ready : A → M → Bool) (step : A → ℕ → M →
 
   pub pick : (j : ℕ) → (es : List (Event M)) × Did j es
   pick j = elim (cases_lt j n) [
-    inl h ↦ ((ran j blank h).worked.events, ((λ _. ((ran j blank h).worked, refl)), λ o. absurd (omega arith)))
+    | inl h ↦ ((ran j blank h).worked.events, ((λ _. ((ran j blank h).worked, refl)), λ o. absurd (omega arith)))
     | inr o ↦ ([], ((λ h. absurd (omega arith)), λ _. refl))
   ]
 
@@ -149,23 +148,23 @@ module _ {A M N : Type 0} (ready : A → M → Bool) (step : A → ℕ → M →
     left_at : (s r : ℕ) → s < n → r < n → (l : List (Stamped M)) × LeftAt s r l
     left_at s r hs hr =
         let c : Closed (in_at (end_of r).ins s) (out_at (end_of s).outs r) (row_at links (s * n + r)) =
-            subst (λ (v : List (Incoming M) × List (Outgoing M)). Closed (in_at v.0 s) (out_at v.1 r) (row_at links (s * n + r))) (λ i. (ins_at r hr i, outs_at s hs i)) (closed s r hs hr) in
+        subst (λ (v : List (Incoming M) × List (Outgoing M)). Closed (in_at v.0 s) (out_at v.1 r) (row_at links (s * n + r))) (λ i. (ins_at r hr i, outs_at s hs i)) (closed s r hs hr) in
         let kr = (pick r).1.0 hr in
         let ks = (pick s).1.0 hs in
         let drew = (kr.0.taken s (subst (λ m. s < m) (sym (starts r hr).count_ins) hs)).draws in
         let begin = (starts r hr).ins s hs in
         let grown : (in_at (end_of r).ins s).done ≡ drew.grown = drew.done ∙ ap (λ (v : Incoming M). v.done ++ drew.grown) begin in
         let whole : holds s r ++ drew.grown ≡ taken_at s (events r) ++ (in_at (end_of r).ins s).kept =
-            sym (ap (λ (v : Incoming M). v.kept ++ drew.grown) begin) ∙ drew.whole ∙ ap (λ es. taken_at s es ++ (in_at (end_of r).ins s).kept) kr.1 in
+        sym (ap (λ (v : Incoming M). v.kept ++ drew.grown) begin) ∙ drew.whole ∙ ap (λ es. taken_at s es ++ (in_at (end_of r).ins s).kept) kr.1 in
         let went = ks.0.sent r (subst (λ m. r < m) (sym (starts s hs).count_outs) hr) in
         let put : put_between step n s r (node_at s) (events s) ≡ drew.grown ++ c.tail =
-            sym (went.all ∙ (λ i. ((starts s hs).outs r hr i).all ++ put_between step ((starts s hs).count_outs i) ((starts s hs).number i) r ((starts s hs).node d i) (ks.1 i))) ∙ c.sent ∙ ap (λ l. l ++ c.tail) grown in
+        sym (went.all ∙ (λ i. ((starts s hs).outs r hr i).all ++ put_between step ((starts s hs).count_outs i) ((starts s hs).number i) r ((starts s hs).node d i) (ks.1 i))) ∙ c.sent ∙ ap (λ l. l ++ c.tail) grown in
         ((in_at (end_of r).ins s).kept ++ c.tail, (c.is, joined (holds s r) drew.grown (taken_at s (events r)) (in_at (end_of r).ins s).kept c.tail (put_between step n s r (node_at s) (events s)) whole put))
 
     pub pick_left : (s r : ℕ) → (l : List (Stamped M)) × (s < n → r < n → LeftAt s r l)
     pick_left s r = elim (cases_lt s n) [
-      inl hs ↦ elim (cases_lt r n) [
-        inl hr ↦ let l = left_at s r hs hr in (l.0, λ _ _. l.1)
+      | inl hs ↦ elim (cases_lt r n) [
+        | inl hr ↦ let l = left_at s r hs hr in (l.0, λ _ _. l.1)
         | inr o ↦ ([], λ _ hr. absurd (omega arith))
       ]
       | inr o ↦ ([], λ hs _. absurd (omega arith))
@@ -200,19 +199,19 @@ module _ {A M N : Type 0} (ready : A → M → Bool) (step : A → ℕ → M →
         let shown : row_at links (s * n + r) ≡ messages (left s r) = ((pick_left s r).1 hs hr).0 in
         waiting_is (world_left cs) s r (subst (λ m. s < m) (sym nodes) hs) (subst (λ m. r < m) (sym nodes) hr)
         ∙ elim ((r == 0) && (s == 0)) as (λ b. (r == 0) && (s == 0) ≡ b → (if b then row_at links 0 else row_at (slice_set links 0 []) (s * length (map (λ (x : Shown A M N). x.node) ended) + r)) ≡ messages (left s r)) [
-          true ↦ λ t.
-            let s_zero : s ≡ 0 = grind (arith, nat_tests) in
-            let r_zero : r ≡ 0 = grind (arith, nat_tests) in
-            let place : 0 ≡ s * n + r = sym (ap (λ (v : ℕ × ℕ). v.0 * n + v.1) (λ i. (s_zero i, r_zero i)) ∙ omega arith) in
-            ap (λ k. row_at links k) place ∙ shown
+          | true ↦ λ t.
+              let s_zero : s ≡ 0 = grind (arith, nat_tests) in
+              let r_zero : r ≡ 0 = grind (arith, nat_tests) in
+              let place : 0 ≡ s * n + r = sym (ap (λ (v : ℕ × ℕ). v.0 * n + v.1) (λ i. (s_zero i, r_zero i)) ∙ omega arith) in
+              ap (λ k. row_at links k) place ∙ shown
           | false ↦ λ f.
-            let other : s * n + r ≢ 0 = λ e. not_first n s r is.some_node f e in
-            ap (λ m. row_at (slice_set links 0 []) (s * m + r)) nodes ∙ get_or-set_other links 0 (s * n + r) [] [] other ∙ shown
+              let other : s * n + r ≢ 0 = λ e. not_first n s r is.some_node f e in
+              ap (λ m. row_at (slice_set links 0 []) (s * m + r)) nodes ∙ get_or-set_other links 0 (s * n + r) [] [] other ∙ shown
         ] refl
 
     notes_same : (j : ℕ) → row_at (map (λ (s : Shown A M N). s.notes) ended) j ≡ notes_of step (node_at j) (events j)
     notes_same j = elim (cases_lt j n) [
-      inl h ↦ get_or-map (λ (s : Shown A M N). s.notes) ended j blank [] (subst (λ m. j < m) (sym count) h) ∙ notes_is j h
+      | inl h ↦ get_or-map (λ (s : Shown A M N). s.notes) ended j blank [] (subst (λ m. j < m) (sym count) h) ∙ notes_is j h
       | inr o ↦ get_or_past (map (λ (s : Shown A M N). s.notes) ended) j [] (subst (λ m. m ≤ j) (sym (length-map ended _ ∙ count)) o) ∙ sym (ap (notes_of step (node_at j)) (no_events j o))
     ]
 

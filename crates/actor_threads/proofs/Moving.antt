@@ -45,9 +45,9 @@ module _ {A M : Type 0} where
   quiet_off ready c node [] quiet = refl
   quiet_off ready c node (m ∷ ms) quiet =
       ⊎_elim (λ (z : last_clock ≤ 0). absurd (omega arith))
-          (λ (y : (last_clock ≤ 0) ⊎ ((is_input_of c.node c.port ≡ true) × (ready node m ≡ false))). ⊎_elim (λ (z : last_clock ≤ 0). absurd (omega arith))
-            (λ (z : (is_input_of c.node c.port ≡ true) × (ready node m ≡ false)). ap (λ b. if b then ready node m else true) z.0 ∙ z.1) y)
-          (quiet (record { clock = 0; message = m }) (begun ms) refl)
+      (λ (y : (last_clock ≤ 0) ⊎ ((is_input_of c.node c.port ≡ true) × (ready node m ≡ false))). ⊎_elim (λ (z : last_clock ≤ 0). absurd (omega arith))
+      (λ (z : (is_input_of c.node c.port ≡ true) × (ready node m ≡ false)). ap (λ b. if b then ready node m else true) z.0 ∙ z.1) y)
+      (quiet (record { clock = 0; message = m }) (begun ms) refl)
 
 module _ {A M N : Type 0} where
   -- the history of a worker
@@ -72,13 +72,13 @@ module _ {A M N : Type 0} where
   pub all_quiet : (ready : A → M → Bool) (w : Network A M N) (d : A) (worker : ℕ → Shown A M N) (names : ℕ → ℕ → _) → 0 < length w.nodes → ((j : ℕ) → j < length w.nodes → StartsAs w names j (worker j)) → ((j : ℕ) → j < length w.nodes → IsQuiet ready (worker j)) → (c : Choice) → is_enabled ready w c ≡ false
   all_quiet ready w d worker names some starts quiet c =
       elim (cases_lt c.node (length w.nodes)) [
-        inl h ↦ elim (cases_lt c.port (length w.nodes)) [
-          inl p ↦
-            let s = starts c.node h in
-            let off = quiet_off ready c (slice_index_or w.nodes c.node d) (waiting w c) (λ x rest e.
+        | inl h ↦ elim (cases_lt c.port (length w.nodes)) [
+          | inl p ↦
+              let s = starts c.node h in
+              let off = quiet_off ready c (slice_index_or w.nodes c.node d) (waiting w c) (λ x rest e.
               subst (λ (v : ℕ × ℕ × A). (last_clock ≤ v.0) ⊎ ((last_clock ≤ x.clock) ⊎ ((is_input_of v.1 c.port ≡ true) × (ready v.2 x.message ≡ false)))) (λ i. (s.clock i, s.number i, s.node d i))
-                (quiet c.node h c.port (subst (λ m. c.port < m) (sym s.count_ins) p) x rest (ap (λ (v : Incoming M). v.kept) (s.ins c.port p) ∙ e))) in
-            ap (λ o. takes_first ready c o (waiting w c)) (slice_get-get_or w.nodes c.node d h) ∙ off
+              (quiet c.node h c.port (subst (λ m. c.port < m) (sym s.count_ins) p) x rest (ap (λ (v : Incoming M). v.kept) (s.ins c.port p) ∙ e))) in
+              ap (λ o. takes_first ready c o (waiting w c)) (slice_get-get_or w.nodes c.node d h) ∙ off
           | inr far ↦ ap (λ l. takes_first ready c (slice_get w.nodes c.node) l) (no_wait w c some far) ∙ takes_none ready c (slice_get w.nodes c.node)
         ]
         | inr far ↦ ap (λ o. takes_first ready c o (waiting w c)) (slice_get_past w.nodes c.node far)

@@ -59,7 +59,7 @@ module _ {A M N : Type 0} (ready : A → M → Bool) (step : A → ℕ → M →
       let inside : j < length before = subst (λ m. j < m) (sym seats) h in
       let there : j < length after = subst (λ m. j < m) (sym same) inside in
       subst (λ (v : Shown A M N × Shown A M N). Ran ready step v.0 v.1) (λ i. (sym (get_or-map (λ (s : Seat A M N). s.worker) before j seat e inside) i, sym (get_or-map (λ (s : Seat A M N). s.worker) after j seat e there) i))
-          (ran j seat inside (all_at (λ (s : Seat A M N). s.done) after j seat done there))
+      (ran j seat inside (all_at (λ (s : Seat A M N). s.done) after j seat done there))
 
   pub can_close_seats : CanCloseAll (length w.nodes) (map (λ (s : Shown A M N). s.ins) (workers after)) (map (λ (s : Shown A M N). s.outs) (workers after))
   can_close_seats = can_close_all ready step w (workers before) (workers after) d is all each count

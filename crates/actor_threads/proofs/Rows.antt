@@ -68,12 +68,14 @@ module _ {M : Type 0} where
         take_rows = λ r h. ap (λ (l : List (End M)). length l) (grown r h).1.0 ∙ length-append (row_at takes r) _ ∙ ap (λ m. m + 1) (a.take_rows r h);
         fresh = λ s r hs hr. same_or s k (AreFresh (one_at (row_at (sends ++ row ∷ []) s) r) (one_at (row_at new r) s))
             (λ e. subst (λ q. AreFresh (one_at (row_at (sends ++ row ∷ []) q) r) (one_at (row_at new r) q)) (sym e)
-              (subst (λ (v : List (End M) × End M). AreFresh (one_at v.0 r) v.1) (λ i. (sym last i, sym (ap (λ (l : List (End M)). one_at l k) (grown r hr).1.0 ∙ last_of (row_at takes r) (grown r hr).0 no_end k (a.take_rows r hr)) i)) (grown r hr).1.1))
+            (subst (λ (v : List (End M) × End M). AreFresh (one_at v.0 r) v.1) (λ i. (sym last i, sym (ap (λ (l : List (End M)). one_at l k) (grown r hr).1.0 ∙ last_of (row_at takes r) (grown r hr).0 no_end k (a.take_rows r hr)) i)) (grown r hr).1.1))
             (λ other. let less : s < k = omega arith in
-              subst (λ (v : List (End M) × End M). AreFresh (one_at v.0 r) v.1)
-                (λ i. (sym (get_or_append_left sends (row ∷ []) [] s (subst (λ m. s < m) (sym a.senders) less)) i,
-                  sym (ap (λ (l : List (End M)). one_at l s) (grown r hr).1.0 ∙ get_or_append_left (row_at takes r) _ no_end s (subst (λ m. s < m) (sym (a.take_rows r hr)) less)) i))
-                (a.fresh s r less hr));
+            subst (λ (v : List (End M) × End M). AreFresh (one_at v.0 r) v.1)
+            (λ i. (
+              sym (get_or_append_left sends (row ∷ []) [] s (subst (λ m. s < m) (sym a.senders) less)) i,
+              sym (ap (λ (l : List (End M)). one_at l s) (grown r hr).1.0 ∙ get_or_append_left (row_at takes r) _ no_end s (subst (λ m. s < m) (sym (a.take_rows r hr)) less)) i,
+            ))
+            (a.fresh s r less hr));
       }
 
   -- no link closed yet
@@ -110,8 +112,8 @@ pub none_more : {V X : Type 0} (f : V → List X) (table : List V) (v : V) (k : 
 none_more f table v k count none empty r h =
     ap (λ (l : List (List _)). row_at l r) (map-append f table (v ∷ []))
     ∙ same_or r k (row_at (map f table ++ f v ∷ []) r ≡ [])
-        (λ e. subst (λ q. row_at (map f table ++ f v ∷ []) q ≡ []) (sym e) (last_of (map f table) (f v) [] k (length-map table f ∙ count) ∙ empty))
-        (λ other. let less : r < k = omega arith in get_or_append_left (map f table) (f v ∷ []) [] r (omega (arith, length-map table f, count, less)) ∙ none r less)
+    (λ e. subst (λ q. row_at (map f table ++ f v ∷ []) q ≡ []) (sym e) (last_of (map f table) (f v) [] k (length-map table f ∙ count) ∙ empty))
+    (λ other. let less : r < k = omega arith in get_or_append_left (map f table) (f v ∷ []) [] r (omega (arith, length-map table f, count, less)) ∙ none r less)
 
 module _ {M : Type 0} where
   -- the way in that closes with the first way out that is left

@@ -48,7 +48,7 @@ module _ {A M N : Type 0} (step : A → ℕ → M → Stepped A M N) where
       → put_between step n k r a (es ++ e ∷ []) ≡ put_between step n k r a es ++ put_for n k r e.clock (does step (node_after step a es) e).sends
   put_between-snoc n k r a es e =
       elim (reaches n k r) as (λ b. (if b then sent_to step r a (es ++ e ∷ []) else []) ≡ (if b then sent_to step r a es else []) ++ (if b then stamped e.clock (sent_for r (does step (node_after step a es) e).sends) else [])) [
-        true ↦ sent_to-snoc r a es e
+        | true ↦ sent_to-snoc r a es e
         | false ↦ refl
       ]
 

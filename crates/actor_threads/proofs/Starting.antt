@@ -33,7 +33,7 @@ module _ {M : Type 0} where
   waits_at k input [] p h = absurd (omega arith)
   waits_at k input (x ∷ xs) zero h = elim (k == 0) as (λ b. (if b then input else x) ≡ (if b && (0 == 0) then input else x)) [ true ↦ refl | false ↦ refl ]
   waits_at k input (x ∷ xs) (suc p) h = elim (k == 0) as (λ b. row_at xs p ≡ (if b && (suc p == 0) then input else row_at xs p)) [
-    true ↦ let other : (suc p == 0) ≡ false = grind (arith, nat_tests) in ap (λ b. if b then input else row_at xs p) (sym other)
+    | true ↦ let other : (suc p == 0) ≡ false = grind (arith, nat_tests) in ap (λ b. if b then input else row_at xs p) (sym other)
     | false ↦ refl
   ]
 
@@ -55,12 +55,12 @@ module _ {A M N : Type 0} (w : Network A M N) (n k : ℕ) (sends takes : List (L
         ins = λ p hp.
             let inside : p < n = subst (λ m. p < m) count hp in
             let waits_here : row_at (waits k items kept) p ≡ waiting w (at k p) =
-                waits_at k items kept p (subst (λ m. p < m) (sym many) inside)
-                ∙ elim ((k == 0) && (p == 0)) as (λ b. (k == 0) && (p == 0) ≡ b → (if b then items else row_at kept p) ≡ (if b then w.input else row_at w.links (p * length w.nodes + k))) [
-                  true ↦ λ t. input (grind (arith, nat_tests))
-                  | false ↦ λ f. lists p inside ∙ ap (λ m. row_at w.links (p * m + k)) (sym count)
-                ] refl
-                ∙ sym (waiting_is w p k hp (subst (λ m. k < m) (sym count) h)) in
+            waits_at k items kept p (subst (λ m. p < m) (sym many) inside)
+            ∙ elim ((k == 0) && (p == 0)) as (λ b. (k == 0) && (p == 0) ≡ b → (if b then items else row_at kept p) ≡ (if b then w.input else row_at w.links (p * length w.nodes + k))) [
+              | true ↦ λ t. input (grind (arith, nat_tests))
+              | false ↦ λ f. lists p inside ∙ ap (λ m. row_at w.links (p * m + k)) (sym count)
+            ] refl
+            ∙ sym (waiting_is w p k hp (subst (λ m. k < m) (sym count) h)) in
             in_at-all_in (row_at takes k) (waits k items kept) p lengths (subst (λ m. p < m) (sym (o.take_rows k h)) inside)
             ∙ λ i. record { link = sym (o.fresh p k inside h).link i; done = (o.fresh p k inside h).taken i; kept = begun (waits_here i) };
         outs = λ r hr.

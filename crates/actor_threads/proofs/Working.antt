@@ -55,7 +55,7 @@ module _ {A M N : Type 0} (ready : A → M → Bool) where
   pub still_quiet : (old now flushed new : Shown A M N) (idle : ℕ) → (idle ≡ 0 → length now.steps ≡ length old.steps → now ≡ old) → (length now.steps ≡ length old.steps → 0 < idle → IsQuiet ready old)
       → flushed ≡ now → Idled flushed new → IsQuiet ready flushed → length new.steps ≡ length old.steps → IsQuiet ready old
   still_quiet old now flushed new idle fresh quiet is i q same =
-      let none : length now.steps ≡ length old.steps = sym (ap (λ (v : Shown A M N). length v.steps) (i.rest)  ∙ ap (λ (v : Shown A M N). length v.steps) is) ∙ same in
+      let none : length now.steps ≡ length old.steps = sym (ap (λ (v : Shown A M N). length v.steps) (i.rest) ∙ ap (λ (v : Shown A M N). length v.steps) is) ∙ same in
       ⊎_elim (λ (z : idle ≡ 0). subst (λ (v : Shown A M N). IsQuiet ready v) (is ∙ fresh z none) q) (λ (p : 0 < idle). quiet none p) (zero_or idle)
 
 module _ {A M N : Type 0} (ready : A → M → Bool) (step : A → ℕ → M → Stepped A M N) where
@@ -89,7 +89,7 @@ module _ {A M N : Type 0} (ready : A → M → Bool) (step : A → ℕ → M →
     count_outs = ap (λ (v : Shown A M N). length v.outs) i.rest ∙ w.count_outs;
     taken = λ p h.
         let d : DrawsAt (is_input_of old.number p) (in_at mid.ins p) (in_at new.ins p) [] =
-            subst (λ k. DrawsAt (is_input_of k p) (in_at mid.ins p) (in_at new.ins p) []) w.number (i.taken p (subst (λ k. p < k) (sym w.count_ins) h)) in
+        subst (λ k. DrawsAt (is_input_of k p) (in_at mid.ins p) (in_at new.ins p) []) w.number (i.taken p (subst (λ k. p < k) (sym w.count_ins) h)) in
         subst (λ l. DrawsAt (is_input_of old.number p) (in_at old.ins p) (in_at new.ins p) l) (append-nil _) (drawsAt_then (w.taken p h) d);
     sent = λ r h. subst (λ (l : List (Outgoing M)). Sends (out_at old.outs r) (out_at l r) (put_between step (length old.outs) old.number r old.node w.events)) (sym (ap (λ (v : Shown A M N). v.outs) i.rest)) (w.sent r h);
     ports = w.ports;
@@ -118,16 +118,16 @@ module _ {A M N : Type 0} (ready : A → M → Bool) (step : A → ℕ → M →
     taken_is : (q : ℕ) → q < length old.ins → DrawsAt (is_input_of old.number q) (in_at old.ins q) (in_at new.ins q) (taken_at q (w.events ++ e ∷ []))
     taken_is q h =
         let d : DrawsAt (is_input_of old.number q) (in_at mid.ins q) (in_at new.ins q) (if p == q then x ∷ [] else []) =
-            subst (λ (v : ℕ × List (Incoming M)). DrawsAt (is_input_of v.0 q) (in_at mid.ins q) (in_at v.1 q) (if p == q then x ∷ [] else [])) (λ i. (w.number i, sym (ap (λ (v : Shown A M N). v.ins) a.rest) i))
-                (f.taken q (subst (λ k. q < k) (sym w.count_ins) h)) in
+        subst (λ (v : ℕ × List (Incoming M)). DrawsAt (is_input_of v.0 q) (in_at mid.ins q) (in_at v.1 q) (if p == q then x ∷ [] else [])) (λ i. (w.number i, sym (ap (λ (v : Shown A M N). v.ins) a.rest) i))
+        (f.taken q (subst (λ k. q < k) (sym w.count_ins) h)) in
         subst (λ l. DrawsAt (is_input_of old.number q) (in_at old.ins q) (in_at new.ins q) l) (sym (taken_at-snoc q w.events e)) (drawsAt_then (w.taken q h) d)
 
     sent_is : (r : ℕ) → r < length old.outs → Sends (out_at old.outs r) (out_at new.outs r) (put_between step (length old.outs) old.number r old.node (w.events ++ e ∷ []))
     sent_is r h =
         let count : length found.outs ≡ length old.outs = ap (λ (l : List (Outgoing M)). length l) outs_is ∙ w.count_outs in
         let s : Sends (out_at mid.outs r) (out_at new.outs r) (put_for (length old.outs) old.number r (tick found.clock x) (step (node_after step old.node w.events) p x.message).sends) =
-            subst (λ (v : List (Outgoing M) × ℕ × ℕ × A). Sends (out_at v.0 r) (out_at new.outs r) (put_for v.1 v.2 r (tick found.clock x) (step v.3 p x.message).sends)) (λ i. (outs_is i, count i, number_is i, node_is i))
-                (a.sent r (subst (λ k. r < k) (sym count) h)) in
+        subst (λ (v : List (Outgoing M) × ℕ × ℕ × A). Sends (out_at v.0 r) (out_at new.outs r) (put_for v.1 v.2 r (tick found.clock x) (step v.3 p x.message).sends)) (λ i. (outs_is i, count i, number_is i, node_is i))
+        (a.sent r (subst (λ k. r < k) (sym count) h)) in
         subst (λ l. Sends (out_at old.outs r) (out_at new.outs r) l) (sym (put_between-snoc step (length old.outs) old.number r old.node w.events e)) (sends_then (w.sent r h) s)
 
     pub more : Worked ready step old new

@@ -37,7 +37,10 @@ pub fn open_all<M: Drop>(alloc: Global, nodes: usize) -> Result<Ends<M>, NoMemor
 }
 
 // New links from one sender to all receivers.
-fn open_row<M: Drop>(alloc: Global, takes: &mut Vec<Vec<TakeEnd<M>>>) -> Result<Vec<SendEnd<M>>, NoMemory>
+fn open_row<M: Drop>(
+    alloc: Global,
+    takes: &mut Vec<Vec<TakeEnd<M>>>,
+) -> Result<Vec<SendEnd<M>>, NoMemory>
     ensures { IfOk result (λ row. RowOpened (length takes.old.items) row.items (map (λ v. v.items) takes.old.items) (map (λ v. v.items) takes.new.items)) }
 {
     let mut row = Vec::with_capacity(alloc, takes.len())?;
@@ -71,7 +74,11 @@ pub fn close_row<M: Drop, R: Wait>(
 }
 
 // Closes one link: what its receiver keeps, what was left on it, and what its sender got back.
-fn close_way<M: Drop, R: Wait>(rt: &R, way_in: WayIn<M>, way_out: WayOut<M>) -> Result<Sequence<M>, NoMemory>
+fn close_way<M: Drop, R: Wait>(
+    rt: &R,
+    way_in: WayIn<M>,
+    way_out: WayOut<M>,
+) -> Result<Sequence<M>, NoMemory>
     requires { way_out.link ≡ way_in.link }
     ensures { IfOk result (λ list. Closed way_in way_out list) }
 {

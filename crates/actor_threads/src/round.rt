@@ -18,10 +18,9 @@ use fifo_link::{SendEnd, TakeEnd};
 use flow_filter::{NoMemory, Sequence};
 use std::alloc::{AllocError, Global};
 use std::collections::VecDeque;
-use std::mem;
 use std::sync::Wait;
-use std::thread;
 use std::thread::Threads;
+use std::{mem, thread};
 
 // A worker, and whether its round came to its end.
 #[derive(Drop)]
@@ -39,7 +38,11 @@ impl<A: Actor> Seat<A> {
 }
 
 // All workers run, each in a thread of its own where threads can be made.
-fn run_all<R: Threads + Wait + Sync, A: Actor + Send, G: Gate>(rt: &R, seats: &mut [Seat<A>], gate: &G)
+fn run_all<R: Threads + Wait + Sync, A: Actor + Send, G: Gate>(
+    rt: &R,
+    seats: &mut [Seat<A>],
+    gate: &G,
+)
 where
     A::Message: Send,
     A::Note: Send,
@@ -52,7 +55,10 @@ where
 }
 
 // The workers of all nodes, none of which has done a step.
-pub(crate) fn seat_all<A: Actor>(alloc: Global, world: World<A>) -> Result<(Vec<Seat<A>>, Vec<A::Note>), NoMemory>
+pub(crate) fn seat_all<A: Actor>(
+    alloc: Global,
+    world: World<A>,
+) -> Result<(Vec<Seat<A>>, Vec<A::Note>), NoMemory>
     ensures seats { IfOk result (λ s. AllStart world (map (λ x. x.worker) s.0.items)) }
     ensures log { IfOk result (λ s. s.1.items ≡ world.log) }
     ensures world { IsWorld world }
@@ -229,7 +235,11 @@ fn close_all<M: Drop, R: Wait>(
 }
 
 // The notes of all nodes, in the order of the choices.
-fn deal_all<N: Drop>(choices: &[Choice], notes: &mut Vec<NoteQueue<N>>, log: &mut Vec<N>) -> Result<(), NoMemory>
+fn deal_all<N: Drop>(
+    choices: &[Choice],
+    notes: &mut Vec<NoteQueue<N>>,
+    log: &mut Vec<N>,
+) -> Result<(), NoMemory>
     ensures { OnOk result (log.new.items ≡ log.old.items ++ dealt (λ j. row_at notes.old.items j) choices.now) }
 {
     for choice in choices {
@@ -239,7 +249,11 @@ fn deal_all<N: Drop>(choices: &[Choice], notes: &mut Vec<NoteQueue<N>>, log: &mu
 }
 
 // The notes of one step. They are the next of its node's.
-fn deal_one<N: Drop>(choice: Choice, notes: &mut Vec<NoteQueue<N>>, log: &mut Vec<N>) -> Result<(), NoMemory>
+fn deal_one<N: Drop>(
+    choice: Choice,
+    notes: &mut Vec<NoteQueue<N>>,
+    log: &mut Vec<N>,
+) -> Result<(), NoMemory>
     ensures { OnOk result ((cs : List Choice) → log.new.items ++ dealt (λ j. row_at notes.new.items j) cs ≡ log.old.items ++ dealt (λ j. row_at notes.old.items j) (choice ∷ cs)) }
 {
     let node = choice.node as usize;

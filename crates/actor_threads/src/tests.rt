@@ -18,6 +18,7 @@ struct Chatter {
 
 impl Actor for Chatter {
     type Message = u8;
+
     type Note = u8;
 
     ghost stepped = { λ c port m. record { node = c; sends = (if m == 0 then [] else (c.first, m - 1) ∷ (c.second, m - 1) ∷ []); notes = m ∷ [] } };
@@ -120,7 +121,10 @@ fn two_workers_are_in_a_pass_at_once(rt: HostRuntime) -> Result<(), Fail> {
     let world = chat(rt.alloc(), 3, 64, 1)?;
     let (_end, choices) = run_threads(&rt, rt.alloc(), world, &gate)?;
     assert_eq!(rt; gate.met.load(Ordering::SeqCst), 1);
-    assert_eq!(rt; gate.passes.load(Ordering::SeqCst), choices.items().len() as u64);
+    assert_eq!(rt;
+        gate.passes.load(Ordering::SeqCst),
+        choices.items().len() as u64
+    );
     Ok(())
 }
 

@@ -109,7 +109,10 @@ impl<M: Drop> WayIn<M> {
 }
 
 // What is held stands before what is kept.
-fn with_held<M: Drop>(held: Option<Stamped<M>>, mut kept: VecDeque<M>) -> Result<VecDeque<M>, NoMemory>
+fn with_held<M: Drop>(
+    held: Option<Stamped<M>>,
+    mut kept: VecDeque<M>,
+) -> Result<VecDeque<M>, NoMemory>
     ensures { IfOk result (λ all. all.items ≡ messages (option_to_list held ++ begun kept.items)) }
 {
     let Some(first) = held else {

@@ -236,7 +236,11 @@ impl<A: Actor> Worker<A> {
         ensures port { result < length self.old.ins }
         ensures same { self.new ≡ self.old }
     {
-        let port = if self.turn < self.ins.len() { self.turn } else { 0 };
+        let port = if self.turn < self.ins.len() {
+            self.turn
+        } else {
+            0
+        };
         self.turn = port + 1;
         port
     }

@@ -5,7 +5,7 @@ use Rattle.actor_threads.proofs.links.open_all.Given as goal
 abbrev pub invariant-loop : goal.invariant-loop
 invariant-loop g l = record {
   count : length l.takes.items ≡ l.counter;
-  none : (r : ℕ) → r < l.counter → row_at (map (λ v. v.items) l.takes.items) r ≡ []
+  none : (r : ℕ) → r < l.counter → row_at (map (λ v. v.items) l.takes.items) r ≡ [];
 }
 
 abbrev pub invariant-loop-2 : goal.invariant-loop-2

@@ -6,5 +6,5 @@ abbrev pub invariant-loop-receiver : goal.invariant-loop-receiver
 invariant-loop-receiver g l = record {
   opened : RowOpened l.receiver l.row.items (map (λ v. v.items) l.fn.takes.items) (map (λ v. v.items) l.takes.items);
   end : l.receiver-end ≡ length l.fn.takes.items;
-  rows : length l.takes.items ≡ length l.fn.takes.items
+  rows : length l.takes.items ≡ length l.fn.takes.items;
 }

@@ -9,5 +9,5 @@ invariant-loop g l = record {
   outs : l.outs.items ≡ drop l.counter l.fn.outs.items;
   end : l.end ≡ length l.fn.outs.items;
   rest : (r : ℕ) → r < length l.fn.ins.items → row_at (map (λ v. v.items) l.ins.items) r ≡ drop l.counter (row_at (map (λ v. v.items) l.fn.ins.items) r);
-  closed : AllClosed l.counter (length l.fn.ins.items) (map (λ v. v.items) l.fn.ins.items) (map (λ v. v.items) l.fn.outs.items) l.links.items
+  closed : AllClosed l.counter (length l.fn.ins.items) (map (λ v. v.items) l.fn.ins.items) (map (λ v. v.items) l.fn.outs.items) l.links.items;
 }

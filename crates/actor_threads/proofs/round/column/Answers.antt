@@ -17,5 +17,5 @@ loop-port-preserved g c =
       lists = rw c.in_ok-push.ensures.items (lists_more (λ v. v.items) _ _ (λ p. row_at c.args.links.now.items (p * c.args.count + c.args.node)) _ inv.count inv.lists read);
       ahead = λ p above hp. other_row _ _ _ c.loop-port.port _ _ c.place-at.ensures.value c.requires.count.0 p (λ e. omega (arith, e)) ∙ inv.ahead p (omega arith) hp;
       others = λ p j hj other. other_column _ _ _ c.loop-port.port _ _ c.place-at.ensures.value c.requires.count.0 p j hj other ∙ inv.others p j hj other;
-      square = length-set c.loop-port.links.items _ _ ∙ inv.square
+      square = length-set c.loop-port.links.items _ _ ∙ inv.square;
     }

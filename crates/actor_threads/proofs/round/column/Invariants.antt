@@ -8,5 +8,5 @@ invariant-loop-port g l = record {
   lists : (p : ℕ) → p < l.port → row_at (map (λ v. v.items) l.kept.items) p ≡ row_at l.fn.links.items (p * l.count + l.node);
   ahead : (p : ℕ) → l.port ≤ p → p < l.count → row_at l.links.items (p * l.count + l.node) ≡ row_at l.fn.links.items (p * l.count + l.node);
   others : (p j : ℕ) → j < l.count → j ≢ l.node → row_at l.links.items (p * l.count + j) ≡ row_at l.fn.links.items (p * l.count + j);
-  square : length l.links.items ≡ length l.fn.links.items
+  square : length l.links.items ≡ length l.fn.links.items;
 }

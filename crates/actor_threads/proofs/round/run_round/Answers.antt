@@ -18,7 +18,7 @@ gather-requires g c =
     record {
       some = (subst (λ n. 0 < n) (sym many) world.some_node, subst (λ n. n < 256) (sym many) world.few_nodes);
       close = reclose (sym many) (sym (seen (λ (x : Shown _ _ _). x.ins) _ after _ c.in_ok-field.ensures.ins back)) (sym (seen (λ (x : Shown _ _ _). x.outs) _ after _ c.in_ok-field.ensures.outs back))
-          (can_close_seats g.A.Actor.is_ready g.A.Actor.stepped c.args.world world before after c.in_ok-seats.ensures.seats ran (done_after _ after c.in_ok-field.ensures.done back) same)
+          (can_close_seats g.A.Actor.is_ready g.A.Actor.stepped c.args.world world before after c.in_ok-seats.ensures.seats ran (done_after _ after c.in_ok-field.ensures.done back) same);
     }
 
 pub returns : goal.returns
@@ -35,10 +35,10 @@ returns g c =
     let ran = ran_from ready step _ before after c.as_mut_slice.ensures.value c.run_all.ensures in
     let done = done_after _ after c.in_ok-field.ensures.done back in
     let left = regather (seen (λ (x : Shown _ _ _). x.node) _ after _ c.in_ok-field.ensures.nodes back) (seen history_of _ after _ c.in_ok-field.ensures.histories back)
-        (seen (λ (x : Shown _ _ _). x.notes) _ after _ c.in_ok-field.ensures.notes back) (seen (λ (x : Shown _ _ _). x.ins) _ after _ c.in_ok-field.ensures.ins back)
-        (seen (λ (x : Shown _ _ _). x.outs) _ after _ c.in_ok-field.ensures.outs back) c.in_ok-seats.ensures.log c.in_ok-left.ensures in
+    (seen (λ (x : Shown _ _ _). x.notes) _ after _ c.in_ok-field.ensures.notes back) (seen (λ (x : Shown _ _ _). x.ins) _ after _ c.in_ok-field.ensures.ins back)
+    (seen (λ (x : Shown _ _ _). x.outs) _ after _ c.in_ok-field.ensures.outs back) c.in_ok-seats.ensures.log c.in_ok-left.ensures in
     let run = is_run ready step w world before after all ran done same c.in_ok-left.left c.in_ok-left.choices left in
     record {
       run = (run, is_replay ready step w world before after all ran done same c.in_ok-left.left c.in_ok-left.choices left);
-      moves = (none_enabled ready step w world before after all ran done same c.in_ok-left.left c.in_ok-left.choices left, no_choice ready step w c.in_ok-left.choices run)
+      moves = (none_enabled ready step w world before after all ran done same c.in_ok-left.left c.in_ok-left.choices left, no_choice ready step w c.in_ok-left.choices run);
     }

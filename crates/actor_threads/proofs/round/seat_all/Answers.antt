@@ -46,10 +46,10 @@ loop-number-preserved g c =
     let names = name_of (map (λ v. v.items) c.from_vec-sends.result.items) in
     let lists = λ (p : ℕ) (hp : p < n). subst (λ m. p < m → row_at with.kept p ≡ row_at c.loop-number.links.items (p * m + k)) wide (with.lists p) hp ∙ inv.links p k (omega arith) hn in
     let opened_is = with.is ∙ ap (λ l. opened k c.in-Some.node (waits k c.replace-items.result.items with.kept) l c.in-Some-pop_front.sends.items) (sym takes)
-        ∙ ap (λ l. opened k c.in-Some.node (waits k c.replace-items.result.items with.kept) (row_at (map (λ v. v.items) c.from_vec-takes.result.items) k) l) (sym sends) in
+    ∙ ap (λ l. opened k c.in-Some.node (waits k c.replace-items.result.items with.kept) (row_at (map (λ v. v.items) c.from_vec-takes.result.items) k) l) (sym sends) in
     let new = subst (λ v. StartsAs w names k v) (sym opened_is)
-        (starts_as w n k (map (λ v. v.items) c.from_vec-sends.result.items) (map (λ v. v.items) c.from_vec-takes.result.items) (sym inv.many) hn inv.opened c.in-Some.node _ c.replace-items.result.items with.kept node
-          (λ z. ap (λ v. v.items) c.replace-items.ensures.value ∙ inv.input z) (with.count ∙ wide) lists) in
+    (starts_as w n k (map (λ v. v.items) c.from_vec-sends.result.items) (map (λ v. v.items) c.from_vec-takes.result.items) (sym inv.many) hn inv.opened c.in-Some.node _ c.replace-items.result.items with.kept node
+    (λ z. ap (λ v. v.items) c.replace-items.ensures.value ∙ inv.input z) (with.count ∙ wide) lists) in
     record {
       within = omega (arith, hn);
       many = inv.many;
@@ -65,7 +65,7 @@ loop-number-preserved g c =
       input = λ z. absurd (omega arith);
       later = λ _. ap (λ v. v.items) c.replace-items.ensures.after ∙ c.new.ensures.items;
       started = λ j d h. subst (λ l. StartsAs w names j (slice_index_or l j d)) (sym (ap (map (λ s. s.worker)) c.in_ok-push.ensures.items ∙ map-append (λ s. s.worker) c.loop-number.seats.items _))
-          (started_more w names (map (λ s. s.worker) c.loop-number.seats.items) k c.in_ok-worker.worker (length-map c.loop-number.seats.items _ ∙ inv.seats) inv.started new j d h)
+          (started_more w names (map (λ s. s.worker) c.loop-number.seats.items) k c.in_ok-worker.worker (length-map c.loop-number.seats.items _ ∙ inv.seats) inv.started new j d h);
     }
 
 pub returns-clause-seats : goal.returns-clause-seats
@@ -75,5 +75,5 @@ returns-clause-seats g c =
     record {
       names = name_of (map (λ v. v.items) c.from_vec-sends.result.items);
       count = length-map c.loop-number.seats.items _ ∙ inv.seats ∙ all;
-      each = λ j d h. inv.started j d (subst (λ m. j < m) (sym all) h)
+      each = λ j d h. inv.started j d (subst (λ m. j < m) (sym all) h);
     }

@@ -18,5 +18,5 @@ invariant-loop-number g l = record {
   links : (p j : ℕ) → l.number ≤ j → j < l.count → row_at l.links.items (p * l.count + j) ≡ row_at l.fn.world.links (p * l.count + j);
   input : l.number ≡ 0 → l.input.items ≡ l.fn.world.input;
   later : 0 < l.number → l.input.items ≡ [];
-  started : (j : ℕ) (d : _) → j < l.number → StartsAs l.fn.world (name_of (map (λ v. v.items) l.initial.sends.items)) j (slice_index_or (map (λ s. s.worker) l.seats.items) j d)
+  started : (j : ℕ) (d : _) → j < l.number → StartsAs l.fn.world (name_of (map (λ v. v.items) l.initial.sends.items)) j (slice_index_or (map (λ s. s.worker) l.seats.items) j d);
 }

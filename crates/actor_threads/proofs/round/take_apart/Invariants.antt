@@ -9,7 +9,7 @@ invariant-loop-seat g l = record {
   histories : l.field.histories.items ++ map (λ s. record { node = s.worker.number; steps = s.worker.steps }) l.seats.items ≡ map (λ s. record { node = s.worker.number; steps = s.worker.steps }) l.fn.seats.items;
   notes : l.field.notes.items ++ map (λ s. s.worker.notes) l.seats.items ≡ map (λ s. s.worker.notes) l.fn.seats.items;
   ins : map (λ v. v.items) l.field.ins.items ++ map (λ s. s.worker.ins) l.seats.items ≡ map (λ s. s.worker.ins) l.fn.seats.items;
-  outs : map (λ v. v.items) l.field.outs.items ++ map (λ s. s.worker.outs) l.seats.items ≡ map (λ s. s.worker.outs) l.fn.seats.items
+  outs : map (λ v. v.items) l.field.outs.items ++ map (λ s. s.worker.outs) l.seats.items ≡ map (λ s. s.worker.outs) l.fn.seats.items;
 }
 
 abbrev pub decreases-loop-seat : goal.decreases-loop-seat

@@ -5,7 +5,7 @@ use Rattle.actor_threads.proofs.worker.ways_in.Given as goal
 abbrev pub invariant-loop-take : goal.invariant-loop-take
 invariant-loop-take g l = record {
   count : length l.kept.items ≡ length l.takes.items;
-  ways : l.ways.items ++ all_in l.takes.items (map (λ v. v.items) l.kept.items) ≡ all_in l.fn.takes.items (map (λ v. v.items) l.fn.kept.items)
+  ways : l.ways.items ++ all_in l.takes.items (map (λ v. v.items) l.kept.items) ≡ all_in l.fn.takes.items (map (λ v. v.items) l.fn.kept.items);
 }
 
 abbrev pub decreases-loop-take : goal.decreases-loop-take

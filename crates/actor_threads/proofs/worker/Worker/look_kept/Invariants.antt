@@ -7,5 +7,5 @@ invariant-loop-port g l = record {
   same : l.self ≡ l.fn.self;
   few : length l.fn.self.ins < 256;
   end : l.port-end ≡ length l.fn.self.ins;
-  quiet : (p : ℕ) → p < l.port → IsQuietAt g.A.Actor.is_ready l.fn.self p
+  quiet : (p : ℕ) → p < l.port → IsQuietAt g.A.Actor.is_ready l.fn.self p;
 }

@@ -7,7 +7,7 @@ pub loop-init : goal.loop-init
 loop-init g c = record {
   idled = no_look g.A.Actor.is_ready _;
   few = subst (λ v. length v.ins < 256) c.self.view_is c.self.invariant.0;
-  end = omega (arith, c.len-end.ensures, c.self.inside.ins.ok.0, ap (λ v. length v.ins) c.self.view_is)
+  end = omega (arith, c.len-end.ensures, c.self.inside.ins.ok.0, ap (λ v. length v.ins) c.self.view_is);
 }
 
 pub returns-in-Some : goal.returns-in-Some
@@ -17,5 +17,5 @@ pub loop-preserved : goal.loop-preserved
 loop-preserved g c = record {
   idled = idled_then g.A.Actor.is_ready _ _ _ c.loop.invariant.idled (subst (λ v. Idled v c.next_taken.new.self) c.next_turn-port.ensures.same c.in_default.ensures);
   few = c.loop.invariant.few;
-  end = c.loop.invariant.end
+  end = c.loop.invariant.end;
 }

@@ -6,5 +6,5 @@ abbrev pub invariant-loop : goal.invariant-loop
 invariant-loop g l = record {
   idled : Idled l.fn.self l.self;
   few : length l.fn.self.ins < 256;
-  end : l.end ≡ length l.fn.self.ins
+  end : l.end ≡ length l.fn.self.ins;
 }

@@ -9,7 +9,7 @@ loop-init g c = record {
   worked = start g.A.Actor.is_ready g.A.Actor.stepped _;
   longer = omega arith;
   fresh = λ _ _. refl;
-  quiet = λ _ z. absurd (omega arith)
+  quiet = λ _ z. absurd (omega arith);
 }
 
 pub loop-preserved-in-Some-look : goal.loop-preserved-in-Some-look
@@ -23,7 +23,7 @@ loop-preserved-in-Some-look g c =
       worked = more g.A.Actor.is_ready g.A.Actor.stepped _ _ _ _ _ _ worked c.in-Some-look.ensures.found c.in_ok-step-in-Some-look.ensures;
       longer = omega (arith, more_steps);
       fresh = λ _ none. absurd (omega (arith, more_steps, none));
-      quiet = λ _ z. absurd (omega arith)
+      quiet = λ _ z. absurd (omega arith);
     }
 
 pub loop-preserved : goal.loop-preserved
@@ -36,11 +36,11 @@ loop-preserved g c =
       worked = idle g.A.Actor.is_ready g.A.Actor.stepped _ _ _ worked idled;
       longer = omega (arith, same, c.loop.invariant.longer);
       fresh = λ z. absurd (omega arith);
-      quiet = λ none _. still_quiet g.A.Actor.is_ready _ _ _ _ c.loop.idle c.loop.invariant.fresh c.loop.invariant.quiet c.flush.ensures idled c.in-None-look.ensures.quiet none
+      quiet = λ none _. still_quiet g.A.Actor.is_ready _ _ _ _ c.loop.idle c.loop.invariant.fresh c.loop.invariant.quiet c.flush.ensures idled c.in-None-look.ensures.quiet none;
     }
 
 pub returns-then-idle-ge-IDLE_LOOKS : goal.returns-then-idle-ge-IDLE_LOOKS
 returns-then-idle-ge-IDLE_LOOKS g c = record {
   worked = idle g.A.Actor.is_ready g.A.Actor.stepped _ _ _ (subst (λ v. Worked g.A.Actor.is_ready g.A.Actor.stepped c.args.self.now v) (sym c.flush.ensures) c.loop.invariant.worked) c.in-None-look.ensures.found;
-  moves = λ none. still_quiet g.A.Actor.is_ready _ _ _ _ c.loop.idle c.loop.invariant.fresh c.loop.invariant.quiet c.flush.ensures c.in-None-look.ensures.found c.in-None-look.ensures.quiet none
+  moves = λ none. still_quiet g.A.Actor.is_ready _ _ _ _ c.loop.idle c.loop.invariant.fresh c.loop.invariant.quiet c.flush.ensures c.in-None-look.ensures.found c.in-None-look.ensures.quiet none;
 }

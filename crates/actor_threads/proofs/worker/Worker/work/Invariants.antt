@@ -8,5 +8,5 @@ invariant-loop g l = record {
   worked : Worked g.A.Actor.is_ready g.A.Actor.stepped l.fn.self l.self;
   longer : length l.fn.self.steps ≤ length l.self.steps;
   fresh : l.idle ≡ 0 → length l.self.steps ≡ length l.fn.self.steps → l.self ≡ l.fn.self;
-  quiet : length l.self.steps ≡ length l.fn.self.steps → 0 < l.idle → IsQuiet g.A.Actor.is_ready l.fn.self
+  quiet : length l.self.steps ≡ length l.fn.self.steps → 0 < l.idle → IsQuiet g.A.Actor.is_ready l.fn.self;
 }
