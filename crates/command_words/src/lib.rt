@@ -3,5 +3,8 @@
 
 pub mod fault;
 pub mod grammar;
+pub mod request;
+pub mod values;
 
 pub use fault::WordsFault;
+pub use request::{Checking, Instances, Request, Schedule, Simulation};
