@@ -1,5 +1,5 @@
 -- What the words of a command line ask for. This project's own grammar; numbers are decimal without leading zeros.
-use Rattle.std.specs.Prelude.{ℕ, ◌+◌, Bool, true, false, not, ◌&&◌, ◌||◌, ◌==◌, nat_le, if◌then◌else◌, List, [], ◌∷◌, length, map, Option, None, Some, is_some, is_none, option_map, option_and_then, codes}
+use Rattle.std.specs.Prelude.{ℕ, Bool, true, false, not, ◌&&◌, ◌==◌, nat_le, if◌then◌else◌, List, [], ◌∷◌, length, Option, None, Some, is_some, is_none, option_map, option_and_then, codes}
 use Rattle.std.specs.List.{slice_split}
 use Rattle.std.specs.Str.{bytes_eq}
 use Rattle.clap.specs.Words.{Text}
@@ -124,20 +124,23 @@ file_if (Some text) = file_of text >>= λ name. Some (Some name)
 -- the values of `sim`
 unfoldable pub sim_values : Given → Option SimAsked
 sim_values g = do
-  function ← g.function
-  kind ← function_of function
-  list ← g.instances
-  instances ← instances_of list
-  prefix ← g.inside
-  inside ← inside_of prefix
+  kind ← g.function >>= function_of
+  instances ← g.instances >>= instances_of
+  inside ← g.inside >>= inside_of
   outside ← outside_of kind inside g.outside
   window ← window_of g.window
   schedule ← schedule_of g.schedule
-  trace ← g.trace
-  file ← file_of trace
+  trace ← g.trace >>= file_of
   script ← file_if g.script
   Some (record {
-    kind = kind; instances = instances; inside = inside; outside = outside; window = window; schedule = schedule; trace = file; script = script;
+    kind = kind;
+    instances = instances;
+    inside = inside;
+    outside = outside;
+    window = window;
+    schedule = schedule;
+    trace = trace;
+    script = script;
   })
 
 -- the list is one name, without a limit
@@ -167,13 +170,10 @@ is_built g =
 -- the values of `check`
 unfoldable pub check_values : Given → Option CheckAsked
 check_values g = do
-  function ← g.function
-  kind ← function_of function
-  list ← g.instances
-  instances ← instances_of list
-  script ← g.script
-  file ← file_of script
-  Some (record { kind = kind; instances = instances; script = file })
+  kind ← g.function >>= function_of
+  instances ← g.instances >>= instances_of
+  script ← g.script >>= file_of
+  Some (record { kind = kind; instances = instances; script = script })
 
 abbrev pub sim_of : List Text → Option Asked
 sim_of words = read_words sim_app words >>= λ g. only (is_built g) (sim_values g >>= λ s. Some (asks_sim s))

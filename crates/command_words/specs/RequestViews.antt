@@ -1,6 +1,5 @@
 -- How contracts see what the words ask for.
-use Rattle.std.specs.Prelude.{ℕ, Option, option_map}
-use Rattle.flow_filter.specs.declared.site.Site.{Site}
+use Rattle.std.specs.Prelude.{option_map}
 use Rattle.flow_filter.specs.Reading.{block}
 use Rattle.command_words.specs.declared.request.Instances as code
 use Rattle.command_words.specs.declared.request.Simulation.{Simulation}

@@ -1,4 +1,4 @@
-ghost use Rattle.std.specs.Prelude.{◌≡◌, if◌then◌else◌, Some, None, ◌≤◌, ◌==◌, ◌&&◌, ◌-◌, not, IfOk, IfSome, option_map, is_some, is_none, map, length};
+ghost use Rattle.std.specs.Prelude.{◌≡◌, if◌then◌else◌, Some, None, ◌≤◌, ◌==◌, ◌&&◌, ◌-◌, not, IfOk, IfSome, option_map, option_and_then, is_some, is_none, map, length};
 ghost use Rattle.std.specs.List.{slice_split};
 ghost use Rattle.flow_filter.specs.Block.{in_block};
 ghost use Rattle.flow_filter.specs.Name.{is_name};
@@ -6,14 +6,12 @@ ghost use Rattle.flow_filter.specs.Reading.{block, cut, number_of};
 ghost use Rattle.command_words.specs.Plan.{function_of, instance_of, with_limit, all_instances, instances_of, inside_of, outside_of, window_of, schedule_of, file_of, file_if};
 ghost use Rattle.command_words.specs.RequestViews.{instances_view};
 
-use std::alloc::Global;
-
+use crate::request::{Instances, Schedule};
 use flow_filter::name::has_twice;
 use flow_filter::reading::{address, cut, first_piece, number, prefix};
 use flow_filter::{Name, NoMemory, Prefix, Site};
 use nf_function::Kind;
-
-use crate::request::{Instances, Schedule};
+use std::alloc::Global;
 
 /// The limit of an instance that names none, and the greatest.
 const MOST_RECORDS: u32 = 1_000_000;
@@ -26,10 +24,10 @@ const WINDOW: u32 = 256;
 
 /// The function with this name.
 #[tactic(auto, unfolding(crate::specs::Plan::function_of))]
-pub fn function_of(text: &str) -> Option<Kind>
-    ensures { result ≡ function_of text.now }
+pub fn function_of(text: Option<&str>) -> Option<Kind>
+    ensures { result ≡ option_and_then function_of (option_map (λ t. t.now) text.entry) }
 {
-    match text {
+    match text? {
         "conntrack" => Some(Kind::Conntrack),
         "nat" => Some(Kind::Nat),
         "monitor" => Some(Kind::Monitor),
@@ -90,9 +88,12 @@ fn all_instances(alloc: Global, list: &[u8]) -> Result<Option<Instances>, NoMemo
 
 /// The instances of a list, where there are at most 16 and their names differ.
 #[tactic(auto, unfolding(crate::specs::Plan::instances_of))]
-pub fn instances_of(alloc: Global, list: &str) -> Result<Option<Instances>, NoMemory>
-    ensures { IfOk result (λ found. option_map instances_view found ≡ instances_of list.now) }
+pub fn instances_of(alloc: Global, list: Option<&str>) -> Result<Option<Instances>, NoMemory>
+    ensures { IfOk result (λ found. option_map instances_view found ≡ option_and_then instances_of (option_map (λ t. t.now) list.entry)) }
 {
+    let Some(list) = list else {
+        return Ok(None);
+    };
     let Some(instances) = all_instances(alloc, list.as_bytes())? else {
         return Ok(None);
     };
@@ -105,10 +106,10 @@ pub fn instances_of(alloc: Global, list: &str) -> Result<Option<Instances>, NoMe
 
 /// The block that the text spells as `A.B.C.D/L`.
 #[tactic(auto, unfolding(crate::specs::Plan::inside_of))]
-pub fn inside_of(text: &str) -> Option<Prefix>
-    ensures { option_map block result ≡ inside_of text.now }
+pub fn inside_of(text: Option<&str>) -> Option<Prefix>
+    ensures { option_map block result ≡ option_and_then inside_of (option_map (λ t. t.now) text.entry) }
 {
-    let text = text.as_bytes();
+    let text = text?.as_bytes();
     cut(text, b'/')?;
     prefix(text)
 }
@@ -153,7 +154,11 @@ pub fn window_of(text: Option<&str>) -> Option<u32>
         None => Some(WINDOW),
         Some(text) => {
             let window = number(text.as_bytes(), 4096)?;
-            if 1 <= window { Some(window as u32) } else { None }
+            if 1 <= window {
+                Some(window as u32)
+            } else {
+                None
+            }
         }
     }
 }
@@ -183,10 +188,11 @@ fn named_schedule(text: &str) -> Option<Schedule>
     }
 }
 
-/// A file's name, which isn't empty.
-pub fn file_of<'a>(text: &'a str) -> Option<&'a str>
-    ensures { option_map (λ t. t.now) result ≡ file_of text.entry.now }
+/// A file's name, which must be given and isn't empty.
+pub fn file_of<'a>(text: Option<&'a str>) -> Option<&'a str>
+    ensures { option_map (λ t. t.now) result ≡ option_and_then file_of (option_map (λ t. t.now) text.entry) }
 {
+    let text = text?;
     if text.is_empty() { None } else { Some(text) }
 }
 
@@ -196,6 +202,6 @@ pub fn file_if<'a>(text: Option<&'a str>) -> Option<Option<&'a str>>
 {
     match text {
         None => Some(None),
-        Some(text) => Some(Some(file_of(text)?)),
+        Some(_) => Some(Some(file_of(text)?)),
     }
 }
