@@ -1,6 +1,6 @@
-ghost use Rattle.std.specs.Prelude.{◌≡◌, ◌++◌, ◌∷◌, [], true, false, List, map, IfOk, option_map, string_bytes};
+ghost use Rattle.std.specs.Prelude.{Some, None, codes, ◌≡◌, ◌++◌, ◌∷◌, [], true, false, List, map, IfOk, option_map, string_bytes};
 ghost use Rattle.clap.specs.Words.{Rule, Text, app_of, rule_of, rows_of, found_of, is_simple_and_free};
-ghost use Rattle.command_words.specs.Grammar.{rule_by, app_with, sim_app, check_app, rows_taken, value_of, given_of, read_words};
+ghost use Rattle.command_words.specs.Grammar.{rule_by, app_with, sim_app, check_app, rows_taken, value_of, given_of, read_words, nothing};
 ghost use Rattle.command_words.specs.Views.{Reads, given_view};
 
 use crate::fault::WordsFault;
@@ -207,4 +207,21 @@ pub fn read_check<'a>(alloc: Global, words: &'a [String]) -> Result<GivenWords<'
     let command = check_command(alloc)?;
     let matches = parsed(command, words)?;
     Ok(given_of(&matches))
+}
+
+/// Laws of the grammar, for words with any texts in them: which names the texts are given for, and what is refused.
+pub fn written_words()
+    ensures sim { (f l p t : Text) → read_words sim_app ((codes "--instances=" ++ l) ∷ (codes "--inside=" ++ p) ∷ codes "--" ∷ f ∷ t ∷ [])
+        ≡ Some (record nothing { function = Some f; instances = Some l; inside = Some p; trace = Some t }) }
+    ensures options { (f l p o w s t c : Text) → read_words sim_app ((codes "--schedule=" ++ s) ∷ (codes "--window=" ++ w) ∷ (codes "--outside=" ++ o)
+        ∷ (codes "--inside=" ++ p) ∷ (codes "--instances=" ++ l) ∷ codes "--" ∷ f ∷ t ∷ c ∷ [])
+        ≡ Some (record { function = Some f; instances = Some l; inside = Some p; outside = Some o; window = Some w; schedule = Some s; trace = Some t; script = Some c }) }
+    ensures check { (f l s : Text) → read_words check_app ((codes "--instances=" ++ l) ∷ codes "--" ∷ f ∷ s ∷ [])
+        ≡ Some (record nothing { function = Some f; instances = Some l; script = Some s }) }
+    ensures missing { (f l t : Text) → read_words sim_app ((codes "--instances=" ++ l) ∷ codes "--" ∷ f ∷ t ∷ []) ≡ None }
+    ensures twice { (f l p t : Text) → read_words sim_app ((codes "--instances=" ++ l) ∷ (codes "--inside=" ++ p) ∷ (codes "--inside=" ++ p) ∷ codes "--" ∷ f ∷ t ∷ []) ≡ None }
+    ensures stray { (f l s more : Text) → read_words check_app ((codes "--instances=" ++ l) ∷ codes "--" ∷ f ∷ s ∷ more ∷ []) ≡ None }
+    ensures unknown { (f l s : Text) → read_words check_app ((codes "--instances=" ++ l) ∷ codes "--summary" ∷ codes "--" ∷ f ∷ s ∷ []) ≡ None }
+    ensures help { (f l s : Text) → read_words check_app ((codes "--instances=" ++ l) ∷ codes "--help" ∷ codes "--" ∷ f ∷ s ∷ []) ≡ None }
+{
 }
