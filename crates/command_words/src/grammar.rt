@@ -223,5 +223,4 @@ pub fn written_words()
     ensures stray { (f l s more : Text) → read_words check_app ((codes "--instances=" ++ l) ∷ codes "--" ∷ f ∷ s ∷ more ∷ []) ≡ None }
     ensures unknown { (f l s : Text) → read_words check_app ((codes "--instances=" ++ l) ∷ codes "--summary" ∷ codes "--" ∷ f ∷ s ∷ []) ≡ None }
     ensures help { (f l s : Text) → read_words check_app ((codes "--instances=" ++ l) ∷ codes "--help" ∷ codes "--" ∷ f ∷ s ∷ []) ≡ None }
-{
-}
+{}

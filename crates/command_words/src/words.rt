@@ -154,3 +154,167 @@ fn check_values<'a>(alloc: Global, given: &GivenWords<'a>) -> Result<Checking<'a
         script,
     })
 }
+
+#[cfg(test)]
+mod tests {
+    use super::*;
+    use std::alloc::AllocError;
+    use std::test::Fail;
+
+    /// Words, and the command that they ask for, or `usage`.
+    static ROWS: [(&str, &str); 36] = [
+        (
+            "x sim conntrack --instances a --inside 10.0.0.0/24 --schedule last t",
+            "sim",
+        ),
+        (
+            "x sim --schedule=last conntrack --inside=10.0.0.0/24 t --instances=a",
+            "sim",
+        ),
+        (
+            "x sim conntrack --instances a --inside 10.0.0.0/24 --schedule last -",
+            "sim",
+        ),
+        (
+            "x sim conntrack --instances a --inside 10.0.0.0/24 --schedule last -- -t",
+            "sim",
+        ),
+        (
+            "x sim conntrack --instances a --inside 10.0.0.0/24 --schedule last -- --",
+            "sim",
+        ),
+        (
+            "x sim conntrack --instances a --inside 10.0.0.0/24 --schedule last -t",
+            "usage",
+        ),
+        (
+            "x sim conntrack --instances a --inside 10.0.0.0/24 --schedule last t s",
+            "usage",
+        ),
+        (
+            "x sim conntrack --instances a --inside 10.0.0.0/24 --schedule first t",
+            "usage",
+        ),
+        (
+            "x sim conntrack --instances a --inside 10.0.0.0/24 t",
+            "usage",
+        ),
+        (
+            "x sim conntrack --instances a:5 --inside 10.0.0.0/24 --schedule last t",
+            "usage",
+        ),
+        (
+            "x sim conntrack --instances a,b --inside 10.0.0.0/24 --schedule last t",
+            "usage",
+        ),
+        (
+            "x sim conntrack --instances a --inside 10.0.0.0/24 --schedule last --window 256 t",
+            "usage",
+        ),
+        (
+            "x sim nat --instances a --inside 10.0.0.0/24 --outside 203.0.113.1 --schedule last t",
+            "usage",
+        ),
+        (
+            "x sim conntrack --instances a --inside 10.0.0.0/24 --outside 203.0.113.1 --schedule last t",
+            "usage",
+        ),
+        (
+            "x sim conntrack --instances a --inside 10.0.0.0 --schedule last t",
+            "usage",
+        ),
+        (
+            "x sim conntrack --instances a --inside 10.0.0.1/24 --schedule last t",
+            "usage",
+        ),
+        (
+            "x sim conntrack --instances a --inside 10.0.0.0/024 --schedule last t",
+            "usage",
+        ),
+        (
+            "x sim conntrack --instances a --instances a --inside 10.0.0.0/24 --schedule last t",
+            "usage",
+        ),
+        (
+            "x sim conntrack --instances a --inside 10.0.0.0/24 --schedule last --summary t",
+            "usage",
+        ),
+        (
+            "x sim conntrack --instances a --inside 10.0.0.0/24 --sched last t",
+            "usage",
+        ),
+        (
+            "x sim conntrack --instances a --inside 10.0.0.0/24 --schedule last --help t",
+            "usage",
+        ),
+        ("x sim conntrack t", "usage"),
+        (
+            "x --schedule last sim conntrack --instances a --inside 10.0.0.0/24 t",
+            "usage",
+        ),
+        ("x check nat --instances a,b:5,c:0 s", "check"),
+        ("x check monitor s --instances a,b:1000000", "check"),
+        (
+            "x check conntrack --instances a,b,c,d,e,f,g,h,i,j,k,l,m,n,o,p s",
+            "check",
+        ),
+        (
+            "x check conntrack --instances a,b,c,d,e,f,g,h,i,j,k,l,m,n,o,p,q s",
+            "usage",
+        ),
+        ("x check nat --instances a,b:05 s", "usage"),
+        ("x check nat --instances a,b:1000001 s", "usage"),
+        ("x check nat --instances a,a:5 s", "usage"),
+        ("x check nat --instances a, s", "usage"),
+        ("x check nat --instances= s", "usage"),
+        ("x check nat --instances a", "usage"),
+        ("x check ids --instances a s", "usage"),
+        ("x", "usage"),
+        (
+            "x run conntrack --instances a --inside 10.0.0.0/24 t",
+            "usage",
+        ),
+    ];
+
+    /// The words of a line.
+    fn split(alloc: Global, line: &str) -> Result<Vec<String>, AllocError> {
+        line.split(' ')
+            .map(|word| String::from_str(alloc, word))
+            .try_collect(alloc)
+    }
+
+    /// The command that a reading asks for.
+    fn asked(reading: Result<Request<'_>, WordsFault>) -> &'static str {
+        match reading {
+            Ok(Request::Sim(_)) => "sim",
+            Ok(Request::Check(_)) => "check",
+            Err(WordsFault::Usage) => "usage",
+            Err(WordsFault::NoMemory) => "no memory",
+        }
+    }
+
+    #[test]
+    fn each_row_of_words_is_a_command_or_usage(rt: HostRuntime) -> Result<(), Fail> {
+        for (line, expected) in ROWS.as_slice() {
+            let words = split(rt.alloc(), line)?;
+            let found = asked(read_words(rt.alloc(), words.as_slice()));
+            assert!(rt; found == *expected, "{line}: {found}");
+        }
+        Ok(())
+    }
+
+    #[test]
+    fn check_gives_names_limits_and_the_file(rt: HostRuntime) -> Result<(), Fail> {
+        let words = split(rt.alloc(), "x check nat --instances a,b:5 s")?;
+        let Ok(Request::Check(checking)) = read_words(rt.alloc(), words.as_slice()) else {
+            return Err(Fail::from("no check"));
+        };
+        assert_eq!(rt;
+            checking.instances.limits.as_slice(),
+            [1_000_000, 5].as_slice()
+        );
+        assert_eq!(rt; checking.instances.names.len(), 2);
+        assert_eq!(rt; checking.script, "s");
+        Ok(())
+    }
+}

@@ -16,3 +16,6 @@ pub use fault::{ScriptFault, ScriptKind};
 pub use printing::print_script;
 pub use reading::read_script;
 pub use script::{Line, Script, What};
+
+#[cfg(test)]
+mod tests;
