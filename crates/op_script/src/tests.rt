@@ -1,6 +1,7 @@
 use super::*;
-use flow_filter::Name;
+use flow_filter::{Name, Packet, Packets};
 use nf_function::Kind;
+use nf_msgs::Msg;
 use std::alloc::Global;
 use std::test::Fail;
 
@@ -107,4 +108,51 @@ fn the_canonical_text_has_one_space_between_words(rt: HostRuntime) -> Result<(),
         b"route local=10.0.0.9/32 b\nat 1 move a b proto=tcp,rport=80 order\nat 1 copy b a all\nat 2 share b,a any strict\nat 2 settle\n";
     assert_eq!(rt; printed.items(), expected.as_slice());
     Ok(())
+}
+
+#[test]
+fn a_line_stands_behind_the_packet_that_it_names_or_behind_the_last(
+    rt: HostRuntime,
+) -> Result<(), Fail> {
+    let names = instances(rt.alloc())?;
+    let text = b"at 0 settle\nat 1 move a b any order\nat 9 settle\n";
+    let script = read_script(
+        rt.alloc(),
+        text.as_slice(),
+        Kind::Conntrack,
+        names.as_slice(),
+    )?;
+    let mut trace = Packets::open(rt.alloc());
+    trace.push(packet(1))?;
+    trace.push(packet(2))?;
+    let mut kinds = Vec::new(rt.alloc());
+    let input = items(rt.alloc(), trace, &script)?;
+    for msg in input.as_slice() {
+        let kind = match msg {
+            Msg::InPacket(_) => b'p',
+            Msg::InCommand(_) => b'c',
+            Msg::InSettle => b's',
+            Msg::InEnd => b'e',
+        };
+        kinds.push(kind)?;
+    }
+    assert_eq!(rt; kinds.as_slice(), b"spcpse".as_slice());
+    Ok(())
+}
+
+/// A packet with this number.
+fn packet(number: u32) -> Packet {
+    Packet {
+        number,
+        nanos: 0,
+        proto: 17,
+        src: 0x0a00_0001,
+        sport: 5000,
+        dst: 0xc000_0209,
+        dport: 53,
+        flags: 0,
+        length: 0,
+        held: 0,
+        head: [0; 64],
+    }
 }
