@@ -1,6 +1,6 @@
 -- What clap's clauses on errors say of the words.
-use Rattle.std.proofs.Common.{◌≡◌, List, [], ◌∷◌, Option, None, inl, inr, refl}
-use Rattle.clap.specs.Words.{Row, HasKind, Kinds, kind_of}
+use Rattle.std.proofs.Common.{◌≡◌, List, [], ◌∷◌, None, inl, inr, refl}
+use Rattle.clap.specs.Words.{Row, HasKind, kind_of}
 use Rattle.clap.specs.declared.error.Error.{Error}
 use Rattle.clap.specs.declared.error.kind.ErrorKind.{ErrorKind}
 use Rattle.clap.specs.declared.error.kind.ErrorKind.TheVariants.{OutOfMemory}

@@ -1,6 +1,6 @@
 -- Which option or place each word of a command belongs to. The grammar of words is that of `clap`'s simple commands, at
 -- the lists of arguments written here; the lists are this project's own.
-use Rattle.std.specs.Prelude.{◌≡◌, ℕ, Bool, true, List, [], ◌∷◌, ◌++◌, Option, Some, None, option_map, codes}
+use Rattle.std.specs.Prelude.{true, List, [], ◌∷◌, Option, Some, None, option_map, codes}
 use Rattle.clap.specs.Words.{App, Rule, Row, Text, new_app, new_rule, fault_of, matches_of, first_of}
 use Rattle.clap.specs.Simple.{on_top}
 use Rattle.clap.specs.declared.error.ErrorKind.{ErrorKind}

@@ -1,2 +1,4 @@
 pub mod Grammar
+pub mod Plan
 pub mod Views
+pub mod RequestViews

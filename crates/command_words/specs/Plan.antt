@@ -1,10 +1,10 @@
 -- What the words of a command line ask for. This project's own grammar; numbers are decimal without leading zeros.
-use Rattle.std.specs.Prelude.{ℕ, ◌+◌, Bool, true, false, not, ◌&&◌, ◌||◌, ◌==◌, nat_le, if◌then◌else◌, List, [], ◌∷◌, length, map, Option, None, Some, is_some, is_none, option_map, option_and_then, codes}
-use Rattle.std.specs.List.{slice_split, list_any}
+use Rattle.std.specs.Prelude.{ℕ, Bool, true, false, not, ◌&&◌, ◌==◌, nat_le, if◌then◌else◌, List, [], ◌∷◌, length, Option, None, Some, is_some, is_none, option_map, option_and_then, codes}
+use Rattle.std.specs.List.{slice_split}
 use Rattle.std.specs.Str.{bytes_eq}
 use Rattle.clap.specs.Words.{Text}
 use Rattle.flow_filter.specs.Block.{in_block}
-use Rattle.flow_filter.specs.Name.{is_name}
+use Rattle.flow_filter.specs.Name.{has_twice, is_name}
 use Rattle.flow_filter.specs.Reading.{cut, number_of, address_of, prefix_of}
 use Rattle.nf_function.specs.declared.kind.Kind.{Kind}
 use Rattle.nf_function.specs.declared.kind.Kind.TheVariants.{Conntrack, Nat, Monitor}
@@ -26,10 +26,14 @@ only false next = None
 abbrev pub Instance : Type 0
 Instance = Text × ℕ
 
+-- names, and the limit of each
+abbrev pub Instances : Type 0
+Instances = List Text × List ℕ
+
 -- what `sim` asks for
 pub record SimAsked : Type 0 where
   pub kind : Kind
-  pub instances : List Instance
+  pub instances : Instances
   -- the bits and the length of the inside block
   pub inside : ℕ × ℕ
   pub outside : Option ℕ
@@ -41,7 +45,7 @@ pub record SimAsked : Type 0 where
 -- what `check` asks for
 pub record CheckAsked : Type 0 where
   pub kind : Kind
-  pub instances : List Instance
+  pub instances : Instances
   pub script : Text
 
 -- what the words ask for
@@ -71,19 +75,14 @@ instance_of text = parts (cut 58 text)
     parts (Some p) = with_limit p.0 (Some p.1)
 
 -- each of the texts is an instance
-abbrev pub all_instances : List Text → Option (List Instance)
-all_instances [] = Some []
-all_instances (text ∷ more) = instance_of text >>= λ i. all_instances more >>= λ rest. Some (i ∷ rest)
-
--- some name stands twice in the list
-abbrev pub has_twice : List Instance → Bool
-has_twice [] = false
-has_twice (i ∷ more) = list_any (λ other. bytes_eq other.0 i.0) more || has_twice more
+abbrev pub all_instances : List Text → Option Instances
+all_instances [] = Some ([], [])
+all_instances (text ∷ more) = instance_of text >>= λ i. all_instances more >>= λ rest. Some (i.0 ∷ rest.0, i.1 ∷ rest.1)
 
 -- LIST: 1 to 16 instances with commas between them, whose names differ
-unfoldable pub instances_of : Text → Option (List Instance)
-instances_of text = all_instances (slice_split (λ b. b == 44) text) >>= λ instances.
-    only (nat_le (length instances) 16 && not (has_twice instances)) (Some instances)
+unfoldable pub instances_of : Text → Option Instances
+instances_of text = all_instances (slice_split (λ b. b == 44) text) >>= λ i.
+    only (nat_le (length i.0) 16 && not (has_twice i.0)) (Some i)
 
 -- PREFIX: `A.B.C.D/L`
 unfoldable pub inside_of : Text → Option (ℕ × ℕ)
@@ -125,20 +124,23 @@ file_if (Some text) = file_of text >>= λ name. Some (Some name)
 -- the values of `sim`
 unfoldable pub sim_values : Given → Option SimAsked
 sim_values g = do
-  function ← g.function
-  kind ← function_of function
-  list ← g.instances
-  instances ← instances_of list
-  prefix ← g.inside
-  inside ← inside_of prefix
+  kind ← g.function >>= function_of
+  instances ← g.instances >>= instances_of
+  inside ← g.inside >>= inside_of
   outside ← outside_of kind inside g.outside
   window ← window_of g.window
   schedule ← schedule_of g.schedule
-  trace ← g.trace
-  file ← file_of trace
+  trace ← g.trace >>= file_of
   script ← file_if g.script
   Some (record {
-    kind = kind; instances = instances; inside = inside; outside = outside; window = window; schedule = schedule; trace = file; script = script;
+    kind = kind;
+    instances = instances;
+    inside = inside;
+    outside = outside;
+    window = window;
+    schedule = schedule;
+    trace = trace;
+    script = script;
   })
 
 -- the list is one name, without a limit
@@ -168,13 +170,10 @@ is_built g =
 -- the values of `check`
 unfoldable pub check_values : Given → Option CheckAsked
 check_values g = do
-  function ← g.function
-  kind ← function_of function
-  list ← g.instances
-  instances ← instances_of list
-  script ← g.script
-  file ← file_of script
-  Some (record { kind = kind; instances = instances; script = file })
+  kind ← g.function >>= function_of
+  instances ← g.instances >>= instances_of
+  script ← g.script >>= file_of
+  Some (record { kind = kind; instances = instances; script = script })
 
 abbrev pub sim_of : List Text → Option Asked
 sim_of words = read_words sim_app words >>= λ g. only (is_built g) (sim_values g >>= λ s. Some (asks_sim s))

@@ -1,14 +1,12 @@
-ghost use Rattle.std.specs.Prelude.{◌≡◌, ◌++◌, ◌∷◌, [], true, false, List, map, IfOk, option_map, string_bytes};
+ghost use Rattle.std.specs.Prelude.{Some, None, codes, ◌≡◌, ◌++◌, ◌∷◌, [], true, false, List, map, IfOk, option_map, string_bytes};
 ghost use Rattle.clap.specs.Words.{Rule, Text, app_of, rule_of, rows_of, found_of, is_simple_and_free};
-ghost use Rattle.command_words.specs.Grammar.{rule_by, app_with, sim_app, check_app, rows_taken, value_of, given_of, read_words};
+ghost use Rattle.command_words.specs.Grammar.{rule_by, app_with, sim_app, check_app, rows_taken, value_of, given_of, read_words, nothing};
 ghost use Rattle.command_words.specs.Views.{Reads, given_view};
 
-use std::alloc::{AllocError, Global};
-
+use crate::fault::WordsFault;
 use clap::error::ErrorKind;
 use clap::{Arg, ArgMatches, Command};
-
-use crate::fault::WordsFault;
+use std::alloc::{AllocError, Global};
 
 /// What an argument is, and whether it must be there.
 #[derive(Clone, Copy, Debug)]
@@ -104,12 +102,19 @@ fn argument<'a>(alloc: Global, want: Want, name: &'a str) -> Arg<'a>
 fn bare<'a>(alloc: Global, name: &'a str) -> Command<'a>
     ensures { app_of result ≡ app_with name.entry.now [] }
 {
-    Command::new(alloc, name).no_binary_name(true).disable_help_flag(true)
+    Command::new(alloc, name)
+        .no_binary_name(true)
+        .disable_help_flag(true)
 }
 
 /// The command with an argument more.
 #[tactic(auto, unfolding(crate::specs::Grammar::app_with))]
-fn with<'a>(alloc: Global, command: Command<'a>, want: Want, name: &'a str) -> Result<Command<'a>, AllocError>
+fn with<'a>(
+    alloc: Global,
+    command: Command<'a>,
+    want: Want,
+    name: &'a str,
+) -> Result<Command<'a>, AllocError>
     ensures { IfOk result (λ c. (title : Text) (rules : List Rule) → app_of command.entry ≡ app_with title rules
         → app_of c ≡ app_with title (rules ++ rule_by want name.entry.now ∷ [])) }
 {
@@ -117,7 +122,11 @@ fn with<'a>(alloc: Global, command: Command<'a>, want: Want, name: &'a str) -> R
 }
 
 /// The command with the arguments of a table.
-fn command_of<'a>(alloc: Global, title: &'a str, table: &'a [(Want, &'a str)]) -> Result<Command<'a>, AllocError>
+fn command_of<'a>(
+    alloc: Global,
+    title: &'a str,
+    table: &'a [(Want, &'a str)],
+) -> Result<Command<'a>, AllocError>
     ensures { IfOk result (λ c. app_of c ≡ app_with title.entry.now (map (λ e. rule_by e.0 e.1.now) table.entry.now)) }
 {
     let mut command = bare(alloc, title);
@@ -199,3 +208,19 @@ pub fn read_check<'a>(alloc: Global, words: &'a [String]) -> Result<GivenWords<'
     let matches = parsed(command, words)?;
     Ok(given_of(&matches))
 }
+
+/// Laws of the grammar, for words with any texts in them: which names the texts are given for, and what is refused.
+pub fn written_words()
+    ensures sim { (f l p t : Text) → read_words sim_app ((codes "--instances=" ++ l) ∷ (codes "--inside=" ++ p) ∷ codes "--" ∷ f ∷ t ∷ [])
+        ≡ Some (record nothing { function = Some f; instances = Some l; inside = Some p; trace = Some t }) }
+    ensures options { (f l p o w s t c : Text) → read_words sim_app ((codes "--schedule=" ++ s) ∷ (codes "--window=" ++ w) ∷ (codes "--outside=" ++ o)
+        ∷ (codes "--inside=" ++ p) ∷ (codes "--instances=" ++ l) ∷ codes "--" ∷ f ∷ t ∷ c ∷ [])
+        ≡ Some (record { function = Some f; instances = Some l; inside = Some p; outside = Some o; window = Some w; schedule = Some s; trace = Some t; script = Some c }) }
+    ensures check { (f l s : Text) → read_words check_app ((codes "--instances=" ++ l) ∷ codes "--" ∷ f ∷ s ∷ [])
+        ≡ Some (record nothing { function = Some f; instances = Some l; script = Some s }) }
+    ensures missing { (f l t : Text) → read_words sim_app ((codes "--instances=" ++ l) ∷ codes "--" ∷ f ∷ t ∷ []) ≡ None }
+    ensures twice { (f l p t : Text) → read_words sim_app ((codes "--instances=" ++ l) ∷ (codes "--inside=" ++ p) ∷ (codes "--inside=" ++ p) ∷ codes "--" ∷ f ∷ t ∷ []) ≡ None }
+    ensures stray { (f l s more : Text) → read_words check_app ((codes "--instances=" ++ l) ∷ codes "--" ∷ f ∷ s ∷ more ∷ []) ≡ None }
+    ensures unknown { (f l s : Text) → read_words check_app ((codes "--instances=" ++ l) ∷ codes "--summary" ∷ codes "--" ∷ f ∷ s ∷ []) ≡ None }
+    ensures help { (f l s : Text) → read_words check_app ((codes "--instances=" ++ l) ∷ codes "--help" ∷ codes "--" ∷ f ∷ s ∷ []) ≡ None }
+{}

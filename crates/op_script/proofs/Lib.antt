@@ -3,3 +3,4 @@ pub mod Judged
 pub mod Lines
 pub mod FormsRight
 pub mod ReadScripts
+pub mod InputEnd

@@ -15,7 +15,7 @@ pub names_more : (start before comma after : List ℕ) (xs : List (List ℕ)) (i
     → before ≡ start ++ behind true (take i xs) → comma ≡ before ++ 44 ∷ [] → after ≡ comma ++ x → after ≡ start ++ behind true (take (i + 1) xs)
 names_more start before comma after xs i x below is so_far first second =
     let split : behind true (take (i + 1) xs) ≡ behind true (take i xs) ++ (44 ∷ x) =
-        ap (behind true) (one_more xs i x below is) ∙ behind-append true (take i xs) (x ∷ []) ∙ ap (λ t. behind true (take i xs) ++ (44 ∷ t)) (append_none x) in
+    ap (behind true) (one_more xs i x below is) ∙ behind-append true (take i xs) (x ∷ []) ∙ ap (λ t. behind true (take i xs) ++ (44 ∷ t)) (append_none x) in
     let regrouped : ((start ++ behind true (take i xs)) ++ 44 ∷ []) ++ x ≡ start ++ (behind true (take i xs) ++ (44 ∷ x)) = simp append_assoc in
     second ∙ ap (λ t. t ++ x) (first ∙ ap (λ t. t ++ 44 ∷ []) so_far) ∙ regrouped ∙ ap (λ t. start ++ t) (sym split)
 
@@ -31,9 +31,9 @@ pub lines_more : {X Y : Type 0} (text : Y → List ℕ) (words : X → Y) (front
     → after ≡ front ++ concat (map text (map words (take (i + 1) xs)))
 lines_more text words front before after xs i x below is so_far next =
     let items : map text (map words (take (i + 1) xs)) ≡ map text (map words (take i xs)) ++ text (words x) ∷ [] =
-        ap (λ t. map text (map words t)) (one_more xs i x below is) ∙ ap (map text) (map-append words (take i xs) (x ∷ [])) ∙ map-append text (map words (take i xs)) (words x ∷ []) in
+    ap (λ t. map text (map words t)) (one_more xs i x below is) ∙ ap (map text) (map-append words (take i xs) (x ∷ [])) ∙ map-append text (map words (take i xs)) (words x ∷ []) in
     let split : concat (map text (map words (take (i + 1) xs))) ≡ concat (map text (map words (take i xs))) ++ text (words x) =
-        ap concat items ∙ concat-append (map text (map words (take i xs))) (text (words x) ∷ []) ∙ ap (λ t. concat (map text (map words (take i xs))) ++ t) (append_none (text (words x))) in
+    ap concat items ∙ concat-append (map text (map words (take i xs))) (text (words x) ∷ []) ∙ ap (λ t. concat (map text (map words (take i xs))) ++ t) (append_none (text (words x))) in
     next ∙ ap (λ t. t ++ text (words x)) so_far ∙ append_assoc front (concat (map text (map words (take i xs)))) (text (words x)) ∙ ap (λ t. front ++ t) (sym split)
 
 -- the routes and then the lines

@@ -2,3 +2,4 @@ pub mod Forms
 pub mod Reading
 pub mod FormViews
 pub mod Printing
+pub mod Items

@@ -7,12 +7,17 @@
 
 pub mod fault;
 mod form;
+mod input;
 mod printing;
 mod reader;
 mod reading;
 pub mod script;
 
 pub use fault::{ScriptFault, ScriptKind};
+pub use input::items;
 pub use printing::print_script;
 pub use reading::read_script;
 pub use script::{Line, Script, What};
+
+#[cfg(test)]
+mod tests;

@@ -4,12 +4,10 @@ ghost use Rattle.flow_filter.specs.FilterText.{behind, fields_of};
 ghost use Rattle.op_script.specs.Reading.{script_view, route_view, line_view, order_view};
 ghost use Rattle.op_script.specs.Printing.{route_words, order_words, line_words, what_words, copied, line_text, script_text, is_writable, IsRoute, IsOrder, IsLine, IsScript};
 
-use std::alloc::Global;
-
+use crate::script::{Line, Script, What};
 use flow_filter::{Filter, Name, NoMemory, Text};
 use nf_msgs::{Names, Order};
-
-use crate::script::{Line, Script, What};
+use std::alloc::Global;
 
 /// The canonical text of a script, for instances with these names.
 #[tactic(auto, unfolding(crate::specs::Printing::script_text))]

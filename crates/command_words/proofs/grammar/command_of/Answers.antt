@@ -1,5 +1,5 @@
 -- One argument more.
-use Rattle.std.proofs.Common.{◌≡◌, ◌∙◌, [], ap}
+use Rattle.std.proofs.Common.{◌∙◌, [], ap}
 use Rattle.command_words.specs.declared.grammar.Want.TheVariants.{Place}
 use Rattle.command_words.specs.Grammar.{app_with, rule_by}
 use Rattle.command_words.proofs.Tables.{map_more}

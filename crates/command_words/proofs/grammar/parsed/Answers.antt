@@ -1,5 +1,5 @@
 -- The kinds of clap are exact, and its matches are those of the words.
-use Rattle.std.proofs.Common.{◌≡◌, ◌∙◌, Some, sym, ap, map, string_bytes}
+use Rattle.std.proofs.Common.{◌∙◌, Some, sym, ap, map, string_bytes}
 use Rattle.clap.specs.Words.{app_of, matches_of}
 use Rattle.clap.proofs.WalkLemmas.{both}
 use Rattle.command_words.specs.Grammar.{rows_taken, taken}

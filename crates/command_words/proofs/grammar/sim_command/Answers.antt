@@ -1,8 +1,8 @@
 -- The table is the definition's list of arguments, and the command is as simple as clap's clauses ask.
-use Rattle.std.proofs.Common.{◌≡◌, ◌∙◌, List, ap, map, refl, rules, true}
+use Rattle.std.proofs.Common.{◌≡◌, ◌∙◌, ap, map, refl, rules, true}
 use Rattle.std.specs.Prelude.{codes}
 use Rattle.std.proofs.lemmas.Result.{IfOk-weaker}
-use Rattle.clap.specs.Words.{Rule, app_of, is_simple_and_free}
+use Rattle.clap.specs.Words.{is_simple_and_free}
 use Rattle.clap.proofs.OnLiterals.{clap_on_literals}
 use Rattle.command_words.specs.Grammar.{app_with, rule_by, sim_rules, sim_app}
 use Rattle.command_words.proofs.grammar.sim_command.Goals as goal

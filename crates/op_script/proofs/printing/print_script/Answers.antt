@@ -17,8 +17,10 @@ loop-line-preserved c = lines_more line_text line_words _ _ _ c.args.script.now.
 
 pub returns : goal.returns
 unfolding script_text
-returns c = record { text = all_written line_text (route_words c.args.names.now) line_words c.loop-line.out c.args.script.now.routes.items c.args.script.now.lines.items c.loop-line.line-index
-    (rw c.as_slice-line-items.ensures.value at c.loop-line-test.false) c.loop-line.invariant }
+returns c = record {
+  text = all_written line_text (route_words c.args.names.now) line_words c.loop-line.out c.args.script.now.routes.items c.args.script.now.lines.items c.loop-line.line-index
+      (rw c.as_slice-line-items.ensures.value at c.loop-line-test.false) c.loop-line.invariant;
+}
 
 pub print_route-requires : goal.print_route-requires
 print_route-requires c = at_item (IsRoute c.args.names.now) route_view c.args.script.now.routes.items c.loop-route.route-index c.route-item.result c.requires.routes

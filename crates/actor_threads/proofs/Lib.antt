@@ -1,0 +1,15 @@
+pub mod Closing
+pub mod Columns
+pub mod Cutting
+pub mod Dealing
+pub mod Drawing
+pub mod Finding
+pub mod Gathering
+pub mod Moving
+pub mod Opening
+pub mod Rounds
+pub mod Rows
+pub mod Snoc
+pub mod Starting
+pub mod Stepping
+pub mod Working

@@ -1,0 +1,129 @@
+-- A whole round, from its seats.
+use Rattle.std.proofs.Common.{◌≡◌, ◌<◌, ◌*◌, ℕ, zero, suc, Bool, true, false, true≢false, ◌&&◌, IsTrue, List, [], ◌∷◌, ◌++◌, length, slice_index_or, map, take, drop, sym, ◌∙◌, ap, refl, subst, arith, append-nil}
+use Rattle.std.specs.List.{list_all}
+use Rattle.std.proofs.lemmas.Grind.{common_steps}
+use Rattle.std.proofs.lemmas.List.{length-map, get_or-map}
+use Rattle.actor_net.specs.declared.choice.Choice.{Choice}
+use Rattle.actor_net.specs.declared.histories.History.{History}
+use Rattle.actor_net.specs.Network.{Network, Stepped, IsWorld, IsRun, run, is_enabled}
+use Rattle.actor_net.proofs.Follow.{Replayed}
+use Rattle.actor_net.proofs.Merged.{merged, replay_is}
+use Rattle.actor_threads.specs.declared.round.Seat.{Seat}
+use Rattle.actor_threads.specs.Ways.{Incoming, Outgoing}
+use Rattle.actor_threads.specs.Work.{Shown, IsQuiet, Ran}
+use Rattle.actor_threads.specs.Table.{row_at}
+use Rattle.actor_threads.specs.Round.{AllStart, CanCloseAll, AllClosed, Gathered}
+use Rattle.actor_threads.proofs.Gathering.{can_close_all, events, holds, left, rise_is, matches, fits, leaves}
+use Rattle.actor_threads.proofs.Moving.{history_of, no_steps, all_quiet}
+
+-- a node of a world
+pub some_node : {A : Type 0} (nodes : List A) → 0 < length nodes → A
+some_node [] h = absurd (omega arith)
+some_node (x ∷ xs) h = x
+
+both : (a b : Bool) → a && b ≡ true → (a ≡ true) × (b ≡ true)
+both true b e = (refl, e)
+both false b e = absurd (true≢false (sym e))
+
+all_at : {X : Type 0} (p : X → Bool) (xs : List X) (i : ℕ) (d : X) → list_all p xs ≡ true → i < length xs → p (slice_index_or xs i d) ≡ true
+all_at p [] i d e h = absurd (omega arith)
+all_at p (x ∷ xs) zero d e h = (both (p x) (list_all p xs) e).0
+all_at p (x ∷ xs) (suc i) d e h = all_at p xs i d (both (p x) (list_all p xs) e).1 (omega arith)
+
+module _ {A M N : Type 0} where
+  abbrev pub workers : List (Seat A M N) → List (Shown A M N)
+  workers seats = map (λ (s : Seat A M N). s.worker) seats
+
+  pub of_workers : {X : Type 0} (f : Shown A M N → X) (seats : List (Seat A M N)) → map (λ (s : Seat A M N). f s.worker) seats ≡ map f (workers seats)
+  of_workers f [] = refl
+  of_workers f (s ∷ ss) = ap (λ l. f s.worker ∷ l) (of_workers f ss)
+
+module _ {A M N : Type 0} (ready : A → M → Bool) (step : A → ℕ → M → Stepped A M N) (w : Network A M N) (is : IsWorld w) (before after : List (Seat A M N)) (all : AllStart w (workers before))
+    (ran : (i : ℕ) (e : Seat A M N) → i < length before → IsTrue (slice_index_or after i e).done → Ran ready step (slice_index_or before i e).worker (slice_index_or after i e).worker)
+    (done : list_all (λ (s : Seat A M N). s.done) after ≡ true) (same : length after ≡ length before) where
+  d : A
+  d = some_node w.nodes is.some_node
+
+  abbrev blank : Shown A M N
+  blank = record { number = 0; node = d; clock = 0; steps = []; notes = []; ins = []; outs = [] }
+
+  seats : length before ≡ length w.nodes
+  seats = sym (length-map before _) ∙ all.count
+
+  count : length (workers after) ≡ length w.nodes
+  count = length-map after _ ∙ same ∙ seats
+
+  each : (j : ℕ) (e : Shown A M N) → j < length w.nodes → Ran ready step (slice_index_or (workers before) j e) (slice_index_or (workers after) j e)
+  each j e h =
+      let seat : Seat A M N = record { worker = e; done = false } in
+      let inside : j < length before = subst (λ m. j < m) (sym seats) h in
+      let there : j < length after = subst (λ m. j < m) (sym same) inside in
+      subst (λ (v : Shown A M N × Shown A M N). Ran ready step v.0 v.1) (λ i. (sym (get_or-map (λ (s : Seat A M N). s.worker) before j seat e inside) i, sym (get_or-map (λ (s : Seat A M N). s.worker) after j seat e there) i))
+      (ran j seat inside (all_at (λ (s : Seat A M N). s.done) after j seat done there))
+
+  pub can_close_seats : CanCloseAll (length w.nodes) (map (λ (s : Shown A M N). s.ins) (workers after)) (map (λ (s : Shown A M N). s.outs) (workers after))
+  can_close_seats = can_close_all ready step w (workers before) (workers after) d is all each count
+
+  module _ (v : Network A M N) (cs : List Choice)
+      (g : Gathered (map (λ (s : Shown A M N). s.node) (workers after)) (map history_of (workers after)) (map (λ (s : Shown A M N). s.notes) (workers after)) (map (λ (s : Shown A M N). s.ins) (workers after)) (map (λ (s : Shown A M N). s.outs) (workers after)) w.log v cs) where
+    nodes : length (map (λ (s : Shown A M N). s.node) (workers after)) ≡ length w.nodes
+    nodes = length-map (workers after) _ ∙ count
+
+    closed : AllClosed (length w.nodes) (length w.nodes) (map (λ (s : Shown A M N). s.ins) (workers after)) (map (λ (s : Shown A M N). s.outs) (workers after)) g.links
+    closed = subst (λ n. AllClosed n n (map (λ (s : Shown A M N). s.ins) (workers after)) (map (λ (s : Shown A M N). s.outs) (workers after)) g.links) nodes g.closed
+
+    replayed : Replayed ready step d w (events ready step w (workers before) (workers after) d is all each count) (left ready step w (workers before) (workers after) d is all each count g.links closed.count closed.closed) cs
+    replayed = merged ready step d w (map history_of (workers after)) cs (events ready step w (workers before) (workers after) d is all each count)
+        (holds ready step w (workers before) (workers after) d is all each count) (left ready step w (workers before) (workers after) d is all each count g.links closed.count closed.closed)
+        g.merged (matches ready step w (workers before) (workers after) d is all each count) (rise_is ready step w (workers before) (workers after) d is all each count)
+        (fits ready step w (workers before) (workers after) d is all each count g.links closed.count closed.closed)
+
+    -- the choices are a run
+    pub is_run : IsRun ready step cs w
+    is_run = replayed.is_run
+
+    -- and the world is its replay
+    pub is_replay : v ≡ run step cs w
+    is_replay = g.is ∙ replay_is ready step d w _ (events ready step w (workers before) (workers after) d is all each count)
+        (left ready step w (workers before) (workers after) d is all each count g.links closed.count closed.closed) cs is.some_node is.square replayed
+        (leaves ready step w (workers before) (workers after) d is all each count g.links closed.count closed.closed cs)
+
+    -- with no choice none was enabled
+    pub none_enabled : cs ≡ [] → (c : Choice) → is_enabled ready w c ≡ false
+    none_enabled none = all_quiet ready w d (λ j. slice_index_or (workers before) j blank) all.names is.some_node (λ j h. all.each j blank h) (λ j h.
+        (each j blank h).moves (ap (λ l. length l) (no_steps blank (workers after) cs g.merged none j (subst (λ m. j < m) (sym count) h)) ∙ sym (ap (λ l. length l) (all.each j blank h).steps)))
+
+-- where none is enabled a run has no choice
+pub no_choice : {A M N : Type 0} (ready : A → M → Bool) (step : A → ℕ → M → Stepped A M N) (w : Network A M N) (cs : List Choice) → IsRun ready step cs w → ((c : Choice) → is_enabled ready w c ≡ false) → cs ≡ []
+no_choice ready step w [] r none = refl
+no_choice ready step w (c ∷ cs) r none = absurd (true≢false (sym r.0 ∙ none c))
+
+-- what is gathered, by other names for its parts
+pub regather : {A M N : Type 0} {nodes nodes' : List A} {hs hs' : List History} {notes notes' : List (List (List N))} {ins ins' : List (List (Incoming M))} {outs outs' : List (List (Outgoing M))} {log log' : List N} {v : Network A M N} {cs : List Choice}
+    → nodes ≡ nodes' → hs ≡ hs' → notes ≡ notes' → ins ≡ ins' → outs ≡ outs' → log ≡ log' → Gathered nodes hs notes ins outs log v cs → Gathered nodes' hs' notes' ins' outs' log' v cs
+regather {A} {M} {N} {nodes} {nodes'} {hs} {hs'} {notes} {notes'} {ins} {ins'} {outs} {outs'} {log} {log'} {v} {cs} a b c d e f g =
+    subst (λ (t : List A × List History × List (List (List N)) × List (List (Incoming M)) × List (List (Outgoing M)) × List N). Gathered t.0 t.1 t.2 t.3 t.4 t.5 v cs) (λ i. (a i, b i, c i, d i, e i, f i)) g
+
+pub reclose : {M : Type 0} {n n' : ℕ} {ins ins' : List (List (Incoming M))} {outs outs' : List (List (Outgoing M))} → n ≡ n' → ins ≡ ins' → outs ≡ outs' → CanCloseAll n ins outs → CanCloseAll n' ins' outs'
+reclose {M} {n} {n'} {ins} {ins'} {outs} {outs'} a b c g = subst (λ (t : ℕ × List (List (Incoming M)) × List (List (Outgoing M))). CanCloseAll t.0 t.1 t.2) (λ i. (a i, b i, c i)) g
+
+-- what a slice wrote back
+pub written_back : {X : Type 0} (old new : List X) (n : ℕ) → length new ≡ length old → n ≡ length old → take n (new ++ drop (length new) old) ≡ new
+written_back old new n same many = grind (arith, common_steps)
+
+module _ {A M N : Type 0} where
+  -- what the workers show, by the list of the seats
+  pub seen : {X : Type 0} (f : Shown A M N → X) (seats after : List (Seat A M N)) (list : List X) → list ≡ map (λ (s : Seat A M N). f s.worker) seats → seats ≡ after → list ≡ map f (workers after)
+  seen f seats after list e back = e ∙ ap (λ (l : List (Seat A M N)). map (λ (s : Seat A M N). f s.worker) l) back ∙ of_workers f after
+
+  pub done_after : (seats after : List (Seat A M N)) → list_all (λ (s : Seat A M N). s.done) seats ≡ true → seats ≡ after → list_all (λ (s : Seat A M N). s.done) after ≡ true
+  done_after seats after e back = subst (λ (l : List (Seat A M N)). list_all (λ (s : Seat A M N). s.done) l ≡ true) back e
+
+  pub ran_from : (ready : A → M → Bool) (step : A → ℕ → M → Stepped A M N) (lent before after : List (Seat A M N)) → lent ≡ before
+      → ((i : ℕ) (e : Seat A M N) → i < length lent → IsTrue (slice_index_or after i e).done → Ran ready step (slice_index_or lent i e).worker (slice_index_or after i e).worker)
+      → (i : ℕ) (e : Seat A M N) → i < length before → IsTrue (slice_index_or after i e).done → Ran ready step (slice_index_or before i e).worker (slice_index_or after i e).worker
+  ran_from ready step lent before after is ran = subst (λ (l : List (Seat A M N)). (i : ℕ) (e : Seat A M N) → i < length l → IsTrue (slice_index_or after i e).done → Ran ready step (slice_index_or l i e).worker (slice_index_or after i e).worker) is ran
+
+  -- each seat has a worker for its node
+  pub seats_count : (w : Network A M N) (before : List (Seat A M N)) → AllStart w (workers before) → length before ≡ length w.nodes
+  seats_count w before all = sym (length-map before _) ∙ all.count

@@ -1,0 +1,6 @@
+use Rattle.std.proofs.Common.{◌≡◌, ◌++◌}
+use Rattle.actor_net.specs.Histories.{messages}
+use Rattle.actor_threads.proofs.links.append.Given as goal
+
+abbrev pub invariant-loop-next : goal.invariant-loop-next
+invariant-loop-next g l = l.list.items ≡ l.fn.list.items ++ messages l.yielded

@@ -1,0 +1,60 @@
+-- A round of all workers, this project's own: how the workers start in a world, and what stands on the links when all are closed.
+use Rattle.std.specs.Prelude.{◌≡◌, ◌<◌, ◌+◌, ◌*◌, ℕ, List, [], ◌++◌, length, slice_index_or, slice_set}
+use Rattle.atomic_table.specs.Seated.{TableId}
+use Rattle.actor_net.specs.declared.stamped.Stamped.{Stamped}
+use Rattle.actor_net.specs.declared.choice.Choice.{Choice}
+use Rattle.actor_net.specs.declared.histories.History.{History}
+use Rattle.actor_net.specs.Network.{Network, waiting}
+use Rattle.actor_net.specs.Histories.{dealt}
+use Rattle.actor_net.specs.Merging.{IsMerge}
+use Rattle.fifo_link.specs.Ends.{End}
+use Rattle.actor_threads.specs.Ways.{Incoming, Outgoing, begun}
+use Rattle.actor_threads.specs.Work.{Shown, in_at, out_at, opened, waits}
+use Rattle.actor_threads.specs.Table.{row_at, Closed}
+
+module _ {A M N : Type 0} where
+  -- the worker of node j at the start of a round: no step, on each way in what waits in the world, and nothing sent; the link from s to r has the name `names s r`
+  pub record StartsAs (w : Network A M N) (names : ℕ → ℕ → TableId) (j : ℕ) (worker : Shown A M N) : Type 0 where
+    pub number : worker.number ≡ j
+    pub node : (d : A) → worker.node ≡ slice_index_or w.nodes j d
+    pub clock : worker.clock ≡ 0
+    pub steps : worker.steps ≡ []
+    pub notes : worker.notes ≡ []
+    pub count_ins : length worker.ins ≡ length w.nodes
+    pub count_outs : length worker.outs ≡ length w.nodes
+    pub ins : (p : ℕ) → p < length w.nodes → in_at worker.ins p ≡ record { link = names p j; done = []; kept = begun (waiting w (record { node = j; port = p })) }
+    pub outs : (r : ℕ) → r < length w.nodes → out_at worker.outs r ≡ record { link = names j r; all = [] }
+
+  -- the workers of all nodes at the start of a round
+  pub record AllStart (w : Network A M N) (workers : List (Shown A M N)) : Type 0 where
+    pub names : ℕ → ℕ → TableId
+    pub count : length workers ≡ length w.nodes
+    pub each : (j : ℕ) (d : Shown A M N) → j < length w.nodes → StartsAs w names j (slice_index_or workers j d)
+
+-- the worker that is opened with these ends, with what stands on the links to its node, of n
+pub record SeatedWith {A M N : Type 0} (n : ℕ) (links : List (List M)) (number : ℕ) (node : A) (input : List M) (takes sends : List (End M)) (worker : Shown A M N) : Type 0 where
+  pub kept : List (List M)
+  pub count : length kept ≡ n
+  pub lists : (p : ℕ) → p < n → row_at kept p ≡ row_at links (p * n + number)
+  pub is : worker ≡ opened number node (waits number input kept) takes sends
+
+module _ {M : Type 0} where
+  -- of n nodes each way in has the link of the way out at its other end
+  pub record CanCloseAll (n : ℕ) (ins : List (List (Incoming M))) (outs : List (List (Outgoing M))) : Type 0 where
+    pub receivers : length ins ≡ n
+    pub senders : length outs ≡ n
+    pub in_rows : (r : ℕ) → r < n → length (row_at ins r) ≡ n
+    pub out_rows : (s : ℕ) → s < n → length (row_at outs s) ≡ n
+    pub link : (s r : ℕ) → s < n → r < n → (out_at (row_at outs s) r).link ≡ (in_at (row_at ins r) s).link
+
+  -- the links of the first k of n senders are closed, each to its place
+  pub record AllClosed (k n : ℕ) (ins : List (List (Incoming M))) (outs : List (List (Outgoing M))) (links : List (List M)) : Type 0 where
+    pub count : length links ≡ k * n
+    pub closed : (s r : ℕ) → s < k → r < n → Closed (in_at (row_at ins r) s) (out_at (row_at outs s) r) (row_at links (s * n + r))
+
+-- what is gathered behind a round: the choices are the merge of the histories, each link has its list, that of the first is the input, and the notes stand behind the log
+pub record Gathered {A M N : Type 0} (nodes : List A) (histories : List History) (notes : List (List (List N))) (ins : List (List (Incoming M))) (outs : List (List (Outgoing M))) (log : List N) (world : Network A M N) (choices : List Choice) : Type 0 where
+  pub links : List (List M)
+  pub closed : AllClosed (length nodes) (length nodes) ins outs links
+  pub merged : IsMerge histories choices
+  pub is : world ≡ record { nodes = nodes; links = slice_set links 0 []; input = row_at links 0; log = log ++ dealt (λ j. row_at notes j) choices }

@@ -1,0 +1,100 @@
+//! A link for each ordered pair of nodes, opened before a round and closed after it.
+ghost use Rattle.std.specs.Prelude.{◌≡◌, ◌<◌, ◌++◌, ℕ, length, map, IfOk, OnOk};
+ghost use Rattle.actor_net.specs.Histories.{messages};
+ghost use Rattle.actor_threads.specs.Table.{row_at, RowOpened, AllOpened, Closed, RowClosed, CanClose};
+
+use crate::ways::{WayIn, WayOut};
+use actor_net::Stamped;
+use fifo_link::{Link, SendEnd, TakeEnd, close};
+use flow_filter::{NoMemory, Sequence};
+use std::alloc::Global;
+use std::collections::VecDeque;
+use std::sync::Wait;
+
+/// A link holds at most so many messages.
+pub const LINK_CAPACITY: usize = 64;
+
+/// The ends of the links between all nodes: a row of send ends for each sender, and a row of take ends for each receiver.
+#[derive(Drop)]
+pub struct Ends<M> {
+    pub sends: Vec<Vec<SendEnd<M>>>,
+    pub takes: Vec<Vec<TakeEnd<M>>>,
+}
+
+/// One new link for each ordered pair of nodes, a node with itself among them.
+pub fn open_all<M: Drop>(alloc: Global, nodes: usize) -> Result<Ends<M>, NoMemory>
+    ensures { IfOk result (λ e. AllOpened nodes nodes (map (λ v. v.items) e.sends.items) (map (λ v. v.items) e.takes.items)) }
+{
+    let mut takes = Vec::with_capacity(alloc, nodes)?;
+    for _ in 0..nodes {
+        takes.push(Vec::with_capacity(alloc, nodes)?)?;
+    }
+    let mut sends = Vec::with_capacity(alloc, nodes)?;
+    for _ in 0..nodes {
+        sends.push(open_row(alloc, &mut takes)?)?;
+    }
+    Ok(Ends { sends, takes })
+}
+
+// New links from one sender to all receivers.
+fn open_row<M: Drop>(
+    alloc: Global,
+    takes: &mut Vec<Vec<TakeEnd<M>>>,
+) -> Result<Vec<SendEnd<M>>, NoMemory>
+    ensures { IfOk result (λ row. RowOpened (length takes.old.items) row.items (map (λ v. v.items) takes.old.items) (map (λ v. v.items) takes.new.items)) }
+{
+    let mut row = Vec::with_capacity(alloc, takes.len())?;
+    for receiver in 0..takes.len() {
+        let (send, take) = Link::open(alloc, LINK_CAPACITY)?;
+        row.push(send)?;
+        takes[receiver].push(take)?;
+    }
+    Ok(row)
+}
+
+/// Closes the links of one sender. Each receiver's way in from it is its first. The lists of the links go behind those before.
+pub fn close_row<M: Drop, R: Wait>(
+    rt: &R,
+    mut row: VecDeque<WayOut<M>>,
+    ins: &mut Vec<VecDeque<WayIn<M>>>,
+    links: &mut Vec<Sequence<M>>,
+) -> Result<(), NoMemory>
+    requires { CanClose row.items (map (λ v. v.items) ins.old.items) }
+    ensures { OnOk result (RowClosed (length row.items) row.items (map (λ v. v.items) ins.old.items) (map (λ v. v.items) ins.new.items) links.old.items links.new.items) }
+{
+    let mut receiver = 0;
+    while let Some(way_out) = row.pop_front() {
+        let Some(way_in) = ins[receiver].pop_front() else {
+            unreachable!()
+        };
+        links.push(close_way(rt, way_in, way_out)?)?;
+        receiver += 1;
+    }
+    Ok(())
+}
+
+// Closes one link: what its receiver keeps, what was left on it, and what its sender got back.
+fn close_way<M: Drop, R: Wait>(
+    rt: &R,
+    way_in: WayIn<M>,
+    way_out: WayOut<M>,
+) -> Result<Sequence<M>, NoMemory>
+    requires { way_out.link ≡ way_in.link }
+    ensures { IfOk result (λ list. Closed way_in way_out list) }
+{
+    let (take, mut list) = way_in.parts()?;
+    let (send, waiting) = way_out.parts();
+    let left = close(rt, send, take).left;
+    append(&mut list, left)?;
+    append(&mut list, waiting)?;
+    Ok(Sequence::from_vec(list.into_vec()))
+}
+
+fn append<M: Drop>(list: &mut VecDeque<M>, more: Vec<Stamped<M>>) -> Result<(), NoMemory>
+    ensures { OnOk result (list.new.items ≡ list.old.items ++ messages more.items) }
+{
+    for next in more {
+        list.push_back(next.message)?;
+    }
+    Ok(())
+}

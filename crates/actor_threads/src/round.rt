@@ -1,0 +1,353 @@
+//! A round: all workers run beside each other, and then the world is made anew.
+ghost use Rattle.std.specs.Prelude.{◌≡◌, ◌≢◌, ◌↔◌, false, ◌<◌, ◌+◌, ◌*◌, ◌++◌, ℕ, List, true, IsTrue, [], ◌∷◌, length, map, slice_index_or, IfOk, OnOk, All};
+ghost use Rattle.std.specs.List.{list_all};
+ghost use Rattle.actor_net.specs.Network.{IsWorld, IsRun, run, is_enabled, is_done};
+ghost use Rattle.actor_net.specs.Histories.{dealt};
+ghost use Rattle.actor_net.specs.declared.choice.Choice.{Choice};
+ghost use Rattle.actor_threads.specs.Work.{Ran};
+ghost use Rattle.actor_threads.specs.Table.{row_at};
+ghost use Rattle.actor_threads.specs.Round.{AllStart, CanCloseAll, AllClosed, Gathered, SeatedWith};
+
+use crate::gate::Gate;
+use crate::links::{Ends, close_row, open_all};
+use crate::notes::NoteQueue;
+use crate::ways::{WayIn, WayOut};
+use crate::worker::Worker;
+use actor_net::{Actor, Choice, Choices, History, Parts, World, merge};
+use fifo_link::{SendEnd, TakeEnd};
+use flow_filter::{NoMemory, Sequence};
+use std::alloc::{AllocError, Global};
+use std::collections::VecDeque;
+use std::sync::Wait;
+use std::thread::Threads;
+use std::{mem, thread};
+
+// A worker, and whether its round came to its end.
+#[derive(Drop)]
+pub(crate) struct Seat<A: Actor> {
+    pub(crate) worker: Worker<A>,
+    done: bool,
+}
+
+impl<A: Actor> Seat<A> {
+    pub(crate) fn run<R: Wait, G: Gate>(&mut self, rt: &R, gate: &G)
+        ensures { IsTrue self.new.done → Ran A.is_ready A.stepped self.old.worker self.new.worker }
+    {
+        self.done = self.worker.work(rt, gate).is_ok();
+    }
+}
+
+// All workers run, each in a thread of its own where threads can be made.
+fn run_all<R: Threads + Wait + Sync, A: Actor + Send, G: Gate>(
+    rt: &R,
+    seats: &mut [Seat<A>],
+    gate: &G,
+)
+where
+    A::Message: Send,
+    A::Note: Send,
+    ensures { (i : ℕ) (d : _) → i < length seats.old → IsTrue (slice_index_or seats.new i d).done → Ran A.is_ready A.stepped (slice_index_or seats.old i d).worker (slice_index_or seats.new i d).worker }
+{
+    let run = |_at: usize, seat: &mut Seat<A>|
+        ensures { IsTrue seat.exit.now.done → Ran A.is_ready A.stepped seat.entry.now.worker seat.exit.now.worker }
+    { seat.run(rt, gate) };
+    thread::for_each_mut(rt, seats, 255, &run);
+}
+
+// The workers of all nodes, none of which has done a step.
+pub(crate) fn seat_all<A: Actor>(
+    alloc: Global,
+    world: World<A>,
+) -> Result<(Vec<Seat<A>>, Vec<A::Note>), NoMemory>
+    ensures seats { IfOk result (λ s. AllStart world (map (λ x. x.worker) s.0.items)) }
+    ensures log { IfOk result (λ s. s.1.items ≡ world.log) }
+    ensures world { IsWorld world }
+{
+    let Parts {
+        nodes,
+        links,
+        input,
+        log,
+    } = world.parts()?;
+    let mut nodes = VecDeque::from_vec(nodes.into_vec());
+    let mut links = links.into_vec();
+    let mut input = input.into_vec();
+    let count = nodes.len();
+    let Ends { sends, takes } = open_all(alloc, count)?;
+    let mut sends = VecDeque::from_vec(sends);
+    let mut takes = VecDeque::from_vec(takes);
+    let mut seats = Vec::with_capacity(alloc, count)?;
+    for number in 0..count {
+        let Some(node) = nodes.pop_front() else {
+            unreachable!()
+        };
+        let Some(sends) = sends.pop_front() else {
+            unreachable!()
+        };
+        let Some(takes) = takes.pop_front() else {
+            unreachable!()
+        };
+        let items = mem::replace(&mut input, Vec::new(alloc));
+        let worker = seat_one(alloc, number, node, items, &mut links, takes, sends)?;
+        seats.push(Seat {
+            worker,
+            done: false,
+        })?;
+    }
+    Ok((seats, log.into_vec()))
+}
+
+// The worker of one node, with what stands on the links to it.
+fn seat_one<A: Actor>(
+    alloc: Global,
+    number: usize,
+    node: A,
+    input: Vec<A::Message>,
+    links: &mut Vec<Sequence<A::Message>>,
+    takes: Vec<TakeEnd<A::Message>>,
+    sends: Vec<SendEnd<A::Message>>,
+) -> Result<Worker<A>, NoMemory>
+    requires count { (number < length takes.items) × (length takes.items < 256) }
+    requires square { length links.old.items ≡ length takes.items * length takes.items }
+    requires ends { length sends.items ≡ length takes.items }
+    requires input { (number ≡ 0 → row_at links.old.items 0 ≡ []) × (number ≢ 0 → input.items ≡ []) }
+    ensures worker { IfOk result (λ w. SeatedWith (length takes.items) links.old.items number node input.items takes.items sends.items w) }
+    ensures others { (p j : ℕ) → j < length takes.items → j ≢ number → row_at links.new.items (p * length takes.items + j) ≡ row_at links.old.items (p * length takes.items + j) }
+    ensures square { length links.new.items ≡ length links.old.items }
+{
+    let kept = column(alloc, links, takes.len(), number)?;
+    Worker::open(alloc, number as u8, node, input, kept, takes, sends)
+}
+
+// What stands on the links to one node, taken out of the table.
+fn column<M: Drop>(
+    alloc: Global,
+    links: &mut Vec<Sequence<M>>,
+    count: usize,
+    node: usize,
+) -> Result<Vec<Vec<M>>, NoMemory>
+    requires count { (node < count) × (count < 256) }
+    requires square { length links.old.items ≡ count * count }
+    ensures kept { IfOk result (λ kept. length kept.items ≡ count) }
+    ensures lists { IfOk result (λ kept. (p : ℕ) → p < count → row_at (map (λ v. v.items) kept.items) p ≡ row_at links.old.items (p * count + node)) }
+    ensures others { (p j : ℕ) → j < count → j ≢ node → row_at links.new.items (p * count + j) ≡ row_at links.old.items (p * count + j) }
+    ensures square { length links.new.items ≡ length links.old.items }
+{
+    let mut kept = Vec::with_capacity(alloc, count)?;
+    for port in 0..count {
+        let at = place(count, port, node);
+        let list = mem::replace(&mut links[at], Sequence::open(alloc));
+        kept.push(list.into_vec())?;
+    }
+    Ok(kept)
+}
+
+// The place of the link from one node to another.
+fn place(count: usize, from: usize, to: usize) -> usize
+    requires { (from < count) × (to < count) × (count < 256) }
+    ensures value { result ≡ from * count + to }
+    ensures small { result < count * count }
+{
+    from * count + to
+}
+
+// What the workers left.
+#[derive(Drop)]
+struct Field<A: Actor> {
+    nodes: Vec<A>,
+    histories: Vec<History>,
+    notes: Vec<NoteQueue<A::Note>>,
+    ins: Vec<VecDeque<WayIn<A::Message>>>,
+    outs: Vec<VecDeque<WayOut<A::Message>>>,
+}
+
+impl<A: Actor> Field<A> {
+    fn open(alloc: Global, count: usize) -> Result<Self, NoMemory>
+        ensures { IfOk result (λ f. (f.nodes.items ≡ []) × (f.histories.items ≡ []) × (f.notes.items ≡ []) × (f.ins.items ≡ []) × (f.outs.items ≡ [])) }
+    {
+        Ok(Field {
+            nodes: Vec::with_capacity(alloc, count)?,
+            histories: Vec::with_capacity(alloc, count)?,
+            notes: Vec::with_capacity(alloc, count)?,
+            ins: Vec::with_capacity(alloc, count)?,
+            outs: Vec::with_capacity(alloc, count)?,
+        })
+    }
+
+    fn add(&mut self, worker: Worker<A>) -> Result<(), NoMemory>
+        ensures nodes { OnOk result (self.new.nodes.items ≡ self.old.nodes.items ++ worker.node ∷ []) }
+        ensures histories { OnOk result (self.new.histories.items ≡ self.old.histories.items ++ record { node = worker.number; steps = worker.steps } ∷ []) }
+        ensures notes { OnOk result (self.new.notes.items ≡ self.old.notes.items ++ worker.notes ∷ []) }
+        ensures ins { OnOk result (map (λ v. v.items) self.new.ins.items ≡ map (λ v. v.items) self.old.ins.items ++ worker.ins ∷ []) }
+        ensures outs { OnOk result (map (λ v. v.items) self.new.outs.items ≡ map (λ v. v.items) self.old.outs.items ++ worker.outs ∷ []) }
+    {
+        let parts = worker.parts();
+        self.nodes.push(parts.node)?;
+        self.histories.push(History {
+            node: parts.number,
+            steps: Sequence::from_vec(parts.steps),
+        })?;
+        self.notes.push(parts.notes.into_queue())?;
+        self.ins.push(VecDeque::from_vec(parts.ins))?;
+        self.outs.push(VecDeque::from_vec(parts.outs))?;
+        Ok(())
+    }
+}
+
+fn take_apart<A: Actor>(alloc: Global, seats: Vec<Seat<A>>) -> Result<Field<A>, NoMemory>
+    ensures done { OnOk result (list_all (λ s. s.done) seats.items ≡ true) }
+    ensures nodes { IfOk result (λ f. f.nodes.items ≡ map (λ s. s.worker.node) seats.items) }
+    ensures histories { IfOk result (λ f. f.histories.items ≡ map (λ s. record { node = s.worker.number; steps = s.worker.steps }) seats.items) }
+    ensures notes { IfOk result (λ f. f.notes.items ≡ map (λ s. s.worker.notes) seats.items) }
+    ensures ins { IfOk result (λ f. map (λ v. v.items) f.ins.items ≡ map (λ s. s.worker.ins) seats.items) }
+    ensures outs { IfOk result (λ f. map (λ v. v.items) f.outs.items ≡ map (λ s. s.worker.outs) seats.items) }
+{
+    let mut field = Field::open(alloc, seats.len())?;
+    let mut seats = VecDeque::from_vec(seats);
+    while let Some(seat) = seats.pop_front() {
+        if !seat.done {
+            return Err(AllocError);
+        }
+        field.add(seat.worker)?;
+    }
+    Ok(field)
+}
+
+// Closes all links. The list of the link from s to r stands at place s * n + r.
+fn close_all<M: Drop, R: Wait>(
+    rt: &R,
+    alloc: Global,
+    mut ins: Vec<VecDeque<WayIn<M>>>,
+    outs: Vec<VecDeque<WayOut<M>>>,
+) -> Result<Vec<Sequence<M>>, NoMemory>
+    requires { CanCloseAll (length ins.items) (map (λ v. v.items) ins.items) (map (λ v. v.items) outs.items) }
+    ensures { IfOk result (λ links. AllClosed (length ins.items) (length ins.items) (map (λ v. v.items) ins.items) (map (λ v. v.items) outs.items) links.items) }
+{
+    let mut outs = VecDeque::from_vec(outs);
+    let mut links = Vec::new(alloc);
+    for _ in 0..outs.len() {
+        let Some(row) = outs.pop_front() else {
+            unreachable!()
+        };
+        close_row(rt, row, &mut ins, &mut links)?;
+    }
+    Ok(links)
+}
+
+// The notes of all nodes, in the order of the choices.
+fn deal_all<N: Drop>(
+    choices: &[Choice],
+    notes: &mut Vec<NoteQueue<N>>,
+    log: &mut Vec<N>,
+) -> Result<(), NoMemory>
+    ensures { OnOk result (log.new.items ≡ log.old.items ++ dealt (λ j. row_at notes.old.items j) choices.now) }
+{
+    for choice in choices {
+        deal_one(*choice, notes, log)?;
+    }
+    Ok(())
+}
+
+// The notes of one step. They are the next of its node's.
+fn deal_one<N: Drop>(
+    choice: Choice,
+    notes: &mut Vec<NoteQueue<N>>,
+    log: &mut Vec<N>,
+) -> Result<(), NoMemory>
+    ensures { OnOk result ((cs : List Choice) → log.new.items ++ dealt (λ j. row_at notes.new.items j) cs ≡ log.old.items ++ dealt (λ j. row_at notes.old.items j) (choice ∷ cs)) }
+{
+    let node = choice.node as usize;
+    if node >= notes.len() {
+        return Ok(());
+    }
+    notes[node].deal(log)?;
+    Ok(())
+}
+
+// The world that the workers left, and the choices that they made.
+fn gather<R: Wait, A: Actor>(
+    rt: &R,
+    alloc: Global,
+    field: Field<A>,
+    mut log: Vec<A::Note>,
+) -> Result<(World<A>, Choices), NoMemory>
+    requires some { (0 < length field.nodes.items) × (length field.nodes.items < 256) }
+    requires close { CanCloseAll (length field.nodes.items) (map (λ v. v.items) field.ins.items) (map (λ v. v.items) field.outs.items) }
+    ensures { IfOk result (λ r. Gathered field.nodes.items field.histories.items field.notes.items (map (λ v. v.items) field.ins.items) (map (λ v. v.items) field.outs.items) log.items r.0 r.1) }
+{
+    let Field {
+        nodes,
+        histories,
+        mut notes,
+        ins,
+        outs,
+    } = field;
+    let mut links = close_all(rt, alloc, ins, outs)?;
+    let choices = merge(alloc, histories.as_slice())?;
+    deal_all(choices.items(), &mut notes, &mut log)?;
+    let input = mem::replace(&mut links[0], Sequence::open(alloc));
+    let parts = Parts {
+        nodes: Sequence::from_vec(nodes),
+        links: Sequence::from_vec(links),
+        input,
+        log: Sequence::from_vec(log),
+    };
+    Ok((World::from_parts(alloc, parts)?, choices))
+}
+
+/// One round of a world: its workers run until each of them found nothing to do for a while. The choices are those that
+/// they made, and the world is the replay of these.
+pub fn run_round<R: Threads + Wait + Sync, A: Actor + Send, G: Gate>(
+    rt: &R,
+    alloc: Global,
+    world: World<A>,
+    gate: &G,
+) -> Result<(World<A>, Choices), NoMemory>
+where
+    A::Message: Send,
+    A::Note: Send,
+    ensures run { IfOk result (λ r. IsRun A.is_ready A.stepped r.1 world × (r.0 ≡ run A.stepped r.1 world)) }
+    ensures moves { IfOk result (λ r. (r.1 ≡ []) ↔ ((c : Choice) → is_enabled A.is_ready world c ≡ false)) }
+{
+    let (mut seats, log) = seat_all(alloc, world)?;
+    run_all(rt, seats.as_mut_slice(), gate);
+    let field = take_apart(alloc, seats)?;
+    let (left, choices) = gather(rt, alloc, field, log)?;
+    Ok((left, choices))
+}
+
+/// Rounds of a world until it is complete. The choices are those of all rounds.
+pub fn run_threads<R: Threads + Wait + Sync, A: Actor + Send, G: Gate>(
+    rt: &R,
+    alloc: Global,
+    world: World<A>,
+    gate: &G,
+) -> Result<(World<A>, Choices), NoMemory>
+where
+    A::Message: Send,
+    A::Note: Send,
+    ensures run { IfOk result (λ r. IsRun A.is_ready A.stepped r.1 world × (r.0 ≡ run A.stepped r.1 world)) }
+    ensures complete { IfOk result (λ r. is_done A.has_ended r.0 ≡ true) }
+{
+    let mut world = world;
+    let mut choices = Choices::open(alloc);
+    for _ in rt.forever() {
+        if world.complete() {
+            return Ok((world, choices));
+        }
+        let (next, more) = run_round(rt, alloc, world, gate)?;
+        join(&mut choices, &more)?;
+        world = next;
+    }
+    unreachable!()
+}
+
+// Puts more choices behind those before.
+fn join(choices: &mut Choices, more: &Choices) -> Result<(), NoMemory>
+    ensures { OnOk result (choices.new ≡ choices.old ++ more.now) }
+{
+    for choice in more.items() {
+        choices.push(*choice)?;
+    }
+    Ok(())
+}

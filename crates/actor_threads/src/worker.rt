@@ -1,0 +1,352 @@
+//! One node in a round, with a way in from each node and a way out to each.
+ghost use Rattle.std.specs.Prelude.{◌≡◌, ◌<◌, ◌+◌, ◌≢◌, ℕ, false, [], length, max, map, slice_index_or, IfOk, OnOk, IfNone, IfSome, MatchOption};
+ghost use Rattle.actor_threads.specs.Ways.{Sends, last_clock};
+ghost use Rattle.actor_threads.specs.Work.{is_input_of, opened, waits, all_in, all_out, out_at, put_for, Idled, Found, Acted, IsQuiet, IsQuietAt, Worked};
+
+use crate::gate::Gate;
+use crate::notes::Notes;
+use crate::ways::{WayIn, WayOut};
+use actor_net::{Actor, Outbox, Stamped};
+use fifo_link::{SendEnd, TakeEnd};
+use flow_filter::NoMemory;
+use std::alloc::Global;
+use std::collections::VecDeque;
+use std::marker::Model;
+use std::sync::Wait;
+use std::thread;
+
+/// A round of a worker ends after so many looks in a row that found no step.
+pub const IDLE_LOOKS: u32 = 1000;
+
+/// One node for one round. It owns the node and its ends of the links.
+#[derive(Drop)]
+pub struct Worker<A: Actor> {
+    number: u8,
+    node: A,
+    clock: u64,
+    steps: Vec<(u64, u8)>,
+    notes: Notes<A::Note>,
+    ins: Vec<WayIn<A::Message>>,
+    outs: Vec<WayOut<A::Message>>,
+    outbox: Outbox<A::Message, A::Note>,
+    // Where the next look at the take ends begins.
+    turn: usize,
+}
+
+impl<A: Actor> Model for Worker<A> {
+    ghost use Rattle.std.specs.Prelude.{◌≡◌, ◌<◌, length};
+    ghost use Rattle.actor_threads.specs.Work.{Shown};
+
+    ghost Value = { Shown A A.Message A.Note };
+
+    ghost view = { λ w. record { number = w.number; node = w.node; clock = w.clock; steps = w.steps.items; notes = w.notes; ins = w.ins.items; outs = w.outs.items } };
+
+    ghost invariant = { λ w. (length w.ins.items < 256) × (length w.outs.items ≡ length w.ins.items) };
+}
+
+/// A worker taken apart.
+#[derive(Drop)]
+pub struct Apart<A: Actor> {
+    pub number: u8,
+    pub node: A,
+    pub steps: Vec<(u64, u8)>,
+    pub notes: Notes<A::Note>,
+    pub ins: Vec<WayIn<A::Message>>,
+    pub outs: Vec<WayOut<A::Message>>,
+}
+
+impl<A: Actor> Worker<A> {
+    /// A worker without steps. `kept` has what stood on the link from each node before the round, and `input` is the input,
+    /// which is that of node 0.
+    pub fn open(
+        alloc: Global,
+        number: u8,
+        node: A,
+        input: Vec<A::Message>,
+        kept: Vec<Vec<A::Message>>,
+        takes: Vec<TakeEnd<A::Message>>,
+        sends: Vec<SendEnd<A::Message>>,
+    ) -> Result<Worker<A>, NoMemory>
+        requires lengths { (length kept.items ≡ length takes.items) × (length sends.items ≡ length takes.items) }
+        requires few { length takes.items < 256 }
+        requires node { number < length takes.items }
+        requires input { (number ≡ 0 → slice_index_or (map (λ v. v.items) kept.items) 0 [] ≡ []) × (number ≢ 0 → input.items ≡ []) }
+        ensures { IfOk result (λ w. w ≡ opened number node (waits number input.items (map (λ v. v.items) kept.items)) takes.items sends.items) }
+    {
+        let kept = with_input(number, input, VecDeque::from_vec(kept))?;
+        let ins = ways_in(alloc, VecDeque::from_vec(takes), kept)?;
+        let outs = ways_out(alloc, sends)?;
+        Ok(Worker {
+            number,
+            node,
+            clock: 0,
+            steps: Vec::new(alloc),
+            notes: Notes::open(alloc),
+            ins,
+            outs,
+            outbox: Outbox::open(alloc),
+            turn: 0,
+        })
+    }
+
+    /// All that the worker holds.
+    pub fn parts(self) -> Apart<A>
+        ensures { self ≡ record { number = result.number; node = result.node; clock = self.clock; steps = result.steps.items; notes = result.notes; ins = result.ins.items; outs = result.outs.items } }
+    {
+        Apart {
+            number: self.number,
+            node: self.node,
+            steps: self.steps,
+            notes: self.notes,
+            ins: self.ins,
+            outs: self.outs,
+        }
+    }
+
+    /// Does the steps of one round. The round ends after [`IDLE_LOOKS`] looks in a row that found no step. After want of
+    /// memory the worker is only taken apart.
+    pub fn work<R: Wait, G: Gate>(&mut self, rt: &R, gate: &G) -> Result<(), NoMemory>
+        ensures worked { OnOk result (Worked A.is_ready A.stepped self.old self.new) }
+        ensures moves { OnOk result (length self.new.steps ≡ length self.old.steps → IsQuiet A.is_ready self.old) }
+    {
+        let mut idle = 0;
+        for _ in rt.forever() {
+            self.flush(rt);
+            match self.look(rt) {
+                Some((port, message)) => {
+                    self.pass(gate);
+                    self.step(port, message)?;
+                    idle = 0;
+                }
+                None => {
+                    idle += 1;
+                    if idle >= IDLE_LOOKS {
+                        return Ok(());
+                    }
+                    thread::yield_now();
+                }
+            }
+        }
+        unreachable!()
+    }
+
+    /// The steps of this round, each a clock and a port.
+    pub fn steps(&self) -> &[(u64, u8)]
+        ensures { result.now ≡ self.now.steps }
+    {
+        self.steps.as_slice()
+    }
+
+    fn pass<G: Gate>(&self, gate: &G) {
+        gate.pass(self.number, self.steps.len() as u64);
+    }
+
+    // Sends what waits, as far as the links have room.
+    fn flush<R: Wait>(&mut self, rt: &R)
+        ensures { self.new ≡ self.old }
+    {
+        for out in self.outs.iter_mut() {
+            out.flush(rt);
+        }
+    }
+
+    // A message for the next step: first the input and what is kept, and then what the take ends give.
+    fn look<R: Wait>(&mut self, rt: &R) -> Option<(u8, Stamped<A::Message>)>
+        ensures found { MatchOption result (Idled self.old self.new) (λ f. Found A.is_ready self.old self.new f.0 f.1) }
+        ensures clock { IfSome result (λ f. self.new.clock < last_clock) }
+        ensures quiet { IfNone result (IsQuiet A.is_ready self.old) }
+    {
+        if self.clock >= u64::MAX {
+            return None;
+        }
+        if let Some(found) = self.look_kept() {
+            return Some(found);
+        }
+        self.look_taken(rt)
+    }
+
+    fn look_kept(&mut self) -> Option<(u8, Stamped<A::Message>)>
+        ensures found { MatchOption result (self.new ≡ self.old) (λ f. Found A.is_ready self.old self.new f.0 f.1) }
+        ensures quiet { IfNone result (IsQuiet A.is_ready self.old) }
+    {
+        for port in 0..self.ins.len() {
+            if let Some(message) = self.next_kept(port) {
+                return Some((port as u8, message));
+            }
+        }
+        None
+    }
+
+    fn next_kept(&mut self, port: usize) -> Option<Stamped<A::Message>>
+        requires { port < length self.old.ins }
+        ensures found { MatchOption result (self.new ≡ self.old) (λ x. Found A.is_ready self.old self.new port x) }
+        ensures quiet { IfNone result (IsQuietAt A.is_ready self.old port) }
+    {
+        if self.is_input(port) {
+            self.next_item()
+        } else {
+            self.next_message(port)
+        }
+    }
+
+    fn is_input(&self, port: usize) -> bool
+        ensures { result ≡ is_input_of self.now.number port }
+    {
+        self.number == 0 && port == 0
+    }
+
+    // The next item of the input, where the node is ready for it.
+    fn next_item(&mut self) -> Option<Stamped<A::Message>>
+        requires { (self.old.number ≡ 0) × (0 < length self.old.ins) }
+        ensures found { MatchOption result (self.new ≡ self.old) (λ x. Found A.is_ready self.old self.new 0 x) }
+        ensures quiet { IfNone result (IsQuietAt A.is_ready self.old 0) }
+    {
+        let Some(item) = self.ins[0].first() else {
+            return None;
+        };
+        if !self.node.ready(item) {
+            return None;
+        }
+        self.ins[0].next_kept()
+    }
+
+    fn next_message(&mut self, port: usize) -> Option<Stamped<A::Message>>
+        requires { (is_input_of self.old.number port ≡ false) × (port < length self.old.ins) }
+        ensures found { MatchOption result (self.new ≡ self.old) (λ x. Found A.is_ready self.old self.new port x) }
+        ensures quiet { IfNone result (IsQuietAt A.is_ready self.old port) }
+    {
+        self.ins[port].next_kept()
+    }
+
+    fn look_taken<R: Wait>(&mut self, rt: &R) -> Option<(u8, Stamped<A::Message>)>
+        ensures { MatchOption result (Idled self.old self.new) (λ f. Found A.is_ready self.old self.new f.0 f.1) }
+    {
+        for _ in 0..self.ins.len() {
+            let port = self.next_turn();
+            if let Some(message) = self.next_taken(rt, port) {
+                return Some((port as u8, message));
+            }
+        }
+        None
+    }
+
+    // The port at which the next look begins.
+    fn next_turn(&mut self) -> usize
+        requires { 0 < length self.old.ins }
+        ensures port { result < length self.old.ins }
+        ensures same { self.new ≡ self.old }
+    {
+        let port = if self.turn < self.ins.len() {
+            self.turn
+        } else {
+            0
+        };
+        self.turn = port + 1;
+        port
+    }
+
+    // The next message from the take end of a port. The input has none.
+    fn next_taken<R: Wait>(&mut self, rt: &R, port: usize) -> Option<Stamped<A::Message>>
+        requires { port < length self.old.ins }
+        ensures { MatchOption result (Idled self.old self.new) (λ x. Found A.is_ready self.old self.new port x) }
+    {
+        if self.is_input(port) {
+            return None;
+        }
+        self.end_at(rt, port)
+    }
+
+    fn end_at<R: Wait>(&mut self, rt: &R, port: usize) -> Option<Stamped<A::Message>>
+        requires { (is_input_of self.old.number port ≡ false) × (port < length self.old.ins) }
+        ensures { MatchOption result (Idled self.old self.new) (λ x. Found A.is_ready self.old self.new port x) }
+    {
+        self.ins[port].next_taken(rt)
+    }
+
+    // Does one step: the node takes the message, and what it sends carries the step's clock.
+    fn step(&mut self, port: u8, took: Stamped<A::Message>) -> Result<(), NoMemory>
+        requires clock { self.old.clock < last_clock }
+        requires stamp { took.clock < last_clock }
+        ensures { OnOk result (Acted A.stepped self.old self.new port took) }
+    {
+        let clock = next_clock(self.clock, took.clock);
+        self.outbox.clear();
+        self.node.step(port, took.message, &mut self.outbox)?;
+        self.clock = clock;
+        self.steps.push((clock, port))?;
+        self.notes.add(&mut self.outbox)?;
+        put_all(self.number, clock, &mut self.outbox, &mut self.outs)?;
+        Ok(())
+    }
+}
+
+// What waits at each port: at node 0 the input stands first.
+fn with_input<M: Drop>(
+    number: u8,
+    input: Vec<M>,
+    mut kept: VecDeque<Vec<M>>,
+) -> Result<VecDeque<Vec<M>>, NoMemory>
+    requires { 0 < length kept.items }
+    ensures lists { IfOk result (λ lists. map (λ v. v.items) lists.items ≡ waits number input.items (map (λ v. v.items) kept.items)) }
+    ensures count { IfOk result (λ lists. length lists.items ≡ length kept.items) }
+{
+    if number != 0 {
+        return Ok(kept);
+    }
+    let _first = kept.pop_front();
+    kept.push_front(input)?;
+    Ok(kept)
+}
+
+fn ways_in<M: Drop>(
+    alloc: Global,
+    mut takes: VecDeque<TakeEnd<M>>,
+    mut kept: VecDeque<Vec<M>>,
+) -> Result<Vec<WayIn<M>>, NoMemory>
+    requires { length kept.items ≡ length takes.items }
+    ensures { IfOk result (λ ways. ways.items ≡ all_in takes.items (map (λ v. v.items) kept.items)) }
+{
+    let mut ways = Vec::with_capacity(alloc, takes.len())?;
+    while let Some(take) = takes.pop_front() {
+        let Some(messages) = kept.pop_front() else {
+            unreachable!()
+        };
+        ways.push(WayIn::open(take, messages))?;
+    }
+    Ok(ways)
+}
+
+fn ways_out<M: Drop>(alloc: Global, sends: Vec<SendEnd<M>>) -> Result<Vec<WayOut<M>>, NoMemory>
+    ensures { IfOk result (λ ways. ways.items ≡ map all_out sends.items) }
+{
+    let mut ways = Vec::with_capacity(alloc, sends.len())?;
+    for send in sends {
+        ways.push(WayOut::open(alloc, send))?;
+    }
+    Ok(ways)
+}
+
+fn next_clock(clock: u64, stamp: u64) -> u64
+    requires { (clock < last_clock) × (stamp < last_clock) }
+    ensures { result ≡ max clock stamp + 1 }
+{
+    clock.max(stamp) + 1
+}
+
+// Puts what a step sent on the ways out. What no node takes is dropped.
+fn put_all<M: Drop, N>(
+    from: u8,
+    clock: u64,
+    outbox: &mut Outbox<M, N>,
+    outs: &mut Vec<WayOut<M>>,
+) -> Result<(), NoMemory>
+    ensures sent { OnOk result ((r : ℕ) → r < length outs.old.items → Sends (out_at outs.old.items r) (out_at outs.new.items r) (put_for (length outs.old.items) from r clock outbox.old.0)) }
+    ensures count { length outs.new.items ≡ length outs.old.items }
+{
+    while let Some((to, message)) = outbox.next_sent() {
+        if (to as usize) < outs.len() && !(from == 0 && to == 0) {
+            outs[to as usize].push(Stamped { clock, message })?;
+        }
+    }
+    Ok(())
+}

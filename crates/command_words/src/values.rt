@@ -1,0 +1,207 @@
+ghost use Rattle.std.specs.Prelude.{◌≡◌, if◌then◌else◌, Some, None, ◌≤◌, ◌==◌, ◌&&◌, ◌-◌, not, IfOk, IfSome, option_map, option_and_then, is_some, is_none, map, length};
+ghost use Rattle.std.specs.List.{slice_split};
+ghost use Rattle.flow_filter.specs.Block.{in_block};
+ghost use Rattle.flow_filter.specs.Name.{is_name};
+ghost use Rattle.flow_filter.specs.Reading.{block, cut, number_of};
+ghost use Rattle.command_words.specs.Plan.{function_of, instance_of, with_limit, all_instances, instances_of, inside_of, outside_of, window_of, schedule_of, file_of, file_if};
+ghost use Rattle.command_words.specs.RequestViews.{instances_view};
+
+use crate::request::{Instances, Schedule};
+use flow_filter::name::has_twice;
+use flow_filter::reading::{address, cut, first_piece, number, prefix};
+use flow_filter::{Name, NoMemory, Prefix, Site};
+use nf_function::Kind;
+use std::alloc::Global;
+
+/// The limit of an instance that names none, and the greatest.
+const MOST_RECORDS: u32 = 1_000_000;
+
+/// The most instances.
+const MOST_INSTANCES: usize = 16;
+
+/// The window that is not named.
+const WINDOW: u32 = 256;
+
+/// The function with this name.
+#[tactic(auto, unfolding(crate::specs::Plan::function_of))]
+pub fn function_of(text: Option<&str>) -> Option<Kind>
+    ensures { result ≡ option_and_then function_of (option_map (λ t. t.now) text.entry) }
+{
+    match text? {
+        "conntrack" => Some(Kind::Conntrack),
+        "nat" => Some(Kind::Nat),
+        "monitor" => Some(Kind::Monitor),
+        _ => None,
+    }
+}
+
+/// The instance that the text spells as `NAME` or `NAME:LIMIT`.
+#[tactic(auto, unfolding(crate::specs::Plan::instance_of))]
+fn instance_of(alloc: Global, text: &[u8]) -> Result<Option<(Name, u32)>, NoMemory>
+    ensures { IfOk result (λ found. found ≡ instance_of text.now) }
+{
+    match cut(text, b':') {
+        None => named(alloc, text, Some(MOST_RECORDS)),
+        Some((name, limit)) => named(alloc, name, limit_of(limit)),
+    }
+}
+
+/// The limit that the text spells.
+fn limit_of(text: &[u8]) -> Option<u32>
+    ensures { result ≡ number_of 1000000 text.now }
+{
+    let limit = number(text, 1_000_000)?;
+    Some(limit as u32)
+}
+
+/// The instance with this name and limit, where the name is one and the limit is there.
+fn named(alloc: Global, name: &[u8], limit: Option<u32>) -> Result<Option<(Name, u32)>, NoMemory>
+    ensures { IfOk result (λ found. found ≡ (if is_name name.now then option_map (λ limit. (name.now, limit)) limit else None)) }
+{
+    let Some(name) = Name::read(alloc, name)? else {
+        return Ok(None);
+    };
+    match limit {
+        None => Ok(None),
+        Some(limit) => Ok(Some((name, limit))),
+    }
+}
+
+/// The instances of a list, or `None` where one is malformed.
+fn all_instances(alloc: Global, list: &[u8]) -> Result<Option<Instances>, NoMemory>
+    ensures { IfOk result (λ found. option_map instances_view found ≡ all_instances (slice_split (λ b. b == 44) list.now)) }
+{
+    let mut names = Vec::new(alloc);
+    let mut limits = Vec::new(alloc);
+    let mut rest = Some(list);
+    while let Some(text) = rest {
+        let (first, more) = first_piece(text, b',');
+        let Some((name, limit)) = instance_of(alloc, first)? else {
+            return Ok(None);
+        };
+        names.push(name)?;
+        limits.push(limit)?;
+        rest = more;
+    }
+    Ok(Some(Instances { names, limits }))
+}
+
+/// The instances of a list, where there are at most 16 and their names differ.
+#[tactic(auto, unfolding(crate::specs::Plan::instances_of))]
+pub fn instances_of(alloc: Global, list: Option<&str>) -> Result<Option<Instances>, NoMemory>
+    ensures { IfOk result (λ found. option_map instances_view found ≡ option_and_then instances_of (option_map (λ t. t.now) list.entry)) }
+{
+    let Some(list) = list else {
+        return Ok(None);
+    };
+    let Some(instances) = all_instances(alloc, list.as_bytes())? else {
+        return Ok(None);
+    };
+    if instances.names.len() <= MOST_INSTANCES && !has_twice(instances.names.as_slice()) {
+        Ok(Some(instances))
+    } else {
+        Ok(None)
+    }
+}
+
+/// The block that the text spells as `A.B.C.D/L`.
+#[tactic(auto, unfolding(crate::specs::Plan::inside_of))]
+pub fn inside_of(text: Option<&str>) -> Option<Prefix>
+    ensures { option_map block result ≡ option_and_then inside_of (option_map (λ t. t.now) text.entry) }
+{
+    let text = text?.as_bytes();
+    cut(text, b'/')?;
+    prefix(text)
+}
+
+/// The site with this block and, for the translator alone, this outside address.
+pub fn site_of(kind: Kind, inside: Prefix, outside: Option<&str>) -> Option<Site>
+    ensures outside { option_map (λ s. s.outside) result ≡ outside_of kind (block inside) (option_map (λ t. t.now) outside.entry) }
+    ensures inside { IfSome result (λ s. s.inside ≡ inside) }
+{
+    match (kind, outside) {
+        (Kind::Nat, Some(text)) => translating(inside, address(text.as_bytes())?),
+        (Kind::Nat, None) => None,
+        (_, Some(_)) => None,
+        (_, None) => Some(Site {
+            inside,
+            outside: None,
+        }),
+    }
+}
+
+/// The site that translates to an address outside its /24.
+fn translating(inside: Prefix, outside: u32) -> Option<Site>
+    ensures outside { option_map (λ s. s.outside) result ≡ (if inside.len == 24 && not (in_block inside.bits inside.len outside) then Some (Some outside) else None) }
+    ensures inside { IfSome result (λ s. s.inside ≡ inside) }
+{
+    if inside.len == 24 && !inside.holds(outside) {
+        Some(Site {
+            inside,
+            outside: Some(outside),
+        })
+    } else {
+        None
+    }
+}
+
+/// The window, or 256 where none is named.
+#[tactic(auto, unfolding(crate::specs::Plan::window_of))]
+pub fn window_of(text: Option<&str>) -> Option<u32>
+    ensures { result ≡ window_of (option_map (λ t. t.now) text.entry) }
+{
+    match text {
+        None => Some(WINDOW),
+        Some(text) => {
+            let window = number(text.as_bytes(), 4096)?;
+            if 1 <= window {
+                Some(window as u32)
+            } else {
+                None
+            }
+        }
+    }
+}
+
+/// The schedule, or `first` where none is named.
+#[tactic(auto, unfolding(crate::specs::Plan::schedule_of))]
+pub fn schedule_of(text: Option<&str>) -> Option<Schedule>
+    ensures { result ≡ schedule_of (option_map (λ t. t.now) text.entry) }
+{
+    match text {
+        None => Some(Schedule::First),
+        Some(text) => named_schedule(text),
+    }
+}
+
+/// `first`, `last` or a number.
+#[tactic(auto, unfolding(crate::specs::Plan::schedule_of))]
+fn named_schedule(text: &str) -> Option<Schedule>
+    ensures { result ≡ schedule_of (Some text.now) }
+{
+    if text == "first" {
+        Some(Schedule::First)
+    } else if text == "last" {
+        Some(Schedule::Last)
+    } else {
+        number(text.as_bytes(), u64::MAX).map(Schedule::Number)
+    }
+}
+
+/// A file's name, which must be given and isn't empty.
+pub fn file_of<'a>(text: Option<&'a str>) -> Option<&'a str>
+    ensures { option_map (λ t. t.now) result ≡ option_and_then file_of (option_map (λ t. t.now) text.entry) }
+{
+    let text = text?;
+    if text.is_empty() { None } else { Some(text) }
+}
+
+/// A file's name, if it is given.
+pub fn file_if<'a>(text: Option<&'a str>) -> Option<Option<&'a str>>
+    ensures { option_map (λ f. option_map (λ t. t.now) f) result ≡ file_if (option_map (λ t. t.now) text.entry) }
+{
+    match text {
+        None => Some(None),
+        Some(_) => Some(Some(file_of(text)?)),
+    }
+}

@@ -1,0 +1,320 @@
+ghost use Rattle.std.specs.Prelude.{◌≡◌, map, option_map, string_bytes};
+ghost use Rattle.command_words.specs.Plan.{plan_of, sim_of, check_of, sim_values, check_values, is_built, is_conntrack, is_one_name, is_last};
+ghost use Rattle.command_words.specs.Views.{Reads, given_view};
+ghost use Rattle.command_words.specs.RequestViews.{request_view, sim_view, check_view};
+
+use crate::fault::WordsFault;
+use crate::grammar::{GivenWords, read_check, read_sim};
+use crate::request::{Checking, Request, Simulation};
+use crate::values::{
+    file_if, file_of, function_of, inside_of, instances_of, schedule_of, site_of, window_of,
+};
+use flow_filter::name::is_name;
+use std::alloc::Global;
+
+/// What the words ask for: the program's name, a command, and the words of the command.
+#[tactic(auto, unfolding(crate::specs::Plan::plan_of))]
+pub fn read_words<'a>(alloc: Global, words: &'a [String]) -> Result<Request<'a>, WordsFault>
+    ensures { Reads request_view result (plan_of (map string_bytes words.entry.now)) }
+{
+    match words {
+        [_, command, words @ ..] => {
+            if command.as_str() == "sim" {
+                read_simulation(alloc, words)
+            } else if command.as_str() == "check" {
+                read_checking(alloc, words)
+            } else {
+                Err(WordsFault::Usage)
+            }
+        }
+        _ => Err(WordsFault::Usage),
+    }
+}
+
+/// What the words behind `sim` ask for.
+fn read_simulation<'a>(alloc: Global, words: &'a [String]) -> Result<Request<'a>, WordsFault>
+    ensures { Reads request_view result (sim_of (map string_bytes words.entry.now)) }
+{
+    let given = read_sim(alloc, words)?;
+    if !is_built(&given) {
+        return Err(WordsFault::Usage);
+    }
+    let simulation = sim_values(alloc, &given)?;
+    Ok(Request::Sim(simulation))
+}
+
+/// What the words behind `check` ask for.
+fn read_checking<'a>(alloc: Global, words: &'a [String]) -> Result<Request<'a>, WordsFault>
+    ensures { Reads request_view result (check_of (map string_bytes words.entry.now)) }
+{
+    let given = read_check(alloc, words)?;
+    let checking = check_values(alloc, &given)?;
+    Ok(Request::Check(checking))
+}
+
+/// Whether `sim` does by now what the texts ask for.
+#[tactic(auto, unfolding(crate::specs::Plan::is_built))]
+fn is_built(given: &GivenWords<'_>) -> bool
+    ensures { result ≡ is_built (given_view given.now) }
+{
+    is_conntrack(given.function)
+        && is_one_name(given.instances)
+        && is_last(given.schedule)
+        && given.window.is_none()
+        && given.script.is_none()
+}
+
+/// Whether the function is the connection tracker.
+fn is_conntrack(text: Option<&str>) -> bool
+    ensures { result ≡ is_conntrack (option_map (λ t. t.now) text.entry) }
+{
+    match text {
+        None => false,
+        Some(text) => text == "conntrack",
+    }
+}
+
+/// Whether the list is one name, without a limit.
+fn is_one_name(text: Option<&str>) -> bool
+    ensures { result ≡ is_one_name (option_map (λ t. t.now) text.entry) }
+{
+    match text {
+        None => false,
+        Some(text) => is_name(text.as_bytes()),
+    }
+}
+
+/// Whether the schedule is given as `last`.
+fn is_last(text: Option<&str>) -> bool
+    ensures { result ≡ is_last (option_map (λ t. t.now) text.entry) }
+{
+    match text {
+        None => false,
+        Some(text) => text == "last",
+    }
+}
+
+/// The values of `sim`, where each is in its grammar.
+#[tactic(auto, unfolding(crate::specs::Plan::sim_values))]
+fn sim_values<'a>(alloc: Global, given: &GivenWords<'a>) -> Result<Simulation<'a>, WordsFault>
+    ensures { Reads sim_view result (sim_values (given_view given.now)) }
+{
+    let Some(kind) = function_of(given.function) else {
+        return Err(WordsFault::Usage);
+    };
+    let Some(instances) = instances_of(alloc, given.instances)? else {
+        return Err(WordsFault::Usage);
+    };
+    let Some(inside) = inside_of(given.inside) else {
+        return Err(WordsFault::Usage);
+    };
+    let Some(site) = site_of(kind, inside, given.outside) else {
+        return Err(WordsFault::Usage);
+    };
+    let Some(window) = window_of(given.window) else {
+        return Err(WordsFault::Usage);
+    };
+    let Some(schedule) = schedule_of(given.schedule) else {
+        return Err(WordsFault::Usage);
+    };
+    let Some(trace) = file_of(given.trace) else {
+        return Err(WordsFault::Usage);
+    };
+    let Some(script) = file_if(given.script) else {
+        return Err(WordsFault::Usage);
+    };
+    Ok(Simulation {
+        kind,
+        instances,
+        site,
+        window,
+        schedule,
+        trace,
+        script,
+    })
+}
+
+/// The values of `check`, where each is in its grammar.
+#[tactic(auto, unfolding(crate::specs::Plan::check_values))]
+fn check_values<'a>(alloc: Global, given: &GivenWords<'a>) -> Result<Checking<'a>, WordsFault>
+    ensures { Reads check_view result (check_values (given_view given.now)) }
+{
+    let Some(kind) = function_of(given.function) else {
+        return Err(WordsFault::Usage);
+    };
+    let Some(instances) = instances_of(alloc, given.instances)? else {
+        return Err(WordsFault::Usage);
+    };
+    let Some(script) = file_of(given.script) else {
+        return Err(WordsFault::Usage);
+    };
+    Ok(Checking {
+        kind,
+        instances,
+        script,
+    })
+}
+
+#[cfg(test)]
+mod tests {
+    use super::*;
+    use std::alloc::AllocError;
+    use std::test::Fail;
+
+    /// Words, and the command that they ask for, or `usage`.
+    static ROWS: [(&str, &str); 36] = [
+        (
+            "x sim conntrack --instances a --inside 10.0.0.0/24 --schedule last t",
+            "sim",
+        ),
+        (
+            "x sim --schedule=last conntrack --inside=10.0.0.0/24 t --instances=a",
+            "sim",
+        ),
+        (
+            "x sim conntrack --instances a --inside 10.0.0.0/24 --schedule last -",
+            "sim",
+        ),
+        (
+            "x sim conntrack --instances a --inside 10.0.0.0/24 --schedule last -- -t",
+            "sim",
+        ),
+        (
+            "x sim conntrack --instances a --inside 10.0.0.0/24 --schedule last -- --",
+            "sim",
+        ),
+        (
+            "x sim conntrack --instances a --inside 10.0.0.0/24 --schedule last -t",
+            "usage",
+        ),
+        (
+            "x sim conntrack --instances a --inside 10.0.0.0/24 --schedule last t s",
+            "usage",
+        ),
+        (
+            "x sim conntrack --instances a --inside 10.0.0.0/24 --schedule first t",
+            "usage",
+        ),
+        (
+            "x sim conntrack --instances a --inside 10.0.0.0/24 t",
+            "usage",
+        ),
+        (
+            "x sim conntrack --instances a:5 --inside 10.0.0.0/24 --schedule last t",
+            "usage",
+        ),
+        (
+            "x sim conntrack --instances a,b --inside 10.0.0.0/24 --schedule last t",
+            "usage",
+        ),
+        (
+            "x sim conntrack --instances a --inside 10.0.0.0/24 --schedule last --window 256 t",
+            "usage",
+        ),
+        (
+            "x sim nat --instances a --inside 10.0.0.0/24 --outside 203.0.113.1 --schedule last t",
+            "usage",
+        ),
+        (
+            "x sim conntrack --instances a --inside 10.0.0.0/24 --outside 203.0.113.1 --schedule last t",
+            "usage",
+        ),
+        (
+            "x sim conntrack --instances a --inside 10.0.0.0 --schedule last t",
+            "usage",
+        ),
+        (
+            "x sim conntrack --instances a --inside 10.0.0.1/24 --schedule last t",
+            "usage",
+        ),
+        (
+            "x sim conntrack --instances a --inside 10.0.0.0/024 --schedule last t",
+            "usage",
+        ),
+        (
+            "x sim conntrack --instances a --instances a --inside 10.0.0.0/24 --schedule last t",
+            "usage",
+        ),
+        (
+            "x sim conntrack --instances a --inside 10.0.0.0/24 --schedule last --summary t",
+            "usage",
+        ),
+        (
+            "x sim conntrack --instances a --inside 10.0.0.0/24 --sched last t",
+            "usage",
+        ),
+        (
+            "x sim conntrack --instances a --inside 10.0.0.0/24 --schedule last --help t",
+            "usage",
+        ),
+        ("x sim conntrack t", "usage"),
+        (
+            "x --schedule last sim conntrack --instances a --inside 10.0.0.0/24 t",
+            "usage",
+        ),
+        ("x check nat --instances a,b:5,c:0 s", "check"),
+        ("x check monitor s --instances a,b:1000000", "check"),
+        (
+            "x check conntrack --instances a,b,c,d,e,f,g,h,i,j,k,l,m,n,o,p s",
+            "check",
+        ),
+        (
+            "x check conntrack --instances a,b,c,d,e,f,g,h,i,j,k,l,m,n,o,p,q s",
+            "usage",
+        ),
+        ("x check nat --instances a,b:05 s", "usage"),
+        ("x check nat --instances a,b:1000001 s", "usage"),
+        ("x check nat --instances a,a:5 s", "usage"),
+        ("x check nat --instances a, s", "usage"),
+        ("x check nat --instances= s", "usage"),
+        ("x check nat --instances a", "usage"),
+        ("x check ids --instances a s", "usage"),
+        ("x", "usage"),
+        (
+            "x run conntrack --instances a --inside 10.0.0.0/24 t",
+            "usage",
+        ),
+    ];
+
+    /// The words of a line.
+    fn split(alloc: Global, line: &str) -> Result<Vec<String>, AllocError> {
+        line.split(' ')
+            .map(|word| String::from_str(alloc, word))
+            .try_collect(alloc)
+    }
+
+    /// The command that a reading asks for.
+    fn asked(reading: Result<Request<'_>, WordsFault>) -> &'static str {
+        match reading {
+            Ok(Request::Sim(_)) => "sim",
+            Ok(Request::Check(_)) => "check",
+            Err(WordsFault::Usage) => "usage",
+            Err(WordsFault::NoMemory) => "no memory",
+        }
+    }
+
+    #[test]
+    fn each_row_of_words_is_a_command_or_usage(rt: HostRuntime) -> Result<(), Fail> {
+        for (line, expected) in ROWS.as_slice() {
+            let words = split(rt.alloc(), line)?;
+            let found = asked(read_words(rt.alloc(), words.as_slice()));
+            assert!(rt; found == *expected, "{line}: {found}");
+        }
+        Ok(())
+    }
+
+    #[test]
+    fn check_gives_names_limits_and_the_file(rt: HostRuntime) -> Result<(), Fail> {
+        let words = split(rt.alloc(), "x check nat --instances a,b:5 s")?;
+        let Ok(Request::Check(checking)) = read_words(rt.alloc(), words.as_slice()) else {
+            return Err(Fail::from("no check"));
+        };
+        assert_eq!(rt;
+            checking.instances.limits.as_slice(),
+            [1_000_000, 5].as_slice()
+        );
+        assert_eq!(rt; checking.instances.names.len(), 2);
+        assert_eq!(rt; checking.script, "s");
+        Ok(())
+    }
+}

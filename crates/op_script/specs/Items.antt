@@ -1,0 +1,27 @@
+-- The input of a run: the packets in order, and each line of the script behind the packet that it names.
+-- This project's own order.
+use Rattle.std.specs.Prelude.{ℕ, ◌+◌, Bool, ◌==◌, nat_le, List, [], ◌∷◌, ◌++◌, map, filter}
+use Rattle.flow_filter.specs.declared.packet.Packet.{Packet}
+use Rattle.nf_msgs.specs.declared.msg.Msg.{Msg}
+use Rattle.nf_msgs.specs.declared.msg.Msg.TheVariants.{InPacket, InCommand, InSettle, InEnd}
+use Rattle.op_script.specs.declared.script.Line.{Line}
+use Rattle.op_script.specs.declared.script.What.{What}
+use Rattle.op_script.specs.declared.script.What.TheVariants.{Command, Settle}
+
+-- the message of what happens
+abbrev pub msg_of : What → Msg
+msg_of (Command command) = InCommand command
+msg_of Settle = InSettle
+
+-- the messages of the lines at such points, in file order
+abbrev pub said_where : (ℕ → Bool) → List Line → List Msg
+said_where test lines = map (λ line. msg_of line.what) (filter (λ line. test line.at) lines)
+
+-- what stands behind k packets: the lines at k and the next packet in turn, and at the end the lines that are left
+abbrev pub behind : ℕ → List Packet → List Line → List Msg
+behind k [] lines = said_where (λ at. nat_le k at) lines
+behind k (packet ∷ more) lines = said_where (λ at. at == k) lines ++ InPacket packet ∷ behind (k + 1) more lines
+
+-- all that stands in the input
+abbrev pub items : List Packet → List Line → List Msg
+items packets lines = behind 0 packets lines ++ InEnd ∷ []

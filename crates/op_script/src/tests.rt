@@ -1,0 +1,158 @@
+use super::*;
+use flow_filter::{Name, Packet, Packets};
+use nf_function::Kind;
+use nf_msgs::Msg;
+use std::alloc::Global;
+use std::test::Fail;
+
+/// The instances `a` and `b`.
+fn instances(alloc: Global) -> Result<Vec<Name>, Fail> {
+    let mut names = Vec::new(alloc);
+    names.push(Name::read(alloc, b"a")?.ok_or("no name")?)?;
+    names.push(Name::read(alloc, b"b")?.ok_or("no name")?)?;
+    Ok(names)
+}
+
+/// The fault of a script, for the monitor and the instances `a` and `b`.
+fn fault_of(alloc: Global, text: &[u8]) -> Result<Option<ScriptFault>, Fail> {
+    let names = instances(alloc)?;
+    let read = read_script(alloc, text, Kind::Monitor, names.as_slice());
+    Ok(read.err())
+}
+
+/// Scripts, and the line and the rule at which each is refused.
+static FAULTS: [(&str, u32, ScriptKind); 18] = [
+    ("at 0 move a b rport=80 order", 1, ScriptKind::SplitsUnit),
+    ("at 9 settle\nat 5 settle", 2, ScriptKind::Order),
+    ("at 0 move a a any order", 1, ScriptKind::SameInstance),
+    ("# all\n\n at 0 settle now", 3, ScriptKind::Word),
+    ("at 07 settle", 1, ScriptKind::Word),
+    ("at 4294967296 settle", 1, ScriptKind::Word),
+    ("at 0 move a b any", 1, ScriptKind::Word),
+    ("at 0 share a any strict", 1, ScriptKind::Word),
+    ("at 0 share a, any strict", 1, ScriptKind::Name),
+    ("at 0 share a,b,a any strict", 1, ScriptKind::SameInstance),
+    ("at 0 settle\nroute any a", 2, ScriptKind::Order),
+    ("route any c", 1, ScriptKind::Name),
+    ("route local=1 a", 1, ScriptKind::Filter),
+    ("at 0 copy a B any", 1, ScriptKind::Name),
+    ("at 0 copy a a lport=x", 1, ScriptKind::SameInstance),
+    ("at 0 copy a b lport=x", 1, ScriptKind::Filter),
+    ("at 0 copy a b lport=1", 1, ScriptKind::SplitsUnit),
+    ("move a b any order", 1, ScriptKind::Word),
+];
+
+#[test]
+fn the_first_line_that_breaks_a_rule_is_refused(rt: HostRuntime) -> Result<(), Fail> {
+    for (text, line, kind) in FAULTS.as_slice() {
+        let found = fault_of(rt.alloc(), text.as_bytes())?;
+        let expected = ScriptFault::Bad {
+            line: *line,
+            kind: *kind,
+        };
+        assert_eq!(rt; found, Some(expected), "{text}");
+    }
+    Ok(())
+}
+
+#[test]
+fn a_byte_that_is_no_text_is_refused_also_in_a_comment(rt: HostRuntime) -> Result<(), Fail> {
+    let expected = ScriptFault::Bad {
+        line: 2,
+        kind: ScriptKind::NotUtf8,
+    };
+    assert_eq!(rt;
+        fault_of(rt.alloc(), b"at 0 settle\r\n# \xff\n")?,
+        Some(expected)
+    );
+    Ok(())
+}
+
+#[test]
+fn a_script_has_up_to_1000_lines_of_a_sort_and_2_to_the_20_bytes(
+    rt: HostRuntime,
+) -> Result<(), Fail> {
+    let mut text = Vec::new(rt.alloc());
+    for _ in 0..1000 {
+        text.extend_from_slice(b"at 1 settle\n")?;
+    }
+    assert_eq!(rt; fault_of(rt.alloc(), text.as_slice())?, None);
+    text.extend_from_slice(b"at 2 settle\n")?;
+    let too_many = ScriptFault::Bad {
+        line: 1001,
+        kind: ScriptKind::TooMany,
+    };
+    assert_eq!(rt; fault_of(rt.alloc(), text.as_slice())?, Some(too_many));
+    let long = vec![in rt.alloc(); b'#'; 1_048_577]?;
+    let too_long = ScriptFault::Bad {
+        line: 0,
+        kind: ScriptKind::TooMany,
+    };
+    assert_eq!(rt; fault_of(rt.alloc(), long.as_slice())?, Some(too_long));
+    Ok(())
+}
+
+#[test]
+fn the_canonical_text_has_one_space_between_words(rt: HostRuntime) -> Result<(), Fail> {
+    let names = instances(rt.alloc())?;
+    let text =
+        b"# x\nroute  local=10.0.0.9 b\nat 1 move a b rport=80,proto=tcp order\nat 1\tcopy b a all\nat 2 share b,a any strict\nat 2 settle";
+    let script = read_script(
+        rt.alloc(),
+        text.as_slice(),
+        Kind::Conntrack,
+        names.as_slice(),
+    )?;
+    let printed = print_script(rt.alloc(), &script, names.as_slice())?;
+    let expected =
+        b"route local=10.0.0.9/32 b\nat 1 move a b proto=tcp,rport=80 order\nat 1 copy b a all\nat 2 share b,a any strict\nat 2 settle\n";
+    assert_eq!(rt; printed.items(), expected.as_slice());
+    Ok(())
+}
+
+#[test]
+fn a_line_stands_behind_the_packet_that_it_names_or_behind_the_last(
+    rt: HostRuntime,
+) -> Result<(), Fail> {
+    let names = instances(rt.alloc())?;
+    let text = b"at 0 settle\nat 1 move a b any order\nat 9 settle\n";
+    let script = read_script(
+        rt.alloc(),
+        text.as_slice(),
+        Kind::Conntrack,
+        names.as_slice(),
+    )?;
+    let mut trace = Packets::open(rt.alloc());
+    trace.push(packet(1))?;
+    trace.push(packet(2))?;
+    let mut kinds = Vec::new(rt.alloc());
+    let input = items(rt.alloc(), trace, &script)?;
+    for msg in input.as_slice() {
+        let kind = match msg {
+            Msg::InPacket(_) => b'p',
+            Msg::InCommand(_) => b'c',
+            Msg::InSettle => b's',
+            Msg::InEnd => b'e',
+        };
+        kinds.push(kind)?;
+    }
+    assert_eq!(rt; kinds.as_slice(), b"spcpse".as_slice());
+    Ok(())
+}
+
+/// A packet with this number.
+fn packet(number: u32) -> Packet {
+    Packet {
+        number,
+        nanos: 0,
+        proto: 17,
+        src: 0x0a00_0001,
+        sport: 5000,
+        dst: 0xc000_0209,
+        dport: 53,
+        flags: 0,
+        length: 0,
+        held: 0,
+        head: [0; 64],
+    }
+}
