@@ -1,6 +1,9 @@
 pub mod Beside
+pub mod Built
 pub mod Causes
+pub mod CheckedRows
 pub mod FoldLaws
 pub mod LineLaws
 pub mod OrderLaws
 pub mod Rows
+pub mod ScriptFront

@@ -1,5 +1,5 @@
 -- From what a simulation did to its two roles to the row of its status.
-use Rattle.std.proofs.Common.{◌≡◌, ℕ, List, [], None, Some, refl, ap, ◌∙◌, sym, subst}
+use Rattle.std.proofs.Common.{◌≡◌, ℕ, List, [], None, Some, option_map, refl, ap, ◌∙◌, sym, subst}
 use Rattle.std.specs.Io.KnownBytes.{Appends}
 use Rattle.nf_io.specs.declared.outside.Role.{Role}
 use Rattle.nf_io.specs.declared.outside.Role.TheVariants.{Trace, Script, JournalIn, Report, JournalOut, TraceOut, Errors}

@@ -43,10 +43,10 @@ abbrev pub WroteReportAlone : (old new : Role → Meaning) → Type 0
 WroteReportAlone old new = (role : Role) → role ≢ Report → role ≢ Errors → (new role).written ≡ (old role).written
 
 -- the site with this inside block and this outside address
-pub record IsSite (site : Site) (inside : ℕ × ℕ) (outside : Option ℕ) : Type 0 where
-  pub bits : site.inside.bits ≡ inside.0
-  pub len : site.inside.len ≡ inside.1
-  pub outside : site.outside ≡ outside
+pub record IsSite (site : Site) (block : ℕ × ℕ) (address : Option ℕ) : Type 0 where
+  pub bits : site.inside.bits ≡ block.0
+  pub len : site.inside.len ≡ block.1
+  pub outside : site.outside ≡ address
 
 -- the status that refuses a capture
 abbrev pub trace_refusal : Result Captured TraceFault → Option Status

@@ -1,4 +1,4 @@
-ghost use Rattle.std.specs.Prelude.{◌≡◌, ◌≤◌, Some, None, IfOk, ◌⊎◌, length, take, drop};
+ghost use Rattle.std.specs.Prelude.{◌≡◌, ◌≤◌, ◌+◌, Some, None, IfOk, ◌⊎◌, length, take, drop};
 ghost use Rattle.std.specs.Option.{ForSome};
 ghost use Rattle.nf_io.specs.declared.outside.Role.TheVariants.{Script as ScriptRole, Report as ReportRole};
 ghost use Rattle.nf_io.specs.Meaning.{CanRead, OthersStay};
@@ -27,7 +27,7 @@ pub fn check<O: Outside>(alloc: Global, asked: &Checking<'_>, outside: &mut O) -
     let Ok(()) = outside.bind(Role::Script, asked.script) else {
         return Status::NoMemory;
     };
-    let bytes = match read_bytes(alloc, outside) {
+    let bytes = match read_bytes(alloc, outside, MOST_BYTES) {
         Ok(bytes) => bytes,
         Err(fault) => return Status::of_reading(Role::Script, fault),
     };
@@ -45,11 +45,11 @@ pub fn check<O: Outside>(alloc: Global, asked: &Checking<'_>, outside: &mut O) -
     }
 }
 
-/// Reads the script, or as much of one that is too long as shows that.
-fn read_bytes<O: Outside>(alloc: Global, outside: &mut O) -> Result<Bytes, UptoFault>
+/// Reads the script, or one byte more than `most` of one that is longer.
+fn read_bytes<O: Outside>(alloc: Global, outside: &mut O, most: u64) -> Result<Bytes, UptoFault>
     requires { CanRead ScriptRole (O.seen outside.old ScriptRole) }
     ensures bytes { ForSome (O.seen outside.old ScriptRole).left (λ bytes. IfOk result (λ found.
-        (found ≡ take 1048577 bytes) × ((O.seen outside.new ScriptRole).left ≡ Some (drop 1048577 bytes)))) }
+        (found ≡ take (most + 1) bytes) × ((O.seen outside.new ScriptRole).left ≡ Some (drop (most + 1) bytes)))) }
     ensures cause { HasUptoCause (O.seen outside.old ScriptRole).faults (O.seen outside.new ScriptRole).faults result }
     ensures written { (O.seen outside.new ScriptRole).written ≡ (O.seen outside.old ScriptRole).written }
     ensures name { (O.seen outside.new ScriptRole).name ≡ (O.seen outside.old ScriptRole).name }
@@ -59,5 +59,5 @@ fn read_bytes<O: Outside>(alloc: Global, outside: &mut O) -> Result<Bytes, UptoF
         outside,
         role: Role::Script,
     };
-    read_upto(alloc, &mut source, MOST_BYTES)
+    read_upto(alloc, &mut source, most)
 }

@@ -1,8 +1,9 @@
 -- Why each status of a simulation comes.
-use Rattle.std.proofs.Common.{rules, ◌≡◌, ◌≢◌, Some, Err, ap, refl}
+use Rattle.std.proofs.Common.{rules, ◌≡◌, ◌≢◌, Some, Err, get_or, ap, refl, subst}
 use Rattle.nf_io.specs.declared.outside.Role.TheVariants.{Trace as TraceRole, Report as ReportRole}
 use Rattle.nf_io.specs.Meaning.{Rose, AppendsFront}
 use Rattle.std.specs.Io.KnownBytes.{Appends}
+use Rattle.opennf_calls.proofs.Built.{single}
 use Rattle.opennf_calls.proofs.Causes.{fault_row}
 use Rattle.opennf_calls.proofs.run.simulate.Goals as goal
 
@@ -22,9 +23,10 @@ returns-in-Ok-put-clause-row g c = (
   search rules,
   λ bytes told.
       let told' : (g.O.Outside.seen c.bind.new.self TraceRole).left ≡ Some bytes = search rules in
+      let one = single c.args.asked.now.instances.names.items c.name-item.result c.requires.one (subst (λ names. c.name-item.result ≡ get_or names 0 c.name-item.result) c.as_slice.ensures.value c.name-item.is) in
       let gives = c.in-Ok-read_capture.ensures.trace bytes told' in
       let whole : Appends (g.O.Outside.seen c.args.outside.now ReportRole).written (g.O.Outside.seen c.put.new.outside ReportRole).written c.in-Ok-report.text = search rules in
-      (rw (c.in-Ok-put.ensures.others TraceRole other_role) gives.1, (c.in-Ok-read_capture.trace, gives.0, (c.in-Ok-report.text, c.in-Ok-report.ensures, whole))),
+      (rw (c.in-Ok-put.ensures.others TraceRole other_role) gives.1, (c.in-Ok-read_capture.trace, gives.0, (c.name-item.result, one, (c.in-Ok-report.text, c.in-Ok-report.ensures, whole)))),
 )
 
 pub returns-clause-row : goal.returns-clause-row
@@ -34,7 +36,8 @@ returns-clause-row g c = (
   search rules,
   λ bytes told.
       let told' : (g.O.Outside.seen c.bind.new.self TraceRole).left ≡ Some bytes = search rules in
+      let one = single c.args.asked.now.instances.names.items c.name-item.result c.requires.one (subst (λ names. c.name-item.result ≡ get_or names 0 c.name-item.result) c.as_slice.ensures.value c.name-item.is) in
       let gives = c.in-Ok-read_capture.ensures.trace bytes told' in
       let front : AppendsFront (g.O.Outside.seen c.args.outside.now ReportRole).written (g.O.Outside.seen c.put.new.outside ReportRole).written c.in-Ok-report.text = search rules in
-      (rw (c.in-Err-put.ensures.others TraceRole other_role) gives.1, (c.in-Ok-read_capture.trace, gives.0, (c.in-Ok-report.text, c.in-Ok-report.ensures, front))),
+      (rw (c.in-Err-put.ensures.others TraceRole other_role) gives.1, (c.in-Ok-read_capture.trace, gives.0, (c.name-item.result, one, (c.in-Ok-report.text, c.in-Ok-report.ensures, front)))),
 )
