@@ -1,5 +1,5 @@
 -- The end of the input.
-use Rattle.std.proofs.Common.{◌≡◌, ℕ, ◌≤◌, leb, List, [], ◌∷◌, ◌++◌, length, drop, refl, ap, sym, ◌∙◌}
+use Rattle.std.proofs.Common.{◌≡◌, ℕ, ◌≤◌, leb, List, [], ◌∷◌, ◌++◌, length, drop, ap, ◌∙◌}
 use Rattle.std.proofs.Math.ListN.{drop_of_length-le}
 use Rattle.flow_filter.specs.declared.packet.Packet.{Packet}
 use Rattle.nf_msgs.specs.declared.msg.Msg.{Msg}

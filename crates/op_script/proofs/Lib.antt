@@ -4,3 +4,4 @@ pub mod Lines
 pub mod FormsRight
 pub mod ReadScripts
 pub mod InputEnd
+pub mod Visible

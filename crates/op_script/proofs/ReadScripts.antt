@@ -1,8 +1,8 @@
 -- What was read breaks no rule.
-use Rattle.std.proofs.Common.{◌≡◌, ℕ, ◌+◌, ◌<◌, ◌≤◌, Bool, true, false, not, cond, leb, ltb, ◌&&◌, List, [], ◌∷◌, ◌++◌, length, map, Option, None, Some, is_some, unwrap_or, Ok, Err, Result, refl, ap, sym, ◌∙◌, arith, subst, length-append}
-use Rattle.std.specs.List.{AllByRecursion, list_all, slice_split, position}
+use Rattle.std.proofs.Common.{◌≡◌, ℕ, ◌+◌, ◌<◌, ◌≤◌, true, false, not, leb, ◌&&◌, List, [], ◌∷◌, ◌++◌, length, Option, None, Some, is_some, unwrap_or, Ok, Err, Result, refl, ap, sym, ◌∙◌, arith, subst, length-append}
+use Rattle.std.specs.List.{list_all, slice_split}
 use Rattle.std.specs.Str.{bytes_eq}
-use Rattle.std.proofs.lemmas.Bool.{leb-false, ltb-false, not-false, and_parts}
+use Rattle.std.proofs.lemmas.Bool.{leb-false, ltb-false, not-false}
 use Rattle.std.proofs.lemmas.List.Quantifiers.{position-Some}
 use Rattle.flow_filter.specs.declared.filter_text.FilterFault.{FilterFault}
 use Rattle.flow_filter.specs.Name.{has_twice, is_name}
@@ -11,17 +11,16 @@ use Rattle.flow_filter.specs.FilterText.{Fields, is_transport, parse}
 use Rattle.flow_filter.proofs.Printable.{parse_printable}
 use Rattle.nf_function.specs.declared.kind.Kind.{Kind}
 use Rattle.nf_function.specs.Units.{splits}
-use Rattle.op_script.specs.declared.fault.ScriptKind.{ScriptKind}
-use Rattle.op_script.specs.Forms.{Word, words, form_of, Event, Moving, Copying, Sharing, Settling, Form, Silent, Routing, Happening}
-use Rattle.op_script.specs.Reading.{State, start, OrderView, Moves, Copies, Shares, LineView, Judged, ◌>>=◌, unless, wanted, place_of, ends_of, members_of, whole, filter_of, filter_or_all, with_route, with_line, noted, numbered, order_of, goes_back, with_event, with_form, with_text, Whole, and_lines, with_lines, script_of, said, ScriptView}
-use Rattle.op_script.specs.Printing.{IsRoute, IsOrder, IsWhat, IsLine, IsScript, is_writable, follows}
+use Rattle.op_script.specs.Forms.{Word, words, Event, Moving, Copying, Sharing, Settling, Form, Silent, Routing, Happening}
+use Rattle.op_script.specs.Reading.{State, start, OrderView, Moves, Copies, Shares, LineView, Judged, ◌>>=◌, unless, wanted, place_of, ends_of, members_of, whole, filter_of, filter_or_all, with_route, with_line, noted, numbered, order_of, goes_back, with_event, with_form, with_text, and_lines, with_lines}
+use Rattle.op_script.specs.Printing.{IsRoute, IsWhat, IsLine, IsScript, is_writable}
 use Rattle.std.specs.Prelude.{◌==◌}
 use Rattle.std.specs.Str.Lines.{strip_carriage_return}
 use Rattle.std.proofs.lemmas.List.Splits.{length-slice_split}
 use Rattle.flow_filter.proofs.CutLaws.{split-Some}
 use Rattle.op_script.specs.declared.fault.ScriptKind.TheVariants as bad
 use Rattle.op_script.proofs.FormsRight.{IsEvent, IsForm, form_right}
-use Rattle.op_script.proofs.Judged.{Steps, steps, unless_Ok, wanted_Ok}
+use Rattle.op_script.proofs.Judged.{steps, unless_Ok, wanted_Ok}
 use Rattle.op_script.proofs.Lines.{All-append, last_at, last_at-append, follows-append, numbered_next}
 
 -- what holds while lines are read

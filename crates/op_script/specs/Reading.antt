@@ -1,7 +1,7 @@
 -- Reading an operator's script: what its lines say in turn, and the fault of the first line that breaks a rule.
 -- This project's own rules. In a line the faults are looked for in the order in which the definitions ask.
-use Rattle.std.specs.Prelude.{◌≡◌, ℕ, ◌+◌, Bool, true, false, not, ◌&&◌, ◌||◌, ◌==◌, nat_lt, nat_le, if◌then◌else◌, List, [], ◌∷◌, ◌++◌, length, map, Option, None, Some, is_some, option_map, Result, Ok, Err}
-use Rattle.std.specs.List.{slice_split, list_all, list_any, position}
+use Rattle.std.specs.Prelude.{◌≡◌, ℕ, ◌+◌, Bool, true, false, not, ◌&&◌, ◌==◌, nat_lt, nat_le, if◌then◌else◌, List, [], ◌∷◌, ◌++◌, length, map, Option, None, Some, is_some, option_map, Result, Ok, Err}
+use Rattle.std.specs.List.{slice_split, list_all, position}
 use Rattle.std.specs.Str.{bytes_eq, is_utf8}
 use Rattle.std.specs.Str.Lines.{strip_carriage_return}
 use Rattle.flow_filter.specs.declared.filter.Filter.{Filter}

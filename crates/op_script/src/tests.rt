@@ -1,3 +1,5 @@
+ghost use Rattle.std.specs.Prelude.{◌≡◌, IfOk, vec_len};
+
 use super::*;
 use flow_filter::{Name, Packet, Packets};
 use nf_function::Kind;
@@ -6,7 +8,9 @@ use std::alloc::Global;
 use std::test::Fail;
 
 /// The instances `a` and `b`.
-fn instances(alloc: Global) -> Result<Vec<Name>, Fail> {
+fn instances(alloc: Global) -> Result<Vec<Name>, Fail>
+    ensures { IfOk result (λ names. vec_len names ≡ 2) }
+{
     let mut names = Vec::new(alloc);
     names.push(Name::read(alloc, b"a")?.ok_or("no name")?)?;
     names.push(Name::read(alloc, b"b")?.ok_or("no name")?)?;

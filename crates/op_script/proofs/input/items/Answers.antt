@@ -1,5 +1,4 @@
 -- All packets are written, and then the lines that are left, and the end.
-use Rattle.std.proofs.Common.{◌≡◌}
 use Rattle.op_script.proofs.InputEnd.{all_items}
 use Rattle.op_script.proofs.input.items.Goals as goal
 

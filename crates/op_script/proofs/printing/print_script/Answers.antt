@@ -1,5 +1,5 @@
 -- Each loop writes a line more, and together the loops write them all.
-use Rattle.std.proofs.Common.{◌≡◌, ◌∙◌, [], rules}
+use Rattle.std.proofs.Common.{[]}
 use Rattle.op_script.specs.Printing.{line_text, route_words, line_words, script_text, IsRoute, IsLine}
 use Rattle.op_script.specs.Reading.{route_view, line_view}
 use Rattle.op_script.proofs.Written.{lines_more, all_written, at_item}
