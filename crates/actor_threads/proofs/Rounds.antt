@@ -47,16 +47,16 @@ module _ {A M N : Type 0} (ready : A → M → Bool) (step : A → ℕ → M →
   abbrev blank : Shown A M N
   blank = record { number = 0; node = d; clock = 0; steps = []; notes = []; ins = []; outs = [] }
 
-  seats : length before ≡ length w.nodes
-  seats = sym (length-map before _) ∙ all.count
+  seat_count : length before ≡ length w.nodes
+  seat_count = sym (length-map before _) ∙ all.count
 
   count : length (workers after) ≡ length w.nodes
-  count = length-map after _ ∙ same ∙ seats
+  count = length-map after _ ∙ same ∙ seat_count
 
   each : (j : ℕ) (e : Shown A M N) → j < length w.nodes → Ran ready step (slice_index_or (workers before) j e) (slice_index_or (workers after) j e)
   each j e h =
       let seat : Seat A M N = record { worker = e; done = false } in
-      let inside : j < length before = subst (λ m. j < m) (sym seats) h in
+      let inside : j < length before = subst (λ m. j < m) (sym seat_count) h in
       let there : j < length after = subst (λ m. j < m) (sym same) inside in
       subst (λ (v : Shown A M N × Shown A M N). Ran ready step v.0 v.1) (λ i. (sym (get_or-map (λ (s : Seat A M N). s.worker) before j seat e inside) i, sym (get_or-map (λ (s : Seat A M N). s.worker) after j seat e there) i))
       (ran j seat inside (all_at (λ (s : Seat A M N). s.done) after j seat done there))

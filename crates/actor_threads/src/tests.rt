@@ -1,4 +1,4 @@
-ghost use Rattle.std.specs.Prelude.{◌≡◌, ◌==◌, ◌-◌, true, if◌then◌else◌, [], ◌∷◌};
+ghost use Rattle.std.specs.Prelude.{◌==◌, ◌-◌, ◌<◌, true, if◌then◌else◌, [], ◌∷◌};
 
 use super::*;
 use crate::round::seat_all;
