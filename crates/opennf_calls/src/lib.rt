@@ -23,4 +23,6 @@ pub use status::{Status, TraceKind};
 pub use top::{opennf_calm, opennf_top};
 
 #[cfg(test)]
+mod check_tests;
+#[cfg(test)]
 mod tests;

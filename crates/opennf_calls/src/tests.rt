@@ -36,7 +36,7 @@ static RECORD: [u8; 64] = [
 ];
 
 /// The words as the program gets them.
-fn owned(alloc: Global, words: &[&str]) -> Result<Vec<String>, NoMemory> {
+pub(crate) fn owned(alloc: Global, words: &[&str]) -> Result<Vec<String>, NoMemory> {
     let mut owned = Vec::new(alloc);
     for word in words {
         owned.push(String::from_str(alloc, word)?)?;

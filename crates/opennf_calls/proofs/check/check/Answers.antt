@@ -18,11 +18,11 @@ returns-in-Err-read_script-clause-row g c =
     rw c.of_script.ensures (script_row c.args.asked.now (g.O.Outside.seen c.args.outside.now) (g.O.Outside.seen c.read_bytes.new.outside) c.in-Err-read_script.fault
     (search rules) (search rules)
     (λ bytes told.
-        let told' : (g.O.Outside.seen c.bind.new.self ScriptRole).left ≡ Some bytes = search rules in
-        let found = c.in-Ok-read_bytes.ensures.bytes bytes told' in
-        let read : c.items.result.now ≡ take 1048577 bytes = search rules in
-        let heard : SaysWhole script_view (Err c.in-Err-read_script.fault) (script_of c.args.asked.now.kind c.args.asked.now.instances.names.items (take 1048577 bytes)) = search rules in
-        subst (λ said. SaysWhole script_view (Err c.in-Err-read_script.fault) said) (script_of-front c.args.asked.now.kind c.args.asked.now.instances.names.items bytes) heard))
+    let told' : (g.O.Outside.seen c.bind.new.self ScriptRole).left ≡ Some bytes = search rules in
+    let found = c.in-Ok-read_bytes.ensures.bytes bytes told' in
+    let read : c.items.result.now ≡ take 1048577 bytes = search rules in
+    let heard : SaysWhole script_view (Err c.in-Err-read_script.fault) (script_of c.args.asked.now.kind c.args.asked.now.instances.names.items (take 1048577 bytes)) = search rules in
+    subst (λ said. SaysWhole script_view (Err c.in-Err-read_script.fault) said) (script_of-front c.args.asked.now.kind c.args.asked.now.instances.names.items bytes) heard))
 
 pub returns-in-Ok-put-clause-row : goal.returns-in-Ok-put-clause-row
 returns-in-Ok-put-clause-row g c = (
@@ -33,7 +33,7 @@ returns-in-Ok-put-clause-row g c = (
       let read : c.items.result.now ≡ take 1048577 bytes = search rules in
       let heard : script_of c.args.asked.now.kind c.args.asked.now.instances.names.items (take 1048577 bytes) ≡ Ok (script_view c.in-Ok-read_script.script) = search rules in
       let said : script_of c.args.asked.now.kind c.args.asked.now.instances.names.items bytes ≡ Ok (script_view c.in-Ok-read_script.script) =
-          sym (script_of-front c.args.asked.now.kind c.args.asked.now.instances.names.items bytes) ∙ heard in
+      sym (script_of-front c.args.asked.now.kind c.args.asked.now.instances.names.items bytes) ∙ heard in
       let none = nothing_left c.args.asked.now.kind c.args.asked.now.instances.names.items bytes (script_view c.in-Ok-read_script.script) said in
       let whole : Appends (g.O.Outside.seen c.args.outside.now ReportRole).written (g.O.Outside.seen c.put.new.outside ReportRole).written (script_text c.args.asked.now.instances.names.items c.in-Ok-read_script.script) = search rules in
       (rw (c.in-Ok-put.ensures.others ScriptRole other_role) (found.1 ∙ ap (λ rest. Some rest) none), (c.in-Ok-read_script.script, said, whole)),
@@ -50,7 +50,7 @@ returns-clause-row g c = (
       let read : c.items.result.now ≡ take 1048577 bytes = search rules in
       let heard : script_of c.args.asked.now.kind c.args.asked.now.instances.names.items (take 1048577 bytes) ≡ Ok (script_view c.in-Ok-read_script.script) = search rules in
       let said : script_of c.args.asked.now.kind c.args.asked.now.instances.names.items bytes ≡ Ok (script_view c.in-Ok-read_script.script) =
-          sym (script_of-front c.args.asked.now.kind c.args.asked.now.instances.names.items bytes) ∙ heard in
+      sym (script_of-front c.args.asked.now.kind c.args.asked.now.instances.names.items bytes) ∙ heard in
       let none = nothing_left c.args.asked.now.kind c.args.asked.now.instances.names.items bytes (script_view c.in-Ok-read_script.script) said in
       let front : AppendsFront (g.O.Outside.seen c.args.outside.now ReportRole).written (g.O.Outside.seen c.put.new.outside ReportRole).written (script_text c.args.asked.now.instances.names.items c.in-Ok-read_script.script) = search rules in
       (rw (c.in-Err-put.ensures.others ScriptRole other_role) (found.1 ∙ ap (λ rest. Some rest) none), (c.in-Ok-read_script.script, said, front)),
