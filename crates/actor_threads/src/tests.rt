@@ -60,13 +60,15 @@ fn chat(alloc: Global, nodes: u8, items: usize, value: u8) -> Result<World<Chatt
 }
 
 #[test]
-fn sixteen_chatting_nodes_are_replayed(rt: HostRuntime) -> Result<(), Fail> {
-    let world = chat(rt.alloc(), 16, 16, 7)?;
-    let (end, choices) = run_threads(&rt, rt.alloc(), world, &OpenGate)?;
-    assert!(rt; end.complete());
-    assert_eq!(rt; choices.items().len(), end.log().len());
-    let again = replay(chat(rt.alloc(), 16, 16, 7)?, choices.items())?;
-    assert_eq!(rt; again.log(), end.log());
+fn sixteen_chatting_nodes_are_replayed_100_times(rt: HostRuntime) -> Result<(), Fail> {
+    for _ in 0..100 {
+        let world = chat(rt.alloc(), 16, 16, 3)?;
+        let (end, choices) = run_threads(&rt, rt.alloc(), world, &OpenGate)?;
+        assert!(rt; end.complete());
+        assert_eq!(rt; choices.items().len(), end.log().len());
+        let again = replay(chat(rt.alloc(), 16, 16, 3)?, choices.items())?;
+        assert_eq!(rt; again.log(), end.log());
+    }
     Ok(())
 }
 
