@@ -5,3 +5,7 @@ pub mod FormsRight
 pub mod ReadScripts
 pub mod InputEnd
 pub mod Visible
+pub mod FilterWords
+pub mod ScriptAgain
+pub mod OrdersAgain
+pub mod WholeAgain

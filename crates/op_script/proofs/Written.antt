@@ -3,6 +3,7 @@ use Rattle.std.proofs.Common.{◌≡◌, ℕ, ◌+◌, ◌<◌, ◌≤◌, true,
 use Rattle.std.specs.List.{concat, join_with_byte, AllByRecursion}
 use Rattle.std.proofs.lemmas.List.{take_more, take_all, map-append}
 use Rattle.std.proofs.lemmas.List.Folds.{concat-append}
+use Rattle.op_script.proofs.Lines.{All-append}
 use Rattle.flow_filter.specs.FilterText.{behind}
 use Rattle.flow_filter.proofs.PiecesLaws.{behind-append, append_none, join-behind}
 
@@ -62,3 +63,7 @@ pub at_item : {X Y : Type 0} (P : Y → Type 0) (view : X → Y) (xs : List X) (
 at_item P view [] i x all below is = absurd (omega arith)
 at_item P view (y ∷ ys) zero x all below is = subst (λ z. P (view z)) (sym is) all.0
 at_item P view (y ∷ ys) (suc i) x all below is = at_item P view ys i x all.1 (omega arith) is
+
+-- what holds of the items so far, and of one more
+pub fits_more : {X : Type 0} (P : X → Type 0) (xs : List X) (i : ℕ) (x : X) → i < length xs → x ≡ get_or xs i x → AllByRecursion P (take i xs) → P x → AllByRecursion P (take (i + 1) xs)
+fits_more P xs i x below is so_far here = rw (one_more xs i x below is) (All-append P (take i xs) (x ∷ []) so_far (here, tt))

@@ -1,11 +1,14 @@
 -- The canonical text of a script: its routes and then its lines, one space between words, and a newline at each end.
 -- This project's own form.
-use Rattle.std.specs.Prelude.{◌≡◌, ℕ, ◌+◌, ◌<◌, ◌≤◌, Bool, true, false, ◌&&◌, ◌==◌, nat_le, if◌then◌else◌, List, [], ◌∷◌, ◌++◌, length, map, Option, None, Some, Ok, codes}
+use Rattle.std.specs.Prelude.{◌≡◌, ℕ, ◌+◌, ◌<◌, ◌≤◌, ◌^◌, Bool, true, false, ◌&&◌, ◌==◌, nat_le, if◌then◌else◌, List, [], ◌∷◌, ◌++◌, length, map, Option, None, Some, Ok, codes}
 use Rattle.std.specs.List.{AllByRecursion, concat, join_with_byte, list_all, slice_index_or}
 use Rattle.std.specs.Fmt.{decimal}
 use Rattle.flow_filter.specs.declared.filter.Filter.{Filter}
+use Rattle.flow_filter.specs.Filter.{IsFilter}
 use Rattle.flow_filter.specs.Name.{has_twice, is_name}
 use Rattle.flow_filter.specs.FilterText.{Fields, print, is_transport}
+use Rattle.nf_function.specs.declared.kind.Kind.{Kind}
+use Rattle.nf_function.specs.Units.{splits}
 use Rattle.nf_msgs.specs.declared.command.Order.{Order}
 use Rattle.nf_msgs.specs.declared.command.Order.TheVariants.{Move, Copy, Share}
 use Rattle.op_script.specs.declared.script.Script.{Script}
@@ -98,3 +101,37 @@ pub record IsScript (names : List Word) (script : ScriptView) : Type 0 where
   pub routes : AllByRecursion (IsRoute names) script.0
   pub lines : AllByRecursion IsLine script.1
   pub follow : follows 0 1 script.1 ≡ true
+
+-- an order that splits a unit of the function
+abbrev pub order_splits : Kind → OrderView → Bool
+order_splits kind (Moves source target filter keep) = splits kind filter
+order_splits kind (Copies source target None) = false
+order_splits kind (Copies source target (Some filter)) = splits kind filter
+order_splits kind (Shares members filter) = splits kind filter
+
+abbrev pub what_splits : Kind → Option (ℕ × OrderView) → Bool
+what_splits kind None = false
+what_splits kind (Some command) = order_splits kind command.1
+
+-- no filter of the script splits a unit of the function
+pub record SplitsNone (kind : Kind) (script : ScriptView) : Type 0 where
+  pub routes : AllByRecursion (λ route. splits kind route.0 ≡ false) script.0
+  pub lines : AllByRecursion (λ line. what_splits kind line.what ≡ false) script.1
+
+abbrev pub CopiedFits : Option Filter → Type 0
+CopiedFits None = Unit {0}
+CopiedFits (Some filter) = IsFilter filter
+
+-- the numbers of a filter that an order gives are within their types
+abbrev pub OrderFits : Order → Type 0
+OrderFits (Move source target filter keep) = IsFilter filter
+OrderFits (Copy source target filter) = CopiedFits filter
+OrderFits (Share members filter) = IsFilter filter
+
+abbrev pub WhatFits : What → Type 0
+WhatFits (Command command) = OrderFits command.what
+WhatFits Settle = Unit {0}
+
+-- the numbers of a line are within their types
+abbrev pub LineFits : Line → Type 0
+LineFits line = (line.at < 2 ^ 32) × WhatFits line.what

@@ -1,8 +1,11 @@
-ghost use Rattle.std.specs.Prelude.{◌≡◌, ◌++◌, ◌∷◌, ◌<◌, [], IfOk, OnOk, length, map, option_map, true, codes, if◌then◌else◌};
-ghost use Rattle.std.specs.List.{join_with_byte};
-ghost use Rattle.flow_filter.specs.FilterText.{behind, fields_of};
-ghost use Rattle.op_script.specs.Reading.{script_view, route_view, line_view, order_view};
-ghost use Rattle.op_script.specs.Printing.{route_words, order_words, line_words, what_words, copied, line_text, script_text, is_writable, IsRoute, IsOrder, IsLine, IsScript};
+ghost use Rattle.std.specs.Prelude.{false, ◌≡◌, ◌++◌, ◌∷◌, ◌<◌, ◌≤◌, [], Ok, IfOk, OnOk, length, map, option_map, true, codes, if◌then◌else◌};
+ghost use Rattle.std.specs.List.{join_with_byte, list_all};
+ghost use Rattle.flow_filter.specs.FilterText.{behind, fields_of, is_printable, print};
+ghost use Rattle.flow_filter.specs.Filter.{IsFilter};
+ghost use Rattle.flow_filter.specs.Name.{has_twice, is_name};
+ghost use Rattle.nf_function.specs.declared.kind.Kind.{Kind};
+ghost use Rattle.op_script.specs.Reading.{script_of, script_view, route_view, line_view, order_view};
+ghost use Rattle.op_script.specs.Printing.{route_words, order_words, line_words, what_words, copied, line_text, script_text, is_writable, IsRoute, IsOrder, IsLine, IsScript, SplitsNone, CopiedFits, OrderFits, LineFits};
 
 use crate::script::{Line, Script, What};
 use flow_filter::{Filter, Name, NoMemory, Text};
@@ -14,6 +17,10 @@ use std::alloc::Global;
 pub fn print_script(alloc: Global, script: &Script, names: &[Name]) -> Result<Text, NoMemory>
     requires { IsScript names.now (script_view script.now) }
     ensures text { IfOk result (λ text. text ≡ script_text names.now script.now) }
+
+    // Read again, the text gives the script, for each function of which it splits no unit.
+    ensures again { IfOk result (λ text. (kind : Kind) → list_all is_name names.now ≡ true → has_twice names.now ≡ false
+        → SplitsNone kind (script_view script.now) → length text ≤ 1048576 → script_of kind names.now text ≡ Ok (script_view script.now)) }
 {
     let mut out = Text::open(alloc);
     for route in script.routes.as_slice() {
@@ -28,11 +35,12 @@ pub fn print_script(alloc: Global, script: &Script, names: &[Name]) -> Result<Te
 /// Appends the line of an initial rule.
 fn print_route(out: &mut Text, names: &[Name], route: &(Filter, u8)) -> Result<(), NoMemory>
     requires { IsRoute names.now (route_view route.now) }
-    ensures { OnOk result (out.new ≡ out.old ++ line_text (route_words names.now route.now)) }
+    ensures text { OnOk result (out.new ≡ out.old ++ line_text (route_words names.now route.now)) }
+    ensures fits { OnOk result (IsFilter route.now.0) }
 {
     let (filter, place) = route;
     out.push_bytes(b"route ")?;
-    filter.print_to(out)?;
+    print_filter(out, *filter)?;
     out.push_bytes(b" ")?;
     out.push_bytes(names[*place as usize].items())?;
     out.push_bytes(b"\n")
@@ -41,7 +49,8 @@ fn print_route(out: &mut Text, names: &[Name], route: &(Filter, u8)) -> Result<(
 /// Appends an `at` line.
 fn print_line(out: &mut Text, line: &Line) -> Result<(), NoMemory>
     requires { IsLine (line_view line.now) }
-    ensures { OnOk result (out.new ≡ out.old ++ line_text (line_words line.now)) }
+    ensures text { OnOk result (out.new ≡ out.old ++ line_text (line_words line.now)) }
+    ensures fits { OnOk result (LineFits line.now) }
 {
     out.push_bytes(b"at ")?;
     out.push_decimal(u64::from(line.at))?;
@@ -51,10 +60,20 @@ fn print_line(out: &mut Text, line: &Line) -> Result<(), NoMemory>
     }
 }
 
+/// Appends the text of a filter.
+fn print_filter(out: &mut Text, filter: Filter) -> Result<(), NoMemory>
+    requires { is_printable filter ≡ true }
+    ensures text { OnOk result (out.new ≡ out.old ++ print filter) }
+    ensures fits { IsFilter filter }
+{
+    filter.print_to(out)
+}
+
 /// Appends the words of an order behind a space, and the line's end.
 fn print_order(out: &mut Text, order: &Order) -> Result<(), NoMemory>
     requires { IsOrder (order_view order.now) }
-    ensures { OnOk result (out.new ≡ out.old ++ 32 ∷ line_text (order_words order.now)) }
+    ensures text { OnOk result (out.new ≡ out.old ++ 32 ∷ line_text (order_words order.now)) }
+    ensures fits { OnOk result (OrderFits order.now) }
 {
     match order {
         Order::Move {
@@ -64,7 +83,7 @@ fn print_order(out: &mut Text, order: &Order) -> Result<(), NoMemory>
             keep,
         } => {
             print_ends(out, b" move", src, dst)?;
-            filter.print_to(out)?;
+            print_filter(out, *filter)?;
             print_how(out, *keep)
         }
         Order::Copy { src, dst, filter } => {
@@ -75,7 +94,7 @@ fn print_order(out: &mut Text, order: &Order) -> Result<(), NoMemory>
             out.push_bytes(b" share ")?;
             print_members(out, members.items())?;
             out.push_bytes(b" ")?;
-            filter.print_to(out)?;
+            print_filter(out, *filter)?;
             out.push_bytes(b" strict\n")
         }
     }
@@ -131,11 +150,12 @@ fn print_how(out: &mut Text, keep: bool) -> Result<(), NoMemory>
 /// Appends the filter of a copy, or `all`, and the line's end.
 fn print_copied(out: &mut Text, filter: Option<Filter>) -> Result<(), NoMemory>
     requires { is_writable (option_map fields_of filter) ≡ true }
-    ensures { OnOk result (out.new ≡ out.old ++ (copied filter ++ 10 ∷ [])) }
+    ensures text { OnOk result (out.new ≡ out.old ++ (copied filter ++ 10 ∷ [])) }
+    ensures fits { OnOk result (CopiedFits filter) }
 {
     match filter {
         Some(filter) => {
-            filter.print_to(out)?;
+            print_filter(out, filter)?;
             out.push_bytes(b"\n")
         }
         None => out.push_bytes(b"all\n"),

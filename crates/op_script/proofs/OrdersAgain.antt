@@ -1,0 +1,131 @@
+-- The words of an order are read as the order.
+use Rattle.std.proofs.Common.{◌≡◌, ℕ, ◌<◌, ◌≤◌, ◌^◌, Bool, true, false, not, cond, eqb, leb, ◌&&◌, List, [], ◌∷◌, ◌++◌, length, None, Some, is_some, option_map, Ok, refl, ap, sym, ◌∙◌, arith}
+use Rattle.std.specs.Prelude.{codes}
+use Rattle.std.specs.List.{AllByRecursion, slice_split, join_with_byte, list_all}
+use Rattle.std.specs.Str.{bytes_eq}
+use Rattle.std.specs.Fmt.{decimal}
+use Rattle.std.proofs.lemmas.Bool.{ne_eqb, and_parts, not-false}
+use Rattle.std.proofs.lemmas.Slice.Eq.{bytes_eq-Decides}
+use Rattle.flow_filter.specs.declared.filter.Filter.{Filter}
+use Rattle.flow_filter.specs.Filter.{IsFilter}
+use Rattle.flow_filter.specs.Name.{is_name, is_name_byte, has_twice}
+use Rattle.flow_filter.specs.FilterText.{Fields, print, parse, fields_of, is_printable}
+use Rattle.flow_filter.specs.Reading.{cut}
+use Rattle.flow_filter.proofs.CutLaws.{Lacks, cut-append, cut_lacks, split-Some, split-None}
+use Rattle.flow_filter.proofs.ParseAgain.{parse-print}
+use Rattle.nf_function.specs.declared.kind.Kind.{Kind}
+use Rattle.nf_function.specs.Units.{splits}
+use Rattle.nf_msgs.specs.declared.command.Order.{Order}
+use Rattle.nf_msgs.specs.declared.command.Order.TheVariants.{Move, Copy, Share}
+use Rattle.op_script.specs.declared.fault.ScriptKind.TheVariants as bad
+use Rattle.op_script.specs.Forms.{Word, Event, Moving, Copying, Sharing, Happening, form_of}
+use Rattle.op_script.specs.Reading.{unless, ends_of, members_of, filter_of, order_of, order_view}
+use Rattle.op_script.specs.Printing.{order_words, IsOrder, order_splits, OrderFits}
+use Rattle.op_script.proofs.Judged.{unless_Ok}
+use Rattle.op_script.proofs.Visible.{IsWord, Within-literal, name_word}
+use Rattle.op_script.proofs.FilterWords.{filter_word, join_word}
+use Rattle.op_script.proofs.ScriptAgain.{at_form, move_event, copy_event, share_event}
+
+-- the event that an order's words spell
+abbrev pub event_in : Order → Event
+event_in (Move source target filter keep) = Moving source target (print filter) keep
+event_in (Copy source target filter) = Copying source target (option_map print filter)
+event_in (Share members filter) = Sharing (join_with_byte 44 members) (print filter)
+
+pub filter_again : (kind : Kind) (f : Filter) → IsFilter f → is_printable f ≡ true → splits kind (fields_of f) ≡ false → filter_of kind (print f) ≡ Ok (fields_of f)
+unfolding filter_of
+filter_again kind f fits prints whole = rw (parse-print f fits prints, whole) refl
+
+not_all : (text : Word) (g : Fields) (test : Bool) → bytes_eq text (codes "all") ≡ test → parse text ≡ Ok g → test ≡ false
+unfolding parse
+not_all text g false is read = refl
+not_all text g true is read = let all : text ≡ codes "all" = (bytes_eq-Decides text (codes "all")).0 is in let wrong = rw all at read in absurd cc
+
+ends_names : (source target : Word) (ends : Word × Word) → ends_of source target ≡ Ok ends → (is_name source ≡ true) × (is_name target ≡ true)
+unfolding ends_of
+ends_names source target ends is =
+    let first = unless_Ok (not (is_name source && is_name target)) bad.Name (unless (bytes_eq source target) bad.SameInstance (Ok (source, target))) ends is in
+    and_parts (is_name source) (is_name target) (not-false _ first.0)
+
+letters_lack : (name : Word) → list_all is_name_byte name ≡ true → Lacks 44 name
+letters_lack [] is = tt
+letters_lack (b ∷ more) is =
+    let p = and_parts (is_name_byte b) (list_all is_name_byte more) is in
+    (ne_eqb b 44 (λ comma. let letter = rw comma at p.0 in absurd cc), letters_lack more p.1)
+
+name_lacks : (name : Word) → is_name name ≡ true → Lacks 44 name
+name_lacks name is = letters_lack name (and_parts (leb 1 (length name) && leb (length name) 16) (list_all is_name_byte name) is).1
+
+names_split : (first : Word) (more : List Word) → list_all is_name (first ∷ more) ≡ true → slice_split (λ b. eqb b 44) (join_with_byte 44 (first ∷ more)) ≡ first ∷ more
+names_split first [] are = split-None 44 first (sym (cut_lacks 44 first (name_lacks first (and_parts (is_name first) true are).0)))
+names_split first (next ∷ more) are =
+    let p = and_parts (is_name first) (list_all is_name (next ∷ more)) are in
+    split-Some 44 (first ++ (44 ∷ join_with_byte 44 (next ∷ more))) first (join_with_byte 44 (next ∷ more)) (sym (cut-append 44 first (join_with_byte 44 (next ∷ more)) (name_lacks first p.0)))
+    ∙ ap (λ t. first ∷ t) (names_split next more p.1)
+
+members_again : (members : List Word) → 2 ≤ length members → list_all is_name members ≡ true → has_twice members ≡ false
+    → (members_of (join_with_byte 44 members) ≡ Ok members) × (is_some (cut 44 (join_with_byte 44 members)) ≡ true) × IsWord (join_with_byte 44 members)
+unfolding members_of
+members_again [] two are once = absurd (omega arith)
+members_again (first ∷ []) two are once = absurd (omega arith)
+members_again (first ∷ next ∷ more) two are once =
+    let p = and_parts (is_name first) (list_all is_name (next ∷ more)) are in (
+      rw (names_split first (next ∷ more) are, are, once) refl,
+      rw (cut-append 44 first (join_with_byte 44 (next ∷ more)) (name_lacks first p.0)) refl,
+      join_word first (next ∷ more) (names_words (first ∷ next ∷ more) are),
+    )
+  where
+    names_words : (names : List Word) → list_all is_name names ≡ true → AllByRecursion IsWord names
+    names_words [] are = tt
+    names_words (name ∷ more) are = let p = and_parts (is_name name) (list_all is_name more) are in (name_word name p.0, names_words more p.1)
+
+-- the words of an order have its event's form
+pub order_form : (at : ℕ) (o : Order) → at < 2 ^ 32 → IsOrder (order_view o) → OrderFits o → form_of (codes "at" ∷ decimal at ∷ order_words o) ≡ Some (Happening at (event_in o))
+order_form at (Move source target filter keep) small is fits = at_form at (codes "move") _ _ small (move_event source target (print filter) keep)
+order_form at (Copy source target None) small is fits = at_form at (codes "copy") _ _ small (copy_event source target (codes "all"))
+order_form at (Copy source target (Some filter)) small is fits =
+    let other = not_all (print filter) (fields_of filter) (bytes_eq (print filter) (codes "all")) refl (parse-print filter fits is.1) in
+    at_form at (codes "copy") _ _ small (copy_event source target (print filter) ∙ ap (λ (test : Bool). Some (Copying source target (cond test None (Some (print filter))))) other)
+order_form at (Share members filter) small is fits = at_form at (codes "share") _ _ small (share_event (join_with_byte 44 members) (print filter) (members_again members is.0 is.1 is.2).1)
+
+-- the event of an order gives the order
+pub order_again : (kind : Kind) (o : Order) → IsOrder (order_view o) → OrderFits o → order_splits kind (order_view o) ≡ false → order_of kind (event_in o) ≡ Ok (Some (order_view o))
+unfolding order_of
+order_again kind (Move source target filter keep) is fits whole = rw (is.0, filter_again kind filter fits is.1 whole) refl
+order_again kind (Copy source target None) is fits whole = let ends = is.0 in rw ends refl
+order_again kind (Copy source target (Some filter)) is fits whole = rw (is.0, filter_again kind filter fits is.1 whole) refl
+order_again kind (Share members filter) is fits whole = rw ((members_again members is.0 is.1 is.2).0, filter_again kind filter fits is.3 whole) refl
+
+-- the words of an order are words
+pub order_words_are : (o : Order) → IsOrder (order_view o) → OrderFits o → AllByRecursion IsWord (order_words o)
+order_words_are (Move source target filter keep) is fits =
+    let names = ends_names source target (source, target) is.0 in
+    (record { some = omega arith; seen = Within-literal 33 127 (codes "move") refl }, (name_word source names.0, (name_word target names.1, (filter_word filter fits, (how_word keep, tt)))))
+  where
+    how_word : (keep : Bool) → IsWord (cond keep (codes "order") (codes "lossfree"))
+    how_word true = record { some = omega arith; seen = Within-literal 33 127 (codes "order") refl }
+    how_word false = record { some = omega arith; seen = Within-literal 33 127 (codes "lossfree") refl }
+order_words_are (Copy source target None) is fits =
+    let names = ends_names source target (source, target) is.0 in (
+      record { some = omega arith; seen = Within-literal 33 127 (codes "copy") refl },
+      (
+        name_word source names.0,
+        (
+          name_word target names.1,
+          (record { some = omega arith; seen = Within-literal 33 127 (codes "all") refl }, tt),
+        ),
+      ),
+    )
+order_words_are (Copy source target (Some filter)) is fits =
+    let names = ends_names source target (source, target) is.0 in
+    (record { some = omega arith; seen = Within-literal 33 127 (codes "copy") refl }, (name_word source names.0, (name_word target names.1, (filter_word filter fits, tt))))
+order_words_are (Share members filter) is fits = (
+  record { some = omega arith; seen = Within-literal 33 127 (codes "share") refl },
+  (
+    (members_again members is.0 is.1 is.2).2,
+    (
+      filter_word filter fits,
+      (record { some = omega arith; seen = Within-literal 33 127 (codes "strict") refl }, tt),
+    ),
+  ),
+)

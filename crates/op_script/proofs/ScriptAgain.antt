@@ -1,0 +1,68 @@
+-- The text of a script is read as the script: one line.
+use Rattle.std.proofs.Common.{◌≡◌, ℕ, ◌<◌, ◌^◌, Bool, true, false, cond, eqb, List, [], ◌∷◌, ◌++◌, map, None, Some, is_some, Ok, refl, ap, sym, ◌∙◌, arith, append_assoc}
+use Rattle.std.specs.Prelude.{codes}
+use Rattle.std.specs.List.{AllByRecursion, slice_split, join_with_byte, concat}
+use Rattle.std.specs.Str.{bytes_eq}
+use Rattle.std.specs.Str.Lines.{strip_carriage_return}
+use Rattle.std.specs.Fmt.{decimal}
+use Rattle.std.proofs.lemmas.Bool.{ne_eqb}
+use Rattle.flow_filter.specs.Reading.{cut}
+use Rattle.flow_filter.proofs.CutLaws.{Lacks, cut-append, split-Some}
+use Rattle.flow_filter.proofs.ReadAgain.{number-decimal}
+use Rattle.nf_function.specs.declared.kind.Kind.{Kind}
+use Rattle.op_script.specs.Forms.{Word, Event, Moving, Copying, Sharing, Settling, Form, Routing, Happening, form_of, event_of, moving, copying, sharing}
+use Rattle.op_script.specs.Reading.{State, with_text, with_form}
+use Rattle.op_script.specs.Printing.{line_text}
+use Rattle.op_script.proofs.Visible.{Within, IsWord, words-joined, line_seen, strip-line, line_utf8}
+
+-- bytes from the space on lack a line's end
+lacks_end : (text : List ℕ) → Within 32 127 text → Lacks 10 text
+lacks_end [] seen = tt
+lacks_end (b ∷ more) seen = (let first = seen.0 in ne_eqb b 10 (omega arith), lacks_end more seen.1)
+
+-- a line of words that has a form says what the form says
+pub line_says : (kind : Kind) (names : List Word) (s : State) (first : Word) (more : List Word) (form : Form) (t : State) → AllByRecursion IsWord (first ∷ more)
+    → form_of (first ∷ more) ≡ Some form → with_form kind names s form ≡ Ok t → with_text kind names s (strip_carriage_return (join_with_byte 32 (first ∷ more))) ≡ Ok t
+line_says kind names s first more form t are is says =
+    let seen = line_seen first more are in
+    rw (strip-line (join_with_byte 32 (first ∷ more)) seen, line_utf8 (join_with_byte 32 (first ∷ more)) seen, words-joined first more are, is) says
+
+-- the lines of a text of lines
+pub lines-joined : (wss : List (List Word)) → AllByRecursion (λ ws. Within 32 127 (join_with_byte 32 ws)) wss
+    → slice_split (λ b. eqb b 10) (concat (map line_text wss)) ≡ map (join_with_byte 32) wss ++ [] ∷ []
+lines-joined [] seen = refl
+lines-joined (ws ∷ more) seen =
+    let line = join_with_byte 32 ws in
+    let rest = concat (map line_text more) in
+    ap (slice_split (λ b. eqb b 10)) (append_assoc line (10 ∷ []) rest)
+    ∙ split-Some 10 (line ++ 10 ∷ rest) line rest (sym (cut-append 10 line rest (lacks_end line seen.0)))
+    ∙ ap (λ t. line ∷ t) (lines-joined more seen.1)
+
+-- the form of a route
+pub route_form : (filter name : Word) → form_of (codes "route" ∷ filter ∷ name ∷ []) ≡ Some (Routing filter name)
+unfolding form_of
+route_form filter name = refl
+
+-- the form of an `at` line
+pub at_form : (at : ℕ) (verb : Word) (more : List Word) (event : Event) → at < 2 ^ 32 → event_of verb more ≡ Some event
+    → form_of (codes "at" ∷ decimal at ∷ verb ∷ more) ≡ Some (Happening at event)
+unfolding form_of
+at_form at verb more event small is = rw (number-decimal 4294967295 at (omega arith) (omega arith), is) refl
+
+pub move_event : (source target filter : Word) (keep : Bool)
+    → event_of (codes "move") (source ∷ target ∷ filter ∷ cond keep (codes "order") (codes "lossfree") ∷ []) ≡ Some (Moving source target filter keep)
+unfolding event_of moving
+move_event source target filter true = refl
+move_event source target filter false = refl
+
+pub copy_event : (source target what : Word) → event_of (codes "copy") (source ∷ target ∷ what ∷ []) ≡ Some (Copying source target (cond (bytes_eq what (codes "all")) None (Some what)))
+unfolding event_of copying
+copy_event source target what = refl
+
+pub share_event : (list filter : Word) → is_some (cut 44 list) ≡ true → event_of (codes "share") (list ∷ filter ∷ codes "strict" ∷ []) ≡ Some (Sharing list filter)
+unfolding event_of sharing
+share_event list filter comma = rw comma refl
+
+pub settle_event : event_of (codes "settle") [] ≡ Some Settling
+unfolding event_of
+settle_event = refl
