@@ -1,0 +1,20 @@
+#!/usr/bin/env bash
+# Measures the concurrency core: the choices that the schedule `first` and the threads take in a second, and the memory
+# of a choice.
+# Use: bench/core.sh [PROGRAM]; without a word it takes the program that `rt run` or `rt ci` left in its crate.
+#
+# A ring of 5 nodes and a hub of 17 pass tokens on, three times each; printed are the best times. The memory of a choice
+# is the difference of the peaks of a shorter and a longer run of the ring, divided by the difference of their choices;
+# by threads that holds its step in a history, the work of the merge and its place in the merged list. This is no part
+# of the gate. It writes no file.
+set -eu
+bench=$(cd "$(dirname "${BASH_SOURCE[0]}")" && pwd)
+program=${1:-$bench/../crates/core_speed/out/core_speed}
+
+if [ ! -x "$program" ]; then
+    echo "bench/core.sh: $program isn't there: build it first, by 'rt run -- ring first 5 1 1000' in crates/core_speed" >&2
+    exit 1
+fi
+echo "load $(cut -d ' ' -f 1-3 /proc/loadavg), processors $(nproc)"
+python3 "$bench/core.py" "$program"
+echo "this is a measurement, and no part of the gate"

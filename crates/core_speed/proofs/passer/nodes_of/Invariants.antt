@@ -1,0 +1,9 @@
+use Rattle.std.proofs.Common.{◌≡◌, length, map}
+use Rattle.core_speed.specs.Worlds.{reaches_below}
+use Rattle.core_speed.proofs.passer.nodes_of.Given as goal
+
+abbrev pub invariant-loop-number : goal.invariant-loop-number
+invariant-loop-number l = record {
+  count : length l.all.items ≡ l.number;
+  reaches : map (λ p. (p.first, p.count)) l.all.items ≡ reaches_below l.shape l.nodes l.number;
+}

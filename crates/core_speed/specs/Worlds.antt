@@ -1,0 +1,14 @@
+-- The worlds that are measured: to which nodes each node sends. This is the project's own.
+use Rattle.std.specs.Prelude.{◌==◌, ◌+◌, ◌-◌, ◌%◌, ℕ, zero, suc, if◌then◌else◌, List, [], ◌∷◌, ◌++◌}
+use Rattle.core_speed.specs.declared.passer.Shape.{Shape}
+use Rattle.core_speed.specs.declared.passer.Shape.TheVariants.{Ring, Hub}
+
+-- the first node that the node of this number sends to, and how many there are from it on
+abbrev pub reach_of : Shape → ℕ → ℕ → ℕ × ℕ
+reach_of Ring nodes number = ((number + 1) % nodes, 1)
+reach_of Hub nodes number = if number == 0 then (1, nodes - 1) else (0, 1)
+
+-- the same of each node below k, in order
+abbrev pub reaches_below : Shape → ℕ → ℕ → List (ℕ × ℕ)
+reaches_below shape nodes zero = []
+reaches_below shape nodes (suc k) = reaches_below shape nodes k ++ reach_of shape nodes k ∷ []

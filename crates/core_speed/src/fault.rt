@@ -1,0 +1,39 @@
+use actor_net::ScheduleFault;
+use std::alloc::AllocError;
+use thiserror::Error;
+
+/// Why no count of choices is printed.
+#[derive(Clone, Copy, Debug, PartialEq, Eq, Error)]
+pub enum Fault {
+    #[error("bad words")]
+    Words,
+    #[error("unfinished after {step} choices")]
+    Unfinished { step: u64 },
+    #[error("out of memory")]
+    NoMemory,
+}
+
+impl Fault {
+    /// The exit status that tells it.
+    pub fn status(self) -> u8 {
+        match self {
+            Fault::Words | Fault::Unfinished { .. } => 1,
+            Fault::NoMemory => 6,
+        }
+    }
+}
+
+impl From<AllocError> for Fault {
+    fn from(_fault: AllocError) -> Self {
+        Fault::NoMemory
+    }
+}
+
+impl From<ScheduleFault> for Fault {
+    fn from(fault: ScheduleFault) -> Self {
+        match fault {
+            ScheduleFault::Unfinished { step } => Fault::Unfinished { step },
+            ScheduleFault::NoMemory => Fault::NoMemory,
+        }
+    }
+}
