@@ -40,9 +40,13 @@ out_lines site before [] = []
 out_lines site before (p ∷ ps) =
     out_line p (output_of (record_behind site before p)) ++ out_lines site (before ++ p ∷ []) ps
 
+-- an instance's name at the end of a line
+abbrev pub name_end : List ℕ → List ℕ
+name_end name = codes " " ++ name ++ codes "\n"
+
 -- `done N INST`
 unfoldable pub done_line : List ℕ → Packet → List ℕ
-done_line name p = codes "done " ++ decimal p.number ++ codes " " ++ name ++ codes "\n"
+done_line name p = codes "done " ++ decimal p.number ++ name_end name
 
 -- `tcp` or `udp`
 abbrev pub protocol_text : ℕ → List ℕ

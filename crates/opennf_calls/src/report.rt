@@ -1,57 +1,44 @@
-ghost use Rattle.std.specs.Prelude.{◌≡◌, ◌++◌, [], List, ℕ, length, OnOk, IfOk};
+//! The lines of the report.
+ghost use Rattle.std.specs.Prelude.{◌≡◌, ◌++◌, codes, OnOk, IfOk};
 ghost use Rattle.std.specs.List.{flat_map};
-ghost use Rattle.opennf_calls.specs.Fold.{AreLive};
-ghost use Rattle.opennf_calls.specs.Report.{IsReport, head_lines, trace_line, counts_text, out_line, out_lines, done_line, end_text, end_point_text, protocol_text, unit_text, state_line, tail_lines};
+ghost use Rattle.conn_tracker.specs.Text.{output_text};
+ghost use Rattle.opennf_calls.specs.Report.{head_lines, trace_line, counts_text, end_text, end_point_text, name_end, protocol_text, unit_text, state_line, tail_lines};
 
-use crate::fold::{Kept, Live, ordered, process};
+use crate::fold::Live;
 use conn_tracker::{TrackRecord, push_output, push_record};
-use flow_filter::{Flow, Name, NoMemory, Packet, Site, TCP, Text};
+use flow_filter::{Flow, NoMemory, TCP, Text};
 use nf_function::Output;
 use std::alloc::Global;
-use trace_reader::Trace;
+use trace_reader::TraceEnd;
 
-/// The report of a capture that one instance processed, with the instance's name.
-#[tactic(auto, unfolding(crate::specs::Report::IsReport))]
-pub fn report(alloc: Global, name: &Name, site: &Site, trace: &Trace) -> Result<Text, NoMemory>
-    ensures { IfOk result (IsReport site.now name.now trace.now) }
+/// The lines at the top of the report.
+#[tactic(auto, unfolding(crate::specs::Report::head_lines))]
+pub fn head_lines(alloc: Global, end: &TraceEnd) -> Result<Text, NoMemory>
+    ensures { IfOk result (λ text. text ≡ head_lines end.now.packets end.now.skipped end.now.cut) }
 {
-    let name = name.items();
-    let packets = trace.packets.items();
     let mut text = Text::open(alloc);
-    push_head(&mut text, packets.len(), trace.skipped, trace.cut)?;
-    let live = push_outs(alloc, &mut text, site, packets)?;
-    push_dones(&mut text, name, packets)?;
-    push_states(&mut text, name, &live)?;
-    push_tail(&mut text, name, packets.len())?;
+    text.push_bytes(b"opennf report 1\nfunction conntrack instances 1 window 256\n")?;
+    push_trace(&mut text, end)?;
     Ok(text)
 }
 
-/// Puts the lines at the top of the report.
-#[tactic(auto, unfolding(crate::specs::Report::head_lines))]
-fn push_head(text: &mut Text, packets: usize, skipped: u32, is_cut: bool) -> Result<(), NoMemory>
-    ensures { OnOk result (text.new ≡ text.old ++ head_lines packets skipped is_cut) }
-{
-    text.push_bytes(b"opennf report 1\nfunction conntrack instances 1 window 256\n")?;
-    push_trace(text, packets, skipped, is_cut)
-}
-
 #[tactic(auto, unfolding(crate::specs::Report::trace_line))]
-fn push_trace(text: &mut Text, packets: usize, skipped: u32, is_cut: bool) -> Result<(), NoMemory>
-    ensures { OnOk result (text.new ≡ text.old ++ trace_line packets skipped is_cut) }
+fn push_trace(text: &mut Text, end: &TraceEnd) -> Result<(), NoMemory>
+    ensures { OnOk result (text.new ≡ text.old ++ trace_line end.now.packets end.now.skipped end.now.cut) }
 {
-    push_counts(text, packets, skipped)?;
-    text.push_bytes(end_name(is_cut).as_bytes())?;
+    push_counts(text, end)?;
+    text.push_bytes(end_name(end.cut).as_bytes())?;
     text.push_bytes(b"\n")
 }
 
 #[tactic(auto, unfolding(crate::specs::Report::counts_text))]
-fn push_counts(text: &mut Text, packets: usize, skipped: u32) -> Result<(), NoMemory>
-    ensures { OnOk result (text.new ≡ text.old ++ counts_text packets skipped) }
+fn push_counts(text: &mut Text, end: &TraceEnd) -> Result<(), NoMemory>
+    ensures { OnOk result (text.new ≡ text.old ++ counts_text end.now.packets end.now.skipped) }
 {
     text.push_bytes(b"trace packets ")?;
-    text.push_decimal(packets as u64)?;
+    text.push_decimal(u64::from(end.packets))?;
     text.push_bytes(b" skipped ")?;
-    text.push_decimal(u64::from(skipped))?;
+    text.push_decimal(u64::from(end.skipped))?;
     text.push_bytes(b" ")
 }
 
@@ -61,54 +48,50 @@ fn end_name(is_cut: bool) -> &'static str
     if is_cut { "cut" } else { "whole" }
 }
 
-/// Processes the packets in order, puts the line of each one's output, and gives the records.
-fn push_outs(
-    alloc: Global,
-    text: &mut Text,
-    site: &Site,
-    packets: &[Packet],
-) -> Result<Live, NoMemory>
-    ensures live { IfOk result (λ live. AreLive site.now packets.now live) }
-    ensures lines { OnOk result (text.new ≡ text.old ++ out_lines site.now [] packets.now) }
-{
-    let mut kept = Kept::new(alloc);
-    for packet in packets {
-        let output = process(&mut kept, site, packet)?;
-        push_out(text, packet, &output)?;
-    }
-    ordered(alloc, &kept)
-}
-
-#[tactic(auto, unfolding(crate::specs::Report::out_line))]
-fn push_out(text: &mut Text, packet: &Packet, output: &Output) -> Result<(), NoMemory>
-    ensures { OnOk result (text.new ≡ text.old ++ out_line packet.now output.now) }
+/// Puts the line of a packet's output, with the packet's number in digits.
+pub fn push_out(text: &mut Text, number: &[u8], output: &Output) -> Result<(), NoMemory>
+    ensures { OnOk result (text.new ≡ text.old ++ codes "out " ++ number.now ++ codes " " ++ output_text output.now ++ codes "\n") }
 {
     text.push_bytes(b"out ")?;
-    text.push_decimal(u64::from(packet.number))?;
+    text.push_bytes(number)?;
     text.push_bytes(b" ")?;
     push_output(text, output)?;
     text.push_bytes(b"\n")
 }
 
-/// Puts the line that says where each packet was processed.
-fn push_dones(text: &mut Text, name: &[u8], packets: &[Packet]) -> Result<(), NoMemory>
-    ensures { OnOk result (text.new ≡ text.old ++ flat_map (done_line name.now) packets.now) }
+/// What ends a line with an instance's name.
+pub fn name_end(alloc: Global, name: &[u8]) -> Result<Text, NoMemory>
+    ensures { IfOk result (λ text. text ≡ name_end name.now) }
 {
-    for packet in packets {
-        push_done(text, name, packet)?;
-    }
-    Ok(())
-}
-
-#[tactic(auto, unfolding(crate::specs::Report::done_line))]
-fn push_done(text: &mut Text, name: &[u8], packet: &Packet) -> Result<(), NoMemory>
-    ensures { OnOk result (text.new ≡ text.old ++ done_line name.now packet.now) }
-{
-    text.push_bytes(b"done ")?;
-    text.push_decimal(u64::from(packet.number))?;
+    let mut text = Text::open(alloc);
     text.push_bytes(b" ")?;
     text.push_bytes(name)?;
-    text.push_bytes(b"\n")
+    text.push_bytes(b"\n")?;
+    Ok(text)
+}
+
+/// Puts the line that says where a packet was processed, with the packet's number in digits and what ends the line.
+pub fn push_done(text: &mut Text, number: &[u8], end: &[u8]) -> Result<(), NoMemory>
+    ensures { OnOk result (text.new ≡ text.old ++ codes "done " ++ number.now ++ end.now) }
+{
+    text.push_bytes(b"done ")?;
+    text.push_bytes(number)?;
+    text.push_bytes(end)
+}
+
+/// The lines behind those of the packets: each flow's record, in the flows' order, and then the bottom.
+pub fn end_lines(
+    alloc: Global,
+    name: &[u8],
+    live: &Live,
+    end: &TraceEnd,
+) -> Result<Text, NoMemory>
+    ensures { IfOk result (λ text. text ≡ flat_map (state_line name.now) live.now.entries ++ tail_lines name.now end.now.packets) }
+{
+    let mut text = Text::open(alloc);
+    push_states(&mut text, name, live)?;
+    push_tail(&mut text, name, end)?;
+    Ok(text)
 }
 
 /// Puts the line of each flow's record, in the flows' order.
@@ -161,12 +144,12 @@ fn protocol_name(proto: u8) -> &'static str
 
 /// Puts the lines at the bottom of the report.
 #[tactic(auto, unfolding(crate::specs::Report::tail_lines))]
-fn push_tail(text: &mut Text, name: &[u8], packets: usize) -> Result<(), NoMemory>
-    ensures { OnOk result (text.new ≡ text.old ++ tail_lines name.now packets) }
+fn push_tail(text: &mut Text, name: &[u8], end: &TraceEnd) -> Result<(), NoMemory>
+    ensures { OnOk result (text.new ≡ text.old ++ tail_lines name.now end.now.packets) }
 {
     text.push_bytes(b"tally ")?;
     text.push_bytes(name)?;
     text.push_bytes(b" ")?;
-    text.push_decimal(packets as u64)?;
+    text.push_decimal(u64::from(end.packets))?;
     text.push_bytes(b"\nend\n")
 }

@@ -1,22 +1,25 @@
 ghost use Rattle.std.specs.Prelude.{◌≡◌, Some, None, length, map, string_bytes, ◌⊎◌, MatchResult};
+ghost use Rattle.std.specs.List.{concat};
 ghost use Rattle.std.specs.Option.{ForSome};
 ghost use Rattle.std.specs.Io.KnownBytes.{Appends};
 ghost use Rattle.nf_io.specs.declared.outside.Role.TheVariants.{Trace as TraceRole, Report as ReportRole, Errors as ErrorsRole};
 ghost use Rattle.nf_io.specs.declared.outside.Role.{Role as TheRole};
 ghost use Rattle.nf_io.specs.Meaning.{AppendsFront, CanRead, CanWrite, HasCause, OthersStay};
-ghost use Rattle.trace_reader.specs.Gives.{HasReadCause, TraceGives};
+ghost use Rattle.trace_reader.specs.Gives.{HasReadCause, IntoGives};
 ghost use Rattle.trace_reader.specs.Records.{capture_of};
 ghost use Rattle.command_words.specs.Plan.{plan_of};
+ghost use Rattle.opennf_calls.specs.Folded.{Folds};
 ghost use Rattle.opennf_calls.specs.Outcome.{CauseOf, MayBind};
 ghost use Rattle.opennf_calls.specs.Simulated.{SimRow, SimChanges};
 
 use crate::check::check;
-use crate::report::report;
+use crate::fold::Fold;
 use crate::status::Status;
 use command_words::{Request, Simulation, WordsFault, read_words};
+use flow_filter::Text;
 use nf_io::{Failed, Outside, Role, RoleSink, RoleSource, write_all};
 use std::alloc::Global;
-use trace_reader::{Trace, TraceFault, read_trace};
+use trace_reader::{TraceEnd, TraceFault, read_into};
 
 /// Reads the capture that the words name, and writes its report.
 pub fn simulate<O: Outside>(alloc: Global, asked: &Simulation<'_>, outside: &mut O) -> Status
@@ -32,14 +35,17 @@ pub fn simulate<O: Outside>(alloc: Global, asked: &Simulation<'_>, outside: &mut
     let Ok(()) = outside.bind(Role::Trace, asked.trace) else {
         return Status::NoMemory;
     };
-    let trace = match read_capture(alloc, outside) {
-        Ok(trace) => trace,
-        Err(fault) => return Status::of(fault),
-    };
-    let Ok(text) = report(alloc, name, &asked.site, &trace) else {
+    let Ok(mut fold) = Fold::open(alloc, asked.site, name) else {
         return Status::NoMemory;
     };
-    match put(outside, Role::Report, text.items()) {
+    let end = match read_capture(outside, &mut fold) {
+        Ok(end) => end,
+        Err(fault) => return Status::of(fault),
+    };
+    let Ok(pieces) = fold.report(alloc, name, &end) else {
+        return Status::NoMemory;
+    };
+    match put_all(outside, Role::Report, pieces.as_slice()) {
         Ok(()) => Status::Ok,
         Err(_) => Status::WriteFault { role: Role::Report },
     }
@@ -60,11 +66,11 @@ pub fn perform<O: Outside>(alloc: Global, words: &[String], outside: &mut O) -> 
     }
 }
 
-/// Reads the capture.
-fn read_capture<O: Outside>(alloc: Global, outside: &mut O) -> Result<Trace, TraceFault>
+/// Reads the capture, and hands its packets to an instance.
+fn read_capture<O: Outside>(outside: &mut O, fold: &mut Fold) -> Result<TraceEnd, TraceFault>
     requires { CanRead TraceRole (O.seen outside.old TraceRole) }
     ensures trace { ForSome (O.seen outside.old TraceRole).left (λ bytes.
-        TraceGives (capture_of bytes) (O.seen outside.new TraceRole).left result) }
+        IntoGives Folds (capture_of bytes) fold.old fold.new (O.seen outside.new TraceRole).left result) }
     ensures cause { HasReadCause (O.seen outside.old TraceRole).faults (O.seen outside.new TraceRole).faults result }
     ensures written { (O.seen outside.new TraceRole).written ≡ (O.seen outside.old TraceRole).written }
     ensures name { (O.seen outside.new TraceRole).name ≡ (O.seen outside.old TraceRole).name }
@@ -74,7 +80,7 @@ fn read_capture<O: Outside>(alloc: Global, outside: &mut O) -> Result<Trace, Tra
         outside,
         role: Role::Trace,
     };
-    read_trace(alloc, &mut source)
+    read_into(&mut source, fold)
 }
 
 /// Writes a whole text to a role.
@@ -90,4 +96,21 @@ pub fn put<O: Outside>(outside: &mut O, role: Role, text: &[u8]) -> Result<(), F
 {
     let mut sink = RoleSink { outside, role };
     write_all(&mut sink, text)
+}
+
+/// Writes texts to a role, one behind another.
+fn put_all<O: Outside>(outside: &mut O, role: Role, pieces: &[Text]) -> Result<(), Failed>
+    requires { CanWrite role (O.seen outside.old role) }
+    ensures bytes { MatchResult result
+        (λ _. Appends (O.seen outside.old role).written (O.seen outside.new role).written (concat pieces.now))
+        (λ _. AppendsFront (O.seen outside.old role).written (O.seen outside.new role).written (concat pieces.now)) }
+    ensures cause { HasCause (O.seen outside.old role).faults (O.seen outside.new role).faults result }
+    ensures left { (O.seen outside.new role).left ≡ (O.seen outside.old role).left }
+    ensures name { (O.seen outside.new role).name ≡ (O.seen outside.old role).name }
+    ensures others { OthersStay role (O.seen outside.old) (O.seen outside.new) }
+{
+    for piece in pieces {
+        put(outside, role, piece.items())?;
+    }
+    Ok(())
 }

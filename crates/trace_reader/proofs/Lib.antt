@@ -3,3 +3,4 @@ pub mod Front
 pub mod Steps
 pub mod Opened
 pub mod Whole
+pub mod Handed

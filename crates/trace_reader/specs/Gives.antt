@@ -1,5 +1,6 @@
 -- How the calls of a reader answer, given what the bytes that are left stand for. This project's own.
-use Rattle.std.specs.Prelude.{◌≡◌, ◌≤◌, ◌<◌, ℕ, ◌+◌, ◌^◌, List, [], drop, Option, Some, None, Result, Ok, Err}
+use Rattle.std.specs.Prelude.{◌≡◌, ◌≤◌, ◌<◌, ℕ, ◌+◌, ◌^◌, ◌++◌, List, [], length, drop, Option, Some, None, Result, Ok, Err}
+use Rattle.flow_filter.specs.declared.packet.Packet.{Packet}
 use Rattle.nf_io.specs.Meaning.{Rose}
 use Rattle.trace_reader.specs.declared.form.Form.{Form}
 use Rattle.trace_reader.specs.declared.fault.TraceFault.{TraceFault}
@@ -11,6 +12,7 @@ use Rattle.trace_reader.specs.declared.reader.Stop.{Stop}
 use Rattle.trace_reader.specs.declared.reader.Stop.TheVariants as stop
 use Rattle.trace_reader.specs.declared.record.Step.{Step}
 use Rattle.trace_reader.specs.declared.trace.Trace.{Trace}
+use Rattle.trace_reader.specs.declared.trace.TraceEnd.{TraceEnd}
 use Rattle.trace_reader.specs.Records.{size_of, next_of}
 
 -- a count never falls, and the answer is a fault of reading only where it rose
@@ -78,3 +80,13 @@ TraceGives due left (Ok trace) = (due ≡ Ok trace) × (left ≡ Some [])
 TraceGives due left (Err fault.Read) = Unit {0}
 TraceGives due left (Err fault.NoMemory) = Unit {0}
 TraceGives due left (Err e) = due ≡ Err e
+
+-- the packets of a capture went to a keeper, one after another, and nothing is left; or a fault is the one that is due. The two free faults are as above
+abbrev pub IntoGives : {K S : Type 0} → (K → S → List Packet → Type 0) → Result Trace TraceFault → (old new : K) → Option (List ℕ) → Result TraceEnd TraceFault → Type 0
+IntoGives {K = K} {S = S} HasKept due old new left (Ok end) =
+    (packets : List Packet) × (due ≡ Ok (record { packets = packets; skipped = end.skipped; cut = end.cut }))
+    × (length packets ≡ end.packets) × (left ≡ Some [])
+    × ((setup : S) (before : List Packet) → HasKept old setup before → HasKept new setup (before ++ packets))
+IntoGives HasKept due old new left (Err fault.Read) = Unit {0}
+IntoGives HasKept due old new left (Err fault.NoMemory) = Unit {0}
+IntoGives HasKept due old new left (Err e) = due ≡ Err e

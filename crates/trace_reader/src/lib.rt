@@ -2,11 +2,13 @@
 //!
 //! Contracts see a [`TraceReader`] as its form, its place, the number of packets given and its
 //! end. The main promise is that of [`read_trace`]: its answer is `capture_of` the bytes that the
-//! source had left, whatever pieces the source gives them in.
+//! source had left, whatever pieces the source gives them in. [`read_into`] hands the same packets,
+//! one after another, to a [`Keeper`] of the caller's.
 #![tactic(auto)]
 
 pub mod fault;
 pub mod form;
+pub mod keeper;
 pub mod reader;
 pub mod record;
 mod steer;
@@ -15,9 +17,10 @@ pub mod trace;
 
 pub use fault::TraceFault;
 pub use form::{Form, Fraction, Link, Magic, Order};
+pub use keeper::Keeper;
 pub use reader::{Stop, TraceReader};
 pub use record::Next;
-pub use trace::{Trace, read_trace};
+pub use trace::{Trace, TraceEnd, read_into, read_trace};
 
 #[cfg(test)]
 mod tests;

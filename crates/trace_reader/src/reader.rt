@@ -76,6 +76,13 @@ impl TraceReader {
         })
     }
 
+    /// How many packets it has given.
+    pub fn packets(&self) -> u32
+        ensures { result ≡ self.now.count }
+    {
+        self.count
+    }
+
     /// Reads the next record. Once there is an end, each call gives it again and reads nothing.
     pub fn next<S: Source>(&mut self, source: &mut S) -> Result<Next, TraceFault>
         requires { S.IsOpen source.old }

@@ -2,9 +2,10 @@ ghost use Rattle.std.specs.Prelude.{◌≡◌, ◌≤◌};
 ghost use Rattle.std.specs.Option.{ForSome};
 ghost use Rattle.nf_io.specs.Meaning.{StaysOpen};
 ghost use Rattle.trace_reader.specs.Records.{capture_of};
-ghost use Rattle.trace_reader.specs.Gives.{HasReadCause, TraceGives};
+ghost use Rattle.trace_reader.specs.Gives.{HasReadCause, TraceGives, IntoGives};
 
 use crate::fault::TraceFault;
+use crate::keeper::Keeper;
 use crate::reader::TraceReader;
 use crate::record::Next;
 use flow_filter::Packets;
@@ -22,6 +23,17 @@ pub struct Trace {
     pub cut: bool,
 }
 
+/// How a capture ends.
+#[derive(Clone, Copy, Debug, PartialEq, Eq)]
+pub struct TraceEnd {
+    /// How many packets were steered.
+    pub packets: u32,
+    /// How many records are of another kind.
+    pub skipped: u32,
+    /// Whether the file ends within a record.
+    pub cut: bool,
+}
+
 /// Reads a capture to its end.
 pub fn read_trace<S: Source>(alloc: Global, source: &mut S) -> Result<Trace, TraceFault>
     requires { S.IsOpen source.old }
@@ -29,23 +41,42 @@ pub fn read_trace<S: Source>(alloc: Global, source: &mut S) -> Result<Trace, Tra
     ensures cause { HasReadCause (S.faults source.old) (S.faults source.new) result }
     ensures stays { StaysOpen S.IsOpen S.loan S.rest source.old source.new }
 {
-    let mut reader = TraceReader::open(source)?;
     let mut packets = Packets::open(alloc);
+    let end = read_into(source, &mut packets)?;
+    Ok(Trace {
+        packets,
+        skipped: end.skipped,
+        cut: end.cut,
+    })
+}
+
+/// Reads a capture to its end, and hands each packet to a keeper. The keeper may hold less of a packet than the packet.
+pub fn read_into<S: Source, K: Keeper>(
+    source: &mut S,
+    keeper: &mut K,
+) -> Result<TraceEnd, TraceFault>
+    requires { S.IsOpen source.old }
+    ensures trace { ForSome (S.left source.old) (λ bytes.
+        IntoGives K.HasKept (capture_of bytes) keeper.old keeper.new (S.left source.new) result) }
+    ensures cause { HasReadCause (S.faults source.old) (S.faults source.new) result }
+    ensures stays { StaysOpen S.IsOpen S.loan S.rest source.old source.new }
+{
+    let mut reader = TraceReader::open(source)?;
     let mut skipped = 0;
     'records: loop {
         match reader.next(source)? {
-            Next::Packet(packet) => packets.push(packet)?,
+            Next::Packet(packet) => keeper.keep(&packet)?,
             Next::Skipped => skipped += 1,
             Next::End => {
-                return Ok(Trace {
-                    packets,
+                return Ok(TraceEnd {
+                    packets: reader.packets(),
                     skipped,
                     cut: false,
                 });
             }
             Next::Cut => {
-                return Ok(Trace {
-                    packets,
+                return Ok(TraceEnd {
+                    packets: reader.packets(),
                     skipped,
                     cut: true,
                 });

@@ -1,61 +1,12 @@
-use Rattle.std.proofs.Common.{arith, rules, drop}
-use Rattle.std.proofs.lemmas.Result.{err_from_is_err_and}
-use Rattle.nf_io.proofs.Moved.{StaysOpen-trans}
-use Rattle.trace_reader.proofs.Whole.{progress_start, progress_packet, progress_skipped, progress_end, progress_cut, progress_fault, open_fault}
+-- The packets that a list took are the trace's.
+use Rattle.std.proofs.Common.{List, [], Ok, ap, sym, ◌∙◌}
+use Rattle.flow_filter.specs.declared.packet.Packet.{Packet}
 use Rattle.trace_reader.proofs.trace.read_trace.Goals as goal
 
-pub returns-in_err-reader-clause-trace : goal.returns-in_err-reader-clause-trace
-returns-in_err-reader-clause-trace g c = λ bytes told.
-    let p = err_from_is_err_and c.from_residual.result c.from_residual.ensures.1 in
-    rw (p.1, p.2) (open_fault bytes (drop 24 bytes) (g.S.Source.left c.open.new.source) (g.S.Source.left c.open.new.source) _ (c.in_err-reader.ensures.form bytes told))
-
-pub records-init : goal.records-init
-records-init g c = record {
-  running = c.in_ok-reader.ensures.start.2;
-  few = search rules;
-  told = (λ bytes told. let opens = c.in_ok-reader.ensures.form bytes told in
-      progress_start bytes _ _ _ _ _ opens.0 opens.1 c.in_ok-reader.ensures.start.0 c.in_ok-reader.ensures.start.1 c.open-packets.ensures);
-  later = omega (arith, c.in_ok-reader.ensures.cause.later);
-  stays = c.in_ok-reader.ensures.stays;
-}
-
-pub returns-in_err-packet-clause-trace : goal.returns-in_err-packet-clause-trace
-returns-in_err-packet-clause-trace g c = λ bytes told.
-    let p = err_from_is_err_and c.from_residual-in_err-packet.result c.from_residual-in_err-packet.ensures.1 in
-    rw (p.1, p.2) (progress_fault _ _ _ c.next.new.self.place _ _ _ _ (g.S.Source.left c.next.new.source) _ (c.records.invariant.told bytes told)
-    (c.in_err-packet.ensures.gives c.records.invariant.running))
-
-pub records-preserved-in-Continue-branch-4 : goal.records-preserved-in-Continue-branch-4
-records-preserved-in-Continue-branch-4 g c =
-    let gives = rw c.in-Packet.is at (c.in_ok-packet.ensures.gives c.records.invariant.running) in
-    let moves = rw c.in-Packet.is at (c.in_ok-packet.ensures.moves c.records.invariant.running) in
-    record {
-      running = rw c.in-Packet.is at c.in_ok-packet.ensures.stop;
-      few = omega (arith, moves.0);
-      told = (λ bytes told. progress_packet _ _ _ _ _ _ _ _ _ _ _ _ c.in-Packet.packet (c.records.invariant.told bytes told) gives
-          c.in_ok-packet.ensures.form moves.3 c.in_ok-push-in-Packet.ensures.ok);
-      later = omega (arith, c.in_ok-packet.ensures.later);
-      stays = StaysOpen-trans _ _ _ _ _ _ c.records.invariant.stays c.in_ok-packet.ensures.stays;
-    }
-
-pub records-preserved : goal.records-preserved
-records-preserved g c =
-    let gives = rw c.in-Skipped.is at (c.in_ok-packet.ensures.gives c.records.invariant.running) in
-    let moves = rw c.in-Skipped.is at (c.in_ok-packet.ensures.moves c.records.invariant.running) in
-    record {
-      running = rw c.in-Skipped.is at c.in_ok-packet.ensures.stop;
-      few = omega (arith, moves.0);
-      told = (λ bytes told. progress_skipped _ _ _ _ _ _ _ _ _ _ _ (c.records.invariant.told bytes told) gives c.in_ok-packet.ensures.form moves.2);
-      later = omega (arith, c.in_ok-packet.ensures.later);
-      stays = StaysOpen-trans _ _ _ _ _ _ c.records.invariant.stays c.in_ok-packet.ensures.stays;
-    }
-
-pub returns-in-End-clause-trace : goal.returns-in-End-clause-trace
-returns-in-End-clause-trace g c = λ bytes told.
-    let gives = rw c.in-End.is at (c.in_ok-packet.ensures.gives c.records.invariant.running) in
-    progress_end _ _ _ _ _ _ _ _ _ (c.records.invariant.told bytes told) gives
-
-pub returns-in-Cut-clause-trace : goal.returns-in-Cut-clause-trace
-returns-in-Cut-clause-trace g c = λ bytes told.
-    let gives = rw c.in-Cut.is at (c.in_ok-packet.ensures.gives c.records.invariant.running) in
-    progress_cut _ _ _ _ _ _ _ _ _ (c.records.invariant.told bytes told) gives
+pub returns-clause-trace : goal.returns-clause-trace
+returns-clause-trace g c = λ bytes told.
+    let gives = c.in_ok-end.ensures.trace bytes told in (
+      gives.1 ∙ ap (λ (ps : List Packet). Ok (record { packets = ps; skipped = c.in_ok-end.end.skipped; cut = c.in_ok-end.end.cut }))
+          (sym (gives.4 tt [] c.open-packets.ensures)),
+      gives.3,
+    )
