@@ -1,7 +1,8 @@
 //! The connection tracker: what it keeps of a flow, and how each packet changes it.
 //!
 //! Contracts see a [`TrackRecord`] as its fields. The main promise is that of [`step`]: the record and the output after
-//! a packet are those of the table of states in `specs/Table.antt`, for every record and packet.
+//! a packet are those of the table of states in `specs/Table.antt`, for every record and packet. [`first_record`] and
+//! [`next_record`] are its two halves, for callers that have the packet's way and keep the record in place.
 #![tactic(auto)]
 
 pub mod class;
@@ -13,7 +14,7 @@ pub mod tracker;
 pub use record::TrackRecord;
 pub use state::State;
 pub use text::{print_output, print_record, push_output, push_record};
-pub use tracker::step;
+pub use tracker::{first_record, next_record, step};
 
 #[cfg(test)]
 mod tests;

@@ -1,5 +1,9 @@
+ghost use Rattle.std.specs.Prelude.{◌≡◌};
+ghost use Rattle.conn_tracker.specs.Text.{output_of};
+
 use crate::state::State;
 use flow_filter::Dir;
+use nf_function::Output;
 
 /// What the tracker keeps of a flow.
 #[derive(Clone, Copy, Debug, PartialEq, Eq)]
@@ -10,4 +14,17 @@ pub struct TrackRecord {
     pub packets: u64,
     /// The payload bytes of the packets.
     pub bytes: u64,
+}
+
+impl TrackRecord {
+    /// The output of the packet that left this record.
+    pub fn output(&self) -> Output
+        ensures { result ≡ output_of self.now }
+    {
+        Output {
+            code: self.state.number(),
+            a: 0,
+            b: 0,
+        }
+    }
 }

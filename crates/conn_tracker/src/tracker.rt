@@ -24,15 +24,11 @@ pub fn step(site: &Site, kept: &mut Option<TrackRecord>, packet: &Packet) -> Out
         Some(before) => next_record(before, packet, way),
     };
     *kept = Some(next);
-    Output {
-        code: next.state.number(),
-        a: 0,
-        b: 0,
-    }
+    next.output()
 }
 
-/// The record of a flow's first packet.
-fn first_record(packet: &Packet, way: Dir) -> TrackRecord
+/// The record of a flow's first packet, which goes this way.
+pub fn first_record(packet: &Packet, way: Dir) -> TrackRecord
     ensures value { result ≡ first_record packet.now way }
     ensures fits { IsRecordOf packet.now.proto result }
 {
@@ -54,8 +50,8 @@ fn first_record(packet: &Packet, way: Dir) -> TrackRecord
     }
 }
 
-/// The record after a further packet.
-fn next_record(before: &TrackRecord, packet: &Packet, way: Dir) -> TrackRecord
+/// The record after a further packet, which goes this way.
+pub fn next_record(before: &TrackRecord, packet: &Packet, way: Dir) -> TrackRecord
     requires { IsRecordOf packet.now.proto before.now }
     ensures value { result ≡ next_record before.now packet.now way }
     ensures fits { IsRecordOf packet.now.proto result }

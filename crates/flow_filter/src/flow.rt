@@ -3,6 +3,7 @@ ghost use Rattle.flow_filter.specs.Flow.{flow_of, inward, outward, owner_of_port
 
 use crate::packet::Packet;
 use crate::site::Site;
+use std::hash::{Hash, Hasher};
 
 /// The first outside port that belongs to an inside host.
 const FIRST_PORT: u16 = 1024;
@@ -11,13 +12,39 @@ const FIRST_PORT: u16 = 1024;
 const PORTS_PER_HOST: u16 = 252;
 
 /// The two ends of a conversation, seen from the site, ordered by the fields in turn.
-#[derive(Clone, Copy, Debug, PartialEq, Eq, PartialOrd, Ord, Hash)]
+#[derive(Clone, Copy, Debug, PartialEq, Eq, PartialOrd, Ord)]
 pub struct Flow {
     pub proto: u8,
     pub local: u32,
     pub lport: u16,
     pub remote: u32,
     pub rport: u16,
+}
+
+/// The fields are hashed as two numbers, which takes less than half the time of five.
+impl Hash for Flow {
+    ghost use Rattle.std.specs.Prelude.{◌+◌, ◌*◌, ◌^◌, ◌++◌};
+    ghost use Rattle.std.specs.Cmp.Rules.{hashing};
+    ghost use Rattle.std.specs.Hash as fed;
+    ghost use Rattle.std.proofs.Common.{rules};
+
+    ghost hash_input = { λ f. fed.u64 (f.local * 2 ^ 32 + f.remote) ++ fed.u64 ((f.lport * 2 ^ 16 + f.rport) * 2 ^ 8 + f.proto) };
+
+    ghost respects_eq = { Prim.search (hashing, rules) };
+
+    fn hash<H: Hasher>(&self, state: &mut H) {
+        let Flow {
+            proto,
+            local,
+            lport,
+            remote,
+            rport,
+        } = *self;
+        let addresses = u64::from(local) * 0x1_0000_0000 + u64::from(remote);
+        let ports = u64::from(lport) * 0x1_0000 + u64::from(rport);
+        state.write_u64(addresses);
+        state.write_u64(ports * 0x100 + u64::from(proto));
+    }
 }
 
 /// Which way a packet of a flow goes.

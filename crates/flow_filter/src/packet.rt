@@ -11,23 +11,24 @@ pub type Packets = Sequence<Packet>;
 
 /// One TCP or UDP packet of a capture.
 ///
-/// Addresses are the numbers of their four bytes, the first byte highest.
+/// Addresses are the numbers of their four bytes, the first byte highest. The widest fields stand first, so that no room is
+/// lost between them.
 #[derive(Clone, Copy, Debug, PartialEq, Eq)]
 pub struct Packet {
-    /// The place among the steered packets of the capture, from 1.
-    pub number: u32,
     /// The capture's time stamp, in nanoseconds.
     pub nanos: u64,
-    /// [`TCP`] or [`UDP`].
-    pub proto: u8,
+    /// The place among the steered packets of the capture, from 1.
+    pub number: u32,
     pub src: u32,
-    pub sport: u16,
     pub dst: u32,
-    pub dport: u16,
-    /// The flags of the TCP header, and 0 for UDP.
-    pub flags: u8,
     /// How many bytes of payload the packet carried, captured or not.
     pub length: u32,
+    pub sport: u16,
+    pub dport: u16,
+    /// [`TCP`] or [`UDP`].
+    pub proto: u8,
+    /// The flags of the TCP header, and 0 for UDP.
+    pub flags: u8,
     /// How many bytes of payload `head` has.
     pub held: u8,
     /// The first `held` bytes of captured payload, and then zeros.

@@ -7,7 +7,9 @@ use Rattle.flow_filter.specs.declared.flow.Flow.{Flow}
 use Rattle.flow_filter.specs.declared.packet.Packet.{Packet}
 use Rattle.flow_filter.specs.declared.site.Site.{Site}
 use Rattle.conn_tracker.specs.declared.record.TrackRecord.{TrackRecord}
-use Rattle.conn_tracker.specs.Table.{stepped, IsRecordOf}
+use Rattle.flow_filter.specs.declared.flow.Dir.{Dir}
+use Rattle.flow_filter.specs.Flow.{flow_of}
+use Rattle.conn_tracker.specs.Table.{first_record, next_record, stepped, IsRecordOf}
 use Rattle.opennf_calls.specs.Fold.{flow_eq, unit_of, mine, record_of, record_behind, Kept, AreKept, AllFit, record_after}
 use Rattle.flow_filter.proofs.FlowLaws.{proto-flow_of}
 use Rattle.opennf_calls.proofs.OrderLaws.{same_flow}
@@ -30,6 +32,15 @@ pub fits_unit : (site : Site) (p : Packet) (r after : TrackRecord) → r ≡ aft
 fits_unit site p r after same fits =
     subst (λ (x : TrackRecord). IsRecordOf (unit_of site p).proto x) same
     (subst (λ (proto : ℕ). IsRecordOf proto r) (sym (proto-flow_of site p)) fits)
+
+-- the two halves of a step
+pub stepped_first : (site : Site) (p : Packet) (way : Dir) (r : TrackRecord) → way ≡ (flow_of site p).1 → r ≡ first_record p way → r ≡ stepped site None p
+unfolding stepped
+stepped_first site p way r same is = is ∙ ap (first_record p) same
+
+pub stepped_next : (site : Site) (before : TrackRecord) (p : Packet) (way : Dir) (r : TrackRecord) → way ≡ (flow_of site p).1 → r ≡ next_record before p way → r ≡ stepped site (Some before) p
+unfolding stepped
+stepped_next site before p way r same is = is ∙ ap (next_record before p) same
 
 -- one more packet of a flow
 pub record_of-more : (site : Site) (ps : List Packet) (p : Packet)

@@ -11,7 +11,7 @@ ghost use Rattle.conn_tracker.specs.Text.{output_of};
 ghost use Rattle.opennf_calls.specs.Fold.{AllFit, flow_cmp, flow_eq, record_after, unit_of};
 
 use crate::report::{end_lines, head_lines, name_end, push_done, push_out};
-use conn_tracker::{TrackRecord, step};
+use conn_tracker::{TrackRecord, first_record, next_record};
 use flow_filter::{Flow, Name, NoMemory, Packet, Site, Text, flow_of};
 use itoa::Buffer;
 use nf_function::Output;
@@ -98,29 +98,15 @@ pub fn process(kept: &mut Kept, site: &Site, packet: &Packet) -> Result<Output, 
     ensures output { IfOk result (λ output. output ≡ output_of (record_after site.now kept.old packet.now)) }
     ensures fits { AllFit kept.new }
 {
-    let (flow, _) = flow_of(site, packet);
+    let (flow, way) = flow_of(site, packet);
     if let Some(record) = kept.get_mut(&flow) {
-        let before = *record;
-        let (after, output) = advance(site, Some(before), packet);
+        let after = next_record(record, packet, way);
         *record = after;
-        return Ok(output);
+        return Ok(after.output());
     }
-    let (after, output) = advance(site, None, packet);
-    kept.insert(flow, after)?;
-    Ok(output)
-}
-
-/// The record of a packet's flow behind the packet, and the packet's output.
-fn advance(site: &Site, before: Option<TrackRecord>, packet: &Packet) -> (TrackRecord, Output)
-    requires { IfSome before (IsRecordOf packet.now.proto) }
-    ensures after { result.0 ≡ stepped site.now before packet.now }
-    ensures output { result.1 ≡ output_of (stepped site.now before packet.now) }
-    ensures fits { IsRecordOf packet.now.proto (stepped site.now before packet.now) }
-{
-    let mut kept = before;
-    let output = step(site, &mut kept, packet);
-    let Some(after) = kept else { unreachable!() };
-    (after, output)
+    let first = first_record(packet, way);
+    kept.insert(flow, first)?;
+    Ok(first.output())
 }
 
 /// The records in the flows' order.

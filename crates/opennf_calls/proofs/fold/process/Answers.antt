@@ -7,13 +7,13 @@ use Rattle.conn_tracker.specs.declared.record.TrackRecord.{TrackRecord}
 use Rattle.conn_tracker.specs.Table.{stepped, IsRecordOf}
 use Rattle.conn_tracker.specs.Text.{output_of}
 use Rattle.opennf_calls.specs.Fold.{flow_eq, unit_of, record_after}
-use Rattle.opennf_calls.proofs.FoldLaws.{AllFit-Updates, fits_unit}
+use Rattle.opennf_calls.proofs.FoldLaws.{AllFit-Updates, fits_unit, stepped_first, stepped_next}
 use Rattle.opennf_calls.proofs.fold.process.Goals as goal
 
-pub advance-requires : goal.advance-requires
-advance-requires c =
+pub next_record-after-requires : goal.next_record-after-requires
+next_record-after-requires c =
     let found : Some c.in-Some.record.now ≡ get flow_eq c.args.kept.now (unit_of c.args.site.now c.args.packet.now) =
-    c.in-Some.ensures.value ∙ ap (λ (flow : Flow). get flow_eq c.args.kept.now flow) (ap (λ r. r.0) c.flow_of.ensures) in
+    c.in-Some.ensures.value ∙ ap (λ (flow : Flow). get flow_eq c.args.kept.now flow) (ap (λ r. r.0) c.flow_of-way.ensures) in
     let fits : IfSome (Some c.in-Some.record.now) (IsRecordOf (unit_of c.args.site.now c.args.packet.now).proto) =
     subst (λ (o : Option TrackRecord). IfSome o (IsRecordOf (unit_of c.args.site.now c.args.packet.now).proto)) (sym found) (c.requires (unit_of c.args.site.now c.args.packet.now)) in
     subst (λ (proto : ℕ). IsRecordOf proto c.in-Some.record.now) (proto-flow_of c.args.site.now c.args.packet.now) fits
@@ -21,42 +21,54 @@ advance-requires c =
 pub returns-in-Some-clause-updates : goal.returns-in-Some-clause-updates
 returns-in-Some-clause-updates c =
     let found : Some c.in-Some.record.now ≡ get flow_eq c.args.kept.now (unit_of c.args.site.now c.args.packet.now) =
-    c.in-Some.ensures.value ∙ ap (λ (flow : Flow). get flow_eq c.args.kept.now flow) (ap (λ r. r.0) c.flow_of.ensures) in
-    let after : c.advance.result.0 ≡ record_after c.args.site.now c.args.kept.now c.args.packet.now =
-    c.advance.ensures.after ∙ ap (λ (before : Option TrackRecord). stepped c.args.site.now before c.args.packet.now) found in
-    let there : IsSome (get flow_eq c.args.kept.now c.flow_of.result.0) = rw (← c.in-Some.ensures.value) refl in
-    rw (← after, ← ap (λ r. r.0) c.flow_of.ensures) ((c.get_mut.follows.holds c.advance.result.0).3 there)
+    c.in-Some.ensures.value ∙ ap (λ (flow : Flow). get flow_eq c.args.kept.now flow) (ap (λ r. r.0) c.flow_of-way.ensures) in
+    let after : c.next_record-after.result ≡ record_after c.args.site.now c.args.kept.now c.args.packet.now =
+    stepped_next c.args.site.now c.in-Some.record.now c.args.packet.now _ _ (ap (λ r. r.1) c.flow_of-way.ensures) c.next_record-after.ensures.value
+    ∙ ap (λ (before : Option TrackRecord). stepped c.args.site.now before c.args.packet.now) found in
+    let there : IsSome (get flow_eq c.args.kept.now c.flow_of-way.result.0) = rw (← c.in-Some.ensures.value) refl in
+    rw (← after, ← ap (λ r. r.0) c.flow_of-way.ensures) ((c.get_mut.follows.holds c.next_record-after.result).3 there)
 
 pub returns-in-Some-clause-output : goal.returns-in-Some-clause-output
 returns-in-Some-clause-output c =
     let found : Some c.in-Some.record.now ≡ get flow_eq c.args.kept.now (unit_of c.args.site.now c.args.packet.now) =
-    c.in-Some.ensures.value ∙ ap (λ (flow : Flow). get flow_eq c.args.kept.now flow) (ap (λ r. r.0) c.flow_of.ensures) in
-    c.advance.ensures.output ∙ ap (λ (before : Option TrackRecord). output_of (stepped c.args.site.now before c.args.packet.now)) found
+    c.in-Some.ensures.value ∙ ap (λ (flow : Flow). get flow_eq c.args.kept.now flow) (ap (λ r. r.0) c.flow_of-way.ensures) in
+    c.output.ensures ∙ ap output_of (stepped_next c.args.site.now c.in-Some.record.now c.args.packet.now _ _ (ap (λ r. r.1) c.flow_of-way.ensures) c.next_record-after.ensures.value)
+    ∙ ap (λ (before : Option TrackRecord). output_of (stepped c.args.site.now before c.args.packet.now)) found
 
 pub returns-clause-updates : goal.returns-clause-updates
 returns-clause-updates c =
     let found : None ≡ get flow_eq c.args.kept.now (unit_of c.args.site.now c.args.packet.now) =
-    c.in_default.ensures.value ∙ ap (λ (flow : Flow). get flow_eq c.args.kept.now flow) (ap (λ r. r.0) c.flow_of.ensures) in
-    let after : c.advance-2.result.0 ≡ record_after c.args.site.now c.args.kept.now c.args.packet.now =
-    c.advance-2.ensures.after ∙ ap (λ (before : Option TrackRecord). stepped c.args.site.now before c.args.packet.now) found in
-    rw (← after, ← ap (λ r. r.0) c.flow_of.ensures, ← c.get_mut.follows.holds-at-none) c.in_ok-insert.ensures.updates
+    c.in_default.ensures.value ∙ ap (λ (flow : Flow). get flow_eq c.args.kept.now flow) (ap (λ r. r.0) c.flow_of-way.ensures) in
+    let after : c.first_record-first.result ≡ record_after c.args.site.now c.args.kept.now c.args.packet.now =
+    stepped_first c.args.site.now c.args.packet.now _ _ (ap (λ r. r.1) c.flow_of-way.ensures) c.first_record-first.ensures.value
+    ∙ ap (λ (before : Option TrackRecord). stepped c.args.site.now before c.args.packet.now) found in
+    rw (← after, ← ap (λ r. r.0) c.flow_of-way.ensures, ← c.get_mut.follows.holds-at-none) c.in_ok-insert.ensures.updates
 
 pub returns-in-Some-clause-fits : goal.returns-in-Some-clause-fits
 returns-in-Some-clause-fits c =
     let found : Some c.in-Some.record.now ≡ get flow_eq c.args.kept.now (unit_of c.args.site.now c.args.packet.now) =
-    c.in-Some.ensures.value ∙ ap (λ (flow : Flow). get flow_eq c.args.kept.now flow) (ap (λ r. r.0) c.flow_of.ensures) in
-    let fits = fits_unit c.args.site.now c.args.packet.now (stepped c.args.site.now (Some c.in-Some.record.now) c.args.packet.now)
+    c.in-Some.ensures.value ∙ ap (λ (flow : Flow). get flow_eq c.args.kept.now flow) (ap (λ r. r.0) c.flow_of-way.ensures) in
+    let fits = fits_unit c.args.site.now c.args.packet.now c.next_record-after.result
     (record_after c.args.site.now c.args.kept.now c.args.packet.now)
-    (ap (λ (before : Option TrackRecord). stepped c.args.site.now before c.args.packet.now) found) c.advance.ensures.fits in
-    AllFit-Updates c.args.kept.now (c.get_mut.follows.lender c.advance.result.0) (unit_of c.args.site.now c.args.packet.now)
+    (stepped_next c.args.site.now c.in-Some.record.now c.args.packet.now _ _ (ap (λ r. r.1) c.flow_of-way.ensures) c.next_record-after.ensures.value
+    ∙ ap (λ (before : Option TrackRecord). stepped c.args.site.now before c.args.packet.now) found) c.next_record-after.ensures.fits in
+    AllFit-Updates c.args.kept.now (c.get_mut.follows.lender c.next_record-after.result) (unit_of c.args.site.now c.args.packet.now)
     (record_after c.args.site.now c.args.kept.now c.args.packet.now) (returns-in-Some-clause-updates c) fits c.requires
 
 pub returns-clause-fits : goal.returns-clause-fits
 returns-clause-fits c =
     let found : None ≡ get flow_eq c.args.kept.now (unit_of c.args.site.now c.args.packet.now) =
-    c.in_default.ensures.value ∙ ap (λ (flow : Flow). get flow_eq c.args.kept.now flow) (ap (λ r. r.0) c.flow_of.ensures) in
-    let fits = fits_unit c.args.site.now c.args.packet.now (stepped c.args.site.now None c.args.packet.now)
+    c.in_default.ensures.value ∙ ap (λ (flow : Flow). get flow_eq c.args.kept.now flow) (ap (λ r. r.0) c.flow_of-way.ensures) in
+    let fits = fits_unit c.args.site.now c.args.packet.now c.first_record-first.result
     (record_after c.args.site.now c.args.kept.now c.args.packet.now)
-    (ap (λ (before : Option TrackRecord). stepped c.args.site.now before c.args.packet.now) found) c.advance-2.ensures.fits in
+    (stepped_first c.args.site.now c.args.packet.now _ _ (ap (λ r. r.1) c.flow_of-way.ensures) c.first_record-first.ensures.value
+    ∙ ap (λ (before : Option TrackRecord). stepped c.args.site.now before c.args.packet.now) found) c.first_record-first.ensures.fits in
     AllFit-Updates c.args.kept.now c.insert.new.self (unit_of c.args.site.now c.args.packet.now)
     (record_after c.args.site.now c.args.kept.now c.args.packet.now) (returns-clause-updates c) fits c.requires
+
+pub returns-clause-output : goal.returns-clause-output
+returns-clause-output c =
+    let found : None ≡ get flow_eq c.args.kept.now (unit_of c.args.site.now c.args.packet.now) =
+    c.in_default.ensures.value ∙ ap (λ (flow : Flow). get flow_eq c.args.kept.now flow) (ap (λ r. r.0) c.flow_of-way.ensures) in
+    c.output-2.ensures ∙ ap output_of (stepped_first c.args.site.now c.args.packet.now _ _ (ap (λ r. r.1) c.flow_of-way.ensures) c.first_record-first.ensures.value)
+    ∙ ap (λ (before : Option TrackRecord). output_of (stepped c.args.site.now before c.args.packet.now)) found
