@@ -39,7 +39,8 @@ impl Name {
 
     /// The bytes of the name.
     pub fn items(&self) -> &[u8]
-        ensures { result.now ≡ self.now }
+        ensures bytes { result.now ≡ self.now }
+        ensures name { is_name result.now ≡ true }
     {
         self.bytes.items()
     }

@@ -5,6 +5,6 @@ pub mod CheckedRows
 pub mod FoldLaws
 pub mod LineLaws
 pub mod OrderLaws
-pub mod Pieces
+pub mod PageLaws
 pub mod Rows
 pub mod ScriptFront

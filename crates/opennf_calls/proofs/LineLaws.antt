@@ -1,91 +1,101 @@
--- How the records and the lines of an instance grow with one more packet, and what its report is.
-use Rattle.std.proofs.Common.{◌≡◌, ℕ, Bool, List, [], ◌∷◌, ◌++◌, length, Some, refl, ap, sym, ◌∙◌, subst, append-nil, append_assoc, codes, decimal}
-use Rattle.std.proofs.lemmas.Grind.{flat_map-append}
-use Rattle.std.specs.List.{flat_map, concat}
+-- How what an instance has processed grows with one more packet, and what its report is.
+use Rattle.std.proofs.Common.{◌≡◌, ℕ, ◌+◌, Bool, List, [], ◌∷◌, ◌++◌, length, Some, refl, ap, sym, ◌∙◌, subst, append-nil, append_assoc, codes, decimal}
+use Rattle.std.specs.List.{flat_map}
 use Rattle.std.specs.BTreeMap.{get as live_at, BTreeMap, IsOrdered}
 use Rattle.std.specs.HashMap.{get as kept_at, Updates}
 use Rattle.flow_filter.specs.declared.flow.Flow.{Flow}
 use Rattle.flow_filter.specs.declared.packet.Packet.{Packet}
 use Rattle.flow_filter.specs.declared.site.Site.{Site}
-use Rattle.nf_function.specs.declared.output.Output.{Output}
+use Rattle.trace_reader.specs.Records.{AreNumbered}
 use Rattle.conn_tracker.specs.declared.record.TrackRecord.{TrackRecord}
+use Rattle.conn_tracker.specs.declared.state.State.{State}
+use Rattle.conn_tracker.specs.declared.state.State.TheVariants.{Opening, Answered, Established, FinFwd, FinRev, Closed, Reset, Loose, Single, Both}
+use Rattle.conn_tracker.specs.Table.{name_of, number_of, state_of}
 use Rattle.conn_tracker.specs.Text.{output_of, output_text}
 use Rattle.opennf_calls.specs.declared.fold.Fold.{Fold}
-use Rattle.opennf_calls.specs.Fold.{flow_cmp, flow_eq, unit_of, Kept, AreKept, AreLive, record_after, record_behind}
+use Rattle.opennf_calls.specs.declared.pages.Lines.TheVariants.{Outs, Dones}
+use Rattle.opennf_calls.specs.Fold.{flow_cmp, flow_eq, unit_of, Kept, AreKept, AreLive, record_after, record_behind, states_behind}
 use Rattle.opennf_calls.specs.Folded.{HasFolded}
+use Rattle.opennf_calls.specs.Lines.{line_text, lines_from}
 use Rattle.opennf_calls.specs.Report.{head_lines, out_line, out_lines, done_line, name_end, state_line, tail_lines, IsReport}
 use Rattle.opennf_calls.proofs.FoldLaws.{AreKept-more, record_after-kept}
 
--- one more packet has one more line
-out_lines-more : (site : Site) (before ps : List Packet) (p : Packet)
-    → out_lines site before (ps ++ p ∷ []) ≡ out_lines site before ps ++ out_line p (output_of (record_behind site (before ++ ps) p))
-out_lines-more site before [] p =
-    append-nil (out_line p (output_of (record_behind site before p)))
-    ∙ ap (λ (qs : List Packet). out_line p (output_of (record_behind site qs p))) (sym (append-nil before))
-out_lines-more site before (q ∷ ps) p =
-    let first = out_line q (output_of (record_behind site before q)) in
-    ap (λ l. first ++ l) (out_lines-more site (before ++ q ∷ []) ps p)
-    ∙ ap (λ (qs : List Packet). first ++ (out_lines site (before ++ q ∷ []) ps ++ out_line p (output_of (record_behind site qs p)))) (append_assoc before (q ∷ []) ps)
-    ∙ sym (append_assoc first (out_lines site (before ++ q ∷ []) ps) (out_line p (output_of (record_behind site (before ++ q ∷ ps) p))))
+-- one more packet leaves one more state
+states_behind-more : (site : Site) (before ps : List Packet) (p : Packet)
+    → states_behind site before (ps ++ p ∷ []) ≡ states_behind site before ps ++ (record_behind site (before ++ ps) p).state ∷ []
+states_behind-more site before [] p = ap (λ (qs : List Packet). (record_behind site qs p).state ∷ []) (sym (append-nil before))
+states_behind-more site before (q ∷ ps) p =
+    ap (λ l. (record_behind site before q).state ∷ l) (states_behind-more site (before ++ q ∷ []) ps p
+    ∙ ap (λ (qs : List Packet). states_behind site (before ++ q ∷ []) ps ++ (record_behind site qs p).state ∷ []) (append_assoc before (q ∷ []) ps))
 
--- the records behind one more packet
-pub kept_more : (here at : Site) (before : List Packet) (p : Packet) (old new : Kept) → at ≡ here → AreKept here before old
-    → Updates flow_eq old new (unit_of at p) (Some (record_after at old p)) → AreKept here (before ++ p ∷ []) new
-kept_more here at before p old new same are updates =
-    AreKept-more here before p old new are (subst (λ (s : Site). Updates flow_eq old new (unit_of s p) (Some (record_after s old p))) same updates)
+-- the records and the states behind one more packet
+pub folded_more : (here : Site) (before : List Packet) (p : Packet) (old new : Fold) (state : State)
+    → HasFolded here before old → new.site ≡ old.site
+    → Updates flow_eq old.kept new.kept (unit_of old.site p) (Some (record_after old.site old.kept p))
+    → state ≡ (record_after old.site old.kept p).state → new.states.items ≡ old.states.items ++ state ∷ []
+    → HasFolded here (before ++ p ∷ []) new
+folded_more here before p old new state has same updates is grown = record {
+  site = same ∙ has.site;
+  kept = AreKept-more here before p old.kept new.kept has.kept
+      (subst (λ (s : Site). Updates flow_eq old.kept new.kept (unit_of s p) (Some (record_after s old.kept p))) has.site updates);
+  states =
+      let is' : state ≡ (record_behind here before p).state =
+      is ∙ ap (λ (s : Site). (record_after s old.kept p).state) has.site ∙ ap (λ r. r.state) (record_after-kept here before p old.kept has.kept) in
+      grown ∙ ap (λ l. l ++ state ∷ []) has.states ∙ ap (λ s. states_behind here [] before ++ s ∷ []) is' ∙ sym (states_behind-more here [] before p);
+}
 
--- lines behind a text, and the pieces of a text
-six : (o a d b t e : List ℕ) → o ++ a ++ d ++ b ++ t ++ e ≡ o ++ (a ++ d ++ b ++ t ++ e)
-six o a d b t e = simp (append_assoc)
+-- an output's text is its state's name
+output_text-state : (state : State) → output_text (record { code = number_of state; a = 0; b = 0 }) ≡ name_of state
+output_text-state Opening = refl
+output_text-state Answered = refl
+output_text-state Established = refl
+output_text-state FinFwd = refl
+output_text-state FinRev = refl
+output_text-state Closed = refl
+output_text-state Reset = refl
+output_text-state Loose = refl
+output_text-state Single = refl
+output_text-state Both = refl
 
-four : (o a d e : List ℕ) → o ++ a ++ d ++ e ≡ o ++ (a ++ d ++ e)
-four o a d e = simp (append_assoc)
+-- the two lines of a packet by its number and its state
+out_line-text : (p : Packet) (n : ℕ) (r : TrackRecord) → p.number ≡ n → out_line p (output_of r) ≡ line_text Outs n r.state
+unfolding out_line line_text
+out_line-text p n r number =
+    ap (λ k. codes "out " ++ decimal k ++ codes " " ++ output_text (output_of r) ++ codes "\n") number
+    ∙ ap (λ name. codes "out " ++ decimal n ++ codes " " ++ name ++ codes "\n") (output_text-state r.state)
 
-joined : (h o d t e : List ℕ) → concat (h ∷ o ∷ d ∷ (t ++ e) ∷ []) ≡ h ++ o ++ d ++ t ++ e
-joined h o d t e = simp (append_assoc, append-nil)
+done_line-text : (name : List ℕ) (p : Packet) (n : ℕ) (state : State) → p.number ≡ n → done_line name p ≡ line_text (Dones (name_end name)) n state
+unfolding done_line line_text
+done_line-text name p n state number = ap (λ k. codes "done " ++ decimal k ++ name_end name) number
 
--- the parts of a packet's two lines
-out_line-parts : (p : Packet) (output : Output) → out_line p output ≡ codes "out " ++ decimal p.number ++ codes " " ++ output_text output ++ codes "\n"
-unfolding out_line
-out_line-parts p output = refl
+-- the lines of packets that are numbered in order
+outs_are : (site : Site) (before ps : List Packet) (n : ℕ) → AreNumbered n ps → out_lines site before ps ≡ lines_from Outs n (states_behind site before ps)
+outs_are site before [] n numbered = refl
+outs_are site before (p ∷ ps) n numbered =
+    ap (λ l. l ++ out_lines site (before ++ p ∷ []) ps) (out_line-text p n (record_behind site before p) numbered.0)
+    ∙ ap (λ l. line_text Outs n (record_behind site before p).state ++ l) (outs_are site (before ++ p ∷ []) ps (n + 1) numbered.1)
 
-done_line-parts : (name : List ℕ) (p : Packet) → done_line name p ≡ codes "done " ++ decimal p.number ++ name_end name
-unfolding done_line
-done_line-parts name p = refl
+dones_are : (name : List ℕ) (site : Site) (before ps : List Packet) (n : ℕ) → AreNumbered n ps
+    → flat_map (done_line name) ps ≡ lines_from (Dones (name_end name)) n (states_behind site before ps)
+dones_are name site before [] n numbered = refl
+dones_are name site before (p ∷ ps) n numbered =
+    ap (λ l. l ++ flat_map (done_line name) ps) (done_line-text name p n (record_behind site before p).state numbered.0)
+    ∙ ap (λ l. line_text (Dones (name_end name)) n (record_behind site before p).state ++ l) (dones_are name site (before ++ p ∷ []) ps (n + 1) numbered.1)
 
--- the lines of the outputs
-pub outs_more : (here at : Site) (before : List Packet) (p : Packet) (kept : Kept) (old new digits : List ℕ) (output : Output)
-    → at ≡ here → AreKept here before kept → old ≡ out_lines here [] before → digits ≡ decimal p.number
-    → output ≡ output_of (record_after at kept p)
-    → new ≡ old ++ codes "out " ++ digits ++ codes " " ++ output_text output ++ codes "\n"
-    → new ≡ out_lines here [] (before ++ p ∷ [])
-outs_more here at before p kept old new digits output same are so_far number is grown =
-    let is' : output ≡ output_of (record_behind here before p) =
-    is ∙ ap (λ (s : Site). output_of (record_after s kept p)) same ∙ ap output_of (record_after-kept here before p kept are) in
-    grown ∙ rw (so_far, number, is') (six (out_lines here [] before) (codes "out ") (decimal p.number) (codes " ") (output_text (output_of (record_behind here before p))) (codes "\n"))
-    ∙ ap (λ l. out_lines here [] before ++ l) (sym (out_line-parts p (output_of (record_behind here before p))))
-    ∙ sym (out_lines-more here [] before p)
+joined : (h o d t e : List ℕ) → h ++ o ++ d ++ (t ++ e) ≡ h ++ o ++ d ++ t ++ e
+joined h o d t e = simp (append_assoc)
 
--- the lines that say where each packet was processed
-pub dones_more : (name : List ℕ) (before : List Packet) (p : Packet) (old new digits end : List ℕ)
-    → old ≡ flat_map (done_line name) before → digits ≡ decimal p.number → end ≡ name_end name
-    → new ≡ old ++ codes "done " ++ digits ++ end → new ≡ flat_map (done_line name) (before ++ p ∷ [])
-dones_more name before p old new digits end so_far number ends grown =
-    grown ∙ rw (so_far, number, ends) (four (flat_map (done_line name) before) (codes "done ") (decimal p.number) (name_end name))
-    ∙ ap (λ l. flat_map (done_line name) before ++ l) (sym (done_line-parts name p))
-    ∙ ap (λ l. flat_map (done_line name) before ++ l) (sym (append-nil (done_line name p)))
-    ∙ sym (flat_map-append (done_line name) before (p ∷ []))
-
--- the pieces are the report
+-- the parts are the report
 pub report_is : (here : Site) (name : List ℕ) (packets : List Packet) (fold : Fold) (n skipped : ℕ) (cut : Bool) (live : BTreeMap Flow TrackRecord)
-    → HasFolded here name packets fold → length packets ≡ n → IsOrdered flow_cmp live
+    → HasFolded here packets fold → AreNumbered 1 packets → length packets ≡ n → IsOrdered flow_cmp live
     → ((unit : Flow) → live_at flow_cmp live unit ≡ kept_at flow_eq fold.kept unit)
     → IsReport here name (record { packets = packets; skipped = skipped; cut = cut })
-    (concat (head_lines n skipped cut ∷ fold.outs ∷ fold.dones ∷ (flat_map (state_line name) live.entries ++ tail_lines name n) ∷ []))
+    (head_lines n skipped cut ++ lines_from Outs 1 fold.states.items ++ lines_from (Dones (name_end name)) 1 fold.states.items
+    ++ (flat_map (state_line name) live.entries ++ tail_lines name n))
 unfolding IsReport
-report_is here name packets fold n skipped cut live has few ordered same = (
+report_is here name packets fold n skipped cut live has numbered few ordered same = (
   live,
   record { ordered = ordered; each = λ unit. same unit ∙ has.kept unit },
-  rw (has.outs, has.dones, few) (joined (head_lines n skipped cut) (out_lines here [] packets) (flat_map (done_line name) packets)
-  (flat_map (state_line name) live.entries) (tail_lines name n)),
+  rw (has.states, ← outs_are here [] packets 1 numbered, ← dones_are name here [] packets 1 numbered, few)
+  (joined (head_lines n skipped cut) (out_lines here [] packets) (flat_map (done_line name) packets) (flat_map (state_line name) live.entries) (tail_lines name n)),
 )

@@ -1,5 +1,5 @@
 -- What one unmoved instance of the connection tracker makes of a trace. This project's own.
-use Rattle.std.specs.Prelude.{◌≡◌, ◌==◌, ◌&&◌, Bool, List, Option, None, Some, filter, fold, IfSome}
+use Rattle.std.specs.Prelude.{◌≡◌, ◌==◌, ◌&&◌, ◌++◌, Bool, List, [], ◌∷◌, Option, None, Some, filter, fold, IfSome}
 use Rattle.std.specs.Ordering.{nat_cmp, ordering_then}
 use Rattle.std.specs.declared.cmp.Ordering.{Ordering}
 use Rattle.std.specs.BTreeMap.{get, BTreeMap, IsOrdered}
@@ -11,6 +11,7 @@ use Rattle.flow_filter.specs.declared.packet.Packet.{Packet}
 use Rattle.flow_filter.specs.declared.site.Site.{Site}
 use Rattle.flow_filter.specs.Flow.{flow_of}
 use Rattle.conn_tracker.specs.declared.record.TrackRecord.{TrackRecord}
+use Rattle.conn_tracker.specs.declared.state.State.{State}
 use Rattle.conn_tracker.specs.Table.{stepped, IsRecordOf}
 
 -- the flows are equal in every field
@@ -38,6 +39,11 @@ record_of site packets = fold (λ kept p. Some (stepped site kept p)) None packe
 -- the record of a packet's flow behind it, where `before` are the packets in front of it
 abbrev pub record_behind : Site → List Packet → Packet → TrackRecord
 record_behind site before p = stepped site (record_of site (mine site (unit_of site p) before)) p
+
+-- the states that the packets behind `before` leave their flows in
+abbrev pub states_behind : Site → List Packet → List Packet → List State
+states_behind site before [] = []
+states_behind site before (p ∷ ps) = (record_behind site before p).state ∷ states_behind site (before ++ p ∷ []) ps
 
 -- a finite map in the flows' order has the record that each flow's own packets leave, and no other
 pub record AreLive (site : Site) (packets : List Packet) (live : BTreeMap Flow TrackRecord) : Type 0 where

@@ -2,7 +2,10 @@ pub mod Checked
 pub mod Command
 pub mod Fold
 pub mod Folded
+pub mod Lines
 pub mod Outcome
+pub mod Printed
 pub mod Report
 pub mod Simulated
 pub mod Status
+pub mod Writing

@@ -12,6 +12,7 @@ pub mod complaint;
 pub mod fold;
 pub mod gate;
 pub mod outcome;
+mod pages;
 pub mod report;
 pub mod run;
 pub mod status;

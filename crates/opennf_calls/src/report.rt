@@ -1,19 +1,85 @@
 //! The lines of the report.
-ghost use Rattle.std.specs.Prelude.{◌≡◌, ◌++◌, codes, OnOk, IfOk};
+ghost use Rattle.std.specs.Prelude.{◌≡◌, ◌≤◌, ◌++◌, length, vec_capacity, OnOk, IfOk};
 ghost use Rattle.std.specs.List.{flat_map};
-ghost use Rattle.conn_tracker.specs.Text.{output_text};
+ghost use Rattle.nf_io.specs.declared.outside.Role.TheVariants.{Report as ReportRole};
+ghost use Rattle.nf_io.specs.Meaning.{CanWrite};
+ghost use Rattle.opennf_calls.specs.Lines.{lines_from, end_of};
 ghost use Rattle.opennf_calls.specs.Report.{head_lines, trace_line, counts_text, end_text, end_point_text, name_end, protocol_text, unit_text, state_line, tail_lines};
+ghost use Rattle.opennf_calls.specs.Writing.{Wrote};
+ghost use Rattle.opennf_calls.specs.declared.pages.Lines.TheVariants.{Outs, Dones};
 
 use crate::fold::Live;
-use conn_tracker::{TrackRecord, push_output, push_record};
-use flow_filter::{Flow, NoMemory, TCP, Text};
-use nf_function::Output;
+use crate::pages::{Lines, page, print_lines};
+use crate::run::put;
+use conn_tracker::{State, TrackRecord, push_record};
+use flow_filter::{Flow, Name, NoMemory, TCP, Text};
+use nf_io::{Failed, Outside, Role};
 use std::alloc::Global;
 use trace_reader::TraceEnd;
 
+/// A report that is ready to be printed.
+#[derive(Drop)]
+pub struct Report {
+    head: Text,
+    states: Vec<State>,
+    dones: Lines,
+    tail: Text,
+    page: Vec<u8>,
+    ghost short: { length (end_of dones) ≤ 32 },
+    ghost room: { 64000 ≤ vec_capacity page },
+}
+
+impl Report {
+    ghost use Rattle.opennf_calls.specs.Printed.{report_text};
+
+    /// The report of the instance with a name, at the end of a capture.
+    #[tactic(auto, unfolding(crate::specs::Printed::report_text))]
+    pub fn open(
+        alloc: Global,
+        name: &Name,
+        states: Vec<State>,
+        live: &Live,
+        end: &TraceEnd,
+    ) -> Result<Report, NoMemory>
+        ensures { IfOk result (λ report. report_text report
+            ≡ head_lines end.now.packets end.now.skipped end.now.cut ++ lines_from Outs 1 states.items
+            ++ lines_from (Dones (name_end name.now)) 1 states.items
+            ++ (flat_map (state_line name.now) live.now.entries ++ tail_lines name.now end.now.packets)) }
+    {
+        let name = name.items();
+        Ok(Report {
+            head: head_of(alloc, end)?,
+            states,
+            dones: Lines::Dones(name_end(alloc, name)?),
+            tail: tail_of(alloc, name, live, end)?,
+            page: page(alloc)?,
+        })
+    }
+
+    /// Writes the report.
+    #[tactic(auto, unfolding(crate::specs::Printed::report_text))]
+    pub fn print<O: Outside>(self, outside: &mut O) -> Result<(), Failed>
+        requires { CanWrite ReportRole (O.seen outside.old ReportRole) }
+        ensures { Wrote ReportRole (O.seen outside.old) (O.seen outside.new) (report_text self) result }
+    {
+        let Report {
+            head,
+            states,
+            dones,
+            tail,
+            mut page,
+        } = self;
+        let states = states.as_slice();
+        put(outside, Role::Report, head.items())?;
+        print_lines(outside, Role::Report, &mut page, &Lines::Outs, states)?;
+        print_lines(outside, Role::Report, &mut page, &dones, states)?;
+        put(outside, Role::Report, tail.items())
+    }
+}
+
 /// The lines at the top of the report.
 #[tactic(auto, unfolding(crate::specs::Report::head_lines))]
-pub fn head_lines(alloc: Global, end: &TraceEnd) -> Result<Text, NoMemory>
+fn head_of(alloc: Global, end: &TraceEnd) -> Result<Text, NoMemory>
     ensures { IfOk result (λ text. text ≡ head_lines end.now.packets end.now.skipped end.now.cut) }
 {
     let mut text = Text::open(alloc);
@@ -48,19 +114,8 @@ fn end_name(is_cut: bool) -> &'static str
     if is_cut { "cut" } else { "whole" }
 }
 
-/// Puts the line of a packet's output, with the packet's number in digits.
-pub fn push_out(text: &mut Text, number: &[u8], output: &Output) -> Result<(), NoMemory>
-    ensures { OnOk result (text.new ≡ text.old ++ codes "out " ++ number.now ++ codes " " ++ output_text output.now ++ codes "\n") }
-{
-    text.push_bytes(b"out ")?;
-    text.push_bytes(number)?;
-    text.push_bytes(b" ")?;
-    push_output(text, output)?;
-    text.push_bytes(b"\n")
-}
-
 /// What ends a line with an instance's name.
-pub fn name_end(alloc: Global, name: &[u8]) -> Result<Text, NoMemory>
+fn name_end(alloc: Global, name: &[u8]) -> Result<Text, NoMemory>
     ensures { IfOk result (λ text. text ≡ name_end name.now) }
 {
     let mut text = Text::open(alloc);
@@ -70,17 +125,8 @@ pub fn name_end(alloc: Global, name: &[u8]) -> Result<Text, NoMemory>
     Ok(text)
 }
 
-/// Puts the line that says where a packet was processed, with the packet's number in digits and what ends the line.
-pub fn push_done(text: &mut Text, number: &[u8], end: &[u8]) -> Result<(), NoMemory>
-    ensures { OnOk result (text.new ≡ text.old ++ codes "done " ++ number.now ++ end.now) }
-{
-    text.push_bytes(b"done ")?;
-    text.push_bytes(number)?;
-    text.push_bytes(end)
-}
-
 /// The lines behind those of the packets: each flow's record, in the flows' order, and then the bottom.
-pub fn end_lines(
+fn tail_of(
     alloc: Global,
     name: &[u8],
     live: &Live,

@@ -1,5 +1,4 @@
 ghost use Rattle.std.specs.Prelude.{◌≡◌, Some, None, length, map, string_bytes, ◌⊎◌, MatchResult};
-ghost use Rattle.std.specs.List.{concat};
 ghost use Rattle.std.specs.Option.{ForSome};
 ghost use Rattle.std.specs.Io.KnownBytes.{Appends};
 ghost use Rattle.nf_io.specs.declared.outside.Role.TheVariants.{Trace as TraceRole, Report as ReportRole, Errors as ErrorsRole};
@@ -11,12 +10,12 @@ ghost use Rattle.command_words.specs.Plan.{plan_of};
 ghost use Rattle.opennf_calls.specs.Folded.{Folds};
 ghost use Rattle.opennf_calls.specs.Outcome.{CauseOf, MayBind};
 ghost use Rattle.opennf_calls.specs.Simulated.{SimRow, SimChanges};
+ghost use Rattle.opennf_calls.specs.Writing.{Wrote};
 
 use crate::check::check;
 use crate::fold::Fold;
 use crate::status::Status;
 use command_words::{Request, Simulation, WordsFault, read_words};
-use flow_filter::Text;
 use nf_io::{Failed, Outside, Role, RoleSink, RoleSource, write_all};
 use std::alloc::Global;
 use trace_reader::{TraceEnd, TraceFault, read_into};
@@ -35,17 +34,15 @@ pub fn simulate<O: Outside>(alloc: Global, asked: &Simulation<'_>, outside: &mut
     let Ok(()) = outside.bind(Role::Trace, asked.trace) else {
         return Status::NoMemory;
     };
-    let Ok(mut fold) = Fold::open(alloc, asked.site, name) else {
-        return Status::NoMemory;
-    };
+    let mut fold = Fold::open(alloc, asked.site);
     let end = match read_capture(outside, &mut fold) {
         Ok(end) => end,
         Err(fault) => return Status::of(fault),
     };
-    let Ok(pieces) = fold.report(alloc, name, &end) else {
+    let Ok(report) = fold.report(alloc, name, &end) else {
         return Status::NoMemory;
     };
-    match put_all(outside, Role::Report, pieces.as_slice()) {
+    match report.print(outside) {
         Ok(()) => Status::Ok,
         Err(_) => Status::WriteFault { role: Role::Report },
     }
@@ -86,31 +83,8 @@ fn read_capture<O: Outside>(outside: &mut O, fold: &mut Fold) -> Result<TraceEnd
 /// Writes a whole text to a role.
 pub fn put<O: Outside>(outside: &mut O, role: Role, text: &[u8]) -> Result<(), Failed>
     requires { CanWrite role (O.seen outside.old role) }
-    ensures bytes { MatchResult result
-        (λ _. Appends (O.seen outside.old role).written (O.seen outside.new role).written text.now)
-        (λ _. AppendsFront (O.seen outside.old role).written (O.seen outside.new role).written text.now) }
-    ensures cause { HasCause (O.seen outside.old role).faults (O.seen outside.new role).faults result }
-    ensures left { (O.seen outside.new role).left ≡ (O.seen outside.old role).left }
-    ensures name { (O.seen outside.new role).name ≡ (O.seen outside.old role).name }
-    ensures others { OthersStay role (O.seen outside.old) (O.seen outside.new) }
+    ensures { Wrote role (O.seen outside.old) (O.seen outside.new) text.now result }
 {
     let mut sink = RoleSink { outside, role };
     write_all(&mut sink, text)
-}
-
-/// Writes texts to a role, one behind another.
-fn put_all<O: Outside>(outside: &mut O, role: Role, pieces: &[Text]) -> Result<(), Failed>
-    requires { CanWrite role (O.seen outside.old role) }
-    ensures bytes { MatchResult result
-        (λ _. Appends (O.seen outside.old role).written (O.seen outside.new role).written (concat pieces.now))
-        (λ _. AppendsFront (O.seen outside.old role).written (O.seen outside.new role).written (concat pieces.now)) }
-    ensures cause { HasCause (O.seen outside.old role).faults (O.seen outside.new role).faults result }
-    ensures left { (O.seen outside.new role).left ≡ (O.seen outside.old role).left }
-    ensures name { (O.seen outside.new role).name ≡ (O.seen outside.old role).name }
-    ensures others { OthersStay role (O.seen outside.old) (O.seen outside.new) }
-{
-    for piece in pieces {
-        put(outside, role, piece.items())?;
-    }
-    Ok(())
 }

@@ -4,3 +4,4 @@ pub mod Steps
 pub mod Opened
 pub mod Whole
 pub mod Handed
+pub mod Numbered

@@ -1,6 +1,6 @@
 -- What a capture gives: its records one after the other, and all of them. The records' layout is that of the pcap format
 -- (draft-ietf-opsawg-pcap); the limits, and the order of the checks, are this project's own.
-use Rattle.std.specs.Prelude.{ℕ, ◌+◌, ◌^◌, nat_lt, true, false, List, [], ◌∷◌, length, take, drop, zero, suc, Option, Some, None, Result, Ok, Err, if◌then◌else◌}
+use Rattle.std.specs.Prelude.{◌≡◌, ℕ, ◌+◌, ◌^◌, nat_lt, true, false, List, [], ◌∷◌, length, take, drop, zero, suc, Option, Some, None, Result, Ok, Err, if◌then◌else◌}
 use Rattle.flow_filter.specs.declared.packet.Packet.{Packet}
 use Rattle.trace_reader.specs.declared.form.Form.{Form}
 use Rattle.trace_reader.specs.declared.fault.TraceFault.{TraceFault}
@@ -74,3 +74,8 @@ trace_of bytes (Err e) = Err e
 -- the steered packets of a capture in file order, how many records are skipped, and whether it is cut, or the first fault
 unfoldable pub capture_of : List ℕ → Result Trace TraceFault
 capture_of bytes = trace_of bytes (opened bytes)
+
+-- the packets are numbered in order, from this number on
+abbrev pub AreNumbered : ℕ → List Packet → Type 0
+AreNumbered n [] = Unit {0}
+AreNumbered n (p ∷ ps) = (p.number ≡ n) × AreNumbered (n + 1) ps

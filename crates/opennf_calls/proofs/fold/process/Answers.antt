@@ -28,12 +28,12 @@ returns-in-Some-clause-updates c =
     let there : IsSome (get flow_eq c.args.kept.now c.flow_of-way.result.0) = rw (← c.in-Some.ensures.value) refl in
     rw (← after, ← ap (λ r. r.0) c.flow_of-way.ensures) ((c.get_mut.follows.holds c.next_record-after.result).3 there)
 
-pub returns-in-Some-clause-output : goal.returns-in-Some-clause-output
-returns-in-Some-clause-output c =
+pub returns-in-Some-clause-state : goal.returns-in-Some-clause-state
+returns-in-Some-clause-state c =
     let found : Some c.in-Some.record.now ≡ get flow_eq c.args.kept.now (unit_of c.args.site.now c.args.packet.now) =
     c.in-Some.ensures.value ∙ ap (λ (flow : Flow). get flow_eq c.args.kept.now flow) (ap (λ r. r.0) c.flow_of-way.ensures) in
-    c.output.ensures ∙ ap output_of (stepped_next c.args.site.now c.in-Some.record.now c.args.packet.now _ _ (ap (λ r. r.1) c.flow_of-way.ensures) c.next_record-after.ensures.value)
-    ∙ ap (λ (before : Option TrackRecord). output_of (stepped c.args.site.now before c.args.packet.now)) found
+    ap (λ r. r.state) (stepped_next c.args.site.now c.in-Some.record.now c.args.packet.now _ _ (ap (λ r. r.1) c.flow_of-way.ensures) c.next_record-after.ensures.value
+    ∙ ap (λ (before : Option TrackRecord). stepped c.args.site.now before c.args.packet.now) found)
 
 pub returns-clause-updates : goal.returns-clause-updates
 returns-clause-updates c =
@@ -66,9 +66,9 @@ returns-clause-fits c =
     AllFit-Updates c.args.kept.now c.insert.new.self (unit_of c.args.site.now c.args.packet.now)
     (record_after c.args.site.now c.args.kept.now c.args.packet.now) (returns-clause-updates c) fits c.requires
 
-pub returns-clause-output : goal.returns-clause-output
-returns-clause-output c =
+pub returns-clause-state : goal.returns-clause-state
+returns-clause-state c =
     let found : None ≡ get flow_eq c.args.kept.now (unit_of c.args.site.now c.args.packet.now) =
     c.in_default.ensures.value ∙ ap (λ (flow : Flow). get flow_eq c.args.kept.now flow) (ap (λ r. r.0) c.flow_of-way.ensures) in
-    c.output-2.ensures ∙ ap output_of (stepped_first c.args.site.now c.args.packet.now _ _ (ap (λ r. r.1) c.flow_of-way.ensures) c.first_record-first.ensures.value)
-    ∙ ap (λ (before : Option TrackRecord). output_of (stepped c.args.site.now before c.args.packet.now)) found
+    ap (λ r. r.state) (stepped_first c.args.site.now c.args.packet.now _ _ (ap (λ r. r.1) c.flow_of-way.ensures) c.first_record-first.ensures.value
+    ∙ ap (λ (before : Option TrackRecord). stepped c.args.site.now before c.args.packet.now) found)

@@ -1,4 +1,4 @@
--- No packets leave no records and no lines.
+-- No packets leave no records and no states.
 use Rattle.opennf_calls.proofs.FoldLaws.{AreKept-none}
 use Rattle.std.proofs.Common.{refl}
 use Rattle.opennf_calls.proofs.fold.Fold.open.Goals as goal
@@ -6,8 +6,6 @@ use Rattle.opennf_calls.proofs.fold.Fold.open.Goals as goal
 pub returns : goal.returns
 returns c = record {
   site = refl;
-  end = rw (← c.items.ensures) c.in_ok-name_end.ensures;
   kept = AreKept-none c.args.site c.new.result c.new.ensures.empty;
-  outs = c.open.ensures;
-  dones = c.open-2.ensures;
+  states = c.new-2.ensures.items;
 }
