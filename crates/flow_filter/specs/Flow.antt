@@ -1,12 +1,24 @@
 -- The flow of a packet, seen from a site: which end is local, and which way the packet goes.
 -- This project's own rule. The outside ports are those of the address translator.
 use Rattle.std.specs.Prelude.{ℕ, ◌+◌, ◌-◌, ◌/◌, ◌==◌, ◌&&◌, ◌||◌, nat_lt, nat_le, Bool, false, not, if◌then◌else◌, Option, None, Some}
+use Rattle.std.specs.Ordering.{nat_cmp, on, then_cmp}
+use Rattle.std.specs.declared.cmp.Ordering.{Ordering}
 use Rattle.flow_filter.specs.declared.packet.Packet.{Packet}
 use Rattle.flow_filter.specs.declared.site.Site.{Site}
 use Rattle.flow_filter.specs.declared.flow.Flow.{Flow}
 use Rattle.flow_filter.specs.declared.flow.Dir.{Dir}
 use Rattle.flow_filter.specs.declared.flow.Dir.TheVariants.{Out, In}
 use Rattle.flow_filter.specs.Block.{in_block}
+
+-- the flows are equal in every field
+abbrev pub flow_eq : Flow → Flow → Bool
+flow_eq a b = a.local == b.local && (a.remote == b.remote && (a.lport == b.lport && (a.rport == b.rport && a.proto == b.proto)))
+
+-- the order of flows: by protocol, and then by the local and the remote end
+abbrev pub flow_cmp : Flow → Flow → Ordering
+flow_cmp =
+    then_cmp (on (λ f. f.proto) nat_cmp) (then_cmp (on (λ f. f.local) nat_cmp)
+    (then_cmp (on (λ f. f.lport) nat_cmp) (then_cmp (on (λ f. f.remote) nat_cmp) (on (λ f. f.rport) nat_cmp))))
 
 -- the address is one of the site's
 abbrev pub is_inside : Site → ℕ → Bool

@@ -3,6 +3,7 @@ ghost use Rattle.flow_filter.specs.Flow.{flow_of, inward, outward, owner_of_port
 
 use crate::packet::Packet;
 use crate::site::Site;
+use std::cmp::Ordering;
 use std::hash::{Hash, Hasher};
 
 /// The first outside port that belongs to an inside host.
@@ -11,14 +12,58 @@ const FIRST_PORT: u16 = 1024;
 /// How many outside ports each inside host has.
 const PORTS_PER_HOST: u16 = 252;
 
-/// The two ends of a conversation, seen from the site, ordered by the fields in turn.
-#[derive(Clone, Copy, Debug, PartialEq, Eq, PartialOrd, Ord)]
+/// The two ends of a conversation, seen from the site. The widest fields stand first, so that a flow takes 16 bytes.
+#[derive(Clone, Copy, Debug, PartialEq, Eq)]
 pub struct Flow {
-    pub proto: u8,
     pub local: u32,
-    pub lport: u16,
     pub remote: u32,
+    pub lport: u16,
     pub rport: u16,
+    pub proto: u8,
+}
+
+/// Flows are ordered by their protocol, and then by their local and their remote end.
+impl Ord for Flow {
+    ghost use Rattle.std.proofs.Common.{rules};
+    ghost use Rattle.std.specs.Cmp.Rules.{comparing};
+    ghost use Rattle.flow_filter.specs.Flow.{flow_cmp};
+
+    ghost cmp = { flow_cmp };
+
+    ghost total = { Prim.search (comparing, rules) depth 12 };
+
+    ghost matches_partial_cmp = { Prim.search (comparing, rules) };
+
+    ghost matches_eq = { Prim.search (comparing, rules) };
+
+    fn cmp(&self, other: &Flow) -> Ordering {
+        let remote = self
+            .remote
+            .cmp(&other.remote)
+            .then(self.rport.cmp(&other.rport));
+        let local = self
+            .local
+            .cmp(&other.local)
+            .then(self.lport.cmp(&other.lport).then(remote));
+        self.proto.cmp(&other.proto).then(local)
+    }
+}
+
+impl PartialOrd for Flow {
+    ghost use Rattle.std.proofs.Common.{rules};
+    ghost use Rattle.std.specs.Cmp.{partial_order_from_own_ties};
+    ghost use Rattle.std.specs.Cmp.Rules.{comparing};
+    ghost use Rattle.std.specs.Ordering.{as_partial_cmp};
+    ghost use Rattle.flow_filter.specs.Flow.{flow_cmp};
+
+    ghost partial_cmp = { as_partial_cmp flow_cmp };
+
+    ghost laws = { partial_order_from_own_ties (Prim.search (comparing, rules) depth 12)
+        (Prim.search (comparing, rules) depth 12) };
+
+    fn partial_cmp(&self, other: &Flow) -> Option<Ordering> {
+        Some(self.cmp(other))
+    }
 }
 
 /// The fields are hashed as two numbers, which takes less than half the time of five.
@@ -34,11 +79,11 @@ impl Hash for Flow {
 
     fn hash<H: Hasher>(&self, state: &mut H) {
         let Flow {
-            proto,
             local,
-            lport,
             remote,
+            lport,
             rport,
+            proto,
         } = *self;
         let addresses = u64::from(local) * 0x1_0000_0000 + u64::from(remote);
         let ports = u64::from(lport) * 0x1_0000 + u64::from(rport);
@@ -75,11 +120,11 @@ fn outward(packet: &Packet) -> Flow
     ensures { result ≡ outward packet.now }
 {
     Flow {
-        proto: packet.proto,
         local: packet.src,
-        lport: packet.sport,
         remote: packet.dst,
+        lport: packet.sport,
         rport: packet.dport,
+        proto: packet.proto,
     }
 }
 
@@ -88,11 +133,11 @@ fn inward(packet: &Packet) -> Flow
     ensures { result ≡ inward packet.now }
 {
     Flow {
-        proto: packet.proto,
         local: packet.dst,
-        lport: packet.dport,
         remote: packet.src,
+        lport: packet.dport,
         rport: packet.sport,
+        proto: packet.proto,
     }
 }
 

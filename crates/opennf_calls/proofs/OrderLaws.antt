@@ -18,8 +18,22 @@ is_eq-then Less b = refl
 is_eq-then Equal b = refl
 is_eq-then Greater b = refl
 
+-- five tests in another order
+other_order : (p l m r s : Bool) → p && (l && (m && (r && s))) ≡ l && (r && (m && (s && p)))
+other_order true false m r s = refl
+other_order false false m r s = refl
+other_order true true true false s = refl
+other_order true true false false s = refl
+other_order false true m false s = refl
+other_order true true false true s = refl
+other_order false true false true s = refl
+other_order true true true true true = refl
+other_order true true true true false = refl
+other_order false true true true true = refl
+other_order false true true true false = refl
+
 pub eq_by-flow_cmp : (a b : Flow) → eq_by_cmp flow_cmp a b ≡ flow_eq a b
-eq_by-flow_cmp a b = simp (is_eq-then, is_eq-nat_cmp)
+eq_by-flow_cmp a b = simp (is_eq-then, is_eq-nat_cmp) (other_order (a.proto == b.proto) (a.local == b.local) (a.lport == b.lport) (a.remote == b.remote) (a.rport == b.rport))
 
 -- a test of two parts
 pub both : (a b : Bool) → (a && b) ≡ true → (a ≡ true) × (b ≡ true)
@@ -33,16 +47,16 @@ same_number x y equal = grind (arith, nat_tests)
 -- flows that are equal in every field are one
 pub same_flow : (a b : Flow) → flow_eq a b ≡ true → a ≡ b
 same_flow a b equal =
-    let proto = both (a.proto == b.proto) _ equal in
-    let local = both (a.local == b.local) _ proto.1 in
-    let lport = both (a.lport == b.lport) _ local.1 in
-    let remote = both (a.remote == b.remote) _ lport.1 in
+    let local = both (a.local == b.local) _ equal in
+    let remote = both (a.remote == b.remote) _ local.1 in
+    let lport = both (a.lport == b.lport) _ remote.1 in
+    let rport = both (a.rport == b.rport) _ lport.1 in
     λ i. record {
-      proto = same_number a.proto b.proto proto.0 i;
       local = same_number a.local b.local local.0 i;
-      lport = same_number a.lport b.lport lport.0 i;
       remote = same_number a.remote b.remote remote.0 i;
-      rport = same_number a.rport b.rport remote.1 i;
+      lport = same_number a.lport b.lport lport.0 i;
+      rport = same_number a.rport b.rport rport.0 i;
+      proto = same_number a.proto b.proto rport.1 i;
     }
 
 flow_eq-same : (a : Flow) → flow_eq a a ≡ true

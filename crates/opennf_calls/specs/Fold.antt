@@ -1,7 +1,5 @@
 -- What one unmoved instance of the connection tracker makes of a trace. This project's own.
-use Rattle.std.specs.Prelude.{◌≡◌, ◌==◌, ◌&&◌, ◌++◌, Bool, List, [], ◌∷◌, Option, None, Some, filter, fold, IfSome}
-use Rattle.std.specs.Ordering.{nat_cmp, ordering_then}
-use Rattle.std.specs.declared.cmp.Ordering.{Ordering}
+use Rattle.std.specs.Prelude.{◌≡◌, ◌++◌, Bool, List, [], ◌∷◌, Option, None, Some, filter, fold, IfSome}
 use Rattle.std.specs.BTreeMap.{get, BTreeMap, IsOrdered}
 use Rattle.std.specs.HashMap as hash
 use Rattle.std.specs.declared.hash.FoldHasher.{FoldHasher}
@@ -9,20 +7,11 @@ use Rattle.std.specs.declared.hash.BuildHasherDefault.{BuildHasherDefault}
 use Rattle.flow_filter.specs.declared.flow.Flow.{Flow}
 use Rattle.flow_filter.specs.declared.packet.Packet.{Packet}
 use Rattle.flow_filter.specs.declared.site.Site.{Site}
+pub use Rattle.flow_filter.specs.Flow.{flow_cmp, flow_eq}
 use Rattle.flow_filter.specs.Flow.{flow_of}
 use Rattle.conn_tracker.specs.declared.record.TrackRecord.{TrackRecord}
 use Rattle.conn_tracker.specs.declared.state.State.{State}
 use Rattle.conn_tracker.specs.Table.{stepped, IsRecordOf}
-
--- the flows are equal in every field
-abbrev pub flow_eq : Flow → Flow → Bool
-flow_eq a b = a.proto == b.proto && (a.local == b.local && (a.lport == b.lport && (a.remote == b.remote && a.rport == b.rport)))
-
--- the order of flows: by their fields in turn
-abbrev pub flow_cmp : Flow → Flow → Ordering
-flow_cmp a b =
-    ordering_then (nat_cmp a.proto b.proto) (ordering_then (nat_cmp a.local b.local)
-    (ordering_then (nat_cmp a.lport b.lport) (ordering_then (nat_cmp a.remote b.remote) (nat_cmp a.rport b.rport))))
 
 -- the flow that a packet belongs to
 abbrev pub unit_of : Site → Packet → Flow

@@ -149,6 +149,9 @@ fn padded(payload: &[u8]) -> [u8; 64]
     ensures { result ≡ payload.now ++ replicate (64 - length payload.now) 0 }
 {
     let mut head = [0; 64];
+    if payload.is_empty() {
+        return head;
+    }
     head[..payload.len()].copy_from_slice(payload);
     head
 }
