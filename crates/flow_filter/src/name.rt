@@ -1,10 +1,10 @@
 ghost use Rattle.std.specs.Prelude.{◌≡◌, true, IfOk, List, ℕ, if◌then◌else◌};
-ghost use Rattle.std.specs.List.{list_all, list_any};
-ghost use Rattle.std.specs.Str.{bytes_eq};
+ghost use Rattle.std.specs.List.{list_all};
 ghost use Rattle.flow_filter.specs.Name.{has_twice, is_name, is_name_byte};
 
 use crate::sequence::{Bytes, NoMemory};
 use std::alloc::Global;
+use std::collections::BTreeSet;
 use std::marker::Model;
 
 /// The greatest length of a name.
@@ -75,24 +75,11 @@ fn is_name_byte(byte: u8) -> bool
 }
 
 /// Whether some name stands twice in the list.
-pub fn has_twice(names: &[Name]) -> bool
-    ensures { result ≡ has_twice names.now }
+pub fn has_twice(alloc: Global, names: &[Name]) -> Result<bool, NoMemory>
+    ensures { IfOk result (λ found. found ≡ has_twice names.now) }
 {
-    let mut rest = names;
-    while let [name, more @ ..] = rest {
-        if stands_in(name, more) {
-            return true;
-        }
-        rest = more;
-    }
-    false
-}
-
-/// Whether a name is one of the others.
-fn stands_in(name: &Name, others: &[Name]) -> bool
-    ensures { result ≡ list_any (λ other. bytes_eq other name.now) others.now }
-{
-    others.iter().any(|other| other.items() == name.items())
+    let distinct: BTreeSet<&[u8]> = names.iter().map(|name| name.items()).collect(alloc)?;
+    Ok(distinct.len() < names.len())
 }
 
 #[cfg(test)]
