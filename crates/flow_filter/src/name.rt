@@ -96,4 +96,16 @@ mod tests {
         assert!(rt; !is_name(b"A".as_slice()));
         Ok(())
     }
+
+    #[test]
+    fn a_name_that_stands_twice_is_seen(rt: HostRuntime) -> Result<(), Fail> {
+        let mut names = Vec::new(rt.alloc());
+        for text in [b"b".as_slice(), b"a1".as_slice(), b"a".as_slice()] {
+            names.push(Name::read(rt.alloc(), text)?.ok_or("no name")?)?;
+        }
+        assert!(rt; !has_twice(rt.alloc(), names.as_slice())?);
+        names.push(Name::read(rt.alloc(), b"a1")?.ok_or("no name")?)?;
+        assert!(rt; has_twice(rt.alloc(), names.as_slice())?);
+        Ok(())
+    }
 }

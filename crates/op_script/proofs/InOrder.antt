@@ -63,13 +63,13 @@ cut : (k : ℕ) (lines : List Line) → IsFrom k lines → Cut k (prefix_len (λ
 cut k [] order = record { said = refl; order = tt; same = λ point far. refl }
 cut k (line ∷ more) order = elim (cases_Bool (eqb line.at k)) [
   | inl here ↦
-    let at : line.at ≡ k = eqb-true line.at k here in
-    let rest = cut k more (subst (λ at. IsFrom at more) at order.1) in
-    let count : cond (eqb line.at k) (1 + prefix_len (λ line. eqb line.at k) more) 0 ≡ suc (prefix_len (λ line. eqb line.at k) more) = rw here (omega arith) in
-    subst (λ n. Cut k n (line ∷ more)) (sym count) (cut_first k _ line more here rest)
+      let at : line.at ≡ k = eqb-true line.at k here in
+      let rest = cut k more (subst (λ at. IsFrom at more) at order.1) in
+      let count : cond (eqb line.at k) (1 + prefix_len (λ line. eqb line.at k) more) 0 ≡ suc (prefix_len (λ line. eqb line.at k) more) = rw here (omega arith) in
+      subst (λ n. Cut k n (line ∷ more)) (sym count) (cut_first k _ line more here rest)
   | inr other ↦
-    let count : cond (eqb line.at k) (1 + prefix_len (λ line. eqb line.at k) more) 0 ≡ 0 = rw other refl in
-    subst (λ n. Cut k n (line ∷ more)) (sym count) (cut_none k line more other order)
+      let count : cond (eqb line.at k) (1 + prefix_len (λ line. eqb line.at k) more) 0 ≡ 0 = rw other refl in
+      subst (λ n. Cut k n (line ∷ more)) (sym count) (cut_none k line more other order)
 ]
 
 -- the first lines of those ahead are what the script says at the point
