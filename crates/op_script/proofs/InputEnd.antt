@@ -26,4 +26,4 @@ one_more packets lines i point d before said last after whole count below is mor
     let next : drop i packets ≡ get_or packets i d ∷ drop (i + 1) packets = rw add-one (drop-cons packets i d below) in
     let rest : before ++ (said_where (λ at. eqb at i) lines ++ InPacket (get_or packets i d) ∷ behind (i + 1) (drop (i + 1) packets) lines) ≡ whole = rw next at so_far in
     let all : after ≡ (before ++ said) ++ InPacket (get_or packets i d) ∷ [] = end ∙ ap (λ ms. ms ++ InPacket (get_or packets i d) ∷ []) more in
-    rw all (rw append_assoc (rw append_assoc (rw here rest)))
+    rw all (simp append_assoc (rw here rest))
