@@ -97,7 +97,7 @@ pub fn instances_of(alloc: Global, list: Option<&str>) -> Result<Option<Instance
     let Some(instances) = all_instances(alloc, list.as_bytes())? else {
         return Ok(None);
     };
-    if instances.names.len() <= MOST_INSTANCES && !has_twice(instances.names.as_slice()) {
+    if instances.names.len() <= MOST_INSTANCES && !has_twice(alloc, instances.names.as_slice())? {
         Ok(Some(instances))
     } else {
         Ok(None)

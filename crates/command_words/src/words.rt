@@ -162,7 +162,7 @@ mod tests {
     use std::test::Fail;
 
     /// Words, and the command that they ask for, or `usage`.
-    static ROWS: [(&str, &str); 36] = [
+    static ROWS: [(&str, &str); 64] = [
         (
             "x sim conntrack --instances a --inside 10.0.0.0/24 --schedule last t",
             "sim",
@@ -268,6 +268,40 @@ mod tests {
         ("x check nat --instances a, s", "usage"),
         ("x check nat --instances= s", "usage"),
         ("x check nat --instances a", "usage"),
+        ("x check nat --instances=a,b -- -s", "check"),
+        ("x check nat --instances a -", "check"),
+        ("x check nat -- s --instances a", "usage"),
+        ("x check nat --instances a --", "usage"),
+        ("x check nat --instances a ", "usage"),
+        ("x check nat --instances -a s", "usage"),
+        ("x check nat --instances=-a s", "usage"),
+        ("x check nat s --instances", "usage"),
+        ("x check nat --instances a --instances=b s", "usage"),
+        ("x check nat --instances a --window 256 s", "usage"),
+        ("x check nat --instances a --summary=x s", "usage"),
+        ("x check nat --inst a s", "usage"),
+        ("x check nat -i a s", "usage"),
+        ("x check nat --instances a --help", "usage"),
+        ("x check --help", "usage"),
+        ("x --help", "usage"),
+        ("x check nat --instances a -h s", "usage"),
+        ("x check nat --instances a --version s", "usage"),
+        ("x --instances a check nat s", "usage"),
+        ("x check Nat --instances a s", "usage"),
+        ("x check nat --instances A s", "usage"),
+        ("x check nat --instances abcdefghijklmnopq s", "usage"),
+        ("x check nat --instances a,:5 s", "usage"),
+        ("x check nat --instances a: s", "usage"),
+        ("x check nat --instances a:5:6 s", "usage"),
+        ("x check nat --instances a:+5 s", "usage"),
+        (
+            "x sim conntrack --instances a --inside 10.0.0.0/33 --schedule last t",
+            "usage",
+        ),
+        (
+            "x sim conntrack --instances a --inside 10.0.0.0/24 --schedule -last t",
+            "usage",
+        ),
         ("x check ids --instances a s", "usage"),
         ("x", "usage"),
         (

@@ -12,3 +12,4 @@ pub mod ReadAgain
 pub mod ParseAgain
 pub mod Printable
 pub mod LeftToRead
+pub mod Twice

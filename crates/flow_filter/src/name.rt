@@ -1,10 +1,10 @@
 ghost use Rattle.std.specs.Prelude.{◌≡◌, true, IfOk, List, ℕ, if◌then◌else◌};
-ghost use Rattle.std.specs.List.{list_all, list_any};
-ghost use Rattle.std.specs.Str.{bytes_eq};
+ghost use Rattle.std.specs.List.{list_all};
 ghost use Rattle.flow_filter.specs.Name.{has_twice, is_name, is_name_byte};
 
 use crate::sequence::{Bytes, NoMemory};
 use std::alloc::Global;
+use std::collections::BTreeSet;
 use std::marker::Model;
 
 /// The greatest length of a name.
@@ -76,24 +76,11 @@ fn is_name_byte(byte: u8) -> bool
 }
 
 /// Whether some name stands twice in the list.
-pub fn has_twice(names: &[Name]) -> bool
-    ensures { result ≡ has_twice names.now }
+pub fn has_twice(alloc: Global, names: &[Name]) -> Result<bool, NoMemory>
+    ensures { IfOk result (λ found. found ≡ has_twice names.now) }
 {
-    let mut rest = names;
-    while let [name, more @ ..] = rest {
-        if stands_in(name, more) {
-            return true;
-        }
-        rest = more;
-    }
-    false
-}
-
-/// Whether a name is one of the others.
-fn stands_in(name: &Name, others: &[Name]) -> bool
-    ensures { result ≡ list_any (λ other. bytes_eq other name.now) others.now }
-{
-    others.iter().any(|other| other.items() == name.items())
+    let distinct: BTreeSet<&[u8]> = names.iter().map(|name| name.items()).collect(alloc)?;
+    Ok(distinct.len() < names.len())
 }
 
 #[cfg(test)]
@@ -108,6 +95,18 @@ mod tests {
         assert!(rt; is_name(b"abcdefghijklmno9".as_slice()));
         assert!(rt; !is_name(b"abcdefghijklmnop9".as_slice()));
         assert!(rt; !is_name(b"A".as_slice()));
+        Ok(())
+    }
+
+    #[test]
+    fn a_name_that_stands_twice_is_seen(rt: HostRuntime) -> Result<(), Fail> {
+        let mut names = Vec::new(rt.alloc());
+        for text in [b"b".as_slice(), b"a1".as_slice(), b"a".as_slice()] {
+            names.push(Name::read(rt.alloc(), text)?.ok_or("no name")?)?;
+        }
+        assert!(rt; !has_twice(rt.alloc(), names.as_slice())?);
+        names.push(Name::read(rt.alloc(), b"a1")?.ok_or("no name")?)?;
+        assert!(rt; has_twice(rt.alloc(), names.as_slice())?);
         Ok(())
     }
 }

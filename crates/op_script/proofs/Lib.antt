@@ -9,3 +9,4 @@ pub mod FilterWords
 pub mod ScriptAgain
 pub mod OrdersAgain
 pub mod WholeAgain
+pub mod InOrder

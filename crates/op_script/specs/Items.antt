@@ -1,6 +1,6 @@
 -- The input of a run: the packets in order, and each line of the script behind the packet that it names.
 -- This project's own order.
-use Rattle.std.specs.Prelude.{ℕ, ◌+◌, Bool, ◌==◌, nat_le, List, [], ◌∷◌, ◌++◌, map, filter}
+use Rattle.std.specs.Prelude.{◌≡◌, ℕ, ◌+◌, ◌≤◌, Bool, ◌==◌, nat_le, List, [], ◌∷◌, ◌++◌, map, filter}
 use Rattle.flow_filter.specs.declared.packet.Packet.{Packet}
 use Rattle.nf_msgs.specs.declared.msg.Msg.{Msg}
 use Rattle.nf_msgs.specs.declared.msg.Msg.TheVariants.{InPacket, InCommand, InSettle, InEnd}
@@ -25,3 +25,13 @@ behind k (packet ∷ more) lines = said_where (λ at. at == k) lines ++ InPacket
 -- all that stands in the input
 abbrev pub items : List Packet → List Line → List Msg
 items packets lines = behind 0 packets lines ++ InEnd ∷ []
+
+-- the lines stand in the order of their points, from k on
+abbrev pub IsFrom : ℕ → List Line → Type 0
+IsFrom k [] = Unit {0}
+IsFrom k (line ∷ more) = (k ≤ line.at) × IsFrom line.at more
+
+-- lines in order, which say at each point from k on what the lines of a script say there
+pub record IsAhead (k : ℕ) (rest lines : List Line) : Type 0 where
+  pub order : IsFrom k rest
+  pub same : (point : ℕ) → k ≤ point → said_where (λ at. at == point) rest ≡ said_where (λ at. at == point) lines

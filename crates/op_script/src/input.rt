@@ -1,5 +1,6 @@
-ghost use Rattle.std.specs.Prelude.{◌≡◌, ◌++◌, ◌==◌, nat_le, IfOk, OnOk};
-ghost use Rattle.op_script.specs.Items.{msg_of, said_where, behind, items};
+ghost use Rattle.std.specs.Prelude.{◌≡◌, ◌≤◌, ◌++◌, ◌==◌, nat_le, length, map, IfOk, OnOk};
+ghost use Rattle.std.specs.List.{prefix_len};
+ghost use Rattle.op_script.specs.Items.{msg_of, said_where, IsAhead, items};
 
 use crate::script::{Line, Script, What};
 use flow_filter::{NoMemory, Packets};
@@ -12,9 +13,13 @@ pub fn items(alloc: Global, trace: Packets, script: &Script) -> Result<Vec<Msg>,
     ensures { IfOk result (λ found. found.items ≡ items trace script.now.lines.items) }
 {
     let mut out = Vec::new(alloc);
+    let lines = in_order(alloc, script.lines.as_slice())?;
+    let mut rest = lines.as_slice();
     let mut point = 0u64;
     for packet in trace.items() {
-        push_at(&mut out, script.lines.as_slice(), point)?;
+        let count = count_at(rest, point);
+        push_lines(&mut out, &rest[..count])?;
+        rest = &rest[count..];
         out.push(Msg::InPacket(*packet))?;
         point += 1;
     }
@@ -23,14 +28,32 @@ pub fn items(alloc: Global, trace: Packets, script: &Script) -> Result<Vec<Msg>,
     Ok(out)
 }
 
-/// Appends the messages of the lines at a point.
-fn push_at(out: &mut Vec<Msg>, lines: &[Line], point: u64) -> Result<(), NoMemory>
-    ensures { OnOk result (out.new.items ≡ out.old.items ++ said_where (λ at. at == point) lines.now) }
+/// The lines in the order of their points, those of one point in file order.
+fn in_order<'a>(alloc: Global, lines: &'a [Line]) -> Result<Vec<&'a Line>, NoMemory>
+    ensures { IfOk result (λ found. IsAhead 0 (map (λ line. line.now) found.items) lines.entry.now) }
+{
+    let mut found: Vec<&Line> = lines.iter().collect(alloc)?;
+    found.sort_by_key(|line| line.at)?;
+    Ok(found)
+}
+
+/// How many of the first lines stand at a point.
+fn count_at(lines: &[&Line], point: u64) -> usize
+    ensures count { result ≡ prefix_len (λ line. line.at == point) (map (λ line. line.now) lines.now) }
+    ensures within { result ≤ length lines.now }
+{
+    lines
+        .iter()
+        .take_while(|line| u64::from(line.at) == point)
+        .count()
+}
+
+/// Appends the messages of lines.
+fn push_lines(out: &mut Vec<Msg>, lines: &[&Line]) -> Result<(), NoMemory>
+    ensures { OnOk result (out.new.items ≡ out.old.items ++ map (λ line. msg_of line.now.what) lines.now) }
 {
     for line in lines {
-        if u64::from(line.at) == point {
-            out.push(msg_of(&line.what)?)?;
-        }
+        out.push(msg_of(&line.what)?)?;
     }
     Ok(())
 }

@@ -75,7 +75,7 @@ fn members_of(alloc: Global, list: &[u8]) -> Result<Names, LineFault>
     let Some(members) = names_of(alloc, list)? else {
         return Err(LineFault::Bad(ScriptKind::Name));
     };
-    if has_twice(members.items()) {
+    if has_twice(alloc, members.items())? {
         return Err(LineFault::Bad(ScriptKind::SameInstance));
     }
     Ok(members)

@@ -3,7 +3,7 @@ ghost use Rattle.std.specs.Prelude.{◌≡◌, IfOk, vec_len};
 use super::*;
 use flow_filter::{Name, Packet, Packets};
 use nf_function::Kind;
-use nf_msgs::Msg;
+use nf_msgs::{Command, Msg, Order};
 use std::alloc::Global;
 use std::test::Fail;
 
@@ -25,7 +25,7 @@ fn fault_of(alloc: Global, text: &[u8]) -> Result<Option<ScriptFault>, Fail> {
 }
 
 /// Scripts, and the line and the rule at which each is refused.
-static FAULTS: [(&str, u32, ScriptKind); 18] = [
+static FAULTS: [(&str, u32, ScriptKind); 24] = [
     ("at 0 move a b rport=80 order", 1, ScriptKind::SplitsUnit),
     ("at 9 settle\nat 5 settle", 2, ScriptKind::Order),
     ("at 0 move a a any order", 1, ScriptKind::SameInstance),
@@ -44,6 +44,20 @@ static FAULTS: [(&str, u32, ScriptKind); 18] = [
     ("at 0 copy a b lport=x", 1, ScriptKind::Filter),
     ("at 0 copy a b lport=1", 1, ScriptKind::SplitsUnit),
     ("move a b any order", 1, ScriptKind::Word),
+    (
+        "at 0 settle\nat 0 stop\nat 0 move a a any order",
+        2,
+        ScriptKind::Word,
+    ),
+    ("at 2 settle\nat 1 copy B B lport=x", 2, ScriptKind::Order),
+    ("at 0 copy B B lport=x", 1, ScriptKind::Name),
+    ("at 0 settle\nroute lport=x c", 2, ScriptKind::Order),
+    ("route lport=x c", 1, ScriptKind::Name),
+    (
+        "at 0 share a,b,a lport=x strict",
+        1,
+        ScriptKind::SameInstance,
+    ),
 ];
 
 #[test]
@@ -72,21 +86,34 @@ fn a_byte_that_is_no_text_is_refused_also_in_a_comment(rt: HostRuntime) -> Resul
     Ok(())
 }
 
-#[test]
-fn a_script_has_up_to_1000_lines_of_a_sort_and_2_to_the_20_bytes(
-    rt: HostRuntime,
-) -> Result<(), Fail> {
-    let mut text = Vec::new(rt.alloc());
-    for _ in 0..1000 {
-        text.extend_from_slice(b"at 1 settle\n")?;
+/// A line so many times.
+fn repeated(alloc: Global, line: &[u8], count: u32) -> Result<Vec<u8>, Fail> {
+    let mut text = Vec::new(alloc);
+    for _ in 0..count {
+        text.extend_from_slice(line)?;
     }
-    assert_eq!(rt; fault_of(rt.alloc(), text.as_slice())?, None);
-    text.extend_from_slice(b"at 2 settle\n")?;
+    Ok(text)
+}
+
+#[test]
+fn a_script_has_up_to_1000_lines_of_a_sort(rt: HostRuntime) -> Result<(), Fail> {
     let too_many = ScriptFault::Bad {
         line: 1001,
         kind: ScriptKind::TooMany,
     };
-    assert_eq!(rt; fault_of(rt.alloc(), text.as_slice())?, Some(too_many));
+    for line in [b"at 1 settle\n".as_slice(), b"route any a\n".as_slice()] {
+        let most = repeated(rt.alloc(), line, 1000)?;
+        assert_eq!(rt; fault_of(rt.alloc(), most.as_slice())?, None);
+        let more = repeated(rt.alloc(), line, 1001)?;
+        assert_eq!(rt; fault_of(rt.alloc(), more.as_slice())?, Some(too_many));
+    }
+    Ok(())
+}
+
+#[test]
+fn a_script_has_up_to_2_to_the_20_bytes(rt: HostRuntime) -> Result<(), Fail> {
+    let most = vec![in rt.alloc(); b'#'; 1_048_576]?;
+    assert_eq!(rt; fault_of(rt.alloc(), most.as_slice())?, None);
     let long = vec![in rt.alloc(); b'#'; 1_048_577]?;
     let too_long = ScriptFault::Bad {
         line: 0,
@@ -126,12 +153,47 @@ fn a_line_stands_behind_the_packet_that_it_names_or_behind_the_last(
         Kind::Conntrack,
         names.as_slice(),
     )?;
-    let mut trace = Packets::open(rt.alloc());
-    trace.push(packet(1))?;
-    trace.push(packet(2))?;
-    let mut kinds = Vec::new(rt.alloc());
-    let input = items(rt.alloc(), trace, &script)?;
-    for msg in input.as_slice() {
+    let input = items(rt.alloc(), two_packets(rt.alloc())?, &script)?;
+    let kinds = kinds_of(rt.alloc(), input.as_slice())?;
+    assert_eq!(rt; kinds.as_slice(), b"spcpse".as_slice());
+    Ok(())
+}
+
+#[test]
+fn lines_in_any_order_stand_behind_their_packets(rt: HostRuntime) -> Result<(), Fail> {
+    let mut script = Script {
+        routes: Vec::new(rt.alloc()),
+        lines: Vec::new(rt.alloc()),
+    };
+    for (at, op) in [(1, 0), (0, 1), (9, 0), (1, 2), (7, 3)] {
+        let what = what_of(rt.alloc(), op)?;
+        script.lines.push(Line { at, what })?;
+    }
+    let input = items(rt.alloc(), two_packets(rt.alloc())?, &script)?;
+    let kinds = kinds_of(rt.alloc(), input.as_slice())?;
+    assert_eq!(rt; kinds.as_slice(), b"cpscpsce".as_slice());
+    Ok(())
+}
+
+/// A settle where the number is 0, and else a copy with this number.
+fn what_of(alloc: Global, op: u32) -> Result<What, Fail> {
+    if op == 0 {
+        return Ok(What::Settle);
+    }
+    let src = Name::read(alloc, b"a")?.ok_or("no name")?;
+    let dst = Name::read(alloc, b"b")?.ok_or("no name")?;
+    let what = Order::Copy {
+        src,
+        dst,
+        filter: None,
+    };
+    Ok(What::Command(Command { op, what }))
+}
+
+/// A letter for each message.
+fn kinds_of(alloc: Global, input: &[Msg]) -> Result<Vec<u8>, Fail> {
+    let mut kinds = Vec::new(alloc);
+    for msg in input {
         let kind = match msg {
             Msg::InPacket(_) => b'p',
             Msg::InCommand(_) => b'c',
@@ -140,8 +202,15 @@ fn a_line_stands_behind_the_packet_that_it_names_or_behind_the_last(
         };
         kinds.push(kind)?;
     }
-    assert_eq!(rt; kinds.as_slice(), b"spcpse".as_slice());
-    Ok(())
+    Ok(kinds)
+}
+
+/// A trace of two packets.
+fn two_packets(alloc: Global) -> Result<Packets, Fail> {
+    let mut trace = Packets::open(alloc);
+    trace.push(packet(1))?;
+    trace.push(packet(2))?;
+    Ok(trace)
 }
 
 /// A packet with this number.

@@ -9,7 +9,7 @@ use Rattle.flow_filter.specs.Name.{is_name, is_name_byte, has_twice}
 use Rattle.flow_filter.specs.Reading.{cut}
 use Rattle.flow_filter.proofs.CutLaws.{split-None}
 use Rattle.command_words.specs.Grammar.{Given, read_words, sim_app, check_app}
-use Rattle.command_words.specs.Plan.{Asked, SimAsked, CheckAsked, Instances, asks_sim, asks_check, only, function_of, instance_of, all_instances, instances_of, inside_of, outside_of, window_of, schedule_of, file_of, file_if, is_conntrack, is_one_name, is_last, sim_values, check_values, is_built, sim_of, check_of, plan_of}
+use Rattle.command_words.specs.Plan.{SimAsked, CheckAsked, Instances, asks_sim, asks_check, only, function_of, instance_of, all_instances, instances_of, inside_of, outside_of, window_of, schedule_of, file_of, file_if, is_conntrack, is_one_name, is_last, sim_values, check_values, is_built, sim_of, check_of, plan_of}
 
 -- what an answer was made of
 and_then : {A B : Type 0} (f : A → Option B) (o : Option A) (y : B) → option_and_then f o ≡ Some y → (x : A) × (o ≡ Some x) × (f x ≡ Some y)

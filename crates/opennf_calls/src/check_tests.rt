@@ -17,7 +17,7 @@ static WORDS: [&str; 6] = ["opennf", "check", "conntrack", "--instances", "a,b",
 static MONITOR: [&str; 6] = ["opennf", "check", "monitor", "--instances", "a,b", "S"];
 
 /// Scripts that break a rule, with the line on the standard error.
-static FAULTS: [(&str, &str); 5] = [
+static FAULTS: [(&str, &str); 7] = [
     (
         "at 0 move a b rport=80 order\n",
         "opennf: script line 1: splits unit\n",
@@ -32,6 +32,14 @@ static FAULTS: [(&str, &str); 5] = [
     ),
     ("# x\nat 0 stop\n", "opennf: script line 2: word\n"),
     ("route any c\n", "opennf: script line 1: name\n"),
+    (
+        "at 0 settle\n\nat 0 copy a b lport=x\n",
+        "opennf: script line 3: filter\n",
+    ),
+    (
+        "at 0 settle\nroute any a\n",
+        "opennf: script line 2: order\n",
+    ),
 ];
 
 /// An outside with this script.
@@ -68,6 +76,40 @@ fn each_fault_of_a_script_is_named_with_its_line(rt: HostRuntime) -> Result<(), 
         assert_eq!(rt; outcome.status.number(), 2);
         assert_eq!(rt; outside.written(Role::Errors), line.as_bytes());
         assert_eq!(rt; outside.written(Role::Report), b"".as_slice());
+    }
+    Ok(())
+}
+
+#[test]
+fn a_comment_that_is_no_text_is_refused(rt: HostRuntime) -> Result<(), Fail> {
+    let alloc = rt.alloc();
+    let words = owned(alloc, &WORDS)?;
+    let mut outside = outside_of(alloc, b"at 0 settle\n# \xff\n")?;
+    let outcome = opennf_calm(alloc, words.as_slice(), &mut outside);
+    assert_eq!(rt; outcome.status.number(), 2);
+    assert_eq!(rt;
+        outside.written(Role::Errors),
+        b"opennf: script line 2: not utf8\n".as_slice()
+    );
+    Ok(())
+}
+
+#[test]
+fn the_1001st_line_of_a_sort_is_refused(rt: HostRuntime) -> Result<(), Fail> {
+    let alloc = rt.alloc();
+    let words = owned(alloc, &WORDS)?;
+    for line in [b"at 0 settle\n".as_slice(), b"route any a\n".as_slice()] {
+        let mut script = Vec::new(alloc);
+        for _ in 0..1001 {
+            script.extend_from_slice(line)?;
+        }
+        let mut outside = outside_of(alloc, script.as_slice())?;
+        let outcome = opennf_calm(alloc, words.as_slice(), &mut outside);
+        assert_eq!(rt; outcome.status.number(), 2);
+        assert_eq!(rt;
+            outside.written(Role::Errors),
+            b"opennf: script line 1001: too many\n".as_slice()
+        );
     }
     Ok(())
 }

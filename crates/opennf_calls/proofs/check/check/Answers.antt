@@ -1,5 +1,5 @@
 -- Why each status of a check comes.
-use Rattle.std.proofs.Common.{rules, ◌≡◌, ◌≢◌, List, [], Some, Ok, Err, take, ap, sym, ◌∙◌, refl, subst}
+use Rattle.std.proofs.Common.{rules, ◌≡◌, ◌≢◌, Some, Ok, Err, take, ap, sym, ◌∙◌, refl, subst}
 use Rattle.nf_io.specs.declared.outside.Role.TheVariants.{Script as ScriptRole, Report as ReportRole}
 use Rattle.nf_io.specs.Meaning.{AppendsFront}
 use Rattle.std.specs.Io.KnownBytes.{Appends}
