@@ -13,7 +13,7 @@ use nf_io::{Failed, Outside, Role};
 use std::alloc::Global;
 
 /// How many lines stand on a page.
-const PAGE_LINES: usize = 1000;
+const PAGE_LINES: usize = 4000;
 
 /// No line is longer.
 const LONGEST_LINE: usize = 64;
@@ -29,7 +29,7 @@ pub enum Lines {
 
 /// An empty page with room for its lines.
 pub fn page(alloc: Global) -> Result<Vec<u8>, NoMemory>
-    ensures { IfOk result (λ page. 64000 ≤ vec_capacity page) }
+    ensures { IfOk result (λ page. 256000 ≤ vec_capacity page) }
 {
     Vec::with_capacity(alloc, PAGE_LINES * LONGEST_LINE)
 }
@@ -96,11 +96,11 @@ fn add_done(page: &mut Vec<u8>, number: &[u8], end: &[u8])
 /// Fills a page with the lines of packets with the numbers from `first` on.
 fn fill(page: &mut Vec<u8>, lines: &Lines, first: u64, states: &[State])
     requires short { length (end_of lines.now) ≤ 32 }
-    requires room { 64000 ≤ vec_capacity page.old }
-    requires few { length states.now ≤ 1000 }
+    requires room { 256000 ≤ vec_capacity page.old }
+    requires few { length states.now ≤ 4000 }
     requires numbers { first + length states.now < 2 ^ 64 }
     ensures items { page.new.items ≡ lines_from lines.now first states.now }
-    ensures room { 64000 ≤ vec_capacity page.new }
+    ensures room { 256000 ≤ vec_capacity page.new }
 {
     page.clear();
     let mut number = first;
@@ -120,10 +120,10 @@ pub fn print_lines<O: Outside>(
 ) -> Result<(), Failed>
     requires writable { CanWrite role (O.seen outside.old role) }
     requires short { length (end_of lines.now) ≤ 32 }
-    requires room { 64000 ≤ vec_capacity page.old }
+    requires room { 256000 ≤ vec_capacity page.old }
     requires len { length states.now < 2 ^ 63 }
     ensures wrote { Wrote role (O.seen outside.old) (O.seen outside.new) (lines_from lines.now 1 states.now) result }
-    ensures room { 64000 ≤ vec_capacity page.new }
+    ensures room { 256000 ≤ vec_capacity page.new }
 {
     let mut at = 0;
     while at < states.len() {

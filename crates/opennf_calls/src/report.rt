@@ -26,7 +26,7 @@ pub struct Report {
     tail: Text,
     page: Vec<u8>,
     ghost short: { length (end_of dones) ≤ 32 },
-    ghost room: { 64000 ≤ vec_capacity page },
+    ghost room: { 256000 ≤ vec_capacity page },
 }
 
 impl Report {

@@ -7,6 +7,6 @@ abbrev pub invariant-loop-state : goal.invariant-loop-state
 invariant-loop-state l = record {
   items : l.page.items ++ lines_from l.lines l.number (drop l.state-index l.states) ≡ lines_from l.lines l.first l.states;
   number : l.number ≡ l.first + l.state-index;
-  room : 64000 ≤ vec_capacity l.page;
+  room : 256000 ≤ vec_capacity l.page;
   len : vec_len l.page ≤ 64 * l.state-index;
 }

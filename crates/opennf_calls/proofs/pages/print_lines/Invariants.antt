@@ -11,7 +11,7 @@ invariant-loop-at g l = record {
   within : l.at ≤ length l.states;
   wrote : Wrote {E = Failed} l.role (g.O.Outside.seen l.fn.outside) (g.O.Outside.seen l.outside) (lines_from l.lines 1 (take l.at l.states)) (Ok tt);
   writable : CanWrite l.role (g.O.Outside.seen l.outside l.role);
-  room : 64000 ≤ vec_capacity l.page;
+  room : 256000 ≤ vec_capacity l.page;
 }
 
 abbrev pub decreases-loop-at : goal.decreases-loop-at
