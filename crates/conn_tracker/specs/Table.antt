@@ -147,10 +147,13 @@ number_of Loose = 7
 number_of Single = 8
 number_of Both = 9
 
+-- all states, in the order of their numbers
+abbrev pub all_states : List State
+all_states = Opening ∷ Answered ∷ Established ∷ FinFwd ∷ FinRev ∷ Closed ∷ Reset ∷ Loose ∷ Single ∷ Both ∷ []
+
 -- the states by their numbers
 abbrev pub state_of : ℕ → Option State
-state_of number = slice_get
-    (Opening ∷ Answered ∷ Established ∷ FinFwd ∷ FinRev ∷ Closed ∷ Reset ∷ Loose ∷ Single ∷ Both ∷ []) number
+state_of number = slice_get all_states number
 
 -- the states' names
 abbrev pub name_of : State → List ℕ

@@ -1,5 +1,5 @@
 ghost use Rattle.std.specs.Prelude.{◌≡◌};
-ghost use Rattle.conn_tracker.specs.Table.{cell, row, first_tcp, next_udp, restarts, name_of, number_of, state_of};
+ghost use Rattle.conn_tracker.specs.Table.{cell, row, first_tcp, next_udp, restarts, all_states, name_of, number_of, state_of};
 ghost use Rattle.conn_tracker.specs.declared.class.Class.TheVariants.{Fin};
 
 use crate::class::Class;
@@ -44,6 +44,13 @@ static STATES: [State; 10] = [
 ];
 
 impl State {
+    /// All states, by their numbers.
+    pub fn all() -> &'static [State]
+        ensures { result.now ≡ all_states }
+    {
+        &STATES
+    }
+
     /// The state with this number in outputs and stored records.
     pub fn numbered(number: u8) -> Option<State>
         ensures { result ≡ state_of number }

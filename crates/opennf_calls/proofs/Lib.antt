@@ -2,6 +2,7 @@ pub mod Beside
 pub mod Built
 pub mod Causes
 pub mod CheckedRows
+pub mod Digits
 pub mod FoldLaws
 pub mod LineLaws
 pub mod OrderLaws

@@ -13,10 +13,13 @@ use Rattle.conn_tracker.specs.declared.state.State.TheVariants.{Opening, Answere
 use Rattle.conn_tracker.specs.Table.{name_of, number_of, state_of}
 use Rattle.conn_tracker.specs.Text.{output_of, output_text}
 use Rattle.opennf_calls.specs.declared.fold.Fold.{Fold}
-use Rattle.opennf_calls.specs.declared.pages.Lines.TheVariants.{Outs, Dones}
+use Rattle.opennf_calls.specs.declared.pages.Lines.{Lines}
+use Rattle.opennf_calls.specs.declared.report.Report.{Report}
+use Rattle.trace_reader.specs.declared.trace.TraceEnd.{TraceEnd}
+use Rattle.opennf_calls.specs.Printed.{IsReady, report_text}
 use Rattle.opennf_calls.specs.Fold.{flow_cmp, flow_eq, unit_of, Kept, AreKept, AreLive, record_after, record_behind, states_behind}
 use Rattle.opennf_calls.specs.Folded.{HasFolded}
-use Rattle.opennf_calls.specs.Lines.{line_text, lines_from}
+use Rattle.opennf_calls.specs.Lines.{line_text, lines_from, AreOuts, AreDones}
 use Rattle.opennf_calls.specs.Report.{head_lines, out_line, out_lines, done_line, name_end, state_line, tail_lines, IsReport}
 use Rattle.opennf_calls.proofs.FoldLaws.{AreKept-more, record_after-kept}
 
@@ -58,44 +61,45 @@ output_text-state Single = refl
 output_text-state Both = refl
 
 -- the two lines of a packet by its number and its state
-out_line-text : (p : Packet) (n : ℕ) (r : TrackRecord) → p.number ≡ n → out_line p (output_of r) ≡ line_text Outs n r.state
-unfolding out_line line_text
-out_line-text p n r number =
+out_line-text : (outs : Lines) → AreOuts outs → (p : Packet) (n : ℕ) (r : TrackRecord) → p.number ≡ n → out_line p (output_of r) ≡ line_text outs n r.state
+unfolding out_line
+out_line-text outs are p n r number =
     ap (λ k. codes "out " ++ decimal k ++ codes " " ++ output_text (output_of r) ++ codes "\n") number
-    ∙ ap (λ name. codes "out " ++ decimal n ++ codes " " ++ name ++ codes "\n") (output_text-state r.state)
+    ∙ ap (λ name. codes "out " ++ decimal n ++ codes " " ++ name ++ codes "\n") (output_text-state r.state) ∙ sym (are n r.state)
 
-done_line-text : (name : List ℕ) (p : Packet) (n : ℕ) (state : State) → p.number ≡ n → done_line name p ≡ line_text (Dones (name_end name)) n state
-unfolding done_line line_text
-done_line-text name p n state number = ap (λ k. codes "done " ++ decimal k ++ name_end name) number
+done_line-text : (name : List ℕ) (dones : Lines) → AreDones (name_end name) dones → (p : Packet) (n : ℕ) (state : State) → p.number ≡ n → done_line name p ≡ line_text dones n state
+unfolding done_line
+done_line-text name dones are p n state number = ap (λ k. codes "done " ++ decimal k ++ name_end name) number ∙ sym (are n state)
 
 -- the lines of packets that are numbered in order
-outs_are : (site : Site) (before ps : List Packet) (n : ℕ) → AreNumbered n ps → out_lines site before ps ≡ lines_from Outs n (states_behind site before ps)
-outs_are site before [] n numbered = refl
-outs_are site before (p ∷ ps) n numbered =
-    ap (λ l. l ++ out_lines site (before ++ p ∷ []) ps) (out_line-text p n (record_behind site before p) numbered.0)
-    ∙ ap (λ l. line_text Outs n (record_behind site before p).state ++ l) (outs_are site (before ++ p ∷ []) ps (n + 1) numbered.1)
+outs_are : (outs : Lines) → AreOuts outs → (site : Site) (before ps : List Packet) (n : ℕ) → AreNumbered n ps
+    → out_lines site before ps ≡ lines_from outs n (states_behind site before ps)
+outs_are outs are site before [] n numbered = refl
+outs_are outs are site before (p ∷ ps) n numbered =
+    ap (λ l. l ++ out_lines site (before ++ p ∷ []) ps) (out_line-text outs are p n (record_behind site before p) numbered.0)
+    ∙ ap (λ l. line_text outs n (record_behind site before p).state ++ l) (outs_are outs are site (before ++ p ∷ []) ps (n + 1) numbered.1)
 
-dones_are : (name : List ℕ) (site : Site) (before ps : List Packet) (n : ℕ) → AreNumbered n ps
-    → flat_map (done_line name) ps ≡ lines_from (Dones (name_end name)) n (states_behind site before ps)
-dones_are name site before [] n numbered = refl
-dones_are name site before (p ∷ ps) n numbered =
-    ap (λ l. l ++ flat_map (done_line name) ps) (done_line-text name p n (record_behind site before p).state numbered.0)
-    ∙ ap (λ l. line_text (Dones (name_end name)) n (record_behind site before p).state ++ l) (dones_are name site (before ++ p ∷ []) ps (n + 1) numbered.1)
+dones_are : (name : List ℕ) (dones : Lines) → AreDones (name_end name) dones → (site : Site) (before ps : List Packet) (n : ℕ) → AreNumbered n ps
+    → flat_map (done_line name) ps ≡ lines_from dones n (states_behind site before ps)
+dones_are name dones are site before [] n numbered = refl
+dones_are name dones are site before (p ∷ ps) n numbered =
+    ap (λ l. l ++ flat_map (done_line name) ps) (done_line-text name dones are p n (record_behind site before p).state numbered.0)
+    ∙ ap (λ l. line_text dones n (record_behind site before p).state ++ l) (dones_are name dones are site (before ++ p ∷ []) ps (n + 1) numbered.1)
 
 joined : (h o d t e : List ℕ) → h ++ o ++ d ++ (t ++ e) ≡ h ++ o ++ d ++ t ++ e
 joined h o d t e = simp (append_assoc)
 
 -- the parts are the report
-pub report_is : (here : Site) (name : List ℕ) (packets : List Packet) (fold : Fold) (n skipped : ℕ) (cut : Bool) (live : BTreeMap Flow TrackRecord)
-    → HasFolded here packets fold → AreNumbered 1 packets → length packets ≡ n → IsOrdered flow_cmp live
+pub report_is : (here : Site) (name : List ℕ) (packets : List Packet) (fold : Fold) (end : TraceEnd) (live : BTreeMap Flow TrackRecord) (report : Report)
+    → HasFolded here packets fold → AreNumbered 1 packets → length packets ≡ end.packets → IsOrdered flow_cmp live
     → ((unit : Flow) → live_at flow_cmp live unit ≡ kept_at flow_eq fold.kept unit)
-    → IsReport here name (record { packets = packets; skipped = skipped; cut = cut })
-    (head_lines n skipped cut ++ lines_from Outs 1 fold.states.items ++ lines_from (Dones (name_end name)) 1 fold.states.items
-    ++ (flat_map (state_line name) live.entries ++ tail_lines name n))
-unfolding IsReport
-report_is here name packets fold n skipped cut live has numbered few ordered same = (
+    → IsReady name fold.states.items live.entries end report
+    → IsReport here name (record { packets = packets; skipped = end.skipped; cut = end.cut }) (report_text report)
+unfolding IsReport report_text
+report_is here name packets fold end live report has numbered few ordered same ready = (
   live,
   record { ordered = ordered; each = λ unit. same unit ∙ has.kept unit },
-  rw (has.states, ← outs_are here [] packets 1 numbered, ← dones_are name here [] packets 1 numbered, few)
-  (joined (head_lines n skipped cut) (out_lines here [] packets) (flat_map (done_line name) packets) (flat_map (state_line name) live.entries) (tail_lines name n)),
+  rw (ready.head, ready.states, ready.tail, has.states,
+      ← outs_are report.outs ready.outs here [] packets 1 numbered, ← dones_are name report.dones ready.dones here [] packets 1 numbered, few)
+  (joined (head_lines end.packets end.skipped end.cut) (out_lines here [] packets) (flat_map (done_line name) packets) (flat_map (state_line name) live.entries) (tail_lines name end.packets)),
 )

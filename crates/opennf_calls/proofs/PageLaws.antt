@@ -1,14 +1,17 @@
 -- How lines go on a page, and pages one behind another.
-use Rattle.std.proofs.Common.{◌≡◌, ◌≤◌, ◌<◌, ℕ, ◌+◌, ◌-◌, ◌^◌, min, List, [], ◌∷◌, ◌++◌, length, take, drop, Option, None, Some, Result, Ok, Err, OnErr, refl, ap, sym, ◌∙◌, subst, append-nil, append_assoc, length-take, arith}
+use Rattle.std.proofs.Common.{◌≡◌, ◌≤◌, ◌<◌, ℕ, ◌+◌, ◌-◌, ◌^◌, zero, suc, min, List, [], ◌∷◌, ◌++◌, length, take, drop, Option, None, Some, Result, Ok, Err, OnErr, refl, ap, sym, ◌∙◌, subst, append-nil, append_assoc, length-take, arith, codes, decimal, map, get_or, slice_index_or}
 use Rattle.std.proofs.Math.Seq.{take-append-add, take-add}
-use Rattle.std.proofs.lemmas.List.{take-append-le, take-append-drop, length-append}
+use Rattle.std.proofs.Math.ListN.{drop_of_length-le}
+use Rattle.std.proofs.lemmas.List.{take-append-le, take-append-drop, take_more, map-append, length-append}
 use Rattle.std.proofs.KnownBytes.{Appends-trans}
 use Rattle.std.specs.Io.KnownBytes.{Appends}
 use Rattle.nf_io.specs.declared.outside.Role.{Role}
 use Rattle.nf_io.specs.Meaning.{Meaning, Rose, AppendsFront, HasCause}
 use Rattle.conn_tracker.specs.declared.state.State.{State}
+use Rattle.conn_tracker.specs.declared.state.State.TheVariants.{Opening, Answered, Established, FinFwd, FinRev, Closed, Reset, Loose, Single, Both}
+use Rattle.conn_tracker.specs.Table.{all_states, name_of, number_of}
 use Rattle.opennf_calls.specs.declared.pages.Lines.{Lines}
-use Rattle.opennf_calls.specs.Lines.{line_text, lines_from}
+use Rattle.opennf_calls.specs.Lines.{line_text, lines_from, AreOuts, AreDones}
 use Rattle.opennf_calls.specs.Writing.{Wrote}
 
 -- the lines of two lists, one behind the other
@@ -93,3 +96,64 @@ page_next lines at end xs low high =
 pub page_rest : (lines : Lines) (end : ℕ) (xs : List State)
     → lines_from lines 1 xs ≡ lines_from lines 1 (take end xs) ++ lines_from lines (1 + length (take end xs)) (drop end xs)
 page_rest lines end xs = ap (lines_from lines 1) (sym (take-append-drop end xs)) ∙ lines-append lines 1 (take end xs) (drop end xs)
+
+-- a block behind a text
+pub put_text : (old rest place text : List ℕ) (used n : ℕ) → used ≤ length old → n ≤ length place → take n place ≡ text
+    → take (used + n) (take used old ++ (place ++ rest)) ≡ take used old ++ text
+put_text old rest place text used n within fits is =
+    let front = take used old in
+    let long : used ≡ length front = omega (arith, within, length-take used old) in
+    ap (λ m. take (m + n) (front ++ (place ++ rest))) long ∙ take-append-add front (place ++ rest) n
+    ∙ ap (λ l. front ++ l) (take-append-le n place rest fits ∙ is)
+
+-- what stands at a state's number
+at_state : (f : State → List ℕ) (state : State) → slice_index_or (map f all_states) (number_of state) [] ≡ f state
+at_state f Opening = refl
+at_state f Answered = refl
+at_state f Established = refl
+at_state f FinFwd = refl
+at_state f FinRev = refl
+at_state f Closed = refl
+at_state f Reset = refl
+at_state f Loose = refl
+at_state f Single = refl
+at_state f Both = refl
+
+five : (w d b t e : List ℕ) → w ++ d ++ (b ++ t ++ e) ≡ w ++ d ++ b ++ t ++ e
+five w d b t e = simp (append_assoc)
+
+-- lines with these ends are those of the outputs, or those that say where the packets were processed
+pub outs_from : (lines : Lines) → lines.word.now ≡ codes "out " → lines.ends.items ≡ map (λ s. codes " " ++ name_of s ++ codes "\n") all_states → AreOuts lines
+unfolding line_text
+outs_from lines word ends n state =
+    rw (word, ends, at_state (λ s. codes " " ++ name_of s ++ codes "\n") state) (five (codes "out ") (decimal n) (codes " ") (name_of state) (codes "\n"))
+
+pub dones_from : (end : List ℕ) (lines : Lines) → lines.word.now ≡ codes "done " → lines.ends.items ≡ map (λ s. end) all_states → AreDones end lines
+unfolding line_text
+dones_from end lines word ends n state = rw (word, ends, at_state (λ s. end) state) refl
+
+-- an end for one more state, and for all
+pub ends_more : (f : State → List ℕ) (xs : List State) (k : ℕ) (d : State) (old new : List (List ℕ)) (end : List ℕ) → k < length xs
+    → old ≡ map f (take k xs) → end ≡ f (get_or xs k d) → new ≡ old ++ end ∷ [] → new ≡ map f (take (k + 1) xs)
+ends_more f xs k d old new end within so_far is grown =
+    grown ∙ rw (so_far, is) refl ∙ sym (map-append f (take k xs) (get_or xs k d ∷ [])) ∙ ap (map f) (sym (take_more xs k d within))
+
+pub ends_all : (f : State → List ℕ) (xs : List State) (k : ℕ) (ends : List (List ℕ)) → xs ≡ all_states → length xs ≤ k
+    → ends ≡ map f (take k xs) → ends ≡ map f all_states
+ends_all f xs k ends all over is =
+    let whole : take k xs ≡ xs = sym (append-nil (take k xs)) ∙ ap (λ l. take k xs ++ l) (sym (drop_of_length-le xs over)) ∙ take-append-drop k xs in
+    is ∙ ap (map f) whole ∙ ap (map f) all
+
+take-take : (m n : ℕ) (xs : List ℕ) → m ≤ n → take m (take n xs) ≡ take m xs
+take-take zero n xs le = refl
+take-take (suc m) zero xs le = absurd (omega (arith, le))
+take-take (suc m) (suc n) [] le = refl
+take-take (suc m) (suc n) (x ∷ xs) le = ap (λ l. x ∷ l) (take-take m n xs (omega (arith, le)))
+
+-- the same where the list of bytes is put together again
+pub put_written : (old rest place text behind : List ℕ) (used n len : ℕ) → used ≤ length old → n ≤ length place → used + n ≤ len → take n place ≡ text
+    → take (used + n) (take len (take used old ++ (place ++ rest) ++ behind)) ≡ take used old ++ text
+put_written old rest place text behind used n len within fits enough is =
+    take-take (used + n) len (take used old ++ (place ++ rest) ++ behind) enough
+    ∙ ap (take (used + n)) (append_assoc (take used old) (place ++ rest) behind ∙ ap (λ l. take used old ++ l) (append_assoc place rest behind))
+    ∙ put_text old (rest ++ behind) place text used n within fits is

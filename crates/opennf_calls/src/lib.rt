@@ -12,6 +12,8 @@ pub mod complaint;
 pub mod fold;
 pub mod gate;
 pub mod outcome;
+mod block;
+mod count;
 mod pages;
 pub mod report;
 pub mod run;

@@ -1,15 +1,13 @@
 //! The lines of the report.
-ghost use Rattle.std.specs.Prelude.{◌≡◌, ◌≤◌, ◌++◌, length, vec_capacity, OnOk, IfOk};
+ghost use Rattle.std.specs.Prelude.{◌≡◌, ◌++◌, OnOk, IfOk};
 ghost use Rattle.std.specs.List.{flat_map};
 ghost use Rattle.nf_io.specs.declared.outside.Role.TheVariants.{Report as ReportRole};
 ghost use Rattle.nf_io.specs.Meaning.{CanWrite};
-ghost use Rattle.opennf_calls.specs.Lines.{lines_from, end_of};
-ghost use Rattle.opennf_calls.specs.Report.{head_lines, trace_line, counts_text, end_text, end_point_text, name_end, protocol_text, unit_text, state_line, tail_lines};
+ghost use Rattle.opennf_calls.specs.Report.{head_lines, trace_line, counts_text, end_text, end_point_text, protocol_text, unit_text, state_line, tail_lines};
 ghost use Rattle.opennf_calls.specs.Writing.{Wrote};
-ghost use Rattle.opennf_calls.specs.declared.pages.Lines.TheVariants.{Outs, Dones};
 
 use crate::fold::Live;
-use crate::pages::{Lines, page, print_lines};
+use crate::pages::{Lines, Page};
 use crate::run::put;
 use conn_tracker::{State, TrackRecord, push_record};
 use flow_filter::{Flow, Name, NoMemory, TCP, Text};
@@ -22,18 +20,16 @@ use trace_reader::TraceEnd;
 pub struct Report {
     head: Text,
     states: Vec<State>,
+    outs: Lines,
     dones: Lines,
     tail: Text,
-    page: Vec<u8>,
-    ghost short: { length (end_of dones) ≤ 32 },
-    ghost room: { 256000 ≤ vec_capacity page },
+    page: Page,
 }
 
 impl Report {
-    ghost use Rattle.opennf_calls.specs.Printed.{report_text};
+    ghost use Rattle.opennf_calls.specs.Printed.{IsReady, report_text};
 
     /// The report of the instance with a name, at the end of a capture.
-    #[tactic(auto, unfolding(crate::specs::Printed::report_text))]
     pub fn open(
         alloc: Global,
         name: &Name,
@@ -41,18 +37,16 @@ impl Report {
         live: &Live,
         end: &TraceEnd,
     ) -> Result<Report, NoMemory>
-        ensures { IfOk result (λ report. report_text report
-            ≡ head_lines end.now.packets end.now.skipped end.now.cut ++ lines_from Outs 1 states.items
-            ++ lines_from (Dones (name_end name.now)) 1 states.items
-            ++ (flat_map (state_line name.now) live.now.entries ++ tail_lines name.now end.now.packets)) }
+        ensures { IfOk result (IsReady name.now states.items live.now.entries end.now) }
     {
         let name = name.items();
         Ok(Report {
             head: head_of(alloc, end)?,
             states,
-            dones: Lines::Dones(name_end(alloc, name)?),
+            outs: Lines::outs(alloc)?,
+            dones: Lines::dones(alloc, name)?,
             tail: tail_of(alloc, name, live, end)?,
-            page: page(alloc)?,
+            page: Page::open(alloc)?,
         })
     }
 
@@ -65,14 +59,15 @@ impl Report {
         let Report {
             head,
             states,
+            outs,
             dones,
             tail,
             mut page,
         } = self;
         let states = states.as_slice();
         put(outside, Role::Report, head.items())?;
-        print_lines(outside, Role::Report, &mut page, &Lines::Outs, states)?;
-        print_lines(outside, Role::Report, &mut page, &dones, states)?;
+        page.print(outside, Role::Report, &outs, states)?;
+        page.print(outside, Role::Report, &dones, states)?;
         put(outside, Role::Report, tail.items())
     }
 }
@@ -112,17 +107,6 @@ fn end_name(is_cut: bool) -> &'static str
     ensures { result.now ≡ end_text is_cut }
 {
     if is_cut { "cut" } else { "whole" }
-}
-
-/// What ends a line with an instance's name.
-fn name_end(alloc: Global, name: &[u8]) -> Result<Text, NoMemory>
-    ensures { IfOk result (λ text. text ≡ name_end name.now) }
-{
-    let mut text = Text::open(alloc);
-    text.push_bytes(b" ")?;
-    text.push_bytes(name)?;
-    text.push_bytes(b"\n")?;
-    Ok(text)
 }
 
 /// The lines behind those of the packets: each flow's record, in the flows' order, and then the bottom.

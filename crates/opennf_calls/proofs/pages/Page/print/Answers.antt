@@ -7,15 +7,15 @@ use Rattle.nf_io.specs.Meaning.{AppendsFront}
 use Rattle.opennf_calls.specs.Lines.{lines_from}
 use Rattle.opennf_calls.specs.Writing.{Wrote}
 use Rattle.opennf_calls.proofs.PageLaws.{wrote_then, wrote_part, page_next, page_rest}
-use Rattle.opennf_calls.proofs.pages.print_lines.Goals as goal
+use Rattle.opennf_calls.proofs.pages.Page.print.Goals as goal
 
-pub returns-in_err-put-clause-wrote : goal.returns-in_err-put-clause-wrote
-returns-in_err-put-clause-wrote g c =
+pub returns-in_err-put : goal.returns-in_err-put
+returns-in_err-put g c =
     let failed = err_from_is_err_and c.from_residual.result c.from_residual.ensures.1 in
     let low : c.loop-at.at ≤ c.min-end.result = omega (arith, c.min-end.ensures, c.loop-at-test.true) in
     let high : c.min-end.result ≤ length c.args.states.now = omega (arith, c.min-end.ensures) in
     let page = subst (λ (text : List ℕ). Wrote c.args.role (g.O.Outside.seen c.loop-at.outside) (g.O.Outside.seen c.put.new.outside) text (Err c.in_err-put.field-0.0))
-        (c.as_slice.ensures.value ∙ c.fill.ensures.items) c.in_err-put.ensures in
+        (c.text.ensures ∙ c.fill.ensures) c.in_err-put.ensures in
     rw (failed.1, failed.2, page_rest c.args.lines.now c.min-end.result c.args.states.now, page_next c.args.lines.now c.loop-at.at c.min-end.result c.args.states.now low high)
     (wrote_part c.args.role _ _ _ _ c.in_err-put.field-0.0 (wrote_then c.args.role _ _ _ _ _ (Err c.in_err-put.field-0.0) c.loop-at.invariant.wrote page))
 
@@ -24,11 +24,10 @@ loop-at-preserved g c =
     let low : c.loop-at.at ≤ c.min-end.result = omega (arith, c.min-end.ensures, c.loop-at-test.true) in
     let high : c.min-end.result ≤ length c.args.states.now = omega (arith, c.min-end.ensures) in
     let page = subst (λ (text : List ℕ). Wrote {E = Failed} c.args.role (g.O.Outside.seen c.loop-at.outside) (g.O.Outside.seen c.put.new.outside) text (Ok tt))
-        (c.as_slice.ensures.value ∙ c.fill.ensures.items) c.in_ok-put.ensures in
+        (c.text.ensures ∙ c.fill.ensures) c.in_ok-put.ensures in
     record {
       within = high;
       wrote = rw (page_next c.args.lines.now c.loop-at.at c.min-end.result c.args.states.now low high)
           (wrote_then c.args.role _ _ _ _ _ (Ok tt) c.loop-at.invariant.wrote page);
       writable = search rules;
-      room = c.fill.ensures.room;
     }

@@ -1,9 +1,9 @@
-use Rattle.std.proofs.Common.{◌≤◌, ◌-◌, length, take, vec_capacity, Ok}
+use Rattle.std.proofs.Common.{◌≤◌, ◌-◌, length, take, Ok}
 use Rattle.nf_io.specs.declared.outside.Failed.{Failed}
 use Rattle.nf_io.specs.Meaning.{CanWrite}
 use Rattle.opennf_calls.specs.Lines.{lines_from}
 use Rattle.opennf_calls.specs.Writing.{Wrote}
-use Rattle.opennf_calls.proofs.pages.print_lines.Given as goal
+use Rattle.opennf_calls.proofs.pages.Page.print.Given as goal
 
 -- the lines of the packets so far were written
 abbrev pub invariant-loop-at : goal.invariant-loop-at
@@ -11,7 +11,6 @@ invariant-loop-at g l = record {
   within : l.at ≤ length l.states;
   wrote : Wrote {E = Failed} l.role (g.O.Outside.seen l.fn.outside) (g.O.Outside.seen l.outside) (lines_from l.lines 1 (take l.at l.states)) (Ok tt);
   writable : CanWrite l.role (g.O.Outside.seen l.outside l.role);
-  room : 256000 ≤ vec_capacity l.page;
 }
 
 abbrev pub decreases-loop-at : goal.decreases-loop-at
