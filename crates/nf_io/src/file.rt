@@ -67,6 +67,7 @@ struct Edge<R: Files + Print + Eprint + Drop> {
 
 impl<R: Files + Print + Eprint + Drop> Edge<R> {
     /// Takes bytes of a role, or None where the system refused.
+    #[inline(always)]
     fn read(&mut self, role: Role, name: &str, buf: &mut [u8]) -> Option<usize>
         ensures bound { IfSome result (λ n. n ≤ length buf.new) }
     {
@@ -156,6 +157,7 @@ impl<R: Files + Print + Eprint + Drop> Outside for FileOutside<R> {
         Ok(())
     }
 
+    #[inline(always)]
     fn read(&mut self, role: Role, buf: &mut [u8]) -> Result<usize, Failed> {
         let mark = &mut self.marks[role as usize];
         let taken = self.edge.read(role, mark.name(), buf);

@@ -45,7 +45,9 @@ impl<F: Read + Write + Drop> Stream<F> {
         self.start == self.end
     }
 
-    /// Reads ahead, or answers None where the system refuses.
+    /// Reads ahead, or answers None where the system refuses. It stands apart, so that what `read` inlines stays small.
+    #[cold]
+    #[inline(never)]
     pub(crate) fn refill<R: Files<File = F>>(&mut self, files: &R, name: &str) -> Option<()> {
         if self.file.is_none() {
             self.file = Some(fs::open(files, name).ok()?);

@@ -99,6 +99,7 @@ impl<O: Outside> Source for RoleSource<'_, O> {
     ghost rest = { λ s. (s.role, beside_left s.role (O.seen s.outside.now)) };
 
     #[tactic(auto, unfolding(crate::specs::Meaning::beside_left))]
+    #[inline(always)]
     fn read(&mut self, buf: &mut [u8]) -> Result<usize, Failed> {
         self.outside.read(self.role, buf)
     }

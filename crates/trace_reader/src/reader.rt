@@ -16,18 +16,7 @@ pub enum Stop {
 }
 
 impl Stop {
-    ghost use Rattle.trace_reader.specs.Gives.{stop_of, answer_of};
-
-    fn of(answer: &Result<Next, TraceFault>) -> Option<Stop>
-        ensures { result ≡ stop_of answer.now }
-    {
-        match answer {
-            Ok(Next::Packet(_) | Next::Skipped) => None,
-            Ok(Next::End) => Some(Stop::End),
-            Ok(Next::Cut) => Some(Stop::Cut),
-            Err(fault) => Some(Stop::Fault(*fault)),
-        }
-    }
+    ghost use Rattle.trace_reader.specs.Gives.{answer_of};
 
     fn answer(self) -> Result<Next, TraceFault>
         ensures { result ≡ answer_of self }
@@ -99,15 +88,20 @@ impl TraceReader {
         if let Some(stop) = self.stop {
             return stop.answer();
         }
-        let (answer, size) = match read_record(self.form, self.place, self.count, source) {
-            Ok(step) => (Ok(step.next), step.size),
-            Err(fault) => (Err(fault), 0),
+        let step = match read_record(self.form, self.place, self.count, source) {
+            Ok(step) => step,
+            Err(fault) => {
+                self.stop = Some(Stop::Fault(fault));
+                return Err(fault);
+            }
         };
-        self.place += size;
-        if let Ok(Next::Packet(_)) = answer {
-            self.count += 1;
+        self.place += step.size;
+        match step.next {
+            Next::Packet(_) => self.count += 1,
+            Next::Skipped => (),
+            Next::End => self.stop = Some(Stop::End),
+            Next::Cut => self.stop = Some(Stop::Cut),
         }
-        self.stop = Stop::of(&answer);
-        answer
+        Ok(step.next)
     }
 }
