@@ -2,7 +2,7 @@
 use Rattle.std.proofs.Common.{◌≡◌, ◌==◌, ◌<◌, ◌⊎◌, ⊎_elim, inl, inr, arith, ℕ, zero, suc, ◌+◌, length-append, Bool, true, false, if◌then◌else◌, List, [], ◌∷◌, ◌++◌, length, sym, ◌∙◌, ap, refl, subst, append-nil, append_assoc}
 use Rattle.actor_net.specs.declared.stamped.Stamped.{Stamped}
 use Rattle.actor_net.specs.Network.{Stepped}
-use Rattle.actor_net.specs.Histories.{Event, noted, does, node_after, notes_of, taken_at, put_between}
+use Rattle.actor_net.specs.Histories.{Event, noted, node_after, notes_of, taken_at, put_between}
 use Rattle.actor_threads.specs.Ways.{Incoming, Outgoing, Draws, Sends}
 use Rattle.actor_threads.specs.Work.{Shown, in_at, out_at, tick, clock_after, put_for, is_input_of, DrawsAt, Idled, Found, Acted, IsQuiet, Worked}
 use Rattle.actor_threads.proofs.Drawing.{drew_nothing}

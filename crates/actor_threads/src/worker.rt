@@ -140,7 +140,7 @@ impl<A: Actor> Worker<A> {
                     if idle >= IDLE_LOOKS {
                         return Ok(());
                     }
-                    rest(idle);
+                    thread::yield_now();
                 }
             }
         }
@@ -375,13 +375,6 @@ fn ways_out<M: Drop>(alloc: Global, sends: Vec<SendEnd<M>>) -> Result<Vec<WayOut
         ways.push(WayOut::open(alloc, send))?;
     }
     Ok(ways)
-}
-
-// Gives the processor away between two looks that find nothing, the longer, the more there were.
-fn rest(idle: u32) {
-    for _ in 0..1 + idle / 256 {
-        thread::yield_now();
-    }
 }
 
 fn next_clock(clock: u64, stamp: u64) -> u64

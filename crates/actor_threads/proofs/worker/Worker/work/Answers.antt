@@ -1,5 +1,5 @@
-use Rattle.std.proofs.Common.{◌≡◌, ◌≤◌, true≢false, refl, sym, subst, ap, ◌∙◌, arith, length, ◌+◌}
-use Rattle.actor_threads.specs.Work.{Worked, Found, Idled}
+use Rattle.std.proofs.Common.{◌≤◌, true≢false, refl, sym, subst, ap, ◌∙◌, arith, length, ◌+◌}
+use Rattle.actor_threads.specs.Work.{Worked}
 use Rattle.actor_threads.proofs.Working.{start, idle, more, longer, still_quiet}
 use Rattle.actor_threads.proofs.worker.Worker.work.Goals as goal
 
