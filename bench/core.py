@@ -3,7 +3,6 @@
 
 Use: core.py PROGRAM
 """
-import statistics
 import subprocess
 import sys
 import time
@@ -13,10 +12,10 @@ PAUSE = 0.0005
 # Each world: its name, its nodes and its tokens, and the hops of a token by the schedule and by threads. Where there are few
 # tokens, at most as many choices are enabled at once; where there are many, each node has always something to do.
 WORLDS = [
-    ("ring", 5, 5, 2_000_000, 400_000),
+    ("ring", 5, 5, 2_000_000, 100_000),
     ("ring", 5, 320, 30_000, 10_000),
     ("ring", 5, 1280, 8_000, 2_500),
-    ("hub", 17, 16, 500_000, 50_000),
+    ("hub", 17, 16, 200_000, 20_000),
     ("hub", 17, 1088, 8_000, 2_000),
 ]
 # The lists double when they are full, so two runs are compared of which one has four times as many choices.
@@ -72,11 +71,14 @@ def print_speed(program, shape, order, nodes, items, hops):
 
 
 def bytes_of(program, order):
-    """The bytes that a choice of the ring takes while several threads run, and at the peak: the medians of some runs."""
+    """The bytes that a choice of the ring takes while several threads run, and at the peak.
+
+    The greatest of some runs are taken: in a run of several rounds the histories are shorter.
+    """
     runs = []
     for hops in (SMALL // 320, LARGE // 320):
         peaks = [peaks_of([program, "ring", order, "5", "320", str(hops)]) for _ in range(RUNS)]
-        runs.append([statistics.median(values) for values in zip(*peaks)])
+        runs.append([max(values) for values in zip(*peaks)])
     (small, low_beside, low), (large, high_beside, high) = runs
     return (high_beside - low_beside) / (large - small), (high - low) / (large - small)
 
