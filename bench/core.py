@@ -7,12 +7,19 @@ import subprocess
 import sys
 import time
 
-RUNS = 3
-PAUSE = 0.001
-# Each world: its name, its nodes and its tokens, and the hops of a token by the schedule and by threads.
-WORLDS = [("ring", 5, 5, 2_000_000, 200_000), ("hub", 17, 16, 500_000, 50_000)]
+RUNS = 5
+PAUSE = 0.0005
+# Each world: its name, its nodes and its tokens, and the hops of a token by the schedule and by threads. Where there are few
+# tokens, at most as many choices are enabled at once; where there are many, each node has always something to do.
+WORLDS = [
+    ("ring", 5, 5, 2_000_000, 100_000),
+    ("ring", 5, 320, 30_000, 10_000),
+    ("ring", 5, 1280, 8_000, 2_500),
+    ("hub", 17, 16, 200_000, 20_000),
+    ("hub", 17, 1088, 8_000, 2_000),
+]
 # The lists double when they are full, so two runs are compared of which one has four times as many choices.
-SMALL, LARGE = 50_000, 200_000
+SMALL, LARGE = 500_000, 2_000_000
 
 
 def run(command):
@@ -23,21 +30,33 @@ def run(command):
     return int(output.split()[1]), seconds
 
 
-def peak_of(command):
-    """The choices of one run, and its most memory in bytes: the system's peak when it is last seen running.
+def status_of(process):
+    """The lines of the system's status of a process, by their names."""
+    try:
+        with open(f"/proc/{process.pid}/status") as status:
+            return dict(line.split(":", 1) for line in status)
+    except (FileNotFoundError, ProcessLookupError):
+        return {}
+
+
+def peaks_of(command):
+    """The choices of one run, its most memory while several threads run, and its most memory of all, in bytes.
 
     It looks once in a while: looking without a pause keeps the threads of the program from running.
     """
     process = subprocess.Popen(command, stdin=subprocess.DEVNULL, stdout=subprocess.PIPE)
-    peak = 0
+    beside, whole = 0, 0
     while process.poll() is None:
-        with open(f"/proc/{process.pid}/status") as status:
-            peak = max([peak] + [int(line.split()[1]) for line in status if line.startswith("VmHWM:")])
+        status = status_of(process)
+        if "VmHWM" in status:
+            whole = max(whole, int(status["VmHWM"].split()[0]))
+            if int(status["Threads"]) > 1:
+                beside = max(beside, int(status["VmRSS"].split()[0]))
         time.sleep(PAUSE)
     output = process.stdout.read()
     if process.returncode != 0:
         raise subprocess.CalledProcessError(process.returncode, command)
-    return int(output.split()[1]), peak * 1024
+    return int(output.split()[1]), beside * 1024, whole * 1024
 
 
 def print_speed(program, shape, order, nodes, items, hops):
@@ -46,17 +65,22 @@ def print_speed(program, shape, order, nodes, items, hops):
     times = [seconds for _, seconds in results]
     all_times = " ".join(f"{seconds:.3f}" for seconds in times)
     print(
-        f"{shape} of {nodes}, {order}: {choices / min(times):,.0f} choices a second"
+        f"{shape} of {nodes} with {items} tokens, {order}: {choices / min(times):,.0f} choices a second"
         f" ({choices} choices, best {min(times):.3f} s of {all_times})"
     )
 
 
-def bytes_of(program, order, scale):
-    """The bytes that a choice takes at the peak of a run of the ring, the greatest peak of three runs."""
-    words = [program, "ring", order, "5", "5"]
-    small, low = max(peak_of(words + [str(SMALL * scale)]) for _ in range(RUNS))
-    large, high = max(peak_of(words + [str(LARGE * scale)]) for _ in range(RUNS))
-    return (high - low) / (large - small)
+def bytes_of(program, order):
+    """The bytes that a choice of the ring takes while several threads run, and at the peak.
+
+    The greatest of some runs are taken: in a run of several rounds the histories are shorter.
+    """
+    runs = []
+    for hops in (SMALL // 320, LARGE // 320):
+        peaks = [peaks_of([program, "ring", order, "5", "320", str(hops)]) for _ in range(RUNS)]
+        runs.append([max(values) for values in zip(*peaks)])
+    (small, low_beside, low), (large, high_beside, high) = runs
+    return (high_beside - low_beside) / (large - small), (high - low) / (large - small)
 
 
 def main(arguments):
@@ -66,9 +90,11 @@ def main(arguments):
     for shape, nodes, items, by_schedule, by_threads in WORLDS:
         print_speed(program, shape, "first", nodes, items, by_schedule)
         print_speed(program, shape, "threads", nodes, items, by_threads)
-    listed, merged = bytes_of(program, "first", 10), bytes_of(program, "threads", 1)
-    print(f"memory of a choice in the list of choices, as the merged list also is: {listed:.1f} bytes")
-    print(f"memory of a choice by threads, in its history, the merge and the merged list together: {merged:.1f} bytes")
+    _, listed = bytes_of(program, "first")
+    steps, peak = bytes_of(program, "threads")
+    print(f"memory of a choice in a list of choices: {listed:.1f} bytes")
+    print(f"memory of a choice by threads: {steps:.1f} bytes while the threads run, which is its step in a history,")
+    print(f"    and {peak:.1f} bytes at the peak, with the merge and the merged list")
 
 
 if __name__ == "__main__":

@@ -3,10 +3,10 @@
 # of a choice.
 # Use: bench/core.sh [PROGRAM]; without a word it takes the program that `rt run` or `rt ci` left in its crate.
 #
-# A ring of 5 nodes and a hub of 17 pass tokens on, three times each; printed are the best times. The memory of a choice
-# is the difference of the peaks of a shorter and a longer run of the ring, divided by the difference of their choices;
-# by threads that holds its step in a history, the work of the merge and its place in the merged list. This is no part
-# of the gate. It writes no file.
+# Rings of 5 nodes and hubs of 17 pass tokens on, with few tokens and with many, five times each; printed are the best times.
+# The memory of a choice is the difference of a shorter and a longer run of the ring, divided by the difference of their
+# choices. By threads it is taken twice: while several threads run, when the histories grow, and at the peak of the whole run,
+# when they are merged. This is no part of the gate. It writes no file.
 set -eu
 bench=$(cd "$(dirname "${BASH_SOURCE[0]}")" && pwd)
 program=${1:-$bench/../crates/core_speed/out/core_speed}

@@ -4,6 +4,7 @@ pub mod Followed
 pub mod InOrder
 pub mod Links
 pub mod Merged
+pub mod Merges
 pub mod OneStep
 pub mod Reached
 pub mod Runs

@@ -3,3 +3,4 @@ pub mod Opening
 pub mod Schedules
 pub mod Histories
 pub mod Merging
+pub mod Fronts

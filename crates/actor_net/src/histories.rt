@@ -2,6 +2,7 @@ ghost use Rattle.std.specs.Prelude.{◌≡◌, ◌++◌, map, IfOk, OnOk};
 ghost use Rattle.actor_net.specs.Merging.{IsMerge, marks_of, all_marks as all_marks_lem, choice_of};
 
 use super::choice::{Choice, Choices};
+use super::fronts::{merge_fronts, nodes_rise};
 use flow_filter::{NoMemory, Sequence};
 use std::alloc::Global;
 
@@ -14,14 +15,27 @@ pub struct History {
 
 /// A step of a history with its node.
 #[derive(Clone, Copy, Debug)]
-struct Mark {
-    clock: u64,
-    node: u8,
-    port: u8,
+pub(crate) struct Mark {
+    pub(crate) clock: u64,
+    pub(crate) node: u8,
+    pub(crate) port: u8,
 }
 
 /// All steps of the histories ordered by (clock, node), those that tie as they stand, each as its choice.
 pub fn merge(alloc: Global, histories: &[History]) -> Result<Choices, NoMemory>
+    ensures { IfOk result (IsMerge histories.now) }
+{
+    if !nodes_rise(histories) {
+        return merge_sorted(alloc, histories);
+    }
+    match merge_fronts(alloc, histories)? {
+        Some(choices) => Ok(choices),
+        None => merge_sorted(alloc, histories),
+    }
+}
+
+// The same by sorting a list of all steps.
+fn merge_sorted(alloc: Global, histories: &[History]) -> Result<Choices, NoMemory>
     ensures { IfOk result (IsMerge histories.now) }
 {
     let mut marks = all_marks(alloc, histories)?;

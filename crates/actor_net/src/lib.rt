@@ -9,6 +9,7 @@
 
 pub mod actor;
 pub mod choice;
+mod fronts;
 pub mod histories;
 mod link;
 pub mod outbox;

@@ -183,6 +183,33 @@ fn a_schedule_stops_where_nothing_is_enabled(rt: HostRuntime) -> Result<(), Fail
     Ok(())
 }
 
+/// A history of a node with these steps.
+fn history(alloc: Global, node: u8, steps: [(u64, u8); 2]) -> Result<History, NoMemory> {
+    let steps = Sequence::from_vec(Vec::from_array(alloc, steps)?);
+    Ok(History { node, steps })
+}
+
+#[test]
+fn a_merge_is_the_same_from_fronts_and_by_sorting(rt: HostRuntime) -> Result<(), Fail> {
+    let alloc = rt.alloc();
+    let rising = [
+        history(alloc, 0, [(1, 0), (3, 1)])?,
+        history(alloc, 1, [(1, 0), (2, 0)])?,
+    ];
+    let falling = [
+        history(alloc, 0, [(3, 1), (1, 0)])?,
+        history(alloc, 1, [(2, 0), (1, 0)])?,
+    ];
+    let back = Choice { node: 0, port: 1 };
+    let wanted = [INPUT, FROM_ZERO, FROM_ZERO, back];
+    assert_eq!(rt; merge(alloc, rising.as_slice())?.items(), wanted.as_slice());
+    assert_eq!(rt;
+        merge(alloc, falling.as_slice())?.items(),
+        wanted.as_slice()
+    );
+    Ok(())
+}
+
 #[test]
 fn a_merge_stands_by_clock_and_then_by_node(rt: HostRuntime) -> Result<(), Fail> {
     let alloc = rt.alloc();

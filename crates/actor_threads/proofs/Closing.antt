@@ -1,5 +1,5 @@
 -- All links closed, one sender more at a time.
-use Rattle.std.proofs.Common.{◌≡◌, ◌≢◌, ◌<◌, ◌≤◌, ℕ, suc, ◌+◌, ◌*◌, List, [], ◌∷◌, ◌++◌, length, slice_index_or, drop, sym, ◌∙◌, ap, refl, subst, arith, drop-cons, add-one}
+use Rattle.std.proofs.Common.{◌≡◌, ◌<◌, ℕ, suc, ◌+◌, ◌*◌, List, length, drop, sym, ◌∙◌, ap, subst, arith, drop-cons}
 use Rattle.std.proofs.lemmas.Grind.{rows}
 use Rattle.actor_threads.specs.Ways.{Incoming, Outgoing}
 use Rattle.actor_threads.specs.Work.{no_in, in_at, out_at}

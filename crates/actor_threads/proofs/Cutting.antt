@@ -1,9 +1,40 @@
 -- Notes cut by their counts.
-use Rattle.std.proofs.Common.{◌≡◌, ℕ, zero, suc, ◌+◌, ◌≤◌, List, [], ◌∷◌, ◌++◌, length, take, drop, sum, sym, ◌∙◌, ap, refl, arith, length-drop}
+use Rattle.std.proofs.Common.{◌≡◌, ℕ, zero, suc, ◌+◌, ◌-◌, ◌<◌, ◌≤◌, List, [], ◌∷◌, ◌++◌, length, take, drop, sum, sym, ◌∙◌, ap, refl, arith, length-drop}
 use Rattle.std.proofs.lemmas.List.{take-append-le, drop-append-le}
 use Rattle.std.proofs.lemmas.List.Sums.{sum_by-cons}
 use Rattle.std.proofs.Math.Seq.{take-length}
-use Rattle.actor_threads.specs.Noted.{cut}
+use Rattle.actor_threads.specs.declared.notes.Run.{Run}
+use Rattle.actor_threads.specs.Noted.{zeros_then, counts_of, cut}
+
+zeros-append : (n : ℕ) (xs ys : List ℕ) → zeros_then n xs ++ ys ≡ zeros_then n (xs ++ ys)
+zeros-append zero xs ys = refl
+zeros-append (suc k) xs ys = ap (λ l. 0 ∷ l) (zeros-append k xs ys)
+
+zeros_more : (n : ℕ) → zeros_then (suc n) [] ≡ zeros_then n [] ++ 0 ∷ []
+zeros_more zero = refl
+zeros_more (suc k) = ap (λ l. 0 ∷ l) (zeros_more k)
+
+counts_more : (runs : List Run) (silent : ℕ) → counts_of runs (suc silent) ≡ counts_of runs silent ++ 0 ∷ []
+counts_more [] silent = zeros_more silent
+counts_more (r ∷ rs) silent = ap (λ l. zeros_then r.silent (r.count ∷ l)) (counts_more rs silent) ∙ sym (zeros-append r.silent (r.count ∷ counts_of rs silent) (0 ∷ []))
+
+-- one more step without notes
+pub counts_one : (runs : List Run) (silent : ℕ) → counts_of runs (silent + 1) ≡ counts_of runs silent ++ 0 ∷ []
+counts_one runs silent = let e : silent + 1 ≡ suc silent = omega arith in rw e (counts_more runs silent)
+
+-- one more run
+pub counts_run : (runs : List Run) (silent count : ℕ) → counts_of (runs ++ record { silent = silent; count = count } ∷ []) 0 ≡ counts_of runs silent ++ count ∷ []
+counts_run [] silent count = sym (zeros-append silent [] (count ∷ []))
+counts_run (r ∷ rs) silent count = ap (λ l. zeros_then r.silent (r.count ∷ l)) (counts_run rs silent count) ∙ sym (zeros-append r.silent (r.count ∷ counts_of rs silent) (count ∷ []))
+
+-- the first of some zeros
+zeros_first : (n : ℕ) (xs : List ℕ) → 0 < n → zeros_then n xs ≡ 0 ∷ zeros_then (n - 1) xs
+zeros_first zero xs some = absurd (omega (arith, some))
+zeros_first (suc k) xs some = let e : suc k - 1 ≡ k = omega arith in rw e refl
+
+-- where no run is left
+pub silent_pop : (old now : List Run) (silent : ℕ) → old ≡ [] → now ≡ [] → 0 < silent → counts_of old silent ≡ 0 ∷ counts_of now (silent - 1)
+silent_pop old now silent o n some = rw (o, n) (zeros_first silent [] some)
 
 module _ {N : Type 0} where
   pub none : (all : List N) → 0 ≡ length all → all ≡ []

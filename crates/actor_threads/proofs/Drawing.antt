@@ -1,5 +1,5 @@
 -- What a way in draws.
-use Rattle.std.proofs.Common.{◌≡◌, true, false, true≢false, Option, Some, None, List, [], ◌∷◌, ◌++◌, drop, sym, ◌∙◌, ap, append-nil, refl}
+use Rattle.std.proofs.Common.{◌≡◌, false, true≢false, Option, Some, None, List, [], ◌∷◌, ◌++◌, drop, sym, ◌∙◌, ap, append-nil, refl}
 use Rattle.actor_net.specs.declared.stamped.Stamped.{Stamped}
 use Rattle.std.specs.Option.{is_some, option_to_list}
 use Rattle.actor_net.specs.Histories.{messages}

@@ -1,5 +1,5 @@
 -- A round without a choice: then none was enabled.
-use Rattle.std.proofs.Common.{◌≡◌, ◌==◌, ◌&&◌, ◌<◌, ◌≤◌, ◌⊎◌, ℕ, zero, suc, Bool, true, false, true≢false, if◌then◌else◌, Option, Some, None, List, [], ◌∷◌, ◌++◌, length, slice_index_or, map, sym, ◌∙◌, ap, refl, subst, ⊎_elim, inl, inr, arith}
+use Rattle.std.proofs.Common.{◌≡◌, ◌&&◌, ◌<◌, ◌≤◌, ◌⊎◌, ℕ, zero, suc, Bool, true, false, if◌then◌else◌, Option, Some, None, List, [], ◌∷◌, ◌++◌, length, slice_index_or, map, sym, ◌∙◌, ap, refl, subst, ⊎_elim, inl, inr, arith}
 use Rattle.std.specs.Prelude.{slice_get, filter, nat_lt}
 use Rattle.std.specs.List.Sorted.{ties}
 use Rattle.std.specs.Ordering.{is_lt}
@@ -9,10 +9,10 @@ use Rattle.std.proofs.lemmas.Option.{slice_get-get_or, slice_get_past}
 use Rattle.actor_net.specs.declared.choice.Choice.{Choice}
 use Rattle.actor_net.specs.declared.stamped.Stamped.{Stamped}
 use Rattle.actor_net.specs.declared.histories.History.{History}
-use Rattle.actor_net.specs.Network.{Network, Stepped, is_input, waiting, takes_first, is_enabled, taken, IsRun}
+use Rattle.actor_net.specs.Network.{Network, is_input, waiting, takes_first, is_enabled}
 use Rattle.actor_net.specs.Merging.{marks_of, all_marks, key_of, key_cmp, choice_of, IsMerge}
 use Rattle.actor_threads.specs.Ways.{Incoming, begun, last_clock}
-use Rattle.actor_threads.specs.Work.{Shown, in_at, is_input_of, IsQuietAt, IsQuiet}
+use Rattle.actor_threads.specs.Work.{Shown, is_input_of, IsQuiet}
 use Rattle.actor_threads.specs.Round.{StartsAs}
 
 no_marks : {X : Type 0} (f : X → Choice) (marks : List X) → [] ≡ map f marks → marks ≡ []

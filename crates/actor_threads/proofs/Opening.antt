@@ -1,5 +1,5 @@
 -- How a worker is made.
-use Rattle.std.proofs.Common.{◌≡◌, ◌≢◌, ◌==◌, ℕ, Bool, true, false, true≢false, if◌then◌else◌, List, [], ◌∷◌, length, sym, ◌∙◌, ap, refl, suc}
+use Rattle.std.proofs.Common.{◌≡◌, ◌≢◌, ◌==◌, ℕ, true, false, if◌then◌else◌, List, [], ◌∷◌, length, ap, refl, suc}
 use Rattle.std.proofs.lemmas.Bool.Decides.{Decides-eqb}
 use Rattle.fifo_link.specs.Ends.{End}
 use Rattle.actor_threads.specs.Work.{all_in, waits}

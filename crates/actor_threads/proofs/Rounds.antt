@@ -1,5 +1,5 @@
 -- A whole round, from its seats.
-use Rattle.std.proofs.Common.{◌≡◌, ◌<◌, ◌*◌, ℕ, zero, suc, Bool, true, false, true≢false, ◌&&◌, IsTrue, List, [], ◌∷◌, ◌++◌, length, slice_index_or, map, take, drop, sym, ◌∙◌, ap, refl, subst, arith, append-nil}
+use Rattle.std.proofs.Common.{◌≡◌, ◌<◌, ℕ, zero, suc, Bool, true, false, true≢false, ◌&&◌, IsTrue, List, [], ◌∷◌, ◌++◌, length, slice_index_or, map, take, drop, sym, ◌∙◌, ap, refl, subst, arith}
 use Rattle.std.specs.List.{list_all}
 use Rattle.std.proofs.lemmas.Grind.{common_steps}
 use Rattle.std.proofs.lemmas.List.{length-map, get_or-map}
@@ -10,8 +10,7 @@ use Rattle.actor_net.proofs.Follow.{Replayed}
 use Rattle.actor_net.proofs.Merged.{merged, replay_is}
 use Rattle.actor_threads.specs.declared.round.Seat.{Seat}
 use Rattle.actor_threads.specs.Ways.{Incoming, Outgoing}
-use Rattle.actor_threads.specs.Work.{Shown, IsQuiet, Ran}
-use Rattle.actor_threads.specs.Table.{row_at}
+use Rattle.actor_threads.specs.Work.{Shown, Ran}
 use Rattle.actor_threads.specs.Round.{AllStart, CanCloseAll, AllClosed, Gathered}
 use Rattle.actor_threads.proofs.Gathering.{can_close_all, events, holds, left, rise_is, matches, fits, leaves}
 use Rattle.actor_threads.proofs.Moving.{history_of, no_steps, all_quiet}

@@ -1,5 +1,5 @@
 -- Rows of links, one link more at a time.
-use Rattle.std.proofs.Common.{◌≡◌, ◌≢◌, ◌==◌, ◌<◌, ◌≤◌, ◌-◌, ℕ, zero, suc, ◌+◌, Bool, true, false, true≢false, List, [], ◌∷◌, ◌++◌, length, slice_index_or, slice_set, drop, map, sym, ◌∙◌, ap, refl, subst, arith, length-append, length-set, length-drop}
+use Rattle.std.proofs.Common.{◌≡◌, ◌≢◌, ◌==◌, ◌<◌, ℕ, zero, suc, ◌+◌, true, false, true≢false, List, [], ◌∷◌, ◌++◌, length, slice_index_or, slice_set, drop, map, sym, ◌∙◌, ap, refl, subst, arith, length-append, length-set, length-drop}
 use Rattle.std.proofs.lemmas.Bool.Decides.{Decides-eqb}
 use Rattle.std.proofs.lemmas.List.{length-map, get_or-set_same, get_or-set_other, get_or_append_left, map-set, map-append, get_or-map}
 use Rattle.std.proofs.Math.Seq.{get_or-append_seam}

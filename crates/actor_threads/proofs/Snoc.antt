@@ -1,7 +1,6 @@
 -- One more event behind a history.
 use Rattle.std.proofs.Common.{◌≡◌, ◌==◌, ◌<◌, ℕ, Bool, true, false, if◌then◌else◌, List, [], ◌∷◌, ◌++◌, sym, ◌∙◌, ap, refl, append-nil, append_assoc}
 use Rattle.std.proofs.lemmas.List.{map-append}
-use Rattle.actor_net.specs.declared.stamped.Stamped.{Stamped}
 use Rattle.actor_net.specs.Network.{Stepped, reaches}
 use Rattle.actor_net.specs.Histories.{Event, noted, does, node_after, notes_of, taken_at, sent_for, stamped, sent_to, put_between, PortsBelow, WasReady}
 use Rattle.actor_threads.specs.Work.{tick, Ticks, clock_after, put_for}

@@ -1,15 +1,14 @@
 -- The worker of one node at the start of a round.
-use Rattle.std.proofs.Common.{◌≡◌, ◌≢◌, ◌==◌, ◌&&◌, ◌<◌, ◌≤◌, ℕ, zero, suc, ◌+◌, ◌*◌, Bool, true, false, true≢false, if◌then◌else◌, nat_lt, List, [], ◌∷◌, ◌++◌, length, slice_index_or, drop, map, sym, ◌∙◌, ap, refl, subst, arith, append-nil, drop-cons}
-use Rattle.std.proofs.lemmas.Bool.Decides.{Decides-eqb, nat_tests}
+use Rattle.std.proofs.Common.{◌≡◌, ◌==◌, ◌&&◌, ◌<◌, ℕ, zero, suc, ◌+◌, ◌*◌, true, false, if◌then◌else◌, List, [], ◌∷◌, ◌++◌, length, slice_index_or, drop, sym, ◌∙◌, ap, refl, subst, arith}
+use Rattle.std.proofs.lemmas.Bool.Decides.{nat_tests}
 use Rattle.std.proofs.lemmas.List.{length-map, get_or-map, get_or_append_left}
 use Rattle.atomic_table.specs.Seated.{TableId}
 use Rattle.fifo_link.specs.Ends.{End}
-use Rattle.actor_net.specs.declared.stamped.Stamped.{Stamped}
 use Rattle.actor_net.specs.Network.{Network, waiting}
 use Rattle.actor_net.proofs.Enabled.{at}
 use Rattle.actor_net.proofs.Waiting.{waiting_is}
-use Rattle.actor_threads.specs.Ways.{Incoming, Outgoing, begun}
-use Rattle.actor_threads.specs.Work.{Shown, no_in, in_at, no_out, out_at, opened, all_in, all_out, waits}
+use Rattle.actor_threads.specs.Ways.{begun}
+use Rattle.actor_threads.specs.Work.{Shown, in_at, no_out, opened, all_in, all_out, waits}
 use Rattle.actor_threads.specs.Table.{row_at, no_end, one_at, name_of, AllOpened}
 use Rattle.actor_threads.specs.Round.{StartsAs}
 use Rattle.actor_threads.proofs.Opening.{length-all_in}

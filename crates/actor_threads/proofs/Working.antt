@@ -2,7 +2,7 @@
 use Rattle.std.proofs.Common.{◌≡◌, ◌==◌, ◌<◌, ◌⊎◌, ⊎_elim, inl, inr, arith, ℕ, zero, suc, ◌+◌, length-append, Bool, true, false, if◌then◌else◌, List, [], ◌∷◌, ◌++◌, length, sym, ◌∙◌, ap, refl, subst, append-nil, append_assoc}
 use Rattle.actor_net.specs.declared.stamped.Stamped.{Stamped}
 use Rattle.actor_net.specs.Network.{Stepped}
-use Rattle.actor_net.specs.Histories.{Event, noted, does, node_after, notes_of, taken_at, put_between}
+use Rattle.actor_net.specs.Histories.{Event, noted, node_after, notes_of, taken_at, put_between}
 use Rattle.actor_threads.specs.Ways.{Incoming, Outgoing, Draws, Sends}
 use Rattle.actor_threads.specs.Work.{Shown, in_at, out_at, tick, clock_after, put_for, is_input_of, DrawsAt, Idled, Found, Acted, IsQuiet, Worked}
 use Rattle.actor_threads.proofs.Drawing.{drew_nothing}
@@ -11,6 +11,11 @@ use Rattle.actor_threads.proofs.Snoc.{noted-snoc, taken_at-snoc, ports-snoc, tic
 zero_or : (n : ℕ) → (n ≡ 0) ⊎ (0 < n)
 zero_or zero = inl refl
 zero_or (suc n) = inr (omega arith)
+
+-- where a list is no longer than before, nothing was moved
+unmoved : (moved : Bool) (m n : ℕ) → (moved ≡ true → m < n) → n ≡ m → moved ≡ false
+unmoved false m n more same = refl
+unmoved true m n more same = absurd (omega (arith, more refl, same))
 
 module _ {M : Type 0} where
   draws_then : {a b c : Incoming M} {u v : List (Stamped M)} → Draws a b u → Draws b c v → Draws a c (u ++ v)
@@ -52,11 +57,11 @@ module _ {A M N : Type 0} (ready : A → M → Bool) where
   }
 
   -- a look that found nothing, with no step before it
-  pub still_quiet : (old now flushed new : Shown A M N) (idle : ℕ) → (idle ≡ 0 → length now.steps ≡ length old.steps → now ≡ old) → (length now.steps ≡ length old.steps → 0 < idle → IsQuiet ready old)
-      → flushed ≡ now → Idled flushed new → IsQuiet ready flushed → length new.steps ≡ length old.steps → IsQuiet ready old
-  still_quiet old now flushed new idle fresh quiet is i q same =
+  pub still_quiet : (old now flushed new : Shown A M N) (idle : ℕ) (moved : Bool) → (idle ≡ 0 → length now.steps ≡ length old.steps → now ≡ old) → (length now.steps ≡ length old.steps → 0 < idle → IsQuiet ready old)
+      → (moved ≡ true → length old.steps < length now.steps) → flushed ≡ now → Idled flushed new → (moved ≡ false → IsQuiet ready flushed) → length new.steps ≡ length old.steps → IsQuiet ready old
+  still_quiet old now flushed new idle moved fresh quiet more is i q same =
       let none : length now.steps ≡ length old.steps = sym (ap (λ (v : Shown A M N). length v.steps) (i.rest) ∙ ap (λ (v : Shown A M N). length v.steps) is) ∙ same in
-      ⊎_elim (λ (z : idle ≡ 0). subst (λ (v : Shown A M N). IsQuiet ready v) (is ∙ fresh z none) q) (λ (p : 0 < idle). quiet none p) (zero_or idle)
+      ⊎_elim (λ (z : idle ≡ 0). subst (λ (v : Shown A M N). IsQuiet ready v) (is ∙ fresh z none) (q (unmoved moved _ _ more none))) (λ (p : 0 < idle). quiet none p) (zero_or idle)
 
 module _ {A M N : Type 0} (ready : A → M → Bool) (step : A → ℕ → M → Stepped A M N) where
   -- no step yet

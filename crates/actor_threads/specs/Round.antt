@@ -1,7 +1,6 @@
 -- A round of all workers, this project's own: how the workers start in a world, and what stands on the links when all are closed.
 use Rattle.std.specs.Prelude.{◌≡◌, ◌<◌, ◌+◌, ◌*◌, ℕ, List, [], ◌++◌, length, slice_index_or, slice_set}
 use Rattle.atomic_table.specs.Seated.{TableId}
-use Rattle.actor_net.specs.declared.stamped.Stamped.{Stamped}
 use Rattle.actor_net.specs.declared.choice.Choice.{Choice}
 use Rattle.actor_net.specs.declared.histories.History.{History}
 use Rattle.actor_net.specs.Network.{Network, waiting}

@@ -5,7 +5,7 @@ use Rattle.actor_net.specs.declared.stamped.Stamped.{Stamped}
 use Rattle.actor_net.specs.Histories.{messages}
 use Rattle.fifo_link.specs.Ends.{End}
 use Rattle.actor_threads.specs.Ways.{Incoming, Outgoing}
-use Rattle.actor_threads.specs.Work.{no_link, in_at, out_at}
+use Rattle.actor_threads.specs.Work.{no_link, out_at}
 
 -- a row of a table
 abbrev pub row_at : {X : Type 0} → List (List X) → ℕ → List X

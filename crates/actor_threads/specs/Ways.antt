@@ -1,6 +1,6 @@
 -- What contracts see of a worker's ways, this project's own. A way in is its link, what the take end gave, and what is still
 -- kept. A way out is its link, and all that was sent or waits to be sent.
-use Rattle.std.specs.Prelude.{◌≡◌, ℕ, ◌-◌, ◌^◌, ◌≤◌, List, [], ◌∷◌, ◌++◌, map}
+use Rattle.std.specs.Prelude.{◌≡◌, ℕ, ◌-◌, ◌^◌, ◌≤◌, List, ◌∷◌, ◌++◌, map}
 use Rattle.atomic_table.specs.Seated.{TableId}
 use Rattle.actor_net.specs.declared.stamped.Stamped.{Stamped}
 

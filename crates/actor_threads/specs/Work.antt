@@ -4,7 +4,7 @@ use Rattle.std.specs.Prelude.{◌≡◌, ◌==◌, ◌&&◌, ◌<◌, ◌≤◌,
 use Rattle.atomic_table.specs.Seated.{TableId}
 use Rattle.actor_net.specs.declared.stamped.Stamped.{Stamped}
 use Rattle.actor_net.specs.Network.{Stepped, reaches}
-use Rattle.actor_net.specs.Histories.{Event, noted, does, node_after, notes_of, taken_at, sent_for, stamped, put_between, PortsBelow, WasReady}
+use Rattle.actor_net.specs.Histories.{Event, noted, node_after, notes_of, taken_at, sent_for, stamped, put_between, PortsBelow, WasReady}
 use Rattle.fifo_link.specs.Ends.{End}
 use Rattle.actor_threads.specs.Ways.{Incoming, Outgoing, Draws, Sends, begun, last_clock}
 

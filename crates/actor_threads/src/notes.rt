@@ -1,5 +1,5 @@
 //! What the steps of a worker noted.
-ghost use Rattle.std.specs.Prelude.{◌≡◌, ◌≤◌, ◌+◌, [], ◌∷◌, ◌++◌, length, take, drop, OnOk};
+ghost use Rattle.std.specs.Prelude.{◌≡◌, ◌≤◌, ◌+◌, [], ◌∷◌, ◌++◌, length, take, drop, OnOk, OnErr, MatchOption};
 ghost use Rattle.actor_net.specs.Histories.{without_front, front_list};
 
 use actor_net::Outbox;
@@ -8,10 +8,106 @@ use std::alloc::{AllocError, Global};
 use std::collections::VecDeque;
 use std::marker::Model;
 
+// Steps that noted nothing, and how much the step behind them noted.
+#[derive(Clone, Copy, Debug)]
+struct Run {
+    silent: u32,
+    count: u32,
+}
+
+// How much each step noted. A step that noted nothing takes no memory.
+#[derive(Drop)]
+struct Counts {
+    runs: Vec<Run>,
+    // How many steps behind the last run noted nothing.
+    silent: u32,
+}
+
+impl Model for Counts {
+    ghost use Rattle.std.specs.Prelude.{List, ℕ};
+
+    ghost Value = { List ℕ };
+
+    ghost use Rattle.actor_threads.specs.Noted.{counts_of};
+
+    ghost view = { λ s. counts_of s.runs.items s.silent };
+}
+
+impl Counts {
+    fn open(alloc: Global) -> Self
+        ensures { result ≡ [] }
+    {
+        Counts {
+            runs: Vec::new(alloc),
+            silent: 0,
+        }
+    }
+
+    fn push(&mut self, count: u32) -> Result<(), NoMemory>
+        ensures ok { OnOk result (self.new ≡ self.old ++ count ∷ []) }
+        ensures err { OnErr result (self.new ≡ self.old) }
+    {
+        if count == 0 && self.silent < u32::MAX {
+            self.silent += 1;
+            return Ok(());
+        }
+        let silent = self.silent;
+        self.runs.push(Run { silent, count })?;
+        self.silent = 0;
+        Ok(())
+    }
+
+    fn into_queue(self) -> CountQueue
+        ensures { result ≡ self }
+    {
+        CountQueue {
+            runs: VecDeque::from_vec(self.runs),
+            silent: self.silent,
+        }
+    }
+}
+
+// The same, given out from the first on.
+#[derive(Drop)]
+struct CountQueue {
+    runs: VecDeque<Run>,
+    silent: u32,
+}
+
+impl Model for CountQueue {
+    ghost use Rattle.std.specs.Prelude.{List, ℕ};
+
+    ghost Value = { List ℕ };
+
+    ghost use Rattle.actor_threads.specs.Noted.{counts_of};
+
+    ghost view = { λ s. counts_of s.runs.items s.silent };
+}
+
+impl CountQueue {
+    fn pop(&mut self) -> Option<u32>
+        ensures { MatchOption result ((self.old ≡ []) × (self.new ≡ [])) (λ count. self.old ≡ count ∷ self.new) }
+    {
+        let Some(Run { silent, count }) = self.runs.pop_front() else {
+            if self.silent == 0 {
+                return None;
+            }
+            self.silent -= 1;
+            return Some(0);
+        };
+        if silent > 0 {
+            let silent = silent - 1;
+            self.runs.push_front_reserved(Run { silent, count });
+            return Some(0);
+        }
+        Some(count)
+    }
+}
+
 /// The notes of steps: a list for each step, in order.
 #[derive(Drop)]
 pub struct Notes<N> {
-    counts: Vec<u32>,
+    counts: Counts,
     all: Vec<N>,
 }
 
@@ -22,9 +118,9 @@ impl<N> Model for Notes<N> {
 
     ghost use Rattle.actor_threads.specs.Noted.{cut};
 
-    ghost view = { λ s. cut s.counts.items s.all.items };
+    ghost view = { λ s. cut s.counts s.all.items };
 
-    ghost invariant = { λ s. sum s.counts.items ≡ length s.all.items };
+    ghost invariant = { λ s. sum s.counts ≡ length s.all.items };
 }
 
 impl<N: Drop> Notes<N> {
@@ -33,7 +129,7 @@ impl<N: Drop> Notes<N> {
         ensures { result ≡ [] }
     {
         Notes {
-            counts: Vec::new(alloc),
+            counts: Counts::open(alloc),
             all: Vec::new(alloc),
         }
     }
@@ -43,14 +139,16 @@ impl<N: Drop> Notes<N> {
         ensures list { OnOk result (self.new ≡ self.old ++ out.old.1 ∷ []) }
         ensures sent { out.new.0 ≡ out.old.0 }
     {
-        self.counts.reserve(1)?;
         let before = self.all.len();
         out.move_notes(&mut self.all)?;
         let Ok(count) = u32::try_from(self.all.len() - before) else {
             self.all.truncate(before);
             return Err(AllocError);
         };
-        self.counts.push_reserved(count);
+        if let Err(fault) = self.counts.push(count) {
+            self.all.truncate(before);
+            return Err(fault);
+        }
         Ok(())
     }
 
@@ -59,7 +157,7 @@ impl<N: Drop> Notes<N> {
         ensures { result ≡ self }
     {
         NoteQueue {
-            counts: VecDeque::from_vec(self.counts),
+            counts: self.counts.into_queue(),
             all: VecDeque::from_vec(self.all),
         }
     }
@@ -68,7 +166,7 @@ impl<N: Drop> Notes<N> {
 /// Notes that are given out step by step.
 #[derive(Drop)]
 pub struct NoteQueue<N> {
-    counts: VecDeque<u32>,
+    counts: CountQueue,
     all: VecDeque<N>,
 }
 
@@ -79,9 +177,9 @@ impl<N> Model for NoteQueue<N> {
 
     ghost use Rattle.actor_threads.specs.Noted.{cut};
 
-    ghost view = { λ s. cut s.counts.items s.all.items };
+    ghost view = { λ s. cut s.counts s.all.items };
 
-    ghost invariant = { λ s. sum s.counts.items ≤ length s.all.items };
+    ghost invariant = { λ s. sum s.counts ≤ length s.all.items };
 }
 
 impl<N: Drop> NoteQueue<N> {
@@ -90,7 +188,7 @@ impl<N: Drop> NoteQueue<N> {
         ensures queue { OnOk result (self.new ≡ without_front self.old) }
         ensures log { OnOk result (log.new.items ≡ log.old.items ++ front_list self.old) }
     {
-        let Some(count) = self.counts.pop_front() else {
+        let Some(count) = self.counts.pop() else {
             return Ok(());
         };
         give(&mut self.all, count, log)

@@ -59,7 +59,8 @@ impl<M: Drop> WayIn<M> {
         }
     }
 
-    fn keeps(&self) -> bool
+    /// Whether something is kept.
+    pub fn keeps(&self) -> bool
         ensures { result ≡ false → self.now.kept ≡ [] }
     {
         self.held.is_some() || !self.kept.is_empty()
@@ -163,6 +164,11 @@ impl<M: Drop> WayOut<M> {
     {
         self.waiting.push_back(message)?;
         Ok(())
+    }
+
+    /// Whether something waits.
+    pub fn waits(&self) -> bool {
+        !self.waiting.is_empty()
     }
 
     /// The send end, and what waits.

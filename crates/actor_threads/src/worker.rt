@@ -7,6 +7,7 @@ use crate::gate::Gate;
 use crate::notes::Notes;
 use crate::ways::{WayIn, WayOut};
 use actor_net::{Actor, Outbox, Stamped};
+use crossbeam_utils::CachePadded;
 use fifo_link::{SendEnd, TakeEnd};
 use flow_filter::NoMemory;
 use std::alloc::Global;
@@ -17,6 +18,9 @@ use std::thread;
 
 /// A round of a worker ends after so many looks in a row that found no step.
 pub const IDLE_LOOKS: u32 = 1000;
+
+// A worker goes on to the next take end after so many messages at most.
+const MOST_IN_ROW: u32 = 32;
 
 /// One node for one round. It owns the node and its ends of the links.
 #[derive(Drop)]
@@ -29,8 +33,15 @@ pub struct Worker<A: Actor> {
     ins: Vec<WayIn<A::Message>>,
     outs: Vec<WayOut<A::Message>>,
     outbox: Outbox<A::Message, A::Note>,
-    // Where the next look at the take ends begins.
+    // Whether something may wait to be sent.
+    unsent: bool,
+    // Whether something may be kept.
+    keeping: bool,
+    // Where the next look at the take ends begins, and how many messages were taken since it went on by itself.
     turn: usize,
+    in_row: u32,
+    // Keeps the workers of two threads out of one line of the processors' memory.
+    apart: CachePadded<()>,
 }
 
 impl<A: Actor> Model for Worker<A> {
@@ -85,7 +96,11 @@ impl<A: Actor> Worker<A> {
             ins,
             outs,
             outbox: Outbox::open(alloc),
+            unsent: false,
+            keeping: true,
             turn: 0,
+            in_row: 0,
+            apart: CachePadded::new(()),
         })
     }
 
@@ -110,13 +125,15 @@ impl<A: Actor> Worker<A> {
         ensures moves { OnOk result (length self.new.steps ≡ length self.old.steps → IsQuiet A.is_ready self.old) }
     {
         let mut idle = 0;
+        let mut moved = false;
         for _ in rt.forever() {
             self.flush(rt);
-            match self.look(rt) {
+            match self.look(rt, moved) {
                 Some((port, message)) => {
                     self.pass(gate);
                     self.step(port, message)?;
                     idle = 0;
+                    moved = true;
                 }
                 None => {
                     idle += 1;
@@ -145,19 +162,31 @@ impl<A: Actor> Worker<A> {
     fn flush<R: Wait>(&mut self, rt: &R)
         ensures { self.new ≡ self.old }
     {
+        if !self.unsent {
+            return;
+        }
+        let mut unsent = false;
         for out in self.outs.iter_mut() {
             out.flush(rt);
+            if out.waits() {
+                unsent = true;
+            }
         }
+        self.unsent = unsent;
     }
 
-    // A message for the next step: first the input and what is kept, and then what the take ends give.
-    fn look<R: Wait>(&mut self, rt: &R) -> Option<(u8, Stamped<A::Message>)>
+    // A message for the next step: first the input and what is kept, and then what the take ends give. Once a step was done,
+    // lists that were found empty aren't looked at.
+    fn look<R: Wait>(&mut self, rt: &R, moved: bool) -> Option<(u8, Stamped<A::Message>)>
         ensures found { MatchOption result (Idled self.old self.new) (λ f. Found A.is_ready self.old self.new f.0 f.1) }
         ensures clock { IfSome result (λ f. self.new.clock < last_clock) }
-        ensures quiet { IfNone result (IsQuiet A.is_ready self.old) }
+        ensures quiet { IfNone result (moved ≡ false → IsQuiet A.is_ready self.old) }
     {
         if self.clock >= u64::MAX {
             return None;
+        }
+        if moved && !self.keeping {
+            return self.look_taken(rt);
         }
         if let Some(found) = self.look_kept() {
             return Some(found);
@@ -174,7 +203,15 @@ impl<A: Actor> Worker<A> {
                 return Some((port as u8, message));
             }
         }
+        self.see_kept();
         None
+    }
+
+    // Finds out whether something is kept.
+    fn see_kept(&mut self)
+        ensures { self.new ≡ self.old }
+    {
+        self.keeping = self.ins.iter().any(|way| way.keeps());
     }
 
     fn next_kept(&mut self, port: usize) -> Option<Stamped<A::Message>>
@@ -224,6 +261,7 @@ impl<A: Actor> Worker<A> {
         for _ in 0..self.ins.len() {
             let port = self.next_turn();
             if let Some(message) = self.next_taken(rt, port) {
+                self.stay(port);
                 return Some((port as u8, message));
             }
         }
@@ -243,6 +281,18 @@ impl<A: Actor> Worker<A> {
         };
         self.turn = port + 1;
         port
+    }
+
+    // Lets the next look begin at a port that gave a message, but for the last of so many.
+    fn stay(&mut self, port: usize)
+        ensures { self.new ≡ self.old }
+    {
+        if self.in_row < MOST_IN_ROW {
+            self.in_row += 1;
+            self.turn = port;
+        } else {
+            self.in_row = 0;
+        }
     }
 
     // The next message from the take end of a port. The input has none.
@@ -270,6 +320,7 @@ impl<A: Actor> Worker<A> {
         ensures { OnOk result (Acted A.stepped self.old self.new port took) }
     {
         let clock = next_clock(self.clock, took.clock);
+        self.unsent = true;
         self.outbox.clear();
         self.node.step(port, took.message, &mut self.outbox)?;
         self.clock = clock;

@@ -1,4 +1,4 @@
-use Rattle.std.proofs.Common.{◌≡◌, ◌<◌, ◌+◌, refl, ◌++◌, ◌∷◌, [], ℕ, suc, sym, ◌∙◌, ap, subst, arith, length, map, slice_index_or, add-one}
+use Rattle.std.proofs.Common.{◌<◌, ◌+◌, refl, sym, ◌∙◌, ap, subst, arith, length, map, slice_index_or, add-one}
 use Rattle.std.proofs.lemmas.List.{length-map}
 use Rattle.actor_threads.specs.Table.{Closed, RowClosed}
 use Rattle.actor_threads.proofs.Cutting.{rest_after}

@@ -1,4 +1,4 @@
-use Rattle.std.proofs.Common.{◌≡◌, ◌<◌, ◌+◌, ◌++◌, ◌∷◌, [], ℕ, sym, ◌∙◌, ap, subst, length, map, length-append}
+use Rattle.std.proofs.Common.{◌+◌, sym, ◌∙◌, ap, subst, length, map, length-append}
 use Rattle.std.proofs.lemmas.List.{length-map, map-append}
 use Rattle.actor_threads.specs.Table.{row_at, RowOpened, AllOpened}
 use Rattle.actor_threads.proofs.Rows.{none_more, all_opened_more}

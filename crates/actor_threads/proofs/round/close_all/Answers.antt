@@ -1,6 +1,6 @@
-use Rattle.std.proofs.Common.{◌≡◌, ◌<◌, ℕ, sym, ◌∙◌, ap, subst, arith, length, map, add-one}
+use Rattle.std.proofs.Common.{◌<◌, sym, ◌∙◌, ap, subst, arith, length, map, add-one}
 use Rattle.std.proofs.lemmas.List.{length-map}
-use Rattle.actor_threads.specs.Table.{row_at, RowClosed, CanClose}
+use Rattle.actor_threads.specs.Table.{RowClosed, CanClose}
 use Rattle.actor_threads.proofs.Cutting.{rest_after}
 use Rattle.actor_threads.proofs.Rows.{mapped_first}
 use Rattle.actor_threads.proofs.Closing.{can_close, left_more, all_closed_more}

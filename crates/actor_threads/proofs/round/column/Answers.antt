@@ -1,4 +1,4 @@
-use Rattle.std.proofs.Common.{◌≡◌, ◌<◌, ◌+◌, ◌*◌, [], ℕ, sym, ◌∙◌, ap, subst, arith, length, length-append, length-set}
+use Rattle.std.proofs.Common.{◌<◌, ◌+◌, ◌*◌, [], ◌∙◌, ap, arith, length, length-append, length-set}
 use Rattle.std.proofs.lemmas.List.{get_or_default}
 use Rattle.actor_threads.specs.Table.{row_at}
 use Rattle.actor_threads.proofs.Columns.{other_column, other_row, lists_more}

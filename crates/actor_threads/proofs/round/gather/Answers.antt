@@ -1,4 +1,4 @@
-use Rattle.std.proofs.Common.{◌≡◌, ◌<◌, [], ◌++◌, sym, ◌∙◌, ap, subst, arith, length, map, slice_set}
+use Rattle.std.proofs.Common.{◌<◌, [], ◌++◌, sym, ◌∙◌, ap, subst, arith, length, map, slice_set}
 use Rattle.std.proofs.lemmas.List.{length-map, get_or_default}
 use Rattle.actor_net.specs.Histories.{dealt}
 use Rattle.actor_net.specs.Merging.{IsMerge}

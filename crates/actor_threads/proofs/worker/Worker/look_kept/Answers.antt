@@ -1,4 +1,4 @@
-use Rattle.std.proofs.Common.{subst, sym, ◌∙◌, below_more, ◌<◌, ℕ, arith}
+use Rattle.std.proofs.Common.{subst, ◌∙◌, below_more, arith}
 use Rattle.actor_threads.specs.Work.{IsQuietAt}
 use Rattle.actor_threads.proofs.worker.Worker.look_kept.Goals as goal
 

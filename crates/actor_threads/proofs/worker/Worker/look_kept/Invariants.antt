@@ -1,4 +1,4 @@
-use Rattle.std.proofs.Common.{◌≡◌, ◌<◌, ◌≤◌, ℕ, length}
+use Rattle.std.proofs.Common.{◌≡◌, ◌<◌, ℕ, length}
 use Rattle.actor_threads.specs.Work.{IsQuietAt}
 use Rattle.actor_threads.proofs.worker.Worker.look_kept.Given as goal
 

@@ -1,4 +1,4 @@
-use Rattle.std.proofs.Common.{subst, ap, arith, ◌<◌, length}
+use Rattle.std.proofs.Common.{subst, sym, ap, arith, ◌<◌, length}
 use Rattle.actor_threads.specs.Work.{Idled, Found}
 use Rattle.actor_threads.proofs.Working.{no_look, idled_then, idled_found}
 use Rattle.actor_threads.proofs.worker.Worker.look_taken.Goals as goal
@@ -11,7 +11,7 @@ loop-init g c = record {
 }
 
 pub returns-in-Some : goal.returns-in-Some
-returns-in-Some g c = idled_found g.A.Actor.is_ready _ _ _ _ _ c.loop.invariant.idled (subst (λ v. Found g.A.Actor.is_ready v c.next_taken.new.self c.next_turn-port.result c.in-Some.message) c.next_turn-port.ensures.same c.in-Some.ensures)
+returns-in-Some g c = subst (λ v. Found g.A.Actor.is_ready c.args.self.now v c.next_turn-port.result c.in-Some.message) (sym c.stay.ensures) (idled_found g.A.Actor.is_ready _ _ _ _ _ c.loop.invariant.idled (subst (λ v. Found g.A.Actor.is_ready v c.next_taken.new.self c.next_turn-port.result c.in-Some.message) c.next_turn-port.ensures.same c.in-Some.ensures))
 
 pub loop-preserved : goal.loop-preserved
 loop-preserved g c = record {

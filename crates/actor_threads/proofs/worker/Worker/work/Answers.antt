@@ -1,5 +1,5 @@
-use Rattle.std.proofs.Common.{◌≡◌, ◌≤◌, refl, sym, subst, ap, ◌∙◌, arith, length, ◌+◌}
-use Rattle.actor_threads.specs.Work.{Worked, Found, Idled}
+use Rattle.std.proofs.Common.{◌≤◌, true≢false, refl, sym, subst, ap, ◌∙◌, arith, length, ◌+◌}
+use Rattle.actor_threads.specs.Work.{Worked}
 use Rattle.actor_threads.proofs.Working.{start, idle, more, longer, still_quiet}
 use Rattle.actor_threads.proofs.worker.Worker.work.Goals as goal
 
@@ -9,6 +9,7 @@ loop-init g c = record {
   worked = start g.A.Actor.is_ready g.A.Actor.stepped _;
   longer = omega arith;
   fresh = λ _ _. refl;
+  moved = λ t. absurd (true≢false (sym t));
   quiet = λ _ z. absurd (omega arith);
 }
 
@@ -23,6 +24,7 @@ loop-preserved-in-Some-look g c =
       worked = more g.A.Actor.is_ready g.A.Actor.stepped _ _ _ _ _ _ worked c.in-Some-look.ensures.found c.in_ok-step-in-Some-look.ensures;
       longer = omega (arith, more_steps);
       fresh = λ _ none. absurd (omega (arith, more_steps, none));
+      moved = λ _. omega (arith, more_steps);
       quiet = λ _ z. absurd (omega arith);
     }
 
@@ -36,11 +38,12 @@ loop-preserved g c =
       worked = idle g.A.Actor.is_ready g.A.Actor.stepped _ _ _ worked idled;
       longer = omega (arith, same, c.loop.invariant.longer);
       fresh = λ z. absurd (omega arith);
-      quiet = λ none _. still_quiet g.A.Actor.is_ready _ _ _ _ c.loop.idle c.loop.invariant.fresh c.loop.invariant.quiet c.flush.ensures idled c.in-None-look.ensures.quiet none;
+      moved = λ t. omega (arith, same, c.loop.invariant.moved t);
+      quiet = λ none _. still_quiet g.A.Actor.is_ready _ _ _ _ c.loop.idle c.loop.moved c.loop.invariant.fresh c.loop.invariant.quiet c.loop.invariant.moved c.flush.ensures idled c.in-None-look.ensures.quiet none;
     }
 
 pub returns-then-idle-ge-IDLE_LOOKS : goal.returns-then-idle-ge-IDLE_LOOKS
 returns-then-idle-ge-IDLE_LOOKS g c = record {
   worked = idle g.A.Actor.is_ready g.A.Actor.stepped _ _ _ (subst (λ v. Worked g.A.Actor.is_ready g.A.Actor.stepped c.args.self.now v) (sym c.flush.ensures) c.loop.invariant.worked) c.in-None-look.ensures.found;
-  moves = λ none. still_quiet g.A.Actor.is_ready _ _ _ _ c.loop.idle c.loop.invariant.fresh c.loop.invariant.quiet c.flush.ensures c.in-None-look.ensures.found c.in-None-look.ensures.quiet none;
+  moves = λ none. still_quiet g.A.Actor.is_ready _ _ _ _ c.loop.idle c.loop.moved c.loop.invariant.fresh c.loop.invariant.quiet c.loop.invariant.moved c.flush.ensures c.in-None-look.ensures.found c.in-None-look.ensures.quiet none;
 }

@@ -1,4 +1,4 @@
-use Rattle.std.proofs.Common.{◌≡◌, ◌<◌, ◌≤◌, length}
+use Rattle.std.proofs.Common.{◌≡◌, ◌<◌, ◌≤◌, true, length}
 use Rattle.actor_threads.specs.Work.{Worked, IsQuiet}
 use Rattle.actor_threads.proofs.worker.Worker.work.Given as goal
 
@@ -8,5 +8,6 @@ invariant-loop g l = record {
   worked : Worked g.A.Actor.is_ready g.A.Actor.stepped l.fn.self l.self;
   longer : length l.fn.self.steps ≤ length l.self.steps;
   fresh : l.idle ≡ 0 → length l.self.steps ≡ length l.fn.self.steps → l.self ≡ l.fn.self;
+  moved : l.moved ≡ true → length l.fn.self.steps < length l.self.steps;
   quiet : length l.self.steps ≡ length l.fn.self.steps → 0 < l.idle → IsQuiet g.A.Actor.is_ready l.fn.self;
 }

@@ -1,7 +1,7 @@
 use Rattle.std.proofs.Common.{rules}
 use Rattle.std.proofs.lemmas.List.Sorted.{answers_always}
 use Rattle.actor_net.specs.Merging.{key_of}
-use Rattle.actor_net.proofs.histories.merge.Goals as goal
+use Rattle.actor_net.proofs.histories.merge_sorted.Goals as goal
 
 pub returns : goal.returns
 returns c = record {
