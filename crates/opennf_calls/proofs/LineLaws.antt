@@ -1,5 +1,5 @@
 -- How what an instance has processed grows with one more packet, and what its report is.
-use Rattle.std.proofs.Common.{◌≡◌, ℕ, ◌+◌, Bool, List, [], ◌∷◌, ◌++◌, length, Some, refl, ap, sym, ◌∙◌, subst, append-nil, append_assoc, codes, decimal}
+use Rattle.std.proofs.Common.{◌≡◌, ℕ, ◌+◌, List, [], ◌∷◌, ◌++◌, length, Some, refl, ap, sym, ◌∙◌, subst, append-nil, append_assoc, codes, decimal}
 use Rattle.std.specs.List.{flat_map}
 use Rattle.std.specs.BTreeMap.{get as live_at, BTreeMap, IsOrdered}
 use Rattle.std.specs.HashMap.{get as kept_at, Updates}
@@ -10,14 +10,14 @@ use Rattle.trace_reader.specs.Records.{AreNumbered}
 use Rattle.conn_tracker.specs.declared.record.TrackRecord.{TrackRecord}
 use Rattle.conn_tracker.specs.declared.state.State.{State}
 use Rattle.conn_tracker.specs.declared.state.State.TheVariants.{Opening, Answered, Established, FinFwd, FinRev, Closed, Reset, Loose, Single, Both}
-use Rattle.conn_tracker.specs.Table.{name_of, number_of, state_of}
+use Rattle.conn_tracker.specs.Table.{name_of, number_of}
 use Rattle.conn_tracker.specs.Text.{output_of, output_text}
 use Rattle.opennf_calls.specs.declared.fold.Fold.{Fold}
 use Rattle.opennf_calls.specs.declared.pages.Lines.{Lines}
 use Rattle.opennf_calls.specs.declared.report.Report.{Report}
 use Rattle.trace_reader.specs.declared.trace.TraceEnd.{TraceEnd}
 use Rattle.opennf_calls.specs.Printed.{IsReady, report_text}
-use Rattle.opennf_calls.specs.Fold.{flow_cmp, flow_eq, unit_of, Kept, AreKept, AreLive, record_after, record_behind, states_behind}
+use Rattle.opennf_calls.specs.Fold.{flow_cmp, flow_eq, unit_of, record_after, record_behind, states_behind}
 use Rattle.opennf_calls.specs.Folded.{HasFolded}
 use Rattle.opennf_calls.specs.Lines.{line_text, lines_from, AreOuts, AreDones}
 use Rattle.opennf_calls.specs.Report.{head_lines, out_line, out_lines, done_line, name_end, state_line, tail_lines, IsReport}
@@ -99,7 +99,14 @@ unfolding IsReport report_text
 report_is here name packets fold end live report has numbered few ordered same ready = (
   live,
   record { ordered = ordered; each = λ unit. same unit ∙ has.kept unit },
-  rw (ready.head, ready.states, ready.tail, has.states,
-      ← outs_are report.outs ready.outs here [] packets 1 numbered, ← dones_are name report.dones ready.dones here [] packets 1 numbered, few)
-  (joined (head_lines end.packets end.skipped end.cut) (out_lines here [] packets) (flat_map (done_line name) packets) (flat_map (state_line name) live.entries) (tail_lines name end.packets)),
+  rw (
+    ready.head,
+    ready.states,
+    ready.tail,
+    has.states,
+    ← outs_are report.outs ready.outs here [] packets 1 numbered,
+    ← dones_are name report.dones ready.dones here [] packets 1 numbered,
+    few,
+  )
+      (joined (head_lines end.packets end.skipped end.cut) (out_lines here [] packets) (flat_map (done_line name) packets) (flat_map (state_line name) live.entries) (tail_lines name end.packets)),
 )

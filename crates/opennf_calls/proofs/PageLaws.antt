@@ -1,12 +1,12 @@
 -- How lines go on a page, and pages one behind another.
-use Rattle.std.proofs.Common.{◌≡◌, ◌≤◌, ◌<◌, ℕ, ◌+◌, ◌-◌, ◌^◌, zero, suc, min, List, [], ◌∷◌, ◌++◌, length, take, drop, Option, None, Some, Result, Ok, Err, OnErr, refl, ap, sym, ◌∙◌, subst, append-nil, append_assoc, length-take, arith, codes, decimal, map, get_or, slice_index_or}
+use Rattle.std.proofs.Common.{◌≡◌, ◌≤◌, ◌<◌, ℕ, ◌+◌, ◌-◌, zero, suc, List, [], ◌∷◌, ◌++◌, length, take, drop, Option, None, Some, Result, Ok, Err, refl, ap, sym, ◌∙◌, subst, append-nil, append_assoc, length-take, arith, codes, decimal, map, get_or, slice_index_or}
 use Rattle.std.proofs.Math.Seq.{take-append-add, take-add}
 use Rattle.std.proofs.Math.ListN.{drop_of_length-le}
 use Rattle.std.proofs.lemmas.List.{take-append-le, take-append-drop, take_more, map-append, length-append}
 use Rattle.std.proofs.KnownBytes.{Appends-trans}
 use Rattle.std.specs.Io.KnownBytes.{Appends}
 use Rattle.nf_io.specs.declared.outside.Role.{Role}
-use Rattle.nf_io.specs.Meaning.{Meaning, Rose, AppendsFront, HasCause}
+use Rattle.nf_io.specs.Meaning.{Meaning, Rose, AppendsFront}
 use Rattle.conn_tracker.specs.declared.state.State.{State}
 use Rattle.conn_tracker.specs.declared.state.State.TheVariants.{Opening, Answered, Established, FinFwd, FinRev, Closed, Reset, Loose, Single, Both}
 use Rattle.conn_tracker.specs.Table.{all_states, name_of, number_of}

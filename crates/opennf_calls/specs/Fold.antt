@@ -1,5 +1,5 @@
 -- What one unmoved instance of the connection tracker makes of a trace. This project's own.
-use Rattle.std.specs.Prelude.{◌≡◌, ◌++◌, Bool, List, [], ◌∷◌, Option, None, Some, filter, fold, IfSome}
+use Rattle.std.specs.Prelude.{◌≡◌, ◌++◌, List, [], ◌∷◌, Option, None, Some, filter, fold, IfSome}
 use Rattle.std.specs.BTreeMap.{get, BTreeMap, IsOrdered}
 use Rattle.std.specs.HashMap as hash
 use Rattle.std.specs.declared.hash.FoldHasher.{FoldHasher}

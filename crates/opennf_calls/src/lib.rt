@@ -7,13 +7,13 @@
 //! canonical text of the script's bytes; every other status has its cause.
 #![tactic(auto)]
 
+mod block;
 pub mod check;
 pub mod complaint;
+mod count;
 pub mod fold;
 pub mod gate;
 pub mod outcome;
-mod block;
-mod count;
 mod pages;
 pub mod report;
 pub mod run;

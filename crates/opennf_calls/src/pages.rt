@@ -125,7 +125,10 @@ impl Lines {
         for state in State::all() {
             ends.push(state_end(*state))?;
         }
-        Ok(Lines { word: b"out ", ends })
+        Ok(Lines {
+            word: b"out ",
+            ends,
+        })
     }
 
     /// The lines that say that the packets were processed at an instance.

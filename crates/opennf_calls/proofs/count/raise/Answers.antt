@@ -1,5 +1,5 @@
 -- Only the last digit changes, or all are written anew.
-use Rattle.std.proofs.Common.{arith, ◌≡◌, ◌<◌, ◌+◌, ◌%◌, ◌++◌, ℕ, List, [], ◌∷◌, decimal, ap, sym, ◌∙◌, append_assoc}
+use Rattle.std.proofs.Common.{arith, ◌≡◌, ◌<◌, ◌+◌, ◌%◌, ◌++◌, [], ◌∷◌, ap, sym, ◌∙◌, append_assoc}
 use Rattle.std.proofs.lemmas.List.{length-append}
 use Rattle.opennf_calls.proofs.Digits.{next_digit}
 use Rattle.opennf_calls.proofs.count.raise.Goals as goal

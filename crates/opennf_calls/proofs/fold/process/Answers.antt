@@ -5,7 +5,6 @@ use Rattle.flow_filter.specs.declared.flow.Flow.{Flow}
 use Rattle.flow_filter.proofs.FlowLaws.{proto-flow_of}
 use Rattle.conn_tracker.specs.declared.record.TrackRecord.{TrackRecord}
 use Rattle.conn_tracker.specs.Table.{stepped, IsRecordOf}
-use Rattle.conn_tracker.specs.Text.{output_of}
 use Rattle.opennf_calls.specs.Fold.{flow_eq, unit_of, record_after}
 use Rattle.opennf_calls.proofs.FoldLaws.{AllFit-Updates, fits_unit, stepped_first, stepped_next}
 use Rattle.opennf_calls.proofs.fold.process.Goals as goal

@@ -1,4 +1,4 @@
-use Rattle.std.proofs.Common.{◌≡◌, ◌++◌, map, take}
+use Rattle.std.proofs.Common.{◌≡◌, map, take}
 use Rattle.conn_tracker.specs.Table.{all_states}
 use Rattle.opennf_calls.specs.Report.{name_end}
 use Rattle.opennf_calls.proofs.pages.Lines.dones.Given as goal

@@ -1,5 +1,5 @@
 -- The block stands behind the text.
-use Rattle.std.proofs.Common.{arith, ◌≡◌, ◌≤◌, ◌+◌, ◌++◌, ℕ, List, length, take, ap, ◌∙◌}
+use Rattle.std.proofs.Common.{arith, ◌≤◌, ◌+◌, ◌++◌, ℕ, List, length, take, ap, ◌∙◌}
 use Rattle.opennf_calls.proofs.PageLaws.{put_written}
 use Rattle.opennf_calls.proofs.pages.Page.put.Goals as goal
 
