@@ -1,6 +1,6 @@
 -- How lines go on a page, and pages one behind another.
 use Rattle.std.proofs.Common.{◌≡◌, ◌≤◌, ◌<◌, ℕ, ◌+◌, ◌-◌, zero, suc, List, [], ◌∷◌, ◌++◌, length, take, drop, Option, None, Some, Result, Ok, Err, refl, ap, sym, ◌∙◌, subst, append-nil, append_assoc, length-take, arith, codes, decimal, map, get_or, slice_index_or}
-use Rattle.std.proofs.Math.Seq.{take-append-add, take-add}
+use Rattle.std.proofs.Math.Seq.{take-append-add, take-add, take-length}
 use Rattle.std.proofs.Math.ListN.{drop_of_length-le}
 use Rattle.std.proofs.lemmas.List.{take-append-le, take-append-drop, take_more, map-append, length-append}
 use Rattle.std.proofs.KnownBytes.{Appends-trans}
@@ -157,3 +157,18 @@ put_written old rest place text behind used n len within fits enough is =
     take-take (used + n) len (take used old ++ (place ++ rest) ++ behind) enough
     ∙ ap (take (used + n)) (append_assoc (take used old) (place ++ rest) behind ∙ ap (λ l. take used old ++ l) (append_assoc place rest behind))
     ∙ put_text old (rest ++ behind) place text used n within fits is
+
+-- a text that has a last byte
+split_last : (xs : List ℕ) → 0 < length xs → (last : ℕ) × (xs ≡ take (length xs - 1) xs ++ last ∷ [])
+split_last xs some =
+    let at : length xs ≡ length xs - 1 + 1 = omega (arith, some) in
+    (get_or xs (length xs - 1) 0, sym (take-length xs) ∙ ap (λ n. take n xs) at ∙ take_more xs (length xs - 1) 0 (omega (arith, some)))
+
+-- a block, and another last byte
+pub put_last : (old block after : List ℕ) (byte : ℕ) → 0 < length block
+    → ((front : List ℕ) (last : ℕ) → old ++ block ≡ front ++ last ∷ [] → after ≡ front ++ byte ∷ [])
+    → after ≡ old ++ (take (length block - 1) block ++ byte ∷ [])
+put_last old block after byte some set =
+    let split = split_last block some in
+    let front = take (length block - 1) block in
+    set (old ++ front) split.0 (ap (λ l. old ++ l) split.1 ∙ sym (append_assoc old front (split.0 ∷ []))) ∙ append_assoc old front (byte ∷ [])

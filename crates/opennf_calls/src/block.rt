@@ -1,5 +1,5 @@
 //! Short texts in blocks of one size. A block is copied as a whole, which takes a step or two, and not a loop.
-ghost use Rattle.std.specs.Prelude.{◌≡◌, ◌<◌, ◌≤◌, ◌++◌, ℕ, List, [], ◌∷◌, length, take, codes, decimal};
+ghost use Rattle.std.specs.Prelude.{◌≡◌, ◌≤◌, ◌++◌, length, take, codes, decimal};
 
 use itoa::Buffer;
 use std::marker::Model;
@@ -53,14 +53,6 @@ impl Block {
         bytes[..word.len()].copy_from_slice(word);
         bytes[word.len()..len].copy_from_slice(digits);
         Block { bytes, len }
-    }
-
-    /// Puts another byte in place of the last.
-    pub fn set_last(&mut self, byte: u8)
-        requires { 0 < length self.old }
-        ensures { (front : List ℕ) (last : ℕ) → self.old ≡ front ++ last ∷ [] → self.new ≡ front ++ byte ∷ [] }
-    {
-        self.bytes[self.len - 1] = byte;
     }
 
     /// The length of the text.

@@ -1,16 +1,20 @@
 //! A word and a number that counts up, as text.
-ghost use Rattle.std.specs.Prelude.{◌≡◌, ◌<◌, ◌≤◌, ◌+◌, ◌^◌, ◌++◌, length, decimal};
+ghost use Rattle.std.specs.Prelude.{◌≡◌, ◌<◌, ◌≤◌, ◌+◌, ◌-◌, ◌%◌, ◌^◌, ◌++◌, [], ◌∷◌, length, take, decimal};
 
 use crate::block::Block;
 
-/// A word and a number behind it, in digits.
+/// A word and a number behind it, in digits. The block has all of the text but the last digit, and some digit in its place:
+/// so it seldom changes while the number counts up.
 #[derive(Drop)]
 pub struct Count {
     word: &'static [u8],
     number: u64,
+    digit: u8,
     block: Block,
     ghost short: { length word.now ≤ 8 },
-    ghost text: { block ≡ word.now ++ decimal number },
+    ghost some: { 0 < length block },
+    ghost last: { digit ≡ number % 10 },
+    ghost text: { take (length block - 1) block ++ (48 + number % 10) ∷ [] ≡ word.now ++ decimal number },
 }
 
 impl Count {
@@ -23,15 +27,25 @@ impl Count {
         Count {
             word,
             number,
+            digit: (number % 10) as u8,
             block: Block::numbered(word, number),
         }
     }
 
-    /// The text: the word, and then the number.
+    /// All of the text but the last digit, and some byte behind it.
     pub fn block(&self) -> &Block
-        ensures { result.now ≡ self.now.word.now ++ decimal self.now.number }
+        ensures some { 0 < length result.now }
+        ensures text { take (length result.now - 1) result.now ++ (48 + self.now.digit) ∷ [] ≡ self.now.word.now ++ decimal self.now.number }
     {
         &self.block
+    }
+
+    /// The last digit.
+    pub fn digit(&self) -> u8
+        ensures value { result ≡ self.now.digit }
+        ensures bound { result < 10 }
+    {
+        self.digit
     }
 
     /// Counts up.
@@ -40,23 +54,13 @@ impl Count {
         ensures word { self.new.word.now ≡ self.old.word.now }
         ensures number { self.new.number ≡ self.old.number + 1 }
     {
-        raise(&mut self.block, self.word, self.number);
-        self.number += 1;
+        let next = self.number + 1;
+        let digit = (next % 10) as u8;
+        if digit == 0 {
+            *self = Count::from(self.word, next);
+            return;
+        }
+        self.number = next;
+        self.digit = digit;
     }
-}
-
-/// Makes the block of a word and a number that of the word and the next number.
-fn raise(block: &mut Block, word: &[u8], number: u64)
-    requires short { length word.now ≤ 8 }
-    requires text { block.old ≡ word.now ++ decimal number }
-    requires bound { number + 1 < 2 ^ 64 }
-    ensures { block.new ≡ word.now ++ decimal (number + 1) }
-{
-    let next = number + 1;
-    let digit = (next % 10) as u8;
-    if digit == 0 {
-        *block = Block::numbered(word, next);
-        return;
-    }
-    block.set_last(b'0' + digit);
 }

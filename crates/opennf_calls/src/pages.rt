@@ -1,5 +1,5 @@
 //! The lines of the packets, printed a page at a time. A page is made before anything is written, and takes no more memory.
-ghost use Rattle.std.specs.Prelude.{◌≡◌, ◌<◌, ◌≤◌, ◌+◌, ◌^◌, ◌++◌, codes, length, vec_len, IfOk};
+ghost use Rattle.std.specs.Prelude.{◌≡◌, ◌<◌, ◌≤◌, ◌+◌, ◌^◌, ◌++◌, ℕ, List, [], ◌∷◌, codes, decimal, length, vec_len, IfOk};
 ghost use Rattle.conn_tracker.specs.Table.{name_of};
 
 use crate::block::{BLOCK, Block};
@@ -40,11 +40,32 @@ impl Page {
     fn put(&mut self, block: &Block)
         requires room { self.old.used + 32 ≤ 256000 }
         ensures text { page_text self.new ≡ page_text self.old ++ block.now }
-        ensures used { self.new.used ≤ self.old.used + 32 }
+        ensures used { self.new.used ≡ self.old.used + length block.now }
+        ensures bound { self.new.used ≤ self.old.used + 32 }
     {
         let end = self.used + BLOCK;
         block.copy_to(&mut self.bytes[self.used..end]);
         self.used += block.len();
+    }
+
+    /// Puts another byte in place of the text's last.
+    fn set_last(&mut self, byte: u8)
+        requires { 0 < self.old.used }
+        ensures text { (front : List ℕ) (last : ℕ) → page_text self.old ≡ front ++ last ∷ [] → page_text self.new ≡ front ++ byte ∷ [] }
+        ensures used { self.new.used ≡ self.old.used }
+    {
+        self.bytes[self.used - 1] = byte;
+    }
+
+    /// Puts a word and a number behind the text. The last digit goes to the page alone, since a block that was written to a
+    /// moment ago is slow to copy.
+    fn put_count(&mut self, count: &Count)
+        requires { self.old.used + 32 ≤ 256000 }
+        ensures text { page_text self.new ≡ page_text self.old ++ (count.now.word.now ++ decimal count.now.number) }
+        ensures used { self.new.used ≤ self.old.used + 32 }
+    {
+        self.put(count.block());
+        self.set_last(b'0' + count.digit());
     }
 
     /// Puts the line of a packet behind the text.
@@ -55,7 +76,7 @@ impl Page {
         ensures text { page_text self.new ≡ page_text self.old ++ line_text lines.now count.now.number state }
         ensures used { self.new.used ≤ self.old.used + 64 }
     {
-        self.put(count.block());
+        self.put_count(count);
         if let Some(end) = lines.ends.get(usize::from(state.number())) {
             self.put(end);
         }
