@@ -2,7 +2,7 @@ ghost use Rattle.std.specs.Prelude.{◌==◌, ◌-◌, ◌<◌, true, if◌then�
 
 use super::*;
 use crate::round::seat_all;
-use actor_net::{Actor, Outbox, World, replay};
+use actor_net::{Actor, Choice, Outbox, World, replay};
 use flow_filter::NoMemory;
 use std::alloc::Global;
 use std::sync::atomic::{AtomicU64, Ordering};
@@ -117,10 +117,23 @@ impl Gate for Meeting {
     }
 }
 
+/// A world of three chatting nodes in which so many messages wait for each of nodes 1 and 2, and none for node 0.
+fn crowded(alloc: Global, items: usize) -> Result<World<Chatter>, Fail> {
+    let mut world = chat(alloc, 3, items, 1)?;
+    for _ in 0..items {
+        world
+            .take(Choice { node: 0, port: 0 })
+            .ok()
+            .ok_or("no item")?;
+    }
+    Ok(world)
+}
+
+// Both workers have messages from the start, and so many that neither is through before the other begins.
 #[test]
 fn two_workers_are_in_a_pass_at_once(rt: HostRuntime) -> Result<(), Fail> {
     let gate = Meeting::open();
-    let world = chat(rt.alloc(), 3, 64, 1)?;
+    let world = crowded(rt.alloc(), 1024)?;
     let (_end, choices) = run_threads(&rt, rt.alloc(), world, &gate)?;
     assert_eq!(rt; gate.met.load(Ordering::SeqCst), 1);
     assert_eq!(rt;
