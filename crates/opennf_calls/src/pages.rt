@@ -31,7 +31,9 @@ impl Page {
     ghost use Rattle.opennf_calls.specs.Writing.{Wrote};
 
     /// An empty page.
-    pub fn open(alloc: Global) -> Result<Page, NoMemory> {
+    pub fn open(alloc: Global) -> Result<Page, NoMemory>
+        ensures { IfOk result (λ page. page_text page ≡ []) }
+    {
         let bytes = Vec::from_elem(alloc, 0, PAGE_LINES * LONGEST_LINE)?;
         Ok(Page { bytes, used: 0 })
     }
