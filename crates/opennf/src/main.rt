@@ -2,8 +2,9 @@
 //! it ends with the number of the status.
 #![tactic(auto)]
 
+use actor_threads::OpenGate;
 use nf_io::FileOutside;
-use opennf_calls::{OpenGate, opennf_top};
+use opennf_calls::opennf_top;
 use std::env;
 use std::env::Env;
 use std::process::ExitCode;

@@ -12,7 +12,6 @@ pub mod check;
 pub mod complaint;
 mod count;
 pub mod fold;
-pub mod gate;
 pub mod outcome;
 mod pages;
 pub mod report;
@@ -20,8 +19,7 @@ pub mod run;
 pub mod status;
 pub mod top;
 
-pub use gate::{Gate, OpenGate};
-pub use outcome::{Choice, Choices, Outcome};
+pub use outcome::Outcome;
 pub use status::{Status, TraceKind};
 pub use top::{opennf_calm, opennf_top};
 

@@ -4,9 +4,10 @@ ghost use Rattle.command_words.specs.Plan.{plan_of};
 ghost use Rattle.opennf_calls.specs.Outcome.{HasOutcome};
 
 use crate::complaint::line;
-use crate::gate::Gate;
-use crate::outcome::{Choices, Outcome};
+use crate::outcome::Outcome;
 use crate::run::{perform, put};
+use actor_net::Choices;
+use actor_threads::Gate;
 use nf_io::{Outside, Role};
 use std::alloc::Global;
 use std::sync::Wait;
