@@ -8,8 +8,8 @@ use Rattle.flow_filter.specs.Name.{has_twice, is_name}
 use Rattle.flow_filter.specs.Reading.{cut, number_of, address_of, prefix_of}
 use Rattle.nf_function.specs.declared.kind.Kind.{Kind}
 use Rattle.nf_function.specs.declared.kind.Kind.TheVariants.{Conntrack, Nat, Monitor}
-use Rattle.command_words.specs.declared.request.Schedule.{Schedule}
-use Rattle.command_words.specs.declared.request.Schedule.TheVariants.{First, Last, Number}
+use Rattle.actor_net.specs.declared.schedule.Schedule.{Schedule}
+use Rattle.actor_net.specs.declared.schedule.Schedule.TheVariants.{First, Last, Number}
 use Rattle.command_words.specs.Grammar.{Given, read_words, sim_app, check_app}
 
 -- go on with what is there

@@ -12,5 +12,5 @@ pub mod values;
 pub mod words;
 
 pub use fault::WordsFault;
-pub use request::{Checking, Instances, Request, Schedule, Simulation};
+pub use request::{Checking, Instances, Request, Simulation};
 pub use words::read_words;

@@ -1,14 +1,6 @@
+use actor_net::Schedule;
 use flow_filter::{Name, Site};
 use nf_function::Kind;
-
-/// How a simulated run picks its next step.
-#[derive(Clone, Copy, Debug, PartialEq, Eq)]
-pub enum Schedule {
-    First,
-    Last,
-    /// By the generator that begins with this number.
-    Number(u64),
-}
 
 /// The instances of a run, each with how many live records it takes in by moves.
 #[derive(Debug, Drop)]
@@ -25,6 +17,7 @@ pub struct Simulation<'a> {
     pub site: Site,
     /// How many packets may be under way.
     pub window: u32,
+    /// How the run picks its next step.
     pub schedule: Schedule,
     /// The capture's file.
     pub trace: &'a str,

@@ -6,7 +6,8 @@ ghost use Rattle.flow_filter.specs.Reading.{block, cut, number_of};
 ghost use Rattle.command_words.specs.Plan.{function_of, instance_of, with_limit, all_instances, instances_of, inside_of, outside_of, window_of, schedule_of, file_of, file_if};
 ghost use Rattle.command_words.specs.RequestViews.{instances_view};
 
-use crate::request::{Instances, Schedule};
+use crate::request::Instances;
+use actor_net::Schedule;
 use flow_filter::name::has_twice;
 use flow_filter::reading::{address, cut, first_piece, number, prefix};
 use flow_filter::{Name, NoMemory, Prefix, Site};

@@ -1,11 +1,12 @@
 -- The lines of the report. This project's own format.
-use Rattle.std.specs.Prelude.{ℕ, ◌≡◌, ◌==◌, ◌++◌, List, [], ◌∷◌, Bool, true, false, if◌then◌else◌, codes, decimal, length}
+use Rattle.std.specs.Prelude.{ℕ, ◌≡◌, ◌++◌, List, [], ◌∷◌, Bool, true, false, codes, decimal, length}
 use Rattle.std.specs.List.{flat_map}
 use Rattle.std.specs.BTreeMap.{BTreeMap}
 use Rattle.flow_filter.specs.declared.flow.Flow.{Flow}
 use Rattle.flow_filter.specs.declared.packet.Packet.{Packet}
 use Rattle.flow_filter.specs.declared.site.Site.{Site}
 use Rattle.flow_filter.specs.Address.{address_text}
+use Rattle.flow_filter.specs.FilterText.{protocol_text}
 use Rattle.trace_reader.specs.declared.trace.Trace.{Trace}
 use Rattle.conn_tracker.specs.declared.record.TrackRecord.{TrackRecord}
 use Rattle.nf_function.specs.declared.output.Output.{Output}
@@ -47,10 +48,6 @@ name_end name = codes " " ++ name ++ codes "\n"
 -- `done N INST`
 unfoldable pub done_line : List ℕ → Packet → List ℕ
 done_line name p = codes "done " ++ decimal p.number ++ name_end name
-
--- `tcp` or `udp`
-abbrev pub protocol_text : ℕ → List ℕ
-protocol_text proto = if proto == 6 then codes "tcp" else codes "udp"
 
 -- `A.B.C.D:PORT`
 abbrev pub end_point_text : ℕ → ℕ → List ℕ

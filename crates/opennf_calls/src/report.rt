@@ -2,8 +2,9 @@
 ghost use Rattle.std.specs.Prelude.{◌≡◌, ◌++◌, OnOk, IfOk};
 ghost use Rattle.std.specs.List.{flat_map};
 ghost use Rattle.nf_io.specs.declared.outside.Role.TheVariants.{Report as ReportRole};
+ghost use Rattle.flow_filter.specs.FilterText.{protocol_text};
 ghost use Rattle.nf_io.specs.Meaning.{CanWrite};
-ghost use Rattle.opennf_calls.specs.Report.{head_lines, trace_line, counts_text, end_text, end_point_text, protocol_text, unit_text, state_line, tail_lines};
+ghost use Rattle.opennf_calls.specs.Report.{head_lines, trace_line, counts_text, end_text, end_point_text, unit_text, state_line, tail_lines};
 ghost use Rattle.opennf_calls.specs.Writing.{Wrote};
 
 use crate::fold::Live;
