@@ -2,7 +2,7 @@ ghost use Rattle.std.specs.Prelude.{◌≡◌, ◌++◌, ℕ, Bool, OnOk};
 ghost use Rattle.actor_net.specs.Network.{Stepped};
 
 use super::outbox::Outbox;
-use flow_filter::NoMemory;
+use basics::NoMemory;
 
 /// A node that takes one message at a time.
 pub trait Actor: Drop {

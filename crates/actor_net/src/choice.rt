@@ -1,6 +1,6 @@
 ghost use Rattle.std.specs.Prelude.{◌≡◌, ◌<◌, ◌+◌, ◌*◌};
 
-use flow_filter::Sequence;
+use basics::Sequence;
 
 /// Which message is taken next: the node that takes it, and the port that it comes from. A port is the number of the
 /// sending node, and port 0 of node 0 is the input.

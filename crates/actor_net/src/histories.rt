@@ -3,7 +3,7 @@ ghost use Rattle.actor_net.specs.Merging.{IsMerge, marks_of, all_marks as all_ma
 
 use super::choice::{Choice, Choices};
 use super::fronts::{merge_fronts, nodes_rise};
-use flow_filter::{NoMemory, Sequence};
+use basics::{NoMemory, Sequence};
 use std::alloc::Global;
 
 /// The steps of one node, each a clock and a port.

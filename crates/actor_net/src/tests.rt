@@ -1,5 +1,5 @@
 use super::*;
-use flow_filter::{NoMemory, Sequence};
+use basics::{NoMemory, Sequence};
 use std::alloc::Global;
 use std::test::Fail;
 

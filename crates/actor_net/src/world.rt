@@ -7,7 +7,7 @@ use super::actor::Actor;
 use super::choice::Choice;
 use super::link::Link;
 use super::outbox::Outbox;
-use flow_filter::{NoMemory, Sequence};
+use basics::{NoMemory, Sequence};
 use std::alloc::{AllocError, AllocFailed, Global};
 use std::marker::Model;
 use thiserror::Error;

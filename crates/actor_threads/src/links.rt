@@ -6,7 +6,7 @@ ghost use Rattle.actor_threads.specs.Table.{row_at, RowOpened, AllOpened, Closed
 use crate::ways::{WayIn, WayOut};
 use actor_net::Stamped;
 use fifo_link::{Link, SendEnd, TakeEnd, close};
-use flow_filter::{NoMemory, Sequence};
+use basics::{NoMemory, Sequence};
 use std::alloc::Global;
 use std::collections::VecDeque;
 use std::sync::Wait;

@@ -3,7 +3,7 @@ ghost use Rattle.std.specs.Prelude.{◌≡◌, ◌≤◌, ◌+◌, [], ◌∷◌
 ghost use Rattle.actor_net.specs.Histories.{without_front, front_list};
 
 use actor_net::Outbox;
-use flow_filter::NoMemory;
+use basics::NoMemory;
 use std::alloc::{AllocError, Global};
 use std::collections::VecDeque;
 use std::marker::Model;

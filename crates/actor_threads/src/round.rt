@@ -15,7 +15,7 @@ use crate::ways::{WayIn, WayOut};
 use crate::worker::Worker;
 use actor_net::{Actor, Choice, Choices, History, Parts, World, merge};
 use fifo_link::{SendEnd, TakeEnd};
-use flow_filter::{NoMemory, Sequence};
+use basics::{NoMemory, Sequence};
 use std::alloc::{AllocError, Global};
 use std::collections::VecDeque;
 use std::sync::Wait;

@@ -3,7 +3,7 @@ ghost use Rattle.std.specs.Prelude.{◌==◌, ◌-◌, ◌<◌, true, if◌then�
 use super::*;
 use crate::round::seat_all;
 use actor_net::{Actor, Choice, Outbox, World, replay};
-use flow_filter::NoMemory;
+use basics::NoMemory;
 use std::alloc::Global;
 use std::sync::atomic::{AtomicU64, Ordering};
 use std::test::Fail;

@@ -7,7 +7,7 @@ ghost use Rattle.actor_net.specs.declared.stamped.Stamped.{Stamped};
 
 use actor_net::Stamped;
 use fifo_link::{Full, SendEnd, TakeEnd};
-use flow_filter::NoMemory;
+use basics::NoMemory;
 use std::alloc::Global;
 use std::collections::VecDeque;
 use std::marker::Model;

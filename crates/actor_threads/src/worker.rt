@@ -9,7 +9,7 @@ use crate::ways::{WayIn, WayOut};
 use actor_net::{Actor, Outbox, Stamped};
 use crossbeam_utils::CachePadded;
 use fifo_link::{SendEnd, TakeEnd};
-use flow_filter::NoMemory;
+use basics::NoMemory;
 use std::alloc::Global;
 use std::collections::VecDeque;
 use std::marker::Model;

@@ -1,21 +1,18 @@
 -- What the words of a command line ask for. This project's own grammar; numbers are decimal without leading zeros.
-use Rattle.std.specs.Prelude.{ℕ, Bool, true, false, not, ◌&&◌, ◌==◌, nat_le, if◌then◌else◌, List, [], ◌∷◌, length, Option, None, Some, is_some, is_none, option_map, option_and_then, codes}
+use Rattle.std.specs.Prelude.{ℕ, Bool, true, false, not, ◌&&◌, ◌==◌, nat_le, if◌then◌else◌, List, [], ◌∷◌, length, Option, None, Some, is_some, is_none, option_map, codes}
 use Rattle.std.specs.List.{slice_split}
 use Rattle.std.specs.Str.{bytes_eq}
 use Rattle.clap.specs.Words.{Text}
 use Rattle.flow_filter.specs.Block.{in_block}
 use Rattle.flow_filter.specs.Name.{has_twice, is_name}
-use Rattle.flow_filter.specs.Reading.{cut, number_of, address_of, prefix_of}
+use Rattle.basics.specs.Options.{◌>>=◌}
+use Rattle.basics.specs.Parsing.{split_once, parse_number}
+use Rattle.flow_filter.specs.Reading.{address_of, prefix_of}
 use Rattle.nf_function.specs.declared.kind.Kind.{Kind}
 use Rattle.nf_function.specs.declared.kind.Kind.TheVariants.{Conntrack, Nat, Monitor}
 use Rattle.actor_net.specs.declared.schedule.Schedule.{Schedule}
 use Rattle.actor_net.specs.declared.schedule.Schedule.TheVariants.{First, Last, Number}
 use Rattle.command_words.specs.Grammar.{Given, read_words, sim_app, check_app}
-
--- go on with what is there
-infixl 10 ◌>>=◌
-abbrev ◌>>=◌ : {A B : Type 0} → Option A → (A → Option B) → Option B
-o >>= f = option_and_then f o
 
 -- only where the test is true
 abbrev pub only : {A : Type 0} → Bool → Option A → Option A
@@ -64,11 +61,11 @@ function_of text =
 -- the name and the text of the limit, if there is one
 abbrev pub with_limit : Text → Option Text → Option Instance
 with_limit name None = only (is_name name) (Some (name, 1000000))
-with_limit name (Some text) = only (is_name name) (option_map (λ limit. (name, limit)) (number_of 1000000 text))
+with_limit name (Some text) = only (is_name name) (option_map (λ limit. (name, limit)) (parse_number 1000000 text))
 
 -- `NAME` or `NAME:LIMIT`
 unfoldable pub instance_of : Text → Option Instance
-instance_of text = parts (cut 58 text)
+instance_of text = parts (split_once 58 text)
   where
     parts : Option (Text × Text) → Option Instance
     parts None = with_limit text None
@@ -86,7 +83,7 @@ instances_of text = all_instances (slice_split (λ b. b == 44) text) >>= λ i.
 
 -- PREFIX: `A.B.C.D/L`
 unfoldable pub inside_of : Text → Option (ℕ × ℕ)
-inside_of text = only (is_some (cut 47 text)) (prefix_of text)
+inside_of text = only (is_some (split_once 47 text)) (prefix_of text)
 
 -- the outside address: the translator needs one, and a /24 that doesn't hold it; the others have none
 abbrev pub outside_of : Kind → ℕ × ℕ → Option Text → Option (Option ℕ)
@@ -101,7 +98,7 @@ outside_of Monitor inside (Some text) = None
 -- W: 1 to 4096, and 256 where it isn't given
 unfoldable pub window_of : Option Text → Option ℕ
 window_of None = Some 256
-window_of (Some text) = number_of 4096 text >>= λ window. only (nat_le 1 window) (Some window)
+window_of (Some text) = parse_number 4096 text >>= λ window. only (nat_le 1 window) (Some window)
 
 -- `first`, `last` or a number; `first` where it isn't given
 unfoldable pub schedule_of : Option Text → Option Schedule
@@ -109,7 +106,7 @@ schedule_of None = Some First
 schedule_of (Some text) =
     if bytes_eq text (codes "first") then Some First
     else if bytes_eq text (codes "last") then Some Last
-    else option_map Number (number_of 18446744073709551615 text)
+    else option_map Number (parse_number 18446744073709551615 text)
 
 -- a file's name isn't empty
 abbrev pub file_of : Text → Option Text

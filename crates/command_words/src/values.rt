@@ -2,14 +2,16 @@ ghost use Rattle.std.specs.Prelude.{◌≡◌, if◌then◌else◌, Some, None, 
 ghost use Rattle.std.specs.List.{slice_split};
 ghost use Rattle.flow_filter.specs.Block.{in_block};
 ghost use Rattle.flow_filter.specs.Name.{is_name};
-ghost use Rattle.flow_filter.specs.Reading.{block, cut, number_of};
+ghost use Rattle.basics.specs.Parsing.{split_once, parse_number};
+ghost use Rattle.flow_filter.specs.Reading.{block};
 ghost use Rattle.command_words.specs.Plan.{function_of, instance_of, with_limit, all_instances, instances_of, inside_of, outside_of, window_of, schedule_of, file_of, file_if};
 ghost use Rattle.command_words.specs.RequestViews.{instances_view};
 
 use crate::request::Instances;
 use actor_net::Schedule;
 use flow_filter::name::has_twice;
-use flow_filter::reading::{address, cut, first_piece, number, prefix};
+use basics::parsing::{first_piece, parse_number, split_once};
+use flow_filter::reading::{address, prefix};
 use flow_filter::{Name, NoMemory, Prefix, Site};
 use nf_function::Kind;
 use std::alloc::Global;
@@ -41,7 +43,7 @@ pub fn function_of(text: Option<&str>) -> Option<Kind>
 fn instance_of(alloc: Global, text: &[u8]) -> Result<Option<(Name, u32)>, NoMemory>
     ensures { IfOk result (λ found. found ≡ instance_of text.now) }
 {
-    match cut(text, b':') {
+    match split_once(text, b':') {
         None => named(alloc, text, Some(MOST_RECORDS)),
         Some((name, limit)) => named(alloc, name, limit_of(limit)),
     }
@@ -49,9 +51,9 @@ fn instance_of(alloc: Global, text: &[u8]) -> Result<Option<(Name, u32)>, NoMemo
 
 /// The limit that the text spells.
 fn limit_of(text: &[u8]) -> Option<u32>
-    ensures { result ≡ number_of 1000000 text.now }
+    ensures { result ≡ parse_number 1000000 text.now }
 {
-    let limit = number(text, 1_000_000)?;
+    let limit = parse_number(text, 1_000_000)?;
     Some(limit as u32)
 }
 
@@ -111,7 +113,7 @@ pub fn inside_of(text: Option<&str>) -> Option<Prefix>
     ensures { option_map block result ≡ option_and_then inside_of (option_map (λ t. t.now) text.entry) }
 {
     let text = text?.as_bytes();
-    cut(text, b'/')?;
+    split_once(text, b'/')?;
     prefix(text)
 }
 
@@ -154,7 +156,7 @@ pub fn window_of(text: Option<&str>) -> Option<u32>
     match text {
         None => Some(WINDOW),
         Some(text) => {
-            let window = number(text.as_bytes(), 4096)?;
+            let window = parse_number(text.as_bytes(), 4096)?;
             if 1 <= window {
                 Some(window as u32)
             } else {
@@ -185,7 +187,7 @@ fn named_schedule(text: &str) -> Option<Schedule>
     } else if text == "last" {
         Some(Schedule::Last)
     } else {
-        number(text.as_bytes(), u64::MAX).map(Schedule::Number)
+        parse_number(text.as_bytes(), u64::MAX).map(Schedule::Number)
     }
 }
 

@@ -3,7 +3,7 @@ ghost use Rattle.std.specs.Prelude.{◌≡◌, ◌==◌, ◌<◌, ◌≤◌, ◌
 ghost use Rattle.core_speed.specs.Worlds.{reach_of, reaches_below};
 
 use actor_net::{Actor, Outbox, World};
-use flow_filter::NoMemory;
+use basics::NoMemory;
 use std::alloc::Global;
 
 /// How the nodes send to each other.

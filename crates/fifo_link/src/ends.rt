@@ -7,7 +7,7 @@ ghost use Rattle.crossbeam_queue.specs.Passes.{view, IsPassOf, ruled_capacity};
 use crate::rule::{Drains, InOrder, Log, Roles, Sends, Takes};
 use actor_net::Stamped;
 use crossbeam_queue::{Pass, RuledArrayQueue};
-use flow_filter::NoMemory;
+use basics::NoMemory;
 use std::alloc::{AllocError, Global};
 use std::marker::{Model, PhantomData};
 use std::sync::{Arc, Wait};

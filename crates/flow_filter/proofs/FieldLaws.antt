@@ -6,7 +6,7 @@ use Rattle.std.proofs.lemmas.Bool.{eqb-true, eq-eqb, eqb-false, ne_eqb, leb-true
 use Rattle.flow_filter.specs.declared.prefix.Prefix.{Prefix}
 use Rattle.flow_filter.specs.Block.{in_block}
 use Rattle.flow_filter.specs.Filter.{holds, agrees, meet_number, meet_prefix, longer, covers_number, covers_prefix}
-use Rattle.flow_filter.proofs.Bools.{not_both, absorbed_left, absorbed_right, and_true, true-not-false}
+use Rattle.basics.proofs.BoolLemmas.{not_both, absorbed_left, absorbed_right, and_true, true-not-false}
 use Rattle.flow_filter.proofs.BlockLaws.{block_inside, block_own, block_whole, far_same, far_other, far_small}
 
 -- what the meet of one field says: nothing agrees with both, or a field that agrees exactly with what both agree with, and a value

@@ -4,8 +4,9 @@ use Rattle.std.specs.Prelude.{nat_eq, IfSome, OnSome, IfNone}
 use Rattle.flow_filter.specs.declared.prefix.Prefix.{Prefix}
 use Rattle.flow_filter.specs.declared.flow.Flow.{Flow}
 use Rattle.flow_filter.specs.declared.filter.Filter.{Filter}
-use Rattle.flow_filter.specs.Filter.{holds, agrees, matches, meet, covers, covers_number, covers_prefix, IsFlow, IsFilter, Meet, IsMeet, Covers, ◌>>=◌}
-use Rattle.flow_filter.proofs.Bools.{and_fields, fields_both, true-not-false, true_unless, Five, five_true, true_five}
+use Rattle.basics.specs.Options.{◌>>=◌}
+use Rattle.flow_filter.specs.Filter.{holds, agrees, matches, meet, covers, covers_number, covers_prefix, IsFlow, IsFilter, Meet, IsMeet, Covers}
+use Rattle.basics.proofs.BoolLemmas.{and_fields, fields_both, true-not-false, true_unless, Five, five_true, true_five}
 use Rattle.flow_filter.proofs.FieldLaws.{MeetsField, number_meets, prefix_meets, CoversField, number_covers, prefix_covers}
 
 -- what the meet of two filters says

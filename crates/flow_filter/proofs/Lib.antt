@@ -1,15 +1,11 @@
 pub mod FlowLaws
 pub mod SiteLaws
-pub mod Bools
 pub mod BlockLaws
 pub mod FieldLaws
 pub mod FilterLaws
-pub mod CutLaws
-pub mod NumberLaws
 pub mod FieldsOfText
 pub mod PiecesLaws
 pub mod ReadAgain
 pub mod ParseAgain
 pub mod Printable
-pub mod LeftToRead
 pub mod Twice

@@ -13,8 +13,9 @@ use Rattle.flow_filter.specs.declared.filter.Filter.{Filter}
 use Rattle.flow_filter.specs.Filter.{IsFilter}
 use Rattle.flow_filter.specs.Reading.{block}
 use Rattle.flow_filter.specs.FilterText.{Fields, Answer, nothing, parse, print, pieces, piece, joined, protocol_of, protocol_text, prefix_text, with_named, with_field, with_fields, and_fields, fields_of, is_printable, is_transport}
-use Rattle.flow_filter.proofs.CutLaws.{Lacks, Lacks-append, Lacks-literal, cut-append, cut_lacks, split-Some, split-None}
-use Rattle.flow_filter.proofs.ReadAgain.{number-decimal, prefix-text, Lacks-decimal, Lacks-prefix}
+use Rattle.basics.proofs.SplitLemmas.{Lacks, Lacks-append, Lacks-literal, split_once-append, split_once-lacks, split-Some, split-None}
+use Rattle.basics.proofs.PrintedNumbers.{parse_number-printed, Lacks-decimal}
+use Rattle.flow_filter.proofs.ReadAgain.{prefix-text, Lacks-prefix}
 
 -- fields behind fields
 and_fields-twice : (a : Answer) (xs ys : List (List ℕ)) → ((g : Fields) → with_fields g (xs ++ ys) ≡ and_fields (with_fields g xs) (λ h. with_fields h ys))
@@ -53,7 +54,7 @@ read_lport : (a : Option ℕ) (b : Option (ℕ × ℕ)) (lport : Option ℕ) →
     → with_fields (given a b None None None) (piece (codes "lport=") (option_map decimal lport)) ≡ Ok (given a b lport None None)
 unfolding with_named
 read_lport a b None fits = refl
-read_lport a b (Some n) fits = let small : n < 2 ^ 16 = fits n refl in rw (number-decimal 65535 n (omega arith) (omega arith)) refl
+read_lport a b (Some n) fits = let small : n < 2 ^ 16 = fits n refl in rw (parse_number-printed 65535 n (omega arith) (omega arith)) refl
 
 read_remote : (a : Option ℕ) (b : Option (ℕ × ℕ)) (c : Option ℕ) (remote : Option Prefix) → ForSome remote (λ p. p.bits < 2 ^ 32)
     → with_fields (given a b c None None) (piece (codes "remote=") (option_map prefix_text remote)) ≡ Ok (given a b c (option_map block remote) None)
@@ -65,7 +66,7 @@ read_rport : (a : Option ℕ) (b : Option (ℕ × ℕ)) (c : Option ℕ) (d : Op
     → with_fields (given a b c d None) (piece (codes "rport=") (option_map decimal rport)) ≡ Ok (given a b c d rport)
 unfolding with_named
 read_rport a b c d None fits = refl
-read_rport a b c d (Some n) fits = let small : n < 2 ^ 16 = fits n refl in rw (number-decimal 65535 n (omega arith) (omega arith)) refl
+read_rport a b c d (Some n) fits = let small : n < 2 ^ 16 = fits n refl in rw (parse_number-printed 65535 n (omega arith) (omega arith)) refl
 
 -- all pieces
 read_pieces : (f : Filter) → IsFilter f → is_printable f ≡ true → with_fields nothing (pieces f) ≡ Ok (fields_of f)
@@ -116,11 +117,11 @@ Lack-pieces f fits =
     (Lack-piece prefix_text (codes "remote=") f.remote (Lacks-literal 44 (codes "remote=") refl) (λ p is. Lacks-prefix 44 p lacks_comma refl refl)))
     (Lack-piece decimal (codes "rport=") f.rport (Lacks-literal 44 (codes "rport=") refl) (λ n is. let small : n < 2 ^ 16 = fits.rport n is in Lacks-decimal 44 n lacks_comma (omega arith)))
 
--- joined pieces are cut at the commas between them
+-- joined pieces are split at the commas between them
 split-join : (first : List ℕ) (more : List (List ℕ)) → Lack (first ∷ more) → slice_split (λ b. eqb b 44) (join_with_byte 44 (first ∷ more)) ≡ first ∷ more
-split-join first [] lack = split-None 44 first (sym (cut_lacks 44 first lack.0))
+split-join first [] lack = split-None 44 first (sym (split_once-lacks 44 first lack.0))
 split-join first (next ∷ more) lack =
-    split-Some 44 (first ++ (44 ∷ join_with_byte 44 (next ∷ more))) first (join_with_byte 44 (next ∷ more)) (sym (cut-append 44 first (join_with_byte 44 (next ∷ more)) lack.0))
+    split-Some 44 (first ++ (44 ∷ join_with_byte 44 (next ∷ more))) first (join_with_byte 44 (next ∷ more)) (sym (split_once-append 44 first (join_with_byte 44 (next ∷ more)) lack.0))
     ∙ ap (λ t. first ∷ t) (split-join next more lack.1)
 
 -- the text of some fields isn't `any`, since `any` is no field

@@ -1,7 +1,8 @@
 -- Filters over flows: which flows match, what two filters say together, and when one covers another.
 -- This project's own rules. A field that isn't given says nothing.
-use Rattle.std.specs.Prelude.{◌≡◌, ℕ, ◌<◌, ◌^◌, Bool, true, false, ◌&&◌, ◌==◌, nat_eq, nat_le, if◌then◌else◌, Option, None, Some, option_and_then, is_some}
+use Rattle.std.specs.Prelude.{◌≡◌, ℕ, ◌<◌, ◌^◌, Bool, true, false, ◌&&◌, ◌==◌, nat_eq, nat_le, if◌then◌else◌, Option, None, Some, is_some}
 use Rattle.std.specs.Option.{ForSome}
+use Rattle.basics.specs.Options.{◌>>=◌}
 use Rattle.flow_filter.specs.Block.{in_block}
 use Rattle.flow_filter.specs.declared.prefix.Prefix.{Prefix}
 use Rattle.flow_filter.specs.declared.flow.Flow.{Flow}
@@ -20,11 +21,6 @@ agrees test (Some x) value = test x value
 abbrev pub matches : Filter → Flow → Bool
 matches f flow = agrees nat_eq f.proto flow.proto && agrees holds f.local flow.local && agrees nat_eq f.lport flow.lport
     && agrees holds f.remote flow.remote && agrees nat_eq f.rport flow.rport
-
--- go on with what is there
-infixl 10 ◌>>=◌
-abbrev pub ◌>>=◌ : {A B : Type 0} → Option A → (A → Option B) → Option B
-o >>= f = option_and_then f o
 
 -- one field of two filters: what both say, or None where two given numbers differ
 abbrev pub meet_number : Option ℕ → Option ℕ → Option (Option ℕ)

@@ -4,12 +4,13 @@ use Rattle.std.specs.Prelude.{◌≡◌, ℕ, Bool, true, false, ◌||◌, ◌==
 use Rattle.std.specs.List.{slice_split, join_with_byte}
 use Rattle.std.specs.Str.{bytes_eq}
 use Rattle.std.specs.Fmt.{decimal}
-use Rattle.flow_filter.specs.Address.{address_text}
+use Rattle.basics.specs.Address.{address_text}
 use Rattle.flow_filter.specs.declared.prefix.Prefix.{Prefix}
 use Rattle.flow_filter.specs.declared.filter.Filter.{Filter}
 use Rattle.flow_filter.specs.declared.filter_text.FilterFault.{FilterFault}
 use Rattle.flow_filter.specs.declared.filter_text.FilterFault.TheVariants.{Field, Twice, Number, Prefix as BadPrefix}
-use Rattle.flow_filter.specs.Reading.{number_of, prefix_of, cut, block}
+use Rattle.basics.specs.Parsing.{parse_number, split_once}
+use Rattle.flow_filter.specs.Reading.{prefix_of, block}
 
 -- what a filter gives, with each prefix as its two numbers
 pub record Fields : Type 0 where
@@ -47,13 +48,13 @@ abbrev pub with_local : Fields → List ℕ → Answer
 with_local f value = once (is_some f.local) (prefix_of value) BadPrefix (λ x. record f { local = Some x })
 
 abbrev pub with_lport : Fields → List ℕ → Answer
-with_lport f value = once (is_some f.lport) (number_of 65535 value) Number (λ x. record f { lport = Some x })
+with_lport f value = once (is_some f.lport) (parse_number 65535 value) Number (λ x. record f { lport = Some x })
 
 abbrev pub with_remote : Fields → List ℕ → Answer
 with_remote f value = once (is_some f.remote) (prefix_of value) BadPrefix (λ x. record f { remote = Some x })
 
 abbrev pub with_rport : Fields → List ℕ → Answer
-with_rport f value = once (is_some f.rport) (number_of 65535 value) Number (λ x. record f { rport = Some x })
+with_rport f value = once (is_some f.rport) (parse_number 65535 value) Number (λ x. record f { rport = Some x })
 
 -- the field with this name and value
 unfoldable pub with_named : Fields → List ℕ → List ℕ → Answer
@@ -72,7 +73,7 @@ with_sides f (Some sides) = with_named f sides.0 sides.1
 
 -- one field more
 abbrev pub with_field : Fields → List ℕ → Answer
-with_field f text = with_sides f (cut 61 text)
+with_field f text = with_sides f (split_once 61 text)
 
 abbrev pub and_fields : Answer → (Fields → Answer) → Answer
 and_fields (Ok f) more = more f

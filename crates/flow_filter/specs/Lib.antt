@@ -1,4 +1,3 @@
-pub mod Address
 pub mod Block
 pub mod Flow
 pub mod Name

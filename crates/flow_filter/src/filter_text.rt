@@ -1,14 +1,15 @@
 ghost use Rattle.std.specs.Prelude.{◌≡◌, true, false, ◌++◌, ◌∷◌, ◌==◌, ◌||◌, if◌then◌else◌, IfOk, OnOk, codes, option_map, is_some};
 ghost use Rattle.std.specs.Fmt.{decimal};
 ghost use Rattle.std.specs.List.{slice_split};
-ghost use Rattle.flow_filter.specs.Reading.{number_of};
+ghost use Rattle.basics.specs.Parsing.{parse_number};
 ghost use Rattle.flow_filter.specs.FilterText.{parse, with_fields, with_field, with_named, with_proto, with_local, with_lport, with_remote, with_rport, protocol_of, fields_of, Gives, print, is_printable, is_transport, behind, piece, protocol_text, prefix_text};
 
 use crate::filter::Filter;
 use crate::packet::{TCP, UDP};
 use crate::prefix::Prefix;
-use crate::reading::{cut, number, prefix};
-use crate::sequence::{NoMemory, Text};
+use crate::reading::prefix;
+use basics::parsing::{parse_number, split_once};
+use basics::{NoMemory, Text};
 use std::alloc::Global;
 use thiserror::Error;
 
@@ -84,7 +85,7 @@ impl Filter {
 fn with_fields(so_far: Filter, text: &[u8]) -> Result<Filter, FilterFault>
     ensures { Gives fields_of result (with_fields (fields_of so_far) (slice_split (λ b. b == 44) text.now)) }
 {
-    match cut(text, b',') {
+    match split_once(text, b',') {
         Some((first, more)) => with_fields(with_field(so_far, first)?, more),
         None => with_field(so_far, text),
     }
@@ -94,7 +95,7 @@ fn with_fields(so_far: Filter, text: &[u8]) -> Result<Filter, FilterFault>
 fn with_field(so_far: Filter, text: &[u8]) -> Result<Filter, FilterFault>
     ensures { Gives fields_of result (with_field (fields_of so_far) text.now) }
 {
-    match cut(text, b'=') {
+    match split_once(text, b'=') {
         Some((name, value)) => with_named(so_far, name, value),
         None => Err(FilterFault::Field),
     }
@@ -216,9 +217,9 @@ fn with_rport(so_far: Filter, value: &[u8]) -> Result<Filter, FilterFault>
 
 /// The port that the text spells.
 fn port(text: &[u8]) -> Option<u16>
-    ensures { result ≡ number_of 65535 text.now }
+    ensures { result ≡ parse_number 65535 text.now }
 {
-    let value = number(text, 65535)?;
+    let value = parse_number(text, 65535)?;
     Some(value as u16)
 }
 

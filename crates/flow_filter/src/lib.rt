@@ -11,15 +11,13 @@ pub mod name;
 pub mod packet;
 pub mod prefix;
 pub mod reading;
-pub mod sequence;
 pub mod site;
-pub mod text;
 
+pub use basics::{Bytes, NoMemory, Sequence, Text};
 pub use filter::Filter;
 pub use filter_text::FilterFault;
 pub use flow::{Dir, Flow, flow_of};
 pub use name::Name;
 pub use packet::{Packet, Packets, TCP, UDP};
 pub use prefix::Prefix;
-pub use sequence::{Bytes, NoMemory, Sequence, Text};
 pub use site::Site;

@@ -2,7 +2,7 @@ ghost use Rattle.std.specs.Prelude.{◌≡◌, true, IfOk, List, ℕ, if◌then�
 ghost use Rattle.std.specs.List.{list_all};
 ghost use Rattle.flow_filter.specs.Name.{has_twice, is_name, is_name_byte};
 
-use crate::sequence::{Bytes, NoMemory};
+use basics::{Bytes, NoMemory, TryCopy};
 use std::alloc::Global;
 use std::collections::BTreeSet;
 use std::marker::Model;
@@ -44,11 +44,10 @@ impl Name {
     {
         self.bytes.items()
     }
+}
 
-    /// The same name again, on the same allocator.
-    pub fn copy(&self) -> Result<Self, NoMemory>
-        ensures { IfOk result (λ other. other ≡ self.now) }
-    {
+impl TryCopy for Name {
+    fn copy(&self) -> Result<Self, NoMemory> {
         let bytes = self.bytes.copy()?;
         Ok(Name { bytes })
     }

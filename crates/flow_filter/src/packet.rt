@@ -1,4 +1,4 @@
-use crate::sequence::Sequence;
+use basics::Sequence;
 
 /// The protocol number of TCP in an IPv4 header.
 pub const TCP: u8 = 6;

@@ -5,7 +5,7 @@ ghost use Rattle.std.specs.Io.KnownBytes.{ReadConsumes, WriteAppends, append_kno
 
 use crate::outside::{Failed, Outside, Role};
 use crate::tape::Tape;
-use flow_filter::NoMemory;
+use basics::NoMemory;
 use std::alloc::Global;
 
 /// An outside in memory in which no read fails, and no write while there is room. A write that

@@ -2,7 +2,7 @@ ghost use Rattle.std.specs.Prelude.{◌≡◌, ◌<◌, ◌≤◌, Some, length,
 
 use crate::outside::{Failed, Outside, Role};
 use crate::stream::Stream;
-use flow_filter::NoMemory;
+use basics::NoMemory;
 use std::alloc::Global;
 use std::rt::Files;
 

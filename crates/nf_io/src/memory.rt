@@ -5,7 +5,7 @@ ghost use Rattle.std.specs.Io.KnownBytes.{ReadConsumes, WriteAppends, append_kno
 
 use crate::outside::{Failed, Outside, Role};
 use crate::planned::PlannedTape;
-use flow_filter::NoMemory;
+use basics::NoMemory;
 use std::alloc::Global;
 
 /// An outside in memory, in which calls can be made to fail.

@@ -2,7 +2,7 @@ ghost use Rattle.std.specs.Prelude.{◌≡◌, ◌<◌, ℕ, Some, length, IfOk,
 ghost use Rattle.std.specs.Io.{ReadsAtMost, WritesAtMost};
 ghost use Rattle.std.specs.Io.KnownBytes.{ReadConsumes, WriteAppends};
 
-use flow_filter::NoMemory;
+use basics::NoMemory;
 use thiserror::Error;
 
 /// A call that the outside couldn't serve, which it has counted.

@@ -5,7 +5,7 @@ ghost use Rattle.std.specs.Io.KnownBytes.{ReadConsumes, WriteAppends};
 
 use crate::outside::Failed;
 use crate::tape::Tape;
-use flow_filter::NoMemory;
+use basics::NoMemory;
 use std::alloc::Global;
 
 /// A tape on which calls can be made to fail.

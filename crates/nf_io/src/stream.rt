@@ -1,6 +1,6 @@
 ghost use Rattle.std.specs.Prelude.{◌≤◌, ◌<◌, ◌≡◌, length, vec_len, IfSome};
 
-use flow_filter::NoMemory;
+use basics::NoMemory;
 use std::alloc::Global;
 use std::fs;
 use std::io::{Read, Write};

@@ -2,7 +2,7 @@ ghost use Rattle.std.specs.Prelude.{◌≡◌, ◌<◌, ◌≤◌, ◌+◌, ◌-
 ghost use Rattle.std.specs.Io.KnownBytes.{append_known};
 
 use crate::outside::Failed;
-use flow_filter::NoMemory;
+use basics::NoMemory;
 use std::alloc::Global;
 
 /// One role's file in memory: `bytes[taken..]` is left to read.

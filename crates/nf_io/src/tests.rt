@@ -7,7 +7,7 @@ use crate::{
     CalmOutside, Failed, MemoryOutside, Outside, Role, RoleSink, RoleSource, Sink, Source,
     UptoFault, read_upto, write_all,
 };
-use flow_filter::NoMemory;
+use basics::NoMemory;
 use std::alloc::Global;
 use std::test::Fail;
 

@@ -6,7 +6,7 @@ ghost use Rattle.nf_io.specs.Transfers.{HasUptoCause};
 
 use crate::outside::Failed;
 use crate::streams::{Sink, Source};
-use flow_filter::{Bytes, NoMemory};
+use basics::{Bytes, NoMemory};
 use std::alloc::Global;
 use thiserror::Error;
 

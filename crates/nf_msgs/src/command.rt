@@ -1,6 +1,7 @@
 ghost use Rattle.std.specs.Prelude.{◌≡◌, IfOk};
 
 use crate::names::Names;
+use basics::TryCopy;
 use flow_filter::{Filter, Name, NoMemory};
 
 /// An order of the operator, under the number of its command.

@@ -6,7 +6,7 @@ use Rattle.std.specs.List.{AllByRecursion, join_with_byte}
 use Rattle.std.specs.Fmt.{decimal}
 use Rattle.flow_filter.specs.declared.prefix.Prefix.{Prefix}
 use Rattle.flow_filter.specs.declared.filter.Filter.{Filter}
-use Rattle.flow_filter.specs.Address.{address_text, byte_of}
+use Rattle.basics.specs.Address.{address_text, byte_of}
 use Rattle.flow_filter.specs.Filter.{IsFilter}
 use Rattle.flow_filter.specs.FilterText.{piece, pieces, joined, print, protocol_text, prefix_text}
 use Rattle.op_script.specs.Forms.{Word}

@@ -2,14 +2,14 @@
 use Rattle.std.proofs.Common.{◌≡◌, ℕ, Bool, true, false, cond, List, [], ◌∷◌, Option, None, Some, is_some, option_map, refl, subst}
 use Rattle.std.specs.Prelude.{codes, option_and_then}
 use Rattle.std.specs.Str.{bytes_eq}
-use Rattle.flow_filter.specs.Reading.{number_of, cut}
+use Rattle.basics.specs.Parsing.{parse_number, split_once}
 use Rattle.op_script.specs.Forms.{Word, Event, Moving, Copying, Sharing, Settling, Form, Silent, Routing, Happening, form_of, routing, happening, event_of, moving, copying, sharing, settling, is_comment}
 
 -- a share's list has a comma
 abbrev pub IsEvent : Event → Type 0
 IsEvent (Moving source target filter keep) = Unit {0}
 IsEvent (Copying source target filter) = Unit {0}
-IsEvent (Sharing list filter) = is_some (cut 44 list) ≡ true
+IsEvent (Sharing list filter) = is_some (split_once 44 list) ≡ true
 IsEvent Settling = Unit {0}
 
 abbrev pub IsForm : Form → Type 0
@@ -43,7 +43,7 @@ copying_right (a ∷ b ∷ []) = tt
 copying_right (a ∷ b ∷ c ∷ []) = tt
 copying_right (a ∷ b ∷ c ∷ d ∷ more) = tt
 
-listed : (list filter : Word) (test : Bool) → is_some (cut 44 list) ≡ test → OfSome IsEvent (cond test (Some (Sharing list filter)) None)
+listed : (list filter : Word) (test : Bool) → is_some (split_once 44 list) ≡ test → OfSome IsEvent (cond test (Some (Sharing list filter)) None)
 listed list filter true is = is
 listed list filter false is = tt
 
@@ -52,7 +52,7 @@ unfolding sharing
 sharing_right [] = tt
 sharing_right (a ∷ []) = tt
 sharing_right (a ∷ b ∷ []) = tt
-sharing_right (a ∷ b ∷ c ∷ []) = either IsEvent (bytes_eq c (codes "strict")) _ _ (listed a b (is_some (cut 44 a)) refl) tt
+sharing_right (a ∷ b ∷ c ∷ []) = either IsEvent (bytes_eq c (codes "strict")) _ _ (listed a b (is_some (split_once 44 a)) refl) tt
 sharing_right (a ∷ b ∷ c ∷ d ∷ more) = tt
 
 settling_right : (ws : List Word) → OfSome IsEvent (settling ws)
@@ -78,7 +78,7 @@ at_right (Some k) (Some event) right = right
 happening_right : (ws : List Word) → OfSome IsForm (happening ws)
 happening_right [] = tt
 happening_right (at ∷ []) = tt
-happening_right (at ∷ verb ∷ more) = at_right (number_of 4294967295 at) (event_of verb more) (event_right verb more)
+happening_right (at ∷ verb ∷ more) = at_right (parse_number 4294967295 at) (event_of verb more) (event_right verb more)
 
 form_of_right : (ws : List Word) → OfSome IsForm (form_of ws)
 unfolding form_of

@@ -10,8 +10,8 @@ use Rattle.flow_filter.specs.declared.filter.Filter.{Filter}
 use Rattle.flow_filter.specs.Filter.{IsFilter}
 use Rattle.flow_filter.specs.Name.{is_name, is_name_byte, has_twice}
 use Rattle.flow_filter.specs.FilterText.{Fields, print, parse, fields_of, is_printable}
-use Rattle.flow_filter.specs.Reading.{cut}
-use Rattle.flow_filter.proofs.CutLaws.{Lacks, cut-append, cut_lacks, split-Some, split-None}
+use Rattle.basics.specs.Parsing.{split_once}
+use Rattle.basics.proofs.SplitLemmas.{Lacks, split_once-append, split_once-lacks, split-Some, split-None}
 use Rattle.flow_filter.proofs.ParseAgain.{parse-print}
 use Rattle.nf_function.specs.declared.kind.Kind.{Kind}
 use Rattle.nf_function.specs.Units.{splits}
@@ -57,21 +57,21 @@ name_lacks : (name : Word) → is_name name ≡ true → Lacks 44 name
 name_lacks name is = letters_lack name (and_parts (leb 1 (length name) && leb (length name) 16) (list_all is_name_byte name) is).1
 
 names_split : (first : Word) (more : List Word) → list_all is_name (first ∷ more) ≡ true → slice_split (λ b. eqb b 44) (join_with_byte 44 (first ∷ more)) ≡ first ∷ more
-names_split first [] are = split-None 44 first (sym (cut_lacks 44 first (name_lacks first (and_parts (is_name first) true are).0)))
+names_split first [] are = split-None 44 first (sym (split_once-lacks 44 first (name_lacks first (and_parts (is_name first) true are).0)))
 names_split first (next ∷ more) are =
     let p = and_parts (is_name first) (list_all is_name (next ∷ more)) are in
-    split-Some 44 (first ++ (44 ∷ join_with_byte 44 (next ∷ more))) first (join_with_byte 44 (next ∷ more)) (sym (cut-append 44 first (join_with_byte 44 (next ∷ more)) (name_lacks first p.0)))
+    split-Some 44 (first ++ (44 ∷ join_with_byte 44 (next ∷ more))) first (join_with_byte 44 (next ∷ more)) (sym (split_once-append 44 first (join_with_byte 44 (next ∷ more)) (name_lacks first p.0)))
     ∙ ap (λ t. first ∷ t) (names_split next more p.1)
 
 members_again : (members : List Word) → 2 ≤ length members → list_all is_name members ≡ true → has_twice members ≡ false
-    → (members_of (join_with_byte 44 members) ≡ Ok members) × (is_some (cut 44 (join_with_byte 44 members)) ≡ true) × IsWord (join_with_byte 44 members)
+    → (members_of (join_with_byte 44 members) ≡ Ok members) × (is_some (split_once 44 (join_with_byte 44 members)) ≡ true) × IsWord (join_with_byte 44 members)
 unfolding members_of
 members_again [] two are once = absurd (omega arith)
 members_again (first ∷ []) two are once = absurd (omega arith)
 members_again (first ∷ next ∷ more) two are once =
     let p = and_parts (is_name first) (list_all is_name (next ∷ more)) are in (
       rw (names_split first (next ∷ more) are, are, once) refl,
-      rw (cut-append 44 first (join_with_byte 44 (next ∷ more)) (name_lacks first p.0)) refl,
+      rw (split_once-append 44 first (join_with_byte 44 (next ∷ more)) (name_lacks first p.0)) refl,
       join_word first (next ∷ more) (names_words (first ∷ next ∷ more) are),
     )
   where

@@ -6,7 +6,7 @@ use Rattle.std.proofs.lemmas.Bool.{leb-false, ltb-false, not-false}
 use Rattle.std.proofs.lemmas.List.Quantifiers.{position-Some}
 use Rattle.flow_filter.specs.declared.filter_text.FilterFault.{FilterFault}
 use Rattle.flow_filter.specs.Name.{has_twice, is_name}
-use Rattle.flow_filter.specs.Reading.{cut}
+use Rattle.basics.specs.Parsing.{split_once}
 use Rattle.flow_filter.specs.FilterText.{Fields, is_transport, parse}
 use Rattle.flow_filter.proofs.Printable.{parse_printable}
 use Rattle.nf_function.specs.declared.kind.Kind.{Kind}
@@ -17,7 +17,7 @@ use Rattle.op_script.specs.Printing.{IsRoute, IsWhat, IsLine, IsScript, is_writa
 use Rattle.std.specs.Prelude.{◌==◌}
 use Rattle.std.specs.Str.Lines.{strip_carriage_return}
 use Rattle.std.proofs.lemmas.List.Splits.{length-slice_split}
-use Rattle.flow_filter.proofs.CutLaws.{split-Some}
+use Rattle.basics.proofs.SplitLemmas.{split-Some}
 use Rattle.op_script.specs.declared.fault.ScriptKind.TheVariants as bad
 use Rattle.op_script.proofs.FormsRight.{IsEvent, IsForm, form_right}
 use Rattle.op_script.proofs.Judged.{steps, unless_Ok, wanted_Ok}
@@ -49,7 +49,7 @@ copied_printable kind None f is = let none : None ≡ f = cc in rw (← none) re
 copied_printable kind (Some text) f is = let s = steps (filter_of kind text) (λ g. Ok (Some g)) f is in
     let some : Some s.value ≡ f = let rest = s.rest in cc in rw (← some) (filter_printable kind text s.value s.first)
 
-two_pieces : (list : Word) (r : Option (Word × Word)) → cut 44 list ≡ r → is_some r ≡ true → 2 ≤ length (slice_split (λ b. b == 44) list)
+two_pieces : (list : Word) (r : Option (Word × Word)) → split_once 44 list ≡ r → is_some r ≡ true → 2 ≤ length (slice_split (λ b. b == 44) list)
 two_pieces list None at is = absurd cc
 two_pieces list (Some p) at is = rw (split-Some 44 list p.0 p.1 (sym at)) (omega (arith, length-slice_split (λ b. b == 44) p.1))
 
@@ -62,7 +62,7 @@ ends_again source target ends is =
     subst (λ (e : Word × Word). ends_of e.0 e.1 ≡ Ok (e.0, e.1)) same (is ∙ ap (λ (e : Word × Word). Ok e) (sym same))
 
 -- the members of a share
-members_right : (list : Word) (members : List Word) → is_some (cut 44 list) ≡ true → members_of list ≡ Ok members
+members_right : (list : Word) (members : List Word) → is_some (split_once 44 list) ≡ true → members_of list ≡ Ok members
     → (2 ≤ length members) × (list_all is_name members ≡ true) × (has_twice members ≡ false)
 unfolding members_of
 members_right list members comma is =
@@ -71,7 +71,7 @@ members_right list members comma is =
     let second = unless_Ok (has_twice all) bad.SameInstance (Ok all) members first.1 in
     let same : all ≡ members = let rest = second.1 in cc in
     subst (λ (ms : List Word). (2 ≤ length ms) × (list_all is_name ms ≡ true) × (has_twice ms ≡ false)) same
-    (two_pieces list (cut 44 list) refl comma, not-false (list_all is_name all) first.0, second.0)
+    (two_pieces list (split_once 44 list) refl comma, not-false (list_all is_name all) first.0, second.0)
 
 order_right : (kind : Kind) (event : Event) (order : Option OrderView) → IsEvent event → order_of kind event ≡ Ok order → (lines : List LineView) → IsWhat (numbered lines order)
 unfolding order_of

@@ -6,9 +6,9 @@ use Rattle.std.specs.Str.{bytes_eq}
 use Rattle.std.specs.Str.Lines.{strip_carriage_return}
 use Rattle.std.specs.Fmt.{decimal}
 use Rattle.std.proofs.lemmas.Bool.{ne_eqb}
-use Rattle.flow_filter.specs.Reading.{cut}
-use Rattle.flow_filter.proofs.CutLaws.{Lacks, cut-append, split-Some}
-use Rattle.flow_filter.proofs.ReadAgain.{number-decimal}
+use Rattle.basics.specs.Parsing.{split_once}
+use Rattle.basics.proofs.SplitLemmas.{Lacks, split_once-append, split-Some}
+use Rattle.basics.proofs.PrintedNumbers.{parse_number-printed}
 use Rattle.nf_function.specs.declared.kind.Kind.{Kind}
 use Rattle.op_script.specs.Forms.{Word, Event, Moving, Copying, Sharing, Settling, Form, Routing, Happening, form_of, event_of, moving, copying, sharing}
 use Rattle.op_script.specs.Reading.{State, with_text, with_form}
@@ -35,7 +35,7 @@ lines-joined (ws ∷ more) seen =
     let line = join_with_byte 32 ws in
     let rest = concat (map line_text more) in
     ap (slice_split (λ b. eqb b 10)) (append_assoc line (10 ∷ []) rest)
-    ∙ split-Some 10 (line ++ 10 ∷ rest) line rest (sym (cut-append 10 line rest (lacks_end line seen.0)))
+    ∙ split-Some 10 (line ++ 10 ∷ rest) line rest (sym (split_once-append 10 line rest (lacks_end line seen.0)))
     ∙ ap (λ t. line ∷ t) (lines-joined more seen.1)
 
 -- the form of a route
@@ -47,7 +47,7 @@ route_form filter name = refl
 pub at_form : (at : ℕ) (verb : Word) (more : List Word) (event : Event) → at < 2 ^ 32 → event_of verb more ≡ Some event
     → form_of (codes "at" ∷ decimal at ∷ verb ∷ more) ≡ Some (Happening at event)
 unfolding form_of
-at_form at verb more event small is = rw (number-decimal 4294967295 at (omega arith) (omega arith), is) refl
+at_form at verb more event small is = rw (parse_number-printed 4294967295 at (omega arith) (omega arith), is) refl
 
 pub move_event : (source target filter : Word) (keep : Bool)
     → event_of (codes "move") (source ∷ target ∷ filter ∷ cond keep (codes "order") (codes "lossfree") ∷ []) ≡ Some (Moving source target filter keep)
@@ -59,7 +59,7 @@ pub copy_event : (source target what : Word) → event_of (codes "copy") (source
 unfolding event_of copying
 copy_event source target what = refl
 
-pub share_event : (list filter : Word) → is_some (cut 44 list) ≡ true → event_of (codes "share") (list ∷ filter ∷ codes "strict" ∷ []) ≡ Some (Sharing list filter)
+pub share_event : (list filter : Word) → is_some (split_once 44 list) ≡ true → event_of (codes "share") (list ∷ filter ∷ codes "strict" ∷ []) ≡ Some (Sharing list filter)
 unfolding event_of sharing
 share_event list filter comma = rw comma refl
 

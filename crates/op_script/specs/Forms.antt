@@ -2,7 +2,7 @@
 use Rattle.std.specs.Prelude.{ℕ, Bool, true, false, not, ◌||◌, ◌==◌, if◌then◌else◌, List, [], ◌∷◌, length, filter, Option, None, Some, is_some, option_map, option_and_then, codes}
 use Rattle.std.specs.List.{slice_split}
 use Rattle.std.specs.Str.{bytes_eq}
-use Rattle.flow_filter.specs.Reading.{number_of, cut}
+use Rattle.basics.specs.Parsing.{parse_number, split_once}
 
 abbrev pub Word : Type 0
 Word = List ℕ
@@ -44,7 +44,7 @@ copying _ = None
 -- `INST,INST.. FILTER strict`, where the list has a comma
 unfoldable pub sharing : List Word → Option Event
 sharing (members ∷ filter ∷ how ∷ []) =
-    if bytes_eq how (codes "strict") then (if is_some (cut 44 members) then Some (Sharing members filter) else None) else None
+    if bytes_eq how (codes "strict") then (if is_some (split_once 44 members) then Some (Sharing members filter) else None) else None
 sharing _ = None
 
 -- nothing more
@@ -63,7 +63,7 @@ event_of verb more =
 
 -- `K` and an event
 abbrev pub happening : List Word → Option Form
-happening (at ∷ verb ∷ more) = option_and_then (λ k. option_map (Happening k) (event_of verb more)) (number_of 4294967295 at)
+happening (at ∷ verb ∷ more) = option_and_then (λ k. option_map (Happening k) (event_of verb more)) (parse_number 4294967295 at)
 happening _ = None
 
 -- `FILTER INST`

@@ -1,10 +1,10 @@
 ghost use Rattle.std.specs.Prelude.{◌≡◌, map, IfOk, option_map};
 ghost use Rattle.op_script.specs.Forms.{words, is_blank, form_of, routing, happening, event_of, moving, copying, sharing, settling, is_comment};
-ghost use Rattle.flow_filter.specs.Reading.{number_of};
+ghost use Rattle.basics.specs.Parsing.{parse_number};
 ghost use Rattle.op_script.specs.FormViews.{event_view, form_view};
 
 use flow_filter::NoMemory;
-use flow_filter::reading::{cut, number};
+use basics::parsing::{parse_number, split_once};
 use std::alloc::Global;
 
 /// What happens at a point of the trace, by its words.
@@ -113,9 +113,9 @@ fn happening<'a>(words: &[&'a [u8]]) -> Option<Form<'a>>
 
 /// The point of the trace that a word spells.
 fn point(text: &[u8]) -> Option<u32>
-    ensures { result ≡ number_of 4294967295 text.now }
+    ensures { result ≡ parse_number 4294967295 text.now }
 {
-    let at = number(text, 4294967295)?;
+    let at = parse_number(text, 4294967295)?;
     Some(at as u32)
 }
 
@@ -191,7 +191,7 @@ fn sharing<'a>(words: &[&'a [u8]]) -> Option<Event<'a>>
 {
     match words {
         [members, filter, how] => {
-            if *how == b"strict".as_slice() && cut(members, b',').is_some() {
+            if *how == b"strict".as_slice() && split_once(members, b',').is_some() {
                 Some(Event::Share { members, filter })
             } else {
                 None

@@ -13,7 +13,7 @@ use crate::form::{Event, Form, form_of, words};
 use crate::reader::Reader;
 use crate::script::{Line, Script, What};
 use flow_filter::name::has_twice;
-use flow_filter::reading::first_piece;
+use basics::parsing::first_piece;
 use flow_filter::{Filter, Name, NoMemory};
 use nf_function::{Kind, splits};
 use nf_msgs::{Command, Names, Order};

@@ -6,8 +6,8 @@ use Rattle.std.specs.List.{list_all, slice_split}
 use Rattle.std.specs.Str.{bytes_eq}
 use Rattle.std.proofs.lemmas.Bool.{and_parts, leb-true, eqb-true}
 use Rattle.flow_filter.specs.Name.{is_name, is_name_byte, has_twice}
-use Rattle.flow_filter.specs.Reading.{cut}
-use Rattle.flow_filter.proofs.CutLaws.{split-None}
+use Rattle.basics.specs.Parsing.{split_once}
+use Rattle.basics.proofs.SplitLemmas.{split-None}
 use Rattle.command_words.specs.Grammar.{Given, read_words, sim_app, check_app}
 use Rattle.command_words.specs.Plan.{SimAsked, CheckAsked, Instances, asks_sim, asks_check, only, function_of, instance_of, all_instances, instances_of, inside_of, outside_of, window_of, schedule_of, file_of, file_if, is_conntrack, is_one_name, is_last, sim_values, check_values, is_built, sim_of, check_of, plan_of}
 
@@ -43,7 +43,7 @@ no_comma byte false is named = refl
 no_comma byte true is named =
     let comma : is_name_byte 44 ≡ true = subst (λ b. is_name_byte b ≡ true) (eqb-true byte 44 is) named in absurd cc
 
-uncut : (text : List ℕ) → list_all is_name_byte text ≡ true → cut 44 text ≡ None
+uncut : (text : List ℕ) → list_all is_name_byte text ≡ true → split_once 44 text ≡ None
 uncut [] named = refl
 uncut (byte ∷ more) named =
     let parts = and_parts (is_name_byte byte) (list_all is_name_byte more) named in

@@ -1,13 +1,13 @@
 use Rattle.std.proofs.Common.{◌≡◌, ◌==◌, ◌++◌, Some, None, cond, option_map}
 use Rattle.std.specs.List.{slice_split, list_all}
 use Rattle.flow_filter.specs.Name.{is_name}
-use Rattle.flow_filter.specs.Reading.{pieces_left}
-use Rattle.flow_filter.proofs.LeftToRead.{bytes_left}
+use Rattle.basics.specs.Parsing.{remaining_pieces}
+use Rattle.basics.proofs.BytesLeft.{bytes_left}
 use Rattle.op_script.proofs.reading.names_of.Given as goal
 
 -- the names so far and the pieces that are left give what the whole list gives
 abbrev pub invariant-loop-rest : goal.invariant-loop-rest
-invariant-loop-rest l = let left = pieces_left 44 (option_map (λ t. t.now) l.rest) in let whole = slice_split (λ b. b == 44) l.list in
+invariant-loop-rest l = let left = remaining_pieces 44 (option_map (λ t. t.now) l.rest) in let whole = slice_split (λ b. b == 44) l.list in
     cond (list_all is_name left) (Some (l.names ++ left)) None ≡ cond (list_all is_name whole) (Some whole) None
 
 abbrev pub decreases-loop-rest : goal.decreases-loop-rest

@@ -1,5 +1,5 @@
 ghost use Rattle.std.specs.Prelude.{◌≡◌, ◌++◌, ◌<◌, ◌^◌, OnOk, OnErr, decimal};
-ghost use Rattle.flow_filter.specs.Address.{address_text, byte_of};
+ghost use Rattle.basics.specs.Address.{address_text, byte_of};
 
 use crate::sequence::{NoMemory, Text};
 use itoa::Buffer;

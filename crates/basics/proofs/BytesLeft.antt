@@ -1,4 +1,4 @@
--- How much is left to read.
+-- The bytes that are left to parse, as the measure of a loop over pieces.
 use Rattle.std.proofs.Common.{ℕ, ◌+◌, List, length, Option, None, Some}
 
 -- the bytes that are left, and one for a text that is there

@@ -1,9 +1,10 @@
 ghost use Rattle.std.specs.Prelude.{◌≡◌, List, [], ◌∷◌, ◌++◌, OnOk, OnErr, IfOk};
 
+use crate::try_copy::TryCopy;
 use std::alloc::{AllocError, Global};
 use std::marker::Model;
 
-/// Want of memory: the one answer that no clause ties to a cause.
+/// Out of memory: the one answer that no clause ties to a cause.
 pub type NoMemory = AllocError;
 
 /// The bytes of a file or of a message.
@@ -67,12 +68,15 @@ impl<T> Sequence<T> {
     }
 }
 
-impl<T: Copy> Sequence<T> {
+impl<T: TryCopy> Sequence<T> {
     /// Another sequence with equal items, on the same allocator.
     pub fn copy(&self) -> Result<Self, NoMemory>
         ensures { IfOk result (λ other. other ≡ self.now) }
     {
-        let list = self.list.iter().copied().collect(*self.list.allocator())?;
-        Ok(Sequence { list })
+        let mut other = Sequence::open(*self.list.allocator());
+        for item in self.list.as_slice() {
+            other.push(item.copy()?)?;
+        }
+        Ok(other)
     }
 }

@@ -11,7 +11,7 @@ use Rattle.std.proofs.lemmas.Slice.Eq.{bytes_eq-Decides}
 use Rattle.std.proofs.lemmas.Str.{IsUtf8-from_ascii}
 use Rattle.std.proofs.lemmas.Str.Parse.{IsNumeralModel, numerals_by_value, tells_by_index, without_leading_plus_none}
 use Rattle.std.proofs.lemmas.Fmt.{digits_value-decimal, decimal-digits_value, digits_decimal, decimal_nonempty, first_decimal, IsAscii-from_digits, decimal_is_IsNumeral, decimal_digit}
-use Rattle.flow_filter.specs.Reading.{number_of}
+use Rattle.basics.specs.Parsing.{parse_number}
 
 -- texts of digits, and their value
 abbrev pub AreDigits : List ℕ → Type 0
@@ -26,9 +26,9 @@ no_number true false n never = refl
 no_number false below n never = refl
 
 -- a text that is no decimal below 2 ^ 64 is no number
-pub number_of-None : (most : ℕ) (text : List ℕ) → most < 2 ^ 64 → (digits_value 10 text < 2 ^ 64 → text ≡ decimal (digits_value 10 text) → ⊥) → number_of most text ≡ None
-unfolding number_of
-number_of-None most text small never =
+pub parse_number-None : (most : ℕ) (text : List ℕ) → most < 2 ^ 64 → (digits_value 10 text < 2 ^ 64 → text ≡ decimal (digits_value 10 text) → ⊥) → parse_number most text ≡ None
+unfolding parse_number
+parse_number-None most text small never =
     no_number (bytes_eq text (decimal (digits_value 10 text))) (leb (digits_value 10 text) most) (digits_value 10 text) (λ same below.
     let value : digits_value 10 text ≤ most = leb-true _ _ below in
     never (omega arith) ((bytes_eq-Decides text (decimal (digits_value 10 text))).0 same))
@@ -38,9 +38,9 @@ chosen true n = refl
 chosen false n = refl
 
 -- the decimal of a number is read as the number
-pub number_of-decimal : (most n : ℕ) (text : List ℕ) → n < 2 ^ 64 → text ≡ decimal n → number_of most text ≡ then_some (leb n most) n
-unfolding number_of
-number_of-decimal most n text small is =
+pub parse_number-decimal : (most n : ℕ) (text : List ℕ) → n < 2 ^ 64 → text ≡ decimal n → parse_number most text ≡ then_some (leb n most) n
+unfolding parse_number
+parse_number-decimal most n text small is =
     let value : digits_value 10 text ≡ n = rw is (digits_value-decimal own n small) in
     let same : bytes_eq text (decimal (digits_value 10 text)) ≡ true = (bytes_eq-Decides text (decimal (digits_value 10 text))).1 (is ∙ ap decimal (sym value)) in
     rw (same, value) (chosen (leb n most) n)

@@ -1,6 +1,6 @@
 -- The pieces of a text are its first piece and those behind it.
-use Rattle.flow_filter.proofs.CutLaws.{split-Some, split-None}
-use Rattle.flow_filter.proofs.reading.first_piece.Goals as goal
+use Rattle.basics.proofs.SplitLemmas.{split-Some, split-None}
+use Rattle.basics.proofs.parsing.first_piece.Goals as goal
 
 pub returns-in-Some-clause-pieces : goal.returns-in-Some-clause-pieces
 returns-in-Some-clause-pieces c = split-Some c.args.mark c.args.text.now c.in-Some.first.now c.in-Some.more.now c.in-Some.ensures.value

@@ -1,0 +1,5 @@
+pub mod BoolLemmas
+pub mod SplitLemmas
+pub mod DecimalLemmas
+pub mod PrintedNumbers
+pub mod BytesLeft
