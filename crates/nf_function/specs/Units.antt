@@ -1,8 +1,12 @@
 -- What the functions keep records for, and which filters take whole units. This project's own rules.
-use Rattle.std.specs.Prelude.{◌≡◌, Bool, true, false, ◌&&◌, ◌||◌, is_some}
+use Rattle.std.specs.Prelude.{◌≡◌, ℕ, ◌^◌, ◌==◌, nat_lt, Bool, true, false, not, ◌&&◌, ◌||◌, is_some}
+use Rattle.std.specs.Ordering.{nat_cmp}
+use Rattle.std.specs.declared.cmp.Ordering.{Ordering}
+use Rattle.std.specs.declared.cmp.Ordering.TheVariants.{Less, Greater}
 use Rattle.flow_filter.specs.declared.filter.Filter.{Filter}
 use Rattle.flow_filter.specs.declared.flow.Flow.{Flow}
 use Rattle.flow_filter.specs.Filter.{matches, agrees, holds}
+use Rattle.flow_filter.specs.Flow.{flow_cmp}
 use Rattle.flow_filter.specs.FilterText.{Fields}
 use Rattle.nf_function.specs.declared.kind.Kind.{Kind}
 use Rattle.nf_function.specs.declared.kind.Kind.TheVariants.{Conntrack, Nat, Monitor}
@@ -15,11 +19,45 @@ has_hosts Conntrack = false
 has_hosts Nat = true
 has_hosts Monitor = true
 
+-- the function's records hold a time
+abbrev pub has_times : Kind → Bool
+has_times Conntrack = true
+has_times Nat = false
+has_times Monitor = false
+
 -- the unit that a flow belongs to: itself, or its local host
 abbrev pub unit_of : Kind → Flow → units.Unit
 unit_of Conntrack flow = OfFlow flow
 unit_of Nat flow = OfHost flow.local
 unit_of Monitor flow = OfHost flow.local
+
+-- the protocol numbers of an IPv4 header
+abbrev pub is_tcp : ℕ → Bool
+is_tcp proto = proto == 6
+
+abbrev pub is_udp : ℕ → Bool
+is_udp proto = proto == 17
+
+-- the functions work on TCP and UDP alone
+abbrev pub is_transport : ℕ → Bool
+is_transport proto = is_tcp proto || is_udp proto
+
+-- a flow of TCP or UDP, each number within its type
+abbrev pub is_transport_flow : Flow → Bool
+is_transport_flow flow = is_transport flow.proto && nat_lt flow.local (2 ^ 32) && nat_lt flow.lport (2 ^ 16)
+    && nat_lt flow.remote (2 ^ 32) && nat_lt flow.rport (2 ^ 16)
+
+-- the unit is one that the function may have a record for
+abbrev pub is_unit : Kind → units.Unit → Bool
+is_unit kind (OfFlow flow) = not (has_hosts kind) && is_transport_flow flow
+is_unit kind (OfHost host) = has_hosts kind && nat_lt host (2 ^ 32)
+
+-- the order of units: flows in theirs, and hosts by their addresses
+abbrev pub unit_cmp : units.Unit → units.Unit → Ordering
+unit_cmp (OfFlow a) (OfFlow b) = flow_cmp a b
+unit_cmp (OfFlow a) (OfHost b) = Less
+unit_cmp (OfHost a) (OfFlow b) = Greater
+unit_cmp (OfHost a) (OfHost b) = nat_cmp a b
 
 -- the filter takes the unit: a flow that matches, or a host that `local` agrees with
 abbrev pub takes : Filter → units.Unit → Bool

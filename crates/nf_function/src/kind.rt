@@ -1,9 +1,10 @@
 ghost use Rattle.std.specs.Prelude.{◌≡◌, ◌||◌, is_some};
 ghost use Rattle.std.specs.Bool.{OnFalse};
 ghost use Rattle.flow_filter.specs.FilterText.{fields_of};
-ghost use Rattle.nf_function.specs.Units.{has_hosts, gives_more_than_local, splits, TakesWhole};
+ghost use Rattle.nf_function.specs.Units.{has_hosts, unit_of, gives_more_than_local, splits, TakesWhole};
 
-use flow_filter::Filter;
+use crate::unit::Unit;
+use flow_filter::{Filter, Flow};
 
 /// The network functions.
 #[derive(Clone, Copy, Debug, PartialEq, Eq, PartialOrd, Ord, Hash)]
@@ -33,6 +34,16 @@ impl Kind {
         ensures { result ≡ has_hosts self }
     {
         !matches!(self, Kind::Conntrack)
+    }
+
+    /// The unit that a flow belongs to: the flow itself, or its local host.
+    pub fn unit_of(self, flow: &Flow) -> Unit
+        ensures { result ≡ unit_of self flow.now }
+    {
+        match self {
+            Kind::Conntrack => Unit::Flow(*flow),
+            Kind::Nat | Kind::Monitor => Unit::Host(flow.local),
+        }
     }
 }
 

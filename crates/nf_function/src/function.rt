@@ -1,0 +1,177 @@
+ghost use Rattle.std.specs.Prelude.{◌≡◌, ◌++◌, ◌<◌, ◌-◌, ◌^◌, true, Some, length, IfOk, OnOk, OnErr};
+ghost use Rattle.std.specs.Option.{ForSome};
+ghost use Rattle.flow_filter.specs.Flow.{flow_of};
+ghost use Rattle.nf_function.specs.declared.kind.Kind.{Kind as TheKind};
+ghost use Rattle.nf_function.specs.declared.function.BodyFault.TheVariants.{NoMemory as OutOfMemory};
+ghost use Rattle.nf_function.specs.Units.{unit_of};
+ghost use Rattle.nf_function.specs.Semantics.{Semantics, kept_after, output_for, is_sound};
+ghost use Rattle.nf_function.specs.Records.{Reads, is_newer, IsOrder, StepsMakeNewer, Laws};
+
+use crate::kind::Kind;
+use crate::output::Output;
+use crate::unit::Unit;
+use basics::{Bytes, NoMemory, Text};
+use flow_filter::{Dir, Flow, Packet, Site, flow_of};
+use std::alloc::{AllocError, AllocFailed, Global};
+use thiserror::Error;
+
+/// A network function: what it keeps of each unit, how each packet changes that, and how it is stored and printed.
+pub trait Function {
+    /// What is kept of a unit.
+    type Record: Drop;
+
+    /// What the function does.
+    ghost semantics: { Semantics Self.Record };
+
+    ghost KIND: { TheKind };
+
+    const KIND: Kind;
+
+    /// Takes a packet into what is kept of its unit, and gives the output. The packet's flow and the way that it goes are
+    /// at hand.
+    fn step_along(
+        alloc: Global,
+        site: &Site,
+        flow: Flow,
+        way: Dir,
+        kept: &mut Option<Self::Record>,
+        packet: &Packet,
+    ) -> Result<Output, NoMemory>
+        requires { (flow, way) ≡ flow_of site.now packet.now }
+        ensures kept { OnOk result (kept.new ≡ kept_after semantics site.now kept.old packet.now) }
+        ensures output { IfOk result (λ output. output ≡ output_for semantics site.now kept.old packet.now) }
+
+        // What is valid for its unit stays so.
+        ensures sound { is_sound semantics (unit_of semantics.kind flow) kept.old ≡ true → is_sound semantics (unit_of semantics.kind flow) kept.new ≡ true }
+        ensures err { OnErr result (kept.new ≡ kept.old) };
+
+    /// How many bytes a record is stored as.
+    fn body_length(kept: &Self::Record) -> u16
+        ensures { result ≡ length (semantics.body_of kept.now) };
+
+    /// Puts the bytes that a record is stored as behind others. After a refusal a part of them may stand there.
+    fn push_body(bytes: &mut Bytes, kept: &Self::Record) -> Result<(), NoMemory>
+        ensures { OnOk result (bytes.new ≡ bytes.old ++ semantics.body_of kept.now) };
+
+    /// The record of the unit that the bytes spell.
+    fn read_record(alloc: Global, unit: &Unit, body: &[u8]) -> Result<Self::Record, BodyFault>
+        ensures { Reads result (semantics.record_in unit.now body.now) };
+
+    /// Whether the first record has more packets than the second, or as many and a greater body.
+    fn newer(a: &Self::Record, b: &Self::Record) -> bool
+        ensures { result ≡ is_newer semantics a.now b.now };
+
+    /// Whether the record holds a time.
+    fn is_timed(kept: &Self::Record) -> bool
+        ensures { result ≡ semantics.is_timed kept.now };
+
+    /// The same record again.
+    fn copy(alloc: Global, kept: &Self::Record) -> Result<Self::Record, NoMemory>
+        ensures { IfOk result (λ other. other ≡ kept.now) };
+
+    /// Puts the text of an output behind a text. After a refusal a part of it may stand there.
+    fn push_output(text: &mut Text, output: &Output) -> Result<(), NoMemory>
+        ensures { OnOk result (text.new ≡ text.old ++ semantics.output_text output.now) };
+
+    /// Puts the text of a record behind a text. After a refusal a part of it may stand there.
+    fn push_record(text: &mut Text, kept: &Self::Record) -> Result<(), NoMemory>
+        ensures { OnOk result (text.new ≡ text.old ++ semantics.record_text kept.now) };
+
+    /// The unit of a flow: the flow itself, or its local host.
+    final fn unit(flow: &Flow) -> Unit
+        ensures { result ≡ unit_of semantics.kind flow.now }
+    {
+        Self::KIND.unit_of(flow)
+    }
+
+    /// Takes a packet into what is kept of its unit, and gives the output.
+    final fn step(
+        alloc: Global,
+        site: &Site,
+        kept: &mut Option<Self::Record>,
+        packet: &Packet,
+    ) -> Result<Output, NoMemory>
+        ensures kept { OnOk result (kept.new ≡ kept_after semantics site.now kept.old packet.now) }
+        ensures output { IfOk result (λ output. output ≡ output_for semantics site.now kept.old packet.now) }
+        ensures sound { let unit = unit_of semantics.kind (flow_of site.now packet.now).0 in is_sound semantics unit kept.old ≡ true → is_sound semantics unit kept.new ≡ true }
+        ensures err { OnErr result (kept.new ≡ kept.old) }
+    {
+        let (flow, way) = flow_of(site, packet);
+        Self::step_along(alloc, site, flow, way, kept, packet)
+    }
+
+    /// The bytes that a record is stored as.
+    final fn write_record(alloc: Global, kept: &Self::Record) -> Result<Bytes, NoMemory>
+        ensures { IfOk result (λ bytes. bytes ≡ semantics.body_of kept.now) }
+    {
+        let room = usize::from(Self::body_length(kept));
+        let mut bytes = Bytes::from_vec(Vec::with_capacity(alloc, room)?);
+        Self::push_body(&mut bytes, kept)?;
+        Ok(bytes)
+    }
+
+    /// The text of an output.
+    final fn print_output(alloc: Global, output: &Output) -> Result<Text, NoMemory>
+        ensures { IfOk result (λ text. text ≡ semantics.output_text output.now) }
+    {
+        let mut text = Text::open(alloc);
+        Self::push_output(&mut text, output)?;
+        Ok(text)
+    }
+
+    /// The text of a record.
+    final fn print_record(alloc: Global, kept: &Self::Record) -> Result<Text, NoMemory>
+        ensures { IfOk result (λ text. text ≡ semantics.record_text kept.now) }
+    {
+        let mut text = Text::open(alloc);
+        Self::push_record(&mut text, kept)?;
+        Ok(text)
+    }
+
+    ghost same_kind: { KIND ≡ semantics.kind };
+
+    ghost laws: { Laws semantics };
+}
+
+/// Why bytes give no record.
+#[derive(Clone, Copy, Debug, PartialEq, Eq, Error)]
+pub enum BodyFault {
+    /// They aren't what a record of the unit is stored as.
+    #[error("body")]
+    Body,
+    /// Memory ran out.
+    #[error("no memory")]
+    NoMemory,
+}
+
+impl From<AllocError> for BodyFault {
+    ghost use Rattle.std.specs.Prelude.{◌≡◌};
+    ghost use Rattle.nf_function.specs.declared.function.BodyFault.TheVariants.{NoMemory as OutOfMemory};
+
+    ghost from_gives = { λ _ e. e ≡ OutOfMemory };
+
+    fn from(_e: AllocError) -> BodyFault {
+        BodyFault::NoMemory
+    }
+}
+
+impl<T: Drop> From<AllocFailed<T>> for BodyFault {
+    ghost use Rattle.std.specs.Prelude.{◌≡◌};
+    ghost use Rattle.nf_function.specs.declared.function.BodyFault.TheVariants.{NoMemory as OutOfMemory};
+
+    ghost from_gives = { λ _ e. e ≡ OutOfMemory };
+
+    fn from(_e: AllocFailed<T>) -> BodyFault {
+        BodyFault::NoMemory
+    }
+}
+
+/// The law of [`Function::newer`]: together with equality it is a total order.
+pub fn newer_is_an_order<F: Function>()
+    ensures { IsOrder F.semantics }
+{}
+
+/// The law of [`Function::step`]: it makes a record newer while its packets are below their greatest number.
+pub fn steps_make_newer<F: Function>()
+    ensures { StepsMakeNewer F.semantics }
+{}
