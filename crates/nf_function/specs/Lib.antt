@@ -1,5 +1,6 @@
 pub mod Units
 pub mod UnitOrder
+pub mod Stored
 pub mod Semantics
 pub mod Records
 pub mod Tally

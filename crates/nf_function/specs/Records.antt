@@ -9,6 +9,7 @@ use Rattle.flow_filter.specs.declared.site.Site.{Site}
 use Rattle.nf_function.specs.declared.function.BodyFault.{BodyFault}
 use Rattle.nf_function.specs.declared.function.BodyFault.TheVariants.{Body, NoMemory}
 use Rattle.nf_function.specs.declared.unit.Unit as units
+use Rattle.nf_function.specs.Stored.{IsBytes}
 use Rattle.nf_function.specs.Units.{has_times, is_unit, is_transport}
 use Rattle.nf_function.specs.Semantics.{Semantics, count, is_sound, packets_in, unit_at}
 
@@ -29,10 +30,6 @@ is_newer f a b = is_gt (age_cmp f a b)
 -- the newer of two records: the first, where it is newer than the second
 abbrev pub newest : {R : Type 0} → Semantics R → R → R → R
 newest f a b = if is_newer f a b then a else b
-
--- the list is of bytes
-abbrev pub IsBytes : List ℕ → Type 0
-IsBytes bytes = (i : ℕ) → slice_index bytes i < 256
 
 -- the packet is of TCP or UDP, and its numbers and the site's are within their types
 pub record Fits (site : Site) (p : Packet) : Type 0 where

@@ -11,6 +11,7 @@ pub mod chunk;
 pub mod function;
 pub mod kind;
 pub mod output;
+pub mod stored;
 pub mod tally;
 pub mod unit;
 

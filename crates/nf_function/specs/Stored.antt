@@ -1,0 +1,16 @@
+-- Numbers in stored bytes: big-endian, each of a fixed number of bytes. The formats of this project are made of them.
+use Rattle.std.specs.Prelude.{ℕ, ◌<◌, nat_lt, if◌then◌else◌, List, [], ◌∷◌, length, drop, slice_index, Option, None, Some}
+use Rattle.byteorder.specs.Endian.{big_number}
+
+-- the list is of bytes
+abbrev pub IsBytes : List ℕ → Type 0
+IsBytes bytes = (i : ℕ) → slice_index bytes i < 256
+
+-- the first byte, and those behind it
+abbrev pub first_byte : List ℕ → Option (ℕ × List ℕ)
+first_byte [] = None
+first_byte (byte ∷ more) = Some (byte, more)
+
+-- the number in the first n bytes, and the bytes behind them
+unfoldable pub first_number : ℕ → List ℕ → Option (ℕ × List ℕ)
+first_number n bytes = if nat_lt (length bytes) n then None else Some (big_number n bytes, drop n bytes)
