@@ -83,7 +83,7 @@ ascii_by : (c : ℕ) (cs : List ℕ) (plus : Bool) → eqb c 43 ≡ plus → All
 ascii_by c cs true is digits = ascii_more c cs (let plus : c ≡ 43 = eqb-true c 43 is in omega arith) (IsAscii-from_digits cs digits)
 ascii_by c cs false is digits = IsAscii-from_digits (c ∷ cs) digits
 
--- a text of digits is UTF-8, also behind a plus sign
+-- a text of digits is UTF-8, also after a plus sign
 pub numeral_utf8 : (text : List ℕ) → IsNumeral 10 (without_leading_plus text) → IsUtf8 text
 numeral_utf8 [] numeral = IsUtf8-from_ascii [] (search rules)
 numeral_utf8 (c ∷ cs) numeral = IsUtf8-from_ascii (c ∷ cs) (ascii_by c cs (eqb c 43) refl numeral.1)

@@ -17,8 +17,8 @@ shifted : (byte : ℕ) (more : List ℕ) (p : ℕ) (within : Bool)
     → option_map (λ (q : List ℕ × List ℕ). (byte ∷ q.0, q.1)) (split_at_place more p within) ≡ split_at_place (byte ∷ more) (1 + p) within
 shifted byte more p true =
     let next : suc p ≡ 1 + p = omega arith in
-    let behind : suc (p + 1) ≡ 1 + p + 1 = omega arith in
-    ap (λ (n : ℕ). Some (byte ∷ take p more, drop n (byte ∷ more))) behind
+    let next_place : suc (p + 1) ≡ 1 + p + 1 = omega arith in
+    ap (λ (n : ℕ). Some (byte ∷ take p more, drop n (byte ∷ more))) next_place
     ∙ ap (λ (n : ℕ). Some (take n (byte ∷ more), drop (1 + p + 1) (byte ∷ more))) next
 shifted byte more p false = refl
 
@@ -57,7 +57,7 @@ pub split_once-Some : (mark : ℕ) (text : List ℕ) (i : ℕ) → position (λ 
     → Some (take i text, take (length text - (i + 1)) (drop (i + 1) text)) ≡ split_once mark text
 split_once-Some mark text i at =
     let whole : take (length text - (i + 1)) (drop (i + 1) text) ≡ drop (i + 1) text = take_all _ _ (omega (arith, length-drop (i + 1) text)) in
-    sym (split_once-place mark text ∙ place-Some text _ i _ at ∙ ap (λ (behind : List ℕ). Some (take i text, behind)) (sym whole))
+    sym (split_once-place mark text ∙ place-Some text _ i _ at ∙ ap (λ (rest : List ℕ). Some (take i text, rest)) (sym whole))
 
 pub split_once-None : (mark : ℕ) (text : List ℕ) → position (λ b. b == mark) text ≡ None → split_once mark text ≡ None
 split_once-None mark text at = split_once-place mark text ∙ place-None text _ _ at
@@ -82,9 +82,9 @@ Lacks-append mark [] b in_a in_b = in_b
 Lacks-append mark (byte ∷ a) b in_a in_b = (in_a.0, Lacks-append mark a b in_a.1 in_b)
 
 -- a text is split after a part that lacks the mark
-pub split_once-append : (mark : ℕ) (front behind : List ℕ) → Lacks mark front → split_once mark (front ++ mark ∷ behind) ≡ Some (front, behind)
-split_once-append mark [] behind lacks = rw (eq-eqb mark mark refl) refl
-split_once-append mark (byte ∷ front) behind lacks = let isnt = lacks.0 in rw isnt (ap (option_map (λ (p : List ℕ × List ℕ). (byte ∷ p.0, p.1))) (split_once-append mark front behind lacks.1))
+pub split_once-append : (mark : ℕ) (front rest : List ℕ) → Lacks mark front → split_once mark (front ++ mark ∷ rest) ≡ Some (front, rest)
+split_once-append mark [] rest lacks = rw (eq-eqb mark mark refl) refl
+split_once-append mark (byte ∷ front) rest lacks = let isnt = lacks.0 in rw isnt (ap (option_map (λ (p : List ℕ × List ℕ). (byte ∷ p.0, p.1))) (split_once-append mark front rest lacks.1))
 
 pub split_once-lacks : (mark : ℕ) (text : List ℕ) → Lacks mark text → split_once mark text ≡ None
 split_once-lacks mark [] lacks = refl
@@ -109,9 +109,9 @@ pub slice_split-split_once : (mark : ℕ) (text : List ℕ) → slice_split (λ 
 slice_split-split_once mark [] = refl
 slice_split-split_once mark (byte ∷ more) = split_by mark byte more (eqb byte mark) refl (slice_split-split_once mark more)
 
-pub split-Some : (mark : ℕ) (text front behind : List ℕ) → Some (front, behind) ≡ split_once mark text
-    → slice_split (λ b. eqb b mark) text ≡ front ∷ slice_split (λ b. eqb b mark) behind
-split-Some mark text front behind at = slice_split-split_once mark text ∙ ap (λ r. pieces_of text r mark) (sym at)
+pub split-Some : (mark : ℕ) (text front rest : List ℕ) → Some (front, rest) ≡ split_once mark text
+    → slice_split (λ b. eqb b mark) text ≡ front ∷ slice_split (λ b. eqb b mark) rest
+split-Some mark text front rest at = slice_split-split_once mark text ∙ ap (λ r. pieces_of text r mark) (sym at)
 
 pub split-None : (mark : ℕ) (text : List ℕ) → None ≡ split_once mark text → slice_split (λ b. eqb b mark) text ≡ text ∷ []
 split-None mark text at = slice_split-split_once mark text ∙ ap (λ r. pieces_of text r mark) (sym at)

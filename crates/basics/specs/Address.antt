@@ -1,7 +1,7 @@
 -- The dotted text of an IPv4 address (RFC 791 addresses, written as everywhere).
 use Rattle.std.specs.Prelude.{ℕ, ◌/◌, ◌%◌, ◌^◌, ◌++◌, List, codes, decimal}
 
--- the byte of an address with `shift` bits behind it
+-- the byte of an address with `shift` bits after it
 abbrev pub byte_of : ℕ → ℕ → ℕ
 byte_of address shift = address / 2 ^ shift % 256
 

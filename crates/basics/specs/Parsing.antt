@@ -9,7 +9,7 @@ use Rattle.std.specs.Fmt.{decimal}
 unfoldable pub parse_number : ℕ → List ℕ → Option ℕ
 parse_number most text = let n = digits_value 10 text in if bytes_eq text (decimal n) && nat_le n most then Some n else None
 
--- what stands before the first mark, and what stands behind it
+-- what stands before the first mark, and what stands after it
 abbrev pub split_once : ℕ → List ℕ → Option (List ℕ × List ℕ)
 split_once mark [] = None
 split_once mark (byte ∷ more) = if byte == mark then Some ([], more) else option_map (λ p. (byte ∷ p.0, p.1)) (split_once mark more)

@@ -19,7 +19,7 @@ pub fn parse_number(text: &[u8], most: u64) -> Option<u64>
     (value <= most).then_some(value)
 }
 
-/// Whether a text begins as a number does: with a digit, and not with a zero in front of others.
+/// Whether a text begins as a number does: with a digit, and not with a zero before others.
 fn is_plain(text: &[u8]) -> bool
     ensures { IsTrue result ↔ ((0 < length text.now) × (IsInRange 48 57 (slice_index text.now 0)) × (slice_index text.now 0 ≡ 48 → length text.now ≡ 1)) }
 {
@@ -30,7 +30,7 @@ fn is_plain(text: &[u8]) -> bool
     }
 }
 
-/// The number that the digits spell, behind a plus sign or not.
+/// The number that the digits spell, after a plus sign or not.
 fn parsed(text: &[u8]) -> Option<u64>
     ensures { let digits = without_leading_plus text.now in SomeIff result (IsNumeral 10 digits × (digits_value 10 digits < 2 ^ 64)) (digits_value 10 digits) }
 {
@@ -40,7 +40,7 @@ fn parsed(text: &[u8]) -> Option<u64>
     }
 }
 
-/// What stands before the first `mark` and what stands behind it, or `None` where there is none.
+/// What stands before the first `mark` and what stands after it, or `None` where there is none.
 pub fn split_once(text: &[u8], mark: u8) -> Option<(&[u8], &[u8])>
     ensures value { option_map (λ p. (p.0.now, p.1.now)) result ≡ split_once mark text.now }
     ensures shorter { IfSome result (λ p. length p.1.now < length text.now) }
@@ -56,7 +56,7 @@ fn first_place(text: &[u8], mark: u8) -> Option<usize>
     text.iter().position(|byte| *byte == mark)
 }
 
-/// The piece before the first `mark`, and what stands behind the mark, where there is one.
+/// The piece before the first `mark`, and what stands after the mark, where there is one.
 pub fn first_piece(text: &[u8], mark: u8) -> (&[u8], Option<&[u8]>)
     ensures pieces { remaining_pieces mark (Some text.now) ≡ result.0.now ∷ remaining_pieces mark (option_map (λ t. t.now) result.1) }
     ensures shorter { IfSome result.1 (λ more. length more.now < length text.now) }

@@ -35,7 +35,7 @@ impl<T> Sequence<T> {
         }
     }
 
-    /// Puts an item behind the others.
+    /// Puts an item after the others.
     pub fn push(&mut self, item: T) -> Result<(), NoMemory>
     where
         T: Drop,

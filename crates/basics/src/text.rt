@@ -2,10 +2,14 @@ ghost use Rattle.std.specs.Prelude.{◌≡◌, ◌++◌, ◌<◌, ◌^◌, OnOk,
 ghost use Rattle.basics.specs.Address.{address_text, byte_of};
 
 use crate::sequence::{NoMemory, Text};
+use arrayvec::ArrayString;
 use itoa::Buffer;
 
+/// Room for a dotted address, and to spare.
+type Dotted = ArrayString<96>;
+
 impl Text {
-    /// Puts bytes behind the text.
+    /// Puts bytes after the text.
     pub fn push_bytes(&mut self, bytes: &[u8]) -> Result<(), NoMemory>
         ensures ok { OnOk result (self.new ≡ self.old ++ bytes.now) }
         ensures err { OnErr result (self.new ≡ self.old) }
@@ -13,7 +17,7 @@ impl Text {
         self.list.extend_from_slice(bytes)
     }
 
-    /// Puts a number behind the text, in decimal digits.
+    /// Puts a number after the text, in decimal digits.
     pub fn push_decimal(&mut self, number: u64) -> Result<(), NoMemory>
         ensures ok { OnOk result (self.new ≡ self.old ++ decimal number) }
         ensures err { OnErr result (self.new ≡ self.old) }
@@ -22,22 +26,33 @@ impl Text {
         self.push_bytes(buffer.format(number).as_bytes())
     }
 
-    #[tactic(auto, unfolding(crate::specs::Address::address_text))]
-    /// Puts an address behind the text, as `A.B.C.D`. After a refusal a part of it may stand there.
+    /// Puts an address after the text, as `A.B.C.D`.
     pub fn push_address(&mut self, address: u32) -> Result<(), NoMemory>
-        ensures { OnOk result (self.new ≡ self.old ++ address_text address) }
+        ensures ok { OnOk result (self.new ≡ self.old ++ address_text address) }
+        ensures err { OnErr result (self.new ≡ self.old) }
     {
-        self.push_decimal(byte_of(address, 24))?;
-        self.push_bytes(b".")?;
-        self.push_decimal(byte_of(address, 16))?;
-        self.push_bytes(b".")?;
-        self.push_decimal(byte_of(address, 8))?;
-        self.push_bytes(b".")?;
-        self.push_decimal(byte_of(address, 0))
+        self.push_bytes(dotted(address).as_str().as_bytes())
     }
 }
 
-/// The byte of an address that has `shift` bits behind it.
+/// The text of an address, which takes no memory.
+#[tactic(auto, unfolding(crate::specs::Address::address_text))]
+fn dotted(address: u32) -> Dotted
+    ensures { result.bytes ≡ address_text address }
+{
+    let mut buffer = Buffer::new();
+    let mut text = Dotted::new();
+    text.push_str(buffer.format(byte_of(address, 24)));
+    text.push_str(".");
+    text.push_str(buffer.format(byte_of(address, 16)));
+    text.push_str(".");
+    text.push_str(buffer.format(byte_of(address, 8)));
+    text.push_str(".");
+    text.push_str(buffer.format(byte_of(address, 0)));
+    text
+}
+
+/// The byte of an address that has `shift` bits after it.
 fn byte_of(address: u32, shift: u32) -> u64
     requires { shift < 32 }
     ensures { result ≡ byte_of address shift }

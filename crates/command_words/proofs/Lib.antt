@@ -1,2 +1,2 @@
-pub mod Tables
-pub mod Refusals
+pub mod ArgumentTables
+pub mod ClapRefusals

@@ -4,17 +4,17 @@ use Rattle.std.specs.Prelude.{true, List, [], ◌∷◌, Option, Some, None, opt
 use Rattle.clap.specs.Words.{App, Rule, Row, Text, new_app, new_rule, fault_of, matches_of, first_of}
 use Rattle.clap.specs.Simple.{on_top}
 use Rattle.clap.specs.declared.error.ErrorKind.{ErrorKind}
-use Rattle.command_words.specs.declared.grammar.Want.{Want}
-use Rattle.command_words.specs.declared.grammar.Want.TheVariants.{Place, OtherPlace, Wanted, Optional}
+use Rattle.command_words.specs.declared.grammar.ArgumentKind.{ArgumentKind}
+use Rattle.command_words.specs.declared.grammar.ArgumentKind.TheVariants.{Positional, OptionalPositional, Required, Optional}
 
 -- an argument by its name: a place or an option, and whether it must be there
-abbrev pub rule_by : Want → Text → Rule
-rule_by Place name = record (new_rule name) { required = true }
-rule_by OtherPlace name = new_rule name
-rule_by Wanted name = record (new_rule name) { long = Some name; required = true }
+abbrev pub rule_by : ArgumentKind → Text → Rule
+rule_by Positional name = record (new_rule name) { required = true }
+rule_by OptionalPositional name = new_rule name
+rule_by Required name = record (new_rule name) { long = Some name; required = true }
 rule_by Optional name = record (new_rule name) { long = Some name }
 
--- a command without help, that reads the words behind its name
+-- a command without help, that reads the words after its name
 abbrev pub bare_app : Text → App
 bare_app name = on_top (λ s. record s { no_binary_name = true; disable_help_flag = true }) (new_app name)
 
@@ -24,16 +24,16 @@ app_with name rules = record { top = record (bare_app name).top { rules = rules 
 
 -- FUNCTION --instances LIST --inside PREFIX [--outside ADDR] [--window W] [--schedule S] TRACE [SCRIPT]
 abbrev pub sim_rules : List Rule
-sim_rules = rule_by Place (codes "function") ∷ rule_by Wanted (codes "instances") ∷ rule_by Wanted (codes "inside")
+sim_rules = rule_by Positional (codes "function") ∷ rule_by Required (codes "instances") ∷ rule_by Required (codes "inside")
     ∷ rule_by Optional (codes "outside") ∷ rule_by Optional (codes "window") ∷ rule_by Optional (codes "schedule")
-    ∷ rule_by Place (codes "trace") ∷ rule_by OtherPlace (codes "script") ∷ []
+    ∷ rule_by Positional (codes "trace") ∷ rule_by OptionalPositional (codes "script") ∷ []
 
 unfoldable pub sim_app : App
 sim_app = app_with (codes "sim") sim_rules
 
 -- FUNCTION --instances LIST SCRIPT
 abbrev pub check_rules : List Rule
-check_rules = rule_by Place (codes "function") ∷ rule_by Wanted (codes "instances") ∷ rule_by Place (codes "script") ∷ []
+check_rules = rule_by Positional (codes "function") ∷ rule_by Required (codes "instances") ∷ rule_by Positional (codes "script") ∷ []
 
 unfoldable pub check_app : App
 check_app = app_with (codes "check") check_rules
@@ -77,5 +77,5 @@ given_of rows = record {
 }
 
 -- the texts that the words of a command give, or None where the words aren't in its grammar
-unfoldable pub read_words : App → List Text → Option Given
-read_words app words = option_map given_of (rows_taken app words)
+unfoldable pub given_arguments : App → List Text → Option Given
+given_arguments app words = option_map given_of (rows_taken app words)

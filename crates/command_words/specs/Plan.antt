@@ -3,7 +3,7 @@ use Rattle.std.specs.Prelude.{ℕ, Bool, true, false, not, ◌&&◌, ◌==◌, n
 use Rattle.std.specs.List.{slice_split}
 use Rattle.std.specs.Str.{bytes_eq}
 use Rattle.clap.specs.Words.{Text}
-use Rattle.flow_filter.specs.Block.{in_block}
+use Rattle.flow_filter.specs.Prefixes.{in_prefix}
 use Rattle.flow_filter.specs.Name.{has_twice, is_name}
 use Rattle.basics.specs.Options.{◌>>=◌}
 use Rattle.basics.specs.Parsing.{split_once, parse_number}
@@ -12,7 +12,7 @@ use Rattle.nf_function.specs.declared.kind.Kind.{Kind}
 use Rattle.nf_function.specs.declared.kind.Kind.TheVariants.{Conntrack, Nat, Monitor}
 use Rattle.actor_net.specs.declared.schedule.Schedule.{Schedule}
 use Rattle.actor_net.specs.declared.schedule.Schedule.TheVariants.{First, Last, Number}
-use Rattle.command_words.specs.Grammar.{Given, read_words, sim_app, check_app}
+use Rattle.command_words.specs.Grammar.{Given, given_arguments, sim_app, check_app}
 
 -- only where the test is true
 abbrev pub only : {A : Type 0} → Bool → Option A → Option A
@@ -31,7 +31,7 @@ Instances = List Text × List ℕ
 pub record SimAsked : Type 0 where
   pub kind : Kind
   pub instances : Instances
-  -- the bits and the length of the inside block
+  -- the bits and the length of the inside prefix_numbers
   pub inside : ℕ × ℕ
   pub outside : Option ℕ
   pub window : ℕ
@@ -89,7 +89,7 @@ inside_of text = only (is_some (split_once 47 text)) (prefix_of text)
 abbrev pub outside_of : Kind → ℕ × ℕ → Option Text → Option (Option ℕ)
 outside_of Nat inside None = None
 outside_of Nat inside (Some text) = address_of text >>= λ address.
-    only (inside.1 == 24 && not (in_block inside.0 inside.1 address)) (Some (Some address))
+    only (inside.1 == 24 && not (in_prefix inside.0 inside.1 address)) (Some (Some address))
 outside_of Conntrack inside None = Some None
 outside_of Conntrack inside (Some text) = None
 outside_of Monitor inside None = Some None
@@ -173,10 +173,10 @@ check_values g = do
   Some (record { kind = kind; instances = instances; script = script })
 
 abbrev pub sim_of : List Text → Option Asked
-sim_of words = read_words sim_app words >>= λ g. only (is_built g) (sim_values g >>= λ s. Some (asks_sim s))
+sim_of words = given_arguments sim_app words >>= λ g. only (is_built g) (sim_values g >>= λ s. Some (asks_sim s))
 
 abbrev pub check_of : List Text → Option Asked
-check_of words = read_words check_app words >>= λ g. check_values g >>= λ c. Some (asks_check c)
+check_of words = given_arguments check_app words >>= λ g. check_values g >>= λ c. Some (asks_check c)
 
 -- PROGRAM COMMAND and the words of the command
 unfoldable pub plan_of : List Text → Option Asked

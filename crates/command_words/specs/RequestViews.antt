@@ -1,6 +1,6 @@
 -- How contracts see what the words ask for.
 use Rattle.std.specs.Prelude.{option_map}
-use Rattle.flow_filter.specs.Reading.{block}
+use Rattle.flow_filter.specs.Reading.{prefix_numbers}
 use Rattle.command_words.specs.declared.request.Instances as code
 use Rattle.command_words.specs.declared.request.Simulation.{Simulation}
 use Rattle.command_words.specs.declared.request.Checking.{Checking}
@@ -16,7 +16,7 @@ abbrev pub sim_view : Simulation → SimAsked
 sim_view s = record {
   kind = s.kind;
   instances = instances_view s.instances;
-  inside = block s.site.inside;
+  inside = prefix_numbers s.site.inside;
   outside = s.site.outside;
   window = s.window;
   schedule = s.schedule;

@@ -1,16 +1,16 @@
 -- What reading words gives: exactly what a definition reads, or a refusal exactly where it reads nothing.
 use Rattle.std.specs.Prelude.{◌≡◌, Option, Some, None, Result, Ok, Err, option_map}
-use Rattle.command_words.specs.declared.fault.WordsFault.{WordsFault}
-use Rattle.command_words.specs.declared.fault.WordsFault.TheVariants.{Usage, NoMemory}
+use Rattle.command_words.specs.declared.fault.ArgumentsFault.{ArgumentsFault}
+use Rattle.command_words.specs.declared.fault.ArgumentsFault.TheVariants.{Usage, NoMemory}
 use Rattle.command_words.specs.declared.grammar.GivenWords.{GivenWords}
 use Rattle.command_words.specs.Grammar.{Given}
 
--- Usage exactly where nothing is read; want of memory is free
-abbrev pub Refuses : {Y : Type 0} → WordsFault → Option Y → Type 0
+-- Usage exactly where nothing is read; out of memory is free
+abbrev pub Refuses : {Y : Type 0} → ArgumentsFault → Option Y → Type 0
 Refuses Usage reading = reading ≡ None
 Refuses NoMemory reading = Unit {0}
 
-abbrev pub Reads : {X Y : Type 0} → (X → Y) → Result X WordsFault → Option Y → Type 0
+abbrev pub Reads : {X Y : Type 0} → (X → Y) → Result X ArgumentsFault → Option Y → Type 0
 Reads view (Ok x) reading = reading ≡ Some (view x)
 Reads view (Err e) reading = Refuses e reading
 

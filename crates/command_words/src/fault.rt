@@ -1,28 +1,28 @@
 ghost use Rattle.std.specs.Prelude.{◌≡◌};
-ghost use Rattle.command_words.specs.declared.fault.WordsFault.TheVariants.{NoMemory};
+ghost use Rattle.command_words.specs.declared.fault.ArgumentsFault.TheVariants.{NoMemory};
 
 use std::alloc::{AllocError, AllocFailed};
 
 /// Why words were refused.
 #[derive(Clone, Copy, Debug, PartialEq, Eq)]
-pub enum WordsFault {
+pub enum ArgumentsFault {
     /// The words aren't in the grammar.
     Usage,
     NoMemory,
 }
 
-impl From<AllocError> for WordsFault {
+impl From<AllocError> for ArgumentsFault {
     ghost from_gives = { λ _ fault. fault ≡ NoMemory };
 
     fn from(_error: AllocError) -> Self {
-        WordsFault::NoMemory
+        ArgumentsFault::NoMemory
     }
 }
 
-impl<T: Drop> From<AllocFailed<T>> for WordsFault {
+impl<T: Drop> From<AllocFailed<T>> for ArgumentsFault {
     ghost from_gives = { λ _ fault. fault ≡ NoMemory };
 
     fn from(_error: AllocFailed<T>) -> Self {
-        WordsFault::NoMemory
+        ArgumentsFault::NoMemory
     }
 }

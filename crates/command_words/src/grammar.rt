@@ -1,22 +1,22 @@
 ghost use Rattle.std.specs.Prelude.{Some, None, codes, ◌≡◌, ◌++◌, ◌∷◌, [], true, false, List, map, IfOk, option_map, string_bytes};
 ghost use Rattle.clap.specs.Words.{Rule, Text, app_of, rule_of, rows_of, found_of, is_simple_and_free};
-ghost use Rattle.command_words.specs.Grammar.{rule_by, app_with, sim_app, check_app, rows_taken, value_of, given_of, read_words, nothing};
+ghost use Rattle.command_words.specs.Grammar.{rule_by, app_with, sim_app, check_app, rows_taken, value_of, given_of, given_arguments, nothing};
 ghost use Rattle.command_words.specs.Views.{Reads, given_view};
 
-use crate::fault::WordsFault;
+use crate::fault::ArgumentsFault;
 use clap::error::ErrorKind;
 use clap::{Arg, ArgMatches, Command};
 use std::alloc::{AllocError, Global};
 
 /// What an argument is, and whether it must be there.
 #[derive(Clone, Copy, Debug)]
-pub enum Want {
+pub enum ArgumentKind {
     /// A place.
-    Place,
+    Positional,
     /// A place that may be there.
-    OtherPlace,
+    OptionalPositional,
     /// An option with a value.
-    Wanted,
+    Required,
     /// An option with a value that may be there.
     Optional,
 }
@@ -35,27 +35,27 @@ pub struct GivenWords<'a> {
 }
 
 /// The arguments of `sim`.
-static SIM: [(Want, &str); 8] = [
-    (Want::Place, "function"),
-    (Want::Wanted, "instances"),
-    (Want::Wanted, "inside"),
-    (Want::Optional, "outside"),
-    (Want::Optional, "window"),
-    (Want::Optional, "schedule"),
-    (Want::Place, "trace"),
-    (Want::OtherPlace, "script"),
+static SIM: [(ArgumentKind, &str); 8] = [
+    (ArgumentKind::Positional, "function"),
+    (ArgumentKind::Required, "instances"),
+    (ArgumentKind::Required, "inside"),
+    (ArgumentKind::Optional, "outside"),
+    (ArgumentKind::Optional, "window"),
+    (ArgumentKind::Optional, "schedule"),
+    (ArgumentKind::Positional, "trace"),
+    (ArgumentKind::OptionalPositional, "script"),
 ];
 
 /// The arguments of `check`.
-static CHECK: [(Want, &str); 3] = [
-    (Want::Place, "function"),
-    (Want::Wanted, "instances"),
-    (Want::Place, "script"),
+static CHECK: [(ArgumentKind, &str); 3] = [
+    (ArgumentKind::Positional, "function"),
+    (ArgumentKind::Required, "instances"),
+    (ArgumentKind::Positional, "script"),
 ];
 
 /// A place that must be there.
 fn place<'a>(alloc: Global, name: &'a str) -> Arg<'a>
-    ensures rule { rule_of result ≡ rule_by Want.Place name.entry.now }
+    ensures rule { rule_of result ≡ rule_by ArgumentKind.Positional name.entry.now }
     ensures local { result.global ≡ false }
 {
     Arg::new(alloc, name).required(true)
@@ -63,7 +63,7 @@ fn place<'a>(alloc: Global, name: &'a str) -> Arg<'a>
 
 /// A place that may be there.
 fn other_place<'a>(alloc: Global, name: &'a str) -> Arg<'a>
-    ensures rule { rule_of result ≡ rule_by Want.OtherPlace name.entry.now }
+    ensures rule { rule_of result ≡ rule_by ArgumentKind.OptionalPositional name.entry.now }
     ensures local { result.global ≡ false }
 {
     Arg::new(alloc, name)
@@ -71,7 +71,7 @@ fn other_place<'a>(alloc: Global, name: &'a str) -> Arg<'a>
 
 /// An option that must be there.
 fn wanted<'a>(alloc: Global, name: &'a str) -> Arg<'a>
-    ensures rule { rule_of result ≡ rule_by Want.Wanted name.entry.now }
+    ensures rule { rule_of result ≡ rule_by ArgumentKind.Required name.entry.now }
     ensures local { result.global ≡ false }
 {
     Arg::new(alloc, name).long(name).required(true)
@@ -79,22 +79,22 @@ fn wanted<'a>(alloc: Global, name: &'a str) -> Arg<'a>
 
 /// An option that may be there.
 fn optional<'a>(alloc: Global, name: &'a str) -> Arg<'a>
-    ensures rule { rule_of result ≡ rule_by Want.Optional name.entry.now }
+    ensures rule { rule_of result ≡ rule_by ArgumentKind.Optional name.entry.now }
     ensures local { result.global ≡ false }
 {
     Arg::new(alloc, name).long(name)
 }
 
 /// An argument.
-fn argument<'a>(alloc: Global, want: Want, name: &'a str) -> Arg<'a>
+fn argument<'a>(alloc: Global, want: ArgumentKind, name: &'a str) -> Arg<'a>
     ensures rule { rule_of result ≡ rule_by want name.entry.now }
     ensures local { result.global ≡ false }
 {
     match want {
-        Want::Place => place(alloc, name),
-        Want::OtherPlace => other_place(alloc, name),
-        Want::Wanted => wanted(alloc, name),
-        Want::Optional => optional(alloc, name),
+        ArgumentKind::Positional => place(alloc, name),
+        ArgumentKind::OptionalPositional => other_place(alloc, name),
+        ArgumentKind::Required => wanted(alloc, name),
+        ArgumentKind::Optional => optional(alloc, name),
     }
 }
 
@@ -112,7 +112,7 @@ fn bare<'a>(alloc: Global, name: &'a str) -> Command<'a>
 fn with<'a>(
     alloc: Global,
     command: Command<'a>,
-    want: Want,
+    want: ArgumentKind,
     name: &'a str,
 ) -> Result<Command<'a>, AllocError>
     ensures { IfOk result (λ c. (title : Text) (rules : List Rule) → app_of command.entry ≡ app_with title rules
@@ -125,7 +125,7 @@ fn with<'a>(
 fn command_of<'a>(
     alloc: Global,
     title: &'a str,
-    table: &'a [(Want, &'a str)],
+    table: &'a [(ArgumentKind, &'a str)],
 ) -> Result<Command<'a>, AllocError>
     ensures { IfOk result (λ c. app_of c ≡ app_with title.entry.now (map (λ e. rule_by e.0 e.1.now) table.entry.now)) }
 {
@@ -153,15 +153,15 @@ fn check_command<'a>(alloc: Global) -> Result<Command<'a>, AllocError>
 }
 
 /// What the words of a command give.
-fn parsed<'a>(command: Command<'a>, words: &'a [String]) -> Result<ArgMatches<'a>, WordsFault>
+fn parsed<'a>(command: Command<'a>, words: &'a [String]) -> Result<ArgMatches<'a>, ArgumentsFault>
     requires { is_simple_and_free (app_of command) ≡ true }
     ensures { Reads (λ m. rows_of (found_of m)) result (rows_taken (app_of command.entry) (map string_bytes words.entry.now)) }
 {
     match command.try_get_matches_from(words) {
         Ok(matches) => Ok(matches),
         Err(error) => match error.kind() {
-            ErrorKind::OutOfMemory => Err(WordsFault::NoMemory),
-            _ => Err(WordsFault::Usage),
+            ErrorKind::OutOfMemory => Err(ArgumentsFault::NoMemory),
+            _ => Err(ArgumentsFault::Usage),
         },
     }
 }
@@ -189,20 +189,20 @@ fn given_of<'a>(matches: &ArgMatches<'a>) -> GivenWords<'a>
     }
 }
 
-/// The texts that the words behind `sim` give.
-#[tactic(auto, unfolding(crate::specs::Grammar::read_words))]
-pub fn read_sim<'a>(alloc: Global, words: &'a [String]) -> Result<GivenWords<'a>, WordsFault>
-    ensures { Reads given_view result (read_words sim_app (map string_bytes words.entry.now)) }
+/// The texts that the words after `sim` give.
+#[tactic(auto, unfolding(crate::specs::Grammar::given_arguments))]
+pub fn read_sim<'a>(alloc: Global, words: &'a [String]) -> Result<GivenWords<'a>, ArgumentsFault>
+    ensures { Reads given_view result (given_arguments sim_app (map string_bytes words.entry.now)) }
 {
     let command = sim_command(alloc)?;
     let matches = parsed(command, words)?;
     Ok(given_of(&matches))
 }
 
-/// The texts that the words behind `check` give.
-#[tactic(auto, unfolding(crate::specs::Grammar::read_words))]
-pub fn read_check<'a>(alloc: Global, words: &'a [String]) -> Result<GivenWords<'a>, WordsFault>
-    ensures { Reads given_view result (read_words check_app (map string_bytes words.entry.now)) }
+/// The texts that the words after `check` give.
+#[tactic(auto, unfolding(crate::specs::Grammar::given_arguments))]
+pub fn read_check<'a>(alloc: Global, words: &'a [String]) -> Result<GivenWords<'a>, ArgumentsFault>
+    ensures { Reads given_view result (given_arguments check_app (map string_bytes words.entry.now)) }
 {
     let command = check_command(alloc)?;
     let matches = parsed(command, words)?;
@@ -211,16 +211,16 @@ pub fn read_check<'a>(alloc: Global, words: &'a [String]) -> Result<GivenWords<'
 
 /// Laws of the grammar, for words with any texts in them: which names the texts are given for, and what is refused.
 pub fn written_words()
-    ensures sim { (f l p t : Text) → read_words sim_app ((codes "--instances=" ++ l) ∷ (codes "--inside=" ++ p) ∷ codes "--" ∷ f ∷ t ∷ [])
+    ensures sim { (f l p t : Text) → given_arguments sim_app ((codes "--instances=" ++ l) ∷ (codes "--inside=" ++ p) ∷ codes "--" ∷ f ∷ t ∷ [])
         ≡ Some (record nothing { function = Some f; instances = Some l; inside = Some p; trace = Some t }) }
-    ensures options { (f l p o w s t c : Text) → read_words sim_app ((codes "--schedule=" ++ s) ∷ (codes "--window=" ++ w) ∷ (codes "--outside=" ++ o)
+    ensures options { (f l p o w s t c : Text) → given_arguments sim_app ((codes "--schedule=" ++ s) ∷ (codes "--window=" ++ w) ∷ (codes "--outside=" ++ o)
         ∷ (codes "--inside=" ++ p) ∷ (codes "--instances=" ++ l) ∷ codes "--" ∷ f ∷ t ∷ c ∷ [])
         ≡ Some (record { function = Some f; instances = Some l; inside = Some p; outside = Some o; window = Some w; schedule = Some s; trace = Some t; script = Some c }) }
-    ensures check { (f l s : Text) → read_words check_app ((codes "--instances=" ++ l) ∷ codes "--" ∷ f ∷ s ∷ [])
+    ensures check { (f l s : Text) → given_arguments check_app ((codes "--instances=" ++ l) ∷ codes "--" ∷ f ∷ s ∷ [])
         ≡ Some (record nothing { function = Some f; instances = Some l; script = Some s }) }
-    ensures missing { (f l t : Text) → read_words sim_app ((codes "--instances=" ++ l) ∷ codes "--" ∷ f ∷ t ∷ []) ≡ None }
-    ensures twice { (f l p t : Text) → read_words sim_app ((codes "--instances=" ++ l) ∷ (codes "--inside=" ++ p) ∷ (codes "--inside=" ++ p) ∷ codes "--" ∷ f ∷ t ∷ []) ≡ None }
-    ensures stray { (f l s more : Text) → read_words check_app ((codes "--instances=" ++ l) ∷ codes "--" ∷ f ∷ s ∷ more ∷ []) ≡ None }
-    ensures unknown { (f l s : Text) → read_words check_app ((codes "--instances=" ++ l) ∷ codes "--summary" ∷ codes "--" ∷ f ∷ s ∷ []) ≡ None }
-    ensures help { (f l s : Text) → read_words check_app ((codes "--instances=" ++ l) ∷ codes "--help" ∷ codes "--" ∷ f ∷ s ∷ []) ≡ None }
+    ensures missing { (f l t : Text) → given_arguments sim_app ((codes "--instances=" ++ l) ∷ codes "--" ∷ f ∷ t ∷ []) ≡ None }
+    ensures twice { (f l p t : Text) → given_arguments sim_app ((codes "--instances=" ++ l) ∷ (codes "--inside=" ++ p) ∷ (codes "--inside=" ++ p) ∷ codes "--" ∷ f ∷ t ∷ []) ≡ None }
+    ensures stray { (f l s more : Text) → given_arguments check_app ((codes "--instances=" ++ l) ∷ codes "--" ∷ f ∷ s ∷ more ∷ []) ≡ None }
+    ensures unknown { (f l s : Text) → given_arguments check_app ((codes "--instances=" ++ l) ∷ codes "--summary" ∷ codes "--" ∷ f ∷ s ∷ []) ≡ None }
+    ensures help { (f l s : Text) → given_arguments check_app ((codes "--instances=" ++ l) ∷ codes "--help" ∷ codes "--" ∷ f ∷ s ∷ []) ≡ None }
 {}

@@ -1,9 +1,9 @@
 ghost use Rattle.std.specs.Prelude.{◌≡◌, if◌then◌else◌, Some, None, ◌≤◌, ◌==◌, ◌&&◌, ◌-◌, not, IfOk, IfSome, option_map, option_and_then, is_some, is_none, map, length};
 ghost use Rattle.std.specs.List.{slice_split};
-ghost use Rattle.flow_filter.specs.Block.{in_block};
+ghost use Rattle.flow_filter.specs.Prefixes.{in_prefix};
 ghost use Rattle.flow_filter.specs.Name.{is_name};
 ghost use Rattle.basics.specs.Parsing.{split_once, parse_number};
-ghost use Rattle.flow_filter.specs.Reading.{block};
+ghost use Rattle.flow_filter.specs.Reading.{prefix_numbers};
 ghost use Rattle.command_words.specs.Plan.{function_of, instance_of, with_limit, all_instances, instances_of, inside_of, outside_of, window_of, schedule_of, file_of, file_if};
 ghost use Rattle.command_words.specs.RequestViews.{instances_view};
 
@@ -110,7 +110,7 @@ pub fn instances_of(alloc: Global, list: Option<&str>) -> Result<Option<Instance
 /// The block that the text spells as `A.B.C.D/L`.
 #[tactic(auto, unfolding(crate::specs::Plan::inside_of))]
 pub fn inside_of(text: Option<&str>) -> Option<Prefix>
-    ensures { option_map block result ≡ option_and_then inside_of (option_map (λ t. t.now) text.entry) }
+    ensures { option_map prefix_numbers result ≡ option_and_then inside_of (option_map (λ t. t.now) text.entry) }
 {
     let text = text?.as_bytes();
     split_once(text, b'/')?;
@@ -119,7 +119,7 @@ pub fn inside_of(text: Option<&str>) -> Option<Prefix>
 
 /// The site with this block and, for the translator alone, this outside address.
 pub fn site_of(kind: Kind, inside: Prefix, outside: Option<&str>) -> Option<Site>
-    ensures outside { option_map (λ s. s.outside) result ≡ outside_of kind (block inside) (option_map (λ t. t.now) outside.entry) }
+    ensures outside { option_map (λ s. s.outside) result ≡ outside_of kind (prefix_numbers inside) (option_map (λ t. t.now) outside.entry) }
     ensures inside { IfSome result (λ s. s.inside ≡ inside) }
 {
     match (kind, outside) {
@@ -135,7 +135,7 @@ pub fn site_of(kind: Kind, inside: Prefix, outside: Option<&str>) -> Option<Site
 
 /// The site that translates to an address outside its /24.
 fn translating(inside: Prefix, outside: u32) -> Option<Site>
-    ensures outside { option_map (λ s. s.outside) result ≡ (if inside.len == 24 && not (in_block inside.bits inside.len outside) then Some (Some outside) else None) }
+    ensures outside { option_map (λ s. s.outside) result ≡ (if inside.len == 24 && not (in_prefix inside.bits inside.len outside) then Some (Some outside) else None) }
     ensures inside { IfSome result (λ s. s.inside ≡ inside) }
 {
     if inside.len == 24 && !inside.holds(outside) {

@@ -3,7 +3,7 @@ ghost use Rattle.command_words.specs.Plan.{plan_of, sim_of, check_of, sim_values
 ghost use Rattle.command_words.specs.Views.{Reads, given_view};
 ghost use Rattle.command_words.specs.RequestViews.{request_view, sim_view, check_view};
 
-use crate::fault::WordsFault;
+use crate::fault::ArgumentsFault;
 use crate::grammar::{GivenWords, read_check, read_sim};
 use crate::request::{Checking, Request, Simulation};
 use crate::values::{
@@ -14,7 +14,7 @@ use std::alloc::Global;
 
 /// What the words ask for: the program's name, a command, and the words of the command.
 #[tactic(auto, unfolding(crate::specs::Plan::plan_of))]
-pub fn read_words<'a>(alloc: Global, words: &'a [String]) -> Result<Request<'a>, WordsFault>
+pub fn parse_command<'a>(alloc: Global, words: &'a [String]) -> Result<Request<'a>, ArgumentsFault>
     ensures { Reads request_view result (plan_of (map string_bytes words.entry.now)) }
 {
     match words {
@@ -24,27 +24,27 @@ pub fn read_words<'a>(alloc: Global, words: &'a [String]) -> Result<Request<'a>,
             } else if command.as_str() == "check" {
                 read_checking(alloc, words)
             } else {
-                Err(WordsFault::Usage)
+                Err(ArgumentsFault::Usage)
             }
         }
-        _ => Err(WordsFault::Usage),
+        _ => Err(ArgumentsFault::Usage),
     }
 }
 
-/// What the words behind `sim` ask for.
-fn read_simulation<'a>(alloc: Global, words: &'a [String]) -> Result<Request<'a>, WordsFault>
+/// What the words after `sim` ask for.
+fn read_simulation<'a>(alloc: Global, words: &'a [String]) -> Result<Request<'a>, ArgumentsFault>
     ensures { Reads request_view result (sim_of (map string_bytes words.entry.now)) }
 {
     let given = read_sim(alloc, words)?;
     if !is_built(&given) {
-        return Err(WordsFault::Usage);
+        return Err(ArgumentsFault::Usage);
     }
     let simulation = sim_values(alloc, &given)?;
     Ok(Request::Sim(simulation))
 }
 
-/// What the words behind `check` ask for.
-fn read_checking<'a>(alloc: Global, words: &'a [String]) -> Result<Request<'a>, WordsFault>
+/// What the words after `check` ask for.
+fn read_checking<'a>(alloc: Global, words: &'a [String]) -> Result<Request<'a>, ArgumentsFault>
     ensures { Reads request_view result (check_of (map string_bytes words.entry.now)) }
 {
     let given = read_check(alloc, words)?;
@@ -96,32 +96,32 @@ fn is_last(text: Option<&str>) -> bool
 
 /// The values of `sim`, where each is in its grammar.
 #[tactic(auto, unfolding(crate::specs::Plan::sim_values))]
-fn sim_values<'a>(alloc: Global, given: &GivenWords<'a>) -> Result<Simulation<'a>, WordsFault>
+fn sim_values<'a>(alloc: Global, given: &GivenWords<'a>) -> Result<Simulation<'a>, ArgumentsFault>
     ensures { Reads sim_view result (sim_values (given_view given.now)) }
 {
     let Some(kind) = function_of(given.function) else {
-        return Err(WordsFault::Usage);
+        return Err(ArgumentsFault::Usage);
     };
     let Some(instances) = instances_of(alloc, given.instances)? else {
-        return Err(WordsFault::Usage);
+        return Err(ArgumentsFault::Usage);
     };
     let Some(inside) = inside_of(given.inside) else {
-        return Err(WordsFault::Usage);
+        return Err(ArgumentsFault::Usage);
     };
     let Some(site) = site_of(kind, inside, given.outside) else {
-        return Err(WordsFault::Usage);
+        return Err(ArgumentsFault::Usage);
     };
     let Some(window) = window_of(given.window) else {
-        return Err(WordsFault::Usage);
+        return Err(ArgumentsFault::Usage);
     };
     let Some(schedule) = schedule_of(given.schedule) else {
-        return Err(WordsFault::Usage);
+        return Err(ArgumentsFault::Usage);
     };
     let Some(trace) = file_of(given.trace) else {
-        return Err(WordsFault::Usage);
+        return Err(ArgumentsFault::Usage);
     };
     let Some(script) = file_if(given.script) else {
-        return Err(WordsFault::Usage);
+        return Err(ArgumentsFault::Usage);
     };
     Ok(Simulation {
         kind,
@@ -136,17 +136,17 @@ fn sim_values<'a>(alloc: Global, given: &GivenWords<'a>) -> Result<Simulation<'a
 
 /// The values of `check`, where each is in its grammar.
 #[tactic(auto, unfolding(crate::specs::Plan::check_values))]
-fn check_values<'a>(alloc: Global, given: &GivenWords<'a>) -> Result<Checking<'a>, WordsFault>
+fn check_values<'a>(alloc: Global, given: &GivenWords<'a>) -> Result<Checking<'a>, ArgumentsFault>
     ensures { Reads check_view result (check_values (given_view given.now)) }
 {
     let Some(kind) = function_of(given.function) else {
-        return Err(WordsFault::Usage);
+        return Err(ArgumentsFault::Usage);
     };
     let Some(instances) = instances_of(alloc, given.instances)? else {
-        return Err(WordsFault::Usage);
+        return Err(ArgumentsFault::Usage);
     };
     let Some(script) = file_of(given.script) else {
-        return Err(WordsFault::Usage);
+        return Err(ArgumentsFault::Usage);
     };
     Ok(Checking {
         kind,
@@ -318,12 +318,12 @@ mod tests {
     }
 
     /// The command that a reading asks for.
-    fn asked(reading: Result<Request<'_>, WordsFault>) -> &'static str {
+    fn asked(reading: Result<Request<'_>, ArgumentsFault>) -> &'static str {
         match reading {
             Ok(Request::Sim(_)) => "sim",
             Ok(Request::Check(_)) => "check",
-            Err(WordsFault::Usage) => "usage",
-            Err(WordsFault::NoMemory) => "no memory",
+            Err(ArgumentsFault::Usage) => "usage",
+            Err(ArgumentsFault::NoMemory) => "no memory",
         }
     }
 
@@ -331,7 +331,7 @@ mod tests {
     fn each_row_of_words_is_a_command_or_usage(rt: HostRuntime) -> Result<(), Fail> {
         for (line, expected) in ROWS.as_slice() {
             let words = split(rt.alloc(), line)?;
-            let found = asked(read_words(rt.alloc(), words.as_slice()));
+            let found = asked(parse_command(rt.alloc(), words.as_slice()));
             assert!(rt; found == *expected, "{line}: {found}");
         }
         Ok(())
@@ -340,7 +340,7 @@ mod tests {
     #[test]
     fn check_gives_names_limits_and_the_file(rt: HostRuntime) -> Result<(), Fail> {
         let words = split(rt.alloc(), "x check nat --instances a,b:5 s")?;
-        let Ok(Request::Check(checking)) = read_words(rt.alloc(), words.as_slice()) else {
+        let Ok(Request::Check(checking)) = parse_command(rt.alloc(), words.as_slice()) else {
             return Err(Fail::from("no check"));
         };
         assert_eq!(rt;

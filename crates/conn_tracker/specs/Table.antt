@@ -2,8 +2,8 @@
 use Rattle.std.specs.Prelude.{ℕ, ◌+◌, ◌-◌, ◌^◌, ◌≡◌, ◌≤◌, ◌==◌, ◌&&◌, Bool, true, false, not, min, bit_and, if◌then◌else◌, List, [], ◌∷◌, slice_get, codes, Option, None, Some}
 use Rattle.flow_filter.specs.declared.packet.Packet.{Packet}
 use Rattle.flow_filter.specs.declared.site.Site.{Site}
-use Rattle.flow_filter.specs.declared.flow.Dir.{Dir}
-use Rattle.flow_filter.specs.declared.flow.Dir.TheVariants.{Out, In}
+use Rattle.flow_filter.specs.declared.flow.Direction.{Direction}
+use Rattle.flow_filter.specs.declared.flow.Direction.TheVariants.{Out, In}
 use Rattle.flow_filter.specs.Flow.{flow_of}
 use Rattle.conn_tracker.specs.declared.state.State.{State}
 use Rattle.conn_tracker.specs.declared.state.State.TheVariants.{Opening, Answered, Established, FinFwd, FinRev, Closed, Reset, Loose, Single, Both}
@@ -90,17 +90,17 @@ first_tcp Syn = Opening
 first_tcp Fin = FinFwd
 first_tcp Other = Loose
 
-abbrev pub is_same_way : Dir → Dir → Bool
+abbrev pub is_same_way : Direction → Direction → Bool
 is_same_way Out Out = true
 is_same_way In In = true
 is_same_way a b = false
 
-abbrev pub other_way : Dir → Dir
+abbrev pub other_way : Direction → Direction
 other_way Out = In
 other_way In = Out
 
 -- a SYN with an ACK answers an opener that wasn't seen
-abbrev pub first_opener : Class → Dir → Dir
+abbrev pub first_opener : Class → Direction → Direction
 first_opener SynAck way = other_way way
 first_opener class way = way
 
@@ -112,14 +112,14 @@ abbrev pub is_tcp : ℕ → Bool
 is_tcp proto = proto == 6
 
 -- the record of a flow's first packet, which goes `way`
-abbrev pub first_record : Packet → Dir → TrackRecord
+abbrev pub first_record : Packet → Direction → TrackRecord
 first_record p way =
     if is_tcp p.proto
     then record { state = first_tcp (class_of p.flags); opener = first_opener (class_of p.flags) way; packets = 1; bytes = p.length }
     else record { state = Single; opener = way; packets = 1; bytes = p.length }
 
 -- the record after a further packet, which goes `way`
-abbrev pub next_record : TrackRecord → Packet → Dir → TrackRecord
+abbrev pub next_record : TrackRecord → Packet → Direction → TrackRecord
 next_record r p way = record {
   state = (if is_tcp p.proto
       then cell (class_of p.flags) (is_same_way way r.opener) (row r.state)

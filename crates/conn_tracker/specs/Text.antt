@@ -1,8 +1,8 @@
 -- What the connection tracker answers and prints. This project's own words.
 use Rattle.std.specs.Prelude.{ℕ, ◌++◌, List, [], codes, decimal}
 use Rattle.std.specs.Option.{option_map_or}
-use Rattle.flow_filter.specs.declared.flow.Dir.{Dir}
-use Rattle.flow_filter.specs.declared.flow.Dir.TheVariants.{Out, In}
+use Rattle.flow_filter.specs.declared.flow.Direction.{Direction}
+use Rattle.flow_filter.specs.declared.flow.Direction.TheVariants.{Out, In}
 use Rattle.conn_tracker.specs.declared.record.TrackRecord.{TrackRecord}
 use Rattle.nf_function.specs.declared.output.Output.{Output}
 use Rattle.conn_tracker.specs.Table.{name_of, number_of, state_of}
@@ -16,7 +16,7 @@ abbrev pub output_text : Output → List ℕ
 output_text output = option_map_or name_of (state_of output.code) []
 
 -- `out` or `in`
-abbrev pub way_text : Dir → List ℕ
+abbrev pub way_text : Direction → List ℕ
 way_text Out = codes "out"
 way_text In = codes "in"
 

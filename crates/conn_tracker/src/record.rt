@@ -2,7 +2,7 @@ ghost use Rattle.std.specs.Prelude.{◌≡◌};
 ghost use Rattle.conn_tracker.specs.Text.{output_of};
 
 use crate::state::State;
-use flow_filter::Dir;
+use flow_filter::Direction;
 use nf_function::Output;
 
 /// What the tracker keeps of a flow.
@@ -10,7 +10,7 @@ use nf_function::Output;
 pub struct TrackRecord {
     pub state: State,
     /// The way that the opener's packets go.
-    pub opener: Dir,
+    pub opener: Direction,
     pub packets: u64,
     /// The payload bytes of the packets.
     pub bytes: u64,

@@ -1,7 +1,7 @@
 ghost use Rattle.std.specs.Prelude.{◌≡◌};
 
 use crate::{State, TrackRecord, print_output, print_record, step};
-use flow_filter::{Dir, Packet, Prefix, Site};
+use flow_filter::{Direction, Packet, Prefix, Site};
 use nf_function::Output;
 use std::test::Fail;
 
@@ -60,7 +60,7 @@ fn a_handshake_is_established(rt: HostRuntime) -> Result<(), Fail> {
     );
     let mut kept = Some(TrackRecord {
         state: State::Answered,
-        opener: Dir::Out,
+        opener: Direction::Out,
         packets: 2,
         bytes: 40,
     });
@@ -90,7 +90,7 @@ fn an_answer_shows_the_opener(rt: HostRuntime) -> Result<(), Fail> {
         b"answered".as_slice()
     );
     let record = kept.ok_or("no record")?;
-    assert_eq!(rt; record.opener, Dir::Out);
+    assert_eq!(rt; record.opener, Direction::Out);
     assert_eq!(rt; State::numbered(9), Some(State::Both));
     assert_eq!(rt; State::numbered(10), None);
     Ok(())

@@ -3,7 +3,7 @@ ghost use Rattle.conn_tracker.specs.Text.{output_text, record_text, way_text};
 
 use crate::record::TrackRecord;
 use crate::state::State;
-use flow_filter::{Dir, NoMemory, Text};
+use flow_filter::{Direction, NoMemory, Text};
 use nf_function::Output;
 use std::alloc::Global;
 
@@ -33,12 +33,12 @@ pub fn push_record(text: &mut Text, kept: &TrackRecord) -> Result<(), NoMemory>
     text.push_decimal(kept.bytes)
 }
 
-fn way_name(way: Dir) -> &'static str
+fn way_name(way: Direction) -> &'static str
     ensures { result.now ≡ way_text way }
 {
     match way {
-        Dir::Out => "out",
-        Dir::In => "in",
+        Direction::Out => "out",
+        Direction::In => "in",
     }
 }
 

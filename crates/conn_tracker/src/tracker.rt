@@ -5,7 +5,7 @@ ghost use Rattle.conn_tracker.specs.Text.{output_of};
 use crate::class::Class;
 use crate::record::TrackRecord;
 use crate::state::State;
-use flow_filter::{Dir, Packet, Site, TCP, flow_of};
+use flow_filter::{Direction, Packet, Site, TCP, flow_of};
 use nf_function::Output;
 
 /// Takes a packet into what is kept of its flow, and gives the output.
@@ -28,7 +28,7 @@ pub fn step(site: &Site, kept: &mut Option<TrackRecord>, packet: &Packet) -> Out
 }
 
 /// The record of a flow's first packet, which goes this way.
-pub fn first_record(packet: &Packet, way: Dir) -> TrackRecord
+pub fn first_record(packet: &Packet, way: Direction) -> TrackRecord
     ensures value { result ≡ first_record packet.now way }
     ensures fits { IsRecordOf packet.now.proto result }
 {
@@ -51,7 +51,7 @@ pub fn first_record(packet: &Packet, way: Dir) -> TrackRecord
 }
 
 /// The record after a further packet, which goes this way.
-pub fn next_record(before: &TrackRecord, packet: &Packet, way: Dir) -> TrackRecord
+pub fn next_record(before: &TrackRecord, packet: &Packet, way: Direction) -> TrackRecord
     requires { IsRecordOf packet.now.proto before.now }
     ensures value { result ≡ next_record before.now packet.now way }
     ensures fits { IsRecordOf packet.now.proto result }
@@ -74,19 +74,19 @@ pub fn next_record(before: &TrackRecord, packet: &Packet, way: Dir) -> TrackReco
     next
 }
 
-fn is_same_way(one: Dir, other: Dir) -> bool
+fn is_same_way(one: Direction, other: Direction) -> bool
     ensures { result ≡ is_same_way one other }
 {
     one == other
 }
 
 /// Whom a first packet shows as the opener: a SYN with an ACK answers one that wasn't seen.
-fn first_opener(class: Class, way: Dir) -> Dir
+fn first_opener(class: Class, way: Direction) -> Direction
     ensures { result ≡ first_opener class way }
 {
     match (class, way) {
-        (Class::SynAck, Dir::Out) => Dir::In,
-        (Class::SynAck, Dir::In) => Dir::Out,
+        (Class::SynAck, Direction::Out) => Direction::In,
+        (Class::SynAck, Direction::In) => Direction::Out,
         _ => way,
     }
 }

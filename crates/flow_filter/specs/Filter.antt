@@ -3,14 +3,14 @@
 use Rattle.std.specs.Prelude.{◌≡◌, ℕ, ◌<◌, ◌^◌, Bool, true, false, ◌&&◌, ◌==◌, nat_eq, nat_le, if◌then◌else◌, Option, None, Some, is_some}
 use Rattle.std.specs.Option.{ForSome}
 use Rattle.basics.specs.Options.{◌>>=◌}
-use Rattle.flow_filter.specs.Block.{in_block}
+use Rattle.flow_filter.specs.Prefixes.{in_prefix}
 use Rattle.flow_filter.specs.declared.prefix.Prefix.{Prefix}
 use Rattle.flow_filter.specs.declared.flow.Flow.{Flow}
 use Rattle.flow_filter.specs.declared.filter.Filter.{Filter}
 
 -- the prefix's block has the address
 abbrev pub holds : Prefix → ℕ → Bool
-holds p address = in_block p.bits p.len address
+holds p address = in_prefix p.bits p.len address
 
 -- a field agrees with a value where it isn't given, or its test passes
 abbrev pub agrees : {X : Type 0} → (X → ℕ → Bool) → Option X → ℕ → Bool

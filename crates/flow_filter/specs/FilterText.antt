@@ -10,7 +10,7 @@ use Rattle.flow_filter.specs.declared.filter.Filter.{Filter}
 use Rattle.flow_filter.specs.declared.filter_text.FilterFault.{FilterFault}
 use Rattle.flow_filter.specs.declared.filter_text.FilterFault.TheVariants.{Field, Twice, Number, Prefix as BadPrefix}
 use Rattle.basics.specs.Parsing.{parse_number, split_once}
-use Rattle.flow_filter.specs.Reading.{prefix_of, block}
+use Rattle.flow_filter.specs.Reading.{prefix_of, prefix_numbers}
 
 -- what a filter gives, with each prefix as its two numbers
 pub record Fields : Type 0 where
@@ -22,7 +22,7 @@ pub record Fields : Type 0 where
 
 -- the fields of a filter
 abbrev pub fields_of : Filter → Fields
-fields_of f = record { proto = f.proto; local = option_map block f.local; lport = f.lport; remote = option_map block f.remote; rport = f.rport }
+fields_of f = record { proto = f.proto; local = option_map prefix_numbers f.local; lport = f.lport; remote = option_map prefix_numbers f.remote; rport = f.rport }
 
 -- the fields of the filter that gives none
 abbrev pub nothing : Fields
@@ -123,13 +123,13 @@ joined (first ∷ more) = join_with_byte 44 (first ∷ more)
 unfoldable pub print : Filter → List ℕ
 print f = joined (pieces f)
 
--- each piece behind a comma, but for the first where nothing stands before it
-abbrev pub behind : Bool → List (List ℕ) → List ℕ
-behind begun [] = []
-behind false (first ∷ more) = first ++ behind true more
-behind true (first ∷ more) = 44 ∷ first ++ behind true more
+-- each piece after_commas a comma, but for the first where nothing stands before it
+abbrev pub after_commas : Bool → List (List ℕ) → List ℕ
+after_commas begun [] = []
+after_commas false (first ∷ more) = first ++ after_commas true more
+after_commas true (first ∷ more) = 44 ∷ first ++ after_commas true more
 
 -- what was read is what the definition reads, through a view, and so is the fault
-abbrev pub Gives : {X Y E : Type 0} → (X → Y) → Result X E → Result Y E → Type 0
-Gives view (Ok x) read = read ≡ Ok (view x)
-Gives view (Err e) read = read ≡ Err e
+abbrev pub AgreesBy : {X Y E : Type 0} → (X → Y) → Result X E → Result Y E → Type 0
+AgreesBy view (Ok x) read = read ≡ Ok (view x)
+AgreesBy view (Err e) read = read ≡ Err e

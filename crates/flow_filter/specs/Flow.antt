@@ -6,9 +6,9 @@ use Rattle.std.specs.declared.cmp.Ordering.{Ordering}
 use Rattle.flow_filter.specs.declared.packet.Packet.{Packet}
 use Rattle.flow_filter.specs.declared.site.Site.{Site}
 use Rattle.flow_filter.specs.declared.flow.Flow.{Flow}
-use Rattle.flow_filter.specs.declared.flow.Dir.{Dir}
-use Rattle.flow_filter.specs.declared.flow.Dir.TheVariants.{Out, In}
-use Rattle.flow_filter.specs.Block.{in_block}
+use Rattle.flow_filter.specs.declared.flow.Direction.{Direction}
+use Rattle.flow_filter.specs.declared.flow.Direction.TheVariants.{Out, In}
+use Rattle.flow_filter.specs.Prefixes.{in_prefix}
 
 -- the flows are equal in every field
 abbrev pub flow_eq : Flow → Flow → Bool
@@ -22,7 +22,7 @@ flow_cmp =
 
 -- the address is one of the site's
 abbrev pub is_inside : Site → ℕ → Bool
-is_inside site address = in_block site.inside.bits site.inside.len address
+is_inside site address = in_prefix site.inside.bits site.inside.len address
 
 -- the flow whose local end is the packet's source
 abbrev pub outward : Packet → Flow
@@ -50,7 +50,7 @@ abbrev pub is_source_first : Packet → Bool
 is_source_first p = nat_lt p.src p.dst || (p.src == p.dst && nat_le p.sport p.dport)
 
 -- the first case that applies
-unfoldable pub flow_of : Site → Packet → Flow × Dir
+unfoldable pub flow_of : Site → Packet → Flow × Direction
 flow_of site p =
     if is_inside site p.src && not (is_inside site p.dst) then (outward p, Out)
     else if is_inside site p.dst && not (is_inside site p.src) then (inward p, In)

@@ -1,4 +1,4 @@
-pub mod Block
+pub mod Prefixes
 pub mod Flow
 pub mod Name
 pub mod Filter

@@ -18,16 +18,16 @@ address_of text = do
   d ← parse_number 255 third.1
   Some (from_be_bytes w32 (a ∷ b ∷ c ∷ d ∷ []))
 
--- the address and the length of a block, where no bit past the length is set
-abbrev pub block_of : ℕ → ℕ → Option (ℕ × ℕ)
-block_of bits len = if bits % 2 ^ (32 - len) == 0 then Some (bits, len) else None
+-- the address and the length of a prefix_numbers, where no bit past the length is set
+abbrev pub aligned_prefix : ℕ → ℕ → Option (ℕ × ℕ)
+aligned_prefix bits len = if bits % 2 ^ (32 - len) == 0 then Some (bits, len) else None
 
 -- `A.B.C.D/L` with L up to 32
 abbrev pub with_length : List ℕ → List ℕ → Option (ℕ × ℕ)
 with_length address len = do
   bits ← address_of address
   most ← parse_number 32 len
-  block_of bits most
+  aligned_prefix bits most
 
 -- `A.B.C.D/L`, or `A.B.C.D`, which means `/32`
 unfoldable pub prefix_of : List ℕ → Option (ℕ × ℕ)
@@ -38,5 +38,5 @@ prefix_of text = parts (split_once 47 text)
     parts (Some halves) = with_length halves.0 halves.1
 
 -- the two numbers of a prefix
-abbrev pub block : Prefix → ℕ × ℕ
-block p = (p.bits, p.len)
+abbrev pub prefix_numbers : Prefix → ℕ × ℕ
+prefix_numbers p = (p.bits, p.len)

@@ -2,7 +2,7 @@ ghost use Rattle.std.specs.Prelude.{◌≡◌, true, false, ◌++◌, ◌∷◌,
 ghost use Rattle.std.specs.Fmt.{decimal};
 ghost use Rattle.std.specs.List.{slice_split};
 ghost use Rattle.basics.specs.Parsing.{parse_number};
-ghost use Rattle.flow_filter.specs.FilterText.{parse, with_fields, with_field, with_named, with_proto, with_local, with_lport, with_remote, with_rport, protocol_of, fields_of, Gives, print, is_printable, is_transport, behind, piece, protocol_text, prefix_text};
+ghost use Rattle.flow_filter.specs.FilterText.{parse, with_fields, with_field, with_named, with_proto, with_local, with_lport, with_remote, with_rport, protocol_of, fields_of, AgreesBy, print, is_printable, is_transport, after_commas, piece, protocol_text, prefix_text};
 
 use crate::filter::Filter;
 use crate::packet::{TCP, UDP};
@@ -33,7 +33,7 @@ pub enum FilterFault {
 impl Filter {
     /// The filter that the text spells, or the fault of its first field from the left that breaks a rule.
     pub fn parse(text: &str) -> Result<Self, FilterFault>
-        ensures value { Gives fields_of result (parse text.now) }
+        ensures value { AgreesBy fields_of result (parse text.now) }
         ensures printable { IfOk result (λ f. is_printable f ≡ true) }
     {
         Filter::parse_bytes(text.as_bytes())
@@ -42,7 +42,7 @@ impl Filter {
     /// The same, where the text is given as its bytes.
     #[tactic(auto, unfolding(crate::specs::FilterText::parse))]
     pub fn parse_bytes(text: &[u8]) -> Result<Self, FilterFault>
-        ensures value { Gives fields_of result (parse text.now) }
+        ensures value { AgreesBy fields_of result (parse text.now) }
         ensures printable { IfOk result (λ f. is_printable f ≡ true) }
     {
         if text == b"any".as_slice() {
@@ -83,7 +83,7 @@ impl Filter {
 
 /// The fields of the text, one after another, added to those so far.
 fn with_fields(so_far: Filter, text: &[u8]) -> Result<Filter, FilterFault>
-    ensures { Gives fields_of result (with_fields (fields_of so_far) (slice_split (λ b. b == 44) text.now)) }
+    ensures { AgreesBy fields_of result (with_fields (fields_of so_far) (slice_split (λ b. b == 44) text.now)) }
 {
     match split_once(text, b',') {
         Some((first, more)) => with_fields(with_field(so_far, first)?, more),
@@ -93,7 +93,7 @@ fn with_fields(so_far: Filter, text: &[u8]) -> Result<Filter, FilterFault>
 
 /// One field, added to those so far.
 fn with_field(so_far: Filter, text: &[u8]) -> Result<Filter, FilterFault>
-    ensures { Gives fields_of result (with_field (fields_of so_far) text.now) }
+    ensures { AgreesBy fields_of result (with_field (fields_of so_far) text.now) }
 {
     match split_once(text, b'=') {
         Some((name, value)) => with_named(so_far, name, value),
@@ -104,7 +104,7 @@ fn with_field(so_far: Filter, text: &[u8]) -> Result<Filter, FilterFault>
 /// The field with this name and value, added to those so far.
 #[tactic(auto, unfolding(crate::specs::FilterText::with_named))]
 fn with_named(so_far: Filter, name: &[u8], value: &[u8]) -> Result<Filter, FilterFault>
-    ensures { Gives fields_of result (with_named (fields_of so_far) name.now value.now) }
+    ensures { AgreesBy fields_of result (with_named (fields_of so_far) name.now value.now) }
 {
     if name == b"proto".as_slice() {
         with_proto(so_far, value)
@@ -123,7 +123,7 @@ fn with_named(so_far: Filter, name: &[u8], value: &[u8]) -> Result<Filter, Filte
 
 /// The filter with a protocol besides.
 fn with_proto(so_far: Filter, value: &[u8]) -> Result<Filter, FilterFault>
-    ensures { Gives fields_of result (with_proto (fields_of so_far) value.now) }
+    ensures { AgreesBy fields_of result (with_proto (fields_of so_far) value.now) }
 {
     if so_far.proto.is_some() {
         return Err(FilterFault::Twice);
@@ -153,7 +153,7 @@ fn protocol(name: &[u8]) -> Option<u8>
 
 /// The filter with a local prefix besides.
 fn with_local(so_far: Filter, value: &[u8]) -> Result<Filter, FilterFault>
-    ensures { Gives fields_of result (with_local (fields_of so_far) value.now) }
+    ensures { AgreesBy fields_of result (with_local (fields_of so_far) value.now) }
 {
     if so_far.local.is_some() {
         return Err(FilterFault::Twice);
@@ -169,7 +169,7 @@ fn with_local(so_far: Filter, value: &[u8]) -> Result<Filter, FilterFault>
 
 /// The filter with a local port besides.
 fn with_lport(so_far: Filter, value: &[u8]) -> Result<Filter, FilterFault>
-    ensures { Gives fields_of result (with_lport (fields_of so_far) value.now) }
+    ensures { AgreesBy fields_of result (with_lport (fields_of so_far) value.now) }
 {
     if so_far.lport.is_some() {
         return Err(FilterFault::Twice);
@@ -185,7 +185,7 @@ fn with_lport(so_far: Filter, value: &[u8]) -> Result<Filter, FilterFault>
 
 /// The filter with a remote prefix besides.
 fn with_remote(so_far: Filter, value: &[u8]) -> Result<Filter, FilterFault>
-    ensures { Gives fields_of result (with_remote (fields_of so_far) value.now) }
+    ensures { AgreesBy fields_of result (with_remote (fields_of so_far) value.now) }
 {
     if so_far.remote.is_some() {
         return Err(FilterFault::Twice);
@@ -201,7 +201,7 @@ fn with_remote(so_far: Filter, value: &[u8]) -> Result<Filter, FilterFault>
 
 /// The filter with a remote port besides.
 fn with_rport(so_far: Filter, value: &[u8]) -> Result<Filter, FilterFault>
-    ensures { Gives fields_of result (with_rport (fields_of so_far) value.now) }
+    ensures { AgreesBy fields_of result (with_rport (fields_of so_far) value.now) }
 {
     if so_far.rport.is_some() {
         return Err(FilterFault::Twice);
@@ -227,7 +227,7 @@ fn port(text: &[u8]) -> Option<u16>
 fn print_proto(out: &mut Text, proto: Option<u8>) -> Result<bool, NoMemory>
     requires { is_transport proto ≡ true }
     ensures { IfOk result (λ begun. (begun ≡ is_some proto)
-        × (out.new ≡ out.old ++ behind false (piece (codes "proto=") (option_map protocol_text proto)))) }
+        × (out.new ≡ out.old ++ after_commas false (piece (codes "proto=") (option_map protocol_text proto)))) }
 {
     match proto {
         None => Ok(false),
@@ -250,7 +250,7 @@ fn print_prefix(
     prefix: Option<Prefix>,
 ) -> Result<bool, NoMemory>
     ensures { IfOk result (λ after. (after ≡ (begun || is_some prefix))
-        × (out.new ≡ out.old ++ behind begun (piece name.now (option_map prefix_text prefix)))) }
+        × (out.new ≡ out.old ++ after_commas begun (piece name.now (option_map prefix_text prefix)))) }
 {
     let Some(prefix) = prefix else {
         return Ok(begun);
@@ -272,7 +272,7 @@ fn print_block(out: &mut Text, prefix: Prefix) -> Result<(), NoMemory>
 /// Appends a port under its name, where it is given, and answers whether a field was written so far.
 fn print_port(out: &mut Text, begun: bool, name: &[u8], port: Option<u16>) -> Result<bool, NoMemory>
     ensures { IfOk result (λ after. (after ≡ (begun || is_some port))
-        × (out.new ≡ out.old ++ behind begun (piece name.now (option_map decimal port)))) }
+        × (out.new ≡ out.old ++ after_commas begun (piece name.now (option_map decimal port)))) }
 {
     let Some(port) = port else {
         return Ok(begun);
@@ -282,7 +282,7 @@ fn print_port(out: &mut Text, begun: bool, name: &[u8], port: Option<u16>) -> Re
     Ok(true)
 }
 
-/// Appends a field's name, behind a comma where a field stands before it.
+/// Appends a field's name, after a comma where a field stands before it.
 fn print_name(out: &mut Text, begun: bool, name: &[u8]) -> Result<(), NoMemory>
     ensures { OnOk result (out.new ≡ out.old ++ (if begun then 44 ∷ name.now else name.now)) }
 {

@@ -94,7 +94,7 @@ impl Hash for Flow {
 
 /// Which way a packet of a flow goes.
 #[derive(Clone, Copy, Debug, PartialEq, Eq, PartialOrd, Ord, Hash)]
-pub enum Dir {
+pub enum Direction {
     /// From the local end.
     Out,
     /// To the local end.
@@ -103,15 +103,15 @@ pub enum Dir {
 
 /// The flow of a packet at a site, and the way that the packet goes.
 #[tactic(auto, unfolding(crate::specs::Flow::flow_of))]
-pub fn flow_of(site: &Site, packet: &Packet) -> (Flow, Dir)
+pub fn flow_of(site: &Site, packet: &Packet) -> (Flow, Direction)
     ensures { result ≡ flow_of site.now packet.now }
 {
     match (site.inside.holds(packet.src), site.inside.holds(packet.dst)) {
-        (true, false) => (outward(packet), Dir::Out),
-        (false, true) => (inward(packet), Dir::In),
-        (false, false) if is_mapped(site, packet) => (mapped(site, packet), Dir::In),
-        _ if is_source_first(packet) => (outward(packet), Dir::Out),
-        _ => (inward(packet), Dir::In),
+        (true, false) => (outward(packet), Direction::Out),
+        (false, true) => (inward(packet), Direction::In),
+        (false, false) if is_mapped(site, packet) => (mapped(site, packet), Direction::In),
+        _ if is_source_first(packet) => (outward(packet), Direction::Out),
+        _ => (inward(packet), Direction::In),
     }
 }
 

@@ -16,7 +16,7 @@ pub mod site;
 pub use basics::{Bytes, NoMemory, Sequence, Text};
 pub use filter::Filter;
 pub use filter_text::FilterFault;
-pub use flow::{Dir, Flow, flow_of};
+pub use flow::{Direction, Flow, flow_of};
 pub use name::Name;
 pub use packet::{Packet, Packets, TCP, UDP};
 pub use prefix::Prefix;

@@ -1,5 +1,5 @@
 ghost use Rattle.std.specs.Prelude.{◌≡◌, ◌≤◌, ◌-◌, ◌/◌, ◌%◌, ◌^◌};
-ghost use Rattle.flow_filter.specs.Block.{in_block};
+ghost use Rattle.flow_filter.specs.Prefixes.{in_prefix};
 
 /// The addresses that begin with the first `len` bits of `bits`, as `A.B.C.D/L` names them.
 #[derive(Clone, Copy, Debug, PartialEq, Eq, Hash)]
@@ -13,7 +13,7 @@ pub struct Prefix {
 impl Prefix {
     /// Whether the address begins with the prefix's bits.
     pub fn holds(&self, address: u32) -> bool
-        ensures { result ≡ in_block self.now.bits self.now.len address }
+        ensures { result ≡ in_prefix self.now.bits self.now.len address }
     {
         first_bits(address, self.len) == first_bits(self.bits, self.len)
     }

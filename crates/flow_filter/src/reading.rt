@@ -1,6 +1,6 @@
 ghost use Rattle.std.specs.Prelude.{◌≡◌, ◌≤◌, ◌%◌, ◌-◌, ◌^◌, ◌==◌, option_map};
 ghost use Rattle.basics.specs.Parsing.{parse_number};
-ghost use Rattle.flow_filter.specs.Reading.{address_of, block_of, with_length, prefix_of, block};
+ghost use Rattle.flow_filter.specs.Reading.{address_of, aligned_prefix, with_length, prefix_of, prefix_numbers};
 
 use crate::prefix::Prefix;
 use basics::parsing::{parse_number, split_once};
@@ -30,7 +30,7 @@ fn octet(text: &[u8]) -> Option<u8>
 /// The prefix that the text spells as `A.B.C.D/L`, or as `A.B.C.D`, which means `/32`.
 #[tactic(auto, unfolding(crate::specs::Reading::prefix_of))]
 pub fn prefix(text: &[u8]) -> Option<Prefix>
-    ensures { option_map block result ≡ prefix_of text.now }
+    ensures { option_map prefix_numbers result ≡ prefix_of text.now }
 {
     match split_once(text, b'/') {
         Some((bits, len)) => with_length(bits, len),
@@ -40,17 +40,17 @@ pub fn prefix(text: &[u8]) -> Option<Prefix>
 
 /// The prefix with these two texts.
 fn with_length(bits: &[u8], len: &[u8]) -> Option<Prefix>
-    ensures { option_map block result ≡ with_length bits.now len.now }
+    ensures { option_map prefix_numbers result ≡ with_length bits.now len.now }
 {
     let bits = address(bits)?;
     let len = parse_number(len, 32)?;
-    block_of(bits, len as u8)
+    aligned_prefix(bits, len as u8)
 }
 
 /// The prefix with these two numbers, or `None` where a bit past the length is set.
-fn block_of(bits: u32, len: u8) -> Option<Prefix>
+fn aligned_prefix(bits: u32, len: u8) -> Option<Prefix>
     requires { len ≤ 32 }
-    ensures { option_map block result ≡ block_of bits len }
+    ensures { option_map prefix_numbers result ≡ aligned_prefix bits len }
 {
     if has_no_more_bits(bits, len) {
         Some(Prefix { bits, len })

@@ -80,7 +80,7 @@ IsWhat (Some command) = IsOrder command.1
 abbrev pub IsLine : LineView → Type 0
 IsLine line = IsWhat line.what
 
--- the number of the next command behind this, or None where it has another number than `next`
+-- the number of the next command after this, or None where it has another number than `next`
 abbrev pub next_after : ℕ → Option (ℕ × OrderView) → Option ℕ
 next_after next None = Some next
 next_after next (Some command) = if command.0 == next then Some (next + 1) else None

@@ -31,7 +31,7 @@ pub data OrderView : Type 0 where
   Copies : (source : Word) (target : Word) (filter : Option Fields) → OrderView
   Shares : (members : List Word) (filter : Fields) → OrderView
 
--- what happens behind a packet: a command under its number, or None for a settle
+-- what happens after a packet: a command under its number, or None for a settle
 pub record LineView : Type 0 where
   pub at : ℕ
   pub what : Option (ℕ × OrderView)
@@ -116,7 +116,7 @@ abbrev pub command_count : List LineView → ℕ
 command_count [] = 0
 command_count (line ∷ more) = (if is_command line then 1 else 0) + command_count more
 
--- a command takes the number behind those so far, and a settle takes none
+-- a command takes the number after those so far, and a settle takes none
 abbrev pub numbered : List LineView → Option OrderView → Option (ℕ × OrderView)
 numbered lines None = None
 numbered lines (Some order) = Some (command_count lines + 1, order)
@@ -162,7 +162,7 @@ with_text kind names s line =
 abbrev pub Whole : Type 0
 Whole = Result State (ℕ × ScriptKind)
 
--- the lines behind one, which has this number
+-- the lines after one, which has this number
 abbrev pub and_lines : ℕ → Judged State → (State → Whole) → Whole
 and_lines n (Ok s) more = more s
 and_lines n (Err kind) more = Err (n, kind)
@@ -211,7 +211,7 @@ script_view script = (map route_view script.routes.items, map line_view script.l
 abbrev pub state_of : Reader → State
 state_of r = record { routes = map route_view r.routes.items; lines = map line_view r.lines.items; last = r.last }
 
--- what was judged is what the definition says; want of memory is free
+-- what was judged is what the definition says; out of memory is free
 abbrev pub Says : {X Y : Type 0} → (X → Y) → Result X LineFault → Judged Y → Type 0
 Says view (Ok x) judged = judged ≡ Ok (view x)
 Says view (Err one.NoMemory) judged = Unit {0}

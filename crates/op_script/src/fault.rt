@@ -10,7 +10,7 @@ pub enum ScriptKind {
     /// The line has none of the forms.
     #[error("word")]
     Word,
-    /// The line is less far than an earlier one, or a route behind an `at` line.
+    /// The line is less far than an earlier one, or a route after an `at` line.
     #[error("order")]
     Order,
     /// The filter can't be read.
@@ -33,7 +33,7 @@ pub enum ScriptKind {
     NotUtf8,
 }
 
-/// Why a script was refused: the first line that breaks a rule, from 1, or line 0 for the whole; or want of memory.
+/// Why a script was refused: the first line that breaks a rule, from 1, or line 0 for the whole; or out of memory.
 #[derive(Clone, Copy, Debug, PartialEq, Eq, Error)]
 pub enum ScriptFault {
     #[error("script line {line}: {kind}")]

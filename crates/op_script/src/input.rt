@@ -7,7 +7,7 @@ use flow_filter::{NoMemory, Packets};
 use nf_msgs::Msg;
 use std::alloc::Global;
 
-/// The input of a run: the packets in order, and each line of the script behind the packet that it names, or behind
+/// The input of a run: the packets in order, and each line of the script items_from the packet that it names, or items_from
 /// the last of a shorter trace; and then the end.
 pub fn items(alloc: Global, trace: Packets, script: &Script) -> Result<Vec<Msg>, NoMemory>
     ensures { IfOk result (λ found. found.items ≡ items trace script.now.lines.items) }

@@ -1,6 +1,6 @@
 ghost use Rattle.std.specs.Prelude.{false, ◌≡◌, ◌++◌, ◌∷◌, ◌<◌, ◌≤◌, [], Ok, IfOk, OnOk, length, map, option_map, true, codes, if◌then◌else◌};
 ghost use Rattle.std.specs.List.{join_with_byte, list_all};
-ghost use Rattle.flow_filter.specs.FilterText.{behind, fields_of, is_printable, print};
+ghost use Rattle.flow_filter.specs.FilterText.{after_commas, fields_of, is_printable, print};
 ghost use Rattle.flow_filter.specs.Filter.{IsFilter};
 ghost use Rattle.flow_filter.specs.Name.{has_twice, is_name};
 ghost use Rattle.nf_function.specs.declared.kind.Kind.{Kind};
@@ -69,7 +69,7 @@ fn print_filter(out: &mut Text, filter: Filter) -> Result<(), NoMemory>
     filter.print_to(out)
 }
 
-/// Appends the words of an order behind a space, and the line's end.
+/// Appends the words of an order after_commas a space, and the line's end.
 fn print_order(out: &mut Text, order: &Order) -> Result<(), NoMemory>
     requires { IsOrder (order_view order.now) }
     ensures text { OnOk result (out.new ≡ out.old ++ 32 ∷ line_text (order_words order.now)) }
@@ -100,7 +100,7 @@ fn print_order(out: &mut Text, order: &Order) -> Result<(), NoMemory>
     }
 }
 
-/// Appends a verb, a source and a target, and a space behind each.
+/// Appends a verb, a source and a target, and a space after_commas each.
 fn print_ends(out: &mut Text, verb: &[u8], source: &Name, target: &Name) -> Result<(), NoMemory>
     ensures { OnOk result (out.new ≡ out.old ++ (verb.now ++ 32 ∷ (source.now ++ 32 ∷ (target.now ++ 32 ∷ [])))) }
 {
@@ -125,9 +125,9 @@ fn print_members(out: &mut Text, members: &[Name]) -> Result<(), NoMemory>
     }
 }
 
-/// Appends names, each behind a comma.
+/// Appends names, each after_commas a comma.
 fn print_more(out: &mut Text, names: &[Name]) -> Result<(), NoMemory>
-    ensures { OnOk result (out.new ≡ out.old ++ behind true names.now) }
+    ensures { OnOk result (out.new ≡ out.old ++ after_commas true names.now) }
 {
     for name in names {
         out.push_bytes(b",")?;
@@ -136,7 +136,7 @@ fn print_more(out: &mut Text, names: &[Name]) -> Result<(), NoMemory>
     Ok(())
 }
 
-/// Appends the word that says whether order is kept, behind a space, and the line's end.
+/// Appends the word that says whether order is kept, after_commas a space, and the line's end.
 fn print_how(out: &mut Text, keep: bool) -> Result<(), NoMemory>
     ensures { OnOk result (out.new ≡ out.old ++ 32 ∷ ((if keep then codes "order" else codes "lossfree") ++ 10 ∷ [])) }
 {

@@ -3,7 +3,7 @@ ghost use Rattle.std.specs.List.{slice_split, list_all, list_any, position};
 ghost use Rattle.std.specs.Str.{bytes_eq, is_utf8};
 ghost use Rattle.std.specs.Str.Lines.{strip_carriage_return};
 ghost use Rattle.flow_filter.specs.Name.{is_name};
-ghost use Rattle.flow_filter.specs.FilterText.{fields_of, Gives};
+ghost use Rattle.flow_filter.specs.FilterText.{fields_of, AgreesBy};
 ghost use Rattle.op_script.specs.FormViews.{event_view, form_view};
 ghost use Rattle.op_script.specs.Printing.{IsScript};
 ghost use Rattle.op_script.specs.Reading.{ends_of, members_of, filter_of, filter_or_all, order_of, with_route, with_line, numbered, is_command, command_count, line_view, what_view, with_event, with_form, with_text, script_of, place_of, goes_back, state_of, script_view, order_view, with_lines, start, Says, SaysWhole, Numbered};
@@ -155,7 +155,7 @@ fn with_line(mut reader: Reader, at: u32, order: Option<Order>) -> Result<Reader
     Ok(reader)
 }
 
-/// An order under the number behind those of the lines so far, or a settle.
+/// An order under the number after those of the lines so far, or a settle.
 fn numbered_order(lines: &[Line], order: Option<Order>) -> What
     requires { length lines.now < 1000 }
     ensures { what_view result ≡ numbered (map line_view lines.now) (option_map order_view order) }

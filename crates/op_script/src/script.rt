@@ -6,11 +6,11 @@ use nf_msgs::Command;
 pub struct Script {
     /// The initial rules in file order: which flows go to the instance at this place.
     pub routes: Vec<(Filter, u8)>,
-    /// What happens behind which packet, in file order.
+    /// What happens after which packet, in file order.
     pub lines: Vec<Line>,
 }
 
-/// Something that happens behind the packet with the number `at`, or in front of the first where it is 0.
+/// Something that happens after the packet with the number `at`, or before the first where it is 0.
 #[derive(Debug, Drop)]
 pub struct Line {
     pub at: u32,

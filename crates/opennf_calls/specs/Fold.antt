@@ -14,25 +14,25 @@ use Rattle.conn_tracker.specs.declared.state.State.{State}
 use Rattle.conn_tracker.specs.Table.{stepped, IsRecordOf}
 
 -- the flow that a packet belongs to
-abbrev pub unit_of : Site → Packet → Flow
-unit_of site p = (flow_of site p).0
+abbrev pub packet_flow : Site → Packet → Flow
+packet_flow site p = (flow_of site p).0
 
 -- the packets of a flow, in order
 unfoldable pub mine : Site → Flow → List Packet → List Packet
-mine site unit packets = filter (λ p. flow_eq (unit_of site p) unit) packets
+mine site unit packets = filter (λ p. flow_eq (packet_flow site p) unit) packets
 
 -- the record that the packets of one flow leave, one after another, from none
 unfoldable pub record_of : Site → List Packet → Option TrackRecord
 record_of site packets = fold (λ kept p. Some (stepped site kept p)) None packets
 
--- the record of a packet's flow behind it, where `before` are the packets in front of it
-abbrev pub record_behind : Site → List Packet → Packet → TrackRecord
-record_behind site before p = stepped site (record_of site (mine site (unit_of site p) before)) p
+-- the record of a packet's flow after it, where `before` are the packets before it
+abbrev pub record_after_packets : Site → List Packet → Packet → TrackRecord
+record_after_packets site before p = stepped site (record_of site (mine site (packet_flow site p) before)) p
 
--- the states that the packets behind `before` leave their flows in
-abbrev pub states_behind : Site → List Packet → List Packet → List State
-states_behind site before [] = []
-states_behind site before (p ∷ ps) = (record_behind site before p).state ∷ states_behind site (before ++ p ∷ []) ps
+-- the states that the packets after `before` leave their flows in
+abbrev pub states_after : Site → List Packet → List Packet → List State
+states_after site before [] = []
+states_after site before (p ∷ ps) = (record_after_packets site before p).state ∷ states_after site (before ++ p ∷ []) ps
 
 -- a finite map in the flows' order has the record that each flow's own packets leave, and no other
 pub record AreLive (site : Site) (packets : List Packet) (live : BTreeMap Flow TrackRecord) : Type 0 where
@@ -51,6 +51,6 @@ AreKept site packets kept = (unit : Flow) → hash.get flow_eq kept unit ≡ rec
 abbrev pub AllFit : Kept → Type 0
 AllFit kept = (unit : Flow) → IfSome (hash.get flow_eq kept unit) (IsRecordOf unit.proto)
 
--- the record of a packet's flow behind the packet, where the map has those of all flows in front of it
-abbrev pub record_after : Site → Kept → Packet → TrackRecord
-record_after site kept p = stepped site (hash.get flow_eq kept (unit_of site p)) p
+-- the record of a packet's flow after the packet, where the map has those of all flows before it
+abbrev pub record_after_kept : Site → Kept → Packet → TrackRecord
+record_after_kept site kept p = stepped site (hash.get flow_eq kept (packet_flow site p)) p

@@ -1,13 +1,13 @@
 -- The lines of the packets by their numbers, as they are printed. This project's own format.
 use Rattle.std.specs.Prelude.{◌≡◌, ℕ, ◌+◌, ◌++◌, List, [], ◌∷◌, codes, decimal, take, slice_index_or}
 use Rattle.conn_tracker.specs.declared.state.State.{State}
-use Rattle.conn_tracker.specs.Table.{name_of, number_of}
+use Rattle.conn_tracker.specs.Table.{name_of, exit_number}
 use Rattle.opennf_calls.specs.declared.pages.Lines.{Lines}
 use Rattle.opennf_calls.specs.declared.pages.Page.{Page}
 
 -- the line of the packet with a number, which left its flow in a state
 unfoldable pub line_text : Lines → ℕ → State → List ℕ
-line_text lines n state = lines.word.now ++ decimal n ++ slice_index_or lines.ends.items (number_of state) []
+line_text lines n state = lines.word.now ++ decimal n ++ slice_index_or lines.ends.items (exit_number state) []
 
 -- the lines of packets with the numbers from n on, which left these states
 abbrev pub lines_from : Lines → ℕ → List State → List ℕ

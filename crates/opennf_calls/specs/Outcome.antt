@@ -124,7 +124,7 @@ abbrev pub Complains : List ℕ → (old new : Meaning) → Type 0
 Complains line old new =
     Appends old.written new.written line ⊎ (Rose old.faults new.faults × AppendsFront old.written new.written line)
 
--- good input and no fault give Ok or want of memory
+-- good input and no fault give Ok or out of memory
 abbrev pub IsComplete : Option Asked → (old new : Role → Meaning) → Status → Type 0
 IsComplete plan old new status =
     (asked : Asked) → plan ≡ Some asked → (bytes : Role → List ℕ) → Tells asked old bytes → refusal_of asked bytes ≡ None

@@ -11,9 +11,9 @@ use Rattle.trace_reader.specs.declared.trace.Trace.{Trace}
 use Rattle.conn_tracker.specs.declared.record.TrackRecord.{TrackRecord}
 use Rattle.nf_function.specs.declared.output.Output.{Output}
 use Rattle.conn_tracker.specs.Text.{output_of, output_text, record_text}
-use Rattle.opennf_calls.specs.Fold.{AreLive, record_behind}
+use Rattle.opennf_calls.specs.Fold.{AreLive, record_after_packets}
 
--- `whole` where the trace ends behind a record, and `cut` where it ends within one
+-- `whole` where the trace ends after a record, and `cut` where it ends within one
 abbrev pub end_text : Bool → List ℕ
 end_text true = codes "cut"
 end_text false = codes "whole"
@@ -35,11 +35,11 @@ head_lines packets skipped cut =
 unfoldable pub out_line : Packet → Output → List ℕ
 out_line p output = codes "out " ++ decimal p.number ++ codes " " ++ output_text output ++ codes "\n"
 
--- the lines of the packets behind `before`: each output is that of the packet's flow alone
+-- the lines of the packets after `before`: each output is that of the packet's flow alone
 abbrev pub out_lines : Site → List Packet → List Packet → List ℕ
 out_lines site before [] = []
 out_lines site before (p ∷ ps) =
-    out_line p (output_of (record_behind site before p)) ++ out_lines site (before ++ p ∷ []) ps
+    out_line p (output_of (record_after_packets site before p)) ++ out_lines site (before ++ p ∷ []) ps
 
 -- an instance's name at the end of a line
 abbrev pub name_end : List ℕ → List ℕ

@@ -16,14 +16,14 @@ use Rattle.opennf_calls.specs.declared.status.Status.{Status}
 use Rattle.opennf_calls.specs.declared.status.Status.TheVariants.{Ok as Done, Usage, BadScript, BadTrace, ReadFault, WriteFault, NoMemory}
 
 -- the number that the program ends with
-abbrev pub number_of : Status → ℕ
-number_of Done = 0
-number_of Usage = 1
-number_of (BadScript line kind) = 2
-number_of (BadTrace offset kind) = 2
-number_of (ReadFault role) = 4
-number_of (WriteFault role) = 5
-number_of NoMemory = 6
+abbrev pub exit_number : Status → ℕ
+exit_number Done = 0
+exit_number Usage = 1
+exit_number (BadScript line kind) = 2
+exit_number (BadTrace offset kind) = 2
+exit_number (ReadFault role) = 4
+exit_number (WriteFault role) = 5
+exit_number NoMemory = 6
 
 -- what the line calls a role
 abbrev pub role_name : Role → List ℕ
@@ -35,7 +35,7 @@ role_name Report = codes "report"
 role_name TraceOut = codes "capture"
 role_name Errors = codes "errors"
 
--- what the line says of a kind, in front of its number
+-- what the line says of a kind, before its number
 abbrev pub kind_name : TraceKind → List ℕ
 kind_name Magic = codes "magic"
 kind_name PcapNg = codes "pcapng"

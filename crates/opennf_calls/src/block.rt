@@ -7,7 +7,7 @@ use std::marker::Model;
 /// How many bytes a block has.
 pub const BLOCK: usize = 32;
 
-/// A text of at most 32 bytes, and bytes of no meaning behind it.
+/// A text of at most 32 bytes, and bytes of no meaning after it.
 #[derive(Drop)]
 pub struct Block {
     bytes: [u8; BLOCK],

@@ -65,13 +65,13 @@ fn trace_line(offset: u64, kind: TraceKind) -> Line
     line.push_str(buffer.format(offset));
     line.push_str(": ");
     line.push_str(kind.name());
-    line.push_str(number_of(&mut buffer, kind));
+    line.push_str(kind_digits(&mut buffer, kind));
     line.push_str("\n");
     line
 }
 
 /// The number of a kind, in decimal digits, or no bytes where it has none.
-fn number_of(buffer: &mut Buffer, kind: TraceKind) -> &str
+fn kind_digits(buffer: &mut Buffer, kind: TraceKind) -> &str
     ensures value { result.now ≡ kind_number kind }
     ensures short { length result.now ≤ 40 }
 {

@@ -3,7 +3,7 @@ ghost use Rattle.std.specs.Prelude.{◌≡◌, ◌<◌, ◌≤◌, ◌+◌, ◌-
 
 use crate::block::Block;
 
-/// A word and a number behind it, in digits. The block has all of the text but the last digit, and some digit in its place:
+/// A word and a number after it, in digits. The block has all of the text but the last digit, and some digit in its place:
 /// so it seldom changes while the number counts up.
 #[derive(Drop)]
 pub struct Count {
@@ -32,7 +32,7 @@ impl Count {
         }
     }
 
-    /// All of the text but the last digit, and some byte behind it.
+    /// All of the text but the last digit, and some byte after it.
     pub fn block(&self) -> &Block
         ensures some { 0 < length result.now }
         ensures text { take (length result.now - 1) result.now ++ (48 + self.now.digit) ∷ [] ≡ self.now.word.now ++ decimal self.now.number }

@@ -6,7 +6,7 @@ ghost use Rattle.flow_filter.specs.declared.flow.Flow.{Flow as TheFlow};
 ghost use Rattle.flow_filter.specs.declared.packet.Packet.{Packet as ThePacket};
 ghost use Rattle.flow_filter.specs.declared.site.Site.{Site as TheSite};
 ghost use Rattle.conn_tracker.specs.Table.{stepped};
-ghost use Rattle.opennf_calls.specs.Fold.{AllFit, flow_cmp, flow_eq, record_after, unit_of};
+ghost use Rattle.opennf_calls.specs.Fold.{AllFit, flow_cmp, flow_eq, record_after_kept, packet_flow};
 
 use crate::report::Report;
 use conn_tracker::{State, TrackRecord, first_record, next_record};
@@ -76,9 +76,9 @@ impl Keeper for Fold {
 /// Takes a packet into the record of its flow, and gives the state that it leaves.
 fn process(kept: &mut Kept, site: &Site, packet: &Packet) -> Result<State, NoMemory>
     requires { AllFit kept.old }
-    ensures updates { OnOk result (Updates flow_eq kept.old kept.new (unit_of site.now packet.now)
-        (Some (record_after site.now kept.old packet.now))) }
-    ensures state { IfOk result (λ state. state ≡ (record_after site.now kept.old packet.now).state) }
+    ensures updates { OnOk result (Updates flow_eq kept.old kept.new (packet_flow site.now packet.now)
+        (Some (record_after_kept site.now kept.old packet.now))) }
+    ensures state { IfOk result (λ state. state ≡ (record_after_kept site.now kept.old packet.now).state) }
     ensures fits { AllFit kept.new }
 {
     let (flow, way) = flow_of(site, packet);

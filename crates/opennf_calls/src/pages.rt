@@ -16,7 +16,7 @@ const PAGE_LINES: usize = 4000;
 /// No line is longer: two blocks.
 const LONGEST_LINE: usize = 64;
 
-/// Lines that were put on a page. The bytes in front of `used` are its text.
+/// Lines that were put on a page. The bytes before `used` are its text.
 #[derive(Drop)]
 pub struct Page {
     bytes: Vec<u8>,
@@ -38,7 +38,7 @@ impl Page {
         Ok(Page { bytes, used: 0 })
     }
 
-    /// Puts a block behind the text.
+    /// Puts a block after the text.
     fn put(&mut self, block: &Block)
         requires room { self.old.used + 32 ≤ 256000 }
         ensures text { page_text self.new ≡ page_text self.old ++ block.now }
@@ -59,7 +59,7 @@ impl Page {
         self.bytes[self.used - 1] = byte;
     }
 
-    /// Puts a word and a number behind the text. The last digit goes to the page alone, since a block that was written to a
+    /// Puts a word and a number after the text. The last digit goes to the page alone, since a block that was written to a
     /// moment ago is slow to copy.
     fn put_count(&mut self, count: &Count)
         requires { self.old.used + 32 ≤ 256000 }
@@ -70,7 +70,7 @@ impl Page {
         self.set_last(b'0' + count.digit());
     }
 
-    /// Puts the line of a packet behind the text.
+    /// Puts the line of a packet after the text.
     #[tactic(auto, unfolding(crate::specs::Lines::line_text))]
     fn put_line(&mut self, lines: &Lines, count: &Count, state: State)
         requires room { self.old.used + 64 ≤ 256000 }

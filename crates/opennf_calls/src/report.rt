@@ -110,7 +110,7 @@ fn end_name(is_cut: bool) -> &'static str
     if is_cut { "cut" } else { "whole" }
 }
 
-/// The lines behind those of the packets: each flow's record, in the flows' order, and then the bottom.
+/// The lines after those of the packets: each flow's record, in the flows' order, and then the bottom.
 fn tail_of(alloc: Global, name: &[u8], live: &Live, end: &TraceEnd) -> Result<Text, NoMemory>
     ensures { IfOk result (λ text. text ≡ flat_map (state_line name.now) live.now.entries ++ tail_lines name.now end.now.packets) }
 {

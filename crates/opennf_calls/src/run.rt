@@ -15,7 +15,7 @@ ghost use Rattle.opennf_calls.specs.Writing.{Wrote};
 use crate::check::check;
 use crate::fold::Fold;
 use crate::status::Status;
-use command_words::{Request, Simulation, WordsFault, read_words};
+use command_words::{Request, Simulation, ArgumentsFault, parse_command};
 use nf_io::{Failed, Outside, Role, RoleSink, RoleSource, write_all};
 use std::alloc::Global;
 use trace_reader::{TraceEnd, TraceFault, read_into};
@@ -55,11 +55,11 @@ pub fn perform<O: Outside>(alloc: Global, words: &[String], outside: &mut O) -> 
     ensures names { MayBind (plan_of (map string_bytes words.now)) (O.seen outside.new) }
     ensures errors { (O.seen outside.new ErrorsRole) ≡ (O.seen outside.old ErrorsRole) }
 {
-    match read_words(alloc, words) {
+    match parse_command(alloc, words) {
         Ok(Request::Sim(asked)) => simulate(alloc, &asked, outside),
         Ok(Request::Check(asked)) => check(alloc, &asked, outside),
-        Err(WordsFault::Usage) => Status::Usage,
-        Err(WordsFault::NoMemory) => Status::NoMemory,
+        Err(ArgumentsFault::Usage) => Status::Usage,
+        Err(ArgumentsFault::NoMemory) => Status::NoMemory,
     }
 }
 

@@ -1,5 +1,5 @@
 ghost use Rattle.std.specs.Prelude.{◌≡◌, ◌≤◌, length};
-ghost use Rattle.opennf_calls.specs.Status.{kind_name, number_of, role_name, script_name, script_status, reading_status, status_of};
+ghost use Rattle.opennf_calls.specs.Status.{kind_name, exit_number, role_name, script_name, script_status, reading_status, status_of};
 
 use nf_io::{Role, UptoFault};
 use op_script::{ScriptFault, ScriptKind};
@@ -92,7 +92,7 @@ impl Status {
 
     /// The number that the program ends with.
     pub fn number(&self) -> u8
-        ensures { result ≡ number_of self.now }
+        ensures { result ≡ exit_number self.now }
     {
         match self {
             Status::Ok => 0,
@@ -107,7 +107,7 @@ impl Status {
 }
 
 impl TraceKind {
-    /// What the error line says of the kind, in front of its number where it has one.
+    /// What the error line says of the kind, before its number where it has one.
     pub fn name(self) -> &'static str
         ensures value { result.now ≡ kind_name self }
         ensures short { length result.now ≤ 14 }

@@ -44,7 +44,7 @@ pub(crate) fn owned(alloc: Global, words: &[&str]) -> Result<Vec<String>, NoMemo
     Ok(owned)
 }
 
-/// An outside whose capture has these pieces, one behind another.
+/// An outside whose capture has these pieces, one after another.
 fn outside_of(alloc: Global, pieces: &[&[u8]]) -> Result<MemoryOutside, NoMemory>
     ensures { IfOk result (λ outside. (role : TheRole) → (seen_in outside role).name ≡ None) }
 {

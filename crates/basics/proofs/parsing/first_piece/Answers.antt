@@ -1,4 +1,4 @@
--- The pieces of a text are its first piece and those behind it.
+-- The pieces of a text are its first piece and those after it.
 use Rattle.basics.proofs.SplitLemmas.{split-Some, split-None}
 use Rattle.basics.proofs.parsing.first_piece.Goals as goal
 

@@ -1,3 +1,4 @@
+-- A text is split at the first place of the mark.
 use Rattle.std.proofs.Common.{◌∙◌, sym, refl}
 use Rattle.basics.proofs.SplitLemmas.{split_once-Some, split_once-None}
 use Rattle.basics.proofs.parsing.split_once.Goals as goal

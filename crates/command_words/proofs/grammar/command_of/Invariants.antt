@@ -1,3 +1,4 @@
+-- The arguments that were declared so far.
 use Rattle.std.proofs.Common.{◌≡◌, map, take}
 use Rattle.clap.specs.Words.{app_of}
 use Rattle.command_words.specs.Grammar.{app_with, rule_by}

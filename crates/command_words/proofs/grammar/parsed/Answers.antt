@@ -3,7 +3,7 @@ use Rattle.std.proofs.Common.{◌∙◌, Some, sym, ap, map, string_bytes}
 use Rattle.clap.specs.Words.{app_of, matches_of}
 use Rattle.clap.proofs.WalkLemmas.{both}
 use Rattle.command_words.specs.Grammar.{rows_taken, taken}
-use Rattle.command_words.proofs.Refusals.{refused}
+use Rattle.command_words.proofs.ClapRefusals.{refused}
 use Rattle.command_words.proofs.grammar.parsed.Goals as goal
 
 pub returns-in-Ok : goal.returns-in-Ok

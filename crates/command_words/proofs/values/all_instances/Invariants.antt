@@ -1,3 +1,4 @@
+-- The instances that were read so far, and the text that is left.
 use Rattle.std.proofs.Common.{◌≡◌, ◌==◌, ◌++◌, option_map}
 use Rattle.std.specs.List.{slice_split}
 use Rattle.basics.specs.Parsing.{remaining_pieces}

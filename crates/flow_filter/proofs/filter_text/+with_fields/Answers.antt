@@ -1,7 +1,7 @@
 -- A field up to the first comma, and then the others.
 use Rattle.std.proofs.lemmas.Result.{err_from_is_err_and}
 use Rattle.flow_filter.specs.FilterText.{fields_of}
-use Rattle.flow_filter.proofs.FieldsOfText.{one_field, first_wrong, first_field}
+use Rattle.flow_filter.proofs.ParsedFields.{one_field, first_wrong, first_field}
 use Rattle.flow_filter.proofs.filter_text.+with_fields.Goals as goal
 
 pub returns-in_err-with_field-in-Some : goal.returns-in_err-with_field-in-Some

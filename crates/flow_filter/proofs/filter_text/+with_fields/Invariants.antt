@@ -1,3 +1,4 @@
+-- Each field makes the text that is left shorter.
 use Rattle.std.proofs.Common.{length}
 use Rattle.flow_filter.proofs.filter_text.+with_fields.Given as goal
 

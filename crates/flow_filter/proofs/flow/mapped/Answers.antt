@@ -1,6 +1,6 @@
 -- The inside block of a site that translates is a /24, so its bits leave room for the last byte.
 use Rattle.std.proofs.Common.{◌≡◌, ◌+◌, ◌^◌, ◌<◌, arith, rules}
-use Rattle.flow_filter.proofs.SiteLaws.{is_24, last_byte_fits}
+use Rattle.flow_filter.proofs.SiteLemmas.{is_24, last_byte_fits}
 use Rattle.flow_filter.proofs.flow.mapped.Goals as goal
 
 pub overflow_add-result : goal.overflow_add-result

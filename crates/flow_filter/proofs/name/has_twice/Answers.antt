@@ -3,7 +3,7 @@ use Rattle.std.proofs.Common.{◌≡◌, ◌∙◌, ap, map, rules, ltb, length}
 use Rattle.std.proofs.lemmas.Iterator.{YieldsList-from_slice, YieldsList-from_map_by, items_from_drains}
 use Rattle.std.proofs.lemmas.Iterator.Consumers.{YieldsList-at}
 use Rattle.std.proofs.lemmas.List.{map-id}
-use Rattle.flow_filter.proofs.Twice.{fewer_distinct}
+use Rattle.flow_filter.proofs.DoubledNames.{fewer_distinct}
 use Rattle.flow_filter.proofs.name.has_twice.Goals as goal
 
 pub returns : goal.returns

@@ -4,7 +4,7 @@ use Rattle.std.proofs.lemmas.Iterator.{YieldsList-from_slice}
 use Rattle.std.proofs.lemmas.Iterator.Consumers.{count_from_yields_List, YieldsList-at}
 use Rattle.std.proofs.lemmas.Iterator.Search.{YieldsList-from_take_while}
 use Rattle.std.proofs.lemmas.List.Folds.{length-prefix_len}
-use Rattle.op_script.proofs.InOrder.{prefix_len-map}
+use Rattle.op_script.proofs.LinesByPoint.{prefix_len-map}
 use Rattle.op_script.proofs.input.count_at.Goals as goal
 
 pub returns-clause-count : goal.returns-clause-count

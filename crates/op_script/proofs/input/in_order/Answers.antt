@@ -4,7 +4,7 @@ use Rattle.std.proofs.lemmas.Iterator.{YieldsList-from_slice, items_from_drains}
 use Rattle.std.proofs.lemmas.List.Sorted.{IsNonDecreasingBy-from_sort_by_key, answers_always}
 use Rattle.op_script.specs.declared.script.What.TheVariants.{Settle}
 use Rattle.op_script.specs.Items.{IsAhead}
-use Rattle.op_script.proofs.InOrder.{sorted_ahead}
+use Rattle.op_script.proofs.LinesByPoint.{sorted_ahead}
 use Rattle.op_script.proofs.input.in_order.Goals as goal
 
 pub returns : goal.returns

@@ -1,8 +1,8 @@
 -- All packets are written, and then the lines that are left, and the end.
 use Rattle.std.proofs.Common.{arith}
 use Rattle.std.proofs.lemmas.List.{take_rest}
-use Rattle.op_script.proofs.InOrder.{still_short, ahead_next, said_first}
-use Rattle.op_script.proofs.InputEnd.{all_items, one_more}
+use Rattle.op_script.proofs.LinesByPoint.{still_short, ahead_next, said_first}
+use Rattle.op_script.proofs.ItemsSoFar.{all_items, one_more}
 use Rattle.op_script.proofs.input.items.Goals as goal
 
 pub returns : goal.returns

@@ -1,3 +1,4 @@
+-- The lines at the point that were put so far.
 use Rattle.std.proofs.Common.{◌≡◌, ◌++◌, take}
 use Rattle.std.specs.Prelude.{nat_le}
 use Rattle.op_script.specs.Items.{said_where}

@@ -1,4 +1,5 @@
-use Rattle.op_script.proofs.Written.{members_cases}
+-- The first member, and then the others, each after a comma.
+use Rattle.op_script.proofs.WrittenTexts.{members_cases}
 use Rattle.op_script.proofs.printing.print_members.Goals as goal
 
 pub returns-in_ok-push_bytes-in-len1-up : goal.returns-in_ok-push_bytes-in-len1-up

@@ -1,5 +1,6 @@
+-- One name more, after a comma.
 use Rattle.std.proofs.Common.{◌∙◌, ◌++◌, ap}
-use Rattle.op_script.proofs.Written.{names_more}
+use Rattle.op_script.proofs.WrittenTexts.{names_more}
 use Rattle.op_script.proofs.printing.print_more.Goals as goal
 
 pub loop-name-preserved : goal.loop-name-preserved

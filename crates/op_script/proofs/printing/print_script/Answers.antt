@@ -5,14 +5,14 @@ use Rattle.std.proofs.lemmas.List.{take_all}
 use Rattle.flow_filter.specs.declared.filter.Filter.{Filter}
 use Rattle.flow_filter.specs.Filter.{IsFilter}
 use Rattle.flow_filter.specs.Name.{is_name, has_twice}
-use Rattle.flow_filter.proofs.PiecesLaws.{append_none}
+use Rattle.flow_filter.proofs.PrintedPieces.{append_none}
 use Rattle.nf_function.specs.declared.kind.Kind.{Kind}
 use Rattle.op_script.specs.declared.script.Script.{Script}
 use Rattle.op_script.specs.Forms.{Word}
 use Rattle.op_script.specs.Printing.{line_text, route_words, line_words, script_text, IsRoute, IsLine, IsScript, SplitsNone, LineFits}
 use Rattle.op_script.specs.Reading.{route_view, line_view, script_view, script_of}
-use Rattle.op_script.proofs.WholeAgain.{script_again}
-use Rattle.op_script.proofs.Written.{lines_more, all_written, at_item, fits_more}
+use Rattle.op_script.proofs.PrintedScripts.{script_again}
+use Rattle.op_script.proofs.WrittenTexts.{lines_more, all_written, at_item, fits_more}
 use Rattle.op_script.proofs.printing.print_script.Goals as goal
 
 written : (names : List Word) (script : Script) (out : List ℕ) (i : ℕ) → length script.lines.items ≤ i

@@ -1,3 +1,4 @@
+-- The routes and lines that were written so far.
 use Rattle.std.proofs.Common.{◌≡◌, ◌++◌, take, map}
 use Rattle.std.specs.List.{concat, AllByRecursion}
 use Rattle.flow_filter.specs.Filter.{IsFilter}

@@ -1,3 +1,4 @@
+-- Each line makes the list that is left shorter.
 use Rattle.std.proofs.Common.{length}
 use Rattle.op_script.proofs.reading.+command_count.Given as goal
 

@@ -1,3 +1,4 @@
+-- The names that were read so far, and the text that is left.
 use Rattle.std.proofs.Common.{◌≡◌, ◌==◌, ◌++◌, Some, None, cond, option_map}
 use Rattle.std.specs.List.{slice_split, list_all}
 use Rattle.flow_filter.specs.Name.{is_name}

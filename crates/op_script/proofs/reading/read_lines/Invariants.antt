@@ -1,3 +1,4 @@
+-- What the lines so far say, and the lines that are left.
 use Rattle.std.proofs.Common.{◌≡◌, ◌==◌, ◌+◌, ◌≤◌, option_map}
 use Rattle.std.specs.List.{slice_split}
 use Rattle.basics.specs.Parsing.{remaining_pieces}

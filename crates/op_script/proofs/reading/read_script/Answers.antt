@@ -2,7 +2,7 @@
 use Rattle.std.specs.Prelude.{◌==◌}
 use Rattle.std.specs.List.{slice_split}
 use Rattle.op_script.specs.Reading.{state_of}
-use Rattle.op_script.proofs.ReadScripts.{lines_right}
+use Rattle.op_script.proofs.ParsedScripts.{lines_right}
 use Rattle.op_script.proofs.reading.read_script.Goals as goal
 
 pub returns-clause-right : goal.returns-clause-right

@@ -5,8 +5,8 @@ use Rattle.nf_io.specs.Meaning.{AppendsFront}
 use Rattle.std.specs.Io.KnownBytes.{Appends}
 use Rattle.op_script.specs.Reading.{SaysWhole, script_of, script_view}
 use Rattle.op_script.specs.Printing.{script_text}
-use Rattle.opennf_calls.proofs.Causes.{script_row}
-use Rattle.opennf_calls.proofs.ScriptFront.{script_of-front, nothing_left}
+use Rattle.opennf_calls.proofs.FaultRows.{script_row}
+use Rattle.opennf_calls.proofs.LongScripts.{script_of-front, nothing_left}
 use Rattle.opennf_calls.proofs.check.check.Goals as goal
 
 -- the script's role isn't the report's

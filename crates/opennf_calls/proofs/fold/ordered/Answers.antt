@@ -10,7 +10,7 @@ use Rattle.std.specs.Ordering.{eq_by_cmp}
 use Rattle.std.specs.BTreeMap.{IsFromIterResult}
 use Rattle.std.specs.Map.{lookup}
 use Rattle.opennf_calls.specs.Fold.{flow_cmp, flow_eq}
-use Rattle.opennf_calls.proofs.OrderLaws.{flow_eq_equiv, eq_by-flow_cmp}
+use Rattle.opennf_calls.proofs.FlowOrderLemmas.{flow_eq_equiv, eq_by-flow_cmp}
 use Rattle.opennf_calls.proofs.fold.ordered.Goals as goal
 
 made : (c : goal.After-collect) → IfOk c.collect.result (IsFromIterResult flow_cmp (map (λ e. (e.0, e.1)) c.args.kept.now.entries))

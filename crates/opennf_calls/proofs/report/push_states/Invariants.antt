@@ -1,3 +1,4 @@
+-- The lines of the records that were put so far.
 use Rattle.std.proofs.Common.{◌≡◌, ◌++◌}
 use Rattle.std.specs.List.{flat_map}
 use Rattle.opennf_calls.specs.Report.{state_line}

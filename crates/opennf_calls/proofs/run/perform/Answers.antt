@@ -3,9 +3,9 @@ use Rattle.std.proofs.Common.{rules, ◌≡◌, Some, map}
 use Rattle.std.specs.Prelude.{string_bytes}
 use Rattle.command_words.specs.Plan.{plan_of, asks_sim, asks_check}
 use Rattle.command_words.specs.RequestViews.{sim_view, check_view}
-use Rattle.opennf_calls.proofs.Built.{plan_plain, plan_few, unmapped}
-use Rattle.opennf_calls.proofs.Rows.{row_of-sim}
-use Rattle.opennf_calls.proofs.CheckedRows.{row_of-check}
+use Rattle.opennf_calls.proofs.BuiltCommands.{plan_plain, plan_few, unmapped}
+use Rattle.opennf_calls.proofs.SimulationRows.{row_of-sim}
+use Rattle.opennf_calls.proofs.CheckRows.{row_of-check}
 use Rattle.opennf_calls.proofs.run.perform.Goals as goal
 
 pub simulate-requires-clause-one : goal.simulate-requires-clause-one

@@ -6,8 +6,8 @@ use Rattle.nf_io.specs.declared.outside.Role.TheVariants.{Trace as TraceRole, Re
 use Rattle.nf_io.specs.Meaning.{Rose, AppendsFront}
 use Rattle.std.specs.Io.KnownBytes.{Appends}
 use Rattle.opennf_calls.specs.Folded.{Folds}
-use Rattle.opennf_calls.proofs.Built.{single}
-use Rattle.opennf_calls.proofs.Causes.{fault_row}
+use Rattle.opennf_calls.proofs.BuiltCommands.{single}
+use Rattle.opennf_calls.proofs.FaultRows.{fault_row}
 use Rattle.opennf_calls.proofs.run.simulate.Goals as goal
 
 -- the capture's role isn't the report's

@@ -1,3 +1,4 @@
+-- The roles that were filled so far.
 use Rattle.std.proofs.Common.{◌≡◌, None}
 use Rattle.nf_io.specs.declared.outside.Role.{Role}
 use Rattle.nf_io.specs.Memory.{seen_in}

@@ -2,7 +2,7 @@
 use Rattle.std.proofs.Common.{rules, ◌≡◌}
 use Rattle.nf_io.specs.declared.outside.Role.TheVariants.{Errors}
 use Rattle.opennf_calls.specs.Status.{line_of}
-use Rattle.opennf_calls.proofs.Beside.{cause-beside, names-beside, complains, complete}
+use Rattle.opennf_calls.proofs.LastLineLemmas.{cause-beside, names-beside, complains, complete}
 use Rattle.opennf_calls.proofs.top.opennf_calm.Goals as goal
 
 pub returns : goal.returns

@@ -1,4 +1,4 @@
--- So far the copy has the items in front of the place of the loop.
+-- So far the copy has the items before the place of the loop.
 use Rattle.std.proofs.Common.{◌≡◌, take}
 use Rattle.basics.proofs.sequence.Sequence.copy.Given as goal
 

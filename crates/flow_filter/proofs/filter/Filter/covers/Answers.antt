@@ -1,5 +1,5 @@
 -- `covers` is exact, by what `covered` ensures.
-use Rattle.flow_filter.proofs.FilterLaws.{covers_law}
+use Rattle.flow_filter.proofs.FilterLemmas.{covers_law}
 use Rattle.flow_filter.proofs.filter.Filter.covers.Goals as goal
 
 pub returns-clause-exact : goal.returns-clause-exact

@@ -1,5 +1,5 @@
 -- The laws of `meet`, from `met`, which knows that the numbers are within their types.
-use Rattle.flow_filter.proofs.FilterLaws.{meet_clauses}
+use Rattle.flow_filter.proofs.FilterLemmas.{meet_clauses}
 use Rattle.flow_filter.proofs.filter.Filter.meet.Goals as goal
 
 pub returns-clause-exact : goal.returns-clause-exact

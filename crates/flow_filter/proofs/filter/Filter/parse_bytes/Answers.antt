@@ -3,7 +3,7 @@ use Rattle.std.proofs.Common.{refl}
 use Rattle.std.specs.Prelude.{◌==◌}
 use Rattle.std.specs.List.{slice_split}
 use Rattle.flow_filter.specs.FilterText.{nothing}
-use Rattle.flow_filter.proofs.Printable.{printable}
+use Rattle.flow_filter.proofs.ParsedFilters.{printable}
 use Rattle.flow_filter.proofs.filter.Filter.parse_bytes.Goals as goal
 
 pub returns-else-eq-clause-printable : goal.returns-else-eq-clause-printable

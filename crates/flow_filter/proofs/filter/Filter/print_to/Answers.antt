@@ -1,8 +1,8 @@
 -- Five fields, one after another.
 use Rattle.std.proofs.Common.{◌∙◌, rules}
 use Rattle.flow_filter.specs.FilterText.{print}
-use Rattle.flow_filter.proofs.PiecesLaws.{write_fields, written_some, written_none}
-use Rattle.flow_filter.proofs.ParseAgain.{parse-print}
+use Rattle.flow_filter.proofs.PrintedPieces.{write_fields, written_some, written_none}
+use Rattle.flow_filter.proofs.PrintedFilters.{parse-print}
 use Rattle.flow_filter.proofs.filter.Filter.print_to.Goals as goal
 
 pub returns-in_ok-push_bytes-clause-text : goal.returns-in_ok-push_bytes-clause-text

@@ -1,6 +1,6 @@
 -- The last digit of the block is the number's.
 use Rattle.std.proofs.Common.{rules, ◌<◌, ◌^◌, refl}
-use Rattle.opennf_calls.proofs.Digits.{same_last}
+use Rattle.opennf_calls.proofs.CountedDigits.{same_last}
 use Rattle.opennf_calls.proofs.count.Count.from.Goals as goal
 
 pub invariant_of-result : goal.invariant_of-result

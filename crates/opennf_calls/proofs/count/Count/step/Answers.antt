@@ -1,6 +1,6 @@
 -- Only the last digit changes.
 use Rattle.std.proofs.Common.{arith, ◌<◌, ◌+◌, ◌-◌, ◌%◌, length, take, refl}
-use Rattle.opennf_calls.proofs.Digits.{next_last}
+use Rattle.opennf_calls.proofs.CountedDigits.{next_last}
 use Rattle.opennf_calls.proofs.count.Count.step.Goals as goal
 
 pub invariant_of-self : goal.invariant_of-self

@@ -1,5 +1,5 @@
 -- No packets leave no records and no states.
-use Rattle.opennf_calls.proofs.FoldLaws.{AreKept-none}
+use Rattle.opennf_calls.proofs.FoldLemmas.{AreKept-none}
 use Rattle.std.proofs.Common.{refl}
 use Rattle.opennf_calls.proofs.fold.Fold.open.Goals as goal
 

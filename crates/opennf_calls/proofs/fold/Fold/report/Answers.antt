@@ -1,6 +1,6 @@
 -- The parts of the report are those of the packets.
 use Rattle.std.proofs.lemmas.Result.{IfOk-weaker}
-use Rattle.opennf_calls.proofs.LineLaws.{report_is}
+use Rattle.opennf_calls.proofs.ReportLemmas.{report_is}
 use Rattle.opennf_calls.proofs.fold.Fold.report.Goals as goal
 
 pub returns : goal.returns

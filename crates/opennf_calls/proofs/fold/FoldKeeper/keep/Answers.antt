@@ -1,6 +1,6 @@
 -- The packet changes its flow's record and leaves one more state.
 use Rattle.std.proofs.Common.{rules, refl}
-use Rattle.opennf_calls.proofs.LineLaws.{folded_more}
+use Rattle.opennf_calls.proofs.ReportLemmas.{folded_more}
 use Rattle.opennf_calls.proofs.fold.FoldKeeper.keep.Goals as goal
 
 pub returns : goal.returns

@@ -2,7 +2,7 @@
 use Rattle.std.proofs.Common.{refl}
 use Rattle.conn_tracker.specs.declared.state.State.TheVariants.{Opening}
 use Rattle.opennf_calls.specs.Report.{name_end}
-use Rattle.opennf_calls.proofs.PageLaws.{dones_from, ends_all, ends_more}
+use Rattle.opennf_calls.proofs.PageLemmas.{dones_from, ends_all, ends_more}
 use Rattle.opennf_calls.proofs.pages.Lines.dones.Goals as goal
 
 pub loop-state-preserved : goal.loop-state-preserved

@@ -1,3 +1,4 @@
+-- The ends of the lines that were made so far.
 use Rattle.std.proofs.Common.{◌≡◌, map, take}
 use Rattle.conn_tracker.specs.Table.{all_states}
 use Rattle.opennf_calls.specs.Report.{name_end}

@@ -1,7 +1,7 @@
 -- The ends are those of all states.
 use Rattle.std.proofs.Common.{◌++◌, codes, refl}
 use Rattle.conn_tracker.specs.Table.{name_of}
-use Rattle.opennf_calls.proofs.PageLaws.{outs_from, ends_all}
+use Rattle.opennf_calls.proofs.PageLemmas.{outs_from, ends_all}
 use Rattle.opennf_calls.proofs.pages.Lines.outs.Goals as goal
 
 pub returns : goal.returns

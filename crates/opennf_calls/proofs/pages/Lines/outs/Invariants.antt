@@ -1,3 +1,4 @@
+-- The ends of the lines that were made so far.
 use Rattle.std.proofs.Common.{◌≡◌, ◌++◌, codes, map, take}
 use Rattle.conn_tracker.specs.Table.{all_states, name_of}
 use Rattle.opennf_calls.proofs.pages.Lines.outs.Given as goal

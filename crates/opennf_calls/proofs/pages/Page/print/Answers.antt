@@ -3,7 +3,7 @@ use Rattle.std.proofs.Common.{rules, arith, ◌≤◌, ℕ, List, length, Ok, Er
 use Rattle.std.proofs.lemmas.Result.{err_from_is_err_and}
 use Rattle.nf_io.specs.declared.outside.Failed.{Failed}
 use Rattle.opennf_calls.specs.Writing.{Wrote}
-use Rattle.opennf_calls.proofs.PageLaws.{wrote_then, wrote_part, page_next, page_rest}
+use Rattle.opennf_calls.proofs.PageLemmas.{wrote_then, wrote_part, page_next, page_rest}
 use Rattle.opennf_calls.proofs.pages.Page.print.Goals as goal
 
 pub returns-in_err-put : goal.returns-in_err-put

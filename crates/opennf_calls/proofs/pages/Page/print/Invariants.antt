@@ -1,3 +1,4 @@
+-- The pages that were written so far, and the lines that are left.
 use Rattle.std.proofs.Common.{◌≤◌, ◌-◌, length, take, Ok}
 use Rattle.nf_io.specs.declared.outside.Failed.{Failed}
 use Rattle.nf_io.specs.Meaning.{CanWrite}

@@ -1,11 +1,11 @@
--- The four parts are written one behind another.
+-- The four parts are written one after another.
 use Rattle.std.proofs.Common.{ℕ, List, Ok, Err, subst}
 use Rattle.std.proofs.lemmas.Result.{err_from_is_err_and}
 use Rattle.nf_io.specs.declared.outside.Failed.{Failed}
 use Rattle.nf_io.specs.declared.outside.Role.TheVariants.{Report as ReportRole}
 use Rattle.opennf_calls.specs.Printed.{report_text}
 use Rattle.opennf_calls.specs.Writing.{Wrote}
-use Rattle.opennf_calls.proofs.PageLaws.{wrote_then, wrote_part}
+use Rattle.opennf_calls.proofs.PageLemmas.{wrote_then, wrote_part}
 use Rattle.opennf_calls.proofs.report.Report.print.Goals as goal
 
 pub returns-in_err-print : goal.returns-in_err-print

@@ -8,7 +8,7 @@ use Rattle.flow_filter.specs.declared.filter_text.FilterFault.{FilterFault}
 use Rattle.flow_filter.specs.Name.{has_twice, is_name}
 use Rattle.basics.specs.Parsing.{split_once}
 use Rattle.flow_filter.specs.FilterText.{Fields, is_transport, parse}
-use Rattle.flow_filter.proofs.Printable.{parse_printable}
+use Rattle.flow_filter.proofs.ParsedFilters.{parse_printable}
 use Rattle.nf_function.specs.declared.kind.Kind.{Kind}
 use Rattle.nf_function.specs.Units.{splits}
 use Rattle.op_script.specs.Forms.{Word, words, Event, Moving, Copying, Sharing, Settling, Form, Silent, Routing, Happening}
@@ -19,9 +19,9 @@ use Rattle.std.specs.Str.Lines.{strip_carriage_return}
 use Rattle.std.proofs.lemmas.List.Splits.{length-slice_split}
 use Rattle.basics.proofs.SplitLemmas.{split-Some}
 use Rattle.op_script.specs.declared.fault.ScriptKind.TheVariants as bad
-use Rattle.op_script.proofs.FormsRight.{IsEvent, IsForm, form_right}
-use Rattle.op_script.proofs.Judged.{steps, unless_Ok, wanted_Ok}
-use Rattle.op_script.proofs.Lines.{All-append, last_at, last_at-append, follows-append, numbered_next}
+use Rattle.op_script.proofs.FormLemmas.{IsEvent, IsForm, form_right}
+use Rattle.op_script.proofs.JudgedLemmas.{steps, unless_Ok, wanted_Ok}
+use Rattle.op_script.proofs.ScriptLineLemmas.{All-append, last_at, last_at-append, follows-append, numbered_next}
 
 -- what holds while lines are read
 pub record IsState (names : List Word) (s : State) : Type 0 where

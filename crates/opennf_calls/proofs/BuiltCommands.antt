@@ -8,7 +8,7 @@ use Rattle.std.proofs.lemmas.Bool.{and_parts, leb-true, eqb-true}
 use Rattle.flow_filter.specs.Name.{is_name, is_name_byte, has_twice}
 use Rattle.basics.specs.Parsing.{split_once}
 use Rattle.basics.proofs.SplitLemmas.{split-None}
-use Rattle.command_words.specs.Grammar.{Given, read_words, sim_app, check_app}
+use Rattle.command_words.specs.Grammar.{Given, given_arguments, sim_app, check_app}
 use Rattle.command_words.specs.Plan.{SimAsked, CheckAsked, Instances, asks_sim, asks_check, only, function_of, instance_of, all_instances, instances_of, inside_of, outside_of, window_of, schedule_of, file_of, file_if, is_conntrack, is_one_name, is_last, sim_values, check_values, is_built, sim_of, check_of, plan_of}
 
 -- what an answer was made of
@@ -106,7 +106,7 @@ checked_few g c is =
 
 sim_plain : (words : List (List ℕ)) (s : SimAsked) → sim_of words ≡ Some (asks_sim s) → IsPlain s
 sim_plain words s is =
-    let g = and_then _ (read_words sim_app words) (asks_sim s) is in
+    let g = and_then _ (given_arguments sim_app words) (asks_sim s) is in
     let now = only_when (is_built g.0) _ (asks_sim s) g.2 in
     let v = and_then _ (sim_values g.0) (asks_sim s) now.1 in
     let same : v.0 ≡ s = cc in
@@ -114,7 +114,7 @@ sim_plain words s is =
 
 check_few : (words : List (List ℕ)) (c : CheckAsked) → check_of words ≡ Some (asks_check c) → length c.instances.0 ≤ 16
 check_few words c is =
-    let g = and_then _ (read_words check_app words) (asks_check c) is in
+    let g = and_then _ (given_arguments check_app words) (asks_check c) is in
     let v = and_then _ (check_values g.0) (asks_check c) g.2 in
     let same : v.0 ≡ c = cc in
     subst (λ (c : CheckAsked). length c.instances.0 ≤ 16) same (checked_few g.0 v.0 v.1)
@@ -122,13 +122,13 @@ check_few words c is =
 -- the words of the one command aren't those of the other
 not_checked : (words : List (List ℕ)) (s : SimAsked) → check_of words ≡ Some (asks_sim s) → ⊥
 not_checked words s is =
-    let g = and_then _ (read_words check_app words) (asks_sim s) is in
+    let g = and_then _ (given_arguments check_app words) (asks_sim s) is in
     let v = and_then _ (check_values g.0) (asks_sim s) g.2 in
     let other : asks_check v.0 ≡ asks_sim s = same_some v.2 in cc
 
 not_simulated : (words : List (List ℕ)) (c : CheckAsked) → sim_of words ≡ Some (asks_check c) → ⊥
 not_simulated words c is =
-    let g = and_then _ (read_words sim_app words) (asks_check c) is in
+    let g = and_then _ (given_arguments sim_app words) (asks_check c) is in
     let now = only_when (is_built g.0) _ (asks_check c) g.2 in
     let v = and_then _ (sim_values g.0) (asks_check c) now.1 in
     let other : asks_sim v.0 ≡ asks_check c = same_some v.2 in cc

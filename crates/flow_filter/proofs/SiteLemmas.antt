@@ -9,7 +9,7 @@ pub is_24 : (outside : Option ℕ) (address len : ℕ) (test : Bool) (Q : ℕ �
 is_24 None address len test Q given mapped = cc
 is_24 (Some a) address len test Q given mapped = (given a refl).0
 
--- a byte fits behind 24 aligned bits
+-- a byte fits after 24 aligned bits
 pub last_byte_fits : (bits len host : ℕ) → len ≡ 24 → bits < 2 ^ 32 → bits % 2 ^ (32 - len) ≡ 0 → host < 256 → bits + host < 2 ^ 32
 last_byte_fits bits len host is_len small aligned below =
     let aligned' : bits % 256 ≡ 0 = rw is_len at aligned in omega arith

@@ -4,10 +4,10 @@ use Rattle.std.specs.Prelude.{nat_eq}
 use Rattle.std.specs.Option.{ForSome}
 use Rattle.std.proofs.lemmas.Bool.{eqb-true, eq-eqb, eqb-false, ne_eqb, leb-true, leb-false, and_cases, and_parts}
 use Rattle.flow_filter.specs.declared.prefix.Prefix.{Prefix}
-use Rattle.flow_filter.specs.Block.{in_block}
+use Rattle.flow_filter.specs.Prefixes.{in_prefix}
 use Rattle.flow_filter.specs.Filter.{holds, agrees, meet_number, meet_prefix, longer, covers_number, covers_prefix}
 use Rattle.basics.proofs.BoolLemmas.{not_both, absorbed_left, absorbed_right, and_true, true-not-false}
-use Rattle.flow_filter.proofs.BlockLaws.{block_inside, block_own, block_whole, far_same, far_other, far_small}
+use Rattle.flow_filter.proofs.PrefixLemmas.{block_inside, block_own, block_whole, far_same, far_other, far_small}
 
 -- what the meet of one field says: nothing agrees with both, or a field that agrees exactly with what both agree with, and a value
 abbrev pub MeetsField : {X : Type 0} → (X → ℕ → Bool) → ℕ → Option X → Option X → Option (Option X) → Type 0
@@ -105,7 +105,7 @@ positive (suc n) never = omega arith
 
 -- a prefix that is longer than another doesn't have all of its addresses
 longer_misses : (pb plen qb qlen : ℕ) (own : Bool) → qlen < plen → plen ≤ 32 → qb < 2 ^ 32 → qb % 2 ^ (32 - qlen) ≡ 0
-    → in_block pb plen qb ≡ own → (a : ℕ) × (a < 2 ^ 32) × (in_block qb qlen a ≡ true) × (in_block pb plen a ≡ false)
+    → in_prefix pb plen qb ≡ own → (a : ℕ) × (a < 2 ^ 32) × (in_prefix qb qlen a ≡ true) × (in_prefix pb plen a ≡ false)
 longer_misses pb plen qb qlen false lt top small aligned is = (qb, small, block_own qb qlen, is)
 longer_misses pb plen qb qlen true lt top small aligned is = (
   qb + 2 ^ (32 - plen),
@@ -131,7 +131,7 @@ prefixes_cover p q small = record {
 prefix_covers_all : (p : Prefix) → p.bits < 2 ^ 32 → CoversField holds (2 ^ 32) (Some p) None (p.len == 0)
 prefix_covers_all p small = record {
   some = (0, lit< tt, refl);
-  yes = λ is a below at_q. ap (λ n. in_block p.bits n a) (eqb-true p.len 0 is) ∙ block_whole p.bits a small below;
+  yes = λ is a below at_q. ap (λ n. in_prefix p.bits n a) (eqb-true p.len 0 is) ∙ block_whole p.bits a small below;
   never = λ is. let some : 0 < p.len = positive p.len (eqb-false p.len 0 is) in
       let far = longer_misses p.bits p.len 0 0 (holds p 0) some p.within (lit< tt) refl refl in
       (far.0, far.1, refl, far.3);

@@ -7,12 +7,12 @@ use Rattle.flow_filter.specs.declared.flow.Flow.{Flow}
 use Rattle.flow_filter.specs.declared.packet.Packet.{Packet}
 use Rattle.flow_filter.specs.declared.site.Site.{Site}
 use Rattle.conn_tracker.specs.declared.record.TrackRecord.{TrackRecord}
-use Rattle.flow_filter.specs.declared.flow.Dir.{Dir}
+use Rattle.flow_filter.specs.declared.flow.Direction.{Direction}
 use Rattle.flow_filter.specs.Flow.{flow_of}
 use Rattle.conn_tracker.specs.Table.{first_record, next_record, stepped, IsRecordOf}
-use Rattle.opennf_calls.specs.Fold.{flow_eq, unit_of, mine, record_of, record_behind, Kept, AreKept, AllFit, record_after}
-use Rattle.flow_filter.proofs.FlowLaws.{proto-flow_of}
-use Rattle.opennf_calls.proofs.OrderLaws.{same_flow}
+use Rattle.opennf_calls.specs.Fold.{flow_eq, packet_flow, mine, record_of, record_after_packets, Kept, AreKept, AllFit, record_after_kept}
+use Rattle.flow_filter.proofs.FlowLemmas.{proto-flow_of}
+use Rattle.opennf_calls.proofs.FlowOrderLemmas.{same_flow}
 
 -- a value chosen by a test meets what both meet
 pub IfSome-cond : {X : Type 0} (test : Bool) (a b : Option X) (P : X → Type 0) → (test ≡ true → IfSome a P) → IfSome b P → IfSome (cond test a b) P
@@ -28,17 +28,17 @@ AllFit-Updates old new unit r updates fits before other =
     (before other))
 
 -- a record that fits a packet fits the packet's flow
-pub fits_unit : (site : Site) (p : Packet) (r after : TrackRecord) → r ≡ after → IsRecordOf p.proto r → IsRecordOf (unit_of site p).proto after
+pub fits_unit : (site : Site) (p : Packet) (r after : TrackRecord) → r ≡ after → IsRecordOf p.proto r → IsRecordOf (packet_flow site p).proto after
 fits_unit site p r after same fits =
-    subst (λ (x : TrackRecord). IsRecordOf (unit_of site p).proto x) same
+    subst (λ (x : TrackRecord). IsRecordOf (packet_flow site p).proto x) same
     (subst (λ (proto : ℕ). IsRecordOf proto r) (sym (proto-flow_of site p)) fits)
 
 -- the two halves of a step
-pub stepped_first : (site : Site) (p : Packet) (way : Dir) (r : TrackRecord) → way ≡ (flow_of site p).1 → r ≡ first_record p way → r ≡ stepped site None p
+pub stepped_first : (site : Site) (p : Packet) (way : Direction) (r : TrackRecord) → way ≡ (flow_of site p).1 → r ≡ first_record p way → r ≡ stepped site None p
 unfolding stepped
 stepped_first site p way r same is = is ∙ ap (first_record p) same
 
-pub stepped_next : (site : Site) (before : TrackRecord) (p : Packet) (way : Dir) (r : TrackRecord) → way ≡ (flow_of site p).1 → r ≡ next_record before p way → r ≡ stepped site (Some before) p
+pub stepped_next : (site : Site) (before : TrackRecord) (p : Packet) (way : Direction) (r : TrackRecord) → way ≡ (flow_of site p).1 → r ≡ next_record before p way → r ≡ stepped site (Some before) p
 unfolding stepped
 stepped_next site before p way r same is = is ∙ ap (next_record before p) same
 
@@ -50,11 +50,11 @@ record_of-more site ps p = fold-append (λ kept q. Some (stepped site kept q)) N
 
 -- one more packet is the flow's where it belongs to the flow
 pub mine-more : (site : Site) (unit : Flow) (ps : List Packet) (p : Packet)
-    → mine site unit (ps ++ p ∷ []) ≡ cond (flow_eq (unit_of site p) unit) (mine site unit ps ++ p ∷ []) (mine site unit ps)
+    → mine site unit (ps ++ p ∷ []) ≡ cond (flow_eq (packet_flow site p) unit) (mine site unit ps ++ p ∷ []) (mine site unit ps)
 unfolding mine
 mine-more site unit ps p =
-    filter-append (λ q. flow_eq (unit_of site q) unit) ps (p ∷ [])
-    ∙ appended (flow_eq (unit_of site p) unit) (mine site unit ps) p
+    filter-append (λ q. flow_eq (packet_flow site q) unit) ps (p ∷ [])
+    ∙ appended (flow_eq (packet_flow site p) unit) (mine site unit ps) p
   where
     appended : (test : Bool) (front : List Packet) (q : Packet) → front ++ cond test (q ∷ []) [] ≡ cond test (front ++ q ∷ []) front
     appended true front q = refl
@@ -65,23 +65,23 @@ pub AreKept-none : (site : Site) (kept : Kept) → kept.entries ≡ [] → AreKe
 unfolding record_of mine
 AreKept-none site kept empty unit = rw empty refl
 
--- the records of all flows behind one more packet
+-- the records of all flows after one more packet
 pub AreKept-more : (site : Site) (before : List Packet) (p : Packet) (old new : Kept)
-    → AreKept site before old → Updates flow_eq old new (unit_of site p) (Some (record_after site old p))
+    → AreKept site before old → Updates flow_eq old new (packet_flow site p) (Some (record_after_kept site old p))
     → AreKept site (before ++ p ∷ []) new
 AreKept-more site before p old new was updates unit =
-    updates.0 unit ∙ chosen (flow_eq (unit_of site p) unit) refl ∙ ap (record_of site) (sym (mine-more site unit before p))
+    updates.0 unit ∙ chosen (flow_eq (packet_flow site p) unit) refl ∙ ap (record_of site) (sym (mine-more site unit before p))
   where
-    chosen : (test : Bool) → flow_eq (unit_of site p) unit ≡ test
-        → cond test (Some (record_after site old p)) (get flow_eq old unit)
+    chosen : (test : Bool) → flow_eq (packet_flow site p) unit ≡ test
+        → cond test (Some (record_after_kept site old p)) (get flow_eq old unit)
         ≡ record_of site (cond test (mine site unit before ++ p ∷ []) (mine site unit before))
     chosen true equal =
-        let same : unit_of site p ≡ unit = same_flow (unit_of site p) unit equal in
-        ap (λ kept. Some (stepped site kept p)) (was (unit_of site p) ∙ ap (λ u. record_of site (mine site u before)) same)
+        let same : packet_flow site p ≡ unit = same_flow (packet_flow site p) unit equal in
+        ap (λ kept. Some (stepped site kept p)) (was (packet_flow site p) ∙ ap (λ u. record_of site (mine site u before)) same)
         ∙ sym (record_of-more site (mine site unit before) p)
     chosen false equal = was unit
 
 -- the record that the map gives is that of the flow's own packets
 pub record_after-kept : (site : Site) (before : List Packet) (p : Packet) (kept : Kept)
-    → AreKept site before kept → record_after site kept p ≡ record_behind site before p
-record_after-kept site before p kept are = ap (λ r. stepped site r p) (are (unit_of site p))
+    → AreKept site before kept → record_after_kept site kept p ≡ record_after_packets site before p
+record_after-kept site before p kept are = ap (λ r. stepped site r p) (are (packet_flow site p))

@@ -3,28 +3,28 @@ use Rattle.std.proofs.Common.{◌≡◌, ℕ, ◌+◌, ◌<◌, ◌≤◌, true,
 use Rattle.std.specs.List.{concat, join_with_byte, AllByRecursion}
 use Rattle.std.proofs.lemmas.List.{take_more, take_all, map-append}
 use Rattle.std.proofs.lemmas.List.Folds.{concat-append}
-use Rattle.op_script.proofs.Lines.{All-append}
-use Rattle.flow_filter.specs.FilterText.{behind}
-use Rattle.flow_filter.proofs.PiecesLaws.{behind-append, append_none, join-behind}
+use Rattle.op_script.proofs.ScriptLineLemmas.{All-append}
+use Rattle.flow_filter.specs.FilterText.{after_commas}
+use Rattle.flow_filter.proofs.PrintedPieces.{after_commas-append, append_none, join-after_commas}
 
 -- the items so far, and one more
 one_more : {X : Type 0} (xs : List X) (i : ℕ) (x : X) → i < length xs → x ≡ get_or xs i x → take (i + 1) xs ≡ take i xs ++ x ∷ []
 one_more xs i x below is = take_more xs i x below ∙ ap (λ y. take i xs ++ y ∷ []) (sym is)
 
--- one name more, behind a comma
+-- one name more, after_commas a comma
 pub names_more : (start before comma after : List ℕ) (xs : List (List ℕ)) (i : ℕ) (x : List ℕ) → i < length xs → x ≡ get_or xs i x
-    → before ≡ start ++ behind true (take i xs) → comma ≡ before ++ 44 ∷ [] → after ≡ comma ++ x → after ≡ start ++ behind true (take (i + 1) xs)
+    → before ≡ start ++ after_commas true (take i xs) → comma ≡ before ++ 44 ∷ [] → after ≡ comma ++ x → after ≡ start ++ after_commas true (take (i + 1) xs)
 names_more start before comma after xs i x below is so_far first second =
-    let split : behind true (take (i + 1) xs) ≡ behind true (take i xs) ++ (44 ∷ x) =
-    ap (behind true) (one_more xs i x below is) ∙ behind-append true (take i xs) (x ∷ []) ∙ ap (λ t. behind true (take i xs) ++ (44 ∷ t)) (append_none x) in
-    let regrouped : ((start ++ behind true (take i xs)) ++ 44 ∷ []) ++ x ≡ start ++ (behind true (take i xs) ++ (44 ∷ x)) = simp append_assoc in
+    let split : after_commas true (take (i + 1) xs) ≡ after_commas true (take i xs) ++ (44 ∷ x) =
+    ap (after_commas true) (one_more xs i x below is) ∙ after_commas-append true (take i xs) (x ∷ []) ∙ ap (λ t. after_commas true (take i xs) ++ (44 ∷ t)) (append_none x) in
+    let regrouped : ((start ++ after_commas true (take i xs)) ++ 44 ∷ []) ++ x ≡ start ++ (after_commas true (take i xs) ++ (44 ∷ x)) = simp append_assoc in
     second ∙ ap (λ t. t ++ x) (first ∙ ap (λ t. t ++ 44 ∷ []) so_far) ∙ regrouped ∙ ap (λ t. start ++ t) (sym split)
 
--- the first name and those behind it
-pub members_written : (start one all first : List ℕ) (more : List (List ℕ)) → one ≡ start ++ first → all ≡ one ++ behind true more
+-- the first name and those after_commas it
+pub members_written : (start one all first : List ℕ) (more : List (List ℕ)) → one ≡ start ++ first → all ≡ one ++ after_commas true more
     → all ≡ start ++ join_with_byte 44 (first ∷ more)
 members_written start one all first more is_one is_all =
-    is_all ∙ ap (λ t. t ++ behind true more) is_one ∙ append_assoc start first (behind true more) ∙ ap (λ t. start ++ t) (sym (join-behind first more))
+    is_all ∙ ap (λ t. t ++ after_commas true more) is_one ∙ append_assoc start first (after_commas true more) ∙ ap (λ t. start ++ t) (sym (join-after_commas first more))
 
 -- one line more
 pub lines_more : {X Y : Type 0} (text : Y → List ℕ) (words : X → Y) (front before after : List ℕ) (xs : List X) (i : ℕ) (x : X) → i < length xs → x ≡ get_or xs i x
@@ -50,9 +50,9 @@ first_and_more [] x some is = absurd (omega arith)
 first_and_more (y ∷ ys) x some is = let rest : suc (length ys) - 1 ≡ length ys = omega arith in
     rw (rest, take_all (length ys) ys (omega arith)) (ap (λ z. z ∷ ys) (sym is))
 
--- the members, where the first is written and then those behind it
+-- the members, where the first is written and then those after_commas it
 pub members_cases : {T E : Type 0} (r : Result T E) (start one all first item : List ℕ) (members : List (List ℕ)) → 1 ≤ length members → first ≡ get_or members 0 first
-    → item ≡ first → one ≡ start ++ item → OnOk r (all ≡ one ++ behind true (take (length members - 1) (drop 1 members))) → OnOk r (all ≡ start ++ join_with_byte 44 members)
+    → item ≡ first → one ≡ start ++ item → OnOk r (all ≡ one ++ after_commas true (take (length members - 1) (drop 1 members))) → OnOk r (all ≡ start ++ join_with_byte 44 members)
 members_cases (Ok x) start one all first item members some is same begun written =
     members_written start one all first (take (length members - 1) (drop 1 members)) (begun ∙ ap (λ t. start ++ t) same) written
     ∙ ap (λ t. start ++ join_with_byte 44 t) (sym (first_and_more members first some is))

@@ -10,45 +10,45 @@ use Rattle.trace_reader.specs.Records.{AreNumbered}
 use Rattle.conn_tracker.specs.declared.record.TrackRecord.{TrackRecord}
 use Rattle.conn_tracker.specs.declared.state.State.{State}
 use Rattle.conn_tracker.specs.declared.state.State.TheVariants.{Opening, Answered, Established, FinFwd, FinRev, Closed, Reset, Loose, Single, Both}
-use Rattle.conn_tracker.specs.Table.{name_of, number_of}
+use Rattle.conn_tracker.specs.Table.{name_of, exit_number}
 use Rattle.conn_tracker.specs.Text.{output_of, output_text}
 use Rattle.opennf_calls.specs.declared.fold.Fold.{Fold}
 use Rattle.opennf_calls.specs.declared.pages.Lines.{Lines}
 use Rattle.opennf_calls.specs.declared.report.Report.{Report}
 use Rattle.trace_reader.specs.declared.trace.TraceEnd.{TraceEnd}
 use Rattle.opennf_calls.specs.Printed.{IsReady, report_text}
-use Rattle.opennf_calls.specs.Fold.{flow_cmp, flow_eq, unit_of, record_after, record_behind, states_behind}
+use Rattle.opennf_calls.specs.Fold.{flow_cmp, flow_eq, packet_flow, record_after_kept, record_after_packets, states_after}
 use Rattle.opennf_calls.specs.Folded.{HasFolded}
 use Rattle.opennf_calls.specs.Lines.{line_text, lines_from, AreOuts, AreDones}
 use Rattle.opennf_calls.specs.Report.{head_lines, out_line, out_lines, done_line, name_end, state_line, tail_lines, IsReport}
-use Rattle.opennf_calls.proofs.FoldLaws.{AreKept-more, record_after-kept}
+use Rattle.opennf_calls.proofs.FoldLemmas.{AreKept-more, record_after-kept}
 
 -- one more packet leaves one more state
 states_behind-more : (site : Site) (before ps : List Packet) (p : Packet)
-    → states_behind site before (ps ++ p ∷ []) ≡ states_behind site before ps ++ (record_behind site (before ++ ps) p).state ∷ []
-states_behind-more site before [] p = ap (λ (qs : List Packet). (record_behind site qs p).state ∷ []) (sym (append-nil before))
+    → states_after site before (ps ++ p ∷ []) ≡ states_after site before ps ++ (record_after_packets site (before ++ ps) p).state ∷ []
+states_behind-more site before [] p = ap (λ (qs : List Packet). (record_after_packets site qs p).state ∷ []) (sym (append-nil before))
 states_behind-more site before (q ∷ ps) p =
-    ap (λ l. (record_behind site before q).state ∷ l) (states_behind-more site (before ++ q ∷ []) ps p
-    ∙ ap (λ (qs : List Packet). states_behind site (before ++ q ∷ []) ps ++ (record_behind site qs p).state ∷ []) (append_assoc before (q ∷ []) ps))
+    ap (λ l. (record_after_packets site before q).state ∷ l) (states_behind-more site (before ++ q ∷ []) ps p
+    ∙ ap (λ (qs : List Packet). states_after site (before ++ q ∷ []) ps ++ (record_after_packets site qs p).state ∷ []) (append_assoc before (q ∷ []) ps))
 
--- the records and the states behind one more packet
+-- the records and the states after one more packet
 pub folded_more : (here : Site) (before : List Packet) (p : Packet) (old new : Fold) (state : State)
     → HasFolded here before old → new.site ≡ old.site
-    → Updates flow_eq old.kept new.kept (unit_of old.site p) (Some (record_after old.site old.kept p))
-    → state ≡ (record_after old.site old.kept p).state → new.states.items ≡ old.states.items ++ state ∷ []
+    → Updates flow_eq old.kept new.kept (packet_flow old.site p) (Some (record_after_kept old.site old.kept p))
+    → state ≡ (record_after_kept old.site old.kept p).state → new.states.items ≡ old.states.items ++ state ∷ []
     → HasFolded here (before ++ p ∷ []) new
 folded_more here before p old new state has same updates is grown = record {
   site = same ∙ has.site;
   kept = AreKept-more here before p old.kept new.kept has.kept
-      (subst (λ (s : Site). Updates flow_eq old.kept new.kept (unit_of s p) (Some (record_after s old.kept p))) has.site updates);
+      (subst (λ (s : Site). Updates flow_eq old.kept new.kept (packet_flow s p) (Some (record_after_kept s old.kept p))) has.site updates);
   states =
-      let is' : state ≡ (record_behind here before p).state =
-      is ∙ ap (λ (s : Site). (record_after s old.kept p).state) has.site ∙ ap (λ r. r.state) (record_after-kept here before p old.kept has.kept) in
-      grown ∙ ap (λ l. l ++ state ∷ []) has.states ∙ ap (λ s. states_behind here [] before ++ s ∷ []) is' ∙ sym (states_behind-more here [] before p);
+      let is' : state ≡ (record_after_packets here before p).state =
+      is ∙ ap (λ (s : Site). (record_after_kept s old.kept p).state) has.site ∙ ap (λ r. r.state) (record_after-kept here before p old.kept has.kept) in
+      grown ∙ ap (λ l. l ++ state ∷ []) has.states ∙ ap (λ s. states_after here [] before ++ s ∷ []) is' ∙ sym (states_behind-more here [] before p);
 }
 
 -- an output's text is its state's name
-output_text-state : (state : State) → output_text (record { code = number_of state; a = 0; b = 0 }) ≡ name_of state
+output_text-state : (state : State) → output_text (record { code = exit_number state; a = 0; b = 0 }) ≡ name_of state
 output_text-state Opening = refl
 output_text-state Answered = refl
 output_text-state Established = refl
@@ -73,18 +73,18 @@ done_line-text name dones are p n state number = ap (λ k. codes "done " ++ deci
 
 -- the lines of packets that are numbered in order
 outs_are : (outs : Lines) → AreOuts outs → (site : Site) (before ps : List Packet) (n : ℕ) → AreNumbered n ps
-    → out_lines site before ps ≡ lines_from outs n (states_behind site before ps)
+    → out_lines site before ps ≡ lines_from outs n (states_after site before ps)
 outs_are outs are site before [] n numbered = refl
 outs_are outs are site before (p ∷ ps) n numbered =
-    ap (λ l. l ++ out_lines site (before ++ p ∷ []) ps) (out_line-text outs are p n (record_behind site before p) numbered.0)
-    ∙ ap (λ l. line_text outs n (record_behind site before p).state ++ l) (outs_are outs are site (before ++ p ∷ []) ps (n + 1) numbered.1)
+    ap (λ l. l ++ out_lines site (before ++ p ∷ []) ps) (out_line-text outs are p n (record_after_packets site before p) numbered.0)
+    ∙ ap (λ l. line_text outs n (record_after_packets site before p).state ++ l) (outs_are outs are site (before ++ p ∷ []) ps (n + 1) numbered.1)
 
 dones_are : (name : List ℕ) (dones : Lines) → AreDones (name_end name) dones → (site : Site) (before ps : List Packet) (n : ℕ) → AreNumbered n ps
-    → flat_map (done_line name) ps ≡ lines_from dones n (states_behind site before ps)
+    → flat_map (done_line name) ps ≡ lines_from dones n (states_after site before ps)
 dones_are name dones are site before [] n numbered = refl
 dones_are name dones are site before (p ∷ ps) n numbered =
-    ap (λ l. l ++ flat_map (done_line name) ps) (done_line-text name dones are p n (record_behind site before p).state numbered.0)
-    ∙ ap (λ l. line_text dones n (record_behind site before p).state ++ l) (dones_are name dones are site (before ++ p ∷ []) ps (n + 1) numbered.1)
+    ap (λ l. l ++ flat_map (done_line name) ps) (done_line-text name dones are p n (record_after_packets site before p).state numbered.0)
+    ∙ ap (λ l. line_text dones n (record_after_packets site before p).state ++ l) (dones_are name dones are site (before ++ p ∷ []) ps (n + 1) numbered.1)
 
 joined : (h o d t e : List ℕ) → h ++ o ++ d ++ (t ++ e) ≡ h ++ o ++ d ++ t ++ e
 joined h o d t e = simp (append_assoc)

@@ -37,7 +37,7 @@ follow_first next at count more longer (Some command) what rest given fits = fol
         rest (next + 1) given (let same : next + (1 + count) ≡ next + 1 + count = omega arith in rw same at fits)
     follow_command next at count more longer command false what rest given fits = absurd cc
 
--- one line more behind those that follow one another
+-- one line more after those that follow one another
 pub follows-append : (last next : ℕ) (lines : List LineView) (line : LineView) → follows last next lines ≡ true → last_at last lines ≤ line.at
     → IsNext (next + command_count lines) line.what → follows last next (lines ++ line ∷ []) ≡ true
 follows-append last next [] line given far fits =

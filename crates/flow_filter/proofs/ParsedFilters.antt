@@ -7,7 +7,7 @@ use Rattle.std.specs.Str.{bytes_eq}
 use Rattle.flow_filter.specs.declared.filter.Filter.{Filter}
 use Rattle.flow_filter.specs.declared.filter_text.FilterFault.{FilterFault}
 use Rattle.basics.specs.Parsing.{split_once}
-use Rattle.flow_filter.specs.FilterText.{Fields, Answer, nothing, parse, once, protocol_of, with_named, with_sides, with_field, with_fields, and_fields, fields_of, is_printable, is_transport, Gives}
+use Rattle.flow_filter.specs.FilterText.{Fields, Answer, nothing, parse, once, protocol_of, with_named, with_sides, with_field, with_fields, and_fields, fields_of, is_printable, is_transport, AgreesBy}
 
 -- what a field gives is what `put` makes of a value that was read
 record Put {X : Type 0} (new : Option X) (put : X → Fields) (g : Fields) : Type 0 where
@@ -58,7 +58,7 @@ fields_printable f g [] so_far is = let same : f ≡ g = cc in rw (← same) so_
 fields_printable f g (text ∷ more) so_far is =
     and_printable (with_field f text) g (λ h. with_fields h more) (λ h. sides_printable f h (split_once 61 text) so_far) (λ h. fields_printable h g more) is
 
-pub printable : (f : Fields) (r : Result Filter FilterFault) (texts : List (List ℕ)) → is_transport f.proto ≡ true → Gives fields_of r (with_fields f texts)
+pub printable : (f : Fields) (r : Result Filter FilterFault) (texts : List (List ℕ)) → is_transport f.proto ≡ true → AgreesBy fields_of r (with_fields f texts)
     → IfOk r (λ g. is_printable g ≡ true)
 printable f (Ok g) texts so_far read = fields_printable f (fields_of g) texts so_far read
 printable f (Err fault) texts so_far read = tt

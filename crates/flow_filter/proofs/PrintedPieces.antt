@@ -4,7 +4,7 @@ use Rattle.std.specs.Prelude.{codes}
 use Rattle.std.specs.List.{join_with_byte}
 use Rattle.std.specs.Fmt.{decimal}
 use Rattle.flow_filter.specs.declared.filter.Filter.{Filter}
-use Rattle.flow_filter.specs.FilterText.{piece, pieces, behind, joined, protocol_text, prefix_text}
+use Rattle.flow_filter.specs.FilterText.{piece, pieces, after_commas, joined, protocol_text, prefix_text}
 
 -- some piece is there
 abbrev pub are_some : List (List ℕ) → Bool
@@ -15,16 +15,16 @@ pub append_none : (a : List ℕ) → a ++ [] ≡ a
 append_none [] = refl
 append_none (x ∷ a) = ap (λ t. x ∷ t) (append_none a)
 
-pub behind-append : (begun : Bool) (done more : List (List ℕ)) → behind begun (done ++ more) ≡ behind begun done ++ behind (begun || are_some done) more
-behind-append true [] more = refl
-behind-append false [] more = refl
-behind-append true (first ∷ done) more = ap (λ t. (44 ∷ first) ++ t) (behind-append true done more) ∙ sym (append_assoc (44 ∷ first) (behind true done) (behind true more))
-behind-append false (first ∷ done) more = ap (λ t. first ++ t) (behind-append true done more) ∙ sym (append_assoc first (behind true done) (behind true more))
+pub after_commas-append : (begun : Bool) (done more : List (List ℕ)) → after_commas begun (done ++ more) ≡ after_commas begun done ++ after_commas (begun || are_some done) more
+after_commas-append true [] more = refl
+after_commas-append false [] more = refl
+after_commas-append true (first ∷ done) more = ap (λ t. (44 ∷ first) ++ t) (after_commas-append true done more) ∙ sym (append_assoc (44 ∷ first) (after_commas true done) (after_commas true more))
+after_commas-append false (first ∷ done) more = ap (λ t. first ++ t) (after_commas-append true done more) ∙ sym (append_assoc first (after_commas true done) (after_commas true more))
 
 -- the pieces written so far, and whether there are some
 pub record Written (before after : List ℕ) (begun : Bool) (done : List (List ℕ)) : Type 0 where
   pub begins : begun ≡ are_some done
-  pub text : after ≡ before ++ behind false done
+  pub text : after ≡ before ++ after_commas false done
 
 some_piece : (begun : Bool) (name : List ℕ) (done : List (List ℕ)) (value : Option (List ℕ)) → begun ≡ are_some done → (begun || is_some value) ≡ are_some (done ++ piece name value)
 some_piece begun name [] None is = rw is refl
@@ -33,21 +33,21 @@ some_piece begun name (first ∷ done) value is = rw is refl
 
 -- one field more
 pub write_piece : (before old new name : List ℕ) (begun after : Bool) (done : List (List ℕ)) (value : Option (List ℕ)) → Written before old begun done
-    → after ≡ (begun || is_some value) → new ≡ old ++ behind begun (piece name value) → Written before new after (done ++ piece name value)
+    → after ≡ (begun || is_some value) → new ≡ old ++ after_commas begun (piece name value) → Written before new after (done ++ piece name value)
 write_piece before old new name begun after done value so_far is text = record {
   begins = is ∙ some_piece begun name done value so_far.begins;
-  text = text ∙ ap (λ t. t ++ behind begun (piece name value)) so_far.text ∙ append_assoc before (behind false done) (behind begun (piece name value))
-      ∙ ap (λ t. before ++ t) (ap (λ b. behind false done ++ behind b (piece name value)) so_far.begins ∙ sym (behind-append false done (piece name value)));
+  text = text ∙ ap (λ t. t ++ after_commas begun (piece name value)) so_far.text ∙ append_assoc before (after_commas false done) (after_commas begun (piece name value))
+      ∙ ap (λ t. before ++ t) (ap (λ b. after_commas false done ++ after_commas b (piece name value)) so_far.begins ∙ sym (after_commas-append false done (piece name value)));
 }
 
-pub join-behind : (first : List ℕ) (more : List (List ℕ)) → join_with_byte 44 (first ∷ more) ≡ first ++ behind true more
-join-behind first [] = sym (append_none first)
-join-behind first (next ∷ more) = ap (λ t. first ++ (44 ∷ t)) (join-behind next more)
+pub join-after_commas : (first : List ℕ) (more : List (List ℕ)) → join_with_byte 44 (first ∷ more) ≡ first ++ after_commas true more
+join-after_commas first [] = sym (append_none first)
+join-after_commas first (next ∷ more) = ap (λ t. first ++ (44 ∷ t)) (join-after_commas next more)
 
 -- the end, where some field was written
 pub written_some : (before after : List ℕ) (begun : Bool) (done : List (List ℕ)) → Written before after begun done → begun ≡ true → after ≡ before ++ joined done
 written_some before after begun [] so_far is = let begins = so_far.begins in absurd cc
-written_some before after begun (first ∷ more) so_far is = so_far.text ∙ ap (λ t. before ++ t) (sym (join-behind first more))
+written_some before after begun (first ∷ more) so_far is = so_far.text ∙ ap (λ t. before ++ t) (sym (join-after_commas first more))
 
 -- the end, where none was
 pub written_none : (before after : List ℕ) (begun : Bool) (done : List (List ℕ)) → Written before after begun done → begun ≡ false → after ++ codes "any" ≡ before ++ joined done
@@ -60,17 +60,17 @@ is_some-map g (Some x) = refl
 
 -- one field more, by what it prints of its value
 write_field : {X : Type 0} → (g : X → List ℕ) → (before old new name : List ℕ) (begun after : Bool) (done : List (List ℕ)) (value : Option X) → Written before old begun done
-    → after ≡ (begun || is_some value) → new ≡ old ++ behind begun (piece name (option_map g value)) → Written before new after (done ++ piece name (option_map g value))
+    → after ≡ (begun || is_some value) → new ≡ old ++ after_commas begun (piece name (option_map g value)) → Written before new after (done ++ piece name (option_map g value))
 write_field g before old new name begun after done value so_far is text =
     write_piece before old new name begun after done (option_map g value) so_far (is ∙ ap (λ b. begun || b) (sym (is_some-map g value))) text
 
 -- the five fields
 pub write_fields : (f : Filter) (s0 s1 s2 s3 s4 s5 : List ℕ) (b1 b2 b3 b4 b5 : Bool)
-    → (b1 ≡ is_some f.proto) × (s1 ≡ s0 ++ behind false (piece (codes "proto=") (option_map protocol_text f.proto)))
-    → (b2 ≡ (b1 || is_some f.local)) × (s2 ≡ s1 ++ behind b1 (piece (codes "local=") (option_map prefix_text f.local)))
-    → (b3 ≡ (b2 || is_some f.lport)) × (s3 ≡ s2 ++ behind b2 (piece (codes "lport=") (option_map decimal f.lport)))
-    → (b4 ≡ (b3 || is_some f.remote)) × (s4 ≡ s3 ++ behind b3 (piece (codes "remote=") (option_map prefix_text f.remote)))
-    → (b5 ≡ (b4 || is_some f.rport)) × (s5 ≡ s4 ++ behind b4 (piece (codes "rport=") (option_map decimal f.rport)))
+    → (b1 ≡ is_some f.proto) × (s1 ≡ s0 ++ after_commas false (piece (codes "proto=") (option_map protocol_text f.proto)))
+    → (b2 ≡ (b1 || is_some f.local)) × (s2 ≡ s1 ++ after_commas b1 (piece (codes "local=") (option_map prefix_text f.local)))
+    → (b3 ≡ (b2 || is_some f.lport)) × (s3 ≡ s2 ++ after_commas b2 (piece (codes "lport=") (option_map decimal f.lport)))
+    → (b4 ≡ (b3 || is_some f.remote)) × (s4 ≡ s3 ++ after_commas b3 (piece (codes "remote=") (option_map prefix_text f.remote)))
+    → (b5 ≡ (b4 || is_some f.rport)) × (s5 ≡ s4 ++ after_commas b4 (piece (codes "rport=") (option_map decimal f.rport)))
     → Written s0 s5 b5 (pieces f)
 unfolding pieces
 write_fields f s0 s1 s2 s3 s4 s5 b1 b2 b3 b4 b5 proto local lport remote rport =

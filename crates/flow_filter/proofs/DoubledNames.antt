@@ -24,7 +24,7 @@ member_by_name : {K : Type 0} (name : K → List ℕ) (x : K) (xs : List K)
 member_by_name name x [] = refl
 member_by_name name x (y ∷ xs) =
     let here = is_eq-slice_cmp (name x) (name y) ∙ nat_list_eq_equiv.symm (name x) (name y) in
-    let behind = member_by_name name x xs in
+    let rest = member_by_name name x xs in
     cc
 
 -- one key more, which is among the others or isn't

@@ -2,5 +2,5 @@
 use Rattle.std.specs.Prelude.{ℕ, ◌-◌, ◌/◌, ◌^◌, ◌==◌, Bool}
 
 -- whether an address and `bits` agree in their first `len` bits
-abbrev pub in_block : ℕ → ℕ → ℕ → Bool
-in_block bits len address = address / 2 ^ (32 - len) == bits / 2 ^ (32 - len)
+abbrev pub in_prefix : ℕ → ℕ → ℕ → Bool
+in_prefix bits len address = address / 2 ^ (32 - len) == bits / 2 ^ (32 - len)

@@ -11,13 +11,13 @@ use Rattle.std.proofs.lemmas.Slice.Eq.{bytes_eq-Decides}
 use Rattle.flow_filter.specs.declared.prefix.Prefix.{Prefix}
 use Rattle.flow_filter.specs.declared.filter.Filter.{Filter}
 use Rattle.flow_filter.specs.Filter.{IsFilter}
-use Rattle.flow_filter.specs.Reading.{block}
+use Rattle.flow_filter.specs.Reading.{prefix_numbers}
 use Rattle.flow_filter.specs.FilterText.{Fields, Answer, nothing, parse, print, pieces, piece, joined, protocol_of, protocol_text, prefix_text, with_named, with_field, with_fields, and_fields, fields_of, is_printable, is_transport}
 use Rattle.basics.proofs.SplitLemmas.{Lacks, Lacks-append, Lacks-literal, split_once-append, split_once-lacks, split-Some, split-None}
 use Rattle.basics.proofs.PrintedNumbers.{parse_number-printed, Lacks-decimal}
-use Rattle.flow_filter.proofs.ReadAgain.{prefix-text, Lacks-prefix}
+use Rattle.flow_filter.proofs.PrintedAddresses.{prefix-text, Lacks-prefix}
 
--- fields behind fields
+-- fields after_commas fields
 and_fields-twice : (a : Answer) (xs ys : List (List ℕ)) → ((g : Fields) → with_fields g (xs ++ ys) ≡ and_fields (with_fields g xs) (λ h. with_fields h ys))
     → and_fields a (λ g. with_fields g (xs ++ ys)) ≡ and_fields (and_fields a (λ g. with_fields g xs)) (λ g. with_fields g ys)
 and_fields-twice (Ok f) xs ys before = before f
@@ -45,7 +45,7 @@ read_proto (Some n) known = elim (or_cases (eqb n 6) (eqb n 17) known) [
 ]
 
 read_local : (a : Option ℕ) (local : Option Prefix) → ForSome local (λ p. p.bits < 2 ^ 32)
-    → with_fields (given a None None None None) (piece (codes "local=") (option_map prefix_text local)) ≡ Ok (given a (option_map block local) None None None)
+    → with_fields (given a None None None None) (piece (codes "local=") (option_map prefix_text local)) ≡ Ok (given a (option_map prefix_numbers local) None None None)
 unfolding with_named
 read_local a None fits = refl
 read_local a (Some p) fits = rw (prefix-text p (fits p refl)) refl
@@ -57,7 +57,7 @@ read_lport a b None fits = refl
 read_lport a b (Some n) fits = let small : n < 2 ^ 16 = fits n refl in rw (parse_number-printed 65535 n (omega arith) (omega arith)) refl
 
 read_remote : (a : Option ℕ) (b : Option (ℕ × ℕ)) (c : Option ℕ) (remote : Option Prefix) → ForSome remote (λ p. p.bits < 2 ^ 32)
-    → with_fields (given a b c None None) (piece (codes "remote=") (option_map prefix_text remote)) ≡ Ok (given a b c (option_map block remote) None)
+    → with_fields (given a b c None None) (piece (codes "remote=") (option_map prefix_text remote)) ≡ Ok (given a b c (option_map prefix_numbers remote) None)
 unfolding with_named
 read_remote a b c None fits = refl
 read_remote a b c (Some p) fits = rw (prefix-text p (fits p refl)) refl
@@ -72,8 +72,8 @@ read_rport a b c d (Some n) fits = let small : n < 2 ^ 16 = fits n refl in rw (p
 read_pieces : (f : Filter) → IsFilter f → is_printable f ≡ true → with_fields nothing (pieces f) ≡ Ok (fields_of f)
 unfolding pieces
 read_pieces f fits known =
-    let local = option_map block f.local in
-    let remote = option_map block f.remote in
+    let local = option_map prefix_numbers f.local in
+    let remote = option_map prefix_numbers f.remote in
     let one = piece (codes "proto=") (option_map protocol_text f.proto) in
     let two = piece (codes "local=") (option_map prefix_text f.local) in
     let three = piece (codes "lport=") (option_map decimal f.lport) in

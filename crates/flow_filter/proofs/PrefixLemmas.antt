@@ -4,7 +4,7 @@ use Rattle.std.proofs.lemmas.Nat.{shr-shr, pow-add, pow_pos, pow_below, shr_spli
 use Rattle.std.proofs.Math.Nat.{div-eq_of_lt, add-mul-div_right, mul-le-mul_right}
 use Rattle.std.proofs.lemmas.Bool.{eqb-true, eq-eqb}
 use Rattle.std.proofs.lemmas.Nat.{div-mul-add}
-use Rattle.flow_filter.specs.Block.{in_block}
+use Rattle.flow_filter.specs.Prefixes.{in_prefix}
 
 -- addresses that agree down to bit s agree down to a higher bit t
 pub same_front : (s t a b : ℕ) → s ≤ t → a / 2 ^ s ≡ b / 2 ^ s → a / 2 ^ t ≡ b / 2 ^ t
@@ -15,19 +15,19 @@ same_front s t a b le e =
     sym left ∙ ap (λ n. n / 2 ^ (t - s)) e ∙ right
 
 -- a block with the bits of another block's address has all of its addresses, or none
-pub block_inside : (pb plen qb qlen a : ℕ) → plen ≤ qlen → in_block qb qlen a ≡ true → in_block pb plen a ≡ in_block pb plen qb
+pub block_inside : (pb plen qb qlen a : ℕ) → plen ≤ qlen → in_prefix qb qlen a ≡ true → in_prefix pb plen a ≡ in_prefix pb plen qb
 block_inside pb plen qb qlen a le h =
     ap (λ n. eqb n (pb / 2 ^ (32 - plen))) (same_front (32 - qlen) (32 - plen) a qb (omega arith) (eqb-true _ _ h))
 
 -- a block has its own bits
-pub block_own : (b len : ℕ) → in_block b len b ≡ true
+pub block_own : (b len : ℕ) → in_prefix b len b ≡ true
 block_own b len = eq-eqb _ _ refl
 
 -- the block of length 0 has every address
-pub block_whole : (b a : ℕ) → b < 2 ^ 32 → a < 2 ^ 32 → in_block b 0 a ≡ true
+pub block_whole : (b a : ℕ) → b < 2 ^ 32 → a < 2 ^ 32 → in_prefix b 0 a ≡ true
 block_whole b a small below = eq-eqb _ _ (div-eq_of_lt below ∙ sym (div-eq_of_lt small))
 
--- the address half a block or less behind the first one of a block at bit t is in the block, and in another one at bit s
+-- the address half a block or less after the first one of a block at bit t is in the block, and in another one at bit s
 pub far_same : (s t b : ℕ) → s < t → b % 2 ^ t ≡ 0 → (b + 2 ^ s) / 2 ^ t ≡ b / 2 ^ t
 far_same s t b lt aligned =
     let less : 2 ^ s < 2 ^ t = pow_below s t lt in

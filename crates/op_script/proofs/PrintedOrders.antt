@@ -12,7 +12,7 @@ use Rattle.flow_filter.specs.Name.{is_name, is_name_byte, has_twice}
 use Rattle.flow_filter.specs.FilterText.{Fields, print, parse, fields_of, is_printable}
 use Rattle.basics.specs.Parsing.{split_once}
 use Rattle.basics.proofs.SplitLemmas.{Lacks, split_once-append, split_once-lacks, split-Some, split-None}
-use Rattle.flow_filter.proofs.ParseAgain.{parse-print}
+use Rattle.flow_filter.proofs.PrintedFilters.{parse-print}
 use Rattle.nf_function.specs.declared.kind.Kind.{Kind}
 use Rattle.nf_function.specs.Units.{splits}
 use Rattle.nf_msgs.specs.declared.command.Order.{Order}
@@ -21,10 +21,10 @@ use Rattle.op_script.specs.declared.fault.ScriptKind.TheVariants as bad
 use Rattle.op_script.specs.Forms.{Word, Event, Moving, Copying, Sharing, Happening, form_of}
 use Rattle.op_script.specs.Reading.{unless, ends_of, members_of, filter_of, order_of, order_view}
 use Rattle.op_script.specs.Printing.{order_words, IsOrder, order_splits, OrderFits}
-use Rattle.op_script.proofs.Judged.{unless_Ok}
-use Rattle.op_script.proofs.Visible.{IsWord, Within-literal, name_word}
-use Rattle.op_script.proofs.FilterWords.{filter_word, join_word}
-use Rattle.op_script.proofs.ScriptAgain.{at_form, move_event, copy_event, share_event}
+use Rattle.op_script.proofs.JudgedLemmas.{unless_Ok}
+use Rattle.op_script.proofs.PrintableWords.{IsWord, Within-literal, name_word}
+use Rattle.op_script.proofs.FilterWordLemmas.{filter_word, join_word}
+use Rattle.op_script.proofs.PrintedLines.{at_form, move_event, copy_event, share_event}
 
 -- the event that an order's words spell
 abbrev pub event_in : Order → Event

@@ -1,4 +1,4 @@
--- How lines go on a page, and pages one behind another.
+-- How lines go on a page, and pages one after another.
 use Rattle.std.proofs.Common.{◌≡◌, ◌≤◌, ◌<◌, ℕ, ◌+◌, ◌-◌, zero, suc, List, [], ◌∷◌, ◌++◌, length, take, drop, Option, None, Some, Result, Ok, Err, refl, ap, sym, ◌∙◌, subst, append-nil, append_assoc, length-take, arith, codes, decimal, map, get_or, slice_index_or}
 use Rattle.std.proofs.Math.Seq.{take-append-add, take-add, take-length}
 use Rattle.std.proofs.Math.ListN.{drop_of_length-le}
@@ -9,12 +9,12 @@ use Rattle.nf_io.specs.declared.outside.Role.{Role}
 use Rattle.nf_io.specs.Meaning.{Meaning, Rose, AppendsFront}
 use Rattle.conn_tracker.specs.declared.state.State.{State}
 use Rattle.conn_tracker.specs.declared.state.State.TheVariants.{Opening, Answered, Established, FinFwd, FinRev, Closed, Reset, Loose, Single, Both}
-use Rattle.conn_tracker.specs.Table.{all_states, name_of, number_of}
+use Rattle.conn_tracker.specs.Table.{all_states, name_of, exit_number}
 use Rattle.opennf_calls.specs.declared.pages.Lines.{Lines}
 use Rattle.opennf_calls.specs.Lines.{line_text, lines_from, AreOuts, AreDones}
 use Rattle.opennf_calls.specs.Writing.{Wrote}
 
--- the lines of two lists, one behind the other
+-- the lines of two lists, one after the other
 pub lines-append : (lines : Lines) (n : ℕ) (xs ys : List State) → lines_from lines n (xs ++ ys) ≡ lines_from lines n xs ++ lines_from lines (n + length xs) ys
 lines-append lines n [] ys = let none : n ≡ n + 0 = omega arith in ap (λ m. lines_from lines m ys) none
 lines-append lines n (x ∷ xs) ys =
@@ -68,7 +68,7 @@ wrote_then role a b c t u (Err e) first more = record {
   others = λ other ne. more.others other ne ∙ first.others other ne;
 }
 
--- a text was written in part, and nothing of what would come behind it
+-- a text was written in part, and nothing of what would come after it
 pub wrote_part : {E : Type 0} (role : Role) (a b : Role → Meaning) (t u : List ℕ) (e : E) → Wrote role a b t (Err e) → Wrote role a b (t ++ u) (Err e)
 wrote_part role a b t u e part = record {
   bytes = (
@@ -82,7 +82,7 @@ wrote_part role a b t u e part = record {
   others = part.others;
 }
 
--- the lines in front of a place are those in front of an earlier place, and then those between
+-- the lines before a place are those before an earlier place, and then those between
 pub page_next : (lines : Lines) (at end : ℕ) (xs : List State) → at ≤ end → end ≤ length xs
     → lines_from lines 1 (take end xs) ≡ lines_from lines 1 (take at xs) ++ lines_from lines (at + 1) (take (end - at) (drop at xs))
 page_next lines at end xs low high =
@@ -92,12 +92,12 @@ page_next lines at end xs low high =
     ∙ lines-append lines 1 (take at xs) (take (end - at) (drop at xs))
     ∙ ap (λ n. lines_from lines 1 (take at xs) ++ lines_from lines n (take (end - at) (drop at xs))) count
 
--- all lines are those in front of a place, and then the rest
+-- all lines are those before a place, and then the rest
 pub page_rest : (lines : Lines) (end : ℕ) (xs : List State)
     → lines_from lines 1 xs ≡ lines_from lines 1 (take end xs) ++ lines_from lines (1 + length (take end xs)) (drop end xs)
 page_rest lines end xs = ap (lines_from lines 1) (sym (take-append-drop end xs)) ∙ lines-append lines 1 (take end xs) (drop end xs)
 
--- a block behind a text
+-- a block after a text
 pub put_text : (old rest place text : List ℕ) (used n : ℕ) → used ≤ length old → n ≤ length place → take n place ≡ text
     → take (used + n) (take used old ++ (place ++ rest)) ≡ take used old ++ text
 put_text old rest place text used n within fits is =
@@ -107,7 +107,7 @@ put_text old rest place text used n within fits is =
     ∙ ap (λ l. front ++ l) (take-append-le n place rest fits ∙ is)
 
 -- what stands at a state's number
-at_state : (f : State → List ℕ) (state : State) → slice_index_or (map f all_states) (number_of state) [] ≡ f state
+at_state : (f : State → List ℕ) (state : State) → slice_index_or (map f all_states) (exit_number state) [] ≡ f state
 at_state f Opening = refl
 at_state f Answered = refl
 at_state f Established = refl
@@ -151,12 +151,12 @@ take-take (suc m) (suc n) [] le = refl
 take-take (suc m) (suc n) (x ∷ xs) le = ap (λ l. x ∷ l) (take-take m n xs (omega (arith, le)))
 
 -- the same where the list of bytes is put together again
-pub put_written : (old rest place text behind : List ℕ) (used n len : ℕ) → used ≤ length old → n ≤ length place → used + n ≤ len → take n place ≡ text
-    → take (used + n) (take len (take used old ++ (place ++ rest) ++ behind)) ≡ take used old ++ text
-put_written old rest place text behind used n len within fits enough is =
-    take-take (used + n) len (take used old ++ (place ++ rest) ++ behind) enough
-    ∙ ap (take (used + n)) (append_assoc (take used old) (place ++ rest) behind ∙ ap (λ l. take used old ++ l) (append_assoc place rest behind))
-    ∙ put_text old (rest ++ behind) place text used n within fits is
+pub put_written : (old rest place text tail : List ℕ) (used n len : ℕ) → used ≤ length old → n ≤ length place → used + n ≤ len → take n place ≡ text
+    → take (used + n) (take len (take used old ++ (place ++ rest) ++ tail)) ≡ take used old ++ text
+put_written old rest place text tail used n len within fits enough is =
+    take-take (used + n) len (take used old ++ (place ++ rest) ++ tail) enough
+    ∙ ap (take (used + n)) (append_assoc (take used old) (place ++ rest) tail ∙ ap (λ l. take used old ++ l) (append_assoc place rest tail))
+    ∙ put_text old (rest ++ tail) place text used n within fits is
 
 -- a text that has a last byte
 split_last : (xs : List ℕ) → 0 < length xs → (last : ℕ) × (xs ≡ take (length xs - 1) xs ++ last ∷ [])

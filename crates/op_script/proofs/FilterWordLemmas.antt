@@ -10,8 +10,8 @@ use Rattle.basics.specs.Address.{address_text, byte_of}
 use Rattle.flow_filter.specs.Filter.{IsFilter}
 use Rattle.flow_filter.specs.FilterText.{piece, pieces, joined, print, protocol_text, prefix_text}
 use Rattle.op_script.specs.Forms.{Word}
-use Rattle.op_script.proofs.Lines.{All-append}
-use Rattle.op_script.proofs.Visible.{Within, Within-append, Within-literal, IsWord, decimal_word}
+use Rattle.op_script.proofs.ScriptLineLemmas.{All-append}
+use Rattle.op_script.proofs.PrintableWords.{Within, Within-append, Within-literal, IsWord, decimal_word}
 
 decimal_seen : (n : ℕ) → n < 2 ^ 64 → Within 33 127 (decimal n)
 decimal_seen n small = (decimal_word n small).seen

@@ -20,11 +20,11 @@ use Rattle.op_script.specs.declared.script.What.TheVariants.{Command, Settle}
 use Rattle.op_script.specs.Forms.{Word, Event, Routing, Happening, Settling, form_of}
 use Rattle.op_script.specs.Reading.{State, start, OrderView, LineView, place_of, with_route, noted, numbered, command_count, is_command, order_of, goes_back, with_form, with_lines, script_of, route_view, line_view, what_view, order_view, script_view, ScriptView}
 use Rattle.op_script.specs.Printing.{route_words, line_words, what_words, IsWhat, line_text, script_words, script_text, IsRoute, IsLine, IsScript, SplitsNone, what_splits, WhatFits, LineFits, follows, next_after, and_then}
-use Rattle.op_script.proofs.Visible.{Within, IsWord, Within-literal, line_seen, line_utf8, name_word, decimal_word}
-use Rattle.op_script.proofs.FilterWords.{filter_word}
-use Rattle.op_script.proofs.ScriptAgain.{line_says, lines-joined, route_form, at_form, settle_event}
-use Rattle.op_script.proofs.OrdersAgain.{event_in, filter_again, order_form, order_again, order_words_are}
-use Rattle.op_script.proofs.Lines.{All-append}
+use Rattle.op_script.proofs.PrintableWords.{Within, IsWord, Within-literal, line_seen, line_utf8, name_word, decimal_word}
+use Rattle.op_script.proofs.FilterWordLemmas.{filter_word}
+use Rattle.op_script.proofs.PrintedLines.{line_says, lines-joined, route_form, at_form, settle_event}
+use Rattle.op_script.proofs.PrintedOrders.{event_in, filter_again, order_form, order_again, order_words_are}
+use Rattle.op_script.proofs.ScriptLineLemmas.{All-append}
 
 neither : (p q : Bool) → (p || q) ≡ false → (p ≡ false) × (q ≡ false)
 neither true q is = absurd cc
@@ -137,7 +137,7 @@ some_next : (test : Bool) (n m : ℕ) → cond test (Some m) None ≡ Some n →
 some_next true n m is = (refl, cc)
 some_next false n m is = absurd cc
 
--- what happens has the number that reading gives it, and the next number is behind it
+-- what happens has the number that reading gives it, and the next number is after it
 next_is : (lines : List LineView) (at : ℕ) (what : What) (n : ℕ) → next_after (1 + command_count lines) (what_view what) ≡ Some n
     → (numbered lines (order_in what) ≡ what_view what) × (n ≡ 1 + command_count (lines ++ record { at = at; what = what_view what } ∷ []))
 next_is lines at (Command command) n is =

@@ -13,7 +13,7 @@ use Rattle.nf_function.specs.declared.kind.Kind.{Kind}
 use Rattle.op_script.specs.Forms.{Word, Event, Moving, Copying, Sharing, Settling, Form, Routing, Happening, form_of, event_of, moving, copying, sharing}
 use Rattle.op_script.specs.Reading.{State, with_text, with_form}
 use Rattle.op_script.specs.Printing.{line_text}
-use Rattle.op_script.proofs.Visible.{Within, IsWord, words-joined, line_seen, strip-line, line_utf8}
+use Rattle.op_script.proofs.PrintableWords.{Within, IsWord, words-joined, line_seen, strip-line, line_utf8}
 
 -- bytes from the space on lack a line's end
 lacks_end : (text : List ℕ) → Within 32 127 text → Lacks 10 text

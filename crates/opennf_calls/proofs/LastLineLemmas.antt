@@ -84,7 +84,7 @@ complains line before old new (Ok done) same bytes cause = inl (subst (λ m. App
 complains line before old new (Err failed) same bytes cause =
     inr (subst (λ m. Rose m.faults new.faults) same cause.failed, subst (λ m. AppendsFront m.written new.written line) same bytes)
 
--- a row without a fault and a refusal is that of good work or want of memory
+-- a row without a fault and a refusal is that of good work or out of memory
 complete_row : (asked : Asked) (old new : Role → Meaning) (status : Status) (bytes : Role → List ℕ) → RowOf asked old new status
     → Tells asked old bytes → refusal_of asked bytes ≡ None → ((role : Role) → Rose (old role).faults (new role).faults → ⊥)
     → (status ≡ Done) ⊎ (status ≡ NoMemory)
@@ -98,7 +98,7 @@ complete_row asked old new (BadScript line kind) bytes row tells sound calm =
     let refused = row.2 bytes tells in absurd (cc)
 complete_row asked old new Usage bytes row tells sound calm = absurd row
 
--- good input and no fault give good work or want of memory
+-- good input and no fault give good work or out of memory
 pub complete : (plan : Option Asked) (old new : Role → Meaning) (status : Status) → CauseOf plan old new status → IsComplete plan old new status
 complete plan old new status cause asked is bytes tells sound calm =
     complete_row asked old new status bytes (subst (λ p. CauseOf p old new status) is cause) tells sound calm

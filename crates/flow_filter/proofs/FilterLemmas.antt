@@ -7,7 +7,7 @@ use Rattle.flow_filter.specs.declared.filter.Filter.{Filter}
 use Rattle.basics.specs.Options.{◌>>=◌}
 use Rattle.flow_filter.specs.Filter.{holds, agrees, matches, meet, covers, covers_number, covers_prefix, IsFlow, IsFilter, Meet, IsMeet, Covers}
 use Rattle.basics.proofs.BoolLemmas.{and_fields, fields_both, true-not-false, true_unless, Five, five_true, true_five}
-use Rattle.flow_filter.proofs.FieldLaws.{MeetsField, number_meets, prefix_meets, CoversField, number_covers, prefix_covers}
+use Rattle.flow_filter.proofs.FilterFieldLemmas.{MeetsField, number_meets, prefix_meets, CoversField, number_covers, prefix_covers}
 
 -- what the meet of two filters says
 abbrev pub IsMeetOf : Filter → Filter → Option Filter → Type 0

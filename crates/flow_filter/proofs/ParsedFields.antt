@@ -1,0 +1,28 @@
+-- The fields of a text, from left to right.
+use Rattle.std.proofs.Common.{◌≡◌, ℕ, List, None, Some, Ok, Err, Result, refl}
+use Rattle.std.specs.Prelude.{◌==◌}
+use Rattle.std.specs.List.{slice_split}
+use Rattle.flow_filter.specs.declared.filter_text.FilterFault.{FilterFault}
+use Rattle.flow_filter.specs.declared.filter.Filter.{Filter}
+use Rattle.basics.specs.Parsing.{split_once}
+use Rattle.flow_filter.specs.FilterText.{Fields, Answer, AgreesBy, fields_of, with_field, with_fields, and_fields}
+use Rattle.basics.proofs.SplitLemmas.{split-Some, split-None}
+
+pub and_fields-Ok : (a : Answer) → and_fields a (λ f. Ok f) ≡ a
+and_fields-Ok (Ok f) = refl
+and_fields-Ok (Err fault) = refl
+
+-- the last field
+pub one_field : (f : Fields) (text : List ℕ) (r : Result Filter FilterFault) → None ≡ split_once 44 text → AgreesBy fields_of r (with_field f text)
+    → AgreesBy fields_of r (with_fields f (slice_split (λ b. b == 44) text))
+one_field f text r at given = rw (split-None 44 text at, and_fields-Ok (with_field f text)) given
+
+-- a field that breaks a rule
+pub first_wrong : (f : Fields) (text front after_commas : List ℕ) (fault : FilterFault) → Some (front, after_commas) ≡ split_once 44 text → with_field f front ≡ Err fault
+    → with_fields f (slice_split (λ b. b == 44) text) ≡ Err fault
+first_wrong f text front after_commas fault at wrong = rw (split-Some 44 text front after_commas at, wrong) refl
+
+-- a field and those after_commas it
+pub first_field : (f g : Fields) (text front after_commas : List ℕ) (r : Result Filter FilterFault) → Some (front, after_commas) ≡ split_once 44 text → with_field f front ≡ Ok g
+    → AgreesBy fields_of r (with_fields g (slice_split (λ b. b == 44) after_commas)) → AgreesBy fields_of r (with_fields f (slice_split (λ b. b == 44) text))
+first_field f g text front after_commas r at right given = rw (split-Some 44 text front after_commas at, right) given
