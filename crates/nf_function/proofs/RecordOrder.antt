@@ -20,7 +20,7 @@ greater Less h = cc
 greater Equal h = cc
 greater Greater h = refl
 
--- what is tied at first is tied behind it
+-- what is tied at first is tied after it
 tied_behind : (o p : Ordering) → ordering_then o p ≡ Equal → p ≡ Equal
 tied_behind Less p h = cc
 tied_behind Equal p h = h

@@ -15,7 +15,7 @@ use Rattle.byteorder.specs.Endian.{big_bytes, big_number, big_from}
 use Rattle.byteorder.specs.Numbers.{big_from-cons, big_from-lt, big_from-bytes, big_number-reads_back, big_from-append, big_from-take, length-bytes_high_first}
 use Rattle.nf_function.specs.Stored.{IsBytes, first_number}
 
--- bytes behind the first are bytes
+-- bytes after the first are bytes
 pub IsBytes-tail : (b : ℕ) (bs : List ℕ) → IsBytes (b ∷ bs) → IsBytes bs
 IsBytes-tail b bs h i = h (suc i)
 

@@ -13,7 +13,7 @@ use Rattle.nf_function.specs.Stored.{IsBytes}
 use Rattle.nf_function.specs.Units.{has_times, is_unit, is_transport}
 use Rattle.nf_function.specs.Semantics.{Semantics, count, is_sound, packets_in, unit_at}
 
--- what was read is what the bytes spell; `Body` exactly where they spell nothing; want of memory is free
+-- what was read is what the bytes spell; `Body` exactly where they spell nothing; out of memory is free
 abbrev pub Reads : {R : Type 0} → Result R BodyFault → Option R → Type 0
 Reads (Ok r) spelled = spelled ≡ Some r
 Reads (Err Body) spelled = spelled ≡ None

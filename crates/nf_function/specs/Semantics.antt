@@ -40,7 +40,7 @@ count a b = min (a + b) (2 ^ 64 - 1)
 abbrev pub unit_at : Kind → Site → Packet → units.Unit
 unit_at kind site p = unit_of kind (flow_of site p).0
 
--- what is kept of a packet's unit behind the packet. A packet that is neither of TCP nor of UDP leaves it as it is; no capture has one.
+-- what is kept of a packet's unit after the packet. A packet that is neither of TCP nor of UDP leaves it as it is; no capture has one.
 abbrev pub kept_after : {R : Type 0} → Semantics R → Site → Option R → Packet → Option R
 kept_after f site kept p = if is_transport p.proto then Some (f.stepped site kept p).kept else kept
 

@@ -6,11 +6,11 @@ use Rattle.byteorder.specs.Endian.{big_number}
 abbrev pub IsBytes : List ℕ → Type 0
 IsBytes bytes = (i : ℕ) → slice_index bytes i < 256
 
--- the first byte, and those behind it
+-- the first byte, and those after it
 abbrev pub first_byte : List ℕ → Option (ℕ × List ℕ)
 first_byte [] = None
 first_byte (byte ∷ more) = Some (byte, more)
 
--- the number in the first n bytes, and the bytes behind them
+-- the number in the first n bytes, and the bytes after them
 unfoldable pub first_number : ℕ → List ℕ → Option (ℕ × List ℕ)
 first_number n bytes = if nat_lt (length bytes) n then None else Some (big_number n bytes, drop n bytes)

@@ -11,7 +11,7 @@ use crate::kind::Kind;
 use crate::output::Output;
 use crate::unit::Unit;
 use basics::{Bytes, NoMemory, Text};
-use flow_filter::{Dir, Flow, Packet, Site, flow_of};
+use flow_filter::{Direction, Flow, Packet, Site, flow_of};
 use std::alloc::{AllocError, AllocFailed, Global};
 use thiserror::Error;
 
@@ -33,7 +33,7 @@ pub trait Function {
         alloc: Global,
         site: &Site,
         flow: Flow,
-        way: Dir,
+        way: Direction,
         kept: &mut Option<Self::Record>,
         packet: &Packet,
     ) -> Result<Output, NoMemory>
@@ -49,7 +49,7 @@ pub trait Function {
     fn body_length(kept: &Self::Record) -> u16
         ensures { result ≡ length (semantics.body_of kept.now) };
 
-    /// Puts the bytes that a record is stored as behind others. After a refusal a part of them may stand there.
+    /// Puts the bytes that a record is stored as after others. After a refusal a part of them may stand there.
     fn push_body(bytes: &mut Bytes, kept: &Self::Record) -> Result<(), NoMemory>
         ensures { OnOk result (bytes.new ≡ bytes.old ++ semantics.body_of kept.now) };
 
@@ -69,11 +69,11 @@ pub trait Function {
     fn copy(alloc: Global, kept: &Self::Record) -> Result<Self::Record, NoMemory>
         ensures { IfOk result (λ other. other ≡ kept.now) };
 
-    /// Puts the text of an output behind a text. After a refusal a part of it may stand there.
+    /// Puts the text of an output after a text. After a refusal a part of it may stand there.
     fn push_output(text: &mut Text, output: &Output) -> Result<(), NoMemory>
         ensures { OnOk result (text.new ≡ text.old ++ semantics.output_text output.now) };
 
-    /// Puts the text of a record behind a text. After a refusal a part of it may stand there.
+    /// Puts the text of a record after a text. After a refusal a part of it may stand there.
     fn push_record(text: &mut Text, kept: &Self::Record) -> Result<(), NoMemory>
         ensures { OnOk result (text.new ≡ text.old ++ semantics.record_text kept.now) };
 

@@ -6,7 +6,7 @@ ghost use Rattle.nf_function.specs.Stored.{first_byte, first_number};
 use basics::{Bytes, NoMemory};
 use byteorder::{BigEndian, ByteOrder};
 
-/// The first byte, and those behind it.
+/// The first byte, and those after it.
 pub fn first_byte(bytes: &[u8]) -> Option<(u8, &[u8])>
     ensures { option_map (λ p. (p.0, p.1.now)) result ≡ first_byte bytes.now }
 {
@@ -16,7 +16,7 @@ pub fn first_byte(bytes: &[u8]) -> Option<(u8, &[u8])>
     }
 }
 
-/// The number in the first two bytes, and those behind them.
+/// The number in the first two bytes, and those after them.
 #[tactic(auto, unfolding(crate::specs::Stored::first_number))]
 pub fn first_u16(bytes: &[u8]) -> Option<(u16, &[u8])>
     ensures { option_map (λ p. (p.0, p.1.now)) result ≡ first_number 2 bytes.now }
@@ -27,7 +27,7 @@ pub fn first_u16(bytes: &[u8]) -> Option<(u16, &[u8])>
     Some((BigEndian::read_u16(bytes), &bytes[2..]))
 }
 
-/// The number in the first four bytes, and those behind them.
+/// The number in the first four bytes, and those after them.
 #[tactic(auto, unfolding(crate::specs::Stored::first_number))]
 pub fn first_u32(bytes: &[u8]) -> Option<(u32, &[u8])>
     ensures { option_map (λ p. (p.0, p.1.now)) result ≡ first_number 4 bytes.now }
@@ -38,7 +38,7 @@ pub fn first_u32(bytes: &[u8]) -> Option<(u32, &[u8])>
     Some((BigEndian::read_u32(bytes), &bytes[4..]))
 }
 
-/// The number in the first eight bytes, and those behind them.
+/// The number in the first eight bytes, and those after them.
 #[tactic(auto, unfolding(crate::specs::Stored::first_number))]
 pub fn first_u64(bytes: &[u8]) -> Option<(u64, &[u8])>
     ensures { option_map (λ p. (p.0, p.1.now)) result ≡ first_number 8 bytes.now }
@@ -49,7 +49,7 @@ pub fn first_u64(bytes: &[u8]) -> Option<(u64, &[u8])>
     Some((BigEndian::read_u64(bytes), &bytes[8..]))
 }
 
-/// Puts a number of two bytes behind others.
+/// Puts a number of two bytes after others.
 pub fn push_u16(bytes: &mut Bytes, number: u16) -> Result<(), NoMemory>
     ensures { OnOk result (bytes.new ≡ bytes.old ++ big_bytes 2 number) }
 {
@@ -58,7 +58,7 @@ pub fn push_u16(bytes: &mut Bytes, number: u16) -> Result<(), NoMemory>
     bytes.push_bytes(&spelled)
 }
 
-/// Puts a number of four bytes behind others.
+/// Puts a number of four bytes after others.
 pub fn push_u32(bytes: &mut Bytes, number: u32) -> Result<(), NoMemory>
     ensures { OnOk result (bytes.new ≡ bytes.old ++ big_bytes 4 number) }
 {
@@ -67,7 +67,7 @@ pub fn push_u32(bytes: &mut Bytes, number: u32) -> Result<(), NoMemory>
     bytes.push_bytes(&spelled)
 }
 
-/// Puts a number of eight bytes behind others.
+/// Puts a number of eight bytes after others.
 pub fn push_u64(bytes: &mut Bytes, number: u64) -> Result<(), NoMemory>
     ensures { OnOk result (bytes.new ≡ bytes.old ++ big_bytes 8 number) }
 {

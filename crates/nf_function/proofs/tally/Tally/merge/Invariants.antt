@@ -2,7 +2,7 @@
 use Rattle.std.proofs.Common.{◌≡◌, ◌<◌, ◌≤◌, ℕ, max, get_or, length}
 use Rattle.nf_function.proofs.tally.Tally.merge.Given as goal
 
--- slots in front of this instance are merged, and the others are as they were
+-- slots before this instance are merged, and the others are as they were
 abbrev pub invariant-loop-instance : goal.invariant-loop-instance
 invariant-loop-instance l = record {
   size : length l.self.slots ≡ length l.fn.self.slots;
