@@ -9,3 +9,4 @@ pub mod PrintedAddresses
 pub mod PrintedFilters
 pub mod ParsedFilters
 pub mod DoubledNames
+pub mod FilterMeets

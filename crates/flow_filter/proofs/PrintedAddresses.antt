@@ -1,16 +1,13 @@
 -- Numbers, addresses and prefixes that were printed are read again.
-use Rattle.std.proofs.Common.{◌≡◌, ℕ, ◌-◌, ◌/◌, ◌%◌, ◌^◌, ◌<◌, ◌≤◌, suc, true, false, eqb, List, [], ◌∷◌, ◌++◌, Some, refl, ap, ◌∙◌, append_assoc, arith}
-use Rattle.std.specs.Bool.{then_some}
+use Rattle.std.proofs.Common.{◌≡◌, ℕ, ◌-◌, ◌/◌, ◌%◌, ◌^◌, ◌<◌, ◌≤◌, true, false, eqb, List, [], ◌∷◌, ◌++◌, Some, refl, ap, ◌∙◌, append_assoc, arith}
 use Rattle.std.specs.Int.{IsInRange, w32, from_be_bytes}
 use Rattle.std.specs.Fmt.{decimal}
 use Rattle.std.specs.Prelude.{codes}
 use Rattle.std.proofs.Math.Nat.{div-one}
 use Rattle.basics.specs.Address.{address_text}
-use Rattle.std.proofs.lemmas.Bool.{le-leb, ne_eqb, eq-eqb}
+use Rattle.std.proofs.lemmas.Bool.{eq-eqb}
 use Rattle.std.proofs.lemmas.Nat.{from_be_bytes-to_be_bytes_4}
-use Rattle.std.proofs.lemmas.Fmt.{digits_decimal}
 use Rattle.flow_filter.specs.declared.prefix.Prefix.{Prefix}
-use Rattle.basics.specs.Parsing.{parse_number}
 use Rattle.flow_filter.specs.Reading.{address_of, prefix_of}
 use Rattle.flow_filter.specs.FilterText.{prefix_text}
 use Rattle.basics.proofs.SplitLemmas.{Lacks, Lacks-append, split_once-append}

@@ -1,6 +1,6 @@
 -- Filters over flows: which flows match, what two filters say together, and when one covers another.
 -- This project's own rules. A field that isn't given says nothing.
-use Rattle.std.specs.Prelude.{◌≡◌, ℕ, ◌<◌, ◌^◌, Bool, true, false, ◌&&◌, ◌==◌, nat_eq, nat_le, if◌then◌else◌, Option, None, Some, is_some}
+use Rattle.std.specs.Prelude.{◌≡◌, ℕ, ◌<◌, ◌^◌, Bool, true, false, ◌&&◌, ◌||◌, ◌==◌, nat_eq, nat_le, if◌then◌else◌, Option, None, Some}
 use Rattle.std.specs.Option.{ForSome}
 use Rattle.basics.specs.Options.{◌>>=◌}
 use Rattle.flow_filter.specs.Prefixes.{in_prefix}
@@ -50,9 +50,22 @@ meet f g = do
   rport ← meet_number f.rport g.rport
   Some (record { proto = proto; local = local; lport = lport; remote = remote; rport = rport })
 
--- the filters have something in common in every field
+-- two numbers that are both given are equal
+abbrev pub numbers_agree : Option ℕ → Option ℕ → Bool
+numbers_agree (Some x) (Some y) = x == y
+numbers_agree None y = true
+numbers_agree (Some x) None = true
+
+-- of two prefixes that are both given, one holds the other
+abbrev pub prefixes_agree : Option Prefix → Option Prefix → Bool
+prefixes_agree (Some p) (Some q) = (nat_le p.len q.len && holds p q.bits) || (nat_le q.len p.len && holds q p.bits)
+prefixes_agree None q = true
+prefixes_agree (Some p) None = true
+
+-- the filters agree in every field that both give
 abbrev pub meets : Filter → Filter → Bool
-meets f g = is_some (meet f g)
+meets f g = numbers_agree f.proto g.proto && prefixes_agree f.local g.local && numbers_agree f.lport g.lport
+    && prefixes_agree f.remote g.remote && numbers_agree f.rport g.rport
 
 -- a given number covers an equal one
 abbrev pub covers_number : Option ℕ → Option ℕ → Bool

@@ -1,5 +1,5 @@
-ghost use Rattle.std.specs.Prelude.{◌≡◌, ◌↔◌, IsTrue, OnSome, IfSome, IfNone};
-ghost use Rattle.flow_filter.specs.Filter.{matches, meet, meet_number, meet_prefix, longer, covers, covers_number, covers_prefix, IsFilter, Meet, IsMeet, Covers};
+ghost use Rattle.std.specs.Prelude.{◌≡◌, ◌↔◌, IsTrue, is_some, OnSome, IfSome, IfNone};
+ghost use Rattle.flow_filter.specs.Filter.{matches, meet, meets, meet_number, meet_prefix, longer, covers, covers_number, covers_prefix, IsFilter, Meet, IsMeet, Covers};
 
 use crate::flow::Flow;
 use crate::prefix::Prefix;
@@ -43,6 +43,8 @@ impl Filter {
         ensures exact { IfSome result (IsMeet self.now other.now) }
         ensures some { OnSome result (Meet self.now other.now) }
         ensures none { IfNone result (Meet self.now other.now → ⊥) }
+        // There is a meet exactly where the two agree in every field that both give.
+        ensures agree { is_some result ≡ meets self.now other.now }
     {
         met(*self, *other)
     }
