@@ -155,7 +155,7 @@ abbrev pub is_conntrack : Option Text → Bool
 is_conntrack None = false
 is_conntrack (Some text) = bytes_eq text (codes "conntrack")
 
--- what `sim` does by now; each line falls away when its part is built
+-- what `sim` can be asked for while one instance runs by itself
 unfoldable pub is_built : Given → Bool
 is_built g =
     is_conntrack g.function
