@@ -21,20 +21,6 @@ ports_few ready w k (suc p) =
     let more : length (ports_below ready w k (suc p)) ≤ p + 1 = one_more (is_enabled ready w (at k p)) _ (ports_below ready w k p) p (ports_few ready w k p) in
     omega arith
 
-nodes_few : {A M N : Type 0} (ready : A → M → Bool) (w : Network A M N) (k : ℕ) → length (nodes_below ready w k) ≤ k * length w.nodes
-nodes_few ready w zero = omega arith
-nodes_few ready w (suc k) = grind (arith, common_steps, nodes_few ready w k, ports_few ready w k (length w.nodes))
-
-small : (a b k p n : ℕ) → a ≤ k * n → b ≤ p → k < n → p < n → n < 256 → a + b + 1 < 2 ^ 64
-small a b k p n ha hb hk hp hn =
-    let top : k * n ≤ 255 * 255 = grind arith in
-    omega arith
-
--- their count fits a machine's number
-pub count_fits : {A M N : Type 0} (ready : A → M → Bool) (w : Network A M N) (k p : ℕ) → k < length w.nodes → p < length w.nodes → length w.nodes < 256 → length (nodes_below ready w k ++ ports_below ready w k p) + 1 < 2 ^ 64
-count_fits ready w k p hk hp hn =
-    rw (length-append (nodes_below ready w k) (ports_below ready w k p)) (small _ _ k p (length w.nodes) (nodes_few ready w k) (ports_few ready w k p) hk hp hn)
-
 -- one more port of a node
 pub ports_below-enabled : {A M N : Type 0} (ready : A → M → Bool) (w : Network A M N) (k p : ℕ) → is_enabled ready w (at k p) ≡ true → ports_below ready w k (p + 1) ≡ ports_below ready w k p ++ at k p ∷ []
 ports_below-enabled ready w k p is = rw (add-one p, is) refl
@@ -45,10 +31,10 @@ ports_below-disabled ready w k p is = rw (add-one p, is) (append-nil (ports_belo
 pub nodes_below_more : {A M N : Type 0} (ready : A → M → Bool) (w : Network A M N) (k : ℕ) → nodes_below ready w (k + 1) ≡ nodes_below ready w k ++ ports_below ready w k (length w.nodes)
 nodes_below_more ready w k = rw (add-one k) refl
 
--- a count of the enabled ones goes on by the test
-pub counted : {A M N : Type 0} (ready : A → M → Bool) (w : Network A M N) (k p n m : ℕ) (b : Bool) → is_enabled ready w (at k p) ≡ b → n ≡ length (nodes_below ready w k ++ ports_below ready w k p) → m ≡ (if b then n + 1 else n) → m ≡ length (nodes_below ready w k ++ ports_below ready w k (p + 1))
-counted ready w k p n m true is so_far more = rw (ports_below-enabled ready w k p is) (grind (arith, common_steps))
-counted ready w k p n m false is so_far more = rw (ports_below-disabled ready w k p is) (more ∙ so_far)
+-- a count of a node's enabled ones goes on by the test
+pub ports_counted : {A M N : Type 0} (ready : A → M → Bool) (w : Network A M N) (k p n m : ℕ) (b : Bool) → is_enabled ready w (at k p) ≡ b → n ≡ length (ports_below ready w k p) → m ≡ (if b then n + 1 else n) → m ≡ length (ports_below ready w k (p + 1))
+ports_counted ready w k p n m true is so_far more = rw (ports_below-enabled ready w k p is) (grind (arith, common_steps))
+ports_counted ready w k p n m false is so_far more = rw (ports_below-disabled ready w k p is) (more ∙ so_far)
 
 slice_get_at : {X : Type 0} (xs : List X) (y : X) (ys : List X) (i : ℕ) → i ≡ length xs → slice_get (xs ++ y ∷ ys) i ≡ Some y
 slice_get_at [] y ys i is = rw is refl
@@ -88,19 +74,36 @@ found_at ready w k p place hk hp is here =
     let all = nodes_split ready w k (length w.nodes) (ports_below ready w k p) (at k p) row.0 hk row.1 in
     rw all.1 (slice_get_at (nodes_below ready w k ++ ports_below ready w k p) (at k p) all.0 place here)
 
--- the last of a list that ends so
-pub last_at : (xs ys : List Choice) (c : Choice) → xs ≡ ys ++ c ∷ [] → slice_get xs (length xs - 1) ≡ Some c
-last_at xs ys c is = rw is (slice_get_at ys c [] (length (ys ++ c ∷ []) - 1) (grind (arith, common_steps)))
+-- an enabled choice of a node stands behind those before it
+pub port_at : {A M N : Type 0} (ready : A → M → Bool) (w : Network A M N) (k p m place : ℕ) → p < m → is_enabled ready w (at k p) ≡ true → place ≡ length (ports_below ready w k p) → slice_get (ports_below ready w k m) place ≡ Some (at k p)
+port_at ready w k p m place below is here =
+    let row = ports_split ready w k p m below is in
+    rw row.1 (slice_get_at (ports_below ready w k p) (at k p) row.0 place here)
 
--- going down
-pub nodes_below_last : {A M N : Type 0} (ready : A → M → Bool) (w : Network A M N) (k : ℕ) → 0 < k → nodes_below ready w k ≡ nodes_below ready w (k - 1) ++ ports_below ready w (k - 1) (length w.nodes)
-nodes_below_last ready w zero some = absurd (omega arith)
-nodes_below_last ready w (suc k) some = let e : suc k - 1 ≡ k = omega arith in rw e refl
+slice_get_behind : {X : Type 0} (xs ys : List X) (i : ℕ) → slice_get (xs ++ ys) (length xs + i) ≡ slice_get ys i
+slice_get_behind [] ys i = let e : 0 + i ≡ i = omega arith in rw e refl
+slice_get_behind (x ∷ xs) ys i = let e : suc (length xs) + i ≡ suc (length xs + i) = omega arith in rw e (slice_get_behind xs ys i)
 
-pub ports_below_last-enabled : {A M N : Type 0} (ready : A → M → Bool) (w : Network A M N) (k p : ℕ) → 0 < p → is_enabled ready w (at k (p - 1)) ≡ true → ports_below ready w k p ≡ ports_below ready w k (p - 1) ++ at k (p - 1) ∷ []
-ports_below_last-enabled ready w k zero some is = absurd (omega arith)
-ports_below_last-enabled ready w k (suc p) some is = let e : suc p - 1 ≡ p = omega arith in let here = rw e at is in rw (e, here) refl
+slice_get_before : {X : Type 0} (xs ys : List X) (i : ℕ) → i < length xs → slice_get (xs ++ ys) i ≡ slice_get xs i
+slice_get_before [] ys i small = absurd (omega arith)
+slice_get_before (x ∷ xs) ys zero small = refl
+slice_get_before (x ∷ xs) ys (suc i) small = slice_get_before xs ys i (omega arith)
 
-pub ports_below_last-disabled : {A M N : Type 0} (ready : A → M → Bool) (w : Network A M N) (k p : ℕ) → 0 < p → is_enabled ready w (at k (p - 1)) ≡ false → ports_below ready w k p ≡ ports_below ready w k (p - 1)
-ports_below_last-disabled ready w k zero some is = absurd (omega arith)
-ports_below_last-disabled ready w k (suc p) some is = let e : suc p - 1 ≡ p = omega arith in let here = rw e at is in rw (e, here) (append-nil (ports_below ready w k p))
+nodes_front : {A M N : Type 0} (ready : A → M → Bool) (w : Network A M N) (k m : ℕ) → k < m → (more : List Choice) × (nodes_below ready w m ≡ nodes_below ready w k ++ (ports_below ready w k (length w.nodes) ++ more))
+nodes_front ready w k zero below = absurd (omega arith)
+nodes_front ready w k (suc m) below =
+    let row = ports_below ready w m (length w.nodes) in
+    elim (cases_lt k m) [
+      | inl less ↦
+          let front = nodes_front ready w k m less in
+          (front.0 ++ row, ap (λ xs. xs ++ row) front.1 ∙ append_assoc (nodes_below ready w k) _ row ∙ ap (λ xs. nodes_below ready w k ++ xs) (append_assoc (ports_below ready w k (length w.nodes)) front.0 row))
+      | inr over ↦
+          let same : k ≡ m = omega arith in
+          ([], subst (λ q. nodes_below ready w m ++ row ≡ nodes_below ready w q ++ (ports_below ready w q (length w.nodes) ++ [])) (sym same) (ap (λ xs. nodes_below ready w m ++ xs) (sym (append-nil row))))
+    ]
+
+-- the choices of a node stand behind those of the nodes before it
+pub node_at : {A M N : Type 0} (ready : A → M → Bool) (w : Network A M N) (k place left : ℕ) → k < length w.nodes → left < length (ports_below ready w k (length w.nodes)) → place ≡ length (nodes_below ready w k) + left → slice_get (enabled_choices ready w) place ≡ slice_get (ports_below ready w k (length w.nodes)) left
+node_at ready w k place left small there is =
+    let front = nodes_front ready w k (length w.nodes) small in
+    rw (front.1, is) (slice_get_behind (nodes_below ready w k) _ left ∙ slice_get_before (ports_below ready w k (length w.nodes)) front.0 left there)

@@ -2,6 +2,7 @@ pub mod Enabled
 pub mod Follow
 pub mod Followed
 pub mod InOrder
+pub mod LinkCounts
 pub mod Links
 pub mod Merged
 pub mod Merges

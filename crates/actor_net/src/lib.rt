@@ -12,6 +12,7 @@ pub mod choice;
 mod fronts;
 pub mod histories;
 mod link;
+mod link_table;
 pub mod outbox;
 pub mod replays;
 pub mod schedule;

@@ -1,11 +1,12 @@
 ghost use Rattle.std.specs.Prelude.{◌≡◌, ◌==◌, ◌<◌, ◌-◌, ◌*◌, ℕ, Bool, true, false, List, [], ◌∷◌, length, drop, map, replicate, slice_get, slice_index_or, Some, OnOk, OnErr, IfOk, IsErrOf};
 ghost use Rattle.std.specs.List.{list_all};
 ghost use Rattle.actor_net.specs.Network.{Network, Stepped, IsWorld, is_enabled, taken, is_done, waiting, without_first, after, delivered, reaches};
-ghost use Rattle.actor_net.specs.Schedules.{enabled_choices};
+ghost use Rattle.actor_net.specs.Schedules.{ports_below, enabled_choices};
 
 use super::actor::Actor;
 use super::choice::Choice;
 use super::link::Link;
+use super::link_table::LinkTable;
 use super::outbox::Outbox;
 use basics::{NoMemory, Sequence};
 use std::alloc::{AllocError, AllocFailed, Global};
@@ -45,20 +46,21 @@ pub struct Parts<A: Actor> {
 #[derive(Drop)]
 pub struct World<A: Actor> {
     nodes: Vec<A>,
-    links: Vec<Link<A::Message>>,
+    links: LinkTable<A::Message>,
     input: Link<A::Message>,
     log: Vec<A::Note>,
     outbox: Outbox<A::Message, A::Note>,
 }
 
 impl<A: Actor> Model for World<A> {
+    ghost use Rattle.std.specs.Prelude.{◌≡◌, length};
     ghost use Rattle.actor_net.specs.Network.{Network, IsWorld};
 
     ghost Value = { Network A A.Message A.Note };
 
-    ghost view = { λ w. record { nodes = w.nodes.items; links = w.links.items; input = w.input; log = w.log.items } };
+    ghost view = { λ w. record { nodes = w.nodes.items; links = w.links.lists; input = w.input; log = w.log.items } };
 
-    ghost invariant = { λ w. IsWorld (record { nodes = w.nodes.items; links = w.links.items; input = w.input; log = w.log.items }) };
+    ghost invariant = { λ w. IsWorld (record { nodes = w.nodes.items; links = w.links.lists; input = w.input; log = w.log.items }) × (w.links.nodes ≡ length w.nodes.items) };
 }
 
 impl<A: Actor> World<A> {
@@ -69,7 +71,7 @@ impl<A: Actor> World<A> {
         requires { (0 < length nodes.items) × (length nodes.items < 256) }
         ensures { IfOk result (λ w. w ≡ opening nodes.items items.items) }
     {
-        let links = empty_links(alloc, nodes.len() * nodes.len())?;
+        let links = LinkTable::open(alloc, nodes.len())?;
         Ok(World {
             nodes,
             links,
@@ -84,7 +86,7 @@ impl<A: Actor> World<A> {
         requires { IsWorld (world_of parts) }
         ensures { IfOk result (λ w. w ≡ world_of parts) }
     {
-        let links = links_of(alloc, parts.links)?;
+        let links = LinkTable::from_lists(alloc, parts.nodes.items().len(), parts.links)?;
         Ok(World {
             nodes: parts.nodes.into_vec(),
             links,
@@ -99,7 +101,7 @@ impl<A: Actor> World<A> {
         ensures parts { IfOk result (λ parts. world_of parts ≡ self) }
         ensures world { IsWorld self }
     {
-        let links = lists_of(self.links)?;
+        let links = self.links.into_lists()?;
         Ok(Parts {
             nodes: Sequence::from_vec(self.nodes),
             links,
@@ -127,16 +129,22 @@ impl<A: Actor> World<A> {
         ensures { result ≡ is_enabled A.is_ready self.now choice }
     {
         if choice.is_input() {
-            return match self.input.first() {
-                Some(item) => self.nodes[0].ready(item),
-                None => false,
-            };
+            return self.input_ready();
         }
         let nodes = self.nodes.len();
         if (choice.node as usize) < nodes && (choice.port as usize) < nodes {
-            !self.links[choice.place(nodes)].is_empty()
+            !self.links.is_empty(choice)
         } else {
             false
+        }
+    }
+
+    fn input_ready(&self) -> bool
+        ensures { result ≡ is_enabled A.is_ready self.now (record { node = 0; port = 0 }) }
+    {
+        match self.input.first() {
+            Some(item) => self.nodes[0].ready(item),
+            None => false,
         }
     }
 
@@ -144,16 +152,8 @@ impl<A: Actor> World<A> {
     pub(crate) fn count_enabled(&self) -> usize
         ensures { result ≡ length (enabled_choices A.is_ready self.now) }
     {
-        let nodes = self.nodes.len() as u8;
-        let mut count = 0;
-        for node in 0..nodes {
-            for port in 0..nodes {
-                if self.enabled(Choice { node, port }) {
-                    count += 1;
-                }
-            }
-        }
-        count
+        let held = self.links.count();
+        if self.input_ready() { held + 1 } else { held }
     }
 
     /// The enabled choice at a place from 0, in order of (node, port).
@@ -161,32 +161,44 @@ impl<A: Actor> World<A> {
         ensures { result ≡ slice_get (enabled_choices A.is_ready self.now) place }
     {
         let nodes = self.nodes.len() as u8;
-        let mut before = 0;
+        let mut left = place;
         for node in 0..nodes {
-            for port in 0..nodes {
-                let choice = Choice { node, port };
-                if self.enabled(choice) {
-                    if before == place {
-                        return Some(choice);
-                    }
-                    before += 1;
-                }
+            let count = self.count_of(node);
+            if left < count {
+                return self.nth_of(node, left);
             }
+            left -= count;
         }
         None
     }
 
-    /// The last enabled choice, in order of (node, port).
-    pub(crate) fn last_enabled(&self) -> Option<Choice>
-        ensures { result ≡ slice_get (enabled_choices A.is_ready self.now) (length (enabled_choices A.is_ready self.now) - 1) }
+    /// How many choices of a node are enabled.
+    fn count_of(&self, node: u8) -> usize
+        requires { node < length self.now.nodes }
+        ensures { result ≡ length (ports_below A.is_ready self.now node (length self.now.nodes)) }
+    {
+        let held = self.links.count_to(node);
+        if node == 0 && self.input_ready() {
+            held + 1
+        } else {
+            held
+        }
+    }
+
+    /// The enabled choice of a node at a place from 0, in order of ports.
+    fn nth_of(&self, node: u8, place: usize) -> Option<Choice>
+        requires { node < length self.now.nodes }
+        ensures { result ≡ slice_get (ports_below A.is_ready self.now node (length self.now.nodes)) place }
     {
         let nodes = self.nodes.len() as u8;
-        for node in (0..nodes).rev() {
-            for port in (0..nodes).rev() {
-                let choice = Choice { node, port };
-                if self.enabled(choice) {
+        let mut before = 0;
+        for port in 0..nodes {
+            let choice = Choice { node, port };
+            if self.enabled(choice) {
+                if before == place {
                     return Some(choice);
                 }
+                before += 1;
             }
         }
         None
@@ -214,8 +226,7 @@ impl<A: Actor> World<A> {
         let first = if choice.is_input() {
             self.input.pop()
         } else {
-            let place = choice.place(self.nodes.len());
-            self.links[place].pop()
+            self.links.pop(choice)
         };
         match first {
             Some(message) => message,
@@ -243,47 +254,8 @@ impl<A: Actor> World<A> {
     pub fn complete(&self) -> bool
         ensures { result ≡ is_done A.has_ended self.now }
     {
-        self.input.is_empty()
-            && all_empty(self.links.as_slice())
-            && all_ended(self.nodes.as_slice())
+        self.input.is_empty() && self.links.all_empty() && all_ended(self.nodes.as_slice())
     }
-}
-
-fn empty_links<M: Drop>(alloc: Global, count: usize) -> Result<Vec<Link<M>>, NoMemory>
-    ensures { IfOk result (λ links. links.items ≡ replicate count []) }
-{
-    let mut links = Vec::with_capacity(alloc, count)?;
-    for _place in 0..count {
-        links.push(Link::open(alloc))?;
-    }
-    Ok(links)
-}
-
-fn links_of<M: Drop>(alloc: Global, lists: Sequence<Sequence<M>>) -> Result<Vec<Link<M>>, NoMemory>
-    ensures { IfOk result (λ links. links.items ≡ lists) }
-{
-    let lists = lists.into_vec();
-    let mut links = Vec::with_capacity(alloc, lists.len())?;
-    for list in lists {
-        links.push(Link::from_vec(list.into_vec()))?;
-    }
-    Ok(links)
-}
-
-fn lists_of<M: Drop>(links: Vec<Link<M>>) -> Result<Sequence<Sequence<M>>, NoMemory>
-    ensures { IfOk result (λ lists. lists ≡ links.items) }
-{
-    let mut lists = Vec::with_capacity(*links.allocator(), links.len())?;
-    for link in links {
-        lists.push(Sequence::from_vec(link.into_vec()))?;
-    }
-    Ok(Sequence::from_vec(lists))
-}
-
-fn all_empty<M>(links: &[Link<M>]) -> bool
-    ensures { result ≡ list_all (λ l. length l == 0) links.now }
-{
-    links.iter().all(|link| link.is_empty())
 }
 
 fn all_ended<A: Actor>(nodes: &[A]) -> bool
@@ -297,14 +269,14 @@ fn deliver<M: Drop, N>(
     nodes: usize,
     from: u8,
     outbox: &mut Outbox<M, N>,
-    links: &mut Vec<Link<M>>,
+    links: &mut LinkTable<M>,
 ) -> Result<(), NoMemory>
     requires nodes { (from < nodes) × (nodes < 256) }
-    requires square { length links.old.items ≡ nodes * nodes }
-    ensures links { OnOk result (links.new.items ≡ delivered nodes from outbox.old.0 links.old.items) }
+    requires square { (links.old.nodes ≡ nodes) × (length links.old.lists ≡ nodes * nodes) }
+    ensures links { OnOk result (links.new.lists ≡ delivered nodes from outbox.old.0 links.old.lists) }
     ensures outbox { OnOk result (outbox.new ≡ ([], outbox.old.1)) }
-    ensures count { length links.new.items ≡ nodes * nodes }
-    ensures loop_link { slice_index_or links.new.items 0 [] ≡ slice_index_or links.old.items 0 [] }
+    ensures count { (links.new.nodes ≡ nodes) × (length links.new.lists ≡ nodes * nodes) }
+    ensures loop_link { slice_index_or links.new.lists 0 [] ≡ slice_index_or links.old.lists 0 [] }
     ensures notes { outbox.new.1 ≡ outbox.old.1 }
 {
     while let Some((to, message)) = outbox.next_sent() {
@@ -313,7 +285,7 @@ fn deliver<M: Drop, N>(
             port: from,
         };
         if (to as usize) < nodes && !link.is_input() {
-            links[link.place(nodes)].push(message)?;
+            links.push(link, message)?;
         }
     }
     Ok(())

@@ -1,18 +1,16 @@
-use Rattle.std.proofs.Common.{true, false, length, ap, arith, rules}
-use Rattle.std.proofs.lemmas.Grind.{common_steps}
-use Rattle.actor_net.proofs.Enabled.{count_fits, counted}
+-- The enabled choices are as many as the links that hold something, and the input where it is ready.
+use Rattle.std.proofs.Common.{length, true, false, ap, subst, sym, ◌∙◌, arith}
+use Rattle.actor_net.specs.Network.{IsWorld}
+use Rattle.actor_net.proofs.LinkCounts.{count_all}
 use Rattle.actor_net.proofs.world.World.count_enabled.Goals as goal
-use Rattle.actor_net.proofs.world.World.count_enabled.Goals.{then-enabled, else-enabled}
 
-pub overflow_add-count : goal.overflow_add-count
-overflow_add-count g c =
-    let nodes = ap (λ w. length w.nodes) c.self.view_is in
-    let few = count_fits g.A.Actor.is_ready c.args.self.now c.loop-node.node c.loop-port.port (grind (arith, common_steps)) (grind (arith, common_steps)) (grind (arith, common_steps)) in
-    grind (arith, common_steps, few)
+pub returns-then-input_ready : goal.returns-then-input_ready
+returns-then-input_ready g c =
+    let world = subst (λ w. IsWorld w) c.self.view_is c.self.invariant.0 in
+    count_all g.A.Actor.is_ready c.args.self.now world c.self.inside.links (c.self.invariant.1 ∙ ap (λ w. length w.nodes) c.self.view_is) (ap (λ w. w.links) c.self.view_is) true c.count-held.result (sym c.input_ready.ensures ∙ c.if-input_ready.true) c.count-held.ensures.held
 
-pub loop-port-preserved : goal.loop-port-preserved
-loop-port-preserved g c =
-    elim c.if-enabled.branch [
-      | then-enabled w ↦ counted g.A.Actor.is_ready c.args.self.now c.loop-node.node c.loop-port.port _ _ true (search rules) c.loop-port.invariant w.count-is
-      | else-enabled w ↦ counted g.A.Actor.is_ready c.args.self.now c.loop-node.node c.loop-port.port _ _ false (search rules) c.loop-port.invariant w.count-is
-    ]
+pub returns-else-input_ready : goal.returns-else-input_ready
+returns-else-input_ready g c =
+    let world = subst (λ w. IsWorld w) c.self.view_is c.self.invariant.0 in
+    let all = count_all g.A.Actor.is_ready c.args.self.now world c.self.inside.links (c.self.invariant.1 ∙ ap (λ w. length w.nodes) c.self.view_is) (ap (λ w. w.links) c.self.view_is) false c.count-held.result (sym c.input_ready.ensures ∙ c.if-input_ready.false) c.count-held.ensures.held in
+    omega (arith, all)

@@ -1,28 +1,19 @@
-use Rattle.std.proofs.Common.{true, false, length, ap, sym, ◌∙◌, arith, rules}
+-- The place stands at the node whose choices it doesn't reach past, and past all choices where there is none.
+use Rattle.std.proofs.Common.{◌≡◌, ◌+◌, length, ap, sym, ◌∙◌, arith, rules}
 use Rattle.std.proofs.lemmas.Grind.{common_steps}
 use Rattle.std.proofs.lemmas.Option.{slice_get_past}
-use Rattle.actor_net.specs.Schedules.{enabled_choices}
-use Rattle.actor_net.proofs.Enabled.{found_at, counted}
+use Rattle.actor_net.specs.Schedules.{nodes_below, enabled_choices}
+use Rattle.actor_net.proofs.Enabled.{node_at}
 use Rattle.actor_net.proofs.world.World.nth_enabled.Goals as goal
-use Rattle.actor_net.proofs.world.World.nth_enabled.Goals.{then-enabled+else-before-place, else-enabled}
 
-pub returns-then-before-place : goal.returns-then-before-place
-returns-then-before-place g c =
+pub returns-then-left-count : goal.returns-then-left-count
+returns-then-left-count g c =
     let nodes = ap (λ w. length w.nodes) c.self.view_is in
-    sym (found_at g.A.Actor.is_ready c.args.self.now c.loop-node.node c.loop-port.port c.args.place (grind (arith, common_steps)) (grind (arith, common_steps)) (search rules) (sym c.if-before-place.true ∙ c.loop-port.invariant.0))
-
-pub loop-port-preserved : goal.loop-port-preserved
-loop-port-preserved g c =
-    elim c.if-enabled.branch [
-      | then-enabled+else-before-place w ↦ (
-        counted g.A.Actor.is_ready c.args.self.now c.loop-node.node c.loop-port.port _ _ true (search rules) c.loop-port.invariant.0 w.before-is,
-        grind arith,
-      )
-      | else-enabled w ↦ (
-        counted g.A.Actor.is_ready c.args.self.now c.loop-node.node c.loop-port.port _ _ false (search rules) c.loop-port.invariant.0 w.before-is,
-        grind arith,
-      )
-    ]
+    c.nth_of.ensures ∙ sym (node_at g.A.Actor.is_ready c.args.self.now c.loop-node.node c.args.place c.loop-node.left (grind (arith, common_steps)) (search rules) c.loop-node.invariant)
 
 pub returns : goal.returns
-returns g c = sym (slice_get_past (enabled_choices g.A.Actor.is_ready c.args.self.now) c.args.place (grind (arith, common_steps)))
+returns g c =
+    let nodes = ap (λ w. length w.nodes) c.self.view_is in
+    let all : c.loop-node.node ≡ length c.args.self.now.nodes = grind (arith, common_steps) in
+    let past : length (enabled_choices g.A.Actor.is_ready c.args.self.now) + c.loop-node.left ≡ c.args.place = rw (← all) (sym c.loop-node.invariant) in
+    sym (slice_get_past (enabled_choices g.A.Actor.is_ready c.args.self.now) c.args.place (omega arith))
