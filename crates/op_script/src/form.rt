@@ -3,8 +3,8 @@ ghost use Rattle.op_script.specs.Forms.{words, is_blank, form_of, routing, happe
 ghost use Rattle.basics.specs.Parsing.{parse_number};
 ghost use Rattle.op_script.specs.FormViews.{event_view, form_view};
 
-use flow_filter::NoMemory;
 use basics::parsing::{parse_number, split_once};
+use flow_filter::NoMemory;
 use std::alloc::Global;
 
 /// What happens at a point of the trace, by its words.

@@ -19,9 +19,10 @@ pub fn print_script(alloc: Global, script: &Script, names: &[Name]) -> Result<Te
     ensures text { IfOk result (λ text. text ≡ script_text names.now script.now) }
 
     // Read again, the text gives the script, for each function of which it splits no unit.
-    ensures again { IfOk result (λ text. (kind : Kind) → list_all is_name names.now ≡ true → has_twice names.now ≡ false
+    ensures again { IfOk result (λ text. (kind : Kind) → has_twice names.now ≡ false
         → SplitsNone kind (script_view script.now) → length text ≤ 1048576 → script_of kind names.now text ≡ Ok (script_view script.now)) }
 {
+    all_are_names(names);
     let mut out = Text::open(alloc);
     for route in script.routes.as_slice() {
         print_route(&mut out, names, route)?;
@@ -30,6 +31,15 @@ pub fn print_script(alloc: Global, script: &Script, names: &[Name]) -> Result<Te
         print_line(&mut out, line)?;
     }
     Ok(out)
+}
+
+/// Each of the names is one, as every value of its type.
+fn all_are_names(names: &[Name])
+    ensures { list_all is_name names.now ≡ true }
+{
+    for name in names {
+        let _bytes = name.items();
+    }
 }
 
 /// Appends the line of an initial rule.

@@ -62,7 +62,7 @@ returns c =
     let fits = rw (take_all c.loop-line.line-index c.args.script.now.lines.items over) at c.loop-line.invariant.fits in
     record {
       text = is;
-      again = λ kind are once whole short. again_of kind c.args.names.now c.args.script.now c.loop-line.out c.requires are once c.loop-line.invariant.routes fits whole is short;
+      again = λ kind once whole short. again_of kind c.args.names.now c.args.script.now c.loop-line.out c.requires c.all_are_names.ensures once c.loop-line.invariant.routes fits whole is short;
     }
 
 pub print_route-requires : goal.print_route-requires
