@@ -1,10 +1,12 @@
 -- The connection tracker's table. The flags are those of RFC 9293; the states are this project's own.
-use Rattle.std.specs.Prelude.{ℕ, ◌+◌, ◌-◌, ◌^◌, ◌≡◌, ◌≤◌, ◌==◌, ◌&&◌, Bool, true, false, not, min, bit_and, if◌then◌else◌, List, [], ◌∷◌, slice_get, codes, Option, None, Some}
+use Rattle.std.specs.Prelude.{ℕ, ◌-◌, ◌*◌, ◌^◌, ◌≡◌, ◌≤◌, ◌==◌, ◌&&◌, nat_le, nat_lt, Bool, true, false, not, max, bit_and, if◌then◌else◌, List, [], ◌∷◌, slice_get, codes, Option, None, Some}
 use Rattle.flow_filter.specs.declared.packet.Packet.{Packet}
 use Rattle.flow_filter.specs.declared.site.Site.{Site}
 use Rattle.flow_filter.specs.declared.flow.Direction.{Direction}
 use Rattle.flow_filter.specs.declared.flow.Direction.TheVariants.{Out, In}
 use Rattle.flow_filter.specs.Flow.{flow_of}
+use Rattle.nf_function.specs.Semantics.{count}
+use Rattle.nf_function.specs.Units.{is_tcp}
 use Rattle.conn_tracker.specs.declared.state.State.{State}
 use Rattle.conn_tracker.specs.declared.state.State.TheVariants.{Opening, Answered, Established, FinFwd, FinRev, Closed, Reset, Loose, Single, Both}
 use Rattle.conn_tracker.specs.declared.class.Class.{Class}
@@ -76,7 +78,7 @@ abbrev pub next_udp : Bool → State → State
 next_udp false Single = Both
 next_udp forward state = state
 
--- a SYN begins anew behind a connection that has ended
+-- a SYN begins anew after a connection that has ended
 abbrev pub restarts : State → Class → Bool
 restarts Closed Syn = true
 restarts Reset Syn = true
@@ -104,29 +106,50 @@ abbrev pub first_opener : Class → Direction → Direction
 first_opener SynAck way = other_way way
 first_opener class way = way
 
--- a count stays at its greatest number
-abbrev pub count : ℕ → ℕ → ℕ
-count a b = min (a + b) (2 ^ 64 - 1)
+-- the state of a flow whose first packet this is
+abbrev pub first_state : Packet → State
+first_state p = if is_tcp p.proto then first_tcp (class_of p.flags) else Single
 
-abbrev pub is_tcp : ℕ → Bool
-is_tcp proto = proto == 6
+-- the opener of a flow whose first packet this is, which goes `way`
+abbrev pub first_way : Packet → Direction → Direction
+first_way p way = if is_tcp p.proto then first_opener (class_of p.flags) way else way
 
 -- the record of a flow's first packet, which goes `way`
 abbrev pub first_record : Packet → Direction → TrackRecord
-first_record p way =
-    if is_tcp p.proto
-    then record { state = first_tcp (class_of p.flags); opener = first_opener (class_of p.flags) way; packets = 1; bytes = p.length }
-    else record { state = Single; opener = way; packets = 1; bytes = p.length }
+first_record p way = record {
+  state = first_state p;
+  opener = first_way p way;
+  packets = 1;
+  bytes = p.length;
+  seen = p.nanos;
+}
 
--- the record after a further packet, which goes `way`
+-- a flow without packets for longer than this, in nanoseconds, is idle: 300 seconds
+abbrev pub idle_nanos : ℕ
+idle_nanos = 300 * 10 ^ 9
+
+-- the packet comes so long after the record's last that its flow begins anew. A time of 0 means that none is known.
+abbrev pub is_idle : TrackRecord → Packet → Bool
+is_idle r p = nat_le 1 r.seen && nat_lt idle_nanos (p.nanos - r.seen)
+
+-- the state that a further packet leaves, which goes `way`
+abbrev pub next_state : TrackRecord → Packet → Direction → State
+next_state r p way =
+    if is_tcp p.proto then cell (class_of p.flags) (is_same_way way r.opener) (row r.state)
+    else next_udp (is_same_way way r.opener) r.state
+
+-- the opener after a further packet, which goes `way`
+abbrev pub next_way : TrackRecord → Packet → Direction → Direction
+next_way r p way = if is_tcp p.proto && restarts r.state (class_of p.flags) then way else r.opener
+
+-- the record after a further packet, which goes `way`. Where the record is idle, the flow begins anew, and the counts go on.
 abbrev pub next_record : TrackRecord → Packet → Direction → TrackRecord
 next_record r p way = record {
-  state = (if is_tcp p.proto
-      then cell (class_of p.flags) (is_same_way way r.opener) (row r.state)
-      else next_udp (is_same_way way r.opener) r.state);
-  opener = (if is_tcp p.proto && restarts r.state (class_of p.flags) then way else r.opener);
+  state = if is_idle r p then first_state p else next_state r p way;
+  opener = if is_idle r p then first_way p way else next_way r p way;
   packets = count r.packets 1;
   bytes = count r.bytes p.length;
+  seen = max r.seen p.nanos;
 }
 
 -- the record after a packet
@@ -175,5 +198,5 @@ is_udp_state state = false
 
 -- a record that packets of this protocol can have left
 pub record IsRecordOf (proto : ℕ) (r : TrackRecord) : Type 0 where
-  pub seen : 1 ≤ r.packets
+  pub counted : 1 ≤ r.packets
   pub fits : is_udp_state r.state ≡ not (is_tcp proto)

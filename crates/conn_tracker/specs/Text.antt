@@ -1,5 +1,5 @@
 -- What the connection tracker answers and prints. This project's own words.
-use Rattle.std.specs.Prelude.{ℕ, ◌++◌, List, [], codes, decimal}
+use Rattle.std.specs.Prelude.{ℕ, ◌==◌, ◌++◌, if◌then◌else◌, List, [], codes, decimal}
 use Rattle.std.specs.Option.{option_map_or}
 use Rattle.flow_filter.specs.declared.flow.Direction.{Direction}
 use Rattle.flow_filter.specs.declared.flow.Direction.TheVariants.{Out, In}
@@ -20,8 +20,12 @@ abbrev pub way_text : Direction → List ℕ
 way_text Out = codes "out"
 way_text In = codes "in"
 
--- `STATE out|in packets P bytes B`
+-- ` seen N` where a time is known
+abbrev pub seen_text : ℕ → List ℕ
+seen_text seen = if seen == 0 then [] else codes " seen " ++ decimal seen
+
+-- `STATE out|in packets P bytes B`, and ` seen N` after it where a time is known
 unfoldable pub record_text : TrackRecord → List ℕ
 record_text r =
     name_of r.state ++ codes " " ++ way_text r.opener ++ codes " packets " ++ decimal r.packets
-    ++ codes " bytes " ++ decimal r.bytes
+    ++ codes " bytes " ++ decimal r.bytes ++ seen_text r.seen

@@ -5,16 +5,16 @@
 //! [`next_record`] are its two halves, for callers that have the packet's way and keep the record in place.
 #![tactic(auto)]
 
+pub mod body;
 pub mod class;
+pub mod conntrack;
 pub mod record;
 pub mod state;
 pub mod text;
 pub mod tracker;
 
+pub use conntrack::Conntrack;
 pub use record::TrackRecord;
 pub use state::State;
 pub use text::{print_output, print_record, push_output, push_record};
 pub use tracker::{first_record, next_record, step};
-
-#[cfg(test)]
-mod tests;

@@ -5,15 +5,17 @@ use crate::state::State;
 use flow_filter::Direction;
 use nf_function::Output;
 
-/// What the tracker keeps of a flow.
+/// What the tracker keeps of a flow. The widest fields stand first, so that no room is lost between them.
 #[derive(Clone, Copy, Debug, PartialEq, Eq)]
 pub struct TrackRecord {
-    pub state: State,
-    /// The way that the opener's packets go.
-    pub opener: Direction,
     pub packets: u64,
     /// The payload bytes of the packets.
     pub bytes: u64,
+    /// The greatest time of a packet, in nanoseconds; 0 means that none is known.
+    pub seen: u64,
+    pub state: State,
+    /// The way that the opener's packets go.
+    pub opener: Direction,
 }
 
 impl TrackRecord {

@@ -1,5 +1,6 @@
-ghost use Rattle.std.specs.Prelude.{◌≡◌, Some, IfSome};
-ghost use Rattle.conn_tracker.specs.Table.{first_record, next_record, stepped, is_same_way, first_opener, IsRecordOf};
+ghost use Rattle.std.specs.Prelude.{◌≡◌, true, Some};
+ghost use Rattle.conn_tracker.specs.Table.{first_record, next_record, stepped, first_state, first_way, is_idle, next_state, next_way, is_same_way, first_opener, IsRecordOf};
+ghost use Rattle.conn_tracker.specs.Body.{is_within};
 ghost use Rattle.conn_tracker.specs.Text.{output_of};
 
 use crate::class::Class;
@@ -8,20 +9,21 @@ use crate::state::State;
 use flow_filter::{Direction, Packet, Site, TCP, flow_of};
 use nf_function::Output;
 
+/// How long a flow may be without packets before it begins anew, in nanoseconds: 300 seconds.
+pub const IDLE_NANOS: u64 = 300_000_000_000;
+
 /// Takes a packet into what is kept of its flow, and gives the output.
 ///
 /// The output's code is the number of the new state, and its other numbers are 0.
 #[tactic(auto, unfolding(crate::specs::Table::stepped))]
 pub fn step(site: &Site, kept: &mut Option<TrackRecord>, packet: &Packet) -> Output
-    requires { IfSome kept.old (IsRecordOf packet.now.proto) }
     ensures kept { kept.new ≡ Some (stepped site.now kept.old packet.now) }
     ensures output { result ≡ output_of (stepped site.now kept.old packet.now) }
-    ensures fits { IsRecordOf packet.now.proto (stepped site.now kept.old packet.now) }
 {
     let (_, way) = flow_of(site, packet);
     let next = match kept {
         None => first_record(packet, way),
-        Some(before) => next_record(before, packet, way),
+        Some(before) => record_after(before, packet, way),
     };
     *kept = Some(next);
     next.output()
@@ -31,22 +33,23 @@ pub fn step(site: &Site, kept: &mut Option<TrackRecord>, packet: &Packet) -> Out
 pub fn first_record(packet: &Packet, way: Direction) -> TrackRecord
     ensures value { result ≡ first_record packet.now way }
     ensures fits { IsRecordOf packet.now.proto result }
+    ensures within { is_within result ≡ true }
 {
-    if packet.proto == TCP {
-        let class = Class::of(packet.flags);
-        TrackRecord {
-            state: State::first(class),
-            opener: first_opener(class, way),
-            packets: 1,
-            bytes: u64::from(packet.length),
-        }
-    } else {
-        TrackRecord {
-            state: State::Single,
-            opener: way,
-            packets: 1,
-            bytes: u64::from(packet.length),
-        }
+    let opener = first_way(packet, way);
+    record_of_one(first_state(packet), opener, packet.length, packet.nanos)
+}
+
+/// The record of one packet, with its payload's length and its time.
+fn record_of_one(state: State, opener: Direction, length: u32, nanos: u64) -> TrackRecord
+    ensures value { result ≡ record { packets = 1; bytes = length; seen = nanos; state = state; opener = opener } }
+    ensures within { is_within result ≡ true }
+{
+    TrackRecord {
+        packets: 1,
+        bytes: u64::from(length),
+        seen: nanos,
+        state,
+        opener,
     }
 }
 
@@ -56,22 +59,83 @@ pub fn next_record(before: &TrackRecord, packet: &Packet, way: Direction) -> Tra
     ensures value { result ≡ next_record before.now packet.now way }
     ensures fits { IsRecordOf packet.now.proto result }
 {
-    let is_forward = is_same_way(way, before.opener);
-    let mut next = TrackRecord {
+    record_after(before, packet, way)
+}
+
+/// The record after a further packet, which goes this way, of whatever protocol the record is.
+pub fn record_after(before: &TrackRecord, packet: &Packet, way: Direction) -> TrackRecord
+    ensures value { result ≡ next_record before.now packet.now way }
+    ensures fits { IsRecordOf packet.now.proto before.now → IsRecordOf packet.now.proto result }
+    ensures within { is_within result ≡ true }
+{
+    let is_new = is_idle(before, packet);
+    TrackRecord {
         packets: before.packets.saturating_add(1),
         bytes: before.bytes.saturating_add(u64::from(packet.length)),
-        ..*before
-    };
-    if packet.proto == TCP {
-        let class = Class::of(packet.flags);
-        next.state = before.state.after(class, is_forward);
-        if before.state.restarts(class) {
-            next.opener = way;
-        }
-    } else {
-        next.state = before.state.after_udp(is_forward);
+        seen: before.seen.max(packet.nanos),
+        state: if is_new {
+            first_state(packet)
+        } else {
+            next_state(before, packet, way)
+        },
+        opener: if is_new {
+            first_way(packet, way)
+        } else {
+            next_way(before, packet, way)
+        },
     }
-    next
+}
+
+/// Whether the packet comes so long after the record's last that the flow begins anew.
+fn is_idle(before: &TrackRecord, packet: &Packet) -> bool
+    ensures { result ≡ is_idle before.now packet.now }
+{
+    before.seen >= 1 && packet.nanos.saturating_sub(before.seen) > IDLE_NANOS
+}
+
+/// The state of a flow whose first packet this is.
+fn first_state(packet: &Packet) -> State
+    ensures { result ≡ first_state packet.now }
+{
+    if packet.proto == TCP {
+        State::first(Class::of(packet.flags))
+    } else {
+        State::Single
+    }
+}
+
+/// The opener of a flow whose first packet this is.
+fn first_way(packet: &Packet, way: Direction) -> Direction
+    ensures { result ≡ first_way packet.now way }
+{
+    if packet.proto == TCP {
+        first_opener(Class::of(packet.flags), way)
+    } else {
+        way
+    }
+}
+
+/// The state that a further packet leaves.
+fn next_state(before: &TrackRecord, packet: &Packet, way: Direction) -> State
+    ensures { result ≡ next_state before.now packet.now way }
+{
+    let is_forward = is_same_way(way, before.opener);
+    if packet.proto == TCP {
+        before.state.after(Class::of(packet.flags), is_forward)
+    } else {
+        before.state.after_udp(is_forward)
+    }
+}
+
+/// The opener after a further packet.
+fn next_way(before: &TrackRecord, packet: &Packet, way: Direction) -> Direction
+    ensures { result ≡ next_way before.now packet.now way }
+{
+    if packet.proto == TCP && before.state.restarts(Class::of(packet.flags)) {
+        way
+    } else {
+        before.opener
+    }
 }
 
 fn is_same_way(one: Direction, other: Direction) -> bool

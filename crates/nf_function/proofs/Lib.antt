@@ -1,3 +1,4 @@
 pub mod StoredNumbers
+pub mod FlowFits
 pub mod RecordOrder
 pub mod MergeLemmas

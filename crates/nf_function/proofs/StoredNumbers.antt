@@ -13,7 +13,7 @@ use Rattle.std.specs.declared.cmp.Ordering.TheVariants.{Less, Equal, Greater}
 use Rattle.std.specs.Cmp.Lexicographic.{slice_cmp}
 use Rattle.byteorder.specs.Endian.{big_bytes, big_number, big_from}
 use Rattle.byteorder.specs.Numbers.{big_from-cons, big_from-lt, big_from-bytes, big_number-reads_back, big_from-append, big_from-take, length-bytes_high_first}
-use Rattle.nf_function.specs.Stored.{IsBytes, first_number}
+use Rattle.nf_function.specs.Stored.{IsBytes, number_bytes, first_number}
 
 -- bytes after the first are bytes
 pub IsBytes-tail : (b : ℕ) (bs : List ℕ) → IsBytes (b ∷ bs) → IsBytes bs
@@ -39,7 +39,7 @@ IsBytes-big_bytes zero x i = omega arith
 IsBytes-big_bytes (suc n) x zero = byte_at-below n x
 IsBytes-big_bytes (suc n) x (suc i) = IsBytes-big_bytes n x i
 
--- a number with one byte more in front
+-- a number with one byte more before it
 big_number-cons : (n b : ℕ) (bs : List ℕ) → big_number (suc n) (b ∷ bs) ≡ b * 256 ^ n + big_number n bs
 big_number-cons n b bs = ap (λ (r : ℕ). b * 256 ^ n + r) (big_from-cons 0 n b bs)
 
@@ -64,21 +64,26 @@ big_bytes-big_number n xs l h =
     same_bytes n (big_bytes n (big_number n xs)) xs (length-bytes_high_first n (big_number n xs)) l (IsBytes-big_bytes n (big_number n xs)) h
     (ap (big_number n) (sym (append-nil (big_bytes n (big_number n xs)))) ∙ value)
 
+-- a number in n bytes has n bytes
+pub length-number_bytes : (n x : ℕ) → length (number_bytes n x) ≡ n
+unfolding number_bytes
+length-number_bytes n x = length-bytes_high_first n x
+
 -- what was spelled is read, whatever follows
-pub first_number-big_bytes : (n x : ℕ) (rest : List ℕ) → x < 256 ^ n → first_number n (big_bytes n x ++ rest) ≡ Some (x, rest)
-unfolding first_number
-first_number-big_bytes n x rest below =
+pub first_number-number_bytes : (n x : ℕ) (rest : List ℕ) → x < 256 ^ n → first_number n (number_bytes n x ++ rest) ≡ Some (x, rest)
+unfolding first_number number_bytes
+first_number-number_bytes n x rest below =
     let long : nat_lt (length (big_bytes n x ++ rest)) n ≡ false = grind (arith, nat_tests, length-append (big_bytes n x) rest, length-bytes_high_first n x) in
     rw (long, big_number-reads_back n x rest below, drop_at (big_bytes n x) rest n (length-bytes_high_first n x)) refl
 
 -- what a number was read from: its spelling, and the rest
 pub record IsFirst (n : ℕ) (bytes : List ℕ) (x : ℕ) (rest : List ℕ) : Type 0 where
-  pub spelled : bytes ≡ big_bytes n x ++ rest
+  pub spelled : bytes ≡ number_bytes n x ++ rest
   pub below : x < 256 ^ n
   pub rest_bytes : IsBytes rest
 
 pub first_number-some : (n : ℕ) (bytes : List ℕ) (x : ℕ) (rest : List ℕ) → IsBytes bytes → first_number n bytes ≡ Some (x, rest) → IsFirst n bytes x rest
-unfolding first_number
+unfolding first_number number_bytes
 first_number-some n bytes x rest are h = chosen (nat_lt (length bytes) n) refl h
   where
     chosen : (short : Bool) → nat_lt (length bytes) n ≡ short
@@ -125,7 +130,7 @@ nat_cmp-place x y r s c p q = by_first (nat_lt x y) (nat_lt y x) refl refl
         let tie : eqb x y ≡ true = grind (arith, nat_tests) in
         rw (less, ties, h, tie) refl
 
-ordering_then-assoc : (a b c : Ordering) → ordering_then (ordering_then a b) c ≡ ordering_then a (ordering_then b c)
+pub ordering_then-assoc : (a b c : Ordering) → ordering_then (ordering_then a b) c ≡ ordering_then a (ordering_then b c)
 ordering_then-assoc Less b c = refl
 ordering_then-assoc Equal b c = refl
 ordering_then-assoc Greater b c = refl
@@ -146,9 +151,10 @@ cmp_by_numbers (suc n) (x ∷ xs) (y ∷ ys) us vs l m p q =
     ∙ ap (λ a. nat_cmp a (y * 256 ^ n + big_number n ys)) (sym (big_number-cons n x xs)) ∙ ap (nat_cmp (big_number (suc n) (x ∷ xs))) (sym (big_number-cons n y ys)))
 
 -- spellings compare as their numbers do, and then comes the rest
-pub slice_cmp-big_bytes : (n x y : ℕ) (us vs : List ℕ) → x < 256 ^ n → y < 256 ^ n
-    → slice_cmp nat_cmp (big_bytes n x ++ us) (big_bytes n y ++ vs) ≡ ordering_then (nat_cmp x y) (slice_cmp nat_cmp us vs)
-slice_cmp-big_bytes n x y us vs p q =
+pub slice_cmp-number_bytes : (n x y : ℕ) (us vs : List ℕ) → x < 256 ^ n → y < 256 ^ n
+    → slice_cmp nat_cmp (number_bytes n x ++ us) (number_bytes n y ++ vs) ≡ ordering_then (nat_cmp x y) (slice_cmp nat_cmp us vs)
+unfolding number_bytes
+slice_cmp-number_bytes n x y us vs p q =
     cmp_by_numbers n (big_bytes n x) (big_bytes n y) us vs (length-bytes_high_first n x) (length-bytes_high_first n y) (IsBytes-big_bytes n x) (IsBytes-big_bytes n y)
     ∙ ap (λ a. ordering_then (nat_cmp a (big_number n (big_bytes n y))) (slice_cmp nat_cmp us vs)) (value n x p)
     ∙ ap (λ b. ordering_then (nat_cmp x b) (slice_cmp nat_cmp us vs)) (value n y q)

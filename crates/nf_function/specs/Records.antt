@@ -35,6 +35,7 @@ newest f a b = if is_newer f a b then a else b
 pub record Fits (site : Site) (p : Packet) : Type 0 where
   pub transport : is_transport p.proto ≡ true
   pub nanos : p.nanos < 2 ^ 64
+  pub length : p.length < 2 ^ 32
   pub src : p.src < 2 ^ 32
   pub sport : p.sport < 2 ^ 16
   pub dst : p.dst < 2 ^ 32

@@ -1,10 +1,14 @@
 -- Numbers in stored bytes: big-endian, each of a fixed number of bytes. The formats of this project are made of them.
 use Rattle.std.specs.Prelude.{ℕ, ◌<◌, nat_lt, if◌then◌else◌, List, [], ◌∷◌, length, drop, slice_index, Option, None, Some}
-use Rattle.byteorder.specs.Endian.{big_number}
+use Rattle.byteorder.specs.Endian.{big_bytes, big_number}
 
 -- the list is of bytes
 abbrev pub IsBytes : List ℕ → Type 0
 IsBytes bytes = (i : ℕ) → slice_index bytes i < 256
+
+-- a number in n bytes
+unfoldable pub number_bytes : ℕ → ℕ → List ℕ
+number_bytes n x = big_bytes n x
 
 -- the first byte, and those after it
 abbrev pub first_byte : List ℕ → Option (ℕ × List ℕ)

@@ -1,7 +1,6 @@
 //! Numbers in stored bytes, which the formats of this project are made of.
 ghost use Rattle.std.specs.Prelude.{◌≡◌, ◌++◌, OnOk, option_map};
-ghost use Rattle.byteorder.specs.Endian.{big_bytes};
-ghost use Rattle.nf_function.specs.Stored.{first_byte, first_number};
+ghost use Rattle.nf_function.specs.Stored.{number_bytes, first_byte, first_number};
 
 use basics::{Bytes, NoMemory};
 use byteorder::{BigEndian, ByteOrder};
@@ -50,8 +49,9 @@ pub fn first_u64(bytes: &[u8]) -> Option<(u64, &[u8])>
 }
 
 /// Puts a number of two bytes after others.
+#[tactic(auto, unfolding(crate::specs::Stored::number_bytes))]
 pub fn push_u16(bytes: &mut Bytes, number: u16) -> Result<(), NoMemory>
-    ensures { OnOk result (bytes.new ≡ bytes.old ++ big_bytes 2 number) }
+    ensures { OnOk result (bytes.new ≡ bytes.old ++ number_bytes 2 number) }
 {
     let mut spelled = [0; 2];
     BigEndian::write_u16(&mut spelled, number);
@@ -59,8 +59,9 @@ pub fn push_u16(bytes: &mut Bytes, number: u16) -> Result<(), NoMemory>
 }
 
 /// Puts a number of four bytes after others.
+#[tactic(auto, unfolding(crate::specs::Stored::number_bytes))]
 pub fn push_u32(bytes: &mut Bytes, number: u32) -> Result<(), NoMemory>
-    ensures { OnOk result (bytes.new ≡ bytes.old ++ big_bytes 4 number) }
+    ensures { OnOk result (bytes.new ≡ bytes.old ++ number_bytes 4 number) }
 {
     let mut spelled = [0; 4];
     BigEndian::write_u32(&mut spelled, number);
@@ -68,8 +69,9 @@ pub fn push_u32(bytes: &mut Bytes, number: u32) -> Result<(), NoMemory>
 }
 
 /// Puts a number of eight bytes after others.
+#[tactic(auto, unfolding(crate::specs::Stored::number_bytes))]
 pub fn push_u64(bytes: &mut Bytes, number: u64) -> Result<(), NoMemory>
-    ensures { OnOk result (bytes.new ≡ bytes.old ++ big_bytes 8 number) }
+    ensures { OnOk result (bytes.new ≡ bytes.old ++ number_bytes 8 number) }
 {
     let mut spelled = [0; 8];
     BigEndian::write_u64(&mut spelled, number);

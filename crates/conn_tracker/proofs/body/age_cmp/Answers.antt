@@ -1,0 +1,27 @@
+-- The fields are compared in the order of the body.
+use Rattle.std.proofs.Common.{◌≡◌, ◌∙◌, sym, rules, arith}
+use Rattle.std.specs.Ordering.{ordering_then, nat_cmp}
+use Rattle.conn_tracker.specs.BodyLaws.{Within}
+use Rattle.conn_tracker.proofs.BodyOrder.{age_by_fields}
+use Rattle.conn_tracker.proofs.body.age_cmp.Goals as goal
+
+pub returns : goal.returns
+returns c =
+    let a : Within c.args.a = record { packets = omega arith; bytes = omega arith; seen = omega arith } in
+    let b : Within c.args.b = record { packets = omega arith; bytes = omega arith; seen = omega arith } in
+    rw (
+      age_by_fields c.args.a c.args.b a b,
+      c.then-2.ensures,
+      c.then.ensures,
+      c.then-states.ensures,
+      c.then-counts.ensures,
+      c.cmp-ends.ensures,
+      c.cmp.ensures,
+      c.cmp-2.ensures,
+      c.cmp-3.ensures,
+      c.cmp-4.ensures,
+      c.direction_number.ensures,
+      c.direction_number-2.ensures,
+      c.number.ensures,
+      c.number-2.ensures,
+    )

@@ -1,0 +1,81 @@
+use crate::record::TrackRecord;
+use crate::tracker::{first_record, record_after};
+use crate::{body, text};
+use basics::{Bytes, NoMemory, Text};
+use flow_filter::{Direction, Flow, Packet, Site};
+use nf_function::{BodyFault, Function, Kind, Output, Unit, is_transport};
+use std::alloc::Global;
+use std::cmp::Ordering;
+
+/// The connection tracker as a network function. Its steps never want memory.
+pub struct Conntrack;
+
+impl Function for Conntrack {
+    ghost use Rattle.std.specs.Prelude.{refl};
+    ghost use Rattle.nf_function.specs.declared.kind.Kind.TheVariants.{Conntrack as TheKind};
+    ghost use Rattle.conn_tracker.specs.Conntrack.{conntrack};
+    ghost use Rattle.conn_tracker.specs.StepLaws.{conntrack_laws};
+
+    type Record = TrackRecord;
+
+    ghost semantics = { conntrack };
+
+    ghost KIND = { TheKind };
+
+    const KIND: Kind = Kind::Conntrack;
+
+    #[tactic(auto, unfolding(crate::specs::Table::stepped))]
+    fn step_along(
+        _alloc: Global,
+        _site: &Site,
+        _flow: Flow,
+        way: Direction,
+        kept: &mut Option<TrackRecord>,
+        packet: &Packet,
+    ) -> Result<Output, NoMemory> {
+        let next = match kept {
+            None => first_record(packet, way),
+            Some(before) => record_after(before, packet, way),
+        };
+        if is_transport(packet.proto) {
+            *kept = Some(next);
+        }
+        Ok(next.output())
+    }
+
+    fn body_length(kept: &TrackRecord) -> u16 {
+        body::body_length(kept)
+    }
+
+    fn push_body(bytes: &mut Bytes, kept: &TrackRecord) -> Result<(), NoMemory> {
+        body::push_body(bytes, kept)
+    }
+
+    fn read_record(_alloc: Global, unit: &Unit, body: &[u8]) -> Result<TrackRecord, BodyFault> {
+        body::record_in(unit, body).ok_or(BodyFault::Body)
+    }
+
+    fn newer(a: &TrackRecord, b: &TrackRecord) -> bool {
+        body::age_cmp(*a, *b) == Ordering::Greater
+    }
+
+    fn is_timed(kept: &TrackRecord) -> bool {
+        kept.seen >= 1
+    }
+
+    fn copy(_alloc: Global, kept: &TrackRecord) -> Result<TrackRecord, NoMemory> {
+        Ok(*kept)
+    }
+
+    fn push_output(text: &mut Text, output: &Output) -> Result<(), NoMemory> {
+        text::push_output(text, output)
+    }
+
+    fn push_record(text: &mut Text, kept: &TrackRecord) -> Result<(), NoMemory> {
+        text::push_record(text, kept)
+    }
+
+    ghost same_kind = { refl };
+
+    ghost laws = { conntrack_laws };
+}
