@@ -1,0 +1,3 @@
+pub mod RulePlaces
+pub mod RuleLookUps
+pub mod Decisions

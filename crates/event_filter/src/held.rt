@@ -1,0 +1,56 @@
+ghost use Rattle.std.specs.Prelude.{◌≡◌, [], ◌∷◌, ◌++◌, OnOk, OnErr, IfErr};
+
+use flow_filter::NoMemory;
+use std::alloc::{AllocError, Global};
+use std::marker::Model;
+
+/// Parcels in the order in which they came, which contracts see as their list.
+#[derive(Debug, Drop)]
+pub struct Held<P> {
+    parcels: Vec<P>,
+}
+
+impl<P> Model for Held<P> {
+    ghost use Rattle.std.specs.Prelude.{List};
+
+    ghost Value = { List P };
+
+    ghost view = { λ h. h.parcels.items };
+}
+
+impl<P> Held<P> {
+    /// Nothing is held yet. This takes no memory.
+    pub fn open(alloc: Global) -> Self
+        ensures { result ≡ [] }
+    {
+        Held {
+            parcels: Vec::new(alloc),
+        }
+    }
+
+    /// Puts a parcel behind the others, or hands it back where memory is wanting.
+    pub fn push(&mut self, parcel: P) -> Result<(), (NoMemory, P)>
+        ensures ok { OnOk result (self.new ≡ self.old ++ parcel ∷ []) }
+        ensures back { IfErr result (λ refused. refused.1 ≡ parcel) }
+        ensures err { OnErr result (self.new ≡ self.old) }
+    {
+        self.parcels
+            .push(parcel)
+            .map_err(|failed| (AllocError, failed.value))
+    }
+
+    /// The parcels, as a slice.
+    pub fn items(&self) -> &[P]
+        ensures { result.now ≡ self.now }
+    {
+        self.parcels.as_slice()
+    }
+
+    /// The parcels in order, without a copy.
+    pub fn into_vec(self) -> Vec<P>
+        ensures { result.items ≡ self }
+    {
+        let Held { parcels } = self;
+        parcels
+    }
+}

@@ -1,0 +1,255 @@
+ghost use Rattle.std.specs.Prelude.{◌≡◌, ◌==◌, ◌↔◌, ℕ, true, false, if◌then◌else◌, [], ◌∷◌, ◌++◌, option_map, IsSome, IfSome, IsTrue, OnOk, OnErr, IfErr, None, Some, position, find, slice_index_or};
+ghost use Rattle.std.specs.Option.{option_copied};
+ghost use Rattle.flow_filter.specs.Filter.{matches};
+ghost use Rattle.flow_filter.specs.declared.flow.Flow.{Flow as EachFlow};
+ghost use Rattle.event_filter.specs.declared.mark.Mark.{Mark as EachMark};
+ghost use Rattle.event_filter.specs.declared.mark.Mark.TheVariants.{Plain};
+ghost use Rattle.event_filter.specs.Rules.{decide, decided, decided_by, named_by, first_rule, rule_at, held_at, with_rule, holding, with_held, without};
+
+use crate::action::Action;
+use crate::decide::Decide;
+use crate::held::Held;
+use crate::mark::Mark;
+use crate::rule::Rule;
+use flow_filter::{Filter, Flow, NoMemory};
+use std::alloc::{AllocError, Global};
+use std::marker::Model;
+
+/// The rules of an instance, at most one for each operation, with the parcels that are held under them.
+#[derive(Debug, Drop)]
+pub struct EventRules<P> {
+    rules: Vec<Rule<P>>,
+}
+
+impl<P> Model for EventRules<P> {
+    ghost use Rattle.std.specs.Prelude.{List};
+    ghost use Rattle.event_filter.specs.declared.rule.Rule.{Rule};
+    ghost use Rattle.event_filter.specs.Rules.{HaveOneEach};
+
+    ghost Value = { List (Rule P) };
+
+    ghost view = { λ r. r.rules.items };
+
+    ghost invariant = { λ r. HaveOneEach r.rules.items };
+}
+
+impl<P> EventRules<P> {
+    /// No rules yet. This takes no memory.
+    pub fn open(alloc: Global) -> Self
+        ensures { result ≡ [] }
+    {
+        EventRules {
+            rules: Vec::new(alloc),
+        }
+    }
+
+    /// Sets the rule of an operation: in the place of the one that it has, or else last. What is held for it stays.
+    pub fn enable(&mut self, op: u32, filter: Filter, action: Action) -> Result<(), NoMemory>
+    where
+        P: Drop,
+        ensures list { OnOk result (self.new ≡ with_rule self.old op filter action) }
+        ensures rule { OnOk result ((q : ℕ) → rule_at self.new q ≡ (if q == op
+            then Some (record { op = op; filter = filter; action = action; held = held_at self.old op })
+            else rule_at self.old q)) }
+        ensures held { (q : ℕ) → held_at self.new q ≡ held_at self.old q }
+
+        // A flow that no other operation's rule matches goes by this rule, and one that it doesn't match by the others.
+        ensures taken { OnOk result ((flow : EachFlow) → matches filter flow ≡ true →
+            first_rule (without self.old op) flow ≡ None → decide self.new flow Plain ≡ decided op action) }
+        ensures passed { OnOk result ((flow : EachFlow) (mark : EachMark) → matches filter flow ≡ false →
+            decide self.new flow mark ≡ decide (without self.old op) flow mark) }
+        ensures err { OnErr result (self.new ≡ self.old) }
+    {
+        match place_of(self.rules.as_slice(), op) {
+            Some(place) => {
+                let rule = &mut self.rules[place];
+                rule.filter = filter;
+                rule.action = action;
+            }
+            None => {
+                let held = Held::open(*self.rules.allocator());
+                self.rules.push(Rule {
+                    op,
+                    filter,
+                    action,
+                    held,
+                })?;
+            }
+        }
+        Ok(())
+    }
+
+    /// What is done with a packet of the flow that comes with the mark: by the first rule whose filter matches a plain one.
+    pub fn decide(&self, flow: &Flow, mark: &Mark) -> Decide
+        ensures value { result ≡ decide self.now flow.now mark.now }
+        ensures own { IfSome (first_rule self.now flow.now) (λ r. rule_at self.now r.op ≡ Some r) }
+        ensures named { (op : ℕ) → named_by result ≡ Some op → IsSome (rule_at self.now op) }
+    {
+        match mark {
+            Mark::Plain => match first_rule(self.rules.as_slice(), flow) {
+                Some(rule) => decided(rule.op, rule.action),
+                None => Decide::Process,
+            },
+            Mark::Pass(_) | Mark::Shared { .. } => Decide::Process,
+        }
+    }
+
+    /// Whether the operation has a rule.
+    pub fn has_rule(&self, op: u32) -> bool
+        ensures { IsTrue result ↔ IsSome (rule_at self.now op) }
+    {
+        rule_of(self.rules.as_slice(), op).is_some()
+    }
+
+    /// The parcels that are held for an operation, in order.
+    pub fn held(&self, op: u32) -> &[P]
+        ensures { result.now ≡ held_at self.now op }
+    {
+        match rule_of(self.rules.as_slice(), op) {
+            Some(rule) => rule.held.items(),
+            None => &[],
+        }
+    }
+
+    /// Holds a parcel for an operation, behind the others, or hands it back where memory is wanting.
+    pub fn hold(&mut self, op: u32, parcel: P) -> Result<(), (NoMemory, P)>
+        requires { IsSome (rule_at self.old op) }
+        ensures list { OnOk result (self.new ≡ with_held self.old op parcel) }
+        ensures rule { OnOk result ((q : ℕ) → rule_at self.new q ≡ (if q == op
+            then option_map (holding parcel) (rule_at self.old q) else rule_at self.old q)) }
+        ensures held { OnOk result ((q : ℕ) → held_at self.new q ≡ (if q == op
+            then held_at self.old q ++ parcel ∷ [] else held_at self.old q)) }
+        ensures decided { (flow : EachFlow) (mark : EachMark) → decide self.new flow mark ≡ decide self.old flow mark }
+        ensures back { IfErr result (λ refused. refused.1 ≡ parcel) }
+        ensures err { OnErr result (self.new ≡ self.old) }
+    {
+        let Some(place) = place_of(self.rules.as_slice(), op) else {
+            unreachable!()
+        };
+        let rule = &mut self.rules[place];
+        rule.held.push(parcel)
+    }
+
+    /// Takes an operation's rule away, and gives the parcels that were held for it, in order. This takes no memory.
+    pub fn release(&mut self, op: u32) -> Vec<P>
+        ensures parcels { result.items ≡ held_at self.old op }
+        ensures list { self.new ≡ without self.old op }
+        ensures rule { (q : ℕ) → rule_at self.new q ≡ (if q == op then None else rule_at self.old q) }
+        ensures held { (q : ℕ) → held_at self.new q ≡ (if q == op then [] else held_at self.old q) }
+        ensures passed { (flow : EachFlow) (mark : EachMark) →
+            IfSome (rule_at self.old op) (λ r. matches r.filter flow ≡ false) →
+            decide self.new flow mark ≡ decide self.old flow mark }
+    {
+        match place_of(self.rules.as_slice(), op) {
+            Some(place) => self.rules.remove(place).held.into_vec(),
+            None => Vec::new(*self.rules.allocator()),
+        }
+    }
+
+    /// Takes an operation's rule away where nothing is held for it.
+    pub fn disable(&mut self, op: u32)
+    where
+        P: Drop,
+        requires { held_at self.old op ≡ [] }
+        ensures list { self.new ≡ without self.old op }
+        ensures rule { (q : ℕ) → rule_at self.new q ≡ (if q == op then None else rule_at self.old q) }
+        ensures held { (q : ℕ) → held_at self.new q ≡ held_at self.old q }
+        ensures passed { (flow : EachFlow) (mark : EachMark) →
+            IfSome (rule_at self.old op) (λ r. matches r.filter flow ≡ false) →
+            decide self.new flow mark ≡ decide self.old flow mark }
+    {
+        let _nothing = self.release(op);
+    }
+}
+
+/// The place of an operation's rule.
+fn place_of<P>(rules: &[Rule<P>], op: u32) -> Option<usize>
+    ensures { result ≡ position (λ r. r.op == op) rules.now }
+{
+    rules.iter().position(|rule| rule.op == op)
+}
+
+/// An operation's rule.
+fn rule_of<P>(rules: &[Rule<P>], op: u32) -> Option<&Rule<P>>
+    ensures { option_copied result ≡ rule_at rules.now op }
+{
+    rules.iter().find(|rule| rule.op == op)
+}
+
+/// The first rule whose filter matches the flow.
+fn first_rule<'a, P>(rules: &'a [Rule<P>], flow: &Flow) -> Option<&'a Rule<P>>
+    ensures { option_copied result ≡ first_rule rules.now flow.now }
+{
+    rules.iter().find(|rule| rule.filter.matches(flow))
+}
+
+/// What is done with a packet that a rule of the operation with this action takes.
+fn decided(op: u32, action: Action) -> Decide
+    ensures { result ≡ decided op action }
+{
+    match action {
+        Action::Process => Decide::ProcessAndEvent(op),
+        Action::Buffer => Decide::Buffer(op),
+        Action::Drop => Decide::Event(op),
+    }
+}
+
+#[cfg(test)]
+mod tests {
+    use super::*;
+    use std::test::Fail;
+
+    /// A parcel that can't be copied.
+    #[derive(Debug, PartialEq, Eq, Drop)]
+    struct Parcel(u32);
+
+    const FLOW: Flow = Flow {
+        proto: 17,
+        local: 0x0a00_0001,
+        lport: 5000,
+        remote: 0xc000_0209,
+        rport: 53,
+    };
+
+    #[test]
+    fn the_first_rule_that_matches_a_plain_packet_decides(rt: HostRuntime) -> Result<(), Fail> {
+        let mut rules: EventRules<Parcel> = EventRules::open(rt.alloc());
+        assert_eq!(rt; rules.decide(&FLOW, &Mark::Plain), Decide::Process);
+        rules.enable(1, Filter::parse("rport=80")?, Action::Drop)?;
+        rules.enable(2, Filter::parse("local=10.0.0.0/24")?, Action::Buffer)?;
+        rules.enable(3, Filter::ANY, Action::Process)?;
+        assert_eq!(rt; rules.decide(&FLOW, &Mark::Plain), Decide::Buffer(2));
+        assert_eq!(rt; rules.decide(&FLOW, &Mark::Pass(2)), Decide::Process);
+        rules.disable(2);
+        assert_eq!(rt;
+            rules.decide(&FLOW, &Mark::Plain),
+            Decide::ProcessAndEvent(3)
+        );
+        Ok(())
+    }
+
+    #[test]
+    fn what_is_held_stays_when_the_rule_is_replaced_and_comes_out_in_order(
+        rt: HostRuntime,
+    ) -> Result<(), Fail> {
+        let mut rules = EventRules::open(rt.alloc());
+        rules.enable(7, Filter::ANY, Action::Buffer)?;
+        rules.enable(8, Filter::ANY, Action::Buffer)?;
+        for number in 1..=3 {
+            assert!(rt; rules.has_rule(7));
+            let held = rules.hold(7, Parcel(number)).is_ok();
+            assert!(rt; held);
+        }
+        rules.enable(7, Filter::ANY, Action::Drop)?;
+        assert_eq!(rt; rules.decide(&FLOW, &Mark::Plain), Decide::Event(7));
+        assert_eq!(rt; rules.held(8), [].as_slice());
+        let parcels = rules.release(7);
+        assert_eq!(rt;
+            parcels.as_slice(),
+            [Parcel(1), Parcel(2), Parcel(3)].as_slice()
+        );
+        assert!(rt; !rules.has_rule(7));
+        assert_eq!(rt; rules.decide(&FLOW, &Mark::Plain), Decide::Buffer(8));
+        Ok(())
+    }
+}
