@@ -1,10 +1,11 @@
 #!/usr/bin/env python3
-"""Runs programs in turn with the same words, and prints their best times and peak memory.
+"""Runs programs in turn on several captures, and prints their best times and peak memory.
 
-Use: measure.py FOLDER WORD.. -- PROGRAM..
+Use: measure.py FOLDER PROGRAM.. -- CAPTURE..
 
-Each program is run three times, and once more for its memory; what it writes goes to a file in FOLDER. The first
-program's time is divided by each other's. The status is 1 where a program fails or writes other bytes than the first.
+On each capture each program runs five times, and once more for its memory; what it writes goes to a file in FOLDER. Times
+are those that pass and, where other programs run beside it, the fairer ones that the processor spends. The first program's
+times are divided by each other's. The status is 1 where a program fails or writes other bytes than the first.
 """
 import filecmp
 import os
@@ -12,19 +13,25 @@ import subprocess
 import sys
 import time
 
-RUNS = 3
+RUNS = 5
+WORDS = ["sim", "conntrack", "--instances", "a", "--inside", "10.0.0.0/24", "--schedule", "last"]
 
 
-def seconds_of(command, output):
-    """The time of one run."""
+def times_of(command, output):
+    """The time that one run takes, and the processor's share of it."""
     with open(output, "wb") as file:
         start = time.perf_counter()
-        subprocess.run(command, stdin=subprocess.DEVNULL, stdout=file, check=True)
-        return time.perf_counter() - start
+        process = subprocess.Popen(command, stdin=subprocess.DEVNULL, stdout=file)
+        _, status, usage = os.wait4(process.pid, 0)
+        passed = time.perf_counter() - start
+    process.returncode = os.waitstatus_to_exitcode(status)
+    if process.returncode != 0:
+        raise subprocess.CalledProcessError(process.returncode, command)
+    return passed, usage.ru_utime + usage.ru_stime
 
 
 def peak_of(command):
-    """The most memory of one run, in KiB: what the system has as its peak when it is last seen running.
+    """The most memory of one run, in bytes: what the system has as its peak when it is last seen running.
 
     The system's own account of a child that has ended counts what this process held when it made the child, so it
     can't tell a small peak.
@@ -34,32 +41,40 @@ def peak_of(command):
     while process.poll() is None:
         with open(f"/proc/{process.pid}/status") as status:
             peak = max([peak] + [int(line.split()[1]) for line in status if line.startswith("VmHWM:")])
-    return peak
+    return peak * 1024
 
 
-def main(arguments):
-    if "--" not in arguments[1:-1]:
-        sys.exit("use: measure.py FOLDER WORD.. -- PROGRAM..")
-    split = arguments.index("--")
-    folder, words, programs = arguments[0], arguments[1:split], arguments[split + 1 :]
+def measured(folder, programs, capture):
+    """Prints the figures of one capture; the peaks, and whether all programs wrote the same."""
     outputs = [os.path.join(folder, f"report-{place}") for place in range(len(programs))]
     times = [[] for _ in programs]
     for _ in range(RUNS):
         for program, output, taken in zip(programs, outputs, times):
-            taken.append(seconds_of([program, *words], output))
-    for program, taken in zip(programs, times):
-        peak = peak_of([program, *words])
-        all_times = " ".join(f"{seconds:.3f}" for seconds in taken)
-        print(f"{program}: best {min(taken):.3f} s of {all_times}, peak memory {peak / 1024:.1f} MiB")
+            taken.append(times_of([program, *WORDS, capture], output))
+    print(f"{os.path.basename(capture)}:")
+    best = [(min(passed for passed, _ in taken), min(spent for _, spent in taken)) for taken in times]
+    peaks = [peak_of([program, *WORDS, capture]) for program in programs]
     same = True
-    for program, output, taken in list(zip(programs, outputs, times))[1:]:
-        print(f"the first takes {min(times[0]) / min(taken):.2f} times as long as {program}")
+    for program, output, (passed, spent), peak in zip(programs, outputs, best, peaks):
+        line = f"  {passed:.3f} s, {spent:.3f} s of the processor, {peak / 2**20:.1f} MiB  {program}"
+        if program != programs[0]:
+            line += f"; the first takes {best[0][0] / passed:.2f} and {best[0][1] / spent:.2f} times as long"
+        print(line)
         if not filecmp.cmp(outputs[0], output, shallow=False):
             same = False
-            print(f"{program} writes other bytes than the first")
-    if same and len(programs) > 1:
-        print(f"the outputs are the same, {os.path.getsize(outputs[0])} bytes")
-    return 0 if same else 1
+            print(f"  {program} writes other bytes than the first")
+    return peaks, same
+
+
+def main(arguments):
+    if "--" not in arguments[2:-1]:
+        sys.exit("use: measure.py FOLDER PROGRAM.. -- CAPTURE..")
+    split = arguments.index("--")
+    folder, programs, captures = arguments[0], arguments[1:split], arguments[split + 1 :]
+    same = [measured(folder, programs, capture)[1] for capture in captures]
+    if all(same) and len(programs) > 1:
+        print("the outputs are the same")
+    return 0 if all(same) else 1
 
 
 if __name__ == "__main__":

@@ -2,13 +2,15 @@
 # Compares the speed of the program with the yardstick, which is the same work by plain Rust with nothing proved.
 # Use: bench/run.sh [PROGRAM]; without a word it takes the program that `rt run` or `rt ci` left in its crate.
 #
-# Both read a generated capture of 1,000,000 packets, in turn and three times each. Printed are the best times, their
-# ratio and the peak memory; the two outputs must be the same bytes. This is no part of the gate. What it makes stands
-# in bench/out.
+# Both read four captures of 1,000,000 packets, in turn and five times each: a generated one of 32,768 flows (few), one of a
+# single flow (one), one in which no two packets are of one flow (distinct), and one of which every record is skipped
+# (skipped). Printed are the best times, their ratios and the peak memory; the outputs must be the same bytes. This is no
+# part of the gate. What it makes stands in bench/out.
 set -eu
 bench=$(cd "$(dirname "${BASH_SOURCE[0]}")" && pwd)
 program=${1:-$bench/../crates/opennf/out/opennf}
 out=$bench/out
+packets=1000000
 mkdir -p "$out"
 
 if [ ! -x "$program" ]; then
@@ -22,10 +24,20 @@ if command -v rustc >/dev/null 2>&1; then
 else
     echo "bench/run.sh: rustc isn't there, so the yardstick can't be built: the program runs alone" >&2
 fi
-if [ ! -f "$out/capture.pcap" ]; then
-    echo "bench/run.sh: making the capture" >&2
-    python3 "$bench/make_capture.py" 7 1000000 256 "$out/capture.part"
-    mv "$out/capture.part" "$out/capture.pcap"
-fi
-python3 "$bench/measure.py" "$out" \
-    sim conntrack --instances a --inside 10.0.0.0/24 --schedule last "$out/capture.pcap" -- "${programs[@]}"
+
+# made NAME COMMAND..: makes that capture by the command, which writes the file that is its last word, if it isn't there.
+made() {
+    captures+=("$out/$1.pcap")
+    if [ ! -f "$out/$1.pcap" ]; then
+        echo "bench/run.sh: making the capture $1" >&2
+        python3 "${@:2}" "$out/$1.part"
+        mv "$out/$1.part" "$out/$1.pcap"
+    fi
+}
+captures=()
+made few "$bench/make_capture.py" 7 $packets 256
+for shape in one distinct skipped; do
+    made $shape "$bench/shapes.py" $shape $packets
+done
+echo "load $(cut -d ' ' -f 1-3 /proc/loadavg), processors $(nproc)"
+python3 "$bench/measure.py" "$out" "${programs[@]}" -- "${captures[@]}"

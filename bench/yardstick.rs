@@ -3,8 +3,11 @@
 // capture that the program takes; it keeps the fold alone, without a network of instances.
 //
 // Build: rustc -O yardstick.rs. The capture goes by in pieces of a megabyte. For each packet one byte is kept, the
-// state that it led to, since the line that counts the packets stands before their lines.
+// state that it led to, since the line that counts the packets stands before their lines. Flows are found by a hash
+// with a seed of its own in each run, so that no capture can be made to be slow.
+use std::collections::hash_map::RandomState;
 use std::fs::File;
+use std::hash::{BuildHasher, Hasher};
 use std::io::{self, Read, Write};
 use std::process::ExitCode;
 
@@ -101,44 +104,73 @@ struct Record {
     opener_out: bool,
 }
 
-/// No flow has protocol 0.
-const FREE: Record = Record { key: 0, packets: 0, bytes: 0, state: 0, opener_out: false };
-
-/// A hash table with a power of two of places, at most half of them taken.
+/// The flows' records in the order in which they came, and a hash table of their places: a number from 1 on, and the
+/// high half of the key's hash beside it. The table has a power of two of slots, at most half of them taken.
 struct Table {
-    places: Vec<Record>,
-    taken: usize,
+    records: Vec<Record>,
+    slots: Vec<(u32, u32)>,
+    seeds: [u64; 3],
+}
+
+/// Both halves of a product.
+#[inline(always)]
+fn folded(a: u64, b: u64) -> u64 {
+    let product = a as u128 * b as u128;
+    (product >> 64) as u64 ^ product as u64
 }
 
 impl Table {
-    fn place_of(&self, key: Key) -> usize {
-        let (high, low) = ((key >> 64) as u64, key as u64);
-        let mixed = (high.wrapping_mul(0x9e37_79b9_7f4a_7c15) ^ low).wrapping_mul(0xd6e8_feb8_6659_fd93);
-        let mask = self.places.len() - 1;
-        let mut place = (mixed >> 32) as usize & mask;
-        while self.places[place].key != key && self.places[place].key != 0 {
-            place = (place + 1) & mask;
-        }
-        place
+    fn open() -> Table {
+        let state = RandomState::new();
+        let seeds = [1, 2, 3].map(|number| {
+            let mut hasher = state.build_hasher();
+            hasher.write_u64(number);
+            hasher.finish()
+        });
+        Table { records: Vec::new(), slots: vec![(0, 0); 1 << 12], seeds }
     }
 
-    fn grow(&mut self) {
-        let wider = Table { places: vec![FREE; self.places.len() * 2], taken: self.taken };
-        let old = std::mem::replace(self, wider);
-        for record in old.places {
-            if record.key != 0 {
-                let place = self.place_of(record.key);
-                self.places[place] = record;
+    #[inline(always)]
+    fn hash_of(&self, key: Key) -> u64 {
+        let [first, second, third] = self.seeds;
+        folded(folded((key >> 64) as u64 ^ first, key as u64 ^ second), third | 1)
+    }
+
+    /// The slot of this key, or the free one that it would take.
+    #[inline(always)]
+    fn slot_of(&self, key: Key, hash: u64) -> usize {
+        let (mask, high) = (self.slots.len() - 1, (hash >> 32) as u32);
+        let mut slot = hash as usize & mask;
+        loop {
+            let (number, tag) = self.slots[slot];
+            if number == 0 || (tag == high && self.records[number as usize - 1].key == key) {
+                return slot;
             }
+            slot = (slot + 1) & mask;
         }
+    }
+
+    #[cold]
+    fn grow(&mut self) {
+        let mask = self.slots.len() * 2 - 1;
+        let mut slots = vec![(0, 0); mask + 1];
+        for (number, record) in (1..).zip(&self.records) {
+            let hash = self.hash_of(record.key);
+            let mut slot = hash as usize & mask;
+            while slots[slot].0 != 0 {
+                slot = (slot + 1) & mask;
+            }
+            slots[slot] = (number, (hash >> 32) as u32);
+        }
+        self.slots = slots;
     }
 
     /// Counts a packet and gives the state that it leads to.
     #[inline(always)]
     fn step(&mut self, key: Key, out: bool, class: Class, length: u32) -> u8 {
-        let place = self.place_of(key);
-        let record = &mut self.places[place];
-        if record.key == 0 {
+        let hash = self.hash_of(key);
+        let slot = self.slot_of(key, hash);
+        if self.slots[slot].0 == 0 {
             let (state, opener_out) = match class {
                 Class::Reset => (RESET, out),
                 Class::Open => (OPENING, out),
@@ -147,13 +179,14 @@ impl Table {
                 Class::Other => (LOOSE, out),
                 Class::Datagram => (SINGLE, out),
             };
-            *record = Record { key, packets: 1, bytes: length as u64, state, opener_out };
-            self.taken += 1;
-            if self.taken * 2 > self.places.len() {
+            self.records.push(Record { key, packets: 1, bytes: length as u64, state, opener_out });
+            self.slots[slot] = (self.records.len() as u32, (hash >> 32) as u32);
+            if self.records.len() * 2 > self.slots.len() {
                 self.grow();
             }
             return state;
         }
+        let record = &mut self.records[self.slots[slot].0 as usize - 1];
         let forward = out == record.opener_out;
         if class == Class::Open && (record.state == CLOSED || record.state == RESET) {
             record.opener_out = out;
@@ -328,8 +361,7 @@ fn run(trace: &str, inside: &Inside) -> io::Result<Run> {
         101 => false,
         _ => return refused("link type"),
     };
-    let table = Table { places: vec![FREE; 1 << 12], taken: 0 };
-    let mut run = Run { table, states: Vec::with_capacity(1 << 12), skipped: 0, cut: false };
+    let mut run = Run { table: Table::open(), states: Vec::with_capacity(1 << 12), skipped: 0, cut: false };
     while input.has(16)? {
         let captured = number(&input.take(16)[8..]) as usize;
         if captured > 262_144 {
@@ -445,7 +477,7 @@ impl Count {
     }
 }
 
-fn print(run: &Run, name: &str, output: &mut Output) -> io::Result<()> {
+fn print(run: &mut Run, name: &str, output: &mut Output) -> io::Result<()> {
     output.text(b"opennf report 1\nfunction conntrack instances 1 window 256\ntrace packets ");
     output.number(run.states.len() as u64);
     output.text(b" skipped ");
@@ -477,9 +509,8 @@ fn print(run: &Run, name: &str, output: &mut Output) -> io::Result<()> {
         output.block(&count.block, count.len);
         output.block(&end, name.len() + 2);
     }
-    let mut records: Vec<&Record> = run.table.places.iter().filter(|record| record.key != 0).collect();
-    records.sort_unstable_by_key(|record| record.key);
-    for record in records {
+    run.table.records.sort_unstable_by_key(|record| record.key);
+    for record in &run.table.records {
         output.line()?;
         output.text(if record.key >> 96 == 6 { b"state tcp " } else { b"state udp " });
         output.endpoint((record.key >> 48) as u64 & 0xffff_ffff_ffff);
@@ -514,9 +545,9 @@ fn main() -> ExitCode {
         eprintln!("yardstick: bad name or prefix");
         return ExitCode::from(1);
     };
-    let result = run(trace, &inside).and_then(|run| {
+    let result = run(trace, &inside).and_then(|mut run| {
         let mut output = Output { target: io::stdout().lock(), buffer: vec![0; ROOM + 512], used: 0 };
-        print(&run, name, &mut output)
+        print(&mut run, name, &mut output)
     });
     match result {
         Ok(()) => ExitCode::SUCCESS,
