@@ -31,10 +31,20 @@ ports_below-disabled ready w k p is = rw (add-one p, is) (append-nil (ports_belo
 pub nodes_below_more : {A M N : Type 0} (ready : A → M → Bool) (w : Network A M N) (k : ℕ) → nodes_below ready w (k + 1) ≡ nodes_below ready w k ++ ports_below ready w k (length w.nodes)
 nodes_below_more ready w k = rw (add-one k) refl
 
--- a count of a node's enabled ones goes on by the test
-pub ports_counted : {A M N : Type 0} (ready : A → M → Bool) (w : Network A M N) (k p n m : ℕ) (b : Bool) → is_enabled ready w (at k p) ≡ b → n ≡ length (ports_below ready w k p) → m ≡ (if b then n + 1 else n) → m ≡ length (ports_below ready w k (p + 1))
-ports_counted ready w k p n m true is so_far more = rw (ports_below-enabled ready w k p is) (grind (arith, common_steps))
-ports_counted ready w k p n m false is so_far more = rw (ports_below-disabled ready w k p is) (more ∙ so_far)
+abbrev pub one_if : Bool → ℕ
+one_if b = if b then 1 else 0
+
+length-if : {X : Type 0} (b : Bool) (xs : List X) (x : X) → length (xs ++ (if b then x ∷ [] else [])) ≡ length xs + one_if b
+length-if true xs x = length-append xs (x ∷ [])
+length-if false xs x = length-append xs []
+
+-- one more port of a node counts where it is enabled
+pub ports_counted : {A M N : Type 0} (ready : A → M → Bool) (w : Network A M N) (k p : ℕ) → length (ports_below ready w k (suc p)) ≡ length (ports_below ready w k p) + one_if (is_enabled ready w (at k p))
+ports_counted ready w k p = length-if (is_enabled ready w (at k p)) (ports_below ready w k p) (at k p)
+
+-- the same of a place, from here and from the next port on
+pub place_on : {A M N : Type 0} (ready : A → M → Bool) (w : Network A M N) (k p place left count : ℕ) → count ≡ one_if (is_enabled ready w (at k p)) → count ≤ left → place ≡ length (ports_below ready w k p) + left → place ≡ length (ports_below ready w k (p + 1)) + (left - count)
+place_on ready w k p place left count is most here = rw (add-one p) (omega (arith, ports_counted ready w k p))
 
 slice_get_at : {X : Type 0} (xs : List X) (y : X) (ys : List X) (i : ℕ) → i ≡ length xs → slice_get (xs ++ y ∷ ys) i ≡ Some y
 slice_get_at [] y ys i is = rw is refl
@@ -79,6 +89,14 @@ pub port_at : {A M N : Type 0} (ready : A → M → Bool) (w : Network A M N) (k
 port_at ready w k p m place below is here =
     let row = ports_split ready w k p m below is in
     rw row.1 (slice_get_at (ports_below ready w k p) (at k p) row.0 place here)
+
+-- an enabled choice is the one at a place that isn't past it
+pub found_here : {A M N : Type 0} (ready : A → M → Bool) (w : Network A M N) (k p place left count : ℕ) → p < length w.nodes → count ≡ one_if (is_enabled ready w (at k p)) → left < count → place ≡ length (ports_below ready w k p) + left → slice_get (ports_below ready w k (length w.nodes)) place ≡ Some (at k p)
+found_here ready w k p place left count small is less here =
+    elim (is_enabled ready w (at k p)) as (λ b. is_enabled ready w (at k p) ≡ b → count ≡ one_if b → slice_get (ports_below ready w k (length w.nodes)) place ≡ Some (at k p)) [
+      | true ↦ λ on one. port_at ready w k p (length w.nodes) place small on (omega arith)
+      | false ↦ λ off none. absurd (omega arith)
+    ] refl is
 
 slice_get_behind : {X : Type 0} (xs ys : List X) (i : ℕ) → slice_get (xs ++ ys) (length xs + i) ≡ slice_get ys i
 slice_get_behind [] ys i = let e : 0 + i ≡ i = omega arith in rw e refl

@@ -70,6 +70,6 @@ module _ {A M N : Type 0} (ready : A → M → Bool) (step : A → ℕ → M →
             ∙ ap (λ xs. xs ++ dealt (λ j. notes_of step (node_of ready step d w' j) (put hs m.0 es j)) (choices_of ms)) l.log
             ∙ append_assoc w.log did.notes _
             ∙ ap (λ xs. w.log ++ xs) notes;
-        links = rest.links ∙ l.links;
+        links = rest.links ∙ l.links ∙ sym fits.square;
         loop = rest.loop ∙ l.loop;
       }

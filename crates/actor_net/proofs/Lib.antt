@@ -1,3 +1,4 @@
+pub mod CompleteWorlds
 pub mod Enabled
 pub mod Follow
 pub mod Followed
@@ -6,8 +7,12 @@ pub mod LinkCounts
 pub mod Links
 pub mod Merged
 pub mod Merges
+pub mod NotEnabled
 pub mod OneStep
+pub mod OpeningWorlds
 pub mod Reached
+pub mod ReplayLaws
+pub mod RunHistoryLaws
 pub mod Runs
 pub mod Scheduling
 pub mod Steps

@@ -9,8 +9,8 @@ use Rattle.actor_net.specs.declared.choice.Choice.{Choice}
 use Rattle.actor_net.specs.LinkTable.{LinkLists, IsWithin, link_of, with_link, one_if_held, held_below, all_held, AreCounts}
 use Rattle.actor_net.specs.Network.{Network, IsWorld, is_input, waiting, takes_first, is_enabled}
 use Rattle.actor_net.specs.Schedules.{ports_below, nodes_below, enabled_choices}
-use Rattle.actor_net.proofs.Enabled.{at}
-use Rattle.actor_net.proofs.Links.{inside, other_place}
+use Rattle.actor_net.proofs.Enabled.{at, one_if, ports_counted}
+use Rattle.actor_net.proofs.Links.{inside, other_place, empty_link}
 use Rattle.actor_net.proofs.Waiting.{waiting_is}
 
 module _ {M : Type 0} where
@@ -159,14 +159,9 @@ module _ {M : Type 0} where
 abbrev none : (M : Type 0) → ℕ → LinkLists M
 none M n = record { nodes = n; lists = replicate (n * n) [] }
 
-none_at : (M : Type 0) (m i : ℕ) → get_or (replicate m (let empty : List M = [] in empty)) i [] ≡ []
-none_at M zero i = refl
-none_at M (suc m) zero = refl
-none_at M (suc m) (suc i) = none_at M m i
-
 none_held : (M : Type 0) (n k p : ℕ) → held_below (none M n) k p ≡ 0
 none_held M n k zero = refl
-none_held M n k (suc p) = omega (arith, none_held M n k p, ap one_if_held (none_at M (n * n) (p * n + k)))
+none_held M n k (suc p) = omega (arith, none_held M n k p, ap one_if_held (empty_link M (n * n) (p * n + k)))
 
 none_at_all : (M : Type 0) (n m : ℕ) → all_held (none M n) m ≡ 0
 none_at_all M n zero = refl
@@ -248,13 +243,6 @@ module _ {M : Type 0} (ls : List (List M)) (counts : List ℕ) (all place : ℕ)
 abbrev pub links_of : {A M N : Type 0} → Network A M N → LinkLists M
 links_of w = record { nodes = length w.nodes; lists = w.links }
 
-abbrev pub one_if : Bool → ℕ
-one_if b = if b then 1 else 0
-
-length-if : {X : Type 0} (b : Bool) (xs : List X) (x : X) → length (xs ++ (if b then x ∷ [] else [])) ≡ length xs + one_if b
-length-if true xs x = length-append xs (x ∷ [])
-length-if false xs x = length-append xs []
-
 module _ {A M N : Type 0} (ready : A → M → Bool) (w : Network A M N) (world : IsWorld w) where
   abbrev n : ℕ
   n = length w.nodes
@@ -283,7 +271,7 @@ module _ {A M N : Type 0} (ready : A → M → Bool) (w : Network A M N) (world 
   ports_other k zero hk other most = refl
   ports_other k (suc p) hk other most =
       let off : (k == 0) && (p == 0) ≡ false = grind (arith, nat_tests) in
-      length-if (is_enabled ready w (at k p)) (ports_below ready w k p) (at k p)
+      ports_counted ready w k p
       ∙ ap (λ i. i + one_if (is_enabled ready w (at k p))) (ports_other k p hk other (omega arith))
       ∙ ap (λ i. held_below (links_of w) k p + i) (link_enabled k p hk (omega arith) off)
 
@@ -292,11 +280,11 @@ module _ {A M N : Type 0} (ready : A → M → Bool) (w : Network A M N) (world 
   ports_first (suc zero) some most =
       let first : 0 * n + 0 ≡ 0 = omega arith in
       let none : one_if_held (get_or w.links (0 * n + 0) []) ≡ 0 = ap (λ i. one_if_held (get_or w.links i [])) first ∙ ap one_if_held world.no_loop in
-      let here = length-if (is_enabled ready w (at 0 0)) [] (at 0 0) in
+      let here = ports_counted ready w 0 0 in
       omega (arith, none, here)
   ports_first (suc (suc p)) some most =
       let off : (0 == 0) && (suc p == 0) ≡ false = grind (arith, nat_tests) in
-      let here = length-if (is_enabled ready w (at 0 (suc p))) (ports_below ready w 0 (suc p)) (at 0 (suc p)) in
+      let here = ports_counted ready w 0 (suc p) in
       omega (arith, here, ports_first (suc p) (omega arith) (omega arith), link_enabled 0 (suc p) (omega arith) (omega arith) off)
 
   nodes_counted : (k : ℕ) → 0 < k → k ≤ n → length (nodes_below ready w k) ≡ all_held (links_of w) k + one_if (is_enabled ready w (at 0 0))

@@ -1,5 +1,5 @@
 -- Links after a step: what stands on each of them, and that there are as many.
-use Rattle.std.proofs.Common.{◌≡◌, ◌≢◌, ℕ, ◌+◌, ◌*◌, ◌<◌, Bool, true, false, List, [], ◌∷◌, ◌++◌, length, get_or, set, refl, sym, ap, subst, ◌∙◌, append_assoc, append-nil, arith}
+use Rattle.std.proofs.Common.{◌≡◌, ◌≢◌, ℕ, zero, suc, ◌+◌, ◌*◌, ◌<◌, Bool, true, false, List, [], ◌∷◌, ◌++◌, length, get_or, set, replicate, refl, sym, ap, subst, ◌∙◌, append_assoc, append-nil, arith}
 use Rattle.std.specs.Prelude.{if◌then◌else◌, ◌==◌, ◌&&◌}
 use Rattle.std.proofs.lemmas.Grind.{common_steps, rows}
 use Rattle.std.proofs.lemmas.Bool.Decides.{nat_tests, Decides-eqb}
@@ -8,6 +8,12 @@ use Rattle.std.proofs.lemmas.List.{get_or-set_same, get_or-set_other, length-set
 use Rattle.actor_net.specs.Network.{put_on, delivered, reaches}
 use Rattle.actor_net.specs.Histories.{sent_for}
 use Rattle.actor_net.proofs.Steps.{loop_stays}
+
+-- nothing stands on a link that holds nothing
+pub empty_link : (M : Type 0) (count i : ℕ) → get_or (replicate count (let none : List M = [] in none)) i [] ≡ []
+empty_link M zero i = refl
+empty_link M (suc count) zero = refl
+empty_link M (suc count) (suc i) = empty_link M count i
 
 -- what one node's sends put on a link: those for its receiver, where it is that node's and the receiver is reached
 abbrev pub put_there : {M : Type 0} → ℕ → ℕ → ℕ → ℕ → List (ℕ × M) → List M

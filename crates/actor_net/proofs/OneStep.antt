@@ -71,8 +71,9 @@ module _ {A M N : Type 0} (ready : A → M → Bool) (step : A → ℕ → M →
       head_held e.took (taken_at e.port es ++ left e.port k) (holds e.port k) (put_between step n e.port k (node_of ready step d w e.port) (hs e.port)) first
       (λ z more sent. let late = put_late step e.clock n e.port k (node_of ready step d w e.port) (hs e.port) z more (h.over e.port) sent in let early = (rw is at (h.past k)).0 in omega arith)
 
-  takes : (h : Next) → Takes step w k e.port (node_of ready step d w k) e.took.message (messages (held h).0)
+  takes : (h : Next) → Takes step n w k e.port (node_of ready step d w k) e.took.message (messages (held h).0)
   takes h = record {
+    count = refl;
     some = h.fits.some;
     square = h.fits.square;
     receiver = receiver h;
@@ -93,8 +94,8 @@ module _ {A M N : Type 0} (ready : A → M → Bool) (step : A → ℕ → M →
         | false ↦ λ _. refl
       ] refl
 
-  pub left_by : (h : Next) → Left step w k e.port (node_of ready step d w k) e.took.message (messages (held h).0) next
-  left_by h = taken_left step w k e.port (node_of ready step d w k) e.took.message (messages (held h).0) (takes h)
+  pub left_by : (h : Next) → Left step n w k e.port (node_of ready step d w k) e.took.message (messages (held h).0) next
+  left_by h = taken_left step n w k e.port (node_of ready step d w k) e.took.message (messages (held h).0) (takes h)
 
   pub node_own : Next → node_of ready step d next k ≡ did.node
   node_own h = (left_by h).own d
@@ -105,7 +106,7 @@ module _ {A M N : Type 0} (ready : A → M → Bool) (step : A → ℕ → M →
   shows' : Next → (s r : ℕ) → s < n → r < n → waiting next (at r s) ≡ messages (holds' s r)
   shows' h s r hs' hr =
       let test = (s == e.port) && (r == k) in
-      (left_by h).waits s r hs' hr
+      (left_by h).waits s r
       ∙ ap (λ xs. behind test xs ++ put_there n k s r did.sends) (h.fits.shows s r hs' hr)
       ∙ sym (rw (map-append (λ x. x.message) (behind test (holds s r)) (gain s r), messages-behind test (holds s r), messages-stamped e.clock (put_there n k s r did.sends)) refl)
 
@@ -162,7 +163,7 @@ module _ {A M N : Type 0} (ready : A → M → Bool) (step : A → ℕ → M →
       let own = node_own h in
       record {
         some = rw count h.fits.some;
-        square = (left_by h).links ∙ h.fits.square ∙ rw count refl;
+        square = (left_by h).links ∙ rw count refl;
         shows = λ s r hs' hr. shows' h s r (rw count at hs') (rw count at hr);
         whole = λ s r hs' hr. rw count (whole' h s r (rw count at hs') (rw count at hr));
         within = rw count (λ j past. at_put hs k es (λ y xs. n ≤ y → xs ≡ []) j (λ over. let small = receiver h in absurd (omega arith)) (λ _. h.fits.within j) past);

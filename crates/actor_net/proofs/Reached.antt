@@ -1,21 +1,13 @@
--- What holds of every world that a run reaches: for inductions over the runs of a network that is built on these actors.
-use Rattle.std.proofs.Common.{◌≡◌, ℕ, zero, suc, ◌*◌, ◌<◌, Bool, true, Option, None, Some, List, [], ◌∷◌, length, get_or, replicate, refl, ◌∙◌}
+-- What holds of every run: what each choice keeps of the choices so far and the world, a run keeps, complete or not. For
+-- inductions over the runs of a network of n nodes that is built on these actors.
+use Rattle.std.proofs.Common.{◌≡◌, ℕ, ◌*◌, ◌<◌, Bool, true, Option, None, Some, List, [], ◌∷◌, ◌++◌, length, get_or, refl, sym, ap, subst, ◌∙◌, append_assoc, append-nil}
 use Rattle.std.specs.Prelude.{slice_get}
-use Rattle.std.proofs.lemmas.List.{length-replicate}
 use Rattle.std.proofs.lemmas.Option.{get_or_from_slice_get}
 use Rattle.actor_net.specs.declared.choice.Choice.{Choice}
 use Rattle.actor_net.specs.Network.{Network, Stepped, IsWorld, is_input, waiting, takes_first, is_enabled, taken, run, IsRun}
-use Rattle.actor_net.specs.Opening.{opening}
 use Rattle.actor_net.proofs.Scheduling.{enabled_within}
+use Rattle.actor_net.proofs.Runs.{run_more, IsRun_more}
 use Rattle.actor_net.proofs.Taken.{Takes, taken_left}
-
--- what an enabled choice takes: its node, and the first message that waits there
-pub record Taking {A M N : Type 0} (ready : A → M → Bool) (step : A → ℕ → M → Stepped A M N) (w : Network A M N) (c : Choice) : Type 0 where
-  pub node : A
-  pub message : M
-  pub rest : List M
-  pub takes : Takes step w c.node c.port node message rest
-  pub was_ready : is_input c ≡ true → ready node message ≡ true
 
 record Found {A M : Type 0} (ready : A → M → Bool) (c : Choice) (o : Option A) (waits : List M) : Type 0 where
   node : A
@@ -30,53 +22,72 @@ found ready c None waits on = cc
 found ready c (Some node) [] on = cc
 found ready c (Some node) (m ∷ rest) on = record { node = node; message = m; rest = rest; node_is = refl; waits_is = refl; was_ready = λ is. rw is at on }
 
-pub taking : {A M N : Type 0} (ready : A → M → Bool) (step : A → ℕ → M → Stepped A M N) (w : Network A M N) (c : Choice) → IsWorld w → is_enabled ready w c ≡ true → Taking ready step w c
-taking ready step w c world on =
-    let there = enabled_within ready w c world.some_node on in
-    let first = found ready c (slice_get w.nodes c.node) (waiting w c) on in
-    record {
-      node = first.node;
-      message = first.message;
-      rest = first.rest;
-      takes = record {
-        some = world.some_node;
-        square = world.square;
-        receiver = there.0;
-        sender = there.1;
-        node_is = λ d. get_or_from_slice_get w.nodes c.node first.node d first.node_is;
-        waits = first.waits_is;
-      };
-      was_ready = first.was_ready;
-    }
+module _ {A M N : Type 0} (ready : A → M → Bool) (step : A → ℕ → M → Stepped A M N) (n : ℕ) where
+  -- what an enabled choice takes: its node, and the first message that waits there
+  pub record Taking (w : Network A M N) (c : Choice) : Type 0 where
+    pub node : A
+    pub message : M
+    pub rest : List M
+    pub takes : Takes step n w c.node c.port node message rest
+    pub was_ready : is_input c ≡ true → ready node message ≡ true
 
--- a choice leaves a world
-pub taken_world : {A M N : Type 0} (ready : A → M → Bool) (step : A → ℕ → M → Stepped A M N) (w : Network A M N) (c : Choice) → IsWorld w → is_enabled ready w c ≡ true → IsWorld (taken step w c)
-taken_world ready step w c world on =
-    let t = taking ready step w c world on in
-    let left = taken_left step w c.node c.port t.node t.message t.rest t.takes in
-    let count = left.count in
-    record {
-      some_node = rw count world.some_node;
-      few_nodes = rw count world.few_nodes;
-      square = rw count (left.links ∙ world.square);
-      no_loop = left.loop ∙ world.no_loop;
-    }
+  pub taking : (w : Network A M N) (c : Choice) → IsWorld w → length w.nodes ≡ n → is_enabled ready w c ≡ true → Taking w c
+  taking w c world count on =
+      let there = enabled_within ready w c world.some_node on in
+      let first = found ready c (slice_get w.nodes c.node) (waiting w c) on in
+      record {
+        node = first.node;
+        message = first.message;
+        rest = first.rest;
+        takes = record {
+          count = count;
+          some = rw (← count) world.some_node;
+          square = rw (← count) world.square;
+          receiver = rw (← count) there.0;
+          sender = rw (← count) there.1;
+          node_is = λ d. get_or_from_slice_get w.nodes c.node first.node d first.node_is;
+          waits = first.waits_is;
+        };
+        was_ready = first.was_ready;
+      }
 
--- what each enabled choice keeps, a run keeps
-pub run_keeps : {A M N : Type 0} (ready : A → M → Bool) (step : A → ℕ → M → Stepped A M N) (P : Network A M N → Type 0) → ((w : Network A M N) (c : Choice) → IsWorld w → is_enabled ready w c ≡ true → P w → P (taken step w c)) → (cs : List Choice) (w : Network A M N) → IsWorld w → P w → IsRun ready step cs w → IsWorld (run step cs w) × P (run step cs w)
-run_keeps ready step P keeps [] w world holds is = (world, holds)
-run_keeps ready step P keeps (c ∷ cs) w world holds is =
-    run_keeps ready step P keeps cs (taken step w c) (taken_world ready step w c world is.0) (keeps w c world is.0 holds) is.1
+  -- a choice leaves a world
+  pub taken_world : (w : Network A M N) (c : Choice) → IsWorld w → Taking w c → IsWorld (taken step w c)
+  taken_world w c world t =
+      let left = taken_left step n w c.node c.port t.node t.message t.rest t.takes in
+      let count = left.count ∙ sym t.takes.count in
+      record {
+        some_node = rw count world.some_node;
+        few_nodes = rw count world.few_nodes;
+        square = rw (count, left.links, t.takes.count) refl;
+        no_loop = left.loop ∙ world.no_loop;
+      }
 
-no_loop_at_first : {M : Type 0} (n : ℕ) → get_or (replicate n (let none : List M = [] in none)) 0 [] ≡ []
-no_loop_at_first zero = refl
-no_loop_at_first (suc n) = refl
+  -- a run so far of a world, and a choice that is taken behind it
+  pub record NextChoice (start : Network A M N) (cs : List Choice) (w : Network A M N) (c : Choice) : Type 0 where
+    pub world : IsWorld w
+    pub reached : w ≡ run step cs start
+    pub is_run : IsRun ready step cs start
+    pub taking : Taking w c
 
--- a world at its start is one
-pub opening_world : {A M N : Type 0} (nodes : List A) (items : List M) → 0 < length nodes → length nodes < 256 → IsWorld (opening {N = N} nodes items)
-opening_world nodes items some few = record {
-  some_node = some;
-  few_nodes = few;
-  square = length-replicate (length nodes * length nodes) [];
-  no_loop = no_loop_at_first (length nodes * length nodes);
-}
+  module _ (P : List Choice → Network A M N → Type 0) (start : Network A M N) (keeps : (cs : List Choice) (w : Network A M N) (c : Choice) → NextChoice start cs w c → P cs w → P (cs ++ c ∷ []) (taken step w c)) where
+    goes_on : (cs : List Choice) (w : Network A M N) (ds : List Choice) → IsWorld w → length w.nodes ≡ n → w ≡ run step cs start → IsRun ready step cs start → P cs w → IsRun ready step ds w → P (cs ++ ds) (run step ds w)
+    goes_on cs w [] world count reached is_run holds is = subst (λ xs. P xs w) (sym (append-nil cs)) holds
+    goes_on cs w (d ∷ ds) world count reached is_run holds is =
+        let t = taking w d world count is.0 in
+        let next = keeps cs w d (record { world = world; reached = reached; is_run = is_run; taking = t }) holds in
+        let left = taken_left step n w d.node d.port t.node t.message t.rest t.takes in
+        subst (λ xs. P xs (run step ds (taken step w d))) (append_assoc cs (d ∷ []) ds)
+        (goes_on (cs ++ d ∷ []) (taken step w d) ds (taken_world w d world t) left.count (run_more step cs d start w reached) (IsRun_more ready step cs d start w reached is_run is.0) next is.1)
+
+    -- what holds at the start, and goes on with each choice that is enabled, holds of every run and the world that it reaches
+    pub run_induction : IsWorld start → length start.nodes ≡ n → P [] start → (cs : List Choice) → IsRun ready step cs start → P cs (run step cs start)
+    run_induction world count holds cs is = goes_on [] start cs world count refl tt holds is
+
+  -- a run leaves a world of as many nodes
+  pub run_world : (start : Network A M N) → IsWorld start → length start.nodes ≡ n → (cs : List Choice) → IsRun ready step cs start → IsWorld (run step cs start) × (length (run step cs start).nodes ≡ n)
+  run_world start world count =
+      run_induction (λ cs w. IsWorld w × (length w.nodes ≡ n)) start (λ cs w c next _. (
+        taken_world w c next.world next.taking,
+        (taken_left step n w c.node c.port next.taking.node next.taking.message next.taking.rest next.taking.takes).count,
+      )) world count (world, count)

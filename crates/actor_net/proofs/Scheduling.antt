@@ -9,8 +9,9 @@ use Rattle.std.proofs.lemmas.Bool.{cases_lt}
 use Rattle.actor_net.specs.declared.choice.Choice.{Choice}
 use Rattle.actor_net.specs.declared.schedule.Schedule.{Schedule}
 use Rattle.actor_net.specs.declared.schedule.Schedule.TheVariants.{First, Last, Number}
+use Rattle.actor_net.proofs.CompleteWorlds.{takes_nothing, done_disabled}
 use Rattle.actor_net.proofs.Enabled.{found_at}
-use Rattle.actor_net.specs.Network.{Network, Stepped, is_input, on_link, waiting, takes_first, is_enabled, taken, run, is_done}
+use Rattle.actor_net.specs.Network.{Network, Stepped, is_input, on_link, waiting, takes_first, is_enabled, taken, run, is_done, IsRun}
 use Rattle.actor_net.specs.Schedules.{ports_below, nodes_below, enabled_choices, place_in, later, picked, taken_then, scheduled, StopsShort}
 
 place_within : (schedule : Schedule) (n : ℕ) → 0 < n → place_in schedule n < n
@@ -55,41 +56,6 @@ module _ {A M N : Type 0} (ready : A → M → Bool) where
   pub picked_none : (schedule : Schedule) (w : Network A M N) → picked ready schedule w ≡ None → enabled_choices ready w ≡ []
   picked_none schedule w none = none_of schedule (enabled_choices ready w) none
 
-both_left : (a b : Bool) → a && b ≡ true → a ≡ true
-both_left true b is = refl
-both_left false b is = is
-
-both_right : (a b : Bool) → a && b ≡ true → b ≡ true
-both_right true b is = is
-both_right false b is = cc
-
-empty_one : {M : Type 0} (l : List M) → (length l == 0) ≡ true → l ≡ []
-empty_one l is = nil_from_length l ((Decides-eqb (length l) 0).0 is)
-
-empty_there : {M : Type 0} (ls : List (List M)) (i : ℕ) → list_all (λ l. length l == 0) ls ≡ true → get_or ls i [] ≡ []
-empty_there [] i all = refl
-empty_there (l ∷ ls) zero all = empty_one l (both_left (length l == 0) (list_all (λ l. length l == 0) ls) all)
-empty_there (l ∷ ls) (suc i) all = empty_there ls i (both_right (length l == 0) (list_all (λ l. length l == 0) ls) all)
-
-none_waits : {A M N : Type 0} (ended : A → Bool) (w : Network A M N) (c : Choice) → is_done ended w ≡ true → waiting w c ≡ []
-none_waits ended w c done =
-    let quiet = both_left ((length w.input == 0) && list_all (λ l. length l == 0) w.links) (list_all ended w.nodes) done in
-    let input = empty_one w.input (both_left (length w.input == 0) (list_all (λ l. length l == 0) w.links) quiet) in
-    let link = empty_there w.links (c.port * length w.nodes + c.node) (both_right (length w.input == 0) (list_all (λ l. length l == 0) w.links) quiet) in
-    elim (is_input c) as (λ b. (if b then w.input else on_link w c.port c.node) ≡ []) [
-      | true ↦ input
-      | false ↦ elim (nat_lt c.port (length w.nodes) && nat_lt c.node (length w.nodes)) as (λ b. (if b then get_or w.links (c.port * length w.nodes + c.node) [] else []) ≡ []) [ true ↦ link | false ↦ refl ]
-    ]
-
-nothing : {A M : Type 0} (ready : A → M → Bool) (c : Choice) (o : Option A) (ms : List M) → ms ≡ [] → takes_first ready c o ms ≡ false
-nothing ready c None [] is = refl
-nothing ready c (Some a) [] is = refl
-nothing ready c o (m ∷ ms) is = cc
-
--- nothing is enabled in a complete world
-pub done_disabled : {A M N : Type 0} (ready : A → M → Bool) (ended : A → Bool) (w : Network A M N) (c : Choice) → is_done ended w ≡ true → is_enabled ready w c ≡ false
-done_disabled ready ended w c done = nothing ready c (slice_get w.nodes c.node) (waiting w c) (none_waits ended w c done)
-
 module _ {A M N : Type 0} (ready : A → M → Bool) (ended : A → Bool) (step : A → ℕ → M → Stepped A M N) where
   pub scheduled_none : (most : ℕ) (schedule : Schedule) (w : Network A M N) → picked ready schedule w ≡ None → scheduled ready ended step most schedule w ≡ []
   unfolding scheduled
@@ -104,8 +70,22 @@ module _ {A M N : Type 0} (ready : A → M → Bool) (ended : A → Bool) (step 
   unfolding scheduled
   scheduled_some most schedule w c is =
       let enabled = picked_enabled ready schedule w c is in
-      let going : is_done ended w ≡ false = elim (is_done ended w) as (λ b. is_done ended w ≡ b → b ≡ false) [ true ↦ λ done. let no = done_disabled ready ended w c done in cc | false ↦ λ _. refl ] refl in
+      let going : is_done ended w ≡ false = elim (is_done ended w) as (λ b. is_done ended w ≡ b → b ≡ false) [ true ↦ λ done. let no = done_disabled ended w done ready c in cc | false ↦ λ _. refl ] refl in
       rw (going, is) refl
+
+  taken_is_run : (most : ℕ) (schedule : Schedule) (w : Network A M N) (o : Option Choice) → picked ready schedule w ≡ o → ((c : Choice) → is_enabled ready w c ≡ true → IsRun ready step (scheduled ready ended step most (later schedule) (taken step w c)) (taken step w c)) → IsRun ready step (taken_then o (λ c. scheduled ready ended step most (later schedule) (taken step w c))) w
+  taken_is_run most schedule w None is rest = tt
+  taken_is_run most schedule w (Some c) is rest = let on = picked_enabled ready schedule w c is in (on, rest c on)
+
+  -- what a schedule takes is a run, whether or not it ends in a complete world
+  pub scheduled_is_run : (most : ℕ) (schedule : Schedule) (w : Network A M N) → IsRun ready step (scheduled ready ended step most schedule w) w
+  unfolding scheduled
+  scheduled_is_run zero schedule w = tt
+  scheduled_is_run (suc most) schedule w =
+      elim (is_done ended w) as (λ b. IsRun ready step (if b then [] else taken_then (picked ready schedule w) (λ c. scheduled ready ended step most (later schedule) (taken step w c))) w) [
+        | true ↦ tt
+        | false ↦ taken_is_run most schedule w (picked ready schedule w) refl (λ c _. scheduled_is_run most (later schedule) (taken step w c))
+      ]
 
   -- one more choice: what is left, from here, gives what the whole gives
   pub scheduled_more : (most n : ℕ) (schedule : Schedule) (w : Network A M N) (cs : List Choice) (c : Choice) → n < most → picked ready schedule w ≡ Some c → (cs ++ c ∷ []) ++ scheduled ready ended step (most - (n + 1)) (later schedule) (taken step w c) ≡ cs ++ scheduled ready ended step (most - n) schedule w
@@ -154,7 +134,7 @@ enabled_within {A} {M} {N} ready w c some on = (
         let far : nat_lt c.port (length w.nodes) ≡ false = grind (arith, nat_tests) in
         let other : is_input c ≡ false = grind (arith, nat_tests) in
         let empty : waiting w c ≡ [] = rw (other, far) refl in
-        let never = sym on ∙ nothing ready c (slice_get w.nodes c.node) (waiting w c) empty in
+        let never = sym on ∙ takes_nothing ready c (slice_get w.nodes c.node) (waiting w c) empty in
         cc
   ],
 )

@@ -1,6 +1,6 @@
 -- What waits at each choice after a step: what waited before, without the message that was taken, and then what was sent.
 use Rattle.std.proofs.Common.{◌≡◌, ℕ, ◌+◌, ◌*◌, ◌<◌, Bool, true, false, List, [], ◌++◌, length, get_or, set, drop, refl, sym, ◌∙◌, append-nil, arith}
-use Rattle.std.specs.Prelude.{if◌then◌else◌, ◌==◌, ◌&&◌}
+use Rattle.std.specs.Prelude.{if◌then◌else◌, ◌==◌, ◌&&◌, nat_lt}
 use Rattle.std.proofs.lemmas.Bool.Decides.{nat_tests, Decides-ltb}
 use Rattle.std.proofs.lemmas.List.{get_or-set_same, get_or-set_other, length-set}
 use Rattle.actor_net.specs.Network.{Network, Stepped, waiting, without_first, after, delivered, reaches}
@@ -49,6 +49,12 @@ module _ {A M N : Type 0} where
       let s_there = (Decides-ltb s (length w.nodes)).1 hs in
       let r_there = (Decides-ltb r (length w.nodes)).1 hr in
       rw (s_there, r_there) refl
+
+  -- nothing waits at a choice of a node that isn't there
+  pub waiting_outside : (w : Network A M N) (s r : ℕ) → 0 < length w.nodes → nat_lt s (length w.nodes) && nat_lt r (length w.nodes) ≡ false → waiting w (at r s) ≡ []
+  waiting_outside w s r some off =
+      let link : (r == 0) && (s == 0) ≡ false = grind (arith, nat_tests) in
+      rw (link, off) refl
 
   -- without its first message, a choice has what stands behind it; the others have what they had
   pub waiting-without_first : (w : Network A M N) (p k s r : ℕ) → length w.links ≡ length w.nodes * length w.nodes → p < length w.nodes → k < length w.nodes → s < length w.nodes → r < length w.nodes → waiting (without_first w (at k p)) (at r s) ≡ behind ((s == p) && (r == k)) (waiting w (at r s))

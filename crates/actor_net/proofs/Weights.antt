@@ -1,14 +1,16 @@
 -- What holds of each message that stands anywhere, and what messages weigh together: how both go on with a step. Generic in
 -- the actor; for invariants of a network that is built on it.
-use Rattle.std.proofs.Common.{◌≡◌, ℕ, zero, suc, ◌+◌, ◌*◌, ◌<◌, Bool, true, false, List, [], ◌∷◌, ◌++◌, length, get_or, set, drop, refl, sym, ap, subst, ◌∙◌, arith}
+use Rattle.std.proofs.Common.{◌≡◌, ℕ, zero, suc, ◌+◌, ◌*◌, ◌<◌, ◌≤◌, Bool, true, false, List, [], ◌∷◌, ◌++◌, length, get_or, set, drop, refl, sym, ap, subst, ◌∙◌, arith}
 use Rattle.std.specs.Prelude.{if◌then◌else◌, ◌==◌, ◌&&◌}
+use Rattle.std.specs.List.{sum_by}
 use Rattle.std.proofs.lemmas.Bool.Decides.{Decides-eqb}
+use Rattle.std.proofs.lemmas.List.Recursion.{is_sum_by}
 use Rattle.actor_net.specs.Network.{Network, Stepped, on_link, waiting, without_first, put_on, delivered, taken, reaches}
 use Rattle.actor_net.specs.Histories.{sent_for}
 use Rattle.actor_net.proofs.Enabled.{at}
 use Rattle.actor_net.proofs.Links.{put_there, within, inside, length-put_on}
 use Rattle.actor_net.proofs.Waiting.{behind, waiting_is}
-use Rattle.actor_net.proofs.Taken.{Takes, taken_left, taken_is, without_nodes, without_links}
+use Rattle.actor_net.proofs.Taken.{Takes, taken_left, taken_is, kept}
 
 -- a fact of each element of a list, by recursion
 abbrev pub Each : {M : Type 0} → (M → Type 0) → List M → Type 0
@@ -54,17 +56,15 @@ each-put P n k s r sends each =
     ] refl
 
 -- a fact of all messages goes on where each message that is sent has it
-pub on_links_after : {A M N : Type 0} (P : ℕ → ℕ → M → Type 0) (step : A → ℕ → M → Stepped A M N) (w : Network A M N) (k p : ℕ) (node : A) (m : M) (rest : List M) → Takes step w k p node m rest → OnLinks P w → EachSent P k (step node p m).sends → OnLinks P (taken step w (at k p))
-on_links_after P step w k p node m rest takes all sent s r hs hr =
-    let left = taken_left step w k p node m rest takes in
-    let count = left.count in
-    let hs' : s < length w.nodes = rw count at hs in
-    let hr' : r < length w.nodes = rw count at hr in
+pub on_links_after : {A M N : Type 0} (P : ℕ → ℕ → M → Type 0) (step : A → ℕ → M → Stepped A M N) (n : ℕ) (w : Network A M N) (k p : ℕ) (node : A) (m : M) (rest : List M) → Takes step n w k p node m rest → OnLinks P w → EachSent P k (step node p m).sends → OnLinks P (taken step w (at k p))
+on_links_after P step n w k p node m rest takes all sent s r hs hr =
+    let left = taken_left step n w k p node m rest takes in
+    let count = left.count ∙ sym takes.count in
     let test = (s == p) && (r == k) in
-    subst (λ xs. Each (P s r) xs) (sym (left.waits s r hs' hr'))
-    (each-append (P s r) (behind test (waiting w (at r s))) (put_there (length w.nodes) k s r (step node p m).sends)
-    (each-behind (P s r) test (waiting w (at r s)) (all s r hs' hr'))
-    (each-put P (length w.nodes) k s r (step node p m).sends sent))
+    subst (λ xs. Each (P s r) xs) (sym (left.waits s r))
+    (each-append (P s r) (behind test (waiting w (at r s))) (put_there n k s r (step node p m).sends)
+    (each-behind (P s r) test (waiting w (at r s)) (all s r (rw count at hs) (rw count at hr)))
+    (each-put P n k s r (step node p m).sends sent))
 
 -- what messages weigh together
 abbrev pub weigh : {X : Type 0} → (X → ℕ) → List X → ℕ
@@ -80,7 +80,7 @@ abbrev pub sent_weight : {M : Type 0} → (M → ℕ) → ℕ → ℕ → List (
 sent_weight f n k [] = 0
 sent_weight f n k (x ∷ xs) = (if reaches n k x.0 then f x.1 else 0) + sent_weight f n k xs
 
-weigh-append : {M : Type 0} (f : M → ℕ) (xs ys : List M) → weigh f (xs ++ ys) ≡ weigh f xs + weigh f ys
+pub weigh-append : {M : Type 0} (f : M → ℕ) (xs ys : List M) → weigh f (xs ++ ys) ≡ weigh f xs + weigh f ys
 weigh-append f [] ys = omega arith
 weigh-append f (x ∷ xs) ys = omega (arith, weigh-append f xs ys)
 
@@ -132,16 +132,68 @@ total-without_first {A} {M} {N} f w k p m rest square hp hk waits =
           omega (arith, changed, less, same)
     ] refl
 
--- a step takes a message away and puts there what it sends
-pub total_after : {A M N : Type 0} (f : M → ℕ) (step : A → ℕ → M → Stepped A M N) (w : Network A M N) (k p : ℕ) (node : A) (m : M) (rest : List M) → Takes step w k p node m rest → total f (taken step w (at k p)) + f m ≡ total f w + sent_weight f (length w.nodes) k (step node p m).sends
-total_after f step w k p node m rest takes =
-    let is = taken_is step w k p node m rest takes in
-    let without = without_first w (at k p) in
-    let nodes = without_nodes step w k p node m rest takes.some in
-    let links = without_links step w k p node m rest takes.some in
-    let square : length without.links ≡ length without.nodes * length without.nodes = rw (nodes, links) takes.square in
-    let small : k < length without.nodes = rw nodes takes.receiver in
-    let sent = weigh-delivered f (length without.nodes) k (step node p m).sends without.links square small in
-    let count : sent_weight f (length without.nodes) k (step node p m).sends ≡ sent_weight f (length w.nodes) k (step node p m).sends = rw nodes refl in
-    let less = total-without_first f w k p m rest takes.square takes.sender takes.receiver takes.waits in
-    rw is (omega (arith, sent, count, less))
+weigh-one : {X : Type 0} (f : X → ℕ) (xs : List X) (i : ℕ) (v : X) → i < length xs → weigh f (set xs i v) + f (get_or xs i v) ≡ weigh f xs + f v
+weigh-one f [] i v small = absurd (omega arith)
+weigh-one f (x ∷ xs) zero v small = omega arith
+weigh-one f (x ∷ xs) (suc i) v small = omega (arith, weigh-one f xs i v (omega arith))
+
+module _ {A M N : Type 0} (step : A → ℕ → M → Stepped A M N) (n : ℕ) (w : Network A M N) (k p : ℕ) (node : A) (m : M) (rest : List M) (takes : Takes step n w k p node m rest) where
+  some : 0 < length w.nodes
+  some = let count = takes.count in rw count takes.some
+
+  -- a step takes a message away and puts there what it sends
+  pub total_after : (f : M → ℕ) → total f (taken step w (at k p)) + f m ≡ total f w + sent_weight f n k (step node p m).sends
+  total_after f =
+      let is = taken_is step n w k p node m rest takes in
+      let without = without_first w (at k p) in
+      let stays = kept step n w k p node m rest some in
+      let nodes = stays.nodes in
+      let count = takes.count in
+      let square : length without.links ≡ length without.nodes * length without.nodes = rw (nodes, stays.links, count) takes.square in
+      let small : k < length without.nodes = rw (nodes, count) takes.receiver in
+      let sent = weigh-delivered f (length without.nodes) k (step node p m).sends without.links square small in
+      let same : sent_weight f (length without.nodes) k (step node p m).sends ≡ sent_weight f n k (step node p m).sends = rw (nodes, count) refl in
+      let less = total-without_first f w k p m rest (rw count takes.square) (rw count takes.sender) (rw count takes.receiver) takes.waits in
+      rw is (omega (arith, sent, same, less))
+
+  -- the node that took it weighs what it weighs afterwards, and the other nodes what they did
+  pub nodes_after : (g : A → ℕ) → weigh g (taken step w (at k p)).nodes + g node ≡ weigh g w.nodes + g (step node p m).node
+  nodes_after g =
+      let is = taken_is step n w k p node m rest takes in
+      let nodes = (kept step n w k p node m rest some).nodes in
+      let count = takes.count in
+      let here = takes.node_is (step node p m).node in
+      let one = weigh-one g w.nodes k (step node p m).node (rw count takes.receiver) in
+      rw (is, nodes) (rw here at one)
+
+  -- the log weighs as much more as what was noted
+  pub log_after : (h : N → ℕ) → weigh h (taken step w (at k p)).log ≡ weigh h w.log + weigh h (step node p m).notes
+  log_after h =
+      ap (weigh h) (taken_left step n w k p node m rest takes).log ∙ weigh-append h w.log (step node p m).notes
+
+-- a greater weight of each message makes a greater weight of all
+pub weigh_le : {X : Type 0} (f g : X → ℕ) (xs : List X) → ((x : X) → f x ≤ g x) → weigh f xs ≤ weigh g xs
+weigh_le f g [] less = omega arith
+weigh_le f g (x ∷ xs) less = omega (arith, less x, weigh_le f g xs less)
+
+pub total_le : {A M N : Type 0} (f g : M → ℕ) (w : Network A M N) → ((m : M) → f m ≤ g m) → total f w ≤ total g w
+total_le f g w less =
+    omega (arith, weigh_le f g w.input less, weigh_le (weigh f) (weigh g) w.links (λ ms. weigh_le f g ms less))
+
+-- two weights together
+pub weigh-sum : {X : Type 0} (f g : X → ℕ) (xs : List X) → weigh (λ x. f x + g x) xs ≡ weigh f xs + weigh g xs
+weigh-sum f g [] = omega arith
+weigh-sum f g (x ∷ xs) = omega (arith, weigh-sum f g xs)
+
+weigh_same : {X : Type 0} (f g : X → ℕ) (xs : List X) → ((x : X) → f x ≡ g x) → weigh f xs ≡ weigh g xs
+weigh_same f g [] same = refl
+weigh_same f g (x ∷ xs) same = omega (arith, same x, weigh_same f g xs same)
+
+pub total-sum : {A M N : Type 0} (f g : M → ℕ) (w : Network A M N) → total (λ m. f m + g m) w ≡ total f w + total g w
+total-sum f g w =
+    let links = weigh_same (weigh (λ m. f m + g m)) (λ ms. weigh f ms + weigh g ms) w.links (weigh-sum f g) in
+    omega (arith, weigh-sum f g w.input, links, weigh-sum (weigh f) (weigh g) w.links)
+
+-- a weight is std's sum over a list
+pub weigh-sum_by : {X : Type 0} (f : X → ℕ) (xs : List X) → weigh f xs ≡ sum_by f xs
+weigh-sum_by f xs = is_sum_by (weigh f) f refl (λ x xs. refl) xs

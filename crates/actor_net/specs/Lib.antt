@@ -2,6 +2,8 @@ pub mod Network
 pub mod Opening
 pub mod LinkTable
 pub mod Schedules
+pub mod Replays
+pub mod RunHistory
 pub mod Histories
 pub mod Merging
 pub mod Fronts

@@ -1,5 +1,5 @@
-ghost use Rattle.std.specs.Prelude.{◌≡◌, ℕ, Some, Err, IfOk, OnOk};
-ghost use Rattle.actor_net.specs.Network.{run, IsRun, fault_from};
+ghost use Rattle.std.specs.Prelude.{◌≡◌, ◌≢◌};
+ghost use Rattle.actor_net.specs.Replays.{replayed};
 
 use super::actor::Actor;
 use super::choice::Choice;
@@ -17,9 +17,7 @@ pub enum ReplayFault {
 
 /// Takes the choices in order. What isn't handed back is dropped.
 pub fn replay<A: Actor>(world: World<A>, choices: &[Choice]) -> Result<World<A>, ReplayFault>
-    ensures world { IfOk result (λ w. w ≡ run A.stepped choices.now world) }
-    ensures run { OnOk result (IsRun A.is_ready A.stepped choices.now world) }
-    ensures fault { (i : ℕ) → result ≡ Err (ReplayFault.NotEnabled i) → fault_from A.is_ready A.stepped 0 choices.now world ≡ Some i }
+    ensures { result ≢ Err ReplayFault.NoMemory → result ≡ replayed A.is_ready A.stepped choices.now world }
 {
     let mut world = world;
     for (index, choice) in choices.iter().enumerate() {

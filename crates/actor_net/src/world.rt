@@ -191,15 +191,14 @@ impl<A: Actor> World<A> {
         ensures { result ≡ slice_get (ports_below A.is_ready self.now node (length self.now.nodes)) place }
     {
         let nodes = self.nodes.len() as u8;
-        let mut before = 0;
+        let mut left = place;
         for port in 0..nodes {
             let choice = Choice { node, port };
-            if self.enabled(choice) {
-                if before == place {
-                    return Some(choice);
-                }
-                before += 1;
+            let count = self.enabled(choice) as usize;
+            if left < count {
+                return Some(choice);
             }
+            left -= count;
         }
         None
     }

@@ -1,10 +1,14 @@
-use Rattle.std.proofs.Common.{◌∙◌, sym}
-use Rattle.std.proofs.lemmas.List.{at_drop_all}
-use Rattle.actor_net.specs.Network.{fault_from}
-use Rattle.actor_net.proofs.Runs.{run_without_fault}
+-- The loop ends with no fault, in the world behind all choices, or stops at the first fault.
+use Rattle.std.proofs.Common.{◌≡◌, None, Some, Ok, Err, ap, sym, ◌∙◌, arith}
+use Rattle.std.proofs.lemmas.List.{at_drop_all, at_drop_more}
+use Rattle.actor_net.specs.Network.{run, fault_from}
+use Rattle.actor_net.specs.Replays.{world_or_fault}
 use Rattle.actor_net.proofs.replays.replay.Goals as goal
 
-pub returns-clause-run : goal.returns-clause-run
-returns-clause-run g c =
-    run_without_fault g.A.Actor.is_ready g.A.Actor.stepped 0 c.args.choices.now c.args.world
-    (sym c.loop-index.invariant.fault ∙ at_drop_all (λ cs. fault_from g.A.Actor.is_ready g.A.Actor.stepped c.loop-index.index cs c.loop-index.world) c.args.choices.now c.loop-index.index c.loop-index-test.false)
+pub returns : goal.returns
+returns g c = λ _.
+    let ready = g.A.Actor.is_ready in
+    let step = g.A.Actor.stepped in
+    let none : fault_from ready step 0 c.args.choices.now c.args.world ≡ None = sym c.loop-index.invariant.fault ∙ at_drop_all (λ cs. fault_from ready step c.loop-index.index cs c.loop-index.world) c.args.choices.now c.loop-index.index c.loop-index-test.false in
+    let world = at_drop_all (λ cs. run step cs c.loop-index.world) c.args.choices.now c.loop-index.index c.loop-index-test.false in
+    rw none (ap Ok (sym world ∙ c.loop-index.invariant.world))

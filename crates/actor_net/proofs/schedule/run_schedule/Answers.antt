@@ -1,9 +1,11 @@
-use Rattle.std.proofs.Common.{◌+◌, ◌∙◌, Err, sym, ap, inl, inr}
+-- Each step leaves what the whole schedule takes, and where it ends nothing is left to take.
+use Rattle.std.proofs.Common.{◌+◌, ◌∙◌, Err, sym, ap, subst, inl, inr}
 use Rattle.std.proofs.lemmas.List.{length_push}
+use Rattle.actor_net.specs.Network.{IsRun}
 use Rattle.actor_net.specs.Schedules.{schedule_of}
 use Rattle.actor_net.specs.declared.schedule.TheConstants.{MOST_CHOICES}
-use Rattle.actor_net.proofs.Runs.{run_more, IsRun_more}
-use Rattle.actor_net.proofs.Scheduling.{picked_enabled, scheduled_more, scheduled_whole, stops_short}
+use Rattle.actor_net.proofs.Runs.{run_more, run_splits}
+use Rattle.actor_net.proofs.Scheduling.{picked_enabled, scheduled_more, scheduled_whole, scheduled_is_run, stops_short}
 use Rattle.actor_net.proofs.schedule.run_schedule.Goals as goal
 use Rattle.actor_net.proofs.schedule.run_schedule.Goals.{else-loop-test, then-loop-test+in_default}
 
@@ -18,11 +20,9 @@ loop-preserved g c =
     let ready = g.A.Actor.is_ready in
     let step = g.A.Actor.stepped in
     let chosen = sym c.pick.ensures.choice ∙ c.in-Some.is in
-    let on = picked_enabled ready (schedule_of c.loop.picker) c.loop.world c.in-Some.choice chosen in
     rw (c.in_ok-push.ensures.ok, c.in-Ok.ensures.ok, c.in-Some.ensures.later) (record {
       choices = scheduled_more ready g.A.Actor.has_ended step MOST_CHOICES c.loop.counter (schedule_of c.loop.picker) c.loop.world c.loop.choices c.in-Some.choice c.loop-test.true chosen ∙ c.loop.invariant.choices;
       world = run_more step c.loop.choices c.in-Some.choice c.args.world c.loop.world c.loop.invariant.world;
-      run = IsRun_more ready step c.loop.choices c.in-Some.choice c.args.world c.loop.world c.loop.invariant.world c.loop.invariant.run on;
       count = length_push c.loop.choices c.in-Some.choice ∙ ap (λ n. n + 1) c.loop.invariant.count;
     })
 
@@ -39,3 +39,9 @@ returns-else-complete-clause-unfinished g c =
       | else-loop-test w ↦ λ at is. stops_short g.A.Actor.is_ready g.A.Actor.has_ended g.A.Actor.stepped MOST_CHOICES c.loop.counter (schedule_of c.loop.picker) c.args.world c.loop.world c.loop.choices _ at (inr w.loop-test.false) c.loop.auto.counter-end c.loop.invariant.choices c.loop.invariant.world c.loop.invariant.count (sym c.complete.ensures ∙ c.if-complete.false) (cc)
       | then-loop-test+in_default w ↦ λ at is. stops_short g.A.Actor.is_ready g.A.Actor.has_ended g.A.Actor.stepped MOST_CHOICES c.loop.counter (schedule_of c.loop.picker) c.args.world c.loop.world c.loop.choices _ at (inl (sym w.pick.ensures.choice ∙ w.in_default.is)) c.loop.auto.counter-end c.loop.invariant.choices c.loop.invariant.world c.loop.invariant.count (sym c.complete.ensures ∙ c.if-complete.false) (cc)
     ]
+
+pub returns-then-complete-clause-run : goal.returns-then-complete-clause-run
+returns-then-complete-clause-run g c =
+    let ready = g.A.Actor.is_ready in
+    let step = g.A.Actor.stepped in
+    (run_splits ready step c.loop.choices _ c.args.world (subst (λ cs. IsRun ready step cs c.args.world) (sym c.loop.invariant.choices) (scheduled_is_run ready g.A.Actor.has_ended step MOST_CHOICES c.args.schedule c.args.world))).0
