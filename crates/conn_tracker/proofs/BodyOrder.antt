@@ -13,7 +13,7 @@ use Rattle.conn_tracker.specs.declared.record.TrackRecord.{TrackRecord}
 use Rattle.conn_tracker.specs.Table.{number_of}
 use Rattle.conn_tracker.specs.Body.{direction_number, seen_bytes, body_of}
 use Rattle.conn_tracker.specs.Conntrack.{conntrack}
-use Rattle.conn_tracker.specs.BodyLaws.{Within}
+use Rattle.conn_tracker.specs.BodyLemmas.{Within}
 
 then-Equal : (o : Ordering) → ordering_then o Equal ≡ o
 then-Equal Less = refl

@@ -8,7 +8,7 @@ use Rattle.nf_function.specs.Units.{is_tcp, is_transport, is_transport_flow}
 use Rattle.conn_tracker.specs.declared.record.TrackRecord.{TrackRecord}
 use Rattle.conn_tracker.specs.Table.{is_udp_state, IsRecordOf}
 use Rattle.conn_tracker.specs.Body.{is_valid, is_within, suits}
-use Rattle.conn_tracker.specs.BodyLaws.{valid_facts}
+use Rattle.conn_tracker.specs.BodyLemmas.{valid_facts}
 
 suits_from : (tcp udp : Bool) → udp ≡ not tcp → cond tcp (not udp) udp ≡ true
 suits_from true udp h = rw h refl

@@ -2,5 +2,5 @@ pub mod Table
 pub mod Text
 pub mod Body
 pub mod Conntrack
-pub mod BodyLaws
-pub mod StepLaws
+pub mod BodyLemmas
+pub mod StepLemmas

@@ -14,7 +14,7 @@ impl Function for Conntrack {
     ghost use Rattle.std.specs.Prelude.{refl};
     ghost use Rattle.nf_function.specs.declared.kind.Kind.TheVariants.{Conntrack as TheKind};
     ghost use Rattle.conn_tracker.specs.Conntrack.{conntrack};
-    ghost use Rattle.conn_tracker.specs.StepLaws.{conntrack_laws};
+    ghost use Rattle.conn_tracker.specs.StepLemmas.{conntrack_laws};
 
     type Record = TrackRecord;
 

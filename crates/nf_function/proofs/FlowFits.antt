@@ -9,8 +9,8 @@ use Rattle.flow_filter.specs.declared.flow.Direction.{Direction}
 use Rattle.flow_filter.specs.declared.flow.Direction.TheVariants.{Out, In}
 use Rattle.flow_filter.specs.Filter.{IsFlow}
 use Rattle.flow_filter.specs.Flow.{flow_of, is_inside, is_mapped, is_outside_address, is_source_first, inward, outward, owner_of_port}
-use Rattle.flow_filter.proofs.FlowLaws.{proto-flow_of}
-use Rattle.flow_filter.proofs.SiteLaws.{is_24, last_byte_fits}
+use Rattle.flow_filter.proofs.FlowLemmas.{proto-flow_of}
+use Rattle.flow_filter.proofs.SiteLemmas.{is_24, last_byte_fits}
 use Rattle.nf_function.specs.Units.{is_transport, is_transport_flow}
 use Rattle.nf_function.specs.Records.{Fits}
 

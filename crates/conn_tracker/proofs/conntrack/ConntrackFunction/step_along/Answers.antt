@@ -1,6 +1,6 @@
 -- A step keeps what is valid for its flow.
 use Rattle.std.proofs.Common.{◌≡◌, ◌∙◌, ap, sym, subst, rules, true, Option, Some}
-use Rattle.flow_filter.proofs.FlowLaws.{proto-flow_of}
+use Rattle.flow_filter.proofs.FlowLemmas.{proto-flow_of}
 use Rattle.nf_function.specs.Units.{is_transport, is_transport_flow}
 use Rattle.nf_function.specs.declared.unit.Unit.TheVariants.{Flow as OfFlow}
 use Rattle.nf_function.specs.Semantics.{is_sound}

@@ -8,7 +8,7 @@ use Rattle.flow_filter.specs.declared.site.Site.{Site}
 use Rattle.flow_filter.specs.declared.flow.Flow.{Flow}
 use Rattle.flow_filter.specs.declared.flow.Direction.{Direction}
 use Rattle.flow_filter.specs.Flow.{flow_of}
-use Rattle.flow_filter.proofs.FlowLaws.{proto-flow_of}
+use Rattle.flow_filter.proofs.FlowLemmas.{proto-flow_of}
 use Rattle.nf_function.specs.declared.kind.Kind.TheVariants.{Conntrack}
 use Rattle.nf_function.specs.declared.unit.Unit as units
 use Rattle.nf_function.specs.declared.unit.Unit.TheVariants.{Flow as OfFlow, Host as OfHost}
@@ -24,7 +24,7 @@ use Rattle.conn_tracker.specs.declared.state.State.TheVariants.{Opening, Answere
 use Rattle.conn_tracker.specs.Table.{Row, row, cell, class_of, first_tcp, first_state, first_record, next_udp, next_state, next_record, is_idle, is_same_way, is_udp_state, stepped}
 use Rattle.conn_tracker.specs.Body.{is_valid, suits}
 use Rattle.conn_tracker.specs.Conntrack.{conntrack}
-use Rattle.conn_tracker.specs.BodyLaws.{IsValid, valid_facts, valid_from, record_in-body_of, record_in-some, known_by_body, length-body_of}
+use Rattle.conn_tracker.specs.BodyLemmas.{IsValid, valid_facts, valid_from, record_in-body_of, record_in-some, known_by_body, length-body_of}
 
 -- the eight cells of a row are states of TCP
 record IsTcpRow (w : Row) : Type 0 where
