@@ -127,7 +127,7 @@ def by_hand(cases):
     )
     start = "opennf report 1\nfunction conntrack instances 1 window 256\ntrace "
     single = (
-        "out 1 single\ndone 1 a\nstate udp 10.0.0.1:5000 192.0.2.9:53 a single out packets 1 bytes 20\ntally a 1\nend\n"
+        "out 1 single\ndone 1 a\nstate udp 10.0.0.1:5000 192.0.2.9:53 a single out packets 1 bytes 20 seen 1000000000\ntally a 1\nend\n"
     )
     tagged = file_header(">", NANO, 1) + b"".join(
         record(frame, ">")
@@ -138,7 +138,17 @@ def by_hand(cases):
             ethernet(ipv4(tcp(40000, 80, 2), 6, total=0)),
         )
     )
+    question = ipv4(udp(5000, 53, bytes(20)), 17)
+    answer = ipv4(udp(53, 5000, bytes(20)), 17, source="192.0.2.9", target="10.0.0.1")
+    in_time, idle = (
+        file_header() + record(question, seconds=1) + record(answer, seconds=2) + record(answer, seconds=last)
+        for last in (302, 303)
+    )
+    three = "packets 3 skipped 0 whole\nout 1 single\nout 2 both\nout 3 {}\ndone 1 a\ndone 2 a\ndone 3 a\n"
+    kept = "state udp 10.0.0.1:5000 192.0.2.9:53 a {} packets 3 bytes 60 seen {}000000000\ntally a 3\nend\n"
     wanted = {
+        "in-time": (in_time, three.format("both") + kept.format("both out", 302)),
+        "idle": (idle, three.format("single") + kept.format("single in", 303)),
         "empty": (one_packet[:24], "packets 0 skipped 0 whole\ntally a 0\nend\n"),
         "one-packet": (one_packet, "packets 1 skipped 0 whole\n" + single),
         "cut": (one_packet + bytes(10), "packets 1 skipped 0 cut\n" + single),
@@ -339,12 +349,15 @@ def chance_capture(chance):
     order, magic = chance.choice(list(FORMS.values()))
     link = chance.choice([1, 101])
     pieces = [file_header(order, magic, link | chance.choice([0, 0, 0, 0x10000, 0xFC000000]))]
+    # Mostly close times, and steps around the 300 seconds after which a flow begins anew.
+    seconds = chance.choice([0, 1, 1_700_000_000, 2**32 - 2000])
     for _ in range(chance.choice([1, 5, 40, 40, 40])):
         frame = chance_frame(chance, link)
         if chance.random() < 0.1:
             frame = frame[: chance.randrange(len(frame) + 1)]
-        times = chance.getrandbits(32), chance.getrandbits(32)
-        pieces.append(record(frame, order, *times, original=chance.getrandbits(32)))
+        seconds = min(max(seconds + chance.choice([0] * 8 + [1, 1, -1, 299, 300, 301, -301]), 0), 2**32 - 1)
+        fraction = chance.choice([0, 0, chance.randrange(10**6), chance.getrandbits(32)])
+        pieces.append(record(frame, order, seconds, fraction, original=chance.getrandbits(32)))
     if chance.random() < 0.05:
         pieces.append(record(b"", order, captured=262_144 + chance.randrange(3)))
     capture = b"".join(pieces)

@@ -78,6 +78,7 @@ def read_words(words):
 
 
 class Packet(NamedTuple):
+    nanos: int  # its time
     proto: int
     source: tuple  # address and port
     target: tuple  # address and port
@@ -91,11 +92,12 @@ class Trace(NamedTuple):
     cut: bool
 
 
-ORDERS = {
-    bytes.fromhex("a1b2c3d4"): ">",
-    bytes.fromhex("d4c3b2a1"): "<",
-    bytes.fromhex("a1b23c4d"): ">",
-    bytes.fromhex("4d3cb2a1"): "<",
+# The byte order, and how many nanoseconds one of a record's fractions of a second is.
+FORMS = {
+    bytes.fromhex("a1b2c3d4"): (">", 1000),
+    bytes.fromhex("d4c3b2a1"): ("<", 1000),
+    bytes.fromhex("a1b23c4d"): (">", 1),
+    bytes.fromhex("4d3cb2a1"): ("<", 1),
 }
 PCAPNG = bytes.fromhex("0a0d0d0a")
 ETHERNET, RAW = 1, 101
@@ -109,37 +111,37 @@ def refuse_trace(offset, kind):
 
 
 def read_header(capture):
-    """The byte order and the link type, from the first 24 bytes."""
+    """The byte order, the nanoseconds of a fraction and the link type, from the first 24 bytes."""
     magic = capture[:4]
     if magic == PCAPNG:
         refuse_trace(0, "pcapng")
-    if magic not in ORDERS:
+    if magic not in FORMS:
         refuse_trace(0, "magic")
     if len(capture) < 24:
         refuse_trace(len(capture), "header")
-    order = ORDERS[magic]
+    order, fraction = FORMS[magic]
     major, minor, link = struct.unpack(order + "4xHH12xI", capture[:24])
     if (major, minor) != (2, 4):
         refuse_trace(4, "version")
     link %= 1 << 16
     if link not in (ETHERNET, RAW):
         refuse_trace(20, f"link type {link}")
-    return order, link
+    return order, fraction, link
 
 
 def read_trace(capture):
-    order, link = read_header(capture)
+    order, unit, link = read_header(capture)
     packets, skipped, offset = [], 0, 24
     while offset < len(capture):
         if len(capture) - offset < 16:
             return Trace(packets, skipped, True)
-        (captured,) = struct.unpack_from(order + "8xI", capture, offset)
+        seconds, fraction, captured = struct.unpack_from(order + "III", capture, offset)
         end = offset + 16 + captured
         if captured > MOST_CAPTURED:
             refuse_trace(offset, f"record length {captured}")
         if end > len(capture):
             return Trace(packets, skipped, True)
-        packet = read_packet(ip_of(capture[offset + 16 : end], link))
+        packet = read_packet(ip_of(capture[offset + 16 : end], link), seconds * 10**9 + fraction * unit)
         if end > MOST_BYTES or (packet and len(packets) == MOST_PACKETS):
             refuse_trace(offset, "too long")
         if packet:
@@ -160,7 +162,7 @@ def ip_of(frame, link):
     return b""
 
 
-def read_packet(ip) -> Optional[Packet]:
+def read_packet(ip, nanos) -> Optional[Packet]:
     """The packet, where it is IPv4 with TCP or UDP, its headers are whole, and it is no later fragment."""
     if len(ip) < 20 or ip[0] >> 4 != 4:
         return None
@@ -185,7 +187,7 @@ def read_packet(ip) -> Optional[Packet]:
     if total < header + own:
         return None
     source_port, target_port = struct.unpack_from(">HH", segment)
-    return Packet(proto, (source, source_port), (target, target_port), flags, total - header - own)
+    return Packet(nanos, proto, (source, source_port), (target, target_port), flags, total - header - own)
 
 
 # --- Flows and the connection tracker ---
@@ -219,6 +221,7 @@ class Record(NamedTuple):
     opener: str
     packets: int
     bytes: int
+    seen: int  # the greatest time of a packet; 0 where none is known
 
 
 # What a packet makes of each state. R has the flag RST, SA both SYN and ACK, S SYN, F FIN, A none of these; the
@@ -263,19 +266,32 @@ def class_of(packet):
     return "F" if fin else "A"
 
 
-def step(record, packet, direction):
+# A flow without packets for longer than this begins anew.
+IDLE = 300 * 10**9
+
+
+def first(packet, direction):
+    """The record of a flow's first packet."""
     kind = class_of(packet)
+    # An answer seen first comes from the end that didn't open.
+    opener = {OUT: IN, IN: OUT}[direction] if kind == "SA" else direction
+    return Record(FIRST[kind], opener, 1, packet.length, packet.nanos)
+
+
+def step(record, packet, direction):
     if record is None:
-        # An answer seen first comes from the end that didn't open.
-        opener = {OUT: IN, IN: OUT}[direction] if kind == "SA" else direction
-        return Record(FIRST[kind], opener, 1, packet.length)
+        return first(packet, direction)
+    counts = record.packets + 1, record.bytes + packet.length, max(record.seen, packet.nanos)
+    if record.seen != 0 and packet.nanos > record.seen + IDLE:
+        anew = first(packet, direction)
+        return Record(anew.state, anew.opener, *counts)
+    kind = class_of(packet)
     column = kind if kind in ("R", "S") else kind + (">" if direction == record.opener else "<")
     opens_again = kind == "S" and record.state in ("closed", "reset")
     return Record(
         NEXT[record.state, column],
         direction if opens_again else record.opener,
-        record.packets + 1,
-        record.bytes + packet.length,
+        *counts,
     )
 
 
@@ -302,6 +318,7 @@ def report(words, trace):
         states.append(
             f"state {proto} {print_end(flow.local)} {print_end(flow.remote)} {words.instance}"
             f" {record.state} {record.opener} packets {record.packets} bytes {record.bytes}"
+            + (f" seen {record.seen}" if record.seen != 0 else "")
         )
     count = len(trace.packets)
     lines = [

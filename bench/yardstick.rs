@@ -100,8 +100,26 @@ struct Record {
     key: Key,
     packets: u64,
     bytes: u64,
+    /// The greatest time of a packet in nanoseconds, or 0.
+    seen: u64,
     state: u8,
     opener_out: bool,
+}
+
+/// A flow without packets for longer than this begins anew.
+const IDLE: u64 = 300_000_000_000;
+
+/// The state that a first packet leaves, and whether the opener's packets go out.
+#[inline(always)]
+fn first_state(class: Class, out: bool) -> (u8, bool) {
+    match class {
+        Class::Reset => (RESET, out),
+        Class::Open => (OPENING, out),
+        Class::Answer => (ANSWERED, !out),
+        Class::Finish => (FINFWD, out),
+        Class::Other => (LOOSE, out),
+        Class::Datagram => (SINGLE, out),
+    }
 }
 
 /// The flows' records in the order in which they came, and a hash table of their places: a number from 1 on, and the
@@ -167,19 +185,12 @@ impl Table {
 
     /// Counts a packet and gives the state that it leads to.
     #[inline(always)]
-    fn step(&mut self, key: Key, out: bool, class: Class, length: u32) -> u8 {
+    fn step(&mut self, key: Key, out: bool, class: Class, length: u32, nanos: u64) -> u8 {
         let hash = self.hash_of(key);
         let slot = self.slot_of(key, hash);
         if self.slots[slot].0 == 0 {
-            let (state, opener_out) = match class {
-                Class::Reset => (RESET, out),
-                Class::Open => (OPENING, out),
-                Class::Answer => (ANSWERED, !out),
-                Class::Finish => (FINFWD, out),
-                Class::Other => (LOOSE, out),
-                Class::Datagram => (SINGLE, out),
-            };
-            self.records.push(Record { key, packets: 1, bytes: length as u64, state, opener_out });
+            let (state, opener_out) = first_state(class, out);
+            self.records.push(Record { key, packets: 1, bytes: length as u64, seen: nanos, state, opener_out });
             self.slots[slot] = (self.records.len() as u32, (hash >> 32) as u32);
             if self.records.len() * 2 > self.slots.len() {
                 self.grow();
@@ -187,11 +198,16 @@ impl Table {
             return state;
         }
         let record = &mut self.records[self.slots[slot].0 as usize - 1];
-        let forward = out == record.opener_out;
-        if class == Class::Open && (record.state == CLOSED || record.state == RESET) {
-            record.opener_out = out;
+        if record.seen != 0 && nanos.saturating_sub(record.seen) > IDLE {
+            (record.state, record.opener_out) = first_state(class, out);
+        } else {
+            let forward = out == record.opener_out;
+            if class == Class::Open && (record.state == CLOSED || record.state == RESET) {
+                record.opener_out = out;
+            }
+            record.state = NEXT[record.state as usize * 16 + class as usize * 2 + forward as usize];
         }
-        record.state = NEXT[record.state as usize * 16 + class as usize * 2 + forward as usize];
+        record.seen = record.seen.max(nanos);
         record.packets += 1;
         record.bytes += length as u64;
         record.state
@@ -350,9 +366,11 @@ fn run(trace: &str, inside: &Inside) -> io::Result<Run> {
         return refused("no capture");
     }
     let header = input.take(24);
-    let big = match header[..4] {
-        [0xa1, 0xb2, 0xc3, 0xd4] | [0xa1, 0xb2, 0x3c, 0x4d] => true,
-        [0xd4, 0xc3, 0xb2, 0xa1] | [0x4d, 0x3c, 0xb2, 0xa1] => false,
+    let (big, unit) = match header[..4] {
+        [0xa1, 0xb2, 0xc3, 0xd4] => (true, 1000),
+        [0xa1, 0xb2, 0x3c, 0x4d] => (true, 1),
+        [0xd4, 0xc3, 0xb2, 0xa1] => (false, 1000),
+        [0x4d, 0x3c, 0xb2, 0xa1] => (false, 1),
         _ => return refused("no capture"),
     };
     let number = |bytes: &[u8]| if big { four(bytes) } else { four(bytes).swap_bytes() };
@@ -363,7 +381,9 @@ fn run(trace: &str, inside: &Inside) -> io::Result<Run> {
     };
     let mut run = Run { table: Table::open(), states: Vec::with_capacity(1 << 12), skipped: 0, cut: false };
     while input.has(16)? {
-        let captured = number(&input.take(16)[8..]) as usize;
+        let head = input.take(16);
+        let nanos = number(head) as u64 * 1_000_000_000 + number(&head[4..]) as u64 * unit;
+        let captured = number(&head[8..]) as usize;
         if captured > 262_144 {
             return refused("record length");
         }
@@ -374,7 +394,7 @@ fn run(trace: &str, inside: &Inside) -> io::Result<Run> {
         match packet_of(input.take(captured), ethernet) {
             Some(packet) => {
                 let (key, out) = inside.flow_of(&packet);
-                run.states.push(run.table.step(key, out, packet.class, packet.length));
+                run.states.push(run.table.step(key, out, packet.class, packet.length, nanos));
             }
             None => run.skipped += 1,
         }
@@ -524,6 +544,10 @@ fn print(run: &mut Run, name: &str, output: &mut Output) -> io::Result<()> {
         output.number(record.packets);
         output.text(b" bytes ");
         output.number(record.bytes);
+        if record.seen != 0 {
+            output.text(b" seen ");
+            output.number(record.seen);
+        }
         output.text(b"\n");
     }
     output.text(b"tally ");
