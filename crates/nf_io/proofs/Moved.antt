@@ -1,6 +1,6 @@
 -- What several reads or writes in a row do together.
 use Rattle.std.proofs.lemmas.List.{length-take-le, take-append-drop, drop-drop}
-use Rattle.std.proofs.Common.{◌≡◌, ℕ, ◌+◌, ◌-◌, ◌≤◌, List, ◌++◌, Option, length, take, drop, ap, sym, ◌∙◌, subst, length-drop}
+use Rattle.std.proofs.Common.{◌≡◌, ℕ, ◌+◌, ◌-◌, ◌≤◌, List, ◌++◌, Option, length, take, drop, ap, sym, ◌∙◌, subst, length-drop, append-nil, None, Some}
 use Rattle.std.proofs.Math.Seq.{take-length, take-add, take-append_seam}
 use Rattle.std.specs.Io.KnownBytes.{Appends, Keeps}
 use Rattle.std.proofs.KnownBytes.{Appends-trans, Appends-kept}
@@ -39,3 +39,9 @@ front_moved xs ys piece tail taken n same is within =
     let front : take n (piece ++ tail) ≡ piece = ap (λ k. take k (piece ++ tail)) (sym len) ∙ take-append_seam piece tail in
     sym (take-append-drop n (drop taken xs)) ∙ ap (λ l. l ++ drop n (drop taken xs)) (sym from ∙ sym front)
     ∙ ap (λ l. take n (piece ++ tail) ++ l) (drop-drop n taken xs)
+
+-- of no bytes, none were appended
+pub appended_nothing : (a b : Option (List ℕ)) (bytes : List ℕ) (n : ℕ) → n ≡ 0 → Appends a b (take n bytes) → Keeps a b
+appended_nothing None b bytes n none p = tt
+appended_nothing (Some x) None bytes n none p = absurd p
+appended_nothing (Some x) (Some y) bytes n none p = p ∙ ap (λ m. x ++ take m bytes) none ∙ append-nil x

@@ -5,4 +5,6 @@ pub mod Tapes
 pub mod Planned
 pub mod Memory
 pub mod Calm
+pub mod System
+pub mod Streams
 pub mod Files

@@ -1,172 +1,118 @@
-ghost use Rattle.std.specs.Prelude.{◌≡◌, ◌<◌, ◌≤◌, Some, length, IfOk, IfSome};
+ghost use Rattle.std.specs.Prelude.{◌≡◌, ◌≢◌, ◌<◌, Some, None, length, IfOk, OnOk, OnErr};
+ghost use Rattle.std.specs.Io.{ReadsAtMost, WritesAtMost};
+ghost use Rattle.std.specs.Io.KnownBytes.{ReadConsumes, WriteAppends};
+ghost use Rattle.nf_io.specs.declared.outside.Role.{Role};
+ghost use Rattle.nf_io.specs.Meaning.{HasCause, OthersStay, CanRead, CanWrite, CanBind};
+ghost use Rattle.nf_io.specs.Files.{seen_of, untold, begun, told_in, views};
 
+use crate::named::{NamedFiles, read_role, write_role};
 use crate::outside::{Failed, Outside, Role};
-use crate::stream::Stream;
+use crate::system::{HostSystem, System};
 use basics::NoMemory;
 use std::alloc::Global;
 use std::rt::Files;
 
-/// How many roles there are.
-const ROLES: usize = 7;
-
-/// What is noted of one role.
+/// Named files, the standard output and the standard error, as a system has them.
+///
+/// It tells the trait's callers nothing of contents. But where the system tells what its files
+/// and streams hold, each call is known to give and take exactly the bytes of its role's own
+/// file or stream, in order and once (the clauses `told` and `told_others`).
 #[derive(Drop)]
-struct Mark {
-    faults: u64,
-    name: Option<String>,
-}
-
-impl Mark {
-    ghost use Rattle.nf_io.specs.Meaning.{HasCause};
-    ghost use Rattle.nf_io.specs.Files.{mark_meaning, untold};
-
-    fn new() -> Self
-        ensures { mark_meaning result ≡ untold }
-    {
-        Mark {
-            faults: 0,
-            name: None,
-        }
-    }
-
-    /// The file's name, empty for the roles that have none.
-    fn name(&self) -> &str {
-        match &self.name {
-            Some(name) => name.as_str(),
-            None => "",
-        }
-    }
-
-    /// Counts a fault where there is no answer.
-    fn judge(&mut self, answer: Option<usize>) -> Result<usize, Failed>
-        ensures answer { IfOk result (λ n. answer ≡ Some n) }
-        ensures cause { HasCause self.old.faults self.new.faults result }
-        ensures name { self.new.name ≡ self.old.name }
-    {
-        if answer.is_none() {
-            self.faults = self.faults.saturating_add(1);
-        }
-        answer.ok_or(Failed)
-    }
-}
-
-/// The files, the standard output and the standard error. It tells nothing of contents.
-#[derive(Drop)]
-pub struct FileOutside<R: Files + Print + Eprint + Drop> {
+pub struct FileOutside<S: System> {
     alloc: Global,
-    marks: [Mark; 7],
-    edge: Edge<R>,
+    faults: [u64; 7],
+    system: S,
+    files: NamedFiles<S::File>,
 }
 
-/// The runtime and the open files.
-#[derive(Drop)]
-struct Edge<R: Files + Print + Eprint + Drop> {
-    rt: R,
-    streams: Vec<Stream<R::File>>,
-}
-
-impl<R: Files + Print + Eprint + Drop> Edge<R> {
-    /// Takes bytes of a role, or None where the system refused.
-    #[inline(always)]
-    fn read(&mut self, role: Role, name: &str, buf: &mut [u8]) -> Option<usize>
-        ensures bound { IfSome result (λ n. n ≤ length buf.new) }
+impl<R: Files + Print + Eprint + Drop> FileOutside<HostSystem<R>> {
+    /// Over the system that the program runs on. No file is open, and no role has a name. This
+    /// takes no memory.
+    pub fn open(rt: R, alloc: Global) -> Self
+        ensures { (role : Role) → seen_of result.faults result.files role ≡ untold }
     {
-        let stream = self.streams.get_mut(role as usize)?;
-        if stream.is_used_up() {
-            stream.refill(&self.rt, name)?;
-        }
-        Some(stream.take(buf))
-    }
-
-    /// Writes bytes to a role, or None where the system refused.
-    fn write(&mut self, role: Role, name: &str, bytes: &[u8]) -> Option<usize>
-        ensures bound { IfSome result (λ n. n ≤ length bytes.now) }
-        ensures moves { 0 < length bytes.now → IfSome result (λ n. 0 < n) }
-    {
-        let written = match role {
-            Role::Report => self.rt.write_some(bytes).ok()?,
-            Role::Errors => self.complain(bytes)?,
-            _ => {
-                let stream = self.streams.get_mut(role as usize)?;
-                stream.write(&self.rt, name, bytes)?
-            }
-        };
-        if written == 0 && !bytes.is_empty() {
-            return None;
-        }
-        Some(written)
-    }
-
-    /// Writes a text to the standard error.
-    fn complain(&self, bytes: &[u8]) -> Option<usize>
-        ensures { IfSome result (λ n. n ≤ length bytes.now) }
-    {
-        let text = str::from_utf8(bytes).ok()?;
-        self.rt.eprint(text).ok()?;
-        Some(bytes.len())
-    }
-
-    /// Makes room for the role's file.
-    fn admit(&mut self, alloc: Global, role: Role) -> Result<(), NoMemory> {
-        for _ in self.streams.len()..ROLES {
-            self.streams.push(Stream::closed(alloc))?;
-        }
-        if let Some(stream) = self.streams.get_mut(role as usize) {
-            stream.prepare()?;
-        }
-        Ok(())
+        FileOutside::over(HostSystem { rt }, alloc)
     }
 }
 
-impl<R: Files + Print + Eprint + Drop> FileOutside<R> {
-    ghost use Rattle.nf_io.specs.declared.outside.Role.{Role};
-    ghost use Rattle.nf_io.specs.Files.{marks_seen, untold};
-
-    /// No file is open, and no role has a name. This takes no memory.
-    pub fn open(rt: R, alloc: Global) -> FileOutside<R>
-        ensures { (role : Role) → marks_seen result.marks role ≡ untold }
+impl<S: System> FileOutside<S> {
+    /// Over any system. No file is open, and no role has a name. This takes no memory.
+    pub fn over(system: S, alloc: Global) -> Self
+        ensures seen { (role : Role) → seen_of result.faults result.files role ≡ untold }
+        ensures system { result.system ≡ system }
     {
         FileOutside {
             alloc,
-            marks: [
-                Mark::new(),
-                Mark::new(),
-                Mark::new(),
-                Mark::new(),
-                Mark::new(),
-                Mark::new(),
-                Mark::new(),
-            ],
-            edge: Edge {
-                rt,
-                streams: Vec::new(alloc),
-            },
+            faults: [0; 7],
+            system,
+            files: NamedFiles::open(),
         }
     }
 }
 
-impl<R: Files + Print + Eprint + Drop> Outside for FileOutside<R> {
-    ghost use Rattle.nf_io.specs.Files.{marks_seen};
+/// Counts a fault where a call failed.
+fn count<T>(faults: &mut u64, answer: &Result<T, Failed>)
+    ensures { HasCause faults.old faults.new answer.now }
+{
+    if answer.is_err() {
+        *faults = faults.saturating_add(1);
+    }
+}
 
-    ghost seen = { λ outside. marks_seen outside.marks };
+impl<S: System> Outside for FileOutside<S> {
+    ghost seen = { λ outside. seen_of outside.faults outside.files };
 
-    fn bind(&mut self, role: Role, name: &str) -> Result<(), NoMemory> {
-        self.edge.admit(self.alloc, role)?;
-        let name = String::from_str(self.alloc, name)?;
-        self.marks[role as usize].name = Some(name);
-        Ok(())
+    fn bind(&mut self, role: Role, name: &str) -> Result<(), NoMemory>
+        requires { CanBind role (seen_of self.old.faults self.old.files role) }
+        ensures ok { OnOk result (seen_of self.new.faults self.new.files role ≡ record (seen_of self.old.faults self.old.files role) { name = Some name.now }) }
+        ensures err { OnErr result (seen_of self.new.faults self.new.files role ≡ seen_of self.old.faults self.old.files role) }
+        ensures others { OthersStay role (seen_of self.old.faults self.old.files) (seen_of self.new.faults self.new.files) }
+        ensures told { OnOk result (told_in (views S.File.Read.remaining S.File.Write.contents) (S.told self.new.system) self.new.files role
+            ≡ begun (S.told self.old.system) role name.now) }
+        ensures told_others { (other : Role) → other ≢ role →
+            told_in (views S.File.Read.remaining S.File.Write.contents) (S.told self.new.system) self.new.files other
+            ≡ told_in (views S.File.Read.remaining S.File.Write.contents) (S.told self.old.system) self.old.files other }
+    {
+        self.files.bind(self.alloc, role, name)
     }
 
     #[inline(always)]
-    fn read(&mut self, role: Role, buf: &mut [u8]) -> Result<usize, Failed> {
-        let mark = &mut self.marks[role as usize];
-        let taken = self.edge.read(role, mark.name(), buf);
-        mark.judge(taken)
+    fn read(&mut self, role: Role, buf: &mut [u8]) -> Result<usize, Failed>
+        requires { CanRead role (seen_of self.old.faults self.old.files role) }
+        ensures bound { ReadsAtMost result buf.new }
+        ensures bytes { ReadConsumes (seen_of self.old.faults self.old.files role).left (seen_of self.new.faults self.new.files role).left result buf.new }
+        ensures cause { HasCause (seen_of self.old.faults self.old.files role).faults (seen_of self.new.faults self.new.files role).faults result }
+        ensures written { (seen_of self.new.faults self.new.files role).written ≡ (seen_of self.old.faults self.old.files role).written }
+        ensures name { (seen_of self.new.faults self.new.files role).name ≡ (seen_of self.old.faults self.old.files role).name }
+        ensures others { OthersStay role (seen_of self.old.faults self.old.files) (seen_of self.new.faults self.new.files) }
+        ensures told { ReadConsumes (told_in (views S.File.Read.remaining S.File.Write.contents) (S.told self.old.system) self.old.files role)
+            (told_in (views S.File.Read.remaining S.File.Write.contents) (S.told self.new.system) self.new.files role) result buf.new }
+        ensures told_others { (other : Role) → other ≢ role →
+            told_in (views S.File.Read.remaining S.File.Write.contents) (S.told self.new.system) self.new.files other
+            ≡ told_in (views S.File.Read.remaining S.File.Write.contents) (S.told self.old.system) self.old.files other }
+    {
+        let answer = read_role(&self.system, &mut self.files, role, buf);
+        count(&mut self.faults[role as usize], &answer);
+        answer
     }
 
-    fn write(&mut self, role: Role, bytes: &[u8]) -> Result<usize, Failed> {
-        let mark = &mut self.marks[role as usize];
-        let written = self.edge.write(role, mark.name(), bytes);
-        mark.judge(written)
+    fn write(&mut self, role: Role, bytes: &[u8]) -> Result<usize, Failed>
+        requires { CanWrite role (seen_of self.old.faults self.old.files role) }
+        ensures bound { WritesAtMost result bytes.now }
+        ensures moves { 0 < length bytes.now → IfOk result (λ n. 0 < n) }
+        ensures bytes { WriteAppends (seen_of self.old.faults self.old.files role).written (seen_of self.new.faults self.new.files role).written result bytes.now }
+        ensures cause { HasCause (seen_of self.old.faults self.old.files role).faults (seen_of self.new.faults self.new.files role).faults result }
+        ensures left { (seen_of self.new.faults self.new.files role).left ≡ (seen_of self.old.faults self.old.files role).left }
+        ensures name { (seen_of self.new.faults self.new.files role).name ≡ (seen_of self.old.faults self.old.files role).name }
+        ensures others { OthersStay role (seen_of self.old.faults self.old.files) (seen_of self.new.faults self.new.files) }
+        ensures told { WriteAppends (told_in (views S.File.Read.remaining S.File.Write.contents) (S.told self.old.system) self.old.files role)
+            (told_in (views S.File.Read.remaining S.File.Write.contents) (S.told self.new.system) self.new.files role) result bytes.now }
+        ensures told_others { (other : Role) → other ≢ role →
+            told_in (views S.File.Read.remaining S.File.Write.contents) (S.told self.new.system) self.new.files other
+            ≡ told_in (views S.File.Read.remaining S.File.Write.contents) (S.told self.old.system) self.old.files other }
+    {
+        let answer = write_role(&mut self.system, &mut self.files, role, bytes);
+        count(&mut self.faults[role as usize], &answer);
+        answer
     }
 }

@@ -9,10 +9,14 @@
 pub mod calm;
 pub mod file;
 pub mod memory;
+mod named;
 pub mod outside;
 mod planned;
+mod read_ahead;
+mod retry;
 mod stream;
 pub mod streams;
+pub mod system;
 mod tape;
 pub mod transfers;
 
@@ -21,7 +25,10 @@ pub use file::FileOutside;
 pub use memory::MemoryOutside;
 pub use outside::{Failed, Outside, Role};
 pub use streams::{RoleSink, RoleSource, Sink, Source};
+pub use system::{HostSystem, System};
 pub use transfers::{UptoFault, read_upto, write_all};
 
+#[cfg(test)]
+mod file_tests;
 #[cfg(test)]
 mod tests;

@@ -1,89 +1,106 @@
-ghost use Rattle.std.specs.Prelude.{◌≤◌, ◌<◌, ◌≡◌, length, vec_len, IfSome};
+//! A named file, which is opened or made where it is first used.
+ghost use Rattle.std.specs.Prelude.{◌≡◌, [], None, IfOk, OnOk, string_bytes};
+ghost use Rattle.std.specs.Io.{ReadsAtMost, WritesAtMost};
+ghost use Rattle.std.specs.Io.KnownBytes.{Keeps, IsAtEnd, ReadConsumes, WriteAppends};
+ghost use Rattle.nf_io.specs.Streams.{held, stream_left, stream_written};
 
+use crate::outside::Failed;
+use crate::read_ahead::ReadAhead;
+use crate::retry::write_retrying;
+use crate::system::System;
 use basics::NoMemory;
 use std::alloc::Global;
-use std::fs;
-use std::io::{Read, Write};
-use std::rt::Files;
 
-/// How many bytes are read ahead of a file.
-const AHEAD: usize = 65_536;
-
-/// A named file: it is opened where it is first used. `ahead[start..end]` is read and not yet
-/// taken.
 #[derive(Drop)]
 pub(crate) struct Stream<F> {
+    name: String,
     file: Option<F>,
-    ahead: Vec<u8>,
-    start: usize,
-    end: usize,
-    ghost ordered: { start ≤ end },
-    ghost in_ahead: { end ≤ vec_len ahead },
+    ahead: ReadAhead,
 }
 
-impl<F: Read + Write + Drop> Stream<F> {
-    /// A file that isn't open, with no room to read ahead. This takes no memory.
-    pub(crate) fn closed(alloc: Global) -> Self {
-        Stream {
+impl<F> Stream<F> {
+    /// A file of this name, which isn't open yet.
+    pub(crate) fn bind(alloc: Global, name: &str) -> Result<Self, NoMemory>
+        ensures name { IfOk result (λ stream. string_bytes stream.name ≡ name.now) }
+        ensures closed { IfOk result (λ stream. stream.file ≡ None) }
+        ensures held { IfOk result (λ stream. held stream.ahead ≡ []) }
+    {
+        let name = String::from_str(alloc, name)?;
+        let ahead = ReadAhead::open(alloc)?;
+        Ok(Stream {
+            name,
             file: None,
-            ahead: Vec::new(alloc),
-            start: 0,
-            end: 0,
-        }
+            ahead,
+        })
     }
+}
 
-    /// Makes room to read ahead.
-    pub(crate) fn prepare(&mut self) -> Result<(), NoMemory> {
-        if self.ahead.is_empty() {
-            self.ahead.resize(AHEAD, 0)?;
-        }
-        Ok(())
+/// Takes the next bytes of the file into the front of a buffer.
+#[inline(always)]
+pub(crate) fn read_stream<S: System>(
+    system: &S,
+    stream: &mut Stream<S::File>,
+    buf: &mut [u8],
+) -> Result<usize, Failed>
+    ensures bound { ReadsAtMost result buf.new }
+    ensures bytes { ReadConsumes (stream_left S.File.Read.remaining (S.told system.now) stream.old)
+        (stream_left S.File.Read.remaining (S.told system.now) stream.new) result buf.new }
+    ensures name { stream.new.name ≡ stream.old.name }
+{
+    if stream.ahead.is_empty() {
+        refill(system, stream)?;
     }
+    Ok(stream.ahead.take(buf))
+}
 
-    /// Whether all that was read ahead is taken.
-    pub(crate) fn is_used_up(&self) -> bool {
-        self.start == self.end
+/// Reads ahead. It stands apart, so that what `read_stream` inlines stays small.
+#[cold]
+#[inline(never)]
+fn refill<S: System>(system: &S, stream: &mut Stream<S::File>) -> Result<(), Failed>
+    requires { held stream.old.ahead ≡ [] }
+    ensures bytes { Keeps (stream_left S.File.Read.remaining (S.told system.now) stream.old)
+        (stream_left S.File.Read.remaining (S.told system.now) stream.new) }
+    ensures end { OnOk result (held stream.new.ahead ≡ [] →
+        IsAtEnd (stream_left S.File.Read.remaining (S.told system.now) stream.new)) }
+    ensures name { stream.new.name ≡ stream.old.name }
+{
+    let mut file = match stream.file.take() {
+        Some(file) => file,
+        None => match system.open(stream.name.as_str()) {
+            Ok(file) => file,
+            Err(_) => return Err(Failed),
+        },
+    };
+    let answer = stream.ahead.refill(&mut file);
+    stream.file = Some(file);
+    match answer {
+        Ok(()) => Ok(()),
+        Err(_) => Err(Failed),
     }
+}
 
-    /// Reads ahead, or answers None where the system refuses. It stands apart, so that what `read` inlines stays small.
-    #[cold]
-    #[inline(never)]
-    pub(crate) fn refill<R: Files<File = F>>(&mut self, files: &R, name: &str) -> Option<()> {
-        if self.file.is_none() {
-            self.file = Some(fs::open(files, name).ok()?);
-        }
-        let file = self.file.as_mut()?;
-        self.start = 0;
-        self.end = 0;
-        self.end = file.read(&mut self.ahead).ok()?;
-        Some(())
-    }
-
-    /// Takes what was read ahead into the front of a buffer.
-    pub(crate) fn take(&mut self, buf: &mut [u8]) -> usize
-        ensures { result ≤ length buf.new }
-    {
-        let ahead = &self.ahead[self.start..self.end];
-        let n = buf.len().min(ahead.len());
-        buf[..n].copy_from_slice(&ahead[..n]);
-        self.start += n;
-        n
-    }
-
-    /// Writes bytes, or answers None where the system refuses. The first call makes or empties
-    /// the file.
-    pub(crate) fn write<R: Files<File = F>>(
-        &mut self,
-        files: &R,
-        name: &str,
-        bytes: &[u8],
-    ) -> Option<usize>
-        ensures { IfSome result (λ n. n ≤ length bytes.now) }
-    {
-        if self.file.is_none() {
-            self.file = Some(fs::create(files, name).ok()?);
-        }
-        let file = self.file.as_mut()?;
-        file.write(bytes).ok()
+/// Appends a front of the bytes to the file.
+pub(crate) fn write_stream<S: System>(
+    system: &S,
+    stream: &mut Stream<S::File>,
+    bytes: &[u8],
+) -> Result<usize, Failed>
+    ensures bound { WritesAtMost result bytes.now }
+    ensures bytes { WriteAppends (stream_written S.File.Write.contents (S.told system.now) stream.old)
+        (stream_written S.File.Write.contents (S.told system.now) stream.new) result bytes.now }
+    ensures name { stream.new.name ≡ stream.old.name }
+{
+    let mut file = match stream.file.take() {
+        Some(file) => file,
+        None => match system.create(stream.name.as_str()) {
+            Ok(file) => file,
+            Err(_) => return Err(Failed),
+        },
+    };
+    let answer = write_retrying(&mut file, bytes);
+    stream.file = Some(file);
+    match answer {
+        Ok(n) => Ok(n),
+        Err(_) => Err(Failed),
     }
 }
