@@ -27,6 +27,36 @@ pub trait Function {
 
     const KIND: Kind;
 
+    /// Which function it is.
+    final fn which() -> Kind
+        ensures { result ≡ semantics.kind }
+    {
+        Self::KIND
+    }
+
+    /// The unit of a flow: the flow itself, or its local host.
+    final fn unit(flow: &Flow) -> Unit
+        ensures { result ≡ unit_of semantics.kind flow.now }
+    {
+        Self::KIND.unit_of(flow)
+    }
+
+    /// Takes a packet into what is kept of its unit, and gives the output.
+    final fn step(
+        alloc: Global,
+        site: &Site,
+        kept: &mut Option<Self::Record>,
+        packet: &Packet,
+    ) -> Result<Output, NoMemory>
+        ensures kept { OnOk result (kept.new ≡ kept_after semantics site.now kept.old packet.now) }
+        ensures output { IfOk result (λ output. output ≡ output_for semantics site.now kept.old packet.now) }
+        ensures sound { let unit = unit_of semantics.kind (flow_of site.now packet.now).0 in is_sound semantics unit kept.old ≡ true → is_sound semantics unit kept.new ≡ true }
+        ensures err { OnErr result (kept.new ≡ kept.old) }
+    {
+        let (flow, way) = flow_of(site, packet);
+        Self::step_along(alloc, site, flow, way, kept, packet)
+    }
+
     /// Takes a packet into what is kept of its unit, and gives the output. The packet's flow and the way that it goes are
     /// at hand.
     fn step_along(
@@ -44,6 +74,16 @@ pub trait Function {
         // What is valid for its unit stays so.
         ensures sound { is_sound semantics (unit_of semantics.kind flow) kept.old ≡ true → is_sound semantics (unit_of semantics.kind flow) kept.new ≡ true }
         ensures err { OnErr result (kept.new ≡ kept.old) };
+
+    /// The bytes that a record is stored as.
+    final fn write_record(alloc: Global, kept: &Self::Record) -> Result<Bytes, NoMemory>
+        ensures { IfOk result (λ bytes. bytes ≡ semantics.body_of kept.now) }
+    {
+        let room = usize::from(Self::body_length(kept));
+        let mut bytes = Bytes::from_vec(Vec::with_capacity(alloc, room)?);
+        Self::push_body(&mut bytes, kept)?;
+        Ok(bytes)
+    }
 
     /// How many bytes a record is stored as.
     fn body_length(kept: &Self::Record) -> u16
@@ -69,47 +109,6 @@ pub trait Function {
     fn copy(alloc: Global, kept: &Self::Record) -> Result<Self::Record, NoMemory>
         ensures { IfOk result (λ other. other ≡ kept.now) };
 
-    /// Puts the text of an output after a text. After a refusal a part of it may stand there.
-    fn push_output(text: &mut Text, output: &Output) -> Result<(), NoMemory>
-        ensures { OnOk result (text.new ≡ text.old ++ semantics.output_text output.now) };
-
-    /// Puts the text of a record after a text. After a refusal a part of it may stand there.
-    fn push_record(text: &mut Text, kept: &Self::Record) -> Result<(), NoMemory>
-        ensures { OnOk result (text.new ≡ text.old ++ semantics.record_text kept.now) };
-
-    /// The unit of a flow: the flow itself, or its local host.
-    final fn unit(flow: &Flow) -> Unit
-        ensures { result ≡ unit_of semantics.kind flow.now }
-    {
-        Self::KIND.unit_of(flow)
-    }
-
-    /// Takes a packet into what is kept of its unit, and gives the output.
-    final fn step(
-        alloc: Global,
-        site: &Site,
-        kept: &mut Option<Self::Record>,
-        packet: &Packet,
-    ) -> Result<Output, NoMemory>
-        ensures kept { OnOk result (kept.new ≡ kept_after semantics site.now kept.old packet.now) }
-        ensures output { IfOk result (λ output. output ≡ output_for semantics site.now kept.old packet.now) }
-        ensures sound { let unit = unit_of semantics.kind (flow_of site.now packet.now).0 in is_sound semantics unit kept.old ≡ true → is_sound semantics unit kept.new ≡ true }
-        ensures err { OnErr result (kept.new ≡ kept.old) }
-    {
-        let (flow, way) = flow_of(site, packet);
-        Self::step_along(alloc, site, flow, way, kept, packet)
-    }
-
-    /// The bytes that a record is stored as.
-    final fn write_record(alloc: Global, kept: &Self::Record) -> Result<Bytes, NoMemory>
-        ensures { IfOk result (λ bytes. bytes ≡ semantics.body_of kept.now) }
-    {
-        let room = usize::from(Self::body_length(kept));
-        let mut bytes = Bytes::from_vec(Vec::with_capacity(alloc, room)?);
-        Self::push_body(&mut bytes, kept)?;
-        Ok(bytes)
-    }
-
     /// The text of an output.
     final fn print_output(alloc: Global, output: &Output) -> Result<Text, NoMemory>
         ensures { IfOk result (λ text. text ≡ semantics.output_text output.now) }
@@ -119,6 +118,10 @@ pub trait Function {
         Ok(text)
     }
 
+    /// Puts the text of an output after a text. After a refusal a part of it may stand there.
+    fn push_output(text: &mut Text, output: &Output) -> Result<(), NoMemory>
+        ensures { OnOk result (text.new ≡ text.old ++ semantics.output_text output.now) };
+
     /// The text of a record.
     final fn print_record(alloc: Global, kept: &Self::Record) -> Result<Text, NoMemory>
         ensures { IfOk result (λ text. text ≡ semantics.record_text kept.now) }
@@ -127,6 +130,10 @@ pub trait Function {
         Self::push_record(&mut text, kept)?;
         Ok(text)
     }
+
+    /// Puts the text of a record after a text. After a refusal a part of it may stand there.
+    fn push_record(text: &mut Text, kept: &Self::Record) -> Result<(), NoMemory>
+        ensures { OnOk result (text.new ≡ text.old ++ semantics.record_text kept.now) };
 
     ghost same_kind: { KIND ≡ semantics.kind };
 

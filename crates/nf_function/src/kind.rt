@@ -1,7 +1,7 @@
 ghost use Rattle.std.specs.Prelude.{◌≡◌, ◌||◌, is_some};
 ghost use Rattle.std.specs.Bool.{OnFalse};
 ghost use Rattle.flow_filter.specs.FilterText.{fields_of};
-ghost use Rattle.nf_function.specs.Units.{has_hosts, unit_of, gives_more_than_local, splits, TakesWhole};
+ghost use Rattle.nf_function.specs.Units.{has_hosts, has_times, unit_of, gives_more_than_local, splits, TakesWhole};
 
 use crate::unit::Unit;
 use flow_filter::{Filter, Flow};
@@ -34,6 +34,13 @@ impl Kind {
         ensures { result ≡ has_hosts self }
     {
         !matches!(self, Kind::Conntrack)
+    }
+
+    /// Whether the function's records hold a time.
+    pub fn has_times(self) -> bool
+        ensures { result ≡ has_times self }
+    {
+        matches!(self, Kind::Conntrack)
     }
 
     /// The unit that a flow belongs to: the flow itself, or its local host.

@@ -1,0 +1,4 @@
+pub mod ReadLemmas
+pub mod KeyLemmas
+pub mod PartLemmas
+pub mod RecordLemmas
