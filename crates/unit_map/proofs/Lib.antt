@@ -1,0 +1,3 @@
+pub mod EntryLemmas
+pub mod SlotLemmas
+pub mod SoundnessLemmas

@@ -1,0 +1,4 @@
+pub mod Entries
+pub mod Notes
+pub mod Soundness
+pub mod Lending
