@@ -55,11 +55,11 @@ spelled body = do
   state ← first_byte body
   named ← state_of state.0
   opener ← first_byte state.1
-  way ← direction_of opener.0
+  direction ← direction_of opener.0
   packets ← first_number 8 opener.1
   bytes ← first_number 8 packets.1
   seen ← seen_in bytes.1
-  Some (record { packets = packets.0; bytes = bytes.0; seen = seen; state = named; opener = way })
+  Some (record { packets = packets.0; bytes = bytes.0; seen = seen; state = named; opener = direction })
 
 -- the record, where it is valid for the unit
 abbrev pub valid_only : units.Unit → TrackRecord → Option TrackRecord

@@ -85,7 +85,7 @@ state_of-number_of Loose = refl
 state_of-number_of Single = refl
 state_of-number_of Both = refl
 
-direction_of-direction_number : (way : Direction) → direction_of (direction_number way) ≡ Some way
+direction_of-direction_number : (direction : Direction) → direction_of (direction_number direction) ≡ Some direction
 direction_of-direction_number Out = refl
 direction_of-direction_number In = refl
 
@@ -130,7 +130,7 @@ pub known_by_body : (u v : units.Unit) (a b : TrackRecord) → is_valid u a ≡ 
 known_by_body u v a b p q same =
     let both : Some a ≡ Some b = sym (spelled-body_of a (within u a p)) ∙ ap spelled same ∙ spelled-body_of b (within v b q) in cc
 
--- what state and way bytes name
+-- what state and direction bytes name
 number_of-state : (n : ℕ) (s : State) → state_of n ≡ Some s → number_of s ≡ n
 number_of-state zero s h = let is : Opening ≡ s = cc in rw (← is) refl
 number_of-state (suc zero) s h = let is : Answered ≡ s = cc in rw (← is) refl
@@ -144,10 +144,10 @@ number_of-state (suc (suc (suc (suc (suc (suc (suc (suc zero)))))))) s h = let i
 number_of-state (suc (suc (suc (suc (suc (suc (suc (suc (suc zero))))))))) s h = let is : Both ≡ s = cc in rw (← is) refl
 number_of-state (suc (suc (suc (suc (suc (suc (suc (suc (suc (suc n)))))))))) s h = cc
 
-direction_number-direction : (n : ℕ) (way : Direction) → direction_of n ≡ Some way → direction_number way ≡ n
-direction_number-direction zero way h = let is : Out ≡ way = cc in rw (← is) refl
-direction_number-direction (suc zero) way h = let is : In ≡ way = cc in rw (← is) refl
-direction_number-direction (suc (suc n)) way h = cc
+direction_number-direction : (n : ℕ) (direction : Direction) → direction_of n ≡ Some direction → direction_number direction ≡ n
+direction_number-direction zero direction h = let is : Out ≡ direction = cc in rw (← is) refl
+direction_number-direction (suc zero) direction h = let is : In ≡ direction = cc in rw (← is) refl
+direction_number-direction (suc (suc n)) direction h = cc
 
 -- the bytes that a time was read from
 seen_bytes-time : (rest : List ℕ) (n : ℕ) → IsBytes rest → seen_in rest ≡ Some n → seen_bytes n ≡ rest
@@ -167,13 +167,13 @@ seen_bytes-time (byte ∷ more) n are h =
     stored m (b ∷ tail) last first = cc
 
 -- the parts of a body, joined
-joined : (s w : ℕ) (named : State) (way : Direction) (packets bytes seen : ℕ) (rest more last : List ℕ) (r : TrackRecord)
-    → number_of named ≡ s → direction_number way ≡ w → rest ≡ number_bytes 8 packets ++ more → more ≡ number_bytes 8 bytes ++ last → seen_bytes seen ≡ last
-    → Some (record { packets = packets; bytes = bytes; seen = seen; state = named; opener = way }) ≡ Some r
+joined : (s w : ℕ) (named : State) (direction : Direction) (packets bytes seen : ℕ) (rest more last : List ℕ) (r : TrackRecord)
+    → number_of named ≡ s → direction_number direction ≡ w → rest ≡ number_bytes 8 packets ++ more → more ≡ number_bytes 8 bytes ++ last → seen_bytes seen ≡ last
+    → Some (record { packets = packets; bytes = bytes; seen = seen; state = named; opener = direction }) ≡ Some r
     → body_of r ≡ s ∷ w ∷ rest
 unfolding body_of
-joined s w named way packets bytes seen rest more last r is_s is_w is_rest is_more is_last is =
-    let same : record { packets = packets; bytes = bytes; seen = seen; state = named; opener = way } ≡ r = cc in
+joined s w named direction packets bytes seen rest more last r is_s is_w is_rest is_more is_last is =
+    let same : record { packets = packets; bytes = bytes; seen = seen; state = named; opener = direction } ≡ r = cc in
     rw (← same, is_s, is_w, is_last, is_rest, is_more) (ap (λ (t : List ℕ). s ∷ w ∷ t) (append_assoc (number_bytes 8 packets) (number_bytes 8 bytes) last))
 
 -- the bytes that a record was read from are those that it is stored as
@@ -183,14 +183,14 @@ body_of-spelled [] r are h = cc
 body_of-spelled (s ∷ []) r are h = option_and_then_some _ (state_of s) r h (λ state named none. cc)
 body_of-spelled (s ∷ w ∷ rest) r are h =
     option_and_then_some _ (state_of s) r h (λ named is_named h1.
-    option_and_then_some _ (direction_of w) r h1 (λ way is_way h2.
+    option_and_then_some _ (direction_of w) r h1 (λ direction is_way h2.
     option_and_then_some _ (first_number 8 rest) r h2 (λ packets read_packets h3.
     option_and_then_some _ (first_number 8 packets.1) r h3 (λ bytes read_bytes h4.
     option_and_then_some _ (seen_in bytes.1) r h4 (λ seen read_seen last.
     let first = first_number-some 8 rest packets.0 packets.1 (IsBytes-tail w rest (IsBytes-tail s (w ∷ rest) are)) read_packets in
     let second = first_number-some 8 packets.1 bytes.0 bytes.1 first.rest_bytes read_bytes in
     let third = seen_bytes-time bytes.1 seen second.rest_bytes read_seen in
-    joined s w named way packets.0 bytes.0 seen rest packets.1 bytes.1 r (number_of-state s named is_named) (direction_number-direction w way is_way)
+    joined s w named direction packets.0 bytes.0 seen rest packets.1 bytes.1 r (number_of-state s named is_named) (direction_number-direction w direction is_way)
     first.spelled second.spelled third last)))))
 
 -- what is read is valid, and stored as the same bytes

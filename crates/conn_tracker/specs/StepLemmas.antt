@@ -21,7 +21,7 @@ use Rattle.conn_tracker.specs.declared.class.Class.{Class}
 use Rattle.conn_tracker.specs.declared.class.Class.TheVariants.{Rst, SynAck, Syn, Fin, Other}
 use Rattle.conn_tracker.specs.declared.state.State.{State}
 use Rattle.conn_tracker.specs.declared.state.State.TheVariants.{Opening, Answered, Established, FinFwd, FinRev, Closed, Reset, Loose, Single, Both}
-use Rattle.conn_tracker.specs.Table.{Row, row, cell, class_of, first_tcp, first_state, first_record, next_udp, next_state, next_record, is_idle, is_same_way, is_udp_state, stepped}
+use Rattle.conn_tracker.specs.Table.{Row, row, cell, class_of, first_tcp, first_state, first_record, next_udp, next_state, next_record, is_idle, is_same_direction, is_udp_state, stepped}
 use Rattle.conn_tracker.specs.Body.{is_valid, suits}
 use Rattle.conn_tracker.specs.Conntrack.{conntrack}
 use Rattle.conn_tracker.specs.BodyLemmas.{IsValid, valid_facts, valid_from, record_in-body_of, record_in-some, known_by_body, length-body_of}
@@ -106,12 +106,12 @@ record IsOf (f : Flow) (p : Packet) : Type 0 where
   length : p.length < 2 ^ 32
 
 -- the first packet of a flow leaves a valid record
-first_valid : (f : Flow) (p : Packet) (way : Direction) → IsOf f p → is_valid (OfFlow f) (first_record p way) ≡ true
-first_valid f p way of =
+first_valid : (f : Flow) (p : Packet) (direction : Direction) → IsOf f p → is_valid (OfFlow f) (first_record p direction) ≡ true
+first_valid f p direction of =
     let time : p.nanos < 2 ^ 64 = of.nanos in
     let long : p.length < 2 ^ 32 = of.length in
     let proto : f.proto ≡ p.proto = of.proto in
-    valid_from f (first_record p way) (record {
+    valid_from f (first_record p direction) (record {
       flow = of.flow;
       counted = omega arith;
       fits = rw proto (suits_first (is_tcp p.proto) (class_of p.flags));
@@ -121,20 +121,20 @@ first_valid f p way of =
     })
 
 -- a further packet leaves a valid record
-next_valid : (f : Flow) (r : TrackRecord) (p : Packet) (way : Direction) → IsOf f p → is_valid (OfFlow f) r ≡ true
-    → is_valid (OfFlow f) (next_record r p way) ≡ true
-next_valid f r p way of h =
+next_valid : (f : Flow) (r : TrackRecord) (p : Packet) (direction : Direction) → IsOf f p → is_valid (OfFlow f) r ≡ true
+    → is_valid (OfFlow f) (next_record r p direction) ≡ true
+next_valid f r p direction of h =
     let v = valid_facts f r h in
     let time : p.nanos < 2 ^ 64 = of.nanos in
     let proto : f.proto ≡ p.proto = of.proto in
     let one : 1 ≤ r.packets = v.counted in
     let seen : r.seen < 2 ^ 64 = v.seen in
     let suited : suits p.proto r.state ≡ true = rw (← proto) v.fits in
-    valid_from f (next_record r p way) (record {
+    valid_from f (next_record r p direction) (record {
       flow = of.flow;
       counted = omega arith;
-      fits = rw proto (suits_cond p.proto (is_idle r p) (first_state p) (next_state r p way) (suits_first (is_tcp p.proto) (class_of p.flags))
-          (suits_next (is_tcp p.proto) (class_of p.flags) (is_same_way way r.opener) r.state suited));
+      fits = rw proto (suits_cond p.proto (is_idle r p) (first_state p) (next_state r p direction) (suits_first (is_tcp p.proto) (class_of p.flags))
+          (suits_next (is_tcp p.proto) (class_of p.flags) (is_same_direction direction r.opener) r.state suited));
       packets = omega arith;
       bytes = omega arith;
       seen = omega arith;

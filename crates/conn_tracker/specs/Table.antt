@@ -26,7 +26,7 @@ class_of flags =
     else if has flags 1 then Fin
     else Other
 
--- a row of the table: the states that follow one state. Forward packets go the opener's way, reverse ones the other.
+-- a row of the table: the states that follow one state. Forward packets go in the opener's direction, reverse ones the other.
 pub record Row : Type 0 where
   pub rst : State
   pub syn : State
@@ -73,7 +73,7 @@ cell Fin false w = w.fin_reverse
 cell Other true w = w.other_forward
 cell Other false w = w.other_reverse
 
--- the table of UDP: one way, and then both ways. The states of TCP don't meet a UDP packet, and stay.
+-- the table of UDP: one direction, and then both ways. The states of TCP don't meet a UDP packet, and stay.
 abbrev pub next_udp : Bool → State → State
 next_udp false Single = Both
 next_udp forward state = state
@@ -92,33 +92,33 @@ first_tcp Syn = Opening
 first_tcp Fin = FinFwd
 first_tcp Other = Loose
 
-abbrev pub is_same_way : Direction → Direction → Bool
-is_same_way Out Out = true
-is_same_way In In = true
-is_same_way a b = false
+abbrev pub is_same_direction : Direction → Direction → Bool
+is_same_direction Out Out = true
+is_same_direction In In = true
+is_same_direction a b = false
 
-abbrev pub other_way : Direction → Direction
-other_way Out = In
-other_way In = Out
+abbrev pub opposite : Direction → Direction
+opposite Out = In
+opposite In = Out
 
 -- a SYN with an ACK answers an opener that wasn't seen
 abbrev pub first_opener : Class → Direction → Direction
-first_opener SynAck way = other_way way
-first_opener class way = way
+first_opener SynAck direction = opposite direction
+first_opener class direction = direction
 
 -- the state of a flow whose first packet this is
 abbrev pub first_state : Packet → State
 first_state p = if is_tcp p.proto then first_tcp (class_of p.flags) else Single
 
--- the opener of a flow whose first packet this is, which goes `way`
-abbrev pub first_way : Packet → Direction → Direction
-first_way p way = if is_tcp p.proto then first_opener (class_of p.flags) way else way
+-- the opener of a flow whose first packet this is, which goes in `direction`
+abbrev pub opener_of_first : Packet → Direction → Direction
+opener_of_first p direction = if is_tcp p.proto then first_opener (class_of p.flags) direction else direction
 
--- the record of a flow's first packet, which goes `way`
+-- the record of a flow's first packet, which goes in `direction`
 abbrev pub first_record : Packet → Direction → TrackRecord
-first_record p way = record {
+first_record p direction = record {
   state = first_state p;
-  opener = first_way p way;
+  opener = opener_of_first p direction;
   packets = 1;
   bytes = p.length;
   seen = p.nanos;
@@ -132,21 +132,21 @@ idle_nanos = 300 * 10 ^ 9
 abbrev pub is_idle : TrackRecord → Packet → Bool
 is_idle r p = nat_le 1 r.seen && nat_lt idle_nanos (p.nanos - r.seen)
 
--- the state that a further packet leaves, which goes `way`
+-- the state that a further packet leaves, which goes in `direction`
 abbrev pub next_state : TrackRecord → Packet → Direction → State
-next_state r p way =
-    if is_tcp p.proto then cell (class_of p.flags) (is_same_way way r.opener) (row r.state)
-    else next_udp (is_same_way way r.opener) r.state
+next_state r p direction =
+    if is_tcp p.proto then cell (class_of p.flags) (is_same_direction direction r.opener) (row r.state)
+    else next_udp (is_same_direction direction r.opener) r.state
 
--- the opener after a further packet, which goes `way`
-abbrev pub next_way : TrackRecord → Packet → Direction → Direction
-next_way r p way = if is_tcp p.proto && restarts r.state (class_of p.flags) then way else r.opener
+-- the opener after a further packet, which goes in `direction`
+abbrev pub next_opener : TrackRecord → Packet → Direction → Direction
+next_opener r p direction = if is_tcp p.proto && restarts r.state (class_of p.flags) then direction else r.opener
 
--- the record after a further packet, which goes `way`. Where the record is idle, the flow begins anew, and the counts go on.
+-- the record after a further packet, which goes in `direction`. Where the record is idle, the flow begins anew, and the counts go on.
 abbrev pub next_record : TrackRecord → Packet → Direction → TrackRecord
-next_record r p way = record {
-  state = if is_idle r p then first_state p else next_state r p way;
-  opener = if is_idle r p then first_way p way else next_way r p way;
+next_record r p direction = record {
+  state = if is_idle r p then first_state p else next_state r p direction;
+  opener = if is_idle r p then opener_of_first p direction else next_opener r p direction;
   packets = count r.packets 1;
   bytes = count r.bytes p.length;
   seen = max r.seen p.nanos;

@@ -48,10 +48,10 @@ fn push_time(bytes: &mut Bytes, seen: u64) -> Result<(), NoMemory>
     push_u64(bytes, seen)
 }
 
-fn direction_number(way: Direction) -> u8
-    ensures { result ≡ direction_number way }
+fn direction_number(direction: Direction) -> u8
+    ensures { result ≡ direction_number direction }
 {
-    match way {
+    match direction {
         Direction::Out => 0,
         Direction::In => 1,
     }

@@ -29,13 +29,13 @@ impl Function for Conntrack {
         _alloc: Global,
         _site: &Site,
         _flow: Flow,
-        way: Direction,
+        direction: Direction,
         kept: &mut Option<TrackRecord>,
         packet: &Packet,
     ) -> Result<Output, NoMemory> {
         let next = match kept {
-            None => first_record(packet, way),
-            Some(before) => record_after(before, packet, way),
+            None => first_record(packet, direction),
+            Some(before) => record_after(before, packet, direction),
         };
         if is_transport(packet.proto) {
             *kept = Some(next);

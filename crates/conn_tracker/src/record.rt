@@ -14,7 +14,7 @@ pub struct TrackRecord {
     /// The greatest time of a packet, in nanoseconds; 0 means that none is known.
     pub seen: u64,
     pub state: State,
-    /// The way that the opener's packets go.
+    /// The direction in which the opener's packets go.
     pub opener: Direction,
 }
 

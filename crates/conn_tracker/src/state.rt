@@ -4,7 +4,7 @@ ghost use Rattle.conn_tracker.specs.declared.class.Class.TheVariants.{Fin};
 
 use crate::class::Class;
 
-/// How far a connection has come. Packets that go the opener's way are forward, the others reverse.
+/// How far a connection has come. Packets that go in the opener's direction are forward, the others reverse.
 #[derive(Clone, Copy, Debug, PartialEq, Eq)]
 pub enum State {
     /// TCP: the opener asked.
@@ -23,7 +23,7 @@ pub enum State {
     Reset,
     /// TCP: the opening wasn't seen.
     Loose,
-    /// UDP: packets one way.
+    /// UDP: packets in one direction.
     Single,
     /// UDP: packets both ways.
     Both,

@@ -45,10 +45,10 @@ fn push_seen(text: &mut Text, seen: u64) -> Result<(), NoMemory>
     text.push_decimal(seen)
 }
 
-fn way_name(way: Direction) -> &'static str
-    ensures { result.now ≡ way_text way }
+fn way_name(direction: Direction) -> &'static str
+    ensures { result.now ≡ way_text direction }
 {
-    match way {
+    match direction {
         Direction::Out => "out",
         Direction::In => "in",
     }

@@ -1,5 +1,5 @@
 ghost use Rattle.std.specs.Prelude.{◌≡◌, true, Some};
-ghost use Rattle.conn_tracker.specs.Table.{first_record, next_record, stepped, first_state, first_way, is_idle, next_state, next_way, is_same_way, first_opener, IsRecordOf};
+ghost use Rattle.conn_tracker.specs.Table.{first_record, next_record, stepped, first_state, opener_of_first, is_idle, next_state, next_opener, is_same_direction, first_opener, IsRecordOf};
 ghost use Rattle.conn_tracker.specs.Body.{is_within};
 ghost use Rattle.conn_tracker.specs.Text.{output_of};
 
@@ -20,22 +20,22 @@ pub fn step(site: &Site, kept: &mut Option<TrackRecord>, packet: &Packet) -> Out
     ensures kept { kept.new ≡ Some (stepped site.now kept.old packet.now) }
     ensures output { result ≡ output_of (stepped site.now kept.old packet.now) }
 {
-    let (_, way) = flow_of(site, packet);
+    let (_, direction) = flow_of(site, packet);
     let next = match kept {
-        None => first_record(packet, way),
-        Some(before) => record_after(before, packet, way),
+        None => first_record(packet, direction),
+        Some(before) => record_after(before, packet, direction),
     };
     *kept = Some(next);
     next.output()
 }
 
-/// The record of a flow's first packet, which goes this way.
-pub fn first_record(packet: &Packet, way: Direction) -> TrackRecord
-    ensures value { result ≡ first_record packet.now way }
+/// The record of a flow's first packet, which goes in this direction.
+pub fn first_record(packet: &Packet, direction: Direction) -> TrackRecord
+    ensures value { result ≡ first_record packet.now direction }
     ensures fits { IsRecordOf packet.now.proto result }
     ensures within { is_within result ≡ true }
 {
-    let opener = first_way(packet, way);
+    let opener = opener_of_first(packet, direction);
     record_of_one(first_state(packet), opener, packet.length, packet.nanos)
 }
 
@@ -53,18 +53,18 @@ fn record_of_one(state: State, opener: Direction, length: u32, nanos: u64) -> Tr
     }
 }
 
-/// The record after a further packet, which goes this way.
-pub fn next_record(before: &TrackRecord, packet: &Packet, way: Direction) -> TrackRecord
+/// The record after a further packet, which goes in this direction.
+pub fn next_record(before: &TrackRecord, packet: &Packet, direction: Direction) -> TrackRecord
     requires { IsRecordOf packet.now.proto before.now }
-    ensures value { result ≡ next_record before.now packet.now way }
+    ensures value { result ≡ next_record before.now packet.now direction }
     ensures fits { IsRecordOf packet.now.proto result }
 {
-    record_after(before, packet, way)
+    record_after(before, packet, direction)
 }
 
-/// The record after a further packet, which goes this way, of whatever protocol the record is.
-pub fn record_after(before: &TrackRecord, packet: &Packet, way: Direction) -> TrackRecord
-    ensures value { result ≡ next_record before.now packet.now way }
+/// The record after a further packet, which goes in this direction, of whatever protocol the record is.
+pub fn record_after(before: &TrackRecord, packet: &Packet, direction: Direction) -> TrackRecord
+    ensures value { result ≡ next_record before.now packet.now direction }
     ensures fits { IsRecordOf packet.now.proto before.now → IsRecordOf packet.now.proto result }
     ensures within { is_within result ≡ true }
 {
@@ -76,12 +76,12 @@ pub fn record_after(before: &TrackRecord, packet: &Packet, way: Direction) -> Tr
         state: if is_new {
             first_state(packet)
         } else {
-            next_state(before, packet, way)
+            next_state(before, packet, direction)
         },
         opener: if is_new {
-            first_way(packet, way)
+            opener_of_first(packet, direction)
         } else {
-            next_way(before, packet, way)
+            next_opener(before, packet, direction)
         },
     }
 }
@@ -105,21 +105,21 @@ fn first_state(packet: &Packet) -> State
 }
 
 /// The opener of a flow whose first packet this is.
-fn first_way(packet: &Packet, way: Direction) -> Direction
-    ensures { result ≡ first_way packet.now way }
+fn opener_of_first(packet: &Packet, direction: Direction) -> Direction
+    ensures { result ≡ opener_of_first packet.now direction }
 {
     if packet.proto == TCP {
-        first_opener(Class::of(packet.flags), way)
+        first_opener(Class::of(packet.flags), direction)
     } else {
-        way
+        direction
     }
 }
 
 /// The state that a further packet leaves.
-fn next_state(before: &TrackRecord, packet: &Packet, way: Direction) -> State
-    ensures { result ≡ next_state before.now packet.now way }
+fn next_state(before: &TrackRecord, packet: &Packet, direction: Direction) -> State
+    ensures { result ≡ next_state before.now packet.now direction }
 {
-    let is_forward = is_same_way(way, before.opener);
+    let is_forward = is_same_direction(direction, before.opener);
     if packet.proto == TCP {
         before.state.after(Class::of(packet.flags), is_forward)
     } else {
@@ -128,29 +128,29 @@ fn next_state(before: &TrackRecord, packet: &Packet, way: Direction) -> State
 }
 
 /// The opener after a further packet.
-fn next_way(before: &TrackRecord, packet: &Packet, way: Direction) -> Direction
-    ensures { result ≡ next_way before.now packet.now way }
+fn next_opener(before: &TrackRecord, packet: &Packet, direction: Direction) -> Direction
+    ensures { result ≡ next_opener before.now packet.now direction }
 {
     if packet.proto == TCP && before.state.restarts(Class::of(packet.flags)) {
-        way
+        direction
     } else {
         before.opener
     }
 }
 
-fn is_same_way(one: Direction, other: Direction) -> bool
-    ensures { result ≡ is_same_way one other }
+fn is_same_direction(one: Direction, other: Direction) -> bool
+    ensures { result ≡ is_same_direction one other }
 {
     one == other
 }
 
 /// Whom a first packet shows as the opener: a SYN with an ACK answers one that wasn't seen.
-fn first_opener(class: Class, way: Direction) -> Direction
-    ensures { result ≡ first_opener class way }
+fn first_opener(class: Class, direction: Direction) -> Direction
+    ensures { result ≡ first_opener class direction }
 {
-    match (class, way) {
+    match (class, direction) {
         (Class::SynAck, Direction::Out) => Direction::In,
         (Class::SynAck, Direction::In) => Direction::Out,
-        _ => way,
+        _ => direction,
     }
 }

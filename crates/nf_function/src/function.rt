@@ -53,21 +53,21 @@ pub trait Function {
         ensures sound { let unit = unit_of semantics.kind (flow_of site.now packet.now).0 in is_sound semantics unit kept.old ≡ true → is_sound semantics unit kept.new ≡ true }
         ensures err { OnErr result (kept.new ≡ kept.old) }
     {
-        let (flow, way) = flow_of(site, packet);
-        Self::step_along(alloc, site, flow, way, kept, packet)
+        let (flow, direction) = flow_of(site, packet);
+        Self::step_along(alloc, site, flow, direction, kept, packet)
     }
 
-    /// Takes a packet into what is kept of its unit, and gives the output. The packet's flow and the way that it goes are
+    /// Takes a packet into what is kept of its unit, and gives the output. The packet's flow and the direction in which it goes are
     /// at hand.
     fn step_along(
         alloc: Global,
         site: &Site,
         flow: Flow,
-        way: Direction,
+        direction: Direction,
         kept: &mut Option<Self::Record>,
         packet: &Packet,
     ) -> Result<Output, NoMemory>
-        requires { (flow, way) ≡ flow_of site.now packet.now }
+        requires { (flow, direction) ≡ flow_of site.now packet.now }
         ensures kept { OnOk result (kept.new ≡ kept_after semantics site.now kept.old packet.now) }
         ensures output { IfOk result (λ output. output ≡ output_for semantics site.now kept.old packet.now) }
 

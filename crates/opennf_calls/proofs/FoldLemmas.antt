@@ -34,13 +34,13 @@ fits_unit site p r after same fits =
     (subst (λ (proto : ℕ). IsRecordOf proto r) (sym (proto-flow_of site p)) fits)
 
 -- the two halves of a step
-pub stepped_first : (site : Site) (p : Packet) (way : Direction) (r : TrackRecord) → way ≡ (flow_of site p).1 → r ≡ first_record p way → r ≡ stepped site None p
+pub stepped_first : (site : Site) (p : Packet) (direction : Direction) (r : TrackRecord) → direction ≡ (flow_of site p).1 → r ≡ first_record p direction → r ≡ stepped site None p
 unfolding stepped
-stepped_first site p way r same is = is ∙ ap (first_record p) same
+stepped_first site p direction r same is = is ∙ ap (first_record p) same
 
-pub stepped_next : (site : Site) (before : TrackRecord) (p : Packet) (way : Direction) (r : TrackRecord) → way ≡ (flow_of site p).1 → r ≡ next_record before p way → r ≡ stepped site (Some before) p
+pub stepped_next : (site : Site) (before : TrackRecord) (p : Packet) (direction : Direction) (r : TrackRecord) → direction ≡ (flow_of site p).1 → r ≡ next_record before p direction → r ≡ stepped site (Some before) p
 unfolding stepped
-stepped_next site before p way r same is = is ∙ ap (next_record before p) same
+stepped_next site before p direction r same is = is ∙ ap (next_record before p) same
 
 -- one more packet of a flow
 pub record_of-more : (site : Site) (ps : List Packet) (p : Packet)

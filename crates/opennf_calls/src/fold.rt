@@ -81,13 +81,13 @@ fn process(kept: &mut Kept, site: &Site, packet: &Packet) -> Result<State, NoMem
     ensures state { IfOk result (λ state. state ≡ (record_after_kept site.now kept.old packet.now).state) }
     ensures fits { AllFit kept.new }
 {
-    let (flow, way) = flow_of(site, packet);
+    let (flow, direction) = flow_of(site, packet);
     if let Some(record) = kept.get_mut(&flow) {
-        let after = next_record(record, packet, way);
+        let after = next_record(record, packet, direction);
         *record = after;
         return Ok(after.state);
     }
-    let first = first_record(packet, way);
+    let first = first_record(packet, direction);
     kept.insert(flow, first)?;
     Ok(first.state)
 }
