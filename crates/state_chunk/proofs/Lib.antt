@@ -2,3 +2,4 @@ pub mod ReadLemmas
 pub mod KeyLemmas
 pub mod PartLemmas
 pub mod RecordLemmas
+pub mod TallyLemmas

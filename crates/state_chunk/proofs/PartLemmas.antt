@@ -65,6 +65,29 @@ header_of-ok kind scope timed (v ∷ k ∷ s ∷ rest) read are h =
       rest_bytes = rw (← whole) (IsBytes-tail s rest (IsBytes-tail k (s ∷ rest) (IsBytes-tail v (k ∷ s ∷ rest) are)));
     }
 
+-- a state without times has version 1
+pub plain_version : (kind : Kind) (scope : Scope) (bytes : List ℕ) (read : ℕ × List ℕ) → header_of kind scope false bytes ≡ Ok read → read.0 ≡ 1
+unfolding header_of
+plain_version kind scope [] read h = cc
+plain_version kind scope (v ∷ []) read h =
+    let first = checked_ok (eqb v 1 || eqb v 2) (fault.Version v) (Err fault.Short) read h in
+    let none : ◌≡◌ {A = Read (ℕ × List ℕ)} (Err fault.Short) (Ok read) = first.1 in cc
+plain_version kind scope (v ∷ k ∷ []) read h =
+    let first = checked_ok (eqb v 1 || eqb v 2) (fault.Version v) (checked (eqb k (kind_number kind) && may_have v (has_times kind)) fault.Kind (Err fault.Short)) read h in
+    let second = checked_ok (eqb k (kind_number kind) && may_have v (has_times kind)) fault.Kind (Err fault.Short) read first.1 in
+    let none : ◌≡◌ {A = Read (ℕ × List ℕ)} (Err fault.Short) (Ok read) = second.1 in cc
+plain_version kind scope (v ∷ k ∷ s ∷ rest) read h =
+    let first = checked_ok _ (fault.Version v) _ read h in
+    let second = checked_ok (eqb k (kind_number kind) && may_have v (has_times kind)) fault.Kind _ read first.1 in
+    let third = checked_ok (eqb s (scope_number scope) && may_have v false) fault.Kind _ read second.1 in
+    let whole : (v, rest) ≡ read = same_ok (v, rest) read third.1 in
+    let plain = both_true (eqb s (scope_number scope)) (may_have v false) third.0 in
+    rw (← whole) (one_number v 1 (or_false (eqb v 1) plain.1))
+  where
+    or_false : (test : Bool) → (test || false) ≡ true → test ≡ true
+    or_false true e = refl
+    or_false false e = cc
+
 -- a body is read again
 pub body_in-bytes : (body rest : List ℕ) → length body < 2 ^ 16 → body_in (number_bytes 2 (length body) ++ (body ++ rest)) ≡ Ok (body, rest)
 unfolding body_in

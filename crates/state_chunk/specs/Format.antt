@@ -1,6 +1,6 @@
 -- The bytes of a chunk. This project's own format, from the front: version (1 byte), kind (1), scope (1), key, length of
 -- the body (2), body. Numbers are big-endian.
-use Rattle.std.specs.Prelude.{◌≡◌, ℕ, ◌++◌, Bool, true, if◌then◌else◌, List, [], ◌∷◌, length, Option, None, Some}
+use Rattle.std.specs.Prelude.{◌≡◌, ℕ, ◌<◌, ◌^◌, ◌++◌, Bool, true, if◌then◌else◌, List, [], ◌∷◌, length, slice_index, Option, None, Some}
 use Rattle.std.specs.List.{flat_map}
 use Rattle.nf_function.specs.declared.chunk.Chunk.{Chunk}
 use Rattle.nf_function.specs.declared.kind.Kind.{Kind}
@@ -51,6 +51,11 @@ record_chunk f unit r = record { scope = record_scope f.kind; unit = Some unit; 
 pub record IsRecordOf {R : Type 0} (f : Semantics R) (bytes : List ℕ) (unit : units.Unit) (r : R) : Type 0 where
   pub valid : f.is_valid unit r ≡ true
   pub spelled : bytes ≡ record_bytes f unit r
+
+-- a tally has 16 counts, each within its type
+pub record IsTally (slots : List ℕ) : Type 0 where
+  pub size : length slots ≡ 16
+  pub each : (i : ℕ) → slice_index slots i < 2 ^ 64
 
 -- a tally's body has 16 numbers of 8 bytes
 abbrev pub tally_length : ℕ

@@ -104,7 +104,7 @@ record_read f bytes =
     ended body.1 (key.0, r))
 
 -- numbers of 8 bytes, as many as are wanted and no more
-abbrev pub numbers_in : ℕ → List ℕ → Option (List ℕ)
+unfoldable pub numbers_in : ℕ → List ℕ → Option (List ℕ)
 numbers_in zero [] = Some []
 numbers_in zero (byte ∷ more) = None
 numbers_in (suc n) bytes = do

@@ -10,6 +10,8 @@ pub mod fault;
 pub mod header;
 pub mod key;
 pub mod records;
+pub mod tallies;
 
 pub use fault::ChunkFault;
 pub use records::{decode, encode, version};
+pub use tallies::{decode_tally, encode_tally};
