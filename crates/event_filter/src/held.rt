@@ -1,6 +1,6 @@
 ghost use Rattle.std.specs.Prelude.{◌≡◌, [], ◌∷◌, ◌++◌, OnOk, OnErr, IfErr};
 
-use flow_filter::NoMemory;
+use basics::NoMemory;
 use std::alloc::{AllocError, Global};
 use std::marker::Model;
 
@@ -28,7 +28,7 @@ impl<P> Held<P> {
         }
     }
 
-    /// Puts a parcel behind the others, or hands it back where memory is wanting.
+    /// Puts a parcel after the others, or hands it back when out of memory.
     pub fn push(&mut self, parcel: P) -> Result<(), (NoMemory, P)>
         ensures ok { OnOk result (self.new ≡ self.old ++ parcel ∷ []) }
         ensures back { IfErr result (λ refused. refused.1 ≡ parcel) }

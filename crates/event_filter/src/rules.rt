@@ -11,7 +11,8 @@ use crate::decide::Decide;
 use crate::held::Held;
 use crate::mark::Mark;
 use crate::rule::Rule;
-use flow_filter::{Filter, Flow, NoMemory};
+use basics::NoMemory;
+use flow_filter::{Filter, Flow};
 use std::alloc::{AllocError, Global};
 use std::marker::Model;
 
@@ -111,7 +112,7 @@ impl<P> EventRules<P> {
         }
     }
 
-    /// Holds a parcel for an operation, behind the others, or hands it back where memory is wanting.
+    /// Holds a parcel for an operation, after the others, or hands it back when out of memory.
     pub fn hold(&mut self, op: u32, parcel: P) -> Result<(), (NoMemory, P)>
         requires { IsSome (rule_at self.old op) }
         ensures list { OnOk result (self.new ≡ with_held self.old op parcel) }

@@ -1,0 +1,179 @@
+ghost use Rattle.std.specs.Prelude.{◌≡◌, ◌==◌, ℕ, if◌then◌else◌, [], ◌∷◌, ◌++◌, length, drop, min, slice_get, OnOk, OnErr, IfErr};
+ghost use Rattle.std.specs.FinMap as map;
+ghost use Rattle.event_store.specs.Store.{stored, with_parcels};
+ghost use Rattle.event_store.specs.Queues.{queued};
+
+use crate::queue::Queue;
+use basics::NoMemory;
+use std::alloc::{AllocError, Global};
+use std::collections::BTreeMap;
+use std::collections::btree_map::Entry;
+use std::marker::Model;
+
+/// The parcels of each operation, in the order in which they came.
+#[derive(Debug, Drop)]
+pub struct EventStore<P> {
+    /// A queue that was emptied stays for its operation's next parcel.
+    queues: BTreeMap<u32, Queue<P>>,
+    alloc: Global,
+}
+
+impl<P> Model for EventStore<P> {
+    ghost use Rattle.std.specs.Prelude.{List, ℕ};
+    ghost use Rattle.std.specs.Ordering.{nat_cmp};
+    ghost use Rattle.std.specs.FinMap as map;
+    ghost use Rattle.std.specs.Coded.{coded_ℕ, coded_list};
+    ghost use Rattle.event_store.specs.Queues.{store_of};
+
+    ghost Value = { map.FinMap nat_cmp (List P) };
+
+    ghost coded = { map.code coded_ℕ (coded_list P.code) };
+
+    ghost view = { λ s. store_of s.queues.entries };
+}
+
+impl<P> EventStore<P> {
+    /// No parcels yet. This takes no memory.
+    pub fn open(alloc: Global) -> Self
+        ensures { result ≡ map.empty }
+    {
+        EventStore {
+            queues: BTreeMap::new(alloc),
+            alloc,
+        }
+    }
+
+    /// Puts a parcel after the others of its operation, or hands it back when out of memory.
+    pub fn put(&mut self, op: u32, parcel: P) -> Result<(), (NoMemory, P)>
+    where
+        P: Drop,
+        ensures store { OnOk result (self.new ≡ with_parcels self.old op (stored self.old op ++ parcel ∷ [])) }
+        ensures each { OnOk result ((q : ℕ) → stored self.new q ≡ (if q == op
+            then stored self.old q ++ parcel ∷ [] else stored self.old q)) }
+        ensures back { IfErr result (λ refused. refused.1 ≡ parcel) }
+        ensures err { OnErr result (self.new ≡ self.old) }
+    {
+        push(&mut self.queues, self.alloc, op, parcel)
+    }
+
+    /// Takes the first parcel of an operation.
+    pub fn first(&mut self, op: u32) -> Option<P>
+        ensures value { result ≡ slice_get (stored self.old op) 0 }
+        ensures store { self.new ≡ with_parcels self.old op (drop 1 (stored self.old op)) }
+        ensures each { (q : ℕ) → stored self.new q ≡ (if q == op then drop 1 (stored self.old q) else stored self.old q) }
+    {
+        pop(&mut self.queues, op)
+    }
+
+    /// Takes all parcels of an operation, in order. This takes no memory.
+    pub fn drain(&mut self, op: u32) -> Vec<P>
+        ensures parcels { result.items ≡ stored self.old op }
+        ensures store { self.new ≡ with_parcels self.old op [] }
+        ensures each { (q : ℕ) → stored self.new q ≡ (if q == op then [] else stored self.old q) }
+    {
+        drain(&mut self.queues, self.alloc, op)
+    }
+
+    /// How many parcels an operation has. The number stays at its greatest.
+    pub fn len(&self, op: u32) -> u32
+        ensures { result ≡ min (length (stored self.now op)) u32.MAX }
+    {
+        u32::try_from(count(&self.queues, op)).unwrap_or(u32::MAX)
+    }
+}
+
+/// Puts a parcel into an operation's queue, which is made where there is none.
+fn push<P>(
+    queues: &mut BTreeMap<u32, Queue<P>>,
+    alloc: Global,
+    op: u32,
+    parcel: P,
+) -> Result<(), (NoMemory, P)>
+where
+    P: Drop,
+    ensures ok { OnOk result ((q : ℕ) → queued queues.new q ≡ (if q == op
+        then queued queues.old q ++ parcel ∷ [] else queued queues.old q)) }
+    ensures back { IfErr result (λ refused. refused.1 ≡ parcel) }
+    ensures err { OnErr result ((q : ℕ) → queued queues.new q ≡ queued queues.old q) }
+{
+    match queues.entry(op) {
+        Ok(Entry::Occupied(mut queue)) => queue.get_mut().push(parcel),
+        Ok(Entry::Vacant(place)) => {
+            place.insert(Queue::of(alloc, parcel)?);
+            Ok(())
+        }
+        Err(_full) => Err((AllocError, parcel)),
+    }
+}
+
+/// Takes the first parcel of an operation's queue.
+fn pop<P>(queues: &mut BTreeMap<u32, Queue<P>>, op: u32) -> Option<P>
+    ensures value { result ≡ slice_get (queued queues.old op) 0 }
+    ensures each { (q : ℕ) → queued queues.new q ≡ (if q == op then drop 1 (queued queues.old q) else queued queues.old q) }
+{
+    queues.get_mut(&op)?.pop()
+}
+
+/// Takes an operation's queue, and gives its parcels in order.
+fn drain<P>(queues: &mut BTreeMap<u32, Queue<P>>, alloc: Global, op: u32) -> Vec<P>
+    ensures parcels { result.items ≡ queued queues.old op }
+    ensures each { (q : ℕ) → queued queues.new q ≡ (if q == op then [] else queued queues.old q) }
+{
+    match queues.remove(&op) {
+        Some(queue) => queue.into_vec(),
+        None => Vec::new(alloc),
+    }
+}
+
+/// How many parcels an operation's queue has.
+fn count<P>(queues: &BTreeMap<u32, Queue<P>>, op: u32) -> usize
+    ensures { result ≡ length (queued queues.now op) }
+{
+    match queues.get(&op) {
+        Some(queue) => queue.len(),
+        None => 0,
+    }
+}
+
+#[cfg(test)]
+mod tests {
+    use super::*;
+    use std::test::Fail;
+
+    /// A parcel that can't be copied.
+    #[derive(Debug, PartialEq, Eq, Drop)]
+    struct Parcel(u32);
+
+    #[test]
+    fn what_is_put_comes_out_in_order_and_other_lists_stay(rt: HostRuntime) -> Result<(), Fail> {
+        let mut store = EventStore::open(rt.alloc());
+        assert_eq!(rt; store.first(3), None);
+        for number in 1..=4 {
+            let kept = store.put(3, Parcel(number)).is_ok()
+                && store.put(9, Parcel(10 * number)).is_ok();
+            assert!(rt; kept);
+        }
+        assert_eq!(rt; store.first(3), Some(Parcel(1)));
+        assert_eq!(rt; store.len(3), 3);
+        let drained = store.drain(3);
+        assert_eq!(rt;
+            drained.as_slice(),
+            [Parcel(2), Parcel(3), Parcel(4)].as_slice()
+        );
+        assert_eq!(rt; store.len(3), 0);
+        assert_eq!(rt; store.first(9), Some(Parcel(10)));
+        Ok(())
+    }
+
+    #[test]
+    fn an_emptied_list_takes_parcels_again(rt: HostRuntime) -> Result<(), Fail> {
+        let mut store = EventStore::open(rt.alloc());
+        for number in 1..=3 {
+            let kept = store.put(1, Parcel(number)).is_ok();
+            assert!(rt; kept);
+            assert_eq!(rt; store.first(1), Some(Parcel(number)));
+        }
+        assert_eq!(rt; store.drain(1).as_slice(), [].as_slice());
+        Ok(())
+    }
+}
