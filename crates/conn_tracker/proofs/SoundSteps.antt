@@ -1,5 +1,5 @@
 -- What the code knows of a record that it makes is what makes it valid for its flow.
-use Rattle.std.proofs.Common.{◌≡◌, ◌≤◌, ◌^◌, ◌&&◌, ℕ, Bool, true, false, not, cond, refl, sym, subst, nat_le, nat_lt, arith}
+use Rattle.std.proofs.Common.{◌≡◌, ◌≤◌, ◌^◌, ℕ, Bool, true, false, not, cond, refl, nat_le, nat_lt, arith}
 use Rattle.std.proofs.lemmas.Bool.Decides.{nat_tests}
 use Rattle.basics.proofs.BoolLemmas.{true_both}
 use Rattle.flow_filter.specs.declared.flow.Flow.{Flow}

@@ -1,6 +1,6 @@
 -- The bytes that a tracker's record is stored as. This project's own format: state (1 byte), opener (1: 0 out, 1 in),
 -- packets (8), bytes (8), and then seen (8) where it isn't 0.
-use Rattle.std.specs.Prelude.{ℕ, ◌^◌, ◌==◌, ◌&&◌, nat_le, nat_lt, Bool, true, false, not, if◌then◌else◌, List, [], ◌∷◌, ◌++◌, slice_get, Option, None, Some}
+use Rattle.std.specs.Prelude.{ℕ, ◌^◌, ◌==◌, ◌&&◌, nat_le, nat_lt, Bool, false, not, if◌then◌else◌, List, [], ◌∷◌, ◌++◌, slice_get, Option, None, Some}
 use Rattle.basics.specs.Options.{◌>>=◌}
 use Rattle.flow_filter.specs.declared.flow.Direction.{Direction}
 use Rattle.flow_filter.specs.declared.flow.Direction.TheVariants.{Out, In}

@@ -1,16 +1,16 @@
 -- What a tracker's record is stored as is read again, and only that. A step between code and definition: there is nothing
 -- here to believe. It stands in specs/ since the laws of a trait may cite nothing else.
-use Rattle.std.proofs.Common.{◌≡◌, ◌∙◌, ◌<◌, ◌≤◌, ◌^◌, ◌&&◌, ◌==◌, eqb, ℕ, Bool, true, false, cond, not, List, [], ◌∷◌, ◌++◌, length, slice_get, Option, None, Some, option_and_then, refl, sym, ap, arith, zero, suc, nat_lt, nat_le, append-nil, length-append}
+use Rattle.std.proofs.Common.{◌≡◌, ◌∙◌, ◌<◌, ◌≤◌, ◌^◌, ◌&&◌, eqb, ℕ, Bool, true, false, cond, List, [], ◌∷◌, ◌++◌, length, Option, None, Some, option_and_then, refl, sym, ap, arith, zero, suc, nat_lt, nat_le, append-nil, length-append}
 use Rattle.std.proofs.lemmas.Bool.Decides.{nat_tests}
 use Rattle.std.proofs.lemmas.List.{append_assoc}
-use Rattle.std.proofs.lemmas.Option.{option_and_then_some, cond_some, some_pair_parts}
+use Rattle.std.proofs.lemmas.Option.{option_and_then_some, cond_some}
 use Rattle.basics.proofs.BoolLemmas.{both_true, true_both}
 use Rattle.flow_filter.specs.declared.flow.Flow.{Flow}
 use Rattle.flow_filter.specs.declared.flow.Direction.{Direction}
 use Rattle.flow_filter.specs.declared.flow.Direction.TheVariants.{Out, In}
 use Rattle.nf_function.specs.declared.unit.Unit as units
 use Rattle.nf_function.specs.declared.unit.Unit.TheVariants.{Flow as OfFlow, Host as OfHost}
-use Rattle.nf_function.specs.Stored.{IsBytes, number_bytes, first_byte, first_number}
+use Rattle.nf_function.specs.Stored.{IsBytes, number_bytes, first_number}
 use Rattle.nf_function.specs.Units.{is_transport_flow}
 use Rattle.nf_function.proofs.StoredNumbers.{IsFirst, first_number-number_bytes, first_number-some, length-number_bytes, IsBytes-tail}
 use Rattle.conn_tracker.specs.declared.record.TrackRecord.{TrackRecord}

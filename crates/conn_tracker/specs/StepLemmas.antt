@@ -1,8 +1,7 @@
 -- What a step of the tracker keeps of a record, and all laws of the tracker together. A step between code and definition:
 -- there is nothing here to believe. It stands in specs/ since the laws of a trait may cite nothing else.
-use Rattle.std.proofs.Common.{◌≡◌, ◌∙◌, ◌<◌, ◌≤◌, ◌+◌, ◌-◌, ◌^◌, ◌&&◌, ◌||◌, ◌==◌, eqb, ℕ, Bool, true, false, cond, not, min, max, Option, None, Some, refl, sym, ap, arith, nat_lt, nat_le}
+use Rattle.std.proofs.Common.{◌≡◌, ◌<◌, ◌≤◌, ◌^◌, ◌||◌, ℕ, Bool, true, false, cond, not, max, Option, None, Some, refl, ap, arith, nat_le}
 use Rattle.std.proofs.lemmas.Bool.Decides.{nat_tests}
-use Rattle.basics.proofs.BoolLemmas.{both_true, true_both}
 use Rattle.flow_filter.specs.declared.packet.Packet.{Packet}
 use Rattle.flow_filter.specs.declared.site.Site.{Site}
 use Rattle.flow_filter.specs.declared.flow.Flow.{Flow}
@@ -24,7 +23,7 @@ use Rattle.conn_tracker.specs.declared.state.State.TheVariants.{Opening, Answere
 use Rattle.conn_tracker.specs.Table.{Row, row, cell, class_of, first_tcp, first_state, first_record, next_udp, next_state, next_record, is_idle, is_same_direction, is_udp_state, stepped}
 use Rattle.conn_tracker.specs.Body.{is_valid, suits}
 use Rattle.conn_tracker.specs.Conntrack.{conntrack}
-use Rattle.conn_tracker.specs.BodyLemmas.{IsValid, valid_facts, valid_from, record_in-body_of, record_in-some, known_by_body, length-body_of}
+use Rattle.conn_tracker.specs.BodyLemmas.{valid_facts, valid_from, record_in-body_of, record_in-some, known_by_body, length-body_of}
 
 -- the eight cells of a row are states of TCP
 record IsTcpRow (w : Row) : Type 0 where

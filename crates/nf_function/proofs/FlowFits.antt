@@ -1,14 +1,14 @@
 -- The flow of a packet whose numbers are within their types is one that functions may have records for.
-use Rattle.std.proofs.Common.{◌≡◌, ◌<◌, ◌≤◌, ◌+◌, ◌-◌, ◌/◌, ◌^◌, ◌&&◌, ℕ, Bool, true, false, cond, not, nat_lt, nat_le, refl, arith}
+use Rattle.std.proofs.Common.{◌≡◌, ◌<◌, ◌-◌, ◌/◌, ◌^◌, ◌&&◌, Bool, true, false, cond, not, nat_lt, nat_le, refl, arith}
 use Rattle.std.proofs.lemmas.Bool.Decides.{nat_tests}
-use Rattle.basics.proofs.BoolLemmas.{both_true, Five, true_five}
+use Rattle.basics.proofs.BoolLemmas.{both_true, true_five}
 use Rattle.flow_filter.specs.declared.packet.Packet.{Packet}
 use Rattle.flow_filter.specs.declared.site.Site.{Site}
 use Rattle.flow_filter.specs.declared.flow.Flow.{Flow}
 use Rattle.flow_filter.specs.declared.flow.Direction.{Direction}
 use Rattle.flow_filter.specs.declared.flow.Direction.TheVariants.{Out, In}
 use Rattle.flow_filter.specs.Filter.{IsFlow}
-use Rattle.flow_filter.specs.Flow.{flow_of, is_inside, is_mapped, is_outside_address, is_source_first, inward, outward, owner_of_port}
+use Rattle.flow_filter.specs.Flow.{flow_of, is_inside, is_mapped, is_source_first, inward, outward, owner_of_port}
 use Rattle.flow_filter.proofs.FlowLemmas.{proto-flow_of}
 use Rattle.flow_filter.proofs.SiteLemmas.{is_24, last_byte_fits}
 use Rattle.nf_function.specs.Units.{is_transport, is_transport_flow}

@@ -1,6 +1,6 @@
 -- Which of two records is newer is an order: packets and bodies are compared, and a body belongs to one record.
-use Rattle.std.proofs.Common.{◌≡◌, ◌∙◌, ◌⊎◌, inl, inr, refl, sym, ap, Bool, true, false, ℕ}
-use Rattle.std.specs.Ordering.{nat_cmp, on, is_gt, ordering_then, ordering_reverse}
+use Rattle.std.proofs.Common.{◌≡◌, ◌∙◌, ◌⊎◌, inl, inr, refl, ap, true}
+use Rattle.std.specs.Ordering.{nat_cmp, is_gt, ordering_then, ordering_reverse}
 use Rattle.std.specs.declared.cmp.Ordering.{Ordering}
 use Rattle.std.specs.declared.cmp.Ordering.TheVariants.{Less, Equal, Greater}
 use Rattle.std.specs.Cmp.{IsTotalOrder}

@@ -1,18 +1,17 @@
 -- Numbers in stored bytes: each number has one spelling, and spellings compare as their numbers do.
-use Rattle.std.proofs.Common.{◌≡◌, ◌∙◌, ◌<◌, ◌≤◌, ◌+◌, ◌*◌, ◌^◌, ◌⊎◌, ℕ, zero, suc, Bool, true, false, cond, List, [], ◌∷◌, ◌++◌, length, take, drop, slice_index, get_or, Option, None, Some, refl, sym, ap, subst, inl, inr, arith, nat_lt, length-append, append-nil, eqb}
+use Rattle.std.proofs.Common.{◌≡◌, ◌∙◌, ◌<◌, ◌≤◌, ◌+◌, ◌*◌, ◌^◌, ℕ, zero, suc, Bool, true, false, cond, List, [], ◌∷◌, ◌++◌, length, take, drop, Option, None, Some, refl, sym, ap, arith, nat_lt, length-append, append-nil, eqb}
 use Rattle.std.proofs.lemmas.Option.{some_pair_parts}
-use Rattle.std.proofs.Math.Nat.{mod-eq_of_lt, mul-le-mul_right, mod-lt}
-use Rattle.std.proofs.lemmas.Bool.{cases_lt}
+use Rattle.std.proofs.Math.Nat.{mul-le-mul_right}
 use Rattle.std.proofs.lemmas.Bool.Decides.{nat_tests}
-use Rattle.std.proofs.lemmas.List.{length-drop, length-take-le, take-append-drop, drop_at}
+use Rattle.std.proofs.lemmas.List.{length-take-le, take-append-drop, drop_at}
 use Rattle.std.proofs.lemmas.Nat.{same_from_place}
-use Rattle.std.specs.Int.{byte_at, bytes_high_first}
+use Rattle.std.specs.Int.{byte_at}
 use Rattle.std.specs.Ordering.{nat_cmp, ordering_then}
 use Rattle.std.specs.declared.cmp.Ordering.{Ordering}
 use Rattle.std.specs.declared.cmp.Ordering.TheVariants.{Less, Equal, Greater}
 use Rattle.std.specs.Cmp.Lexicographic.{slice_cmp}
-use Rattle.byteorder.specs.Endian.{big_bytes, big_number, big_from}
-use Rattle.byteorder.specs.Numbers.{big_from-cons, big_from-lt, big_from-bytes, big_number-reads_back, big_from-append, big_from-take, length-bytes_high_first}
+use Rattle.byteorder.specs.Endian.{big_bytes, big_number}
+use Rattle.byteorder.specs.Numbers.{big_from-cons, big_from-lt, big_number-reads_back, big_from-take, length-bytes_high_first}
 use Rattle.nf_function.specs.Stored.{IsBytes, number_bytes, first_number}
 
 -- bytes after the first are bytes

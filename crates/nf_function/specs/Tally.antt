@@ -1,5 +1,5 @@
 -- The all-flows state: how many packets each instance has processed. This project's own.
-use Rattle.std.specs.Prelude.{◌≡◌, ℕ, ◌≤◌, max, List, [], ◌∷◌, length, slice_index, slice_set, replicate}
+use Rattle.std.specs.Prelude.{◌≡◌, ℕ, max, List, [], ◌∷◌, length, slice_index, slice_set}
 use Rattle.nf_function.specs.Semantics.{count}
 
 -- one packet more in an instance's slot

@@ -1,6 +1,5 @@
 -- The fields are compared in the order of the body.
-use Rattle.std.proofs.Common.{◌≡◌, ◌∙◌, sym, rules, arith}
-use Rattle.std.specs.Ordering.{ordering_then, nat_cmp}
+use Rattle.std.proofs.Common.{arith}
 use Rattle.conn_tracker.specs.BodyLemmas.{Within}
 use Rattle.conn_tracker.proofs.BodyOrder.{age_by_fields}
 use Rattle.conn_tracker.proofs.body.age_cmp.Goals as goal
