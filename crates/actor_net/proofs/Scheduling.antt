@@ -7,6 +7,7 @@ use Rattle.std.proofs.lemmas.List.{nil_from_length}
 use Rattle.std.proofs.lemmas.Option.{slice_get-get_or, slice_get_past}
 use Rattle.std.proofs.lemmas.Bool.{cases_lt}
 use Rattle.actor_net.specs.declared.choice.Choice.{Choice}
+use Rattle.actor_net.specs.declared.schedule.TheConstants.{MOST_CHOICES}
 use Rattle.actor_net.specs.declared.schedule.Schedule.{Schedule}
 use Rattle.actor_net.specs.declared.schedule.Schedule.TheVariants.{First, Last, Number}
 use Rattle.actor_net.proofs.CompleteWorlds.{takes_nothing, done_disabled}
@@ -105,16 +106,12 @@ module _ {A M N : Type 0} (ready : A → M → Bool) (ended : A → Bool) (step 
       sym (append-nil cs) ∙ ap (λ xs. cs ++ xs) (sym (scheduled_end most n schedule w end)) ∙ is
 
   -- a schedule that ends in a world that isn't complete
-  pub stops_short : (most n : ℕ) (schedule : Schedule) (start w : Network A M N) (cs all : List Choice) (at : ℕ) → (picked ready schedule w ≡ None) ⊎ (most ≤ n) → n ≤ most → cs ++ scheduled ready ended step (most - n) schedule w ≡ all → w ≡ run step cs start → length cs ≡ n → is_done ended w ≡ false → length cs ≡ at → StopsShort ready ended step most all start at
-  stops_short most n schedule start w cs all at end below is world count incomplete here =
-      let whole = scheduled_whole most n schedule w cs all end is in
-      rw (← whole) (record {
-        count = here;
-        incomplete = rw world at incomplete;
-        stuck = stuck end;
-      })
+  pub stops_short : (n : ℕ) (schedule : Schedule) (start w : Network A M N) (cs all : List Choice) (at : ℕ) → (picked ready schedule w ≡ None) ⊎ (MOST_CHOICES ≤ n) → n ≤ MOST_CHOICES → cs ++ scheduled ready ended step (MOST_CHOICES - n) schedule w ≡ all → w ≡ run step cs start → length cs ≡ n → is_done ended w ≡ false → length cs ≡ at → (length all ≡ at) × StopsShort ready ended (run step all start) at
+  stops_short n schedule start w cs all at end below is world count incomplete here =
+      let whole = scheduled_whole MOST_CHOICES n schedule w cs all end is in
+      rw (← whole) (here, record { incomplete = rw world at incomplete; stuck = stuck end })
     where
-      stuck : (picked ready schedule w ≡ None) ⊎ (most ≤ n) → (enabled_choices ready (run step cs start) ≡ []) ⊎ (at ≡ most)
+      stuck : (picked ready schedule w ≡ None) ⊎ (MOST_CHOICES ≤ n) → (enabled_choices ready (run step cs start) ≡ []) ⊎ (at ≡ MOST_CHOICES)
       stuck (inl none) = let empty = picked_none ready schedule w none in inl (rw world at empty)
       stuck (inr over) = inr (omega arith)
 

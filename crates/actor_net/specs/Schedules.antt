@@ -3,11 +3,12 @@
 use Rattle.std.specs.Prelude.{◌≡◌, ◌⊎◌, ℕ, zero, suc, ◌-◌, ◌%◌, Bool, false, if◌then◌else◌, Option, None, Some, List, [], ◌∷◌, ◌++◌, length, slice_get}
 use Rattle.rand_xoshiro.specs.SplitMix64.{mix_u64, next_state}
 use Rattle.actor_net.specs.declared.choice.Choice.{Choice}
+use Rattle.actor_net.specs.declared.schedule.TheConstants.{MOST_CHOICES}
 use Rattle.actor_net.specs.declared.schedule.Schedule.{Schedule}
 use Rattle.actor_net.specs.declared.schedule.Schedule.TheVariants.{First, Last, Number}
 use Rattle.actor_net.specs.declared.schedule.Picker.{Picker}
 use Rattle.actor_net.specs.declared.schedule.Picker.TheVariants.{First as First', Last as Last', Word}
-use Rattle.actor_net.specs.Network.{Network, Stepped, is_enabled, taken, run, is_done}
+use Rattle.actor_net.specs.Network.{Network, Stepped, is_enabled, taken, is_done}
 
 -- the enabled ones of a node's ports below p, in order
 abbrev pub ports_below : {A M N : Type 0} → (A → M → Bool) → Network A M N → ℕ → ℕ → List Choice
@@ -55,12 +56,11 @@ scheduled ready ended step (suc most) schedule w =
     then []
     else taken_then (picked ready schedule w) (λ c. scheduled ready ended step most (later schedule) (taken step w c))
 
--- a schedule that stops short: so many choices are taken, and then the world isn't complete, and no choice is enabled or
--- no more may be taken
-pub record StopsShort {A M N : Type 0} (ready : A → M → Bool) (ended : A → Bool) (step : A → ℕ → M → Stepped A M N) (most : ℕ) (choices : List Choice) (w : Network A M N) (at : ℕ) : Type 0 where
-  pub count : length choices ≡ at
-  pub incomplete : is_done ended (run step choices w) ≡ false
-  pub stuck : (enabled_choices ready (run step choices w) ≡ []) ⊎ (at ≡ most)
+-- a schedule that stops short behind so many choices: the world there isn't complete, and no choice is enabled or no more may
+-- be taken
+pub record StopsShort {A M N : Type 0} (ready : A → M → Bool) (ended : A → Bool) (w : Network A M N) (count : ℕ) : Type 0 where
+  pub incomplete : is_done ended w ≡ false
+  pub stuck : (enabled_choices ready w ≡ []) ⊎ (count ≡ MOST_CHOICES)
 
 -- the schedule that a running one stands for
 abbrev pub schedule_of : Picker → Schedule

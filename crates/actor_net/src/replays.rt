@@ -6,15 +6,6 @@ use super::choice::Choice;
 use super::world::{TakeFault, World};
 use thiserror::Error;
 
-/// Why choices aren't replayed.
-#[derive(Clone, Copy, Debug, PartialEq, Eq, Error)]
-pub enum ReplayFault {
-    #[error("choice {index} isn't enabled")]
-    NotEnabled { index: usize },
-    #[error("out of memory")]
-    NoMemory,
-}
-
 /// Takes the choices in order. What isn't handed back is dropped.
 pub fn replay<A: Actor>(world: World<A>, choices: &[Choice]) -> Result<World<A>, ReplayFault>
     ensures { result ≢ Err ReplayFault.NoMemory → result ≡ replayed A.is_ready A.stepped choices.now world }
@@ -28,4 +19,13 @@ pub fn replay<A: Actor>(world: World<A>, choices: &[Choice]) -> Result<World<A>,
         }
     }
     Ok(world)
+}
+
+/// Why choices aren't replayed.
+#[derive(Clone, Copy, Debug, PartialEq, Eq, Error)]
+pub enum ReplayFault {
+    #[error("choice {index} isn't enabled")]
+    NotEnabled { index: usize },
+    #[error("out of memory")]
+    NoMemory,
 }

@@ -1,4 +1,4 @@
-ghost use Rattle.std.specs.Prelude.{◌≡◌, ◌<◌, ℕ, true, Err, IfOk, OnSome};
+ghost use Rattle.std.specs.Prelude.{◌≡◌, ℕ, length, true, Err, IfOk, OnSome};
 ghost use Rattle.actor_net.specs.Network.{run, IsRun, is_done};
 ghost use Rattle.actor_net.specs.Schedules.{enabled_choices, ports_below, place_in, later, picked, scheduled, schedule_of, StopsShort};
 
@@ -21,6 +21,43 @@ pub enum Schedule {
     First,
     Last,
     Number(u64),
+}
+
+/// Takes choices by a schedule until the world is complete.
+pub fn run_schedule<A: Actor>(
+    alloc: Global,
+    world: World<A>,
+    schedule: Schedule,
+) -> Result<(World<A>, Choices), ScheduleFault>
+    ensures choices { IfOk result (λ r. r.1 ≡ scheduled A.is_ready A.has_ended A.stepped MOST_CHOICES schedule world) }
+    ensures world { IfOk result (λ r. r.0 ≡ run A.stepped r.1 world) }
+    ensures run { IfOk result (λ r. IsRun A.is_ready A.stepped r.1 world) }
+    ensures complete { IfOk result (λ r. is_done A.has_ended r.0 ≡ true) }
+    ensures unfinished { (step : ℕ) → result ≡ Err (ScheduleFault.Unfinished step)
+        → (length (scheduled A.is_ready A.has_ended A.stepped MOST_CHOICES schedule world) ≡ step)
+        × StopsShort A.is_ready A.has_ended (run A.stepped (scheduled A.is_ready A.has_ended A.stepped MOST_CHOICES schedule world) world) step }
+{
+    let mut world = world;
+    let mut choices = Choices::open(alloc);
+    let mut picker = Picker::open(schedule);
+    for _ in 0..MOST_CHOICES {
+        let Some(choice) = picker.pick(&world) else {
+            break;
+        };
+        match world.take(choice) {
+            Ok(()) => {}
+            Err(TakeFault::NotEnabled) => unreachable!(),
+            Err(TakeFault::NoMemory) => return Err(ScheduleFault::NoMemory),
+        }
+        choices.push(choice)?;
+    }
+    if world.complete() {
+        Ok((world, choices))
+    } else {
+        Err(ScheduleFault::Unfinished {
+            step: choices.items().len() as u64,
+        })
+    }
 }
 
 /// Why a scheduled run doesn't end.
@@ -79,41 +116,5 @@ impl Picker {
                 world.nth_enabled(place as usize)
             }
         }
-    }
-}
-
-/// Takes choices by a schedule until the world is complete.
-pub fn run_schedule<A: Actor>(
-    alloc: Global,
-    world: World<A>,
-    schedule: Schedule,
-) -> Result<(World<A>, Choices), ScheduleFault>
-    ensures choices { IfOk result (λ r. r.1 ≡ scheduled A.is_ready A.has_ended A.stepped MOST_CHOICES schedule world) }
-    ensures world { IfOk result (λ r. r.0 ≡ run A.stepped r.1 world) }
-    ensures run { IfOk result (λ r. IsRun A.is_ready A.stepped r.1 world) }
-    ensures complete { IfOk result (λ r. is_done A.has_ended r.0 ≡ true) }
-    ensures unfinished { (step : ℕ) → result ≡ Err (ScheduleFault.Unfinished step)
-        → StopsShort A.is_ready A.has_ended A.stepped MOST_CHOICES (scheduled A.is_ready A.has_ended A.stepped MOST_CHOICES schedule world) world step }
-{
-    let mut world = world;
-    let mut choices = Choices::open(alloc);
-    let mut picker = Picker::open(schedule);
-    for _ in 0..MOST_CHOICES {
-        let Some(choice) = picker.pick(&world) else {
-            break;
-        };
-        match world.take(choice) {
-            Ok(()) => {}
-            Err(TakeFault::NotEnabled) => unreachable!(),
-            Err(TakeFault::NoMemory) => return Err(ScheduleFault::NoMemory),
-        }
-        choices.push(choice)?;
-    }
-    if world.complete() {
-        Ok((world, choices))
-    } else {
-        Err(ScheduleFault::Unfinished {
-            step: choices.items().len() as u64,
-        })
     }
 }

@@ -13,35 +13,6 @@ use std::alloc::{AllocError, AllocFailed, Global};
 use std::marker::Model;
 use thiserror::Error;
 
-/// Why a choice isn't taken.
-#[derive(Clone, Copy, Debug, PartialEq, Eq, Error)]
-pub enum TakeFault {
-    #[error("not enabled")]
-    NotEnabled,
-    #[error("out of memory")]
-    NoMemory,
-}
-
-impl From<AllocError> for TakeFault {
-    ghost use Rattle.std.specs.Prelude.{◌≡◌};
-    ghost use Rattle.actor_net.specs.declared.world.TakeFault.TheVariants.{NoMemory};
-
-    ghost from_gives = { λ _ e. e ≡ NoMemory };
-
-    fn from(_fault: AllocError) -> Self {
-        TakeFault::NoMemory
-    }
-}
-
-/// All that a world holds, each list from its front. Of n nodes the link from s to r stands at place s * n + r.
-#[derive(Drop)]
-pub struct Parts<A: Actor> {
-    pub nodes: Sequence<A>,
-    pub links: Sequence<Sequence<A::Message>>,
-    pub input: Sequence<A::Message>,
-    pub log: Sequence<A::Note>,
-}
-
 /// Nodes, the links between them, the input and the log.
 #[derive(Drop)]
 pub struct World<A: Actor> {
@@ -139,6 +110,60 @@ impl<A: Actor> World<A> {
         }
     }
 
+    /// Takes one step. After want of memory the world is only taken apart.
+    pub fn take(&mut self, choice: Choice) -> Result<(), TakeFault>
+        ensures ok { OnOk result (self.new ≡ taken A.stepped self.old choice) }
+        ensures enabled { OnOk result (is_enabled A.is_ready self.old choice ≡ true) }
+        ensures not_enabled { IsErrOf result TakeFault.NotEnabled → (is_enabled A.is_ready self.old choice ≡ false) × (self.new ≡ self.old) }
+    {
+        if !self.enabled(choice) {
+            return Err(TakeFault::NotEnabled);
+        }
+        let message = self.take_first(choice);
+        self.step(choice, message)?;
+        Ok(())
+    }
+
+    /// Whether nothing is left to do: no input, no message on a link, and each node has ended.
+    pub fn complete(&self) -> bool
+        ensures { result ≡ is_done A.has_ended self.now }
+    {
+        self.input.is_empty() && self.links.all_empty() && all_ended(self.nodes.as_slice())
+    }
+
+    fn take_first(&mut self, choice: Choice) -> A::Message
+        requires { is_enabled A.is_ready self.old choice ≡ true }
+        ensures first { waiting self.old choice ≡ result ∷ drop 1 (waiting self.old choice) }
+        ensures rest { self.new ≡ without_first self.old choice }
+    {
+        let first = if choice.is_input() {
+            self.input.pop()
+        } else {
+            self.links.pop(choice)
+        };
+        match first {
+            Some(message) => message,
+            None => unreachable!(),
+        }
+    }
+
+    fn step(&mut self, choice: Choice, message: A::Message) -> Result<(), NoMemory>
+        requires { choice.node < length self.old.nodes }
+        ensures { OnOk result ((node : A) → slice_get self.old.nodes choice.node ≡ Some node → self.new ≡ after self.old choice.node (A.stepped node choice.port message)) }
+    {
+        self.outbox.clear();
+        self.nodes[choice.node as usize].step(choice.port, message, &mut self.outbox)?;
+        deliver(
+            self.nodes.len(),
+            choice.node,
+            &mut self.outbox,
+            &mut self.links,
+        )?;
+        self.outbox.move_notes(&mut self.log)?;
+        Ok(())
+    }
+
+    // Whether node 0 takes the first item of the input.
     fn input_ready(&self) -> bool
         ensures { result ≡ is_enabled A.is_ready self.now (record { node = 0; port = 0 }) }
     {
@@ -202,58 +227,34 @@ impl<A: Actor> World<A> {
         }
         None
     }
+}
 
-    /// Takes one step. After want of memory the world is only taken apart.
-    pub fn take(&mut self, choice: Choice) -> Result<(), TakeFault>
-        ensures ok { OnOk result (self.new ≡ taken A.stepped self.old choice) }
-        ensures enabled { OnOk result (is_enabled A.is_ready self.old choice ≡ true) }
-        ensures not_enabled { IsErrOf result TakeFault.NotEnabled → (is_enabled A.is_ready self.old choice ≡ false) × (self.new ≡ self.old) }
-    {
-        if !self.enabled(choice) {
-            return Err(TakeFault::NotEnabled);
-        }
-        let message = self.take_first(choice);
-        self.step(choice, message)?;
-        Ok(())
-    }
+/// All that a world holds, each list from its front. Of n nodes the link from s to r stands at place s * n + r.
+#[derive(Drop)]
+pub struct Parts<A: Actor> {
+    pub nodes: Sequence<A>,
+    pub links: Sequence<Sequence<A::Message>>,
+    pub input: Sequence<A::Message>,
+    pub log: Sequence<A::Note>,
+}
 
-    fn take_first(&mut self, choice: Choice) -> A::Message
-        requires { is_enabled A.is_ready self.old choice ≡ true }
-        ensures first { waiting self.old choice ≡ result ∷ drop 1 (waiting self.old choice) }
-        ensures rest { self.new ≡ without_first self.old choice }
-    {
-        let first = if choice.is_input() {
-            self.input.pop()
-        } else {
-            self.links.pop(choice)
-        };
-        match first {
-            Some(message) => message,
-            None => unreachable!(),
-        }
-    }
+/// Why a choice isn't taken.
+#[derive(Clone, Copy, Debug, PartialEq, Eq, Error)]
+pub enum TakeFault {
+    #[error("not enabled")]
+    NotEnabled,
+    #[error("out of memory")]
+    NoMemory,
+}
 
-    fn step(&mut self, choice: Choice, message: A::Message) -> Result<(), NoMemory>
-        requires { choice.node < length self.old.nodes }
-        ensures { OnOk result ((node : A) → slice_get self.old.nodes choice.node ≡ Some node → self.new ≡ after self.old choice.node (A.stepped node choice.port message)) }
-    {
-        self.outbox.clear();
-        self.nodes[choice.node as usize].step(choice.port, message, &mut self.outbox)?;
-        deliver(
-            self.nodes.len(),
-            choice.node,
-            &mut self.outbox,
-            &mut self.links,
-        )?;
-        self.outbox.move_notes(&mut self.log)?;
-        Ok(())
-    }
+impl From<AllocError> for TakeFault {
+    ghost use Rattle.std.specs.Prelude.{◌≡◌};
+    ghost use Rattle.actor_net.specs.declared.world.TakeFault.TheVariants.{NoMemory};
 
-    /// Whether nothing is left to do: no input, no message on a link, and each node has ended.
-    pub fn complete(&self) -> bool
-        ensures { result ≡ is_done A.has_ended self.now }
-    {
-        self.input.is_empty() && self.links.all_empty() && all_ended(self.nodes.as_slice())
+    ghost from_gives = { λ _ e. e ≡ NoMemory };
+
+    fn from(_fault: AllocError) -> Self {
+        TakeFault::NoMemory
     }
 }
 

@@ -36,8 +36,8 @@ returns-then-complete-clause-choices g c =
 pub returns-else-complete-clause-unfinished : goal.returns-else-complete-clause-unfinished
 returns-else-complete-clause-unfinished g c =
     elim c.loop-test.branch [
-      | else-loop-test w ↦ λ at is. stops_short g.A.Actor.is_ready g.A.Actor.has_ended g.A.Actor.stepped MOST_CHOICES c.loop.counter (schedule_of c.loop.picker) c.args.world c.loop.world c.loop.choices _ at (inr w.loop-test.false) c.loop.auto.counter-end c.loop.invariant.choices c.loop.invariant.world c.loop.invariant.count (sym c.complete.ensures ∙ c.if-complete.false) (cc)
-      | then-loop-test+in_default w ↦ λ at is. stops_short g.A.Actor.is_ready g.A.Actor.has_ended g.A.Actor.stepped MOST_CHOICES c.loop.counter (schedule_of c.loop.picker) c.args.world c.loop.world c.loop.choices _ at (inl (sym w.pick.ensures.choice ∙ w.in_default.is)) c.loop.auto.counter-end c.loop.invariant.choices c.loop.invariant.world c.loop.invariant.count (sym c.complete.ensures ∙ c.if-complete.false) (cc)
+      | else-loop-test w ↦ λ at is. stops_short g.A.Actor.is_ready g.A.Actor.has_ended g.A.Actor.stepped c.loop.counter (schedule_of c.loop.picker) c.args.world c.loop.world c.loop.choices _ at (inr w.loop-test.false) c.loop.auto.counter-end c.loop.invariant.choices c.loop.invariant.world c.loop.invariant.count (sym c.complete.ensures ∙ c.if-complete.false) (cc)
+      | then-loop-test+in_default w ↦ λ at is. stops_short g.A.Actor.is_ready g.A.Actor.has_ended g.A.Actor.stepped c.loop.counter (schedule_of c.loop.picker) c.args.world c.loop.world c.loop.choices _ at (inl (sym w.pick.ensures.choice ∙ w.in_default.is)) c.loop.auto.counter-end c.loop.invariant.choices c.loop.invariant.world c.loop.invariant.count (sym c.complete.ensures ∙ c.if-complete.false) (cc)
     ]
 
 pub returns-then-complete-clause-run : goal.returns-then-complete-clause-run
