@@ -6,7 +6,7 @@ use Rattle.std.proofs.lemmas.Bool.Decides.{Decides-eqb}
 use Rattle.std.proofs.lemmas.List.{nil_from_length}
 use Rattle.actor_net.specs.declared.choice.Choice.{Choice}
 use Rattle.actor_net.specs.Network.{Network, is_input, on_link, waiting, takes_first, is_enabled, is_done}
-use Rattle.actor_net.proofs.Weights.{weigh, total}
+use Rattle.actor_net.proofs.WeightLaws.{weigh, total}
 
 both_left : (a b : Bool) → a && b ≡ true → a ≡ true
 both_left true b is = refl

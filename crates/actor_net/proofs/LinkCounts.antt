@@ -9,9 +9,9 @@ use Rattle.actor_net.specs.declared.choice.Choice.{Choice}
 use Rattle.actor_net.specs.LinkTable.{LinkLists, IsWithin, link_of, with_link, one_if_held, held_below, all_held, AreCounts}
 use Rattle.actor_net.specs.Network.{Network, IsWorld, is_input, waiting, takes_first, is_enabled}
 use Rattle.actor_net.specs.Schedules.{ports_below, nodes_below, enabled_choices}
-use Rattle.actor_net.proofs.Enabled.{at, one_if, ports_counted}
-use Rattle.actor_net.proofs.Links.{inside, other_place, empty_link}
-use Rattle.actor_net.proofs.Waiting.{waiting_is}
+use Rattle.actor_net.proofs.EnabledChoices.{at, one_if, ports_counted}
+use Rattle.actor_net.proofs.LinkLemmas.{inside, other_place, empty_link}
+use Rattle.actor_net.proofs.WaitingMessages.{waiting_is}
 
 module _ {M : Type 0} where
   pub one-empty : (l : List M) → (length l == 0) ≡ true → one_if_held l ≡ 0

@@ -5,11 +5,11 @@ use Rattle.std.proofs.lemmas.Bool.Decides.{nat_tests}
 use Rattle.std.proofs.lemmas.List.{length-replicate}
 use Rattle.actor_net.specs.Network.{Network, IsWorld, waiting}
 use Rattle.actor_net.specs.Opening.{opening}
-use Rattle.actor_net.proofs.Enabled.{at}
-use Rattle.actor_net.proofs.Links.{empty_link}
-use Rattle.actor_net.proofs.Taken.{both_below}
-use Rattle.actor_net.proofs.Waiting.{waiting_is, waiting_outside}
-use Rattle.actor_net.proofs.Weights.{Each, OnLinks, weigh, total}
+use Rattle.actor_net.proofs.EnabledChoices.{at}
+use Rattle.actor_net.proofs.LinkLemmas.{empty_link}
+use Rattle.actor_net.proofs.StepOutcome.{both_below}
+use Rattle.actor_net.proofs.WaitingMessages.{waiting_is, waiting_outside}
+use Rattle.actor_net.proofs.WeightLaws.{Each, OnLinks, weigh, total}
 
 empty_links_weigh : (M : Type 0) (f : M → ℕ) (n : ℕ) → weigh (weigh f) (replicate n (let none : List M = [] in none)) ≡ 0
 empty_links_weigh M f zero = refl

@@ -5,7 +5,7 @@ use Rattle.actor_net.specs.declared.replays.ReplayFault.{ReplayFault}
 use Rattle.actor_net.specs.declared.replays.ReplayFault.TheVariants.{NotEnabled, NoMemory}
 use Rattle.actor_net.specs.Network.{Network, Stepped, run, IsRun, fault_from}
 use Rattle.actor_net.specs.Replays.{world_or_fault, replayed, FirstFault}
-use Rattle.actor_net.proofs.Runs.{run_without_fault, no_fault, first_fault}
+use Rattle.actor_net.proofs.RunLaws.{run_without_fault, no_fault, first_fault}
 
 module _ {A M N : Type 0} (ready : A → M → Bool) (step : A → ℕ → M → Stepped A M N) (cs : List Choice) (w : Network A M N) where
   -- a run is replayed to its end

@@ -7,7 +7,7 @@ use Rattle.actor_net.specs.declared.stamped.Stamped.{Stamped}
 use Rattle.actor_net.specs.Network.{Stepped, reaches}
 
 -- one step of a node: its clock, the port that it took from, and the message with its stamp
-pub record Event (M : Type 0) : Type 0 where
+pub record NodeStep (M : Type 0) : Type 0 where
   pub clock : ℕ
   pub port : ℕ
   pub took : Stamped M
@@ -17,20 +17,20 @@ abbrev pub messages : {M : Type 0} → List (Stamped M) → List M
 messages xs = map (λ x. x.message) xs
 
 -- the steps as a history notes them: each with its clock and its port
-abbrev pub noted : {M : Type 0} → List (Event M) → List (ℕ × ℕ)
+abbrev pub noted : {M : Type 0} → List (NodeStep M) → List (ℕ × ℕ)
 noted es = map (λ e. (e.clock, e.port)) es
 
 -- what a node does at one step
-abbrev pub does : {A M N : Type 0} → (A → ℕ → M → Stepped A M N) → A → Event M → Stepped A M N
+abbrev pub does : {A M N : Type 0} → (A → ℕ → M → Stepped A M N) → A → NodeStep M → Stepped A M N
 does step node e = step node e.port e.took.message
 
 -- the node after these steps
-abbrev pub node_after : {A M N : Type 0} → (A → ℕ → M → Stepped A M N) → A → List (Event M) → A
+abbrev pub node_after : {A M N : Type 0} → (A → ℕ → M → Stepped A M N) → A → List (NodeStep M) → A
 node_after step node [] = node
 node_after step node (e ∷ es) = node_after step (does step node e).node es
 
 -- what these steps took from a port, in order
-abbrev pub taken_at : {M : Type 0} → ℕ → List (Event M) → List (Stamped M)
+abbrev pub taken_at : {M : Type 0} → ℕ → List (NodeStep M) → List (Stamped M)
 taken_at port [] = []
 taken_at port (e ∷ es) = (if e.port == port then e.took ∷ [] else []) ++ taken_at port es
 
@@ -44,48 +44,48 @@ abbrev pub stamped : {M : Type 0} → ℕ → List M → List (Stamped M)
 stamped clock ms = map (λ m. record { clock = clock; message = m }) ms
 
 -- what these steps sent to one receiver, in order
-abbrev pub sent_to : {A M N : Type 0} → (A → ℕ → M → Stepped A M N) → ℕ → A → List (Event M) → List (Stamped M)
+abbrev pub sent_to : {A M N : Type 0} → (A → ℕ → M → Stepped A M N) → ℕ → A → List (NodeStep M) → List (Stamped M)
 sent_to step to node [] = []
 sent_to step to node (e ∷ es) =
     stamped e.clock (sent_for to (does step node e).sends) ++ sent_to step to (does step node e).node es
 
 -- what these steps of one node put on its link to another, of n nodes: what doesn't arrive is dropped
-abbrev pub put_between : {A M N : Type 0} → (A → ℕ → M → Stepped A M N) → ℕ → ℕ → ℕ → A → List (Event M) → List (Stamped M)
+abbrev pub put_between : {A M N : Type 0} → (A → ℕ → M → Stepped A M N) → ℕ → ℕ → ℕ → A → List (NodeStep M) → List (Stamped M)
 put_between step n from to node es = if reaches n from to then sent_to step to node es else []
 
 -- what each of these steps noted
-abbrev pub notes_of : {A M N : Type 0} → (A → ℕ → M → Stepped A M N) → A → List (Event M) → List (List N)
+abbrev pub notes_of : {A M N : Type 0} → (A → ℕ → M → Stepped A M N) → A → List (NodeStep M) → List (List N)
 notes_of step node [] = []
 notes_of step node (e ∷ es) = (does step node e).notes ∷ notes_of step (does step node e).node es
 
 -- each clock is greater than the one before and than the stamp of what was taken
-abbrev pub Rise : {M : Type 0} → ℕ → List (Event M) → Type 0
-Rise clock [] = Unit {0}
-Rise clock (e ∷ es) = (clock < e.clock) × (e.took.clock < e.clock) × Rise e.clock es
+abbrev pub ClocksRise : {M : Type 0} → ℕ → List (NodeStep M) → Type 0
+ClocksRise clock [] = Unit {0}
+ClocksRise clock (e ∷ es) = (clock < e.clock) × (e.took.clock < e.clock) × ClocksRise e.clock es
 
 -- each step took from a port below n
-abbrev pub PortsBelow : {M : Type 0} → ℕ → List (Event M) → Type 0
+abbrev pub PortsBelow : {M : Type 0} → ℕ → List (NodeStep M) → Type 0
 PortsBelow n [] = Unit {0}
 PortsBelow n (e ∷ es) = (e.port < n) × PortsBelow n es
 
 -- whenever these steps of node k took from the input, the node was ready for what it took
-abbrev pub WasReady : {A M N : Type 0} → (A → M → Bool) → (A → ℕ → M → Stepped A M N) → ℕ → A → List (Event M) → Type 0
+abbrev pub WasReady : {A M N : Type 0} → (A → M → Bool) → (A → ℕ → M → Stepped A M N) → ℕ → A → List (NodeStep M) → Type 0
 WasReady ready step k node [] = Unit {0}
 WasReady ready step k node (e ∷ es) =
     (k ≡ 0 → e.port ≡ 0 → ready node e.took.message ≡ true) × WasReady ready step k (does step node e).node es
 
 -- a list without its first, where there is one
-abbrev pub without_front : {X : Type 0} → List X → List X
-without_front [] = []
-without_front (x ∷ xs) = xs
+abbrev pub without_first_list : {X : Type 0} → List X → List X
+without_first_list [] = []
+without_first_list (x ∷ xs) = xs
 
 -- the first list of a queue, where there is one
-abbrev pub front_list : {N : Type 0} → List (List N) → List N
-front_list [] = []
-front_list (x ∷ xs) = x
+abbrev pub first_list : {N : Type 0} → List (List N) → List N
+first_list [] = []
+first_list (x ∷ xs) = x
 
 -- the notes of all nodes in the order of the choices: each choice takes the next of its node's
 abbrev pub dealt : {N : Type 0} → (ℕ → List (List N)) → List Choice → List N
 dealt queues [] = []
 dealt queues (c ∷ cs) =
-    front_list (queues c.node) ++ dealt (λ j. if j == c.node then without_front (queues j) else queues j) cs
+    first_list (queues c.node) ++ dealt (λ j. if j == c.node then without_first_list (queues j) else queues j) cs

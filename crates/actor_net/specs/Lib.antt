@@ -3,7 +3,7 @@ pub mod Opening
 pub mod LinkTable
 pub mod Schedules
 pub mod Replays
-pub mod RunHistory
+pub mod RunSteps
 pub mod Histories
 pub mod Merging
-pub mod Fronts
+pub mod PartialMerge

@@ -10,11 +10,11 @@ abbrev pub world_or_fault : {A M N : Type 0} → Option ℕ → Network A M N �
 world_or_fault None w = Ok w
 world_or_fault (Some index) w = Err (NotEnabled index)
 
--- what a replay gives: the world behind the choices, or the place of the first of them that isn't enabled in its turn
+-- what a replay gives: the world after the choices, or the place of the first of them that isn't enabled in its turn
 abbrev pub replayed : {A M N : Type 0} → (A → M → Bool) → (A → ℕ → M → Stepped A M N) → List Choice → Network A M N → Result (Network A M N) ReplayFault
 replayed ready step cs w = world_or_fault (fault_from ready step 0 cs w) (run step cs w)
 
--- the choice at a place is the first that isn't enabled in its turn: those before it are a run, and it isn't enabled behind them
+-- the choice at a place is the first that isn't enabled in its turn: those before it are a run, and it isn't enabled after them
 pub record FirstFault {A M N : Type 0} (ready : A → M → Bool) (step : A → ℕ → M → Stepped A M N) (cs : List Choice) (w : Network A M N) (index : ℕ) : Type 0 where
   pub choice : Choice
   pub there : slice_get cs index ≡ Some choice

@@ -43,7 +43,7 @@ abbrev pub picked : {A M N : Type 0} → (A → M → Bool) → Schedule → Net
 picked ready schedule w =
     slice_get (enabled_choices ready w) (place_in schedule (length (enabled_choices ready w)))
 
--- a choice and those behind it, or none
+-- a choice and those after it, or none
 abbrev pub taken_then : Option Choice → (Choice → List Choice) → List Choice
 taken_then None rest = []
 taken_then (Some c) rest = c ∷ rest c
@@ -56,7 +56,7 @@ scheduled ready ended step (suc most) schedule w =
     then []
     else taken_then (picked ready schedule w) (λ c. scheduled ready ended step most (later schedule) (taken step w c))
 
--- a schedule that stops short behind so many choices: the world there isn't complete, and no choice is enabled or no more may
+-- a schedule that stops short after so many choices: the world there isn't complete, and no choice is enabled or no more may
 -- be taken
 pub record StopsShort {A M N : Type 0} (ready : A → M → Bool) (ended : A → Bool) (w : Network A M N) (count : ℕ) : Type 0 where
   pub incomplete : is_done ended w ≡ false

@@ -1,8 +1,8 @@
 ghost use Rattle.std.specs.Prelude.{◌≡◌, ◌++◌, map, IfOk, OnOk};
-ghost use Rattle.actor_net.specs.Merging.{IsMerge, marks_of, all_marks as all_marks_lem, choice_of};
+ghost use Rattle.actor_net.specs.Merging.{IsMerge, history_steps, all_steps as all_steps_lem, choice_of};
 
 use super::choice::{Choice, Choices};
-use super::fronts::{merge_fronts, nodes_rise};
+use super::partial_merge::{merge_by_clock, nodes_rise};
 use basics::{NoMemory, Sequence};
 use std::alloc::Global;
 
@@ -15,7 +15,7 @@ pub struct History {
 
 /// A step of a history with its node.
 #[derive(Clone, Copy, Debug)]
-pub(crate) struct Mark {
+pub(crate) struct HistoryStep {
     pub(crate) clock: u64,
     pub(crate) node: u8,
     pub(crate) port: u8,
@@ -28,7 +28,7 @@ pub fn merge(alloc: Global, histories: &[History]) -> Result<Choices, NoMemory>
     if !nodes_rise(histories) {
         return merge_sorted(alloc, histories);
     }
-    match merge_fronts(alloc, histories)? {
+    match merge_by_clock(alloc, histories)? {
         Some(choices) => Ok(choices),
         None => merge_sorted(alloc, histories),
     }
@@ -38,27 +38,27 @@ pub fn merge(alloc: Global, histories: &[History]) -> Result<Choices, NoMemory>
 fn merge_sorted(alloc: Global, histories: &[History]) -> Result<Choices, NoMemory>
     ensures { IfOk result (IsMerge histories.now) }
 {
-    let mut marks = all_marks(alloc, histories)?;
-    marks.sort_by_key(|mark| (mark.clock, mark.node))?;
-    let choices = choices_of(alloc, marks.as_slice())?;
+    let mut steps = all_steps(alloc, histories)?;
+    steps.sort_by_key(|step| (step.clock, step.node))?;
+    let choices = choices_of(alloc, steps.as_slice())?;
     Ok(Choices::from_vec(choices))
 }
 
-fn all_marks(alloc: Global, histories: &[History]) -> Result<Vec<Mark>, NoMemory>
-    ensures { IfOk result (λ marks. marks.items ≡ all_marks_lem histories.now) }
+fn all_steps(alloc: Global, histories: &[History]) -> Result<Vec<HistoryStep>, NoMemory>
+    ensures { IfOk result (λ steps. steps.items ≡ all_steps_lem histories.now) }
 {
-    let mut marks = Vec::new(alloc);
+    let mut steps = Vec::new(alloc);
     for history in histories {
-        push_marks(&mut marks, history)?;
+        push_steps(&mut steps, history)?;
     }
-    Ok(marks)
+    Ok(steps)
 }
 
-fn push_marks(marks: &mut Vec<Mark>, history: &History) -> Result<(), NoMemory>
-    ensures { OnOk result (marks.new.items ≡ marks.old.items ++ marks_of history.now) }
+fn push_steps(steps: &mut Vec<HistoryStep>, history: &History) -> Result<(), NoMemory>
+    ensures { OnOk result (steps.new.items ≡ steps.old.items ++ history_steps history.now) }
 {
     for step in history.steps.items() {
-        marks.push(Mark {
+        steps.push(HistoryStep {
             clock: step.0,
             node: history.node,
             port: step.1,
@@ -67,14 +67,14 @@ fn push_marks(marks: &mut Vec<Mark>, history: &History) -> Result<(), NoMemory>
     Ok(())
 }
 
-fn choices_of(alloc: Global, marks: &[Mark]) -> Result<Vec<Choice>, NoMemory>
-    ensures { IfOk result (λ choices. choices.items ≡ map choice_of marks.now) }
+fn choices_of(alloc: Global, steps: &[HistoryStep]) -> Result<Vec<Choice>, NoMemory>
+    ensures { IfOk result (λ choices. choices.items ≡ map choice_of steps.now) }
 {
-    marks
+    steps
         .iter()
-        .map(|mark| Choice {
-            node: mark.node,
-            port: mark.port,
+        .map(|step| Choice {
+            node: step.node,
+            port: step.port,
         })
         .collect(alloc)
 }

@@ -9,11 +9,11 @@
 
 pub mod actor;
 pub mod choice;
-mod fronts;
 pub mod histories;
 mod link;
 mod link_table;
 pub mod outbox;
+mod partial_merge;
 pub mod replays;
 pub mod schedule;
 pub mod stamped;

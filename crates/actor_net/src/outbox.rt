@@ -5,7 +5,7 @@ use std::alloc::Global;
 use std::collections::VecDeque;
 use std::marker::Model;
 
-/// What a step sends and notes. Contracts see two lists: what was sent, each message behind its receiver, and the notes.
+/// What a step sends and notes. Contracts see two lists: what was sent, each message with its receiver, and the notes.
 #[derive(Drop)]
 pub struct Outbox<M, N> {
     sent: VecDeque<(u8, M)>,
@@ -31,7 +31,7 @@ impl<M, N> Outbox<M, N> {
         }
     }
 
-    /// Sends a message to a node, behind what was sent before.
+    /// Sends a message to a node, after what was sent before.
     pub fn send(&mut self, to: u8, message: M) -> Result<(), NoMemory>
     where
         M: Drop,
@@ -42,7 +42,7 @@ impl<M, N> Outbox<M, N> {
         Ok(())
     }
 
-    /// Notes something, behind what was noted before.
+    /// Notes something, after what was noted before.
     pub fn note(&mut self, note: N) -> Result<(), NoMemory>
     where
         N: Drop,
@@ -70,7 +70,7 @@ impl<M, N> Outbox<M, N> {
         self.sent.pop_front()
     }
 
-    /// Moves the notes behind those of a log. Their places are used again.
+    /// Moves the notes to the end of a log. Their places are used again.
     pub fn move_notes(&mut self, log: &mut Vec<N>) -> Result<(), NoMemory>
         ensures log { OnOk result (log.new.items ≡ log.old.items ++ self.old.1) }
         ensures notes { OnOk result (self.new ≡ (self.old.0, [])) }

@@ -67,7 +67,7 @@ impl<A: Actor> World<A> {
         })
     }
 
-    /// All that the world holds. After want of memory it is dropped.
+    /// All that the world holds. It is dropped where memory runs out.
     pub fn parts(self) -> Result<Parts<A>, NoMemory>
         ensures parts { IfOk result (λ parts. world_of parts ≡ self) }
         ensures world { IsWorld self }
@@ -110,7 +110,7 @@ impl<A: Actor> World<A> {
         }
     }
 
-    /// Takes one step. After want of memory the world is only taken apart.
+    /// Takes one step. Where memory runs out the world is only taken apart afterwards.
     pub fn take(&mut self, choice: Choice) -> Result<(), TakeFault>
         ensures ok { OnOk result (self.new ≡ taken A.stepped self.old choice) }
         ensures enabled { OnOk result (is_enabled A.is_ready self.old choice ≡ true) }
@@ -229,7 +229,7 @@ impl<A: Actor> World<A> {
     }
 }
 
-/// All that a world holds, each list from its front. Of n nodes the link from s to r stands at place s * n + r.
+/// All that a world holds, each list from its first. Of n nodes the link from s to r stands at place s * n + r.
 #[derive(Drop)]
 pub struct Parts<A: Actor> {
     pub nodes: Sequence<A>,

@@ -5,8 +5,8 @@ use Rattle.actor_net.proofs.histories.merge_sorted.Goals as goal
 
 pub returns : goal.returns
 returns c = record {
-  marks = c.sort_by_key.new.self.items;
+  steps = c.sort_by_key.new.self.items;
   sorted = c.in_ok-sort_by_key.ensures.sorted key_of (answers_always _ _ _ (λ f a r f' q. search rules));
-  stable = rw (← c.in_ok-marks.ensures) (c.in_ok-sort_by_key.ensures.stable key_of (answers_always _ _ _ (λ f a r f' q. search rules)));
+  stable = rw (← c.in_ok-steps.ensures) (c.in_ok-sort_by_key.ensures.stable key_of (answers_always _ _ _ (λ f a r f' q. search rules)));
   taken = search rules;
 }

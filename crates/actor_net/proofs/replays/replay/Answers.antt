@@ -1,4 +1,4 @@
--- The loop ends with no fault, in the world behind all choices, or stops at the first fault.
+-- The loop ends with no fault, in the world after all choices, or stops at the first fault.
 use Rattle.std.proofs.Common.{◌≡◌, None, Some, Ok, Err, ap, sym, ◌∙◌, arith}
 use Rattle.std.proofs.lemmas.List.{at_drop_all, at_drop_more}
 use Rattle.actor_net.specs.Network.{run, fault_from}

@@ -4,8 +4,8 @@ use Rattle.std.proofs.lemmas.List.{length_push}
 use Rattle.actor_net.specs.Network.{IsRun}
 use Rattle.actor_net.specs.Schedules.{schedule_of}
 use Rattle.actor_net.specs.declared.schedule.TheConstants.{MOST_CHOICES}
-use Rattle.actor_net.proofs.Runs.{run_more, run_splits}
-use Rattle.actor_net.proofs.Scheduling.{picked_enabled, scheduled_more, scheduled_whole, scheduled_is_run, stops_short}
+use Rattle.actor_net.proofs.RunLaws.{run_more, run_splits}
+use Rattle.actor_net.proofs.ScheduleLaws.{picked_enabled, scheduled_more, scheduled_whole, scheduled_is_run, stops_short}
 use Rattle.actor_net.proofs.schedule.run_schedule.Goals as goal
 use Rattle.actor_net.proofs.schedule.run_schedule.Goals.{else-loop-test, then-loop-test+in_default}
 

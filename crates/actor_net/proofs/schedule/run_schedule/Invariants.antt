@@ -1,4 +1,4 @@
--- The choices so far and those that are left are the scheduled ones, and the world is behind those so far.
+-- The choices so far and those that are left are the scheduled ones, and the world is the one after those so far.
 use Rattle.std.proofs.Common.{◌≡◌, ◌-◌, ◌++◌, length}
 use Rattle.actor_net.specs.declared.schedule.TheConstants.{MOST_CHOICES}
 use Rattle.actor_net.specs.Network.{run}

@@ -1,7 +1,7 @@
 -- What a step made of the fields is what the definition says.
 use Rattle.std.proofs.Common.{arith}
 use Rattle.std.proofs.lemmas.Grind.{common_steps}
-use Rattle.actor_net.proofs.Steps.{made_after}
+use Rattle.actor_net.proofs.WorldStepLemmas.{made_after}
 use Rattle.actor_net.proofs.world.World.step.Goals as goal
 
 pub returns : goal.returns
