@@ -1,7 +1,7 @@
 -- A column of the table of links, taken out one list at a time.
 use Rattle.std.proofs.Common.{◌≡◌, ◌≢◌, ◌<◌, ℕ, ◌+◌, ◌*◌, List, [], ◌∷◌, ◌++◌, length, slice_set, map, sym, ◌∙◌, ap, subst, arith}
 use Rattle.std.proofs.lemmas.List.{length-map, map-append, get_or-set_other, get_or_append_left}
-use Rattle.actor_net.proofs.Links.{other_place}
+use Rattle.actor_net.proofs.LinkLemmas.{other_place}
 use Rattle.actor_threads.specs.Table.{row_at}
 use Rattle.actor_threads.proofs.Rows.{last_of, same_or}
 

@@ -7,12 +7,12 @@ use Rattle.actor_net.specs.declared.choice.Choice.{Choice}
 use Rattle.actor_net.specs.declared.stamped.Stamped.{Stamped}
 use Rattle.actor_net.specs.declared.histories.History.{History}
 use Rattle.actor_net.specs.Network.{Network, Stepped, IsWorld, waiting}
-use Rattle.actor_net.specs.Histories.{Event, messages, noted, node_after, notes_of, taken_at, put_between, dealt, Rise, PortsBelow, WasReady}
-use Rattle.actor_net.proofs.Enabled.{at}
-use Rattle.actor_net.proofs.Waiting.{waiting_is}
-use Rattle.actor_net.proofs.Links.{inside}
-use Rattle.actor_net.proofs.Follow.{Fits}
-use Rattle.actor_net.proofs.Merged.{Matches, Leaves}
+use Rattle.actor_net.specs.Histories.{NodeStep, messages, noted, node_after, notes_of, taken_at, put_between, dealt, ClocksRise, PortsBelow, WasReady}
+use Rattle.actor_net.proofs.EnabledChoices.{at}
+use Rattle.actor_net.proofs.WaitingMessages.{waiting_is}
+use Rattle.actor_net.proofs.LinkLemmas.{inside}
+use Rattle.actor_net.proofs.ClockOrder.{FitsWorld}
+use Rattle.actor_net.proofs.MergeRun.{AreHistories, HistoriesLeave}
 use Rattle.actor_threads.specs.Ways.{Incoming, Outgoing, begun}
 use Rattle.actor_threads.specs.Work.{Shown, in_at, out_at, Ticks, Worked, Ran}
 use Rattle.actor_threads.specs.Table.{row_at, Closed}
@@ -30,14 +30,14 @@ not_first m zero r h other e = let r_zero : r ≡ 0 = omega arith in true≢fals
 not_first m (suc k) r h other e = let more : suc k * m ≡ m + k * m = grind arith in omega arith
 
 -- clocks that tick rise
-rises : {M : Type 0} (clock : ℕ) (es : List (Event M)) → Ticks clock es → Rise clock es
+rises : {M : Type 0} (clock : ℕ) (es : List (NodeStep M)) → Ticks clock es → ClocksRise clock es
 rises clock [] t = tt
 rises clock (e ∷ es) t = let is = t.0 in (omega arith, omega arith, rises e.clock es t.1)
 
 -- the histories of workers that have these events
-pub matches_from : {A M N : Type 0} (events : ℕ → List (Event M)) (blank : Shown A M N) (i : ℕ) (workers : List (Shown A M N))
+pub matches_from : {A M N : Type 0} (events : ℕ → List (NodeStep M)) (blank : Shown A M N) (i : ℕ) (workers : List (Shown A M N))
     → ((j : ℕ) → j < length workers → ((slice_index_or workers j blank).number ≡ j + i) × ((slice_index_or workers j blank).steps ≡ noted (events (j + i)))) → ((j : ℕ) → length workers + i ≤ j → events j ≡ [])
-    → Matches events i (map (λ (s : Shown A M N). let h : History = record { node = s.number; steps = s.steps } in h) workers)
+    → AreHistories events i (map (λ (s : Shown A M N). let h : History = record { node = s.number; steps = s.steps } in h) workers)
 matches_from events blank i [] each none = λ j h. none j (omega arith)
 matches_from events blank i (x ∷ xs) each none =
     let first = each 0 (omega arith) in
@@ -70,16 +70,16 @@ module _ {A M N : Type 0} (ready : A → M → Bool) (step : A → ℕ → M →
   starts j h = all.each j blank h
 
   -- the events of a node, none where there is no such node
-  abbrev Did : ℕ → List (Event M) → Type 0
+  abbrev Did : ℕ → List (NodeStep M) → Type 0
   Did j es = (j < n → (k : Worked ready step (start_of j) (end_of j)) × (k.events ≡ es)) × (n ≤ j → es ≡ [])
 
-  pub pick : (j : ℕ) → (es : List (Event M)) × Did j es
+  pub pick : (j : ℕ) → (es : List (NodeStep M)) × Did j es
   pick j = elim (cases_lt j n) [
     | inl h ↦ ((ran j blank h).worked.events, ((λ _. ((ran j blank h).worked, refl)), λ o. absurd (omega arith)))
     | inr o ↦ ([], ((λ h. absurd (omega arith)), λ _. refl))
   ]
 
-  abbrev pub events : ℕ → List (Event M)
+  abbrev pub events : ℕ → List (NodeStep M)
   events j = (pick j).0
 
   pub no_events : (j : ℕ) → n ≤ j → events j ≡ []
@@ -98,20 +98,20 @@ module _ {A M N : Type 0} (ready : A → M → Bool) (step : A → ℕ → M →
   number_is j h = let k = (pick j).1.0 h in k.0.number ∙ (starts j h).number
 
   -- a fact of each history, also of those that are empty
-  each : (P : ℕ → List (Event M) → Type 0) → ((j : ℕ) → j < n → P j (events j)) → ((j : ℕ) → P j []) → (j : ℕ) → P j (events j)
+  each : (P : ℕ → List (NodeStep M) → Type 0) → ((j : ℕ) → j < n → P j (events j)) → ((j : ℕ) → P j []) → (j : ℕ) → P j (events j)
   each P some none j = elim (cases_lt j n) [ inl h ↦ some j h | inr o ↦ subst (λ es. P j es) (sym (no_events j o)) (none j) ]
 
   ports_is : (j : ℕ) → PortsBelow n (events j)
-  ports_is = each (λ _ es. PortsBelow n es) (λ j h. let k = (pick j).1.0 h in subst (λ (v : ℕ × List (Event M)). PortsBelow v.0 v.1) (λ i. ((starts j h).count_ins i, k.1 i)) k.0.ports) (λ _. tt)
+  ports_is = each (λ _ es. PortsBelow n es) (λ j h. let k = (pick j).1.0 h in subst (λ (v : ℕ × List (NodeStep M)). PortsBelow v.0 v.1) (λ i. ((starts j h).count_ins i, k.1 i)) k.0.ports) (λ _. tt)
 
   ready_is : (j : ℕ) → WasReady ready step j (node_at j) (events j)
   ready_is = each (λ j es. WasReady ready step j (node_at j) es)
-      (λ j h. let k = (pick j).1.0 h in subst (λ (v : ℕ × A × List (Event M)). WasReady ready step v.0 v.1 v.2) (λ i. ((starts j h).number i, (starts j h).node d i, k.1 i)) k.0.was_ready) (λ _. tt)
+      (λ j h. let k = (pick j).1.0 h in subst (λ (v : ℕ × A × List (NodeStep M)). WasReady ready step v.0 v.1 v.2) (λ i. ((starts j h).number i, (starts j h).node d i, k.1 i)) k.0.was_ready) (λ _. tt)
 
-  pub rise_is : (j : ℕ) → Rise 0 (events j)
-  rise_is = each (λ _ es. Rise 0 es) (λ j h. let k = (pick j).1.0 h in subst (λ (v : ℕ × List (Event M)). Rise v.0 v.1) (λ i. ((starts j h).clock i, k.1 i)) (rises _ _ k.0.ticks)) (λ _. tt)
+  pub rise_is : (j : ℕ) → ClocksRise 0 (events j)
+  rise_is = each (λ _ es. ClocksRise 0 es) (λ j h. let k = (pick j).1.0 h in subst (λ (v : ℕ × List (NodeStep M)). ClocksRise v.0 v.1) (λ i. ((starts j h).clock i, k.1 i)) (rises _ _ k.0.ticks)) (λ _. tt)
 
-  pub matches : Matches events 0 (map (λ (s : Shown A M N). let h : History = record { node = s.number; steps = s.steps } in h) ended)
+  pub matches : AreHistories events 0 (map (λ (s : Shown A M N). let h : History = record { node = s.number; steps = s.steps } in h) ended)
   matches = matches_from events blank 0 ended (λ j h. let inside : j < n = subst (λ m. j < m) count h in (number_is j inside ∙ omega arith, steps_is j inside ∙ ap (λ m. noted (events m)) (omega arith))) (λ j h. no_events j (omega (arith, count)))
 
   -- the links can be closed
@@ -173,7 +173,7 @@ module _ {A M N : Type 0} (ready : A → M → Bool) (step : A → ℕ → M →
     abbrev pub left : ℕ → ℕ → List (Stamped M)
     left s r = (pick_left s r).0
 
-    pub fits : Fits ready step d w events holds left
+    pub fits : FitsWorld ready step d w events holds left
     fits = record {
       some = is.some_node;
       square = is.square;
@@ -215,7 +215,7 @@ module _ {A M N : Type 0} (ready : A → M → Bool) (step : A → ℕ → M →
       | inr o ↦ get_or_past (map (λ (s : Shown A M N). s.notes) ended) j [] (subst (λ m. m ≤ j) (sym (length-map ended _ ∙ count)) o) ∙ sym (ap (notes_of step (node_at j)) (no_events j o))
     ]
 
-    pub leaves : (cs : List Choice) → Leaves ready step d w (world_left cs) events left cs
+    pub leaves : (cs : List Choice) → HistoriesLeave ready step d w (world_left cs) events left cs
     leaves cs = record {
       count = length-map ended _ ∙ count;
       nodes = λ j h. get_or-map (λ (s : Shown A M N). s.node) ended j blank d (subst (λ m. j < m) (sym count) h) ∙ node_is j h;

@@ -10,7 +10,7 @@ use Rattle.actor_net.specs.declared.choice.Choice.{Choice}
 use Rattle.actor_net.specs.declared.stamped.Stamped.{Stamped}
 use Rattle.actor_net.specs.declared.histories.History.{History}
 use Rattle.actor_net.specs.Network.{Network, is_input, waiting, takes_first, is_enabled}
-use Rattle.actor_net.specs.Merging.{marks_of, all_marks, key_of, key_cmp, choice_of, IsMerge}
+use Rattle.actor_net.specs.Merging.{history_steps, all_steps, key_of, key_cmp, choice_of, IsMerge}
 use Rattle.actor_threads.specs.Ways.{Incoming, begun, last_clock}
 use Rattle.actor_threads.specs.Work.{Shown, is_input_of, IsQuiet}
 use Rattle.actor_threads.specs.Round.{StartsAs}
@@ -54,13 +54,13 @@ module _ {A M N : Type 0} where
   abbrev pub history_of : Shown A M N → History
   history_of s = record { node = s.number; steps = s.steps }
 
-  none_each : (blank : Shown A M N) (workers : List (Shown A M N)) → all_marks (map history_of workers) ≡ [] → (j : ℕ) → j < length workers → (slice_index_or workers j blank).steps ≡ []
+  none_each : (blank : Shown A M N) (workers : List (Shown A M N)) → all_steps (map history_of workers) ≡ [] → (j : ℕ) → j < length workers → (slice_index_or workers j blank).steps ≡ []
   none_each blank [] e j h = absurd (omega arith)
-  none_each blank (x ∷ xs) e zero h = no_map _ x.steps (no_front (marks_of (history_of x)) (all_marks (map history_of xs)) e).0
-  none_each blank (x ∷ xs) e (suc j) h = none_each blank xs (no_front (marks_of (history_of x)) (all_marks (map history_of xs)) e).1 j (omega arith)
+  none_each blank (x ∷ xs) e zero h = no_map _ x.steps (no_front (history_steps (history_of x)) (all_steps (map history_of xs)) e).0
+  none_each blank (x ∷ xs) e (suc j) h = none_each blank xs (no_front (history_steps (history_of x)) (all_steps (map history_of xs)) e).1 j (omega arith)
 
   pub no_steps : (blank : Shown A M N) (workers : List (Shown A M N)) (cs : List Choice) → IsMerge (map history_of workers) cs → cs ≡ [] → (j : ℕ) → j < length workers → (slice_index_or workers j blank).steps ≡ []
-  no_steps blank workers cs merge none = none_each blank workers (none_before (λ a b. is_lt (key_cmp (key_of a) (key_of b))) (all_marks (map history_of workers)) merge.marks (λ y. grind (arith, nat_tests)) (no_marks choice_of merge.marks (sym none ∙ merge.taken)) merge.stable)
+  no_steps blank workers cs merge none = none_each blank workers (none_before (λ a b. is_lt (key_cmp (key_of a) (key_of b))) (all_steps (map history_of workers)) merge.steps (λ y. grind (arith, nat_tests)) (no_marks choice_of merge.steps (sym none ∙ merge.taken)) merge.stable)
 
   no_wait : (w : Network A M N) (c : Choice) → 0 < length w.nodes → length w.nodes ≤ c.port → waiting w c ≡ []
   no_wait w c some far =

@@ -6,8 +6,8 @@ use Rattle.std.proofs.lemmas.List.{length-map, get_or-map}
 use Rattle.actor_net.specs.declared.choice.Choice.{Choice}
 use Rattle.actor_net.specs.declared.histories.History.{History}
 use Rattle.actor_net.specs.Network.{Network, Stepped, IsWorld, IsRun, run, is_enabled}
-use Rattle.actor_net.proofs.Follow.{Replayed}
-use Rattle.actor_net.proofs.Merged.{merged, replay_is}
+use Rattle.actor_net.proofs.ClockOrder.{RunLeaves}
+use Rattle.actor_net.proofs.MergeRun.{merged, replay_is}
 use Rattle.actor_threads.specs.declared.round.Seat.{Seat}
 use Rattle.actor_threads.specs.Ways.{Incoming, Outgoing}
 use Rattle.actor_threads.specs.Work.{Shown, Ran}
@@ -71,7 +71,7 @@ module _ {A M N : Type 0} (ready : A → M → Bool) (step : A → ℕ → M →
     closed : AllClosed (length w.nodes) (length w.nodes) (map (λ (s : Shown A M N). s.ins) (workers after)) (map (λ (s : Shown A M N). s.outs) (workers after)) g.links
     closed = subst (λ n. AllClosed n n (map (λ (s : Shown A M N). s.ins) (workers after)) (map (λ (s : Shown A M N). s.outs) (workers after)) g.links) nodes g.closed
 
-    replayed : Replayed ready step d w (events ready step w (workers before) (workers after) d is all each count) (left ready step w (workers before) (workers after) d is all each count g.links closed.count closed.closed) cs
+    replayed : RunLeaves ready step d w (events ready step w (workers before) (workers after) d is all each count) (left ready step w (workers before) (workers after) d is all each count g.links closed.count closed.closed) cs
     replayed = merged ready step d w (map history_of (workers after)) cs (events ready step w (workers before) (workers after) d is all each count)
         (holds ready step w (workers before) (workers after) d is all each count) (left ready step w (workers before) (workers after) d is all each count g.links closed.count closed.closed)
         g.merged (matches ready step w (workers before) (workers after) d is all each count) (rise_is ready step w (workers before) (workers after) d is all each count)

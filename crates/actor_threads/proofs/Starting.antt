@@ -5,8 +5,8 @@ use Rattle.std.proofs.lemmas.List.{length-map, get_or-map, get_or_append_left}
 use Rattle.atomic_table.specs.Seated.{TableId}
 use Rattle.fifo_link.specs.Ends.{End}
 use Rattle.actor_net.specs.Network.{Network, waiting}
-use Rattle.actor_net.proofs.Enabled.{at}
-use Rattle.actor_net.proofs.Waiting.{waiting_is}
+use Rattle.actor_net.proofs.EnabledChoices.{at}
+use Rattle.actor_net.proofs.WaitingMessages.{waiting_is}
 use Rattle.actor_threads.specs.Ways.{begun}
 use Rattle.actor_threads.specs.Work.{Shown, in_at, no_out, opened, all_in, all_out, waits}
 use Rattle.actor_threads.specs.Table.{row_at, no_end, one_at, name_of, AllOpened}

@@ -2,7 +2,7 @@
 use Rattle.std.proofs.Common.{◌≡◌, ◌==◌, ◌<◌, ◌⊎◌, ⊎_elim, inl, inr, arith, ℕ, zero, suc, ◌+◌, length-append, Bool, true, false, if◌then◌else◌, List, [], ◌∷◌, ◌++◌, length, sym, ◌∙◌, ap, refl, subst, append-nil, append_assoc}
 use Rattle.actor_net.specs.declared.stamped.Stamped.{Stamped}
 use Rattle.actor_net.specs.Network.{Stepped}
-use Rattle.actor_net.specs.Histories.{Event, noted, node_after, notes_of, taken_at, put_between}
+use Rattle.actor_net.specs.Histories.{NodeStep, noted, node_after, notes_of, taken_at, put_between}
 use Rattle.actor_threads.specs.Ways.{Incoming, Outgoing, Draws, Sends}
 use Rattle.actor_threads.specs.Work.{Shown, in_at, out_at, tick, clock_after, put_for, is_input_of, DrawsAt, Idled, Found, Acted, IsQuiet, Worked}
 use Rattle.actor_threads.proofs.Drawing.{drew_nothing}
@@ -105,7 +105,7 @@ module _ {A M N : Type 0} (ready : A → M → Bool) (step : A → ℕ → M →
 
   -- a look that found a message, and then the step with it
   module _ (old mid found new : Shown A M N) (p : ℕ) (x : Stamped M) (w : Worked ready step old mid) (f : Found ready mid found p x) (a : Acted step found new p x) where
-    abbrev e : Event M
+    abbrev e : NodeStep M
     e = record { clock = tick found.clock x; port = p; took = x }
 
     node_is : found.node ≡ node_after step old.node w.events

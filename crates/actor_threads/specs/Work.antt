@@ -4,7 +4,7 @@ use Rattle.std.specs.Prelude.{◌≡◌, ◌==◌, ◌&&◌, ◌<◌, ◌≤◌,
 use Rattle.atomic_table.specs.Seated.{TableId}
 use Rattle.actor_net.specs.declared.stamped.Stamped.{Stamped}
 use Rattle.actor_net.specs.Network.{Stepped, reaches}
-use Rattle.actor_net.specs.Histories.{Event, noted, node_after, notes_of, taken_at, sent_for, stamped, put_between, PortsBelow, WasReady}
+use Rattle.actor_net.specs.Histories.{NodeStep, noted, node_after, notes_of, taken_at, sent_for, stamped, put_between, PortsBelow, WasReady}
 use Rattle.fifo_link.specs.Ends.{End}
 use Rattle.actor_threads.specs.Ways.{Incoming, Outgoing, Draws, Sends, begun, last_clock}
 
@@ -63,12 +63,12 @@ module _ {M : Type 0} where
   tick clock took = max clock took.clock + 1
 
   -- each step has the next clock
-  abbrev pub Ticks : ℕ → List (Event M) → Type 0
+  abbrev pub Ticks : ℕ → List (NodeStep M) → Type 0
   Ticks clock [] = Unit {0}
   Ticks clock (e ∷ es) = (e.clock ≡ tick clock e.took) × Ticks e.clock es
 
   -- the clock after these steps
-  abbrev pub clock_after : ℕ → List (Event M) → ℕ
+  abbrev pub clock_after : ℕ → List (NodeStep M) → ℕ
   clock_after clock [] = clock
   clock_after clock (e ∷ es) = clock_after e.clock es
 
@@ -126,7 +126,7 @@ module _ {A M N : Type 0} where
 
   -- a worker did these steps: its node is their result, on each port they took a prefix of what was kept and then taken, and what they sent, with their clocks as stamps, stands behind what was sent before
   pub record Worked (ready : A → M → Bool) (step : A → ℕ → M → Stepped A M N) (old new : Shown A M N) : Type 0 where
-    pub events : List (Event M)
+    pub events : List (NodeStep M)
     pub number : new.number ≡ old.number
     pub node : new.node ≡ node_after step old.node events
     pub steps : new.steps ≡ old.steps ++ noted events

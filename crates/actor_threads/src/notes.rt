@@ -1,6 +1,6 @@
 //! What the steps of a worker noted.
 ghost use Rattle.std.specs.Prelude.{◌≡◌, ◌≤◌, ◌+◌, [], ◌∷◌, ◌++◌, length, take, drop, OnOk, OnErr, MatchOption};
-ghost use Rattle.actor_net.specs.Histories.{without_front, front_list};
+ghost use Rattle.actor_net.specs.Histories.{without_first_list, first_list};
 
 use actor_net::Outbox;
 use basics::NoMemory;
@@ -185,8 +185,8 @@ impl<N> Model for NoteQueue<N> {
 impl<N: Drop> NoteQueue<N> {
     /// Moves the notes of the next step behind those of a log.
     pub fn deal(&mut self, log: &mut Vec<N>) -> Result<(), NoMemory>
-        ensures queue { OnOk result (self.new ≡ without_front self.old) }
-        ensures log { OnOk result (log.new.items ≡ log.old.items ++ front_list self.old) }
+        ensures queue { OnOk result (self.new ≡ without_first_list self.old) }
+        ensures log { OnOk result (log.new.items ≡ log.old.items ++ first_list self.old) }
     {
         let Some(count) = self.counts.pop() else {
             return Ok(());

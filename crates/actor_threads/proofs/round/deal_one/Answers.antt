@@ -1,6 +1,6 @@
 use Rattle.std.proofs.Common.{◌<◌, [], ◌++◌, ◌∙◌, ap, arith, length, slice_set}
 use Rattle.std.proofs.lemmas.List.{get_or_default}
-use Rattle.actor_net.specs.Histories.{without_front, front_list, dealt}
+use Rattle.actor_net.specs.Histories.{without_first_list, first_list, dealt}
 use Rattle.actor_threads.specs.Table.{row_at}
 use Rattle.actor_threads.proofs.Dealing.{deal_one}
 use Rattle.actor_threads.proofs.round.deal_one.Goals as goal
@@ -11,6 +11,6 @@ returns g c = λ cs.
     let node = c.args.choice.node in
     let inside : node < length notes = omega (arith, c.if-node-len.false, c.len.ensures, c.args.notes.now.ok.0) in
     let read = c.index_mut.ensures.value ∙ get_or_default notes node _ [] inside in
-    let queue = c.in_ok-deal.ensures.queue ∙ ap without_front read in
-    let log = c.in_ok-deal.ensures.log ∙ ap (λ q. c.args.log.now.items ++ front_list q) read in
+    let queue = c.in_ok-deal.ensures.queue ∙ ap without_first_list read in
+    let log = c.in_ok-deal.ensures.log ∙ ap (λ q. c.args.log.now.items ++ first_list q) read in
     (λ i. log i ++ dealt (λ j. row_at (slice_set notes node (queue i)) j) cs) ∙ deal_one notes c.args.choice cs c.args.log.now.items inside

@@ -2,7 +2,7 @@ use Rattle.std.proofs.Common.{◌<◌, [], ◌++◌, sym, ◌∙◌, ap, subst, 
 use Rattle.std.proofs.lemmas.List.{length-map, get_or_default}
 use Rattle.actor_net.specs.Histories.{dealt}
 use Rattle.actor_net.specs.Merging.{IsMerge}
-use Rattle.actor_net.proofs.Links.{inside}
+use Rattle.actor_net.proofs.LinkLemmas.{inside}
 use Rattle.actor_threads.specs.Table.{row_at}
 use Rattle.actor_threads.specs.Round.{AllClosed}
 use Rattle.actor_threads.proofs.round.gather.Goals as goal

@@ -1,6 +1,6 @@
 use Rattle.std.proofs.Common.{sym, ◌∙◌, ap, subst}
 use Rattle.actor_net.specs.Network.{run, IsRun}
-use Rattle.actor_net.proofs.Runs.{run-append, runs_join}
+use Rattle.actor_net.proofs.RunLaws.{run-append, runs_join}
 use Rattle.actor_threads.proofs.round.run_threads.Goals as goal
 
 pub loop-preserved : goal.loop-preserved
