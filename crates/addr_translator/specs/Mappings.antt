@@ -1,0 +1,24 @@
+-- What the translator keeps of an inside host: its mappings in the order of their outside ports. This project's own.
+use Rattle.std.specs.Prelude.{ℕ, ◌==◌, ◌&&◌, Bool, List, []}
+use Rattle.addr_translator.specs.declared.mapping.Mapping.{Mapping}
+
+-- a host's mappings, how many packets it had, and how many of them were dropped
+pub record Translation : Type 0 where
+  pub mappings : List Mapping
+  pub packets : ℕ
+  pub drops : ℕ
+
+-- nothing is kept yet
+abbrev pub no_mappings : Translation
+no_mappings = record { mappings = []; packets = 0; drops = 0 }
+
+abbrev pub mapping_eq : Mapping → Mapping → Bool
+mapping_eq a b = a.proto == b.proto && a.port == b.port
+
+-- a host has this many outside ports
+abbrev pub ports_per_host : ℕ
+ports_per_host = 252
+
+-- the first port that belongs to an inside host
+abbrev pub first_port : ℕ
+first_port = 1024

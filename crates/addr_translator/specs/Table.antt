@@ -1,0 +1,84 @@
+-- The address translator's table. A mapping serves every remote end, as RFC 4787 REQ-1 asks for UDP; the rest is this
+-- project's own.
+use Rattle.std.specs.Prelude.{◌≡◌, ℕ, ◌+◌, ◌-◌, ◌*◌, ◌%◌, ◌==◌, ◌&&◌, nat_lt, Bool, true, false, not, if◌then◌else◌, List, [], ◌∷◌, ◌++◌, length, slice_get, Option, None, Some, unwrap_or}
+use Rattle.std.specs.List.{position}
+use Rattle.flow_filter.specs.declared.packet.Packet.{Packet}
+use Rattle.flow_filter.specs.declared.site.Site.{Site}
+use Rattle.flow_filter.specs.Flow.{flow_of, is_inside, is_mapped}
+use Rattle.nf_function.specs.declared.output.Output.{Output}
+use Rattle.nf_function.specs.Semantics.{Step, count}
+use Rattle.nf_function.specs.Units.{is_transport}
+use Rattle.addr_translator.specs.declared.mapping.Mapping.{Mapping}
+use Rattle.addr_translator.specs.declared.passage.Passage.{Passage}
+use Rattle.addr_translator.specs.declared.passage.Passage.TheVariants.{Leaves, Returns, Direct, Other}
+use Rattle.addr_translator.specs.Mappings.{Translation, no_mappings, mapping_eq, ports_per_host, first_port}
+
+-- an inside host's packet leaves where the site has an outside address
+abbrev pub leaving : Option ℕ → Passage
+leaving None = Other
+leaving (Some outside) = Leaves outside
+
+-- how a packet passes the site's border
+unfoldable pub passage_of : Site → Packet → Passage
+passage_of site p =
+    if not (is_transport p.proto) then Other
+    else if is_inside site p.src && not (is_inside site p.dst) then leaving site.outside
+    else if is_inside site p.dst && not (is_inside site p.src) then Direct
+    else if not (is_inside site p.src) && not (is_inside site p.dst) && is_mapped site p then Returns
+    else Other
+
+-- an output without numbers
+abbrev pub code : ℕ → Output
+code n = record { code = n; a = 0; b = 0 }
+
+-- the last byte of a host's address
+abbrev pub host_number : ℕ → ℕ
+host_number host = host % 256
+
+-- the outside port of a host's mapping with this number
+abbrev pub outside_port : ℕ → ℕ → ℕ
+outside_port host number = first_port + ports_per_host * host_number host + number
+
+-- the mapping of the packet's source
+abbrev pub source : Packet → Mapping
+source p = record { proto = p.proto; port = p.sport }
+
+-- a dropped packet
+abbrev pub dropped : Translation → ℕ → Step Translation
+dropped r reason = record { kept = record r { drops = count r.drops 1 }; output = code reason }
+
+-- `map ADDR:PORT`
+abbrev pub mapped : ℕ → ℕ → ℕ → Output
+mapped outside host number = record { code = 1; a = outside; b = outside_port host number }
+
+-- the next free port for a source without one
+abbrev pub opened : ℕ → ℕ → Translation → Mapping → Step Translation
+opened outside host r end =
+    if nat_lt (length r.mappings) ports_per_host
+    then record { kept = record r { mappings = r.mappings ++ end ∷ [] }; output = mapped outside host (length r.mappings) }
+    else dropped r 3
+
+-- a packet that leaves: the port of its source, or the next free one
+abbrev pub left : ℕ → ℕ → Translation → Packet → Option ℕ → Step Translation
+left outside host r p (Some number) = record { kept = r; output = mapped outside host number }
+left outside host r p None = opened outside host r (source p)
+
+-- a packet that returns to a port whose mapping is known or not
+abbrev pub returned : ℕ → Translation → Packet → Option Mapping → Step Translation
+returned host r p None = dropped r 4
+returned host r p (Some m) = if m.proto == p.proto then record { kept = r; output = record { code = 2; a = host; b = m.port } } else dropped r 4
+
+-- the step of a packet that passes so, where its host has had this
+abbrev pub translated : Passage → ℕ → Translation → Packet → Step Translation
+translated (Leaves outside) host r p = left outside host r p (position (λ m. mapping_eq m (source p)) r.mappings)
+translated Returns host r p = returned host r p (slice_get r.mappings ((p.dport - first_port) % ports_per_host))
+translated Direct host r p = dropped r 5
+translated Other host r p = record { kept = r; output = code 0 }
+
+-- one packet more
+abbrev pub counted : Translation → Translation
+counted r = record r { packets = count r.packets 1 }
+
+-- the table: the step of a packet, where this is kept of its host
+unfoldable pub stepped : Site → Option Translation → Packet → Step Translation
+stepped site kept p = translated (passage_of site p) (flow_of site p).0.local (counted (unwrap_or kept no_mappings)) p

@@ -1,0 +1,50 @@
+ghost use Rattle.std.specs.Prelude.{◌≡◌, false};
+ghost use Rattle.nf_function.specs.Units.{is_transport};
+ghost use Rattle.addr_translator.specs.Table.{passage_of, leaving};
+
+use flow_filter::{Packet, Site};
+use nf_function::is_transport;
+
+/// The first outside port that belongs to an inside host.
+pub const FIRST_PORT: u16 = 1024;
+
+/// How a packet passes the border of a site.
+#[derive(Clone, Copy, Debug, PartialEq, Eq)]
+pub enum Passage {
+    /// From an inside host out, under this outside address.
+    Leaves(u32),
+    /// To a port of the outside address.
+    Returns,
+    /// From outside to an inside host's own address.
+    Direct,
+    /// None of these.
+    Other,
+}
+
+impl Passage {
+    /// How the packet passes the site's border.
+    #[tactic(auto, unfolding(crate::specs::Table::passage_of))]
+    pub fn of(site: &Site, packet: &Packet) -> Passage
+        ensures value { result ≡ passage_of site.now packet.now }
+        ensures other { is_transport packet.now.proto ≡ false → result ≡ Passage.Other }
+    {
+        if !is_transport(packet.proto) {
+            return Passage::Other;
+        }
+        match (site.inside.holds(packet.src), site.inside.holds(packet.dst)) {
+            (true, false) => leaving(site.outside),
+            (false, true) => Passage::Direct,
+            (false, false) if site.outside == Some(packet.dst) && packet.dport >= FIRST_PORT => {
+                Passage::Returns
+            }
+            _ => Passage::Other,
+        }
+    }
+}
+
+/// An inside host's packet leaves where the site has an outside address.
+fn leaving(outside: Option<u32>) -> Passage
+    ensures { result ≡ leaving outside }
+{
+    outside.map_or(Passage::Other, Passage::Leaves)
+}

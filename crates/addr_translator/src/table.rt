@@ -1,0 +1,147 @@
+ghost use Rattle.std.specs.Prelude.{◌≡◌, ◌<◌, Some, if◌then◌else◌};
+ghost use Rattle.flow_filter.specs.Flow.{flow_of};
+ghost use Rattle.nf_function.specs.Units.{is_transport};
+ghost use Rattle.addr_translator.specs.Mappings.{ports_per_host};
+ghost use Rattle.addr_translator.specs.Table.{code, counted, dropped, opened, mapped, stepped, translated};
+
+use crate::mapping::Mapping;
+use crate::passage::{FIRST_PORT, Passage};
+use crate::record::{NatRecord, PORTS_PER_HOST, place_of};
+use flow_filter::{Packet, Site, flow_of};
+use nf_function::{Output, is_transport};
+
+/// The codes of outputs.
+const PASS: u8 = 0;
+
+const MAP: u8 = 1;
+
+const UNMAP: u8 = 2;
+
+const NO_PORT: u8 = 3;
+
+const NO_MAP: u8 = 4;
+
+const DIRECT: u8 = 5;
+
+/// Takes a packet into what is kept of its host, and gives the output. A packet that is neither of TCP nor of UDP changes
+/// nothing.
+pub fn step(site: &Site, kept: &mut Option<NatRecord>, packet: &Packet) -> Output
+    ensures kept { kept.new ≡ (if is_transport packet.now.proto then Some (stepped site.now kept.old packet.now).kept else kept.old) }
+    ensures output { result ≡ (stepped site.now kept.old packet.now).output }
+{
+    let (flow, _) = flow_of(site, packet);
+    step_of_host(site, flow.local, kept, packet)
+}
+
+/// The same, where the packet's host is at hand.
+#[tactic(auto, unfolding(crate::specs::Table::stepped))]
+pub fn step_of_host(site: &Site, host: u32, kept: &mut Option<NatRecord>, packet: &Packet) -> Output
+    requires { host ≡ (flow_of site.now packet.now).0.local }
+    ensures kept { kept.new ≡ (if is_transport packet.now.proto then Some (stepped site.now kept.old packet.now).kept else kept.old) }
+    ensures output { result ≡ (stepped site.now kept.old packet.now).output }
+{
+    let passage = Passage::of(site, packet);
+    if !is_transport(packet.proto) {
+        return output(PASS);
+    }
+    match kept {
+        Some(record) => translate(record, passage, host, packet),
+        None => {
+            let mut record = NatRecord::open();
+            let output = translate(&mut record, passage, host, packet);
+            *kept = Some(record);
+            output
+        }
+    }
+}
+
+/// Takes a packet that passes so into its host's record, and gives the output.
+fn translate(record: &mut NatRecord, passage: Passage, host: u32, packet: &Packet) -> Output
+    ensures kept { record.new ≡ (translated passage host (counted record.old) packet.now).kept }
+    ensures output { result ≡ (translated passage host (counted record.old) packet.now).output }
+{
+    record.count_packet();
+    match passage {
+        Passage::Leaves(outside) => leave(record, outside, host, packet),
+        Passage::Returns => come_back(record, host, packet),
+        Passage::Direct => drop_packet(record, DIRECT),
+        Passage::Other => output(PASS),
+    }
+}
+
+/// A packet leaves through the port of its source, or through the next free one.
+fn leave(record: &mut NatRecord, outside: u32, host: u32, packet: &Packet) -> Output
+    ensures kept { record.new ≡ (translated (Passage.Leaves outside) host record.old packet.now).kept }
+    ensures output { result ≡ (translated (Passage.Leaves outside) host record.old packet.now).output }
+{
+    let source = Mapping {
+        proto: packet.proto,
+        port: packet.sport,
+    };
+    match place_of(record.mappings(), source) {
+        Some(number) => mapped(outside, host, number),
+        None => open(record, outside, host, source),
+    }
+}
+
+/// The next free port is given to a source.
+fn open(record: &mut NatRecord, outside: u32, host: u32, source: Mapping) -> Output
+    ensures kept { record.new ≡ (opened outside host record.old source).kept }
+    ensures output { result ≡ (opened outside host record.old source).output }
+{
+    if !record.has_room() {
+        return drop_packet(record, NO_PORT);
+    }
+    let number = record.mappings().len();
+    record.push(source);
+    mapped(outside, host, number)
+}
+
+/// The output for a packet that leaves through the host's port with this number.
+fn mapped(outside: u32, host: u32, number: usize) -> Output
+    requires { number < ports_per_host }
+    ensures { result ≡ mapped outside host number }
+{
+    let first = u32::from(FIRST_PORT) + PORTS_PER_HOST as u32 * (host % 256);
+    Output {
+        code: MAP,
+        a: outside,
+        b: first + number as u32,
+    }
+}
+
+/// A packet comes back to the end that has its port.
+fn come_back(record: &mut NatRecord, host: u32, packet: &Packet) -> Output
+    ensures kept { record.new ≡ (translated Passage.Returns host record.old packet.now).kept }
+    ensures output { result ≡ (translated Passage.Returns host record.old packet.now).output }
+{
+    let number = usize::from(packet.dport.saturating_sub(FIRST_PORT)) % PORTS_PER_HOST;
+    match record.mappings().get(number) {
+        Some(mapping) if mapping.proto == packet.proto => Output {
+            code: UNMAP,
+            a: host,
+            b: u32::from(mapping.port),
+        },
+        _ => drop_packet(record, NO_MAP),
+    }
+}
+
+/// Counts a dropped packet. The output says why.
+fn drop_packet(record: &mut NatRecord, reason: u8) -> Output
+    ensures kept { record.new ≡ (dropped record.old reason).kept }
+    ensures output { result ≡ (dropped record.old reason).output }
+{
+    record.count_drop();
+    output(reason)
+}
+
+/// An output without numbers.
+fn output(number: u8) -> Output
+    ensures { result ≡ code number }
+{
+    Output {
+        code: number,
+        a: 0,
+        b: 0,
+    }
+}
