@@ -1,2 +1,7 @@
 pub mod Mappings
 pub mod Table
+pub mod Text
+pub mod Body
+pub mod Nat
+pub mod BodyLemmas
+pub mod StepLemmas

@@ -58,10 +58,10 @@ opened outside host r end =
     then record { kept = record r { mappings = r.mappings ++ end ∷ [] }; output = mapped outside host (length r.mappings) }
     else dropped r 3
 
--- a packet that leaves: the port of its source, or the next free one
-abbrev pub left : ℕ → ℕ → Translation → Packet → Option ℕ → Step Translation
-left outside host r p (Some number) = record { kept = r; output = mapped outside host number }
-left outside host r p None = opened outside host r (source p)
+-- a packet that leaves from an end: the port of that, or the next free one
+abbrev pub left : ℕ → ℕ → Translation → Mapping → Option ℕ → Step Translation
+left outside host r end (Some number) = record { kept = r; output = mapped outside host number }
+left outside host r end None = opened outside host r end
 
 -- a packet that returns to a port whose mapping is known or not
 abbrev pub returned : ℕ → Translation → Packet → Option Mapping → Step Translation
@@ -70,7 +70,7 @@ returned host r p (Some m) = if m.proto == p.proto then record { kept = r; outpu
 
 -- the step of a packet that passes so, where its host has had this
 abbrev pub translated : Passage → ℕ → Translation → Packet → Step Translation
-translated (Leaves outside) host r p = left outside host r p (position (λ m. mapping_eq m (source p)) r.mappings)
+translated (Leaves outside) host r p = left outside host r (source p) (position (λ m. mapping_eq m (source p)) r.mappings)
 translated Returns host r p = returned host r p (slice_get r.mappings ((p.dport - first_port) % ports_per_host))
 translated Direct host r p = dropped r 5
 translated Other host r p = record { kept = r; output = code 0 }

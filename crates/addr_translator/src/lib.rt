@@ -5,12 +5,16 @@
 //! touches nothing but its arguments.
 #![tactic(auto)]
 
+pub mod body;
 pub mod mapping;
+pub mod nat;
 pub mod passage;
 pub mod record;
 pub mod table;
+pub mod text;
 
 pub use mapping::Mapping;
+pub use nat::Nat;
 pub use passage::Passage;
 pub use record::NatRecord;
 pub use table::step;

@@ -65,6 +65,26 @@ impl NatRecord {
         self.drops
     }
 
+    /// The same record again.
+    pub fn same(&self) -> Self
+        ensures { result ≡ self.now }
+    {
+        NatRecord {
+            packets: self.packets,
+            drops: self.drops,
+            used: self.used,
+            mappings: self.mappings,
+        }
+    }
+
+    /// Sets both counts.
+    pub fn set_counts(&mut self, packets: u64, drops: u64)
+        ensures { self.new ≡ record self.old { packets = packets; drops = drops } }
+    {
+        self.packets = packets;
+        self.drops = drops;
+    }
+
     /// Counts a packet. The count stays at its greatest number.
     pub fn count_packet(&mut self)
         ensures { self.new ≡ counted self.old }

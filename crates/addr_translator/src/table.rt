@@ -1,8 +1,9 @@
-ghost use Rattle.std.specs.Prelude.{◌≡◌, ◌<◌, Some, if◌then◌else◌};
+ghost use Rattle.std.specs.Prelude.{◌≡◌, ◌<◌, ◌^◌, Some, if◌then◌else◌};
+ghost use Rattle.std.specs.List.{position};
 ghost use Rattle.flow_filter.specs.Flow.{flow_of};
 ghost use Rattle.nf_function.specs.Units.{is_transport};
-ghost use Rattle.addr_translator.specs.Mappings.{ports_per_host};
-ghost use Rattle.addr_translator.specs.Table.{code, counted, dropped, opened, mapped, stepped, translated};
+ghost use Rattle.addr_translator.specs.Mappings.{mapping_eq, ports_per_host};
+ghost use Rattle.addr_translator.specs.Table.{code, counted, dropped, left, opened, mapped, source as source_of, stepped, translated};
 
 use crate::mapping::Mapping;
 use crate::passage::{FIRST_PORT, Passage};
@@ -39,16 +40,18 @@ pub fn step_of_host(site: &Site, host: u32, kept: &mut Option<NatRecord>, packet
     requires { host ≡ (flow_of site.now packet.now).0.local }
     ensures kept { kept.new ≡ (if is_transport packet.now.proto then Some (stepped site.now kept.old packet.now).kept else kept.old) }
     ensures output { result ≡ (stepped site.now kept.old packet.now).output }
+    ensures port { packet.now.sport < 2 ^ 16 }
 {
+    let source = Mapping::source(packet);
     let passage = Passage::of(site, packet);
     if !is_transport(packet.proto) {
         return output(PASS);
     }
     match kept {
-        Some(record) => translate(record, passage, host, packet),
+        Some(record) => translate(record, passage, host, source, packet),
         None => {
             let mut record = NatRecord::open();
-            let output = translate(&mut record, passage, host, packet);
+            let output = translate(&mut record, passage, host, source, packet);
             *kept = Some(record);
             output
         }
@@ -56,13 +59,20 @@ pub fn step_of_host(site: &Site, host: u32, kept: &mut Option<NatRecord>, packet
 }
 
 /// Takes a packet that passes so into its host's record, and gives the output.
-fn translate(record: &mut NatRecord, passage: Passage, host: u32, packet: &Packet) -> Output
+fn translate(
+    record: &mut NatRecord,
+    passage: Passage,
+    host: u32,
+    source: Mapping,
+    packet: &Packet,
+) -> Output
+    requires { source ≡ source_of packet.now }
     ensures kept { record.new ≡ (translated passage host (counted record.old) packet.now).kept }
     ensures output { result ≡ (translated passage host (counted record.old) packet.now).output }
 {
     record.count_packet();
     match passage {
-        Passage::Leaves(outside) => leave(record, outside, host, packet),
+        Passage::Leaves(outside) => leave(record, outside, host, source),
         Passage::Returns => come_back(record, host, packet),
         Passage::Direct => drop_packet(record, DIRECT),
         Passage::Other => output(PASS),
@@ -70,14 +80,10 @@ fn translate(record: &mut NatRecord, passage: Passage, host: u32, packet: &Packe
 }
 
 /// A packet leaves through the port of its source, or through the next free one.
-fn leave(record: &mut NatRecord, outside: u32, host: u32, packet: &Packet) -> Output
-    ensures kept { record.new ≡ (translated (Passage.Leaves outside) host record.old packet.now).kept }
-    ensures output { result ≡ (translated (Passage.Leaves outside) host record.old packet.now).output }
+fn leave(record: &mut NatRecord, outside: u32, host: u32, source: Mapping) -> Output
+    ensures kept { let place = position (λ m. mapping_eq m source) record.old.mappings in record.new ≡ (left outside host record.old source place).kept }
+    ensures output { let place = position (λ m. mapping_eq m source) record.old.mappings in result ≡ (left outside host record.old source place).output }
 {
-    let source = Mapping {
-        proto: packet.proto,
-        port: packet.sport,
-    };
     match place_of(record.mappings(), source) {
         Some(number) => mapped(outside, host, number),
         None => open(record, outside, host, source),
