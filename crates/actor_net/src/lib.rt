@@ -1,10 +1,14 @@
-//! Actors that pass messages over links: worlds, replays, schedules, and the merge of what threads did.
+//! Actors that pass messages over links: worlds, replays, schedules, and the merge of what nodes did beside each other.
 //!
 //! An [`Actor`] says what a step does at every node, port and message. A [`World`] holds the nodes, a list for each link,
-//! the input and the log, and contracts see it as these lists. A [`Choice`] names the message that is taken next. What
-//! [`World::take`] does is one definition, [`replay`] repeats it, and [`run_schedule`] picks the choices by a rule. The
-//! choices that [`merge`] makes of the histories of nodes that ran beside each other are a run, whose replay is the world
-//! that they left.
+//! the input and the log, and contracts see it as these lists; it also counts the links that hold something, which no contract
+//! sees. A [`Choice`] names the message that is taken next. The crate touches nothing but memory.
+//!
+//! Its main promise: what [`World::take`] does is one definition, [`replay`] repeats it and names the first choice that isn't
+//! enabled, and [`run_schedule`] takes exactly the choices that its schedule says, which are a run. [`merge`] puts the histories
+//! of nodes in the order of (clock, node). That such choices are a run, and that its replay is the world which the nodes left, is
+//! a law on histories that fit a world (`proofs/MergeRun.antt`); it is promised where nodes run, by `run_round` of the crate
+//! `actor_threads`. The laws for proofs about a network that is built on these actors stand in `proofs/`.
 #![tactic(auto)]
 
 pub mod actor;
