@@ -1,5 +1,6 @@
 #!/usr/bin/env python3
-"""Runs the program core_speed, and prints the choices that it takes in a second and the memory that a choice takes.
+"""Runs the program core_speed, and prints the choices that it takes in a second, the time of a world like the program's network,
+and the memory that a choice takes.
 
 Use: core.py PROGRAM
 """
@@ -18,6 +19,9 @@ WORLDS = [
     ("hub", 17, 16, 200_000, 20_000),
     ("hub", 17, 1088, 8_000, 2_000),
 ]
+# The world that is like the program's network: its nodes, packets and rounds of work on each, which take some 90 ns, or none.
+NETWORKS = [(4, 1_000_000, 60), (18, 1_000_000, 60), (4, 1_000_000, 0), (18, 1_000_000, 0)]
+ORDERS = ["first", "last", "1234567", "threads"]
 # The lists double when they are full, so two runs are compared of which one has four times as many choices.
 SMALL, LARGE = 500_000, 2_000_000
 
@@ -70,6 +74,20 @@ def print_speed(program, shape, order, nodes, items, hops):
     )
 
 
+def print_network(program, nodes, packets, rounds):
+    """The best time of each order, with the choices that it takes, against the schedule `first`."""
+    best = {}
+    for order in ORDERS:
+        results = [run([program, "network", order, str(nodes), str(packets), str(rounds)]) for _ in range(RUNS)]
+        times = [seconds for _, seconds in results]
+        best[order] = min(times)
+        all_times = " ".join(f"{seconds:.3f}" for seconds in times)
+        print(
+            f"network of {nodes} nodes, {packets} packets, {rounds} rounds of work, {order}: {min(times):.3f} s of {all_times}"
+            f" ({min(times) / best['first']:.2f} of first, {results[0][0]} choices)"
+        )
+
+
 def bytes_of(program, order):
     """The bytes that a choice of the ring takes while several threads run, and at the peak.
 
@@ -90,6 +108,8 @@ def main(arguments):
     for shape, nodes, items, by_schedule, by_threads in WORLDS:
         print_speed(program, shape, "first", nodes, items, by_schedule)
         print_speed(program, shape, "threads", nodes, items, by_threads)
+    for nodes, packets, rounds in NETWORKS:
+        print_network(program, nodes, packets, rounds)
     _, listed = bytes_of(program, "first")
     steps, peak = bytes_of(program, "threads")
     print(f"memory of a choice in a list of choices: {listed:.1f} bytes")

@@ -1,1 +1,4 @@
-pub mod Worlds
+pub mod Work
+pub mod NetworkWorld
+pub mod TokenWorlds
+pub mod Orders

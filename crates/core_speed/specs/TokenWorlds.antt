@@ -1,7 +1,7 @@
--- The worlds that are measured: to which nodes each node sends. This is the project's own.
+-- The worlds of nodes that pass tokens on: to which nodes each node sends. This is the project's own.
 use Rattle.std.specs.Prelude.{◌==◌, ◌+◌, ◌-◌, ◌%◌, ℕ, zero, suc, if◌then◌else◌, List, [], ◌∷◌, ◌++◌}
-use Rattle.core_speed.specs.declared.passer.Shape.{Shape}
-use Rattle.core_speed.specs.declared.passer.Shape.TheVariants.{Ring, Hub}
+use Rattle.core_speed.specs.declared.tokens.Shape.{Shape}
+use Rattle.core_speed.specs.declared.tokens.Shape.TheVariants.{Ring, Hub}
 
 -- the first node that the node of this number sends to, and how many there are from it on
 abbrev pub reach_of : Shape → ℕ → ℕ → ℕ × ℕ

@@ -1,46 +1,35 @@
-//! The program `core_speed`: it runs a world of nodes that pass tokens on, and prints how many choices that took.
+//! The program `core_speed`: it runs a world of nodes, and prints how many choices that took.
 //!
-//! Words: `ring|hub first|last|NUMBER|threads NODES ITEMS HOPS`. Each of ITEMS tokens starts at node 0 with HOPS hops.
-//! It measures nothing itself: bench/core.sh takes the time and the memory from outside.
+//! Words: `ring|hub first|last|NUMBER|threads NODES ITEMS HOPS`: each of ITEMS tokens starts at node 0 with HOPS hops; or
+//! `network first|last|NUMBER|threads NODES PACKETS ROUNDS`: a switch, a controller and instances, with ROUNDS of work on each
+//! packet. It measures nothing itself: bench/core.sh takes the time and the memory from outside. It touches its arguments,
+//! the standard output and the standard error. Its main promise is that of `play`.
 #![tactic(auto)]
 
+mod arguments;
 mod fault;
-mod passer;
+mod network;
+mod nodes;
 mod runs;
+#[cfg(test)]
+mod tests;
+mod tokens;
 mod words;
+mod work;
 
+use crate::arguments::arguments;
 use crate::fault::Fault;
-use crate::passer::opened;
+use crate::network::network_world;
 use crate::runs::play;
-use crate::words::task_of;
-use std::env;
+use crate::tokens::token_world;
+use crate::words::{Setup, task_of};
 use std::env::Env;
 use std::process::ExitCode;
 use std::sync::Wait;
 use std::thread::Threads;
 
-/// The arguments, with the program's name first, or none where they aren't text.
-fn arguments<R: Env + AllocGlobal>(rt: &R) -> Vec<String> {
-    let none = Vec::new(rt.alloc());
-    match env::args(rt) {
-        Ok(arguments) => arguments.collect(rt.alloc()).unwrap_or(none),
-        Err(_) => none,
-    }
-}
-
-/// How many choices the run takes that the arguments ask for.
-fn choices<R: Env + AllocGlobal + Threads + Wait + Sync>(rt: &R) -> Result<usize, Fault> {
-    let words = arguments(rt);
-    let Some(task) = task_of(words.as_slice()) else {
-        return Err(Fault::Words);
-    };
-    let world = opened(rt.alloc(), task.shape, task.nodes, task.items, task.hops)?;
-    let choices = play(rt, rt.alloc(), world, task.order)?;
-    Ok(choices.items().len())
-}
-
 fn main(rt: HostRuntime) -> ExitCode {
-    match choices(&rt) {
+    match count_choices(&rt) {
         Ok(number) => match println!(rt; "choices {number}") {
             Ok(()) => ExitCode::SUCCESS,
             Err(_) => ExitCode::from(1),
@@ -50,4 +39,24 @@ fn main(rt: HostRuntime) -> ExitCode {
             ExitCode::from(fault.status())
         }
     }
+}
+
+/// How many choices the run takes that the arguments ask for.
+fn count_choices<R: Env + AllocGlobal + Threads + Wait + Sync>(rt: &R) -> Result<usize, Fault> {
+    let words = arguments(rt)?;
+    let Some(task) = task_of(words.as_slice()) else {
+        return Err(Fault::Words);
+    };
+    let alloc = rt.alloc();
+    let choices = match task.world {
+        Setup::Tokens(tokens) => {
+            let world = token_world(alloc, tokens.shape, tokens.nodes, tokens.items, tokens.hops)?;
+            play(rt, alloc, world, task.order)?
+        }
+        Setup::Network(size) => {
+            let world = network_world(alloc, size.instances, size.packets, size.rounds)?;
+            play(rt, alloc, world, task.order)?
+        }
+    };
+    Ok(choices.items().len())
 }

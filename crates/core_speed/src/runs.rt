@@ -1,10 +1,11 @@
 //! The run of a world in an order.
 ghost use Rattle.std.specs.Prelude.{◌≡◌, true, IfOk};
 ghost use Rattle.actor_net.specs.Network.{IsRun, run, is_done};
+ghost use Rattle.actor_net.specs.Schedules.{scheduled};
+ghost use Rattle.core_speed.specs.Orders.{AreMadeBy};
 
 use crate::fault::Fault;
-use crate::passer::Passer;
-use actor_net::{Actor, Choices, Schedule, World, run_schedule};
+use actor_net::{Actor, Choices, MOST_CHOICES, Schedule, World, run_schedule};
 use actor_threads::{OpenGate, run_threads};
 use std::alloc::Global;
 use std::sync::Wait;
@@ -18,14 +19,18 @@ pub enum Order {
 }
 
 /// The choices of a run of the world, after which nothing is left to do.
-pub fn play<R: Threads + Wait + Sync>(
+pub fn play<R: Threads + Wait + Sync, A: Actor + Send>(
     rt: &R,
     alloc: Global,
-    world: World<Passer>,
+    world: World<A>,
     order: Order,
 ) -> Result<Choices, Fault>
-    ensures run { IfOk result (λ choices. IsRun ⟦<Passer as Actor>⟧.is_ready ⟦<Passer as Actor>⟧.stepped choices world) }
-    ensures complete { IfOk result (λ choices. is_done ⟦<Passer as Actor>⟧.has_ended (run ⟦<Passer as Actor>⟧.stepped choices world) ≡ true) }
+where
+    A::Message: Send,
+    A::Note: Send,
+    ensures run { IfOk result (λ choices. IsRun A.is_ready A.stepped choices world) }
+    ensures complete { IfOk result (λ choices. is_done A.has_ended (run A.stepped choices world) ≡ true) }
+    ensures order { IfOk result (AreMadeBy order (λ schedule. scheduled A.is_ready A.has_ended A.stepped MOST_CHOICES schedule world)) }
 {
     match order {
         Order::Scheduled(schedule) => {

@@ -1,6 +1,6 @@
 //! The nodes that pass tokens on, and the worlds that are made of them.
 ghost use Rattle.std.specs.Prelude.{◌≡◌, ◌==◌, ◌<◌, ◌≤◌, ◌+◌, ◌-◌, ◌/◌, ◌%◌, true, if◌then◌else◌, [], ◌∷◌, length, map, replicate, IfOk};
-ghost use Rattle.core_speed.specs.Worlds.{reach_of, reaches_below};
+ghost use Rattle.core_speed.specs.TokenWorlds.{reach_of, reaches_below};
 
 use actor_net::{Actor, Outbox, World};
 use basics::NoMemory;
@@ -93,7 +93,7 @@ fn nodes_of(alloc: Global, shape: Shape, nodes: u8) -> Result<Vec<Passer>, NoMem
 }
 
 /// A world at its start, whose input is so many tokens with so many hops each.
-pub fn opened(
+pub fn token_world(
     alloc: Global,
     shape: Shape,
     nodes: u8,

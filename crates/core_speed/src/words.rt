@@ -1,27 +1,59 @@
 //! The words of the command line.
 ghost use Rattle.std.specs.Prelude.{◌<◌, ◌≤◌};
 
-use crate::passer::Shape;
 use crate::runs::Order;
+use crate::tokens::Shape;
 use actor_net::Schedule;
 
-/// What the words ask for.
+/// What the words ask for: a world, and who makes its choices.
 #[derive(Clone, Copy, Debug)]
 pub struct Task {
-    pub shape: Shape,
     pub order: Order,
+    pub world: Setup,
+}
+
+/// Which world.
+#[derive(Clone, Copy, Debug)]
+pub enum Setup {
+    Tokens(Tokens),
+    Network(Network),
+}
+
+/// Nodes of a shape, with so many tokens that have so many hops each.
+#[derive(Clone, Copy, Debug)]
+pub struct Tokens {
+    pub shape: Shape,
     pub nodes: u8,
     pub items: usize,
     pub hops: u32,
     ghost sized: { (1 < nodes) × (nodes ≤ 17) },
 }
 
-fn shape_of(word: &str) -> Option<Shape> {
-    match word {
-        "ring" => Some(Shape::Ring),
-        "hub" => Some(Shape::Hub),
-        _ => None,
-    }
+/// A switch, a controller and so many instances, with so many packets and rounds of work on each.
+#[derive(Clone, Copy, Debug)]
+pub struct Network {
+    pub instances: u8,
+    pub packets: u64,
+    pub rounds: u32,
+    ghost sized: { (0 < instances) × (instances ≤ 16) },
+}
+
+/// What the words ask for, the program's name first; none where they are bad.
+pub fn task_of(words: &[String]) -> Option<Task> {
+    let [_program, world, order, nodes, items, each] = words else {
+        return None;
+    };
+    let order = order_of(order.as_str())?;
+    let nodes = nodes.as_str().parse::<u8>().ok()?;
+    let items = items.as_str().parse::<usize>().ok()?;
+    let each = each.as_str().parse::<u32>().ok()?;
+    let world = match world.as_str() {
+        "ring" => Setup::Tokens(tokens_of(Shape::Ring, nodes, items, each)?),
+        "hub" => Setup::Tokens(tokens_of(Shape::Hub, nodes, items, each)?),
+        "network" => Setup::Network(network_of(nodes, items as u64, each)?),
+        _ => return None,
+    };
+    Some(Task { order, world })
 }
 
 fn order_of(word: &str) -> Option<Order> {
@@ -36,22 +68,25 @@ fn order_of(word: &str) -> Option<Order> {
     }
 }
 
-/// What the words ask for, the program's name first; none where they are bad.
-pub fn task_of(words: &[String]) -> Option<Task> {
-    let [_program, shape, order, nodes, items, hops] = words else {
-        return None;
-    };
-    let shape = shape_of(shape.as_str())?;
-    let order = order_of(order.as_str())?;
-    let nodes = nodes.as_str().parse::<u8>().ok()?;
+fn tokens_of(shape: Shape, nodes: u8, items: usize, hops: u32) -> Option<Tokens> {
     if nodes < 2 || nodes > 17 {
         return None;
     }
-    Some(Task {
+    Some(Tokens {
         shape,
-        order,
         nodes,
-        items: items.as_str().parse::<usize>().ok()?,
-        hops: hops.as_str().parse::<u32>().ok()?,
+        items,
+        hops,
+    })
+}
+
+fn network_of(nodes: u8, packets: u64, rounds: u32) -> Option<Network> {
+    if nodes < 3 || nodes > 18 {
+        return None;
+    }
+    Some(Network {
+        instances: nodes - 2,
+        packets,
+        rounds,
     })
 }

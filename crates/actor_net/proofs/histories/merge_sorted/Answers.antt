@@ -1,3 +1,4 @@
+-- The sorted steps stand in order, and those that tie as they stood.
 use Rattle.std.proofs.Common.{rules}
 use Rattle.std.proofs.lemmas.List.Sorted.{answers_always}
 use Rattle.actor_net.specs.Merging.{key_of}

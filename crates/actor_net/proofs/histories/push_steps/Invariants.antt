@@ -1,3 +1,4 @@
+-- The steps so far of this history stand after those of the histories before.
 use Rattle.std.proofs.Common.{◌≡◌, ◌++◌, take}
 use Rattle.actor_net.specs.Merging.{history_steps}
 use Rattle.actor_net.proofs.histories.push_steps.Given as goal

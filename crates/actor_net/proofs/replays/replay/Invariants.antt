@@ -1,8 +1,8 @@
+-- What is left to replay, from here, gives what all of it gives.
 use Rattle.std.proofs.Common.{◌≡◌, drop}
 use Rattle.actor_net.specs.Network.{run, fault_from}
 use Rattle.actor_net.proofs.replays.replay.Given as goal
 
--- what is left, from here, gives what the whole gives
 abbrev pub invariant-loop-index : goal.invariant-loop-index
 invariant-loop-index g l = record {
   world : run g.A.Actor.stepped (drop l.index l.choices) l.world ≡ run g.A.Actor.stepped l.choices l.fn.world;

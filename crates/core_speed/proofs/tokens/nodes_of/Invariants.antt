@@ -1,6 +1,7 @@
+-- The nodes so far are as many, and send as far, as those of the world.
 use Rattle.std.proofs.Common.{◌≡◌, length, map}
-use Rattle.core_speed.specs.Worlds.{reaches_below}
-use Rattle.core_speed.proofs.passer.nodes_of.Given as goal
+use Rattle.core_speed.specs.TokenWorlds.{reaches_below}
+use Rattle.core_speed.proofs.tokens.nodes_of.Given as goal
 
 abbrev pub invariant-loop-number : goal.invariant-loop-number
 invariant-loop-number l = record {

@@ -1,0 +1,11 @@
+-- In which order choices are made. This is the project's own.
+use Rattle.std.specs.Prelude.{◌≡◌, List}
+use Rattle.actor_net.specs.declared.choice.Choice.{Choice}
+use Rattle.actor_net.specs.declared.schedule.Schedule.{Schedule}
+use Rattle.core_speed.specs.declared.runs.Order.{Order}
+use Rattle.core_speed.specs.declared.runs.Order.TheVariants.{Scheduled, Threads}
+
+-- choices are made in an order: by a schedule those that it takes, by threads any
+abbrev pub AreMadeBy : Order → (Schedule → List Choice) → List Choice → Type 0
+AreMadeBy (Scheduled schedule) scheduled choices = choices ≡ scheduled schedule
+AreMadeBy Threads scheduled choices = Unit {0}
