@@ -8,6 +8,7 @@ use Rattle.std.proofs.lemmas.Bool.{and_parts, leb-true, eqb-true}
 use Rattle.flow_filter.specs.Name.{is_name, is_name_byte, has_twice}
 use Rattle.basics.specs.Parsing.{split_once}
 use Rattle.basics.proofs.SplitLemmas.{split-None}
+use Rattle.opennf_calls.specs.Phases.{IsPlain}
 use Rattle.command_words.specs.Grammar.{Given, given_arguments, sim_app, check_app}
 use Rattle.command_words.specs.Plan.{SimAsked, CheckAsked, Instances, asks_sim, asks_check, only, function_of, instance_of, all_instances, instances_of, inside_of, outside_of, window_of, schedule_of, file_of, file_if, is_conntrack, is_one_name, is_last, sim_values, check_values, is_built, sim_of, check_of, plan_of}
 
@@ -70,11 +71,7 @@ few_of text i is =
     let few = and_parts (leb (length all.0.0) 16) (not (has_twice all.0.0)) kept.0 in
     subst (λ (j : Instances). length j.0 ≤ 16) (same_some kept.1) (leb-true (length all.0.0) 16 few.0)
 
--- what a simulation is by now: one instance, and no script
-pub record IsPlain (s : SimAsked) : Type 0 where
-  pub one : length s.instances.0 ≡ 1
-  pub whole : s.script ≡ None
-
+-- what was asked for is plain
 values_plain : (g : Given) (s : SimAsked) → is_built g ≡ true → sim_values g ≡ Some s → IsPlain s
 unfolding is_built sim_values
 values_plain g s now is =
@@ -145,11 +142,6 @@ check_from words c true check is = absurd (not_simulated words c is)
 check_from words c false true is = check_few words c is
 check_from words c false false is = absurd cc
 
--- no text is seen where none is
-pub unmapped : {A B : Type 0} (f : A → B) (o : Option A) → option_map f o ≡ None → o ≡ None
-unmapped f None is = refl
-unmapped f (Some x) is = absurd cc
-
 -- a simulation that is asked for is plain
 pub plan_plain : (words : List (List ℕ)) (s : SimAsked) → plan_of words ≡ Some (asks_sim s) → IsPlain s
 unfolding plan_of
@@ -165,9 +157,3 @@ plan_few [] c is = absurd cc
 plan_few (program ∷ []) c is = absurd cc
 plan_few (program ∷ command ∷ words) c is =
     check_from words c (bytes_eq command (codes "sim")) (bytes_eq command (codes "check")) is
-
--- a list of one, by the one that stands first
-pub single : (xs : List (List ℕ)) (x : List ℕ) → length xs ≡ 1 → x ≡ get_or xs 0 x → xs ≡ x ∷ []
-single [] x one is = absurd cc
-single (y ∷ []) x one is = ap (λ (z : List ℕ). z ∷ []) (sym is)
-single (y ∷ z ∷ more) x one is = absurd (omega (arith, one))

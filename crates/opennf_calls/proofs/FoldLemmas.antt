@@ -1,5 +1,5 @@
 -- How the records of all flows change with one more packet.
-use Rattle.std.proofs.Common.{◌≡◌, ℕ, Bool, true, false, cond, Option, None, Some, List, [], ◌∷◌, ◌++◌, refl, IfSome, ap, ◌∙◌, sym, subst, append-nil}
+use Rattle.std.proofs.Common.{◌≡◌, ℕ, Bool, true, false, cond, Option, None, Some, List, [], ◌∷◌, ◌++◌, refl, ap, ◌∙◌, sym, subst, append-nil}
 use Rattle.std.proofs.lemmas.List.Sums.{fold-append}
 use Rattle.std.proofs.lemmas.List.Elements.{filter-append}
 use Rattle.std.specs.HashMap.{get, Updates}
@@ -9,38 +9,19 @@ use Rattle.flow_filter.specs.declared.site.Site.{Site}
 use Rattle.conn_tracker.specs.declared.record.TrackRecord.{TrackRecord}
 use Rattle.flow_filter.specs.declared.flow.Direction.{Direction}
 use Rattle.flow_filter.specs.Flow.{flow_of}
-use Rattle.conn_tracker.specs.Table.{first_record, next_record, stepped, IsRecordOf}
-use Rattle.opennf_calls.specs.Fold.{flow_eq, packet_flow, mine, record_of, record_after_packets, Kept, AreKept, AllFit, record_after_kept}
-use Rattle.flow_filter.proofs.FlowLemmas.{proto-flow_of}
+use Rattle.conn_tracker.specs.Table.{first_record, next_record, stepped}
+use Rattle.opennf_calls.specs.Fold.{flow_eq, packet_flow, mine, record_of, record_after_packets}
+use Rattle.opennf_calls.specs.FoldState.{Kept, AreKept, record_after_kept}
 use Rattle.opennf_calls.proofs.FlowOrderLemmas.{same_flow}
 
--- a value chosen by a test meets what both meet
-pub IfSome-cond : {X : Type 0} (test : Bool) (a b : Option X) (P : X → Type 0) → (test ≡ true → IfSome a P) → IfSome b P → IfSome (cond test a b) P
-IfSome-cond true a b P first second = first refl
-IfSome-cond false a b P first second = second
-
--- a record that fits its flow may be written
-pub AllFit-Updates : (old new : Kept) (unit : Flow) (r : TrackRecord)
-    → Updates flow_eq old new unit (Some r) → IsRecordOf unit.proto r → AllFit old → AllFit new
-AllFit-Updates old new unit r updates fits before other =
-    rw (updates.0 other) (IfSome-cond (flow_eq unit other) (Some r) (get flow_eq old other) (IsRecordOf other.proto)
-    (λ equal. let same : unit ≡ other = same_flow unit other equal in subst (λ u. IsRecordOf u.proto r) same fits)
-    (before other))
-
--- a record that fits a packet fits the packet's flow
-pub fits_unit : (site : Site) (p : Packet) (r after : TrackRecord) → r ≡ after → IsRecordOf p.proto r → IsRecordOf (packet_flow site p).proto after
-fits_unit site p r after same fits =
-    subst (λ (x : TrackRecord). IsRecordOf (packet_flow site p).proto x) same
-    (subst (λ (proto : ℕ). IsRecordOf proto r) (sym (proto-flow_of site p)) fits)
-
 -- the two halves of a step
-pub stepped_first : (site : Site) (p : Packet) (direction : Direction) (r : TrackRecord) → direction ≡ (flow_of site p).1 → r ≡ first_record p direction → r ≡ stepped site None p
+pub stepped_first : (site : Site) (p : Packet) (way : Direction) (r : TrackRecord) → way ≡ (flow_of site p).1 → r ≡ first_record p way → r ≡ stepped site None p
 unfolding stepped
-stepped_first site p direction r same is = is ∙ ap (first_record p) same
+stepped_first site p way r same is = is ∙ ap (first_record p) same
 
-pub stepped_next : (site : Site) (before : TrackRecord) (p : Packet) (direction : Direction) (r : TrackRecord) → direction ≡ (flow_of site p).1 → r ≡ next_record before p direction → r ≡ stepped site (Some before) p
+pub stepped_next : (site : Site) (before : TrackRecord) (p : Packet) (way : Direction) (r : TrackRecord) → way ≡ (flow_of site p).1 → r ≡ next_record before p way → r ≡ stepped site (Some before) p
 unfolding stepped
-stepped_next site before p direction r same is = is ∙ ap (next_record before p) same
+stepped_next site before p way r same is = is ∙ ap (next_record before p) same
 
 -- one more packet of a flow
 pub record_of-more : (site : Site) (ps : List Packet) (p : Packet)

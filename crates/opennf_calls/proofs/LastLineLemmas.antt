@@ -1,104 +1,143 @@
--- The line on the standard error comes last, and leaves what was done before as it was.
-use Rattle.std.proofs.Common.{◌≡◌, ℕ, List, Option, None, Some, Result, Ok, Err, MatchResult, refl, ap, ◌∙◌, sym, subst, IsTrue, ◌⊎◌, inl, inr}
+-- A row stays what it is where files were bound before the command began, and a line went to the standard error after it ended.
+use Rattle.std.proofs.Common.{◌≡◌, ◌≢◌, ℕ, List, Bool, ◌&&◌, Option, None, Some, Result, Ok, Err, refl, ap, ◌∙◌, sym, subst, IsTrue, ◌⊎◌, inl, inr}
 use Rattle.std.specs.Io.KnownBytes.{Appends}
+use Rattle.basics.proofs.BoolLemmas.{both_true}
 use Rattle.nf_io.specs.declared.outside.Role.{Role}
-use Rattle.nf_io.specs.declared.outside.Role.TheVariants.{Trace, Script, JournalIn, Report, JournalOut, TraceOut, Errors}
-use Rattle.nf_io.specs.declared.outside.Failed.{Failed}
-use Rattle.nf_io.specs.Roles.{is_read}
-use Rattle.nf_io.specs.Meaning.{Meaning, Rose, AppendsFront, HasCause, OthersStay}
+use Rattle.nf_io.specs.declared.outside.Role.TheVariants.{Errors}
+use Rattle.nf_io.specs.Meaning.{Meaning, Rose, AppendsFront}
+use Rattle.command_words.specs.Plan.{Asked}
 use Rattle.opennf_calls.specs.declared.status.Status.{Status}
 use Rattle.opennf_calls.specs.declared.status.Status.TheVariants.{Ok as Done, Usage, BadScript, BadTrace, ReadFault, WriteFault, NoMemory}
-use Rattle.command_words.specs.Plan.{Asked}
-use Rattle.opennf_calls.specs.Outcome.{Tells, IsBound, MayBind, WroteNothing, WroteReportAlone, ForText, RowOf, CauseOf, Complains, IsComplete, refusal_of}
+use Rattle.opennf_calls.specs.Command.{is_result, comes_before}
+use Rattle.opennf_calls.specs.Outcome.{Texts, HasInput, ForTexts, IsBound, IsDone, IsWriteFault, IsReadFault, IsRefused, MayBind, WroteNothing, WroteResultsAlone, Gained, Unwritten, RowOf, CauseOf, PutsLine, IsComplete, refusal_of}
+use Rattle.opennf_calls.specs.Phases.{SameContents, SameNames}
+use Rattle.opennf_calls.specs.Writing.{Written, Wrote, written}
+use Rattle.opennf_calls.proofs.RoleLemmas.{at_each}
+use Rattle.opennf_calls.proofs.RowLemmas.{not_errors, not_last}
 
-module _ (old mid new : Role → Meaning) (others : OthersStay Errors mid new) (name : (new Errors).name ≡ (mid Errors).name) where
-  same_name : (role : Role) → (new role).name ≡ (mid role).name
-  same_name Trace = ap (λ m. m.name) (others Trace (λ same. cc))
-  same_name Script = ap (λ m. m.name) (others Script (λ same. cc))
-  same_name JournalIn = ap (λ m. m.name) (others JournalIn (λ same. cc))
-  same_name Report = ap (λ m. m.name) (others Report (λ same. cc))
-  same_name JournalOut = ap (λ m. m.name) (others JournalOut (λ same. cc))
-  same_name TraceOut = ap (λ m. m.name) (others TraceOut (λ same. cc))
-  same_name Errors = name
+-- the states before and after a command, the state before its files were bound, and the state after the last line
+pub record Around (before old mid new : Role → Meaning) : Type 0 where
+  pub contents : SameContents before old
+  pub others : (role : Role) → role ≢ Errors → new role ≡ mid role
+  pub names : SameNames mid new
 
-  same_read : (role : Role) → IsTrue (is_read role) → new role ≡ mid role
-  same_read Trace read = others Trace (λ same. cc)
-  same_read Script read = others Script (λ same. cc)
-  same_read JournalIn read = others JournalIn (λ same. cc)
-  same_read role read = absurd (cc)
-
-  same_report : new Report ≡ mid Report
-  same_report = others Report (λ same. cc)
+module _ (before old mid new : Role → Meaning) (around : Around before old mid new) where
+  has_input : (asked : Asked) (bytes : Role → List ℕ) → HasInput asked before bytes → HasInput asked old bytes
+  has_input asked bytes told role input = around.contents.left role ∙ told role input
 
   bound : (asked : Asked) → IsBound asked mid → IsBound asked new
-  bound asked was role = same_name role ∙ was role
+  bound asked was role = around.names role ∙ was role
 
-  silent : WroteNothing old mid → WroteNothing old new
-  silent was role not_errors = ap (λ m. m.written) (others role not_errors) ∙ was role not_errors
+  same_written : (role : Role) → role ≢ Errors → (new role).written ≡ (mid role).written
+  same_written role differ = ap (λ m. m.written) (around.others role differ)
 
-  wrote : WroteReportAlone old mid → WroteReportAlone old new
-  wrote was role not_report not_errors = ap (λ m. m.written) (others role not_errors) ∙ was role not_report not_errors
+  silent : WroteNothing old mid → WroteNothing before new
+  silent was role differ = same_written role differ ∙ was role differ ∙ around.contents.written role
 
-  text : (asked : Asked) (P Q : List ℕ → Type 0) → ((t : List ℕ) → P t → Q t) → ForText asked old mid P → ForText asked old new Q
-  text asked P Q weaken was bytes tells =
-      let found = was bytes tells in (
-        λ role read has. ap (λ m. m.left) (same_read role read) ∙ found.0 role read has,
-        found.1,
-        (found.2.0, found.2.1, weaken found.2.0 found.2.2),
-      )
+  results_alone : (asked : Asked) → WroteResultsAlone asked old mid → WroteResultsAlone asked before new
+  results_alone asked was role no_result differ = same_written role differ ∙ was role no_result differ ∙ around.contents.written role
 
-  pub row-beside : (asked : Asked) (status : Status) → RowOf asked old mid status → RowOf asked old new status
-  row-beside asked Done row = (
-    bound asked row.0,
-    wrote row.1,
-    text asked (λ t. Appends (old Report).written (mid Report).written t) (λ t. Appends (old Report).written (new Report).written t)
-        (λ t. subst (λ m. Appends (old Report).written m t) (sym (ap (λ m. m.written) same_report))) row.2,
-  )
-  row-beside asked (WriteFault role) row = (
-    row.0,
-    subst (λ m. Rose (old Report).faults m.faults) (sym same_report) row.1,
-    bound asked row.2,
-    wrote row.3,
-    text asked (λ t. AppendsFront (old Report).written (mid Report).written t) (λ t. AppendsFront (old Report).written (new Report).written t)
-        (λ t. subst (λ m. AppendsFront (old Report).written m t) (sym (ap (λ m. m.written) same_report))) row.4,
-  )
-  row-beside asked (ReadFault role) row =
-      (row.0, row.1, same_name role ∙ row.2, subst (λ m. Rose (old role).faults m.faults) (sym (same_read role row.0)) row.3, silent row.4)
-  row-beside asked (BadTrace offset kind) row = (bound asked row.0, silent row.1, row.2)
-  row-beside asked (BadScript line kind) row = (bound asked row.0, silent row.1, row.2)
-  row-beside asked NoMemory row = silent row
-  row-beside asked Usage row = row
+  rose : (role : Role) → role ≢ Errors → Rose (old role).faults (mid role).faults → Rose (before role).faults (new role).faults
+  rose role differ was =
+      subst (λ (m : Meaning). Rose (before role).faults m.faults) (sym (around.others role differ))
+      (subst (λ (n : ℕ). Rose n (mid role).faults) (around.contents.faults role) was)
 
-  pub cause-beside : (plan : Option Asked) (status : Status) → CauseOf plan old mid status → CauseOf plan old new status
-  cause-beside None status cause = (cause.0, silent cause.1)
-  cause-beside (Some asked) status cause = row-beside asked status cause
+  appends : (role : Role) (text : List ℕ) → role ≢ Errors → Appends (old role).written (mid role).written text → Appends (before role).written (new role).written text
+  appends role text differ was =
+      subst (λ (o : Option (List ℕ)). Appends (before role).written o text) (sym (same_written role differ))
+      (subst (λ (o : Option (List ℕ)). Appends o (mid role).written text) (around.contents.written role) was)
 
-  pub names-beside : (plan : Option Asked) → MayBind plan mid → MayBind plan new
-  names-beside plan was role = elim (was role) [ inl unnamed ↦ inl (same_name role ∙ unnamed) | inr named ↦ inr (same_name role ∙ named) ]
+  gained : (asked : Asked) (which : Role → Bool) (texts : Texts) → ((role : Role) → IsTrue (which role) → IsTrue (is_result asked role))
+      → Gained which texts old mid → Gained which texts before new
+  gained asked which texts results was role is = appends role (texts role) (not_last asked role (results role is)) (was role is)
+
+  with_texts : (asked : Asked) (P Q : Texts → Type 0) → ((texts : Texts) → P texts → Q texts) → ForTexts asked old mid P → ForTexts asked before new Q
+  with_texts asked P Q weaken was bytes told =
+      let found = was bytes (has_input asked bytes told) in
+      record {
+        read = λ role input. ap (λ m. m.left) (around.others role (not_errors asked role input)) ∙ found.read role input;
+        sound = found.sound;
+        texts = found.texts;
+        are = found.are;
+        wrote = weaken found.texts found.wrote;
+      }
+
+  done : (asked : Asked) → IsDone asked old mid → IsDone asked before new
+  done asked row = record {
+    bound = bound asked row.bound;
+    others = results_alone asked row.others;
+    results = with_texts asked (λ texts. Gained (is_result asked) texts old mid) (λ texts. Gained (is_result asked) texts before new)
+        (λ texts. gained asked (is_result asked) texts (λ role is. is)) row.results;
+  }
+
+  write_fault : (asked : Asked) (role : Role) → IsWriteFault asked old mid role → IsWriteFault asked before new role
+  write_fault asked role row =
+      let differ = not_last asked role row.result in
+      record {
+        result = row.result;
+        rose = rose role differ row.rose;
+        bound = bound asked row.bound;
+        others = results_alone asked row.others;
+        after = λ other later.
+            let result = (both_true (is_result asked other) (comes_before role other) later).0 in
+            same_written other (not_last asked other result) ∙ row.after other later ∙ around.contents.written other;
+        results = with_texts asked
+            (λ texts. AppendsFront (old role).written (mid role).written (texts role) × Gained (λ other. is_result asked other && comes_before other role) texts old mid)
+            (λ texts. AppendsFront (before role).written (new role).written (texts role) × Gained (λ other. is_result asked other && comes_before other role) texts before new)
+            (λ texts wrote. (
+              (wrote.0.0, wrote.0.1, appends role _ differ wrote.0.2),
+              gained asked (λ other. is_result asked other && comes_before other role) texts
+                  (λ other is. (both_true (is_result asked other) (comes_before other role) is).0) wrote.1,
+            )) row.results;
+      }
+
+  read_fault : (asked : Asked) (role : Role) → IsReadFault asked old mid role → IsReadFault asked before new role
+  read_fault asked role row = record {
+    input = row.input;
+    rose = rose role (not_errors asked role row.input) row.rose;
+    bound = bound asked row.bound;
+    silent = silent row.silent;
+  }
+
+  refused : (asked : Asked) (status : Status) → IsRefused asked old mid status → IsRefused asked before new status
+  refused asked status row = record {
+    bound = bound asked row.bound;
+    silent = silent row.silent;
+    refusal = λ bytes told. row.refusal bytes (has_input asked bytes told);
+  }
+
+  pub row_around : (asked : Asked) (status : Status) → RowOf asked old mid status → RowOf asked before new status
+  row_around asked Done row = done asked row
+  row_around asked (WriteFault role) row = write_fault asked role row
+  row_around asked (ReadFault role) row = read_fault asked role row
+  row_around asked (BadScript line kind) row = refused asked (BadScript line kind) row
+  row_around asked (BadTrace offset kind) row = refused asked (BadTrace offset kind) row
+  row_around asked NoMemory row = silent row
+  row_around asked Usage row = row
+
+  pub cause_around : (plan : Option Asked) (status : Status) → CauseOf plan old mid status → CauseOf plan before new status
+  cause_around None status cause = (cause.0, silent cause.1)
+  cause_around (Some asked) status cause = row_around asked status cause
+
+-- files were bound before, and no line is written yet
+pub bound_before : (before old new : Role → Meaning) → SameContents before old → Around before old new new
+bound_before before old new contents = record { contents = contents; others = λ role differ. refl; names = λ role. refl }
+
+-- a line was written after
+pub line_after : (old mid new : Role → Meaning) (line : Written) → Wrote Errors mid new line → Around old old mid new
+line_after old mid new line wrote = record {
+  contents = record { left = λ role. refl; written = λ role. refl; faults = λ role. refl };
+  others = wrote.others;
+  names = at_each Errors mid new (λ a b. b.name ≡ a.name) wrote.others (λ m. refl) wrote.name;
+}
+
+-- names that were bound are those that the words give, also after a line was written
+pub names_after : (plan : Option Asked) (mid new : Role → Meaning) → SameNames mid new → MayBind plan mid → MayBind plan new
+names_after plan mid new same was role = elim (was role) [ inl unnamed ↦ inl (same role ∙ unnamed) | inr named ↦ inr (same role ∙ named) ]
 
 -- what the last write did, whether it failed or not
-pub complains : (line : List ℕ) (before old new : Meaning) (r : Result (Unit {0}) Failed) → old ≡ before
-    → MatchResult r (λ _. Appends old.written new.written line) (λ _. AppendsFront old.written new.written line)
-    → HasCause old.faults new.faults r → Complains line before new
-complains line before old new (Ok done) same bytes cause = inl (subst (λ m. Appends m.written new.written line) same bytes)
-complains line before old new (Err failed) same bytes cause =
-    inr (subst (λ m. Rose m.faults new.faults) same cause.failed, subst (λ m. AppendsFront m.written new.written line) same bytes)
-
--- a row without a fault and a refusal is that of good work or out of memory
-complete_row : (asked : Asked) (old new : Role → Meaning) (status : Status) (bytes : Role → List ℕ) → RowOf asked old new status
-    → Tells asked old bytes → refusal_of asked bytes ≡ None → ((role : Role) → Rose (old role).faults (new role).faults → ⊥)
-    → (status ≡ Done) ⊎ (status ≡ NoMemory)
-complete_row asked old new Done bytes row tells sound calm = inl refl
-complete_row asked old new NoMemory bytes row tells sound calm = inr refl
-complete_row asked old new (WriteFault role) bytes row tells sound calm = absurd (calm Report row.1)
-complete_row asked old new (ReadFault role) bytes row tells sound calm = absurd (calm role row.3)
-complete_row asked old new (BadTrace offset kind) bytes row tells sound calm =
-    let refused = row.2 bytes tells in absurd (cc)
-complete_row asked old new (BadScript line kind) bytes row tells sound calm =
-    let refused = row.2 bytes tells in absurd (cc)
-complete_row asked old new Usage bytes row tells sound calm = absurd row
-
--- good input and no fault give good work or out of memory
-pub complete : (plan : Option Asked) (old new : Role → Meaning) (status : Status) → CauseOf plan old new status → IsComplete plan old new status
-complete plan old new status cause asked is bytes tells sound calm =
-    complete_row asked old new status bytes (subst (λ p. CauseOf p old new status) is cause) tells sound calm
+pub puts_line : {E : Type 0} (line : List ℕ) (old mid new : Role → Meaning) (r : Result (Unit {0}) E) → mid Errors ≡ old Errors
+    → Wrote Errors mid new (written line r) → PutsLine line (old Errors) (new Errors)
+puts_line line old mid new (Ok done) same wrote = inl (subst (λ m. Appends m.written (new Errors).written line) same wrote.gains)
+puts_line line old mid new (Err failed) same wrote =
+    inr (subst (λ m. Rose m.faults (new Errors).faults) same wrote.gains.1, subst (λ m. AppendsFront m.written (new Errors).written line) same wrote.gains.0)

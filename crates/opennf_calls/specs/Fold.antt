@@ -1,9 +1,6 @@
 -- What one unmoved instance of the connection tracker makes of a trace. This project's own.
-use Rattle.std.specs.Prelude.{◌≡◌, ◌++◌, List, [], ◌∷◌, Option, None, Some, filter, fold, IfSome}
+use Rattle.std.specs.Prelude.{◌≡◌, ◌++◌, List, [], ◌∷◌, Option, None, Some, filter, fold}
 use Rattle.std.specs.BTreeMap.{get, BTreeMap, IsOrdered}
-use Rattle.std.specs.HashMap as hash
-use Rattle.std.specs.declared.hash.FoldHasher.{FoldHasher}
-use Rattle.std.specs.declared.hash.BuildHasherDefault.{BuildHasherDefault}
 use Rattle.flow_filter.specs.declared.flow.Flow.{Flow}
 use Rattle.flow_filter.specs.declared.packet.Packet.{Packet}
 use Rattle.flow_filter.specs.declared.site.Site.{Site}
@@ -11,7 +8,7 @@ pub use Rattle.flow_filter.specs.Flow.{flow_cmp, flow_eq}
 use Rattle.flow_filter.specs.Flow.{flow_of}
 use Rattle.conn_tracker.specs.declared.record.TrackRecord.{TrackRecord}
 use Rattle.conn_tracker.specs.declared.state.State.{State}
-use Rattle.conn_tracker.specs.Table.{stepped, IsRecordOf}
+use Rattle.conn_tracker.specs.Table.{stepped}
 
 -- the flow that a packet belongs to
 abbrev pub packet_flow : Site → Packet → Flow
@@ -38,19 +35,3 @@ states_after site before (p ∷ ps) = (record_after_packets site before p).state
 pub record AreLive (site : Site) (packets : List Packet) (live : BTreeMap Flow TrackRecord) : Type 0 where
   pub ordered : IsOrdered flow_cmp live
   pub each : (unit : Flow) → get flow_cmp live unit ≡ record_of site (mine site unit packets)
-
--- the records while packets come, in no order
-abbrev pub Kept : Type 0
-Kept = hash.HashMap Flow TrackRecord (BuildHasherDefault FoldHasher)
-
--- the same of them
-abbrev pub AreKept : Site → List Packet → Kept → Type 0
-AreKept site packets kept = (unit : Flow) → hash.get flow_eq kept unit ≡ record_of site (mine site unit packets)
-
--- each record is one that packets of its flow's protocol can have left
-abbrev pub AllFit : Kept → Type 0
-AllFit kept = (unit : Flow) → IfSome (hash.get flow_eq kept unit) (IsRecordOf unit.proto)
-
--- the record of a packet's flow after the packet, where the map has those of all flows before it
-abbrev pub record_after_kept : Site → Kept → Packet → TrackRecord
-record_after_kept site kept p = stepped site (hash.get flow_eq kept (packet_flow site p)) p

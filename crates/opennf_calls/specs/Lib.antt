@@ -1,11 +1,11 @@
-pub mod Checked
 pub mod Command
+pub mod Digits
 pub mod Fold
-pub mod Folded
-pub mod Lines
+pub mod FoldState
 pub mod Outcome
-pub mod Printed
+pub mod PacketLines
+pub mod Phases
 pub mod Report
-pub mod Simulated
+pub mod ReportParts
 pub mod Status
 pub mod Writing

@@ -8,10 +8,37 @@ use Rattle.flow_filter.specs.declared.site.Site.{Site}
 use Rattle.basics.specs.Address.{address_text}
 use Rattle.flow_filter.specs.FilterText.{protocol_text}
 use Rattle.trace_reader.specs.declared.trace.Trace.{Trace}
+use Rattle.trace_reader.specs.declared.trace.TraceEnd.{TraceEnd}
+use Rattle.nf_function.specs.declared.kind.Kind.{Kind}
+use Rattle.nf_function.specs.declared.kind.Kind.TheVariants.{Conntrack, Nat, Monitor}
 use Rattle.conn_tracker.specs.declared.record.TrackRecord.{TrackRecord}
 use Rattle.nf_function.specs.declared.output.Output.{Output}
 use Rattle.conn_tracker.specs.Text.{output_of, output_text, record_text}
 use Rattle.opennf_calls.specs.Fold.{AreLive, record_after_packets}
+
+-- what a report repeats of the words: the function, the names of the instances and the window
+pub record Head : Type 0 where
+  pub kind : Kind
+  pub names : List (List ℕ)
+  pub window : ℕ
+
+-- FUNCTION
+abbrev pub function_name : Kind → List ℕ
+function_name Conntrack = codes "conntrack"
+function_name Nat = codes "nat"
+function_name Monitor = codes "monitor"
+
+-- `function FUNCTION`
+abbrev pub function_text : Kind → List ℕ
+function_text kind = codes "function " ++ function_name kind
+
+-- ` instances N window W`, and the end of the line
+unfoldable pub size_text : ℕ → ℕ → List ℕ
+size_text instances window = codes " instances " ++ decimal instances ++ codes " window " ++ decimal window ++ codes "\n"
+
+-- `function FUNCTION instances N window W`
+unfoldable pub function_line : Head → List ℕ
+function_line head = function_text head.kind ++ size_text (length head.names) head.window
 
 -- `whole` where the trace ends after a record, and `cut` where it ends within one
 abbrev pub end_text : Bool → List ℕ
@@ -23,13 +50,12 @@ unfoldable pub counts_text : ℕ → ℕ → List ℕ
 counts_text packets skipped = codes "trace packets " ++ decimal packets ++ codes " skipped " ++ decimal skipped ++ codes " "
 
 -- `trace packets P skipped S whole` or `cut`
-unfoldable pub trace_line : ℕ → ℕ → Bool → List ℕ
-trace_line packets skipped cut = counts_text packets skipped ++ end_text cut ++ codes "\n"
+unfoldable pub trace_line : TraceEnd → List ℕ
+trace_line end = counts_text end.packets end.skipped ++ end_text end.cut ++ codes "\n"
 
 -- the three lines at the top
-unfoldable pub head_lines : ℕ → ℕ → Bool → List ℕ
-head_lines packets skipped cut =
-    codes "opennf report 1\nfunction conntrack instances 1 window 256\n" ++ trace_line packets skipped cut
+unfoldable pub head_lines : Head → TraceEnd → List ℕ
+head_lines head end = codes "opennf report 1\n" ++ function_line head ++ trace_line end
 
 -- `out N OUTPUT`
 unfoldable pub out_line : Packet → Output → List ℕ
@@ -68,12 +94,18 @@ state_line name entry =
 unfoldable pub tail_lines : List ℕ → ℕ → List ℕ
 tail_lines name packets = codes "tally " ++ name ++ codes " " ++ decimal packets ++ codes "\nend\n"
 
+-- how a capture ends: how many packets are steered, how many records are skipped, and whether it is cut
+abbrev pub end_of : Trace → TraceEnd
+end_of trace = record { packets = length trace.packets; skipped = trace.skipped; cut = trace.cut }
+
 -- the report of one instance that processed every packet: outputs and states are those of each flow's own packets
-unfoldable pub IsReport : Site → List ℕ → Trace → List ℕ → Type 0
-IsReport site name trace text =
-    (live : BTreeMap Flow TrackRecord) × AreLive site trace.packets live
-    × (text ≡ head_lines (length trace.packets) trace.skipped trace.cut
-    ++ out_lines site [] trace.packets
-    ++ flat_map (done_line name) trace.packets
-    ++ flat_map (state_line name) live.entries
-    ++ tail_lines name (length trace.packets))
+pub record IsReport (site : Site) (head : Head) (trace : Trace) (text : List ℕ) : Type 0 where
+  pub name : List ℕ
+  pub one : head.names ≡ name ∷ []
+  pub live : BTreeMap Flow TrackRecord
+  pub are : AreLive site trace.packets live
+  pub lines : text ≡ head_lines head (end_of trace)
+      ++ out_lines site [] trace.packets
+      ++ flat_map (done_line name) trace.packets
+      ++ flat_map (state_line name) live.entries
+      ++ tail_lines name (length trace.packets)

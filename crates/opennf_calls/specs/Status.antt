@@ -36,40 +36,40 @@ role_name TraceOut = codes "capture"
 role_name Errors = codes "errors"
 
 -- what the line says of a kind, before its number
-abbrev pub kind_name : TraceKind → List ℕ
-kind_name Magic = codes "magic"
-kind_name PcapNg = codes "pcapng"
-kind_name Version = codes "version"
-kind_name (LinkType n) = codes "link type "
-kind_name (RecordLength n) = codes "record length "
-kind_name TooLong = codes "too long"
-kind_name Header = codes "header"
+abbrev pub trace_kind_name : TraceKind → List ℕ
+trace_kind_name Magic = codes "magic"
+trace_kind_name PcapNg = codes "pcapng"
+trace_kind_name Version = codes "version"
+trace_kind_name (LinkType n) = codes "link type "
+trace_kind_name (RecordLength n) = codes "record length "
+trace_kind_name TooLong = codes "too long"
+trace_kind_name Header = codes "header"
 
 -- the number of a kind
-abbrev pub kind_number : TraceKind → List ℕ
-kind_number (LinkType n) = decimal n
-kind_number (RecordLength n) = decimal n
-kind_number kind = []
+abbrev pub trace_kind_number : TraceKind → List ℕ
+trace_kind_number (LinkType n) = decimal n
+trace_kind_number (RecordLength n) = decimal n
+trace_kind_number kind = []
 
 -- what the line calls a rule that a script breaks
-abbrev pub script_name : ScriptKind → List ℕ
-script_name bad.Word = codes "word"
-script_name bad.Order = codes "order"
-script_name bad.Filter = codes "filter"
-script_name bad.SplitsUnit = codes "splits unit"
-script_name bad.SameInstance = codes "same instance"
-script_name bad.TooMany = codes "too many"
-script_name bad.Name = codes "name"
-script_name bad.NotUtf8 = codes "not utf8"
+abbrev pub script_kind_name : ScriptKind → List ℕ
+script_kind_name bad.Word = codes "word"
+script_kind_name bad.Order = codes "order"
+script_kind_name bad.Filter = codes "filter"
+script_kind_name bad.SplitsUnit = codes "splits unit"
+script_kind_name bad.SameInstance = codes "same instance"
+script_kind_name bad.TooMany = codes "too many"
+script_kind_name bad.Name = codes "name"
+script_kind_name bad.NotUtf8 = codes "not utf8"
 
 -- the line on a script that breaks a rule
 abbrev pub script_line_of : ℕ → ScriptKind → List ℕ
-script_line_of line kind = codes "opennf: script line " ++ decimal line ++ codes ": " ++ script_name kind ++ codes "\n"
+script_line_of line kind = codes "opennf: script line " ++ decimal line ++ codes ": " ++ script_kind_name kind ++ codes "\n"
 
 -- the line on a capture that breaks a rule
 abbrev pub trace_line_of : ℕ → TraceKind → List ℕ
 trace_line_of offset kind =
-    codes "opennf: trace byte " ++ decimal offset ++ codes ": " ++ kind_name kind ++ kind_number kind ++ codes "\n"
+    codes "opennf: trace byte " ++ decimal offset ++ codes ": " ++ trace_kind_name kind ++ trace_kind_number kind ++ codes "\n"
 
 -- the line on a file that couldn't be read or written
 abbrev pub fault_line_of : List ℕ → Role → List ℕ
@@ -86,16 +86,16 @@ line_of (WriteFault role) = fault_line_of (codes "opennf: write fault ") role
 line_of NoMemory = codes "opennf: no memory\n"
 
 -- the status of a capture that can't be read
-abbrev pub status_of : TraceFault → Status
-status_of fault.Magic = BadTrace 0 Magic
-status_of fault.PcapNg = BadTrace 0 PcapNg
-status_of fault.Version = BadTrace 4 Version
-status_of (fault.LinkType n) = BadTrace 20 (LinkType n)
-status_of (fault.RecordLength offset n) = BadTrace offset (RecordLength n)
-status_of (fault.TooLong offset) = BadTrace offset TooLong
-status_of (fault.Header length) = BadTrace length Header
-status_of fault.Read = ReadFault Trace
-status_of fault.NoMemory = NoMemory
+abbrev pub trace_status : TraceFault → Status
+trace_status fault.Magic = BadTrace 0 Magic
+trace_status fault.PcapNg = BadTrace 0 PcapNg
+trace_status fault.Version = BadTrace 4 Version
+trace_status (fault.LinkType n) = BadTrace 20 (LinkType n)
+trace_status (fault.RecordLength offset n) = BadTrace offset (RecordLength n)
+trace_status (fault.TooLong offset) = BadTrace offset TooLong
+trace_status (fault.Header length) = BadTrace length Header
+trace_status fault.Read = ReadFault Trace
+trace_status fault.NoMemory = NoMemory
 
 -- the status of a script that can't be read
 abbrev pub script_status : ScriptFault → Status

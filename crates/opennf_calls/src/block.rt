@@ -1,5 +1,5 @@
 //! Short texts in blocks of one size. A block is copied as a whole, which takes a step or two, and not a loop.
-ghost use Rattle.std.specs.Prelude.{◌≡◌, ◌≤◌, ◌++◌, length, take, codes, decimal};
+ghost use Rattle.std.specs.Prelude.{◌≡◌, ◌≤◌, ◌+◌, ◌++◌, length, take, codes, decimal};
 
 use itoa::Buffer;
 use std::marker::Model;
@@ -7,7 +7,10 @@ use std::marker::Model;
 /// How many bytes a block has.
 pub const BLOCK: usize = 32;
 
-/// A text of at most 32 bytes, and bytes of no meaning after it.
+/// The longest word before a number.
+pub const WORD: usize = 8;
+
+/// A text of at most [`BLOCK`] bytes, and bytes of no meaning after it. Contracts see the text.
 #[derive(Drop)]
 pub struct Block {
     bytes: [u8; BLOCK],
@@ -16,18 +19,19 @@ pub struct Block {
 
 impl Model for Block {
     ghost use Rattle.std.specs.Prelude.{◌≤◌, ℕ, List, take};
+    ghost use Rattle.opennf_calls.specs.declared.block.TheConstants.{BLOCK};
 
     ghost Value = { List ℕ };
 
     ghost view = { λ b. take b.len b.bytes };
 
-    ghost invariant = { λ b. b.len ≤ 32 };
+    ghost invariant = { λ b. b.len ≤ BLOCK };
 }
 
 impl Block {
     /// The block of what ends a line: a blank, a text and the line's end.
     pub fn line_end(text: &[u8]) -> Block
-        requires { length text.now ≤ 30 }
+        requires { length text.now + 2 ≤ BLOCK }
         ensures { result ≡ codes " " ++ text.now ++ codes "\n" }
     {
         let end = text.len() + 1;
@@ -43,7 +47,7 @@ impl Block {
 
     /// The block of a word and a number in digits.
     pub fn numbered(word: &[u8], number: u64) -> Block
-        requires { length word.now ≤ 8 }
+        requires { length word.now ≤ WORD }
         ensures { result ≡ word.now ++ decimal number }
     {
         let mut buffer = Buffer::new();
@@ -58,16 +62,16 @@ impl Block {
     /// The length of the text.
     pub fn len(&self) -> usize
         ensures value { result ≡ length self.now }
-        ensures bound { result ≤ 32 }
+        ensures bound { result ≤ BLOCK }
     {
         self.len
     }
 
     /// Copies the block to a place of its size, the text in front.
     pub fn copy_to(&self, place: &mut [u8])
-        requires { length place.old ≡ 32 }
+        requires { length place.old ≡ BLOCK }
         ensures text { take (length self.now) place.new ≡ self.now }
-        ensures size { length place.new ≡ 32 }
+        ensures size { length place.new ≡ BLOCK }
     {
         place.copy_from_slice(&self.bytes);
     }

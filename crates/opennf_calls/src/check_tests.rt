@@ -2,7 +2,7 @@ ghost use Rattle.std.specs.Prelude.{◌≡◌, None, IfOk};
 ghost use Rattle.nf_io.specs.declared.outside.Role.{Role as TheRole};
 ghost use Rattle.nf_io.specs.Memory.{seen_in};
 
-use crate::tests::owned;
+use crate::sim_tests::owned;
 use crate::{Status, opennf_calm};
 use flow_filter::NoMemory;
 use nf_io::{MemoryOutside, Role};

@@ -1,15 +1,16 @@
-ghost use Rattle.std.specs.Prelude.{◌≡◌, Some, List, [], length, OnOk, IfOk};
-ghost use Rattle.std.proofs.Props.{props};
+ghost use Rattle.std.specs.Prelude.{◌≡◌, Some, List, [], ◌∷◌, length, OnOk, IfOk};
 ghost use Rattle.std.specs.HashMap.{Updates, get as kept_at};
 ghost use Rattle.std.specs.BTreeMap.{get as live_at, IsOrdered};
 ghost use Rattle.flow_filter.specs.declared.flow.Flow.{Flow as TheFlow};
 ghost use Rattle.flow_filter.specs.declared.packet.Packet.{Packet as ThePacket};
 ghost use Rattle.flow_filter.specs.declared.site.Site.{Site as TheSite};
 ghost use Rattle.conn_tracker.specs.Table.{stepped};
-ghost use Rattle.opennf_calls.specs.Fold.{AllFit, flow_cmp, flow_eq, record_after_kept, packet_flow};
+ghost use Rattle.opennf_calls.specs.Fold.{flow_cmp, flow_eq, packet_flow};
+ghost use Rattle.opennf_calls.specs.FoldState.{record_after_kept};
 
-use crate::report::Report;
-use conn_tracker::{State, TrackRecord, first_record, next_record};
+use crate::report::{Head, Report};
+use conn_tracker::tracker::record_after;
+use conn_tracker::{State, TrackRecord, first_record};
 use flow_filter::{Flow, Name, NoMemory, Packet, Site, flow_of};
 use std::alloc::Global;
 use std::collections::{BTreeMap, HashMap};
@@ -27,12 +28,11 @@ pub struct Fold {
     site: Site,
     kept: Kept,
     states: Vec<State>,
-    ghost fits: { AllFit kept } by { Prim.hlevel props },
 }
 
 impl Fold {
-    ghost use Rattle.opennf_calls.specs.Folded.{HasFolded};
-    ghost use Rattle.opennf_calls.specs.Printed.{report_text};
+    ghost use Rattle.opennf_calls.specs.FoldState.{HasFolded};
+    ghost use Rattle.opennf_calls.specs.ReportParts.{head_view, report_text};
     ghost use Rattle.opennf_calls.specs.Report.{IsReport};
     ghost use Rattle.trace_reader.specs.Records.{AreNumbered};
 
@@ -48,19 +48,26 @@ impl Fold {
     }
 
     /// The report of the instance with a name at the end of a capture. All memory that printing it needs is taken here.
-    pub fn report(self, alloc: Global, name: &Name, end: &TraceEnd) -> Result<Report, NoMemory>
+    pub fn report(
+        self,
+        alloc: Global,
+        head: &Head<'_>,
+        name: &Name,
+        end: &TraceEnd,
+    ) -> Result<Report, NoMemory>
+        requires { head.now.names.now ≡ name.now ∷ [] }
         ensures { IfOk result (λ report. (site : TheSite) (packets : List ThePacket)
             → HasFolded site packets self → AreNumbered 1 packets → length packets ≡ end.now.packets
-            → IsReport site name.now (record { packets = packets; skipped = end.now.skipped; cut = end.now.cut }) (report_text report)) }
+            → IsReport site (head_view head.now) (record { packets = packets; skipped = end.now.skipped; cut = end.now.cut }) (report_text report)) }
     {
         let live = ordered(alloc, &self.kept)?;
-        Report::open(alloc, name, self.states, &live, end)
+        Report::open(alloc, head, name, self.states, &live, end)
     }
 }
 
 impl Keeper for Fold {
     ghost use Rattle.flow_filter.specs.declared.site.Site.{Site as TheSite};
-    ghost use Rattle.opennf_calls.specs.Folded.{Folds};
+    ghost use Rattle.opennf_calls.specs.FoldState.{Folds};
 
     ghost Setup = { TheSite };
 
@@ -75,19 +82,17 @@ impl Keeper for Fold {
 
 /// Takes a packet into the record of its flow, and gives the state that it leaves.
 fn process(kept: &mut Kept, site: &Site, packet: &Packet) -> Result<State, NoMemory>
-    requires { AllFit kept.old }
     ensures updates { OnOk result (Updates flow_eq kept.old kept.new (packet_flow site.now packet.now)
         (Some (record_after_kept site.now kept.old packet.now))) }
     ensures state { IfOk result (λ state. state ≡ (record_after_kept site.now kept.old packet.now).state) }
-    ensures fits { AllFit kept.new }
 {
-    let (flow, direction) = flow_of(site, packet);
+    let (flow, way) = flow_of(site, packet);
     if let Some(record) = kept.get_mut(&flow) {
-        let after = next_record(record, packet, direction);
+        let after = record_after(record, packet, way);
         *record = after;
         return Ok(after.state);
     }
-    let first = first_record(packet, direction);
+    let first = first_record(packet, way);
     kept.insert(flow, first)?;
     Ok(first.state)
 }

@@ -1,23 +1,30 @@
 //! The calls that do all that the program does.
 //!
-//! [`opennf_top`] and [`opennf_calm`] read what the words name through an [`Outside`](nf_io::Outside) and write what they ask
-//! for: the report of a capture, or the canonical text of a script. Contracts see the outside as a function from roles to
-//! what is known of them, and the words as lists of bytes. The main promise is `HasOutcome` of `specs/Outcome.antt`: at `Ok`
-//! the report is that of the capture's bytes, where each flow's outputs and record are those of its own packets, or the
-//! canonical text of the script's bytes; every other status has its cause.
+//! [`opennf_top`] and [`opennf_calm`] take the words of the command line, read the files that these name, and write what they
+//! ask for: the report of a capture, or the canonical text of a script. They touch nothing but the
+//! [`Outside`](nf_io::Outside) that they are handed, and memory.
+//!
+//! Contracts see the outside as a function from roles to what is known of each, the words as lists of bytes, and a status as
+//! its fields. The main promise is `HasOutcome` of `specs/Outcome.antt`: at `Ok` the report is that of the capture's bytes,
+//! where each flow's outputs and record are those of its own packets, or it is the canonical text of the script's bytes; every
+//! other status has its cause.
 #![tactic(auto)]
 
-mod block;
+// The commands, and how each ends.
 pub mod check;
-pub mod complaint;
-mod count;
-pub mod fold;
+pub mod error_line;
 pub mod outcome;
-mod pages;
-pub mod report;
-pub mod run;
+pub mod sim;
 pub mod status;
 pub mod top;
+
+// One instance and its report. These name no status, no command and no words, so that they can stand in a crate below.
+mod block;
+mod counter;
+pub mod fold;
+mod pages;
+pub mod report;
+pub mod writing;
 
 pub use outcome::Outcome;
 pub use status::{Status, TraceKind};
@@ -26,4 +33,4 @@ pub use top::{opennf_calm, opennf_top};
 #[cfg(test)]
 mod check_tests;
 #[cfg(test)]
-mod tests;
+mod sim_tests;

@@ -4,58 +4,74 @@ ghost use Rattle.std.specs.List.{flat_map};
 ghost use Rattle.nf_io.specs.declared.outside.Role.TheVariants.{Report as ReportRole};
 ghost use Rattle.flow_filter.specs.FilterText.{protocol_text};
 ghost use Rattle.nf_io.specs.Meaning.{CanWrite};
-ghost use Rattle.opennf_calls.specs.Report.{head_lines, trace_line, counts_text, end_text, end_point_text, unit_text, state_line, tail_lines};
-ghost use Rattle.opennf_calls.specs.Writing.{Wrote};
+ghost use Rattle.opennf_calls.specs.Report.{function_name, function_text, size_text, trace_line, counts_text, end_text, end_point_text, unit_text, state_line, tail_lines};
+ghost use Rattle.opennf_calls.specs.Writing.{Wrote, written};
 
 use crate::fold::Live;
-use crate::pages::{Lines, Page};
-use crate::run::put;
+use crate::pages::{PacketLines, Page};
+use crate::writing::put;
 use conn_tracker::{State, TrackRecord, push_record};
 use flow_filter::{Flow, Name, NoMemory, TCP, Text};
+use nf_function::Kind;
 use nf_io::{Failed, Outside, Role};
 use std::alloc::Global;
 use trace_reader::TraceEnd;
+
+/// What a report repeats of the words: the function, the names of the instances and the window.
+#[derive(Clone, Copy, Debug)]
+pub struct Head<'a> {
+    pub kind: Kind,
+    pub names: &'a [Name],
+    pub window: u32,
+}
 
 /// A report that is ready to be printed.
 #[derive(Drop)]
 pub struct Report {
     head: Text,
     states: Vec<State>,
-    outs: Lines,
-    dones: Lines,
+    outs: PacketLines,
+    dones: PacketLines,
     tail: Text,
     page: Page,
 }
 
 impl Report {
-    ghost use Rattle.opennf_calls.specs.Printed.{IsReady, report_text};
+    ghost use Rattle.opennf_calls.specs.ReportParts.{IsReady, head_view, report_text};
 
     /// The report of the instance with a name, at the end of a capture.
     pub fn open(
         alloc: Global,
+        head: &Head<'_>,
         name: &Name,
         states: Vec<State>,
         live: &Live,
         end: &TraceEnd,
     ) -> Result<Report, NoMemory>
-        ensures { IfOk result (IsReady name.now states.items live.now.entries end.now) }
+        ensures { IfOk result (IsReady (record {
+          head = head_view head.now;
+          name = name.now;
+          states = states.items;
+          records = live.now.entries;
+          end = end.now;
+        })) }
     {
         let name = name.items();
         Ok(Report {
-            head: head_of(alloc, end)?,
+            head: head.lines(alloc, end)?,
             states,
-            outs: Lines::outs(alloc)?,
-            dones: Lines::dones(alloc, name)?,
+            outs: PacketLines::outs(alloc)?,
+            dones: PacketLines::dones(alloc, name)?,
             tail: tail_of(alloc, name, live, end)?,
             page: Page::open(alloc)?,
         })
     }
 
     /// Writes the report.
-    #[tactic(auto, unfolding(crate::specs::Printed::report_text))]
+    #[tactic(auto, unfolding(crate::specs::ReportParts::report_text))]
     pub fn print<O: Outside>(self, outside: &mut O) -> Result<(), Failed>
         requires { CanWrite ReportRole (O.seen outside.old ReportRole) }
-        ensures { Wrote ReportRole (O.seen outside.old) (O.seen outside.new) (report_text self) result }
+        ensures { Wrote ReportRole (O.seen outside.old) (O.seen outside.new) (written (report_text self) result) }
     {
         let Report {
             head,
@@ -73,26 +89,74 @@ impl Report {
     }
 }
 
-/// The lines at the top of the report.
-#[tactic(auto, unfolding(crate::specs::Report::head_lines))]
-fn head_of(alloc: Global, end: &TraceEnd) -> Result<Text, NoMemory>
-    ensures { IfOk result (λ text. text ≡ head_lines end.now.packets end.now.skipped end.now.cut) }
-{
-    let mut text = Text::open(alloc);
-    text.push_bytes(b"opennf report 1\nfunction conntrack instances 1 window 256\n")?;
-    push_trace(&mut text, end)?;
-    Ok(text)
+impl Head<'_> {
+    ghost use Rattle.opennf_calls.specs.ReportParts.{head_view};
+    ghost use Rattle.opennf_calls.specs.Report.{function_line, head_lines};
+
+    /// The lines at the top of the report.
+    #[tactic(auto, unfolding(crate::specs::Report::head_lines))]
+    fn lines(&self, alloc: Global, end: &TraceEnd) -> Result<Text, NoMemory>
+        ensures { IfOk result (λ text. text ≡ head_lines (head_view self.now) end.now) }
+    {
+        let mut text = Text::open(alloc);
+        text.push_bytes(b"opennf report 1\n")?;
+        self.push_line(&mut text)?;
+        push_trace(&mut text, end)?;
+        Ok(text)
+    }
+
+    /// Puts the line of the function, the number of instances and the window.
+    #[tactic(auto, unfolding(crate::specs::Report::function_line))]
+    fn push_line(&self, text: &mut Text) -> Result<(), NoMemory>
+        ensures { OnOk result (text.new ≡ text.old ++ function_line (head_view self.now)) }
+    {
+        push_function(text, self.kind)?;
+        push_size(text, self.names.len() as u64, self.window)
+    }
 }
 
+/// Puts the word `function` and the function's name.
+fn push_function(text: &mut Text, kind: Kind) -> Result<(), NoMemory>
+    ensures { OnOk result (text.new ≡ text.old ++ function_text kind) }
+{
+    text.push_bytes(b"function ")?;
+    text.push_bytes(function_name(kind).as_bytes())
+}
+
+/// The name of a function in the words and in reports.
+fn function_name(kind: Kind) -> &'static str
+    ensures { result.now ≡ function_name kind }
+{
+    match kind {
+        Kind::Conntrack => "conntrack",
+        Kind::Nat => "nat",
+        Kind::Monitor => "monitor",
+    }
+}
+
+/// Puts the number of instances and the window, and ends the line.
+#[tactic(auto, unfolding(crate::specs::Report::size_text))]
+fn push_size(text: &mut Text, instances: u64, window: u32) -> Result<(), NoMemory>
+    ensures { OnOk result (text.new ≡ text.old ++ size_text instances window) }
+{
+    text.push_bytes(b" instances ")?;
+    text.push_decimal(instances)?;
+    text.push_bytes(b" window ")?;
+    text.push_decimal(u64::from(window))?;
+    text.push_bytes(b"\n")
+}
+
+/// Puts the line of the capture.
 #[tactic(auto, unfolding(crate::specs::Report::trace_line))]
 fn push_trace(text: &mut Text, end: &TraceEnd) -> Result<(), NoMemory>
-    ensures { OnOk result (text.new ≡ text.old ++ trace_line end.now.packets end.now.skipped end.now.cut) }
+    ensures { OnOk result (text.new ≡ text.old ++ trace_line end.now) }
 {
     push_counts(text, end)?;
     text.push_bytes(end_name(end.cut).as_bytes())?;
     text.push_bytes(b"\n")
 }
 
+/// Puts how many packets are steered and how many records are skipped.
 #[tactic(auto, unfolding(crate::specs::Report::counts_text))]
 fn push_counts(text: &mut Text, end: &TraceEnd) -> Result<(), NoMemory>
     ensures { OnOk result (text.new ≡ text.old ++ counts_text end.now.packets end.now.skipped) }
@@ -104,6 +168,7 @@ fn push_counts(text: &mut Text, end: &TraceEnd) -> Result<(), NoMemory>
     text.push_bytes(b" ")
 }
 
+/// Whether the capture ends within a record, in a word.
 fn end_name(is_cut: bool) -> &'static str
     ensures { result.now ≡ end_text is_cut }
 {

@@ -1,6 +1,7 @@
 ghost use Rattle.std.specs.Prelude.{◌≡◌, ◌≤◌, length};
-ghost use Rattle.opennf_calls.specs.Status.{kind_name, exit_number, role_name, script_name, script_status, reading_status, status_of};
+ghost use Rattle.opennf_calls.specs.Status.{trace_kind_name, exit_number, role_name, script_kind_name, reading_status};
 
+use flow_filter::NoMemory;
 use nf_io::{Role, UptoFault};
 use op_script::{ScriptFault, ScriptKind};
 use trace_reader::TraceFault;
@@ -44,36 +45,6 @@ pub enum Status {
 }
 
 impl Status {
-    /// The status of a capture that can't be read.
-    pub fn of(fault: TraceFault) -> Status
-        ensures { result ≡ status_of fault }
-    {
-        match fault {
-            TraceFault::Magic => Status::bad_trace(0, TraceKind::Magic),
-            TraceFault::PcapNg => Status::bad_trace(0, TraceKind::PcapNg),
-            TraceFault::Version => Status::bad_trace(4, TraceKind::Version),
-            TraceFault::LinkType(number) => Status::bad_trace(20, TraceKind::LinkType(number)),
-            TraceFault::RecordLength { offset, n } => Status::bad_trace(
-                offset,
-                TraceKind::RecordLength(n),
-            ),
-            TraceFault::TooLong { offset } => Status::bad_trace(offset, TraceKind::TooLong),
-            TraceFault::Header(length) => Status::bad_trace(length, TraceKind::Header),
-            TraceFault::Read => Status::ReadFault { role: Role::Trace },
-            TraceFault::NoMemory => Status::NoMemory,
-        }
-    }
-
-    /// The status of a script that can't be read.
-    pub fn of_script(fault: ScriptFault) -> Status
-        ensures { result ≡ script_status fault }
-    {
-        match fault {
-            ScriptFault::Bad { line, kind } => Status::BadScript { line, kind },
-            ScriptFault::NoMemory => Status::NoMemory,
-        }
-    }
-
     /// The status of a file that can't be read whole.
     pub fn of_reading(role: Role, fault: UptoFault) -> Status
         ensures { result ≡ reading_status role fault }
@@ -82,12 +53,6 @@ impl Status {
             UptoFault::Failed => Status::ReadFault { role },
             UptoFault::NoMemory => Status::NoMemory,
         }
-    }
-
-    fn bad_trace(offset: u64, kind: TraceKind) -> Status
-        ensures { result ≡ Status.BadTrace offset kind }
-    {
-        Status::BadTrace { offset, kind }
     }
 
     /// The number that the program ends with.
@@ -106,10 +71,65 @@ impl Status {
     }
 }
 
+/// The status of a capture that can't be read.
+impl From<TraceFault> for Status {
+    ghost use Rattle.std.specs.Prelude.{◌≡◌};
+    ghost use Rattle.opennf_calls.specs.Status.{trace_status};
+
+    ghost from_gives = { λ fault status. status ≡ trace_status fault };
+
+    fn from(fault: TraceFault) -> Self {
+        match fault {
+            TraceFault::Magic => bad_trace(0, TraceKind::Magic),
+            TraceFault::PcapNg => bad_trace(0, TraceKind::PcapNg),
+            TraceFault::Version => bad_trace(4, TraceKind::Version),
+            TraceFault::LinkType(number) => bad_trace(20, TraceKind::LinkType(number)),
+            TraceFault::RecordLength { offset, n } => bad_trace(offset, TraceKind::RecordLength(n)),
+            TraceFault::TooLong { offset } => bad_trace(offset, TraceKind::TooLong),
+            TraceFault::Header(length) => bad_trace(length, TraceKind::Header),
+            TraceFault::Read => Status::ReadFault { role: Role::Trace },
+            TraceFault::NoMemory => Status::NoMemory,
+        }
+    }
+}
+
+/// The status of a script that can't be read.
+impl From<ScriptFault> for Status {
+    ghost use Rattle.std.specs.Prelude.{◌≡◌};
+    ghost use Rattle.opennf_calls.specs.Status.{script_status};
+
+    ghost from_gives = { λ fault status. status ≡ script_status fault };
+
+    fn from(fault: ScriptFault) -> Self {
+        match fault {
+            ScriptFault::Bad { line, kind } => Status::BadScript { line, kind },
+            ScriptFault::NoMemory => Status::NoMemory,
+        }
+    }
+}
+
+impl From<NoMemory> for Status {
+    ghost use Rattle.std.specs.Prelude.{◌≡◌};
+    ghost use Rattle.opennf_calls.specs.declared.status.Status.TheVariants.{NoMemory as OutOfMemory};
+
+    ghost from_gives = { λ _ status. status ≡ OutOfMemory };
+
+    fn from(_error: NoMemory) -> Self {
+        Status::NoMemory
+    }
+}
+
+/// The status of a capture that breaks a rule at a byte.
+fn bad_trace(offset: u64, kind: TraceKind) -> Status
+    ensures { result ≡ Status.BadTrace offset kind }
+{
+    Status::BadTrace { offset, kind }
+}
+
 impl TraceKind {
     /// What the error line says of the kind, before its number where it has one.
     pub fn name(self) -> &'static str
-        ensures value { result.now ≡ kind_name self }
+        ensures value { result.now ≡ trace_kind_name self }
         ensures short { length result.now ≤ 14 }
     {
         match self {
@@ -140,8 +160,8 @@ pub fn role_name(role: Role) -> &'static str
 }
 
 /// What the error line calls a rule that a script breaks.
-pub fn script_name(kind: ScriptKind) -> &'static str
-    ensures value { result.now ≡ script_name kind }
+pub fn script_kind_name(kind: ScriptKind) -> &'static str
+    ensures value { result.now ≡ script_kind_name kind }
     ensures short { length result.now ≤ 13 }
 {
     match kind {

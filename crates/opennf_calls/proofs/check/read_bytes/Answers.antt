@@ -10,11 +10,9 @@ returns-clause-bytes g c = λ x told.
     subst (λ left. IfOk c.read_upto.result (λ found. (found ≡ take (c.args.most + 1) x) × (left ≡ Some (drop (c.args.most + 1) x))))
     (search rules) (c.read_upto.ensures.bytes x told')
 
-pub returns-clause-written : goal.returns-clause-written
-returns-clause-written g c = left_written g.O.Outside.seen _ _ _ _ _ c.read_upto.ensures.stays.same_rest (search rules)
-
-pub returns-clause-name : goal.returns-clause-name
-returns-clause-name g c = left_name g.O.Outside.seen _ _ _ _ _ c.read_upto.ensures.stays.same_rest (search rules)
-
-pub returns-clause-others : goal.returns-clause-others
-returns-clause-others g c = left_others g.O.Outside.seen _ _ _ _ _ c.read_upto.ensures.stays.same_rest (search rules)
+pub returns-clause-alone : goal.returns-clause-alone
+returns-clause-alone g c = record {
+  written = left_written g.O.Outside.seen _ _ _ _ _ c.read_upto.ensures.stays.same_rest (search rules);
+  name = left_name g.O.Outside.seen _ _ _ _ _ c.read_upto.ensures.stays.same_rest (search rules);
+  others = left_others g.O.Outside.seen _ _ _ _ _ c.read_upto.ensures.stays.same_rest (search rules);
+}

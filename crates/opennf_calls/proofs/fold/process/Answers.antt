@@ -1,37 +1,29 @@
 -- A packet changes the record of its flow alone.
-use Rattle.std.proofs.Common.{◌≡◌, ℕ, Some, None, Option, IfSome, IsSome, refl, ap, sym, ◌∙◌, subst}
+use Rattle.std.proofs.Common.{◌≡◌, Some, None, Option, IsSome, refl, ap, ◌∙◌}
 use Rattle.std.specs.HashMap.{get}
 use Rattle.flow_filter.specs.declared.flow.Flow.{Flow}
-use Rattle.flow_filter.proofs.FlowLemmas.{proto-flow_of}
 use Rattle.conn_tracker.specs.declared.record.TrackRecord.{TrackRecord}
-use Rattle.conn_tracker.specs.Table.{stepped, IsRecordOf}
-use Rattle.opennf_calls.specs.Fold.{flow_eq, packet_flow, record_after_kept}
-use Rattle.opennf_calls.proofs.FoldLemmas.{AllFit-Updates, fits_unit, stepped_first, stepped_next}
+use Rattle.conn_tracker.specs.Table.{stepped}
+use Rattle.opennf_calls.specs.Fold.{flow_eq, packet_flow}
+use Rattle.opennf_calls.specs.FoldState.{record_after_kept}
+use Rattle.opennf_calls.proofs.FoldLemmas.{stepped_first, stepped_next}
 use Rattle.opennf_calls.proofs.fold.process.Goals as goal
-
-pub next_record-after-requires : goal.next_record-after-requires
-next_record-after-requires c =
-    let found : Some c.in-Some.record.now ≡ get flow_eq c.args.kept.now (packet_flow c.args.site.now c.args.packet.now) =
-    c.in-Some.ensures.value ∙ ap (λ (flow : Flow). get flow_eq c.args.kept.now flow) (ap (λ r. r.0) c.flow_of-way.ensures) in
-    let fits : IfSome (Some c.in-Some.record.now) (IsRecordOf (packet_flow c.args.site.now c.args.packet.now).proto) =
-    subst (λ (o : Option TrackRecord). IfSome o (IsRecordOf (packet_flow c.args.site.now c.args.packet.now).proto)) (sym found) (c.requires (packet_flow c.args.site.now c.args.packet.now)) in
-    subst (λ (proto : ℕ). IsRecordOf proto c.in-Some.record.now) (proto-flow_of c.args.site.now c.args.packet.now) fits
 
 pub returns-in-Some-clause-updates : goal.returns-in-Some-clause-updates
 returns-in-Some-clause-updates c =
     let found : Some c.in-Some.record.now ≡ get flow_eq c.args.kept.now (packet_flow c.args.site.now c.args.packet.now) =
     c.in-Some.ensures.value ∙ ap (λ (flow : Flow). get flow_eq c.args.kept.now flow) (ap (λ r. r.0) c.flow_of-way.ensures) in
-    let after : c.next_record-after.result ≡ record_after_kept c.args.site.now c.args.kept.now c.args.packet.now =
-    stepped_next c.args.site.now c.in-Some.record.now c.args.packet.now _ _ (ap (λ r. r.1) c.flow_of-way.ensures) c.next_record-after.ensures.value
+    let after : c.record_after-after.result ≡ record_after_kept c.args.site.now c.args.kept.now c.args.packet.now =
+    stepped_next c.args.site.now c.in-Some.record.now c.args.packet.now _ _ (ap (λ r. r.1) c.flow_of-way.ensures) c.record_after-after.ensures.value
     ∙ ap (λ (before : Option TrackRecord). stepped c.args.site.now before c.args.packet.now) found in
     let there : IsSome (get flow_eq c.args.kept.now c.flow_of-way.result.0) = rw (← c.in-Some.ensures.value) refl in
-    rw (← after, ← ap (λ r. r.0) c.flow_of-way.ensures) ((c.get_mut.follows.holds c.next_record-after.result).3 there)
+    rw (← after, ← ap (λ r. r.0) c.flow_of-way.ensures) ((c.get_mut.follows.holds c.record_after-after.result).3 there)
 
 pub returns-in-Some-clause-state : goal.returns-in-Some-clause-state
 returns-in-Some-clause-state c =
     let found : Some c.in-Some.record.now ≡ get flow_eq c.args.kept.now (packet_flow c.args.site.now c.args.packet.now) =
     c.in-Some.ensures.value ∙ ap (λ (flow : Flow). get flow_eq c.args.kept.now flow) (ap (λ r. r.0) c.flow_of-way.ensures) in
-    ap (λ r. r.state) (stepped_next c.args.site.now c.in-Some.record.now c.args.packet.now _ _ (ap (λ r. r.1) c.flow_of-way.ensures) c.next_record-after.ensures.value
+    ap (λ r. r.state) (stepped_next c.args.site.now c.in-Some.record.now c.args.packet.now _ _ (ap (λ r. r.1) c.flow_of-way.ensures) c.record_after-after.ensures.value
     ∙ ap (λ (before : Option TrackRecord). stepped c.args.site.now before c.args.packet.now) found)
 
 pub returns-clause-updates : goal.returns-clause-updates
@@ -42,28 +34,6 @@ returns-clause-updates c =
     stepped_first c.args.site.now c.args.packet.now _ _ (ap (λ r. r.1) c.flow_of-way.ensures) c.first_record-first.ensures.value
     ∙ ap (λ (before : Option TrackRecord). stepped c.args.site.now before c.args.packet.now) found in
     rw (← after, ← ap (λ r. r.0) c.flow_of-way.ensures, ← c.get_mut.follows.holds-at-none) c.in_ok-insert.ensures.updates
-
-pub returns-in-Some-clause-fits : goal.returns-in-Some-clause-fits
-returns-in-Some-clause-fits c =
-    let found : Some c.in-Some.record.now ≡ get flow_eq c.args.kept.now (packet_flow c.args.site.now c.args.packet.now) =
-    c.in-Some.ensures.value ∙ ap (λ (flow : Flow). get flow_eq c.args.kept.now flow) (ap (λ r. r.0) c.flow_of-way.ensures) in
-    let fits = fits_unit c.args.site.now c.args.packet.now c.next_record-after.result
-    (record_after_kept c.args.site.now c.args.kept.now c.args.packet.now)
-    (stepped_next c.args.site.now c.in-Some.record.now c.args.packet.now _ _ (ap (λ r. r.1) c.flow_of-way.ensures) c.next_record-after.ensures.value
-    ∙ ap (λ (before : Option TrackRecord). stepped c.args.site.now before c.args.packet.now) found) c.next_record-after.ensures.fits in
-    AllFit-Updates c.args.kept.now (c.get_mut.follows.lender c.next_record-after.result) (packet_flow c.args.site.now c.args.packet.now)
-    (record_after_kept c.args.site.now c.args.kept.now c.args.packet.now) (returns-in-Some-clause-updates c) fits c.requires
-
-pub returns-clause-fits : goal.returns-clause-fits
-returns-clause-fits c =
-    let found : None ≡ get flow_eq c.args.kept.now (packet_flow c.args.site.now c.args.packet.now) =
-    c.in_default.ensures.value ∙ ap (λ (flow : Flow). get flow_eq c.args.kept.now flow) (ap (λ r. r.0) c.flow_of-way.ensures) in
-    let fits = fits_unit c.args.site.now c.args.packet.now c.first_record-first.result
-    (record_after_kept c.args.site.now c.args.kept.now c.args.packet.now)
-    (stepped_first c.args.site.now c.args.packet.now _ _ (ap (λ r. r.1) c.flow_of-way.ensures) c.first_record-first.ensures.value
-    ∙ ap (λ (before : Option TrackRecord). stepped c.args.site.now before c.args.packet.now) found) c.first_record-first.ensures.fits in
-    AllFit-Updates c.args.kept.now c.insert.new.self (packet_flow c.args.site.now c.args.packet.now)
-    (record_after_kept c.args.site.now c.args.kept.now c.args.packet.now) (returns-clause-updates c) fits c.requires
 
 pub returns-clause-state : goal.returns-clause-state
 returns-clause-state c =

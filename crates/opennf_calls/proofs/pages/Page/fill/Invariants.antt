@@ -1,6 +1,6 @@
 -- The lines that were put on the page so far, and those still to come.
 use Rattle.std.proofs.Common.{◌≡◌, ◌≤◌, ◌+◌, ◌*◌, ◌++◌, drop}
-use Rattle.opennf_calls.specs.Lines.{lines_from, page_text}
+use Rattle.opennf_calls.specs.PacketLines.{lines_from, page_text}
 use Rattle.opennf_calls.proofs.pages.Page.fill.Given as goal
 
 -- the page and the lines still to come are the whole

@@ -1,16 +1,15 @@
 -- The pages that were written so far, and the lines that are left.
-use Rattle.std.proofs.Common.{◌≤◌, ◌-◌, length, take, Ok}
-use Rattle.nf_io.specs.declared.outside.Failed.{Failed}
+use Rattle.std.proofs.Common.{◌≤◌, ◌-◌, length, take}
 use Rattle.nf_io.specs.Meaning.{CanWrite}
-use Rattle.opennf_calls.specs.Lines.{lines_from}
-use Rattle.opennf_calls.specs.Writing.{Wrote}
+use Rattle.opennf_calls.specs.PacketLines.{lines_from}
+use Rattle.opennf_calls.specs.Writing.{Wrote, all_of}
 use Rattle.opennf_calls.proofs.pages.Page.print.Given as goal
 
 -- the lines of the packets so far were written
 abbrev pub invariant-loop-at : goal.invariant-loop-at
 invariant-loop-at g l = record {
   within : l.at ≤ length l.states;
-  wrote : Wrote {E = Failed} l.role (g.O.Outside.seen l.fn.outside) (g.O.Outside.seen l.outside) (lines_from l.lines 1 (take l.at l.states)) (Ok tt);
+  wrote : Wrote l.role (g.O.Outside.seen l.fn.outside) (g.O.Outside.seen l.outside) (all_of (lines_from l.lines 1 (take l.at l.states)));
   writable : CanWrite l.role (g.O.Outside.seen l.outside l.role);
 }
 

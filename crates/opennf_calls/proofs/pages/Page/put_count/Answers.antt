@@ -1,6 +1,6 @@
 -- The block, with the last digit in its place.
 use Rattle.std.proofs.Common.{◌+◌, ◌++◌, [], ◌∷◌, length, take, ◌-◌, ap, ◌∙◌}
-use Rattle.opennf_calls.specs.Lines.{page_text}
+use Rattle.opennf_calls.specs.PacketLines.{page_text}
 use Rattle.opennf_calls.proofs.PageLemmas.{put_last}
 use Rattle.opennf_calls.proofs.pages.Page.put_count.Goals as goal
 

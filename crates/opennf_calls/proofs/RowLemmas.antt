@@ -1,0 +1,172 @@
+-- From what a command did to the roles that it used to the row of its status, which speaks of all roles.
+use Rattle.std.proofs.Common.{◌≡◌, ◌≢◌, ℕ, List, [], Bool, true, false, not, ◌&&◌, Option, None, Some, is_some, refl, ap, ◌∙◌, sym, subst, IsTrue, inl, inr}
+use Rattle.std.specs.Io.KnownBytes.{Appends}
+use Rattle.basics.proofs.BoolLemmas.{both_true}
+use Rattle.nf_io.specs.declared.outside.Role.{Role}
+use Rattle.nf_io.specs.declared.outside.Role.TheVariants.{Trace, Script, JournalIn, Report, JournalOut, TraceOut, Errors}
+use Rattle.nf_io.specs.Meaning.{Meaning, Rose, AppendsFront}
+use Rattle.nf_io.specs.Roles.{is_read}
+use Rattle.command_words.specs.Plan.{Asked, SimAsked, CheckAsked, asks_sim, asks_check}
+use Rattle.opennf_calls.specs.declared.status.Status.{Status}
+use Rattle.opennf_calls.specs.declared.status.Status.TheVariants.{Ok as Done, Usage, BadScript, BadTrace, ReadFault, WriteFault, NoMemory}
+use Rattle.opennf_calls.specs.Command.{file_for, is_input, is_result, comes_before}
+use Rattle.opennf_calls.specs.Outcome.{Texts, HasInput, HasTexts, ForTexts, IsBound, IsRead, WroteNothing, WroteResultsAlone, Gained, Unwritten, IsDone, IsWriteFault, IsReadFault, IsRefused, RowOf, refusal_of}
+use Rattle.opennf_calls.specs.Phases.{ReadAlone, SameNames, Performs}
+use Rattle.opennf_calls.specs.Writing.{Gains, Written, all_of, front_of, Wrote}
+use Rattle.opennf_calls.proofs.RoleLemmas.{at_each, this_or_other}
+
+-- a role that is read isn't one that is written
+pub not_report : (asked : Asked) (role : Role) → IsTrue (is_input asked role) → role ≢ Report
+not_report asked role input same =
+    let here : IsTrue (is_input asked Report) = subst (λ (r : Role). IsTrue (is_input asked r)) same input in cc
+
+pub not_errors : (asked : Asked) (role : Role) → IsTrue (is_input asked role) → role ≢ Errors
+not_errors asked role input same =
+    let here : IsTrue (is_input asked Errors) = subst (λ (r : Role). IsTrue (is_input asked r)) same input in cc
+
+-- no result goes to the standard error
+pub not_last : (asked : Asked) (role : Role) → IsTrue (is_result asked role) → role ≢ Errors
+not_last asked role result same =
+    let here : IsTrue (is_result asked Errors) = subst (λ (r : Role). IsTrue (is_result asked r)) same result in cc
+
+-- the words give a file to this role alone
+abbrev pub OneFile : Asked → Role → Type 0
+OneFile asked role = (other : Role) → other ≢ role → file_for asked other ≡ None
+
+pub one_file-sim : (s : SimAsked) → s.script ≡ None → OneFile (asks_sim s) Trace
+one_file-sim s none Trace differ = absurd (differ refl)
+one_file-sim s none Script differ = none
+one_file-sim s none JournalIn differ = refl
+one_file-sim s none Report differ = refl
+one_file-sim s none JournalOut differ = refl
+one_file-sim s none TraceOut differ = refl
+one_file-sim s none Errors differ = refl
+
+pub one_file-check : (c : CheckAsked) → OneFile (asks_check c) Script
+one_file-check c Script differ = absurd (differ refl)
+one_file-check c Trace differ = refl
+one_file-check c JournalIn differ = refl
+one_file-check c Report differ = refl
+one_file-check c JournalOut differ = refl
+one_file-check c TraceOut differ = refl
+one_file-check c Errors differ = refl
+
+-- then that role is the one input, and the report is the one result
+module _ (asked : Asked) (role : Role) (one : OneFile asked role) where
+  pub input_alone : (other : Role) → IsTrue (is_input asked other) → other ≡ role
+  input_alone other input = elim (this_or_other other role) [
+    | inl same ↦ same
+    | inr differ ↦
+        let file = (both_true (is_read other) (is_some (file_for asked other)) input).1 in
+        let none : is_some (file_for asked other) ≡ false = ap is_some (one other differ) in absurd (cc)
+  ]
+
+  no_result : IsTrue (is_read role) → (other : Role) → is_read other ≡ false → is_some (file_for asked other) ≡ false
+  no_result read other written = ap is_some (one other (λ same.
+      let here : is_read role ≡ false = subst (λ (r : Role). is_read r ≡ false) same written in cc))
+
+  pub report_alone : IsTrue (is_read role) → (other : Role) → IsTrue (is_result asked other) → other ≡ Report
+  report_alone read Report result = refl
+  report_alone read JournalOut result = let none = no_result read JournalOut refl in absurd (cc)
+  report_alone read TraceOut result = let none = no_result read TraceOut refl in absurd (cc)
+  report_alone read Trace result = absurd (cc)
+  report_alone read Script result = absurd (cc)
+  report_alone read JournalIn result = absurd (cc)
+  report_alone read Errors result = absurd (cc)
+
+-- while an input is read nothing is written, and no name changes
+module _ (role : Role) (old new : Role → Meaning) (alone : ReadAlone role old new) where
+  pub unwritten : (other : Role) → (new other).written ≡ (old other).written
+  unwritten = at_each role old new (λ a b. b.written ≡ a.written) alone.others (λ m. refl) alone.written
+
+  pub names_kept : SameNames old new
+  names_kept = at_each role old new (λ a b. b.name ≡ a.name) alone.others (λ m. refl) alone.name
+
+  pub silent : WroteNothing old new
+  silent other differ = unwritten other
+
+  pub still_bound : (asked : Asked) → IsBound asked old → IsBound asked new
+  still_bound asked bound other = names_kept other ∙ bound other
+
+  -- a failed read
+  pub read_fault : (asked : Asked) → IsBound asked old → IsTrue (is_input asked role) → Rose (old role).faults (new role).faults → IsReadFault asked old new role
+  read_fault asked bound input rose = record { input = input; rose = rose; bound = still_bound asked bound; silent = silent }
+
+  -- a refusal
+  pub refused : (asked : Asked) (status : Status) → IsBound asked old
+      → ((bytes : Role → List ℕ) → HasInput asked old bytes → refusal_of asked bytes ≡ Some status) → IsRefused asked old new status
+  refused asked status bound refusal = record { bound = still_bound asked bound; silent = silent; refusal = refusal }
+
+  -- a command that ends there
+  pub ends : (asked : Asked) (status : Status) → Report ≢ role → Errors ≢ role → RowOf asked old new status → Performs asked old new status
+  ends asked status report errors row = record { row = row; names = names_kept; errors = alone.others Errors errors }
+
+-- a command that read its input and then wrote the report, whole or in part
+module _ (asked : Asked) (old mid new : Role → Meaning) (role : Role) (alone : ReadAlone role old mid) (input : IsTrue (is_input asked role))
+    (bound : IsBound asked old) (only : (other : Role) → IsTrue (is_result asked other) → other ≡ Report)
+    (text : List ℕ) (made : ForTexts asked old mid (λ texts. texts Report ≡ text)) where
+  same_report : mid Report ≡ old Report
+  same_report = alone.others Report (λ same. not_report asked role input (sym same))
+
+  module _ (part : Written) (wrote : Wrote Report mid new part) where
+    new_names : SameNames mid new
+    new_names = at_each Report mid new (λ a b. b.name ≡ a.name) wrote.others (λ m. refl) wrote.name
+
+    new_bound : IsBound asked new
+    new_bound other = new_names other ∙ names_kept role old mid alone other ∙ bound other
+
+    others : WroteResultsAlone asked old new
+    others other no_result differ =
+        ap (λ m. m.written) (wrote.others other (λ same. no_report (subst (λ (o : Role). is_result asked o ≡ false) same no_result)))
+        ∙ unwritten role old mid alone other
+      where
+        no_report : is_result asked Report ≡ false → ⊥
+        no_report e = cc
+
+    -- what the report gained, seen from before the command
+    gained : Gains part (old Report) (new Report)
+    gained = subst (λ (m : Meaning). Gains part m (new Report)) same_report wrote.gains
+
+    -- the texts, for what is said of the one that was written
+    with_texts : (P : Texts → Type 0) → ((texts : Texts) → texts Report ≡ text → P texts) → ForTexts asked old new P
+    with_texts P says bytes told =
+        let found = made bytes told in
+        record {
+          read = λ other is. ap (λ m. m.left) (wrote.others other (not_report asked other is)) ∙ found.read other is;
+          sound = found.sound;
+          texts = found.texts;
+          are = found.are;
+          wrote = says found.texts found.wrote;
+        }
+
+    performs : (status : Status) → RowOf asked old new status → Performs asked old new status
+    performs status row = record {
+      row = row;
+      names = λ other. new_names other ∙ names_kept role old mid alone other;
+      errors = wrote.others Errors (λ same. cc) ∙ alone.others Errors (λ same. not_errors asked role input (sym same));
+    }
+
+  pub report_written : Wrote Report mid new (all_of text) → Performs asked old new Done
+  report_written wrote = performs (all_of text) wrote Done (record {
+    bound = new_bound (all_of text) wrote;
+    others = others (all_of text) wrote;
+    results = with_texts (all_of text) wrote (λ texts. Gained (is_result asked) texts old new) (λ texts is other result.
+        subst (λ (o : Role). Appends (old o).written (new o).written (texts o)) (sym (only other result))
+        (subst (λ (t : List ℕ). Appends (old Report).written (new Report).written t) (sym is) (gained (all_of text) wrote)));
+  })
+
+  pub report_failed : Wrote Report mid new (front_of text) → Performs asked old new (WriteFault Report)
+  report_failed wrote = performs (front_of text) wrote (WriteFault Report) (record {
+    result = refl;
+    rose = (gained (front_of text) wrote).1;
+    bound = new_bound (front_of text) wrote;
+    others = others (front_of text) wrote;
+    after = λ other later. let never = (both_true (is_result asked other) (comes_before Report other) later).1 in absurd (cc);
+    results = with_texts (front_of text) wrote (λ texts. AppendsFront (old Report).written (new Report).written (texts Report)
+        × Gained (λ other. is_result asked other && comes_before other Report) texts old new) (λ texts is. (
+          subst (λ (t : List ℕ). AppendsFront (old Report).written (new Report).written t) (sym is) (gained (front_of text) wrote).0,
+          λ other earlier.
+              let parts = both_true (is_result asked other) (comes_before other Report) earlier in
+              let never : IsTrue (comes_before Report Report) = subst (λ (o : Role). IsTrue (comes_before o Report)) (only other parts.0) parts.1 in absurd (cc),
+        ));
+  })

@@ -1,0 +1,57 @@
+-- A script that is too long shows it in the front that is read; and the row of a script that is refused.
+use Rattle.std.proofs.Common.{◌≡◌, ◌≤◌, ◌+◌, ℕ, Bool, true, false, ltb, List, [], length, take, drop, Some, Ok, Err, refl, ap, arith, length-take}
+use Rattle.std.proofs.lemmas.Bool.{ltb-true, ltb-false, lt-ltb}
+use Rattle.std.proofs.lemmas.List.{take_all, drop_all}
+use Rattle.nf_function.specs.declared.kind.Kind.{Kind}
+use Rattle.op_script.specs.Forms.{Word}
+use Rattle.op_script.specs.Reading.{SaysWhole, ScriptView, script_of, script_view}
+use Rattle.op_script.specs.declared.fault.ScriptFault.{ScriptFault}
+use Rattle.op_script.specs.declared.fault.ScriptFault.TheVariants as script
+use Rattle.nf_io.specs.declared.outside.Role.{Role}
+use Rattle.nf_io.specs.declared.outside.Role.TheVariants.{Script}
+use Rattle.nf_io.specs.Meaning.{Meaning}
+use Rattle.command_words.specs.Plan.{CheckAsked, asks_check}
+use Rattle.opennf_calls.specs.Outcome.{IsBound, RowOf, script_refusal}
+use Rattle.opennf_calls.specs.Phases.{ReadAlone}
+use Rattle.opennf_calls.specs.Status.{script_status}
+use Rattle.opennf_calls.proofs.RowLemmas.{silent, refused}
+
+-- the most bytes that a script may have
+abbrev pub most_bytes : ℕ
+most_bytes = 1048576
+
+front_says : (kind : Kind) (names : List Word) (bytes : List ℕ) (long : Bool) → ltb (most_bytes + 1) (length bytes) ≡ long
+    → script_of kind names (take (most_bytes + 1) bytes) ≡ script_of kind names bytes
+unfolding script_of
+front_says kind names bytes false is =
+    rw (take_all (most_bytes + 1) bytes (ltb-false (most_bytes + 1) (length bytes) is)) refl
+front_says kind names bytes true is =
+    let over = ltb-true (most_bytes + 1) (length bytes) is in
+    let long : ltb most_bytes (length bytes) ≡ true = lt-ltb most_bytes (length bytes) (omega arith) in
+    let front : ltb most_bytes (length (take (most_bytes + 1) bytes)) ≡ true = lt-ltb most_bytes (length (take (most_bytes + 1) bytes)) (omega (arith, length-take (most_bytes + 1) bytes)) in
+    rw long (rw front refl)
+
+-- the front says what the whole says
+pub script_of-front : (kind : Kind) (names : List Word) (bytes : List ℕ) → script_of kind names (take (most_bytes + 1) bytes) ≡ script_of kind names bytes
+script_of-front kind names bytes = front_says kind names bytes (ltb (most_bytes + 1) (length bytes)) refl
+
+short : (kind : Kind) (names : List Word) (bytes : List ℕ) (view : ScriptView) (long : Bool) → ltb most_bytes (length bytes) ≡ long
+    → script_of kind names bytes ≡ Ok view → length bytes ≤ most_bytes
+unfolding script_of
+short kind names bytes view false is said = ltb-false most_bytes (length bytes) is
+short kind names bytes view true is said =
+    let refused : script_of kind names bytes ≡ Ok view = said in absurd cc
+
+-- of a script that is taken nothing is left
+pub nothing_left : (kind : Kind) (names : List Word) (bytes : List ℕ) (view : ScriptView) → script_of kind names bytes ≡ Ok view → drop (most_bytes + 1) bytes ≡ []
+nothing_left kind names bytes view said =
+    let few = short kind names bytes view (ltb most_bytes (length bytes)) refl said in
+    drop_all (most_bytes + 1) bytes (omega arith)
+
+-- the row of the status of a script that is refused
+pub script_row : (c : CheckAsked) (old new : Role → Meaning) (fault : ScriptFault) → ReadAlone Script old new → IsBound (asks_check c) old
+    → ((bytes : List ℕ) → (old Script).left ≡ Some bytes → SaysWhole script_view (Err fault) (script_of c.kind c.instances.0 bytes))
+    → RowOf (asks_check c) old new (script_status fault)
+script_row c old new (script.Bad line kind) alone bound says = refused Script old new alone (asks_check c) (script_status (script.Bad line kind)) bound
+    (λ bytes told. ap script_refusal (says (bytes Script) (told Script refl)))
+script_row c old new script.NoMemory alone bound says = silent Script old new alone

@@ -1,0 +1,41 @@
+-- The text is the one that the command has for the script, or the status has its row.
+use Rattle.std.proofs.Common.{rules, ◌≡◌, ◌+◌, [], Some, Ok, Err, take, ap, sym, ◌∙◌, refl, subst}
+use Rattle.std.proofs.lemmas.Result.{err_from_is_err_and}
+use Rattle.nf_io.specs.declared.outside.Role.{Role}
+use Rattle.nf_io.specs.declared.outside.Role.TheVariants.{Script}
+use Rattle.op_script.specs.Reading.{SaysWhole, script_of, script_view}
+use Rattle.command_words.specs.Plan.{asks_check}
+use Rattle.command_words.specs.RequestViews.{check_view}
+use Rattle.opennf_calls.specs.Outcome.{script_refusal}
+use Rattle.opennf_calls.proofs.ScriptLemmas.{most_bytes, script_of-front, nothing_left, script_row}
+use Rattle.opennf_calls.proofs.RowLemmas.{input_alone, one_file-check}
+use Rattle.opennf_calls.proofs.check.read_canonical.Goals as goal
+
+pub returns-in_err-script-clause-row : goal.returns-in_err-script-clause-row
+returns-in_err-script-clause-row g c =
+    let failed = err_from_is_err_and c.from_residual.result c.from_residual.ensures.1 in
+    rw (failed.1, failed.2)
+    (script_row (check_view c.args.asked.now) (g.O.Outside.seen c.args.outside.now) (g.O.Outside.seen c.read_bytes.new.outside) c.in_err-script.field-0.0
+    c.read_bytes.ensures.alone c.requires.bound (λ bytes told.
+    let found = c.in-Ok.ensures.bytes bytes told in
+    let read : c.items.result.now ≡ take (most_bytes + 1) bytes = search rules in
+    let heard : SaysWhole script_view (Err c.in_err-script.field-0.0) (script_of c.args.asked.now.kind c.args.asked.now.instances.names.items (take (most_bytes + 1) bytes)) = search rules in
+    subst (λ said. SaysWhole script_view (Err c.in_err-script.field-0.0) said) (script_of-front c.args.asked.now.kind c.args.asked.now.instances.names.items bytes) heard))
+
+pub returns-clause-row : goal.returns-clause-row
+returns-clause-row g c = λ bytes told.
+    let found = c.in-Ok.ensures.bytes (bytes Script) (told Script refl) in
+    let read : c.items.result.now ≡ take (most_bytes + 1) (bytes Script) = search rules in
+    let heard : script_of c.args.asked.now.kind c.args.asked.now.instances.names.items (take (most_bytes + 1) (bytes Script)) ≡ Ok (script_view c.in_ok-script.script) = search rules in
+    let said : script_of c.args.asked.now.kind c.args.asked.now.instances.names.items (bytes Script) ≡ Ok (script_view c.in_ok-script.script) =
+    sym (script_of-front c.args.asked.now.kind c.args.asked.now.instances.names.items (bytes Script)) ∙ heard in
+    let none = nothing_left c.args.asked.now.kind c.args.asked.now.instances.names.items (bytes Script) (script_view c.in_ok-script.script) said in
+    record {
+      read = λ role input.
+          subst (λ (r : Role). (g.O.Outside.seen c.read_bytes.new.outside r).left ≡ Some []) (sym (input_alone (asks_check (check_view c.args.asked.now)) Script (one_file-check (check_view c.args.asked.now)) role input))
+          (found.1 ∙ ap (λ rest. Some rest) none);
+      sound = ap script_refusal said;
+      texts = λ role. c.in_ok-text.text;
+      are = record { script = c.in_ok-script.script; read = said; canonical = search rules };
+      wrote = refl;
+    }
