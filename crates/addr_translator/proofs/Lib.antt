@@ -1,0 +1,2 @@
+pub mod BodyOrder
+pub mod MappingsRead

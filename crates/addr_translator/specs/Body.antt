@@ -36,14 +36,20 @@ unfoldable pub body_of : Translation → List ℕ
 body_of r =
     number_bytes 2 (length r.mappings) ++ flat_map mapping_bytes r.mappings ++ number_bytes 8 r.packets ++ number_bytes 8 r.drops
 
+-- a mapping, and the bytes after it
+unfoldable pub first_mapping : List ℕ → Option (Mapping × List ℕ)
+first_mapping bytes = do
+  proto ← first_byte bytes
+  port ← first_number 2 proto.1
+  Some (record { proto = proto.0; port = port.0 }, port.1)
+
 -- as many mappings, and the bytes after them
 unfoldable pub mappings_in : ℕ → List ℕ → Option (List Mapping × List ℕ)
 mappings_in zero bytes = Some ([], bytes)
 mappings_in (suc n) bytes = do
-  proto ← first_byte bytes
-  port ← first_number 2 proto.1
-  more ← mappings_in n port.1
-  Some ((record { proto = proto.0; port = port.0 }) ∷ more.0, more.1)
+  first ← first_mapping bytes
+  more ← mappings_in n first.1
+  Some (first.0 ∷ more.0, more.1)
 
 -- a record with these mappings alone
 abbrev pub with_mappings : List Mapping × List ℕ → Translation × List ℕ

@@ -13,7 +13,7 @@ use Rattle.nf_function.specs.Units.{is_transport}
 use Rattle.nf_function.proofs.StoredNumbers.{IsFirst, first_number-number_bytes, first_number-some, length-number_bytes, IsBytes-tail}
 use Rattle.addr_translator.specs.declared.mapping.Mapping.{Mapping}
 use Rattle.addr_translator.specs.Mappings.{Translation, ports_per_host}
-use Rattle.addr_translator.specs.Body.{is_mapping, is_distinct, are_mappings, is_valid, mapping_bytes, body_of, mappings_in, few, ended, spelled, valid_only, record_in}
+use Rattle.addr_translator.specs.Body.{is_mapping, is_distinct, are_mappings, is_valid, mapping_bytes, body_of, first_mapping, mappings_in, few, ended, spelled, valid_only, record_in}
 
 -- what is true of a record that is valid for a host
 pub record IsValid (host : ℕ) (r : Translation) : Type 0 where
@@ -67,37 +67,45 @@ valid_from host r v =
     (below_true r.packets (2 ^ 64) v.packets)
 
 -- mappings are read again, whatever follows
+first_mapping-mapping_bytes : (m : Mapping) (rest : List ℕ) → is_mapping m ≡ true → first_mapping (mapping_bytes m ++ rest) ≡ Some (m, rest)
+unfolding first_mapping
+first_mapping-mapping_bytes m rest h =
+    let port = below m.port (2 ^ 16) (both_true (is_transport m.proto) (nat_lt m.port (2 ^ 16)) h).1 in
+    rw (first_number-number_bytes 2 m.port rest port) refl
+
 mappings_in-flat_map : (mappings : List Mapping) (rest : List ℕ) → list_all is_mapping mappings ≡ true
     → mappings_in (length mappings) (flat_map mapping_bytes mappings ++ rest) ≡ Some (mappings, rest)
 unfolding mappings_in
 mappings_in-flat_map [] rest h = refl
 mappings_in-flat_map (m ∷ more) rest h =
     let parts = both_true (is_mapping m) (list_all is_mapping more) h in
-    let port = below m.port (2 ^ 16) (both_true (is_transport m.proto) (nat_lt m.port (2 ^ 16)) parts.0).1 in
-    let after : List ℕ = flat_map mapping_bytes more ++ rest in
-    rw (append_assoc (number_bytes 2 m.port) (flat_map mapping_bytes more) rest, first_number-number_bytes 2 m.port after port, mappings_in-flat_map more rest parts.1) refl
+    rw (
+      append_assoc (mapping_bytes m) (flat_map mapping_bytes more) rest,
+      first_mapping-mapping_bytes m (flat_map mapping_bytes more ++ rest) parts.0,
+      mappings_in-flat_map more rest parts.1,
+    ) refl
+
+-- the parts of a body, from the front
+pub body_parts : (r : Translation)
+    → body_of r ≡ number_bytes 2 (length r.mappings) ++ (flat_map mapping_bytes r.mappings ++ (number_bytes 8 r.packets ++ (number_bytes 8 r.drops ++ [])))
+unfolding body_of
+body_parts r = rw (append-nil (number_bytes 8 r.drops)) (simp append_assoc)
 
 -- a record is read again
 spelled-body_of : (host : ℕ) (r : Translation) → IsValid host r → spelled (body_of r) ≡ Some r
-unfolding spelled body_of
+unfolding spelled
 spelled-body_of host r v =
     let short : length r.mappings ≤ ports_per_host = v.short in
     let packets : r.packets < 2 ^ 64 = v.packets in
     let drops : r.drops < 2 ^ 64 = let most : r.drops ≤ r.packets = v.drops in omega arith in
-    let parts : number_bytes 2 (length r.mappings) ++ flat_map mapping_bytes r.mappings ++ number_bytes 8 r.packets ++ number_bytes 8 r.drops
-    ≡ number_bytes 2 (length r.mappings) ++ (flat_map mapping_bytes r.mappings ++ (number_bytes 8 r.packets ++ (number_bytes 8 r.drops ++ [])))
-    = regrouped (number_bytes 2 (length r.mappings)) (flat_map mapping_bytes r.mappings) (number_bytes 8 r.packets) (number_bytes 8 r.drops) in
     rw (
-      parts,
+      body_parts r,
       first_number-number_bytes 2 (length r.mappings) (flat_map mapping_bytes r.mappings ++ (number_bytes 8 r.packets ++ (number_bytes 8 r.drops ++ []))) (omega arith),
       at_most_true (length r.mappings) ports_per_host short,
       mappings_in-flat_map r.mappings (number_bytes 8 r.packets ++ (number_bytes 8 r.drops ++ [])) v.each,
       first_number-number_bytes 8 r.packets (number_bytes 8 r.drops ++ []) packets,
       first_number-number_bytes 8 r.drops [] drops,
     ) refl
-  where
-    regrouped : (a b c d : List ℕ) → a ++ b ++ c ++ d ≡ a ++ (b ++ (c ++ (d ++ [])))
-    regrouped a b c d = rw (append-nil d) (simp append_assoc)
 
 valid_spelled : (u : units.Unit) (r : Translation) → is_valid u r ≡ true → spelled (body_of r) ≡ Some r
 valid_spelled (OfFlow flow) r h = cc
@@ -121,20 +129,36 @@ record AreFirst (n : ℕ) (bytes : List ℕ) (read : List Mapping × List ℕ) :
   size : length read.0 ≡ n
   rest_bytes : IsBytes read.1
 
+-- a mapping that was read: its bytes, and the rest
+record IsFirstMapping (bytes : List ℕ) (read : Mapping × List ℕ) : Type 0 where
+  stored : bytes ≡ mapping_bytes read.0 ++ read.1
+  rest_bytes : IsBytes read.1
+
+first_mapping-some : (bytes : List ℕ) (read : Mapping × List ℕ) → IsBytes bytes → first_mapping bytes ≡ Some read → IsFirstMapping bytes read
+unfolding first_mapping
+first_mapping-some [] read are h = cc
+first_mapping-some (proto ∷ bytes) read are h =
+    option_and_then_some _ (first_number 2 bytes) read h (λ port p last.
+    let first = first_number-some 2 bytes port.0 port.1 (IsBytes-tail proto bytes are) p in
+    let whole = same_first (record { proto = proto; port = port.0 }, port.1) read last in
+    record { stored = rw (← whole) (ap (λ (bytes : List ℕ). proto ∷ bytes) first.spelled); rest_bytes = rw (← whole) first.rest_bytes })
+  where
+    same_first : (x y : Mapping × List ℕ) → ◌≡◌ {A = Option (Mapping × List ℕ)} (Some x) (Some y) → x ≡ y
+    same_first x y h = cc
+
 mappings_in-some : (n : ℕ) (bytes : List ℕ) (read : List Mapping × List ℕ) → IsBytes bytes → mappings_in n bytes ≡ Some read → AreFirst n bytes read
 unfolding mappings_in
 mappings_in-some zero bytes read are h =
     let whole : ([], bytes) ≡ read = same_some ([], bytes) read h in
     record { stored = rw (← whole) refl; size = rw (← whole) refl; rest_bytes = rw (← whole) are }
-mappings_in-some (suc n) [] read are h = cc
-mappings_in-some (suc n) (proto ∷ bytes) read are h =
-    option_and_then_some _ (first_number 2 bytes) read h (λ port p h1.
-    option_and_then_some _ (mappings_in n port.1) read h1 (λ more q last.
-    let first = first_number-some 2 bytes port.0 port.1 (IsBytes-tail proto bytes are) p in
-    let rest = mappings_in-some n port.1 more first.rest_bytes q in
-    let whole = same_some ((record { proto = proto; port = port.0 }) ∷ more.0, more.1) read last in
+mappings_in-some (suc n) bytes read are h =
+    option_and_then_some _ (first_mapping bytes) read h (λ first p h1.
+    option_and_then_some _ (mappings_in n first.1) read h1 (λ more q last.
+    let one = first_mapping-some bytes first are p in
+    let rest = mappings_in-some n first.1 more one.rest_bytes q in
+    let whole = same_some (first.0 ∷ more.0, more.1) read last in
     record {
-      stored = rw (← whole) (rw (first.spelled, rest.stored) (ap (λ (bytes : List ℕ). proto ∷ bytes) (sym (append_assoc (number_bytes 2 port.0) (flat_map mapping_bytes more.0) more.1))));
+      stored = rw (← whole) (rw (one.stored, rest.stored) (sym (append_assoc (mapping_bytes first.0) (flat_map mapping_bytes more.0) more.1)));
       size = rw (← whole) (omega (arith, rest.size));
       rest_bytes = rw (← whole) rest.rest_bytes;
     }))

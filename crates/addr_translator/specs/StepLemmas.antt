@@ -1,18 +1,229 @@
 -- What a step of the translator keeps of a record, and all its laws together. A step between code and definition: there is
 -- nothing here to believe. It stands in specs/ since the laws of a trait may cite nothing else.
-use Rattle.nf_function.specs.Records.{Laws}
+use Rattle.std.proofs.Common.{◌≡◌, ◌<◌, ◌≤◌, ◌+◌, ◌-◌, ◌%◌, ◌^◌, ◌&&◌, ◌||◌, ◌==◌, eqb, ℕ, suc, Bool, true, false, cond, not, List, [], ◌∷◌, ◌++◌, length, Option, None, Some, slice_get, unwrap_or, refl, sym, ap, arith, nat_lt, length-append}
+use Rattle.std.specs.List.{list_all, list_any, position, position_or_len}
+use Rattle.std.proofs.lemmas.Bool.Decides.{nat_tests}
+use Rattle.std.proofs.lemmas.List.Folds.{list_all-append, list_any-append}
+use Rattle.basics.proofs.BoolLemmas.{both_true, true_both}
+use Rattle.flow_filter.specs.declared.packet.Packet.{Packet}
+use Rattle.flow_filter.specs.declared.site.Site.{Site}
+use Rattle.flow_filter.specs.Filter.{IsFlow}
+use Rattle.flow_filter.specs.Flow.{flow_of}
+use Rattle.nf_function.specs.declared.kind.Kind.TheVariants.{Nat}
+use Rattle.nf_function.specs.declared.unit.Unit as units
+use Rattle.nf_function.specs.declared.unit.Unit.TheVariants.{Flow as OfFlow, Host as OfHost}
+use Rattle.nf_function.specs.Units.{is_unit, is_transport}
+use Rattle.nf_function.specs.Semantics.{Step, count, kept_after, is_sound, packets_in, unit_at}
+use Rattle.nf_function.specs.Records.{Fits, Laws}
+use Rattle.nf_function.proofs.FlowFits.{flow_fits}
+use Rattle.addr_translator.specs.declared.mapping.Mapping.{Mapping}
+use Rattle.addr_translator.specs.declared.passage.Passage.{Passage}
+use Rattle.addr_translator.specs.declared.passage.Passage.TheVariants.{Leaves, Returns, Direct, Other}
+use Rattle.addr_translator.specs.Mappings.{Translation, no_mappings, mapping_eq, ports_per_host}
+use Rattle.addr_translator.specs.Table.{counted, dropped, left, mapped, opened, returned, source, stepped, translated}
+use Rattle.addr_translator.specs.Body.{is_mapping, is_distinct, is_valid}
 use Rattle.addr_translator.specs.Nat.{nat}
-use Rattle.addr_translator.specs.BodyLemmas.{record_in-body_of, record_in-some, known_by_body, length-body_of}
+use Rattle.addr_translator.specs.BodyLemmas.{IsValid, valid_facts, valid_from, record_in-body_of, record_in-some, known_by_body, length-body_of}
+
+eq-sym : (a b : ℕ) → eqb a b ≡ eqb b a
+eq-sym a b = grind (arith, nat_tests)
+
+mapping_eq-sym : (a b : Mapping) → mapping_eq a b ≡ mapping_eq b a
+mapping_eq-sym a b = rw (eq-sym a.proto b.proto, eq-sym a.port b.port) refl
+
+zero_less : (n : ℕ) → nat_lt 0 (suc n) ≡ true
+zero_less n = grind (arith, nat_tests)
+
+not_less : (a b : ℕ) → nat_lt (1 + a) (suc b) ≡ false → nat_lt a b ≡ false
+not_less a b h = grind (arith, nat_tests)
+
+-- an end without a place is none of the mappings
+no_place : (test : Mapping → Bool) (mappings : List Mapping) → nat_lt (position_or_len test mappings) (length mappings) ≡ false
+    → list_any test mappings ≡ false
+no_place test [] h = refl
+no_place test (m ∷ more) h = by_first (test m) (no_place test more) h
+  where
+    by_first : (first : Bool) → (nat_lt (position_or_len test more) (length more) ≡ false → list_any test more ≡ false)
+        → nat_lt (cond (not first) (1 + position_or_len test more) 0) (suc (length more)) ≡ false → (first || list_any test more) ≡ false
+    by_first true rest e = let less = zero_less (length more) in cc
+    by_first false rest e = rest (not_less (position_or_len test more) (length more) e)
+
+placeless : (test : Mapping → Bool) (mappings : List Mapping) → position test mappings ≡ None → list_any test mappings ≡ false
+placeless test mappings h = no_place test mappings (by_place (nat_lt (position_or_len test mappings) (length mappings)) h)
+  where
+    by_place : (found : Bool) → cond found (Some (position_or_len test mappings)) None ≡ None → found ≡ false
+    by_place true e = cc
+    by_place false e = refl
+
+-- a new end stays distinct from the others
+is_distinct-append : (mappings : List Mapping) (end : Mapping) → is_distinct mappings ≡ true → list_any (λ m. mapping_eq m end) mappings ≡ false
+    → is_distinct (mappings ++ end ∷ []) ≡ true
+is_distinct-append [] end h new = refl
+is_distinct-append (m ∷ more) end h new =
+    let parts = both_true (not (list_any (λ other. mapping_eq other m) more)) (is_distinct more) h in
+    let others = neither (mapping_eq m end) (list_any (λ m. mapping_eq m end) more) new in
+    let differs : mapping_eq end m ≡ false = rw (mapping_eq-sym end m) others.0 in
+    let unseen : list_any (λ other. mapping_eq other m) more ≡ false = is_false (list_any (λ other. mapping_eq other m) more) parts.0 in
+    rw (list_any-append (λ other. mapping_eq other m) more (end ∷ []), unseen, differs) (is_distinct-append more end parts.1 others.1)
+  where
+    neither : (a b : Bool) → (a || b) ≡ false → (a ≡ false) × (b ≡ false)
+    neither true b e = cc
+    neither false b e = (refl, e)
+    is_false : (test : Bool) → not test ≡ true → test ≡ false
+    is_false true e = cc
+    is_false false e = refl
+
+-- one more packet leaves room for one more drop
+pub record HasRoom (host : ℕ) (r : Translation) : Type 0 where
+  pub valid : IsValid host r
+  pub room : count r.drops 1 ≤ r.packets
+
+module _ (host : ℕ) (r : Translation) (has : HasRoom host r) where
+  kept_valid : is_valid (OfHost host) r ≡ true
+  kept_valid = valid_from host r has.valid
+
+  dropped_valid : (reason : ℕ) → is_valid (OfHost host) (dropped r reason).kept ≡ true
+  dropped_valid reason =
+      let v = has.valid in
+      valid_from host (dropped r reason).kept (record {
+        address = v.address;
+        short = v.short;
+        each = v.each;
+        distinct = v.distinct;
+        counted = v.counted;
+        drops = has.room;
+        packets = v.packets;
+      })
+
+  added_valid : (end : Mapping) → length r.mappings < ports_per_host → is_mapping end ≡ true → list_any (λ m. mapping_eq m end) r.mappings ≡ false
+      → is_valid (OfHost host) (record r { mappings = r.mappings ++ end ∷ [] }) ≡ true
+  added_valid end free is new =
+      let v = has.valid in
+      valid_from host (record r { mappings = r.mappings ++ end ∷ [] }) (record {
+        address = v.address;
+        short = rw (length-append r.mappings (end ∷ [])) (omega arith);
+        each = rw (list_all-append is_mapping r.mappings (end ∷ [])) (true_both (list_all is_mapping r.mappings) (is_mapping end && true) v.each (true_both (is_mapping end) true is refl));
+        distinct = is_distinct-append r.mappings end v.distinct new;
+        counted = v.counted;
+        drops = v.drops;
+        packets = v.packets;
+      })
+
+  opened_valid : (outside : ℕ) (end : Mapping) → is_mapping end ≡ true → list_any (λ m. mapping_eq m end) r.mappings ≡ false
+      → is_valid (OfHost host) (opened outside host r end).kept ≡ true
+  opened_valid outside end is new = by_room (nat_lt (length r.mappings) ports_per_host) refl
+    where
+      by_room : (free : Bool) → nat_lt (length r.mappings) ports_per_host ≡ free
+          → is_valid (OfHost host) (cond free (record { kept = record r { mappings = r.mappings ++ end ∷ [] }; output = mapped outside host (length r.mappings) }) (dropped r 3)).kept ≡ true
+      by_room true e = added_valid end (let h = e in grind (arith, nat_tests)) is new
+      by_room false e = dropped_valid 3
+
+  left_valid : (outside : ℕ) (end : Mapping) (place : Option ℕ) → is_mapping end ≡ true → position (λ m. mapping_eq m end) r.mappings ≡ place
+      → is_valid (OfHost host) (left outside host r end place).kept ≡ true
+  left_valid outside end (Some number) is at = kept_valid
+  left_valid outside end None is at = opened_valid outside end is (placeless (λ m. mapping_eq m end) r.mappings at)
+
+  returned_valid : (p : Packet) (found : Option Mapping) → is_valid (OfHost host) (returned host r p found).kept ≡ true
+  returned_valid p None = dropped_valid 4
+  returned_valid p (Some m) = by_proto (m.proto == p.proto)
+    where
+      by_proto : (same : Bool) → is_valid (OfHost host) (cond same (record { kept = r; output = record { code = 2; a = host; b = m.port } }) (dropped r 4)).kept ≡ true
+      by_proto true = kept_valid
+      by_proto false = dropped_valid 4
+
+  -- however a packet passes, what it leaves is valid
+  pub translated_valid : (passage : Passage) (p : Packet) → is_mapping (source p) ≡ true → is_valid (OfHost host) (translated passage host r p).kept ≡ true
+  translated_valid (Leaves outside) p is = left_valid outside (source p) (position (λ m. mapping_eq m (source p)) r.mappings) is refl
+  translated_valid Returns p is = returned_valid p (slice_get r.mappings ((p.dport - 1024) % ports_per_host))
+  translated_valid Direct p is = dropped_valid 5
+  translated_valid Other p is = kept_valid
+
+-- a record that was valid, or none, has room after one packet more
+pub counted_has_room : (host : ℕ) (kept : Option Translation) → nat_lt host (2 ^ 32) ≡ true → is_sound nat (OfHost host) kept ≡ true
+    → HasRoom host (counted (unwrap_or kept no_mappings))
+counted_has_room host None address h =
+    record { valid = record { address = address; short = omega arith; each = refl; distinct = refl; counted = omega arith; drops = omega arith; packets = omega arith }; room = omega arith }
+counted_has_room host (Some r) address h =
+    let v = valid_facts host r h in
+    let drops : r.drops ≤ r.packets = v.drops in
+    let counted : 1 ≤ r.packets = v.counted in
+    let packets : r.packets < 2 ^ 64 = v.packets in
+    record {
+      valid = record { address = address; short = v.short; each = v.each; distinct = v.distinct; counted = omega arith; drops = omega arith; packets = omega arith };
+      room = omega arith;
+    }
+
+-- a step keeps what is valid for the packet's host
+step_valid : (site : Site) (host : ℕ) (kept : Option Translation) (p : Packet) → (flow_of site p).0.local ≡ host → nat_lt host (2 ^ 32) ≡ true
+    → is_mapping (source p) ≡ true → is_sound nat (OfHost host) kept ≡ true → is_valid (OfHost host) (stepped site kept p).kept ≡ true
+unfolding stepped
+step_valid site host kept p of address is h =
+    rw of (translated_valid host (counted (unwrap_or kept no_mappings)) (counted_has_room host kept address h) _ p is)
+
+-- and so does a packet that may be none of TCP or UDP
+pub kept_sound : (site : Site) (host : ℕ) (kept : Option Translation) (p : Packet) → (flow_of site p).0.local ≡ host → nat_lt host (2 ^ 32) ≡ true
+    → p.sport < 2 ^ 16 → is_sound nat (OfHost host) kept ≡ true → is_sound nat (OfHost host) (kept_after nat site kept p) ≡ true
+kept_sound site host kept p of address port h = by_proto (is_transport p.proto) refl
+  where
+    by_proto : (transport : Bool) → is_transport p.proto ≡ transport → is_sound nat (OfHost host) (cond transport (Some (stepped site kept p).kept) kept) ≡ true
+    by_proto true e = step_valid site host kept p of address (true_both _ _ e (let low = port in grind (arith, nat_tests))) h
+    by_proto false e = h
+
+stays_valid : (site : Site) (kept : Option Translation) (p : Packet) → Fits site p → is_sound nat (unit_at Nat site p) kept ≡ true
+    → is_valid (unit_at Nat site p) (stepped site kept p).kept ≡ true
+stays_valid site kept p fits h =
+    let flow = flow_fits site p fits in
+    let address : nat_lt (flow_of site p).0.local (2 ^ 32) ≡ true = let low = flow.local in grind (arith, nat_tests) in
+    step_valid site (flow_of site p).0.local kept p refl address (true_both _ _ fits.transport (let low = fits.sport in grind (arith, nat_tests))) h
+
+-- each step counts one packet, however the packet passes
+packets-opened : (outside host : ℕ) (r : Translation) (end : Mapping) → (opened outside host r end).kept.packets ≡ r.packets
+packets-opened outside host r end = by_room (nat_lt (length r.mappings) ports_per_host)
+  where
+    by_room : (free : Bool)
+        → (cond free (record { kept = record r { mappings = r.mappings ++ end ∷ [] }; output = mapped outside host (length r.mappings) }) (dropped r 3)).kept.packets ≡ r.packets
+    by_room true = refl
+    by_room false = refl
+
+packets-left : (outside host : ℕ) (r : Translation) (end : Mapping) (place : Option ℕ) → (left outside host r end place).kept.packets ≡ r.packets
+packets-left outside host r end (Some number) = refl
+packets-left outside host r end None = packets-opened outside host r end
+
+packets-returned : (host : ℕ) (r : Translation) (p : Packet) (found : Option Mapping) → (returned host r p found).kept.packets ≡ r.packets
+packets-returned host r p None = refl
+packets-returned host r p (Some m) = by_proto (m.proto == p.proto)
+  where
+    by_proto : (same : Bool) → (cond same (record { kept = r; output = record { code = 2; a = host; b = m.port } }) (dropped r 4)).kept.packets ≡ r.packets
+    by_proto true = refl
+    by_proto false = refl
+
+packets-translated : (passage : Passage) (host : ℕ) (r : Translation) (p : Packet) → (translated passage host r p).kept.packets ≡ r.packets
+packets-translated (Leaves outside) host r p = packets-left outside host r (source p) _
+packets-translated Returns host r p = packets-returned host r p _
+packets-translated Direct host r p = refl
+packets-translated Other host r p = refl
+
+counts_one : (site : Site) (kept : Option Translation) (p : Packet) → (stepped site kept p).kept.packets ≡ count (packets_in nat kept) 1
+unfolding stepped
+counts_one site kept p = rw (packets-translated _ _ (counted (unwrap_or kept no_mappings)) p) (by_kept kept)
+  where
+    by_kept : (kept : Option Translation) → count (unwrap_or kept no_mappings).packets 1 ≡ count (packets_in nat kept) 1
+    by_kept None = refl
+    by_kept (Some r) = refl
+
+valid_unit : (u : units.Unit) (r : Translation) → is_valid u r ≡ true → is_unit Nat u ≡ true
+valid_unit (OfFlow flow) r h = cc
+valid_unit (OfHost host) r h = (valid_facts host r h).address
 
 pub nat_laws : Laws nat
 nat_laws = record {
-  unit = ?;
+  unit = valid_unit;
   again = record_in-body_of;
   read = record_in-some;
   known = known_by_body;
   short = length-body_of;
-  stays = ?;
-  counts = ?;
-  tells = ?;
-  times = ?;
+  stays = stays_valid;
+  counts = counts_one;
+  tells = λ r h. cc;
+  times = λ site kept p. refl;
 }

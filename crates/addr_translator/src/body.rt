@@ -1,9 +1,9 @@
 //! The bytes that a record is stored as.
 ghost use Rattle.std.specs.Prelude.{◌≡◌, ◌≤◌, ◌++◌, length, option_map, OnOk};
-ghost use Rattle.std.specs.List.{flat_map};
+ghost use Rattle.std.specs.List.{flat_map, list_all};
 ghost use Rattle.nf_function.specs.Records.{age_cmp};
 ghost use Rattle.addr_translator.specs.Mappings.{ports_per_host};
-ghost use Rattle.addr_translator.specs.Body.{is_mapping, is_distinct, are_mappings, is_valid, mapping_bytes, body_of, mappings_in, with_mappings, spelled, record_in};
+ghost use Rattle.addr_translator.specs.Body.{is_mapping, is_distinct, are_mappings, is_valid, mapping_bytes, body_of, first_mapping, mappings_in, with_mappings, spelled, record_in};
 ghost use Rattle.addr_translator.specs.Nat.{nat};
 
 use crate::mapping::Mapping;
@@ -88,12 +88,21 @@ fn mappings_in(used: u16, bytes: &[u8]) -> Option<(NatRecord, &[u8])>
     let mut record = NatRecord::open();
     let mut rest = bytes;
     'mappings: for _ in 0..used {
-        let (proto, more) = first_byte(rest)?;
-        let (port, more) = first_u16(more)?;
-        record.push(Mapping { proto, port });
+        let (mapping, more) = first_mapping(rest)?;
+        record.push(mapping);
         rest = more;
     }
     Some((record, rest))
+}
+
+/// A mapping, and the bytes after it.
+#[tactic(auto, unfolding(crate::specs::Body::first_mapping))]
+fn first_mapping(bytes: &[u8]) -> Option<(Mapping, &[u8])>
+    ensures { option_map (λ x. (x.0, x.1.now)) result ≡ first_mapping bytes.now }
+{
+    let (proto, rest) = first_byte(bytes)?;
+    let (port, rest) = first_u16(rest)?;
+    Some((Mapping { proto, port }, rest))
 }
 
 /// Whether it is a record that packets of the unit can have left.
@@ -112,9 +121,14 @@ fn is_valid(unit: Unit, kept: &NatRecord) -> bool
 fn are_mappings(mappings: &[Mapping]) -> bool
     ensures { result ≡ are_mappings mappings.now }
 {
-    mappings.len() <= PORTS_PER_HOST
-        && mappings.iter().all(|m| is_mapping(*m))
-        && is_distinct(mappings)
+    mappings.len() <= PORTS_PER_HOST && are_all_mappings(mappings) && is_distinct(mappings)
+}
+
+/// Whether each is an end of TCP or UDP.
+fn are_all_mappings(mappings: &[Mapping]) -> bool
+    ensures { result ≡ list_all is_mapping mappings.now }
+{
+    mappings.iter().all(|m| is_mapping(*m))
 }
 
 /// Whether it is an end of TCP or UDP.

@@ -28,7 +28,7 @@ impl Function for Nat {
         _alloc: Global,
         site: &Site,
         flow: Flow,
-        _way: Direction,
+        _direction: Direction,
         kept: &mut Option<NatRecord>,
         packet: &Packet,
     ) -> Result<Output, NoMemory> {

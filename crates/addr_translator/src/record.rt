@@ -1,7 +1,7 @@
 ghost use Rattle.std.specs.Prelude.{◌≡◌, ◌<◌, ◌≤◌, ◌++◌, ◌∷◌, [], nat_lt, length};
-ghost use Rattle.std.specs.List.{position};
+ghost use Rattle.std.specs.List.{All, position};
 ghost use Rattle.nf_function.specs.Semantics.{count};
-ghost use Rattle.addr_translator.specs.Mappings.{no_mappings, mapping_eq, ports_per_host};
+ghost use Rattle.addr_translator.specs.Mappings.{HasPort, no_mappings, mapping_eq, ports_per_host};
 ghost use Rattle.addr_translator.specs.Table.{counted};
 
 use crate::mapping::Mapping;
@@ -23,13 +23,14 @@ pub struct NatRecord {
 
 impl Model for NatRecord {
     ghost use Rattle.std.specs.Prelude.{◌≤◌, take};
-    ghost use Rattle.addr_translator.specs.Mappings.{Translation};
+    ghost use Rattle.std.specs.List.{All};
+    ghost use Rattle.addr_translator.specs.Mappings.{Translation, HasPort};
 
     ghost Value = { Translation };
 
     ghost view = { λ r. record { mappings = take r.used r.mappings; packets = r.packets; drops = r.drops } };
 
-    ghost invariant = { λ r. r.used ≤ 252 };
+    ghost invariant = { λ r. (r.used ≤ 252) × All HasPort r.mappings };
 }
 
 impl NatRecord {
@@ -49,6 +50,7 @@ impl NatRecord {
     pub fn mappings(&self) -> &[Mapping]
         ensures value { result.now ≡ self.now.mappings }
         ensures few { length self.now.mappings ≤ ports_per_host }
+        ensures ports { All HasPort self.now.mappings }
     {
         &self.mappings[..self.used]
     }

@@ -60,46 +60,46 @@ pub fn step_of_host(site: &Site, host: u32, kept: &mut Option<NatRecord>, packet
 
 /// Takes a packet that passes so into its host's record, and gives the output.
 fn translate(
-    record: &mut NatRecord,
+    kept: &mut NatRecord,
     passage: Passage,
     host: u32,
     source: Mapping,
     packet: &Packet,
 ) -> Output
     requires { source ≡ source_of packet.now }
-    ensures kept { record.new ≡ (translated passage host (counted record.old) packet.now).kept }
-    ensures output { result ≡ (translated passage host (counted record.old) packet.now).output }
+    ensures kept { kept.new ≡ (translated passage host (counted kept.old) packet.now).kept }
+    ensures output { result ≡ (translated passage host (counted kept.old) packet.now).output }
 {
-    record.count_packet();
+    kept.count_packet();
     match passage {
-        Passage::Leaves(outside) => leave(record, outside, host, source),
-        Passage::Returns => come_back(record, host, packet),
-        Passage::Direct => drop_packet(record, DIRECT),
+        Passage::Leaves(outside) => leave(kept, outside, host, source),
+        Passage::Returns => come_back(kept, host, packet),
+        Passage::Direct => drop_packet(kept, DIRECT),
         Passage::Other => output(PASS),
     }
 }
 
 /// A packet leaves through the port of its source, or through the next free one.
-fn leave(record: &mut NatRecord, outside: u32, host: u32, source: Mapping) -> Output
-    ensures kept { let place = position (λ m. mapping_eq m source) record.old.mappings in record.new ≡ (left outside host record.old source place).kept }
-    ensures output { let place = position (λ m. mapping_eq m source) record.old.mappings in result ≡ (left outside host record.old source place).output }
+fn leave(kept: &mut NatRecord, outside: u32, host: u32, source: Mapping) -> Output
+    ensures kept { let place = position (λ m. mapping_eq m source) kept.old.mappings in kept.new ≡ (left outside host kept.old source place).kept }
+    ensures output { let place = position (λ m. mapping_eq m source) kept.old.mappings in result ≡ (left outside host kept.old source place).output }
 {
-    match place_of(record.mappings(), source) {
+    match place_of(kept.mappings(), source) {
         Some(number) => mapped(outside, host, number),
-        None => open(record, outside, host, source),
+        None => open(kept, outside, host, source),
     }
 }
 
 /// The next free port is given to a source.
-fn open(record: &mut NatRecord, outside: u32, host: u32, source: Mapping) -> Output
-    ensures kept { record.new ≡ (opened outside host record.old source).kept }
-    ensures output { result ≡ (opened outside host record.old source).output }
+fn open(kept: &mut NatRecord, outside: u32, host: u32, source: Mapping) -> Output
+    ensures kept { kept.new ≡ (opened outside host kept.old source).kept }
+    ensures output { result ≡ (opened outside host kept.old source).output }
 {
-    if !record.has_room() {
-        return drop_packet(record, NO_PORT);
+    if !kept.has_room() {
+        return drop_packet(kept, NO_PORT);
     }
-    let number = record.mappings().len();
-    record.push(source);
+    let number = kept.mappings().len();
+    kept.push(source);
     mapped(outside, host, number)
 }
 
@@ -117,27 +117,27 @@ fn mapped(outside: u32, host: u32, number: usize) -> Output
 }
 
 /// A packet comes back to the end that has its port.
-fn come_back(record: &mut NatRecord, host: u32, packet: &Packet) -> Output
-    ensures kept { record.new ≡ (translated Passage.Returns host record.old packet.now).kept }
-    ensures output { result ≡ (translated Passage.Returns host record.old packet.now).output }
+fn come_back(kept: &mut NatRecord, host: u32, packet: &Packet) -> Output
+    ensures kept { kept.new ≡ (translated Passage.Returns host kept.old packet.now).kept }
+    ensures output { result ≡ (translated Passage.Returns host kept.old packet.now).output }
 {
     let number = usize::from(packet.dport.saturating_sub(FIRST_PORT)) % PORTS_PER_HOST;
-    match record.mappings().get(number) {
+    match kept.mappings().get(number) {
         Some(mapping) if mapping.proto == packet.proto => Output {
             code: UNMAP,
             a: host,
             b: u32::from(mapping.port),
         },
-        _ => drop_packet(record, NO_MAP),
+        _ => drop_packet(kept, NO_MAP),
     }
 }
 
 /// Counts a dropped packet. The output says why.
-fn drop_packet(record: &mut NatRecord, reason: u8) -> Output
-    ensures kept { record.new ≡ (dropped record.old reason).kept }
-    ensures output { result ≡ (dropped record.old reason).output }
+fn drop_packet(kept: &mut NatRecord, reason: u8) -> Output
+    ensures kept { kept.new ≡ (dropped kept.old reason).kept }
+    ensures output { result ≡ (dropped kept.old reason).output }
 {
-    record.count_drop();
+    kept.count_drop();
     output(reason)
 }
 

@@ -8,17 +8,12 @@ use Rattle.std.specs.declared.cmp.Ordering.TheVariants.{Less, Equal, Greater}
 use Rattle.std.specs.Cmp.Lexicographic.{slice_cmp}
 use Rattle.nf_function.specs.Stored.{number_bytes}
 use Rattle.nf_function.specs.Records.{age_cmp}
-use Rattle.nf_function.proofs.StoredNumbers.{slice_cmp-number_bytes, length-number_bytes, ordering_then-assoc}
+use Rattle.nf_function.proofs.StoredNumbers.{slice_cmp-number_bytes, length-number_bytes, ordering_then-Equal, ordering_then-again}
 use Rattle.conn_tracker.specs.declared.record.TrackRecord.{TrackRecord}
 use Rattle.conn_tracker.specs.Table.{number_of}
 use Rattle.conn_tracker.specs.Body.{direction_number, seen_bytes, body_of}
 use Rattle.conn_tracker.specs.Conntrack.{conntrack}
 use Rattle.conn_tracker.specs.BodyLemmas.{Within}
-
-then-Equal : (o : Ordering) → ordering_then o Equal ≡ o
-then-Equal Less = refl
-then-Equal Equal = refl
-then-Equal Greater = refl
 
 -- no bytes come before some
 none_first : (bytes : List ℕ) → length bytes ≡ 8 → slice_cmp nat_cmp [] bytes ≡ Less
@@ -53,7 +48,7 @@ seen_cmp m n p q = by_zeros (eqb m 0) (eqb n 0) refl refl
     by_zeros false false is_m is_n =
         ap (λ (bytes : List ℕ). slice_cmp nat_cmp bytes (number_bytes 8 n)) (sym (append-nil (number_bytes 8 m)))
         ∙ ap (slice_cmp nat_cmp (number_bytes 8 m ++ [])) (sym (append-nil (number_bytes 8 n)))
-        ∙ slice_cmp-number_bytes 8 m n [] [] p q ∙ then-Equal (nat_cmp m n)
+        ∙ slice_cmp-number_bytes 8 m n [] [] p q ∙ ordering_then-Equal (nat_cmp m n)
 
 -- bodies compare field by field
 pub body_cmp : (a b : TrackRecord) → Within a → Within b
@@ -70,12 +65,6 @@ body_cmp a b v w =
     (slice_cmp-number_bytes 8 a.bytes b.bytes (seen_bytes a.seen) (seen_bytes b.seen) v.bytes w.bytes
     ∙ ap (ordering_then (nat_cmp a.bytes b.bytes)) (seen_cmp a.seen b.seen v.seen w.seen)))
 
--- a field that was compared before doesn't count again
-compared : (p s w c : Ordering) → ordering_then p (ordering_then s (ordering_then w (ordering_then p c))) ≡ ordering_then (ordering_then p (ordering_then s w)) c
-compared Less s w c = refl
-compared Equal s w c = sym (ordering_then-assoc s w c)
-compared Greater s w c = refl
-
 -- records compare by their packets, and then by the fields in the order of their bodies
 pub age_by_fields : (a b : TrackRecord) → Within a → Within b
     → age_cmp conntrack a b
@@ -83,5 +72,5 @@ pub age_by_fields : (a b : TrackRecord) → Within a → Within b
     (ordering_then (nat_cmp a.bytes b.bytes) (nat_cmp a.seen b.seen))
 age_by_fields a b v w =
     ap (ordering_then (nat_cmp a.packets b.packets)) (body_cmp a b v w)
-    ∙ compared (nat_cmp a.packets b.packets) (nat_cmp (number_of a.state) (number_of b.state)) (nat_cmp (direction_number a.opener) (direction_number b.opener))
+    ∙ ordering_then-again (nat_cmp a.packets b.packets) (nat_cmp (number_of a.state) (number_of b.state)) (nat_cmp (direction_number a.opener) (direction_number b.opener))
     (ordering_then (nat_cmp a.bytes b.bytes) (nat_cmp a.seen b.seen))

@@ -134,6 +134,18 @@ ordering_then-assoc Less b c = refl
 ordering_then-assoc Equal b c = refl
 ordering_then-assoc Greater b c = refl
 
+pub ordering_then-Equal : (o : Ordering) → ordering_then o Equal ≡ o
+ordering_then-Equal Less = refl
+ordering_then-Equal Equal = refl
+ordering_then-Equal Greater = refl
+
+-- what was compared first decides nothing when it is compared again
+pub ordering_then-again : (p a b c : Ordering)
+    → ordering_then p (ordering_then a (ordering_then b (ordering_then p c))) ≡ ordering_then (ordering_then p (ordering_then a b)) c
+ordering_then-again Less a b c = refl
+ordering_then-again Equal a b c = sym (ordering_then-assoc a b c)
+ordering_then-again Greater a b c = refl
+
 -- bytes of one length compare as the numbers that they give, and then comes the rest
 cmp_by_numbers : (n : ℕ) (xs ys us vs : List ℕ) → length xs ≡ n → length ys ≡ n → IsBytes xs → IsBytes ys
     → slice_cmp nat_cmp (xs ++ us) (ys ++ vs) ≡ ordering_then (nat_cmp (big_number n xs) (big_number n ys)) (slice_cmp nat_cmp us vs)
