@@ -1,2 +1,3 @@
-pub mod Borrowed
-pub mod Moved
+pub mod RolesAfterLoan
+pub mod TransferLemmas
+pub mod FileRoles

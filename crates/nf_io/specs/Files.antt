@@ -7,7 +7,7 @@ use Rattle.nf_io.specs.declared.named.NamedFiles.{NamedFiles}
 use Rattle.nf_io.specs.Roles.{place_of}
 use Rattle.nf_io.specs.Meaning.{Meaning}
 use Rattle.nf_io.specs.System.{SystemBytes}
-use Rattle.nf_io.specs.Streams.{FileBytes, stream_name, stream_left, stream_written}
+use Rattle.nf_io.specs.Streams.{FileBytes, file_ahead, stream_name, stream_left, stream_written}
 
 -- the named file of a role, if it has one
 abbrev pub stream_in : {F : Type 0} → NamedFiles F → Role → Option (Stream F)
@@ -26,6 +26,10 @@ name_in files role = option_map stream_name (stream_in files role)
 -- the bytes that a file has left, and those that it holds
 abbrev pub views : {F : Type 0} → (F → Option (List ℕ)) → (F → Option (List ℕ)) → FileBytes F
 views left written = record { left = left; written = written }
+
+-- the bytes of a role's file at hand
+abbrev pub ahead_in : {F : Type 0} → NamedFiles F → Role → List ℕ
+ahead_in files role = file_ahead (stream_in files role)
 
 -- what a role's file shows before its first use, by the name that the role has got
 abbrev pub begun : SystemBytes → Role → List ℕ → Option (List ℕ)

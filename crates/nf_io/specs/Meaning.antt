@@ -44,12 +44,12 @@ pub record CanBind (role : Role) (meaning : Meaning) : Type 0 where
   pub unnamed : meaning.name ≡ None
 
 -- the whole outside without what a read of this role changes
-unfoldable pub beside_left : Role → (Role → Meaning) → Role → Meaning
-beside_left role seen other = if same_role role other then record (seen role) { left = None; faults = 0 } else seen other
+unfoldable pub without_left : Role → (Role → Meaning) → Role → Meaning
+without_left role seen other = if same_role role other then record (seen role) { left = None; faults = 0 } else seen other
 
 -- the whole outside without what a write to this role changes
-unfoldable pub beside_written : Role → (Role → Meaning) → Role → Meaning
-beside_written role seen other = if same_role role other then record (seen role) { written = None; faults = 0 } else seen other
+unfoldable pub without_written : Role → (Role → Meaning) → Role → Meaning
+without_written role seen other = if same_role role other then record (seen role) { written = None; faults = 0 } else seen other
 
 -- a source or sink is open as before, holds the same loan, and all that its calls don't change is as before
 pub record StaysOpen {S Rest : Type 0} (is_open : S → Type 0) (loan : S → ℕ) (rest : S → Rest) (old new : S) : Type 0 where

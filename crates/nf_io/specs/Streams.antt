@@ -1,5 +1,5 @@
 -- What a named file has still to give, and what was written to it, where the system tells it. This project's own.
-use Rattle.std.specs.Prelude.{ℕ, List, slice_range, Option, None, Some, string_bytes}
+use Rattle.std.specs.Prelude.{ℕ, List, [], slice_range, Option, None, Some, string_bytes}
 use Rattle.std.specs.Io.KnownBytes.{prepend_known}
 use Rattle.nf_io.specs.System.{SystemBytes}
 use Rattle.nf_io.specs.declared.read_ahead.ReadAhead.{ReadAhead}
@@ -8,6 +8,11 @@ use Rattle.nf_io.specs.declared.stream.Stream.{Stream}
 -- the bytes that were read ahead and not yet taken
 abbrev pub held : ReadAhead → List ℕ
 held ahead = slice_range ahead.bytes.items ahead.start ahead.end
+
+-- the bytes of a file at hand, if there is one
+abbrev pub file_ahead : {F : Type 0} → Option (Stream F) → List ℕ
+file_ahead None = []
+file_ahead (Some stream) = held stream.ahead
 
 -- the name of a file
 abbrev pub stream_name : {F : Type 0} → Stream F → List ℕ

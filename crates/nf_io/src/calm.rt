@@ -74,9 +74,11 @@ impl CalmOutside {
 
 impl Outside for CalmOutside {
     ghost use Rattle.nf_io.specs.Meaning.{HasCause, OthersStay, CanRead, CanWrite, CanBind};
-    ghost use Rattle.nf_io.specs.Calm.{calm_in, calm_room};
+    ghost use Rattle.nf_io.specs.Calm.{calm_in, calm_ahead, calm_room};
 
     ghost seen = { calm_in };
+
+    ghost ahead = { calm_ahead };
 
     fn bind(&mut self, role: Role, name: &str) -> Result<(), NoMemory>
         requires { CanBind role (calm_in self.old role) }
@@ -105,6 +107,17 @@ impl Outside for CalmOutside {
         let most = self.most;
         let tape = &mut self.tapes[role as usize];
         Ok(tape.read(buf, most))
+    }
+
+    /// All that is left is at hand, as far as one call may take it.
+    fn at_hand(&self, role: Role) -> &[u8] {
+        let left = self.tapes[role as usize].left();
+        &left[..left.len().min(self.most)]
+    }
+
+    fn skip(&mut self, role: Role, count: usize) {
+        let tape = &mut self.tapes[role as usize];
+        tape.skip(count)
     }
 
     /// As in the trait. It fails only where the room is too small.

@@ -1,11 +1,11 @@
-ghost use Rattle.std.specs.Prelude.{◌≡◌, ◌≢◌, ◌<◌, Some, None, length, IfOk, OnOk, OnErr};
+ghost use Rattle.std.specs.Prelude.{◌≡◌, ◌≢◌, ◌<◌, ◌≤◌, Some, None, length, take, IfOk, OnOk, OnErr};
 ghost use Rattle.std.specs.Io.{ReadsAtMost, WritesAtMost};
-ghost use Rattle.std.specs.Io.KnownBytes.{ReadConsumes, WriteAppends};
+ghost use Rattle.std.specs.Io.KnownBytes.{ReadConsumes, WriteAppends, Consumes};
 ghost use Rattle.nf_io.specs.declared.outside.Role.{Role};
 ghost use Rattle.nf_io.specs.Meaning.{HasCause, OthersStay, CanRead, CanWrite, CanBind};
-ghost use Rattle.nf_io.specs.Files.{seen_of, untold, begun, told_in, views};
+ghost use Rattle.nf_io.specs.Files.{seen_of, ahead_in, untold, begun, told_in, views};
 
-use crate::named::{NamedFiles, read_role, write_role};
+use crate::named::{NamedFiles, read_role, role_at_hand, skip_role, write_role};
 use crate::outside::{Failed, Outside, Role};
 use crate::system::{HostSystem, System};
 use basics::NoMemory;
@@ -50,17 +50,10 @@ impl<S: System> FileOutside<S> {
     }
 }
 
-/// Counts a fault where a call failed.
-fn count<T>(faults: &mut u64, answer: &Result<T, Failed>)
-    ensures { HasCause faults.old faults.new answer.now }
-{
-    if answer.is_err() {
-        *faults = faults.saturating_add(1);
-    }
-}
-
 impl<S: System> Outside for FileOutside<S> {
     ghost seen = { λ outside. seen_of outside.faults outside.files };
+
+    ghost ahead = { λ outside. ahead_in outside.files };
 
     fn bind(&mut self, role: Role, name: &str) -> Result<(), NoMemory>
         requires { CanBind role (seen_of self.old.faults self.old.files role) }
@@ -96,6 +89,27 @@ impl<S: System> Outside for FileOutside<S> {
         answer
     }
 
+    #[inline(always)]
+    fn at_hand(&self, role: Role) -> &[u8] {
+        role_at_hand(&self.files, role)
+    }
+
+    #[inline(always)]
+    fn skip(&mut self, role: Role, count: usize)
+        requires read { CanRead role (seen_of self.old.faults self.old.files role) }
+        requires at_hand { count ≤ length (ahead_in self.old.files role) }
+        ensures bytes { Consumes (seen_of self.old.faults self.old.files role).left (seen_of self.new.faults self.new.files role).left (take count (ahead_in self.old.files role)) }
+        ensures rest { seen_of self.new.faults self.new.files role ≡ record (seen_of self.old.faults self.old.files role) { left = (seen_of self.new.faults self.new.files role).left } }
+        ensures others { OthersStay role (seen_of self.old.faults self.old.files) (seen_of self.new.faults self.new.files) }
+        ensures told { Consumes (told_in (views S.File.Read.remaining S.File.Write.contents) (S.told self.old.system) self.old.files role)
+            (told_in (views S.File.Read.remaining S.File.Write.contents) (S.told self.new.system) self.new.files role) (take count (ahead_in self.old.files role)) }
+        ensures told_others { (other : Role) → other ≢ role →
+            told_in (views S.File.Read.remaining S.File.Write.contents) (S.told self.new.system) self.new.files other
+            ≡ told_in (views S.File.Read.remaining S.File.Write.contents) (S.told self.old.system) self.old.files other }
+    {
+        skip_role(&mut self.files, role, count)
+    }
+
     fn write(&mut self, role: Role, bytes: &[u8]) -> Result<usize, Failed>
         requires { CanWrite role (seen_of self.old.faults self.old.files role) }
         ensures bound { WritesAtMost result bytes.now }
@@ -114,5 +128,14 @@ impl<S: System> Outside for FileOutside<S> {
         let answer = write_role(&mut self.system, &mut self.files, role, bytes);
         count(&mut self.faults[role as usize], &answer);
         answer
+    }
+}
+
+/// Counts a fault where a call failed.
+fn count<T>(faults: &mut u64, answer: &Result<T, Failed>)
+    ensures { HasCause faults.old faults.new answer.now }
+{
+    if answer.is_err() {
+        *faults = faults.saturating_add(1);
     }
 }

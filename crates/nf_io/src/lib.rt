@@ -2,8 +2,12 @@
 //!
 //! An [`Outside`] has seven files, one for each [`Role`]. Contracts see it as a function from
 //! roles to a `Meaning`: the bytes left, the bytes written, a count of faults, and the name that
-//! was bound. A call fails only where the count of faults of its own role rose, and leaves every
-//! other role as it was.
+//! was bound. The main promise: a call fails only where the count of faults of its own role rose,
+//! and leaves every other role as it was.
+//!
+//! Only [`FileOutside`] touches anything outside of the program: named files, the standard output
+//! and the standard error, by the four calls of a [`System`] and the reads and writes of its files.
+//! The other outsides are in memory.
 #![tactic(auto)]
 
 pub mod calm;

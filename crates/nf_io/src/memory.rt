@@ -95,6 +95,8 @@ impl Outside for MemoryOutside {
 
     ghost seen = { seen_in };
 
+    ghost ahead = { λ _ _. [] };
+
     fn bind(&mut self, role: Role, name: &str) -> Result<(), NoMemory>
         requires { CanBind role (seen_in self.old role) }
         ensures ok { OnOk result (seen_in self.new role ≡ record (seen_in self.old role) { name = Some name.now }) }
@@ -123,6 +125,13 @@ impl Outside for MemoryOutside {
         let tape = &mut self.tapes[role as usize];
         tape.read(buf, most)
     }
+
+    /// Nothing is at hand: each read is a call that can be made to fail.
+    fn at_hand(&self, _role: Role) -> &[u8] {
+        &[]
+    }
+
+    fn skip(&mut self, _role: Role, _count: usize) {}
 
     /// As in the trait. It fails where the call is to fail, else only where the room is too small.
     fn write(&mut self, role: Role, bytes: &[u8]) -> Result<usize, Failed>

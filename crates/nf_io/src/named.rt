@@ -1,12 +1,12 @@
 //! The named files of the roles, and which call of the system serves which role.
-ghost use Rattle.std.specs.Prelude.{◌≡◌, ◌≢◌, ◌<◌, None, IsTrue, IfOk, OnOk, OnErr, Some, false, length, option_map, option_and_then};
+ghost use Rattle.std.specs.Prelude.{◌≡◌, ◌≢◌, ◌<◌, None, IsTrue, IfOk, OnOk, OnErr, Some, false, length, take, option_map, option_and_then, ◌≤◌};
 ghost use Rattle.std.specs.Io.{ReadsAtMost, WritesAtMost};
-ghost use Rattle.std.specs.Io.KnownBytes.{ReadConsumes, WriteAppends};
+ghost use Rattle.std.specs.Io.KnownBytes.{ReadConsumes, WriteAppends, Consumes};
 ghost use Rattle.nf_io.specs.declared.outside.Role.{Role};
 ghost use Rattle.nf_io.specs.Roles.{is_read, needs_name};
 ghost use Rattle.nf_io.specs.System.{SystemBytes};
-ghost use Rattle.nf_io.specs.Streams.{FileBytes, stream_left, stream_written, stream_name};
-ghost use Rattle.nf_io.specs.Files.{stream_in, name_in, begun, told_in, views};
+ghost use Rattle.nf_io.specs.Streams.{FileBytes, file_ahead, stream_left, stream_written, stream_name};
+ghost use Rattle.nf_io.specs.Files.{stream_in, ahead_in, name_in, begun, told_in, views};
 
 use crate::outside::{Failed, Role};
 use crate::retry::print_retrying;
@@ -103,6 +103,61 @@ fn read_named<S: System>(
     }
 }
 
+/// The bytes of a role's own file at hand.
+#[inline(always)]
+pub(crate) fn role_at_hand<F>(files: &NamedFiles<F>, role: Role) -> &[u8]
+    requires { IsTrue (is_read role) }
+    ensures { result.now ≡ ahead_in files.now role }
+{
+    match role {
+        Role::Trace => named_at_hand(&files.trace),
+        Role::Script => named_at_hand(&files.script),
+        _ => named_at_hand(&files.journal_in),
+    }
+}
+
+/// The bytes of a file at hand, if there is one.
+#[inline(always)]
+fn named_at_hand<F>(named: &Option<Stream<F>>) -> &[u8]
+    ensures { result.now ≡ file_ahead named.now }
+{
+    match named {
+        Some(stream) => stream.at_hand(),
+        None => &[],
+    }
+}
+
+/// Takes bytes of a role's own file that are at hand.
+#[inline(always)]
+pub(crate) fn skip_role<F>(files: &mut NamedFiles<F>, role: Role, count: usize)
+    requires read { IsTrue (is_read role) }
+    requires at_hand { count ≤ length (ahead_in files.old role) }
+    ensures bytes { (view : FileBytes F) (told : SystemBytes) →
+        Consumes (told_in view told files.old role) (told_in view told files.new role) (take count (ahead_in files.old role)) }
+    ensures others { (other : Role) → other ≢ role → stream_in files.new other ≡ stream_in files.old other }
+    ensures names { (other : Role) → name_in files.new other ≡ name_in files.old other }
+{
+    match role {
+        Role::Trace => skip_named(&mut files.trace, count),
+        Role::Script => skip_named(&mut files.script, count),
+        _ => skip_named(&mut files.journal_in, count),
+    }
+}
+
+/// Takes bytes of a file that are at hand.
+#[inline(always)]
+fn skip_named<F>(named: &mut Option<Stream<F>>, count: usize)
+    requires { count ≤ length (file_ahead named.old) }
+    ensures bytes { (view : FileBytes F) (told : SystemBytes) →
+        Consumes (option_and_then (stream_left view.left told) named.old) (option_and_then (stream_left view.left told) named.new)
+        (take count (file_ahead named.old)) }
+    ensures name { option_map stream_name named.new ≡ option_map stream_name named.old }
+{
+    if let Some(stream) = named {
+        stream.skip(count);
+    }
+}
+
 /// Appends a front of the bytes to a role's own file or stream.
 pub(crate) fn write_role<S: System>(
     system: &mut S,
@@ -130,7 +185,7 @@ pub(crate) fn write_role<S: System>(
 }
 
 /// Appends a front of the bytes to the standard output.
-#[tactic(auto, using(crate::proofs::Moved::appended_nothing))]
+#[tactic(auto, using(crate::proofs::TransferLemmas::appended_nothing))]
 fn write_output<S: System>(system: &mut S, bytes: &[u8]) -> Result<usize, Failed>
     ensures bound { WritesAtMost result bytes.now }
     ensures moves { 0 < length bytes.now → IfOk result (λ n. 0 < n) }
@@ -144,7 +199,7 @@ fn write_output<S: System>(system: &mut S, bytes: &[u8]) -> Result<usize, Failed
 }
 
 /// Appends a front of the bytes to the standard error.
-#[tactic(auto, using(crate::proofs::Moved::appended_nothing))]
+#[tactic(auto, using(crate::proofs::TransferLemmas::appended_nothing))]
 fn write_errors<S: System>(system: &mut S, bytes: &[u8]) -> Result<usize, Failed>
     ensures bound { WritesAtMost result bytes.now }
     ensures moves { 0 < length bytes.now → IfOk result (λ n. 0 < n) }
@@ -158,7 +213,7 @@ fn write_errors<S: System>(system: &mut S, bytes: &[u8]) -> Result<usize, Failed
 }
 
 /// Appends a front of the bytes to a file, if there is one.
-#[tactic(auto, using(crate::proofs::Moved::appended_nothing))]
+#[tactic(auto, using(crate::proofs::TransferLemmas::appended_nothing))]
 fn write_named<S: System>(
     system: &S,
     named: &mut Option<Stream<S::File>>,

@@ -1,6 +1,7 @@
-ghost use Rattle.std.specs.Prelude.{◌≡◌, ◌<◌, ℕ, Some, length, IfOk, OnOk, OnErr};
-ghost use Rattle.std.specs.Io.{ReadsAtMost, WritesAtMost};
-ghost use Rattle.std.specs.Io.KnownBytes.{ReadConsumes, WriteAppends};
+ghost use Rattle.std.specs.Prelude.{◌≡◌, ◌<◌, ◌≤◌, ℕ, List, Some, length, take, IfOk, OnOk, OnErr};
+ghost use Rattle.std.specs.Option.{ForSome};
+ghost use Rattle.std.specs.Io.{ReadsAtMost, WritesAtMost, StartsWith};
+ghost use Rattle.std.specs.Io.KnownBytes.{ReadConsumes, WriteAppends, Consumes};
 
 use basics::NoMemory;
 use thiserror::Error;
@@ -38,6 +39,9 @@ pub trait Outside {
     /// What callers know of each role.
     ghost seen: { Self → Role → Meaning };
 
+    /// The bytes of a role at hand: those that were read ahead and not yet taken.
+    ghost ahead: { Self → Role → List ℕ };
+
     /// Notes the file that a role stands for. It opens nothing.
     fn bind(&mut self, role: Role, name: &str) -> Result<(), NoMemory>
         requires { CanBind role (seen self.old role) }
@@ -54,6 +58,20 @@ pub trait Outside {
         ensures cause { HasCause (seen self.old role).faults (seen self.new role).faults result }
         ensures written { (seen self.new role).written ≡ (seen self.old role).written }
         ensures name { (seen self.new role).name ≡ (seen self.old role).name }
+        ensures others { OthersStay role (seen self.old) (seen self.new) };
+
+    /// The bytes of a role at hand, which are its next ones. There may be none.
+    fn at_hand(&self, role: Role) -> &[u8]
+        requires { CanRead role (seen self.now role) }
+        ensures bytes { result.now ≡ ahead self.now role }
+        ensures next { ForSome (seen self.now role).left (λ left. StartsWith left result.now) };
+
+    /// Takes bytes that are at hand.
+    fn skip(&mut self, role: Role, count: usize)
+        requires read { CanRead role (seen self.old role) }
+        requires at_hand { count ≤ length (ahead self.old role) }
+        ensures bytes { Consumes (seen self.old role).left (seen self.new role).left (take count (ahead self.old role)) }
+        ensures rest { seen self.new role ≡ record (seen self.old role) { left = (seen self.new role).left } }
         ensures others { OthersStay role (seen self.old) (seen self.new) };
 
     /// Appends a front of the bytes to a role. Of a piece that isn't empty at least one byte is

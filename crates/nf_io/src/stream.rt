@@ -1,7 +1,8 @@
 //! A named file, which is opened or made where it is first used.
-ghost use Rattle.std.specs.Prelude.{◌≡◌, [], None, IfOk, OnOk, string_bytes};
+ghost use Rattle.std.specs.Prelude.{◌≡◌, ◌≤◌, ℕ, List, [], length, take, drop, Option, None, IfOk, OnOk, string_bytes};
 ghost use Rattle.std.specs.Io.{ReadsAtMost, WritesAtMost};
-ghost use Rattle.std.specs.Io.KnownBytes.{Keeps, IsAtEnd, ReadConsumes, WriteAppends};
+ghost use Rattle.std.specs.Io.KnownBytes.{Keeps, Consumes, IsAtEnd, ReadConsumes, WriteAppends};
+ghost use Rattle.nf_io.specs.System.{SystemBytes};
 ghost use Rattle.nf_io.specs.Streams.{held, stream_left, stream_written};
 
 use crate::outside::Failed;
@@ -32,6 +33,27 @@ impl<F> Stream<F> {
             file: None,
             ahead,
         })
+    }
+
+    /// The bytes at hand.
+    #[inline(always)]
+    pub(crate) fn at_hand(&self) -> &[u8]
+        ensures { result.now ≡ held self.now.ahead }
+    {
+        self.ahead.held()
+    }
+
+    /// Takes bytes that are at hand.
+    #[inline(always)]
+    pub(crate) fn skip(&mut self, count: usize)
+        requires { count ≤ length (held self.old.ahead) }
+        ensures ahead { held self.new.ahead ≡ drop count (held self.old.ahead) }
+        ensures left { (remaining : F → Option (List ℕ)) (told : SystemBytes) →
+            Consumes (stream_left remaining told self.old) (stream_left remaining told self.new) (take count (held self.old.ahead)) }
+        ensures file { self.new.file ≡ self.old.file }
+        ensures name { self.new.name ≡ self.old.name }
+    {
+        self.ahead.skip(count);
     }
 }
 

@@ -1,6 +1,7 @@
-ghost use Rattle.std.specs.Prelude.{◌≡◌, ◌<◌, ℕ, Option, List, length, IfOk};
-ghost use Rattle.std.specs.Io.{ReadsAtMost, WritesAtMost};
-ghost use Rattle.std.specs.Io.KnownBytes.{ReadConsumes, WriteAppends};
+ghost use Rattle.std.specs.Prelude.{◌≡◌, ◌<◌, ◌≤◌, ℕ, Option, List, length, take, IfOk};
+ghost use Rattle.std.specs.Option.{ForSome};
+ghost use Rattle.std.specs.Io.{ReadsAtMost, WritesAtMost, StartsWith};
+ghost use Rattle.std.specs.Io.KnownBytes.{ReadConsumes, WriteAppends, Consumes};
 
 use crate::outside::{Failed, Outside, Role};
 
@@ -26,6 +27,9 @@ pub trait Source {
     /// All that a read leaves as it was.
     ghost rest: { Self → Self.Rest };
 
+    /// The bytes at hand: those that were read ahead and not yet taken.
+    ghost ahead: { Self → List ℕ };
+
     /// Takes the next bytes into the front of a buffer. `Ok(0)` on a buffer that isn't empty is
     /// the end of input.
     fn read(&mut self, buf: &mut [u8]) -> Result<usize, Failed>
@@ -33,6 +37,20 @@ pub trait Source {
         ensures bound { ReadsAtMost result buf.new }
         ensures bytes { ReadConsumes (left self.old) (left self.new) result buf.new }
         ensures cause { HasCause (faults self.old) (faults self.new) result }
+        ensures stays { StaysOpen IsOpen loan rest self.old self.new };
+
+    /// The bytes at hand, which are the next ones. There may be none.
+    fn at_hand(&self) -> &[u8]
+        requires { IsOpen self.now }
+        ensures bytes { result.now ≡ ahead self.now }
+        ensures next { ForSome (left self.now) (λ left. StartsWith left result.now) };
+
+    /// Takes bytes that are at hand.
+    fn skip(&mut self, count: usize)
+        requires open { IsOpen self.old }
+        requires at_hand { count ≤ length (ahead self.old) }
+        ensures bytes { Consumes (left self.old) (left self.new) (take count (ahead self.old)) }
+        ensures faults { faults self.new ≡ faults self.old }
         ensures stays { StaysOpen IsOpen loan rest self.old self.new };
 }
 
@@ -84,7 +102,7 @@ pub struct RoleSink<'a, O> {
 
 impl<O: Outside> Source for RoleSource<'_, O> {
     ghost use Rattle.nf_io.specs.declared.outside.Role.{Role};
-    ghost use Rattle.nf_io.specs.Meaning.{Meaning, CanRead, beside_left};
+    ghost use Rattle.nf_io.specs.Meaning.{Meaning, CanRead, without_left};
 
     ghost Rest = { Role × (Role → Meaning) };
 
@@ -96,18 +114,31 @@ impl<O: Outside> Source for RoleSource<'_, O> {
 
     ghost loan = { λ s. s.outside.ghost_name };
 
-    ghost rest = { λ s. (s.role, beside_left s.role (O.seen s.outside.now)) };
+    ghost rest = { λ s. (s.role, without_left s.role (O.seen s.outside.now)) };
 
-    #[tactic(auto, unfolding(crate::specs::Meaning::beside_left))]
+    ghost ahead = { λ s. O.ahead s.outside.now s.role };
+
+    #[tactic(auto, unfolding(crate::specs::Meaning::without_left))]
     #[inline(always)]
     fn read(&mut self, buf: &mut [u8]) -> Result<usize, Failed> {
         self.outside.read(self.role, buf)
+    }
+
+    #[inline(always)]
+    fn at_hand(&self) -> &[u8] {
+        self.outside.at_hand(self.role)
+    }
+
+    #[tactic(auto, unfolding(crate::specs::Meaning::without_left))]
+    #[inline(always)]
+    fn skip(&mut self, count: usize) {
+        self.outside.skip(self.role, count)
     }
 }
 
 impl<O: Outside> Sink for RoleSink<'_, O> {
     ghost use Rattle.nf_io.specs.declared.outside.Role.{Role};
-    ghost use Rattle.nf_io.specs.Meaning.{Meaning, CanWrite, beside_written};
+    ghost use Rattle.nf_io.specs.Meaning.{Meaning, CanWrite, without_written};
 
     ghost Rest = { Role × (Role → Meaning) };
 
@@ -119,9 +150,9 @@ impl<O: Outside> Sink for RoleSink<'_, O> {
 
     ghost loan = { λ s. s.outside.ghost_name };
 
-    ghost rest = { λ s. (s.role, beside_written s.role (O.seen s.outside.now)) };
+    ghost rest = { λ s. (s.role, without_written s.role (O.seen s.outside.now)) };
 
-    #[tactic(auto, unfolding(crate::specs::Meaning::beside_written))]
+    #[tactic(auto, unfolding(crate::specs::Meaning::without_written))]
     fn write(&mut self, bytes: &[u8]) -> Result<usize, Failed> {
         self.outside.write(self.role, bytes)
     }

@@ -1,4 +1,4 @@
-ghost use Rattle.std.specs.Prelude.{◌≡◌, ◌<◌, ◌≤◌, ◌+◌, ◌-◌, ◌^◌, ◌++◌, Some, min, length, take, IfOk, OnOk, OnErr, vec_len};
+ghost use Rattle.std.specs.Prelude.{◌≡◌, ◌<◌, ◌≤◌, ◌+◌, ◌-◌, ◌^◌, ◌++◌, Some, min, length, take, drop, IfOk, OnOk, OnErr, vec_len};
 ghost use Rattle.std.specs.Io.KnownBytes.{append_known};
 
 use crate::outside::Failed;
@@ -48,6 +48,22 @@ impl Tape {
     {
         self.name = Some(String::from_str(*self.bytes.allocator(), name)?);
         Ok(())
+    }
+
+    /// The bytes left to read.
+    pub(crate) fn left(&self) -> &[u8]
+        ensures { result.now ≡ left_on self.now }
+    {
+        &self.bytes[self.taken..]
+    }
+
+    /// Takes the next bytes.
+    pub(crate) fn skip(&mut self, count: usize)
+        requires { count ≤ length (left_on self.old) }
+        ensures left { left_on self.new ≡ drop count (left_on self.old) }
+        ensures same { meaning_on self.new ≡ record (meaning_on self.old) { left = Some (left_on self.new) } }
+    {
+        self.taken += count;
     }
 
     /// Takes as many bytes as are left, at most `most`, into the front of a buffer.

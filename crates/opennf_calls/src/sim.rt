@@ -2,7 +2,7 @@ ghost use Rattle.std.specs.Prelude.{◌≡◌, ◌∷◌, [], MatchResult};
 ghost use Rattle.std.specs.Option.{ForSome};
 ghost use Rattle.nf_io.specs.declared.outside.Role.TheVariants.{Trace as TraceRole, Report as ReportRole};
 ghost use Rattle.nf_io.specs.Meaning.{CanRead};
-ghost use Rattle.trace_reader.specs.Gives.{HasReadCause, IntoGives};
+ghost use Rattle.trace_reader.specs.Answers.{HasReadCause, HandsPackets};
 ghost use Rattle.trace_reader.specs.Records.{capture_of};
 ghost use Rattle.command_words.specs.Plan.{asks_sim};
 ghost use Rattle.command_words.specs.RequestViews.{sim_view};
@@ -66,7 +66,7 @@ fn read_report<O: Outside>(
 fn read_capture<O: Outside>(outside: &mut O, fold: &mut Fold) -> Result<TraceEnd, TraceFault>
     requires { CanRead TraceRole (O.seen outside.old TraceRole) }
     ensures trace { ForSome (O.seen outside.old TraceRole).left (λ bytes.
-        IntoGives Folds (capture_of bytes) fold.old fold.new (O.seen outside.new TraceRole).left result) }
+        HandsPackets Folds (capture_of bytes) fold.old fold.new (O.seen outside.new TraceRole).left result) }
     ensures cause { HasReadCause (O.seen outside.old TraceRole).faults (O.seen outside.new TraceRole).faults result }
     ensures alone { ReadAlone TraceRole (O.seen outside.old) (O.seen outside.new) }
 {

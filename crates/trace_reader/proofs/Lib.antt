@@ -1,7 +1,7 @@
-pub mod Taken
-pub mod Front
-pub mod Steps
-pub mod Opened
-pub mod Whole
-pub mod Handed
-pub mod Numbered
+pub mod SourceReads
+pub mod RecordFront
+pub mod NextRecord
+pub mod ReaderOpening
+pub mod CaptureSoFar
+pub mod KeeperSoFar
+pub mod PacketNumbers

@@ -2,45 +2,46 @@
 -- its link types LINKTYPE_ETHERNET (1) and LINKTYPE_RAW (101) are read. The order of the checks is this project's own.
 use Rattle.std.specs.Prelude.{ℕ, ◌%◌, ◌^◌, Bool, ◌==◌, ◌&&◌, not, nat_lt, List, length, drop, Option, Some, None, Result, Ok, Err, if◌then◌else◌}
 use Rattle.byteorder.specs.Endian.{big_number}
-use Rattle.trace_reader.specs.declared.form.Order.TheVariants.{Big, Little}
+use Rattle.trace_reader.specs.declared.form.Endian.TheVariants.{Big, Little}
 use Rattle.trace_reader.specs.declared.form.Fraction.TheVariants.{Micros, Nanos}
-use Rattle.trace_reader.specs.declared.form.Link.{Link}
-use Rattle.trace_reader.specs.declared.form.Link.TheVariants.{Ethernet, Raw}
+use Rattle.trace_reader.specs.declared.form.LinkType.{LinkType}
+use Rattle.trace_reader.specs.declared.form.LinkType.TheVariants.{Ethernet, Raw}
 use Rattle.trace_reader.specs.declared.form.Magic.{Magic}
 use Rattle.trace_reader.specs.declared.form.Form.{Form}
 use Rattle.trace_reader.specs.declared.fault.TraceFault.{TraceFault}
 use Rattle.trace_reader.specs.declared.fault.TraceFault.TheVariants as fault
+use Rattle.trace_reader.specs.Limits.{header_size}
 use Rattle.trace_reader.specs.Numbers.{number_in}
 
 -- the byte order and the unit of the fraction that the magic number, read in network order, stands for
 abbrev pub magic_of : ℕ → Option Magic
 magic_of n =
-    if n == 0xA1B2_C3D4 then Some (record { order = Big; fraction = Micros })
-    else if n == 0xD4C3_B2A1 then Some (record { order = Little; fraction = Micros })
-    else if n == 0xA1B2_3C4D then Some (record { order = Big; fraction = Nanos })
-    else if n == 0x4D3C_B2A1 then Some (record { order = Little; fraction = Nanos })
+    if n == 0xA1B2_C3D4 then Some (record { endian = Big; fraction = Micros })
+    else if n == 0xD4C3_B2A1 then Some (record { endian = Little; fraction = Micros })
+    else if n == 0xA1B2_3C4D then Some (record { endian = Big; fraction = Nanos })
+    else if n == 0x4D3C_B2A1 then Some (record { endian = Little; fraction = Nanos })
     else None
 
 -- the link layer that a number stands for
-abbrev pub link_of : ℕ → Option Link
-link_of n = if n == 1 then Some Ethernet else if n == 101 then Some Raw else None
+abbrev pub link_type_of : ℕ → Option LinkType
+link_type_of n = if n == 1 then Some Ethernet else if n == 101 then Some Raw else None
 
 -- the form of a capture with this link type, of which the low 16 bits count
-abbrev pub form_by_link : Magic → ℕ → Option Link → Result Form TraceFault
-form_by_link magic n None = Err (fault.LinkType n)
-form_by_link magic n (Some link) = Ok (record { magic = magic; link = link })
+abbrev pub form_by_link_type : Magic → ℕ → Option LinkType → Result Form TraceFault
+form_by_link_type magic n None = Err (fault.LinkType n)
+form_by_link_type magic n (Some link_type) = Ok (record { magic = magic; link_type = link_type })
 
 -- whether the version is 2.4
 abbrev pub is_version : Magic → List ℕ → Bool
-is_version magic header = (number_in magic.order 2 (drop 4 header) == 2) && (number_in magic.order 2 (drop 6 header) == 4)
+is_version magic header = (number_in magic.endian 2 (drop 4 header) == 2) && (number_in magic.endian 2 (drop 6 header) == 4)
 
 -- the form of a capture with this magic number
 abbrev pub form_by_magic : List ℕ → Option Magic → Result Form TraceFault
 form_by_magic header None = Err fault.Magic
 form_by_magic header (Some magic) =
-    if nat_lt (length header) 24 then Err (fault.Header (length header))
+    if nat_lt (length header) header_size then Err (fault.Header (length header))
     else if not (is_version magic header) then Err fault.Version
-    else (let n = number_in magic.order 4 (drop 20 header) % 2 ^ 16 in form_by_link magic n (link_of n))
+    else (let n = number_in magic.endian 4 (drop 20 header) % 2 ^ 16 in form_by_link_type magic n (link_type_of n))
 
 -- the form of the capture that begins with these 24 bytes, or is no longer, or the first fault
 unfoldable pub form_of : List ℕ → Result Form TraceFault

@@ -2,26 +2,26 @@
 use Rattle.std.specs.Prelude.{ℕ, List, slice_index, drop}
 use Rattle.byteorder.specs.Endian.{big_number, little_number}
 use Rattle.trace_reader.specs.declared.form.Form.{Form}
-use Rattle.trace_reader.specs.declared.form.Order.{Order}
-use Rattle.trace_reader.specs.declared.form.Order.TheVariants.{Big, Little}
+use Rattle.trace_reader.specs.declared.form.Endian.{Endian}
+use Rattle.trace_reader.specs.declared.form.Endian.TheVariants.{Big, Little}
 
 -- the number in the first n bytes, in this byte order
-abbrev pub number_in : Order → ℕ → List ℕ → ℕ
+abbrev pub number_in : Endian → ℕ → List ℕ → ℕ
 number_in Big n bytes = big_number n bytes
 number_in Little n bytes = little_number n bytes
 
 -- the byte at a place
-abbrev pub byte : List ℕ → ℕ → ℕ
-byte bytes at = slice_index bytes at
+abbrev pub byte_at : List ℕ → ℕ → ℕ
+byte_at bytes at = slice_index bytes at
 
 -- the number in the two bytes from a place, in network order
-abbrev pub pair : List ℕ → ℕ → ℕ
-pair bytes at = big_number 2 (drop at bytes)
+abbrev pub u16_at : List ℕ → ℕ → ℕ
+u16_at bytes at = big_number 2 (drop at bytes)
 
 -- the number in the four bytes from a place, in network order
-abbrev pub quad : List ℕ → ℕ → ℕ
-quad bytes at = big_number 4 (drop at bytes)
+abbrev pub u32_at : List ℕ → ℕ → ℕ
+u32_at bytes at = big_number 4 (drop at bytes)
 
 -- how many bytes of the packet a record has, by its head of 16 bytes
 abbrev pub captured_of : Form → List ℕ → ℕ
-captured_of form head = number_in form.magic.order 4 (drop 8 head)
+captured_of form head = number_in form.magic.endian 4 (drop 8 head)

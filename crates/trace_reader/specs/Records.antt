@@ -1,6 +1,6 @@
 -- What a capture gives: its records one after the other, and all of them. The records' layout is that of the pcap format
 -- (draft-ietf-opsawg-pcap); the limits, and the order of the checks, are this project's own.
-use Rattle.std.specs.Prelude.{◌≡◌, ℕ, ◌+◌, ◌^◌, nat_lt, true, false, List, [], ◌∷◌, length, take, drop, zero, suc, Option, Some, None, Result, Ok, Err, if◌then◌else◌}
+use Rattle.std.specs.Prelude.{◌≡◌, ℕ, ◌+◌, nat_lt, true, false, List, [], ◌∷◌, length, take, drop, zero, suc, Option, Some, None, Result, Ok, Err, if◌then◌else◌}
 use Rattle.flow_filter.specs.declared.packet.Packet.{Packet}
 use Rattle.trace_reader.specs.declared.form.Form.{Form}
 use Rattle.trace_reader.specs.declared.fault.TraceFault.{TraceFault}
@@ -8,34 +8,35 @@ use Rattle.trace_reader.specs.declared.fault.TraceFault.TheVariants as fault
 use Rattle.trace_reader.specs.declared.record.Next.{Next}
 use Rattle.trace_reader.specs.declared.record.Next.TheVariants as next
 use Rattle.trace_reader.specs.declared.trace.Trace.{Trace}
+use Rattle.trace_reader.specs.Limits.{header_size, head_size, most_captured, most_packets, most_bytes}
 use Rattle.trace_reader.specs.Numbers.{captured_of}
 use Rattle.trace_reader.specs.Header.{form_of}
 use Rattle.trace_reader.specs.Steered.{packet_of}
 
 -- a steered packet, at this place, behind this many others
-abbrev pub steered_at : ℕ → ℕ → Option Packet → Result Next TraceFault
-steered_at place count None = Ok next.Skipped
-steered_at place count (Some packet) = if nat_lt count 1000000 then Ok (next.Packet packet) else Err (fault.TooLong place)
+abbrev pub steered_answer : ℕ → ℕ → Option Packet → Result Next TraceFault
+steered_answer place count None = Ok next.Skipped
+steered_answer place count (Some packet) = if nat_lt count most_packets then Ok (next.Packet packet) else Err (fault.TooLong place)
 
 -- what a whole record gives, by its head and its bytes
-unfoldable pub record_of : Form → ℕ → ℕ → List ℕ → ℕ → List ℕ → Result Next TraceFault
-record_of form place count head len f =
-    if nat_lt (2 ^ 32) (place + 16 + len) then Err (fault.TooLong place)
-    else steered_at place count (packet_of form (count + 1) head len f)
+unfoldable pub record_answer : Form → ℕ → ℕ → List ℕ → ℕ → List ℕ → Result Next TraceFault
+record_answer form place count head len f =
+    if nat_lt most_bytes (place + head_size + len) then Err (fault.TooLong place)
+    else steered_answer place count (packet_of form (count + 1) head len f)
 
 -- how many bytes the record takes that these bytes begin with
-abbrev pub size_of : Form → List ℕ → ℕ
-size_of form bytes = 16 + captured_of form (take 16 bytes)
+abbrev pub record_size : Form → List ℕ → ℕ
+record_size form bytes = head_size + captured_of form (take head_size bytes)
 
 -- what comes next where these bytes are left, at this place, behind this many packets
 unfoldable pub next_of : Form → ℕ → ℕ → List ℕ → Result Next TraceFault
 next_of form place count bytes =
-    let n = captured_of form (take 16 bytes) in
+    let n = captured_of form (take head_size bytes) in
     if nat_lt 0 (length bytes) then
-    (if nat_lt (length bytes) 16 then Ok next.Cut
-    else if nat_lt 262144 n then Err (fault.RecordLength place n)
-    else if nat_lt (length bytes) (16 + n) then Ok next.Cut
-    else record_of form place count (take 16 bytes) n (take n (drop 16 bytes)))
+    (if nat_lt (length bytes) head_size then Ok next.Cut
+    else if nat_lt most_captured n then Err (fault.RecordLength place n)
+    else if nat_lt (length bytes) (head_size + n) then Ok next.Cut
+    else record_answer form place count (take head_size bytes) n (take n (drop head_size bytes)))
     else Ok next.End
 
 -- one more packet at the front
@@ -60,15 +61,15 @@ from_next rest count (Err e) = Err e
 unfoldable pub records_of : ℕ → Form → ℕ → ℕ → List ℕ → Result Trace TraceFault
 records_of zero form place count bytes = Ok (record { packets = []; skipped = 0; cut = false })
 records_of (suc most) form place count bytes =
-    from_next (λ count'. records_of most form (place + size_of form bytes) count' (drop (size_of form bytes) bytes)) count (next_of form place count bytes)
+    from_next (λ count'. records_of most form (place + record_size form bytes) count' (drop (record_size form bytes) bytes)) count (next_of form place count bytes)
 
 -- the form that a capture states in its first 24 bytes, or the first fault there
 abbrev pub opened : List ℕ → Result Form TraceFault
-opened bytes = form_of (take 24 bytes)
+opened bytes = form_of (take header_size bytes)
 
 -- what the records of a capture of this form give
 abbrev pub trace_of : List ℕ → Result Form TraceFault → Result Trace TraceFault
-trace_of bytes (Ok form) = records_of (length bytes) form 24 0 (drop 24 bytes)
+trace_of bytes (Ok form) = records_of (length bytes) form header_size 0 (drop header_size bytes)
 trace_of bytes (Err e) = Err e
 
 -- the steered packets of a capture in file order, how many records are skipped, and whether it is cut, or the first fault

@@ -11,12 +11,19 @@ Fills old new buf n =
 abbrev pub Skips : Option (List ℕ) → Option (List ℕ) → ℕ → ℕ → Type 0
 Skips old new count n = ForSome old (λ bytes. (n ≡ min count (length bytes)) × (new ≡ Some (drop n bytes)))
 
--- a body of len bytes was there and is gone, and its front is in a buffer; or nothing is left
-abbrev pub BodyGives : List ℕ → Option (List ℕ) → List ℕ → ℕ → Bool → Type 0
-BodyGives bytes new front len true = (front ≡ take (length front) bytes) × (new ≡ Some (drop len bytes))
-BodyGives bytes new front len false = new ≡ Some []
+-- how many bytes a record has, and the first of them
+pub record Body : Type 0 where
+  pub front : List ℕ
+  pub len : ℕ
 
--- a body of len bytes was taken exactly where there were as many
-abbrev pub TakesBody : Option (List ℕ) → Option (List ℕ) → List ℕ → ℕ → Bool → Type 0
-TakesBody old new front len whole =
-    ForSome old (λ bytes. (whole ≡ nat_le len (length bytes)) × BodyGives bytes new front len whole)
+abbrev pub body : List ℕ → ℕ → Body
+body front len = record { front = front; len = len }
+
+-- a body was there and is gone, and its front is in a buffer; or nothing is left
+abbrev pub BodyTaken : List ℕ → Option (List ℕ) → Body → Bool → Type 0
+BodyTaken bytes new b true = (b.front ≡ take (length b.front) bytes) × (new ≡ Some (drop b.len bytes))
+BodyTaken bytes new b false = new ≡ Some []
+
+-- a body was taken exactly where there were as many bytes
+abbrev pub TakesBody : Option (List ℕ) → Option (List ℕ) → Body → Bool → Type 0
+TakesBody old new b whole = ForSome old (λ bytes. (whole ≡ nat_le b.len (length bytes)) × BodyTaken bytes new b whole)

@@ -1,15 +1,16 @@
 ghost use Rattle.std.specs.Prelude.{◌≡◌, ◌≢◌, ◌≤◌, Err, length};
+ghost use Rattle.trace_reader.specs.Limits.{head_size, header_size};
 ghost use Rattle.trace_reader.specs.Numbers.{number_in};
 ghost use Rattle.trace_reader.specs.Steered.{nanos_of};
 ghost use Rattle.trace_reader.specs.Numbers.{captured_of};
-ghost use Rattle.trace_reader.specs.Header.{magic_of, link_of, is_version, form_of};
+ghost use Rattle.trace_reader.specs.Header.{magic_of, link_type_of, is_version, form_of};
 
 use crate::fault::TraceFault;
 use byteorder::{BigEndian, ByteOrder, LittleEndian};
 
-/// The order of the bytes of a capture's own numbers.
+/// Which byte of a capture's own numbers comes first: the highest or the lowest.
 #[derive(Clone, Copy, Debug, PartialEq, Eq)]
-pub enum Order {
+pub enum Endian {
     Big,
     Little,
 }
@@ -24,13 +25,13 @@ pub enum Fraction {
 /// What the magic number says.
 #[derive(Clone, Copy, Debug, PartialEq, Eq)]
 pub struct Magic {
-    pub order: Order,
+    pub endian: Endian,
     pub fraction: Fraction,
 }
 
 /// What stands around each datagram: an Ethernet header, or nothing.
 #[derive(Clone, Copy, Debug, PartialEq, Eq)]
-pub enum Link {
+pub enum LinkType {
     Ethernet,
     Raw,
 }
@@ -39,83 +40,7 @@ pub enum Link {
 #[derive(Clone, Copy, Debug, PartialEq, Eq)]
 pub struct Form {
     pub magic: Magic,
-    pub link: Link,
-}
-
-impl Order {
-    fn short(self, bytes: &[u8]) -> u16
-        requires { 2 ≤ length bytes.now }
-        ensures { result ≡ number_in self 2 bytes.now }
-    {
-        match self {
-            Order::Big => BigEndian::read_u16(bytes),
-            Order::Little => LittleEndian::read_u16(bytes),
-        }
-    }
-
-    pub(crate) fn long(self, bytes: &[u8]) -> u32
-        requires { 4 ≤ length bytes.now }
-        ensures { result ≡ number_in self 4 bytes.now }
-    {
-        match self {
-            Order::Big => BigEndian::read_u32(bytes),
-            Order::Little => LittleEndian::read_u32(bytes),
-        }
-    }
-}
-
-impl Form {
-    /// How many bytes of the packet a record has, by its head.
-    pub(crate) fn captured(self, head: &[u8]) -> u32
-        requires { length head.now ≡ 16 }
-        ensures { result ≡ captured_of self head.now }
-    {
-        self.magic.order.long(&head[8..])
-    }
-
-    /// The time stamp at the head of a record, in nanoseconds.
-    pub(crate) fn nanos(self, head: &[u8]) -> u64
-        requires { length head.now ≡ 16 }
-        ensures { result ≡ nanos_of self head.now }
-    {
-        let seconds = u64::from(self.magic.order.long(head));
-        let fraction = u64::from(self.magic.order.long(&head[4..]));
-        let unit = match self.magic.fraction {
-            Fraction::Micros => 1000,
-            Fraction::Nanos => 1,
-        };
-        seconds * 1_000_000_000 + fraction * unit
-    }
-}
-
-fn magic_of(number: u32) -> Option<Magic>
-    ensures { result ≡ magic_of number }
-{
-    let (order, fraction) = match number {
-        0xa1b2_c3d4 => (Order::Big, Fraction::Micros),
-        0xd4c3_b2a1 => (Order::Little, Fraction::Micros),
-        0xa1b2_3c4d => (Order::Big, Fraction::Nanos),
-        0x4d3c_b2a1 => (Order::Little, Fraction::Nanos),
-        _ => return None,
-    };
-    Some(Magic { order, fraction })
-}
-
-fn link_of(number: u16) -> Option<Link>
-    ensures { result ≡ link_of number }
-{
-    match number {
-        1 => Some(Link::Ethernet),
-        101 => Some(Link::Raw),
-        _ => None,
-    }
-}
-
-fn is_version(magic: Magic, header: &[u8]) -> bool
-    requires { 24 ≤ length header.now }
-    ensures { result ≡ is_version magic header.now }
-{
-    magic.order.short(&header[4..]) == 2 && magic.order.short(&header[6..]) == 4
+    pub link_type: LinkType,
 }
 
 /// The form that the first 24 bytes of a capture state.
@@ -140,9 +65,85 @@ pub(crate) fn form_of(header: &[u8]) -> Result<Form, TraceFault>
     if !is_version(magic, header) {
         return Err(TraceFault::Version);
     }
-    let number = (magic.order.long(&header[20..]) % 0x1_0000) as u16;
-    match link_of(number) {
-        Some(link) => Ok(Form { magic, link }),
+    let number = (magic.endian.long(&header[20..]) % 0x1_0000) as u16;
+    match link_type_of(number) {
+        Some(link_type) => Ok(Form { magic, link_type }),
         None => Err(TraceFault::LinkType(number)),
+    }
+}
+
+fn magic_of(number: u32) -> Option<Magic>
+    ensures { result ≡ magic_of number }
+{
+    let (endian, fraction) = match number {
+        0xa1b2_c3d4 => (Endian::Big, Fraction::Micros),
+        0xd4c3_b2a1 => (Endian::Little, Fraction::Micros),
+        0xa1b2_3c4d => (Endian::Big, Fraction::Nanos),
+        0x4d3c_b2a1 => (Endian::Little, Fraction::Nanos),
+        _ => return None,
+    };
+    Some(Magic { endian, fraction })
+}
+
+fn is_version(magic: Magic, header: &[u8]) -> bool
+    requires { header_size ≤ length header.now }
+    ensures { result ≡ is_version magic header.now }
+{
+    magic.endian.short(&header[4..]) == 2 && magic.endian.short(&header[6..]) == 4
+}
+
+fn link_type_of(number: u16) -> Option<LinkType>
+    ensures { result ≡ link_type_of number }
+{
+    match number {
+        1 => Some(LinkType::Ethernet),
+        101 => Some(LinkType::Raw),
+        _ => None,
+    }
+}
+
+impl Form {
+    /// How many bytes of the packet a record has, by its head.
+    pub(crate) fn captured(self, head: &[u8]) -> u32
+        requires { length head.now ≡ head_size }
+        ensures { result ≡ captured_of self head.now }
+    {
+        self.magic.endian.long(&head[8..])
+    }
+
+    /// The time stamp at the head of a record, in nanoseconds.
+    pub(crate) fn nanos(self, head: &[u8]) -> u64
+        requires { length head.now ≡ head_size }
+        ensures { result ≡ nanos_of self head.now }
+    {
+        let seconds = u64::from(self.magic.endian.long(head));
+        let fraction = u64::from(self.magic.endian.long(&head[4..]));
+        let unit = match self.magic.fraction {
+            Fraction::Micros => 1000,
+            Fraction::Nanos => 1,
+        };
+        seconds * 1_000_000_000 + fraction * unit
+    }
+}
+
+impl Endian {
+    fn short(self, bytes: &[u8]) -> u16
+        requires { 2 ≤ length bytes.now }
+        ensures { result ≡ number_in self 2 bytes.now }
+    {
+        match self {
+            Endian::Big => BigEndian::read_u16(bytes),
+            Endian::Little => LittleEndian::read_u16(bytes),
+        }
+    }
+
+    pub(crate) fn long(self, bytes: &[u8]) -> u32
+        requires { 4 ≤ length bytes.now }
+        ensures { result ≡ number_in self 4 bytes.now }
+    {
+        match self {
+            Endian::Big => BigEndian::read_u32(bytes),
+            Endian::Little => LittleEndian::read_u32(bytes),
+        }
     }
 }

@@ -1,4 +1,4 @@
-//! Reading captures in the pcap format, version 2.4.
+//! Reading captures in the pcap format, version 2.4. It touches nothing but the source that it is given.
 //!
 //! Contracts see a [`TraceReader`] as its form, its place, the number of packets given and its
 //! end. The main promise is that of [`read_trace`]: its answer is `capture_of` the bytes that the
@@ -16,7 +16,7 @@ mod takes;
 pub mod trace;
 
 pub use fault::TraceFault;
-pub use form::{Form, Fraction, Link, Magic, Order};
+pub use form::{Endian, Form, Fraction, LinkType, Magic};
 pub use keeper::Keeper;
 pub use reader::{Stop, TraceReader};
 pub use record::Next;

@@ -1,5 +1,6 @@
 ghost use Rattle.std.specs.Prelude.{◌≡◌, ◌≤◌, ◌^◌, ◌+◌, min, None, Some, Err, length, drop, IfOk};
 ghost use Rattle.std.specs.Option.{ForSome, ForNone};
+ghost use Rattle.trace_reader.specs.Limits.{header_size, most_bytes, most_packets};
 
 use crate::fault::TraceFault;
 use crate::form::{Form, form_of};
@@ -15,20 +16,6 @@ pub enum Stop {
     Fault(TraceFault),
 }
 
-impl Stop {
-    ghost use Rattle.trace_reader.specs.Gives.{answer_of};
-
-    fn answer(self) -> Result<Next, TraceFault>
-        ensures { result ≡ answer_of self }
-    {
-        match self {
-            Stop::End => Ok(Next::End),
-            Stop::Cut => Ok(Next::Cut),
-            Stop::Fault(fault) => Err(fault),
-        }
-    }
-}
-
 /// Reads a capture record by record. Contracts see its form, the place of the next record, the
 /// number of packets given, and the end that it has come to, if any.
 #[derive(Debug, Drop)]
@@ -37,20 +24,20 @@ pub struct TraceReader {
     place: u64,
     count: u32,
     stop: Option<Stop>,
-    ghost in_file: { place ≤ 2 ^ 32 },
-    ghost in_count: { count ≤ 1000000 },
+    ghost in_file: { place ≤ most_bytes },
+    ghost in_count: { count ≤ most_packets },
 }
 
 impl TraceReader {
     ghost use Rattle.nf_io.specs.Meaning.{StaysOpen, Rose};
     ghost use Rattle.trace_reader.specs.Records.{opened};
-    ghost use Rattle.trace_reader.specs.Gives.{HasReadCause, OpenGives, Gives, Moves, stop_of, answer_of};
+    ghost use Rattle.trace_reader.specs.Answers.{HasReadCause, AnswersOpen, AnswersNext, Advances, reading_of, stop_of, answer_of};
 
     /// Reads the 24 bytes at the head of a capture.
     pub fn open<S: Source>(source: &mut S) -> Result<TraceReader, TraceFault>
         requires { S.IsOpen source.old }
-        ensures form { ForSome (S.left source.old) (λ bytes. OpenGives (opened bytes) (drop 24 bytes) (S.left source.new) result) }
-        ensures start { IfOk result (λ reader. (reader.place ≡ 24) × (reader.count ≡ 0) × (reader.stop ≡ None)) }
+        ensures form { ForSome (S.left source.old) (λ bytes. AnswersOpen (opened bytes) (drop header_size bytes) (S.left source.new) result) }
+        ensures start { IfOk result (λ reader. (reader.place ≡ header_size) × (reader.count ≡ 0) × (reader.stop ≡ None)) }
         ensures cause { HasReadCause (S.faults source.old) (S.faults source.new) result }
         ensures stays { StaysOpen S.IsOpen S.loan S.rest source.old source.new }
     {
@@ -75,9 +62,10 @@ impl TraceReader {
     /// Reads the next record. Once there is an end, each call gives it again and reads nothing.
     pub fn next<S: Source>(&mut self, source: &mut S) -> Result<Next, TraceFault>
         requires { S.IsOpen source.old }
-        ensures gives { ForNone self.old.stop (ForSome (S.left source.old) (λ bytes.
-            Gives self.old.form self.old.place self.old.count bytes self.new.place (S.left source.new) result)) }
-        ensures moves { ForNone self.old.stop (Moves self.old.place self.old.count self.new.place self.new.count result) }
+        ensures answers { ForNone self.old.stop
+            (AnswersNext (reading_of self.old (S.left source.old)) (reading_of self.new (S.left source.new)) result) }
+        ensures advances { ForNone self.old.stop
+            (Advances (reading_of self.old (S.left source.old)) (reading_of self.new (S.left source.new)) result) }
         ensures form { self.new.form ≡ self.old.form }
         ensures stop { self.new.stop ≡ stop_of result }
         ensures again { ForSome self.old.stop (λ stop. (result ≡ answer_of stop) × (self.new ≡ self.old) × (source.new ≡ source.old)) }
@@ -103,5 +91,19 @@ impl TraceReader {
             Next::Cut => self.stop = Some(Stop::Cut),
         }
         Ok(step.next)
+    }
+}
+
+impl Stop {
+    ghost use Rattle.trace_reader.specs.Answers.{answer_of};
+
+    fn answer(self) -> Result<Next, TraceFault>
+        ensures { result ≡ answer_of self }
+    {
+        match self {
+            Stop::End => Ok(Next::End),
+            Stop::Cut => Ok(Next::Cut),
+            Stop::Fault(fault) => Err(fault),
+        }
     }
 }

@@ -1,9 +1,9 @@
-ghost use Rattle.std.specs.Prelude.{◌≡◌, ◌≢◌, ◌<◌, ◌≤◌, ℕ, ◌^◌, ◌+◌, min, length, Ok, Err, IfOk};
-ghost use Rattle.std.specs.Option.{ForSome};
+ghost use Rattle.std.specs.Prelude.{◌≡◌, ◌≢◌, ◌<◌, ◌≤◌, ℕ, ◌^◌, ◌+◌, min, length, take, None, Ok, Err, IfOk, IfSome};
 ghost use Rattle.nf_io.specs.Meaning.{StaysOpen};
-ghost use Rattle.trace_reader.specs.Numbers.{byte};
-ghost use Rattle.trace_reader.specs.Records.{record_of};
-ghost use Rattle.trace_reader.specs.Gives.{HasReadCause, Gives, Moves, next_in, size_in, count_after};
+ghost use Rattle.trace_reader.specs.Limits.{front_size, head_size, most_bytes, most_captured, most_packets};
+ghost use Rattle.trace_reader.specs.Numbers.{byte_at, captured_of};
+ghost use Rattle.trace_reader.specs.Records.{record_answer};
+ghost use Rattle.trace_reader.specs.Answers.{HasReadCause, AnswersNext, Advances, next_in, count_after, reading, reading_after};
 
 use crate::fault::TraceFault;
 use crate::form::Form;
@@ -41,8 +41,58 @@ pub(crate) struct Step {
     pub(crate) size: u64,
 }
 
-/// What a whole record gives, of `len` bytes, of which `front` has the first.
-#[tactic(auto, unfolding(crate::specs::Records::record_of))]
+/// Reads the record at a place: from the bytes at hand where it is there whole, and else in parts.
+#[inline(always)]
+pub(crate) fn read_record<S: Source>(
+    form: Form,
+    place: u64,
+    count: u32,
+    source: &mut S,
+) -> Result<Step, TraceFault>
+    requires open { S.IsOpen source.old }
+    requires place { place ≤ most_bytes }
+    requires count { count ≤ most_packets }
+    ensures answers { AnswersNext (reading form place count (S.left source.old))
+        (reading_after (reading form place count (S.left source.old)) result (S.left source.new)) (next_in result) }
+    ensures advances { Advances (reading form place count (S.left source.old))
+        (reading_after (reading form place count (S.left source.old)) result (S.left source.new)) (next_in result) }
+    ensures cause { HasReadCause (S.faults source.old) (S.faults source.new) result }
+    ensures stays { StaysOpen S.IsOpen S.loan S.rest source.old source.new }
+{
+    let ahead = source.at_hand();
+    let Some(len) = whole_at_hand(form, ahead) else {
+        return read_apart(form, place, count, source);
+    };
+    let front = &ahead[16..16 + len.min(FRONT)];
+    let next = judge(form, place, count, &ahead[..16], len, front)?;
+    let size = 16 + len;
+    source.skip(size);
+    Ok(Step {
+        next,
+        size: size as u64,
+    })
+}
+
+/// How many bytes the record has that the bytes at hand begin with, where it is there whole and isn't too long.
+#[inline(always)]
+fn whole_at_hand(form: Form, ahead: &[u8]) -> Option<usize>
+    ensures { IfSome result (λ n. (n ≡ captured_of form (take head_size ahead.now)) × (n ≤ most_captured) × (head_size + n ≤ length ahead.now)) }
+{
+    if ahead.len() < 16 {
+        return None;
+    }
+    let captured = form.captured(&ahead[..16]);
+    let len = captured as usize;
+    if captured <= MOST_CAPTURED && len <= ahead.len() - 16 {
+        Some(len)
+    } else {
+        None
+    }
+}
+
+/// What a whole record gives, of `len` bytes, of which `front` has the first. It is inlined, so that no packet is copied.
+#[tactic(auto, unfolding(crate::specs::Records::record_answer))]
+#[inline(always)]
 fn judge(
     form: Form,
     place: u64,
@@ -51,15 +101,16 @@ fn judge(
     len: usize,
     front: &[u8],
 ) -> Result<Next, TraceFault>
-    requires place { place ≤ 2 ^ 32 }
-    requires count { count ≤ 1000000 }
-    requires head { length head.now ≡ 16 }
-    requires len { len ≤ 2 ^ 18 }
-    requires front { length front.now ≡ min len 202 }
-    ensures gives { result ≡ record_of form place count head.now len front.now }
-    ensures fits { IfOk result (λ next. Moves place count (place + (16 + len)) (count_after count (Ok next)) (Ok next)) }
+    requires place { place ≤ most_bytes }
+    requires count { count ≤ most_packets }
+    requires head { length head.now ≡ head_size }
+    requires len { len ≤ most_captured }
+    requires front { length front.now ≡ min len front_size }
+    ensures gives { result ≡ record_answer form place count head.now len front.now }
+    ensures fits { IfOk result (λ next. Advances (reading form place count None)
+        (reading form (place + (head_size + len)) (count_after count (Ok next)) None) (Ok next)) }
     ensures unread { result ≢ Err TraceFault.Read }
-    ensures bytes { (i : ℕ) → byte front.now i < 256 }
+    ensures bytes { (i : ℕ) → byte_at front.now i < 256 }
 {
     if place + 16 + len as u64 > MOST_BYTES {
         return Err(TraceFault::TooLong { offset: place });
@@ -71,19 +122,22 @@ fn judge(
     }
 }
 
-/// Reads the record at a place.
-pub(crate) fn read_record<S: Source>(
+/// Reads the record at a place in parts.
+#[cold]
+#[inline(never)]
+fn read_apart<S: Source>(
     form: Form,
     place: u64,
     count: u32,
     source: &mut S,
 ) -> Result<Step, TraceFault>
     requires open { S.IsOpen source.old }
-    requires place { place ≤ 2 ^ 32 }
-    requires count { count ≤ 1000000 }
-    ensures gives { ForSome (S.left source.old) (λ bytes.
-        Gives form place count bytes (place + size_in result) (S.left source.new) (next_in result)) }
-    ensures moves { Moves place count (place + size_in result) (count_after count (next_in result)) (next_in result) }
+    requires place { place ≤ most_bytes }
+    requires count { count ≤ most_packets }
+    ensures answers { AnswersNext (reading form place count (S.left source.old))
+        (reading_after (reading form place count (S.left source.old)) result (S.left source.new)) (next_in result) }
+    ensures advances { Advances (reading form place count (S.left source.old))
+        (reading_after (reading form place count (S.left source.old)) result (S.left source.new)) (next_in result) }
     ensures cause { HasReadCause (S.faults source.old) (S.faults source.new) result }
     ensures stays { StaysOpen S.IsOpen S.loan S.rest source.old source.new }
 {

@@ -1,8 +1,9 @@
 ghost use Rattle.std.specs.Prelude.{◌≡◌, ◌≤◌, ◌+◌, ◌-◌, ◌^◌, ◌++◌, min, length, replicate, IfSome};
-ghost use Rattle.trace_reader.specs.Numbers.{pair, quad, byte};
+ghost use Rattle.trace_reader.specs.Limits.{front_size, head_size, most_captured};
+ghost use Rattle.trace_reader.specs.Numbers.{u16_at, u32_at, byte_at};
 ghost use Rattle.trace_reader.specs.Steered.{start_of, header_length, is_first, transport_length, total_length, parts_of, HasParts, held_of, payload_of, packet_with, packet_of};
 
-use crate::form::{Form, Link};
+use crate::form::{Form, LinkType};
 use byteorder::{BigEndian, ByteOrder};
 use flow_filter::{Packet, TCP, UDP};
 
@@ -18,32 +19,60 @@ pub(crate) struct Parts {
     total: usize,
 }
 
-fn pair(bytes: &[u8], at: usize) -> u16
-    requires { at + 2 ≤ length bytes.now }
-    ensures { result ≡ pair bytes.now at }
+/// The packet of a record of `len` bytes, of which `front` has the first; None for one that is
+/// skipped.
+#[tactic(auto, unfolding(crate::specs::Steered::packet_of))]
+pub(crate) fn packet_of(
+    form: Form,
+    number: u32,
+    head: &[u8],
+    len: usize,
+    front: &[u8],
+) -> Option<Packet>
+    requires head { length head.now ≡ head_size }
+    requires front { length front.now ≡ min len front_size }
+    requires len { len ≤ most_captured }
+    ensures { result ≡ packet_of form number head.now len front.now }
 {
-    BigEndian::read_u16(&bytes[at..])
+    let parts = parts_of(form.link_type, len, front)?;
+    Some(packet_with(number, form.nanos(head), len, front, &parts))
 }
 
-fn quad(bytes: &[u8], at: usize) -> u32
-    requires { at + 4 ≤ length bytes.now }
-    ensures { result ≡ quad bytes.now at }
+/// The lengths of a steered record, None for one that is skipped.
+#[tactic(auto, unfolding(crate::specs::Steered::parts_of))]
+fn parts_of(link_type: LinkType, len: usize, front: &[u8]) -> Option<Parts>
+    requires { min len front_size ≤ length front.now }
+    ensures value { result ≡ parts_of link_type len front.now }
+    ensures parts { IfSome result (HasParts len front.now) }
 {
-    BigEndian::read_u32(&bytes[at..])
+    let start = start_of(link_type, len, front)?;
+    let header = header_length(len, front, start)?;
+    let transport = transport_length(len, front, front[start + 9], start + header)?;
+    let total = total_length(len, front, start);
+    if u16_at(front, start + 6) % 0x2000 == 0 && header + transport <= total {
+        Some(Parts {
+            start,
+            header,
+            transport,
+            total,
+        })
+    } else {
+        None
+    }
 }
 
 /// Where the IPv4 header starts.
-fn start_of(link: Link, len: usize, front: &[u8]) -> Option<usize>
-    requires { min len 202 ≤ length front.now }
-    ensures value { result ≡ start_of link len front.now }
+fn start_of(link_type: LinkType, len: usize, front: &[u8]) -> Option<usize>
+    requires { min len front_size ≤ length front.now }
+    ensures value { result ≡ start_of link_type len front.now }
     ensures bound { IfSome result (λ s. s ≤ 18) }
 {
-    match link {
-        Link::Raw => Some(0),
-        Link::Ethernet => {
-            if len >= 14 && pair(front, 12) == 0x0800 {
+    match link_type {
+        LinkType::Raw => Some(0),
+        LinkType::Ethernet => {
+            if len >= 14 && u16_at(front, 12) == 0x0800 {
                 Some(14)
-            } else if len >= 18 && pair(front, 12) == 0x8100 && pair(front, 16) == 0x0800 {
+            } else if len >= 18 && u16_at(front, 12) == 0x8100 && u16_at(front, 16) == 0x0800 {
                 Some(18)
             } else {
                 None
@@ -54,7 +83,7 @@ fn start_of(link: Link, len: usize, front: &[u8]) -> Option<usize>
 
 /// How long the IPv4 header at `start` is.
 fn header_length(len: usize, front: &[u8], start: usize) -> Option<usize>
-    requires front { min len 202 ≤ length front.now }
+    requires front { min len front_size ≤ length front.now }
     requires start { start ≤ 18 }
     ensures value { result ≡ header_length len front.now start }
     ensures bound { IfSome result (λ h. (20 ≤ h) × (h ≤ 60) × (start + h ≤ len)) }
@@ -73,7 +102,7 @@ fn header_length(len: usize, front: &[u8], start: usize) -> Option<usize>
 
 /// How long the TCP or UDP header at `at` is.
 fn transport_length(len: usize, front: &[u8], proto: u8, at: usize) -> Option<usize>
-    requires front { min len 202 ≤ length front.now }
+    requires front { min len front_size ≤ length front.now }
     requires at { at ≤ 78 }
     ensures value { result ≡ transport_length len front.now proto at }
     ensures bound { IfSome result (λ d. (d ≤ 60) × (at + 8 ≤ len) × (proto ≡ 6 → at + 20 ≤ len)) }
@@ -94,44 +123,46 @@ fn transport_length(len: usize, front: &[u8], proto: u8, at: usize) -> Option<us
 
 /// How long the datagram at `start` says it is, or else is.
 fn total_length(len: usize, front: &[u8], start: usize) -> usize
-    requires front { min len 202 ≤ length front.now }
+    requires front { min len front_size ≤ length front.now }
     requires start { start ≤ 18 }
     requires header { start + 20 ≤ len }
     ensures { result ≡ total_length len front.now start }
 {
-    match pair(front, start + 2) {
+    match u16_at(front, start + 2) {
         0 => len - start,
         total => usize::from(total),
     }
 }
 
-/// The lengths of a steered record, None for one that is skipped.
-#[tactic(auto, unfolding(crate::specs::Steered::parts_of))]
-fn parts_of(link: Link, len: usize, front: &[u8]) -> Option<Parts>
-    requires { min len 202 ≤ length front.now }
-    ensures value { result ≡ parts_of link len front.now }
-    ensures parts { IfSome result (HasParts len front.now) }
+/// The packet of a steered record.
+fn packet_with(number: u32, nanos: u64, len: usize, front: &[u8], parts: &Parts) -> Packet
+    requires front { length front.now ≡ min len front_size }
+    requires len { len ≤ most_captured }
+    requires parts { HasParts len front.now parts.now }
+    ensures { result ≡ packet_with number nanos len front.now parts.now }
 {
-    let start = start_of(link, len, front)?;
-    let header = header_length(len, front, start)?;
-    let transport = transport_length(len, front, front[start + 9], start + header)?;
-    let total = total_length(len, front, start);
-    if pair(front, start + 6) % 0x2000 == 0 && header + transport <= total {
-        Some(Parts {
-            start,
-            header,
-            transport,
-            total,
-        })
-    } else {
-        None
+    let at = parts.start + parts.header;
+    let proto = front[parts.start + 9];
+    let payload = payload_of(len, front, parts);
+    Packet {
+        number,
+        nanos,
+        proto,
+        src: u32_at(front, parts.start + 12),
+        sport: u16_at(front, at),
+        dst: u32_at(front, parts.start + 16),
+        dport: u16_at(front, at + 2),
+        flags: if proto == TCP { front[at + 13] } else { 0 },
+        length: (parts.total - parts.header - parts.transport) as u32,
+        held: payload.len() as u8,
+        head: padded(payload),
     }
 }
 
 /// The first bytes of the payload, of those that are captured.
 fn payload_of<'a>(len: usize, front: &'a [u8], parts: &Parts) -> &'a [u8]
-    requires front { length front.now ≡ min len 202 }
-    requires len { len ≤ 2 ^ 18 }
+    requires front { length front.now ≡ min len front_size }
+    requires len { len ≤ most_captured }
     requires parts { HasParts len front.now parts.now }
     ensures bytes { result.now ≡ payload_of len front.now parts.now }
     ensures held { length result.now ≡ held_of len parts.now }
@@ -156,46 +187,16 @@ fn padded(payload: &[u8]) -> [u8; 64]
     head
 }
 
-/// The packet of a steered record.
-fn packet_with(number: u32, nanos: u64, len: usize, front: &[u8], parts: &Parts) -> Packet
-    requires front { length front.now ≡ min len 202 }
-    requires len { len ≤ 2 ^ 18 }
-    requires parts { HasParts len front.now parts.now }
-    ensures { result ≡ packet_with number nanos len front.now parts.now }
+fn u16_at(bytes: &[u8], at: usize) -> u16
+    requires { at + 2 ≤ length bytes.now }
+    ensures { result ≡ u16_at bytes.now at }
 {
-    let at = parts.start + parts.header;
-    let proto = front[parts.start + 9];
-    let payload = payload_of(len, front, parts);
-    Packet {
-        number,
-        nanos,
-        proto,
-        src: quad(front, parts.start + 12),
-        sport: pair(front, at),
-        dst: quad(front, parts.start + 16),
-        dport: pair(front, at + 2),
-        flags: if proto == TCP { front[at + 13] } else { 0 },
-        length: (parts.total - parts.header - parts.transport) as u32,
-        held: payload.len() as u8,
-        head: padded(payload),
-    }
+    BigEndian::read_u16(&bytes[at..])
 }
 
-/// The packet of a record of `len` bytes, of which `front` has the first; None for one that is
-/// skipped.
-#[tactic(auto, unfolding(crate::specs::Steered::packet_of))]
-pub(crate) fn packet_of(
-    form: Form,
-    number: u32,
-    head: &[u8],
-    len: usize,
-    front: &[u8],
-) -> Option<Packet>
-    requires head { length head.now ≡ 16 }
-    requires front { length front.now ≡ min len 202 }
-    requires len { len ≤ 2 ^ 18 }
-    ensures { result ≡ packet_of form number head.now len front.now }
+fn u32_at(bytes: &[u8], at: usize) -> u32
+    requires { at + 4 ≤ length bytes.now }
+    ensures { result ≡ u32_at bytes.now at }
 {
-    let parts = parts_of(form.link, len, front)?;
-    Some(packet_with(number, form.nanos(head), len, front, &parts))
+    BigEndian::read_u32(&bytes[at..])
 }

@@ -2,12 +2,34 @@ ghost use Rattle.std.specs.Prelude.{◌≡◌, ◌≤◌, ◌<◌, min, Some, le
 ghost use Rattle.std.specs.Option.{ForSome};
 ghost use Rattle.std.specs.Io.KnownBytes.{IsAtEnd};
 ghost use Rattle.nf_io.specs.Meaning.{HasCause, StaysOpen};
-ghost use Rattle.trace_reader.specs.Takes.{Fills, Skips, TakesBody};
+ghost use Rattle.trace_reader.specs.Takes.{Fills, Skips, TakesBody, body};
 
 use nf_io::{Failed, Source};
 
 /// How many bytes are skipped at once.
 const PIECE: usize = 4_096;
+
+/// Takes `len` bytes, of which the first fill `front`. False where the source ends before.
+pub(crate) fn take_body<S: Source>(
+    source: &mut S,
+    front: &mut [u8],
+    len: usize,
+) -> Result<bool, Failed>
+    requires open { S.IsOpen source.old }
+    requires front { length front.old ≤ len }
+    ensures bytes { IfOk result (TakesBody (S.left source.old) (S.left source.new) (body front.new len)) }
+    ensures cause { HasCause (S.faults source.old) (S.faults source.new) result }
+    ensures stays { StaysOpen S.IsOpen S.loan S.rest source.old source.new }
+{
+    if fill(source, front)? < front.len() {
+        return Ok(false);
+    }
+    let rest = len - front.len();
+    if rest == 0 {
+        return Ok(true);
+    }
+    Ok(skip(source, rest)? == rest)
+}
 
 /// Fills a buffer, or as much of it as there are bytes left.
 pub(crate) fn fill<S: Source>(source: &mut S, buf: &mut [u8]) -> Result<usize, Failed>
@@ -47,26 +69,4 @@ fn skip<S: Source>(source: &mut S, count: usize) -> Result<usize, Failed>
         done += n;
     }
     Ok(done)
-}
-
-/// Takes `len` bytes, of which the first fill `front`. False where the source ends before.
-pub(crate) fn take_body<S: Source>(
-    source: &mut S,
-    front: &mut [u8],
-    len: usize,
-) -> Result<bool, Failed>
-    requires open { S.IsOpen source.old }
-    requires front { length front.old ≤ len }
-    ensures bytes { IfOk result (TakesBody (S.left source.old) (S.left source.new) front.new len) }
-    ensures cause { HasCause (S.faults source.old) (S.faults source.new) result }
-    ensures stays { StaysOpen S.IsOpen S.loan S.rest source.old source.new }
-{
-    if fill(source, front)? < front.len() {
-        return Ok(false);
-    }
-    let rest = len - front.len();
-    if rest == 0 {
-        return Ok(true);
-    }
-    Ok(skip(source, rest)? == rest)
 }

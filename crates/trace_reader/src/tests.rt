@@ -1,11 +1,12 @@
-ghost use Rattle.std.specs.Prelude.{IsTrue, IfOk};
+ghost use Rattle.std.specs.Prelude.{◌<◌, IsTrue, IfOk};
 ghost use Rattle.nf_io.specs.Roles.{is_read, needs_name};
 ghost use Rattle.nf_io.specs.Meaning.{CanRead};
 ghost use Rattle.nf_io.specs.Memory.{seen_in};
+ghost use Rattle.nf_io.specs.Calm.{calm_in};
 
 use crate::{Next, Trace, TraceFault, TraceReader, read_trace};
 use flow_filter::{NoMemory, Packet};
-use nf_io::{MemoryOutside, Outside, Role, RoleSource};
+use nf_io::{CalmOutside, MemoryOutside, Outside, Role, RoleSource};
 use std::alloc::Global;
 use std::test::Fail;
 
@@ -82,6 +83,27 @@ fn with_capture(
     outside.put(role, tail)?;
     outside.fail(role, failing)?;
     outside.piece(7);
+    Ok(outside)
+}
+
+/// A calm outside with a capture of two parts, of which so many bytes at most are at hand at once.
+fn with_calm_capture(
+    alloc: Global,
+    role: Role,
+    header: &[u8],
+    records: &[u8],
+    most: usize,
+) -> Result<CalmOutside, NoMemory>
+    requires read { IsTrue (is_read role) }
+    requires wanted { IsTrue (needs_name role) }
+    requires moves { 0 < most }
+    ensures { IfOk result (λ outside. CanRead role (calm_in outside role)) }
+{
+    let mut outside = CalmOutside::open(alloc);
+    outside.bind(role, "name")?;
+    outside.put(role, header)?;
+    outside.put(role, records)?;
+    outside.piece(most);
     Ok(outside)
 }
 
@@ -167,6 +189,26 @@ fn frames_are_steered_or_skipped_by_their_bytes(rt: HostRuntime) -> Result<(), F
         (trace.packets.items().len(), trace.skipped, trace.cut),
         (2, 2, false)
     );
+    Ok(())
+}
+
+#[test]
+fn records_at_hand_are_read_as_those_in_parts(rt: HostRuntime) -> Result<(), Fail> {
+    let parts = read(rt.alloc(), &ETHERNET, &FOUR, b"")?;
+    for most in [81, 82, 200, usize::MAX] {
+        let mut outside = with_calm_capture(rt.alloc(), Role::Trace, &ETHERNET, &FOUR, most)?;
+        let mut source = RoleSource {
+            outside: &mut outside,
+            role: Role::Trace,
+        };
+        let trace = read_trace(rt.alloc(), &mut source)?;
+        assert_eq!(rt;
+            trace.packets.items(),
+            parts.packets.items(),
+            "with {most} at hand"
+        );
+        assert_eq!(rt; (trace.skipped, trace.cut), (2, false));
+    }
     Ok(())
 }
 

@@ -2,7 +2,7 @@ ghost use Rattle.std.specs.Prelude.{◌≡◌, ◌≤◌};
 ghost use Rattle.std.specs.Option.{ForSome};
 ghost use Rattle.nf_io.specs.Meaning.{StaysOpen};
 ghost use Rattle.trace_reader.specs.Records.{capture_of};
-ghost use Rattle.trace_reader.specs.Gives.{HasReadCause, TraceGives, IntoGives};
+ghost use Rattle.trace_reader.specs.Answers.{HasReadCause, AnswersTrace, HandsPackets};
 
 use crate::fault::TraceFault;
 use crate::keeper::Keeper;
@@ -37,7 +37,7 @@ pub struct TraceEnd {
 /// Reads a capture to its end.
 pub fn read_trace<S: Source>(alloc: Global, source: &mut S) -> Result<Trace, TraceFault>
     requires { S.IsOpen source.old }
-    ensures trace { ForSome (S.left source.old) (λ bytes. TraceGives (capture_of bytes) (S.left source.new) result) }
+    ensures trace { ForSome (S.left source.old) (λ bytes. AnswersTrace (capture_of bytes) (S.left source.new) result) }
     ensures cause { HasReadCause (S.faults source.old) (S.faults source.new) result }
     ensures stays { StaysOpen S.IsOpen S.loan S.rest source.old source.new }
 {
@@ -57,7 +57,7 @@ pub fn read_into<S: Source, K: Keeper>(
 ) -> Result<TraceEnd, TraceFault>
     requires { S.IsOpen source.old }
     ensures trace { ForSome (S.left source.old) (λ bytes.
-        IntoGives K.HasKept (capture_of bytes) keeper.old keeper.new (S.left source.new) result) }
+        HandsPackets K.HasKept (capture_of bytes) keeper.old keeper.new (S.left source.new) result) }
     ensures cause { HasReadCause (S.faults source.old) (S.faults source.new) result }
     ensures stays { StaysOpen S.IsOpen S.loan S.rest source.old source.new }
 {

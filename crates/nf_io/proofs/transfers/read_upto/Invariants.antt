@@ -1,3 +1,4 @@
+-- What was found so far is what the source gave, and what may still be taken falls.
 use Rattle.std.proofs.Common.{◌≡◌, ◌+◌, ◌≤◌, length}
 use Rattle.std.specs.Io.KnownBytes.{Consumes}
 use Rattle.nf_io.specs.Meaning.{StaysOpen}

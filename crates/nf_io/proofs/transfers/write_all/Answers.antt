@@ -1,5 +1,6 @@
+-- One more piece makes the front that was appended longer.
 use Rattle.std.proofs.Common.{rules, arith}
-use Rattle.nf_io.proofs.Moved.{StaysOpen-trans, appended_more}
+use Rattle.nf_io.proofs.TransferLemmas.{StaysOpen-trans, appended_more}
 use Rattle.nf_io.proofs.transfers.write_all.Goals as goal
 
 pub loop-at-preserved : goal.loop-at-preserved

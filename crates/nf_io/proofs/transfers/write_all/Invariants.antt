@@ -1,3 +1,4 @@
+-- A front of the bytes was appended so far.
 use Rattle.std.proofs.Common.{length, ◌-◌, ◌≤◌, take}
 use Rattle.std.specs.Io.KnownBytes.{Appends}
 use Rattle.nf_io.specs.Meaning.{StaysOpen}

@@ -1,7 +1,7 @@
 -- What is known of the outside once the source over it is gone.
 use Rattle.std.proofs.Common.{rules, ◌≡◌, ◌+◌, Some, IfOk, take, drop, subst}
 use Rattle.nf_io.specs.declared.outside.Role.TheVariants.{Script as ScriptRole}
-use Rattle.nf_io.proofs.Borrowed.{left_written, left_name, left_others}
+use Rattle.nf_io.proofs.RolesAfterLoan.{left_written, left_name, left_others}
 use Rattle.opennf_calls.proofs.check.read_bytes.Goals as goal
 
 pub returns-clause-bytes : goal.returns-clause-bytes

@@ -1,6 +1,6 @@
 -- What is known of the outside once the source over it is gone.
 use Rattle.std.proofs.Common.{rules}
-use Rattle.nf_io.proofs.Borrowed.{left_written, left_name, left_others}
+use Rattle.nf_io.proofs.RolesAfterLoan.{left_written, left_name, left_others}
 use Rattle.opennf_calls.proofs.sim.read_capture.Goals as goal
 
 pub returns-clause-alone : goal.returns-clause-alone

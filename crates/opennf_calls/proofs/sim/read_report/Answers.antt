@@ -1,6 +1,6 @@
 -- The report's text is the one that the command has for the capture.
 use Rattle.std.proofs.Common.{◌≡◌, ℕ, List, [], Some, ap, refl, subst, sym}
-use Rattle.trace_reader.proofs.Numbered.{capture-numbered}
+use Rattle.trace_reader.proofs.PacketNumbers.{capture-numbered}
 use Rattle.nf_io.specs.declared.outside.Role.{Role}
 use Rattle.nf_io.specs.declared.outside.Role.TheVariants.{Trace}
 use Rattle.command_words.specs.Plan.{asks_sim}

@@ -1,3 +1,4 @@
+-- The first of 64 zeros are written over.
 use Rattle.std.proofs.Common.{◌≡◌, ◌-◌, ◌++◌, ℕ, List, ap, ◌∙◌, length, drop, replicate}
 use Rattle.std.proofs.lemmas.List.{drop-replicate}
 use Rattle.trace_reader.proofs.steer.padded.Goals as goal

@@ -1,6 +1,7 @@
+-- One more piece makes the filled front longer.
 use Rattle.std.proofs.Common.{rules, arith}
-use Rattle.nf_io.proofs.Moved.{StaysOpen-trans}
-use Rattle.trace_reader.proofs.Taken.{filled_more}
+use Rattle.nf_io.proofs.TransferLemmas.{StaysOpen-trans}
+use Rattle.trace_reader.proofs.SourceReads.{filled_more}
 use Rattle.trace_reader.proofs.takes.fill.Goals as goal
 
 pub loop-at-preserved : goal.loop-at-preserved

@@ -1,3 +1,4 @@
+-- The front of the buffer holds what the source gave so far.
 use Rattle.std.proofs.Common.{◌≤◌, ◌-◌, length, take}
 use Rattle.std.specs.Io.KnownBytes.{Consumes}
 use Rattle.nf_io.specs.Meaning.{StaysOpen}

@@ -1,6 +1,7 @@
+-- One more piece is skipped.
 use Rattle.std.proofs.Common.{rules, arith}
-use Rattle.nf_io.proofs.Moved.{StaysOpen-trans}
-use Rattle.trace_reader.proofs.Taken.{skipped_more}
+use Rattle.nf_io.proofs.TransferLemmas.{StaysOpen-trans}
+use Rattle.trace_reader.proofs.SourceReads.{skipped_more}
 use Rattle.trace_reader.proofs.takes.skip.Goals as goal
 
 pub loop-done-preserved : goal.loop-done-preserved

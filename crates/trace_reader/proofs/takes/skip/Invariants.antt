@@ -1,3 +1,4 @@
+-- As many bytes are gone as were skipped so far.
 use Rattle.std.proofs.Common.{◌≡◌, ◌≤◌, ◌-◌, length, drop, ℕ, List, Some}
 use Rattle.nf_io.specs.Meaning.{StaysOpen}
 use Rattle.trace_reader.proofs.takes.skip.Given as goal

@@ -1,5 +1,6 @@
+-- The front is filled and the rest skipped, or the source ends before.
 use Rattle.std.proofs.Common.{arith}
-use Rattle.trace_reader.proofs.Taken.{body_short, body_rest}
+use Rattle.trace_reader.proofs.SourceReads.{body_short, body_rest}
 use Rattle.trace_reader.proofs.takes.take_body.Goals as goal
 
 pub returns-then-branch-front-clause-bytes : goal.returns-then-branch-front-clause-bytes

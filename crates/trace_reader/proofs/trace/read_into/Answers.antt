@@ -1,9 +1,10 @@
 -- The keeper has the packets read so far.
 use Rattle.std.proofs.Common.{arith, rules, drop}
 use Rattle.std.proofs.lemmas.Result.{err_from_is_err_and}
-use Rattle.nf_io.proofs.Moved.{StaysOpen-trans}
-use Rattle.trace_reader.proofs.Whole.{open_fault}
-use Rattle.trace_reader.proofs.Handed.{handed_start, handed_packet, handed_skipped, handed_end, handed_cut, handed_fault, into_fault}
+use Rattle.nf_io.proofs.TransferLemmas.{StaysOpen-trans}
+use Rattle.trace_reader.specs.Answers.{reading_of}
+use Rattle.trace_reader.proofs.CaptureSoFar.{open_fault}
+use Rattle.trace_reader.proofs.KeeperSoFar.{handed_start, handed_packet, handed_skipped, handed_end, handed_cut, handed_fault, into_fault}
 use Rattle.trace_reader.proofs.trace.read_into.Goals as goal
 
 pub returns-in_err-reader-clause-trace : goal.returns-in_err-reader-clause-trace
@@ -16,7 +17,7 @@ records-init g c = record {
   running = c.in_ok-reader.ensures.start.2;
   few = search rules;
   told = (λ bytes told. let opens = c.in_ok-reader.ensures.form bytes told in
-      handed_start _ bytes _ _ _ _ _ opens.0 opens.1 c.in_ok-reader.ensures.start.0 c.in_ok-reader.ensures.start.1);
+      handed_start _ bytes _ _ opens.0 opens.1 c.in_ok-reader.ensures.start.0 c.in_ok-reader.ensures.start.1);
   later = omega (arith, c.in_ok-reader.ensures.cause.later);
   stays = c.in_ok-reader.ensures.stays;
 }
@@ -24,17 +25,17 @@ records-init g c = record {
 pub returns-in_err-packet-clause-trace : goal.returns-in_err-packet-clause-trace
 returns-in_err-packet-clause-trace g c = λ bytes told.
     let p = err_from_is_err_and c.from_residual-in_err-packet.result c.from_residual-in_err-packet.ensures.1 in
-    rw (p.1, p.2) (handed_fault _ _ _ _ c.next.new.self.place _ _ _ (g.S.Source.left c.next.new.source) _ _ _ (c.records.invariant.told bytes told)
-    (c.in_err-packet.ensures.gives c.records.invariant.running))
+    rw (p.1, p.2) (handed_fault _ _ _ (reading_of c.next.new.self (g.S.Source.left c.next.new.source)) _ _ _ (g.S.Source.left c.next.new.source) _
+    (c.records.invariant.told bytes told) (c.in_err-packet.ensures.answers c.records.invariant.running))
 
 pub records-preserved-in-Continue-branch-4 : goal.records-preserved-in-Continue-branch-4
 records-preserved-in-Continue-branch-4 g c =
-    let gives = rw c.in-Packet.is at (c.in_ok-packet.ensures.gives c.records.invariant.running) in
-    let moves = rw c.in-Packet.is at (c.in_ok-packet.ensures.moves c.records.invariant.running) in
+    let answers = rw c.in-Packet.is at (c.in_ok-packet.ensures.answers c.records.invariant.running) in
+    let moves = rw c.in-Packet.is at (c.in_ok-packet.ensures.advances c.records.invariant.running) in
     record {
       running = rw c.in-Packet.is at c.in_ok-packet.ensures.stop;
       few = omega (arith, moves.0);
-      told = (λ bytes told. handed_packet _ _ _ _ _ _ _ _ _ _ _ _ _ _ c.in-Packet.packet (c.records.invariant.told bytes told) gives
+      told = (λ bytes told. handed_packet _ _ _ (reading_of c.next.new.self (g.S.Source.left c.next.new.source)) _ _ _ _ c.in-Packet.packet (c.records.invariant.told bytes told) answers
           c.in_ok-packet.ensures.form moves.3 c.in_ok-keep-in-Packet.ensures);
       later = omega (arith, c.in_ok-packet.ensures.later);
       stays = StaysOpen-trans _ _ _ _ _ _ c.records.invariant.stays c.in_ok-packet.ensures.stays;
@@ -42,24 +43,24 @@ records-preserved-in-Continue-branch-4 g c =
 
 pub records-preserved : goal.records-preserved
 records-preserved g c =
-    let gives = rw c.in-Skipped.is at (c.in_ok-packet.ensures.gives c.records.invariant.running) in
-    let moves = rw c.in-Skipped.is at (c.in_ok-packet.ensures.moves c.records.invariant.running) in
+    let answers = rw c.in-Skipped.is at (c.in_ok-packet.ensures.answers c.records.invariant.running) in
+    let moves = rw c.in-Skipped.is at (c.in_ok-packet.ensures.advances c.records.invariant.running) in
     record {
       running = rw c.in-Skipped.is at c.in_ok-packet.ensures.stop;
       few = omega (arith, moves.0);
-      told = (λ bytes told. handed_skipped _ _ _ _ _ _ _ _ _ _ _ _ _ (c.records.invariant.told bytes told) gives c.in_ok-packet.ensures.form moves.2);
+      told = (λ bytes told. handed_skipped _ _ _ (reading_of c.next.new.self (g.S.Source.left c.next.new.source)) _ _ _ (c.records.invariant.told bytes told) answers c.in_ok-packet.ensures.form moves.2);
       later = omega (arith, c.in_ok-packet.ensures.later);
       stays = StaysOpen-trans _ _ _ _ _ _ c.records.invariant.stays c.in_ok-packet.ensures.stays;
     }
 
 pub returns-in-End-clause-trace : goal.returns-in-End-clause-trace
 returns-in-End-clause-trace g c = λ bytes told.
-    let gives = rw c.in-End.is at (c.in_ok-packet.ensures.gives c.records.invariant.running) in
-    let moves = rw c.in-End.is at (c.in_ok-packet.ensures.moves c.records.invariant.running) in
-    rw (c.packets.ensures, moves.1) (handed_end _ _ _ _ _ _ _ _ _ _ _ (c.records.invariant.told bytes told) gives)
+    let answers = rw c.in-End.is at (c.in_ok-packet.ensures.answers c.records.invariant.running) in
+    let moves = rw c.in-End.is at (c.in_ok-packet.ensures.advances c.records.invariant.running) in
+    rw (c.packets.ensures, moves.1) (handed_end _ _ _ (reading_of c.next.new.self (g.S.Source.left c.next.new.source)) _ _ _ (c.records.invariant.told bytes told) answers)
 
 pub returns-in-Cut-clause-trace : goal.returns-in-Cut-clause-trace
 returns-in-Cut-clause-trace g c = λ bytes told.
-    let gives = rw c.in-Cut.is at (c.in_ok-packet.ensures.gives c.records.invariant.running) in
-    let moves = rw c.in-Cut.is at (c.in_ok-packet.ensures.moves c.records.invariant.running) in
-    rw (c.packets-in-Cut.ensures, moves.1) (handed_cut _ _ _ _ _ _ _ _ _ _ _ (c.records.invariant.told bytes told) gives)
+    let answers = rw c.in-Cut.is at (c.in_ok-packet.ensures.answers c.records.invariant.running) in
+    let moves = rw c.in-Cut.is at (c.in_ok-packet.ensures.advances c.records.invariant.running) in
+    rw (c.packets-in-Cut.ensures, moves.1) (handed_cut _ _ _ (reading_of c.next.new.self (g.S.Source.left c.next.new.source)) _ _ _ (c.records.invariant.told bytes told) answers)

@@ -1,7 +1,9 @@
+-- What was read so far, and that the keeper has it. Each record makes the place grow.
 use Rattle.std.proofs.Common.{◌≡◌, ℕ, ◌-◌, ◌*◌, ◌^◌, ◌≤◌, List, None, Some}
 use Rattle.nf_io.specs.Meaning.{StaysOpen}
 use Rattle.trace_reader.specs.Records.{capture_of}
-use Rattle.trace_reader.proofs.Handed.{Handed}
+use Rattle.trace_reader.specs.Answers.{reading_of}
+use Rattle.trace_reader.proofs.KeeperSoFar.{Handed}
 use Rattle.trace_reader.proofs.trace.read_into.Given as goal
 
 abbrev pub invariant-records : goal.invariant-records
@@ -9,7 +11,7 @@ invariant-records g l = record {
   running : l.reader.stop ≡ None;
   few : 16 * l.skipped ≤ l.reader.place;
   told : (bytes : List ℕ) → g.S.Source.left l.fn.source ≡ Some bytes
-      → Handed g.K.Keeper.HasKept (capture_of bytes) l.reader.form l.reader.place l.reader.count l.skipped (g.S.Source.left l.source) l.fn.keeper l.keeper;
+      → Handed g.K.Keeper.HasKept (capture_of bytes) (reading_of l.reader (g.S.Source.left l.source)) l.skipped l.fn.keeper l.keeper;
   later : g.S.Source.faults l.fn.source ≤ g.S.Source.faults l.source;
   stays : StaysOpen g.S.Source.IsOpen g.S.Source.loan g.S.Source.rest l.fn.source l.source;
 }

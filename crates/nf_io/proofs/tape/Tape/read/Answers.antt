@@ -1,5 +1,6 @@
+-- A read gives the first of the bytes that are left.
 use Rattle.std.proofs.Common.{rules}
-use Rattle.nf_io.proofs.Moved.{front_moved}
+use Rattle.nf_io.proofs.TransferLemmas.{front_moved}
 use Rattle.nf_io.proofs.tape.Tape.read.Goals as goal
 
 pub returns-clause-bytes : goal.returns-clause-bytes

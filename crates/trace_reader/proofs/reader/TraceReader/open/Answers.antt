@@ -1,6 +1,7 @@
+-- The form is that of the first 24 bytes.
 use Rattle.std.proofs.Common.{sym, ◌∙◌, arith, drop}
 use Rattle.std.proofs.lemmas.Result.{err_from_is_err_and}
-use Rattle.trace_reader.proofs.Opened.{opened_is, opened_rest, opened_fault}
+use Rattle.trace_reader.proofs.ReaderOpening.{opened_is, opened_rest, opened_fault}
 use Rattle.trace_reader.proofs.reader.TraceReader.open.Goals as goal
 
 pub returns-in_err-form-clause-form : goal.returns-in_err-form-clause-form

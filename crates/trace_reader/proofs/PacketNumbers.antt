@@ -12,7 +12,7 @@ use Rattle.trace_reader.specs.declared.trace.Trace.{Trace}
 use Rattle.trace_reader.specs.Numbers.{captured_of}
 use Rattle.trace_reader.specs.declared.steer.Parts.{Parts}
 use Rattle.trace_reader.specs.Steered.{packet_with, packet_of}
-use Rattle.trace_reader.specs.Records.{steered_at, record_of, size_of, next_of, with_packet, with_skipped, from_next, records_of, trace_of, opened, capture_of, AreNumbered}
+use Rattle.trace_reader.specs.Records.{steered_answer, record_answer, record_size, next_of, with_packet, with_skipped, from_next, records_of, trace_of, opened, capture_of, AreNumbered}
 
 -- a choice that doesn't give the one gives the other
 not_first : {X : Type 0} (test : Bool) (a b x : X) → (if test then a else b) ≡ x → (a ≡ x → ⊥) → b ≡ x
@@ -24,12 +24,12 @@ not_second true a b x is never = is
 not_second false a b x is never = absurd (never is)
 
 -- the number in an answer
-abbrev number_in : Result Next TraceFault → ℕ
-number_in (Ok (next.Packet p)) = p.number
-number_in (Ok next.Skipped) = 0
-number_in (Ok next.End) = 0
-number_in (Ok next.Cut) = 0
-number_in (Err e) = 0
+abbrev answer_number : Result Next TraceFault → ℕ
+answer_number (Ok (next.Packet p)) = p.number
+answer_number (Ok next.Skipped) = 0
+answer_number (Ok next.End) = 0
+answer_number (Ok next.Cut) = 0
+answer_number (Err e) = 0
 
 numbered_packet : (k nanos len : ℕ) (f : List ℕ) (parts : Option Parts) (p : Packet) → option_map (packet_with k nanos len f) parts ≡ Some p → p.number ≡ k
 numbered_packet k nanos len f None p is = absurd (cc)
@@ -44,15 +44,15 @@ unfolding packet_of
 packet-number form k head len f p is = numbered_packet k _ len f _ p is
 
 steered-number : (place count : ℕ) (o : Option Packet) (p : Packet) → ((q : Packet) → o ≡ Some q → q.number ≡ count + 1)
-    → steered_at place count o ≡ Ok (next.Packet p) → p.number ≡ count + 1
+    → steered_answer place count o ≡ Ok (next.Packet p) → p.number ≡ count + 1
 steered-number place count None p known is = absurd (cc)
 steered-number place count (Some q) p known is =
     let same = not_second (nat_lt count 1000000) (Ok (next.Packet q)) (Err (fault.TooLong place)) (Ok (next.Packet p)) is (λ e. cc) in
-    sym (ap number_in same) ∙ known q refl
+    sym (ap answer_number same) ∙ known q refl
 
 record-number : (form : Form) (place count : ℕ) (head : List ℕ) (len : ℕ) (f : List ℕ) (p : Packet)
-    → record_of form place count head len f ≡ Ok (next.Packet p) → p.number ≡ count + 1
-unfolding record_of
+    → record_answer form place count head len f ≡ Ok (next.Packet p) → p.number ≡ count + 1
+unfolding record_answer
 record-number form place count head len f p is =
     steered-number place count (packet_of form (count + 1) head len f) p (packet-number form (count + 1) head len f)
     (not_first (nat_lt (2 ^ 32) (place + 16 + len)) (Err (fault.TooLong place)) _ (Ok (next.Packet p)) is (λ e. cc))
@@ -97,8 +97,8 @@ records-numbered : (most : ℕ) (form : Form) (place count : ℕ) (bytes : List 
 unfolding records_of
 records-numbered zero form place count bytes t is = subst (λ (ps : List Packet). AreNumbered (count + 1) ps) (ap packets_of is) tt
 records-numbered (suc most) form place count bytes t is =
-    from_next-numbered (λ count'. records_of most form (place + size_of form bytes) count' (drop (size_of form bytes) bytes)) count (next_of form place count bytes) t
-    (λ c t' e. records-numbered most form (place + size_of form bytes) c (drop (size_of form bytes) bytes) t' e)
+    from_next-numbered (λ count'. records_of most form (place + record_size form bytes) count' (drop (record_size form bytes) bytes)) count (next_of form place count bytes) t
+    (λ c t' e. records-numbered most form (place + record_size form bytes) c (drop (record_size form bytes) bytes) t' e)
     (next-number form place count bytes) is
 
 trace-numbered : (bytes : List ℕ) (form : Result Form TraceFault) (t : Trace) → trace_of bytes form ≡ Ok t → AreNumbered 1 t.packets

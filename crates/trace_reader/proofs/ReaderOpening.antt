@@ -6,7 +6,7 @@ use Rattle.trace_reader.specs.declared.fault.TraceFault.TheVariants as fault
 use Rattle.trace_reader.specs.Header.{form_of}
 use Rattle.trace_reader.specs.Takes.{Fills}
 use Rattle.trace_reader.specs.Records.{opened}
-use Rattle.trace_reader.specs.Gives.{OpenGives}
+use Rattle.trace_reader.specs.Answers.{AnswersOpen}
 
 -- the header that was read is the first 24 bytes
 pub opened_is : (a b : Option (List ℕ)) (header bytes : List ℕ) (n : ℕ) → Fills a b header n → a ≡ Some bytes → length header ≡ 24
@@ -17,7 +17,7 @@ opened_is a b header bytes n fills told long =
     ap form_of same
 
 -- a fault that is due is answered
-pub opened_fault : (bytes rest : List ℕ) (left : Option (List ℕ)) (e : TraceFault) → opened bytes ≡ Err e → OpenGives (opened bytes) rest left (Err e)
+pub opened_fault : (bytes rest : List ℕ) (left : Option (List ℕ)) (e : TraceFault) → opened bytes ≡ Err e → AnswersOpen (opened bytes) rest left (Err e)
 opened_fault bytes rest left fault.Magic due = due
 opened_fault bytes rest left fault.PcapNg due = due
 opened_fault bytes rest left fault.Version due = due

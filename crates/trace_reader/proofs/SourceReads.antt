@@ -7,7 +7,7 @@ use Rattle.std.proofs.KnownBytes.{Consumes-trans}
 use Rattle.std.proofs.lemmas.Bool.{le-leb, lt-leb}
 use Rattle.std.proofs.lemmas.Bool.Decides.{eqb_tells}
 use borrow.Rule.Slice.PartMut.{put_mid, post_of}
-use Rattle.trace_reader.specs.Takes.{Fills, Skips, BodyGives, TakesBody}
+use Rattle.trace_reader.specs.Takes.{Fills, Skips, body, BodyTaken, TakesBody}
 
 -- what was read behind the filled front makes the front longer
 pub filled_more : (a b c : Option (List ℕ)) (xs ys : List ℕ) (at k n : ℕ) → at ≤ length xs → n ≤ length ys → Consumes a b (take at xs)
@@ -37,7 +37,7 @@ skipped_more b (Some ys) bytes piece done n within e fits p =
 
 -- the source ended in the front
 pub body_short : (a b : Option (List ℕ)) (front : List ℕ) (len n : ℕ) → Fills a b front n → n < length front → length front ≤ len
-    → TakesBody a b front len false
+    → TakesBody a b (body front len) false
 body_short a b front len n fills short fits bytes told =
     let f = fills bytes told in
     let all : n ≡ length bytes = omega (arith, f.0) in
@@ -45,7 +45,7 @@ body_short a b front len n fills short fits bytes told =
 
 -- the front was filled, and then the rest was skipped as far as it is there
 pub body_rest : (a b c : Option (List ℕ)) (front : List ℕ) (len n m : ℕ) → Fills a b front n → length front ≤ n → length front ≤ len
-    → Skips b c (len - length front) m → TakesBody a c front len (m == (len - length front))
+    → Skips b c (len - length front) m → TakesBody a c (body front len) (m == (len - length front))
 body_rest a b c front len n m fills full fits skips bytes told =
     let f = fills bytes told in
     let s = skips (drop n bytes) f.2 in
@@ -53,7 +53,7 @@ body_rest a b c front len n m fills full fits skips bytes told =
     let rest : length (drop n bytes) ≡ length bytes - n = length-drop n bytes in
     let held : front ≡ take (length front) bytes = sym (take-length front) ∙ ap (λ k. take k front) (sym same) ∙ f.1 ∙ ap (λ k. take k bytes) same in
     let left : c ≡ Some (drop (n + m) bytes) = s.1 ∙ ap Some (drop-drop m n bytes) in
-    let Goal : Bool → Type 0 = λ b. (b ≡ nat_le len (length bytes)) × BodyGives bytes c front len b in
+    let Goal : Bool → Type 0 = λ b. (b ≡ nat_le len (length bytes)) × BodyTaken bytes c (body front len) b in
     elim (eqb_tells m (len - length front)) as (λ _. Goal (m == (len - length front))) [
       | inl e ↦ (let all : n + m ≡ len = omega (arith, e.1) in
           subst Goal (sym e.0) (sym (le-leb len (length bytes) (omega (arith, f.0, s.0))), (held, left ∙ ap (λ k. Some (drop k bytes)) all)))

@@ -1,0 +1,13 @@
+use std::alloc::AllocError;
+use std::env;
+use std::env::Env;
+use std::io::ErrorKind;
+
+/// The arguments, with the program's name first. Where one isn't text there are none, which are bad words.
+pub fn arguments<R: Env + AllocGlobal>(rt: &R) -> Result<Vec<String>, AllocError> {
+    match env::args(rt) {
+        Ok(arguments) => arguments.collect(rt.alloc()),
+        Err(e) if e.kind() == ErrorKind::OutOfMemory => Err(AllocError),
+        Err(_) => Ok(Vec::new(rt.alloc())),
+    }
+}

@@ -1,0 +1,87 @@
+-- What was read so far, where a keeper has the packets.
+use Rattle.std.proofs.Common.{◌≡◌, ℕ, ◌+◌, true, false, List, [], ◌∷◌, ◌++◌, length, drop, Option, Some, Ok, Err, Result, refl, ap, sym, ◌∙◌, subst, append-nil, append_assoc}
+use Rattle.std.proofs.lemmas.List.{length-append}
+use Rattle.flow_filter.specs.declared.packet.Packet.{Packet}
+use Rattle.trace_reader.specs.declared.fault.TraceFault.{TraceFault}
+use Rattle.trace_reader.specs.declared.fault.TraceFault.TheVariants as fault
+use Rattle.trace_reader.specs.declared.record.Next.TheVariants as next
+use Rattle.trace_reader.specs.declared.trace.Trace.{Trace}
+use Rattle.trace_reader.specs.Records.{opened, capture_of}
+use Rattle.trace_reader.specs.Answers.{Reading, AnswersNext, AnswersTrace, HandsPackets}
+use Rattle.trace_reader.proofs.CaptureSoFar.{Progress, progress_start, progress_packet, progress_skipped, progress_end, progress_cut, progress_fault}
+
+module _ {K S : Type 0} (HasKept : K → S → List Packet → Type 0) where
+  -- some packets were read, and the keeper has them behind those before
+  pub record Handed (whole : Result Trace TraceFault) (now : Reading) (skipped : ℕ) (old new : K) : Type 0 where
+    pub packets : List Packet
+    pub so_far : Progress whole now packets skipped
+    pub counted : length packets ≡ now.count
+    pub kept : (setup : S) (before : List Packet) → HasKept old setup before → HasKept new setup (before ++ packets)
+
+  -- behind the header the keeper has none
+  pub handed_start : (bytes : List ℕ) (now : Reading) (keeper : K) → opened bytes ≡ Ok now.form
+      → now.left ≡ Some (drop 24 bytes) → now.place ≡ 24 → now.count ≡ 0 → Handed (capture_of bytes) now 0 keeper keeper
+  handed_start bytes now keeper due is at none = record {
+    packets = [];
+    so_far = progress_start bytes now [] due is at none refl;
+    counted = sym none;
+    kept = λ setup before has. subst (λ (ps : List Packet). HasKept keeper setup ps) (sym (append-nil before)) has;
+  }
+
+  -- the keeper takes one more
+  pub handed_packet : (whole : Result Trace TraceFault) (before after : Reading) (skipped : ℕ) (old mid new : K) (packet : Packet)
+      → Handed whole before skipped old mid → AnswersNext before after (Ok (next.Packet packet))
+      → after.form ≡ before.form → after.count ≡ before.count + 1
+      → ((setup : S) (first : List Packet) → HasKept mid setup first → HasKept new setup (first ++ packet ∷ []))
+      → Handed whole after skipped old new
+  handed_packet whole before after skipped old mid new packet h answers same_form one_more keeps = record {
+    packets = h.packets ++ packet ∷ [];
+    so_far = progress_packet whole before after h.packets (h.packets ++ packet ∷ []) skipped packet h.so_far answers same_form one_more refl;
+    counted = length-append h.packets (packet ∷ []) ∙ ap (λ n. n + 1) h.counted ∙ sym one_more;
+    kept = λ setup first has. subst (λ (ps : List Packet). HasKept new setup ps) (append_assoc first h.packets (packet ∷ []))
+        (keeps setup (first ++ h.packets) (h.kept setup first has));
+  }
+
+  -- a record of another kind is counted
+  pub handed_skipped : (whole : Result Trace TraceFault) (before after : Reading) (skipped : ℕ) (old new : K)
+      → Handed whole before skipped old new → AnswersNext before after (Ok next.Skipped)
+      → after.form ≡ before.form → after.count ≡ before.count → Handed whole after (skipped + 1) old new
+  handed_skipped whole before after skipped old new h answers same_form as_many = record {
+    packets = h.packets;
+    so_far = progress_skipped whole before after h.packets skipped h.so_far answers same_form as_many;
+    counted = h.counted ∙ sym as_many;
+    kept = h.kept;
+  }
+
+  -- at its end the keeper has them all
+  pub handed_end : (whole : Result Trace TraceFault) (before after : Reading) (skipped : ℕ) (old new : K)
+      → Handed whole before skipped old new → AnswersNext before after (Ok next.End)
+      → HandsPackets HasKept whole old new after.left (Ok (record { packets = before.count; skipped = skipped; cut = false }))
+  handed_end whole before after skipped old new h answers =
+      let ends = progress_end whole before after h.packets skipped h.so_far answers in
+      (h.packets, ends.0, h.counted, ends.1, h.kept)
+
+  pub handed_cut : (whole : Result Trace TraceFault) (before after : Reading) (skipped : ℕ) (old new : K)
+      → Handed whole before skipped old new → AnswersNext before after (Ok next.Cut)
+      → HandsPackets HasKept whole old new after.left (Ok (record { packets = before.count; skipped = skipped; cut = true }))
+  handed_cut whole before after skipped old new h answers =
+      let ends = progress_cut whole before after h.packets skipped h.so_far answers in
+      (h.packets, ends.0, h.counted, ends.1, h.kept)
+
+  -- a fault is answered in the same way
+  pub into_fault : (whole : Result Trace TraceFault) (old new : K) (left : Option (List ℕ)) (e : TraceFault)
+      → AnswersTrace whole left (Err e) → HandsPackets HasKept whole old new left (Err e)
+  into_fault whole old new left fault.Magic due = due
+  into_fault whole old new left fault.PcapNg due = due
+  into_fault whole old new left fault.Version due = due
+  into_fault whole old new left (fault.LinkType n) due = due
+  into_fault whole old new left (fault.RecordLength offset n) due = due
+  into_fault whole old new left (fault.TooLong offset) due = due
+  into_fault whole old new left (fault.Header n) due = due
+  into_fault whole old new left fault.Read due = tt
+  into_fault whole old new left fault.NoMemory due = tt
+
+  pub handed_fault : (whole : Result Trace TraceFault) (before after : Reading) (skipped : ℕ) (old new : K) (left : Option (List ℕ)) (e : TraceFault)
+      → Handed whole before skipped old new → AnswersNext before after (Err e) → HandsPackets HasKept whole old new left (Err e)
+  handed_fault whole before after skipped old new left e h answers =
+      into_fault whole old new left e (progress_fault whole before after h.packets skipped left e h.so_far answers)
