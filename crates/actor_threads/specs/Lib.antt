@@ -1,6 +1,7 @@
 pub mod Ways
-pub mod Inside
-pub mod Noted
+pub mod WayFields
+pub mod NoteCounts
 pub mod Work
-pub mod Table
+pub mod LinkTable
 pub mod Round
+pub mod Groups

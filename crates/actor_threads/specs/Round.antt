@@ -7,13 +7,13 @@ use Rattle.actor_net.specs.Network.{Network, waiting}
 use Rattle.actor_net.specs.Histories.{dealt}
 use Rattle.actor_net.specs.Merging.{IsMerge}
 use Rattle.fifo_link.specs.Ends.{End}
-use Rattle.actor_threads.specs.Ways.{Incoming, Outgoing, begun}
-use Rattle.actor_threads.specs.Work.{Shown, in_at, out_at, opened, waits}
-use Rattle.actor_threads.specs.Table.{row_at, Closed}
+use Rattle.actor_threads.specs.Ways.{Incoming, Outgoing, with_stamp_0}
+use Rattle.actor_threads.specs.Work.{WorkerView, in_at, out_at, opened, waits}
+use Rattle.actor_threads.specs.LinkTable.{row_at, Closed}
 
 module _ {A M N : Type 0} where
   -- the worker of node j at the start of a round: no step, on each way in what waits in the world, and nothing sent; the link from s to r has the name `names s r`
-  pub record StartsAs (w : Network A M N) (names : ℕ → ℕ → TableId) (j : ℕ) (worker : Shown A M N) : Type 0 where
+  pub record StartsAs (w : Network A M N) (names : ℕ → ℕ → TableId) (j : ℕ) (worker : WorkerView A M N) : Type 0 where
     pub number : worker.number ≡ j
     pub node : (d : A) → worker.node ≡ slice_index_or w.nodes j d
     pub clock : worker.clock ≡ 0
@@ -21,17 +21,17 @@ module _ {A M N : Type 0} where
     pub notes : worker.notes ≡ []
     pub count_ins : length worker.ins ≡ length w.nodes
     pub count_outs : length worker.outs ≡ length w.nodes
-    pub ins : (p : ℕ) → p < length w.nodes → in_at worker.ins p ≡ record { link = names p j; done = []; kept = begun (waiting w (record { node = j; port = p })) }
+    pub ins : (p : ℕ) → p < length w.nodes → in_at worker.ins p ≡ record { link = names p j; done = []; kept = with_stamp_0 (waiting w (record { node = j; port = p })) }
     pub outs : (r : ℕ) → r < length w.nodes → out_at worker.outs r ≡ record { link = names j r; all = [] }
 
   -- the workers of all nodes at the start of a round
-  pub record AllStart (w : Network A M N) (workers : List (Shown A M N)) : Type 0 where
+  pub record AllStart (w : Network A M N) (workers : List (WorkerView A M N)) : Type 0 where
     pub names : ℕ → ℕ → TableId
     pub count : length workers ≡ length w.nodes
-    pub each : (j : ℕ) (d : Shown A M N) → j < length w.nodes → StartsAs w names j (slice_index_or workers j d)
+    pub each : (j : ℕ) (d : WorkerView A M N) → j < length w.nodes → StartsAs w names j (slice_index_or workers j d)
 
 -- the worker that is opened with these ends, with what stands on the links to its node, of n
-pub record SeatedWith {A M N : Type 0} (n : ℕ) (links : List (List M)) (number : ℕ) (node : A) (input : List M) (takes sends : List (End M)) (worker : Shown A M N) : Type 0 where
+pub record OpenedWith {A M N : Type 0} (n : ℕ) (links : List (List M)) (number : ℕ) (node : A) (input : List M) (takes sends : List (End M)) (worker : WorkerView A M N) : Type 0 where
   pub kept : List (List M)
   pub count : length kept ≡ n
   pub lists : (p : ℕ) → p < n → row_at kept p ≡ row_at links (p * n + number)

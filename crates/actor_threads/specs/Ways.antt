@@ -19,8 +19,8 @@ last_clock = 2 ^ 64 - 1
 
 module _ {M : Type 0} where
   -- messages from before a round have stamp 0
-  abbrev pub begun : List M → List (Stamped M)
-  begun messages = map (λ m. record { clock = 0; message = m }) messages
+  abbrev pub with_stamp_0 : List M → List (Stamped M)
+  with_stamp_0 messages = map (λ m. record { clock = 0; message = m }) messages
 
   -- nothing is kept that a step could take: the first that is kept has the last clock
   abbrev pub IsBlocked : Incoming M → Type 0

@@ -6,10 +6,10 @@ use Rattle.actor_net.specs.declared.stamped.Stamped.{Stamped}
 use Rattle.actor_net.specs.Network.{Stepped, reaches}
 use Rattle.actor_net.specs.Histories.{NodeStep, noted, node_after, notes_of, taken_at, sent_for, stamped, put_between, PortsBelow, WasReady}
 use Rattle.fifo_link.specs.Ends.{End}
-use Rattle.actor_threads.specs.Ways.{Incoming, Outgoing, Draws, Sends, begun, last_clock}
+use Rattle.actor_threads.specs.Ways.{Incoming, Outgoing, Draws, Sends, with_stamp_0, last_clock}
 
 -- a worker: its node's number, the node, its clock, its steps, each a clock and a port, what each of them noted, and its ways
-pub record Shown (A M N : Type 0) : Type 0 where
+pub record WorkerView (A M N : Type 0) : Type 0 where
   pub number : ℕ
   pub node : A
   pub clock : ℕ
@@ -45,7 +45,7 @@ module _ {M : Type 0} where
 
   -- the ways in, with what is kept from before the round
   abbrev pub all_in : List (End M) → List (List M) → List (Incoming M)
-  all_in (take ∷ takes) (messages ∷ kept) = record { link = take.link; done = take.done; kept = begun messages } ∷ all_in takes kept
+  all_in (take ∷ takes) (messages ∷ kept) = record { link = take.link; done = take.done; kept = with_stamp_0 messages } ∷ all_in takes kept
   all_in (take ∷ takes) [] = []
   all_in [] kept = []
 
@@ -83,17 +83,17 @@ module _ {M : Type 0} where
 
 module _ {A M N : Type 0} where
   -- a worker without steps
-  abbrev pub opened : ℕ → A → List (List M) → List (End M) → List (End M) → Shown A M N
+  abbrev pub opened : ℕ → A → List (List M) → List (End M) → List (End M) → WorkerView A M N
   opened number node kept takes sends = record { number = number; node = node; clock = 0; steps = []; notes = []; ins = all_in takes kept; outs = map all_out sends }
 
   -- nothing was done: what was taken is kept
-  pub record Idled (old new : Shown A M N) : Type 0 where
+  pub record Idled (old new : WorkerView A M N) : Type 0 where
     pub rest : new ≡ record old { ins = new.ins }
     pub count : length new.ins ≡ length old.ins
     pub taken : (p : ℕ) → p < length old.ins → DrawsAt (is_input_of old.number p) (in_at old.ins p) (in_at new.ins p) []
 
   -- a message was found at a port
-  pub record Found (ready : A → M → Bool) (old new : Shown A M N) (port : ℕ) (x : Stamped M) : Type 0 where
+  pub record Found (ready : A → M → Bool) (old new : WorkerView A M N) (port : ℕ) (x : Stamped M) : Type 0 where
     pub rest : new ≡ record old { ins = new.ins }
     pub count : length new.ins ≡ length old.ins
     pub within : port < length old.ins
@@ -102,7 +102,7 @@ module _ {A M N : Type 0} where
     pub was_ready : old.number ≡ 0 → port ≡ 0 → ready old.node x.message ≡ true
 
   -- a step was done with a message from a port
-  pub record Acted (step : A → ℕ → M → Stepped A M N) (old new : Shown A M N) (port : ℕ) (x : Stamped M) : Type 0 where
+  pub record Acted (step : A → ℕ → M → Stepped A M N) (old new : WorkerView A M N) (port : ℕ) (x : Stamped M) : Type 0 where
     pub rest : new ≡ record {
       number = old.number;
       node = (step old.node port x.message).node;
@@ -115,17 +115,25 @@ module _ {A M N : Type 0} where
     pub count : length new.outs ≡ length old.outs
     pub sent : (r : ℕ) → r < length old.outs → Sends (out_at old.outs r) (out_at new.outs r) (put_for (length old.outs) old.number r (tick old.clock x) (step old.node port x.message).sends)
 
+  -- a message was found, and a step was done with it
+  pub record DoesStep (ready : A → M → Bool) (step : A → ℕ → M → Stepped A M N) (old new : WorkerView A M N) : Type 0 where
+    pub found : WorkerView A M N
+    pub port : ℕ
+    pub took : Stamped M
+    pub looks : Found ready old found port took
+    pub acts : Acted step found new port took
+
   -- no step can be done with what is kept at a port: no clock is left for it, or the node isn't ready for it
-  abbrev pub IsQuietAt : (A → M → Bool) → Shown A M N → ℕ → Type 0
+  abbrev pub IsQuietAt : (A → M → Bool) → WorkerView A M N → ℕ → Type 0
   IsQuietAt ready w p = (x : Stamped M) (rest : List (Stamped M)) → (in_at w.ins p).kept ≡ x ∷ rest
       → (last_clock ≤ w.clock) ⊎ ((last_clock ≤ x.clock) ⊎ ((is_input_of w.number p ≡ true) × (ready w.node x.message ≡ false)))
 
   -- no step can be done with what is kept
-  abbrev pub IsQuiet : (A → M → Bool) → Shown A M N → Type 0
+  abbrev pub IsQuiet : (A → M → Bool) → WorkerView A M N → Type 0
   IsQuiet ready w = (p : ℕ) → p < length w.ins → IsQuietAt ready w p
 
   -- a worker did these steps: its node is their result, on each port they took a prefix of what was kept and then taken, and what they sent, with their clocks as stamps, stands behind what was sent before
-  pub record Worked (ready : A → M → Bool) (step : A → ℕ → M → Stepped A M N) (old new : Shown A M N) : Type 0 where
+  pub record Worked (ready : A → M → Bool) (step : A → ℕ → M → Stepped A M N) (old new : WorkerView A M N) : Type 0 where
     pub events : List (NodeStep M)
     pub number : new.number ≡ old.number
     pub node : new.node ≡ node_after step old.node events
@@ -141,6 +149,6 @@ module _ {A M N : Type 0} where
     pub clock : new.clock ≡ clock_after old.clock events
 
   -- a worker's round: it did steps, and at least one where one could be done with what is kept
-  pub record Ran (ready : A → M → Bool) (step : A → ℕ → M → Stepped A M N) (old new : Shown A M N) : Type 0 where
+  pub record Ran (ready : A → M → Bool) (step : A → ℕ → M → Stepped A M N) (old new : WorkerView A M N) : Type 0 where
     pub worked : Worked ready step old new
     pub moves : length new.steps ≡ length old.steps → IsQuiet ready old

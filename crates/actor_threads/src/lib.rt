@@ -11,6 +11,7 @@
 #![tactic(auto)]
 
 pub mod gate;
+mod groups;
 mod links;
 mod notes;
 pub mod round;

@@ -1,12 +1,12 @@
 //! A link for each ordered pair of nodes, opened before a round and closed after it.
 ghost use Rattle.std.specs.Prelude.{◌≡◌, ◌<◌, ◌++◌, ℕ, length, map, IfOk, OnOk};
 ghost use Rattle.actor_net.specs.Histories.{messages};
-ghost use Rattle.actor_threads.specs.Table.{row_at, RowOpened, AllOpened, Closed, RowClosed, CanClose};
+ghost use Rattle.actor_threads.specs.LinkTable.{row_at, RowOpened, AllOpened, Closed, RowClosed, CanClose};
 
 use crate::ways::{WayIn, WayOut};
 use actor_net::Stamped;
-use fifo_link::{Link, SendEnd, TakeEnd, close};
 use basics::{NoMemory, Sequence};
+use fifo_link::{Link, SendEnd, TakeEnd, close};
 use std::alloc::Global;
 use std::collections::VecDeque;
 use std::sync::Wait;

@@ -28,7 +28,7 @@ impl Model for Counts {
 
     ghost Value = { List ℕ };
 
-    ghost use Rattle.actor_threads.specs.Noted.{counts_of};
+    ghost use Rattle.actor_threads.specs.NoteCounts.{counts_of};
 
     ghost view = { λ s. counts_of s.runs.items s.silent };
 }
@@ -79,7 +79,7 @@ impl Model for CountQueue {
 
     ghost Value = { List ℕ };
 
-    ghost use Rattle.actor_threads.specs.Noted.{counts_of};
+    ghost use Rattle.actor_threads.specs.NoteCounts.{counts_of};
 
     ghost view = { λ s. counts_of s.runs.items s.silent };
 }
@@ -116,7 +116,7 @@ impl<N> Model for Notes<N> {
 
     ghost Value = { List (List N) };
 
-    ghost use Rattle.actor_threads.specs.Noted.{cut};
+    ghost use Rattle.actor_threads.specs.NoteCounts.{cut};
 
     ghost view = { λ s. cut s.counts s.all.items };
 
@@ -175,7 +175,7 @@ impl<N> Model for NoteQueue<N> {
 
     ghost Value = { List (List N) };
 
-    ghost use Rattle.actor_threads.specs.Noted.{cut};
+    ghost use Rattle.actor_threads.specs.NoteCounts.{cut};
 
     ghost view = { λ s. cut s.counts s.all.items };
 

@@ -1,65 +1,35 @@
 //! A round: all workers run beside each other, and then the world is made anew.
-ghost use Rattle.std.specs.Prelude.{◌≡◌, ◌≢◌, ◌↔◌, false, ◌<◌, ◌+◌, ◌*◌, ◌++◌, ℕ, List, true, IsTrue, [], ◌∷◌, length, map, slice_index_or, IfOk, OnOk, All};
+ghost use Rattle.std.specs.Prelude.{◌≡◌, ◌≢◌, ◌↔◌, false, ◌<◌, ◌+◌, ◌*◌, ◌++◌, ℕ, List, true, [], ◌∷◌, length, map, IfOk, OnOk, All};
 ghost use Rattle.std.specs.List.{list_all};
 ghost use Rattle.actor_net.specs.Network.{IsWorld, IsRun, run, is_enabled, is_done};
 ghost use Rattle.actor_net.specs.Histories.{dealt};
 ghost use Rattle.actor_net.specs.declared.choice.Choice.{Choice};
-ghost use Rattle.actor_threads.specs.Work.{Ran};
-ghost use Rattle.actor_threads.specs.Table.{row_at};
-ghost use Rattle.actor_threads.specs.Round.{AllStart, CanCloseAll, AllClosed, Gathered, SeatedWith};
+ghost use Rattle.actor_threads.specs.Groups.{IsInRound, has_run};
+ghost use Rattle.actor_threads.specs.LinkTable.{row_at};
+ghost use Rattle.actor_threads.specs.Round.{AllStart, CanCloseAll, AllClosed, Gathered, OpenedWith};
 
 use crate::gate::Gate;
+use crate::groups::{Member, run_all};
 use crate::links::{Ends, close_row, open_all};
 use crate::notes::NoteQueue;
 use crate::ways::{WayIn, WayOut};
 use crate::worker::Worker;
 use actor_net::{Actor, Choice, Choices, History, Parts, World, merge};
-use fifo_link::{SendEnd, TakeEnd};
 use basics::{NoMemory, Sequence};
+use fifo_link::{SendEnd, TakeEnd};
 use std::alloc::{AllocError, Global};
 use std::collections::VecDeque;
+use std::mem;
 use std::sync::Wait;
 use std::thread::Threads;
-use std::{mem, thread};
-
-// A worker, and whether its round came to its end.
-#[derive(Drop)]
-pub(crate) struct Seat<A: Actor> {
-    pub(crate) worker: Worker<A>,
-    done: bool,
-}
-
-impl<A: Actor> Seat<A> {
-    pub(crate) fn run<R: Wait, G: Gate>(&mut self, rt: &R, gate: &G)
-        ensures { IsTrue self.new.done → Ran A.is_ready A.stepped self.old.worker self.new.worker }
-    {
-        self.done = self.worker.work(rt, gate).is_ok();
-    }
-}
-
-// All workers run, each in a thread of its own where threads can be made.
-fn run_all<R: Threads + Wait + Sync, A: Actor + Send, G: Gate>(
-    rt: &R,
-    seats: &mut [Seat<A>],
-    gate: &G,
-)
-where
-    A::Message: Send,
-    A::Note: Send,
-    ensures { (i : ℕ) (d : _) → i < length seats.old → IsTrue (slice_index_or seats.new i d).done → Ran A.is_ready A.stepped (slice_index_or seats.old i d).worker (slice_index_or seats.new i d).worker }
-{
-    let run = |_at: usize, seat: &mut Seat<A>|
-        ensures { IsTrue seat.exit.now.done → Ran A.is_ready A.stepped seat.entry.now.worker seat.exit.now.worker }
-    { seat.run(rt, gate) };
-    thread::for_each_mut(rt, seats, 255, &run);
-}
 
 // The workers of all nodes, none of which has done a step.
-pub(crate) fn seat_all<A: Actor>(
+pub(crate) fn members_of<A: Actor>(
     alloc: Global,
     world: World<A>,
-) -> Result<(Vec<Seat<A>>, Vec<A::Note>), NoMemory>
-    ensures seats { IfOk result (λ s. AllStart world (map (λ x. x.worker) s.0.items)) }
+) -> Result<(Vec<Member<A>>, Vec<A::Note>), NoMemory>
+    ensures members { IfOk result (λ s. AllStart world (map (λ x. x.worker) s.0.items)) }
+    ensures begin { IfOk result (λ s. All (λ m. IsInRound A.is_ready A.stepped m.worker m) s.0.items) }
     ensures log { IfOk result (λ s. s.1.items ≡ world.log) }
     ensures world { IsWorld world }
 {
@@ -76,7 +46,7 @@ pub(crate) fn seat_all<A: Actor>(
     let Ends { sends, takes } = open_all(alloc, count)?;
     let mut sends = VecDeque::from_vec(sends);
     let mut takes = VecDeque::from_vec(takes);
-    let mut seats = Vec::with_capacity(alloc, count)?;
+    let mut members = Vec::with_capacity(alloc, count)?;
     for number in 0..count {
         let Some(node) = nodes.pop_front() else {
             unreachable!()
@@ -88,17 +58,14 @@ pub(crate) fn seat_all<A: Actor>(
             unreachable!()
         };
         let items = mem::replace(&mut input, Vec::new(alloc));
-        let worker = seat_one(alloc, number, node, items, &mut links, takes, sends)?;
-        seats.push(Seat {
-            worker,
-            done: false,
-        })?;
+        let worker = worker_of(alloc, number, node, items, &mut links, takes, sends)?;
+        members.push(Member::open(worker))?;
     }
-    Ok((seats, log.into_vec()))
+    Ok((members, log.into_vec()))
 }
 
 // The worker of one node, with what stands on the links to it.
-fn seat_one<A: Actor>(
+fn worker_of<A: Actor>(
     alloc: Global,
     number: usize,
     node: A,
@@ -111,7 +78,7 @@ fn seat_one<A: Actor>(
     requires square { length links.old.items ≡ length takes.items * length takes.items }
     requires ends { length sends.items ≡ length takes.items }
     requires input { (number ≡ 0 → row_at links.old.items 0 ≡ []) × (number ≢ 0 → input.items ≡ []) }
-    ensures worker { IfOk result (λ w. SeatedWith (length takes.items) links.old.items number node input.items takes.items sends.items w) }
+    ensures worker { IfOk result (λ w. OpenedWith (length takes.items) links.old.items number node input.items takes.items sends.items w) }
     ensures others { (p j : ℕ) → j < length takes.items → j ≢ number → row_at links.new.items (p * length takes.items + j) ≡ row_at links.old.items (p * length takes.items + j) }
     ensures square { length links.new.items ≡ length links.old.items }
 {
@@ -153,7 +120,7 @@ fn place(count: usize, from: usize, to: usize) -> usize
 
 // What the workers left.
 #[derive(Drop)]
-struct Field<A: Actor> {
+struct RoundParts<A: Actor> {
     nodes: Vec<A>,
     histories: Vec<History>,
     notes: Vec<NoteQueue<A::Note>>,
@@ -161,11 +128,11 @@ struct Field<A: Actor> {
     outs: Vec<VecDeque<WayOut<A::Message>>>,
 }
 
-impl<A: Actor> Field<A> {
+impl<A: Actor> RoundParts<A> {
     fn open(alloc: Global, count: usize) -> Result<Self, NoMemory>
         ensures { IfOk result (λ f. (f.nodes.items ≡ []) × (f.histories.items ≡ []) × (f.notes.items ≡ []) × (f.ins.items ≡ []) × (f.outs.items ≡ [])) }
     {
-        Ok(Field {
+        Ok(RoundParts {
             nodes: Vec::with_capacity(alloc, count)?,
             histories: Vec::with_capacity(alloc, count)?,
             notes: Vec::with_capacity(alloc, count)?,
@@ -194,23 +161,23 @@ impl<A: Actor> Field<A> {
     }
 }
 
-fn take_apart<A: Actor>(alloc: Global, seats: Vec<Seat<A>>) -> Result<Field<A>, NoMemory>
-    ensures done { OnOk result (list_all (λ s. s.done) seats.items ≡ true) }
-    ensures nodes { IfOk result (λ f. f.nodes.items ≡ map (λ s. s.worker.node) seats.items) }
-    ensures histories { IfOk result (λ f. f.histories.items ≡ map (λ s. record { node = s.worker.number; steps = s.worker.steps }) seats.items) }
-    ensures notes { IfOk result (λ f. f.notes.items ≡ map (λ s. s.worker.notes) seats.items) }
-    ensures ins { IfOk result (λ f. map (λ v. v.items) f.ins.items ≡ map (λ s. s.worker.ins) seats.items) }
-    ensures outs { IfOk result (λ f. map (λ v. v.items) f.outs.items ≡ map (λ s. s.worker.outs) seats.items) }
+fn take_apart<A: Actor>(alloc: Global, members: Vec<Member<A>>) -> Result<RoundParts<A>, NoMemory>
+    ensures done { OnOk result (list_all has_run members.items ≡ true) }
+    ensures nodes { IfOk result (λ f. f.nodes.items ≡ map (λ s. s.worker.node) members.items) }
+    ensures histories { IfOk result (λ f. f.histories.items ≡ map (λ s. record { node = s.worker.number; steps = s.worker.steps }) members.items) }
+    ensures notes { IfOk result (λ f. f.notes.items ≡ map (λ s. s.worker.notes) members.items) }
+    ensures ins { IfOk result (λ f. map (λ v. v.items) f.ins.items ≡ map (λ s. s.worker.ins) members.items) }
+    ensures outs { IfOk result (λ f. map (λ v. v.items) f.outs.items ≡ map (λ s. s.worker.outs) members.items) }
 {
-    let mut field = Field::open(alloc, seats.len())?;
-    let mut seats = VecDeque::from_vec(seats);
-    while let Some(seat) = seats.pop_front() {
-        if !seat.done {
+    let mut round_parts = RoundParts::open(alloc, members.len())?;
+    let mut members = VecDeque::from_vec(members);
+    while let Some(member) = members.pop_front() {
+        if !member.has_run() {
             return Err(AllocError);
         }
-        field.add(seat.worker)?;
+        round_parts.add(member.worker)?;
     }
-    Ok(field)
+    Ok(round_parts)
 }
 
 // Closes all links. The list of the link from s to r stands at place s * n + r.
@@ -268,20 +235,20 @@ fn deal_one<N: Drop>(
 fn gather<R: Wait, A: Actor>(
     rt: &R,
     alloc: Global,
-    field: Field<A>,
+    round_parts: RoundParts<A>,
     mut log: Vec<A::Note>,
 ) -> Result<(World<A>, Choices), NoMemory>
-    requires some { (0 < length field.nodes.items) × (length field.nodes.items < 256) }
-    requires close { CanCloseAll (length field.nodes.items) (map (λ v. v.items) field.ins.items) (map (λ v. v.items) field.outs.items) }
-    ensures { IfOk result (λ r. Gathered field.nodes.items field.histories.items field.notes.items (map (λ v. v.items) field.ins.items) (map (λ v. v.items) field.outs.items) log.items r.0 r.1) }
+    requires some { (0 < length round_parts.nodes.items) × (length round_parts.nodes.items < 256) }
+    requires close { CanCloseAll (length round_parts.nodes.items) (map (λ v. v.items) round_parts.ins.items) (map (λ v. v.items) round_parts.outs.items) }
+    ensures { IfOk result (λ r. Gathered round_parts.nodes.items round_parts.histories.items round_parts.notes.items (map (λ v. v.items) round_parts.ins.items) (map (λ v. v.items) round_parts.outs.items) log.items r.0 r.1) }
 {
-    let Field {
+    let RoundParts {
         nodes,
         histories,
         mut notes,
         ins,
         outs,
-    } = field;
+    } = round_parts;
     let mut links = close_all(rt, alloc, ins, outs)?;
     let choices = merge(alloc, histories.as_slice())?;
     deal_all(choices.items(), &mut notes, &mut log)?;
@@ -309,10 +276,10 @@ where
     ensures run { IfOk result (λ r. IsRun A.is_ready A.stepped r.1 world × (r.0 ≡ run A.stepped r.1 world)) }
     ensures moves { IfOk result (λ r. (r.1 ≡ []) ↔ ((c : Choice) → is_enabled A.is_ready world c ≡ false)) }
 {
-    let (mut seats, log) = seat_all(alloc, world)?;
-    run_all(rt, seats.as_mut_slice(), gate);
-    let field = take_apart(alloc, seats)?;
-    let (left, choices) = gather(rt, alloc, field, log)?;
+    let (members, log) = members_of(alloc, world)?;
+    let after = run_all(rt, gate, members)?;
+    let round_parts = take_apart(alloc, after)?;
+    let (left, choices) = gather(rt, alloc, round_parts, log)?;
     Ok((left, choices))
 }
 

@@ -1,7 +1,7 @@
 ghost use Rattle.std.specs.Prelude.{◌==◌, ◌-◌, ◌<◌, true, if◌then◌else◌, [], ◌∷◌};
 
 use super::*;
-use crate::round::seat_all;
+use crate::round::members_of;
 use actor_net::{Actor, Choice, Outbox, World, replay};
 use basics::NoMemory;
 use std::alloc::Global;
@@ -146,13 +146,57 @@ fn two_workers_are_in_a_pass_at_once(rt: HostRuntime) -> Result<(), Fail> {
 #[test]
 fn workers_in_turn_never_meet(rt: HostRuntime) -> Result<(), Fail> {
     let gate = Meeting::open();
-    let (mut seats, _log) = seat_all(rt.alloc(), chat(rt.alloc(), 3, 4, 1)?)?;
+    let (mut members, _log) = members_of(rt.alloc(), chat(rt.alloc(), 3, 4, 1)?)?;
     let mut steps = 0u64;
-    for seat in seats.iter_mut() {
-        seat.run(&rt, &gate);
-        steps = steps.wrapping_add(seat.worker.steps().len() as u64);
+    for member in members.iter_mut() {
+        member.turn(&rt, &gate);
+        steps = steps.wrapping_add(member.worker.steps().len() as u64);
     }
     assert_eq!(rt; gate.met.load(Ordering::SeqCst), 0);
     assert_eq!(rt; (gate.passes.load(Ordering::SeqCst), steps), (12, 12));
+    Ok(())
+}
+
+/// A gate that counts the passes of each of three nodes, and those that are told another number than that of the passes before.
+#[derive(Drop)]
+struct Counting {
+    passes: [AtomicU64; 3],
+    wrong: AtomicU64,
+}
+
+impl Gate for Counting {
+    fn pass(&self, node: u8, step: u64) {
+        match self.passes.get(node as usize) {
+            Some(passes) if passes.load(Ordering::SeqCst) == step => {
+                passes.fetch_add(1, Ordering::SeqCst);
+            }
+            _ => {
+                self.wrong.fetch_add(1, Ordering::SeqCst);
+            }
+        }
+    }
+}
+
+#[test]
+fn a_gate_is_told_the_steps_of_each_node_in_the_round(rt: HostRuntime) -> Result<(), Fail> {
+    for _ in 0..2 {
+        let gate = Counting {
+            passes: [AtomicU64::new(0), AtomicU64::new(0), AtomicU64::new(0)],
+            wrong: AtomicU64::new(0),
+        };
+        let (_end, choices) = run_round(&rt, rt.alloc(), chat(rt.alloc(), 3, 16, 3)?, &gate)?;
+        assert_eq!(rt; gate.wrong.load(Ordering::SeqCst), 0);
+        for node in 0..3u8 {
+            let steps = choices
+                .items()
+                .iter()
+                .filter(|choice| choice.node == node)
+                .count();
+            assert_eq!(rt;
+                gate.passes[node as usize].load(Ordering::SeqCst),
+                steps as u64
+            );
+        }
+    }
     Ok(())
 }

@@ -2,12 +2,12 @@
 ghost use Rattle.std.specs.Prelude.{◌≡◌, ◌<◌, ◌^◌, ◌-◌, List, [], ◌∷◌, ◌++◌, OnOk, IfOk, IfNone, MatchOption, drop, false};
 ghost use Rattle.std.specs.Option.{option_to_list};
 ghost use Rattle.actor_net.specs.Histories.{messages};
-ghost use Rattle.actor_threads.specs.Ways.{Draws, IsBlocked, begun};
+ghost use Rattle.actor_threads.specs.Ways.{Draws, IsBlocked, with_stamp_0};
 ghost use Rattle.actor_net.specs.declared.stamped.Stamped.{Stamped};
 
 use actor_net::Stamped;
-use fifo_link::{Full, SendEnd, TakeEnd};
 use basics::NoMemory;
+use fifo_link::{Full, SendEnd, TakeEnd};
 use std::alloc::Global;
 use std::collections::VecDeque;
 use std::marker::Model;
@@ -27,7 +27,7 @@ impl<M> Model for WayIn<M> {
 
     ghost Value = { Incoming M };
 
-    ghost use Rattle.actor_threads.specs.Inside.{incoming, HeldIsLast};
+    ghost use Rattle.actor_threads.specs.WayFields.{incoming, HeldIsLast};
 
     ghost view = { incoming };
 
@@ -37,7 +37,7 @@ impl<M> Model for WayIn<M> {
 impl<M: Drop> WayIn<M> {
     /// The way with what is kept from before the round.
     pub fn open(end: TakeEnd<M>, kept: Vec<M>) -> Self
-        ensures { result ≡ record { link = end.link; done = end.done; kept = begun kept.items } }
+        ensures { result ≡ record { link = end.link; done = end.done; kept = with_stamp_0 kept.items } }
     {
         WayIn {
             end,
@@ -114,7 +114,7 @@ fn with_held<M: Drop>(
     held: Option<Stamped<M>>,
     mut kept: VecDeque<M>,
 ) -> Result<VecDeque<M>, NoMemory>
-    ensures { IfOk result (λ all. all.items ≡ messages (option_to_list held ++ begun kept.items)) }
+    ensures { IfOk result (λ all. all.items ≡ messages (option_to_list held ++ with_stamp_0 kept.items)) }
 {
     let Some(first) = held else {
         return Ok(kept);
@@ -129,7 +129,11 @@ fn front<M>(kept: &VecDeque<M>) -> Option<&M>
     kept.front()
 }
 
-/// What goes to one node: what was sent, and then what a full link handed back.
+/// So many messages are sent one right after another. Two processors hand a part of their memory to each other for each
+/// message that is sent by itself, and for several messages at once where they are sent in a burst.
+pub const BURST: usize = 32;
+
+/// What goes to one node: what was sent, and then what waits to be sent.
 #[derive(Drop)]
 pub struct WayOut<M> {
     end: SendEnd<M>,
@@ -141,7 +145,7 @@ impl<M> Model for WayOut<M> {
 
     ghost Value = { Outgoing M };
 
-    ghost use Rattle.actor_threads.specs.Inside.{outgoing};
+    ghost use Rattle.actor_threads.specs.WayFields.{outgoing};
 
     ghost view = { outgoing };
 }
@@ -157,13 +161,23 @@ impl<M: Drop> WayOut<M> {
         }
     }
 
-    /// Sends a message, or lets it wait behind those that wait.
-    pub fn push(&mut self, message: Stamped<M>) -> Result<(), NoMemory>
+    /// Puts a message behind those that wait, and sends these as soon as there are [`BURST`] of them.
+    pub fn push<R: Wait>(&mut self, rt: &R, message: Stamped<M>) -> Result<(), NoMemory>
         ensures ok { OnOk result (self.new.all ≡ self.old.all ++ message ∷ []) }
         ensures same { self.new.link ≡ self.old.link }
     {
         self.waiting.push_back(message)?;
+        self.flush_burst(rt);
         Ok(())
+    }
+
+    // Sends what waits, where that is a burst.
+    fn flush_burst<R: Wait>(&mut self, rt: &R)
+        ensures { self.new ≡ self.old }
+    {
+        if self.waiting.len() % BURST == 0 {
+            self.flush(rt);
+        }
     }
 
     /// Whether something waits.

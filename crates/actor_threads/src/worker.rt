@@ -1,23 +1,19 @@
 //! One node in a round, with a way in from each node and a way out to each.
-ghost use Rattle.std.specs.Prelude.{◌≡◌, ◌<◌, ◌+◌, ◌≢◌, ℕ, false, [], length, max, map, slice_index_or, IfOk, OnOk, IfNone, IfSome, MatchOption};
+ghost use Rattle.std.specs.Prelude.{◌≡◌, ◌<◌, ◌+◌, ◌≢◌, ℕ, true, false, Ok, [], length, max, map, slice_index_or, IfOk, OnOk, IfNone, IfSome, MatchOption};
 ghost use Rattle.actor_threads.specs.Ways.{Sends, last_clock};
-ghost use Rattle.actor_threads.specs.Work.{is_input_of, opened, waits, all_in, all_out, out_at, put_for, Idled, Found, Acted, IsQuiet, IsQuietAt, Worked};
+ghost use Rattle.actor_threads.specs.Work.{is_input_of, opened, waits, all_in, all_out, out_at, put_for, Idled, Found, Acted, IsQuiet, IsQuietAt, DoesStep};
 
 use crate::gate::Gate;
 use crate::notes::Notes;
 use crate::ways::{WayIn, WayOut};
 use actor_net::{Actor, Outbox, Stamped};
+use basics::NoMemory;
 use crossbeam_utils::CachePadded;
 use fifo_link::{SendEnd, TakeEnd};
-use basics::NoMemory;
 use std::alloc::Global;
 use std::collections::VecDeque;
 use std::marker::Model;
 use std::sync::Wait;
-use std::thread;
-
-/// A round of a worker ends after so many looks in a row that found no step.
-pub const IDLE_LOOKS: u32 = 1000;
 
 // A worker goes on to the next take end after so many messages at most.
 const MOST_IN_ROW: u32 = 32;
@@ -35,7 +31,7 @@ pub struct Worker<A: Actor> {
     outbox: Outbox<A::Message, A::Note>,
     // Whether something may wait to be sent.
     unsent: bool,
-    // Whether something may be kept.
+    // Whether something but the input may be kept.
     keeping: bool,
     // Where the next look at the take ends begins, and how many messages were taken since it went on by itself.
     turn: usize,
@@ -46,9 +42,9 @@ pub struct Worker<A: Actor> {
 
 impl<A: Actor> Model for Worker<A> {
     ghost use Rattle.std.specs.Prelude.{◌≡◌, ◌<◌, length};
-    ghost use Rattle.actor_threads.specs.Work.{Shown};
+    ghost use Rattle.actor_threads.specs.Work.{WorkerView};
 
-    ghost Value = { Shown A A.Message A.Note };
+    ghost Value = { WorkerView A A.Message A.Note };
 
     ghost view = { λ w. record { number = w.number; node = w.node; clock = w.clock; steps = w.steps.items; notes = w.notes; ins = w.ins.items; outs = w.outs.items } };
 
@@ -57,7 +53,7 @@ impl<A: Actor> Model for Worker<A> {
 
 /// A worker taken apart.
 #[derive(Drop)]
-pub struct Apart<A: Actor> {
+pub struct WorkerParts<A: Actor> {
     pub number: u8,
     pub node: A,
     pub steps: Vec<(u64, u8)>,
@@ -105,10 +101,10 @@ impl<A: Actor> Worker<A> {
     }
 
     /// All that the worker holds.
-    pub fn parts(self) -> Apart<A>
+    pub fn parts(self) -> WorkerParts<A>
         ensures { self ≡ record { number = result.number; node = result.node; clock = self.clock; steps = result.steps.items; notes = result.notes; ins = result.ins.items; outs = result.outs.items } }
     {
-        Apart {
+        WorkerParts {
             number: self.number,
             node: self.node,
             steps: self.steps,
@@ -118,33 +114,21 @@ impl<A: Actor> Worker<A> {
         }
     }
 
-    /// Does the steps of one round. The round ends after [`IDLE_LOOKS`] looks in a row that found no step. After want of
-    /// memory the worker is only taken apart.
-    pub fn work<R: Wait, G: Gate>(&mut self, rt: &R, gate: &G) -> Result<(), NoMemory>
-        ensures worked { OnOk result (Worked A.is_ready A.stepped self.old self.new) }
-        ensures moves { OnOk result (length self.new.steps ≡ length self.old.steps → IsQuiet A.is_ready self.old) }
+    /// Looks for a message, and does a step where one is found: whether it did. `moved` says that it did one before in this
+    /// round. After want of memory the worker is only taken apart.
+    pub fn act<R: Wait, G: Gate>(&mut self, rt: &R, gate: &G, moved: bool) -> Result<bool, NoMemory>
+        ensures stepped { result ≡ Ok true → DoesStep A.is_ready A.stepped self.old self.new }
+        ensures idle { result ≡ Ok false → Idled self.old self.new }
+        ensures quiet { result ≡ Ok false → moved ≡ false → IsQuiet A.is_ready self.old }
     {
-        let mut idle = 0;
-        let mut moved = false;
-        for _ in rt.forever() {
-            self.flush(rt);
-            match self.look(rt, moved) {
-                Some((port, message)) => {
-                    self.pass(gate);
-                    self.step(port, message)?;
-                    idle = 0;
-                    moved = true;
-                }
-                None => {
-                    idle += 1;
-                    if idle >= IDLE_LOOKS {
-                        return Ok(());
-                    }
-                    thread::yield_now();
-                }
+        match self.look(rt, moved) {
+            Some((port, message)) => {
+                self.pass(gate);
+                self.step(rt, port, message)?;
+                Ok(true)
             }
+            None => Ok(false),
         }
-        unreachable!()
     }
 
     /// The steps of this round, each a clock and a port.
@@ -158,8 +142,8 @@ impl<A: Actor> Worker<A> {
         gate.pass(self.number, self.steps.len() as u64);
     }
 
-    // Sends what waits, as far as the links have room.
-    fn flush<R: Wait>(&mut self, rt: &R)
+    /// Sends what waits, as far as the links have room.
+    pub fn flush<R: Wait>(&mut self, rt: &R)
         ensures { self.new ≡ self.old }
     {
         if !self.unsent {
@@ -176,7 +160,7 @@ impl<A: Actor> Worker<A> {
     }
 
     // A message for the next step: first the input and what is kept, and then what the take ends give. Once a step was done,
-    // lists that were found empty aren't looked at.
+    // kept lists that were found empty aren't looked at.
     fn look<R: Wait>(&mut self, rt: &R, moved: bool) -> Option<(u8, Stamped<A::Message>)>
         ensures found { MatchOption result (Idled self.old self.new) (λ f. Found A.is_ready self.old self.new f.0 f.1) }
         ensures clock { IfSome result (λ f. self.new.clock < last_clock) }
@@ -186,10 +170,22 @@ impl<A: Actor> Worker<A> {
             return None;
         }
         if moved && !self.keeping {
-            return self.look_taken(rt);
+            return self.look_moved(rt);
         }
         if let Some(found) = self.look_kept() {
             return Some(found);
+        }
+        self.look_taken(rt)
+    }
+
+    // The same where nothing but the input may be kept.
+    fn look_moved<R: Wait>(&mut self, rt: &R) -> Option<(u8, Stamped<A::Message>)>
+        ensures { MatchOption result (Idled self.old self.new) (λ f. Found A.is_ready self.old self.new f.0 f.1) }
+    {
+        if self.number == 0 && !self.ins.is_empty() {
+            if let Some(item) = self.next_item() {
+                return Some((0, item));
+            }
         }
         self.look_taken(rt)
     }
@@ -207,11 +203,15 @@ impl<A: Actor> Worker<A> {
         None
     }
 
-    // Finds out whether something is kept.
+    // Finds out whether something but the input is kept.
     fn see_kept(&mut self)
         ensures { self.new ≡ self.old }
     {
-        self.keeping = self.ins.iter().any(|way| way.keeps());
+        self.keeping = self
+            .ins
+            .iter()
+            .skip(usize::from(self.number == 0))
+            .any(|way| way.keeps());
     }
 
     fn next_kept(&mut self, port: usize) -> Option<Stamped<A::Message>>
@@ -314,7 +314,7 @@ impl<A: Actor> Worker<A> {
     }
 
     // Does one step: the node takes the message, and what it sends carries the step's clock.
-    fn step(&mut self, port: u8, took: Stamped<A::Message>) -> Result<(), NoMemory>
+    fn step<R: Wait>(&mut self, rt: &R, port: u8, took: Stamped<A::Message>) -> Result<(), NoMemory>
         requires clock { self.old.clock < last_clock }
         requires stamp { took.clock < last_clock }
         ensures { OnOk result (Acted A.stepped self.old self.new port took) }
@@ -326,7 +326,7 @@ impl<A: Actor> Worker<A> {
         self.clock = clock;
         self.steps.push((clock, port))?;
         self.notes.add(&mut self.outbox)?;
-        put_all(self.number, clock, &mut self.outbox, &mut self.outs)?;
+        put_all(rt, self.number, clock, &mut self.outbox, &mut self.outs)?;
         Ok(())
     }
 }
@@ -385,7 +385,8 @@ fn next_clock(clock: u64, stamp: u64) -> u64
 }
 
 // Puts what a step sent on the ways out. What no node takes is dropped.
-fn put_all<M: Drop, N>(
+fn put_all<R: Wait, M: Drop, N>(
+    rt: &R,
     from: u8,
     clock: u64,
     outbox: &mut Outbox<M, N>,
@@ -396,7 +397,7 @@ fn put_all<M: Drop, N>(
 {
     while let Some((to, message)) = outbox.next_sent() {
         if (to as usize) < outs.len() && !(from == 0 && to == 0) {
-            outs[to as usize].push(Stamped { clock, message })?;
+            outs[to as usize].push(rt, Stamped { clock, message })?;
         }
     }
     Ok(())

@@ -1,8 +1,8 @@
 use Rattle.std.proofs.Common.{◌<◌, ◌+◌, refl, sym, ◌∙◌, ap, subst, arith, length, map, slice_index_or, add-one}
 use Rattle.std.proofs.lemmas.List.{length-map}
-use Rattle.actor_threads.specs.Table.{Closed, RowClosed}
-use Rattle.actor_threads.proofs.Cutting.{rest_after}
-use Rattle.actor_threads.proofs.Rows.{head_way, row_read, row_set, row_closed_more}
+use Rattle.actor_threads.specs.LinkTable.{Closed, RowClosed}
+use Rattle.actor_threads.proofs.NotesByCounts.{rest_after}
+use Rattle.actor_threads.proofs.LinkTableLemmas.{head_way, row_read, row_set, row_closed_more}
 use Rattle.actor_threads.proofs.links.close_row.Goals as goal
 
 pub unreachable-requires : goal.unreachable-requires

@@ -1,5 +1,5 @@
 use Rattle.std.proofs.Common.{◌≡◌, ◌≤◌, length, map, drop, deque_len}
-use Rattle.actor_threads.specs.Table.{RowClosed}
+use Rattle.actor_threads.specs.LinkTable.{RowClosed}
 use Rattle.actor_threads.proofs.links.close_row.Given as goal
 
 abbrev pub invariant-loop-way_out : goal.invariant-loop-way_out

@@ -1,7 +1,7 @@
 use Rattle.std.proofs.Common.{◌+◌, sym, ◌∙◌, ap, subst, length, map, length-append}
 use Rattle.std.proofs.lemmas.List.{length-map, map-append}
-use Rattle.actor_threads.specs.Table.{row_at, RowOpened, AllOpened}
-use Rattle.actor_threads.proofs.Rows.{none_more, all_opened_more}
+use Rattle.actor_threads.specs.LinkTable.{row_at, RowOpened, AllOpened}
+use Rattle.actor_threads.proofs.LinkTableLemmas.{none_more, all_opened_more}
 use Rattle.actor_threads.proofs.links.open_all.Goals as goal
 
 pub loop-preserved : goal.loop-preserved

@@ -1,5 +1,5 @@
 use Rattle.std.proofs.Common.{◌≡◌, ℕ, ◌<◌, [], length, map}
-use Rattle.actor_threads.specs.Table.{row_at, AllOpened}
+use Rattle.actor_threads.specs.LinkTable.{row_at, AllOpened}
 use Rattle.actor_threads.proofs.links.open_all.Given as goal
 
 abbrev pub invariant-loop : goal.invariant-loop

@@ -1,7 +1,7 @@
 use Rattle.std.proofs.Common.{◌<◌, ◌+◌, ◌++◌, ◌∷◌, [], sym, ◌∙◌, ap, subst, arith, length, map, length-set}
 use Rattle.std.proofs.lemmas.List.{length-map}
-use Rattle.actor_threads.specs.Table.{RowOpened}
-use Rattle.actor_threads.proofs.Rows.{row_read, row_set, row_opened_more}
+use Rattle.actor_threads.specs.LinkTable.{RowOpened}
+use Rattle.actor_threads.proofs.LinkTableLemmas.{row_read, row_set, row_opened_more}
 use Rattle.actor_threads.proofs.links.open_row.Goals as goal
 
 pub loop-receiver-preserved : goal.loop-receiver-preserved

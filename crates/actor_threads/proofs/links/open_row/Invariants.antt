@@ -1,5 +1,5 @@
 use Rattle.std.proofs.Common.{◌≡◌, length, map}
-use Rattle.actor_threads.specs.Table.{RowOpened}
+use Rattle.actor_threads.specs.LinkTable.{RowOpened}
 use Rattle.actor_threads.proofs.links.open_row.Given as goal
 
 abbrev pub invariant-loop-receiver : goal.invariant-loop-receiver

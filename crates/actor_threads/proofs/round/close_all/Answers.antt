@@ -1,9 +1,9 @@
 use Rattle.std.proofs.Common.{◌<◌, sym, ◌∙◌, ap, subst, arith, length, map, add-one}
 use Rattle.std.proofs.lemmas.List.{length-map}
-use Rattle.actor_threads.specs.Table.{RowClosed, CanClose}
-use Rattle.actor_threads.proofs.Cutting.{rest_after}
-use Rattle.actor_threads.proofs.Rows.{mapped_first}
-use Rattle.actor_threads.proofs.Closing.{can_close, left_more, all_closed_more}
+use Rattle.actor_threads.specs.LinkTable.{RowClosed, CanClose}
+use Rattle.actor_threads.proofs.NotesByCounts.{rest_after}
+use Rattle.actor_threads.proofs.LinkTableLemmas.{mapped_first}
+use Rattle.actor_threads.proofs.ClosingLinks.{can_close, left_more, all_closed_more}
 use Rattle.actor_threads.proofs.round.close_all.Goals as goal
 
 pub close_row-requires : goal.close_row-requires

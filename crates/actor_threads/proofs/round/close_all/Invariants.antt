@@ -1,5 +1,5 @@
 use Rattle.std.proofs.Common.{◌≡◌, ◌<◌, ℕ, length, map, drop}
-use Rattle.actor_threads.specs.Table.{row_at}
+use Rattle.actor_threads.specs.LinkTable.{row_at}
 use Rattle.actor_threads.specs.Round.{AllClosed}
 use Rattle.actor_threads.proofs.round.close_all.Given as goal
 

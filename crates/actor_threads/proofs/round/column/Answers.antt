@@ -1,7 +1,7 @@
 use Rattle.std.proofs.Common.{◌<◌, ◌+◌, ◌*◌, [], ◌∙◌, ap, arith, length, length-append, length-set}
 use Rattle.std.proofs.lemmas.List.{get_or_default}
-use Rattle.actor_threads.specs.Table.{row_at}
-use Rattle.actor_threads.proofs.Columns.{other_column, other_row, lists_more}
+use Rattle.actor_threads.specs.LinkTable.{row_at}
+use Rattle.actor_threads.proofs.LinkColumns.{other_column, other_row, lists_more}
 use Rattle.actor_threads.proofs.round.column.Goals as goal
 
 pub returns-in_err-push-clause-others : goal.returns-in_err-push-clause-others

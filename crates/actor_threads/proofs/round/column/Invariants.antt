@@ -1,5 +1,5 @@
 use Rattle.std.proofs.Common.{◌≡◌, ◌≢◌, ◌<◌, ◌≤◌, ℕ, ◌+◌, ◌*◌, length, map}
-use Rattle.actor_threads.specs.Table.{row_at}
+use Rattle.actor_threads.specs.LinkTable.{row_at}
 use Rattle.actor_threads.proofs.round.column.Given as goal
 
 abbrev pub invariant-loop-port : goal.invariant-loop-port

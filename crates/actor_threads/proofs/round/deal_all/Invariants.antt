@@ -1,6 +1,6 @@
 use Rattle.std.proofs.Common.{◌≡◌, ◌++◌, drop}
 use Rattle.actor_net.specs.Histories.{dealt}
-use Rattle.actor_threads.specs.Table.{row_at}
+use Rattle.actor_threads.specs.LinkTable.{row_at}
 use Rattle.actor_threads.proofs.round.deal_all.Given as goal
 
 abbrev pub invariant-loop-choice : goal.invariant-loop-choice

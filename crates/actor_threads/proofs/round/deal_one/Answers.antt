@@ -1,8 +1,8 @@
 use Rattle.std.proofs.Common.{◌<◌, [], ◌++◌, ◌∙◌, ap, arith, length, slice_set}
 use Rattle.std.proofs.lemmas.List.{get_or_default}
 use Rattle.actor_net.specs.Histories.{without_first_list, first_list, dealt}
-use Rattle.actor_threads.specs.Table.{row_at}
-use Rattle.actor_threads.proofs.Dealing.{deal_one}
+use Rattle.actor_threads.specs.LinkTable.{row_at}
+use Rattle.actor_threads.proofs.DealtNotes.{deal_one}
 use Rattle.actor_threads.proofs.round.deal_one.Goals as goal
 
 pub returns : goal.returns

@@ -1,24 +1,21 @@
 use Rattle.std.proofs.Common.{sym, ◌∙◌, ap, subst, length, ◌<◌}
 use Rattle.std.proofs.lemmas.List.{length-map}
-use Rattle.actor_threads.specs.Work.{Shown}
-use Rattle.actor_threads.proofs.Moving.{history_of}
-use Rattle.actor_threads.proofs.Rounds.{seen, done_after, ran_from, seats_count, can_close_seats, is_run, is_replay, none_enabled, no_choice, regather, reclose, written_back}
+use Rattle.actor_threads.specs.Work.{WorkerView}
+use Rattle.actor_threads.proofs.RoundWithoutChoice.{history_of}
+use Rattle.actor_threads.proofs.RoundLemmas.{seen, members_count, can_close_members, is_run, is_replay, none_enabled, no_choice, regather, reclose}
 use Rattle.actor_threads.proofs.round.run_round.Goals as goal
 
 pub gather-requires : goal.gather-requires
 gather-requires g c =
-    let before = c.in_ok-seats.seats.items in
-    let after = c.run_all.new.seats in
-    let same = c.run_all.auto.seats ∙ ap length c.as_mut_slice.ensures.value in
-    let back = written_back before after c.in_ok-seats.seats.len same c.in_ok-seats.seats.ok.0 in
-    let world = c.in_ok-seats.ensures.world in
-    let ran = ran_from g.A.Actor.is_ready g.A.Actor.stepped _ before after c.as_mut_slice.ensures.value c.run_all.ensures in
-    let nodes = seen (λ (x : Shown _ _ _). x.node) _ after _ c.in_ok-field.ensures.nodes back in
-    let many = ap length nodes ∙ length-map _ _ ∙ length-map _ _ ∙ same ∙ seats_count c.args.world before c.in_ok-seats.ensures.seats in
+    let before = c.in_ok-members.members.items in
+    let after = c.in_ok-after.after.items in
+    let begin = c.in_ok-members.ensures in
+    let nodes = seen (λ (x : WorkerView _ _ _). x.node) after _ c.in_ok-round_parts.ensures.nodes in
+    let many = ap length nodes ∙ length-map _ _ ∙ length-map _ _ ∙ c.in_ok-after.ensures.count ∙ members_count c.args.world before begin.members in
     record {
-      some = (subst (λ n. 0 < n) (sym many) world.some_node, subst (λ n. n < 256) (sym many) world.few_nodes);
-      close = reclose (sym many) (sym (seen (λ (x : Shown _ _ _). x.ins) _ after _ c.in_ok-field.ensures.ins back)) (sym (seen (λ (x : Shown _ _ _). x.outs) _ after _ c.in_ok-field.ensures.outs back))
-          (can_close_seats g.A.Actor.is_ready g.A.Actor.stepped c.args.world world before after c.in_ok-seats.ensures.seats ran (done_after _ after c.in_ok-field.ensures.done back) same);
+      some = (subst (λ n. 0 < n) (sym many) begin.world.some_node, subst (λ n. n < 256) (sym many) begin.world.few_nodes);
+      close = reclose (sym many) (sym (seen (λ (x : WorkerView _ _ _). x.ins) after _ c.in_ok-round_parts.ensures.ins)) (sym (seen (λ (x : WorkerView _ _ _). x.outs) after _ c.in_ok-round_parts.ensures.outs))
+          (can_close_members g.A.Actor.is_ready g.A.Actor.stepped c.args.world begin.world before after begin.members c.in_ok-after.ensures.round c.in_ok-round_parts.ensures.done c.in_ok-after.ensures.count);
     }
 
 pub returns : goal.returns
@@ -26,19 +23,15 @@ returns g c =
     let ready = g.A.Actor.is_ready in
     let step = g.A.Actor.stepped in
     let w = c.args.world in
-    let before = c.in_ok-seats.seats.items in
-    let after = c.run_all.new.seats in
-    let same = c.run_all.auto.seats ∙ ap length c.as_mut_slice.ensures.value in
-    let back = written_back before after c.in_ok-seats.seats.len same c.in_ok-seats.seats.ok.0 in
-    let world = c.in_ok-seats.ensures.world in
-    let all = c.in_ok-seats.ensures.seats in
-    let ran = ran_from ready step _ before after c.as_mut_slice.ensures.value c.run_all.ensures in
-    let done = done_after _ after c.in_ok-field.ensures.done back in
-    let left = regather (seen (λ (x : Shown _ _ _). x.node) _ after _ c.in_ok-field.ensures.nodes back) (seen history_of _ after _ c.in_ok-field.ensures.histories back)
-    (seen (λ (x : Shown _ _ _). x.notes) _ after _ c.in_ok-field.ensures.notes back) (seen (λ (x : Shown _ _ _). x.ins) _ after _ c.in_ok-field.ensures.ins back)
-    (seen (λ (x : Shown _ _ _). x.outs) _ after _ c.in_ok-field.ensures.outs back) c.in_ok-seats.ensures.log c.in_ok-left.ensures in
-    let run = is_run ready step w world before after all ran done same c.in_ok-left.left c.in_ok-left.choices left in
+    let before = c.in_ok-members.members.items in
+    let after = c.in_ok-after.after.items in
+    let begin = c.in_ok-members.ensures in
+    let parts = c.in_ok-round_parts.ensures in
+    let same = c.in_ok-after.ensures.count in
+    let left = regather (seen (λ (x : WorkerView _ _ _). x.node) after _ parts.nodes) (seen history_of after _ parts.histories) (seen (λ (x : WorkerView _ _ _). x.notes) after _ parts.notes)
+    (seen (λ (x : WorkerView _ _ _). x.ins) after _ parts.ins) (seen (λ (x : WorkerView _ _ _). x.outs) after _ parts.outs) begin.log c.in_ok-left.ensures in
+    let run = is_run ready step w begin.world before after begin.members c.in_ok-after.ensures.round parts.done same c.in_ok-left.left c.in_ok-left.choices left in
     record {
-      run = (run, is_replay ready step w world before after all ran done same c.in_ok-left.left c.in_ok-left.choices left);
-      moves = (none_enabled ready step w world before after all ran done same c.in_ok-left.left c.in_ok-left.choices left, no_choice ready step w c.in_ok-left.choices run);
+      run = (run, is_replay ready step w begin.world before after begin.members c.in_ok-after.ensures.round parts.done same c.in_ok-left.left c.in_ok-left.choices left);
+      moves = (none_enabled ready step w begin.world before after begin.members c.in_ok-after.ensures.round parts.done same c.in_ok-left.left c.in_ok-left.choices left, no_choice ready step w c.in_ok-left.choices run);
     }

@@ -1,5 +1,5 @@
 use Rattle.std.proofs.Common.{◌∙◌}
-use Rattle.actor_threads.proofs.Drawing.{one_held, none_held}
+use Rattle.actor_threads.proofs.WayInLemmas.{one_held, none_held}
 use Rattle.actor_threads.proofs.ways.with_held.Goals as goal
 
 pub returns-in_default : goal.returns-in_default

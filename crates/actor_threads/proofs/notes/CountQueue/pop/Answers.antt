@@ -1,5 +1,5 @@
 use Rattle.std.proofs.Common.{rules, arith}
-use Rattle.actor_threads.proofs.Cutting.{silent_pop}
+use Rattle.actor_threads.proofs.NotesByCounts.{silent_pop}
 use Rattle.actor_threads.proofs.notes.CountQueue.pop.Goals as goal
 
 pub returns-in_default : goal.returns-in_default

@@ -1,4 +1,4 @@
-use Rattle.actor_threads.proofs.Cutting.{counts_one, counts_run}
+use Rattle.actor_threads.proofs.NotesByCounts.{counts_one, counts_run}
 use Rattle.actor_threads.proofs.notes.Counts.push.Goals as goal
 
 pub returns-then-self-lt4294967295-clause-ok : goal.returns-then-self-lt4294967295-clause-ok

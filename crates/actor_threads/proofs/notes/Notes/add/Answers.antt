@@ -1,5 +1,5 @@
 use Rattle.std.proofs.Common.{◌≡◌, length, arith, ap, length-append}
-use Rattle.actor_threads.proofs.Cutting.{cut-snoc}
+use Rattle.actor_threads.proofs.NotesByCounts.{cut-snoc}
 use Rattle.actor_threads.proofs.notes.Notes.add.Goals as goal
 
 pub returns-clause-list : goal.returns-clause-list

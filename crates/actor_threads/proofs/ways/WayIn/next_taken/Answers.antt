@@ -1,5 +1,5 @@
 use Rattle.std.proofs.Common.{refl, ap, ◌∙◌, arith}
-use Rattle.actor_threads.proofs.Drawing.{drew_nothing, drew_one}
+use Rattle.actor_threads.proofs.WayInLemmas.{drew_nothing, drew_one}
 use Rattle.actor_threads.proofs.ways.WayIn.next_taken.Goals as goal
 
 pub returns-in_default : goal.returns-in_default

@@ -1,4 +1,4 @@
-use Rattle.actor_threads.proofs.Finding.{end_at}
+use Rattle.actor_threads.proofs.LookLemmas.{end_at}
 use Rattle.actor_threads.proofs.worker.Worker.end_at.Goals as goal
 
 pub returns : goal.returns

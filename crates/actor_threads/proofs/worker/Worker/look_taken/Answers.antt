@@ -1,6 +1,6 @@
 use Rattle.std.proofs.Common.{subst, sym, ap, arith, ◌<◌, length}
 use Rattle.actor_threads.specs.Work.{Idled, Found}
-use Rattle.actor_threads.proofs.Working.{no_look, idled_then, idled_found}
+use Rattle.actor_threads.proofs.WorkerSteps.{no_look, idled_then, idled_found}
 use Rattle.actor_threads.proofs.worker.Worker.look_taken.Goals as goal
 
 pub loop-init : goal.loop-init

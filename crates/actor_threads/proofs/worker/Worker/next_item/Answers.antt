@@ -1,5 +1,5 @@
 use Rattle.std.proofs.Common.{ap, sym, ◌∙◌, subst, ◌<◌, length}
-use Rattle.actor_threads.proofs.Finding.{kept_at, ready_first, same_element}
+use Rattle.actor_threads.proofs.LookLemmas.{kept_at, ready_first, same_element}
 use Rattle.actor_threads.proofs.worker.Worker.next_item.Goals as goal
 
 pub returns-clause-found : goal.returns-clause-found

@@ -1,6 +1,6 @@
 use Rattle.std.proofs.Common.{ap, ◌∙◌}
 use Rattle.actor_threads.specs.Work.{is_input_of}
-use Rattle.actor_threads.proofs.Finding.{not_input, kept_at, quiet_at}
+use Rattle.actor_threads.proofs.LookLemmas.{not_input, kept_at, quiet_at}
 use Rattle.actor_threads.proofs.worker.Worker.next_message.Goals as goal
 
 pub returns-clause-found : goal.returns-clause-found

@@ -1,6 +1,6 @@
 use Rattle.std.proofs.Common.{◌<◌, sym, ap, ◌∙◌, subst, length}
 use Rattle.std.proofs.lemmas.List.{length-map}
-use Rattle.actor_threads.proofs.Opening.{length-all_in}
+use Rattle.actor_threads.proofs.OpenedWays.{length-all_in}
 use Rattle.actor_threads.proofs.worker.Worker.open.Goals as goal
 
 pub invariant_of-result : goal.invariant_of-result

@@ -1,5 +1,5 @@
 use Rattle.std.proofs.Common.{ap, ◌∙◌, [], ◌∷◌, ◌++◌}
-use Rattle.actor_threads.proofs.Stepping.{sends_as}
+use Rattle.actor_threads.proofs.SentMessages.{sends_as}
 use Rattle.actor_threads.proofs.worker.Worker.step.Goals as goal
 
 pub returns : goal.returns

@@ -7,17 +7,17 @@ use Rattle.fifo_link.specs.Ends.{End}
 use Rattle.actor_net.specs.Network.{Network, waiting}
 use Rattle.actor_net.proofs.EnabledChoices.{at}
 use Rattle.actor_net.proofs.WaitingMessages.{waiting_is}
-use Rattle.actor_threads.specs.Ways.{begun}
-use Rattle.actor_threads.specs.Work.{Shown, in_at, no_out, opened, all_in, all_out, waits}
-use Rattle.actor_threads.specs.Table.{row_at, no_end, one_at, name_of, AllOpened}
+use Rattle.actor_threads.specs.Ways.{with_stamp_0}
+use Rattle.actor_threads.specs.Work.{WorkerView, in_at, no_out, opened, all_in, all_out, waits}
+use Rattle.actor_threads.specs.LinkTable.{row_at, no_end, one_at, name_of, AllOpened}
 use Rattle.actor_threads.specs.Round.{StartsAs}
-use Rattle.actor_threads.proofs.Opening.{length-all_in}
-use Rattle.actor_threads.proofs.Rows.{first_left, last_of, same_or}
+use Rattle.actor_threads.proofs.OpenedWays.{length-all_in}
+use Rattle.actor_threads.proofs.LinkTableLemmas.{first_left, last_of, same_or}
 
 module _ {M : Type 0} where
   -- one way in
   in_at-all_in : (takes : List (End M)) (kept : List (List M)) (p : ℕ) → length kept ≡ length takes → p < length takes
-      → in_at (all_in takes kept) p ≡ record { link = (one_at takes p).link; done = (one_at takes p).done; kept = begun (row_at kept p) }
+      → in_at (all_in takes kept) p ≡ record { link = (one_at takes p).link; done = (one_at takes p).done; kept = with_stamp_0 (row_at kept p) }
   in_at-all_in [] kept p e h = absurd (omega arith)
   in_at-all_in (t ∷ ts) [] p e h = absurd (cc)
   in_at-all_in (t ∷ ts) (k ∷ ks) zero e h = refl
@@ -61,15 +61,15 @@ module _ {A M N : Type 0} (w : Network A M N) (n k : ℕ) (sends takes : List (L
             ] refl
             ∙ sym (waiting_is w p k hp (subst (λ m. k < m) (sym count) h)) in
             in_at-all_in (row_at takes k) (waits k items kept) p lengths (subst (λ m. p < m) (sym (o.take_rows k h)) inside)
-            ∙ λ i. record { link = sym (o.fresh p k inside h).link i; done = (o.fresh p k inside h).taken i; kept = begun (waits_here i) };
+            ∙ λ i. record { link = sym (o.fresh p k inside h).link i; done = (o.fresh p k inside h).taken i; kept = with_stamp_0 (waits_here i) };
         outs = λ r hr.
             let inside : r < n = subst (λ m. r < m) count hr in
             get_or-map all_out (row_at sends k) r no_end no_out (subst (λ m. r < m) (sym (o.send_rows k h)) inside) ∙ λ i. record { link = name_of sends k r; all = (o.fresh k r h inside).sent i };
       }
 
 -- one worker more
-pub started_more : {A M N : Type 0} (w : Network A M N) (names : ℕ → ℕ → TableId) (workers : List (Shown A M N)) (k : ℕ) (new : Shown A M N) → length workers ≡ k
-    → ((j : ℕ) (d : Shown A M N) → j < k → StartsAs w names j (slice_index_or workers j d)) → StartsAs w names k new → (j : ℕ) (d : Shown A M N) → j < k + 1 → StartsAs w names j (slice_index_or (workers ++ new ∷ []) j d)
+pub started_more : {A M N : Type 0} (w : Network A M N) (names : ℕ → ℕ → TableId) (workers : List (WorkerView A M N)) (k : ℕ) (new : WorkerView A M N) → length workers ≡ k
+    → ((j : ℕ) (d : WorkerView A M N) → j < k → StartsAs w names j (slice_index_or workers j d)) → StartsAs w names k new → (j : ℕ) (d : WorkerView A M N) → j < k + 1 → StartsAs w names j (slice_index_or (workers ++ new ∷ []) j d)
 started_more w names workers k new count before last j d h = same_or j k (StartsAs w names j (slice_index_or (workers ++ new ∷ []) j d))
-    (λ e. subst (λ q. StartsAs w names q (slice_index_or (workers ++ new ∷ []) q d)) (sym e) (subst (λ (v : Shown _ _ _). StartsAs w names k v) (sym (last_of workers new d k count)) last))
-    (λ other. let less : j < k = omega arith in subst (λ (v : Shown _ _ _). StartsAs w names j v) (sym (get_or_append_left workers (new ∷ []) d j (subst (λ m. j < m) (sym count) less))) (before j d less))
+    (λ e. subst (λ q. StartsAs w names q (slice_index_or (workers ++ new ∷ []) q d)) (sym e) (subst (λ (v : WorkerView _ _ _). StartsAs w names k v) (sym (last_of workers new d k count)) last))
+    (λ other. let less : j < k = omega arith in subst (λ (v : WorkerView _ _ _). StartsAs w names j v) (sym (get_or_append_left workers (new ∷ []) d j (subst (λ m. j < m) (sym count) less))) (before j d less))

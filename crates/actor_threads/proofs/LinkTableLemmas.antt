@@ -6,7 +6,7 @@ use Rattle.std.proofs.Math.Seq.{get_or-append_seam}
 use Rattle.fifo_link.specs.Ends.{End}
 use Rattle.actor_threads.specs.Ways.{Incoming, Outgoing}
 use Rattle.actor_threads.specs.Work.{no_out, out_at}
-use Rattle.actor_threads.specs.Table.{row_at, no_end, one_at, AreFresh, RowOpened, AllOpened, Closed, RowClosed, CanClose}
+use Rattle.actor_threads.specs.LinkTable.{row_at, no_end, one_at, AreFresh, RowOpened, AllOpened, Closed, RowClosed, CanClose}
 
 -- the last of a list that grew
 pub last_of : {X : Type 0} (xs : List X) (x d : X) (k : ℕ) → length xs ≡ k → slice_index_or (xs ++ x ∷ []) k d ≡ x

@@ -13,12 +13,12 @@ use Rattle.actor_net.proofs.WaitingMessages.{waiting_is}
 use Rattle.actor_net.proofs.LinkLemmas.{inside}
 use Rattle.actor_net.proofs.ClockOrder.{FitsWorld}
 use Rattle.actor_net.proofs.MergeRun.{AreHistories, HistoriesLeave}
-use Rattle.actor_threads.specs.Ways.{Incoming, Outgoing, begun}
-use Rattle.actor_threads.specs.Work.{Shown, in_at, out_at, Ticks, Worked, Ran}
-use Rattle.actor_threads.specs.Table.{row_at, Closed}
+use Rattle.actor_threads.specs.Ways.{Incoming, Outgoing, with_stamp_0}
+use Rattle.actor_threads.specs.Work.{WorkerView, in_at, out_at, Ticks, Worked, Ran}
+use Rattle.actor_threads.specs.LinkTable.{row_at, Closed}
 use Rattle.actor_threads.specs.Round.{StartsAs, AllStart, CanCloseAll}
-use Rattle.actor_threads.proofs.Drawing.{messages-begun}
-use Rattle.actor_threads.proofs.Dealing.{dealt_same}
+use Rattle.actor_threads.proofs.WayInLemmas.{messages-with_stamp_0}
+use Rattle.actor_threads.proofs.DealtNotes.{dealt_same}
 
 -- what was held and then sent was taken or is left
 joined : {X : Type 0} (holds grown taken kept tail put : List X) → holds ++ grown ≡ taken ++ kept → put ≡ grown ++ tail → taken ++ (kept ++ tail) ≡ holds ++ put
@@ -35,9 +35,9 @@ rises clock [] t = tt
 rises clock (e ∷ es) t = let is = t.0 in (omega arith, omega arith, rises e.clock es t.1)
 
 -- the histories of workers that have these events
-pub matches_from : {A M N : Type 0} (events : ℕ → List (NodeStep M)) (blank : Shown A M N) (i : ℕ) (workers : List (Shown A M N))
+pub matches_from : {A M N : Type 0} (events : ℕ → List (NodeStep M)) (blank : WorkerView A M N) (i : ℕ) (workers : List (WorkerView A M N))
     → ((j : ℕ) → j < length workers → ((slice_index_or workers j blank).number ≡ j + i) × ((slice_index_or workers j blank).steps ≡ noted (events (j + i)))) → ((j : ℕ) → length workers + i ≤ j → events j ≡ [])
-    → AreHistories events i (map (λ (s : Shown A M N). let h : History = record { node = s.number; steps = s.steps } in h) workers)
+    → AreHistories events i (map (λ (s : WorkerView A M N). let h : History = record { node = s.number; steps = s.steps } in h) workers)
 matches_from events blank i [] each none = λ j h. none j (omega arith)
 matches_from events blank i (x ∷ xs) each none =
     let first = each 0 (omega arith) in
@@ -49,18 +49,18 @@ matches_from events blank i (x ∷ xs) each none =
           (λ j h. none j (omega arith)),
     )
 
-module _ {A M N : Type 0} (ready : A → M → Bool) (step : A → ℕ → M → Stepped A M N) (w : Network A M N) (started ended : List (Shown A M N)) (d : A) (is : IsWorld w) (all : AllStart w started)
-    (ran : (j : ℕ) (e : Shown A M N) → j < length w.nodes → Ran ready step (slice_index_or started j e) (slice_index_or ended j e)) (count : length ended ≡ length w.nodes) where
+module _ {A M N : Type 0} (ready : A → M → Bool) (step : A → ℕ → M → Stepped A M N) (w : Network A M N) (started ended : List (WorkerView A M N)) (d : A) (is : IsWorld w) (all : AllStart w started)
+    (ran : (j : ℕ) (e : WorkerView A M N) → j < length w.nodes → Ran ready step (slice_index_or started j e) (slice_index_or ended j e)) (count : length ended ≡ length w.nodes) where
   abbrev n : ℕ
   n = length w.nodes
 
-  abbrev blank : Shown A M N
+  abbrev blank : WorkerView A M N
   blank = record { number = 0; node = d; clock = 0; steps = []; notes = []; ins = []; outs = [] }
 
-  abbrev start_of : ℕ → Shown A M N
+  abbrev start_of : ℕ → WorkerView A M N
   start_of j = slice_index_or started j blank
 
-  abbrev end_of : ℕ → Shown A M N
+  abbrev end_of : ℕ → WorkerView A M N
   end_of j = slice_index_or ended j blank
 
   abbrev node_at : ℕ → A
@@ -111,15 +111,15 @@ module _ {A M N : Type 0} (ready : A → M → Bool) (step : A → ℕ → M →
   pub rise_is : (j : ℕ) → ClocksRise 0 (events j)
   rise_is = each (λ _ es. ClocksRise 0 es) (λ j h. let k = (pick j).1.0 h in subst (λ (v : ℕ × List (NodeStep M)). ClocksRise v.0 v.1) (λ i. ((starts j h).clock i, k.1 i)) (rises _ _ k.0.ticks)) (λ _. tt)
 
-  pub matches : AreHistories events 0 (map (λ (s : Shown A M N). let h : History = record { node = s.number; steps = s.steps } in h) ended)
+  pub matches : AreHistories events 0 (map (λ (s : WorkerView A M N). let h : History = record { node = s.number; steps = s.steps } in h) ended)
   matches = matches_from events blank 0 ended (λ j h. let inside : j < n = subst (λ m. j < m) count h in (number_is j inside ∙ omega arith, steps_is j inside ∙ ap (λ m. noted (events m)) (omega arith))) (λ j h. no_events j (omega (arith, count)))
 
   -- the links can be closed
-  ins_at : (r : ℕ) → r < n → row_at (map (λ (s : Shown A M N). s.ins) ended) r ≡ (end_of r).ins
-  ins_at r h = get_or-map (λ (s : Shown A M N). s.ins) ended r blank [] (subst (λ m. r < m) (sym count) h)
+  ins_at : (r : ℕ) → r < n → row_at (map (λ (s : WorkerView A M N). s.ins) ended) r ≡ (end_of r).ins
+  ins_at r h = get_or-map (λ (s : WorkerView A M N). s.ins) ended r blank [] (subst (λ m. r < m) (sym count) h)
 
-  outs_at : (s : ℕ) → s < n → row_at (map (λ (s : Shown A M N). s.outs) ended) s ≡ (end_of s).outs
-  outs_at s h = get_or-map (λ (s : Shown A M N). s.outs) ended s blank [] (subst (λ m. s < m) (sym count) h)
+  outs_at : (s : ℕ) → s < n → row_at (map (λ (s : WorkerView A M N). s.outs) ended) s ≡ (end_of s).outs
+  outs_at s h = get_or-map (λ (s : WorkerView A M N). s.outs) ended s blank [] (subst (λ m. s < m) (sym count) h)
 
   in_link : (s r : ℕ) → s < n → r < n → (in_at (end_of r).ins s).link ≡ all.names s r
   in_link s r hs hr = let k = (pick r).1.0 hr in (k.0.taken s (subst (λ m. s < m) (sym (starts r hr).count_ins) hs)).draws.link ∙ ap (λ (v : Incoming M). v.link) ((starts r hr).ins s hs)
@@ -127,7 +127,7 @@ module _ {A M N : Type 0} (ready : A → M → Bool) (step : A → ℕ → M →
   out_link : (s r : ℕ) → s < n → r < n → (out_at (end_of s).outs r).link ≡ all.names s r
   out_link s r hs hr = let k = (pick s).1.0 hs in (k.0.sent r (subst (λ m. r < m) (sym (starts s hs).count_outs) hr)).link ∙ ap (λ (v : Outgoing M). v.link) ((starts s hs).outs r hr)
 
-  pub can_close_all : CanCloseAll n (map (λ (s : Shown A M N). s.ins) ended) (map (λ (s : Shown A M N). s.outs) ended)
+  pub can_close_all : CanCloseAll n (map (λ (s : WorkerView A M N). s.ins) ended) (map (λ (s : WorkerView A M N). s.outs) ended)
   can_close_all = record {
     receivers = length-map ended _ ∙ count;
     senders = length-map ended _ ∙ count;
@@ -138,10 +138,10 @@ module _ {A M N : Type 0} (ready : A → M → Bool) (step : A → ℕ → M →
 
   -- what was held on a link
   abbrev pub holds : ℕ → ℕ → List (Stamped M)
-  holds s r = begun (waiting w (at r s))
+  holds s r = with_stamp_0 (waiting w (at r s))
 
   module _ (links : List (List M)) (square : length links ≡ n * n)
-      (closed : (s r : ℕ) → s < n → r < n → Closed (in_at (row_at (map (λ (x : Shown A M N). x.ins) ended) r) s) (out_at (row_at (map (λ (x : Shown A M N). x.outs) ended) s) r) (row_at links (s * n + r))) where
+      (closed : (s r : ℕ) → s < n → r < n → Closed (in_at (row_at (map (λ (x : WorkerView A M N). x.ins) ended) r) s) (out_at (row_at (map (λ (x : WorkerView A M N). x.outs) ended) s) r) (row_at links (s * n + r))) where
     abbrev LeftAt : ℕ → ℕ → List (Stamped M) → Type 0
     LeftAt s r l = (row_at links (s * n + r) ≡ messages l) × (taken_at s (events r) ++ l ≡ holds s r ++ put_between step n s r (node_at s) (events s))
 
@@ -177,7 +177,7 @@ module _ {A M N : Type 0} (ready : A → M → Bool) (step : A → ℕ → M →
     fits = record {
       some = is.some_node;
       square = is.square;
-      shows = λ s r hs hr. sym (messages-begun (waiting w (at r s)));
+      shows = λ s r hs hr. sym (messages-with_stamp_0 (waiting w (at r s)));
       whole = λ s r hs hr. ((pick_left s r).1 hs hr).1;
       within = no_events;
       ports = ports_is;
@@ -187,18 +187,18 @@ module _ {A M N : Type 0} (ready : A → M → Bool) (step : A → ℕ → M →
     -- the world that is left
     abbrev pub world_left : List Choice → Network A M N
     world_left cs = record {
-      nodes = map (λ (s : Shown A M N). s.node) ended;
+      nodes = map (λ (s : WorkerView A M N). s.node) ended;
       links = slice_set links 0 [];
       input = row_at links 0;
-      log = w.log ++ dealt (λ j. row_at (map (λ (s : Shown A M N). s.notes) ended) j) cs;
+      log = w.log ++ dealt (λ j. row_at (map (λ (s : WorkerView A M N). s.notes) ended) j) cs;
     }
 
     waits_left : (cs : List Choice) (s r : ℕ) → s < n → r < n → waiting (world_left cs) (at r s) ≡ messages (left s r)
     waits_left cs s r hs hr =
-        let nodes : length (map (λ (x : Shown A M N). x.node) ended) ≡ n = length-map ended _ ∙ count in
+        let nodes : length (map (λ (x : WorkerView A M N). x.node) ended) ≡ n = length-map ended _ ∙ count in
         let shown : row_at links (s * n + r) ≡ messages (left s r) = ((pick_left s r).1 hs hr).0 in
         waiting_is (world_left cs) s r (subst (λ m. s < m) (sym nodes) hs) (subst (λ m. r < m) (sym nodes) hr)
-        ∙ elim ((r == 0) && (s == 0)) as (λ b. (r == 0) && (s == 0) ≡ b → (if b then row_at links 0 else row_at (slice_set links 0 []) (s * length (map (λ (x : Shown A M N). x.node) ended) + r)) ≡ messages (left s r)) [
+        ∙ elim ((r == 0) && (s == 0)) as (λ b. (r == 0) && (s == 0) ≡ b → (if b then row_at links 0 else row_at (slice_set links 0 []) (s * length (map (λ (x : WorkerView A M N). x.node) ended) + r)) ≡ messages (left s r)) [
           | true ↦ λ t.
               let s_zero : s ≡ 0 = grind (arith, nat_tests) in
               let r_zero : r ≡ 0 = grind (arith, nat_tests) in
@@ -209,18 +209,18 @@ module _ {A M N : Type 0} (ready : A → M → Bool) (step : A → ℕ → M →
               ap (λ m. row_at (slice_set links 0 []) (s * m + r)) nodes ∙ get_or-set_other links 0 (s * n + r) [] [] other ∙ shown
         ] refl
 
-    notes_same : (j : ℕ) → row_at (map (λ (s : Shown A M N). s.notes) ended) j ≡ notes_of step (node_at j) (events j)
+    notes_same : (j : ℕ) → row_at (map (λ (s : WorkerView A M N). s.notes) ended) j ≡ notes_of step (node_at j) (events j)
     notes_same j = elim (cases_lt j n) [
-      | inl h ↦ get_or-map (λ (s : Shown A M N). s.notes) ended j blank [] (subst (λ m. j < m) (sym count) h) ∙ notes_is j h
-      | inr o ↦ get_or_past (map (λ (s : Shown A M N). s.notes) ended) j [] (subst (λ m. m ≤ j) (sym (length-map ended _ ∙ count)) o) ∙ sym (ap (notes_of step (node_at j)) (no_events j o))
+      | inl h ↦ get_or-map (λ (s : WorkerView A M N). s.notes) ended j blank [] (subst (λ m. j < m) (sym count) h) ∙ notes_is j h
+      | inr o ↦ get_or_past (map (λ (s : WorkerView A M N). s.notes) ended) j [] (subst (λ m. m ≤ j) (sym (length-map ended _ ∙ count)) o) ∙ sym (ap (notes_of step (node_at j)) (no_events j o))
     ]
 
     pub leaves : (cs : List Choice) → HistoriesLeave ready step d w (world_left cs) events left cs
     leaves cs = record {
       count = length-map ended _ ∙ count;
-      nodes = λ j h. get_or-map (λ (s : Shown A M N). s.node) ended j blank d (subst (λ m. j < m) (sym count) h) ∙ node_is j h;
+      nodes = λ j h. get_or-map (λ (s : WorkerView A M N). s.node) ended j blank d (subst (λ m. j < m) (sym count) h) ∙ node_is j h;
       waits = waits_left cs;
-      log = ap (λ l. w.log ++ l) (dealt_same (λ j. row_at (map (λ (s : Shown A M N). s.notes) ended) j) (λ j. notes_of step (node_at j) (events j)) cs notes_same);
+      log = ap (λ l. w.log ++ l) (dealt_same (λ j. row_at (map (λ (s : WorkerView A M N). s.notes) ended) j) (λ j. notes_of step (node_at j) (events j)) cs notes_same);
       links = length-set links 0 [] ∙ square ∙ sym is.square;
       loop = get_or-set_same links 0 [] [] (subst (λ m. 0 < m) (sym square) (omega (arith, inside n 0 0 is.some_node is.some_node))) ∙ sym is.no_loop;
     }

@@ -4,7 +4,7 @@ use Rattle.std.proofs.lemmas.Bool.Decides.{Decides-eqb}
 use Rattle.std.proofs.lemmas.List.{get_or-set_same, get_or-set_other, get_or_past}
 use Rattle.actor_net.specs.declared.choice.Choice.{Choice}
 use Rattle.actor_net.specs.Histories.{without_first_list, first_list, dealt}
-use Rattle.actor_threads.specs.Table.{row_at}
+use Rattle.actor_threads.specs.LinkTable.{row_at}
 
 module _ {N : Type 0} where
   -- the notes of equal queues are dealt alike

@@ -3,7 +3,7 @@ use Rattle.std.proofs.Common.{◌≡◌, false, true≢false, Option, Some, None
 use Rattle.actor_net.specs.declared.stamped.Stamped.{Stamped}
 use Rattle.std.specs.Option.{is_some, option_to_list}
 use Rattle.actor_net.specs.Histories.{messages}
-use Rattle.actor_threads.specs.Ways.{Incoming, Draws, begun}
+use Rattle.actor_threads.specs.Ways.{Incoming, Draws, with_stamp_0}
 
 module _ {M : Type 0} {old new : Incoming M} where
   -- nothing was taken
@@ -24,17 +24,17 @@ module _ {M : Type 0} {old new : Incoming M} where
 
 -- the first of what is kept
 pub kept_first : {M : Type 0} (held : Option (Stamped M)) (kept : List M) (x : M) → is_some held ≡ false → kept ≡ x ∷ drop 1 kept
-    → option_to_list held ++ begun kept ≡ record { clock = 0; message = x } ∷ begun (drop 1 kept)
-kept_first None kept x none first = ap begun first
+    → option_to_list held ++ with_stamp_0 kept ≡ record { clock = 0; message = x } ∷ with_stamp_0 (drop 1 kept)
+kept_first None kept x none first = ap with_stamp_0 first
 kept_first (Some h) kept x none first = absurd (true≢false none)
 
 -- messages from before a round, without their stamps
-pub messages-begun : {M : Type 0} (kept : List M) → messages (begun kept) ≡ kept
-messages-begun [] = refl
-messages-begun (x ∷ xs) = ap (λ l. x ∷ l) (messages-begun xs)
+pub messages-with_stamp_0 : {M : Type 0} (kept : List M) → messages (with_stamp_0 kept) ≡ kept
+messages-with_stamp_0 [] = refl
+messages-with_stamp_0 (x ∷ xs) = ap (λ l. x ∷ l) (messages-with_stamp_0 xs)
 
-pub none_held : {M : Type 0} (held : Option (Stamped M)) (kept : List M) → held ≡ None → kept ≡ messages (option_to_list held ++ begun kept)
-none_held held kept is = sym (ap (λ h. messages (option_to_list h ++ begun kept)) is ∙ messages-begun kept)
+pub none_held : {M : Type 0} (held : Option (Stamped M)) (kept : List M) → held ≡ None → kept ≡ messages (option_to_list held ++ with_stamp_0 kept)
+none_held held kept is = sym (ap (λ h. messages (option_to_list h ++ with_stamp_0 kept)) is ∙ messages-with_stamp_0 kept)
 
-pub one_held : {M : Type 0} (held : Option (Stamped M)) (x : Stamped M) (kept : List M) → held ≡ Some x → x.message ∷ kept ≡ messages (option_to_list held ++ begun kept)
-one_held held x kept is = sym (ap (λ h. messages (option_to_list h ++ begun kept)) is ∙ ap (λ l. x.message ∷ l) (messages-begun kept))
+pub one_held : {M : Type 0} (held : Option (Stamped M)) (x : Stamped M) (kept : List M) → held ≡ Some x → x.message ∷ kept ≡ messages (option_to_list held ++ with_stamp_0 kept)
+one_held held x kept is = sym (ap (λ h. messages (option_to_list h ++ with_stamp_0 kept)) is ∙ ap (λ l. x.message ∷ l) (messages-with_stamp_0 kept))

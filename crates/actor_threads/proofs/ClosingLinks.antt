@@ -3,10 +3,10 @@ use Rattle.std.proofs.Common.{◌≡◌, ◌<◌, ℕ, suc, ◌+◌, ◌*◌, Li
 use Rattle.std.proofs.lemmas.Grind.{rows}
 use Rattle.actor_threads.specs.Ways.{Incoming, Outgoing}
 use Rattle.actor_threads.specs.Work.{no_in, in_at, out_at}
-use Rattle.actor_threads.specs.Table.{row_at, Closed, RowClosed, CanClose}
+use Rattle.actor_threads.specs.LinkTable.{row_at, Closed, RowClosed, CanClose}
 use Rattle.actor_threads.specs.Round.{CanCloseAll, AllClosed}
-use Rattle.actor_threads.proofs.Cutting.{rest_after}
-use Rattle.actor_threads.proofs.Rows.{first_left, same_or}
+use Rattle.actor_threads.proofs.NotesByCounts.{rest_after}
+use Rattle.actor_threads.proofs.LinkTableLemmas.{first_left, same_or}
 
 before : (s k n r : ℕ) → s < k → r < n → s * n + r < k * n
 before s k n r hs hr = grind (arith, rows)

@@ -1,19 +1,20 @@
--- A whole round, from its seats.
-use Rattle.std.proofs.Common.{◌≡◌, ◌<◌, ℕ, zero, suc, Bool, true, false, true≢false, ◌&&◌, IsTrue, List, [], ◌∷◌, ◌++◌, length, slice_index_or, map, take, drop, sym, ◌∙◌, ap, refl, subst, arith}
+-- A whole round, from its members.
+use Rattle.std.proofs.Common.{◌≡◌, ◌<◌, ℕ, zero, suc, Bool, true, false, true≢false, ◌&&◌, List, [], ◌∷◌, ◌++◌, length, slice_index_or, map, sym, ◌∙◌, ap, refl, subst, arith}
 use Rattle.std.specs.List.{list_all}
-use Rattle.std.proofs.lemmas.Grind.{common_steps}
 use Rattle.std.proofs.lemmas.List.{length-map, get_or-map}
 use Rattle.actor_net.specs.declared.choice.Choice.{Choice}
 use Rattle.actor_net.specs.declared.histories.History.{History}
 use Rattle.actor_net.specs.Network.{Network, Stepped, IsWorld, IsRun, run, is_enabled}
 use Rattle.actor_net.proofs.ClockOrder.{RunLeaves}
 use Rattle.actor_net.proofs.MergeRun.{merged, replay_is}
-use Rattle.actor_threads.specs.declared.round.Seat.{Seat}
+use Rattle.actor_threads.specs.declared.groups.Member.{Member}
+use Rattle.actor_threads.specs.Groups.{has_run, AllInRound}
 use Rattle.actor_threads.specs.Ways.{Incoming, Outgoing}
-use Rattle.actor_threads.specs.Work.{Shown, Ran}
+use Rattle.actor_threads.specs.Work.{WorkerView, Ran}
 use Rattle.actor_threads.specs.Round.{AllStart, CanCloseAll, AllClosed, Gathered}
-use Rattle.actor_threads.proofs.Gathering.{can_close_all, events, holds, left, rise_is, matches, fits, leaves}
-use Rattle.actor_threads.proofs.Moving.{history_of, no_steps, all_quiet}
+use Rattle.actor_threads.proofs.GroupLemmas.{ran}
+use Rattle.actor_threads.proofs.RoundReplay.{can_close_all, events, holds, left, rise_is, matches, fits, leaves}
+use Rattle.actor_threads.proofs.RoundWithoutChoice.{history_of, no_steps, all_quiet}
 
 -- a node of a world
 pub some_node : {A : Type 0} (nodes : List A) → 0 < length nodes → A
@@ -30,46 +31,45 @@ all_at p (x ∷ xs) zero d e h = (both (p x) (list_all p xs) e).0
 all_at p (x ∷ xs) (suc i) d e h = all_at p xs i d (both (p x) (list_all p xs) e).1 (omega arith)
 
 module _ {A M N : Type 0} where
-  abbrev pub workers : List (Seat A M N) → List (Shown A M N)
-  workers seats = map (λ (s : Seat A M N). s.worker) seats
+  abbrev pub workers : List (Member A M N) → List (WorkerView A M N)
+  workers members = map (λ (s : Member A M N). s.worker) members
 
-  pub of_workers : {X : Type 0} (f : Shown A M N → X) (seats : List (Seat A M N)) → map (λ (s : Seat A M N). f s.worker) seats ≡ map f (workers seats)
+  pub of_workers : {X : Type 0} (f : WorkerView A M N → X) (members : List (Member A M N)) → map (λ (s : Member A M N). f s.worker) members ≡ map f (workers members)
   of_workers f [] = refl
   of_workers f (s ∷ ss) = ap (λ l. f s.worker ∷ l) (of_workers f ss)
 
-module _ {A M N : Type 0} (ready : A → M → Bool) (step : A → ℕ → M → Stepped A M N) (w : Network A M N) (is : IsWorld w) (before after : List (Seat A M N)) (all : AllStart w (workers before))
-    (ran : (i : ℕ) (e : Seat A M N) → i < length before → IsTrue (slice_index_or after i e).done → Ran ready step (slice_index_or before i e).worker (slice_index_or after i e).worker)
-    (done : list_all (λ (s : Seat A M N). s.done) after ≡ true) (same : length after ≡ length before) where
+module _ {A M N : Type 0} (ready : A → M → Bool) (step : A → ℕ → M → Stepped A M N) (w : Network A M N) (is : IsWorld w) (before after : List (Member A M N)) (all : AllStart w (workers before))
+    (round : AllInRound ready step before after) (done : list_all has_run after ≡ true) (same : length after ≡ length before) where
   d : A
   d = some_node w.nodes is.some_node
 
-  abbrev blank : Shown A M N
+  abbrev blank : WorkerView A M N
   blank = record { number = 0; node = d; clock = 0; steps = []; notes = []; ins = []; outs = [] }
 
-  seat_count : length before ≡ length w.nodes
-  seat_count = sym (length-map before _) ∙ all.count
+  member_count : length before ≡ length w.nodes
+  member_count = sym (length-map before _) ∙ all.count
 
   count : length (workers after) ≡ length w.nodes
-  count = length-map after _ ∙ same ∙ seat_count
+  count = length-map after _ ∙ same ∙ member_count
 
-  each : (j : ℕ) (e : Shown A M N) → j < length w.nodes → Ran ready step (slice_index_or (workers before) j e) (slice_index_or (workers after) j e)
+  each : (j : ℕ) (e : WorkerView A M N) → j < length w.nodes → Ran ready step (slice_index_or (workers before) j e) (slice_index_or (workers after) j e)
   each j e h =
-      let seat : Seat A M N = record { worker = e; done = false } in
-      let inside : j < length before = subst (λ m. j < m) (sym seat_count) h in
+      let member : Member A M N = record { worker = e; looked = false; moved = false; failed = false } in
+      let inside : j < length before = subst (λ m. j < m) (sym member_count) h in
       let there : j < length after = subst (λ m. j < m) (sym same) inside in
-      subst (λ (v : Shown A M N × Shown A M N). Ran ready step v.0 v.1) (λ i. (sym (get_or-map (λ (s : Seat A M N). s.worker) before j seat e inside) i, sym (get_or-map (λ (s : Seat A M N). s.worker) after j seat e there) i))
-      (ran j seat inside (all_at (λ (s : Seat A M N). s.done) after j seat done there))
+      subst (λ (v : WorkerView A M N × WorkerView A M N). Ran ready step v.0 v.1) (λ i. (sym (get_or-map (λ (s : Member A M N). s.worker) before j member e inside) i, sym (get_or-map (λ (s : Member A M N). s.worker) after j member e there) i))
+      (ran ready step _ _ (round j member inside) (all_at has_run after j member done there))
 
-  pub can_close_seats : CanCloseAll (length w.nodes) (map (λ (s : Shown A M N). s.ins) (workers after)) (map (λ (s : Shown A M N). s.outs) (workers after))
-  can_close_seats = can_close_all ready step w (workers before) (workers after) d is all each count
+  pub can_close_members : CanCloseAll (length w.nodes) (map (λ (s : WorkerView A M N). s.ins) (workers after)) (map (λ (s : WorkerView A M N). s.outs) (workers after))
+  can_close_members = can_close_all ready step w (workers before) (workers after) d is all each count
 
   module _ (v : Network A M N) (cs : List Choice)
-      (g : Gathered (map (λ (s : Shown A M N). s.node) (workers after)) (map history_of (workers after)) (map (λ (s : Shown A M N). s.notes) (workers after)) (map (λ (s : Shown A M N). s.ins) (workers after)) (map (λ (s : Shown A M N). s.outs) (workers after)) w.log v cs) where
-    nodes : length (map (λ (s : Shown A M N). s.node) (workers after)) ≡ length w.nodes
+      (g : Gathered (map (λ (s : WorkerView A M N). s.node) (workers after)) (map history_of (workers after)) (map (λ (s : WorkerView A M N). s.notes) (workers after)) (map (λ (s : WorkerView A M N). s.ins) (workers after)) (map (λ (s : WorkerView A M N). s.outs) (workers after)) w.log v cs) where
+    nodes : length (map (λ (s : WorkerView A M N). s.node) (workers after)) ≡ length w.nodes
     nodes = length-map (workers after) _ ∙ count
 
-    closed : AllClosed (length w.nodes) (length w.nodes) (map (λ (s : Shown A M N). s.ins) (workers after)) (map (λ (s : Shown A M N). s.outs) (workers after)) g.links
-    closed = subst (λ n. AllClosed n n (map (λ (s : Shown A M N). s.ins) (workers after)) (map (λ (s : Shown A M N). s.outs) (workers after)) g.links) nodes g.closed
+    closed : AllClosed (length w.nodes) (length w.nodes) (map (λ (s : WorkerView A M N). s.ins) (workers after)) (map (λ (s : WorkerView A M N). s.outs) (workers after)) g.links
+    closed = subst (λ n. AllClosed n n (map (λ (s : WorkerView A M N). s.ins) (workers after)) (map (λ (s : WorkerView A M N). s.outs) (workers after)) g.links) nodes g.closed
 
     replayed : RunLeaves ready step d w (events ready step w (workers before) (workers after) d is all each count) (left ready step w (workers before) (workers after) d is all each count g.links closed.count closed.closed) cs
     replayed = merged ready step d w (map history_of (workers after)) cs (events ready step w (workers before) (workers after) d is all each count)
@@ -106,23 +106,11 @@ regather {A} {M} {N} {nodes} {nodes'} {hs} {hs'} {notes} {notes'} {ins} {ins'} {
 pub reclose : {M : Type 0} {n n' : ℕ} {ins ins' : List (List (Incoming M))} {outs outs' : List (List (Outgoing M))} → n ≡ n' → ins ≡ ins' → outs ≡ outs' → CanCloseAll n ins outs → CanCloseAll n' ins' outs'
 reclose {M} {n} {n'} {ins} {ins'} {outs} {outs'} a b c g = subst (λ (t : ℕ × List (List (Incoming M)) × List (List (Outgoing M))). CanCloseAll t.0 t.1 t.2) (λ i. (a i, b i, c i)) g
 
--- what a slice wrote back
-pub written_back : {X : Type 0} (old new : List X) (n : ℕ) → length new ≡ length old → n ≡ length old → take n (new ++ drop (length new) old) ≡ new
-written_back old new n same many = grind (arith, common_steps)
-
 module _ {A M N : Type 0} where
-  -- what the workers show, by the list of the seats
-  pub seen : {X : Type 0} (f : Shown A M N → X) (seats after : List (Seat A M N)) (list : List X) → list ≡ map (λ (s : Seat A M N). f s.worker) seats → seats ≡ after → list ≡ map f (workers after)
-  seen f seats after list e back = e ∙ ap (λ (l : List (Seat A M N)). map (λ (s : Seat A M N). f s.worker) l) back ∙ of_workers f after
+  -- what the workers show, by the list of the members
+  pub seen : {X : Type 0} (f : WorkerView A M N → X) (after : List (Member A M N)) (list : List X) → list ≡ map (λ (m : Member A M N). f m.worker) after → list ≡ map f (workers after)
+  seen f after list e = e ∙ of_workers f after
 
-  pub done_after : (seats after : List (Seat A M N)) → list_all (λ (s : Seat A M N). s.done) seats ≡ true → seats ≡ after → list_all (λ (s : Seat A M N). s.done) after ≡ true
-  done_after seats after e back = subst (λ (l : List (Seat A M N)). list_all (λ (s : Seat A M N). s.done) l ≡ true) back e
-
-  pub ran_from : (ready : A → M → Bool) (step : A → ℕ → M → Stepped A M N) (lent before after : List (Seat A M N)) → lent ≡ before
-      → ((i : ℕ) (e : Seat A M N) → i < length lent → IsTrue (slice_index_or after i e).done → Ran ready step (slice_index_or lent i e).worker (slice_index_or after i e).worker)
-      → (i : ℕ) (e : Seat A M N) → i < length before → IsTrue (slice_index_or after i e).done → Ran ready step (slice_index_or before i e).worker (slice_index_or after i e).worker
-  ran_from ready step lent before after is ran = subst (λ (l : List (Seat A M N)). (i : ℕ) (e : Seat A M N) → i < length l → IsTrue (slice_index_or after i e).done → Ran ready step (slice_index_or l i e).worker (slice_index_or after i e).worker) is ran
-
-  -- each seat has a worker for its node
-  pub seats_count : (w : Network A M N) (before : List (Seat A M N)) → AllStart w (workers before) → length before ≡ length w.nodes
-  seats_count w before all = sym (length-map before _) ∙ all.count
+  -- each member has a worker for its node
+  pub members_count : (w : Network A M N) (before : List (Member A M N)) → AllStart w (workers before) → length before ≡ length w.nodes
+  members_count w before all = sym (length-map before _) ∙ all.count

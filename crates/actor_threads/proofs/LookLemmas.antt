@@ -4,8 +4,8 @@ use Rattle.std.proofs.lemmas.Bool.Decides.{Decides-eqb}
 use Rattle.std.proofs.lemmas.List.{get_or_default, get_or-set_same, get_or-set_other, set-get_or}
 use Rattle.actor_net.specs.declared.stamped.Stamped.{Stamped}
 use Rattle.actor_threads.specs.Ways.{Incoming, Draws, IsBlocked, last_clock}
-use Rattle.actor_threads.specs.Work.{Shown, no_in, in_at, is_input_of, DrawsAt, Idled, Found, IsQuietAt}
-use Rattle.actor_threads.proofs.Drawing.{drew_nothing, drew_first}
+use Rattle.actor_threads.specs.Work.{WorkerView, no_in, in_at, is_input_of, DrawsAt, Idled, Found, IsQuietAt}
+use Rattle.actor_threads.proofs.WayInLemmas.{drew_nothing, drew_first}
 
 -- a port of a node is the input only where both are 0
 pub not_input : (n p : ℕ) → is_input_of n p ≡ false → n ≡ 0 → p ≡ 0 → ⊥
@@ -19,8 +19,8 @@ either : {X : Type 0} (b : Bool) (x : X) → (if b then x else x) ≡ x
 either true x = refl
 either false x = refl
 
-module _ {A M N : Type 0} (ready : A → M → Bool) (w : Shown A M N) (port : ℕ) (old way : Incoming M) (is : old ≡ slice_index_or w.ins port old) (within : port < length w.ins) where
-  abbrev now : Shown A M N
+module _ {A M N : Type 0} (ready : A → M → Bool) (w : WorkerView A M N) (port : ℕ) (old way : Incoming M) (is : old ≡ slice_index_or w.ins port old) (within : port < length w.ins) where
+  abbrev now : WorkerView A M N
   now = record w { ins = slice_set w.ins port way }
 
   here : old ≡ in_at w.ins port
@@ -89,25 +89,25 @@ ready_first ready node item kept more first is_so x rest e =
     ap (λ (y : Stamped _). ready node y.message) (sym same) ∙ is_so
 
 -- the same, of a worker that is seen by its fields
-module _ {A M N : Type 0} (ready : A → M → Bool) {before w : Shown A M N} (e : before ≡ w) (port : ℕ) (old way : Incoming M) (is : old ≡ slice_index_or before.ins port old) (within : port < length w.ins) where
-  abbrev set : Shown A M N
+module _ {A M N : Type 0} (ready : A → M → Bool) {before w : WorkerView A M N} (e : before ≡ w) (port : ℕ) (old way : Incoming M) (is : old ≡ slice_index_or before.ins port old) (within : port < length w.ins) where
+  abbrev set : WorkerView A M N
   set = record before { ins = slice_set before.ins port way }
 
   inside : port < length before.ins
-  inside = subst (λ (v : Shown A M N). port < length v.ins) (sym e) within
+  inside = subst (λ (v : WorkerView A M N). port < length v.ins) (sym e) within
 
   pub kept_at : (r : Option (Stamped M)) → ((x : Stamped M) (rest : List (Stamped M)) → old.kept ≡ x ∷ rest → before.number ≡ 0 → port ≡ 0 → ready before.node x.message ≡ true)
       → MatchOption r (way ≡ old) (λ x. (x.clock ≡ 0) × (old.kept ≡ x ∷ way.kept)) → (way.link ≡ old.link) × (way.done ≡ old.done)
       → MatchOption r (set ≡ w) (λ x. Found ready w set port x)
-  kept_at r ok k same = subst (λ (v : Shown A M N). MatchOption r (set ≡ v) (λ x. Found ready v set port x)) e (kept_found ready before port old way is inside r ok k same)
+  kept_at r ok k same = subst (λ (v : WorkerView A M N). MatchOption r (set ≡ v) (λ x. Found ready v set port x)) e (kept_found ready before port old way is inside r ok k same)
 
   pub end_at : (r : Option (Stamped M)) → is_input_of w.number port ≡ false → MatchOption r (Draws old way []) (λ x. (x.clock < last_clock) × Draws old way (x ∷ []))
       → MatchOption r (Idled w set) (λ x. Found ready w set port x)
-  end_at r other d = subst (λ (v : Shown A M N). MatchOption r (Idled v set) (λ x. Found ready v set port x)) e
-      (end_found ready before port old way is inside r (ap (λ (v : Shown A M N). is_input_of v.number port) e ∙ other) d)
+  end_at r other d = subst (λ (v : WorkerView A M N). MatchOption r (Idled v set) (λ x. Found ready v set port x)) e
+      (end_found ready before port old way is inside r (ap (λ (v : WorkerView A M N). is_input_of v.number port) e ∙ other) d)
 
   pub quiet_at : (r : Option (Stamped M)) → IfNone r (IsBlocked old) → IfNone r (IsQuietAt ready w port)
-  quiet_at r b = subst (λ (v : Shown A M N). IfNone r (IsQuietAt ready v port)) e (blocked_quiet ready before port old way is inside r b)
+  quiet_at r b = subst (λ (v : WorkerView A M N). IfNone r (IsQuietAt ready v port)) e (blocked_quiet ready before port old way is inside r b)
 
 -- two reads of one element
 pub same_element : {X : Type 0} (xs : List X) (i : ℕ) (a b : X) → a ≡ slice_index_or xs i a → b ≡ slice_index_or xs i b → i < length xs → a ≡ b

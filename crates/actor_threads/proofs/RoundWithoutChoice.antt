@@ -11,8 +11,8 @@ use Rattle.actor_net.specs.declared.stamped.Stamped.{Stamped}
 use Rattle.actor_net.specs.declared.histories.History.{History}
 use Rattle.actor_net.specs.Network.{Network, is_input, waiting, takes_first, is_enabled}
 use Rattle.actor_net.specs.Merging.{history_steps, all_steps, key_of, key_cmp, choice_of, IsMerge}
-use Rattle.actor_threads.specs.Ways.{Incoming, begun, last_clock}
-use Rattle.actor_threads.specs.Work.{Shown, is_input_of, IsQuiet}
+use Rattle.actor_threads.specs.Ways.{Incoming, with_stamp_0, last_clock}
+use Rattle.actor_threads.specs.Work.{WorkerView, is_input_of, IsQuiet}
 use Rattle.actor_threads.specs.Round.{StartsAs}
 
 no_marks : {X : Type 0} (f : X → Choice) (marks : List X) → [] ≡ map f marks → marks ≡ []
@@ -40,26 +40,26 @@ module _ {A M : Type 0} where
   takes_none ready c None = refl
   takes_none ready c (Some a) = refl
 
-  quiet_off : (ready : A → M → Bool) (c : Choice) (node : A) (waits : List M) → ((x : Stamped M) (rest : List (Stamped M)) → begun waits ≡ x ∷ rest → (last_clock ≤ 0) ⊎ ((last_clock ≤ x.clock) ⊎ ((is_input_of c.node c.port ≡ true) × (ready node x.message ≡ false))))
+  quiet_off : (ready : A → M → Bool) (c : Choice) (node : A) (waits : List M) → ((x : Stamped M) (rest : List (Stamped M)) → with_stamp_0 waits ≡ x ∷ rest → (last_clock ≤ 0) ⊎ ((last_clock ≤ x.clock) ⊎ ((is_input_of c.node c.port ≡ true) × (ready node x.message ≡ false))))
       → takes_first ready c (Some node) waits ≡ false
   quiet_off ready c node [] quiet = refl
   quiet_off ready c node (m ∷ ms) quiet =
       ⊎_elim (λ (z : last_clock ≤ 0). absurd (omega arith))
       (λ (y : (last_clock ≤ 0) ⊎ ((is_input_of c.node c.port ≡ true) × (ready node m ≡ false))). ⊎_elim (λ (z : last_clock ≤ 0). absurd (omega arith))
       (λ (z : (is_input_of c.node c.port ≡ true) × (ready node m ≡ false)). ap (λ b. if b then ready node m else true) z.0 ∙ z.1) y)
-      (quiet (record { clock = 0; message = m }) (begun ms) refl)
+      (quiet (record { clock = 0; message = m }) (with_stamp_0 ms) refl)
 
 module _ {A M N : Type 0} where
   -- the history of a worker
-  abbrev pub history_of : Shown A M N → History
+  abbrev pub history_of : WorkerView A M N → History
   history_of s = record { node = s.number; steps = s.steps }
 
-  none_each : (blank : Shown A M N) (workers : List (Shown A M N)) → all_steps (map history_of workers) ≡ [] → (j : ℕ) → j < length workers → (slice_index_or workers j blank).steps ≡ []
+  none_each : (blank : WorkerView A M N) (workers : List (WorkerView A M N)) → all_steps (map history_of workers) ≡ [] → (j : ℕ) → j < length workers → (slice_index_or workers j blank).steps ≡ []
   none_each blank [] e j h = absurd (omega arith)
   none_each blank (x ∷ xs) e zero h = no_map _ x.steps (no_front (history_steps (history_of x)) (all_steps (map history_of xs)) e).0
   none_each blank (x ∷ xs) e (suc j) h = none_each blank xs (no_front (history_steps (history_of x)) (all_steps (map history_of xs)) e).1 j (omega arith)
 
-  pub no_steps : (blank : Shown A M N) (workers : List (Shown A M N)) (cs : List Choice) → IsMerge (map history_of workers) cs → cs ≡ [] → (j : ℕ) → j < length workers → (slice_index_or workers j blank).steps ≡ []
+  pub no_steps : (blank : WorkerView A M N) (workers : List (WorkerView A M N)) (cs : List Choice) → IsMerge (map history_of workers) cs → cs ≡ [] → (j : ℕ) → j < length workers → (slice_index_or workers j blank).steps ≡ []
   no_steps blank workers cs merge none = none_each blank workers (none_before (λ a b. is_lt (key_cmp (key_of a) (key_of b))) (all_steps (map history_of workers)) merge.steps (λ y. grind (arith, nat_tests)) (no_marks choice_of merge.steps (sym none ∙ merge.taken)) merge.stable)
 
   no_wait : (w : Network A M N) (c : Choice) → 0 < length w.nodes → length w.nodes ≤ c.port → waiting w c ≡ []
@@ -69,7 +69,7 @@ module _ {A M N : Type 0} where
       rw (off, out) refl
 
   -- where each worker is quiet no choice is enabled
-  pub all_quiet : (ready : A → M → Bool) (w : Network A M N) (d : A) (worker : ℕ → Shown A M N) (names : ℕ → ℕ → _) → 0 < length w.nodes → ((j : ℕ) → j < length w.nodes → StartsAs w names j (worker j)) → ((j : ℕ) → j < length w.nodes → IsQuiet ready (worker j)) → (c : Choice) → is_enabled ready w c ≡ false
+  pub all_quiet : (ready : A → M → Bool) (w : Network A M N) (d : A) (worker : ℕ → WorkerView A M N) (names : ℕ → ℕ → _) → 0 < length w.nodes → ((j : ℕ) → j < length w.nodes → StartsAs w names j (worker j)) → ((j : ℕ) → j < length w.nodes → IsQuiet ready (worker j)) → (c : Choice) → is_enabled ready w c ≡ false
   all_quiet ready w d worker names some starts quiet c =
       elim (cases_lt c.node (length w.nodes)) [
         | inl h ↦ elim (cases_lt c.port (length w.nodes)) [

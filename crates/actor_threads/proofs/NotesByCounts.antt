@@ -4,7 +4,7 @@ use Rattle.std.proofs.lemmas.List.{take-append-le, drop-append-le}
 use Rattle.std.proofs.lemmas.List.Sums.{sum_by-cons}
 use Rattle.std.proofs.Math.Seq.{take-length}
 use Rattle.actor_threads.specs.declared.notes.Run.{Run}
-use Rattle.actor_threads.specs.Noted.{zeros_then, counts_of, cut}
+use Rattle.actor_threads.specs.NoteCounts.{zeros_then, counts_of, cut}
 
 zeros-append : (n : ℕ) (xs ys : List ℕ) → zeros_then n xs ++ ys ≡ zeros_then n (xs ++ ys)
 zeros-append zero xs ys = refl

@@ -2,8 +2,8 @@
 use Rattle.std.proofs.Common.{◌≡◌, ◌≢◌, ◌<◌, ℕ, ◌+◌, ◌*◌, List, [], ◌∷◌, ◌++◌, length, slice_set, map, sym, ◌∙◌, ap, subst, arith}
 use Rattle.std.proofs.lemmas.List.{length-map, map-append, get_or-set_other, get_or_append_left}
 use Rattle.actor_net.proofs.LinkLemmas.{other_place}
-use Rattle.actor_threads.specs.Table.{row_at}
-use Rattle.actor_threads.proofs.Rows.{last_of, same_or}
+use Rattle.actor_threads.specs.LinkTable.{row_at}
+use Rattle.actor_threads.proofs.LinkTableLemmas.{last_of, same_or}
 
 module _ {X : Type 0} (links : List (List X)) (place count port node : ℕ) (v : List X) (is : place ≡ port * count + node) (hn : node < count) where
   -- the other columns stay

@@ -1,29 +1,30 @@
 use Rattle.std.proofs.Common.{◌≡◌, ◌<◌, ◌+◌, ◌*◌, ℕ, sym, ◌∙◌, ap, subst, arith, length, map, length-append, add-one, slice_index_or}
 use Rattle.std.proofs.lemmas.List.{length-map, map-append}
 use Rattle.actor_threads.specs.Work.{opened, waits}
-use Rattle.actor_threads.specs.Table.{row_at, name_of}
+use Rattle.actor_threads.specs.LinkTable.{row_at, name_of}
 use Rattle.actor_threads.specs.Round.{StartsAs}
-use Rattle.actor_threads.proofs.Cutting.{rest_after}
-use Rattle.actor_threads.proofs.Rows.{mapped_first}
-use Rattle.actor_threads.proofs.Starting.{starts_as, started_more}
-use Rattle.actor_threads.proofs.round.seat_all.Goals as goal
+use Rattle.actor_threads.proofs.NotesByCounts.{rest_after}
+use Rattle.actor_threads.proofs.LinkTableLemmas.{mapped_first}
+use Rattle.actor_threads.proofs.GroupLemmas.{one_begins}
+use Rattle.actor_threads.proofs.RoundStart.{starts_as, started_more}
+use Rattle.actor_threads.proofs.round.members_of.Goals as goal
 
-pub seat_one-requires-clause-count : goal.seat_one-requires-clause-count
-seat_one-requires-clause-count g c =
+pub worker_of-requires-clause-count : goal.worker_of-requires-clause-count
+worker_of-requires-clause-count g c =
     let inv = c.loop-number.invariant in
     let row = mapped_first (λ v. v.items) c.loop-number.number _ _ _ (sym inv.takes ∙ c.in-Some-pop_front-2.ensures.items) in
     let wide = sym (ap length row) ∙ inv.opened.take_rows c.loop-number.number c.loop-number-test.true in
     (subst (λ m. c.loop-number.number < m) (sym wide) c.loop-number-test.true, subst (λ m. m < 256) (sym wide) inv.few)
 
-pub seat_one-requires-clause-square : goal.seat_one-requires-clause-square
-seat_one-requires-clause-square g c =
+pub worker_of-requires-clause-square : goal.worker_of-requires-clause-square
+worker_of-requires-clause-square g c =
     let inv = c.loop-number.invariant in
     let row = mapped_first (λ v. v.items) c.loop-number.number _ _ _ (sym inv.takes ∙ c.in-Some-pop_front-2.ensures.items) in
     let wide = sym (ap length row) ∙ inv.opened.take_rows c.loop-number.number c.loop-number-test.true in
     inv.square ∙ sym (ap (λ m. m * m) wide)
 
-pub seat_one-requires-clause-ends : goal.seat_one-requires-clause-ends
-seat_one-requires-clause-ends g c =
+pub worker_of-requires-clause-ends : goal.worker_of-requires-clause-ends
+worker_of-requires-clause-ends g c =
     let inv = c.loop-number.invariant in
     let row = mapped_first (λ v. v.items) c.loop-number.number _ _ _ (sym inv.takes ∙ c.in-Some-pop_front-2.ensures.items) in
     let other = mapped_first (λ v. v.items) c.loop-number.number _ _ _ (sym inv.sends ∙ c.in-Some-pop_front.ensures.items) in
@@ -45,7 +46,7 @@ loop-number-preserved g c =
     let with = c.in_ok-worker.ensures.worker in
     let names = name_of (map (λ v. v.items) c.from_vec-sends.result.items) in
     let lists = λ (p : ℕ) (hp : p < n). subst (λ m. p < m → row_at with.kept p ≡ row_at c.loop-number.links.items (p * m + k)) wide (with.lists p) hp ∙ inv.links p k (omega arith) hn in
-    let opened_is = with.is ∙ ap (λ l. opened k c.in-Some.node (waits k c.replace-items.result.items with.kept) l c.in-Some-pop_front.sends.items) (sym takes)
+    let opened_is = c.open.ensures.worker ∙ with.is ∙ ap (λ l. opened k c.in-Some.node (waits k c.replace-items.result.items with.kept) l c.in-Some-pop_front.sends.items) (sym takes)
     ∙ ap (λ l. opened k c.in-Some.node (waits k c.replace-items.result.items with.kept) (row_at (map (λ v. v.items) c.from_vec-takes.result.items) k) l) (sym sends) in
     let new = subst (λ v. StartsAs w names k v) (sym opened_is)
     (starts_as w n k (map (λ v. v.items) c.from_vec-sends.result.items) (map (λ v. v.items) c.from_vec-takes.result.items) (sym inv.many) hn inv.opened c.in-Some.node _ c.replace-items.result.items with.kept node
@@ -54,26 +55,27 @@ loop-number-preserved g c =
       within = omega (arith, hn);
       many = inv.many;
       few = inv.few;
-      seats = ap length c.in_ok-push.ensures.items ∙ length-append c.loop-number.seats.items _ ∙ ap (λ m. m + 1) inv.seats;
+      members = ap length c.in_ok-push.ensures.items ∙ length-append c.loop-number.members.items _ ∙ ap (λ m. m + 1) inv.members;
       nodes = rw add-one (sym (rest_after k _ _ _ node));
       opened = inv.opened;
       sends = rw add-one (sym (rest_after k _ _ _ sent));
       takes = rw add-one (sym (rest_after k _ _ _ took));
       square = c.in_ok-worker.ensures.square ∙ inv.square;
       no_loop = λ z. absurd (omega arith);
-      links = λ p j low hj. subst (λ m. row_at c.seat_one.new.links.items (p * m + j) ≡ row_at c.loop-number.links.items (p * m + j)) wide (c.in_ok-worker.ensures.others p j (subst (λ m. j < m) (sym wide) hj) (λ e. omega (arith, e))) ∙ inv.links p j (omega arith) hj;
+      links = λ p j low hj. subst (λ m. row_at c.worker_of.new.links.items (p * m + j) ≡ row_at c.loop-number.links.items (p * m + j)) wide (c.in_ok-worker.ensures.others p j (subst (λ m. j < m) (sym wide) hj) (λ e. omega (arith, e))) ∙ inv.links p j (omega arith) hj;
       input = λ z. absurd (omega arith);
       later = λ _. ap (λ v. v.items) c.replace-items.ensures.after ∙ c.new.ensures.items;
-      started = λ j d h. subst (λ l. StartsAs w names j (slice_index_or l j d)) (sym (ap (map (λ s. s.worker)) c.in_ok-push.ensures.items ∙ map-append (λ s. s.worker) c.loop-number.seats.items _))
-          (started_more w names (map (λ s. s.worker) c.loop-number.seats.items) k c.in_ok-worker.worker (length-map c.loop-number.seats.items _ ∙ inv.seats) inv.started new j d h);
+      begin = rw c.in_ok-push.ensures.items (one_begins g.A.Actor.is_ready g.A.Actor.stepped c.loop-number.members.items _ _ inv.begin c.open.ensures.worker c.open.ensures.begin);
+      started = λ j d h. subst (λ l. StartsAs w names j (slice_index_or l j d)) (sym (ap (map (λ s. s.worker)) c.in_ok-push.ensures.items ∙ map-append (λ s. s.worker) c.loop-number.members.items _))
+          (started_more w names (map (λ s. s.worker) c.loop-number.members.items) k c.open.result.worker (length-map c.loop-number.members.items _ ∙ inv.members) inv.started new j d h);
     }
 
-pub returns-clause-seats : goal.returns-clause-seats
-returns-clause-seats g c =
+pub returns-clause-members : goal.returns-clause-members
+returns-clause-members g c =
     let inv = c.loop-number.invariant in
     let all : c.loop-number.number ≡ length c.args.world.nodes = omega (arith, c.loop-number-test.false, inv.within, inv.many) in
     record {
       names = name_of (map (λ v. v.items) c.from_vec-sends.result.items);
-      count = length-map c.loop-number.seats.items _ ∙ inv.seats ∙ all;
+      count = length-map c.loop-number.members.items _ ∙ inv.members ∙ all;
       each = λ j d h. inv.started j d (subst (λ m. j < m) (sym all) h);
     }

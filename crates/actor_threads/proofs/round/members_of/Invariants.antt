@@ -1,14 +1,15 @@
-use Rattle.std.proofs.Common.{◌≡◌, ◌<◌, ◌≤◌, ℕ, [], ◌+◌, ◌*◌, length, map, drop, slice_index_or}
-use Rattle.actor_threads.specs.Table.{row_at, name_of, AllOpened}
+use Rattle.std.proofs.Common.{◌≡◌, ◌<◌, ◌≤◌, ℕ, [], ◌+◌, ◌*◌, length, map, drop, slice_index_or, All}
+use Rattle.actor_threads.specs.Groups.{IsInRound}
+use Rattle.actor_threads.specs.LinkTable.{row_at, name_of, AllOpened}
 use Rattle.actor_threads.specs.Round.{StartsAs}
-use Rattle.actor_threads.proofs.round.seat_all.Given as goal
+use Rattle.actor_threads.proofs.round.members_of.Given as goal
 
 abbrev pub invariant-loop-number : goal.invariant-loop-number
 invariant-loop-number g l = record {
   within : l.number ≤ l.count;
   many : l.count ≡ length l.fn.world.nodes;
   few : l.count < 256;
-  seats : length l.seats.items ≡ l.number;
+  members : length l.members.items ≡ l.number;
   nodes : l.nodes.items ≡ drop l.number l.fn.world.nodes;
   opened : AllOpened l.count l.count (map (λ v. v.items) l.initial.sends.items) (map (λ v. v.items) l.initial.takes.items);
   sends : l.sends.items ≡ drop l.number l.initial.sends.items;
@@ -18,5 +19,6 @@ invariant-loop-number g l = record {
   links : (p j : ℕ) → l.number ≤ j → j < l.count → row_at l.links.items (p * l.count + j) ≡ row_at l.fn.world.links (p * l.count + j);
   input : l.number ≡ 0 → l.input.items ≡ l.fn.world.input;
   later : 0 < l.number → l.input.items ≡ [];
-  started : (j : ℕ) (d : _) → j < l.number → StartsAs l.fn.world (name_of (map (λ v. v.items) l.initial.sends.items)) j (slice_index_or (map (λ s. s.worker) l.seats.items) j d);
+  begin : All (λ m. IsInRound g.A.Actor.is_ready g.A.Actor.stepped m.worker m) l.members.items;
+  started : (j : ℕ) (d : _) → j < l.number → StartsAs l.fn.world (name_of (map (λ v. v.items) l.initial.sends.items)) j (slice_index_or (map (λ s. s.worker) l.members.items) j d);
 }

@@ -4,18 +4,9 @@ use Rattle.actor_net.specs.declared.stamped.Stamped.{Stamped}
 use Rattle.actor_net.specs.Network.{Stepped}
 use Rattle.actor_net.specs.Histories.{NodeStep, noted, node_after, notes_of, taken_at, put_between}
 use Rattle.actor_threads.specs.Ways.{Incoming, Outgoing, Draws, Sends}
-use Rattle.actor_threads.specs.Work.{Shown, in_at, out_at, tick, clock_after, put_for, is_input_of, DrawsAt, Idled, Found, Acted, IsQuiet, Worked}
-use Rattle.actor_threads.proofs.Drawing.{drew_nothing}
-use Rattle.actor_threads.proofs.Snoc.{noted-snoc, taken_at-snoc, ports-snoc, ticks-snoc, clock_after-snoc, node_after-snoc, notes_of-snoc, put_between-snoc, put_nothing, ready-snoc}
-
-zero_or : (n : ℕ) → (n ≡ 0) ⊎ (0 < n)
-zero_or zero = inl refl
-zero_or (suc n) = inr (omega arith)
-
--- where a list is no longer than before, nothing was moved
-unmoved : (moved : Bool) (m n : ℕ) → (moved ≡ true → m < n) → n ≡ m → moved ≡ false
-unmoved false m n more same = refl
-unmoved true m n more same = absurd (omega (arith, more refl, same))
+use Rattle.actor_threads.specs.Work.{WorkerView, in_at, out_at, tick, clock_after, put_for, is_input_of, DrawsAt, Idled, Found, Acted, IsQuiet, Worked}
+use Rattle.actor_threads.proofs.WayInLemmas.{drew_nothing}
+use Rattle.actor_threads.proofs.HistoryStep.{noted-snoc, taken_at-snoc, ports-snoc, ticks-snoc, clock_after-snoc, node_after-snoc, notes_of-snoc, put_between-snoc, put_nothing, ready-snoc}
 
 module _ {M : Type 0} where
   draws_then : {a b c : Incoming M} {u v : List (Stamped M)} → Draws a b u → Draws b c v → Draws a c (u ++ v)
@@ -34,38 +25,31 @@ module _ {M : Type 0} where
 
 module _ {A M N : Type 0} (ready : A → M → Bool) where
   -- no look yet
-  pub no_look : (w : Shown A M N) → Idled w w
+  pub no_look : (w : WorkerView A M N) → Idled w w
   no_look w = record { rest = refl; count = refl; taken = λ p h. record { draws = drew_nothing refl refl refl; closed = λ _. refl } }
 
   -- one more port at which there was nothing
-  pub idled_then : (a b c : Shown A M N) → Idled a b → Idled b c → Idled a c
+  pub idled_then : (a b c : WorkerView A M N) → Idled a b → Idled b c → Idled a c
   idled_then a b c i j = record {
-    rest = j.rest ∙ ap (λ (v : Shown A M N). record v { ins = c.ins }) i.rest;
+    rest = j.rest ∙ ap (λ (v : WorkerView A M N). record v { ins = c.ins }) i.rest;
     count = j.count ∙ i.count;
-    taken = λ p h. drawsAt_then (i.taken p h) (subst (λ k. DrawsAt (is_input_of k p) (in_at b.ins p) (in_at c.ins p) []) (ap (λ (v : Shown A M N). v.number) i.rest) (j.taken p (subst (λ k. p < k) (sym i.count) h)));
+    taken = λ p h. drawsAt_then (i.taken p h) (subst (λ k. DrawsAt (is_input_of k p) (in_at b.ins p) (in_at c.ins p) []) (ap (λ (v : WorkerView A M N). v.number) i.rest) (j.taken p (subst (λ k. p < k) (sym i.count) h)));
   }
 
   -- a port at which there was a message
-  pub idled_found : (a b c : Shown A M N) (port : ℕ) (x : Stamped M) → Idled a b → Found ready b c port x → Found ready a c port x
+  pub idled_found : (a b c : WorkerView A M N) (port : ℕ) (x : Stamped M) → Idled a b → Found ready b c port x → Found ready a c port x
   idled_found a b c port x i f = record {
-    rest = f.rest ∙ ap (λ (v : Shown A M N). record v { ins = c.ins }) i.rest;
+    rest = f.rest ∙ ap (λ (v : WorkerView A M N). record v { ins = c.ins }) i.rest;
     count = f.count ∙ i.count;
     within = subst (λ k. port < k) i.count f.within;
     stamp = f.stamp;
-    taken = λ p h. drawsAt_then (i.taken p h) (subst (λ k. DrawsAt (is_input_of k p) (in_at b.ins p) (in_at c.ins p) (if port == p then x ∷ [] else [])) (ap (λ (v : Shown A M N). v.number) i.rest) (f.taken p (subst (λ k. p < k) (sym i.count) h)));
-    was_ready = λ n q. subst (λ (v : A). ready v x.message ≡ true) (ap (λ (v : Shown A M N). v.node) i.rest) (f.was_ready (ap (λ (v : Shown A M N). v.number) i.rest ∙ n) q);
+    taken = λ p h. drawsAt_then (i.taken p h) (subst (λ k. DrawsAt (is_input_of k p) (in_at b.ins p) (in_at c.ins p) (if port == p then x ∷ [] else [])) (ap (λ (v : WorkerView A M N). v.number) i.rest) (f.taken p (subst (λ k. p < k) (sym i.count) h)));
+    was_ready = λ n q. subst (λ (v : A). ready v x.message ≡ true) (ap (λ (v : WorkerView A M N). v.node) i.rest) (f.was_ready (ap (λ (v : WorkerView A M N). v.number) i.rest ∙ n) q);
   }
-
-  -- a look that found nothing, with no step before it
-  pub still_quiet : (old now flushed new : Shown A M N) (idle : ℕ) (moved : Bool) → (idle ≡ 0 → length now.steps ≡ length old.steps → now ≡ old) → (length now.steps ≡ length old.steps → 0 < idle → IsQuiet ready old)
-      → (moved ≡ true → length old.steps < length now.steps) → flushed ≡ now → Idled flushed new → (moved ≡ false → IsQuiet ready flushed) → length new.steps ≡ length old.steps → IsQuiet ready old
-  still_quiet old now flushed new idle moved fresh quiet more is i q same =
-      let none : length now.steps ≡ length old.steps = sym (ap (λ (v : Shown A M N). length v.steps) (i.rest) ∙ ap (λ (v : Shown A M N). length v.steps) is) ∙ same in
-      ⊎_elim (λ (z : idle ≡ 0). subst (λ (v : Shown A M N). IsQuiet ready v) (is ∙ fresh z none) (q (unmoved moved _ _ more none))) (λ (p : 0 < idle). quiet none p) (zero_or idle)
 
 module _ {A M N : Type 0} (ready : A → M → Bool) (step : A → ℕ → M → Stepped A M N) where
   -- no step yet
-  pub start : (w : Shown A M N) → Worked ready step w w
+  pub start : (w : WorkerView A M N) → Worked ready step w w
   start w = record {
     events = [];
     number = refl;
@@ -83,47 +67,47 @@ module _ {A M N : Type 0} (ready : A → M → Bool) (step : A → ℕ → M →
   }
 
   -- a look that found nothing
-  pub idle : (old mid new : Shown A M N) → Worked ready step old mid → Idled mid new → Worked ready step old new
+  pub idle : (old mid new : WorkerView A M N) → Worked ready step old mid → Idled mid new → Worked ready step old new
   idle old mid new w i = record {
     events = w.events;
-    number = ap (λ (v : Shown A M N). v.number) i.rest ∙ w.number;
-    node = ap (λ (v : Shown A M N). v.node) i.rest ∙ w.node;
-    steps = ap (λ (v : Shown A M N). v.steps) i.rest ∙ w.steps;
-    notes = ap (λ (v : Shown A M N). v.notes) i.rest ∙ w.notes;
+    number = ap (λ (v : WorkerView A M N). v.number) i.rest ∙ w.number;
+    node = ap (λ (v : WorkerView A M N). v.node) i.rest ∙ w.node;
+    steps = ap (λ (v : WorkerView A M N). v.steps) i.rest ∙ w.steps;
+    notes = ap (λ (v : WorkerView A M N). v.notes) i.rest ∙ w.notes;
     count_ins = i.count ∙ w.count_ins;
-    count_outs = ap (λ (v : Shown A M N). length v.outs) i.rest ∙ w.count_outs;
+    count_outs = ap (λ (v : WorkerView A M N). length v.outs) i.rest ∙ w.count_outs;
     taken = λ p h.
         let d : DrawsAt (is_input_of old.number p) (in_at mid.ins p) (in_at new.ins p) [] =
         subst (λ k. DrawsAt (is_input_of k p) (in_at mid.ins p) (in_at new.ins p) []) w.number (i.taken p (subst (λ k. p < k) (sym w.count_ins) h)) in
         subst (λ l. DrawsAt (is_input_of old.number p) (in_at old.ins p) (in_at new.ins p) l) (append-nil _) (drawsAt_then (w.taken p h) d);
-    sent = λ r h. subst (λ (l : List (Outgoing M)). Sends (out_at old.outs r) (out_at l r) (put_between step (length old.outs) old.number r old.node w.events)) (sym (ap (λ (v : Shown A M N). v.outs) i.rest)) (w.sent r h);
+    sent = λ r h. subst (λ (l : List (Outgoing M)). Sends (out_at old.outs r) (out_at l r) (put_between step (length old.outs) old.number r old.node w.events)) (sym (ap (λ (v : WorkerView A M N). v.outs) i.rest)) (w.sent r h);
     ports = w.ports;
     was_ready = w.was_ready;
     ticks = w.ticks;
-    clock = ap (λ (v : Shown A M N). v.clock) i.rest ∙ w.clock;
+    clock = ap (λ (v : WorkerView A M N). v.clock) i.rest ∙ w.clock;
   }
 
   -- a look that found a message, and then the step with it
-  module _ (old mid found new : Shown A M N) (p : ℕ) (x : Stamped M) (w : Worked ready step old mid) (f : Found ready mid found p x) (a : Acted step found new p x) where
+  module _ (old mid found new : WorkerView A M N) (p : ℕ) (x : Stamped M) (w : Worked ready step old mid) (f : Found ready mid found p x) (a : Acted step found new p x) where
     abbrev e : NodeStep M
     e = record { clock = tick found.clock x; port = p; took = x }
 
     node_is : found.node ≡ node_after step old.node w.events
-    node_is = ap (λ (v : Shown A M N). v.node) f.rest ∙ w.node
+    node_is = ap (λ (v : WorkerView A M N). v.node) f.rest ∙ w.node
 
     number_is : found.number ≡ old.number
-    number_is = ap (λ (v : Shown A M N). v.number) f.rest ∙ w.number
+    number_is = ap (λ (v : WorkerView A M N). v.number) f.rest ∙ w.number
 
     outs_is : found.outs ≡ mid.outs
-    outs_is = ap (λ (v : Shown A M N). v.outs) f.rest
+    outs_is = ap (λ (v : WorkerView A M N). v.outs) f.rest
 
     clock_is : found.clock ≡ clock_after old.clock w.events
-    clock_is = ap (λ (v : Shown A M N). v.clock) f.rest ∙ w.clock
+    clock_is = ap (λ (v : WorkerView A M N). v.clock) f.rest ∙ w.clock
 
     taken_is : (q : ℕ) → q < length old.ins → DrawsAt (is_input_of old.number q) (in_at old.ins q) (in_at new.ins q) (taken_at q (w.events ++ e ∷ []))
     taken_is q h =
         let d : DrawsAt (is_input_of old.number q) (in_at mid.ins q) (in_at new.ins q) (if p == q then x ∷ [] else []) =
-        subst (λ (v : ℕ × List (Incoming M)). DrawsAt (is_input_of v.0 q) (in_at mid.ins q) (in_at v.1 q) (if p == q then x ∷ [] else [])) (λ i. (w.number i, sym (ap (λ (v : Shown A M N). v.ins) a.rest) i))
+        subst (λ (v : ℕ × List (Incoming M)). DrawsAt (is_input_of v.0 q) (in_at mid.ins q) (in_at v.1 q) (if p == q then x ∷ [] else [])) (λ i. (w.number i, sym (ap (λ (v : WorkerView A M N). v.ins) a.rest) i))
         (f.taken q (subst (λ k. q < k) (sym w.count_ins) h)) in
         subst (λ l. DrawsAt (is_input_of old.number q) (in_at old.ins q) (in_at new.ins q) l) (sym (taken_at-snoc q w.events e)) (drawsAt_then (w.taken q h) d)
 
@@ -138,23 +122,23 @@ module _ {A M N : Type 0} (ready : A → M → Bool) (step : A → ℕ → M →
     pub more : Worked ready step old new
     more = record {
       events = w.events ++ e ∷ [];
-      number = ap (λ (v : Shown A M N). v.number) a.rest ∙ number_is;
-      node = ap (λ (v : Shown A M N). v.node) a.rest ∙ ap (λ b. (step b p x.message).node) node_is ∙ sym (node_after-snoc step old.node w.events e);
-      steps = ap (λ (v : Shown A M N). v.steps) a.rest ∙ ap (λ l. l ++ (e.clock, p) ∷ []) (ap (λ (v : Shown A M N). v.steps) f.rest ∙ w.steps) ∙ append_assoc old.steps (noted w.events) _
+      number = ap (λ (v : WorkerView A M N). v.number) a.rest ∙ number_is;
+      node = ap (λ (v : WorkerView A M N). v.node) a.rest ∙ ap (λ b. (step b p x.message).node) node_is ∙ sym (node_after-snoc step old.node w.events e);
+      steps = ap (λ (v : WorkerView A M N). v.steps) a.rest ∙ ap (λ l. l ++ (e.clock, p) ∷ []) (ap (λ (v : WorkerView A M N). v.steps) f.rest ∙ w.steps) ∙ append_assoc old.steps (noted w.events) _
           ∙ ap (λ l. old.steps ++ l) (sym (noted-snoc w.events e));
-      notes = ap (λ (v : Shown A M N). v.notes) a.rest ∙ ap (λ b. found.notes ++ (step b p x.message).notes ∷ []) node_is
-          ∙ ap (λ l. l ++ (step (node_after step old.node w.events) p x.message).notes ∷ []) (ap (λ (v : Shown A M N). v.notes) f.rest ∙ w.notes)
+      notes = ap (λ (v : WorkerView A M N). v.notes) a.rest ∙ ap (λ b. found.notes ++ (step b p x.message).notes ∷ []) node_is
+          ∙ ap (λ l. l ++ (step (node_after step old.node w.events) p x.message).notes ∷ []) (ap (λ (v : WorkerView A M N). v.notes) f.rest ∙ w.notes)
           ∙ append_assoc old.notes (notes_of step old.node w.events) _ ∙ ap (λ l. old.notes ++ l) (sym (notes_of-snoc step old.node w.events e));
-      count_ins = ap (λ (v : Shown A M N). length v.ins) a.rest ∙ f.count ∙ w.count_ins;
+      count_ins = ap (λ (v : WorkerView A M N). length v.ins) a.rest ∙ f.count ∙ w.count_ins;
       count_outs = a.count ∙ ap (λ (l : List (Outgoing M)). length l) outs_is ∙ w.count_outs;
       taken = taken_is;
       sent = sent_is;
       ports = ports-snoc (length old.ins) w.events e w.ports (subst (λ k. p < k) w.count_ins f.within);
       was_ready = ready-snoc step ready old.number old.node w.events e w.was_ready (λ n q. subst (λ b. ready b x.message ≡ true) w.node (f.was_ready (w.number ∙ n) q));
       ticks = ticks-snoc old.clock w.events e w.ticks (ap (λ k. tick k x) clock_is);
-      clock = ap (λ (v : Shown A M N). v.clock) a.rest ∙ sym (clock_after-snoc old.clock w.events e);
+      clock = ap (λ (v : WorkerView A M N). v.clock) a.rest ∙ sym (clock_after-snoc old.clock w.events e);
     }
 
     -- and it is longer by one step
     pub longer : length new.steps ≡ length mid.steps + 1
-    longer = ap (λ (v : Shown A M N). length v.steps) a.rest ∙ length-append found.steps _ ∙ ap (λ (v : Shown A M N). length v.steps + 1) f.rest
+    longer = ap (λ (v : WorkerView A M N). length v.steps) a.rest ∙ length-append found.steps _ ∙ ap (λ (v : WorkerView A M N). length v.steps + 1) f.rest

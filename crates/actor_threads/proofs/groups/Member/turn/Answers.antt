@@ -1,0 +1,7 @@
+use Rattle.std.proofs.Common.{subst, sym}
+use Rattle.actor_threads.specs.Work.{WorkerView}
+use Rattle.actor_threads.specs.Groups.{IsInRound}
+use Rattle.actor_threads.proofs.groups.Member.turn.Goals as goal
+
+pub returns : goal.returns
+returns g c = λ start on. subst (λ (w : WorkerView _ _ _). IsInRound g.A.Actor.is_ready g.A.Actor.stepped start (record c.steps-moved.new.self { worker = w })) (sym c.flush.ensures) (c.steps-moved.ensures start on)

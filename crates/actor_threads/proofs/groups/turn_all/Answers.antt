@@ -1,0 +1,12 @@
+use Rattle.std.proofs.Common.{subst, sym, ◌∙◌, ◌<◌, length, length-set}
+use Rattle.actor_threads.proofs.GroupLemmas.{one_goes_on}
+use Rattle.actor_threads.proofs.groups.turn_all.Goals as goal
+
+pub loop-at-preserved : goal.loop-at-preserved
+loop-at-preserved g c =
+    let inv = c.loop-at.invariant in
+    let within = subst (λ n. c.loop-at.at < n) (sym inv.count) c.loop-at-test.true in
+    record {
+      count = length-set c.loop-at.members c.loop-at.at c.turn.new.self ∙ inv.count;
+      on = one_goes_on g.A.Actor.is_ready g.A.Actor.stepped c.args.members.now c.loop-at.members c.loop-at.at c.index-members-at.result c.turn.new.self within inv.count inv.on c.turn.ensures;
+    }

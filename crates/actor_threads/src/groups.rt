@@ -1,0 +1,266 @@
+//! Groups of workers. A group has a thread, in which its workers take turns.
+ghost use Rattle.std.specs.Prelude.{◌≡◌, ℕ, ◌<◌, length, slice_index_or, IfOk, All};
+ghost use Rattle.actor_threads.specs.Groups.{IsInRound, AllInRound, AllGoOn};
+
+use crate::gate::Gate;
+use crate::worker::Worker;
+use actor_net::Actor;
+use basics::NoMemory;
+use std::sync::Wait;
+use std::sync::atomic::{AtomicU64, Ordering};
+use std::thread;
+use std::thread::Threads;
+
+// A worker's turn has at most so many steps.
+const TURN_STEPS: u32 = 256;
+
+// A group in which so many turns in a row did no step isn't busy.
+const REST_TURNS: u32 = 16;
+
+// A group ends its part of a round after so many turns in a row that did no step, also where others are busy. Only where no
+// thread could be made for another group does it come to that.
+const IDLE_TURNS: u32 = 20_000;
+
+// How often a group that found nothing to do looks whether others are busy, before it looks for messages again. So several of
+// them have come meanwhile, where the others have a processor.
+const PAUSE_LOOKS: u32 = 4000;
+
+// There are at least so many groups, where there are workers for them. So the workers of a small world never wait for each
+// other's turns, however few processors there are.
+const FEWEST_GROUPS: usize = 4;
+
+/// A worker as a member of a group, and how far it is in its round: whether it looked for a message, did a step, and wanted
+/// memory.
+#[derive(Drop)]
+pub(crate) struct Member<A: Actor> {
+    pub(crate) worker: Worker<A>,
+    looked: bool,
+    moved: bool,
+    failed: bool,
+}
+
+impl<A: Actor> Member<A> {
+    ghost use Rattle.std.specs.Prelude.{◌≡◌};
+    ghost use Rattle.actor_threads.specs.Groups.{IsInRound, GoesOn, has_run};
+
+    /// A worker at the start of its round.
+    pub(crate) fn open(worker: Worker<A>) -> Self
+        ensures worker { result.worker ≡ worker }
+        ensures begin { IsInRound A.is_ready A.stepped worker result }
+    {
+        Member {
+            worker,
+            looked: false,
+            moved: false,
+            failed: false,
+        }
+    }
+
+    /// Whether the worker did its round, as far as there was something to do.
+    pub(crate) fn has_run(&self) -> bool
+        ensures { result ≡ has_run self.now }
+    {
+        self.looked && !self.failed
+    }
+
+    /// A turn: some steps, and then what they sent is sent. Tells whether there was a step.
+    pub(crate) fn turn<R: Wait, G: Gate>(&mut self, rt: &R, gate: &G) -> bool
+        ensures { GoesOn A.is_ready A.stepped self.old self.new }
+    {
+        let moved = self.steps(rt, gate);
+        self.worker.flush(rt);
+        moved
+    }
+
+    // Does some steps, and tells whether it did any.
+    fn steps<R: Wait, G: Gate>(&mut self, rt: &R, gate: &G) -> bool
+        ensures { GoesOn A.is_ready A.stepped self.old self.new }
+    {
+        let mut moved = false;
+        for _ in 0..TURN_STEPS {
+            if !self.act(rt, gate) {
+                return moved;
+            }
+            moved = true;
+        }
+        moved
+    }
+
+    // Does a step where there is something to do, and tells whether it did.
+    fn act<R: Wait, G: Gate>(&mut self, rt: &R, gate: &G) -> bool
+        ensures { GoesOn A.is_ready A.stepped self.old self.new }
+    {
+        if self.failed {
+            return false;
+        }
+        match self.worker.act(rt, gate, self.moved) {
+            Ok(true) => {
+                self.looked = true;
+                self.moved = true;
+                true
+            }
+            Ok(false) => {
+                self.looked = true;
+                false
+            }
+            Err(_) => {
+                self.failed = true;
+                false
+            }
+        }
+    }
+}
+
+/// All workers do their rounds: that of node 0 alone, and the others in groups, each group in a thread of its own where
+/// threads can be made. The members come back in their order.
+pub(crate) fn run_all<R: Threads + Wait + Sync, A: Actor + Send, G: Gate>(
+    rt: &R,
+    gate: &G,
+    mut first: Vec<Member<A>>,
+) -> Result<Vec<Member<A>>, NoMemory>
+where
+    A::Message: Send,
+    A::Note: Send,
+    requires some { 0 < length first.items }
+    requires begin { All (λ m. IsInRound A.is_ready A.stepped m.worker m) first.items }
+    ensures count { IfOk result (λ after. length after.items ≡ length first.items) }
+    ensures round { IfOk result (λ after. AllInRound A.is_ready A.stepped first.items after.items) }
+{
+    let rest = first.split_off(1)?;
+    let size = group_size(rt, rest.len());
+    let busy = AtomicU64::new(1 + rest.len().div_ceil(size) as u64);
+    let (mut first, mut rest) = thread::join(
+        rt,
+        || -> Vec<Member<A>>
+            ensures count { length result.items ≡ length first.items }
+            ensures on { AllGoOn A.is_ready A.stepped first.items result.items }
+        { run_alone(rt, gate, &busy, first) },
+        || -> Vec<Member<A>>
+            requires { 0 < size }
+            ensures count { length result.items ≡ length rest.items }
+            ensures on { AllGoOn A.is_ready A.stepped rest.items result.items }
+        { run_groups(rt, gate, &busy, size, rest) },
+    );
+    first.append(&mut rest)?;
+    Ok(first)
+}
+
+// All members in one group.
+fn run_alone<R: Wait, A: Actor, G: Gate>(
+    rt: &R,
+    gate: &G,
+    busy: &AtomicU64,
+    mut members: Vec<Member<A>>,
+) -> Vec<Member<A>>
+    ensures count { length result.items ≡ length members.items }
+    ensures on { AllGoOn A.is_ready A.stepped members.items result.items }
+{
+    run_group(rt, gate, busy, members.as_mut_slice());
+    members
+}
+
+// The members in groups of this size.
+fn run_groups<R: Threads + Wait + Sync, A: Actor + Send, G: Gate>(
+    rt: &R,
+    gate: &G,
+    busy: &AtomicU64,
+    size: usize,
+    mut members: Vec<Member<A>>,
+) -> Vec<Member<A>>
+where
+    A::Message: Send,
+    A::Note: Send,
+    requires { 0 < size }
+    ensures count { length result.items ≡ length members.items }
+    ensures on { AllGoOn A.is_ready A.stepped members.items result.items }
+{
+    let run = |_start: usize, group: &mut [Member<A>]|
+        ensures { AllGoOn A.is_ready A.stepped group.entry.now group.exit.now }
+    { run_group(rt, gate, busy, group) };
+    thread::for_each_chunk_mut(rt, members.as_mut_slice(), size, &run);
+    members
+}
+
+/// The workers of one group take turns, until no group is busy. `busy` counts the groups that are.
+fn run_group<R: Wait, A: Actor, G: Gate>(
+    rt: &R,
+    gate: &G,
+    busy: &AtomicU64,
+    members: &mut [Member<A>],
+)
+    ensures { AllGoOn A.is_ready A.stepped members.old members.new }
+{
+    let mut idle = Idleness { turns: 0 };
+    for _ in rt.forever() {
+        let moved = turn_all(rt, gate, members);
+        if idle.is_over(busy, moved) {
+            return;
+        }
+    }
+}
+
+// A turn of each worker of a group. Tells whether one did a step.
+fn turn_all<R: Wait, A: Actor, G: Gate>(rt: &R, gate: &G, members: &mut [Member<A>]) -> bool
+    ensures { AllGoOn A.is_ready A.stepped members.old members.new }
+{
+    let mut moved = false;
+    for at in 0..members.len() {
+        if members[at].turn(rt, gate) {
+            moved = true;
+        }
+    }
+    moved
+}
+
+// How many turns in a row of a group did no step.
+#[derive(Drop)]
+struct Idleness {
+    turns: u32,
+}
+
+impl Idleness {
+    // Counts a turn, and waits a little after one that did no step. Tells whether the group's part of the round is over.
+    fn is_over(&mut self, busy: &AtomicU64, moved: bool) -> bool {
+        if moved {
+            if self.turns >= REST_TURNS {
+                busy.fetch_add(1, Ordering::SeqCst);
+            }
+            self.turns = 0;
+            return false;
+        }
+        if self.turns >= IDLE_TURNS {
+            return true;
+        }
+        self.turns += 1;
+        if self.turns == REST_TURNS {
+            busy.fetch_sub(1, Ordering::SeqCst);
+        }
+        if self.turns >= REST_TURNS && busy.load(Ordering::SeqCst) == 0 {
+            return true;
+        }
+        pause(busy);
+        false
+    }
+}
+
+// Lets some time pass, and then others have the processor if they want it.
+fn pause(busy: &AtomicU64) {
+    for _ in 0..PAUSE_LOOKS {
+        if busy.load(Ordering::SeqCst) == 0 {
+            return;
+        }
+    }
+    thread::yield_now();
+}
+
+// How many workers are in a group, of so many beside that of node 0: but for the fewest groups, there is at most one for each
+// processor.
+fn group_size<R: Threads>(rt: &R, workers: usize) -> usize
+    ensures { 0 < result }
+{
+    let processors = match thread::available_parallelism(rt) {
+        Ok(processors) => processors.get(),
+        Err(_) => 1,
+    };
+    workers.div_ceil(processors.max(FEWEST_GROUPS) - 1).max(1)
+}
