@@ -69,6 +69,7 @@ is_distinct-append (m ∷ more) end h new =
     neither : (a b : Bool) → (a || b) ≡ false → (a ≡ false) × (b ≡ false)
     neither true b e = cc
     neither false b e = (refl, e)
+
     is_false : (test : Bool) → not test ≡ true → test ≡ false
     is_false true e = cc
     is_false false e = refl

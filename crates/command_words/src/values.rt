@@ -9,8 +9,8 @@ ghost use Rattle.command_words.specs.RequestViews.{instances_view};
 
 use crate::request::Instances;
 use actor_net::Schedule;
-use flow_filter::name::has_twice;
 use basics::parsing::{first_piece, parse_number, split_once};
+use flow_filter::name::has_twice;
 use flow_filter::reading::{address, prefix};
 use flow_filter::{Name, NoMemory, Prefix, Site};
 use nf_function::Kind;

@@ -6,8 +6,8 @@ ghost use Rattle.crossbeam_queue.specs.Passes.{view, IsPassOf, ruled_capacity};
 
 use crate::rule::{Drains, InOrder, Log, Roles, Sends, Takes};
 use actor_net::Stamped;
-use crossbeam_queue::{Pass, RuledArrayQueue};
 use basics::NoMemory;
+use crossbeam_queue::{Pass, RuledArrayQueue};
 use std::alloc::{AllocError, Global};
 use std::marker::{Model, PhantomData};
 use std::sync::{Arc, Wait};
