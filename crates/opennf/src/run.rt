@@ -6,12 +6,12 @@ ghost use Rattle.nf_io.specs.Meaning.{OthersStay};
 ghost use Rattle.command_words.specs.Plan.{plan_of};
 ghost use Rattle.opennf_calls.specs.declared.outcome.Outcome.{Outcome};
 ghost use Rattle.opennf_calls.specs.Status.{exit_number, line_of};
-ghost use Rattle.opennf_calls.specs.Outcome.{HasOutcome, Complains};
+ghost use Rattle.opennf_calls.specs.Outcome.{HasOutcome, PutsLine};
 
 use actor_threads::OpenGate;
 use nf_io::{Outside, Role};
-use opennf_calls::complaint::line;
-use opennf_calls::run::put;
+use opennf_calls::error_line::line;
+use opennf_calls::writing::put;
 use opennf_calls::{Status, opennf_top};
 use std::process::ExitCode;
 use std::sync::Wait;
@@ -31,10 +31,10 @@ pub fn run<R: AllocGlobal + Threads + Wait + Sync, O: Outside>(
     ExitCode::from(outcome.status.number())
 }
 
-/// Answers want of memory where the words couldn't be read.
+/// Answers that memory ran out where the words couldn't be read.
 pub fn refuse<O: Outside>(outside: &mut O) -> ExitCode
     ensures number { exit_status result ≡ exit_number Status.NoMemory }
-    ensures errors { Complains (line_of Status.NoMemory) (O.seen outside.old ErrorsRole) (O.seen outside.new ErrorsRole) }
+    ensures errors { PutsLine (line_of Status.NoMemory) (O.seen outside.old ErrorsRole) (O.seen outside.new ErrorsRole) }
     ensures others { OthersStay ErrorsRole (O.seen outside.old) (O.seen outside.new) }
 {
     // A failing standard error changes no status.
