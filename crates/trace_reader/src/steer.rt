@@ -22,6 +22,7 @@ pub(crate) struct Parts {
 /// The packet of a record of `len` bytes, of which `front` has the first; None for one that is
 /// skipped.
 #[tactic(auto, unfolding(crate::specs::Steered::packet_of))]
+#[inline(always)]
 pub(crate) fn packet_of(
     form: Form,
     number: u32,
@@ -40,6 +41,7 @@ pub(crate) fn packet_of(
 
 /// The lengths of a steered record, None for one that is skipped.
 #[tactic(auto, unfolding(crate::specs::Steered::parts_of))]
+#[inline(always)]
 fn parts_of(link_type: LinkType, len: usize, front: &[u8]) -> Option<Parts>
     requires { min len front_size ≤ length front.now }
     ensures value { result ≡ parts_of link_type len front.now }
@@ -135,6 +137,7 @@ fn total_length(len: usize, front: &[u8], start: usize) -> usize
 }
 
 /// The packet of a steered record.
+#[inline(always)]
 fn packet_with(number: u32, nanos: u64, len: usize, front: &[u8], parts: &Parts) -> Packet
     requires front { length front.now ≡ min len front_size }
     requires len { len ≤ most_captured }
