@@ -1,0 +1,138 @@
+ghost use Rattle.std.specs.Prelude.{◌≡◌, ◌<◌, IfOk, OnOk, IfErr, OnErr};
+ghost use Rattle.packet_pool.specs.Pool.{FullCell, one_less, one_more};
+
+use crate::cell::Cell;
+use basics::Boxed;
+use flow_filter::Packet;
+use std::marker::Model;
+
+/// A pool of cells.
+///
+/// A cell at home is only counted: the packet brings its own room along, so that it is never copied.
+#[derive(Debug, Drop)]
+pub struct Pool {
+    name: u32,
+    cells: u32,
+    home: u32,
+}
+
+impl Model for Pool {
+    ghost use Rattle.std.specs.Prelude.{◌≤◌};
+    ghost use Rattle.packet_pool.specs.Pool.{PoolState};
+
+    ghost Value = { PoolState };
+
+    ghost view = { λ p. record { name = p.name; cells = p.cells; home = p.home } };
+
+    ghost invariant = { λ p. p.home ≤ p.cells };
+}
+
+impl Pool {
+    /// A pool with all of its cells at home.
+    pub fn open(name: u32, cells: u32) -> Self
+        ensures { result ≡ record { name = name; cells = cells; home = cells } }
+    {
+        Pool {
+            name,
+            cells,
+            home: cells,
+        }
+    }
+
+    /// Puts a packet into a cell, or hands the packet back where no cell is at home.
+    pub fn take(&mut self, packet: Boxed<Packet>) -> Result<Cell, Boxed<Packet>>
+        ensures cell { IfOk result (λ cell. cell ≡ record { pool = self.old.name; packet = packet }) }
+        ensures less { OnOk result ((0 < self.old.home) × (self.new ≡ one_less self.old)) }
+        ensures back { IfErr result (λ back. back ≡ packet) }
+        ensures none { OnErr result ((self.old.home ≡ 0) × (self.new ≡ self.old)) }
+    {
+        let Some(left) = self.home.checked_sub(1) else {
+            return Err(packet);
+        };
+        self.home = left;
+        Ok(Cell {
+            pool: self.name,
+            packet,
+        })
+    }
+
+    /// Takes a cell home. Its packet is dropped.
+    pub fn give(&mut self, cell: Cell)
+        requires own { cell.pool ≡ self.old.name }
+        requires away { self.old.home < self.old.cells }
+        ensures { self.new ≡ one_more self.old }
+    {
+        let _gone = cell;
+        self.home += 1;
+    }
+
+    /// The pool's number, by which a cell names it.
+    pub fn name(&self) -> u32
+        ensures { result ≡ self.now.name }
+    {
+        self.name
+    }
+
+    /// How many cells stand at home.
+    pub fn home(&self) -> u32
+        ensures { result ≡ self.now.home }
+    {
+        self.home
+    }
+
+    /// How many cells the pool has, at home and away.
+    pub fn cells(&self) -> u32
+        ensures { result ≡ self.now.cells }
+    {
+        self.cells
+    }
+}
+
+#[cfg(test)]
+mod tests {
+    use super::*;
+    use flow_filter::{TCP, UDP};
+    use std::test::Fail;
+
+    const FIRST: Packet = Packet {
+        nanos: 1_000_000_000,
+        number: 1,
+        src: 0x0a00_0001,
+        dst: 0xc000_0209,
+        length: 20,
+        sport: 5000,
+        dport: 53,
+        proto: UDP,
+        flags: 0,
+        held: 0,
+        head: [0; 64],
+    };
+
+    const SECOND: Packet = Packet {
+        number: 2,
+        proto: TCP,
+        flags: 2,
+        ..FIRST
+    };
+
+    #[test]
+    fn a_pool_of_one_cell_refuses_the_second_packet_until_the_first_is_home(
+        rt: HostRuntime,
+    ) -> Result<(), Fail> {
+        let mut pool = Pool::open(7, 1);
+        if let Ok(cell) = pool.take(Boxed::new(rt.alloc(), FIRST)?) {
+            assert_eq!(rt; *cell.packet(), FIRST);
+            assert_eq!(rt; cell.pool(), 7);
+            assert_eq!(rt; pool.home(), 0);
+            let refused = pool.take(Boxed::new(rt.alloc(), SECOND)?);
+            assert_eq!(rt; refused.err().map(Boxed::into_inner), Some(SECOND));
+            pool.give(cell);
+        }
+        assert_eq!(rt; pool.home(), 1);
+        assert_eq!(rt; pool.cells(), 1);
+        assert_eq!(rt; pool.name(), 7);
+        let again = pool.take(Boxed::new(rt.alloc(), SECOND)?);
+        assert_eq!(rt; again.ok().map(|cell| *cell.packet()), Some(SECOND));
+        Ok(())
+    }
+}
