@@ -22,7 +22,7 @@ pub first_wrong : (f : Fields) (text front after_commas : List ℕ) (fault : Fil
     → with_fields f (slice_split (λ b. b == 44) text) ≡ Err fault
 first_wrong f text front after_commas fault at wrong = rw (split-Some 44 text front after_commas at, wrong) refl
 
--- a field and those after_commas it
+-- a field and those after it
 pub first_field : (f g : Fields) (text front after_commas : List ℕ) (r : Result Filter FilterFault) → Some (front, after_commas) ≡ split_once 44 text → with_field f front ≡ Ok g
     → AgreesBy fields_of r (with_fields g (slice_split (λ b. b == 44) after_commas)) → AgreesBy fields_of r (with_fields f (slice_split (λ b. b == 44) text))
 first_field f g text front after_commas r at right given = rw (split-Some 44 text front after_commas at, right) given

@@ -17,7 +17,7 @@ use Rattle.basics.proofs.SplitLemmas.{Lacks, Lacks-append, Lacks-literal, split_
 use Rattle.basics.proofs.PrintedNumbers.{parse_number-printed, Lacks-decimal}
 use Rattle.flow_filter.proofs.PrintedAddresses.{prefix-text, Lacks-prefix}
 
--- fields after_commas fields
+-- fields after fields
 and_fields-twice : (a : Answer) (xs ys : List (List ℕ)) → ((g : Fields) → with_fields g (xs ++ ys) ≡ and_fields (with_fields g xs) (λ h. with_fields h ys))
     → and_fields a (λ g. with_fields g (xs ++ ys)) ≡ and_fields (and_fields a (λ g. with_fields g xs)) (λ g. with_fields g ys)
 and_fields-twice (Ok f) xs ys before = before f

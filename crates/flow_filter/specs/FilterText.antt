@@ -123,7 +123,7 @@ joined (first ∷ more) = join_with_byte 44 (first ∷ more)
 unfoldable pub print : Filter → List ℕ
 print f = joined (pieces f)
 
--- each piece after_commas a comma, but for the first where nothing stands before it
+-- each piece after a comma, but for the first where nothing stands before it
 abbrev pub after_commas : Bool → List (List ℕ) → List ℕ
 after_commas begun [] = []
 after_commas false (first ∷ more) = first ++ after_commas true more

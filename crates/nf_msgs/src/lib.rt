@@ -1,13 +1,25 @@
-//! The messages of the network, and the commands of its operators.
+//! The messages of the network, the commands of its operators, their answers, and the notes of its log.
 //!
-//! Contracts see a [`Names`] as the list of its names, each as its bytes, and every other type as its variants and
-//! fields. The calls only copy: what they give is equal to what they were given.
+//! Contracts see each type as its variants and fields, what stands behind a pointer as itself, and [`Names`] as the list of the
+//! names' bytes. This crate touches nothing but memory. The calls copy and print: what they give is equal to what they were
+//! given, or is its text by the definitions `answer_text` and `shown`.
 #![tactic(auto)]
 
+pub mod answer;
+pub mod answer_text;
 pub mod command;
+pub mod message_text;
 pub mod msg;
 pub mod names;
+pub mod note;
 
+pub use answer::Answer;
+pub use answer_text::print_answer;
 pub use command::{Command, Order};
-pub use msg::Msg;
+pub use message_text::show;
+pub use msg::{Msg, Piece, Refused};
 pub use names::Names;
+pub use note::Note;
+
+#[cfg(test)]
+mod tests;

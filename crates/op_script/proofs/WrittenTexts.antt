@@ -11,7 +11,7 @@ use Rattle.flow_filter.proofs.PrintedPieces.{after_commas-append, append_none, j
 one_more : {X : Type 0} (xs : List X) (i : ℕ) (x : X) → i < length xs → x ≡ get_or xs i x → take (i + 1) xs ≡ take i xs ++ x ∷ []
 one_more xs i x below is = take_more xs i x below ∙ ap (λ y. take i xs ++ y ∷ []) (sym is)
 
--- one name more, after_commas a comma
+-- one name more, after a comma
 pub names_more : (start before comma after : List ℕ) (xs : List (List ℕ)) (i : ℕ) (x : List ℕ) → i < length xs → x ≡ get_or xs i x
     → before ≡ start ++ after_commas true (take i xs) → comma ≡ before ++ 44 ∷ [] → after ≡ comma ++ x → after ≡ start ++ after_commas true (take (i + 1) xs)
 names_more start before comma after xs i x below is so_far first second =
@@ -20,7 +20,7 @@ names_more start before comma after xs i x below is so_far first second =
     let regrouped : ((start ++ after_commas true (take i xs)) ++ 44 ∷ []) ++ x ≡ start ++ (after_commas true (take i xs) ++ (44 ∷ x)) = simp append_assoc in
     second ∙ ap (λ t. t ++ x) (first ∙ ap (λ t. t ++ 44 ∷ []) so_far) ∙ regrouped ∙ ap (λ t. start ++ t) (sym split)
 
--- the first name and those after_commas it
+-- the first name and those after it
 pub members_written : (start one all first : List ℕ) (more : List (List ℕ)) → one ≡ start ++ first → all ≡ one ++ after_commas true more
     → all ≡ start ++ join_with_byte 44 (first ∷ more)
 members_written start one all first more is_one is_all =
@@ -50,7 +50,7 @@ first_and_more [] x some is = absurd (omega arith)
 first_and_more (y ∷ ys) x some is = let rest : suc (length ys) - 1 ≡ length ys = omega arith in
     rw (rest, take_all (length ys) ys (omega arith)) (ap (λ z. z ∷ ys) (sym is))
 
--- the members, where the first is written and then those after_commas it
+-- the members, where the first is written and then those after it
 pub members_cases : {T E : Type 0} (r : Result T E) (start one all first item : List ℕ) (members : List (List ℕ)) → 1 ≤ length members → first ≡ get_or members 0 first
     → item ≡ first → one ≡ start ++ item → OnOk r (all ≡ one ++ after_commas true (take (length members - 1) (drop 1 members))) → OnOk r (all ≡ start ++ join_with_byte 44 members)
 members_cases (Ok x) start one all first item members some is same begun written =

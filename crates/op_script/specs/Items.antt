@@ -1,4 +1,4 @@
--- The input of a run: the packets in order, and each line of the script items_from the packet that it names.
+-- The input of a run: the packets in order, and each line of the script after the packet that it names.
 -- This project's own order.
 use Rattle.std.specs.Prelude.{◌≡◌, ℕ, ◌+◌, ◌≤◌, Bool, ◌==◌, nat_le, List, [], ◌∷◌, ◌++◌, map, filter}
 use Rattle.flow_filter.specs.declared.packet.Packet.{Packet}
@@ -17,7 +17,7 @@ msg_of Settle = InSettle
 abbrev pub said_where : (ℕ → Bool) → List Line → List Msg
 said_where test lines = map (λ line. msg_of line.what) (filter (λ line. test line.at) lines)
 
--- what stands items_from k packets: the lines at k and the next packet in turn, and at the end the lines that are left
+-- what stands after k packets: the lines at k and the next packet in turn, and at the end the lines that are left
 abbrev pub items_from : ℕ → List Packet → List Line → List Msg
 items_from k [] lines = said_where (λ at. nat_le k at) lines
 items_from k (packet ∷ more) lines = said_where (λ at. at == k) lines ++ InPacket packet ∷ items_from (k + 1) more lines

@@ -1,13 +1,15 @@
-ghost use Rattle.std.specs.Prelude.{◌≡◌, ◌≤◌, ◌++◌, ◌==◌, nat_le, length, map, IfOk, OnOk};
+ghost use Rattle.std.specs.Prelude.{◌≡◌, ◌≤◌, [], ◌∷◌, ◌++◌, ◌==◌, nat_le, length, map, IfOk, OnOk};
 ghost use Rattle.std.specs.List.{prefix_len};
+ghost use Rattle.nf_msgs.specs.declared.msg.Msg.TheVariants.{InPacket};
 ghost use Rattle.op_script.specs.Items.{msg_of, said_where, IsAhead, items};
 
 use crate::script::{Line, Script, What};
-use flow_filter::{NoMemory, Packets};
+use basics::Boxed;
+use flow_filter::{NoMemory, Packet, Packets};
 use nf_msgs::Msg;
 use std::alloc::Global;
 
-/// The input of a run: the packets in order, and each line of the script items_from the packet that it names, or items_from
+/// The input of a run: the packets in order, and each line of the script after the packet that it names, or after
 /// the last of a shorter trace; and then the end.
 pub fn items(alloc: Global, trace: Packets, script: &Script) -> Result<Vec<Msg>, NoMemory>
     ensures { IfOk result (λ found. found.items ≡ items trace script.now.lines.items) }
@@ -18,12 +20,12 @@ pub fn items(alloc: Global, trace: Packets, script: &Script) -> Result<Vec<Msg>,
     let mut point = 0u64;
     for packet in trace.items() {
         let count = count_at(rest, point);
-        push_lines(&mut out, &rest[..count])?;
+        push_lines(alloc, &mut out, &rest[..count])?;
         rest = &rest[count..];
-        out.push(Msg::InPacket(*packet))?;
+        push_packet(alloc, &mut out, packet)?;
         point += 1;
     }
-    push_from(&mut out, script.lines.as_slice(), point)?;
+    push_from(alloc, &mut out, script.lines.as_slice(), point)?;
     out.push(Msg::InEnd)?;
     Ok(out)
 }
@@ -48,34 +50,43 @@ fn count_at(lines: &[&Line], point: u64) -> usize
         .count()
 }
 
+/// Appends the message of a packet.
+fn push_packet(alloc: Global, out: &mut Vec<Msg>, packet: &Packet) -> Result<(), NoMemory>
+    ensures { OnOk result (out.new.items ≡ out.old.items ++ InPacket packet.now ∷ []) }
+{
+    let packet = Boxed::new(alloc, *packet)?;
+    out.push(Msg::InPacket(packet))?;
+    Ok(())
+}
+
 /// Appends the messages of lines.
-fn push_lines(out: &mut Vec<Msg>, lines: &[&Line]) -> Result<(), NoMemory>
+fn push_lines(alloc: Global, out: &mut Vec<Msg>, lines: &[&Line]) -> Result<(), NoMemory>
     ensures { OnOk result (out.new.items ≡ out.old.items ++ map (λ line. msg_of line.now.what) lines.now) }
 {
     for line in lines {
-        out.push(msg_of(&line.what)?)?;
+        out.push(msg_of(alloc, &line.what)?)?;
     }
     Ok(())
 }
 
 /// Appends the messages of the lines from a point on.
-fn push_from(out: &mut Vec<Msg>, lines: &[Line], point: u64) -> Result<(), NoMemory>
+fn push_from(alloc: Global, out: &mut Vec<Msg>, lines: &[Line], point: u64) -> Result<(), NoMemory>
     ensures { OnOk result (out.new.items ≡ out.old.items ++ said_where (λ at. nat_le point at) lines.now) }
 {
     for line in lines {
         if point <= u64::from(line.at) {
-            out.push(msg_of(&line.what)?)?;
+            out.push(msg_of(alloc, &line.what)?)?;
         }
     }
     Ok(())
 }
 
 /// The message of what happens.
-fn msg_of(what: &What) -> Result<Msg, NoMemory>
+fn msg_of(alloc: Global, what: &What) -> Result<Msg, NoMemory>
     ensures { IfOk result (λ msg. msg ≡ msg_of what.now) }
 {
     match what {
-        What::Command(command) => Ok(Msg::InCommand(command.copy()?)),
+        What::Command(command) => Ok(Msg::InCommand(Boxed::new(alloc, command.copy()?)?)),
         What::Settle => Ok(Msg::InSettle),
     }
 }

@@ -79,7 +79,7 @@ fn print_filter(out: &mut Text, filter: Filter) -> Result<(), NoMemory>
     filter.print_to(out)
 }
 
-/// Appends the words of an order after_commas a space, and the line's end.
+/// Appends the words of an order after a space, and the line's end.
 fn print_order(out: &mut Text, order: &Order) -> Result<(), NoMemory>
     requires { IsOrder (order_view order.now) }
     ensures text { OnOk result (out.new ≡ out.old ++ 32 ∷ line_text (order_words order.now)) }
@@ -110,7 +110,7 @@ fn print_order(out: &mut Text, order: &Order) -> Result<(), NoMemory>
     }
 }
 
-/// Appends a verb, a source and a target, and a space after_commas each.
+/// Appends a verb, a source and a target, and a space after each.
 fn print_ends(out: &mut Text, verb: &[u8], source: &Name, target: &Name) -> Result<(), NoMemory>
     ensures { OnOk result (out.new ≡ out.old ++ (verb.now ++ 32 ∷ (source.now ++ 32 ∷ (target.now ++ 32 ∷ [])))) }
 {
@@ -135,7 +135,7 @@ fn print_members(out: &mut Text, members: &[Name]) -> Result<(), NoMemory>
     }
 }
 
-/// Appends names, each after_commas a comma.
+/// Appends names, each after a comma.
 fn print_more(out: &mut Text, names: &[Name]) -> Result<(), NoMemory>
     ensures { OnOk result (out.new ≡ out.old ++ after_commas true names.now) }
 {
@@ -146,7 +146,7 @@ fn print_more(out: &mut Text, names: &[Name]) -> Result<(), NoMemory>
     Ok(())
 }
 
-/// Appends the word that says whether order is kept, after_commas a space, and the line's end.
+/// Appends the word that says whether order is kept, after a space, and the line's end.
 fn print_how(out: &mut Text, keep: bool) -> Result<(), NoMemory>
     ensures { OnOk result (out.new ≡ out.old ++ 32 ∷ ((if keep then codes "order" else codes "lossfree") ++ 10 ∷ [])) }
 {

@@ -199,6 +199,7 @@ fn kinds_of(alloc: Global, input: &[Msg]) -> Result<Vec<u8>, Fail> {
             Msg::InCommand(_) => b'c',
             Msg::InSettle => b's',
             Msg::InEnd => b'e',
+            _ => b'?',
         };
         kinds.push(kind)?;
     }

@@ -3,7 +3,7 @@ use Rattle.std.proofs.Common.{◌≡◌, ◌<◌, ◌*◌, ◌^◌, ◌++◌, dr
 use Rattle.op_script.specs.Items.{items_from, IsAhead}
 use Rattle.op_script.proofs.input.items.Given as goal
 
--- what is written and what stands items_from it give the whole, and the lines that are left are ahead
+-- what is written and what stands after it give the whole, and the lines that are left are ahead
 abbrev pub invariant-loop-packet : goal.invariant-loop-packet
 invariant-loop-packet l = record {
   count : l.point ≡ l.packet-index;

@@ -1,0 +1,6 @@
+//! Stub for now.
+#![tactic(auto)]
+
+pub mod target;
+
+pub use target::Target;
