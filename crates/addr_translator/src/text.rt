@@ -1,19 +1,26 @@
 //! The texts of outputs and records.
-ghost use Rattle.std.specs.Prelude.{◌≡◌, ◌++◌, OnOk};
+ghost use Rattle.std.specs.Prelude.{◌≡◌, ◌≤◌, ◌++◌, length, OnOk, OnErr};
 ghost use Rattle.addr_translator.specs.Text.{endpoint_text, output_text, record_text};
 
 use crate::record::NatRecord;
+use arrayvec::ArrayString;
+use basics::text::dotted;
 use basics::{NoMemory, Text};
+use itoa::Buffer;
 use nf_function::Output;
+
+/// Room for the text of an output or a record, and to spare.
+type Line = ArrayString<192>;
 
 /// Puts the text of an output after a text.
 pub fn push_output(text: &mut Text, output: &Output) -> Result<(), NoMemory>
-    ensures { OnOk result (text.new ≡ text.old ++ output_text output.now) }
+    ensures ok { OnOk result (text.new ≡ text.old ++ output_text output.now) }
+    ensures err { OnErr result (text.new ≡ text.old) }
 {
     match output.code {
         0 => text.push_bytes(b"pass"),
-        1 => push_endpoint(text, b"map", output),
-        2 => push_endpoint(text, b"unmap", output),
+        1 => text.push_bytes(endpoint_text("map", output).as_str().as_bytes()),
+        2 => text.push_bytes(endpoint_text("unmap", output).as_str().as_bytes()),
         3 => text.push_bytes(b"drop noport"),
         4 => text.push_bytes(b"drop nomap"),
         5 => text.push_bytes(b"drop direct"),
@@ -21,27 +28,42 @@ pub fn push_output(text: &mut Text, output: &Output) -> Result<(), NoMemory>
     }
 }
 
-/// Puts a word, an address and a port after a text.
+/// A word, an address and a port, which takes no memory.
 #[tactic(auto, unfolding(crate::specs::Text::endpoint_text))]
-fn push_endpoint(text: &mut Text, word: &[u8], output: &Output) -> Result<(), NoMemory>
-    ensures { OnOk result (text.new ≡ text.old ++ endpoint_text word.now output.now) }
+fn endpoint_text(word: &str, output: &Output) -> Line
+    requires { length word.now ≤ 8 }
+    ensures { result.bytes ≡ endpoint_text word.now output.now }
 {
-    text.push_bytes(word)?;
-    text.push_bytes(b" ")?;
-    text.push_address(output.a)?;
-    text.push_bytes(b":")?;
-    text.push_decimal(u64::from(output.b))
+    let mut buffer = Buffer::new();
+    let mut line = Line::new();
+    line.push_str(word);
+    line.push_str(" ");
+    line.push_str(dotted(output.a).as_str());
+    line.push_str(":");
+    line.push_str(buffer.format(output.b));
+    line
 }
 
 /// Puts the text of a record after a text: `ports USED packets P drops D`.
-#[tactic(auto, unfolding(crate::specs::Text::record_text))]
 pub fn push_record(text: &mut Text, kept: &NatRecord) -> Result<(), NoMemory>
-    ensures { OnOk result (text.new ≡ text.old ++ record_text kept.now) }
+    ensures ok { OnOk result (text.new ≡ text.old ++ record_text kept.now) }
+    ensures err { OnErr result (text.new ≡ text.old) }
 {
-    text.push_bytes(b"ports ")?;
-    text.push_decimal(kept.mappings().len() as u64)?;
-    text.push_bytes(b" packets ")?;
-    text.push_decimal(kept.packets())?;
-    text.push_bytes(b" drops ")?;
-    text.push_decimal(kept.drops())
+    text.push_bytes(record_text(kept).as_str().as_bytes())
+}
+
+/// The text of a record, which takes no memory.
+#[tactic(auto, unfolding(crate::specs::Text::record_text))]
+fn record_text(kept: &NatRecord) -> Line
+    ensures { result.bytes ≡ record_text kept.now }
+{
+    let mut buffer = Buffer::new();
+    let mut line = Line::new();
+    line.push_str("ports ");
+    line.push_str(buffer.format(kept.mappings().len()));
+    line.push_str(" packets ");
+    line.push_str(buffer.format(kept.packets()));
+    line.push_str(" drops ");
+    line.push_str(buffer.format(kept.drops()));
+    line
 }

@@ -6,7 +6,7 @@ use arrayvec::ArrayString;
 use itoa::Buffer;
 
 /// Room for a dotted address, and to spare.
-type Dotted = ArrayString<96>;
+pub type Dotted = ArrayString<96>;
 
 impl Text {
     /// Puts bytes after the text.
@@ -35,9 +35,9 @@ impl Text {
     }
 }
 
-/// The text of an address, which takes no memory.
+/// The text of an address as `A.B.C.D`, which takes no memory.
 #[tactic(auto, unfolding(crate::specs::Address::address_text))]
-fn dotted(address: u32) -> Dotted
+pub fn dotted(address: u32) -> Dotted
     ensures { result.bytes ≡ address_text address }
 {
     let mut buffer = Buffer::new();

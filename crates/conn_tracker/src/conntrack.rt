@@ -7,7 +7,7 @@ use nf_function::{BodyFault, Function, Kind, Output, Unit, is_transport};
 use std::alloc::Global;
 use std::cmp::Ordering;
 
-/// The connection tracker as a network function. Its steps never want memory.
+/// The connection tracker as a network function. Its steps never run out of memory.
 pub struct Conntrack;
 
 impl Function for Conntrack {

@@ -1,4 +1,4 @@
-ghost use Rattle.std.specs.Prelude.{◌≡◌};
+ghost use Rattle.std.specs.Prelude.{◌≡◌, ◌≤◌, length};
 ghost use Rattle.conn_tracker.specs.Table.{cell, row, first_tcp, next_udp, restarts, all_states, name_of, number_of, state_of};
 ghost use Rattle.conn_tracker.specs.declared.class.Class.TheVariants.{Fin};
 
@@ -132,7 +132,8 @@ impl State {
 
     /// The state's name.
     pub fn name(self) -> &'static str
-        ensures { result.now ≡ name_of self }
+        ensures name { result.now ≡ name_of self }
+        ensures short { length result.now ≤ 11 }
     {
         match self {
             State::Opening => "opening",

@@ -1,15 +1,21 @@
-ghost use Rattle.std.specs.Prelude.{◌≡◌, ◌++◌, OnOk, IfOk};
+ghost use Rattle.std.specs.Prelude.{◌≡◌, ◌≤◌, ◌++◌, length, OnOk, OnErr, IfOk};
 ghost use Rattle.conn_tracker.specs.Text.{output_text, record_text, seen_text, way_text};
 
 use crate::record::TrackRecord;
 use crate::state::State;
+use arrayvec::ArrayString;
 use flow_filter::{Direction, NoMemory, Text};
+use itoa::Buffer;
 use nf_function::Output;
 use std::alloc::Global;
 
+/// Room for the text of a record, and to spare.
+type RecordText = ArrayString<192>;
+
 /// Puts the text of an output after a text: the name of its state.
 pub fn push_output(text: &mut Text, output: &Output) -> Result<(), NoMemory>
-    ensures { OnOk result (text.new ≡ text.old ++ output_text output.now) }
+    ensures ok { OnOk result (text.new ≡ text.old ++ output_text output.now) }
+    ensures err { OnErr result (text.new ≡ text.old) }
 {
     match State::numbered(output.code) {
         Some(state) => text.push_bytes(state.name().as_bytes()),
@@ -18,35 +24,47 @@ pub fn push_output(text: &mut Text, output: &Output) -> Result<(), NoMemory>
 }
 
 /// Puts the text of a record after a text: `STATE out|in packets P bytes B`, and ` seen N` where a time is known.
-///
-/// After a refusal a part of it may stand there.
-#[tactic(auto, unfolding(crate::specs::Text::record_text))]
 pub fn push_record(text: &mut Text, kept: &TrackRecord) -> Result<(), NoMemory>
-    ensures { OnOk result (text.new ≡ text.old ++ record_text kept.now) }
+    ensures ok { OnOk result (text.new ≡ text.old ++ record_text kept.now) }
+    ensures err { OnErr result (text.new ≡ text.old) }
 {
-    text.push_bytes(kept.state.name().as_bytes())?;
-    text.push_bytes(b" ")?;
-    text.push_bytes(way_name(kept.opener).as_bytes())?;
-    text.push_bytes(b" packets ")?;
-    text.push_decimal(kept.packets)?;
-    text.push_bytes(b" bytes ")?;
-    text.push_decimal(kept.bytes)?;
-    push_seen(text, kept.seen)
+    text.push_bytes(record_text(kept).as_str().as_bytes())
 }
 
-/// Puts the time of the last packet, where one is known.
-fn push_seen(text: &mut Text, seen: u64) -> Result<(), NoMemory>
-    ensures { OnOk result (text.new ≡ text.old ++ seen_text seen) }
+/// The text of a record, which takes no memory.
+#[tactic(auto, unfolding(crate::specs::Text::record_text))]
+fn record_text(kept: &TrackRecord) -> RecordText
+    ensures { result.bytes ≡ record_text kept.now }
+{
+    let mut buffer = Buffer::new();
+    let mut text = RecordText::new();
+    text.push_str(kept.state.name());
+    text.push_str(" ");
+    text.push_str(way_name(kept.opener));
+    text.push_str(" packets ");
+    text.push_str(buffer.format(kept.packets));
+    text.push_str(" bytes ");
+    text.push_str(buffer.format(kept.bytes));
+    push_seen(&mut text, kept.seen);
+    text
+}
+
+/// Puts the time of the last packet after a text, where one is known.
+fn push_seen(text: &mut RecordText, seen: u64)
+    requires { length text.old.bytes ≤ 128 }
+    ensures { text.new.bytes ≡ text.old.bytes ++ seen_text seen }
 {
     if seen == 0 {
-        return Ok(());
+        return;
     }
-    text.push_bytes(b" seen ")?;
-    text.push_decimal(seen)
+    let mut buffer = Buffer::new();
+    text.push_str(" seen ");
+    text.push_str(buffer.format(seen));
 }
 
 fn way_name(direction: Direction) -> &'static str
-    ensures { result.now ≡ way_text direction }
+    ensures name { result.now ≡ way_text direction }
+    ensures short { length result.now ≤ 3 }
 {
     match direction {
         Direction::Out => "out",

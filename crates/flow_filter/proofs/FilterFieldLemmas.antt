@@ -5,7 +5,7 @@ use Rattle.std.specs.Option.{ForSome}
 use Rattle.std.proofs.lemmas.Bool.{eqb-true, eq-eqb, eqb-false, ne_eqb, leb-true, leb-false, and_cases, and_parts}
 use Rattle.flow_filter.specs.declared.prefix.Prefix.{Prefix}
 use Rattle.flow_filter.specs.Prefixes.{in_prefix}
-use Rattle.flow_filter.specs.Filter.{holds, agrees, meet_number, meet_prefix, longer, covers_number, covers_prefix}
+use Rattle.flow_filter.specs.Filter.{holds, agrees, meet_value, meet_prefix, longer, covers_value, covers_prefix}
 use Rattle.basics.proofs.BoolLemmas.{not_both, absorbed_left, absorbed_right, and_true, true-not-false}
 use Rattle.flow_filter.proofs.PrefixLemmas.{block_inside, block_own, block_whole, far_same, far_other, far_small}
 
@@ -23,7 +23,7 @@ numbers_meet top x y true is small =
 numbers_meet top x y false is small = λ a. not_both (eqb x a) (eqb y a) (λ p q. eqb-false x y is (eqb-true x a p ∙ sym (eqb-true y a q)))
 
 pub number_meets : (top : ℕ) (x y : Option ℕ) → 0 < top → ForSome x (λ n. n < top) → ForSome y (λ n. n < top)
-    → MeetsField nat_eq top x y (meet_number x y)
+    → MeetsField nat_eq top x y (meet_value nat_eq x y)
 number_meets top None None pos fx fy = ((λ a. refl), (0, pos, refl))
 number_meets top None (Some y) pos fx fy = ((λ a. refl), (y, fy y refl, eq-eqb y y refl))
 number_meets top (Some x) None pos fx fy = ((λ a. and_true (eqb x a)), (x, fx x refl, eq-eqb x x refl))
@@ -77,7 +77,7 @@ other_number top zero big = (1, big, refl, refl)
 other_number top (suc x) big = (0, omega arith, refl, ne_eqb (suc x) 0 (omega arith))
 
 pub number_covers : (top : ℕ) (x y : Option ℕ) → 1 < top → ForSome y (λ n. n < top)
-    → CoversField nat_eq top x y (covers_number x y)
+    → CoversField nat_eq top x y (covers_value nat_eq x y)
 number_covers top None None big fy = record {
   some = (0, omega arith, refl);
   yes = λ is a small at_y. refl;

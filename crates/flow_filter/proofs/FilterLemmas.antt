@@ -5,7 +5,7 @@ use Rattle.flow_filter.specs.declared.prefix.Prefix.{Prefix}
 use Rattle.flow_filter.specs.declared.flow.Flow.{Flow}
 use Rattle.flow_filter.specs.declared.filter.Filter.{Filter}
 use Rattle.basics.specs.Options.{◌>>=◌}
-use Rattle.flow_filter.specs.Filter.{holds, agrees, matches, meet, covers, covers_number, covers_prefix, IsFlow, IsFilter, Meet, IsMeet, Covers}
+use Rattle.flow_filter.specs.Filter.{holds, agrees, matches, meet, covers, covers_value, covers_prefix, IsFlow, IsFilter, Meet, IsMeet, Covers}
 use Rattle.basics.proofs.BoolLemmas.{and_fields, fields_both, true-not-false, true_unless, Five, five_true, true_five}
 use Rattle.flow_filter.proofs.FilterFieldLemmas.{MeetsField, number_meets, prefix_meets, CoversField, number_covers, prefix_covers}
 
@@ -117,7 +117,7 @@ covering f g a b c d e laws given =
 -- the test of all fields is true exactly where f covers g
 pub covers_law : (f g : Filter) → IsFilter f → IsFilter g → (covers f g ≡ true) ↔ Covers f g
 covers_law f g ff fg =
-    let laws : CoversFields f g (covers_number f.proto g.proto) (covers_prefix f.local g.local) (covers_number f.lport g.lport) (covers_prefix f.remote g.remote) (covers_number f.rport g.rport)
+    let laws : CoversFields f g (covers_value nat_eq f.proto g.proto) (covers_prefix f.local g.local) (covers_value nat_eq f.lport g.lport) (covers_prefix f.remote g.remote) (covers_value nat_eq f.rport g.rport)
     = record {
       of_proto = number_covers (2 ^ 8) f.proto g.proto (lit< tt) fg.proto;
       of_local = prefix_covers f.local g.local ff.local fg.local;

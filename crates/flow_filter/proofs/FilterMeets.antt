@@ -1,11 +1,12 @@
 -- Two filters have a meet exactly where they agree in every field that both give.
 use Rattle.std.proofs.Common.{◌≡◌, ℕ, ◌-◌, ◌/◌, ◌^◌, Bool, true, false, ◌&&◌, ◌||◌, cond, eqb, leb, Option, None, Some, is_some, refl, ap, sym, ◌∙◌, arith}
+use Rattle.std.specs.Prelude.{nat_eq}
 use Rattle.std.proofs.lemmas.Bool.{leb-true, leb-false}
 use Rattle.std.proofs.lemmas.Bool.Decides.{nat_tests}
 use Rattle.basics.specs.Options.{◌>>=◌}
 use Rattle.flow_filter.specs.declared.prefix.Prefix.{Prefix}
 use Rattle.flow_filter.specs.declared.filter.Filter.{Filter}
-use Rattle.flow_filter.specs.Filter.{holds, meet, meet_number, meet_prefix, meets, numbers_agree, prefixes_agree}
+use Rattle.flow_filter.specs.Filter.{holds, meet, meet_value, meet_prefix, meets, numbers_agree, prefixes_agree}
 
 -- a chain gives something where each link does
 some-chain : {A B : Type 0} (o : Option A) (f : A → Option B) (b : Bool) → ((x : A) → is_some (f x) ≡ b) → is_some (o >>= f) ≡ (is_some o && b)
@@ -16,7 +17,7 @@ some-cond : {A : Type 0} (test : Bool) (x : A) → is_some (cond test (Some x) N
 some-cond true x = refl
 some-cond false x = refl
 
-some-number : (x y : Option ℕ) → is_some (meet_number x y) ≡ numbers_agree x y
+some-number : (x y : Option ℕ) → is_some (meet_value nat_eq x y) ≡ numbers_agree x y
 some-number None None = refl
 some-number None (Some y) = refl
 some-number (Some x) None = refl
@@ -68,8 +69,8 @@ agree a b c d e v w x y z is_a is_b is_c is_d is_e = rw (is_a, is_b, is_c, is_d,
 
 pub some-meet : (f g : Filter) → is_some (meet f g) ≡ meets f g
 some-meet f g =
-    some-chain (meet_number f.proto g.proto) _ _ (λ a. some-chain (meet_prefix f.local g.local) _ _ (λ b.
-    some-chain (meet_number f.lport g.lport) _ _ (λ c. some-chain (meet_prefix f.remote g.remote) _ _ (λ d.
-    some-chain (meet_number f.rport g.rport) _ true (λ e. refl)))))
+    some-chain (meet_value nat_eq f.proto g.proto) _ _ (λ a. some-chain (meet_prefix f.local g.local) _ _ (λ b.
+    some-chain (meet_value nat_eq f.lport g.lport) _ _ (λ c. some-chain (meet_prefix f.remote g.remote) _ _ (λ d.
+    some-chain (meet_value nat_eq f.rport g.rport) _ true (λ e. refl)))))
     ∙ agree _ _ _ _ _ _ _ _ _ _ (some-number f.proto g.proto) (some-prefix f.local g.local) (some-number f.lport g.lport)
     (some-prefix f.remote g.remote) (some-number f.rport g.rport)

@@ -22,11 +22,11 @@ abbrev pub matches : Filter → Flow → Bool
 matches f flow = agrees nat_eq f.proto flow.proto && agrees holds f.local flow.local && agrees nat_eq f.lport flow.lport
     && agrees holds f.remote flow.remote && agrees nat_eq f.rport flow.rport
 
--- one field of two filters: what both say, or None where two given numbers differ
-abbrev pub meet_number : Option ℕ → Option ℕ → Option (Option ℕ)
-meet_number None y = Some y
-meet_number (Some x) None = Some (Some x)
-meet_number (Some x) (Some y) = if x == y then Some (Some x) else None
+-- one field of two filters: what both say, or None where two given values differ, by a test of equality
+abbrev pub meet_value : {X : Type 0} → (X → X → Bool) → Option X → Option X → Option (Option X)
+meet_value eq None y = Some y
+meet_value eq (Some x) None = Some (Some x)
+meet_value eq (Some x) (Some y) = if eq x y then Some (Some x) else None
 
 -- the longer of two prefixes, or None where it lies outside the shorter
 abbrev pub longer : Prefix → Prefix → Option (Option Prefix)
@@ -43,11 +43,11 @@ meet_prefix (Some p) (Some q) = longer p q
 -- field by field what both filters say, or None where some field has nothing in common
 abbrev pub meet : Filter → Filter → Option Filter
 meet f g = do
-  proto ← meet_number f.proto g.proto
+  proto ← meet_value nat_eq f.proto g.proto
   local ← meet_prefix f.local g.local
-  lport ← meet_number f.lport g.lport
+  lport ← meet_value nat_eq f.lport g.lport
   remote ← meet_prefix f.remote g.remote
-  rport ← meet_number f.rport g.rport
+  rport ← meet_value nat_eq f.rport g.rport
   Some (record { proto = proto; local = local; lport = lport; remote = remote; rport = rport })
 
 -- two numbers that are both given are equal
@@ -67,11 +67,11 @@ abbrev pub meets : Filter → Filter → Bool
 meets f g = numbers_agree f.proto g.proto && prefixes_agree f.local g.local && numbers_agree f.lport g.lport
     && prefixes_agree f.remote g.remote && numbers_agree f.rport g.rport
 
--- a given number covers an equal one
-abbrev pub covers_number : Option ℕ → Option ℕ → Bool
-covers_number None y = true
-covers_number (Some x) None = false
-covers_number (Some x) (Some y) = x == y
+-- a given value covers an equal one
+abbrev pub covers_value : {X : Type 0} → (X → X → Bool) → Option X → Option X → Bool
+covers_value eq None y = true
+covers_value eq (Some x) None = false
+covers_value eq (Some x) (Some y) = eq x y
 
 -- a given prefix covers one that it holds, and everything where its length is 0
 abbrev pub covers_prefix : Option Prefix → Option Prefix → Bool
@@ -81,8 +81,8 @@ covers_prefix (Some p) (Some q) = nat_le p.len q.len && holds p q.bits
 
 -- each field of the first filter covers that of the second
 abbrev pub covers : Filter → Filter → Bool
-covers f g = covers_number f.proto g.proto && covers_prefix f.local g.local && covers_number f.lport g.lport
-    && covers_prefix f.remote g.remote && covers_number f.rport g.rport
+covers f g = covers_value nat_eq f.proto g.proto && covers_prefix f.local g.local && covers_value nat_eq f.lport g.lport
+    && covers_prefix f.remote g.remote && covers_value nat_eq f.rport g.rport
 
 -- each number of the flow is within its type
 pub record IsFlow (flow : Flow) : Type 0 where

@@ -1,5 +1,5 @@
 ghost use Rattle.std.specs.Prelude.{◌≡◌, ◌↔◌, IsTrue, is_some, OnSome, IfSome, IfNone};
-ghost use Rattle.flow_filter.specs.Filter.{matches, meet, meets, meet_number, meet_prefix, longer, covers, covers_number, covers_prefix, IsFilter, Meet, IsMeet, Covers};
+ghost use Rattle.flow_filter.specs.Filter.{matches, meet, meets, meet_value, meet_prefix, longer, covers, covers_value, covers_prefix, IsFilter, Meet, IsMeet, Covers};
 
 use crate::flow::Flow;
 use crate::prefix::Prefix;
@@ -65,33 +65,20 @@ fn met(x: Filter, y: Filter) -> Option<Filter>
     ensures y_fits { IsFilter y }
 {
     Some(Filter {
-        proto: met_byte(x.proto, y.proto)?,
+        proto: met_value(x.proto, y.proto)?,
         local: met_prefix(x.local, y.local)?,
-        lport: met_port(x.lport, y.lport)?,
+        lport: met_value(x.lport, y.lport)?,
         remote: met_prefix(x.remote, y.remote)?,
-        rport: met_port(x.rport, y.rport)?,
+        rport: met_value(x.rport, y.rport)?,
     })
 }
 
-/// What two protocol fields say together, or `None` where they contradict each other.
-fn met_byte(x: Option<u8>, y: Option<u8>) -> Option<Option<u8>>
-    ensures { result ≡ meet_number x y }
+/// What two fields say together, protocols or ports, or `None` where they contradict each other.
+fn met_value<T: PartialEq + Copy>(x: Option<T>, y: Option<T>) -> Option<Option<T>>
+    ensures { result ≡ meet_value T.eq x y }
 {
     match (x, y) {
-        (Some(a), Some(b)) if a == b => Some(x),
-        (Some(_), Some(_)) => None,
-        (Some(_), None) => Some(x),
-        (None, _) => Some(y),
-    }
-}
-
-/// What two port fields say together, or `None` where they contradict each other.
-fn met_port(x: Option<u16>, y: Option<u16>) -> Option<Option<u16>>
-    ensures { result ≡ meet_number x y }
-{
-    match (x, y) {
-        (Some(a), Some(b)) if a == b => Some(x),
-        (Some(_), Some(_)) => None,
+        (Some(a), Some(b)) => (a == b).then_some(x),
         (Some(_), None) => Some(x),
         (None, _) => Some(y),
     }
@@ -122,23 +109,16 @@ fn covered(x: Filter, y: Filter) -> bool
     ensures x_fits { IsFilter x }
     ensures y_fits { IsFilter y }
 {
-    covers_byte(x.proto, y.proto)
+    covers_value(x.proto, y.proto)
         && covers_prefix(x.local, y.local)
-        && covers_port(x.lport, y.lport)
+        && covers_value(x.lport, y.lport)
         && covers_prefix(x.remote, y.remote)
-        && covers_port(x.rport, y.rport)
+        && covers_value(x.rport, y.rport)
 }
 
-/// Whether a protocol field says no more than another.
-fn covers_byte(x: Option<u8>, y: Option<u8>) -> bool
-    ensures { result ≡ covers_number x y }
-{
-    x.is_none() || x == y
-}
-
-/// Whether a port field says no more than another.
-fn covers_port(x: Option<u16>, y: Option<u16>) -> bool
-    ensures { result ≡ covers_number x y }
+/// Whether a field, a protocol or a port, says no more than another.
+fn covers_value<T: PartialEq + Copy>(x: Option<T>, y: Option<T>) -> bool
+    ensures { result ≡ covers_value T.eq x y }
 {
     x.is_none() || x == y
 }

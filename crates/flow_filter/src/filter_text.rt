@@ -1,4 +1,4 @@
-ghost use Rattle.std.specs.Prelude.{◌≡◌, true, false, ◌++◌, ◌∷◌, ◌==◌, ◌||◌, if◌then◌else◌, IfOk, OnOk, codes, option_map, is_some};
+ghost use Rattle.std.specs.Prelude.{◌≡◌, ◌≤◌, ◌+◌, true, false, ◌++◌, ◌∷◌, ◌==◌, ◌||◌, if◌then◌else◌, IfOk, OnOk, OnErr, codes, length, option_map, is_some};
 ghost use Rattle.std.specs.Fmt.{decimal};
 ghost use Rattle.std.specs.List.{slice_split};
 ghost use Rattle.basics.specs.Parsing.{parse_number};
@@ -8,10 +8,16 @@ use crate::filter::Filter;
 use crate::packet::{TCP, UDP};
 use crate::prefix::Prefix;
 use crate::reading::prefix;
+use arrayvec::ArrayString;
 use basics::parsing::{parse_number, split_once};
+use basics::text::dotted;
 use basics::{NoMemory, Text};
+use itoa::Buffer;
 use std::alloc::Global;
 use thiserror::Error;
+
+/// Room for the canonical text of a filter, and to spare.
+type Printed = ArrayString<384>;
 
 /// Why a text is no filter.
 #[derive(Clone, Copy, Debug, PartialEq, Eq, Error)]
@@ -63,21 +69,14 @@ impl Filter {
         Ok(out)
     }
 
-    /// Appends the canonical text.
+    /// Puts the canonical text after a text.
     pub fn print_to(self, out: &mut Text) -> Result<(), NoMemory>
         requires { is_printable self ≡ true }
-        ensures text { OnOk result (out.new ≡ out.old ++ print self) }
+        ensures ok { OnOk result (out.new ≡ out.old ++ print self) }
         ensures again { OnOk result (parse (print self) ≡ Ok (fields_of self)) }
+        ensures err { OnErr result (out.new ≡ out.old) }
     {
-        let begun = print_proto(out, self.proto)?;
-        let begun = print_prefix(out, begun, b"local=", self.local)?;
-        let begun = print_port(out, begun, b"lport=", self.lport)?;
-        let begun = print_prefix(out, begun, b"remote=", self.remote)?;
-        let begun = print_port(out, begun, b"rport=", self.rport)?;
-        if !begun {
-            out.push_bytes(b"any")?;
-        }
-        Ok(())
+        out.push_bytes(printed(self).as_str().as_bytes())
     }
 }
 
@@ -223,73 +222,101 @@ fn port(text: &[u8]) -> Option<u16>
     Some(value as u16)
 }
 
-/// Appends the protocol, where it is given, and answers whether a field was written.
-fn print_proto(out: &mut Text, proto: Option<u8>) -> Result<bool, NoMemory>
-    requires { is_transport proto ≡ true }
-    ensures { IfOk result (λ begun. (begun ≡ is_some proto)
-        × (out.new ≡ out.old ++ after_commas false (piece (codes "proto=") (option_map protocol_text proto)))) }
+/// The canonical text of a filter, which takes no memory.
+fn printed(filter: Filter) -> Printed
+    requires { is_printable filter ≡ true }
+    ensures text { result.bytes ≡ print filter }
+    ensures again { parse (print filter) ≡ Ok (fields_of filter) }
+{
+    let mut out = Printed::new();
+    let begun = print_proto(&mut out, filter.proto);
+    let begun = print_prefix(&mut out, begun, "local=", filter.local);
+    let begun = print_port(&mut out, begun, "lport=", filter.lport);
+    let begun = print_prefix(&mut out, begun, "remote=", filter.remote);
+    let begun = print_port(&mut out, begun, "rport=", filter.rport);
+    if !begun {
+        out.push_str("any");
+    }
+    out
+}
+
+/// Puts the protocol after the text, where it is given, and answers whether a field was written.
+fn print_proto(out: &mut Printed, proto: Option<u8>) -> bool
+    requires known { is_transport proto ≡ true }
+    requires room { length out.old.bytes ≤ 16 }
+    ensures begun { result ≡ is_some proto }
+    ensures text { out.new.bytes ≡ out.old.bytes ++ after_commas false (piece (codes "proto=") (option_map protocol_text proto)) }
+    ensures short { length out.new.bytes ≤ length out.old.bytes + 16 }
 {
     match proto {
-        None => Ok(false),
+        None => false,
         Some(TCP) => {
-            out.push_bytes(b"proto=tcp")?;
-            Ok(true)
+            out.push_str("proto=tcp");
+            true
         }
         Some(_) => {
-            out.push_bytes(b"proto=udp")?;
-            Ok(true)
+            out.push_str("proto=udp");
+            true
         }
     }
 }
 
-/// Appends a prefix under its name, where it is given, and answers whether a field was written so far.
-fn print_prefix(
-    out: &mut Text,
-    begun: bool,
-    name: &[u8],
-    prefix: Option<Prefix>,
-) -> Result<bool, NoMemory>
-    ensures { IfOk result (λ after. (after ≡ (begun || is_some prefix))
-        × (out.new ≡ out.old ++ after_commas begun (piece name.now (option_map prefix_text prefix)))) }
+/// Puts a prefix under its name after the text, where it is given, and answers whether a field was written so far.
+fn print_prefix(out: &mut Printed, begun: bool, name: &str, prefix: Option<Prefix>) -> bool
+    requires name { length name.now ≤ 7 }
+    requires room { length out.old.bytes ≤ 256 }
+    ensures begun { result ≡ (begun || is_some prefix) }
+    ensures text { out.new.bytes ≡ out.old.bytes ++ after_commas begun (piece name.now (option_map prefix_text prefix)) }
+    ensures short { length out.new.bytes ≤ length out.old.bytes + 128 }
 {
     let Some(prefix) = prefix else {
-        return Ok(begun);
+        return begun;
     };
-    print_name(out, begun, name)?;
-    print_block(out, prefix)?;
-    Ok(true)
+    print_name(out, begun, name);
+    print_block(out, prefix);
+    true
 }
 
-/// Appends a prefix as `A.B.C.D/L`.
-fn print_block(out: &mut Text, prefix: Prefix) -> Result<(), NoMemory>
-    ensures { OnOk result (out.new ≡ out.old ++ prefix_text prefix) }
+/// Puts a prefix after the text, as `A.B.C.D/L`.
+fn print_block(out: &mut Printed, prefix: Prefix)
+    requires room { length out.old.bytes ≤ 264 }
+    ensures text { out.new.bytes ≡ out.old.bytes ++ prefix_text prefix }
+    ensures short { length out.new.bytes ≤ length out.old.bytes + 120 }
 {
-    out.push_address(prefix.bits)?;
-    out.push_bytes(b"/")?;
-    out.push_decimal(u64::from(prefix.len))
+    let mut buffer = Buffer::new();
+    out.push_str(dotted(prefix.bits).as_str());
+    out.push_str("/");
+    out.push_str(buffer.format(prefix.len));
 }
 
-/// Appends a port under its name, where it is given, and answers whether a field was written so far.
-fn print_port(out: &mut Text, begun: bool, name: &[u8], port: Option<u16>) -> Result<bool, NoMemory>
-    ensures { IfOk result (λ after. (after ≡ (begun || is_some port))
-        × (out.new ≡ out.old ++ after_commas begun (piece name.now (option_map decimal port)))) }
+/// Puts a port under its name after the text, where it is given, and answers whether a field was written so far.
+fn print_port(out: &mut Printed, begun: bool, name: &str, port: Option<u16>) -> bool
+    requires name { length name.now ≤ 7 }
+    requires room { length out.old.bytes ≤ 344 }
+    ensures begun { result ≡ (begun || is_some port) }
+    ensures text { out.new.bytes ≡ out.old.bytes ++ after_commas begun (piece name.now (option_map decimal port)) }
+    ensures short { length out.new.bytes ≤ length out.old.bytes + 40 }
 {
     let Some(port) = port else {
-        return Ok(begun);
+        return begun;
     };
-    print_name(out, begun, name)?;
-    out.push_decimal(u64::from(port))?;
-    Ok(true)
+    let mut buffer = Buffer::new();
+    print_name(out, begun, name);
+    out.push_str(buffer.format(port));
+    true
 }
 
-/// Appends a field's name, after a comma where a field stands before it.
-fn print_name(out: &mut Text, begun: bool, name: &[u8]) -> Result<(), NoMemory>
-    ensures { OnOk result (out.new ≡ out.old ++ (if begun then 44 ∷ name.now else name.now)) }
+/// Puts a field's name after the text, and a comma before it where a field stands there.
+fn print_name(out: &mut Printed, begun: bool, name: &str)
+    requires name { length name.now ≤ 7 }
+    requires room { length out.old.bytes ≤ 376 }
+    ensures text { out.new.bytes ≡ out.old.bytes ++ (if begun then 44 ∷ name.now else name.now) }
+    ensures short { length out.new.bytes ≤ length out.old.bytes + 8 }
 {
     if begun {
-        out.push_bytes(b",")?;
+        out.push_str(",");
     }
-    out.push_bytes(name)
+    out.push_str(name);
 }
 
 #[cfg(test)]

@@ -118,9 +118,10 @@ pub trait Function {
         Ok(text)
     }
 
-    /// Puts the text of an output after a text. After a refusal a part of it may stand there.
+    /// Puts the text of an output after a text.
     fn push_output(text: &mut Text, output: &Output) -> Result<(), NoMemory>
-        ensures { OnOk result (text.new ≡ text.old ++ semantics.output_text output.now) };
+        ensures ok { OnOk result (text.new ≡ text.old ++ semantics.output_text output.now) }
+        ensures err { OnErr result (text.new ≡ text.old) };
 
     /// The text of a record.
     final fn print_record(alloc: Global, kept: &Self::Record) -> Result<Text, NoMemory>
@@ -131,9 +132,10 @@ pub trait Function {
         Ok(text)
     }
 
-    /// Puts the text of a record after a text. After a refusal a part of it may stand there.
+    /// Puts the text of a record after a text.
     fn push_record(text: &mut Text, kept: &Self::Record) -> Result<(), NoMemory>
-        ensures { OnOk result (text.new ≡ text.old ++ semantics.record_text kept.now) };
+        ensures ok { OnOk result (text.new ≡ text.old ++ semantics.record_text kept.now) }
+        ensures err { OnErr result (text.new ≡ text.old) };
 
     ghost same_kind: { KIND ≡ semantics.kind };
 

@@ -12,7 +12,7 @@ pub trait Keeper {
     /// It is set up so, and took these packets in order.
     ghost HasKept: { Self → Self.Setup → List ThePacket → Type 0 };
 
-    /// Takes one more packet. After want of memory it is only dropped.
+    /// Takes one more packet. Once memory ran out, it is only dropped.
     fn keep(&mut self, packet: &Packet) -> Result<(), NoMemory>
         ensures { OnOk result ((setup : Self.Setup) (before : List ThePacket) → HasKept self.old setup before → HasKept self.new setup (before ++ packet.now ∷ [])) };
 }
