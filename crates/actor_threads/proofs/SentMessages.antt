@@ -1,4 +1,4 @@
--- What a step does to a worker.
+-- What a step sent, under equal names for its clock and its list.
 use Rattle.std.proofs.Common.{◌≡◌, ℕ, List, subst}
 use Rattle.actor_threads.specs.Ways.{Outgoing, Sends}
 use Rattle.actor_threads.specs.Work.{put_for}

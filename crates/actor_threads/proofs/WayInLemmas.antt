@@ -1,4 +1,4 @@
--- What a way in draws.
+-- What is kept of a way in, and what its take end gives it.
 use Rattle.std.proofs.Common.{◌≡◌, false, true≢false, Option, Some, None, List, [], ◌∷◌, ◌++◌, drop, sym, ◌∙◌, ap, append-nil, refl}
 use Rattle.actor_net.specs.declared.stamped.Stamped.{Stamped}
 use Rattle.std.specs.Option.{is_some, option_to_list}

@@ -1,4 +1,4 @@
--- How the fields of a way are seen, and what always holds of them.
+-- How the fields of a way are seen, and what always holds of them. This project's own.
 use Rattle.std.specs.Prelude.{◌≡◌, ◌≤◌, ◌++◌, Some}
 use Rattle.std.specs.Option.{option_to_list}
 use Rattle.actor_net.specs.declared.stamped.Stamped.{Stamped}

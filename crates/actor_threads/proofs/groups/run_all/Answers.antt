@@ -1,3 +1,4 @@
+-- The members that go on alone and those that go on in groups are all members, each in its round.
 use Rattle.std.proofs.Common.{◌≡◌, sym, ap, ◌∙◌, subst, ◌++◌}
 use Rattle.std.proofs.lemmas.List.{take-append-drop}
 use Rattle.actor_threads.specs.Groups.{AllInRound}

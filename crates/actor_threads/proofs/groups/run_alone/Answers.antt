@@ -1,3 +1,4 @@
+-- What the one group does to its members is written back to the list.
 use Rattle.std.proofs.Common.{ap, ◌∙◌, length}
 use Rattle.actor_threads.proofs.GroupLemmas.{written_back, lent_go_on}
 use Rattle.actor_threads.proofs.groups.run_alone.Goals as goal

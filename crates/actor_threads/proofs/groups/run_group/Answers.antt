@@ -1,3 +1,4 @@
+-- One more turn of all members goes on with their rounds.
 use Rattle.actor_threads.proofs.GroupLemmas.{all_go_on}
 use Rattle.actor_threads.proofs.groups.run_group.Goals as goal
 

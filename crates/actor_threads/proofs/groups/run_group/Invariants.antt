@@ -1,3 +1,4 @@
+-- All members go on with their rounds.
 use Rattle.actor_threads.specs.Groups.{AllGoOn}
 use Rattle.actor_threads.proofs.groups.run_group.Given as goal
 

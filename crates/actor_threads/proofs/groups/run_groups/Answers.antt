@@ -1,3 +1,4 @@
+-- The members may be sent to threads, and what each group does to its members holds of all.
 use denote.Param.Send.{sendable}
 use Rattle.std.proofs.Common.{ap, ◌∙◌, subst, length}
 use Rattle.actor_threads.specs.Groups.{GoesOn}

@@ -1,3 +1,4 @@
+-- All members go on with their rounds.
 use Rattle.std.proofs.Common.{◌≡◌, length}
 use Rattle.actor_threads.specs.Groups.{AllGoOn}
 use Rattle.actor_threads.proofs.groups.turn_all.Given as goal

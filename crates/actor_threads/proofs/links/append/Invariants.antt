@@ -1,3 +1,4 @@
+-- The messages so far were put behind the list.
 use Rattle.std.proofs.Common.{◌≡◌, ◌++◌}
 use Rattle.actor_net.specs.Histories.{messages}
 use Rattle.actor_threads.proofs.links.append.Given as goal

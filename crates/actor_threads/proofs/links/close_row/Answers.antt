@@ -1,3 +1,4 @@
+-- The two ends are those of one link, and one more link is closed.
 use Rattle.std.proofs.Common.{◌<◌, ◌+◌, refl, sym, ◌∙◌, ap, subst, arith, length, map, slice_index_or, add-one}
 use Rattle.std.proofs.lemmas.List.{length-map}
 use Rattle.actor_threads.specs.LinkTable.{Closed, RowClosed}

@@ -1,3 +1,4 @@
+-- The sender's links to the first receivers are closed, and those to the others stand as before.
 use Rattle.std.proofs.Common.{◌≡◌, ◌≤◌, length, map, drop, deque_len}
 use Rattle.actor_threads.specs.LinkTable.{RowClosed}
 use Rattle.actor_threads.proofs.links.close_row.Given as goal

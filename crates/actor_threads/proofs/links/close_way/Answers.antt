@@ -1,3 +1,4 @@
+-- What stands on a closed link: what was kept, then what the queue held, then what waited to be sent.
 use Rattle.std.proofs.Common.{◌++◌, sym, ◌∙◌, ap, append_assoc}
 use Rattle.std.proofs.lemmas.List.{map-append}
 use Rattle.actor_net.specs.Histories.{messages}

@@ -1,3 +1,4 @@
+-- One more row without ends, and one more sender's links.
 use Rattle.std.proofs.Common.{◌+◌, sym, ◌∙◌, ap, subst, length, map, length-append}
 use Rattle.std.proofs.lemmas.List.{length-map, map-append}
 use Rattle.actor_threads.specs.LinkTable.{row_at, RowOpened, AllOpened}

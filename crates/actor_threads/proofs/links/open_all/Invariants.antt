@@ -1,3 +1,4 @@
+-- First each receiver has a row without ends, then the first senders have links to all receivers.
 use Rattle.std.proofs.Common.{◌≡◌, ℕ, ◌<◌, [], length, map}
 use Rattle.actor_threads.specs.LinkTable.{row_at, AllOpened}
 use Rattle.actor_threads.proofs.links.open_all.Given as goal

@@ -1,3 +1,4 @@
+-- The sender has a link to one more receiver.
 use Rattle.std.proofs.Common.{◌<◌, ◌+◌, ◌++◌, ◌∷◌, [], sym, ◌∙◌, ap, subst, arith, length, map, length-set}
 use Rattle.std.proofs.lemmas.List.{length-map}
 use Rattle.actor_threads.specs.LinkTable.{RowOpened}

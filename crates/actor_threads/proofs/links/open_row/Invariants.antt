@@ -1,3 +1,4 @@
+-- The sender has links to the first receivers.
 use Rattle.std.proofs.Common.{◌≡◌, length, map}
 use Rattle.actor_threads.specs.LinkTable.{RowOpened}
 use Rattle.actor_threads.proofs.links.open_row.Given as goal

@@ -1,3 +1,4 @@
+-- So many notes were moved from the front of the list to the log.
 use Rattle.std.proofs.Common.{◌≡◌, ◌≤◌, ◌++◌, take, drop}
 use Rattle.actor_threads.proofs.notes.give.Given as goal
 

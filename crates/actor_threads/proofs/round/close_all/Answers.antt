@@ -1,3 +1,4 @@
+-- One more sender's links can be closed, and are closed.
 use Rattle.std.proofs.Common.{◌<◌, sym, ◌∙◌, ap, subst, arith, length, map, add-one}
 use Rattle.std.proofs.lemmas.List.{length-map}
 use Rattle.actor_threads.specs.LinkTable.{RowClosed, CanClose}

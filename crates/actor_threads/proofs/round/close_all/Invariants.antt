@@ -1,3 +1,4 @@
+-- The links of the first senders are closed, and those of the others stand as before.
 use Rattle.std.proofs.Common.{◌≡◌, ◌<◌, ℕ, length, map, drop}
 use Rattle.actor_threads.specs.LinkTable.{row_at}
 use Rattle.actor_threads.specs.Round.{AllClosed}

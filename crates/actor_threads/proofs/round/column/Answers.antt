@@ -1,3 +1,4 @@
+-- One more list of the column is taken out.
 use Rattle.std.proofs.Common.{◌<◌, ◌+◌, ◌*◌, [], ◌∙◌, ap, arith, length, length-append, length-set}
 use Rattle.std.proofs.lemmas.List.{get_or_default}
 use Rattle.actor_threads.specs.LinkTable.{row_at}

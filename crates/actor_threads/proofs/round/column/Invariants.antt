@@ -1,3 +1,4 @@
+-- The lists of the column's first places were taken out; those further down and all other columns stand as before.
 use Rattle.std.proofs.Common.{◌≡◌, ◌≢◌, ◌<◌, ◌≤◌, ℕ, ◌+◌, ◌*◌, length, map}
 use Rattle.actor_threads.specs.LinkTable.{row_at}
 use Rattle.actor_threads.proofs.round.column.Given as goal

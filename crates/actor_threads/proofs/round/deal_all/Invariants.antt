@@ -1,3 +1,4 @@
+-- The log so far and the notes of the choices that are left are the whole log.
 use Rattle.std.proofs.Common.{◌≡◌, ◌++◌, drop}
 use Rattle.actor_net.specs.Histories.{dealt}
 use Rattle.actor_threads.specs.LinkTable.{row_at}

@@ -1,3 +1,4 @@
+-- The notes of one more choice go from its node's queue to the log.
 use Rattle.std.proofs.Common.{◌<◌, [], ◌++◌, ◌∙◌, ap, arith, length, slice_set}
 use Rattle.std.proofs.lemmas.List.{get_or_default}
 use Rattle.actor_net.specs.Histories.{without_first_list, first_list, dealt}

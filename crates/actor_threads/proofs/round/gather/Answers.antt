@@ -1,3 +1,4 @@
+-- The world after a round: what is left on the links, the input that stood for node 0 on its own link, and the notes in the order of the choices.
 use Rattle.std.proofs.Common.{◌<◌, [], ◌++◌, sym, ◌∙◌, ap, subst, arith, length, map, slice_set}
 use Rattle.std.proofs.lemmas.List.{length-map, get_or_default}
 use Rattle.actor_net.specs.Histories.{dealt}

@@ -1,3 +1,4 @@
+-- One more worker stands as the round begins, and in the end each node's.
 use Rattle.std.proofs.Common.{◌≡◌, ◌<◌, ◌+◌, ◌*◌, ℕ, sym, ◌∙◌, ap, subst, arith, length, map, length-append, add-one, slice_index_or}
 use Rattle.std.proofs.lemmas.List.{length-map, map-append}
 use Rattle.actor_threads.specs.Work.{opened, waits}

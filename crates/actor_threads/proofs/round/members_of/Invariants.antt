@@ -1,3 +1,4 @@
+-- The workers so far stand as a round of this world begins; nodes, ends and lists of the others are still to be used.
 use Rattle.std.proofs.Common.{◌≡◌, ◌<◌, ◌≤◌, ℕ, [], ◌+◌, ◌*◌, length, map, drop, slice_index_or, All}
 use Rattle.actor_threads.specs.Groups.{IsInRound}
 use Rattle.actor_threads.specs.LinkTable.{row_at, name_of, AllOpened}

@@ -1,3 +1,4 @@
+-- All links can be closed after the workers ran; the merged choices are then a run, and the world left is its replay.
 use Rattle.std.proofs.Common.{sym, ◌∙◌, ap, subst, length, ◌<◌}
 use Rattle.std.proofs.lemmas.List.{length-map}
 use Rattle.actor_threads.specs.Work.{WorkerView}

@@ -1,3 +1,4 @@
+-- The choices of one more round are joined to the run so far.
 use Rattle.std.proofs.Common.{sym, ◌∙◌, ap, subst}
 use Rattle.actor_net.specs.Network.{run, IsRun}
 use Rattle.actor_net.proofs.RunLaws.{run-append, runs_join}

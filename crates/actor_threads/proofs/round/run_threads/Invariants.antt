@@ -1,3 +1,4 @@
+-- The choices so far are a run of the first world, and the world is its replay.
 use Rattle.std.proofs.Common.{◌≡◌}
 use Rattle.actor_net.specs.Network.{run, IsRun}
 use Rattle.actor_threads.proofs.round.run_threads.Given as goal

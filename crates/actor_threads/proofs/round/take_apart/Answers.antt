@@ -1,3 +1,4 @@
+-- Where no member is left, the parts so far are the parts of all.
 use Rattle.std.proofs.Common.{sym, ◌∙◌, ap, map, ◌++◌, append-nil}
 use Rattle.actor_threads.proofs.NotesByCounts.{none}
 use Rattle.actor_threads.proofs.round.take_apart.Goals as goal

@@ -1,3 +1,4 @@
+-- The parts so far, and those of the members that are left, are the parts of all members.
 use Rattle.std.proofs.Common.{◌≡◌, ◌++◌, map, deque_len}
 use Rattle.std.specs.List.{list_all}
 use Rattle.actor_threads.specs.Groups.{has_run}

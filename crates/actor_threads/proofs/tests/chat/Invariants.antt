@@ -1,3 +1,4 @@
+-- There are as many nodes as numbers so far.
 use Rattle.std.proofs.Common.{◌≡◌, length}
 use Rattle.actor_threads.proofs.tests.chat.Given as goal
 

@@ -1,3 +1,4 @@
+-- The messages kept are the held one, if there is one, and then those that stood in the queue.
 use Rattle.std.proofs.Common.{◌∙◌}
 use Rattle.actor_threads.proofs.WayInLemmas.{one_held, none_held}
 use Rattle.actor_threads.proofs.ways.with_held.Goals as goal

@@ -1,3 +1,4 @@
+-- At each way out, what it has and what is still to come for it are what it had and what the step sent to its node.
 use Rattle.std.proofs.Common.{◌≡◌, ◌<◌, ◌++◌, ℕ, length}
 use Rattle.actor_threads.specs.Work.{out_at, put_for}
 use Rattle.actor_threads.proofs.worker.put_all.Given as goal

@@ -1,3 +1,4 @@
+-- The ways so far, and those of the take ends that are left, are the ways of all.
 use Rattle.std.proofs.Common.{◌≡◌, ◌++◌, length, map, deque_len}
 use Rattle.actor_threads.specs.Work.{all_in}
 use Rattle.actor_threads.proofs.worker.ways_in.Given as goal

@@ -1,3 +1,4 @@
+-- Each send end so far has its way out.
 use Rattle.std.proofs.Common.{◌≡◌, map}
 use Rattle.actor_threads.specs.Work.{all_out}
 use Rattle.actor_threads.proofs.worker.ways_out.Given as goal

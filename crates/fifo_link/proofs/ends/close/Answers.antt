@@ -1,3 +1,4 @@
+-- The send end's holder may take in the right to take.
 use Rattle.std.proofs.Common.{ap}
 use Rattle.fifo_link.proofs.Relays.{merges}
 use Rattle.fifo_link.proofs.ends.close.Goals as goal

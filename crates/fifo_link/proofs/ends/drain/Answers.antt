@@ -1,3 +1,4 @@
+-- The holder of both rights may take, and the rule tells it all.
 use Rattle.std.proofs.Common.{ap}
 use Rattle.fifo_link.proofs.Relays.{drains, totals}
 use Rattle.fifo_link.proofs.ends.drain.Goals as goal

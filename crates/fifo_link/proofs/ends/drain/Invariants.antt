@@ -1,3 +1,4 @@
+-- What was taken at first and what is in the room are all that was taken, and the room is large enough for all that is held.
 use Rattle.std.proofs.Common.{◌≡◌, ◌≤◌, true, ◌++◌, vec_capacity}
 use Rattle.crossbeam_queue.specs.Passes.{view, IsPassOf, ruled_capacity}
 use Rattle.fifo_link.specs.Rule.{log}

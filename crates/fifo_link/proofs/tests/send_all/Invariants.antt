@@ -1,3 +1,4 @@
+-- The end that sends stays an end of its link.
 use Rattle.std.proofs.Common.{◌≡◌}
 use Rattle.fifo_link.proofs.tests.send_all.Given as goal
 

@@ -1,3 +1,4 @@
+-- The end that takes stays an end of its link.
 use Rattle.std.proofs.Common.{◌≡◌}
 use Rattle.fifo_link.proofs.tests.take_all.Given as goal
 

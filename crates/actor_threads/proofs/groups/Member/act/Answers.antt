@@ -1,3 +1,4 @@
+-- A step, a look that found nothing, and one that ran out of memory go on with the round.
 use Rattle.std.proofs.Common.{Ok, refl, ap, ◌∙◌}
 use Rattle.actor_threads.proofs.GroupLemmas.{steps_on, looks_on, fails}
 use Rattle.actor_threads.proofs.groups.Member.act.Goals as goal

@@ -1,3 +1,4 @@
+-- A new member is at the start of its round.
 use Rattle.std.proofs.Common.{refl}
 use Rattle.actor_threads.proofs.GroupLemmas.{begins}
 use Rattle.actor_threads.proofs.groups.Member.open.Goals as goal

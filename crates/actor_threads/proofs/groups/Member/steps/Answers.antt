@@ -1,3 +1,4 @@
+-- One more step goes on with the round.
 use Rattle.actor_threads.proofs.groups.Member.steps.Goals as goal
 
 pub loop-preserved : goal.loop-preserved

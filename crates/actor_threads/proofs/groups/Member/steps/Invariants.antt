@@ -1,3 +1,4 @@
+-- The member goes on with its round.
 use Rattle.actor_threads.specs.Groups.{GoesOn}
 use Rattle.actor_threads.proofs.groups.Member.steps.Given as goal
 

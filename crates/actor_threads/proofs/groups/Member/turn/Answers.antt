@@ -1,3 +1,4 @@
+-- A turn goes on with the round, since sending what waits changes nothing that is seen.
 use Rattle.std.proofs.Common.{subst, sym}
 use Rattle.actor_threads.specs.Work.{WorkerView}
 use Rattle.actor_threads.specs.Groups.{IsInRound}

@@ -1,3 +1,4 @@
+-- The first of the steps without notes is taken off.
 use Rattle.std.proofs.Common.{rules, arith}
 use Rattle.actor_threads.proofs.NotesByCounts.{silent_pop}
 use Rattle.actor_threads.proofs.notes.CountQueue.pop.Goals as goal

@@ -1,3 +1,4 @@
+-- The first of the queue is the first of what is kept.
 use Rattle.std.proofs.Common.{sym, ◌∙◌, drop}
 use Rattle.actor_threads.specs.Ways.{with_stamp_0}
 use Rattle.actor_threads.proofs.WayInLemmas.{kept_first}

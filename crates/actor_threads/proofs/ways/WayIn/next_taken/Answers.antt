@@ -1,3 +1,4 @@
+-- What the take end gave is drawn: none, or one message.
 use Rattle.std.proofs.Common.{refl, ap, ◌∙◌, arith}
 use Rattle.actor_threads.proofs.WayInLemmas.{drew_nothing, drew_one}
 use Rattle.actor_threads.proofs.ways.WayIn.next_taken.Goals as goal

@@ -1,3 +1,4 @@
+-- What was sent and then what waits stay the same list.
 use Rattle.std.proofs.Common.{◌≡◌, ◌++◌, deque_len}
 use Rattle.actor_threads.proofs.ways.WayOut.flush.Given as goal
 

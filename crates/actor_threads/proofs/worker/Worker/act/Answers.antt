@@ -1,3 +1,4 @@
+-- A look that found a message and the step with it are one step of the worker.
 use Rattle.actor_threads.proofs.worker.Worker.act.Goals as goal
 
 pub returns-in_ok-step-in-Some-clause-stepped : goal.returns-in_ok-step-in-Some-clause-stepped

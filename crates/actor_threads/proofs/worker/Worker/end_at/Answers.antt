@@ -1,3 +1,4 @@
+-- A look at the take end of one port changes nothing but this way in.
 use Rattle.actor_threads.proofs.LookLemmas.{end_at}
 use Rattle.actor_threads.proofs.worker.Worker.end_at.Goals as goal
 

@@ -1,3 +1,4 @@
+-- What is sent leaves each way out as it is seen.
 use Rattle.std.proofs.Common.{◌≡◌}
 use Rattle.actor_threads.proofs.worker.Worker.flush.Given as goal
 

@@ -1,3 +1,4 @@
+-- One more port is quiet, and in the end each.
 use Rattle.std.proofs.Common.{subst, ◌∙◌, below_more, arith}
 use Rattle.actor_threads.specs.Work.{IsQuietAt}
 use Rattle.actor_threads.proofs.worker.Worker.look_kept.Goals as goal

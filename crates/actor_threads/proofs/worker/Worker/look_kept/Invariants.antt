@@ -1,3 +1,4 @@
+-- Nothing has changed, and the ports so far are quiet.
 use Rattle.std.proofs.Common.{◌≡◌, ◌<◌, ℕ, length}
 use Rattle.actor_threads.specs.Work.{IsQuietAt}
 use Rattle.actor_threads.proofs.worker.Worker.look_kept.Given as goal

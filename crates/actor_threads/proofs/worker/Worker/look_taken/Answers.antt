@@ -1,3 +1,4 @@
+-- Looks that found nothing, and then one that found a message, are one look.
 use Rattle.std.proofs.Common.{subst, sym, ap, arith, ◌<◌, length}
 use Rattle.actor_threads.specs.Work.{Idled, Found}
 use Rattle.actor_threads.proofs.WorkerSteps.{no_look, idled_then, idled_found}

@@ -1,3 +1,4 @@
+-- The looks so far found nothing.
 use Rattle.std.proofs.Common.{◌≡◌, ◌<◌, length}
 use Rattle.actor_threads.specs.Work.{Idled}
 use Rattle.actor_threads.proofs.worker.Worker.look_taken.Given as goal

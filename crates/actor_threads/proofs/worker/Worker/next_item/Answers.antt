@@ -1,3 +1,4 @@
+-- What is found at the input is its first item, for which the node is ready.
 use Rattle.std.proofs.Common.{ap, sym, ◌∙◌, subst, ◌<◌, length}
 use Rattle.actor_threads.proofs.LookLemmas.{kept_at, ready_first, same_element}
 use Rattle.actor_threads.proofs.worker.Worker.next_item.Goals as goal

@@ -1,3 +1,4 @@
+-- A look at what is kept of one port changes nothing but this way in.
 use Rattle.std.proofs.Common.{ap, ◌∙◌}
 use Rattle.actor_threads.specs.Work.{is_input_of}
 use Rattle.actor_threads.proofs.LookLemmas.{not_input, kept_at, quiet_at}

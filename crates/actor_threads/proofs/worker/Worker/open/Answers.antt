@@ -1,3 +1,4 @@
+-- A new worker has as many ways out as ways in, and fewer than 256.
 use Rattle.std.proofs.Common.{◌<◌, sym, ap, ◌∙◌, subst, length}
 use Rattle.std.proofs.lemmas.List.{length-map}
 use Rattle.actor_threads.proofs.OpenedWays.{length-all_in}

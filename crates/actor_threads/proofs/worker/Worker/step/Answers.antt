@@ -1,3 +1,4 @@
+-- The step leaves the worker as its definition says.
 use Rattle.std.proofs.Common.{ap, ◌∙◌, [], ◌∷◌, ◌++◌}
 use Rattle.actor_threads.proofs.SentMessages.{sends_as}
 use Rattle.actor_threads.proofs.worker.Worker.step.Goals as goal

@@ -1,3 +1,4 @@
+-- The first holder of a new queue may give the right to take away.
 use Rattle.std.proofs.Common.{rules}
 use Rattle.fifo_link.proofs.Relays.{forks}
 use Rattle.fifo_link.proofs.ends.Link.open.Goals as goal
