@@ -77,7 +77,7 @@ module _ {A M N : Type 0} (ready : A → M → Bool) (step : A → ℕ → M →
         quiet = λ _ none. quiet_at_start first m m.looked refl p q (sym same ∙ none);
       }
 
-  -- want of memory
+  -- a member that ran out of memory
   pub fails : (m n : Member A M N) → n.failed ≡ true → GoesOn ready step m n
   fails m n failed first on = λ ok. absurd (true≢false (sym failed ∙ ok))
 

@@ -18,7 +18,7 @@ module _ {A M N : Type 0} where
       pub moved : m.moved ≡ true → length start.steps < length m.worker.steps
       pub quiet : m.looked ≡ true → length m.worker.steps ≡ length start.steps → IsQuiet ready start
 
-    -- the member is in a round that its worker began like this; of one that wanted memory nothing is said
+    -- the member is in a round that its worker began like this; of one that ran out of memory nothing is said
     abbrev pub IsInRound : WorkerView A M N → Member A M N → Type 0
     IsInRound start m = m.failed ≡ false → Progress start m
 

@@ -29,7 +29,7 @@ const PAUSE_LOOKS: u32 = 4000;
 // other's turns, however few processors there are.
 const FEWEST_GROUPS: usize = 4;
 
-/// A worker as a member of a group, and how far it is in its round: whether it looked for a message, did a step, and wanted
+/// A worker as a member of a group, and how far it is in its round: whether it looked for a message, did a step, and ran out of
 /// memory.
 #[derive(Drop)]
 pub(crate) struct Member<A: Actor> {

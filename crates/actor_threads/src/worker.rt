@@ -115,7 +115,7 @@ impl<A: Actor> Worker<A> {
     }
 
     /// Looks for a message, and does a step where one is found: whether it did. `moved` says that it did one before in this
-    /// round. After want of memory the worker is only taken apart.
+    /// round. After it ran out of memory the worker is only taken apart.
     pub fn act<R: Wait, G: Gate>(&mut self, rt: &R, gate: &G, moved: bool) -> Result<bool, NoMemory>
         ensures stepped { result ≡ Ok true → DoesStep A.is_ready A.stepped self.old self.new }
         ensures idle { result ≡ Ok false → Idled self.old self.new }
