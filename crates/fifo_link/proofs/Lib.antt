@@ -1,1 +1,1 @@
-pub mod Relays
+pub mod LinkRuleSteps

@@ -1,6 +1,6 @@
 -- The send end's holder may take in the right to take.
 use Rattle.std.proofs.Common.{ap}
-use Rattle.fifo_link.proofs.Relays.{merges}
+use Rattle.fifo_link.proofs.LinkRuleSteps.{merges}
 use Rattle.fifo_link.proofs.ends.close.Goals as goal
 
 pub absorb-requires-clause-rule : goal.absorb-requires-clause-rule

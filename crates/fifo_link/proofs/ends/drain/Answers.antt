@@ -1,6 +1,6 @@
 -- The holder of both rights may take, and the rule tells it all.
 use Rattle.std.proofs.Common.{ap}
-use Rattle.fifo_link.proofs.Relays.{drains, totals}
+use Rattle.fifo_link.proofs.LinkRuleSteps.{drains, totals}
 use Rattle.fifo_link.proofs.ends.drain.Goals as goal
 
 pub pop_as-requires-clause-rule : goal.pop_as-requires-clause-rule

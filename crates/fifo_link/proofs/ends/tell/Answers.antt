@@ -1,6 +1,6 @@
 -- The two rights come together in the send end's holder, and it gives the right to take away again.
 use Rattle.std.proofs.Common.{ap}
-use Rattle.fifo_link.proofs.Relays.{merges, forks}
+use Rattle.fifo_link.proofs.LinkRuleSteps.{merges, forks}
 use Rattle.fifo_link.proofs.ends.tell.Goals as goal
 
 pub absorb-requires-clause-rule : goal.absorb-requires-clause-rule
