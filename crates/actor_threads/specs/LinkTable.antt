@@ -14,7 +14,7 @@ row_at rows i = slice_index_or rows i []
 module _ {M : Type 0} where
   -- an end of no link
   abbrev pub no_end : End M
-  no_end = record { link = no_link; capacity = 0; done = []; told = [] }
+  no_end = record { link = no_link; capacity = 0; done = []; known = [] }
 
   -- an end in a row
   abbrev pub one_at : List (End M) → ℕ → End M

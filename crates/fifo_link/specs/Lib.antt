@@ -1,3 +1,4 @@
+pub mod Transfers
 pub mod Ends
 pub mod Inside
 pub mod Rule

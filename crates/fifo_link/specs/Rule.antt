@@ -1,25 +1,40 @@
 -- The rule of a link, this project's own: what was sent is what was taken and then what the queue holds.
--- One holder at most may send. It knows all that was sent, and a beginning of what was taken.
--- One holder at most may take. It knows all that was taken, and a beginning of what was sent.
-use Rattle.std.specs.Prelude.{◌≡◌, ℕ, Bool, true, List, ◌++◌}
+-- One holder at most may send. It knows all that was done, but for what was taken since its last message.
+-- One holder at most may take. It knows all that was done, but for what was sent since its last message.
+use Rattle.std.specs.Prelude.{◌≡◌, ℕ, Bool, true, List, [], ◌∷◌, ◌++◌}
 use mathlib.Core.Option.{some}
 use lib.ListN.{get_elem?}
 use Rattle.actor_net.specs.declared.stamped.Stamped.{Stamped}
-use Rattle.fifo_link.specs.declared.rule.Log.{Log}
-use Rattle.fifo_link.specs.Ends.{BeginsWith}
+use Rattle.fifo_link.specs.declared.rule.Transfer.{Transfer}
+use Rattle.fifo_link.specs.declared.rule.Knowledge.{Knowledge}
+use Rattle.fifo_link.specs.Transfers.{sent_in, taken_in, Leaves, SentSince, TakenSince, IsSent, IsTaken}
 
 module _ {M : Type 0} where
-  -- what a holder may do, and what it knows of the lists sent and taken
-  abbrev pub log : Bool → Bool → List (Stamped M) → List (Stamped M) → Log M
-  log sends takes sent taken = record { sends = sends; takes = takes; sent = sent; taken = taken }
+  -- what a holder may do, and what it knows as the sender and as the taker
+  abbrev pub knows : Bool → Bool → List (Transfer M) → List (Transfer M) → Knowledge M
+  knows sends takes sender taker = record { sends = sends; takes = takes; sender = sender; taker = taker }
 
   -- what the rule says of one holder
-  abbrev pub Fits : ℕ → ℕ → List (Stamped M) → List (Stamped M) → ℕ → Log M → Type 0
-  Fits sender taker sent taken holder v =
-      (v.sends ≡ true → (holder ≡ sender) × (v.sent ≡ sent) × BeginsWith taken v.taken)
-      × (v.takes ≡ true → (holder ≡ taker) × (v.taken ≡ taken) × BeginsWith sent v.sent)
+  abbrev pub Fits : ℕ → ℕ → List (Transfer M) → ℕ → Knowledge M → Type 0
+  Fits sender taker all holder v =
+      (v.sends ≡ true → (holder ≡ sender) × TakenSince v.sender all)
+      × (v.takes ≡ true → (holder ≡ taker) × SentSince v.taker all × ((held : List (Stamped M)) × Leaves v.taker held))
 
   -- the rule, of what the queue holds and of what each holder knows
-  abbrev pub Relayed : List (Stamped M) → List (Log M) → Type 0
-  Relayed items views = (sender : ℕ) × (taker : ℕ) × (sent : List (Stamped M)) × (taken : List (Stamped M)) × (sent ≡ taken ++ items)
-      × ((holder : ℕ) (v : Log M) → get_elem? views holder ≡ some v → Fits sender taker sent taken holder v)
+  abbrev pub Relayed : List (Stamped M) → List (Knowledge M) → Type 0
+  Relayed items views = (sender : ℕ) × (taker : ℕ) × (all : List (Transfer M)) × Leaves all items
+      × ((holder : ℕ) (v : Knowledge M) → get_elem? views holder ≡ some v → Fits sender taker all holder v)
+
+  -- what a holder knows after it sent a message
+  pub record AfterSend (v : Knowledge M) (message : Stamped M) (w : Knowledge M) : Type 0 where
+    pub rights : (w.sends ≡ v.sends) × (w.takes ≡ v.takes)
+    pub known : IsSent v.sender message w.sender
+    pub done : sent_in w.sender ≡ sent_in v.sender ++ message ∷ []
+    pub same : w.taker ≡ v.taker
+
+  -- what a holder knows after it took a message
+  pub record AfterTake (v : Knowledge M) (message : Stamped M) (w : Knowledge M) : Type 0 where
+    pub rights : (w.sends ≡ v.sends) × (w.takes ≡ v.takes)
+    pub known : IsTaken v.taker message w.taker
+    pub done : taken_in w.taker ≡ taken_in v.taker ++ message ∷ []
+    pub same : w.sender ≡ v.sender

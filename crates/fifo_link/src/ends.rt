@@ -1,10 +1,9 @@
 //! The two ends of a link.
-ghost use Rattle.std.specs.Prelude.{◌≡◌, ◌<◌, ◌≤◌, true, [], ◌∷◌, ◌++◌, IfOk, IfErr, IfNone, MatchOption, MatchResult, vec_capacity};
-ghost use Rattle.fifo_link.specs.Ends.{BeginsWith, WasFull};
-ghost use Rattle.fifo_link.specs.Rule.{log};
+ghost use Rattle.std.specs.Prelude.{◌≡◌, ◌<◌, ◌≤◌, true, [], ◌∷◌, ◌++◌, length, IfOk, IfErr, IfNone, MatchOption, MatchResult, vec_capacity};
+ghost use Rattle.fifo_link.specs.Transfers.{sent_in, taken_in, IsSent, IsTaken, WasFull, WasEmpty, AllDone};
 ghost use Rattle.crossbeam_queue.specs.Passes.{view, IsPassOf, ruled_capacity};
 
-use crate::rule::{Drains, InOrder, Log, Roles, Sends, Takes};
+use crate::rule::{Drains, InOrder, Knowledge, Roles, Sends, Takes};
 use actor_net::Stamped;
 use basics::NoMemory;
 use crossbeam_queue::{Pass, RuledArrayQueue};
@@ -12,9 +11,9 @@ use std::alloc::{AllocError, Global};
 use std::marker::{Model, PhantomData};
 use std::sync::{Arc, Wait};
 
-type Line<M> = RuledArrayQueue<Stamped<M>, Log<M>, InOrder>;
+type Line<M> = RuledArrayQueue<Stamped<M>, Knowledge<M>, InOrder>;
 
-type Hand<M> = Pass<Stamped<M>, Log<M>>;
+type Hand<M> = Pass<Stamped<M>, Knowledge<M>>;
 
 /// The end of a link that sends.
 #[derive(Drop)]
@@ -82,6 +81,7 @@ impl<M> Link<M> {
         ensures link { IfOk result (λ ends. ends.0.link ≡ ends.1.link) }
         ensures capacity { IfOk result (λ ends. (ends.0.capacity ≡ capacity) × (ends.1.capacity ≡ capacity)) }
         ensures done { IfOk result (λ ends. (ends.0.done ≡ []) × (ends.1.done ≡ [])) }
+        ensures known { IfOk result (λ ends. (ends.0.known ≡ []) × (ends.1.known ≡ [])) }
     {
         let room = Vec::with_capacity(alloc, capacity)?;
         let (line, mut hand) = Line::ruled(alloc, capacity)?;
@@ -101,11 +101,13 @@ impl<M> Link<M> {
 }
 
 impl<M: Drop> SendEnd<M> {
-    /// Puts a message behind those that were sent.
+    /// Puts a message behind those that were sent, and learns what was taken before it. `Full` comes only where the link was
+    /// full at a moment since the last message that was sent.
     pub fn send<R: Wait>(&mut self, rt: &R, message: Stamped<M>) -> Result<(), Full<M>>
-        ensures same { (self.new.link ≡ self.old.link) × (self.new.capacity ≡ self.old.capacity) × (self.new.told ≡ self.old.told) }
+        ensures same { (self.new.link ≡ self.old.link) × (self.new.capacity ≡ self.old.capacity) }
         ensures sent { MatchResult result (λ _. self.new.done ≡ self.old.done ++ message ∷ []) (λ full. (full.message ≡ message) × (self.new.done ≡ self.old.done)) }
-        ensures full { IfErr result (λ _. WasFull self.old.capacity self.old.done self.old.told) }
+        ensures known { MatchResult result (λ _. IsSent self.old.known message self.new.known) (λ _. self.new.known ≡ self.old.known) }
+        ensures full { IfErr result (λ _. WasFull self.old.capacity self.old.known) }
     {
         match self.line.push_as::<Sends, R>(rt, &mut self.hand, message) {
             Ok(()) => Ok(()),
@@ -115,32 +117,25 @@ impl<M: Drop> SendEnd<M> {
 }
 
 impl<M: Drop> TakeEnd<M> {
-    /// The next message. `None` only where all that was sent had been taken at a moment of this call.
+    /// The next message, with what was sent before it was taken. `None` comes only where the link was empty right after the
+    /// last message that was taken.
     pub fn take<R: Wait>(&mut self, rt: &R) -> Option<Stamped<M>>
-        ensures same { (self.new.link ≡ self.old.link) × (self.new.capacity ≡ self.old.capacity) × (self.new.told ≡ self.old.told) }
+        ensures same { (self.new.link ≡ self.old.link) × (self.new.capacity ≡ self.old.capacity) }
         ensures taken { MatchOption result (self.new.done ≡ self.old.done) (λ message. self.new.done ≡ self.old.done ++ message ∷ []) }
-        ensures none { IfNone result (BeginsWith self.old.done self.old.told) }
+        ensures known { MatchOption result (self.new.known ≡ self.old.known) (λ message. IsTaken self.old.known message self.new.known) }
+        ensures none { IfNone result (WasEmpty self.old.known) }
     {
         self.line.pop_as::<Takes, R>(rt, &mut self.hand)
     }
 }
 
-/// Tells each end what the other has done so far.
-pub fn tell<M: Drop>(send: &mut SendEnd<M>, take: TakeEnd<M>) -> TakeEnd<M>
-    requires { send.old.link ≡ take.link }
-    ensures send { send.new ≡ record send.old { told = take.done } }
-    ensures take { result ≡ record take { told = send.old.done } }
-{
-    let TakeEnd { line, hand, room } = take;
-    send.line.absorb::<Roles>(&mut send.hand, hand);
-    let hand = send.line.another::<Roles>(&mut send.hand);
-    TakeEnd { line, hand, room }
-}
-
-/// Closes a link: what was sent is what was taken and then what is left. This takes no memory.
+/// Closes a link: what was sent is what was taken and then what is left, at most as much as the link holds. This takes no
+/// memory.
 pub fn close<M: Drop, R: Wait>(rt: &R, send: SendEnd<M>, take: TakeEnd<M>) -> Closed<M>
     requires { send.link ≡ take.link }
-    ensures { send.done ≡ take.done ++ result.left.items }
+    ensures done { send.done ≡ take.done ++ result.left.items }
+    ensures known { AllDone send.known take.known result.left.items }
+    ensures few { length result.left.items ≤ send.capacity }
 {
     let SendEnd { line, mut hand } = send;
     let TakeEnd {
@@ -161,17 +156,19 @@ fn drain<M: Drop, R: Wait>(
     mut room: Vec<Stamped<M>>,
 ) -> Vec<Stamped<M>>
     requires pass { IsPassOf line.now hand }
-    requires both { view hand ≡ log true true (view hand).sent (view hand).taken }
+    requires both { ((view hand).sends ≡ true) × ((view hand).takes ≡ true) }
     requires empty { room.items ≡ [] }
     requires room { ruled_capacity line.now ≤ vec_capacity room }
-    ensures { (view hand).sent ≡ (view hand).taken ++ result.items }
+    ensures done { sent_in (view hand).sender ≡ taken_in (view hand).taker ++ result.items }
+    ensures known { AllDone (view hand).sender (view hand).taker result.items }
+    ensures few { length result.items ≤ ruled_capacity line.now }
 {
     let _count = line.len_as::<Drains, R>(rt, &mut hand);
     for _ in rt.forever() {
-        match line.pop_as::<Drains, R>(rt, &mut hand) {
-            Some(message) => room.push_reserved(message),
-            None => break,
-        }
+        let Some(message) = line.pop_as::<Drains, R>(rt, &mut hand) else {
+            return room;
+        };
+        room.push_reserved(message);
     }
-    room
+    unreachable!()
 }

@@ -3,94 +3,100 @@ use actor_net::Stamped;
 use crossbeam_queue::protocol::{Join, Lesson, Outcome, Protocol, Split};
 use std::collections::LinkedList;
 
-// What a holder of the queue may do, and what it knows of the lists sent and taken. No value of it is made.
-pub struct Log<M> {
+// A message was sent, or taken. No value of it is made.
+pub enum Transfer<M> {
+    Sent(Stamped<M>),
+    Taken(Stamped<M>),
+}
+
+// What a holder of the queue may do, and what it knows of all that was done, as the sender and as the taker. No value of it
+// is made.
+pub struct Knowledge<M> {
     pub sends: bool,
     pub takes: bool,
-    pub sent: LinkedList<Stamped<M>>,
-    pub taken: LinkedList<Stamped<M>>,
+    pub sender: LinkedList<Transfer<M>>,
+    pub taker: LinkedList<Transfer<M>>,
 }
 
 // What was sent is what was taken and then what the queue holds.
 pub struct InOrder;
 
-impl<M> Protocol<Stamped<M>, Log<M>> for InOrder {
+impl<M> Protocol<Stamped<M>, Knowledge<M>> for InOrder {
     ghost use Rattle.std.specs.Prelude.{true, []};
-    ghost use Rattle.fifo_link.specs.Rule.{log, Relayed};
+    ghost use Rattle.fifo_link.specs.Rule.{knows, Relayed};
 
     ghost holds = { Relayed };
 
-    ghost first = { log true true [] [] };
+    ghost first = { knows true true [] [] };
 }
 
-// The right to send and the right to take, apart and together. Each knows both lists as they are at the cut.
+// The right to send and the right to take, apart and together.
 pub struct Roles;
 
-impl<M> Split<Log<M>> for Roles {
+impl<M> Split<Knowledge<M>> for Roles {
     ghost use Rattle.std.specs.Prelude.{true, false};
-    ghost use Rattle.fifo_link.specs.Rule.{log};
+    ghost use Rattle.fifo_link.specs.Rule.{knows};
 
-    ghost left = { λ v. log true false v.sent v.taken };
+    ghost left = { λ v. knows true false v.sender v.taker };
 
-    ghost right = { λ v. log false true v.sent v.taken };
+    ghost right = { λ v. knows false true v.sender v.taker };
 }
 
-impl<M> Join<Log<M>> for Roles {
+impl<M> Join<Knowledge<M>> for Roles {
     ghost use Rattle.std.specs.Prelude.{true, false, []};
-    ghost use Rattle.fifo_link.specs.Rule.{log};
+    ghost use Rattle.fifo_link.specs.Rule.{knows};
 
-    ghost both = { λ v w. log true true v.sent w.taken };
+    ghost both = { λ v w. knows true true v.sender w.taker };
 
-    ghost spent = { log false false [] [] };
+    ghost spent = { knows false false [] [] };
 }
 
-// A message is sent. What the queue holds was sent behind what was taken, which begins with what the sender was told.
+// A message is sent, and the sender learns what was done before it. Where there is no room, it learns what the queue holds.
 pub struct Sends;
 
-impl<M> Outcome<Stamped<M>, Log<M>> for Sends {
-    ghost use Rattle.std.specs.Prelude.{◌≡◌, [], ◌∷◌, ◌++◌};
-    ghost use Rattle.fifo_link.specs.Rule.{log};
+impl<M> Outcome<Stamped<M>, Knowledge<M>> for Sends {
+    ghost use Rattle.fifo_link.specs.Rule.{AfterSend};
 
-    ghost then = { λ v x w. w ≡ log v.sends v.takes (v.sent ++ x ∷ []) v.taken };
+    ghost then = { AfterSend };
 }
 
-impl<M> Lesson<Stamped<M>, Log<M>> for Sends {
-    ghost use Rattle.std.specs.Prelude.{◌≡◌, List, ◌++◌};
-    ghost use Rattle.actor_net.specs.declared.stamped.Stamped.{Stamped};
+impl<M> Lesson<Stamped<M>, Knowledge<M>> for Sends {
+    ghost use Rattle.fifo_link.specs.Transfers.{HeldSince};
 
-    ghost fact = { λ v items. (rest : List (Stamped M)) × (v.sent ≡ (v.taken ++ rest) ++ items) };
+    ghost fact = { λ v items. HeldSince v.sender items };
 }
 
-// A message is taken. What the taker was told of was taken, or the queue holds it.
+// A message is taken, and the taker learns what was done before it. Where there is none, nothing was sent since its last one.
 pub struct Takes;
 
-impl<M> Outcome<Stamped<M>, Log<M>> for Takes {
-    ghost use Rattle.std.specs.Prelude.{◌≡◌, [], ◌∷◌, ◌++◌};
-    ghost use Rattle.fifo_link.specs.Rule.{log};
+impl<M> Outcome<Stamped<M>, Knowledge<M>> for Takes {
+    ghost use Rattle.fifo_link.specs.Rule.{AfterTake};
 
-    ghost then = { λ v x w. w ≡ log v.sends v.takes v.sent (v.taken ++ x ∷ []) };
+    ghost then = { AfterTake };
 }
 
-impl<M> Lesson<Stamped<M>, Log<M>> for Takes {
-    ghost use Rattle.std.specs.Prelude.{◌++◌};
-    ghost use Rattle.fifo_link.specs.Ends.{BeginsWith};
+impl<M> Lesson<Stamped<M>, Knowledge<M>> for Takes {
+    ghost use Rattle.std.specs.Prelude.{◌≡◌, length};
+    ghost use Rattle.fifo_link.specs.Transfers.{WasEmpty};
 
-    ghost fact = { λ v items. BeginsWith (v.taken ++ items) v.sent };
+    ghost fact = { λ v items. length items ≡ 0 → WasEmpty v.taker };
 }
 
 // A message is taken by the holder of both rights, who knows all that was sent.
 pub struct Drains;
 
-impl<M> Outcome<Stamped<M>, Log<M>> for Drains {
-    ghost use Rattle.std.specs.Prelude.{◌≡◌, [], ◌∷◌, ◌++◌};
-    ghost use Rattle.fifo_link.specs.Rule.{log};
-    ghost use Rattle.fifo_link.specs.Ends.{BeginsWith};
+impl<M> Outcome<Stamped<M>, Knowledge<M>> for Drains {
+    ghost use Rattle.std.specs.Prelude.{◌≡◌, List, [], ◌∷◌, ◌++◌};
+    ghost use Rattle.actor_net.specs.declared.stamped.Stamped.{Stamped};
+    ghost use Rattle.fifo_link.specs.Rule.{AfterTake};
+    ghost use Rattle.fifo_link.specs.Transfers.{sent_in, taken_in};
 
-    ghost then = { λ v x w. (w ≡ log v.sends v.takes v.sent (v.taken ++ x ∷ [])) × BeginsWith v.sent (v.taken ++ x ∷ []) };
+    ghost then = { λ v x w. AfterTake v x w × ((rest : List (Stamped M)) × (sent_in v.sender ≡ (taken_in v.taker ++ x ∷ []) ++ rest)) };
 }
 
-impl<M> Lesson<Stamped<M>, Log<M>> for Drains {
+impl<M> Lesson<Stamped<M>, Knowledge<M>> for Drains {
     ghost use Rattle.std.specs.Prelude.{◌≡◌, ◌++◌};
+    ghost use Rattle.fifo_link.specs.Transfers.{AllDone, sent_in, taken_in};
 
-    ghost fact = { λ v items. v.sent ≡ v.taken ++ items };
+    ghost fact = { λ v items. AllDone v.sender v.taker items × (sent_in v.sender ≡ taken_in v.taker ++ items) };
 }

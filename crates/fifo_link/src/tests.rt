@@ -52,8 +52,7 @@ fn take_all(rt: &impl Wait, mut take: TakeEnd<u8>, count: u64) -> (TakeEnd<u8>, 
 
 #[test]
 fn what_was_not_taken_is_left_in_order(rt: HostRuntime) -> Result<(), Fail> {
-    let (mut send, take) = Link::<u8>::open(rt.alloc(), 4)?;
-    let take = tell(&mut send, take);
+    let (send, take) = Link::<u8>::open(rt.alloc(), 4)?;
     let send = send_all(&rt, send, 3);
     let (take, taken) = take_all(&rt, take, 1);
     let left = close(&rt, send, take).left;

@@ -10,7 +10,7 @@ returns g c =
     let waiting = c.parts-send.result.1.items in
     record {
       tail = left ++ waiting;
-      sent = c.parts-send.ensures.all ∙ ap (λ l. l ++ waiting) (c.close-left.ensures ∙ ap (λ l. l ++ left) c.in_ok-take.ensures.end.1) ∙ append_assoc c.args.way_in.done left waiting;
+      sent = c.parts-send.ensures.all ∙ ap (λ l. l ++ waiting) (c.close-left.ensures.done ∙ ap (λ l. l ++ left) c.in_ok-take.ensures.end.1) ∙ append_assoc c.args.way_in.done left waiting;
       is = c.from_vec.ensures ∙ c.into_vec.ensures.items ∙ c.in_ok-append-2.ensures
           ∙ ap (λ l. l ++ messages waiting) (c.in_ok-append.ensures ∙ ap (λ l. l ++ messages left) c.in_ok-take.ensures.kept ∙ sym (map-append _ c.args.way_in.kept left))
           ∙ sym (map-append _ (c.args.way_in.kept ++ left) waiting) ∙ ap messages (append_assoc c.args.way_in.kept left waiting);

@@ -1,7 +1,6 @@
--- A send end's holder may send, and the rule tells it what was sent so far.
-use Rattle.std.proofs.Common.{ap}
-use Rattle.fifo_link.proofs.LinkRuleSteps.{sends, sent_so_far}
+-- A send end's holder may send, and learns from a full queue what it holds.
+use Rattle.fifo_link.proofs.LinkRuleSteps.{sends, held_since}
 use Rattle.fifo_link.proofs.ends.SendEnd.send.Goals as goal
 
 pub push_as-requires-clause-rule : goal.push_as-requires-clause-rule
-push_as-requires-clause-rule g c = let may = ap (λ v. v.sends) c.self.invariant.1 in (sends _ _ _ _ may, sent_so_far _ _ may)
+push_as-requires-clause-rule g c = (sends _ _ _ _ c.self.invariant.1, held_since _ _ c.self.invariant.1)
