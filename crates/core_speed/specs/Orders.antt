@@ -9,3 +9,8 @@ use Rattle.core_speed.specs.declared.runs.Order.TheVariants.{Scheduled, Threads}
 abbrev pub AreMadeBy : Order → (Schedule → List Choice) → List Choice → Type 0
 AreMadeBy (Scheduled schedule) scheduled choices = choices ≡ scheduled schedule
 AreMadeBy Threads scheduled choices = Unit {0}
+
+-- choices are made by a schedule of which this holds
+abbrev pub IsBySchedule : Order → (Schedule → Type 0) → Type 0
+IsBySchedule (Scheduled schedule) holds = holds schedule
+IsBySchedule Threads holds = ⊥

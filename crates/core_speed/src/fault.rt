@@ -1,3 +1,6 @@
+ghost use Rattle.std.specs.Prelude.{◌≡◌};
+ghost use Rattle.core_speed.specs.Faults.{exit_number};
+
 use actor_net::ScheduleFault;
 use std::alloc::AllocError;
 use thiserror::Error;
@@ -15,7 +18,9 @@ pub enum Fault {
 
 impl Fault {
     /// The exit status that tells it.
-    pub fn status(self) -> u8 {
+    pub fn status(self) -> u8
+        ensures { result ≡ exit_number self }
+    {
         match self {
             Fault::Words | Fault::Unfinished { .. } => 1,
             Fault::NoMemory => 6,
@@ -24,12 +29,22 @@ impl Fault {
 }
 
 impl From<AllocError> for Fault {
+    ghost use Rattle.std.specs.Prelude.{◌≡◌};
+    ghost use Rattle.core_speed.specs.declared.fault.Fault.TheVariants.{NoMemory};
+
+    ghost from_gives = { λ _ fault. fault ≡ NoMemory };
+
     fn from(_fault: AllocError) -> Self {
         Fault::NoMemory
     }
 }
 
 impl From<ScheduleFault> for Fault {
+    ghost use Rattle.std.specs.Prelude.{◌≡◌};
+    ghost use Rattle.core_speed.specs.Faults.{fault_of};
+
+    ghost from_gives = { λ fault given. given ≡ fault_of fault };
+
     fn from(fault: ScheduleFault) -> Self {
         match fault {
             ScheduleFault::Unfinished { step } => Fault::Unfinished { step },

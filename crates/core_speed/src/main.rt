@@ -3,10 +3,9 @@
 //! Words: `ring|hub first|last|NUMBER|threads NODES ITEMS HOPS`: each of ITEMS tokens starts at node 0 with HOPS hops; or
 //! `network first|last|NUMBER|threads NODES PACKETS ROUNDS`: a switch, a controller and instances, with ROUNDS of work on each
 //! packet. It measures nothing itself: bench/core.sh takes the time and the memory from outside. It touches its arguments,
-//! the standard output and the standard error. Its main promise is that of `play`.
+//! threads, the standard output and the standard error. Its main promise is that of `play`.
 #![tactic(auto)]
 
-mod arguments;
 mod fault;
 mod network;
 mod nodes;
@@ -17,12 +16,12 @@ mod tokens;
 mod words;
 mod work;
 
-use crate::arguments::arguments;
 use crate::fault::Fault;
 use crate::network::network_world;
 use crate::runs::play;
 use crate::tokens::token_world;
 use crate::words::{Setup, task_of};
+use nf_io::arguments::arguments;
 use std::env::Env;
 use std::process::ExitCode;
 use std::sync::Wait;

@@ -1,8 +1,8 @@
 //! The run of a world in an order.
-ghost use Rattle.std.specs.Prelude.{◌≡◌, true, IfOk};
+ghost use Rattle.std.specs.Prelude.{◌≡◌, ◌≢◌, ℕ, length, true, Err, IfOk};
 ghost use Rattle.actor_net.specs.Network.{IsRun, run, is_done};
-ghost use Rattle.actor_net.specs.Schedules.{scheduled};
-ghost use Rattle.core_speed.specs.Orders.{AreMadeBy};
+ghost use Rattle.actor_net.specs.Schedules.{scheduled, StopsShort};
+ghost use Rattle.core_speed.specs.Orders.{AreMadeBy, IsBySchedule};
 
 use crate::fault::Fault;
 use actor_net::{Actor, Choices, MOST_CHOICES, Schedule, World, run_schedule};
@@ -31,6 +31,12 @@ where
     ensures run { IfOk result (λ choices. IsRun A.is_ready A.stepped choices world) }
     ensures complete { IfOk result (λ choices. is_done A.has_ended (run A.stepped choices world) ≡ true) }
     ensures order { IfOk result (AreMadeBy order (λ schedule. scheduled A.is_ready A.has_ended A.stepped MOST_CHOICES schedule world)) }
+
+    // Only a schedule leaves a run unfinished, where it stops short after so many choices.
+    ensures unfinished { (step : ℕ) → result ≡ Err (Fault.Unfinished step) → IsBySchedule order (λ schedule.
+        (length (scheduled A.is_ready A.has_ended A.stepped MOST_CHOICES schedule world) ≡ step)
+        × StopsShort A.is_ready A.has_ended (run A.stepped (scheduled A.is_ready A.has_ended A.stepped MOST_CHOICES schedule world) world) step) }
+    ensures words { result ≢ Err Fault.Words }
 {
     match order {
         Order::Scheduled(schedule) => {

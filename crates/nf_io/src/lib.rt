@@ -5,11 +5,12 @@
 //! was bound. The main promise: a call fails only where the count of faults of its own role rose,
 //! and leaves every other role as it was.
 //!
-//! Only [`FileOutside`] touches anything outside of the program: named files, the standard output
-//! and the standard error, by the four calls of a [`System`] and the reads and writes of its files.
-//! The other outsides are in memory.
+//! Only [`FileOutside`] and [`arguments`](arguments::arguments) touch anything outside of the program: the first
+//! named files, the standard output and the standard error, by the four calls of a [`System`] and the reads and
+//! writes of its files; the second the words that the program was started with. The other outsides are in memory.
 #![tactic(auto)]
 
+pub mod arguments;
 pub mod calm;
 pub mod file;
 pub mod memory;

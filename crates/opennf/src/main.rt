@@ -2,12 +2,11 @@
 //! It touches nothing else. The main promise is that of `run`: it ends with the number of the status.
 #![tactic(auto)]
 
-mod arguments;
 mod run;
 
-use crate::arguments::arguments;
 use crate::run::{refuse, run};
 use nf_io::FileOutside;
+use nf_io::arguments::arguments;
 use std::process::ExitCode;
 
 fn main(rt: HostRuntime) -> ExitCode {

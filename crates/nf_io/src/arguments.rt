@@ -1,3 +1,5 @@
+//! The arguments of a program.
+
 use std::alloc::AllocError;
 use std::env;
 use std::env::Env;
@@ -7,7 +9,7 @@ use std::io::ErrorKind;
 pub fn arguments<R: Env + AllocGlobal>(rt: &R) -> Result<Vec<String>, AllocError> {
     match env::args(rt) {
         Ok(arguments) => arguments.collect(rt.alloc()),
-        Err(e) if e.kind() == ErrorKind::OutOfMemory => Err(AllocError),
+        Err(fault) if fault.kind() == ErrorKind::OutOfMemory => Err(AllocError),
         Err(_) => Ok(Vec::new(rt.alloc())),
     }
 }
