@@ -1,0 +1,9 @@
+pub mod Firsts
+pub mod FilterLists
+pub mod RedirectLaws
+mod MaskLemmas
+mod MaskLists
+mod PlacedRules
+mod GroupLemmas
+mod FirstMatches
+mod Coverings

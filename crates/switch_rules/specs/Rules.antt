@@ -1,0 +1,73 @@
+-- The switch's rules: the first rule that matches a flow gives its target.
+-- This project's own, after flow tables whose rules stand in the order of their priority.
+use Rattle.std.specs.Prelude.{◌≡◌, ℕ, ◌==◌, ◌&&◌, Bool, true, false, not, if◌then◌else◌, List, [], ◌∷◌, ◌++◌, map, filter, find, All, Option, None, option_map, option_to_list}
+use Rattle.std.specs.List.{flat_map}
+use Rattle.std.specs.Option.{option_map_or}
+use Rattle.flow_filter.specs.declared.flow.Flow.{Flow}
+use Rattle.flow_filter.specs.declared.filter.Filter.{Filter}
+use Rattle.flow_filter.specs.Filter.{matches, meet, covers, IsFlow, IsFilter}
+use Rattle.switch_rules.specs.declared.target.Target.{Target}
+use Rattle.switch_rules.specs.declared.target.Target.TheVariants.{Instance, Controller}
+
+-- a rule: the flows that it matches, and where they go
+abbrev pub Rule : Type 0
+Rule = Filter × Target
+
+-- the target of the first rule that matches the flow
+abbrev pub first_match : List Rule → Flow → Option Target
+first_match rules flow = option_map (λ r. r.1) (find (λ r. matches r.0 flow) rules)
+
+-- the targets are equal
+abbrev pub target_eq : Target → Target → Bool
+target_eq (Instance i) (Instance j) = i == j
+target_eq Controller Controller = true
+target_eq (Instance i) Controller = false
+target_eq Controller (Instance j) = false
+
+-- the filter that matches every flow
+abbrev pub any : Filter
+any = record { proto = None; local = None; lport = None; remote = None; rport = None }
+
+-- routes in order, and then every flow to instance 0
+abbrev pub opened : List (Filter × ℕ) → List Rule
+opened routes = map (λ r. (r.0, Instance r.1)) routes ++ (any, Instance 0) ∷ []
+
+-- the instance of the first route that matches the flow, or instance 0
+abbrev pub routed : List (Filter × ℕ) → Flow → ℕ
+routed routes flow = option_map_or (λ r. r.1) (find (λ r. matches r.0 flow) routes) 0
+
+-- an order to the switch: flows of the filter that go to one target are to go to another
+pub record Redirect : Type 0 where
+  pub filter : Filter
+  pub from : Target
+  pub to : Target
+
+-- the target afterwards of a flow with this target before
+abbrev pub redirected_target : Redirect → Flow → Target → Target
+redirected_target r flow target = if matches r.filter flow && target_eq target r.from then r.to else target
+
+-- the new rules give each flow its target after the redirect
+abbrev pub Redirects : Redirect → List Rule → List Rule → Type 0
+Redirects r old new = (flow : Flow) → IsFlow flow → first_match new flow ≡ option_map (redirected_target r flow) (first_match old flow)
+
+-- a rule, and before it what it and the redirect both match where the rule has the old target
+abbrev pub split : Redirect → Rule → List Rule
+split r rule =
+    (if target_eq rule.1 r.from then option_to_list (option_map (λ both. (both, r.to)) (meet rule.0 r.filter)) else []) ++ rule ∷ []
+
+-- the items that don't stand behind one by which the test leaves them out
+abbrev pub firsts : {X : Type 0} → (X → X → Bool) → List X → List X
+firsts test [] = []
+firsts test (x ∷ xs) = x ∷ filter (λ later. not (test x later)) (firsts test xs)
+
+-- the rules that no earlier rule covers
+abbrev pub uncovered : List Rule → List Rule
+uncovered rules = firsts (λ earlier later. covers earlier.0 later.0) rules
+
+-- the list of rules after a redirect
+abbrev pub redirected : Redirect → List Rule → List Rule
+redirected r rules = uncovered (flat_map (split r) rules)
+
+-- each number that the rules' filters give is within its type
+abbrev pub AreFilters : List Rule → Type 0
+AreFilters rules = All (λ r. IsFilter r.0) rules
