@@ -1,0 +1,3 @@
+pub mod AdjacentServices
+pub mod BodyOrder
+pub mod ServicesRead

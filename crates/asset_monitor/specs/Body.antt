@@ -1,0 +1,61 @@
+-- The bytes that a monitor's record is stored as. This project's own format: packets (8 bytes), how many services (1), each service
+-- as its protocol (1), port (2) and banner (1).
+use Rattle.std.specs.Prelude.{ℕ, zero, suc, ◌^◌, ◌&&◌, nat_le, nat_lt, Bool, false, if◌then◌else◌, List, [], ◌∷◌, ◌++◌, length, Option, None, Some}
+use Rattle.std.specs.List.{flat_map}
+use Rattle.basics.specs.Options.{◌>>=◌}
+use Rattle.nf_function.specs.declared.unit.Unit as units
+use Rattle.nf_function.specs.declared.unit.Unit.TheVariants.{Flow as OfFlow, Host as OfHost}
+use Rattle.nf_function.specs.Stored.{number_bytes, first_byte, first_number}
+use Rattle.asset_monitor.specs.declared.record.AssetRecord.{AssetRecord}
+use Rattle.asset_monitor.specs.declared.service.Service.{Service}
+use Rattle.asset_monitor.specs.Banners.{banner_of, number_of}
+use Rattle.asset_monitor.specs.Services.{are_services, services_per_host}
+
+-- a record of the host: it has counted a packet, and its services are ones that a host can have
+abbrev pub is_valid : units.Unit → AssetRecord → Bool
+is_valid (OfFlow flow) r = false
+is_valid (OfHost host) r = nat_lt host (2 ^ 32) && are_services r.services && nat_le 1 r.packets && nat_lt r.packets (2 ^ 64)
+
+abbrev pub service_bytes : Service → List ℕ
+service_bytes s = s.proto ∷ (number_bytes 2 s.port ++ number_of s.banner ∷ [])
+
+unfoldable pub body_of : AssetRecord → List ℕ
+body_of r = number_bytes 8 r.packets ++ length r.services ∷ flat_map service_bytes r.services
+
+-- a service, and the bytes after it
+unfoldable pub first_service : List ℕ → Option (Service × List ℕ)
+first_service bytes = do
+  proto ← first_byte bytes
+  port ← first_number 2 proto.1
+  number ← first_byte port.1
+  banner ← banner_of number.0
+  Some (record { proto = proto.0; port = port.0; banner = banner }, number.1)
+
+-- as many services, and nothing after them
+unfoldable pub services_in : ℕ → List ℕ → Option (List Service)
+services_in zero [] = Some []
+services_in zero (byte ∷ more) = None
+services_in (suc n) bytes = do
+  first ← first_service bytes
+  more ← services_in n first.1
+  Some (first.0 ∷ more)
+
+-- no more services than are kept of a host
+abbrev pub few : ℕ × List ℕ → Option (ℕ × List ℕ)
+few counted = if nat_le counted.0 services_per_host then Some counted else None
+
+-- the record that bytes spell
+unfoldable pub spelled : List ℕ → Option AssetRecord
+spelled body = do
+  packets ← first_number 8 body
+  counted ← first_byte packets.1 >>= few
+  services ← services_in counted.0 counted.1
+  Some (record { packets = packets.0; services = services })
+
+-- the record, where it is valid for the unit
+abbrev pub valid_only : units.Unit → AssetRecord → Option AssetRecord
+valid_only unit r = if is_valid unit r then Some r else None
+
+-- the record of the unit that bytes spell
+unfoldable pub record_in : units.Unit → List ℕ → Option AssetRecord
+record_in unit body = spelled body >>= valid_only unit

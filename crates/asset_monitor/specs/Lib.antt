@@ -1,0 +1,12 @@
+pub mod Banners
+pub mod Services
+pub mod Table
+pub mod Text
+pub mod Body
+pub mod Monitor
+pub mod Places
+pub mod Rows
+pub mod ServiceLemmas
+pub mod RowLemmas
+pub mod BodyLemmas
+pub mod StepLemmas

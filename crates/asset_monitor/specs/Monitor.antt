@@ -1,0 +1,21 @@
+-- The asset monitor as a network function.
+use Rattle.std.specs.Prelude.{false}
+use Rattle.nf_function.specs.declared.kind.Kind.TheVariants as kinds
+use Rattle.nf_function.specs.Semantics.{Semantics}
+use Rattle.asset_monitor.specs.declared.record.AssetRecord.{AssetRecord}
+use Rattle.asset_monitor.specs.Table.{stepped}
+use Rattle.asset_monitor.specs.Text.{output_text, record_text}
+use Rattle.asset_monitor.specs.Body.{is_valid, body_of, record_in}
+
+abbrev pub monitor : Semantics AssetRecord
+monitor = record {
+  kind = kinds.Monitor;
+  stepped = stepped;
+  packets_of = λ r. r.packets;
+  is_valid = is_valid;
+  body_of = body_of;
+  record_in = record_in;
+  is_timed = λ r. false;
+  output_text = output_text;
+  record_text = record_text;
+}

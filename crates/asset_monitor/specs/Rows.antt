@@ -1,0 +1,28 @@
+-- The rows of the table by what is known of the packet's source. A step between code and definition: there is nothing here to believe.
+use Rattle.std.specs.Prelude.{nat_lt, if◌then◌else◌, length, Option, None, Some}
+use Rattle.flow_filter.specs.declared.packet.Packet.{Packet}
+use Rattle.nf_function.specs.Semantics.{Step}
+use Rattle.asset_monitor.specs.declared.record.AssetRecord.{AssetRecord}
+use Rattle.asset_monitor.specs.declared.service.Service.{Service}
+use Rattle.asset_monitor.specs.Banners.{banner_in, is_unseen}
+use Rattle.asset_monitor.specs.Services.{services_per_host}
+use Rattle.asset_monitor.specs.Table.{announces, found, full, greeted, keeping, payload, quiet, source}
+
+-- nothing is seen
+abbrev pub unmoved : AssetRecord → Step AssetRecord
+unmoved r = record { kept = r; output = quiet }
+
+-- a service that isn't listed is announced
+unfoldable pub entered : AssetRecord → Service → Step AssetRecord
+entered r s =
+    if nat_lt (length r.services) services_per_host then record { kept = keeping r s; output = found s }
+    else record { kept = r; output = full }
+
+-- a service that is listed without a banner sends a packet with this one
+unfoldable pub told : AssetRecord → Service → Step AssetRecord
+told r s = if is_unseen s.banner then unmoved r else record { kept = keeping r s; output = greeted s }
+
+-- a packet that the host sends, where this is listed at its source
+unfoldable pub met : AssetRecord → Packet → Option Service → Step AssetRecord
+met r p None = if announces p then entered r (source p) else unmoved r
+met r p (Some s) = if is_unseen s.banner then told r (record (source p) { banner = banner_in (payload p) }) else unmoved r

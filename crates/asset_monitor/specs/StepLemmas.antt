@@ -1,0 +1,142 @@
+-- What a step of the monitor keeps of a record, and all its laws together. A step between code and definition: there is
+-- nothing here to believe. It stands in specs/ since the laws of a trait may cite nothing else.
+use Rattle.std.proofs.Common.{◌≡◌, ◌<◌, ◌≤◌, ◌+◌, ◌^◌, ℕ, Bool, true, false, cond, is_some, length, Option, None, Some, unwrap_or, refl, sym, ap, arith, nat_lt}
+use Rattle.std.proofs.lemmas.Bool.{ltb-true, lt-ltb}
+use Rattle.basics.proofs.BoolLemmas.{true_both}
+use Rattle.flow_filter.specs.declared.packet.Packet.{Packet}
+use Rattle.flow_filter.specs.declared.site.Site.{Site}
+use Rattle.flow_filter.specs.declared.flow.Direction.{Direction}
+use Rattle.flow_filter.specs.declared.flow.Direction.TheVariants.{Out, In}
+use Rattle.flow_filter.specs.Filter.{IsFlow}
+use Rattle.flow_filter.specs.Flow.{flow_of}
+use Rattle.nf_function.specs.declared.kind.Kind.TheVariants as kinds
+use Rattle.nf_function.specs.declared.unit.Unit as units
+use Rattle.nf_function.specs.declared.unit.Unit.TheVariants.{Flow as OfFlow, Host as OfHost}
+use Rattle.nf_function.specs.Units.{is_unit, is_transport}
+use Rattle.nf_function.specs.Semantics.{Step, count, kept_after, is_sound, packets_in, unit_at}
+use Rattle.nf_function.specs.Records.{Fits, Laws}
+use Rattle.nf_function.proofs.FlowFits.{flow_fits}
+use Rattle.asset_monitor.specs.declared.record.AssetRecord.{AssetRecord}
+use Rattle.asset_monitor.specs.declared.service.Service.{Service}
+use Rattle.asset_monitor.specs.Banners.{banner_in, is_unseen}
+use Rattle.asset_monitor.specs.Services.{is_service, listed, services_per_host, with_service}
+use Rattle.asset_monitor.specs.ServiceLemmas.{are_services-with, few_services, length-with}
+use Rattle.asset_monitor.specs.Table.{announces, counted, found, full, greeted, keeping, nothing, payload, source, stepped, watched}
+use Rattle.asset_monitor.specs.Rows.{entered, met, told, unmoved}
+use Rattle.asset_monitor.specs.RowLemmas.{greeting_of, watched_in, watched_met, watched_other}
+use Rattle.asset_monitor.specs.Body.{is_valid}
+use Rattle.asset_monitor.specs.Monitor.{monitor}
+use Rattle.asset_monitor.specs.BodyLemmas.{IsValid, valid_facts, valid_from, record_in-body_of, record_in-some, known_by_body, length-body_of}
+
+-- a record with one more service, where there is room for it
+module _ (host : ℕ) (r : AssetRecord) (valid : IsValid host r) where
+  keeping_valid : (s : Service) → is_service s ≡ true → length (with_service r.services s) ≤ services_per_host → IsValid host (keeping r s)
+  keeping_valid s is few = record {
+    address = valid.address;
+    services = are_services-with r.services s valid.services is few;
+    counted = valid.counted;
+    packets = valid.packets;
+  }
+
+  entered_valid : (s : Service) → is_service s ≡ true → IsValid host (entered r s).kept
+  unfolding entered
+  entered_valid s is = by_room (nat_lt (length r.services) services_per_host) refl
+    where
+      by_room : (room : Bool) → nat_lt (length r.services) services_per_host ≡ room
+          → IsValid host (cond {A = Step AssetRecord} room (record { kept = keeping r s; output = found s }) (record { kept = r; output = full })).kept
+      by_room true h =
+          let free : length r.services < services_per_host = ltb-true (length r.services) services_per_host h in
+          keeping_valid s is (omega (arith, length-with r.services s))
+      by_room false h = valid
+
+  told_valid : (s : Service) → is_service s ≡ true → is_some (listed r.services s) ≡ true → IsValid host (told r s).kept
+  unfolding told
+  told_valid s is known = by_banner (is_unseen s.banner)
+    where
+      by_banner : (unseen : Bool) → IsValid host (cond {A = Step AssetRecord} unseen (unmoved r) (record { kept = keeping r s; output = greeted s })).kept
+      by_banner true = valid
+      by_banner false =
+          let few = few_services r.services valid.services in let one = rw known at (length-with r.services s) in keeping_valid s is (omega arith)
+
+  met_valid : (p : Packet) (known : Option Service) → is_service (source p) ≡ true → listed r.services (source p) ≡ known → IsValid host (met r p known).kept
+  unfolding met
+  met_valid p None is h = by_row (announces p)
+    where
+      by_row : (announced : Bool) → IsValid host (cond {A = Step AssetRecord} announced (entered r (source p)) (unmoved r)).kept
+      by_row true = entered_valid (source p) is
+      by_row false = valid
+  met_valid p (Some s) is h = by_row (is_unseen s.banner)
+    where
+      by_row : (bare : Bool) → IsValid host (cond {A = Step AssetRecord} bare (told r (greeting_of p)) (unmoved r)).kept
+      by_row true = told_valid (greeting_of p) is (ap is_some h)
+      by_row false = valid
+
+  -- whichever row applies, what it leaves is valid
+  watched_valid : (direction : Direction) (p : Packet) → is_transport p.proto ≡ true → p.sport < 2 ^ 16 → IsValid host (watched direction r p).kept
+  watched_valid In p transport port = rw (watched_in r p) valid
+  watched_valid Out p transport port =
+      let is : is_service (source p) ≡ true = true_both _ _ transport (lt-ltb p.sport (2 ^ 16) port) in
+      rw (watched_met r p transport) (met_valid p (listed r.services (source p)) is refl)
+
+-- a record that was valid, or none, is valid with one packet more
+counted_valid : (host : ℕ) (kept : Option AssetRecord) → nat_lt host (2 ^ 32) ≡ true → is_sound monitor (OfHost host) kept ≡ true
+    → IsValid host (counted (unwrap_or kept nothing))
+counted_valid host None address h = record { address = address; services = refl; counted = omega arith; packets = omega arith }
+counted_valid host (Some r) address h =
+    let v = valid_facts host r h in
+    let counted : 1 ≤ r.packets = v.counted in
+    record { address = address; services = v.services; counted = omega arith; packets = omega arith }
+
+-- a step keeps what is valid for the packet's host, and so does a packet that may be none of TCP or UDP
+pub kept_sound : (direction : Direction) (host : ℕ) (kept : Option AssetRecord) (p : Packet) → nat_lt host (2 ^ 32) ≡ true → p.sport < 2 ^ 16
+    → is_sound monitor (OfHost host) kept ≡ true
+    → is_sound monitor (OfHost host) (cond (is_transport p.proto) (Some (watched direction (counted (unwrap_or kept nothing)) p).kept) kept) ≡ true
+kept_sound direction host kept p address port h = by_proto (is_transport p.proto) refl
+  where
+    by_proto : (transport : Bool) → is_transport p.proto ≡ transport
+        → is_sound monitor (OfHost host) (cond transport (Some (watched direction (counted (unwrap_or kept nothing)) p).kept) kept) ≡ true
+    by_proto true e = valid_from host _ (watched_valid host _ (counted_valid host kept address h) direction p e port)
+    by_proto false e = h
+
+stays_valid : (site : Site) (kept : Option AssetRecord) (p : Packet) → Fits site p → is_sound monitor (unit_at kinds.Monitor site p) kept ≡ true
+    → is_valid (unit_at kinds.Monitor site p) (stepped site kept p).kept ≡ true
+unfolding stepped
+stays_valid site kept p fits h =
+    let flow = flow_fits site p fits in
+    let address = lt-ltb (flow_of site p).0.local (2 ^ 32) flow.local in
+    valid_from (flow_of site p).0.local _
+    (watched_valid (flow_of site p).0.local _ (counted_valid (flow_of site p).0.local kept address h) (flow_of site p).1 p fits.transport fits.sport)
+
+-- each step counts one packet, whichever row applies
+packets-cond : (test : Bool) (x y : Step AssetRecord) (n : ℕ) → x.kept.packets ≡ n → y.kept.packets ≡ n → (cond test x y).kept.packets ≡ n
+packets-cond true x y n first second = first
+packets-cond false x y n first second = second
+
+packets-watched : (direction : Direction) (r : AssetRecord) (p : Packet) → (watched direction r p).kept.packets ≡ r.packets
+unfolding watched
+packets-watched direction r p = search packets-cond
+
+counts_one : (site : Site) (kept : Option AssetRecord) (p : Packet) → (stepped site kept p).kept.packets ≡ count (packets_in monitor kept) 1
+unfolding stepped
+counts_one site kept p = rw (packets-watched _ (counted (unwrap_or kept nothing)) p) (by_kept kept)
+  where
+    by_kept : (kept : Option AssetRecord) → count (unwrap_or kept nothing).packets 1 ≡ count (packets_in monitor kept) 1
+    by_kept None = refl
+    by_kept (Some r) = refl
+
+valid_unit : (u : units.Unit) (r : AssetRecord) → is_valid u r ≡ true → is_unit kinds.Monitor u ≡ true
+valid_unit (OfFlow flow) r h = cc
+valid_unit (OfHost host) r h = (valid_facts host r h).address
+
+pub monitor_laws : Laws monitor
+monitor_laws = record {
+  unit = valid_unit;
+  again = record_in-body_of;
+  read = record_in-some;
+  known = known_by_body;
+  short = length-body_of;
+  stays = stays_valid;
+  counts = counts_one;
+  tells = λ r h. cc;
+  times = λ site kept p. refl;
+}

@@ -1,0 +1,201 @@
+use crate::{Banner, Monitor, SERVICES_PER_HOST, Service};
+use flow_filter::{Packet, Prefix, Site};
+use nf_function::{BodyFault, Function, Output, Unit};
+use std::test::Fail;
+
+/// The site 10.0.0.0/24.
+fn site() -> Site {
+    let inside = Prefix {
+        bits: 0x0a00_0000,
+        len: 24,
+    };
+    Site {
+        inside,
+        outside: None,
+    }
+}
+
+/// A packet that 10.0.0.5 sends from this port to 192.0.2.9:40000.
+fn sent(proto: u8, port: u16, flags: u8, payload: &[u8]) -> Packet {
+    let mut head = [0; 64];
+    head[..payload.len()].copy_from_slice(payload);
+    Packet {
+        number: 1,
+        nanos: 0,
+        proto,
+        src: 0x0a00_0005,
+        sport: port,
+        dst: 0xc000_0209,
+        dport: 40_000,
+        flags,
+        length: payload.len() as u32,
+        held: payload.len() as u8,
+        head,
+    }
+}
+
+/// The packet in the other direction.
+fn received(there: Packet) -> Packet {
+    Packet {
+        src: there.dst,
+        sport: there.dport,
+        dst: there.src,
+        dport: there.sport,
+        ..there
+    }
+}
+
+#[test]
+fn an_ssh_server_is_found_and_its_banner_kept(rt: HostRuntime) -> Result<(), Fail> {
+    let steps = [
+        (received(sent(6, 22, 2, b"")), "quiet"),
+        (sent(6, 22, 18, b""), "new tcp 22"),
+        (received(sent(6, 22, 16, b"")), "quiet"),
+        (sent(6, 22, 16, b"SSH-2.0-x"), "banner tcp 22 ssh"),
+    ];
+    let mut kept = None;
+    for (packet, text) in steps {
+        let output = Monitor::step(rt.alloc(), &site(), &mut kept, &packet)?;
+        assert_eq!(rt;
+            Monitor::print_output(rt.alloc(), &output)?.items(),
+            text.as_bytes()
+        );
+    }
+    let record = kept.ok_or("no record")?;
+    assert_eq!(rt;
+        Monitor::print_record(rt.alloc(), &record)?.items(),
+        b"packets 4 services tcp/22/ssh".as_slice()
+    );
+    Ok(())
+}
+
+#[test]
+fn a_banner_is_that_of_the_services_first_greeting(rt: HostRuntime) -> Result<(), Fail> {
+    let steps = [
+        (sent(17, 53, 0, b"220 ready"), "new udp 53"),
+        (received(sent(17, 53, 0, b"220 ready")), "quiet"),
+        (sent(17, 53, 0, b"220"), "quiet"),
+        (sent(17, 53, 0, b"220 ready"), "banner udp 53 greeting"),
+        (sent(17, 53, 0, b"+OK"), "quiet"),
+        (sent(17, 1024, 0, b"+OK"), "quiet"),
+        (sent(6, 80, 22, b""), "quiet"),
+        (sent(6, 80, 16, b"HTTP/1.1 200 OK"), "quiet"),
+    ];
+    let mut kept = None;
+    for (packet, text) in steps {
+        let output = Monitor::step(rt.alloc(), &site(), &mut kept, &packet)?;
+        assert_eq!(rt;
+            Monitor::print_output(rt.alloc(), &output)?.items(),
+            text.as_bytes()
+        );
+    }
+    let record = kept.ok_or("no record")?;
+    assert_eq!(rt;
+        Monitor::print_record(rt.alloc(), &record)?.items(),
+        b"packets 8 services udp/53/greeting".as_slice()
+    );
+    Ok(())
+}
+
+#[test]
+fn services_stand_by_protocol_and_port(rt: HostRuntime) -> Result<(), Fail> {
+    let packets = [
+        sent(17, 53, 0, b""),
+        sent(6, 143, 18, b""),
+        sent(6, 80, 18, b""),
+        sent(6, 80, 18, b"HTTP/1.1 200 OK"),
+    ];
+    let mut kept = None;
+    for packet in packets {
+        Monitor::step(rt.alloc(), &site(), &mut kept, &packet)?;
+    }
+    let record = kept.ok_or("no record")?;
+    assert_eq!(rt;
+        Monitor::print_record(rt.alloc(), &record)?.items(),
+        b"packets 4 services tcp/80/http,tcp/143/-,udp/53/-".as_slice()
+    );
+    let body = Monitor::write_record(rt.alloc(), &record)?;
+    assert_eq!(rt;
+        body.items(),
+        b"\0\0\0\0\0\0\0\x04\x03\x06\0\x50\x02\x06\0\x8f\0\x11\0\x35\0".as_slice()
+    );
+    let unit = Unit::Host(0x0a00_0005);
+    let again = Monitor::read_record(rt.alloc(), &unit, body.items())?;
+    assert_eq!(rt; again.packets, 4);
+    assert_eq!(rt; again.services.items(), record.services.items());
+    let copied = Monitor::copy(rt.alloc(), &again)?;
+    assert_eq!(rt; copied.services.items(), record.services.items());
+    assert!(rt; !Monitor::newer(&again, &copied));
+    Ok(())
+}
+
+#[test]
+fn the_65th_service_of_a_host_isnt_listed(rt: HostRuntime) -> Result<(), Fail> {
+    let mut kept = None;
+    for port in 1..=65u16 {
+        let output = Monitor::step(rt.alloc(), &site(), &mut kept, &sent(6, port, 18, b""))?;
+        let wanted = if port <= 64 {
+            Output {
+                code: 1,
+                a: 6,
+                b: u32::from(port),
+            }
+        } else {
+            Output {
+                code: 3,
+                a: 0,
+                b: 0,
+            }
+        };
+        assert_eq!(rt; output, wanted);
+    }
+    let record = kept.ok_or("no record")?;
+    assert_eq!(rt; record.packets, 65);
+    assert_eq!(rt; record.services.items().len(), SERVICES_PER_HOST);
+    assert_eq!(rt;
+        record.services.items().last().copied(),
+        Some(Service {
+            proto: 6,
+            port: 64,
+            banner: Banner::Unseen,
+        })
+    );
+    Ok(())
+}
+
+#[test]
+fn a_body_out_of_form_is_refused(rt: HostRuntime) -> Result<(), Fail> {
+    let bodies = [
+        ("no packet", b"\0\0\0\0\0\0\0\0\0".as_slice()),
+        (
+            "a byte missing",
+            b"\0\0\0\0\0\0\0\x01\x01\x06\0\x16".as_slice(),
+        ),
+        (
+            "a byte left over",
+            b"\0\0\0\0\0\0\0\x01\x01\x06\0\x16\0\0".as_slice(),
+        ),
+        (
+            "a banner of no name",
+            b"\0\0\0\0\0\0\0\x01\x01\x06\0\x16\x06".as_slice(),
+        ),
+        (
+            "neither TCP nor UDP",
+            b"\0\0\0\0\0\0\0\x01\x01\x01\0\x16\0".as_slice(),
+        ),
+        (
+            "one service twice",
+            b"\0\0\0\0\0\0\0\x02\x02\x06\0\x16\0\x06\0\x16\x01".as_slice(),
+        ),
+        (
+            "services that fall",
+            b"\0\0\0\0\0\0\0\x02\x02\x11\0\x16\0\x06\0\x16\0".as_slice(),
+        ),
+    ];
+    let unit = Unit::Host(0x0a00_0005);
+    for (case, body) in bodies {
+        let read = Monitor::read_record(rt.alloc(), &unit, body);
+        assert_eq!(rt; read.err(), Some(BodyFault::Body), "{case}");
+    }
+    Ok(())
+}
