@@ -1,6 +1,6 @@
 -- Services of which each comes before the next rise, and only those.
 use Rattle.std.proofs.Common.{◌≡◌, ◌∙◌, ◌<◌, ◌+◌, ℕ, suc, Bool, true, false, List, [], ◌∷◌, length, get_or, add-one, refl, sym, ap, arith}
-use Rattle.std.specs.List.{IsAllAdjacentAnswer, list_all}
+use Rattle.std.specs.List.{IsAllAdjacentAnswer}
 use Rattle.std.specs.Ordering.{is_lt}
 use Rattle.basics.proofs.BoolLemmas.{true_both}
 use Rattle.asset_monitor.specs.declared.service.Service.{Service}

@@ -1,5 +1,5 @@
 -- Records compare by the bytes that they are stored as in the order of their fields there.
-use Rattle.std.proofs.Common.{◌≡◌, ◌∙◌, ◌<◌, ◌≤◌, ◌^◌, ◌&&◌, ℕ, true, List, [], ◌∷◌, ◌++◌, length, nat_lt, refl, sym, ap, arith, append-nil}
+use Rattle.std.proofs.Common.{◌≡◌, ◌∙◌, ◌<◌, ◌^◌, true, List, [], ◌∷◌, length, nat_lt, refl, sym, ap, arith}
 use Rattle.std.proofs.lemmas.Bool.{ltb-true}
 use Rattle.std.proofs.lemmas.List.{append_assoc}
 use Rattle.std.proofs.lemmas.Map.Lookups.{exact_unsigned}
@@ -22,8 +22,8 @@ use Rattle.asset_monitor.specs.declared.service.Service.{Service}
 use Rattle.asset_monitor.specs.Banners.{number_of}
 use Rattle.asset_monitor.specs.Body.{body_of, service_bytes}
 use Rattle.asset_monitor.specs.Monitor.{monitor}
-use Rattle.asset_monitor.specs.ServiceLemmas.{all_services, few_services}
-use Rattle.asset_monitor.specs.Services.{are_services, is_service, services_per_host}
+use Rattle.asset_monitor.specs.ServiceLemmas.{all_services}
+use Rattle.asset_monitor.specs.Services.{are_services, is_service}
 
 -- the order of banners is that of their numbers
 abbrev IsByNumbers : Banner → Banner → Type 0

@@ -1,6 +1,6 @@
 -- What a monitor's record is stored as is read again, and only that. A step between code and definition: there is nothing here to believe.
 -- It stands in specs/ since the laws of a trait may cite nothing else.
-use Rattle.std.proofs.Common.{◌≡◌, ◌∙◌, ◌<◌, ◌≤◌, ◌+◌, ◌*◌, ◌^◌, ◌&&◌, ℕ, zero, suc, Bool, true, false, List, [], ◌∷◌, ◌++◌, length, Option, None, Some, option_and_then, refl, sym, ap, arith, nat_lt, nat_le, append-nil, length-append}
+use Rattle.std.proofs.Common.{◌≡◌, ◌∙◌, ◌<◌, ◌≤◌, ◌+◌, ◌*◌, ◌^◌, ◌&&◌, ℕ, zero, suc, true, List, [], ◌∷◌, ◌++◌, length, Some, option_and_then, refl, sym, ap, arith, nat_lt, nat_le, length-append}
 use Rattle.std.specs.List.{flat_map, list_all}
 use Rattle.std.proofs.lemmas.Bool.{ltb-true, lt-ltb, leb-true, le-leb}
 use Rattle.std.proofs.lemmas.List.{append_assoc}
@@ -16,7 +16,7 @@ use Rattle.asset_monitor.specs.declared.banner.Banner.TheVariants.{Unseen, Ssh, 
 use Rattle.asset_monitor.specs.declared.record.AssetRecord.{AssetRecord}
 use Rattle.asset_monitor.specs.declared.service.Service.{Service}
 use Rattle.asset_monitor.specs.Banners.{banner_of, number_of}
-use Rattle.asset_monitor.specs.Services.{are_services, is_rising, is_service, services_per_host}
+use Rattle.asset_monitor.specs.Services.{are_services, is_service, services_per_host}
 use Rattle.asset_monitor.specs.ServiceLemmas.{all_services, few_services}
 use Rattle.asset_monitor.specs.Body.{body_of, few, first_service, is_valid, record_in, service_bytes, services_in, spelled, valid_only}
 

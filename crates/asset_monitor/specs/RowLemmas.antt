@@ -13,7 +13,7 @@ use Rattle.asset_monitor.specs.Places.{IsAt, IsGap}
 use Rattle.asset_monitor.specs.Rows.{entered, met, told, unmoved}
 use Rattle.asset_monitor.specs.ServiceLemmas.{listed_at, listed_gap}
 use Rattle.asset_monitor.specs.Services.{listed, services_per_host}
-use Rattle.asset_monitor.specs.Table.{announces, counted, found, full, greeted, is_bare, keeping, payload, quiet, source, watched}
+use Rattle.asset_monitor.specs.Table.{announces, counted, found, full, greeted, is_bare, keeping, payload, source, watched}
 
 -- the rows by the three that change something and by what decides between them
 module _ (new filled greeting still : Step AssetRecord) where

@@ -1,9 +1,9 @@
 -- Services in order: where one stands, and what one more leaves. A step between code and definition: there is nothing here to believe.
 -- It stands in specs/ since the laws of a trait may cite nothing else.
-use Rattle.std.proofs.Common.{◌≡◌, ◌∙◌, ◌⊎◌, inl, inr, subst, ◌<◌, ◌≤◌, ◌+◌, ◌-◌, ◌&&◌, ℕ, zero, suc, Bool, true, false, cond, List, [], ◌∷◌, ◌++◌, length, get_or, take, drop, set, Option, None, Some, is_some, Result, Ok, Err, IfOk, IfErr, refl, sym, ap, arith, nat_lt, nat_le, length-append}
+use Rattle.std.proofs.Common.{◌≡◌, ◌∙◌, inl, inr, subst, ◌<◌, ◌≤◌, ◌+◌, ◌&&◌, ℕ, zero, suc, Bool, true, false, cond, List, [], ◌∷◌, ◌++◌, length, get_or, take, drop, set, None, Some, is_some, Result, Ok, Err, IfOk, IfErr, refl, sym, ap, arith, nat_le, length-append}
 use Rattle.std.specs.List.{AllWithin, HoldsAt, filter, find, insert, list_all}
 use Rattle.std.specs.List.Sorted.{IsSearchInRange, IsBinarySearchResult}
-use Rattle.std.specs.Ordering.{nat_cmp, is_lt, is_eq, is_gt, ordering_reverse}
+use Rattle.std.specs.Ordering.{is_lt, is_eq, is_gt, ordering_reverse}
 use Rattle.std.specs.declared.cmp.Ordering.{Ordering}
 use Rattle.std.specs.declared.cmp.Ordering.TheVariants.{Less, Equal, Greater}
 use Rattle.std.specs.Cmp.{IsTotalOrder}

@@ -1,29 +1,28 @@
 -- What a step of the monitor keeps of a record, and all its laws together. A step between code and definition: there is
 -- nothing here to believe. It stands in specs/ since the laws of a trait may cite nothing else.
-use Rattle.std.proofs.Common.{◌≡◌, ◌<◌, ◌≤◌, ◌+◌, ◌^◌, ℕ, Bool, true, false, cond, is_some, length, Option, None, Some, unwrap_or, refl, sym, ap, arith, nat_lt}
+use Rattle.std.proofs.Common.{◌≡◌, ◌<◌, ◌≤◌, ◌^◌, ℕ, Bool, true, false, cond, is_some, length, Option, None, Some, unwrap_or, refl, ap, arith, nat_lt}
 use Rattle.std.proofs.lemmas.Bool.{ltb-true, lt-ltb}
 use Rattle.basics.proofs.BoolLemmas.{true_both}
 use Rattle.flow_filter.specs.declared.packet.Packet.{Packet}
 use Rattle.flow_filter.specs.declared.site.Site.{Site}
 use Rattle.flow_filter.specs.declared.flow.Direction.{Direction}
 use Rattle.flow_filter.specs.declared.flow.Direction.TheVariants.{Out, In}
-use Rattle.flow_filter.specs.Filter.{IsFlow}
 use Rattle.flow_filter.specs.Flow.{flow_of}
 use Rattle.nf_function.specs.declared.kind.Kind.TheVariants as kinds
 use Rattle.nf_function.specs.declared.unit.Unit as units
 use Rattle.nf_function.specs.declared.unit.Unit.TheVariants.{Flow as OfFlow, Host as OfHost}
 use Rattle.nf_function.specs.Units.{is_unit, is_transport}
-use Rattle.nf_function.specs.Semantics.{Step, count, kept_after, is_sound, packets_in, unit_at}
+use Rattle.nf_function.specs.Semantics.{Step, count, is_sound, packets_in, unit_at}
 use Rattle.nf_function.specs.Records.{Fits, Laws}
 use Rattle.nf_function.proofs.FlowFits.{flow_fits}
 use Rattle.asset_monitor.specs.declared.record.AssetRecord.{AssetRecord}
 use Rattle.asset_monitor.specs.declared.service.Service.{Service}
-use Rattle.asset_monitor.specs.Banners.{banner_in, is_unseen}
+use Rattle.asset_monitor.specs.Banners.{is_unseen}
 use Rattle.asset_monitor.specs.Services.{is_service, listed, services_per_host, with_service}
 use Rattle.asset_monitor.specs.ServiceLemmas.{are_services-with, few_services, length-with}
-use Rattle.asset_monitor.specs.Table.{announces, counted, found, full, greeted, keeping, nothing, payload, source, stepped, watched}
+use Rattle.asset_monitor.specs.Table.{announces, counted, found, full, greeted, keeping, nothing, source, stepped, watched}
 use Rattle.asset_monitor.specs.Rows.{entered, met, told, unmoved}
-use Rattle.asset_monitor.specs.RowLemmas.{greeting_of, watched_in, watched_met, watched_other}
+use Rattle.asset_monitor.specs.RowLemmas.{greeting_of, watched_in, watched_met}
 use Rattle.asset_monitor.specs.Body.{is_valid}
 use Rattle.asset_monitor.specs.Monitor.{monitor}
 use Rattle.asset_monitor.specs.BodyLemmas.{IsValid, valid_facts, valid_from, record_in-body_of, record_in-some, known_by_body, length-body_of}

@@ -1,5 +1,5 @@
 -- The asset monitor's table. The flags are those of RFC 9293; the rest is this project's own.
-use Rattle.std.specs.Prelude.{ℕ, ◌+◌, ◌*◌, ◌==◌, ◌&&◌, ◌||◌, nat_lt, bit_and, Bool, true, false, not, if◌then◌else◌, List, [], take, length, Option, None, Some, unwrap_or, is_some}
+use Rattle.std.specs.Prelude.{ℕ, ◌+◌, ◌*◌, ◌==◌, ◌&&◌, ◌||◌, nat_lt, bit_and, Bool, false, not, if◌then◌else◌, List, [], take, length, Option, None, Some, unwrap_or, is_some}
 use Rattle.flow_filter.specs.declared.packet.Packet.{Packet}
 use Rattle.flow_filter.specs.declared.site.Site.{Site}
 use Rattle.flow_filter.specs.declared.flow.Direction.{Direction}
@@ -8,7 +8,6 @@ use Rattle.flow_filter.specs.Flow.{flow_of}
 use Rattle.nf_function.specs.declared.output.Output.{Output}
 use Rattle.nf_function.specs.Semantics.{Step, count}
 use Rattle.nf_function.specs.Units.{is_tcp, is_udp, is_transport}
-use Rattle.asset_monitor.specs.declared.banner.Banner.{Banner}
 use Rattle.asset_monitor.specs.declared.banner.Banner.TheVariants.{Unseen}
 use Rattle.asset_monitor.specs.declared.record.AssetRecord.{AssetRecord}
 use Rattle.asset_monitor.specs.declared.service.Service.{Service}
@@ -24,9 +23,18 @@ is_sent In p = false
 abbrev pub has : ℕ → ℕ → Bool
 has flags flag = not (bit_and flags flag == 0)
 
--- a TCP packet that accepts a connection: SYN and ACK without RST
+abbrev pub syn : ℕ
+syn = 2
+
+abbrev pub rst : ℕ
+rst = 4
+
+abbrev pub ack : ℕ
+ack = 16
+
+-- the flags of a TCP packet that accepts a connection: SYN and ACK without RST
 abbrev pub accepts : ℕ → Bool
-accepts flags = has flags 2 && has flags 16 && not (has flags 4)
+accepts flags = has flags syn && has flags ack && not (has flags rst)
 
 -- the ports below this one belong to servers
 abbrev pub first_client_port : ℕ

@@ -1,3 +1,5 @@
+ghost use Rattle.std.specs.Prelude.{◌≤◌, length};
+
 use crate::{Banner, Monitor, SERVICES_PER_HOST, Service};
 use flow_filter::{Packet, Prefix, Site};
 use nf_function::{BodyFault, Function, Output, Unit};
@@ -16,7 +18,9 @@ fn site() -> Site {
 }
 
 /// A packet that 10.0.0.5 sends from this port to 192.0.2.9:40000.
-fn sent(proto: u8, port: u16, flags: u8, payload: &[u8]) -> Packet {
+fn sent(proto: u8, port: u16, flags: u8, payload: &[u8]) -> Packet
+    requires { length payload.now ≤ 64 }
+{
     let mut head = [0; 64];
     head[..payload.len()].copy_from_slice(payload);
     Packet {

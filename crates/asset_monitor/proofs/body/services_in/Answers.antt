@@ -1,5 +1,5 @@
 -- Each turn reads one service more.
-use Rattle.std.proofs.Common.{◌≡◌, ◌<◌, length, None, Some, option_map, rules, arith}
+use Rattle.std.proofs.Common.{◌≡◌, ◌<◌, length, None, Some, rules, arith}
 use Rattle.std.proofs.lemmas.Bool.Decides.{nat_tests}
 use Rattle.asset_monitor.specs.Body.{first_service}
 use Rattle.asset_monitor.proofs.ServicesRead.{none_at, read_one, read_all, bytes_left}

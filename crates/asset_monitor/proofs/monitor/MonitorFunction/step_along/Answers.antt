@@ -1,5 +1,5 @@
 -- A step keeps what is valid for its host, also where memory ran out.
-use Rattle.std.proofs.Common.{◌≡◌, ℕ, ◌^◌, true, nat_lt, Option, Result, Ok, Err, OnOk, OnErr, rules}
+use Rattle.std.proofs.Common.{◌≡◌, ℕ, ◌^◌, true, Option, Result, Ok, Err, OnOk, OnErr, rules}
 use Rattle.std.proofs.lemmas.Bool.{lt-ltb}
 use Rattle.asset_monitor.specs.declared.record.AssetRecord.{AssetRecord}
 use Rattle.nf_function.specs.declared.unit.Unit.TheVariants.{Host as OfHost}

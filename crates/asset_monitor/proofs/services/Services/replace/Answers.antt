@@ -1,5 +1,5 @@
 -- A service in the place of the one with its end.
-use Rattle.std.proofs.Common.{◌≡◌, ◌≤◌, ◌∙◌, length, set, sym, subst, ap, arith, length-set}
+use Rattle.std.proofs.Common.{◌≡◌, ◌≤◌, length, set, sym, length-set}
 use Rattle.asset_monitor.specs.Places.{IsAt}
 use Rattle.asset_monitor.specs.Services.{services_per_host, with_service}
 use Rattle.asset_monitor.specs.ServiceLemmas.{with_at, are_services-with, few_services}
