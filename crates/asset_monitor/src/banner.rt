@@ -1,4 +1,4 @@
-ghost use Rattle.std.specs.Prelude.{◌≡◌};
+ghost use Rattle.std.specs.Prelude.{◌≡◌, ◌≤◌, length};
 ghost use Rattle.asset_monitor.specs.Banners.{all_banners, banner_in, banner_of, is_unseen, name_of, number_of};
 
 /// What a service's packets were seen to begin with.
@@ -79,7 +79,8 @@ impl Banner {
 
     /// The banner's name.
     pub fn name(self) -> &'static str
-        ensures { result.now ≡ name_of self }
+        ensures name { result.now ≡ name_of self }
+        ensures short { length result.now ≤ 8 }
     {
         match self {
             Banner::Unseen => "-",

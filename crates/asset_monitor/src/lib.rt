@@ -1,7 +1,7 @@
 //! The asset monitor: which services the local hosts offer, and how these greet.
 //!
 //! Contracts see an [`AssetRecord`] as its fields, and [`Services`] as their list. The main promise is that of [`Monitor`]: the record
-//! and the output after a packet are those of the table in `specs/Table.antt`, for every record and packet. A step wants memory only where
+//! and the output after a packet are those of the table in `specs/Table.antt`, for every record and packet. A step takes memory only where
 //! it lists one more service, and a host has at most [`SERVICES_PER_HOST`] of them. The crate touches nothing but its arguments.
 #![tactic(auto)]
 

@@ -7,7 +7,7 @@ use nf_function::{BodyFault, Function, Kind, Output, Unit};
 use std::alloc::Global;
 use std::cmp::Ordering;
 
-/// The asset monitor as a network function. Its steps want memory only where a service is listed.
+/// The asset monitor as a network function. Its steps take memory only where a service is listed.
 pub struct Monitor;
 
 impl Function for Monitor {

@@ -51,6 +51,11 @@ impl Services {
         self.list.as_slice()
     }
 
+    /// The allocator of the services.
+    pub(crate) fn allocator(&self) -> Global {
+        *self.list.allocator()
+    }
+
     /// The same services again, on the same allocator.
     pub fn copy(&self) -> Result<Self, NoMemory>
         ensures { IfOk result (λ other. other ≡ self.now) }

@@ -1,5 +1,5 @@
 //! The texts of outputs and records.
-ghost use Rattle.std.specs.Prelude.{◌≡◌, ◌++◌, [], OnOk};
+ghost use Rattle.std.specs.Prelude.{◌≡◌, ◌≤◌, ◌++◌, [], length, IfOk, OnOk, OnErr};
 ghost use Rattle.std.specs.List.{flat_map};
 ghost use Rattle.std.specs.Option.{option_map_or};
 ghost use Rattle.flow_filter.specs.FilterText.{protocol_text};
@@ -9,59 +9,73 @@ ghost use Rattle.asset_monitor.specs.Text.{found_text, greeted_text, next_text, 
 use crate::banner::Banner;
 use crate::record::AssetRecord;
 use crate::service::Service;
+use arrayvec::ArrayString;
 use basics::{NoMemory, Text};
 use flow_filter::TCP;
+use itoa::Buffer;
 use nf_function::Output;
+
+/// Room for the text of an output, and to spare.
+type OutputText = ArrayString<128>;
 
 /// Puts the text of an output after a text.
 pub fn push_output(text: &mut Text, output: &Output) -> Result<(), NoMemory>
-    ensures { OnOk result (text.new ≡ text.old ++ output_text output.now) }
+    ensures ok { OnOk result (text.new ≡ text.old ++ output_text output.now) }
+    ensures err { OnErr result (text.new ≡ text.old) }
 {
     match output.code {
         0 => text.push_bytes(b"quiet"),
-        1 => push_found(text, output),
-        2 => push_greeted(text, output),
+        1 => text.push_bytes(found_text(output).as_str().as_bytes()),
+        2 => text.push_bytes(greeted_text(output).as_str().as_bytes()),
         3 => text.push_bytes(b"full"),
         _ => Ok(()),
     }
 }
 
-/// Puts `new PROTO PORT` after a text.
+/// `new PROTO PORT`, which takes no memory.
 #[tactic(auto, unfolding(crate::specs::Text::found_text))]
-fn push_found(text: &mut Text, output: &Output) -> Result<(), NoMemory>
-    ensures { OnOk result (text.new ≡ text.old ++ found_text output.now) }
+fn found_text(output: &Output) -> OutputText
+    ensures { result.bytes ≡ found_text output.now }
 {
-    text.push_bytes(b"new ")?;
-    text.push_bytes(protocol_name(output.a).as_bytes())?;
-    text.push_bytes(b" ")?;
-    text.push_decimal(u64::from(output.b))
+    let mut buffer = Buffer::new();
+    let mut line = OutputText::new();
+    line.push_str("new ");
+    line.push_str(protocol_name(output.a));
+    line.push_str(" ");
+    line.push_str(buffer.format(output.b));
+    line
 }
 
-/// Puts `banner PROTO PORT NAME` after a text.
+/// `banner PROTO PORT NAME`, which takes no memory.
 #[tactic(auto, unfolding(crate::specs::Text::greeted_text))]
-fn push_greeted(text: &mut Text, output: &Output) -> Result<(), NoMemory>
-    ensures { OnOk result (text.new ≡ text.old ++ greeted_text output.now) }
+fn greeted_text(output: &Output) -> OutputText
+    ensures { result.bytes ≡ greeted_text output.now }
 {
-    text.push_bytes(b"banner ")?;
-    text.push_bytes(protocol_name(output.a / 256).as_bytes())?;
-    text.push_bytes(b" ")?;
-    text.push_decimal(u64::from(output.b))?;
-    text.push_bytes(b" ")?;
-    push_name(text, (output.a % 256) as u8)
+    let mut buffer = Buffer::new();
+    let mut line = OutputText::new();
+    line.push_str("banner ");
+    line.push_str(protocol_name(output.a / 256));
+    line.push_str(" ");
+    line.push_str(buffer.format(output.b));
+    line.push_str(" ");
+    line.push_str(name_of((output.a % 256) as u8));
+    line
 }
 
-/// Puts the name of the banner with this number after a text.
-fn push_name(text: &mut Text, number: u8) -> Result<(), NoMemory>
-    ensures { OnOk result (text.new ≡ text.old ++ option_map_or name_of (banner_of number) []) }
+/// The name of the banner with this number, if there is one.
+fn name_of(number: u8) -> &'static str
+    ensures name { result.now ≡ option_map_or name_of (banner_of number) [] }
+    ensures short { length result.now ≤ 8 }
 {
     match Banner::numbered(number) {
-        Some(banner) => text.push_bytes(banner.name().as_bytes()),
-        None => Ok(()),
+        Some(banner) => banner.name(),
+        None => "",
     }
 }
 
 fn protocol_name(proto: u32) -> &'static str
-    ensures { result.now ≡ protocol_text proto }
+    ensures name { result.now ≡ protocol_text proto }
+    ensures short { length result.now ≤ 3 }
 {
     if proto == u32::from(TCP) {
         "tcp"
@@ -71,14 +85,25 @@ fn protocol_name(proto: u32) -> &'static str
 }
 
 /// Puts the text of a record after a text: `packets P services LIST`.
-#[tactic(auto, unfolding(crate::specs::Text::record_text))]
 pub fn push_record(text: &mut Text, kept: &AssetRecord) -> Result<(), NoMemory>
-    ensures { OnOk result (text.new ≡ text.old ++ record_text kept.now) }
+    ensures ok { OnOk result (text.new ≡ text.old ++ record_text kept.now) }
+    ensures err { OnErr result (text.new ≡ text.old) }
 {
-    text.push_bytes(b"packets ")?;
-    text.push_decimal(kept.packets)?;
-    text.push_bytes(b" services ")?;
-    push_services(text, kept.services.items())
+    let line = printed(kept)?;
+    text.push_bytes(line.items())
+}
+
+/// The text of a record, on the allocator of its services.
+#[tactic(auto, unfolding(crate::specs::Text::record_text))]
+fn printed(kept: &AssetRecord) -> Result<Text, NoMemory>
+    ensures { IfOk result (λ line. line ≡ record_text kept.now) }
+{
+    let mut line = Text::open(kept.services.allocator());
+    line.push_bytes(b"packets ")?;
+    line.push_decimal(kept.packets)?;
+    line.push_bytes(b" services ")?;
+    push_services(&mut line, kept.services.items())?;
+    Ok(line)
 }
 
 /// Puts services after a text, with commas between them.
