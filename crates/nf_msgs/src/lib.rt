@@ -11,6 +11,7 @@ pub mod command;
 pub mod message_text;
 pub mod msg;
 pub mod names;
+pub mod nodes;
 pub mod note;
 
 pub use answer::Answer;
@@ -19,6 +20,7 @@ pub use command::{Command, Order};
 pub use message_text::show;
 pub use msg::{Msg, Piece, Refused};
 pub use names::Names;
+pub use nodes::{CONTROLLER, MOST_INSTANCES, SWITCH, instance_node};
 pub use note::Note;
 
 #[cfg(test)]

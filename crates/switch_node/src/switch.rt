@@ -1,0 +1,276 @@
+ghost use Rattle.std.specs.Prelude.{◌≡◌, ◌≤◌, ◌<◌, ◌+◌, ◌++◌, false, All, IfOk, OnOk};
+ghost use Rattle.switch_rules.specs.Rules.{opened};
+ghost use Rattle.switch_node.specs.Switch.{Step, arrives, goes_to, has_closed, has_room, on_command, on_credit, on_install, on_packet, sends_on, sends_to_instance, stops, switch_step, takes_in, target_of, is_there};
+
+use actor_net::{Actor, Outbox};
+use basics::{Boxed, NoMemory};
+use event_filter::Mark;
+use flow_filter::{Filter, Packet, Site, flow_of};
+use nf_msgs::{CONTROLLER, Command, MOST_INSTANCES, Msg, Note, instance_node};
+use packet_pool::{Cell, Pool};
+use std::alloc::Global;
+use std::marker::Model;
+use switch_rules::{Rules, Target};
+
+/// The most packets that may be under way.
+pub const MOST_WINDOW: u32 = 4096;
+
+/// The number of the switch's pool.
+const POOL: u32 = 0;
+
+/// The switch of a network.
+#[derive(Drop)]
+pub struct Switch {
+    rules: Rules,
+    pool: Pool,
+    site: Site,
+    instances: u8,
+    /// How many packets are under way.
+    flying: u32,
+    /// How many commands wait for their answer.
+    waiting: u32,
+    /// Whether all is done.
+    closed: bool,
+}
+
+impl Model for Switch {
+    ghost use Rattle.std.specs.Prelude.{◌≡◌, ◌≤◌, ◌+◌};
+    ghost use Rattle.nf_msgs.specs.declared.nodes.TheConstants.{MOST_INSTANCES};
+    ghost use Rattle.switch_node.specs.Switch.{SwitchState};
+
+    ghost Value = { SwitchState };
+
+    ghost view = { λ s. record {
+      rules = s.rules;
+      pool = s.pool;
+      site = s.site;
+      instances = s.instances;
+      flying = s.flying;
+      waiting = s.waiting;
+      closed = s.closed;
+    } };
+
+    ghost invariant = { λ s. (s.flying + s.pool.home ≡ s.pool.cells) × (s.instances ≤ MOST_INSTANCES) };
+}
+
+impl Actor for Switch {
+    ghost use Rattle.switch_node.specs.Switch.{has_closed, switch_step, takes_in};
+
+    type Message = Msg;
+
+    type Note = Note;
+
+    ghost stepped = { λ s port message. switch_step s message };
+
+    ghost is_ready = { takes_in };
+
+    ghost has_ended = { has_closed };
+
+    fn ready(&self, item: &Msg) -> bool {
+        match item {
+            Msg::InPacket(_) => self.has_room(),
+            Msg::InSettle => self.waiting == 0,
+            _ => true,
+        }
+    }
+
+    fn step(
+        &mut self,
+        _port: u8,
+        message: Msg,
+        out: &mut Outbox<Msg, Note>,
+    ) -> Result<(), NoMemory> {
+        match message {
+            Msg::InPacket(packet) => self.let_in(packet, out),
+            Msg::InCommand(command) => self.ask(command, out),
+            Msg::InEnd => out.send(CONTROLLER, Msg::End),
+            Msg::Forward { to, mark, parcel } => self.send_to(to, Msg::Carry { mark, parcel }, out),
+            Msg::Install {
+                op,
+                filter,
+                from,
+                to,
+            } => self.install(op, filter.get(), from, to, out),
+            Msg::FenceTo { op, to } => self.send_to(to, Msg::Fence { op }, out),
+            Msg::Answered { .. } => {
+                self.waiting = self.waiting.saturating_sub(1);
+                Ok(())
+            }
+            Msg::Finish => self.finish(out),
+            Msg::Credit(cell) => {
+                self.take_home(cell);
+                Ok(())
+            }
+            _ => Ok(()),
+        }
+    }
+
+    fn ended(&self) -> bool {
+        self.closed && self.flying == 0
+    }
+}
+
+impl Switch {
+    /// A switch with all cells at home and the rules of the routes; each route names an instance by its number from 0.
+    pub fn open(
+        alloc: Global,
+        window: u32,
+        instances: u8,
+        site: Site,
+        routes: &[(Filter, u8)],
+    ) -> Result<Switch, NoMemory>
+        requires window { (1 ≤ window) × (window ≤ MOST_WINDOW) }
+        requires instances { (1 ≤ instances) × (instances ≤ MOST_INSTANCES) }
+        requires routes { All (λ r. r.1 < instances) routes.now }
+        ensures { IfOk result (λ switch. switch ≡ record {
+          rules = opened routes.now;
+          pool = record { name = POOL; cells = window; home = window };
+          site = site;
+          instances = instances;
+          flying = 0;
+          waiting = 0;
+          closed = false;
+        }) }
+    {
+        Ok(Switch {
+            rules: Rules::open(alloc, routes)?,
+            pool: Pool::open(POOL, window),
+            site,
+            instances,
+            flying: 0,
+            waiting: 0,
+            closed: false,
+        })
+    }
+
+    /// How many cells stand at home.
+    pub fn home(&self) -> u32
+        ensures { result ≡ self.now.pool.home }
+    {
+        self.pool.home()
+    }
+
+    /// Whether one packet more may be under way.
+    fn has_room(&self) -> bool
+        ensures { result ≡ has_room self.now }
+    {
+        self.flying < self.pool.cells()
+    }
+
+    /// Puts a packet into a cell and sends it to its target.
+    fn let_in(&mut self, packet: Boxed<Packet>, out: &mut Outbox<Msg, Note>) -> Result<(), NoMemory>
+        ensures node { OnOk result (self.new ≡ (on_packet self.old packet).node) }
+        ensures sends { OnOk result (out.new.0 ≡ out.old.0 ++ (on_packet self.old packet).sends) }
+        ensures notes { OnOk result (out.new.1 ≡ out.old.1 ++ (on_packet self.old packet).notes) }
+    {
+        let target = self.target_of(packet.get());
+        let number = packet.get().number;
+        if self.flying >= self.pool.cells() || !self.is_there(target) {
+            return Ok(());
+        }
+        let Ok(cell) = self.pool.take(packet) else {
+            return Ok(());
+        };
+        self.flying += 1;
+        out.note(Note::Arrived(number))?;
+        match target {
+            Target::Controller => out.send(CONTROLLER, Msg::Diverted(cell)),
+            Target::Instance(to) => {
+                let message = Msg::Carry {
+                    mark: Mark::Plain,
+                    parcel: cell,
+                };
+                out.send(instance_node(to), message)
+            }
+        }
+    }
+
+    /// The target of a packet, by its flow.
+    fn target_of(&self, packet: &Packet) -> Target
+        ensures { result ≡ target_of self.now packet.now }
+    {
+        let (flow, _direction) = flow_of(&self.site, packet);
+        self.rules.target(&flow)
+    }
+
+    /// Whether a target is there.
+    fn is_there(&self, target: Target) -> bool
+        ensures { result ≡ is_there self.now target }
+    {
+        match target {
+            Target::Controller => true,
+            Target::Instance(instance) => instance < self.instances,
+        }
+    }
+
+    /// Hands a command on to the controller.
+    fn ask(&mut self, command: Boxed<Command>, out: &mut Outbox<Msg, Note>) -> Result<(), NoMemory>
+        ensures node { OnOk result (self.new ≡ (on_command self.old command).node) }
+        ensures sends { OnOk result (out.new.0 ≡ out.old.0 ++ (on_command self.old command).sends) }
+        ensures notes { OnOk result (out.new.1 ≡ out.old.1) }
+    {
+        self.waiting = self.waiting.saturating_add(1);
+        out.send(CONTROLLER, Msg::Asked(command))
+    }
+
+    /// Sends a message to an instance, if it is there.
+    fn send_to(
+        &self,
+        instance: u8,
+        message: Msg,
+        out: &mut Outbox<Msg, Note>,
+    ) -> Result<(), NoMemory>
+        ensures sends { OnOk result (out.new.0 ≡ out.old.0 ++ (sends_to_instance self.now instance message).sends) }
+        ensures notes { OnOk result (out.new.1 ≡ out.old.1) }
+    {
+        if instance >= self.instances {
+            return Ok(());
+        }
+        out.send(instance_node(instance), message)
+    }
+
+    /// Changes the rules, and sends a fence behind the packets of the old ones.
+    fn install(
+        &mut self,
+        op: u32,
+        filter: &Filter,
+        from: u8,
+        to: Target,
+        out: &mut Outbox<Msg, Note>,
+    ) -> Result<(), NoMemory>
+        ensures node { OnOk result (self.new ≡ (on_install self.old op filter.now from to).node) }
+        ensures sends { OnOk result (out.new.0 ≡ out.old.0 ++ (on_install self.old op filter.now from to).sends) }
+        ensures notes { OnOk result (out.new.1 ≡ out.old.1 ++ (on_install self.old op filter.now from to).notes) }
+    {
+        if from >= self.instances || !self.is_there(to) {
+            return Ok(());
+        }
+        self.rules.redirect(filter, Target::Instance(from), to)?;
+        out.note(Note::Installed(op))?;
+        out.send(instance_node(from), Msg::Fence { op })
+    }
+
+    /// Stops each instance, in order.
+    fn finish(&mut self, out: &mut Outbox<Msg, Note>) -> Result<(), NoMemory>
+        ensures node { OnOk result (self.new ≡ (switch_step self.old Msg.Finish).node) }
+        ensures sends { OnOk result (out.new.0 ≡ out.old.0 ++ stops self.old.instances) }
+        ensures notes { OnOk result (out.new.1 ≡ out.old.1) }
+    {
+        self.closed = true;
+        for instance in 0..self.instances {
+            out.send(instance_node(instance), Msg::Stop)?;
+        }
+        Ok(())
+    }
+
+    /// Takes a cell home, if it is one of the pool's.
+    fn take_home(&mut self, cell: Cell)
+        ensures { self.new ≡ (on_credit self.old cell).node }
+    {
+        if self.flying == 0 || cell.pool() != self.pool.name() {
+            return;
+        }
+        self.flying -= 1;
+        self.pool.give(cell);
+    }
+}
