@@ -1,8 +1,10 @@
 ghost use Rattle.std.specs.Prelude.{◌≤◌, length};
 
 use crate::{Banner, Monitor, SERVICES_PER_HOST, Service};
+use basics::{NoMemory, Text};
 use flow_filter::{Packet, Prefix, Site};
 use nf_function::{BodyFault, Function, Output, Unit};
+use std::alloc::Global;
 use std::test::Fail;
 
 /// The site 10.0.0.0/24.
@@ -49,54 +51,53 @@ fn received(there: Packet) -> Packet {
     }
 }
 
+/// What the monitor prints of these packets of one host: a line for each output, and then the record.
+fn printed(alloc: Global, packets: &[Packet]) -> Result<Text, NoMemory> {
+    let mut text = Text::open(alloc);
+    let mut kept = None;
+    for packet in packets {
+        let output = Monitor::step(alloc, &site(), &mut kept, packet)?;
+        Monitor::push_output(&mut text, &output)?;
+        text.push_bytes(b"\n")?;
+    }
+    if let Some(record) = &kept {
+        Monitor::push_record(&mut text, record)?;
+    }
+    Ok(text)
+}
+
 #[test]
 fn an_ssh_server_is_found_and_its_banner_kept(rt: HostRuntime) -> Result<(), Fail> {
-    let steps = [
-        (received(sent(6, 22, 2, b"")), "quiet"),
-        (sent(6, 22, 18, b""), "new tcp 22"),
-        (received(sent(6, 22, 16, b"")), "quiet"),
-        (sent(6, 22, 16, b"SSH-2.0-x"), "banner tcp 22 ssh"),
+    let packets = [
+        received(sent(6, 22, 2, b"")),
+        sent(6, 22, 18, b""),
+        received(sent(6, 22, 16, b"")),
+        sent(6, 22, 16, b"SSH-2.0-x"),
     ];
-    let mut kept = None;
-    for (packet, text) in steps {
-        let output = Monitor::step(rt.alloc(), &site(), &mut kept, &packet)?;
-        assert_eq!(rt;
-            Monitor::print_output(rt.alloc(), &output)?.items(),
-            text.as_bytes()
-        );
-    }
-    let record = kept.ok_or("no record")?;
     assert_eq!(rt;
-        Monitor::print_record(rt.alloc(), &record)?.items(),
-        b"packets 4 services tcp/22/ssh".as_slice()
+        printed(rt.alloc(), &packets)?.items(),
+        b"quiet\nnew tcp 22\nquiet\nbanner tcp 22 ssh\npackets 4 services tcp/22/ssh".as_slice()
     );
     Ok(())
 }
 
 #[test]
-fn a_banner_is_that_of_the_services_first_greeting(rt: HostRuntime) -> Result<(), Fail> {
-    let steps = [
-        (sent(17, 53, 0, b"220 ready"), "new udp 53"),
-        (received(sent(17, 53, 0, b"220 ready")), "quiet"),
-        (sent(17, 53, 0, b"220"), "quiet"),
-        (sent(17, 53, 0, b"220 ready"), "banner udp 53 greeting"),
-        (sent(17, 53, 0, b"+OK"), "quiet"),
-        (sent(17, 1024, 0, b"+OK"), "quiet"),
-        (sent(6, 80, 22, b""), "quiet"),
-        (sent(6, 80, 16, b"HTTP/1.1 200 OK"), "quiet"),
+fn the_first_greeting_of_a_known_service_is_kept(rt: HostRuntime) -> Result<(), Fail> {
+    let packets = [
+        sent(17, 53, 0, b"220 ready"),
+        received(sent(17, 53, 0, b"220 ready")),
+        sent(17, 53, 0, b"220"),
+        sent(17, 53, 0, b"220 ready"),
+        sent(17, 53, 0, b"+OK"),
+        sent(17, 1024, 0, b"+OK"),
+        sent(6, 80, 22, b""),
+        sent(6, 80, 16, b"HTTP/1.1 200 OK"),
     ];
-    let mut kept = None;
-    for (packet, text) in steps {
-        let output = Monitor::step(rt.alloc(), &site(), &mut kept, &packet)?;
-        assert_eq!(rt;
-            Monitor::print_output(rt.alloc(), &output)?.items(),
-            text.as_bytes()
-        );
-    }
-    let record = kept.ok_or("no record")?;
     assert_eq!(rt;
-        Monitor::print_record(rt.alloc(), &record)?.items(),
-        b"packets 8 services udp/53/greeting".as_slice()
+        printed(rt.alloc(), &packets)?.items(),
+        b"new udp 53\nquiet\nquiet\nbanner udp 53 greeting\nquiet\nquiet\nquiet\nquiet\n\
+          packets 8 services udp/53/greeting"
+            .as_slice()
     );
     Ok(())
 }
@@ -109,27 +110,43 @@ fn services_stand_by_protocol_and_port(rt: HostRuntime) -> Result<(), Fail> {
         sent(6, 80, 18, b""),
         sent(6, 80, 18, b"HTTP/1.1 200 OK"),
     ];
-    let mut kept = None;
-    for packet in packets {
-        Monitor::step(rt.alloc(), &site(), &mut kept, &packet)?;
-    }
-    let record = kept.ok_or("no record")?;
     assert_eq!(rt;
-        Monitor::print_record(rt.alloc(), &record)?.items(),
-        b"packets 4 services tcp/80/http,tcp/143/-,udp/53/-".as_slice()
+        printed(rt.alloc(), &packets)?.items(),
+        b"new udp 53\nnew tcp 143\nnew tcp 80\nbanner tcp 80 http\n\
+          packets 4 services tcp/80/http,tcp/143/-,udp/53/-"
+            .as_slice()
     );
+    Ok(())
+}
+
+#[test]
+fn a_record_is_read_from_what_it_is_stored_as(rt: HostRuntime) -> Result<(), Fail> {
+    let stored = b"\0\0\0\0\0\0\0\x04\x03\x06\0\x50\x02\x06\0\x8f\0\x11\0\x35\0";
+    let services = [
+        Service {
+            proto: 6,
+            port: 80,
+            banner: Banner::Http,
+        },
+        Service {
+            proto: 6,
+            port: 143,
+            banner: Banner::Unseen,
+        },
+        Service {
+            proto: 17,
+            port: 53,
+            banner: Banner::Unseen,
+        },
+    ];
+    let record = Monitor::read_record(rt.alloc(), &Unit::Host(0x0a00_0005), stored)?;
+    assert_eq!(rt; record.packets, 4);
+    assert_eq!(rt; record.services.items(), services.as_slice());
     let body = Monitor::write_record(rt.alloc(), &record)?;
-    assert_eq!(rt;
-        body.items(),
-        b"\0\0\0\0\0\0\0\x04\x03\x06\0\x50\x02\x06\0\x8f\0\x11\0\x35\0".as_slice()
-    );
-    let unit = Unit::Host(0x0a00_0005);
-    let again = Monitor::read_record(rt.alloc(), &unit, body.items())?;
-    assert_eq!(rt; again.packets, 4);
-    assert_eq!(rt; again.services.items(), record.services.items());
-    let copied = Monitor::copy(rt.alloc(), &again)?;
-    assert_eq!(rt; copied.services.items(), record.services.items());
-    assert!(rt; !Monitor::newer(&again, &copied));
+    assert_eq!(rt; body.items(), stored.as_slice());
+    let copied = Monitor::copy(rt.alloc(), &record)?;
+    assert_eq!(rt; copied.services.items(), services.as_slice());
+    assert!(rt; !Monitor::newer(&record, &copied));
     Ok(())
 }
 
