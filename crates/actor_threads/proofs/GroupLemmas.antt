@@ -9,7 +9,7 @@ use Rattle.std.proofs.lemmas.List.Elements.{All-get_or, All-append}
 use Rattle.std.proofs.Math.Seq.{get_or-append_right}
 use Rattle.actor_net.specs.Network.{Stepped}
 use Rattle.actor_threads.specs.declared.groups.Member.{Member}
-use Rattle.actor_threads.specs.Work.{WorkerView, Idled, DoesStep, IsQuiet, Worked, Ran}
+use Rattle.actor_threads.specs.Work.{WorkerView, Idled, DoesStep, IsQuiet, Ran}
 use Rattle.actor_threads.specs.Groups.{has_run, Progress, IsInRound, GoesOn, AllGoOn, AllInRound}
 use Rattle.actor_threads.proofs.WorkerSteps.{start, idle, more, longer}
 

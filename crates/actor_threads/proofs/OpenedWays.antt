@@ -1,4 +1,4 @@
--- How many ways in a new worker has, and that nodes other than 0 have no input.
+-- How many ways in a new worker has, and what waits at a node other than 0.
 use Rattle.std.proofs.Common.{◌≡◌, ◌≢◌, ◌==◌, ℕ, true, false, if◌then◌else◌, List, [], ◌∷◌, length, ap, refl, suc}
 use Rattle.std.proofs.lemmas.Bool.Decides.{Decides-eqb}
 use Rattle.fifo_link.specs.Ends.{End}

@@ -1,10 +1,10 @@
 -- One more look and one more step of a worker.
-use Rattle.std.proofs.Common.{◌≡◌, ◌==◌, ◌<◌, ◌⊎◌, ⊎_elim, inl, inr, arith, ℕ, zero, suc, ◌+◌, length-append, Bool, true, false, if◌then◌else◌, List, [], ◌∷◌, ◌++◌, length, sym, ◌∙◌, ap, refl, subst, append-nil, append_assoc}
+use Rattle.std.proofs.Common.{◌≡◌, ◌==◌, ◌<◌, ℕ, ◌+◌, length-append, Bool, true, if◌then◌else◌, List, [], ◌∷◌, ◌++◌, length, sym, ◌∙◌, ap, refl, subst, append-nil, append_assoc}
 use Rattle.actor_net.specs.declared.stamped.Stamped.{Stamped}
 use Rattle.actor_net.specs.Network.{Stepped}
 use Rattle.actor_net.specs.Histories.{NodeStep, noted, node_after, notes_of, taken_at, put_between}
 use Rattle.actor_threads.specs.Ways.{Incoming, Outgoing, Draws, Sends}
-use Rattle.actor_threads.specs.Work.{WorkerView, in_at, out_at, tick, clock_after, put_for, is_input_of, DrawsAt, Idled, Found, Acted, IsQuiet, Worked}
+use Rattle.actor_threads.specs.Work.{WorkerView, in_at, out_at, tick, clock_after, put_for, is_input_of, DrawsAt, Idled, Found, Acted, Worked}
 use Rattle.actor_threads.proofs.WayInLemmas.{drew_nothing}
 use Rattle.actor_threads.proofs.HistoryStep.{noted-snoc, taken_at-snoc, ports-snoc, ticks-snoc, clock_after-snoc, node_after-snoc, notes_of-snoc, put_between-snoc, put_nothing, ready-snoc}
 

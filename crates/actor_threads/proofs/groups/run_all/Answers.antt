@@ -1,5 +1,5 @@
 -- The members that go on alone and those that go on in groups are all members, each in its round.
-use Rattle.std.proofs.Common.{◌≡◌, sym, ap, ◌∙◌, subst, ◌++◌}
+use Rattle.std.proofs.Common.{◌≡◌, sym, ◌∙◌, subst, ◌++◌}
 use Rattle.std.proofs.lemmas.List.{take-append-drop}
 use Rattle.actor_threads.specs.Groups.{AllInRound}
 use Rattle.actor_threads.proofs.GroupLemmas.{all_in_round}

@@ -1,5 +1,5 @@
 -- One more member's turn leaves all going on with their rounds.
-use Rattle.std.proofs.Common.{subst, sym, ◌∙◌, ◌<◌, length, length-set}
+use Rattle.std.proofs.Common.{subst, sym, ◌∙◌, ◌<◌, length-set}
 use Rattle.actor_threads.proofs.GroupLemmas.{one_goes_on}
 use Rattle.actor_threads.proofs.groups.turn_all.Goals as goal
 
