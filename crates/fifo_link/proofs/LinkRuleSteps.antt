@@ -11,7 +11,7 @@ use Rattle.fifo_link.specs.declared.rule.Transfer.TheVariants.{Sent, Taken}
 use Rattle.fifo_link.specs.declared.rule.Knowledge.{Knowledge}
 use Rattle.fifo_link.specs.Transfers.{sent_in, taken_in, Leaves, SentSince, TakenSince, HeldSince, WasEmpty, AllDone}
 use Rattle.fifo_link.specs.Rule.{knows, Fits, Relayed, AfterSend, AfterTake}
-use Rattle.fifo_link.proofs.TransferLemmas.{same_sent, same_taken, more_sent, sent_in-sends, taken_in-sends, sent_in-takes, taken_in-takes, sent_more, taken_more, none_sent, none_taken}
+use Rattle.fifo_link.proofs.TransferLemmas.{same_sent, same_taken, more_sent, one_sent, one_taken, sent_more, taken_more, none_sent, none_taken}
 
 module _ {M : Type 0} where
   at_end : (l : List (Knowledge M)) (a b : Knowledge M) (j : ℕ) → get_elem? l j ≢ some b → get_elem? (l ++ a ∷ []) j ≡ some b → j ≡ length l
@@ -56,14 +56,14 @@ module _ {M : Type 0} where
           h.0,
           h.1,
           new,
-          sent_in-sends all x ∙ ap (λ l. l ++ x ∷ []) h.3 ∙ append_assoc (taken_in all) items (x ∷ []) ∙ ap (λ l. l ++ (items ++ x ∷ [])) (sym (taken_in-sends all x)),
+          (one_sent all x).0 ∙ ap (λ l. l ++ x ∷ []) h.3 ∙ append_assoc (taken_in all) items (x ∷ []) ∙ ap (λ l. l ++ (items ++ x ∷ [])) (sym ((one_sent all x).1)),
           all_set (Fits h.0 h.1 new) views holder w ((λ _. ((mine.0 may).0, none_taken new)), λ p. ((mine.1 p).0, sent_more v.taker all x (mine.1 p).1, (mine.1 p).2))
               (λ j u other e. ((λ p. absurd (other (((h.4 j u e).0 p).0 ∙ sym (mine.0 may).0))), λ p. (((h.4 j u e).1 p).0, sent_more u.taker all x ((h.4 j u e).1 p).1, ((h.4 j u e).1 p).2))),
         ),
         record {
           rights = (refl, refl);
           known = (all, since, refl);
-          done = sent_in-sends all x ∙ ap (λ l. l ++ x ∷ []) (same_sent v.sender all since);
+          done = (one_sent all x).0 ∙ ap (λ l. l ++ x ∷ []) (same_sent v.sender all since);
           same = refl;
         },
       )
@@ -76,7 +76,7 @@ module _ {M : Type 0} where
       let w : Knowledge M = knows v.sends v.takes v.sender new in
       let mine = h.4 holder v at in
       let since = (mine.1 may).1 in
-      let left : Leaves new items = sent_in-takes all x ∙ h.3 ∙ sym (append_assoc (taken_in all) (x ∷ []) items) ∙ ap (λ l. l ++ items) (sym (taken_in-takes all x)) in (
+      let left : Leaves new items = (one_taken all x).1 ∙ h.3 ∙ sym (append_assoc (taken_in all) (x ∷ []) items) ∙ ap (λ l. l ++ items) (sym ((one_taken all x).0)) in (
         w,
         (
           h.0,
@@ -89,7 +89,7 @@ module _ {M : Type 0} where
         record {
           rights = (refl, refl);
           known = record { before = all; since = since; first = (items, h.3); new_is = refl };
-          done = taken_in-takes all x ∙ ap (λ l. l ++ x ∷ []) (same_taken v.taker all since);
+          done = (one_taken all x).0 ∙ ap (λ l. l ++ x ∷ []) (same_taken v.taker all since);
           same = refl;
         },
       )

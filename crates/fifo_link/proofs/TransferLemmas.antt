@@ -46,25 +46,17 @@ module _ {M : Type 0} where
   pub more_sent : (known all : List (Transfer M)) (t : SentSince known all) → sent_in all ≡ sent_in known ++ t.0
   more_sent known all t = ap sent_in t.1 ∙ sent_in-append known (map Sent t.0) ∙ ap (λ l. sent_in known ++ l) (sent_in-sent t.0)
 
-  -- one more is sent
-  pub sent_in-sends : (all : List (Transfer M)) (x : Stamped M) → sent_in (all ++ Sent x ∷ []) ≡ sent_in all ++ x ∷ []
-  unfolding sent_in
-  sent_in-sends all x = sent_in-append all (Sent x ∷ [])
+  -- one more is sent, and the same are taken
+  pub one_sent : (all : List (Transfer M)) (x : Stamped M) → (sent_in (all ++ Sent x ∷ []) ≡ sent_in all ++ x ∷ []) × (taken_in (all ++ Sent x ∷ []) ≡ taken_in all)
+  unfolding sent_in taken_in
+  one_sent all x = (sent_in-append all (Sent x ∷ []), taken_in-append all (Sent x ∷ []) ∙ append-nil (taken_in all))
 
-  pub taken_in-sends : (all : List (Transfer M)) (x : Stamped M) → taken_in (all ++ Sent x ∷ []) ≡ taken_in all
-  unfolding taken_in
-  taken_in-sends all x = taken_in-append all (Sent x ∷ []) ∙ append-nil (taken_in all)
+  -- one more is taken, and the same are sent
+  pub one_taken : (all : List (Transfer M)) (x : Stamped M) → (taken_in (all ++ Taken x ∷ []) ≡ taken_in all ++ x ∷ []) × (sent_in (all ++ Taken x ∷ []) ≡ sent_in all)
+  unfolding sent_in taken_in
+  one_taken all x = (taken_in-append all (Taken x ∷ []), sent_in-append all (Taken x ∷ []) ∙ append-nil (sent_in all))
 
-  -- one more is taken
-  pub taken_in-takes : (all : List (Transfer M)) (x : Stamped M) → taken_in (all ++ Taken x ∷ []) ≡ taken_in all ++ x ∷ []
-  unfolding taken_in
-  taken_in-takes all x = taken_in-append all (Taken x ∷ [])
-
-  pub sent_in-takes : (all : List (Transfer M)) (x : Stamped M) → sent_in (all ++ Taken x ∷ []) ≡ sent_in all
-  unfolding sent_in
-  sent_in-takes all x = sent_in-append all (Taken x ∷ []) ∙ append-nil (sent_in all)
-
-  -- all that was done since then was one thing, and then once more
+  -- the same was done since then, and one thing more
   pub sent_more : (known all : List (Transfer M)) (x : Stamped M) → SentSince known all → SentSince known (all ++ Sent x ∷ [])
   sent_more known all x t = (t.0 ++ x ∷ [], ap (λ l. l ++ Sent x ∷ []) t.1 ∙ append_assoc known (map Sent t.0) (Sent x ∷ []) ∙ ap (λ l. known ++ l) (sym (map-append Sent t.0 (x ∷ []))))
 
