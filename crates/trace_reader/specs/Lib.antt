@@ -5,3 +5,6 @@ pub mod Steered
 pub mod Takes
 pub mod Records
 pub mod Answers
+pub mod Generated
+pub mod Making
+pub mod Pieces
