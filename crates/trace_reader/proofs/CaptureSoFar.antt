@@ -59,7 +59,7 @@ progress_start bytes now packets due is at none empty = record {
 }
 
 -- a packet is one more in front
-packet_step : (most : ℕ) (form : Form) (place count : ℕ) (rest : List ℕ) (packet : Packet) → length rest ≤ most
+pub packet_step : (most : ℕ) (form : Form) (place count : ℕ) (rest : List ℕ) (packet : Packet) → length rest ≤ most
     → next_of form place count rest ≡ Ok (next.Packet packet)
     → (m : ℕ) × (length (drop (record_size form rest) rest) ≤ m)
     × (records_of most form place count rest ≡ with_packet packet (records_of m form (place + record_size form rest) (count + 1) (drop (record_size form rest) rest)))
@@ -83,7 +83,7 @@ skipped_step (suc m) form place count rest few due = (
   ap (from_next (λ count'. records_of m form (place + record_size form rest) count' (drop (record_size form rest) rest)) count) due,
 )
 
-end_step : (most : ℕ) (form : Form) (place count : ℕ) (rest : List ℕ) → next_of form place count rest ≡ Ok next.End
+pub end_step : (most : ℕ) (form : Form) (place count : ℕ) (rest : List ℕ) → next_of form place count rest ≡ Ok next.End
     → records_of most form place count rest ≡ Ok (record { packets = []; skipped = 0; cut = false })
 unfolding records_of
 end_step zero form place count rest due = refl

@@ -9,3 +9,5 @@ pub mod PlacedBytes
 pub mod GeneratedSizes
 pub mod GeneratedRecords
 pub mod MadeSoFar
+pub mod MadeHeaders
+pub mod MadeIsRead

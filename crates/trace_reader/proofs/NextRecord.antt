@@ -37,7 +37,7 @@ next_of-cut : (form : Form) (place count n : ℕ) (bytes : List ℕ) → n ≡ c
 unfolding next_of
 next_of-cut form place count n bytes is enough fits few = grind (arith, nat_tests)
 
-next_of-whole : (form : Form) (place count n : ℕ) (bytes : List ℕ) → n ≡ captured_of form (take 16 bytes) → 16 ≤ length bytes → n ≤ 262144
+pub next_of-whole : (form : Form) (place count n : ℕ) (bytes : List ℕ) → n ≡ captured_of form (take 16 bytes) → 16 ≤ length bytes → n ≤ 262144
     → 16 + n ≤ length bytes → next_of form place count bytes ≡ record_answer form place count (take 16 bytes) n (take n (drop 16 bytes))
 unfolding next_of
 next_of-whole form place count n bytes is enough fits all = grind (arith, nat_tests)

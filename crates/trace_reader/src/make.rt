@@ -1,8 +1,9 @@
 //! Generated captures.
-ghost use Rattle.std.specs.Prelude.{◌≡◌, ◌≤◌, Err};
+ghost use Rattle.std.specs.Prelude.{◌≡◌, ◌≤◌, ℕ, Err};
 ghost use Rattle.nf_io.specs.Meaning.{Rose, StaysOpen};
 ghost use Rattle.trace_reader.specs.Limits.{most_packets};
-ghost use Rattle.trace_reader.specs.Making.{Makes};
+ghost use Rattle.trace_reader.specs.Records.{capture_of};
+ghost use Rattle.trace_reader.specs.Making.{Makes, IsReadWhole};
 ghost use Rattle.trace_reader.specs.Generated.{capture};
 
 use crate::encode::file_header;
@@ -74,3 +75,8 @@ pub fn make_trace<S: Sink>(
     }
     Ok(())
 }
+
+/// A law of generated captures: each is read whole, with all its packets steered.
+pub fn made_captures()
+    ensures { (number packets hosts : ℕ) → packets ≤ most_packets → IsReadWhole packets (capture_of (capture number packets hosts)) }
+{}
