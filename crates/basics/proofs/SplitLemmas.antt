@@ -90,7 +90,7 @@ pub split_once-lacks : (mark : ℕ) (text : List ℕ) → Lacks mark text → sp
 split_once-lacks mark [] lacks = refl
 split_once-lacks mark (byte ∷ text) lacks = let isnt = lacks.0 in rw isnt (ap (option_map (λ (p : List ℕ × List ℕ). (byte ∷ p.0, p.1))) (split_once-lacks mark text lacks.1))
 
--- the pieces between the marks, by the first split_once
+-- the pieces between the marks, by the first split
 abbrev pub pieces_of : List ℕ → Option (List ℕ × List ℕ) → ℕ → List (List ℕ)
 pieces_of text None mark = text ∷ []
 pieces_of text (Some p) mark = p.0 ∷ slice_split (λ b. eqb b mark) p.1

@@ -31,7 +31,7 @@ Instances = List Text × List ℕ
 pub record SimAsked : Type 0 where
   pub kind : Kind
   pub instances : Instances
-  -- the bits and the length of the inside prefix_numbers
+  -- the bits and the length of the inside prefix
   pub inside : ℕ × ℕ
   pub outside : Option ℕ
   pub window : ℕ

@@ -2,7 +2,7 @@
 //!
 //! Contracts see a [`Request`] through `request_view` of `specs/RequestViews.antt`. The main promise is that of
 //! [`parse_command`]: it gives exactly what the definition `plan_of` reads, and answers [`ArgumentsFault::Usage`] exactly where
-//! that reads nothing.
+//! that reads nothing, or that memory ran out. The crate touches nothing outside of memory.
 #![tactic(auto)]
 
 pub mod fault;

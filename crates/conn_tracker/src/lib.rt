@@ -2,7 +2,8 @@
 //!
 //! Contracts see a [`TrackRecord`] as its fields. The main promise is that of [`step`]: the record and the output after
 //! a packet are those of the table of states in `specs/Table.antt`, for every record and packet. [`first_record`] and
-//! [`next_record`] are its two halves, for callers that have the packet's direction and keep the record in place.
+//! [`next_record`] are its two halves, for callers that have the packet's direction and keep the record in place. The crate
+//! touches nothing outside of memory.
 #![tactic(auto)]
 
 pub mod body;

@@ -18,11 +18,11 @@ pub one_field : (f : Fields) (text : List ℕ) (r : Result Filter FilterFault) �
 one_field f text r at given = rw (split-None 44 text at, and_fields-Ok (with_field f text)) given
 
 -- a field that breaks a rule
-pub first_wrong : (f : Fields) (text front after_commas : List ℕ) (fault : FilterFault) → Some (front, after_commas) ≡ split_once 44 text → with_field f front ≡ Err fault
+pub first_wrong : (f : Fields) (text front more : List ℕ) (fault : FilterFault) → Some (front, more) ≡ split_once 44 text → with_field f front ≡ Err fault
     → with_fields f (slice_split (λ b. b == 44) text) ≡ Err fault
-first_wrong f text front after_commas fault at wrong = rw (split-Some 44 text front after_commas at, wrong) refl
+first_wrong f text front more fault at wrong = rw (split-Some 44 text front more at, wrong) refl
 
 -- a field and those after it
-pub first_field : (f g : Fields) (text front after_commas : List ℕ) (r : Result Filter FilterFault) → Some (front, after_commas) ≡ split_once 44 text → with_field f front ≡ Ok g
-    → AgreesBy fields_of r (with_fields g (slice_split (λ b. b == 44) after_commas)) → AgreesBy fields_of r (with_fields f (slice_split (λ b. b == 44) text))
-first_field f g text front after_commas r at right given = rw (split-Some 44 text front after_commas at, right) given
+pub first_field : (f g : Fields) (text front more : List ℕ) (r : Result Filter FilterFault) → Some (front, more) ≡ split_once 44 text → with_field f front ≡ Ok g
+    → AgreesBy fields_of r (with_fields g (slice_split (λ b. b == 44) more)) → AgreesBy fields_of r (with_fields f (slice_split (λ b. b == 44) text))
+first_field f g text front more r at right given = rw (split-Some 44 text front more at, right) given

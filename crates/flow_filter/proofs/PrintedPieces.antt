@@ -1,5 +1,5 @@
 -- What is written field by field is the text of the pieces, joined by commas.
-use Rattle.std.proofs.Common.{◌≡◌, ℕ, Bool, true, false, ◌||◌, List, [], ◌∷◌, ◌++◌, Option, None, Some, is_some, option_map, refl, ap, sym, ◌∙◌, append_assoc}
+use Rattle.std.proofs.Common.{◌≡◌, ℕ, Bool, true, false, ◌||◌, List, [], ◌∷◌, ◌++◌, Option, None, Some, is_some, option_map, refl, ap, sym, ◌∙◌, append_assoc, append-nil}
 use Rattle.std.specs.Prelude.{codes}
 use Rattle.std.specs.List.{join_with_byte}
 use Rattle.std.specs.Fmt.{decimal}
@@ -10,10 +10,6 @@ use Rattle.flow_filter.specs.FilterText.{piece, pieces, after_commas, joined, pr
 abbrev pub are_some : List (List ℕ) → Bool
 are_some [] = false
 are_some (first ∷ more) = true
-
-pub append_none : (a : List ℕ) → a ++ [] ≡ a
-append_none [] = refl
-append_none (x ∷ a) = ap (λ t. x ∷ t) (append_none a)
 
 pub after_commas-append : (begun : Bool) (done more : List (List ℕ)) → after_commas begun (done ++ more) ≡ after_commas begun done ++ after_commas (begun || are_some done) more
 after_commas-append true [] more = refl
@@ -41,7 +37,7 @@ write_piece before old new name begun after done value so_far is text = record {
 }
 
 pub join-after_commas : (first : List ℕ) (more : List (List ℕ)) → join_with_byte 44 (first ∷ more) ≡ first ++ after_commas true more
-join-after_commas first [] = sym (append_none first)
+join-after_commas first [] = sym (append-nil first)
 join-after_commas first (next ∷ more) = ap (λ t. first ++ (44 ∷ t)) (join-after_commas next more)
 
 -- the end, where some field was written
@@ -51,7 +47,7 @@ written_some before after begun (first ∷ more) so_far is = so_far.text ∙ ap 
 
 -- the end, where none was
 pub written_none : (before after : List ℕ) (begun : Bool) (done : List (List ℕ)) → Written before after begun done → begun ≡ false → after ++ codes "any" ≡ before ++ joined done
-written_none before after begun [] so_far is = ap (λ t. t ++ codes "any") (so_far.text ∙ append_none before)
+written_none before after begun [] so_far is = ap (λ t. t ++ codes "any") (so_far.text ∙ append-nil before)
 written_none before after begun (first ∷ more) so_far is = let begins = so_far.begins in absurd cc
 
 is_some-map : {X Y : Type 0} → (g : X → Y) → (o : Option X) → is_some (option_map g o) ≡ is_some o
@@ -74,7 +70,7 @@ pub write_fields : (f : Filter) (s0 s1 s2 s3 s4 s5 : List ℕ) (b1 b2 b3 b4 b5 :
     → Written s0 s5 b5 (pieces f)
 unfolding pieces
 write_fields f s0 s1 s2 s3 s4 s5 b1 b2 b3 b4 b5 proto local lport remote rport =
-    let start : Written s0 s0 false [] = record { begins = refl; text = sym (append_none s0) } in
+    let start : Written s0 s0 false [] = record { begins = refl; text = sym (append-nil s0) } in
     let first = write_field protocol_text s0 s0 s1 (codes "proto=") false b1 [] f.proto start proto.0 proto.1 in
     let second = write_field prefix_text s0 s1 s2 (codes "local=") b1 b2 _ f.local first local.0 local.1 in
     let third = write_field decimal s0 s2 s3 (codes "lport=") b2 b3 _ f.lport second lport.0 lport.1 in

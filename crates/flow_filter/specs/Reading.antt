@@ -18,7 +18,7 @@ address_of text = do
   d ← parse_number 255 third.1
   Some (from_be_bytes w32 (a ∷ b ∷ c ∷ d ∷ []))
 
--- the address and the length of a prefix_numbers, where no bit past the length is set
+-- the address and the length of a prefix, where no bit past the length is set
 abbrev pub aligned_prefix : ℕ → ℕ → Option (ℕ × ℕ)
 aligned_prefix bits len = if bits % 2 ^ (32 - len) == 0 then Some (bits, len) else None
 

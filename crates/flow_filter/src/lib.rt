@@ -1,7 +1,8 @@
 //! Packets, flows and the small types that every other crate of `opennf` names.
 //!
-//! Contracts see a [`Sequence`] as the list of its items, and every other type as its fields. The main promise is that
-//! of [`flow_of`]: it is the four cases of the definition `flow_of`, for every site and packet.
+//! Contracts see a [`Sequence`] as the list of its items, a [`Name`] as the list of its bytes, and every other type as its
+//! fields. The main promise is that of [`flow_of`]: it is the four cases of the definition `flow_of`, for every site and
+//! packet. The crate touches nothing outside of memory.
 #![tactic(auto)]
 
 pub mod filter;

@@ -1,5 +1,5 @@
 //! Numbers in stored bytes, which the formats of this project are made of.
-ghost use Rattle.std.specs.Prelude.{◌≡◌, ◌++◌, OnOk, option_map};
+ghost use Rattle.std.specs.Prelude.{◌≡◌, ◌++◌, OnOk, OnErr, option_map};
 ghost use Rattle.nf_function.specs.Stored.{number_bytes, first_byte, first_number};
 
 use basics::{Bytes, NoMemory};
@@ -51,7 +51,8 @@ pub fn first_u64(bytes: &[u8]) -> Option<(u64, &[u8])>
 /// Puts a number of two bytes after others.
 #[tactic(auto, unfolding(crate::specs::Stored::number_bytes))]
 pub fn push_u16(bytes: &mut Bytes, number: u16) -> Result<(), NoMemory>
-    ensures { OnOk result (bytes.new ≡ bytes.old ++ number_bytes 2 number) }
+    ensures ok { OnOk result (bytes.new ≡ bytes.old ++ number_bytes 2 number) }
+    ensures err { OnErr result (bytes.new ≡ bytes.old) }
 {
     let mut spelled = [0; 2];
     BigEndian::write_u16(&mut spelled, number);
@@ -61,7 +62,8 @@ pub fn push_u16(bytes: &mut Bytes, number: u16) -> Result<(), NoMemory>
 /// Puts a number of four bytes after others.
 #[tactic(auto, unfolding(crate::specs::Stored::number_bytes))]
 pub fn push_u32(bytes: &mut Bytes, number: u32) -> Result<(), NoMemory>
-    ensures { OnOk result (bytes.new ≡ bytes.old ++ number_bytes 4 number) }
+    ensures ok { OnOk result (bytes.new ≡ bytes.old ++ number_bytes 4 number) }
+    ensures err { OnErr result (bytes.new ≡ bytes.old) }
 {
     let mut spelled = [0; 4];
     BigEndian::write_u32(&mut spelled, number);
@@ -71,7 +73,8 @@ pub fn push_u32(bytes: &mut Bytes, number: u32) -> Result<(), NoMemory>
 /// Puts a number of eight bytes after others.
 #[tactic(auto, unfolding(crate::specs::Stored::number_bytes))]
 pub fn push_u64(bytes: &mut Bytes, number: u64) -> Result<(), NoMemory>
-    ensures { OnOk result (bytes.new ≡ bytes.old ++ number_bytes 8 number) }
+    ensures ok { OnOk result (bytes.new ≡ bytes.old ++ number_bytes 8 number) }
+    ensures err { OnErr result (bytes.new ≡ bytes.old) }
 {
     let mut spelled = [0; 8];
     BigEndian::write_u64(&mut spelled, number);

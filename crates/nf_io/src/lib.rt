@@ -2,8 +2,8 @@
 //!
 //! An [`Outside`] has seven files, one for each [`Role`]. Contracts see it as a function from
 //! roles to a `Meaning`: the bytes left, the bytes written, a count of faults, and the name that
-//! was bound. The main promise: a call fails only where the count of faults of its own role rose,
-//! and leaves every other role as it was.
+//! was bound. The main promise: a read or a write fails only where the count of faults of its own
+//! role rose, and a call leaves every other role as it was.
 //!
 //! Only [`FileOutside`] and [`arguments`](arguments::arguments) touch anything outside of the program: the first
 //! named files, the standard output and the standard error, by the four calls of a [`System`] and the reads and

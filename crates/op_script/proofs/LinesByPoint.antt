@@ -1,4 +1,4 @@
--- Lines in the order of their points: what they say at a point stands first, and what is after it is in order again.
+-- Lines in the order of their points: what they say at a point stands first, and what stands after it is in order again.
 use Rattle.std.proofs.Common.{◌≡◌, ◌∙◌, ℕ, suc, ◌+◌, ◌*◌, ◌^◌, ◌<◌, ◌≤◌, Bool, true, false, cond, eqb, List, [], ◌∷◌, map, filter, length, get_or, take, drop, ap, sym, refl, subst, inl, inr, arith, eqb-true}
 use Rattle.std.specs.List.{prefix_len, take-map, drop-map}
 use Rattle.std.specs.List.Sorted.{IsNonDecreasingBy, IsStableByKey, ties}
@@ -79,7 +79,7 @@ said_first line k n rest lines ahead count =
     let here : Cut k n (map line rest) = subst (λ n. Cut k n (map line rest)) (sym count) (cut k (map line rest) ahead.order) in
     sym (map-map (λ (l : Line). msg_of l.what) line (take n rest)) ∙ ap (map (λ (l : Line). msg_of l.what)) (sym (take-map line n rest)) ∙ here.said ∙ ahead.same k (omega arith)
 
--- what is after them is ahead of the next point
+-- what stands after them is ahead of the next point
 pub ahead_next : {X : Type 0} (line : X → Line) (k n : ℕ) (rest left : List X) (lines : List Line) → IsAhead k (map line rest) lines
     → n ≡ prefix_len (λ (line : Line). eqb line.at k) (map line rest) → left ≡ drop n rest → IsAhead (k + 1) (map line left) lines
 ahead_next line k n rest left lines ahead count is =

@@ -1,11 +1,11 @@
 -- What a loop has written, when it has written one item more.
-use Rattle.std.proofs.Common.{◌≡◌, ℕ, ◌+◌, ◌<◌, ◌≤◌, true, ◌-◌, zero, suc, subst, Result, Ok, Err, OnOk, drop, List, [], ◌∷◌, ◌++◌, length, get_or, take, map, ap, sym, ◌∙◌, append_assoc, arith}
+use Rattle.std.proofs.Common.{◌≡◌, ℕ, ◌+◌, ◌<◌, ◌≤◌, true, ◌-◌, zero, suc, subst, Result, Ok, Err, OnOk, drop, List, [], ◌∷◌, ◌++◌, length, get_or, take, map, ap, sym, ◌∙◌, append_assoc, append-nil, arith}
 use Rattle.std.specs.List.{concat, join_with_byte, AllByRecursion}
 use Rattle.std.proofs.lemmas.List.{take_more, take_all, map-append}
 use Rattle.std.proofs.lemmas.List.Folds.{concat-append}
 use Rattle.op_script.proofs.ScriptLineLemmas.{All-append}
 use Rattle.flow_filter.specs.FilterText.{after_commas}
-use Rattle.flow_filter.proofs.PrintedPieces.{after_commas-append, append_none, join-after_commas}
+use Rattle.flow_filter.proofs.PrintedPieces.{after_commas-append, join-after_commas}
 
 -- the items so far, and one more
 one_more : {X : Type 0} (xs : List X) (i : ℕ) (x : X) → i < length xs → x ≡ get_or xs i x → take (i + 1) xs ≡ take i xs ++ x ∷ []
@@ -16,7 +16,7 @@ pub names_more : (start before comma after : List ℕ) (xs : List (List ℕ)) (i
     → before ≡ start ++ after_commas true (take i xs) → comma ≡ before ++ 44 ∷ [] → after ≡ comma ++ x → after ≡ start ++ after_commas true (take (i + 1) xs)
 names_more start before comma after xs i x below is so_far first second =
     let split : after_commas true (take (i + 1) xs) ≡ after_commas true (take i xs) ++ (44 ∷ x) =
-    ap (after_commas true) (one_more xs i x below is) ∙ after_commas-append true (take i xs) (x ∷ []) ∙ ap (λ t. after_commas true (take i xs) ++ (44 ∷ t)) (append_none x) in
+    ap (after_commas true) (one_more xs i x below is) ∙ after_commas-append true (take i xs) (x ∷ []) ∙ ap (λ t. after_commas true (take i xs) ++ (44 ∷ t)) (append-nil x) in
     let regrouped : ((start ++ after_commas true (take i xs)) ++ 44 ∷ []) ++ x ≡ start ++ (after_commas true (take i xs) ++ (44 ∷ x)) = simp append_assoc in
     second ∙ ap (λ t. t ++ x) (first ∙ ap (λ t. t ++ 44 ∷ []) so_far) ∙ regrouped ∙ ap (λ t. start ++ t) (sym split)
 
@@ -34,7 +34,7 @@ lines_more text words front before after xs i x below is so_far next =
     let items : map text (map words (take (i + 1) xs)) ≡ map text (map words (take i xs)) ++ text (words x) ∷ [] =
     ap (λ t. map text (map words t)) (one_more xs i x below is) ∙ ap (map text) (map-append words (take i xs) (x ∷ [])) ∙ map-append text (map words (take i xs)) (words x ∷ []) in
     let split : concat (map text (map words (take (i + 1) xs))) ≡ concat (map text (map words (take i xs))) ++ text (words x) =
-    ap concat items ∙ concat-append (map text (map words (take i xs))) (text (words x) ∷ []) ∙ ap (λ t. concat (map text (map words (take i xs))) ++ t) (append_none (text (words x))) in
+    ap concat items ∙ concat-append (map text (map words (take i xs))) (text (words x) ∷ []) ∙ ap (λ t. concat (map text (map words (take i xs))) ++ t) (append-nil (text (words x))) in
     next ∙ ap (λ t. t ++ text (words x)) so_far ∙ append_assoc front (concat (map text (map words (take i xs)))) (text (words x)) ∙ ap (λ t. front ++ t) (sym split)
 
 -- the routes and then the lines

@@ -2,7 +2,8 @@
 //!
 //! Contracts see a [`Script`] through `script_view` of `specs/Reading.antt`: each name as its bytes and each filter as its
 //! fields. The main promise is that of [`read_script`]: it accepts exactly the scripts of the definition `script_of`,
-//! gives what stands there, and refuses every other by its first line that breaks a rule, by that line's first fault.
+//! gives what stands there, and refuses every other by its first line that breaks a rule, by that line's first fault. The
+//! crate touches nothing outside of memory.
 #![tactic(auto)]
 
 pub mod fault;

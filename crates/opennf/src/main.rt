@@ -1,5 +1,6 @@
 //! The program `opennf`: its arguments are the words of the top call, and its files and standard streams are the outside.
-//! It touches nothing else. The main promise is that of `run`: it ends with the number of the status.
+//! It touches nothing else. The main promise is that of `run`: its exit code is the number of the status, and all that the
+//! top call promises holds of the words that it is given.
 #![tactic(auto)]
 
 mod run;

@@ -1,5 +1,6 @@
 -- The two ways to tell flows apart agree: by their fields' equality, and by their order.
 use Rattle.std.proofs.Common.{◌≡◌, ℕ, Bool, true, false, ◌&&◌, ◌==◌, refl, subst, arith}
+use Rattle.std.proofs.lemmas.Bool.{and_parts, eqb-true}
 use Rattle.std.proofs.lemmas.Bool.Decides.{nat_tests}
 use Rattle.std.specs.Cmp.{IsEquivalence, decided}
 use Rattle.std.specs.Ordering.{nat_cmp, ordering_then, is_eq, eq_by_cmp}
@@ -35,28 +36,19 @@ other_order false true true true false = refl
 pub eq_by-flow_cmp : (a b : Flow) → eq_by_cmp flow_cmp a b ≡ flow_eq a b
 eq_by-flow_cmp a b = simp (is_eq-then, is_eq-nat_cmp) (other_order (a.proto == b.proto) (a.local == b.local) (a.lport == b.lport) (a.remote == b.remote) (a.rport == b.rport))
 
--- a test of two parts
-pub both : (a b : Bool) → (a && b) ≡ true → (a ≡ true) × (b ≡ true)
-both true b h = (refl, h)
-both false b h = cc
-
--- equal numbers
-pub same_number : (x y : ℕ) → (x == y) ≡ true → x ≡ y
-same_number x y equal = grind (arith, nat_tests)
-
 -- flows that are equal in every field are one
 pub same_flow : (a b : Flow) → flow_eq a b ≡ true → a ≡ b
 same_flow a b equal =
-    let local = both (a.local == b.local) _ equal in
-    let remote = both (a.remote == b.remote) _ local.1 in
-    let lport = both (a.lport == b.lport) _ remote.1 in
-    let rport = both (a.rport == b.rport) _ lport.1 in
+    let local = and_parts (a.local == b.local) _ equal in
+    let remote = and_parts (a.remote == b.remote) _ local.1 in
+    let lport = and_parts (a.lport == b.lport) _ remote.1 in
+    let rport = and_parts (a.rport == b.rport) _ lport.1 in
     λ i. record {
-      local = same_number a.local b.local local.0 i;
-      remote = same_number a.remote b.remote remote.0 i;
-      lport = same_number a.lport b.lport lport.0 i;
-      rport = same_number a.rport b.rport rport.0 i;
-      proto = same_number a.proto b.proto rport.1 i;
+      local = eqb-true a.local b.local local.0 i;
+      remote = eqb-true a.remote b.remote remote.0 i;
+      lport = eqb-true a.lport b.lport lport.0 i;
+      rport = eqb-true a.rport b.rport rport.0 i;
+      proto = eqb-true a.proto b.proto rport.1 i;
     }
 
 flow_eq-same : (a : Flow) → flow_eq a a ≡ true

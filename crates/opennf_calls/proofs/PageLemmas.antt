@@ -2,7 +2,7 @@
 use Rattle.std.proofs.Common.{◌≡◌, ◌≤◌, ◌<◌, ℕ, ◌+◌, ◌-◌, zero, suc, List, [], ◌∷◌, ◌++◌, length, take, drop, Option, None, Some, Result, Ok, Err, MatchResult, refl, ap, sym, ◌∙◌, subst, append-nil, append_assoc, length-take, arith, codes, decimal, map, get_or, slice_index_or}
 use Rattle.std.proofs.Math.Seq.{take-append-add, take-add, take-length}
 use Rattle.std.proofs.Math.ListN.{drop_of_length-le}
-use Rattle.std.proofs.lemmas.List.{take-append-le, take-append-drop, take_more, map-append, length-append}
+use Rattle.std.proofs.lemmas.List.{take-append-le, take-append-drop, take-take, take_more, map-append, length-append}
 use Rattle.std.proofs.KnownBytes.{Appends-trans}
 use Rattle.std.specs.Io.KnownBytes.{Appends}
 use Rattle.nf_io.specs.declared.outside.Role.{Role}
@@ -83,12 +83,6 @@ pub ends_all : (f : State → List ℕ) (xs : List State) (k : ℕ) (ends : List
 ends_all f xs k ends all over is =
     let whole : take k xs ≡ xs = sym (append-nil (take k xs)) ∙ ap (λ l. take k xs ++ l) (sym (drop_of_length-le xs over)) ∙ take-append-drop k xs in
     is ∙ ap (map f) whole ∙ ap (map f) all
-
-take-take : (m n : ℕ) (xs : List ℕ) → m ≤ n → take m (take n xs) ≡ take m xs
-take-take zero n xs le = refl
-take-take (suc m) zero xs le = absurd (omega (arith, le))
-take-take (suc m) (suc n) [] le = refl
-take-take (suc m) (suc n) (x ∷ xs) le = ap (λ l. x ∷ l) (take-take m n xs (omega (arith, le)))
 
 -- the same where the list of bytes is put together again
 pub put_written : (old rest place text tail : List ℕ) (used n len : ℕ) → used ≤ length old → n ≤ length place → used + n ≤ len → take n place ≡ text

@@ -5,17 +5,7 @@ use Rattle.nf_io.specs.declared.outside.Role.{Role}
 use Rattle.nf_io.specs.declared.outside.Role.TheVariants.{Trace, Script, JournalIn, Report, JournalOut, TraceOut, Errors}
 use Rattle.nf_io.specs.Roles.{place_of}
 use Rattle.nf_io.specs.Meaning.{Meaning, OthersStay}
-
--- places tell roles apart
-same_place : (a b : Role) → place_of a ≡ place_of b → a ≡ b
-same_place Trace Trace e = refl
-same_place Script Script e = refl
-same_place JournalIn JournalIn e = refl
-same_place Report Report e = refl
-same_place JournalOut JournalOut e = refl
-same_place TraceOut TraceOut e = refl
-same_place Errors Errors e = refl
-same_place a b e = absurd (cc)
+use Rattle.nf_io.proofs.RolesAfterLoan.{same_place}
 
 other_place : (a b : Role) → eqb (place_of a) (place_of b) ≡ false → a ≢ b
 other_place a b differ same =

@@ -109,7 +109,7 @@ abbrev pub reading_after : Reading → Result Step TraceFault → Option (List �
 reading_after before result left =
     reading before.form (before.place + size_in result) (count_after before.count (next_in result)) left
 
--- a trace is the one that is due, and nothing is left; or a fault is the one that is due. Want of memory is free, and a fault of reading has a cause of its own
+-- a trace is the one that is due, and nothing is left; or a fault is the one that is due. Out of memory is free, and a fault of reading has a cause of its own
 abbrev pub AnswersTrace : Result Trace TraceFault → Option (List ℕ) → Result Trace TraceFault → Type 0
 AnswersTrace due left (Ok trace) = (due ≡ Ok trace) × (left ≡ Some [])
 AnswersTrace due left (Err fault.Read) = Unit {0}

@@ -1,11 +1,10 @@
 -- Each loop writes a line more, and together the loops write them all.
-use Rattle.std.proofs.Common.{◌≡◌, ℕ, ◌≤◌, ◌++◌, [], List, length, map, take, sym, ◌∙◌, true, false, Ok}
+use Rattle.std.proofs.Common.{◌≡◌, ℕ, ◌≤◌, ◌++◌, [], List, length, map, take, sym, ◌∙◌, append-nil, true, false, Ok}
 use Rattle.std.specs.List.{concat, AllByRecursion, list_all}
 use Rattle.std.proofs.lemmas.List.{take_all}
 use Rattle.flow_filter.specs.declared.filter.Filter.{Filter}
 use Rattle.flow_filter.specs.Filter.{IsFilter}
 use Rattle.flow_filter.specs.Name.{is_name, has_twice}
-use Rattle.flow_filter.proofs.PrintedPieces.{append_none}
 use Rattle.nf_function.specs.declared.kind.Kind.{Kind}
 use Rattle.op_script.specs.declared.script.Script.{Script}
 use Rattle.op_script.specs.Forms.{Word}
@@ -39,7 +38,7 @@ pub loop-line-init : goal.loop-line-init
 loop-line-init c =
     let all = take_all c.loop-route.route-index c.args.script.now.routes.items (rw c.as_slice-route-items.ensures.value at c.loop-route-test.false) in
     record {
-      text = (rw all at c.loop-route.invariant.text) ∙ sym (append_none (concat (map line_text (map (route_words c.args.names.now) c.args.script.now.routes.items))));
+      text = (rw all at c.loop-route.invariant.text) ∙ sym (append-nil (concat (map line_text (map (route_words c.args.names.now) c.args.script.now.routes.items))));
       routes = rw all at c.loop-route.invariant.fits;
       fits = tt;
     }
