@@ -53,6 +53,22 @@ impl<K: Ord + Hash + Copy, R: Drop> UnitMap<K, R> {
         &self.entries
     }
 
+    /// All entries, without a copy.
+    pub fn into_entries(self) -> Vec<(K, Option<R>)>
+        ensures all { result.items ≡ self }
+        ensures map { IsMap K.eq self }
+    {
+        self.entries
+    }
+
+    /// Makes room for some more entries, so that the index isn't made anew for each few of them. No key's record changes.
+    pub fn reserve(&mut self, more: usize) -> Result<(), NoMemory>
+        ensures same { (k : K) → record_of K.eq self.new k ≡ record_of K.eq self.old k }
+        ensures map { IsMap K.eq self.new }
+    {
+        self.index.make_room(&mut self.entries, more)
+    }
+
     /// The record of a key.
     pub fn get(&self, key: &K) -> Option<&R>
         ensures { option_copied result ≡ record_of K.eq self.now key.now }

@@ -1,0 +1,4 @@
+pub mod UnitOrder
+pub mod RecordLookUps
+pub mod EntryMaps
+pub mod Results

@@ -1,0 +1,137 @@
+-- What look-ups find in finite maps of records, and that they tell such maps apart.
+use Rattle.std.proofs.Common.{◌≡◌, ℕ, zero, suc, ◌+◌, ◌-◌, ◌<◌, ◌≤◌, get_or, take, length, Bool, true, false, cond, List, [], ◌∷◌, ◌++◌, map, Option, Some, None, refl, sym, ap, ◌∙◌, arith, is_some}
+use Rattle.std.specs.Prelude.{not, ◌||◌}
+use Rattle.std.proofs.lemmas.List.{take_more}
+use Rattle.std.proofs.lemmas.Bool.{true≢false}
+use Rattle.std.specs.Ordering.{eq_by_cmp}
+use Rattle.std.specs.Option.{option_map}
+use Rattle.std.specs.FinMap as finite
+use Rattle.std.specs.FinMap.{find, same_map, get-empty, get-insert, get-remove, get-retain_keys, get-entries, get-from_entries, empty_of_len, len-insert, len-remove}
+use Rattle.nf_function.specs.declared.unit.Unit as units
+use Rattle.nf_function.specs.Units.{unit_cmp}
+use Rattle.nf_function.specs.UnitOrder.{units_total}
+use Rattle.record_table.specs.Table.{Records, same_unit, with_kept, is_among, without, either, chosen, joined, AreSound}
+use Rattle.nf_function.specs.Semantics.{Semantics, is_sound}
+use Rattle.record_table.proofs.UnitOrder.{one_unit, same_unit-true}
+
+one_less : (b : Bool) (n m : ℕ) → (b ≡ true → 1 ≤ n) → m ≡ cond b (n - 1) n → m + cond b 1 0 ≡ n + 0
+one_less true n m has is = omega (arith, has refl, is)
+one_less false n m has is = omega (arith, is)
+
+one_more : (b : Bool) (n m : ℕ) → m ≡ cond b n (n + 1) → m + cond b 1 0 ≡ n + 1
+one_more true n m is = omega (arith, is)
+one_more false n m is = omega (arith, is)
+
+not_cond : {X : Type 0} (b : Bool) (x y : X) → cond (not b) x y ≡ cond b y x
+not_cond true x y = refl
+not_cond false x y = refl
+
+among_more : (us : List units.Unit) (u q : units.Unit) → is_among (us ++ u ∷ []) q ≡ (is_among us q || same_unit q u)
+among_more [] u q = or_false (same_unit q u)
+  where
+    or_false : (b : Bool) → (b || false) ≡ b
+    or_false true = refl
+    or_false false = refl
+among_more (v ∷ us) u q = ap (λ b. same_unit q v || b) (among_more us u q) ∙ or_assoc (same_unit q v) (is_among us q) (same_unit q u)
+  where
+    or_assoc : (a b c : Bool) → (a || (b || c)) ≡ ((a || b) || c)
+    or_assoc true b c = refl
+    or_assoc false b c = refl
+
+gone_once : {X : Type 0} (a b : Bool) (o : Option X) → cond b None (cond a None o) ≡ cond (a || b) None o
+gone_once true true o = refl
+gone_once true false o = refl
+gone_once false b o = refl
+
+kept_as_it_is : {X : Type 0} (b : Bool) (o p : Option X) → (b ≡ true → o ≡ p) → cond b o p ≡ p
+kept_as_it_is true o p same = same refl
+kept_as_it_is false o p same = refl
+
+module _ {R : Type 0} where
+  -- maps with the same look-ups are one
+  pub same_records : (m n : Records R) → ((u : units.Unit) → finite.get m u ≡ finite.get n u) → m ≡ n
+  same_records = same_map units_total one_unit
+
+  pub get-with_kept : (m : Records R) (u : units.Unit) (o : Option R) (q : units.Unit) → finite.get (with_kept m u o) q ≡ cond (same_unit q u) o (finite.get m q)
+  get-with_kept m u None q = get-remove units_total m u q
+  get-with_kept m u (Some r) q = get-insert units_total m u r q
+
+  abbrev at : List (units.Unit × R) → units.Unit → Option R
+  at es q = find unit_cmp q es
+
+  either_none : (choose : R → R → R) (o : Option R) → o ≡ either choose o None
+  either_none choose None = refl
+  either_none choose (Some r) = refl
+
+  chosen_is : (choose : R → R → R) (o : Option R) (r : R) → Some (chosen choose o r) ≡ either choose o (Some r)
+  chosen_is choose None r = refl
+  chosen_is choose (Some held) r = refl
+
+  module _ (choose : R → R → R) (held : Records R) where
+    abbrev brought : List (units.Unit × R) → List (units.Unit × R)
+    brought es = map (λ e. (e.0, chosen choose (finite.get held e.0) e.1)) es
+
+    at-brought : (es : List (units.Unit × R)) (q : units.Unit) → at (brought es ++ finite.entries held) q ≡ either choose (finite.get held q) (at es q)
+    at-brought [] q = sym (get-entries held q) ∙ either_none choose (finite.get held q)
+    at-brought (e ∷ es) q = elim (same_unit q e.0) as (λ b. same_unit q e.0 ≡ b
+        → cond b (Some (chosen choose (finite.get held e.0) e.1)) (at (brought es ++ finite.entries held) q) ≡ either choose (finite.get held q) (cond b (Some e.1) (at es q))) [
+          | true ↦ λ h. chosen_is choose (finite.get held e.0) e.1 ∙ ap (λ u. either choose (finite.get held u) (Some e.1)) (sym (same_unit-true q e.0 h))
+          | false ↦ λ h. at-brought es q
+        ] refl
+
+  -- what two maps have together
+  pub get-joined : (choose : R → R → R) (held coming : Records R) (q : units.Unit) → finite.get (joined choose held coming) q ≡ either choose (finite.get held q) (finite.get coming q)
+  unfolding joined
+  get-joined choose held coming q =
+      get-from_entries units_total (brought choose held (finite.entries coming) ++ finite.entries held) q ∙ at-brought choose held (finite.entries coming) q
+      ∙ ap (either choose (finite.get held q)) (sym (get-entries coming q))
+
+  -- a map with a record isn't empty
+  has_one : (m : Records R) (u : units.Unit) → finite.contains_key m u ≡ true → 1 ≤ finite.len m
+  has_one m u has = elim (finite.len m) as (λ n. finite.len m ≡ n → 1 ≤ n) [
+      | zero ↦ λ none. absurd (true≢false (sym has ∙ ap (λ n. finite.contains_key n u) (empty_of_len m none) ∙ ap is_some (get-empty unit_cmp u)))
+      | suc n ↦ λ some. omega arith
+    ] refl
+
+  abbrev pub count : Option R → ℕ
+  count o = cond (is_some o) 1 0
+
+  -- how many records there are with another one, or none, for a unit
+  pub len-with_kept : (m : Records R) (u : units.Unit) (o : Option R) → finite.len (with_kept m u o) + count (finite.get m u) ≡ finite.len m + count o
+  len-with_kept m u None = one_less (finite.contains_key m u) (finite.len m) _ (has_one m u) (len-remove units_total m u)
+  len-with_kept m u (Some r) = one_more (finite.contains_key m u) (finite.len m) _ (len-insert units_total m u r)
+
+  pub get-without : (us : List units.Unit) (m : Records R) (q : units.Unit) → finite.get (without us m) q ≡ cond (is_among us q) None (finite.get m q)
+  get-without us m q =
+      get-retain_keys m (λ u. not (is_among us u)) q (λ x t. ap (λ u. not (is_among us u)) (sym (one_unit q x t)))
+      ∙ not_cond (is_among us q) (finite.get m q) None
+
+  pub without_none : (m : Records R) → without [] m ≡ m
+  without_none m = same_records (without [] m) m (get-without [] m)
+
+  -- the records without one unit more
+  pub without_more : (us : List units.Unit) (u : units.Unit) (m : Records R) → finite.remove (without us m) u ≡ without (us ++ u ∷ []) m
+  without_more us u m = same_records (finite.remove (without us m) u) (without (us ++ u ∷ []) m) (λ q.
+      get-remove units_total (without us m) u q ∙ ap (cond (same_unit q u) None) (get-without us m q)
+      ∙ gone_once (is_among us q) (same_unit q u) (finite.get m q)
+      ∙ ap (λ b. cond b None (finite.get m q)) (sym (among_more us u q)) ∙ sym (get-without (us ++ u ∷ []) m q))
+
+  -- one turn of a loop that takes records out
+  pub without_next : (us : List units.Unit) (i : ℕ) (d : units.Unit) (old now new : Records R) → new ≡ finite.remove now (get_or us i d) → now ≡ without (take i us) old
+      → i < length us → new ≡ without (take (i + 1) us) old
+  without_next us i d old now new removed so_far within =
+      removed ∙ ap (λ m. finite.remove m (get_or us i d)) so_far ∙ without_more (take i us) (get_or us i d) old
+      ∙ ap (λ vs. without vs old) (sym (take_more us i d within))
+
+  -- what a unit has already changes nothing
+  pub with_kept_same : (m : Records R) (u : units.Unit) (o : Option R) → o ≡ finite.get m u → with_kept m u o ≡ m
+  with_kept_same m u o is = same_records (with_kept m u o) m (λ q.
+      get-with_kept m u o q ∙ kept_as_it_is (same_unit q u) o (finite.get m q) (λ h. is ∙ ap (finite.get m) (sym (same_unit-true q u h))))
+
+  sound_at : (f : Semantics R) (u q : units.Unit) (b : Bool) (o p : Option R) → (b ≡ true → q ≡ u) → is_sound f u o ≡ true → is_sound f q p ≡ true → is_sound f q (cond b o p) ≡ true
+  sound_at f u q true o p same new old = rw (same refl) new
+  sound_at f u q false o p same new old = old
+
+  -- records stay valid where a valid one is put
+  pub sound_with_kept : (f : Semantics R) (m : Records R) (u : units.Unit) (o : Option R) → AreSound f m → is_sound f u o ≡ true → AreSound f (with_kept m u o)
+  sound_with_kept f m u o old new q = rw (get-with_kept m u o q) (sound_at f u q (same_unit q u) o (finite.get m q) (same_unit-true q u) new (old q))

@@ -1,0 +1,11 @@
+-- The finite map of the entries that stand in memory. A step between code and definition: there is nothing here to believe.
+use Rattle.std.specs.Prelude.{List, [], ◌∷◌}
+use Rattle.std.specs.FinMap as finite
+use Rattle.nf_function.specs.declared.unit.Unit as units
+use Rattle.unit_map.specs.Entries.{Entries}
+use Rattle.record_table.specs.Table.{Records, with_kept}
+
+-- the records of the first entries of their units
+unfoldable pub map_of : {R : Type 0} → Entries units.Unit R → Records R
+map_of [] = finite.empty
+map_of (e ∷ entries) = with_kept (map_of entries) e.0 e.1

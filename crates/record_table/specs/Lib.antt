@@ -1,0 +1,5 @@
+pub mod Table
+pub mod Chunks
+pub mod Entries
+pub mod Refusals
+pub mod Keeping

@@ -1,0 +1,75 @@
+//! The records that chunks bring.
+ghost use Rattle.std.specs.Prelude.{◌≡◌, true, IfOk, OnOk, IfErr};
+ghost use Rattle.record_table.specs.Table.{AreSound};
+ghost use Rattle.record_table.specs.Chunks.{spelled, records_of, are_good, IsFirstBad};
+
+use crate::record_map::RecordMap;
+use crate::refusal::ImportFault;
+use basics::NoMemory;
+use nf_function::{Chunk, Chunks, Function, Unit};
+use state_chunk::{ChunkFault, decode};
+use std::alloc::{AllocError, Global};
+
+/// Why chunks give no records.
+#[derive(Clone, Copy, Debug)]
+pub(crate) enum ReadFault {
+    /// The chunk at this place is the first that is bad.
+    Bad(usize),
+    /// Memory ran out.
+    NoMemory,
+}
+
+impl From<AllocError> for ReadFault {
+    ghost use Rattle.std.specs.Prelude.{◌≡◌};
+    ghost use Rattle.record_table.specs.declared.reading.ReadFault.TheVariants.{NoMemory as OutOfMemory};
+
+    ghost from_gives = { λ _ e. e ≡ OutOfMemory };
+
+    fn from(_e: AllocError) -> ReadFault {
+        ReadFault::NoMemory
+    }
+}
+
+impl ReadFault {
+    /// The fault with the chunks that are handed back.
+    pub(crate) fn with_chunks(self, chunks: Chunks) -> ImportFault {
+        match self {
+            ReadFault::Bad(index) => ImportFault::Bad { index, chunks },
+            ReadFault::NoMemory => ImportFault::NoMemory(chunks),
+        }
+    }
+}
+
+/// The records that chunks spell.
+pub(crate) fn records_of<F: Function>(
+    alloc: Global,
+    chunks: &[Chunk],
+) -> Result<RecordMap<F::Record>, ReadFault>
+    ensures records { IfOk result (λ records. records ≡ records_of F.semantics chunks.now) }
+    ensures sound { IfOk result (λ records. AreSound F.semantics records) }
+    ensures good { OnOk result (are_good F.semantics chunks.now ≡ true) }
+    ensures bad { IfErr result (IsReadFault F.semantics chunks.now) }
+{
+    let mut records = RecordMap::open(alloc);
+    records.reserve(chunks.len())?;
+    for (index, chunk) in chunks.iter().enumerate() {
+        let Some((unit, record)) = spelled::<F>(alloc, chunk)? else {
+            return Err(ReadFault::Bad(index));
+        };
+        if !records.insert(unit, record)? {
+            return Err(ReadFault::Bad(index));
+        }
+    }
+    Ok(records)
+}
+
+/// The unit and the record that a chunk spells.
+fn spelled<F: Function>(alloc: Global, chunk: &Chunk) -> Result<Option<(Unit, F::Record)>, NoMemory>
+    ensures { IfOk result (λ found. found ≡ spelled F.semantics chunk.now) }
+{
+    match decode::<F>(alloc, chunk.bytes.items()) {
+        Ok(found) => Ok(Some(found)),
+        Err(ChunkFault::NoMemory) => Err(AllocError),
+        Err(_) => Ok(None),
+    }
+}

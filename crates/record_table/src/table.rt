@@ -1,0 +1,197 @@
+ghost use Rattle.std.specs.Prelude.{◌≡◌, ◌+◌, ◌≤◌, ℕ, Bool, true, false, not, if◌then◌else◌, List, map, length, option_map, IfOk, IfErr, OnOk, OnErr, None};
+ghost use Rattle.std.specs.Option.{option_copied};
+ghost use Rattle.std.specs.FinMap as finite;
+ghost use Rattle.flow_filter.specs.Flow.{flow_of};
+ghost use Rattle.nf_function.specs.declared.unit.Unit.{Unit as EachUnit};
+ghost use Rattle.nf_function.specs.Records.{newest};
+ghost use Rattle.nf_function.specs.Semantics.{kept_after, output_for, unit_at};
+ghost use Rattle.state_chunk.specs.Format.{record_chunk};
+ghost use Rattle.record_table.specs.Table.{empty, part, with_part, after_packet, same_unit, taken_by, is_among, without, either, newest_of, replaced_by};
+ghost use Rattle.record_table.specs.Chunks.{chunks_of, records_of, are_good, AreMadeOf, AreReadAs};
+ghost use Rattle.record_table.specs.Refusals.{IsRefusal, IsImportRefusal, is_bad};
+
+use crate::reading::{ReadFault, records_of};
+use crate::record_map::{Keep, RecordMap};
+use crate::refusal::ImportFault;
+use basics::NoMemory;
+use flow_filter::{Direction, Filter, Flow, Packet, Site, flow_of};
+use nf_function::{Chunk, Chunks, Function, Output, Unit, Units};
+use state_chunk::encode;
+use std::alloc::Global;
+use std::marker::Model;
+
+/// The records of an instance of a function, which contracts see as two finite maps.
+#[derive(Drop)]
+pub struct Table<F: Function> {
+    live: RecordMap<F::Record>,
+    standby: RecordMap<F::Record>,
+    alloc: Global,
+}
+
+impl<F: Function> Model for Table<F> {
+    ghost use Rattle.std.specs.FinMap as finite;
+    ghost use Rattle.nf_function.specs.contracts.unit.Unit as units;
+    ghost use Rattle.record_table.specs.Table.{TableView, table_code, AreSound};
+
+    ghost Value = { TableView F.Record };
+
+    ghost coded = { table_code (finite.code units.the_row.coded F.Record.code) };
+
+    ghost view = { λ t. record { live = t.live; standby = t.standby } };
+
+    ghost invariant = { λ t. AreSound F.semantics t.live × AreSound F.semantics t.standby };
+}
+
+/// What a step came to.
+#[derive(Clone, Copy, Debug, PartialEq, Eq)]
+pub struct Stepped {
+    /// The unit whose record was stepped.
+    pub unit: Unit,
+    pub output: Output,
+}
+
+impl<F: Function> Table<F> {
+    /// No records. This takes no memory.
+    pub fn open(alloc: Global) -> Self
+        ensures { result ≡ empty }
+    {
+        Table {
+            live: RecordMap::open(alloc),
+            standby: RecordMap::open(alloc),
+            alloc,
+        }
+    }
+
+    /// Steps the record of a packet's unit: the live one, or else the one that stands by. It is made where there is none.
+    pub fn step(&mut self, site: &Site, packet: &Packet, live: bool) -> Result<Stepped, NoMemory> {
+        let (flow, direction) = flow_of(site, packet);
+        self.step_along(site, flow, direction, packet, live)
+    }
+
+    /// The same, where the packet's flow and the direction in which it goes are at hand.
+    pub fn step_along(
+        &mut self,
+        site: &Site,
+        flow: Flow,
+        direction: Direction,
+        packet: &Packet,
+        live: bool,
+    ) -> Result<Stepped, NoMemory> {
+        let output = if live {
+            self.live.step::<F>(site, flow, direction, packet)?
+        } else {
+            self.standby.step::<F>(site, flow, direction, packet)?
+        };
+        Ok(Stepped {
+            unit: F::unit(&flow),
+            output,
+        })
+    }
+
+    /// The chunks of the live records of the units that a filter takes, in the order of the units.
+    pub fn select(&self, filter: &Filter) -> Result<Chunks, NoMemory> {
+        let records = self.live.ordered(Some(filter))?;
+        let mut chunks = Chunks::from_vec(Vec::with_capacity(self.alloc, records.len())?);
+        for (unit, record) in &records {
+            chunks.push(encode::<F>(self.alloc, unit, record)?)?;
+        }
+        Ok(chunks)
+    }
+
+    /// The chunk of a unit's record, if it has one.
+    pub fn one(&self, unit: &Unit, live: bool) -> Result<Option<Chunk>, NoMemory> {
+        match self.record(unit, live) {
+            Some(record) => Ok(Some(encode::<F>(self.alloc, unit, record)?)),
+            None => Ok(None),
+        }
+    }
+
+    /// Takes the live records of some units out, and gives how many there were. This takes no memory.
+    pub fn remove(&mut self, units: &Units) -> u32 {
+        let before = self.live.len();
+        self.live.remove(units.items());
+        before - self.live.len()
+    }
+
+    /// Makes the chunks' records live. Where a unit has a live record already, the newer of the two is kept.
+    ///
+    /// `total` is how many chunks come in all: these, and later ones that `restore` is to take in. All growth and all decoding come
+    /// before the first change.
+    pub fn import(&mut self, chunks: Chunks, total: u32, limit: u32) -> Result<(), ImportFault> {
+        let held = self.live_count();
+        if u64::from(held) + u64::from(total) > u64::from(limit) {
+            return Err(ImportFault::Limit {
+                held,
+                coming: total,
+                limit,
+                chunks,
+            });
+        }
+        self.restore(chunks)
+    }
+
+    /// The same without a limit.
+    pub fn restore(&mut self, chunks: Chunks) -> Result<(), ImportFault> {
+        self.take_in(true, Keep::Newest, chunks)
+    }
+
+    /// Lets the chunks' records stand by. Where a unit has such a record already, the newer of the two is kept.
+    pub fn set_standby(&mut self, chunks: Chunks) -> Result<(), ImportFault> {
+        self.take_in(false, Keep::Newest, chunks)
+    }
+
+    /// Sets the live records of the chunks' units to those of the chunks, or else those that stand by.
+    pub fn sync(&mut self, live: bool, chunks: Chunks) -> Result<(), ImportFault> {
+        self.take_in(live, Keep::Coming, chunks)
+    }
+
+    /// How many units have a live record.
+    pub fn live_count(&self) -> u32
+        ensures { result ≡ finite.len self.now.live }
+    {
+        self.live.len()
+    }
+
+    /// The units of the live records, or of those that stand by, in order.
+    pub fn units(&self, live: bool) -> Result<Units, NoMemory> {
+        let records = self.part(live).ordered(None)?;
+        let mut units = Units::from_vec(Vec::with_capacity(self.alloc, records.len())?);
+        for entry in &records {
+            units.push(entry.0)?;
+        }
+        Ok(units)
+    }
+
+    /// The live record of a unit, or else the one that stands by.
+    pub fn record(&self, unit: &Unit, live: bool) -> Option<&F::Record>
+        ensures { option_copied result ≡ finite.get (part self.now live) unit.now }
+    {
+        self.part(live).get(unit)
+    }
+
+    /// The live records, or else those that stand by.
+    fn part(&self, live: bool) -> &RecordMap<F::Record>
+        ensures { result.now ≡ part self.now live }
+    {
+        if live { &self.live } else { &self.standby }
+    }
+
+    /// Takes the chunks' records in.
+    fn take_in(&mut self, live: bool, keep: Keep, chunks: Chunks) -> Result<(), ImportFault> {
+        match self.join(live, keep, chunks.items()) {
+            Ok(()) => Ok(()),
+            Err(fault) => Err(fault.with_chunks(chunks)),
+        }
+    }
+
+    /// Reads the chunks, and then takes their records in.
+    fn join(&mut self, live: bool, keep: Keep, chunks: &[Chunk]) -> Result<(), ReadFault> {
+        let coming = records_of::<F>(self.alloc, chunks)?;
+        if live {
+            self.live.join::<F>(coming, keep)?;
+        } else {
+            self.standby.join::<F>(coming, keep)?;
+        }
+        Ok(())
+    }
+}
