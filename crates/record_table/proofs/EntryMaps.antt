@@ -1,6 +1,6 @@
 -- The entries that stand in memory as a finite map: its look-ups are theirs.
 use mir.Val.{bool_byte}
-use Rattle.std.proofs.Common.{◌≡◌, ℕ, ◌+◌, ◌≤◌, Bool, true, false, cond, List, [], ◌∷◌, length, Option, Some, None, refl, sym, ap, ◌∙◌, arith, is_some}
+use Rattle.std.proofs.Common.{◌≡◌, ℕ, ◌+◌, ◌^◌, ◌<◌, ◌≤◌, Bool, true, false, cond, List, [], ◌∷◌, length, Option, Some, None, refl, sym, ap, ◌∙◌, arith, is_some}
 use Rattle.std.specs.Prelude.{not}
 use Rattle.std.proofs.lemmas.Bool.{true≢false}
 use Rattle.std.specs.Map.{lookup, update}
@@ -10,11 +10,15 @@ use Rattle.nf_function.specs.declared.unit.Unit as units
 use Rattle.nf_function.specs.Units.{unit_cmp}
 use Rattle.nf_function.specs.UnitOrder.{units_total}
 use Rattle.unit_map.specs.Entries.{Entries, IsMap, held, record_of, record_at, is_place_of, with_record}
-use Rattle.unit_map.proofs.EntryLemmas.{record_at_place, record_with_record}
+use Rattle.unit_map.proofs.EntryLemmas.{record_at_place, record_with_record, map_with_record}
 use Rattle.record_table.specs.Table.{Records, same_unit, with_kept}
 use Rattle.record_table.specs.Entries.{map_of}
 use Rattle.record_table.proofs.UnitOrder.{unit_eq, tied, unit_eq_equiv, same_unit_equiv}
 use Rattle.record_table.proofs.RecordLookUps.{same_records, get-with_kept, count, len-with_kept}
+
+at_most_one_byte : (b : Bool) → bool_byte b ≤ 1
+at_most_one_byte true = omega arith
+at_most_one_byte false = omega arith
 
 module _ {R : Type 0} where
   held_first : (b : Bool) (w : Option R) (o : Option (Option R)) → held (cond b (Some w) o) ≡ cond b w (held o)
@@ -73,6 +77,13 @@ module _ {R : Type 0} where
   counted_off n m x true (Some r) is one after = omega (arith, one, after)
   counted_off n m x false (Some r) is one after = absurd (true≢false (sym is))
 
+  -- the number of records after one unit's record was changed
+  pub counted_by : (n m before after : ℕ) (old new : Option R) → before ≡ bool_byte (is_some old) → after ≡ bool_byte (is_some new) → m + count old ≡ n + count new → m + before ≡ n + after
+  counted_by n m before after None None was is step = omega (arith, was, is, step)
+  counted_by n m before after None (Some r) was is step = omega (arith, was, is, step)
+  counted_by n m before after (Some r) None was is step = omega (arith, was, is, step)
+  counted_by n m before after (Some r) (Some s) was is step = omega (arith, was, is, step)
+
   module _ (old placed : Entries units.Unit R) (place : ℕ) (u : units.Unit) (map : IsMap unit_eq placed)
       (found : is_place_of unit_eq placed place u ≡ true) (same : (q : units.Unit) → record_of unit_eq placed q ≡ record_of unit_eq old q) where
     -- what stands at a unit's place is what the map has for it
@@ -84,9 +95,13 @@ module _ {R : Type 0} where
     put_at o = put old (with_record placed place o) u o (λ q.
         record_with_record unit_eq unit_eq_equiv q placed place u o map.distinct found ∙ ap (cond (unit_eq u q) o) (same q))
 
-  -- the number of records after one unit's record was changed
-  pub counted_by : (n m before after : ℕ) (old new : Option R) → before ≡ bool_byte (is_some old) → after ≡ bool_byte (is_some new) → m + count old ≡ n + count new → m + before ≡ n + after
-  counted_by n m before after None None was is step = omega (arith, was, is, step)
-  counted_by n m before after None (Some r) was is step = omega (arith, was, is, step)
-  counted_by n m before after (Some r) None was is step = omega (arith, was, is, step)
-  counted_by n m before after (Some r) (Some s) was is step = omega (arith, was, is, step)
+    module _ (now o : Option R) (n before after : ℕ) (is : n ≡ finite.len (map_of old)) (read : now ≡ record_at placed place)
+        (was : before ≡ bool_byte (is_some now)) (becomes : after ≡ bool_byte (is_some o)) where
+      -- how many records there are then
+      pub counted_at : finite.len (map_of (with_record placed place o)) + before ≡ n + after
+      counted_at = rw is (counted_by (finite.len (map_of old)) (finite.len (map_of (with_record placed place o))) before after now o was becomes
+          (rw (read, kept_at, get-map_of old u) (put_at o).counted))
+
+      -- that number is within its type
+      pub within_at : n + after < 2 ^ 32
+      within_at = omega (arith, counted_at, len-map_of (with_record placed place o), (map_with_record unit_eq unit_eq_equiv placed place o map).few, at_most_one_byte (is_some now), was)

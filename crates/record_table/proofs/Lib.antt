@@ -2,3 +2,5 @@ pub mod UnitOrder
 pub mod RecordLookUps
 pub mod EntryMaps
 pub mod Results
+pub mod ChunkFronts
+pub mod Joining

@@ -56,7 +56,8 @@ module _ {R : Type 0} where
   get-with_kept m u None q = get-remove units_total m u q
   get-with_kept m u (Some r) q = get-insert units_total m u r q
 
-  abbrev at : List (units.Unit × R) → units.Unit → Option R
+  -- what a list of entries has for a unit
+  abbrev pub at : List (units.Unit × R) → units.Unit → Option R
   at es q = find unit_cmp q es
 
   either_none : (choose : R → R → R) (o : Option R) → o ≡ either choose o None
@@ -89,10 +90,11 @@ module _ {R : Type 0} where
   -- a map with a record isn't empty
   has_one : (m : Records R) (u : units.Unit) → finite.contains_key m u ≡ true → 1 ≤ finite.len m
   has_one m u has = elim (finite.len m) as (λ n. finite.len m ≡ n → 1 ≤ n) [
-      | zero ↦ λ none. absurd (true≢false (sym has ∙ ap (λ n. finite.contains_key n u) (empty_of_len m none) ∙ ap is_some (get-empty unit_cmp u)))
-      | suc n ↦ λ some. omega arith
-    ] refl
+    | zero ↦ λ none. absurd (true≢false (sym has ∙ ap (λ n. finite.contains_key n u) (empty_of_len m none) ∙ ap is_some (get-empty unit_cmp u)))
+    | suc n ↦ λ some. omega arith
+  ] refl
 
+  -- one record, or none
   abbrev pub count : Option R → ℕ
   count o = cond (is_some o) 1 0
 

@@ -1,7 +1,8 @@
 //! The records that chunks bring.
-ghost use Rattle.std.specs.Prelude.{◌≡◌, true, IfOk, OnOk, IfErr};
+ghost use Rattle.std.specs.Prelude.{◌≡◌, true, IfOk, IfSome, OnOk, IfErr};
 ghost use Rattle.record_table.specs.Table.{AreSound};
-ghost use Rattle.record_table.specs.Chunks.{spelled, records_of, are_good, IsFirstBad};
+ghost use Rattle.record_table.specs.Chunks.{spelled, records_of, are_good};
+ghost use Rattle.record_table.specs.Keeping.{IsReadFault, fault_with};
 
 use crate::record_map::RecordMap;
 use crate::refusal::ImportFault;
@@ -32,7 +33,9 @@ impl From<AllocError> for ReadFault {
 
 impl ReadFault {
     /// The fault with the chunks that are handed back.
-    pub(crate) fn with_chunks(self, chunks: Chunks) -> ImportFault {
+    pub(crate) fn with_chunks(self, chunks: Chunks) -> ImportFault
+        ensures { result ≡ fault_with self chunks }
+    {
         match self {
             ReadFault::Bad(index) => ImportFault::Bad { index, chunks },
             ReadFault::NoMemory => ImportFault::NoMemory(chunks),
@@ -65,7 +68,8 @@ pub(crate) fn records_of<F: Function>(
 
 /// The unit and the record that a chunk spells.
 fn spelled<F: Function>(alloc: Global, chunk: &Chunk) -> Result<Option<(Unit, F::Record)>, NoMemory>
-    ensures { IfOk result (λ found. found ≡ spelled F.semantics chunk.now) }
+    ensures found { IfOk result (λ found. found ≡ spelled F.semantics chunk.now) }
+    ensures valid { IfOk result (λ found. IfSome found (λ x. F.semantics.is_valid x.0 x.1 ≡ true)) }
 {
     match decode::<F>(alloc, chunk.bytes.items()) {
         Ok(found) => Ok(Some(found)),

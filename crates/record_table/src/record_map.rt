@@ -4,7 +4,8 @@ ghost use Rattle.std.specs.Option.{option_copied};
 ghost use Rattle.std.specs.FinMap as finite;
 ghost use Rattle.flow_filter.specs.Flow.{flow_of};
 ghost use Rattle.nf_function.specs.Semantics.{output_for, unit_at};
-ghost use Rattle.record_table.specs.Table.{after_packet, with_kept, without, is_among, joined, AreSound};
+ghost use Rattle.record_table.specs.Table.{after_packet, with_kept, without, either, joined, AreSound};
+ghost use Rattle.record_table.specs.Keeping.{choice};
 
 use crate::ordered::ordered;
 use basics::NoMemory;
@@ -51,8 +52,6 @@ pub(crate) enum Keep {
 }
 
 impl<R: Drop> RecordMap<R> {
-    ghost use Rattle.record_table.specs.Keeping.{choice};
-
     /// No records. This takes no memory.
     pub(crate) fn open(alloc: Global) -> Self
         ensures { result ≡ finite.empty }
@@ -154,20 +153,26 @@ impl<R: Drop> RecordMap<R> {
         let units: Vec<Unit> = entries.iter().map(|entry| entry.0).collect(self.alloc)?;
         let mut places = self.records.places(&units)?;
         while let Some(place) = places.pop() {
-            let Some((_, Some(record))) = entries.pop() else {
+            let Some((_, coming)) = entries.pop() else {
                 continue;
             };
             let kept = self.records.record_mut(place);
-            self.count += u32::from(kept.is_none());
-            put::<F>(kept, record, keep);
+            let before = u32::from(kept.is_some());
+            put::<F>(kept, coming, keep);
+            let after = u32::from(kept.is_some());
+            self.count = self.count + after - before;
         }
         Ok(())
     }
 }
 
-/// Puts a record in a place that may hold one already.
-fn put<F: Function>(kept: &mut Option<F::Record>, coming: F::Record, keep: Keep)
+/// Puts what comes in a place that may hold a record already.
+fn put<F: Function>(kept: &mut Option<F::Record>, coming: Option<F::Record>, keep: Keep)
+    ensures { kept.new ≡ either (choice F.semantics keep) kept.old coming }
 {
+    let Some(coming) = coming else {
+        return;
+    };
     if let Some(held) = kept {
         if matches!(keep, Keep::Newest) && F::newer(held, &coming) {
             return;

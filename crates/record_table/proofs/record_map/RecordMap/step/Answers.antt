@@ -10,15 +10,11 @@ use Rattle.record_table.specs.Table.{AreSound, with_kept}
 use Rattle.record_table.specs.Entries.{map_of}
 use Rattle.record_table.proofs.UnitOrder.{unit_eq, unit_eq_equiv}
 use Rattle.record_table.proofs.RecordLookUps.{with_kept_same, sound_with_kept}
-use Rattle.record_table.proofs.EntryMaps.{IsPut, put_at, kept_at, map_of-same, get-map_of, len-map_of, counted_by}
+use Rattle.record_table.proofs.EntryMaps.{IsPut, put_at, kept_at, map_of-same, get-map_of, counted_at, within_at}
 use Rattle.record_table.proofs.Results.{on_err_given}
 use Rattle.record_table.proofs.record_map.RecordMap.step.Given.{Over}
 use Rattle.record_table.proofs.record_map.RecordMap.step.Goals as goal
 use Rattle.record_table.proofs.record_map.RecordMap.step.Goals.{In_err-place, After-record_mut-kept}
-
-at_most_one : (b : Bool) → bool_byte b ≤ 1
-at_most_one true = omega arith
-at_most_one false = omega arith
 
 -- no record changes where no place is had
 unchanged : (g : Over) (c : In_err-place g) → map_of c.place.new.self ≡ c.args.self.now
@@ -42,13 +38,6 @@ refused : (g : Over) (c : After-record_mut-kept g) (o : Option g.row.R.Denot) �
 refused g c o same =
     (written g c o).map ∙ ap (λ m. with_kept m c.unit.result o) c.self.view_is ∙ with_kept_same c.args.self.now c.unit.result o (same ∙ before_is g c)
 
--- how many records there are then
-counted : (g : Over) (c : After-record_mut-kept g) (o : Option g.row.R.Denot) (before after : ℕ) → before ≡ bool_byte (is_some c.record_mut-kept.result.now) → after ≡ bool_byte (is_some o)
-    → finite.len (map_of (with_record c.place.new.self c.in_ok-place.place o)) + before ≡ c.self.inside.count + after
-counted g c o before after was is =
-    rw c.self.invariant (counted_by _ _ before after c.record_mut-kept.result.now o was is
-    (rw (before_is g c ∙ ap (λ m. finite.get m c.unit.result) (sym c.self.view_is) ∙ get-map_of c.self.inside.records c.unit.result) (written g c o).counted))
-
 pub invariant_of-self : goal.invariant_of-self
 invariant_of-self g c = c.self.invariant ∙ ap finite.len (c.self.view_is ∙ sym (unchanged g (goal.at.invariant_of-self g c).In_err-place))
 
@@ -69,14 +58,15 @@ returns-in_err-output-clause-err g c = on_err_given c.from_residual-in_err-outpu
 
 pub overflow_add-self : goal.overflow_add-self
 overflow_add-self g c =
-    let es = with_record c.place.new.self c.in_ok-place.place c.step_along.new.kept in
-    let few = (map_with_record unit_eq unit_eq_equiv c.place.new.self c.in_ok-place.place c.step_along.new.kept c.place.ensures.map).few in
-    omega (arith, counted g (goal.at.overflow_add-self g c).After-record_mut-kept c.step_along.new.kept c.from-before.result c.from-after.result
-        (c.from-before.ensures ∙ ap bool_byte c.is_some.ensures) (c.from-after.ensures ∙ ap bool_byte c.is_some-2.ensures), len-map_of es, few, at_most_one c.is_some.result, c.from-before.ensures)
+    omega (arith, within_at c.self.inside.records c.place.new.self c.in_ok-place.place c.unit.result c.place.ensures.map c.in_ok-place.ensures.found c.place.ensures.same
+    c.record_mut-kept.result.now c.step_along.new.kept c.self.inside.count c.from-before.result c.from-after.result c.self.invariant c.record_mut-kept.ensures.value
+    (c.from-before.ensures ∙ ap bool_byte c.is_some.ensures) (c.from-after.ensures ∙ ap bool_byte c.is_some-2.ensures))
 
 pub invariant_of-self-2 : goal.invariant_of-self-2
-invariant_of-self-2 g c = omega (arith, counted g (goal.at.invariant_of-self-2 g c).After-record_mut-kept c.step_along.new.kept c.from-before.result c.from-after.result
-        (c.from-before.ensures ∙ ap bool_byte c.is_some.ensures) (c.from-after.ensures ∙ ap bool_byte c.is_some-2.ensures))
+invariant_of-self-2 g c =
+    omega (arith, counted_at c.self.inside.records c.place.new.self c.in_ok-place.place c.unit.result c.place.ensures.map c.in_ok-place.ensures.found c.place.ensures.same
+    c.record_mut-kept.result.now c.step_along.new.kept c.self.inside.count c.from-before.result c.from-after.result c.self.invariant c.record_mut-kept.ensures.value
+    (c.from-before.ensures ∙ ap bool_byte c.is_some.ensures) (c.from-after.ensures ∙ ap bool_byte c.is_some-2.ensures))
 
 pub returns-clause-records : goal.returns-clause-records
 returns-clause-records g c =

@@ -1,0 +1,23 @@
+-- What is left to take in, taken into what is held by now, gives what all gives.
+use Rattle.std.proofs.Common.{◌≡◌, vec_len, true}
+use Rattle.std.specs.List.{AllZip}
+use Rattle.std.specs.Map.{keys_of}
+use Rattle.std.specs.FinMap as finite
+use Rattle.unit_map.specs.Entries.{IsMap, is_place_of}
+use Rattle.record_table.specs.Table.{joined}
+use Rattle.record_table.specs.Entries.{map_of}
+use Rattle.record_table.specs.Keeping.{choice}
+use Rattle.record_table.proofs.UnitOrder.{unit_eq}
+use Rattle.record_table.proofs.record_map.RecordMap.join.Given as goal
+
+abbrev pub invariant-loop-place : goal.invariant-loop-place
+invariant-loop-place g l = record {
+  held : IsMap unit_eq l.self-inside.records;
+  left : IsMap unit_eq l.entries.items;
+  found : AllZip (λ u place. is_place_of unit_eq l.self-inside.records place u ≡ true) (keys_of l.entries.items) l.places.items;
+  count : l.self-inside.count ≡ finite.len (map_of l.self-inside.records);
+  whole : joined (choice g.F.Function.semantics l.keep) (map_of l.self-inside.records) (map_of l.entries.items) ≡ joined (choice g.F.Function.semantics l.keep) l.fn.self l.fn.coming;
+}
+
+abbrev pub decreases-loop-place : goal.decreases-loop-place
+decreases-loop-place g l = vec_len l.places
