@@ -100,8 +100,8 @@ module _ {R : Type 0} where
         get-joined choose (map_of new) (map_of left) q
         ∙ ap (λ p. either choose p (finite.get (map_of left) q)) (ap (λ m. finite.get m q) is.map ∙ get-with_kept (map_of now) u (either choose (finite.get (map_of now) u) o) q)
         ∙ taken_in (same_unit q u) (finite.get (map_of now) u) (finite.get (map_of now) q) (finite.get (map_of left) q) o
-            (λ h. ap (finite.get (map_of now)) (same_unit-true q u h))
-            (λ h. ap (finite.get (map_of left)) (same_unit-true q u h) ∙ get-map_of left u ∙ ap held absent)
+        (λ h. ap (finite.get (map_of now)) (same_unit-true q u h))
+        (λ h. ap (finite.get (map_of left)) (same_unit-true q u h) ∙ get-map_of left u ∙ ap held absent)
         ∙ ap (either choose (finite.get (map_of now) q)) (sym (get-last left u o q absent))
         ∙ sym (get-joined choose (map_of now) (map_of (left ++ (u, o) ∷ [])) q))
 

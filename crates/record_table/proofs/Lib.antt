@@ -4,3 +4,5 @@ pub mod EntryMaps
 pub mod Results
 pub mod ChunkFronts
 pub mod Joining
+pub mod InOrder
+pub mod SortedEntries

@@ -1,6 +1,7 @@
 -- Which record is kept where one is held and one comes, which records are listed, and why chunks give no records. Steps between
 -- code and definition: there is nothing here to believe.
-use Rattle.std.specs.Prelude.{Bool, true, List, Option, None, Some}
+use Rattle.std.specs.Prelude.{Bool, true, if◌then◌else◌, List, Option, None, Some}
+use Rattle.std.specs.List.{filter_map}
 use Rattle.std.specs.FinMap as finite
 use Rattle.flow_filter.specs.declared.filter.Filter.{Filter}
 use Rattle.nf_function.specs.declared.chunk.Chunk.{Chunk}
@@ -8,6 +9,7 @@ use Rattle.nf_function.specs.declared.unit.Unit as units
 use Rattle.nf_function.specs.Units.{takes}
 use Rattle.nf_function.specs.Records.{newest}
 use Rattle.nf_function.specs.Semantics.{Semantics}
+use Rattle.unit_map.specs.Entries.{Entries}
 use Rattle.record_table.specs.declared.reading.ReadFault.{ReadFault}
 use Rattle.record_table.specs.declared.reading.ReadFault.TheVariants.{Bad, NoMemory}
 use Rattle.record_table.specs.declared.refusal.ImportFault.{ImportFault}
@@ -29,6 +31,14 @@ is_taken (Some filter) unit = takes filter unit
 -- the records of such units
 abbrev pub taken : {R : Type 0} → Option Filter → Records R → Records R
 taken filter records = finite.retain_keys records (is_taken filter)
+
+-- the record of an entry, where it has one and its unit is such a unit
+abbrev pub found : {R : Type 0} → Option Filter → units.Unit × Option R → Option (units.Unit × R)
+found filter (unit, None) = None
+found filter (unit, Some r) = if is_taken filter unit then Some (unit, r) else None
+
+abbrev pub all_found : {R : Type 0} → Option Filter → Entries units.Unit R → List (units.Unit × R)
+all_found filter entries = filter_map (found filter) entries
 
 abbrev pub IsReadFault : {R : Type 0} → Semantics R → List Chunk → ReadFault → Type 0
 IsReadFault f chunks (Bad place) = IsFirstBad f chunks place

@@ -1,11 +1,11 @@
 //! The records of units, as a finite map.
-ghost use Rattle.std.specs.Prelude.{◌≡◌, ℕ, Bool, true, not, is_some, Some, List, IfOk, OnOk, OnErr};
+ghost use Rattle.std.specs.Prelude.{◌≡◌, true, not, Some, map, IfOk, OnOk, OnErr};
 ghost use Rattle.std.specs.Option.{option_copied};
 ghost use Rattle.std.specs.FinMap as finite;
 ghost use Rattle.flow_filter.specs.Flow.{flow_of};
 ghost use Rattle.nf_function.specs.Semantics.{output_for, unit_at};
 ghost use Rattle.record_table.specs.Table.{after_packet, with_kept, without, either, joined, AreSound};
-ghost use Rattle.record_table.specs.Keeping.{choice};
+ghost use Rattle.record_table.specs.Keeping.{choice, taken};
 
 use crate::ordered::ordered;
 use basics::NoMemory;
@@ -78,7 +78,9 @@ impl<R: Drop> RecordMap<R> {
     }
 
     /// The records of the units that a filter takes, or of all units, in the order of the units.
-    pub(crate) fn ordered(&self, filter: Option<&Filter>) -> Result<Vec<(Unit, &R)>, NoMemory> {
+    pub(crate) fn ordered(&self, filter: Option<&Filter>) -> Result<Vec<(Unit, &R)>, NoMemory>
+        ensures { IfOk result (λ found. map (λ e. (e.0, e.1.now)) found.items ≡ finite.entries (taken (option_copied filter.entry) self.now)) }
+    {
         ordered(self.alloc, self.records.entries(), filter)
     }
 

@@ -31,9 +31,9 @@ returns-in_err-places-clause-err g c =
 pub loop-place-init : goal.loop-place-init
 loop-place-init g c =
     let units : c.in_ok-units.units.items ≡ map (λ e. e.0) c.into_entries-entries.result.items =
-            IfOk-at_ok _ c.in_ok-units.was (items_from_collect c.collect.result c.collect.ensures.ran
-            (YieldsList-from_map _ (λ e. e.0) (YieldsList-at c.map.ensures.source (YieldsList-from_slice c.into_entries-entries.result.items (c.iter.ensures.rest ∙ c.deref.ensures.value)))
-            c.map.ensures.closure (λ x r q k. search rules))) in
+    IfOk-at_ok _ c.in_ok-units.was (items_from_collect c.collect.result c.collect.ensures.ran
+    (YieldsList-from_map _ (λ e. e.0) (YieldsList-at c.map.ensures.source (YieldsList-from_slice c.into_entries-entries.result.items (c.iter.ensures.rest ∙ c.deref.ensures.value)))
+    c.map.ensures.closure (λ x r q k. search rules))) in
     let same = map_of-same c.self.inside.records c.places.new.self c.places.ensures.same in
     record {
       held = c.places.ensures.map;
@@ -50,7 +50,7 @@ last : (g : Over) (c : In-Some-pop g) → AllZip (λ u place. is_place_of unit_e
 last g c =
     let left = c.pop-in-Some.new.self.items in
     let keys : keys_of c.loop-place.entries.items ≡ keys_of left ++ c.in-Some-pop.field-0-0 ∷ [] =
-        ap keys_of c.in-Some-pop.ensures.items ∙ keys_added unit_eq c.in-Some-pop.field-0-0 c.in-Some-pop.coming left in
+    ap keys_of c.in-Some-pop.ensures.items ∙ keys_added unit_eq c.in-Some-pop.field-0-0 c.in-Some-pop.coming left in
     zip_front _ (keys_of left) c.pop.new.self.items c.in-Some-pop.field-0-0 c.in-Some.place (rw (keys, c.in-Some.ensures.items) at c.loop-place.invariant.found)
 
 pub record_mut-kept-requires : goal.record_mut-kept-requires
@@ -59,9 +59,12 @@ record_mut-kept-requires g c = place_within unit_eq c.in-Some-pop.field-0-0 c.lo
 pub overflow_add-self : goal.overflow_add-self
 overflow_add-self g c =
     let now = c.loop-place.self-inside.records in
-    omega (arith, within_at now now c.in-Some.place c.in-Some-pop.field-0-0 c.loop-place.invariant.held (last g (goal.at.overflow_add-self g c).In-Some-pop).1 (λ q. refl)
-    c.record_mut-kept.result.now c.put.new.kept c.loop-place.self-inside.count c.from-before.result c.from-after.result c.loop-place.invariant.count c.record_mut-kept.ensures.value
-    (c.from-before.ensures ∙ ap bool_byte c.is_some.ensures) (c.from-after.ensures ∙ ap bool_byte c.is_some-in-Some.ensures))
+    omega (
+      arith,
+      within_at now now c.in-Some.place c.in-Some-pop.field-0-0 c.loop-place.invariant.held (last g (goal.at.overflow_add-self g c).In-Some-pop).1 (λ q. refl)
+          c.record_mut-kept.result.now c.put.new.kept c.loop-place.self-inside.count c.from-before.result c.from-after.result c.loop-place.invariant.count c.record_mut-kept.ensures.value
+          (c.from-before.ensures ∙ ap bool_byte c.is_some.ensures) (c.from-after.ensures ∙ ap bool_byte c.is_some-in-Some.ensures),
+    )
 
 pub loop-place-preserved : goal.loop-place-preserved
 loop-place-preserved g c =
@@ -73,15 +76,18 @@ loop-place-preserved g c =
     let ends = last g (goal.at.loop-place-preserved g c).In-Some-pop in
     let all : IsMap unit_eq (left ++ (u, c.in-Some-pop.coming) ∷ []) = rw c.in-Some-pop.ensures.items at c.loop-place.invariant.left in
     let held : c.put.new.kept ≡ either choose (finite.get (map_of now) u) c.in-Some-pop.coming =
-        c.put.ensures ∙ ap (λ o. either choose o c.in-Some-pop.coming) (c.record_mut-kept.ensures.value ∙ kept_at now now place u c.loop-place.invariant.held ends.1 (λ q. refl)) in
+    c.put.ensures ∙ ap (λ o. either choose o c.in-Some-pop.coming) (c.record_mut-kept.ensures.value ∙ kept_at now now place u c.loop-place.invariant.held ends.1 (λ q. refl)) in
     record {
       held = map_with_record unit_eq unit_eq_equiv now place c.put.new.kept c.loop-place.invariant.held;
       left = map_front left u c.in-Some-pop.coming all;
       found = zip_weaker (λ v p. is_place_of unit_eq now p v ≡ true) (λ v p. is_place_of unit_eq (with_record now place c.put.new.kept) p v ≡ true)
           (λ v p h. rw (same_places now place c.put.new.kept p v) h) (keys_of left) c.pop.new.self.items ends.0;
-      count = omega (arith, counted_at now now place u c.loop-place.invariant.held ends.1 (λ q. refl)
-          c.record_mut-kept.result.now c.put.new.kept c.loop-place.self-inside.count c.from-before.result c.from-after.result c.loop-place.invariant.count c.record_mut-kept.ensures.value
-          (c.from-before.ensures ∙ ap bool_byte c.is_some.ensures) (c.from-after.ensures ∙ ap bool_byte c.is_some-in-Some.ensures));
+      count = omega (
+        arith,
+        counted_at now now place u c.loop-place.invariant.held ends.1 (λ q. refl)
+            c.record_mut-kept.result.now c.put.new.kept c.loop-place.self-inside.count c.from-before.result c.from-after.result c.loop-place.invariant.count c.record_mut-kept.ensures.value
+            (c.from-before.ensures ∙ ap bool_byte c.is_some.ensures) (c.from-after.ensures ∙ ap bool_byte c.is_some-in-Some.ensures),
+      );
       whole = whole_more choose now (with_record now place c.put.new.kept) left u c.in-Some-pop.coming
           (rw (← held) (put_at now now place u c.loop-place.invariant.held ends.1 (λ q. refl) c.put.new.kept)) all
           ∙ ap (λ es. joined choose (map_of now) (map_of es)) (sym c.in-Some-pop.ensures.items) ∙ c.loop-place.invariant.whole;

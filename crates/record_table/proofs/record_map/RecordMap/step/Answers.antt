@@ -58,15 +58,21 @@ returns-in_err-output-clause-err g c = on_err_given c.from_residual-in_err-outpu
 
 pub overflow_add-self : goal.overflow_add-self
 overflow_add-self g c =
-    omega (arith, within_at c.self.inside.records c.place.new.self c.in_ok-place.place c.unit.result c.place.ensures.map c.in_ok-place.ensures.found c.place.ensures.same
-    c.record_mut-kept.result.now c.step_along.new.kept c.self.inside.count c.from-before.result c.from-after.result c.self.invariant c.record_mut-kept.ensures.value
-    (c.from-before.ensures ∙ ap bool_byte c.is_some.ensures) (c.from-after.ensures ∙ ap bool_byte c.is_some-2.ensures))
+    omega (
+      arith,
+      within_at c.self.inside.records c.place.new.self c.in_ok-place.place c.unit.result c.place.ensures.map c.in_ok-place.ensures.found c.place.ensures.same
+          c.record_mut-kept.result.now c.step_along.new.kept c.self.inside.count c.from-before.result c.from-after.result c.self.invariant c.record_mut-kept.ensures.value
+          (c.from-before.ensures ∙ ap bool_byte c.is_some.ensures) (c.from-after.ensures ∙ ap bool_byte c.is_some-2.ensures),
+    )
 
 pub invariant_of-self-2 : goal.invariant_of-self-2
 invariant_of-self-2 g c =
-    omega (arith, counted_at c.self.inside.records c.place.new.self c.in_ok-place.place c.unit.result c.place.ensures.map c.in_ok-place.ensures.found c.place.ensures.same
-    c.record_mut-kept.result.now c.step_along.new.kept c.self.inside.count c.from-before.result c.from-after.result c.self.invariant c.record_mut-kept.ensures.value
-    (c.from-before.ensures ∙ ap bool_byte c.is_some.ensures) (c.from-after.ensures ∙ ap bool_byte c.is_some-2.ensures))
+    omega (
+      arith,
+      counted_at c.self.inside.records c.place.new.self c.in_ok-place.place c.unit.result c.place.ensures.map c.in_ok-place.ensures.found c.place.ensures.same
+          c.record_mut-kept.result.now c.step_along.new.kept c.self.inside.count c.from-before.result c.from-after.result c.self.invariant c.record_mut-kept.ensures.value
+          (c.from-before.ensures ∙ ap bool_byte c.is_some.ensures) (c.from-after.ensures ∙ ap bool_byte c.is_some-2.ensures),
+    )
 
 pub returns-clause-records : goal.returns-clause-records
 returns-clause-records g c =
