@@ -18,13 +18,13 @@ use Rattle.record_table.proofs.UnitOrder.{same_unit-true}
 use Rattle.record_table.proofs.RecordLookUps.{same_records, at}
 
 -- a test of numbers
-equal_from : (a b : ℕ) → (a == b) ≡ true → a ≡ b
+pub equal_from : (a b : ℕ) → (a == b) ≡ true → a ≡ b
 equal_from a b h = grind (arith, nat_tests)
 
-equal_to : (a b : ℕ) → a ≡ b → (a == b) ≡ true
+pub equal_to : (a b : ℕ) → a ≡ b → (a == b) ≡ true
 equal_to a b h = grind (arith, nat_tests)
 
-less_to : (a b : ℕ) → a < b → (a == b) ≡ false
+pub less_to : (a b : ℕ) → a < b → (a == b) ≡ false
 less_to a b h = grind (arith, nat_tests)
 
 some_from : {X : Type 0} (o : Option X) → is_some o ≡ false → o ≡ None
@@ -111,7 +111,7 @@ module _ {R : Type 0} (f : Semantics R) where
   first_bad cs i c within read good bad = record {
     within = within;
     earlier = good;
-    bad = subst (λ xs. are_good f xs ≡ false) (ap (λ x. take i cs ++ x ∷ []) read ∙ sym (take_more cs i c within)) bad;
+    spoilt = subst (λ xs. are_good f xs ≡ false) (ap (λ x. take i cs ++ x ∷ []) read ∙ sym (take_more cs i c within)) bad;
   }
 
   -- no chunks bring no records, and none of them is bad

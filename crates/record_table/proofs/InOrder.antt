@@ -122,18 +122,18 @@ module _ {R : Type 0} (filter : Option Filter) where
   still_apart u [] apart = tt
   still_apart u ((v, None) ∷ es) apart = still_apart u es apart.1
   still_apart u ((v, Some r) ∷ es) apart = elim (is_taken filter v) as (λ t. AllByRecursion (λ x. same_unit u x ≡ false) (keys_of (cons_option (cond t (Some (v, r)) None) (all_found filter es)))) [
-      | true ↦ (sym (tied u v) ∙ apart.0, still_apart u es apart.1)
-      | false ↦ still_apart u es apart.1
-    ]
+    | true ↦ (sym (tied u v) ∙ apart.0, still_apart u es apart.1)
+    | false ↦ still_apart u es apart.1
+  ]
 
   pub found_once : (es : Entries units.Unit R) → IsDistinct unit_eq (keys_of es) → IsDistinct same_unit (keys_of (all_found filter es))
   unfolding IsDistinct
   found_once [] d = tt
   found_once ((u, None) ∷ es) d = found_once es d.1
   found_once ((u, Some r) ∷ es) d = elim (is_taken filter u) as (λ t. IsDistinct same_unit (keys_of (cons_option (cond t (Some (u, r)) None) (all_found filter es)))) [
-      | true ↦ (still_apart u es d.0, found_once es d.1)
-      | false ↦ found_once es d.1
-    ]
+    | true ↦ (still_apart u es d.0, found_once es d.1)
+    | false ↦ found_once es d.1
+  ]
 
   module _ (before after : List (units.Unit × Bor R)) (es : Entries units.Unit R) (distinct : IsDistinct unit_eq (keys_of es)) (was : seen before ≡ all_found filter es)
       (moved : IsPermutation before after) (sorted : IsSortedByKey (λ x. x.0) unit_cmp after) where
@@ -143,8 +143,8 @@ module _ {R : Type 0} (filter : Option Filter) where
         let moved_seen : IsPermutation (all_found filter es) (seen after) = subst (λ xs. IsPermutation xs (seen after)) was (IsPermutation-map (λ (e : units.Unit × Bor R). (e.0, e.1.now)) before after moved) in
         let once = found_once es distinct in
         let once_after : IsDistinct same_unit (keys_of (seen after)) =
-            IsDistinct-IsPermutation same_unit same_unit_equiv.symm (keys_of (all_found filter es)) (keys_of (seen after)) (IsPermutation-map (λ (e : units.Unit × R). e.0) _ _ moved_seen) once in
+        IsDistinct-IsPermutation same_unit same_unit_equiv.symm (keys_of (all_found filter es)) (keys_of (seen after)) (IsPermutation-map (λ (e : units.Unit × R). e.0) _ _ moved_seen) once in
         let keys : keys_of (seen after) ≡ keys_of after = keys_seen after in
         in_order (seen after) (taken filter (map_of es))
-          (subst (IsStrictlySortedBy unit_cmp) (sym keys) (strictly after sorted (subst (IsDistinct same_unit) keys once_after)))
-          (λ q. sym (at-permuted (all_found filter es) (seen after) once once_after moved_seen q) ∙ found_at es q distinct)
+        (subst (IsStrictlySortedBy unit_cmp) (sym keys) (strictly after sorted (subst (IsDistinct same_unit) keys once_after)))
+        (λ q. sym (at-permuted (all_found filter es) (seen after) once once_after moved_seen q) ∙ found_at es q distinct)

@@ -6,3 +6,4 @@ pub mod ChunkFronts
 pub mod Joining
 pub mod InOrder
 pub mod SortedEntries
+pub mod MadeChunks

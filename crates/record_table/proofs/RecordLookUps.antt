@@ -10,8 +10,10 @@ use Rattle.std.specs.FinMap.{find, same_map, get-empty, get-insert, get-remove, 
 use Rattle.nf_function.specs.declared.unit.Unit as units
 use Rattle.nf_function.specs.Units.{unit_cmp}
 use Rattle.nf_function.specs.UnitOrder.{units_total}
-use Rattle.record_table.specs.Table.{Records, same_unit, with_kept, is_among, without, either, chosen, joined, AreSound}
-use Rattle.nf_function.specs.Semantics.{Semantics, is_sound}
+use Rattle.record_table.specs.Table.{Records, same_unit, with_kept, is_among, without, either, chosen, joined, after_packet, AreSound, TableView, part, with_part}
+use Rattle.nf_function.specs.Semantics.{Semantics, is_sound, kept_after, unit_at}
+use Rattle.flow_filter.specs.declared.packet.Packet.{Packet}
+use Rattle.flow_filter.specs.declared.site.Site.{Site}
 use Rattle.record_table.proofs.UnitOrder.{one_unit, same_unit-true}
 
 one_less : (b : Bool) (n m : ℕ) → (b ≡ true → 1 ≤ n) → m ≡ cond b (n - 1) n → m + cond b 1 0 ≡ n + 0
@@ -137,3 +139,33 @@ module _ {R : Type 0} where
   -- records stay valid where a valid one is put
   pub sound_with_kept : (f : Semantics R) (m : Records R) (u : units.Unit) (o : Option R) → AreSound f m → is_sound f u o ≡ true → AreSound f (with_kept m u o)
   sound_with_kept f m u o old new q = rw (get-with_kept m u o q) (sound_at f u q (same_unit q u) o (finite.get m q) (same_unit-true q u) new (old q))
+
+  stepped_at : (f : Semantics R) (site : Site) (p : Packet) (b : Bool) (o n : Option R) → (b ≡ true → o ≡ n) → cond b (kept_after f site o p) n ≡ cond b (kept_after f site n p) n
+  stepped_at f site p true o n same = ap (λ x. kept_after f site x p) (same refl)
+  stepped_at f site p false o n same = refl
+
+  -- what a look-up finds after a packet
+  pub get-after_packet : (f : Semantics R) (site : Site) (m : Records R) (p : Packet) (q : units.Unit)
+      → finite.get (after_packet f site m p) q ≡ cond (same_unit q (unit_at f.kind site p)) (kept_after f site (finite.get m q) p) (finite.get m q)
+  get-after_packet f site m p q =
+      let u = unit_at f.kind site p in
+      get-with_kept m u (kept_after f site (finite.get m u) p) q
+      ∙ stepped_at f site p (same_unit q u) (finite.get m u) (finite.get m q) (λ h. ap (finite.get m) (sym (same_unit-true q u h)))
+
+  -- records of valid units stay so where some are taken out
+  pub sound_retain_keys : (f : Semantics R) (m : Records R) (p : units.Unit → Bool) → AreSound f m → AreSound f (finite.retain_keys m p)
+  sound_retain_keys f m p sound q = rw (get-retain_keys m p q (λ x t. ap p (sym (one_unit q x t)))) (sound_if (p q) (finite.get m q) (sound q))
+    where
+      sound_if : (b : Bool) (o : Option R) → is_sound f q o ≡ true → is_sound f q (cond b o None) ≡ true
+      sound_if true o h = h
+      sound_if false o h = refl
+
+  part_written : (t : TableView R) (live : Bool) (m : Records R) → part (with_part t live m) live ≡ m
+  part_written t true m = refl
+  part_written t false m = refl
+
+  -- the same in a table
+  pub get-stepped : (f : Semantics R) (site : Site) (t new : TableView R) (live : Bool) (p : Packet) → new ≡ with_part t live (after_packet f site (part t live) p) → (q : units.Unit)
+      → finite.get (part new live) q ≡ cond (same_unit q (unit_at f.kind site p)) (kept_after f site (finite.get (part t live) q) p) (finite.get (part t live) q)
+  get-stepped f site t new live p is q =
+      ap (λ m. finite.get m q) (ap (λ n. part n live) is ∙ part_written t live (after_packet f site (part t live) p)) ∙ get-after_packet f site (part t live) p q

@@ -28,7 +28,12 @@ module _ {R : Type 0} where
   pub record IsFirstBad (f : Semantics R) (chunks : List Chunk) (place : ℕ) : Type 0 where
     pub within : place < length chunks
     pub earlier : are_good f (take place chunks) ≡ true
-    pub bad : are_good f (take (place + 1) chunks) ≡ false
+    pub spoilt : are_good f (take (place + 1) chunks) ≡ false
+
+  -- no chunk is bad, and they spell these records
+  pub record AreReadAs (f : Semantics R) (chunks : List Chunk) (records : Records R) : Type 0 where
+    pub good : are_good f chunks ≡ true
+    pub spells : records_of f chunks ≡ records
 
   -- the chunks of records, in the order of their units
   abbrev pub chunks_of : Semantics R → Records R → List Chunk
