@@ -2,7 +2,7 @@
 use Rattle.std.proofs.Common.{◌≡◌, ℕ, ◌+◌, ◌<◌, ◌≤◌, ◌==◌, Bool, true, false, cond, List, [], ◌∷◌, ◌++◌, length, take, drop, Option, Some, None, refl, sym, ap, ◌∙◌, arith, is_some, append-nil, append_assoc, length-append, get_or, subst}
 use Rattle.std.proofs.lemmas.Bool.{true≢false}
 use Rattle.std.proofs.lemmas.Bool.Decides.{nat_tests}
-use Rattle.std.proofs.lemmas.List.{take_more}
+use Rattle.std.proofs.lemmas.List.{take_more, take-append-drop}
 use Rattle.std.specs.List.{filter_map, cons_option}
 use Rattle.std.proofs.lemmas.List.Elements.{filter_map-append}
 use Rattle.std.specs.FinMap as finite
@@ -121,3 +121,35 @@ module _ {R : Type 0} (f : Semantics R) where
 
   pub good_none : are_good f [] ≡ true
   good_none = rw brought_by_none (equal_to _ _ (len-empty unit_cmp R))
+
+  -- one chunk brings one record at most
+  at_most_one : (cs : List Chunk) (c : Chunk) → finite.len (records_of f (cs ++ c ∷ [])) ≤ finite.len (records_of f cs) + 1
+  at_most_one cs c = by_spelled (spelled f c) refl
+    where
+      by_key : (u : units.Unit) (r : R) → spelled f c ≡ Some (u, r) → (b : Bool) → finite.contains_key (records_of f cs) u ≡ b → finite.len (records_of f (cs ++ c ∷ [])) ≤ finite.len (records_of f cs) + 1
+      by_key u r some true has = rw (brings_again cs c u r some has) (omega arith)
+      by_key u r some false lacks = rw (brings cs c u r some lacks, len-insert units_total (records_of f cs) u r, lacks) (omega arith)
+      by_spelled : (o : Option (units.Unit × R)) → spelled f c ≡ o → finite.len (records_of f (cs ++ c ∷ [])) ≤ finite.len (records_of f cs) + 1
+      by_spelled None none = rw (brings_none cs c none) (omega arith)
+      by_spelled (Some (u, r)) some = by_key u r some (finite.contains_key (records_of f cs) u) refl
+
+  as_many : (cs ds : List Chunk) → finite.len (records_of f (cs ++ ds)) ≤ finite.len (records_of f cs) + length ds
+  as_many cs [] = rw (append-nil cs) (omega arith)
+  as_many cs (d ∷ ds) =
+      let more : finite.len (records_of f (cs ++ (d ∷ ds))) ≤ finite.len (records_of f (cs ++ d ∷ [])) + length ds = rw (← append_assoc cs (d ∷ []) ds) (as_many (cs ++ d ∷ []) ds) in
+      omega (arith, more, at_most_one cs d)
+
+  -- there are no more records than chunks
+  pub few_records : (cs : List Chunk) → finite.len (records_of f cs) ≤ length cs
+  few_records cs =
+      let empty : finite.len (records_of f []) ≡ 0 = rw brought_by_none (len-empty unit_cmp R) in
+      omega (arith, as_many [] cs, empty)
+
+  -- a front of good chunks is good
+  pub good_front : (cs ds : List Chunk) → are_good f (cs ++ ds) ≡ true → are_good f cs ≡ true
+  good_front cs ds good = equal_to _ _ (omega (arith, few_records cs, as_many cs ds, equal_from _ _ good, length-append cs ds))
+
+  -- where the first bad chunk is, not all are good
+  pub spoilt_by : (cs : List Chunk) (place : ℕ) → IsFirstBad f cs place → are_good f cs ≡ true → ⊥
+  spoilt_by cs place bad good =
+      true≢false (sym (good_front (take (place + 1) cs) (drop (place + 1) cs) (rw (take-append-drop (place + 1) cs) good)) ∙ bad.spoilt)

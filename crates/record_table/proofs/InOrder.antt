@@ -14,13 +14,13 @@ use Rattle.std.specs.FinMap as finite
 use Rattle.std.specs.FinMap.{get-retain_keys}
 use Rattle.nf_function.specs.Units.{unit_cmp}
 use Rattle.unit_map.proofs.EntryLemmas.{lookup_alike}
-use Rattle.record_table.specs.Table.{same_unit}
+use Rattle.record_table.specs.Table.{Records, same_unit}
 use Rattle.record_table.specs.Entries.{map_of}
 use Rattle.record_table.proofs.EntryMaps.{get-map_of}
 use Rattle.record_table.proofs.SortedEntries.{in_order, strictly, at-permuted}
 use Rattle.std.specs.Map.{lookup, keys_of}
 use Rattle.record_table.proofs.UnitOrder.{unit_eq, unit_eq_equiv, tied, one_unit, same_unit-true, same_unit_equiv}
-use Rattle.record_table.proofs.RecordLookUps.{at}
+use Rattle.record_table.proofs.RecordLookUps.{same_records, at}
 use Rattle.record_table.specs.Keeping.{is_taken, taken, found, all_found}
 
 one_test : (filter : Option Filter) (u q : units.Unit) → unit_eq q u ≡ true → is_taken filter q ≡ is_taken filter u
@@ -148,3 +148,15 @@ module _ {R : Type 0} (filter : Option Filter) where
         in_order (seen after) (taken filter (map_of es))
         (subst (IsStrictlySortedBy unit_cmp) (sym keys) (strictly after sorted (subst (IsDistinct same_unit) keys once_after)))
         (λ q. sym (at-permuted (all_found filter es) (seen after) once once_after moved_seen q) ∙ found_at es q distinct)
+
+-- without a filter all records are listed
+pub all_taken : {R : Type 0} (m : Records R) → taken None m ≡ m
+all_taken m = same_records (taken None m) m (λ q. get-retain_keys m (λ u. true) q (λ x t. refl))
+
+-- the units of what is listed
+pub keys_listed : {R : Type 0} (xs : List (units.Unit × Bor R)) (m : Records R) → map (λ (e : units.Unit × Bor R). (e.0, e.1.now)) xs ≡ finite.entries (taken None m) → map (λ e. e.0) xs ≡ finite.keys m
+keys_listed {R} xs m is = sym (keys_of_seen xs) ∙ ap (map (λ (e : units.Unit × R). e.0)) is ∙ ap finite.keys (all_taken m)
+  where
+    keys_of_seen : (ys : List (units.Unit × Bor R)) → map (λ (e : units.Unit × R). e.0) (map (λ (e : units.Unit × Bor R). (e.0, e.1.now)) ys) ≡ map (λ (e : units.Unit × Bor R). e.0) ys
+    keys_of_seen [] = refl
+    keys_of_seen (y ∷ ys) = ap (λ us. y.0 ∷ us) (keys_of_seen ys)

@@ -1,16 +1,20 @@
 -- What look-ups find in finite maps of records, and that they tell such maps apart.
-use Rattle.std.proofs.Common.{◌≡◌, ℕ, zero, suc, ◌+◌, ◌-◌, ◌<◌, ◌≤◌, get_or, take, length, Bool, true, false, cond, List, [], ◌∷◌, ◌++◌, map, Option, Some, None, refl, sym, ap, ◌∙◌, arith, is_some}
+use Rattle.std.proofs.Common.{◌≡◌, ℕ, zero, suc, ◌+◌, ◌-◌, ◌<◌, ◌≤◌, get_or, take, length, length-append, Bool, true, false, cond, List, [], ◌∷◌, ◌++◌, map, Option, Some, None, refl, sym, ap, ◌∙◌, arith, is_some}
 use Rattle.std.specs.Prelude.{not, ◌||◌}
 use Rattle.std.proofs.lemmas.List.{take_more}
 use Rattle.std.proofs.lemmas.Bool.{true≢false}
 use Rattle.std.specs.Ordering.{eq_by_cmp}
-use Rattle.std.specs.Option.{option_map}
+use Rattle.std.specs.Option.{option_or}
 use Rattle.std.specs.FinMap as finite
-use Rattle.std.specs.FinMap.{find, same_map, get-empty, get-insert, get-remove, get-retain_keys, get-entries, get-from_entries, empty_of_len, len-insert, len-remove}
+use Rattle.std.specs.FinMap.{find, same_map, len-empty, len-entries, get-empty, get-insert, get-remove, get-retain_keys, get-entries, get-from_entries, empty_of_len, len-insert, len-remove}
 use Rattle.nf_function.specs.declared.unit.Unit as units
 use Rattle.nf_function.specs.Units.{unit_cmp}
 use Rattle.nf_function.specs.UnitOrder.{units_total}
-use Rattle.record_table.specs.Table.{Records, same_unit, with_kept, is_among, without, either, chosen, joined, after_packet, AreSound, TableView, part, with_part}
+use Rattle.record_table.specs.Table.{Records, same_unit, with_kept, is_among, without, either, chosen, joined, after_packet, AreSound, TableView, part, with_part, newest_of, replaced_by}
+use Rattle.nf_function.specs.Records.{is_newer, newest}
+use Rattle.record_table.specs.declared.record_map.Keep.{Keep}
+use Rattle.record_table.specs.declared.record_map.Keep.TheVariants.{Newest, Coming}
+use Rattle.record_table.specs.Keeping.{choice}
 use Rattle.nf_function.specs.Semantics.{Semantics, is_sound, kept_after, unit_at}
 use Rattle.flow_filter.specs.declared.packet.Packet.{Packet}
 use Rattle.flow_filter.specs.declared.site.Site.{Site}
@@ -169,3 +173,56 @@ module _ {R : Type 0} where
       → finite.get (part new live) q ≡ cond (same_unit q (unit_at f.kind site p)) (kept_after f site (finite.get (part t live) q) p) (finite.get (part t live) q)
   get-stepped f site t new live p is q =
       ap (λ m. finite.get m q) (ap (λ n. part n live) is ∙ part_written t live (after_packet f site (part t live) p)) ∙ get-after_packet f site (part t live) p q
+
+  newest_sound : (f : Semantics R) (q : units.Unit) (b : Bool) (r s : R) → f.is_valid q r ≡ true → f.is_valid q s ≡ true → f.is_valid q (cond b r s) ≡ true
+  newest_sound f q true r s first second = first
+  newest_sound f q false r s first second = second
+
+  choice_sound : (f : Semantics R) (keep : Keep) (q : units.Unit) (o p : Option R) → is_sound f q o ≡ true → is_sound f q p ≡ true → is_sound f q (either (choice f keep) o p) ≡ true
+  choice_sound f keep q o None held coming = rw (← either_none (choice f keep) o) held
+  choice_sound f keep q None (Some s) held coming = coming
+  choice_sound f Newest q (Some r) (Some s) held coming = newest_sound f q (is_newer f r s) r s held coming
+  choice_sound f Coming q (Some r) (Some s) held coming = coming
+
+  -- two maps of valid records have such together
+  pub sound_joined : (f : Semantics R) (keep : Keep) (held coming : Records R) → AreSound f held → AreSound f coming → AreSound f (joined (choice f keep) held coming)
+  sound_joined f keep held coming first second q =
+      rw (get-joined (choice f keep) held coming q) (choice_sound f keep q (finite.get held q) (finite.get coming q) (first q) (second q))
+
+  from_few : (es : List (units.Unit × R)) → finite.len (finite.from_entries {R = unit_cmp} es) ≤ length es
+  from_few [] = omega (arith, len-empty unit_cmp R)
+  from_few (e ∷ es) = omega (arith, len-insert units_total (finite.from_entries es) e.0 e.1, one_at_most (finite.contains_key (finite.from_entries {R = unit_cmp} es) e.0) (finite.len (finite.from_entries {R = unit_cmp} es)), from_few es)
+    where
+      one_at_most : (b : Bool) (n : ℕ) → cond b n (n + 1) ≤ n + 1
+      one_at_most true n = omega arith
+      one_at_most false n = omega arith
+
+  brought_long : (choose : R → R → R) (held : Records R) (es : List (units.Unit × R)) → length (brought choose held es) ≡ length es
+  brought_long choose held [] = refl
+  brought_long choose held (e ∷ es) = ap suc (brought_long choose held es)
+
+  -- two maps have no more records together than one and the other
+  pub len-joined : (choose : R → R → R) (held coming : Records R) → finite.len (joined choose held coming) ≤ finite.len held + finite.len coming
+  unfolding joined
+  len-joined choose held coming =
+      let all = brought choose held (finite.entries coming) ++ finite.entries held in
+      let long : length all ≡ finite.len coming + finite.len held =
+          omega (arith, length-append (brought choose held (finite.entries coming)) (finite.entries held), brought_long choose held (finite.entries coming), len-entries coming, len-entries held) in
+      omega (arith, from_few all, long)
+
+  -- what a look-up finds after newer records were taken in
+  pub each_newest : (f : Semantics R) (held coming new : Records R) → new ≡ newest_of f held coming → (q : units.Unit) → finite.get new q ≡ either (newest f) (finite.get held q) (finite.get coming q)
+  each_newest f held coming new is q = ap (λ m. finite.get m q) is ∙ get-joined (newest f) held coming q
+
+  coming_first : (o p : Option R) → either (λ held coming. coming) o p ≡ option_or p o
+  coming_first None None = refl
+  coming_first (Some r) None = refl
+  coming_first None (Some s) = refl
+  coming_first (Some r) (Some s) = refl
+
+  -- what it finds after records were replaced
+  pub each_replaced : (t new : TableView R) (live : Bool) (coming : Records R) → new ≡ with_part t live (replaced_by (part t live) coming) → (q : units.Unit)
+      → finite.get (part new live) q ≡ option_or (finite.get coming q) (finite.get (part t live) q)
+  each_replaced t new live coming is q =
+      ap (λ n. finite.get (part n live) q) is ∙ ap (λ m. finite.get m q) (part_written t live (replaced_by (part t live) coming))
+      ∙ get-joined (λ held coming. coming) (part t live) coming q ∙ coming_first (finite.get (part t live) q) (finite.get coming q)

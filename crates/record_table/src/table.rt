@@ -274,9 +274,9 @@ impl<F: Function> Table<F> {
         let coming = records_of::<F>(self.alloc, chunks)?;
         if live {
             self.live.join::<F>(coming, keep)?;
-        } else {
-            self.standby.join::<F>(coming, keep)?;
+            return Ok(());
         }
+        self.standby.join::<F>(coming, keep)?;
         Ok(())
     }
 }
