@@ -10,7 +10,7 @@ use Rattle.asset_monitor.specs.declared.record.AssetRecord.{AssetRecord}
 use Rattle.asset_monitor.specs.declared.service.Service.{Service}
 use Rattle.asset_monitor.specs.Banners.{banner_in, is_unseen}
 use Rattle.asset_monitor.specs.Places.{IsAt, IsGap}
-use Rattle.asset_monitor.specs.Rows.{entered, met, told, unmoved}
+use Rattle.asset_monitor.specs.Rows.{new_row, sent_row, greeting_row, quiet_row}
 use Rattle.asset_monitor.specs.ServiceLemmas.{listed_at, listed_gap}
 use Rattle.asset_monitor.specs.Services.{listed, services_per_host}
 use Rattle.asset_monitor.specs.Table.{announces, counted, found, full, greeted, is_bare, keeping, payload, source, watched}
@@ -36,11 +36,11 @@ module _ (new filled greeting still : Step AssetRecord) where
   rows_of false room unseen (Some s) = greets (is_unseen s.banner) unseen
 
 -- a packet that the host doesn't send
-pub watched_in : (r : AssetRecord) (p : Packet) → watched In r p ≡ unmoved r
+pub watched_in : (r : AssetRecord) (p : Packet) → watched In r p ≡ quiet_row r
 unfolding watched
 watched_in r p = refl
 
-pub watched_other : (direction : Direction) (r : AssetRecord) (p : Packet) → is_transport p.proto ≡ false → watched direction r p ≡ unmoved r
+pub watched_other : (direction : Direction) (r : AssetRecord) (p : Packet) → is_transport p.proto ≡ false → watched direction r p ≡ quiet_row r
 unfolding watched
 watched_other In r p h = refl
 watched_other Out r p h = rw h refl
@@ -57,57 +57,57 @@ one_more-cond : (test : Bool) (x y : Step AssetRecord) → cond test (one_more x
 one_more-cond true x y = refl
 one_more-cond false x y = refl
 
-entered-counted : (r : AssetRecord) (s : Service) → entered (counted r) s ≡ one_more (entered r s)
-unfolding entered
-entered-counted r s = one_more-cond (nat_lt (length r.services) services_per_host) (record { kept = keeping r s; output = found s }) (record { kept = r; output = full })
+new_row-counted : (r : AssetRecord) (s : Service) → new_row (counted r) s ≡ one_more (new_row r s)
+unfolding new_row
+new_row-counted r s = one_more-cond (nat_lt (length r.services) services_per_host) (record { kept = keeping r s; output = found s }) (record { kept = r; output = full })
 
-told-counted : (r : AssetRecord) (s : Service) → told (counted r) s ≡ one_more (told r s)
-unfolding told
-told-counted r s = one_more-cond (is_unseen s.banner) (unmoved r) (record { kept = keeping r s; output = greeted s })
+greeting_row-counted : (r : AssetRecord) (s : Service) → greeting_row (counted r) s ≡ one_more (greeting_row r s)
+unfolding greeting_row
+greeting_row-counted r s = one_more-cond (is_unseen s.banner) (quiet_row r) (record { kept = keeping r s; output = greeted s })
 
-met-counted : (r : AssetRecord) (p : Packet) (known : Option Service) → met (counted r) p known ≡ one_more (met r p known)
-unfolding met
-met-counted r p None = rw (entered-counted r (source p)) (one_more-cond (announces p) (entered r (source p)) (unmoved r))
-met-counted r p (Some s) =
-    rw (told-counted r (greeting_of p)) (one_more-cond (is_unseen s.banner) (told r (greeting_of p)) (unmoved r))
+sent_row-counted : (r : AssetRecord) (p : Packet) (known : Option Service) → sent_row (counted r) p known ≡ one_more (sent_row r p known)
+unfolding sent_row
+sent_row-counted r p None = rw (new_row-counted r (source p)) (one_more-cond (announces p) (new_row r (source p)) (quiet_row r))
+sent_row-counted r p (Some s) =
+    rw (greeting_row-counted r (greeting_of p)) (one_more-cond (is_unseen s.banner) (greeting_row r (greeting_of p)) (quiet_row r))
 
-met_by_known : (r : AssetRecord) (p : Packet) (known : Option Service)
+sent_row_by_known : (r : AssetRecord) (p : Packet) (known : Option Service)
     → by_known (record { kept = keeping r (source p); output = found (source p) }) (record { kept = r; output = full })
-    (record { kept = keeping r (greeting_of p); output = greeted (greeting_of p) }) (unmoved r)
+    (record { kept = keeping r (greeting_of p); output = greeted (greeting_of p) }) (quiet_row r)
     (announces p) (nat_lt (length r.services) services_per_host) (is_unseen (banner_in (payload p))) known
-    ≡ met r p known
-unfolding met entered told
-met_by_known r p None = refl
-met_by_known r p (Some s) = refl
+    ≡ sent_row r p known
+unfolding sent_row new_row greeting_row
+sent_row_by_known r p None = refl
+sent_row_by_known r p (Some s) = refl
 
 -- a packet that it sends
-pub watched_met : (r : AssetRecord) (p : Packet) → is_transport p.proto ≡ true → watched Out r p ≡ met r p (listed r.services (source p))
+pub watched_sent : (r : AssetRecord) (p : Packet) → is_transport p.proto ≡ true → watched Out r p ≡ sent_row r p (listed r.services (source p))
 unfolding watched
-watched_met r p h =
+watched_sent r p h =
     rw h
     (rows_of (record { kept = keeping r (source p); output = found (source p) }) (record { kept = r; output = full })
-    (record { kept = keeping r (greeting_of p); output = greeted (greeting_of p) }) (unmoved r)
+    (record { kept = keeping r (greeting_of p); output = greeted (greeting_of p) }) (quiet_row r)
     (announces p) (nat_lt (length r.services) services_per_host) (is_unseen (banner_in (payload p))) (listed r.services (source p))
-    ∙ met_by_known r p (listed r.services (source p)))
+    ∙ sent_row_by_known r p (listed r.services (source p)))
 
-pub watched_out : (r : AssetRecord) (p : Packet) → is_transport p.proto ≡ true → watched Out (counted r) p ≡ one_more (met r p (listed r.services (source p)))
-watched_out r p h = watched_met (counted r) p h ∙ met-counted r p (listed r.services (source p))
+pub watched_out : (r : AssetRecord) (p : Packet) → is_transport p.proto ≡ true → watched Out (counted r) p ≡ one_more (sent_row r p (listed r.services (source p)))
+watched_out r p h = watched_sent (counted r) p h ∙ sent_row-counted r p (listed r.services (source p))
 
 -- what a search for the packet's source tells
 module _ (r : AssetRecord) (p : Packet) (s : Service) (is : s ≡ source p) (i : ℕ) where
-  pub met_new : IsGap r.services s i → true ≡ announces p → met r p (listed r.services s) ≡ entered r s
-  unfolding met
-  met_new gap h = rw (listed_gap r.services s i gap, ← h, is) refl
+  pub sent_new : IsGap r.services s i → true ≡ announces p → sent_row r p (listed r.services s) ≡ new_row r s
+  unfolding sent_row
+  sent_new gap h = rw (listed_gap r.services s i gap, ← h, is) refl
 
-  pub met_unannounced : IsGap r.services s i → false ≡ announces p → met r p (listed r.services s) ≡ unmoved r
-  unfolding met
-  met_unannounced gap h = rw (listed_gap r.services s i gap, ← h) refl
+  pub sent_unannounced : IsGap r.services s i → false ≡ announces p → sent_row r p (listed r.services s) ≡ quiet_row r
+  unfolding sent_row
+  sent_unannounced gap h = rw (listed_gap r.services s i gap, ← h) refl
 
   module _ (xs : List Service) (are : xs ≡ r.services) (d : Service) (at : IsAt r.services s i) where
-    pub met_bare : true ≡ is_unseen (get_or xs i d).banner → met r p (listed r.services s) ≡ told r (record s { banner = banner_in (payload p) })
-    unfolding met
-    met_bare h = let bare = rw are at h in rw (listed_at r.services s i at d, ← bare, is) refl
+    pub sent_bare : true ≡ is_unseen (get_or xs i d).banner → sent_row r p (listed r.services s) ≡ greeting_row r (record s { banner = banner_in (payload p) })
+    unfolding sent_row
+    sent_bare h = let bare = rw are at h in rw (listed_at r.services s i at d, ← bare, is) refl
 
-    pub met_greeted : false ≡ is_unseen (get_or xs i d).banner → met r p (listed r.services s) ≡ unmoved r
-    unfolding met
-    met_greeted h = let seen = rw are at h in rw (listed_at r.services s i at d, ← seen) refl
+    pub sent_greeted : false ≡ is_unseen (get_or xs i d).banner → sent_row r p (listed r.services s) ≡ quiet_row r
+    unfolding sent_row
+    sent_greeted h = let seen = rw are at h in rw (listed_at r.services s i at d, ← seen) refl

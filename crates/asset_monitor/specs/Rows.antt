@@ -9,20 +9,20 @@ use Rattle.asset_monitor.specs.Services.{services_per_host}
 use Rattle.asset_monitor.specs.Table.{announces, found, full, greeted, keeping, payload, quiet, source}
 
 -- nothing is seen
-abbrev pub unmoved : AssetRecord → Step AssetRecord
-unmoved r = record { kept = r; output = quiet }
+abbrev pub quiet_row : AssetRecord → Step AssetRecord
+quiet_row r = record { kept = r; output = quiet }
 
 -- a service that isn't listed is announced
-unfoldable pub entered : AssetRecord → Service → Step AssetRecord
-entered r s =
+unfoldable pub new_row : AssetRecord → Service → Step AssetRecord
+new_row r s =
     if nat_lt (length r.services) services_per_host then record { kept = keeping r s; output = found s }
     else record { kept = r; output = full }
 
 -- a service that is listed without a banner sends a packet with this one
-unfoldable pub told : AssetRecord → Service → Step AssetRecord
-told r s = if is_unseen s.banner then unmoved r else record { kept = keeping r s; output = greeted s }
+unfoldable pub greeting_row : AssetRecord → Service → Step AssetRecord
+greeting_row r s = if is_unseen s.banner then quiet_row r else record { kept = keeping r s; output = greeted s }
 
 -- a packet that the host sends, where this is listed at its source
-unfoldable pub met : AssetRecord → Packet → Option Service → Step AssetRecord
-met r p None = if announces p then entered r (source p) else unmoved r
-met r p (Some s) = if is_unseen s.banner then told r (record (source p) { banner = banner_in (payload p) }) else unmoved r
+unfoldable pub sent_row : AssetRecord → Packet → Option Service → Step AssetRecord
+sent_row r p None = if announces p then new_row r (source p) else quiet_row r
+sent_row r p (Some s) = if is_unseen s.banner then greeting_row r (record (source p) { banner = banner_in (payload p) }) else quiet_row r

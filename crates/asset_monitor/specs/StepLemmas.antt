@@ -21,8 +21,8 @@ use Rattle.asset_monitor.specs.Banners.{is_unseen}
 use Rattle.asset_monitor.specs.Services.{is_service, listed, services_per_host, with_service}
 use Rattle.asset_monitor.specs.ServiceLemmas.{are_services-with, few_services, length-with}
 use Rattle.asset_monitor.specs.Table.{announces, counted, found, full, greeted, keeping, nothing, source, stepped, watched}
-use Rattle.asset_monitor.specs.Rows.{entered, met, told, unmoved}
-use Rattle.asset_monitor.specs.RowLemmas.{greeting_of, watched_in, watched_met}
+use Rattle.asset_monitor.specs.Rows.{new_row, sent_row, greeting_row, quiet_row}
+use Rattle.asset_monitor.specs.RowLemmas.{greeting_of, watched_in, watched_sent}
 use Rattle.asset_monitor.specs.Body.{is_valid}
 use Rattle.asset_monitor.specs.Monitor.{monitor}
 use Rattle.asset_monitor.specs.BodyLemmas.{IsValid, valid_facts, valid_from, record_in-body_of, record_in-some, known_by_body, length-body_of}
@@ -37,9 +37,9 @@ module _ (host : ℕ) (r : AssetRecord) (valid : IsValid host r) where
     packets = valid.packets;
   }
 
-  entered_valid : (s : Service) → is_service s ≡ true → IsValid host (entered r s).kept
-  unfolding entered
-  entered_valid s is = by_room (nat_lt (length r.services) services_per_host) refl
+  new_row_valid : (s : Service) → is_service s ≡ true → IsValid host (new_row r s).kept
+  unfolding new_row
+  new_row_valid s is = by_room (nat_lt (length r.services) services_per_host) refl
     where
       by_room : (room : Bool) → nat_lt (length r.services) services_per_host ≡ room
           → IsValid host (cond {A = Step AssetRecord} room (record { kept = keeping r s; output = found s }) (record { kept = r; output = full })).kept
@@ -48,26 +48,26 @@ module _ (host : ℕ) (r : AssetRecord) (valid : IsValid host r) where
           keeping_valid s is (omega (arith, length-with r.services s))
       by_room false h = valid
 
-  told_valid : (s : Service) → is_service s ≡ true → is_some (listed r.services s) ≡ true → IsValid host (told r s).kept
-  unfolding told
-  told_valid s is known = by_banner (is_unseen s.banner)
+  greeting_row_valid : (s : Service) → is_service s ≡ true → is_some (listed r.services s) ≡ true → IsValid host (greeting_row r s).kept
+  unfolding greeting_row
+  greeting_row_valid s is known = by_banner (is_unseen s.banner)
     where
-      by_banner : (unseen : Bool) → IsValid host (cond {A = Step AssetRecord} unseen (unmoved r) (record { kept = keeping r s; output = greeted s })).kept
+      by_banner : (unseen : Bool) → IsValid host (cond {A = Step AssetRecord} unseen (quiet_row r) (record { kept = keeping r s; output = greeted s })).kept
       by_banner true = valid
       by_banner false =
           let few = few_services r.services valid.services in let one = rw known at (length-with r.services s) in keeping_valid s is (omega arith)
 
-  met_valid : (p : Packet) (known : Option Service) → is_service (source p) ≡ true → listed r.services (source p) ≡ known → IsValid host (met r p known).kept
-  unfolding met
-  met_valid p None is h = by_row (announces p)
+  sent_row_valid : (p : Packet) (known : Option Service) → is_service (source p) ≡ true → listed r.services (source p) ≡ known → IsValid host (sent_row r p known).kept
+  unfolding sent_row
+  sent_row_valid p None is h = by_row (announces p)
     where
-      by_row : (announced : Bool) → IsValid host (cond {A = Step AssetRecord} announced (entered r (source p)) (unmoved r)).kept
-      by_row true = entered_valid (source p) is
+      by_row : (announced : Bool) → IsValid host (cond {A = Step AssetRecord} announced (new_row r (source p)) (quiet_row r)).kept
+      by_row true = new_row_valid (source p) is
       by_row false = valid
-  met_valid p (Some s) is h = by_row (is_unseen s.banner)
+  sent_row_valid p (Some s) is h = by_row (is_unseen s.banner)
     where
-      by_row : (bare : Bool) → IsValid host (cond {A = Step AssetRecord} bare (told r (greeting_of p)) (unmoved r)).kept
-      by_row true = told_valid (greeting_of p) is (ap is_some h)
+      by_row : (bare : Bool) → IsValid host (cond {A = Step AssetRecord} bare (greeting_row r (greeting_of p)) (quiet_row r)).kept
+      by_row true = greeting_row_valid (greeting_of p) is (ap is_some h)
       by_row false = valid
 
   -- whichever row applies, what it leaves is valid
@@ -75,7 +75,7 @@ module _ (host : ℕ) (r : AssetRecord) (valid : IsValid host r) where
   watched_valid In p transport port = rw (watched_in r p) valid
   watched_valid Out p transport port =
       let is : is_service (source p) ≡ true = true_both _ _ transport (lt-ltb p.sport (2 ^ 16) port) in
-      rw (watched_met r p transport) (met_valid p (listed r.services (source p)) is refl)
+      rw (watched_sent r p transport) (sent_row_valid p (listed r.services (source p)) is refl)
 
 -- a record that was valid, or none, is valid with one packet more
 counted_valid : (host : ℕ) (kept : Option AssetRecord) → nat_lt host (2 ^ 32) ≡ true → is_sound monitor (OfHost host) kept ≡ true

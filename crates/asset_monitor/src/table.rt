@@ -2,10 +2,9 @@ ghost use Rattle.std.specs.Prelude.{◌≡◌, ◌<◌, ◌^◌, true, Some, if�
 ghost use Rattle.nf_function.specs.Units.{is_transport};
 ghost use Rattle.asset_monitor.specs.Places.{IsAt, IsGap};
 ghost use Rattle.asset_monitor.specs.Services.{is_service, listed};
-ghost use Rattle.asset_monitor.specs.Table.{accepts, announces, counted, found, full, greeted, nothing, payload, quiet, source as source_of, watched};
-ghost use Rattle.asset_monitor.specs.Rows.{entered, met, told, unmoved};
+ghost use Rattle.asset_monitor.specs.Table.{accepts, announces, counted, nothing, source as source_of, watched};
+ghost use Rattle.asset_monitor.specs.Rows.{greeting_row, new_row, sent_row};
 
-use crate::banner::Banner;
 use crate::record::AssetRecord;
 use crate::service::Service;
 use crate::services::SERVICES_PER_HOST;
@@ -75,25 +74,25 @@ fn watch(
     ensures err { OnErr result (kept.new ≡ kept.old) }
 {
     let output = match direction {
-        Direction::Out => meet(kept, service, packet)?,
+        Direction::Out => watch_sent(kept, service, packet)?,
         Direction::In => output(QUIET),
     };
     kept.count_packet();
     Ok(output)
 }
 
-/// A packet that the host sends from this source, by what is known of that. It isn't counted yet.
-fn meet(kept: &mut AssetRecord, service: Service, packet: &Packet) -> Result<Output, NoMemory>
+/// Takes a packet that the host sends from this source, and doesn't count it.
+fn watch_sent(kept: &mut AssetRecord, service: Service, packet: &Packet) -> Result<Output, NoMemory>
     requires transport { is_transport packet.now.proto ≡ true }
     requires source { service ≡ source_of packet.now }
-    ensures kept { OnOk result (kept.new ≡ (met kept.old packet.now (listed kept.old.services service)).kept) }
-    ensures output { IfOk result (λ output. output ≡ (met kept.old packet.now (listed kept.old.services service)).output) }
+    ensures kept { OnOk result (kept.new ≡ (sent_row kept.old packet.now (listed kept.old.services service)).kept) }
+    ensures output { IfOk result (λ output. output ≡ (sent_row kept.old packet.now (listed kept.old.services service)).output) }
     ensures err { OnErr result (kept.new ≡ kept.old) }
 {
     match kept.services.place_of(&service) {
         Err(place) => {
             if announces(packet) {
-                enter(kept, place, service)
+                list(kept, place, service)
             } else {
                 Ok(output(QUIET))
             }
@@ -101,7 +100,7 @@ fn meet(kept: &mut AssetRecord, service: Service, packet: &Packet) -> Result<Out
         Ok(place) => {
             let known = kept.services.items()[place];
             if known.banner.is_unseen() {
-                Ok(greet(kept, place, service.greeting(packet)))
+                Ok(set_banner(kept, place, service.greeting(packet)))
             } else {
                 Ok(output(QUIET))
             }
@@ -109,13 +108,13 @@ fn meet(kept: &mut AssetRecord, service: Service, packet: &Packet) -> Result<Out
     }
 }
 
-/// A service that isn't listed is announced.
-#[tactic(auto, unfolding(crate::specs::Rows::entered))]
-fn enter(kept: &mut AssetRecord, place: usize, service: Service) -> Result<Output, NoMemory>
+/// Lists a service that is announced, where there is room.
+#[tactic(auto, unfolding(crate::specs::Rows::new_row))]
+fn list(kept: &mut AssetRecord, place: usize, service: Service) -> Result<Output, NoMemory>
     requires gap { IsGap kept.old.services service place }
     requires valid { is_service service ≡ true }
-    ensures kept { OnOk result (kept.new ≡ (entered kept.old service).kept) }
-    ensures output { IfOk result (λ output. output ≡ (entered kept.old service).output) }
+    ensures kept { OnOk result (kept.new ≡ (new_row kept.old service).kept) }
+    ensures output { IfOk result (λ output. output ≡ (new_row kept.old service).output) }
     ensures err { OnErr result (kept.new ≡ kept.old) }
 {
     if kept.services.items().len() >= SERVICES_PER_HOST {
@@ -129,13 +128,13 @@ fn enter(kept: &mut AssetRecord, place: usize, service: Service) -> Result<Outpu
     })
 }
 
-/// A service that is listed without a banner sends a packet with this one.
-#[tactic(auto, unfolding(crate::specs::Rows::told))]
-fn greet(kept: &mut AssetRecord, place: usize, service: Service) -> Output
+/// Sets the banner of a service that has none yet, where it is one.
+#[tactic(auto, unfolding(crate::specs::Rows::greeting_row))]
+fn set_banner(kept: &mut AssetRecord, place: usize, service: Service) -> Output
     requires listed { IsAt kept.old.services service place }
     requires valid { is_service service ≡ true }
-    ensures kept { kept.new ≡ (told kept.old service).kept }
-    ensures output { result ≡ (told kept.old service).output }
+    ensures kept { kept.new ≡ (greeting_row kept.old service).kept }
+    ensures output { result ≡ (greeting_row kept.old service).output }
 {
     if service.banner.is_unseen() {
         return output(QUIET);
