@@ -110,8 +110,8 @@ module _ {R : Type 0} (f : Semantics R) where
   pub first_bad : (cs : List Chunk) (i : ℕ) (c : Chunk) → i < length cs → c ≡ get_or cs i c → are_good f (take i cs) ≡ true → are_good f (take i cs ++ c ∷ []) ≡ false → IsFirstBad f cs i
   first_bad cs i c within read good bad = record {
     within = within;
-    earlier = good;
-    spoilt = subst (λ xs. are_good f xs ≡ false) (ap (λ x. take i cs ++ x ∷ []) read ∙ sym (take_more cs i c within)) bad;
+    before = good;
+    up_to = subst (λ xs. are_good f xs ≡ false) (ap (λ x. take i cs ++ x ∷ []) read ∙ sym (take_more cs i c within)) bad;
   }
 
   -- no chunks bring no records, and none of them is bad
@@ -150,6 +150,6 @@ module _ {R : Type 0} (f : Semantics R) where
   good_front cs ds good = equal_to _ _ (omega (arith, few_records cs, as_many cs ds, equal_from _ _ good, length-append cs ds))
 
   -- where the first bad chunk is, not all are good
-  pub spoilt_by : (cs : List Chunk) (place : ℕ) → IsFirstBad f cs place → are_good f cs ≡ true → ⊥
-  spoilt_by cs place bad good =
-      true≢false (sym (good_front (take (place + 1) cs) (drop (place + 1) cs) (rw (take-append-drop (place + 1) cs) good)) ∙ bad.spoilt)
+  pub not_all_good : (cs : List Chunk) (place : ℕ) → IsFirstBad f cs place → are_good f cs ≡ true → ⊥
+  not_all_good cs place bad good =
+      true≢false (sym (good_front (take (place + 1) cs) (drop (place + 1) cs) (rw (take-append-drop (place + 1) cs) good)) ∙ bad.up_to)

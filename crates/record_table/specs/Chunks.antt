@@ -27,8 +27,8 @@ module _ {R : Type 0} where
   -- the chunk at a place is the first that spells no record, or that of a unit that an earlier chunk has
   pub record IsFirstBad (f : Semantics R) (chunks : List Chunk) (place : ℕ) : Type 0 where
     pub within : place < length chunks
-    pub earlier : are_good f (take place chunks) ≡ true
-    pub spoilt : are_good f (take (place + 1) chunks) ≡ false
+    pub before : are_good f (take place chunks) ≡ true
+    pub up_to : are_good f (take (place + 1) chunks) ≡ false
 
   -- no chunk is bad, and they spell these records
   pub record AreReadAs (f : Semantics R) (chunks : List Chunk) (records : Records R) : Type 0 where

@@ -55,7 +55,7 @@ abbrev pub split : Redirect → Rule → List Rule
 split r rule =
     (if target_eq rule.1 r.from then option_to_list (option_map (λ both. (both, r.to)) (meet rule.0 r.filter)) else []) ++ rule ∷ []
 
--- the items that don't stand behind one by which the test leaves them out
+-- the items that no earlier item leaves out: it does where the test of it and the later one is true
 abbrev pub firsts : {X : Type 0} → (X → X → Bool) → List X → List X
 firsts test [] = []
 firsts test (x ∷ xs) = x ∷ filter (λ later. not (test x later)) (firsts test xs)

@@ -112,7 +112,8 @@ fn nearest(groups: &[Group], flow: Flow) -> Option<Placed>
 {
     let mut first = None;
     for group in groups {
-        first = nearer(first, group.find(&flow));
+        let found = group.find(&flow);
+        first = nearer(first, found);
     }
     first
 }
@@ -128,6 +129,13 @@ fn nearer(first: Option<Placed>, found: Option<Placed>) -> Option<Placed>
     }
 }
 
+/// Where the group of a mask stands.
+fn place_of(groups: &[Group], mask: Mask) -> Option<usize>
+    ensures { result ≡ position (λ g. mask_eq g.mask mask) groups.now }
+{
+    groups.iter().position(|group| group.mask == mask)
+}
+
 /// Whether a group has an entry for a rule that covers the filter.
 fn has_covering(groups: &[Group], filter: Filter) -> bool
     ensures value { result ≡ list_any (has_covering filter) groups.now }
@@ -136,13 +144,6 @@ fn has_covering(groups: &[Group], filter: Filter) -> bool
     let mask = Mask::of(&filter);
     let values = values_of(&filter);
     groups.iter().any(|group| group.mask.is_within(&mask) && group.find(&values).is_some())
-}
-
-/// Where the group of a mask stands.
-fn place_of(groups: &[Group], mask: Mask) -> Option<usize>
-    ensures { result ≡ position (λ g. mask_eq g.mask mask) groups.now }
-{
-    groups.iter().position(|group| group.mask == mask)
 }
 
 #[cfg(test)]
