@@ -129,6 +129,7 @@ module _ {R : Type 0} (f : Semantics R) where
       by_key : (u : units.Unit) (r : R) → spelled f c ≡ Some (u, r) → (b : Bool) → finite.contains_key (records_of f cs) u ≡ b → finite.len (records_of f (cs ++ c ∷ [])) ≤ finite.len (records_of f cs) + 1
       by_key u r some true has = rw (brings_again cs c u r some has) (omega arith)
       by_key u r some false lacks = rw (brings cs c u r some lacks, len-insert units_total (records_of f cs) u r, lacks) (omega arith)
+
       by_spelled : (o : Option (units.Unit × R)) → spelled f c ≡ o → finite.len (records_of f (cs ++ c ∷ [])) ≤ finite.len (records_of f cs) + 1
       by_spelled None none = rw (brings_none cs c none) (omega arith)
       by_spelled (Some (u, r)) some = by_key u r some (finite.contains_key (records_of f cs) u) refl

@@ -122,7 +122,7 @@ module _ {R : Type 0} (f : Semantics R) where
     spelled_all [] valid = refl
     spelled_all (e ∷ es) valid =
         ap (λ o. cons_option o (filter_map (spelled f) (map (λ x. record_chunk f x.0 x.1) es)))
-          (spelled-record_chunk e.0 e.1 (All-head (λ (x : units.Unit × R). f.is_valid x.0 x.1 ≡ true) e es valid))
+        (spelled-record_chunk e.0 e.1 (All-head (λ (x : units.Unit × R). f.is_valid x.0 x.1 ≡ true) e es valid))
         ∙ ap (λ xs. e ∷ xs) (spelled_all es (All-tail (λ (x : units.Unit × R). f.is_valid x.0 x.1 ≡ true) e es valid))
 
     -- what was made of records is read as these records

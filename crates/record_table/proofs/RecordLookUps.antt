@@ -207,7 +207,7 @@ module _ {R : Type 0} where
   len-joined choose held coming =
       let all = brought choose held (finite.entries coming) ++ finite.entries held in
       let long : length all ≡ finite.len coming + finite.len held =
-          omega (arith, length-append (brought choose held (finite.entries coming)) (finite.entries held), brought_long choose held (finite.entries coming), len-entries coming, len-entries held) in
+      omega (arith, length-append (brought choose held (finite.entries coming)) (finite.entries held), brought_long choose held (finite.entries coming), len-entries coming, len-entries held) in
       omega (arith, from_few all, long)
 
   -- what a look-up finds after newer records were taken in

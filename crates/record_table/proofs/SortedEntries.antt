@@ -81,18 +81,18 @@ module _ {R : Type 0} where
   entries-retain_keys m p =
       let up = is_sorted-where_key unit_cmp p (finite.entries m) (entries_sorted m) in
       sym (ap finite.entries (same_records (finite.from_sorted (where_key unit_cmp p (finite.entries m))) (finite.retain_keys m p) (λ q.
-        get-from_sorted unit_cmp (where_key unit_cmp p (finite.entries m)) q up
-        ∙ find-where_key unit_cmp p q (λ x t. ap p (sym (one_unit q x t))) (finite.entries m)
-        ∙ ap (λ o. cond (p q) o None) (sym (get-entries m q))
-        ∙ sym (get-retain_keys m p q (λ x t. ap p (sym (one_unit q x t)))))))
+      get-from_sorted unit_cmp (where_key unit_cmp p (finite.entries m)) q up
+      ∙ find-where_key unit_cmp p q (λ x t. ap p (sym (one_unit q x t))) (finite.entries m)
+      ∙ ap (λ o. cond (p q) o None) (sym (get-entries m q))
+      ∙ sym (get-retain_keys m p q (λ x t. ap p (sym (one_unit q x t)))))))
       ∙ entries-from_sorted unit_cmp (where_key unit_cmp p (finite.entries m)) up
 
   both_parts : (p : units.Unit → Bool) (es : List (units.Unit × R)) → length (filter (λ e. p e.0) es) + length (filter (λ e. not (p e.0)) es) ≡ length es
   both_parts p [] = refl
   both_parts p (e ∷ es) = elim (p e.0) as (λ b. length (cond b (e ∷ filter (λ x. p x.0) es) (filter (λ x. p x.0) es)) + length (cond (not b) (e ∷ filter (λ x. not (p x.0)) es) (filter (λ x. not (p x.0)) es)) ≡ suc (length es)) [
-      | true ↦ omega (arith, both_parts p es)
-      | false ↦ omega (arith, both_parts p es)
-    ]
+    | true ↦ omega (arith, both_parts p es)
+    | false ↦ omega (arith, both_parts p es)
+  ]
 
   -- the records of some units, and those of the others
   pub len_parts : (m : Records R) (p : units.Unit → Bool) → finite.len (finite.retain_keys m p) + finite.len (finite.retain_keys m (λ u. not (p u))) ≡ finite.len m

@@ -100,6 +100,7 @@ fn two_live_units_and_three_chunks_fit_five_and_not_four(rt: HostRuntime) -> Res
     };
     assert_eq!(rt; chunks.items().len(), 3);
     assert_eq!(rt; kept.units(true)?.items(), [unit(1), unit(2)].as_slice());
+    assert_eq!(rt; chunks.items().len(), 1);
     assert!(rt; kept.import(chunks, 3, 5).is_ok());
     assert_eq!(rt; kept.live_count(), 5);
     assert_eq!(rt;
@@ -113,7 +114,9 @@ fn two_live_units_and_three_chunks_fit_five_and_not_four(rt: HostRuntime) -> Res
 fn the_limit_is_for_all_chunks_that_are_to_come(rt: HostRuntime) -> Result<(), Fail> {
     let alloc = rt.alloc();
     let mut kept = table(alloc, &[1, 2])?;
-    let refused = kept.import(chunks(alloc, &[3])?, 4, 5);
+    let coming = chunks(alloc, &[3])?;
+    assert_eq!(rt; coming.items().len(), 1);
+    let refused = kept.import(coming, 4, 5);
     let Err(
         ImportFault::Limit {
             held: 2,
@@ -125,6 +128,7 @@ fn the_limit_is_for_all_chunks_that_are_to_come(rt: HostRuntime) -> Result<(), F
     else {
         return Err("the limit".into());
     };
+    assert_eq!(rt; chunks.items().len(), 1);
     assert!(rt; kept.import(chunks, 3, 5).is_ok());
     assert_eq!(rt; kept.live_count(), 3);
     Ok(())

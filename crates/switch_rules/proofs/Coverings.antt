@@ -1,8 +1,8 @@
 -- A rule covers a filter exactly where some group has an entry at the filter's values under its mask.
-use Rattle.std.proofs.Common.{◌≡◌, ℕ, ◌+◌, Bool, true, false, cond, ◌&&◌, ◌||◌, List, [], ◌∷◌, map, Option, None, Some, is_some, refl, ap, sym, ◌∙◌}
-use Rattle.std.specs.Prelude.{find, All, option_map}
+use Rattle.std.proofs.Common.{◌≡◌, ℕ, ◌+◌, Bool, true, false, cond, ◌&&◌, ◌||◌, List, [], ◌∷◌, map, Some, is_some, refl, ap, sym, ◌∙◌}
+use Rattle.std.specs.Prelude.{find, option_map}
 use Rattle.std.specs.List.{list_any, enumerate_from, AllByRecursion}
-use Rattle.std.proofs.lemmas.List.Elements.{recursion_from_All, All-head, All-tail}
+use Rattle.std.proofs.lemmas.List.Elements.{recursion_from_All}
 use Rattle.flow_filter.specs.declared.flow.Flow.{Flow}
 use Rattle.flow_filter.specs.declared.filter.Filter.{Filter}
 use Rattle.flow_filter.specs.Flow.{flow_eq}
@@ -13,7 +13,6 @@ use Rattle.switch_rules.specs.Masks.{mask_of, values_of, masked, mask_eq, is_wit
 use Rattle.switch_rules.specs.Rules.{Rule, AreFilters}
 use Rattle.switch_rules.specs.Groups.{AreGroups, masks_of, has_key, first_placed, entry, has_covering}
 use Rattle.switch_rules.proofs.MaskLemmas.{mask_eq_same, covers-masked}
-use Rattle.switch_rules.proofs.MaskLists.{has_mask}
 use Rattle.switch_rules.proofs.PlacedRules.{placed}
 use Rattle.switch_rules.proofs.FirstMatches.{masks_there}
 

@@ -1,12 +1,12 @@
 -- Lists of rules: their filters' numbers, and covers of covers.
-use Rattle.std.proofs.Common.{◌≡◌, ℕ, ◌+◌, ◌<◌, Bool, true, false, cond, List, [], ◌∷◌, ◌++◌, length, take, get_or, refl, ap, sym, subst, ◌∙◌}
+use Rattle.std.proofs.Common.{◌≡◌, ℕ, ◌+◌, ◌<◌, Bool, true, false, cond, List, [], ◌∷◌, ◌++◌, length, take, get_or, ap, sym, subst, ◌∙◌}
 use Rattle.std.specs.List.{list_any}
 use Rattle.std.proofs.lemmas.List.{append-nil, take_more}
 use Rattle.std.proofs.lemmas.List.Elements.{All-more, All-from_recursion, recursion_from_All}
 use Rattle.flow_filter.specs.declared.filter.Filter.{Filter}
-use Rattle.flow_filter.specs.Filter.{covers, IsFlow, IsFilter}
+use Rattle.flow_filter.specs.Filter.{covers, IsFilter}
 use Rattle.flow_filter.proofs.FilterLemmas.{covers_law}
-use Rattle.switch_rules.specs.Rules.{Rule, AreFilters, firsts, uncovered}
+use Rattle.switch_rules.specs.Rules.{Rule, AreFilters, uncovered}
 use Rattle.switch_rules.proofs.Firsts.{AllByRecursion-firsts, firsts-push, any-firsts}
 
 abbrev fit : Rule → Type 0

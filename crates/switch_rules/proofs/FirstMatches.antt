@@ -1,6 +1,6 @@
 -- Of the entries that a flow meets, one at most in each group, the one with the least place is the first rule that matches.
 use Rattle.std.proofs.Common.{◌≡◌, ℕ, ◌+◌, ◌<◌, ◌≤◌, Bool, true, false, cond, ltb, ◌&&◌, ◌||◌, List, [], ◌∷◌, ◌++◌, map, length, take, get_or, Option, None, Some, refl, ap, sym, subst, ◌∙◌, arith}
-use Rattle.std.specs.Prelude.{find, All, option_map, nat_lt}
+use Rattle.std.specs.Prelude.{find, option_map}
 use Rattle.std.specs.List.{list_any, enumerate_from, filter_map, cons_option, AllByRecursion}
 use Rattle.std.proofs.lemmas.Bool.{lt-ltb, le-ltb, ltb-true, ltb-false}
 use Rattle.std.proofs.lemmas.Option.{same_Some}
@@ -9,12 +9,12 @@ use Rattle.std.proofs.lemmas.List.{take_more}
 use Rattle.std.proofs.lemmas.List.Folds.{list_any_at}
 use Rattle.flow_filter.specs.declared.flow.Flow.{Flow}
 use Rattle.flow_filter.specs.Flow.{flow_eq}
-use Rattle.flow_filter.specs.Filter.{matches, IsFlow, IsFilter}
+use Rattle.flow_filter.specs.Filter.{matches, IsFlow}
 use Rattle.switch_rules.specs.declared.mask.Mask.{Mask}
 use Rattle.switch_rules.specs.declared.group.Group.{Group}
 use Rattle.switch_rules.specs.declared.group.Placed.{Placed}
 use Rattle.switch_rules.specs.Masks.{mask_of, values_of, masked, mask_eq}
-use Rattle.switch_rules.specs.Rules.{Rule, first_match, AreFilters}
+use Rattle.switch_rules.specs.Rules.{Rule, first_match}
 use Rattle.switch_rules.specs.Groups.{AreGroups, masks_of, has_key, first_placed, entry, met, nearer, least, answer}
 use Rattle.switch_rules.proofs.MaskLemmas.{mask_eq_same, mask_eq_refl, mask_eq_flips, matches-masked}
 use Rattle.switch_rules.proofs.MaskLists.{has_mask, any-masks_of}

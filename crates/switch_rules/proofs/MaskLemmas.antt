@@ -1,10 +1,9 @@
 -- Under its mask a filter matches a flow, or covers a filter, exactly where the values are its own.
-use Rattle.std.proofs.Common.{◌≡◌, ◌≢◌, ℕ, ◌+◌, ◌-◌, ◌*◌, ◌/◌, ◌%◌, ◌^◌, ◌<◌, ◌≤◌, Bool, true, false, cond, not, eqb, leb, ◌&&◌, ◌||◌, Option, None, Some, is_some, unwrap_or, refl, ap, sym, subst, ◌∙◌, arith, lit<}
+use Rattle.std.proofs.Common.{◌≡◌, ◌≢◌, ℕ, ◌+◌, ◌-◌, ◌*◌, ◌/◌, ◌%◌, ◌^◌, ◌<◌, Bool, true, false, not, eqb, leb, ◌&&◌, ◌||◌, Option, None, Some, is_some, unwrap_or, refl, ap, sym, subst, ◌∙◌, arith}
 use Rattle.std.specs.Prelude.{nat_eq}
 use Rattle.std.specs.Bool.{beq}
 use Rattle.std.specs.Option.{ForSome, option_map_or}
 use Rattle.std.proofs.lemmas.Bool.{eqb-true, eqb-false, eq-eqb, ne_eqb, le-leb, lt-leb, and_parts, and_from, and_left, true≢false, false_from_ne_true}
-use Rattle.std.proofs.lemmas.Bool.Decides.{nat_tests}
 use Rattle.std.proofs.lemmas.Nat.{shr_split, pow_pos}
 use Rattle.std.proofs.Math.Nat.{div-eq_of_lt, mul-div_cancel, zero-mul}
 use Rattle.basics.proofs.BoolLemmas.{and_fields, and_true, and_false}
@@ -12,7 +11,6 @@ use Rattle.flow_filter.specs.declared.prefix.Prefix.{Prefix}
 use Rattle.flow_filter.specs.declared.flow.Flow.{Flow}
 use Rattle.flow_filter.specs.declared.filter.Filter.{Filter}
 use Rattle.flow_filter.specs.Flow.{flow_eq}
-use Rattle.flow_filter.specs.Prefixes.{in_prefix}
 use Rattle.flow_filter.specs.Filter.{holds, agrees, matches, covers, covers_value, covers_prefix, IsFlow, IsFilter}
 use Rattle.switch_rules.specs.declared.mask.Mask.{Mask}
 use Rattle.switch_rules.specs.Masks.{mask_of, values_of, where_given, front, masked, mask_eq, is_within}

@@ -1,14 +1,14 @@
 -- What a redirect leaves: each flow's target by the law, and rules whose numbers are within their types.
 use Rattle.std.proofs.Common.{◌≡◌, ℕ, ◌<◌, ◌^◌, Bool, true, false, cond, not, eqb, leb, ◌&&◌, List, [], ◌∷◌, ◌++◌, Option, None, Some, refl, ap, sym, subst, ◌∙◌}
-use Rattle.std.specs.Prelude.{nat_eq, find, filter, All, option_map, flat_map, option_to_list, is_some, IsSome}
+use Rattle.std.specs.Prelude.{nat_eq, find, filter, option_map, flat_map, option_to_list, IsSome}
 use Rattle.std.specs.Option.{ForSome, option_map_or}
 use Rattle.std.proofs.lemmas.Bool.{true≢false, false_from_ne_true}
 use Rattle.std.proofs.lemmas.Option.{same_Some, cond_some}
-use Rattle.std.proofs.lemmas.List.Elements.{All-nil, All-cons, All-head, All-tail, All-append, All-weaker, recursion_from_All}
+use Rattle.std.proofs.lemmas.List.Elements.{All-nil, All-cons, All-head, All-tail, All-weaker, recursion_from_All}
 use Rattle.flow_filter.specs.declared.prefix.Prefix.{Prefix}
 use Rattle.flow_filter.specs.declared.flow.Flow.{Flow}
 use Rattle.flow_filter.specs.declared.filter.Filter.{Filter}
-use Rattle.flow_filter.specs.Filter.{holds, matches, meet, meet_value, meet_prefix, covers, IsFlow, IsFilter, IsMeet, Meet}
+use Rattle.flow_filter.specs.Filter.{holds, matches, meet, meet_value, meet_prefix, covers, IsFlow, IsFilter}
 use Rattle.basics.specs.Options.{◌>>=◌}
 use Rattle.flow_filter.proofs.FilterLemmas.{meet_law, covers_law, IsMeetOf}
 use Rattle.switch_rules.specs.declared.target.Target.{Target}

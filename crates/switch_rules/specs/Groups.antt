@@ -1,6 +1,6 @@
 -- The classifier: the rules in groups by their masks. A flow is looked up once in each group, and the entry with the least place is
 -- the first rule that matches. This project's own, after tuple space search (Srinivasan, Suri and Varghese, 1999).
-use Rattle.std.specs.Prelude.{◌≡◌, ℕ, ◌&&◌, Bool, not, nat_lt, if◌then◌else◌, List, [], ◌∷◌, map, filter, find, All, Option, None, Some, IsSome, is_some, option_map}
+use Rattle.std.specs.Prelude.{◌≡◌, ◌&&◌, Bool, nat_lt, if◌then◌else◌, List, [], ◌∷◌, map, find, All, Option, None, Some, IsSome, is_some, option_map}
 use Rattle.std.specs.List.{enumerate_from, filter_map}
 use Rattle.flow_filter.specs.declared.flow.Flow.{Flow}
 use Rattle.flow_filter.specs.declared.filter.Filter.{Filter}

@@ -1,5 +1,5 @@
 -- One more rule: it is covered, or goes behind the others.
-use Rattle.std.proofs.Common.{◌≡◌, ap, sym, ◌∙◌, subst, length, take, List, [], ◌∷◌, ◌++◌}
+use Rattle.std.proofs.Common.{ap, sym, ◌∙◌, subst, take, [], ◌∷◌, ◌++◌}
 use Rattle.std.specs.List.{list_any}
 use Rattle.flow_filter.specs.Filter.{covers}
 use Rattle.switch_rules.specs.Rules.{AreFilters}

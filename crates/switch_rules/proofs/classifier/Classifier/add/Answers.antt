@@ -1,14 +1,12 @@
 -- One more rule in the group of its mask, or in a group of its own.
-use Rattle.std.proofs.Common.{◌≡◌, ap, sym, ◌∙◌, subst, length, set, get_or, List, [], ◌∷◌, ◌++◌, Some, None, OnOk, not, is_some, cond, ◌&&◌}
+use Rattle.std.proofs.Common.{◌≡◌, ap, sym, ◌∙◌, subst, length, set, get_or, [], ◌∷◌, ◌++◌, Some, None, not, is_some, cond, ◌&&◌}
 use Rattle.std.specs.Prelude.{position}
 use Rattle.std.proofs.lemmas.Result.{on_ok_weaker}
 use Rattle.flow_filter.specs.Flow.{flow_eq}
-use Rattle.switch_rules.specs.declared.mask.Mask.{Mask}
-use Rattle.switch_rules.specs.declared.group.Placed.{Placed}
 use Rattle.switch_rules.specs.Masks.{mask_of, values_of, mask_eq}
 use Rattle.switch_rules.specs.Rules.{Rule}
 use Rattle.switch_rules.specs.Groups.{AreGroups, entry}
-use Rattle.switch_rules.proofs.GroupLemmas.{last, add_to_group, add_group}
+use Rattle.switch_rules.proofs.GroupLemmas.{add_to_group, add_group}
 use Rattle.switch_rules.proofs.classifier.Classifier.add.Goals as goal
 
 pub returns-in-Some-clause-groups : goal.returns-in-Some-clause-groups

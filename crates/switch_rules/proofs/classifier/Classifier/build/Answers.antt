@@ -1,5 +1,5 @@
 -- One more rule, and what the groups of all rules answer.
-use Rattle.std.proofs.Common.{◌≡◌, ap, sym, ◌∙◌, subst, take, arith, length}
+use Rattle.std.proofs.Common.{subst, take}
 use Rattle.std.proofs.lemmas.List.{take_all}
 use Rattle.switch_rules.specs.Rules.{AreFilters}
 use Rattle.switch_rules.specs.Groups.{AreGroups}

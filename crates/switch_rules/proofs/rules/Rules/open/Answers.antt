@@ -1,6 +1,6 @@
 -- What routes open, and that the classifier is the list's.
-use Rattle.std.proofs.Common.{◌≡◌, ap, sym, ◌∙◌, subst, is_some}
-use Rattle.switch_rules.specs.Rules.{first_match, opened, AreFilters}
+use Rattle.std.proofs.Common.{ap, ◌∙◌, subst, is_some}
+use Rattle.switch_rules.specs.Rules.{first_match, AreFilters}
 use Rattle.switch_rules.specs.Groups.{AreGroups}
 use Rattle.switch_rules.proofs.RedirectLaws.{opened_law}
 use Rattle.switch_rules.proofs.rules.Rules.open.Goals as goal

@@ -1,6 +1,6 @@
 -- The law of the new list, and that the classifier is the list's.
-use Rattle.std.proofs.Common.{◌≡◌, ap, sym, ◌∙◌, subst, List, flat_map}
-use Rattle.switch_rules.specs.Rules.{Rule, Redirect, Redirects, split, uncovered, redirected, AreFilters}
+use Rattle.std.proofs.Common.{◌≡◌, ap, sym, ◌∙◌, subst, flat_map}
+use Rattle.switch_rules.specs.Rules.{Redirect, Redirects, split, uncovered, redirected, AreFilters}
 use Rattle.switch_rules.proofs.RedirectLaws.{AreFilters-redirected, redirected_law, still_all}
 use Rattle.switch_rules.proofs.rules.Rules.redirect.Goals as goal
 

@@ -1,5 +1,5 @@
 -- The classifier finds the first rule that matches, and there is one.
-use Rattle.std.proofs.Common.{◌≡◌, ap, sym, ◌∙◌, Some, None, is_some}
+use Rattle.std.proofs.Common.{ap, sym, ◌∙◌, is_some}
 use Rattle.std.proofs.lemmas.Bool.{true≢false}
 use Rattle.switch_rules.specs.Rules.{first_match}
 use Rattle.switch_rules.proofs.FirstMatches.{answer-first}
