@@ -86,7 +86,9 @@ fn found(table: &Table<Conntrack>, host: u8, live: bool) -> Option<TrackRecord> 
 fn two_live_units_and_three_chunks_fit_five_and_not_four(rt: HostRuntime) -> Result<(), Fail> {
     let alloc = rt.alloc();
     let mut kept = table(alloc, &[1, 2])?;
-    let refused = kept.import(chunks(alloc, &[3, 4, 5])?, 3, 4);
+    let coming = chunks(alloc, &[3, 4, 5])?;
+    assert_eq!(rt; coming.items().len(), 3);
+    let refused = kept.import(coming, 3, 4);
     let Err(
         ImportFault::Limit {
             held: 2,
@@ -100,7 +102,6 @@ fn two_live_units_and_three_chunks_fit_five_and_not_four(rt: HostRuntime) -> Res
     };
     assert_eq!(rt; chunks.items().len(), 3);
     assert_eq!(rt; kept.units(true)?.items(), [unit(1), unit(2)].as_slice());
-    assert_eq!(rt; chunks.items().len(), 1);
     assert!(rt; kept.import(chunks, 3, 5).is_ok());
     assert_eq!(rt; kept.live_count(), 5);
     assert_eq!(rt;
@@ -143,6 +144,7 @@ fn the_second_chunk_of_a_unit_is_bad(rt: HostRuntime) -> Result<(), Fail> {
     for chunk in more.into_vec() {
         twice.push(chunk)?;
     }
+    assert_eq!(rt; twice.items().len(), 2);
     let Err(ImportFault::Bad { index: 1, chunks }) = kept.import(twice, 2, 9) else {
         return Err("the second chunk".into());
     };
@@ -176,7 +178,9 @@ fn a_chunk_that_spells_no_record_is_bad(rt: HostRuntime) -> Result<(), Fail> {
 fn a_newer_live_record_stays_and_an_older_one_goes(rt: HostRuntime) -> Result<(), Fail> {
     let alloc = rt.alloc();
     let mut kept = table(alloc, &[1, 1, 2])?;
-    assert!(rt; kept.import(chunks(alloc, &[1, 2, 2])?, 2, 9).is_ok());
+    let coming = chunks(alloc, &[1, 2, 2])?;
+    assert_eq!(rt; coming.items().len(), 2);
+    assert!(rt; kept.import(coming, 2, 9).is_ok());
     assert_eq!(rt; found(&kept, 1, true), Some(record(2)));
     assert_eq!(rt; found(&kept, 2, true), Some(record(2)));
     assert_eq!(rt; kept.live_count(), 2);
@@ -197,7 +201,9 @@ fn records_that_stand_by_are_apart(rt: HostRuntime) -> Result<(), Fail> {
     assert_eq!(rt; kept.units(false)?.items(), [unit(1), unit(2)].as_slice());
 
     // A chunk is taken over a live record without what stands by, and `sync` takes it in any case.
-    assert!(rt; kept.import(chunks(alloc, &[2])?, 1, 2).is_ok());
+    let coming = chunks(alloc, &[2])?;
+    assert_eq!(rt; coming.items().len(), 1);
+    assert!(rt; kept.import(coming, 1, 2).is_ok());
     assert_eq!(rt; found(&kept, 2, true), Some(record(1)));
     assert!(rt; kept.sync(false, chunks(alloc, &[2])?).is_ok());
     assert_eq!(rt; found(&kept, 2, false), Some(record(1)));
