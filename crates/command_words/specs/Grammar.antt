@@ -38,6 +38,13 @@ check_rules = rule_by Positional (codes "function") ∷ rule_by Required (codes 
 unfoldable pub check_app : App
 check_app = app_with (codes "check") check_rules
 
+-- NUMBER --packets N --hosts H TRACE
+abbrev pub gen_rules : List Rule
+gen_rules = rule_by Positional (codes "number") ∷ rule_by Required (codes "packets") ∷ rule_by Required (codes "hosts") ∷ rule_by Positional (codes "trace") ∷ []
+
+unfoldable pub gen_app : App
+gen_app = app_with (codes "gen") gen_rules
+
 -- the values of words that have no fault
 abbrev pub taken : List ErrorKind → List Row → Option (List Row)
 taken [] rows = Some rows
@@ -59,10 +66,25 @@ pub record Given : Type 0 where
   pub schedule : Option Text
   pub trace : Option Text
   pub script : Option Text
+  pub number : Option Text
+  pub packets : Option Text
+  pub hosts : Option Text
 
 -- nothing is given
 abbrev pub nothing : Given
-nothing = record { function = None; instances = None; inside = None; outside = None; window = None; schedule = None; trace = None; script = None }
+nothing = record {
+  function = None;
+  instances = None;
+  inside = None;
+  outside = None;
+  window = None;
+  schedule = None;
+  trace = None;
+  script = None;
+  number = None;
+  packets = None;
+  hosts = None;
+}
 
 abbrev pub given_of : List Row → Given
 given_of rows = record {
@@ -74,6 +96,9 @@ given_of rows = record {
   schedule = value_of (codes "schedule") rows;
   trace = value_of (codes "trace") rows;
   script = value_of (codes "script") rows;
+  number = value_of (codes "number") rows;
+  packets = value_of (codes "packets") rows;
+  hosts = value_of (codes "hosts") rows;
 }
 
 -- the texts that the words of a command give, or None where the words aren't in its grammar

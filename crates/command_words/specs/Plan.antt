@@ -12,7 +12,7 @@ use Rattle.nf_function.specs.declared.kind.Kind.{Kind}
 use Rattle.nf_function.specs.declared.kind.Kind.TheVariants.{Conntrack, Nat, Monitor}
 use Rattle.actor_net.specs.declared.schedule.Schedule.{Schedule}
 use Rattle.actor_net.specs.declared.schedule.Schedule.TheVariants.{First, Last, Number}
-use Rattle.command_words.specs.Grammar.{Given, given_arguments, sim_app, check_app}
+use Rattle.command_words.specs.Grammar.{Given, given_arguments, sim_app, check_app, gen_app}
 
 -- only where the test is true
 abbrev pub only : {A : Type 0} → Bool → Option A → Option A
@@ -45,10 +45,18 @@ pub record CheckAsked : Type 0 where
   pub instances : Instances
   pub script : Text
 
+-- what `gen` asks for
+pub record GenAsked : Type 0 where
+  pub number : ℕ
+  pub packets : ℕ
+  pub hosts : ℕ
+  pub trace : Text
+
 -- what the words ask for
 pub data Asked : Type 0 where
   asks_sim : SimAsked → Asked
   asks_check : CheckAsked → Asked
+  asks_gen : GenAsked → Asked
 
 -- FUNCTION
 unfoldable pub function_of : Text → Option Kind
@@ -95,10 +103,18 @@ outside_of Conntrack inside (Some text) = None
 outside_of Monitor inside None = Some None
 outside_of Monitor inside (Some text) = None
 
+-- a number from 1 to this one
+unfoldable pub count_of : ℕ → Text → Option ℕ
+count_of most text = parse_number most text >>= λ count. only (nat_le 1 count) (Some count)
+
 -- W: 1 to 4096, and 256 where it isn't given
 unfoldable pub window_of : Option Text → Option ℕ
 window_of None = Some 256
-window_of (Some text) = parse_number 4096 text >>= λ window. only (nat_le 1 window) (Some window)
+window_of (Some text) = count_of 4096 text
+
+-- NUMBER: below 2 ^ 64
+abbrev pub number_of : Text → Option ℕ
+number_of text = parse_number 18446744073709551615 text
 
 -- `first`, `last` or a number; `first` where it isn't given
 unfoldable pub schedule_of : Option Text → Option Schedule
@@ -106,7 +122,7 @@ schedule_of None = Some First
 schedule_of (Some text) =
     if bytes_eq text (codes "first") then Some First
     else if bytes_eq text (codes "last") then Some Last
-    else option_map Number (parse_number 18446744073709551615 text)
+    else option_map Number (number_of text)
 
 -- a file's name isn't empty
 abbrev pub file_of : Text → Option Text
@@ -172,16 +188,29 @@ check_values g = do
   script ← g.script >>= file_of
   Some (record { kind = kind; instances = instances; script = script })
 
+-- the values of `gen`: 1 to 1,000,000 packets, and 1 to 256 hosts
+unfoldable pub gen_values : Given → Option GenAsked
+gen_values g = do
+  number ← g.number >>= number_of
+  packets ← g.packets >>= count_of 1000000
+  hosts ← g.hosts >>= count_of 256
+  trace ← g.trace >>= file_of
+  Some (record { number = number; packets = packets; hosts = hosts; trace = trace })
+
 abbrev pub sim_of : List Text → Option Asked
 sim_of words = given_arguments sim_app words >>= λ g. only (is_built g) (sim_values g >>= λ s. Some (asks_sim s))
 
 abbrev pub check_of : List Text → Option Asked
 check_of words = given_arguments check_app words >>= λ g. check_values g >>= λ c. Some (asks_check c)
 
+abbrev pub gen_of : List Text → Option Asked
+gen_of words = given_arguments gen_app words >>= λ g. gen_values g >>= λ v. Some (asks_gen v)
+
 -- PROGRAM COMMAND and the words of the command
 unfoldable pub plan_of : List Text → Option Asked
 plan_of (program ∷ command ∷ words) =
     if bytes_eq command (codes "sim") then sim_of words
     else if bytes_eq command (codes "check") then check_of words
+    else if bytes_eq command (codes "gen") then gen_of words
     else None
 plan_of _ = None

@@ -4,9 +4,10 @@ use Rattle.flow_filter.specs.Reading.{prefix_numbers}
 use Rattle.command_words.specs.declared.request.Instances as code
 use Rattle.command_words.specs.declared.request.Simulation.{Simulation}
 use Rattle.command_words.specs.declared.request.Checking.{Checking}
+use Rattle.command_words.specs.declared.request.Generating.{Generating}
 use Rattle.command_words.specs.declared.request.Request.{Request}
-use Rattle.command_words.specs.declared.request.Request.TheVariants.{Sim, Check}
-use Rattle.command_words.specs.Plan.{Instances, SimAsked, CheckAsked, Asked, asks_sim, asks_check}
+use Rattle.command_words.specs.declared.request.Request.TheVariants.{Sim, Check, Gen}
+use Rattle.command_words.specs.Plan.{Instances, SimAsked, CheckAsked, GenAsked, Asked, asks_sim, asks_check, asks_gen}
 
 -- the names and the limits
 abbrev pub instances_view : code.Instances → Instances
@@ -27,6 +28,10 @@ sim_view s = record {
 abbrev pub check_view : Checking → CheckAsked
 check_view c = record { kind = c.kind; instances = instances_view c.instances; script = c.script.now }
 
+abbrev pub gen_view : Generating → GenAsked
+gen_view g = record { number = g.number; packets = g.packets; hosts = g.hosts; trace = g.trace.now }
+
 abbrev pub request_view : Request → Asked
 request_view (Sim s) = asks_sim (sim_view s)
 request_view (Check c) = asks_check (check_view c)
+request_view (Gen g) = asks_gen (gen_view g)

@@ -24,4 +24,7 @@ given_view g = record {
   schedule = option_map (λ t. t.now) g.schedule;
   trace = option_map (λ t. t.now) g.trace;
   script = option_map (λ t. t.now) g.script;
+  number = option_map (λ t. t.now) g.number;
+  packets = option_map (λ t. t.now) g.packets;
+  hosts = option_map (λ t. t.now) g.hosts;
 }

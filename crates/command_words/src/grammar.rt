@@ -1,6 +1,6 @@
 ghost use Rattle.std.specs.Prelude.{Some, None, codes, ◌≡◌, ◌++◌, ◌∷◌, [], true, false, List, map, IfOk, option_map, string_bytes};
 ghost use Rattle.clap.specs.Words.{Rule, Text, app_of, rule_of, rows_of, found_of, is_simple_and_free};
-ghost use Rattle.command_words.specs.Grammar.{rule_by, app_with, sim_app, check_app, rows_taken, value_of, given_of, given_arguments, nothing};
+ghost use Rattle.command_words.specs.Grammar.{rule_by, app_with, sim_app, check_app, gen_app, rows_taken, value_of, given_of, given_arguments, nothing};
 ghost use Rattle.command_words.specs.Views.{Reads, given_view};
 
 use crate::fault::ArgumentsFault;
@@ -32,6 +32,9 @@ pub struct GivenWords<'a> {
     pub schedule: Option<&'a str>,
     pub trace: Option<&'a str>,
     pub script: Option<&'a str>,
+    pub number: Option<&'a str>,
+    pub packets: Option<&'a str>,
+    pub hosts: Option<&'a str>,
 }
 
 /// The arguments of `sim`.
@@ -51,6 +54,14 @@ static CHECK: [(ArgumentKind, &str); 3] = [
     (ArgumentKind::Positional, "function"),
     (ArgumentKind::Required, "instances"),
     (ArgumentKind::Positional, "script"),
+];
+
+/// The arguments of `gen`.
+static GEN: [(ArgumentKind, &str); 4] = [
+    (ArgumentKind::Positional, "number"),
+    (ArgumentKind::Required, "packets"),
+    (ArgumentKind::Required, "hosts"),
+    (ArgumentKind::Positional, "trace"),
 ];
 
 /// A place that must be there.
@@ -152,6 +163,14 @@ fn check_command<'a>(alloc: Global) -> Result<Command<'a>, AllocError>
     command_of(alloc, "check", CHECK.as_slice())
 }
 
+/// The command `gen`.
+fn gen_command<'a>(alloc: Global) -> Result<Command<'a>, AllocError>
+    ensures app { IfOk result (λ c. app_of c ≡ gen_app) }
+    ensures simple { IfOk result (λ c. is_simple_and_free (app_of c) ≡ true) }
+{
+    command_of(alloc, "gen", GEN.as_slice())
+}
+
 /// What the words of a command give.
 fn parsed<'a>(command: Command<'a>, words: &'a [String]) -> Result<ArgMatches<'a>, ArgumentsFault>
     requires { is_simple_and_free (app_of command) ≡ true }
@@ -186,6 +205,9 @@ fn given_of<'a>(matches: &ArgMatches<'a>) -> GivenWords<'a>
         schedule: text_of(matches, "schedule"),
         trace: text_of(matches, "trace"),
         script: text_of(matches, "script"),
+        number: text_of(matches, "number"),
+        packets: text_of(matches, "packets"),
+        hosts: text_of(matches, "hosts"),
     }
 }
 
@@ -209,16 +231,29 @@ pub fn read_check<'a>(alloc: Global, words: &'a [String]) -> Result<GivenWords<'
     Ok(given_of(&matches))
 }
 
+/// The texts that the words after `gen` give.
+#[tactic(auto, unfolding(crate::specs::Grammar::given_arguments))]
+pub fn read_gen<'a>(alloc: Global, words: &'a [String]) -> Result<GivenWords<'a>, ArgumentsFault>
+    ensures { Reads given_view result (given_arguments gen_app (map string_bytes words.entry.now)) }
+{
+    let command = gen_command(alloc)?;
+    let matches = parsed(command, words)?;
+    Ok(given_of(&matches))
+}
+
 /// Laws of the grammar, for words with any texts in them: which names the texts are given for, and what is refused.
 pub fn written_words()
     ensures sim { (f l p t : Text) → given_arguments sim_app ((codes "--instances=" ++ l) ∷ (codes "--inside=" ++ p) ∷ codes "--" ∷ f ∷ t ∷ [])
         ≡ Some (record nothing { function = Some f; instances = Some l; inside = Some p; trace = Some t }) }
     ensures options { (f l p o w s t c : Text) → given_arguments sim_app ((codes "--schedule=" ++ s) ∷ (codes "--window=" ++ w) ∷ (codes "--outside=" ++ o)
         ∷ (codes "--inside=" ++ p) ∷ (codes "--instances=" ++ l) ∷ codes "--" ∷ f ∷ t ∷ c ∷ [])
-        ≡ Some (record { function = Some f; instances = Some l; inside = Some p; outside = Some o; window = Some w; schedule = Some s; trace = Some t; script = Some c }) }
+        ≡ Some (record nothing { function = Some f; instances = Some l; inside = Some p; outside = Some o; window = Some w; schedule = Some s; trace = Some t; script = Some c }) }
     ensures check { (f l s : Text) → given_arguments check_app ((codes "--instances=" ++ l) ∷ codes "--" ∷ f ∷ s ∷ [])
         ≡ Some (record nothing { function = Some f; instances = Some l; script = Some s }) }
+    ensures capture { (n p h t : Text) → given_arguments gen_app ((codes "--packets=" ++ p) ∷ (codes "--hosts=" ++ h) ∷ codes "--" ∷ n ∷ t ∷ [])
+        ≡ Some (record nothing { number = Some n; packets = Some p; hosts = Some h; trace = Some t }) }
     ensures missing { (f l t : Text) → given_arguments sim_app ((codes "--instances=" ++ l) ∷ codes "--" ∷ f ∷ t ∷ []) ≡ None }
+    ensures hosts { (n p t : Text) → given_arguments gen_app ((codes "--packets=" ++ p) ∷ codes "--" ∷ n ∷ t ∷ []) ≡ None }
     ensures twice { (f l p t : Text) → given_arguments sim_app ((codes "--instances=" ++ l) ∷ (codes "--inside=" ++ p) ∷ (codes "--inside=" ++ p) ∷ codes "--" ∷ f ∷ t ∷ []) ≡ None }
     ensures stray { (f l s more : Text) → given_arguments check_app ((codes "--instances=" ++ l) ∷ codes "--" ∷ f ∷ s ∷ more ∷ []) ≡ None }
     ensures unknown { (f l s : Text) → given_arguments check_app ((codes "--instances=" ++ l) ∷ codes "--summary" ∷ codes "--" ∷ f ∷ s ∷ []) ≡ None }

@@ -1,6 +1,15 @@
+ghost use Rattle.std.specs.Prelude.{◌≤◌};
+ghost use Rattle.command_words.specs.declared.request.TheConstants.{MOST_PACKETS, MOST_HOSTS};
+
 use actor_net::Schedule;
 use flow_filter::{Name, Site};
 use nf_function::Kind;
+
+/// The most packets of a generated capture.
+pub const MOST_PACKETS: u32 = 1_000_000;
+
+/// The most hosts of a generated capture.
+pub const MOST_HOSTS: u32 = 256;
 
 /// The instances of a run, each with how many live records it takes in by moves.
 #[derive(Debug, Drop)]
@@ -34,6 +43,21 @@ pub struct Checking<'a> {
     pub script: &'a str,
 }
 
+/// What `gen` asks for.
+#[derive(Debug, Drop)]
+pub struct Generating<'a> {
+    /// What the capture is drawn from.
+    pub number: u64,
+    /// How many packets it has.
+    pub packets: u32,
+    /// How many hosts are inside.
+    pub hosts: u32,
+    /// The file of the capture, which is written.
+    pub trace: &'a str,
+    ghost packets_in_range: { (1 ≤ packets) × (packets ≤ MOST_PACKETS) },
+    ghost hosts_in_range: { (1 ≤ hosts) × (hosts ≤ MOST_HOSTS) },
+}
+
 /// What the words ask for.
 #[derive(Debug, Drop)]
 pub enum Request<'a> {
@@ -41,4 +65,6 @@ pub enum Request<'a> {
     Sim(Simulation<'a>),
     /// The canonical text of a script.
     Check(Checking<'a>),
+    /// A generated capture.
+    Gen(Generating<'a>),
 }

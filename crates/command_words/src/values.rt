@@ -4,7 +4,7 @@ ghost use Rattle.flow_filter.specs.Prefixes.{in_prefix};
 ghost use Rattle.flow_filter.specs.Name.{is_name};
 ghost use Rattle.basics.specs.Parsing.{split_once, parse_number};
 ghost use Rattle.flow_filter.specs.Reading.{prefix_numbers};
-ghost use Rattle.command_words.specs.Plan.{function_of, instance_of, with_limit, all_instances, instances_of, inside_of, outside_of, window_of, schedule_of, file_of, file_if};
+ghost use Rattle.command_words.specs.Plan.{function_of, instance_of, with_limit, all_instances, instances_of, inside_of, outside_of, window_of, count_of, number_of, schedule_of, file_of, file_if};
 ghost use Rattle.command_words.specs.RequestViews.{instances_view};
 
 use crate::request::Instances;
@@ -24,6 +24,9 @@ const MOST_INSTANCES: usize = 16;
 
 /// The window that is not named.
 const WINDOW: u32 = 256;
+
+/// The widest window.
+const MOST_WINDOW: u32 = 4096;
 
 /// The function with this name.
 #[tactic(auto, unfolding(crate::specs::Plan::function_of))]
@@ -155,15 +158,25 @@ pub fn window_of(text: Option<&str>) -> Option<u32>
 {
     match text {
         None => Some(WINDOW),
-        Some(text) => {
-            let window = parse_number(text.as_bytes(), 4096)?;
-            if 1 <= window {
-                Some(window as u32)
-            } else {
-                None
-            }
-        }
+        Some(_) => count_of(text, MOST_WINDOW),
     }
+}
+
+/// A number from 1 to `most`, which must be given.
+#[tactic(auto, unfolding(crate::specs::Plan::count_of))]
+pub fn count_of(text: Option<&str>, most: u32) -> Option<u32>
+    ensures value { result ≡ option_and_then (count_of most) (option_map (λ t. t.now) text.entry) }
+    ensures range { IfSome result (λ count. (1 ≤ count) × (count ≤ most)) }
+{
+    let count = parse_number(text?.as_bytes(), u64::from(most))?;
+    if 1 <= count { Some(count as u32) } else { None }
+}
+
+/// A number below 2 to the 64th, which must be given.
+pub fn number_of(text: Option<&str>) -> Option<u64>
+    ensures { result ≡ option_and_then number_of (option_map (λ t. t.now) text.entry) }
+{
+    parse_number(text?.as_bytes(), u64::MAX)
 }
 
 /// The schedule, or `first` where none is named.
@@ -187,7 +200,7 @@ fn named_schedule(text: &str) -> Option<Schedule>
     } else if text == "last" {
         Some(Schedule::Last)
     } else {
-        parse_number(text.as_bytes(), u64::MAX).map(Schedule::Number)
+        number_of(Some(text)).map(Schedule::Number)
     }
 }
 

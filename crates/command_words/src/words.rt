@@ -1,13 +1,14 @@
 ghost use Rattle.std.specs.Prelude.{◌≡◌, map, option_map, string_bytes};
-ghost use Rattle.command_words.specs.Plan.{plan_of, sim_of, check_of, sim_values, check_values, is_built, is_conntrack, is_one_name, is_last};
+ghost use Rattle.command_words.specs.Plan.{plan_of, sim_of, check_of, gen_of, sim_values, check_values, gen_values, is_built, is_conntrack, is_one_name, is_last};
 ghost use Rattle.command_words.specs.Views.{Reads, given_view};
-ghost use Rattle.command_words.specs.RequestViews.{request_view, sim_view, check_view};
+ghost use Rattle.command_words.specs.RequestViews.{request_view, sim_view, check_view, gen_view};
 
 use crate::fault::ArgumentsFault;
-use crate::grammar::{GivenWords, read_check, read_sim};
-use crate::request::{Checking, Request, Simulation};
+use crate::grammar::{GivenWords, read_check, read_gen, read_sim};
+use crate::request::{Checking, Generating, MOST_HOSTS, MOST_PACKETS, Request, Simulation};
 use crate::values::{
-    file_if, file_of, function_of, inside_of, instances_of, schedule_of, site_of, window_of,
+    count_of, file_if, file_of, function_of, inside_of, instances_of, number_of, schedule_of,
+    site_of, window_of,
 };
 use flow_filter::name::is_name;
 use std::alloc::Global;
@@ -23,6 +24,8 @@ pub fn parse_command<'a>(alloc: Global, words: &'a [String]) -> Result<Request<'
                 read_simulation(alloc, words)
             } else if command.as_str() == "check" {
                 read_checking(alloc, words)
+            } else if command.as_str() == "gen" {
+                read_generating(alloc, words)
             } else {
                 Err(ArgumentsFault::Usage)
             }
@@ -50,6 +53,17 @@ fn read_checking<'a>(alloc: Global, words: &'a [String]) -> Result<Request<'a>, 
     let given = read_check(alloc, words)?;
     let checking = check_values(alloc, &given)?;
     Ok(Request::Check(checking))
+}
+
+/// What the words after `gen` ask for.
+fn read_generating<'a>(alloc: Global, words: &'a [String]) -> Result<Request<'a>, ArgumentsFault>
+    ensures { Reads request_view result (gen_of (map string_bytes words.entry.now)) }
+{
+    let given = read_gen(alloc, words)?;
+    let Some(generating) = gen_values(&given) else {
+        return Err(ArgumentsFault::Usage);
+    };
+    Ok(Request::Gen(generating))
 }
 
 /// Whether `sim` does by now what the texts ask for.
@@ -155,6 +169,19 @@ fn check_values<'a>(alloc: Global, given: &GivenWords<'a>) -> Result<Checking<'a
     })
 }
 
+/// The values of `gen`, where each is in its grammar.
+#[tactic(auto, unfolding(crate::specs::Plan::gen_values))]
+fn gen_values<'a>(given: &GivenWords<'a>) -> Option<Generating<'a>>
+    ensures { option_map gen_view result ≡ gen_values (given_view given.now) }
+{
+    Some(Generating {
+        number: number_of(given.number)?,
+        packets: count_of(given.packets, MOST_PACKETS)?,
+        hosts: count_of(given.hosts, MOST_HOSTS)?,
+        trace: file_of(given.trace)?,
+    })
+}
+
 #[cfg(test)]
 mod tests {
     use super::*;
@@ -162,7 +189,7 @@ mod tests {
     use std::test::Fail;
 
     /// Words, and the command that they ask for, or `usage`.
-    static ROWS: [(&str, &str); 64] = [
+    static ROWS: [(&str, &str); 82] = [
         (
             "x sim conntrack --instances a --inside 10.0.0.0/24 --schedule last t",
             "sim",
@@ -303,6 +330,33 @@ mod tests {
             "usage",
         ),
         ("x check ids --instances a s", "usage"),
+        ("x gen 7 --packets 3 --hosts 1 t", "gen"),
+        ("x gen --hosts=256 --packets=1000000 0 t", "gen"),
+        (
+            "x gen 18446744073709551615 --packets 1 --hosts 1 -- -t",
+            "gen",
+        ),
+        (
+            "x gen 18446744073709551616 --packets 1 --hosts 1 t",
+            "usage",
+        ),
+        ("x gen 0 --packets 0 --hosts 1 t", "usage"),
+        ("x gen 0 --packets 1 --hosts 257 t", "usage"),
+        ("x gen 0 --packets 1000001 --hosts 1 t", "usage"),
+        ("x gen 0 --packets 1 --hosts 0 t", "usage"),
+        ("x gen 07 --packets 3 --hosts 1 t", "usage"),
+        ("x gen 7 --packets 03 --hosts 1 t", "usage"),
+        ("x gen -7 --packets 3 --hosts 1 t", "usage"),
+        ("x gen 7 --packets 3 t", "usage"),
+        ("x gen 7 --packets 3 --hosts 1", "usage"),
+        ("x gen 7 --packets 3 --hosts 1 ", "usage"),
+        ("x gen 7 --packets 3 --hosts 1 t s", "usage"),
+        ("x gen 7 --packets 3 --packets 3 --hosts 1 t", "usage"),
+        (
+            "x gen 7 --packets 3 --hosts 1 --inside 10.0.0.0/24 t",
+            "usage",
+        ),
+        ("x --packets 3 gen 7 --hosts 1 t", "usage"),
         ("x", "usage"),
         (
             "x run conntrack --instances a --inside 10.0.0.0/24 t",
@@ -322,6 +376,7 @@ mod tests {
         match reading {
             Ok(Request::Sim(_)) => "sim",
             Ok(Request::Check(_)) => "check",
+            Ok(Request::Gen(_)) => "gen",
             Err(ArgumentsFault::Usage) => "usage",
             Err(ArgumentsFault::NoMemory) => "no memory",
         }
@@ -349,6 +404,20 @@ mod tests {
         );
         assert_eq!(rt; checking.instances.names.len(), 2);
         assert_eq!(rt; checking.script, "s");
+        Ok(())
+    }
+
+    #[test]
+    fn gen_gives_its_numbers_and_the_file(rt: HostRuntime) -> Result<(), Fail> {
+        let words = split(rt.alloc(), "x gen 7 --hosts 200 --packets 10000 t")?;
+        let Ok(Request::Gen(asked)) = parse_command(rt.alloc(), words.as_slice()) else {
+            return Err(Fail::from("no gen"));
+        };
+        assert_eq!(rt;
+            (asked.number, asked.packets, asked.hosts),
+            (7, 10_000, 200)
+        );
+        assert_eq!(rt; asked.trace, "t");
         Ok(())
     }
 }
