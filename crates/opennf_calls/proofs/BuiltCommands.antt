@@ -1,5 +1,5 @@
 -- What words can ask for by now.
-use Rattle.std.proofs.Common.{◌≡◌, ◌≤◌, ℕ, Bool, true, false, not, ◌&&◌, cond, List, [], ◌∷◌, length, get_or, arith, Option, None, Some, option_map, is_none, refl, ap, sym, ◌∙◌, subst}
+use Rattle.std.proofs.Common.{◌≡◌, ◌≤◌, ℕ, Bool, true, false, not, ◌&&◌, cond, List, [], ◌∷◌, length, Option, None, Some, is_none, refl, ap, sym, ◌∙◌, subst}
 use Rattle.std.specs.Prelude.{option_and_then, codes}
 use Rattle.std.proofs.Math.Dec.{leb, eqb}
 use Rattle.std.specs.List.{list_all, slice_split}
@@ -9,8 +9,8 @@ use Rattle.flow_filter.specs.Name.{is_name, is_name_byte, has_twice}
 use Rattle.basics.specs.Parsing.{split_once}
 use Rattle.basics.proofs.SplitLemmas.{split-None}
 use Rattle.opennf_calls.specs.Phases.{IsPlain}
-use Rattle.command_words.specs.Grammar.{Given, given_arguments, sim_app, check_app}
-use Rattle.command_words.specs.Plan.{SimAsked, CheckAsked, Instances, asks_sim, asks_check, only, function_of, instance_of, all_instances, instances_of, inside_of, outside_of, window_of, schedule_of, file_of, file_if, is_conntrack, is_one_name, is_last, sim_values, check_values, is_built, sim_of, check_of, plan_of}
+use Rattle.command_words.specs.Grammar.{Given, given_arguments, sim_app, check_app, gen_app}
+use Rattle.command_words.specs.Plan.{Asked, SimAsked, CheckAsked, GenAsked, Instances, asks_sim, asks_check, asks_gen, only, function_of, instance_of, all_instances, instances_of, inside_of, outside_of, window_of, schedule_of, file_of, file_if, is_conntrack, is_one_name, is_last, sim_values, check_values, gen_values, is_built, sim_of, check_of, gen_of, plan_of}
 
 -- what an answer was made of
 and_then : {A B : Type 0} (f : A → Option B) (o : Option A) (y : B) → option_and_then f o ≡ Some y → (x : A) × (o ≡ Some x) × (f x ≡ Some y)
@@ -116,31 +116,41 @@ check_few words c is =
     let same : v.0 ≡ c = cc in
     subst (λ (c : CheckAsked). length c.instances.0 ≤ 16) same (checked_few g.0 v.0 v.1)
 
--- the words of the one command aren't those of the other
-not_checked : (words : List (List ℕ)) (s : SimAsked) → check_of words ≡ Some (asks_sim s) → ⊥
-not_checked words s is =
-    let g = and_then _ (given_arguments check_app words) (asks_sim s) is in
-    let v = and_then _ (check_values g.0) (asks_sim s) g.2 in
-    let other : asks_check v.0 ≡ asks_sim s = same_some v.2 in cc
+-- what the words of a command ask for is of its own kind
+sim_asks : (words : List (List ℕ)) (asked : Asked) → sim_of words ≡ Some asked → (s : SimAsked) × (asks_sim s ≡ asked)
+sim_asks words asked is =
+    let g = and_then _ (given_arguments sim_app words) asked is in
+    let now = only_when (is_built g.0) _ asked g.2 in
+    let v = and_then _ (sim_values g.0) asked now.1 in
+    (v.0, same_some v.2)
 
-not_simulated : (words : List (List ℕ)) (c : CheckAsked) → sim_of words ≡ Some (asks_check c) → ⊥
-not_simulated words c is =
-    let g = and_then _ (given_arguments sim_app words) (asks_check c) is in
-    let now = only_when (is_built g.0) _ (asks_check c) g.2 in
-    let v = and_then _ (sim_values g.0) (asks_check c) now.1 in
-    let other : asks_sim v.0 ≡ asks_check c = same_some v.2 in cc
+check_asks : (words : List (List ℕ)) (asked : Asked) → check_of words ≡ Some asked → (c : CheckAsked) × (asks_check c ≡ asked)
+check_asks words asked is =
+    let g = and_then _ (given_arguments check_app words) asked is in
+    let v = and_then _ (check_values g.0) asked g.2 in
+    (v.0, same_some v.2)
 
-sim_from : (words : List (List ℕ)) (s : SimAsked) (sim check : Bool)
-    → cond sim (sim_of words) (cond check (check_of words) None) ≡ Some (asks_sim s) → IsPlain s
-sim_from words s true check is = sim_plain words s is
-sim_from words s false true is = absurd (not_checked words s is)
-sim_from words s false false is = absurd cc
+gen_asks : (words : List (List ℕ)) (asked : Asked) → gen_of words ≡ Some asked → (v : GenAsked) × (asks_gen v ≡ asked)
+gen_asks words asked is =
+    let g = and_then _ (given_arguments gen_app words) asked is in
+    let v = and_then _ (gen_values g.0) asked g.2 in
+    (v.0, same_some v.2)
 
-check_from : (words : List (List ℕ)) (c : CheckAsked) (sim check : Bool)
-    → cond sim (sim_of words) (cond check (check_of words) None) ≡ Some (asks_check c) → length c.instances.0 ≤ 16
-check_from words c true check is = absurd (not_simulated words c is)
-check_from words c false true is = check_few words c is
-check_from words c false false is = absurd cc
+-- what the words ask for, by what the command is called
+abbrev by_name : List (List ℕ) → (sim check made : Bool) → Option Asked
+by_name words sim check made = cond sim (sim_of words) (cond check (check_of words) (cond made (gen_of words) None))
+
+sim_from : (words : List (List ℕ)) (s : SimAsked) (sim check made : Bool) → by_name words sim check made ≡ Some (asks_sim s) → IsPlain s
+sim_from words s true check made is = sim_plain words s is
+sim_from words s false true made is = let other = check_asks words (asks_sim s) is in absurd (let never = other.1 in cc)
+sim_from words s false false true is = let other = gen_asks words (asks_sim s) is in absurd (let never = other.1 in cc)
+sim_from words s false false false is = absurd cc
+
+check_from : (words : List (List ℕ)) (c : CheckAsked) (sim check made : Bool) → by_name words sim check made ≡ Some (asks_check c) → length c.instances.0 ≤ 16
+check_from words c true check made is = let other = sim_asks words (asks_check c) is in absurd (let never = other.1 in cc)
+check_from words c false true made is = check_few words c is
+check_from words c false false true is = let other = gen_asks words (asks_check c) is in absurd (let never = other.1 in cc)
+check_from words c false false false is = absurd cc
 
 -- a simulation that is asked for is plain
 pub plan_plain : (words : List (List ℕ)) (s : SimAsked) → plan_of words ≡ Some (asks_sim s) → IsPlain s
@@ -148,7 +158,7 @@ unfolding plan_of
 plan_plain [] s is = absurd cc
 plan_plain (program ∷ []) s is = absurd cc
 plan_plain (program ∷ command ∷ words) s is =
-    sim_from words s (bytes_eq command (codes "sim")) (bytes_eq command (codes "check")) is
+    sim_from words s (bytes_eq command (codes "sim")) (bytes_eq command (codes "check")) (bytes_eq command (codes "gen")) is
 
 -- a check that is asked for has few instances
 pub plan_few : (words : List (List ℕ)) (c : CheckAsked) → plan_of words ≡ Some (asks_check c) → length c.instances.0 ≤ 16
@@ -156,4 +166,4 @@ unfolding plan_of
 plan_few [] c is = absurd cc
 plan_few (program ∷ []) c is = absurd cc
 plan_few (program ∷ command ∷ words) c is =
-    check_from words c (bytes_eq command (codes "sim")) (bytes_eq command (codes "check")) is
+    check_from words c (bytes_eq command (codes "sim")) (bytes_eq command (codes "check")) (bytes_eq command (codes "gen")) is

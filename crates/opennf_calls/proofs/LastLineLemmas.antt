@@ -1,5 +1,5 @@
 -- A row stays what it is where files were bound before the command began, and a line went to the standard error after it ended.
-use Rattle.std.proofs.Common.{◌≡◌, ◌≢◌, ℕ, List, Bool, ◌&&◌, Option, None, Some, Result, Ok, Err, refl, ap, ◌∙◌, sym, subst, IsTrue, ◌⊎◌, inl, inr}
+use Rattle.std.proofs.Common.{◌≡◌, ◌≢◌, ℕ, List, Bool, ◌&&◌, Option, None, Some, Result, Ok, Err, refl, ap, ◌∙◌, sym, subst, IsTrue, inl, inr}
 use Rattle.std.specs.Io.KnownBytes.{Appends}
 use Rattle.basics.proofs.BoolLemmas.{both_true}
 use Rattle.nf_io.specs.declared.outside.Role.{Role}
@@ -9,7 +9,7 @@ use Rattle.command_words.specs.Plan.{Asked}
 use Rattle.opennf_calls.specs.declared.status.Status.{Status}
 use Rattle.opennf_calls.specs.declared.status.Status.TheVariants.{Ok as Done, Usage, BadScript, BadTrace, ReadFault, WriteFault, NoMemory}
 use Rattle.opennf_calls.specs.Command.{is_result, comes_before}
-use Rattle.opennf_calls.specs.Outcome.{Texts, HasInput, ForTexts, IsBound, IsDone, IsWriteFault, IsReadFault, IsRefused, MayBind, WroteNothing, WroteResultsAlone, Gained, Unwritten, RowOf, CauseOf, PutsLine, IsComplete, refusal_of}
+use Rattle.opennf_calls.specs.Outcome.{Texts, HasInput, ForTexts, IsBound, IsDone, IsWriteFault, IsReadFault, IsRefused, MayBind, WroteNothing, WroteResultsAlone, Gained, RowOf, CauseOf, PutsLine}
 use Rattle.opennf_calls.specs.Phases.{SameContents, SameNames}
 use Rattle.opennf_calls.specs.Writing.{Written, Wrote, written}
 use Rattle.opennf_calls.proofs.RoleLemmas.{at_each}

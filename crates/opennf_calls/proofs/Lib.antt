@@ -4,9 +4,11 @@ pub mod CountedDigits
 pub mod FlowOrderLemmas
 pub mod FoldLemmas
 pub mod LastLineLemmas
+pub mod MakingLemmas
 pub mod PageLemmas
 pub mod ReportLemmas
 pub mod RoleLemmas
 pub mod RowLemmas
 pub mod ScriptLemmas
+pub mod TwoResults
 pub mod WritingLemmas

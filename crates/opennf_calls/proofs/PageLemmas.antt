@@ -1,12 +1,8 @@
 -- How lines go on a page, and pages one after another.
-use Rattle.std.proofs.Common.{◌≡◌, ◌≤◌, ◌<◌, ℕ, ◌+◌, ◌-◌, zero, suc, List, [], ◌∷◌, ◌++◌, length, take, drop, Option, None, Some, Result, Ok, Err, MatchResult, refl, ap, sym, ◌∙◌, subst, append-nil, append_assoc, length-take, arith, codes, decimal, map, get_or, slice_index_or}
-use Rattle.std.proofs.Math.Seq.{take-append-add, take-add, take-length}
+use Rattle.std.proofs.Common.{◌≡◌, ◌≤◌, ◌<◌, ℕ, ◌+◌, ◌-◌, List, [], ◌∷◌, ◌++◌, length, take, drop, refl, ap, sym, ◌∙◌, append-nil, append_assoc, length-take, arith, codes, decimal, map, get_or, slice_index_or}
+use Rattle.std.proofs.Math.Seq.{take-add, take-length}
 use Rattle.std.proofs.Math.ListN.{drop_of_length-le}
-use Rattle.std.proofs.lemmas.List.{take-append-le, take-append-drop, take-take, take_more, map-append, length-append}
-use Rattle.std.proofs.KnownBytes.{Appends-trans}
-use Rattle.std.specs.Io.KnownBytes.{Appends}
-use Rattle.nf_io.specs.declared.outside.Role.{Role}
-use Rattle.nf_io.specs.Meaning.{Meaning, Rose, AppendsFront, HasCause}
+use Rattle.std.proofs.lemmas.List.{take-append-drop, take_more, map-append}
 use Rattle.conn_tracker.specs.declared.state.State.{State}
 use Rattle.conn_tracker.specs.declared.state.State.TheVariants.{Opening, Answered, Established, FinFwd, FinRev, Closed, Reset, Loose, Single, Both}
 use Rattle.conn_tracker.specs.Table.{all_states, name_of, number_of}
@@ -36,15 +32,6 @@ page_next lines at end xs low high =
 pub page_rest : (lines : PacketLines) (end : ℕ) (xs : List State)
     → lines_from lines 1 xs ≡ lines_from lines 1 (take end xs) ++ lines_from lines (1 + length (take end xs)) (drop end xs)
 page_rest lines end xs = ap (lines_from lines 1) (sym (take-append-drop end xs)) ∙ lines-append lines 1 (take end xs) (drop end xs)
-
--- a block after a text
-pub put_text : (old rest place text : List ℕ) (used n : ℕ) → used ≤ length old → n ≤ length place → take n place ≡ text
-    → take (used + n) (take used old ++ (place ++ rest)) ≡ take used old ++ text
-put_text old rest place text used n within fits is =
-    let front = take used old in
-    let long : used ≡ length front = omega (arith, within, length-take used old) in
-    ap (λ m. take (m + n) (front ++ (place ++ rest))) long ∙ take-append-add front (place ++ rest) n
-    ∙ ap (λ l. front ++ l) (take-append-le n place rest fits ∙ is)
 
 -- what stands at a state's number
 at_state : (f : State → List ℕ) (state : State) → slice_index_or (map f all_states) (number_of state) [] ≡ f state
@@ -83,14 +70,6 @@ pub ends_all : (f : State → List ℕ) (xs : List State) (k : ℕ) (ends : List
 ends_all f xs k ends all over is =
     let whole : take k xs ≡ xs = sym (append-nil (take k xs)) ∙ ap (λ l. take k xs ++ l) (sym (drop_of_length-le xs over)) ∙ take-append-drop k xs in
     is ∙ ap (map f) whole ∙ ap (map f) all
-
--- the same where the list of bytes is put together again
-pub put_written : (old rest place text tail : List ℕ) (used n len : ℕ) → used ≤ length old → n ≤ length place → used + n ≤ len → take n place ≡ text
-    → take (used + n) (take len (take used old ++ (place ++ rest) ++ tail)) ≡ take used old ++ text
-put_written old rest place text tail used n len within fits enough is =
-    take-take (used + n) len (take used old ++ (place ++ rest) ++ tail) enough
-    ∙ ap (take (used + n)) (append_assoc (take used old) (place ++ rest) tail ∙ ap (λ l. take used old ++ l) (append_assoc place rest tail))
-    ∙ put_text old (rest ++ tail) place text used n within fits is
 
 -- a text that has a last byte
 split_last : (xs : List ℕ) → 0 < length xs → (last : ℕ) × (xs ≡ take (length xs - 1) xs ++ last ∷ [])

@@ -15,7 +15,6 @@ use Rattle.conn_tracker.specs.Text.{output_of, output_text}
 use Rattle.opennf_calls.specs.declared.fold.Fold.{Fold}
 use Rattle.opennf_calls.specs.declared.pages.PacketLines.{PacketLines}
 use Rattle.opennf_calls.specs.declared.report.Report.{Report}
-use Rattle.trace_reader.specs.declared.trace.TraceEnd.{TraceEnd}
 use Rattle.opennf_calls.specs.ReportParts.{IsReady, Parts, report_text}
 use Rattle.opennf_calls.specs.Fold.{flow_cmp, flow_eq, packet_flow, record_after_packets, states_after}
 use Rattle.opennf_calls.specs.FoldState.{record_after_kept}

@@ -1,5 +1,5 @@
 -- What holds of every role where one of them changed and the others stayed.
-use Rattle.std.proofs.Common.{◌≡◌, ◌≢◌, Bool, true, false, eqb, refl, ap, sym, subst, ◌⊎◌, inl, inr}
+use Rattle.std.proofs.Common.{◌≡◌, ◌≢◌, Bool, true, false, eqb, refl, sym, subst, ◌⊎◌, inl, inr}
 use Rattle.std.proofs.lemmas.Bool.{eqb-true}
 use Rattle.nf_io.specs.declared.outside.Role.{Role}
 use Rattle.nf_io.specs.declared.outside.Role.TheVariants.{Trace, Script, JournalIn, Report, JournalOut, TraceOut, Errors}
@@ -7,7 +7,7 @@ use Rattle.nf_io.specs.Roles.{place_of}
 use Rattle.nf_io.specs.Meaning.{Meaning, OthersStay}
 use Rattle.nf_io.proofs.RolesAfterLoan.{same_place}
 
-other_place : (a b : Role) → eqb (place_of a) (place_of b) ≡ false → a ≢ b
+pub other_place : (a b : Role) → eqb (place_of a) (place_of b) ≡ false → a ≢ b
 other_place a b differ same =
     let here : eqb (place_of b) (place_of b) ≡ false = subst (λ (r : Role). eqb (place_of r) (place_of b) ≡ false) same differ in
     absurd (no_loop b here)

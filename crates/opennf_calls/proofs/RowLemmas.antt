@@ -1,16 +1,16 @@
 -- From what a command did to the roles that it used to the row of its status, which speaks of all roles.
-use Rattle.std.proofs.Common.{◌≡◌, ◌≢◌, ℕ, List, [], Bool, true, false, not, ◌&&◌, Option, None, Some, is_some, refl, ap, ◌∙◌, sym, subst, IsTrue, inl, inr}
+use Rattle.std.proofs.Common.{◌≡◌, ◌≢◌, ℕ, List, false, ◌&&◌, None, Some, is_some, refl, ap, ◌∙◌, sym, subst, IsTrue, inl, inr}
 use Rattle.std.specs.Io.KnownBytes.{Appends}
 use Rattle.basics.proofs.BoolLemmas.{both_true}
 use Rattle.nf_io.specs.declared.outside.Role.{Role}
 use Rattle.nf_io.specs.declared.outside.Role.TheVariants.{Trace, Script, JournalIn, Report, JournalOut, TraceOut, Errors}
 use Rattle.nf_io.specs.Meaning.{Meaning, Rose, AppendsFront}
 use Rattle.nf_io.specs.Roles.{is_read}
-use Rattle.command_words.specs.Plan.{Asked, SimAsked, CheckAsked, asks_sim, asks_check}
+use Rattle.command_words.specs.Plan.{Asked, SimAsked, CheckAsked, GenAsked, asks_sim, asks_check, asks_gen}
 use Rattle.opennf_calls.specs.declared.status.Status.{Status}
-use Rattle.opennf_calls.specs.declared.status.Status.TheVariants.{Ok as Done, Usage, BadScript, BadTrace, ReadFault, WriteFault, NoMemory}
+use Rattle.opennf_calls.specs.declared.status.Status.TheVariants.{Ok as Done, WriteFault}
 use Rattle.opennf_calls.specs.Command.{file_for, is_input, is_result, comes_before}
-use Rattle.opennf_calls.specs.Outcome.{Texts, HasInput, HasTexts, ForTexts, IsBound, IsRead, WroteNothing, WroteResultsAlone, Gained, Unwritten, IsDone, IsWriteFault, IsReadFault, IsRefused, RowOf, refusal_of}
+use Rattle.opennf_calls.specs.Outcome.{Texts, HasInput, ForTexts, IsBound, WroteNothing, WroteResultsAlone, Gained, IsReadFault, IsRefused, RowOf, refusal_of}
 use Rattle.opennf_calls.specs.Phases.{ReadAlone, SameNames, Performs}
 use Rattle.opennf_calls.specs.Writing.{Gains, Written, all_of, front_of, Wrote}
 use Rattle.opennf_calls.proofs.RoleLemmas.{at_each, this_or_other}
@@ -50,6 +50,15 @@ one_file-check c Report differ = refl
 one_file-check c JournalOut differ = refl
 one_file-check c TraceOut differ = refl
 one_file-check c Errors differ = refl
+
+pub one_file-gen : (g : GenAsked) → OneFile (asks_gen g) TraceOut
+one_file-gen g TraceOut differ = absurd (differ refl)
+one_file-gen g Trace differ = refl
+one_file-gen g Script differ = refl
+one_file-gen g JournalIn differ = refl
+one_file-gen g Report differ = refl
+one_file-gen g JournalOut differ = refl
+one_file-gen g Errors differ = refl
 
 -- then that role is the one input, and the report is the one result
 module _ (asked : Asked) (role : Role) (one : OneFile asked role) where

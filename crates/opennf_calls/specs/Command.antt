@@ -1,15 +1,16 @@
 -- Which files each command names, which roles it reads, and to which it writes results. This project's own.
 use Rattle.std.specs.Prelude.{ℕ, List, Option, None, Some, Bool, true, false, not, ◌&&◌, is_some}
 use Rattle.nf_io.specs.declared.outside.Role.{Role}
-use Rattle.nf_io.specs.declared.outside.Role.TheVariants.{Trace, Script, Report, Errors}
+use Rattle.nf_io.specs.declared.outside.Role.TheVariants.{Trace, Script, Report, TraceOut, Errors}
 use Rattle.nf_io.specs.Roles.{is_read, same_role}
-use Rattle.command_words.specs.Plan.{Asked, asks_sim, asks_check}
+use Rattle.command_words.specs.Plan.{Asked, asks_sim, asks_check, asks_gen}
 
 -- the file that the words give to a role
 abbrev pub file_for : Asked → Role → Option (List ℕ)
 file_for (asks_sim s) Trace = Some s.trace
 file_for (asks_sim s) Script = s.script
 file_for (asks_check c) Script = Some c.script
+file_for (asks_gen g) TraceOut = Some g.trace
 file_for asked role = None
 
 -- an input of the command: a role that is read, and has a file

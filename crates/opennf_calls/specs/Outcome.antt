@@ -1,19 +1,20 @@
 -- What a run of the program reads, writes and answers: one table of statuses for all commands. A further command is a further
 -- case of `file_for`, `refusal_of` and `AreTexts`; the table stays as it is. This project's own.
-use Rattle.std.specs.Prelude.{◌≡◌, ◌≢◌, ℕ, List, [], ◌∷◌, Option, None, Some, Bool, false, ◌&&◌, Result, Ok, Err, option_and_then, IsTrue, ◌⊎◌}
+use Rattle.std.specs.Prelude.{◌≡◌, ◌≢◌, ℕ, ◌++◌, List, [], codes, decimal, Option, None, Some, Bool, false, ◌&&◌, Result, Ok, Err, option_and_then, IsTrue, ◌⊎◌}
 use Rattle.std.specs.Io.KnownBytes.{Appends}
 use Rattle.flow_filter.specs.declared.site.Site.{Site}
 use Rattle.nf_io.specs.declared.outside.Role.{Role}
-use Rattle.nf_io.specs.declared.outside.Role.TheVariants.{Trace, Script, Report, Errors}
+use Rattle.nf_io.specs.declared.outside.Role.TheVariants.{Trace, Script, Report, TraceOut, Errors}
 use Rattle.nf_io.specs.Meaning.{Meaning, Rose, AppendsFront}
 use Rattle.trace_reader.specs.declared.trace.Trace.{Trace as Captured}
 use Rattle.trace_reader.specs.declared.fault.TraceFault.{TraceFault}
 use Rattle.trace_reader.specs.Records.{capture_of}
+use Rattle.trace_reader.specs.Generated.{capture}
 use Rattle.op_script.specs.declared.script.Script.{Script as TheScript}
 use Rattle.op_script.specs.declared.fault.ScriptKind.{ScriptKind}
 use Rattle.op_script.specs.Reading.{ScriptView, script_of, script_view}
 use Rattle.op_script.specs.Printing.{script_text}
-use Rattle.command_words.specs.Plan.{Asked, SimAsked, CheckAsked, asks_sim, asks_check}
+use Rattle.command_words.specs.Plan.{Asked, SimAsked, CheckAsked, GenAsked, asks_sim, asks_check, asks_gen}
 use Rattle.opennf_calls.specs.declared.status.Status.{Status}
 use Rattle.opennf_calls.specs.declared.status.Status.TheVariants.{Ok as Done, Usage, BadScript, BadTrace, ReadFault, WriteFault, NoMemory}
 use Rattle.opennf_calls.specs.declared.outcome.Outcome.{Outcome}
@@ -45,6 +46,16 @@ pub record IsCheckText (c : CheckAsked) (bytes text : List ℕ) : Type 0 where
   pub read : script_of c.kind c.instances.0 bytes ≡ Ok (script_view script)
   pub canonical : text ≡ script_text c.instances.0 script
 
+-- `gen number NUMBER packets N hosts H`
+unfoldable pub gen_line : GenAsked → List ℕ
+gen_line g =
+    codes "gen number " ++ decimal g.number ++ codes " packets " ++ decimal g.packets ++ codes " hosts " ++ decimal g.hosts ++ codes "\n"
+
+-- the capture of these numbers, and the line that repeats them
+pub record AreGenTexts (g : GenAsked) (written reported : List ℕ) : Type 0 where
+  pub made : written ≡ capture g.number g.packets g.hosts
+  pub line : reported ≡ gen_line g
+
 -- the status that refuses a capture
 abbrev pub trace_refusal : Result Captured TraceFault → Option Status
 trace_refusal (Ok trace) = None
@@ -59,6 +70,7 @@ script_refusal (Err fault) = Some (BadScript fault.0 fault.1)
 abbrev pub refusal_of : Asked → (Role → List ℕ) → Option Status
 refusal_of (asks_sim s) bytes = trace_refusal (capture_of (bytes Trace))
 refusal_of (asks_check c) bytes = script_refusal (script_of c.kind c.instances.0 (bytes Script))
+refusal_of (asks_gen g) bytes = None
 
 -- what a command writes, by role; it is looked at for the command's results alone
 abbrev pub Texts : Type 0
@@ -68,6 +80,7 @@ Texts = Role → List ℕ
 abbrev pub AreTexts : Asked → (Role → List ℕ) → Texts → Type 0
 AreTexts (asks_sim s) bytes texts = IsSimText s (bytes Trace) (texts Report)
 AreTexts (asks_check c) bytes texts = IsCheckText c (bytes Script) (texts Report)
+AreTexts (asks_gen g) bytes texts = AreGenTexts g (texts TraceOut) (texts Report)
 
 -- the command's inputs hold these bytes, as the outside tells
 abbrev pub HasInput : Asked → (Role → Meaning) → (Role → List ℕ) → Type 0

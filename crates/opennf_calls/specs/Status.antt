@@ -10,6 +10,8 @@ use Rattle.op_script.specs.declared.fault.ScriptFault.{ScriptFault}
 use Rattle.op_script.specs.declared.fault.ScriptFault.TheVariants as script
 use Rattle.trace_reader.specs.declared.fault.TraceFault.{TraceFault}
 use Rattle.trace_reader.specs.declared.fault.TraceFault.TheVariants as fault
+use Rattle.trace_reader.specs.declared.make.MakeFault.{MakeFault}
+use Rattle.trace_reader.specs.declared.make.MakeFault.TheVariants as making
 use Rattle.opennf_calls.specs.declared.status.TraceKind.{TraceKind}
 use Rattle.opennf_calls.specs.declared.status.TraceKind.TheVariants.{Magic, PcapNg, Version, LinkType, RecordLength, TooLong, Header}
 use Rattle.opennf_calls.specs.declared.status.Status.{Status}
@@ -106,3 +108,8 @@ script_status script.NoMemory = NoMemory
 abbrev pub reading_status : Role → UptoFault → Status
 reading_status role upto.Failed = ReadFault role
 reading_status role upto.NoMemory = NoMemory
+
+-- the status of a capture that can't be made
+abbrev pub making_status : MakeFault → Status
+making_status making.Write = WriteFault TraceOut
+making_status making.NoMemory = NoMemory

@@ -1,18 +1,19 @@
 //! The calls that do all that the program does.
 //!
 //! [`opennf_top`] and [`opennf_calm`] take the words of the command line, read the files that these name, and write what they
-//! ask for: the report of a capture, or the canonical text of a script. They touch nothing but the
+//! ask for: the report of a capture, the canonical text of a script, or a generated capture. They touch nothing but the
 //! [`Outside`](nf_io::Outside) that they are handed, and memory.
 //!
 //! Contracts see the outside as a function from roles to what is known of each, the words as lists of bytes, and a status as
 //! its fields. The main promise is `HasOutcome` of `specs/Outcome.antt`: at `Ok` the report is that of the capture's bytes,
-//! where each flow's outputs and record are those of its own packets, or it is the canonical text of the script's bytes; every
-//! other status has its cause.
+//! where each flow's outputs and record are those of its own packets, or it is the canonical text of the script's bytes, or the
+//! capture that was drawn is written; every other status has its cause.
 #![tactic(auto)]
 
 // The commands, and how each ends.
 pub mod check;
 pub mod error_line;
+pub mod generate;
 pub mod outcome;
 pub mod sim;
 pub mod status;
@@ -32,5 +33,7 @@ pub use top::{opennf_calm, opennf_top};
 
 #[cfg(test)]
 mod check_tests;
+#[cfg(test)]
+mod generate_tests;
 #[cfg(test)]
 mod sim_tests;

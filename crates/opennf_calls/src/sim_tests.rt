@@ -94,7 +94,7 @@ fn outside_of(alloc: Global, pieces: &[&[u8]]) -> Result<MemoryOutside, NoMemory
 }
 
 /// The number that a simulation of a capture of these pieces ends with, and the outside after it.
-fn simulated(alloc: Global, pieces: &[&[u8]]) -> Result<(u8, MemoryOutside), NoMemory> {
+pub(crate) fn simulated(alloc: Global, pieces: &[&[u8]]) -> Result<(u8, MemoryOutside), NoMemory> {
     let words = owned(alloc, &WORDS)?;
     let mut outside = outside_of(alloc, pieces)?;
     let outcome = opennf_calm(alloc, words.as_slice(), &mut outside);

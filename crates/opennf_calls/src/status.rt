@@ -4,7 +4,7 @@ ghost use Rattle.opennf_calls.specs.Status.{trace_kind_name, exit_number, role_n
 use flow_filter::NoMemory;
 use nf_io::{Role, UptoFault};
 use op_script::{ScriptFault, ScriptKind};
-use trace_reader::TraceFault;
+use trace_reader::{MakeFault, TraceFault};
 
 /// What is wrong with a capture.
 #[derive(Clone, Copy, Debug, PartialEq, Eq)]
@@ -89,6 +89,23 @@ impl From<TraceFault> for Status {
             TraceFault::Header(length) => bad_trace(length, TraceKind::Header),
             TraceFault::Read => Status::ReadFault { role: Role::Trace },
             TraceFault::NoMemory => Status::NoMemory,
+        }
+    }
+}
+
+/// The status of a capture that can't be made.
+impl From<MakeFault> for Status {
+    ghost use Rattle.std.specs.Prelude.{◌≡◌};
+    ghost use Rattle.opennf_calls.specs.Status.{making_status};
+
+    ghost from_gives = { λ fault status. status ≡ making_status fault };
+
+    fn from(fault: MakeFault) -> Self {
+        match fault {
+            MakeFault::Write => Status::WriteFault {
+                role: Role::TraceOut,
+            },
+            MakeFault::NoMemory => Status::NoMemory,
         }
     }
 }

@@ -9,6 +9,7 @@ ghost use Rattle.opennf_calls.specs.Phases.{Named, SameContents};
 
 use crate::check::check;
 use crate::error_line::line;
+use crate::generate::generate;
 use crate::outcome::Outcome;
 use crate::sim::simulate;
 use crate::status::Status;
@@ -70,6 +71,7 @@ fn perform<O: Outside>(alloc: Global, words: &[String], outside: &mut O) -> Stat
     match request {
         Request::Sim(asked) => simulate(alloc, &asked, outside),
         Request::Check(asked) => check(alloc, &asked, outside),
+        Request::Gen(asked) => generate(alloc, &asked, outside),
     }
 }
 
@@ -86,6 +88,7 @@ fn bind_files<O: Outside>(request: &Request<'_>, outside: &mut O) -> Result<(), 
             bind_file(outside, Role::Script, asked.script)
         }
         Request::Check(asked) => bind_file(outside, Role::Script, Some(asked.script)),
+        Request::Gen(asked) => bind_file(outside, Role::TraceOut, Some(asked.trace)),
     }
 }
 

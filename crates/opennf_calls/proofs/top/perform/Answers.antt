@@ -1,8 +1,8 @@
 -- The row of the command's status, also seen from before its files were bound.
 use Rattle.std.proofs.Common.{rules, ◌≡◌, Some, map}
 use Rattle.std.specs.Prelude.{string_bytes}
-use Rattle.command_words.specs.Plan.{plan_of, asks_sim, asks_check}
-use Rattle.command_words.specs.RequestViews.{sim_view, check_view}
+use Rattle.command_words.specs.Plan.{plan_of, asks_sim, asks_check, asks_gen}
+use Rattle.command_words.specs.RequestViews.{sim_view, check_view, gen_view}
 use Rattle.opennf_calls.proofs.BuiltCommands.{plan_plain, plan_few}
 use Rattle.opennf_calls.proofs.LastLineLemmas.{bound_before, row_around}
 use Rattle.opennf_calls.proofs.top.perform.Goals as goal
@@ -32,3 +32,11 @@ returns-in-Check-clause-cause g c =
     let old = g.O.Outside.seen c.bind_files.new.outside in
     let new = g.O.Outside.seen c.check.new.outside in
     rw plan (row_around before old new new (bound_before before old new c.bind_files.ensures.contents) (asks_check (check_view c.in-Check.asked)) _ c.check.ensures.row)
+
+pub returns-in-Gen-clause-cause : goal.returns-in-Gen-clause-cause
+returns-in-Gen-clause-cause g c =
+    let plan : plan_of (map string_bytes c.args.words.now) ≡ Some (asks_gen (gen_view c.in-Gen.asked)) = search rules in
+    let before = g.O.Outside.seen c.args.outside.now in
+    let old = g.O.Outside.seen c.bind_files.new.outside in
+    let new = g.O.Outside.seen c.generate.new.outside in
+    rw plan (row_around before old new new (bound_before before old new c.bind_files.ensures.contents) (asks_gen (gen_view c.in-Gen.asked)) _ c.generate.ensures.row)

@@ -1,5 +1,5 @@
 -- What is known of the outside once the sink over it is gone.
-use Rattle.std.proofs.Common.{rules, Ok, Err}
+use Rattle.std.proofs.Common.{rules}
 use Rattle.nf_io.proofs.RolesAfterLoan.{written_left, written_name, written_others}
 use Rattle.opennf_calls.proofs.WritingLemmas.{gains_by}
 use Rattle.opennf_calls.proofs.writing.put.Goals as goal

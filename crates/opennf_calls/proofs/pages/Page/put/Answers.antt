@@ -1,6 +1,6 @@
 -- The block stands after the text.
 use Rattle.std.proofs.Common.{arith, ◌≤◌, ◌+◌, ◌++◌, ℕ, List, length, take, ap, ◌∙◌}
-use Rattle.opennf_calls.proofs.PageLemmas.{put_written}
+use Rattle.trace_reader.proofs.PlacedBytes.{put_written}
 use Rattle.opennf_calls.proofs.pages.Page.put.Goals as goal
 
 pub returns-clause-text : goal.returns-clause-text

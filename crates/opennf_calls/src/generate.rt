@@ -1,0 +1,69 @@
+ghost use Rattle.std.specs.Prelude.{◌≡◌, MatchResult};
+ghost use Rattle.nf_io.specs.declared.outside.Role.TheVariants.{TraceOut as TraceOutRole};
+ghost use Rattle.trace_reader.specs.Generated.{capture};
+ghost use Rattle.command_words.specs.Plan.{asks_gen};
+ghost use Rattle.command_words.specs.RequestViews.{gen_view};
+ghost use Rattle.opennf_calls.specs.Outcome.{IsBound, gen_line};
+ghost use Rattle.opennf_calls.specs.Phases.{Performs};
+ghost use Rattle.opennf_calls.specs.Writing.{Wrote, all_of};
+
+use crate::error_line::Line;
+use crate::status::Status;
+use crate::writing::put;
+use command_words::Generating;
+use itoa::Buffer;
+use nf_io::{Outside, Role, RoleSink};
+use std::alloc::Global;
+use trace_reader::make_trace;
+
+/// Writes the capture to its file, which is bound, and then a line with its numbers.
+pub fn generate<O: Outside>(alloc: Global, asked: &Generating<'_>, outside: &mut O) -> Status
+    requires { IsBound (asks_gen (gen_view asked.now)) (O.seen outside.old) }
+    ensures { Performs (asks_gen (gen_view asked.now)) (O.seen outside.old) (O.seen outside.new) result }
+{
+    if let Err(status) = write_capture(alloc, asked, outside) {
+        return status;
+    }
+    match put(outside, Role::Report, numbers_line(asked).as_bytes()) {
+        Ok(()) => Status::Ok,
+        Err(_) => Status::WriteFault { role: Role::Report },
+    }
+}
+
+/// Writes the capture.
+fn write_capture<O: Outside>(
+    alloc: Global,
+    asked: &Generating<'_>,
+    outside: &mut O,
+) -> Result<(), Status>
+    requires { IsBound (asks_gen (gen_view asked.now)) (O.seen outside.old) }
+
+    // The capture was written and nothing else changed, or the command ended with this status.
+    ensures { MatchResult result
+        (λ _. Wrote TraceOutRole (O.seen outside.old) (O.seen outside.new) (all_of (capture asked.now.number asked.now.packets asked.now.hosts)))
+        (λ status. Performs (asks_gen (gen_view asked.now)) (O.seen outside.old) (O.seen outside.new) status) }
+{
+    let mut sink = RoleSink {
+        outside,
+        role: Role::TraceOut,
+    };
+    make_trace(alloc, asked.number, asked.packets, asked.hosts, &mut sink)?;
+    Ok(())
+}
+
+/// The line with the capture's numbers.
+#[tactic(auto, unfolding(crate::specs::Outcome::gen_line))]
+fn numbers_line(asked: &Generating<'_>) -> Line
+    ensures { result.bytes ≡ gen_line (gen_view asked.now) }
+{
+    let mut buffer = Buffer::new();
+    let mut line = Line::new();
+    line.push_str("gen number ");
+    line.push_str(buffer.format(asked.number));
+    line.push_str(" packets ");
+    line.push_str(buffer.format(asked.packets));
+    line.push_str(" hosts ");
+    line.push_str(buffer.format(asked.hosts));
+    line.push_str("\n");
+    line
+}
