@@ -1,0 +1,3 @@
+pub mod SpelledChoices
+pub mod HeaderReads
+pub mod TakenPieces

@@ -1,0 +1,198 @@
+ghost use Rattle.std.specs.Prelude.{[], None, Unit, IfOk};
+ghost use Rattle.nf_io.specs.Meaning.{CanRead};
+ghost use Rattle.nf_io.specs.Memory.{seen_in};
+ghost use Rattle.nf_io.specs.declared.outside.Role.TheVariants.{JournalIn};
+
+use crate::{JournalFault, read_journal, read_journal_from, write_journal};
+use actor_net::Choice;
+use basics::NoMemory;
+use nf_function::Kind;
+use nf_io::{Failed, MemoryOutside, Outside, Role, RoleSource, Source};
+use std::alloc::Global;
+use std::test::Fail;
+
+/// A move of one unit between two instances of the connection tracker: 38 choices.
+static MOVE: [u8; 92] = [
+    0x4f, 0x4e, 0x46, 0x4a, 0x00, 0x01, 0x01, 0x02, 0x00, 0x00, 0x00, 0x00, 0x00, 0x00, 0x00, 0x26,
+    0x00, 0x00, 0x00, 0x00, 0x01, 0x00, 0x02, 0x01, 0x02, 0x00, 0x01, 0x02, 0x01, 0x02, 0x02, 0x01,
+    0x01, 0x02, 0x02, 0x01, 0x01, 0x02, 0x03, 0x01, 0x01, 0x03, 0x03, 0x01, 0x01, 0x03, 0x00, 0x01,
+    0x00, 0x01, 0x00, 0x00, 0x00, 0x00, 0x00, 0x00, 0x02, 0x00, 0x01, 0x02, 0x00, 0x01, 0x03, 0x00,
+    0x03, 0x00, 0x03, 0x00, 0x03, 0x00, 0x01, 0x03, 0x00, 0x01, 0x01, 0x00, 0x00, 0x01, 0x02, 0x00,
+    0x03, 0x00, 0x01, 0x02, 0x01, 0x03, 0x00, 0x03, 0x00, 0x03, 0x00, 0x03,
+];
+
+/// The header of [`MOVE`].
+fn header() -> [u8; 16] {
+    let mut bytes = [0; 16];
+    bytes.copy_from_slice(&MOVE[..16]);
+    bytes
+}
+
+/// An outside with a journal of two parts, in pieces of 7 bytes, of which one read fails.
+fn with_journal(
+    alloc: Global,
+    header: &[u8],
+    rest: &[u8],
+    failing: u64,
+) -> Result<MemoryOutside, NoMemory>
+    ensures { IfOk result (λ outside. CanRead JournalIn (seen_in outside JournalIn)) }
+{
+    let mut outside = MemoryOutside::open(alloc);
+    outside.bind(Role::JournalIn, "name")?;
+    outside.put(Role::JournalIn, header)?;
+    outside.put(Role::JournalIn, rest)?;
+    outside.fail(Role::JournalIn, failing)?;
+    outside.piece(7);
+    Ok(outside)
+}
+
+/// What both readers answer for the connection tracker and two instances, from bytes and from a source.
+fn faults_of(
+    alloc: Global,
+    header: &[u8],
+    rest: &[u8],
+) -> Result<(Option<JournalFault>, Option<JournalFault>), NoMemory> {
+    let mut whole = Vec::new(alloc);
+    whole.extend_from_slice(header)?;
+    whole.extend_from_slice(rest)?;
+    let from_bytes = read_journal(alloc, &whole, Kind::Conntrack, 2).err();
+    let mut outside = with_journal(alloc, header, rest, 0)?;
+    let mut source = RoleSource {
+        outside: &mut outside,
+        role: Role::JournalIn,
+    };
+    let from_source = read_journal_from(alloc, &mut source, Kind::Conntrack, 2).err();
+    Ok((from_bytes, from_source))
+}
+
+/// Both readers answer this fault.
+fn both(fault: JournalFault) -> (Option<JournalFault>, Option<JournalFault>) {
+    (Some(fault), Some(fault))
+}
+
+#[test]
+fn a_move_is_read_and_written_again(rt: HostRuntime) -> Result<(), Fail> {
+    let choices = read_journal(rt.alloc(), &MOVE, Kind::Conntrack, 2)?;
+    assert_eq!(rt; choices.items().len(), 38);
+    assert_eq!(rt; choices.items().get(3).copied(), Some(Choice { node: 2, port: 1 }));
+    assert_eq!(rt; choices.items().last().copied(), Some(Choice { node: 0, port: 3 }));
+    let bytes = write_journal(rt.alloc(), Kind::Conntrack, 2, choices.items())?;
+    assert_eq!(rt; bytes.items(), &MOVE[..]);
+    Ok(())
+}
+
+#[test]
+fn a_source_in_pieces_gives_the_same_choices(rt: HostRuntime) -> Result<(), Fail> {
+    let mut outside = with_journal(rt.alloc(), &MOVE[..16], &MOVE[16..], 0)?;
+    let mut source = RoleSource {
+        outside: &mut outside,
+        role: Role::JournalIn,
+    };
+    let choices = read_journal_from(rt.alloc(), &mut source, Kind::Conntrack, 2)?;
+    let bytes = write_journal(rt.alloc(), Kind::Conntrack, 2, choices.items())?;
+    assert_eq!(rt; bytes.items(), &MOVE[..]);
+    Ok(())
+}
+
+#[test]
+fn the_first_fault_of_a_header_is_answered(rt: HostRuntime) -> Result<(), Fail> {
+    let alloc = rt.alloc();
+    assert_eq!(rt; faults_of(alloc, &MOVE[..15], b"")?, both(JournalFault::Short));
+    let mut changed = header();
+    changed[7] = 3;
+    assert_eq!(rt; faults_of(alloc, &changed, &MOVE[16..])?, both(JournalFault::Count));
+    changed[6] = 2;
+    assert_eq!(rt; faults_of(alloc, &changed, &MOVE[16..])?, both(JournalFault::Kind));
+    changed[5] = 2;
+    assert_eq!(rt; faults_of(alloc, &changed, &MOVE[16..])?, both(JournalFault::Version));
+    changed[3] = 0x4b;
+    assert_eq!(rt; faults_of(alloc, &changed, &MOVE[16..])?, both(JournalFault::Magic));
+    assert_eq!(rt; faults_of(alloc, &changed[..15], b"")?, both(JournalFault::Short));
+    Ok(())
+}
+
+#[test]
+fn one_choice_more_than_200_million_is_too_many(rt: HostRuntime) -> Result<(), Fail> {
+    let alloc = rt.alloc();
+    let mut most = header();
+    most[8..].copy_from_slice(&[0x00, 0x00, 0x00, 0x00, 0x0b, 0xeb, 0xc2, 0x01]);
+    assert_eq!(rt; faults_of(alloc, &most, b"")?, both(JournalFault::Count));
+    most[15] = 0x00;
+    assert_eq!(rt; faults_of(alloc, &most, b"")?, both(JournalFault::Short));
+    Ok(())
+}
+
+#[test]
+fn choices_end_exactly(rt: HostRuntime) -> Result<(), Fail> {
+    let alloc = rt.alloc();
+    assert_eq!(rt; faults_of(alloc, &MOVE, b"")?, (None, None));
+    assert_eq!(rt; faults_of(alloc, &MOVE[..91], b"")?, both(JournalFault::Short));
+    assert_eq!(rt; faults_of(alloc, &MOVE, b"x")?, both(JournalFault::Extra));
+    let mut none = header();
+    none[15] = 0;
+    assert_eq!(rt; faults_of(alloc, &none, b"")?, (None, None));
+    assert_eq!(rt; faults_of(alloc, &none, b"x")?, both(JournalFault::Extra));
+    Ok(())
+}
+
+#[test]
+fn a_failed_read_is_answered_in_its_place(rt: HostRuntime) -> Result<(), Fail> {
+    for failing in [1, 2, 4, 14, 15] {
+        let mut outside = with_journal(rt.alloc(), &MOVE[..16], &MOVE[16..], failing)?;
+        let mut source = RoleSource {
+            outside: &mut outside,
+            role: Role::JournalIn,
+        };
+        let answer = read_journal_from(rt.alloc(), &mut source, Kind::Conntrack, 2).err();
+        assert_eq!(rt; answer, Some(JournalFault::Read));
+    }
+    Ok(())
+}
+
+/// A source that never ends: the bytes of [`MOVE`] and then others, one with each read.
+#[derive(Drop)]
+struct Endless {
+    taken: usize,
+}
+
+impl Source for Endless {
+    ghost Rest = { Unit {0} };
+
+    ghost left = { λ _. None };
+
+    ghost faults = { λ _. 0 };
+
+    ghost IsOpen = { λ _. Unit {0} };
+
+    ghost loan = { λ _. 0 };
+
+    ghost rest = { λ _. tt };
+
+    ghost ahead = { λ _. [] };
+
+    fn read(&mut self, buf: &mut [u8]) -> Result<usize, Failed> {
+        if buf.is_empty() {
+            return Ok(0);
+        }
+        buf[0] = MOVE.get(self.taken).copied().unwrap_or(b'x');
+        self.taken = self.taken.saturating_add(1);
+        Ok(1)
+    }
+
+    fn at_hand(&self) -> &[u8] {
+        &[]
+    }
+
+    fn skip(&mut self, _count: usize) {}
+}
+
+#[test]
+fn no_byte_behind_the_fault_is_taken(rt: HostRuntime) -> Result<(), Fail> {
+    let mut endless = Endless { taken: 0 };
+    let answer = read_journal_from(rt.alloc(), &mut endless, Kind::Conntrack, 2).err();
+    assert_eq!(rt; (answer, endless.taken), (Some(JournalFault::Extra), 93));
+    let mut endless = Endless { taken: 0 };
+    let answer = read_journal_from(rt.alloc(), &mut endless, Kind::Nat, 2).err();
+    assert_eq!(rt; (answer, endless.taken), (Some(JournalFault::Kind), 16));
+    Ok(())
+}
