@@ -1,3 +1,4 @@
 pub mod SpelledChoices
 pub mod HeaderReads
 pub mod TakenPieces
+pub mod OneSpelling

@@ -50,7 +50,6 @@ fn push_journal(
 }
 
 /// The choices of a journal of so many instances of a function, or the first check of its bytes that fails.
-#[tactic(auto, unfolding(crate::specs::Reading::journal_of))]
 pub fn read_journal(
     alloc: Global,
     bytes: &[u8],
@@ -58,6 +57,22 @@ pub fn read_journal(
     instances: u8,
 ) -> Result<Choices, JournalFault>
     ensures value { Gives (journal_of kind instances bytes.now) result }
+
+    // What is read has no other spelling.
+    ensures spelled { IfOk result (λ choices. bytes.now ≡ journal_bytes kind instances choices) }
+{
+    journal_of(alloc, bytes, kind, instances)
+}
+
+/// The same, check by check.
+#[tactic(auto, unfolding(crate::specs::Reading::journal_of))]
+fn journal_of(
+    alloc: Global,
+    bytes: &[u8],
+    kind: Kind,
+    instances: u8,
+) -> Result<Choices, JournalFault>
+    ensures { Gives (journal_of kind instances bytes.now) result }
 {
     let count = count_of(bytes, kind, instances)?;
     let rest = &bytes[SIZE..];

@@ -68,11 +68,7 @@ fn take_choices<S: Source>(
 }
 
 /// Takes the next bytes: so many, or as many as there are left.
-fn first_bytes<S: Source>(
-    alloc: Global,
-    source: &mut S,
-    wanted: u64,
-) -> Result<Bytes, JournalFault>
+fn first_bytes<S: Source>(alloc: Global, source: &mut S, wanted: u64) -> Result<Bytes, JournalFault>
     requires open { S.IsOpen source.old }
     requires some { 0 < wanted }
     requires few { wanted ≤ piece_size }

@@ -74,8 +74,14 @@ fn both(fault: JournalFault) -> (Option<JournalFault>, Option<JournalFault>) {
 fn a_move_is_read_and_written_again(rt: HostRuntime) -> Result<(), Fail> {
     let choices = read_journal(rt.alloc(), &MOVE, Kind::Conntrack, 2)?;
     assert_eq!(rt; choices.items().len(), 38);
-    assert_eq!(rt; choices.items().get(3).copied(), Some(Choice { node: 2, port: 1 }));
-    assert_eq!(rt; choices.items().last().copied(), Some(Choice { node: 0, port: 3 }));
+    assert_eq!(rt;
+        choices.items().get(3).copied(),
+        Some(Choice { node: 2, port: 1 })
+    );
+    assert_eq!(rt;
+        choices.items().last().copied(),
+        Some(Choice { node: 0, port: 3 })
+    );
     let bytes = write_journal(rt.alloc(), Kind::Conntrack, 2, choices.items())?;
     assert_eq!(rt; bytes.items(), &MOVE[..]);
     Ok(())
@@ -97,17 +103,35 @@ fn a_source_in_pieces_gives_the_same_choices(rt: HostRuntime) -> Result<(), Fail
 #[test]
 fn the_first_fault_of_a_header_is_answered(rt: HostRuntime) -> Result<(), Fail> {
     let alloc = rt.alloc();
-    assert_eq!(rt; faults_of(alloc, &MOVE[..15], b"")?, both(JournalFault::Short));
+    assert_eq!(rt;
+        faults_of(alloc, &MOVE[..15], b"")?,
+        both(JournalFault::Short)
+    );
     let mut changed = header();
     changed[7] = 3;
-    assert_eq!(rt; faults_of(alloc, &changed, &MOVE[16..])?, both(JournalFault::Count));
+    assert_eq!(rt;
+        faults_of(alloc, &changed, &MOVE[16..])?,
+        both(JournalFault::Count)
+    );
     changed[6] = 2;
-    assert_eq!(rt; faults_of(alloc, &changed, &MOVE[16..])?, both(JournalFault::Kind));
+    assert_eq!(rt;
+        faults_of(alloc, &changed, &MOVE[16..])?,
+        both(JournalFault::Kind)
+    );
     changed[5] = 2;
-    assert_eq!(rt; faults_of(alloc, &changed, &MOVE[16..])?, both(JournalFault::Version));
+    assert_eq!(rt;
+        faults_of(alloc, &changed, &MOVE[16..])?,
+        both(JournalFault::Version)
+    );
     changed[3] = 0x4b;
-    assert_eq!(rt; faults_of(alloc, &changed, &MOVE[16..])?, both(JournalFault::Magic));
-    assert_eq!(rt; faults_of(alloc, &changed[..15], b"")?, both(JournalFault::Short));
+    assert_eq!(rt;
+        faults_of(alloc, &changed, &MOVE[16..])?,
+        both(JournalFault::Magic)
+    );
+    assert_eq!(rt;
+        faults_of(alloc, &changed[..15], b"")?,
+        both(JournalFault::Short)
+    );
     Ok(())
 }
 
@@ -126,7 +150,10 @@ fn one_choice_more_than_200_million_is_too_many(rt: HostRuntime) -> Result<(), F
 fn choices_end_exactly(rt: HostRuntime) -> Result<(), Fail> {
     let alloc = rt.alloc();
     assert_eq!(rt; faults_of(alloc, &MOVE, b"")?, (None, None));
-    assert_eq!(rt; faults_of(alloc, &MOVE[..91], b"")?, both(JournalFault::Short));
+    assert_eq!(rt;
+        faults_of(alloc, &MOVE[..91], b"")?,
+        both(JournalFault::Short)
+    );
     assert_eq!(rt; faults_of(alloc, &MOVE, b"x")?, both(JournalFault::Extra));
     let mut none = header();
     none[15] = 0;
