@@ -1,7 +1,7 @@
-ghost use Rattle.std.specs.Prelude.{[], None, Unit, IfOk};
+ghost use Rattle.std.specs.Prelude.{[], None, IsTrue, IfOk};
+ghost use Rattle.nf_io.specs.Roles.{is_read, needs_name};
 ghost use Rattle.nf_io.specs.Meaning.{CanRead};
 ghost use Rattle.nf_io.specs.Memory.{seen_in};
-ghost use Rattle.nf_io.specs.declared.outside.Role.TheVariants.{JournalIn};
 
 use crate::{JournalFault, read_journal, read_journal_from, write_journal};
 use actor_net::Choice;
@@ -21,27 +21,36 @@ static MOVE: [u8; 92] = [
     0x03, 0x00, 0x01, 0x02, 0x01, 0x03, 0x00, 0x03, 0x00, 0x03, 0x00, 0x03,
 ];
 
-/// The header of [`MOVE`].
-fn header() -> [u8; 16] {
-    let mut bytes = [0; 16];
-    bytes.copy_from_slice(&MOVE[..16]);
-    bytes
+/// The header of [`MOVE`] with these bytes as the last letter and as the low ends of its other parts but the count.
+fn header(letter: u8, version: u8, kind: u8, instances: u8) -> [u8; 16] {
+    [
+        0x4f, 0x4e, 0x46, letter, 0, version, kind, instances, 0, 0, 0, 0, 0, 0, 0, 0x26,
+    ]
+}
+
+/// The header of [`MOVE`] with these bytes as the low half of its count.
+fn counted(count: [u8; 4]) -> [u8; 16] {
+    let [a, b, c, d] = count;
+    [0x4f, 0x4e, 0x46, 0x4a, 0, 1, 1, 2, 0, 0, 0, 0, a, b, c, d]
 }
 
 /// An outside with a journal of two parts, in pieces of 7 bytes, of which one read fails.
 fn with_journal(
     alloc: Global,
+    role: Role,
     header: &[u8],
     rest: &[u8],
     failing: u64,
 ) -> Result<MemoryOutside, NoMemory>
-    ensures { IfOk result (λ outside. CanRead JournalIn (seen_in outside JournalIn)) }
+    requires read { IsTrue (is_read role) }
+    requires wanted { IsTrue (needs_name role) }
+    ensures { IfOk result (λ outside. CanRead role (seen_in outside role)) }
 {
     let mut outside = MemoryOutside::open(alloc);
-    outside.bind(Role::JournalIn, "name")?;
-    outside.put(Role::JournalIn, header)?;
-    outside.put(Role::JournalIn, rest)?;
-    outside.fail(Role::JournalIn, failing)?;
+    outside.bind(role, "name")?;
+    outside.put(role, header)?;
+    outside.put(role, rest)?;
+    outside.fail(role, failing)?;
     outside.piece(7);
     Ok(outside)
 }
@@ -56,7 +65,7 @@ fn faults_of(
     whole.extend_from_slice(header)?;
     whole.extend_from_slice(rest)?;
     let from_bytes = read_journal(alloc, &whole, Kind::Conntrack, 2).err();
-    let mut outside = with_journal(alloc, header, rest, 0)?;
+    let mut outside = with_journal(alloc, Role::JournalIn, header, rest, 0)?;
     let mut source = RoleSource {
         outside: &mut outside,
         role: Role::JournalIn,
@@ -89,7 +98,7 @@ fn a_move_is_read_and_written_again(rt: HostRuntime) -> Result<(), Fail> {
 
 #[test]
 fn a_source_in_pieces_gives_the_same_choices(rt: HostRuntime) -> Result<(), Fail> {
-    let mut outside = with_journal(rt.alloc(), &MOVE[..16], &MOVE[16..], 0)?;
+    let mut outside = with_journal(rt.alloc(), Role::JournalIn, &MOVE[..16], &MOVE[16..], 0)?;
     let mut source = RoleSource {
         outside: &mut outside,
         role: Role::JournalIn,
@@ -103,34 +112,26 @@ fn a_source_in_pieces_gives_the_same_choices(rt: HostRuntime) -> Result<(), Fail
 #[test]
 fn the_first_fault_of_a_header_is_answered(rt: HostRuntime) -> Result<(), Fail> {
     let alloc = rt.alloc();
+    let choices = &MOVE[16..];
     assert_eq!(rt;
-        faults_of(alloc, &MOVE[..15], b"")?,
+        faults_of(alloc, &[0x58; 15], b"")?,
         both(JournalFault::Short)
     );
-    let mut changed = header();
-    changed[7] = 3;
     assert_eq!(rt;
-        faults_of(alloc, &changed, &MOVE[16..])?,
-        both(JournalFault::Count)
-    );
-    changed[6] = 2;
-    assert_eq!(rt;
-        faults_of(alloc, &changed, &MOVE[16..])?,
-        both(JournalFault::Kind)
-    );
-    changed[5] = 2;
-    assert_eq!(rt;
-        faults_of(alloc, &changed, &MOVE[16..])?,
-        both(JournalFault::Version)
-    );
-    changed[3] = 0x4b;
-    assert_eq!(rt;
-        faults_of(alloc, &changed, &MOVE[16..])?,
+        faults_of(alloc, &header(0x4b, 2, 2, 3), choices)?,
         both(JournalFault::Magic)
     );
     assert_eq!(rt;
-        faults_of(alloc, &changed[..15], b"")?,
-        both(JournalFault::Short)
+        faults_of(alloc, &header(0x4a, 2, 2, 3), choices)?,
+        both(JournalFault::Version)
+    );
+    assert_eq!(rt;
+        faults_of(alloc, &header(0x4a, 1, 2, 3), choices)?,
+        both(JournalFault::Kind)
+    );
+    assert_eq!(rt;
+        faults_of(alloc, &header(0x4a, 1, 1, 3), choices)?,
+        both(JournalFault::Count)
     );
     Ok(())
 }
@@ -138,10 +139,9 @@ fn the_first_fault_of_a_header_is_answered(rt: HostRuntime) -> Result<(), Fail> 
 #[test]
 fn one_choice_more_than_200_million_is_too_many(rt: HostRuntime) -> Result<(), Fail> {
     let alloc = rt.alloc();
-    let mut most = header();
-    most[8..].copy_from_slice(&[0x00, 0x00, 0x00, 0x00, 0x0b, 0xeb, 0xc2, 0x01]);
-    assert_eq!(rt; faults_of(alloc, &most, b"")?, both(JournalFault::Count));
-    most[15] = 0x00;
+    let over = counted([0x0b, 0xeb, 0xc2, 0x01]);
+    assert_eq!(rt; faults_of(alloc, &over, b"")?, both(JournalFault::Count));
+    let most = counted([0x0b, 0xeb, 0xc2, 0x00]);
     assert_eq!(rt; faults_of(alloc, &most, b"")?, both(JournalFault::Short));
     Ok(())
 }
@@ -155,8 +155,7 @@ fn choices_end_exactly(rt: HostRuntime) -> Result<(), Fail> {
         both(JournalFault::Short)
     );
     assert_eq!(rt; faults_of(alloc, &MOVE, b"x")?, both(JournalFault::Extra));
-    let mut none = header();
-    none[15] = 0;
+    let none = counted([0; 4]);
     assert_eq!(rt; faults_of(alloc, &none, b"")?, (None, None));
     assert_eq!(rt; faults_of(alloc, &none, b"x")?, both(JournalFault::Extra));
     Ok(())
@@ -165,7 +164,13 @@ fn choices_end_exactly(rt: HostRuntime) -> Result<(), Fail> {
 #[test]
 fn a_failed_read_is_answered_in_its_place(rt: HostRuntime) -> Result<(), Fail> {
     for failing in [1, 2, 4, 14, 15] {
-        let mut outside = with_journal(rt.alloc(), &MOVE[..16], &MOVE[16..], failing)?;
+        let mut outside = with_journal(
+            rt.alloc(),
+            Role::JournalIn,
+            &MOVE[..16],
+            &MOVE[16..],
+            failing,
+        )?;
         let mut source = RoleSource {
             outside: &mut outside,
             role: Role::JournalIn,

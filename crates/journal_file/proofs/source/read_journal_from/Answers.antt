@@ -1,10 +1,9 @@
 -- The answer is that of the bytes left, by the parts that were taken of them.
-use Rattle.std.proofs.Common.{◌∙◌, ◌+◌, ◌*◌, List, ℕ, Ok, Err, ap, sym, arith, rules, length}
+use Rattle.std.proofs.Common.{◌∙◌, Ok, Err, ap, arith, length}
 use Rattle.std.proofs.lemmas.Bool.Decides.{nat_tests}
 use Rattle.std.proofs.lemmas.Result.{err_from_is_err_and}
 use Rattle.journal_file.specs.declared.fault.JournalFault.{JournalFault}
 use Rattle.journal_file.specs.declared.fault.JournalFault.TheVariants as fault
-use Rattle.journal_file.specs.Reading.{count_of}
 use Rattle.journal_file.proofs.TakenPieces.{count_read, header_fault, body_gives, choices_fault, byte_more, ended, other_fault}
 use Rattle.journal_file.proofs.source.read_journal_from.Goals as goal
 

@@ -1,6 +1,5 @@
 -- So many choices were taken so far.
 use Rattle.std.proofs.Common.{◌≡◌, ◌≤◌, ◌-◌, ℕ, List, Some}
-use Rattle.std.specs.Option.{ForSome}
 use Rattle.nf_io.specs.Meaning.{StaysOpen}
 use Rattle.journal_file.proofs.TakenPieces.{IsTaken}
 use Rattle.journal_file.proofs.source.take_choices.Given as goal
