@@ -1,5 +1,5 @@
 -- A header that was written is read again, and has one spelling.
-use Rattle.std.proofs.Common.{◌≡◌, ◌∙◌, ◌<◌, ◌≤◌, ◌+◌, ◌*◌, ◌^◌, ◌==◌, not, eqb, ℕ, Bool, true, false, List, [], ◌∷◌, ◌++◌, length, take, drop, slice_index, Result, Ok, Err, refl, ap, sym, arith, nat_lt, cond, length-append, append-nil}
+use Rattle.std.proofs.Common.{◌≡◌, ◌∙◌, ◌<◌, ◌≤◌, ◌*◌, ◌^◌, eqb, ℕ, true, false, List, [], ◌++◌, length, Ok, refl, ap, sym, arith, nat_lt, length-append, append-nil}
 use Rattle.std.proofs.lemmas.Bool.Decides.{nat_tests}
 use Rattle.std.proofs.lemmas.List.{take_at, drop_at}
 use Rattle.std.specs.List.{flat_map}
@@ -11,7 +11,7 @@ use Rattle.nf_function.specs.Stored.{number_bytes}
 use Rattle.nf_function.proofs.StoredNumbers.{length-number_bytes}
 use Rattle.state_chunk.specs.Format.{kind_number}
 use Rattle.journal_file.specs.Format.{header_size, most_choices, header_bytes, journal_bytes, choice_bytes}
-use Rattle.journal_file.specs.Reading.{count_in, count_of, choices_in, choices_of, journal_of}
+use Rattle.journal_file.specs.Reading.{count_in, count_of, choices_of, journal_of}
 use Rattle.journal_file.proofs.SpelledChoices.{choices_in_written, written_length}
 
 same_number : (n : ℕ) → eqb n n ≡ true

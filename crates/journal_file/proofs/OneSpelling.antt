@@ -1,5 +1,5 @@
 -- A journal that is read has one spelling.
-use Rattle.std.proofs.Common.{◌≡◌, ◌∙◌, ◌<◌, ◌≤◌, ◌+◌, ◌*◌, ◌==◌, not, eqb, ℕ, zero, suc, Bool, true, false, List, [], ◌∷◌, ◌++◌, length, take, drop, slice_index, Option, Some, Result, Ok, Err, refl, ap, sym, arith, nat_lt, if◌then◌else◌, IfOk, length-drop, append-nil}
+use Rattle.std.proofs.Common.{◌≡◌, ◌∙◌, ◌≤◌, ◌*◌, ◌==◌, not, eqb, ℕ, Bool, true, false, List, [], ◌∷◌, ◌++◌, length, take, drop, slice_index, Ok, Err, refl, ap, sym, arith, nat_lt, if◌then◌else◌, IfOk, length-drop, append-nil}
 use Rattle.std.proofs.lemmas.Bool.Decides.{Decides-eqb, nat_tests}
 use Rattle.std.proofs.lemmas.List.{append_assoc, length-take-le, take-append-drop, drop-drop}
 use Rattle.std.proofs.lemmas.Slice.Eq.{starts_is}

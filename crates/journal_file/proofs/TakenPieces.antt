@@ -1,13 +1,11 @@
 -- What a source gives piece by piece is what its bytes spell.
-use Rattle.std.proofs.Common.{◌≡◌, ◌∙◌, ◌<◌, ◌≤◌, ◌+◌, ◌*◌, ◌-◌, ℕ, Bool, true, false, List, [], ◌∷◌, ◌++◌, length, take, drop, Option, None, Some, Result, Ok, Err, refl, ap, sym, subst, arith, nat_lt, cond, length-drop, append-nil}
+use Rattle.std.proofs.Common.{◌≡◌, ◌∙◌, ◌<◌, ◌≤◌, ◌+◌, ◌*◌, ◌-◌, ℕ, true, false, List, [], ◌++◌, length, take, drop, Option, Some, Ok, Err, refl, ap, sym, subst, arith, nat_lt, length-drop}
 use Rattle.std.proofs.lemmas.Bool.Decides.{nat_tests}
 use Rattle.std.proofs.lemmas.List.{length-take-le, length-take, drop-drop, take-take}
 use Rattle.std.proofs.Math.ListN.{drop_of_length-le}
 use Rattle.std.proofs.Math.Seq.{take-add, take-length}
 use Rattle.actor_net.specs.declared.choice.Choice.{Choice}
 use Rattle.nf_function.specs.declared.kind.Kind.{Kind}
-use Rattle.nf_io.specs.declared.transfers.UptoFault.{UptoFault}
-use Rattle.nf_io.specs.declared.transfers.UptoFault.TheVariants as upto
 use Rattle.journal_file.specs.declared.fault.JournalFault.{JournalFault}
 use Rattle.journal_file.specs.declared.fault.JournalFault.TheVariants as fault
 use Rattle.journal_file.specs.Format.{header_size}

@@ -35,7 +35,7 @@ returns-then-not-is_empty-clause-value g c = λ bytes told.
     let head = c.in_ok-header.ensures.value bytes told in
     let is = count_read c.args.kind c.args.instances bytes _ _ _ c.items.ensures head.0 c.in_ok-count.ensures.value in
     let taken = c.in_ok-choices.ensures.value _ head.1 in
-    body_gives c.args.kind c.args.instances c.in_ok-count.count bytes _ (Err fault.Extra) is
+    body_gives c.args.kind c.args.instances c.in_ok-count.count bytes (g.S.Source.left c.first_bytes-2.new.source) (Err fault.Extra) is
     (byte_more c.in_ok-count.count bytes _ _ _ _ taken (c.in_ok-first_bytes.ensures.value _ taken.2)
     (grind (arith, nat_tests, c.is_empty.ensures, c.if-not-is_empty.true, ap length c.items-3.ensures)))
 
