@@ -3,14 +3,17 @@
 //! top call promises holds of the words that it is given.
 #![tactic(auto)]
 
+mod places;
 mod run;
 
+use crate::places::hold_places;
 use crate::run::{refuse, run};
 use nf_io::FileOutside;
 use nf_io::arguments::arguments;
 use std::process::ExitCode;
 
 fn main(rt: HostRuntime) -> ExitCode {
+    let _places = hold_places(&rt);
     let mut outside = FileOutside::open(&rt, rt.alloc());
     match arguments(&rt) {
         Ok(words) => run(&rt, words.as_slice(), &mut outside),
