@@ -8,6 +8,7 @@
 pub mod answer;
 pub mod answer_text;
 pub mod command;
+pub mod exports;
 pub mod message_text;
 pub mod msg;
 pub mod names;
@@ -17,6 +18,7 @@ pub mod note;
 pub use answer::Answer;
 pub use answer_text::print_answer;
 pub use command::{Command, Order};
+pub use exports::units_in;
 pub use message_text::show;
 pub use msg::{Msg, Piece, Refused};
 pub use names::Names;
