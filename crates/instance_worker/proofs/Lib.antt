@@ -1,0 +1,4 @@
+pub mod PieceLemmas
+pub mod PieceLaws
+pub mod HeldPackets
+pub mod TakenChunks

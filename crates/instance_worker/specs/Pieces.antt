@@ -1,0 +1,41 @@
+-- The pieces in which the chunks of a move are sent. This project's own.
+use Rattle.std.specs.Prelude.{◌≡◌, ◌≤◌, ℕ, zero, suc, max, nat_le, Bool, true, false, if◌then◌else◌, List, [], ◌∷◌, map, length, take, drop, slice_index, replicate, ◌++◌}
+use Rattle.std.specs.List.{All, flat_map}
+use Rattle.nf_function.specs.declared.chunk.Chunk.{Chunk}
+use Rattle.nf_msgs.specs.declared.msg.Piece.{Piece}
+use Rattle.instance_worker.specs.declared.pieces.Whole.{Whole}
+use Rattle.instance_worker.specs.declared.pieces.TheConstants.{MOST_CHUNKS}
+
+-- the version of a chunk is its first byte
+abbrev pub version_of : Chunk → ℕ
+version_of chunk = slice_index chunk.bytes 0
+
+-- the highest version of chunks, and at least 1
+abbrev pub newest_version : List Chunk → ℕ
+newest_version [] = 1
+newest_version (chunk ∷ chunks) = max (version_of chunk) (newest_version chunks)
+
+-- a piece
+abbrev pub piece_of : Whole → Bool → List Chunk → Piece
+piece_of whole last chunks = record { chunks = chunks; total = whole.total; newest = whole.newest; last = last }
+
+-- chunks in pieces of 64, and what is left as the last one. The number is at least that of the pieces before the last
+unfoldable pub cut : Whole → ℕ → List Chunk → List Piece
+cut whole zero chunks = piece_of whole true chunks ∷ []
+cut whole (suc n) chunks =
+    if nat_le (length chunks) MOST_CHUNKS then piece_of whole true chunks ∷ []
+    else piece_of whole false (take MOST_CHUNKS chunks) ∷ cut whole n (drop MOST_CHUNKS chunks)
+
+-- what all pieces of these chunks say
+abbrev pub whole_of : List Chunk → Whole
+whole_of chunks = record { total = length chunks; newest = newest_version chunks }
+
+-- the pieces of chunks: one empty piece where there is none
+abbrev pub pieces : List Chunk → List Piece
+pieces chunks = cut (whole_of chunks) (length chunks) chunks
+
+-- pieces are all chunks in order, no piece has too many, and the last alone is marked so
+pub record PieceLaws : Type 0 where
+  pub whole : (chunks : List Chunk) → flat_map (λ p. p.chunks) (pieces chunks) ≡ chunks
+  pub small : (chunks : List Chunk) → All (λ p. length p.chunks ≤ MOST_CHUNKS) (pieces chunks)
+  pub last : (chunks : List Chunk) → (n : ℕ) × (map (λ p. p.last) (pieces chunks) ≡ replicate n false ++ true ∷ [])

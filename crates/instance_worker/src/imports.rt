@@ -1,0 +1,287 @@
+//! What an instance takes from the controller.
+ghost use Rattle.std.specs.Prelude.{◌≡◌, ◌++◌, ◌≤◌, ◌+◌, [], ◌∷◌, if◌then◌else◌, length, true, None, IfOk, IfNone, OnOk};
+ghost use Rattle.std.specs.FinMap as finite;
+ghost use Rattle.nf_msgs.specs.declared.msg.Msg.TheVariants.{PutNo as Refusing};
+ghost use Rattle.nf_msgs.specs.declared.note.Note.TheVariants.{Imported as ImportedNote, Kept as KeptNote};
+ghost use Rattle.record_table.specs.Chunks.{are_good};
+ghost use Rattle.instance_worker.specs.Taking.{AreTaken};
+ghost use Rattle.instance_worker.specs.Instance.{on_put, on_put_all, on_restore, on_standby, on_sync, piece_put, refusal, told, with_live, with_records, with_standby};
+
+use crate::instance::Instance;
+use actor_net::Outbox;
+use basics::{Boxed, NoMemory};
+use nf_function::{Chunk, Chunks, Function, Units};
+use nf_msgs::{Answer, CONTROLLER, Msg, Note, Piece, Refused, units_in};
+use record_table::ImportFault;
+use state_chunk::{ChunkFault, decode_tally};
+use state_chunk::header::PLAIN;
+use std::alloc::AllocError;
+
+impl<F: Function> Instance<F> {
+    /// Takes a piece of a move's records as live, or refuses it where it is the first.
+    #[tactic(auto, unfolding(crate::specs::Instance::on_put))]
+    pub(crate) fn put(
+        &mut self,
+        op: u32,
+        piece: Piece,
+        first: bool,
+        out: &mut Outbox<Msg, Note>,
+    ) -> Result<(), NoMemory>
+        ensures node { OnOk result (self.new ≡ (on_put F.semantics self.old op piece first).node) }
+        ensures sends { OnOk result (out.new.0 ≡ out.old.0 ++ (on_put F.semantics self.old op piece first).sends) }
+        ensures notes { OnOk result (out.new.1 ≡ out.old.1 ++ (on_put F.semantics self.old op piece first).notes) }
+    {
+        if (piece.total as usize) < piece.chunks.items().len() {
+            return Ok(());
+        }
+        if !first {
+            return self.put_later(op, piece, out);
+        }
+        match self.refusal(&piece) {
+            Some(why) => self.refuse(op, why, piece.chunks, out),
+            None => self.put_first(op, piece, out),
+        }
+    }
+
+    /// Why a piece that is put first is refused, if it is.
+    fn refusal(&self, piece: &Piece) -> Option<Answer>
+        ensures value { result ≡ refusal self.now piece.now }
+        ensures room { IfNone result (finite.len self.now.table.live + piece.now.total ≤ self.now.limit) }
+    {
+        let held = self.table.live_count();
+        if u64::from(held) + u64::from(piece.total) > u64::from(self.limit) {
+            return Some(Answer::Import {
+                held,
+                coming: piece.total,
+                limit: self.limit,
+            });
+        }
+        if self.marked && piece.newest > PLAIN {
+            return Some(Answer::Old {
+                newest: piece.newest,
+                reads: PLAIN,
+            });
+        }
+        None
+    }
+
+    /// Sends chunks back.
+    fn refuse(
+        &self,
+        op: u32,
+        why: Answer,
+        chunks: Chunks,
+        out: &mut Outbox<Msg, Note>,
+    ) -> Result<(), NoMemory>
+        ensures sends { OnOk result (out.new.0 ≡ out.old.0 ++ told (Refusing op (record { why = why; chunks = chunks }) ∷ [])) }
+        ensures notes { OnOk result (out.new.1 ≡ out.old.1) }
+    {
+        let refused = Boxed::new(self.alloc, Refused { why, chunks })?;
+        out.send(CONTROLLER, Msg::PutNo { op, refused })
+    }
+
+    /// Takes the first piece, which isn't refused.
+    fn put_first(
+        &mut self,
+        op: u32,
+        piece: Piece,
+        out: &mut Outbox<Msg, Note>,
+    ) -> Result<(), NoMemory>
+        requires total { length piece.chunks ≤ piece.total }
+        requires room { finite.len self.old.table.live + piece.total ≤ self.old.limit }
+        ensures node { OnOk result (self.new ≡ (piece_put F.semantics self.old op piece true None).node) }
+        ensures sends { OnOk result (out.new.0 ≡ out.old.0 ++ (piece_put F.semantics self.old op piece true None).sends) }
+        ensures notes { OnOk result (out.new.1 ≡ out.old.1 ++ (piece_put F.semantics self.old op piece true None).notes) }
+    {
+        let Piece { chunks, total, .. } = piece;
+        let units = units_in(self.alloc, chunks.items())?;
+        if !self.import_live(chunks, total)? {
+            return Ok(());
+        }
+        self.note_imported(op, units, out)?;
+        out.send(CONTROLLER, Msg::PutOk { op })
+    }
+
+    /// Takes a piece that comes after the first.
+    fn put_later(
+        &mut self,
+        op: u32,
+        piece: Piece,
+        out: &mut Outbox<Msg, Note>,
+    ) -> Result<(), NoMemory>
+        ensures node { OnOk result (self.new ≡ (piece_put F.semantics self.old op piece piece.last None).node) }
+        ensures sends { OnOk result (out.new.0 ≡ out.old.0 ++ (piece_put F.semantics self.old op piece piece.last None).sends) }
+        ensures notes { OnOk result (out.new.1 ≡ out.old.1 ++ (piece_put F.semantics self.old op piece piece.last None).notes) }
+    {
+        let Piece { chunks, last, .. } = piece;
+        let units = units_in(self.alloc, chunks.items())?;
+        if !self.take_live(chunks)? {
+            return Ok(());
+        }
+        self.note_imported(op, units, out)?;
+        if !last {
+            return Ok(());
+        }
+        out.send(CONTROLLER, Msg::PutOk { op })
+    }
+
+    /// Takes back what another instance refused.
+    #[tactic(auto, unfolding(crate::specs::Instance::on_restore))]
+    pub(crate) fn restore(
+        &mut self,
+        op: u32,
+        chunks: Chunks,
+        out: &mut Outbox<Msg, Note>,
+    ) -> Result<(), NoMemory>
+        ensures node { OnOk result (self.new ≡ (on_restore F.semantics self.old op chunks).node) }
+        ensures sends { OnOk result (out.new.0 ≡ out.old.0 ++ (on_restore F.semantics self.old op chunks).sends) }
+        ensures notes { OnOk result (out.new.1 ≡ out.old.1 ++ (on_restore F.semantics self.old op chunks).notes) }
+    {
+        let units = units_in(self.alloc, chunks.items())?;
+        if !self.take_live(chunks)? {
+            return Ok(());
+        }
+        self.note_imported(op, units, out)?;
+        out.send(CONTROLLER, Msg::Restored { op })
+    }
+
+    /// Keeps the chunks' records as standby.
+    #[tactic(auto, unfolding(crate::specs::Instance::on_standby))]
+    pub(crate) fn standby(
+        &mut self,
+        op: u32,
+        chunks: Chunks,
+        out: &mut Outbox<Msg, Note>,
+    ) -> Result<(), NoMemory>
+        ensures node { OnOk result (self.new ≡ (on_standby F.semantics self.old op chunks).node) }
+        ensures sends { OnOk result (out.new.0 ≡ out.old.0 ++ (on_standby F.semantics self.old op chunks).sends) }
+        ensures notes { OnOk result (out.new.1 ≡ out.old.1 ++ (on_standby F.semantics self.old op chunks).notes) }
+    {
+        let units = units_in(self.alloc, chunks.items())?;
+        if !self.take_standby(chunks)? {
+            return Ok(());
+        }
+        self.note_kept(op, units, out)?;
+        out.send(CONTROLLER, Msg::Kept { op })
+    }
+
+    /// Sets the records of a share.
+    #[tactic(auto, unfolding(crate::specs::Instance::on_sync))]
+    pub(crate) fn sync(
+        &mut self,
+        home: bool,
+        op: u32,
+        chunks: Chunks,
+        out: &mut Outbox<Msg, Note>,
+    ) -> Result<(), NoMemory>
+        ensures node { OnOk result (self.new ≡ (on_sync F.semantics self.old home op chunks).node) }
+        ensures sends { OnOk result (out.new.0 ≡ out.old.0 ++ (on_sync F.semantics self.old home op chunks).sends) }
+        ensures notes { OnOk result (out.new.1 ≡ out.old.1 ++ (on_sync F.semantics self.old home op chunks).notes) }
+    {
+        let units = units_in(self.alloc, chunks.items())?;
+        if !self.take_records(home, chunks)? {
+            return Ok(());
+        }
+        self.note_kept(op, units, out)?;
+        out.send(CONTROLLER, Msg::Synced { op })
+    }
+
+    /// Merges a tally into the instance's own.
+    #[tactic(auto, unfolding(crate::specs::Instance::on_put_all))]
+    pub(crate) fn put_all(
+        &mut self,
+        op: u32,
+        chunk: &Chunk,
+        out: &mut Outbox<Msg, Note>,
+    ) -> Result<(), NoMemory>
+        ensures node { OnOk result (self.new ≡ (on_put_all F.semantics self.old op chunk.now).node) }
+        ensures sends { OnOk result (out.new.0 ≡ out.old.0 ++ (on_put_all F.semantics self.old op chunk.now).sends) }
+        ensures notes { OnOk result (out.new.1 ≡ out.old.1 ++ (on_put_all F.semantics self.old op chunk.now).notes) }
+    {
+        match decode_tally(F::which(), chunk.bytes.items()) {
+            Ok(tally) => {
+                self.tally.merge(&tally);
+                out.send(CONTROLLER, Msg::Kept { op })
+            }
+            Err(ChunkFault::NoMemory) => Err(AllocError),
+            Err(_) => Ok(()),
+        }
+    }
+
+    /// Notes that the records of these units became live.
+    fn note_imported(
+        &self,
+        op: u32,
+        units: Units,
+        out: &mut Outbox<Msg, Note>,
+    ) -> Result<(), NoMemory>
+        ensures { OnOk result (out.new ≡ (out.old.0, out.old.1 ++ ImportedNote self.now.index op units ∷ [])) }
+    {
+        out.note(Note::Imported {
+            instance: self.index.get(),
+            op,
+            units,
+        })
+    }
+
+    /// Notes that the records of these units are kept.
+    fn note_kept(
+        &self,
+        op: u32,
+        units: Units,
+        out: &mut Outbox<Msg, Note>,
+    ) -> Result<(), NoMemory>
+        ensures { OnOk result (out.new ≡ (out.old.0, out.old.1 ++ KeptNote self.now.index op units ∷ [])) }
+    {
+        out.note(Note::Kept {
+            instance: self.index.get(),
+            op,
+            units,
+        })
+    }
+
+    /// Makes records of a move live, for which there is room, and tells whether no chunk was bad.
+    fn import_live(&mut self, chunks: Chunks, total: u32) -> Result<bool, NoMemory>
+        requires total { length chunks ≤ total }
+        requires room { finite.len self.old.table.live + total ≤ self.old.limit }
+        ensures good { IfOk result (λ good. good ≡ are_good F.semantics chunks) }
+        ensures node { IfOk result (λ good. self.new ≡ (if good then with_live F.semantics self.old chunks else self.old)) }
+    {
+        are_taken(self.table.import(chunks, total, self.limit))
+    }
+
+    /// Makes records live, and tells whether no chunk was bad.
+    fn take_live(&mut self, chunks: Chunks) -> Result<bool, NoMemory>
+        ensures good { IfOk result (λ good. good ≡ are_good F.semantics chunks) }
+        ensures node { IfOk result (λ good. self.new ≡ (if good then with_live F.semantics self.old chunks else self.old)) }
+    {
+        are_taken(self.table.restore(chunks))
+    }
+
+    /// Lets records stand by, and tells whether no chunk was bad.
+    fn take_standby(&mut self, chunks: Chunks) -> Result<bool, NoMemory>
+        ensures good { IfOk result (λ good. good ≡ are_good F.semantics chunks) }
+        ensures node { IfOk result (λ good. self.new ≡ (if good then with_standby F.semantics self.old chunks else self.old)) }
+    {
+        are_taken(self.table.set_standby(chunks))
+    }
+
+    /// Sets records, and tells whether no chunk was bad.
+    fn take_records(&mut self, live: bool, chunks: Chunks) -> Result<bool, NoMemory>
+        ensures good { IfOk result (λ good. good ≡ are_good F.semantics chunks) }
+        ensures node { IfOk result (λ good. self.new ≡ (if good then with_records F.semantics self.old live chunks else self.old)) }
+    {
+        are_taken(self.table.sync(live, chunks))
+    }
+}
+
+/// Whether chunks were taken in.
+fn are_taken(taken: Result<(), ImportFault>) -> Result<bool, NoMemory>
+    ensures { IfOk result (λ are. AreTaken are taken) }
+{
+    match taken {
+        Ok(()) => Ok(true),
+        Err(ImportFault::NoMemory(_chunks)) => Err(AllocError),
+        Err(_fault) => Ok(false),
+    }
+}

@@ -1,0 +1,164 @@
+ghost use Rattle.std.specs.Prelude.{◌≡◌, ◌<◌, [], ◌++◌, false, OnOk, replicate};
+ghost use Rattle.record_table.specs.Table.{empty};
+
+use crate::number::InstanceNumber;
+use actor_net::{Actor, Outbox};
+use basics::NoMemory;
+use event_filter::{Action, EventRules};
+use flow_filter::{Filter, Site};
+use nf_function::{Function, Tally, Units};
+use nf_msgs::{CONTROLLER, MOST_INSTANCES, Msg, Note};
+use packet_pool::Cell;
+use record_table::Table;
+use std::alloc::Global;
+
+/// An instance of a network function.
+#[derive(Drop)]
+pub struct Instance<F: Function> {
+    pub(crate) table: Table<F>,
+    pub(crate) rules: EventRules<Cell>,
+    pub(crate) tally: Tally,
+    pub(crate) site: Site,
+    pub(crate) alloc: Global,
+    /// How many units may have a live record when records are imported.
+    pub(crate) limit: u32,
+    pub(crate) index: InstanceNumber,
+    /// Whether it reads chunks of version 1 alone.
+    pub(crate) marked: bool,
+    /// Whether it took its stop.
+    pub(crate) ended: bool,
+}
+
+impl<F: Function> Actor for Instance<F> {
+    ghost use Rattle.std.specs.Prelude.{true};
+    ghost use Rattle.instance_worker.specs.Instance.{instance_step};
+
+    type Message = Msg;
+
+    type Note = Note;
+
+    ghost stepped = { λ i port message. instance_step F.semantics i message };
+
+    ghost is_ready = { λ i message. true };
+
+    ghost has_ended = { λ i. i.ended };
+
+    fn ready(&self, _item: &Msg) -> bool {
+        true
+    }
+
+    fn step(
+        &mut self,
+        _port: u8,
+        message: Msg,
+        out: &mut Outbox<Msg, Note>,
+    ) -> Result<(), NoMemory> {
+        match message {
+            Msg::Carry { mark, parcel } => self.carry(mark, parcel, out),
+            Msg::Fence { op } => self.fence(op, out),
+            Msg::Stop => self.stop(out),
+            Msg::Enable { op, filter, action } => self.enable(op, filter.get(), action, out),
+            Msg::Get { op, filter } => self.get(op, filter.get(), out),
+            Msg::Stream { op, filter } => self.stream(op, filter.get(), out),
+            Msg::GetAll { op } => self.get_all(op, out),
+            Msg::Delete { op, units } => self.delete(op, &units, out),
+            Msg::Put { op, piece, first } => self.put(op, piece.into_inner(), first, out),
+            Msg::Restore { op, chunks } => self.restore(op, chunks, out),
+            Msg::Standby { op, chunks } => self.standby(op, chunks, out),
+            Msg::PutAll { op, chunk } => self.put_all(op, chunk.get(), out),
+            Msg::Sync { home, op, chunks } => self.sync(home, op, chunks, out),
+            _ => Ok(()),
+        }
+    }
+
+    fn ended(&self) -> bool {
+        self.ended
+    }
+}
+
+impl<F: Function> Instance<F> {
+    ghost use Rattle.instance_worker.specs.Instance.{on_delete, on_enable, on_stop};
+
+    /// An instance without records and rules. This takes no memory.
+    pub fn open(alloc: Global, index: u8, limit: u32, marked: bool, site: Site) -> Self
+        requires { index < MOST_INSTANCES }
+        ensures { result ≡ record {
+          table = empty;
+          rules = [];
+          tally = record { slots = replicate 16 0 };
+          site = site;
+          alloc = alloc;
+          limit = limit;
+          index = index;
+          marked = marked;
+          ended = false;
+        } }
+    {
+        Instance {
+            table: Table::open(alloc),
+            rules: EventRules::open(alloc),
+            tally: Tally::zero(),
+            site,
+            alloc,
+            limit,
+            index: InstanceNumber::new(index),
+            marked,
+            ended: false,
+        }
+    }
+
+    /// The records.
+    pub fn table(&self) -> &Table<F>
+        ensures { result.now ≡ self.now.table }
+    {
+        &self.table
+    }
+
+    /// How many packets each instance has processed, as far as this one knows.
+    pub fn tally(&self) -> Tally
+        ensures { result ≡ self.now.tally }
+    {
+        self.tally
+    }
+
+    /// Tells the controller that this was the last message.
+    fn stop(&mut self, out: &mut Outbox<Msg, Note>) -> Result<(), NoMemory>
+        ensures node { OnOk result (self.new ≡ (on_stop self.old).node) }
+        ensures sends { OnOk result (out.new.0 ≡ out.old.0 ++ (on_stop self.old).sends) }
+        ensures notes { OnOk result (out.new.1 ≡ out.old.1 ++ (on_stop self.old).notes) }
+    {
+        self.ended = true;
+        out.send(CONTROLLER, Msg::Final)
+    }
+
+    /// Sets the rule of an operation.
+    fn enable(
+        &mut self,
+        op: u32,
+        filter: &Filter,
+        action: Action,
+        out: &mut Outbox<Msg, Note>,
+    ) -> Result<(), NoMemory>
+        ensures node { OnOk result (self.new ≡ (on_enable self.old op filter.now action).node) }
+        ensures sends { OnOk result (out.new.0 ≡ out.old.0 ++ (on_enable self.old op filter.now action).sends) }
+        ensures notes { OnOk result (out.new.1 ≡ out.old.1 ++ (on_enable self.old op filter.now action).notes) }
+    {
+        self.rules.enable(op, *filter, action)?;
+        out.send(CONTROLLER, Msg::Enabled { op })
+    }
+
+    /// Removes the live records of some units.
+    fn delete(
+        &mut self,
+        op: u32,
+        units: &Units,
+        out: &mut Outbox<Msg, Note>,
+    ) -> Result<(), NoMemory>
+        ensures node { OnOk result (self.new ≡ (on_delete self.old op units.now).node) }
+        ensures sends { OnOk result (out.new.0 ≡ out.old.0 ++ (on_delete self.old op units.now).sends) }
+        ensures notes { OnOk result (out.new.1 ≡ out.old.1 ++ (on_delete self.old op units.now).notes) }
+    {
+        self.table.remove(units);
+        out.send(CONTROLLER, Msg::Deleted { op })
+    }
+}
