@@ -17,7 +17,7 @@ use Rattle.record_table.specs.Chunks.{chunks_of}
 use Rattle.record_table.proofs.SortedEntries.{len_parts}
 use Rattle.instance_worker.specs.declared.pieces.Whole.{Whole}
 use Rattle.instance_worker.specs.declared.pieces.TheConstants.{MOST_CHUNKS}
-use Rattle.instance_worker.specs.Pieces.{cut, newest_version, piece_of, pieces, whole_of}
+use Rattle.instance_worker.specs.Pieces.{cut, newest_version, piece_of}
 use Rattle.instance_worker.specs.Instance.{told}
 
 pub at_most : (a b : ℕ) → a ≤ b → nat_le a b ≡ true
@@ -44,11 +44,6 @@ pub record IsLeft (whole : Whole) (op : ℕ) (left : List Chunk) (sent all : Lis
   pub most : ℕ
   pub enough : length left ≤ most
   pub sends : sent ++ told (map (Piece op) (cut whole most left)) ≡ all
-
--- at the start all chunks are left
-pub left_all : (whole : Whole) (op : ℕ) (chunks left : List Chunk) (sent : List (ℕ × Msg)) → whole ≡ whole_of chunks → left ≡ chunks
-    → IsLeft whole op left sent (sent ++ told (map (Piece op) (pieces chunks)))
-left_all whole op chunks left sent of_all all = record { most = length chunks; enough = omega (arith, ap length all); sends = rw (of_all, all) refl }
 
 module _ (whole : Whole) (op : ℕ) (left : List Chunk) (sent all : List (ℕ × Msg)) where
   -- one more piece is sent
