@@ -10,6 +10,7 @@ use Rattle.nf_function.specs.declared.chunk.Chunk.{Chunk}
 use Rattle.nf_function.specs.Units.{takes}
 use Rattle.nf_function.specs.Semantics.{Semantics}
 use Rattle.nf_msgs.specs.declared.msg.Msg.{Msg}
+use Rattle.nf_msgs.specs.declared.msg.Piece.{Piece as APiece}
 use Rattle.nf_msgs.specs.declared.msg.Msg.TheVariants.{Piece}
 use Rattle.state_chunk.specs.Format.{record_chunk}
 use Rattle.record_table.specs.Table.{Records, taken_by}
@@ -47,21 +48,23 @@ pub record IsLeft (whole : Whole) (op : ℕ) (left : List Chunk) (sent all : Lis
 
 module _ (whole : Whole) (op : ℕ) (left : List Chunk) (sent all : List (ℕ × Msg)) where
   -- one more piece is sent
-  pub left_more : (next : List Chunk) (more : List (ℕ × Msg)) → IsLeft whole op left sent all → MOST_CHUNKS < length left → next ≡ drop MOST_CHUNKS left
-      → more ≡ sent ++ told (Piece op (piece_of whole false (take MOST_CHUNKS left)) ∷ []) → IsLeft whole op next more all
-  left_more next more is long rest sends = by is.most is.enough is.sends
+  pub left_more : (next chunks : List Chunk) (piece : APiece) (more : List (ℕ × Msg)) → IsLeft whole op left sent all → MOST_CHUNKS < length left → next ≡ drop MOST_CHUNKS left
+      → chunks ≡ take MOST_CHUNKS left → piece ≡ piece_of whole false chunks → more ≡ sent ++ told (Piece op piece ∷ []) → IsLeft whole op next more all
+  left_more next chunks piece more is long rest first made sends = by is.most is.enough is.sends
     where
       by : (n : ℕ) → length left ≤ n → sent ++ told (map (Piece op) (cut whole n left)) ≡ all → IsLeft whole op next more all
       by zero enough e = absurd (omega arith)
       by (suc n) enough e = record {
         most = n;
         enough = rw rest (omega (arith, length-drop MOST_CHUNKS left));
-        sends = rw (sends, rest) (append_assoc sent _ _ ∙ ap (λ ps. sent ++ told (map (Piece op) ps)) (sym (cut_long whole n left long)) ∙ e);
+        sends = rw (sends, made, first, rest) (append_assoc sent _ _ ∙ ap (λ ps. sent ++ told (map (Piece op) ps)) (sym (cut_long whole n left long)) ∙ e);
       }
 
   -- the last piece is sent
-  pub left_last : IsLeft whole op left sent all → length left ≤ MOST_CHUNKS → sent ++ told (Piece op (piece_of whole true left) ∷ []) ≡ all
-  left_last is short = ap (λ ps. sent ++ told (map (Piece op) ps)) (sym (cut_short whole is.most left short)) ∙ is.sends
+  pub left_last : (chunks : List Chunk) (piece : APiece) (more : List (ℕ × Msg)) → IsLeft whole op left sent all → length left ≤ MOST_CHUNKS → chunks ≡ left
+      → piece ≡ piece_of whole true chunks → more ≡ sent ++ told (Piece op piece ∷ []) → more ≡ all
+  left_last chunks piece more is short same made sends =
+      rw (sends, made, same) (ap (λ ps. sent ++ told (map (Piece op) ps)) (sym (cut_short whole is.most left short)) ∙ is.sends)
 
 -- no more chunks are selected than records are live
 pub few_selected : {R : Type 0} (f : Semantics R) (filter : Filter) (m : Records R) → length (chunks_of f (taken_by filter m)) ≤ finite.len m
