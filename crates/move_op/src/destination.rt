@@ -1,0 +1,166 @@
+ghost use Rattle.std.specs.Prelude.{◌≡◌, ◌∷◌, ◌++◌, OnOk, IfOk};
+ghost use Rattle.event_store.specs.Store.{stored};
+ghost use Rattle.move_op.specs.Move.{all_put, from_destination, on_destination_enabled, on_destination_fenced, on_put_no, on_put_ok, pushed, put_back, store_after};
+
+use crate::door::Door;
+use crate::phase::Phase;
+use crate::pieces::Pieces;
+use crate::plan::Plan;
+use actor_net::Outbox;
+use basics::{Boxed, NoMemory};
+use event_filter::Action;
+use event_store::EventStore;
+use nf_msgs::{Answer, Msg, Note, Piece, Refused};
+use packet_pool::Cell;
+
+impl Plan {
+    /// A message of the destination.
+    pub(crate) fn from_destination(
+        &self,
+        phase: Phase,
+        message: Msg,
+        store: &mut EventStore<Cell>,
+        out: &mut Outbox<Msg, Note>,
+    ) -> Result<Phase, NoMemory>
+        ensures phase { IfOk result (λ next. next ≡ (from_destination self.now phase (stored store.old self.now.op) message).next.phase) }
+        ensures stored { OnOk result (store.new ≡ store_after store.old self.now.op (from_destination self.now phase (stored store.old self.now.op) message).stored) }
+        ensures out { OnOk result (out.new ≡ (out.old.0 ++ (from_destination self.now phase (stored store.old self.now.op) message).next.sends, out.old.1)) }
+    {
+        match message {
+            Msg::PutOk { .. } => self.put_ok(phase, store, out),
+            Msg::PutNo { refused, .. } => self.put_no(phase, refused.into_inner(), out),
+            Msg::Enabled { .. } => self.destination_enabled(phase, store, out),
+            Msg::Fenced { .. } => self.destination_fenced(phase, out),
+            _ => Ok(phase),
+        }
+    }
+
+    /// The destination took the piece that asked, or the last one.
+    fn put_ok(
+        &self,
+        phase: Phase,
+        store: &mut EventStore<Cell>,
+        out: &mut Outbox<Msg, Note>,
+    ) -> Result<Phase, NoMemory>
+        ensures phase { IfOk result (λ next. next ≡ (on_put_ok self.now phase (stored store.old self.now.op)).next.phase) }
+        ensures stored { OnOk result (store.new ≡ store_after store.old self.now.op (on_put_ok self.now phase (stored store.old self.now.op)).stored) }
+        ensures out { OnOk result (out.new ≡ (out.old.0 ++ (on_put_ok self.now phase (stored store.old self.now.op)).next.sends, out.old.1)) }
+    {
+        match phase {
+            Phase::Streaming {
+                frozen,
+                free,
+                came,
+                door: Door::Asked(false),
+            } => self.push(frozen, free, came, Door::Open, out),
+            Phase::Streaming {
+                door: Door::Asked(true) | Door::Open,
+                ..
+            } => self.all_put(store, out),
+            phase => Ok(phase),
+        }
+    }
+
+    /// The destination is to hold what comes, or everything goes there at once.
+    fn all_put(
+        &self,
+        store: &mut EventStore<Cell>,
+        out: &mut Outbox<Msg, Note>,
+    ) -> Result<Phase, NoMemory>
+        ensures phase { IfOk result (λ next. next ≡ (all_put self.now (stored store.old self.now.op) self.now.keep).next.phase) }
+        ensures stored { OnOk result (store.new ≡ store_after store.old self.now.op (all_put self.now (stored store.old self.now.op) self.now.keep).stored) }
+        ensures out { OnOk result (out.new ≡ (out.old.0 ++ (all_put self.now (stored store.old self.now.op) self.now.keep).next.sends, out.old.1)) }
+    {
+        if !self.keep {
+            return self.release(store, out);
+        }
+        self.enable_at(self.destination(), Action::Buffer, out)?;
+        Ok(Phase::Holding)
+    }
+
+    /// The destination refused the piece that asked.
+    fn put_no(
+        &self,
+        phase: Phase,
+        refused: Refused,
+        out: &mut Outbox<Msg, Note>,
+    ) -> Result<Phase, NoMemory>
+        ensures phase { IfOk result (λ next. next ≡ (on_put_no self.now phase refused.why refused.chunks).phase) }
+        ensures out { OnOk result (out.new ≡ (out.old.0 ++ (on_put_no self.now phase refused.why refused.chunks).sends, out.old.1)) }
+    {
+        match phase {
+            Phase::Streaming {
+                frozen,
+                free,
+                came,
+                door,
+            } => match door {
+                Door::Asked(last) => self.refuse(frozen, free, came, last, refused, out),
+                door => Ok(Phase::Streaming {
+                    frozen,
+                    free,
+                    came,
+                    door,
+                }),
+            },
+            phase => Ok(phase),
+        }
+    }
+
+    /// The piece comes back before the others that are free.
+    fn refuse(
+        &self,
+        frozen: Pieces,
+        mut free: Pieces,
+        came: bool,
+        last: bool,
+        refused: Refused,
+        out: &mut Outbox<Msg, Note>,
+    ) -> Result<Phase, NoMemory>
+        ensures phase { IfOk result (λ next. next ≡ (pushed self.now frozen (put_back refused.chunks last ∷ free) came (Door.Refused refused.why)).phase) }
+        ensures out { OnOk result (out.new ≡ (out.old.0 ++ (pushed self.now frozen (put_back refused.chunks last ∷ free) came (Door.Refused refused.why)).sends, out.old.1)) }
+    {
+        let Refused { why, chunks } = refused;
+        let piece = Piece {
+            chunks,
+            total: 0,
+            newest: 0,
+            last,
+        };
+        let piece = Boxed::new(self.alloc, piece)?;
+        free.push_front(piece)?;
+        self.push(frozen, free, came, Door::Refused(why), out)
+    }
+
+    /// The destination holds what comes.
+    fn destination_enabled(
+        &self,
+        phase: Phase,
+        store: &mut EventStore<Cell>,
+        out: &mut Outbox<Msg, Note>,
+    ) -> Result<Phase, NoMemory>
+        ensures phase { IfOk result (λ next. next ≡ (on_destination_enabled self.now phase (stored store.old self.now.op)).next.phase) }
+        ensures stored { OnOk result (store.new ≡ store_after store.old self.now.op (on_destination_enabled self.now phase (stored store.old self.now.op)).stored) }
+        ensures out { OnOk result (out.new ≡ (out.old.0 ++ (on_destination_enabled self.now phase (stored store.old self.now.op)).next.sends, out.old.1)) }
+    {
+        match phase {
+            Phase::Holding => self.release(store, out),
+            phase => Ok(phase),
+        }
+    }
+
+    /// The destination has processed what it held.
+    fn destination_fenced(
+        &self,
+        phase: Phase,
+        out: &mut Outbox<Msg, Note>,
+    ) -> Result<Phase, NoMemory>
+        ensures phase { IfOk result (λ next. next ≡ (on_destination_fenced self.now phase).phase) }
+        ensures out { OnOk result (out.new ≡ (out.old.0 ++ (on_destination_fenced self.now phase).sends, out.old.1)) }
+    {
+        match phase {
+            Phase::Ending => Ok(Phase::Over(Answer::Done)),
+            phase => Ok(phase),
+        }
+    }
+}

@@ -1,0 +1,275 @@
+ghost use Rattle.std.specs.Prelude.{◌≡◌, ◌∷◌, [], ◌++◌, false, map, OnOk, IfOk};
+ghost use Rattle.nf_msgs.specs.Nodes.{switch_node};
+ghost use Rattle.event_store.specs.Store.{stored};
+ghost use Rattle.move_op.specs.Move.{asked, chunks_of, destination, enable_at, forward_to, pushed, put_to, released, row_in, source, store_after};
+
+use crate::door::Door;
+use crate::phase::Phase;
+use crate::pieces::Pieces;
+use actor_net::Outbox;
+use basics::{Boxed, NoMemory};
+use event_filter::{Action, Mark};
+use event_store::EventStore;
+use flow_filter::Filter;
+use nf_msgs::{Answer, MOST_INSTANCES, Msg, Note, Piece, SWITCH, instance_node};
+use packet_pool::Cell;
+use std::alloc::Global;
+use std::marker::Model;
+use switch_rules::Target;
+
+/// What is to be moved. Its calls do the rows of the table, each by one call.
+#[derive(Drop)]
+pub(crate) struct Plan {
+    pub(crate) op: u32,
+    pub(crate) from: u8,
+    pub(crate) to: u8,
+    pub(crate) filter: Filter,
+    pub(crate) keep: bool,
+    pub(crate) alloc: Global,
+}
+
+impl Model for Plan {
+    ghost use Rattle.std.specs.Prelude.{◌<◌};
+    ghost use Rattle.nf_msgs.specs.declared.nodes.TheConstants.{MOST_INSTANCES};
+    ghost use Rattle.move_op.specs.Move.{MovePlan};
+
+    ghost Value = { MovePlan };
+
+    ghost view = { λ p. record { op = p.op; from = p.from; to = p.to; filter = p.filter; keep = p.keep } };
+
+    ghost invariant = { λ p. (p.from < MOST_INSTANCES) × (p.to < MOST_INSTANCES) };
+}
+
+impl Plan {
+    /// The row of a message, by its sender.
+    pub(crate) fn next(
+        &self,
+        phase: Phase,
+        sender: u8,
+        message: Msg,
+        store: &mut EventStore<Cell>,
+        out: &mut Outbox<Msg, Note>,
+    ) -> Result<Phase, NoMemory>
+        ensures phase { IfOk result (λ next. next ≡ (row_in (record { plan = self.now; phase = phase }) store.old sender message).next.phase) }
+        ensures stored { OnOk result (store.new ≡ store_after store.old self.now.op (row_in (record { plan = self.now; phase = phase }) store.old sender message).stored) }
+        ensures out { OnOk result (out.new ≡ (out.old.0 ++ (row_in (record { plan = self.now; phase = phase }) store.old sender message).next.sends, out.old.1)) }
+    {
+        if sender == self.source() {
+            return self.from_source(phase, message, store, out);
+        }
+        if sender == self.destination() {
+            return self.from_destination(phase, message, store, out);
+        }
+        Ok(phase)
+    }
+
+    /// Sends the stored parcels to the destination, and then all that comes.
+    pub(crate) fn release(
+        &self,
+        store: &mut EventStore<Cell>,
+        out: &mut Outbox<Msg, Note>,
+    ) -> Result<Phase, NoMemory>
+        ensures phase { IfOk result (λ next. next ≡ (released self.now (stored store.old self.now.op)).next.phase) }
+        ensures stored { OnOk result (store.new ≡ store_after store.old self.now.op (released self.now (stored store.old self.now.op)).stored) }
+        ensures out { OnOk result (out.new ≡ (out.old.0 ++ (released self.now (stored store.old self.now.op)).next.sends, out.old.1)) }
+    {
+        self.forward_all(self.to, store.drain(self.op), out)?;
+        let filter = Boxed::new(self.alloc, self.filter)?;
+        let message = Msg::Install {
+            op: self.op,
+            filter,
+            from: self.from,
+            to: Target::Instance(self.to),
+        };
+        out.send(SWITCH, message)?;
+        Ok(Phase::Passing)
+    }
+
+    /// The pieces that are free go on as the door says.
+    pub(crate) fn push(
+        &self,
+        frozen: Pieces,
+        free: Pieces,
+        came: bool,
+        door: Door,
+        out: &mut Outbox<Msg, Note>,
+    ) -> Result<Phase, NoMemory>
+        ensures phase { IfOk result (λ next. next ≡ (pushed self.now frozen free came door).phase) }
+        ensures out { OnOk result (out.new ≡ (out.old.0 ++ (pushed self.now frozen free came door).sends, out.old.1)) }
+    {
+        match door {
+            Door::Shut => self.ask(frozen, free, came, out),
+            Door::Open => {
+                self.put_all(free, out)?;
+                Ok(Phase::Streaming {
+                    frozen,
+                    free: Pieces::open(self.alloc),
+                    came,
+                    door: Door::Open,
+                })
+            }
+            Door::Refused(why) => {
+                if came && frozen.is_empty() {
+                    return self.restore(why, free, out);
+                }
+                Ok(Phase::Streaming {
+                    frozen,
+                    free,
+                    came,
+                    door: Door::Refused(why),
+                })
+            }
+            Door::Asked(last) => Ok(Phase::Streaming {
+                frozen,
+                free,
+                came,
+                door: Door::Asked(last),
+            }),
+        }
+    }
+
+    /// The first piece asks whether all of them are taken.
+    fn ask(
+        &self,
+        frozen: Pieces,
+        mut free: Pieces,
+        came: bool,
+        out: &mut Outbox<Msg, Note>,
+    ) -> Result<Phase, NoMemory>
+        ensures phase { IfOk result (λ next. next ≡ (asked self.now frozen free came).phase) }
+        ensures out { OnOk result (out.new ≡ (out.old.0 ++ (asked self.now frozen free came).sends, out.old.1)) }
+    {
+        let Some(piece) = free.pop() else {
+            return Ok(Phase::Streaming {
+                frozen,
+                free,
+                came,
+                door: Door::Shut,
+            });
+        };
+        let door = Door::Asked(piece.get().last);
+        self.put(piece, true, out)?;
+        Ok(Phase::Streaming {
+            frozen,
+            free,
+            came,
+            door,
+        })
+    }
+
+    /// The source is to take its state back.
+    pub(crate) fn restore(
+        &self,
+        why: Answer,
+        free: Pieces,
+        out: &mut Outbox<Msg, Note>,
+    ) -> Result<Phase, NoMemory>
+        ensures phase { IfOk result (λ next. next ≡ Phase.Restoring why) }
+        ensures out { OnOk result (out.new ≡ (out.old.0 ++ (source self.now, Msg.Restore self.now.op (chunks_of free)) ∷ [], out.old.1)) }
+    {
+        let chunks = free.into_chunks(self.alloc)?;
+        out.send(
+            self.source(),
+            Msg::Restore {
+                op: self.op,
+                chunks,
+            },
+        )?;
+        Ok(Phase::Restoring(why))
+    }
+
+    /// Puts pieces at the destination, in order.
+    pub(crate) fn put_all(
+        &self,
+        pieces: Pieces,
+        out: &mut Outbox<Msg, Note>,
+    ) -> Result<(), NoMemory>
+        ensures { OnOk result (out.new ≡ (out.old.0 ++ map (put_to self.now false) pieces, out.old.1)) }
+    {
+        for piece in pieces.into_vec() {
+            self.put(piece, false, out)?;
+        }
+        Ok(())
+    }
+
+    /// Puts a piece at the destination.
+    pub(crate) fn put(
+        &self,
+        piece: Boxed<Piece>,
+        first: bool,
+        out: &mut Outbox<Msg, Note>,
+    ) -> Result<(), NoMemory>
+        ensures { OnOk result (out.new ≡ (out.old.0 ++ put_to self.now first piece ∷ [], out.old.1)) }
+    {
+        let message = Msg::Put {
+            op: self.op,
+            piece,
+            first,
+        };
+        out.send(self.destination(), message)
+    }
+
+    /// Sends parcels on to an instance, in order.
+    pub(crate) fn forward_all(
+        &self,
+        to: u8,
+        parcels: Vec<Cell>,
+        out: &mut Outbox<Msg, Note>,
+    ) -> Result<(), NoMemory>
+        ensures { OnOk result (out.new ≡ (out.old.0 ++ map (forward_to self.now to) parcels.items, out.old.1)) }
+    {
+        for parcel in parcels {
+            self.forward(to, parcel, out)?;
+        }
+        Ok(())
+    }
+
+    /// Sends a parcel on to an instance, where no rule takes it.
+    pub(crate) fn forward(
+        &self,
+        to: u8,
+        parcel: Cell,
+        out: &mut Outbox<Msg, Note>,
+    ) -> Result<(), NoMemory>
+        ensures { OnOk result (out.new ≡ (out.old.0 ++ forward_to self.now to parcel ∷ [], out.old.1)) }
+    {
+        let message = Msg::Forward {
+            to,
+            mark: Mark::Pass(self.op),
+            parcel,
+        };
+        out.send(SWITCH, message)
+    }
+
+    /// Sets the move's event rule at a node.
+    pub(crate) fn enable_at(
+        &self,
+        node: u8,
+        action: Action,
+        out: &mut Outbox<Msg, Note>,
+    ) -> Result<(), NoMemory>
+        ensures { OnOk result (out.new ≡ (out.old.0 ++ enable_at self.now node action ∷ [], out.old.1)) }
+    {
+        let filter = Boxed::new(self.alloc, self.filter)?;
+        let message = Msg::Enable {
+            op: self.op,
+            filter,
+            action,
+        };
+        out.send(node, message)
+    }
+
+    /// The node of the source.
+    pub(crate) fn source(&self) -> u8
+        ensures { result ≡ source self.now }
+    {
+        instance_node(self.from)
+    }
+
+    /// The node of the destination.
+    pub(crate) fn destination(&self) -> u8
+        ensures { result ≡ destination self.now }
+    {
+        instance_node(self.to)
+    }
+}

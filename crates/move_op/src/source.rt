@@ -1,0 +1,213 @@
+ghost use Rattle.std.specs.Prelude.{◌≡◌, [], ◌++◌, OnOk, IfOk};
+ghost use Rattle.event_store.specs.Store.{stored};
+ghost use Rattle.move_op.specs.Move.{from_source, on_deleted, on_event, on_piece, on_restored, on_source_enabled, on_source_fenced, returned, store_after};
+
+use crate::door::Door;
+use crate::phase::Phase;
+use crate::pieces::Pieces;
+use crate::plan::Plan;
+use crate::units::{have_units, units_in};
+use actor_net::Outbox;
+use basics::{Boxed, NoMemory};
+use event_filter::Action;
+use event_store::EventStore;
+use nf_msgs::{Answer, Msg, Note, Piece, SWITCH};
+use packet_pool::Cell;
+
+impl Plan {
+    /// A message of the source.
+    pub(crate) fn from_source(
+        &self,
+        phase: Phase,
+        message: Msg,
+        store: &mut EventStore<Cell>,
+        out: &mut Outbox<Msg, Note>,
+    ) -> Result<Phase, NoMemory>
+        ensures phase { IfOk result (λ next. next ≡ (from_source self.now phase (stored store.old self.now.op) message).next.phase) }
+        ensures stored { OnOk result (store.new ≡ store_after store.old self.now.op (from_source self.now phase (stored store.old self.now.op) message).stored) }
+        ensures out { OnOk result (out.new ≡ (out.old.0 ++ (from_source self.now phase (stored store.old self.now.op) message).next.sends, out.old.1)) }
+    {
+        match message {
+            Msg::Event { parcel, .. } => self.take_event(phase, parcel, store, out),
+            Msg::Enabled { .. } => self.source_enabled(phase, store, out),
+            Msg::Piece { piece, .. } => self.take_piece(phase, piece, out),
+            Msg::Deleted { .. } => self.deleted(phase, out),
+            Msg::Restored { .. } => self.restored(phase, out),
+            Msg::Fenced { .. } => self.source_fenced(phase, out),
+            _ => Ok(phase),
+        }
+    }
+
+    /// An event is stored, or sent on at once.
+    fn take_event(
+        &self,
+        phase: Phase,
+        parcel: Cell,
+        store: &mut EventStore<Cell>,
+        out: &mut Outbox<Msg, Note>,
+    ) -> Result<Phase, NoMemory>
+        ensures phase { IfOk result (λ next. next ≡ (on_event self.now phase (stored store.old self.now.op) parcel).next.phase) }
+        ensures stored { OnOk result (store.new ≡ store_after store.old self.now.op (on_event self.now phase (stored store.old self.now.op) parcel).stored) }
+        ensures out { OnOk result (out.new ≡ (out.old.0 ++ (on_event self.now phase (stored store.old self.now.op) parcel).next.sends, out.old.1)) }
+    {
+        match phase {
+            Phase::Passing => {
+                self.forward(self.to, parcel, out)?;
+                Ok(Phase::Passing)
+            }
+            phase => match store.put(self.op, parcel) {
+                Ok(()) => Ok(phase),
+                Err((full, _parcel)) => Err(full),
+            },
+        }
+    }
+
+    /// The source hands out the packets, or holds them.
+    fn source_enabled(
+        &self,
+        phase: Phase,
+        store: &mut EventStore<Cell>,
+        out: &mut Outbox<Msg, Note>,
+    ) -> Result<Phase, NoMemory>
+        ensures phase { IfOk result (λ next. next ≡ (on_source_enabled self.now phase (stored store.old self.now.op)).next.phase) }
+        ensures stored { OnOk result (store.new ≡ store_after store.old self.now.op (on_source_enabled self.now phase (stored store.old self.now.op)).stored) }
+        ensures out { OnOk result (out.new ≡ (out.old.0 ++ (on_source_enabled self.now phase (stored store.old self.now.op)).next.sends, out.old.1)) }
+    {
+        match phase {
+            Phase::Freezing => self.stream(out),
+            Phase::Returning(why) => self.give_back(why, store, out),
+            phase => Ok(phase),
+        }
+    }
+
+    /// Asks the source for its state, by pieces.
+    fn stream(&self, out: &mut Outbox<Msg, Note>) -> Result<Phase, NoMemory>
+        ensures phase { IfOk result (λ next. next ≡ (on_source_enabled self.now Phase.Freezing []).next.phase) }
+        ensures out { OnOk result (out.new ≡ (out.old.0 ++ (on_source_enabled self.now Phase.Freezing []).next.sends, out.old.1)) }
+    {
+        let filter = Boxed::new(self.alloc, self.filter)?;
+        let message = Msg::Stream {
+            op: self.op,
+            filter,
+        };
+        out.send(self.source(), message)?;
+        Ok(Phase::Streaming {
+            frozen: Pieces::open(self.alloc),
+            free: Pieces::open(self.alloc),
+            came: false,
+            door: Door::Shut,
+        })
+    }
+
+    /// Sends the stored parcels back to the source, and its fence behind them.
+    fn give_back(
+        &self,
+        why: Answer,
+        store: &mut EventStore<Cell>,
+        out: &mut Outbox<Msg, Note>,
+    ) -> Result<Phase, NoMemory>
+        ensures phase { IfOk result (λ next. next ≡ (returned self.now why (stored store.old self.now.op)).next.phase) }
+        ensures stored { OnOk result (store.new ≡ store_after store.old self.now.op (returned self.now why (stored store.old self.now.op)).stored) }
+        ensures out { OnOk result (out.new ≡ (out.old.0 ++ (returned self.now why (stored store.old self.now.op)).next.sends, out.old.1)) }
+    {
+        self.forward_all(self.from, store.drain(self.op), out)?;
+        let message = Msg::FenceTo {
+            op: self.op,
+            to: self.from,
+        };
+        out.send(SWITCH, message)?;
+        Ok(Phase::Undoing(why))
+    }
+
+    /// The next piece: its records are to be removed.
+    fn take_piece(
+        &self,
+        phase: Phase,
+        piece: Boxed<Piece>,
+        out: &mut Outbox<Msg, Note>,
+    ) -> Result<Phase, NoMemory>
+        ensures phase { IfOk result (λ next. next ≡ (on_piece self.now phase piece).phase) }
+        ensures out { OnOk result (out.new ≡ (out.old.0 ++ (on_piece self.now phase piece).sends, out.old.1)) }
+    {
+        match phase {
+            Phase::Streaming {
+                mut frozen,
+                free,
+                came,
+                door,
+            } if have_units(piece.get().chunks.items()) => {
+                let units = units_in(self.alloc, piece.get().chunks.items())?;
+                let last = piece.get().last;
+                out.send(self.source(), Msg::Delete { op: self.op, units })?;
+                frozen.push(piece)?;
+                Ok(Phase::Streaming {
+                    frozen,
+                    free,
+                    came: came || last,
+                    door,
+                })
+            }
+            phase => Ok(phase),
+        }
+    }
+
+    /// The first piece that was frozen is free.
+    fn deleted(&self, phase: Phase, out: &mut Outbox<Msg, Note>) -> Result<Phase, NoMemory>
+        ensures phase { IfOk result (λ next. next ≡ (on_deleted self.now phase).phase) }
+        ensures out { OnOk result (out.new ≡ (out.old.0 ++ (on_deleted self.now phase).sends, out.old.1)) }
+    {
+        match phase {
+            Phase::Streaming {
+                mut frozen,
+                mut free,
+                came,
+                door,
+            } => {
+                let Some(piece) = frozen.pop() else {
+                    return Ok(Phase::Streaming {
+                        frozen,
+                        free,
+                        came,
+                        door,
+                    });
+                };
+                free.push(piece)?;
+                self.push(frozen, free, came, door, out)
+            }
+            phase => Ok(phase),
+        }
+    }
+
+    /// The source is to hold what comes.
+    fn restored(&self, phase: Phase, out: &mut Outbox<Msg, Note>) -> Result<Phase, NoMemory>
+        ensures phase { IfOk result (λ next. next ≡ (on_restored self.now phase).phase) }
+        ensures out { OnOk result (out.new ≡ (out.old.0 ++ (on_restored self.now phase).sends, out.old.1)) }
+    {
+        match phase {
+            Phase::Restoring(why) => {
+                self.enable_at(self.source(), Action::Buffer, out)?;
+                Ok(Phase::Returning(why))
+            }
+            phase => Ok(phase),
+        }
+    }
+
+    /// The source has processed what came by the old rules, or what it held.
+    fn source_fenced(&self, phase: Phase, out: &mut Outbox<Msg, Note>) -> Result<Phase, NoMemory>
+        ensures phase { IfOk result (λ next. next ≡ (on_source_fenced self.now phase).phase) }
+        ensures out { OnOk result (out.new ≡ (out.old.0 ++ (on_source_fenced self.now phase).sends, out.old.1)) }
+    {
+        match phase {
+            Phase::Passing => {
+                let message = Msg::FenceTo {
+                    op: self.op,
+                    to: self.to,
+                };
+                out.send(SWITCH, message)?;
+                Ok(Phase::Ending)
+            }
+            Phase::Undoing(why) => Ok(Phase::Over(why)),
+            phase => Ok(phase),
+        }
+    }
+}
