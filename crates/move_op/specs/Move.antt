@@ -1,12 +1,11 @@
 -- A move of the state and the packets of units from one instance to another: its phases, and what it does with each message.
 -- This project's own, after the moves of OpenNF that lose no packet and keep the order of packets.
 use Rattle.std.specs.Prelude.{ℕ, ◌==◌, ◌&&◌, ◌||◌, Bool, true, false, List, [], ◌∷◌, ◌++◌, map, length, Option, None, Some, is_some, if◌then◌else◌}
-use Rattle.std.specs.List.{flat_map, filter_map, list_all}
+use Rattle.std.specs.List.{flat_map, list_all}
 use Rattle.std.specs.Ordering.{nat_cmp}
 use Rattle.std.specs.FinMap as finite
 use Rattle.flow_filter.specs.declared.filter.Filter.{Filter}
 use Rattle.nf_function.specs.declared.chunk.Chunk.{Chunk}
-use Rattle.nf_function.specs.declared.unit.Unit as units
 use Rattle.event_filter.specs.declared.action.Action as actions
 use Rattle.event_filter.specs.declared.action.Action.TheVariants as action
 use Rattle.event_filter.specs.declared.mark.Mark.TheVariants.{Pass}
@@ -18,6 +17,7 @@ use Rattle.nf_msgs.specs.declared.answer.Answer.TheVariants.{Done}
 use Rattle.nf_msgs.specs.declared.msg.Piece.{Piece}
 use Rattle.nf_msgs.specs.declared.msg.Msg.{Msg}
 use Rattle.nf_msgs.specs.declared.msg.Msg.TheVariants as msg
+use Rattle.nf_msgs.specs.Exports.{units_in}
 use Rattle.nf_msgs.specs.Nodes.{switch_node, instance_node}
 use Rattle.move_op.specs.declared.door.Door.{Door}
 use Rattle.move_op.specs.declared.door.Door.TheVariants.{Shut, Asked, Open, Refused}
@@ -57,10 +57,6 @@ keeps next = record { next = next; stored = None }
 -- these parcels are stored afterwards
 abbrev pub stores : List FullCell → Next → Row
 stores parcels next = record { next = next; stored = Some parcels }
-
--- the units of the chunks that have one
-abbrev pub units_in : List Chunk → List units.Unit
-units_in chunks = filter_map (λ chunk. chunk.unit) chunks
 
 -- each chunk has a unit
 abbrev pub have_units : List Chunk → Bool

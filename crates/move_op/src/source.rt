@@ -6,12 +6,12 @@ use crate::door::Door;
 use crate::phase::Phase;
 use crate::pieces::Pieces;
 use crate::plan::Plan;
-use crate::units::{have_units, units_in};
+use crate::units::have_units;
 use actor_net::Outbox;
 use basics::{Boxed, NoMemory};
 use event_filter::Action;
 use event_store::EventStore;
-use nf_msgs::{Answer, Msg, Note, Piece, SWITCH};
+use nf_msgs::{Answer, Msg, Note, Piece, SWITCH, units_in};
 use packet_pool::Cell;
 
 impl Plan {

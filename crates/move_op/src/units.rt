@@ -1,23 +1,7 @@
-ghost use Rattle.std.specs.Prelude.{◌≡◌, IfOk};
-ghost use Rattle.move_op.specs.Move.{have_units, units_in};
+ghost use Rattle.std.specs.Prelude.{◌≡◌};
+ghost use Rattle.move_op.specs.Move.{have_units};
 
-use basics::NoMemory;
-use nf_function::{Chunk, Units};
-use std::alloc::Global;
-
-/// The units of the chunks that have one, in order.
-pub(crate) fn units_in(alloc: Global, chunks: &[Chunk]) -> Result<Units, NoMemory>
-    ensures { IfOk result (λ units. units ≡ units_in chunks.now) }
-{
-    let mut units = Units::open(alloc);
-    for chunk in chunks {
-        let Some(unit) = chunk.unit else {
-            continue;
-        };
-        units.push(unit)?;
-    }
-    Ok(units)
-}
+use nf_function::Chunk;
 
 /// Whether each chunk has a unit.
 pub(crate) fn have_units(chunks: &[Chunk]) -> bool
