@@ -5,7 +5,7 @@ use event_store::EventStore;
 use flow_filter::{Filter, Packet, UDP};
 use nf_function::Chunks;
 use nf_msgs::{Answer, Msg, Note, Piece, Refused, print_answer, show};
-use packet_pool::Pool;
+use packet_pool::{Cell, Pool};
 use std::alloc::Global;
 use std::test::Fail;
 
@@ -28,6 +28,20 @@ const PACKET: Packet = Packet {
     held: 0,
     head: [0; 64],
 };
+
+/// What a node says to the move.
+#[derive(Clone, Copy)]
+enum Word {
+    Enabled,
+    /// A piece, which may be the last.
+    Piece(bool),
+    Deleted,
+    PutOk,
+    PutNo,
+    Restored,
+    Event,
+    Fenced,
+}
 
 /// A piece without chunks.
 fn piece(alloc: Global, last: bool) -> Result<Msg, NoMemory> {
@@ -68,70 +82,104 @@ fn refusal(alloc: Global) -> Result<Msg, NoMemory> {
     })
 }
 
-/// Writes what was sent: each message with its receiver, in a line.
+/// Writes a message with its receiver, in a line.
+fn write_line(text: &mut Text, alloc: Global, sent: &(u8, Msg)) -> Result<(), NoMemory> {
+    text.push_decimal(u64::from(sent.0))?;
+    text.push_bytes(b" ")?;
+    text.push_bytes(show(alloc, &sent.1)?.items())?;
+    text.push_bytes(b"\n")
+}
+
+/// Writes what was sent.
 fn write_sent(text: &mut Text, alloc: Global, out: Outbox<Msg, Note>) -> Result<(), NoMemory> {
-    let (sent, _notes) = out.parts();
-    for (to, message) in sent {
-        text.push_decimal(u64::from(to))?;
-        text.push_bytes(b" ")?;
-        text.push_bytes(show(alloc, &message)?.items())?;
-        text.push_bytes(b"\n")?;
+    let (messages, _notes) = out.parts();
+    for sent in messages.as_slice() {
+        write_line(text, alloc, sent)?;
     }
     Ok(())
 }
 
+/// The message that a node sends.
+fn message_of(alloc: Global, word: Word) -> Result<Msg, NoMemory> {
+    match word {
+        Word::Enabled => Ok(Msg::Enabled { op: 7 }),
+        Word::Piece(last) => piece(alloc, last),
+        Word::Deleted => Ok(Msg::Deleted { op: 7 }),
+        Word::PutOk => Ok(Msg::PutOk { op: 7 }),
+        Word::PutNo => refusal(alloc),
+        Word::Restored => Ok(Msg::Restored { op: 7 }),
+        Word::Event => event(alloc),
+        Word::Fenced => Ok(Msg::Fenced { op: 7 }),
+    }
+}
+
+/// Writes what the move sends at a message, and its answer.
+fn write_told(
+    text: &mut Text,
+    alloc: Global,
+    operation: &mut MoveOp,
+    store: &mut EventStore<Cell>,
+    said: (u8, Word),
+) -> Result<(), NoMemory> {
+    let message = message_of(alloc, said.1)?;
+    let mut out = Outbox::open(alloc);
+    let answer = operation.on(said.0, message, store, &mut out)?;
+    write_sent(text, alloc, out)?;
+    match answer {
+        Some(answer) => text.push_bytes(print_answer(alloc, &answer)?.items()),
+        None => Ok(()),
+    }
+}
+
 /// What a move with number 7 from instance 0 to instance 1 sends at these messages, and its answer.
-fn told(alloc: Global, keep: bool, messages: Vec<(u8, Msg)>) -> Result<Text, NoMemory> {
+fn told(alloc: Global, keep: bool, messages: &[(u8, Word)]) -> Result<Text, NoMemory> {
     let mut text = Text::open(alloc);
     let mut store = EventStore::open(alloc);
     let mut out = Outbox::open(alloc);
     let mut operation = MoveOp::begin(alloc, 7, 0, 1, &Filter::ANY, keep, &mut out)?;
     write_sent(&mut text, alloc, out)?;
-    for (sender, message) in messages {
-        let mut out = Outbox::open(alloc);
-        let answer = operation.on(sender, message, &mut store, &mut out)?;
-        write_sent(&mut text, alloc, out)?;
-        if let Some(answer) = answer {
-            text.push_bytes(print_answer(alloc, &answer)?.items())?;
-        }
+    for said in messages {
+        write_told(&mut text, alloc, &mut operation, &mut store, *said)?;
     }
     Ok(text)
 }
 
 #[test]
 fn a_move_that_keeps_order_goes_on_once_the_destination_holds(rt: HostRuntime) -> Result<(), Fail> {
-    let alloc = rt.alloc();
-    let mut messages = Vec::new(alloc);
-    messages.push((SOURCE, Msg::Enabled { op: 7 }))?;
-    messages.push((SOURCE, piece(alloc, true)?))?;
-    messages.push((SOURCE, Msg::Deleted { op: 7 }))?;
-    messages.push((SOURCE, event(alloc)?))?;
-    messages.push((DESTINATION, Msg::PutOk { op: 7 }))?;
-    messages.push((DESTINATION, Msg::Enabled { op: 7 }))?;
-    messages.push((SOURCE, Msg::Fenced { op: 7 }))?;
-    messages.push((DESTINATION, Msg::Fenced { op: 7 }))?;
+    let messages = [
+        (SOURCE, Word::Enabled),
+        (SOURCE, Word::Piece(true)),
+        (SOURCE, Word::Deleted),
+        (SOURCE, Word::Event),
+        (DESTINATION, Word::PutOk),
+        (DESTINATION, Word::Enabled),
+        (SOURCE, Word::Fenced),
+        (DESTINATION, Word::Fenced),
+    ];
     let expected =
         b"2 enable op 7\n2 stream op 7\n2 delete op 7\n3 put op 7\n3 enable op 7\n0 forward packet 5 to 1\n0 install op 7\n0 fence to op 7 to 1\ndone";
-    assert_eq!(rt; told(alloc, true, messages)?.items(), expected.as_slice());
+    let text = told(rt.alloc(), true, &messages)?;
+    assert_eq!(rt; text.items(), expected.as_slice());
     Ok(())
 }
 
 #[test]
 fn a_refused_move_gives_back_what_it_took(rt: HostRuntime) -> Result<(), Fail> {
-    let alloc = rt.alloc();
-    let mut messages = Vec::new(alloc);
-    messages.push((SOURCE, Msg::Enabled { op: 7 }))?;
-    messages.push((SOURCE, piece(alloc, false)?))?;
-    messages.push((SOURCE, Msg::Deleted { op: 7 }))?;
-    messages.push((DESTINATION, refusal(alloc)?))?;
-    messages.push((SOURCE, piece(alloc, true)?))?;
-    messages.push((SOURCE, event(alloc)?))?;
-    messages.push((SOURCE, Msg::Deleted { op: 7 }))?;
-    messages.push((SOURCE, Msg::Restored { op: 7 }))?;
-    messages.push((SOURCE, Msg::Enabled { op: 7 }))?;
-    messages.push((SOURCE, Msg::Fenced { op: 7 }))?;
+    let messages = [
+        (SOURCE, Word::Enabled),
+        (SOURCE, Word::Piece(false)),
+        (SOURCE, Word::Deleted),
+        (DESTINATION, Word::PutNo),
+        (SOURCE, Word::Piece(true)),
+        (SOURCE, Word::Event),
+        (SOURCE, Word::Deleted),
+        (SOURCE, Word::Restored),
+        (SOURCE, Word::Enabled),
+        (SOURCE, Word::Fenced),
+    ];
     let expected =
         b"2 enable op 7\n2 stream op 7\n2 delete op 7\n3 put op 7\n2 delete op 7\n2 restore op 7\n2 enable op 7\n0 forward packet 5 to 0\n0 fence to op 7 to 0\nimport 2 3 4";
-    assert_eq!(rt; told(alloc, false, messages)?.items(), expected.as_slice());
+    let text = told(rt.alloc(), false, &messages)?;
+    assert_eq!(rt; text.items(), expected.as_slice());
     Ok(())
 }
