@@ -91,12 +91,7 @@ impl<F: Function> Instance<F> {
     }
 
     /// Sends a piece.
-    fn send_piece(
-        &self,
-        op: u32,
-        piece: Piece,
-        out: &mut Outbox<Msg, Note>,
-    ) -> Result<(), NoMemory>
+    fn send_piece(&self, op: u32, piece: Piece, out: &mut Outbox<Msg, Note>) -> Result<(), NoMemory>
         ensures sends { OnOk result (out.new.0 ≡ out.old.0 ++ told (OnePiece op piece ∷ [])) }
         ensures notes { OnOk result (out.new.1 ≡ out.old.1) }
     {

@@ -13,8 +13,8 @@ use basics::{Boxed, NoMemory};
 use nf_function::{Chunk, Chunks, Function, Units};
 use nf_msgs::{Answer, CONTROLLER, Msg, Note, Piece, Refused, units_in};
 use record_table::ImportFault;
-use state_chunk::{ChunkFault, decode_tally};
 use state_chunk::header::PLAIN;
+use state_chunk::{ChunkFault, decode_tally};
 use std::alloc::AllocError;
 
 impl<F: Function> Instance<F> {
@@ -225,12 +225,7 @@ impl<F: Function> Instance<F> {
     }
 
     /// Notes that the records of these units are kept.
-    fn note_kept(
-        &self,
-        op: u32,
-        units: Units,
-        out: &mut Outbox<Msg, Note>,
-    ) -> Result<(), NoMemory>
+    fn note_kept(&self, op: u32, units: Units, out: &mut Outbox<Msg, Note>) -> Result<(), NoMemory>
         ensures { OnOk result (out.new ≡ (out.old.0, out.old.1 ++ KeptNote self.now.index op units ∷ [])) }
     {
         out.note(Note::Kept {

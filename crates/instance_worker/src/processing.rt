@@ -98,7 +98,9 @@ impl<F: Function> Instance<F> {
         let live = is_live(mark);
         let packet = cell.packet();
         let number = packet.number;
-        let stepped = self.table.step_along(&self.site, flow, direction, packet, live)?;
+        let stepped = self
+            .table
+            .step_along(&self.site, flow, direction, packet, live)?;
         self.count();
         out.note(Note::Processed {
             number,
@@ -117,12 +119,7 @@ impl<F: Function> Instance<F> {
     }
 
     /// Tells a share what its packet left of the unit.
-    fn share(
-        &self,
-        mark: Mark,
-        unit: &Unit,
-        out: &mut Outbox<Msg, Note>,
-    ) -> Result<(), NoMemory>
+    fn share(&self, mark: Mark, unit: &Unit, out: &mut Outbox<Msg, Note>) -> Result<(), NoMemory>
         ensures sends { OnOk result (out.new.0 ≡ out.old.0 ++ told (shared F.semantics self.now mark unit.now)) }
         ensures notes { OnOk result (out.new.1 ≡ out.old.1) }
     {

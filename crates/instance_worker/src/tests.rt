@@ -60,7 +60,11 @@ fn feed(
     out: &mut Out,
 ) -> Result<(), Fail> {
     for host in 1..=hosts {
-        it.step(0, carry(alloc, packet(host, host, nanos), Mark::Plain)?, out)?;
+        it.step(
+            0,
+            carry(alloc, packet(host, host, nanos), Mark::Plain)?,
+            out,
+        )?;
     }
     Ok(())
 }
@@ -72,7 +76,12 @@ fn next_numbers(out: &mut Out) -> Option<[u32; 4]> {
         Msg::Piece { piece, .. } => {
             let piece = piece.get();
             let last = u32::from(piece.last);
-            Some([count(&piece.chunks), piece.total, u32::from(piece.newest), last])
+            Some([
+                count(&piece.chunks),
+                piece.total,
+                u32::from(piece.newest),
+                last,
+            ])
         }
         Msg::PutNo { refused, .. } => {
             let refused = refused.get();
@@ -147,9 +156,17 @@ fn a_piece_is_refused_for_its_total_first_and_then_for_its_version(
     feed(alloc, &mut from, 2, 1, &mut out)?;
     feed(alloc, &mut it, 1, 0, &mut out)?;
     out.clear();
-    it.step(1, put(alloc, from.table().select(&Filter::ANY)?, 3)?, &mut out)?;
+    it.step(
+        1,
+        put(alloc, from.table().select(&Filter::ANY)?, 3)?,
+        &mut out,
+    )?;
     assert_eq!(rt; next_numbers(&mut out), Some([1, 3, 3, 2]));
-    it.step(1, put(alloc, from.table().select(&Filter::ANY)?, 2)?, &mut out)?;
+    it.step(
+        1,
+        put(alloc, from.table().select(&Filter::ANY)?, 2)?,
+        &mut out,
+    )?;
     assert_eq!(rt; next_numbers(&mut out), Some([2, 1, 0, 2]));
     assert_eq!(rt; it.table().live_count(), 1);
     Ok(())
