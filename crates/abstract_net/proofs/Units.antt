@@ -1,0 +1,295 @@
+-- Each node's step and each begin of a move leaves a unit at rest or in a move, with all its packets that arrived.
+use Rattle.std.proofs.Common.{◌≡◌, ◌≢◌, ℕ, suc, ◌+◌, ◌≤◌, ◌<◌, Bool, true, false, Option, Some, None, List, [], ◌∷◌, ◌++◌, map, refl, sym, ap, ◌∙◌, subst, append-nil, arith}
+use Rattle.std.specs.Prelude.{if◌then◌else◌, ◌&&◌, ◌||◌, ◌==◌, not}
+use Rattle.std.proofs.lemmas.Bool.Decides.{nat_tests, Decides-eqb}
+use Rattle.unit_machine.proofs.Machine.{Where as Side, At_a, At_b, At_c, Ran, Steps, after, Drops, Item, Enable, State, Phase, Idle, Freezing, Move, Begin, moved}
+use Rattle.unit_machine.proofs.Lists.{firsts}
+use Rattle.unit_machine.proofs.Stages.{Stage, Turned_loose, Fenced_loose, Ending_loose, Fence_loose, shape, loose, times, Order}
+use Rattle.unit_machine.proofs.Loose.{times-append}
+use Rattle.unit_machine.proofs.Ends.{same_of}
+use Rattle.unit_machine.proofs.Real.{M_enable, Op, sent_for}
+use Rattle.unit_machine.proofs.Seen.{Apart}
+use Rattle.unit_machine.proofs.Labels.{Each, each-append}
+use Rattle.unit_machine.proofs.Pairs.{Nodes, expect}
+use Rattle.unit_machine.proofs.Rests.{is_over}
+use Rattle.unit_machine.proofs.Between.{At_rest_now, Rests_at, seat_ends, rest_at, seat_at, seat_begins}
+use Rattle.unit_machine.proofs.Seats.{Seat, Covered, Is_beside, Is_away, seat_shape, seat_all, seat_loose}
+use Rattle.flow_filter.specs.declared.filter.Filter.{Filter}
+use Rattle.abstract_net.proofs.Net.{inst_next, ctrl_next, sw_next, in_next, begin_next, Msg, Mv, Want, Sys, IsSys, Open, find_op, meets_any, new_op, begin_sends, World, seen}
+use Rattle.abstract_net.proofs.Holding.{Seeing, frame, Label, Op_label, place, Ctrl_is, Holds}
+use Rattle.abstract_net.proofs.Links.{sent, view_put, each_put}
+use Rattle.abstract_net.proofs.Ctrl.{each_found}
+use Rattle.abstract_net.proofs.InstWorld.{Goes_to, moves_on, inst_holds}
+use Rattle.abstract_net.proofs.OtherWorld.{ctrl_holds, put_unseen, one_unseen}
+use Rattle.abstract_net.proofs.SwitchWorld.{switch_holds, input_holds}
+use Rattle.abstract_net.proofs.Rest.{Rest, Global, rest_holds, holds_rest}
+use Rattle.nf_function.specs.declared.unit.Unit as units
+use Rattle.record_table.specs.Table.{same_unit}
+
+-- one order behind another
+pub order_join : (b c : Bool) (xs ys zs came : List ℕ) → Order b xs ys → Order c zs (xs ++ came) → Order (b || c) zs (ys ++ came)
+order_join true c xs ys zs came a o = λ p. same_of c zs (xs ++ came) o p ∙ times-append p xs came ∙ ap (λ k. k + times p came) (a p) ∙ sym (times-append p ys came)
+order_join false true xs ys zs came a o = λ p. o p ∙ ap (λ v. times p (v ++ came)) a
+order_join false false xs ys zs came a o = o ∙ ap (λ v. v ++ came) a
+
+order_same : (b : Bool) (xs ys zs : List ℕ) → xs ≡ zs → Order b xs ys → Order b zs ys
+order_same b xs ys zs e o = subst (λ v. Order b v ys) e o
+
+-- what the controller asked for
+pub record May {R : Type 0} (S : Sys R) (w : World S) (x : Want) : Type 0 where
+  pub fresh : w.next ≤ x.num
+  pub src : 2 ≤ x.src
+  pub dst : 2 ≤ x.dst
+  pub other : x.src ≢ x.dst
+  pub apart : meets_any S x.filter w.ops ≡ false
+
+module _ {R : Type 0} (S : Sys R) (laws : IsSys S) (u : units.Unit) where
+  abbrev pub see : Op → ℕ → Seeing
+  see o c = record { unit = u; op = o; third = c }
+
+  -- with all its packets that have arrived; the flag b says whether it was ever loose, c whether a move without a buffer ever took it
+  pub data Where (w : World S) (ps : List ℕ) (c : Bool) : Type 0 where
+    At_rest : (owner : ℕ) (d : List Ran) (l : List ℕ) (b : Bool) → Rest S u w owner d l → Order b (firsts d ++ l) ps → (b ≡ true → c ≡ true) → Where w ps c
+    In_move : (o : Op) (third : ℕ) (e : Open R) (s : Seat S.F) (b : Bool) → find_op w.ops o.num ≡ Some e → Holds S (see o third) w (seat_shape S.F s) → Order b (seat_all s) ps → (b ≡ true → c ≡ true) → (o.keep ≡ false → c ≡ true) → Where w ps c
+
+  -- in either case a seat shows it, open or not
+  pub record Shown (w : World S) (ps : List ℕ) (c : Bool) : Type 0 where
+    pub op : Op
+    pub third : ℕ
+    pub seat : Seat S.F
+    pub flag : Bool
+    pub holds : Holds S (see op third) w (seat_shape S.F seat)
+    pub order : Order flag (seat_all seat) ps
+    pub flag_is : flag ≡ true → c ≡ true
+    pub keep_is : op.keep ≡ false → c ≡ true
+
+  -- back: the move is open, or has ended
+  pub settle : (w : World S) (ps : List ℕ) (c : Bool) → Shown w ps c → Where w ps c
+  settle w ps c h = by_op (find_op w.ops h.op.num) refl
+    where
+      ended : find_op w.ops h.op.num ≡ None → At_rest_now S.F (seat_shape S.F h.seat) (seat_all h.seat) → Where w ps c
+      ended none (Rests_at side d l ph k is all) = At_rest (place S (see h.op h.third) side) d l h.flag (holds_rest S (see h.op h.third) w side d l ph k (subst (λ x. Holds S (see h.op h.third) w x) is h.holds) none) (order_same h.flag (seat_all h.seat) ps (firsts d ++ l) all h.order) h.flag_is
+
+      by_op : (f : Option (Open R)) → find_op w.ops h.op.num ≡ f → Where w ps c
+      by_op None none = ended none (seat_ends S.F h.seat (subst (λ f. Ctrl_is S (see h.op h.third) f (seat_shape S.F h.seat)) none h.holds.ctrl))
+      by_op (Some e) there = In_move h.op h.third e h.seat h.flag there h.holds h.order h.flag_is h.keep_is
+
+  self : (k : ℕ) → (k == k) ≡ true
+  self k = grind (arith, nat_tests)
+
+  -- two instances
+  apart_of : (n a b : ℕ) (k : Bool) → 2 ≤ a → 2 ≤ b → a ≢ b → Apart (record { num = n; src = a; dst = b; keep = k })
+  apart_of n a b k two_a two_b ab = record {
+    num = self n;
+    src = self a;
+    dst = self b;
+    src_dst = grind (arith, nat_tests, ab);
+    dst_src = grind (arith, nat_tests, ab);
+    src_0 = grind (arith, nat_tests, two_a);
+    dst_0 = grind (arith, nat_tests, two_b);
+    0_src = grind (arith, nat_tests, two_a);
+    0_dst = grind (arith, nat_tests, two_b);
+  }
+
+  -- a unit at rest, seen with a number that nothing has
+  pub shown_rest : (w : World S) (n owner : ℕ) (d : List Ran) (l : List ℕ) → Global S w → w.next ≤ n → Rest S u w owner d l → Holds S (see (record { num = n; src = owner; dst = suc owner; keep = true }) (suc (suc owner))) w (seat_shape S.F (seat_at S.F At_a d l true))
+  shown_rest w n owner d l g new h =
+      let two = h.two in
+      rest_holds S (see (record { num = n; src = owner; dst = suc owner; keep = true }) (suc (suc owner))) w g new (apart_of n owner (suc owner) true two (omega (arith, two)) (grind (arith, nat_tests))) (record { a_is = two; b_is = omega (arith, two); c_is = omega (arith, two); ab = grind (arith, nat_tests); ac = grind (arith, nat_tests); bc = grind (arith, nat_tests) }) At_a d l true h
+
+  pub shown : (w : World S) (ps : List ℕ) (c : Bool) → Global S w → Where w ps c → Shown w ps c
+  shown w ps c g (At_rest owner d l b h o f) = record { op = record { num = w.next; src = owner; dst = suc owner; keep = true }; third = suc (suc owner); seat = seat_at S.F At_a d l true; flag = b; holds = shown_rest w w.next owner d l g (omega arith) h; order = o; flag_is = f; keep_is = λ e. let never : true ≡ false = e in cc }
+  shown w ps c g (In_move op third e s b there h o f k) = record { op = op; third = third; seat = s; flag = b; holds = h; order = o; flag_is = f; keep_is = k }
+
+  -- a loose seat is that of an open move without a buffer
+  loose_stage : (s : Stage S.F) → loose s ≡ true → ((shape S.F s).keep ≡ false) × (is_over (shape S.F s).phase ≡ false)
+  loose_stage (Turned_loose d x f e l) h = (refl, refl)
+  loose_stage (Fenced_loose d x f e) h = (refl, refl)
+  loose_stage (Ending_loose d x f) h = (refl, refl)
+  loose_stage (Fence_loose d x n) h = (refl, refl)
+  loose_stage s h = let never : false ≡ true = h in cc
+
+  loose_seat : (s : Seat S.F) → seat_loose s ≡ true → ((seat_shape S.F s).keep ≡ false) × (is_over (seat_shape S.F s).phase ≡ false)
+  loose_seat (Covered s) h = loose_stage s h
+  loose_seat (Is_beside s) h = let never : false ≡ true = h in cc
+  loose_seat (Is_away s) h = let never : false ≡ true = h in cc
+
+  loose_keep : (o : Op) (third : ℕ) (x : State R) (f : Option (Open R)) → Ctrl_is S (see o third) f x → x.keep ≡ false → is_over x.phase ≡ false → o.keep ≡ false
+  loose_keep o third x None h k p = let never : true ≡ false = sym h ∙ p in cc
+  loose_keep o third x (Some e) (q, _, _, keep) k p = ap (λ y. y.keep) (sym q) ∙ keep ∙ k
+
+  either : (a b c : Bool) → a || b ≡ true → (a ≡ true → c ≡ true) → (b ≡ true → c ≡ true) → c ≡ true
+  either true b c e f g = f refl
+  either false b c e f g = g e
+
+  pub goes_on : (w w' : World S) (ps came : List ℕ) (c : Bool) (h : Shown w ps c) → Goes_to S laws (see h.op h.third) w' h.seat came → Where w' (ps ++ came) c
+  goes_on w w' ps came c h g = settle w' (ps ++ came) c (record {
+    op = h.op;
+    third = h.third;
+    seat = g.seat;
+    flag = h.flag || seat_loose g.seat;
+    holds = g.holds;
+    order = order_join h.flag (seat_loose g.seat) (seat_all h.seat) ps (seat_all g.seat) came h.order g.order;
+    flag_is = λ e. either h.flag (seat_loose g.seat) c e h.flag_is (λ l. let k = loose_seat g.seat l in h.keep_is (loose_keep h.op h.third (seat_shape S.F g.seat) (find_op w'.ops h.op.num) g.holds.ctrl k.0 k.1));
+    keep_is = h.keep_is;
+  })
+
+  stays : (w : World S) (ps : List ℕ) (c : Bool) → Where w (ps ++ []) c → Where w ps c
+  stays w ps c h = subst (λ v. Where w v c) (append-nil ps) h
+
+  pub inst_where : (w : World S) (ps : List ℕ) (c : Bool) → Global S w → (p y : ℕ) (m : Msg R) (rest : List (Msg R)) → (y == 0) ≡ false → (y == 1) ≡ false → w.link p y ≡ m ∷ rest → Where w ps c → Where (inst_next S w p y m) ps c
+  inst_where w ps c g p y m rest y0 y1 waits h = let k = shown w ps c g h in stays (inst_next S w p y m) ps c (goes_on w (inst_next S w p y m) ps [] c k (inst_holds S laws (see k.op k.third) w k.seat k.holds p y m rest y0 y1 waits))
+
+  pub ctrl_where : (w : World S) (ps : List ℕ) (c : Bool) → Global S w → (p : ℕ) (m : Msg R) (rest : List (Msg R)) → w.link p 1 ≡ m ∷ rest → Where w ps c → Where (ctrl_next S w p m) ps c
+  ctrl_where w ps c g p m rest waits h = let k = shown w ps c g h in stays (ctrl_next S w p m) ps c (goes_on w (ctrl_next S w p m) ps [] c k (ctrl_holds S laws (see k.op k.third) w k.seat k.holds p m rest waits))
+
+  pub switch_where : (w : World S) (ps : List ℕ) (c : Bool) → Global S w → (p : ℕ) (m : Msg R) (rest : List (Msg R)) → (p == 0) ≡ false → w.link p 0 ≡ m ∷ rest → Where w ps c → Where (sw_next S w p m) ps c
+  switch_where w ps c g p m rest p0 waits h = let k = shown w ps c g h in stays (sw_next S w p m) ps c (goes_on w (sw_next S w p m) ps [] c k (switch_holds S laws (see k.op k.third) w k.seat k.holds p m rest p0 waits))
+
+  pub input_where : (w : World S) (ps : List ℕ) (c : Bool) → Global S w → (q : ℕ) → Where w ps c → Where (in_next S w q) (ps ++ (if same_unit (S.unit_of q) u then q ∷ [] else [])) c
+  input_where w ps c g q h = let k = shown w ps c g h in goes_on w (in_next S w q) ps (if same_unit (S.unit_of q) u then q ∷ [] else []) c k (input_holds S laws (see k.op k.third) w k.seat k.holds q)
+
+  -- a message that nobody sees is put on a node's link
+  pub put_where : (w : World S) (ps : List ℕ) (c : Bool) → Global S w → (y r : ℕ) (m : Msg R) → ((z : Seeing) → seen (frame S z) m ≡ None) → ((z : Seeing) → Label S z y m) → Where w ps c → Where (record w { link = λ i j. w.link i j ++ (if i == y then sent_for j ((r, m) ∷ []) else []) }) ps c
+  put_where w ps c g y r m none lab h =
+      let k = shown w ps c g h in
+      let z = see k.op k.third in
+      settle (record w { link = λ i j. w.link i j ++ (if i == y then sent_for j ((r, m) ∷ []) else []) }) ps c (record { op = k.op; third = k.third; seat = k.seat; flag = k.flag; holds = put_unseen S laws z w (seat_shape S.F k.seat) k.holds y ((r, m) ∷ []) (one_unseen S laws z y r m (none z)) (lab z, tt); order = k.order; flag_is = k.flag_is; keep_is = k.keep_is })
+
+  -- A move begins.
+  find_old : (es : List (Open R)) (x : Open R) (n : ℕ) → (x.op.num == n) ≡ false → find_op (es ++ x ∷ []) n ≡ find_op es n
+  find_old [] x n off = rw off refl
+  find_old (e ∷ es) x n off = ap (λ o. if e.op.num == n then Some e else o) (find_old es x n off)
+
+  find_new : (es : List (Open R)) (x : Open R) (n : ℕ) → (x.op.num == n) ≡ true → Each (λ e. e.op.num < n) es → find_op (es ++ x ∷ []) n ≡ Some x
+  find_new [] x n on h = rw on refl
+  find_new (e ∷ es) x n on h = let few = h.0 in let off : (e.op.num == n) ≡ false = grind (arith, nat_tests, few) in rw off (find_new es x n on h.1)
+
+  -- for a unit that the filter doesn't take
+  other_begins : (o : Op) (third : ℕ) (w : World S) (x : Want) (v : State R) → (x.num == o.num) ≡ false → S.takes x.filter u ≡ false → Apart (new_op {R = R} x.num x).op → Holds S (see o third) w v → Holds S (see o third) (begin_next S w x) v
+  other_begins o third w x v off out apart h =
+      let z = see o third in
+      let p = put_unseen S laws z w v h 1 (begin_sends x.num x) (one_unseen S laws z 1 x.src (Mv x.filter (M_enable x.num Drops)) (rw off refl)) ((refl, (out ∙ sym off, refl)), tt) in
+      record {
+        apart = h.apart;
+        nodes = h.nodes;
+        views = p.views;
+        labels = p.labels;
+        insts = h.insts;
+        target = h.target;
+        ctrl = subst (λ f. Ctrl_is S z f v) (sym (find_old w.ops (new_op x.num x) o.num off)) h.ctrl;
+        ops = each-append (Op_label S z) w.ops (new_op x.num x ∷ []) h.ops ((out ∙ sym off, (λ _. (tt, refl)), apart), tt);
+        done = h.done;
+      }
+
+  each_less : (a b : ℕ) → a ≤ b → (es : List (Open R)) → Each (λ e. e.op.num < a) es → Each (λ e. e.op.num < b) es
+  each_less a b few [] h = tt
+  each_less a b few (e ∷ es) h = let k = h.0 in (omega (arith, k, few), each_less a b few es h.1)
+
+  -- for one that it takes: the move's first message goes out
+  enable_links : (z : Seeing) (v : State R) (send : ℕ → List (Item R)) → Nodes z.op.src z.op.dst z.third → send z.op.src ≡ Enable Drops ∷ [] → ((j : ℕ) → j ≢ z.op.src → send j ≡ []) → (i j : ℕ) → expect z.op.src z.op.dst z.third v i j ++ (if i == 1 then send j else []) ≡ expect z.op.src z.op.dst z.third (record v { ca = v.ca ++ Enable Drops ∷ [] }) i j
+  enable_links z v send n at none i j = grind (arith, nat_tests, append-nil, at, none j, n.a_is, n.b_is, n.c_is, n.ab, n.ac, n.bc)
+
+  covered_begins : (third : ℕ) (w : World S) (x : Want) (v : State R) → Global S w → w.next ≤ x.num → S.takes x.filter u ≡ true → v.store ≡ [] → v.keep ≡ x.keep → Apart (new_op {R = R} x.num x).op → Holds S (see (new_op {R = R} x.num x).op third) w v → Holds S (see (new_op {R = R} x.num x).op third) (begin_next S w x) (record v { phase = Freezing; keep = x.keep; ca = v.ca ++ Enable Drops ∷ [] })
+  covered_begins third w x v g fresh takes store keep apart h =
+      let z = see (new_op {R = R} x.num x).op third in
+      let on = apart.num in
+      let sends : List (ℕ × Msg R) = begin_sends x.num x in
+      let at : sent S z 1 sends x.src ≡ Enable Drops ∷ [] = (let s = apart.src in rw (s, on) refl) in
+      let none = (λ (j : ℕ) (off : j ≢ x.src). (let t : (x.src == j) ≡ false = grind (arith, nat_tests) in let e : sent S z 1 sends j ≡ [] = rw t refl in e)) in
+      record {
+        apart = h.apart;
+        nodes = h.nodes;
+        views = λ i j. view_put S z w.link 1 sends i j ∙ ap (λ k. k ++ (if i == 1 then sent S z 1 sends j else [])) (h.views i j) ∙ enable_links z v (sent S z 1 sends) h.nodes at none i j;
+        labels = each_put (λ i j m. Label S z i m) w.link 1 sends h.labels ((refl, (takes ∙ sym on, refl)), tt);
+        insts = h.insts;
+        target = h.target;
+        ctrl = subst (λ f. Ctrl_is S z f (record v { phase = Freezing; keep = x.keep; ca = v.ca ++ Enable Drops ∷ [] })) (sym (find_new w.ops (new_op x.num x) x.num on (each_less w.next x.num fresh w.ops g.ops))) (refl, refl, sym store, refl);
+        ops = each-append (Op_label S z) w.ops (new_op x.num x ∷ []) h.ops ((takes ∙ sym on, (λ _. (tt, refl)), apart), tt);
+        done = h.done;
+      }
+
+  any_tells : (g : Filter) (es : List (Open R)) (n : ℕ) (e : Open R) → meets_any S g es ≡ false → find_op es n ≡ Some e → S.takes g u ≡ true → S.takes e.filter u ≡ false
+  any_tells g [] n e apart there t = cc
+  any_tells g (x ∷ es) n e apart there t = elim (S.meets g x.filter) as (λ b. S.meets g x.filter ≡ b → (if b then true else meets_any S g es) ≡ false → S.takes e.filter u ≡ false) [
+    | true ↦ λ _ bad. cc
+    | false ↦ λ out more. elim (x.op.num == n) as (λ b. (if b then Some x else find_op es n) ≡ Some e → S.takes e.filter u ≡ false) [
+      | true ↦ λ is. let same : x ≡ e = cc in subst (λ y. S.takes y.filter u ≡ false) same (laws.apart g x.filter u out t)
+      | false ↦ λ is. any_tells g es n e more is t
+    ] there
+  ] refl apart
+
+  carries_map : (l : List ℕ) → Rattle.unit_machine.proofs.Path.carries (map (λ p. let x : Item R = Rattle.unit_machine.proofs.Machine.Carry p in x) l) ≡ l
+  carries_map [] = refl
+  carries_map (p ∷ l) = ap (λ v. p ∷ v) (carries_map l)
+
+  all_at_rest : (side : Side) (d : List Ran) (l : List ℕ) (k : Bool) → seat_all (seat_at S.F side d l k) ≡ firsts d ++ l
+  all_at_rest At_a d l k = refl
+  all_at_rest At_b d l k = ap (λ v. firsts d ++ v) (carries_map l)
+  all_at_rest At_c d l k = refl
+
+  rest_store : (side : Side) (d : List Ran) (l : List ℕ) (k : Bool) → ((rest_at S.F side d l Idle k).store ≡ []) × ((rest_at S.F side d l Idle k).keep ≡ k)
+  rest_store At_a d l k = (refl, refl)
+  rest_store At_b d l k = (refl, refl)
+  rest_store At_c d l k = (refl, refl)
+
+  begun_rest : (side : Side) (d : List Ran) (l : List ℕ) (k : Bool) → moved S.F (rest_at S.F side d l Idle k) (Begin k) ≡ record (rest_at S.F side d l Idle k) { phase = Freezing; keep = k; ca = (rest_at S.F side d l Idle k).ca ++ Enable Drops ∷ [] }
+  begun_rest At_a d l k = refl
+  begun_rest At_b d l k = refl
+  begun_rest At_c d l k = refl
+
+  -- a unit at rest that the filter takes: covered, beside or away
+  takes_seat : (w : World S) (ps : List ℕ) (c : Bool) (x : Want) (side : Side) (third : ℕ) (d : List Ran) (l : List ℕ) (b : Bool) → Global S w → May S w x → S.takes x.filter u ≡ true → Nodes x.src x.dst third → Rest S u w (place S (see (new_op {R = R} x.num x).op third) side) d l → Order b (firsts d ++ l) ps → (b ≡ true → c ≡ true) → (x.keep ≡ false → c ≡ true) → Where (begin_next S w x) ps c
+  takes_seat w ps c x side third d l b g may takes nodes h o f fk =
+      let z = see (new_op {R = R} x.num x).op third in
+      let apart = apart_of x.num x.src x.dst x.keep may.src may.dst may.other in
+      let v = rest_at S.F side d l Idle x.keep in
+      let s = seat_at S.F side d l x.keep in
+      let facts = rest_store side d l x.keep in
+      let at = covered_begins third w x v g may.fresh takes facts.0 facts.1 apart (rest_holds S z w g may.fresh apart nodes side d l x.keep h) in
+      let goes = moves_on S laws z (begin_next S w x) s (Begin x.keep) (record v { phase = Freezing; keep = x.keep; ca = v.ca ++ Enable Drops ∷ [] }) at (ap (λ q. moved S.F q (Begin x.keep)) (seat_begins S.F side d l x.keep) ∙ begun_rest side d l x.keep) tt in
+      let all : Order b (seat_all s) ps = order_same b (firsts d ++ l) ps (seat_all s) (sym (all_at_rest side d l x.keep)) o in
+      stays (begin_next S w x) ps c (settle (begin_next S w x) (ps ++ []) c (record { op = z.op; third = third; seat = goes.seat; flag = b || seat_loose goes.seat; holds = goes.holds; order = order_join b (seat_loose goes.seat) (seat_all s) ps (seat_all goes.seat) [] all goes.order; flag_is = λ e. either b (seat_loose goes.seat) c e f (λ q. let k = loose_seat goes.seat q in fk (loose_keep z.op third (seat_shape S.F goes.seat) (find_op (begin_next S w x).ops z.op.num) goes.holds.ctrl k.0 k.1)); keep_is = fk }))
+
+  third_of : (a b : ℕ) → 2 ≤ a → 2 ≤ b → a ≢ b → Nodes a b (a + b)
+  third_of a b two_a two_b ab = record { a_is = two_a; b_is = two_b; c_is = omega (arith, two_a); ab = ab; ac = (λ e. let never : ⊥ = omega (arith, two_b, e) in absurd never); bc = (λ e. let never : ⊥ = omega (arith, two_a, e) in absurd never) }
+
+  or_left : (a b : Bool) → a ≡ true → a || b ≡ true
+  or_left a b e = rw e refl
+
+  or_right : (a b : Bool) → b ≡ true → a || b ≡ true
+  or_right true b e = refl
+  or_right false b e = e
+
+  abbrev pub bares : Want → Bool
+  bares x = not x.keep && S.takes x.filter u
+
+  bare_is : (x : Want) → S.takes x.filter u ≡ true → x.keep ≡ false → bares x ≡ true
+  bare_is x t k = rw (k, t) refl
+
+  pub begin_where : (w : World S) (ps : List ℕ) (c : Bool) (x : Want) → Global S w → May S w x → Where w ps c → Where (begin_next S w x) ps (c || bares x)
+  begin_where w ps c x g may (At_rest owner d l b h o f) =
+      elim (S.takes x.filter u) as (λ t. S.takes x.filter u ≡ t → Where (begin_next S w x) ps (c || bares x)) [
+        | true ↦ λ takes. elim (owner == x.src) as (λ t. (owner == x.src) ≡ t → Where (begin_next S w x) ps (c || bares x)) [
+          | true ↦ λ e. takes_seat w ps (c || bares x) x At_a (x.src + x.dst) d l b g may takes (third_of x.src x.dst may.src may.dst may.other) (subst (λ k. Rest S u w k d l) ((Decides-eqb owner x.src).0 e) h) o (λ q. or_left c (bares x) (f q)) (λ q. or_right c (bares x) (bare_is x takes q))
+          | false ↦ λ na. elim (owner == x.dst) as (λ t. (owner == x.dst) ≡ t → Where (begin_next S w x) ps (c || bares x)) [
+            | true ↦ λ e. takes_seat w ps (c || bares x) x At_b (x.src + x.dst) d l b g may takes (third_of x.src x.dst may.src may.dst may.other) (subst (λ k. Rest S u w k d l) ((Decides-eqb owner x.dst).0 e) h) o (λ q. or_left c (bares x) (f q)) (λ q. or_right c (bares x) (bare_is x takes q))
+            | false ↦ λ nb. takes_seat w ps (c || bares x) x At_c owner d l b g may takes (record { a_is = may.src; b_is = may.dst; c_is = h.two; ab = may.other; ac = grind (arith, nat_tests); bc = grind (arith, nat_tests) }) h o (λ q. or_left c (bares x) (f q)) (λ q. or_right c (bares x) (bare_is x takes q))
+          ] refl
+        ] refl
+        | false ↦ λ out.
+            let fresh = may.fresh in
+            let n = suc x.num in
+            let op : Op = record { num = n; src = owner; dst = suc owner; keep = true } in
+            let off : (x.num == n) ≡ false = grind (arith, nat_tests) in
+            settle (begin_next S w x) ps (c || bares x) (record { op = op; third = suc (suc owner); seat = seat_at S.F At_a d l true; flag = b; holds = other_begins op (suc (suc owner)) w x (seat_shape S.F (seat_at S.F At_a d l true)) off out (apart_of x.num x.src x.dst x.keep may.src may.dst may.other) (shown_rest w n owner d l g (omega (arith, fresh)) h); order = o; flag_is = λ q. or_left c (bares x) (f q); keep_is = λ e. let never : true ≡ false = e in cc })
+      ] refl
+  begin_where w ps c x g may (In_move op third e s b there h o f fk) =
+      let few = (each_found (λ y. y.op.num < w.next) op.num w.ops e g.ops there) in
+      let same : e.op.num ≡ op.num = (Decides-eqb e.op.num op.num).0 few.1 in
+      let less : e.op.num < w.next = few.0 in
+      let fresh = may.fresh in
+      let off : (x.num == op.num) ≡ false = grind (arith, nat_tests, same, less, fresh) in
+      let lab : S.takes e.filter u ≡ (e.op.num == op.num) = (each_found (Op_label S (see op third)) op.num w.ops e h.ops there).0.0 in
+      let out : S.takes x.filter u ≡ false = elim (S.takes x.filter u) as (λ t. S.takes x.filter u ≡ t → t ≡ false) [ true ↦ λ on. let never : false ≡ true = sym (any_tells x.filter w.ops op.num e may.apart there on) ∙ lab ∙ few.1 in cc | false ↦ λ _. refl ] refl in
+      settle (begin_next S w x) ps (c || bares x) (record { op = op; third = third; seat = s; flag = b; holds = other_begins op third w x (seat_shape S.F s) off out (apart_of x.num x.src x.dst x.keep may.src may.dst may.other) h; order = o; flag_is = λ q. or_left c (bares x) (f q); keep_is = λ q. or_left c (bares x) (fk q) })

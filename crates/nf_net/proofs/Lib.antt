@@ -1,0 +1,6 @@
+pub mod FiltersApart
+pub mod Outline
+pub mod InstanceOutline
+pub mod StateOutline
+pub mod MoveOutline
+pub mod SwitchOutline

@@ -1,0 +1,324 @@
+-- The machine of one unit: what it sees of the switch, the controller and the instances while one move runs. The sides are the
+-- source A, the destination B, and a third instance C, where a unit that the move doesn't cover may be.
+use Rattle.std.proofs.Common.{ℕ, Bool, true, false, Option, Some, None, List, [], ◌∷◌, ◌++◌, map}
+use Rattle.std.specs.Prelude.{if◌then◌else◌, ◌&&◌, ◌||◌, is_some}
+use Rattle.nf_msgs.specs.declared.answer.Answer.{Answer}
+
+pub data Where : Type 0 where
+  At_a : Where
+  At_b : Where
+  At_c : Where
+
+-- a packet and where it was processed
+abbrev pub Ran : Type 0
+Ran = ℕ × Where
+
+abbrev pub on : Where → ℕ → Ran
+on w p = (p, w)
+
+-- what the function gives: a record's step, and which of two records an import keeps
+pub record Steps (R : Type 0) : Type 0 where
+  pub step : Option R → ℕ → R
+  pub newer : R → R → R
+
+abbrev pub runs : {R : Type 0} → Steps R → Option R → List Ran → Option R
+runs F o [] = o
+runs F o (x ∷ xs) = runs F (Some (F.step o x.0)) xs
+
+-- the record of the fold
+abbrev pub after : {R : Type 0} → Steps R → List Ran → Option R
+after F d = runs F None d
+
+pub data Rule : Type 0 where
+  Free : Rule
+  Drops : Rule
+  Buffers : Rule
+
+-- a piece as the unit sees it: its own record, if it is in it, and whether it is the last piece
+pub record Part (R : Type 0) : Type 0 where
+  pub own : Option R
+  pub last : Bool
+
+abbrev pub or_own : {R : Type 0} → Option R → Option R → Option R
+or_own None p = p
+or_own (Some r) p = Some r
+
+-- the unit's own record in a list of pieces
+abbrev pub pick : {R : Type 0} → List (Part R) → Option R
+pick [] = None
+pick (h ∷ t) = or_own h.own (pick t)
+
+abbrev pub is_nil : {X : Type 0} → List X → Bool
+is_nil [] = true
+is_nil (_ ∷ _) = false
+
+pub data Item (R : Type 0) : Type 0 where
+  Carry : ℕ → Item R
+  Pass : ℕ → Item R
+  Fence : Item R
+  Enable : Rule → Item R
+  Stream : Item R
+  Delete : Bool → Item R
+  Put : Part R → Bool → Item R
+  Restore : Option R → Item R
+  Enabled : Item R
+  Event : ℕ → Item R
+  Piece : Part R → Item R
+  Deleted : Item R
+  Put_ok : Item R
+  Put_no : Answer → Option R → Item R
+  Restored : Item R
+  Fenced : Item R
+  Forward : Where → ℕ → Item R
+  Fence_to : Where → Item R
+  Install : Item R
+  Stray : Item R
+
+-- an instance: the rule of this move that takes the unit, what is held, the live record
+pub record Inst (R : Type 0) : Type 0 where
+  pub rule : Rule
+  pub held : List ℕ
+  pub live : Option R
+
+-- what an instance did: the instance afterwards, what it sends to the controller, what it processed
+pub record Did (R : Type 0) : Type 0 where
+  pub inst : Inst R
+  pub to_c : List (Item R)
+  pub ran : List Ran
+
+abbrev pub idle : {R : Type 0} → Option R → Inst R
+idle o = record { rule = Free; held = []; live = o }
+
+abbrev pub sends : {R : Type 0} → Inst R → List (Item R) → Did R
+sends i xs = record { inst = i; to_c = xs; ran = [] }
+
+abbrev pub ran_one : {R : Type 0} → Steps R → Where → Inst R → ℕ → Did R
+ran_one F w i p = record { inst = record i { live = Some (F.step i.live p) }; to_c = []; ran = (p, w) ∷ [] }
+
+abbrev pub carried : {R : Type 0} → Steps R → Where → Rule → Inst R → ℕ → Did R
+carried F w Free i p = ran_one F w i p
+carried F w Drops i p = sends i (Event p ∷ [])
+carried F w Buffers i p = sends (record i { held = i.held ++ p ∷ [] }) []
+
+-- a record that comes, over one that is live
+abbrev pub joined : {R : Type 0} → Steps R → Option R → Option R → Option R
+joined F None o = o
+joined F (Some r) None = Some r
+joined F (Some r) (Some s) = Some (F.newer r s)
+
+-- a piece that is put; a first one may be refused, for a reason that the unit can't see
+abbrev pub put : {R : Type 0} → Steps R → Bool → Option Answer → Inst R → Part R → Did R
+put F false refuse i h = sends (record i { live = joined F h.own i.live }) (if h.last then Put_ok ∷ [] else [])
+put F true None i h = sends (record i { live = joined F h.own i.live }) (Put_ok ∷ [])
+put F true (Some why) i h = sends i (Put_no why h.own ∷ [])
+
+-- an instance's step; `parts` are the pieces that a Stream sends, `refuse` why a first piece is refused
+abbrev pub inst_does : {R : Type 0} → Steps R → Where → List (Part R) → Option Answer → Inst R → Item R → Did R
+inst_does F w parts refuse i (Carry p) = carried F w i.rule i p
+inst_does F w parts refuse i (Pass p) = ran_one F w i p
+inst_does F w parts refuse i Fence = record { inst = idle (runs F i.live (map (on w) i.held)); to_c = Fenced ∷ []; ran = map (on w) i.held }
+inst_does F w parts refuse i (Enable r) = sends (record i { rule = r }) (Enabled ∷ [])
+inst_does F w parts refuse i Stream = sends i (map Piece parts)
+inst_does F w parts refuse i (Delete own) = sends (record i { live = if own then None else i.live }) (Deleted ∷ [])
+inst_does F w parts refuse i (Put h first) = put F first refuse i h
+inst_does F w parts refuse i (Restore o) = sends (record i { live = joined F o i.live }) (Restored ∷ [])
+inst_does F w parts refuse i item = sends i []
+
+pub data Door : Type 0 where
+  Shut : Door
+  Asked : Bool → Door
+  Wide : Door
+  Refused : Answer → Door
+
+pub data Phase (R : Type 0) : Type 0 where
+  Idle : Phase R
+  Freezing : Phase R
+  Streaming : List (Part R) → List (Part R) → Bool → Door → Phase R
+  Holding : Phase R
+  Passing : Phase R
+  Ending : Phase R
+  Restoring : Answer → Phase R
+  Returning : Answer → Phase R
+  Undoing : Answer → Phase R
+  Over : Option Answer → Phase R
+
+-- what the controller did
+pub record C_did (R : Type 0) : Type 0 where
+  pub phase : Phase R
+  pub store : List ℕ
+  pub to_a : List (Item R)
+  pub to_b : List (Item R)
+  pub to_s : List (Item R)
+
+abbrev pub goes : {R : Type 0} → Phase R → List ℕ → C_did R
+goes phase f = record { phase = phase; store = f; to_a = []; to_b = []; to_s = [] }
+
+abbrev pub next : {R : Type 0} → Part R → Item R
+next h = Put h false
+
+abbrev pub delete : {R : Type 0} → Part R → Item R
+delete h = Delete (is_some h.own)
+
+abbrev pub push_shut : {R : Type 0} → List ℕ → List (Part R) → List (Part R) → Bool → C_did R
+push_shut f fz [] came = goes (Streaming fz [] came Shut) f
+push_shut f fz (h ∷ t) came = record (goes (Streaming fz t came (Asked h.last)) f) { to_b = Put h true ∷ [] }
+
+-- what a door lets go on: frozen, free, whether the last piece came, the door. It matches on the door alone, so that it
+-- computes where `free` is a list with a piece put behind it
+abbrev pub push : {R : Type 0} → List ℕ → List (Part R) → List (Part R) → Bool → Door → C_did R
+push f fz fr came Shut = push_shut f fz fr came
+push f fz fr came (Asked last) = goes (Streaming fz fr came (Asked last)) f
+push f fz fr came Wide = record (goes (Streaming fz [] came Wide) f) { to_b = map next fr }
+push f fz fr came (Refused why) =
+    if came && is_nil fz
+    then record (goes (Restoring why) f) { to_a = Restore (pick fr) ∷ [] }
+    else goes (Streaming fz fr came (Refused why)) f
+
+-- the stored events are released and the rule is changed
+abbrev pub release : {R : Type 0} → List ℕ → C_did R
+release f = record (goes Passing []) { to_s = map (Forward At_b) f ++ Install ∷ [] }
+
+abbrev pub on_event : {R : Type 0} → Phase R → List ℕ → ℕ → C_did R
+on_event Passing f p = record (goes Passing f) { to_s = Forward At_b p ∷ [] }
+on_event phase f p = goes phase (f ++ p ∷ [])
+
+abbrev pub a_enabled : {R : Type 0} → Phase R → List ℕ → C_did R
+a_enabled Freezing f = record (goes (Streaming [] [] false Shut) f) { to_a = Stream ∷ [] }
+a_enabled (Returning why) f = record (goes (Undoing why) []) { to_s = map (Forward At_a) f ++ Fence_to At_a ∷ [] }
+a_enabled phase f = goes phase f
+
+abbrev pub on_piece : {R : Type 0} → Phase R → List ℕ → Part R → C_did R
+on_piece (Streaming fz fr came door) f h = record (goes (Streaming (fz ++ h ∷ []) fr (came || h.last) door) f) { to_a = delete h ∷ [] }
+on_piece phase f h = goes phase f
+
+abbrev pub on_deleted : {R : Type 0} → Phase R → List ℕ → C_did R
+on_deleted (Streaming (h ∷ fz) fr came door) f = push f fz (fr ++ h ∷ []) came door
+on_deleted phase f = goes phase f
+
+abbrev pub on_restored : {R : Type 0} → Phase R → List ℕ → C_did R
+on_restored (Restoring why) f = record (goes (Returning why) f) { to_a = Enable Buffers ∷ [] }
+on_restored phase f = goes phase f
+
+abbrev pub a_fenced : {R : Type 0} → Phase R → List ℕ → C_did R
+a_fenced Passing f = record (goes Ending f) { to_s = Fence_to At_b ∷ [] }
+a_fenced (Undoing why) f = goes (Over (Some why)) f
+a_fenced phase f = goes phase f
+
+abbrev pub from_a : {R : Type 0} → Phase R → List ℕ → Item R → C_did R
+from_a phase f (Event p) = on_event phase f p
+from_a phase f Enabled = a_enabled phase f
+from_a phase f (Piece h) = on_piece phase f h
+from_a phase f Deleted = on_deleted phase f
+from_a phase f Restored = on_restored phase f
+from_a phase f Fenced = a_fenced phase f
+from_a phase f item = goes phase f
+
+abbrev pub is_put : {R : Type 0} → Bool → List ℕ → C_did R
+is_put true f = record (goes Holding f) { to_b = Enable Buffers ∷ [] }
+is_put false f = release f
+
+abbrev pub on_put_ok : {R : Type 0} → Bool → Phase R → List ℕ → C_did R
+on_put_ok keep (Streaming fz fr came (Asked last)) f = if last then is_put keep f else push f fz fr came Wide
+on_put_ok keep (Streaming fz fr came Wide) f = is_put keep f
+on_put_ok keep phase f = goes phase f
+
+abbrev pub on_put_no : {R : Type 0} → Phase R → List ℕ → Answer → Option R → C_did R
+on_put_no (Streaming fz fr came (Asked last)) f why o = push f fz (record { own = o; last = last } ∷ fr) came (Refused why)
+on_put_no phase f why o = goes phase f
+
+abbrev pub b_enabled : {R : Type 0} → Phase R → List ℕ → C_did R
+b_enabled Holding f = release f
+b_enabled phase f = goes phase f
+
+abbrev pub b_fenced : {R : Type 0} → Phase R → List ℕ → C_did R
+b_fenced Ending f = goes (Over None) f
+b_fenced phase f = goes phase f
+
+abbrev pub from_b : {R : Type 0} → Bool → Phase R → List ℕ → Item R → C_did R
+from_b keep phase f Put_ok = on_put_ok keep phase f
+from_b keep phase f (Put_no why o) = on_put_no phase f why o
+from_b keep phase f Enabled = b_enabled phase f
+from_b keep phase f Fenced = b_fenced phase f
+from_b keep phase f item = goes phase f
+
+-- the machine
+pub record State (R : Type 0) : Type 0 where
+  pub sa : List (Item R)
+  pub sb : List (Item R)
+  pub sc : List (Item R)
+  pub ac : List (Item R)
+  pub bc : List (Item R)
+  pub cc : List (Item R)
+  pub ca : List (Item R)
+  pub cb : List (Item R)
+  pub cs : List (Item R)
+  pub a : Inst R
+  pub b : Inst R
+  pub c : Inst R
+  pub phase : Phase R
+  pub keep : Bool
+  pub store : List ℕ
+  pub target : Where
+  pub done : List Ran
+
+pub data Move (R : Type 0) : Type 0 where
+  Begin : Bool → Move R
+  Arrive : ℕ → Move R
+  Take_sa : Move R
+  Take_sb : Move R
+  Take_sc : Move R
+  Take_ac : Move R
+  Take_bc : Move R
+  Take_ca : List (Part R) → Move R
+  Take_cb : Option Answer → Move R
+  Take_cs : Move R
+
+abbrev pub put_a : {R : Type 0} → State R → Did R → State R
+put_a u did = record u { a = did.inst; ac = u.ac ++ did.to_c; done = u.done ++ did.ran }
+
+abbrev pub put_b : {R : Type 0} → State R → Did R → State R
+put_b u did = record u { b = did.inst; bc = u.bc ++ did.to_c; done = u.done ++ did.ran }
+
+-- what C sends to the controller is never taken: no stage has anything there
+abbrev pub put_c : {R : Type 0} → State R → Did R → State R
+put_c u did = record u { c = did.inst; cc = u.cc ++ did.to_c; done = u.done ++ did.ran }
+
+abbrev pub put_ctrl : {R : Type 0} → State R → C_did R → State R
+put_ctrl u did = record u { phase = did.phase; store = did.store; ca = u.ca ++ did.to_a; cb = u.cb ++ did.to_b; cs = u.cs ++ did.to_s }
+
+abbrev pub send_to : {R : Type 0} → Where → State R → Item R → State R
+send_to At_a u x = record u { sa = u.sa ++ x ∷ [] }
+send_to At_b u x = record u { sb = u.sb ++ x ∷ [] }
+send_to At_c u x = record u { sc = u.sc ++ x ∷ [] }
+
+-- of the move itself the switch sends to A and to B alone
+abbrev pub send_side : {R : Type 0} → Where → State R → Item R → State R
+send_side At_a u x = record u { sa = u.sa ++ x ∷ [] }
+send_side At_b u x = record u { sb = u.sb ++ x ∷ [] }
+send_side At_c u x = u
+
+abbrev pub redirected : Where → Where
+redirected At_a = At_b
+redirected w = w
+
+abbrev pub switch_does : {R : Type 0} → State R → Item R → State R
+switch_does u (Forward w p) = send_side w u (Pass p)
+switch_does u (Fence_to w) = send_side w u Fence
+switch_does u Install = send_side At_a (record u { target = redirected u.target }) Fence
+switch_does u item = u
+
+abbrev pub begun : {R : Type 0} → Bool → Phase R → State R → State R
+begun keep Idle u = record u { phase = Freezing; keep = keep; ca = u.ca ++ Enable Drops ∷ [] }
+begun keep phase u = u
+
+abbrev pub moved : {R : Type 0} → Steps R → State R → Move R → State R
+moved F u (Begin keep) = begun keep u.phase u
+moved F u (Arrive p) = send_to u.target u (Carry p)
+moved F u Take_sa = elim u.sa [ [] ↦ u | x ∷ xs ↦ put_a (record u { sa = xs }) (inst_does F At_a [] None u.a x) ]
+moved F u Take_sb = elim u.sb [ [] ↦ u | x ∷ xs ↦ put_b (record u { sb = xs }) (inst_does F At_b [] None u.b x) ]
+moved F u Take_sc = elim u.sc [ [] ↦ u | x ∷ xs ↦ put_c (record u { sc = xs }) (inst_does F At_c [] None u.c x) ]
+moved F u Take_ac = elim u.ac [ [] ↦ u | x ∷ xs ↦ put_ctrl (record u { ac = xs }) (from_a u.phase u.store x) ]
+moved F u Take_bc = elim u.bc [ [] ↦ u | x ∷ xs ↦ put_ctrl (record u { bc = xs }) (from_b u.keep u.phase u.store x) ]
+moved F u (Take_ca parts) = elim u.ca [ [] ↦ u | x ∷ xs ↦ put_a (record u { ca = xs }) (inst_does F At_a parts None u.a x) ]
+moved F u (Take_cb refuse) = elim u.cb [ [] ↦ u | x ∷ xs ↦ put_b (record u { cb = xs }) (inst_does F At_b [] refuse u.b x) ]
+moved F u Take_cs = elim u.cs [ [] ↦ u | x ∷ xs ↦ switch_does (record u { cs = xs }) x ]
