@@ -4,3 +4,4 @@ pub mod InstanceOutline
 pub mod StateOutline
 pub mod MoveOutline
 pub mod SwitchOutline
+pub mod ControlOutline

@@ -1,0 +1,3 @@
+pub mod OperationLookUps
+pub mod WrittenOperations
+pub mod OtherMessages
