@@ -13,11 +13,11 @@ pub const MOST_CHUNKS: usize = 64;
 
 /// What all pieces of chunks say.
 #[derive(Clone, Copy, Debug, PartialEq, Eq)]
-pub(crate) struct Whole {
+pub struct Whole {
     /// How many chunks there are.
-    pub(crate) total: u32,
+    pub total: u32,
     /// The highest version among them, and at least 1.
-    pub(crate) newest: u8,
+    pub newest: u8,
 }
 
 impl Whole {
