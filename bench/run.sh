@@ -2,10 +2,11 @@
 # Compares the speed of the program with the yardstick, which is the same work by plain Rust with nothing proved.
 # Use: bench/run.sh [PROGRAM]; without a word it takes the program that `rt run` or `rt ci` left in its crate.
 #
-# Both read four captures of 1,000,000 packets, in turn and five times each: a generated one of 32,768 flows (few), one of a
+# Both read captures of 1,000,000 packets, in turn and five times each: a generated one of 32,768 flows (few), one of a
 # single flow (one), one in which no two packets are of one flow (distinct), and one of which every record is skipped
-# (skipped). Printed are the best times, their ratios and the peak memory; the outputs must be the same bytes. This is no
-# part of the gate. What it makes stands in bench/out.
+# (skipped); and two more in which no two packets are of one flow, drawn alike, but for what their hashes have in common: nothing
+# (ordinary), or that the program finds all of them by a few windows of its table (colliding). Printed are the best times, their ratios
+# and the peak memory; the outputs must be the same bytes. This is no part of the gate. What it makes stands in bench/out.
 set -eu
 bench=$(cd "$(dirname "${BASH_SOURCE[0]}")" && pwd)
 program=${1:-$bench/../crates/opennf/out/opennf}
@@ -30,14 +31,19 @@ made() {
     captures+=("$out/$1.pcap")
     if [ ! -f "$out/$1.pcap" ]; then
         echo "bench/run.sh: making the capture $1" >&2
-        python3 "${@:2}" "$out/$1.part"
+        "${@:2}" "$out/$1.part"
         mv "$out/$1.part" "$out/$1.pcap"
     fi
 }
 captures=()
-made few "$bench/make_capture.py" 7 $packets 256
+made few python3 "$bench/make_capture.py" 7 $packets 256
 for shape in one distinct skipped; do
-    made $shape "$bench/shapes.py" $shape $packets
+    made $shape python3 "$bench/shapes.py" $shape $packets
 done
+if [ ${#programs[@]} = 2 ]; then
+    rustc --edition 2021 -O -o "$out/collide" "$bench/collide.rs"
+    made ordinary "$out/collide" $packets 0 0
+    made colliding "$out/collide" $packets 8 14
+fi
 echo "load $(cut -d ' ' -f 1-3 /proc/loadavg), processors $(nproc)"
 python3 "$bench/measure.py" "$out" "${programs[@]}" -- "${captures[@]}"

@@ -6,6 +6,7 @@ pub mod FoldLemmas
 pub mod LastLineLemmas
 pub mod MakingLemmas
 pub mod PageLemmas
+pub mod RecordedEntries
 pub mod ReportLemmas
 pub mod RoleLemmas
 pub mod RowLemmas

@@ -2,7 +2,8 @@
 use Rattle.std.proofs.Common.{◌≡◌, ℕ, ◌+◌, List, [], ◌∷◌, ◌++◌, length, Some, refl, ap, sym, ◌∙◌, subst, append-nil, append_assoc, codes, decimal}
 use Rattle.std.specs.List.{flat_map}
 use Rattle.std.specs.BTreeMap.{get as live_at, BTreeMap, IsOrdered}
-use Rattle.std.specs.HashMap.{get as kept_at, Updates}
+use Rattle.std.specs.Map.{update}
+use Rattle.unit_map.specs.Entries.{record_of as kept_at}
 use Rattle.flow_filter.specs.declared.flow.Flow.{Flow}
 use Rattle.flow_filter.specs.declared.packet.Packet.{Packet}
 use Rattle.flow_filter.specs.declared.site.Site.{Site}
@@ -34,13 +35,13 @@ states_behind-more site before (q ∷ ps) p =
 -- the records and the states after one more packet
 pub folded_more : (here : Site) (before : List Packet) (p : Packet) (old new : Fold) (state : State)
     → HasFolded here before old → new.site ≡ old.site
-    → Updates flow_eq old.kept new.kept (packet_flow old.site p) (Some (record_after_kept old.site old.kept p))
+    → ((unit : Flow) → kept_at flow_eq new.kept unit ≡ update flow_eq (kept_at flow_eq old.kept) (packet_flow old.site p) (Some (record_after_kept old.site old.kept p)) unit)
     → state ≡ (record_after_kept old.site old.kept p).state → new.states.items ≡ old.states.items ++ state ∷ []
     → HasFolded here (before ++ p ∷ []) new
 folded_more here before p old new state has same updates is grown = record {
   site = same ∙ has.site;
   kept = AreKept-more here before p old.kept new.kept has.kept
-      (subst (λ (s : Site). Updates flow_eq old.kept new.kept (packet_flow s p) (Some (record_after_kept s old.kept p))) has.site updates);
+      (subst (λ (s : Site). (unit : Flow) → kept_at flow_eq new.kept unit ≡ update flow_eq (kept_at flow_eq old.kept) (packet_flow s p) (Some (record_after_kept s old.kept p)) unit) has.site updates);
   states =
       let is' : state ≡ (record_after_packets here before p).state =
       is ∙ ap (λ (s : Site). (record_after_kept s old.kept p).state) has.site ∙ ap (λ r. r.state) (record_after-kept here before p old.kept has.kept) in

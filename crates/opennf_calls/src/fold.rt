@@ -1,23 +1,24 @@
-ghost use Rattle.std.specs.Prelude.{◌≡◌, Some, List, [], ◌∷◌, length, OnOk, IfOk};
-ghost use Rattle.std.specs.HashMap.{Updates, get as kept_at};
+ghost use Rattle.std.specs.Prelude.{◌≡◌, Some, List, [], ◌∷◌, length, IfOk, OnOk};
+ghost use Rattle.std.specs.Map.{update};
 ghost use Rattle.std.specs.BTreeMap.{get as live_at, IsOrdered};
 ghost use Rattle.flow_filter.specs.declared.flow.Flow.{Flow as TheFlow};
 ghost use Rattle.flow_filter.specs.declared.packet.Packet.{Packet as ThePacket};
 ghost use Rattle.flow_filter.specs.declared.site.Site.{Site as TheSite};
-ghost use Rattle.conn_tracker.specs.Table.{stepped};
+ghost use Rattle.unit_map.specs.Entries.{record_of as kept_at};
 ghost use Rattle.opennf_calls.specs.Fold.{flow_cmp, flow_eq, packet_flow};
-ghost use Rattle.opennf_calls.specs.FoldState.{record_after_kept};
+ghost use Rattle.opennf_calls.specs.FoldState.{record_after_kept, along, recorded};
 
 use crate::report::{Head, Report};
 use conn_tracker::tracker::record_after;
 use conn_tracker::{State, TrackRecord, first_record};
-use flow_filter::{Flow, Name, NoMemory, Packet, Site, flow_of};
+use flow_filter::{Direction, Flow, Name, NoMemory, Packet, Site, flow_of};
 use std::alloc::Global;
-use std::collections::{BTreeMap, HashMap};
+use std::collections::BTreeMap;
 use trace_reader::{Keeper, TraceEnd};
+use unit_map::UnitMap;
 
 /// The records of the flows that have had a packet, while packets come.
-pub type Kept = HashMap<Flow, TrackRecord>;
+pub type Kept = UnitMap<Flow, TrackRecord>;
 
 /// The records of the flows that have had a packet, in the flows' order.
 pub type Live = BTreeMap<Flow, TrackRecord>;
@@ -42,7 +43,7 @@ impl Fold {
     {
         Fold {
             site,
-            kept: Kept::new(alloc),
+            kept: Kept::open(alloc),
             states: Vec::new(alloc),
         }
     }
@@ -82,19 +83,26 @@ impl Keeper for Fold {
 
 /// Takes a packet into the record of its flow, and gives the state that it leaves.
 fn process(kept: &mut Kept, site: &Site, packet: &Packet) -> Result<State, NoMemory>
-    ensures updates { OnOk result (Updates flow_eq kept.old kept.new (packet_flow site.now packet.now)
-        (Some (record_after_kept site.now kept.old packet.now))) }
+    ensures updates { OnOk result ((unit : TheFlow) → kept_at flow_eq kept.new unit ≡ update flow_eq (kept_at flow_eq kept.old) (packet_flow site.now packet.now)
+        (Some (record_after_kept site.now kept.old packet.now)) unit) }
     ensures state { IfOk result (λ state. state ≡ (record_after_kept site.now kept.old packet.now).state) }
 {
     let (flow, way) = flow_of(site, packet);
-    if let Some(record) = kept.get_mut(&flow) {
-        let after = record_after(record, packet, way);
-        *record = after;
-        return Ok(after.state);
+    let place = kept.place(flow)?;
+    let record = kept.record_mut(place);
+    let after = along(record, packet, way);
+    *record = Some(after);
+    Ok(after.state)
+}
+
+/// The record after a packet that goes in this direction, where there was one or none.
+fn along(kept: &Option<TrackRecord>, packet: &Packet, way: Direction) -> TrackRecord
+    ensures { result ≡ along kept.now packet.now way }
+{
+    match kept {
+        None => first_record(packet, way),
+        Some(before) => record_after(before, packet, way),
     }
-    let first = first_record(packet, way);
-    kept.insert(flow, first)?;
-    Ok(first.state)
 }
 
 /// The records in the flows' order.
@@ -102,7 +110,13 @@ fn ordered(alloc: Global, kept: &Kept) -> Result<Live, NoMemory>
     ensures ordered { IfOk result (λ live. IsOrdered flow_cmp live) }
     ensures same { IfOk result (λ live. (unit : TheFlow) → live_at flow_cmp live unit ≡ kept_at flow_eq kept.now unit) }
 {
-    kept.iter()
-        .map(|(unit, record)| (*unit, *record))
-        .collect(alloc)
+    kept.entries().iter().filter_map(recorded).collect(alloc)
+}
+
+/// An entry's record with its flow, where the entry has one.
+fn recorded(entry: &(Flow, Option<TrackRecord>)) -> Option<(Flow, TrackRecord)>
+    ensures { result ≡ recorded entry.now }
+{
+    let record = entry.1?;
+    Some((entry.0, record))
 }

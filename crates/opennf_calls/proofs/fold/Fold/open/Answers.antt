@@ -6,6 +6,6 @@ use Rattle.opennf_calls.proofs.fold.Fold.open.Goals as goal
 pub returns : goal.returns
 returns c = record {
   site = refl;
-  kept = AreKept-none c.args.site c.new.result c.new.ensures.empty;
-  states = c.new-2.ensures.items;
+  kept = AreKept-none c.args.site c.open.result c.open.ensures;
+  states = c.new.ensures.items;
 }
