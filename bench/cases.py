@@ -9,6 +9,7 @@ FOLDER gets captures and, for each case, four files:
   NAME.out       what must stand on standard output
   NAME.err       what must stand on standard error
   NAME.status    the status
+  NAME.capture   what must stand in the file that the last word names, where the words make a capture
 
 Beside the fixed cases it makes COUNT captures by chance from SEED, with every form of header, records that are cut,
 odd lengths, options, tags, fragments and flags.
@@ -112,6 +113,18 @@ class Cases:
     def capture(self, name, content, inside="10.0.0.0/24", instance="a"):
         """A case by the capture's bytes."""
         self.trace(name, self.file(name + ".pcap", content), inside, instance)
+
+
+    def made(self, name, *words):
+        """A case that makes a capture. What the model wrote stands beside, and in the file is what was there before, or what
+        would show where it isn't written over."""
+        before = bytes(100_000)
+        if os.path.exists(words[-1]):
+            with open(words[-1], "rb") as file:
+                before = file.read()
+        self.words(name, ["gen", *words])
+        os.rename(words[-1], name + ".capture")
+        self.file(words[-1], before)
 
 
 def words(trace, inside="10.0.0.0/24", instance="a"):
@@ -338,6 +351,31 @@ def command_lines(cases):
         cases.trace(f"instance-{place:02}", good, instance=instance)
 
 
+def making(cases):
+    """Captures that are made, and words that ask for none."""
+    greatest = str(2**64 - 1)
+    cases.made("made-three", "7", "--packets", "3", "--hosts", "1", "three.pcap")
+    cases.made("made-one", "0", "--packets", "1", "--hosts", "256", "-")
+    cases.made("made-some", greatest, "--packets", "2000", "--hosts", "255", "zwei Büros.pcap")
+    cases.made("made-most", "1", "--packets", "1000000", "--hosts", "256", "most.pcap")
+    good = ["gen", "7", "--packets", "3", "--hosts", "1", "never.pcap"]
+    for place, trace in enumerate(("folder.pcap", "missing/x", "good.pcap/x", "x" * 300, "/dev/full")):
+        cases.words(f"made-nowhere-{place}", [*good[:-1], trace])
+    wrong = (
+        *((1, number) for number in ("", "-1", "+7", "07", "7.0", " 7", "x", "0x7", "٣", str(2**64), "9" * 30)),
+        *((3, packets) for packets in ("0", "1000001", "01", "-1", "", "3 ", "4294967299", greatest)),
+        *((5, hosts) for hosts in ("0", "257", "001", "-1", "", "4294967297")),
+        *((6, trace) for trace in ("", "-x", "--hosts", b"\xff")),
+        *((2, "--packet"), (4, "--packets"), (4, "--host"), (0, "GEN"), (0, "generate")),
+    )
+    for number, (place, word) in enumerate(wrong):
+        cases.words(f"made-never-{number:02}", [*good[:place], word, *good[place + 1 :]])
+    for count in range(1, len(good)):
+        cases.words(f"made-of-{count}-words", good[:count])
+    cases.words("made-in-two-files", [*good, "other"])
+    cases.words("made-inside", [*good[:-1], "--inside", "10.0.0.0/24", "never.pcap"])
+
+
 def by_chance(cases, seed, count):
     for place in range(count):
         chance = random.Random(f"{seed} {place}")
@@ -394,7 +432,7 @@ def main(arguments):
     folder, seed, count = arguments[0], arguments[1], int(arguments[2])
     os.chdir(folder)
     cases = Cases(os.curdir)
-    for make in by_hand, office, headers, records, frames, flows, paths, command_lines:
+    for make in by_hand, office, headers, records, frames, flows, paths, command_lines, making:
         make(cases)
     by_chance(cases, seed, count)
 

@@ -2,15 +2,19 @@
 """A model of the program, written apart from it, to compare the two.
 
 Use: model.py sim conntrack --instances NAME --inside PREFIX --schedule last TRACE
+     model.py gen NUMBER --packets N --hosts H TRACE
 
-It prints what the program prints for these words and ends with the same status. It is slow and plain: the whole
-capture is read first, and the packets of each flow are gathered and followed by themselves.
+It prints what the program prints for these words, writes the same file and ends with the same status. It is slow and
+plain: the whole capture is read first, and the packets of each flow are gathered and followed by themselves.
 """
 import os
 import re
 import struct
 import sys
 from typing import NamedTuple, Optional
+
+sys.dont_write_bytecode = True
+import make_capture  # noqa: E402
 
 
 class Refusal(Exception):
@@ -28,6 +32,15 @@ class Refusal(Exception):
 class Words(NamedTuple):
     instance: str
     inside: "Prefix"
+    trace: bytes
+
+
+class Making(NamedTuple):
+    """A capture that is to be made."""
+
+    number: int
+    packets: int
+    hosts: int
     trace: bytes
 
 
@@ -54,24 +67,48 @@ def read_prefix(text):
     return Prefix(bits, length) if bits % (1 << (32 - length)) == 0 else None
 
 
+def read_number(text, least, most):
+    """A decimal number without leading zeros, in these bounds."""
+    if not re.fullmatch("0|[1-9][0-9]*", text, re.ASCII):
+        return None
+    return int(text) if least <= int(text) <= most else None
+
+
+def is_file(text):
+    return text == "-" or (text != "" and not text.startswith("-"))
+
+
 def read_words(words):
     """What the words ask for. The words are bytes; they are in this order and no other."""
-    bad = Refusal(1, "bad words")
     try:
         texts = [word.decode("utf-8") for word in words]
     except UnicodeDecodeError:
-        raise bad from None
-    if len(texts) != 9:
-        raise bad
+        texts = []
+    asked = None
+    if len(texts) == 9:
+        asked = read_sim(texts, words[8])
+    elif len(texts) == 7:
+        asked = read_gen(texts, words[6])
+    if asked is None or not is_file(texts[-1]):
+        raise Refusal(1, "bad words")
+    return asked
+
+
+def read_sim(texts, trace):
     fixed = texts[0:3] + [texts[4]] + texts[6:8]
+    instance, inside = texts[3], read_prefix(texts[5])
     if fixed != ["sim", "conntrack", "--instances", "--inside", "--schedule", "last"]:
-        raise bad
-    instance, inside, trace = texts[3], read_prefix(texts[5]), texts[8]
+        return None
     if not re.fullmatch("[a-z0-9]{1,16}", instance) or inside is None:
-        raise bad
-    if trace == "" or (trace.startswith("-") and trace != "-"):
-        raise bad
-    return Words(instance, inside, words[8])
+        return None
+    return Words(instance, inside, trace)
+
+
+def read_gen(texts, trace):
+    numbers = read_number(texts[1], 0, 2**64 - 1), read_number(texts[3], 1, MOST_PACKETS), read_number(texts[5], 1, 256)
+    if [texts[0], texts[2], texts[4]] != ["gen", "--packets", "--hosts"] or None in numbers:
+        return None
+    return Making(*numbers, trace)
 
 
 # --- The capture ---
@@ -335,14 +372,26 @@ def report(words, trace):
 
 
 def run(words):
-    """The report's bytes for the program's words behind its name, each as bytes."""
+    """The report's bytes for the program's words behind its name, each as bytes. A capture that is asked for is written."""
     asked = read_words(words)
+    if isinstance(asked, Making):
+        return make(asked)
     try:
         with open(asked.trace, "rb") as file:
             capture = file.read()
     except OSError:
         raise Refusal(4, "read fault trace") from None
     return report(asked, read_trace(capture))
+
+
+def make(asked):
+    """Writes the capture, and gives the line that tells its numbers."""
+    try:
+        with open(asked.trace, "wb") as file:
+            file.writelines(make_capture.capture(asked.number, asked.packets, asked.hosts))
+    except OSError:
+        raise Refusal(5, "write fault capture") from None
+    return f"gen number {asked.number} packets {asked.packets} hosts {asked.hosts}\n".encode()
 
 
 def write_all(descriptor, content):
