@@ -5,9 +5,8 @@ use Rattle.event_filter.specs.declared.mark.Mark.TheVariants.{Plain}
 use Rattle.packet_pool.specs.Pool.{FullCell}
 use Rattle.nf_msgs.specs.declared.msg.Msg.{Msg}
 use Rattle.nf_msgs.specs.declared.note.Note.{Note}
-use Rattle.actor_net.specs.Network.{Stepped}
 use Rattle.instance_worker.specs.declared.instance.Instance.{Instance}
-use Rattle.instance_worker.specs.Instance.{Step, processed, all_processed}
+use Rattle.instance_worker.specs.Instance.{processed, all_processed}
 
 -- a list that is as it is without its first has none
 no_items : {X : Type 0} (xs : List X) → length xs ≡ 0 → xs ≡ []

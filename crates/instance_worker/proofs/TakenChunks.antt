@@ -1,5 +1,5 @@
 -- Chunks are taken in exactly where none is bad.
-use Rattle.std.proofs.Common.{◌≡◌, ℕ, ◌+◌, ◌<◌, ◌≤◌, Bool, true, false, List, Result, Ok, Err, OnOk, IfErr, refl, sym, ◌∙◌, arith}
+use Rattle.std.proofs.Common.{◌≡◌, ◌+◌, ◌≤◌, Bool, true, false, List, Result, Ok, Err, OnOk, IfErr, refl, sym, ◌∙◌, arith}
 use Rattle.nf_function.specs.declared.chunk.Chunk.{Chunk}
 use Rattle.nf_function.specs.Semantics.{Semantics}
 use Rattle.record_table.specs.declared.refusal.ImportFault.{ImportFault}

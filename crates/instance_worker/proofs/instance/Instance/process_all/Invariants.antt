@@ -1,5 +1,5 @@
 -- With the packets that are left, the instance comes to the same end as with all.
-use Rattle.std.proofs.Common.{ℕ, ◌++◌, length}
+use Rattle.std.proofs.Common.{◌++◌, length}
 use Rattle.instance_worker.specs.Instance.{all_processed}
 use Rattle.instance_worker.proofs.HeldPackets.{LeadsTo}
 use Rattle.instance_worker.proofs.instance.Instance.process_all.Given as goal
