@@ -10,5 +10,5 @@ returns-in_default-op c =
     let no = c.in_default in
     let none : op_of c.args.message ≡ None = cc in
     let same = other_row c.args.self.now c.args.port c.args.message no.not-Asked no.not-End no.not-Event no.not-Final
-        ∙ ap (numbered c.args.self.now c.args.port c.args.message) none in
+    ∙ ap (numbered c.args.self.now c.args.port c.args.message) none in
     rw same (search rules)

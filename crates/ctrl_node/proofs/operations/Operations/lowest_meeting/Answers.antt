@@ -1,7 +1,6 @@
 -- The tree's entries are those of the map.
 use Rattle.std.proofs.Common.{sym, ap, ◌∙◌}
 use Rattle.std.specs.Prelude.{find, option_map}
-use Rattle.std.specs.FinMap as finite
 use Rattle.ctrl_node.specs.Operations.{meets_operation, lowest_meeting}
 use Rattle.ctrl_node.proofs.OperationLookUps.{entries-view}
 use Rattle.ctrl_node.proofs.operations.Operations.lowest_meeting.Goals as goal
