@@ -1,11 +1,16 @@
-//! The network of the switch, the controller and the instances.
+//! The network: one switch, one controller and up to sixteen instances of a function, over the links of `actor_net`.
+//!
+//! Contracts see a [`Node`] as the value of the node that it is. This crate touches nothing but memory. The main promises so far
+//! are that of [`start`] (the world at the start of a run is the one that the configuration and the input say), and that each step
+//! of a node is its row of the tables. What every run keeps isn't a clause yet; the proof of it has begun in `proofs/`.
 #![tactic(auto)]
 
-ghost use Rattle.std.specs.Prelude.{◌≡◌};
+pub mod config;
+pub mod node;
+pub mod run;
+pub mod starting;
 
-/// One function, so that the crate has a contract.
-pub fn same(x: usize) -> usize
-    ensures { result ≡ x }
-{
-    x
-}
+pub use config::Config;
+pub use node::Node;
+pub use run::run_choices;
+pub use starting::start;

@@ -1,0 +1,6 @@
+use Rattle.std.proofs.Common.{rules, ◌≡◌, ◌++◌, List, [], ◌∷◌, refl, add-one}
+use Rattle.nf_net.specs.Start.{first_instances}
+use Rattle.nf_net.proofs.starting.first_nodes.Goals as goal
+
+pub loop-index-preserved : goal.loop-index-preserved
+loop-index-preserved g c = rw (add-one c.loop-index.index, c.in_ok-push-3.ensures.items, c.first_instance-instance.ensures, c.loop-index.invariant) refl

@@ -1,0 +1,8 @@
+use Rattle.std.proofs.Common.{◌≡◌, ◌++◌, List, [], ◌∷◌}
+use Rattle.nf_net.specs.declared.node.Node.TheVariants.{Switch, Controller}
+use Rattle.ctrl_node.specs.Controller.{opened}
+use Rattle.nf_net.specs.Start.{first_switch, first_instances}
+use Rattle.nf_net.proofs.starting.first_nodes.Given as goal
+
+abbrev pub invariant-loop-index : goal.invariant-loop-index
+invariant-loop-index g l = l.nodes.items ≡ Switch (first_switch l.config) ∷ Controller (opened l.config.names l.config.site) ∷ first_instances l.alloc l.config l.index
