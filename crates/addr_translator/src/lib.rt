@@ -18,3 +18,6 @@ pub use nat::Nat;
 pub use passage::Passage;
 pub use record::NatRecord;
 pub use table::step;
+
+#[cfg(test)]
+mod tests;
