@@ -10,131 +10,29 @@ use std::fs::File;
 use std::hash::{BuildHasher, Hasher};
 use std::io::{self, Read, Write};
 use std::process::ExitCode;
+use tracker::{CLASS_OF, Class, Record, folded};
 
+mod tracker;
+
+/// The names of the states.
 const STATES: [&str; 10] =
     ["opening", "answered", "established", "finfwd", "finrev", "closed", "reset", "loose", "single", "both"];
-const OPENING: u8 = 0;
-const ANSWERED: u8 = 1;
-const ESTABLISHED: u8 = 2;
-const FINFWD: u8 = 3;
-const FINREV: u8 = 4;
-const CLOSED: u8 = 5;
-const RESET: u8 = 6;
-const LOOSE: u8 = 7;
-const SINGLE: u8 = 8;
-const BOTH: u8 = 9;
-
-/// What a packet means to the tracker: by its TCP flags, or that it is UDP.
-#[derive(Clone, Copy, PartialEq)]
-enum Class {
-    Reset,
-    Open,
-    Answer,
-    Finish,
-    Other,
-    Datagram,
-}
-
-const CLASSES: [Class; 6] =
-    [Class::Reset, Class::Open, Class::Answer, Class::Finish, Class::Other, Class::Datagram];
-
-const fn class_of(flags: u8) -> Class {
-    let (fin, syn, rst, ack) = (flags & 1 != 0, flags & 2 != 0, flags & 4 != 0, flags & 16 != 0);
-    if rst {
-        Class::Reset
-    } else if syn && ack {
-        Class::Answer
-    } else if syn {
-        Class::Open
-    } else if fin {
-        Class::Finish
-    } else {
-        Class::Other
-    }
-}
-
-const fn next_state(state: u8, class: Class, forward: bool) -> u8 {
-    match (state, class, forward) {
-        (SINGLE, _, false) => BOTH,
-        (SINGLE | BOTH, _, _) => state,
-        (CLOSED | RESET, Class::Open, _) => OPENING,
-        (CLOSED | RESET, _, _) => state,
-        (_, Class::Reset, _) => RESET,
-        (OPENING, Class::Answer, false) => ANSWERED,
-        (ANSWERED, Class::Other, true) | (LOOSE, Class::Other, false) => ESTABLISHED,
-        (OPENING | ANSWERED | ESTABLISHED | LOOSE, Class::Finish, true) => FINFWD,
-        (OPENING | ANSWERED | ESTABLISHED | LOOSE, Class::Finish, false) => FINREV,
-        (FINFWD, Class::Finish, false) | (FINREV, Class::Finish, true) => CLOSED,
-        _ => state,
-    }
-}
-
-/// `next_state` of each state, class and direction, at `state * 16 + class * 2 + forward`.
-static NEXT: [u8; 160] = {
-    let mut table = [0; 160];
-    let mut at = 0;
-    while at < 120 {
-        let (state, class, forward) = (at / 12, at / 2 % 6, at % 2);
-        table[state * 16 + class * 2 + forward] = next_state(state as u8, CLASSES[class], forward == 1);
-        at += 1;
-    }
-    table
-};
-
-static CLASS_OF: [Class; 32] = {
-    let mut table = [Class::Other; 32];
-    let mut flags = 0;
-    while flags < 32 {
-        table[flags] = class_of(flags as u8);
-        flags += 1;
-    }
-    table
-};
 
 /// A flow's protocol, local address and port, remote address and port, from the highest bits down, so that the
 /// order of these numbers is the order of the report.
 type Key = u128;
 
-#[derive(Clone, Copy)]
-struct Record {
+struct Entry {
     key: Key,
-    packets: u64,
-    bytes: u64,
-    /// The greatest time of a packet in nanoseconds, or 0.
-    seen: u64,
-    state: u8,
-    opener_out: bool,
-}
-
-/// A flow without packets for longer than this begins anew.
-const IDLE: u64 = 300_000_000_000;
-
-/// The state that a first packet leaves, and whether the opener's packets go out.
-#[inline(always)]
-fn first_state(class: Class, out: bool) -> (u8, bool) {
-    match class {
-        Class::Reset => (RESET, out),
-        Class::Open => (OPENING, out),
-        Class::Answer => (ANSWERED, !out),
-        Class::Finish => (FINFWD, out),
-        Class::Other => (LOOSE, out),
-        Class::Datagram => (SINGLE, out),
-    }
+    record: Record,
 }
 
 /// The flows' records in the order in which they came, and a hash table of their places: a number from 1 on, and the
 /// high half of the key's hash beside it. The table has a power of two of slots, at most half of them taken.
 struct Table {
-    records: Vec<Record>,
+    entries: Vec<Entry>,
     slots: Vec<(u32, u32)>,
     seeds: [u64; 3],
-}
-
-/// Both halves of a product.
-#[inline(always)]
-fn folded(a: u64, b: u64) -> u64 {
-    let product = a as u128 * b as u128;
-    (product >> 64) as u64 ^ product as u64
 }
 
 impl Table {
@@ -145,7 +43,7 @@ impl Table {
             hasher.write_u64(number);
             hasher.finish()
         });
-        Table { records: Vec::new(), slots: vec![(0, 0); 1 << 12], seeds }
+        Table { entries: Vec::new(), slots: vec![(0, 0); 1 << 12], seeds }
     }
 
     #[inline(always)]
@@ -161,7 +59,7 @@ impl Table {
         let mut slot = hash as usize & mask;
         loop {
             let (number, tag) = self.slots[slot];
-            if number == 0 || (tag == high && self.records[number as usize - 1].key == key) {
+            if number == 0 || (tag == high && self.entries[number as usize - 1].key == key) {
                 return slot;
             }
             slot = (slot + 1) & mask;
@@ -172,8 +70,8 @@ impl Table {
     fn grow(&mut self) {
         let mask = self.slots.len() * 2 - 1;
         let mut slots = vec![(0, 0); mask + 1];
-        for (number, record) in (1..).zip(&self.records) {
-            let hash = self.hash_of(record.key);
+        for (number, entry) in (1..).zip(&self.entries) {
+            let hash = self.hash_of(entry.key);
             let mut slot = hash as usize & mask;
             while slots[slot].0 != 0 {
                 slot = (slot + 1) & mask;
@@ -189,28 +87,16 @@ impl Table {
         let hash = self.hash_of(key);
         let slot = self.slot_of(key, hash);
         if self.slots[slot].0 == 0 {
-            let (state, opener_out) = first_state(class, out);
-            self.records.push(Record { key, packets: 1, bytes: length as u64, seen: nanos, state, opener_out });
-            self.slots[slot] = (self.records.len() as u32, (hash >> 32) as u32);
-            if self.records.len() * 2 > self.slots.len() {
+            let record = Record::first(class, out, length, nanos);
+            self.entries.push(Entry { key, record });
+            self.slots[slot] = (self.entries.len() as u32, (hash >> 32) as u32);
+            if self.entries.len() * 2 > self.slots.len() {
                 self.grow();
             }
-            return state;
+            return record.state;
         }
-        let record = &mut self.records[self.slots[slot].0 as usize - 1];
-        if record.seen != 0 && nanos.saturating_sub(record.seen) > IDLE {
-            (record.state, record.opener_out) = first_state(class, out);
-        } else {
-            let forward = out == record.opener_out;
-            if class == Class::Open && (record.state == CLOSED || record.state == RESET) {
-                record.opener_out = out;
-            }
-            record.state = NEXT[record.state as usize * 16 + class as usize * 2 + forward as usize];
-        }
-        record.seen = record.seen.max(nanos);
-        record.packets += 1;
-        record.bytes += length as u64;
-        record.state
+        let entry = &mut self.entries[self.slots[slot].0 as usize - 1];
+        entry.record.step(class, out, length, nanos)
     }
 }
 
@@ -529,13 +415,13 @@ fn print(run: &mut Run, name: &str, output: &mut Output) -> io::Result<()> {
         output.block(&count.block, count.len);
         output.block(&end, name.len() + 2);
     }
-    run.table.records.sort_unstable_by_key(|record| record.key);
-    for record in &run.table.records {
+    run.table.entries.sort_unstable_by_key(|entry| entry.key);
+    for Entry { key, record } in &run.table.entries {
         output.line()?;
-        output.text(if record.key >> 96 == 6 { b"state tcp " } else { b"state udp " });
-        output.endpoint((record.key >> 48) as u64 & 0xffff_ffff_ffff);
+        output.text(if key >> 96 == 6 { b"state tcp " } else { b"state udp " });
+        output.endpoint((key >> 48) as u64 & 0xffff_ffff_ffff);
         output.text(b" ");
-        output.endpoint(record.key as u64 & 0xffff_ffff_ffff);
+        output.endpoint(*key as u64 & 0xffff_ffff_ffff);
         output.text(b" ");
         output.text(name.as_bytes());
         output.text(b" ");
