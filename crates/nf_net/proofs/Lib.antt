@@ -1,3 +1,4 @@
+pub mod StartingLemmas
 pub mod FiltersApart
 pub mod Outline
 pub mod InstanceOutline
@@ -5,3 +6,4 @@ pub mod StateOutline
 pub mod MoveOutline
 pub mod SwitchOutline
 pub mod ControlOutline
+pub mod LinkOutline

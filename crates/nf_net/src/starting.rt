@@ -13,6 +13,7 @@ use std::alloc::Global;
 use switch_node::Switch;
 
 /// The world of a network in which nothing has happened yet, with this input.
+#[tactic(auto, using(crate::proofs::StartingLemmas::few_nodes))]
 pub fn start<F: Function>(
     alloc: Global,
     config: &Config,
