@@ -76,4 +76,3 @@ module _ {R : Type 0} (S : Sys R) (laws : IsSys S) (u : units.Unit) where
       let x = seat_shape S.F k.seat in
       let same : after S.F x.done ≡ fold S.F None (done_u S u w.done) = fold_runs S.F None x.done ∙ ap (λ v. fold S.F None v) (sym (same_done S z w.done ∙ k.holds.done)) in
       record { seeing = z; state = x; holds = k.holds; tables = λ i. (k.holds.insts i).live; kept = subst (λ o. Kept o x.a.live (lives x) (on_way x)) same (seat_kept S.F k.seat) }
-
