@@ -66,6 +66,13 @@ module _ {K V : Type 0} (eq : K → K → Bool) where
   skipped k true x es apart h = rw apart h
   skipped k false x es apart h = h
 
+  -- a key without an entry has none after some left
+  pub absent_filter : (p : K × V → Bool) (k : K) (es : List (K × V)) → lookup (eq k) es ≡ None → lookup (eq k) (filter p es) ≡ None
+  absent_filter p k [] h = refl
+  absent_filter p k (x ∷ es) h =
+      let a = none_passes_from_lookup (eq k) (x ∷ es) h in
+      skipped k (p x) x (filter p es) a.0 (absent_filter p k es (rw a.0 at h))
+
   -- an entry's key doesn't stand before it
   pub absent_before : IsEquivalence eq → (p : K × V → Bool) (es : List (K × V)) (i : ℕ) (e : K × V) → IsDistinct eq (keys_of es) → slice_get es i ≡ Some e → lookup (eq e.0) (filter p (take i es)) ≡ None
   absent_before laws p [] i e d h = absurd (true≢false (sym (ap is_some h)))

@@ -143,7 +143,11 @@ impl<K: Ord + Hash + Copy> Index<K> {
     }
 
     /// Adds an entry without a record, for a key that has no entry, and gives its place.
-    fn add<R: Drop>(&mut self, entries: &mut Vec<(K, Option<R>)>, key: K) -> Result<usize, NoMemory>
+    pub fn add<R: Drop>(
+        &mut self,
+        entries: &mut Vec<(K, Option<R>)>,
+        key: K,
+    ) -> Result<usize, NoMemory>
         requires room { WINDOW ≤ vec_len self.old.slots }
         requires sound { IsSound (key_rules K.eq K.cmp K.hash_input) self.old entries.old.items }
         requires absent { lookup (K.eq key) entries.old.items ≡ None }
@@ -172,6 +176,7 @@ impl<K: Ord + Hash + Copy> Index<K> {
         ensures room { OnOk result (WINDOW ≤ vec_len self.new.slots) }
         ensures sound { IsSound (key_rules K.eq K.cmp K.hash_input) self.new entries.new.items }
         ensures same { (k : K) → record_of K.eq entries.new.items k ≡ record_of K.eq entries.old.items k }
+        ensures absent { (k : K) → lookup (K.eq k) entries.old.items ≡ None → lookup (K.eq k) entries.new.items ≡ None }
         ensures err { OnErr result (entries.new.items ≡ entries.old.items) }
     {
         if self.slots.len() >= WINDOW && more <= self.room {

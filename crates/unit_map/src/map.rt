@@ -96,11 +96,11 @@ impl<K: Ord + Hash + Copy, R: Drop> UnitMap<K, R> {
         ensures same { (k : K) → record_of K.eq self.new k ≡ record_of K.eq self.old k }
         ensures map { IsMap K.eq self.new }
     {
-        if let Some(place) = self.index.find(&self.entries, &key) {
+        if let Some(place) = self.place_of(&key) {
             return Ok(place);
         }
         self.index.make_room(&mut self.entries, 1)?;
-        self.index.place_in(&mut self.entries, key)
+        self.index.add(&mut self.entries, key)
     }
 
     /// The places of some keys' entries, which are added without a record where keys have none. No key's record changes.
