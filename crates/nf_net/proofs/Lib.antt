@@ -1,11 +1,15 @@
 pub mod ControlOutline
+pub mod ControllerBegins
+pub mod ControllerScenes
 pub mod ControllerSteps
+pub mod ControllerTurns
 pub mod Copies
 pub mod FiltersApart
 pub mod InstanceOutline
 pub mod InstanceSteps
 pub mod Joined
 pub mod LinkOutline
+pub mod LogLemmas
 pub mod MoveOutline
 pub mod MoveSteps
 pub mod Outline

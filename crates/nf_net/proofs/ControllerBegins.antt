@@ -1,0 +1,1 @@
+-- The controller's step on a command.
