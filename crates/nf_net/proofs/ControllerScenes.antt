@@ -1,7 +1,8 @@
 -- What a row of the controller's table leads to: a world of the abstract network that takes the same message, and no more changes than
 -- that. The finish behind a row changes nothing of it.
 use Rattle.std.proofs.Common.{◌≡◌, ◌≢◌, ℕ, zero, suc, ◌≤◌, Bool, true, false, Option, Some, None, List, [], ◌∷◌, ◌++◌, refl, sym, ap, ◌∙◌, subst, append-nil, arith}
-use Rattle.std.specs.Prelude.{if◌then◌else◌, ◌&&◌, ◌==◌}
+use Rattle.std.specs.Prelude.{if◌then◌else◌, ◌&&◌, ◌||◌, ◌==◌}
+use Rattle.std.proofs.lemmas.Bool.Decides.{nat_tests}
 use Rattle.std.specs.FinMap as finite
 use Rattle.nf_function.specs.Semantics.{Semantics}
 use Rattle.event_store.specs.Store.{stored}
@@ -16,7 +17,7 @@ use Rattle.actor_net.specs.Network.{Stepped}
 use Rattle.actor_net.proofs.WeightLaws.{EachSent}
 use Rattle.unit_machine.proofs.Real.{sent_for}
 use Rattle.abstract_net.proofs.Net as net
-use Rattle.abstract_net.proofs.Net.{World, Open, find_op, behind, links_after, ctrl_step, ctrl_next}
+use Rattle.abstract_net.proofs.Net.{World, Open, C_step, find_op, behind, links_after, ctrl_step, ctrl_next}
 use Rattle.abstract_net.proofs.Waits.{nums, Rising, rising_less}
 use Rattle.abstract_net.proofs.Every.{Every, ctrl_every}
 use Rattle.nf_net.specs.Nodes.{as_node}
@@ -44,6 +45,10 @@ rising_behind b false l rest a ks at h = subst (λ xs. Rising b (nums xs ++ ks))
 sent-append : {M : Type 0} (P : ℕ → ℕ → M → Type 0) (s : ℕ) (xs ys : List (ℕ × M)) → EachSent P s xs → EachSent P s ys → EachSent P s (xs ++ ys)
 sent-append P s [] ys a b = b
 sent-append P s (x ∷ xs) ys a b = (a.0, sent-append P s xs ys a.1 b)
+
+or_false : (b : Bool) → b || false ≡ b
+or_false true = refl
+or_false false = refl
 
 -- no packet arrives in these notes, and none is processed
 pub record AreQuiet (notes : List Note) : Type 0 where
@@ -130,3 +135,51 @@ module _ {F R : Type 0} (f : Semantics R) (g : Given) where
       | true ↦ with_tail (record did.node { finish_sent = true }) ((0, msg.Finish) ∷ []) (controller_same f g did.node (record did.node { finish_sent = true }) l.ops l.next refl refl refl l.controller) refl ((refl, refl), tt)
       | false ↦ with_tail did.node [] l.controller refl tt
     ]
+
+  module _ (n : ℕ) (x : Scene F f g) (p : ℕ) (m : Msg) (are : AreShown f g n x) (is : IsTaken f g n x (record { node = 1; port = p; message = m })) where
+    not_input : (p == 0) && (1 == 0) ≡ false
+    not_input = elim (p == 0) as (λ b. b && false ≡ false) [ true ↦ refl | false ↦ refl ]
+
+    pub waits : (a : net.Msg R) → shown f g m ≡ Some a → x.world.link p 1 ≡ a ∷ is.rest
+    waits a seen = is.head not_input a seen
+
+    none_begun : (did : Step) → ((these : ℕ → Bool) → has_begun these did.notes ≡ false) → (u : units.Unit) → has_begun (bares f g u) x.log ≡ has_begun (bares f g u) (x.log ++ did.notes)
+    none_begun did none u = sym (has_begun-append (bares f g u) x.log did.notes ∙ ap (λ b. has_begun (bares f g u) x.log || b) (none (bares f g u)) ∙ or_false (has_begun (bares f g u) x.log))
+
+    -- a message that is shown is taken by the abstract controller
+    pub taken : (did : Step) (a : net.Msg R) (step : C_step R) → shown f g m ≡ Some a → ctrl_step x.world.ops p a ≡ step → IsController f g did.node step.ops x.world.next → outline_sends f (place g) did.sends ≡ step.sends → EachSent (Label f g) 1 did.sends → AreQuiet did.notes → ((these : ℕ → Bool) → has_begun these did.notes ≡ false) → RowLeads x p m did
+    taken did a step seen does controller sends labels quiet none = record {
+      ops = (ctrl_step x.world.ops p a).ops;
+      next = x.world.next;
+      link = links_after x.world.link p 1 (ctrl_step x.world.ops p a).sends;
+      links = λ i j. ap (λ xs. links_after x.world.link p 1 xs i j) (ap (λ s. s.sends) does ∙ sym sends) ∙ sym (ap (λ o. links_by f g o x.world.link p (outline_sends f (place g) did.sends) i j) seen);
+      labels = labels;
+      controller = subst (λ s. IsController f g did.node s.ops x.world.next) (sym does) controller;
+      quiet = quiet;
+      every = every_same (S f g) (is_sys f g.site g.packet) _ _ _ _ _ (λ u. refl) (none_begun did none) (ctrl_every (S f g) (is_sys f g.site g.packet) x.world _ _ are.every p a is.rest (waits a seen));
+      rising = rising_behind x.world.next ((0 == p) && (1 == 1)) (x.world.link 0 1) is.rest a (commands f g x.input) (λ e. let at : p ≡ 0 = grind (arith, nat_tests) in ap (λ k. x.world.link k 1) (sym at) ∙ waits a seen) are.rising;
+    }
+
+    unseen_links : (i j : ℕ) → x.world.link i j ++ (if i == 1 then [] else []) ≡ x.world.link i j
+    unseen_links i j = elim (i == 1) as (λ b. x.world.link i j ++ (if b then [] else []) ≡ x.world.link i j) [ true ↦ append-nil (x.world.link i j) | false ↦ append-nil (x.world.link i j) ]
+
+    -- a row that changes nothing that an operation looks at
+    pub stays : (did : Step) → did.node.names ≡ x.nodes.controller.names → did.node.operations ≡ x.nodes.controller.operations → did.node.store ≡ x.nodes.controller.store → outline_sends f (place g) did.sends ≡ [] → EachSent (Label f g) 1 did.sends → AreQuiet did.notes → ((these : ℕ → Bool) → has_begun these did.notes ≡ false) → ((a : net.Msg R) → shown f g m ≡ Some a → ctrl_step x.world.ops p a ≡ record { ops = x.world.ops; sends = [] }) → RowLeads x p m did
+    stays did names operations store sends labels quiet none idle = by_shown (shown f g m) refl
+      where
+        same : IsController f g did.node x.world.ops x.world.next
+        same = controller_same f g x.nodes.controller did.node x.world.ops x.world.next names operations store are.controller
+
+        by_shown : (o : Option (net.Msg R)) → shown f g m ≡ o → RowLeads x p m did
+        by_shown (Some a) seen = taken did a (record { ops = x.world.ops; sends = [] }) seen (idle a seen) same sends labels quiet none
+        by_shown None seen = record {
+          ops = x.world.ops;
+          next = x.world.next;
+          link = x.world.link;
+          links = λ i j. sym (unseen_links i j) ∙ ap (λ xs. x.world.link i j ++ (if i == 1 then sent_for j xs else [])) (sym sends) ∙ sym (ap (λ o. links_by f g o x.world.link p (outline_sends f (place g) did.sends) i j) seen);
+          labels = labels;
+          controller = same;
+          quiet = quiet;
+          every = every_same (S f g) (is_sys f g.site g.packet) x.world _ _ _ _ (λ u. refl) (none_begun did none) are.every;
+          rising = are.rising;
+        }
