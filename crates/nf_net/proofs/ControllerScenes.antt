@@ -42,7 +42,7 @@ pub rising_behind : {R : Type 0} (b : ℕ) (t : Bool) (l rest : List (net.Msg R)
 rising_behind b true l rest a ks at h = subst (λ xs. Rising b (nums xs ++ ks)) (sym (append-nil (behind true l)) ) (let here = at refl in rw here (rising_drop b a rest ks (subst (λ xs. Rising b (nums xs ++ ks)) here h)))
 rising_behind b false l rest a ks at h = subst (λ xs. Rising b (nums xs ++ ks)) (sym (append-nil l)) h
 
-sent-append : {M : Type 0} (P : ℕ → ℕ → M → Type 0) (s : ℕ) (xs ys : List (ℕ × M)) → EachSent P s xs → EachSent P s ys → EachSent P s (xs ++ ys)
+pub sent-append : {M : Type 0} (P : ℕ → ℕ → M → Type 0) (s : ℕ) (xs ys : List (ℕ × M)) → EachSent P s xs → EachSent P s ys → EachSent P s (xs ++ ys)
 sent-append P s [] ys a b = b
 sent-append P s (x ∷ xs) ys a b = (a.0, sent-append P s xs ys a.1 b)
 

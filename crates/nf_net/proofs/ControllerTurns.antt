@@ -11,10 +11,13 @@ use Rattle.event_store.specs.Store.{stored}
 use Rattle.nf_msgs.specs.declared.answer.Answer.{Answer}
 use Rattle.nf_msgs.specs.declared.msg.Msg.{Msg}
 use Rattle.nf_msgs.specs.declared.msg.Msg.TheVariants as msg
+use Rattle.nf_msgs.specs.declared.msg.Piece.{Piece}
 use Rattle.nf_msgs.specs.Nodes.{switch_node}
+use Rattle.move_op.specs.declared.door.Door.{Door}
+use Rattle.move_op.specs.declared.door.Door.TheVariants as door
 use Rattle.move_op.specs.declared.phase.Phase.{Phase}
 use Rattle.move_op.specs.declared.phase.Phase.TheVariants as phase
-use Rattle.move_op.specs.Move.{MoveState, Row, row, row_in, answer_of, destination}
+use Rattle.move_op.specs.Move.{MoveState, Row, row, row_in, answer_of, destination, chunks_of}
 use Rattle.ctrl_node.specs.declared.operation.Operation.{Operation}
 use Rattle.ctrl_node.specs.declared.operation.Operation.TheVariants.{Move}
 use Rattle.ctrl_node.specs.Operations.{Turn, turn_of, moved}
@@ -26,13 +29,17 @@ use Rattle.actor_net.proofs.WeightLaws.{EachSent}
 use Rattle.abstract_net.proofs.Net as net
 use Rattle.abstract_net.proofs.Net.{Open, C_step, find_op, close_op, set_op, write_op, num_of, found, ctrl_step, numbered}
 use Rattle.abstract_net.proofs.Ctrl.{each_found, each_set}
-use Rattle.nf_net.proofs.Outline.{number, entries, outline_sends}
+use Rattle.nf_net.proofs.Outline.{number, entries, outline_piece}
+use Rattle.nf_net.proofs.InstanceOutline.{filter_map-put}
+use Rattle.record_table.specs.Chunks.{spelled}
+use Rattle.nf_net.specs.Log.{has_begun}
+use Rattle.nf_net.proofs.Copies.{have, copies, one_copy, one_copy_back}
 use Rattle.nf_net.proofs.MoveOutline.{outline_plan, outline_phase, RowFollows}
 use Rattle.nf_net.proofs.ControlOutline.{Sees, SeesMove, Opens, TurnFollows, stored_after, got_insert, got_remove, turn_same}
 use Rattle.nf_net.proofs.MoveSteps.{RowKeeps, row_keeps, brought, kept_in}
-use Rattle.nf_net.proofs.UnitCounts.{times}
-use Rattle.nf_net.proofs.ControllerScenes.{AreQuiet, RowLeads, taken, stays}
-use Rattle.nf_net.proofs.Joined.{Given, Genuine, Label, Scene, AreShown, IsTaken, IsController, IsListed, IsMove, place, shown}
+use Rattle.nf_net.proofs.UnitCounts.{times, times-append, times_is_has, times_chunks}
+use Rattle.nf_net.proofs.ControllerScenes.{AreQuiet, RowLeads, sent-append, taken, stays}
+use Rattle.nf_net.proofs.Joined.{Given, Genuine, Label, Scene, AreShown, IsTaken, IsController, IsListed, IsMove, HasPieces, AreFree, AreGoodChunks, IsGoodPiece, place, shown}
 
 -- moves that are left when one is closed
 each_left : {R : Type 0} (P Q : Open R → Type 0) (k : ℕ) (es : List (Open R)) → ((e : Open R) → (e.op.num == k) ≡ false → P e → Q e) → Each P es → Each Q (close_op k es)
@@ -42,6 +49,9 @@ each_left P Q k (e ∷ es) keep h = elim (e.op.num == k) as (λ b. (e.op.num == 
 each_same : {X : Type 0} (P Q : X → Type 0) → ((x : X) → P x → Q x) → (xs : List X) → Each P xs → Each Q xs
 each_same P Q keep [] h = tt
 each_same P Q keep (x ∷ xs) h = (keep x h.0, each_same P Q keep xs h.1)
+
+some_same : {X : Type 0} {a b : X} → Some a ≡ Some b → a ≡ b
+some_same e = cc
 
 move_same : {a b : MoveState} → Some (Move a) ≡ Some (Move b) → a ≡ b
 move_same e = cc
@@ -122,3 +132,92 @@ module _ {R : Type 0} (f : Semantics R) (g : Given) where
     controller_after (phase.Returning why) rp fs e = rw e (open_is (real.R_returning why) fs)
     controller_after (phase.Undoing why) rp fs e = rw e (open_is (real.R_undoing why) fs)
     controller_after (phase.Over why) rp fs e = rw e (closed_is why)
+
+  good_chunks : (ps : List Piece) → Each (IsGoodPiece f g) ps → Each (λ p. AreGoodChunks f g p.chunks) ps
+  good_chunks ps h = each_same (IsGoodPiece f g) (λ p. AreGoodChunks f g p.chunks) (λ p k. k.good) ps h
+
+  free_chunks : (d : Door) (ps : List Piece) → AreFree f g d ps → Each (λ p. AreGoodChunks f g p.chunks) ps
+  free_chunks door.Shut ps h = good_chunks ps h
+  free_chunks (door.Asked last) ps h = good_chunks ps h
+  free_chunks door.Open ps h = good_chunks ps h
+  free_chunks (door.Refused why) ps h = h
+
+  -- how often a unit stands among the chunks that a move keeps
+  kept_count : (ph : Phase) → HasPieces f g ph → (u : units.Unit) → times u (entries f (kept_in ph)) ≡ copies u (outline_phase f (place g) ph)
+  kept_count (phase.Streaming fz fr came d) h u = ap (times u) (filter_map-put (spelled f) (chunks_of fz) (chunks_of fr)) ∙ times-append u (entries f (chunks_of fz)) (entries f (chunks_of fr)) ∙ ap (λ k. k + times u (entries f (chunks_of fr))) (times_chunks f g fz (good_chunks fz h.0) u) ∙ ap (λ k. have u (map (outline_piece f) fz) + k) (times_chunks f g fr (free_chunks d fr h.1) u)
+  kept_count phase.Freezing h u = refl
+  kept_count phase.Holding h u = refl
+  kept_count phase.Passing h u = refl
+  kept_count phase.Ending h u = refl
+  kept_count (phase.Restoring why) h u = refl
+  kept_count (phase.Returning why) h u = refl
+  kept_count (phase.Undoing why) h u = refl
+  kept_count (phase.Over why) h u = refl
+
+  turn_labels : (c : ControllerState) (n : ℕ) (t : Turn) (a : Option Answer) → EachSent (Label f g) 1 t.sends → EachSent (Label f g) 1 (after_turn c n t a).sends
+  turn_labels c n t None h = h
+  turn_labels c n t (Some why) h = sent-append (Label f g) 1 t.sends ((switch_node, msg.Answered n) ∷ []) h ((refl, refl), tt)
+
+turn_quiet : (c : ControllerState) (n : ℕ) (t : Turn) (a : Option Answer) → AreQuiet (after_turn c n t a).notes
+turn_quiet c n t None = record { arrived_is = refl; done_is = refl }
+turn_quiet c n t (Some why) = record { arrived_is = refl; done_is = refl }
+
+turn_begins : (c : ControllerState) (n : ℕ) (t : Turn) (a : Option Answer) (these : ℕ → Bool) → has_begun these (after_turn c n t a).notes ≡ false
+turn_begins c n t None these = refl
+turn_begins c n t (Some why) these = refl
+
+module _ {F R : Type 0} (f : Semantics R) (g : Given) (n : ℕ) (x : Scene F f g) (p : ℕ) (m : Msg) (are : AreShown f g n x) (is : IsTaken f g n x (record { node = 1; port = p; message = m })) where
+  abbrev c : ControllerState
+  c = x.nodes.controller
+
+  abbrev Its_row : ℕ → real.Msg R → MoveState → Type 0
+  Its_row op pm mv = RowFollows f (place g) mv.plan (stored c.store op) (row mv (stored c.store op) p m) (net.row_of (outline_plan mv.plan) (outline_phase f (place g) mv.phase) (map number (stored c.store op)) p pm)
+
+  -- an open move that the abstract network has
+  record Both (op : ℕ) (mv : MoveState) : Type 0 where
+    e : Open R
+    there : find_op x.world.ops op ≡ Some e
+    sees : SeesMove f (place g) e mv (stored c.store op)
+
+  both : (op : ℕ) (mv : MoveState) → finite.get c.operations op ≡ Some (Move mv) → Both op mv
+  both op mv has = by_open (find_op x.world.ops op) refl (subst (λ o. Sees f (place g) (find_op x.world.ops op) o (stored c.store op)) has (are.controller.opens op))
+    where
+      by_open : (o : Option (Open R)) → find_op x.world.ops op ≡ o → Sees f (place g) (find_op x.world.ops op) (Some (Move mv)) (stored c.store op) → Both op mv
+      by_open None e s = absurd (subst (λ o. Sees f (place g) o (Some (Move mv)) (stored c.store op)) e s)
+      by_open (Some e) there s = record { e = e; there = there; sees = subst (λ o. Sees f (place g) o (Some (Move mv)) (stored c.store op)) there s }
+
+  pub none_open : (op : ℕ) → finite.get c.operations op ≡ None → find_op x.world.ops op ≡ None
+  none_open op none = by_open (find_op x.world.ops op) refl (subst (λ o. Sees f (place g) (find_op x.world.ops op) o (stored c.store op)) none (are.controller.opens op))
+    where
+      by_open : (o : Option (Open R)) → find_op x.world.ops op ≡ o → Sees f (place g) (find_op x.world.ops op) None (stored c.store op) → find_op x.world.ops op ≡ None
+      by_open None e s = e
+      by_open (Some e) there s = absurd (subst (λ o. Sees f (place g) o None (stored c.store op)) there s)
+
+  -- of a number that has no open move nothing is done
+  idle : (op : ℕ) (pm : real.Msg R) → shown f g m ≡ Some (net.Mv net.everything pm) → num_of pm ≡ Some op → finite.get c.operations op ≡ None → RowLeads f g x p m (handed c op p m)
+  idle op pm seen num none = subst (λ o. RowLeads f g x p m (takes_turn c op (turn_of o c.store p m))) (sym none) (stays f g n x p m are is (takes_turn c op (turn_of None c.store p m)) refl refl refl refl tt (record { arrived_is = refl; done_is = refl }) (λ _. refl) (λ a e.
+      let same : net.Mv net.everything pm ≡ a = some_same (sym seen ∙ e) in
+      subst (λ b. ctrl_step x.world.ops p b ≡ record { ops = x.world.ops; sends = [] }) same (ap (numbered x.world.ops p pm) num ∙ ap (found x.world.ops op p pm) (none_open op none))))
+
+  -- an open move takes the message
+  opened : (op : ℕ) (pm : real.Msg R) (mv : MoveState) → shown f g m ≡ Some (net.Mv net.everything pm) → num_of pm ≡ Some op → finite.get c.operations op ≡ Some (Move mv) → Its_row op pm mv → RowKeeps f g op mv (stored c.store op) (row mv (stored c.store op) p m) → RowLeads f g x p m (handed c op p m)
+  opened op pm mv seen num has follows keeps =
+      let events = stored c.store op in
+      let real_row = row mv events p m in
+      let b = both op mv has in
+      let e = b.e in
+      let same = (are.controller.moves op mv has).op_is in
+      let in_store : row_in mv c.store p m ≡ real_row = ap (λ k. row mv (stored c.store k) p m) same in
+      let turn : turn_of (finite.get c.operations op) c.store p m ≡ moved mv c.store real_row = ap (λ o. turn_of o c.store p m) has ∙ ap (λ r. moved mv c.store r) in_store in
+      let ended : handed c op p m ≡ after_turn c op (moved mv c.store real_row) (answer_of real_row.next.phase) = ap (takes_turn c op) turn in
+      let seen_row : net.row e p pm ≡ net.row_of (outline_plan mv.plan) (outline_phase f (place g) mv.phase) (map number events) p pm = ap (λ y. net.row_of y e.phase e.store p pm) b.sees.op ∙ ap (λ y. net.row_of (outline_plan mv.plan) y e.store p pm) b.sees.phase ∙ ap (λ y. net.row_of (outline_plan mv.plan) (outline_phase f (place g) mv.phase) y p pm) b.sees.store in
+      let phases : (net.row e p pm).phase ≡ outline_phase f (place g) real_row.next.phase = ap (λ y. y.phase) seen_row ∙ sym follows.phase in
+      let turns : TurnFollows f (place g) c (after_turn c op (moved mv c.store real_row) (answer_of real_row.next.phase)) (found x.world.ops op p pm (Some e)) = subst (λ s. TurnFollows f (place g) c s (found x.world.ops op p pm (Some e))) ended (turn_same f (place g) c x.world.ops op p m pm e mv are.controller.opens b.there has b.sees same follows) in
+      let bound = each_found (λ y. y.op.num < x.world.next) op x.world.ops e are.every.global.ops b.there in
+      let below : op < x.world.next = subst (λ k. k < x.world.next) ((Decides-eqb e.op.num op).0 bound.1) bound.0 in
+      let after = controller_after f g c x.world.ops x.world.next op mv real_row are.controller has below keeps real_row.next.phase (net.row e p pm).phase (net.row e p pm).store phases turns.ops in
+      subst (RowLeads f g x p m) (sym ended) (taken f g n x p m are is (after_turn c op (moved mv c.store real_row) (answer_of real_row.next.phase)) (net.Mv net.everything pm) (found x.world.ops op p pm (Some e)) seen
+      (ap (numbered x.world.ops p pm) num ∙ ap (found x.world.ops op p pm) b.there) after turns.sends
+      (turn_labels f g c op (moved mv c.store real_row) (answer_of real_row.next.phase) keeps.labels)
+      (turn_quiet c op (moved mv c.store real_row) (answer_of real_row.next.phase))
+      (turn_begins c op (moved mv c.store real_row) (answer_of real_row.next.phase)))
