@@ -1,9 +1,9 @@
 -- The controller's step on a message of an open move, or of a number of which no move is open.
-use Rattle.std.proofs.Common.{◌≡◌, ◌≢◌, ℕ, suc, ◌+◌, ◌<◌, ◌≤◌, Bool, true, false, cond, Option, Some, None, List, [], ◌∷◌, ◌++◌, map, refl, sym, ap, ◌∙◌, subst, arith, eqb}
-use Rattle.std.specs.Prelude.{if◌then◌else◌, ◌&&◌, ◌==◌, unwrap_or}
+use Rattle.std.proofs.Common.{◌≡◌, ◌≢◌, ℕ, suc, ◌+◌, ◌<◌, ◌≤◌, Bool, true, false, cond, Option, Some, None, List, [], ◌∷◌, ◌++◌, map, length, refl, sym, ap, ◌∙◌, subst, arith, eqb}
+use Rattle.std.specs.Prelude.{if◌then◌else◌, ◌&&◌, ◌==◌, ◌-◌, nat_lt, nat_le, unwrap_or}
 use Rattle.std.specs.Ordering.{nat_cmp}
 use Rattle.std.specs.FinMap as finite
-use Rattle.std.proofs.lemmas.Bool.Decides.{nat_tests, Decides-eqb}
+use Rattle.std.proofs.lemmas.Bool.Decides.{nat_tests, Decides-eqb, Decides-ltb}
 use Rattle.nf_function.specs.Semantics.{Semantics}
 use Rattle.nf_function.specs.declared.unit.Unit as units
 use Rattle.packet_pool.specs.Pool.{FullCell}
@@ -12,16 +12,17 @@ use Rattle.nf_msgs.specs.declared.answer.Answer.{Answer}
 use Rattle.nf_msgs.specs.declared.msg.Msg.{Msg}
 use Rattle.nf_msgs.specs.declared.msg.Msg.TheVariants as msg
 use Rattle.nf_msgs.specs.declared.msg.Piece.{Piece}
+use Rattle.nf_msgs.specs.declared.msg.Refused.{Refused}
 use Rattle.nf_msgs.specs.Nodes.{switch_node}
 use Rattle.move_op.specs.declared.door.Door.{Door}
 use Rattle.move_op.specs.declared.door.Door.TheVariants as door
 use Rattle.move_op.specs.declared.phase.Phase.{Phase}
 use Rattle.move_op.specs.declared.phase.Phase.TheVariants as phase
-use Rattle.move_op.specs.Move.{MoveState, Row, row, row_in, answer_of, destination, chunks_of}
+use Rattle.move_op.specs.Move.{MoveState, Row, row, row_in, answer_of, source, destination, from_source, from_destination, keeps, goes, chunks_of}
 use Rattle.ctrl_node.specs.declared.operation.Operation.{Operation}
 use Rattle.ctrl_node.specs.declared.operation.Operation.TheVariants.{Move}
 use Rattle.ctrl_node.specs.Operations.{Turn, turn_of, moved}
-use Rattle.ctrl_node.specs.Controller.{ControllerState, Step, after_turn, takes_turn, handed}
+use Rattle.ctrl_node.specs.Controller.{ControllerState, Step, after_turn, takes_turn, handed, instance_at, on_event}
 use Rattle.unit_machine.proofs.Real as real
 use Rattle.unit_machine.proofs.Real.{RPhase}
 use Rattle.unit_machine.proofs.Labels.{Each}
@@ -29,17 +30,17 @@ use Rattle.actor_net.proofs.WeightLaws.{EachSent}
 use Rattle.abstract_net.proofs.Net as net
 use Rattle.abstract_net.proofs.Net.{Open, C_step, find_op, close_op, set_op, write_op, num_of, found, ctrl_step, numbered}
 use Rattle.abstract_net.proofs.Ctrl.{each_found, each_set}
-use Rattle.nf_net.proofs.Outline.{number, entries, outline_piece}
+use Rattle.nf_net.proofs.Outline.{number, entries, outline_piece, is_sys}
 use Rattle.nf_net.proofs.InstanceOutline.{filter_map-put}
 use Rattle.record_table.specs.Chunks.{spelled}
 use Rattle.nf_net.specs.Log.{has_begun}
-use Rattle.nf_net.proofs.Copies.{have, copies, one_copy, one_copy_back}
-use Rattle.nf_net.proofs.MoveOutline.{outline_plan, outline_phase, RowFollows}
+use Rattle.nf_net.proofs.Copies.{has, have, copies, one_copy, one_copy_back, event_open}
+use Rattle.nf_net.proofs.MoveOutline.{outline_plan, outline_phase, RowFollows, put_no_row, event_row}
 use Rattle.nf_net.proofs.ControlOutline.{Sees, SeesMove, Opens, TurnFollows, stored_after, got_insert, got_remove, turn_same}
 use Rattle.nf_net.proofs.MoveSteps.{RowKeeps, row_keeps, brought, kept_in}
 use Rattle.nf_net.proofs.UnitCounts.{times, times-append, times_is_has, times_chunks}
-use Rattle.nf_net.proofs.ControllerScenes.{AreQuiet, RowLeads, sent-append, taken, stays}
-use Rattle.nf_net.proofs.Joined.{Given, Genuine, Label, Scene, AreShown, IsTaken, IsController, IsListed, IsMove, HasPieces, AreFree, AreGoodChunks, IsGoodPiece, place, shown}
+use Rattle.nf_net.proofs.ControllerScenes.{AreQuiet, RowLeads, sent-append, waits, taken, stays}
+use Rattle.nf_net.proofs.Joined.{Given, Genuine, Label, Scene, AreShown, IsTaken, IsController, IsListed, IsMove, HasPieces, AreFree, AreGoodChunks, IsGoodPiece, S, count, place, shown}
 
 -- moves that are left when one is closed
 each_left : {R : Type 0} (P Q : Open R → Type 0) (k : ℕ) (es : List (Open R)) → ((e : Open R) → (e.op.num == k) ≡ false → P e → Q e) → Each P es → Each Q (close_op k es)
@@ -221,3 +222,92 @@ module _ {F R : Type 0} (f : Semantics R) (g : Given) (n : ℕ) (x : Scene F f g
       (turn_labels f g c op (moved mv c.store real_row) (answer_of real_row.next.phase) keeps.labels)
       (turn_quiet c op (moved mv c.store real_row) (answer_of real_row.next.phase))
       (turn_begins c op (moved mv c.store real_row) (answer_of real_row.next.phase)))
+
+  -- a unit stands at most once among what a move keeps
+  kept_once : (op : ℕ) (mv : MoveState) → finite.get c.operations op ≡ Some (Move mv) → (u : units.Unit) → times u (entries f (kept_in mv.phase)) ≤ 1
+  kept_once op mv has u =
+      let b = both op mv has in
+      let one : copies u b.e.phase ≤ 1 = one_copy (S f g) (is_sys f g.site g.packet) x.world _ _ are.every op b.e b.there u in
+      let counted : times u (entries f (kept_in mv.phase)) ≡ copies u b.e.phase = kept_count f g mv.phase (are.controller.moves op mv has).pieces u ∙ ap (copies u) (sym b.sees.phase) in
+      omega (arith, one, counted)
+
+  abbrev Once : MoveState → Msg → Type 0
+  Once mv message = (u : units.Unit) → times u (entries f (brought message)) + times u (entries f (kept_in mv.phase)) ≤ 1
+
+  nothing_brought : (op : ℕ) (mv : MoveState) (message : Msg) → finite.get c.operations op ≡ Some (Move mv) → brought message ≡ [] → Once mv message
+  nothing_brought op mv message has none u = let kept = kept_once op mv has u in rw none (omega (arith, kept))
+
+  keeps_row : (op : ℕ) (mv : MoveState) (message : Msg) → finite.get c.operations op ≡ Some (Move mv) → Label f g p 1 message → Once mv message → RowKeeps f g op mv (stored c.store op) (row mv (stored c.store op) p message)
+  keeps_row op mv message has label once = row_keeps f g op mv (stored c.store op) p message (are.controller.moves op mv has) (are.controller.genuine op) label once
+
+  by_operation : (op : ℕ) → (finite.get c.operations op ≡ None → RowLeads f g x p m (handed c op p m)) → ((mv : MoveState) → finite.get c.operations op ≡ Some (Move mv) → RowLeads f g x p m (handed c op p m)) → RowLeads f g x p m (handed c op p m)
+  by_operation op at_none at_move = cases (finite.get c.operations op) refl
+    where
+      cases : (o : Option Operation) → finite.get c.operations op ≡ o → RowLeads f g x p m (handed c op p m)
+      cases None e = at_none e
+      cases (Some (Move mv)) e = at_move mv e
+
+  -- A message that brings no chunks back.
+  pub numbered_leads : (op : ℕ) (pm : real.Msg R) → shown f g m ≡ Some (net.Mv net.everything pm) → num_of pm ≡ Some op → brought m ≡ [] → ((mv : MoveState) → IsMove f g op mv → Its_row op pm mv) → RowLeads f g x p m (handed c op p m)
+  numbered_leads op pm seen num none rows = by_operation op (idle op pm seen num) (λ mv has. opened op pm mv seen num has (rows mv (are.controller.moves op mv has)) (keeps_row op mv m has is.label (nothing_brought op mv m has none)))
+
+-- What was refused comes back: from the destination, or else it isn't looked at.
+module _ {F R : Type 0} (f : Semantics R) (g : Given) (n : ℕ) (x : Scene F f g) (p op : ℕ) (refused : Refused) (are : AreShown f g n x) (is : IsTaken f g n x (record { node = 1; port = p; message = msg.PutNo op refused })) where
+  abbrev its_store : List FullCell
+  its_store = stored x.nodes.controller.store op
+
+  back_once : (mv : MoveState) → finite.get x.nodes.controller.operations op ≡ Some (Move mv) → (p == destination mv.plan) ≡ true → (u : units.Unit) → times u (entries f refused.chunks) + times u (entries f (kept_in mv.phase)) ≤ 1
+  back_once mv got at u =
+      let b = both f g n x p (msg.PutNo op refused) are is op mv got in
+      let same : b.e.op.dst ≡ p = ap (λ o. o.dst) b.sees.op ∙ sym ((Decides-eqb p (destination mv.plan)).0 at) in
+      let comes : x.world.link b.e.op.dst 1 ≡ net.Mv net.everything (real.M_put_no op refused.why (entries f refused.chunks)) ∷ is.rest = ap (λ k. x.world.link k 1) same ∙ waits f g n x p (msg.PutNo op refused) are is (net.Mv net.everything (real.M_put_no op refused.why (entries f refused.chunks))) refl in
+      let one : has u (entries f refused.chunks) + copies u b.e.phase ≤ 1 = one_copy_back (S f g) (is_sys f g.site g.packet) x.world _ _ are.every op b.e b.there net.everything refused.why (entries f refused.chunks) is.rest comes u in
+      let brought_is : times u (entries f refused.chunks) ≡ has u (entries f refused.chunks) = times_is_has (entries f refused.chunks) is.label.1.distinct u in
+      let counted : times u (entries f (kept_in mv.phase)) ≡ copies u b.e.phase = kept_count f g mv.phase (are.controller.moves op mv got).pieces u ∙ ap (copies u) (sym b.sees.phase) in
+      omega (arith, one, counted, brought_is)
+
+  -- elsewhere it does what a message does that isn't looked at
+  as_put_ok : (mv : MoveState) → (p == destination mv.plan) ≡ false → row mv its_store p (msg.PutOk op) ≡ row mv its_store p (msg.PutNo op refused)
+  as_put_ok mv off = elim (p == source mv.plan) as (λ a. (if a then from_source mv.plan mv.phase its_store (msg.PutOk op) else if p == destination mv.plan then from_destination mv.plan mv.phase its_store (msg.PutOk op) else keeps (goes mv.phase [])) ≡ (if a then from_source mv.plan mv.phase its_store (msg.PutNo op refused) else if p == destination mv.plan then from_destination mv.plan mv.phase its_store (msg.PutNo op refused) else keeps (goes mv.phase []))) [
+    | true ↦ refl
+    | false ↦ rw off refl
+  ]
+
+  back_keeps : (mv : MoveState) → finite.get x.nodes.controller.operations op ≡ Some (Move mv) → RowKeeps f g op mv its_store (row mv its_store p (msg.PutNo op refused))
+  back_keeps mv got = elim (p == destination mv.plan) as (λ b. (p == destination mv.plan) ≡ b → RowKeeps f g op mv its_store (row mv its_store p (msg.PutNo op refused))) [
+    | true ↦ λ at. keeps_row f g n x p (msg.PutNo op refused) are is op mv (msg.PutNo op refused) got is.label (back_once mv got at)
+    | false ↦ λ off. subst (RowKeeps f g op mv its_store) (as_put_ok mv off) (keeps_row f g n x p (msg.PutNo op refused) are is op mv (msg.PutOk op) got is.label.0 (nothing_brought f g n x p (msg.PutNo op refused) are is op mv (msg.PutOk op) got refl))
+  ] refl
+
+  pub put_no_leads : RowLeads f g x p (msg.PutNo op refused) (handed x.nodes.controller op p (msg.PutNo op refused))
+  put_no_leads =
+      let pm = real.M_put_no op refused.why (entries f refused.chunks) in
+      by_operation f g n x p (msg.PutNo op refused) are is op (idle f g n x p (msg.PutNo op refused) are is op pm refl refl) (λ mv got. opened f g n x p (msg.PutNo op refused) are is op pm mv refl refl got (put_no_row f (place g) mv.plan mv.phase its_store p op refused) (back_keeps mv got))
+
+-- An event: its move is open.
+module _ {F R : Type 0} (f : Semantics R) (g : Given) (n : ℕ) (x : Scene F f g) (p op : ℕ) (cell : FullCell) (are : AreShown f g n x) (is : IsTaken f g n x (record { node = 1; port = p; message = msg.Event op cell })) where
+  abbrev event : Msg
+  event = msg.Event op cell
+
+  abbrev seen_event : real.Msg R
+  seen_event = real.M_event op (number cell)
+
+  its_port : instance_at x.nodes.controller p ≡ Some (p - 2)
+  its_port =
+      let two = is.label.0.0 in
+      let count_is = is.count_is in
+      let sender = is.sender in
+      let named : length x.nodes.controller.names ≡ count f g = ap length are.controller.names in
+      let low : nat_le 2 p ≡ true = grind (arith, nat_tests, two) in
+      let high : nat_lt (p - 2) (length x.nodes.controller.names) ≡ true = (Decides-ltb (p - 2) (length x.nodes.controller.names)).1 (omega (arith, named, two, count_is, sender)) in
+      rw (low, high) refl
+
+  never : finite.get x.nodes.controller.operations op ≡ None → ⊥
+  never none = event_open (S f g) (is_sys f g.site g.packet) x.world _ _ are.every p op (number cell) net.everything is.rest (waits f g n x p event are is (net.Mv net.everything seen_event) refl) (none_open f g n x p event are is op none)
+
+  pub event_leads : RowLeads f g x p event (on_event x.nodes.controller p op cell (instance_at x.nodes.controller p))
+  event_leads = rw its_port (cases (finite.get x.nodes.controller.operations op) refl)
+    where
+      cases : (o : Option Operation) → finite.get x.nodes.controller.operations op ≡ o → RowLeads f g x p event (on_event x.nodes.controller p op cell (Some (p - 2)))
+      cases None e = absurd (never e)
+      cases (Some (Move mv)) e = rw e (subst (λ o. RowLeads f g x p event (takes_turn x.nodes.controller op (turn_of o x.nodes.controller.store p event))) e (numbered_leads f g n x p event are is op seen_event refl refl refl (λ y h. event_row f (place g) y.plan y.phase (stored x.nodes.controller.store op) p op cell)))
