@@ -39,9 +39,9 @@ use Rattle.nf_net.proofs.FiltersApart.{and_l, and_r, is_whole, takes_whole}
 use Rattle.nf_net.proofs.Outline.{number, want_at, want_of, outline_sends, is_sys}
 use Rattle.nf_net.proofs.LogLemmas.{has_begun-append, every_same}
 use Rattle.nf_net.proofs.ControlOutline.{Sees, SeesMove, Opens, got_insert}
-use Rattle.nf_net.proofs.ControllerScenes.{AreQuiet, RowLeads, waits, stays}
+use Rattle.nf_net.proofs.ControllerScenes.{AreQuiet, RowLeads, links_by, waits, stays}
 use Rattle.nf_net.proofs.ControllerTurns.{none_open}
-use Rattle.nf_net.proofs.Joined.{Given, Genuine, Label, Scene, AreShown, IsTaken, IsCommand, IsController, IsListed, IsMove, S, count, place, shown, is_move, is_of, bares, commands}
+use Rattle.nf_net.proofs.Joined.{Given, Genuine, Label, Scene, AreShown, IsTaken, IsCommand, IsController, IsListed, IsMove, S, count, place, shown, is_move, is_of, bares, bares_in, commands}
 
 -- a name has one place, and two names have two
 place_below : (names : List (List ℕ)) (name : List ℕ) (i : ℕ) → place_of names name ≡ Some i → nat_lt i (length names) ≡ true
@@ -159,3 +159,127 @@ module _ {R : Type 0} (f : Semantics R) (g : Given) where
       nothing = λ k least. is.nothing k (omega (arith, fresh, least));
       genuine = is.genuine;
     }
+
+-- The step on a command.
+module _ {F R : Type 0} (f : Semantics R) (g : Given) (n : ℕ) (x : Scene F f g) (p : ℕ) (cmd : Command) (are : AreShown f g n x) (is : IsTaken f g n x (record { node = 1; port = p; message = msg.Asked cmd })) where
+  abbrev c : ControllerState
+  c = x.nodes.controller
+
+  abbrev Leads_to : Step → Type 0
+  Leads_to did = RowLeads f g x p (msg.Asked cmd) did
+
+  -- what the abstract controller does with it
+  asked_idle : (o : Option Want) (a : net.Msg R) → option_map net.Asked o ≡ Some a → ctrl_step x.world.ops p a ≡ record { ops = x.world.ops; sends = [] }
+  asked_idle None a e = cc
+  asked_idle (Some w) a e = let same : net.Asked w ≡ a = cc in subst (λ b. ctrl_step x.world.ops p b ≡ record { ops = x.world.ops; sends = [] }) same refl
+
+  stays_still : Leads_to (still c)
+  stays_still = stays f g n x p (msg.Asked cmd) are is (still c) refl refl refl refl tt (record { arrived_is = refl; done_is = refl }) (λ _. refl) (asked_idle (want_of (place g) cmd.op cmd.what))
+
+  answered : (why : Answer) → Leads_to (answers c cmd.op why)
+  answered why = stays f g n x p (msg.Asked cmd) are is (answers c cmd.op why) refl refl refl refl ((refl, refl), tt) (record { arrived_is = refl; done_is = refl }) (λ _. refl) (asked_idle (want_of (place g) cmd.op cmd.what))
+
+  -- a move begins
+  module _ (src dst : List ℕ) (filter : Filter) (keep : Bool) (from to : ℕ) (what : cmd.what ≡ order.Move src dst filter keep) (none : finite.get c.operations cmd.op ≡ None) (apart : lowest_meeting c.operations filter ≡ None) (from_is : place_of c.names src ≡ Some from) (to_is : place_of c.names dst ≡ Some to) where
+    abbrev plan : MovePlan
+    plan = record { op = cmd.op; from = from; to = to; filter = filter; keep = keep }
+
+    abbrev its : Want
+    its = record { num = cmd.op; src = instance_node from; dst = instance_node to; keep = keep; filter = filter }
+
+    from_at : place g src ≡ Some from
+    from_at = ap (λ names. place_of names src) (sym are.controller.names) ∙ from_is
+
+    to_at : place g dst ≡ Some to
+    to_at = ap (λ names. place_of names dst) (sym are.controller.names) ∙ to_is
+
+    is_moved : is_whole f.kind filter && not (bytes_eq src dst) ≡ true
+    is_moved = ap (is_move f g) (sym what) ∙ is.label.2.moves
+
+    differ : from ≢ to
+    differ = places_apart g.names src dst from to from_at to_at (and_r (is_whole f.kind filter) _ is_moved)
+
+    seen : shown f g (msg.Asked cmd) ≡ Some (net.Asked its)
+    seen = ap (λ o. option_map net.Asked (want_of (place g) cmd.op o)) what ∙ ap (λ o. option_map net.Asked (want_at cmd.op filter keep o (place g dst))) from_at ∙ ap (λ o. option_map net.Asked (want_at cmd.op filter keep (Some from) o)) to_at
+
+    comes : x.world.link 0 1 ≡ net.Asked its ∷ is.rest
+    comes = ap (λ k. x.world.link k 1) (sym is.label.0) ∙ waits f g n x p (msg.Asked cmd) are is (net.Asked its) seen
+
+    rises : Rising x.world.next (cmd.op ∷ (nums is.rest ++ commands f g x.input))
+    rises = subst (λ l. Rising x.world.next (nums l ++ commands f g x.input)) comes are.rising
+
+    move : IsMove f g cmd.op (begun plan)
+    move = record {
+      op_is = refl;
+      from = place_below g.names src from from_at;
+      to = place_below g.names dst to to_at;
+      other = differ;
+      whole = and_l (is_whole f.kind filter) _ is_moved;
+      refusing = tt;
+      pieces = tt;
+    }
+
+    -- first the command is taken, and then the move begins
+    abbrev asked : World (S f g)
+    asked = ctrl_next (S f g) x.world p (net.Asked its)
+
+    abbrev after : World (S f g)
+    after = begin_next (S f g) asked its
+
+    may : May (S f g) asked its
+    may = record { fresh = rises.0; src = omega arith; dst = omega arith; other = λ e. differ (omega (arith, e)); apart = any_meets f g c filter x.world.ops are.controller.listed apart }
+
+    link_same : (b : Bool) (xs ys : List (net.Msg R)) → (xs ++ (if b then [] else [])) ++ ys ≡ xs ++ ys
+    link_same true xs ys = ap (λ zs. zs ++ ys) (append-nil xs)
+    link_same false xs ys = ap (λ zs. zs ++ ys) (append-nil xs)
+
+    bared_same : (u : units.Unit) → has_begun (bares f g u) x.log || (not keep && takes_whole f.kind filter u) ≡ has_begun (bares f g u) (x.log ++ note.Begun cmd.op ∷ [])
+    bared_same u = sym (has_begun-append (bares f g u) x.log (note.Begun cmd.op ∷ []) ∙ ap (λ b. has_begun (bares f g u) x.log || b) (or_nothing (bares f g u cmd.op) ∙ ap (bares_in f g u) (is.label.2.known ∙ ap Some what)))
+      where
+        or_nothing : (b : Bool) → b || false ≡ b
+        or_nothing true = refl
+        or_nothing false = refl
+
+    pub move_begins : Leads_to (begins_move c plan)
+    move_begins = record {
+      ops = after.ops;
+      next = after.next;
+      link = after.link;
+      links = λ i j. link_same (i == 1) (behind ((i == p) && (j == 1)) (x.world.link i j)) (if i == 1 then sent_for j (begin_sends cmd.op its) else []) ∙ sym (ap (λ o. links_by f g o x.world.link p (outline_sends f (place g) (begins_move c plan).sends) i j) seen);
+      labels = (((refl, omega arith), move.whole, refl), tt);
+      controller = controller_begun f g c x.world.ops x.world.next plan are.controller rises.0 none move (none_open f g n x p (msg.Asked cmd) are is cmd.op none);
+      quiet = record { arrived_is = refl; done_is = refl };
+      every = every_same (S f g) (is_sys f g.site g.packet) after _ _ _ _ (λ u. refl) bared_same (begin_every (S f g) (is_sys f g.site g.packet) asked _ _ (ctrl_every (S f g) (is_sys f g.site g.packet) x.world _ _ are.every p (net.Asked its) is.rest (waits f g n x p (msg.Asked cmd) are is (net.Asked its) seen)) its may);
+      rising = subst (λ l. Rising (suc cmd.op) (nums l ++ commands f g x.input)) (sym left) rises.1;
+    }
+      where
+        left : after.link 0 1 ≡ is.rest
+        left =
+            let port : p ≡ 0 = is.label.0 in
+            let on : (0 == p) && (1 == 1) ≡ true = grind (arith, nat_tests, port) in
+            append-nil (links_after x.world.link p 1 [] 0 1) ∙ append-nil (behind ((0 == p) && (1 == 1)) (x.world.link 0 1)) ∙ ap (λ b. behind b (x.world.link 0 1)) on ∙ ap (behind true) comes
+
+  -- a command that isn't refused
+  begins_row : (what : Order) → cmd.what ≡ what → finite.get c.operations cmd.op ≡ None → refusal c what ≡ None → Leads_to (begins c cmd.op what)
+  begins_row (order.Copy src dst filter) e none fine = stays_still
+  begins_row (order.Share members filter) e none fine = stays_still
+  begins_row (order.Move src dst filter keep) e none fine = by_places (place_of c.names src) (place_of c.names dst) refl refl
+    where
+      by_places : (a b : Option ℕ) → place_of c.names src ≡ a → place_of c.names dst ≡ b → Leads_to (begins_between c cmd.op filter keep a b)
+      by_places (Some from) (Some to) from_is to_is = move_begins src dst filter keep from to e none (no_overlap c (order.Move src dst filter keep) fine) from_is to_is
+      by_places (Some from) None from_is to_is = stays_still
+      by_places None b from_is to_is = stays_still
+
+  pub asked_leads : Leads_to (if p == switch_node then on_asked c cmd else still c)
+  asked_leads = elim (p == switch_node) as (λ b. Leads_to (if b then on_asked c cmd else still c)) [
+    | true ↦ by_open (finite.get c.operations cmd.op) refl
+    | false ↦ stays_still
+  ]
+    where
+      by_refusal : (o : Option Answer) → refusal c cmd.what ≡ o → finite.get c.operations cmd.op ≡ None → Leads_to (decided c cmd.op cmd.what o)
+      by_refusal (Some why) e none = answered why
+      by_refusal None e none = begins_row cmd.what refl none e
+
+      by_open : (o : Option Operation) → finite.get c.operations cmd.op ≡ o → Leads_to (if is_some o then still c else decided c cmd.op cmd.what (refusal c cmd.what))
+      by_open (Some operation) e = stays_still
+      by_open None e = by_refusal (refusal c cmd.what) refl e
