@@ -47,7 +47,7 @@ each_left : {R : Type 0} (P Q : Open R → Type 0) (k : ℕ) (es : List (Open R)
 each_left P Q k [] keep h = tt
 each_left P Q k (e ∷ es) keep h = elim (e.op.num == k) as (λ b. (e.op.num == k) ≡ b → Each Q (if b then close_op k es else e ∷ close_op k es)) [ true ↦ λ _. each_left P Q k es keep h.1 | false ↦ λ off. (keep e off h.0, each_left P Q k es keep h.1) ] refl
 
-each_same : {X : Type 0} (P Q : X → Type 0) → ((x : X) → P x → Q x) → (xs : List X) → Each P xs → Each Q xs
+pub each_same : {X : Type 0} (P Q : X → Type 0) → ((x : X) → P x → Q x) → (xs : List X) → Each P xs → Each Q xs
 each_same P Q keep [] h = tt
 each_same P Q keep (x ∷ xs) h = (keep x h.0, each_same P Q keep xs h.1)
 
