@@ -5,6 +5,7 @@ pub mod FiltersApart
 pub mod InstanceOutline
 pub mod InstanceSteps
 pub mod Joined
+pub mod JoinedSteps
 pub mod LinkOutline
 pub mod MoveOutline
 pub mod MoveSteps
