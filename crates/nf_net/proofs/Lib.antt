@@ -2,6 +2,7 @@ pub mod ControlOutline
 pub mod ControllerSteps
 pub mod Copies
 pub mod FiltersApart
+pub mod InputLemmas
 pub mod InstanceOutline
 pub mod InstanceSteps
 pub mod Joined
@@ -10,6 +11,7 @@ pub mod LinkOutline
 pub mod MoveOutline
 pub mod MoveSteps
 pub mod Outline
+pub mod StartJoined
 pub mod StartingLemmas
 pub mod StateOutline
 pub mod SwitchOutline

@@ -99,7 +99,7 @@ module _ {R : Type 0} (f : Semantics R) (laws : FunctionLaws f) where
       ∙ ap (λ k. marks k (newest_version (map chunk_of es)) (chop k es)) (length-map es chunk_of)
       ∙ ap (λ k. marks (length es) k (chop (length es) es)) (newest_made es)
 
-all_each : {X : Type 0} (P : X → Type 0) (xs : List X) → All P xs → Each P xs
+pub all_each : {X : Type 0} (P : X → Type 0) (xs : List X) → All P xs → Each P xs
 all_each P [] h = tt
 all_each P (x ∷ xs) h = (All-head P x xs h, all_each P xs (All-tail P x xs h))
 

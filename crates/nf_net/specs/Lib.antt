@@ -1,3 +1,4 @@
+pub mod Input
 pub mod Log
 pub mod Nodes
 pub mod Start
