@@ -1,5 +1,5 @@
 -- Each row of a move's table leaves a move that is open in a run such a one, and what it sends and stores is such as comes in a run.
-use Rattle.std.proofs.Common.{◌≡◌, ℕ, ◌+◌, ◌≤◌, Bool, true, false, List, [], ◌∷◌, ◌++◌, map, length, refl, sym, ap, ◌∙◌, subst, arith}
+use Rattle.std.proofs.Common.{◌≡◌, ℕ, ◌+◌, ◌≤◌, Bool, true, false, List, [], ◌∷◌, ◌++◌, map, length, refl, ap, ◌∙◌, arith}
 use Rattle.std.specs.Prelude.{if◌then◌else◌, ◌&&◌, ◌||◌, ◌==◌, nat_lt, unwrap_or}
 use Rattle.nf_function.specs.declared.chunk.Chunk.{Chunk}
 use Rattle.nf_function.specs.declared.unit.Unit as units
@@ -9,7 +9,6 @@ use Rattle.packet_pool.specs.Pool.{FullCell}
 use Rattle.switch_rules.specs.declared.target.Target.TheVariants as target
 use Rattle.nf_msgs.specs.declared.answer.Answer.{Answer}
 use Rattle.nf_msgs.specs.declared.msg.Piece.{Piece}
-use Rattle.nf_msgs.specs.declared.msg.Refused.{Refused}
 use Rattle.nf_msgs.specs.declared.msg.Msg.{Msg}
 use Rattle.nf_msgs.specs.declared.msg.Msg.TheVariants as msg
 use Rattle.nf_msgs.specs.Exports.{units_in}
@@ -17,7 +16,7 @@ use Rattle.move_op.specs.declared.door.Door.{Door}
 use Rattle.move_op.specs.declared.door.Door.TheVariants as door
 use Rattle.move_op.specs.declared.phase.Phase.{Phase}
 use Rattle.move_op.specs.declared.phase.Phase.TheVariants as phase
-use Rattle.move_op.specs.Move.{MovePlan, MoveState, Next, Row, keeps, goes, chunks_of, have_units, put_back, source, destination, put_to, forward_to, asked, pushed, released, returned, all_put, on_event, on_source_enabled, on_piece, on_deleted, on_restored, on_source_fenced, on_put_ok, on_put_no, on_destination_enabled, on_destination_fenced, from_source, from_destination, row}
+use Rattle.move_op.specs.Move.{MovePlan, MoveState, Next, Row, keeps, goes, chunks_of, have_units, put_back, source, destination, put_to, forward_to, pushed, released, returned, all_put, on_event, on_source_enabled, on_piece, on_deleted, on_restored, on_source_fenced, on_put_ok, on_put_no, on_destination_enabled, on_destination_fenced, from_source, from_destination, row}
 use Rattle.actor_net.proofs.WeightLaws.{EachSent}
 use Rattle.unit_machine.proofs.Labels.{Each, each-append}
 use Rattle.nf_net.proofs.FiltersApart.{is_whole}
@@ -70,7 +69,7 @@ module _ {R : Type 0} (f : Semantics R) (g : Given) where
   times_both : (u : units.Unit) (xs ys : List Chunk) → times u (entries f (xs ++ ys)) ≡ times u (entries f xs) + times u (entries f ys)
   times_both u xs ys = ap (times u) (filter_map-put (spelled f) xs ys) ∙ times-append u (entries f xs) (entries f ys)
 
-  -- a piece that goes from the first list to the end of the second
+  -- the same of a piece at the end
   times_end : (u : units.Unit) (ps : List Piece) (p : Piece) → times u (entries f (chunks_of (ps ++ p ∷ []))) ≡ times u (entries f (chunks_of ps)) + times u (entries f p.chunks)
   times_end u [] p = let both = times_both u p.chunks [] in omega (arith, both)
   times_end u (q ∷ ps) p =
@@ -79,7 +78,7 @@ module _ {R : Type 0} (f : Semantics R) (g : Given) where
       let second = times_both u q.chunks (chunks_of ps) in
       omega (arith, rest, first, second)
 
-  -- what a refusal is, the door tells
+  -- whether a refusal is one, the door alone tells
   same_door : (a b c d : List Piece) (came since : Bool) (at : Door) → IsRefusing (phase.Streaming a c came at) → IsRefusing (phase.Streaming b d since at)
   same_door a b c d came since (door.Refused why) h = h
   same_door a b c d came since at h = tt
