@@ -32,3 +32,4 @@ pub mod Quiet
 pub mod Pairs
 pub mod NetViews
 pub mod RealFalls
+pub mod OneCopy
