@@ -1,12 +1,12 @@
 -- Of each unit at most one record is on its way with a move's pieces; what that says of the pieces that the controller keeps.
-use Rattle.std.proofs.Common.{◌≡◌, ℕ, ◌+◌, ◌≤◌, Bool, true, false, Option, Some, None, List, [], ◌∷◌, ◌++◌, map, length, refl, sym, ap, ◌∙◌, subst, arith}
+use Rattle.std.proofs.Common.{◌≡◌, ℕ, ◌+◌, ◌≤◌, Bool, true, false, Some, None, List, [], ◌∷◌, map, length, refl, sym, ap, ◌∙◌, subst, arith}
 use Rattle.std.specs.Prelude.{if◌then◌else◌, ◌&&◌, ◌==◌, is_some, option_to_list}
 use Rattle.std.proofs.lemmas.Bool.Decides.{nat_tests, Decides-eqb}
 use Rattle.unit_machine.proofs.Machine.{Item, Put_no, State}
 use Rattle.unit_machine.proofs.Real.{Chunks, record_at, RPiece, RPhase, R_freezing, R_streaming, R_holding, R_passing, R_ending, R_restoring, R_returning, R_undoing, R_over, M_event, M_put_no, Frame, see, see_phase, Op}
 use Rattle.unit_machine.proofs.Fits.{records}
 use Rattle.unit_machine.proofs.Labels.{Each, Without, Clean}
-use Rattle.unit_machine.proofs.Kept.{records_on, frozen_in, free_in}
+use Rattle.unit_machine.proofs.Kept.{frozen_in, free_in}
 use Rattle.unit_machine.proofs.Pairs.{expect}
 use Rattle.unit_machine.proofs.Seats.{seat_shape}
 use Rattle.unit_machine.proofs.OneCopy.{few_records, records_head}

@@ -33,3 +33,4 @@ pub mod Pairs
 pub mod NetViews
 pub mod RealFalls
 pub mod OneCopy
+pub mod Fresh
