@@ -1,6 +1,5 @@
 pub mod ControlOutline
 pub mod ControllerSteps
-pub mod Copies
 pub mod FiltersApart
 pub mod InputLemmas
 pub mod InstanceOutline

@@ -15,7 +15,7 @@ use Rattle.unit_machine.proofs.Real.{Chunks, record_at}
 use Rattle.nf_net.proofs.Outline.{entries, outline_piece}
 use Rattle.nf_net.proofs.InstanceOutline.{filter_map-put}
 use Rattle.nf_net.proofs.Joined.{Given, AreGoodChunks}
-use Rattle.nf_net.proofs.Copies.{has, have}
+use Rattle.abstract_net.proofs.Copies.{has, have}
 
 module _ {R : Type 0} where
   -- how many entries are the unit's
