@@ -6,6 +6,7 @@ pub mod InstanceOutline
 pub mod InstanceSteps
 pub mod Joined
 pub mod LinkOutline
+pub mod LogLemmas
 pub mod MoveOutline
 pub mod MoveSteps
 pub mod Outline
