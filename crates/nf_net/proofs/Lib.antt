@@ -12,6 +12,7 @@ pub mod MoveSteps
 pub mod Outline
 pub mod StartingLemmas
 pub mod StateOutline
+pub mod SwitchLemmas
 pub mod SwitchOutline
 pub mod SwitchSteps
 pub mod UnitCounts
