@@ -47,7 +47,8 @@ pub rising_without : (b k : ℕ) (xs ys : List ℕ) → Rising b (xs ++ k ∷ ys
 rising_without b k [] ys h = let e = h.0 in rising_less b (suc k) ys (omega (arith, e)) h.1
 rising_without b k (x ∷ xs) ys h = (h.0, rising_without (suc x) k xs ys h.1)
 
-want_num : (op : ℕ) (what : Order) (place : List ℕ → Option ℕ) (w : Want) → want_of place op what ≡ Some w → w.num ≡ op
+-- what is asked for has the command's number
+pub want_num : (op : ℕ) (what : Order) (place : List ℕ → Option ℕ) (w : Want) → want_of place op what ≡ Some w → w.num ≡ op
 want_num op (order.Move src dst filter keep) place w e = at_places (place src) (place dst) e
   where
     at_places : (from to : Option ℕ) → want_at op filter keep from to ≡ Some w → w.num ≡ op
