@@ -1,8 +1,6 @@
 -- What the steps of the switch have in common: what stays, and a step on a message that the abstract network doesn't see.
-use Rattle.std.proofs.Common.{◌≡◌, ◌≢◌, ℕ, zero, suc, ◌≤◌, Bool, true, false, Option, Some, None, List, [], ◌∷◌, ◌++◌, refl, sym, ap, ◌∙◌, subst, append-nil, arith}
+use Rattle.std.proofs.Common.{◌≡◌, ◌≢◌, ℕ, zero, suc, true, false, Option, Some, None, List, [], ◌∷◌, ◌++◌, refl, sym, ap, ◌∙◌, subst, append-nil, arith}
 use Rattle.std.specs.Prelude.{if◌then◌else◌, ◌&&◌, ◌==◌}
-use Rattle.flow_filter.specs.declared.flow.Flow.{Flow}
-use Rattle.nf_function.specs.declared.kind.Kind.{Kind}
 use Rattle.nf_function.specs.declared.unit.Unit as units
 use Rattle.nf_function.specs.Semantics.{Semantics}
 use Rattle.switch_rules.specs.Rules.{AreFilters}
@@ -13,7 +11,6 @@ use Rattle.nf_msgs.specs.declared.msg.Msg.TheVariants as msg
 use Rattle.nf_msgs.specs.declared.note.Note.{Note}
 use Rattle.nf_msgs.specs.Nodes.{instance_node}
 use Rattle.switch_node.specs.Switch.{SwitchState, stops}
-use Rattle.actor_net.specs.Network.{Stepped}
 use Rattle.actor_net.proofs.WaitingMessages.{less_first}
 use Rattle.actor_net.proofs.WeightLaws.{EachSent}
 use Rattle.unit_machine.proofs.Real.{sent_for}
@@ -21,12 +18,10 @@ use Rattle.abstract_net.proofs.Net as net
 use Rattle.abstract_net.proofs.Net.{Want, World}
 use Rattle.abstract_net.proofs.Waits.{nums, nums-append, None_asked, Rising, rising_less}
 use Rattle.abstract_net.proofs.Every.{Every}
-use Rattle.nf_net.specs.declared.node.Node.{Node}
 use Rattle.nf_net.specs.declared.node.Node.TheVariants.{Switch}
 use Rattle.nf_net.specs.Log.{arrived, done, has_begun, those}
 use Rattle.nf_net.proofs.Outline.{outline_sent, outline_sends, want_at, want_of, is_sys}
 use Rattle.nf_net.proofs.InstanceOutline.{filter_map-put}
-use Rattle.nf_net.proofs.SwitchOutline.{GoesTo, Routes}
 use Rattle.nf_net.proofs.LogLemmas.{done-append, every_same}
 use Rattle.nf_net.proofs.Joined.{Given, Nodes, node_of, place, Label, shown, S, commands, is_of, bares, by_node, IsSwitch, Scene, AreShown, Leads}
 

@@ -8,7 +8,6 @@ use Rattle.flow_filter.specs.Flow.{flow_of}
 use Rattle.nf_function.specs.declared.unit.Unit as units
 use Rattle.nf_function.specs.Records.{Laws as FunctionLaws}
 use Rattle.nf_function.specs.Semantics.{Semantics, unit_at}
-use Rattle.record_table.specs.Table.{same_unit}
 use Rattle.event_filter.specs.declared.mark.Mark.{Mark}
 use Rattle.event_filter.specs.declared.mark.Mark.TheVariants as mark
 use Rattle.packet_pool.specs.Pool.{FullCell, one_less, one_more}
@@ -22,21 +21,21 @@ use Rattle.nf_msgs.specs.declared.msg.Msg.TheVariants as msg
 use Rattle.nf_msgs.specs.declared.note.Note.{Note}
 use Rattle.nf_msgs.specs.declared.note.Note.TheVariants as note
 use Rattle.nf_msgs.specs.Nodes.{instance_node}
-use Rattle.switch_node.specs.Switch.{SwitchState, Step, arrives, has_room, on_packet, on_command, on_credit, on_install, sends_on, sends_to_instance, still, stops, target_of}
+use Rattle.switch_node.specs.Switch.{SwitchState, arrives, has_room, on_packet, on_command, on_credit, on_install, sends_to_instance, still, stops, target_of}
 use Rattle.actor_net.proofs.WaitingMessages.{less_first}
 use Rattle.actor_net.proofs.WeightLaws.{EachSent}
 use Rattle.unit_machine.proofs.Real as real
 use Rattle.unit_machine.proofs.Real.{sent_for}
 use Rattle.abstract_net.proofs.Net as net
 use Rattle.abstract_net.proofs.Net.{Want, World, everything, in_next, sw_next, sw_sends, sw_target, links_after}
-use Rattle.abstract_net.proofs.Waits.{nums, nums-append, None_asked, Rising, sw_none}
+use Rattle.abstract_net.proofs.Waits.{nums, nums-append, Rising, sw_none}
 use Rattle.abstract_net.proofs.Every.{said, said_every, input_every, switch_every}
 use Rattle.nf_net.specs.Nodes.{as_node, node_step}
 use Rattle.nf_net.specs.declared.node.Node.TheVariants.{Switch}
 use Rattle.nf_net.specs.Log.{arrived, done, has_begun, those}
 use Rattle.nf_net.proofs.FiltersApart.{and_l, filter_fits, filter_is, is_whole}
 use Rattle.nf_net.proofs.Outline.{number, outline_sends, want_of, is_sys}
-use Rattle.nf_net.proofs.SwitchOutline.{routes_after}
+use Rattle.nf_net.proofs.SwitchOutline.{Routes, routes_after}
 use Rattle.nf_net.proofs.LogLemmas.{arrived-append, has_begun-append, those-append, every_same}
 use Rattle.nf_net.proofs.SwitchLemmas.{after, every_on, nums_put, others_same, quiet, rising_without, same_switch, stops_labels, stops_unseen, want_num}
 use Rattle.nf_net.proofs.Joined.{Given, Scene, AreShown, IsTaken, Leads, IsSwitch, IsCommand, Label, Genuine, GenuinePacket, is_instance, is_passed, is_of, bares, commands, count, node_of, place, shown, S}
@@ -115,7 +114,7 @@ module _ {F R : Type 0} (f : Semantics R) (g : Given) (n : ℕ) (x : Scene F f g
         site = are.switch.site;
         instances = are.switch.instances;
         filters = AreFilters-redirected (record { filter = filter; from = target.Instance from; to = target.Instance to }) s.rules are.switch.filters (filter_is filter (and_l (filter_fits filter) _ whole));
-        routes = subst (λ st. Rattle.nf_net.proofs.SwitchOutline.Routes f.kind st.node (λ v. sw_target (S f g) x.world.target (net.Mv filter (real.M_install op (instance_node from) (instance_node to))) v)) done_is routes;
+        routes = subst (λ st. Routes f.kind st.node (λ v. sw_target (S f g) x.world.target (net.Mv filter (real.M_install op (instance_node from) (instance_node to))) v)) done_is routes;
       } in
       subst (λ st. Leads f g n x (record { node = 0; port = 1; message = msg.Install op filter from (target.Instance to) }) (as_node Switch st)) (sym done_is)
         (seen_step (msg.Install op filter from (target.Instance to)) _ rest t ((instance_node from, msg.Fence op) ∷ []) (note.Installed op ∷ []) refl waits refl ((refl, omega arith), tt) switch (arrived-append x.log (note.Installed op ∷ []) ∙ append-nil (arrived x.log)) (λ u. has_begun-append (bares f g u) x.log (note.Installed op ∷ []) ∙ or_false (has_begun (bares f g u) x.log)) refl)
