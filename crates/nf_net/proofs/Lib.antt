@@ -7,12 +7,14 @@ pub mod InstanceSteps
 pub mod Joined
 pub mod JoinedSteps
 pub mod LinkOutline
+pub mod LogLemmas
 pub mod MoveOutline
 pub mod MoveSteps
 pub mod Outline
 pub mod StartJoined
 pub mod StartingLemmas
 pub mod StateOutline
+pub mod SwitchLemmas
 pub mod SwitchOutline
 pub mod SwitchSteps
 pub mod UnitCounts
