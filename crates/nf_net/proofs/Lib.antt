@@ -11,6 +11,7 @@ pub mod LogLemmas
 pub mod MoveOutline
 pub mod MoveSteps
 pub mod Outline
+pub mod RecordPromises
 pub mod RunsJoined
 pub mod StartJoined
 pub mod StartingLemmas
