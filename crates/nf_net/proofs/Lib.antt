@@ -2,7 +2,10 @@ pub mod ControlOutline
 pub mod ControllerSteps
 pub mod Copies
 pub mod FiltersApart
+pub mod InstanceKeeps
+pub mod InstanceNotes
 pub mod InstanceOutline
+pub mod InstanceSends
 pub mod InstanceSteps
 pub mod Joined
 pub mod LinkOutline
