@@ -5,10 +5,12 @@ pub mod FiltersApart
 pub mod InstanceKeeps
 pub mod InstanceNotes
 pub mod InstanceOutline
+pub mod InstanceRows
 pub mod InstanceSends
 pub mod InstanceSteps
 pub mod Joined
 pub mod LinkOutline
+pub mod LogLemmas
 pub mod MoveOutline
 pub mod MoveSteps
 pub mod Outline
