@@ -1,31 +1,28 @@
 -- What a step of an instance keeps of its records and rules.
-use Rattle.std.proofs.Common.{◌≡◌, ℕ, suc, ◌+◌, ◌^◌, Bool, true, false, cond, Option, Some, None, List, [], ◌∷◌, ◌++◌, map, length, refl, sym, ap, ◌∙◌, subst, is_some, arith, add-one}
-use Rattle.std.specs.Prelude.{if◌then◌else◌, ◌&&◌, ◌||◌, ◌==◌, not, nat_lt}
-use Rattle.std.specs.List.{filter_map, IsDistinct, AllByRecursion}
+use Rattle.std.proofs.Common.{◌≡◌, ℕ, suc, ◌+◌, ◌^◌, Bool, true, false, cond, Option, Some, None, List, [], ◌∷◌, length, refl, ap, ◌∙◌, is_some, arith, add-one}
+use Rattle.std.specs.Prelude.{◌&&◌, not, nat_lt}
+use Rattle.std.specs.List.{IsDistinct, AllByRecursion}
 use Rattle.std.specs.Map.{keys_of}
 use Rattle.std.specs.FinMap as finite
 use Rattle.std.proofs.lemmas.Bool.Decides.{nat_tests}
 use Rattle.std.proofs.lemmas.Map.Keys.{IsDistinct-head, IsDistinct-tail}
-use Rattle.flow_filter.specs.declared.filter.Filter.{Filter}
-use Rattle.flow_filter.specs.declared.flow.Flow.{Flow}
 use Rattle.flow_filter.specs.declared.packet.Packet.{Packet}
 use Rattle.flow_filter.specs.declared.site.Site.{Site}
 use Rattle.nf_function.specs.declared.chunk.Chunk.{Chunk}
 use Rattle.nf_function.specs.declared.kind.Kind.{Kind}
-use Rattle.nf_function.specs.declared.kind.Kind.TheVariants.{Conntrack, Nat, Monitor}
 use Rattle.nf_function.specs.declared.unit.Unit as units
 use Rattle.nf_function.specs.declared.unit.Unit.TheVariants.{Flow as OfFlow, Host as OfHost}
-use Rattle.nf_function.specs.Units.{unit_cmp, has_hosts, is_transport, is_transport_flow, is_unit}
+use Rattle.nf_function.specs.Units.{unit_cmp, has_hosts, is_transport, is_unit}
 use Rattle.nf_function.specs.UnitOrder.{units_total}
 use Rattle.nf_function.specs.Records.{Fits, is_newer, newest, Laws as FunctionLaws}
 use Rattle.nf_function.specs.Semantics.{Semantics, is_sound, kept_after, unit_at}
 use Rattle.record_table.specs.Table.{Records, same_unit, without, is_among, after_packet, newest_of, either, AreSound}
-use Rattle.record_table.specs.Chunks.{spelled, records_of, are_good}
+use Rattle.record_table.specs.Chunks.{records_of, are_good}
 use Rattle.record_table.proofs.ChunkFronts.{equal_to}
 use Rattle.record_table.proofs.UnitOrder.{same_unit-true}
 use Rattle.record_table.proofs.RecordLookUps.{at, sound_with_kept, sound_retain_keys, get-joined}
 use Rattle.unit_machine.proofs.Labels.{Each}
-use Rattle.nf_net.proofs.FiltersApart.{flow_fits, unit_fits, and_l, and_r}
+use Rattle.nf_net.proofs.FiltersApart.{unit_fits}
 use Rattle.nf_net.proofs.Outline.{entries}
 use Rattle.nf_net.proofs.StateOutline.{HasRecords, AreValid}
 use Rattle.nf_net.proofs.Joined.{Given, IsGoodChunk, AreGoodChunks}

@@ -1,5 +1,5 @@
 -- An instance's step on a message of a run leads from a world of a run to one.
-use Rattle.std.proofs.Common.{◌≡◌, ◌≢◌, ℕ, zero, suc, ◌<◌, ◌≤◌, Bool, true, false, Option, Some, None, List, [], ◌∷◌, ◌++◌, drop, refl, sym, ap, ◌∙◌, subst, append-nil, arith}
+use Rattle.std.proofs.Common.{◌≡◌, ◌≢◌, ℕ, zero, suc, ◌<◌, ◌≤◌, Bool, true, false, Some, List, [], ◌++◌, refl, sym, ap, ◌∙◌, subst, append-nil, arith}
 use Rattle.std.specs.Prelude.{if◌then◌else◌, ◌&&◌, ◌||◌, ◌==◌}
 use Rattle.std.specs.List.{filter_map}
 use Rattle.std.proofs.lemmas.Bool.Decides.{nat_tests, Decides-eqb}
@@ -16,28 +16,26 @@ use Rattle.packet_pool.specs.Pool.{FullCell}
 use Rattle.event_filter.specs.declared.action.Action.{Action}
 use Rattle.event_filter.specs.declared.mark.Mark.TheVariants as mark
 use Rattle.instance_worker.specs.declared.instance.Instance.{Instance as InstanceState}
-use Rattle.instance_worker.specs.Instance.{Step, instance_step, on_stop}
-use Rattle.actor_net.specs.Network.{Stepped}
+use Rattle.instance_worker.specs.Instance.{instance_step, on_stop}
 use Rattle.actor_net.proofs.WaitingMessages.{less_first}
 use Rattle.unit_machine.proofs.Real as real
 use Rattle.unit_machine.proofs.Real.{sent_for}
 use Rattle.abstract_net.proofs.Net as net
-use Rattle.abstract_net.proofs.Net.{World, Inst_n, I_did, inst_step, inst_next, links_after, at_node, put, behind, everything, is_free}
+use Rattle.abstract_net.proofs.Net.{World, Inst_n, inst_step, inst_next, links_after, at_node, put, behind, everything, is_free}
 use Rattle.abstract_net.proofs.Waits.{nums, Rising}
 use Rattle.abstract_net.proofs.Every.{Every, inst_every}
-use Rattle.nf_net.specs.declared.node.Node.{Node}
-use Rattle.nf_net.specs.declared.node.Node.TheVariants.{Switch, Controller, Instance}
-use Rattle.nf_net.specs.Nodes.{node_step, as_node}
+use Rattle.nf_net.specs.declared.node.Node.TheVariants.{Instance}
+use Rattle.nf_net.specs.Nodes.{node_step}
 use Rattle.nf_net.specs.Log.{arrived, done, has_begun, those}
 use Rattle.nf_net.proofs.FiltersApart.{is_whole}
-use Rattle.nf_net.proofs.Outline.{number, rule_of, entries, outline_piece, outline_sends, ran_in, is_sys, outline_instance}
+use Rattle.nf_net.proofs.Outline.{number, rule_of, entries, outline_piece, ran_in, is_sys, outline_instance}
 use Rattle.nf_net.proofs.InstanceOutline.{Follows, carry_follows, pass_follows, fence_follows, enable_follows}
-use Rattle.nf_net.proofs.StateOutline.{HasRecords, stream_follows, delete_follows, put_follows, restore_follows}
+use Rattle.nf_net.proofs.StateOutline.{stream_follows, delete_follows, put_follows, restore_follows}
 use Rattle.nf_net.proofs.LogLemmas.{arrived-append, done-append, has_begun-append, by_node-append, every_same}
 use Rattle.nf_net.proofs.InstanceNotes.{AreOwn, none_arrived, none_begun, done_own}
 use Rattle.nf_net.proofs.InstanceKeeps.{has_records, chunks_good}
 use Rattle.nf_net.proofs.InstanceRows.{IsRight, Leaves, carry_leaves, pass_leaves, fence_leaves, stop_leaves, enable_leaves, stream_leaves, delete_leaves, put_leaves, restore_leaves}
-use Rattle.nf_net.proofs.Joined.{Given, place, Nodes, Took, Scene, S, shown, bares, is_of, commands, by_node, Genuine, AreGoodChunks, IsGoodPiece, Label, IsInstanceAt, AreShown, IsTaken, Leads, node_of, links_next, scene_after}
+use Rattle.nf_net.proofs.Joined.{Given, place, Nodes, Took, Scene, S, shown, bares, is_of, commands, by_node, Genuine, AreGoodChunks, IsGoodPiece, Label, IsInstanceAt, AreShown, IsTaken, Leads, node_of}
 
 or_false : (b : Bool) → b || false ≡ b
 or_false true = refl
