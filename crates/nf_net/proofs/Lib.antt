@@ -2,7 +2,11 @@ pub mod ControlOutline
 pub mod ControllerSteps
 pub mod FiltersApart
 pub mod InputLemmas
+pub mod InstanceKeeps
+pub mod InstanceNotes
 pub mod InstanceOutline
+pub mod InstanceRows
+pub mod InstanceSends
 pub mod InstanceSteps
 pub mod Joined
 pub mod JoinedSteps
