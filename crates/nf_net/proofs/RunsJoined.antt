@@ -29,7 +29,7 @@ use Rattle.nf_net.specs.Promises.{times, IsFront, is_of, is_plain, came, went, i
 use Rattle.nf_net.proofs.FiltersApart.{is_whole, unit_fits, takes_whole, and_l, and_r}
 use Rattle.nf_net.proofs.Outline.{is_sys}
 use Rattle.nf_net.proofs.StartingLemmas.{few_nodes}
-use Rattle.nf_net.proofs.StartJoined.{given, count_at_start, start_joined}
+use Rattle.nf_net.proofs.StartJoined.{given, all_fit, count_at_start, start_joined}
 use Rattle.nf_net.proofs.Joined.{Given, S, bares, bares_in, by_node, Joined}
 use Rattle.nf_net.proofs.JoinedSteps.{joined_next}
 
@@ -38,7 +38,7 @@ module _ (F : Type 0) {R : Type 0} (f : Semantics R) (laws : FunctionLaws f) (al
   start_world = let few = few_nodes alloc c (first_nodes {F = F} {R = R} alloc c) is.is_config refl in opening_world (first_nodes alloc c) items few.0 few.1
 
   pub run_joined : (cs : List Choice) → IsRun node_ready (node_step f) cs (started {F = F} {R = R} alloc c items) → Joined f (given f c items is) (length c.names + 2) (run (node_step f) cs (started {F = F} {R = R} alloc c items))
-  run_joined cs run_is = run_induction node_ready (node_step f) (length c.names + 2) (λ _ w. Joined f (given f c items is) (length c.names + 2) w) (started alloc c items) (λ _ w k next j. joined_next f laws (given f c items is) (length c.names + 2) refl w k next.taking j) start_world (count_at_start F f alloc c items is) (start_joined F f alloc c items is) cs run_is
+  run_joined cs run_is = run_induction node_ready (node_step f) (length c.names + 2) (λ _ w. Joined f (given f c items is) (length c.names + 2) w) (started alloc c items) (λ _ w k next j. joined_next f laws (given f c items is) (all_fit f c items is) (length c.names + 2) refl w k next.taking j) start_world (count_at_start F f alloc c items is) (start_joined F f alloc c items is) cs run_is
 
 module _ {R : Type 0} (f : Semantics R) (c : Config) (items : List Msg) (is : IsInput f.kind c items) where
   abbrev gi : Given
