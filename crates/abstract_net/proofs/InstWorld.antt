@@ -64,7 +64,7 @@ module _ {R : Type 0} (S : Sys R) (laws : IsSys S) (z : Seeing) where
     abbrev did : I_did S
     did = inst_step S i m
 
-    num : (z.op.num == z.op.num) ≡ true
+    pub num : (z.op.num == z.op.num) ≡ true
     num = h.apart.num
 
     no_input : (p == 0) && (y == 0) ≡ false
@@ -73,11 +73,11 @@ module _ {R : Type 0} (S : Sys R) (laws : IsSys S) (z : Seeing) where
     abbrev Goes : Inst R → Did R → Type 0
     Goes k d = Inst_goes S laws z num did d
 
-    label : Label S z p m
+    pub label : Label S z p m
     label = (subst (λ ms. Each (Label S z p) ms) waits (h.labels p y no_input)).0
 
     -- what the node's step is, at the machine's instance
-    step_at : (wh : Where) (k : Inst R) (n : Sees_node S z i k) → (m : Msg R) → Label S z p m → Moves_inst S laws z num wh i k n (inst_step S i m) (seen (frame S z) m)
+    pub step_at : (wh : Where) (k : Inst R) (n : Sees_node S z i k) → (m : Msg R) → Label S z p m → Moves_inst S laws z num wh i k n (inst_step S i m) (seen (frame S z) m)
     step_at wh k n (Carry_on q) l = Any (λ parts refuse. carry_goes S laws z num wh i k n q parts refuse)
     step_at wh k n (Pass_on q) l = Any (λ parts refuse. pass_goes S laws z num wh i k n q parts refuse)
     step_at wh k n (Fence_on q) l = Any (λ parts refuse. fence_goes S laws z num wh i k n q parts refuse)
@@ -115,7 +115,7 @@ module _ {R : Type 0} (S : Sys R) (laws : IsSys S) (z : Seeing) where
         by_op None e = rw phase e
         by_op (Some e) (a, b, c, f) = (a, b ∙ sym phase, c ∙ sym store, f ∙ sym keep)
 
-    here : Sees_node S z i (node_at S z x y)
+    pub here : Sees_node S z i (node_at S z x y)
     here = h.insts y
 
     -- nothing is seen
@@ -144,7 +144,7 @@ module _ {R : Type 0} (S : Sys R) (laws : IsSys S) (z : Seeing) where
       abbrev v : List (Item R)
       v = items (seen (frame S z)) rest
 
-      shown : it ∷ v ≡ expect z.op.src z.op.dst z.third x p y
+      pub shown : it ∷ v ≡ expect z.op.src z.op.dst z.third x p y
       shown = ap (λ o. add o v) (sym is) ∙ head S z w.link p y m rest waits no_input did.sends ∙ h.views p y
 
       views_on : (x' : State R) → ((i j : ℕ) → after_take p y (expect z.op.src z.op.dst z.third x) (sent S z y did.sends) i j ≡ expect z.op.src z.op.dst z.third x' i j) → (i j : ℕ) → shows S z (links_after w.link p y did.sends) i j ≡ expect z.op.src z.op.dst z.third x' i j
@@ -162,16 +162,16 @@ module _ {R : Type 0} (S : Sys R) (laws : IsSys S) (z : Seeing) where
       seen_it : (wh : Where) (parts : List (Part R)) (refuse : Option Answer) (k : Inst R) → Inst_goes S laws z num did (does S laws z num wh parts refuse k (seen (frame S z) m)) → Inst_goes S laws z num did (inst_does S.F wh parts refuse k it)
       seen_it wh parts refuse k g = subst (λ o. Inst_goes S laws z num did (does S laws z num wh parts refuse k o)) is g
 
-      is_src : y ≡ z.op.src → node_at S z x y ≡ x.a
+      pub is_src : y ≡ z.op.src → node_at S z x y ≡ x.a
       is_src ya = let same = h.apart.src in rw (ya, same) refl
 
-      is_dst : y ≡ z.op.dst → node_at S z x y ≡ x.b
+      pub is_dst : y ≡ z.op.dst → node_at S z x y ≡ x.b
       is_dst yb = let off = h.apart.dst_src in let same = h.apart.dst in rw (yb, off, same) refl
 
       third_tests : ((z.third == z.op.src) ≡ false) × ((z.third == z.op.dst) ≡ false) × ((z.third == z.third) ≡ true)
       third_tests = let n = h.nodes.ac in let k = h.nodes.bc in (grind (arith, nat_tests), grind (arith, nat_tests), grind (arith, nat_tests))
 
-      is_third : y ≡ z.third → node_at S z x y ≡ x.c
+      pub is_third : y ≡ z.third → node_at S z x y ≡ x.c
       is_third yc = let t = third_tests.0 in let u = third_tests.1 in let q = third_tests.2 in rw (yc, t, u, q) refl
 
       taken_sa : (u : State R) → u.sa ≡ it ∷ v → moved S.F u Take_sa ≡ put_a (record u { sa = v }) (inst_does S.F At_a [] None u.a it)

@@ -1,5 +1,6 @@
 pub mod Net
 pub mod RuleLists
+pub mod Fresh
 pub mod Holding
 pub mod Insts
 pub mod InstMoves
@@ -7,6 +8,7 @@ pub mod Links
 pub mod OnLinks
 pub mod InstWorld
 pub mod RowNumbers
+pub mod Copies
 pub mod Ctrl
 pub mod CtrlUnit
 pub mod OtherWorld

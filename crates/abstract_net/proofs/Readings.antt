@@ -1,6 +1,6 @@
 -- What is read off where a unit is: its done packets and those that wait are all that arrived, in order unless a move without a buffer
 -- took the unit; and its record is the fold of what was done, at one place.
-use Rattle.std.proofs.Common.{◌≡◌, ℕ, ◌<◌, ◌≤◌, Bool, true, false, Option, Some, None, List, [], ◌∷◌, ◌++◌, refl, sym, ap, ◌∙◌, subst, append-nil, append_assoc, arith}
+use Rattle.std.proofs.Common.{◌≡◌, ℕ, Bool, true, false, Option, Some, None, List, [], ◌∷◌, ◌++◌, refl, sym, ap, ◌∙◌, subst, append-nil}
 use Rattle.unit_machine.proofs.Machine.{Ran, Steps, runs, after, State}
 use Rattle.unit_machine.proofs.Lists.{firsts, firsts-append}
 use Rattle.unit_machine.proofs.Fits.{nil_left}
@@ -9,7 +9,7 @@ use Rattle.unit_machine.proofs.Ends.{same_of}
 use Rattle.unit_machine.proofs.Kept.{Kept, lives, on_way}
 use Rattle.unit_machine.proofs.Seats.{Seat, Covered, Is_beside, Is_away, seat_shape, seat_all, seat_path}
 use Rattle.unit_machine.proofs.SeatLaws.{seat_kept}
-use Rattle.abstract_net.proofs.Net.{Msg, Sys, IsSys, World}
+use Rattle.abstract_net.proofs.Net.{Sys, IsSys, World}
 use Rattle.abstract_net.proofs.Holding.{Seeing, node_at, Holds}
 use Rattle.abstract_net.proofs.Rest.{Global, done_u, same_done}
 use Rattle.abstract_net.proofs.Units.{Where, Where.At_rest, Where.In_move, shown, see}
@@ -20,7 +20,7 @@ abbrev pub fold : {R : Type 0} → Steps R → Option R → List ℕ → Option 
 fold F o [] = o
 fold F o (p ∷ ps) = fold F (Some (F.step o p)) ps
 
-fold_runs : {R : Type 0} (F : Steps R) (o : Option R) (d : List Ran) → runs F o d ≡ fold F o (firsts d)
+pub fold_runs : {R : Type 0} (F : Steps R) (o : Option R) (d : List Ran) → runs F o d ≡ fold F o (firsts d)
 fold_runs F o [] = refl
 fold_runs F o (x ∷ d) = fold_runs F (Some (F.step o x.0)) d
 

@@ -107,7 +107,7 @@ module _ {R : Type 0} (S : Sys R) (z : Seeing) where
   abbrev its : List (Msg R) → List (Item R)
   its ms = items (seen (frame S z)) ms
 
-  same_mine : (ps : List ℕ) → none_mine S u ps ≡ only_mine (frame S z) ps
+  pub same_mine : (ps : List ℕ) → none_mine S u ps ≡ only_mine (frame S z) ps
   same_mine [] = refl
   same_mine (p ∷ ps) = ap (λ v. if same_unit (S.unit_of p) u then p ∷ v else v) (same_mine ps)
 

@@ -34,7 +34,7 @@ use Rattle.nf_net.proofs.Outline.{number, entries, outline_piece, is_sys}
 use Rattle.nf_net.proofs.InstanceOutline.{filter_map-put}
 use Rattle.record_table.specs.Chunks.{spelled}
 use Rattle.nf_net.specs.Log.{has_begun}
-use Rattle.nf_net.proofs.Copies.{has, have, copies, one_copy, one_copy_back, event_open}
+use Rattle.abstract_net.proofs.Copies.{has, have, copies, one_copy, one_copy_back, event_open}
 use Rattle.nf_net.proofs.MoveOutline.{outline_plan, outline_phase, RowFollows, put_no_row, event_row}
 use Rattle.nf_net.proofs.ControlOutline.{Sees, SeesMove, Opens, TurnFollows, stored_after, got_insert, got_remove, turn_same}
 use Rattle.nf_net.proofs.MoveSteps.{RowKeeps, row_keeps, brought, kept_in}

@@ -15,11 +15,11 @@ use Rattle.nf_function.specs.declared.unit.Unit.TheVariants.{Flow as OfFlow, Hos
 use Rattle.nf_function.specs.declared.kind.Kind.TheVariants.{Conntrack, Nat, Monitor}
 use Rattle.nf_function.specs.Units.{has_hosts, takes, unit_of}
 
-abbrev number_fits : ℕ → Option ℕ → Bool
+abbrev pub number_fits : ℕ → Option ℕ → Bool
 number_fits top None = true
 number_fits top (Some n) = nat_lt n top
 
-abbrev prefix_fits : Option Prefix → Bool
+abbrev pub prefix_fits : Option Prefix → Bool
 prefix_fits None = true
 prefix_fits (Some p) = nat_lt p.bits (2 ^ 32)
 

@@ -6,7 +6,7 @@ use Rattle.nf_net.specs.declared.node.Node.{Node}
 use Rattle.nf_net.specs.declared.node.Node.TheVariants.{Instance}
 use Rattle.nf_net.specs.Start.{IsConfig, first_instance, first_instances, first_nodes}
 
-length-first_instances : (F R : Type 0) (alloc : Global) (c : Config) (i : ℕ) → length (first_instances {F = F} {R = R} alloc c i) ≡ i
+pub length-first_instances : (F R : Type 0) (alloc : Global) (c : Config) (i : ℕ) → length (first_instances {F = F} {R = R} alloc c i) ≡ i
 length-first_instances F R alloc c zero = refl
 length-first_instances F R alloc c (suc i) = length-append (first_instances {F = F} {R = R} alloc c i) (Instance (first_instance alloc c i) ∷ []) ∙ ap (λ n. n + 1) (length-first_instances F R alloc c i) ∙ add-one i
 

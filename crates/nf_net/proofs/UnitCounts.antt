@@ -1,5 +1,5 @@
 -- How often a unit stands among chunks; chunks in which none stands twice are of distinct units.
-use Rattle.std.proofs.Common.{◌≡◌, ℕ, ◌+◌, ◌≤◌, Bool, true, false, Some, List, [], ◌∷◌, ◌++◌, map, refl, sym, ap, ◌∙◌, subst, arith}
+use Rattle.std.proofs.Common.{◌≡◌, ℕ, ◌+◌, ◌≤◌, true, false, Some, List, [], ◌∷◌, ◌++◌, map, refl, sym, ap, ◌∙◌, subst, arith}
 use Rattle.std.specs.Prelude.{if◌then◌else◌, is_some}
 use Rattle.std.specs.List.{AllByRecursion, IsDistinct}
 use Rattle.std.specs.Map.{keys_of}
@@ -15,7 +15,7 @@ use Rattle.unit_machine.proofs.Real.{Chunks, record_at}
 use Rattle.nf_net.proofs.Outline.{entries, outline_piece}
 use Rattle.nf_net.proofs.InstanceOutline.{filter_map-put}
 use Rattle.nf_net.proofs.Joined.{Given, AreGoodChunks}
-use Rattle.nf_net.proofs.Copies.{has, have}
+use Rattle.abstract_net.proofs.Copies.{has, have}
 
 module _ {R : Type 0} where
   -- how many entries are the unit's

@@ -1,3 +1,5 @@
+pub mod Input
 pub mod Log
 pub mod Nodes
+pub mod Promises
 pub mod Start

@@ -32,3 +32,5 @@ pub mod Quiet
 pub mod Pairs
 pub mod NetViews
 pub mod RealFalls
+pub mod OneCopy
+pub mod Fresh

@@ -1,0 +1,82 @@
+-- What every run of the network keeps, complete or not, for scripts of moves: each packet is processed at most once, in the order of
+-- its unit; outputs and records are those of one instance that nothing moved. Packets go by their numbers. This project's own.
+use Rattle.std.specs.Prelude.{◌≡◌, ℕ, ◌+◌, ◌==◌, ◌≤◌, Bool, true, false, not, ◌&&◌, if◌then◌else◌, List, [], ◌∷◌, ◌++◌, map, Option, None, Some, slice_get}
+use Rattle.std.specs.FinMap as finite
+use Rattle.nf_function.specs.declared.output.Output.{Output}
+use Rattle.nf_function.specs.declared.unit.Unit as units
+use Rattle.nf_function.specs.Semantics.{Semantics, unit_at, kept_after, output_for}
+use Rattle.nf_function.specs.Units.{takes}
+use Rattle.record_table.specs.Table.{same_unit}
+use Rattle.nf_msgs.specs.declared.command.Order.{Order}
+use Rattle.nf_msgs.specs.declared.command.Order.TheVariants.{Move}
+use Rattle.nf_msgs.specs.declared.msg.Msg.{Msg}
+use Rattle.nf_msgs.specs.declared.note.Note.{Note}
+use Rattle.nf_msgs.specs.Nodes.{instance_node}
+use Rattle.actor_net.specs.Network.{Network}
+use Rattle.nf_net.specs.declared.config.Config.{Config}
+use Rattle.nf_net.specs.declared.node.Node.{Node}
+use Rattle.nf_net.specs.declared.node.Node.TheVariants.{Instance}
+use Rattle.nf_net.specs.Input.{packets, packet_of, order_of}
+use Rattle.nf_net.specs.Log.{arrived, done, has_begun, those, done_of}
+
+-- how often a number stands in a list
+abbrev pub times : ℕ → List ℕ → ℕ
+times p [] = 0
+times p (q ∷ qs) = (if p == q then 1 else 0) + times p qs
+
+-- a list and more behind it
+pub record IsFront (front all : List ℕ) : Type 0 where
+  pub rest : List ℕ
+  pub whole : front ++ rest ≡ all
+
+-- the record of a unit that is live at an instance of a world
+abbrev pub live_in : {F R : Type 0} → units.Unit → Option (Node F R) → Option R
+live_in unit (Some (Instance i)) = finite.get i.table.live unit
+live_in unit other = None
+
+abbrev pub live_at : {F R : Type 0} → Network (Node F R) Msg Note → ℕ → units.Unit → Option R
+live_at w i unit = live_in unit (slice_get w.nodes (instance_node i))
+
+module _ {R : Type 0} (f : Semantics R) (config : Config) (items : List Msg) where
+  -- the packets of a unit among some
+  abbrev pub is_of : units.Unit → ℕ → Bool
+  is_of unit p = same_unit (unit_at f.kind config.site (packet_of items p)) unit
+
+  -- one instance that nothing moves: what is kept of a unit after these packets, and the outputs to them
+  abbrev pub fold : Option R → List ℕ → Option R
+  fold kept [] = kept
+  fold kept (p ∷ ps) = fold (kept_after f config.site kept (packet_of items p)) ps
+
+  abbrev pub outputs : Option R → List ℕ → List Output
+  outputs kept [] = []
+  outputs kept (p ∷ ps) = output_for f config.site kept (packet_of items p) ∷ outputs (kept_after f config.site kept (packet_of items p)) ps
+
+  -- an order to move the unit without keeping the order of its packets
+  abbrev pub is_plain : units.Unit → Option Order → Bool
+  is_plain unit (Some (Move source destination filter keep)) = not keep && takes filter unit
+  is_plain unit order = false
+
+  -- the unit's packets that the switch took in, and that were processed, with their outputs; whether a plain move of it began
+  abbrev pub came : units.Unit → List Note → List ℕ
+  came unit log = those (is_of unit) (arrived log)
+
+  abbrev pub went : units.Unit → List Note → List ℕ
+  went unit log = map (λ d. d.number) (done_of (is_of unit) (done log))
+
+  abbrev pub given : units.Unit → List Note → List Output
+  given unit log = map (λ d. d.output) (done_of (is_of unit) (done log))
+
+  abbrev pub is_loose : units.Unit → List Note → Bool
+  is_loose unit log = has_begun (λ op. is_plain unit (order_of items op)) log
+
+  -- what every run keeps
+  pub record Promises {F : Type 0} (w : Network (Node F R) Msg Note) : Type 0 where
+    -- the switch takes the packets of the input in their order
+    pub in_turn : IsFront (arrived w.log) (map (λ p. p.number) (packets items))
+    -- what is processed of a unit is a front of what came, as long as no plain move of it began; each packet once in any case
+    pub in_order : (unit : units.Unit) → is_loose unit w.log ≡ false → IsFront (went unit w.log) (came unit w.log)
+    pub once : (unit : units.Unit) (p : ℕ) → times p (went unit w.log) ≤ times p (came unit w.log)
+    -- outputs and records are those of one instance that nothing moved, and no unit has two records
+    pub outputs_are : (unit : units.Unit) → given unit w.log ≡ outputs None (went unit w.log)
+    pub records_are : (unit : units.Unit) (i : ℕ) (r : R) → live_at w i unit ≡ Some r → fold None (went unit w.log) ≡ Some r
+    pub one_record : (unit : units.Unit) (i j : ℕ) (r s : R) → live_at w i unit ≡ Some r → live_at w j unit ≡ Some s → i ≡ j
