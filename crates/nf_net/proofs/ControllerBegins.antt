@@ -1,8 +1,7 @@
 -- The controller's step on a command: it is refused, or its move begins.
-use Rattle.std.proofs.Common.{◌≡◌, ◌≢◌, ℕ, suc, ◌+◌, ◌<◌, ◌≤◌, Bool, true, false, cond, Option, Some, None, List, [], ◌∷◌, ◌++◌, map, length, get_or, refl, sym, ap, ◌∙◌, subst, append-nil, arith, eqb}
+use Rattle.std.proofs.Common.{◌≡◌, ◌≢◌, ℕ, suc, ◌≤◌, Bool, true, false, cond, Option, Some, None, List, [], ◌∷◌, ◌++◌, map, length, get_or, refl, sym, ap, ◌∙◌, subst, append-nil, arith, eqb}
 use Rattle.std.specs.Prelude.{if◌then◌else◌, ◌&&◌, ◌||◌, ◌==◌, not, nat_lt, find, is_some, option_map}
 use Rattle.std.specs.Option.{option_or}
-use Rattle.std.specs.List.{position}
 use Rattle.std.specs.Ordering.{nat_cmp, eq_by_cmp}
 use Rattle.std.specs.Str.{bytes_eq}
 use Rattle.std.specs.FinMap as finite
@@ -33,15 +32,15 @@ use Rattle.abstract_net.proofs.Net as net
 use Rattle.abstract_net.proofs.Net.{World, Want, Open, find_op, new_op, begin_sends, meets_any, behind, links_after, ctrl_step, ctrl_next, begin_next}
 use Rattle.abstract_net.proofs.Waits.{nums, Rising}
 use Rattle.abstract_net.proofs.Units.{May}
-use Rattle.abstract_net.proofs.Every.{Every, ctrl_every, begin_every}
-use Rattle.nf_net.specs.Log.{arrived, has_begun, those}
+use Rattle.abstract_net.proofs.Every.{ctrl_every, begin_every}
+use Rattle.nf_net.specs.Log.{has_begun}
 use Rattle.nf_net.proofs.FiltersApart.{and_l, and_r, is_whole, takes_whole}
 use Rattle.nf_net.proofs.Outline.{number, want_at, want_of, outline_sends, is_sys}
 use Rattle.nf_net.proofs.LogLemmas.{has_begun-append, every_same}
 use Rattle.nf_net.proofs.ControlOutline.{Sees, SeesMove, Opens, got_insert}
-use Rattle.nf_net.proofs.ControllerScenes.{AreQuiet, RowLeads, links_by, waits, stays}
+use Rattle.nf_net.proofs.ControllerScenes.{RowLeads, links_by, waits, stays}
 use Rattle.nf_net.proofs.ControllerTurns.{none_open}
-use Rattle.nf_net.proofs.Joined.{Given, Genuine, Label, Scene, AreShown, IsTaken, IsCommand, IsController, IsListed, IsMove, S, count, place, shown, is_move, is_of, bares, bares_in, commands}
+use Rattle.nf_net.proofs.Joined.{Given, Scene, AreShown, IsTaken, IsController, IsListed, IsMove, S, place, shown, is_move, bares, bares_in, commands}
 
 -- a name has one place, and two names have two
 place_below : (names : List (List ℕ)) (name : List ℕ) (i : ℕ) → place_of names name ≡ Some i → nat_lt i (length names) ≡ true

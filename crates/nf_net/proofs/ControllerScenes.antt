@@ -1,6 +1,6 @@
 -- What a row of the controller's table leads to: a world of the abstract network that takes the same message, and no more changes than
 -- that. The finish behind a row changes nothing of it.
-use Rattle.std.proofs.Common.{◌≡◌, ◌≢◌, ℕ, zero, suc, ◌≤◌, Bool, true, false, Option, Some, None, List, [], ◌∷◌, ◌++◌, refl, sym, ap, ◌∙◌, subst, append-nil, arith}
+use Rattle.std.proofs.Common.{◌≡◌, ◌≢◌, ℕ, zero, suc, Bool, true, false, Option, Some, None, List, [], ◌∷◌, ◌++◌, refl, sym, ap, ◌∙◌, subst, append-nil, arith}
 use Rattle.std.specs.Prelude.{if◌then◌else◌, ◌&&◌, ◌||◌, ◌==◌}
 use Rattle.std.proofs.lemmas.Bool.Decides.{nat_tests}
 use Rattle.std.specs.FinMap as finite
@@ -12,8 +12,7 @@ use Rattle.nf_function.specs.declared.unit.Unit as units
 use Rattle.nf_msgs.specs.declared.msg.Msg.{Msg}
 use Rattle.nf_msgs.specs.declared.msg.Msg.TheVariants as msg
 use Rattle.nf_msgs.specs.declared.note.Note.{Note}
-use Rattle.ctrl_node.specs.Controller.{ControllerState, Step, finished, finish_of, with_finish, may_finish}
-use Rattle.actor_net.specs.Network.{Stepped}
+use Rattle.ctrl_node.specs.Controller.{ControllerState, Step, finished, may_finish}
 use Rattle.actor_net.proofs.WeightLaws.{EachSent}
 use Rattle.unit_machine.proofs.Real.{sent_for}
 use Rattle.abstract_net.proofs.Net as net
@@ -21,13 +20,12 @@ use Rattle.abstract_net.proofs.Net.{World, Open, C_step, find_op, behind, links_
 use Rattle.abstract_net.proofs.Waits.{nums, Rising, rising_less}
 use Rattle.abstract_net.proofs.Every.{Every, ctrl_every}
 use Rattle.nf_net.specs.Nodes.{as_node}
-use Rattle.nf_net.specs.declared.node.Node.{Node}
 use Rattle.nf_net.specs.declared.node.Node.TheVariants.{Controller}
 use Rattle.nf_net.specs.Log.{arrived, done, has_begun, those}
 use Rattle.nf_net.proofs.Outline.{outline_sent, outline_sends, is_sys}
 use Rattle.nf_net.proofs.InstanceOutline.{filter_map-put}
 use Rattle.nf_net.proofs.LogLemmas.{arrived-append, done-append, has_begun-append, every_same}
-use Rattle.nf_net.proofs.Joined.{Given, Genuine, Label, Scene, Nodes, Took, AreShown, IsTaken, IsController, IsListed, IsSwitch, IsInstanceAt, Leads, node_of, place, shown, S, is_of, bares, by_node, commands, links_next}
+use Rattle.nf_net.proofs.Joined.{Given, Genuine, Label, Scene, Nodes, AreShown, IsTaken, IsController, IsListed, Leads, node_of, place, shown, S, is_of, bares, by_node, commands, links_next}
 
 -- a message is taken from the switch's link, or from another: the numbers of waiting commands rise as before
 rising_drop : {R : Type 0} (b : ℕ) (a : net.Msg R) (rest : List (net.Msg R)) (ks : List ℕ) → Rising b (nums (a ∷ rest) ++ ks) → Rising b (nums rest ++ ks)

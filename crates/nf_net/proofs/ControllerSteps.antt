@@ -1,5 +1,5 @@
 -- The controller's step on a message of a run leads from a world of a run to one.
-use Rattle.std.proofs.Common.{◌≡◌, ℕ, ◌≤◌, Bool, true, false, Option, Some, None, refl, arith}
+use Rattle.std.proofs.Common.{◌≡◌, ℕ, ◌≤◌, true, false, Option, Some, None, refl, arith}
 use Rattle.std.specs.Prelude.{if◌then◌else◌, ◌==◌}
 use Rattle.nf_function.specs.Records.{Laws as FunctionLaws}
 use Rattle.nf_function.specs.Semantics.{Semantics}
@@ -10,7 +10,7 @@ use Rattle.nf_msgs.specs.Nodes.{switch_node}
 use Rattle.ctrl_node.specs.Controller.{ControllerState, still, instance_at, on_final, row}
 use Rattle.unit_machine.proofs.Real as real
 use Rattle.nf_net.specs.Nodes.{node_step}
-use Rattle.nf_net.proofs.Outline.{number, outline_piece}
+use Rattle.nf_net.proofs.Outline.{outline_piece}
 use Rattle.nf_net.proofs.MoveOutline.{IsChunk, enabled_row, piece_row, deleted_row, put_ok_row, restored_row, fenced_row}
 use Rattle.nf_net.proofs.ControllerScenes.{RowLeads, lead, stays}
 use Rattle.nf_net.proofs.ControllerTurns.{each_same, numbered_leads, put_no_leads, event_leads}
