@@ -92,7 +92,7 @@ module _ (site : Site) (packet : ℕ → Packet) where
     pub fits : flow_fits (flow_of site cell.packet).0 ≡ true
 
 module _ {R : Type 0} (f : Semantics R) (site : Site) (packet : ℕ → Packet) where
-  after_same : (live : Records R) (at : Site) (cell : FullCell) → at ≡ site → IsGenuine site packet cell → after_packet f at live cell.packet ≡ process (sys f site packet) live (number cell)
+  pub after_same : (live : Records R) (at : Site) (cell : FullCell) → at ≡ site → IsGenuine site packet cell → after_packet f at live cell.packet ≡ process (sys f site packet) live (number cell)
   after_same live at cell is g =
       let stepped : Packet → Records R = λ p. finite.insert live (unit_at f.kind site p) (f.stepped site (finite.get live (unit_at f.kind site p)) p).kept in
       let transport = g.transport in
@@ -153,7 +153,7 @@ filter_map-put {Y = Y} g (x ∷ xs) ys = by_head (g x) refl (filter_map-put g xs
     by_head None e rest = rw e rest
     by_head (Some y) e rest = rw e (ap (λ zs. y ∷ zs) rest)
 
-held_genuine : (site : Site) (packet : ℕ → Packet) (op : ℕ) (rs : List (EventRule FullCell)) → Each (λ r. Each (IsGenuine site packet) r.held) rs → Each (IsGenuine site packet) (rules.held_at rs op)
+pub held_genuine : (site : Site) (packet : ℕ → Packet) (op : ℕ) (rs : List (EventRule FullCell)) → Each (λ r. Each (IsGenuine site packet) r.held) rs → Each (IsGenuine site packet) (rules.held_at rs op)
 held_genuine site packet op [] h = tt
 held_genuine site packet op (r ∷ rs) h =
     elim (r.op == op) as (λ b. Each (IsGenuine site packet) (option_map_or (λ x. x.held) (if b then Some r else rules.rule_at rs op) [])) [

@@ -11,6 +11,7 @@ pub mod LogLemmas
 pub mod MoveOutline
 pub mod MoveSteps
 pub mod Outline
+pub mod OutputLemmas
 pub mod StartJoined
 pub mod StartingLemmas
 pub mod StateOutline
