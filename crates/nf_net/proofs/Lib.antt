@@ -2,6 +2,7 @@ pub mod ControlOutline
 pub mod ControllerSteps
 pub mod FiltersApart
 pub mod InputLemmas
+pub mod InstanceNotes
 pub mod InstanceOutline
 pub mod InstanceSteps
 pub mod Joined
