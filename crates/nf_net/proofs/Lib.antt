@@ -13,6 +13,7 @@ pub mod MoveOutline
 pub mod MoveSteps
 pub mod Outline
 pub mod OutputLemmas
+pub mod OutputSteps
 pub mod StartJoined
 pub mod StartingLemmas
 pub mod StateOutline

@@ -142,7 +142,7 @@ module _ {R : Type 0} (f : Semantics R) (c : Config) (items : List Msg) where
     answered_packet node ds rest = answered_next (live_in live) (live_in after) (record { number = n; node = node; output = output }) ds carried output_is left rest
 
   -- the fold over packets is that of the abstract network
-  fold_is : (kept : Option R) (ds : List Done) (u : units.Unit) → Each (λ d. IsCarried items d.number) ds → fold f c items kept (numbers u ds) ≡ readings.fold net.F kept (numbers u ds)
+  pub fold_is : (kept : Option R) (ds : List Done) (u : units.Unit) → Each (λ d. IsCarried items d.number) ds → fold f c items kept (numbers u ds) ≡ readings.fold net.F kept (numbers u ds)
   fold_is kept [] u h = refl
   fold_is kept (d ∷ ds) u h =
       let stepped : Option R = Some (f.stepped c.site kept (packet_of items d.number)).kept in
