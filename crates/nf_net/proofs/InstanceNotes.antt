@@ -1,5 +1,5 @@
 -- What a step of an instance notes as processed is answered as by one instance with its records; other nodes note none.
-use Rattle.std.proofs.Common.{◌≡◌, ℕ, Bool, true, false, Option, Some, None, List, [], ◌∷◌, ◌++◌, append-nil, refl, sym, ap, ◌∙◌, subst}
+use Rattle.std.proofs.Common.{◌≡◌, ℕ, Bool, true, false, Option, Some, None, List, [], ◌∷◌, append-nil, refl, sym, subst}
 use Rattle.std.specs.Prelude.{if◌then◌else◌, ◌&&◌, ◌||◌, ◌==◌, not, nat_lt, length, Result, Ok, Err}
 use Rattle.std.specs.FinMap as finite
 use Rattle.flow_filter.specs.Flow.{flow_of}
@@ -40,7 +40,7 @@ use Rattle.actor_net.specs.Network.{Stepped}
 use Rattle.unit_machine.proofs.Labels.{Each}
 use Rattle.nf_net.specs.declared.config.Config.{Config}
 use Rattle.nf_net.specs.Input.{packet_of}
-use Rattle.nf_net.specs.Log.{Done, done}
+use Rattle.nf_net.specs.Log.{done}
 use Rattle.nf_net.proofs.InstanceOutline.{IsGenuine}
 use Rattle.nf_net.proofs.Joined.{is_unshared}
 use Rattle.nf_net.proofs.OutputLemmas.{Answered, answered_nothing, answered_packet}

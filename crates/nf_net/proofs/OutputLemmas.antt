@@ -1,9 +1,8 @@
 -- Packets that were processed are answered as one instance answers them: what an instance notes, from the records that it has.
-use Rattle.std.proofs.Common.{◌≡◌, ◌≢◌, ℕ, Bool, true, false, Option, Some, None, List, [], ◌∷◌, ◌++◌, map, append-nil, refl, sym, ap, ◌∙◌, subst}
+use Rattle.std.proofs.Common.{◌≡◌, ◌≢◌, ℕ, Bool, true, false, Option, Some, None, List, [], ◌∷◌, ◌++◌, map, refl, sym, ap, ◌∙◌, subst}
 use Rattle.std.specs.Prelude.{if◌then◌else◌}
 use Rattle.std.specs.List.{filter_map}
 use Rattle.std.specs.FinMap as finite
-use Rattle.flow_filter.specs.declared.packet.Packet.{Packet}
 use Rattle.flow_filter.specs.declared.site.Site.{Site}
 use Rattle.nf_function.specs.declared.output.Output.{Output}
 use Rattle.nf_function.specs.declared.unit.Unit as units
@@ -19,7 +18,7 @@ use Rattle.nf_msgs.specs.Nodes.{instance_node}
 use Rattle.unit_machine.proofs.Labels.{Each, each-append}
 use Rattle.abstract_net.proofs.Net.{Sys}
 use Rattle.abstract_net.proofs.Readings as readings
-use Rattle.abstract_net.proofs.Rest.{none_mine, done_u}
+use Rattle.abstract_net.proofs.Rest.{none_mine}
 use Rattle.nf_net.specs.declared.config.Config.{Config}
 use Rattle.nf_net.specs.Input.{packet_of}
 use Rattle.nf_net.specs.Log.{Done, done, done_of}

@@ -1,5 +1,5 @@
 -- Along a run all packets that were processed are answered as one instance that nothing moved answers them.
-use Rattle.std.proofs.Common.{◌≡◌, ◌≢◌, ℕ, zero, suc, ◌+◌, ◌<◌, ◌≤◌, Bool, true, false, Option, Some, None, List, [], ◌∷◌, ◌++◌, map, length, refl, sym, ap, ◌∙◌, subst, arith}
+use Rattle.std.proofs.Common.{◌≡◌, ◌≢◌, ℕ, zero, suc, ◌+◌, ◌≤◌, true, false, Option, Some, None, List, [], ◌∷◌, map, length, refl, sym, ap, ◌∙◌, subst, arith}
 use Rattle.std.specs.Prelude.{if◌then◌else◌, ◌&&◌, ◌==◌}
 use Rattle.std.specs.List.{filter_map}
 use Rattle.std.specs.FinMap as finite
@@ -34,7 +34,7 @@ use Rattle.nf_net.specs.Promises.{is_of, fold, outputs, went, given as given_of}
 use Rattle.nf_net.specs.Start.{first_nodes, started}
 use Rattle.nf_net.proofs.Outline.{number, ran_in, is_sys, outline_instance}
 use Rattle.nf_net.proofs.InstanceOutline.{carry_follows, pass_follows, fence_follows, held_genuine}
-use Rattle.nf_net.proofs.Joined.{Given, place, count, S, shown, by_node, node_of, Scene, IsInstanceAt, AreShown, Joined, IsTaken}
+use Rattle.nf_net.proofs.Joined.{Given, place, count, S, shown, by_node, node_of, Scene, AreShown, Joined, IsTaken}
 use Rattle.nf_net.proofs.JoinedSteps.{is_taken, joined_next}
 use Rattle.nf_net.proofs.LogLemmas.{done-append}
 use Rattle.nf_net.proofs.StartJoined.{given, start_joined, count_at_start}
@@ -82,17 +82,20 @@ module _ {F R : Type 0} (f : Semantics R) (c : Config) (items : List Msg) (is : 
     abbrev i : InstanceState F R
     i = x.nodes.instance k
 
-    -- where an instance processes packets, its records are what is kept
-    fresh_at : (m : Msg) → Takes_it k p m → (a : net.Msg R) (notes : List Note) → shown f (g f c items is) m ≡ Some a → filter_map ran_in notes ≡ (inst_step (S f (g f c items is)) (outline_instance f c.site (packet_of items) i) a).ran → Answered f c items (live_of i) (done notes) → Now notes
-    fresh_at m t a notes seen ran ok =
+    -- where an instance processes packets of a unit, its record is what is kept
+    kept_is : (m : Msg) → Takes_it k p m → (a : net.Msg R) (notes : List Note) → shown f (g f c items is) m ≡ Some a → filter_map ran_in notes ≡ (inst_step (S f (g f c items is)) (outline_instance f c.site (packet_of items) i) a).ran → (u : units.Unit) → numbers f c items u (done notes) ≢ [] → live_of i u ≡ so_far f c items is x.log u
+    kept_is m t a notes seen ran u some =
         let at = are.instances k two t.receiver in
         let k0 : (k == 0) ≡ false = grind (arith, nat_tests, two) in
         let k1 : (k == 1) ≡ false = grind (arith, nat_tests, two) in
         let off : (p == 0) && (k == 0) ≡ false = grind (arith, nat_tests, two) in
-        answered_by f c items (live_of i) (so_far f c items is x.log) (done notes) ok (λ u some.
-          ap (λ y. finite.get y.live u) at.outline_is
-          ∙ fresh (S f (g f c items is)) (is_sys f c.site (packet_of items)) x.world _ _ are.every p k a t.rest k0 k1 (t.head off a seen) u (λ none. some (numbers_ran f c items u notes ∙ ap (none_mine (S f (g f c items is)) u) (ran ∙ ap (λ y. (inst_step (S f (g f c items is)) y a).ran) at.outline_is) ∙ none))
-          ∙ sym (fold_same f c items is u x.log x.world.done are.done_is so.carried))
+        let its : numbers f c items u (done notes) ≡ none_mine (S f (g f c items is)) u (inst_step (S f (g f c items is)) (x.world.inst k) a).ran = numbers_ran f c items u notes ∙ ap (none_mine (S f (g f c items is)) u) (ran ∙ ap (λ y. (inst_step (S f (g f c items is)) y a).ran) at.outline_is) in
+        ap (λ y. finite.get y.live u) at.outline_is
+        ∙ fresh (S f (g f c items is)) (is_sys f c.site (packet_of items)) x.world _ _ are.every p k a t.rest k0 k1 (t.head off a seen) u (λ none. some (its ∙ none))
+        ∙ sym (fold_same f c items is u x.log x.world.done are.done_is so.carried)
+
+    fresh_at : (m : Msg) → Takes_it k p m → (a : net.Msg R) (notes : List Note) → shown f (g f c items is) m ≡ Some a → filter_map ran_in notes ≡ (inst_step (S f (g f c items is)) (outline_instance f c.site (packet_of items) i) a).ran → Answered f c items (live_of i) (done notes) → Now notes
+    fresh_at m t a notes seen ran ok = answered_by f c items (live_of i) (so_far f c items is x.log) (done notes) ok (kept_is m t a notes seen ran)
 
     instance_answers : (m : Msg) → Takes_it k p m → Now (instance_step f i m).notes
     instance_answers (msg.Carry mark.Plain cell) t =
@@ -130,7 +133,7 @@ module _ (F : Type 0) {R : Type 0} (f : Semantics R) (laws : FunctionLaws f) (al
   start = started alloc c items
 
   -- what is known of a world of a run
-  abbrev Known : Network (Node F R) Msg Note → Type 0
+  abbrev pub Known : Network (Node F R) Msg Note → Type 0
   Known w = Joined f (g f c items is) (length c.names + 2) w × AreAnswered f c items is w.log
 
   start_world : IsWorld start
