@@ -2,7 +2,7 @@ pub mod ControlOutline
 pub mod ControllerSteps
 pub mod FiltersApart
 pub mod InputLemmas
-pub mod InstanceNotes
+pub mod AnsweredNotes
 pub mod InstanceOutline
 pub mod InstanceSteps
 pub mod Joined

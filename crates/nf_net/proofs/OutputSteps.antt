@@ -40,7 +40,7 @@ use Rattle.nf_net.proofs.LogLemmas.{done-append}
 use Rattle.nf_net.proofs.StartJoined.{given, start_joined, count_at_start}
 use Rattle.nf_net.proofs.StartingLemmas.{few_nodes}
 use Rattle.nf_net.proofs.OutputLemmas.{IsCarried, numbers, Answered, answered_nothing, answered_more, answered_by, fold_is, numbers_ran}
-use Rattle.nf_net.proofs.InstanceNotes.{live_of, carry_answered, fence_answered, instance_none, switch_none, controller_none}
+use Rattle.nf_net.proofs.AnsweredNotes.{live_of, carry_answered, fence_answered, instance_none, switch_none, controller_none}
 
 module _ {R : Type 0} (f : Semantics R) (c : Config) (items : List Msg) (is : IsInput f.kind c items) where
   abbrev g : Given
