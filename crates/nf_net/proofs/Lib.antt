@@ -1,3 +1,4 @@
+pub mod AnsweredNotes
 pub mod ControlOutline
 pub mod ControllerBegins
 pub mod ControllerScenes
@@ -18,6 +19,8 @@ pub mod LogLemmas
 pub mod MoveOutline
 pub mod MoveSteps
 pub mod Outline
+pub mod OutputLemmas
+pub mod OutputSteps
 pub mod RecordPromises
 pub mod RunsJoined
 pub mod StartJoined
