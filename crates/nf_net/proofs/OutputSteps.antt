@@ -37,7 +37,7 @@ use Rattle.nf_net.proofs.InstanceOutline.{carry_follows, pass_follows, fence_fol
 use Rattle.nf_net.proofs.Joined.{Given, place, count, S, shown, by_node, node_of, Scene, AreShown, Joined, IsTaken}
 use Rattle.nf_net.proofs.JoinedSteps.{is_taken, joined_next}
 use Rattle.nf_net.proofs.LogLemmas.{done-append}
-use Rattle.nf_net.proofs.StartJoined.{given, start_joined, count_at_start}
+use Rattle.nf_net.proofs.StartJoined.{all_fit, given, start_joined, count_at_start}
 use Rattle.nf_net.proofs.StartingLemmas.{few_nodes}
 use Rattle.nf_net.proofs.OutputLemmas.{IsCarried, numbers, Answered, answered_nothing, answered_more, answered_by, fold_is, numbers_ran}
 use Rattle.nf_net.proofs.AnsweredNotes.{live_of, carry_answered, fence_answered, instance_none, switch_none, controller_none}
@@ -124,7 +124,7 @@ module _ {F R : Type 0} (f : Semantics R) (laws : FunctionLaws f) (c : Config) (
       let takes = subst (λ y. Takes (node_step f) n w k.node k.port y t.message t.rest) same t.takes in
       let ready = subst (λ y. is_input k ≡ true → node_ready y t.message ≡ true) same t.was_ready in
       let notes = (node_step f (node_of j.nodes k.node) k.port t.message).notes in
-      let now = node_answers f c items is n _ j.shown_is so k.node k.port t.message (is_taken f laws (g f c items is) n count_is w k.node k.port t.message t.rest j takes ready) in
+      let now = node_answers f c items is n _ j.shown_is so k.node k.port t.message (is_taken f laws (g f c items is) (all_fit f c items is) n count_is w k.node k.port t.message t.rest j takes ready) in
       let log = (taken_outcome (node_step f) n w k.node k.port (node_of j.nodes k.node) t.message t.rest takes).log in
       subst (λ l. AreAnswered f c items is l) (sym log) (subst (λ ds. Answered f c items (λ u. None) ds) (sym (done-append w.log notes)) (answered_more f c items (done w.log) (done notes) so now))
 
@@ -143,7 +143,7 @@ module _ (F : Type 0) {R : Type 0} (f : Semantics R) (laws : FunctionLaws f) (al
   pub run_answered : (cs : List Choice) → IsRun node_ready (node_step f) cs start → Known (run (node_step f) cs start)
   run_answered cs runs =
       run_induction node_ready (node_step f) (length c.names + 2) (λ cs w. Known w) start (λ cs w k next h. (
-        joined_next f laws (g f c items is) (length c.names + 2) refl w k next.taking h.0,
+        joined_next f laws (g f c items is) (all_fit f c items is) (length c.names + 2) refl w k next.taking h.0,
         outputs_next f laws c items is (length c.names + 2) refl w k next.taking h.0 h.1,
       )) start_world (count_at_start F f alloc c items is) (start_joined F f alloc c items is, answered_nothing f c items (λ u. None)) cs runs
 
