@@ -1,3 +1,5 @@
+pub mod ArrivalLemmas
+pub mod ArrivalNotes
 pub mod ControlOutline
 pub mod ControllerSteps
 pub mod FiltersApart

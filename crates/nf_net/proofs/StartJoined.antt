@@ -227,7 +227,7 @@ module _ (F : Type 0) {R : Type 0} (f : Semantics R) (alloc : Global) (c : Confi
     rising = subst (λ ns. Rising 0 ns) (same_numbers f g items) (rising_of 0 (map (λ k. k.op) (commands items)) is.ops);
   }
 
-  count_at_start : length (first_nodes {F = F} {R = R} alloc c) ≡ length c.names + 2
+  pub count_at_start : length (first_nodes {F = F} {R = R} alloc c) ≡ length c.names + 2
   count_at_start = let few = length-first_instances F R alloc c (length c.names) in omega (arith, few)
 
   instance_found : (i j : ℕ) (d : Node F R) → j < i → get_or (first_instances alloc c i) j d ≡ Instance (first_instance alloc c j)
