@@ -6,7 +6,7 @@ use Rattle.std.specs.declared.alloc.Global.{Global}
 use Rattle.std.proofs.lemmas.Bool.Decides.{nat_tests}
 use Rattle.flow_filter.specs.declared.packet.Packet.{Packet}
 use Rattle.flow_filter.specs.Flow.{flow_of}
-use Rattle.nf_function.specs.Records.{Laws as FunctionLaws}
+use Rattle.nf_function.specs.Records.{Fits, Laws as FunctionLaws}
 use Rattle.nf_function.specs.Semantics.{Semantics}
 use Rattle.event_filter.specs.declared.mark.Mark.TheVariants as mark
 use Rattle.switch_rules.specs.declared.target.Target.TheVariants as target
@@ -34,7 +34,7 @@ use Rattle.nf_net.proofs.ArrivalNotes.{is_packet, switch_notes_none, controller_
 use Rattle.nf_net.proofs.Joined.{Given, count, node_of, Scene, AreShown, IsTaken, Joined}
 use Rattle.nf_net.proofs.JoinedSteps.{scene, is_taken, input_after, joined_next}
 use Rattle.nf_net.proofs.LogLemmas.{arrived-append}
-use Rattle.nf_net.proofs.StartJoined.{given, start_joined, count_at_start}
+use Rattle.nf_net.proofs.StartJoined.{given, all_fit, start_joined, count_at_start}
 use Rattle.nf_net.proofs.StartingLemmas.{few_nodes}
 
 -- the numbers of an input's packets
@@ -88,6 +88,9 @@ module _ (F : Type 0) {R : Type 0} (f : Semantics R) (laws : FunctionLaws f) (al
   abbrev n : ℕ
   n = length c.names + 2
 
+  abbrev fitting : (number : ℕ) → Fits g.site (g.packet number)
+  fitting = all_fit f c items is
+
   -- those that arrived and those that wait are those that were given
   abbrev InTurn : Network (Node F R) Msg Note → Type 0
   InTurn w = arrived w.log ++ numbers (waiting w (at 0 0)) ≡ numbers items
@@ -96,9 +99,9 @@ module _ (F : Type 0) {R : Type 0} (f : Semantics R) (laws : FunctionLaws f) (al
   turn_after w k p m rest j takes ready h =
       let notes = (node_step f (node_of j.nodes k) p m).notes in
       let left = (taken_outcome (node_step f) n w k p (node_of j.nodes k) m rest takes).log in
-      let turned = turns f g n (scene f laws g n refl w j) k p m j.shown_is (is_taken f laws g n refl w k p m rest j takes ready) in
+      let turned = turns f g n (scene f laws g fitting n refl w j) k p m j.shown_is (is_taken f laws g fitting n refl w k p m rest j takes ready) in
       ap (λ l. arrived l ++ numbers (waiting (taken (node_step f) w (at k p)) (at 0 0))) left
-      ∙ ap (λ xs. arrived (w.log ++ notes) ++ numbers xs) (input_after f laws g n refl w k p m rest j takes ready)
+      ∙ ap (λ xs. arrived (w.log ++ notes) ++ numbers xs) (input_after f laws g fitting n refl w k p m rest j takes ready)
       ∙ ap (λ v. v ++ numbers (less_first ((0 == k) && (0 == p)) (waiting w (at 0 0)))) (arrived-append w.log notes)
       ∙ append_assoc (arrived w.log) (arrived notes) (numbers (less_first ((0 == k) && (0 == p)) (waiting w (at 0 0))))
       ∙ ap (λ v. arrived w.log ++ v) turned ∙ h
@@ -113,7 +116,7 @@ module _ (F : Type 0) {R : Type 0} (f : Semantics R) (laws : FunctionLaws f) (al
       let j = h.joined in
       let same : t.node ≡ node_of j.nodes ch.node = sym (t.takes.node_is t.node) ∙ j.nodes_are ch.node t.takes.receiver t.node in
       record {
-        joined = joined_next f laws g n refl w ch t j;
+        joined = joined_next f laws g fitting n refl w ch t j;
         in_turn = turn_after w ch.node ch.port t.message t.rest j (subst (λ y. Takes (node_step f) n w ch.node ch.port y t.message t.rest) same t.takes) (subst (λ y. is_input ch ≡ true → node_ready y t.message ≡ true) same t.was_ready) h.in_turn;
       }
 

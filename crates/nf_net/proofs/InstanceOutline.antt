@@ -153,7 +153,7 @@ filter_map-put {Y = Y} g (x ∷ xs) ys = by_head (g x) refl (filter_map-put g xs
     by_head None e rest = rw e rest
     by_head (Some y) e rest = rw e (ap (λ zs. y ∷ zs) rest)
 
-held_genuine : (site : Site) (packet : ℕ → Packet) (op : ℕ) (rs : List (EventRule FullCell)) → Each (λ r. Each (IsGenuine site packet) r.held) rs → Each (IsGenuine site packet) (rules.held_at rs op)
+pub held_genuine : (site : Site) (packet : ℕ → Packet) (op : ℕ) (rs : List (EventRule FullCell)) → Each (λ r. Each (IsGenuine site packet) r.held) rs → Each (IsGenuine site packet) (rules.held_at rs op)
 held_genuine site packet op [] h = tt
 held_genuine site packet op (r ∷ rs) h =
     elim (r.op == op) as (λ b. Each (IsGenuine site packet) (option_map_or (λ x. x.held) (if b then Some r else rules.rule_at rs op) [])) [

@@ -119,9 +119,10 @@ module _ {R : Type 0} (f : Semantics R) (g : Given) where
     pub known : g.orders c.op ≡ Some c.what
     pub moves : is_move c.what ≡ true
 
-  -- a chunk that spells a record of its unit, and packets may have the unit
+  -- a chunk that spells a valid record of its unit, and packets may have the unit
   pub record IsGoodChunk (c : Chunk) : Type 0 where
     pub chunk : IsChunk f (place g) c
+    pub valid : f.is_valid chunk.entry.0 chunk.entry.1 ≡ true
     pub fits : unit_fits f.kind chunk.entry.0 ≡ true
 
   -- such chunks, no two of one unit

@@ -3,7 +3,7 @@ use Rattle.std.proofs.Common.{◌≡◌, ◌≢◌, ℕ, zero, suc, ◌+◌, ◌
 use Rattle.std.specs.Prelude.{if◌then◌else◌, ◌&&◌, ◌==◌, nat_lt, not}
 use Rattle.std.specs.List.{filter_map}
 use Rattle.std.proofs.lemmas.Bool.Decides.{nat_tests, Decides-eqb}
-use Rattle.nf_function.specs.Records.{Laws as FunctionLaws}
+use Rattle.nf_function.specs.Records.{Fits, Laws as FunctionLaws}
 use Rattle.nf_function.specs.Semantics.{Semantics}
 use Rattle.nf_msgs.specs.declared.msg.Msg.{Msg}
 use Rattle.nf_msgs.specs.declared.note.Note.{Note}
@@ -27,7 +27,7 @@ use Rattle.nf_net.proofs.SwitchSteps.{switch_leads}
 use Rattle.nf_net.proofs.ControllerSteps.{controller_leads}
 use Rattle.nf_net.proofs.InstanceSteps.{instance_leads}
 
-module _ {F R : Type 0} (f : Semantics R) (laws : FunctionLaws f) (g : Given) (n : ℕ) (count_is : n ≡ count f g + 2) where
+module _ {F R : Type 0} (f : Semantics R) (laws : FunctionLaws f) (g : Given) (fitting : (number : ℕ) → Fits g.site (g.packet number)) (n : ℕ) (count_is : n ≡ count f g + 2) where
   abbrev pub step : Node F R → ℕ → Msg → Stepped (Node F R) Msg Note
   step = node_step f
 
@@ -38,7 +38,7 @@ module _ {F R : Type 0} (f : Semantics R) (laws : FunctionLaws f) (g : Given) (n
   leads : (x : Scene F f g) (k p : ℕ) (m : Msg) → AreShown f g n x → IsTaken f g n x (record { node = k; port = p; message = m }) → Leads f g n x (record { node = k; port = p; message = m }) (step (node_of x.nodes k) p m)
   leads x zero p m are is = switch_leads f laws g n x p m are is
   leads x (suc zero) p m are is = controller_leads f laws g n x p m are is
-  leads x (suc (suc i)) p m are is = instance_leads f laws g n x p m (suc (suc i)) (omega arith) are is
+  leads x (suc (suc i)) p m are is = instance_leads f laws g fitting n x p m (suc (suc i)) (omega arith) are is
 
   module _ (w : Network (Node F R) Msg Note) (k p : ℕ) (m : Msg) (rest : List Msg) (j : Joined f g n w) (takes : Takes step n w k p (node_of j.nodes k) m rest) (was_ready : is_input (at k p) ≡ true → node_ready (node_of j.nodes k) m ≡ true) where
     abbrev pub took : Took

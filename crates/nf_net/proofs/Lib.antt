@@ -4,7 +4,11 @@ pub mod ControlOutline
 pub mod ControllerSteps
 pub mod FiltersApart
 pub mod InputLemmas
+pub mod InstanceKeeps
+pub mod InstanceNotes
 pub mod InstanceOutline
+pub mod InstanceRows
+pub mod InstanceSends
 pub mod InstanceSteps
 pub mod Joined
 pub mod JoinedSteps
@@ -13,6 +17,8 @@ pub mod LogLemmas
 pub mod MoveOutline
 pub mod MoveSteps
 pub mod Outline
+pub mod RecordPromises
+pub mod RunsJoined
 pub mod StartJoined
 pub mod StartingLemmas
 pub mod StateOutline

@@ -1,5 +1,5 @@
 -- The world at the start of a run is a world of a run.
-use Rattle.std.proofs.Common.{◌≡◌, ℕ, zero, suc, ◌+◌, ◌-◌, ◌<◌, ◌≤◌, ◌^◌, Bool, true, false, Option, Some, None, List, [], ◌∷◌, ◌++◌, map, length, get_or, refl, sym, ap, ◌∙◌, subst, arith}
+use Rattle.std.proofs.Common.{◌≡◌, ℕ, zero, suc, ◌+◌, ◌-◌, ◌<◌, ◌≤◌, ◌^◌, Bool, true, false, Option, Some, None, List, [], ◌∷◌, ◌++◌, map, length, get_or, lit<, refl, sym, ap, ◌∙◌, subst, arith}
 use Rattle.std.specs.Prelude.{if◌then◌else◌, ◌&&◌, ◌||◌, ◌==◌, not, nat_lt, is_some, option_map, unwrap_or, find, All}
 use Rattle.std.specs.declared.alloc.Global.{Global}
 use Rattle.std.specs.FinMap as finite
@@ -24,6 +24,7 @@ use Rattle.flow_filter.specs.Filter.{IsFilter, IsFlow, matches}
 use Rattle.flow_filter.specs.Flow.{flow_of}
 use Rattle.nf_function.specs.declared.unit.Unit as units
 use Rattle.nf_function.specs.declared.kind.Kind.{Kind}
+use Rattle.nf_function.specs.Records.{Fits}
 use Rattle.nf_function.specs.Units.{unit_cmp, unit_of}
 use Rattle.nf_function.specs.Semantics.{Semantics, unit_at}
 use Rattle.record_table.specs.Table.{Records}
@@ -82,7 +83,18 @@ module _ {R : Type 0} (f : Semantics R) (c : Config) (items : List Msg) (is : Is
 
   -- The items.
   found_packet : (p : Packet) → find (λ q. q.number == p.number) (packets items) ≡ Some p → IsSteered c.site p → GenuinePacket f given p
-  found_packet p found ok = record { same = sym (ap (λ o. unwrap_or o no_packet) found); transport = ok.transport; fits = fits_flow (flow_of c.site p).0 ok.flow }
+  found_packet p found ok = record { same = sym (ap (λ o. unwrap_or o no_packet) found); transport = ok.fits.transport; fits = fits_flow (flow_of c.site p).0 ok.flow }
+
+  fits_found : (number : ℕ) (ps : List Packet) → Each (IsSteered c.site) ps → Fits c.site (unwrap_or (find (λ p. p.number == number) ps) no_packet)
+  fits_found number [] h = record { transport = refl; nanos = lit< tt; length = lit< tt; src = lit< tt; sport = lit< tt; dst = lit< tt; dport = lit< tt; inside = is.site }
+  fits_found number (p ∷ ps) h = elim (p.number == number) as (λ b. Fits c.site (unwrap_or (if b then Some p else find (λ q. q.number == number) ps) no_packet)) [
+    | true ↦ h.0.fits
+    | false ↦ fits_found number ps h.1
+  ]
+
+  -- the packet of any number fits its types
+  pub all_fit : (number : ℕ) → Fits c.site (packet_of items number)
+  all_fit number = fits_found number (packets items) (all_each (IsSteered c.site) (packets items) is.steered)
 
   genuine : Each (GenuinePacket f given) (packets items)
   genuine = each_both found_packet (packets items) (found_each (λ p. p.number) 0 (packets items) is.numbers) (all_each (IsSteered c.site) (packets items) is.steered)

@@ -43,13 +43,13 @@ use Rattle.nf_net.proofs.InstanceOutline.{Follows}
 
 module _ {R : Type 0} (f : Semantics R) (laws : FunctionLaws f) where
   -- the chunk of an entry
-  abbrev chunk_of : units.Unit × R → Chunk
+  abbrev pub chunk_of : units.Unit × R → Chunk
   chunk_of e = record_chunk f e.0 e.1
 
-  abbrev AreValid : Chunks R → Type 0
+  abbrev pub AreValid : Chunks R → Type 0
   AreValid es = Each (λ e. f.is_valid e.0 e.1 ≡ true) es
 
-  entries_made : (es : Chunks R) → AreValid es → entries f (map chunk_of es) ≡ es
+  pub entries_made : (es : Chunks R) → AreValid es → entries f (map chunk_of es) ≡ es
   entries_made [] h = refl
   entries_made (e ∷ es) h = let one = spelled-record_chunk f laws e.0 e.1 h.0 in rw one (ap (λ xs. e ∷ xs) (entries_made es h.1))
 
@@ -58,22 +58,22 @@ module _ {R : Type 0} (f : Semantics R) (laws : FunctionLaws f) where
   newest_made [] = refl
   newest_made (e ∷ es) = ap (λ n. max (version_number (f.is_timed e.1)) n) (newest_made es)
 
-  valid_take : (n : ℕ) (es : Chunks R) → AreValid es → AreValid (take n es)
+  pub valid_take : (n : ℕ) (es : Chunks R) → AreValid es → AreValid (take n es)
   valid_take zero es h = tt
   valid_take (suc n) [] h = tt
   valid_take (suc n) (e ∷ es) h = (h.0, valid_take n es h.1)
 
-  valid_drop : (n : ℕ) (es : Chunks R) → AreValid es → AreValid (drop n es)
+  pub valid_drop : (n : ℕ) (es : Chunks R) → AreValid es → AreValid (drop n es)
   valid_drop zero es h = h
   valid_drop (suc n) [] h = tt
   valid_drop (suc n) (e ∷ es) h = valid_drop n es h.1
 
-  map-take : (n : ℕ) (es : Chunks R) → take n (map chunk_of es) ≡ map chunk_of (take n es)
+  pub map-take : (n : ℕ) (es : Chunks R) → take n (map chunk_of es) ≡ map chunk_of (take n es)
   map-take zero es = refl
   map-take (suc n) [] = refl
   map-take (suc n) (e ∷ es) = ap (λ xs. chunk_of e ∷ xs) (map-take n es)
 
-  map-drop : (n : ℕ) (es : Chunks R) → drop n (map chunk_of es) ≡ map chunk_of (drop n es)
+  pub map-drop : (n : ℕ) (es : Chunks R) → drop n (map chunk_of es) ≡ map chunk_of (drop n es)
   map-drop zero es = refl
   map-drop (suc n) [] = refl
   map-drop (suc n) (e ∷ es) = map-drop n es

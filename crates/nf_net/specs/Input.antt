@@ -1,6 +1,6 @@
 -- What a run of the network is given: its configuration, whose filters take whole units, and an input of packets and commands in
 -- the order of their numbers. This project's own.
-use Rattle.std.specs.Prelude.{◌≡◌, ◌==◌, ◌≤◌, ℕ, suc, Bool, true, false, List, [], ◌∷◌, map, find, Option, option_map, unwrap_or, All}
+use Rattle.std.specs.Prelude.{◌≡◌, ◌==◌, ◌≤◌, ◌<◌, ◌^◌, ℕ, suc, Bool, true, false, List, [], ◌∷◌, map, find, Option, option_map, unwrap_or, All}
 use Rattle.std.specs.Str.{bytes_eq}
 use Rattle.flow_filter.specs.declared.filter.Filter.{Filter}
 use Rattle.flow_filter.specs.declared.packet.Packet.{Packet}
@@ -9,7 +9,8 @@ use Rattle.flow_filter.specs.Filter.{IsFilter, IsFlow}
 use Rattle.flow_filter.specs.FilterText.{fields_of}
 use Rattle.flow_filter.specs.Flow.{flow_of}
 use Rattle.nf_function.specs.declared.kind.Kind.{Kind}
-use Rattle.nf_function.specs.Units.{is_transport, splits}
+use Rattle.nf_function.specs.Records.{Fits}
+use Rattle.nf_function.specs.Units.{splits}
 use Rattle.nf_msgs.specs.declared.command.Command.{Command}
 use Rattle.nf_msgs.specs.declared.command.Order.{Order}
 use Rattle.nf_msgs.specs.declared.command.Order.TheVariants.{Move}
@@ -38,9 +39,9 @@ commands [] = []
 commands (InCommand command ∷ items) = command ∷ commands items
 commands (item ∷ items) = commands items
 
--- a packet of zeros, for numbers that no packet has
+-- a packet of TCP and else of zeros, for numbers that no packet has
 abbrev pub no_packet : Packet
-no_packet = record { nanos = 0; number = 0; src = 0; dst = 0; length = 0; sport = 0; dport = 0; proto = 0; flags = 0; held = 0; head = [] }
+no_packet = record { nanos = 0; number = 0; src = 0; dst = 0; length = 0; sport = 0; dport = 0; proto = 6; flags = 0; held = 0; head = [] }
 
 -- the packet with a number, and the order under one
 abbrev pub packet_of : List Msg → ℕ → Packet
@@ -54,9 +55,9 @@ abbrev pub IsRising : ℕ → List ℕ → Type 0
 IsRising least [] = Unit {0}
 IsRising least (n ∷ ns) = (least ≤ n) × IsRising (suc n) ns
 
--- a packet of TCP or UDP
+-- a packet of TCP or UDP, each of whose numbers is within its type, and so are those of its flow
 pub record IsSteered (site : Site) (packet : Packet) : Type 0 where
-  pub transport : is_transport packet.proto ≡ true
+  pub fits : Fits site packet
   pub flow : IsFlow (flow_of site packet).0
 
 -- a filter that takes whole units
@@ -72,6 +73,7 @@ IsMove kind what = ⊥
 -- what a run is given
 pub record IsInput (kind : Kind) (config : Config) (items : List Msg) : Type 0 where
   pub is_config : IsConfig config
+  pub site : config.site.inside.bits < 2 ^ 32
   pub routes : All (λ route. IsWhole kind route.0) config.routes
   pub only_items : All (λ item. is_item item ≡ true) items
   pub steered : All (IsSteered config.site) (packets items)

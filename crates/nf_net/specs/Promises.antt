@@ -32,7 +32,7 @@ pub record IsFront (front all : List ℕ) : Type 0 where
 -- the record of a unit that is live at an instance of a world
 abbrev pub live_in : {F R : Type 0} → units.Unit → Option (Node F R) → Option R
 live_in unit (Some (Instance i)) = finite.get i.table.live unit
-live_in unit node = None
+live_in unit other = None
 
 abbrev pub live_at : {F R : Type 0} → Network (Node F R) Msg Note → ℕ → units.Unit → Option R
 live_at w i unit = live_in unit (slice_get w.nodes (instance_node i))
