@@ -1,5 +1,6 @@
 pub mod ArrivalLemmas
 pub mod ArrivalNotes
+pub mod CompleteRuns
 pub mod ControlOutline
 pub mod ControllerSteps
 pub mod FiltersApart
