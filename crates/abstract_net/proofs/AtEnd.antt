@@ -1,14 +1,14 @@
 -- Where no message stands on the links between the first nodes, among them the switch, the controller and the sides of each open move:
 -- a unit whose target is among them has no packet left, and its record is live at its target.
-use Rattle.std.proofs.Common.{◌≡◌, ℕ, ◌+◌, ◌<◌, ◌≤◌, Bool, true, false, Option, Some, None, List, [], ◌∷◌, ◌++◌, map, refl, sym, ap, ◌∙◌, subst, arith}
+use Rattle.std.proofs.Common.{◌≡◌, ℕ, ◌<◌, ◌≤◌, Bool, true, false, Some, List, [], ◌++◌, map, refl, sym, ap, ◌∙◌, subst, arith}
 use Rattle.std.specs.Prelude.{if◌then◌else◌, ◌&&◌, ◌==◌}
 use Rattle.std.proofs.lemmas.Bool.Decides.{nat_tests}
-use Rattle.unit_machine.proofs.Machine.{Where as Side, At_a, At_b, At_c, Ran, after, Item, Carry, Phase, State, idle}
+use Rattle.unit_machine.proofs.Machine.{Where as Side, At_a, At_b, At_c, Ran, after, Carry, Phase, State}
 use Rattle.unit_machine.proofs.Lists.{firsts}
 use Rattle.unit_machine.proofs.Stages.{Order}
 use Rattle.unit_machine.proofs.Pairs.{Nodes, expect}
 use Rattle.unit_machine.proofs.NetViews.{items}
-use Rattle.unit_machine.proofs.Rests.{Silent, is_over, none_carried}
+use Rattle.unit_machine.proofs.Rests.{Silent, none_carried}
 use Rattle.unit_machine.proofs.Between.{At_rest_now, Rests_at, rest_at, seat_ends}
 use Rattle.unit_machine.proofs.Seats.{Seat, seat_shape, seat_all, seat_rests}
 use Rattle.unit_machine.proofs.Real.{Op}

@@ -1,7 +1,7 @@
 -- The switch takes the packets of the input in their order: those that arrived and those that wait are those that were given. This
 -- holds of each world of a run, beside what holds of it as one (`runs_joined`).
-use Rattle.std.proofs.Common.{◌≡◌, ℕ, zero, suc, ◌+◌, ◌<◌, Bool, true, false, Option, Some, None, List, [], ◌∷◌, ◌++◌, map, length, drop, append_assoc, append-nil, refl, sym, ap, ◌∙◌, subst, arith}
-use Rattle.std.specs.Prelude.{if◌then◌else◌, ◌&&◌, ◌==◌, nat_lt, unwrap_or}
+use Rattle.std.proofs.Common.{◌≡◌, ℕ, zero, suc, ◌+◌, true, false, List, ◌∷◌, ◌++◌, map, length, drop, append_assoc, refl, sym, ap, ◌∙◌, subst, arith}
+use Rattle.std.specs.Prelude.{◌&&◌, ◌==◌, unwrap_or}
 use Rattle.std.specs.declared.alloc.Global.{Global}
 use Rattle.std.proofs.lemmas.Bool.Decides.{nat_tests}
 use Rattle.flow_filter.specs.declared.packet.Packet.{Packet}
@@ -15,12 +15,12 @@ use Rattle.nf_msgs.specs.declared.msg.Msg.{Msg}
 use Rattle.nf_msgs.specs.declared.msg.Msg.TheVariants as msg
 use Rattle.nf_msgs.specs.declared.note.Note.{Note}
 use Rattle.nf_msgs.specs.Nodes.{instance_node}
-use Rattle.switch_node.specs.Switch.{SwitchState, arrives, has_room, on_packet, switch_step, target_of}
+use Rattle.switch_node.specs.Switch.{SwitchState, arrives, has_room, on_packet, target_of}
 use Rattle.actor_net.specs.declared.choice.Choice.{Choice}
 use Rattle.actor_net.specs.Network.{Network, IsRun, is_input, run, taken, waiting}
 use Rattle.actor_net.proofs.EnabledChoices.{at}
-use Rattle.actor_net.proofs.OpeningWorlds.{opening_waiting, opening_world}
-use Rattle.actor_net.proofs.RunInduction.{NextChoice, Taking, run_induction}
+use Rattle.actor_net.proofs.OpeningWorlds.{opening_waiting}
+use Rattle.actor_net.proofs.RunInduction.{Taking, run_induction}
 use Rattle.actor_net.proofs.StepOutcome.{Takes, taken_outcome}
 use Rattle.actor_net.proofs.WaitingMessages.{less_first}
 use Rattle.nf_net.specs.declared.config.Config.{Config}
@@ -31,9 +31,10 @@ use Rattle.nf_net.specs.Nodes.{node_step, node_ready}
 use Rattle.nf_net.specs.Promises.{IsFront}
 use Rattle.nf_net.specs.Start.{first_nodes, started}
 use Rattle.nf_net.proofs.ArrivalNotes.{is_packet, switch_notes_none, controller_notes_none, instance_notes_none}
-use Rattle.nf_net.proofs.Joined.{Given, count, node_of, Scene, AreShown, IsTaken, Joined}
+use Rattle.nf_net.proofs.Joined.{Given, node_of, Scene, AreShown, IsTaken, Joined}
 use Rattle.nf_net.proofs.JoinedSteps.{scene, is_taken, input_after, joined_next}
 use Rattle.nf_net.proofs.LogLemmas.{arrived-append}
+use Rattle.nf_net.proofs.RunsJoined.{start_world}
 use Rattle.nf_net.proofs.StartJoined.{given, all_fit, start_joined, count_at_start}
 use Rattle.nf_net.proofs.StartingLemmas.{few_nodes}
 
@@ -132,9 +133,7 @@ module _ (F : Type 0) {R : Type 0} (f : Semantics R) (laws : FunctionLaws f) (al
       }
 
   pub runs_joined : (cs : List Choice) → IsRun node_ready (node_step f) cs start → InRun (run (node_step f) cs start)
-  runs_joined =
-      let few = few_nodes {F = F} {R = R} alloc c (first_nodes alloc c) is.is_config refl in
-      run_induction node_ready (node_step f) n (λ cs w. InRun w) start (λ cs w ch next h. next_in_run w ch next.taking h) (opening_world {N = Note} (first_nodes {F = F} {R = R} alloc c) items few.0 few.1) (count_at_start F f alloc c items is) start_in_run
+  runs_joined = run_induction node_ready (node_step f) n (λ cs w. InRun w) start (λ cs w ch next h. next_in_run w ch next.taking h) (start_world F f laws alloc c items is) (count_at_start F f alloc c items is) start_in_run
 
   -- the switch takes the packets of the input in their order
   pub arrivals_run : (cs : List Choice) → IsRun node_ready (node_step f) cs start → IsFront (arrived (run (node_step f) cs start).log) (numbers items)

@@ -1,5 +1,5 @@
 -- In the world of a complete run each packet of the input was processed, and each unit that has a record has it at an instance.
-use Rattle.std.proofs.Common.{◌≡◌, ℕ, zero, suc, ◌+◌, ◌-◌, ◌<◌, ◌≤◌, Bool, true, false, Option, Some, None, List, [], ◌∷◌, ◌++◌, map, length, get_or, append-nil, refl, sym, ap, ◌∙◌, subst, arith}
+use Rattle.std.proofs.Common.{◌≡◌, ℕ, ◌+◌, ◌-◌, ◌<◌, ◌≤◌, true, false, Option, Some, None, List, [], ◌∷◌, ◌++◌, map, length, append-nil, refl, sym, ap, ◌∙◌, subst, arith}
 use Rattle.std.specs.Prelude.{if◌then◌else◌, ◌&&◌, ◌==◌, nat_lt, slice_get}
 use Rattle.std.specs.declared.alloc.Global.{Global}
 use Rattle.std.specs.List.{filter_map}
@@ -11,13 +11,11 @@ use Rattle.flow_filter.specs.Flow.{flow_of}
 use Rattle.nf_function.specs.declared.unit.Unit as units
 use Rattle.nf_function.specs.Records.{Laws as FunctionLaws}
 use Rattle.nf_function.specs.Semantics.{Semantics, unit_at}
-use Rattle.record_table.specs.Table.{same_unit}
 use Rattle.record_table.proofs.UnitOrder.{same_unit-true}
 use Rattle.event_store.specs.Store.{stored}
 use Rattle.nf_msgs.specs.declared.msg.Msg.{Msg}
 use Rattle.nf_msgs.specs.declared.note.Note.{Note}
 use Rattle.nf_msgs.specs.Nodes.{instance_node}
-use Rattle.packet_pool.specs.Pool.{FullCell}
 use Rattle.ctrl_node.specs.declared.operation.Operation.{Operation}
 use Rattle.ctrl_node.specs.declared.operation.Operation.TheVariants.{Move}
 use Rattle.actor_net.specs.declared.choice.Choice.{Choice}
@@ -31,7 +29,6 @@ use Rattle.unit_machine.proofs.Fits.{nil_right}
 use Rattle.unit_machine.proofs.Stages as stages
 use Rattle.unit_machine.proofs.Ends.{same_of}
 use Rattle.abstract_net.proofs.Net.{Open, find_op}
-use Rattle.abstract_net.proofs.Rest.{done_u}
 use Rattle.abstract_net.proofs.Readings as readings
 use Rattle.abstract_net.proofs.Readings.{exact_of, fold_runs, not_both}
 use Rattle.abstract_net.proofs.AtEnd.{At_end, at_end}
@@ -46,7 +43,7 @@ use Rattle.nf_net.specs.Start.{started}
 use Rattle.nf_net.proofs.ArrivalLemmas.{numbers, runs_joined}
 use Rattle.nf_net.proofs.ControlOutline.{Sees}
 use Rattle.nf_net.proofs.Outline.{is_sys}
-use Rattle.nf_net.proofs.Joined.{Given, GenuinePacket, S, bares, shown, place, node_of, Joined}
+use Rattle.nf_net.proofs.Joined.{Given, GenuinePacket, S, bares, shown, place, Joined}
 use Rattle.nf_net.proofs.RecordPromises.{instance_of}
 use Rattle.nf_net.proofs.RunsJoined.{done_same, not_bared, same_times, start_world}
 use Rattle.nf_net.proofs.StartJoined.{given, all_fit, count_at_start, genuine}
@@ -141,9 +138,8 @@ module _ {R : Type 0} (f : Semantics R) (c : Config) (items : List Msg) (is : Is
       has_record r h = by_came
           (λ none. let went_none : went f c items u w.log ≡ [] = sym went_is ∙ none in let never : None ≡ Some r = ap (fold f c items None) (sym went_none) ∙ h in cc)
           (λ few. let two = end.two in
-              let at : instance_node (j.world.target u - 2) ≡ j.world.target u = omega (arith, two) in
-              let ran : went f c items u w.log ≡ firsts end.ran = sym end_done in
-              (j.world.target u - 2, ap (λ k. live_in u (slice_get w.nodes k)) at ∙ live_there (j.world.target u) two few ∙ end.live ∙ fold_runs (S f g).F None end.ran ∙ ap (readings.fold (S f g).F None) (sym ran) ∙ sym (fold_is None (went f c items u w.log)) ∙ h))
+          let at : instance_node (j.world.target u - 2) ≡ j.world.target u = omega (arith, two) in
+          (j.world.target u - 2, ap (λ k. live_in u (slice_get w.nodes k)) at ∙ live_there (j.world.target u) two few ∙ end.live ∙ fold_runs (S f g).F None end.ran ∙ ap (readings.fold (S f g).F None) end_done ∙ sym (fold_is None (went f c items u w.log)) ∙ h))
         where
           end_done : firsts end.ran ≡ went f c items u w.log
           end_done = sym end.done ∙ done_same f c items is n w j u
