@@ -1,3 +1,4 @@
+pub mod AtEnd
 pub mod Net
 pub mod RuleLists
 pub mod Fresh

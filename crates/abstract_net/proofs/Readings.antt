@@ -24,11 +24,11 @@ pub fold_runs : {R : Type 0} (F : Steps R) (o : Option R) (d : List Ran) → run
 fold_runs F o [] = refl
 fold_runs F o (x ∷ d) = fold_runs F (Some (F.step o x.0)) d
 
-exact_of : (b : Bool) (xs ys : List ℕ) → b ≡ false → Order b xs ys → xs ≡ ys
+pub exact_of : (b : Bool) (xs ys : List ℕ) → b ≡ false → Order b xs ys → xs ≡ ys
 exact_of true xs ys e o = let never : true ≡ false = e in cc
 exact_of false xs ys e o = o
 
-not_both : (b c : Bool) → (b ≡ true → c ≡ true) → c ≡ false → b ≡ false
+pub not_both : (b c : Bool) → (b ≡ true → c ≡ true) → c ≡ false → b ≡ false
 not_both true c f e = let never : true ≡ false = sym (f refl) ∙ e in cc
 not_both false c f e = refl
 

@@ -28,10 +28,10 @@ use Rattle.nf_net.proofs.ControllerSteps.{controller_leads}
 use Rattle.nf_net.proofs.InstanceSteps.{instance_leads}
 
 module _ {F R : Type 0} (f : Semantics R) (laws : FunctionLaws f) (g : Given) (fitting : (number : ℕ) → Fits g.site (g.packet number)) (n : ℕ) (count_is : n ≡ count f g + 2) where
-  abbrev step : Node F R → ℕ → Msg → Stepped (Node F R) Msg Note
+  abbrev pub step : Node F R → ℕ → Msg → Stepped (Node F R) Msg Note
   step = node_step f
 
-  abbrev scene : (w : Network (Node F R) Msg Note) → Joined f g n w → Scene F f g
+  abbrev pub scene : (w : Network (Node F R) Msg Note) → Joined f g n w → Scene F f g
   scene w j = record { nodes = j.nodes; world = j.world; log = w.log; input = waiting w (at 0 0) }
 
   -- a node's step, by which node it is
@@ -41,7 +41,7 @@ module _ {F R : Type 0} (f : Semantics R) (laws : FunctionLaws f) (g : Given) (f
   leads x (suc (suc i)) p m are is = instance_leads f laws g fitting n x p m (suc (suc i)) (omega arith) are is
 
   module _ (w : Network (Node F R) Msg Note) (k p : ℕ) (m : Msg) (rest : List Msg) (j : Joined f g n w) (takes : Takes step n w k p (node_of j.nodes k) m rest) (was_ready : is_input (at k p) ≡ true → node_ready (node_of j.nodes k) m ≡ true) where
-    abbrev took : Took
+    abbrev pub took : Took
     took = record { node = k; port = p; message = m }
 
     label : Label f g p k m
@@ -69,14 +69,14 @@ module _ {F R : Type 0} (f : Semantics R) (laws : FunctionLaws f) (g : Given) (f
       ready = ready;
     }
 
-    abbrev did : Stepped (Node F R) Msg Note
+    abbrev pub did : Stepped (Node F R) Msg Note
     did = step (node_of j.nodes k) p m
 
     step_leads : Leads f g n (scene w j) took did
     step_leads = leads (scene w j) k p m j.shown_is is_taken
 
     -- the input after it
-    input_after : waiting (taken step w (at k p)) (at 0 0) ≡ less_first ((0 == k) && (0 == p)) (waiting w (at 0 0))
+    pub input_after : waiting (taken step w (at k p)) (at 0 0) ≡ less_first ((0 == k) && (0 == p)) (waiting w (at 0 0))
     input_after =
         let left = taken_outcome step n w k p (node_of j.nodes k) m rest takes in
         left.waits 0 0 ∙ ap (λ xs. less_first ((0 == p) && (0 == k)) (waiting w (at 0 0)) ++ xs) none ∙ append-nil (less_first ((0 == p) && (0 == k)) (waiting w (at 0 0))) ∙ ap (λ b. less_first b (waiting w (at 0 0))) (swap (0 == p) (0 == k))

@@ -1,4 +1,7 @@
 pub mod AnsweredNotes
+pub mod ArrivalLemmas
+pub mod ArrivalNotes
+pub mod CompleteRuns
 pub mod ControlOutline
 pub mod ControllerBegins
 pub mod ControllerScenes

@@ -77,7 +77,7 @@ is_one o (Some x) None (Some y) (One r e l) = cc
 is_one o None (Some x) (Some y) (Empty e) = cc
 is_one o None (Some x) (Some y) (One r e l) = cc
 
-instance_of : {F R : Type 0} (x : Nodes F R) (k : ℕ) → 2 ≤ k → node_of x k ≡ Instance (x.instance k)
+pub instance_of : {F R : Type 0} (x : Nodes F R) (k : ℕ) → 2 ≤ k → node_of x k ≡ Instance (x.instance k)
 instance_of x zero two = absurd (omega (arith, two))
 instance_of x (suc zero) two = absurd (omega (arith, two))
 instance_of x (suc (suc i)) two = refl

@@ -84,7 +84,7 @@ times-append : (p : ℕ) (xs ys : List ℕ) → times p (xs ++ ys) ≡ times p x
 times-append p [] ys = omega arith
 times-append p (x ∷ xs) ys = let rest = times-append p xs ys in omega (arith, rest)
 
-same_times : (p : ℕ) (xs : List ℕ) → stages.times p xs ≡ times p xs
+pub same_times : (p : ℕ) (xs : List ℕ) → stages.times p xs ≡ times p xs
 same_times p [] = refl
 same_times p (x ∷ xs) = ap (λ k. (if p == x then 1 else 0) + k) (same_times p xs)
 
@@ -92,7 +92,7 @@ module _ {F R : Type 0} (f : Semantics R) (c : Config) (items : List Msg) (is : 
   abbrev gj : Given
   gj = given f c items is
 
-  done_same : (u : units.Unit) → done_u (S f gj) u j.world.done ≡ went f c items u w.log
+  pub done_same : (u : units.Unit) → done_u (S f gj) u j.world.done ≡ went f c items u w.log
   done_same u = ap (done_u (S f gj) u) j.shown_is.done_is ∙ went_same f c items is u (done w.log)
 
   ordered : (u : units.Unit) → In_order (S f gj) (is_sys f gj.site gj.packet) u (done_u (S f gj) u j.world.done) (came f c items u w.log) (has_begun (bares f gj u) w.log)

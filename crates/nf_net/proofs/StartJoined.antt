@@ -96,7 +96,7 @@ module _ {R : Type 0} (f : Semantics R) (c : Config) (items : List Msg) (is : Is
   pub all_fit : (number : ℕ) → Fits c.site (packet_of items number)
   all_fit number = fits_found number (packets items) (all_each (IsSteered c.site) (packets items) is.steered)
 
-  genuine : Each (GenuinePacket f given) (packets items)
+  pub genuine : Each (GenuinePacket f given) (packets items)
   genuine = each_both found_packet (packets items) (found_each (λ p. p.number) 0 (packets items) is.numbers) (all_each (IsSteered c.site) (packets items) is.steered)
 
   found_command : (k : Command) → find (λ q. q.op == k.op) (commands items) ≡ Some k → IsMove f.kind k.what → IsCommand f given k

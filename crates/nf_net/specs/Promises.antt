@@ -80,3 +80,12 @@ module _ {R : Type 0} (f : Semantics R) (config : Config) (items : List Msg) whe
     pub outputs_are : (unit : units.Unit) → given unit w.log ≡ outputs None (went unit w.log)
     pub records_are : (unit : units.Unit) (i : ℕ) (r : R) → live_at w i unit ≡ Some r → fold None (went unit w.log) ≡ Some r
     pub one_record : (unit : units.Unit) (i j : ℕ) (r s : R) → live_at w i unit ≡ Some r → live_at w j unit ≡ Some s → i ≡ j
+
+  -- what a complete run keeps besides: all packets of the input came, and each was processed, once; and the record of a unit is
+  -- live at an instance
+  pub record Completed {F : Type 0} (w : Network (Node F R) Msg Note) : Type 0 where
+    pub all_came : arrived w.log ≡ map (λ p. p.number) (packets items)
+    -- in their order, as long as no plain move of their unit began
+    pub all_went : (unit : units.Unit) → is_loose unit w.log ≡ false → went unit w.log ≡ came unit w.log
+    pub each_once : (unit : units.Unit) (p : ℕ) → times p (went unit w.log) ≡ times p (came unit w.log)
+    pub has_record : (unit : units.Unit) (r : R) → fold None (went unit w.log) ≡ Some r → (i : ℕ) × (live_at w i unit ≡ Some r)
