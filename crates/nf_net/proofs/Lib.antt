@@ -7,6 +7,7 @@ pub mod ControllerBegins
 pub mod ControllerScenes
 pub mod ControllerSteps
 pub mod ControllerTurns
+pub mod EveryRun
 pub mod FiltersApart
 pub mod InputLemmas
 pub mod InstanceKeeps
