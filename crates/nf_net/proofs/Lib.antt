@@ -1,5 +1,6 @@
 pub mod ControlOutline
 pub mod ControllerSteps
+pub mod CreditCounts
 pub mod FiltersApart
 pub mod InputLemmas
 pub mod InstanceKeeps
@@ -24,3 +25,4 @@ pub mod SwitchLemmas
 pub mod SwitchOutline
 pub mod SwitchSteps
 pub mod UnitCounts
+pub mod WindowSteps
