@@ -1,7 +1,6 @@
 -- How many cells a step sends home, and how many packets it notes: an instance sends one home for each packet that it processes.
 use Rattle.std.proofs.Common.{◌≡◌, ℕ, ◌+◌, ◌<◌, ◌≤◌, Bool, true, false, Option, Some, None, Result, Ok, Err, List, [], ◌∷◌, ◌++◌, map, length, length-append, refl, sym, ap, ◌∙◌, arith}
-use Rattle.std.specs.Prelude.{if◌then◌else◌, ◌==◌, ◌&&◌, ◌||◌, nat_lt}
-use Rattle.std.specs.FinMap as finite
+use Rattle.std.specs.Prelude.{if◌then◌else◌, ◌||◌, nat_lt}
 use Rattle.flow_filter.specs.Flow.{flow_of}
 use Rattle.nf_function.specs.declared.chunk.Chunk.{Chunk}
 use Rattle.nf_function.specs.declared.unit.Unit as units
@@ -19,7 +18,6 @@ use Rattle.nf_msgs.specs.declared.msg.Piece.{Piece}
 use Rattle.nf_msgs.specs.declared.msg.Msg.{Msg}
 use Rattle.nf_msgs.specs.declared.msg.Msg.TheVariants as msg
 use Rattle.nf_msgs.specs.declared.note.Note.{Note}
-use Rattle.nf_msgs.specs.declared.note.Note.TheVariants as note
 use Rattle.instance_worker.specs.declared.instance.Instance.{Instance}
 use Rattle.instance_worker.specs.Pieces.{pieces}
 use Rattle.instance_worker.specs.Instance.{Step, told, chunk_told, shared, still, tells, tells_and_notes, and_then, selected, processed, all_processed, carried, where_good, refusal, piece_put, instance_step, on_carry, on_fence, on_get, on_stream, on_put, on_restore, on_standby, on_sync, on_put_all, tally_put}
@@ -44,7 +42,7 @@ sent_weight-append w n k (x ∷ xs) ys = let rest = sent_weight-append w n k xs 
 
 -- the switch and the controller send no cell home
 module _ {R : Type 0} (f : Semantics R) (g : Given) where
-  no_credit_from : (k r : ℕ) (m : Msg) → k < 2 → Label f g k r m → credit m ≡ 0
+  pub no_credit_from : (k r : ℕ) (m : Msg) → k < 2 → Label f g k r m → credit m ≡ 0
   no_credit_from k r (msg.Credit cell) few label = let two = label.0 in absurd (omega (arith, few, two))
   no_credit_from k r m few label = refl
 

@@ -16,6 +16,7 @@ pub mod LogLemmas
 pub mod MoveOutline
 pub mod MoveSteps
 pub mod Outline
+pub mod PacketCounts
 pub mod RecordPromises
 pub mod RunsJoined
 pub mod StartJoined
@@ -25,4 +26,5 @@ pub mod SwitchLemmas
 pub mod SwitchOutline
 pub mod SwitchSteps
 pub mod UnitCounts
+pub mod WindowRuns
 pub mod WindowSteps

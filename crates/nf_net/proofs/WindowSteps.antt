@@ -1,13 +1,13 @@
 -- What each step keeps of the window: of the packets that came, those under way are as many as the switch counts and as cells aren't at
 -- home; a cell that goes home is still counted until the switch has it.
-use Rattle.std.proofs.Common.{◌≡◌, ℕ, zero, suc, ◌+◌, ◌-◌, ◌<◌, ◌≤◌, Bool, true, false, Option, Some, None, List, [], ◌∷◌, ◌++◌, length, length-append, refl, sym, ap, ◌∙◌, subst, arith}
-use Rattle.std.specs.Prelude.{if◌then◌else◌, ◌==◌, ◌&&◌, ◌||◌, not, nat_lt}
+use Rattle.std.proofs.Common.{◌≡◌, ℕ, ◌+◌, ◌-◌, ◌<◌, ◌≤◌, Bool, true, false, Option, Some, None, List, [], ◌∷◌, length, refl, ap, ◌∙◌, arith}
+use Rattle.std.specs.Prelude.{if◌then◌else◌, ◌==◌, ◌&&◌, nat_lt}
 use Rattle.std.specs.FinMap as finite
 use Rattle.std.proofs.lemmas.Bool.Decides.{nat_tests, Decides-eqb}
 use Rattle.flow_filter.specs.declared.filter.Filter.{Filter}
 use Rattle.flow_filter.specs.declared.packet.Packet.{Packet}
 use Rattle.event_filter.specs.declared.mark.Mark.TheVariants as mark
-use Rattle.packet_pool.specs.Pool.{FullCell, one_less, one_more}
+use Rattle.packet_pool.specs.Pool.{FullCell}
 use Rattle.switch_rules.specs.declared.target.Target.{Target}
 use Rattle.switch_rules.specs.declared.target.Target.TheVariants as target
 use Rattle.switch_rules.specs.Rules.{redirected}
@@ -25,7 +25,7 @@ use Rattle.switch_node.specs.Switch as switch
 use Rattle.switch_node.specs.Switch.{SwitchState, switch_step, still, sends_to_instance, target_of, has_room, goes_to, is_there}
 use Rattle.ctrl_node.specs.Operations.{Turn, turn_of}
 use Rattle.ctrl_node.specs.Controller as controller
-use Rattle.ctrl_node.specs.Controller.{ControllerState, controller_step, row, on_asked, decided, begins, begins_between, place_of, refusal, on_event, on_final, instance_at, numbered, takes_turn, after_turn, handed}
+use Rattle.ctrl_node.specs.Controller.{ControllerState, controller_step, row, on_asked, decided, begins, begins_between, refusal, on_event, on_final, instance_at, numbered, after_turn, handed}
 use Rattle.nf_net.specs.Log.{arrived, done}
 use Rattle.nf_net.proofs.CreditCounts.{credit}
 

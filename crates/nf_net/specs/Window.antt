@@ -1,6 +1,6 @@
 -- How many packets are under way in any run of the network: the window of the configuration at most, and at a complete end none. This
 -- project's own.
-use Rattle.std.specs.Prelude.{◌≡◌, ℕ, ◌+◌, ◌≤◌, length, Option, None, Some, slice_get}
+use Rattle.std.specs.Prelude.{◌≡◌, ◌+◌, ◌≤◌, length, Option, None, Some, slice_get}
 use Rattle.switch_node.specs.Switch.{SwitchState}
 use Rattle.nf_msgs.specs.declared.msg.Msg.{Msg}
 use Rattle.nf_msgs.specs.declared.note.Note.{Note}
