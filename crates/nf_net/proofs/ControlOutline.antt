@@ -56,14 +56,14 @@ module _ {R : Type 0} (f : Semantics R) (place : List ℕ → Option ℕ) where
   same_or false x = refl
 
   -- what is stored after a row
-  stored_after : (store : finite.FinMap nat_cmp (List FullCell)) (op k : ℕ) (o : Option (List FullCell)) → stored (store_after store op o) k ≡ cond (eqb k op) (unwrap_or o (stored store k)) (stored store k)
+  pub stored_after : (store : finite.FinMap nat_cmp (List FullCell)) (op k : ℕ) (o : Option (List FullCell)) → stored (store_after store op o) k ≡ cond (eqb k op) (unwrap_or o (stored store k)) (stored store k)
   stored_after store op k None = same_or (eqb k op) (stored store k)
   stored_after store op k (Some ps) = stored-with_parcels store op k ps
 
-  got_insert : (ops : OpenOperations) (op k : ℕ) (o : Operation) → finite.get (finite.insert ops op o) k ≡ cond (eqb k op) (Some o) (finite.get ops k)
+  pub got_insert : (ops : OpenOperations) (op k : ℕ) (o : Operation) → finite.get (finite.insert ops op o) k ≡ cond (eqb k op) (Some o) (finite.get ops k)
   got_insert ops op k o = finite.get-insert nat_cmp_total ops op o k ∙ ap (λ b. cond b (Some o) (finite.get ops k)) (order_test k op)
 
-  got_remove : (ops : OpenOperations) (op k : ℕ) → finite.get (finite.remove ops op) k ≡ cond (eqb k op) None (finite.get ops k)
+  pub got_remove : (ops : OpenOperations) (op k : ℕ) → finite.get (finite.remove ops op) k ≡ cond (eqb k op) None (finite.get ops k)
   got_remove ops op k = finite.get-remove nat_cmp_total ops op k ∙ ap (λ b. cond b None (finite.get ops k)) (order_test k op)
 
   -- how an operation is written after a row that leaves it open

@@ -93,7 +93,7 @@ module _ (site : Site) (packet : ℕ → Packet) where
     pub pool : cell.pool ≡ 0
 
 module _ {R : Type 0} (f : Semantics R) (site : Site) (packet : ℕ → Packet) where
-  after_same : (live : Records R) (at : Site) (cell : FullCell) → at ≡ site → IsGenuine site packet cell → after_packet f at live cell.packet ≡ process (sys f site packet) live (number cell)
+  pub after_same : (live : Records R) (at : Site) (cell : FullCell) → at ≡ site → IsGenuine site packet cell → after_packet f at live cell.packet ≡ process (sys f site packet) live (number cell)
   after_same live at cell is g =
       let stepped : Packet → Records R = λ p. finite.insert live (unit_at f.kind site p) (f.stepped site (finite.get live (unit_at f.kind site p)) p).kept in
       let transport = g.transport in

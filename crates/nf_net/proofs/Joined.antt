@@ -4,6 +4,7 @@ use Rattle.std.proofs.Common.{◌≡◌, ◌≢◌, ℕ, zero, suc, ◌+◌, ◌
 use Rattle.std.specs.Prelude.{if◌then◌else◌, ◌&&◌, ◌||◌, ◌==◌, not, nat_lt}
 use Rattle.std.specs.List.{filter_map, IsDistinct}
 use Rattle.std.specs.Map.{keys_of}
+use Rattle.std.specs.Str.{bytes_eq}
 use Rattle.std.specs.FinMap as finite
 use Rattle.flow_filter.specs.declared.filter.Filter.{Filter}
 use Rattle.flow_filter.specs.declared.packet.Packet.{Packet}
@@ -110,9 +111,9 @@ module _ {R : Type 0} (f : Semantics R) (g : Given) where
   abbrev pub count : ℕ
   count = length g.names
 
-  -- a move's order, of a filter that splits no unit
+  -- a move's order between two names, of a filter that splits no unit
   abbrev pub is_move : Order → Bool
-  is_move (order.Move src dst filter keep) = is_whole f.kind filter
+  is_move (order.Move src dst filter keep) = is_whole f.kind filter && not (bytes_eq src dst)
   is_move what = false
 
   pub record IsCommand (c : Command) : Type 0 where

@@ -56,7 +56,7 @@ module _ {F R : Type 0} (f : Semantics R) (laws : FunctionLaws f) (g : Given) (f
     ready : p ≡ 0 → k ≡ 0 → takes_in j.nodes.switch m ≡ true
     ready p0 k0 = subst (λ x. node_ready (node_of j.nodes x) m ≡ true) k0 (was_ready (rw (k0, p0) refl))
 
-    is_taken : IsTaken f g n (scene w j) took
+    pub is_taken : IsTaken f g n (scene w j) took
     is_taken = record {
       count_is = count_is;
       receiver = takes.receiver;

@@ -1,5 +1,9 @@
+pub mod AnsweredNotes
 pub mod ControlOutline
+pub mod ControllerBegins
+pub mod ControllerScenes
 pub mod ControllerSteps
+pub mod ControllerTurns
 pub mod CreditCounts
 pub mod FiltersApart
 pub mod InputLemmas
@@ -16,6 +20,8 @@ pub mod LogLemmas
 pub mod MoveOutline
 pub mod MoveSteps
 pub mod Outline
+pub mod OutputLemmas
+pub mod OutputSteps
 pub mod PacketCounts
 pub mod RecordPromises
 pub mod RunsJoined

@@ -103,7 +103,7 @@ module _ {R : Type 0} (f : Semantics R) (c : Config) (items : List Msg) (is : Is
   found_command k found ok = record { known = ap (option_map (λ q. q.what)) found; moves = order_is k.what ok }
     where
       order_is : (o : Order) → IsMove f.kind o → is_move f given o ≡ true
-      order_is (order.Move source destination filter keep) h = whole_is f.kind filter h.1
+      order_is (order.Move source destination filter keep) h = let apart = h.0 in let whole = whole_is f.kind filter h.1 in rw (whole, apart) refl
       order_is (order.Copy source destination filter) h = absurd h
       order_is (order.Share members filter) h = absurd h
 
