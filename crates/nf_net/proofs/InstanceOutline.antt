@@ -85,11 +85,12 @@ hold_same : (op : ℕ) (cell : FullCell) (rs : List (EventRule FullCell)) → ma
 hold_same op cell rs = changed_same op (rules.holding cell) (holding (number cell)) (λ r. ap (λ h. record { num = r.op; filter = r.filter; rule = rule_of r.action; held = h }) (map-put number r.held (cell ∷ []))) rs
 
 module _ (site : Site) (packet : ℕ → Packet) where
-  -- a packet of the trace, in a cell
+  -- a packet of the trace, in a cell of the switch's pool
   pub record IsGenuine (cell : FullCell) : Type 0 where
     pub same : cell.packet ≡ packet (number cell)
     pub transport : is_transport cell.packet.proto ≡ true
     pub fits : flow_fits (flow_of site cell.packet).0 ≡ true
+    pub pool : cell.pool ≡ 0
 
 module _ {R : Type 0} (f : Semantics R) (site : Site) (packet : ℕ → Packet) where
   pub after_same : (live : Records R) (at : Site) (cell : FullCell) → at ≡ site → IsGenuine site packet cell → after_packet f at live cell.packet ≡ process (sys f site packet) live (number cell)

@@ -89,12 +89,12 @@ module _ {F R : Type 0} (f : Semantics R) (laws : FunctionLaws f) (g : Given) (f
   right_after i mark.Plain cell h genuine e = record {
     node = record { rules = record { at = h.rules.at; whole = h.rules.whole; held = h.rules.held }; held = h.held; sound = sound_after f laws i.site i.table.live cell.packet (fits_at i cell h genuine) h.sound; number = h.number };
     notes = (h.number, tt);
-    sends = ((two, refl), tt);
+    sends = ((two, refl, genuine.pool), tt);
   }
   right_after i (mark.Pass op) cell h genuine e = record {
     node = record { rules = record { at = h.rules.at; whole = h.rules.whole; held = h.rules.held }; held = h.held; sound = sound_after f laws i.site i.table.live cell.packet (fits_at i cell h genuine) h.sound; number = h.number };
     notes = (h.number, tt);
-    sends = ((two, refl), tt);
+    sends = ((two, refl, genuine.pool), tt);
   }
   right_after i (mark.Shared op home) cell h genuine e = cc
 

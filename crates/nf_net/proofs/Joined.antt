@@ -185,7 +185,7 @@ module _ {R : Type 0} (f : Semantics R) (g : Given) where
   Label s r (msg.Event op cell) = ToController s r × Genuine cell
   Label s r (msg.Fenced op) = ToController s r
   Label s r msg.Final = ToController s r
-  Label s r (msg.Credit cell) = (2 ≤ s) × (r ≡ 0)
+  Label s r (msg.Credit cell) = (2 ≤ s) × (r ≡ 0) × (cell.pool ≡ 0)
   Label s r message = ⊥
 
   abbrev pub shown : Msg → Option (net.Msg R)
@@ -218,6 +218,7 @@ module _ {R : Type 0} (f : Semantics R) (g : Given) where
     pub instances : s.instances ≡ count
     pub filters : AreFilters s.rules
     pub routes : Routes f.kind s to
+    pub pool : s.pool.name ≡ 0
 
   -- an open move of the abstract network is one of the controller's
   pub record IsListed (c : ControllerState) (e : Open R) : Type 0 where

@@ -44,7 +44,7 @@ module _ {F R : Type 0} (f : Semantics R) (laws : FunctionLaws f) (g : Given) (f
     abbrev pub took : Took
     took = record { node = k; port = p; message = m }
 
-    label : Label f g p k m
+    pub label : Label f g p k m
     label = (subst (λ ms. Each (Label f g p k) ms) takes.waits (j.labels p k (let c = takes.count in rw c takes.sender) (let c = takes.count in rw c takes.receiver))).0
 
     head : (p == 0) && (k == 0) ≡ false → (a : net.Msg R) → shown f g m ≡ Some a → j.world.link p k ≡ a ∷ filter_map (shown f g) rest
@@ -72,7 +72,7 @@ module _ {F R : Type 0} (f : Semantics R) (laws : FunctionLaws f) (g : Given) (f
     abbrev pub did : Stepped (Node F R) Msg Note
     did = step (node_of j.nodes k) p m
 
-    step_leads : Leads f g n (scene w j) took did
+    pub step_leads : Leads f g n (scene w j) took did
     step_leads = leads (scene w j) k p m j.shown_is is_taken
 
     -- the input after it

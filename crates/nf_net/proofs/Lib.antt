@@ -7,6 +7,7 @@ pub mod ControllerBegins
 pub mod ControllerScenes
 pub mod ControllerSteps
 pub mod ControllerTurns
+pub mod CreditCounts
 pub mod EveryRun
 pub mod FiltersApart
 pub mod InputLemmas
@@ -25,6 +26,7 @@ pub mod MoveSteps
 pub mod Outline
 pub mod OutputLemmas
 pub mod OutputSteps
+pub mod PacketCounts
 pub mod RecordPromises
 pub mod RunsJoined
 pub mod StartJoined
@@ -34,3 +36,5 @@ pub mod SwitchLemmas
 pub mod SwitchOutline
 pub mod SwitchSteps
 pub mod UnitCounts
+pub mod WindowRuns
+pub mod WindowSteps

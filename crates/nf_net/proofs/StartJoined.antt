@@ -83,7 +83,7 @@ module _ {R : Type 0} (f : Semantics R) (c : Config) (items : List Msg) (is : Is
 
   -- The items.
   found_packet : (p : Packet) → find (λ q. q.number == p.number) (packets items) ≡ Some p → IsSteered c.site p → GenuinePacket f given p
-  found_packet p found ok = record { same = sym (ap (λ o. unwrap_or o no_packet) found); transport = ok.fits.transport; fits = fits_flow (flow_of c.site p).0 ok.flow }
+  found_packet p found ok = record { same = sym (ap (λ o. unwrap_or o no_packet) found); transport = ok.fits.transport; fits = fits_flow (flow_of c.site p).0 ok.flow; pool = refl }
 
   fits_found : (number : ℕ) (ps : List Packet) → Each (IsSteered c.site) ps → Fits c.site (unwrap_or (find (λ p. p.number == number) ps) no_packet)
   fits_found number [] h = record { transport = refl; nanos = lit< tt; length = lit< tt; src = lit< tt; sport = lit< tt; dst = lit< tt; dport = lit< tt; inside = is.site }
@@ -145,6 +145,7 @@ module _ {R : Type 0} (f : Semantics R) (c : Config) (items : List Msg) (is : Is
     instances = refl;
     filters = filters_of c.routes each_whole;
     routes = λ flow fits. record { instance = route f.kind c.routes (unit_of f.kind flow); first = route_first f.kind c.routes flow (whole_routes c.routes each_whole) fits; node = refl; there = route_is_there (unit_of f.kind flow) };
+    pool = refl;
   }
 
   -- The controller.

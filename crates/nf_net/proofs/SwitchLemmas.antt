@@ -60,12 +60,13 @@ others_same x s (suc (suc i)) off = refl
 
 module _ {R : Type 0} (f : Semantics R) (g : Given) where
   -- a switch that differs in what no route looks at
-  pub same_switch : (s t : SwitchState) (to : units.Unit → ℕ) → t.rules ≡ s.rules → t.instances ≡ s.instances → t.site ≡ s.site → IsSwitch f g s to → IsSwitch f g t to
-  same_switch s t to rules instances site is = record {
+  pub same_switch : (s t : SwitchState) (to : units.Unit → ℕ) → t.rules ≡ s.rules → t.instances ≡ s.instances → t.site ≡ s.site → t.pool.name ≡ s.pool.name → IsSwitch f g s to → IsSwitch f g t to
+  same_switch s t to rules instances site pool is = record {
     site = site ∙ is.site;
     instances = instances ∙ is.instances;
     filters = subst AreFilters (sym rules) is.filters;
     routes = λ flow fits. let o = is.routes flow fits in record { instance = o.instance; first = rw rules o.first; node = o.node; there = rw instances o.there };
+    pool = pool ∙ is.pool;
   }
 
   -- stops aren't seen

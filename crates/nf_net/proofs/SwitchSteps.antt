@@ -115,6 +115,7 @@ module _ {F R : Type 0} (f : Semantics R) (g : Given) (n : ℕ) (x : Scene F f g
         instances = are.switch.instances;
         filters = AreFilters-redirected (record { filter = filter; from = target.Instance from; to = target.Instance to }) s.rules are.switch.filters (filter_is filter (and_l (filter_fits filter) _ whole));
         routes = subst (λ st. Routes f.kind st.node (λ v. sw_target (S f g) x.world.target (net.Mv filter (real.M_install op (instance_node from) (instance_node to))) v)) done_is routes;
+        pool = are.switch.pool;
       } in
       subst (λ st. Leads f g n x (record { node = 0; port = 1; message = msg.Install op filter from (target.Instance to) }) (as_node Switch st)) (sym done_is)
         (seen_step (msg.Install op filter from (target.Instance to)) _ rest t ((instance_node from, msg.Fence op) ∷ []) (note.Installed op ∷ []) refl waits refl ((refl, omega arith), tt) switch (arrived-append x.log (note.Installed op ∷ []) ∙ append-nil (arrived x.log)) (λ u. has_begun-append (bares f g u) x.log (note.Installed op ∷ []) ∙ or_false (has_begun (bares f g u) x.log)) refl)
@@ -140,8 +141,8 @@ module _ {F R : Type 0} (f : Semantics R) (g : Given) (n : ℕ) (x : Scene F f g
         others = others_same x.nodes t;
         world = next;
         links = λ i j. ap (λ r. x.world.link i j ++ (if i == 0 then sent_for j ((r, net.Carry_on q.number) ∷ []) else [])) node;
-        labels = (((refl, omega arith), refl, record { same = genuine.same; transport = genuine.transport; fits = genuine.fits }), tt);
-        shown_is = after f g n x are t x.world.target next.link notes (drop 1 x.input) (same_switch f g s t x.world.target refl refl refl are.switch) every refl (rw (kept, left) are.rising);
+        labels = (((refl, omega arith), refl, record { same = genuine.same; transport = genuine.transport; fits = genuine.fits; pool = are.switch.pool }), tt);
+        shown_is = after f g n x are t x.world.target next.link notes (drop 1 x.input) (same_switch f g s t x.world.target refl refl refl refl are.switch) every refl (rw (kept, left) are.rising);
       })
 
   -- a command of the input
@@ -149,7 +150,7 @@ module _ {F R : Type 0} (f : Semantics R) (g : Given) (n : ℕ) (x : Scene F f g
   command_leads c items is waits = by_want (want_of (place g) c.op c.what) refl
     where
       switch : IsSwitch f g (on_command s c).node x.world.target
-      switch = same_switch f g s (on_command s c).node x.world.target refl refl refl are.switch
+      switch = same_switch f g s (on_command s c).node x.world.target refl refl refl refl are.switch
 
       rises : Rising x.world.next (nums (x.world.link 0 1) ++ c.op ∷ commands f g items)
       rises = subst (λ v. Rising x.world.next (nums (x.world.link 0 1) ++ commands f g v)) waits are.rising
@@ -186,7 +187,7 @@ module _ {F R : Type 0} (f : Semantics R) (g : Given) (n : ℕ) (x : Scene F f g
       let rising : Rising x.world.next (nums (x.world.link 0 1) ++ commands f g (less_first ((0 == 0) && (0 == p)) x.input)) = rw off are.rising in
       elim ((s.flying == 0) || not (cell.pool == s.pool.name)) as (λ b. Leads f g n x (record { node = 0; port = p; message = msg.Credit cell }) (as_node Switch (if b then still s else record { node = record s { pool = one_more s.pool; flying = s.flying - 1 }; sends = []; notes = [] }))) [
         | true ↦ quiet f g n x are p (msg.Credit cell) s [] refl refl tt are.switch rising
-        | false ↦ quiet f g n x are p (msg.Credit cell) (record s { pool = one_more s.pool; flying = s.flying - 1 }) [] refl refl tt (same_switch f g s _ x.world.target refl refl refl are.switch) rising
+        | false ↦ quiet f g n x are p (msg.Credit cell) (record s { pool = one_more s.pool; flying = s.flying - 1 }) [] refl refl tt (same_switch f g s _ x.world.target refl refl refl refl are.switch) rising
       ]
 
 -- the messages that come to the switch in a run
@@ -272,12 +273,12 @@ module _ {F R : Type 0} (f : Semantics R) (g : Given) (n : ℕ) (x : Scene F f g
     does_answer : (p op : ℕ) → Does p (msg.Answered op)
     does_answer p op is =
         let t : SwitchState = record x.nodes.switch { waiting = x.nodes.switch.waiting - 1 } in
-        at_port (msg.Answered op) 1 p is.label.0 (λ _. quiet f g n x are 1 (msg.Answered op) t [] refl refl tt (same_switch f g x.nodes.switch t x.world.target refl refl refl are.switch) are.rising) is
+        at_port (msg.Answered op) 1 p is.label.0 (λ _. quiet f g n x are 1 (msg.Answered op) t [] refl refl tt (same_switch f g x.nodes.switch t x.world.target refl refl refl refl are.switch) are.rising) is
 
     does_finish : (p : ℕ) → Does p msg.Finish
     does_finish p is =
         let t : SwitchState = record x.nodes.switch { closed = true } in
-        at_port msg.Finish 1 p is.label.0 (λ _. quiet f g n x are 1 msg.Finish t (stops x.nodes.switch.instances) refl (stops_unseen f g x.nodes.switch.instances) (stops_labels f g x.nodes.switch.instances) (same_switch f g x.nodes.switch t x.world.target refl refl refl are.switch) are.rising) is
+        at_port msg.Finish 1 p is.label.0 (λ _. quiet f g n x are 1 msg.Finish t (stops x.nodes.switch.instances) refl (stops_unseen f g x.nodes.switch.instances) (stops_labels f g x.nodes.switch.instances) (same_switch f g x.nodes.switch t x.world.target refl refl refl refl are.switch) are.rising) is
 
     does : (p : ℕ) (m : Msg) → Comes m → Does p m
     does p m (Packet_in q e) = at_message p m (msg.InPacket q) e (does_packet p q)

@@ -3,3 +3,4 @@ pub mod Log
 pub mod Nodes
 pub mod Promises
 pub mod Start
+pub mod Window

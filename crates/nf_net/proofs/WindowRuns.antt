@@ -1,0 +1,179 @@
+-- Every run keeps the window, and a complete one has all cells at home.
+use Rattle.std.proofs.Common.{◌≡◌, ℕ, zero, suc, ◌+◌, ◌≤◌, Bool, true, false, Some, List, [], ◌∷◌, length, length-append, get_or, refl, sym, ap, ◌∙◌, subst, arith}
+use Rattle.std.specs.Prelude.{◌==◌, ◌&&◌}
+use Rattle.std.specs.declared.alloc.Global.{Global}
+use Rattle.std.proofs.lemmas.Bool.Decides.{nat_tests, Decides-eqb}
+use Rattle.std.proofs.lemmas.Option.{slice_get-get_or}
+use Rattle.nf_function.specs.Records.{Fits, Laws as FunctionLaws}
+use Rattle.nf_function.specs.Semantics.{Semantics}
+use Rattle.nf_msgs.specs.declared.msg.Msg.{Msg}
+use Rattle.nf_msgs.specs.declared.msg.Msg.TheVariants as msg
+use Rattle.nf_msgs.specs.declared.note.Note.{Note}
+use Rattle.switch_node.specs.Switch.{SwitchState, switch_step}
+use Rattle.actor_net.specs.declared.choice.Choice.{Choice}
+use Rattle.actor_net.specs.Network.{Network, Stepped, IsRun, is_input, is_done, reaches, run, taken}
+use Rattle.actor_net.proofs.EnabledChoices.{at}
+use Rattle.actor_net.proofs.StepOutcome.{Takes, taken_outcome}
+use Rattle.actor_net.proofs.RunInduction.{Taking, run_induction, run_world}
+use Rattle.actor_net.proofs.OpeningWorlds.{opening_weight}
+use Rattle.actor_net.proofs.CompleteWorlds.{done_node, done_weight}
+use Rattle.actor_net.proofs.WeightLaws.{weigh, total, sent_weight, total_after}
+use Rattle.unit_machine.proofs.Labels.{Each}
+use Rattle.nf_net.specs.declared.config.Config.{Config}
+use Rattle.nf_net.specs.declared.node.Node.{Node}
+use Rattle.nf_net.specs.declared.node.Node.TheVariants.{Switch}
+use Rattle.nf_net.specs.Input.{IsInput}
+use Rattle.nf_net.specs.Log.{arrived, done}
+use Rattle.nf_net.specs.Nodes.{node_step, node_ready, node_ended}
+use Rattle.nf_net.specs.Start.{first_nodes, first_switch, started}
+use Rattle.nf_net.specs.Window.{Window, AllHome, switch_in, switch_of}
+use Rattle.nf_net.proofs.LogLemmas.{arrived-append, done-append}
+use Rattle.nf_net.proofs.StartJoined.{given, all_fit, all_labelled, count_at_start, start_joined}
+use Rattle.nf_net.proofs.Joined.{Given, Label, Joined, count, node_of}
+use Rattle.nf_net.proofs.JoinedSteps.{label, step_leads, joined_next}
+use Rattle.nf_net.proofs.RunsJoined.{start_world}
+use Rattle.nf_net.proofs.CreditCounts.{credit, no_credit_from, no_credit_to, none_sent, instance_is}
+use Rattle.nf_net.proofs.WindowSteps.{controller_came, controller_went, switch_counts}
+use Rattle.nf_net.proofs.PacketCounts.{few_done}
+
+-- what holds of the switch and the log of each world of a run
+record InWindow (window : ℕ) {F R : Type 0} (w : Network (Node F R) Msg Note) : Type 0 where
+  switch : SwitchState
+  there : (d : Node F R) → get_or w.nodes 0 d ≡ Switch switch
+  cells : switch.pool.cells ≡ window
+  home : switch.flying + switch.pool.home ≡ window
+  balance : length (done w.log) + switch.flying ≡ length (arrived w.log) + total credit w
+
+module _ {F R : Type 0} (f : Semantics R) (laws : FunctionLaws f) (g : Given) (fitting : (number : ℕ) → Fits g.site (g.packet number)) (n : ℕ) (count_is : n ≡ count f g + 2) (window : ℕ) where
+  abbrev step : Node F R → ℕ → Msg → Stepped (Node F R) Msg Note
+  step = node_step f
+
+  -- the log and the credits after a step
+  balance_after : (w : Network (Node F R) Msg Note) (k p : ℕ) (node : Node F R) (m : Msg) (rest : List Msg) (takes : Takes step n w k p node m rest) (before after : ℕ) → length (done w.log) + before ≡ length (arrived w.log) + total credit w → after + credit m + length (done (step node p m).notes) ≡ before + length (arrived (step node p m).notes) + sent_weight credit n k (step node p m).sends → length (done (taken step w (at k p)).log) + after ≡ length (arrived (taken step w (at k p)).log) + total credit (taken step w (at k p))
+  balance_after w k p node m rest takes before after balance changes =
+      let left = taken_outcome step n w k p node m rest takes in
+      let notes = (step node p m).notes in
+      let weight = total_after step n w k p node m rest takes credit in
+      let went : length (done (taken step w (at k p)).log) ≡ length (done w.log) + length (done notes) = ap (λ v. length (done v)) left.log ∙ ap length (done-append w.log notes) ∙ length-append (done w.log) (done notes) in
+      let came : length (arrived (taken step w (at k p)).log) ≡ length (arrived w.log) + length (arrived notes) = ap (λ v. length (arrived v)) left.log ∙ ap length (arrived-append w.log notes) ∙ length-append (arrived w.log) (arrived notes) in
+      omega (arith, balance, changes, weight, went, came)
+
+  window_after : (w : Network (Node F R) Msg Note) (k p : ℕ) (m : Msg) (rest : List Msg) (j : Joined f g n w) (takes : Takes step n w k p (node_of j.nodes k) m rest) → (is_input (at k p) ≡ true → node_ready (node_of j.nodes k) m ≡ true) → length (done w.log) ≤ length (arrived w.log) → InWindow window w → InWindow window (taken step w (at k p))
+  window_after w zero p m rest j takes ready few h =
+      let s = j.nodes.switch in
+      let left = taken_outcome step n w 0 p (Switch s) m rest takes in
+      let labelled = label f laws g fitting n count_is w 0 p m rest j takes ready in
+      let sent : sent_weight credit n 0 (switch_step s m).sends ≡ 0 = none_sent f g n 0 (switch_step s m).sends (omega arith) (step_leads f laws g fitting n count_is w 0 p m rest j takes ready).labels in
+      let is : Switch h.switch ≡ Switch s = sym (h.there (Switch h.switch)) ∙ j.nodes_are 0 takes.some (Switch h.switch) in
+      let same : h.switch ≡ s = cc in
+      let balance : length (done w.log) + s.flying ≡ length (arrived w.log) + total credit w = ap (λ x. length (done w.log) + x.flying) (sym same) ∙ h.balance in
+      let weight = total_after step n w 0 p (Switch s) m rest takes credit in
+      let did = switch_counts window s (ap (λ x. x.pool.cells) (sym same) ∙ h.cells) (ap (λ x. x.flying + x.pool.home) (sym same) ∙ h.home) m (λ cell e.
+      let comes : Label f g p 0 (msg.Credit cell) = subst (λ a. Label f g p 0 a) e labelled in
+      let one : credit m ≡ 1 = ap credit e in
+      (comes.2 ∙ sym j.shown_is.switch.pool, omega (arith, few, balance, weight, sent, one))) in
+      let flying = did.flying in
+      let went = ap length did.went in
+      record {
+        switch = (switch_step s m).node;
+        there = left.own;
+        cells = did.cells;
+        home = did.home;
+        balance = balance_after w 0 p (Switch s) m rest takes s.flying (switch_step s m).node.flying balance (omega (arith, flying, went, sent));
+      }
+  window_after w (suc zero) p m rest j takes ready few h =
+      let left = taken_outcome step n w 1 p (node_of j.nodes 1) m rest takes in
+      let none = no_credit_to f g p 1 m (omega arith) (label f laws g fitting n count_is w 1 p m rest j takes ready) in
+      let sent = none_sent f g n 1 (step (node_of j.nodes 1) p m).sends (omega arith) (step_leads f laws g fitting n count_is w 1 p m rest j takes ready).labels in
+      let came = ap length (controller_came j.nodes.controller p m) in
+      let went = ap length (controller_went j.nodes.controller p m) in
+      record {
+        switch = h.switch;
+        there = λ d. left.others 0 d (omega arith) ∙ h.there d;
+        cells = h.cells;
+        home = h.home;
+        balance = balance_after w 1 p (node_of j.nodes 1) m rest takes h.switch.flying h.switch.flying h.balance (omega (arith, none, sent, came, went));
+      }
+  window_after w (suc (suc i)) p m rest j takes ready few h =
+      let k : ℕ = suc (suc i) in
+      let instance = j.nodes.instance k in
+      let left = taken_outcome step n w k p (node_of j.nodes k) m rest takes in
+      let none = no_credit_to f g p k m (omega arith) (label f laws g fitting n count_is w k p m rest j takes ready) in
+      let some = takes.some in
+      let reach : reaches n k 0 ≡ true = grind (arith, nat_tests, some) in
+      let did = instance_is f n k reach instance m in
+      let came = ap length did.came in
+      let even = did.even in
+      record {
+        switch = h.switch;
+        there = λ d. left.others 0 d (omega arith) ∙ h.there d;
+        cells = h.cells;
+        home = h.home;
+        balance = balance_after w k p (node_of j.nodes k) m rest takes h.switch.flying h.switch.flying h.balance (omega (arith, none, came, even));
+      }
+
+-- an input has no credits
+items_none : {R : Type 0} (f : Semantics R) (g : Given) (items : List Msg) → Each (Label f g 0 0) items → weigh credit items ≡ 0
+items_none f g [] h = refl
+items_none f g (m ∷ ms) h = let own = no_credit_from f g 0 0 m (omega arith) h.0 in let rest = items_none f g ms h.1 in omega (arith, own, rest)
+
+module _ (F : Type 0) {R : Type 0} (f : Semantics R) (laws : FunctionLaws f) (alloc : Global) (c : Config) (items : List Msg) (is : IsInput f.kind c items) where
+  abbrev start : Network (Node F R) Msg Note
+  start = started {F = F} {R = R} alloc c items
+
+  abbrev nodes : ℕ
+  nodes = length c.names + 2
+
+  window_at_start : InWindow c.window start
+  window_at_start = record {
+    switch = first_switch c;
+    there = λ d. refl;
+    cells = refl;
+    home = omega arith;
+    balance = let none = opening_weight Note (first_nodes {F = F} {R = R} alloc c) items credit in let given_none = items_none f (given f c items is) items (all_labelled f c items is) in omega (arith, none, given_none);
+  }
+
+  window_next : (w : Network (Node F R) Msg Note) (k : Choice) → Taking node_ready (node_step f) nodes w k → Joined f (given f c items is) nodes w → InWindow c.window w → InWindow c.window (taken (node_step f) w k)
+  window_next w k t j h =
+      let same : t.node ≡ node_of j.nodes k.node = sym (t.takes.node_is t.node) ∙ j.nodes_are k.node t.takes.receiver t.node in
+      window_after f laws (given f c items is) (all_fit f c items is) nodes refl c.window w k.node k.port t.message t.rest j (subst (λ y. Takes (node_step f) nodes w k.node k.port y t.message t.rest) same t.takes) (subst (λ y. is_input k ≡ true → node_ready y t.message ≡ true) same t.was_ready) (few_done f c items is nodes w j) h
+
+  in_window : (cs : List Choice) → IsRun node_ready (node_step f) cs start → InWindow c.window (run (node_step f) cs start)
+  in_window cs run_is = (run_induction node_ready (node_step f) nodes (λ _ w. Joined f (given f c items is) nodes w × InWindow c.window w) start (λ _ w k next h. (joined_next f laws (given f c items is) (all_fit f c items is) nodes refl w k next.taking h.0, window_next w k next.taking h.0 h.1)) (start_world F f laws alloc c items is) (count_at_start F f alloc c items is) (start_joined F f alloc c items is, window_at_start) cs run_is).1
+
+  switch_there : (cs : List Choice) (run_is : IsRun node_ready (node_step f) cs start) → switch_of (run (node_step f) cs start) ≡ Some (in_window cs run_is).switch
+  switch_there cs run_is =
+      let h = in_window cs run_is in
+      let count = (run_world node_ready (node_step f) nodes start (start_world F f laws alloc c items is) (count_at_start F f alloc c items is) cs run_is).1 in
+      ap switch_in (slice_get-get_or (run (node_step f) cs start).nodes 0 (Switch h.switch) (omega (arith, count))) ∙ ap (λ d. switch_in (Some d)) (h.there (Switch h.switch))
+
+  -- every run keeps the window
+  pub window_kept : (cs : List Choice) → IsRun node_ready (node_step f) cs start → Window c (run (node_step f) cs start)
+  window_kept cs run_is =
+      let h = in_window cs run_is in
+      record {
+        under_way = let balance = h.balance in let home = h.home in omega (arith, balance, home);
+        switch = h.switch;
+        switch_is = switch_there cs run_is;
+        cells = h.home;
+      }
+
+  -- and a complete one has all cells at home
+  pub all_home : (cs : List Choice) → IsRun node_ready (node_step f) cs start → is_done node_ended (run (node_step f) cs start) ≡ true → AllHome c (run (node_step f) cs start)
+  all_home cs run_is complete =
+      let w = run (node_step f) cs start in
+      let h = in_window cs run_is in
+      let count = (run_world node_ready (node_step f) nodes start (start_world F f laws alloc c items is) (count_at_start F f alloc c items is) cs run_is).1 in
+      let ended : node_ended {F = F} {R = R} (Switch h.switch) ≡ true = ap node_ended (sym (h.there (Switch h.switch))) ∙ done_node node_ended w complete 0 (Switch h.switch) (omega (arith, count)) in
+      let landed : h.switch.flying ≡ 0 = grounded h.switch.closed h.switch.flying ended in
+      let none = done_weight node_ended w complete credit in
+      record {
+        none_under_way = let balance = h.balance in omega (arith, balance, landed, none);
+        switch = h.switch;
+        switch_is = switch_there cs run_is;
+        cells = let home = h.home in omega (arith, home, landed);
+      }
+    where
+      grounded : (closed : Bool) (flying : ℕ) → closed && (flying == 0) ≡ true → flying ≡ 0
+      grounded true flying e = (Decides-eqb flying 0).0 e
+      grounded false flying e = cc

@@ -1,0 +1,158 @@
+-- What each step keeps of the window: of the packets that came, those under way are as many as the switch counts and as cells aren't at
+-- home; a cell that goes home is still counted until the switch has it.
+use Rattle.std.proofs.Common.{◌≡◌, ℕ, ◌+◌, ◌-◌, ◌<◌, ◌≤◌, Bool, true, false, Option, Some, None, List, [], ◌∷◌, length, refl, ap, ◌∙◌, arith}
+use Rattle.std.specs.Prelude.{if◌then◌else◌, ◌==◌, ◌&&◌, nat_lt}
+use Rattle.std.specs.FinMap as finite
+use Rattle.std.proofs.lemmas.Bool.Decides.{nat_tests, Decides-eqb}
+use Rattle.flow_filter.specs.declared.filter.Filter.{Filter}
+use Rattle.flow_filter.specs.declared.packet.Packet.{Packet}
+use Rattle.event_filter.specs.declared.mark.Mark.TheVariants as mark
+use Rattle.packet_pool.specs.Pool.{FullCell}
+use Rattle.switch_rules.specs.declared.target.Target.{Target}
+use Rattle.switch_rules.specs.declared.target.Target.TheVariants as target
+use Rattle.switch_rules.specs.Rules.{redirected}
+use Rattle.nf_msgs.specs.declared.answer.Answer.{Answer}
+use Rattle.nf_msgs.specs.declared.command.Command.{Command}
+use Rattle.nf_msgs.specs.declared.command.Order.{Order}
+use Rattle.nf_msgs.specs.declared.command.Order.TheVariants as order
+use Rattle.nf_msgs.specs.declared.msg.Msg.{Msg}
+use Rattle.nf_msgs.specs.declared.msg.Msg.TheVariants as msg
+use Rattle.nf_msgs.specs.declared.note.Note.{Note}
+use Rattle.nf_msgs.specs.declared.note.Note.TheVariants as note
+use Rattle.nf_msgs.specs.Nodes.{instance_node}
+use Rattle.nf_msgs.specs.Shown.{op_of}
+use Rattle.switch_node.specs.Switch as switch
+use Rattle.switch_node.specs.Switch.{SwitchState, switch_step, still, sends_to_instance, target_of, has_room, goes_to, is_there}
+use Rattle.ctrl_node.specs.Operations.{Turn, turn_of}
+use Rattle.ctrl_node.specs.Controller as controller
+use Rattle.ctrl_node.specs.Controller.{ControllerState, controller_step, row, on_asked, decided, begins, begins_between, refusal, on_event, on_final, instance_at, numbered, after_turn, handed}
+use Rattle.nf_net.specs.Log.{arrived, done}
+use Rattle.nf_net.proofs.CreditCounts.{credit}
+
+-- The controller notes no packet.
+record IsSilent (step : controller.Step) : Type 0 where
+  came : arrived step.notes ≡ []
+  went : done step.notes ≡ []
+
+nothing_noted : (c : ControllerState) (sends : List (ℕ × Msg)) → IsSilent (record { node = c; sends = sends; notes = [] })
+nothing_noted c sends = record { came = refl; went = refl }
+
+module _ (c : ControllerState) where
+  after_is : (op : ℕ) (turn : Turn) (o : Option Answer) → IsSilent (after_turn c op turn o)
+  after_is op turn None = record { came = refl; went = refl }
+  after_is op turn (Some answer) = record { came = refl; went = refl }
+
+  handed_is : (op port : ℕ) (m : Msg) → IsSilent (handed c op port m)
+  handed_is op port m = after_is op (turn_of (finite.get c.operations op) c.store port m) _
+
+  numbered_is : (port : ℕ) (m : Msg) (o : Option ℕ) → IsSilent (numbered c port m o)
+  numbered_is port m None = record { came = refl; went = refl }
+  numbered_is port m (Some op) = handed_is op port m
+
+  between_is : (op : ℕ) (filter : Filter) (keep : Bool) (a b : Option ℕ) → IsSilent (begins_between c op filter keep a b)
+  between_is op filter keep (Some a) (Some b) = record { came = refl; went = refl }
+  between_is op filter keep None b = record { came = refl; went = refl }
+  between_is op filter keep (Some a) None = record { came = refl; went = refl }
+
+  begins_is : (op : ℕ) (what : Order) → IsSilent (begins c op what)
+  begins_is op (order.Move source destination filter keep) = between_is op filter keep _ _
+  begins_is op what = record { came = refl; went = refl }
+
+  decided_is : (op : ℕ) (what : Order) (o : Option Answer) → IsSilent (decided c op what o)
+  decided_is op what (Some answer) = record { came = refl; went = refl }
+  decided_is op what None = begins_is op what
+
+  asked_is : (k : Command) → IsSilent (on_asked c k)
+  asked_is k = elim (finite.contains_key c.operations k.op) as (λ b. IsSilent (if b then controller.still c else decided c k.op k.what (refusal c k.what))) [ true ↦ nothing_noted c [] | false ↦ decided_is k.op k.what (refusal c k.what) ]
+
+  event_is : (port op : ℕ) (cell : FullCell) (o : Option ℕ) → IsSilent (on_event c port op cell o)
+  event_is port op cell None = nothing_noted c []
+  event_is port op cell (Some instance) = elim (finite.contains_key c.operations op) as (λ b. IsSilent (if b then handed c op port (msg.Event op cell) else record { node = c; sends = (0, msg.Forward instance (mark.Pass op) cell) ∷ []; notes = [] })) [ true ↦ handed_is op port (msg.Event op cell) | false ↦ nothing_noted c ((0, msg.Forward instance (mark.Pass op) cell) ∷ []) ]
+
+  final_is : (o : Option ℕ) → IsSilent (on_final c o)
+  final_is None = nothing_noted c []
+  final_is (Some instance) = nothing_noted _ []
+
+  row_is : (port : ℕ) (m : Msg) → IsSilent (row c port m)
+  row_is port (msg.Asked k) = elim (port == 0) as (λ b. IsSilent (if b then on_asked c k else controller.still c)) [ true ↦ asked_is k | false ↦ nothing_noted c [] ]
+  row_is port msg.End = elim (port == 0) as (λ b. IsSilent (if b then controller.still (record c { end_came = true }) else controller.still c)) [ true ↦ nothing_noted _ [] | false ↦ nothing_noted c [] ]
+  row_is port (msg.Event op cell) = event_is port op cell (instance_at c port)
+  row_is port msg.Final = final_is (instance_at c port)
+  row_is port m = numbered_is port m (op_of m)
+
+  pub controller_came : (port : ℕ) (m : Msg) → arrived (controller_step c port m).notes ≡ []
+  controller_came port m = (row_is port m).came
+
+  pub controller_went : (port : ℕ) (m : Msg) → done (controller_step c port m).notes ≡ []
+  controller_went port m = (row_is port m).went
+
+-- The switch counts what came and what comes home.
+pub record Counts (window : ℕ) (s : SwitchState) (m : Msg) (step : switch.Step) : Type 0 where
+  pub name : step.node.pool.name ≡ s.pool.name
+  pub cells : step.node.pool.cells ≡ window
+  pub home : step.node.flying + step.node.pool.home ≡ window
+  pub flying : step.node.flying + credit m ≡ s.flying + length (arrived step.notes)
+  pub went : done step.notes ≡ []
+
+module _ (window : ℕ) (s : SwitchState) (cells : s.pool.cells ≡ window) (home : s.flying + s.pool.home ≡ window) where
+  stays : (m : Msg) → credit m ≡ 0 → (t : SwitchState) → t.pool ≡ s.pool → t.flying ≡ s.flying → (sends : List (ℕ × Msg)) (notes : List Note) → arrived notes ≡ [] → done notes ≡ [] → Counts window s m (record { node = t; sends = sends; notes = notes })
+  stays m none t pool flying sends notes came went = record {
+    name = ap (λ p. p.name) pool;
+    cells = ap (λ p. p.cells) pool ∙ cells;
+    home = rw (pool, flying) home;
+    flying = rw (none, flying, came) refl;
+    went = went;
+  }
+
+  still_is : (m : Msg) → credit m ≡ 0 → Counts window s m (still s)
+  still_is m none = stays m none s refl refl [] [] refl refl
+
+  arrives_is : (q : Packet) (to : ℕ) (make : FullCell → Msg) → s.flying < window → Counts window s (msg.InPacket q) (switch.arrives s q to make)
+  arrives_is q to make room = record {
+    name = refl;
+    cells = cells;
+    home = omega (arith, home, room);
+    flying = omega arith;
+    went = refl;
+  }
+
+  goes_is : (q : Packet) (t : Target) → s.flying < window → Counts window s (msg.InPacket q) (goes_to s q t)
+  goes_is q target.Controller room = arrives_is q 1 msg.Diverted room
+  goes_is q (target.Instance i) room = elim (nat_lt i s.instances) as (λ b. Counts window s (msg.InPacket q) (if b then switch.arrives s q (instance_node i) (msg.Carry mark.Plain) else still s)) [ true ↦ arrives_is q (instance_node i) (msg.Carry mark.Plain) room | false ↦ still_is (msg.InPacket q) refl ]
+
+  packet_is : (q : Packet) → Counts window s (msg.InPacket q) (switch.on_packet s q)
+  packet_is q = elim (has_room s) as (λ b. has_room s ≡ b → Counts window s (msg.InPacket q) (if b then goes_to s q (target_of s q) else still s)) [
+    | true ↦ λ e. let room : s.flying < window = (rw (← cells) (grind (arith, nat_tests, e))) in goes_is q (target_of s q) room
+    | false ↦ λ e. still_is (msg.InPacket q) refl
+  ] refl
+
+  to_instance_is : (m : Msg) → credit m ≡ 0 → (i : ℕ) (a : Msg) → Counts window s m (sends_to_instance s i a)
+  to_instance_is m none i a = elim (nat_lt i s.instances) as (λ b. Counts window s m (if b then switch.sends_on s (instance_node i) a else still s)) [ true ↦ stays m none s refl refl ((instance_node i, a) ∷ []) [] refl refl | false ↦ still_is m none ]
+
+  install_is : (op : ℕ) (filter : Filter) (from : ℕ) (to : Target) → Counts window s (msg.Install op filter from to) (switch.on_install s op filter from to)
+  install_is op filter from to =
+      let t : SwitchState = record s { rules = redirected (record { filter = filter; from = target.Instance from; to = to }) s.rules } in
+      let sends : List (ℕ × Msg) = (instance_node from, msg.Fence op) ∷ [] in
+      let notes : List Note = note.Installed op ∷ [] in
+      elim (nat_lt from s.instances && is_there s to) as (λ b. Counts window s (msg.Install op filter from to) (if b then record { node = t; sends = sends; notes = notes } else still s)) [
+        | true ↦ stays (msg.Install op filter from to) refl t refl refl sends notes refl refl
+        | false ↦ still_is (msg.Install op filter from to) refl
+      ]
+
+  credit_is : (cell : FullCell) → cell.pool ≡ s.pool.name → 1 ≤ s.flying → Counts window s (msg.Credit cell) (switch.on_credit s cell)
+  credit_is cell pool some =
+      let own : (cell.pool == s.pool.name) ≡ true = (Decides-eqb cell.pool s.pool.name).1 pool in
+      let flies : (s.flying == 0) ≡ false = grind (arith, nat_tests, some) in
+      rw (flies, own) (record { name = refl; cells = cells; home = omega (arith, home, some); flying = omega (arith, some); went = refl })
+
+  pub switch_counts : (m : Msg) → ((cell : FullCell) → m ≡ msg.Credit cell → (cell.pool ≡ s.pool.name) × (1 ≤ s.flying)) → Counts window s m (switch_step s m)
+  switch_counts (msg.InPacket q) credits = packet_is q
+  switch_counts (msg.InCommand k) credits = stays (msg.InCommand k) refl _ refl refl _ [] refl refl
+  switch_counts msg.InEnd credits = stays msg.InEnd refl s refl refl _ [] refl refl
+  switch_counts (msg.Forward to mark cell) credits = to_instance_is (msg.Forward to mark cell) refl to (msg.Carry mark cell)
+  switch_counts (msg.Install op filter from to) credits = install_is op filter from to
+  switch_counts (msg.FenceTo op to) credits = to_instance_is (msg.FenceTo op to) refl to (msg.Fence op)
+  switch_counts (msg.Answered op) credits = stays (msg.Answered op) refl _ refl refl [] [] refl refl
+  switch_counts msg.Finish credits = stays msg.Finish refl _ refl refl _ [] refl refl
+  switch_counts (msg.Credit cell) credits = let ok = credits cell refl in credit_is cell ok.0 ok.1
+  switch_counts m credits = still_is m refl
