@@ -12,5 +12,5 @@ pub mod starting;
 
 pub use config::Config;
 pub use node::Node;
-pub use run::run_choices;
+pub use run::{run_choices, simulate};
 pub use starting::start;

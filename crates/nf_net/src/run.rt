@@ -1,17 +1,51 @@
-ghost use Rattle.std.specs.Prelude.{◌≡◌, ◌≢◌};
+ghost use Rattle.std.specs.Prelude.{◌≡◌, ◌≢◌, ℕ, List, IfOk};
+ghost use Rattle.std.specs.declared.alloc.Global.{Global as AnAllocator};
+ghost use Rattle.nf_msgs.specs.declared.msg.Msg.{Msg as AMessage};
 ghost use Rattle.actor_net.specs.Replays.{replayed};
+ghost use Rattle.nf_net.specs.declared.config.Config.{Config as AConfig};
+ghost use Rattle.nf_net.specs.Input.{IsInput};
 ghost use Rattle.nf_net.specs.Nodes.{node_ready, node_step};
+ghost use Rattle.nf_net.specs.Promises.{Completed, Promises};
+ghost use Rattle.nf_net.specs.Runs.{chosen, EndsIn, StopsAt};
+ghost use Rattle.nf_net.specs.Start.{started};
+ghost use Rattle.nf_net.specs.Window.{AllHome};
 
+use crate::config::Config;
 use crate::node::Node;
-use actor_net::{Choice, ReplayFault, World, replay};
+use crate::starting::start;
+use actor_net::{
+    Choice, Choices, ReplayFault, Schedule, ScheduleFault, World, replay, run_schedule,
+};
 use nf_function::Function;
+use nf_msgs::Msg;
+use std::alloc::Global;
+
+/// Runs a network from its start by a schedule, until nothing is left to do.
+pub fn simulate<F: Function>(
+    alloc: Global,
+    config: &Config,
+    items: Vec<Msg>,
+    schedule: Schedule,
+) -> Result<(World<Node<F>>, Choices), ScheduleFault>
+    requires { IsInput F.semantics.kind config.now items.items }
+    ensures choices { IfOk result (λ r. r.1 ≡ chosen {F = F.row.Denot} F.semantics (started alloc config.now items.items) schedule) }
+    ensures end { IfOk result (λ r. EndsIn F.semantics (started alloc config.now items.items) schedule r.0) }
+    ensures promises { IfOk result (λ r. Promises F.semantics config.now items.items r.0) }
+    ensures completed { IfOk result (λ r. Completed F.semantics config.now items.items r.0) }
+    ensures home { IfOk result (λ r. AllHome config.now r.0) }
+    ensures unfinished { (step : ℕ) → result ≡ Err (ScheduleFault.Unfinished step) → StopsAt {F = F.row.Denot} F.semantics (started alloc config.now items.items) schedule step }
+{
+    let world = start::<F>(alloc, config, items)?;
+    run_schedule(alloc, world, schedule)
+}
 
 /// Takes the choices in order, each by its node's row of the tables. What isn't handed back is dropped.
 pub fn run_choices<F: Function>(
     world: World<Node<F>>,
     choices: &[Choice],
 ) -> Result<World<Node<F>>, ReplayFault>
-    ensures { result ≢ Err ReplayFault.NoMemory → result ≡ replayed node_ready (node_step F.semantics) choices.now world }
+    ensures replay { result ≢ Err ReplayFault.NoMemory → result ≡ replayed node_ready (node_step F.semantics) choices.now world }
+    ensures promises { (alloc : AnAllocator) (config : AConfig) (items : List AMessage) → IsInput F.semantics.kind config items → world ≡ started alloc config items → IfOk result (λ reached. Promises F.semantics config items reached) }
 {
     replay(world, choices)
 }
