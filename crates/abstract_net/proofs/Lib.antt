@@ -19,3 +19,4 @@ pub mod Every
 pub mod Waits
 pub mod Outcomes
 pub mod Readings
+pub mod Places

@@ -1,5 +1,7 @@
+pub mod Commands
 pub mod Input
 pub mod Log
 pub mod Nodes
+pub mod Places
 pub mod Promises
 pub mod Start
