@@ -15,6 +15,7 @@ pub mod LogLemmas
 pub mod MoveOutline
 pub mod MoveSteps
 pub mod Outline
+pub mod OwnerLemmas
 pub mod PlaceNotes
 pub mod RecordPromises
 pub mod RunsJoined
