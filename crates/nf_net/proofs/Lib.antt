@@ -1,3 +1,4 @@
+pub mod BusyStub
 pub mod ControlOutline
 pub mod ControllerSteps
 pub mod FiltersApart
@@ -18,6 +19,7 @@ pub mod Outline
 pub mod OwnerLemmas
 pub mod PlaceNotes
 pub mod RecordPromises
+pub mod RunUnits
 pub mod RunsJoined
 pub mod StartJoined
 pub mod StartingLemmas
