@@ -31,7 +31,7 @@ module _ {F R : Type 0} (f : Semantics R) (laws : FunctionLaws f) (g : Given) (f
   abbrev step : Node F R → ℕ → Msg → Stepped (Node F R) Msg Note
   step = node_step f
 
-  abbrev scene : (w : Network (Node F R) Msg Note) → Joined f g n w → Scene F f g
+  abbrev pub scene : (w : Network (Node F R) Msg Note) → Joined f g n w → Scene F f g
   scene w j = record { nodes = j.nodes; world = j.world; log = w.log; input = waiting w (at 0 0) }
 
   -- a node's step, by which node it is
@@ -41,7 +41,7 @@ module _ {F R : Type 0} (f : Semantics R) (laws : FunctionLaws f) (g : Given) (f
   leads x (suc (suc i)) p m are is = instance_leads f laws g fitting n x p m (suc (suc i)) (omega arith) are is
 
   module _ (w : Network (Node F R) Msg Note) (k p : ℕ) (m : Msg) (rest : List Msg) (j : Joined f g n w) (takes : Takes step n w k p (node_of j.nodes k) m rest) (was_ready : is_input (at k p) ≡ true → node_ready (node_of j.nodes k) m ≡ true) where
-    abbrev took : Took
+    abbrev pub took : Took
     took = record { node = k; port = p; message = m }
 
     label : Label f g p k m
@@ -56,7 +56,7 @@ module _ {F R : Type 0} (f : Semantics R) (laws : FunctionLaws f) (g : Given) (f
     ready : p ≡ 0 → k ≡ 0 → takes_in j.nodes.switch m ≡ true
     ready p0 k0 = subst (λ x. node_ready (node_of j.nodes x) m ≡ true) k0 (was_ready (rw (k0, p0) refl))
 
-    is_taken : IsTaken f g n (scene w j) took
+    pub is_taken : IsTaken f g n (scene w j) took
     is_taken = record {
       count_is = count_is;
       receiver = takes.receiver;

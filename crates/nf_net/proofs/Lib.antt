@@ -17,7 +17,9 @@ pub mod MoveOutline
 pub mod MoveSteps
 pub mod Outline
 pub mod OwnerLemmas
+pub mod OwnerSteps
 pub mod PlaceNotes
+pub mod PlaceSteps
 pub mod RecordPromises
 pub mod RunUnits
 pub mod RunsJoined

@@ -16,7 +16,7 @@ use Rattle.nf_msgs.specs.declared.msg.Msg.{Msg}
 use Rattle.nf_msgs.specs.declared.note.Note.{Note}
 use Rattle.nf_msgs.specs.declared.note.Note.TheVariants as note
 use Rattle.nf_msgs.specs.Nodes.{instance_node}
-use Rattle.switch_rules.specs.declared.target.Target.TheVariants as target
+use Rattle.switch_rules.specs.Rules.{first_match}
 use Rattle.switch_node.specs.Switch.{SwitchState}
 use Rattle.unit_machine.proofs.Labels.{Each}
 use Rattle.nf_net.specs.declared.config.Config.{Config}
@@ -55,15 +55,15 @@ unit_is_fit Conntrack flow e = e
 unit_is_fit Nat flow e = and_l _ _ (and_r _ _ e)
 unit_is_fit Monitor flow e = and_l _ _ (and_r _ _ e)
 
--- the rules of a switch give each unit one route
-pub routes_agree : (kind : Kind) (s : SwitchState) (to other : units.Unit → ℕ) → Routes kind s to → Routes kind s other → (u : units.Unit) → unit_fits kind u ≡ true → to u ≡ other u
-routes_agree kind s to other a b u fits =
+-- the same rules give each unit the same route
+pub routes_agree : (kind : Kind) (s t : SwitchState) (to other : units.Unit → ℕ) → t.rules ≡ s.rules → Routes kind s to → Routes kind t other → (u : units.Unit) → unit_fits kind u ≡ true → other u ≡ to u
+routes_agree kind s t to other rules a b u fits =
     let flow = flow_in u in
     let ga = a flow (flow_in_fits kind u fits) in
     let gb = b flow (flow_in_fits kind u fits) in
-    let both : ◌≡◌ {A = Option Rattle.switch_rules.specs.declared.target.Target.Target} (Some (target.Instance ga.instance)) (Some (target.Instance gb.instance)) = sym ga.first ∙ gb.first in
-    let same : ga.instance ≡ gb.instance = cc in
-    ap to (sym (flow_in_of kind u fits)) ∙ ga.node ∙ ap instance_node same ∙ sym gb.node ∙ ap other (flow_in_of kind u fits)
+    let both = sym gb.first ∙ ap (λ rs. first_match rs flow) rules ∙ ga.first in
+    let same : gb.instance ≡ ga.instance = cc in
+    ap other (sym (flow_in_of kind u fits)) ∙ gb.node ∙ ap instance_node same ∙ sym ga.node ∙ ap to (flow_in_of kind u fits)
 
 pub takes_same : (kind : Kind) (g : Filter) (u : units.Unit) → is_whole kind g ≡ true → unit_fits kind u ≡ true → takes_whole kind g u ≡ takes g u
 takes_same kind g u whole fits = rw (whole, fits) refl
