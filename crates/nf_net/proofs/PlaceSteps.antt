@@ -77,3 +77,46 @@ module _ {F R : Type 0} (f : Semantics R) (laws : FunctionLaws f) (c : Config) (
     by_may (At_destination k e there taken at) =
         let m = under_way k e (finite.get j.nodes.controller.operations k) (stored j.nodes.controller.store k) refl (subst (λ q. Sees f (place g) q (finite.get j.nodes.controller.operations k) (stored j.nodes.controller.store k)) there (j.shown_is.controller.opens k)) taken in
         Is_destination m.1 m.2 m.3 (m.5 ∙ ap Some (node_same m.0.1 i e.op.dst (sym m.7) (sym at)))
+
+  -- what an instance processes, it processes at a place of the unit
+  module _ (owners : Owners) (y p : ℕ) (m : Msg) (taken : IsTaken f g n scene (record { node = suc (suc y); port = p; message = m })) where
+    abbrev k : ℕ
+    k = suc (suc y)
+
+    abbrev own : InstanceState F R
+    own = j.nodes.instance k
+
+    not_first : (k == 0) ≡ false
+    not_first = grind (arith, nat_tests)
+
+    not_second : (k == 1) ≡ false
+    not_second = grind (arith, nat_tests)
+
+    not_input : (p == 0) && (k == 0) ≡ false
+    not_input = grind (arith, nat_tests)
+
+    abbrev at : Rattle.nf_net.proofs.Joined.IsInstanceAt f g k own (j.world.inst k)
+    at = j.shown_is.instances k (omega arith) taken.receiver
+
+    quiet : Each (IsQuiet own.index) (instance_step f own m).notes
+    quiet = instance_quiet f own m
+
+    noted_at : (front back : List Note) (number i : ℕ) (output : Output) → (instance_step f own m).notes ≡ front ++ note.Processed number i output ∷ back → i ≡ own.index
+    noted_at front back number i output e = each_there (IsQuiet own.index) front (note.Processed number i output) back (subst (λ ns. Each (IsQuiet own.index) ns) e quiet)
+
+    some_ran : (front back : List Note) (number i : ℕ) (output : Output) → (instance_step f own m).notes ≡ front ++ note.Processed number i output ∷ back → none_mine (S f g) ((S f g).unit_of number) (filter_map ran_in (instance_step f own m).notes) ≢ []
+    some_ran front back number i output e = subst (λ ns. none_mine (S f g) ((S f g).unit_of number) (filter_map ran_in ns) ≢ []) (sym e) (some_mine (S f g) front number i output back)
+
+    may : (front back : List Note) (number i : ℕ) (output : Output) → (instance_step f own m).notes ≡ front ++ note.Processed number i output ∷ back → Ran_as f laws g own m → May_process (S f g) j.world ((S f g).unit_of number) k
+    may front back number i output e (Unseen none) = absurd (some_ran front back number i output e (ap (none_mine (S f g) ((S f g).unit_of number)) none))
+    may front back number i output e (Seen a shown_as ran) =
+        let follows : filter_map ran_in (instance_step f own m).notes ≡ (inst_step (S f g) (j.world.inst k) a).ran = ran ∙ ap (λ x. (inst_step (S f g) x a).ran) at.outline_is in
+        processed_at (S f g) (is_sys f g.site g.packet) j.world _ _ j.shown_is.every p k a taken.rest not_first not_second (taken.head not_input a shown_as) ((S f g).unit_of number)
+            (subst (λ ns. none_mine (S f g) ((S f g).unit_of number) ns ≢ []) follows (some_ran front back number i output e))
+
+    pub processed_place : (front back : List Note) (number i : ℕ) (output : Output) → (instance_step f own m).notes ≡ front ++ note.Processed number i output ∷ back → IsPlace c items (unit_at f.kind c.site (packet_of items number)) (w.log ++ front) i
+    processed_place front back number i output e =
+        let index = noted_at front back number i output e in
+        let node : k ≡ instance_node i = sym at.number ∙ ap instance_node (sym index) in
+        place_quiet c items (unit_at f.kind c.site (packet_of items number)) own.index w.log front i (each_front (IsQuiet own.index) front (note.Processed number i output ∷ back) (subst (λ ns. Each (IsQuiet own.index) ns) e quiet))
+            (by_may owners number i (subst (λ q. May_process (S f g) j.world ((S f g).unit_of number) q) node (may front back number i output e (ran_as f laws g k own (j.world.inst k) at p y m taken.label))))
