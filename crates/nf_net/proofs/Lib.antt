@@ -19,6 +19,7 @@ pub mod Outline
 pub mod OwnerLemmas
 pub mod OwnerSteps
 pub mod PlaceNotes
+pub mod PlaceRuns
 pub mod PlaceSteps
 pub mod RecordPromises
 pub mod RunUnits

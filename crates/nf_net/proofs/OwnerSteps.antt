@@ -29,7 +29,7 @@ use Rattle.nf_net.proofs.FiltersApart.{is_whole, unit_fits, takes_whole}
 use Rattle.nf_net.proofs.SwitchOutline.{Routes, routes_after}
 use Rattle.nf_net.proofs.StartJoined.{given}
 use Rattle.nf_net.proofs.PlaceNotes.{is_uninstalled}
-use Rattle.nf_net.proofs.OwnerLemmas.{takes_same, routes_agree, owner_after-append, owner_uninstalled}
+use Rattle.nf_net.proofs.OwnerLemmas.{takes_same, routes_agree, owner_after-append}
 use Rattle.nf_net.proofs.BusyStub.{IsMoveOf}
 use Rattle.nf_net.proofs.Joined.{Given, S, place, count, is_instance, IsSwitch}
 
@@ -120,8 +120,8 @@ module _ {R : Type 0} (f : Semantics R) (c : Config) (items : List Msg) (is : Is
       ∙ handed to u fits (owner c items u log) op filter from dst whole of at
       ∙ ap instance_node (sym (ap (λ ns. owner c items u (log ++ ns)) noted ∙ owner_after-append c items u (first_owner u c.routes) log (note.Installed op ∷ [])))
 
-  -- one that doesn't
-  pub stays_owner : (s t : SwitchState) (to other : units.Unit → ℕ) → IsSwitch f g s to → IsSwitch f g t other → t.rules ≡ s.rules → (log notes : List Note) → AreUninstalled notes → (u : units.Unit) → unit_fits f.kind u ≡ true → to u ≡ instance_node (owner c items u log) → other u ≡ instance_node (owner c items u (log ++ notes))
-  stays_owner s t to other a b rules log notes none u fits at =
+  -- one that doesn't, and notes that leave the owner
+  pub stays_owner : (s t : SwitchState) (to other : units.Unit → ℕ) → IsSwitch f g s to → IsSwitch f g t other → t.rules ≡ s.rules → (log notes : List Note) (u : units.Unit) → owner_after c items u (owner c items u log) notes ≡ owner c items u log → unit_fits f.kind u ≡ true → to u ≡ instance_node (owner c items u log) → other u ≡ instance_node (owner c items u (log ++ notes))
+  stays_owner s t to other a b rules log notes u none fits at =
       routes_agree f.kind s t to other rules a.routes b.routes u fits ∙ at
-      ∙ ap instance_node (sym (owner_after-append c items u (first_owner u c.routes) log notes ∙ owner_uninstalled c items u (owner c items u log) notes none))
+      ∙ ap instance_node (sym (owner_after-append c items u (first_owner u c.routes) log notes ∙ none))
