@@ -1,8 +1,7 @@
 -- Where packets of a unit are processed: where its route goes, or at the source or the destination of an open move of it.
 use Rattle.std.proofs.Common.{◌≡◌, ◌≢◌, ℕ, suc, Bool, true, false, Some, List, [], ◌∷◌, refl, sym, ap, ◌∙◌, subst, arith}
 use Rattle.std.specs.Prelude.{◌==◌}
-use Rattle.std.proofs.lemmas.Bool.Decides.{Decides-eqb}
-use Rattle.unit_machine.proofs.Machine.{At_a, At_c, Steps, Ran, Did, sends as did_sends, Item, State}
+use Rattle.unit_machine.proofs.Machine.{At_a, At_c, Steps, Ran, Item, State}
 use Rattle.unit_machine.proofs.Stages.{Stage, At_rest, shape}
 use Rattle.unit_machine.proofs.Pairs.{Shown_by, By_sa, By_sb, By_sc, By_ca, By_cb, By_ac, By_bc, By_cc, By_cs, shown_by}
 use Rattle.unit_machine.proofs.Seats.{Seat, Covered, Is_beside, Is_away, seat_shape}
@@ -10,9 +9,8 @@ use Rattle.unit_machine.proofs.Between.{seat_at}
 use Rattle.unit_machine.proofs.Real.{Op}
 use Rattle.unit_machine.proofs.NetViews.{items}
 use Rattle.abstract_net.proofs.Net.{Msg, Sys, IsSys, Open, World, find_op, inst_step, seen}
-use Rattle.abstract_net.proofs.Holding.{Seeing, frame, node_at, place, Ctrl_is, Op_label, Holds}
+use Rattle.abstract_net.proofs.Holding.{frame, place, Ctrl_is, Op_label, Holds}
 use Rattle.abstract_net.proofs.Ctrl.{each_found}
-use Rattle.abstract_net.proofs.Insts.{does}
 use Rattle.abstract_net.proofs.InstWorld.{shown}
 use Rattle.abstract_net.proofs.Rest.{Rest, Global, none_mine}
 use Rattle.abstract_net.proofs.Units.{Where, Where.At_rest, Where.In_move, shown_rest, see}

@@ -1,16 +1,13 @@
 -- Who owns a unit by a log: where its route goes at the start, and after each note; and that routes of one switch agree.
-use Rattle.std.proofs.Common.{◌≡◌, ℕ, ◌+◌, Bool, true, false, Option, Some, None, List, [], ◌∷◌, ◌++◌, refl, sym, ap, ◌∙◌, subst, append_assoc, arith}
-use Rattle.std.specs.Prelude.{if◌then◌else◌, ◌&&◌, ◌||◌, ◌==◌, not, unwrap_or}
-use Rattle.std.proofs.lemmas.Bool.Decides.{nat_tests}
+use Rattle.std.proofs.Common.{◌≡◌, ℕ, ◌+◌, Bool, true, false, List, [], ◌∷◌, ◌++◌, refl, sym, ap, ◌∙◌}
+use Rattle.std.specs.Prelude.{if◌then◌else◌, ◌&&◌, ◌||◌, ◌==◌, not}
 use Rattle.flow_filter.specs.declared.filter.Filter.{Filter}
 use Rattle.flow_filter.specs.declared.flow.Flow.{Flow}
 use Rattle.nf_function.specs.declared.kind.Kind.{Kind}
 use Rattle.nf_function.specs.declared.kind.Kind.TheVariants.{Conntrack, Nat, Monitor}
-use Rattle.nf_function.specs.declared.output.Output.{Output}
 use Rattle.nf_function.specs.declared.unit.Unit as units
 use Rattle.nf_function.specs.declared.unit.Unit.TheVariants.{Flow as OfFlow, Host as OfHost}
 use Rattle.nf_function.specs.Units.{has_hosts, takes, unit_of}
-use Rattle.nf_msgs.specs.declared.command.Order.{Order}
 use Rattle.nf_msgs.specs.declared.command.Order.TheVariants as order
 use Rattle.nf_msgs.specs.declared.msg.Msg.{Msg}
 use Rattle.nf_msgs.specs.declared.note.Note.{Note}
@@ -23,11 +20,11 @@ use Rattle.nf_net.specs.declared.config.Config.{Config}
 use Rattle.nf_net.specs.Input.{order_of}
 use Rattle.nf_net.specs.Log.{has_begun}
 use Rattle.nf_net.specs.Commands.{has_answered, is_busy}
-use Rattle.nf_net.specs.Places.{first_owner, is_at, handed_on, owner_after, owner, IsMoving, IsPlace, Owns, Is_source, Is_destination}
+use Rattle.nf_net.specs.Places.{first_owner, handed_on, owner_after, owner, IsMoving, IsPlace, Owns, Is_source, Is_destination}
 use Rattle.nf_net.proofs.FiltersApart.{flow_fits, is_whole, unit_fits, takes_whole, and_l, and_r}
 use Rattle.nf_net.proofs.SwitchOutline.{Routes}
 use Rattle.nf_net.proofs.StartJoined.{route}
-use Rattle.nf_net.proofs.PlaceNotes.{IsQuiet, is_unprocessed, is_uninstalled}
+use Rattle.nf_net.proofs.PlaceNotes.{IsQuiet, is_uninstalled}
 
 -- a flow of a unit
 abbrev pub flow_in : units.Unit → Flow

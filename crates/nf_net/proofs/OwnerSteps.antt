@@ -1,6 +1,6 @@
 -- The routes of the switch lead to the owners that the log tells: each choice keeps this.
-use Rattle.std.proofs.Common.{◌≡◌, ◌≢◌, ℕ, zero, suc, ◌+◌, ◌-◌, ◌<◌, Bool, true, false, Option, Some, None, List, [], ◌∷◌, ◌++◌, get_or, refl, sym, ap, ◌∙◌, subst, arith}
-use Rattle.std.specs.Prelude.{if◌then◌else◌, ◌&&◌, ◌||◌, ◌==◌, not, nat_lt, unwrap_or}
+use Rattle.std.proofs.Common.{◌≡◌, ℕ, ◌+◌, ◌-◌, Bool, true, false, List, [], ◌∷◌, ◌++◌, refl, sym, ap, ◌∙◌, arith}
+use Rattle.std.specs.Prelude.{if◌then◌else◌, ◌&&◌, ◌||◌, ◌==◌, not, nat_lt}
 use Rattle.std.proofs.lemmas.Bool.Decides.{nat_tests}
 use Rattle.flow_filter.specs.declared.filter.Filter.{Filter}
 use Rattle.flow_filter.specs.declared.packet.Packet.{Packet}
@@ -25,8 +25,8 @@ use Rattle.abstract_net.proofs.Net.{sw_target}
 use Rattle.nf_net.specs.declared.config.Config.{Config}
 use Rattle.nf_net.specs.Input.{order_of, IsInput}
 use Rattle.nf_net.specs.Places.{first_owner, handed_on, owner_after, owner}
-use Rattle.nf_net.proofs.FiltersApart.{is_whole, unit_fits, takes_whole}
-use Rattle.nf_net.proofs.SwitchOutline.{Routes, routes_after}
+use Rattle.nf_net.proofs.FiltersApart.{is_whole, unit_fits}
+use Rattle.nf_net.proofs.SwitchOutline.{routes_after}
 use Rattle.nf_net.proofs.StartJoined.{given}
 use Rattle.nf_net.proofs.PlaceNotes.{is_uninstalled}
 use Rattle.nf_net.proofs.OwnerLemmas.{takes_same, routes_agree, owner_after-append}

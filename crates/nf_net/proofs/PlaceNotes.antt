@@ -1,5 +1,5 @@
 -- What the steps of the nodes note: an instance what it processed, gave and took, and the others nothing that was processed.
-use Rattle.std.proofs.Common.{◌≡◌, ℕ, ◌+◌, ◌-◌, Bool, true, false, Option, Some, None, List, [], ◌∷◌, ◌++◌, length, refl, ◌∙◌, subst}
+use Rattle.std.proofs.Common.{◌≡◌, ℕ, ◌+◌, ◌-◌, Bool, true, false, Option, Some, None, List, [], ◌∷◌, length, refl, ◌∙◌, subst}
 use Rattle.std.specs.Prelude.{if◌then◌else◌, ◌&&◌, ◌||◌, ◌==◌, not, nat_lt, Result, Ok, Err}
 use Rattle.std.specs.FinMap as finite
 use Rattle.state_chunk.specs.declared.fault.ChunkFault.{ChunkFault}

@@ -1,13 +1,11 @@
 -- In every run the routes lead to the owners that the log tells, and packets are processed at places of their units.
-use Rattle.std.proofs.Common.{◌≡◌, ◌≢◌, ℕ, zero, suc, ◌+◌, ◌<◌, ◌≤◌, Bool, true, false, Option, Some, None, List, [], ◌∷◌, ◌++◌, length, get_or, refl, sym, ap, ◌∙◌, subst, arith}
-use Rattle.std.specs.Prelude.{◌&&◌, ◌==◌}
+use Rattle.std.proofs.Common.{◌≡◌, ◌≢◌, ℕ, zero, suc, ◌+◌, true, false, List, [], ◌∷◌, ◌++◌, length, refl, sym, ap, ◌∙◌, subst, arith}
 use Rattle.std.specs.declared.alloc.Global.{Global}
 use Rattle.nf_function.specs.Records.{Laws as FunctionLaws}
 use Rattle.nf_function.specs.Semantics.{Semantics, unit_at}
 use Rattle.nf_function.specs.declared.output.Output.{Output}
 use Rattle.nf_function.specs.declared.unit.Unit as units
 use Rattle.flow_filter.specs.declared.filter.Filter.{Filter}
-use Rattle.switch_rules.specs.declared.target.Target.{Target}
 use Rattle.switch_rules.specs.declared.target.Target.TheVariants as target
 use Rattle.switch_node.specs.Switch.{SwitchState, switch_step, on_install}
 use Rattle.ctrl_node.specs.Controller.{controller_step}
@@ -25,23 +23,23 @@ use Rattle.actor_net.proofs.StepOutcome.{Takes, taken_outcome}
 use Rattle.unit_machine.proofs.Labels.{Each}
 use Rattle.nf_net.specs.declared.config.Config.{Config}
 use Rattle.nf_net.specs.declared.node.Node.{Node}
-use Rattle.nf_net.specs.declared.node.Node.TheVariants.{Switch, Controller, Instance}
-use Rattle.nf_net.specs.Input.{packet_of, IsInput}
+use Rattle.nf_net.specs.declared.node.Node.TheVariants.{Switch, Instance}
+use Rattle.nf_net.specs.Input.{packet_of, IsInput, IsWhole}
 use Rattle.nf_net.specs.Nodes.{node_step, node_ready}
 use Rattle.nf_net.specs.Start.{first_switch, started}
-use Rattle.nf_net.specs.Places.{owner, IsPlace, ArePlaces}
+use Rattle.nf_net.specs.Places.{owner, owner_after, IsPlace, ArePlaces}
 use Rattle.nf_net.proofs.FiltersApart.{is_whole, unit_fits}
 use Rattle.nf_net.proofs.InputLemmas.{whole_is}
 use Rattle.nf_net.proofs.StateOutline.{all_each}
 use Rattle.nf_net.proofs.StartJoined.{given, all_fit, count_at_start, routed, switch_is}
-use Rattle.nf_net.proofs.JoinedSteps.{is_taken}
+use Rattle.nf_net.proofs.JoinedSteps.{scene, is_taken}
 use Rattle.nf_net.proofs.RunsJoined.{start_world, run_joined}
 use Rattle.nf_net.proofs.PlaceNotes.{is_unprocessed, AreUnprocessed, switch_unprocessed, is_uninstalled, controller_uninstalled, instance_quiet}
 use Rattle.nf_net.proofs.OwnerLemmas.{routes_agree, route_is, owner_quiet, owner_uninstalled, Stands, In_first, In_second, stands, each_there}
 use Rattle.nf_net.proofs.OwnerSteps.{Changes, Stays, Installs, changes, instance_in, instance_is, there_is, stays_owner, installs_owner}
 use Rattle.nf_net.proofs.PlaceSteps.{processed_place}
 use Rattle.nf_net.proofs.BusyStub.{Busy, busy_run}
-use Rattle.nf_net.proofs.Joined.{Given, Label, Took, IsTaken, node_of, Joined}
+use Rattle.nf_net.proofs.Joined.{Given, Label, IsTaken, node_of, Joined}
 
 abbrev switch_in : {F R : Type 0} → SwitchState → Node F R → SwitchState
 switch_in s (Switch t) = t
@@ -98,7 +96,7 @@ module _ (F : Type 0) {R : Type 0} (f : Semantics R) (laws : FunctionLaws f) (al
         let both : Switch v.nodes.switch ≡ Switch s = sym (v.nodes_are 0 takes.some (Switch s)) ∙ left.others 0 (Switch s) off ∙ j.nodes_are 0 takes.some (Switch s) in
         ap (switch_in s) both
 
-    others_keep : (k p : ℕ) (m : Msg) (rest : List Msg) (takes : Takes step n w k p (node_of j.nodes k) m rest) → 0 ≢ k → ((u : units.Unit) (i : ℕ) → Rattle.nf_net.specs.Places.owner_after c items u i (step (node_of j.nodes k) p m).notes ≡ i) → AtPlaces w.log (step (node_of j.nodes k) p m).notes → Keeps (taken step w (at k p))
+    others_keep : (k p : ℕ) (m : Msg) (rest : List Msg) (takes : Takes step n w k p (node_of j.nodes k) m rest) → 0 ≢ k → ((u : units.Unit) (i : ℕ) → owner_after c items u i (step (node_of j.nodes k) p m).notes ≡ i) → AtPlaces w.log (step (node_of j.nodes k) p m).notes → Keeps (taken step w (at k p))
     others_keep k p m rest takes off same new =
         let left = taken_outcome step n w k p (node_of j.nodes k) m rest takes in
         record {
@@ -134,7 +132,7 @@ module _ (F : Type 0) {R : Type 0} (f : Semantics R) (laws : FunctionLaws f) (al
             places = subst (λ l. ArePlaces c items f.kind l) (sym left.log) (places_more w.log (switch_step s m).notes h.places (λ front back number i output e. absurd (processed_off front back number i output (switch_step s m).notes (switch_unprocessed s m) e)));
           }
 
-    keeps : (k p : ℕ) (m : Msg) (rest : List Msg) → Takes step n w k p (node_of j.nodes k) m rest → IsTaken f g n (Rattle.nf_net.proofs.JoinedSteps.scene f laws g (all_fit f c items is) n refl w j) (record { node = k; port = p; message = m }) → Keeps (taken step w (at k p))
+    keeps : (k p : ℕ) (m : Msg) (rest : List Msg) → Takes step n w k p (node_of j.nodes k) m rest → IsTaken f g n (scene f laws g (all_fit f c items is) n refl w j) (record { node = k; port = p; message = m }) → Keeps (taken step w (at k p))
     keeps zero p m rest takes taken_is = switch_keeps p m rest takes taken_is.label
     keeps (suc zero) p m rest takes taken_is = others_keep 1 p m rest takes (λ e. cc) (λ u i. owner_uninstalled c items u i (controller_step j.nodes.controller p m).notes (controller_uninstalled j.nodes.controller p m)) (λ front back number i output e. absurd (processed_off front back number i output (controller_step j.nodes.controller p m).notes (uninstalled_unprocessed _ (controller_uninstalled j.nodes.controller p m)) e))
     keeps (suc (suc y)) p m rest takes taken_is = others_keep (suc (suc y)) p m rest takes (λ e. cc) (λ u i. owner_quiet c items u (j.nodes.instance (suc (suc y))).index i (instance_step f (j.nodes.instance (suc (suc y))) m).notes (instance_quiet f (j.nodes.instance (suc (suc y))) m)) (λ front back number i output e. processed_place f laws c items is n w j busy (h.owners j) y p m taken_is front back number i output e)
@@ -150,11 +148,11 @@ module _ (F : Type 0) {R : Type 0} (f : Semantics R) (laws : FunctionLaws f) (al
     owners = λ j u fits.
         let at : Switch (first_switch c) ≡ Switch j.nodes.switch = j.nodes_are 0 (omega arith) (Switch (first_switch c)) in
         routes_agree f.kind (first_switch c) j.nodes.switch (routed f c items is) j.world.target (ap (λ t. t.rules) (sym (ap (switch_in (first_switch c)) at))) (switch_is f c items is).routes j.shown_is.switch.routes u fits
-        ∙ ap instance_node (route_is f.kind u fits c.routes (whole_all c.routes (all_each (λ r. Rattle.nf_net.specs.Input.IsWhole f.kind r.0) c.routes is.routes)));
+        ∙ ap instance_node (route_is f.kind u fits c.routes (whole_all c.routes (all_each (λ r. IsWhole f.kind r.0) c.routes is.routes)));
     places = none;
   }
     where
-      whole_all : (rs : List (Filter × ℕ)) → Each (λ r. Rattle.nf_net.specs.Input.IsWhole f.kind r.0) rs → Each (λ r. is_whole f.kind r.0 ≡ true) rs
+      whole_all : (rs : List (Filter × ℕ)) → Each (λ r. IsWhole f.kind r.0) rs → Each (λ r. is_whole f.kind r.0 ≡ true) rs
       whole_all [] h = tt
       whole_all (r ∷ rs) h = (whole_is f.kind r.0 h.0, whole_all rs h.1)
 

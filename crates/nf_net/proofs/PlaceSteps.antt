@@ -1,6 +1,6 @@
 -- Each choice of a run keeps that the routes lead to the owners that the log tells, and that packets are processed at places of their units.
-use Rattle.std.proofs.Common.{◌≡◌, ◌≢◌, ℕ, zero, suc, ◌+◌, ◌<◌, ◌≤◌, Bool, true, false, Option, Some, None, List, [], ◌∷◌, ◌++◌, get_or, refl, sym, ap, ◌∙◌, subst, arith}
-use Rattle.std.specs.Prelude.{if◌then◌else◌, ◌&&◌, ◌==◌, is_some}
+use Rattle.std.proofs.Common.{◌≡◌, ◌≢◌, ℕ, suc, ◌+◌, true, false, Option, Some, None, List, [], ◌∷◌, ◌++◌, refl, sym, ap, ◌∙◌, subst, arith}
+use Rattle.std.specs.Prelude.{◌&&◌, ◌==◌, is_some}
 use Rattle.std.specs.List.{filter_map}
 use Rattle.std.specs.FinMap as finite
 use Rattle.std.proofs.lemmas.Bool.Decides.{nat_tests}
@@ -10,21 +10,20 @@ use Rattle.nf_function.specs.Units.{takes}
 use Rattle.nf_function.specs.declared.output.Output.{Output}
 use Rattle.nf_function.specs.declared.unit.Unit as units
 use Rattle.nf_msgs.specs.declared.msg.Msg.{Msg}
-use Rattle.nf_msgs.specs.declared.msg.Msg.TheVariants as msg
 use Rattle.nf_msgs.specs.declared.note.Note.{Note}
 use Rattle.nf_msgs.specs.declared.note.Note.TheVariants as note
 use Rattle.nf_msgs.specs.Nodes.{instance_node}
 use Rattle.packet_pool.specs.Pool.{FullCell}
-use Rattle.move_op.specs.Move.{MoveState}
 use Rattle.event_store.specs.Store.{stored}
+use Rattle.ctrl_node.specs.Controller.{place_of}
 use Rattle.ctrl_node.specs.declared.operation.Operation.{Operation}
 use Rattle.ctrl_node.specs.declared.operation.Operation.TheVariants.{Move}
 use Rattle.instance_worker.specs.declared.instance.Instance.{Instance as InstanceState}
 use Rattle.instance_worker.specs.Instance.{instance_step}
-use Rattle.actor_net.specs.Network.{Network}
+use Rattle.actor_net.specs.Network.{Network, waiting}
+use Rattle.actor_net.proofs.EnabledChoices.{at as at_node}
 use Rattle.unit_machine.proofs.Labels.{Each}
-use Rattle.abstract_net.proofs.Net as net
-use Rattle.abstract_net.proofs.Net.{World, Open, find_op, inst_step}
+use Rattle.abstract_net.proofs.Net.{Open, find_op, inst_step}
 use Rattle.abstract_net.proofs.Rest.{none_mine}
 use Rattle.abstract_net.proofs.Places.{May_process, At_target, At_source, At_destination, processed_at}
 use Rattle.nf_net.specs.declared.config.Config.{Config}
@@ -33,21 +32,21 @@ use Rattle.nf_net.specs.Input.{packet_of, IsInput}
 use Rattle.nf_net.specs.Commands.{is_busy}
 use Rattle.nf_net.specs.Places.{owner, IsMoving, IsPlace, Owns, Is_source, Is_destination}
 use Rattle.nf_net.proofs.FiltersApart.{is_whole, unit_fits, takes_whole, and_r}
-use Rattle.nf_net.proofs.Outline.{ran_in, is_sys, outline_instance}
-use Rattle.nf_net.proofs.ControlOutline.{Sees, SeesMove}
+use Rattle.nf_net.proofs.Outline.{ran_in, is_sys}
+use Rattle.nf_net.proofs.ControlOutline.{Sees}
 use Rattle.nf_net.proofs.StartJoined.{given}
 use Rattle.nf_net.proofs.PlaceNotes.{IsQuiet, instance_quiet}
 use Rattle.nf_net.proofs.OwnerLemmas.{each_there, each_front, place_quiet}
 use Rattle.nf_net.proofs.RunUnits.{Ran_as, Seen, Unseen, ran_as, some_mine, units_fit}
-use Rattle.nf_net.proofs.BusyStub.{IsMoveOf, Busy}
-use Rattle.nf_net.proofs.Joined.{Given, S, place, shown, Scene, IsTaken, AreShown, Joined}
+use Rattle.nf_net.proofs.BusyStub.{Busy}
+use Rattle.nf_net.proofs.Joined.{Given, S, place, Scene, IsTaken, IsInstanceAt, Joined}
 
 module _ {F R : Type 0} (f : Semantics R) (laws : FunctionLaws f) (c : Config) (items : List Msg) (is : IsInput f.kind c items) (n : ℕ) (w : Network (Node F R) Msg Note) (j : Joined f (given f c items is) n w) (busy : Busy f c items is n w j) where
   abbrev g : Given
   g = given f c items is
 
   abbrev scene : Scene F f g
-  scene = record { nodes = j.nodes; world = j.world; log = w.log; input = Rattle.actor_net.specs.Network.waiting w (Rattle.actor_net.proofs.EnabledChoices.at 0 0) }
+  scene = record { nodes = j.nodes; world = j.world; log = w.log; input = waiting w (at_node 0 0) }
 
   -- the routes lead to the owners
   abbrev pub Owners : Type 0
@@ -60,23 +59,43 @@ module _ {F R : Type 0} (f : Semantics R) (laws : FunctionLaws f) (c : Config) (
     abbrev u : units.Unit
     u = unit_at f.kind c.site (packet_of items number)
 
-    -- an open move is one that is under way
-    under_way : (k : ℕ) (e : Open R) (o : Option Operation) (events : List FullCell) → finite.get j.nodes.controller.operations k ≡ o → Sees f (place g) (Some e) o events → takes_whole f.kind e.filter u ≡ true → (ends : ℕ × ℕ) × (source : List ℕ) × (destination : List ℕ) × IsMoving c items u w.log source destination × (Rattle.ctrl_node.specs.Controller.place_of c.names source ≡ Some ends.0) × (Rattle.ctrl_node.specs.Controller.place_of c.names destination ≡ Some ends.1) × (e.op.src ≡ instance_node ends.0) × (e.op.dst ≡ instance_node ends.1)
+    -- an open move between two instances, as one that is under way
+    record IsUnderWay (e : Open R) : Type 0 where
+      from : ℕ
+      to : ℕ
+      source : List ℕ
+      destination : List ℕ
+      moving : IsMoving c items u w.log source destination
+      from_is : place_of c.names source ≡ Some from
+      to_is : place_of c.names destination ≡ Some to
+      src : e.op.src ≡ instance_node from
+      dst : e.op.dst ≡ instance_node to
+
+    under_way : (k : ℕ) (e : Open R) (o : Option Operation) (events : List FullCell) → finite.get j.nodes.controller.operations k ≡ o → Sees f (place g) (Some e) o events → takes_whole f.kind e.filter u ≡ true → IsUnderWay e
     under_way k e (Some (Move m)) events there sees taken =
         let of = busy.plan_is k m there in
         let on : is_busy k w.log ≡ true = sym (busy.busy_is k) ∙ ap is_some there in
         let takes_it : takes m.plan.filter u ≡ true = and_r (unit_fits f.kind u) _ (and_r (is_whole f.kind m.plan.filter) _ (ap (λ x. takes_whole f.kind x u) (sym sees.filter) ∙ taken)) in
-        ((m.plan.from, m.plan.to), of.source, of.destination, record { op = k; filter = m.plan.filter; keep = of.keep; order = of.order; takes_it = takes_it; busy = on }, of.from, of.to, ap (λ o. o.src) sees.op, ap (λ o. o.dst) sees.op)
+        record {
+          from = m.plan.from;
+          to = m.plan.to;
+          source = of.source;
+          destination = of.destination;
+          moving = record { op = k; filter = m.plan.filter; keep = of.keep; order = of.order; takes_it = takes_it; busy = on };
+          from_is = of.from;
+          to_is = of.to;
+          src = ap (λ o. o.src) sees.op;
+          dst = ap (λ o. o.dst) sees.op;
+        }
     under_way k e None events there sees taken = absurd sees
+
+    open_at : (k : ℕ) (e : Open R) → find_op j.world.ops k ≡ Some e → takes_whole f.kind e.filter u ≡ true → IsUnderWay e
+    open_at k e there taken = under_way k e (finite.get j.nodes.controller.operations k) (stored j.nodes.controller.store k) refl (subst (λ q. Sees f (place g) q (finite.get j.nodes.controller.operations k) (stored j.nodes.controller.store k)) there (j.shown_is.controller.opens k)) taken
 
     by_may : May_process (S f g) j.world u (instance_node i) → IsPlace c items u w.log i
     by_may (At_target at) = Owns (node_same i (owner c items u w.log) (j.world.target u) (sym at) (owners u (units_fit f c items is number)))
-    by_may (At_source k e there taken at) =
-        let m = under_way k e (finite.get j.nodes.controller.operations k) (stored j.nodes.controller.store k) refl (subst (λ q. Sees f (place g) q (finite.get j.nodes.controller.operations k) (stored j.nodes.controller.store k)) there (j.shown_is.controller.opens k)) taken in
-        Is_source m.1 m.2 m.3 (m.4 ∙ ap Some (node_same m.0.0 i e.op.src (sym m.6) (sym at)))
-    by_may (At_destination k e there taken at) =
-        let m = under_way k e (finite.get j.nodes.controller.operations k) (stored j.nodes.controller.store k) refl (subst (λ q. Sees f (place g) q (finite.get j.nodes.controller.operations k) (stored j.nodes.controller.store k)) there (j.shown_is.controller.opens k)) taken in
-        Is_destination m.1 m.2 m.3 (m.5 ∙ ap Some (node_same m.0.1 i e.op.dst (sym m.7) (sym at)))
+    by_may (At_source k e there taken at) = let m = open_at k e there taken in Is_source m.source m.destination m.moving (m.from_is ∙ ap Some (node_same m.from i e.op.src (sym m.src) (sym at)))
+    by_may (At_destination k e there taken at) = let m = open_at k e there taken in Is_destination m.source m.destination m.moving (m.to_is ∙ ap Some (node_same m.to i e.op.dst (sym m.dst) (sym at)))
 
   -- what an instance processes, it processes at a place of the unit
   module _ (owners : Owners) (y p : ℕ) (m : Msg) (taken : IsTaken f g n scene (record { node = suc (suc y); port = p; message = m })) where
@@ -95,7 +114,7 @@ module _ {F R : Type 0} (f : Semantics R) (laws : FunctionLaws f) (c : Config) (
     not_input : (p == 0) && (k == 0) ≡ false
     not_input = grind (arith, nat_tests)
 
-    abbrev at : Rattle.nf_net.proofs.Joined.IsInstanceAt f g k own (j.world.inst k)
+    abbrev at : IsInstanceAt f g k own (j.world.inst k)
     at = j.shown_is.instances k (omega arith) taken.receiver
 
     quiet : Each (IsQuiet own.index) (instance_step f own m).notes

@@ -1,39 +1,31 @@
 -- The unit of each packet of an input is one that packets may have; and what an instance notes as processed ran in the abstract network.
-use Rattle.std.proofs.Common.{◌≡◌, ◌≢◌, ℕ, suc, ◌+◌, Bool, true, false, Option, Some, None, List, [], ◌∷◌, ◌++◌, refl, sym, ap, ◌∙◌, subst, arith}
-use Rattle.std.specs.Prelude.{if◌then◌else◌, ◌&&◌, ◌||◌, ◌==◌, not, find, unwrap_or, nat_le}
+use Rattle.std.proofs.Common.{◌≡◌, ◌≢◌, ℕ, suc, ◌+◌, Bool, true, false, Option, Some, None, List, [], ◌∷◌, ◌++◌, refl, sym, ap, ◌∙◌}
+use Rattle.std.specs.Prelude.{if◌then◌else◌, ◌&&◌, ◌==◌, not, find, unwrap_or}
 use Rattle.std.specs.List.{cons_option, filter_map}
-use Rattle.flow_filter.specs.declared.filter.Filter.{Filter}
 use Rattle.flow_filter.specs.declared.packet.Packet.{Packet}
 use Rattle.flow_filter.specs.declared.site.Site.{Site}
 use Rattle.flow_filter.specs.declared.flow.Flow.{Flow}
 use Rattle.flow_filter.specs.declared.flow.Direction.{Direction}
 use Rattle.flow_filter.specs.declared.flow.Direction.TheVariants.{Out, In}
 use Rattle.flow_filter.specs.Flow.{flow_of, is_inside, is_outside_address, outward, inward, owner_of_port}
-use Rattle.nf_function.specs.declared.chunk.Chunk.{Chunk}
 use Rattle.nf_function.specs.declared.output.Output.{Output}
-use Rattle.nf_function.specs.declared.unit.Unit as units
 use Rattle.nf_function.specs.Records.{Laws as FunctionLaws}
 use Rattle.nf_function.specs.Semantics.{Semantics, unit_at}
 use Rattle.record_table.specs.Table.{same_unit}
 use Rattle.record_table.proofs.UnitOrder.{same_unit_equiv}
-use Rattle.nf_msgs.specs.declared.msg.Piece.{Piece}
 use Rattle.nf_msgs.specs.declared.msg.Msg.{Msg}
-use Rattle.nf_msgs.specs.declared.msg.Msg.TheVariants as msg
 use Rattle.nf_msgs.specs.declared.note.Note.{Note}
 use Rattle.nf_msgs.specs.declared.note.Note.TheVariants as note
-use Rattle.packet_pool.specs.Pool.{FullCell}
-use Rattle.event_filter.specs.declared.action.Action.{Action}
-use Rattle.event_filter.specs.declared.mark.Mark.TheVariants as mark
 use Rattle.instance_worker.specs.declared.instance.Instance.{Instance as InstanceState}
 use Rattle.instance_worker.specs.Instance.{instance_step}
 use Rattle.unit_machine.proofs.Real as real
 use Rattle.unit_machine.proofs.Labels.{Each}
 use Rattle.abstract_net.proofs.Net as net
-use Rattle.abstract_net.proofs.Net.{Sys, inst_step, everything, is_free}
+use Rattle.abstract_net.proofs.Net.{Sys, inst_step, everything}
 use Rattle.abstract_net.proofs.Rest.{none_mine}
 use Rattle.nf_net.specs.declared.config.Config.{Config}
 use Rattle.nf_net.specs.Input.{packets, packet_of, no_packet, IsSteered, IsInput}
-use Rattle.nf_net.proofs.FiltersApart.{flow_fits, unit_fits, is_whole}
+use Rattle.nf_net.proofs.FiltersApart.{flow_fits, unit_fits}
 use Rattle.nf_net.proofs.InputLemmas.{fits_flow}
 use Rattle.nf_net.proofs.StateOutline.{all_each, stream_follows, delete_follows, put_follows, restore_follows}
 use Rattle.nf_net.proofs.Outline.{number, rule_of, entries, outline_piece, ran_in, outline_instance}
@@ -41,7 +33,7 @@ use Rattle.nf_net.proofs.InstanceOutline.{carry_follows, pass_follows, fence_fol
 use Rattle.nf_net.proofs.InstanceKeeps.{chunks_good}
 use Rattle.nf_net.proofs.InstanceSteps.{Rows, by_message}
 use Rattle.nf_net.proofs.OwnerLemmas.{unit_is_fit}
-use Rattle.nf_net.proofs.Joined.{Given, S, place, shown, Label, Genuine, IsGoodPiece, AreGoodChunks, IsInstanceAt}
+use Rattle.nf_net.proofs.Joined.{Given, S, place, shown, Label, IsInstanceAt}
 
 -- the flow of the packet of zeros, whatever is inside
 zeros_fit : (site : Site) (a b : Bool) → flow_fits (let flow : Flow × Direction = (if a && not a then (outward no_packet, Out) else if a && not a then (inward no_packet, In) else if not a && not a && (b && false) then (record (inward no_packet) { local = owner_of_port site 0 }, In) else (outward no_packet, Out)) in flow.0) ≡ true
