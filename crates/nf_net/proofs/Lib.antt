@@ -1,3 +1,4 @@
+pub mod BusyLemmas
 pub mod ControlOutline
 pub mod ControllerSteps
 pub mod FiltersApart

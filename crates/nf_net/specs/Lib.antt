@@ -1,3 +1,4 @@
+pub mod Commands
 pub mod Input
 pub mod Log
 pub mod Nodes
