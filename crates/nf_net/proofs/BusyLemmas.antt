@@ -1,5 +1,5 @@
 -- What the log says of commands, as it goes on.
-use Rattle.std.proofs.Common.{◌≡◌, ◌≢◌, ℕ, suc, ◌+◌, ◌<◌, ◌≤◌, Bool, true, false, Option, Some, None, List, [], ◌∷◌, ◌++◌, length, refl, sym, ap, ◌∙◌, subst, append-nil, arith}
+use Rattle.std.proofs.Common.{◌≡◌, ◌≢◌, ℕ, suc, ◌+◌, ◌<◌, ◌≤◌, Bool, true, false, Option, Some, None, List, [], ◌∷◌, ◌++◌, get_or, length, refl, sym, ap, ◌∙◌, subst, append-nil, arith}
 use Rattle.std.specs.Prelude.{if◌then◌else◌, ◌&&◌, ◌||◌, ◌==◌, not, unwrap_or}
 use Rattle.std.proofs.lemmas.Bool.Decides.{nat_tests, Decides-eqb}
 use Rattle.nf_msgs.specs.declared.answer.Answer.{Answer}
@@ -172,6 +172,18 @@ noted_answered op log h = rw h (or_true (began op log))
 noted_begun : (op : ℕ) (log : List Note) → began op log ≡ true → is_noted op log ≡ true
 noted_begun op log h = rw h refl
 
+first_is : (a b : Answer) → a ∷ [] ≡ b ∷ [] → a ≡ b
+first_is a b is = ap (λ xs. get_or xs 0 a) is
+
+some_is : (a b : Order) → Some a ≡ Some b → a ≡ b
+some_is a b is = ap (λ o. unwrap_or o a) is
+
+-- whether it is the answer to a command that began
+abbrev pub is_outcome : Answer → Bool
+is_outcome (answer.Unknown name) = false
+is_outcome (answer.Overlap k) = false
+is_outcome a = true
+
 module _ (names : List (List ℕ)) (orders : ℕ → Option Order) where
   -- what is promised of one command
   pub record IsAnswered (op : ℕ) (log : List Note) : Type 0 where
@@ -194,14 +206,46 @@ module _ (names : List (List ℕ)) (orders : ℕ → Option Order) where
             subst (λ v. MayBegin names orders what v) (sym (before_kept op log notes (noted_begun op log was))) (h.begins what order was);
       }
 
-  abbrev pub is_outcome : Answer → Bool
-  is_outcome (answer.Unknown name) = false
-  is_outcome (answer.Overlap k) = false
-  is_outcome a = true
-
   no_cause : (a : Answer) (what : Order) (log : List Note) → is_outcome a ≡ true → IsCause names orders a what log
   no_cause (answer.Unknown name) what log e = cc
   no_cause (answer.Overlap k) what log e = cc
   no_cause answer.Done what log e = tt
   no_cause (answer.Import held coming limit) what log e = tt
   no_cause (answer.Old newest reads) what log e = tt
+
+  -- its answer, where it began before
+  pub answered_begun : (op : ℕ) (log : List Note) (a : Answer) → began op log ≡ true → has_answered op log ≡ false → is_outcome a ≡ true → IsAnswered op log → IsAnswered op (log ++ note.Answered op a ∷ [])
+  answered_begun op log a begun open_still outcome h =
+      let own : (op == op) ≡ true = grind (arith, nat_tests) in
+      let all : answers_of op (log ++ note.Answered op a ∷ []) ≡ a ∷ [] = answers_of-append op log (note.Answered op a ∷ []) ∙ ap (λ v. v ++ answers_of op (note.Answered op a ∷ [])) (none_answered op log open_still) ∙ ap (λ b. if b then a ∷ [] else []) own in
+      record {
+        once = rw all (omega arith);
+        causes = λ what x order is. subst (λ y. IsCause names orders y what (before_first op (log ++ note.Answered op a ∷ []))) (first_is a x (sym all ∙ is)) (no_cause a what (before_first op (log ++ note.Answered op a ∷ [])) outcome);
+        begins = λ what order is. subst (λ v. MayBegin names orders what v) (sym (before_kept op log (note.Answered op a ∷ []) (noted_begun op log begun))) (h.begins what order begun);
+      }
+
+  -- its refusal
+  pub answered_refused : (op : ℕ) (log : List Note) (a : Answer) (what : Order) → is_noted op log ≡ false → orders op ≡ Some what → IsCause names orders a what log → IsAnswered op (log ++ note.Answered op a ∷ [])
+  answered_refused op log a what new order cause =
+      let own : (op == op) ≡ true = grind (arith, nat_tests) in
+      let off = or_off (began op log) (has_answered op log) new in
+      let all : answers_of op (log ++ note.Answered op a ∷ []) ≡ a ∷ [] = answers_of-append op log (note.Answered op a ∷ []) ∙ ap (λ v. v ++ answers_of op (note.Answered op a ∷ [])) (none_answered op log off.1) ∙ ap (λ b. if b then a ∷ [] else []) own in
+      let before : before_first op (log ++ note.Answered op a ∷ []) ≡ log = before_new op log (note.Answered op a ∷ []) new ∙ ap (λ b. log ++ (if b then [] else note.Answered op a ∷ [])) own ∙ append-nil log in
+      record {
+        once = rw all (omega arith);
+        causes = λ other x known is. subst (λ v. IsCause names orders x other v) (sym before) (subst (λ o. IsCause names orders x o log) (some_is what other (sym order ∙ known)) (subst (λ y. IsCause names orders y what log) (first_is a x (sym all ∙ is)) cause));
+        begins = λ other known is. (let never = sym (began_same op log (note.Answered op a ∷ []) refl ∙ off.0) ∙ is in cc);
+      }
+
+  -- its begin
+  pub begun_now : (op : ℕ) (log : List Note) (what : Order) → is_noted op log ≡ false → orders op ≡ Some what → MayBegin names orders what log → IsAnswered op (log ++ note.Begun op ∷ [])
+  begun_now op log what new order may =
+      let own : (op == op) ≡ true = grind (arith, nat_tests) in
+      let off = or_off (began op log) (has_answered op log) new in
+      let none : answers_of op (log ++ note.Begun op ∷ []) ≡ [] = answers_same op log (note.Begun op ∷ []) refl ∙ none_answered op log off.1 in
+      let before : before_first op (log ++ note.Begun op ∷ []) ≡ log = before_new op log (note.Begun op ∷ []) new ∙ ap (λ b. log ++ (if b then [] else note.Begun op ∷ [])) own ∙ append-nil log in
+      record {
+        once = rw none (omega arith);
+        causes = λ other x known is. (let never = sym none ∙ is in cc);
+        begins = λ other known is. subst (λ v. MayBegin names orders other v) (sym before) (subst (λ o. MayBegin names orders o log) (some_is what other (sym order ∙ known)) may);
+      }

@@ -1,4 +1,5 @@
 pub mod BusyLemmas
+pub mod BusyOperations
 pub mod ControlOutline
 pub mod ControllerSteps
 pub mod FiltersApart
