@@ -120,7 +120,7 @@ before_new op (note.Answered k answer ∷ xs) ys h =
     rw first (ap (λ v. note.Answered k answer ∷ v) (before_new op xs ys (let a = off.0 in let b = two.1 in rw (a, b) refl)))
 
 -- Notes of other things.
-other_not_answered : (op : ℕ) (notes : List Note) → AreOther notes → has_answered op notes ≡ false
+pub other_not_answered : (op : ℕ) (notes : List Note) → AreOther notes → has_answered op notes ≡ false
 other_not_answered op [] h = refl
 other_not_answered op (note.Arrived number ∷ xs) h = other_not_answered op xs h.1
 other_not_answered op (note.Processed number instance output ∷ xs) h = other_not_answered op xs h.1
@@ -131,7 +131,7 @@ other_not_answered op (note.Installed k ∷ xs) h = other_not_answered op xs h.1
 other_not_answered op (note.Begun k ∷ xs) h = let never : false ≡ true = h.0 in cc
 other_not_answered op (note.Answered k answer ∷ xs) h = let never : false ≡ true = h.0 in cc
 
-other_not_begun : (op : ℕ) (notes : List Note) → AreOther notes → began op notes ≡ false
+pub other_not_begun : (op : ℕ) (notes : List Note) → AreOther notes → began op notes ≡ false
 other_not_begun op [] h = refl
 other_not_begun op (note.Arrived number ∷ xs) h = other_not_begun op xs h.1
 other_not_begun op (note.Processed number instance output ∷ xs) h = other_not_begun op xs h.1

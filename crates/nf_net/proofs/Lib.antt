@@ -1,3 +1,4 @@
+pub mod BusyChanges
 pub mod BusyLemmas
 pub mod BusyOperations
 pub mod ControlOutline
@@ -15,6 +16,7 @@ pub mod JoinedSteps
 pub mod LinkOutline
 pub mod LogLemmas
 pub mod MoveOutline
+pub mod MoveSays
 pub mod MoveSteps
 pub mod Outline
 pub mod RecordPromises
