@@ -1,10 +1,10 @@
 -- How open operations and the log go on together: an operation takes a message, is answered, is refused, or begins.
 use Rattle.std.proofs.Common.{◌≡◌, ℕ, suc, ◌<◌, ◌≤◌, Bool, true, false, cond, Option, Some, None, List, [], ◌∷◌, ◌++◌, refl, sym, ap, ◌∙◌, subst, arith}
-use Rattle.std.specs.Prelude.{if◌then◌else◌, ◌&&◌, ◌||◌, ◌==◌, not, is_some}
+use Rattle.std.specs.Prelude.{if◌then◌else◌, ◌&&◌, ◌||◌, ◌==◌, not, is_some, nat_lt}
 use Rattle.std.specs.Ordering.{nat_cmp, eq_by_cmp}
 use Rattle.std.specs.Cmp.{nat_cmp_total}
 use Rattle.std.specs.FinMap as finite
-use Rattle.std.proofs.lemmas.Bool.Decides.{nat_tests, Decides-eqb}
+use Rattle.std.proofs.lemmas.Bool.Decides.{nat_tests, Decides-eqb, Decides-ltb}
 use Rattle.nf_msgs.specs.declared.answer.Answer.{Answer}
 use Rattle.nf_msgs.specs.declared.command.Order.{Order}
 use Rattle.nf_msgs.specs.declared.note.Note.{Note}
@@ -100,7 +100,13 @@ module _ (g : Given) (ops : OpenOperations) (log : List Note) (waits : List ℕ)
 
   -- what is noted isn't ahead
   early : (op : ℕ) → is_busy op log ≡ true → op < h.next
-  early op on = ?
+  early op on = elim (nat_lt op h.next) as (λ b. nat_lt op h.next ≡ b → op < h.next) [
+    | true ↦ λ small. (Decides-ltb op h.next).0 small
+    | false ↦ λ late.
+        let none = or_off (began op log) (has_answered op log) (h.unnoted op (let up : h.next ≤ op = grind (arith, nat_tests) in up)) in
+        let never : true ≡ false = sym (busy_both op log on).0 ∙ none.0 in
+        cc
+  ] refl
 
   module _ (op : ℕ) (m n : MoveState) (there : finite.get ops op ≡ Some (Move m)) (same : n.plan ≡ m.plan) where
     is_on : is_busy op log ≡ true
@@ -156,3 +162,69 @@ module _ (g : Given) (ops : OpenOperations) (log : List Note) (waits : List ℕ)
         | false ↦ λ off. stays_answered g.names g.orders k log (note.Answered op a ∷ []) refl (apart_noted op k a off) (h.answered k)
       ] refl;
     }
+
+-- The first command that waits.
+module _ (g : Given) (ops : OpenOperations) (log : List Note) (op : ℕ) (waits : List ℕ) (h : IsBusy g ops log (op ∷ waits)) where
+  is_new : is_noted op log ≡ false
+  is_new = h.unnoted op h.rising.0
+
+  still_new : (began op log ≡ false) × (has_answered op log ≡ false)
+  still_new = or_off (began op log) (has_answered op log) is_new
+
+  not_busy : is_busy op log ≡ false
+  not_busy = let off = still_new.0 in rw off refl
+
+  later_off : (k : ℕ) → suc op ≤ k → (k == op) ≡ false
+  later_off k late = grind (arith, nat_tests)
+
+  later_new : (k : ℕ) → suc op ≤ k → is_noted k log ≡ false
+  later_new k late = h.unnoted k (let first = h.rising.0 in omega (arith, first, late))
+
+  on_own : (P : ℕ → Type 0) (k : ℕ) → (k == op) ≡ true → P op → P k
+  on_own P k on own = subst P (sym ((Decides-eqb k op).0 on)) own
+
+  -- it is dropped
+  pub dropped : IsBusy g ops log waits
+  dropped = record { busy = h.busy; plan = h.plan; outcome = h.outcome; next = suc op; rising = h.rising.1; unnoted = later_new; answered = h.answered }
+
+  -- it is refused
+  pub refused : (what : Order) (a : Answer) → g.orders op ≡ Some what → IsCause g.names g.orders a what log → IsBusy g ops (log ++ note.Answered op a ∷ []) waits
+  refused what a known cause = record {
+    busy = λ k. h.busy k ∙ elim (k == op) as (λ b. (k == op) ≡ b → is_busy k log ≡ is_busy k (log ++ note.Answered op a ∷ [])) [
+      | true ↦ λ on. on_own (λ j. is_busy j log ≡ is_busy j (log ++ note.Answered op a ∷ [])) k on (not_busy ∙ sym (ended op log a))
+      | false ↦ λ off. sym (busy_same k log (note.Answered op a ∷ []) refl (apart_noted op k a off))
+    ] refl;
+    plan = h.plan;
+    outcome = h.outcome;
+    next = suc op;
+    rising = h.rising.1;
+    unnoted = λ k late. not_noted k log (note.Answered op a ∷ []) (later_new k late) refl (apart_noted op k a (later_off k late));
+    answered = λ k. elim (k == op) as (λ b. (k == op) ≡ b → IsAnswered g.names g.orders k (log ++ note.Answered op a ∷ [])) [
+      | true ↦ λ on. on_own (λ j. IsAnswered g.names g.orders j (log ++ note.Answered op a ∷ [])) k on (answered_refused g.names g.orders op log a what is_new known cause)
+      | false ↦ λ off. stays_answered g.names g.orders k log (note.Answered op a ∷ []) refl (apart_noted op k a off) (h.answered k)
+    ] refl;
+  }
+
+  -- it begins
+  pub begun : (what : Order) (n : MoveState) → g.orders op ≡ Some what → MayBegin g.names g.orders what log → IsPlan g op n.plan → HasOutcome n.phase → IsBusy g (finite.insert ops op (Move n)) (log ++ note.Begun op ∷ []) waits
+  begun what n known may plan outcome = record {
+    busy = λ k. ap is_some (got_insert ops op k (Move n)) ∙ elim (k == op) as (λ b. (k == op) ≡ b → is_some (cond b (Some (Move n)) (finite.get ops k)) ≡ is_busy k (log ++ note.Begun op ∷ [])) [
+      | true ↦ λ on. on_own (λ j. true ≡ is_busy j (log ++ note.Begun op ∷ [])) k on (sym (started op log still_new.1))
+      | false ↦ λ off. h.busy k ∙ sym (busy_same k log (note.Begun op ∷ []) (apart_begun op k off) refl)
+    ] refl;
+    plan = λ k x is. elim (k == op) as (λ b. (k == op) ≡ b → cond b (Some (Move n)) (finite.get ops k) ≡ Some (Move x) → IsPlan g k x.plan) [
+      | true ↦ λ on e. on_own (λ j. IsPlan g j x.plan) k on (subst (λ y. IsPlan g op y.plan) (move_is n x e) plan)
+      | false ↦ λ off e. h.plan k x e
+    ] refl (sym (got_insert ops op k (Move n)) ∙ is);
+    outcome = λ k x is. elim (k == op) as (λ b. cond b (Some (Move n)) (finite.get ops k) ≡ Some (Move x) → HasOutcome x.phase) [
+      | true ↦ λ e. subst (λ y. HasOutcome y.phase) (move_is n x e) outcome
+      | false ↦ λ e. h.outcome k x e
+    ] (sym (got_insert ops op k (Move n)) ∙ is);
+    next = suc op;
+    rising = h.rising.1;
+    unnoted = λ k late. not_noted k log (note.Begun op ∷ []) (later_new k late) (apart_begun op k (later_off k late)) refl;
+    answered = λ k. elim (k == op) as (λ b. (k == op) ≡ b → IsAnswered g.names g.orders k (log ++ note.Begun op ∷ [])) [
+      | true ↦ λ on. on_own (λ j. IsAnswered g.names g.orders j (log ++ note.Begun op ∷ [])) k on (begun_now g.names g.orders op log what is_new known may)
+      | false ↦ λ off. stays_answered g.names g.orders k log (note.Begun op ∷ []) (apart_begun op k off) refl (h.answered k)
+    ] refl;
+  }
