@@ -1,4 +1,5 @@
 pub mod BusyChanges
+pub mod BusyController
 pub mod BusyLemmas
 pub mod BusyOperations
 pub mod ControlOutline

@@ -36,7 +36,7 @@ Says g s r (msg.Install op filter from to) = IsInstall g op filter from to
 Says g s r (msg.PutNo op refused) = is_outcome refused.why ≡ true
 Says g s r message = Unit {0}
 
-says-append : (g : Given) (s : ℕ) (xs ys : List (ℕ × Msg)) → EachSent (Says g) s xs → EachSent (Says g) s ys → EachSent (Says g) s (xs ++ ys)
+pub says-append : (g : Given) (s : ℕ) (xs ys : List (ℕ × Msg)) → EachSent (Says g) s xs → EachSent (Says g) s ys → EachSent (Says g) s (xs ++ ys)
 says-append g s [] ys a b = b
 says-append g s (x ∷ xs) ys a b = (a.0, says-append g s xs ys a.1 b)
 
