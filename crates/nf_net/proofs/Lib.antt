@@ -1,7 +1,9 @@
 pub mod BusyChanges
 pub mod BusyController
 pub mod BusyLemmas
+pub mod BusyNodes
 pub mod BusyOperations
+pub mod BusyRuns
 pub mod ControlOutline
 pub mod ControllerSteps
 pub mod FiltersApart
