@@ -4,6 +4,7 @@ pub mod BusyLemmas
 pub mod BusyNodes
 pub mod BusyOperations
 pub mod BusyRuns
+pub mod CommandPromises
 pub mod ControlOutline
 pub mod ControllerSteps
 pub mod FiltersApart
