@@ -1,4 +1,11 @@
+pub mod BusyChanges
+pub mod BusyController
+pub mod BusyLemmas
+pub mod BusyNodes
+pub mod BusyOperations
+pub mod BusyRuns
 pub mod BusyStub
+pub mod CommandPromises
 pub mod ControlOutline
 pub mod ControllerSteps
 pub mod FiltersApart
@@ -14,6 +21,7 @@ pub mod JoinedSteps
 pub mod LinkOutline
 pub mod LogLemmas
 pub mod MoveOutline
+pub mod MoveSays
 pub mod MoveSteps
 pub mod Outline
 pub mod OwnerLemmas

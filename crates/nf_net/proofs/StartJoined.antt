@@ -169,7 +169,7 @@ no_record : (R : Type 0) (b : Bool) → ◌≡◌ {A = Option R} None (if b then
 no_record R true = refl
 no_record R false = refl
 
-rising_of : (least : ℕ) (ns : List ℕ) → IsRising least ns → Rising least ns
+pub rising_of : (least : ℕ) (ns : List ℕ) → IsRising least ns → Rising least ns
 rising_of least [] h = tt
 rising_of least (n ∷ ns) h = (h.0, rising_of (suc n) ns h.1)
 

@@ -42,12 +42,12 @@ before_first op (Begun k ∷ notes) = if k == op then [] else Begun k ∷ before
 before_first op (Answered k answer ∷ notes) = if k == op then [] else Answered k answer ∷ before_first op notes
 before_first op (n ∷ notes) = n ∷ before_first op notes
 
+-- the first name in an order that no instance has
+abbrev pub unknown_in : List (List ℕ) → Order → Option (List ℕ)
+unknown_in names what = find (λ name. not (is_some (place_of names name))) (names_of what)
+
 -- The instances' names are given, and the order under each number.
 module _ (names : List (List ℕ)) (orders : ℕ → Option Order) where
-  -- the first name in an order that no instance has
-  abbrev pub unknown_in : Order → Option (List ℕ)
-  unknown_in what = find (λ name. not (is_some (place_of names name))) (names_of what)
-
   -- the filter of a command that is under way
   abbrev pub busy_filter : ℕ → List Note → Option Filter
   busy_filter op log = if is_busy op log then option_and_then filter_of (orders op) else None
@@ -58,18 +58,18 @@ module _ (names : List (List ℕ)) (orders : ℕ → Option Order) where
 
   -- an instance has each name, and no command under way meets the order
   pub record MayBegin (what : Order) (log : List Note) : Type 0 where
-    pub known : unknown_in what ≡ None
+    pub known : unknown_in names what ≡ None
     pub apart : (op : ℕ) → overlaps what op log ≡ false
 
   -- an instance has each name, and this is the lowest number of a command under way that meets the order
   pub record IsLowest (op : ℕ) (what : Order) (log : List Note) : Type 0 where
-    pub known : unknown_in what ≡ None
+    pub known : unknown_in names what ≡ None
     pub overlaps_it : overlaps what op log ≡ true
     pub lowest : (k : ℕ) → k < op → overlaps what k log ≡ false
 
   -- what was true of the order and the log when it was refused. Answers to commands that began have other causes
   abbrev pub IsCause : Answer → Order → List Note → Type 0
-  IsCause (Unknown name) what log = unknown_in what ≡ Some name
+  IsCause (Unknown name) what log = unknown_in names what ≡ Some name
   IsCause (Overlap op) what log = IsLowest op what log
   IsCause answer what log = Unit {0}
 
