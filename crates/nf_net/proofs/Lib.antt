@@ -4,7 +4,6 @@ pub mod BusyLemmas
 pub mod BusyNodes
 pub mod BusyOperations
 pub mod BusyRuns
-pub mod BusyStub
 pub mod CommandPromises
 pub mod ControlOutline
 pub mod ControllerSteps
@@ -23,6 +22,7 @@ pub mod LogLemmas
 pub mod MoveOutline
 pub mod MoveSays
 pub mod MoveSteps
+pub mod MovesUnderWay
 pub mod Outline
 pub mod OwnerLemmas
 pub mod OwnerSteps

@@ -1,6 +1,6 @@
 -- The routes of the switch lead to the owners that the log tells: each choice keeps this.
-use Rattle.std.proofs.Common.{◌≡◌, ℕ, ◌+◌, ◌-◌, Bool, true, false, List, [], ◌∷◌, ◌++◌, refl, sym, ap, ◌∙◌, arith}
-use Rattle.std.specs.Prelude.{if◌then◌else◌, ◌&&◌, ◌||◌, ◌==◌, not, nat_lt}
+use Rattle.std.proofs.Common.{◌≡◌, ℕ, ◌-◌, Bool, true, false, List, ◌∷◌, ◌++◌, refl, sym, ap, ◌∙◌, arith}
+use Rattle.std.specs.Prelude.{if◌then◌else◌, ◌&&◌, ◌==◌, not, nat_lt}
 use Rattle.std.proofs.lemmas.Bool.Decides.{nat_tests}
 use Rattle.flow_filter.specs.declared.filter.Filter.{Filter}
 use Rattle.flow_filter.specs.declared.packet.Packet.{Packet}
@@ -30,7 +30,7 @@ use Rattle.nf_net.proofs.SwitchOutline.{routes_after}
 use Rattle.nf_net.proofs.StartJoined.{given}
 use Rattle.nf_net.proofs.PlaceNotes.{is_uninstalled}
 use Rattle.nf_net.proofs.OwnerLemmas.{takes_same, routes_agree, owner_after-append}
-use Rattle.nf_net.proofs.BusyStub.{IsMoveOf}
+use Rattle.nf_net.proofs.MovesUnderWay.{IsMoveOf}
 use Rattle.nf_net.proofs.Joined.{Given, S, place, count, is_instance, IsSwitch}
 
 abbrev pub AreUninstalled : List Note → Type 0

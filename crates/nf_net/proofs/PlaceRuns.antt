@@ -1,5 +1,5 @@
 -- In every run the routes lead to the owners that the log tells, and packets are processed at places of their units.
-use Rattle.std.proofs.Common.{◌≡◌, ◌≢◌, ℕ, zero, suc, ◌+◌, true, false, List, [], ◌∷◌, ◌++◌, length, refl, sym, ap, ◌∙◌, subst, arith}
+use Rattle.std.proofs.Common.{◌≡◌, ◌≢◌, ℕ, zero, suc, ◌+◌, true, false, List, ◌∷◌, ◌++◌, length, refl, sym, ap, ◌∙◌, subst, arith}
 use Rattle.std.specs.declared.alloc.Global.{Global}
 use Rattle.nf_function.specs.Records.{Laws as FunctionLaws}
 use Rattle.nf_function.specs.Semantics.{Semantics, unit_at}
@@ -38,7 +38,7 @@ use Rattle.nf_net.proofs.PlaceNotes.{is_unprocessed, AreUnprocessed, switch_unpr
 use Rattle.nf_net.proofs.OwnerLemmas.{routes_agree, route_is, owner_quiet, owner_uninstalled, Stands, In_first, In_second, stands, each_there}
 use Rattle.nf_net.proofs.OwnerSteps.{Changes, Stays, Installs, changes, instance_in, instance_is, there_is, stays_owner, installs_owner}
 use Rattle.nf_net.proofs.PlaceSteps.{processed_place}
-use Rattle.nf_net.proofs.BusyStub.{Busy, busy_run}
+use Rattle.nf_net.proofs.MovesUnderWay.{AreUnderWay, moves_under_way}
 use Rattle.nf_net.proofs.Joined.{Given, Label, IsTaken, node_of, Joined}
 
 abbrev switch_in : {F R : Type 0} → SwitchState → Node F R → SwitchState
@@ -85,7 +85,7 @@ module _ (F : Type 0) {R : Type 0} (f : Semantics R) (laws : FunctionLaws f) (al
       by_place (In_first cs here) = old before cs number i output here
       by_place (In_second cs from there) = subst (λ b. IsPlace c items (unit_at f.kind c.site (packet_of items number)) b i) (sym from) (new cs after number i output there)
 
-  module _ (w : Network (Node F R) Msg Note) (j : Joined f g n w) (busy : Busy f c items is n w j) (h : Keeps w) where
+  module _ (w : Network (Node F R) Msg Note) (j : Joined f g n w) (busy : AreUnderWay f c items is n w j) (h : Keeps w) where
     abbrev s : SwitchState
     s = j.nodes.switch
 
@@ -162,7 +162,7 @@ module _ (F : Type 0) {R : Type 0} (f : Semantics R) (laws : FunctionLaws f) (al
 
   -- every run keeps it
   pub run_keeps : (cs : List Choice) → IsRun node_ready step cs (started {F = F} {R = R} alloc c items) → Keeps (run step cs (started alloc c items))
-  run_keeps cs run_is = run_induction node_ready step n (λ _ w. Keeps w) (started alloc c items) (λ ds w d next h. subst (λ v. Taking node_ready step n v d → Keeps v → Keeps (taken step v d)) (sym next.reached) (λ t k. (let j = run_joined F f laws alloc c items is ds next.is_run in next_keeps (run step ds (started alloc c items)) j (busy_run F f laws alloc c items is ds next.is_run j) k d t)) next.taking h) (start_world F f laws alloc c items is) (count_at_start F f alloc c items is) start_keeps cs run_is
+  run_keeps cs run_is = run_induction node_ready step n (λ _ w. Keeps w) (started alloc c items) (λ ds w d next h. subst (λ v. Taking node_ready step n v d → Keeps v → Keeps (taken step v d)) (sym next.reached) (λ t k. (let j = run_joined F f laws alloc c items is ds next.is_run in next_keeps (run step ds (started alloc c items)) j (moves_under_way F f laws alloc c items is ds next.is_run j) k d t)) next.taking h) (start_world F f laws alloc c items is) (count_at_start F f alloc c items is) start_keeps cs run_is
 
   pub places : (cs : List Choice) → IsRun node_ready step cs (started {F = F} {R = R} alloc c items) → ArePlaces c items f.kind (run step cs (started {F = F} {R = R} alloc c items)).log
   places cs run_is = (run_keeps cs run_is).places

@@ -1,5 +1,5 @@
 -- Each choice of a run keeps that the routes lead to the owners that the log tells, and that packets are processed at places of their units.
-use Rattle.std.proofs.Common.{◌≡◌, ◌≢◌, ℕ, suc, ◌+◌, true, false, Option, Some, None, List, [], ◌∷◌, ◌++◌, refl, sym, ap, ◌∙◌, subst, arith}
+use Rattle.std.proofs.Common.{◌≡◌, ◌≢◌, ℕ, suc, true, false, Option, Some, None, List, ◌∷◌, ◌++◌, refl, sym, ap, ◌∙◌, subst, arith}
 use Rattle.std.specs.Prelude.{◌&&◌, ◌==◌, is_some}
 use Rattle.std.specs.List.{filter_map}
 use Rattle.std.specs.FinMap as finite
@@ -38,10 +38,10 @@ use Rattle.nf_net.proofs.StartJoined.{given}
 use Rattle.nf_net.proofs.PlaceNotes.{IsQuiet, instance_quiet}
 use Rattle.nf_net.proofs.OwnerLemmas.{each_there, each_front, place_quiet}
 use Rattle.nf_net.proofs.RunUnits.{Ran_as, Seen, Unseen, ran_as, some_mine, units_fit}
-use Rattle.nf_net.proofs.BusyStub.{Busy}
+use Rattle.nf_net.proofs.MovesUnderWay.{AreUnderWay}
 use Rattle.nf_net.proofs.Joined.{Given, S, place, Scene, IsTaken, IsInstanceAt, Joined}
 
-module _ {F R : Type 0} (f : Semantics R) (laws : FunctionLaws f) (c : Config) (items : List Msg) (is : IsInput f.kind c items) (n : ℕ) (w : Network (Node F R) Msg Note) (j : Joined f (given f c items is) n w) (busy : Busy f c items is n w j) where
+module _ {F R : Type 0} (f : Semantics R) (laws : FunctionLaws f) (c : Config) (items : List Msg) (is : IsInput f.kind c items) (n : ℕ) (w : Network (Node F R) Msg Note) (j : Joined f (given f c items is) n w) (busy : AreUnderWay f c items is n w j) where
   abbrev g : Given
   g = given f c items is
 
