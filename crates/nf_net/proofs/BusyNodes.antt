@@ -1,6 +1,6 @@
 -- The steps of the switch and of the instances say nothing of commands, except that the switch hands on each command of the input.
 use Rattle.std.proofs.Common.{◌≡◌, ℕ, zero, suc, ◌+◌, ◌-◌, Bool, true, false, Option, Some, None, List, [], ◌∷◌, ◌++◌, map, length, append_assoc, refl, sym, ap, ◌∙◌}
-use Rattle.std.specs.Prelude.{◌||◌, if◌then◌else◌, ◌&&◌, ◌==◌, not, nat_lt, option_map, Result, Ok, Err}
+use Rattle.std.specs.Prelude.{if◌then◌else◌, ◌&&◌, ◌||◌, ◌==◌, not, nat_lt, option_map, Result, Ok, Err}
 use Rattle.std.specs.FinMap as finite
 use Rattle.flow_filter.specs.declared.filter.Filter.{Filter}
 use Rattle.flow_filter.specs.declared.packet.Packet.{Packet}

@@ -1,4 +1,5 @@
--- What the log says of commands, of every run: each is answered once at most, and what it was refused for or began by was true then.
+-- What the log says of commands, of every run: each begins and is answered once at most, and what it was refused for, or may begin
+-- by, was true then.
 use Rattle.std.proofs.Common.{◌≡◌, ℕ, ◌+◌, true, false, None, List, [], ◌∷◌, ◌++◌, map, length, refl, sym, ap, ◌∙◌, subst, arith}
 use Rattle.std.specs.Prelude.{is_some}
 use Rattle.std.specs.declared.alloc.Global.{Global}
@@ -61,7 +62,7 @@ busy_at_start g waits rising = record {
   next = 0;
   rising = rising;
   unnoted = λ op late. refl;
-  answered = λ op. record { once = omega arith; causes = λ what a known is. cc; begins = λ what known is. cc };
+  answered = λ op. record { begun_once = omega arith; answered_once = omega arith; causes = λ what a known is. cc; begins = λ what known is. cc };
 }
   where
     none : (op : ℕ) → finite.get (finite.empty {X = Operation} {R = nat_cmp}) op ≡ None
@@ -97,4 +98,4 @@ module _ (F : Type 0) {R : Type 0} (f : Semantics R) (laws : FunctionLaws f) (al
   pub run_answers : (cs : List Choice) → IsRun node_ready (node_step f) cs first → Answers c items (run (node_step f) cs first).log
   run_answers cs run_is =
       let b = (run_busy cs run_is).1 in
-      record { once = λ op. (b.is.answered op).once; causes = λ op. (b.is.answered op).causes; begins = λ op. (b.is.answered op).begins }
+      record { begun_once = λ op. (b.is.answered op).begun_once; answered_once = λ op. (b.is.answered op).answered_once; causes = λ op. (b.is.answered op).causes; begins = λ op. (b.is.answered op).begins }

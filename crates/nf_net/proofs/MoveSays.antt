@@ -1,6 +1,6 @@
 -- What a move sends to change the switch's rules is as its order says, and what a move is answered is why it was refused, or that it is done.
 use Rattle.std.proofs.Common.{◌≡◌, ℕ, Bool, true, false, Option, Some, None, List, [], ◌∷◌, ◌++◌, map, refl, subst}
-use Rattle.std.specs.Prelude.{◌||◌, if◌then◌else◌, ◌&&◌, ◌==◌, length}
+use Rattle.std.specs.Prelude.{if◌then◌else◌, ◌&&◌, ◌||◌, ◌==◌, length}
 use Rattle.flow_filter.specs.declared.filter.Filter.{Filter}
 use Rattle.nf_function.specs.declared.chunk.Chunk.{Chunk}
 use Rattle.packet_pool.specs.Pool.{FullCell}
