@@ -7,25 +7,21 @@ use Rattle.nf_function.specs.Semantics.{Semantics}
 use Rattle.packet_pool.specs.Pool.{FullCell}
 use Rattle.event_filter.specs.declared.mark.Mark.TheVariants.{Pass}
 use Rattle.nf_msgs.specs.declared.answer.Answer.{Answer}
-use Rattle.nf_msgs.specs.declared.command.Command.{Command}
 use Rattle.nf_msgs.specs.declared.command.Order.{Order}
 use Rattle.nf_msgs.specs.declared.command.Order.TheVariants as order
 use Rattle.nf_msgs.specs.declared.msg.Msg.{Msg}
 use Rattle.nf_msgs.specs.declared.msg.Msg.TheVariants as msg
 use Rattle.nf_msgs.specs.declared.note.Note.{Note}
-use Rattle.nf_msgs.specs.declared.note.Note.TheVariants as note
 use Rattle.nf_msgs.specs.Nodes.{switch_node}
 use Rattle.nf_msgs.specs.Shown.{op_of}
-use Rattle.move_op.specs.declared.phase.Phase.{Phase}
-use Rattle.move_op.specs.Move.{MovePlan, MoveState, Row, row, row_in, answer_of, begun, begin_sends}
+use Rattle.move_op.specs.Move.{MovePlan, MoveState, Row, row_in, answer_of, begun}
 use Rattle.ctrl_node.specs.declared.operation.Operation.{Operation}
 use Rattle.ctrl_node.specs.declared.operation.Operation.TheVariants.{Move}
-use Rattle.ctrl_node.specs.Operations.{Turn, turn_of, moved}
-use Rattle.ctrl_node.specs.Controller.{ControllerState, Step, still, place_of, refusal, answers, begins_between, begins, decided, on_asked, turned, closed, after_turn, takes_turn, handed, numbered, on_event, on_final, instance_at, row as controller_row, may_finish, finish_of, with_finish, finished, controller_step}
+use Rattle.ctrl_node.specs.Operations.{turn_of, moved}
+use Rattle.ctrl_node.specs.Controller.{ControllerState, Step, still, place_of, refusal, begins_between, begins, decided, on_asked, after_turn, takes_turn, handed, numbered, on_event, on_final, instance_at, row as controller_row, may_finish, finish_of, finished, controller_step}
 use Rattle.event_store.specs.Store.{stored}
 use Rattle.actor_net.proofs.WeightLaws.{EachSent}
 use Rattle.nf_net.proofs.Joined.{Given, Label}
-use Rattle.nf_net.proofs.BusyLemmas.{AreOther}
 use Rattle.nf_net.proofs.BusyOperations.{IsPlan, HasOutcome, IsBusy, Causes, refusal_is}
 use Rattle.nf_net.proofs.BusyChanges.{other_notes, turned as op_turned, closed as op_closed, dropped, refused, begun as op_begun}
 use Rattle.nf_net.proofs.MoveSays.{Says, says-append, answer_is, move_says}

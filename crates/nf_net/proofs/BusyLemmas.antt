@@ -1,15 +1,14 @@
 -- What the log says of commands, as it goes on.
-use Rattle.std.proofs.Common.{◌≡◌, ◌≢◌, ℕ, suc, ◌+◌, ◌<◌, ◌≤◌, Bool, true, false, Option, Some, None, List, [], ◌∷◌, ◌++◌, get_or, length, refl, sym, ap, ◌∙◌, subst, append-nil, arith}
-use Rattle.std.specs.Prelude.{if◌then◌else◌, ◌&&◌, ◌||◌, ◌==◌, not, unwrap_or}
-use Rattle.std.proofs.lemmas.Bool.Decides.{nat_tests, Decides-eqb}
+use Rattle.std.proofs.Common.{◌≡◌, ℕ, ◌+◌, ◌≤◌, Bool, true, false, Option, Some, List, [], ◌∷◌, ◌++◌, get_or, length, refl, sym, ap, ◌∙◌, subst, append-nil, arith}
+use Rattle.std.specs.Prelude.{if◌then◌else◌, ◌||◌, ◌==◌, unwrap_or}
+use Rattle.std.proofs.lemmas.Bool.Decides.{nat_tests}
 use Rattle.nf_msgs.specs.declared.answer.Answer.{Answer}
 use Rattle.nf_msgs.specs.declared.answer.Answer.TheVariants as answer
 use Rattle.nf_msgs.specs.declared.command.Order.{Order}
 use Rattle.nf_msgs.specs.declared.note.Note.{Note}
 use Rattle.nf_msgs.specs.declared.note.Note.TheVariants as note
 use Rattle.unit_machine.proofs.Labels.{Each}
-use Rattle.nf_net.specs.Log.{has_begun}
-use Rattle.nf_net.specs.Commands.{has_answered, began, is_busy, answers_of, before_first, MayBegin, IsCause, AreAnswered}
+use Rattle.nf_net.specs.Commands.{has_answered, began, is_busy, answers_of, before_first, times_begun, MayBegin, IsCause}
 use Rattle.nf_net.proofs.LogLemmas.{has_begun-append}
 
 -- a note of no command's begin or answer
@@ -74,6 +73,29 @@ answers_of-append op (note.Answered k answer ∷ xs) ys = elim (k == op) as (λ 
   | true ↦ ap (λ v. answer ∷ v) (answers_of-append op xs ys)
   | false ↦ answers_of-append op xs ys
 ]
+
+pub times_begun-append : (op : ℕ) (xs ys : List Note) → times_begun op (xs ++ ys) ≡ times_begun op xs + times_begun op ys
+times_begun-append op [] ys = omega arith
+times_begun-append op (note.Arrived number ∷ xs) ys = times_begun-append op xs ys
+times_begun-append op (note.Processed number instance output ∷ xs) ys = times_begun-append op xs ys
+times_begun-append op (note.Exported instance k us ∷ xs) ys = times_begun-append op xs ys
+times_begun-append op (note.Imported instance k us ∷ xs) ys = times_begun-append op xs ys
+times_begun-append op (note.Kept instance k us ∷ xs) ys = times_begun-append op xs ys
+times_begun-append op (note.Installed k ∷ xs) ys = times_begun-append op xs ys
+times_begun-append op (note.Answered k answer ∷ xs) ys = times_begun-append op xs ys
+times_begun-append op (note.Begun k ∷ xs) ys = let rest = times_begun-append op xs ys in omega (arith, rest)
+
+-- what didn't begin began no time
+pub never_begun : (op : ℕ) (log : List Note) → began op log ≡ false → times_begun op log ≡ 0
+never_begun op [] h = refl
+never_begun op (note.Arrived number ∷ xs) h = never_begun op xs h
+never_begun op (note.Processed number instance output ∷ xs) h = never_begun op xs h
+never_begun op (note.Exported instance k us ∷ xs) h = never_begun op xs h
+never_begun op (note.Imported instance k us ∷ xs) h = never_begun op xs h
+never_begun op (note.Kept instance k us ∷ xs) h = never_begun op xs h
+never_begun op (note.Installed k ∷ xs) h = never_begun op xs h
+never_begun op (note.Answered k answer ∷ xs) h = never_begun op xs h
+never_begun op (note.Begun k ∷ xs) h = let off = or_off (k == op) (began op xs) h in let first = off.0 in let rest = never_begun op xs off.1 in rw first (omega (arith, rest))
 
 -- what isn't answered has no answers
 pub none_answered : (op : ℕ) (log : List Note) → has_answered op log ≡ false → answers_of op log ≡ []
@@ -187,7 +209,8 @@ is_outcome a = true
 module _ (names : List (List ℕ)) (orders : ℕ → Option Order) where
   -- what is promised of one command
   pub record IsAnswered (op : ℕ) (log : List Note) : Type 0 where
-    pub once : length (answers_of op log) ≤ 1
+    pub begun_once : times_begun op log ≤ 1
+    pub answered_once : length (answers_of op log) ≤ 1
     pub causes : (what : Order) (a : Answer) → orders op ≡ Some what → answers_of op log ≡ a ∷ [] → IsCause names orders a what (before_first op log)
     pub begins : (what : Order) → orders op ≡ Some what → began op log ≡ true → MayBegin names orders what (before_first op log)
 
@@ -197,7 +220,8 @@ module _ (names : List (List ℕ)) (orders : ℕ → Option Order) where
       let begun = began_same op log notes a in
       let same = answers_same op log notes b in
       record {
-        once = subst (λ v. length v ≤ 1) (sym same) h.once;
+        begun_once = (let all = times_begun-append op log notes in let none = never_begun op notes a in let few = h.begun_once in omega (arith, all, none, few));
+        answered_once = subst (λ v. length v ≤ 1) (sym same) h.answered_once;
         causes = λ what x order is.
             let was : answers_of op log ≡ x ∷ [] = sym same ∙ is in
             subst (λ v. IsCause names orders x what v) (sym (before_kept op log notes (noted_answered op log (some_answered op log x [] was)))) (h.causes what x order was);
@@ -219,7 +243,8 @@ module _ (names : List (List ℕ)) (orders : ℕ → Option Order) where
       let own : (op == op) ≡ true = grind (arith, nat_tests) in
       let all : answers_of op (log ++ note.Answered op a ∷ []) ≡ a ∷ [] = answers_of-append op log (note.Answered op a ∷ []) ∙ ap (λ v. v ++ answers_of op (note.Answered op a ∷ [])) (none_answered op log open_still) ∙ ap (λ b. if b then a ∷ [] else []) own in
       record {
-        once = rw all (omega arith);
+        begun_once = (let times = times_begun-append op log (note.Answered op a ∷ []) in let few = h.begun_once in omega (arith, times, few));
+        answered_once = rw all (omega arith);
         causes = λ what x order is. subst (λ y. IsCause names orders y what (before_first op (log ++ note.Answered op a ∷ []))) (first_is a x (sym all ∙ is)) (no_cause a what (before_first op (log ++ note.Answered op a ∷ [])) outcome);
         begins = λ what order is. subst (λ v. MayBegin names orders what v) (sym (before_kept op log (note.Answered op a ∷ []) (noted_begun op log begun))) (h.begins what order begun);
       }
@@ -232,7 +257,8 @@ module _ (names : List (List ℕ)) (orders : ℕ → Option Order) where
       let all : answers_of op (log ++ note.Answered op a ∷ []) ≡ a ∷ [] = answers_of-append op log (note.Answered op a ∷ []) ∙ ap (λ v. v ++ answers_of op (note.Answered op a ∷ [])) (none_answered op log off.1) ∙ ap (λ b. if b then a ∷ [] else []) own in
       let before : before_first op (log ++ note.Answered op a ∷ []) ≡ log = before_new op log (note.Answered op a ∷ []) new ∙ ap (λ b. log ++ (if b then [] else note.Answered op a ∷ [])) own ∙ append-nil log in
       record {
-        once = rw all (omega arith);
+        begun_once = (let times = times_begun-append op log (note.Answered op a ∷ []) in let none = never_begun op log off.0 in omega (arith, times, none));
+        answered_once = rw all (omega arith);
         causes = λ other x known is. subst (λ v. IsCause names orders x other v) (sym before) (subst (λ o. IsCause names orders x o log) (some_is what other (sym order ∙ known)) (subst (λ y. IsCause names orders y what log) (first_is a x (sym all ∙ is)) cause));
         begins = λ other known is. (let never = sym (began_same op log (note.Answered op a ∷ []) refl ∙ off.0) ∙ is in cc);
       }
@@ -245,7 +271,8 @@ module _ (names : List (List ℕ)) (orders : ℕ → Option Order) where
       let none : answers_of op (log ++ note.Begun op ∷ []) ≡ [] = answers_same op log (note.Begun op ∷ []) refl ∙ none_answered op log off.1 in
       let before : before_first op (log ++ note.Begun op ∷ []) ≡ log = before_new op log (note.Begun op ∷ []) new ∙ ap (λ b. log ++ (if b then [] else note.Begun op ∷ [])) own ∙ append-nil log in
       record {
-        once = rw none (omega arith);
+        begun_once = (let times = times_begun-append op log (note.Begun op ∷ []) ∙ ap (λ b. times_begun op log + ((if b then 1 else 0) + 0)) own in let zero = never_begun op log off.0 in omega (arith, times, zero));
+        answered_once = rw none (omega arith);
         causes = λ other x known is. (let never = sym none ∙ is in cc);
         begins = λ other known is. subst (λ v. MayBegin names orders other v) (sym before) (subst (λ o. MayBegin names orders o log) (some_is what other (sym order ∙ known)) may);
       }

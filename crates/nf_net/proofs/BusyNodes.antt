@@ -1,8 +1,7 @@
 -- The steps of the switch and of the instances say nothing of commands, except that the switch hands on each command of the input.
-use Rattle.std.proofs.Common.{◌≡◌, ℕ, zero, suc, ◌+◌, ◌-◌, Bool, true, false, Option, Some, None, List, [], ◌∷◌, ◌++◌, map, length, append_assoc, refl, sym, ap, ◌∙◌, subst, arith}
+use Rattle.std.proofs.Common.{◌≡◌, ℕ, zero, suc, ◌+◌, ◌-◌, Bool, true, false, Option, Some, None, List, [], ◌∷◌, ◌++◌, map, length, append_assoc, refl, sym, ap, ◌∙◌}
 use Rattle.std.specs.Prelude.{if◌then◌else◌, ◌&&◌, ◌||◌, ◌==◌, not, nat_lt, option_map, Result, Ok, Err}
 use Rattle.std.specs.FinMap as finite
-use Rattle.std.proofs.lemmas.Bool.Decides.{nat_tests}
 use Rattle.flow_filter.specs.declared.filter.Filter.{Filter}
 use Rattle.flow_filter.specs.declared.packet.Packet.{Packet}
 use Rattle.flow_filter.specs.Flow.{flow_of}
@@ -31,7 +30,7 @@ use Rattle.nf_msgs.specs.declared.msg.Msg.{Msg}
 use Rattle.nf_msgs.specs.declared.msg.Msg.TheVariants as msg
 use Rattle.nf_msgs.specs.declared.note.Note.{Note}
 use Rattle.nf_msgs.specs.declared.note.Note.TheVariants as note
-use Rattle.nf_msgs.specs.Nodes.{switch_node, controller_node, instance_node}
+use Rattle.nf_msgs.specs.Nodes.{switch_node, instance_node}
 use Rattle.actor_net.specs.Network.{Stepped}
 use Rattle.actor_net.specs.Histories.{sent_for as core_sent}
 use Rattle.actor_net.proofs.WeightLaws.{EachSent}
@@ -40,7 +39,7 @@ use Rattle.switch_node.specs.Switch as switch
 use Rattle.switch_node.specs.Switch.{SwitchState, switch_step, stops, has_room, goes_to, target_of}
 use Rattle.instance_worker.specs.declared.instance.Instance.{Instance as InstanceState}
 use Rattle.instance_worker.specs.Pieces.{pieces}
-use Rattle.instance_worker.specs.Instance.{told, shared, and_then, tells, tells_and_notes, still, processed, all_processed, carried, on_carry, on_fence, on_get, on_stream, on_put, on_restore, on_standby, on_sync, on_put_all, tally_put, with_live, with_standby, with_records, refusal, piece_put, where_good, instance_step, selected, chunk_told, with_count, table_after}
+use Rattle.instance_worker.specs.Instance.{told, shared, and_then, tells, still, processed, all_processed, carried, on_carry, on_fence, on_get, on_stream, on_put, on_restore, on_standby, on_sync, on_put_all, tally_put, refusal, piece_put, where_good, instance_step, selected, chunk_told, with_count, table_after}
 use Rattle.nf_net.proofs.Joined.{Given, Label}
 use Rattle.nf_net.proofs.BusyLemmas.{AreOther, is_other, is_outcome}
 use Rattle.nf_net.proofs.BusyController.{told_in}

@@ -1,6 +1,6 @@
 -- The open operations of the controller are the commands under way; so what it refuses an order for is true of the log.
-use Rattle.std.proofs.Common.{◌≡◌, ℕ, suc, ◌<◌, ◌≤◌, Bool, true, false, cond, Option, Some, None, List, [], ◌∷◌, refl, sym, ap, ◌∙◌, subst, arith}
-use Rattle.std.specs.Prelude.{T, if◌then◌else◌, ◌&&◌, ◌==◌, not, find, is_some, option_map, option_and_then, unwrap_or}
+use Rattle.std.proofs.Common.{◌≡◌, ℕ, ◌<◌, ◌≤◌, Bool, true, false, cond, Option, Some, None, List, [], ◌∷◌, refl, sym, ap, ◌∙◌, subst, arith}
+use Rattle.std.specs.Prelude.{T, if◌then◌else◌, ◌&&◌, find, is_some, option_map, option_and_then, unwrap_or}
 use Rattle.std.specs.Option.{option_or, option_map_or}
 use Rattle.std.specs.Ordering.{nat_cmp, eq_by_cmp, is_lt}
 use Rattle.std.specs.FinMap as finite
@@ -22,7 +22,7 @@ use Rattle.ctrl_node.specs.declared.operation.Operation.TheVariants.{Move}
 use Rattle.ctrl_node.specs.Operations.{OpenOperations, meets_operation, lowest_meeting}
 use Rattle.ctrl_node.specs.Controller.{ControllerState, place_of, filter_of, unknown_name, overlap, refusal}
 use Rattle.abstract_net.proofs.Waits.{Rising}
-use Rattle.nf_net.specs.Commands.{is_busy, busy_filter, unknown_in, overlaps, MayBegin, IsLowest, IsCause}
+use Rattle.nf_net.specs.Commands.{is_busy, busy_filter, unknown_in, MayBegin, IsCause}
 use Rattle.nf_net.proofs.BusyLemmas.{is_noted, is_outcome, IsAnswered}
 use Rattle.nf_net.proofs.Joined.{Given}
 

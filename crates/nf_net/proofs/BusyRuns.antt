@@ -1,25 +1,22 @@
 -- Of every run, the open operations of the controller are the commands under way, and the log says what is true of commands.
-use Rattle.std.proofs.Common.{◌≡◌, ◌≢◌, ℕ, zero, suc, ◌+◌, ◌<◌, Bool, true, false, Option, Some, None, List, [], ◌∷◌, ◌++◌, drop, map, length, get_or, append_assoc, append-nil, refl, sym, ap, ◌∙◌, subst, arith}
+use Rattle.std.proofs.Common.{◌≡◌, ◌≢◌, ℕ, zero, suc, ◌+◌, ◌<◌, Bool, true, false, Some, List, [], ◌∷◌, ◌++◌, drop, length, get_or, append_assoc, append-nil, refl, sym, ap, ◌∙◌, subst, arith}
 use Rattle.std.specs.Prelude.{if◌then◌else◌, ◌&&◌, ◌==◌, not, nat_lt}
-use Rattle.std.specs.declared.alloc.Global.{Global}
-use Rattle.std.specs.Ordering.{nat_cmp}
 use Rattle.std.specs.FinMap as finite
 use Rattle.std.proofs.lemmas.Bool.Decides.{nat_tests, Decides-ltb}
 use Rattle.flow_filter.specs.declared.filter.Filter.{Filter}
-use Rattle.nf_function.specs.Records.{Fits, Laws as FunctionLaws}
 use Rattle.nf_function.specs.Semantics.{Semantics}
 use Rattle.switch_rules.specs.declared.target.Target.{Target}
 use Rattle.nf_msgs.specs.declared.msg.Msg.{Msg}
 use Rattle.nf_msgs.specs.declared.msg.Msg.TheVariants as msg
 use Rattle.nf_msgs.specs.declared.note.Note.{Note}
 use Rattle.actor_net.specs.declared.choice.Choice.{Choice}
-use Rattle.actor_net.specs.Network.{Network, Stepped, IsWorld, IsRun, waiting, taken, run, reaches}
+use Rattle.actor_net.specs.Network.{Network, Stepped, waiting, taken, reaches}
 use Rattle.actor_net.specs.Histories.{sent_for as core_sent}
 use Rattle.actor_net.proofs.EnabledChoices.{at}
 use Rattle.actor_net.proofs.LinkLemmas.{put_on_link}
 use Rattle.actor_net.proofs.WaitingMessages.{less_first}
 use Rattle.actor_net.proofs.StepOutcome.{Takes, Outcome, taken_outcome}
-use Rattle.actor_net.proofs.RunInduction.{Taking, run_induction}
+use Rattle.actor_net.proofs.RunInduction.{Taking}
 use Rattle.actor_net.proofs.WeightLaws.{OnLinks, EachSent, on_links_after}
 use Rattle.unit_machine.proofs.Labels.{Each}
 use Rattle.move_op.specs.Move.{MoveState}
@@ -31,7 +28,6 @@ use Rattle.nf_net.specs.declared.node.Node.TheVariants.{Controller}
 use Rattle.nf_net.specs.Nodes.{node_step, node_ready}
 use Rattle.nf_net.specs.Commands.{is_busy}
 use Rattle.nf_net.proofs.Joined.{Given, Label, Joined, node_of, count}
-use Rattle.nf_net.proofs.JoinedSteps.{joined_next}
 use Rattle.nf_net.proofs.BusyOperations.{IsPlan, IsBusy}
 use Rattle.nf_net.proofs.BusyChanges.{other_notes}
 use Rattle.nf_net.proofs.BusyController.{told_in, controller_busy}
@@ -89,7 +85,7 @@ module _ {R : Type 0} (f : Semantics R) (g : Given) where
   told_at_controller p (msg.InCommand c) label = let never = label.0.1 in cc
   told_at_controller p m label = none_both (0 == p)
 
-module _ {F R : Type 0} (f : Semantics R) (laws : FunctionLaws f) (g : Given) (fitting : (number : ℕ) → Fits g.site (g.packet number)) (n : ℕ) (count_is : n ≡ count f g + 2) where
+module _ {F R : Type 0} (f : Semantics R) (g : Given) (n : ℕ) (count_is : n ≡ count f g + 2) where
   abbrev step : Node F R → ℕ → Msg → Stepped (Node F R) Msg Note
   step = node_step f
 
@@ -165,10 +161,10 @@ module _ {F R : Type 0} (f : Semantics R) (laws : FunctionLaws f) (g : Given) (f
           let after = taken step w (at 0 p) in
           let put : put_on_link n 0 0 1 sends ≡ core_sent 1 sends = (let there : (0 == 0) && (nat_lt 1 n && not ((0 == 0) && (1 == 0))) ≡ true = (let small = (Decides-ltb 1 n).1 one in rw small refl) in rw there refl) in
           let link : numbers (waiting after (at 1 0)) ≡ numbers (waiting w (at 1 0)) ++ told_in m =
-              ap numbers (link_is 0 p m rest takes ∙ ap (λ x. less_first x (waiting w (at 1 0)) ++ put_on_link n 0 0 1 sends) (and_false (0 == p)))
-              ∙ numbers-append (waiting w (at 1 0)) (put_on_link n 0 0 1 sends) ∙ ap (λ xs. numbers (waiting w (at 1 0)) ++ xs) (ap numbers put ∙ it.hands) in
+          ap numbers (link_is 0 p m rest takes ∙ ap (λ x. less_first x (waiting w (at 1 0)) ++ put_on_link n 0 0 1 sends) (and_false (0 == p)))
+          ∙ numbers-append (waiting w (at 1 0)) (put_on_link n 0 0 1 sends) ∙ ap (λ xs. numbers (waiting w (at 1 0)) ++ xs) (ap numbers put ∙ it.hands) in
           let input : numbers (waiting w (at 0 0)) ≡ told_in m ++ numbers (waiting after (at 0 0)) =
-              input_less 0 p m rest takes ∙ ap (λ xs. xs ++ numbers (waiting after (at 0 0))) (ap (λ x. if x then told_in m else []) (and_true (0 == p)) ∙ sym (told_at_switch f g p m (label 0 p m rest takes))) in
+          input_less 0 p m rest takes ∙ ap (λ xs. xs ++ numbers (waiting after (at 0 0))) (ap (λ x. if x then told_in m else []) (and_true (0 == p)) ∙ sym (told_at_switch f g p m (label 0 p m rest takes))) in
           let same : waits_of w ≡ waits_of after = ap (λ xs. numbers (waiting w (at 1 0)) ++ xs) input ∙ sym (append_assoc (numbers (waiting w (at 1 0))) (told_in m) (numbers (waiting after (at 0 0)))) ∙ ap (λ xs. xs ++ numbers (waiting after (at 0 0))) (sym link) in
           record {
             controller = b.controller;
@@ -183,8 +179,8 @@ module _ {F R : Type 0} (f : Semantics R) (laws : FunctionLaws f) (g : Given) (f
           let after = taken step w (at 1 p) in
           let c = j.nodes.controller in
           let link : numbers (waiting w (at 1 0)) ≡ told_in m ++ numbers (waiting after (at 1 0)) =
-              link_less 1 p m rest takes ∙ ap (λ xs. (if (0 == p) && (1 == 1) then told_in m else []) ++ numbers xs) (sym (link_other 1 p m rest takes refl))
-              ∙ ap (λ xs. xs ++ numbers (waiting after (at 1 0))) (ap (λ x. if x then told_in m else []) (and_true (0 == p)) ∙ sym (told_at_controller f g p m (label 1 p m rest takes))) in
+          link_less 1 p m rest takes ∙ ap (λ xs. (if (0 == p) && (1 == 1) then told_in m else []) ++ numbers xs) (sym (link_other 1 p m rest takes refl))
+          ∙ ap (λ xs. xs ++ numbers (waiting after (at 1 0))) (ap (λ x. if x then told_in m else []) (and_true (0 == p)) ∙ sym (told_at_controller f g p m (label 1 p m rest takes))) in
           let same : waits_of w ≡ told_in m ++ waits_of after = ap (λ xs. xs ++ numbers (waiting w (at 0 0))) link ∙ append_assoc (told_in m) (numbers (waiting after (at 1 0))) (numbers (waiting w (at 0 0))) ∙ ap (λ xs. told_in m ++ (numbers (waiting after (at 1 0)) ++ xs)) (input_other 1 p m rest takes refl) in
           let it = controller_busy f g w.log (waits_of after) c j.shown_is.controller.names (λ op mv there. (j.shown_is.controller.moves op mv there).op_is) p m (label 1 p m rest takes) (says 1 p m rest takes) (subst (λ xs. IsBusy g c.operations w.log xs) same is_busy_one) in
           record {

@@ -1,5 +1,6 @@
--- What the log says of commands, of every run: each is answered once at most, and what it was refused for or began by was true then.
-use Rattle.std.proofs.Common.{◌≡◌, ℕ, suc, ◌+◌, Bool, true, false, Option, Some, None, List, [], ◌∷◌, ◌++◌, map, length, get_or, refl, sym, ap, ◌∙◌, subst, arith}
+-- What the log says of commands, of every run: each begins and is answered once at most, and what it was refused for, or may begin
+-- by, was true then.
+use Rattle.std.proofs.Common.{◌≡◌, ℕ, ◌+◌, true, false, None, List, [], ◌∷◌, ◌++◌, map, length, refl, sym, ap, ◌∙◌, subst, arith}
 use Rattle.std.specs.Prelude.{is_some}
 use Rattle.std.specs.declared.alloc.Global.{Global}
 use Rattle.std.specs.Ordering.{nat_cmp}
@@ -20,8 +21,7 @@ use Rattle.ctrl_node.specs.declared.operation.Operation.{Operation}
 use Rattle.ctrl_node.specs.Controller.{opened as opened_controller}
 use Rattle.nf_net.specs.declared.config.Config.{Config}
 use Rattle.nf_net.specs.declared.node.Node.{Node}
-use Rattle.nf_net.specs.declared.node.Node.TheVariants.{Controller}
-use Rattle.nf_net.specs.Commands.{AreAnswered, Answers}
+use Rattle.nf_net.specs.Commands.{Answers}
 use Rattle.nf_net.specs.Input.{is_item, commands, IsInput}
 use Rattle.nf_net.specs.Nodes.{node_step, node_ready}
 use Rattle.nf_net.specs.Start.{first_nodes, started}
@@ -62,7 +62,7 @@ busy_at_start g waits rising = record {
   next = 0;
   rising = rising;
   unnoted = λ op late. refl;
-  answered = λ op. record { once = omega arith; causes = λ what a known is. cc; begins = λ what known is. cc };
+  answered = λ op. record { begun_once = omega arith; answered_once = omega arith; causes = λ what a known is. cc; begins = λ what known is. cc };
 }
   where
     none : (op : ℕ) → finite.get (finite.empty {X = Operation} {R = nat_cmp}) op ≡ None
@@ -91,11 +91,11 @@ module _ (F : Type 0) {R : Type 0} (f : Semantics R) (laws : FunctionLaws f) (al
   -- every run leads to a world of a run in which the open operations are the commands under way
   pub run_busy : (cs : List Choice) → IsRun node_ready (node_step f) cs first → Joined f g (length c.names + 2) (run (node_step f) cs first) × Busy g (run (node_step f) cs first)
   run_busy cs run_is = run_induction node_ready (node_step f) (length c.names + 2) (λ _ w. Joined f g (length c.names + 2) w × Busy g w) first
-      (λ _ w k next h. (joined_next f laws g (all_fit f c items is) (length c.names + 2) refl w k next.taking h.0, busy_next f laws g (all_fit f c items is) (length c.names + 2) refl w k next.taking h.0 h.1))
+      (λ _ w k next h. (joined_next f laws g (all_fit f c items is) (length c.names + 2) refl w k next.taking h.0, busy_next f g (length c.names + 2) refl w k next.taking h.0 h.1))
       (start_world F f laws alloc c items is) (count_at_start F f alloc c items is) (start_joined F f alloc c items is, start_busy) cs run_is
 
   -- and its log says what is promised of commands
   pub run_answers : (cs : List Choice) → IsRun node_ready (node_step f) cs first → Answers c items (run (node_step f) cs first).log
   run_answers cs run_is =
       let b = (run_busy cs run_is).1 in
-      record { once = λ op. (b.is.answered op).once; causes = λ op. (b.is.answered op).causes; begins = λ op. (b.is.answered op).begins }
+      record { begun_once = λ op. (b.is.answered op).begun_once; answered_once = λ op. (b.is.answered op).answered_once; causes = λ op. (b.is.answered op).causes; begins = λ op. (b.is.answered op).begins }

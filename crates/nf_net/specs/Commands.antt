@@ -1,6 +1,6 @@
--- What the log of every run says of commands: each is answered once at most, and why it is refused or begins was true when it was
--- noted, in the log up to there. Commands go by their numbers. This project's own.
-use Rattle.std.specs.Prelude.{◌≡◌, ℕ, ◌<◌, ◌≤◌, ◌==◌, Bool, true, false, not, ◌&&◌, ◌||◌, if◌then◌else◌, List, [], ◌∷◌, length, find, is_some, Option, None, Some, option_and_then}
+-- What the log of every run says of commands: each begins and is answered once at most, and why it is refused or may begin was true
+-- when that was noted, of the log up to there. Commands go by their numbers. This project's own.
+use Rattle.std.specs.Prelude.{◌≡◌, ℕ, ◌+◌, ◌<◌, ◌≤◌, ◌==◌, Bool, true, false, not, ◌&&◌, ◌||◌, if◌then◌else◌, List, [], ◌∷◌, length, find, is_some, Option, None, Some, option_and_then}
 use Rattle.std.specs.Option.{option_map_or}
 use Rattle.flow_filter.specs.declared.filter.Filter.{Filter}
 use Rattle.flow_filter.specs.Filter.{meets}
@@ -24,6 +24,12 @@ has_answered op (n ∷ notes) = has_answered op notes
 -- whether it began
 abbrev pub began : ℕ → List Note → Bool
 began op log = has_begun (λ k. k == op) log
+
+-- how often it began
+abbrev pub times_begun : ℕ → List Note → ℕ
+times_begun op [] = 0
+times_begun op (Begun k ∷ notes) = (if k == op then 1 else 0) + times_begun op notes
+times_begun op (n ∷ notes) = times_begun op notes
 
 -- whether it is under way
 abbrev pub is_busy : ℕ → List Note → Bool
@@ -74,8 +80,9 @@ module _ (names : List (List ℕ)) (orders : ℕ → Option Order) where
   IsCause answer what log = Unit {0}
 
   pub record AreAnswered (log : List Note) : Type 0 where
-    -- no command is answered twice
-    pub once : (op : ℕ) → length (answers_of op log) ≤ 1
+    -- no command begins twice, and none is answered twice
+    pub begun_once : (op : ℕ) → times_begun op log ≤ 1
+    pub answered_once : (op : ℕ) → length (answers_of op log) ≤ 1
     -- a refused command has a cause, and one that began had none
     pub causes : (op : ℕ) (what : Order) (answer : Answer) → orders op ≡ Some what → answers_of op log ≡ answer ∷ [] → IsCause answer what (before_first op log)
     pub begins : (op : ℕ) (what : Order) → orders op ≡ Some what → began op log ≡ true → MayBegin what (before_first op log)
