@@ -71,7 +71,7 @@ module _ (F : Type 0) {R : Type 0} (f : Semantics R) (laws : FunctionLaws f) (al
       let b = (run_busy F f laws alloc c items is cs run_is).1 in
       let count = (run_world node_ready (node_step f) n first (start_world F f laws alloc c items is) (count_at_start F f alloc c items is) cs run_is).1 in
       record {
-        busy_is = busy_is f laws (given f c items is) (all_fit f c items is) n refl w j b;
-        plan_is = λ op m there. plan_of f c items is op m.plan (plan_is f laws (given f c items is) (all_fit f c items is) n refl w j b op m there);
-        install_is = λ op filter from to rest waits. install_of f c items is op filter from to (install_is f laws (given f c items is) (all_fit f c items is) n refl w j b 1 op filter from (target.Instance to) rest (omega arith) count waits);
+        busy_is = busy_is f (given f c items is) n refl w j b;
+        plan_is = λ op m there. plan_of f c items is op m.plan (plan_is f (given f c items is) n refl w j b op m there);
+        install_is = λ op filter from to rest waits. install_of f c items is op filter from to (install_is f (given f c items is) n refl w j b 1 op filter from (target.Instance to) rest (omega arith) count waits);
       }

@@ -1,5 +1,5 @@
 -- In every run the routes lead to the owners that the log tells, and packets are processed at places of their units.
-use Rattle.std.proofs.Common.{◌≡◌, ◌≢◌, ℕ, zero, suc, ◌+◌, true, false, List, ◌∷◌, ◌++◌, length, refl, sym, ap, ◌∙◌, subst, arith}
+use Rattle.std.proofs.Common.{◌≡◌, ◌≢◌, ℕ, zero, suc, ◌+◌, true, false, List, [], ◌∷◌, ◌++◌, length, refl, sym, ap, ◌∙◌, subst, arith}
 use Rattle.std.specs.declared.alloc.Global.{Global}
 use Rattle.nf_function.specs.Records.{Laws as FunctionLaws}
 use Rattle.nf_function.specs.Semantics.{Semantics, unit_at}
