@@ -23,7 +23,7 @@ use Rattle.nf_net.specs.Input.{order_of, IsInput}
 use Rattle.nf_net.specs.Commands.{is_busy}
 use Rattle.nf_net.specs.Nodes.{node_step, node_ready}
 use Rattle.nf_net.specs.Start.{started}
-use Rattle.nf_net.proofs.StartJoined.{given, all_fit, count_at_start}
+use Rattle.nf_net.proofs.StartJoined.{given, count_at_start}
 use Rattle.nf_net.proofs.RunsJoined.{start_world}
 use Rattle.nf_net.proofs.BusyOperations.{IsPlan}
 use Rattle.nf_net.proofs.MoveSays.{IsInstall}

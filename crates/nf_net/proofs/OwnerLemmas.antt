@@ -1,5 +1,5 @@
 -- Who owns a unit by a log: where its route goes at the start, and after each note; and that routes of one switch agree.
-use Rattle.std.proofs.Common.{◌≡◌, ℕ, ◌+◌, Bool, true, false, List, [], ◌∷◌, ◌++◌, refl, sym, ap, ◌∙◌}
+use Rattle.std.proofs.Common.{◌≡◌, ℕ, Bool, true, false, List, [], ◌∷◌, ◌++◌, refl, sym, ap, ◌∙◌}
 use Rattle.std.specs.Prelude.{if◌then◌else◌, ◌&&◌, ◌||◌, ◌==◌, not}
 use Rattle.flow_filter.specs.declared.filter.Filter.{Filter}
 use Rattle.flow_filter.specs.declared.flow.Flow.{Flow}
@@ -8,7 +8,6 @@ use Rattle.nf_function.specs.declared.kind.Kind.TheVariants.{Conntrack, Nat, Mon
 use Rattle.nf_function.specs.declared.unit.Unit as units
 use Rattle.nf_function.specs.declared.unit.Unit.TheVariants.{Flow as OfFlow, Host as OfHost}
 use Rattle.nf_function.specs.Units.{has_hosts, takes, unit_of}
-use Rattle.nf_msgs.specs.declared.command.Order.TheVariants as order
 use Rattle.nf_msgs.specs.declared.msg.Msg.{Msg}
 use Rattle.nf_msgs.specs.declared.note.Note.{Note}
 use Rattle.nf_msgs.specs.declared.note.Note.TheVariants as note
@@ -21,15 +20,10 @@ use Rattle.nf_net.specs.Input.{order_of}
 use Rattle.nf_net.specs.Log.{has_begun}
 use Rattle.nf_net.specs.Commands.{has_answered, is_busy}
 use Rattle.nf_net.specs.Places.{first_owner, handed_on, owner_after, owner, IsMoving, IsPlace, Owns, Is_source, Is_destination}
-use Rattle.nf_net.proofs.FiltersApart.{flow_fits, is_whole, unit_fits, takes_whole, and_l, and_r}
+use Rattle.nf_net.proofs.FiltersApart.{flow_fits, flow_in, is_whole, unit_fits, takes_whole, and_l, and_r}
 use Rattle.nf_net.proofs.SwitchOutline.{Routes}
 use Rattle.nf_net.proofs.StartJoined.{route}
 use Rattle.nf_net.proofs.PlaceNotes.{IsQuiet, is_uninstalled}
-
--- a flow of a unit
-abbrev pub flow_in : units.Unit → Flow
-flow_in (OfFlow flow) = flow
-flow_in (OfHost host) = record { proto = 6; local = host; lport = 0; remote = 0; rport = 0 }
 
 host_fits : (host : ℕ) (b : Bool) → b ≡ true → true && (b && (true && (true && true))) ≡ true
 host_fits host b e = rw e refl
@@ -69,11 +63,6 @@ takes_same kind g u whole fits = rw (whole, fits) refl
 pub route_is : (kind : Kind) (u : units.Unit) → unit_fits kind u ≡ true → (rs : List (Filter × ℕ)) → Each (λ r. is_whole kind r.0 ≡ true) rs → route kind rs u ≡ first_owner u rs
 route_is kind u fits [] h = refl
 route_is kind u fits (r ∷ rs) h = ap (λ b. if b then r.1 else route kind rs u) (takes_same kind r.0 u h.0 fits) ∙ ap (λ k. if takes r.0 u then r.1 else k) (route_is kind u fits rs h.1)
-
--- a note of another kind than those that are asked for
-or_false : (b : Bool) → b || false ≡ b
-or_false true = refl
-or_false false = refl
 
 module _ (config : Config) (items : List Msg) where
   pub owner_after-append : (u : units.Unit) (i : ℕ) (xs ys : List Note) → owner_after config items u i (xs ++ ys) ≡ owner_after config items u (owner_after config items u i xs) ys

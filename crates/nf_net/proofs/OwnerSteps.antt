@@ -28,6 +28,7 @@ use Rattle.nf_net.specs.Places.{first_owner, handed_on, owner_after, owner}
 use Rattle.nf_net.proofs.FiltersApart.{is_whole, unit_fits}
 use Rattle.nf_net.proofs.SwitchOutline.{routes_after}
 use Rattle.nf_net.proofs.StartJoined.{given}
+use Rattle.nf_net.proofs.SwitchSteps.{instance_in}
 use Rattle.nf_net.proofs.PlaceNotes.{is_uninstalled}
 use Rattle.nf_net.proofs.OwnerLemmas.{takes_same, routes_agree, owner_after-append}
 use Rattle.nf_net.proofs.MovesUnderWay.{IsMoveOf}
@@ -81,15 +82,7 @@ changes s m = Stays refl tt
 same_test : (i j : ℕ) → (instance_node i == instance_node j) ≡ (i == j)
 same_test i j = grind (arith, nat_tests)
 
--- the instance that a target names
-abbrev pub instance_in : Target → ℕ
-instance_in (target.Instance i) = i
-instance_in target.Controller = 0
-
-pub instance_is : (k : ℕ) (to : Target) → is_instance k to ≡ true → to ≡ target.Instance (instance_in to)
-instance_is k (target.Instance i) e = refl
-instance_is k target.Controller e = cc
-
+-- and it is there
 pub there_is : (k : ℕ) (to : Target) → is_instance k to ≡ true → nat_lt (instance_in to) k ≡ true
 there_is k (target.Instance i) e = e
 there_is k target.Controller e = cc

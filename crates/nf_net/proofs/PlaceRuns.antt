@@ -23,7 +23,7 @@ use Rattle.actor_net.proofs.StepOutcome.{Takes, taken_outcome}
 use Rattle.unit_machine.proofs.Labels.{Each}
 use Rattle.nf_net.specs.declared.config.Config.{Config}
 use Rattle.nf_net.specs.declared.node.Node.{Node}
-use Rattle.nf_net.specs.declared.node.Node.TheVariants.{Switch, Instance}
+use Rattle.nf_net.specs.declared.node.Node.TheVariants.{Switch}
 use Rattle.nf_net.specs.Input.{packet_of, IsInput, IsWhole}
 use Rattle.nf_net.specs.Nodes.{node_step, node_ready}
 use Rattle.nf_net.specs.Start.{first_switch, started}
@@ -36,7 +36,8 @@ use Rattle.nf_net.proofs.JoinedSteps.{scene, is_taken}
 use Rattle.nf_net.proofs.RunsJoined.{start_world, run_joined}
 use Rattle.nf_net.proofs.PlaceNotes.{is_unprocessed, AreUnprocessed, switch_unprocessed, is_uninstalled, controller_uninstalled, instance_quiet}
 use Rattle.nf_net.proofs.OwnerLemmas.{routes_agree, route_is, owner_quiet, owner_uninstalled, Stands, In_first, In_second, stands, each_there}
-use Rattle.nf_net.proofs.OwnerSteps.{Changes, Stays, Installs, changes, instance_in, instance_is, there_is, stays_owner, installs_owner}
+use Rattle.nf_net.proofs.SwitchSteps.{instance_in, instance_is}
+use Rattle.nf_net.proofs.OwnerSteps.{Changes, Stays, Installs, changes, there_is, stays_owner, installs_owner}
 use Rattle.nf_net.proofs.PlaceSteps.{processed_place}
 use Rattle.nf_net.proofs.MovesUnderWay.{AreUnderWay, moves_under_way}
 use Rattle.nf_net.proofs.Joined.{Given, Label, IsTaken, node_of, Joined}
