@@ -51,6 +51,13 @@ module _ {R : Type 0} (S : Sys R) (laws : IsSys S) (z : Seeing) where
       some_ran : (d : Did R) → Inst_goes S laws z own did d → d.ran ≢ []
       some_ran d g none = some (same_mine S z did.ran ∙ g.ran ∙ ap firsts none)
 
+      -- where packets of the unit are processed, the unit sees the message
+      pub some_seen : (it : Item R) × (seen (frame S z) m ≡ Some it)
+      some_seen = elim (seen (frame S z) m) as (λ o. seen (frame S z) m ≡ o → (it : Item R) × (seen (frame S z) m ≡ Some it)) [
+        | None ↦ λ none. (let g = ran At_a (node_at S z x y) refl in absurd (some_ran (did_sends (node_at S z x y) []) (subst (λ o. Inst_goes S laws z own did (does S laws z own At_a g.parts g.refuse (node_at S z x y) o)) none g.goes) refl))
+        | Some it ↦ λ is. (it, is)
+      ] refl
+
       module _ (it : Item R) (is : seen (frame S z) m ≡ Some it) where
         abbrev v : List (Item R)
         v = items (seen (frame S z)) rest
@@ -72,10 +79,7 @@ module _ {R : Type 0} (S : Sys R) (laws : IsSys S) (z : Seeing) where
         by_link (By_cs e _ _) = absurd (falsely (sym y0 ∙ ap (λ q. q == 0) e))
 
       fresh_seat : (node_at S z x y).live ≡ after S.F x.done
-      fresh_seat = elim (seen (frame S z) m) as (λ o. seen (frame S z) m ≡ o → (node_at S z x y).live ≡ after S.F x.done) [
-        | None ↦ λ none. (let g = ran At_a (node_at S z x y) refl in absurd (some_ran (did_sends (node_at S z x y) []) (subst (λ o. Inst_goes S laws z own did (does S laws z own At_a g.parts g.refuse (node_at S z x y) o)) none g.goes) refl))
-        | Some it ↦ λ is. by_link it is (shown_by z.op.src z.op.dst z.third h.nodes x p y it (items (seen (frame S z)) rest) (shown S laws z w s h p y m rest y0 y1 waits it is))
-      ] refl
+      fresh_seat = let i = some_seen in by_link i.0 i.1 (shown_by z.op.src z.op.dst z.third h.nodes x p y i.0 (items (seen (frame S z)) rest) (shown S laws z w s h p y m rest y0 y1 waits i.0 i.1))
 
 module _ {R : Type 0} (S : Sys R) (laws : IsSys S) where
   pub fresh : (w : World S) (arrived : units.Unit → List ℕ) (bared : units.Unit → Bool) → Every S laws w arrived bared → (p y : ℕ) (m : Msg R) (rest : List (Msg R)) → (y == 0) ≡ false → (y == 1) ≡ false → w.link p y ≡ m ∷ rest → (u : units.Unit) → none_mine S u (inst_step S (w.inst y) m).ran ≢ [] → S.B.at u (w.inst y).live ≡ fold S.F None (done_u S u w.done)

@@ -20,3 +20,4 @@ pub mod Every
 pub mod Waits
 pub mod Outcomes
 pub mod Readings
+pub mod Places

@@ -89,7 +89,7 @@ flow_is f e =
     }
 
 -- a flow of a unit
-abbrev flow_in : units.Unit → Flow
+abbrev pub flow_in : units.Unit → Flow
 flow_in (OfFlow f) = f
 flow_in (OfHost host) = record { proto = 6; local = host; lport = 0; remote = 0; rport = 0 }
 

@@ -191,7 +191,7 @@ module _ {R : Type 0} (f : Semantics R) (g : Given) (Goal : Msg → Type 0) wher
     pub put : (op : ℕ) (piece : Piece) (first : Bool) → IsGoodPiece f g piece → Goal (msg.Put op piece first)
     pub restore : (op : ℕ) (chunks : List Chunk) → AreGoodChunks f g chunks → Goal (msg.Restore op chunks)
 
-  by_message : (p j : ℕ) → Rows → (m : Msg) → Label f g p (suc (suc j)) m → Goal m
+  pub by_message : (p j : ℕ) → Rows → (m : Msg) → Label f g p (suc (suc j)) m → Goal m
   by_message p j r (msg.Carry mark.Plain cell) label = r.carry cell label.2
   by_message p j r (msg.Carry (mark.Pass op) cell) label = r.pass op cell label.2
   by_message p j r (msg.Carry (mark.Shared op home) cell) label = let never = label.1 in cc

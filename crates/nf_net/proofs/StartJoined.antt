@@ -139,7 +139,7 @@ module _ {R : Type 0} (f : Semantics R) (c : Config) (items : List Msg) (is : Is
   route_is_there : (u : units.Unit) → nat_lt (route f.kind c.routes u) (length c.names) ≡ true
   route_is_there u = let some = is.is_config.some in route_there f.kind (length c.names) (omega (arith, some)) c.routes u (all_each (λ r. r.1 < length c.names) c.routes is.is_config.routes)
 
-  switch_is : IsSwitch f given (first_switch c) routed
+  pub switch_is : IsSwitch f given (first_switch c) routed
   switch_is = record {
     site = refl;
     instances = refl;
@@ -170,7 +170,7 @@ no_record : (R : Type 0) (b : Bool) → ◌≡◌ {A = Option R} None (if b then
 no_record R true = refl
 no_record R false = refl
 
-rising_of : (least : ℕ) (ns : List ℕ) → IsRising least ns → Rising least ns
+pub rising_of : (least : ℕ) (ns : List ℕ) → IsRising least ns → Rising least ns
 rising_of least [] h = tt
 rising_of least (n ∷ ns) h = (h.0, rising_of (suc n) ns h.1)
 

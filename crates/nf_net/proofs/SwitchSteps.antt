@@ -50,11 +50,11 @@ pass_is (mark.Pass op) e = refl
 pass_is m e = cc
 
 -- the instance that a target names
-abbrev instance_in : Target → ℕ
+abbrev pub instance_in : Target → ℕ
 instance_in (target.Instance i) = i
 instance_in target.Controller = 0
 
-instance_is : (k : ℕ) (to : Target) → is_instance k to ≡ true → to ≡ target.Instance (instance_in to)
+pub instance_is : (k : ℕ) (to : Target) → is_instance k to ≡ true → to ≡ target.Instance (instance_in to)
 instance_is k (target.Instance i) e = refl
 instance_is k target.Controller e = cc
 

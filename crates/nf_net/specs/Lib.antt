@@ -1,6 +1,8 @@
+pub mod Commands
 pub mod Input
 pub mod Log
 pub mod Nodes
+pub mod Places
 pub mod Promises
 pub mod Runs
 pub mod Start
