@@ -1,11 +1,18 @@
 -- Every run keeps the promises, and a complete one those of its end.
-use Rattle.std.proofs.Common.{◌≡◌, ℕ, ◌+◌, true, None, List, length, refl, sym, ap, ◌∙◌}
+use Rattle.std.proofs.Common.{◌≡◌, ◌≢◌, ℕ, ◌+◌, true, None, Result, Ok, Err, IfOk, List, length, refl, sym, ap, subst, ◌∙◌}
 use Rattle.std.specs.declared.alloc.Global.{Global}
 use Rattle.nf_function.specs.Records.{Laws as FunctionLaws}
 use Rattle.nf_function.specs.Semantics.{Semantics}
 use Rattle.nf_msgs.specs.declared.msg.Msg.{Msg}
 use Rattle.nf_msgs.specs.declared.note.Note.{Note}
 use Rattle.actor_net.specs.declared.choice.Choice.{Choice}
+use Rattle.actor_net.specs.declared.schedule.Schedule.{Schedule}
+use Rattle.actor_net.specs.declared.replays.ReplayFault.{ReplayFault}
+use Rattle.actor_net.specs.declared.replays.ReplayFault.TheVariants.{NoMemory}
+use Rattle.actor_net.specs.Replays.{replayed}
+use Rattle.actor_net.proofs.ReplayLaws.{replayed_ok}
+use Rattle.actor_net.specs.Schedules.{StopsShort}
+use Rattle.nf_net.specs.Runs.{chosen, EndsIn, StopsAt}
 use Rattle.actor_net.specs.Network.{Network, IsRun, is_done, run}
 use Rattle.nf_net.specs.declared.config.Config.{Config}
 use Rattle.nf_net.specs.declared.node.Node.{Node}
@@ -18,6 +25,8 @@ use Rattle.nf_net.proofs.ArrivalLemmas.{arrivals_run}
 use Rattle.nf_net.proofs.CompleteRuns.{complete_run, fold_is}
 use Rattle.nf_net.proofs.OutputSteps.{outputs_run}
 use Rattle.nf_net.proofs.RecordPromises.{record_is, one_place}
+use Rattle.nf_net.proofs.CommandPromises.{run_answers}
+use Rattle.nf_net.proofs.PlaceRuns.{places}
 use Rattle.nf_net.proofs.WindowRuns.{window_kept, all_home}
 use Rattle.nf_net.proofs.StartJoined.{given, count_at_start}
 use Rattle.nf_net.proofs.Joined.{S}
@@ -39,6 +48,8 @@ module _ (F : Type 0) {R : Type 0} (f : Semantics R) (laws : FunctionLaws f) (al
         once = once f c items is (length c.names + 2) w j;
         outputs_are = outputs_run F f laws alloc c items is cs runs;
         records_are = λ u i r live. fold_is f c items is None (went f c items u w.log) ∙ ap (λ ps. readings.fold (S f (given f c items is)).F None ps) (sym (done_same f c items is (length c.names + 2) w j u)) ∙ record_is f c items is (length c.names + 2) w counted j u i r live;
+        places = places F f laws alloc c items is cs runs;
+        answers = run_answers F f laws alloc c items is cs runs;
         window = window_kept F f laws alloc c items is cs runs;
         one_record = λ u i k r s. one_place f c items is (length c.names + 2) w counted j u i k r s;
       }
@@ -48,3 +59,65 @@ module _ (F : Type 0) {R : Type 0} (f : Semantics R) (laws : FunctionLaws f) (al
 
   pub every_home : IsRun node_ready (node_step f) cs (started {F = F} {R = R} alloc c items) → is_done node_ended w ≡ true → AllHome c w
   every_home runs done = all_home F f laws alloc c items is cs runs done
+
+-- What a schedule's run of a network from its start keeps, if it ends.
+module _ (F : Type 0) {R : Type 0} (f : Semantics R) (laws : FunctionLaws f) (alloc : Global) (c : Config) (items : List Msg) (is : IsInput f.kind c items) (schedule : Schedule) where
+  abbrev first : Network (Node F R) Msg Note
+  first = started alloc c items
+
+  pub record Keeps (r : Network (Node F R) Msg Note × List Choice) : Type 0 where
+    pub choices : r.1 ≡ chosen f first schedule
+    pub end : EndsIn f first schedule r.0
+    pub promises : Promises f c items r.0
+    pub completed : Completed f c items r.0
+    pub home : AllHome c r.0
+
+  -- what `run_schedule` says of its world and choices, for a world at its start
+  pub record Scheduled (w : Network (Node F R) Msg Note) (r : Network (Node F R) Msg Note × List Choice) : Type 0 where
+    pub choices : r.1 ≡ chosen f w schedule
+    pub world : r.0 ≡ run (node_step f) r.1 w
+    pub is_run : IsRun node_ready (node_step f) r.1 w
+    pub complete : is_done node_ended r.0 ≡ true
+
+  pub keeps : (w : Network (Node F R) Msg Note) → w ≡ first → (r : Network (Node F R) Msg Note × List Choice) → Scheduled w r → Keeps r
+  keeps w start r h =
+      let runs : IsRun node_ready (node_step f) r.1 first = subst (λ v. IsRun node_ready (node_step f) r.1 v) start h.is_run in
+      let reached : r.0 ≡ run (node_step f) r.1 first = h.world ∙ ap (run (node_step f) r.1) start in
+      let complete : is_done node_ended (run (node_step f) r.1 first) ≡ true = ap (is_done node_ended) (sym reached) ∙ h.complete in
+      let choices : r.1 ≡ chosen f first schedule = h.choices ∙ ap (λ v. chosen f v schedule) start in
+      record {
+        choices = choices;
+        end = record {
+          leads = record { is_run = subst (λ cs. IsRun node_ready (node_step f) cs first) choices runs; reached = reached ∙ ap (λ cs. run (node_step f) cs first) choices };
+          complete = h.complete;
+        };
+        promises = subst (λ v. Promises f c items v) (sym reached) (every_run F f laws alloc c items is r.1 runs);
+        completed = subst (λ v. Completed f c items v) (sym reached) (every_end F f laws alloc c items is r.1 runs complete);
+        home = subst (λ v. AllHome c v) (sym reached) (every_home F f laws alloc c items is r.1 runs complete);
+      }
+
+-- What is said of a world that is handed back: the same facts of the result.
+module _ (F : Type 0) {R : Type 0} (f : Semantics R) (laws : FunctionLaws f) (alloc : Global) (c : Config) (items : List Msg) (is : IsInput f.kind c items) (schedule : Schedule) where
+  pub record Ends {E : Type 0} (result : Result (Network (Node F R) Msg Note × List Choice) E) : Type 0 where
+    pub choices : IfOk result (λ r. r.1 ≡ chosen f (started {F = F} {R = R} alloc c items) schedule)
+    pub end : IfOk result (λ r. EndsIn f (started alloc c items) schedule r.0)
+    pub promises : IfOk result (λ r. Promises f c items r.0)
+    pub completed : IfOk result (λ r. Completed f c items r.0)
+    pub home : IfOk result (λ r. AllHome c r.0)
+
+  pub ends : {E : Type 0} (result : Result (Network (Node F R) Msg Note × List Choice) E) (w : Network (Node F R) Msg Note) → w ≡ started alloc c items → IfOk result (λ r. r.1 ≡ chosen f w schedule) → IfOk result (λ r. r.0 ≡ run (node_step f) r.1 w) → IfOk result (λ r. IsRun node_ready (node_step f) r.1 w) → IfOk result (λ r. is_done node_ended r.0 ≡ true) → Ends result
+  ends (Err e) w start a b d h = record { choices = tt; end = tt; promises = tt; completed = tt; home = tt }
+  ends (Ok r) w start a b d h =
+      let k = keeps F f laws alloc c items is schedule w start r (record { choices = a; world = b; is_run = d; complete = h }) in
+      record { choices = k.choices; end = k.end; promises = k.promises; completed = k.completed; home = k.home }
+
+  pub stops : (w : Network (Node F R) Msg Note) → w ≡ started alloc c items → (step : ℕ) → length (chosen f w schedule) ≡ step → StopsShort node_ready node_ended (run (node_step f) (chosen f w schedule) w) step → StopsAt f (started {F = F} {R = R} alloc c items) schedule step
+  stops w start step count short = subst (λ v. StopsAt f v schedule step) start (record { count = count; short = short })
+
+-- the same of a replay: where it hands a world back, the choices are a run
+pub replay_keeps : (F : Type 0) {R : Type 0} (f : Semantics R) (laws : FunctionLaws f) (alloc : Global) (c : Config) (items : List Msg) (is : IsInput f.kind c items) (cs : List Choice) (w : Network (Node F R) Msg Note) (result : Result (Network (Node F R) Msg Note) ReplayFault) → w ≡ started alloc c items → (result ≢ Err NoMemory → result ≡ replayed node_ready (node_step f) cs w) → IfOk result (λ reached. Promises f c items reached)
+replay_keeps F f laws alloc c items is cs w (Err e) start h = tt
+replay_keeps F {R = R} f laws alloc c items is cs w (Ok reached) start h =
+    let ok = replayed_ok node_ready (node_step f) cs w reached (sym (h (λ bad. cc))) in
+    let runs : IsRun node_ready (node_step f) cs (started {F = F} {R = R} alloc c items) = subst (λ v. IsRun node_ready (node_step f) cs v) start ok.0 in
+    subst (λ v. Promises f c items v) (sym (ok.1 ∙ ap (run (node_step f) cs) start)) (every_run F f laws alloc c items is cs runs)

@@ -17,6 +17,8 @@ use Rattle.nf_net.specs.declared.config.Config.{Config}
 use Rattle.nf_net.specs.declared.node.Node.{Node}
 use Rattle.nf_net.specs.declared.node.Node.TheVariants.{Instance}
 use Rattle.nf_net.specs.Input.{packets, packet_of, order_of}
+use Rattle.nf_net.specs.Commands.{Answers}
+use Rattle.nf_net.specs.Places.{ArePlaces}
 use Rattle.nf_net.specs.Window.{Window}
 use Rattle.nf_net.specs.Log.{arrived, done, has_begun, those, done_of}
 
@@ -80,9 +82,13 @@ module _ {R : Type 0} (f : Semantics R) (config : Config) (items : List Msg) whe
     -- outputs and records are those of one instance that nothing moved, and no unit has two records
     pub outputs_are : (unit : units.Unit) → given unit w.log ≡ outputs None (went unit w.log)
     pub records_are : (unit : units.Unit) (i : ℕ) (r : R) → live_at w i unit ≡ Some r → fold None (went unit w.log) ≡ Some r
+    pub one_record : (unit : units.Unit) (i j : ℕ) (r s : R) → live_at w i unit ≡ Some r → live_at w j unit ≡ Some s → i ≡ j
     -- no more packets are under way than the window says
     pub window : Window config w
-    pub one_record : (unit : units.Unit) (i j : ℕ) (r s : R) → live_at w i unit ≡ Some r → live_at w j unit ≡ Some s → i ≡ j
+    -- each packet was processed at the owner of its unit, or at an instance of a move of the unit that was under way
+    pub places : ArePlaces config items f.kind w.log
+    -- each command begins and is answered at most once, and what refuses it was true then
+    pub answers : Answers config items w.log
 
   -- what a complete run keeps besides: all packets of the input came, and each was processed, once; and the record of a unit is
   -- live at an instance
