@@ -10,3 +10,4 @@ pub mod PrintedLines
 pub mod PrintedOrders
 pub mod PrintedScripts
 pub mod LinesByPoint
+pub mod WholeScripts

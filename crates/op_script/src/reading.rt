@@ -5,7 +5,7 @@ ghost use Rattle.std.specs.Str.Lines.{strip_carriage_return};
 ghost use Rattle.flow_filter.specs.Name.{is_name};
 ghost use Rattle.flow_filter.specs.FilterText.{fields_of, AgreesBy};
 ghost use Rattle.op_script.specs.FormViews.{event_view, form_view};
-ghost use Rattle.op_script.specs.Printing.{IsScript};
+ghost use Rattle.op_script.specs.Printing.{IsScript, SplitsNone};
 ghost use Rattle.op_script.specs.Reading.{ends_of, members_of, filter_of, filter_or_all, order_of, with_route, with_line, numbered, is_command, command_count, line_view, what_view, with_event, with_form, with_text, script_of, place_of, goes_back, state_of, script_view, order_view, with_lines, start, Says, SaysWhole, Numbered};
 
 use crate::fault::{LineFault, ScriptFault, ScriptKind};
@@ -326,6 +326,7 @@ pub fn read_script(
     requires { length names.now ≤ 256 }
     ensures value { SaysWhole script_view result (script_of kind names.now bytes.now) }
     ensures right { IfOk result (λ script. IsScript names.now (script_view script)) }
+    ensures whole { IfOk result (λ script. SplitsNone kind (script_view script)) }
 {
     if bytes.len() > MOST_BYTES {
         return Err(ScriptFault::Bad {

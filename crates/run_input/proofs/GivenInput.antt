@@ -1,0 +1,64 @@
+-- What was made of the words' values, a script and a trace is an input of the network.
+use Rattle.std.proofs.Common.{◌≡◌, ℕ, ◌<◌, ◌^◌, false, List, length, arith}
+use Rattle.std.specs.Prelude.{All}
+use Rattle.std.proofs.lemmas.List.{length-replicate}
+use Rattle.flow_filter.specs.declared.filter.Filter.{Filter}
+use Rattle.flow_filter.specs.declared.packet.Packet.{Packet}
+use Rattle.flow_filter.specs.Filter.{IsFilter}
+use Rattle.nf_msgs.specs.declared.msg.Msg.{Msg}
+use Rattle.trace_reader.specs.Records.{AreNumbered}
+use Rattle.op_script.specs.declared.script.Script.{Script}
+use Rattle.op_script.specs.declared.script.Line.{Line}
+use Rattle.op_script.specs.Items.{items}
+use Rattle.op_script.specs.Reading.{script_view}
+use Rattle.op_script.specs.Printing.{IsScript, SplitsNone}
+use Rattle.nf_net.specs.declared.config.Config.{Config}
+use Rattle.nf_net.specs.Input.{IsSteered, IsInput}
+use Rattle.nf_net.specs.Start.{IsConfig}
+use Rattle.run_input.specs.declared.setting.Setting.{Setting}
+use Rattle.run_input.specs.BuiltLines.{IsBuilt}
+use Rattle.run_input.specs.Given.{config_of, IsSetting}
+use Rattle.run_input.proofs.SaidCommands.{only_items, packets_in, commands_in}
+use Rattle.run_input.proofs.ScriptedMoves.{numbers_rise, in_order, ops_rise, all_moves, routes_whole, routes_there}
+
+-- what is known of all that is given
+pub record IsGiven (setting : Setting) (script : Script) (ps : List Packet) : Type 0 where
+  pub setting_is : IsSetting setting
+  pub script_is : IsScript setting.names.now (script_view script)
+  pub whole : SplitsNone setting.kind (script_view script)
+  pub numbers : AreNumbered 1 ps
+  pub steered : All (IsSteered setting.site) ps
+  pub site : setting.site.inside.bits < 2 ^ 32
+  pub filters : All (λ (route : Filter × ℕ). IsFilter route.0) script.routes.items
+  pub built : All (λ (line : Line). IsBuilt line.what) script.lines.items
+
+is_config : (setting : Setting) (script : Script) (ps : List Packet) → IsGiven setting script ps → IsConfig (config_of setting script.routes.items)
+is_config setting script ps g = record {
+  some = g.setting_is.some;
+  few = g.setting_is.few;
+  limits = g.setting_is.limits;
+  marks = length-replicate (length setting.names.now) false;
+  window = g.setting_is.window;
+  routes = routes_there setting.names.now script.routes.items g.script_is.routes;
+}
+
+input_is : (setting : Setting) (script : Script) (ps : List Packet) → IsGiven setting script ps → IsInput setting.kind (config_of setting script.routes.items) (items ps script.lines.items)
+input_is setting script ps g =
+    let lines = script.lines.items in
+    let same = packets_in ps lines in
+    let said = commands_in ps lines (in_order 0 1 lines g.script_is.follow) in
+    record {
+      is_config = is_config setting script ps g;
+      site = g.site;
+      routes = routes_whole setting.kind script.routes.items g.whole.routes g.filters;
+      only_items = only_items ps lines;
+      steered = rw same g.steered;
+      numbers = rw same (numbers_rise 1 0 ps (omega arith) g.numbers);
+      moves = rw said (all_moves setting.kind lines g.script_is.lines g.whole.lines g.built);
+      ops = rw said (ops_rise 0 0 1 lines (omega arith) g.script_is.follow);
+    }
+
+-- what was made is an input
+pub made_is : (setting : Setting) (script : Script) (ps : List Packet) (config : Config) (its : List Msg) → IsGiven setting script ps
+    → config ≡ config_of setting script.routes.items → its ≡ items ps script.lines.items → IsInput setting.kind config its
+made_is setting script ps config its g c i = rw (c, i) (input_is setting script ps g)

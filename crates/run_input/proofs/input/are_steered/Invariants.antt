@@ -1,0 +1,7 @@
+-- The packets so far.
+use Rattle.std.proofs.Common.{take, All}
+use Rattle.nf_net.specs.Input.{IsSteered}
+use Rattle.run_input.proofs.input.are_steered.Given as goal
+
+abbrev pub invariant-loop-packet : goal.invariant-loop-packet
+invariant-loop-packet l = All (IsSteered l.site) (take l.packet-index l.packets)

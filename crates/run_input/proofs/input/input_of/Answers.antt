@@ -1,0 +1,25 @@
+-- What was made is an input of the network.
+use Rattle.std.proofs.Common.{ℕ, ap, ◌∙◌, subst}
+use Rattle.std.specs.Prelude.{All}
+use Rattle.flow_filter.specs.declared.filter.Filter.{Filter}
+use Rattle.flow_filter.specs.Filter.{IsFilter}
+use Rattle.op_script.specs.declared.script.Line.{Line}
+use Rattle.nf_net.specs.Input.{IsSteered}
+use Rattle.run_input.specs.BuiltLines.{IsBuilt}
+use Rattle.run_input.specs.Given.{config_of}
+use Rattle.run_input.proofs.GivenInput.{made_is}
+use Rattle.run_input.proofs.input.input_of.Goals as goal
+
+pub returns-clause-input : goal.returns-clause-input
+returns-clause-input c =
+    let routes = c.as_slice-3.ensures.value in
+    made_is c.args.setting.now c.args.script.now c.args.packets c.in_ok-config.config c.in_ok-items.items.items (record {
+      setting_is = c.requires.setting;
+      script_is = c.requires.script;
+      whole = c.requires.whole;
+      numbers = c.requires.numbers;
+      steered = subst (All (IsSteered c.args.setting.now.site)) c.items.ensures c.are_steered.ensures.steered;
+      site = c.are_steered.ensures.site;
+      filters = subst (All (λ (route : Filter × ℕ). IsFilter route.0)) c.as_slice-2.ensures.value c.are_filters.ensures;
+      built = subst (All (λ (line : Line). IsBuilt line.what)) c.as_slice.ensures.value c.in_default.ensures.built;
+    }) (c.in_ok-config.ensures ∙ ap (config_of c.args.setting.now) routes) c.in_ok-items.ensures

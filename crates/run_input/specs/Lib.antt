@@ -1,0 +1,2 @@
+pub mod BuiltLines
+pub mod Given

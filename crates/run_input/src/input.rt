@@ -1,0 +1,157 @@
+ghost use Rattle.std.specs.Prelude.{◌≡◌, ◌<◌, ◌^◌, ℕ, true, Err, Some, All, IfOk, IfNone};
+ghost use Rattle.std.specs.Option.{ForSome};
+ghost use Rattle.flow_filter.specs.Filter.{IsFilter, IsFlow};
+ghost use Rattle.nf_function.specs.Records.{Fits};
+ghost use Rattle.nf_function.specs.Units.{is_transport};
+ghost use Rattle.trace_reader.specs.Records.{AreNumbered};
+ghost use Rattle.op_script.specs.Reading.{script_view};
+ghost use Rattle.op_script.specs.Printing.{IsScript, SplitsNone};
+ghost use Rattle.op_script.specs.Items.{items};
+ghost use Rattle.nf_net.specs.Input.{IsInput, IsSteered};
+ghost use Rattle.run_input.specs.declared.fault.InputFault.TheVariants.{NotBuilt};
+ghost use Rattle.run_input.specs.Given.{config_of, first_unbuilt, unbuilt, IsSetting};
+ghost use Rattle.run_input.specs.BuiltLines.{IsBuilt};
+
+use crate::fault::InputFault;
+use crate::setting::Setting;
+use basics::{NoMemory, TryCopy};
+use flow_filter::{Filter, Flow, Name, Packet, Packets, Sequence, Site, flow_of};
+use nf_msgs::{Msg, Names, Order};
+use nf_net::Config;
+use op_script::{Line, Script, What, items};
+use std::alloc::Global;
+
+/// The configuration and the input of a run, where each command of the script is a move.
+pub fn input_of(
+    alloc: Global,
+    setting: &Setting<'_>,
+    script: &Script,
+    packets: Packets,
+) -> Result<(Config, Vec<Msg>), InputFault>
+    requires setting { IsSetting setting.now }
+    requires script { IsScript setting.now.names.now (script_view script.now) }
+    requires whole { SplitsNone setting.now.kind (script_view script.now) }
+    requires numbers { AreNumbered 1 packets }
+    requires steered { All (λ packet. is_transport packet.proto ≡ true) packets }
+    ensures config { IfOk result (λ made. made.0 ≡ config_of setting.now script.now.routes.items) }
+    ensures items { IfOk result (λ made. made.1.items ≡ items packets script.now.lines.items) }
+    ensures input { IfOk result (λ made. IsInput setting.now.kind made.0 made.1.items) }
+    // The first command that is no move is refused, and nothing else is.
+    ensures unbuilt { ForSome (first_unbuilt script.now.lines.items) (λ command. result ≡ Err (NotBuilt command)) }
+    ensures cause { (command : ℕ) → result ≡ Err (NotBuilt command) → first_unbuilt script.now.lines.items ≡ Some command }
+{
+    if let Some(command) = first_unbuilt(script.lines.as_slice()) {
+        return Err(InputFault::NotBuilt { command });
+    }
+    are_steered(setting.site, packets.items());
+    are_filters(script.routes.as_slice());
+    let config = config_of(alloc, setting, script.routes.as_slice())?;
+    let items = items(alloc, packets, script)?;
+    Ok((config, items))
+}
+
+/// The number of the first command that is a copy or a share.
+fn first_unbuilt(lines: &[Line]) -> Option<u32>
+    ensures value { result ≡ first_unbuilt lines.now }
+    ensures built { IfNone result (All (λ line. IsBuilt line.what) lines.now) }
+{
+    for line in lines {
+        if let Some(command) = unbuilt(&line.what) {
+            return Some(command);
+        }
+    }
+    None
+}
+
+/// The number of a copy or a share.
+fn unbuilt(what: &What) -> Option<u32>
+    ensures value { result ≡ unbuilt what.now }
+    ensures built { IfNone result (IsBuilt what.now) }
+{
+    match what {
+        What::Settle => None,
+        What::Command(command) => match &command.what {
+            Order::Move { filter, .. } => {
+                is_filter(*filter);
+                None
+            }
+            Order::Copy { .. } | Order::Share { .. } => Some(command.op),
+        },
+    }
+}
+
+/// The numbers of a filter are within their types, as those of every value of its type.
+fn is_filter(_filter: Filter)
+    ensures { IsFilter _filter }
+{}
+
+/// Each route's filter is one.
+fn are_filters(routes: &[(Filter, u8)])
+    ensures { All (λ route. IsFilter route.0) routes.now }
+{
+    for route in routes {
+        is_filter(route.0);
+    }
+}
+
+/// Packets of TCP and UDP are steered.
+fn are_steered(site: Site, packets: &[Packet])
+    requires { All (λ packet. is_transport packet.proto ≡ true) packets.now }
+    ensures steered { All (IsSteered site) packets.now }
+    ensures site { site.inside.bits < 2 ^ 32 }
+{
+    for packet in packets {
+        is_steered(&site, packet);
+    }
+}
+
+/// The numbers of a packet and those of its flow are within their types.
+fn is_steered(site: &Site, packet: &Packet)
+    requires { is_transport packet.now.proto ≡ true }
+    ensures { IsSteered site.now packet.now }
+{
+    fits(*site, *packet);
+    let (flow, _direction) = flow_of(site, packet);
+    is_flow(flow);
+}
+
+/// The numbers of a packet, as those of every value of its type.
+fn fits(_site: Site, _packet: Packet)
+    requires { is_transport _packet.proto ≡ true }
+    ensures { Fits _site _packet }
+{}
+
+/// The numbers of a flow, as those of every value of its type.
+fn is_flow(_flow: Flow)
+    ensures { IsFlow _flow }
+{}
+
+/// What the network is made of: instances without marks, and the routes.
+fn config_of(
+    alloc: Global,
+    setting: &Setting<'_>,
+    routes: &[(Filter, u8)],
+) -> Result<Config, NoMemory>
+    ensures { IfOk result (λ config. config ≡ config_of setting.now routes.now) }
+{
+    let marked = vec![in alloc; false; setting.names.len()]?;
+    Ok(Config {
+        names: names_of(alloc, setting.names)?,
+        limits: Sequence::from_vec(Vec::from_slice(alloc, setting.limits)?),
+        marked: Sequence::from_vec(marked),
+        site: setting.site,
+        window: setting.window,
+        routes: Sequence::from_vec(Vec::from_slice(alloc, routes)?),
+    })
+}
+
+/// The same names again.
+fn names_of(alloc: Global, names: &[Name]) -> Result<Names, NoMemory>
+    ensures { IfOk result (λ copies. copies ≡ names.now) }
+{
+    let mut copies = Names::open(alloc);
+    for name in names {
+        copies.push(name.copy()?)?;
+    }
+    Ok(copies)
+}
