@@ -14,3 +14,6 @@ pub mod units;
 
 pub use head::Head;
 pub use reporting::report;
+
+#[cfg(test)]
+mod tests;
