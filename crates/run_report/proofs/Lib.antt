@@ -1,3 +1,3 @@
 pub mod Endings
-pub mod Entries
+pub mod FoundRecords
 pub mod SortLemmas

@@ -131,49 +131,49 @@ abbrev pub count_text : ℕ → List ℕ
 count_text count = codes " " ++ decimal count
 
 -- what the report tells of an instance: its name, its records and its tally
-pub record Member (R : Type 0) : Type 0 where
+pub record NamedInstance (R : Type 0) : Type 0 where
   pub name : List ℕ
   pub table : TableView R
   pub slots : List ℕ
 
 -- a record of an instance: its unit, the instance's name, and the record
-pub record Entry (R : Type 0) : Type 0 where
+pub record NamedRecord (R : Type 0) : Type 0 where
   pub unit : units.Unit
   pub name : List ℕ
   pub kept : R
 
 module _ {R : Type 0} where
   -- an instance's records, live or standby
-  abbrev pub entries_of : Bool → Member R → List (Entry R)
-  entries_of live member = map (λ e. record { unit = e.0; name = member.name; kept = e.1 }) (finite.entries (part member.table live))
+  abbrev pub named_records : Bool → NamedInstance R → List (NamedRecord R)
+  named_records live instance = map (λ e. record { unit = e.0; name = instance.name; kept = e.1 }) (finite.entries (part instance.table live))
 
   -- `state UNIT INST RECORD` or `standby UNIT INST RECORD`
-  unfoldable pub entry_line : Semantics R → List ℕ → Entry R → List ℕ
-  entry_line f word entry = word ++ unit_text entry.unit ++ codes " " ++ entry.name ++ codes " " ++ f.record_text entry.kept ++ codes "\n"
+  unfoldable pub record_line : Semantics R → List ℕ → NamedRecord R → List ℕ
+  record_line f word one = word ++ unit_text one.unit ++ codes " " ++ one.name ++ codes " " ++ f.record_text one.kept ++ codes "\n"
 
   -- the records of all instances, by their units and then by the instances
-  abbrev pub by_unit : Bool → List (Member R) → List (Entry R)
-  by_unit live members = sorted_by (λ e. e.unit) unit_cmp (flat_map (entries_of live) members)
+  abbrev pub by_unit : Bool → List (NamedInstance R) → List (NamedRecord R)
+  by_unit live instances = sorted_by (λ e. e.unit) unit_cmp (flat_map (named_records live) instances)
 
   -- a line for each live record
-  abbrev pub state_lines : Semantics R → List (Member R) → List ℕ
-  state_lines f members = flat_map (entry_line f (codes "state ")) (by_unit true members)
+  abbrev pub state_lines : Semantics R → List (NamedInstance R) → List ℕ
+  state_lines f instances = flat_map (record_line f (codes "state ")) (by_unit true instances)
 
   -- a line for each record that stands by
-  abbrev pub standby_lines : Semantics R → List (Member R) → List ℕ
-  standby_lines f members = flat_map (entry_line f (codes "standby ")) (by_unit false members)
+  abbrev pub standby_lines : Semantics R → List (NamedInstance R) → List ℕ
+  standby_lines f instances = flat_map (record_line f (codes "standby ")) (by_unit false instances)
 
   -- the lines of the records
-  unfoldable pub record_lines : Semantics R → List (Member R) → List ℕ
-  record_lines f members = state_lines f members ++ standby_lines f members
+  unfoldable pub record_lines : Semantics R → List (NamedInstance R) → List ℕ
+  record_lines f instances = state_lines f instances ++ standby_lines f instances
 
   -- `live INST COUNT`: how many live records the instance has
-  unfoldable pub live_line : Member R → List ℕ
-  live_line member = codes "live " ++ member.name ++ codes " " ++ decimal (finite.len member.table.live) ++ codes "\n"
+  unfoldable pub live_line : NamedInstance R → List ℕ
+  live_line instance = codes "live " ++ instance.name ++ codes " " ++ decimal (finite.len instance.table.live) ++ codes "\n"
 
-  -- `tally INST C0 C1 ..`, the first slots of its tally
-  unfoldable pub tally_line : ℕ → Member R → List ℕ
-  tally_line instances member = codes "tally " ++ member.name ++ flat_map count_text (take instances member.slots) ++ codes "\n"
+  -- `tally INST C0 C1 ..`, so many of the first slots of its tally
+  unfoldable pub tally_line : ℕ → NamedInstance R → List ℕ
+  tally_line count instance = codes "tally " ++ instance.name ++ flat_map count_text (take count instance.slots) ++ codes "\n"
 
 module _ {F R : Type 0} where
   -- the instance that a node is
@@ -182,25 +182,25 @@ module _ {F R : Type 0} where
   instance_in (Controller c) = None
   instance_in (Instance i) = Some i
 
-  abbrev pub member_of : List ℕ × InstanceState F R → Member R
-  member_of x = record { name = x.0; table = x.1.table; slots = x.1.tally.slots }
+  abbrev pub instance_under : List ℕ × InstanceState F R → NamedInstance R
+  instance_under x = record { name = x.0; table = x.1.table; slots = x.1.tally.slots }
 
   -- the instances in their order, each under the name at its place
-  abbrev pub members : List (List ℕ) → List (Node F R) → List (Member R)
-  members names nodes = map member_of (zip names (filter_map instance_in nodes))
+  abbrev pub named_instances : List (List ℕ) → List (Node F R) → List (NamedInstance R)
+  named_instances names nodes = map instance_under (zip names (filter_map instance_in nodes))
 
   -- the lines of packets, answers and records
   unfoldable pub whole_lines : Semantics R → Head → Network (Node F R) Msg Note → List ℕ
   whole_lines f head world =
-      packet_lines f head.names world.log ++ answer_lines world.log ++ record_lines f (members head.names world.nodes)
+      packet_lines f head.names world.log ++ answer_lines world.log ++ record_lines f (named_instances head.names world.nodes)
 
   -- the same without packets, and counts in place of records
   unfoldable pub summary_lines : Head → Network (Node F R) Msg Note → List ℕ
-  summary_lines head world = answer_lines world.log ++ flat_map live_line (members head.names world.nodes)
+  summary_lines head world = answer_lines world.log ++ flat_map live_line (named_instances head.names world.nodes)
 
   -- the lines at the bottom
   unfoldable pub tail_lines : Head → List (Node F R) → List ℕ
-  tail_lines head nodes = flat_map (tally_line (length head.names)) (members head.names nodes) ++ codes "end\n"
+  tail_lines head nodes = flat_map (tally_line (length head.names)) (named_instances head.names nodes) ++ codes "end\n"
 
   -- the report of a world
   unfoldable pub report_text : Semantics R → Head → Bool → Network (Node F R) Msg Note → List ℕ

@@ -3,19 +3,19 @@
 use Rattle.std.specs.Prelude.{ℕ}
 use Rattle.std.specs.Borrow.{Bor}
 use Rattle.nf_msgs.specs.declared.answer.Answer.{Answer}
-use Rattle.run_report.specs.Lines.{Member, Entry}
-use Rattle.run_report.specs.declared.members.Member as code
-use Rattle.run_report.specs.declared.states.Entry as entry
+use Rattle.run_report.specs.Lines.{NamedInstance, NamedRecord}
+use Rattle.run_report.specs.declared.instances.NamedInstance as code
+use Rattle.run_report.specs.declared.states.NamedRecord as record_code
 
 module _ {F R : Type 0} where
-  -- a member, behind its references
-  abbrev pub member_seen : code.Member F R → Member R
-  member_seen m = record { name = m.name.now; table = m.instance.now.table; slots = m.instance.now.tally.slots }
+  -- a named instance, behind its references
+  abbrev pub instance_seen : code.NamedInstance F R → NamedInstance R
+  instance_seen i = record { name = i.name.now; table = i.instance.now.table; slots = i.instance.now.tally.slots }
 
 module _ {R : Type 0} where
-  -- an entry, behind its references
-  abbrev pub entry_seen : entry.Entry R → Entry R
-  entry_seen e = record { unit = e.unit; name = e.name.now; kept = e.kept.now }
+  -- a named record, behind its references
+  abbrev pub record_seen : record_code.NamedRecord R → NamedRecord R
+  record_seen r = record { unit = r.unit; name = r.name.now; kept = r.kept.now }
 
 -- an answer with its number, behind its reference
 abbrev pub answer_seen : ℕ × Bor Answer → ℕ × Answer

@@ -6,8 +6,8 @@
 #![tactic(auto)]
 
 pub mod head;
+pub mod instances;
 pub mod lines;
-pub mod members;
 pub mod reporting;
 pub mod states;
 pub mod units;

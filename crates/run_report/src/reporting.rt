@@ -1,10 +1,10 @@
 ghost use Rattle.std.specs.Prelude.{◌≡◌, ◌++◌, map, IfOk, OnOk};
-ghost use Rattle.run_report.specs.Lines.{members, report_text, summary_lines, tail_lines, whole_lines};
-ghost use Rattle.run_report.specs.Seen.{member_seen};
+ghost use Rattle.run_report.specs.Lines.{named_instances, report_text, summary_lines, tail_lines, whole_lines};
+ghost use Rattle.run_report.specs.Seen.{instance_seen};
 
 use crate::head::Head;
+use crate::instances::{NamedInstance, named_instances, push_lives, push_tallies};
 use crate::lines::{push_answers, push_packets};
-use crate::members::{Member, members, push_lives, push_tallies};
 use crate::states::push_records;
 use actor_net::World;
 use basics::{NoMemory, Text};
@@ -22,7 +22,7 @@ pub fn report<F: Function>(
 ) -> Result<Text, NoMemory>
     ensures { IfOk result (λ text. text ≡ report_text F.semantics head.now summary world.now) }
 {
-    let found = members(alloc, head.names.items(), world.nodes())?;
+    let found = named_instances(alloc, head.names.items(), world.nodes())?;
     let mut text = Text::open(alloc);
     head.push_lines(&mut text)?;
     if summary {
@@ -41,9 +41,9 @@ fn push_whole<F: Function>(
     text: &mut Text,
     head: &Head,
     world: &World<Node<F>>,
-    found: &[Member<'_, F>],
+    found: &[NamedInstance<'_, F>],
 ) -> Result<(), NoMemory>
-    requires { map member_seen found.now ≡ members head.now.names world.now.nodes }
+    requires { map instance_seen found.now ≡ named_instances head.now.names world.now.nodes }
     ensures { OnOk result (text.new ≡ text.old ++ whole_lines F.semantics head.now world.now) }
 {
     push_packets::<F>(alloc, text, head.names.items(), world.log())?;
@@ -58,9 +58,9 @@ fn push_summary<F: Function>(
     text: &mut Text,
     head: &Head,
     world: &World<Node<F>>,
-    found: &[Member<'_, F>],
+    found: &[NamedInstance<'_, F>],
 ) -> Result<(), NoMemory>
-    requires { map member_seen found.now ≡ members head.now.names world.now.nodes }
+    requires { map instance_seen found.now ≡ named_instances head.now.names world.now.nodes }
     ensures { OnOk result (text.new ≡ text.old ++ summary_lines head.now world.now) }
 {
     push_answers(alloc, text, world.log())?;
@@ -73,9 +73,9 @@ fn push_tail<F: Function>(
     text: &mut Text,
     head: &Head,
     world: &World<Node<F>>,
-    found: &[Member<'_, F>],
+    found: &[NamedInstance<'_, F>],
 ) -> Result<(), NoMemory>
-    requires { map member_seen found.now ≡ members head.now.names world.now.nodes }
+    requires { map instance_seen found.now ≡ named_instances head.now.names world.now.nodes }
     ensures { OnOk result (text.new ≡ text.old ++ tail_lines head.now world.now.nodes) }
 {
     push_tallies(text, head.names.items().len(), found)?;

@@ -1,10 +1,10 @@
 //! The lines of the records.
 ghost use Rattle.std.specs.Prelude.{◌≡◌, ◌++◌, map, IfOk, OnOk};
 ghost use Rattle.std.specs.List.{flat_map};
-ghost use Rattle.run_report.specs.Lines.{by_unit, entries_of, entry_line, record_lines};
-ghost use Rattle.run_report.specs.Seen.{entry_seen, member_seen};
+ghost use Rattle.run_report.specs.Lines.{by_unit, named_records, record_line, record_lines};
+ghost use Rattle.run_report.specs.Seen.{record_seen, instance_seen};
 
-use crate::members::Member;
+use crate::instances::NamedInstance;
 use crate::units::push_unit;
 use basics::{NoMemory, Text};
 use nf_function::{Function, Unit};
@@ -12,7 +12,7 @@ use std::alloc::Global;
 
 /// A record of an instance.
 #[derive(Drop)]
-pub(crate) struct Entry<'a, R> {
+pub(crate) struct NamedRecord<'a, R> {
     pub(crate) unit: Unit,
     /// The instance's name.
     pub(crate) name: &'a [u8],
@@ -24,74 +24,74 @@ pub(crate) struct Entry<'a, R> {
 pub(crate) fn push_records<F: Function>(
     alloc: Global,
     text: &mut Text,
-    members: &[Member<'_, F>],
+    instances: &[NamedInstance<'_, F>],
 ) -> Result<(), NoMemory>
-    ensures { OnOk result (text.new ≡ text.old ++ record_lines F.semantics (map member_seen members.now)) }
+    ensures { OnOk result (text.new ≡ text.old ++ record_lines F.semantics (map instance_seen instances.now)) }
 {
-    push_entries(alloc, text, b"state ", true, members)?;
-    push_entries(alloc, text, b"standby ", false, members)
+    push_record_lines(alloc, text, b"state ", true, instances)?;
+    push_record_lines(alloc, text, b"standby ", false, instances)
 }
 
 /// Puts a line that begins with a word for each live record, or each that stands by, after a text.
-fn push_entries<F: Function>(
+fn push_record_lines<F: Function>(
     alloc: Global,
     text: &mut Text,
     word: &[u8],
     live: bool,
-    members: &[Member<'_, F>],
+    instances: &[NamedInstance<'_, F>],
 ) -> Result<(), NoMemory>
-    ensures { OnOk result (text.new ≡ text.old ++ flat_map (entry_line F.semantics word.now) (by_unit live (map member_seen members.now))) }
+    ensures { OnOk result (text.new ≡ text.old ++ flat_map (record_line F.semantics word.now) (by_unit live (map instance_seen instances.now))) }
 {
-    let entries = entries_by_unit(alloc, live, members)?;
-    for entry in &entries {
-        push_entry::<F>(text, word, entry)?;
+    let records = records_by_unit(alloc, live, instances)?;
+    for record in &records {
+        push_record_line::<F>(text, word, record)?;
     }
     Ok(())
 }
 
 /// The records of all instances, by their units and then by the instances.
-fn entries_by_unit<'a, F: Function>(
+fn records_by_unit<'a, F: Function>(
     alloc: Global,
     live: bool,
-    members: &'a [Member<'_, F>],
-) -> Result<Vec<Entry<'a, F::Record>>, NoMemory>
-    ensures { IfOk result (λ found. map entry_seen found.items ≡ by_unit live (map member_seen members.entry.now)) }
+    instances: &'a [NamedInstance<'_, F>],
+) -> Result<Vec<NamedRecord<'a, F::Record>>, NoMemory>
+    ensures { IfOk result (λ found. map record_seen found.items ≡ by_unit live (map instance_seen instances.entry.now)) }
 {
-    let mut found = entries(alloc, live, members)?;
-    found.sort_by_key(|entry| entry.unit)?;
+    let mut found = all_records(alloc, live, instances)?;
+    found.sort_by_key(|record| record.unit)?;
     Ok(found)
 }
 
 /// The records of all instances, one instance after another.
-fn entries<'a, F: Function>(
+fn all_records<'a, F: Function>(
     alloc: Global,
     live: bool,
-    members: &'a [Member<'_, F>],
-) -> Result<Vec<Entry<'a, F::Record>>, NoMemory>
-    ensures { IfOk result (λ found. map entry_seen found.items ≡ flat_map (entries_of live) (map member_seen members.entry.now)) }
+    instances: &'a [NamedInstance<'_, F>],
+) -> Result<Vec<NamedRecord<'a, F::Record>>, NoMemory>
+    ensures { IfOk result (λ found. map record_seen found.items ≡ flat_map (named_records live) (map instance_seen instances.entry.now)) }
 {
     let mut found = Vec::new(alloc);
-    for member in members {
-        add_entries(&mut found, live, member)?;
+    for named in instances {
+        add_records(&mut found, live, named)?;
     }
     Ok(found)
 }
 
 /// Adds the records of an instance.
-fn add_entries<'a, F: Function>(
-    found: &mut Vec<Entry<'a, F::Record>>,
+fn add_records<'a, F: Function>(
+    found: &mut Vec<NamedRecord<'a, F::Record>>,
     live: bool,
-    member: &'a Member<'_, F>,
+    named: &'a NamedInstance<'_, F>,
 ) -> Result<(), NoMemory>
-    ensures { OnOk result (map entry_seen found.new.items ≡ map entry_seen found.old.items ++ entries_of live (member_seen member.entry.now)) }
+    ensures { OnOk result (map record_seen found.new.items ≡ map record_seen found.old.items ++ named_records live (instance_seen named.entry.now)) }
 {
-    let table = member.instance.table();
+    let table = named.instance.table();
     let units = table.units(live)?;
     for unit in units.items() {
         if let Some(kept) = table.record(unit, live) {
-            found.push(Entry {
+            found.push(NamedRecord {
                 unit: *unit,
-                name: member.name,
+                name: named.name,
                 kept,
             })?;
         }
@@ -99,19 +99,19 @@ fn add_entries<'a, F: Function>(
     Ok(())
 }
 
-#[tactic(auto, unfolding(crate::specs::Lines::entry_line))]
-fn push_entry<F: Function>(
+#[tactic(auto, unfolding(crate::specs::Lines::record_line))]
+fn push_record_line<F: Function>(
     text: &mut Text,
     word: &[u8],
-    entry: &Entry<'_, F::Record>,
+    named: &NamedRecord<'_, F::Record>,
 ) -> Result<(), NoMemory>
-    ensures { OnOk result (text.new ≡ text.old ++ entry_line F.semantics word.now (entry_seen entry.now)) }
+    ensures { OnOk result (text.new ≡ text.old ++ record_line F.semantics word.now (record_seen named.now)) }
 {
     text.push_bytes(word)?;
-    push_unit(text, &entry.unit)?;
+    push_unit(text, &named.unit)?;
     text.push_bytes(b" ")?;
-    text.push_bytes(entry.name)?;
+    text.push_bytes(named.name)?;
     text.push_bytes(b" ")?;
-    F::push_record(text, entry.kept)?;
+    F::push_record(text, named.kept)?;
     text.push_bytes(b"\n")
 }

@@ -1,7 +1,7 @@
 ghost use Rattle.std.specs.Prelude.{◌≡◌, ◌++◌, map, IfOk, OnOk, filter_map, length, take};
 ghost use Rattle.std.specs.List.{flat_map};
-ghost use Rattle.run_report.specs.Lines.{count_text, instance_in, live_line, members, tally_line};
-ghost use Rattle.run_report.specs.Seen.{member_seen};
+ghost use Rattle.run_report.specs.Lines.{count_text, instance_in, live_line, named_instances, tally_line};
+ghost use Rattle.run_report.specs.Seen.{instance_seen};
 
 use basics::{NoMemory, Text};
 use flow_filter::Name;
@@ -12,18 +12,18 @@ use std::alloc::Global;
 
 /// An instance under its name.
 #[derive(Drop)]
-pub(crate) struct Member<'a, F: Function> {
+pub(crate) struct NamedInstance<'a, F: Function> {
     pub(crate) name: &'a [u8],
     pub(crate) instance: &'a Instance<F>,
 }
 
 /// The instances among the nodes, each under the name at its place.
-pub(crate) fn members<'a, F: Function>(
+pub(crate) fn named_instances<'a, F: Function>(
     alloc: Global,
     names: &'a [Name],
     nodes: &'a [Node<F>],
-) -> Result<Vec<Member<'a, F>>, NoMemory>
-    ensures { IfOk result (λ found. map member_seen found.items ≡ members names.entry.now nodes.entry.now) }
+) -> Result<Vec<NamedInstance<'a, F>>, NoMemory>
+    ensures { IfOk result (λ found. map instance_seen found.items ≡ named_instances names.entry.now nodes.entry.now) }
 {
     let mut left = names;
     let mut found = Vec::new(alloc);
@@ -35,7 +35,7 @@ pub(crate) fn members<'a, F: Function>(
             break;
         };
         let name = name.items();
-        found.push(Member { name, instance })?;
+        found.push(NamedInstance { name, instance })?;
         left = more;
     }
     Ok(found)
@@ -44,37 +44,37 @@ pub(crate) fn members<'a, F: Function>(
 /// Puts the line of each instance's number of live records after a text.
 pub(crate) fn push_lives<F: Function>(
     text: &mut Text,
-    members: &[Member<'_, F>],
+    instances: &[NamedInstance<'_, F>],
 ) -> Result<(), NoMemory>
-    ensures { OnOk result (text.new ≡ text.old ++ flat_map live_line (map member_seen members.now)) }
+    ensures { OnOk result (text.new ≡ text.old ++ flat_map live_line (map instance_seen instances.now)) }
 {
-    for member in members {
-        push_live(text, member)?;
+    for named in instances {
+        push_live(text, named)?;
     }
     Ok(())
 }
 
 #[tactic(auto, unfolding(crate::specs::Lines::live_line))]
-fn push_live<F: Function>(text: &mut Text, member: &Member<'_, F>) -> Result<(), NoMemory>
-    ensures { OnOk result (text.new ≡ text.old ++ live_line (member_seen member.now)) }
+fn push_live<F: Function>(text: &mut Text, named: &NamedInstance<'_, F>) -> Result<(), NoMemory>
+    ensures { OnOk result (text.new ≡ text.old ++ live_line (instance_seen named.now)) }
 {
     text.push_bytes(b"live ")?;
-    text.push_bytes(member.name)?;
+    text.push_bytes(named.name)?;
     text.push_bytes(b" ")?;
-    text.push_decimal(u64::from(member.instance.table().live_count()))?;
+    text.push_decimal(u64::from(named.instance.table().live_count()))?;
     text.push_bytes(b"\n")
 }
 
 /// Puts the line of each instance's tally after a text, with so many of its counts.
 pub(crate) fn push_tallies<F: Function>(
     text: &mut Text,
-    instances: usize,
-    members: &[Member<'_, F>],
+    count: usize,
+    instances: &[NamedInstance<'_, F>],
 ) -> Result<(), NoMemory>
-    ensures { OnOk result (text.new ≡ text.old ++ flat_map (tally_line instances) (map member_seen members.now)) }
+    ensures { OnOk result (text.new ≡ text.old ++ flat_map (tally_line count) (map instance_seen instances.now)) }
 {
-    for member in members {
-        push_tally(text, instances, member)?;
+    for named in instances {
+        push_tally(text, count, named)?;
     }
     Ok(())
 }
@@ -82,25 +82,25 @@ pub(crate) fn push_tallies<F: Function>(
 #[tactic(auto, unfolding(crate::specs::Lines::tally_line))]
 fn push_tally<F: Function>(
     text: &mut Text,
-    instances: usize,
-    member: &Member<'_, F>,
+    count: usize,
+    named: &NamedInstance<'_, F>,
 ) -> Result<(), NoMemory>
-    ensures { OnOk result (text.new ≡ text.old ++ tally_line instances (member_seen member.now)) }
+    ensures { OnOk result (text.new ≡ text.old ++ tally_line count (instance_seen named.now)) }
 {
     text.push_bytes(b"tally ")?;
-    text.push_bytes(member.name)?;
-    push_counts(text, instances, &member.instance.tally())?;
+    text.push_bytes(named.name)?;
+    push_counts(text, count, &named.instance.tally())?;
     text.push_bytes(b"\n")
 }
 
 /// Puts the first counts of a tally after a text.
-fn push_counts(text: &mut Text, instances: usize, tally: &Tally) -> Result<(), NoMemory>
-    ensures { OnOk result (text.new ≡ text.old ++ flat_map count_text (take instances tally.now.slots)) }
+fn push_counts(text: &mut Text, count: usize, tally: &Tally) -> Result<(), NoMemory>
+    ensures { OnOk result (text.new ≡ text.old ++ flat_map count_text (take count tally.now.slots)) }
 {
     let slots = &tally.slots;
-    for count in &slots[..instances.min(slots.len())] {
+    for slot in &slots[..count.min(slots.len())] {
         text.push_bytes(b" ")?;
-        text.push_decimal(*count)?;
+        text.push_decimal(*slot)?;
     }
     Ok(())
 }

@@ -1,5 +1,5 @@
 -- The records of a table are those that its keys are looked up to.
-use Rattle.std.proofs.Common.{◌≡◌, Bool, true, false, cond, List, [], ◌∷◌, map, Option, Some, option_map, refl, sym, ap, ◌∙◌}
+use Rattle.std.proofs.Common.{◌≡◌, ℕ, ◌≤◌, ◌++◌, drop, length, Bool, true, false, cond, List, [], ◌∷◌, map, Option, Some, option_map, refl, sym, ap, ◌∙◌}
 use Rattle.std.specs.Prelude.{T, ◌&&◌}
 use Rattle.std.specs.List.{filter_map, AllByRecursion}
 use Rattle.std.specs.Ordering.{is_lt, is_eq, eq_by_cmp, ordering_reverse}
@@ -12,7 +12,8 @@ use Rattle.nf_function.specs.declared.unit.Unit as units
 use Rattle.nf_function.specs.Units.{unit_cmp}
 use Rattle.nf_function.specs.UnitOrder.{units_total}
 use Rattle.record_table.specs.Table.{Records, part}
-use Rattle.run_report.specs.Lines.{Member, Entry, entries_of}
+use Rattle.run_report.proofs.Endings.{all_done}
+use Rattle.run_report.specs.Lines.{NamedInstance, NamedRecord, named_records}
 
 left_true : (a b : Bool) → T (a && b) → T a
 left_true true b h = tt
@@ -65,11 +66,20 @@ module _ {R : Type 0} where
   looked_up m (e ∷ es) found = (get-entries m e.0 ∙ found.0, looked_up m es found.1)
 
   -- the record that is looked up for a unit
-  abbrev pub entry_at : Bool → Member R → units.Unit → Option (Entry R)
-  entry_at live member unit = option_map (λ r. record { unit = unit; name = member.name; kept = r }) (finite.get (part member.table live) unit)
+  abbrev pub record_at : Bool → NamedInstance R → units.Unit → Option (NamedRecord R)
+  record_at live instance unit = option_map (λ r. record { unit = unit; name = instance.name; kept = r }) (finite.get (part instance.table live) unit)
 
-  pub all_at : (live : Bool) (member : Member R) → filter_map (entry_at live member) (finite.keys (part member.table live)) ≡ entries_of live member
-  all_at live member =
-      let m : Records R = part member.table live in
-      all_made (λ u r. record { unit = u; name = member.name; kept = r }) (finite.get m) (finite.entries m)
+  all_at : (live : Bool) (instance : NamedInstance R) → filter_map (record_at live instance) (finite.keys (part instance.table live)) ≡ named_records live instance
+  all_at live instance =
+      let m : Records R = part instance.table live in
+      all_made (λ u r. record { unit = u; name = instance.name; kept = r }) (finite.get m) (finite.entries m)
       (looked_up m (finite.entries m) (each_found (finite.entries m) (entries_sorted m)))
+
+  -- the records of a table are added to others, unit by unit
+  pub all_added : (live : Bool) (instance : NamedInstance R) (before after : List (NamedRecord R)) (i : ℕ) (us : List units.Unit)
+      → us ≡ finite.keys (part instance.table live) → length us ≤ i
+      → after ++ filter_map (record_at live instance) (drop i us) ≡ before ++ filter_map (record_at live instance) us → after ≡ before ++ named_records live instance
+  all_added live instance before after i us keys past is =
+      all_done (filter_map (record_at live instance)) refl after (before ++ filter_map (record_at live instance) us) i us past is
+      ∙ ap (λ l. before ++ filter_map (record_at live instance) l) keys
+      ∙ ap (λ l. before ++ l) (all_at live instance)
