@@ -1,14 +1,17 @@
-ghost use Rattle.std.specs.Prelude.{◌≡◌, length, IfOk};
+ghost use Rattle.std.specs.Prelude.{◌≡◌, ◌<◌, length, IfOk};
 ghost use Rattle.nf_net.specs.Start.{IsConfig};
 
 use crate::{Head, report};
-use actor_net::{Schedule, run_schedule};
+use actor_net::{Actor, Outbox, Schedule, World, run_schedule};
 use basics::{Boxed, NoMemory, Text};
 use conn_tracker::Conntrack;
+use event_filter::Mark;
 use flow_filter::{Filter, Name, Packet, Prefix, Sequence, Site, UDP};
+use instance_worker::Instance;
 use nf_function::Kind;
 use nf_msgs::{Command, Msg, Names, Order};
-use nf_net::{Config, start};
+use nf_net::{Config, Node, start};
+use packet_pool::Pool;
 use std::alloc::Global;
 use std::test::Fail;
 
@@ -134,16 +137,21 @@ fn config(alloc: Global) -> Result<Config, Fail>
     })
 }
 
-/// The report of the run with this input. The schedule takes the first choice, so that the switch reads on before a takes packets, and a before b.
-fn reported(alloc: Global, words: &[Word], summary: bool) -> Result<Text, Fail> {
-    let head = Head {
+/// What the reports repeat.
+fn head(alloc: Global) -> Result<Head, Fail> {
+    Ok(Head {
         kind: Kind::Conntrack,
         names: names(alloc)?,
         window: 4,
         packets: 4,
         skipped: 2,
         cut: true,
-    };
+    })
+}
+
+/// The report of the run with this input. The schedule takes the first choice, so that the switch reads on before a takes packets, and a before b.
+fn reported(alloc: Global, words: &[Word], summary: bool) -> Result<Text, Fail> {
+    let head = head(alloc)?;
     let world = start::<Conntrack>(alloc, &config(alloc)?, input(alloc, words)?)?;
     let (world, _choices) = run_schedule(alloc, world, Schedule::First)?;
     Ok(report(alloc, &head, &world, summary)?)
@@ -203,5 +211,51 @@ end
 ";
     let text = reported(rt.alloc(), &WORDS, true)?;
     assert_eq!(rt; text.items(), summary.as_bytes());
+    Ok(())
+}
+
+/// The message of a packet of a share whose home is elsewhere.
+fn shared(alloc: Global, h: u8) -> Result<Msg, Fail> {
+    let packet = Boxed::new(alloc, packet(1, host(h), 5000, PEER, 53))?;
+    match Pool::open(0, 1).take(packet) {
+        Ok(parcel) => Ok(Msg::Carry {
+            mark: Mark::Shared { op: 1, home: false },
+            parcel,
+        }),
+        Err(_packet) => Err("no cell".into()),
+    }
+}
+
+/// An instance at which the records of 10.0.0.2 and 10.0.0.1 stand by.
+fn standing_by(alloc: Global, index: u8) -> Result<Node<Conntrack>, Fail>
+    requires { index < 16 }
+{
+    let mut instance = Instance::open(alloc, index, 9, false, SITE);
+    let mut out = Outbox::open(alloc);
+    instance.step(0, shared(alloc, 2)?, &mut out)?;
+    instance.step(0, shared(alloc, 1)?, &mut out)?;
+    Ok(Node::Instance(instance))
+}
+
+#[test]
+fn records_that_stand_by_have_lines_by_unit_and_then_instance(rt: HostRuntime) -> Result<(), Fail> {
+    let alloc = rt.alloc();
+    let mut nodes = Vec::new(alloc);
+    nodes.push(standing_by(alloc, 0)?)?;
+    nodes.push(standing_by(alloc, 1)?)?;
+    let world = World::start(alloc, nodes, Vec::new(alloc))?;
+    let text = report(alloc, &head(alloc)?, &world, false)?;
+    let whole = "opennf report 1
+function conntrack instances 2 window 4
+trace packets 4 skipped 2 cut
+standby udp 10.0.0.1:5000 192.0.2.9:53 a single out packets 1 bytes 20
+standby udp 10.0.0.1:5000 192.0.2.9:53 b single out packets 1 bytes 20
+standby udp 10.0.0.2:5000 192.0.2.9:53 a single out packets 1 bytes 20
+standby udp 10.0.0.2:5000 192.0.2.9:53 b single out packets 1 bytes 20
+tally a 2 0
+tally b 0 2
+end
+";
+    assert_eq!(rt; text.items(), whole.as_bytes());
     Ok(())
 }
