@@ -1,0 +1,19 @@
+//! The report of a run: what the network was, each packet's output, where and in which order packets were processed, the answers
+//! of the operator's commands, and the records and the tally that each instance holds.
+//!
+//! Contracts see a [`Head`] as its fields. This crate touches nothing but memory. The main promise is that of [`report`]: its text is
+//! `report_text` of the world's log and nodes, for each world, also for one that isn't at its end.
+#![tactic(auto)]
+
+pub mod head;
+pub mod instances;
+pub mod lines;
+pub mod reporting;
+pub mod states;
+pub mod units;
+
+pub use head::Head;
+pub use reporting::report;
+
+#[cfg(test)]
+mod tests;

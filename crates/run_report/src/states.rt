@@ -1,0 +1,117 @@
+//! The lines of the records.
+ghost use Rattle.std.specs.Prelude.{◌≡◌, ◌++◌, map, IfOk, OnOk};
+ghost use Rattle.std.specs.List.{flat_map};
+ghost use Rattle.run_report.specs.Lines.{by_unit, named_records, record_line, record_lines};
+ghost use Rattle.run_report.specs.Seen.{record_seen, instance_seen};
+
+use crate::instances::NamedInstance;
+use crate::units::push_unit;
+use basics::{NoMemory, Text};
+use nf_function::{Function, Unit};
+use std::alloc::Global;
+
+/// A record of an instance.
+#[derive(Drop)]
+pub(crate) struct NamedRecord<'a, R> {
+    pub(crate) unit: Unit,
+    /// The instance's name.
+    pub(crate) name: &'a [u8],
+    pub(crate) kept: &'a R,
+}
+
+/// Puts the lines of the records after a text.
+#[tactic(auto, unfolding(crate::specs::Lines::record_lines))]
+pub(crate) fn push_records<F: Function>(
+    alloc: Global,
+    text: &mut Text,
+    instances: &[NamedInstance<'_, F>],
+) -> Result<(), NoMemory>
+    ensures { OnOk result (text.new ≡ text.old ++ record_lines F.semantics (map instance_seen instances.now)) }
+{
+    push_record_lines(alloc, text, b"state ", true, instances)?;
+    push_record_lines(alloc, text, b"standby ", false, instances)
+}
+
+/// Puts a line that begins with a word for each live record, or each that stands by, after a text.
+fn push_record_lines<F: Function>(
+    alloc: Global,
+    text: &mut Text,
+    word: &[u8],
+    live: bool,
+    instances: &[NamedInstance<'_, F>],
+) -> Result<(), NoMemory>
+    ensures { OnOk result (text.new ≡ text.old ++ flat_map (record_line F.semantics word.now) (by_unit live (map instance_seen instances.now))) }
+{
+    let records = records_by_unit(alloc, live, instances)?;
+    for record in &records {
+        push_record_line::<F>(text, word, record)?;
+    }
+    Ok(())
+}
+
+/// The records of all instances, by their units and then by the instances.
+fn records_by_unit<'a, F: Function>(
+    alloc: Global,
+    live: bool,
+    instances: &'a [NamedInstance<'_, F>],
+) -> Result<Vec<NamedRecord<'a, F::Record>>, NoMemory>
+    ensures { IfOk result (λ found. map record_seen found.items ≡ by_unit live (map instance_seen instances.entry.now)) }
+{
+    let mut found = all_records(alloc, live, instances)?;
+    found.sort_by_key(|record| record.unit)?;
+    Ok(found)
+}
+
+/// The records of all instances, one instance after another.
+fn all_records<'a, F: Function>(
+    alloc: Global,
+    live: bool,
+    instances: &'a [NamedInstance<'_, F>],
+) -> Result<Vec<NamedRecord<'a, F::Record>>, NoMemory>
+    ensures { IfOk result (λ found. map record_seen found.items ≡ flat_map (named_records live) (map instance_seen instances.entry.now)) }
+{
+    let mut found = Vec::new(alloc);
+    for named in instances {
+        add_records(&mut found, live, named)?;
+    }
+    Ok(found)
+}
+
+/// Adds the records of an instance.
+fn add_records<'a, F: Function>(
+    found: &mut Vec<NamedRecord<'a, F::Record>>,
+    live: bool,
+    named: &'a NamedInstance<'_, F>,
+) -> Result<(), NoMemory>
+    ensures { OnOk result (map record_seen found.new.items ≡ map record_seen found.old.items ++ named_records live (instance_seen named.entry.now)) }
+{
+    let table = named.instance.table();
+    let units = table.units(live)?;
+    for unit in units.items() {
+        if let Some(kept) = table.record(unit, live) {
+            found.push(NamedRecord {
+                unit: *unit,
+                name: named.name,
+                kept,
+            })?;
+        }
+    }
+    Ok(())
+}
+
+#[tactic(auto, unfolding(crate::specs::Lines::record_line))]
+fn push_record_line<F: Function>(
+    text: &mut Text,
+    word: &[u8],
+    named: &NamedRecord<'_, F::Record>,
+) -> Result<(), NoMemory>
+    ensures { OnOk result (text.new ≡ text.old ++ record_line F.semantics word.now (record_seen named.now)) }
+{
+    text.push_bytes(word)?;
+    push_unit(text, &named.unit)?;
+    text.push_bytes(b" ")?;
+    text.push_bytes(named.name)?;
+    text.push_bytes(b" ")?;
+    F::push_record(text, named.kept)?;
+    text.push_bytes(b"\n")
+}
