@@ -1,5 +1,5 @@
 -- Only the switch notes that packets arrived: one note for each packet of the input that it takes.
-use Rattle.std.proofs.Common.{◌≡◌, ℕ, ◌+◌, ◌-◌, Bool, true, false, Option, Some, None, List, [], ◌∷◌, ◌++◌, length, refl, ap, ◌∙◌}
+use Rattle.std.proofs.Common.{◌≡◌, ℕ, ◌-◌, Bool, true, false, Option, Some, None, List, [], ◌∷◌, ◌++◌, length, refl, ap, ◌∙◌}
 use Rattle.std.specs.Prelude.{if◌then◌else◌, ◌&&◌, ◌||◌, ◌==◌, not, nat_lt, Result, Ok, Err}
 use Rattle.std.specs.FinMap as finite
 use Rattle.flow_filter.specs.declared.filter.Filter.{Filter}

@@ -1,30 +1,30 @@
 -- The controller's step on a message of an operation, as the proof of moves sees it.
-use Rattle.std.proofs.Common.{◌≡◌, ℕ, Bool, true, false, Option, Some, None, List, [], ◌∷◌, ◌++◌, map, refl, sym, ap, ◌∙◌, subst, append-nil, arith, eqb}
-use Rattle.std.specs.Prelude.{if◌then◌else◌, ◌==◌, cond, unwrap_or}
-use Rattle.std.specs.Ordering.{nat_cmp, eq_by_cmp}
+use Rattle.std.proofs.Common.{◌≡◌, ℕ, Bool, true, false, Option, Some, None, List, [], ◌∷◌, map, refl, sym, ap, ◌∙◌, subst, append-nil, arith, eqb}
+use Rattle.std.specs.Prelude.{◌==◌, cond, unwrap_or}
+use Rattle.std.specs.Ordering.{nat_cmp}
 use Rattle.std.specs.Cmp.{nat_cmp_total}
 use Rattle.std.specs.FinMap as finite
 use Rattle.std.proofs.lemmas.Bool.Decides.{nat_tests, Decides-eqb}
 use Rattle.nf_function.specs.Semantics.{Semantics}
 use Rattle.packet_pool.specs.Pool.{FullCell}
-use Rattle.event_store.specs.Store.{stored, with_parcels}
+use Rattle.event_store.specs.Store.{stored}
 use Rattle.event_store.proofs.StoreLookUps.{order_test, stored-with_parcels}
 use Rattle.nf_msgs.specs.declared.answer.Answer.{Answer}
 use Rattle.nf_msgs.specs.declared.msg.Msg.{Msg}
 use Rattle.nf_msgs.specs.declared.msg.Msg.TheVariants as msg
 use Rattle.move_op.specs.declared.phase.Phase.{Phase}
 use Rattle.move_op.specs.declared.phase.Phase.TheVariants as phase
-use Rattle.move_op.specs.Move.{MoveState, Row, row, row_in, store_after, answer_of}
+use Rattle.move_op.specs.Move.{MoveState, row, row_in, store_after, answer_of}
 use Rattle.ctrl_node.specs.declared.operation.Operation.{Operation}
 use Rattle.ctrl_node.specs.declared.operation.Operation.TheVariants.{Move}
 use Rattle.ctrl_node.specs.Operations.{OpenOperations, Turn, turn_of, moved}
 use Rattle.nf_msgs.specs.Nodes.{switch_node}
-use Rattle.ctrl_node.specs.Controller.{ControllerState, Step, turned, closed, after_turn, takes_turn, handed}
+use Rattle.ctrl_node.specs.Controller.{ControllerState, Step, after_turn, takes_turn, handed}
 use Rattle.unit_machine.proofs.Real as real
 use Rattle.unit_machine.proofs.Real.{RPhase}
 use Rattle.abstract_net.proofs.Net.{Open, C_step, find_op, write_op, found, wrap}
 use Rattle.abstract_net.proofs.Net as net
-use Rattle.abstract_net.proofs.Ctrl.{find_close, find_set, find_write_other, each_found}
+use Rattle.abstract_net.proofs.Ctrl.{find_close, find_set, find_write_other}
 use Rattle.nf_net.proofs.Outline.{number, outline_sent, outline_sends}
 use Rattle.nf_net.proofs.InstanceOutline.{filter_map-put}
 use Rattle.nf_net.proofs.MoveOutline.{outline_plan, outline_phase, refused_by, RowFollows}

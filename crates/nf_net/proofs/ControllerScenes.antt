@@ -37,7 +37,7 @@ rising_drop b (net.Fence_on p) rest ks h = h
 rising_drop b (net.Mv g m) rest ks h = h
 
 pub rising_behind : {R : Type 0} (b : ℕ) (t : Bool) (l rest : List (net.Msg R)) (a : net.Msg R) (ks : List ℕ) → (t ≡ true → l ≡ a ∷ rest) → Rising b (nums l ++ ks) → Rising b (nums (behind t l ++ []) ++ ks)
-rising_behind b true l rest a ks at h = subst (λ xs. Rising b (nums xs ++ ks)) (sym (append-nil (behind true l)) ) (let here = at refl in rw here (rising_drop b a rest ks (subst (λ xs. Rising b (nums xs ++ ks)) here h)))
+rising_behind b true l rest a ks at h = subst (λ xs. Rising b (nums xs ++ ks)) (sym (append-nil (behind true l))) (let here = at refl in rw here (rising_drop b a rest ks (subst (λ xs. Rising b (nums xs ++ ks)) here h)))
 rising_behind b false l rest a ks at h = subst (λ xs. Rising b (nums xs ++ ks)) (sym (append-nil l)) h
 
 pub sent-append : {M : Type 0} (P : ℕ → ℕ → M → Type 0) (s : ℕ) (xs ys : List (ℕ × M)) → EachSent P s xs → EachSent P s ys → EachSent P s (xs ++ ys)

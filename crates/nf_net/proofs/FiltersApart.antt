@@ -1,12 +1,12 @@
 -- Filters of moves: which units a filter takes, where it splits none, and that two filters that don't meet take no unit both.
-use Rattle.std.proofs.Common.{◌≡◌, ℕ, ◌<◌, ◌^◌, Bool, true, false, Option, Some, None, refl, sym, ap, ◌∙◌, subst, lit<}
-use Rattle.std.specs.Prelude.{◌&&◌, ◌||◌, ◌==◌, not, nat_lt, is_some, IfNone}
+use Rattle.std.proofs.Common.{◌≡◌, ℕ, ◌<◌, ◌^◌, Bool, true, false, Option, Some, None, refl, sym, ◌∙◌, subst, lit<}
+use Rattle.std.specs.Prelude.{◌&&◌, ◌||◌, not, nat_lt, is_some}
 use Rattle.std.specs.Option.{ForSome}
 use Rattle.std.proofs.lemmas.Bool.Decides.{Decides-ltb}
 use Rattle.flow_filter.specs.declared.filter.Filter.{Filter}
 use Rattle.flow_filter.specs.declared.flow.Flow.{Flow}
 use Rattle.flow_filter.specs.declared.prefix.Prefix.{Prefix}
-use Rattle.flow_filter.specs.Filter.{matches, meet, meets, agrees, holds, IsFlow, IsFilter, Meet}
+use Rattle.flow_filter.specs.Filter.{matches, meet, meets, agrees, holds, IsFlow, IsFilter}
 use Rattle.flow_filter.proofs.FilterLemmas.{meet_clauses}
 use Rattle.flow_filter.proofs.FilterMeets.{some-meet}
 use Rattle.nf_function.specs.declared.kind.Kind.{Kind}

@@ -1,18 +1,17 @@
 -- Items of an input are found by their numbers, and their flows and filters are such as the proof of moves looks at.
-use Rattle.std.proofs.Common.{◌≡◌, ℕ, suc, ◌<◌, ◌≤◌, ◌^◌, Bool, true, false, Option, Some, None, List, [], ◌∷◌, map, refl, sym, ap, ◌∙◌, arith}
-use Rattle.std.specs.Prelude.{if◌then◌else◌, ◌&&◌, ◌||◌, ◌==◌, not, nat_lt, is_some, option_map, find}
+use Rattle.std.proofs.Common.{◌≡◌, ℕ, suc, ◌<◌, ◌≤◌, ◌^◌, Bool, true, false, Option, Some, None, List, [], ◌∷◌, map, refl, arith}
+use Rattle.std.specs.Prelude.{if◌then◌else◌, ◌&&◌, ◌||◌, ◌==◌, not, is_some, option_map, find}
 use Rattle.std.specs.Option.{ForSome}
 use Rattle.std.proofs.lemmas.Bool.Decides.{nat_tests, Decides-ltb}
 use Rattle.flow_filter.specs.declared.filter.Filter.{Filter}
 use Rattle.flow_filter.specs.declared.flow.Flow.{Flow}
 use Rattle.flow_filter.specs.declared.prefix.Prefix.{Prefix}
 use Rattle.flow_filter.specs.Filter.{IsFilter, IsFlow}
-use Rattle.flow_filter.specs.FilterText.{fields_of}
 use Rattle.nf_function.specs.declared.kind.Kind.{Kind}
-use Rattle.nf_function.specs.Units.{has_hosts, splits}
+use Rattle.nf_function.specs.Units.{has_hosts}
 use Rattle.unit_machine.proofs.Labels.{Each}
 use Rattle.nf_net.specs.Input.{IsRising, IsWhole}
-use Rattle.nf_net.proofs.FiltersApart.{number_fits, prefix_fits, filter_fits, flow_fits, is_whole, local_alone}
+use Rattle.nf_net.proofs.FiltersApart.{number_fits, prefix_fits, filter_fits, flow_fits, is_whole}
 
 pub each_both : {X : Type 0} {P Q T : X → Type 0} → ((x : X) → P x → Q x → T x) → (xs : List X) → Each P xs → Each Q xs → Each T xs
 each_both g [] p q = tt

@@ -1,6 +1,6 @@
 -- The outline of an instance's step on a packet, a fence or an event rule is the step of `abstract_net`.
-use Rattle.std.proofs.Common.{◌≡◌, ℕ, Bool, true, false, Option, Some, None, List, [], ◌∷◌, ◌++◌, map, filter, length, refl, sym, ap, ◌∙◌, subst, append-nil}
-use Rattle.std.specs.Prelude.{if◌then◌else◌, ◌==◌, not, find, is_some, option_map}
+use Rattle.std.proofs.Common.{◌≡◌, ℕ, true, false, Option, Some, None, List, [], ◌∷◌, ◌++◌, map, filter, refl, sym, ap, ◌∙◌, subst, append-nil}
+use Rattle.std.specs.Prelude.{if◌then◌else◌, ◌==◌, not, is_some, option_map}
 use Rattle.std.specs.Option.{option_map_or}
 use Rattle.std.specs.List.{filter_map}
 use Rattle.std.specs.FinMap as finite
@@ -15,7 +15,6 @@ use Rattle.nf_function.specs.Semantics.{Semantics, unit_at}
 use Rattle.record_table.specs.Table.{Records, after_packet}
 use Rattle.event_filter.specs.declared.action.Action.{Action}
 use Rattle.event_filter.specs.declared.action.Action.TheVariants as action
-use Rattle.event_filter.specs.declared.decide.Decide.{Decide}
 use Rattle.event_filter.specs.declared.mark.Mark.TheVariants as mark
 use Rattle.event_filter.specs.declared.rule.Rule.{Rule as EventRule}
 use Rattle.event_filter.specs.Rules as rules

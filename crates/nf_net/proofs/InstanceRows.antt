@@ -146,9 +146,9 @@ module _ {F R : Type 0} (f : Semantics R) (laws : FunctionLaws f) (g : Given) (f
   unfolding on_fence
   fence_leaves i op h =
       let without = with_rules i (rules.without i.rules op) h
-          (rules_without (λ x. is_whole f.kind x.filter ≡ true) op i.rules h.rules.whole)
-          (rules_without (λ x. Each (Genuine f g) x.held) op i.rules h.rules.held)
-          (rules_without (λ x. is_free (rule_of x.action) ≡ false) op i.rules h.held) in
+      (rules_without (λ x. is_whole f.kind x.filter ≡ true) op i.rules h.rules.whole)
+      (rules_without (λ x. Each (Genuine f g) x.held) op i.rules h.rules.held)
+      (rules_without (λ x. is_free (rule_of x.action) ≡ false) op i.rules h.held) in
       let cells = rules.held_at i.rules op in
       let all = all_right (record i { rules = rules.without i.rules op }) cells without (held_genuine g.site g.packet op i.rules h.rules.held) in
       record {

@@ -23,7 +23,6 @@ use Rattle.instance_worker.specs.Instance.{told}
 use Rattle.actor_net.proofs.WeightLaws.{EachSent}
 use Rattle.unit_machine.proofs.Labels.{Each}
 use Rattle.unit_machine.proofs.Real.{Chunks}
-use Rattle.nf_net.proofs.Outline.{entries}
 use Rattle.nf_net.proofs.StateOutline.{chunk_of, AreValid, entries_made, valid_take, valid_drop, map-take, map-drop, all_each}
 use Rattle.nf_net.proofs.InstanceKeeps.{unit_is_fit}
 use Rattle.nf_net.proofs.Joined.{Given, IsGoodChunk, AreGoodChunks, IsGoodPiece, Label}
@@ -82,9 +81,9 @@ module _ {R : Type 0} (f : Semantics R) (laws : FunctionLaws f) (g : Given) wher
       elim (nat_le (length (map (chunk_of f laws) es)) 64) as (λ b. Each (IsGoodPiece f g) (if b then piece_of whole true (map (chunk_of f laws) es) ∷ [] else piece_of whole false (take 64 (map (chunk_of f laws) es)) ∷ cut whole n (drop 64 (map (chunk_of f laws) es)))) [
         | true ↦ (one_good whole true es few valid distinct, tt)
         | false ↦ rw (map-take f laws 64 es, map-drop f laws 64 es) (
-            one_good whole false (take 64 es) (let front = front_few 64 es in omega (arith, front, few)) (valid_take f laws 64 es valid) (distinct_take 64 es distinct),
-            cut_good whole n (drop 64 es) (let rest = length-drop 64 es in omega (arith, rest, few)) (valid_drop f laws 64 es valid) (distinct_drop 64 es distinct),
-          )
+          one_good whole false (take 64 es) (let front = front_few 64 es in omega (arith, front, few)) (valid_take f laws 64 es valid) (distinct_take 64 es distinct),
+          cut_good whole n (drop 64 es) (let rest = length-drop 64 es in omega (arith, rest, few)) (valid_drop f laws 64 es valid) (distinct_drop 64 es distinct),
+        )
       ]
 
   taken_good : (g' : Filter) (live : Records R) → AreSound f live → Each (IsGoodPiece f g) (pieces (chunks_of f (taken_by g' live)))

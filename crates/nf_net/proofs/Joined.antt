@@ -1,19 +1,17 @@
 -- What holds of each world of a run: a world of the abstract network shows it, and its messages and nodes are such as come in a
 -- run of moves.
-use Rattle.std.proofs.Common.{◌≡◌, ◌≢◌, ℕ, zero, suc, ◌+◌, ◌<◌, ◌≤◌, Bool, true, false, Option, Some, None, List, [], ◌∷◌, ◌++◌, map, length, get_or}
-use Rattle.std.specs.Prelude.{if◌then◌else◌, ◌&&◌, ◌||◌, ◌==◌, not, nat_lt}
+use Rattle.std.proofs.Common.{◌≡◌, ◌≢◌, ℕ, zero, suc, ◌+◌, ◌<◌, ◌≤◌, Bool, true, false, Option, Some, None, List, [], ◌∷◌, ◌++◌, length, get_or}
+use Rattle.std.specs.Prelude.{if◌then◌else◌, ◌&&◌, ◌==◌, not, nat_lt}
 use Rattle.std.specs.List.{filter_map, IsDistinct}
 use Rattle.std.specs.Map.{keys_of}
 use Rattle.std.specs.Str.{bytes_eq}
 use Rattle.std.specs.FinMap as finite
-use Rattle.flow_filter.specs.declared.filter.Filter.{Filter}
 use Rattle.flow_filter.specs.declared.packet.Packet.{Packet}
 use Rattle.flow_filter.specs.declared.site.Site.{Site}
 use Rattle.nf_function.specs.declared.chunk.Chunk.{Chunk}
 use Rattle.nf_function.specs.declared.unit.Unit as units
 use Rattle.nf_function.specs.Semantics.{Semantics, unit_at}
 use Rattle.record_table.specs.Table.{same_unit}
-use Rattle.event_filter.specs.declared.action.Action.{Action}
 use Rattle.event_filter.specs.declared.mark.Mark.{Mark}
 use Rattle.event_filter.specs.declared.mark.Mark.TheVariants as mark
 use Rattle.event_store.specs.Store.{stored}
@@ -33,9 +31,8 @@ use Rattle.move_op.specs.declared.door.Door.{Door}
 use Rattle.move_op.specs.declared.door.Door.TheVariants as door
 use Rattle.move_op.specs.declared.phase.Phase.{Phase}
 use Rattle.move_op.specs.declared.phase.Phase.TheVariants as phase
-use Rattle.move_op.specs.Move.{MovePlan, MoveState}
+use Rattle.move_op.specs.Move.{MoveState}
 use Rattle.switch_node.specs.Switch.{SwitchState, takes_in}
-use Rattle.ctrl_node.specs.declared.operation.Operation.{Operation}
 use Rattle.ctrl_node.specs.declared.operation.Operation.TheVariants.{Move}
 use Rattle.ctrl_node.specs.Controller.{ControllerState, place_of}
 use Rattle.instance_worker.specs.declared.instance.Instance.{Instance as InstanceState}

@@ -1,6 +1,6 @@
 -- A choice that is taken leads from a world of a run to one, by the step of its node.
-use Rattle.std.proofs.Common.{◌≡◌, ◌≢◌, ℕ, zero, suc, ◌+◌, ◌<◌, ◌≤◌, Bool, true, false, Option, Some, None, List, [], ◌∷◌, ◌++◌, get_or, refl, sym, ap, ◌∙◌, subst, append-nil, arith}
-use Rattle.std.specs.Prelude.{if◌then◌else◌, ◌&&◌, ◌==◌, nat_lt, not}
+use Rattle.std.proofs.Common.{◌≡◌, ◌≢◌, ℕ, zero, suc, ◌+◌, Bool, true, false, Option, Some, None, List, [], ◌∷◌, ◌++◌, get_or, refl, sym, ap, ◌∙◌, subst, append-nil, arith}
+use Rattle.std.specs.Prelude.{◌&&◌, ◌==◌, nat_lt, not}
 use Rattle.std.specs.List.{filter_map}
 use Rattle.std.proofs.lemmas.Bool.Decides.{nat_tests, Decides-eqb}
 use Rattle.nf_function.specs.Records.{Fits, Laws as FunctionLaws}
@@ -8,7 +8,7 @@ use Rattle.nf_function.specs.Semantics.{Semantics}
 use Rattle.nf_msgs.specs.declared.msg.Msg.{Msg}
 use Rattle.nf_msgs.specs.declared.note.Note.{Note}
 use Rattle.actor_net.specs.declared.choice.Choice.{Choice}
-use Rattle.actor_net.specs.Network.{Network, Stepped, IsWorld, is_input, waiting, taken}
+use Rattle.actor_net.specs.Network.{Network, Stepped, is_input, waiting, taken}
 use Rattle.actor_net.proofs.EnabledChoices.{at}
 use Rattle.actor_net.proofs.LinkLemmas.{put_on_link}
 use Rattle.actor_net.proofs.WaitingMessages.{less_first}
@@ -20,9 +20,8 @@ use Rattle.abstract_net.proofs.Net as net
 use Rattle.switch_node.specs.Switch.{takes_in}
 use Rattle.nf_net.specs.declared.node.Node.{Node}
 use Rattle.nf_net.specs.Nodes.{node_step, node_ready}
-use Rattle.nf_net.proofs.Outline.{outline_sent, outline_sends}
 use Rattle.nf_net.proofs.LinkOutline.{shows_taken, shows_unseen}
-use Rattle.nf_net.proofs.Joined.{Given, place, count, Label, shown, S, Took, Nodes, node_of, links_next, Scene, Shows, AreShown, Joined, scene_after, Leads, IsTaken}
+use Rattle.nf_net.proofs.Joined.{Given, count, Label, shown, Took, node_of, links_next, Scene, Shows, AreShown, Joined, Leads, IsTaken}
 use Rattle.nf_net.proofs.SwitchSteps.{switch_leads}
 use Rattle.nf_net.proofs.ControllerSteps.{controller_leads}
 use Rattle.nf_net.proofs.InstanceSteps.{instance_leads}

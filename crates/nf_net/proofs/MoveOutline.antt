@@ -1,7 +1,6 @@
 -- The outline of each row of a move's table is the row of `abstract_net`.
 use Rattle.std.proofs.Common.{◌≡◌, ℕ, Bool, true, false, Option, Some, None, List, [], ◌∷◌, ◌++◌, map, length, refl, sym, ap, ◌∙◌, subst, arith}
-use Rattle.std.specs.Prelude.{if◌then◌else◌, ◌&&◌, ◌||◌, ◌==◌, is_some, unwrap_or}
-use Rattle.std.specs.List.{filter_map, flat_map, list_all}
+use Rattle.std.specs.Prelude.{if◌then◌else◌, ◌||◌, ◌==◌, unwrap_or}
 use Rattle.std.proofs.lemmas.Bool.Decides.{nat_tests}
 use Rattle.nf_function.specs.declared.chunk.Chunk.{Chunk}
 use Rattle.nf_function.specs.declared.unit.Unit as units
@@ -21,14 +20,14 @@ use Rattle.move_op.specs.declared.door.Door.{Door}
 use Rattle.move_op.specs.declared.door.Door.TheVariants as door
 use Rattle.move_op.specs.declared.phase.Phase.{Phase}
 use Rattle.move_op.specs.declared.phase.Phase.TheVariants as phase
-use Rattle.move_op.specs.Move.{MovePlan, MoveState, Next, Row, keeps, goes, have_units, chunks_of, put_back, source, destination, put_to, forward_to, asked, pushed, released, returned, all_put, on_event, on_source_enabled, on_piece, on_deleted, on_restored, on_source_fenced, on_put_ok, on_put_no, on_destination_enabled, on_destination_fenced, from_source, from_destination, row}
+use Rattle.move_op.specs.Move.{MovePlan, Row, keeps, goes, have_units, chunks_of, put_back, source, destination, put_to, forward_to, pushed, released, returned, all_put, on_event, on_source_enabled, on_piece, on_deleted, on_restored, on_source_fenced, on_put_ok, on_put_no, on_destination_enabled, on_destination_fenced, from_source, from_destination, row}
 use Rattle.unit_machine.proofs.Machine as machine
 use Rattle.unit_machine.proofs.Real as real
 use Rattle.unit_machine.proofs.Real.{RPiece, RPhase, Op, Op_did}
 use Rattle.unit_machine.proofs.Labels.{Each}
 use Rattle.abstract_net.proofs.Net as net
 use Rattle.abstract_net.proofs.Net.{wrap, row_of}
-use Rattle.nf_net.proofs.Outline.{number, entries, outline_piece, outline, outline_sent, outline_sends}
+use Rattle.nf_net.proofs.Outline.{number, entries, outline_piece, outline_sent, outline_sends}
 use Rattle.nf_net.proofs.InstanceOutline.{filter_map-put}
 
 abbrev pub outline_door : Door → machine.Door

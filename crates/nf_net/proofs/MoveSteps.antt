@@ -169,11 +169,11 @@ module _ {R : Type 0} (f : Semantics R) (g : Given) where
       deleted_is (phase.Streaming (p ∷ frozen) free came d) refusing pieces once =
           push_is frozen (free ++ p ∷ []) came d (same_door (p ∷ frozen) frozen free (free ++ p ∷ []) came came d refusing) pieces.0.1 (free_more d free p pieces.1 pieces.0.0)
           (λ u.
-            let all = once u in
-            let both = times_both u (chunks_of (p ∷ frozen)) (chunks_of free) in
-            let first = times_both u p.chunks (chunks_of frozen) in
-            let end = times_end u free p in
-            omega (arith, all, both, first, end))
+          let all = once u in
+          let both = times_both u (chunks_of (p ∷ frozen)) (chunks_of free) in
+          let first = times_both u p.chunks (chunks_of frozen) in
+          let end = times_end u free p in
+          omega (arith, all, both, first, end))
       deleted_is (phase.Streaming [] free came d) refusing pieces once = stays (phase.Streaming [] free came d) refusing pieces
       deleted_is ph refusing pieces once = stays ph refusing pieces
 
@@ -209,10 +209,10 @@ module _ {R : Type 0} (f : Semantics R) (g : Given) where
       put_no_is : (ph : Phase) (why : Answer) (chunks : List Chunk) → IsRefusing ph → HasPieces f g ph → AreGoodChunks f g chunks → is_done why ≡ false → ((u : units.Unit) → times u (entries f chunks) + times u (entries f (kept_in ph)) ≤ 1) → NextIs (on_put_no plan ph why chunks)
       put_no_is (phase.Streaming frozen free came (door.Asked last)) why chunks refusing pieces good refused once =
           push_is frozen (put_back chunks last ∷ free) came (door.Refused why) refused pieces.0 (good, weaker free pieces.1) (λ u.
-            let all = once u in
-            let both = times_both u (chunks_of frozen) (chunks_of free) in
-            let back = times_both u chunks (chunks_of free) in
-            omega (arith, all, both, back))
+          let all = once u in
+          let both = times_both u (chunks_of frozen) (chunks_of free) in
+          let back = times_both u chunks (chunks_of free) in
+          omega (arith, all, both, back))
       put_no_is ph why chunks refusing pieces good refused once = stays ph refusing pieces
 
       -- by the message

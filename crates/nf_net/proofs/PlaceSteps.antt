@@ -131,11 +131,11 @@ module _ {F R : Type 0} (f : Semantics R) (laws : FunctionLaws f) (c : Config) (
     may front back number i output e (Seen a shown_as ran) =
         let follows : filter_map ran_in (instance_step f own m).notes ≡ (inst_step (S f g) (j.world.inst k) a).ran = ran ∙ ap (λ x. (inst_step (S f g) x a).ran) at.outline_is in
         processed_at (S f g) (is_sys f g.site g.packet) j.world _ _ j.shown_is.every p k a taken.rest not_first not_second (taken.head not_input a shown_as) ((S f g).unit_of number)
-            (subst (λ ns. none_mine (S f g) ((S f g).unit_of number) ns ≢ []) follows (some_ran front back number i output e))
+        (subst (λ ns. none_mine (S f g) ((S f g).unit_of number) ns ≢ []) follows (some_ran front back number i output e))
 
     pub processed_place : (front back : List Note) (number i : ℕ) (output : Output) → (instance_step f own m).notes ≡ front ++ note.Processed number i output ∷ back → IsPlace c items (unit_at f.kind c.site (packet_of items number)) (w.log ++ front) i
     processed_place front back number i output e =
         let index = noted_at front back number i output e in
         let node : k ≡ instance_node i = sym at.number ∙ ap instance_node (sym index) in
         place_quiet c items (unit_at f.kind c.site (packet_of items number)) own.index w.log front i (each_front (IsQuiet own.index) front (note.Processed number i output ∷ back) (subst (λ ns. Each (IsQuiet own.index) ns) e quiet))
-            (by_may owners number i (subst (λ q. May_process (S f g) j.world ((S f g).unit_of number) q) node (may front back number i output e (ran_as f laws g k own (j.world.inst k) at p y m taken.label))))
+        (by_may owners number i (subst (λ q. May_process (S f g) j.world ((S f g).unit_of number) q) node (may front back number i output e (ran_as f laws g k own (j.world.inst k) at p y m taken.label))))

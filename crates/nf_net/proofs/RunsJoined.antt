@@ -1,12 +1,11 @@
 -- Every run of a network leads to a world of a run; what is then read off the log of a unit.
-use Rattle.std.proofs.Common.{◌≡◌, ℕ, ◌+◌, ◌≤◌, Bool, true, false, Option, Some, None, List, [], ◌∷◌, ◌++◌, map, length, refl, sym, ap, ◌∙◌, subst, arith}
+use Rattle.std.proofs.Common.{◌≡◌, ℕ, ◌+◌, ◌≤◌, Bool, true, false, Option, Some, None, List, [], ◌∷◌, ◌++◌, map, length, refl, sym, ap, ◌∙◌, arith}
 use Rattle.std.specs.Prelude.{if◌then◌else◌, ◌&&◌, ◌||◌, ◌==◌, not}
 use Rattle.std.specs.declared.alloc.Global.{Global}
 use Rattle.nf_function.specs.declared.unit.Unit as units
 use Rattle.nf_function.specs.Records.{Laws as FunctionLaws}
-use Rattle.nf_function.specs.Semantics.{Semantics, unit_at}
+use Rattle.nf_function.specs.Semantics.{Semantics}
 use Rattle.nf_function.specs.Units.{takes}
-use Rattle.record_table.specs.Table.{same_unit}
 use Rattle.nf_msgs.specs.declared.command.Order.{Order}
 use Rattle.nf_msgs.specs.declared.command.Order.TheVariants as order
 use Rattle.nf_msgs.specs.declared.msg.Msg.{Msg}
@@ -21,12 +20,12 @@ use Rattle.abstract_net.proofs.Rest.{done_u}
 use Rattle.abstract_net.proofs.Readings.{In_order, order_of as in_order_of}
 use Rattle.nf_net.specs.declared.config.Config.{Config}
 use Rattle.nf_net.specs.declared.node.Node.{Node}
-use Rattle.nf_net.specs.Input.{packet_of, order_of, IsInput}
-use Rattle.nf_net.specs.Log.{Done, arrived, done, has_begun, those, done_of}
+use Rattle.nf_net.specs.Input.{order_of, IsInput}
+use Rattle.nf_net.specs.Log.{Done, done, has_begun, done_of}
 use Rattle.nf_net.specs.Nodes.{node_step, node_ready}
 use Rattle.nf_net.specs.Start.{first_nodes, started}
 use Rattle.nf_net.specs.Promises.{times, IsFront, is_of, is_plain, came, went, is_loose}
-use Rattle.nf_net.proofs.FiltersApart.{is_whole, unit_fits, takes_whole, and_l, and_r}
+use Rattle.nf_net.proofs.FiltersApart.{is_whole, unit_fits}
 use Rattle.nf_net.proofs.Outline.{is_sys}
 use Rattle.nf_net.proofs.StartingLemmas.{few_nodes}
 use Rattle.nf_net.proofs.StartJoined.{given, all_fit, count_at_start, start_joined}

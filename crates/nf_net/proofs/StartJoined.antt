@@ -1,6 +1,6 @@
 -- The world at the start of a run is a world of a run.
-use Rattle.std.proofs.Common.{◌≡◌, ℕ, zero, suc, ◌+◌, ◌-◌, ◌<◌, ◌≤◌, ◌^◌, Bool, true, false, Option, Some, None, List, [], ◌∷◌, ◌++◌, map, length, get_or, lit<, refl, sym, ap, ◌∙◌, subst, arith}
-use Rattle.std.specs.Prelude.{if◌then◌else◌, ◌&&◌, ◌||◌, ◌==◌, not, nat_lt, is_some, option_map, unwrap_or, find, All}
+use Rattle.std.proofs.Common.{◌≡◌, ℕ, zero, suc, ◌+◌, ◌<◌, ◌≤◌, Bool, true, false, Option, Some, None, List, [], ◌∷◌, map, length, get_or, lit<, refl, sym, ap, ◌∙◌, subst, arith}
+use Rattle.std.specs.Prelude.{if◌then◌else◌, ◌&&◌, ◌==◌, nat_lt, option_map, unwrap_or, find}
 use Rattle.std.specs.declared.alloc.Global.{Global}
 use Rattle.std.specs.FinMap as finite
 use Rattle.std.specs.Ordering.{nat_cmp}
@@ -20,14 +20,13 @@ use Rattle.nf_net.proofs.Outline.{is_sys, outline_instance}
 use Rattle.flow_filter.specs.declared.filter.Filter.{Filter}
 use Rattle.flow_filter.specs.declared.flow.Flow.{Flow}
 use Rattle.flow_filter.specs.declared.packet.Packet.{Packet}
-use Rattle.flow_filter.specs.Filter.{IsFilter, IsFlow, matches}
+use Rattle.flow_filter.specs.Filter.{IsFilter, matches}
 use Rattle.flow_filter.specs.Flow.{flow_of}
 use Rattle.nf_function.specs.declared.unit.Unit as units
 use Rattle.nf_function.specs.declared.kind.Kind.{Kind}
 use Rattle.nf_function.specs.Records.{Fits}
 use Rattle.nf_function.specs.Units.{unit_cmp, unit_of}
-use Rattle.nf_function.specs.Semantics.{Semantics, unit_at}
-use Rattle.record_table.specs.Table.{Records}
+use Rattle.nf_function.specs.Semantics.{Semantics}
 use Rattle.switch_rules.specs.declared.target.Target.TheVariants as target
 use Rattle.switch_rules.specs.Rules.{AreFilters, any, first_match, opened}
 use Rattle.nf_msgs.specs.declared.command.Command.{Command}
@@ -46,11 +45,10 @@ use Rattle.actor_net.specs.Network.{waiting}
 use Rattle.actor_net.proofs.EnabledChoices.{at}
 use Rattle.actor_net.proofs.OpeningWorlds.{opening_waiting, opening_on_links}
 use Rattle.nf_net.proofs.StartingLemmas.{length-first_instances}
-use Rattle.nf_net.specs.Start.{IsConfig, first_switch, first_instance, first_instances, first_nodes, started}
-use Rattle.nf_net.proofs.FiltersApart.{is_whole, flow_fits, takes_whole, whole_takes, filter_is, filter_fits, and_l}
+use Rattle.nf_net.specs.Start.{first_switch, first_instance, first_instances, first_nodes, started}
+use Rattle.nf_net.proofs.FiltersApart.{is_whole, flow_fits, takes_whole, whole_takes}
 use Rattle.nf_net.proofs.InputLemmas.{each_both, found_each, fits_flow, whole_is}
 use Rattle.nf_net.proofs.StateOutline.{all_each}
-use Rattle.nf_net.proofs.SwitchOutline.{GoesTo, Routes}
 use Rattle.nf_net.proofs.ControlOutline.{Sees}
 use Rattle.nf_net.proofs.Joined.{Given, place, GenuinePacket, is_move, IsCommand, Label, S, IsSwitch, IsController, Nodes, node_of, Scene, Joined, IsInstanceAt, AreShown, commands as numbers_of}
 

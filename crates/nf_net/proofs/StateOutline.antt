@@ -1,7 +1,6 @@
 -- The outline of an instance's step on state that it gives or takes is the step of `abstract_net`.
-use Rattle.std.proofs.Common.{◌≡◌, ℕ, zero, suc, ◌^◌, Bool, true, false, Option, Some, None, List, [], ◌∷◌, ◌++◌, map, length, take, drop, refl, sym, ap, ◌∙◌, subst, append-nil}
+use Rattle.std.proofs.Common.{◌≡◌, ℕ, zero, suc, Bool, true, false, Option, Some, None, List, [], ◌∷◌, map, length, take, drop, refl, sym, ap, ◌∙◌}
 use Rattle.std.specs.Prelude.{if◌then◌else◌, cond, max, nat_le, nat_lt, is_some, All}
-use Rattle.std.specs.List.{filter_map}
 use Rattle.std.specs.FinMap as finite
 use Rattle.std.proofs.lemmas.List.{length-map}
 use Rattle.std.proofs.lemmas.List.Elements.{All-head, All-tail}
@@ -16,18 +15,17 @@ use Rattle.nf_function.specs.Records.{Laws as FunctionLaws}
 use Rattle.nf_function.specs.Semantics.{Semantics}
 use Rattle.state_chunk.specs.Format.{record_bytes, record_chunk, version_number}
 use Rattle.record_table.specs.Table.{Records, AreSound, taken_by}
-use Rattle.record_table.specs.Chunks.{spelled, records_of, are_good, chunks_of}
+use Rattle.record_table.specs.Chunks.{records_of, are_good, chunks_of}
 use Rattle.record_table.proofs.UnitOrder.{one_unit}
 use Rattle.record_table.proofs.RecordLookUps.{sound_retain_keys}
 use Rattle.record_table.proofs.MadeChunks.{valid_entries, spelled-record_chunk}
 use Rattle.nf_msgs.specs.declared.answer.Answer.{Answer}
 use Rattle.nf_msgs.specs.declared.msg.Piece.{Piece as APiece}
 use Rattle.nf_msgs.specs.declared.msg.Msg.TheVariants as msg
-use Rattle.nf_msgs.specs.Nodes.{controller_node}
 use Rattle.instance_worker.specs.declared.instance.Instance.{Instance}
 use Rattle.instance_worker.specs.declared.pieces.Whole.{Whole}
-use Rattle.instance_worker.specs.Pieces.{version_of, newest_version, piece_of, cut, whole_of, pieces}
-use Rattle.instance_worker.specs.Instance.{Step, told, on_stream, on_delete, on_put, on_restore, refusal, piece_put}
+use Rattle.instance_worker.specs.Pieces.{newest_version, piece_of, cut, whole_of, pieces}
+use Rattle.instance_worker.specs.Instance.{told, on_stream, on_delete, on_put, on_restore, refusal, piece_put}
 use Rattle.unit_machine.proofs.Real as real
 use Rattle.unit_machine.proofs.Real.{Chunks, RPiece}
 use Rattle.unit_machine.proofs.Cuts.{marks, chop, is_nil-chop}
@@ -38,7 +36,7 @@ use Rattle.unit_machine.proofs.SeenInst.{r_put}
 use Rattle.abstract_net.proofs.Net as net
 use Rattle.abstract_net.proofs.Net.{inst_step, everything, to_ctrl}
 use Rattle.nf_net.proofs.FiltersApart.{is_whole, unit_fits, takes_whole}
-use Rattle.nf_net.proofs.Outline.{entries, outline_piece, outline_sent, outline_sends, ran_in, newest_in, sys, outline_instance}
+use Rattle.nf_net.proofs.Outline.{entries, outline_piece, outline_sends, newest_in, sys, outline_instance}
 use Rattle.nf_net.proofs.InstanceOutline.{Follows}
 
 module _ {R : Type 0} (f : Semantics R) (laws : FunctionLaws f) where

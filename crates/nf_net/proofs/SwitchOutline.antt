@@ -1,7 +1,7 @@
 -- The outline of what the switch sends, and of its rules after a change, are the sends and routes of `abstract_net`.
-use Rattle.std.proofs.Common.{◌≡◌, ℕ, ◌+◌, ◌<◌, Bool, true, false, Option, Some, None, List, [], ◌∷◌, refl, sym, ap, ◌∙◌, arith}
+use Rattle.std.proofs.Common.{◌≡◌, ℕ, Bool, true, false, Option, Some, List, [], ◌∷◌, refl, sym, ap, ◌∙◌, arith}
 use Rattle.std.specs.Prelude.{if◌then◌else◌, ◌&&◌, ◌==◌, nat_lt, option_map, unwrap_or}
-use Rattle.std.proofs.lemmas.Bool.Decides.{nat_tests, Decides-ltb}
+use Rattle.std.proofs.lemmas.Bool.Decides.{nat_tests}
 use Rattle.flow_filter.specs.declared.filter.Filter.{Filter}
 use Rattle.flow_filter.specs.declared.flow.Flow.{Flow}
 use Rattle.flow_filter.specs.declared.packet.Packet.{Packet}
@@ -13,15 +13,13 @@ use Rattle.nf_function.specs.declared.unit.Unit as units
 use Rattle.nf_function.specs.Units.{unit_of}
 use Rattle.nf_function.specs.Semantics.{Semantics, unit_at}
 use Rattle.event_filter.specs.declared.mark.Mark.TheVariants as mark
-use Rattle.switch_rules.specs.declared.target.Target.{Target}
 use Rattle.switch_rules.specs.declared.target.Target.TheVariants as target
-use Rattle.switch_rules.specs.Rules.{Rule, first_match, Redirect, redirected_target, redirected, AreFilters}
+use Rattle.switch_rules.specs.Rules.{first_match, Redirect, redirected_target, redirected, AreFilters}
 use Rattle.switch_rules.proofs.RedirectLaws.{redirected_law}
 use Rattle.packet_pool.specs.Pool.{FullCell}
-use Rattle.nf_msgs.specs.declared.msg.Msg.{Msg}
 use Rattle.nf_msgs.specs.declared.msg.Msg.TheVariants as msg
 use Rattle.nf_msgs.specs.Nodes.{instance_node}
-use Rattle.switch_node.specs.Switch.{SwitchState, has_room, on_packet, on_install, sends_to_instance, goes_to, target_of}
+use Rattle.switch_node.specs.Switch.{SwitchState, has_room, on_packet, on_install, sends_to_instance, target_of}
 use Rattle.unit_machine.proofs.Real as real
 use Rattle.abstract_net.proofs.Net as net
 use Rattle.abstract_net.proofs.Net.{sw_target}

@@ -118,7 +118,7 @@ module _ {F R : Type 0} (f : Semantics R) (g : Given) (n : ℕ) (x : Scene F f g
         pool = are.switch.pool;
       } in
       subst (λ st. Leads f g n x (record { node = 0; port = 1; message = msg.Install op filter from (target.Instance to) }) (as_node Switch st)) (sym done_is)
-        (seen_step (msg.Install op filter from (target.Instance to)) _ rest t ((instance_node from, msg.Fence op) ∷ []) (note.Installed op ∷ []) refl waits refl ((refl, omega arith), tt) switch (arrived-append x.log (note.Installed op ∷ []) ∙ append-nil (arrived x.log)) (λ u. has_begun-append (bares f g u) x.log (note.Installed op ∷ []) ∙ or_false (has_begun (bares f g u) x.log)) refl)
+      (seen_step (msg.Install op filter from (target.Instance to)) _ rest t ((instance_node from, msg.Fence op) ∷ []) (note.Installed op ∷ []) refl waits refl ((refl, omega arith), tt) switch (arrived-append x.log (note.Installed op ∷ []) ∙ append-nil (arrived x.log)) (λ u. has_begun-append (bares f g u) x.log (note.Installed op ∷ []) ∙ or_false (has_begun (bares f g u) x.log)) refl)
 
   -- a packet of the input
   packet_leads : (q : Packet) (items : List Msg) → GenuinePacket f g q → has_room s ≡ true → x.input ≡ msg.InPacket q ∷ items → Leads f g n x (record { node = 0; port = 0; message = msg.InPacket q }) (as_node Switch (on_packet s q))

@@ -1,5 +1,5 @@
 -- How a network starts: its configuration, and the world in which nothing has happened yet. This project's own.
-use Rattle.std.specs.Prelude.{◌≡◌, ◌<◌, ◌≤◌, ℕ, zero, suc, Bool, true, false, List, [], ◌∷◌, ◌++◌, length, replicate, slice_index, slice_index_or, All}
+use Rattle.std.specs.Prelude.{◌≡◌, ◌<◌, ◌≤◌, ℕ, zero, suc, false, List, [], ◌∷◌, ◌++◌, length, replicate, slice_index, slice_index_or, All}
 use Rattle.std.specs.declared.alloc.Global.{Global}
 use Rattle.record_table.specs.Table.{empty}
 use Rattle.switch_rules.specs.Rules as rules

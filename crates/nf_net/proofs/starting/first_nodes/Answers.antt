@@ -1,6 +1,5 @@
 -- The loop over the instances: an instance more is the next of the first instances.
-use Rattle.std.proofs.Common.{rules, ◌≡◌, ◌++◌, List, [], ◌∷◌, refl, add-one}
-use Rattle.nf_net.specs.Start.{first_instances}
+use Rattle.std.proofs.Common.{refl, add-one}
 use Rattle.nf_net.proofs.starting.first_nodes.Goals as goal
 
 pub loop-index-preserved : goal.loop-index-preserved

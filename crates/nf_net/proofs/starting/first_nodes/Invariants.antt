@@ -1,5 +1,5 @@
 -- The loop over the instances: so far the nodes are the switch, the controller, and as many of the first instances as were made.
-use Rattle.std.proofs.Common.{◌≡◌, ◌++◌, List, [], ◌∷◌}
+use Rattle.std.proofs.Common.{◌≡◌, ◌∷◌}
 use Rattle.nf_net.specs.declared.node.Node.TheVariants.{Switch, Controller}
 use Rattle.ctrl_node.specs.Controller.{opened}
 use Rattle.nf_net.specs.Start.{first_switch, first_instances}
