@@ -1,5 +1,6 @@
 -- How the calls of a reader answer, given what the bytes that are left stand for. This project's own.
 use Rattle.std.specs.Prelude.{◌≡◌, ◌≤◌, ◌<◌, ℕ, ◌+◌, ◌++◌, true, List, [], length, drop, Option, Some, None, Result, Ok, Err}
+use Rattle.std.specs.List.{All}
 use Rattle.std.specs.Option.{ForSome}
 use Rattle.flow_filter.specs.declared.packet.Packet.{Packet}
 use Rattle.nf_io.specs.Meaning.{Rose}
@@ -16,7 +17,7 @@ use Rattle.trace_reader.specs.declared.trace.Trace.{Trace}
 use Rattle.trace_reader.specs.declared.trace.TraceEnd.{TraceEnd}
 use Rattle.trace_reader.specs.Limits.{head_size, most_packets, most_bytes}
 use Rattle.trace_reader.specs.Steered.{is_steered_proto}
-use Rattle.trace_reader.specs.Records.{record_size, next_of}
+use Rattle.trace_reader.specs.Records.{record_size, next_of, AreNumbered}
 
 -- a count never falls, and the answer is a fault of reading only where it rose
 pub record HasReadCause {A : Type 0} (before now : ℕ) (result : Result A TraceFault) : Type 0 where
@@ -127,3 +128,11 @@ HandsPackets {K = K} {S = S} HasKept due old new left (Ok end) =
 HandsPackets HasKept due old new left (Err fault.Read) = Unit {0}
 HandsPackets HasKept due old new left (Err fault.NoMemory) = Unit {0}
 HandsPackets HasKept due old new left (Err e) = due ≡ Err e
+
+-- so many packets went to a keeper, one after another, also where no bytes are told: they are numbered from 1, and each is of TCP or UDP
+pub record HandsSteered {K S : Type 0} (HasKept : K → S → List Packet → Type 0) (old new : K) (count : ℕ) : Type 0 where
+  pub packets : List Packet
+  pub counted : length packets ≡ count
+  pub numbers : AreNumbered 1 packets
+  pub steered : All (λ packet. is_steered_proto packet.proto ≡ true) packets
+  pub kept : (setup : S) (before : List Packet) → HasKept old setup before → HasKept new setup (before ++ packets)
