@@ -1,14 +1,21 @@
 -- What was read so far, where a keeper has the packets.
-use Rattle.std.proofs.Common.{◌≡◌, ℕ, ◌+◌, true, false, List, [], ◌∷◌, ◌++◌, length, drop, Option, Some, Ok, Err, Result, refl, ap, sym, ◌∙◌, subst, append-nil, append_assoc}
+use Rattle.std.proofs.Common.{◌≡◌, ℕ, ◌+◌, arith, true, false, List, [], ◌∷◌, ◌++◌, length, drop, Option, Some, Ok, Err, Result, refl, ap, sym, ◌∙◌, subst, append-nil, append_assoc}
 use Rattle.std.proofs.lemmas.List.{length-append}
+use Rattle.std.proofs.lemmas.List.Elements.{All-nil, All-push}
 use Rattle.flow_filter.specs.declared.packet.Packet.{Packet}
 use Rattle.trace_reader.specs.declared.fault.TraceFault.{TraceFault}
 use Rattle.trace_reader.specs.declared.fault.TraceFault.TheVariants as fault
 use Rattle.trace_reader.specs.declared.record.Next.TheVariants as next
 use Rattle.trace_reader.specs.declared.trace.Trace.{Trace}
-use Rattle.trace_reader.specs.Records.{opened, capture_of}
-use Rattle.trace_reader.specs.Answers.{Reading, AnswersNext, AnswersTrace, HandsPackets}
+use Rattle.trace_reader.specs.Steered.{is_steered_proto}
+use Rattle.trace_reader.specs.Records.{opened, capture_of, AreNumbered}
+use Rattle.trace_reader.specs.Answers.{Reading, AnswersNext, AnswersTrace, HandsPackets, HandsSteered}
 use Rattle.trace_reader.proofs.CaptureSoFar.{Progress, progress_start, progress_packet, progress_skipped, progress_end, progress_cut, progress_fault}
+
+-- one more packet behind has the next number
+numbered_push : (n : ℕ) (ps : List Packet) (p : Packet) → AreNumbered n ps → p.number ≡ n + length ps → AreNumbered n (ps ++ p ∷ [])
+numbered_push n [] p first last = (omega (arith, last), tt)
+numbered_push n (q ∷ ps) p first last = (first.0, numbered_push (n + 1) ps p first.1 (omega (arith, last)))
 
 module _ {K S : Type 0} (HasKept : K → S → List Packet → Type 0) where
   -- some packets were read, and the keeper has them behind those before
@@ -38,6 +45,30 @@ module _ {K S : Type 0} (HasKept : K → S → List Packet → Type 0) where
     packets = h.packets ++ packet ∷ [];
     so_far = progress_packet whole before after h.packets (h.packets ++ packet ∷ []) skipped packet h.so_far answers same_form one_more refl;
     counted = length-append h.packets (packet ∷ []) ∙ ap (λ n. n + 1) h.counted ∙ sym one_more;
+    kept = λ setup first has. subst (λ (ps : List Packet). HasKept new setup ps) (append_assoc first h.packets (packet ∷ []))
+        (keeps setup (first ++ h.packets) (h.kept setup first has));
+  }
+
+  -- a keeper takes none at first
+  pub steered_start : (keeper : K) (count : ℕ) → count ≡ 0 → HandsSteered HasKept keeper keeper count
+  steered_start keeper count none = record {
+    packets = [];
+    counted = sym none;
+    numbers = tt;
+    steered = All-nil _;
+    kept = λ setup before has. subst (λ (ps : List Packet). HasKept keeper setup ps) (sym (append-nil before)) has;
+  }
+
+  -- it takes one more, which has the next number
+  pub steered_packet : (old mid new : K) (count count' : ℕ) (packet : Packet) → HandsSteered HasKept old mid count
+      → count' ≡ count + 1 → packet.number ≡ count + 1 → is_steered_proto packet.proto ≡ true
+      → ((setup : S) (first : List Packet) → HasKept mid setup first → HasKept new setup (first ++ packet ∷ []))
+      → HandsSteered HasKept old new count'
+  steered_packet old mid new count count' packet h one_more number steers keeps = record {
+    packets = h.packets ++ packet ∷ [];
+    counted = length-append h.packets (packet ∷ []) ∙ ap (λ n. n + 1) h.counted ∙ sym one_more;
+    numbers = numbered_push 1 h.packets packet h.numbers (omega (arith, number, h.counted));
+    steered = All-push (λ p. is_steered_proto p.proto ≡ true) h.packets packet h.steered steers;
     kept = λ setup first has. subst (λ (ps : List Packet). HasKept new setup ps) (append_assoc first h.packets (packet ∷ []))
         (keeps setup (first ++ h.packets) (h.kept setup first has));
   }

@@ -1,5 +1,6 @@
 -- How the calls of a reader answer, given what the bytes that are left stand for. This project's own.
-use Rattle.std.specs.Prelude.{◌≡◌, ◌≤◌, ◌<◌, ℕ, ◌+◌, ◌++◌, List, [], length, drop, Option, Some, None, Result, Ok, Err}
+use Rattle.std.specs.Prelude.{◌≡◌, ◌≤◌, ◌<◌, ℕ, ◌+◌, ◌++◌, true, List, [], length, drop, Option, Some, None, Result, Ok, Err}
+use Rattle.std.specs.List.{All}
 use Rattle.std.specs.Option.{ForSome}
 use Rattle.flow_filter.specs.declared.packet.Packet.{Packet}
 use Rattle.nf_io.specs.Meaning.{Rose}
@@ -15,7 +16,8 @@ use Rattle.trace_reader.specs.declared.record.Step.{Step}
 use Rattle.trace_reader.specs.declared.trace.Trace.{Trace}
 use Rattle.trace_reader.specs.declared.trace.TraceEnd.{TraceEnd}
 use Rattle.trace_reader.specs.Limits.{head_size, most_packets, most_bytes}
-use Rattle.trace_reader.specs.Records.{record_size, next_of}
+use Rattle.trace_reader.specs.Steered.{is_steered_proto}
+use Rattle.trace_reader.specs.Records.{record_size, next_of, AreNumbered}
 
 -- a count never falls, and the answer is a fault of reading only where it rose
 pub record HasReadCause {A : Type 0} (before now : ℕ) (result : Result A TraceFault) : Type 0 where
@@ -68,10 +70,11 @@ AnswersAt before bytes after (Err e) = next_of before.form before.place before.c
 abbrev pub AnswersNext : Reading → Reading → Result Next TraceFault → Type 0
 AnswersNext before after answer = ForSome before.left (λ bytes. AnswersAt before bytes after answer)
 
--- how the place and the number of packets grow, also where no bytes are told
+-- how the place and the number of packets grow, and which packet comes next, also where no bytes are told
 abbrev pub Advances : Reading → Reading → Result Next TraceFault → Type 0
 Advances before after (Ok (next.Packet packet)) =
     (before.place + head_size ≤ after.place) × (after.place ≤ most_bytes) × (before.count < most_packets) × (after.count ≡ before.count + 1)
+    × (packet.number ≡ before.count + 1) × (is_steered_proto packet.proto ≡ true)
 Advances before after (Ok next.Skipped) = (before.place + head_size ≤ after.place) × (after.place ≤ most_bytes) × (after.count ≡ before.count)
 Advances before after answer = (after.place ≡ before.place) × (after.count ≡ before.count)
 
@@ -125,3 +128,11 @@ HandsPackets {K = K} {S = S} HasKept due old new left (Ok end) =
 HandsPackets HasKept due old new left (Err fault.Read) = Unit {0}
 HandsPackets HasKept due old new left (Err fault.NoMemory) = Unit {0}
 HandsPackets HasKept due old new left (Err e) = due ≡ Err e
+
+-- so many packets went to a keeper, one after another, also where no bytes are told: they are numbered from 1, and each is of TCP or UDP
+pub record HandsSteered {K S : Type 0} (HasKept : K → S → List Packet → Type 0) (old new : K) (count : ℕ) : Type 0 where
+  pub packets : List Packet
+  pub counted : length packets ≡ count
+  pub numbers : AreNumbered 1 packets
+  pub steered : All (λ packet. is_steered_proto packet.proto ≡ true) packets
+  pub kept : (setup : S) (before : List Packet) → HasKept old setup before → HasKept new setup (before ++ packets)

@@ -1,7 +1,7 @@
 -- Which records of a capture are steered, and the packet of each: frames of Ethernet (IEEE 802.3) with at most one VLAN tag (IEEE 802.1Q), or none, around
 -- IPv4 (RFC 791) with TCP (RFC 9293) or UDP (RFC 768). Only first fragments are steered, and no checksum is looked at. Each definition takes how
 -- many bytes the record has, and its bytes, of which only the first 202 count.
-use Rattle.std.specs.Prelude.{◌≡◌, ◌≤◌, max, ℕ, ◌+◌, ◌-◌, ◌*◌, ◌/◌, ◌%◌, ◌^◌, ◌==◌, ◌&&◌, Bool, nat_le, min, List, ◌++◌, take, drop, replicate, Option, Some, None, option_map, option_and_then, if◌then◌else◌}
+use Rattle.std.specs.Prelude.{◌≡◌, ◌≤◌, max, ℕ, ◌+◌, ◌-◌, ◌*◌, ◌/◌, ◌%◌, ◌^◌, ◌==◌, ◌&&◌, ◌||◌, Bool, true, nat_le, min, List, ◌++◌, take, drop, replicate, Option, Some, None, option_map, option_and_then, if◌then◌else◌}
 use Rattle.flow_filter.specs.declared.packet.Packet.{Packet}
 use Rattle.trace_reader.specs.declared.form.Fraction.{Fraction}
 use Rattle.trace_reader.specs.declared.form.Fraction.TheVariants.{Micros, Nanos}
@@ -29,6 +29,10 @@ header_length len f s =
 abbrev pub is_first : List ℕ → ℕ → Bool
 is_first f s = u16_at f (s + 6) % 2 ^ 13 == 0
 
+-- whether packets of this protocol are steered: those of TCP and of UDP
+abbrev pub is_steered_proto : ℕ → Bool
+is_steered_proto proto = proto == 6 || proto == 17
+
 -- how long the header at q of this protocol is: 8 bytes for UDP, at least 20 for TCP; its fixed part is captured
 abbrev pub transport_length : ℕ → List ℕ → ℕ → ℕ → Option ℕ
 transport_length len f proto q =
@@ -53,7 +57,7 @@ parts_at len f s h =
 unfoldable pub parts_of : LinkType → ℕ → List ℕ → Option Parts
 parts_of link_type len f = option_and_then (λ s. option_and_then (λ h. parts_at len f s h) (header_length len f s)) (start_of link_type len f)
 
--- these lengths stand in the record's own bytes, and its ports and flags are captured
+-- these lengths stand in the record's own bytes, its ports and flags are captured, and its protocol is steered
 pub record HasParts (len : ℕ) (f : List ℕ) (parts : Parts) : Type 0 where
   pub start : parts.start ≤ 18
   pub header : parts.header ≤ 60
@@ -63,6 +67,7 @@ pub record HasParts (len : ℕ) (f : List ℕ) (parts : Parts) : Type 0 where
   pub ip : parts.start + 20 ≤ len
   pub ports : parts.start + parts.header + 8 ≤ len
   pub flags : byte_at f (parts.start + 9) ≡ 6 → parts.start + parts.header + 20 ≤ len
+  pub proto : is_steered_proto (byte_at f (parts.start + 9)) ≡ true
 
 -- how many of the payload's bytes are captured and kept, of at most 64
 abbrev pub held_of : ℕ → Parts → ℕ

@@ -1,7 +1,7 @@
-ghost use Rattle.std.specs.Prelude.{◌≡◌, ◌≤◌, ◌+◌, ◌-◌, ◌^◌, ◌++◌, min, length, replicate, IfSome};
+ghost use Rattle.std.specs.Prelude.{◌≡◌, ◌≤◌, ◌+◌, ◌-◌, ◌^◌, ◌++◌, min, length, replicate, true, IfSome};
 ghost use Rattle.trace_reader.specs.Limits.{front_size, head_size, most_captured};
 ghost use Rattle.trace_reader.specs.Numbers.{u16_at, u32_at, byte_at};
-ghost use Rattle.trace_reader.specs.Steered.{start_of, header_length, is_first, transport_length, total_length, parts_of, HasParts, held_of, payload_of, packet_with, packet_of};
+ghost use Rattle.trace_reader.specs.Steered.{start_of, header_length, is_first, is_steered_proto, transport_length, total_length, parts_of, HasParts, held_of, payload_of, packet_with, packet_of};
 
 use crate::form::{Form, LinkType};
 use byteorder::{BigEndian, ByteOrder};
@@ -33,7 +33,8 @@ pub(crate) fn packet_of(
     requires head { length head.now ≡ head_size }
     requires front { length front.now ≡ min len front_size }
     requires len { len ≤ most_captured }
-    ensures { result ≡ packet_of form number head.now len front.now }
+    ensures value { result ≡ packet_of form number head.now len front.now }
+    ensures steered { IfSome result (λ packet. (packet.number ≡ number) × (is_steered_proto packet.proto ≡ true)) }
 {
     let parts = parts_of(form.link_type, len, front)?;
     Some(packet_with(number, form.nanos(head), len, front, &parts))
@@ -108,6 +109,7 @@ fn transport_length(len: usize, front: &[u8], proto: u8, at: usize) -> Option<us
     requires at { at ≤ 78 }
     ensures value { result ≡ transport_length len front.now proto at }
     ensures bound { IfSome result (λ d. (d ≤ 60) × (at + 8 ≤ len) × (proto ≡ 6 → at + 20 ≤ len)) }
+    ensures steered { IfSome result (λ d. is_steered_proto proto ≡ true) }
 {
     match proto {
         UDP if len >= at + 8 => Some(8),

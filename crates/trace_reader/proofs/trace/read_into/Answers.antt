@@ -4,7 +4,7 @@ use Rattle.std.proofs.lemmas.Result.{err_from_is_err_and}
 use Rattle.nf_io.proofs.TransferLemmas.{StaysOpen-trans}
 use Rattle.trace_reader.specs.Answers.{reading_of}
 use Rattle.trace_reader.proofs.CaptureSoFar.{open_fault}
-use Rattle.trace_reader.proofs.KeeperSoFar.{handed_start, handed_packet, handed_skipped, handed_end, handed_cut, handed_fault, into_fault}
+use Rattle.trace_reader.proofs.KeeperSoFar.{handed_start, handed_packet, handed_skipped, handed_end, handed_cut, handed_fault, into_fault, steered_start, steered_packet}
 use Rattle.trace_reader.proofs.trace.read_into.Goals as goal
 
 pub returns-in_err-reader-clause-trace : goal.returns-in_err-reader-clause-trace
@@ -18,6 +18,7 @@ records-init g c = record {
   few = search rules;
   told = (λ bytes told. let opens = c.in_ok-reader.ensures.form bytes told in
       handed_start _ bytes _ _ opens.0 opens.1 c.in_ok-reader.ensures.start.0 c.in_ok-reader.ensures.start.1);
+  steered = steered_start _ _ _ c.in_ok-reader.ensures.start.1;
   later = omega (arith, c.in_ok-reader.ensures.cause.later);
   stays = c.in_ok-reader.ensures.stays;
 }
@@ -37,6 +38,7 @@ records-preserved-in-Continue-branch-4 g c =
       few = omega (arith, moves.0);
       told = (λ bytes told. handed_packet _ _ _ (reading_of c.next.new.self (g.S.Source.left c.next.new.source)) _ _ _ _ c.in-Packet.packet (c.records.invariant.told bytes told) answers
           c.in_ok-packet.ensures.form moves.3 c.in_ok-keep-in-Packet.ensures);
+      steered = steered_packet _ _ _ _ _ _ c.in-Packet.packet c.records.invariant.steered moves.3 moves.4 moves.5 c.in_ok-keep-in-Packet.ensures;
       later = omega (arith, c.in_ok-packet.ensures.later);
       stays = StaysOpen-trans _ _ _ _ _ _ c.records.invariant.stays c.in_ok-packet.ensures.stays;
     }
@@ -49,6 +51,7 @@ records-preserved g c =
       running = rw c.in-Skipped.is at c.in_ok-packet.ensures.stop;
       few = omega (arith, moves.0);
       told = (λ bytes told. handed_skipped _ _ _ (reading_of c.next.new.self (g.S.Source.left c.next.new.source)) _ _ _ (c.records.invariant.told bytes told) answers c.in_ok-packet.ensures.form moves.2);
+      steered = rw moves.2 c.records.invariant.steered;
       later = omega (arith, c.in_ok-packet.ensures.later);
       stays = StaysOpen-trans _ _ _ _ _ _ c.records.invariant.stays c.in_ok-packet.ensures.stays;
     }

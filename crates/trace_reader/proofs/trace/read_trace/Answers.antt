@@ -1,6 +1,8 @@
 -- The packets that a list took are the trace's.
-use Rattle.std.proofs.Common.{List, [], Ok, ap, sym, ◌∙◌}
+use Rattle.std.proofs.Common.{◌≡◌, true, All, List, [], Ok, ap, sym, ◌∙◌, subst}
 use Rattle.flow_filter.specs.declared.packet.Packet.{Packet}
+use Rattle.trace_reader.specs.Steered.{is_steered_proto}
+use Rattle.trace_reader.specs.Records.{AreNumbered}
 use Rattle.trace_reader.proofs.trace.read_trace.Goals as goal
 
 pub returns-clause-trace : goal.returns-clause-trace
@@ -10,3 +12,13 @@ returns-clause-trace g c = λ bytes told.
           (sym (gives.4 tt [] c.open-packets.ensures)),
       gives.3,
     )
+
+pub returns-clause-numbers : goal.returns-clause-numbers
+returns-clause-numbers g c =
+    let handed = c.in_ok-end.ensures.steered in
+    subst (λ (ps : List Packet). AreNumbered 1 ps) (sym (handed.kept tt [] c.open-packets.ensures)) handed.numbers
+
+pub returns-clause-steered : goal.returns-clause-steered
+returns-clause-steered g c =
+    let handed = c.in_ok-end.ensures.steered in
+    subst (All (λ (packet : Packet). is_steered_proto packet.proto ≡ true)) (sym (handed.kept tt [] c.open-packets.ensures)) handed.steered
