@@ -1,4 +1,5 @@
 ghost use Rattle.std.specs.Prelude.{◌≡◌, All, IfOk};
+ghost use Rattle.flow_filter.specs.declared.packet.Packet.{Packet as APacket};
 ghost use Rattle.flow_filter.specs.Filter.{IsFlow};
 ghost use Rattle.nf_function.specs.declared.kind.Kind.TheVariants.{Conntrack as OfFlows, Monitor as OfHosts};
 ghost use Rattle.nf_msgs.specs.declared.command.Order.{Order as AnOrder};
@@ -69,11 +70,11 @@ fn packet(site: Site, number: u32, nanos: u64) -> Packet
     packet
 }
 
-/// The item of a packet.
-fn came(alloc: Global, packet: Packet) -> Result<Msg, NoMemory>
-    ensures { IfOk result (λ item. item ≡ Msg.InPacket packet) }
+/// The item of the packet with this number.
+fn came(alloc: Global, site: Site, number: u32, nanos: u64) -> Result<Msg, NoMemory>
+    ensures { IfOk result (λ item. (packet : APacket) × (item ≡ Msg.InPacket packet) × (packet.number ≡ number) × IsSteered site packet) }
 {
-    Ok(Msg::InPacket(Boxed::new(alloc, packet)?))
+    Ok(Msg::InPacket(Boxed::new(alloc, packet(site, number, nanos))?))
 }
 
 /// Which run there is: the schedule, what b takes, and what the move is.
@@ -133,9 +134,9 @@ fn packets(alloc: Global, config: &Config, case: Case) -> Result<Vec<Msg>, Fail>
     ensures hosts { IfOk result (λ items. IsInput OfHosts config.now items.items) }
 {
     let items = [
-        came(alloc, packet(config.site, 1, case.nanos))?,
-        came(alloc, packet(config.site, 2, case.nanos))?,
-        came(alloc, packet(config.site, 3, case.nanos))?,
+        came(alloc, config.site, 1, case.nanos)?,
+        came(alloc, config.site, 2, case.nanos)?,
+        came(alloc, config.site, 3, case.nanos)?,
         Msg::InEnd,
     ];
     Ok(Vec::from_array(alloc, items)?)
@@ -147,15 +148,14 @@ fn one_move(alloc: Global, config: &Config, case: Case) -> Result<Vec<Msg>, Fail
     requires routes { All (λ route. IsWhole OfFlows route.0) config.now.routes }
     ensures { IfOk result (λ items. IsInput OfFlows config.now items.items) }
 {
-    let items = [
-        came(alloc, packet(config.site, 1, case.nanos))?,
-        asked(alloc, 1, case)?,
-        came(alloc, packet(config.site, 2, case.nanos))?,
-        came(alloc, packet(config.site, 3, case.nanos))?,
-        came(alloc, packet(config.site, 5, case.nanos))?,
-        Msg::InEnd,
-    ];
-    Ok(Vec::from_array(alloc, items)?)
+    let mut items = Vec::new(alloc);
+    items.push(came(alloc, config.site, 1, case.nanos)?)?;
+    items.push(asked(alloc, 1, case)?)?;
+    items.push(came(alloc, config.site, 2, case.nanos)?)?;
+    items.push(came(alloc, config.site, 3, case.nanos)?)?;
+    items.push(came(alloc, config.site, 5, case.nanos)?)?;
+    items.push(Msg::InEnd)?;
+    Ok(items)
 }
 
 /// A packet, and its flow's move twice.
@@ -165,7 +165,7 @@ fn two_moves(alloc: Global, config: &Config, case: Case) -> Result<Vec<Msg>, Fai
     ensures { IfOk result (λ items. IsInput OfFlows config.now items.items) }
 {
     let items = [
-        came(alloc, packet(config.site, 1, case.nanos))?,
+        came(alloc, config.site, 1, case.nanos)?,
         asked(alloc, 1, case)?,
         asked(alloc, 2, case)?,
         Msg::InEnd,
@@ -180,7 +180,7 @@ fn settled_moves(alloc: Global, config: &Config, case: Case) -> Result<Vec<Msg>,
     ensures { IfOk result (λ items. IsInput OfFlows config.now items.items) }
 {
     let items = [
-        came(alloc, packet(config.site, 1, case.nanos))?,
+        came(alloc, config.site, 1, case.nanos)?,
         asked(alloc, 1, case)?,
         Msg::InSettle,
         asked(alloc, 2, case)?,
@@ -325,7 +325,8 @@ fn packets_are_processed_where_their_route_goes(rt: HostRuntime) -> Result<(), F
 #[test]
 fn the_monitor_keeps_both_flows_for_their_host(rt: HostRuntime) -> Result<(), Fail> {
     let alloc = rt.alloc();
-    let expected = b"came 1\ncame 2\ndid 1 at 0 quiet\ncame 3\ndid 2 at 0 quiet\ndid 3 at 0 quiet\nlive packets 3 services none\n--\n--\n";
+    let expected =
+        b"came 1\ncame 2\ndid 1 at 0 quiet\ncame 3\ndid 2 at 0 quiet\ndid 3 at 0 quiet\nlive packets 3 services none\n--\n--\n";
     assert_eq!(rt; hosts_told(alloc, CASE)?.items(), expected.as_slice());
     Ok(())
 }
@@ -347,7 +348,8 @@ fn a_move_keeps_the_order_of_its_flow(rt: HostRuntime) -> Result<(), Fail> {
         schedule: Schedule::Number(29),
         ..CASE
     };
-    let expected = b"came 1\nbegun 1\ngave at 0 units 0\ncame 2\ndid 2 at 0 single\ntook at 1 units 0\ncame 3\ndid 1 at 1 single\ninstalled 1\ndid 3 at 1 single\ncame 5\ndid 5 at 1 single\nanswered 1 done\nlive single out packets 1 bytes 20\n--\nlive single out packets 3 bytes 60\n--\n";
+    let expected =
+        b"came 1\nbegun 1\ngave at 0 units 0\ncame 2\ndid 2 at 0 single\ntook at 1 units 0\ncame 3\ndid 1 at 1 single\ninstalled 1\ndid 3 at 1 single\ncame 5\ndid 5 at 1 single\nanswered 1 done\nlive single out packets 1 bytes 20\n--\nlive single out packets 3 bytes 60\n--\n";
     assert_eq!(rt; move_told(alloc, case)?.items(), expected.as_slice());
     Ok(())
 }
@@ -360,7 +362,8 @@ fn a_plain_move_may_change_it_and_loses_nothing(rt: HostRuntime) -> Result<(), F
         keep: false,
         ..CASE
     };
-    let expected = b"came 1\nbegun 1\ngave at 0 units 0\ncame 2\ndid 2 at 0 single\ntook at 1 units 0\ncame 3\ninstalled 1\ndid 1 at 1 single\ncame 5\ndid 5 at 1 single\ndid 3 at 1 single\nanswered 1 done\nlive single out packets 1 bytes 20\n--\nlive single out packets 3 bytes 60\n--\n";
+    let expected =
+        b"came 1\nbegun 1\ngave at 0 units 0\ncame 2\ndid 2 at 0 single\ntook at 1 units 0\ncame 3\ninstalled 1\ndid 1 at 1 single\ncame 5\ndid 5 at 1 single\ndid 3 at 1 single\nanswered 1 done\nlive single out packets 1 bytes 20\n--\nlive single out packets 3 bytes 60\n--\n";
     assert_eq!(rt; move_told(alloc, case)?.items(), expected.as_slice());
     Ok(())
 }
