@@ -589,7 +589,38 @@ def network_refusals(cases):
         cases.words(f"net-words-{place:02}", network_words(function, instances, good, None, more))
 
 
-NETWORKS = networks_by_hand, office_moves, many_units, network_refusals
+def faulty_scripts(cases):
+    """Scripts for the monitor, and the line that each is refused by, which was worked out by hand."""
+    trace = cases.file("net-one.pcap", capture_of([question(1)]))
+    for place, (text, fault) in enumerate((
+        (b"\xff", "1: not utf8"),
+        (b"# \xc3\nat 0 stop", "1: not utf8"),
+        (b"# x\n\n \t\r\nat 0 stop\n", "4: word"),
+        (b"at 4294967296 settle", "1: word"),
+        (b"at 01 settle", "1: word"),
+        (b"at 0 share a any strict", "1: word"),
+        (b"at 9 settle\nat 5 settle\n", "2: order"),
+        (b"at 0 settle\nroute any z\n", "2: order"),
+        (b"route any z", "1: name"),
+        (b"at 0 move A A x order", "1: name"),
+        (b"at 0 share a,b,a any strict", "1: same instance"),
+        (b"at 0 move z z x order", "1: same instance"),
+        (b"route local=10.0.0.1/24 a", "1: filter"),
+        (b"at 0 move a b local=10.0.0.1,,rport=1 order", "1: filter"),
+        (b"at 0 move a b proto=tcp,proto=tcp order", "1: filter"),
+        (b"at 0 copy a b rport=65535", "1: splits unit"),
+        (b"at 0 settle\n" * 1001, "1001: too many"),
+        (b"route any a\n" * 1001, "1001: too many"),
+        (b"#" * 1_048_577, "0: too many"),
+    )):
+        script = cases.file(f"net-script-{place:02}.script", text)
+        cases.words(f"net-script-{place:02}", network_words("monitor", "a,b", trace, script))
+        with open(f"net-script-{place:02}.err", encoding="ascii") as file:
+            if file.read() != f"opennf: script line {fault}\n":
+                sys.exit(f"cases.py: the model's line on {text[:50]} isn't the one that was worked out by hand")
+
+
+NETWORKS = networks_by_hand, office_moves, many_units, network_refusals, faulty_scripts
 
 
 def by_chance(cases, seed, count):
