@@ -4,7 +4,7 @@ use Rattle.nf_function.specs.Semantics.{Semantics}
 use Rattle.nf_msgs.specs.declared.msg.Msg.{Msg}
 use Rattle.nf_msgs.specs.declared.note.Note.{Note}
 use Rattle.actor_net.specs.declared.choice.Choice.{Choice}
-use Rattle.actor_net.specs.Network.{Network, IsRun, is_done, run}
+use Rattle.actor_net.specs.Network.{Network, is_done, run}
 use Rattle.actor_net.specs.Replays.{FirstFault}
 use Rattle.nf_net.specs.declared.node.Node.{Node}
 use Rattle.nf_net.specs.Nodes.{node_step, node_ready, node_ended}

@@ -38,9 +38,10 @@ pub fn audit<F: Function>(
     match run_choices(start, choices) {
         Ok(world) if world.complete() => Ok(report(alloc, head, &world, summary)?),
         Ok(_world) => Err(AuditFault::NotARun { step: count + 1 }),
-        Err(ReplayFault::NotEnabled { index }) => Err(AuditFault::NotARun {
-            step: index as u64 + 1,
-        }),
+        Err(ReplayFault::NotEnabled { index }) => {
+            let step = index as u64 + 1;
+            Err(AuditFault::NotARun { step })
+        }
         Err(ReplayFault::NoMemory) => Err(AuditFault::NoMemory),
     }
 }

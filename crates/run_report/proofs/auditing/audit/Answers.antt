@@ -6,8 +6,8 @@ use Rattle.run_report.specs.Lines.{report_text}
 use Rattle.run_report.proofs.AuditLemmas.{leads_to, complete, short, index_below, refused}
 use Rattle.run_report.proofs.auditing.audit.Goals as goal
 
-pub overflow_add-result-in-Err-NotEnabled : goal.overflow_add-result-in-Err-NotEnabled
-overflow_add-result-in-Err-NotEnabled g c =
+pub overflow_add-step : goal.overflow_add-step
+overflow_add-step g c =
     let below = index_below g.F.Function.semantics (started c.args.alloc c.args.config.now c.args.items.items) c.in_ok-start.start c.in_ok-start.ensures c.args.choices.now c.run_choices.result c.run_choices.ensures.replay c.in-Err-NotEnabled.index (c.in-Err-NotEnabled.is ∙ ap Err c.in-Err-NotEnabled.field-0-is) in
     rw c.in-Err-NotEnabled.field-0-is (search (rules, below))
 
