@@ -18,6 +18,9 @@ pub mod CreditCounts
 pub mod EveryRun
 pub mod FiltersApart
 pub mod InputLemmas
+pub mod InstallCounts
+pub mod InstallRuns
+pub mod InstallSteps
 pub mod InstanceKeeps
 pub mod InstanceNotes
 pub mod InstanceOutline
