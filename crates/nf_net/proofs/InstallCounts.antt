@@ -1,6 +1,6 @@
 -- A move sends one change of the switch's rules, when it begins to pass packets on; so the changes that it sent are as many as its phase
 -- says.
-use Rattle.std.proofs.Common.{◌≡◌, ℕ, ◌+◌, Bool, true, false, List, [], ◌∷◌, ◌++◌, map, refl, arith}
+use Rattle.std.proofs.Common.{◌≡◌, ℕ, ◌+◌, Bool, true, false, Option, Some, None, List, [], ◌∷◌, ◌++◌, map, refl, arith}
 use Rattle.std.specs.Prelude.{if◌then◌else◌, ◌&&◌, ◌||◌, ◌==◌, length}
 use Rattle.std.proofs.lemmas.Bool.Decides.{nat_tests}
 use Rattle.nf_function.specs.declared.chunk.Chunk.{Chunk}
@@ -23,10 +23,27 @@ use Rattle.actor_net.proofs.WeightLaws.{sent_weight}
 use Rattle.nf_net.proofs.CreditCounts.{sent_weight-append}
 use Rattle.nf_net.proofs.MoveOutline.{IsRefusing, is_done}
 
+-- what a change of the switch's rules for the command counts, or, of no command, the finish
+abbrev pub change : Option ℕ → ℕ → ℕ
+change None k = 0
+change (Some op) k = if k == op then 1 else 0
+
+abbrev pub finishing : Option ℕ → ℕ
+finishing None = 1
+finishing (Some op) = 0
+
+abbrev pub sent_of : Option ℕ → Msg → ℕ
+sent_of o (msg.Install k filter from to) = change o k
+sent_of o msg.Finish = finishing o
+sent_of o m = 0
+
 -- a change of the switch's rules for the command counts, and nothing else
 abbrev pub install : ℕ → Msg → ℕ
-install op (msg.Install k filter from to) = if k == op then 1 else 0
-install op m = 0
+install op m = sent_of (Some op) m
+
+-- the finish counts
+abbrev pub finish : Msg → ℕ
+finish m = sent_of None m
 
 -- how many changes a move has sent that is answered so, and one in this phase
 abbrev pub done_in : Answer → ℕ
@@ -51,27 +68,28 @@ if_zero true = refl
 if_zero false = refl
 
 module _ (n k : ℕ) where
-  -- no change is among what is sent
+  -- neither a change nor the finish is among what is sent
   abbrev pub NoInstall : List (ℕ × Msg) → Type 0
-  NoInstall sends = (op : ℕ) → sent_weight (install op) n k sends ≡ 0
+  NoInstall sends = (op : Option ℕ) → sent_weight (sent_of op) n k sends ≡ 0
 
-  pub no_more : (to : ℕ) (m : Msg) → ((op : ℕ) → install op m ≡ 0) → (sends : List (ℕ × Msg)) → NoInstall sends → NoInstall ((to, m) ∷ sends)
+  pub no_more : (to : ℕ) (m : Msg) → ((op : Option ℕ) → sent_of op m ≡ 0) → (sends : List (ℕ × Msg)) → NoInstall sends → NoInstall ((to, m) ∷ sends)
   no_more to m none sends h op = let own = none op in let rest = h op in rw (own, rest, if_zero (reaches n k to)) refl
 
-  pub no_one : (to : ℕ) (m : Msg) → ((op : ℕ) → install op m ≡ 0) → NoInstall ((to, m) ∷ [])
+  pub no_one : (to : ℕ) (m : Msg) → ((op : Option ℕ) → sent_of op m ≡ 0) → NoInstall ((to, m) ∷ [])
   no_one to m none = no_more to m none [] (λ op. refl)
 
   pub no_both : (xs ys : List (ℕ × Msg)) → NoInstall xs → NoInstall ys → NoInstall (xs ++ ys)
-  no_both xs ys a b op = let both = sent_weight-append (install op) n k xs ys in let first = a op in let second = b op in omega (arith, both, first, second)
+  no_both xs ys a b op = let both = sent_weight-append (sent_of op) n k xs ys in let first = a op in let second = b op in omega (arith, both, first, second)
 
 module _ (n : ℕ) (reach : reaches n 1 0 ≡ true) (plan : MovePlan) where
   -- what a move in a phase sends, and what it goes to
   pub record Adds (ph : Phase) (next : Next) : Type 0 where
     pub own : sent_weight (install plan.op) n 1 next.sends + passed ph ≡ passed next.phase
     pub other : (op : ℕ) → (plan.op == op) ≡ false → sent_weight (install op) n 1 next.sends ≡ 0
+    pub unfinished : sent_weight finish n 1 next.sends ≡ 0
 
   adds_none : (ph : Phase) (next : Next) → passed next.phase ≡ passed ph → NoInstall n 1 next.sends → Adds ph next
-  adds_none ph next same none = record { own = (let own = none plan.op in omega (arith, same, own)); other = λ op off. none op }
+  adds_none ph next same none = record { own = (let own = none (Some plan.op) in omega (arith, same, own)); other = λ op off. none (Some op); unfinished = none None }
 
   stays : (ph : Phase) → Adds ph (goes ph [])
   stays ph = adds_none ph (goes ph []) refl (λ op. refl)
@@ -102,14 +120,19 @@ module _ (n : ℕ) (reach : reaches n 1 0 ≡ true) (plan : MovePlan) where
         record {
           own =
               let both = sent_weight-append (install plan.op) n 1 (map (forward_to plan plan.to) events) last in
-              let none = forwards plan.to events plan.op in
+              let none = forwards plan.to events (Some plan.op) in
               let self : (plan.op == plan.op) ≡ true = grind (arith, nat_tests) in
               let one : sent_weight (install plan.op) n 1 last ≡ 1 = rw (reach, self) refl in
               omega (arith, both, none, one, zero);
           other = λ op off.
               let both = sent_weight-append (install op) n 1 (map (forward_to plan plan.to) events) last in
-              let none = forwards plan.to events op in
+              let none = forwards plan.to events (Some op) in
               let one : sent_weight (install op) n 1 last ≡ 0 = rw (reach, off) refl in
+              omega (arith, both, none, one);
+          unfinished =
+              let both = sent_weight-append finish n 1 (map (forward_to plan plan.to) events) last in
+              let none = forwards plan.to events None in
+              let one : sent_weight finish n 1 last ≡ 0 = rw reach refl in
               omega (arith, both, none, one);
         }
 

@@ -95,7 +95,7 @@ module _ {F R : Type 0} (f : Semantics R) (laws : FunctionLaws f) (g : Given) (f
         controller = (controller_step c p m).node;
         controller_is = left.own;
         balance = λ op.
-            let did = (controller_counts n reach op c (λ k x there. (let it = j.shown_is.controller.moves k x there in (it.op_is, it.refusing))) p m).sent in
+            let did = (controller_counts n reach op c (λ k x there. (let it = j.shown_is.controller.moves k x there in (it.op_is, it.refusing))) p m) in
             let none = no_install_to f g op p 1 m (omega arith) labelled in
             let noted = none_installed op (controller_step c p m).notes (controller_uninstalled c p m) in
             balance_after w 1 p (node_of j.nodes 1) m rest takes op (open_in (finite.get c.operations op)) (open_in (finite.get (controller_step c p m).node.operations op)) (subst (λ x. total (install op) w + times_installed op w.log ≡ open_in (finite.get x.operations op) + dones (answers_of op w.log)) same (h.balance op)) (omega (arith, did, none, noted));

@@ -38,7 +38,7 @@ use Rattle.actor_net.proofs.WeightLaws.{EachSent, sent_weight}
 use Rattle.nf_net.specs.Commands.{answers_of, times_installed}
 use Rattle.nf_net.proofs.BusyChanges.{got_insert, got_remove, gone_twice}
 use Rattle.nf_net.proofs.CreditCounts.{sent_weight-append}
-use Rattle.nf_net.proofs.InstallCounts.{install, done_in, passed, Adds, NoInstall, if_zero, no_one, row_adds}
+use Rattle.nf_net.proofs.InstallCounts.{install, finish, done_in, passed, Adds, NoInstall, if_zero, no_one, row_adds}
 use Rattle.nf_net.proofs.Joined.{Given, Label, count, is_instance}
 use Rattle.nf_net.proofs.MoveOutline.{IsRefusing}
 use Rattle.nf_net.proofs.PlaceNotes.{IsQuiet, is_uninstalled}
@@ -94,24 +94,29 @@ module _ (n : ℕ) (reach : reaches n 1 0 ≡ true) (k : ℕ) (c : ControllerSta
   -- what the step does for the command
   pub record Counts (did : Step) : Type 0 where
     pub sent : open_in (finite.get did.node.operations k) + dones (answers_of k did.notes) ≡ open_in (finite.get c.operations k) + sent_weight (install k) n 1 did.sends
+    pub unfinished : sent_weight finish n 1 did.sends ≡ 0
+    pub finish_same : did.node.finish_sent ≡ c.finish_sent
 
-  finished_is : (did : Step) → Counts did → Counts (finished did)
+  abbrev pub Sent : Step → Type 0
+  Sent did = open_in (finite.get did.node.operations k) + dones (answers_of k did.notes) ≡ open_in (finite.get c.operations k) + sent_weight (install k) n 1 did.sends
+
+  finished_is : (did : Step) → Counts did → Sent (finished did)
   finished_is did h =
-      let none : sent_weight (install k) n 1 (finish_of did.node) ≡ 0 = elim (may_finish did.node) as (λ b. sent_weight (install k) n 1 (if b then (0, msg.Finish) ∷ [] else []) ≡ 0) [ true ↦ no_one n 1 0 msg.Finish (λ op. refl) k | false ↦ refl ] in
+      let none : sent_weight (install k) n 1 (finish_of did.node) ≡ 0 = elim (may_finish did.node) as (λ b. sent_weight (install k) n 1 (if b then (0, msg.Finish) ∷ [] else []) ≡ 0) [ true ↦ rw reach refl | false ↦ refl ] in
       let same : open_in (finite.get (finished did).node.operations k) ≡ open_in (finite.get did.node.operations k) = elim (may_finish did.node) as (λ b. open_in (finite.get (if b then record did.node { finish_sent = true } else did.node).operations k) ≡ open_in (finite.get did.node.operations k)) [ true ↦ refl | false ↦ refl ] in
       let both = sent_weight-append (install k) n 1 did.sends (finish_of did.node) in
       let was = h.sent in
-      record { sent = omega (arith, none, same, both, was) }
+      omega (arith, none, same, both, was)
 
   still_is : Counts (still c)
-  still_is = record { sent = refl }
+  still_is = record { sent = refl; unfinished = refl; finish_same = refl }
 
-  none_is : (s : ControllerState) (sends : List (ℕ × Msg)) → s.operations ≡ c.operations → NoInstall n 1 sends → Counts (record { node = s; sends = sends; notes = [] })
-  none_is s sends same none = record { sent = let own = none k in let all = ap (λ ops. open_in (finite.get ops k)) same in omega (arith, own, all) }
+  none_is : (s : ControllerState) (sends : List (ℕ × Msg)) → s.operations ≡ c.operations → s.finish_sent ≡ c.finish_sent → NoInstall n 1 sends → Counts (record { node = s; sends = sends; notes = [] })
+  none_is s sends same kept none = record { sent = (let own = none (Some k) in let all = ap (λ ops. open_in (finite.get ops k)) same in omega (arith, own, all)); unfinished = none None; finish_same = kept }
 
   module _ (moves : (op : ℕ) (m : MoveState) → finite.get c.operations op ≡ Some (Move m) → (m.plan.op ≡ op) × IsRefusing m.phase) where
     turn_is : (op port : ℕ) (m : Msg) (o : Option Operation) → finite.get c.operations op ≡ o → Counts (takes_turn c op (turn_of o c.store port m))
-    turn_is op port m None is = record { sent = refl }
+    turn_is op port m None is = record { sent = refl; unfinished = refl; finish_same = refl }
     turn_is op port m (Some (Move mv)) is = by_answer (answer_of r.next.phase) refl
       where
         r : Row
@@ -142,17 +147,21 @@ module _ (n : ℕ) (reach : reaches n 1 0 ≡ true) (k : ℕ) (c : ControllerSta
         by_answer None e =
             let here : open_in (finite.get (finite.insert c.operations op (Move x)) k) ≡ (if k == op then passed r.next.phase else open_in (finite.get c.operations k)) = ap open_in (got_insert c.operations op k (Move x)) ∙ elim (k == op) as (λ b. open_in (cond b (Some (Move x)) (finite.get c.operations k)) ≡ (if b then passed r.next.phase else open_in (finite.get c.operations k))) [ true ↦ refl | false ↦ refl ] in
             let sent = sends_are (passed r.next.phase) refl in
-            record { sent = omega (arith, here, sent) }
+            record { sent = omega (arith, here, sent); unfinished = adds.unfinished; finish_same = refl }
         by_answer (Some a) e =
             let sends = r.next.sends ++ (0, msg.Answered op) ∷ [] in
             let both = sent_weight-append (install k) n 1 r.next.sends ((0, msg.Answered op) ∷ []) in
-            let none = no_one n 1 0 (msg.Answered op) (λ y. refl) k in
+            let none = no_one n 1 0 (msg.Answered op) (λ y. refl) (Some k) in
             let gone : finite.get (finite.remove (finite.insert c.operations op (Move x)) op) k ≡ cond (k == op) None (finite.get c.operations k) = got_remove (finite.insert c.operations op (Move x)) op k ∙ ap (λ o. cond (k == op) None o) (got_insert c.operations op k (Move x)) ∙ gone_twice (k == op) (Some (Move x)) (finite.get c.operations k) in
             let turned : (op == k) ≡ (k == op) = grind (arith, nat_tests) in
             let here : open_in (finite.get (finite.remove (finite.insert c.operations op (Move x)) op) k) + dones (answers_of k (note.Answered op a ∷ [])) ≡ (if k == op then done_in a else open_in (finite.get c.operations k)) =
             rw (gone, turned) (elim (k == op) as (λ b. open_in (cond b None (finite.get c.operations k)) + dones (if b then a ∷ [] else []) ≡ (if b then done_in a else open_in (finite.get c.operations k))) [ true ↦ omega arith | false ↦ omega arith ]) in
             let sent = sends_are (done_in a) (sym (over_is r.next.phase a e)) in
-            record { sent = omega (arith, both, none, here, sent) }
+            record {
+              sent = omega (arith, both, none, here, sent);
+              unfinished = (let all = sent_weight-append finish n 1 r.next.sends ((0, msg.Answered op) ∷ []) in let first = adds.unfinished in let last = no_one n 1 0 (msg.Answered op) (λ y. refl) None in omega (arith, all, first, last));
+              finish_same = refl;
+            }
 
     handed_is : (op port : ℕ) (m : Msg) → Counts (handed c op port m)
     handed_is op port m = turn_is op port m (finite.get c.operations op) refl
@@ -165,24 +174,25 @@ module _ (n : ℕ) (reach : reaches n 1 0 ≡ true) (k : ℕ) (c : ControllerSta
     event_is port op cell None = still_is
     event_is port op cell (Some i) = elim (finite.contains_key c.operations op) as (λ b. Counts (if b then handed c op port (msg.Event op cell) else record { node = c; sends = (0, msg.Forward i (mark.Pass op) cell) ∷ []; notes = [] })) [
       | true ↦ handed_is op port (msg.Event op cell)
-      | false ↦ none_is c ((0, msg.Forward i (mark.Pass op) cell) ∷ []) refl (no_one n 1 0 (msg.Forward i (mark.Pass op) cell) (λ y. refl))
+      | false ↦ none_is c ((0, msg.Forward i (mark.Pass op) cell) ∷ []) refl refl (no_one n 1 0 (msg.Forward i (mark.Pass op) cell) (λ y. refl))
     ]
 
     final_is : (i : Option ℕ) → Counts (on_final c i)
     final_is None = still_is
-    final_is (Some i) = none_is _ [] refl (λ op. refl)
+    final_is (Some i) = none_is _ [] refl refl (λ op. refl)
 
     -- a command that waits
     module _ (op : ℕ) (none : finite.get c.operations op ≡ None) where
       between_is : (filter : Filter) (keep : Bool) (a b : Option ℕ) → Counts (begins_between c op filter keep a b)
       between_is filter keep (Some from) (Some to) =
           let plan : MovePlan = record { op = op; from = from; to = to; filter = filter; keep = keep } in
-          let sent = no_one n 1 (from + 2) (msg.Enable op filter action.Drop) (λ y. refl) k in
+          let sent = no_one n 1 (from + 2) (msg.Enable op filter action.Drop) (λ y. refl) in
+          let own = sent (Some k) in
           let here : open_in (finite.get (finite.insert c.operations op (Move (begun plan))) k) ≡ open_in (finite.get c.operations k) = ap open_in (got_insert c.operations op k (Move (begun plan))) ∙ elim (k == op) as (λ b. (k == op) ≡ b → open_in (cond b (Some (Move (begun plan))) (finite.get c.operations k)) ≡ open_in (finite.get c.operations k)) [
             | true ↦ λ on. sym (ap (λ y. open_in (finite.get c.operations y)) ((Decides-eqb k op).0 on) ∙ ap open_in none)
             | false ↦ λ off. refl
           ] refl in
-          record { sent = omega (arith, here, sent) }
+          record { sent = omega (arith, here, own); unfinished = sent None; finish_same = refl }
       between_is filter keep None b = still_is
       between_is filter keep (Some from) None = still_is
 
@@ -195,9 +205,10 @@ module _ (n : ℕ) (reach : reaches n 1 0 ≡ true) (k : ℕ) (c : ControllerSta
       decided_is what None is = begins_is what
       decided_is what (Some a) is =
           let refused = refused_none (unknown_name c what) (overlap c what) a is in
-          let sent = no_one n 1 0 (msg.Answered op) (λ y. refl) k in
+          let sent = no_one n 1 0 (msg.Answered op) (λ y. refl) in
+          let own = sent (Some k) in
           let noted : dones (if op == k then a ∷ [] else []) ≡ 0 = elim (op == k) as (λ b. dones (if b then a ∷ [] else []) ≡ 0) [ true ↦ omega (arith, refused) | false ↦ refl ] in
-          record { sent = omega (arith, sent, noted) }
+          record { sent = omega (arith, own, noted); unfinished = sent None; finish_same = refl }
 
     asked_is : (op : ℕ) (what : Order) → Counts (on_asked c (record { op = op; what = what }))
     asked_is op what = by_got (finite.get c.operations op) refl
@@ -206,14 +217,14 @@ module _ (n : ℕ) (reach : reaches n 1 0 ≡ true) (k : ℕ) (c : ControllerSta
         by_got None is = decided_is op is what (refusal c what) refl
         by_got (Some x) is = still_is
 
-    row_counts : (port : ℕ) (m : Msg) → Counts (controller.row c port m)
+    pub row_counts : (port : ℕ) (m : Msg) → Counts (controller.row c port m)
     row_counts port (msg.Asked a) = elim (port == 0) as (λ b. Counts (if b then on_asked c a else still c)) [ true ↦ asked_is a.op a.what | false ↦ still_is ]
-    row_counts port msg.End = elim (port == 0) as (λ b. Counts (if b then still (record c { end_came = true }) else still c)) [ true ↦ none_is _ [] refl (λ op. refl) | false ↦ still_is ]
+    row_counts port msg.End = elim (port == 0) as (λ b. Counts (if b then still (record c { end_came = true }) else still c)) [ true ↦ none_is _ [] refl refl (λ op. refl) | false ↦ still_is ]
     row_counts port (msg.Event op cell) = event_is port op cell (instance_at c port)
     row_counts port msg.Final = final_is (instance_at c port)
     row_counts port m = numbered_is port m (op_of m)
 
-    pub controller_counts : (port : ℕ) (m : Msg) → Counts (controller_step c port m)
+    pub controller_counts : (port : ℕ) (m : Msg) → Sent (controller_step c port m)
     controller_counts port m = finished_is (controller.row c port m) (row_counts port m)
 
 -- Other nodes send no change of the rules, and none is sent to another node than the switch.
