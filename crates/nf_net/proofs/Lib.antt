@@ -29,6 +29,7 @@ pub mod InstanceSends
 pub mod InstanceSteps
 pub mod Joined
 pub mod JoinedSteps
+pub mod LinePicks
 pub mod LinkOutline
 pub mod LogLemmas
 pub mod MoveOutline
