@@ -37,7 +37,7 @@ use Rattle.nf_net.proofs.BusyLemmas.{AreOther, some_answered, answers_of-append,
 use Rattle.nf_net.proofs.BusyNodes.{switch_hands, instance_says}
 use Rattle.nf_net.proofs.BusyRuns.{Busy, same_controller, busy_is}
 use Rattle.nf_net.proofs.InstallCounts.{install, done_in, passed}
-use Rattle.nf_net.proofs.InstallSteps.{dones, dones-append, open_in, controller_counts, no_install_from, no_install_to, none_sent, switch_notes, times_installed-append, none_installed, quiet_installed}
+use Rattle.nf_net.proofs.InstallSteps.{dones, dones-append, open_in, controller_counts, no_install_to, none_sent, items_none, switch_notes, times_installed-append, none_installed, quiet_installed}
 use Rattle.nf_net.proofs.Joined.{Given, Label, Joined, count, node_of}
 use Rattle.nf_net.proofs.JoinedSteps.{label, step_leads, joined_next}
 use Rattle.nf_net.proofs.PlaceNotes.{instance_quiet, controller_uninstalled}
@@ -78,7 +78,7 @@ module _ {F R : Type 0} (f : Semantics R) (laws : FunctionLaws f) (g : Given) (f
         controller = h.controller;
         controller_is = λ d. left.others 1 d (omega arith) ∙ h.controller_is d;
         balance = λ op.
-            let sent = none_sent f g op n 0 (switch_step s m).sends (λ never. cc) labels in
+            let sent = none_sent f g (Some op) n 0 (switch_step s m).sends (λ never. cc) labels in
             let noted = switch_notes f g op s p m j.shown_is.switch.instances labelled in
             let none = no_dones op (switch_step s m).notes (switch_hands f g s p m labelled).notes_are in
             let own = open_in (finite.get h.controller.operations op) in
@@ -96,7 +96,7 @@ module _ {F R : Type 0} (f : Semantics R) (laws : FunctionLaws f) (g : Given) (f
         controller_is = left.own;
         balance = λ op.
             let did = (controller_counts n reach op c (λ k x there. (let it = j.shown_is.controller.moves k x there in (it.op_is, it.refusing))) p m) in
-            let none = no_install_to f g op p 1 m (omega arith) labelled in
+            let none = no_install_to f g (Some op) p 1 m (omega arith) labelled in
             let noted = none_installed op (controller_step c p m).notes (controller_uninstalled c p m) in
             balance_after w 1 p (node_of j.nodes 1) m rest takes op (open_in (finite.get c.operations op)) (open_in (finite.get (controller_step c p m).node.operations op)) (subst (λ x. total (install op) w + times_installed op w.log ≡ open_in (finite.get x.operations op) + dones (answers_of op w.log)) same (h.balance op)) (omega (arith, did, none, noted));
       }
@@ -112,18 +112,13 @@ module _ {F R : Type 0} (f : Semantics R) (laws : FunctionLaws f) (g : Given) (f
         controller = h.controller;
         controller_is = λ d. left.others 1 d (omega arith) ∙ h.controller_is d;
         balance = λ op.
-            let sent = none_sent f g op n k (step (node_of j.nodes k) p m).sends other labels in
-            let taken_none = no_install_to f g op p k m (omega arith) labelled in
+            let sent = none_sent f g (Some op) n k (step (node_of j.nodes k) p m).sends other labels in
+            let taken_none = no_install_to f g (Some op) p k m (omega arith) labelled in
             let noted = quiet_installed op instance.index notes (instance_quiet f instance m) in
             let none = no_dones op notes (instance_says f g k instance m).notes_are in
             let own = open_in (finite.get h.controller.operations op) in
             balance_after w k p (node_of j.nodes k) m rest takes op own own (h.balance op) (omega (arith, sent, taken_none, noted, none));
       }
-
--- an input has no change of the rules
-items_none : {R : Type 0} (f : Semantics R) (g : Given) (op : ℕ) (items : List Msg) → Each (Label f g 0 0) items → weigh (install op) items ≡ 0
-items_none f g op [] h = refl
-items_none f g op (m ∷ ms) h = let own = no_install_from f g op 0 0 m (λ never. cc) h.0 in let rest = items_none f g op ms h.1 in omega (arith, own, rest)
 
 -- as many as there are answers, or fewer
 dones_few : (xs : List Answer) → dones xs ≤ length xs
@@ -223,7 +218,7 @@ module _ (F : Type 0) {R : Type 0} (f : Semantics R) (laws : FunctionLaws f) (al
     controller_is = λ d. refl;
     balance = λ op.
         let none = opening_weight Note (first_nodes {F = F} {R = R} alloc c) items (install op) in
-        let given_none = items_none f (given f c items is) op items (all_labelled f c items is) in
+        let given_none = items_none f (given f c items is) (Some op) items (all_labelled f c items is) in
         let closed : open_in (finite.get (finite.empty {X = Operation} {R = nat_cmp}) op) ≡ 0 = ap open_in (finite.get-empty nat_cmp op) in
         omega (arith, none, given_none, closed);
   }

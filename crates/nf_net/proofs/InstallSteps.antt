@@ -34,11 +34,11 @@ use Rattle.ctrl_node.specs.Controller.{ControllerState, Step, still, refusal, pl
 use Rattle.switch_node.specs.Switch as switch
 use Rattle.switch_node.specs.Switch.{SwitchState, switch_step, sends_to_instance, goes_to, target_of, has_room, is_there}
 use Rattle.actor_net.specs.Network.{reaches}
-use Rattle.actor_net.proofs.WeightLaws.{EachSent, sent_weight}
+use Rattle.actor_net.proofs.WeightLaws.{EachSent, weigh, sent_weight}
 use Rattle.nf_net.specs.Commands.{answers_of, times_installed}
 use Rattle.nf_net.proofs.BusyChanges.{got_insert, got_remove, gone_twice}
 use Rattle.nf_net.proofs.CreditCounts.{sent_weight-append}
-use Rattle.nf_net.proofs.InstallCounts.{install, finish, done_in, passed, Adds, NoInstall, if_zero, no_one, row_adds}
+use Rattle.nf_net.proofs.InstallCounts.{sent_of, install, finish, done_in, passed, Adds, NoInstall, if_zero, no_one, row_adds}
 use Rattle.nf_net.proofs.Joined.{Given, Label, count, is_instance}
 use Rattle.nf_net.proofs.MoveOutline.{IsRefusing}
 use Rattle.nf_net.proofs.PlaceNotes.{IsQuiet, is_uninstalled}
@@ -227,23 +227,31 @@ module _ (n : ℕ) (reach : reaches n 1 0 ≡ true) (k : ℕ) (c : ControllerSta
     pub controller_counts : (port : ℕ) (m : Msg) → Sent (controller_step c port m)
     controller_counts port m = finished_is (controller.row c port m) (row_counts port m)
 
--- Other nodes send no change of the rules, and none is sent to another node than the switch.
-module _ {R : Type 0} (f : Semantics R) (g : Given) (op : ℕ) where
-  pub no_install_from : (k r : ℕ) (m : Msg) → k ≢ 1 → Label f g k r m → install op m ≡ 0
+-- Other nodes send neither a change of the rules nor the finish, and none is sent to another node than the switch.
+module _ {R : Type 0} (f : Semantics R) (g : Given) (o : Option ℕ) where
+  pub no_install_from : (k r : ℕ) (m : Msg) → k ≢ 1 → Label f g k r m → sent_of o m ≡ 0
   no_install_from k r (msg.Install j filter from to) other label = absurd (other label.0.0)
+  no_install_from k r msg.Finish other label = absurd (other label.0)
   no_install_from k r m other label = refl
 
-  pub no_install_to : (p k : ℕ) (m : Msg) → 1 ≤ k → Label f g p k m → install op m ≡ 0
+  pub no_install_to : (p k : ℕ) (m : Msg) → 1 ≤ k → Label f g p k m → sent_of o m ≡ 0
   no_install_to p k (msg.Install j filter from to) some label = let none = label.0.1 in absurd (omega (arith, some, none))
+  no_install_to p k msg.Finish some label = let none = label.1 in absurd (omega (arith, some, none))
   no_install_to p k m some label = refl
 
-  pub none_sent : (n k : ℕ) (sends : List (ℕ × Msg)) → k ≢ 1 → EachSent (Label f g) k sends → sent_weight (install op) n k sends ≡ 0
+  pub none_sent : (n k : ℕ) (sends : List (ℕ × Msg)) → k ≢ 1 → EachSent (Label f g) k sends → sent_weight (sent_of o) n k sends ≡ 0
   none_sent n k [] other h = refl
   none_sent n k (x ∷ xs) other h =
       let own = no_install_from k x.0 x.1 other h.0 in
       let rest = none_sent n k xs other h.1 in
       rw (own, rest, if_zero (reaches n k x.0)) refl
 
+  -- an input has none
+  pub items_none : (items : List Msg) → Each (Label f g 0 0) items → weigh (sent_of o) items ≡ 0
+  items_none [] h = refl
+  items_none (m ∷ ms) h = let own = no_install_from 0 0 m (λ never. cc) h.0 in let rest = items_none ms h.1 in omega (arith, own, rest)
+
+module _ {R : Type 0} (f : Semantics R) (g : Given) (op : ℕ) where
   -- The switch notes each change that it takes.
   abbrev Notes : ℕ → switch.Step → Type 0
   Notes one did = times_installed op did.notes ≡ one

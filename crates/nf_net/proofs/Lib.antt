@@ -15,6 +15,8 @@ pub mod ControllerScenes
 pub mod ControllerSteps
 pub mod ControllerTurns
 pub mod CreditCounts
+pub mod EndRuns
+pub mod EndTables
 pub mod EveryRun
 pub mod FiltersApart
 pub mod InputLemmas
@@ -54,6 +56,7 @@ pub mod StateOutline
 pub mod SwitchLemmas
 pub mod SwitchOutline
 pub mod SwitchSteps
+pub mod ToldCommands
 pub mod UnitCounts
 pub mod WindowRuns
 pub mod WindowSteps
