@@ -127,3 +127,65 @@ module _ (g : Given) (log : List Note) (c : ControllerState) (op : ℕ) (open_is
       flagged : (b : Bool) → 1 ≤ flag b → b ≡ true
       flagged true h = refl
       flagged false h = absurd (omega (arith, h))
+
+-- What each node's step does with a command.
+module _ {R : Type 0} (f : Semantics R) (g : Given) (op : ℕ) where
+  moves_order : (what : Order) → is_move f g what ≡ true → is_move_order what ≡ true
+  moves_order (order.Move source destination filter keep) e = refl
+  moves_order (order.Copy source destination filter) e = cc
+  moves_order (order.Share members filter) e = cc
+
+  controller_told : (log : List Note) (c : ControllerState) → ((k : ℕ) → finite.contains_key c.operations k ≡ is_busy k log) → (p : ℕ) (m : Msg) → Label f g p 1 m → told op m ≤ flag (is_noted op (log ++ (controller_step c p m).notes))
+  controller_told log c open_is p (msg.InCommand k) label = let never = label.0.1 in cc
+  controller_told log c open_is p (msg.Asked k) label =
+      let noted = asked_noted g log c k.op (open_is k.op) k.what (moves_order k.what label.2.moves) in
+      let from : (p == 0) ≡ true = (Decides-eqb p 0).1 label.0 in
+      let all : is_noted k.op (log ++ (controller_step c p (msg.Asked k)).notes) ≡ true = ap (λ b. is_noted k.op (log ++ (if b then on_asked c k else still c).notes)) from ∙ noted in
+      elim (k.op == op) as (λ b. (k.op == op) ≡ b → (if b then 1 else 0) ≤ flag (is_noted op (log ++ (controller_step c p (msg.Asked k)).notes))) [
+        | true ↦ λ on. (let mine = subst (λ y. is_noted y (log ++ (controller_step c p (msg.Asked k)).notes) ≡ true) ((Decides-eqb k.op op).0 on) all in let one = ap flag mine in omega (arith, one))
+        | false ↦ λ off. omega arith
+      ] refl
+  controller_told log c open_is p m label = omega arith
+
+  switch_told : (n : ℕ) → reaches n 0 1 ≡ true → (s : SwitchState) (p : ℕ) (m : Msg) → Label f g p 0 m → told op m ≤ sent_weight (told op) n 0 (switch_step s m).sends
+  switch_told n reach s p (msg.InCommand k) label = rw reach (omega arith)
+  switch_told n reach s p (msg.Asked k) label = let never = label.1 in cc
+  switch_told n reach s p m label = omega arith
+
+  instance_told : (p k : ℕ) (m : Msg) → 2 ≤ k → Label f g p k m → told op m ≡ 0
+  instance_told p k (msg.Asked c) two label = let one = label.1 in absurd (omega (arith, one, two))
+  instance_told p k (msg.InCommand c) two label = let none = label.0.1 in absurd (omega (arith, none, two))
+  instance_told p k m two label = refl
+
+-- each command of the input waits, began or was answered
+abbrev pub Told : List Msg → {F R : Type 0} → Network (Node F R) Msg Note → Type 0
+Told items w = (op : ℕ) → 1 ≤ weigh (told op) items → 1 ≤ total (told op) w + flag (is_noted op w.log)
+
+module _ {F R : Type 0} (f : Semantics R) (laws : FunctionLaws f) (g : Given) (fitting : (number : ℕ) → Fits g.site (g.packet number)) (n : ℕ) (count_is : n ≡ count f g + 2) (items : List Msg) where
+  abbrev step : Node F R → ℕ → Msg → Stepped (Node F R) Msg Note
+  step = node_step f
+
+  told_after : (w : Network (Node F R) Msg Note) (k p : ℕ) (m : Msg) (rest : List Msg) (j : Joined f g n w) (takes : Takes step n w k p (node_of j.nodes k) m rest) → (is_input (at k p) ≡ true → node_ready (node_of j.nodes k) m ≡ true) → Busy g w → Told items w → Told items (taken step w (at k p))
+  told_after w k p m rest j takes ready b h op some = by_node k takes (label f laws g fitting n count_is w k p m rest j takes ready)
+    where
+      -- what is left, by what the step sends and notes
+      left : (k : ℕ) (takes : Takes step n w k p (node_of j.nodes k) m rest) → told op m ≤ sent_weight (told op) n k (step (node_of j.nodes k) p m).sends + flag (is_noted op (w.log ++ (step (node_of j.nodes k) p m).notes)) → 1 ≤ total (told op) (taken step w (at k p)) + flag (is_noted op (taken step w (at k p)).log)
+      left k takes less =
+          let notes = (step (node_of j.nodes k) p m).notes in
+          let log = ap (λ l. flag (is_noted op l)) (taken_outcome step n w k p (node_of j.nodes k) m rest takes).log in
+          let weight = total_after step n w k p (node_of j.nodes k) m rest takes (told op) in
+          let more = noted_more op w.log notes in
+          let was = h op some in
+          omega (arith, log, weight, more, was, less)
+
+      by_node : (k : ℕ) → Takes step n w k p (node_of j.nodes k) m rest → Label f g p k m → 1 ≤ total (told op) (taken step w (at k p)) + flag (is_noted op (taken step w (at k p)).log)
+      by_node zero takes labelled =
+          let reach : reaches n 0 1 ≡ true = grind (arith, nat_tests, count_is) in
+          let sent = switch_told f g op n reach j.nodes.switch p m labelled in
+          left 0 takes (omega (arith, sent))
+      by_node (suc zero) takes labelled =
+          let noted = controller_told f g op w.log j.nodes.controller (busy_is f g n count_is w j b) p m labelled in
+          left 1 takes (omega (arith, noted))
+      by_node (suc (suc i)) takes labelled =
+          let none = instance_told f g op p (suc (suc i)) m (omega arith) labelled in
+          left (suc (suc i)) takes (omega (arith, none))
