@@ -76,7 +76,7 @@ module _ (F : Type 0) {R : Type 0} (f : Semantics R) (laws : FunctionLaws f) (al
   abbrev first : Network (Node F R) Msg Note
   first = started {F = F} {R = R} alloc c items
 
-  start_busy : Busy {F = F} {R = R} g first
+  pub start_busy : Busy {F = F} {R = R} g first
   start_busy =
       let only = all_each (λ item. is_item item ≡ true) items is.only_items in
       let count = count_at_start F f alloc c items is in

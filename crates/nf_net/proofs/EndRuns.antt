@@ -1,15 +1,11 @@
 -- Where nothing is left to be done, no operation is open and each command of the input was answered, if none stands behind the input's end.
-use Rattle.std.proofs.Common.{◌≡◌, ◌≢◌, ℕ, zero, suc, ◌+◌, ◌<◌, ◌≤◌, Bool, true, false, Option, Some, None, List, [], ◌∷◌, ◌++◌, length, get_or, refl, sym, ap, ◌∙◌, subst, arith}
-use Rattle.std.specs.Prelude.{if◌then◌else◌, ◌&&◌, ◌||◌, ◌==◌, not, find, is_some, option_map}
-use Rattle.std.specs.Option.{option_or}
+use Rattle.std.proofs.Common.{◌≡◌, ◌≢◌, ℕ, zero, suc, ◌+◌, ◌<◌, Bool, true, false, Some, None, List, [], ◌∷◌, ◌++◌, length, get_or, refl, sym, ap, ◌∙◌, subst, arith}
+use Rattle.std.specs.Prelude.{if◌then◌else◌, ◌&&◌, ◌==◌, not}
 use Rattle.std.specs.declared.alloc.Global.{Global}
-use Rattle.std.specs.Ordering.{nat_cmp}
 use Rattle.std.specs.FinMap as finite
 use Rattle.std.proofs.lemmas.Bool.Decides.{nat_tests, Decides-eqb}
 use Rattle.nf_function.specs.Records.{Fits, Laws as FunctionLaws}
 use Rattle.nf_function.specs.Semantics.{Semantics}
-use Rattle.nf_msgs.specs.declared.command.Command.{Command}
-use Rattle.nf_msgs.specs.declared.command.Order.{Order}
 use Rattle.nf_msgs.specs.declared.msg.Msg.{Msg}
 use Rattle.nf_msgs.specs.declared.msg.Msg.TheVariants as msg
 use Rattle.nf_msgs.specs.declared.note.Note.{Note}
@@ -20,10 +16,9 @@ use Rattle.actor_net.proofs.EnabledChoices.{at}
 use Rattle.actor_net.proofs.OpeningWorlds.{opening_waiting, opening_weight}
 use Rattle.actor_net.proofs.RunInduction.{Taking, run_induction}
 use Rattle.actor_net.proofs.StepOutcome.{Takes, taken_outcome}
-use Rattle.actor_net.proofs.WeightLaws.{weigh, total, sent_weight, total_after}
+use Rattle.actor_net.proofs.WeightLaws.{total, sent_weight, total_after}
 use Rattle.unit_machine.proofs.Labels.{Each}
 use Rattle.move_op.specs.Move.{MoveState}
-use Rattle.ctrl_node.specs.declared.operation.Operation.{Operation}
 use Rattle.ctrl_node.specs.declared.operation.Operation.TheVariants.{Move}
 use Rattle.ctrl_node.specs.Operations.{are_quiet}
 use Rattle.ctrl_node.specs.Controller as controller
@@ -37,7 +32,7 @@ use Rattle.nf_net.specs.Nodes.{node_step, node_ready, node_ended}
 use Rattle.nf_net.specs.Start.{first_nodes, first_switch, started}
 use Rattle.nf_net.proofs.BusyRuns.{same_controller}
 use Rattle.nf_net.proofs.CreditCounts.{sent_weight-append}
-use Rattle.nf_net.proofs.EndTables.{sign_in, no_command, in_order, none_ordered, ordered_behind, quiet_none, row_ends, sign_at_switch, sign_at_controller, flag, switch_closes}
+use Rattle.nf_net.proofs.EndTables.{sign_in, no_command, in_order, ordered_behind, quiet_none, row_ends, sign_at_switch, sign_at_controller, flag, switch_closes}
 use Rattle.nf_net.proofs.InstallCounts.{finish}
 use Rattle.nf_net.proofs.InstallSteps.{row_counts, no_install_to, none_sent, items_none}
 use Rattle.nf_net.proofs.Joined.{Given, Label, Joined, count, node_of}

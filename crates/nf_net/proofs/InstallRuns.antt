@@ -18,8 +18,7 @@ use Rattle.actor_net.proofs.EnabledChoices.{at}
 use Rattle.actor_net.proofs.OpeningWorlds.{opening_weight}
 use Rattle.actor_net.proofs.RunInduction.{Taking, run_induction}
 use Rattle.actor_net.proofs.StepOutcome.{Takes, taken_outcome}
-use Rattle.actor_net.proofs.WeightLaws.{weigh, total, sent_weight, total_after}
-use Rattle.unit_machine.proofs.Labels.{Each}
+use Rattle.actor_net.proofs.WeightLaws.{total, sent_weight, total_after}
 use Rattle.move_op.specs.declared.phase.Phase.{Phase}
 use Rattle.move_op.specs.declared.phase.Phase.TheVariants as phase
 use Rattle.ctrl_node.specs.declared.operation.Operation.{Operation}
@@ -38,7 +37,7 @@ use Rattle.nf_net.proofs.BusyNodes.{switch_hands, instance_says}
 use Rattle.nf_net.proofs.BusyRuns.{Busy, same_controller, busy_is}
 use Rattle.nf_net.proofs.InstallCounts.{install, done_in, passed}
 use Rattle.nf_net.proofs.InstallSteps.{dones, dones-append, open_in, controller_counts, no_install_to, none_sent, items_none, switch_notes, times_installed-append, none_installed, quiet_installed}
-use Rattle.nf_net.proofs.Joined.{Given, Label, Joined, count, node_of}
+use Rattle.nf_net.proofs.Joined.{Given, Joined, count, node_of}
 use Rattle.nf_net.proofs.JoinedSteps.{label, step_leads, joined_next}
 use Rattle.nf_net.proofs.PlaceNotes.{instance_quiet, controller_uninstalled}
 use Rattle.nf_net.proofs.RunsJoined.{start_world}

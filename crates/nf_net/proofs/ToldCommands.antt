@@ -1,5 +1,5 @@
 -- No command is lost: each of the input waits still, or the log says that it began or was answered. So in a complete run each is answered.
-use Rattle.std.proofs.Common.{◌≡◌, ◌≢◌, ℕ, zero, suc, ◌+◌, ◌<◌, ◌≤◌, Bool, true, false, Option, Some, None, List, [], ◌∷◌, ◌++◌, length, refl, sym, ap, ◌∙◌, subst, arith}
+use Rattle.std.proofs.Common.{◌≡◌, ℕ, zero, suc, ◌+◌, ◌≤◌, Bool, true, false, Option, Some, None, List, [], ◌∷◌, ◌++◌, length, refl, sym, ap, ◌∙◌, subst, arith}
 use Rattle.std.specs.Prelude.{if◌then◌else◌, ◌&&◌, ◌||◌, ◌==◌, not, find, is_some, option_map}
 use Rattle.std.specs.Option.{option_or}
 use Rattle.std.specs.declared.alloc.Global.{Global}
@@ -10,18 +10,18 @@ use Rattle.nf_function.specs.Records.{Fits, Laws as FunctionLaws}
 use Rattle.nf_function.specs.Semantics.{Semantics}
 use Rattle.nf_msgs.specs.declared.answer.Answer.{Answer}
 use Rattle.nf_msgs.specs.declared.answer.Answer.TheVariants.{Unknown, Overlap}
-use Rattle.nf_msgs.specs.declared.command.Command.{Command}
 use Rattle.nf_msgs.specs.declared.command.Order.{Order}
 use Rattle.nf_msgs.specs.declared.command.Order.TheVariants as order
 use Rattle.nf_msgs.specs.declared.msg.Msg.{Msg}
 use Rattle.nf_msgs.specs.declared.msg.Msg.TheVariants as msg
 use Rattle.nf_msgs.specs.declared.note.Note.{Note}
+use Rattle.nf_msgs.specs.declared.note.Note.TheVariants as note
 use Rattle.actor_net.specs.declared.choice.Choice.{Choice}
 use Rattle.actor_net.specs.Network.{Network, Stepped, IsRun, is_input, is_done, reaches, run, taken}
 use Rattle.actor_net.proofs.CompleteWorlds.{done_weight}
 use Rattle.actor_net.proofs.EnabledChoices.{at}
 use Rattle.actor_net.proofs.OpeningWorlds.{opening_weight}
-use Rattle.actor_net.proofs.RunInduction.{Taking, run_induction}
+use Rattle.actor_net.proofs.RunInduction.{Taking, run_induction, run_world}
 use Rattle.actor_net.proofs.StepOutcome.{Takes, taken_outcome}
 use Rattle.actor_net.proofs.WeightLaws.{weigh, total, sent_weight, total_after}
 use Rattle.ctrl_node.specs.Controller as controller
@@ -29,16 +29,21 @@ use Rattle.ctrl_node.specs.Controller.{ControllerState, Step, still, refusal, un
 use Rattle.switch_node.specs.Switch.{SwitchState, switch_step}
 use Rattle.nf_net.specs.declared.config.Config.{Config}
 use Rattle.nf_net.specs.declared.node.Node.{Node}
+use Rattle.nf_net.specs.declared.node.Node.TheVariants.{Controller}
 use Rattle.nf_net.specs.Commands.{began, has_answered, is_busy, answers_of}
-use Rattle.nf_net.specs.Input.{IsInput, commands, order_of}
+use Rattle.nf_net.specs.Input.{IsInput, commands, order_of, ends_last}
 use Rattle.nf_net.specs.Nodes.{node_step, node_ready, node_ended}
 use Rattle.nf_net.specs.Start.{first_nodes, started}
-use Rattle.nf_net.proofs.BusyLemmas.{is_noted, has_answered-append, none_answered}
-use Rattle.nf_net.proofs.BusyRuns.{Busy, busy_is, busy_next}
+use Rattle.nf_net.proofs.BusyLemmas.{is_noted, has_answered-append}
+use Rattle.nf_net.proofs.BusyRuns.{Busy, same_controller, busy_is, busy_next}
+use Rattle.nf_net.proofs.CommandPromises.{start_busy, run_busy}
+use Rattle.nf_net.proofs.EndRuns.{run_ends, none_open}
 use Rattle.nf_net.proofs.EndTables.{flag}
-use Rattle.nf_net.proofs.Joined.{Given, Label, Joined, IsCommand, is_move, count, node_of}
+use Rattle.nf_net.proofs.Joined.{Given, Label, Joined, is_move, count, node_of}
 use Rattle.nf_net.proofs.JoinedSteps.{label, joined_next}
 use Rattle.nf_net.proofs.LogLemmas.{has_begun-append}
+use Rattle.nf_net.proofs.RunsJoined.{start_world}
+use Rattle.nf_net.proofs.StartJoined.{given, all_fit, count_at_start, start_joined}
 
 -- a command of this number that waits
 abbrev pub told : ℕ → Msg → ℕ
@@ -189,3 +194,72 @@ module _ {F R : Type 0} (f : Semantics R) (laws : FunctionLaws f) (g : Given) (f
       by_node (suc (suc i)) takes labelled =
           let none = instance_told f g op p (suc (suc i)) m (omega arith) labelled in
           left (suc (suc i)) takes (omega (arith, none))
+
+-- a command of the input
+listed : (op : ℕ) (items : List Msg) (what : Order) → order_of items op ≡ Some what → 1 ≤ weigh (told op) items
+listed op [] what is = cc
+listed op (msg.InCommand c ∷ items) what is = elim (c.op == op) as (λ b. option_map (λ x. x.what) (if b then Some c else find (λ x. x.op == op) (commands items)) ≡ Some what → 1 ≤ (if b then 1 else 0) + weigh (told op) items) [
+  | true ↦ λ here. omega arith
+  | false ↦ λ behind. (let rest = listed op items what behind in omega (arith, rest))
+] is
+listed op (m ∷ items) what is = let rest = listed op items what is in omega (arith, rest)
+
+-- an answer stands among the answers
+some_answers : (op : ℕ) (log : List Note) → has_answered op log ≡ true → 1 ≤ length (answers_of op log)
+some_answers op [] h = cc
+some_answers op (note.Answered k answer ∷ xs) h = elim (k == op) as (λ b. b || has_answered op xs ≡ true → 1 ≤ length (if b then answer ∷ answers_of op xs else answers_of op xs)) [
+  | true ↦ λ here. omega arith
+  | false ↦ λ behind. some_answers op xs behind
+] h
+some_answers op (note.Arrived number ∷ xs) h = some_answers op xs h
+some_answers op (note.Processed number instance output ∷ xs) h = some_answers op xs h
+some_answers op (note.Begun k ∷ xs) h = some_answers op xs h
+some_answers op (note.Exported instance k us ∷ xs) h = some_answers op xs h
+some_answers op (note.Imported instance k us ∷ xs) h = some_answers op xs h
+some_answers op (note.Kept instance k us ∷ xs) h = some_answers op xs h
+some_answers op (note.Installed k ∷ xs) h = some_answers op xs h
+
+module _ (F : Type 0) {R : Type 0} (f : Semantics R) (laws : FunctionLaws f) (alloc : Global) (c : Config) (items : List Msg) (is : IsInput f.kind c items) where
+  abbrev start : Network (Node F R) Msg Note
+  start = started {F = F} {R = R} alloc c items
+
+  abbrev nodes : ℕ
+  nodes = length c.names + 2
+
+  abbrev g : Given
+  g = given f c items is
+
+  told_next : (w : Network (Node F R) Msg Note) (k : Choice) → Taking node_ready (node_step f) nodes w k → Joined f g nodes w → Busy g w → Told items w → Told items (taken (node_step f) w k)
+  told_next w k t j b h =
+      let same : t.node ≡ node_of j.nodes k.node = sym (t.takes.node_is t.node) ∙ j.nodes_are k.node t.takes.receiver t.node in
+      told_after f laws g (all_fit f c items is) nodes refl items w k.node k.port t.message t.rest j (subst (λ y. Takes (node_step f) nodes w k.node k.port y t.message t.rest) same t.takes) (subst (λ y. is_input k ≡ true → node_ready y t.message ≡ true) same t.was_ready) b h
+
+  told_at_start : Told items start
+  told_at_start op some = let all = opening_weight Note (first_nodes {F = F} {R = R} alloc c) items (told op) in omega (arith, all, some)
+
+  run_told : (cs : List Choice) → IsRun node_ready (node_step f) cs start → Told items (run (node_step f) cs start)
+  run_told cs run_is = (run_induction node_ready (node_step f) nodes (λ _ w. Joined f g nodes w × Busy g w × Told items w) start
+      (λ _ w k next h. (joined_next f laws g (all_fit f c items is) nodes refl w k next.taking h.0, busy_next f g nodes refl w k next.taking h.0 h.1, told_next w k next.taking h.0 h.1 h.2))
+      (start_world F f laws alloc c items is) (count_at_start F f alloc c items is) (start_joined F f alloc c items is, start_busy F f laws alloc c items is, told_at_start) cs run_is).2
+
+  -- in a complete run each command is answered, if none stands behind the input's end
+  pub each_answered : ends_last items ≡ true → (cs : List Choice) → IsRun node_ready (node_step f) cs start → is_done node_ended (run (node_step f) cs start) ≡ true → (op : ℕ) (what : Order) → order_of items op ≡ Some what → length (answers_of op (run (node_step f) cs start).log) ≡ 1
+  each_answered last cs run_is done op what known =
+      let w = run (node_step f) cs start in
+      let busy = run_busy F f laws alloc c items is cs run_is in
+      let j = busy.0 in
+      let ends = run_ends F f laws alloc c items is last cs run_is in
+      let world = run_world node_ready (node_step f) nodes start (start_world F f laws alloc c items is) (count_at_start F f alloc c items is) cs run_is in
+      let count = world.1 in
+      let waits = run_told cs run_is op (listed op items what known) in
+      let nothing = done_weight node_ended w done (told op) in
+      let same : ends.controller ≡ j.nodes.controller = same_controller {F = F} {R = R} ends.controller j.nodes.controller (sym (ends.controller_is (Controller ends.controller)) ∙ j.nodes_are 1 (omega arith) (Controller ends.controller)) in
+      let closed : is_busy op w.log ≡ false = sym (busy_is f g nodes refl w j busy.1 op) ∙ ap (λ x. is_some (finite.get x.operations op)) (sym same) ∙ ap is_some (none_open w (omega (arith, count)) done ends op) in
+      let few = (busy.1.is.answered op).answered_once in
+      let some = some_answers op w.log (answered (began op w.log) (has_answered op w.log) closed (omega (arith, waits, nothing))) in
+      omega (arith, few, some)
+    where
+      answered : (a b : Bool) → a && not b ≡ false → 1 ≤ flag (a || b) → b ≡ true
+      answered a true e h = refl
+      answered true false e h = cc
+      answered false false e h = absurd (omega (arith, h))
