@@ -1,5 +1,5 @@
 ghost use Rattle.std.specs.Prelude.{◌≡◌, map, option_map, string_bytes};
-ghost use Rattle.command_words.specs.Plan.{plan_of, sim_of, check_of, gen_of, sim_values, check_values, gen_values, is_built, is_conntrack, is_one_name, is_last};
+ghost use Rattle.command_words.specs.Plan.{plan_of, sim_of, check_of, gen_of, sim_values, check_values, gen_values};
 ghost use Rattle.command_words.specs.Views.{Reads, given_view};
 ghost use Rattle.command_words.specs.RequestViews.{request_view, sim_view, check_view, gen_view};
 
@@ -10,7 +10,6 @@ use crate::values::{
     count_of, file_if, file_of, function_of, inside_of, instances_of, number_of, schedule_of,
     site_of, window_of,
 };
-use flow_filter::name::is_name;
 use std::alloc::Global;
 
 /// What the words ask for: the program's name, a command, and the words of the command.
@@ -39,9 +38,6 @@ fn read_simulation<'a>(alloc: Global, words: &'a [String]) -> Result<Request<'a>
     ensures { Reads request_view result (sim_of (map string_bytes words.entry.now)) }
 {
     let given = read_sim(alloc, words)?;
-    if !is_built(&given) {
-        return Err(ArgumentsFault::Usage);
-    }
     let simulation = sim_values(alloc, &given)?;
     Ok(Request::Sim(simulation))
 }
@@ -64,48 +60,6 @@ fn read_generating<'a>(alloc: Global, words: &'a [String]) -> Result<Request<'a>
         return Err(ArgumentsFault::Usage);
     };
     Ok(Request::Gen(generating))
-}
-
-/// Whether `sim` does by now what the texts ask for.
-#[tactic(auto, unfolding(crate::specs::Plan::is_built))]
-fn is_built(given: &GivenWords<'_>) -> bool
-    ensures { result ≡ is_built (given_view given.now) }
-{
-    is_conntrack(given.function)
-        && is_one_name(given.instances)
-        && is_last(given.schedule)
-        && given.window.is_none()
-        && given.script.is_none()
-}
-
-/// Whether the function is the connection tracker.
-fn is_conntrack(text: Option<&str>) -> bool
-    ensures { result ≡ is_conntrack (option_map (λ t. t.now) text.entry) }
-{
-    match text {
-        None => false,
-        Some(text) => text == "conntrack",
-    }
-}
-
-/// Whether the list is one name, without a limit.
-fn is_one_name(text: Option<&str>) -> bool
-    ensures { result ≡ is_one_name (option_map (λ t. t.now) text.entry) }
-{
-    match text {
-        None => false,
-        Some(text) => is_name(text.as_bytes()),
-    }
-}
-
-/// Whether the schedule is given as `last`.
-fn is_last(text: Option<&str>) -> bool
-    ensures { result ≡ is_last (option_map (λ t. t.now) text.entry) }
-{
-    match text {
-        None => false,
-        Some(text) => text == "last",
-    }
 }
 
 /// The values of `sim`, where each is in its grammar.
