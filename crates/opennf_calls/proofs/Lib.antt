@@ -11,5 +11,6 @@ pub mod ReportLemmas
 pub mod RoleLemmas
 pub mod RowLemmas
 pub mod ScriptLemmas
+pub mod SimRows
 pub mod TwoResults
 pub mod WritingLemmas

@@ -1,32 +1,29 @@
--- The report's text is the one that the command has for the capture.
-use Rattle.std.proofs.Common.{◌≡◌, ℕ, List, [], Some, ap, refl, subst, sym}
-use Rattle.trace_reader.proofs.PacketNumbers.{capture-numbered}
-use Rattle.nf_io.specs.declared.outside.Role.{Role}
-use Rattle.nf_io.specs.declared.outside.Role.TheVariants.{Trace}
+-- Answers.
+use Rattle.std.proofs.Common.{rules, ◌≡◌, None, true, All, IfOk, MatchResult, ℕ, ◌+◌, ◌-◌, ◌*◌, ◌<◌, ◌≤◌, length, ◌/◌, ◌%◌, Bool, false, nat_eq, nat_lt, List, [], ◌∷◌, ◌++◌, slice_index_or, slice_set, bit_and, bit_or, Fits, w8, w32, w64, Bor, MutBor}
+use Rattle.std.specs.Option.{ForSome}
+use Rattle.nf_io.specs.declared.outside.Role.TheVariants.{Trace as TraceRole}
+use Rattle.nf_io.specs.declared.outside.Role.TheVariants.{Report as ReportRole}
+use Rattle.nf_io.specs.declared.outside.Role.TheVariants.{Script as ScriptRole}
+use Rattle.nf_io.specs.Meaning.{CanRead}
+use Rattle.trace_reader.specs.Answers.{AnswersTrace, HasReadCause}
+use Rattle.trace_reader.specs.Records.{AreNumbered, capture_of}
+use Rattle.trace_reader.specs.Steered.{is_steered_proto}
+use Rattle.op_script.specs.Printing.{IsScript, SplitsNone}
+use Rattle.op_script.specs.Reading.{script_view}
 use Rattle.command_words.specs.Plan.{asks_sim}
 use Rattle.command_words.specs.RequestViews.{sim_view}
-use Rattle.opennf_calls.specs.Outcome.{trace_refusal}
-use Rattle.opennf_calls.specs.ReportParts.{report_text}
-use Rattle.opennf_calls.specs.Report.{IsReport}
-use Rattle.opennf_calls.proofs.RowLemmas.{input_alone, one_file-sim}
+use Rattle.opennf_calls.specs.Outcome.{IsBound, ForTexts, RowOf}
+use Rattle.opennf_calls.specs.Phases.{CanRun, HasScript, OnlyRead, Performs, ReadAlone}
 use Rattle.opennf_calls.proofs.sim.read_report.Goals as goal
 
+-- src/sim.rt:60:9
+pub returns-in-Some-clause-row : goal.returns-in-Some-clause-row
+returns-in-Some-clause-row g c = ?
+
+-- src/sim.rt:62:17
+pub returns-in_err-trace-clause-row : goal.returns-in_err-trace-clause-row
+returns-in_err-trace-clause-row g c = ?
+
+-- src/sim.rt:44:1
 pub returns-clause-row : goal.returns-clause-row
-returns-clause-row g c = λ bytes told.
-    let given = c.in_ok-end.ensures.trace (bytes Trace) (told Trace refl) in
-    let report = c.in_ok-report.ensures c.args.asked.now.site given.0 (given.4 c.args.asked.now.site [] c.open-fold.ensures) (capture-numbered (bytes Trace) _ given.1) given.2 in
-    record {
-      read = λ role input.
-          subst (λ (r : Role). (g.O.Outside.seen c.read_capture.new.outside r).left ≡ Some []) (sym (input_alone (asks_sim (sim_view c.args.asked.now)) Trace (one_file-sim (sim_view c.args.asked.now) c.requires.plain.whole) role input)) given.3;
-      sound = ap trace_refusal given.1;
-      texts = λ role. report_text c.in_ok-report.report;
-      are = record {
-        captured = _;
-        read = given.1;
-        site = c.args.asked.now.site;
-        is_site = record { bits = refl; len = refl; outside = refl };
-        report = subst (λ (names : List (List ℕ)). IsReport c.args.asked.now.site (record { kind = c.args.asked.now.kind; names = names; window = c.args.asked.now.window })
-            (record { packets = given.0; skipped = c.in_ok-end.end.skipped; cut = c.in_ok-end.end.cut }) (report_text c.in_ok-report.report)) c.as_slice-names.ensures.value report;
-      };
-      wrote = refl;
-    }
+returns-clause-row g c = ?
