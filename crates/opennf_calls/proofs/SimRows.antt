@@ -1,5 +1,7 @@
 -- The rows of a simulation, which reads a script where the words name one, and then a capture.
-use Rattle.std.proofs.Common.{◌≡◌, ◌≢◌, ℕ, List, [], ◌∷◌, map, Option, None, Some, Result, Ok, Err, refl, ap, sym, ◌∙◌, subst, IsTrue}
+use Rattle.std.proofs.Common.{◌≡◌, ◌≢◌, ℕ, List, [], ◌∷◌, map, true, false, Option, None, Some, is_some, is_none, Result, Ok, Err, refl, ap, sym, ◌∙◌, subst, IsTrue}
+use Rattle.std.specs.Prelude.{option_map, MatchResult}
+use Rattle.std.specs.Borrow.{Bor}
 use Rattle.flow_filter.specs.declared.site.Site.{Site}
 use Rattle.nf_function.specs.declared.kind.Kind.{Kind}
 use Rattle.nf_io.specs.declared.outside.Role.{Role}
@@ -16,7 +18,7 @@ use Rattle.op_script.specs.declared.script.Line.{Line}
 use Rattle.op_script.specs.declared.script.Script.{Script as TheScript}
 use Rattle.op_script.specs.declared.script.What.{What}
 use Rattle.op_script.specs.declared.script.What.TheVariants as what
-use Rattle.op_script.specs.Reading.{line_view, what_view, order_view, script_view}
+use Rattle.op_script.specs.Reading.{line_view, what_view, order_view, script_of, script_view}
 use Rattle.command_words.specs.Plan.{SimAsked, asks_sim}
 use Rattle.run_input.specs.Given as input
 use Rattle.opennf_calls.specs.declared.status.Status.{Status}
@@ -38,6 +40,14 @@ unbuilt_as_seen (what.Command command) = by command.what
     by (Copy source destination filter) = refl
     by (Share members filter) = refl
 unbuilt_as_seen what.Settle = refl
+
+-- a file that is named is there
+pub is_named : (file : Option (Bor (List ℕ))) → is_none file ≡ false → is_some (option_map (λ t. t.now) file) ≡ true
+is_named None none = absurd (cc)
+is_named (Some name) none = refl
+
+pub named_script : (s : SimAsked) (bytes : List ℕ) → is_some s.script ≡ true → given_script s bytes ≡ script_of s.kind s.instances.0 bytes
+named_script s bytes named = rw named refl
 
 -- the first line that isn't built, in the lines and in their views
 pub first_as_seen : (lines : List Line) → first_unbuilt_line (map line_view lines) ≡ input.first_unbuilt lines
@@ -135,3 +145,9 @@ module _ (s : SimAsked) (old mid : Role → Meaning) (script : TheScript) (first
       early_row (NotBuilt command) stops = absurd stops
       early_row (ReadFault role) stops = absurd stops
       early_row (WriteFault role) stops = absurd stops
+
+      -- the report, or why there is none
+      pub run_row : (r : Result (List ℕ) Status) → MatchResult r (HasRunText s.kind s site captured script) (EndsEarlyFor s.kind s site captured script)
+          → MatchResult r (λ text. ForTexts (asks_sim s) old new (λ texts. texts Report ≡ text)) (λ status. RowOf (asks_sim s) old new status)
+      run_row (Ok text) holds = text_for text holds
+      run_row (Err status) holds = early_row status holds
