@@ -139,11 +139,13 @@ fn gen_values<'a>(given: &GivenWords<'a>) -> Option<Generating<'a>>
 #[cfg(test)]
 mod tests {
     use super::*;
+    use actor_net::Schedule;
+    use nf_function::Kind;
     use std::alloc::AllocError;
     use std::test::Fail;
 
     /// Words, and the command that they ask for, or `usage`.
-    static ROWS: [(&str, &str); 82] = [
+    static ROWS: [(&str, &str); 106] = [
         (
             "x sim conntrack --instances a --inside 10.0.0.0/24 --schedule last t",
             "sim",
@@ -170,31 +172,31 @@ mod tests {
         ),
         (
             "x sim conntrack --instances a --inside 10.0.0.0/24 --schedule last t s",
-            "usage",
+            "sim",
         ),
         (
             "x sim conntrack --instances a --inside 10.0.0.0/24 --schedule first t",
-            "usage",
+            "sim",
         ),
         (
             "x sim conntrack --instances a --inside 10.0.0.0/24 t",
-            "usage",
+            "sim",
         ),
         (
             "x sim conntrack --instances a:5 --inside 10.0.0.0/24 --schedule last t",
-            "usage",
+            "sim",
         ),
         (
             "x sim conntrack --instances a,b --inside 10.0.0.0/24 --schedule last t",
-            "usage",
+            "sim",
         ),
         (
             "x sim conntrack --instances a --inside 10.0.0.0/24 --schedule last --window 256 t",
-            "usage",
+            "sim",
         ),
         (
             "x sim nat --instances a --inside 10.0.0.0/24 --outside 203.0.113.1 --schedule last t",
-            "usage",
+            "sim",
         ),
         (
             "x sim conntrack --instances a --inside 10.0.0.0/24 --outside 203.0.113.1 --schedule last t",
@@ -228,6 +230,93 @@ mod tests {
             "x sim conntrack --instances a --inside 10.0.0.0/24 --schedule last --help t",
             "usage",
         ),
+        ("x sim monitor --instances a --inside 0.0.0.0/0 t", "sim"),
+        (
+            "x sim nat --instances a,b:0 --inside=10.0.0.0/24 --outside=10.0.1.0 --window=1 t s",
+            "sim",
+        ),
+        (
+            "x sim conntrack --instances a,b,c,d,e,f,g,h,i,j,k,l,m,n,o,p --inside 10.0.0.0/8 t s",
+            "sim",
+        ),
+        (
+            "x sim conntrack --instances a,b,c,d,e,f,g,h,i,j,k,l,m,n,o,p,q --inside 10.0.0.0/8 t s",
+            "usage",
+        ),
+        (
+            "x sim conntrack --instances a,b,a --inside 10.0.0.0/24 t s",
+            "usage",
+        ),
+        (
+            "x sim conntrack --instances a --inside 10.0.0.0/24 --schedule 0 t",
+            "sim",
+        ),
+        (
+            "x sim conntrack --instances a --inside 10.0.0.0/24 --schedule 18446744073709551615 t",
+            "sim",
+        ),
+        (
+            "x sim conntrack --instances a --inside 10.0.0.0/24 --schedule 18446744073709551616 t",
+            "usage",
+        ),
+        (
+            "x sim conntrack --instances a --inside 10.0.0.0/24 --schedule 07 t",
+            "usage",
+        ),
+        (
+            "x sim conntrack --instances a --inside 10.0.0.0/24 --schedule= t",
+            "usage",
+        ),
+        (
+            "x sim conntrack --instances a --inside 10.0.0.0/24 --window 1 t",
+            "sim",
+        ),
+        (
+            "x sim conntrack --instances a --inside 10.0.0.0/24 --window 4096 t",
+            "sim",
+        ),
+        (
+            "x sim conntrack --instances a --inside 10.0.0.0/24 --window 0 t",
+            "usage",
+        ),
+        (
+            "x sim conntrack --instances a --inside 10.0.0.0/24 --window 4097 t",
+            "usage",
+        ),
+        (
+            "x sim conntrack --instances a --inside 10.0.0.0/24 --window 1 --window 1 t",
+            "usage",
+        ),
+        (
+            "x sim conntrack --instances a --inside 10.0.0.0/24 t -- -s",
+            "sim",
+        ),
+        (
+            "x sim conntrack --instances a --inside 10.0.0.0/24 t ",
+            "usage",
+        ),
+        (
+            "x sim conntrack --instances a --inside 10.0.0.0/24 t s u",
+            "usage",
+        ),
+        ("x sim nat --instances a --inside 10.0.0.0/24 t", "usage"),
+        (
+            "x sim nat --instances a --inside 10.0.0.0/24 --outside 10.0.0.255 t",
+            "usage",
+        ),
+        (
+            "x sim nat --instances a --inside 10.0.0.0/23 --outside 203.0.113.1 t",
+            "usage",
+        ),
+        (
+            "x sim nat --instances a --inside 10.0.0.0/24 --outside 203.0.113 t",
+            "usage",
+        ),
+        (
+            "x sim monitor --instances a --inside 10.0.0.0/24 --outside 203.0.113.1 t",
+            "usage",
+        ),
+        ("x sim conntrack --instances a t", "usage"),
         ("x sim conntrack t", "usage"),
         (
             "x --schedule last sim conntrack --instances a --inside 10.0.0.0/24 t",
@@ -343,6 +432,51 @@ mod tests {
             let found = asked(parse_command(rt.alloc(), words.as_slice()));
             assert!(rt; found == *expected, "{line}: {found}");
         }
+        Ok(())
+    }
+
+    #[test]
+    fn sim_gives_all_that_its_words_say(rt: HostRuntime) -> Result<(), Fail> {
+        let line =
+            "x sim nat --instances a,b:5 --inside 10.0.0.0/24 --outside 203.0.113.1 --window 7 --schedule 9 t s";
+        let words = split(rt.alloc(), line)?;
+        let Ok(Request::Sim(asked)) = parse_command(rt.alloc(), words.as_slice()) else {
+            return Err(Fail::from("no sim"));
+        };
+        assert_eq!(rt; asked.kind, Kind::Nat);
+        assert_eq!(rt; asked.instances.names.len(), 2);
+        assert_eq!(rt; asked.instances.names[0].items(), "a".as_bytes());
+        assert_eq!(rt; asked.instances.names[1].items(), "b".as_bytes());
+        assert_eq!(rt;
+            asked.instances.limits.as_slice(),
+            [1_000_000, 5].as_slice()
+        );
+        assert_eq!(rt;
+            (asked.site.inside.bits, asked.site.inside.len),
+            (0x0a00_0000, 24)
+        );
+        assert_eq!(rt; asked.site.outside, Some(0xcb00_7101));
+        assert_eq!(rt; asked.window, 7);
+        assert_eq!(rt; asked.schedule, Schedule::Number(9));
+        assert_eq!(rt; asked.trace, "t");
+        assert_eq!(rt; asked.script, Some("s"));
+        Ok(())
+    }
+
+    #[test]
+    fn sim_has_a_window_and_a_schedule_of_its_own(rt: HostRuntime) -> Result<(), Fail> {
+        let words = split(
+            rt.alloc(),
+            "x sim monitor --instances a --inside 10.0.0.0/8 t",
+        )?;
+        let Ok(Request::Sim(asked)) = parse_command(rt.alloc(), words.as_slice()) else {
+            return Err(Fail::from("no sim"));
+        };
+        assert_eq!(rt; asked.kind, Kind::Monitor);
+        assert_eq!(rt; asked.site.outside, None);
+        assert_eq!(rt; asked.window, 256);
+        assert_eq!(rt; asked.schedule, Schedule::First);
+        assert_eq!(rt; asked.script, None);
         Ok(())
     }
 
