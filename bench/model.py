@@ -1,20 +1,23 @@
 #!/usr/bin/env python3
 """A model of the program, written apart from it, to compare the two.
 
-Use: model.py sim conntrack --instances NAME --inside PREFIX --schedule last TRACE
+Use: model.py sim FUNCTION --instances LIST --inside PREFIX [--outside ADDR] [--window W] [--schedule S] TRACE [SCRIPT]
      model.py gen NUMBER --packets N --hosts H TRACE
 
-It prints what the program prints for these words, writes the same file and ends with the same status. It is slow and
-plain: the whole capture is read first, and the packets of each flow are gathered and followed by themselves.
+It prints what the program prints for these words, writes the same file and ends with the same status. It takes the words in
+this order alone. It is slow and plain: the whole capture is read first, and a message is a tuple. The functions stand in
+functions.py, scripts in script_reader.py and the network in network.py.
 """
 import os
-import re
 import struct
 import sys
 from typing import NamedTuple, Optional
 
 sys.dont_write_bytecode = True
 import make_capture  # noqa: E402
+import network  # noqa: E402
+import script_reader  # noqa: E402
+from functions import FUNCTIONS, Site, Translator, read_address, read_number, read_prefix  # noqa: E402
 
 
 class Refusal(Exception):
@@ -29,10 +32,17 @@ class Refusal(Exception):
 # --- The words ---
 
 
-class Words(NamedTuple):
-    instance: str
-    inside: "Prefix"
+class Simulation(NamedTuple):
+    """A run that is to be simulated."""
+
+    function: type
+    names: list
+    limits: list
+    site: Site
+    window: int
+    schedule: object  # "first", "last" or a number
     trace: bytes
+    script: Optional[bytes]
 
 
 class Making(NamedTuple):
@@ -42,36 +52,6 @@ class Making(NamedTuple):
     packets: int
     hosts: int
     trace: bytes
-
-
-class Prefix(NamedTuple):
-    """The addresses whose first `length` bits are those of `bits`."""
-
-    bits: int
-    length: int
-
-    def holds(self, address):
-        return address >> (32 - self.length) == self.bits >> (32 - self.length)
-
-
-def read_prefix(text):
-    """`A.B.C.D/L`: decimal numbers without leading zeros, and no bit set behind the first L."""
-    number = "(0|[1-9][0-9]*)"
-    found = re.fullmatch(rf"{number}\.{number}\.{number}\.{number}/{number}", text, re.ASCII)
-    if not found:
-        return None
-    *address, length = map(int, found.groups())
-    if max(address) > 255 or length > 32:
-        return None
-    bits = int.from_bytes(bytes(address), "big")
-    return Prefix(bits, length) if bits % (1 << (32 - length)) == 0 else None
-
-
-def read_number(text, least, most):
-    """A decimal number without leading zeros, in these bounds."""
-    if not re.fullmatch("0|[1-9][0-9]*", text, re.ASCII):
-        return None
-    return int(text) if least <= int(text) <= most else None
 
 
 def is_file(text):
@@ -85,28 +65,68 @@ def read_words(words):
     except UnicodeDecodeError:
         texts = []
     asked = None
-    if len(texts) == 9:
-        asked = read_sim(texts, words[8])
+    if texts[:1] == ["sim"]:
+        asked = read_sim(texts, words)
     elif len(texts) == 7:
         asked = read_gen(texts, words[6])
-    if asked is None or not is_file(texts[-1]):
+    if asked is None:
         raise Refusal(1, "bad words")
     return asked
 
 
-def read_sim(texts, trace):
-    fixed = texts[0:3] + [texts[4]] + texts[6:8]
-    instance, inside = texts[3], read_prefix(texts[5])
-    if fixed != ["sim", "conntrack", "--instances", "--inside", "--schedule", "last"]:
+MOST_INSTANCES, MOST_WINDOW, MOST_RECORDS = 16, 4096, 1_000_000
+
+
+def read_sim(texts, words):
+    values, place = {"--outside": None, "--window": "256", "--schedule": "first"}, 2
+    for name in "--instances", "--inside", "--outside", "--window", "--schedule":
+        if texts[place : place + 1] == [name] and place + 1 < len(texts):
+            values[name] = texts[place + 1]
+            place += 2
+    files = words[place:]
+    if len(files) not in (1, 2) or not all(map(is_file, texts[place:])):
         return None
-    if not re.fullmatch("[a-z0-9]{1,16}", instance) or inside is None:
+    if "--instances" not in values or "--inside" not in values:
         return None
-    return Words(instance, inside, trace)
+    function = FUNCTIONS.get(texts[1])
+    instances = read_instances(values["--instances"])
+    site = read_site(function, values["--inside"], values["--outside"])
+    window = read_number(values["--window"], 1, MOST_WINDOW)
+    schedule = read_schedule(values["--schedule"])
+    if None in (function, instances, site, window, schedule):
+        return None
+    return Simulation(function, *instances, site, window, schedule, files[0], files[1] if files[1:] else None)
+
+
+def read_instances(text):
+    """The names and the limits of `NAME` or `NAME:LIMIT`, with commas between them."""
+    names, limits = [], []
+    for item in text.split(","):
+        name, colon, limit = item.partition(":")
+        names.append(name)
+        limits.append(read_number(limit, 0, MOST_RECORDS) if colon else MOST_RECORDS)
+    if not all(map(script_reader.is_name, names)) or None in limits:
+        return None
+    return (names, limits) if len(set(names)) == len(names) <= MOST_INSTANCES else None
+
+
+def read_site(function, inside, outside):
+    """The translator alone has an outside address, and needs one that isn't in its 256 inside ones."""
+    prefix, address = read_prefix(inside), read_address(outside or "")
+    if prefix is None or (address is None) != (outside is None) or (function is Translator) != (outside is not None):
+        return None
+    if address is not None and (prefix.length != 24 or prefix.holds(address)):
+        return None
+    return Site(prefix, address)
+
+
+def read_schedule(text):
+    return text if text in ("first", "last") else read_number(text, 0, 2**64 - 1)
 
 
 def read_gen(texts, trace):
     numbers = read_number(texts[1], 0, 2**64 - 1), read_number(texts[3], 1, MOST_PACKETS), read_number(texts[5], 1, 256)
-    if [texts[0], texts[2], texts[4]] != ["gen", "--packets", "--hosts"] or None in numbers:
+    if [texts[0], texts[2], texts[4]] != ["gen", "--packets", "--hosts"] or None in numbers or not is_file(texts[6]):
         return None
     return Making(*numbers, trace)
 
@@ -121,6 +141,7 @@ class Packet(NamedTuple):
     target: tuple  # address and port
     flags: int
     length: int  # of the payload, captured or not
+    head: bytes  # the first captured bytes of the payload
 
 
 class Trace(NamedTuple):
@@ -139,6 +160,7 @@ FORMS = {
 PCAPNG = bytes.fromhex("0a0d0d0a")
 ETHERNET, RAW = 1, 101
 MOST_CAPTURED = 262_144
+MOST_HEAD = 64
 MOST_PACKETS = 1_000_000
 MOST_BYTES = 4_294_967_296
 
@@ -224,151 +246,69 @@ def read_packet(ip, nanos) -> Optional[Packet]:
     if total < header + own:
         return None
     source_port, target_port = struct.unpack_from(">HH", segment)
-    return Packet(nanos, proto, (source, source_port), (target, target_port), flags, total - header - own)
-
-
-# --- Flows and the connection tracker ---
-
-
-class Flow(NamedTuple):
-    """Ordered by these fields in this order."""
-
-    proto: int
-    local: tuple
-    remote: tuple
-
-
-OUT, IN = "out", "in"
-
-
-def flow_of(inside, packet):
-    """The packet's flow and its direction. The end inside is local; where both ends or none are, the smaller one."""
-    source_inside, target_inside = inside.holds(packet.source[0]), inside.holds(packet.target[0])
-    if source_inside == target_inside:
-        leaves = packet.source <= packet.target
-    else:
-        leaves = source_inside
-    if leaves:
-        return Flow(packet.proto, packet.source, packet.target), OUT
-    return Flow(packet.proto, packet.target, packet.source), IN
-
-
-class Record(NamedTuple):
-    state: str
-    opener: str
-    packets: int
-    bytes: int
-    seen: int  # the greatest time of a packet; 0 where none is known
-
-
-# What a packet makes of each state. R has the flag RST, SA both SYN and ACK, S SYN, F FIN, A none of these; the
-# first that fits counts. `>` is a packet in the direction of the opener, `<` one against it. D is a UDP packet.
-TABLE = """
-             R      S        SA>          SA<          F>      F<      A>           A<           D>      D<
-opening      reset  opening  opening      answered     finfwd  finrev  opening      opening      -       -
-answered     reset  answered answered     answered     finfwd  finrev  established  answered     -       -
-established  reset  established established established finfwd finrev  established  established  -       -
-finfwd       reset  finfwd   finfwd       finfwd       finfwd  closed  finfwd       finfwd       -       -
-finrev       reset  finrev   finrev       finrev       closed  finrev  finrev       finrev       -       -
-closed       closed opening  closed       closed       closed  closed  closed       closed       -       -
-reset        reset  opening  reset        reset        reset   reset   reset        reset        -       -
-loose        reset  loose    loose        loose        finfwd  finrev  loose        established  -       -
-single       -      -        -            -            -       -       -            -            single  both
-both         -      -        -            -            -       -       -            -            both    both
-"""
-# The state of a flow's first packet.
-FIRST = {"R": "reset", "S": "opening", "SA": "answered", "F": "finfwd", "A": "loose", "D": "single"}
-
-
-def read_table(text):
-    header, *rows = (line.split() for line in text.strip().splitlines())
-    table = {}
-    for state, *cells in rows:
-        for column, cell in zip(header, cells, strict=True):
-            table[state, column] = cell
-    return table
-
-
-NEXT = read_table(TABLE)
-
-
-def class_of(packet):
-    if packet.proto == 17:
-        return "D"
-    fin, syn, rst, ack = (packet.flags & bit for bit in (1, 2, 4, 16))
-    if rst:
-        return "R"
-    if syn:
-        return "SA" if ack else "S"
-    return "F" if fin else "A"
-
-
-# A flow without packets for longer than this begins anew.
-IDLE = 300 * 10**9
-
-
-def first(packet, direction):
-    """The record of a flow's first packet."""
-    kind = class_of(packet)
-    # An answer seen first comes from the end that didn't open.
-    opener = {OUT: IN, IN: OUT}[direction] if kind == "SA" else direction
-    return Record(FIRST[kind], opener, 1, packet.length, packet.nanos)
-
-
-def step(record, packet, direction):
-    if record is None:
-        return first(packet, direction)
-    counts = record.packets + 1, record.bytes + packet.length, max(record.seen, packet.nanos)
-    if record.seen != 0 and packet.nanos > record.seen + IDLE:
-        anew = first(packet, direction)
-        return Record(anew.state, anew.opener, *counts)
-    kind = class_of(packet)
-    column = kind if kind in ("R", "S") else kind + (">" if direction == record.opener else "<")
-    opens_again = kind == "S" and record.state in ("closed", "reset")
-    return Record(
-        NEXT[record.state, column],
-        direction if opens_again else record.opener,
-        *counts,
-    )
+    head = ip[header + own : total][:MOST_HEAD]
+    return Packet(nanos, proto, (source, source_port), (target, target_port), flags, total - header - own, head)
 
 
 # --- The report ---
 
 
-def print_end(end):
-    address, port = end
-    return ".".join(map(str, address.to_bytes(4, "big"))) + f":{port}"
-
-
-def report(words, trace):
-    of_flow = {}
-    for number, packet in enumerate(trace.packets):
-        flow, direction = flow_of(words.inside, packet)
-        of_flow.setdefault(flow, []).append((number, packet, direction))
-    outs, states = {}, []
-    for flow, packets in sorted(of_flow.items()):
-        record = None
-        for number, packet, direction in packets:
-            record = step(record, packet, direction)
-            outs[number] = record.state
-        proto = {6: "tcp", 17: "udp"}[flow.proto]
-        states.append(
-            f"state {proto} {print_end(flow.local)} {print_end(flow.remote)} {words.instance}"
-            f" {record.state} {record.opener} packets {record.packets} bytes {record.bytes}"
-            + (f" seen {record.seen}" if record.seen != 0 else "")
-        )
-    count = len(trace.packets)
+def report(asked, trace, world):
+    instances = list(zip(asked.names, world.nodes[2:]))
+    outs = {number: output for kind, number, *_, output in of_kind(world, "processed")}
+    answers = {command: answer for _, command, answer in of_kind(world, "answered")}
+    states = [
+        (unit, place, f"state {asked.function.print_unit(unit)} {name} {asked.function.print_record(record)}")
+        for place, (name, instance) in enumerate(instances)
+        for unit, record in instance.records.items()
+    ]
     lines = [
         "opennf report 1",
-        "function conntrack instances 1 window 256",
-        f"trace packets {count} skipped {trace.skipped} {'cut' if trace.cut else 'whole'}",
-        *(f"out {number + 1} {outs[number]}" for number in range(count)),
-        *(f"done {number + 1} {words.instance}" for number in range(count)),
-        *states,
-        f"tally {words.instance} {count}",
+        f"function {asked.function.name} instances {len(instances)} window {asked.window}",
+        f"trace packets {len(trace.packets)} skipped {trace.skipped} {'cut' if trace.cut else 'whole'}",
+        *(f"out {number} {output}" for number, output in sorted(outs.items())),
+        *(f"done {number} {asked.names[instance]}" for _, number, instance, _ in of_kind(world, "processed")),
+        *(f"answer {command} {answer}" for command, answer in sorted(answers.items())),
+        *(line for *_, line in sorted(states)),
+        *(f"tally {name} {' '.join(map(str, instance.tally))}" for name, instance in instances),
         "end",
     ]
     return "".join(line + "\n" for line in lines).encode()
+
+
+def of_kind(world, kind):
+    return [note for note in world.log if note[0] == kind]
+
+
+def read_file(name, role, most=-1):
+    try:
+        with open(name, "rb") as file:
+            return file.read(most)
+    except OSError:
+        raise Refusal(4, f"read fault {role}") from None
+
+
+def read_script(asked):
+    if asked.script is None:
+        return script_reader.EMPTY
+    content = read_file(asked.script, "script", script_reader.MOST_BYTES + 1)
+    try:
+        script = script_reader.read_script(content, asked.function, asked.names)
+    except script_reader.ScriptFault as fault:
+        raise Refusal(2, f"script line {fault.line}: {fault.rule}") from None
+    for _, command in script.lines:
+        if command and command.verb != "move":
+            raise Refusal(2, f"command {command.number} not built")
+    return script
+
+
+def simulate(asked):
+    """The capture, and the world at the end of the run."""
+    script = read_script(asked)
+    trace = read_trace(read_file(asked.trace, "trace"))
+    world = network.start(asked.site, asked.function, asked.names, asked.limits, asked.window, script, trace.packets)
+    network.run(world, asked.schedule)
+    return trace, world
 
 
 def run(words):
@@ -376,12 +316,7 @@ def run(words):
     asked = read_words(words)
     if isinstance(asked, Making):
         return make(asked)
-    try:
-        with open(asked.trace, "rb") as file:
-            capture = file.read()
-    except OSError:
-        raise Refusal(4, "read fault trace") from None
-    return report(asked, read_trace(capture))
+    return report(asked, *simulate(asked))
 
 
 def make(asked):

@@ -29,14 +29,14 @@ move_is a b is = ap (move_in a) is
 order_test : (a b : ℕ) → eq_by_cmp nat_cmp a b ≡ (a == b)
 order_test a b = grind (arith, nat_tests)
 
-got_insert : (ops : OpenOperations) (op k : ℕ) (o : Operation) → finite.get (finite.insert ops op o) k ≡ cond (k == op) (Some o) (finite.get ops k)
+pub got_insert : (ops : OpenOperations) (op k : ℕ) (o : Operation) → finite.get (finite.insert ops op o) k ≡ cond (k == op) (Some o) (finite.get ops k)
 got_insert ops op k o = finite.get-insert nat_cmp_total ops op o k ∙ ap (λ b. cond b (Some o) (finite.get ops k)) (order_test k op)
 
-got_remove : (ops : OpenOperations) (op k : ℕ) → finite.get (finite.remove ops op) k ≡ cond (k == op) None (finite.get ops k)
+pub got_remove : (ops : OpenOperations) (op k : ℕ) → finite.get (finite.remove ops op) k ≡ cond (k == op) None (finite.get ops k)
 got_remove ops op k = finite.get-remove nat_cmp_total ops op k ∙ ap (λ b. cond b None (finite.get ops k)) (order_test k op)
 
 -- two removals and writes at one number
-gone_twice : (b : Bool) (o p : Option Operation) → cond b None (cond b o p) ≡ cond b None p
+pub gone_twice : (b : Bool) (o p : Option Operation) → cond b None (cond b o p) ≡ cond b None p
 gone_twice true o p = refl
 gone_twice false o p = refl
 

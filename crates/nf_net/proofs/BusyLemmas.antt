@@ -178,7 +178,7 @@ pub answers_same : (op : ℕ) (log notes : List Note) → has_answered op notes 
 answers_same op log notes h = answers_of-append op log notes ∙ ap (λ v. answers_of op log ++ v) (none_answered op notes h) ∙ append-nil (answers_of op log)
 
 -- an answer was noted
-some_answered : (op : ℕ) (log : List Note) (a : Answer) (more : List Answer) → answers_of op log ≡ a ∷ more → has_answered op log ≡ true
+pub some_answered : (op : ℕ) (log : List Note) (a : Answer) (more : List Answer) → answers_of op log ≡ a ∷ more → has_answered op log ≡ true
 some_answered op log a more is = elim (has_answered op log) as (λ b. has_answered op log ≡ b → b ≡ true) [
   | true ↦ λ _. refl
   | false ↦ λ e. let none = sym is ∙ none_answered op log e in cc

@@ -1,5 +1,5 @@
 -- The steps of the switch and of the instances say nothing of commands, except that the switch hands on each command of the input.
-use Rattle.std.proofs.Common.{◌≡◌, ℕ, zero, suc, ◌+◌, ◌-◌, Bool, true, false, Option, Some, None, List, [], ◌∷◌, ◌++◌, map, length, append_assoc, refl, sym, ap, ◌∙◌}
+use Rattle.std.proofs.Common.{◌≡◌, ℕ, zero, suc, ◌+◌, ◌-◌, Bool, true, false, Option, Some, None, List, [], ◌∷◌, ◌++◌, map, length, refl, sym, ap, ◌∙◌}
 use Rattle.std.specs.Prelude.{if◌then◌else◌, ◌&&◌, ◌||◌, ◌==◌, not, nat_lt, option_map, Result, Ok, Err}
 use Rattle.std.specs.FinMap as finite
 use Rattle.flow_filter.specs.declared.filter.Filter.{Filter}
@@ -43,16 +43,12 @@ use Rattle.instance_worker.specs.Instance.{told, shared, and_then, tells, still,
 use Rattle.nf_net.proofs.Joined.{Given, Label}
 use Rattle.nf_net.proofs.BusyLemmas.{AreOther, is_other, is_outcome}
 use Rattle.nf_net.proofs.BusyController.{told_in}
+use Rattle.nf_net.proofs.LinePicks.{picked}
 use Rattle.nf_net.proofs.MoveSays.{Says, says-append}
 
 -- the numbers of the commands among messages
 abbrev pub numbers : List Msg → List ℕ
-numbers [] = []
-numbers (m ∷ ms) = told_in m ++ numbers ms
-
-pub numbers-append : (xs ys : List Msg) → numbers (xs ++ ys) ≡ numbers xs ++ numbers ys
-numbers-append [] ys = refl
-numbers-append (x ∷ xs) ys = ap (λ v. told_in x ++ v) (numbers-append xs ys) ∙ sym (append_assoc (told_in x) (numbers xs) (numbers ys))
+numbers ms = picked told_in ms
 
 -- no command is among what is sent
 abbrev pub NoneTold : List (ℕ × Msg) → Type 0

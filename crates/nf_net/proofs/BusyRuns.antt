@@ -1,8 +1,7 @@
 -- Of every run, the open operations of the controller are the commands under way, and the log says what is true of commands.
-use Rattle.std.proofs.Common.{◌≡◌, ◌≢◌, ℕ, zero, suc, ◌+◌, ◌<◌, Bool, true, false, Some, List, [], ◌∷◌, ◌++◌, drop, length, get_or, append_assoc, append-nil, refl, sym, ap, ◌∙◌, subst, arith}
-use Rattle.std.specs.Prelude.{if◌then◌else◌, ◌&&◌, ◌==◌, not, nat_lt}
+use Rattle.std.proofs.Common.{◌≡◌, ◌≢◌, ℕ, zero, suc, ◌+◌, ◌<◌, Bool, true, false, Some, List, [], ◌∷◌, ◌++◌, length, get_or, refl, sym, ap, ◌∙◌, subst, arith}
+use Rattle.std.specs.Prelude.{if◌then◌else◌, ◌==◌}
 use Rattle.std.specs.FinMap as finite
-use Rattle.std.proofs.lemmas.Bool.Decides.{nat_tests, Decides-ltb}
 use Rattle.flow_filter.specs.declared.filter.Filter.{Filter}
 use Rattle.nf_function.specs.Semantics.{Semantics}
 use Rattle.switch_rules.specs.declared.target.Target.{Target}
@@ -10,11 +9,8 @@ use Rattle.nf_msgs.specs.declared.msg.Msg.{Msg}
 use Rattle.nf_msgs.specs.declared.msg.Msg.TheVariants as msg
 use Rattle.nf_msgs.specs.declared.note.Note.{Note}
 use Rattle.actor_net.specs.declared.choice.Choice.{Choice}
-use Rattle.actor_net.specs.Network.{Network, Stepped, waiting, taken, reaches}
-use Rattle.actor_net.specs.Histories.{sent_for as core_sent}
+use Rattle.actor_net.specs.Network.{Network, Stepped, waiting, taken}
 use Rattle.actor_net.proofs.EnabledChoices.{at}
-use Rattle.actor_net.proofs.LinkLemmas.{put_on_link}
-use Rattle.actor_net.proofs.WaitingMessages.{less_first}
 use Rattle.actor_net.proofs.StepOutcome.{Takes, Outcome, taken_outcome}
 use Rattle.actor_net.proofs.RunInduction.{Taking}
 use Rattle.actor_net.proofs.WeightLaws.{OnLinks, EachSent, on_links_after}
@@ -31,7 +27,8 @@ use Rattle.nf_net.proofs.Joined.{Given, Label, Joined, node_of, count}
 use Rattle.nf_net.proofs.BusyOperations.{IsPlan, IsBusy}
 use Rattle.nf_net.proofs.BusyChanges.{other_notes}
 use Rattle.nf_net.proofs.BusyController.{told_in, controller_busy}
-use Rattle.nf_net.proofs.BusyNodes.{numbers, numbers-append, switch_hands, instance_says}
+use Rattle.nf_net.proofs.BusyNodes.{switch_hands, instance_says}
+use Rattle.nf_net.proofs.LinePicks.{on_way, at_switch as way_at_switch, at_controller as way_at_controller, at_instance as way_at_instance}
 use Rattle.nf_net.proofs.MoveSays.{IsInstall, Says}
 
 module _ {F R : Type 0} where
@@ -44,7 +41,7 @@ module _ {F R : Type 0} where
 
   -- the numbers of the commands that wait: on the link to the controller, and in the input
   abbrev pub waits_of : Network (Node F R) Msg Note → List ℕ
-  waits_of w = numbers (waiting w (at 1 0)) ++ numbers (waiting w (at 0 0))
+  waits_of w = on_way told_in w
 
   -- a world of a run, with what the log says of commands
   pub record Busy (g : Given) (w : Network (Node F R) Msg Note) : Type 0 where
@@ -53,25 +50,9 @@ module _ {F R : Type 0} where
     pub is : IsBusy g controller.operations w.log (waits_of w)
     pub says : OnLinks (Says g) w
 
--- What waits, by where a message was taken and where others were put.
-less_numbers : (b : Bool) (ms rest : List Msg) (m : Msg) → (b ≡ true → ms ≡ m ∷ rest) → numbers ms ≡ (if b then told_in m else []) ++ numbers (less_first b ms)
-less_numbers true ms rest m is = ap numbers (is refl) ∙ ap (λ xs. told_in m ++ numbers (drop 1 xs)) (sym (is refl))
-less_numbers false ms rest m is = refl
-
-put_none : {M : Type 0} (n k s r : ℕ) (sends : List (ℕ × M)) → (s == k) ≡ false → put_on_link n k s r sends ≡ []
-put_none n k s r sends off = ap (λ b. if b && reaches n k r then core_sent r sends else []) off
-
 none_both : {X : Type 0} (b : Bool) → ◌≡◌ {A = List X} [] (if b then [] else [])
 none_both true = refl
 none_both false = refl
-
-and_true : (b : Bool) → b && true ≡ b
-and_true true = refl
-and_true false = refl
-
-and_false : (b : Bool) → b && false ≡ false
-and_false true = refl
-and_false false = refl
 
 module _ {R : Type 0} (f : Semantics R) (g : Given) where
   -- commands come from the input, and to the controller from the switch
@@ -115,35 +96,6 @@ module _ {F R : Type 0} (f : Semantics R) (g : Given) (n : ℕ) (count_is : n �
       left : Outcome step n w k p (node_of j.nodes k) m rest v
       left = taken_outcome step n w k p (node_of j.nodes k) m rest takes
 
-      -- the link to the controller, and the input
-      link_is : waiting v (at 1 0) ≡ less_first ((0 == p) && (1 == k)) (waiting w (at 1 0)) ++ put_on_link n k 0 1 did.sends
-      link_is = left.waits 0 1
-
-      input_is : waiting v (at 0 0) ≡ less_first ((0 == p) && (0 == k)) (waiting w (at 0 0))
-      input_is = left.waits 0 0 ∙ ap (λ xs. less_first ((0 == p) && (0 == k)) (waiting w (at 0 0)) ++ xs) none ∙ append-nil (less_first ((0 == p) && (0 == k)) (waiting w (at 0 0)))
-        where
-          none : put_on_link n k 0 0 did.sends ≡ []
-          none = let off : (0 == k) && (nat_lt 0 n && not ((k == 0) && (0 == 0))) ≡ false = grind (arith, nat_tests) in rw off refl
-
-      first_there : (s r : ℕ) → (s == p) && (r == k) ≡ true → waiting w (at r s) ≡ m ∷ rest
-      first_there s r on =
-          let from : s ≡ p = grind (arith, nat_tests) in
-          let to : r ≡ k = grind (arith, nat_tests) in
-          ap (λ x. waiting w (at r x)) from ∙ ap (λ x. waiting w (at x p)) to ∙ takes.waits
-
-      link_less : numbers (waiting w (at 1 0)) ≡ (if (0 == p) && (1 == k) then told_in m else []) ++ numbers (less_first ((0 == p) && (1 == k)) (waiting w (at 1 0)))
-      link_less = less_numbers ((0 == p) && (1 == k)) (waiting w (at 1 0)) rest m (λ on. first_there 0 1 on)
-
-      input_less : numbers (waiting w (at 0 0)) ≡ (if (0 == p) && (0 == k) then told_in m else []) ++ numbers (waiting v (at 0 0))
-      input_less = less_numbers ((0 == p) && (0 == k)) (waiting w (at 0 0)) rest m (λ on. first_there 0 0 on) ∙ ap (λ xs. (if (0 == p) && (0 == k) then told_in m else []) ++ numbers xs) (sym input_is)
-
-      -- nothing is put on the link to the controller but by the switch
-      link_other : (0 == k) ≡ false → waiting v (at 1 0) ≡ less_first ((0 == p) && (1 == k)) (waiting w (at 1 0))
-      link_other off = link_is ∙ ap (λ xs. less_first ((0 == p) && (1 == k)) (waiting w (at 1 0)) ++ xs) (put_none n k 0 1 did.sends off) ∙ append-nil (less_first ((0 == p) && (1 == k)) (waiting w (at 1 0)))
-
-      input_other : (0 == k) ≡ false → numbers (waiting w (at 0 0)) ≡ numbers (waiting v (at 0 0))
-      input_other off = input_less ∙ ap (λ b. (if b then told_in m else []) ++ numbers (waiting v (at 0 0))) (ap (λ x. (0 == p) && x) off ∙ and_false (0 == p))
-
       says_after : EachSent (Says g) k did.sends → OnLinks (Says g) v
       says_after sent = on_links_after (Says g) step n w k p (node_of j.nodes k) m rest takes b.says sent
 
@@ -157,15 +109,8 @@ module _ {F R : Type 0} (f : Semantics R) (g : Given) (n : ℕ) (count_is : n �
       at_switch takes =
           let it = switch_hands f g j.nodes.switch p m (label 0 p m rest takes) in
           let notes = (switch_step j.nodes.switch m).notes in
-          let sends = (switch_step j.nodes.switch m).sends in
           let after = taken step w (at 0 p) in
-          let put : put_on_link n 0 0 1 sends ≡ core_sent 1 sends = (let there : (0 == 0) && (nat_lt 1 n && not ((0 == 0) && (1 == 0))) ≡ true = (let small = (Decides-ltb 1 n).1 one in rw small refl) in rw there refl) in
-          let link : numbers (waiting after (at 1 0)) ≡ numbers (waiting w (at 1 0)) ++ told_in m =
-          ap numbers (link_is 0 p m rest takes ∙ ap (λ x. less_first x (waiting w (at 1 0)) ++ put_on_link n 0 0 1 sends) (and_false (0 == p)))
-          ∙ numbers-append (waiting w (at 1 0)) (put_on_link n 0 0 1 sends) ∙ ap (λ xs. numbers (waiting w (at 1 0)) ++ xs) (ap numbers put ∙ it.hands) in
-          let input : numbers (waiting w (at 0 0)) ≡ told_in m ++ numbers (waiting after (at 0 0)) =
-          input_less 0 p m rest takes ∙ ap (λ xs. xs ++ numbers (waiting after (at 0 0))) (ap (λ x. if x then told_in m else []) (and_true (0 == p)) ∙ sym (told_at_switch f g p m (label 0 p m rest takes))) in
-          let same : waits_of w ≡ waits_of after = ap (λ xs. numbers (waiting w (at 1 0)) ++ xs) input ∙ sym (append_assoc (numbers (waiting w (at 1 0))) (told_in m) (numbers (waiting after (at 0 0)))) ∙ ap (λ xs. xs ++ numbers (waiting after (at 0 0))) (sym link) in
+          let same : waits_of w ≡ waits_of after = way_at_switch told_in step n one w p (node_of j.nodes 0) m rest takes it.hands (told_at_switch f g p m (label 0 p m rest takes)) in
           record {
             controller = b.controller;
             controller_is = kept_controller 0 p m rest takes (λ never. cc);
@@ -178,10 +123,7 @@ module _ {F R : Type 0} (f : Semantics R) (g : Given) (n : ℕ) (count_is : n �
       at_controller takes =
           let after = taken step w (at 1 p) in
           let c = j.nodes.controller in
-          let link : numbers (waiting w (at 1 0)) ≡ told_in m ++ numbers (waiting after (at 1 0)) =
-          link_less 1 p m rest takes ∙ ap (λ xs. (if (0 == p) && (1 == 1) then told_in m else []) ++ numbers xs) (sym (link_other 1 p m rest takes refl))
-          ∙ ap (λ xs. xs ++ numbers (waiting after (at 1 0))) (ap (λ x. if x then told_in m else []) (and_true (0 == p)) ∙ sym (told_at_controller f g p m (label 1 p m rest takes))) in
-          let same : waits_of w ≡ told_in m ++ waits_of after = ap (λ xs. xs ++ numbers (waiting w (at 0 0))) link ∙ append_assoc (told_in m) (numbers (waiting after (at 1 0))) (numbers (waiting w (at 0 0))) ∙ ap (λ xs. told_in m ++ (numbers (waiting after (at 1 0)) ++ xs)) (input_other 1 p m rest takes refl) in
+          let same : waits_of w ≡ told_in m ++ waits_of after = way_at_controller told_in step n one w p (node_of j.nodes 1) m rest takes (told_at_controller f g p m (label 1 p m rest takes)) in
           let it = controller_busy f g w.log (waits_of after) c j.shown_is.controller.names (λ op mv there. (j.shown_is.controller.moves op mv there).op_is) p m (label 1 p m rest takes) (says 1 p m rest takes) (subst (λ xs. IsBusy g c.operations w.log xs) same is_busy_one) in
           record {
             controller = (controller_step c p m).node;
@@ -196,11 +138,8 @@ module _ {F R : Type 0} (f : Semantics R) (g : Given) (n : ℕ) (count_is : n �
           let k = suc (suc i) in
           let after = taken step w (at k p) in
           let it = instance_says f g k (j.nodes.instance k) m in
-          let off : (0 == k) ≡ false = grind (arith, nat_tests) in
-          let off_one : (1 == k) ≡ false = grind (arith, nat_tests) in
           let other : 1 ≢ k = (λ is. let never = is in absurd (omega (arith, never))) in
-          let link : waiting after (at 1 0) ≡ waiting w (at 1 0) = link_other k p m rest takes off ∙ ap (λ x. less_first x (waiting w (at 1 0))) (ap (λ x. (0 == p) && x) off_one ∙ and_false (0 == p)) in
-          let same : waits_of w ≡ waits_of after = ap (λ xs. numbers (waiting w (at 1 0)) ++ xs) (input_other k p m rest takes off) ∙ ap (λ xs. numbers xs ++ numbers (waiting after (at 0 0))) (sym link) in
+          let same : waits_of w ≡ waits_of after = way_at_instance told_in step n one w p (node_of j.nodes k) m rest i takes in
           record {
             controller = b.controller;
             controller_is = kept_controller k p m rest takes other;

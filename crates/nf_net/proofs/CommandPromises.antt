@@ -33,6 +33,7 @@ use Rattle.nf_net.proofs.Joined.{Given, Joined}
 use Rattle.nf_net.proofs.BusyOperations.{IsBusy}
 use Rattle.nf_net.proofs.BusyNodes.{numbers}
 use Rattle.nf_net.proofs.BusyRuns.{Busy, waits_of, busy_next}
+use Rattle.nf_net.proofs.InstallRuns.{run_installs, installed_once, refused_none_installed}
 use Rattle.nf_net.proofs.MoveSays.{Says}
 
 -- the commands of an input
@@ -75,7 +76,7 @@ module _ (F : Type 0) {R : Type 0} (f : Semantics R) (laws : FunctionLaws f) (al
   abbrev first : Network (Node F R) Msg Note
   first = started {F = F} {R = R} alloc c items
 
-  start_busy : Busy {F = F} {R = R} g first
+  pub start_busy : Busy {F = F} {R = R} g first
   start_busy =
       let only = all_each (λ item. is_item item ≡ true) items is.only_items in
       let count = count_at_start F f alloc c items is in
@@ -97,5 +98,15 @@ module _ (F : Type 0) {R : Type 0} (f : Semantics R) (laws : FunctionLaws f) (al
   -- and its log says what is promised of commands
   pub run_answers : (cs : List Choice) → IsRun node_ready (node_step f) cs first → Answers c items (run (node_step f) cs first).log
   run_answers cs run_is =
-      let b = (run_busy cs run_is).1 in
-      record { begun_once = λ op. (b.is.answered op).begun_once; answered_once = λ op. (b.is.answered op).answered_once; causes = λ op. (b.is.answered op).causes; begins = λ op. (b.is.answered op).begins }
+      let busy = run_busy cs run_is in
+      let b = busy.1 in
+      let h = run_installs F f laws alloc c items is cs run_is in
+      let w = run (node_step f) cs first in
+      record {
+        begun_once = λ op. (b.is.answered op).begun_once;
+        answered_once = λ op. (b.is.answered op).answered_once;
+        causes = λ op. (b.is.answered op).causes;
+        begins = λ op. (b.is.answered op).begins;
+        installed_once = λ op. installed_once f g (length c.names + 2) refl w busy.0 b h op;
+        refused_is_not_installed = λ op what answer known is_answered other. refused_none_installed f g (length c.names + 2) refl w busy.0 b h op answer is_answered other;
+      }

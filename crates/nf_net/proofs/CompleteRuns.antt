@@ -13,6 +13,8 @@ use Rattle.nf_function.specs.Records.{Laws as FunctionLaws}
 use Rattle.nf_function.specs.Semantics.{Semantics, unit_at}
 use Rattle.record_table.proofs.UnitOrder.{same_unit-true}
 use Rattle.event_store.specs.Store.{stored}
+use Rattle.nf_msgs.specs.declared.answer.Answer.TheVariants.{Done}
+use Rattle.nf_msgs.specs.declared.command.Order.{Order}
 use Rattle.nf_msgs.specs.declared.msg.Msg.{Msg}
 use Rattle.nf_msgs.specs.declared.note.Note.{Note}
 use Rattle.nf_msgs.specs.Nodes.{instance_node}
@@ -35,18 +37,22 @@ use Rattle.abstract_net.proofs.AtEnd.{At_end, at_end}
 use Rattle.nf_net.specs.declared.config.Config.{Config}
 use Rattle.nf_net.specs.declared.node.Node.{Node}
 use Rattle.nf_net.specs.declared.node.Node.TheVariants.{Instance}
-use Rattle.nf_net.specs.Input.{packets, packet_of, IsInput}
+use Rattle.nf_net.specs.Input.{packets, packet_of, order_of, ends_last, IsInput}
+use Rattle.nf_net.specs.Commands.{answers_of, times_installed}
 use Rattle.nf_net.specs.Log.{arrived, has_begun, those}
 use Rattle.nf_net.specs.Nodes.{node_step, node_ready, node_ended}
 use Rattle.nf_net.specs.Promises.{times, live_in, live_at, is_of, fold, came, went, is_loose, Completed}
 use Rattle.nf_net.specs.Start.{started}
 use Rattle.nf_net.proofs.ArrivalLemmas.{numbers, runs_joined}
+use Rattle.nf_net.proofs.CommandPromises.{run_busy}
 use Rattle.nf_net.proofs.ControlOutline.{Sees}
+use Rattle.nf_net.proofs.InstallRuns.{run_installs, done_installed}
 use Rattle.nf_net.proofs.Outline.{is_sys}
 use Rattle.nf_net.proofs.Joined.{Given, GenuinePacket, S, bares, shown, place, Joined}
 use Rattle.nf_net.proofs.RecordPromises.{instance_of}
 use Rattle.nf_net.proofs.RunsJoined.{done_same, not_bared, same_times, start_world}
 use Rattle.nf_net.proofs.StartJoined.{given, all_fit, count_at_start, genuine}
+use Rattle.nf_net.proofs.ToldCommands.{each_answered}
 
 -- a list in which nothing is
 none_in : (xs : List ℕ) → ((p : ℕ) → stages.times p xs ≡ 0) → xs ≡ []
@@ -66,7 +72,7 @@ module _ {R : Type 0} (f : Semantics R) (c : Config) (items : List Msg) (is : Is
   fold_is kept [] = refl
   fold_is kept (p ∷ ps) = let transport = (all_fit f c items is p).transport in rw transport (fold_is (Some (f.stepped c.site kept (packet_of items p)).kept) ps)
 
-  module _ {F : Type 0} (n : ℕ) (count : n ≡ length c.names + 2) (w : Network (Node F R) Msg Note) (nodes : length w.nodes ≡ n) (j : Joined f g n w) (in_turn : arrived w.log ++ numbers (waiting w (at 0 0)) ≡ numbers items) (done : is_done node_ended w ≡ true) where
+  module _ {F : Type 0} (n : ℕ) (count : n ≡ length c.names + 2) (w : Network (Node F R) Msg Note) (nodes : length w.nodes ≡ n) (j : Joined f g n w) (in_turn : arrived w.log ++ numbers (waiting w (at 0 0)) ≡ numbers items) (done : is_done node_ended w ≡ true) (answered : ends_last items ≡ true → (op : ℕ) (what : Order) → order_of items op ≡ Some what → length (answers_of op w.log) ≡ 1) (installed : (op : ℕ) → answers_of op w.log ≡ Done ∷ [] → times_installed op w.log ≡ 1) where
     all_came : arrived w.log ≡ numbers items
     all_came = sym (append-nil (arrived w.log)) ∙ ap (λ xs. arrived w.log ++ numbers xs) (sym (done_waiting node_ended w done (at 0 0))) ∙ in_turn
 
@@ -145,7 +151,7 @@ module _ {R : Type 0} (f : Semantics R) (c : Config) (items : List Msg) (is : Is
           end_done = sym end.done ∙ done_same f c items is n w j u
 
     pub completed : Completed f c items w
-    completed = record { all_came = all_came; all_went = all_went; each_once = each_once; has_record = has_record }
+    completed = record { all_came = all_came; all_went = all_went; each_once = each_once; has_record = has_record; answered = answered; installed = installed }
 
 module _ {F R : Type 0} (f : Semantics R) (laws : FunctionLaws f) (alloc : Global) (c : Config) (items : List Msg) (is : IsInput f.kind c items) where
   abbrev start : Network (Node F R) Msg Note
@@ -156,4 +162,8 @@ module _ {F R : Type 0} (f : Semantics R) (laws : FunctionLaws f) (alloc : Globa
   complete_run cs ok done =
       let h = runs_joined F f laws alloc c items is cs ok in
       let world = run_world node_ready (node_step f) (length c.names + 2) start (start_world F f laws alloc c items is) (count_at_start F f alloc c items is) cs ok in
+      let busy = run_busy F f laws alloc c items is cs ok in
+      let changes = run_installs F f laws alloc c items is cs ok in
       completed f c items is (length c.names + 2) refl (run (node_step f) cs start) world.1 h.joined h.in_turn done
+      (λ last. each_answered F f laws alloc c items is last cs ok done)
+      (λ op is_done_so. done_installed f (given f c items is) (length c.names + 2) refl (run (node_step f) cs start) busy.0 busy.1 changes op done is_done_so)

@@ -15,9 +15,14 @@ pub mod ControllerScenes
 pub mod ControllerSteps
 pub mod ControllerTurns
 pub mod CreditCounts
+pub mod EndRuns
+pub mod EndTables
 pub mod EveryRun
 pub mod FiltersApart
 pub mod InputLemmas
+pub mod InstallCounts
+pub mod InstallRuns
+pub mod InstallSteps
 pub mod InstanceKeeps
 pub mod InstanceNotes
 pub mod InstanceOutline
@@ -26,6 +31,7 @@ pub mod InstanceSends
 pub mod InstanceSteps
 pub mod Joined
 pub mod JoinedSteps
+pub mod LinePicks
 pub mod LinkOutline
 pub mod LogLemmas
 pub mod MoveOutline
@@ -50,6 +56,7 @@ pub mod StateOutline
 pub mod SwitchLemmas
 pub mod SwitchOutline
 pub mod SwitchSteps
+pub mod ToldCommands
 pub mod UnitCounts
 pub mod WindowRuns
 pub mod WindowSteps

@@ -1,15 +1,15 @@
 -- What the log of every run says of commands: each begins and is answered once at most, and why it is refused or may begin was true
 -- when that was noted, of the log up to there. Commands go by their numbers. This project's own.
-use Rattle.std.specs.Prelude.{◌≡◌, ℕ, ◌+◌, ◌<◌, ◌≤◌, ◌==◌, Bool, true, false, not, ◌&&◌, ◌||◌, if◌then◌else◌, List, [], ◌∷◌, length, find, is_some, Option, None, Some, option_and_then}
+use Rattle.std.specs.Prelude.{◌≡◌, ◌≢◌, ℕ, ◌+◌, ◌<◌, ◌≤◌, ◌==◌, Bool, true, false, not, ◌&&◌, ◌||◌, if◌then◌else◌, List, [], ◌∷◌, length, find, is_some, Option, None, Some, option_and_then}
 use Rattle.std.specs.Option.{option_map_or}
 use Rattle.flow_filter.specs.declared.filter.Filter.{Filter}
 use Rattle.flow_filter.specs.Filter.{meets}
 use Rattle.nf_msgs.specs.declared.answer.Answer.{Answer}
-use Rattle.nf_msgs.specs.declared.answer.Answer.TheVariants.{Unknown, Overlap}
+use Rattle.nf_msgs.specs.declared.answer.Answer.TheVariants.{Done, Unknown, Overlap}
 use Rattle.nf_msgs.specs.declared.command.Order.{Order}
 use Rattle.nf_msgs.specs.declared.msg.Msg.{Msg}
 use Rattle.nf_msgs.specs.declared.note.Note.{Note}
-use Rattle.nf_msgs.specs.declared.note.Note.TheVariants.{Begun, Answered}
+use Rattle.nf_msgs.specs.declared.note.Note.TheVariants.{Begun, Installed, Answered}
 use Rattle.ctrl_node.specs.Controller.{place_of, names_of, filter_of}
 use Rattle.nf_net.specs.declared.config.Config.{Config}
 use Rattle.nf_net.specs.Input.{order_of}
@@ -30,6 +30,12 @@ abbrev pub times_begun : ℕ → List Note → ℕ
 times_begun op [] = 0
 times_begun op (Begun k ∷ notes) = (if k == op then 1 else 0) + times_begun op notes
 times_begun op (n ∷ notes) = times_begun op notes
+
+-- how often the switch changed its rules for it
+abbrev pub times_installed : ℕ → List Note → ℕ
+times_installed op [] = 0
+times_installed op (Installed k ∷ notes) = (if k == op then 1 else 0) + times_installed op notes
+times_installed op (n ∷ notes) = times_installed op notes
 
 -- whether it is under way
 abbrev pub is_busy : ℕ → List Note → Bool
@@ -86,6 +92,9 @@ module _ (names : List (List ℕ)) (orders : ℕ → Option Order) where
     -- a refused command has a cause, and one that began had none
     pub causes : (op : ℕ) (what : Order) (answer : Answer) → orders op ≡ Some what → answers_of op log ≡ answer ∷ [] → IsCause answer what (before_first op log)
     pub begins : (op : ℕ) (what : Order) → orders op ≡ Some what → began op log ≡ true → MayBegin what (before_first op log)
+    -- the switch changes its rules once at most for each command, and not for one that is answered otherwise than that it is done
+    pub installed_once : (op : ℕ) → times_installed op log ≤ 1
+    pub refused_is_not_installed : (op : ℕ) (what : Order) (answer : Answer) → orders op ≡ Some what → answers_of op log ≡ answer ∷ [] → answer ≢ Done → times_installed op log ≡ 0
 
 -- what the log of every run of an input says
 abbrev pub Answers : Config → List Msg → List Note → Type 0

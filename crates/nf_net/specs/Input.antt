@@ -1,6 +1,6 @@
 -- What a run of the network is given: its configuration, whose filters take whole units, and an input of packets and commands in
 -- the order of their numbers. This project's own.
-use Rattle.std.specs.Prelude.{◌≡◌, ◌==◌, ◌≤◌, ◌<◌, ◌^◌, ℕ, suc, Bool, true, false, List, [], ◌∷◌, map, find, Option, option_map, unwrap_or, All}
+use Rattle.std.specs.Prelude.{◌≡◌, ◌==◌, ◌≤◌, ◌<◌, ◌^◌, ℕ, suc, Bool, true, false, List, [], ◌∷◌, map, find, length, Option, option_map, unwrap_or, All}
 use Rattle.std.specs.Str.{bytes_eq}
 use Rattle.flow_filter.specs.declared.filter.Filter.{Filter}
 use Rattle.flow_filter.specs.declared.packet.Packet.{Packet}
@@ -38,6 +38,12 @@ abbrev pub commands : List Msg → List Command
 commands [] = []
 commands (InCommand command ∷ items) = command ∷ commands items
 commands (item ∷ items) = commands items
+
+-- whether no command stands behind the end
+abbrev pub ends_last : List Msg → Bool
+ends_last [] = true
+ends_last (InEnd ∷ items) = length (commands items) == 0
+ends_last (item ∷ items) = ends_last items
 
 -- a packet of TCP and else of zeros, for numbers that no packet has
 abbrev pub no_packet : Packet

@@ -1,12 +1,13 @@
 -- What every run of the network keeps, complete or not, for scripts of moves: each packet is processed at most once, in the order of
 -- its unit; outputs and records are those of one instance that nothing moved. Packets go by their numbers. This project's own.
-use Rattle.std.specs.Prelude.{◌≡◌, ℕ, ◌+◌, ◌==◌, ◌≤◌, Bool, false, not, ◌&&◌, if◌then◌else◌, List, [], ◌∷◌, ◌++◌, map, Option, None, Some, slice_get}
+use Rattle.std.specs.Prelude.{◌≡◌, ℕ, ◌+◌, ◌==◌, ◌≤◌, Bool, true, false, not, ◌&&◌, if◌then◌else◌, List, [], ◌∷◌, ◌++◌, map, length, Option, None, Some, slice_get}
 use Rattle.std.specs.FinMap as finite
 use Rattle.nf_function.specs.declared.output.Output.{Output}
 use Rattle.nf_function.specs.declared.unit.Unit as units
 use Rattle.nf_function.specs.Semantics.{Semantics, unit_at, kept_after, output_for}
 use Rattle.nf_function.specs.Units.{takes}
 use Rattle.record_table.specs.Table.{same_unit}
+use Rattle.nf_msgs.specs.declared.answer.Answer.TheVariants.{Done}
 use Rattle.nf_msgs.specs.declared.command.Order.{Order}
 use Rattle.nf_msgs.specs.declared.command.Order.TheVariants.{Move}
 use Rattle.nf_msgs.specs.declared.msg.Msg.{Msg}
@@ -16,8 +17,8 @@ use Rattle.actor_net.specs.Network.{Network}
 use Rattle.nf_net.specs.declared.config.Config.{Config}
 use Rattle.nf_net.specs.declared.node.Node.{Node}
 use Rattle.nf_net.specs.declared.node.Node.TheVariants.{Instance}
-use Rattle.nf_net.specs.Input.{packets, packet_of, order_of}
-use Rattle.nf_net.specs.Commands.{Answers}
+use Rattle.nf_net.specs.Input.{packets, packet_of, order_of, ends_last}
+use Rattle.nf_net.specs.Commands.{Answers, answers_of, times_installed}
 use Rattle.nf_net.specs.Places.{ArePlaces}
 use Rattle.nf_net.specs.Window.{Window}
 use Rattle.nf_net.specs.Log.{arrived, done, has_begun, those, done_of}
@@ -90,11 +91,15 @@ module _ {R : Type 0} (f : Semantics R) (config : Config) (items : List Msg) whe
     -- each command begins and is answered at most once, and what refuses it was true then
     pub answers : Answers config items w.log
 
-  -- what a complete run keeps besides: all packets of the input came, and each was processed, once; and the record of a unit is
-  -- live at an instance
+  -- what a complete run keeps besides: all packets of the input came, and each was processed, once; the record of a unit is
+  -- live at an instance; commands were answered, and the rules changed for those that are done
   pub record Completed {F : Type 0} (w : Network (Node F R) Msg Note) : Type 0 where
     pub all_came : arrived w.log ≡ map (λ p. p.number) (packets items)
     -- in their order, as long as no plain move of their unit began
     pub all_went : (unit : units.Unit) → is_loose unit w.log ≡ false → went unit w.log ≡ came unit w.log
     pub each_once : (unit : units.Unit) (p : ℕ) → times p (went unit w.log) ≡ times p (came unit w.log)
     pub has_record : (unit : units.Unit) (r : R) → fold None (went unit w.log) ≡ Some r → (i : ℕ) × (live_at w i unit ≡ Some r)
+    -- each command of the input was answered, if none stands behind its end
+    pub answered : ends_last items ≡ true → (op : ℕ) (what : Order) → order_of items op ≡ Some what → length (answers_of op w.log) ≡ 1
+    -- the switch changed its rules once for each command that is done
+    pub installed : (op : ℕ) → answers_of op w.log ≡ Done ∷ [] → times_installed op w.log ≡ 1

@@ -14,3 +14,6 @@ pub use config::Config;
 pub use node::Node;
 pub use run::{run_choices, simulate};
 pub use starting::start;
+
+#[cfg(test)]
+mod tests;

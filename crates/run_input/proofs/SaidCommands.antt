@@ -12,7 +12,7 @@ use Rattle.op_script.specs.declared.script.Line.{Line}
 use Rattle.op_script.specs.declared.script.What.{What}
 use Rattle.op_script.specs.declared.script.What.TheVariants as what
 use Rattle.op_script.specs.Items.{msg_of, said_where, items_from, items, IsFrom}
-use Rattle.nf_net.specs.Input.{is_item, packets, commands}
+use Rattle.nf_net.specs.Input.{is_item, packets, commands, ends_last}
 
 -- the commands of lines, in file order
 abbrev pub with_command : What → List Command → List Command
@@ -86,6 +86,28 @@ packets_from k (p ∷ ps) lines =
 -- its packets are those of the trace
 pub packets_in : (ps : List Packet) (lines : List Line) → packets (items ps lines) ≡ ps
 packets_in ps lines = packets_from 0 ps lines
+
+-- lines don't end the input, and nothing stands behind its end
+end_free : (w : What) (rest : List Msg) → ends_last (msg_of w ∷ rest) ≡ ends_last rest
+end_free (what.Command command) rest = refl
+end_free what.Settle rest = refl
+
+ends_said : (test : ℕ → Bool) (lines : List Line) (rest : List Msg) → ends_last (said_where test lines ++ rest) ≡ ends_last rest
+ends_said test [] rest = refl
+ends_said test (line ∷ more) rest = elim (test line.at) as (λ b. ends_last (map (λ (l : Line). msg_of l.what) (if b then line ∷ filter (λ (l : Line). test l.at) more else filter (λ (l : Line). test l.at) more) ++ rest) ≡ ends_last rest) [
+  | true ↦ end_free line.what (said_where test more ++ rest) ∙ ends_said test more rest
+  | false ↦ ends_said test more rest
+]
+
+ends_from : (k : ℕ) (ps : List Packet) (lines : List Line) → ends_last (items_from k ps lines ++ InEnd ∷ []) ≡ true
+ends_from k [] lines = ends_said (λ at. leb k at) lines (InEnd ∷ [])
+ends_from k (p ∷ ps) lines =
+    ap ends_last (append_assoc (said_where (λ at. eqb at k) lines) (InPacket p ∷ items_from (k + 1) ps lines) (InEnd ∷ []))
+    ∙ ends_said (λ at. eqb at k) lines (InPacket p ∷ (items_from (k + 1) ps lines ++ InEnd ∷ []))
+    ∙ ends_from (k + 1) ps lines
+
+pub end_is_last : (ps : List Packet) (lines : List Line) → ends_last (items ps lines) ≡ true
+end_is_last ps lines = ends_from 0 ps lines
 
 -- The lines at a point and those behind it.
 abbrev here : ℕ → List Line → List Line

@@ -7,7 +7,7 @@ ghost use Rattle.trace_reader.specs.Records.{AreNumbered};
 ghost use Rattle.op_script.specs.Reading.{script_view};
 ghost use Rattle.op_script.specs.Printing.{IsScript, SplitsNone};
 ghost use Rattle.op_script.specs.Items.{items};
-ghost use Rattle.nf_net.specs.Input.{IsInput, IsSteered};
+ghost use Rattle.nf_net.specs.Input.{IsInput, IsSteered, ends_last};
 ghost use Rattle.run_input.specs.declared.fault.InputFault.TheVariants.{NotBuilt};
 ghost use Rattle.run_input.specs.Given.{config_of, first_unbuilt, unbuilt, IsSetting};
 ghost use Rattle.run_input.specs.BuiltLines.{IsBuilt};
@@ -36,6 +36,7 @@ pub fn input_of(
     ensures config { IfOk result (λ made. made.0 ≡ config_of setting.now script.now.routes.items) }
     ensures items { IfOk result (λ made. made.1.items ≡ items packets script.now.lines.items) }
     ensures input { IfOk result (λ made. IsInput setting.now.kind made.0 made.1.items) }
+    ensures last { IfOk result (λ made. ends_last made.1.items ≡ true) }
     // The first command that is no move is refused, and nothing else is.
     ensures unbuilt { ForSome (first_unbuilt script.now.lines.items) (λ command. result ≡ Err (NotBuilt command)) }
     ensures cause { (command : ℕ) → result ≡ Err (NotBuilt command) → first_unbuilt script.now.lines.items ≡ Some command }

@@ -1,3 +1,4 @@
+pub mod AuditLemmas
 pub mod Endings
 pub mod FoundRecords
 pub mod SortLemmas

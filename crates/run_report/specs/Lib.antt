@@ -1,3 +1,4 @@
+pub mod Audits
 pub mod Sorting
 pub mod Lines
 pub mod Seen

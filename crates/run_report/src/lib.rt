@@ -2,9 +2,11 @@
 //! of the operator's commands, and the records and the tally that each instance holds.
 //!
 //! Contracts see a [`Head`] as its fields. This crate touches nothing but memory. The main promise is that of [`report`]: its text is
-//! `report_text` of the world's log and nodes, for each world, also for one that isn't at its end.
+//! `report_text` of the world's log and nodes, for each world, also for one that isn't at its end; and [`audit`] is the report of the
+//! world that choices lead to from a network's start, where they are a complete run, and else names the step that isn't one of a run.
 #![tactic(auto)]
 
+pub mod auditing;
 pub mod head;
 pub mod instances;
 pub mod lines;
@@ -12,6 +14,7 @@ pub mod reporting;
 pub mod states;
 pub mod units;
 
+pub use auditing::{AuditFault, audit};
 pub use head::Head;
 pub use reporting::report;
 

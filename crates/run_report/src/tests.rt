@@ -1,8 +1,8 @@
 ghost use Rattle.std.specs.Prelude.{◌≡◌, ◌<◌, length, IfOk};
 ghost use Rattle.nf_net.specs.Start.{IsConfig};
 
-use crate::{Head, report};
-use actor_net::{Actor, Outbox, Schedule, World, run_schedule};
+use crate::{AuditFault, Head, audit, report};
+use actor_net::{Actor, Choice, Choices, Outbox, Schedule, World, run_schedule};
 use basics::{Boxed, NoMemory, Text};
 use conn_tracker::Conntrack;
 use event_filter::Mark;
@@ -257,5 +257,57 @@ tally b 0 2
 end
 ";
     assert_eq!(rt; text.items(), whole.as_bytes());
+    Ok(())
+}
+
+/// The choices of the run that `reported` tells of.
+fn scheduled(alloc: Global) -> Result<Choices, Fail> {
+    let world = start::<Conntrack>(alloc, &config(alloc)?, input(alloc, &WORDS)?)?;
+    let (_world, choices) = run_schedule(alloc, world, Schedule::First)?;
+    Ok(choices)
+}
+
+/// The audit of choices with the input of words.
+fn audited(
+    alloc: Global,
+    choices: &[Choice],
+    summary: bool,
+) -> Result<Result<Text, AuditFault>, Fail> {
+    let items = input(alloc, &WORDS)?;
+    let (config, head) = (config(alloc)?, head(alloc)?);
+    Ok(audit::<Conntrack>(alloc, &config, items, &head, choices, summary))
+}
+
+#[test]
+fn an_audit_of_a_run_is_its_report(rt: HostRuntime) -> Result<(), Fail> {
+    let alloc = rt.alloc();
+    let choices = scheduled(alloc)?;
+    for summary in [false, true] {
+        let text = audited(alloc, choices.items(), summary)??;
+        let wanted = reported(alloc, &WORDS, summary)?;
+        assert_eq!(rt; text.items(), wanted.items());
+    }
+    Ok(())
+}
+
+#[test]
+fn a_run_without_its_last_step_is_none_at_that_step(rt: HostRuntime) -> Result<(), Fail> {
+    let alloc = rt.alloc();
+    let choices = scheduled(alloc)?;
+    let step = choices.items().len() as u64;
+    let Some((_last, front)) = choices.items().split_last() else {
+        return Err("no choices".into());
+    };
+    let fault = audited(alloc, front, false)?.err();
+    assert_eq!(rt; fault, Some(AuditFault::NotARun { step }));
+    Ok(())
+}
+
+#[test]
+fn a_choice_that_is_not_enabled_is_no_step(rt: HostRuntime) -> Result<(), Fail> {
+    let first = Choice { node: 0, port: 0 };
+    let absent = Choice { node: 9, port: 0 };
+    let fault = audited(rt.alloc(), &[first, absent, first], false)?.err();
+    assert_eq!(rt; fault, Some(AuditFault::NotARun { step: 2 }));
     Ok(())
 }

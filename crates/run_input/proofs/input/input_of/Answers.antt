@@ -4,10 +4,11 @@ use Rattle.std.specs.Prelude.{All}
 use Rattle.flow_filter.specs.declared.filter.Filter.{Filter}
 use Rattle.flow_filter.specs.Filter.{IsFilter}
 use Rattle.op_script.specs.declared.script.Line.{Line}
-use Rattle.nf_net.specs.Input.{IsSteered}
+use Rattle.nf_net.specs.Input.{IsSteered, ends_last}
 use Rattle.run_input.specs.BuiltLines.{IsBuilt}
 use Rattle.run_input.specs.Given.{config_of}
 use Rattle.run_input.proofs.GivenInput.{made_is}
+use Rattle.run_input.proofs.SaidCommands.{end_is_last}
 use Rattle.run_input.proofs.input.input_of.Goals as goal
 
 pub returns-clause-input : goal.returns-clause-input
@@ -23,3 +24,6 @@ returns-clause-input c =
       filters = subst (All (λ (route : Filter × ℕ). IsFilter route.0)) c.as_slice-2.ensures.value c.are_filters.ensures;
       built = subst (All (λ (line : Line). IsBuilt line.what)) c.as_slice.ensures.value c.in_default.ensures.built;
     }) (c.in_ok-config.ensures ∙ ap (config_of c.args.setting.now) routes) c.in_ok-items.ensures
+
+pub returns-clause-last : goal.returns-clause-last
+returns-clause-last c = ap ends_last c.in_ok-items.ensures ∙ end_is_last c.args.packets c.args.script.now.lines.items

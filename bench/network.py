@@ -1,0 +1,421 @@
+"""The network of a run, a part of the model in model.py: the switch, the controller, the instances, and the links between them.
+
+Node 0 is the switch, node 1 the controller, and node 2 + i instance i. A choice names a node and a port: the node takes the
+oldest message that the node of the port's number has sent it, or, as (0, 0), the next item of the input. Each node is a class
+whose `take` is its table: it changes the node, sends and notes. A message and a note are tuples that begin with their name.
+What no run may bring to a node raises Stray. Copies and shares aren't built.
+
+The switch's rules are kept as what they mean: the routes, and the changes of target since.
+"""
+from collections import deque
+from typing import NamedTuple
+
+import make_capture
+from functions import Filter, flow_of
+
+SWITCH, CONTROLLER = 0, 1
+ANY = Filter("any")
+MOST_CHUNKS = 64
+
+
+def node_of(instance):
+    return 2 + instance
+
+
+class Stray(Exception):
+    """A message that comes in no run."""
+
+
+class Parcel(NamedTuple):
+    """A packet under way, with its number and its flow."""
+
+    number: int
+    packet: object
+    flow: object
+
+
+class Step:
+    """What a node sends, as (receiver, message), and notes while it takes one message."""
+
+    def __init__(self):
+        self.sent = []
+        self.notes = []
+
+    def send(self, node, *message):
+        self.sent.append((node, message))
+
+    def note(self, *note):
+        self.notes.append(note)
+
+
+# --- The switch ---
+
+
+class Switch:
+    def __init__(self, routes, window, instances):
+        self.routes = routes + [(ANY, 0)]
+        self.changes = []  # of (filter, instance before, instance after)
+        self.window = window
+        self.instances = instances
+        self.flying = 0  # packets under way
+        self.waiting = 0  # commands without an answer
+        self.closed = False
+
+    def target(self, flow):
+        target = next(instance for flows, instance in self.routes if flows.matches(flow))
+        for flows, before, after in self.changes:
+            if target == before and flows.matches(flow):
+                target = after
+        return target
+
+    def is_ready(self, item):
+        return {"packet": self.flying < self.window, "settle": self.waiting == 0}.get(item[0], True)
+
+    def has_ended(self):
+        return self.closed and self.flying == 0
+
+    def take(self, port, message, step):
+        match message:
+            case "packet", parcel:
+                self.flying += 1
+                step.note("arrived", parcel.number)
+                step.send(node_of(self.target(parcel.flow)), "carry", parcel, "plain")
+            case "command", command:
+                self.waiting += 1
+                step.send(CONTROLLER, "asked", command)
+            case ("settle",):
+                pass
+            case ("end",):
+                step.send(CONTROLLER, "end")
+            case "forward", parcel, mark, to:
+                step.send(node_of(to), "carry", parcel, mark)
+            case "install", op, flows, before, after:
+                self.changes.append((flows, before, after))
+                step.note("installed", op)
+                step.send(node_of(before), "fence", op)
+            case "fence to", op, to:
+                step.send(node_of(to), "fence", op)
+            case "answered", _:
+                self.waiting -= 1
+            case ("finish",):
+                self.closed = True
+                for instance in range(self.instances):
+                    step.send(node_of(instance), "stop")
+            case "credit", _:
+                self.flying -= 1
+            case _:
+                raise Stray(message)
+
+
+# --- The instances ---
+
+
+class Instance:
+    def __init__(self, index, instances, limit, site, function):
+        self.index = index
+        self.limit = limit
+        self.site = site
+        self.function = function
+        self.records = {}  # by unit
+        self.rules = {}  # by operation, in the order in which they were set: (filter, action)
+        self.held = {}  # by operation: parcels
+        self.tally = [0] * instances
+        self.ended = False
+
+    def has_ended(self):
+        return self.ended
+
+    def process(self, parcel, step):
+        unit = self.function.unit(parcel.flow)
+        self.records[unit], output = self.function.step(self.site, self.records.get(unit), parcel.packet)
+        self.tally[self.index] += 1
+        step.note("processed", parcel.number, self.index, output)
+        step.send(SWITCH, "credit", parcel)
+
+    def carry(self, parcel, mark, step):
+        op, action = None, None
+        if mark == "plain":
+            matching = ((op, action) for op, (flows, action) in self.rules.items() if flows.matches(parcel.flow))
+            op, action = next(matching, (None, None))
+        if action == "drop":
+            step.send(CONTROLLER, "event", op, parcel)
+        elif action == "buffer":
+            self.held.setdefault(op, []).append(parcel)
+        else:
+            self.process(parcel, step)
+
+    def add(self, op, chunks, step):
+        """The chunks' records become live. In a run no instance has a record of their units."""
+        units = [unit for unit, _ in chunks]
+        if any(unit in self.records for unit in units):
+            raise Stray(op, units)
+        self.records.update(chunks)
+        step.note("imported", op, self.index, units)
+
+    def take(self, port, message, step):
+        match message:
+            case "carry", parcel, mark:
+                self.carry(parcel, mark, step)
+            case "fence", op:
+                self.rules.pop(op, None)
+                for parcel in self.held.pop(op, []):
+                    self.process(parcel, step)
+                step.send(CONTROLLER, "fenced", op)
+            case ("stop",):
+                self.ended = True
+                step.send(CONTROLLER, "final")
+            case "enable", op, flows, action:
+                self.rules[op] = flows, action
+                step.send(CONTROLLER, "enabled", op)
+            case "stream", op, flows:
+                units = sorted(unit for unit in self.records if self.function.takes(flows, unit))
+                step.note("exported", op, self.index, units)
+                for start in range(0, max(len(units), 1), MOST_CHUNKS):
+                    chunks = [(unit, self.records[unit]) for unit in units[start : start + MOST_CHUNKS]]
+                    step.send(CONTROLLER, "piece", op, chunks, len(units), start + MOST_CHUNKS >= len(units))
+            case "delete", op, units:
+                for unit in units:
+                    del self.records[unit]
+                step.send(CONTROLLER, "deleted", op)
+            case "put", op, (chunks, total, is_last), is_first:
+                if is_first and len(self.records) + total > self.limit:
+                    answer = f"import {len(self.records)} {total} {self.limit}"
+                    step.send(CONTROLLER, "put no", op, answer, chunks)
+                else:
+                    self.add(op, chunks, step)
+                    if is_first or is_last:
+                        step.send(CONTROLLER, "put ok", op)
+            case "restore", op, chunks:
+                self.add(op, chunks, step)
+                step.send(CONTROLLER, "restored", op)
+            case _:
+                raise Stray(message)
+
+
+# --- The controller ---
+
+
+class Move:
+    """A move under way. Its phases in order are freezing, streaming, holding, passing and ending; without an order to keep,
+    there is no holding. After a refusal restoring, returning and undoing follow on streaming.
+
+    The records come in pieces. A piece is frozen while the source is to delete its records, then free until it is put. The door
+    is shut until the first piece is put, asked until that is answered, and then open or refused."""
+
+    def __init__(self, command, source, destination):
+        self.op = command.number
+        self.flows = command.flows
+        self.keeps_order = command.how == "order"
+        self.source = source
+        self.destination = destination
+        self.phase = "freezing"
+        self.door = "shut"
+        self.frozen = deque()
+        self.free = deque()
+        self.all_came = False
+        self.asked_last = False  # the piece at the door is the last one
+        self.why = None  # the answer after a refusal
+        self.stored = []  # parcels
+
+    def begin(self, step):
+        self.enable(step, self.source, "drop")
+
+    def enable(self, step, instance, action):
+        step.send(node_of(instance), "enable", self.op, self.flows, action)
+
+    def forward(self, step, parcel, instance):
+        step.send(SWITCH, "forward", parcel, ("pass", self.op), instance)
+
+    def forward_stored(self, step, instance):
+        for parcel in self.stored:
+            self.forward(step, parcel, instance)
+        self.stored = []
+
+    def release(self, step):
+        self.forward_stored(step, self.destination)
+        step.send(SWITCH, "install", self.op, self.flows, self.source, self.destination)
+        self.phase = "passing"
+
+    def push(self, step):
+        put = node_of(self.destination), "put", self.op
+        if self.door == "shut" and self.free:
+            piece = self.free.popleft()
+            self.door, self.asked_last = "asked", piece[2]
+            step.send(*put, piece, True)
+        elif self.door == "open":
+            while self.free:
+                step.send(*put, self.free.popleft(), False)
+        elif self.door == "refused" and self.all_came and not self.frozen:
+            chunks = [chunk for piece in self.free for chunk in piece[0]]
+            step.send(node_of(self.source), "restore", self.op, chunks)
+            self.phase = "restoring"
+
+    def take(self, instance, message, step):
+        """The answer, where the message ends the move."""
+        sender = {self.source: "source", self.destination: "destination"}.get(instance)
+        match self.phase, sender, message:
+            case "passing", "source", ("event", _, parcel):
+                self.forward(step, parcel, self.destination)
+            case _, "source", ("event", _, parcel):
+                self.stored.append(parcel)
+            case "freezing", "source", ("enabled", _):
+                step.send(node_of(self.source), "stream", self.op, self.flows)
+                self.phase = "streaming"
+            case "streaming", "source", ("piece", _, chunks, total, is_last):
+                self.frozen.append((chunks, total, is_last))
+                self.all_came = is_last
+                step.send(node_of(self.source), "delete", self.op, [unit for unit, _ in chunks])
+            case "streaming", "source", ("deleted", _):
+                self.free.append(self.frozen.popleft())
+                self.push(step)
+            case "streaming", "destination", ("put ok", _):
+                if self.door == "asked" and not self.asked_last:
+                    self.door = "open"
+                    self.push(step)
+                elif self.keeps_order:
+                    self.enable(step, self.destination, "buffer")
+                    self.phase = "holding"
+                else:
+                    self.release(step)
+            case "streaming", "destination", ("put no", _, why, chunks):
+                self.door, self.why = "refused", why
+                self.free.appendleft((chunks, None, self.asked_last))
+                self.push(step)
+            case "holding", "destination", ("enabled", _):
+                self.release(step)
+            case "passing", "source", ("fenced", _):
+                step.send(SWITCH, "fence to", self.op, self.destination)
+                self.phase = "ending"
+            case "ending", "destination", ("fenced", _):
+                return "done"
+            case "restoring", "source", ("restored", _):
+                self.enable(step, self.source, "buffer")
+                self.phase = "returning"
+            case "returning", "source", ("enabled", _):
+                self.forward_stored(step, self.source)
+                step.send(SWITCH, "fence to", self.op, self.source)
+                self.phase = "undoing"
+            case "undoing", "source", ("fenced", _):
+                return self.why
+            case _:
+                raise Stray(self.phase, sender, message)
+        return None
+
+
+class Controller:
+    def __init__(self, names):
+        self.names = names
+        self.moves = {}  # the open ones by their numbers
+        self.end_came = False
+        self.finish_sent = False
+        self.finals = set()
+
+    def has_ended(self):
+        return len(self.finals) == len(self.names)
+
+    def refusal(self, command):
+        for name in command.names:
+            if name not in self.names:
+                return f"unknown {name}"
+        meeting = [op for op, move in self.moves.items() if move.flows.meets(command.flows)]
+        return f"overlap {min(meeting)}" if meeting else None
+
+    def answer(self, op, answer, step):
+        step.note("answered", op, answer)
+        step.send(SWITCH, "answered", op)
+
+    def take(self, port, message, step):
+        match port, message:
+            case 0, ("asked", command):
+                refusal = self.refusal(command)
+                if refusal:
+                    self.answer(command.number, refusal, step)
+                else:
+                    move = Move(command, *map(self.names.index, command.names))
+                    self.moves[command.number] = move
+                    step.note("begun", command.number)
+                    move.begin(step)
+            case 0, ("end",):
+                self.end_came = True
+            case _, ("final",):
+                self.finals.add(port)
+            case _, ("event", op, parcel) if op not in self.moves:
+                step.send(SWITCH, "forward", parcel, ("pass", op), port - 2)
+            case _, (_, op, *_) if op in self.moves:
+                answer = self.moves[op].take(port - 2, message, step)
+                if answer:
+                    del self.moves[op]
+                    self.answer(op, answer, step)
+            case _:
+                raise Stray(port, message)
+        if self.end_came and not self.moves and not self.finish_sent:
+            self.finish_sent = True
+            step.send(SWITCH, "finish")
+
+
+# --- Worlds and schedules ---
+
+
+def items_of(site, packets, lines):
+    """The input: the packets, each line of the script behind the packet that it names, and the end."""
+    items, lines = [], deque(lines)
+    for number in range(len(packets) + 1):
+        if number > 0:
+            packet = packets[number - 1]
+            items.append(("packet", Parcel(number, packet, flow_of(site, packet)[0])))
+        while lines and (lines[0][0] <= number or number == len(packets)):
+            command = lines.popleft()[1]
+            items.append(("command", command) if command else ("settle",))
+    return items + [("end",)]
+
+
+class World:
+    def __init__(self, nodes, items):
+        self.nodes = nodes
+        self.links = {(sender, node): deque() for node in range(len(nodes)) for sender in range(len(nodes))}
+        self.input = deque(items)
+        self.log = []
+
+    def enabled(self):
+        """The choices that can be taken, in order of (node, port)."""
+        choices = [(node, sender) for (sender, node), link in self.links.items() if link]
+        if self.input and self.nodes[SWITCH].is_ready(self.input[0]):
+            choices.insert(0, (SWITCH, SWITCH))
+        return choices
+
+    def take(self, choice):
+        node, port = choice
+        line = self.input if choice == (SWITCH, SWITCH) else self.links[port, node]
+        step = Step()
+        self.nodes[node].take(port, line.popleft(), step)
+        for receiver, message in step.sent:
+            self.links[node, receiver].append(message)
+        self.log += step.notes
+
+    def is_complete(self):
+        return not self.input and not any(self.links.values()) and all(node.has_ended() for node in self.nodes)
+
+
+def places(schedule):
+    """The places from 0 of a schedule's choices: each time it is given how many can be taken."""
+    words = make_capture.words(schedule) if isinstance(schedule, int) else None
+    count = yield
+    while True:
+        count = yield {"first": 0, "last": count - 1}[schedule] if words is None else next(words) % count
+
+
+def start(site, function, names, limits, window, script, packets):
+    instances = [Instance(index, len(names), limit, site, function) for index, limit in enumerate(limits)]
+    nodes = [Switch(script.routes, window, len(names)), Controller(names), *instances]
+    return World(nodes, items_of(site, packets, script.lines))
+
+
+def run(world, schedule):
+    """Runs a world up to its end."""
+    place = places(schedule)
+    next(place)
+    while not world.is_complete():
+        choices = world.enabled()
+        if not choices:
+            raise Stray("nothing can be taken, and the world isn't complete")
+        world.take(choices[place.send(len(choices))])

@@ -1,0 +1,68 @@
+ghost use Rattle.std.specs.Prelude.{◌≡◌, ℕ, IfOk};
+ghost use Rattle.nf_net.specs.Input.{IsInput};
+ghost use Rattle.nf_net.specs.Promises.{Completed, Promises};
+ghost use Rattle.nf_net.specs.Start.{IsConfig, started};
+ghost use Rattle.nf_net.specs.Window.{AllHome};
+ghost use Rattle.run_report.specs.Audits.{IsCause, IsCompleteRun, world_after};
+ghost use Rattle.run_report.specs.Lines.{report_text};
+
+use crate::head::Head;
+use crate::reporting::report;
+use actor_net::{Choice, ReplayFault};
+use basics::Text;
+use nf_function::Function;
+use nf_msgs::Msg;
+use nf_net::{Config, run_choices, start};
+use std::alloc::{AllocError, Global};
+use thiserror::Error;
+
+/// The report of a network that takes these choices from its start. They must be a complete run.
+pub fn audit<F: Function>(
+    alloc: Global,
+    config: &Config,
+    items: Vec<Msg>,
+    head: &Head,
+    choices: &[Choice],
+    summary: bool,
+) -> Result<Text, AuditFault>
+    requires { IsConfig config.now }
+    ensures run { IfOk result (λ _. IsCompleteRun {F = F.row.Denot} F.semantics (started alloc config.now items.items) choices.now) }
+    ensures text { IfOk result (λ text. text ≡ report_text F.semantics head.now summary (world_after {F = F.row.Denot} F.semantics (started alloc config.now items.items) choices.now)) }
+    ensures promises { IsInput F.semantics.kind config.now items.items → IfOk result (λ _. Promises F.semantics config.now items.items (world_after {F = F.row.Denot} F.semantics (started alloc config.now items.items) choices.now)) }
+    ensures completed { IsInput F.semantics.kind config.now items.items → IfOk result (λ _. Completed F.semantics config.now items.items (world_after {F = F.row.Denot} F.semantics (started alloc config.now items.items) choices.now)) }
+    ensures home { IsInput F.semantics.kind config.now items.items → IfOk result (λ _. AllHome config.now (world_after {F = F.row.Denot} F.semantics (started alloc config.now items.items) choices.now)) }
+    ensures not_a_run { (step : ℕ) → result ≡ Err (AuditFault.NotARun step) → IsCause {F = F.row.Denot} F.semantics (started alloc config.now items.items) choices.now step }
+{
+    let start = start::<F>(alloc, config, items)?;
+    let count = choices.len() as u64;
+    match run_choices(start, choices) {
+        Ok(world) if world.complete() => Ok(report(alloc, head, &world, summary)?),
+        Ok(_world) => Err(AuditFault::NotARun { step: count + 1 }),
+        Err(ReplayFault::NotEnabled { index }) => {
+            let step = index as u64 + 1;
+            Err(AuditFault::NotARun { step })
+        }
+        Err(ReplayFault::NoMemory) => Err(AuditFault::NoMemory),
+    }
+}
+
+/// Why choices have no report.
+#[derive(Clone, Copy, Debug, PartialEq, Eq, Error)]
+pub enum AuditFault {
+    /// The choice of a step, counted from 1, isn't enabled in its turn; or all are, and the next step is missing.
+    #[error("not a run at step {step}")]
+    NotARun { step: u64 },
+    #[error("out of memory")]
+    NoMemory,
+}
+
+impl From<AllocError> for AuditFault {
+    ghost use Rattle.std.specs.Prelude.{◌≡◌};
+    ghost use Rattle.run_report.specs.declared.auditing.AuditFault.TheVariants.{NoMemory};
+
+    ghost from_gives = { λ _ e. e ≡ NoMemory };
+
+    fn from(_fault: AllocError) -> Self {
+        AuditFault::NoMemory
+    }
+}
