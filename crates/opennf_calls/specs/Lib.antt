@@ -7,6 +7,5 @@ pub mod PacketLines
 pub mod Phases
 pub mod Report
 pub mod ReportParts
-pub mod Simulated
 pub mod Status
 pub mod Writing

@@ -14,7 +14,6 @@
 pub mod check;
 pub mod error_line;
 pub mod generate;
-pub mod network;
 pub mod outcome;
 pub mod sim;
 pub mod status;
