@@ -1,5 +1,5 @@
 -- What the words of a command line ask for. This project's own grammar; numbers are decimal without leading zeros.
-use Rattle.std.specs.Prelude.{ℕ, Bool, true, false, not, ◌&&◌, ◌==◌, nat_le, if◌then◌else◌, List, [], ◌∷◌, length, Option, None, Some, is_some, is_none, option_map, codes}
+use Rattle.std.specs.Prelude.{ℕ, Bool, true, false, not, ◌&&◌, ◌==◌, nat_le, if◌then◌else◌, List, [], ◌∷◌, length, Option, None, Some, is_some, option_map, codes}
 use Rattle.std.specs.List.{slice_split}
 use Rattle.std.specs.Str.{bytes_eq}
 use Rattle.clap.specs.Words.{Text}
@@ -156,30 +156,6 @@ sim_values g = do
     script = script;
   })
 
--- the list is one name, without a limit
-abbrev pub is_one_name : Option Text → Bool
-is_one_name None = false
-is_one_name (Some text) = is_name text
-
--- the schedule is given, and it is `last`
-abbrev pub is_last : Option Text → Bool
-is_last None = false
-is_last (Some text) = bytes_eq text (codes "last")
-
--- the connection tracker
-abbrev pub is_conntrack : Option Text → Bool
-is_conntrack None = false
-is_conntrack (Some text) = bytes_eq text (codes "conntrack")
-
--- what `sim` can be asked for while one instance runs by itself
-unfoldable pub is_built : Given → Bool
-is_built g =
-    is_conntrack g.function
-    && is_one_name g.instances
-    && is_last g.schedule
-    && is_none g.window
-    && is_none g.script
-
 -- the values of `check`
 unfoldable pub check_values : Given → Option CheckAsked
 check_values g = do
@@ -198,7 +174,7 @@ gen_values g = do
   Some (record { number = number; packets = packets; hosts = hosts; trace = trace })
 
 abbrev pub sim_of : List Text → Option Asked
-sim_of words = given_arguments sim_app words >>= λ g. only (is_built g) (sim_values g >>= λ s. Some (asks_sim s))
+sim_of words = given_arguments sim_app words >>= λ g. sim_values g >>= λ s. Some (asks_sim s)
 
 abbrev pub check_of : List Text → Option Asked
 check_of words = given_arguments check_app words >>= λ g. check_values g >>= λ c. Some (asks_check c)

@@ -1,5 +1,5 @@
 ghost use Rattle.std.specs.Prelude.{◌≡◌, map, option_map, string_bytes};
-ghost use Rattle.command_words.specs.Plan.{plan_of, sim_of, check_of, gen_of, sim_values, check_values, gen_values, is_built, is_conntrack, is_one_name, is_last};
+ghost use Rattle.command_words.specs.Plan.{plan_of, sim_of, check_of, gen_of, sim_values, check_values, gen_values};
 ghost use Rattle.command_words.specs.Views.{Reads, given_view};
 ghost use Rattle.command_words.specs.RequestViews.{request_view, sim_view, check_view, gen_view};
 
@@ -10,7 +10,6 @@ use crate::values::{
     count_of, file_if, file_of, function_of, inside_of, instances_of, number_of, schedule_of,
     site_of, window_of,
 };
-use flow_filter::name::is_name;
 use std::alloc::Global;
 
 /// What the words ask for: the program's name, a command, and the words of the command.
@@ -39,9 +38,6 @@ fn read_simulation<'a>(alloc: Global, words: &'a [String]) -> Result<Request<'a>
     ensures { Reads request_view result (sim_of (map string_bytes words.entry.now)) }
 {
     let given = read_sim(alloc, words)?;
-    if !is_built(&given) {
-        return Err(ArgumentsFault::Usage);
-    }
     let simulation = sim_values(alloc, &given)?;
     Ok(Request::Sim(simulation))
 }
@@ -64,48 +60,6 @@ fn read_generating<'a>(alloc: Global, words: &'a [String]) -> Result<Request<'a>
         return Err(ArgumentsFault::Usage);
     };
     Ok(Request::Gen(generating))
-}
-
-/// Whether `sim` does by now what the texts ask for.
-#[tactic(auto, unfolding(crate::specs::Plan::is_built))]
-fn is_built(given: &GivenWords<'_>) -> bool
-    ensures { result ≡ is_built (given_view given.now) }
-{
-    is_conntrack(given.function)
-        && is_one_name(given.instances)
-        && is_last(given.schedule)
-        && given.window.is_none()
-        && given.script.is_none()
-}
-
-/// Whether the function is the connection tracker.
-fn is_conntrack(text: Option<&str>) -> bool
-    ensures { result ≡ is_conntrack (option_map (λ t. t.now) text.entry) }
-{
-    match text {
-        None => false,
-        Some(text) => text == "conntrack",
-    }
-}
-
-/// Whether the list is one name, without a limit.
-fn is_one_name(text: Option<&str>) -> bool
-    ensures { result ≡ is_one_name (option_map (λ t. t.now) text.entry) }
-{
-    match text {
-        None => false,
-        Some(text) => is_name(text.as_bytes()),
-    }
-}
-
-/// Whether the schedule is given as `last`.
-fn is_last(text: Option<&str>) -> bool
-    ensures { result ≡ is_last (option_map (λ t. t.now) text.entry) }
-{
-    match text {
-        None => false,
-        Some(text) => text == "last",
-    }
 }
 
 /// The values of `sim`, where each is in its grammar.
@@ -185,11 +139,13 @@ fn gen_values<'a>(given: &GivenWords<'a>) -> Option<Generating<'a>>
 #[cfg(test)]
 mod tests {
     use super::*;
+    use actor_net::Schedule;
+    use nf_function::Kind;
     use std::alloc::AllocError;
     use std::test::Fail;
 
     /// Words, and the command that they ask for, or `usage`.
-    static ROWS: [(&str, &str); 82] = [
+    static ROWS: [(&str, &str); 106] = [
         (
             "x sim conntrack --instances a --inside 10.0.0.0/24 --schedule last t",
             "sim",
@@ -216,31 +172,31 @@ mod tests {
         ),
         (
             "x sim conntrack --instances a --inside 10.0.0.0/24 --schedule last t s",
-            "usage",
+            "sim",
         ),
         (
             "x sim conntrack --instances a --inside 10.0.0.0/24 --schedule first t",
-            "usage",
+            "sim",
         ),
         (
             "x sim conntrack --instances a --inside 10.0.0.0/24 t",
-            "usage",
+            "sim",
         ),
         (
             "x sim conntrack --instances a:5 --inside 10.0.0.0/24 --schedule last t",
-            "usage",
+            "sim",
         ),
         (
             "x sim conntrack --instances a,b --inside 10.0.0.0/24 --schedule last t",
-            "usage",
+            "sim",
         ),
         (
             "x sim conntrack --instances a --inside 10.0.0.0/24 --schedule last --window 256 t",
-            "usage",
+            "sim",
         ),
         (
             "x sim nat --instances a --inside 10.0.0.0/24 --outside 203.0.113.1 --schedule last t",
-            "usage",
+            "sim",
         ),
         (
             "x sim conntrack --instances a --inside 10.0.0.0/24 --outside 203.0.113.1 --schedule last t",
@@ -274,6 +230,93 @@ mod tests {
             "x sim conntrack --instances a --inside 10.0.0.0/24 --schedule last --help t",
             "usage",
         ),
+        ("x sim monitor --instances a --inside 0.0.0.0/0 t", "sim"),
+        (
+            "x sim nat --instances a,b:0 --inside=10.0.0.0/24 --outside=10.0.1.0 --window=1 t s",
+            "sim",
+        ),
+        (
+            "x sim conntrack --instances a,b,c,d,e,f,g,h,i,j,k,l,m,n,o,p --inside 10.0.0.0/8 t s",
+            "sim",
+        ),
+        (
+            "x sim conntrack --instances a,b,c,d,e,f,g,h,i,j,k,l,m,n,o,p,q --inside 10.0.0.0/8 t s",
+            "usage",
+        ),
+        (
+            "x sim conntrack --instances a,b,a --inside 10.0.0.0/24 t s",
+            "usage",
+        ),
+        (
+            "x sim conntrack --instances a --inside 10.0.0.0/24 --schedule 0 t",
+            "sim",
+        ),
+        (
+            "x sim conntrack --instances a --inside 10.0.0.0/24 --schedule 18446744073709551615 t",
+            "sim",
+        ),
+        (
+            "x sim conntrack --instances a --inside 10.0.0.0/24 --schedule 18446744073709551616 t",
+            "usage",
+        ),
+        (
+            "x sim conntrack --instances a --inside 10.0.0.0/24 --schedule 07 t",
+            "usage",
+        ),
+        (
+            "x sim conntrack --instances a --inside 10.0.0.0/24 --schedule= t",
+            "usage",
+        ),
+        (
+            "x sim conntrack --instances a --inside 10.0.0.0/24 --window 1 t",
+            "sim",
+        ),
+        (
+            "x sim conntrack --instances a --inside 10.0.0.0/24 --window 4096 t",
+            "sim",
+        ),
+        (
+            "x sim conntrack --instances a --inside 10.0.0.0/24 --window 0 t",
+            "usage",
+        ),
+        (
+            "x sim conntrack --instances a --inside 10.0.0.0/24 --window 4097 t",
+            "usage",
+        ),
+        (
+            "x sim conntrack --instances a --inside 10.0.0.0/24 --window 1 --window 1 t",
+            "usage",
+        ),
+        (
+            "x sim conntrack --instances a --inside 10.0.0.0/24 t -- -s",
+            "sim",
+        ),
+        (
+            "x sim conntrack --instances a --inside 10.0.0.0/24 t ",
+            "usage",
+        ),
+        (
+            "x sim conntrack --instances a --inside 10.0.0.0/24 t s u",
+            "usage",
+        ),
+        ("x sim nat --instances a --inside 10.0.0.0/24 t", "usage"),
+        (
+            "x sim nat --instances a --inside 10.0.0.0/24 --outside 10.0.0.255 t",
+            "usage",
+        ),
+        (
+            "x sim nat --instances a --inside 10.0.0.0/23 --outside 203.0.113.1 t",
+            "usage",
+        ),
+        (
+            "x sim nat --instances a --inside 10.0.0.0/24 --outside 203.0.113 t",
+            "usage",
+        ),
+        (
+            "x sim monitor --instances a --inside 10.0.0.0/24 --outside 203.0.113.1 t",
+            "usage",
+        ),
+        ("x sim conntrack --instances a t", "usage"),
         ("x sim conntrack t", "usage"),
         (
             "x --schedule last sim conntrack --instances a --inside 10.0.0.0/24 t",
@@ -389,6 +432,51 @@ mod tests {
             let found = asked(parse_command(rt.alloc(), words.as_slice()));
             assert!(rt; found == *expected, "{line}: {found}");
         }
+        Ok(())
+    }
+
+    #[test]
+    fn sim_gives_all_that_its_words_say(rt: HostRuntime) -> Result<(), Fail> {
+        let line =
+            "x sim nat --instances a,b:5 --inside 10.0.0.0/24 --outside 203.0.113.1 --window 7 --schedule 9 t s";
+        let words = split(rt.alloc(), line)?;
+        let Ok(Request::Sim(asked)) = parse_command(rt.alloc(), words.as_slice()) else {
+            return Err(Fail::from("no sim"));
+        };
+        assert_eq!(rt; asked.kind, Kind::Nat);
+        assert_eq!(rt; asked.instances.names.len(), 2);
+        assert_eq!(rt; asked.instances.names[0].items(), "a".as_bytes());
+        assert_eq!(rt; asked.instances.names[1].items(), "b".as_bytes());
+        assert_eq!(rt;
+            asked.instances.limits.as_slice(),
+            [1_000_000, 5].as_slice()
+        );
+        assert_eq!(rt;
+            (asked.site.inside.bits, asked.site.inside.len),
+            (0x0a00_0000, 24)
+        );
+        assert_eq!(rt; asked.site.outside, Some(0xcb00_7101));
+        assert_eq!(rt; asked.window, 7);
+        assert_eq!(rt; asked.schedule, Schedule::Number(9));
+        assert_eq!(rt; asked.trace, "t");
+        assert_eq!(rt; asked.script, Some("s"));
+        Ok(())
+    }
+
+    #[test]
+    fn sim_has_a_window_and_a_schedule_of_its_own(rt: HostRuntime) -> Result<(), Fail> {
+        let words = split(
+            rt.alloc(),
+            "x sim monitor --instances a --inside 10.0.0.0/8 t",
+        )?;
+        let Ok(Request::Sim(asked)) = parse_command(rt.alloc(), words.as_slice()) else {
+            return Err(Fail::from("no sim"));
+        };
+        assert_eq!(rt; asked.kind, Kind::Monitor);
+        assert_eq!(rt; asked.site.outside, None);
+        assert_eq!(rt; asked.window, 256);
+        assert_eq!(rt; asked.schedule, Schedule::First);
+        assert_eq!(rt; asked.script, None);
         Ok(())
     }
 

@@ -7,9 +7,9 @@ use Rattle.nf_io.specs.declared.outside.Role.TheVariants.{Errors}
 use Rattle.nf_io.specs.Meaning.{Meaning, Rose, AppendsFront}
 use Rattle.command_words.specs.Plan.{Asked}
 use Rattle.opennf_calls.specs.declared.status.Status.{Status}
-use Rattle.opennf_calls.specs.declared.status.Status.TheVariants.{Ok as Done, Usage, BadScript, BadTrace, ReadFault, WriteFault, NoMemory}
+use Rattle.opennf_calls.specs.declared.status.Status.TheVariants.{Ok as Done, Usage, BadScript, BadTrace, NotBuilt, Unfinished, ReadFault, WriteFault, NoMemory}
 use Rattle.opennf_calls.specs.Command.{is_result, comes_before}
-use Rattle.opennf_calls.specs.Outcome.{Texts, HasInput, ForTexts, IsBound, IsDone, IsWriteFault, IsReadFault, IsRefused, MayBind, WroteNothing, WroteResultsAlone, Gained, RowOf, CauseOf, PutsLine}
+use Rattle.opennf_calls.specs.Outcome.{Texts, HasInput, ForTexts, IsBound, IsDone, IsWriteFault, IsReadFault, IsRefused, IsUnfinished, MayBind, WroteNothing, WroteResultsAlone, Gained, RowOf, CauseOf, PutsLine}
 use Rattle.opennf_calls.specs.Phases.{SameContents, SameNames}
 use Rattle.opennf_calls.specs.Writing.{Written, Wrote, written}
 use Rattle.opennf_calls.proofs.RoleLemmas.{at_each}
@@ -106,12 +106,27 @@ module _ (before old mid new : Role → Meaning) (around : Around before old mid
     refusal = λ bytes told. row.refusal bytes (has_input asked bytes told);
   }
 
+  unfinished : (asked : Asked) (step : ℕ) → IsUnfinished asked old mid step → IsUnfinished asked before new step
+  unfinished asked step row = record {
+    bound = bound asked row.bound;
+    silent = silent row.silent;
+    stopped = λ bytes told.
+        let found = row.stopped bytes (has_input asked bytes told) in
+        record {
+          read = λ role input. ap (λ m. m.left) (around.others role (not_errors asked role input)) ∙ found.read role input;
+          sound = found.sound;
+          stops = found.stops;
+        };
+  }
+
   pub row_around : (asked : Asked) (status : Status) → RowOf asked old mid status → RowOf asked before new status
   row_around asked Done row = done asked row
   row_around asked (WriteFault role) row = write_fault asked role row
   row_around asked (ReadFault role) row = read_fault asked role row
   row_around asked (BadScript line kind) row = refused asked (BadScript line kind) row
   row_around asked (BadTrace offset kind) row = refused asked (BadTrace offset kind) row
+  row_around asked (NotBuilt command) row = refused asked (NotBuilt command) row
+  row_around asked (Unfinished step) row = unfinished asked step row
   row_around asked NoMemory row = silent row
   row_around asked Usage row = row
 

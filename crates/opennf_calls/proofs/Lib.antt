@@ -10,6 +10,8 @@ pub mod RecordedEntries
 pub mod ReportLemmas
 pub mod RoleLemmas
 pub mod RowLemmas
+pub mod RunLemmas
 pub mod ScriptLemmas
+pub mod SimRows
 pub mod TwoResults
 pub mod WritingLemmas

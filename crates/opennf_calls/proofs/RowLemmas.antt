@@ -11,7 +11,7 @@ use Rattle.opennf_calls.specs.declared.status.Status.{Status}
 use Rattle.opennf_calls.specs.declared.status.Status.TheVariants.{Ok as Done, WriteFault}
 use Rattle.opennf_calls.specs.Command.{file_for, is_input, is_result, comes_before}
 use Rattle.opennf_calls.specs.Outcome.{Texts, HasInput, ForTexts, IsBound, WroteNothing, WroteResultsAlone, Gained, IsReadFault, IsRefused, RowOf, refusal_of}
-use Rattle.opennf_calls.specs.Phases.{ReadAlone, SameNames, Performs}
+use Rattle.opennf_calls.specs.Phases.{OnlyRead, ReadAlone, SameNames, Performs}
 use Rattle.opennf_calls.specs.Writing.{Gains, Written, all_of, front_of, Wrote}
 use Rattle.opennf_calls.proofs.RoleLemmas.{at_each, this_or_other}
 
@@ -32,15 +32,6 @@ not_last asked role result same =
 -- the words give a file to this role alone
 abbrev pub OneFile : Asked → Role → Type 0
 OneFile asked role = (other : Role) → other ≢ role → file_for asked other ≡ None
-
-pub one_file-sim : (s : SimAsked) → s.script ≡ None → OneFile (asks_sim s) Trace
-one_file-sim s none Trace differ = absurd (differ refl)
-one_file-sim s none Script differ = none
-one_file-sim s none JournalIn differ = refl
-one_file-sim s none Report differ = refl
-one_file-sim s none JournalOut differ = refl
-one_file-sim s none TraceOut differ = refl
-one_file-sim s none Errors differ = refl
 
 pub one_file-check : (c : CheckAsked) → OneFile (asks_check c) Script
 one_file-check c Script differ = absurd (differ refl)
@@ -83,23 +74,55 @@ module _ (asked : Asked) (role : Role) (one : OneFile asked role) where
   report_alone read JournalIn result = absurd (cc)
   report_alone read Errors result = absurd (cc)
 
--- while an input is read nothing is written, and no name changes
-module _ (role : Role) (old new : Role → Meaning) (alone : ReadAlone role old new) where
-  pub unwritten : (other : Role) → (new other).written ≡ (old other).written
-  unwritten = at_each role old new (λ a b. b.written ≡ a.written) alone.others (λ m. refl) alone.written
+-- a simulation writes the report alone
+pub report_alone-sim : (s : SimAsked) (other : Role) → IsTrue (is_result (asks_sim s) other) → other ≡ Report
+report_alone-sim s Report result = refl
+report_alone-sim s JournalOut result = absurd (cc)
+report_alone-sim s TraceOut result = absurd (cc)
+report_alone-sim s Trace result = absurd (cc)
+report_alone-sim s Script result = absurd (cc)
+report_alone-sim s JournalIn result = absurd (cc)
+report_alone-sim s Errors result = absurd (cc)
 
-  pub names_kept : SameNames old new
-  names_kept = at_each role old new (λ a b. b.name ≡ a.name) alone.others (λ m. refl) alone.name
+-- a simulation reads its capture, and a script where the words name one
+pub sim_reads : (s : SimAsked) (P : Role → Type 0) → P Trace → (IsTrue (is_input (asks_sim s) Script) → P Script)
+    → (other : Role) → IsTrue (is_input (asks_sim s) other) → P other
+sim_reads s P trace script Trace input = trace
+sim_reads s P trace script Script input = script input
+sim_reads s P trace script JournalIn input = absurd (cc)
+sim_reads s P trace script Report input = absurd (cc)
+sim_reads s P trace script JournalOut input = absurd (cc)
+sim_reads s P trace script TraceOut input = absurd (cc)
+sim_reads s P trace script Errors input = absurd (cc)
 
+-- a role that is read was read, and nothing else
+pub one_read : (role : Role) (old new : Role → Meaning) → IsTrue (is_read role) → ReadAlone role old new → OnlyRead old new
+one_read role old new reads alone = record {
+  written = at_each role old new (λ a b. b.written ≡ a.written) alone.others (λ m. refl) alone.written;
+  names = at_each role old new (λ a b. b.name ≡ a.name) alone.others (λ m. refl) alone.name;
+  others = λ other unread. alone.others other (λ same.
+      let never : is_read role ≡ false = subst (λ (r : Role). is_read r ≡ false) same unread in cc);
+}
+
+-- inputs were read, and then more
+pub more_read : (old mid new : Role → Meaning) → OnlyRead old mid → OnlyRead mid new → OnlyRead old new
+more_read old mid new first second = record {
+  written = λ role. second.written role ∙ first.written role;
+  names = λ role. second.names role ∙ first.names role;
+  others = λ role unread. second.others role unread ∙ first.others role unread;
+}
+
+-- while inputs are read nothing is written, and no name changes
+module _ (old new : Role → Meaning) (only : OnlyRead old new) where
   pub silent : WroteNothing old new
-  silent other differ = unwritten other
+  silent other differ = only.written other
 
   pub still_bound : (asked : Asked) → IsBound asked old → IsBound asked new
-  still_bound asked bound other = names_kept other ∙ bound other
+  still_bound asked bound other = only.names other ∙ bound other
 
   -- a failed read
-  pub read_fault : (asked : Asked) → IsBound asked old → IsTrue (is_input asked role) → Rose (old role).faults (new role).faults → IsReadFault asked old new role
-  read_fault asked bound input rose = record { input = input; rose = rose; bound = still_bound asked bound; silent = silent }
+  pub read_fault : (asked : Asked) (role : Role) → IsBound asked old → IsTrue (is_input asked role) → Rose (old role).faults (new role).faults → IsReadFault asked old new role
+  read_fault asked role bound input rose = record { input = input; rose = rose; bound = still_bound asked bound; silent = silent }
 
   -- a refusal
   pub refused : (asked : Asked) (status : Status) → IsBound asked old
@@ -107,27 +130,26 @@ module _ (role : Role) (old new : Role → Meaning) (alone : ReadAlone role old 
   refused asked status bound refusal = record { bound = still_bound asked bound; silent = silent; refusal = refusal }
 
   -- a command that ends there
-  pub ends : (asked : Asked) (status : Status) → Report ≢ role → Errors ≢ role → RowOf asked old new status → Performs asked old new status
-  ends asked status report errors row = record { row = row; names = names_kept; errors = alone.others Errors errors }
+  pub ends : (asked : Asked) (status : Status) → RowOf asked old new status → Performs asked old new status
+  ends asked status row = record { row = row; names = only.names; errors = only.others Errors refl }
 
--- a command that read its input and then wrote the report, whole or in part
-module _ (asked : Asked) (old mid new : Role → Meaning) (role : Role) (alone : ReadAlone role old mid) (input : IsTrue (is_input asked role))
-    (bound : IsBound asked old) (only : (other : Role) → IsTrue (is_result asked other) → other ≡ Report)
+-- a command that read its inputs and then wrote the report, whole or in part
+module _ (asked : Asked) (old mid new : Role → Meaning) (read : OnlyRead old mid) (bound : IsBound asked old) (only : (other : Role) → IsTrue (is_result asked other) → other ≡ Report)
     (text : List ℕ) (made : ForTexts asked old mid (λ texts. texts Report ≡ text)) where
   same_report : mid Report ≡ old Report
-  same_report = alone.others Report (λ same. not_report asked role input (sym same))
+  same_report = read.others Report refl
 
   module _ (part : Written) (wrote : Wrote Report mid new part) where
     new_names : SameNames mid new
     new_names = at_each Report mid new (λ a b. b.name ≡ a.name) wrote.others (λ m. refl) wrote.name
 
     new_bound : IsBound asked new
-    new_bound other = new_names other ∙ names_kept role old mid alone other ∙ bound other
+    new_bound other = new_names other ∙ read.names other ∙ bound other
 
     others : WroteResultsAlone asked old new
     others other no_result differ =
         ap (λ m. m.written) (wrote.others other (λ same. no_report (subst (λ (o : Role). is_result asked o ≡ false) same no_result)))
-        ∙ unwritten role old mid alone other
+        ∙ read.written other
       where
         no_report : is_result asked Report ≡ false → ⊥
         no_report e = cc
@@ -151,8 +173,8 @@ module _ (asked : Asked) (old mid new : Role → Meaning) (role : Role) (alone :
     performs : (status : Status) → RowOf asked old new status → Performs asked old new status
     performs status row = record {
       row = row;
-      names = λ other. new_names other ∙ names_kept role old mid alone other;
-      errors = wrote.others Errors (λ same. cc) ∙ alone.others Errors (λ same. not_errors asked role input (sym same));
+      names = λ other. new_names other ∙ read.names other;
+      errors = wrote.others Errors (λ same. cc) ∙ read.others Errors refl;
     }
 
   pub report_written : Wrote Report mid new (all_of text) → Performs asked old new Done

@@ -8,11 +8,12 @@ use Rattle.op_script.specs.Reading.{SaysWhole, ScriptView, script_of, script_vie
 use Rattle.op_script.specs.declared.fault.ScriptFault.{ScriptFault}
 use Rattle.op_script.specs.declared.fault.ScriptFault.TheVariants as script
 use Rattle.nf_io.specs.declared.outside.Role.{Role}
-use Rattle.nf_io.specs.declared.outside.Role.TheVariants.{Script}
+use Rattle.opennf_calls.specs.declared.status.Status.TheVariants.{BadScript}
+use Rattle.op_script.specs.declared.fault.ScriptKind.{ScriptKind}
 use Rattle.nf_io.specs.Meaning.{Meaning}
-use Rattle.command_words.specs.Plan.{CheckAsked, asks_check}
-use Rattle.opennf_calls.specs.Outcome.{IsBound, RowOf, script_refusal}
-use Rattle.opennf_calls.specs.Phases.{ReadAlone}
+use Rattle.command_words.specs.Plan.{Asked}
+use Rattle.opennf_calls.specs.Outcome.{HasInput, IsBound, RowOf, refusal_of}
+use Rattle.opennf_calls.specs.Phases.{OnlyRead}
 use Rattle.opennf_calls.specs.Status.{script_status}
 use Rattle.opennf_calls.proofs.RowLemmas.{silent, refused}
 
@@ -49,9 +50,8 @@ nothing_left kind names bytes view said =
     drop_all (most_bytes + 1) bytes (omega arith)
 
 -- the row of the status of a script that is refused
-pub script_row : (c : CheckAsked) (old new : Role → Meaning) (fault : ScriptFault) → ReadAlone Script old new → IsBound (asks_check c) old
-    → ((bytes : List ℕ) → (old Script).left ≡ Some bytes → SaysWhole script_view (Err fault) (script_of c.kind c.instances.0 bytes))
-    → RowOf (asks_check c) old new (script_status fault)
-script_row c old new (script.Bad line kind) alone bound says = refused Script old new alone (asks_check c) (script_status (script.Bad line kind)) bound
-    (λ bytes told. ap script_refusal (says (bytes Script) (told Script refl)))
-script_row c old new script.NoMemory alone bound says = silent Script old new alone
+pub script_row : (asked : Asked) (old new : Role → Meaning) (fault : ScriptFault) → OnlyRead old new → IsBound asked old
+    → ((line : ℕ) (kind : ScriptKind) → fault ≡ script.Bad line kind → (bytes : Role → List ℕ) → HasInput asked old bytes → refusal_of asked bytes ≡ Some (BadScript line kind))
+    → RowOf asked old new (script_status fault)
+script_row asked old new (script.Bad line kind) only bound says = refused old new only asked (BadScript line kind) bound (says line kind refl)
+script_row asked old new script.NoMemory only bound says = silent old new only

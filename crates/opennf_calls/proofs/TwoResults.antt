@@ -14,7 +14,7 @@ use Rattle.opennf_calls.specs.Outcome.{Texts, ForTexts, IsBound, WroteResultsAlo
 use Rattle.opennf_calls.specs.Phases.{ReadAlone, SameNames, Performs}
 use Rattle.opennf_calls.specs.Writing.{Gains, Written, all_of, front_of, Wrote}
 use Rattle.opennf_calls.proofs.RoleLemmas.{at_each, other_place, this_or_other}
-use Rattle.opennf_calls.proofs.RowLemmas.{OneFile, ends, input_alone, not_last, silent}
+use Rattle.opennf_calls.proofs.RowLemmas.{OneFile, input_alone, not_last}
 
 -- the command has a file for this role alone, which is written before the report
 pub record WritesFirst (asked : Asked) (role : Role) : Type 0 where
@@ -66,7 +66,11 @@ module _ (asked : Asked) (role : Role) (writes : WritesFirst asked role) where
   module _ (old : Role → Meaning) (bound : IsBound asked old) where
     -- out of memory before anything was written
     pub unmade : (new : Role → Meaning) → ReadAlone role old new → Performs asked old new NoMemory
-    unmade new alone = ends role old new alone asked NoMemory (λ same. apart (sym same)) (λ same. not_last asked role writes.result (sym same)) (silent role old new alone)
+    unmade new alone = record {
+      row = λ other differ. at_each role old new (λ a b. b.written ≡ a.written) alone.others (λ m. refl) alone.written other;
+      names = at_each role old new (λ a b. b.name ≡ a.name) alone.others (λ m. refl) alone.name;
+      errors = alone.others Errors (λ same. not_last asked role writes.result (sym same));
+    }
 
     module _ (first second : List ℕ) (made : ForTexts asked old old (λ texts. (texts role ≡ first) × (texts Report ≡ second))) where
       -- the texts, also after something was written

@@ -7,5 +7,6 @@ pub mod PacketLines
 pub mod Phases
 pub mod Report
 pub mod ReportParts
+pub mod Simulated
 pub mod Status
 pub mod Writing

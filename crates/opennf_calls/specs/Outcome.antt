@@ -1,6 +1,6 @@
 -- What a run of the program reads, writes and answers: one table of statuses for all commands. A further command is a further
 -- case of `file_for`, `refusal_of` and `AreTexts`; the table stays as it is. This project's own.
-use Rattle.std.specs.Prelude.{◌≡◌, ◌≢◌, ℕ, ◌++◌, List, [], codes, decimal, Option, None, Some, Bool, false, ◌&&◌, Result, Ok, Err, option_and_then, IsTrue, ◌⊎◌}
+use Rattle.std.specs.Prelude.{◌≡◌, ◌≢◌, ℕ, ◌++◌, List, [], codes, decimal, Option, None, Some, Bool, false, ◌&&◌, Result, Ok, Err, option_and_then, option_map, IsTrue, ◌⊎◌}
 use Rattle.std.specs.Io.KnownBytes.{Appends}
 use Rattle.flow_filter.specs.declared.site.Site.{Site}
 use Rattle.nf_io.specs.declared.outside.Role.{Role}
@@ -16,10 +16,10 @@ use Rattle.op_script.specs.Reading.{ScriptView, script_of, script_view}
 use Rattle.op_script.specs.Printing.{script_text}
 use Rattle.command_words.specs.Plan.{Asked, SimAsked, CheckAsked, GenAsked, asks_sim, asks_check, asks_gen}
 use Rattle.opennf_calls.specs.declared.status.Status.{Status}
-use Rattle.opennf_calls.specs.declared.status.Status.TheVariants.{Ok as Done, Usage, BadScript, BadTrace, ReadFault, WriteFault, NoMemory}
+use Rattle.opennf_calls.specs.declared.status.Status.TheVariants.{Ok as Done, Usage, BadScript, BadTrace, NotBuilt, Unfinished, ReadFault, WriteFault, NoMemory}
 use Rattle.opennf_calls.specs.declared.outcome.Outcome.{Outcome}
 use Rattle.opennf_calls.specs.Command.{file_for, is_input, is_result, comes_before}
-use Rattle.opennf_calls.specs.Report.{Head, IsReport}
+use Rattle.opennf_calls.specs.Simulated.{given_script, first_unbuilt_line, HasRunText, HasShortRun}
 use Rattle.opennf_calls.specs.Status.{line_of, trace_status}
 
 -- the site with this inside prefix and this outside address
@@ -28,17 +28,27 @@ pub record IsSite (site : Site) (prefix : ℕ × ℕ) (address : Option ℕ) : T
   pub len : site.inside.len ≡ prefix.1
   pub outside : site.outside ≡ address
 
--- what the report repeats of the words
-abbrev pub head_of : SimAsked → Head
-head_of s = record { kind = s.kind; names = s.instances.0; window = s.window }
-
--- the report of a simulation: that of its one instance, at its site, for the capture that the bytes are read as
-pub record IsSimText (s : SimAsked) (bytes text : List ℕ) : Type 0 where
-  pub captured : Captured
-  pub read : capture_of bytes ≡ Ok captured
-  pub site : Site
+-- what a simulation is given: the capture and the script that the bytes are read as, and the site
+pub record IsGiven (s : SimAsked) (bytes : Role → List ℕ) (site : Site) (captured : Captured) (script : TheScript) : Type 0 where
+  pub read : capture_of (bytes Trace) ≡ Ok captured
+  pub said : given_script s (bytes Script) ≡ Ok (script_view script)
   pub is_site : IsSite site s.inside s.outside
-  pub report : IsReport site (head_of s) captured text
+
+-- what is said of a simulation holds of what it is given
+pub record OfGiven (s : SimAsked) (bytes : Role → List ℕ) (P : Site → Captured → TheScript → Type 0) : Type 0 where
+  pub site : Site
+  pub captured : Captured
+  pub script : TheScript
+  pub given : IsGiven s bytes site captured script
+  pub holds : P site captured script
+
+-- the report of a simulation: that of the world at the end of the run of the words' schedule
+abbrev pub IsSimText : SimAsked → (Role → List ℕ) → List ℕ → Type 0
+IsSimText s bytes text = OfGiven s bytes (λ site captured script. HasRunText s.kind s site captured script text)
+
+-- the run of the words' schedule stops after so many steps, before its end
+abbrev pub StopsSim : SimAsked → (Role → List ℕ) → ℕ → Type 0
+StopsSim s bytes step = OfGiven s bytes (λ site captured script. HasShortRun s.kind s site captured script step)
 
 -- the canonical text of the script that the bytes are read as
 pub record IsCheckText (c : CheckAsked) (bytes text : List ℕ) : Type 0 where
@@ -66,11 +76,28 @@ abbrev pub script_refusal : Result ScriptView (ℕ × ScriptKind) → Option Sta
 script_refusal (Ok script) = None
 script_refusal (Err fault) = Some (BadScript fault.0 fault.1)
 
--- the first refusal for these input bytes, if there is one
+-- the status that refuses the script of a simulation
+abbrev pub run_refusal : Result ScriptView (ℕ × ScriptKind) → Option Status
+run_refusal (Ok script) = option_map NotBuilt (first_unbuilt_line script.1)
+run_refusal (Err fault) = Some (BadScript fault.0 fault.1)
+
+-- the first of two refusals
+abbrev pub first_refusal : Option Status → Option Status → Option Status
+first_refusal None next = next
+first_refusal (Some status) next = Some status
+
+-- the first refusal for these input bytes, if there is one: a simulation's script comes before its capture
 abbrev pub refusal_of : Asked → (Role → List ℕ) → Option Status
-refusal_of (asks_sim s) bytes = trace_refusal (capture_of (bytes Trace))
+refusal_of (asks_sim s) bytes =
+    first_refusal (run_refusal (given_script s (bytes Script))) (trace_refusal (capture_of (bytes Trace)))
 refusal_of (asks_check c) bytes = script_refusal (script_of c.kind c.instances.0 (bytes Script))
 refusal_of (asks_gen g) bytes = None
+
+-- a run of the command stops after so many steps
+abbrev pub StopsAfter : Asked → (Role → List ℕ) → ℕ → Type 0
+StopsAfter (asks_sim s) bytes step = StopsSim s bytes step
+StopsAfter (asks_check c) bytes step = ⊥
+StopsAfter (asks_gen g) bytes step = ⊥
 
 -- what a command writes, by role; it is looked at for the command's results alone
 abbrev pub Texts : Type 0
@@ -78,7 +105,7 @@ Texts = Role → List ℕ
 
 -- the texts that a command has for these input bytes
 abbrev pub AreTexts : Asked → (Role → List ℕ) → Texts → Type 0
-AreTexts (asks_sim s) bytes texts = IsSimText s (bytes Trace) (texts Report)
+AreTexts (asks_sim s) bytes texts = IsSimText s bytes (texts Report)
 AreTexts (asks_check c) bytes texts = IsCheckText c (bytes Script) (texts Report)
 AreTexts (asks_gen g) bytes texts = AreGenTexts g (texts TraceOut) (texts Report)
 
@@ -152,6 +179,18 @@ pub record IsRefused (asked : Asked) (old new : Role → Meaning) (status : Stat
   pub silent : WroteNothing old new
   pub refusal : (bytes : Role → List ℕ) → HasInput asked old bytes → refusal_of asked bytes ≡ Some status
 
+-- the inputs were read to their end and nothing refuses them, but the run stops after so many steps
+pub record Stopped (asked : Asked) (bytes : Role → List ℕ) (new : Role → Meaning) (step : ℕ) : Type 0 where
+  pub read : IsRead asked new
+  pub sound : refusal_of asked bytes ≡ None
+  pub stops : StopsAfter asked bytes step
+
+-- the run, where the outside tells the inputs, stops after so many steps: nothing was written
+pub record IsUnfinished (asked : Asked) (old new : Role → Meaning) (step : ℕ) : Type 0 where
+  pub bound : IsBound asked new
+  pub silent : WroteNothing old new
+  pub stopped : (bytes : Role → List ℕ) → HasInput asked old bytes → Stopped asked bytes new step
+
 -- the table: what was bound, read and written where a command ends with a status, and why the status comes
 abbrev pub RowOf : Asked → (old new : Role → Meaning) → Status → Type 0
 RowOf asked old new Done = IsDone asked old new
@@ -159,6 +198,8 @@ RowOf asked old new (WriteFault role) = IsWriteFault asked old new role
 RowOf asked old new (ReadFault role) = IsReadFault asked old new role
 RowOf asked old new (BadScript line kind) = IsRefused asked old new (BadScript line kind)
 RowOf asked old new (BadTrace offset kind) = IsRefused asked old new (BadTrace offset kind)
+RowOf asked old new (NotBuilt command) = IsRefused asked old new (NotBuilt command)
+RowOf asked old new (Unfinished step) = IsUnfinished asked old new step
 RowOf asked old new NoMemory = WroteNothing old new
 RowOf asked old new Usage = ⊥
 
@@ -180,13 +221,13 @@ abbrev pub PutsLine : List ℕ → (old new : Meaning) → Type 0
 PutsLine line old new =
     Appends old.written new.written line ⊎ (Rose old.faults new.faults × AppendsFront old.written new.written line)
 
--- good input and no fault give Ok or out of memory
+-- good input and no fault give Ok, out of memory, or a run that stops before its end
 abbrev pub IsComplete : Option Asked → (old new : Role → Meaning) → Status → Type 0
 IsComplete plan old new status =
     (asked : Asked) → plan ≡ Some asked → (bytes : Role → List ℕ) → HasInput asked old bytes → refusal_of asked bytes ≡ None
-    → ((role : Role) → Rose (old role).faults (new role).faults → ⊥) → (status ≡ Done) ⊎ (status ≡ NoMemory)
+    → ((role : Role) → Rose (old role).faults (new role).faults → ⊥) → (status ≡ Done) ⊎ (status ≡ NoMemory) ⊎ ((step : ℕ) × (status ≡ Unfinished step))
 
--- all that a call of the program promises
+-- all that a call of the program promises. The choices of a run aren't handed out yet
 pub record HasOutcome (plan : Option Asked) (old new : Role → Meaning) (outcome : Outcome) : Type 0 where
   pub cause : CauseOf plan old new outcome.status
   pub names : MayBind plan new

@@ -10,12 +10,16 @@ use Rattle.op_script.specs.declared.fault.ScriptFault.{ScriptFault}
 use Rattle.op_script.specs.declared.fault.ScriptFault.TheVariants as script
 use Rattle.trace_reader.specs.declared.fault.TraceFault.{TraceFault}
 use Rattle.trace_reader.specs.declared.fault.TraceFault.TheVariants as fault
+use Rattle.run_input.specs.declared.fault.InputFault.{InputFault}
+use Rattle.run_input.specs.declared.fault.InputFault.TheVariants as given
+use Rattle.actor_net.specs.declared.schedule.ScheduleFault.{ScheduleFault}
+use Rattle.actor_net.specs.declared.schedule.ScheduleFault.TheVariants as run
 use Rattle.trace_reader.specs.declared.make.MakeFault.{MakeFault}
 use Rattle.trace_reader.specs.declared.make.MakeFault.TheVariants as making
 use Rattle.opennf_calls.specs.declared.status.TraceKind.{TraceKind}
 use Rattle.opennf_calls.specs.declared.status.TraceKind.TheVariants.{Magic, PcapNg, Version, LinkType, RecordLength, TooLong, Header}
 use Rattle.opennf_calls.specs.declared.status.Status.{Status}
-use Rattle.opennf_calls.specs.declared.status.Status.TheVariants.{Ok as Done, Usage, BadScript, BadTrace, ReadFault, WriteFault, NoMemory}
+use Rattle.opennf_calls.specs.declared.status.Status.TheVariants.{Ok as Done, Usage, BadScript, BadTrace, NotBuilt, Unfinished, ReadFault, WriteFault, NoMemory}
 
 -- the number that the program ends with
 abbrev pub exit_number : Status → ℕ
@@ -23,6 +27,8 @@ exit_number Done = 0
 exit_number Usage = 1
 exit_number (BadScript line kind) = 2
 exit_number (BadTrace offset kind) = 2
+exit_number (NotBuilt command) = 2
+exit_number (Unfinished step) = 3
 exit_number (ReadFault role) = 4
 exit_number (WriteFault role) = 5
 exit_number NoMemory = 6
@@ -73,6 +79,14 @@ abbrev pub trace_line_of : ℕ → TraceKind → List ℕ
 trace_line_of offset kind =
     codes "opennf: trace byte " ++ decimal offset ++ codes ": " ++ trace_kind_name kind ++ trace_kind_number kind ++ codes "\n"
 
+-- the line on a command that isn't built
+abbrev pub unbuilt_line_of : ℕ → List ℕ
+unbuilt_line_of command = codes "opennf: command " ++ decimal command ++ codes " not built\n"
+
+-- the line on a run that stops before its end
+abbrev pub unfinished_line_of : ℕ → List ℕ
+unfinished_line_of step = codes "opennf: unfinished at step " ++ decimal step ++ codes "\n"
+
 -- the line on a file that couldn't be read or written
 abbrev pub fault_line_of : List ℕ → Role → List ℕ
 fault_line_of front role = front ++ role_name role ++ codes "\n"
@@ -83,6 +97,8 @@ line_of Done = []
 line_of Usage = codes "opennf: bad words\n"
 line_of (BadScript line kind) = script_line_of line kind
 line_of (BadTrace offset kind) = trace_line_of offset kind
+line_of (NotBuilt command) = unbuilt_line_of command
+line_of (Unfinished step) = unfinished_line_of step
 line_of (ReadFault role) = fault_line_of (codes "opennf: read fault ") role
 line_of (WriteFault role) = fault_line_of (codes "opennf: write fault ") role
 line_of NoMemory = codes "opennf: no memory\n"
@@ -108,6 +124,16 @@ script_status script.NoMemory = NoMemory
 abbrev pub reading_status : Role → UptoFault → Status
 reading_status role upto.Failed = ReadFault role
 reading_status role upto.NoMemory = NoMemory
+
+-- the status of an input that can't be made
+abbrev pub input_status : InputFault → Status
+input_status (given.NotBuilt command) = NotBuilt command
+input_status given.NoMemory = NoMemory
+
+-- the status of a run that has no end
+abbrev pub run_status : ScheduleFault → Status
+run_status (run.Unfinished step) = Unfinished step
+run_status run.NoMemory = NoMemory
 
 -- the status of a capture that can't be made
 abbrev pub making_status : MakeFault → Status

@@ -17,7 +17,7 @@ use op_script::{print_script, read_script};
 use std::alloc::Global;
 
 /// The most bytes that a script may have.
-const MOST_BYTES: u64 = 1_048_576;
+pub(crate) const MOST_BYTES: u64 = 1_048_576;
 
 /// Reads the script, whose file is bound, and writes its canonical text.
 pub fn check<O: Outside>(alloc: Global, asked: &Checking<'_>, outside: &mut O) -> Status
@@ -61,7 +61,7 @@ fn read_canonical<O: Outside>(
 }
 
 /// Reads the script, or one byte more than `most` of one that is longer.
-fn read_bytes<O: Outside>(alloc: Global, outside: &mut O, most: u64) -> Result<Bytes, UptoFault>
+pub(crate) fn read_bytes<O: Outside>(alloc: Global, outside: &mut O, most: u64) -> Result<Bytes, UptoFault>
     requires { CanRead ScriptRole (O.seen outside.old ScriptRole) }
     ensures bytes { ForSome (O.seen outside.old ScriptRole).left (λ bytes. IfOk result (λ found.
         (found ≡ take (most + 1) bytes) × ((O.seen outside.new ScriptRole).left ≡ Some (drop (most + 1) bytes)))) }

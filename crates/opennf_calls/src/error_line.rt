@@ -1,6 +1,6 @@
 //! The line that goes to the standard error where a command did not end well.
 ghost use Rattle.std.specs.Prelude.{◌≡◌, ◌≤◌, length};
-ghost use Rattle.opennf_calls.specs.Status.{line_of, script_line_of, trace_line_of, fault_line_of, trace_kind_number};
+ghost use Rattle.opennf_calls.specs.Status.{line_of, script_line_of, trace_line_of, unbuilt_line_of, unfinished_line_of, fault_line_of, trace_kind_number};
 
 use crate::status::{Status, TraceKind, role_name, script_kind_name};
 use arrayvec::ArrayString;
@@ -21,6 +21,8 @@ pub fn line(status: &Status) -> Line
         Status::Usage => whole_line("opennf: bad words\n"),
         Status::BadScript { line, kind } => script_line(line, kind),
         Status::BadTrace { offset, kind } => trace_line(offset, kind),
+        Status::NotBuilt { command } => unbuilt_line(command),
+        Status::Unfinished { step } => unfinished_line(step),
         Status::ReadFault { role } => fault_line("opennf: read fault ", role),
         Status::WriteFault { role } => fault_line("opennf: write fault ", role),
         Status::NoMemory => whole_line("opennf: no memory\n"),
@@ -71,6 +73,28 @@ fn trace_line(offset: u64, kind: TraceKind) -> Line
     line.push_str(": ");
     line.push_str(kind.name());
     line.push_str(kind_digits(&mut buffer, kind));
+    line.push_str("\n");
+    line
+}
+
+/// The line of a command that isn't built.
+fn unbuilt_line(command: u32) -> Line
+    ensures { result.bytes ≡ unbuilt_line_of command }
+{
+    let mut line = whole_line("opennf: command ");
+    let mut buffer = Buffer::new();
+    line.push_str(buffer.format(command));
+    line.push_str(" not built\n");
+    line
+}
+
+/// The line of a run that came to no end.
+fn unfinished_line(step: u64) -> Line
+    ensures { result.bytes ≡ unfinished_line_of step }
+{
+    let mut line = whole_line("opennf: unfinished at step ");
+    let mut buffer = Buffer::new();
+    line.push_str(buffer.format(step));
     line.push_str("\n");
     line
 }

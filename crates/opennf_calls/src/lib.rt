@@ -14,6 +14,7 @@
 pub mod check;
 pub mod error_line;
 pub mod generate;
+pub mod network;
 pub mod outcome;
 pub mod sim;
 pub mod status;

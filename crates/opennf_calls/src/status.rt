@@ -1,9 +1,11 @@
 ghost use Rattle.std.specs.Prelude.{◌≡◌, ◌≤◌, length};
 ghost use Rattle.opennf_calls.specs.Status.{trace_kind_name, exit_number, role_name, script_kind_name, reading_status};
 
+use actor_net::ScheduleFault;
 use flow_filter::NoMemory;
 use nf_io::{Role, UptoFault};
 use op_script::{ScriptFault, ScriptKind};
+use run_input::InputFault;
 use trace_reader::{MakeFault, TraceFault};
 
 /// What is wrong with a capture.
@@ -36,6 +38,10 @@ pub enum Status {
     BadScript { line: u32, kind: ScriptKind },
     /// The capture breaks a rule at a byte.
     BadTrace { offset: u64, kind: TraceKind },
+    /// This command of the script isn't built.
+    NotBuilt { command: u32 },
+    /// The run took so many steps, and came to no end.
+    Unfinished { step: u64 },
     /// A file couldn't be read.
     ReadFault { role: Role },
     /// A file couldn't be written.
@@ -64,6 +70,8 @@ impl Status {
             Status::Usage => 1,
             Status::BadScript { .. } => 2,
             Status::BadTrace { .. } => 2,
+            Status::NotBuilt { .. } => 2,
+            Status::Unfinished { .. } => 3,
             Status::ReadFault { .. } => 4,
             Status::WriteFault { .. } => 5,
             Status::NoMemory => 6,
@@ -121,6 +129,36 @@ impl From<ScriptFault> for Status {
         match fault {
             ScriptFault::Bad { line, kind } => Status::BadScript { line, kind },
             ScriptFault::NoMemory => Status::NoMemory,
+        }
+    }
+}
+
+/// The status of an input that can't be made.
+impl From<InputFault> for Status {
+    ghost use Rattle.std.specs.Prelude.{◌≡◌};
+    ghost use Rattle.opennf_calls.specs.Status.{input_status};
+
+    ghost from_gives = { λ fault status. status ≡ input_status fault };
+
+    fn from(fault: InputFault) -> Self {
+        match fault {
+            InputFault::NotBuilt { command } => Status::NotBuilt { command },
+            InputFault::NoMemory => Status::NoMemory,
+        }
+    }
+}
+
+/// The status of a run that has no end.
+impl From<ScheduleFault> for Status {
+    ghost use Rattle.std.specs.Prelude.{◌≡◌};
+    ghost use Rattle.opennf_calls.specs.Status.{run_status};
+
+    ghost from_gives = { λ fault status. status ≡ run_status fault };
+
+    fn from(fault: ScheduleFault) -> Self {
+        match fault {
+            ScheduleFault::Unfinished { step } => Status::Unfinished { step },
+            ScheduleFault::NoMemory => Status::NoMemory,
         }
     }
 }

@@ -52,7 +52,7 @@ pub fn input_of(
 }
 
 /// The number of the first command that is a copy or a share.
-fn first_unbuilt(lines: &[Line]) -> Option<u32>
+pub fn first_unbuilt(lines: &[Line]) -> Option<u32>
     ensures value { result ≡ first_unbuilt lines.now }
     ensures built { IfNone result (All (λ line. IsBuilt line.what) lines.now) }
 {

@@ -10,7 +10,7 @@ pub mod input;
 pub mod setting;
 
 pub use fault::InputFault;
-pub use input::input_of;
+pub use input::{first_unbuilt, input_of};
 pub use setting::Setting;
 
 #[cfg(test)]

@@ -4,22 +4,22 @@ use Rattle.nf_io.specs.declared.outside.Role.TheVariants.{Script, Report}
 use Rattle.command_words.specs.Plan.{asks_check}
 use Rattle.command_words.specs.RequestViews.{check_view}
 use Rattle.opennf_calls.specs.Writing.{Wrote, all_of, front_of}
-use Rattle.opennf_calls.proofs.RowLemmas.{ends, one_file-check, report_alone, report_failed, report_written}
+use Rattle.opennf_calls.proofs.RowLemmas.{ends, one_file-check, one_read, report_alone, report_failed, report_written}
 use Rattle.opennf_calls.proofs.check.check.Goals as goal
 
 pub returns-in-Err : goal.returns-in-Err
-returns-in-Err g c = ends Script _ _ c.read_canonical.ensures.alone _ _ (λ same. cc) (λ same. cc) c.in-Err.ensures.row
+returns-in-Err g c = ends _ _ (one_read Script _ _ refl c.read_canonical.ensures.alone) _ _ c.in-Err.ensures.row
 
 pub returns-in-Ok-put : goal.returns-in-Ok-put
 returns-in-Ok-put g c =
-    report_written (asks_check (check_view c.args.asked.now)) _ _ _ Script c.read_canonical.ensures.alone refl c.requires.bound
+    report_written (asks_check (check_view c.args.asked.now)) _ _ _ (one_read Script _ _ refl c.read_canonical.ensures.alone) c.requires.bound
     (report_alone (asks_check (check_view c.args.asked.now)) Script (one_file-check (check_view c.args.asked.now)) refl)
     c.in-Ok.text c.in-Ok.ensures.row
     (subst (λ (text : List ℕ). Wrote Report (g.O.Outside.seen c.read_canonical.new.outside) (g.O.Outside.seen c.put.new.outside) (all_of text)) c.items.ensures c.in-Ok-put.ensures)
 
 pub returns : goal.returns
 returns g c =
-    report_failed (asks_check (check_view c.args.asked.now)) _ _ _ Script c.read_canonical.ensures.alone refl c.requires.bound
+    report_failed (asks_check (check_view c.args.asked.now)) _ _ _ (one_read Script _ _ refl c.read_canonical.ensures.alone) c.requires.bound
     (report_alone (asks_check (check_view c.args.asked.now)) Script (one_file-check (check_view c.args.asked.now)) refl)
     c.in-Ok.text c.in-Ok.ensures.row
     (subst (λ (text : List ℕ). Wrote Report (g.O.Outside.seen c.read_canonical.new.outside) (g.O.Outside.seen c.put.new.outside) (front_of text)) c.items.ensures c.in-Err-put.ensures)

@@ -4,23 +4,27 @@ use Rattle.std.proofs.lemmas.Result.{err_from_is_err_and}
 use Rattle.nf_io.specs.declared.outside.Role.{Role}
 use Rattle.nf_io.specs.declared.outside.Role.TheVariants.{Script}
 use Rattle.op_script.specs.Reading.{SaysWhole, script_of, script_view}
+use Rattle.op_script.specs.declared.fault.ScriptFault.{ScriptFault}
+use Rattle.op_script.specs.declared.fault.ScriptFault.TheVariants as script
 use Rattle.command_words.specs.Plan.{asks_check}
 use Rattle.command_words.specs.RequestViews.{check_view}
 use Rattle.opennf_calls.specs.Outcome.{script_refusal}
 use Rattle.opennf_calls.proofs.ScriptLemmas.{most_bytes, script_of-front, nothing_left, script_row}
-use Rattle.opennf_calls.proofs.RowLemmas.{input_alone, one_file-check}
+use Rattle.opennf_calls.proofs.RowLemmas.{input_alone, one_file-check, one_read}
 use Rattle.opennf_calls.proofs.check.read_canonical.Goals as goal
 
 pub returns-in_err-script-clause-row : goal.returns-in_err-script-clause-row
 returns-in_err-script-clause-row g c =
     let failed = err_from_is_err_and c.from_residual.result c.from_residual.ensures.1 in
     rw (failed.1, failed.2)
-    (script_row (check_view c.args.asked.now) (g.O.Outside.seen c.args.outside.now) (g.O.Outside.seen c.read_bytes.new.outside) c.in_err-script.field-0.0
-    c.read_bytes.ensures.alone c.requires.bound (λ bytes told.
-    let found = c.in-Ok.ensures.bytes bytes told in
-    let read : c.items.result.now ≡ take (most_bytes + 1) bytes = search rules in
-    let heard : SaysWhole script_view (Err c.in_err-script.field-0.0) (script_of c.args.asked.now.kind c.args.asked.now.instances.names.items (take (most_bytes + 1) bytes)) = search rules in
-    subst (λ said. SaysWhole script_view (Err c.in_err-script.field-0.0) said) (script_of-front c.args.asked.now.kind c.args.asked.now.instances.names.items bytes) heard))
+    (script_row (asks_check (check_view c.args.asked.now)) (g.O.Outside.seen c.args.outside.now) (g.O.Outside.seen c.read_bytes.new.outside) c.in_err-script.field-0.0
+    (one_read Script _ _ refl c.read_bytes.ensures.alone) c.requires.bound (λ line kind is bytes told.
+    let found = c.in-Ok.ensures.bytes (bytes Script) (told Script refl) in
+    let read : c.items.result.now ≡ take (most_bytes + 1) (bytes Script) = search rules in
+    let heard : SaysWhole script_view (Err c.in_err-script.field-0.0) (script_of c.args.asked.now.kind c.args.asked.now.instances.names.items (take (most_bytes + 1) (bytes Script))) = search rules in
+    let bad : SaysWhole script_view (Err (script.Bad line kind)) (script_of c.args.asked.now.kind c.args.asked.now.instances.names.items (take (most_bytes + 1) (bytes Script))) =
+    subst (λ (fault : ScriptFault). SaysWhole script_view (Err fault) (script_of c.args.asked.now.kind c.args.asked.now.instances.names.items (take (most_bytes + 1) (bytes Script)))) is heard in
+    ap script_refusal (sym (script_of-front c.args.asked.now.kind c.args.asked.now.instances.names.items (bytes Script)) ∙ bad)))
 
 pub returns-clause-row : goal.returns-clause-row
 returns-clause-row g c = λ bytes told.

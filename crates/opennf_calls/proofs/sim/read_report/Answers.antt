@@ -1,32 +1,27 @@
--- The report's text is the one that the command has for the capture.
-use Rattle.std.proofs.Common.{◌≡◌, ℕ, List, [], Some, ap, refl, subst, sym}
-use Rattle.trace_reader.proofs.PacketNumbers.{capture-numbered}
-use Rattle.nf_io.specs.declared.outside.Role.{Role}
-use Rattle.nf_io.specs.declared.outside.Role.TheVariants.{Trace}
-use Rattle.command_words.specs.Plan.{asks_sim}
+-- The text is the one that the command has for its inputs, or the status has its row.
+use Rattle.std.proofs.Common.{rules, ◌≡◌, None, Some, ap, sym, ◌∙◌, refl}
+use Rattle.std.proofs.lemmas.Result.{err_from_is_err_and}
 use Rattle.command_words.specs.RequestViews.{sim_view}
-use Rattle.opennf_calls.specs.Outcome.{trace_refusal}
-use Rattle.opennf_calls.specs.ReportParts.{report_text}
-use Rattle.opennf_calls.specs.Report.{IsReport}
-use Rattle.opennf_calls.proofs.RowLemmas.{input_alone, one_file-sim}
+use Rattle.run_input.specs.Given.{first_unbuilt}
+use Rattle.opennf_calls.proofs.SimRows.{run_row, trace_row, unbuilt_row}
 use Rattle.opennf_calls.proofs.sim.read_report.Goals as goal
 
+pub returns-in-Some-clause-row : goal.returns-in-Some-clause-row
+returns-in-Some-clause-row g c =
+    unbuilt_row (sim_view c.args.asked.now) _ _ c.in_ok-script.script c.in_ok-script.ensures.alone c.requires.bound c.in_ok-script.ensures.row c.in-Some.command
+    (sym (c.in-Some.ensures.value ∙ ap first_unbuilt c.as_slice.ensures.value))
+
+pub returns-in_err-trace-clause-row : goal.returns-in_err-trace-clause-row
+returns-in_err-trace-clause-row g c =
+    let built : first_unbuilt c.in_ok-script.script.lines.items ≡ None = search rules in
+    let failed = err_from_is_err_and c.from_residual-in_err-trace.result c.from_residual-in_err-trace.ensures.1 in
+    rw (failed.1, failed.2)
+    (trace_row (sim_view c.args.asked.now) _ _ c.in_ok-script.script c.in_ok-script.ensures.alone c.requires.bound c.in_ok-script.ensures.row
+    _ c.in_err-trace.ensures.alone built c.in_err-trace.field-0.0 c.in_err-trace.ensures.trace c.in_err-trace.ensures.cause)
+
 pub returns-clause-row : goal.returns-clause-row
-returns-clause-row g c = λ bytes told.
-    let given = c.in_ok-end.ensures.trace (bytes Trace) (told Trace refl) in
-    let report = c.in_ok-report.ensures c.args.asked.now.site given.0 (given.4 c.args.asked.now.site [] c.open-fold.ensures) (capture-numbered (bytes Trace) _ given.1) given.2 in
-    record {
-      read = λ role input.
-          subst (λ (r : Role). (g.O.Outside.seen c.read_capture.new.outside r).left ≡ Some []) (sym (input_alone (asks_sim (sim_view c.args.asked.now)) Trace (one_file-sim (sim_view c.args.asked.now) c.requires.plain.whole) role input)) given.3;
-      sound = ap trace_refusal given.1;
-      texts = λ role. report_text c.in_ok-report.report;
-      are = record {
-        captured = _;
-        read = given.1;
-        site = c.args.asked.now.site;
-        is_site = record { bits = refl; len = refl; outside = refl };
-        report = subst (λ (names : List (List ℕ)). IsReport c.args.asked.now.site (record { kind = c.args.asked.now.kind; names = names; window = c.args.asked.now.window })
-            (record { packets = given.0; skipped = c.in_ok-end.end.skipped; cut = c.in_ok-end.end.cut }) (report_text c.in_ok-report.report)) c.as_slice-names.ensures.value report;
-      };
-      wrote = refl;
-    }
+returns-clause-row g c =
+    let built : first_unbuilt c.in_ok-script.script.lines.items ≡ None = search rules in
+    run_row (sim_view c.args.asked.now) _ _ c.in_ok-script.script c.in_ok-script.ensures.alone c.requires.bound c.in_ok-script.ensures.row
+    _ c.in_ok-trace.ensures.alone built c.args.asked.now.site (record { bits = refl; len = refl; outside = refl }) c.in_ok-trace.trace c.in_ok-trace.ensures.trace
+    c.network_text.result c.network_text.ensures

@@ -3,14 +3,14 @@ use Rattle.std.proofs.Common.{rules, ◌≡◌, Some, map}
 use Rattle.std.specs.Prelude.{string_bytes}
 use Rattle.command_words.specs.Plan.{plan_of, asks_sim, asks_check, asks_gen}
 use Rattle.command_words.specs.RequestViews.{sim_view, check_view, gen_view}
-use Rattle.opennf_calls.proofs.BuiltCommands.{plan_plain, plan_few}
+use Rattle.opennf_calls.proofs.BuiltCommands.{plan_runs, plan_few}
 use Rattle.opennf_calls.proofs.LastLineLemmas.{bound_before, row_around}
 use Rattle.opennf_calls.proofs.top.perform.Goals as goal
 
-pub simulate-requires-clause-plain : goal.simulate-requires-clause-plain
-simulate-requires-clause-plain g c =
+pub simulate-requires-clause-runs : goal.simulate-requires-clause-runs
+simulate-requires-clause-runs g c =
     let plan : plan_of (map string_bytes c.args.words.now) ≡ Some (asks_sim (sim_view c.in-Sim.asked)) = search rules in
-    plan_plain _ _ plan
+    plan_runs _ _ plan
 
 pub check-requires-clause-few : goal.check-requires-clause-few
 check-requires-clause-few g c =
