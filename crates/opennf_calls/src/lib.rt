@@ -18,6 +18,7 @@ pub mod network;
 pub mod outcome;
 pub mod sim;
 pub mod status;
+pub mod threads;
 pub mod top;
 
 // One instance and its report. These name no status, no command and no words, so that they can stand in a crate below.
@@ -38,3 +39,5 @@ mod check_tests;
 mod generate_tests;
 #[cfg(test)]
 mod sim_tests;
+#[cfg(test)]
+mod threads_tests;
