@@ -12,7 +12,7 @@ use Rattle.actor_net.specs.declared.replays.ReplayFault.TheVariants.{NoMemory}
 use Rattle.actor_net.specs.Replays.{replayed}
 use Rattle.actor_net.proofs.ReplayLaws.{replayed_ok}
 use Rattle.actor_net.specs.Schedules.{StopsShort}
-use Rattle.nf_net.specs.Runs.{chosen, EndsIn, StopsAt}
+use Rattle.nf_net.specs.Runs.{LeadsTo, chosen, EndsIn, StopsAt}
 use Rattle.actor_net.specs.Network.{Network, IsRun, is_done, run}
 use Rattle.nf_net.specs.declared.config.Config.{Config}
 use Rattle.nf_net.specs.declared.node.Node.{Node}
@@ -60,6 +60,22 @@ module _ (F : Type 0) {R : Type 0} (f : Semantics R) (laws : FunctionLaws f) (al
   pub every_home : IsRun node_ready (node_step f) cs (started {F = F} {R = R} alloc c items) → is_done node_ended w ≡ true → AllHome c w
   every_home runs done = all_home F f laws alloc c items is cs runs done
 
+-- What a run from the start to a world in which nothing is left to do keeps, whoever made its choices.
+module _ (F : Type 0) {R : Type 0} (f : Semantics R) (laws : FunctionLaws f) (alloc : Global) (c : Config) (items : List Msg) (is : IsInput f.kind c items) where
+  pub record KeepsAll (w : Network (Node F R) Msg Note) : Type 0 where
+    pub promises : Promises f c items w
+    pub completed : Completed f c items w
+    pub home : AllHome c w
+
+  pub keeps_all : (cs : List Choice) (w : Network (Node F R) Msg Note) → LeadsTo f (started {F = F} {R = R} alloc c items) cs w → is_done node_ended w ≡ true → KeepsAll w
+  keeps_all cs w leads complete =
+      let done : is_done node_ended (run (node_step f) cs (started {F = F} {R = R} alloc c items)) ≡ true = ap (is_done node_ended) (sym leads.reached) ∙ complete in
+      subst KeepsAll (sym leads.reached) (record {
+        promises = every_run F f laws alloc c items is cs leads.is_run;
+        completed = every_end F f laws alloc c items is cs leads.is_run done;
+        home = every_home F f laws alloc c items is cs leads.is_run done;
+      })
+
 -- What a schedule's run of a network from its start keeps, if it ends.
 module _ (F : Type 0) {R : Type 0} (f : Semantics R) (laws : FunctionLaws f) (alloc : Global) (c : Config) (items : List Msg) (is : IsInput f.kind c items) (schedule : Schedule) where
   abbrev first : Network (Node F R) Msg Note
@@ -83,17 +99,17 @@ module _ (F : Type 0) {R : Type 0} (f : Semantics R) (laws : FunctionLaws f) (al
   keeps w start r h =
       let runs : IsRun node_ready (node_step f) r.1 first = subst (λ v. IsRun node_ready (node_step f) r.1 v) start h.is_run in
       let reached : r.0 ≡ run (node_step f) r.1 first = h.world ∙ ap (run (node_step f) r.1) start in
-      let complete : is_done node_ended (run (node_step f) r.1 first) ≡ true = ap (is_done node_ended) (sym reached) ∙ h.complete in
       let choices : r.1 ≡ chosen f first schedule = h.choices ∙ ap (λ v. chosen f v schedule) start in
+      let all = keeps_all F f laws alloc c items is r.1 r.0 (record { is_run = runs; reached = reached }) h.complete in
       record {
         choices = choices;
         end = record {
           leads = record { is_run = subst (λ cs. IsRun node_ready (node_step f) cs first) choices runs; reached = reached ∙ ap (λ cs. run (node_step f) cs first) choices };
           complete = h.complete;
         };
-        promises = subst (λ v. Promises f c items v) (sym reached) (every_run F f laws alloc c items is r.1 runs);
-        completed = subst (λ v. Completed f c items v) (sym reached) (every_end F f laws alloc c items is r.1 runs complete);
-        home = subst (λ v. AllHome c v) (sym reached) (every_home F f laws alloc c items is r.1 runs complete);
+        promises = all.promises;
+        completed = all.completed;
+        home = all.home;
       }
 
 -- What is said of a world that is handed back: the same facts of the result.

@@ -17,6 +17,7 @@ pub mod network;
 pub mod outcome;
 pub mod sim;
 pub mod status;
+pub mod threads;
 pub mod top;
 pub mod writing;
 
@@ -30,3 +31,5 @@ mod check_tests;
 mod generate_tests;
 #[cfg(test)]
 mod sim_tests;
+#[cfg(test)]
+mod threads_tests;

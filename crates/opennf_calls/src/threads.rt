@@ -1,0 +1,41 @@
+//! The run of a network by threads.
+ghost use Rattle.std.specs.Prelude.{◌≡◌, true, IfOk};
+ghost use Rattle.actor_net.specs.Network.{is_done};
+ghost use Rattle.nf_net.specs.Input.{IsInput};
+ghost use Rattle.nf_net.specs.Nodes.{node_ended};
+ghost use Rattle.nf_net.specs.Promises.{Completed, Promises};
+ghost use Rattle.nf_net.specs.Runs.{LeadsTo};
+ghost use Rattle.nf_net.specs.Start.{started};
+ghost use Rattle.nf_net.specs.Window.{AllHome};
+
+use actor_net::{Choices, World};
+use actor_threads::{Gate, run_threads};
+use basics::NoMemory;
+use nf_function::Function;
+use nf_msgs::Msg;
+use nf_net::{Config, Node, start};
+use std::alloc::Global;
+use std::sync::Wait;
+use std::thread::Threads;
+
+/// Runs a network from its start, with a worker for each node, until nothing is left to do. The choices are those that the workers made.
+pub fn run_network<R: Threads + Wait + Sync, F: Function + Send, G: Gate>(
+    rt: &R,
+    alloc: Global,
+    config: &Config,
+    items: Vec<Msg>,
+    gate: &G,
+) -> Result<(World<Node<F>>, Choices), NoMemory>
+where
+    F::Record: Send,
+    requires { IsInput F.semantics.kind config.now items.items }
+    ensures leads { IfOk result (λ r. LeadsTo F.semantics (started alloc config.now items.items) r.1 r.0) }
+    ensures complete { IfOk result (λ r. is_done node_ended r.0 ≡ true) }
+    ensures promises { IfOk result (λ r. Promises F.semantics config.now items.items r.0) }
+    ensures completed { IfOk result (λ r. Completed F.semantics config.now items.items r.0) }
+    ensures home { IfOk result (λ r. AllHome config.now r.0) }
+{
+    let opening = start::<F>(alloc, config, items)?;
+    let (world, choices) = run_threads(rt, alloc, opening, gate)?;
+    Ok((world, choices))
+}
