@@ -12,30 +12,37 @@ use Rattle.nf_function.specs.declared.kind.Kind.{Kind}
 use Rattle.nf_function.specs.declared.kind.Kind.TheVariants.{Conntrack, Nat, Monitor}
 use Rattle.actor_net.specs.declared.schedule.Schedule.{Schedule}
 use Rattle.actor_net.specs.declared.schedule.Schedule.TheVariants.{First, Last, Number}
-use Rattle.command_words.specs.Grammar.{Given, given_arguments, sim_app, check_app, gen_app}
+use Rattle.command_words.specs.Grammar.{Given, given_arguments, run_app, sim_app, check_app, gen_app}
 
 -- only where the test is true
 abbrev pub only : {A : Type 0} → Bool → Option A → Option A
 only true next = next
 only false next = None
 
--- an instance: its name, and how many live records it takes in by moves
-abbrev pub Instance : Type 0
-Instance = Text × ℕ
+-- an instance: its name, how many live records it takes in by moves, and whether it is marked, so that it reads chunks of version 1 alone
+pub record Instance : Type 0 where
+  pub name : Text
+  pub limit : ℕ
+  pub marked : Bool
 
--- names, and the limit of each
-abbrev pub Instances : Type 0
-Instances = List Text × List ℕ
+-- the names of instances, the limit of each, and whether it is marked
+pub record Instances : Type 0 where
+  pub names : List Text
+  pub limits : List ℕ
+  pub marked : List Bool
 
--- what `sim` asks for
-pub record SimAsked : Type 0 where
+-- what `sim`, `run` and `audit` ask for
+pub record NetworkAsked : Type 0 where
   pub kind : Kind
   pub instances : Instances
   -- the bits and the length of the inside prefix
   pub inside : ℕ × ℕ
   pub outside : Option ℕ
   pub window : ℕ
-  pub schedule : Schedule
+  -- the file of the run's choices
+  pub journal : Option Text
+  -- the report has counts in place of the lines of packets and records
+  pub summary : Bool
   pub trace : Text
   pub script : Option Text
 
@@ -54,7 +61,9 @@ pub record GenAsked : Type 0 where
 
 -- what the words ask for
 pub data Asked : Type 0 where
-  asks_sim : SimAsked → Asked
+  asks_sim : NetworkAsked → Schedule → Asked
+  asks_run : NetworkAsked → Asked
+  asks_audit : NetworkAsked → Asked
   asks_check : CheckAsked → Asked
   asks_gen : GenAsked → Asked
 
@@ -66,28 +75,43 @@ function_of text =
     else if bytes_eq text (codes "monitor") then Some Monitor
     else None
 
--- the name and the text of the limit, if there is one
-abbrev pub with_limit : Text → Option Text → Option Instance
-with_limit name None = only (is_name name) (Some (name, 1000000))
-with_limit name (Some text) = only (is_name name) (option_map (λ limit. (name, limit)) (parse_number 1000000 text))
+-- a limit: 0 to 1000000
+abbrev pub limit_of : Text → Option ℕ
+limit_of text = parse_number 1000000 text
 
--- `NAME` or `NAME:LIMIT`
+-- the name, with the limit and whether it is marked
+abbrev pub with_suffix : Text → Option (ℕ × Bool) → Option Instance
+with_suffix name suffix = only (is_name name) (option_map (λ s. record { name = name; limit = s.0; marked = s.1 }) suffix)
+
+-- what stands behind a name and a colon: `LIMIT`, `v1` or `LIMIT:v1`
+unfoldable pub suffix_of : Text → Option (ℕ × Bool)
+suffix_of text = if bytes_eq text (codes "v1") then Some (1000000, true) else parts (split_once 58 text)
+  where
+    parts : Option (Text × Text) → Option (ℕ × Bool)
+    parts None = option_map (λ limit. (limit, false)) (limit_of text)
+    parts (Some p) = only (bytes_eq p.1 (codes "v1")) (option_map (λ limit. (limit, true)) (limit_of p.0))
+
+-- `NAME`, `NAME:LIMIT`, `NAME:v1` or `NAME:LIMIT:v1`
 unfoldable pub instance_of : Text → Option Instance
 instance_of text = parts (split_once 58 text)
   where
     parts : Option (Text × Text) → Option Instance
-    parts None = with_limit text None
-    parts (Some p) = with_limit p.0 (Some p.1)
+    parts None = with_suffix text (Some (1000000, false))
+    parts (Some p) = with_suffix p.0 (suffix_of p.1)
+
+-- an instance and those behind it
+abbrev pub with_instance : Instance → Instances → Instances
+with_instance i rest = record { names = i.name ∷ rest.names; limits = i.limit ∷ rest.limits; marked = i.marked ∷ rest.marked }
 
 -- each of the texts is an instance
 abbrev pub all_instances : List Text → Option Instances
-all_instances [] = Some ([], [])
-all_instances (text ∷ more) = instance_of text >>= λ i. all_instances more >>= λ rest. Some (i.0 ∷ rest.0, i.1 ∷ rest.1)
+all_instances [] = Some (record { names = []; limits = []; marked = [] })
+all_instances (text ∷ more) = instance_of text >>= λ i. all_instances more >>= λ rest. Some (with_instance i rest)
 
 -- LIST: 1 to 16 instances with commas between them, whose names differ
 unfoldable pub instances_of : Text → Option Instances
 instances_of text = all_instances (slice_split (λ b. b == 44) text) >>= λ i.
-    only (nat_le (length i.0) 16 && not (has_twice i.0)) (Some i)
+    only (nat_le (length i.names) 16 && not (has_twice i.names)) (Some i)
 
 -- PREFIX: `A.B.C.D/L`
 unfoldable pub inside_of : Text → Option (ℕ × ℕ)
@@ -134,15 +158,15 @@ abbrev pub file_if : Option Text → Option (Option Text)
 file_if None = Some None
 file_if (Some text) = file_of text >>= λ name. Some (Some name)
 
--- the values of `sim`
-unfoldable pub sim_values : Given → Option SimAsked
-sim_values g = do
+-- the values of the words that `sim`, `run` and `audit` share
+unfoldable pub network_values : Given → Option NetworkAsked
+network_values g = do
   kind ← g.function >>= function_of
   instances ← g.instances >>= instances_of
   inside ← g.inside >>= inside_of
   outside ← outside_of kind inside g.outside
   window ← window_of g.window
-  schedule ← schedule_of g.schedule
+  journal ← file_if g.journal
   trace ← g.trace >>= file_of
   script ← file_if g.script
   Some (record {
@@ -151,7 +175,8 @@ sim_values g = do
     inside = inside;
     outside = outside;
     window = window;
-    schedule = schedule;
+    journal = journal;
+    summary = g.summary;
     trace = trace;
     script = script;
   })
@@ -174,7 +199,14 @@ gen_values g = do
   Some (record { number = number; packets = packets; hosts = hosts; trace = trace })
 
 abbrev pub sim_of : List Text → Option Asked
-sim_of words = given_arguments sim_app words >>= λ g. sim_values g >>= λ s. Some (asks_sim s)
+sim_of words = given_arguments sim_app words >>= λ g. network_values g >>= λ n. schedule_of g.schedule >>= λ s. Some (asks_sim n s)
+
+abbrev pub run_of : List Text → Option Asked
+run_of words = given_arguments run_app words >>= λ g. network_values g >>= λ n. Some (asks_run n)
+
+-- the words of `run`, where the journal must be given
+abbrev pub audit_of : List Text → Option Asked
+audit_of words = given_arguments run_app words >>= λ g. network_values g >>= λ n. only (is_some n.journal) (Some (asks_audit n))
 
 abbrev pub check_of : List Text → Option Asked
 check_of words = given_arguments check_app words >>= λ g. check_values g >>= λ c. Some (asks_check c)
@@ -182,11 +214,17 @@ check_of words = given_arguments check_app words >>= λ g. check_values g >>= λ
 abbrev pub gen_of : List Text → Option Asked
 gen_of words = given_arguments gen_app words >>= λ g. gen_values g >>= λ v. Some (asks_gen v)
 
--- PROGRAM COMMAND and the words of the command
-unfoldable pub plan_of : List Text → Option Asked
-plan_of (program ∷ command ∷ words) =
+-- COMMAND and the words of the command
+unfoldable pub asked_of : Text → List Text → Option Asked
+asked_of command words =
     if bytes_eq command (codes "sim") then sim_of words
+    else if bytes_eq command (codes "run") then run_of words
+    else if bytes_eq command (codes "audit") then audit_of words
     else if bytes_eq command (codes "check") then check_of words
     else if bytes_eq command (codes "gen") then gen_of words
     else None
+
+-- PROGRAM COMMAND and the words of the command
+unfoldable pub plan_of : List Text → Option Asked
+plan_of (program ∷ command ∷ words) = asked_of command words
 plan_of _ = None

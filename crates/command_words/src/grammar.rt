@@ -1,11 +1,11 @@
 ghost use Rattle.std.specs.Prelude.{Some, None, codes, ◌≡◌, ◌++◌, ◌∷◌, [], true, false, List, map, IfOk, option_map, string_bytes};
 ghost use Rattle.clap.specs.Words.{Rule, Text, app_of, rule_of, rows_of, found_of, is_simple_and_free};
-ghost use Rattle.command_words.specs.Grammar.{rule_by, app_with, sim_app, check_app, gen_app, rows_taken, value_of, given_of, given_arguments, nothing};
+ghost use Rattle.command_words.specs.Grammar.{rule_by, app_with, run_app, sim_app, check_app, gen_app, rows_taken, value_of, is_on, given_of, given_arguments, nothing};
 ghost use Rattle.command_words.specs.Views.{Reads, given_view};
 
 use crate::fault::ArgumentsFault;
 use clap::error::ErrorKind;
-use clap::{Arg, ArgMatches, Command};
+use clap::{Arg, ArgAction, ArgMatches, Command};
 use std::alloc::{AllocError, Global};
 
 /// What an argument is, and whether it must be there.
@@ -19,9 +19,11 @@ pub enum ArgumentKind {
     Required,
     /// An option with a value that may be there.
     Optional,
+    /// An option without a value, that may be there.
+    Flag,
 }
 
-/// The text that is given for each name.
+/// The text that is given for each name, and whether the flag is.
 #[derive(Clone, Copy, Debug)]
 pub struct GivenWords<'a> {
     pub function: Option<&'a str>,
@@ -30,6 +32,8 @@ pub struct GivenWords<'a> {
     pub outside: Option<&'a str>,
     pub window: Option<&'a str>,
     pub schedule: Option<&'a str>,
+    pub journal: Option<&'a str>,
+    pub summary: bool,
     pub trace: Option<&'a str>,
     pub script: Option<&'a str>,
     pub number: Option<&'a str>,
@@ -37,14 +41,15 @@ pub struct GivenWords<'a> {
     pub hosts: Option<&'a str>,
 }
 
-/// The arguments of `sim`.
-static SIM: [(ArgumentKind, &str); 8] = [
+/// The arguments of `run` and of `audit`; `sim` has these and a schedule.
+static NETWORK: [(ArgumentKind, &str); 9] = [
     (ArgumentKind::Positional, "function"),
     (ArgumentKind::Required, "instances"),
     (ArgumentKind::Required, "inside"),
     (ArgumentKind::Optional, "outside"),
     (ArgumentKind::Optional, "window"),
-    (ArgumentKind::Optional, "schedule"),
+    (ArgumentKind::Optional, "journal"),
+    (ArgumentKind::Flag, "summary"),
     (ArgumentKind::Positional, "trace"),
     (ArgumentKind::OptionalPositional, "script"),
 ];
@@ -96,6 +101,14 @@ fn optional<'a>(alloc: Global, name: &'a str) -> Arg<'a>
     Arg::new(alloc, name).long(name)
 }
 
+/// An option without a value, that may be there.
+fn flag<'a>(alloc: Global, name: &'a str) -> Arg<'a>
+    ensures rule { rule_of result ≡ rule_by ArgumentKind.Flag name.entry.now }
+    ensures local { result.global ≡ false }
+{
+    Arg::new(alloc, name).long(name).action(ArgAction::SetTrue)
+}
+
 /// An argument.
 fn argument<'a>(alloc: Global, want: ArgumentKind, name: &'a str) -> Arg<'a>
     ensures rule { rule_of result ≡ rule_by want name.entry.now }
@@ -106,6 +119,7 @@ fn argument<'a>(alloc: Global, want: ArgumentKind, name: &'a str) -> Arg<'a>
         ArgumentKind::OptionalPositional => other_place(alloc, name),
         ArgumentKind::Required => wanted(alloc, name),
         ArgumentKind::Optional => optional(alloc, name),
+        ArgumentKind::Flag => flag(alloc, name),
     }
 }
 
@@ -147,12 +161,21 @@ fn command_of<'a>(
     Ok(command)
 }
 
+/// The command `run`, whose words `audit` has as well.
+fn run_command<'a>(alloc: Global) -> Result<Command<'a>, AllocError>
+    ensures app { IfOk result (λ c. app_of c ≡ run_app) }
+    ensures simple { IfOk result (λ c. is_simple_and_free (app_of c) ≡ true) }
+{
+    command_of(alloc, "run", NETWORK.as_slice())
+}
+
 /// The command `sim`.
 fn sim_command<'a>(alloc: Global) -> Result<Command<'a>, AllocError>
     ensures app { IfOk result (λ c. app_of c ≡ sim_app) }
     ensures simple { IfOk result (λ c. is_simple_and_free (app_of c) ≡ true) }
 {
-    command_of(alloc, "sim", SIM.as_slice())
+    let command = command_of(alloc, "sim", NETWORK.as_slice())?;
+    with(alloc, command, ArgumentKind::Optional, "schedule")
 }
 
 /// The command `check`.
@@ -192,7 +215,17 @@ fn text_of<'a>(matches: &ArgMatches<'a>, name: &str) -> Option<&'a str>
     matches.get_str(name)
 }
 
-/// The texts that are given.
+/// Whether the flag with this name is given.
+fn is_given(matches: &ArgMatches<'_>, name: &str) -> bool
+    ensures { result ≡ is_on (value_of name.now (rows_of (found_of matches.now))) }
+{
+    match text_of(matches, name) {
+        Some(text) => text == "true",
+        None => false,
+    }
+}
+
+/// The texts that are given, and whether the flag is.
 fn given_of<'a>(matches: &ArgMatches<'a>) -> GivenWords<'a>
     ensures { given_view result ≡ given_of (rows_of (found_of matches.now)) }
 {
@@ -203,6 +236,8 @@ fn given_of<'a>(matches: &ArgMatches<'a>) -> GivenWords<'a>
         outside: text_of(matches, "outside"),
         window: text_of(matches, "window"),
         schedule: text_of(matches, "schedule"),
+        journal: text_of(matches, "journal"),
+        summary: is_given(matches, "summary"),
         trace: text_of(matches, "trace"),
         script: text_of(matches, "script"),
         number: text_of(matches, "number"),
@@ -217,6 +252,16 @@ pub fn read_sim<'a>(alloc: Global, words: &'a [String]) -> Result<GivenWords<'a>
     ensures { Reads given_view result (given_arguments sim_app (map string_bytes words.entry.now)) }
 {
     let command = sim_command(alloc)?;
+    let matches = parsed(command, words)?;
+    Ok(given_of(&matches))
+}
+
+/// The texts that the words after `run` or `audit` give.
+#[tactic(auto, unfolding(crate::specs::Grammar::given_arguments))]
+pub fn read_run<'a>(alloc: Global, words: &'a [String]) -> Result<GivenWords<'a>, ArgumentsFault>
+    ensures { Reads given_view result (given_arguments run_app (map string_bytes words.entry.now)) }
+{
+    let command = run_command(alloc)?;
     let matches = parsed(command, words)?;
     Ok(given_of(&matches))
 }
@@ -248,6 +293,9 @@ pub fn written_words()
     ensures options { (f l p o w s t c : Text) → given_arguments sim_app ((codes "--schedule=" ++ s) ∷ (codes "--window=" ++ w) ∷ (codes "--outside=" ++ o)
         ∷ (codes "--inside=" ++ p) ∷ (codes "--instances=" ++ l) ∷ codes "--" ∷ f ∷ t ∷ c ∷ [])
         ≡ Some (record nothing { function = Some f; instances = Some l; inside = Some p; outside = Some o; window = Some w; schedule = Some s; trace = Some t; script = Some c }) }
+    ensures run { (f l p j t c : Text) → given_arguments run_app ((codes "--instances=" ++ l) ∷ (codes "--inside=" ++ p) ∷ (codes "--journal=" ++ j)
+        ∷ codes "--summary" ∷ codes "--" ∷ f ∷ t ∷ c ∷ [])
+        ≡ Some (record nothing { function = Some f; instances = Some l; inside = Some p; journal = Some j; summary = true; trace = Some t; script = Some c }) }
     ensures check { (f l s : Text) → given_arguments check_app ((codes "--instances=" ++ l) ∷ codes "--" ∷ f ∷ s ∷ [])
         ≡ Some (record nothing { function = Some f; instances = Some l; script = Some s }) }
     ensures capture { (n p h t : Text) → given_arguments gen_app ((codes "--packets=" ++ p) ∷ (codes "--hosts=" ++ h) ∷ codes "--" ∷ n ∷ t ∷ [])
@@ -255,6 +303,9 @@ pub fn written_words()
     ensures missing { (f l t : Text) → given_arguments sim_app ((codes "--instances=" ++ l) ∷ codes "--" ∷ f ∷ t ∷ []) ≡ None }
     ensures hosts { (n p t : Text) → given_arguments gen_app ((codes "--packets=" ++ p) ∷ codes "--" ∷ n ∷ t ∷ []) ≡ None }
     ensures twice { (f l p t : Text) → given_arguments sim_app ((codes "--instances=" ++ l) ∷ (codes "--inside=" ++ p) ∷ (codes "--inside=" ++ p) ∷ codes "--" ∷ f ∷ t ∷ []) ≡ None }
+    ensures valued { (f l p x t : Text) → given_arguments run_app ((codes "--instances=" ++ l) ∷ (codes "--inside=" ++ p) ∷ (codes "--summary=" ++ x) ∷ codes "--" ∷ f ∷ t ∷ []) ≡ None }
+    ensures again { (f l p t : Text) → given_arguments run_app ((codes "--instances=" ++ l) ∷ (codes "--inside=" ++ p) ∷ codes "--summary" ∷ codes "--summary" ∷ codes "--" ∷ f ∷ t ∷ []) ≡ None }
+    ensures scheduled { (f l p s t : Text) → given_arguments run_app ((codes "--instances=" ++ l) ∷ (codes "--inside=" ++ p) ∷ (codes "--schedule=" ++ s) ∷ codes "--" ∷ f ∷ t ∷ []) ≡ None }
     ensures stray { (f l s more : Text) → given_arguments check_app ((codes "--instances=" ++ l) ∷ codes "--" ∷ f ∷ s ∷ more ∷ []) ≡ None }
     ensures unknown { (f l s : Text) → given_arguments check_app ((codes "--instances=" ++ l) ∷ codes "--summary" ∷ codes "--" ∷ f ∷ s ∷ []) ≡ None }
     ensures help { (f l s : Text) → given_arguments check_app ((codes "--instances=" ++ l) ∷ codes "--help" ∷ codes "--" ∷ f ∷ s ∷ []) ≡ None }

@@ -12,5 +12,5 @@ pub mod values;
 pub mod words;
 
 pub use fault::ArgumentsFault;
-pub use request::{Checking, Generating, Instances, Request, Simulation};
+pub use request::{Checking, Generating, Instances, NetworkRequest, Request};
 pub use words::parse_command;

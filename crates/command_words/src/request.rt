@@ -11,23 +11,27 @@ pub const MOST_PACKETS: u32 = 1_000_000;
 /// The most hosts of a generated capture.
 pub const MOST_HOSTS: u32 = 256;
 
-/// The instances of a run, each with how many live records it takes in by moves.
+/// The instances of a run: the name of each, how many live records it takes in by moves, and whether it is marked, so that it
+/// reads chunks of version 1 alone.
 #[derive(Debug, Drop)]
 pub struct Instances {
     pub names: Vec<Name>,
     pub limits: Vec<u32>,
+    pub marked: Vec<bool>,
 }
 
-/// What `sim` asks for.
+/// What `sim`, `run` and `audit` ask for.
 #[derive(Debug, Drop)]
-pub struct Simulation<'a> {
+pub struct NetworkRequest<'a> {
     pub kind: Kind,
     pub instances: Instances,
     pub site: Site,
     /// How many packets may be under way.
     pub window: u32,
-    /// How the run picks its next step.
-    pub schedule: Schedule,
+    /// The file of the run's choices.
+    pub journal: Option<&'a str>,
+    /// Whether the report has counts in place of the lines of packets and records.
+    pub summary: bool,
     /// The capture's file.
     pub trace: &'a str,
     /// The script's file.
@@ -61,8 +65,12 @@ pub struct Generating<'a> {
 /// What the words ask for.
 #[derive(Debug, Drop)]
 pub enum Request<'a> {
-    /// A simulated run over a capture.
-    Sim(Simulation<'a>),
+    /// A simulated run over a capture, which picks its next step by the schedule.
+    Sim(NetworkRequest<'a>, Schedule),
+    /// A run by threads over a capture.
+    Run(NetworkRequest<'a>),
+    /// The run that a journal tells, again. The journal's file is given.
+    Audit(NetworkRequest<'a>),
     /// The canonical text of a script.
     Check(Checking<'a>),
     /// A generated capture.

@@ -1,11 +1,10 @@
-ghost use Rattle.std.specs.Prelude.{◌≡◌, if◌then◌else◌, Some, None, ◌≤◌, ◌==◌, ◌&&◌, ◌-◌, not, IfOk, IfSome, option_map, option_and_then, is_some, is_none, map, length};
+ghost use Rattle.std.specs.Prelude.{◌≡◌, true, false, if◌then◌else◌, Some, None, ◌≤◌, ◌==◌, ◌&&◌, ◌-◌, not, IfOk, IfSome, option_map, option_and_then, is_some, is_none, map, length};
 ghost use Rattle.std.specs.List.{slice_split};
 ghost use Rattle.flow_filter.specs.Prefixes.{in_prefix};
-ghost use Rattle.flow_filter.specs.Name.{is_name};
 ghost use Rattle.basics.specs.Parsing.{split_once, parse_number};
 ghost use Rattle.flow_filter.specs.Reading.{prefix_numbers};
-ghost use Rattle.command_words.specs.Plan.{function_of, instance_of, with_limit, all_instances, instances_of, inside_of, outside_of, window_of, count_of, number_of, schedule_of, file_of, file_if};
-ghost use Rattle.command_words.specs.RequestViews.{instances_view};
+ghost use Rattle.command_words.specs.Plan.{function_of, limit_of, suffix_of, with_suffix, instance_of, all_instances, instances_of, inside_of, outside_of, window_of, count_of, number_of, schedule_of, file_of, file_if};
+ghost use Rattle.command_words.specs.RequestViews.{instance_view, instances_view};
 
 use crate::request::Instances;
 use actor_net::Schedule;
@@ -19,6 +18,9 @@ use std::alloc::Global;
 /// The limit of an instance that names none, and the greatest.
 const MOST_RECORDS: u32 = 1_000_000;
 
+/// What marks an instance that reads chunks of version 1 alone.
+const VERSION_1: &[u8] = b"v1";
+
 /// The most instances.
 const MOST_INSTANCES: usize = 16;
 
@@ -27,6 +29,14 @@ const WINDOW: u32 = 256;
 
 /// The widest window.
 const MOST_WINDOW: u32 = 4096;
+
+/// An instance: its name, how many live records it takes in by moves, and whether it is marked.
+#[derive(Debug, Drop)]
+struct Instance {
+    name: Name,
+    limit: u32,
+    marked: bool,
+}
 
 /// The function with this name.
 #[tactic(auto, unfolding(crate::specs::Plan::function_of))]
@@ -41,35 +51,58 @@ pub fn function_of(text: Option<&str>) -> Option<Kind>
     }
 }
 
-/// The instance that the text spells as `NAME` or `NAME:LIMIT`.
+/// The instance that the text spells as `NAME`, `NAME:LIMIT`, `NAME:v1` or `NAME:LIMIT:v1`.
 #[tactic(auto, unfolding(crate::specs::Plan::instance_of))]
-fn instance_of(alloc: Global, text: &[u8]) -> Result<Option<(Name, u32)>, NoMemory>
-    ensures { IfOk result (λ found. found ≡ instance_of text.now) }
+fn instance_of(alloc: Global, text: &[u8]) -> Result<Option<Instance>, NoMemory>
+    ensures { IfOk result (λ found. option_map instance_view found ≡ instance_of text.now) }
 {
     match split_once(text, b':') {
-        None => named(alloc, text, Some(MOST_RECORDS)),
-        Some((name, limit)) => named(alloc, name, limit_of(limit)),
+        None => named(alloc, text, Some((MOST_RECORDS, false))),
+        Some((name, suffix)) => named(alloc, name, suffix_of(suffix)),
+    }
+}
+
+/// The limit that the text behind a name and a colon spells, and whether it marks the instance.
+#[tactic(auto, unfolding(crate::specs::Plan::suffix_of))]
+fn suffix_of(text: &[u8]) -> Option<(u32, bool)>
+    ensures { result ≡ suffix_of text.now }
+{
+    if text == VERSION_1 {
+        return Some((MOST_RECORDS, true));
+    }
+    match split_once(text, b':') {
+        None => Some((limit_of(text)?, false)),
+        Some((limit, mark)) if mark == VERSION_1 => Some((limit_of(limit)?, true)),
+        Some(_) => None,
     }
 }
 
 /// The limit that the text spells.
 fn limit_of(text: &[u8]) -> Option<u32>
-    ensures { result ≡ parse_number 1000000 text.now }
+    ensures { result ≡ limit_of text.now }
 {
     let limit = parse_number(text, 1_000_000)?;
     Some(limit as u32)
 }
 
-/// The instance with this name and limit, where the name is one and the limit is there.
-fn named(alloc: Global, name: &[u8], limit: Option<u32>) -> Result<Option<(Name, u32)>, NoMemory>
-    ensures { IfOk result (λ found. found ≡ (if is_name name.now then option_map (λ limit. (name.now, limit)) limit else None)) }
+/// The instance with this name, where the name is one and what stands behind it is well formed.
+fn named(
+    alloc: Global,
+    name: &[u8],
+    suffix: Option<(u32, bool)>,
+) -> Result<Option<Instance>, NoMemory>
+    ensures { IfOk result (λ found. option_map instance_view found ≡ with_suffix name.now suffix) }
 {
     let Some(name) = Name::read(alloc, name)? else {
         return Ok(None);
     };
-    match limit {
+    match suffix {
         None => Ok(None),
-        Some(limit) => Ok(Some((name, limit))),
+        Some((limit, marked)) => Ok(Some(Instance {
+            name,
+            limit,
+            marked,
+        })),
     }
 }
 
@@ -79,17 +112,23 @@ fn all_instances(alloc: Global, list: &[u8]) -> Result<Option<Instances>, NoMemo
 {
     let mut names = Vec::new(alloc);
     let mut limits = Vec::new(alloc);
+    let mut marked = Vec::new(alloc);
     let mut rest = Some(list);
     while let Some(text) = rest {
         let (first, more) = first_piece(text, b',');
-        let Some((name, limit)) = instance_of(alloc, first)? else {
+        let Some(instance) = instance_of(alloc, first)? else {
             return Ok(None);
         };
-        names.push(name)?;
-        limits.push(limit)?;
+        names.push(instance.name)?;
+        limits.push(instance.limit)?;
+        marked.push(instance.marked)?;
         rest = more;
     }
-    Ok(Some(Instances { names, limits }))
+    Ok(Some(Instances {
+        names,
+        limits,
+        marked,
+    }))
 }
 
 /// The instances of a list, where there are at most 16 and their names differ.

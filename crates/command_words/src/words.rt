@@ -1,11 +1,11 @@
 ghost use Rattle.std.specs.Prelude.{◌≡◌, map, option_map, string_bytes};
-ghost use Rattle.command_words.specs.Plan.{plan_of, sim_of, check_of, gen_of, sim_values, check_values, gen_values};
+ghost use Rattle.command_words.specs.Plan.{plan_of, asked_of, sim_of, run_of, audit_of, check_of, gen_of, network_values, check_values, gen_values};
 ghost use Rattle.command_words.specs.Views.{Reads, given_view};
-ghost use Rattle.command_words.specs.RequestViews.{request_view, sim_view, check_view, gen_view};
+ghost use Rattle.command_words.specs.RequestViews.{request_view, network_view, check_view, gen_view};
 
 use crate::fault::ArgumentsFault;
-use crate::grammar::{GivenWords, read_check, read_gen, read_sim};
-use crate::request::{Checking, Generating, MOST_HOSTS, MOST_PACKETS, Request, Simulation};
+use crate::grammar::{GivenWords, read_check, read_gen, read_run, read_sim};
+use crate::request::{Checking, Generating, MOST_HOSTS, MOST_PACKETS, NetworkRequest, Request};
 use crate::values::{
     count_of, file_if, file_of, function_of, inside_of, instances_of, number_of, schedule_of,
     site_of, window_of,
@@ -18,32 +18,61 @@ pub fn parse_command<'a>(alloc: Global, words: &'a [String]) -> Result<Request<'
     ensures { Reads request_view result (plan_of (map string_bytes words.entry.now)) }
 {
     match words {
-        [_, command, words @ ..] => {
-            if command.as_str() == "sim" {
-                read_simulation(alloc, words)
-            } else if command.as_str() == "check" {
-                read_checking(alloc, words)
-            } else if command.as_str() == "gen" {
-                read_generating(alloc, words)
-            } else {
-                Err(ArgumentsFault::Usage)
-            }
-        }
+        [_, command, words @ ..] => ask(alloc, command.as_str(), words),
+        _ => Err(ArgumentsFault::Usage),
+    }
+}
+
+/// What a command asks for with the words after it.
+#[tactic(auto, unfolding(crate::specs::Plan::asked_of))]
+fn ask<'a>(alloc: Global, command: &str, words: &'a [String]) -> Result<Request<'a>, ArgumentsFault>
+    ensures { Reads request_view result (asked_of command.now (map string_bytes words.entry.now)) }
+{
+    match command {
+        "sim" => ask_sim(alloc, words),
+        "run" => ask_run(alloc, words),
+        "audit" => ask_audit(alloc, words),
+        "check" => ask_check(alloc, words),
+        "gen" => ask_gen(alloc, words),
         _ => Err(ArgumentsFault::Usage),
     }
 }
 
 /// What the words after `sim` ask for.
-fn read_simulation<'a>(alloc: Global, words: &'a [String]) -> Result<Request<'a>, ArgumentsFault>
+fn ask_sim<'a>(alloc: Global, words: &'a [String]) -> Result<Request<'a>, ArgumentsFault>
     ensures { Reads request_view result (sim_of (map string_bytes words.entry.now)) }
 {
     let given = read_sim(alloc, words)?;
-    let simulation = sim_values(alloc, &given)?;
-    Ok(Request::Sim(simulation))
+    let network = network_values(alloc, &given)?;
+    let Some(schedule) = schedule_of(given.schedule) else {
+        return Err(ArgumentsFault::Usage);
+    };
+    Ok(Request::Sim(network, schedule))
+}
+
+/// What the words after `run` ask for.
+fn ask_run<'a>(alloc: Global, words: &'a [String]) -> Result<Request<'a>, ArgumentsFault>
+    ensures { Reads request_view result (run_of (map string_bytes words.entry.now)) }
+{
+    let given = read_run(alloc, words)?;
+    let network = network_values(alloc, &given)?;
+    Ok(Request::Run(network))
+}
+
+/// What the words after `audit` ask for: a journal must be among them.
+fn ask_audit<'a>(alloc: Global, words: &'a [String]) -> Result<Request<'a>, ArgumentsFault>
+    ensures { Reads request_view result (audit_of (map string_bytes words.entry.now)) }
+{
+    let given = read_run(alloc, words)?;
+    let network = network_values(alloc, &given)?;
+    if network.journal.is_none() {
+        return Err(ArgumentsFault::Usage);
+    }
+    Ok(Request::Audit(network))
 }
 
 /// What the words after `check` ask for.
-fn read_checking<'a>(alloc: Global, words: &'a [String]) -> Result<Request<'a>, ArgumentsFault>
+fn ask_check<'a>(alloc: Global, words: &'a [String]) -> Result<Request<'a>, ArgumentsFault>
     ensures { Reads request_view result (check_of (map string_bytes words.entry.now)) }
 {
     let given = read_check(alloc, words)?;
@@ -52,7 +81,7 @@ fn read_checking<'a>(alloc: Global, words: &'a [String]) -> Result<Request<'a>, 
 }
 
 /// What the words after `gen` ask for.
-fn read_generating<'a>(alloc: Global, words: &'a [String]) -> Result<Request<'a>, ArgumentsFault>
+fn ask_gen<'a>(alloc: Global, words: &'a [String]) -> Result<Request<'a>, ArgumentsFault>
     ensures { Reads request_view result (gen_of (map string_bytes words.entry.now)) }
 {
     let given = read_gen(alloc, words)?;
@@ -62,10 +91,13 @@ fn read_generating<'a>(alloc: Global, words: &'a [String]) -> Result<Request<'a>
     Ok(Request::Gen(generating))
 }
 
-/// The values of `sim`, where each is in its grammar.
-#[tactic(auto, unfolding(crate::specs::Plan::sim_values))]
-fn sim_values<'a>(alloc: Global, given: &GivenWords<'a>) -> Result<Simulation<'a>, ArgumentsFault>
-    ensures { Reads sim_view result (sim_values (given_view given.now)) }
+/// The values that `sim`, `run` and `audit` share, where each is in its grammar.
+#[tactic(auto, unfolding(crate::specs::Plan::network_values))]
+fn network_values<'a>(
+    alloc: Global,
+    given: &GivenWords<'a>,
+) -> Result<NetworkRequest<'a>, ArgumentsFault>
+    ensures { Reads network_view result (network_values (given_view given.now)) }
 {
     let Some(kind) = function_of(given.function) else {
         return Err(ArgumentsFault::Usage);
@@ -82,7 +114,7 @@ fn sim_values<'a>(alloc: Global, given: &GivenWords<'a>) -> Result<Simulation<'a
     let Some(window) = window_of(given.window) else {
         return Err(ArgumentsFault::Usage);
     };
-    let Some(schedule) = schedule_of(given.schedule) else {
+    let Some(journal) = file_if(given.journal) else {
         return Err(ArgumentsFault::Usage);
     };
     let Some(trace) = file_of(given.trace) else {
@@ -91,12 +123,13 @@ fn sim_values<'a>(alloc: Global, given: &GivenWords<'a>) -> Result<Simulation<'a
     let Some(script) = file_if(given.script) else {
         return Err(ArgumentsFault::Usage);
     };
-    Ok(Simulation {
+    Ok(NetworkRequest {
         kind,
         instances,
         site,
         window,
-        schedule,
+        journal,
+        summary: given.summary,
         trace,
         script,
     })
@@ -145,7 +178,7 @@ mod tests {
     use std::test::Fail;
 
     /// Words, and the command that they ask for, or `usage`.
-    static ROWS: [(&str, &str); 106] = [
+    static ROWS: [(&str, &str); 167] = [
         (
             "x sim conntrack --instances a --inside 10.0.0.0/24 --schedule last t",
             "sim",
@@ -220,7 +253,7 @@ mod tests {
         ),
         (
             "x sim conntrack --instances a --inside 10.0.0.0/24 --schedule last --summary t",
-            "usage",
+            "sim",
         ),
         (
             "x sim conntrack --instances a --inside 10.0.0.0/24 --sched last t",
@@ -403,6 +436,184 @@ mod tests {
         ("x", "usage"),
         (
             "x run conntrack --instances a --inside 10.0.0.0/24 t",
+            "run",
+        ),
+        (
+            "x run conntrack --instances a --inside 10.0.0.0/24 t s",
+            "run",
+        ),
+        (
+            "x run monitor t s --summary --window=4096 --instances=a,b:5 --inside=0.0.0.0/0",
+            "run",
+        ),
+        (
+            "x run nat --instances a --inside 10.0.0.0/24 --outside 203.0.113.1 --journal j t",
+            "run",
+        ),
+        ("x run nat --instances a --inside 10.0.0.0/24 t", "usage"),
+        (
+            "x run conntrack --instances a --inside 10.0.0.0/24 --outside 203.0.113.1 t",
+            "usage",
+        ),
+        (
+            "x run conntrack --instances a --inside 10.0.0.0/24 --schedule first t",
+            "usage",
+        ),
+        (
+            "x run conntrack --instances a --inside 10.0.0.0/24 --window 0 t",
+            "usage",
+        ),
+        (
+            "x run conntrack --instances a --inside 10.0.0.0/24 --window 4097 t",
+            "usage",
+        ),
+        (
+            "x run conntrack --instances a --inside 10.0.0.0/24",
+            "usage",
+        ),
+        ("x run conntrack --instances a t", "usage"),
+        ("x run conntrack --inside 10.0.0.0/24 t", "usage"),
+        (
+            "x run conntrack --instances a --inside 10.0.0.0/24 t s u",
+            "usage",
+        ),
+        (
+            "x run conntrack --instances a --inside 10.0.0.0/24 --threads 4 t",
+            "usage",
+        ),
+        (
+            "x run conntrack --instances a --inside 10.0.0.0/24 --journal j --journal j t",
+            "usage",
+        ),
+        (
+            "x run conntrack --instances a --inside 10.0.0.0/24 --journal= t",
+            "usage",
+        ),
+        (
+            "x run conntrack --instances a --inside 10.0.0.0/24 t --journal",
+            "usage",
+        ),
+        (
+            "x run conntrack --instances a --inside 10.0.0.0/24 --journal -j t",
+            "usage",
+        ),
+        (
+            "x run conntrack --instances a --inside 10.0.0.0/24 --journal=-j t",
+            "run",
+        ),
+        (
+            "x run conntrack --instances a --inside 10.0.0.0/24 --journal - t",
+            "run",
+        ),
+        (
+            "x run conntrack --instances a --inside 10.0.0.0/24 --summary --summary t",
+            "usage",
+        ),
+        (
+            "x run conntrack --instances a --inside 10.0.0.0/24 --summary= t",
+            "usage",
+        ),
+        (
+            "x run conntrack --instances a --inside 10.0.0.0/24 --summary=x t",
+            "usage",
+        ),
+        (
+            "x run conntrack --instances a --inside 10.0.0.0/24 --summary=true t",
+            "usage",
+        ),
+        (
+            "x run conntrack --instances a --inside 10.0.0.0/24 --summary true t s",
+            "usage",
+        ),
+        (
+            "x run conntrack --instances a --inside 10.0.0.0/24 -- --summary",
+            "run",
+        ),
+        ("x run --help", "usage"),
+        (
+            "x --summary run conntrack --instances a --inside 10.0.0.0/24 t",
+            "usage",
+        ),
+        (
+            "x audit conntrack --instances a --inside 10.0.0.0/24 --journal j t",
+            "audit",
+        ),
+        (
+            "x audit nat --instances a,b --inside 10.0.0.0/24 --outside 203.0.113.1 --window 9 --summary --journal=j t s",
+            "audit",
+        ),
+        (
+            "x audit conntrack --instances a --inside 10.0.0.0/24 t",
+            "usage",
+        ),
+        (
+            "x audit conntrack --instances a --inside 10.0.0.0/24 --summary t s",
+            "usage",
+        ),
+        (
+            "x audit conntrack --instances a --inside 10.0.0.0/24 --journal= t",
+            "usage",
+        ),
+        (
+            "x audit conntrack --instances a --inside 10.0.0.0/24 --journal j --journal j t",
+            "usage",
+        ),
+        (
+            "x audit conntrack --instances a --inside 10.0.0.0/24 --journal j --schedule first t",
+            "usage",
+        ),
+        (
+            "x audit conntrack --instances a --inside 10.0.0.0/24 --journal j --summary=x t",
+            "usage",
+        ),
+        (
+            "x audit conntrack --instances a --inside 10.0.0.0/24 --journal j",
+            "usage",
+        ),
+        (
+            "x sim conntrack --instances a --inside 10.0.0.0/24 --journal j --summary --schedule 7 t",
+            "sim",
+        ),
+        (
+            "x sim conntrack --instances a --inside 10.0.0.0/24 --journal= t",
+            "usage",
+        ),
+        (
+            "x sim conntrack --instances a --inside 10.0.0.0/24 --summary=x t",
+            "usage",
+        ),
+        (
+            "x sim conntrack --instances a --inside 10.0.0.0/24 --schedule last --schedule last t",
+            "usage",
+        ),
+        ("x check nat --instances a:v1 s", "check"),
+        ("x check nat --instances a:5:v1,b,c:0,d:v1 s", "check"),
+        ("x check nat --instances v1:v1 s", "check"),
+        (
+            "x sim conntrack --instances a,b:v1 --inside 10.0.0.0/24 t",
+            "sim",
+        ),
+        (
+            "x run conntrack --instances a:0:v1 --inside 10.0.0.0/24 t",
+            "run",
+        ),
+        ("x check nat --instances a:v2 s", "usage"),
+        ("x check nat --instances a:V1 s", "usage"),
+        ("x check nat --instances a:v1: s", "usage"),
+        ("x check nat --instances a:v1:5 s", "usage"),
+        ("x check nat --instances a:v1:v1 s", "usage"),
+        ("x check nat --instances a:5:v1:v1 s", "usage"),
+        ("x check nat --instances a:5:v2 s", "usage"),
+        ("x check nat --instances a:5: s", "usage"),
+        ("x check nat --instances a::v1 s", "usage"),
+        ("x check nat --instances :v1 s", "usage"),
+        ("x check nat --instances a:1000001:v1 s", "usage"),
+        ("x check nat --instances a:05:v1 s", "usage"),
+        ("x check nat --instances a,a:v1 s", "usage"),
+        ("x check nat --instances a --journal j s", "usage"),
+        ("x gen 7 --packets 3 --hosts 1 --summary t", "usage"),
+        (
+            "x Run conntrack --instances a --inside 10.0.0.0/24 t",
             "usage",
         ),
     ];
@@ -417,7 +628,9 @@ mod tests {
     /// The command that a reading asks for.
     fn asked(reading: Result<Request<'_>, ArgumentsFault>) -> &'static str {
         match reading {
-            Ok(Request::Sim(_)) => "sim",
+            Ok(Request::Sim(..)) => "sim",
+            Ok(Request::Run(_)) => "run",
+            Ok(Request::Audit(_)) => "audit",
             Ok(Request::Check(_)) => "check",
             Ok(Request::Gen(_)) => "gen",
             Err(ArgumentsFault::Usage) => "usage",
@@ -438,9 +651,9 @@ mod tests {
     #[test]
     fn sim_gives_all_that_its_words_say(rt: HostRuntime) -> Result<(), Fail> {
         let line =
-            "x sim nat --instances a,b:5 --inside 10.0.0.0/24 --outside 203.0.113.1 --window 7 --schedule 9 t s";
+            "x sim nat --instances a,b:5:v1 --inside 10.0.0.0/24 --outside 203.0.113.1 --window 7 --schedule 9 --journal j --summary t s";
         let words = split(rt.alloc(), line)?;
-        let Ok(Request::Sim(asked)) = parse_command(rt.alloc(), words.as_slice()) else {
+        let Ok(Request::Sim(asked, schedule)) = parse_command(rt.alloc(), words.as_slice()) else {
             return Err(Fail::from("no sim"));
         };
         assert_eq!(rt; asked.kind, Kind::Nat);
@@ -451,32 +664,100 @@ mod tests {
             asked.instances.limits.as_slice(),
             [1_000_000, 5].as_slice()
         );
+        assert_eq!(rt; asked.instances.marked.as_slice(), [false, true].as_slice());
         assert_eq!(rt;
             (asked.site.inside.bits, asked.site.inside.len),
             (0x0a00_0000, 24)
         );
         assert_eq!(rt; asked.site.outside, Some(0xcb00_7101));
         assert_eq!(rt; asked.window, 7);
-        assert_eq!(rt; asked.schedule, Schedule::Number(9));
-        assert_eq!(rt; asked.trace, "t");
-        assert_eq!(rt; asked.script, Some("s"));
+        assert_eq!(rt; schedule, Schedule::Number(9));
+        assert_eq!(rt; (asked.journal, asked.summary), (Some("j"), true));
+        assert_eq!(rt; (asked.trace, asked.script), ("t", Some("s")));
         Ok(())
     }
 
     #[test]
-    fn sim_has_a_window_and_a_schedule_of_its_own(rt: HostRuntime) -> Result<(), Fail> {
+    fn what_sim_may_leave_out_has_its_own_value(rt: HostRuntime) -> Result<(), Fail> {
         let words = split(
             rt.alloc(),
             "x sim monitor --instances a --inside 10.0.0.0/8 t",
         )?;
-        let Ok(Request::Sim(asked)) = parse_command(rt.alloc(), words.as_slice()) else {
+        let Ok(Request::Sim(asked, schedule)) = parse_command(rt.alloc(), words.as_slice()) else {
             return Err(Fail::from("no sim"));
         };
         assert_eq!(rt; asked.kind, Kind::Monitor);
         assert_eq!(rt; asked.site.outside, None);
         assert_eq!(rt; asked.window, 256);
-        assert_eq!(rt; asked.schedule, Schedule::First);
+        assert_eq!(rt; schedule, Schedule::First);
+        assert_eq!(rt; (asked.journal, asked.summary), (None, false));
         assert_eq!(rt; asked.script, None);
+        Ok(())
+    }
+
+    #[test]
+    fn run_gives_its_journal_and_its_summary(rt: HostRuntime) -> Result<(), Fail> {
+        for (line, journal, summary) in [
+            (
+                "x run monitor --instances a --inside 10.0.0.0/8 t",
+                None,
+                false,
+            ),
+            (
+                "x run monitor --instances a --inside 10.0.0.0/8 --journal=j t",
+                Some("j"),
+                false,
+            ),
+            (
+                "x run monitor --summary --instances a --inside 10.0.0.0/8 t",
+                None,
+                true,
+            ),
+        ] {
+            let words = split(rt.alloc(), line)?;
+            let Ok(Request::Run(asked)) = parse_command(rt.alloc(), words.as_slice()) else {
+                return Err(Fail::from("no run"));
+            };
+            assert_eq!(rt;
+                (asked.journal, asked.summary),
+                (journal, summary),
+                "{line}"
+            );
+            assert_eq!(rt; (asked.window, asked.trace), (256, "t"), "{line}");
+        }
+        Ok(())
+    }
+
+    #[test]
+    fn audit_gives_its_journal(rt: HostRuntime) -> Result<(), Fail> {
+        let words = split(
+            rt.alloc(),
+            "x audit conntrack --instances a --inside 10.0.0.0/8 --window 3 --journal j t s",
+        )?;
+        let Ok(Request::Audit(asked)) = parse_command(rt.alloc(), words.as_slice()) else {
+            return Err(Fail::from("no audit"));
+        };
+        assert_eq!(rt; asked.window, 3);
+        assert_eq!(rt; (asked.journal, asked.summary), (Some("j"), false));
+        assert_eq!(rt; (asked.trace, asked.script), ("t", Some("s")));
+        Ok(())
+    }
+
+    #[test]
+    fn an_instance_has_its_limit_and_its_mark(rt: HostRuntime) -> Result<(), Fail> {
+        let words = split(rt.alloc(), "x check nat --instances a,b:5,c:v1,d:0:v1 s")?;
+        let Ok(Request::Check(checking)) = parse_command(rt.alloc(), words.as_slice()) else {
+            return Err(Fail::from("no check"));
+        };
+        assert_eq!(rt; checking.instances.names.len(), 4);
+        assert_eq!(rt;
+            checking.instances.limits.as_slice(),
+            [1_000_000, 5, 1_000_000, 0].as_slice()
+        );
+        assert_eq!(rt;
+            checking.instances.marked.as_slice(),
+            [false, false, true, true].as_slice()
+        );
         Ok(())
     }
 

@@ -8,7 +8,11 @@ use Rattle.command_words.proofs.values.all_instances.Given as goal
 
 -- the instances so far and the pieces that are left give what the whole list gives
 abbrev pub invariant-loop-rest : goal.invariant-loop-rest
-invariant-loop-rest l = option_map (λ (i : Instances). (l.names.items ++ i.0, l.limits.items ++ i.1)) (all_instances (remaining_pieces 44 (option_map (λ t. t.now) l.rest)))
+invariant-loop-rest l = option_map (λ (i : Instances). record {
+  names = l.names.items ++ i.names;
+  limits = l.limits.items ++ i.limits;
+  marked = l.marked.items ++ i.marked;
+}) (all_instances (remaining_pieces 44 (option_map (λ t. t.now) l.rest)))
     ≡ all_instances (slice_split (λ b. b == 44) l.list)
 
 abbrev pub decreases-loop-rest : goal.decreases-loop-rest
