@@ -1,14 +1,32 @@
 -- Which files each command names, which roles it reads, and to which it writes results. This project's own.
-use Rattle.std.specs.Prelude.{ℕ, List, Option, None, Some, Bool, true, false, not, ◌&&◌, is_some}
+use Rattle.std.specs.Prelude.{ℕ, List, ◌∷◌, Option, None, Some, Bool, true, false, not, ◌&&◌, if◌then◌else◌, is_some}
+use Rattle.std.specs.Str.{bytes_eq}
 use Rattle.nf_io.specs.declared.outside.Role.{Role}
-use Rattle.nf_io.specs.declared.outside.Role.TheVariants.{Trace, Script, Report, TraceOut, Errors}
+use Rattle.nf_io.specs.declared.outside.Role.TheVariants.{Trace, Script, JournalIn, Report, JournalOut, TraceOut, Errors}
 use Rattle.nf_io.specs.Roles.{is_read, same_role}
-use Rattle.command_words.specs.Plan.{Asked, asks_sim, asks_check, asks_gen}
+use Rattle.command_words.specs.Plan.{Asked, NetworkAsked, asks_sim, asks_run, asks_audit, asks_check, asks_gen}
 
--- the file that the words give to a role
+-- the capture and the script of a run of the network
+abbrev pub run_file : NetworkAsked → Role → Option (List ℕ)
+run_file s Trace = Some s.trace
+run_file s Script = s.script
+run_file s role = None
+
+-- the roles of journals
+abbrev pub is_journal : Role → Bool
+is_journal JournalIn = true
+is_journal JournalOut = true
+is_journal role = false
+
+-- with its journal, at the role for it
+abbrev pub with_journal : NetworkAsked → Role → Role → Option (List ℕ)
+with_journal s journal role = if same_role role journal then s.journal else run_file s role
+
+-- the file that the words give to a role: a journal is written by `sim` and `run`, and read by `audit`
 abbrev pub file_for : Asked → Role → Option (List ℕ)
-file_for (asks_sim s) Trace = Some s.trace
-file_for (asks_sim s) Script = s.script
+file_for (asks_sim s schedule) role = with_journal s JournalOut role
+file_for (asks_run s) role = with_journal s JournalOut role
+file_for (asks_audit s) role = with_journal s JournalIn role
 file_for (asks_check c) Script = Some c.script
 file_for (asks_gen g) TraceOut = Some g.trace
 file_for asked role = None
@@ -26,3 +44,8 @@ is_result asked role = not (is_read role) && is_some (file_for asked role)
 -- whether one result is written before another: the report is the last
 abbrev pub comes_before : Role → Role → Bool
 comes_before first second = not (same_role first Report) && same_role second Report
+
+-- whether the second word, behind the program's name, is this command
+abbrev pub is_command : List ℕ → List (List ℕ) → Bool
+is_command name (program ∷ command ∷ words) = bytes_eq command name
+is_command name words = false

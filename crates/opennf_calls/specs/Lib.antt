@@ -1,6 +1,6 @@
 pub mod Command
 pub mod Outcome
 pub mod Phases
-pub mod Simulated
+pub mod NetworkRuns
 pub mod Status
 pub mod Writing

@@ -1,11 +1,11 @@
 -- What a run of the program reads, writes and answers: one table of statuses for all commands. A further command is a further
--- case of `file_for`, `refusal_of` and `AreTexts`; the table stays as it is. This project's own.
-use Rattle.std.specs.Prelude.{◌≡◌, ◌≢◌, ℕ, ◌++◌, List, [], codes, decimal, Option, None, Some, Bool, false, ◌&&◌, Result, Ok, Err, option_and_then, option_map, IsTrue, ◌⊎◌}
+-- case of `file_for`, `refusal_of` and `AreResults`; the table stays as it is. This project's own.
+use Rattle.std.specs.Prelude.{◌≡◌, ◌≢◌, ℕ, ◌++◌, List, [], codes, decimal, length, Option, None, Some, Bool, true, false, ◌&&◌, Result, Ok, Err, option_and_then, option_map, IsTrue, ◌⊎◌}
 use Rattle.std.specs.Io.KnownBytes.{Appends}
-use Rattle.flow_filter.specs.declared.site.Site.{Site}
 use Rattle.nf_io.specs.declared.outside.Role.{Role}
-use Rattle.nf_io.specs.declared.outside.Role.TheVariants.{Trace, Script, Report, TraceOut, Errors}
+use Rattle.nf_io.specs.declared.outside.Role.TheVariants.{Trace, Script, JournalIn, Report, TraceOut, Errors}
 use Rattle.nf_io.specs.Meaning.{Meaning, Rose, AppendsFront}
+use Rattle.flow_filter.specs.declared.site.Site.{Site}
 use Rattle.trace_reader.specs.declared.trace.Trace.{Trace as Captured}
 use Rattle.trace_reader.specs.declared.fault.TraceFault.{TraceFault}
 use Rattle.trace_reader.specs.Records.{capture_of}
@@ -14,13 +14,17 @@ use Rattle.op_script.specs.declared.script.Script.{Script as TheScript}
 use Rattle.op_script.specs.declared.fault.ScriptKind.{ScriptKind}
 use Rattle.op_script.specs.Reading.{ScriptView, script_of, script_view}
 use Rattle.op_script.specs.Printing.{script_text}
-use Rattle.command_words.specs.Plan.{Asked, SimAsked, CheckAsked, GenAsked, asks_sim, asks_check, asks_gen}
+use Rattle.journal_file.specs.declared.fault.JournalFault.{JournalFault}
+use Rattle.journal_file.specs.Reading.{journal_of}
+use Rattle.actor_net.specs.declared.choice.Choice.{Choice}
+use Rattle.actor_net.specs.declared.schedule.Schedule.{Schedule}
+use Rattle.command_words.specs.Plan.{Asked, NetworkAsked, CheckAsked, GenAsked, asks_sim, asks_run, asks_audit, asks_check, asks_gen}
 use Rattle.opennf_calls.specs.declared.status.Status.{Status}
-use Rattle.opennf_calls.specs.declared.status.Status.TheVariants.{Ok as Done, Usage, BadScript, BadTrace, NotBuilt, Unfinished, ReadFault, WriteFault, NoMemory}
+use Rattle.opennf_calls.specs.declared.status.Status.TheVariants.{Ok as Done, Usage, BadScript, BadTrace, BadJournal, NotBuilt, NotARun, Unfinished, ReadFault, WriteFault, NoMemory}
 use Rattle.opennf_calls.specs.declared.outcome.Outcome.{Outcome}
 use Rattle.opennf_calls.specs.Command.{file_for, is_input, is_result, comes_before}
-use Rattle.opennf_calls.specs.Simulated.{given_script, first_unbuilt_line, HasRunText, HasShortRun}
-use Rattle.opennf_calls.specs.Status.{line_of, trace_status}
+use Rattle.opennf_calls.specs.NetworkRuns.{Given, Gives, given_script, first_unbuilt_line, HasRun, HasShortRun, HasNoRun}
+use Rattle.opennf_calls.specs.Status.{line_of, trace_status, journal_status}
 
 -- the site with this inside prefix and this outside address
 pub record IsSite (site : Site) (prefix : ℕ × ℕ) (address : Option ℕ) : Type 0 where
@@ -28,33 +32,36 @@ pub record IsSite (site : Site) (prefix : ℕ × ℕ) (address : Option ℕ) : T
   pub len : site.inside.len ≡ prefix.1
   pub outside : site.outside ≡ address
 
--- what a simulation is given: the capture and the script that the bytes are read as, and the site
-pub record IsGiven (s : SimAsked) (bytes : Role → List ℕ) (site : Site) (captured : Captured) (script : TheScript) : Type 0 where
-  pub read : capture_of (bytes Trace) ≡ Ok captured
-  pub said : given_script s (bytes Script) ≡ Ok (script_view script)
-  pub is_site : IsSite site s.inside s.outside
+-- what a run is given: the capture and the script that the bytes are read as, and the site
+pub record IsGiven (s : NetworkAsked) (bytes : Role → List ℕ) (given : Given) : Type 0 where
+  pub read : capture_of (bytes Trace) ≡ Ok given.captured
+  pub said : given_script s (bytes Script) ≡ Ok (script_view given.script)
+  pub is_site : IsSite given.site s.inside s.outside
 
--- what is said of a simulation holds of what it is given
-pub record OfGiven (s : SimAsked) (bytes : Role → List ℕ) (P : Site → Captured → TheScript → Type 0) : Type 0 where
-  pub site : Site
-  pub captured : Captured
-  pub script : TheScript
-  pub given : IsGiven s bytes site captured script
-  pub holds : P site captured script
+-- what is said of a run holds of what it is given
+pub record OfGiven (s : NetworkAsked) (bytes : Role → List ℕ) (P : Given → Type 0) : Type 0 where
+  pub given : Given
+  pub is_given : IsGiven s bytes given
+  pub holds : P given
 
--- the report of a simulation: that of the world at the end of the run of the words' schedule
-abbrev pub IsSimText : SimAsked → (Role → List ℕ) → List ℕ → Type 0
-IsSimText s bytes text = OfGiven s bytes (λ site captured script. HasRunText s.kind s site captured script text)
+-- a complete run of the network, by a schedule if there is one, with its report and its journal
+abbrev pub IsRun : NetworkAsked → (Role → List ℕ) → Option Schedule → Gives → Type 0
+IsRun s bytes by made = OfGiven s bytes (λ given. HasRun s.kind s given by made)
 
--- the run of the words' schedule stops after so many steps, before its end
-abbrev pub StopsSim : SimAsked → (Role → List ℕ) → ℕ → Type 0
-StopsSim s bytes step = OfGiven s bytes (λ site captured script. HasShortRun s.kind s site captured script step)
+-- what the bytes of a journal are read as
+abbrev pub journal_read : NetworkAsked → (Role → List ℕ) → Result (List Choice) JournalFault
+journal_read s bytes = journal_of s.kind (length s.instances.names) (bytes JournalIn)
+
+-- the run that a journal tells
+pub record IsAudited (s : NetworkAsked) (bytes : Role → List ℕ) (made : Gives) : Type 0 where
+  pub told : journal_read s bytes ≡ Ok made.choices
+  pub run : IsRun s bytes None made
 
 -- the canonical text of the script that the bytes are read as
 pub record IsCheckText (c : CheckAsked) (bytes text : List ℕ) : Type 0 where
   pub script : TheScript
-  pub read : script_of c.kind c.instances.0 bytes ≡ Ok (script_view script)
-  pub canonical : text ≡ script_text c.instances.0 script
+  pub read : script_of c.kind c.instances.names bytes ≡ Ok (script_view script)
+  pub canonical : text ≡ script_text c.instances.names script
 
 -- `gen number NUMBER packets N hosts H`
 unfoldable pub gen_line : GenAsked → List ℕ
@@ -76,7 +83,12 @@ abbrev pub script_refusal : Result ScriptView (ℕ × ScriptKind) → Option Sta
 script_refusal (Ok script) = None
 script_refusal (Err fault) = Some (BadScript fault.0 fault.1)
 
--- the status that refuses the script of a simulation
+-- the status that refuses a journal
+abbrev pub journal_refusal : Result (List Choice) JournalFault → Option Status
+journal_refusal (Ok choices) = None
+journal_refusal (Err fault) = Some (journal_status fault)
+
+-- the status that refuses the script of a run
 abbrev pub run_refusal : Result ScriptView (ℕ × ScriptKind) → Option Status
 run_refusal (Ok script) = option_map NotBuilt (first_unbuilt_line script.1)
 run_refusal (Err fault) = Some (BadScript fault.0 fault.1)
@@ -86,28 +98,40 @@ abbrev pub first_refusal : Option Status → Option Status → Option Status
 first_refusal None next = next
 first_refusal (Some status) next = Some status
 
--- the first refusal for these input bytes, if there is one: a simulation's script comes before its capture
+-- a run's script comes before its capture
+abbrev pub inputs_refusal : NetworkAsked → (Role → List ℕ) → Option Status
+inputs_refusal s bytes = first_refusal (run_refusal (given_script s (bytes Script))) (trace_refusal (capture_of (bytes Trace)))
+
+-- the first refusal for these input bytes, if there is one: a journal comes last
 abbrev pub refusal_of : Asked → (Role → List ℕ) → Option Status
-refusal_of (asks_sim s) bytes =
-    first_refusal (run_refusal (given_script s (bytes Script))) (trace_refusal (capture_of (bytes Trace)))
-refusal_of (asks_check c) bytes = script_refusal (script_of c.kind c.instances.0 (bytes Script))
+refusal_of (asks_sim s schedule) bytes = inputs_refusal s bytes
+refusal_of (asks_run s) bytes = inputs_refusal s bytes
+refusal_of (asks_audit s) bytes = first_refusal (inputs_refusal s bytes) (journal_refusal (journal_read s bytes))
+refusal_of (asks_check c) bytes = script_refusal (script_of c.kind c.instances.names (bytes Script))
 refusal_of (asks_gen g) bytes = None
 
--- a run of the command stops after so many steps
+-- the run of a schedule stops after so many steps
 abbrev pub StopsAfter : Asked → (Role → List ℕ) → ℕ → Type 0
-StopsAfter (asks_sim s) bytes step = StopsSim s bytes step
-StopsAfter (asks_check c) bytes step = ⊥
-StopsAfter (asks_gen g) bytes step = ⊥
+StopsAfter (asks_sim s schedule) bytes step = OfGiven s bytes (λ given. HasShortRun s.kind s given schedule step)
+StopsAfter asked bytes step = ⊥
 
--- what a command writes, by role; it is looked at for the command's results alone
-abbrev pub Texts : Type 0
-Texts = Role → List ℕ
+-- the choices of a journal aren't a complete run, which shows at this step
+pub record TellsNoRun (s : NetworkAsked) (bytes : Role → List ℕ) (step : ℕ) : Type 0 where
+  pub choices : List Choice
+  pub told : journal_read s bytes ≡ Ok choices
+  pub no_run : OfGiven s bytes (λ given. HasNoRun s.kind s given choices step)
 
--- the texts that a command has for these input bytes
-abbrev pub AreTexts : Asked → (Role → List ℕ) → Texts → Type 0
-AreTexts (asks_sim s) bytes texts = IsSimText s bytes (texts Report)
-AreTexts (asks_check c) bytes texts = IsCheckText c (bytes Script) (texts Report)
-AreTexts (asks_gen g) bytes texts = AreGenTexts g (texts TraceOut) (texts Report)
+abbrev pub FailsAt : Asked → (Role → List ℕ) → ℕ → Type 0
+FailsAt (asks_audit s) bytes step = TellsNoRun s bytes step
+FailsAt asked bytes step = ⊥
+
+-- what a command gives for these input bytes: the choices of a run, and a text for each result
+abbrev pub AreResults : Asked → (Role → List ℕ) → Gives → Type 0
+AreResults (asks_sim s schedule) bytes made = IsRun s bytes (Some schedule) made
+AreResults (asks_run s) bytes made = IsRun s bytes None made
+AreResults (asks_audit s) bytes made = IsAudited s bytes made
+AreResults (asks_check c) bytes made = (made.choices ≡ []) × IsCheckText c (bytes Script) (made.texts Report)
+AreResults (asks_gen g) bytes made = (made.choices ≡ []) × AreGenTexts g (made.texts TraceOut) (made.texts Report)
 
 -- the command's inputs hold these bytes, as the outside tells
 abbrev pub HasInput : Asked → (Role → Meaning) → (Role → List ℕ) → Type 0
@@ -131,40 +155,40 @@ WroteResultsAlone asked old new =
     (role : Role) → is_result asked role ≡ false → role ≢ Errors → (new role).written ≡ (old role).written
 
 -- these roles have their texts after what they had
-abbrev pub Gained : (Role → Bool) → Texts → (old new : Role → Meaning) → Type 0
+abbrev pub Gained : (Role → Bool) → (Role → List ℕ) → (old new : Role → Meaning) → Type 0
 Gained which texts old new = (role : Role) → IsTrue (which role) → Appends (old role).written (new role).written (texts role)
 
 -- nothing went to these roles
 abbrev pub Unwritten : (Role → Bool) → (old new : Role → Meaning) → Type 0
 Unwritten which old new = (role : Role) → IsTrue (which role) → (new role).written ≡ (old role).written
 
--- the inputs were read to their end, nothing refuses them, and `P` holds of the texts that the command has for them
-pub record HasTexts (asked : Asked) (bytes : Role → List ℕ) (new : Role → Meaning) (P : Texts → Type 0) : Type 0 where
+-- the inputs were read to their end, nothing refuses them, and `P` holds of what the command gives for them
+pub record HasResults (asked : Asked) (bytes : Role → List ℕ) (new : Role → Meaning) (P : Gives → Type 0) : Type 0 where
   pub read : IsRead asked new
   pub sound : refusal_of asked bytes ≡ None
-  pub texts : Texts
-  pub are : AreTexts asked bytes texts
-  pub wrote : P texts
+  pub made : Gives
+  pub are : AreResults asked bytes made
+  pub wrote : P made
 
 -- the same, wherever the outside tells the inputs
-abbrev pub ForTexts : Asked → (old new : Role → Meaning) → (Texts → Type 0) → Type 0
-ForTexts asked old new P = (bytes : Role → List ℕ) → HasInput asked old bytes → HasTexts asked bytes new P
+abbrev pub ForResults : Asked → (old new : Role → Meaning) → (Gives → Type 0) → Type 0
+ForResults asked old new P = (bytes : Role → List ℕ) → HasInput asked old bytes → HasResults asked bytes new P
 
--- Ok: every result has its text
-pub record IsDone (asked : Asked) (old new : Role → Meaning) : Type 0 where
+-- Ok: every result has its text, and the choices are those of the run
+pub record IsDone (asked : Asked) (old new : Role → Meaning) (choices : List Choice) : Type 0 where
   pub bound : IsBound asked new
   pub others : WroteResultsAlone asked old new
-  pub results : ForTexts asked old new (λ texts. Gained (is_result asked) texts old new)
+  pub results : ForResults asked old new (λ made. (made.choices ≡ choices) × Gained (is_result asked) made.texts old new)
 
 -- a write fault at a result: it has a front of its text, the results before it have theirs, and those after it have nothing
-pub record IsWriteFault (asked : Asked) (old new : Role → Meaning) (role : Role) : Type 0 where
+pub record IsWriteFault (asked : Asked) (old new : Role → Meaning) (role : Role) (choices : List Choice) : Type 0 where
   pub result : IsTrue (is_result asked role)
   pub rose : Rose (old role).faults (new role).faults
   pub bound : IsBound asked new
   pub others : WroteResultsAlone asked old new
   pub after : Unwritten (λ other. is_result asked other && comes_before role other) old new
-  pub results : ForTexts asked old new (λ texts. AppendsFront (old role).written (new role).written (texts role)
-      × Gained (λ other. is_result asked other && comes_before other role) texts old new)
+  pub results : ForResults asked old new (λ made. (made.choices ≡ choices) × AppendsFront (old role).written (new role).written (made.texts role)
+      × Gained (λ other. is_result asked other && comes_before other role) made.texts old new)
 
 -- a read fault at an input: nothing was written
 pub record IsReadFault (asked : Asked) (old new : Role → Meaning) (role : Role) : Type 0 where
@@ -191,26 +215,41 @@ pub record IsUnfinished (asked : Asked) (old new : Role → Meaning) (step : ℕ
   pub silent : WroteNothing old new
   pub stopped : (bytes : Role → List ℕ) → HasInput asked old bytes → Stopped asked bytes new step
 
--- the table: what was bound, read and written where a command ends with a status, and why the status comes
-abbrev pub RowOf : Asked → (old new : Role → Meaning) → Status → Type 0
-RowOf asked old new Done = IsDone asked old new
-RowOf asked old new (WriteFault role) = IsWriteFault asked old new role
-RowOf asked old new (ReadFault role) = IsReadFault asked old new role
-RowOf asked old new (BadScript line kind) = IsRefused asked old new (BadScript line kind)
-RowOf asked old new (BadTrace offset kind) = IsRefused asked old new (BadTrace offset kind)
-RowOf asked old new (NotBuilt command) = IsRefused asked old new (NotBuilt command)
-RowOf asked old new (Unfinished step) = IsUnfinished asked old new step
-RowOf asked old new NoMemory = WroteNothing old new
-RowOf asked old new Usage = ⊥
+-- the inputs were read to their end and nothing refuses them, but the journal's choices aren't a complete run
+pub record Failed (asked : Asked) (bytes : Role → List ℕ) (new : Role → Meaning) (step : ℕ) : Type 0 where
+  pub read : IsRead asked new
+  pub sound : refusal_of asked bytes ≡ None
+  pub fails : FailsAt asked bytes step
+
+-- the same, wherever the outside tells the inputs: nothing was written
+pub record IsNotARun (asked : Asked) (old new : Role → Meaning) (step : ℕ) : Type 0 where
+  pub bound : IsBound asked new
+  pub silent : WroteNothing old new
+  pub failed : (bytes : Role → List ℕ) → HasInput asked old bytes → Failed asked bytes new step
+
+-- the table: what was bound, read and written where a command ends with a status and these choices, and why the status comes. There
+-- are choices where something was made alone
+abbrev pub RowOf : Asked → (old new : Role → Meaning) → List Choice → Status → Type 0
+RowOf asked old new choices Done = IsDone asked old new choices
+RowOf asked old new choices (WriteFault role) = IsWriteFault asked old new role choices
+RowOf asked old new choices (ReadFault role) = IsReadFault asked old new role × (choices ≡ [])
+RowOf asked old new choices (BadScript line kind) = IsRefused asked old new (BadScript line kind) × (choices ≡ [])
+RowOf asked old new choices (BadTrace offset kind) = IsRefused asked old new (BadTrace offset kind) × (choices ≡ [])
+RowOf asked old new choices (BadJournal kind) = IsRefused asked old new (BadJournal kind) × (choices ≡ [])
+RowOf asked old new choices (NotBuilt command) = IsRefused asked old new (NotBuilt command) × (choices ≡ [])
+RowOf asked old new choices (NotARun step) = IsNotARun asked old new step × (choices ≡ [])
+RowOf asked old new choices (Unfinished step) = IsUnfinished asked old new step × (choices ≡ [])
+RowOf asked old new choices NoMemory = WroteNothing old new × (choices ≡ [])
+RowOf asked old new choices Usage = ⊥
 
 -- the statuses of words that aren't a command
 abbrev pub RefusesWords : Status → Type 0
 RefusesWords status = (status ≡ Usage) ⊎ (status ≡ NoMemory)
 
 -- why a status comes: the words aren't a command, or its row
-abbrev pub CauseOf : Option Asked → (old new : Role → Meaning) → Status → Type 0
-CauseOf None old new status = RefusesWords status × WroteNothing old new
-CauseOf (Some asked) old new status = RowOf asked old new status
+abbrev pub CauseOf : Option Asked → (old new : Role → Meaning) → Outcome → Type 0
+CauseOf None old new outcome = RefusesWords outcome.status × WroteNothing old new × (outcome.choices ≡ [])
+CauseOf (Some asked) old new outcome = RowOf asked old new outcome.choices outcome.status
 
 -- a role has no name, or the one that the words give it
 abbrev pub MayBind : Option Asked → (Role → Meaning) → Type 0
@@ -221,16 +260,21 @@ abbrev pub PutsLine : List ℕ → (old new : Meaning) → Type 0
 PutsLine line old new =
     Appends old.written new.written line ⊎ (Rose old.faults new.faults × AppendsFront old.written new.written line)
 
--- good input and no fault give Ok, out of memory, or a run that stops before its end
+-- what good input ends with where nothing fails: Ok, out of memory, a schedule that stops before its end, or a journal that tells no run
+pub data IsGoodEnd (status : Status) : Type 0 where
+  Is_done : status ≡ Done → IsGoodEnd status
+  Is_memory : status ≡ NoMemory → IsGoodEnd status
+  Is_short : (step : ℕ) → status ≡ Unfinished step → IsGoodEnd status
+  Is_no_run : (step : ℕ) → status ≡ NotARun step → IsGoodEnd status
+
 abbrev pub IsComplete : Option Asked → (old new : Role → Meaning) → Status → Type 0
 IsComplete plan old new status =
     (asked : Asked) → plan ≡ Some asked → (bytes : Role → List ℕ) → HasInput asked old bytes → refusal_of asked bytes ≡ None
-    → ((role : Role) → Rose (old role).faults (new role).faults → ⊥) → (status ≡ Done) ⊎ (status ≡ NoMemory) ⊎ ((step : ℕ) × (status ≡ Unfinished step))
+    → ((role : Role) → Rose (old role).faults (new role).faults → ⊥) → IsGoodEnd status
 
--- all that a call of the program promises. The choices of a run aren't handed out yet
+-- all that a call of the program promises
 pub record HasOutcome (plan : Option Asked) (old new : Role → Meaning) (outcome : Outcome) : Type 0 where
-  pub cause : CauseOf plan old new outcome.status
+  pub cause : CauseOf plan old new outcome
   pub names : MayBind plan new
   pub errors : PutsLine (line_of outcome.status) (old Errors) (new Errors)
   pub complete : IsComplete plan old new outcome.status
-  pub choices : outcome.choices ≡ []

@@ -1,22 +1,32 @@
 -- Steps between code and definition, which nobody has to believe: what binding files, reading an input and a whole command leave
 -- of the outside. This project's own.
-use Rattle.std.specs.Prelude.{◌≡◌, ◌≤◌, ℕ, false, List, [], Option, Some, Ok, length, IsTrue}
-use Rattle.flow_filter.specs.declared.site.Site.{Site}
-use Rattle.nf_function.specs.declared.kind.Kind.{Kind}
-use Rattle.nf_function.specs.Semantics.{Semantics}
-use Rattle.trace_reader.specs.declared.trace.Trace.{Trace}
-use Rattle.op_script.specs.declared.script.Script.{Script}
-use Rattle.op_script.specs.Reading.{script_view}
+use Rattle.std.specs.Prelude.{◌≡◌, ◌≤◌, ℕ, true, false, All, List, [], Option, None, Some, is_some, Ok, length, IsTrue}
 use Rattle.nf_io.specs.declared.outside.Role.{Role}
-use Rattle.nf_io.specs.declared.outside.Role.TheVariants.{Errors, Script as ScriptRole}
+use Rattle.nf_io.specs.declared.outside.Role.TheVariants.{Errors, JournalOut, Script as ScriptRole, Trace as TraceRole}
 use Rattle.nf_io.specs.Roles.{is_read}
-use Rattle.nf_io.specs.Meaning.{Meaning, OthersStay}
-use Rattle.command_words.specs.Plan.{Asked, SimAsked, asks_sim}
+use Rattle.nf_io.specs.Meaning.{Meaning, OthersStay, Rose}
+use Rattle.flow_filter.specs.declared.site.Site.{Site}
+use Rattle.nf_function.specs.Semantics.{Semantics}
+use Rattle.trace_reader.specs.Records.{AreNumbered}
+use Rattle.trace_reader.specs.Steered.{is_steered_proto}
+use Rattle.op_script.specs.declared.script.Script.{Script}
+use Rattle.op_script.specs.Printing.{IsScript, SplitsNone}
+use Rattle.op_script.specs.Reading.{script_view}
+use Rattle.journal_file.specs.Format.{journal_bytes}
+use Rattle.nf_net.specs.Input.{IsInput}
+use Rattle.run_input.specs.Given.{first_unbuilt}
+use Rattle.actor_net.specs.declared.choice.Choice.{Choice}
+use Rattle.actor_net.specs.declared.schedule.Schedule.{Schedule}
+use Rattle.command_words.specs.Plan.{Asked, NetworkAsked, asks_audit, asks_run, asks_sim}
 use Rattle.opennf_calls.specs.declared.status.Status.{Status}
-use Rattle.opennf_calls.specs.declared.status.Status.TheVariants.{NoMemory, Unfinished}
-use Rattle.opennf_calls.specs.Command.{is_input}
-use Rattle.opennf_calls.specs.Outcome.{HasInput, RowOf}
-use Rattle.opennf_calls.specs.Simulated.{given_script, HasShortRun, StopsShort}
+use Rattle.opennf_calls.specs.declared.status.Status.TheVariants.{NoMemory, NotARun, ReadFault, Unfinished}
+use Rattle.opennf_calls.specs.declared.outcome.Outcome.{Outcome}
+use Rattle.opennf_calls.specs.Command.{run_file}
+use Rattle.opennf_calls.specs.Outcome.{CauseOf, IsGiven, MayBind, RowOf, inputs_refusal}
+use Rattle.opennf_calls.specs.declared.inputs.Inputs.{Inputs}
+use Rattle.opennf_calls.specs.declared.network.Made.{Made}
+use Rattle.opennf_calls.specs.declared.network.Opening.{Opening}
+use Rattle.opennf_calls.specs.NetworkRuns.{Given, Gives, HasNoRun, HasShortRun, IsNoRun, StopsShort, config_for, given_script, head_for, items_for}
 
 -- a role has this name now, and nothing else changed
 pub record Named (role : Role) (name : Option (List ℕ)) (old new : Role → Meaning) : Type 0 where
@@ -45,32 +55,111 @@ pub record OnlyRead (old new : Role → Meaning) : Type 0 where
   pub names : SameNames old new
   pub others : (role : Role) → is_read role ≡ false → new role ≡ old role
 
--- `sim` has 1 to 16 instances with a limit each, and a window
-pub record CanRun (s : SimAsked) : Type 0 where
-  pub some : 1 ≤ length s.instances.0
-  pub few : length s.instances.0 ≤ 16
-  pub limits : length s.instances.1 ≡ length s.instances.0
+-- a run has 1 to 16 instances with a limit and a mark each, and a window
+pub record CanRun (s : NetworkAsked) : Type 0 where
+  pub some : 1 ≤ length s.instances.names
+  pub few : length s.instances.names ≤ 16
+  pub limits : length s.instances.limits ≡ length s.instances.names
+  pub marked : length s.instances.marked ≡ length s.instances.names
   pub window : (1 ≤ s.window) × (s.window ≤ 4096)
 
--- a script was read where the words name one: these are the bytes that are left
-pub record HasScript (s : SimAsked) (old new : Role → Meaning) (script : Script) : Type 0 where
-  pub said : (bytes : Role → List ℕ) → HasInput (asks_sim s) old bytes → given_script s (bytes ScriptRole) ≡ Ok (script_view script)
-  pub read : (bytes : Role → List ℕ) → HasInput (asks_sim s) old bytes → IsTrue (is_input (asks_sim s) ScriptRole) → (new ScriptRole).left ≡ Some []
+-- a command runs the network of these words
+pub data Runs (s : NetworkAsked) : Asked → Type 0 where
+  Simulates : (schedule : Schedule) → Runs s (asks_sim s schedule)
+  Threads : Runs s (asks_run s)
+  Audits : Runs s (asks_audit s)
 
--- why the run of a network gives no report
-abbrev pub EndsEarly : {R : Type 0} (F : Type 0) (f : Semantics R) (s : SimAsked) → Site → Trace → Script → Status → Type 0
-EndsEarly F f s site captured script (Unfinished step) = StopsShort F f s site captured script step
-EndsEarly F f s site captured script NoMemory = Unit {0}
-EndsEarly F f s site captured script status = ⊥
+-- the words' script and capture hold these bytes
+pub record TellsInputs (s : NetworkAsked) (old : Role → Meaning) (bytes : Role → List ℕ) : Type 0 where
+  pub trace : (old TraceRole).left ≡ Some (bytes TraceRole)
+  pub script : IsTrue (is_some s.script) → (old ScriptRole).left ≡ Some (bytes ScriptRole)
+
+-- they were read to their end
+pub record ReadToEnd (s : NetworkAsked) (new : Role → Meaning) : Type 0 where
+  pub trace : (new TraceRole).left ≡ Some []
+  pub script : IsTrue (is_some s.script) → (new ScriptRole).left ≡ Some []
+
+-- the capture and the script have the names of the words
+pub record InputsBound (s : NetworkAsked) (old : Role → Meaning) : Type 0 where
+  pub trace : (old TraceRole).name ≡ Some s.trace
+  pub script : (old ScriptRole).name ≡ s.script
+
+-- the script was read where the words name one
+pub record HasScript (s : NetworkAsked) (old new : Role → Meaning) (script : Script) : Type 0 where
+  pub said : (bytes : Role → List ℕ) → TellsInputs s old bytes → given_script s (bytes ScriptRole) ≡ Ok (script_view script)
+  pub read : (bytes : Role → List ℕ) → TellsInputs s old bytes → IsTrue (is_some s.script) → (new ScriptRole).left ≡ Some []
+
+-- the script and the capture were read, and every command is built
+pub record HasInputs (s : NetworkAsked) (old new : Role → Meaning) (given : Given) : Type 0 where
+  pub is_given : (bytes : Role → List ℕ) → TellsInputs s old bytes → IsGiven s bytes given
+  pub sound : (bytes : Role → List ℕ) → TellsInputs s old bytes → inputs_refusal s bytes ≡ None
+  pub read : (bytes : Role → List ℕ) → TellsInputs s old bytes → ReadToEnd s new
+
+-- why the script and the capture give no run
+abbrev pub InputsFail : NetworkAsked → (old new : Role → Meaning) → Status → Type 0
+InputsFail s old new (ReadFault role) = IsTrue (is_some (run_file s role)) × Rose (old role).faults (new role).faults
+InputsFail s old new NoMemory = Unit {0}
+InputsFail s old new status = (bytes : Role → List ℕ) → TellsInputs s old bytes → inputs_refusal s bytes ≡ Some status
+
+-- what a run's inputs are read as, at a site
+abbrev pub given_by : Site → Inputs → Given
+given_by site inputs = record { site = site; captured = inputs.trace; script = inputs.script }
+
+-- a script without copies and shares, whose filters split no unit, and packets in the order of their numbers
+pub record CanBegin (s : NetworkAsked) (given : Given) : Type 0 where
+  pub right : IsScript s.instances.names (script_view given.script)
+  pub whole : SplitsNone s.kind (script_view given.script)
+  pub built : first_unbuilt given.script.lines.items ≡ None
+  pub numbers : AreNumbered 1 given.captured.packets
+  pub steered : All (λ packet. is_steered_proto packet.proto ≡ true) given.captured.packets
+
+-- a network before its start, with what its report repeats
+pub record IsOpening (s : NetworkAsked) (given : Given) (opening : Opening) : Type 0 where
+  pub config : opening.config ≡ config_for s given.site given.script.routes.items
+  pub items : opening.items.items ≡ items_for given.captured given.script
+  pub head : opening.head ≡ head_for s given.captured
+  pub is_input : IsInput s.kind opening.config opening.items.items
+
+-- what a run gives, by role
+abbrev pub result_texts : (journal report : List ℕ) → Role → List ℕ
+result_texts journal report JournalOut = journal
+result_texts journal report role = report
+
+abbrev pub gives : NetworkAsked → Made → Gives
+gives s made = record { choices = made.choices; texts = result_texts (journal_bytes s.kind (length s.instances.names) made.choices) made.report }
+
+-- why a schedule gives no report, for a function
+module _ {R : Type 0} (F : Type 0) (f : Semantics R) (s : NetworkAsked) (given : Given) where
+  abbrev pub EndsEarlyAs : Schedule → Status → Type 0
+  EndsEarlyAs schedule (Unfinished step) = StopsShort F f s given schedule step
+  EndsEarlyAs schedule NoMemory = Unit {0}
+  EndsEarlyAs schedule status = ⊥
+
+  -- why a journal's choices give no report
+  abbrev pub IsRefusedAs : List Choice → Status → Type 0
+  IsRefusedAs choices (NotARun step) = IsNoRun F f s given choices step
+  IsRefusedAs choices NoMemory = Unit {0}
+  IsRefusedAs choices status = ⊥
 
 -- the same, for the function that the words name
-abbrev pub EndsEarlyFor : Kind → SimAsked → Site → Trace → Script → Status → Type 0
-EndsEarlyFor kind s site captured script (Unfinished step) = HasShortRun kind s site captured script step
-EndsEarlyFor kind s site captured script NoMemory = Unit {0}
-EndsEarlyFor kind s site captured script status = ⊥
+abbrev pub EndsEarly : NetworkAsked → Given → Schedule → Status → Type 0
+EndsEarly s given schedule (Unfinished step) = HasShortRun s.kind s given schedule step
+EndsEarly s given schedule NoMemory = Unit {0}
+EndsEarly s given schedule status = ⊥
 
--- a command whose files were bound ended with a status: its row holds, and the names and the standard error are as before
-pub record Performs (asked : Asked) (old new : Role → Meaning) (status : Status) : Type 0 where
-  pub row : RowOf asked old new status
+abbrev pub IsRefusedRun : NetworkAsked → Given → List Choice → Status → Type 0
+IsRefusedRun s given choices (NotARun step) = HasNoRun s.kind s given choices step
+IsRefusedRun s given choices NoMemory = Unit {0}
+IsRefusedRun s given choices status = ⊥
+
+-- a command whose files were bound ended: its row holds, and the names and the standard error are as before
+pub record Performs (asked : Asked) (old new : Role → Meaning) (outcome : Outcome) : Type 0 where
+  pub row : RowOf asked old new outcome.choices outcome.status
   pub names : SameNames old new
+  pub errors : new Errors ≡ old Errors
+
+-- the words were read, files were bound, and the command ended: the standard error is as before
+pub record HasEnded (plan : Option Asked) (old new : Role → Meaning) (outcome : Outcome) : Type 0 where
+  pub cause : CauseOf plan old new outcome
+  pub names : MayBind plan new
   pub errors : new Errors ≡ old Errors

@@ -14,12 +14,18 @@ use Rattle.run_input.specs.declared.fault.InputFault.{InputFault}
 use Rattle.run_input.specs.declared.fault.InputFault.TheVariants as given
 use Rattle.actor_net.specs.declared.schedule.ScheduleFault.{ScheduleFault}
 use Rattle.actor_net.specs.declared.schedule.ScheduleFault.TheVariants as run
+use Rattle.journal_file.specs.declared.fault.JournalFault.{JournalFault}
+use Rattle.journal_file.specs.declared.fault.JournalFault.TheVariants as journal
+use Rattle.run_report.specs.declared.auditing.AuditFault.{AuditFault}
+use Rattle.run_report.specs.declared.auditing.AuditFault.TheVariants as audit
 use Rattle.trace_reader.specs.declared.make.MakeFault.{MakeFault}
 use Rattle.trace_reader.specs.declared.make.MakeFault.TheVariants as making
 use Rattle.opennf_calls.specs.declared.status.TraceKind.{TraceKind}
 use Rattle.opennf_calls.specs.declared.status.TraceKind.TheVariants.{Magic, PcapNg, Version, LinkType, RecordLength, TooLong, Header}
+use Rattle.opennf_calls.specs.declared.status.JournalKind.{JournalKind}
+use Rattle.opennf_calls.specs.declared.status.JournalKind.TheVariants as kinds
 use Rattle.opennf_calls.specs.declared.status.Status.{Status}
-use Rattle.opennf_calls.specs.declared.status.Status.TheVariants.{Ok as Done, Usage, BadScript, BadTrace, NotBuilt, Unfinished, ReadFault, WriteFault, NoMemory}
+use Rattle.opennf_calls.specs.declared.status.Status.TheVariants.{Ok as Done, Usage, BadScript, BadTrace, BadJournal, NotBuilt, NotARun, Unfinished, ReadFault, WriteFault, NoMemory}
 
 -- the number that the program ends with
 abbrev pub exit_number : Status → ℕ
@@ -27,8 +33,10 @@ exit_number Done = 0
 exit_number Usage = 1
 exit_number (BadScript line kind) = 2
 exit_number (BadTrace offset kind) = 2
+exit_number (BadJournal kind) = 2
 exit_number (NotBuilt command) = 2
-exit_number (Unfinished step) = 3
+exit_number (NotARun step) = 3
+exit_number (Unfinished step) = 7
 exit_number (ReadFault role) = 4
 exit_number (WriteFault role) = 5
 exit_number NoMemory = 6
@@ -70,6 +78,15 @@ script_kind_name bad.TooMany = codes "too many"
 script_kind_name bad.Name = codes "name"
 script_kind_name bad.NotUtf8 = codes "not utf8"
 
+-- what the line calls what is wrong with a journal
+abbrev pub journal_kind_name : JournalKind → List ℕ
+journal_kind_name kinds.Magic = codes "magic"
+journal_kind_name kinds.Version = codes "version"
+journal_kind_name kinds.Kind = codes "kind"
+journal_kind_name kinds.Count = codes "count"
+journal_kind_name kinds.Short = codes "short"
+journal_kind_name kinds.Extra = codes "extra"
+
 -- the line on a script that breaks a rule
 abbrev pub script_line_of : ℕ → ScriptKind → List ℕ
 script_line_of line kind = codes "opennf: script line " ++ decimal line ++ codes ": " ++ script_kind_name kind ++ codes "\n"
@@ -79,9 +96,17 @@ abbrev pub trace_line_of : ℕ → TraceKind → List ℕ
 trace_line_of offset kind =
     codes "opennf: trace byte " ++ decimal offset ++ codes ": " ++ trace_kind_name kind ++ trace_kind_number kind ++ codes "\n"
 
+-- the line on a journal that breaks a rule
+abbrev pub journal_line_of : JournalKind → List ℕ
+journal_line_of kind = codes "opennf: journal: " ++ journal_kind_name kind ++ codes "\n"
+
 -- the line on a command that isn't built
 abbrev pub unbuilt_line_of : ℕ → List ℕ
 unbuilt_line_of command = codes "opennf: command " ++ decimal command ++ codes " not built\n"
+
+-- the line on a journal whose choices aren't a complete run
+abbrev pub no_run_line_of : ℕ → List ℕ
+no_run_line_of step = codes "opennf: not a run at step " ++ decimal step ++ codes "\n"
 
 -- the line on a run that stops before its end
 abbrev pub unfinished_line_of : ℕ → List ℕ
@@ -97,7 +122,9 @@ line_of Done = []
 line_of Usage = codes "opennf: bad words\n"
 line_of (BadScript line kind) = script_line_of line kind
 line_of (BadTrace offset kind) = trace_line_of offset kind
+line_of (BadJournal kind) = journal_line_of kind
 line_of (NotBuilt command) = unbuilt_line_of command
+line_of (NotARun step) = no_run_line_of step
 line_of (Unfinished step) = unfinished_line_of step
 line_of (ReadFault role) = fault_line_of (codes "opennf: read fault ") role
 line_of (WriteFault role) = fault_line_of (codes "opennf: write fault ") role
@@ -114,6 +141,22 @@ trace_status (fault.TooLong offset) = BadTrace offset TooLong
 trace_status (fault.Header length) = BadTrace length Header
 trace_status fault.Read = ReadFault Trace
 trace_status fault.NoMemory = NoMemory
+
+-- the status of a journal that can't be read
+abbrev pub journal_status : JournalFault → Status
+journal_status journal.Magic = BadJournal kinds.Magic
+journal_status journal.Version = BadJournal kinds.Version
+journal_status journal.Kind = BadJournal kinds.Kind
+journal_status journal.Count = BadJournal kinds.Count
+journal_status journal.Short = BadJournal kinds.Short
+journal_status journal.Extra = BadJournal kinds.Extra
+journal_status journal.Read = ReadFault JournalIn
+journal_status journal.NoMemory = NoMemory
+
+-- the status of choices that have no report
+abbrev pub audit_status : AuditFault → Status
+audit_status (audit.NotARun step) = NotARun step
+audit_status audit.NoMemory = NoMemory
 
 -- the status of a script that can't be read
 abbrev pub script_status : ScriptFault → Status

@@ -26,3 +26,40 @@ pub record Wrote (role : Role) (old new : Role → Meaning) (text : Written) : T
   pub left : (new role).left ≡ (old role).left
   pub name : (new role).name ≡ (old role).name
   pub others : OthersStay role old new
+
+-- what writing a report ends with
+abbrev pub report_end : Written → Status
+report_end (all_of text) = Done
+report_end (front_of text) = WriteFault Report
+
+-- a text or a front of it
+abbrev pub is_part : Written → List ℕ → Type 0
+is_part (all_of written) text = written ≡ text
+is_part (front_of written) text = written ≡ text
+
+-- the report of a run was written, whole or in part
+pub record WroteReport (made : Made) (old new : Role → Meaning) (outcome : Outcome) : Type 0 where
+  pub part : Written
+  pub is : is_part part made.report
+  pub wrote : Wrote Report old new part
+  pub status : outcome.status ≡ report_end part
+  pub choices : outcome.choices ≡ made.choices
+
+-- the journal was written, and then the report
+pub record WroteBoth (s : NetworkAsked) (made : Made) (old new : Role → Meaning) (outcome : Outcome) : Type 0 where
+  pub mid : Role → Meaning
+  pub journal : Wrote JournalOut old mid (all_of (journal_bytes s.kind (length s.instances.names) made.choices))
+  pub report : WroteReport made mid new outcome
+
+-- a front of the journal was written
+pub record WroteFront (s : NetworkAsked) (made : Made) (old new : Role → Meaning) (outcome : Outcome) : Type 0 where
+  pub journal : Wrote JournalOut old new (front_of (journal_bytes s.kind (length s.instances.names) made.choices))
+  pub status : outcome.status ≡ WriteFault JournalOut
+  pub choices : outcome.choices ≡ made.choices
+
+-- what comes of a run was written
+pub data WroteRun (s : NetworkAsked) (made : Made) (old new : Role → Meaning) (outcome : Outcome) : Type 0 where
+  Report_alone : s.journal ≡ None → WroteReport made old new outcome → WroteRun s made old new outcome
+  Both : IsTrue (is_some s.journal) → WroteBoth s made old new outcome → WroteRun s made old new outcome
+  Front_alone : IsTrue (is_some s.journal) → WroteFront s made old new outcome → WroteRun s made old new outcome
+  Nothing : old ≡ new → outcome ≡ record { status = NoMemory; choices = [] } → WroteRun s made old new outcome

@@ -5,7 +5,7 @@ ghost use Rattle.nf_io.specs.Meaning.{CanRead};
 ghost use Rattle.nf_io.specs.Transfers.{HasUptoCause};
 ghost use Rattle.command_words.specs.Plan.{asks_check};
 ghost use Rattle.command_words.specs.RequestViews.{check_view};
-ghost use Rattle.opennf_calls.specs.Outcome.{IsBound, ForTexts, RowOf};
+ghost use Rattle.opennf_calls.specs.Outcome.{IsBound, ForResults, RowOf};
 ghost use Rattle.opennf_calls.specs.Phases.{Performs, ReadAlone};
 
 use crate::status::Status;
@@ -23,7 +23,7 @@ pub(crate) const MOST_BYTES: u64 = 1_048_576;
 pub fn check<O: Outside>(alloc: Global, asked: &Checking<'_>, outside: &mut O) -> Status
     requires bound { IsBound (asks_check (check_view asked.now)) (O.seen outside.old) }
     requires few { length asked.now.instances.names.items ≤ 16 }
-    ensures { Performs (asks_check (check_view asked.now)) (O.seen outside.old) (O.seen outside.new) result }
+    ensures { Performs (asks_check (check_view asked.now)) (O.seen outside.old) (O.seen outside.new) (record { status = result; choices = [] }) }
 {
     let text = match read_canonical(alloc, asked, outside) {
         Ok(text) => text,
@@ -47,8 +47,8 @@ fn read_canonical<O: Outside>(
 
     // The text is the one that the command has for the script, or the status has its row.
     ensures row { MatchResult result
-        (λ text. ForTexts (asks_check (check_view asked.now)) (O.seen outside.old) (O.seen outside.new) (λ texts. texts ReportRole ≡ text))
-        (λ status. RowOf (asks_check (check_view asked.now)) (O.seen outside.old) (O.seen outside.new) status) }
+        (λ text. ForResults (asks_check (check_view asked.now)) (O.seen outside.old) (O.seen outside.new) (λ made. (made.choices ≡ []) × (made.texts ReportRole ≡ text)))
+        (λ status. RowOf (asks_check (check_view asked.now)) (O.seen outside.old) (O.seen outside.new) [] status) }
 {
     let bytes = match read_bytes(alloc, outside, MOST_BYTES) {
         Ok(bytes) => bytes,

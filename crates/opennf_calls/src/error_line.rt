@@ -1,8 +1,8 @@
 //! The line that goes to the standard error where a command did not end well.
 ghost use Rattle.std.specs.Prelude.{◌≡◌, ◌≤◌, length};
-ghost use Rattle.opennf_calls.specs.Status.{line_of, script_line_of, trace_line_of, unbuilt_line_of, unfinished_line_of, fault_line_of, trace_kind_number};
+ghost use Rattle.opennf_calls.specs.Status.{line_of, script_line_of, trace_line_of, journal_line_of, unbuilt_line_of, no_run_line_of, unfinished_line_of, fault_line_of, trace_kind_number};
 
-use crate::status::{Status, TraceKind, role_name, script_kind_name};
+use crate::status::{JournalKind, Status, TraceKind, journal_kind_name, role_name, script_kind_name};
 use arrayvec::ArrayString;
 use itoa::Buffer;
 use nf_io::Role;
@@ -21,7 +21,9 @@ pub fn line(status: &Status) -> Line
         Status::Usage => whole_line("opennf: bad words\n"),
         Status::BadScript { line, kind } => script_line(line, kind),
         Status::BadTrace { offset, kind } => trace_line(offset, kind),
+        Status::BadJournal { kind } => journal_line(kind),
         Status::NotBuilt { command } => unbuilt_line(command),
+        Status::NotARun { step } => no_run_line(step),
         Status::Unfinished { step } => unfinished_line(step),
         Status::ReadFault { role } => fault_line("opennf: read fault ", role),
         Status::WriteFault { role } => fault_line("opennf: write fault ", role),
@@ -77,6 +79,16 @@ fn trace_line(offset: u64, kind: TraceKind) -> Line
     line
 }
 
+/// The line of a journal that breaks a rule.
+fn journal_line(kind: JournalKind) -> Line
+    ensures { result.bytes ≡ journal_line_of kind }
+{
+    let mut line = whole_line("opennf: journal: ");
+    line.push_str(journal_kind_name(kind));
+    line.push_str("\n");
+    line
+}
+
 /// The line of a command that isn't built.
 fn unbuilt_line(command: u32) -> Line
     ensures { result.bytes ≡ unbuilt_line_of command }
@@ -85,6 +97,17 @@ fn unbuilt_line(command: u32) -> Line
     let mut buffer = Buffer::new();
     line.push_str(buffer.format(command));
     line.push_str(" not built\n");
+    line
+}
+
+/// The line of a journal whose choices aren't a complete run.
+fn no_run_line(step: u64) -> Line
+    ensures { result.bytes ≡ no_run_line_of step }
+{
+    let mut line = whole_line("opennf: not a run at step ");
+    let mut buffer = Buffer::new();
+    line.push_str(buffer.format(step));
+    line.push_str("\n");
     line
 }
 

@@ -1,6 +1,6 @@
 //! The calls that do all that the program does.
 //!
-//! [`opennf_top`] and [`opennf_calm`] take the words of the command line, read the files that these name, and write what they
+//! [`opennf_top`], [`opennf_run`] and [`opennf_calm`] take the words of the command line, read the files that these name, and write what they
 //! ask for: the report of a run of the network, the canonical text of a script, or a generated capture. They touch nothing but
 //! the [`Outside`](nf_io::Outside) that they are handed, and memory.
 //!
@@ -10,11 +10,15 @@
 //! canonical text of the script's bytes, or the capture that was drawn is written; every other status has its cause.
 #![tactic(auto)]
 
+pub mod audit;
 pub mod check;
 pub mod error_line;
 pub mod generate;
+pub mod inputs;
 pub mod network;
 pub mod outcome;
+pub mod results;
+pub mod run;
 pub mod sim;
 pub mod status;
 pub mod threads;
@@ -22,8 +26,8 @@ pub mod top;
 pub mod writing;
 
 pub use outcome::Outcome;
-pub use status::{Status, TraceKind};
-pub use top::{opennf_calm, opennf_top};
+pub use status::{JournalKind, Status, TraceKind};
+pub use top::{opennf_calm, opennf_run, opennf_top};
 
 #[cfg(test)]
 mod check_tests;

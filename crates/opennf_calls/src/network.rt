@@ -1,96 +1,217 @@
-//! The run of a network, and its report.
-ghost use Rattle.std.specs.Prelude.{◌≡◌, None, true, length, All, MatchResult};
+//! The run of a network, and what comes of it: by a schedule, by threads, or by choices that are told.
+ghost use Rattle.std.specs.Prelude.{◌≡◌, length, IfOk, MatchResult, OnErr};
 ghost use Rattle.trace_reader.specs.Records.{AreNumbered};
-ghost use Rattle.trace_reader.specs.Steered.{is_steered_proto};
-ghost use Rattle.op_script.specs.Printing.{IsScript, SplitsNone};
-ghost use Rattle.op_script.specs.Reading.{script_view};
-ghost use Rattle.command_words.specs.RequestViews.{sim_view};
-ghost use Rattle.run_input.specs.Given.{first_unbuilt};
-ghost use Rattle.opennf_calls.specs.Phases.{CanRun, EndsEarly, EndsEarlyFor};
-ghost use Rattle.opennf_calls.specs.Simulated.{HasRunText, IsRunText};
+ghost use Rattle.command_words.specs.RequestViews.{network_view};
+ghost use Rattle.opennf_calls.specs.declared.status.Status.TheVariants.{NoMemory as OutOfMemory};
+ghost use Rattle.opennf_calls.specs.NetworkRuns.{HasRun, IsRunOf};
+ghost use Rattle.opennf_calls.specs.Phases.{CanBegin, CanRun, EndsEarly, EndsEarlyAs, IsOpening, IsRefusedRun, IsRefusedAs, given_by, gives, MadeRun};
 
+use crate::inputs::Inputs;
 use crate::status::Status;
+use crate::threads::run_network;
+use actor_net::{Choices, Schedule, World};
+use actor_threads::Gate;
 use addr_translator::Nat;
 use asset_monitor::Monitor;
-use command_words::Simulation;
+use basics::{NoMemory, TryCopy};
+use command_words::NetworkRequest;
 use conn_tracker::Conntrack;
 use flow_filter::{Packet, Text};
 use nf_function::{Function, Kind};
-use nf_net::{Config, simulate};
-use op_script::Script;
+use nf_msgs::Msg;
+use nf_net::{Config, Node, simulate};
 use run_input::{Setting, input_of};
-use run_report::{Head, report};
+use run_report::{Head, audit, report};
 use std::alloc::Global;
+use std::sync::Wait;
+use std::thread::Threads;
 use trace_reader::Trace;
 
-/// The report of a run of the network, whose instances have the function that the words name.
-pub fn network_text(
+/// What comes of a run: its choices, and its report.
+#[derive(Drop)]
+pub struct Made {
+    pub choices: Choices,
+    pub report: Text,
+}
+
+/// A network before its start: what it is made of, its input, and what its report repeats.
+#[derive(Drop)]
+pub struct Opening {
+    config: Config,
+    items: Vec<Msg>,
+    head: Head,
+}
+
+/// Runs the network by a schedule. Its instances have the function that the words name, as below.
+pub fn run_scheduled(
     alloc: Global,
-    asked: &Simulation<'_>,
-    script: &Script,
-    trace: Trace,
-) -> Result<Text, Status>
-    requires runs { CanRun (sim_view asked.now) }
-    requires right { IsScript asked.now.instances.names.items (script_view script.now) }
-    requires whole { SplitsNone asked.now.kind (script_view script.now) }
-    requires built { first_unbuilt script.now.lines.items ≡ None }
-    requires numbers { AreNumbered 1 trace.packets }
-    requires steered { All (λ packet. is_steered_proto packet.proto ≡ true) trace.packets }
+    asked: &NetworkRequest<'_>,
+    inputs: Inputs,
+    schedule: Schedule,
+) -> Result<Made, Status>
+    requires runs { CanRun (network_view asked.now) }
+    requires sound { CanBegin (network_view asked.now) (given_by asked.now.site inputs) }
     ensures { MatchResult result
-        (HasRunText asked.now.kind (sim_view asked.now) asked.now.site trace script.now)
-        (EndsEarlyFor asked.now.kind (sim_view asked.now) asked.now.site trace script.now) }
+        (λ made. HasRun asked.now.kind (network_view asked.now) (given_by asked.now.site inputs) (Some schedule) (gives (network_view asked.now) made))
+        (EndsEarly (network_view asked.now) (given_by asked.now.site inputs) schedule) }
 {
-    match asked.kind {
-        Kind::Conntrack => network_report::<Conntrack>(alloc, asked, script, trace),
-        Kind::Nat => network_report::<Nat>(alloc, asked, script, trace),
-        Kind::Monitor => network_report::<Monitor>(alloc, asked, script, trace),
+    let kind = asked.kind;
+    match kind {
+        Kind::Conntrack => schedule_network::<Conntrack>(alloc, asked, inputs, schedule),
+        Kind::Nat => schedule_network::<Nat>(alloc, asked, inputs, schedule),
+        Kind::Monitor => schedule_network::<Monitor>(alloc, asked, inputs, schedule),
     }
 }
 
-/// The report of a run of the network.
-fn network_report<F: Function>(
+/// Runs the network by threads.
+pub fn run_threaded<R: Threads + Wait + Sync, G: Gate>(
+    rt: &R,
     alloc: Global,
-    asked: &Simulation<'_>,
-    script: &Script,
-    trace: Trace,
-) -> Result<Text, Status>
-    requires kind { F.semantics.kind ≡ asked.now.kind }
-    requires runs { CanRun (sim_view asked.now) }
-    requires right { IsScript asked.now.instances.names.items (script_view script.now) }
-    requires whole { SplitsNone asked.now.kind (script_view script.now) }
-    requires built { first_unbuilt script.now.lines.items ≡ None }
-    requires numbers { AreNumbered 1 trace.packets }
-    requires steered { All (λ packet. is_steered_proto packet.proto ≡ true) trace.packets }
+    asked: &NetworkRequest<'_>,
+    inputs: Inputs,
+    gate: &G,
+) -> Result<Made, NoMemory>
+    requires runs { CanRun (network_view asked.now) }
+    requires sound { CanBegin (network_view asked.now) (given_by asked.now.site inputs) }
+    ensures { IfOk result (λ made. HasRun asked.now.kind (network_view asked.now) (given_by asked.now.site inputs) None (gives (network_view asked.now) made)) }
+{
+    let kind = asked.kind;
+    match kind {
+        Kind::Conntrack => thread_network::<R, Conntrack, G>(rt, alloc, asked, inputs, gate),
+        Kind::Nat => thread_network::<R, Nat, G>(rt, alloc, asked, inputs, gate),
+        Kind::Monitor => thread_network::<R, Monitor, G>(rt, alloc, asked, inputs, gate),
+    }
+}
+
+/// Runs the network by choices, which are to be a complete run.
+pub fn run_told(
+    alloc: Global,
+    asked: &NetworkRequest<'_>,
+    inputs: Inputs,
+    choices: Choices,
+) -> Result<Made, Status>
+    requires runs { CanRun (network_view asked.now) }
+    requires sound { CanBegin (network_view asked.now) (given_by asked.now.site inputs) }
     ensures { MatchResult result
-        (IsRunText F.row.Denot F.semantics (sim_view asked.now) asked.now.site trace script.now)
-        (EndsEarly F.row.Denot F.semantics (sim_view asked.now) asked.now.site trace script.now) }
+        (λ made. HasRun asked.now.kind (network_view asked.now) (given_by asked.now.site inputs) None (gives (network_view asked.now) made) × (made.choices ≡ choices))
+        (IsRefusedRun (network_view asked.now) (given_by asked.now.site inputs) choices) }
+{
+    let kind = asked.kind;
+    match kind {
+        Kind::Conntrack => tell_network::<Conntrack>(alloc, asked, inputs, choices),
+        Kind::Nat => tell_network::<Nat>(alloc, asked, inputs, choices),
+        Kind::Monitor => tell_network::<Monitor>(alloc, asked, inputs, choices),
+    }
+}
+
+/// Runs the network by a schedule.
+fn schedule_network<F: Function>(
+    alloc: Global,
+    asked: &NetworkRequest<'_>,
+    inputs: Inputs,
+    schedule: Schedule,
+) -> Result<Made, Status>
+    requires kind { F.semantics.kind ≡ asked.now.kind }
+    requires runs { CanRun (network_view asked.now) }
+    requires sound { CanBegin (network_view asked.now) (given_by asked.now.site inputs) }
+    ensures { MatchResult result
+        (λ made. IsRunOf F.row.Denot F.semantics (network_view asked.now) (given_by asked.now.site inputs) (Some schedule) (gives (network_view asked.now) made))
+        (EndsEarlyAs F.row.Denot F.semantics (network_view asked.now) (given_by asked.now.site inputs) schedule) }
+{
+    let opening = open(alloc, asked, inputs)?;
+    let (world, choices) = simulate::<F>(alloc, &opening.config, opening.items, schedule)?;
+    let report = report::<F>(alloc, &opening.head, &world, asked.summary)?;
+    Ok(Made { choices, report })
+}
+
+/// Runs the network by threads.
+fn thread_network<R: Threads + Wait + Sync, F: Function + Send, G: Gate>(
+    rt: &R,
+    alloc: Global,
+    asked: &NetworkRequest<'_>,
+    inputs: Inputs,
+    gate: &G,
+) -> Result<Made, NoMemory>
+where
+    F::Record: Send,
+    requires kind { F.semantics.kind ≡ asked.now.kind }
+    requires runs { CanRun (network_view asked.now) }
+    requires sound { CanBegin (network_view asked.now) (given_by asked.now.site inputs) }
+    ensures { IfOk result (λ made. IsRunOf F.row.Denot F.semantics (network_view asked.now) (given_by asked.now.site inputs) None (gives (network_view asked.now) made)) }
+{
+    let opening = open(alloc, asked, inputs)?;
+    let (world, choices) =
+        run_network::<R, F, G>(rt, alloc, &opening.config, opening.items, gate)?;
+    let report = report::<F>(alloc, &opening.head, &world, asked.summary)?;
+    Ok(Made { choices, report })
+}
+
+/// Runs the network by choices.
+fn tell_network<F: Function>(
+    alloc: Global,
+    asked: &NetworkRequest<'_>,
+    inputs: Inputs,
+    choices: Choices,
+) -> Result<Made, Status>
+    requires kind { F.semantics.kind ≡ asked.now.kind }
+    requires runs { CanRun (network_view asked.now) }
+    requires sound { CanBegin (network_view asked.now) (given_by asked.now.site inputs) }
+    ensures { MatchResult result
+        (λ made. IsRunOf F.row.Denot F.semantics (network_view asked.now) (given_by asked.now.site inputs) None (gives (network_view asked.now) made) × (made.choices ≡ choices))
+        (IsRefusedAs F.row.Denot F.semantics (network_view asked.now) (given_by asked.now.site inputs) choices) }
+{
+    let Opening {
+        config,
+        items,
+        head,
+    } = open(alloc, asked, inputs)?;
+    let told = choices.items();
+    let report = audit::<F>(alloc, &config, items, &head, told, asked.summary)?;
+    Ok(Made { choices, report })
+}
+
+/// The network before its start.
+fn open(
+    alloc: Global,
+    asked: &NetworkRequest<'_>,
+    inputs: Inputs,
+) -> Result<Opening, NoMemory>
+    requires runs { CanRun (network_view asked.now) }
+    requires sound { CanBegin (network_view asked.now) (given_by asked.now.site inputs) }
+    ensures { IfOk result (IsOpening (network_view asked.now) (given_by asked.now.site inputs)) }
 {
     let setting = Setting {
         kind: asked.kind,
         names: asked.instances.names.as_slice(),
         limits: asked.instances.limits.as_slice(),
+        marked: asked.instances.marked.as_slice(),
         site: asked.site,
         window: asked.window,
     };
+    let Inputs { script, trace } = inputs;
     let Trace {
         packets,
         skipped,
         cut,
     } = trace;
     let count = last_number(packets.items());
-    let (config, items) = input_of(alloc, &setting, script, packets)?;
-    let (world, _choices) = simulate::<F>(alloc, &config, items, asked.schedule)?;
-    let Config { names, .. } = config;
+    let (config, items) = match input_of(alloc, &setting, &script, packets) {
+        Ok(made) => made,
+        Err(_) => return Err(NoMemory),
+    };
     let head = Head {
         kind: asked.kind,
-        names,
+        names: config.names.copy()?,
         window: asked.window,
         packets: count,
         skipped,
         cut,
     };
-    let text = report::<F>(alloc, &head, &world, false)?;
-    Ok(text)
+    Ok(Opening {
+        config,
+        items,
+        head,
+    })
 }
 
 /// How many packets these are, by the number of the last.

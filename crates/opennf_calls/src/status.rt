@@ -1,11 +1,13 @@
 ghost use Rattle.std.specs.Prelude.{◌≡◌, ◌≤◌, length};
-ghost use Rattle.opennf_calls.specs.Status.{trace_kind_name, exit_number, role_name, script_kind_name, reading_status};
+ghost use Rattle.opennf_calls.specs.Status.{trace_kind_name, exit_number, journal_kind_name, role_name, script_kind_name, reading_status};
 
 use actor_net::ScheduleFault;
 use flow_filter::NoMemory;
+use journal_file::JournalFault;
 use nf_io::{Role, UptoFault};
 use op_script::{ScriptFault, ScriptKind};
 use run_input::InputFault;
+use run_report::AuditFault;
 use trace_reader::{MakeFault, TraceFault};
 
 /// What is wrong with a capture.
@@ -27,6 +29,23 @@ pub enum TraceKind {
     Header,
 }
 
+/// What is wrong with a journal.
+#[derive(Clone, Copy, Debug, PartialEq, Eq)]
+pub enum JournalKind {
+    /// It doesn't begin as a journal.
+    Magic,
+    /// Its version isn't 1.
+    Version,
+    /// It is of another function.
+    Kind,
+    /// It is of another number of instances, or has too many choices.
+    Count,
+    /// It ends within its header or its choices.
+    Short,
+    /// Bytes come after its choices.
+    Extra,
+}
+
 /// How a run of the program ended.
 #[derive(Clone, Copy, Debug, PartialEq, Eq)]
 pub enum Status {
@@ -38,8 +57,12 @@ pub enum Status {
     BadScript { line: u32, kind: ScriptKind },
     /// The capture breaks a rule at a byte.
     BadTrace { offset: u64, kind: TraceKind },
+    /// The journal breaks a rule.
+    BadJournal { kind: JournalKind },
     /// This command of the script isn't built.
     NotBuilt { command: u32 },
+    /// The journal's choices aren't a complete run: the choice of this step, from 1, can't be taken, or is missing.
+    NotARun { step: u64 },
     /// The run took so many steps, and came to no end.
     Unfinished { step: u64 },
     /// A file couldn't be read.
@@ -70,8 +93,10 @@ impl Status {
             Status::Usage => 1,
             Status::BadScript { .. } => 2,
             Status::BadTrace { .. } => 2,
+            Status::BadJournal { .. } => 2,
             Status::NotBuilt { .. } => 2,
-            Status::Unfinished { .. } => 3,
+            Status::NotARun { .. } => 3,
+            Status::Unfinished { .. } => 7,
             Status::ReadFault { .. } => 4,
             Status::WriteFault { .. } => 5,
             Status::NoMemory => 6,
@@ -114,6 +139,44 @@ impl From<MakeFault> for Status {
                 role: Role::TraceOut,
             },
             MakeFault::NoMemory => Status::NoMemory,
+        }
+    }
+}
+
+/// The status of a journal that can't be read.
+impl From<JournalFault> for Status {
+    ghost use Rattle.std.specs.Prelude.{◌≡◌};
+    ghost use Rattle.opennf_calls.specs.Status.{journal_status};
+
+    ghost from_gives = { λ fault status. status ≡ journal_status fault };
+
+    fn from(fault: JournalFault) -> Self {
+        match fault {
+            JournalFault::Magic => bad_journal(JournalKind::Magic),
+            JournalFault::Version => bad_journal(JournalKind::Version),
+            JournalFault::Kind => bad_journal(JournalKind::Kind),
+            JournalFault::Count => bad_journal(JournalKind::Count),
+            JournalFault::Short => bad_journal(JournalKind::Short),
+            JournalFault::Extra => bad_journal(JournalKind::Extra),
+            JournalFault::Read => Status::ReadFault {
+                role: Role::JournalIn,
+            },
+            JournalFault::NoMemory => Status::NoMemory,
+        }
+    }
+}
+
+/// The status of choices that have no report.
+impl From<AuditFault> for Status {
+    ghost use Rattle.std.specs.Prelude.{◌≡◌};
+    ghost use Rattle.opennf_calls.specs.Status.{audit_status};
+
+    ghost from_gives = { λ fault status. status ≡ audit_status fault };
+
+    fn from(fault: AuditFault) -> Self {
+        match fault {
+            AuditFault::NotARun { step } => Status::NotARun { step },
+            AuditFault::NoMemory => Status::NoMemory,
         }
     }
 }
@@ -181,6 +244,13 @@ fn bad_trace(offset: u64, kind: TraceKind) -> Status
     Status::BadTrace { offset, kind }
 }
 
+/// The status of a journal that breaks a rule.
+fn bad_journal(kind: JournalKind) -> Status
+    ensures { result ≡ Status.BadJournal kind }
+{
+    Status::BadJournal { kind }
+}
+
 impl TraceKind {
     /// What the error line says of the kind, before its number where it has one.
     pub fn name(self) -> &'static str
@@ -228,5 +298,20 @@ pub fn script_kind_name(kind: ScriptKind) -> &'static str
         ScriptKind::TooMany => "too many",
         ScriptKind::Name => "name",
         ScriptKind::NotUtf8 => "not utf8",
+    }
+}
+
+/// What the error line calls what is wrong with a journal.
+pub fn journal_kind_name(kind: JournalKind) -> &'static str
+    ensures value { result.now ≡ journal_kind_name kind }
+    ensures short { length result.now ≤ 7 }
+{
+    match kind {
+        JournalKind::Magic => "magic",
+        JournalKind::Version => "version",
+        JournalKind::Kind => "kind",
+        JournalKind::Count => "count",
+        JournalKind::Short => "short",
+        JournalKind::Extra => "extra",
     }
 }

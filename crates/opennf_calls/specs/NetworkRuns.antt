@@ -1,0 +1,139 @@
+-- What a run of the network is given, and what comes of it: a complete run from its start, its report and its journal. This project's own.
+use Rattle.std.specs.Prelude.{◌≡◌, ℕ, true, List, [], length, Option, None, Some, is_some, Result, Ok, if◌then◌else◌}
+use Rattle.std.specs.declared.alloc.Global.{Global}
+use Rattle.flow_filter.specs.declared.filter.Filter.{Filter}
+use Rattle.flow_filter.specs.declared.site.Site.{Site}
+use Rattle.nf_function.specs.declared.kind.Kind.{Kind}
+use Rattle.nf_function.specs.declared.kind.Kind.TheVariants as kinds
+use Rattle.nf_function.specs.Semantics.{Semantics}
+use Rattle.conn_tracker.specs.declared.conntrack.Conntrack.{Conntrack}
+use Rattle.conn_tracker.specs.Conntrack.{conntrack}
+use Rattle.addr_translator.specs.declared.nat.Nat.{Nat}
+use Rattle.addr_translator.specs.Nat.{nat}
+use Rattle.asset_monitor.specs.declared.monitor.Monitor.{Monitor}
+use Rattle.asset_monitor.specs.Monitor.{monitor}
+use Rattle.nf_msgs.specs.declared.msg.Msg.{Msg}
+use Rattle.nf_msgs.specs.declared.note.Note.{Note}
+use Rattle.trace_reader.specs.declared.trace.Trace.{Trace as Captured}
+use Rattle.op_script.specs.declared.script.Script.{Script as TheScript}
+use Rattle.op_script.specs.declared.fault.ScriptKind.{ScriptKind}
+use Rattle.op_script.specs.Items as script_items
+use Rattle.op_script.specs.Reading.{OrderView, Moves, Copies, Shares, LineView, ScriptView, script_of}
+use Rattle.command_words.specs.Plan.{NetworkAsked}
+use Rattle.nf_io.specs.declared.outside.Role.{Role}
+use Rattle.nf_io.specs.declared.outside.Role.TheVariants.{Report, JournalOut}
+use Rattle.actor_net.specs.declared.choice.Choice.{Choice}
+use Rattle.actor_net.specs.declared.schedule.Schedule.{Schedule}
+use Rattle.actor_net.specs.Network.{Network, is_done}
+use Rattle.journal_file.specs.Format.{journal_bytes}
+use Rattle.nf_net.specs.declared.config.Config.{Config}
+use Rattle.nf_net.specs.declared.node.Node.{Node}
+use Rattle.nf_net.specs.Promises.{Completed, Promises}
+use Rattle.nf_net.specs.Nodes.{node_ended}
+use Rattle.nf_net.specs.Runs.{chosen, LeadsTo, StopsAt}
+use Rattle.nf_net.specs.Start.{started}
+use Rattle.nf_net.specs.Window.{AllHome}
+use Rattle.run_input.specs.Given.{or_else}
+use Rattle.run_report.specs.declared.head.Head.{Head}
+use Rattle.run_report.specs.Audits.{IsCause}
+use Rattle.run_report.specs.Lines.{report_text}
+
+-- the script that the words' file is read as, and one without routes and lines where the words name none
+abbrev pub given_script : NetworkAsked → List ℕ → Result ScriptView (ℕ × ScriptKind)
+given_script s bytes = if is_some s.script then script_of s.kind s.instances.names bytes else Ok ([], [])
+
+-- the number of a command that is a copy or a share
+abbrev pub unbuilt_order : ℕ → OrderView → Option ℕ
+unbuilt_order op (Moves source target filter keep) = None
+unbuilt_order op (Copies source target filter) = Some op
+unbuilt_order op (Shares members filter) = Some op
+
+abbrev pub unbuilt_what : Option (ℕ × OrderView) → Option ℕ
+unbuilt_what None = None
+unbuilt_what (Some command) = unbuilt_order command.0 command.1
+
+-- the number of the first such command in file order
+abbrev pub first_unbuilt_line : List LineView → Option ℕ
+first_unbuilt_line [] = None
+first_unbuilt_line (line ∷ more) = or_else (unbuilt_what line.what) (first_unbuilt_line more)
+
+-- the network that the words and the routes ask for, at a site
+abbrev pub config_for : NetworkAsked → Site → List (Filter × ℕ) → Config
+config_for s site routes = record {
+  names = s.instances.names;
+  limits = s.instances.limits;
+  marked = s.instances.marked;
+  site = site;
+  window = s.window;
+  routes = routes;
+}
+
+-- its input: the packets of the capture, and each line of the script after the packet that it names
+abbrev pub items_for : Captured → TheScript → List Msg
+items_for captured script = script_items.items captured.packets script.lines.items
+
+-- what the report repeats of the words and the capture
+abbrev pub head_for : NetworkAsked → Captured → Head
+head_for s captured = record {
+  kind = s.kind;
+  names = s.instances.names;
+  window = s.window;
+  packets = length captured.packets;
+  skipped = captured.skipped;
+  cut = captured.cut;
+}
+
+-- what words, capture and script give a run: the site, what was captured, and the script
+pub record Given : Type 0 where
+  pub site : Site
+  pub captured : Captured
+  pub script : TheScript
+
+-- what a run gives: its choices, and the text of each result
+pub record Gives : Type 0 where
+  pub choices : List Choice
+  pub texts : Role → List ℕ
+
+module _ {R : Type 0} (F : Type 0) (f : Semantics R) (s : NetworkAsked) (g : Given) where
+  -- the network at its start
+  abbrev pub start_for : Global → Network (Node F R) Msg Note
+  start_for alloc = started alloc (config_for s g.site g.script.routes.items) (items_for g.captured g.script)
+
+  -- a run from the start to a world in which nothing is left to do, by the schedule if there is one, with its report and its journal
+  pub record IsRunOf (by : Option Schedule) (made : Gives) : Type 0 where
+    pub alloc : Global
+    pub world : Network (Node F R) Msg Note
+    pub leads : LeadsTo f (start_for alloc) made.choices world
+    pub complete : is_done node_ended world ≡ true
+    pub scheduled : (schedule : Schedule) → by ≡ Some schedule → made.choices ≡ chosen f (start_for alloc) schedule
+    pub promises : Promises f (config_for s g.site g.script.routes.items) (items_for g.captured g.script) world
+    pub completed : Completed f (config_for s g.site g.script.routes.items) (items_for g.captured g.script) world
+    pub home : AllHome (config_for s g.site g.script.routes.items) world
+    pub report : made.texts Report ≡ report_text f (head_for s g.captured) s.summary world
+    pub journal : made.texts JournalOut ≡ journal_bytes s.kind (length s.instances.names) made.choices
+
+  -- a schedule has taken so many steps, and doesn't come to such a world
+  pub record StopsShort (schedule : Schedule) (step : ℕ) : Type 0 where
+    pub alloc : Global
+    pub stops : StopsAt f (start_for alloc) schedule step
+
+  -- these choices aren't a complete run, which shows at this step
+  pub record IsNoRun (choices : List Choice) (step : ℕ) : Type 0 where
+    pub alloc : Global
+    pub cause : IsCause f (start_for alloc) choices step
+
+-- the same, for the function that the words name
+abbrev pub HasRun : Kind → NetworkAsked → Given → Option Schedule → Gives → Type 0
+HasRun kinds.Conntrack = IsRunOf Conntrack conntrack
+HasRun kinds.Nat = IsRunOf Nat nat
+HasRun kinds.Monitor = IsRunOf Monitor monitor
+
+abbrev pub HasShortRun : Kind → NetworkAsked → Given → Schedule → ℕ → Type 0
+HasShortRun kinds.Conntrack = StopsShort Conntrack conntrack
+HasShortRun kinds.Nat = StopsShort Nat nat
+HasShortRun kinds.Monitor = StopsShort Monitor monitor
+
+abbrev pub HasNoRun : Kind → NetworkAsked → Given → List Choice → ℕ → Type 0
+HasNoRun kinds.Conntrack = IsNoRun Conntrack conntrack
+HasNoRun kinds.Nat = IsNoRun Nat nat
+HasNoRun kinds.Monitor = IsNoRun Monitor monitor

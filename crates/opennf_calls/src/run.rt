@@ -1,0 +1,57 @@
+//! The command `run`: a run of the network by threads.
+ghost use Rattle.std.specs.Prelude.{◌≡◌, MatchResult, []};
+ghost use Rattle.command_words.specs.Plan.{asks_run};
+ghost use Rattle.command_words.specs.RequestViews.{network_view};
+ghost use Rattle.opennf_calls.specs.Outcome.{IsBound, ForResults, RowOf};
+ghost use Rattle.opennf_calls.specs.Phases.{CanRun, OnlyRead, Performs, gives};
+
+use crate::inputs::read_inputs;
+use crate::network::{Made, run_threaded};
+use crate::outcome::Outcome;
+use crate::results::write_results;
+use crate::status::Status;
+use actor_threads::Gate;
+use command_words::NetworkRequest;
+use nf_io::Outside;
+use std::alloc::Global;
+use std::sync::Wait;
+use std::thread::Threads;
+
+/// Reads the script and the capture, whose files are bound, runs the network by threads, and writes its journal, if the words name a file
+/// for it, and its report.
+pub fn run<R: Threads + Wait + Sync, O: Outside, G: Gate>(
+    rt: &R,
+    alloc: Global,
+    asked: &NetworkRequest<'_>,
+    outside: &mut O,
+    gate: &G,
+) -> Outcome
+    requires bound { IsBound (asks_run (network_view asked.now)) (O.seen outside.old) }
+    requires runs { CanRun (network_view asked.now) }
+    ensures { Performs (asks_run (network_view asked.now)) (O.seen outside.old) (O.seen outside.new) result }
+{
+    match make(rt, alloc, asked, outside, gate) {
+        Ok(made) => write_results(alloc, asked, made, outside),
+        Err(status) => Outcome::refused(alloc, status),
+    }
+}
+
+/// Reads the inputs and runs the network.
+fn make<R: Threads + Wait + Sync, O: Outside, G: Gate>(
+    rt: &R,
+    alloc: Global,
+    asked: &NetworkRequest<'_>,
+    outside: &mut O,
+    gate: &G,
+) -> Result<Made, Status>
+    requires bound { IsBound (asks_run (network_view asked.now)) (O.seen outside.old) }
+    requires runs { CanRun (network_view asked.now) }
+    ensures only { OnlyRead (O.seen outside.old) (O.seen outside.new) }
+    ensures row { MatchResult result
+        (λ made. ForResults (asks_run (network_view asked.now)) (O.seen outside.old) (O.seen outside.new) (λ g. g ≡ gives (network_view asked.now) made))
+        (λ status. RowOf (asks_run (network_view asked.now)) (O.seen outside.old) (O.seen outside.new) [] status) }
+{
+    let inputs = read_inputs(alloc, asked, outside)?;
+    let made = run_threaded(rt, alloc, asked, inputs, gate)?;
+    Ok(made)
+}
