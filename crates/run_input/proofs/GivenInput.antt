@@ -1,7 +1,6 @@
 -- What was made of the words' values, a script and a trace is an input of the network.
-use Rattle.std.proofs.Common.{◌≡◌, ℕ, ◌<◌, ◌^◌, false, List, length, arith}
+use Rattle.std.proofs.Common.{◌≡◌, ℕ, ◌<◌, ◌^◌, List, length, arith}
 use Rattle.std.specs.Prelude.{All}
-use Rattle.std.proofs.lemmas.List.{length-replicate}
 use Rattle.flow_filter.specs.declared.filter.Filter.{Filter}
 use Rattle.flow_filter.specs.declared.packet.Packet.{Packet}
 use Rattle.flow_filter.specs.Filter.{IsFilter}
@@ -37,7 +36,7 @@ is_config setting script ps g = record {
   some = g.setting_is.some;
   few = g.setting_is.few;
   limits = g.setting_is.limits;
-  marks = length-replicate (length setting.names.now) false;
+  marks = g.setting_is.marks;
   window = g.setting_is.window;
   routes = routes_there setting.names.now script.routes.items g.script_is.routes;
 }

@@ -1,5 +1,5 @@
 -- What a run is given: the configuration and the input, of the words' values, a script and a trace. This project's own.
-use Rattle.std.specs.Prelude.{◌≡◌, ◌≤◌, ℕ, false, List, [], ◌∷◌, length, replicate, Option, None, Some}
+use Rattle.std.specs.Prelude.{◌≡◌, ◌≤◌, ℕ, List, [], ◌∷◌, length, Option, None, Some}
 use Rattle.flow_filter.specs.declared.filter.Filter.{Filter}
 use Rattle.switch_node.specs.declared.switch.TheConstants.{MOST_WINDOW}
 use Rattle.nf_msgs.specs.declared.command.Order.{Order}
@@ -11,11 +11,12 @@ use Rattle.op_script.specs.declared.script.What.TheVariants as what
 use Rattle.nf_net.specs.declared.config.Config.{Config}
 use Rattle.run_input.specs.declared.setting.Setting.{Setting}
 
--- 1 to 16 instances with a limit each, and a window
+-- 1 to 16 instances, each with a limit and marked or not, and a window
 pub record IsSetting (setting : Setting) : Type 0 where
   pub some : 1 ≤ length setting.names.now
   pub few : length setting.names.now ≤ MOST_INSTANCES
   pub limits : length setting.limits.now ≡ length setting.names.now
+  pub marks : length setting.marked.now ≡ length setting.names.now
   pub window : (1 ≤ setting.window) × (setting.window ≤ MOST_WINDOW)
 
 -- the number of a command that is a copy or a share
@@ -38,12 +39,12 @@ abbrev pub first_unbuilt : List Line → Option ℕ
 first_unbuilt [] = None
 first_unbuilt (line ∷ more) = or_else (unbuilt line.what) (first_unbuilt more)
 
--- the network that the words and the routes ask for: no instance is marked
+-- the network that the words and the routes ask for
 abbrev pub config_of : Setting → List (Filter × ℕ) → Config
 config_of setting routes = record {
   names = setting.names.now;
   limits = setting.limits.now;
-  marked = replicate (length setting.names.now) false;
+  marked = setting.marked.now;
   site = setting.site;
   window = setting.window;
   routes = routes;

@@ -127,7 +127,7 @@ fn is_flow(_flow: Flow)
     ensures { IsFlow _flow }
 {}
 
-/// What the network is made of: instances without marks, and the routes.
+/// What the network is made of: what the words say, and the routes.
 fn config_of(
     alloc: Global,
     setting: &Setting<'_>,
@@ -135,11 +135,10 @@ fn config_of(
 ) -> Result<Config, NoMemory>
     ensures { IfOk result (λ config. config ≡ config_of setting.now routes.now) }
 {
-    let marked = vec![in alloc; false; setting.names.len()]?;
     Ok(Config {
         names: names_of(alloc, setting.names)?,
         limits: Sequence::from_vec(Vec::from_slice(alloc, setting.limits)?),
-        marked: Sequence::from_vec(marked),
+        marked: Sequence::from_vec(Vec::from_slice(alloc, setting.marked)?),
         site: setting.site,
         window: setting.window,
         routes: Sequence::from_vec(Vec::from_slice(alloc, routes)?),

@@ -10,6 +10,8 @@ pub struct Setting<'a> {
     pub names: &'a [Name],
     /// How many records each instance takes.
     pub limits: &'a [u32],
+    /// Which instances read chunks of version 1 alone.
+    pub marked: &'a [bool],
     pub site: Site,
     /// How many packets may be under way.
     pub window: u32,

@@ -69,10 +69,12 @@ fn given(alloc: Global, text: &[u8]) -> Result<Result<(Config, Vec<Msg>), InputF
     let names = instances(alloc)?;
     let script = read_script(alloc, text, Kind::Conntrack, names.as_slice())?;
     let limits = [5, 7];
+    let marked = [false, true];
     let setting = Setting {
         kind: Kind::Conntrack,
         names: names.as_slice(),
         limits: limits.as_slice(),
+        marked: marked.as_slice(),
         site: site(),
         window: 3,
     };
@@ -117,7 +119,7 @@ fn a_script_without_lines_gives_the_packets_alone(rt: HostRuntime) -> Result<(),
     let (config, items) = given(rt.alloc(), b"".as_slice())??;
     assert_eq!(rt; config.names.items().len(), 2);
     assert_eq!(rt; config.limits.items(), [5, 7].as_slice());
-    assert_eq!(rt; config.marked.items(), [false, false].as_slice());
+    assert_eq!(rt; config.marked.items(), [false, true].as_slice());
     assert_eq!(rt; (config.window, config.site), (3, site()));
     assert_eq!(rt; config.routes.items().len(), 0);
     let (kinds, _numbers) = shown(rt.alloc(), items.as_slice())?;
