@@ -66,9 +66,9 @@ module _ (F : Type 0) {R : Type 0} (f : Semantics R) (laws : FunctionLaws f) (al
 
   module _ (w : Network (Node F R) Msg Note) (j : Joined f g n w) (busy : AreUnderWay f c items is n w j) where
     at_places : (k p : ℕ) (m : Msg) → IsTaken f g n (scene f laws g (all_fit f c items is) n refl w j) (record { node = k; port = p; message = m }) → AtPlaces w.log (step (node_of j.nodes k) p m).notes
-    at_places zero p m is_taken front back number i output e = absurd (processed_off front back number i output (switch_step j.nodes.switch m).notes (switch_unprocessed j.nodes.switch m) e)
-    at_places (suc zero) p m is_taken front back number i output e = absurd (processed_off front back number i output (controller_step j.nodes.controller p m).notes (uninstalled_unprocessed _ (controller_uninstalled j.nodes.controller p m)) e)
-    at_places (suc (suc y)) p m is_taken front back number i output e = processed_place f laws c items is n w j busy y p m is_taken front back number i output e
+    at_places zero p m it front back number i output e = absurd (processed_off front back number i output (switch_step j.nodes.switch m).notes (switch_unprocessed j.nodes.switch m) e)
+    at_places (suc zero) p m it front back number i output e = absurd (processed_off front back number i output (controller_step j.nodes.controller p m).notes (uninstalled_unprocessed _ (controller_uninstalled j.nodes.controller p m)) e)
+    at_places (suc (suc y)) p m it front back number i output e = processed_place f laws c items is n w j busy y p m it front back number i output e
 
     next_places : (d : Choice) → Taking node_ready step n w d → ArePlaces c items f.kind w.log → ArePlaces c items f.kind (taken step w d).log
     next_places d t h =

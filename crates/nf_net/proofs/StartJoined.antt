@@ -77,9 +77,9 @@ module _ (kind : Kind) where
   ]
 
   -- for a unit that packets may have it is the first route whose filter takes it
-  route_is : (u : units.Unit) → unit_fits kind u ≡ true → (rs : List (Filter × ℕ)) → Each (λ r. is_whole kind r.0 ≡ true) rs → route kind rs u ≡ first_owner u rs
+  route_is : (u : units.Unit) → unit_fits kind u ≡ true → (rs : List (Filter × ℕ)) → Each (λ r. is_whole kind r.0 ≡ true) rs → route rs u ≡ first_owner u rs
   route_is u fits [] h = refl
-  route_is u fits (r ∷ rs) h = ap (λ b. if b then r.1 else route kind rs u) (takes_same kind r.0 u h.0 fits) ∙ ap (λ k. if takes r.0 u then r.1 else k) (route_is u fits rs h.1)
+  route_is u fits (r ∷ rs) h = ap (λ b. if b then r.1 else route rs u) (takes_same kind r.0 u h.0 fits) ∙ ap (λ k. if takes r.0 u then r.1 else k) (route_is u fits rs h.1)
 
 module _ {R : Type 0} (f : Semantics R) (c : Config) (items : List Msg) (is : IsInput f.kind c items) where
   abbrev pub given : Given

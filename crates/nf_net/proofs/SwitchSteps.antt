@@ -77,7 +77,7 @@ module _ {F R : Type 0} (f : Semantics R) (g : Given) (n : ℕ) (x : Scene F f g
   seen_step m a rest t sends notes seen waits follows labels switch told =
       let next = sw_next (S f g) x.world 1 a in
       let moved = switch_every (S f g) (is_sys f g.site g.packet) x.world (λ u. those (is_of f g u) (arrived x.log)) (λ u. loose_by g u (installed x.log)) (λ u. loose_by g u (installed (x.log ++ notes))) are.every 1 a rest refl waits told.stays told.hands in
-      let every = every_same (S f g) (is_sys f g.site g.packet) next _ (λ u. those (is_of f g u) (arrived (x.log ++ notes))) _ _ (λ u. ap (those (is_of f g u)) (sym told.came)) (λ u. refl) moved in
+      let every = every_same (S f g) (is_sys f g.site g.packet) next _ (λ u. those (is_of f g u) (arrived (x.log ++ notes))) (λ u. loose_by g u (installed (x.log ++ notes))) (λ u. loose_by g u (installed (x.log ++ notes))) (λ u. ap (those (is_of f g u)) (sym told.came)) (λ u. refl) moved in
       let same : nums (links_after x.world.link 1 0 (sw_sends a) 0 1) ≡ nums (x.world.link 0 1) = nums_put (x.world.link 0 1) 1 (sw_sends a) (sw_none a) in
       record {
         nodes = record x.nodes { switch = t };
