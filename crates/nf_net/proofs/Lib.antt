@@ -19,6 +19,7 @@ pub mod EndRuns
 pub mod EndTables
 pub mod EveryRun
 pub mod FiltersApart
+pub mod HandedUnits
 pub mod InputLemmas
 pub mod InstallCounts
 pub mod InstallRuns
@@ -42,7 +43,6 @@ pub mod Outline
 pub mod OutputLemmas
 pub mod OutputSteps
 pub mod OwnerLemmas
-pub mod OwnerSteps
 pub mod PacketCounts
 pub mod PlaceNotes
 pub mod PlaceRuns
