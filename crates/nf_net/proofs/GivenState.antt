@@ -1,6 +1,6 @@
 -- The pieces of a stream say how many units are given, and whether one of them has a record with a time; and a record has one exactly where a
 -- packet of its unit came later than at time 0.
-use Rattle.std.proofs.Common.{◌≡◌, ℕ, zero, suc, ◌^◌, Bool, true, false, cond, Option, Some, None, List, [], ◌∷◌, map, length, take, drop, refl, sym, ap, ◌∙◌, subst, arith}
+use Rattle.std.proofs.Common.{◌≡◌, ℕ, zero, suc, Bool, true, false, cond, Option, Some, None, List, [], ◌∷◌, map, length, take, drop, refl, sym, ap, ◌∙◌, subst}
 use Rattle.std.specs.Prelude.{if◌then◌else◌, ◌&&◌, ◌||◌, max, nat_le}
 use Rattle.std.specs.List.{list_any, IsDistinct, AllByRecursion}
 use Rattle.std.specs.Map.{keys_of}
@@ -31,10 +31,6 @@ use Rattle.nf_net.specs.Promises.{fold}
 use Rattle.nf_net.proofs.Outline.{newest_in}
 use Rattle.nf_net.proofs.StateOutline.{newest_made}
 
--- the version of state, by whether a time is in it
-abbrev pub version_of : Bool → ℕ
-version_of timed = if timed then 2 else 1
-
 -- what each piece says of all
 abbrev pub IsOf : Whole → Piece → Type 0
 IsOf whole p = (p.total ≡ whole.total) × (p.newest ≡ whole.newest)
@@ -61,25 +57,25 @@ module _ {R : Type 0} (f : Semantics R) (laws : FunctionLaws f) where
   units_length [] = refl
   units_length (e ∷ es) = ap suc (units_length es)
 
-  newest_by : (a b : Bool) → max (version_number a) (version_of b) ≡ version_of (a || b)
+  newest_by : (a b : Bool) → max (version_number a) (version_number b) ≡ version_number (a || b)
   newest_by true true = refl
   newest_by true false = refl
   newest_by false true = refl
   newest_by false false = refl
 
-  newest_is : (test : units.Unit → Bool) (es : Chunks R) → Each (λ e. f.is_timed e.1 ≡ test e.0) es → newest_in f es ≡ version_of (list_any test (map (λ e. e.0) es))
+  newest_is : (test : units.Unit → Bool) (es : Chunks R) → Each (λ e. f.is_timed e.1 ≡ test e.0) es → newest_in f es ≡ version_number (list_any test (map (λ e. e.0) es))
   newest_is test [] h = refl
   newest_is test (e ∷ es) h = let here = h.0 in let rest = newest_is test es h.1 in rw (rest, here) (newest_by (test e.0) (list_any test (map (λ x. x.0) es)))
 
   -- the state that an instance gives: how many units, and of which version
   pub record Gives (test : units.Unit → Bool) (chunks : List Chunk) : Type 0 where
     pub number : length (units_in chunks) ≡ length chunks
-    pub version : newest_version chunks ≡ version_of (list_any test (units_in chunks))
+    pub version : newest_version chunks ≡ version_number (list_any test (units_in chunks))
 
   entries_give : (test : units.Unit → Bool) (es : Chunks R) → Each (λ e. f.is_timed e.1 ≡ test e.0) es → Gives test (map (λ e. record_chunk f e.0 e.1) es)
   entries_give test es h = record {
     number = units_length es;
-    version = newest_made f laws es ∙ newest_is test es h ∙ ap (λ us. version_of (list_any test us)) (sym (units_made es));
+    version = newest_made f laws es ∙ newest_is test es h ∙ ap (λ us. version_number (list_any test us)) (sym (units_made es));
   }
 
 -- Each entry of a map is found.

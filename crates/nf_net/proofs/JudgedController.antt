@@ -1,6 +1,6 @@
 -- The controller's step keeps what is known of open moves and of their answers, asks once for a command's state, and puts one piece of it first.
-use Rattle.std.proofs.Common.{◌≡◌, ℕ, ◌+◌, ◌≤◌, Bool, true, false, cond, Option, Some, None, List, [], ◌∷◌, ◌++◌, refl, sym, ap, ◌∙◌, subst, arith}
-use Rattle.std.specs.Prelude.{if◌then◌else◌, ◌&&◌, ◌||◌, ◌==◌, not, is_some, option_map, unwrap_or}
+use Rattle.std.proofs.Common.{◌≡◌, ℕ, ◌+◌, ◌≤◌, Bool, true, false, cond, Option, Some, None, List, [], ◌∷◌, ◌++◌, get_or, refl, sym, ap, ◌∙◌, subst, arith}
+use Rattle.std.specs.Prelude.{if◌then◌else◌, ◌==◌, is_some, option_map, unwrap_or}
 use Rattle.std.specs.Option.{option_or}
 use Rattle.std.specs.FinMap as finite
 use Rattle.std.proofs.lemmas.Bool.Decides.{nat_tests, Decides-eqb}
@@ -18,14 +18,13 @@ use Rattle.nf_msgs.specs.declared.msg.Msg.TheVariants as msg
 use Rattle.nf_msgs.specs.declared.note.Note.{Note}
 use Rattle.nf_msgs.specs.declared.note.Note.TheVariants as note
 use Rattle.nf_msgs.specs.Shown.{op_of}
-use Rattle.move_op.specs.declared.phase.Phase.{Phase}
 use Rattle.move_op.specs.Move.{MovePlan, MoveState, Row, row_in, begun, answer_of, destination}
 use Rattle.event_store.specs.Store.{stored}
 use Rattle.ctrl_node.specs.declared.operation.Operation.{Operation}
 use Rattle.ctrl_node.specs.declared.operation.Operation.TheVariants.{Move}
 use Rattle.ctrl_node.specs.Operations.{OpenOperations, turn_of, moved}
 use Rattle.ctrl_node.specs.Controller as controller
-use Rattle.ctrl_node.specs.Controller.{ControllerState, Step, still, refusal, place_of, begins_between, begins, decided, on_asked, after_turn, takes_turn, handed, numbered, on_event, on_final, instance_at, unknown_name, overlap, may_finish, finish_of, finished, controller_step}
+use Rattle.ctrl_node.specs.Controller.{ControllerState, Step, still, refusal, place_of, begins_between, begins, decided, on_asked, after_turn, takes_turn, handed, numbered, on_event, on_final, instance_at, unknown_name, overlap, may_finish, finished, controller_step}
 use Rattle.actor_net.proofs.WeightLaws.{EachSent, sent_weight}
 use Rattle.unit_machine.proofs.Labels.{Each}
 use Rattle.nf_net.specs.Commands.{began, answers_of}
@@ -33,9 +32,8 @@ use Rattle.nf_net.specs.Verdicts.{is_refusal}
 use Rattle.nf_net.proofs.BusyChanges.{got_insert, got_remove, gone_twice}
 use Rattle.nf_net.proofs.BusyLemmas.{began_same}
 use Rattle.nf_net.proofs.CreditCounts.{sent_weight-append}
-use Rattle.nf_net.proofs.LogLemmas.{has_begun-append}
 use Rattle.nf_net.proofs.MoveJudged.{Said, Knows, answer_known, row_follows, sent-append}
-use Rattle.nf_net.proofs.MoveOnce.{once, spent, spent_few, NoneOnce, no_one, row_spends, Spends}
+use Rattle.nf_net.proofs.MoveOnce.{once, spent, spent_few, NoneOnce, no_one, row_spends}
 
 -- a note of a command's begin or answer
 abbrev pub is_own : Note → Bool
@@ -64,9 +62,12 @@ abbrev pub IsNew : List Note → Msg → Type 0
 IsNew log (msg.Asked a) = began a.op log ≡ false
 IsNew log m = Unit {0}
 
-move_in : MoveState → Option Operation → MoveState
+abbrev move_in : MoveState → Option Operation → MoveState
 move_in d (Some (Move m)) = m
 move_in d None = d
+
+same_answer : (a b : Answer) → a ∷ [] ≡ b ∷ [] → a ≡ b
+same_answer a b is = ap (λ xs. get_or xs 0 a) is
 
 module _ (Part : ℕ → Piece → Type 0) (Verdict : ℕ → Answer → Type 0) (Goes : ℕ → ℕ → Type 0) (log : List Note) (n : ℕ) (c : ControllerState) where
   -- the answer to a command that began is its verdict, and others are refused
@@ -181,7 +182,7 @@ module _ (Part : ℕ → Piece → Type 0) (Verdict : ℕ → Answer → Type 0)
           found = λ k b is. elim (op == k) as (λ t. (op == k) ≡ t → (if t then a ∷ [] else []) ≡ b ∷ [] → IsFound k b) [
             | true ↦ λ on given.
                 let it : op ≡ k = (Decides-eqb op k).0 on in
-                let its : a ≡ b = first_of a b given in
+                let its : a ≡ b = same_answer a b given in
                 subst (λ j. IsFound j b) it (subst (λ z. IsFound op z) its (record {
                   known = λ _. answer_known Part Verdict Goes op r.next.phase a knows_next e;
                   refused = λ never. (let on = sym (busy op mv there) ∙ never in cc);
@@ -205,13 +206,6 @@ module _ (Part : ℕ → Piece → Type 0) (Verdict : ℕ → Answer → Type 0)
           where
             gone : (k : ℕ) → finite.get (finite.remove (finite.insert c.operations op (Move x)) op) k ≡ cond (k == op) None (finite.get c.operations k)
             gone k = got_remove (finite.insert c.operations op (Move x)) op k ∙ ap (λ o. cond (k == op) None o) (got_insert c.operations op k (Move x)) ∙ gone_twice (k == op) (Some (Move x)) (finite.get c.operations k)
-
-            first_of : (y z : Answer) → y ∷ [] ≡ z ∷ [] → y ≡ z
-            first_of y z given = ap (λ zs. unwrap_or (first_in zs) y) given
-              where
-                first_in : List Answer → Option Answer
-                first_in [] = None
-                first_in (w ∷ ws) = Some w
 
       turn_is : (op port : ℕ) (m : Msg) (o : Option Operation) → finite.get c.operations op ≡ o → op_of m ≡ Some op → Said Part Verdict Goes port 1 m → StepIs (takes_turn c op (turn_of o c.store port m))
       turn_is op port m None is own label = quiet_is (record c { operations = c.operations; store = c.store }) [] refl tt (λ first k. refl)
@@ -278,7 +272,7 @@ module _ (Part : ℕ → Piece → Type 0) (Verdict : ℕ → Answer → Type 0)
               found = λ k b given. elim (op == k) as (λ t. (op == k) ≡ t → (if t then a ∷ [] else []) ≡ b ∷ [] → IsFound k b) [
                 | true ↦ λ on e.
                     let it : op ≡ k = (Decides-eqb op k).0 on in
-                    let its : a ≡ b = ap (λ zs. unwrap_or (first_in zs) a) e in
+                    let its : a ≡ b = same_answer a b e in
                     subst (λ j. IsFound j b) it (subst (λ z. IsFound op z) its (record { known = λ never. (let on = sym new ∙ never in cc); refused = λ _. cause }))
                 | false ↦ λ off never. cc
               ] refl given;
@@ -289,10 +283,6 @@ module _ (Part : ℕ → Piece → Type 0) (Verdict : ℕ → Answer → Type 0)
                   let here = ap (λ b. used (finite.get c.operations k) b first) same in
                   omega (arith, sent, here);
             }
-          where
-            first_in : List Answer → Option Answer
-            first_in [] = None
-            first_in (w ∷ ws) = Some w
 
       asked_is : (op : ℕ) (what : Order) → began op log ≡ false → StepIs (on_asked c (record { op = op; what = what }))
       asked_is op what new = by_got (finite.get c.operations op) refl

@@ -1,10 +1,11 @@
 -- What is known of a move's pieces by the log, and of its verdict by the choices so far: it stays known as both go on.
-use Rattle.std.proofs.Common.{◌≡◌, ℕ, ◌+◌, Bool, true, false, Option, Some, None, List, [], ◌∷◌, ◌++◌, length, refl, sym, ap, ◌∙◌, subst}
+use Rattle.std.proofs.Common.{◌≡◌, ℕ, ◌+◌, Bool, true, false, Some, None, List, [], ◌∷◌, ◌++◌, length, refl, sym, ap, ◌∙◌}
 use Rattle.std.specs.Prelude.{if◌then◌else◌, ◌&&◌, ◌||◌, ◌==◌, nat_lt}
 use Rattle.std.specs.List.{list_any}
 use Rattle.std.specs.FinMap as finite
 use Rattle.nf_function.specs.declared.unit.Unit as units
 use Rattle.nf_function.specs.Semantics.{Semantics}
+use Rattle.state_chunk.specs.Format.{version_number}
 use Rattle.nf_msgs.specs.declared.answer.Answer.{Answer}
 use Rattle.nf_msgs.specs.declared.answer.Answer.TheVariants.{Done, Import, Old}
 use Rattle.nf_msgs.specs.declared.msg.Piece.{Piece}
@@ -20,29 +21,27 @@ use Rattle.actor_net.proofs.WeightLaws.{Each, OnLinks}
 use Rattle.unit_machine.proofs.Labels as labels
 use Rattle.nf_net.specs.declared.config.Config.{Config}
 use Rattle.nf_net.specs.declared.node.Node.{Node}
-use Rattle.nf_net.specs.Commands.{began, answers_of}
+use Rattle.nf_net.specs.Commands.{began}
 use Rattle.nf_net.specs.Input.{order_of}
 use Rattle.nf_net.specs.Nodes.{node_step}
 use Rattle.nf_net.specs.Verdicts.{Weighed, verdict, is_refusal, exported, before_export, is_timed, receiver_of, IsWeighed, IsTakenAfter}
-use Rattle.nf_net.proofs.GivenState.{version_of}
 use Rattle.nf_net.proofs.JudgedInstance.{answer_by}
 use Rattle.nf_net.proofs.LogLemmas.{has_begun-append}
 use Rattle.nf_net.proofs.MoveJudged.{Said, Knows}
 use Rattle.nf_net.proofs.VerdictLemmas.{exported_kept, before_export_kept, taken_more}
-use Rattle.move_op.specs.declared.door.Door.{Door}
 use Rattle.move_op.specs.declared.door.Door.TheVariants as door
 use Rattle.move_op.specs.declared.phase.Phase.{Phase}
 use Rattle.move_op.specs.declared.phase.Phase.TheVariants as phase
 
 -- an instance's answer is the verdict by what it holds, and by what the piece says
-pub answer_is : {F R : Type 0} (i : Instance F R) (piece : Piece) (timed : Bool) → piece.newest ≡ version_of timed → answer_by (refusal i piece) ≡ verdict (record { held = finite.len i.table.live; coming = piece.total; limit = i.limit; marked = i.marked; timed = timed })
+pub answer_is : {F R : Type 0} (i : Instance F R) (piece : Piece) (timed : Bool) → piece.newest ≡ version_number timed → answer_by (refusal i piece) ≡ verdict (record { held = finite.len i.table.live; coming = piece.total; limit = i.limit; marked = i.marked; timed = timed })
 answer_is i piece timed newest =
     elim (nat_lt i.limit (finite.len i.table.live + piece.total)) as (λ b. answer_by (if b then Some (Import (finite.len i.table.live) piece.total i.limit) else if i.marked && nat_lt 1 piece.newest then Some (Old piece.newest 1) else None) ≡ (if b then Import (finite.len i.table.live) piece.total i.limit else if i.marked && timed then Old 2 1 else Done)) [
       | true ↦ refl
       | false ↦ by_version i.marked timed piece.newest newest
     ]
   where
-    by_version : (marked t : Bool) (version : ℕ) → version ≡ version_of t → answer_by (if marked && nat_lt 1 version then Some (Old version 1) else None) ≡ (if marked && t then Old 2 1 else Done)
+    by_version : (marked t : Bool) (version : ℕ) → version ≡ version_number t → answer_by (if marked && nat_lt 1 version then Some (Old version 1) else None) ≡ (if marked && t then Old 2 1 else Done)
     by_version true true version e = rw e refl
     by_version true false version e = rw e refl
     by_version false t version e = refl
@@ -53,7 +52,7 @@ module _ {F R : Type 0} (f : Semantics R) (c : Config) (items : List Msg) (start
     pub units : List units.Unit
     pub units_are : exported op log ≡ Some units
     pub total : piece.total ≡ length units
-    pub newest : piece.newest ≡ version_of (list_any (λ unit. is_timed f c items unit (before_export op log)) units)
+    pub newest : piece.newest ≡ version_number (list_any (λ unit. is_timed f c items unit (before_export op log)) units)
 
   -- the node of the instance to which a command moves units
   pub record IsGoing (op : ℕ) (node : ℕ) : Type 0 where
@@ -74,7 +73,7 @@ module _ {F R : Type 0} (f : Semantics R) (c : Config) (items : List Msg) (start
     units = h.units;
     units_are = exported_kept op log notes h.units h.units_are;
     total = h.total;
-    newest = h.newest ∙ ap (λ l. version_of (list_any (λ unit. is_timed f c items unit l) h.units)) (sym (before_export_kept op log notes h.units h.units_are));
+    newest = h.newest ∙ ap (λ l. version_number (list_any (λ unit. is_timed f c items unit l) h.units)) (sym (before_export_kept op log notes h.units h.units_are));
   }
 
   pub verdict_kept : (cs : List Choice) (d : Choice) (op : ℕ) (answer : Answer) → HasVerdict cs op answer → HasVerdict (cs ++ d ∷ []) op answer

@@ -1,5 +1,5 @@
 -- Each node's step keeps what is known of moves: an instance weighs the first piece that comes, by what it holds and by what the piece says.
-use Rattle.std.proofs.Common.{◌≡◌, ◌≢◌, ℕ, zero, suc, ◌+◌, ◌<◌, ◌≤◌, Bool, true, false, Option, Some, None, List, [], ◌∷◌, ◌++◌, length, get_or, append-nil, refl, sym, ap, ◌∙◌, subst, arith}
+use Rattle.std.proofs.Common.{◌≡◌, ℕ, zero, suc, ◌+◌, ◌<◌, ◌≤◌, Bool, true, false, Some, None, List, [], ◌∷◌, ◌++◌, length, get_or, append-nil, refl, sym, ap, ◌∙◌, subst, arith}
 use Rattle.std.specs.Prelude.{if◌then◌else◌, ◌&&◌, ◌||◌, ◌==◌, not, nat_lt, is_some, slice_get, slice_index, slice_index_or}
 use Rattle.std.specs.List.{list_any}
 use Rattle.std.specs.declared.alloc.Global.{Global}
@@ -12,15 +12,13 @@ use Rattle.nf_function.specs.declared.chunk.Chunk.{Chunk}
 use Rattle.nf_function.specs.declared.unit.Unit as units
 use Rattle.nf_function.specs.Records.{Laws as FunctionLaws}
 use Rattle.nf_function.specs.Semantics.{Semantics}
+use Rattle.state_chunk.specs.Format.{version_number}
 use Rattle.packet_pool.specs.Pool.{FullCell, one_more}
 use Rattle.event_filter.specs.declared.mark.Mark.TheVariants.{Plain}
 use Rattle.switch_rules.specs.declared.target.Target.{Target}
 use Rattle.switch_rules.specs.declared.target.Target.TheVariants as target
 use Rattle.switch_rules.specs.Rules.{redirected}
 use Rattle.nf_msgs.specs.declared.answer.Answer.{Answer}
-use Rattle.nf_msgs.specs.declared.answer.Answer.TheVariants.{Done}
-use Rattle.nf_msgs.specs.declared.command.Command.{Command}
-use Rattle.nf_msgs.specs.declared.command.Order.{Order}
 use Rattle.nf_msgs.specs.declared.msg.Piece.{Piece}
 use Rattle.nf_msgs.specs.declared.msg.Msg.{Msg}
 use Rattle.nf_msgs.specs.declared.msg.Msg.TheVariants as msg
@@ -30,14 +28,14 @@ use Rattle.nf_msgs.specs.Exports.{units_in}
 use Rattle.nf_msgs.specs.Nodes.{instance_node}
 use Rattle.move_op.specs.Move.{MoveState, destination}
 use Rattle.ctrl_node.specs.declared.operation.Operation.TheVariants.{Move}
-use Rattle.ctrl_node.specs.Controller.{ControllerState, controller_step}
+use Rattle.ctrl_node.specs.Controller.{controller_step}
 use Rattle.switch_node.specs.Switch as switches
 use Rattle.switch_node.specs.Switch.{SwitchState, switch_step, sends_to_instance, on_packet, on_credit, on_install}
 use Rattle.instance_worker.specs.declared.instance.Instance.{Instance as InstanceState}
 use Rattle.instance_worker.specs.Instance.{refusal, selected, on_stream, instance_step}
-use Rattle.instance_worker.specs.Pieces.{pieces, whole_of, newest_version}
+use Rattle.instance_worker.specs.Pieces.{pieces, whole_of}
 use Rattle.actor_net.specs.declared.choice.Choice.{Choice}
-use Rattle.actor_net.specs.Network.{Network, Stepped, IsRun, is_input, run, taken, waiting}
+use Rattle.actor_net.specs.Network.{Network, Stepped, IsRun, is_input, run, taken}
 use Rattle.actor_net.proofs.EnabledChoices.{at}
 use Rattle.actor_net.proofs.RunInduction.{run_world}
 use Rattle.actor_net.proofs.StepOutcome.{Takes, taken_outcome}
@@ -46,30 +44,30 @@ use Rattle.unit_machine.proofs.Labels.{Each}
 use Rattle.abstract_net.proofs.Readings as readings
 use Rattle.nf_net.specs.declared.config.Config.{Config}
 use Rattle.nf_net.specs.declared.node.Node.{Node}
-use Rattle.nf_net.specs.declared.node.Node.TheVariants.{Switch, Controller, Instance}
-use Rattle.nf_net.specs.Commands.{began, has_answered, is_busy}
-use Rattle.nf_net.specs.Input.{order_of, IsInput}
+use Rattle.nf_net.specs.declared.node.Node.TheVariants.{Controller, Instance}
+use Rattle.nf_net.specs.Commands.{began, has_answered}
+use Rattle.nf_net.specs.Input.{IsInput}
 use Rattle.nf_net.specs.Nodes.{node_step, node_ready}
 use Rattle.nf_net.specs.Promises.{live_in, live_at, went, fold}
 use Rattle.nf_net.specs.Verdicts.{before_export, is_timed, exported, number_in, receiver_of}
 use Rattle.nf_net.proofs.BusyLemmas.{or_off}
 use Rattle.nf_net.proofs.BusyNodes.{switch_hands, instance_says}
 use Rattle.nf_net.proofs.BusyController.{told_in}
-use Rattle.nf_net.proofs.BusyOperations.{IsPlan, IsBusy}
-use Rattle.nf_net.proofs.BusyRuns.{Busy, same_controller, waits_of, busy_is, plan_is}
+use Rattle.nf_net.proofs.BusyOperations.{IsBusy}
+use Rattle.nf_net.proofs.BusyRuns.{Busy, same_controller, busy_is, plan_is}
 use Rattle.nf_net.proofs.CommandPromises.{run_busy}
 use Rattle.nf_net.proofs.CompleteRuns.{fold_is}
-use Rattle.nf_net.proofs.GivenState.{version_of, IsOf, pieces_of, Gives, selected_give, record_timed}
-use Rattle.nf_net.proofs.Joined.{Given, Label, S, Joined, node_of, count}
+use Rattle.nf_net.proofs.GivenState.{IsOf, pieces_of, Gives, selected_give, record_timed}
+use Rattle.nf_net.proofs.Joined.{Given, Label, S, Joined, node_of}
 use Rattle.nf_net.proofs.JoinedSteps.{label, step_leads}
 use Rattle.nf_net.proofs.JudgedController.{used, used_few, is_own, IsNew, controller_judges}
-use Rattle.nf_net.proofs.JudgedFacts.{answer_is, IsPart, IsGoing, HasVerdict, IsFound, Was_refused, Was_judged, began_kept, knows_kept}
+use Rattle.nf_net.proofs.JudgedFacts.{answer_is, IsFound, Was_refused, Was_judged, began_kept, knows_kept}
 use Rattle.nf_net.proofs.JudgedInstance.{answer_by, IsReady, instance_does}
 use Rattle.nf_net.proofs.JudgedSteps as steps
 use Rattle.nf_net.proofs.JudgedSteps.{Judging, Leaves, IsFixed, no_stream_to, none_once}
 use Rattle.nf_net.proofs.LinePicks.{at_controller as way_at_controller}
 use Rattle.nf_net.proofs.MoveJudged.{Said, Knows}
-use Rattle.nf_net.proofs.MoveOnce.{once, counts}
+use Rattle.nf_net.proofs.MoveOnce.{once}
 use Rattle.nf_net.proofs.RecordPromises.{record_is}
 use Rattle.nf_net.proofs.RunsJoined.{start_world, done_same}
 use Rattle.nf_net.proofs.StartJoined.{given, all_fit, count_at_start}
@@ -157,10 +155,10 @@ module _ (F : Type 0) {R : Type 0} (f : Semantics R) (laws : FunctionLaws f) (al
   abbrev w : Network (Node F R) Msg Note
   w = run step cs (steps.start F f alloc c items is)
 
-  j : Joined f g n w
+  abbrev j : Joined f g n w
   j = (run_busy F f laws alloc c items is cs run_is).0
 
-  b : Busy g w
+  abbrev b : Busy g w
   b = (run_busy F f laws alloc c items is cs run_is).1
 
   abbrev Part : List Note → ℕ → Piece → Type 0
@@ -260,15 +258,15 @@ module _ (F : Type 0) {R : Type 0} (f : Semantics R) (laws : FunctionLaws f) (al
         timed_is u r got = record_timed f laws c items (all_fit f c items is) (went f c items u w.log) r (record_by u y r (ap (live_in u) there ∙ got))
 
         part_of : (op : ℕ) (chunks : List Chunk) (log : List Note) → exported op log ≡ Some (units_in chunks) → before_export op log ≡ w.log → Gives f laws (λ u. is_timed f c items u w.log) chunks → (ps : List Piece) → Each (IsOf (whole_of chunks)) ps → Each (Part log op) ps
-        part_of op chunks log units_are before gives [] of = tt
-        part_of op chunks log units_are before gives (q ∷ qs) of = (
+        part_of op chunks log units_are before gives [] each = tt
+        part_of op chunks log units_are before gives (q ∷ qs) each = (
           record {
             units = units_in chunks;
             units_are = units_are;
-            total = of.0.0 ∙ sym gives.number;
-            newest = of.0.1 ∙ gives.version ∙ ap (λ l. version_of (list_any (λ u. is_timed f c items u l) (units_in chunks))) (sym before);
+            total = each.0.0 ∙ sym gives.number;
+            newest = each.0.1 ∙ gives.version ∙ ap (λ l. version_number (list_any (λ u. is_timed f c items u l) (units_in chunks))) (sym before);
           },
-          part_of op chunks log units_are before gives qs of.1,
+          part_of op chunks log units_are before gives qs each.1,
         )
 
         -- the pieces of a stream say what is noted that is given

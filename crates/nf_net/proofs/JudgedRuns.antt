@@ -1,7 +1,6 @@
 -- In every run each move that began is answered by its verdict, which is on what its destination held, and on what came, when it took the first
 -- piece; and each other command is refused.
-use Rattle.std.proofs.Common.{◌≡◌, ℕ, zero, suc, ◌+◌, ◌<◌, ◌≤◌, Bool, true, false, Some, None, List, [], ◌∷◌, ◌++◌, length, refl, sym, ap, ◌∙◌, subst, arith}
-use Rattle.std.specs.Prelude.{◌==◌, find, is_some}
+use Rattle.std.proofs.Common.{◌≡◌, ℕ, zero, ◌+◌, ◌≤◌, Bool, true, false, Some, List, [], ◌∷◌, ◌++◌, length, refl, sym, ap, ◌∙◌, subst, arith}
 use Rattle.std.specs.declared.alloc.Global.{Global}
 use Rattle.std.specs.Ordering.{nat_cmp}
 use Rattle.std.specs.FinMap as finite
@@ -27,22 +26,21 @@ use Rattle.instance_worker.specs.declared.instance.Instance.{Instance as Instanc
 use Rattle.nf_net.specs.declared.config.Config.{Config}
 use Rattle.nf_net.specs.declared.node.Node.{Node}
 use Rattle.nf_net.specs.declared.node.Node.TheVariants.{Instance}
-use Rattle.nf_net.specs.Commands.{began, answers_of, unknown_in, before_first, Answers, IsCause, MayBegin}
+use Rattle.nf_net.specs.Commands.{began, answers_of, before_first, IsCause, MayBegin}
 use Rattle.nf_net.specs.Input.{is_item, order_of, IsInput}
 use Rattle.nf_net.specs.Nodes.{node_step, node_ready}
 use Rattle.nf_net.specs.Start.{first_instance, first_nodes, started}
 use Rattle.nf_net.specs.Verdicts.{is_refusal, IsVerdict, Verdicts}
-use Rattle.nf_net.proofs.BusyRuns.{Busy}
 use Rattle.nf_net.proofs.CommandPromises.{run_busy, run_answers}
-use Rattle.nf_net.proofs.Joined.{Joined, node_of}
+use Rattle.nf_net.proofs.Joined.{node_of}
 use Rattle.nf_net.proofs.JudgedController.{used, used_few}
 use Rattle.nf_net.proofs.JudgedFacts.{HasVerdict, IsFound, Was_refused, Was_judged}
 use Rattle.nf_net.proofs.JudgedNodes.{judging_next}
-use Rattle.nf_net.proofs.JudgedSteps.{Judging, IsFixed, SaidBy, happened}
+use Rattle.nf_net.proofs.JudgedSteps.{Part, Verdict, Goes, Judging, SaidBy, happened}
 use Rattle.nf_net.proofs.MoveJudged.{Said}
 use Rattle.nf_net.proofs.MoveOnce.{once}
 use Rattle.nf_net.proofs.RunsJoined.{start_world}
-use Rattle.nf_net.proofs.StartJoined.{given, count_at_start, start_joined}
+use Rattle.nf_net.proofs.StartJoined.{count_at_start, instance_found}
 use Rattle.nf_net.proofs.StateOutline.{all_each}
 use Rattle.nf_net.proofs.VerdictLemmas.{once_taken, times_taken}
 
@@ -95,15 +93,14 @@ module _ (F : Type 0) {R : Type 0} (f : Semantics R) (laws : FunctionLaws f) (al
     controller = opened_controller c.names c.site;
     controller_is = λ d. refl;
     knows = λ op m there. (let never = sym there ∙ finite.get-empty {X = Operation} nat_cmp op in cc);
-    says = opening_on_links Note (first_nodes {F = F} {R = R} alloc c) items (SaidBy F f alloc c items is [] []) (let count = count_at_start F f alloc c items is in omega (arith, count)) (items_said _ _ _ items only);
+    says = opening_on_links Note (first_nodes {F = F} {R = R} alloc c) items (SaidBy F f alloc c items is [] []) (let count = count_at_start F f alloc c items is in omega (arith, count)) (items_said (Part F f alloc c items is []) (Verdict F f alloc c items is []) (Goes F f alloc c items is) items only);
     found = λ op a e. cc;
     once = λ op first.
         let none = opening_weight Note (first_nodes {F = F} {R = R} alloc c) items (once first op) in
         let zero = items_weigh first op items only in
         by_first first op (omega (arith, none, zero));
     fixed = λ i small s e.
-        let j = start_joined F f alloc c items is in
-        let own : first_instance alloc c i ≡ s = same_instance (first_instance alloc c i) s (sym (j.nodes_are (suc (suc i)) (omega (arith, small)) (Instance s)) ∙ e (Instance s)) in
+        let own : first_instance alloc c i ≡ s = same_instance (first_instance alloc c i) s (sym (instance_found F f alloc c items is (length c.names) i (Instance s) small) ∙ e (Instance s)) in
         record { limit = ap (λ x. x.limit) (sym own); marked = ap (λ x. x.marked) (sym own) };
   }
     where

@@ -1,6 +1,6 @@
 -- What a log says of the state that was given for a command, as it goes on; and of a move whose first piece is taken once, after which
 -- choices that was.
-use Rattle.std.proofs.Common.{◌≡◌, ℕ, ◌+◌, ◌≤◌, Bool, true, false, Option, Some, None, List, [], ◌∷◌, ◌++◌, drop, get_or, append_assoc, refl, sym, ap, ◌∙◌, subst, arith}
+use Rattle.std.proofs.Common.{◌≡◌, ℕ, ◌+◌, ◌≤◌, Bool, true, false, Some, None, List, [], ◌∷◌, ◌++◌, drop, get_or, append_assoc, refl, sym, ap, ◌∙◌, subst, arith}
 use Rattle.std.specs.Prelude.{if◌then◌else◌, ◌==◌}
 use Rattle.std.proofs.lemmas.Bool.Decides.{nat_tests}
 use Rattle.nf_function.specs.declared.unit.Unit as units
@@ -11,7 +11,6 @@ use Rattle.nf_msgs.specs.declared.note.Note.{Note}
 use Rattle.nf_msgs.specs.declared.note.Note.TheVariants as note
 use Rattle.actor_net.specs.declared.choice.Choice.{Choice}
 use Rattle.actor_net.specs.Network.{Network, Stepped, run, taken, waiting}
-use Rattle.actor_net.proofs.RunLaws.{run-append}
 use Rattle.nf_net.specs.declared.node.Node.{Node}
 use Rattle.nf_net.specs.Nodes.{node_step}
 use Rattle.nf_net.specs.Verdicts.{exported, before_export, IsTakenAfter}
@@ -88,11 +87,10 @@ module _ {F R : Type 0} (f : Semantics R) (op : ℕ) where
   times_taken-append [] ds w = omega arith
   times_taken-append (c ∷ cs) ds w = let rest = times_taken-append cs ds (taken step w c) in omega (arith, rest)
 
-  IsThere : Network (Node F R) Msg Note → List Choice → Choice → Type 0
+  abbrev IsThere : Network (Node F R) Msg Note → List Choice → Choice → Type 0
   IsThere w front c = is_first_piece op (waiting (run step front w) c) ≡ true
 
   taken_counts : (w : Network (Node F R) Msg Note) (front back : List Choice) (c : Choice) → IsThere w front c → 1 ≤ times_taken (front ++ c ∷ back) w
-  unfolding IsThere
   taken_counts w front back c h =
       let both = times_taken-append front (c ∷ back) w in
       let here : (if is_first_piece op (waiting (run step front w) c) then 1 else 0) ≡ 1 = rw h refl in
@@ -106,7 +104,6 @@ module _ {F R : Type 0} (f : Semantics R) (op : ℕ) where
 
   -- two in one list are two
   two_taken : (w : Network (Node F R) Msg Note) (c d : Choice) (front xs ys back : List Choice) (e : Choice) → IsThere w [] c → IsThere w (d ∷ front) e → c ∷ xs ≡ d ∷ (front ++ e ∷ back) → 2 ≤ times_taken (c ∷ xs) w
-  unfolding IsThere
   two_taken w c d front xs ys back e first second is =
       let same = head_is c d xs (front ++ e ∷ back) is in
       let more = tail_is c d xs (front ++ e ∷ back) is in
@@ -116,7 +113,6 @@ module _ {F R : Type 0} (f : Semantics R) (op : ℕ) where
       omega (arith, rest', here)
 
   same_front : (w : Network (Node F R) Msg Note) (xs ys back after : List Choice) (c d : Choice) → IsThere w xs c → IsThere w ys d → xs ++ c ∷ back ≡ ys ++ d ∷ after → times_taken (xs ++ c ∷ back) w ≤ 1 → ys ≡ xs
-  unfolding IsThere
   same_front w [] [] back after c d first second is few = refl
   same_front w [] (y ∷ ys) back after c d first second is few =
       let two = two_taken w c y ys back [] after d first second is in
@@ -133,7 +129,6 @@ module _ {F R : Type 0} (f : Semantics R) (op : ℕ) where
       ap (λ v. y ∷ v) rest ∙ ap (λ v. v ∷ xs) (sym same)
 
   there : (w : Network (Node F R) Msg Note) (cs front : List Choice) (t : IsTakenAfter f w cs op front) → IsThere w front t.choice
-  unfolding IsThere
   there w cs front t = let waits = t.waits in let own : (op == op) ≡ true = grind (arith, nat_tests) in rw waits own
 
   -- where it is taken once, those that stand before are these choices alone
