@@ -78,6 +78,10 @@ module _ {R : Type 0} (f : Semantics R) (laws : FunctionLaws f) where
     version = newest_made f laws es ∙ newest_is test es h ∙ ap (λ us. version_number (list_any test us)) (sym (units_made es));
   }
 
+each_less : {X : Type 0} (P Q : X → Type 0) → ((x : X) → P x → Q x) → (xs : List X) → Each P xs → Each Q xs
+each_less P Q h [] ps = tt
+each_less P Q h (x ∷ xs) ps = (h x ps.0, each_less P Q h xs ps.1)
+
 -- Each entry of a map is found.
 module _ {R : Type 0} where
   found_more : (e : units.Unit × R) (es xs : Chunks R) → AllByRecursion (λ v. same_unit e.0 v ≡ false) (keys_of xs) → Each (λ x. at es x.0 ≡ Some x.1) xs → Each (λ x. at (e ∷ es) x.0 ≡ Some x.1) xs
@@ -96,10 +100,6 @@ module _ {R : Type 0} where
     (let own = same_unit_equiv.refl e.0 in rw own refl),
     found_more e es es (IsDistinct-head same_unit e.0 (keys_of es) d) (found_distinct es (IsDistinct-tail same_unit e.0 (keys_of es) d)),
   )
-
-  each_less : {X : Type 0} (P Q : X → Type 0) → ((x : X) → P x → Q x) → (xs : List X) → Each P xs → Each Q xs
-  each_less P Q h [] ps = tt
-  each_less P Q h (x ∷ xs) ps = (h x ps.0, each_less P Q h xs ps.1)
 
   pub entries_found : (m : Records R) → Each (λ e. finite.get m e.0 ≡ Some e.1) (finite.entries m)
   entries_found m = each_less (λ x. at (finite.entries m) x.0 ≡ Some x.1) (λ e. finite.get m e.0 ≡ Some e.1) (λ e h. finite.get-entries m e.0 ∙ h) (finite.entries m) (found_distinct (finite.entries m) (distinct_entries m))

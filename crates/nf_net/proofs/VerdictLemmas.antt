@@ -74,6 +74,12 @@ abbrev pub is_first_piece : ℕ → List Msg → Bool
 is_first_piece op (msg.Put k piece true ∷ rest) = k == op
 is_first_piece op ms = false
 
+head_is : (c d : Choice) (xs ys : List Choice) → c ∷ xs ≡ d ∷ ys → c ≡ d
+head_is c d xs ys e = ap (λ zs. get_or zs 0 c) e
+
+tail_is : (c d : Choice) (xs ys : List Choice) → c ∷ xs ≡ d ∷ ys → xs ≡ ys
+tail_is c d xs ys e = ap (λ zs. drop 1 zs) e
+
 module _ {F R : Type 0} (f : Semantics R) (op : ℕ) where
   abbrev step : Node F R → ℕ → Msg → Stepped (Node F R) Msg Note
   step = node_step f
@@ -93,14 +99,8 @@ module _ {F R : Type 0} (f : Semantics R) (op : ℕ) where
   taken_counts : (w : Network (Node F R) Msg Note) (front back : List Choice) (c : Choice) → IsThere w front c → 1 ≤ times_taken (front ++ c ∷ back) w
   taken_counts w front back c h =
       let both = times_taken-append front (c ∷ back) w in
-      let here : (if is_first_piece op (waiting (run step front w) c) then 1 else 0) ≡ 1 = rw h refl in
+      let here : ◌≡◌ {A = ℕ} (if is_first_piece op (waiting (run step front w) c) then 1 else 0) 1 = rw h refl in
       omega (arith, both, here)
-
-  head_is : (c d : Choice) (xs ys : List Choice) → c ∷ xs ≡ d ∷ ys → c ≡ d
-  head_is c d xs ys e = ap (λ zs. get_or zs 0 c) e
-
-  tail_is : (c d : Choice) (xs ys : List Choice) → c ∷ xs ≡ d ∷ ys → xs ≡ ys
-  tail_is c d xs ys e = ap (λ zs. drop 1 zs) e
 
   -- two in one list are two
   two_taken : (w : Network (Node F R) Msg Note) (c d : Choice) (front xs ys back : List Choice) (e : Choice) → IsThere w [] c → IsThere w (d ∷ front) e → c ∷ xs ≡ d ∷ (front ++ e ∷ back) → 2 ≤ times_taken (c ∷ xs) w
@@ -109,7 +109,7 @@ module _ {F R : Type 0} (f : Semantics R) (op : ℕ) where
       let more = tail_is c d xs (front ++ e ∷ back) is in
       let rest : 1 ≤ times_taken (front ++ e ∷ back) (taken step w c) = taken_counts (taken step w c) front back e (subst (λ x. is_first_piece op (waiting (run step front (taken step w x)) e) ≡ true) (sym same) second) in
       let rest' : 1 ≤ times_taken xs (taken step w c) = subst (λ zs. 1 ≤ times_taken zs (taken step w c)) (sym more) rest in
-      let here : (if is_first_piece op (waiting w c) then 1 else 0) ≡ 1 = rw first refl in
+      let here : ◌≡◌ {A = ℕ} (if is_first_piece op (waiting w c) then 1 else 0) 1 = rw first refl in
       omega (arith, rest', here)
 
   same_front : (w : Network (Node F R) Msg Note) (xs ys back after : List Choice) (c d : Choice) → IsThere w xs c → IsThere w ys d → xs ++ c ∷ back ≡ ys ++ d ∷ after → times_taken (xs ++ c ∷ back) w ≤ 1 → ys ≡ xs
