@@ -251,7 +251,8 @@ module _ (F : Type 0) {R : Type 0} (f : Semantics R) (alloc : Global) (c : Confi
   pub count_at_start : length (first_nodes {F = F} {R = R} alloc c) ≡ length c.names + 2
   count_at_start = let few = length-first_instances F R alloc c (length c.names) in omega (arith, few)
 
-  instance_found : (i j : ℕ) (d : Node F R) → j < i → get_or (first_instances alloc c i) j d ≡ Instance (first_instance alloc c j)
+  -- each of the first instances stands at its place
+  pub instance_found : (i j : ℕ) (d : Node F R) → j < i → get_or (first_instances alloc c i) j d ≡ Instance (first_instance alloc c j)
   instance_found zero j d few = absurd (omega (arith, few))
   instance_found (suc i) j d few =
       let l = length-first_instances F R alloc c i in
