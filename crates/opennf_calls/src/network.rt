@@ -22,7 +22,7 @@ use nf_msgs::Msg;
 use nf_net::{Config, Node, simulate};
 use run_input::{Setting, input_of};
 use run_report::{Head, audit, report};
-use std::alloc::Global;
+use std::alloc::{AllocError, Global};
 use std::sync::Wait;
 use std::thread::Threads;
 use trace_reader::Trace;
@@ -197,7 +197,7 @@ fn open(
     let count = last_number(packets.items());
     let (config, items) = match input_of(alloc, &setting, &script, packets) {
         Ok(made) => made,
-        Err(_) => return Err(NoMemory),
+        Err(_) => return Err(AllocError),
     };
     let head = Head {
         kind: asked.kind,

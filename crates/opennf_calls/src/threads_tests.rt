@@ -82,6 +82,7 @@ fn given(alloc: Global, script: &[u8], count: u32) -> Result<(Config, Vec<Msg>),
         kind: Kind::Conntrack,
         names: names.as_slice(),
         limits: limits.as_slice(),
+        marked: &[false, false],
         site: Site {
             inside,
             outside: None,
