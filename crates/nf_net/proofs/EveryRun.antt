@@ -110,16 +110,10 @@ module _ (F : Type 0) {R : Type 0} (f : Semantics R) (laws : FunctionLaws f) (al
           leads = record { is_run = subst (λ cs. IsRun node_ready (node_step f) cs first) choices runs; reached = reached ∙ ap (λ cs. run (node_step f) cs first) choices };
           complete = h.complete;
         };
-<<<<<<< HEAD
         promises = all.promises;
+        verdicts = verdicts F f laws alloc c items is r.1 runs;
         completed = all.completed;
         home = all.home;
-=======
-        promises = subst (λ v. Promises f c items v) (sym reached) (every_run F f laws alloc c items is r.1 runs);
-        verdicts = verdicts F f laws alloc c items is r.1 runs;
-        completed = subst (λ v. Completed f c items v) (sym reached) (every_end F f laws alloc c items is r.1 runs complete);
-        home = subst (λ v. AllHome c v) (sym reached) (every_home F f laws alloc c items is r.1 runs complete);
->>>>>>> 5e4b91480364c5d920c53d8f3f9c2ef6e24632ba
       }
 
 -- What is said of a world that is handed back: the same facts of the result.

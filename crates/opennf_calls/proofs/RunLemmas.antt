@@ -1,35 +1,40 @@
--- What is known of a run of the network, in the words of a simulation.
-use Rattle.std.proofs.Common.{◌≡◌, ℕ, ◌+◌, ◌-◌, Bool, false, true, List, [], ◌∷◌, length, Option, None, Some, Result, Ok, Err, refl, ap, sym, ◌∙◌, subst, arith, zero, suc}
-use Rattle.std.specs.Prelude.{MatchResult, replicate, slice_get}
+-- What is known of a run of the network, in the words of its command.
+use Rattle.std.proofs.Common.{◌≡◌, ℕ, ◌+◌, ◌-◌, true, List, [], ◌∷◌, length, Option, None, Some, Result, Ok, Err, refl, ap, sym, ◌∙◌, subst, arith, zero, suc}
+use Rattle.std.specs.Prelude.{MatchResult, slice_get}
 use Rattle.std.proofs.lemmas.Option.{slice_get_within}
 use Rattle.std.specs.declared.alloc.Global.{Global}
-use Rattle.flow_filter.specs.declared.filter.Filter.{Filter}
 use Rattle.flow_filter.specs.declared.packet.Packet.{Packet}
-use Rattle.flow_filter.specs.declared.site.Site.{Site}
 use Rattle.nf_function.specs.declared.kind.Kind.{Kind}
 use Rattle.nf_function.specs.Semantics.{Semantics}
 use Rattle.nf_msgs.specs.declared.msg.Msg.{Msg}
 use Rattle.nf_msgs.specs.declared.note.Note.{Note}
-use Rattle.trace_reader.specs.declared.trace.Trace.{Trace as Captured}
 use Rattle.trace_reader.specs.Records.{AreNumbered}
-use Rattle.op_script.specs.declared.script.Script.{Script as TheScript}
-use Rattle.command_words.specs.Plan.{SimAsked}
-use Rattle.actor_net.specs.Network.{Network}
+use Rattle.command_words.specs.Plan.{NetworkAsked}
+use Rattle.actor_net.specs.declared.choice.Choice.{Choice}
+use Rattle.actor_net.specs.declared.schedule.Schedule.{Schedule}
 use Rattle.actor_net.specs.declared.schedule.ScheduleFault.{ScheduleFault}
 use Rattle.actor_net.specs.declared.schedule.ScheduleFault.TheVariants as run
+use Rattle.actor_net.specs.Network.{Network, is_done}
 use Rattle.nf_net.specs.declared.config.Config.{Config}
 use Rattle.nf_net.specs.declared.node.Node.{Node}
+use Rattle.nf_net.specs.Nodes.{node_ended}
 use Rattle.nf_net.specs.Promises.{Completed, Promises}
-use Rattle.nf_net.specs.Runs.{EndsIn, StopsAt}
+use Rattle.nf_net.specs.Runs.{LeadsTo, StopsAt, chosen}
 use Rattle.nf_net.specs.Start.{started}
+use Rattle.nf_net.specs.Verdicts.{Verdicts}
 use Rattle.nf_net.specs.Window.{AllHome}
+use Rattle.run_report.specs.declared.auditing.AuditFault.{AuditFault}
+use Rattle.run_report.specs.declared.auditing.AuditFault.TheVariants as audit
 use Rattle.run_report.specs.declared.head.Head.{Head}
+use Rattle.run_report.specs.Audits.{IsCause}
 use Rattle.run_report.specs.Lines.{report_text}
+use Rattle.opennf_calls.specs.declared.network.Made.{Made}
+use Rattle.opennf_calls.specs.declared.network.Opening.{Opening}
 use Rattle.opennf_calls.specs.declared.status.Status.{Status}
-use Rattle.opennf_calls.specs.declared.status.Status.TheVariants.{BadTrace, NotBuilt, Unfinished, NoMemory, Ok as Done, Usage, BadScript, ReadFault, WriteFault}
-use Rattle.opennf_calls.specs.Phases.{EndsEarly, EndsEarlyFor}
-use Rattle.opennf_calls.specs.Simulated.{config_for, head_for, items_for, HasRunText, HasShortRun, IsRunText, StopsShort}
-use Rattle.opennf_calls.specs.Status.{run_status}
+use Rattle.opennf_calls.specs.declared.status.Status.TheVariants.{BadTrace, BadJournal, NotBuilt, NotARun, Unfinished, NoMemory, Ok as Done, Usage, BadScript, ReadFault, WriteFault}
+use Rattle.opennf_calls.specs.NetworkRuns.{Given, HasNoRun, HasShortRun, IsNoRun, IsRunOf, StopsShort, config_for, head_for, items_for}
+use Rattle.opennf_calls.specs.Phases.{EndsEarly, EndsEarlyAs, IsOpening, IsRefusedAs, IsRefusedRun, gives}
+use Rattle.opennf_calls.specs.Status.{audit_status, run_status}
 
 -- the packet at a place of numbered ones
 numbered_at : (n : ℕ) (ps : List Packet) (i : ℕ) (p : Packet) → AreNumbered n ps → slice_get ps i ≡ Some p → p.number ≡ n + i
@@ -46,67 +51,91 @@ last_counts ps p numbered is =
     let few = slice_get_within ps (length ps - 1) p is in
     omega (arith, last, few)
 
--- the configuration and the head are those of the words
-pub config_is : (s : SimAsked) (site : Site) (routes : List (Filter × ℕ)) (config : Config) (names : List (List ℕ)) (limits : List ℕ)
-    → names ≡ s.instances.0 → limits ≡ s.instances.1
-    → config ≡ record { names = names; limits = limits; marked = replicate (length names) false; site = site; window = s.window; routes = routes }
-    → config ≡ config_for s site routes
-config_is s site routes config names limits is_names is_limits is =
-    is ∙ ap (λ (n : List (List ℕ)). record { names = n; limits = limits; marked = replicate (length n) false; site = site; window = s.window; routes = routes }) is_names
-    ∙ ap (λ (l : List ℕ). record { names = s.instances.0; limits = l; marked = replicate (length s.instances.0) false; site = site; window = s.window; routes = routes }) is_limits
+module _ {R : Type 0} (F : Type 0) (f : Semantics R) (s : NetworkAsked) (g : Given) (alloc : Global) (opening : Opening) (is : IsOpening s g opening) where
+  -- what holds of the configuration and the input holds of those of the words
+  moved : (Q : Config → List Msg → Type 0) → Q opening.config opening.items.items → Q (config_for s g.site g.script.routes.items) (items_for g.captured g.script)
+  moved Q holds = subst (λ (c : Config). Q c (items_for g.captured g.script)) is.config (subst (λ (l : List Msg). Q opening.config l) is.items holds)
 
-pub head_is : (s : SimAsked) (captured : Captured) (names : List (List ℕ)) (count : ℕ) → names ≡ s.instances.0 → count ≡ length captured.packets
-    → record { kind = s.kind; names = names; window = s.window; packets = count; skipped = captured.skipped; cut = captured.cut } ≡ head_for s captured
-head_is s captured names count is_names is_count =
-    ap (λ (n : List (List ℕ)). record { kind = s.kind; names = n; window = s.window; packets = count; skipped = captured.skipped; cut = captured.cut }) is_names
-    ∙ ap (λ (k : ℕ). record { kind = s.kind; names = s.instances.0; window = s.window; packets = k; skipped = captured.skipped; cut = captured.cut }) is_count
+  abbrev at_start : Network (Node F R) Msg Note
+  at_start = started alloc opening.config opening.items.items
 
--- what holds of one configuration and input holds of equal ones
-moved : (Q : Config → List Msg → Type 0) (config config' : Config) (items items' : List Msg) → config ≡ config' → items ≡ items' → Q config items → Q config' items'
-moved Q config config' items items' same_config same_items holds =
-    subst (λ (c : Config). Q c items') same_config (subst (λ (l : List Msg). Q config l) same_items holds)
+  -- a run from the start to its end
+  pub record Ran (choices : List Choice) (world : Network (Node F R) Msg Note) : Type 0 where
+    pub leads : LeadsTo f at_start choices world
+    pub complete : is_done node_ended world ≡ true
+    pub promises : Promises f opening.config opening.items.items world
+    pub verdicts : Verdicts f at_start choices opening.config opening.items.items
+    pub completed : Completed f opening.config opening.items.items world
+    pub home : AllHome opening.config world
 
-module _ {R : Type 0} (F : Type 0) (f : Semantics R) (s : SimAsked) (site : Site) (captured : Captured) (script : TheScript)
-    (alloc : Global) (config : Config) (items : List Msg)
-    (is_config : config ≡ config_for s site script.routes.items) (is_items : items ≡ items_for captured script) where
-  -- the text is the report of the run
-  pub run_text : (world : Network (Node F R) Msg Note) (head : Head) (text : List ℕ) → EndsIn f (started alloc config items) s.schedule world
-      → Promises f config items world → Completed f config items world → AllHome config world → head ≡ head_for s captured
-      → text ≡ report_text f head false world → IsRunText F f s site captured script text
-  run_text world head text ends promises completed home is_head is = record {
+  -- its report is made
+  pub run_of : (by : Option Schedule) (made : Made) (world : Network (Node F R) Msg Note) → Ran made.choices world
+      → ((schedule : Schedule) → by ≡ Some schedule → made.choices ≡ chosen f at_start schedule)
+      → made.report ≡ report_text f opening.head s.summary world → IsRunOf F f s g by (gives s made)
+  run_of by made world ran scheduled report = record {
     alloc = alloc;
     world = world;
-    ends = moved (λ c l. EndsIn f (started alloc c l) s.schedule world) config _ items _ is_config is_items ends;
-    promises = moved (λ c l. Promises f c l world) config _ items _ is_config is_items promises;
-    completed = moved (λ c l. Completed f c l world) config _ items _ is_config is_items completed;
-    home = moved (λ c l. AllHome c world) config _ items _ is_config is_items home;
-    is_report = is ∙ ap (λ (h : Head). report_text f h false world) is_head;
+    leads = moved (λ c l. LeadsTo f (started alloc c l) made.choices world) ran.leads;
+    complete = ran.complete;
+    scheduled = λ schedule same. moved (λ c l. made.choices ≡ chosen f (started alloc c l) schedule) (scheduled schedule same);
+    promises = moved (λ c l. Promises f c l world) ran.promises;
+    verdicts = moved (λ c l. Verdicts f (started alloc c l) made.choices c l) ran.verdicts;
+    completed = moved (λ c l. Completed f c l world) ran.completed;
+    home = moved (λ c l. AllHome c world) ran.home;
+    report = report ∙ ap (λ (h : Head). report_text f h s.summary world) is.head;
+    journal = refl;
   }
 
-  -- the run has no end
-  pub run_early : (e : ScheduleFault) → ((step : ℕ) → e ≡ run.Unfinished step → StopsAt {F = F} f (started alloc config items) s.schedule step)
-      → EndsEarly F f s site captured script (run_status e)
-  run_early (run.Unfinished step) stops = record {
-    alloc = alloc;
-    stops = moved (λ c l. StopsAt {F = F} f (started alloc c l) s.schedule step) config _ items _ is_config is_items (stops step refl);
-  }
-  run_early run.NoMemory stops = tt
+  -- the schedule has no end
+  pub run_early : (schedule : Schedule) (e : ScheduleFault) → ((step : ℕ) → e ≡ run.Unfinished step → StopsAt {F = F} f at_start schedule step)
+      → EndsEarlyAs F f s g schedule (run_status e)
+  run_early schedule (run.Unfinished step) stops = record { alloc = alloc; stops = moved (λ c l. StopsAt {F = F} f (started alloc c l) schedule step) (stops step refl) }
+  run_early schedule run.NoMemory stops = tt
 
-module _ {R : Type 0} (F : Type 0) (f : Semantics R) (kind : Kind) (s : SimAsked) (site : Site) (captured : Captured) (script : TheScript)
-    (same : (step : ℕ) → StopsShort F f s site captured script step → HasShortRun kind s site captured script step) where
-  early : (status : Status) → EndsEarly F f s site captured script status → EndsEarlyFor kind s site captured script status
-  early (Unfinished step) stops = same step stops
-  early NoMemory stops = stops
-  early Done stops = absurd stops
-  early Usage stops = absurd stops
-  early (BadScript line kind) stops = absurd stops
-  early (BadTrace offset kind) stops = absurd stops
-  early (NotBuilt command) stops = absurd stops
-  early (ReadFault role) stops = absurd stops
-  early (WriteFault role) stops = absurd stops
+  -- the choices are no complete run
+  pub run_refused : (choices : List Choice) (e : AuditFault) → ((step : ℕ) → e ≡ audit.NotARun step → IsCause {F = F} f at_start choices step)
+      → IsRefusedAs F f s g choices (audit_status e)
+  run_refused choices (audit.NotARun step) cause = record { alloc = alloc; cause = moved (λ c l. IsCause {F = F} f (started alloc c l) choices step) (cause step refl) }
+  run_refused choices audit.NoMemory cause = tt
 
-  -- the function is that of the words
-  pub of_kind : (r : Result (List ℕ) Status) (P : List ℕ → Type 0) → MatchResult r P (EndsEarly F f s site captured script)
-      → MatchResult r P (EndsEarlyFor kind s site captured script)
-  of_kind (Ok text) P holds = holds
-  of_kind (Err status) P holds = early status holds
+-- The function is that of the words.
+module _ {R : Type 0} (F : Type 0) (f : Semantics R) (s : NetworkAsked) (g : Given) where
+  early : (schedule : Schedule) → ((step : ℕ) → StopsShort F f s g schedule step → HasShortRun s.kind s g schedule step)
+      → (status : Status) → EndsEarlyAs F f s g schedule status → EndsEarly s g schedule status
+  early schedule same (Unfinished step) stops = same step stops
+  early schedule same NoMemory stops = stops
+  early schedule same Done stops = absurd stops
+  early schedule same Usage stops = absurd stops
+  early schedule same (BadScript line kind) stops = absurd stops
+  early schedule same (BadTrace offset kind) stops = absurd stops
+  early schedule same (BadJournal kind) stops = absurd stops
+  early schedule same (NotBuilt command) stops = absurd stops
+  early schedule same (NotARun step) stops = absurd stops
+  early schedule same (ReadFault role) stops = absurd stops
+  early schedule same (WriteFault role) stops = absurd stops
+
+  no_run : (choices : List Choice) → ((step : ℕ) → IsNoRun F f s g choices step → HasNoRun s.kind s g choices step)
+      → (status : Status) → IsRefusedAs F f s g choices status → IsRefusedRun s g choices status
+  no_run choices same (NotARun step) cause = same step cause
+  no_run choices same NoMemory cause = cause
+  no_run choices same (Unfinished step) cause = absurd cause
+  no_run choices same Done cause = absurd cause
+  no_run choices same Usage cause = absurd cause
+  no_run choices same (BadScript line kind) cause = absurd cause
+  no_run choices same (BadTrace offset kind) cause = absurd cause
+  no_run choices same (BadJournal kind) cause = absurd cause
+  no_run choices same (NotBuilt command) cause = absurd cause
+  no_run choices same (ReadFault role) cause = absurd cause
+  no_run choices same (WriteFault role) cause = absurd cause
+
+  pub scheduled_kind : (schedule : Schedule) (r : Result Made Status) (P Q : Made → Type 0)
+      → ((made : Made) → P made → Q made) → ((step : ℕ) → StopsShort F f s g schedule step → HasShortRun s.kind s g schedule step)
+      → MatchResult r P (EndsEarlyAs F f s g schedule) → MatchResult r Q (EndsEarly s g schedule)
+  scheduled_kind schedule (Ok made) P Q of_kind same holds = of_kind made holds
+  scheduled_kind schedule (Err status) P Q of_kind same holds = early schedule same status holds
+
+  pub told_kind : (choices : List Choice) (r : Result Made Status) (P Q : Made → Type 0)
+      → ((made : Made) → P made → Q made) → ((step : ℕ) → IsNoRun F f s g choices step → HasNoRun s.kind s g choices step)
+      → MatchResult r P (IsRefusedAs F f s g choices) → MatchResult r Q (IsRefusedRun s g choices)
+  told_kind choices (Ok made) P Q of_kind same holds = of_kind made holds
+  told_kind choices (Err status) P Q of_kind same holds = no_run choices same status holds

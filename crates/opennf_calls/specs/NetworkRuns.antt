@@ -32,6 +32,7 @@ use Rattle.nf_net.specs.Promises.{Completed, Promises}
 use Rattle.nf_net.specs.Nodes.{node_ended}
 use Rattle.nf_net.specs.Runs.{chosen, LeadsTo, StopsAt}
 use Rattle.nf_net.specs.Start.{started}
+use Rattle.nf_net.specs.Verdicts.{Verdicts}
 use Rattle.nf_net.specs.Window.{AllHome}
 use Rattle.run_input.specs.Given.{or_else}
 use Rattle.run_report.specs.declared.head.Head.{Head}
@@ -107,6 +108,7 @@ module _ {R : Type 0} (F : Type 0) (f : Semantics R) (s : NetworkAsked) (g : Giv
     pub complete : is_done node_ended world ≡ true
     pub scheduled : (schedule : Schedule) → by ≡ Some schedule → made.choices ≡ chosen f (start_for alloc) schedule
     pub promises : Promises f (config_for s g.site g.script.routes.items) (items_for g.captured g.script) world
+    pub verdicts : Verdicts f (start_for alloc) made.choices (config_for s g.site g.script.routes.items) (items_for g.captured g.script)
     pub completed : Completed f (config_for s g.site g.script.routes.items) (items_for g.captured g.script) world
     pub home : AllHome (config_for s g.site g.script.routes.items) world
     pub report : made.texts Report ≡ report_text f (head_for s g.captured) s.summary world

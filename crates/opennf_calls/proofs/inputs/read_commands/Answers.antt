@@ -12,7 +12,7 @@ use Rattle.opennf_calls.specs.Outcome.{first_refusal, run_refusal, trace_refusal
 use Rattle.opennf_calls.proofs.ScriptLemmas.{most_bytes, script_of-front, nothing_left, script_row}
 use Rattle.opennf_calls.proofs.SimRows.{is_named, named_script}
 use Rattle.opennf_calls.proofs.RowLemmas.{one_read}
-use Rattle.opennf_calls.proofs.sim.read_commands.Goals as goal
+use Rattle.opennf_calls.proofs.inputs.read_commands.Goals as goal
 
 pub returns-in_err-script-clause-row : goal.returns-in_err-script-clause-row
 returns-in_err-script-clause-row g c =
