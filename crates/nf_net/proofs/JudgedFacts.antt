@@ -66,6 +66,7 @@ module _ {F R : Type 0} (f : Semantics R) (c : Config) (items : List Msg) (start
     pub is_taken : IsTakenAfter f start cs op front
     pub weighed : Weighed
     pub are_weighed : IsWeighed f c items op (run (node_step f) front start) weighed
+    pub at_destination : is_taken.choice.node ≡ instance_node are_weighed.destination
     pub answer_is : answer ≡ verdict weighed
 
   pub part_kept : (log notes : List Note) (op : ℕ) (piece : Piece) → IsPart log op piece → IsPart (log ++ notes) op piece
@@ -77,7 +78,8 @@ module _ {F R : Type 0} (f : Semantics R) (c : Config) (items : List Msg) (start
   }
 
   pub verdict_kept : (cs : List Choice) (d : Choice) (op : ℕ) (answer : Answer) → HasVerdict cs op answer → HasVerdict (cs ++ d ∷ []) op answer
-  verdict_kept cs d op answer h = record { front = h.front; is_taken = taken_more f op start cs h.front d h.is_taken; weighed = h.weighed; are_weighed = h.are_weighed; answer_is = h.answer_is }
+  unfolding taken_more
+  verdict_kept cs d op answer h = record { front = h.front; is_taken = taken_more f op start cs h.front d h.is_taken; weighed = h.weighed; are_weighed = h.are_weighed; at_destination = h.at_destination; answer_is = h.answer_is }
 
   -- a command was refused, or it began and is answered by its verdict
   pub data IsFound (cs : List Choice) (log : List Note) (op : ℕ) (answer : Answer) : Type 0 where

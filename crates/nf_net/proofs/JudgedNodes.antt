@@ -39,7 +39,7 @@ use Rattle.actor_net.specs.Network.{Network, Stepped, IsRun, is_input, run, take
 use Rattle.actor_net.proofs.EnabledChoices.{at}
 use Rattle.actor_net.proofs.RunInduction.{run_world}
 use Rattle.actor_net.proofs.StepOutcome.{Takes, taken_outcome}
-use Rattle.actor_net.proofs.WeightLaws.{EachSent, total, total_after, sent_weight}
+use Rattle.actor_net.proofs.WeightLaws.{EachSent, total_after, sent_weight}
 use Rattle.unit_machine.proofs.Labels.{Each}
 use Rattle.abstract_net.proofs.Readings as readings
 use Rattle.nf_net.specs.declared.config.Config.{Config}
@@ -313,6 +313,7 @@ module _ (F : Type 0) {R : Type 0} (f : Semantics R) (laws : FunctionLaws f) (al
               marked = fixed.marked ∙ ap (λ z. slice_index_or c.marked z false) (sym same);
               timed = refl;
             };
+            at_destination = going.node_is;
             answer_is = answer_is i piece timed part.newest;
           }
 

@@ -1,6 +1,6 @@
 -- In every run each move that began is answered by its verdict, which is on what its destination held, and on what came, when it took the first
 -- piece; and each other command is refused.
-use Rattle.std.proofs.Common.{◌≡◌, ℕ, zero, ◌+◌, ◌≤◌, Bool, true, false, Some, List, [], ◌∷◌, ◌++◌, length, refl, sym, ap, ◌∙◌, subst, arith}
+use Rattle.std.proofs.Common.{◌≡◌, ℕ, ◌+◌, ◌≤◌, Bool, true, false, Some, List, [], ◌∷◌, ◌++◌, length, refl, sym, ap, ◌∙◌, subst, arith}
 use Rattle.std.specs.declared.alloc.Global.{Global}
 use Rattle.std.specs.Ordering.{nat_cmp}
 use Rattle.std.specs.FinMap as finite
@@ -138,6 +138,7 @@ module _ (F : Type 0) {R : Type 0} (f : Semantics R) (laws : FunctionLaws f) (al
       once = λ other u. once_taken f op start cs v.front other few v.is_taken u;
       weighed = v.weighed;
       are_weighed = v.are_weighed;
+      at_destination = v.at_destination;
       answer_is = v.answer_is;
     }
       where

@@ -136,7 +136,7 @@ module _ {F R : Type 0} (f : Semantics R) (op : ℕ) where
   once_taken w cs front other few t u = same_front w front other t.back u.back t.choice u.choice (there w cs front t) (there w cs other u) (t.whole ∙ sym u.whole) (subst (λ xs. times_taken xs w ≤ 1) (sym t.whole) few)
 
   -- it was taken also where choices follow
-  pub taken_more : (w : Network (Node F R) Msg Note) (cs front : List Choice) (c : Choice) → IsTakenAfter f w cs op front → IsTakenAfter f w (cs ++ c ∷ []) op front
+  unfoldable pub taken_more : (w : Network (Node F R) Msg Note) (cs front : List Choice) (c : Choice) → IsTakenAfter f w cs op front → IsTakenAfter f w (cs ++ c ∷ []) op front
   taken_more w cs front c t = record {
     choice = t.choice;
     back = t.back ++ c ∷ [];

@@ -115,6 +115,7 @@ module _ {F R : Type 0} (f : Semantics R) (start : Network (Node F R) Msg Note) 
       pub once : (other : List Choice) → IsTakenAfter op other → other ≡ front
       pub weighed : Weighed
       pub are_weighed : IsWeighed f config items op (run (node_step f) front start) weighed
+      pub at_destination : is_taken.choice.node ≡ instance_node are_weighed.destination
       pub answer_is : answer ≡ verdict weighed
 
     -- what every run keeps
