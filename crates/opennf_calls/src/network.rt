@@ -4,7 +4,7 @@ ghost use Rattle.trace_reader.specs.Records.{AreNumbered};
 ghost use Rattle.command_words.specs.RequestViews.{network_view};
 ghost use Rattle.opennf_calls.specs.declared.status.Status.TheVariants.{NoMemory as OutOfMemory};
 ghost use Rattle.opennf_calls.specs.NetworkRuns.{HasRun, IsRunOf};
-ghost use Rattle.opennf_calls.specs.Phases.{CanBegin, CanRun, EndsEarly, EndsEarlyAs, IsOpening, IsRefusedRun, IsRefusedAs, given_by, gives, MadeRun};
+ghost use Rattle.opennf_calls.specs.Phases.{CanBegin, CanRun, EndsEarly, EndsEarlyAs, IsOpening, IsRefusedRun, IsRefusedAs, given_by, gives};
 
 use crate::inputs::Inputs;
 use crate::status::Status;
