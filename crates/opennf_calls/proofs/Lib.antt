@@ -8,4 +8,5 @@ pub mod RunLemmas
 pub mod ScriptLemmas
 pub mod SimRows
 pub mod TwoResults
+pub mod WrittenRuns
 pub mod WritingLemmas

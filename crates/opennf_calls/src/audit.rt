@@ -1,5 +1,5 @@
 //! The command `audit`: the run that a journal tells, again.
-ghost use Rattle.std.specs.Prelude.{◌≡◌, MatchResult, []};
+ghost use Rattle.std.specs.Prelude.{◌≡◌, MatchResult, [], IsSome};
 ghost use Rattle.std.specs.Option.{ForSome};
 ghost use Rattle.nf_io.specs.declared.outside.Role.TheVariants.{JournalIn as JournalRole};
 ghost use Rattle.nf_io.specs.Meaning.{CanRead};
@@ -29,6 +29,7 @@ pub fn audit<O: Outside>(
 ) -> Outcome
     requires bound { IsBound (asks_audit (network_view asked.now)) (O.seen outside.old) }
     requires runs { CanRun (network_view asked.now) }
+    requires journal { IsSome (network_view asked.now).journal }
     ensures { Performs (asks_audit (network_view asked.now)) (O.seen outside.old) (O.seen outside.new) result }
 {
     match make(alloc, asked, outside) {
@@ -45,6 +46,7 @@ fn make<O: Outside>(
 ) -> Result<Made, Status>
     requires bound { IsBound (asks_audit (network_view asked.now)) (O.seen outside.old) }
     requires runs { CanRun (network_view asked.now) }
+    requires journal { IsSome (network_view asked.now).journal }
     ensures only { OnlyRead (O.seen outside.old) (O.seen outside.new) }
     ensures row { MatchResult result
         (λ made. ForResults (asks_audit (network_view asked.now)) (O.seen outside.old) (O.seen outside.new) (λ g. g ≡ gives (network_view asked.now) made))

@@ -105,7 +105,7 @@ fn perform_run<R: Threads + Wait + Sync, O: Outside, G: Gate>(
     };
     match request {
         Request::Run(asked) => run(rt, alloc, &asked, outside, gate),
-        _ => unreachable!(),
+        _other => unreachable!(),
     }
 }
 
@@ -127,7 +127,7 @@ fn perform<O: Outside>(alloc: Global, words: &[String], outside: &mut O) -> Outc
         Request::Audit(asked) => audit(alloc, &asked, outside),
         Request::Check(asked) => Outcome::refused(alloc, check(alloc, &asked, outside)),
         Request::Gen(asked) => Outcome::refused(alloc, generate(alloc, &asked, outside)),
-        Request::Run(_) => unreachable!(),
+        Request::Run(_asked) => unreachable!(),
     }
 }
 
