@@ -61,7 +61,8 @@ fn packets(alloc: Global, count: u32) -> Result<Packets, Fail>
 {
     let mut packets = Packets::open(alloc);
     for number in 0..count {
-        packets.push(packet(number + 1))?;
+        let next = packet(number + 1);
+        packets.push(next)?;
     }
     Ok(packets)
 }
