@@ -1,4 +1,4 @@
-ghost use Rattle.std.specs.Prelude.{◌≡◌, ◌<◌, ◌≤◌, vec_len, All, IfOk};
+ghost use Rattle.std.specs.Prelude.{◌≡◌, ◌<◌, true, vec_len, All, IfOk};
 ghost use Rattle.nf_function.specs.Units.{is_transport};
 ghost use Rattle.nf_function.specs.declared.kind.Kind.TheVariants.{Conntrack as OfFlows};
 ghost use Rattle.trace_reader.specs.Records.{AreNumbered};
