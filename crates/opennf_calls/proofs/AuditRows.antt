@@ -118,7 +118,7 @@ module _ (s : NetworkAsked) (named : is_some s.journal ≡ true) (given : Given)
     no_run_row Usage cause = absurd cause
     no_run_row (BadScript line kind) cause = absurd cause
     no_run_row (BadTrace offset kind) cause = absurd cause
-    no_run_row (BadJournal kind) cause = absurd cause
+    no_run_row (BadJournal _) cause = absurd cause
     no_run_row (NotBuilt command) cause = absurd cause
     no_run_row (Unfinished step) cause = absurd cause
     no_run_row (ReadFault role) cause = absurd cause

@@ -88,7 +88,7 @@ module _ (s : NetworkAsked) (asked : Asked) (reads : Reads s asked) (old new : R
   fails_row (NotBuilt command) fails = (refuses (NotBuilt command) fails, refl)
   fails_row Done fails = absurd fails
   fails_row Usage fails = absurd fails
-  fails_row (BadJournal kind) fails = absurd fails
+  fails_row (BadJournal _) fails = absurd fails
   fails_row (NotARun step) fails = absurd fails
   fails_row (Unfinished step) fails = absurd fails
   fails_row (WriteFault role) fails = absurd fails
@@ -131,7 +131,7 @@ module _ (s : NetworkAsked) (old new : Role → Meaning) (only : OnlyRead old ne
     early_row Usage stops = absurd stops
     early_row (BadScript line kind) stops = absurd stops
     early_row (BadTrace offset kind) stops = absurd stops
-    early_row (BadJournal kind) stops = absurd stops
+    early_row (BadJournal _) stops = absurd stops
     early_row (NotBuilt command) stops = absurd stops
     early_row (NotARun step) stops = absurd stops
     early_row (ReadFault role) stops = absurd stops

@@ -1,5 +1,5 @@
 //! The command `audit`: the run that a journal tells, again.
-ghost use Rattle.std.specs.Prelude.{◌≡◌, MatchResult, [], IsSome};
+ghost use Rattle.std.specs.Prelude.{◌≡◌, MatchResult, [], IsSome, length};
 ghost use Rattle.std.specs.Option.{ForSome};
 ghost use Rattle.nf_io.specs.declared.outside.Role.TheVariants.{JournalIn as JournalRole};
 ghost use Rattle.nf_io.specs.Meaning.{CanRead};
@@ -53,9 +53,16 @@ fn make<O: Outside>(
         (λ status. RowOf (asks_audit (network_view asked.now)) (O.seen outside.old) (O.seen outside.new) [] status) }
 {
     let inputs = read_inputs(alloc, asked, outside)?;
-    let count = asked.instances.names.len() as u8;
-    let choices = read_choices(alloc, asked.kind, count, outside)?;
+    let choices = read_choices(alloc, asked.kind, count_instances(asked), outside)?;
     run_told(alloc, asked, inputs, choices)
+}
+
+/// How many instances the words name.
+fn count_instances(asked: &NetworkRequest<'_>) -> u8
+    requires { CanRun (network_view asked.now) }
+    ensures { result ≡ length asked.now.instances.names.items }
+{
+    asked.instances.names.len() as u8
 }
 
 /// Reads the journal of so many instances.

@@ -1,5 +1,5 @@
 -- What is made is what the command gives for its inputs, or the status has its row.
-use Rattle.std.proofs.Common.{rules}
+use Rattle.std.proofs.Common.{Ok, Err}
 use Rattle.std.proofs.lemmas.Result.{err_from_is_err_and}
 use Rattle.command_words.specs.RequestViews.{network_view}
 use Rattle.opennf_calls.specs.Phases.{given_by}
@@ -14,7 +14,8 @@ returns-in_err-choices-clause-row g c =
     (journal_row s c.requires.journal (given_by c.args.asked.now.site c.in_ok-inputs.inputs) (g.O.Outside.seen c.args.outside.now)
     (g.O.Outside.seen c.read_inputs.new.outside) (g.O.Outside.seen c.read_choices.new.outside) c.requires.bound c.in_ok-inputs.ensures.only
     c.in_ok-inputs.ensures.given c.in_err-choices.ensures.alone c.in_err-choices.field-0.0
-    (counted s _ _ _ _ c.in_err-choices.ensures.journal (search rules)) c.in_err-choices.ensures.cause)
+    (counted s (g.O.Outside.seen c.read_inputs.new.outside) (g.O.Outside.seen c.read_choices.new.outside) (Err c.in_err-choices.field-0.0)
+    c.count_instances.result c.in_err-choices.ensures.journal c.count_instances.ensures) c.in_err-choices.ensures.cause)
 
 pub returns-clause-row : goal.returns-clause-row
 returns-clause-row g c =
@@ -22,4 +23,5 @@ returns-clause-row g c =
     told_row s c.requires.journal (given_by c.args.asked.now.site c.in_ok-inputs.inputs) (g.O.Outside.seen c.args.outside.now)
     (g.O.Outside.seen c.read_inputs.new.outside) (g.O.Outside.seen c.read_choices.new.outside) c.requires.bound c.in_ok-inputs.ensures.only
     c.in_ok-inputs.ensures.given c.in_ok-choices.ensures.alone c.in_ok-choices.choices
-    (counted s _ _ _ _ c.in_ok-choices.ensures.journal (search rules)) c.run_told.result c.run_told.ensures
+    (counted s (g.O.Outside.seen c.read_inputs.new.outside) (g.O.Outside.seen c.read_choices.new.outside) (Ok c.in_ok-choices.choices)
+    c.count_instances.result c.in_ok-choices.ensures.journal c.count_instances.ensures) c.run_told.result c.run_told.ensures
