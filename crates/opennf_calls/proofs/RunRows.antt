@@ -94,7 +94,7 @@ module _ (s : NetworkAsked) (asked : Asked) (reads : Reads s asked) (old new : R
   fails_row (WriteFault role) fails = absurd fails
 
 -- they give a run
-module _ (s : NetworkAsked) (old new : Role → Meaning) (only : OnlyRead old new) (given : Given) (has : HasInputs s old new given) where
+module _ (s : NetworkAsked) (old new : Role → Meaning) (given : Given) (has : HasInputs s old new given) where
   -- by threads
   pub run_results : (made : Gives) → HasRun s.kind s given None made → ForResults (asks_run s) old new (λ g. g ≡ made)
   run_results made holds bytes is = let told = tells s (asks_run s) (run_reads s) old bytes is in record {
@@ -106,7 +106,7 @@ module _ (s : NetworkAsked) (old new : Role → Meaning) (only : OnlyRead old ne
   }
 
   -- by a schedule
-  module _ (schedule : Schedule) (bound : IsBound (asks_sim s schedule) old) where
+  module _ (schedule : Schedule) (only : OnlyRead old new) (bound : IsBound (asks_sim s schedule) old) where
     sim_results : (made : Gives) → HasRun s.kind s given (Some schedule) made → ForResults (asks_sim s schedule) old new (λ g. g ≡ made)
     sim_results made holds bytes is = let told = tells s (asks_sim s schedule) (sim_reads s schedule) old bytes is in record {
       read = all_read s new (has.read bytes told);

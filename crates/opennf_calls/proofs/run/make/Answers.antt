@@ -7,5 +7,5 @@ use Rattle.opennf_calls.proofs.run.make.Goals as goal
 pub returns-clause-row : goal.returns-clause-row
 returns-clause-row g c =
     let s = network_view c.args.asked.now in
-    run_results s (g.O.Outside.seen c.args.outside.now) (g.O.Outside.seen c.read_inputs.new.outside) c.in_ok-inputs.ensures.only
+    run_results s (g.O.Outside.seen c.args.outside.now) (g.O.Outside.seen c.read_inputs.new.outside)
     (given_by c.args.asked.now.site c.in_ok-inputs.inputs) c.in_ok-inputs.ensures.given (gives s c.in_ok-made.made) c.in_ok-made.ensures

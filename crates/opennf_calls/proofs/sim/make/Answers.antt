@@ -6,6 +6,6 @@ use Rattle.opennf_calls.proofs.sim.make.Goals as goal
 
 pub returns-clause-row : goal.returns-clause-row
 returns-clause-row g c =
-    sim_row (network_view c.args.asked.now) (g.O.Outside.seen c.args.outside.now) (g.O.Outside.seen c.read_inputs.new.outside) c.in_ok-inputs.ensures.only
-    (given_by c.args.asked.now.site c.in_ok-inputs.inputs) c.in_ok-inputs.ensures.given c.args.schedule c.requires.bound
+    sim_row (network_view c.args.asked.now) (g.O.Outside.seen c.args.outside.now) (g.O.Outside.seen c.read_inputs.new.outside)
+    (given_by c.args.asked.now.site c.in_ok-inputs.inputs) c.in_ok-inputs.ensures.given c.args.schedule c.in_ok-inputs.ensures.only c.requires.bound
     c.run_scheduled.result c.run_scheduled.ensures
