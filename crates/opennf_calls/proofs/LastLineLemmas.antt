@@ -156,6 +156,14 @@ module _ (before old mid new : Role → Meaning) (around : Around before old mid
   cause_around None outcome cause = (cause.0, silent cause.1, cause.2)
   cause_around (Some asked) outcome cause = row_around asked outcome.choices outcome.status cause
 
+-- only names changed, and then again
+pub same_after : (old mid new : Role → Meaning) → SameContents old mid → SameContents mid new → SameContents old new
+same_after old mid new first second = record {
+  left = λ role. second.left role ∙ first.left role;
+  written = λ role. second.written role ∙ first.written role;
+  faults = λ role. second.faults role ∙ first.faults role;
+}
+
 -- files were bound before, and no line is written yet
 pub bound_before : (before old new : Role → Meaning) → SameContents before old → Around before old new new
 bound_before before old new contents = record { contents = contents; others = λ role differ. refl; names = λ role. refl }

@@ -179,6 +179,7 @@ fn bind_file<O: Outside>(outside: &mut O, role: Role, file: Option<&str>) -> Res
     requires { CanBind role (O.seen outside.old role) }
     ensures ok { OnOk result (Named role (option_map (λ t. t.now) file.entry) (O.seen outside.old) (O.seen outside.new)) }
     ensures err { OnErr result (Named role None (O.seen outside.old) (O.seen outside.new)) }
+    ensures contents { SameContents (O.seen outside.old) (O.seen outside.new) }
 {
     match file {
         Some(name) => outside.bind(role, name),
