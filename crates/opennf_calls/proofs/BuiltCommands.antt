@@ -116,7 +116,7 @@ checked_few g c is =
     subst (λ (c : CheckAsked). length c.instances.names ≤ 16) (same_some script.2) (few_of text.0 list.0 text.2).few
 
 -- what holds of what was asked for
-pub IsSound : Asked → Type 0
+abbrev pub IsSound : Asked → Type 0
 IsSound (asks_sim s schedule) = CanRun s
 IsSound (asks_run s) = CanRun s
 IsSound (asks_audit s) = CanRun s × (is_some s.journal ≡ true)
@@ -124,7 +124,7 @@ IsSound (asks_check c) = length c.instances.names ≤ 16
 IsSound (asks_gen g) = Unit {0}
 
 -- whether it is a run by threads
-pub is_run : Asked → Bool
+abbrev pub is_run : Asked → Bool
 is_run (asks_run s) = true
 is_run (asks_sim s schedule) = false
 is_run (asks_audit s) = false

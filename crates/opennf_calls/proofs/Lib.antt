@@ -1,5 +1,6 @@
 pub mod BuiltCommands
 pub mod CompleteLemmas
+pub mod EndedCommands
 pub mod LastLineLemmas
 pub mod MakingLemmas
 pub mod RoleLemmas

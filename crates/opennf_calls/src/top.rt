@@ -4,7 +4,8 @@ ghost use Rattle.nf_io.specs.Meaning.{CanBind};
 ghost use Rattle.command_words.specs.Plan.{plan_of};
 ghost use Rattle.command_words.specs.RequestViews.{network_view, request_view};
 ghost use Rattle.opennf_calls.specs.Command.{is_command, is_journal, with_journal};
-ghost use Rattle.opennf_calls.specs.Outcome.{IsBound, MayBind, HasOutcome, RefusesWords};
+ghost use Rattle.opennf_calls.specs.Outcome.{IsBound, MayBind, HasOutcome};
+ghost use Rattle.opennf_calls.specs.Status.{words_status};
 ghost use Rattle.opennf_calls.specs.Phases.{HasEnded, Named, SameContents};
 
 use crate::audit::audit;
@@ -105,7 +106,10 @@ fn perform_run<R: Threads + Wait + Sync, O: Outside, G: Gate>(
     };
     match request {
         Request::Run(asked) => run(rt, alloc, &asked, outside, gate),
-        _other => unreachable!(),
+        Request::Sim(_asked, _schedule) => unreachable!(),
+        Request::Audit(_asked) => unreachable!(),
+        Request::Check(_asked) => unreachable!(),
+        Request::Gen(_asked) => unreachable!(),
     }
 }
 
@@ -133,7 +137,7 @@ fn perform<O: Outside>(alloc: Global, words: &[String], outside: &mut O) -> Outc
 
 /// The status of words that aren't a command.
 fn of_words(fault: ArgumentsFault) -> Status
-    ensures { RefusesWords result }
+    ensures { result ≡ words_status fault }
 {
     match fault {
         ArgumentsFault::Usage => Status::Usage,
