@@ -140,8 +140,7 @@ where
     ensures { IfOk result (λ made. IsRunOf F.row.Denot F.semantics (network_view asked.now) (given_by asked.now.site inputs) None (gives (network_view asked.now) made)) }
 {
     let opening = open(alloc, asked, inputs)?;
-    let (world, choices) =
-        run_network::<R, F, G>(rt, alloc, &opening.config, opening.items, gate)?;
+    let (world, choices) = run_network::<R, F, G>(rt, alloc, &opening.config, opening.items, gate)?;
     let report = report::<F>(alloc, &opening.head, &world, asked.summary)?;
     Ok(Made { choices, report })
 }
@@ -171,11 +170,7 @@ fn tell_network<F: Function>(
 }
 
 /// The network before its start.
-fn open(
-    alloc: Global,
-    asked: &NetworkRequest<'_>,
-    inputs: Inputs,
-) -> Result<Opening, NoMemory>
+fn open(alloc: Global, asked: &NetworkRequest<'_>, inputs: Inputs) -> Result<Opening, NoMemory>
     requires runs { CanRun (network_view asked.now) }
     requires sound { CanBegin (network_view asked.now) (given_by asked.now.site inputs) }
     ensures { IfOk result (IsOpening (network_view asked.now) (given_by asked.now.site inputs)) }
