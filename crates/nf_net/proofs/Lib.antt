@@ -1,3 +1,4 @@
+pub mod AnswerSends
 pub mod AnsweredNotes
 pub mod ArrivalLemmas
 pub mod ArrivalNotes
@@ -10,6 +11,7 @@ pub mod BusyRuns
 pub mod CommandPromises
 pub mod CompleteRuns
 pub mod ControlOutline
+pub mod ControllerActs
 pub mod ControllerBegins
 pub mod ControllerScenes
 pub mod ControllerSteps
@@ -50,6 +52,11 @@ pub mod PlaceSteps
 pub mod RecordPromises
 pub mod RunUnits
 pub mod RunsJoined
+pub mod SettleCounts
+pub mod SettleRuns
+pub mod SettleSteps
+pub mod SourceRuns
+pub mod SourceSteps
 pub mod StartJoined
 pub mod StartingLemmas
 pub mod StateOutline

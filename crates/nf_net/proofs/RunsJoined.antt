@@ -79,7 +79,7 @@ module _ {R : Type 0} (f : Semantics R) (c : Config) (items : List Msg) (is : Is
   pub not_bared : (u : units.Unit) (ns : List Note) → is_loose f c items u ns ≡ false → has_begun (bares f gi u) ns ≡ false
   not_bared u ns h = not_begun (λ op. is_plain f c items u (order_of items op)) (bares f gi u) (λ op k. plain_of u (order_of items op) k) ns h
 
-times-append : (p : ℕ) (xs ys : List ℕ) → times p (xs ++ ys) ≡ times p xs + times p ys
+pub times-append : (p : ℕ) (xs ys : List ℕ) → times p (xs ++ ys) ≡ times p xs + times p ys
 times-append p [] ys = omega arith
 times-append p (x ∷ xs) ys = let rest = times-append p xs ys in omega (arith, rest)
 
