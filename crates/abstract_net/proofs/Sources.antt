@@ -1,9 +1,9 @@
 -- A unit whose move hasn't changed the rules yet: its packets are processed at the move's source, if that owns it, and no change of the
 -- rules that waits takes it.
-use Rattle.std.proofs.Common.{◌≡◌, ◌≢◌, ℕ, Bool, true, false, Option, Some, None, List, [], ◌∷◌, map, refl, sym, ap, ◌∙◌, subst}
-use Rattle.std.specs.Prelude.{◌==◌, ◌&&◌}
+use Rattle.std.proofs.Common.{◌≡◌, ◌≢◌, ℕ, Bool, true, false, Option, Some, None, List, [], ◌∷◌, ◌++◌, map, refl, sym, ap, ◌∙◌, subst}
+use Rattle.std.specs.Prelude.{if◌then◌else◌, ◌==◌, ◌&&◌}
 use Rattle.std.proofs.lemmas.Bool.Decides.{Decides-eqb}
-use Rattle.unit_machine.proofs.Machine.{At_a, Steps, Item, Fence_to, Install, Phase, Passing, Ending, Over, State}
+use Rattle.unit_machine.proofs.Machine.{At_a, Steps, Item, Fence_to, Install, Stray, Phase, Passing, Ending, Over, State}
 use Rattle.unit_machine.proofs.Real.{M_install, RPhase, R_freezing, R_streaming, R_holding, R_passing, R_ending, R_restoring, R_returning, R_undoing, R_over, Op, Frame, see_phase, where_true, add}
 use Rattle.unit_machine.proofs.Stages.{Stage, Laying, Turned, Fenced_a, Ending_b, Fence_b, Turned_loose, Fenced_loose, Ending_loose, Fence_loose, Fenced_b, Moved, Returned, shape, to_a}
 use Rattle.unit_machine.proofs.Labels.{Each}
@@ -50,9 +50,15 @@ never e = cc
 cons_nil : {X Y : Type 0} {x : X} {xs : List X} → [] ≡ x ∷ xs → Y
 cons_nil e = cc
 
+-- a change of the rules, which is a stray item where it isn't from the source to the destination
 abbrev is_install : {R : Type 0} → Item R → Bool
 is_install Install = true
+is_install Stray = true
 is_install it = false
+
+change_is : (R : Type 0) (b : Bool) → is_install {R = R} (if b then Install else Stray) ≡ true
+change_is R true = refl
+change_is R false = refl
 
 -- Of such a stage: nothing is on the way to the destination or to a third instance, and no change of the rules to the switch.
 record Is_early {R : Type 0} (x : State R) : Type 0 where
@@ -134,6 +140,8 @@ module _ {R : Type 0} (S : Sys R) (laws : IsSys S) (w : World S) (n : ℕ) (e : 
         by_test : (b : Bool) → (k == e.op.num) ≡ b → S.takes g u ≡ false
         by_test false off = label ∙ off
         by_test true on =
-            let view : Install ∷ items (seen (frame S (see S laws u e.op seated.third))) rest ≡ (shape S.F seated.stage).cs =
-            sym (ap (λ b. add (where_true b Install) (items (seen (frame S (see S laws u e.op seated.third))) rest)) on) ∙ ap (items (seen (frame S (see S laws u e.op seated.third)))) (sym waits) ∙ seated.holds.views 1 0 in
-            never (sym (seated.is.cs Install (items (seen (frame S (see S laws u e.op seated.third))) rest) (sym view)))
+            let v : Frame = frame S (see S laws u e.op seated.third) in
+            let it : Item R = if (from == v.from) && (to == v.to) then Install else Stray in
+            let view : it ∷ items (seen v) rest ≡ (shape S.F seated.stage).cs =
+            sym (ap (λ b. add (where_true b it) (items (seen v) rest)) on) ∙ ap (items (seen v)) (sym waits) ∙ seated.holds.views 1 0 in
+            never (sym (seated.is.cs it (items (seen v) rest) (sym view)) ∙ change_is R ((from == v.from) && (to == v.to)))
