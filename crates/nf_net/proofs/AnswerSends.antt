@@ -102,6 +102,7 @@ module _ (plan : MovePlan) where
     destination_enabled_quiet ph = tt
 
     destination_fenced_quiet : (ph : Phase) → Quiet (on_destination_fenced plan ph)
+    destination_fenced_quiet phase.Ending = tt
     destination_fenced_quiet ph = tt
 
     put_ok_quiet : (ph : Phase) → Quiet (on_put_ok plan ph events).next

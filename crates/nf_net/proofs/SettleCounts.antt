@@ -26,7 +26,7 @@ abbrev pub AllAnswered : List Command → List Note → Type 0
 AllAnswered cs log = Each (λ c. has_answered c.op log ≡ true) cs
 
 pub answered_in-append : (xs ys : List Command) (log : List Note) → answered_in (xs ++ ys) log ≡ answered_in xs log + answered_in ys log
-answered_in-append [] ys log = refl
+answered_in-append [] ys log = omega arith
 answered_in-append (c ∷ xs) ys log = let rest = answered_in-append xs ys log in omega (arith, rest)
 
 flag_most : (b : Bool) → flag b ≤ 1

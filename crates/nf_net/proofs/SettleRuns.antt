@@ -52,7 +52,7 @@ use Rattle.nf_net.proofs.PlaceNotes.{is_unprocessed, AreUnprocessed, switch_unpr
 use Rattle.nf_net.proofs.PlaceRuns.{processed_off, uninstalled_unprocessed}
 use Rattle.nf_net.proofs.RunsJoined.{start_world, once, times-append}
 use Rattle.nf_net.proofs.SettleCounts.{AllAnswered, answered_in, all_answered_more, found, commands-append, packets-append, longer_end}
-use Rattle.nf_net.proofs.SettleSteps.{Counted, items_none, counted_after}
+use Rattle.nf_net.proofs.SettleSteps.{Counted, each_map, items_none, counted_after}
 use Rattle.nf_net.proofs.StateOutline.{all_each}
 use Rattle.nf_net.proofs.StartJoined.{given, all_fit, all_labelled, count_at_start, start_joined}
 
@@ -215,9 +215,6 @@ module _ (F : Type 0) {R : Type 0} (f : Semantics R) (laws : FunctionLaws f) (al
   pub settles : (cs : List Choice) → IsRun node_ready step cs start → ArePlaces c items f.kind (run step cs start).log → Settles c items f.kind (run step cs start).log
   settles cs run_is places behind before after p i output settle has e none = by_place (places before after p i output e)
     where
-      abbrev u : units.Unit
-      u = unit_at f.kind c.site (packet_of items p)
-
       off_answered : (x y : Bool) → y ≡ true → x && not y ≡ false
       off_answered true y h = rw h refl
       off_answered false y h = refl
@@ -225,23 +222,19 @@ module _ (F : Type 0) {R : Type 0} (f : Semantics R) (laws : FunctionLaws f) (al
       off_began : (x y : Bool) → x ≡ false → x && not y ≡ false
       off_began x y h = rw h refl
 
-      each_off : (P Q : Command → Type 0) → ((x : Command) → P x → Q x) → (xs : List Command) → Each P xs → Each Q xs
-      each_off P Q more [] h = tt
-      each_off P Q more (x ∷ xs) h = (more x h.0, each_off P Q more xs h.1)
-
       none_busy : Each (λ x. is_busy x.op before ≡ false) (commands items)
       none_busy = subst (λ xs. Each (λ x. is_busy x.op before ≡ false) xs) (sym (ap commands settle.whole ∙ commands-append settle.front (msg.InSettle ∷ behind)))
           (each-append (λ x. is_busy x.op before ≡ false) (commands settle.front) (commands behind)
-          (each_off (λ x. has_answered x.op before ≡ true) (λ x. is_busy x.op before ≡ false) (λ x h. off_answered (began x.op before) (has_answered x.op before) h) (commands settle.front) ((run_keeps cs run_is).answered settle.front behind settle.whole before after p i output has e))
-          (each_off (λ x. began x.op before ≡ false) (λ x. is_busy x.op before ≡ false) (λ x h. off_began (began x.op before) (has_answered x.op before) h) (commands behind) (all_each (λ x. began x.op before ≡ false) (commands behind) none)))
+          (each_map (λ x. has_answered x.op before ≡ true) (λ x. is_busy x.op before ≡ false) (λ x h. off_answered (began x.op before) (has_answered x.op before) h) (commands settle.front) ((run_keeps cs run_is).answered settle.front behind settle.whole before after p i output has e))
+          (each_map (λ x. began x.op before ≡ false) (λ x. is_busy x.op before ≡ false) (λ x h. off_began (began x.op before) (has_answered x.op before) h) (commands behind) (all_each (λ x. began x.op before ≡ false) (commands behind) none)))
 
-      not_moving : (source destination : List ℕ) → IsMoving c items u before source destination → ⊥
+      not_moving : (source destination : List ℕ) → IsMoving c items (unit_at f.kind c.site (packet_of items p)) before source destination → ⊥
       not_moving source destination m =
           let it = found (λ x. is_busy x.op before ≡ false) m.op (order.Move source destination m.filter m.keep) (commands items) none_busy m.order in
           let never : false ≡ true = sym it.2 ∙ ap (λ k. is_busy k before) it.1 ∙ m.busy in
           cc
 
-      by_place : IsPlace c items u before i → i ≡ owner c items u before
+      by_place : IsPlace c items (unit_at f.kind c.site (packet_of items p)) before i → i ≡ owner c items (unit_at f.kind c.site (packet_of items p)) before
       by_place (Owns at) = at
       by_place (Is_source source destination m at) = absurd (not_moving source destination m)
       by_place (Is_destination source destination m at) = absurd (not_moving source destination m)

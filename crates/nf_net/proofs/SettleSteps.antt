@@ -142,7 +142,7 @@ each_behind : {X : Type 0} (P : X → Type 0) (xs ys : List X) → Each P (xs ++
 each_behind P [] ys h = h
 each_behind P (x ∷ xs) ys h = each_behind P xs ys h.1
 
-each_map : {X : Type 0} (P Q : X → Type 0) → ((x : X) → P x → Q x) → (xs : List X) → Each P xs → Each Q xs
+pub each_map : {X : Type 0} (P Q : X → Type 0) → ((x : X) → P x → Q x) → (xs : List X) → Each P xs → Each Q xs
 each_map P Q more [] h = tt
 each_map P Q more (x ∷ xs) h = (more x h.0, each_map P Q more xs h.1)
 
@@ -320,15 +320,9 @@ module _ (F : Type 0) {R : Type 0} (f : Semantics R) (laws : FunctionLaws f) (al
           settled = settled_after 1 p m rest takes ready (switch_same takes.some) goes;
         }
       where
-        abbrev after_log : List Note
-        after_log = (taken step w (at 1 p)).log
-
         not_asked : Input_goes m (waiting w (at 0 0)) (waiting (taken step w (at 1 p)) (at 0 0)) (Is_ready 1 p m rest takes ready) → asking m ≡ 0
         not_asked (Stays e none) = none
         not_asked (Loses e r) = let never = r.0 in cc
-
-        abbrev Balanced : Type 0
-        Balanced = h.switch.waiting + answered_in (commands items) after_log + length (commands (waiting (taken step w (at 1 p)) (at 0 0))) ≡ length (commands items) + total answering (taken step w (at 1 p))
 
         stays_by : (ns : List Note) → (controller_step j.nodes.controller p m).notes ≡ ns → ((op : ℕ) → has_answered op ns ≡ false) → answered_in (commands items) (w.log ++ (controller_step j.nodes.controller p m).notes) ≡ answered_in (commands items) w.log + 0
         stays_by ns e none = let same = ap (λ xs. answered_in (commands items) (w.log ++ xs)) e in let stays = answered_in_same (commands items) w.log ns none in omega (arith, same, stays)
@@ -338,14 +332,14 @@ module _ (F : Type 0) {R : Type 0} (f : Semantics R) (laws : FunctionLaws f) (al
         unanswered_before op a e false is = is
         unanswered_before op a e true is =
             let self : (op == op) ≡ true = grind (arith, nat_tests) in
-            let log : after_log ≡ w.log ++ note.Answered op a ∷ [] = (taken_outcome step n w 1 p (node_of j.nodes 1) m rest takes).log ∙ ap (λ ns. w.log ++ ns) e in
+            let log : (taken step w (at 1 p)).log ≡ w.log ++ note.Answered op a ∷ [] = (taken_outcome step n w 1 p (node_of j.nodes 1) m rest takes).log ∙ ap (λ ns. w.log ++ ns) e in
             let one : length (answers_of op (note.Answered op a ∷ [])) ≡ 1 = rw self refl in
             let both = ap (λ l. length (answers_of op l)) log ∙ ap length (answers_of-append op w.log (note.Answered op a ∷ [])) ∙ length-append (answers_of op w.log) (answers_of op (note.Answered op a ∷ [])) in
             let some = some_answers op w.log is in
             let once = (after.is.answered op).answered_once in
             absurd (omega (arith, one, both, some, once))
 
-        by_says : Says_so g n reach j.nodes.controller (controller_step j.nodes.controller p m) → h.switch.waiting + answering m ≡ h.switch.waiting + asking m → Balanced
+        by_says : Says_so g n reach j.nodes.controller (controller_step j.nodes.controller p m) → h.switch.waiting + answering m ≡ h.switch.waiting + asking m → h.switch.waiting + answered_in (commands items) (taken step w (at 1 p)).log + length (commands (waiting (taken step w (at 1 p)) (at 0 0))) ≡ length (commands items) + total answering (taken step w (at 1 p))
         by_says (Neither e sent) counts = balance_after 1 p m rest takes ready h.switch 0 counts (stays_by [] e (λ op. refl)) sent
         by_says (Begins op e sent closed) counts = balance_after 1 p m rest takes ready h.switch 0 counts (stays_by (note.Begun op ∷ []) e (λ k. refl)) sent
         by_says (Answers op a what e sent known early) counts = balance_after 1 p m rest takes ready h.switch 1 counts

@@ -213,25 +213,19 @@ module _ (F : Type 0) {R : Type 0} (f : Semantics R) (laws : FunctionLaws f) (al
       refused_now : (op : ℕ) (a : Answer) (first between cs back : List Note) → a ≢ Done → first ++ note.Begun op ∷ between ≡ w.log ++ cs → notes ≡ cs ++ note.Answered op a ∷ back → (front behind : List Note) (number i : ℕ) (output : Output) → between ≡ front ++ note.Processed number i output ∷ behind → moves_away c (order_of items op) (unit_numbered c items f.kind number) (owner c items (unit_numbered c items f.kind number) first) ≡ true → i ≡ owner c items (unit_numbered c items f.kind number) first
       refused_now op a first between cs back refused from there front behind number i output e away = by_says acts.says
         where
-          abbrev u : units.Unit
-          u = unit_numbered c items f.kind number
-
-          Goal : Type 0
-          Goal = i ≡ owner c items u first
-
           -- the move was open, and early
-          was_open : (x : MoveState) → finite.get t.operations op ≡ Some (Move x) → passed x.phase ≡ 0 → w.log ≡ first ++ note.Begun op ∷ between → Goal
+          was_open : (x : MoveState) → finite.get t.operations op ≡ Some (Move x) → passed x.phase ≡ 0 → w.log ≡ first ++ note.Begun op ∷ between → i ≡ owner c items (unit_numbered c items f.kind number) first
           was_open x got early whole =
               let of = under.plan_is op x got in
               let order_is = of.order in
               let from_is = of.from in
-              let both : takes x.plan.filter u && (owner c items u first == x.plan.from) ≡ true = rw (order_is, from_is) at away in
-              let owned = (Decides-eqb (owner c items u first) x.plan.from).0 (and_r (takes x.plan.filter u) _ both) in
-              let stayed = kept op x got early first between u whole (units_fit f c items is number) (and_l (takes x.plan.filter u) _ both) owned in
-              each_there (Is_at f c items u x.plan.from) front (note.Processed number i output) behind (subst (λ ns. Are_at f c items u x.plan.from ns) e stayed.1) refl ∙ sym owned
+              let both : takes x.plan.filter (unit_numbered c items f.kind number) && (owner c items (unit_numbered c items f.kind number) first == x.plan.from) ≡ true = rw (order_is, from_is) at away in
+              let owned = (Decides-eqb (owner c items (unit_numbered c items f.kind number) first) x.plan.from).0 (and_r (takes x.plan.filter (unit_numbered c items f.kind number)) _ both) in
+              let stayed = kept op x got early first between (unit_numbered c items f.kind number) whole (units_fit f c items is number) (and_l (takes x.plan.filter (unit_numbered c items f.kind number)) _ both) owned in
+              each_there (Is_at f c items (unit_numbered c items f.kind number) x.plan.from) front (note.Processed number i output) behind (subst (λ ns. Are_at f c items (unit_numbered c items f.kind number) x.plan.from ns) e stayed.1) refl ∙ sym owned
 
           -- a command that isn't open would be answered twice
-          was_closed : finite.get t.operations op ≡ None → notes ≡ note.Answered op a ∷ [] → w.log ≡ first ++ note.Begun op ∷ between → Goal
+          was_closed : finite.get t.operations op ≡ None → notes ≡ note.Answered op a ∷ [] → w.log ≡ first ++ note.Begun op ∷ between → i ≡ owner c items (unit_numbered c items f.kind number) first
           was_closed none noted whole =
               let off : is_busy op w.log ≡ false = sym (busy_is f g n refl w j b op) ∙ ap is_some none in
               let on : began op w.log ≡ true = ap (began op) whole ∙ began_there op first between in
@@ -247,22 +241,22 @@ module _ (F : Type 0) {R : Type 0} (f : Semantics R) (laws : FunctionLaws f) (al
               answered_of true h = refl
               answered_of false h = cc
 
-          by_got : (o : Option Operation) → finite.get t.operations op ≡ o → IsEarly o → notes ≡ note.Answered op a ∷ [] → w.log ≡ first ++ note.Begun op ∷ between → Goal
+          by_got : (o : Option Operation) → finite.get t.operations op ≡ o → IsEarly o → notes ≡ note.Answered op a ∷ [] → w.log ≡ first ++ note.Begun op ∷ between → i ≡ owner c items (unit_numbered c items f.kind number) first
           by_got None got early noted whole = was_closed got noted whole
           by_got (Some (Move x)) got early noted whole = was_open x got early whole
 
-          by_alone : (k : ℕ) (d : Answer) → notes ≡ note.Answered k d ∷ [] → (d ≢ Done → IsEarly (finite.get t.operations k)) → Alone (note.Answered k d) (note.Answered op a) cs back → Goal
+          by_alone : (k : ℕ) (d : Answer) → notes ≡ note.Answered k d ∷ [] → (d ≢ Done → IsEarly (finite.get t.operations k)) → Alone (note.Answered k d) (note.Answered op a) cs back → i ≡ owner c items (unit_numbered c items f.kind number) first
           by_alone k d noted early (Is_it same front none) =
               let op_is : k ≡ op = ap (answer_in 0) same in
               let a_is : d ≡ a = ap (answer_of_note Done) same in
               let whole : w.log ≡ first ++ note.Begun op ∷ between = sym (from ∙ ap (λ xs. w.log ++ xs) front ∙ append-nil w.log) in
               by_got (finite.get t.operations op) refl (subst (λ q. IsEarly (finite.get t.operations q)) op_is (early (λ is_done. refused (sym a_is ∙ is_done)))) (noted ∙ ap (λ y. y ∷ []) same) whole
 
-          by_says : Says_so g n reach t (controller_step t p m) → Goal
+          by_says : Says_so g n reach t (controller_step t p m) → i ≡ owner c items (unit_numbered c items f.kind number) first
           by_says (Neither noted sent) = none_there (note.Answered op a) cs back (sym noted ∙ there)
           by_says (Begins k noted sent closed) = not_both (alone (note.Begun k) (note.Answered op a) cs back (sym noted ∙ there))
             where
-              not_both : Alone (note.Begun k) (note.Answered op a) cs back → Goal
+              not_both : Alone (note.Begun k) (note.Answered op a) cs back → i ≡ owner c items (unit_numbered c items f.kind number) first
               not_both (Is_it same front none) = cc
           by_says (Answers k d what noted sent known early) = by_alone k d noted early (alone (note.Answered k d) (note.Answered op a) cs back (sym noted ∙ there))
 
@@ -294,9 +288,12 @@ module _ (F : Type 0) {R : Type 0} (f : Semantics R) (laws : FunctionLaws f) (al
   start_keeps = record {
     controller = opened_controller c.names c.site;
     controller_is = λ d. refl;
-    stay = λ op m there early. (let never = sym there ∙ finite.get-empty nat_cmp op in cc);
+    stay = λ op m there early. (let never = sym there ∙ closed op in cc);
     at_source = λ op first between before after number i output refused e away. none_there (note.Begun op) first _ refused.whole;
   }
+    where
+      closed : (op : ℕ) → finite.get (finite.empty {X = Operation} {R = nat_cmp}) op ≡ None
+      closed op = finite.get-empty nat_cmp op
 
   run_keeps : (cs : List Choice) → IsRun node_ready step cs start → Keeps (run step cs start)
   run_keeps cs run_is = run_induction node_ready step n (λ _ w. Keeps w) start (λ ds w d next h. subst (λ v. Taking node_ready step n v d → Keeps v → Keeps (taken step v d)) (sym next.reached) (λ q k. (let both = run_busy F f laws alloc c items is ds next.is_run in next_keeps (run step ds start) both.0 both.1 (moves_under_way F f laws alloc c items is ds next.is_run both.0) ((run_owners F f laws alloc c items is ds next.is_run).owners both.0) k d q)) next.taking h) (start_world F f laws alloc c items is) (count_at_start F f alloc c items is) start_keeps cs run_is
