@@ -133,6 +133,7 @@ module _ (g : Given) (n : ℕ) (reach : reaches n 1 0 ≡ true) (c : ControllerS
             | false ↦ λ other. Was_open y other zero refl
           ] (sym (got_remove (finite.insert c.operations op (Move x)) op k ∙ ap (λ o. cond (k == op) None o) (got_insert c.operations op k (Move x)) ∙ gone_twice (k == op) (Some (Move x)) (finite.get c.operations k)) ∙ there);
         }
+
     handed_acts : (op port : ℕ) (m : Msg) → Acts (handed c op port m)
     handed_acts op port m = turn_acts op port m (finite.get c.operations op) refl
 

@@ -63,7 +63,7 @@ times_low p least (k ∷ ks) less h =
     let first = h.0 in
     let off : (p == k) ≡ false = grind (arith, nat_tests, less, first) in
     let rest = times_low p (suc k) ks (omega (arith, less, first)) h.1 in
-    rw off rest
+    rw off (omega (arith, rest))
 
 times_once : (p least : ℕ) (ks : List ℕ) → IsRising least ks → times p ks ≤ 1
 times_once p least [] h = omega arith
@@ -202,7 +202,7 @@ module _ (F : Type 0) {R : Type 0} (f : Semantics R) (laws : FunctionLaws f) (al
     where
       none_in : (cs : List Command) → answered_in cs [] ≡ 0
       none_in [] = refl
-      none_in (x ∷ cs) = none_in cs
+      none_in (x ∷ cs) = let rest = none_in cs in omega (arith, rest)
 
       none : (front behind : List Msg) → items ≡ front ++ msg.InSettle ∷ behind → (before after : List Note) (p i : ℕ) (output : Output) → has_packet p behind ≡ true → [] ≡ before ++ note.Processed p i output ∷ after → AllAnswered (commands front) before
       none front behind whole [] after p i output has e = cc

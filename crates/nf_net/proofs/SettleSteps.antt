@@ -88,7 +88,7 @@ module _ {R : Type 0} (f : Semantics R) (g : Given) where
       let rest = none_sent n k xs other h.1 in
       rw (own, rest, if_zero (reaches n k x.0)) refl
 
-  items_none : (items : List Msg) → Each (Label f g 0 0) items → weigh answering items ≡ 0
+  pub items_none : (items : List Msg) → Each (Label f g 0 0) items → weigh answering items ≡ 0
   items_none [] h = refl
   items_none (m ∷ ms) h = let own = no_answer_from 0 0 m (λ never. cc) h.0 in let rest = items_none ms h.1 in omega (arith, own, rest)
 
@@ -175,11 +175,11 @@ module _ {F R : Type 0} (g : Given) (w : Network (Node F R) Msg Note) (b : Busy 
 
     -- where the switch counts none, all that was taken is answered
     none_waits : h.switch.waiting ≡ 0 → AllAnswered (commands h.took) w.log
-    none_waits zero =
+    none_waits none =
         let all = lengths in
         let same = answered_are in
         let balance = h.balance in
-        all_answered (commands h.took) w.log (omega (arith, all, same, balance, zero))
+        all_answered (commands h.took) w.log (omega (arith, all, same, balance, none))
 
 -- what a step does to the input
 data Input_goes (m : Msg) (before after : List Msg) (ready : Type 0) : Type 0 where
@@ -244,7 +244,7 @@ module _ (F : Type 0) {R : Type 0} (f : Semantics R) (laws : FunctionLaws f) (al
         where
           counted : (x : Msg) (xs : List Msg) → length (commands (x ∷ xs)) ≡ asking x + length (commands xs)
           counted (msg.InCommand d) xs = omega arith
-          counted x xs = refl
+          counted x xs = omega arith
 
           input_counts : Input_goes m (waiting w (at 0 0)) (waiting v (at 0 0)) Is_ready → length (commands (waiting v (at 0 0))) + asking m ≡ length (commands (waiting w (at 0 0)))
           input_counts (Stays e none) = let same = ap (λ xs. length (commands xs)) e in omega (arith, same, none)

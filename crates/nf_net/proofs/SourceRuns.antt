@@ -11,7 +11,7 @@ use Rattle.nf_function.specs.declared.output.Output.{Output}
 use Rattle.nf_function.specs.declared.unit.Unit as units
 use Rattle.nf_function.specs.Records.{Laws as FunctionLaws}
 use Rattle.nf_function.specs.Semantics.{Semantics}
-use Rattle.nf_function.specs.Units.{takes}
+use Rattle.nf_function.specs.Units.{takes as takes_unit}
 use Rattle.nf_msgs.specs.declared.answer.Answer.{Answer}
 use Rattle.nf_msgs.specs.declared.answer.Answer.TheVariants.{Done}
 use Rattle.nf_msgs.specs.declared.command.Order.TheVariants as order
@@ -79,11 +79,11 @@ none_there : {X Y : Type 0} (y : X) (front back : List X) → [] ≡ front ++ y 
 none_there y [] back e = cc
 none_there y (z ∷ front) back e = cc
 
-answer_in : ℕ → Note → ℕ
+abbrev answer_in : ℕ → Note → ℕ
 answer_in d (note.Answered op a) = op
 answer_in d n = d
 
-answer_of_note : Answer → Note → Answer
+abbrev answer_of_note : Answer → Note → Answer
 answer_of_note d (note.Answered op a) = a
 answer_of_note d n = d
 
@@ -143,15 +143,15 @@ module _ (F : Type 0) {R : Type 0} (f : Semantics R) (laws : FunctionLaws f) (al
 
     -- the switch
     switch_leaves : (p : ℕ) (m : Msg) (rest : List Msg) → Takes step n w 0 p (node_of j.nodes 0) m rest → Label f g p 0 m → Changes j.nodes.switch m → (op : ℕ) (x : MoveState) → finite.get j.nodes.controller.operations op ≡ Some (Move x) → passed x.phase ≡ 0 → Leaves f c items x.plan.filter x.plan.from w.log (switch_step j.nodes.switch m).notes
-    switch_leaves p m rest takes labelled (Rules_stay rules none) op x there early = quiet_leaves f c items x.plan.filter x.plan.from w.log (switch_step j.nodes.switch m).notes (λ u i. owner_uninstalled c items u i (switch_step j.nodes.switch m).notes none) (switch_unprocessed j.nodes.switch m)
-    switch_leaves p m rest takes labelled (Installs k filter from to e) op x there early u fits taken owned =
+    switch_leaves p m rest takes labelled (Rules_stay rules none) op x there early u fits owning owned = quiet_leaves f c items x.plan.filter x.plan.from w.log (switch_step j.nodes.switch m).notes (λ u i. owner_uninstalled c items u i (switch_step j.nodes.switch m).notes none) (switch_unprocessed j.nodes.switch m) u fits owning owned
+    switch_leaves p m rest takes labelled (Installs k filter from to e) op x there early u fits owning owned =
         let l = subst (λ y. Label f g p 0 y) e labelled in
         let dst = instance_in to in
         let same : m ≡ msg.Install k filter from (target.Instance dst) = e ∙ ap (λ t. msg.Install k filter from t) (instance_is (length c.names) to l.2) in
         let waits : waiting w (at 0 1) ≡ msg.Install k filter from (target.Instance dst) ∷ rest = ap (λ q. waiting w (at 0 q)) (sym l.0.0) ∙ takes.waits ∙ ap (λ y. y ∷ rest) same in
         let of = under.install_is k filter from dst rest waits in
         let link = j.links 1 0 (omega arith) takes.some refl ∙ ap (λ ms. filter_map (shown f g) ms) waits in
-        let off = other_change f laws c items is n w j owners op x there early u fits taken owned k filter (instance_node from) (instance_node dst) _ l.3 link in
+        let off = other_change f laws c items is n w j owners op x there early u fits owning owned k filter (instance_node from) (instance_node dst) _ l.3 link in
         let same_count = j.shown_is.switch.instances in
         let from_there : nat_lt from j.nodes.switch.instances ≡ true = rw same_count l.1 in
         let to_there : nat_lt dst j.nodes.switch.instances ≡ true = rw same_count (there_is (length c.names) to l.2) in
@@ -219,9 +219,9 @@ module _ (F : Type 0) {R : Type 0} (f : Semantics R) (laws : FunctionLaws f) (al
               let of = under.plan_is op x got in
               let order_is = of.order in
               let from_is = of.from in
-              let both : takes x.plan.filter (unit_numbered c items f.kind number) && (owner c items (unit_numbered c items f.kind number) first == x.plan.from) ≡ true = rw (order_is, from_is) at away in
-              let owned = (Decides-eqb (owner c items (unit_numbered c items f.kind number) first) x.plan.from).0 (and_r (takes x.plan.filter (unit_numbered c items f.kind number)) _ both) in
-              let stayed = kept op x got early first between (unit_numbered c items f.kind number) whole (units_fit f c items is number) (and_l (takes x.plan.filter (unit_numbered c items f.kind number)) _ both) owned in
+              let both : takes_unit x.plan.filter (unit_numbered c items f.kind number) && (owner c items (unit_numbered c items f.kind number) first == x.plan.from) ≡ true = rw (order_is, from_is) at away in
+              let owned = (Decides-eqb (owner c items (unit_numbered c items f.kind number) first) x.plan.from).0 (and_r (takes_unit x.plan.filter (unit_numbered c items f.kind number)) _ both) in
+              let stayed = kept op x got early first between (unit_numbered c items f.kind number) whole (units_fit f c items is number) (and_l (takes_unit x.plan.filter (unit_numbered c items f.kind number)) _ both) owned in
               each_there (Is_at f c items (unit_numbered c items f.kind number) x.plan.from) front (note.Processed number i output) behind (subst (λ ns. Are_at f c items (unit_numbered c items f.kind number) x.plan.from ns) e stayed.1) refl ∙ sym owned
 
           -- a command that isn't open would be answered twice

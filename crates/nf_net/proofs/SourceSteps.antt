@@ -64,7 +64,7 @@ each_by : {X : Type 0} (P : X → Type 0) (front xs whole : List X) → whole �
 each_by P front [] whole e all = tt
 each_by P front (x ∷ xs) whole e all = (all front xs x e, each_by P (front ++ x ∷ []) xs whole (e ∙ sym (append_assoc front (x ∷ []) xs)) all)
 
-began_there : (op : ℕ) (front back : List Note) → began op (front ++ note.Begun op ∷ back) ≡ true
+pub began_there : (op : ℕ) (front back : List Note) → began op (front ++ note.Begun op ∷ back) ≡ true
 began_there op front back =
     let self : (op == op) ≡ true = grind (arith, nat_tests) in
     has_begun-append (λ k. k == op) front (note.Begun op ∷ back) ∙ ap (λ b. began op front || (b || began op back)) self ∙ or_true (began op front)
