@@ -1,7 +1,7 @@
 -- Of every run: where a packet behind a settle is processed, all commands before the settle are answered; so it is processed at its
 -- owner, if no command behind the settle has begun.
-use Rattle.std.proofs.Common.{◌≡◌, ◌≢◌, ℕ, zero, suc, ◌+◌, ◌<◌, ◌≤◌, Bool, true, false, Option, Some, None, List, [], ◌∷◌, ◌++◌, map, length, length-append, append_assoc, refl, sym, ap, ◌∙◌, subst, arith}
-use Rattle.std.specs.Prelude.{if◌then◌else◌, ◌&&◌, ◌==◌, not, nat_lt, find, is_some, option_map, All}
+use Rattle.std.proofs.Common.{◌≡◌, ℕ, zero, suc, ◌+◌, ◌<◌, ◌≤◌, Bool, true, false, Some, List, [], ◌∷◌, ◌++◌, map, length, length-append, append_assoc, refl, sym, ap, ◌∙◌, subst, arith}
+use Rattle.std.specs.Prelude.{if◌then◌else◌, ◌&&◌, ◌==◌, not, nat_lt, find, is_some}
 use Rattle.std.specs.declared.alloc.Global.{Global}
 use Rattle.std.proofs.lemmas.Bool.Decides.{nat_tests, Decides-ltb, Decides-eqb}
 use Rattle.std.proofs.lemmas.List.{map-append}
@@ -12,7 +12,6 @@ use Rattle.nf_function.specs.Records.{Laws as FunctionLaws}
 use Rattle.nf_function.specs.Semantics.{Semantics, unit_at}
 use Rattle.record_table.proofs.UnitOrder.{same_unit_equiv}
 use Rattle.nf_msgs.specs.declared.command.Command.{Command}
-use Rattle.nf_msgs.specs.declared.command.Order.{Order}
 use Rattle.nf_msgs.specs.declared.command.Order.TheVariants as order
 use Rattle.nf_msgs.specs.declared.msg.Msg.{Msg}
 use Rattle.nf_msgs.specs.declared.msg.Msg.TheVariants as msg
@@ -28,16 +27,15 @@ use Rattle.actor_net.proofs.WeightLaws.{total}
 use Rattle.unit_machine.proofs.Labels.{Each, each-append}
 use Rattle.switch_node.specs.Switch.{switch_step}
 use Rattle.ctrl_node.specs.Controller.{controller_step}
-use Rattle.instance_worker.specs.Instance.{instance_step}
 use Rattle.nf_net.specs.declared.config.Config.{Config}
 use Rattle.nf_net.specs.declared.node.Node.{Node}
 use Rattle.nf_net.specs.Commands.{began, has_answered, is_busy}
-use Rattle.nf_net.specs.Input.{packets, packet_of, commands, order_of, IsRising, IsInput}
-use Rattle.nf_net.specs.Log.{Done, arrived, done, done_of, those}
+use Rattle.nf_net.specs.Input.{packets, packet_of, commands, IsRising, IsInput}
+use Rattle.nf_net.specs.Log.{arrived, done, done_of, those}
 use Rattle.nf_net.specs.Nodes.{node_step, node_ready}
 use Rattle.nf_net.specs.Places.{owner, IsMoving, IsPlace, Owns, Is_source, Is_destination, ArePlaces}
 use Rattle.nf_net.specs.Promises.{times, is_of, came, went}
-use Rattle.nf_net.specs.Settles.{IsBehind, has_packet, NoneBegan, Settles}
+use Rattle.nf_net.specs.Settles.{has_packet, Settles}
 use Rattle.nf_net.specs.Start.{first_nodes, first_switch, started}
 use Rattle.nf_net.proofs.ArrivalLemmas.{numbers, runs_joined}
 use Rattle.nf_net.proofs.ArrivalNotes.{instance_notes_none}
@@ -47,14 +45,14 @@ use Rattle.nf_net.proofs.CommandPromises.{run_busy}
 use Rattle.nf_net.proofs.Joined.{Given, Joined, node_of}
 use Rattle.nf_net.proofs.JoinedSteps.{joined_next}
 use Rattle.nf_net.proofs.LogLemmas.{arrived-append}
-use Rattle.nf_net.proofs.OwnerLemmas.{Stands, In_first, In_second, stands, each_there}
-use Rattle.nf_net.proofs.PlaceNotes.{is_unprocessed, AreUnprocessed, switch_unprocessed, controller_uninstalled}
+use Rattle.nf_net.proofs.OwnerLemmas.{Stands, In_first, In_second, stands}
+use Rattle.nf_net.proofs.PlaceNotes.{switch_unprocessed, controller_uninstalled}
 use Rattle.nf_net.proofs.PlaceRuns.{processed_off, uninstalled_unprocessed}
 use Rattle.nf_net.proofs.RunsJoined.{start_world, once, times-append}
 use Rattle.nf_net.proofs.SettleCounts.{AllAnswered, answered_in, all_answered_more, found, commands-append, packets-append, longer_end}
 use Rattle.nf_net.proofs.SettleSteps.{Counted, each_map, items_none, counted_after}
 use Rattle.nf_net.proofs.StateOutline.{all_each}
-use Rattle.nf_net.proofs.StartJoined.{given, all_fit, all_labelled, count_at_start, start_joined}
+use Rattle.nf_net.proofs.StartJoined.{given, all_fit, all_labelled, count_at_start}
 
 -- A number that stands in rising ones stands there once.
 times_low : (p least : ℕ) (ks : List ℕ) → p < least → IsRising least ks → times p ks ≡ 0

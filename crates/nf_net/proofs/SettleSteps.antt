@@ -1,16 +1,12 @@
 -- Each choice of a run keeps that the switch counts the commands that wait for their answer, and so that what stands before a settle that
 -- it has taken is answered.
-use Rattle.std.proofs.Common.{◌≡◌, ◌≢◌, ℕ, zero, suc, ◌+◌, ◌-◌, ◌^◌, ◌<◌, ◌≤◌, Bool, true, false, Option, Some, None, List, [], ◌∷◌, ◌++◌, map, length, length-append, get_or, drop, append_assoc, refl, sym, ap, ◌∙◌, subst, arith}
-use Rattle.std.specs.Prelude.{if◌then◌else◌, ◌&&◌, ◌||◌, ◌==◌, not, nat_lt, min, find, option_map}
+use Rattle.std.proofs.Common.{◌≡◌, ◌≢◌, ℕ, zero, suc, ◌+◌, ◌-◌, ◌^◌, ◌<◌, ◌≤◌, Bool, true, false, List, [], ◌∷◌, ◌++◌, length, length-append, get_or, drop, append_assoc, refl, sym, ap, ◌∙◌, subst, arith}
+use Rattle.std.specs.Prelude.{if◌then◌else◌, ◌&&◌, ◌||◌, ◌==◌, not, nat_lt, min}
 use Rattle.std.specs.declared.alloc.Global.{Global}
-use Rattle.std.specs.FinMap as finite
 use Rattle.std.proofs.lemmas.Bool.Decides.{nat_tests, Decides-eqb, Decides-ltb}
-use Rattle.nf_function.specs.declared.output.Output.{Output}
 use Rattle.nf_function.specs.Records.{Laws as FunctionLaws}
 use Rattle.nf_function.specs.Semantics.{Semantics}
 use Rattle.nf_msgs.specs.declared.answer.Answer.{Answer}
-use Rattle.nf_msgs.specs.declared.command.Command.{Command}
-use Rattle.nf_msgs.specs.declared.command.Order.{Order}
 use Rattle.nf_msgs.specs.declared.msg.Msg.{Msg}
 use Rattle.nf_msgs.specs.declared.msg.Msg.TheVariants as msg
 use Rattle.nf_msgs.specs.declared.note.Note.{Note}
@@ -26,15 +22,12 @@ use Rattle.switch_node.specs.declared.switch.TheConstants.{MOST_WAITING}
 use Rattle.switch_node.specs.Switch as switches
 use Rattle.switch_node.specs.Switch.{SwitchState, switch_step, takes_in}
 use Rattle.ctrl_node.specs.Controller.{controller_step}
-use Rattle.actor_net.specs.declared.choice.Choice.{Choice}
-use Rattle.actor_net.specs.Network.{Network, Stepped, IsRun, is_input, reaches, run, taken, waiting}
+use Rattle.actor_net.specs.Network.{Network, Stepped, is_input, reaches, taken, waiting}
 use Rattle.actor_net.proofs.EnabledChoices.{at}
-use Rattle.actor_net.proofs.OpeningWorlds.{opening_waiting, opening_weight}
-use Rattle.actor_net.proofs.RunInduction.{Taking, run_induction}
 use Rattle.actor_net.proofs.StepOutcome.{Takes, taken_outcome}
 use Rattle.actor_net.proofs.WaitingMessages.{less_first}
 use Rattle.actor_net.proofs.WeightLaws.{EachSent, weigh, total, sent_weight, total_after}
-use Rattle.unit_machine.proofs.Labels.{Each, each-append}
+use Rattle.unit_machine.proofs.Labels.{Each}
 use Rattle.abstract_net.proofs.Waits.{Rising}
 use Rattle.nf_net.specs.declared.config.Config.{Config}
 use Rattle.nf_net.specs.declared.node.Node.{Node}
@@ -42,20 +35,17 @@ use Rattle.nf_net.specs.declared.node.Node.TheVariants.{Switch}
 use Rattle.nf_net.specs.Commands.{has_answered, answers_of}
 use Rattle.nf_net.specs.Input.{commands, IsInput}
 use Rattle.nf_net.specs.Nodes.{node_step, node_ready}
-use Rattle.nf_net.specs.Start.{first_nodes, first_switch, started}
 use Rattle.nf_net.proofs.AnswerSends.{answering}
 use Rattle.nf_net.proofs.BusyController.{told_in}
-use Rattle.nf_net.proofs.BusyLemmas.{AreOther, or_off, other_not_answered, answers_of-append, is_noted}
+use Rattle.nf_net.proofs.BusyLemmas.{or_off, other_not_answered, answers_of-append}
 use Rattle.nf_net.proofs.BusyNodes.{switch_hands, instance_says}
-use Rattle.nf_net.proofs.BusyRuns.{Busy, waits_of, plan_is, busy_next}
-use Rattle.nf_net.proofs.CommandPromises.{start_busy}
+use Rattle.nf_net.proofs.BusyRuns.{Busy, waits_of, plan_is}
 use Rattle.nf_net.proofs.ControllerActs.{Says_so, Says_so.Neither, Says_so.Begins, Says_so.Answers, controller_acts}
-use Rattle.nf_net.proofs.Joined.{Given, Label, Joined, count, node_of}
-use Rattle.nf_net.proofs.JoinedSteps.{label, step_leads, input_after, joined_next}
+use Rattle.nf_net.proofs.Joined.{Given, Label, Joined, node_of}
+use Rattle.nf_net.proofs.JoinedSteps.{label, step_leads, input_after}
 use Rattle.nf_net.proofs.LinePicks.{picked}
-use Rattle.nf_net.proofs.RunsJoined.{start_world}
 use Rattle.nf_net.proofs.SettleCounts.{answered_in, AllAnswered, answered_in-append, answered_most, all_answered, none_answered_in, all_answered_more, answered_in_same, answered_one, low_commands, commands-append, same_ends}
-use Rattle.nf_net.proofs.StartJoined.{given, all_fit, all_labelled, count_at_start, start_joined}
+use Rattle.nf_net.proofs.StartJoined.{given, all_fit}
 use Rattle.nf_net.proofs.ToldCommands.{some_answers}
 
 abbrev switch_in : {F R : Type 0} → SwitchState → Node F R → SwitchState

@@ -1,6 +1,6 @@
 -- In every run the packets of units that a refused move was to take from its source were processed there, from its begin to its answer.
-use Rattle.std.proofs.Common.{◌≡◌, ◌≢◌, ℕ, zero, suc, ◌+◌, ◌<◌, ◌≤◌, Bool, true, false, Option, Some, None, List, [], ◌∷◌, ◌++◌, length, length-append, get_or, append_assoc, append-nil, refl, sym, ap, ◌∙◌, subst, arith}
-use Rattle.std.specs.Prelude.{if◌then◌else◌, ◌&&◌, ◌||◌, ◌==◌, not, nat_lt, is_some}
+use Rattle.std.proofs.Common.{◌≡◌, ◌≢◌, ℕ, zero, suc, ◌+◌, ◌<◌, Bool, true, false, Option, Some, None, List, [], ◌∷◌, ◌++◌, length, length-append, get_or, append_assoc, append-nil, refl, sym, ap, ◌∙◌, subst, arith}
+use Rattle.std.specs.Prelude.{◌&&◌, ◌||◌, ◌==◌, not, nat_lt, is_some}
 use Rattle.std.specs.List.{filter_map}
 use Rattle.std.specs.declared.alloc.Global.{Global}
 use Rattle.std.specs.Ordering.{nat_cmp}
@@ -14,7 +14,6 @@ use Rattle.nf_function.specs.Semantics.{Semantics}
 use Rattle.nf_function.specs.Units.{takes as takes_unit}
 use Rattle.nf_msgs.specs.declared.answer.Answer.{Answer}
 use Rattle.nf_msgs.specs.declared.answer.Answer.TheVariants.{Done}
-use Rattle.nf_msgs.specs.declared.command.Order.TheVariants as order
 use Rattle.nf_msgs.specs.declared.msg.Msg.{Msg}
 use Rattle.nf_msgs.specs.declared.msg.Msg.TheVariants as msg
 use Rattle.nf_msgs.specs.declared.note.Note.{Note}
@@ -25,21 +24,20 @@ use Rattle.switch_node.specs.Switch.{switch_step, on_install}
 use Rattle.move_op.specs.Move.{MoveState}
 use Rattle.ctrl_node.specs.declared.operation.Operation.{Operation}
 use Rattle.ctrl_node.specs.declared.operation.Operation.TheVariants.{Move}
-use Rattle.ctrl_node.specs.Controller.{ControllerState, place_of, controller_step, opened as opened_controller}
+use Rattle.ctrl_node.specs.Controller.{ControllerState, controller_step, opened as opened_controller}
 use Rattle.actor_net.specs.declared.choice.Choice.{Choice}
 use Rattle.actor_net.specs.Network.{Network, Stepped, IsRun, is_input, reaches, run, taken, waiting}
 use Rattle.actor_net.proofs.EnabledChoices.{at}
 use Rattle.actor_net.proofs.RunInduction.{Taking, run_induction}
 use Rattle.actor_net.proofs.StepOutcome.{Takes, taken_outcome}
-use Rattle.unit_machine.proofs.Labels.{Each}
 use Rattle.nf_net.specs.declared.config.Config.{Config}
 use Rattle.nf_net.specs.declared.node.Node.{Node}
 use Rattle.nf_net.specs.declared.node.Node.TheVariants.{Controller}
 use Rattle.nf_net.specs.Commands.{began, has_answered, is_busy, answers_of, times_begun}
 use Rattle.nf_net.specs.Input.{IsInput, order_of}
 use Rattle.nf_net.specs.Nodes.{node_step, node_ready}
-use Rattle.nf_net.specs.Places.{owner, owner_after, first_owner, handed_on}
-use Rattle.nf_net.specs.Refused.{IsRefused, moves_away, unit_numbered, StaysAtSource}
+use Rattle.nf_net.specs.Places.{owner, first_owner, handed_on}
+use Rattle.nf_net.specs.Refused.{moves_away, unit_numbered, StaysAtSource}
 use Rattle.nf_net.specs.Start.{started}
 use Rattle.nf_net.proofs.BusyLemmas.{AreOther, is_other, answers_of-append, times_begun-append, other_not_begun}
 use Rattle.nf_net.proofs.BusyNodes.{switch_hands, instance_says}
@@ -50,7 +48,7 @@ use Rattle.nf_net.proofs.FiltersApart.{unit_fits, and_l, and_r}
 use Rattle.nf_net.proofs.InstallCounts.{passed}
 use Rattle.nf_net.proofs.Joined.{Given, Label, Joined, node_of, shown}
 use Rattle.nf_net.proofs.JoinedSteps.{label, is_taken}
-use Rattle.nf_net.proofs.MovesUnderWay.{AreUnderWay, IsMoveOf, moves_under_way}
+use Rattle.nf_net.proofs.MovesUnderWay.{AreUnderWay, moves_under_way}
 use Rattle.nf_net.proofs.OwnerLemmas.{owner_after-append, owner_uninstalled, Stands, In_first, In_second, stands, each_there}
 use Rattle.nf_net.proofs.OwnerSteps.{Changes, Stays as Rules_stay, Installs, changes, there_is}
 use Rattle.nf_net.proofs.PlaceNotes.{switch_unprocessed, controller_uninstalled}

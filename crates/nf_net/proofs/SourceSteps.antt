@@ -1,6 +1,6 @@
 -- As long as a move hasn't changed the rules, a unit that it takes from its source stays with the source: what each node's step keeps of it.
-use Rattle.std.proofs.Common.{◌≡◌, ◌≢◌, ℕ, suc, ◌+◌, Bool, true, false, Option, Some, None, List, [], ◌∷◌, ◌++◌, length, append_assoc, refl, sym, ap, ◌∙◌, subst, arith}
-use Rattle.std.specs.Prelude.{if◌then◌else◌, ◌&&◌, ◌||◌, ◌==◌}
+use Rattle.std.proofs.Common.{◌≡◌, ◌≢◌, ℕ, suc, Bool, true, false, Option, Some, None, List, [], ◌∷◌, ◌++◌, append_assoc, refl, sym, ap, ◌∙◌, subst, arith}
+use Rattle.std.specs.Prelude.{◌&&◌, ◌||◌, ◌==◌}
 use Rattle.std.specs.List.{filter_map}
 use Rattle.std.specs.FinMap as finite
 use Rattle.std.proofs.lemmas.Bool.Decides.{nat_tests}
@@ -10,20 +10,15 @@ use Rattle.nf_function.specs.declared.unit.Unit as units
 use Rattle.nf_function.specs.Records.{Laws as FunctionLaws}
 use Rattle.nf_function.specs.Semantics.{Semantics}
 use Rattle.nf_function.specs.Units.{takes}
-use Rattle.packet_pool.specs.Pool.{FullCell}
 use Rattle.event_store.specs.Store.{stored}
-use Rattle.switch_rules.specs.declared.target.Target.TheVariants as target
-use Rattle.switch_node.specs.Switch.{switch_step, on_install}
 use Rattle.nf_msgs.specs.declared.answer.Answer.TheVariants as answer
 use Rattle.nf_msgs.specs.declared.msg.Msg.{Msg}
-use Rattle.nf_msgs.specs.declared.msg.Msg.TheVariants as msg
 use Rattle.nf_msgs.specs.declared.note.Note.{Note}
 use Rattle.nf_msgs.specs.declared.note.Note.TheVariants as note
 use Rattle.nf_msgs.specs.Nodes.{instance_node}
 use Rattle.move_op.specs.declared.phase.Phase.{Phase}
 use Rattle.move_op.specs.declared.phase.Phase.TheVariants as phase
 use Rattle.move_op.specs.Move.{MoveState}
-use Rattle.ctrl_node.specs.declared.operation.Operation.{Operation}
 use Rattle.ctrl_node.specs.declared.operation.Operation.TheVariants.{Move}
 use Rattle.instance_worker.specs.declared.instance.Instance.{Instance as InstanceState}
 use Rattle.instance_worker.specs.Instance.{instance_step}
@@ -38,8 +33,8 @@ use Rattle.abstract_net.proofs.Sources.{is_early_real, at_source, untaken}
 use Rattle.nf_net.specs.declared.config.Config.{Config}
 use Rattle.nf_net.specs.declared.node.Node.{Node}
 use Rattle.nf_net.specs.Commands.{began}
-use Rattle.nf_net.specs.Input.{IsInput, order_of}
-use Rattle.nf_net.specs.Places.{owner, owner_after, handed_on, first_owner}
+use Rattle.nf_net.specs.Input.{IsInput}
+use Rattle.nf_net.specs.Places.{owner, owner_after, first_owner}
 use Rattle.nf_net.specs.Refused.{unit_numbered}
 use Rattle.nf_net.proofs.ControlOutline.{Sees, SeesMove}
 use Rattle.nf_net.proofs.FiltersApart.{is_whole, unit_fits, takes_whole}
@@ -47,10 +42,9 @@ use Rattle.nf_net.proofs.InstallCounts.{passed}
 use Rattle.nf_net.proofs.Joined.{Given, S, place, Scene, IsTaken, IsInstanceAt, Joined}
 use Rattle.nf_net.proofs.LogLemmas.{has_begun-append}
 use Rattle.nf_net.proofs.MoveOutline.{outline_phase}
-use Rattle.nf_net.proofs.MovesUnderWay.{IsMoveOf}
 use Rattle.nf_net.proofs.Outline.{ran_in, is_sys}
 use Rattle.nf_net.proofs.OwnerLemmas.{takes_same, owner_after-append, owner_quiet, Stands, In_first, In_second, stands}
-use Rattle.nf_net.proofs.PlaceNotes.{IsQuiet, instance_quiet, is_unprocessed, AreUnprocessed}
+use Rattle.nf_net.proofs.PlaceNotes.{IsQuiet, instance_quiet, AreUnprocessed}
 use Rattle.nf_net.proofs.RunUnits.{Ran_as, Seen, Unseen, ran_as, some_mine}
 use Rattle.nf_net.proofs.StartJoined.{given}
 
