@@ -1,6 +1,6 @@
 -- A unit whose move hasn't changed the rules yet: its packets are processed at the move's source, if that owns it, and no change of the
 -- rules that waits takes it.
-use Rattle.std.proofs.Common.{◌≡◌, ◌≢◌, ℕ, Bool, true, false, Option, Some, None, List, [], ◌∷◌, ◌++◌, map, refl, sym, ap, ◌∙◌, subst}
+use Rattle.std.proofs.Common.{◌≡◌, ◌≢◌, ℕ, Bool, true, false, Some, None, List, [], ◌∷◌, ◌++◌, map, refl, sym, ap, ◌∙◌, subst}
 use Rattle.std.specs.Prelude.{if◌then◌else◌, ◌==◌, ◌&&◌}
 use Rattle.std.proofs.lemmas.Bool.Decides.{Decides-eqb}
 use Rattle.unit_machine.proofs.Machine.{At_a, Steps, Item, Fence_to, Install, Stray, Phase, Passing, Ending, Over, State}
