@@ -21,3 +21,4 @@ pub mod Waits
 pub mod Outcomes
 pub mod Readings
 pub mod Places
+pub mod Sources

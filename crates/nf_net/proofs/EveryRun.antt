@@ -29,6 +29,8 @@ use Rattle.nf_net.proofs.RecordPromises.{record_is, one_place}
 use Rattle.nf_net.proofs.CommandPromises.{run_answers}
 use Rattle.nf_net.proofs.JudgedRuns.{verdicts}
 use Rattle.nf_net.proofs.PlaceRuns.{places}
+use Rattle.nf_net.proofs.SettleRuns.{settles}
+use Rattle.nf_net.proofs.SourceRuns.{stays_at_source}
 use Rattle.nf_net.proofs.WindowRuns.{window_kept, all_home}
 use Rattle.nf_net.proofs.StartJoined.{given, count_at_start}
 use Rattle.nf_net.proofs.Joined.{S}
@@ -51,7 +53,9 @@ module _ (F : Type 0) {R : Type 0} (f : Semantics R) (laws : FunctionLaws f) (al
         outputs_are = outputs_run F f laws alloc c items is cs runs;
         records_are = λ u i r live. fold_is f c items is None (went f c items u w.log) ∙ ap (λ ps. readings.fold (S f (given f c items is)).F None ps) (sym (done_same f c items is (length c.names + 2) w j u)) ∙ record_is f c items is (length c.names + 2) w counted j u i r live;
         places = places F f laws alloc c items is cs runs;
+        settles = settles F f laws alloc c items is cs runs (places F f laws alloc c items is cs runs);
         answers = run_answers F f laws alloc c items is cs runs;
+        at_source = stays_at_source F f laws alloc c items is cs runs;
         window = window_kept F f laws alloc c items is cs runs;
         one_record = λ u i k r s. one_place f c items is (length c.names + 2) w counted j u i k r s;
       }

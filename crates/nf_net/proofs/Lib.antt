@@ -1,3 +1,4 @@
+pub mod AnswerSends
 pub mod AnsweredNotes
 pub mod ArrivalLemmas
 pub mod ArrivalNotes
@@ -10,6 +11,7 @@ pub mod BusyRuns
 pub mod CommandPromises
 pub mod CompleteRuns
 pub mod ControlOutline
+pub mod ControllerActs
 pub mod ControllerBegins
 pub mod ControllerScenes
 pub mod ControllerSteps
@@ -57,8 +59,14 @@ pub mod PlaceNotes
 pub mod PlaceRuns
 pub mod PlaceSteps
 pub mod RecordPromises
+pub mod RuleChanges
 pub mod RunUnits
 pub mod RunsJoined
+pub mod SettleCounts
+pub mod SettleRuns
+pub mod SettleSteps
+pub mod SourceRuns
+pub mod SourceSteps
 pub mod StartJoined
 pub mod StartingLemmas
 pub mod StateOutline

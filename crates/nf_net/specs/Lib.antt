@@ -4,7 +4,9 @@ pub mod Log
 pub mod Nodes
 pub mod Places
 pub mod Promises
+pub mod Refused
 pub mod Runs
+pub mod Settles
 pub mod Start
 pub mod Verdicts
 pub mod Window

@@ -18,6 +18,8 @@ use Rattle.nf_net.specs.declared.node.Node.TheVariants.{Instance}
 use Rattle.nf_net.specs.Input.{packets, packet_of, order_of, ends_last}
 use Rattle.nf_net.specs.Commands.{Answers, answers_of, times_installed}
 use Rattle.nf_net.specs.Places.{is_loose, ArePlaces}
+use Rattle.nf_net.specs.Refused.{StaysAtSource}
+use Rattle.nf_net.specs.Settles.{Settles}
 use Rattle.nf_net.specs.Window.{Window}
 use Rattle.nf_net.specs.Log.{arrived, done, those, done_of}
 
@@ -78,8 +80,12 @@ module _ {R : Type 0} (f : Semantics R) (config : Config) (items : List Msg) whe
     pub window : Window config w
     -- each packet was processed at the owner of its unit, or at an instance of a move of the unit that was under way
     pub places : ArePlaces config items f.kind w.log
+    -- behind a settle, and before a later command begins, it was at the owner
+    pub settles : Settles config items f.kind w.log
     -- each command begins and is answered at most once, and what refuses it was true then
     pub answers : Answers config items w.log
+    -- what a refused move was to take away was processed at its source, as long as the move was under way
+    pub at_source : StaysAtSource config items f.kind w.log
 
   -- what a complete run keeps besides: all packets of the input came, and each was processed, once; the record of a unit is
   -- live at an instance; commands were answered, and the rules changed for those that are done
