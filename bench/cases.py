@@ -23,9 +23,6 @@ sys.dont_write_bytecode = True
 import make_capture  # noqa: E402
 import model  # noqa: E402
 
-# Whether the program runs several instances, scripts, windows and schedules. The cases that want them are left out until then.
-NETWORK = False
-
 HERE = os.path.dirname(os.path.abspath(__file__))
 EXAMPLES = os.path.join(HERE, os.pardir, "examples")
 MICRO, NANO = 0xA1B2C3D4, 0xA1B23C4D
@@ -679,7 +676,7 @@ def main(arguments):
     folder, seed, count = arguments[0], arguments[1], int(arguments[2])
     os.chdir(folder)
     cases = Cases(os.curdir)
-    for make in by_hand, office, headers, records, frames, flows, paths, command_lines, making, *(NETWORKS if NETWORK else ()):
+    for make in by_hand, office, headers, records, frames, flows, paths, command_lines, making, *NETWORKS:
         make(cases)
     by_chance(cases, seed, count)
 
