@@ -20,4 +20,5 @@ pub mod Every
 pub mod Waits
 pub mod Outcomes
 pub mod Readings
+pub mod Stores
 pub mod Places
