@@ -7,6 +7,7 @@ pub mod BusyLemmas
 pub mod BusyNodes
 pub mod BusyOperations
 pub mod BusyRuns
+pub mod ClosingMoves
 pub mod CommandPromises
 pub mod CompleteRuns
 pub mod ControlOutline
@@ -44,6 +45,12 @@ pub mod OutputSteps
 pub mod OwnerLemmas
 pub mod OwnerSteps
 pub mod PacketCounts
+pub mod PathLinks
+pub mod PathNodes
+pub mod PathPlaces
+pub mod PathPromises
+pub mod PathSeats
+pub mod PathSums
 pub mod PlaceNotes
 pub mod PlaceRuns
 pub mod PlaceSteps
