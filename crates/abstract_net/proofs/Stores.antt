@@ -6,7 +6,7 @@ use Rattle.unit_machine.proofs.Real.{RPhase, R_ending, R_undoing, Frame, see_pha
 use Rattle.unit_machine.proofs.Seats.{seat_shape}
 use Rattle.unit_machine.proofs.Sides.{is_released, seat_stands}
 use Rattle.abstract_net.proofs.Net.{Sys, IsSys, Open, find_op, World}
-use Rattle.abstract_net.proofs.Holding.{Seeing, frame, Op_label, Ctrl_is}
+use Rattle.abstract_net.proofs.Holding.{frame, Op_label, Ctrl_is}
 use Rattle.abstract_net.proofs.Ctrl.{each_found}
 use Rattle.abstract_net.proofs.Rest.{none_mine, same_mine}
 use Rattle.abstract_net.proofs.Units.{shown, see as seeing}

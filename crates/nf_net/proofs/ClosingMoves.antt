@@ -1,5 +1,5 @@
 -- A move is over by its last fence alone, and then nothing is stored for it.
-use Rattle.std.proofs.Common.{◌≡◌, ℕ, Bool, true, false, Option, Some, None, List, [], ◌∷◌, ◌++◌, map, length, refl, sym, ap, ◌∙◌}
+use Rattle.std.proofs.Common.{◌≡◌, ℕ, Bool, true, false, Some, None, List, [], ◌∷◌, ◌++◌, map, length, refl, sym, ap, ◌∙◌}
 use Rattle.std.specs.Prelude.{if◌then◌else◌, ◌&&◌, ◌||◌, ◌==◌, unwrap_or}
 use Rattle.nf_function.specs.declared.unit.Unit as units
 use Rattle.nf_function.specs.declared.chunk.Chunk.{Chunk}
@@ -15,7 +15,6 @@ use Rattle.move_op.specs.declared.door.Door.TheVariants as door
 use Rattle.move_op.specs.declared.phase.Phase.{Phase}
 use Rattle.move_op.specs.declared.phase.Phase.TheVariants as phase
 use Rattle.move_op.specs.Move.{MovePlan, MoveState, Row, row, answer_of, keeps, goes, chunks_of, have_units, source, destination, pushed, all_put, on_event, on_source_enabled, on_piece, on_deleted, on_restored, on_source_fenced, on_put_ok, on_put_no, on_destination_enabled, on_destination_fenced, from_source, from_destination, put_back}
-use Rattle.unit_machine.proofs.Real.{RPhase}
 use Rattle.abstract_net.proofs.Net.{World, Open, find_op}
 use Rattle.abstract_net.proofs.Every.{Every}
 use Rattle.abstract_net.proofs.Stores.{ends, store_empty}

@@ -1,9 +1,8 @@
 -- What a unit sees of a link is its packets there: those that were handed on, those that come by the rules, those on their way by the
 -- switch, and events.
-use Rattle.std.proofs.Common.{◌≡◌, ℕ, zero, suc, ◌<◌, ◌≤◌, Bool, true, false, Option, Some, None, List, [], ◌∷◌, ◌++◌, refl, sym, ap, ◌∙◌, arith}
+use Rattle.std.proofs.Common.{◌≡◌, ℕ, Bool, true, false, Option, Some, None, List, [], ◌∷◌, ◌++◌, refl, sym, ap, ◌∙◌}
 use Rattle.std.specs.Prelude.{if◌then◌else◌, ◌==◌, ◌&&◌}
 use Rattle.std.specs.List.{filter_map}
-use Rattle.std.proofs.lemmas.Bool.Decides.{nat_tests}
 use Rattle.nf_function.specs.Semantics.{Semantics}
 use Rattle.packet_pool.specs.Pool.{FullCell}
 use Rattle.event_filter.specs.declared.mark.Mark.{Mark}
@@ -14,7 +13,7 @@ use Rattle.flow_filter.specs.declared.filter.Filter.{Filter}
 use Rattle.nf_msgs.specs.declared.msg.Msg.{Msg}
 use Rattle.nf_msgs.specs.declared.msg.Msg.TheVariants as msg
 use Rattle.nf_msgs.specs.Nodes.{instance_node}
-use Rattle.unit_machine.proofs.Machine.{Item, Carry, Pass, Fence, Enable, Stream, Delete, Put, Restore, Enabled, Event, Piece, Deleted, Put_ok, Put_no, Restored, Fenced, Forward, Fence_to, Install, Stray, At_a, At_b}
+use Rattle.unit_machine.proofs.Machine.{Item, Carry, Pass, Fence, Event, Forward, Fence_to, Install, Stray, At_a, At_b}
 use Rattle.actor_net.proofs.WeightLaws.{Each}
 use Rattle.unit_machine.proofs.Real.{Frame, where_true, sends_to, add}
 use Rattle.unit_machine.proofs.NetViews.{items}

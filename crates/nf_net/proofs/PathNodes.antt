@@ -1,6 +1,6 @@
 -- What a unit sees of an instance's rules and of the controller's open moves is its packets that are held and stored.
-use Rattle.std.proofs.Common.{◌≡◌, ◌≢◌, ℕ, Bool, true, false, cond, Option, Some, None, List, [], ◌∷◌, ◌++◌, map, refl, sym, ap, ◌∙◌, subst, eqb, append-nil, arith}
-use Rattle.std.specs.Prelude.{T, nat_eq, if◌then◌else◌, ◌==◌, ◌&&◌, unwrap_or}
+use Rattle.std.proofs.Common.{◌≡◌, ◌≢◌, ℕ, Bool, true, false, cond, Some, None, List, [], ◌∷◌, ◌++◌, map, refl, sym, ap, ◌∙◌, eqb, append-nil, arith}
+use Rattle.std.specs.Prelude.{T, nat_eq, if◌then◌else◌, ◌&&◌, unwrap_or}
 use Rattle.std.specs.Ordering.{nat_cmp, eq_by_cmp, is_lt, is_eq}
 use Rattle.std.specs.declared.cmp.Ordering.{Ordering}
 use Rattle.std.specs.declared.cmp.Ordering.TheVariants.{Less, Equal, Greater}

@@ -1,41 +1,38 @@
 -- What a world has of a unit in all places, in the order of its path, is what waits at the seat that shows the unit.
-use Rattle.std.proofs.Common.{◌≡◌, ◌≢◌, ℕ, zero, suc, ◌+◌, ◌-◌, ◌<◌, ◌≤◌, Bool, true, false, Option, Some, None, List, [], ◌∷◌, ◌++◌, length, get_or, refl, sym, ap, ◌∙◌, subst, append_assoc, append-nil, arith}
-use Rattle.std.specs.Prelude.{if◌then◌else◌, ◌==◌, ◌&&◌, nat_lt, slice_get}
+use Rattle.std.proofs.Common.{◌≡◌, ◌≢◌, ℕ, zero, suc, ◌+◌, ◌<◌, ◌≤◌, Bool, true, false, Option, Some, None, List, [], ◌++◌, length, get_or, refl, sym, ap, ◌∙◌, subst, append-nil, arith}
+use Rattle.std.specs.Prelude.{if◌then◌else◌, ◌==◌, ◌&&◌, nat_lt}
 use Rattle.std.specs.FinMap as finite
 use Rattle.std.proofs.lemmas.Bool.{ltb-false}
 use Rattle.std.proofs.lemmas.Bool.Decides.{nat_tests, Decides-eqb, Decides-ltb}
-use Rattle.std.proofs.lemmas.Option.{slice_get_past}
 use Rattle.nf_function.specs.declared.unit.Unit as units
 use Rattle.nf_function.specs.Semantics.{Semantics}
 use Rattle.event_store.specs.Store.{stored}
 use Rattle.nf_msgs.specs.declared.msg.Msg.{Msg}
 use Rattle.nf_msgs.specs.declared.note.Note.{Note}
-use Rattle.nf_msgs.specs.Nodes.{instance_node}
 use Rattle.ctrl_node.specs.declared.operation.Operation.{Operation}
 use Rattle.ctrl_node.specs.declared.operation.Operation.TheVariants.{Move}
 use Rattle.actor_net.specs.Network.{Network, IsWorld, on_link}
-use Rattle.unit_machine.proofs.Machine.{Item, At_a, At_b, At_c, State}
+use Rattle.unit_machine.proofs.Machine.{State}
 use Rattle.unit_machine.proofs.Real.{Op, only_mine}
 use Rattle.unit_machine.proofs.Pairs.{expect}
-use Rattle.unit_machine.proofs.Path.{passes_in, carries, events_in, forwards}
-use Rattle.unit_machine.proofs.Sides.{at_side, places, OneOf, First, Second, Last, At_source, At_destination, At_third, Stands, Empty, empty_of, is_known, is_released, over_released}
+use Rattle.unit_machine.proofs.Path.{passes_in, events_in, forwards}
+use Rattle.unit_machine.proofs.Sides.{OneOf, First, Second, is_known, is_released, over_released}
 use Rattle.abstract_net.proofs.Net.{Open, find_op}
 use Rattle.abstract_net.proofs.Ctrl.{each_found}
-use Rattle.abstract_net.proofs.Holding.{Seeing, frame, node_at, Op_label, Ctrl_is, Holds}
+use Rattle.abstract_net.proofs.Holding.{Seeing, frame, Op_label, Ctrl_is, Holds}
 use Rattle.abstract_net.proofs.Units.{see}
 use Rattle.nf_net.specs.declared.config.Config.{Config}
 use Rattle.nf_net.specs.declared.node.Node.{Node}
-use Rattle.nf_net.specs.declared.node.Node.TheVariants.{Switch, Controller, Instance}
+use Rattle.nf_net.specs.declared.node.Node.TheVariants.{Switch}
 use Rattle.nf_net.specs.Input.{IsInput}
 use Rattle.nf_net.specs.Log.{those}
-use Rattle.nf_net.specs.Path.{all_of, all_but, numbers, passed, carried, forwarded, handed_over, stored_by, held_by, on_links, at_instance, under_way}
+use Rattle.nf_net.specs.Path.{all_of, numbers, passed, forwarded, handed_over, stored_by, on_links}
 use Rattle.nf_net.proofs.ControlOutline.{Sees}
-use Rattle.nf_net.proofs.LogLemmas.{those-append}
-use Rattle.nf_net.proofs.Outline.{number, is_sys}
+use Rattle.nf_net.proofs.Outline.{is_sys}
 use Rattle.nf_net.proofs.Joined.{Given, S, place, Joined, node_of}
 use Rattle.nf_net.proofs.PathNodes.{only_those, store_of}
-use Rattle.nf_net.proofs.PathSeats.{There, Is_there, Has_none, passed_from, passed_else, carried_from, events_to, events_else, forwarded_to, forwarded_else, stands_at}
-use Rattle.nf_net.proofs.PathSums.{those-all, those-but, but_none, but_one, one_at, no_link, one_link}
+use Rattle.nf_net.proofs.PathSeats.{There, Is_there, Has_none, passed_from, passed_else, events_to, events_else, forwarded_to, forwarded_else}
+use Rattle.nf_net.proofs.PathSums.{those-all, one_at, no_link, one_link}
 use Rattle.nf_net.proofs.StartJoined.{given}
 
 if_nil : (b : Bool) (xs : List ℕ) → xs ≡ [] → (if b then xs else []) ≡ []

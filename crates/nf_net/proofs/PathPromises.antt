@@ -1,5 +1,5 @@
 -- In every run what came of a unit is what was processed and what is under way, and nothing stands in two places.
-use Rattle.std.proofs.Common.{◌≡◌, ◌≢◌, ℕ, zero, suc, ◌+◌, ◌<◌, ◌≤◌, Bool, true, false, List, [], ◌∷◌, ◌++◌, map, length, refl, sym, ap, ◌∙◌, subst, append_assoc, append-nil, arith}
+use Rattle.std.proofs.Common.{◌≡◌, ◌≢◌, ℕ, suc, ◌+◌, ◌<◌, ◌≤◌, Bool, true, false, List, [], ◌∷◌, ◌++◌, map, length, refl, sym, ap, ◌∙◌, subst, append_assoc, arith}
 use Rattle.std.specs.Prelude.{if◌then◌else◌, ◌==◌, ◌&&◌, ◌-◌, nat_lt, slice_get, None}
 use Rattle.std.proofs.lemmas.Bool.{ltb-false}
 use Rattle.std.proofs.lemmas.Bool.Decides.{nat_tests, Decides-eqb, Decides-ltb}
@@ -12,7 +12,7 @@ use Rattle.record_table.proofs.UnitOrder.{same_unit-true}
 use Rattle.nf_msgs.specs.declared.msg.Msg.{Msg}
 use Rattle.nf_msgs.specs.declared.note.Note.{Note}
 use Rattle.nf_msgs.specs.Nodes.{instance_node}
-use Rattle.actor_net.specs.Network.{Network, IsWorld, on_link}
+use Rattle.actor_net.specs.Network.{Network, IsWorld}
 use Rattle.unit_machine.proofs.Machine.{State, idle}
 use Rattle.unit_machine.proofs.Fits.{nil_right}
 use Rattle.unit_machine.proofs.Labels.{Each}
@@ -21,18 +21,17 @@ use Rattle.unit_machine.proofs.Stages as stages
 use Rattle.unit_machine.proofs.Ends.{same_of}
 use Rattle.unit_machine.proofs.Path.{passes_in, carries, events_in, forwards}
 use Rattle.unit_machine.proofs.Pairs.{expect}
-use Rattle.unit_machine.proofs.Real.{Op}
 use Rattle.unit_machine.proofs.Seats.{seat_shape, seat_all, seat_path}
 use Rattle.unit_machine.proofs.Sides.{at_side, places, Last, At_source, At_destination, At_third, Stands, seat_stands, Empty, empty_of}
-use Rattle.abstract_net.proofs.Holding.{Seeing, frame, node_at, Holds, place as side_place}
-use Rattle.abstract_net.proofs.Rest.{done_u, same_done}
+use Rattle.abstract_net.proofs.Holding.{Seeing, node_at, place as side_place}
+use Rattle.abstract_net.proofs.Rest.{same_done}
 use Rattle.abstract_net.proofs.Readings.{exact_of, not_both, seat_parts}
 use Rattle.abstract_net.proofs.Units.{see}
 use Rattle.nf_net.specs.declared.config.Config.{Config}
 use Rattle.nf_net.specs.declared.node.Node.{Node}
 use Rattle.nf_net.specs.Input.{packets, packet_of, IsRising, IsInput}
 use Rattle.nf_net.specs.Log.{arrived, has_begun, those}
-use Rattle.nf_net.specs.Path.{all_of, all_but, passed, carried, forwarded, handed_over, stored_by, held_by, on_links, at_instance, under_way}
+use Rattle.nf_net.specs.Path.{all_of, all_but, passed, forwarded, handed_over, stored_by, on_links, at_instance}
 use Rattle.nf_net.specs.Places.{owner}
 use Rattle.nf_net.specs.Promises.{times, IsFront, is_of, came, went, is_loose, path}
 use Rattle.nf_net.proofs.FiltersApart.{unit_fits}
@@ -41,7 +40,7 @@ use Rattle.nf_net.proofs.Outline.{is_sys}
 use Rattle.nf_net.proofs.OwnerLemmas.{unit_is_fit}
 use Rattle.nf_net.proofs.Joined.{Given, GenuinePacket, S, bares, Joined}
 use Rattle.nf_net.proofs.PathPlaces.{passes_are, forwards_are, events_are, store_is}
-use Rattle.nf_net.proofs.PathSeats.{There, Is_there, Has_none, Seated, seated, stands_at}
+use Rattle.nf_net.proofs.PathSeats.{Seated, seated, stands_at}
 use Rattle.nf_net.proofs.PathSums.{those-but, but_none, but_one}
 use Rattle.nf_net.proofs.RunsJoined.{done_same, not_bared, same_times}
 use Rattle.nf_net.proofs.StartJoined.{given, genuine}

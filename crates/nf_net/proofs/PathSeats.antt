@@ -1,10 +1,10 @@
 -- A seat that shows where a unit is in a world of a run, with nodes that are there; and what the world has of the unit on each link and
 -- at each instance, by that seat.
-use Rattle.std.proofs.Common.{◌≡◌, ◌≢◌, ℕ, zero, suc, ◌+◌, ◌*◌, ◌<◌, ◌≤◌, Bool, true, false, Option, Some, None, List, [], ◌∷◌, ◌++◌, length, get_or, refl, sym, ap, ◌∙◌, subst, arith}
+use Rattle.std.proofs.Common.{◌≡◌, ℕ, suc, ◌+◌, ◌*◌, ◌<◌, ◌≤◌, Bool, true, false, Option, Some, None, List, [], ◌++◌, length, get_or, refl, sym, ap, ◌∙◌, subst, arith}
 use Rattle.std.specs.Prelude.{if◌then◌else◌, ◌==◌, ◌&&◌, nat_lt, slice_get}
 use Rattle.std.specs.List.{filter_map}
 use Rattle.std.specs.FinMap as finite
-use Rattle.std.proofs.lemmas.Bool.Decides.{nat_tests, Decides-eqb, Decides-ltb}
+use Rattle.std.proofs.lemmas.Bool.Decides.{nat_tests, Decides-ltb}
 use Rattle.std.proofs.lemmas.Option.{slice_get-get_or}
 use Rattle.nf_function.specs.declared.unit.Unit as units
 use Rattle.nf_function.specs.Semantics.{Semantics}
@@ -17,13 +17,13 @@ use Rattle.ctrl_node.specs.declared.operation.Operation.TheVariants.{Move}
 use Rattle.actor_net.specs.Network.{Network, IsWorld, on_link, waiting}
 use Rattle.actor_net.proofs.EnabledChoices.{at}
 use Rattle.actor_net.proofs.WeightLaws.{Each as EachOn}
-use Rattle.unit_machine.proofs.Machine.{Item, At_a, At_b, State}
+use Rattle.unit_machine.proofs.Machine.{At_a, At_b, State}
 use Rattle.unit_machine.proofs.Stages.{Order}
 use Rattle.unit_machine.proofs.Labels.{Each}
 use Rattle.unit_machine.proofs.Real.{Op, only_mine}
 use Rattle.unit_machine.proofs.Pairs.{expect}
 use Rattle.unit_machine.proofs.Path.{passes_in, carries, events_in, forwards, no_passes}
-use Rattle.unit_machine.proofs.Seats.{Seat, Covered, seat_shape, seat_all, seat_path}
+use Rattle.unit_machine.proofs.Seats.{Seat, seat_shape, seat_all}
 use Rattle.unit_machine.proofs.Between.{seat_at}
 use Rattle.unit_machine.proofs.NetViews.{items as items_of}
 use Rattle.unit_machine.proofs.Sides.{is_known}
