@@ -20,14 +20,16 @@ use Rattle.nf_net.specs.Input.{IsInput}
 use Rattle.nf_net.specs.Nodes.{node_step, node_ready, node_ended}
 use Rattle.nf_net.specs.Promises.{Promises, Completed, went}
 use Rattle.nf_net.specs.Start.{started}
+use Rattle.nf_net.specs.Verdicts.{Verdicts}
 use Rattle.nf_net.specs.Window.{AllHome}
 use Rattle.nf_net.proofs.ArrivalLemmas.{arrivals_run}
 use Rattle.nf_net.proofs.CompleteRuns.{complete_run, fold_is}
 use Rattle.nf_net.proofs.OutputSteps.{outputs_run}
 use Rattle.nf_net.proofs.RecordPromises.{record_is, one_place}
 use Rattle.nf_net.proofs.CommandPromises.{run_answers}
+use Rattle.nf_net.proofs.JudgedRuns.{verdicts}
 use Rattle.nf_net.proofs.PathPromises.{in_place, each_in_place, came_once}
-use Rattle.nf_net.proofs.PlaceRuns.{run_keeps, places}
+use Rattle.nf_net.proofs.PlaceRuns.{places}
 use Rattle.nf_net.proofs.WindowRuns.{window_kept, all_home}
 use Rattle.nf_net.proofs.StartJoined.{given, count_at_start}
 use Rattle.nf_net.proofs.Joined.{S}
@@ -45,14 +47,13 @@ module _ (F : Type 0) {R : Type 0} (f : Semantics R) (laws : FunctionLaws f) (al
       let reached = run_world node_ready (node_step f) (length c.names + 2) (started {F = F} {R = R} alloc c items) (start_world F f laws alloc c items is) (count_at_start F f alloc c items is) cs runs in
       let counted = reached.1 in
       let turn = arrivals_run F f laws alloc c items is cs runs in
-      let owners = (run_keeps F f laws alloc c items is cs runs).owners j in
       record {
         in_turn = turn;
         in_order = in_order f c items is (length c.names + 2) w j;
         once = once f c items is (length c.names + 2) w j;
-        in_place = in_place f c items is (length c.names + 2) refl w counted j reached.0 turn owners;
+        in_place = in_place f c items is (length c.names + 2) refl w counted j reached.0 turn;
         came_once = came_once f c items is w turn;
-        each_in_place = each_in_place f c items is (length c.names + 2) refl w counted j reached.0 turn owners;
+        each_in_place = each_in_place f c items is (length c.names + 2) refl w counted j reached.0 turn;
         outputs_are = outputs_run F f laws alloc c items is cs runs;
         records_are = λ u i r live. fold_is f c items is None (went f c items u w.log) ∙ ap (λ ps. readings.fold (S f (given f c items is)).F None ps) (sym (done_same f c items is (length c.names + 2) w j u)) ∙ record_is f c items is (length c.names + 2) w counted j u i r live;
         places = places F f laws alloc c items is cs runs;
@@ -76,6 +77,7 @@ module _ (F : Type 0) {R : Type 0} (f : Semantics R) (laws : FunctionLaws f) (al
     pub choices : r.1 ≡ chosen f first schedule
     pub end : EndsIn f first schedule r.0
     pub promises : Promises f c items r.0
+    pub verdicts : Verdicts f first r.1 c items
     pub completed : Completed f c items r.0
     pub home : AllHome c r.0
 
@@ -99,6 +101,7 @@ module _ (F : Type 0) {R : Type 0} (f : Semantics R) (laws : FunctionLaws f) (al
           complete = h.complete;
         };
         promises = subst (λ v. Promises f c items v) (sym reached) (every_run F f laws alloc c items is r.1 runs);
+        verdicts = verdicts F f laws alloc c items is r.1 runs;
         completed = subst (λ v. Completed f c items v) (sym reached) (every_end F f laws alloc c items is r.1 runs complete);
         home = subst (λ v. AllHome c v) (sym reached) (every_home F f laws alloc c items is r.1 runs complete);
       }
@@ -109,14 +112,15 @@ module _ (F : Type 0) {R : Type 0} (f : Semantics R) (laws : FunctionLaws f) (al
     pub choices : IfOk result (λ r. r.1 ≡ chosen f (started {F = F} {R = R} alloc c items) schedule)
     pub end : IfOk result (λ r. EndsIn f (started alloc c items) schedule r.0)
     pub promises : IfOk result (λ r. Promises f c items r.0)
+    pub verdicts : IfOk result (λ r. Verdicts f (started {F = F} {R = R} alloc c items) r.1 c items)
     pub completed : IfOk result (λ r. Completed f c items r.0)
     pub home : IfOk result (λ r. AllHome c r.0)
 
   pub ends : {E : Type 0} (result : Result (Network (Node F R) Msg Note × List Choice) E) (w : Network (Node F R) Msg Note) → w ≡ started alloc c items → IfOk result (λ r. r.1 ≡ chosen f w schedule) → IfOk result (λ r. r.0 ≡ run (node_step f) r.1 w) → IfOk result (λ r. IsRun node_ready (node_step f) r.1 w) → IfOk result (λ r. is_done node_ended r.0 ≡ true) → Ends result
-  ends (Err e) w start a b d h = record { choices = tt; end = tt; promises = tt; completed = tt; home = tt }
+  ends (Err e) w start a b d h = record { choices = tt; end = tt; promises = tt; verdicts = tt; completed = tt; home = tt }
   ends (Ok r) w start a b d h =
       let k = keeps F f laws alloc c items is schedule w start r (record { choices = a; world = b; is_run = d; complete = h }) in
-      record { choices = k.choices; end = k.end; promises = k.promises; completed = k.completed; home = k.home }
+      record { choices = k.choices; end = k.end; promises = k.promises; verdicts = k.verdicts; completed = k.completed; home = k.home }
 
   pub stops : (w : Network (Node F R) Msg Note) → w ≡ started alloc c items → (step : ℕ) → length (chosen f w schedule) ≡ step → StopsShort node_ready node_ended (run (node_step f) (chosen f w schedule) w) step → StopsAt f (started {F = F} {R = R} alloc c items) schedule step
   stops w start step count short = subst (λ v. StopsAt f v schedule step) start (record { count = count; short = short })
@@ -128,3 +132,10 @@ replay_keeps F {R = R} f laws alloc c items is cs w (Ok reached) start h =
     let ok = replayed_ok node_ready (node_step f) cs w reached (sym (h (λ bad. cc))) in
     let runs : IsRun node_ready (node_step f) cs (started {F = F} {R = R} alloc c items) = subst (λ v. IsRun node_ready (node_step f) cs v) start ok.0 in
     subst (λ v. Promises f c items v) (sym (ok.1 ∙ ap (run (node_step f) cs) start)) (every_run F f laws alloc c items is cs runs)
+
+pub replay_judges : (F : Type 0) {R : Type 0} (f : Semantics R) (laws : FunctionLaws f) (alloc : Global) (c : Config) (items : List Msg) (is : IsInput f.kind c items) (cs : List Choice) (w : Network (Node F R) Msg Note) (result : Result (Network (Node F R) Msg Note) ReplayFault) → w ≡ started alloc c items → (result ≢ Err NoMemory → result ≡ replayed node_ready (node_step f) cs w) → IfOk result (λ reached. Verdicts f w cs c items)
+replay_judges F f laws alloc c items is cs w (Err e) start h = tt
+replay_judges F {R = R} f laws alloc c items is cs w (Ok reached) start h =
+    let ok = replayed_ok node_ready (node_step f) cs w reached (sym (h (λ bad. cc))) in
+    let runs : IsRun node_ready (node_step f) cs (started {F = F} {R = R} alloc c items) = subst (λ v. IsRun node_ready (node_step f) cs v) start ok.0 in
+    subst (λ v. Verdicts f v cs c items) (sym start) (verdicts F f laws alloc c items is cs runs)

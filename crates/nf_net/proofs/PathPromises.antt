@@ -30,19 +30,19 @@ use Rattle.abstract_net.proofs.Units.{see}
 use Rattle.nf_net.specs.declared.config.Config.{Config}
 use Rattle.nf_net.specs.declared.node.Node.{Node}
 use Rattle.nf_net.specs.Input.{packets, packet_of, IsRising, IsInput}
-use Rattle.nf_net.specs.Log.{arrived, has_begun, those}
+use Rattle.nf_net.specs.Log.{arrived, those}
 use Rattle.nf_net.specs.Path.{all_of, all_but, passed, forwarded, handed_over, stored_by, on_links, at_instance}
-use Rattle.nf_net.specs.Places.{owner}
-use Rattle.nf_net.specs.Promises.{times, IsFront, is_of, came, went, is_loose, path}
+use Rattle.nf_net.specs.Places.{owner, is_loose}
+use Rattle.nf_net.specs.Promises.{times, IsFront, is_of, came, went, path}
 use Rattle.nf_net.proofs.FiltersApart.{unit_fits}
 use Rattle.nf_net.proofs.LogLemmas.{those-append}
 use Rattle.nf_net.proofs.Outline.{is_sys}
 use Rattle.nf_net.proofs.OwnerLemmas.{unit_is_fit}
-use Rattle.nf_net.proofs.Joined.{Given, GenuinePacket, S, bares, Joined}
+use Rattle.nf_net.proofs.Joined.{Given, GenuinePacket, S, Joined}
 use Rattle.nf_net.proofs.PathPlaces.{passes_are, forwards_are, events_are, store_is}
 use Rattle.nf_net.proofs.PathSeats.{Seated, seated, stands_at}
 use Rattle.nf_net.proofs.PathSums.{those-but, but_none, but_one}
-use Rattle.nf_net.proofs.RunsJoined.{done_same, not_bared, same_times}
+use Rattle.nf_net.proofs.RunsJoined.{done_same, same_times}
 use Rattle.nf_net.proofs.StartJoined.{given, genuine}
 
 times-append : (p : ℕ) (xs ys : List ℕ) → times p (xs ++ ys) ≡ times p xs + times p ys
@@ -88,7 +88,7 @@ those-places mine p q r s t v =
     ∙ ap (λ y. those mine r ++ y) (those-append mine s (t ++ v)
     ∙ ap (λ y. those mine s ++ y) (those-append mine t v))))
 
-module _ {F R : Type 0} (f : Semantics R) (c : Config) (items : List Msg) (is : IsInput f.kind c items) (n : ℕ) (count : n ≡ length c.names + 2) (w : Network (Node F R) Msg Note) (nodes : length w.nodes ≡ n) (j : Joined f (given f c items is) n w) (world : IsWorld w) (in_turn : IsFront (arrived w.log) (map (λ p. p.number) (packets items))) (owners : (u : units.Unit) → unit_fits f.kind u ≡ true → j.world.target u ≡ instance_node (owner c items u w.log)) (u : units.Unit) where
+module _ {F R : Type 0} (f : Semantics R) (c : Config) (items : List Msg) (is : IsInput f.kind c items) (n : ℕ) (count : n ≡ length c.names + 2) (w : Network (Node F R) Msg Note) (nodes : length w.nodes ≡ n) (j : Joined f (given f c items is) n w) (world : IsWorld w) (in_turn : IsFront (arrived w.log) (map (λ p. p.number) (packets items))) (u : units.Unit) where
   abbrev g : Given
   g = given f c items is
 
@@ -129,7 +129,7 @@ module _ {F R : Type 0} (f : Semantics R) (c : Config) (items : List Msg) (is : 
             let less = (Decides-ltb to.instance (length c.names)).0 small in
             let at : instance_node to.instance < n = omega (arith, less, count) in
             let fits : unit_fits f.kind u ≡ true = subst (λ v. unit_fits f.kind v ≡ true) unit (unit_is_fit f.kind (flow_of c.site q).0 h.0.fits) in
-            record { few = subst (λ m. m < n) (sym to.node ∙ ap j.world.target unit) at; own = owners u fits }
+            record { few = subst (λ m. m < n) (sym to.node ∙ ap j.world.target unit) at; own = j.shown_is.owners u fits }
         | false ↦ λ _ rest. known_of qs h.1 p ps rest
       ] refl e
 
@@ -281,8 +281,8 @@ module _ {F R : Type 0} (f : Semantics R) (c : Config) (items : List Msg) (is : 
       ap (λ v. v ++ path f c items u w) (sym (done_same f c items is n w j u) ∙ same_done (S f g) z j.world.done ∙ k.holds.done)
       ∙ ap (λ v. firsts x.done ++ v) path_is ∙ sym (seat_parts (S f g).F k.seat)
 
-  pub in_place : is_loose f c items u w.log ≡ false → went f c items u w.log ++ path f c items u w ≡ came f c items u w.log
-  in_place off = all_is ∙ exact_of k.flag (seat_all k.seat) (came f c items u w.log) (not_both k.flag (has_begun (bares f g u) w.log) k.flag_is (not_bared f c items is u w.log off)) k.order
+  pub in_place : is_loose c items u w.log ≡ false → went f c items u w.log ++ path f c items u w ≡ came f c items u w.log
+  in_place off = all_is ∙ exact_of k.flag (seat_all k.seat) (came f c items u w.log) (not_both k.flag (is_loose c items u w.log) k.flag_is off) k.order
 
   pub each_in_place : (p : ℕ) → times p (went f c items u w.log) + times p (path f c items u w) ≡ times p (came f c items u w.log)
   each_in_place p =

@@ -34,13 +34,14 @@ use Rattle.nf_net.specs.declared.config.Config.{Config}
 use Rattle.nf_net.specs.declared.node.Node.{Node}
 use Rattle.nf_net.specs.declared.node.Node.TheVariants.{Instance}
 use Rattle.nf_net.specs.Input.{IsInput}
-use Rattle.nf_net.specs.Log.{has_begun, those}
+use Rattle.nf_net.specs.Log.{those}
+use Rattle.nf_net.specs.Places.{is_loose}
 use Rattle.nf_net.specs.Path.{all_of, numbers, passed, carried, forwarded, handed_over, held_by}
 use Rattle.nf_net.specs.Promises.{came}
 use Rattle.nf_net.proofs.ControlOutline.{Sees}
 use Rattle.nf_net.proofs.LogLemmas.{those-append}
 use Rattle.nf_net.proofs.Outline.{is_sys}
-use Rattle.nf_net.proofs.Joined.{Given, S, bares, Label, FromSwitch, ToSwitch, ToController, place, shown, Joined}
+use Rattle.nf_net.proofs.Joined.{Given, S, Label, FromSwitch, ToSwitch, ToController, place, shown, Joined}
 use Rattle.nf_net.proofs.PathLinks.{view, AreRead, are_read, no_passes as no_passed, no_events, no_forwards}
 use Rattle.nf_net.proofs.PathNodes.{held_is}
 use Rattle.nf_net.proofs.PathSums.{those-all}
@@ -83,7 +84,7 @@ module _ {F R : Type 0} (f : Semantics R) (c : Config) (items : List Msg) (is : 
     pub flag : Bool
     pub holds : Holds (S f g) (see (S f g) (is_sys f g.site g.packet) u op third) j.world (seat_shape (S f g).F seat)
     pub order : Order flag (seat_all seat) (came f c items u w.log)
-    pub flag_is : flag ≡ true → has_begun (bares f g u) w.log ≡ true
+    pub flag_is : flag ≡ true → is_loose c items u w.log ≡ true
     pub passes_a : There n op.src (passes_in (seat_shape (S f g).F seat).sa)
     pub passes_b : There n op.dst (passes_in (seat_shape (S f g).F seat).sb)
     pub events_a : There n op.src (events_in (seat_shape (S f g).F seat).ac)
@@ -92,7 +93,7 @@ module _ {F R : Type 0} (f : Semantics R) (c : Config) (items : List Msg) (is : 
   pub seated : (u : units.Unit) → Seated u
   seated u = by_where (j.shown_is.every.unit u)
     where
-      by_where : Where (S f g) (is_sys f g.site g.packet) u j.world (came f c items u w.log) (has_begun (bares f g u) w.log) → Seated u
+      by_where : Where (S f g) (is_sys f g.site g.packet) u j.world (came f c items u w.log) (is_loose c items u w.log) → Seated u
       by_where (At_rest owner d l b h o fl) = record {
         op = record { num = j.world.next; src = owner; dst = suc owner; keep = true };
         third = suc (suc owner);
