@@ -8,6 +8,7 @@ pub mod BusyLemmas
 pub mod BusyNodes
 pub mod BusyOperations
 pub mod BusyRuns
+pub mod ClosingMoves
 pub mod CommandPromises
 pub mod CompleteRuns
 pub mod ControlOutline
@@ -55,6 +56,12 @@ pub mod OutputLemmas
 pub mod OutputSteps
 pub mod OwnerLemmas
 pub mod PacketCounts
+pub mod PathLinks
+pub mod PathNodes
+pub mod PathPlaces
+pub mod PathPromises
+pub mod PathSeats
+pub mod PathSums
 pub mod PlaceNotes
 pub mod PlaceRuns
 pub mod PlaceSteps

@@ -2,6 +2,7 @@ pub mod Commands
 pub mod Input
 pub mod Log
 pub mod Nodes
+pub mod Path
 pub mod Places
 pub mod Promises
 pub mod Refused
