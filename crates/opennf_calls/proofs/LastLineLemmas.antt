@@ -1,15 +1,18 @@
 -- A row stays what it is where files were bound before the command began, and a line went to the standard error after it ended.
-use Rattle.std.proofs.Common.{◌≡◌, ◌≢◌, ℕ, List, Bool, ◌&&◌, Option, None, Some, Result, Ok, Err, refl, ap, ◌∙◌, sym, subst, IsTrue, inl, inr}
+use Rattle.std.proofs.Common.{◌≡◌, ◌≢◌, ℕ, List, [], Bool, ◌&&◌, Option, None, Some, Result, Ok, Err, refl, ap, ◌∙◌, sym, subst, IsTrue, inl, inr}
 use Rattle.std.specs.Io.KnownBytes.{Appends}
 use Rattle.basics.proofs.BoolLemmas.{both_true}
 use Rattle.nf_io.specs.declared.outside.Role.{Role}
 use Rattle.nf_io.specs.declared.outside.Role.TheVariants.{Errors}
 use Rattle.nf_io.specs.Meaning.{Meaning, Rose, AppendsFront}
+use Rattle.actor_net.specs.declared.choice.Choice.{Choice}
 use Rattle.command_words.specs.Plan.{Asked}
 use Rattle.opennf_calls.specs.declared.status.Status.{Status}
-use Rattle.opennf_calls.specs.declared.status.Status.TheVariants.{Ok as Done, Usage, BadScript, BadTrace, NotBuilt, Unfinished, ReadFault, WriteFault, NoMemory}
+use Rattle.opennf_calls.specs.declared.status.Status.TheVariants.{Ok as Done, Usage, BadScript, BadTrace, BadJournal, NotBuilt, NotARun, Unfinished, ReadFault, WriteFault, NoMemory}
+use Rattle.opennf_calls.specs.declared.outcome.Outcome.{Outcome}
 use Rattle.opennf_calls.specs.Command.{is_result, comes_before}
-use Rattle.opennf_calls.specs.Outcome.{Texts, HasInput, ForTexts, IsBound, IsDone, IsWriteFault, IsReadFault, IsRefused, IsUnfinished, MayBind, WroteNothing, WroteResultsAlone, Gained, RowOf, CauseOf, PutsLine}
+use Rattle.opennf_calls.specs.NetworkRuns.{Gives}
+use Rattle.opennf_calls.specs.Outcome.{HasInput, ForResults, IsBound, IsDone, IsWriteFault, IsReadFault, IsRefused, IsUnfinished, IsNotARun, MayBind, WroteNothing, WroteResultsAlone, Gained, RowOf, CauseOf, PutsLine}
 use Rattle.opennf_calls.specs.Phases.{SameContents, SameNames}
 use Rattle.opennf_calls.specs.Writing.{Written, Wrote, written}
 use Rattle.opennf_calls.proofs.RoleLemmas.{at_each}
@@ -47,31 +50,32 @@ module _ (before old mid new : Role → Meaning) (around : Around before old mid
       subst (λ (o : Option (List ℕ)). Appends (before role).written o text) (sym (same_written role differ))
       (subst (λ (o : Option (List ℕ)). Appends o (mid role).written text) (around.contents.written role) was)
 
-  gained : (asked : Asked) (which : Role → Bool) (texts : Texts) → ((role : Role) → IsTrue (which role) → IsTrue (is_result asked role))
+  gained : (asked : Asked) (which : Role → Bool) (texts : Role → List ℕ) → ((role : Role) → IsTrue (which role) → IsTrue (is_result asked role))
       → Gained which texts old mid → Gained which texts before new
   gained asked which texts results was role is = appends role (texts role) (not_last asked role (results role is)) (was role is)
 
-  with_texts : (asked : Asked) (P Q : Texts → Type 0) → ((texts : Texts) → P texts → Q texts) → ForTexts asked old mid P → ForTexts asked before new Q
-  with_texts asked P Q weaken was bytes told =
+  with_results : (asked : Asked) (P Q : Gives → Type 0) → ((made : Gives) → P made → Q made) → ForResults asked old mid P → ForResults asked before new Q
+  with_results asked P Q weaken was bytes told =
       let found = was bytes (has_input asked bytes told) in
       record {
         read = λ role input. ap (λ m. m.left) (around.others role (not_errors asked role input)) ∙ found.read role input;
         sound = found.sound;
-        texts = found.texts;
+        made = found.made;
         are = found.are;
-        wrote = weaken found.texts found.wrote;
+        wrote = weaken found.made found.wrote;
       }
 
-  done : (asked : Asked) → IsDone asked old mid → IsDone asked before new
-  done asked row = record {
+  done : (asked : Asked) (choices : List Choice) → IsDone asked old mid choices → IsDone asked before new choices
+  done asked choices row = record {
     bound = bound asked row.bound;
     others = results_alone asked row.others;
-    results = with_texts asked (λ texts. Gained (is_result asked) texts old mid) (λ texts. Gained (is_result asked) texts before new)
-        (λ texts. gained asked (is_result asked) texts (λ role is. is)) row.results;
+    results = with_results asked (λ made. (made.choices ≡ choices) × Gained (is_result asked) made.texts old mid)
+        (λ made. (made.choices ≡ choices) × Gained (is_result asked) made.texts before new)
+        (λ made wrote. (wrote.0, gained asked (is_result asked) made.texts (λ role is. is) wrote.1)) row.results;
   }
 
-  write_fault : (asked : Asked) (role : Role) → IsWriteFault asked old mid role → IsWriteFault asked before new role
-  write_fault asked role row =
+  write_fault : (asked : Asked) (role : Role) (choices : List Choice) → IsWriteFault asked old mid role choices → IsWriteFault asked before new role choices
+  write_fault asked role choices row =
       let differ = not_last asked role row.result in
       record {
         result = row.result;
@@ -81,13 +85,16 @@ module _ (before old mid new : Role → Meaning) (around : Around before old mid
         after = λ other later.
             let result = (both_true (is_result asked other) (comes_before role other) later).0 in
             same_written other (not_last asked other result) ∙ row.after other later ∙ around.contents.written other;
-        results = with_texts asked
-            (λ texts. AppendsFront (old role).written (mid role).written (texts role) × Gained (λ other. is_result asked other && comes_before other role) texts old mid)
-            (λ texts. AppendsFront (before role).written (new role).written (texts role) × Gained (λ other. is_result asked other && comes_before other role) texts before new)
-            (λ texts wrote. (
-              (wrote.0.0, wrote.0.1, appends role _ differ wrote.0.2),
-              gained asked (λ other. is_result asked other && comes_before other role) texts
-                  (λ other is. (both_true (is_result asked other) (comes_before other role) is).0) wrote.1,
+        results = with_results asked
+            (λ made. (made.choices ≡ choices) × AppendsFront (old role).written (mid role).written (made.texts role)
+                × Gained (λ other. is_result asked other && comes_before other role) made.texts old mid)
+            (λ made. (made.choices ≡ choices) × AppendsFront (before role).written (new role).written (made.texts role)
+                × Gained (λ other. is_result asked other && comes_before other role) made.texts before new)
+            (λ made wrote. (
+              wrote.0,
+              (wrote.1.0, wrote.1.1, appends role _ differ wrote.1.2),
+              gained asked (λ other. is_result asked other && comes_before other role) made.texts
+                  (λ other is. (both_true (is_result asked other) (comes_before other role) is).0) wrote.2,
             )) row.results;
       }
 
@@ -119,20 +126,43 @@ module _ (before old mid new : Role → Meaning) (around : Around before old mid
         };
   }
 
-  pub row_around : (asked : Asked) (status : Status) → RowOf asked old mid status → RowOf asked before new status
-  row_around asked Done row = done asked row
-  row_around asked (WriteFault role) row = write_fault asked role row
-  row_around asked (ReadFault role) row = read_fault asked role row
-  row_around asked (BadScript line kind) row = refused asked (BadScript line kind) row
-  row_around asked (BadTrace offset kind) row = refused asked (BadTrace offset kind) row
-  row_around asked (NotBuilt command) row = refused asked (NotBuilt command) row
-  row_around asked (Unfinished step) row = unfinished asked step row
-  row_around asked NoMemory row = silent row
-  row_around asked Usage row = row
+  no_run : (asked : Asked) (step : ℕ) → IsNotARun asked old mid step → IsNotARun asked before new step
+  no_run asked step row = record {
+    bound = bound asked row.bound;
+    silent = silent row.silent;
+    failed = λ bytes told.
+        let found = row.failed bytes (has_input asked bytes told) in
+        record {
+          read = λ role input. ap (λ m. m.left) (around.others role (not_errors asked role input)) ∙ found.read role input;
+          sound = found.sound;
+          fails = found.fails;
+        };
+  }
 
-  pub cause_around : (plan : Option Asked) (status : Status) → CauseOf plan old mid status → CauseOf plan before new status
-  cause_around None status cause = (cause.0, silent cause.1)
-  cause_around (Some asked) status cause = row_around asked status cause
+  pub row_around : (asked : Asked) (choices : List Choice) (status : Status) → RowOf asked old mid choices status → RowOf asked before new choices status
+  row_around asked choices Done row = done asked choices row
+  row_around asked choices (WriteFault role) row = write_fault asked role choices row
+  row_around asked choices (ReadFault role) row = (read_fault asked role row.0, row.1)
+  row_around asked choices (BadScript line kind) row = (refused asked (BadScript line kind) row.0, row.1)
+  row_around asked choices (BadTrace offset kind) row = (refused asked (BadTrace offset kind) row.0, row.1)
+  row_around asked choices (BadJournal kind) row = (refused asked (BadJournal kind) row.0, row.1)
+  row_around asked choices (NotBuilt command) row = (refused asked (NotBuilt command) row.0, row.1)
+  row_around asked choices (NotARun step) row = (no_run asked step row.0, row.1)
+  row_around asked choices (Unfinished step) row = (unfinished asked step row.0, row.1)
+  row_around asked choices NoMemory row = (silent row.0, row.1)
+  row_around asked choices Usage row = row
+
+  pub cause_around : (plan : Option Asked) (outcome : Outcome) → CauseOf plan old mid outcome → CauseOf plan before new outcome
+  cause_around None outcome cause = (cause.0, silent cause.1, cause.2)
+  cause_around (Some asked) outcome cause = row_around asked outcome.choices outcome.status cause
+
+-- only names changed, and then again
+pub same_after : (old mid new : Role → Meaning) → SameContents old mid → SameContents mid new → SameContents old new
+same_after old mid new first second = record {
+  left = λ role. second.left role ∙ first.left role;
+  written = λ role. second.written role ∙ first.written role;
+  faults = λ role. second.faults role ∙ first.faults role;
+}
 
 -- files were bound before, and no line is written yet
 pub bound_before : (before old new : Role → Meaning) → SameContents before old → Around before old new new

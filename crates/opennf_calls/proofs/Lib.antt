@@ -1,5 +1,6 @@
 pub mod BuiltCommands
 pub mod CompleteLemmas
+pub mod EndedCommands
 pub mod LastLineLemmas
 pub mod MakingLemmas
 pub mod RoleLemmas
@@ -8,4 +9,5 @@ pub mod RunLemmas
 pub mod ScriptLemmas
 pub mod SimRows
 pub mod TwoResults
+pub mod WrittenRuns
 pub mod WritingLemmas

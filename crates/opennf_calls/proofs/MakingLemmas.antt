@@ -1,22 +1,42 @@
 -- What a command that makes a capture did, from what the making answered.
-use Rattle.std.proofs.Common.{◌≡◌, ◌≤◌, ℕ, List, Err, refl}
+use Rattle.std.proofs.Common.{◌≡◌, ◌≤◌, ℕ, List, [], Err, refl, ◌⊎◌, inl, inr, IsTrue}
 use Rattle.nf_io.specs.declared.outside.Role.{Role}
-use Rattle.nf_io.specs.declared.outside.Role.TheVariants.{Report, TraceOut}
+use Rattle.nf_io.specs.declared.outside.Role.TheVariants.{Trace, Script, JournalIn, Report, JournalOut, TraceOut, Errors}
 use Rattle.nf_io.specs.Meaning.{Meaning, Rose, OthersStay}
 use Rattle.trace_reader.specs.Generated.{capture}
 use Rattle.trace_reader.specs.Making.{Makes}
 use Rattle.trace_reader.specs.declared.make.MakeFault.{MakeFault}
 use Rattle.trace_reader.specs.declared.make.MakeFault.TheVariants.{Write, NoMemory}
 use Rattle.command_words.specs.Plan.{GenAsked, asks_gen}
-use Rattle.opennf_calls.specs.Outcome.{ForTexts, IsBound, gen_line}
-use Rattle.opennf_calls.specs.Phases.{Performs}
+use Rattle.opennf_calls.specs.declared.outcome.Outcome.{Outcome}
+use Rattle.opennf_calls.specs.Command.{is_input, is_result}
+use Rattle.opennf_calls.specs.Outcome.{ForResults, IsBound, gen_line}
+use Rattle.opennf_calls.specs.Phases.{OnlyRead, Performs}
 use Rattle.opennf_calls.specs.Status.{making_status}
-use Rattle.opennf_calls.proofs.RowLemmas.{one_file-gen}
-use Rattle.opennf_calls.proofs.TwoResults.{WritesFirst, no_input, file_failed, unmade}
+use Rattle.opennf_calls.proofs.RoleLemmas.{at_each}
+use Rattle.opennf_calls.proofs.TwoResults.{GivesBoth, WritesFirst, file_failed}
+
+results_of : (g : GenAsked) (other : Role) → IsTrue (is_result (asks_gen g) other) → (other ≡ TraceOut) ⊎ (other ≡ Report)
+results_of g TraceOut result = inl refl
+results_of g Report result = inr refl
+results_of g JournalOut result = absurd (cc)
+results_of g Trace result = absurd (cc)
+results_of g Script result = absurd (cc)
+results_of g JournalIn result = absurd (cc)
+results_of g Errors result = absurd (cc)
+
+no_input : (g : GenAsked) (other : Role) → IsTrue (is_input (asks_gen g) other) → ⊥
+no_input g Trace input = cc
+no_input g Script input = cc
+no_input g JournalIn input = cc
+no_input g Report input = cc
+no_input g JournalOut input = cc
+no_input g TraceOut input = cc
+no_input g Errors input = cc
 
 -- the file is written first
 pub gen_writes : (g : GenAsked) → WritesFirst (asks_gen g) TraceOut
-gen_writes g = record { one = one_file-gen g; written = refl; differs = refl; result = refl }
+gen_writes g = record { written = refl; differs = refl; result = refl; only = results_of g }
 
 abbrev gen_text : GenAsked → Role → List ℕ
 gen_text g TraceOut = capture g.number g.packets g.hosts
@@ -24,14 +44,18 @@ gen_text g role = gen_line g
 
 -- the two texts
 pub gen_texts : (g : GenAsked) (old : Role → Meaning)
-    → ForTexts (asks_gen g) old old (λ texts. (texts TraceOut ≡ capture g.number g.packets g.hosts) × (texts Report ≡ gen_line g))
+    → ForResults (asks_gen g) old old (GivesBoth TraceOut [] (capture g.number g.packets g.hosts) (gen_line g))
 gen_texts g old bytes told = record {
-  read = λ role input. absurd (no_input (asks_gen g) TraceOut (gen_writes g) role input);
+  read = λ role input. absurd (no_input g role input);
   sound = refl;
-  texts = gen_text g;
-  are = record { made = refl; line = refl };
-  wrote = (refl, refl);
+  made = record { choices = []; texts = gen_text g };
+  are = (refl, record { made = refl; line = refl });
+  wrote = record { is_made = refl; file = refl; report = refl };
 }
+
+-- nothing is read
+pub none_read : (old : Role → Meaning) → OnlyRead old old
+none_read old = record { written = λ role. refl; names = λ role. refl; others = λ role unread. refl }
 
 -- a role was written, and nothing but what was written and its count of faults changed
 pub record WrittenAlone (role : Role) (old new : Role → Meaning) : Type 0 where
@@ -43,9 +67,13 @@ pub record WrittenAlone (role : Role) (old new : Role → Meaning) : Type 0 wher
 -- the command ended with the status of a capture that can't be made
 pub making_performs : (g : GenAsked) (old new : Role → Meaning) (fault : MakeFault) → IsBound (asks_gen g) old → WrittenAlone TraceOut old new
     → Makes (capture g.number g.packets g.hosts) (old TraceOut).written (new TraceOut).written (Err fault)
-    → (fault ≡ Write → Rose (old TraceOut).faults (new TraceOut).faults) → Performs (asks_gen g) old new (making_status fault)
+    → (fault ≡ Write → Rose (old TraceOut).faults (new TraceOut).faults)
+    → Performs (asks_gen g) old new (record { status = making_status fault; choices = [] })
 making_performs g old new Write bound alone made rose =
-    file_failed (asks_gen g) TraceOut (gen_writes g) old bound (capture g.number g.packets g.hosts) (gen_line g) (gen_texts g old) new
+    file_failed (asks_gen g) TraceOut (gen_writes g) old old (none_read old) bound [] (capture g.number g.packets g.hosts) (gen_line g) (gen_texts g old) new
     (record { gains = (made, rose refl); later = alone.later; left = alone.left; name = alone.name; others = alone.others })
-making_performs g old new NoMemory bound alone made rose =
-    unmade (asks_gen g) TraceOut (gen_writes g) old bound new (record { written = made; name = alone.name; others = alone.others })
+making_performs g old new NoMemory bound alone made rose = record {
+  row = (λ other differ. at_each TraceOut old new (λ a b. b.written ≡ a.written) alone.others (λ m. refl) made other, refl);
+  names = at_each TraceOut old new (λ a b. b.name ≡ a.name) alone.others (λ m. refl) alone.name;
+  errors = alone.others Errors (λ same. cc);
+}

@@ -1,17 +1,20 @@
 -- From what a command did to the roles that it used to the row of its status, which speaks of all roles.
-use Rattle.std.proofs.Common.{◌≡◌, ◌≢◌, ℕ, List, false, ◌&&◌, None, Some, is_some, refl, ap, ◌∙◌, sym, subst, IsTrue, inl, inr}
+use Rattle.std.proofs.Common.{◌≡◌, ◌≢◌, ℕ, List, [], false, ◌&&◌, None, Some, is_some, refl, ap, ◌∙◌, sym, subst, IsTrue, inl, inr}
 use Rattle.std.specs.Io.KnownBytes.{Appends}
 use Rattle.basics.proofs.BoolLemmas.{both_true}
 use Rattle.nf_io.specs.declared.outside.Role.{Role}
 use Rattle.nf_io.specs.declared.outside.Role.TheVariants.{Trace, Script, JournalIn, Report, JournalOut, TraceOut, Errors}
 use Rattle.nf_io.specs.Meaning.{Meaning, Rose, AppendsFront}
 use Rattle.nf_io.specs.Roles.{is_read}
-use Rattle.command_words.specs.Plan.{Asked, SimAsked, CheckAsked, GenAsked, asks_sim, asks_check, asks_gen}
+use Rattle.actor_net.specs.declared.choice.Choice.{Choice}
+use Rattle.command_words.specs.Plan.{Asked, CheckAsked, GenAsked, asks_check, asks_gen}
 use Rattle.opennf_calls.specs.declared.status.Status.{Status}
 use Rattle.opennf_calls.specs.declared.status.Status.TheVariants.{Ok as Done, WriteFault}
+use Rattle.opennf_calls.specs.declared.outcome.Outcome.{Outcome}
 use Rattle.opennf_calls.specs.Command.{file_for, is_input, is_result, comes_before}
-use Rattle.opennf_calls.specs.Outcome.{Texts, HasInput, ForTexts, IsBound, WroteNothing, WroteResultsAlone, Gained, IsReadFault, IsRefused, RowOf, refusal_of}
-use Rattle.opennf_calls.specs.Phases.{OnlyRead, ReadAlone, SameNames, Performs}
+use Rattle.opennf_calls.specs.Outcome.{HasInput, ForResults, IsBound, WroteNothing, WroteResultsAlone, Gained, IsReadFault, IsRefused, RowOf, refusal_of}
+use Rattle.opennf_calls.specs.NetworkRuns.{Gives}
+use Rattle.opennf_calls.specs.Phases.{GivesReport, OnlyRead, ReadAlone, SameNames, Performs}
 use Rattle.opennf_calls.specs.Writing.{Gains, Written, all_of, front_of, Wrote}
 use Rattle.opennf_calls.proofs.RoleLemmas.{at_each, this_or_other}
 
@@ -74,27 +77,6 @@ module _ (asked : Asked) (role : Role) (one : OneFile asked role) where
   report_alone read JournalIn result = absurd (cc)
   report_alone read Errors result = absurd (cc)
 
--- a simulation writes the report alone
-pub report_alone-sim : (s : SimAsked) (other : Role) → IsTrue (is_result (asks_sim s) other) → other ≡ Report
-report_alone-sim s Report result = refl
-report_alone-sim s JournalOut result = absurd (cc)
-report_alone-sim s TraceOut result = absurd (cc)
-report_alone-sim s Trace result = absurd (cc)
-report_alone-sim s Script result = absurd (cc)
-report_alone-sim s JournalIn result = absurd (cc)
-report_alone-sim s Errors result = absurd (cc)
-
--- a simulation reads its capture, and a script where the words name one
-pub sim_reads : (s : SimAsked) (P : Role → Type 0) → P Trace → (IsTrue (is_input (asks_sim s) Script) → P Script)
-    → (other : Role) → IsTrue (is_input (asks_sim s) other) → P other
-sim_reads s P trace script Trace input = trace
-sim_reads s P trace script Script input = script input
-sim_reads s P trace script JournalIn input = absurd (cc)
-sim_reads s P trace script Report input = absurd (cc)
-sim_reads s P trace script JournalOut input = absurd (cc)
-sim_reads s P trace script TraceOut input = absurd (cc)
-sim_reads s P trace script Errors input = absurd (cc)
-
 -- a role that is read was read, and nothing else
 pub one_read : (role : Role) (old new : Role → Meaning) → IsTrue (is_read role) → ReadAlone role old new → OnlyRead old new
 one_read role old new reads alone = record {
@@ -130,12 +112,12 @@ module _ (old new : Role → Meaning) (only : OnlyRead old new) where
   refused asked status bound refusal = record { bound = still_bound asked bound; silent = silent; refusal = refusal }
 
   -- a command that ends there
-  pub ends : (asked : Asked) (status : Status) → RowOf asked old new status → Performs asked old new status
+  pub ends : (asked : Asked) (status : Status) → RowOf asked old new [] status → Performs asked old new (record { status = status; choices = [] })
   ends asked status row = record { row = row; names = only.names; errors = only.others Errors refl }
 
 -- a command that read its inputs and then wrote the report, whole or in part
 module _ (asked : Asked) (old mid new : Role → Meaning) (read : OnlyRead old mid) (bound : IsBound asked old) (only : (other : Role) → IsTrue (is_result asked other) → other ≡ Report)
-    (text : List ℕ) (made : ForTexts asked old mid (λ texts. texts Report ≡ text)) where
+    (choices : List Choice) (text : List ℕ) (made : ForResults asked old mid (GivesReport choices text)) where
   same_report : mid Report ≡ old Report
   same_report = read.others Report refl
 
@@ -158,44 +140,45 @@ module _ (asked : Asked) (old mid new : Role → Meaning) (read : OnlyRead old m
     gained : Gains part (old Report) (new Report)
     gained = subst (λ (m : Meaning). Gains part m (new Report)) same_report wrote.gains
 
-    -- the texts, for what is said of the one that was written
-    with_texts : (P : Texts → Type 0) → ((texts : Texts) → texts Report ≡ text → P texts) → ForTexts asked old new P
+    -- what the command gives, for what is said of the text that was written
+    with_texts : (P : Gives → Type 0) → ((g : Gives) → GivesReport choices text g → P g) → ForResults asked old new P
     with_texts P says bytes told =
         let found = made bytes told in
         record {
           read = λ other is. ap (λ m. m.left) (wrote.others other (not_report asked other is)) ∙ found.read other is;
           sound = found.sound;
-          texts = found.texts;
+          made = found.made;
           are = found.are;
-          wrote = says found.texts found.wrote;
+          wrote = says found.made found.wrote;
         }
 
-    performs : (status : Status) → RowOf asked old new status → Performs asked old new status
+    performs : (status : Status) → RowOf asked old new choices status → Performs asked old new (record { status = status; choices = choices })
     performs status row = record {
       row = row;
       names = λ other. new_names other ∙ read.names other;
       errors = wrote.others Errors (λ same. cc) ∙ read.others Errors refl;
     }
 
-  pub report_written : Wrote Report mid new (all_of text) → Performs asked old new Done
+  pub report_written : Wrote Report mid new (all_of text) → Performs asked old new (record { status = Done; choices = choices })
   report_written wrote = performs (all_of text) wrote Done (record {
     bound = new_bound (all_of text) wrote;
     others = others (all_of text) wrote;
-    results = with_texts (all_of text) wrote (λ texts. Gained (is_result asked) texts old new) (λ texts is other result.
-        subst (λ (o : Role). Appends (old o).written (new o).written (texts o)) (sym (only other result))
-        (subst (λ (t : List ℕ). Appends (old Report).written (new Report).written t) (sym is) (gained (all_of text) wrote)));
+    results = with_texts (all_of text) wrote (λ g. (g.choices ≡ choices) × Gained (is_result asked) g.texts old new) (λ g is. (is.is_made, λ other result.
+        subst (λ (o : Role). Appends (old o).written (new o).written (g.texts o)) (sym (only other result))
+        (subst (λ (t : List ℕ). Appends (old Report).written (new Report).written t) (sym is.report) (gained (all_of text) wrote))));
   })
 
-  pub report_failed : Wrote Report mid new (front_of text) → Performs asked old new (WriteFault Report)
+  pub report_failed : Wrote Report mid new (front_of text) → Performs asked old new (record { status = WriteFault Report; choices = choices })
   report_failed wrote = performs (front_of text) wrote (WriteFault Report) (record {
     result = refl;
     rose = (gained (front_of text) wrote).1;
     bound = new_bound (front_of text) wrote;
     others = others (front_of text) wrote;
     after = λ other later. let never = (both_true (is_result asked other) (comes_before Report other) later).1 in absurd (cc);
-    results = with_texts (front_of text) wrote (λ texts. AppendsFront (old Report).written (new Report).written (texts Report)
-        × Gained (λ other. is_result asked other && comes_before other Report) texts old new) (λ texts is. (
-          subst (λ (t : List ℕ). AppendsFront (old Report).written (new Report).written t) (sym is) (gained (front_of text) wrote).0,
+    results = with_texts (front_of text) wrote (λ g. (g.choices ≡ choices) × AppendsFront (old Report).written (new Report).written (g.texts Report)
+        × Gained (λ other. is_result asked other && comes_before other Report) g.texts old new) (λ g is. (
+          is.is_made,
+          subst (λ (t : List ℕ). AppendsFront (old Report).written (new Report).written t) (sym is.report) (gained (front_of text) wrote).0,
           λ other earlier.
               let parts = both_true (is_result asked other) (comes_before other Report) earlier in
               let never : IsTrue (comes_before Report Report) = subst (λ (o : Role). IsTrue (comes_before o Report)) (only other parts.0) parts.1 in absurd (cc),

@@ -52,6 +52,6 @@ nothing_left kind names bytes view said =
 -- the row of the status of a script that is refused
 pub script_row : (asked : Asked) (old new : Role → Meaning) (fault : ScriptFault) → OnlyRead old new → IsBound asked old
     → ((line : ℕ) (kind : ScriptKind) → fault ≡ script.Bad line kind → (bytes : Role → List ℕ) → HasInput asked old bytes → refusal_of asked bytes ≡ Some (BadScript line kind))
-    → RowOf asked old new (script_status fault)
-script_row asked old new (script.Bad line kind) only bound says = refused old new only asked (BadScript line kind) bound (says line kind refl)
-script_row asked old new script.NoMemory only bound says = silent old new only
+    → RowOf asked old new [] (script_status fault)
+script_row asked old new (script.Bad line kind) only bound says = (refused old new only asked (BadScript line kind) bound (says line kind refl), refl)
+script_row asked old new script.NoMemory only bound says = (silent old new only, refl)

@@ -1,37 +1,46 @@
--- The row of a command that reads nothing, writes one file, and then the report.
-use Rattle.std.proofs.Common.{◌≡◌, ◌≢◌, ℕ, List, false, not, ◌&&◌, is_some, refl, ap, ◌∙◌, sym, subst, IsTrue, ◌⊎◌, inl, inr}
+-- The row of a command that reads its inputs, if it has any, writes one file, and then the report.
+use Rattle.std.proofs.Common.{◌≡◌, ◌≢◌, ℕ, List, [], false, not, ◌&&◌, is_some, refl, ap, ◌∙◌, sym, subst, IsTrue, ◌⊎◌, inl, inr}
 use Rattle.std.specs.Io.KnownBytes.{Appends}
 use Rattle.basics.proofs.BoolLemmas.{both_true}
 use Rattle.nf_io.specs.declared.outside.Role.{Role}
-use Rattle.nf_io.specs.declared.outside.Role.TheVariants.{Trace, Script, JournalIn, Report, JournalOut, TraceOut, Errors}
-use Rattle.nf_io.specs.Meaning.{Meaning, AppendsFront}
+use Rattle.nf_io.specs.declared.outside.Role.TheVariants.{Report, Errors}
+use Rattle.nf_io.specs.Meaning.{Meaning, Rose, AppendsFront}
 use Rattle.nf_io.specs.Roles.{is_read, same_role}
+use Rattle.actor_net.specs.declared.choice.Choice.{Choice}
 use Rattle.command_words.specs.Plan.{Asked}
 use Rattle.opennf_calls.specs.declared.status.Status.{Status}
-use Rattle.opennf_calls.specs.declared.status.Status.TheVariants.{Ok as Done, WriteFault, NoMemory}
+use Rattle.opennf_calls.specs.declared.status.Status.TheVariants.{Ok as Done, WriteFault}
+use Rattle.opennf_calls.specs.declared.outcome.Outcome.{Outcome}
 use Rattle.opennf_calls.specs.Command.{file_for, is_input, is_result, comes_before}
-use Rattle.opennf_calls.specs.Outcome.{Texts, ForTexts, IsBound, WroteResultsAlone, Gained, RowOf}
-use Rattle.opennf_calls.specs.Phases.{ReadAlone, SameNames, Performs}
+use Rattle.opennf_calls.specs.NetworkRuns.{Gives}
+use Rattle.opennf_calls.specs.Outcome.{ForResults, IsBound, WroteResultsAlone, Gained, RowOf}
+use Rattle.opennf_calls.specs.Phases.{OnlyRead, SameNames, Performs}
 use Rattle.opennf_calls.specs.Writing.{Gains, Written, all_of, front_of, Wrote}
-use Rattle.opennf_calls.proofs.RoleLemmas.{at_each, other_place, this_or_other}
-use Rattle.opennf_calls.proofs.RowLemmas.{OneFile, input_alone, not_last}
+use Rattle.opennf_calls.proofs.RoleLemmas.{at_each, other_place}
+use Rattle.opennf_calls.proofs.RowLemmas.{not_last, not_report}
 
--- the command has a file for this role alone, which is written before the report
+-- the command has a result at this role, which is written before the report, and no other
 pub record WritesFirst (asked : Asked) (role : Role) : Type 0 where
-  pub one : OneFile asked role
   pub written : is_read role ≡ false
   pub differs : same_role role Report ≡ false
   pub result : IsTrue (is_result asked role)
+  pub only : (other : Role) → IsTrue (is_result asked other) → (other ≡ role) ⊎ (other ≡ Report)
+
+-- the choices and the two texts that a command gives
+pub record GivesBoth (role : Role) (choices : List Choice) (first second : List ℕ) (made : Gives) : Type 0 where
+  pub is_made : made.choices ≡ choices
+  pub file : made.texts role ≡ first
+  pub report : made.texts Report ≡ second
 
 module _ (asked : Asked) (role : Role) (writes : WritesFirst asked role) where
-  pub no_input : (other : Role) → IsTrue (is_input asked other) → ⊥
-  no_input other input =
-      let here : IsTrue (is_input asked role) = subst (λ (r : Role). IsTrue (is_input asked r)) (input_alone asked role writes.one other input) input in
-      let read = (both_true (is_read role) (is_some (file_for asked role)) here).0 in
-      let written = writes.written in cc
-
   apart : role ≢ Report
   apart = other_place role Report writes.differs
+
+  not_read : (other : Role) → IsTrue (is_input asked other) → other ≢ role
+  not_read other input same =
+      let here : IsTrue (is_input asked role) = subst (λ (r : Role). IsTrue (is_input asked r)) same input in
+      let read = (both_true (is_read role) (is_some (file_for asked role)) here).0 in
+      let written = writes.written in cc
 
   a_result : (other : Role) → is_result asked other ≡ false → other ≢ role
   a_result other none same =
@@ -42,20 +51,8 @@ module _ (asked : Asked) (role : Role) (writes : WritesFirst asked role) where
   not_the_report other none same =
       let here : is_result asked Report ≡ false = subst (λ (r : Role). is_result asked r ≡ false) same none in cc
 
-  file_or_report : (other : Role) → IsTrue (is_result asked other) → (other ≡ role) ⊎ (other ≡ Report)
-  file_or_report Report result = inr refl
-  file_or_report JournalOut result = elim (this_or_other JournalOut role) [
-    | inl same ↦ inl same
-    | inr differ ↦ let none : is_some (file_for asked JournalOut) ≡ false = ap is_some (writes.one JournalOut differ) in absurd (cc)
-  ]
-  file_or_report TraceOut result = elim (this_or_other TraceOut role) [
-    | inl same ↦ inl same
-    | inr differ ↦ let none : is_some (file_for asked TraceOut) ≡ false = ap is_some (writes.one TraceOut differ) in absurd (cc)
-  ]
-  file_or_report Trace result = absurd (cc)
-  file_or_report Script result = absurd (cc)
-  file_or_report JournalIn result = absurd (cc)
-  file_or_report Errors result = absurd (cc)
+  no_line : Errors ≢ role
+  no_line same = not_last asked role writes.result (sym same)
 
   -- nothing comes before the file, and it doesn't come after itself
   first_of_all : (other : Role) → IsTrue (comes_before other role) → ⊥
@@ -63,104 +60,112 @@ module _ (asked : Asked) (role : Role) (writes : WritesFirst asked role) where
       let here = (both_true (not (same_role other Report)) (same_role role Report) before).1 in
       let differs = writes.differs in cc
 
-  module _ (old : Role → Meaning) (bound : IsBound asked old) where
-    -- out of memory before anything was written
-    pub unmade : (new : Role → Meaning) → ReadAlone role old new → Performs asked old new NoMemory
-    unmade new alone = record {
-      row = λ other differ. at_each role old new (λ a b. b.written ≡ a.written) alone.others (λ m. refl) alone.written other;
-      names = at_each role old new (λ a b. b.name ≡ a.name) alone.others (λ m. refl) alone.name;
-      errors = alone.others Errors (λ same. not_last asked role writes.result (sym same));
-    }
+  module _ (old mid : Role → Meaning) (read : OnlyRead old mid) (bound : IsBound asked old)
+      (choices : List Choice) (first second : List ℕ) (made : ForResults asked old mid (GivesBoth role choices first second)) where
+    same_file : mid role ≡ old role
+    same_file = read.others role writes.written
 
-    module _ (first second : List ℕ) (made : ForTexts asked old old (λ texts. (texts role ≡ first) × (texts Report ≡ second))) where
-      -- the texts, also after something was written
-      with_texts : (new : Role → Meaning) (P : Texts → Type 0) → ((texts : Texts) → texts role ≡ first → texts Report ≡ second → P texts) → ForTexts asked old new P
-      with_texts new P says bytes told =
-          let found = made bytes told in
-          record {
-            read = λ other is. absurd (no_input other is);
-            sound = found.sound;
-            texts = found.texts;
-            are = found.are;
-            wrote = says found.texts found.wrote.0 found.wrote.1;
-          }
-
-      -- the file was written in part
-      pub file_failed : (new : Role → Meaning) → Wrote role old new (front_of first) → Performs asked old new (WriteFault role)
-      file_failed new wrote =
-          let names : SameNames old new = at_each role old new (λ a b. b.name ≡ a.name) wrote.others (λ m. refl) wrote.name in
-          record {
-            row = record {
-              result = writes.result;
-              rose = wrote.gains.1;
-              bound = λ other. names other ∙ bound other;
-              others = λ other none differ. ap (λ m. m.written) (wrote.others other (a_result other none));
-              after = λ other later. ap (λ m. m.written) (wrote.others other (λ same.
-                  let parts = both_true (is_result asked other) (comes_before role other) later in
-                  first_of_all role (subst (λ (r : Role). IsTrue (comes_before role r)) same parts.1)));
-              results = with_texts new (λ texts. AppendsFront (old role).written (new role).written (texts role)
-                  × Gained (λ other. is_result asked other && comes_before other role) texts old new) (λ texts is_first is_second. (
-                    subst (λ (t : List ℕ). AppendsFront (old role).written (new role).written t) (sym is_first) wrote.gains.0,
-                    λ other earlier. absurd (first_of_all other (both_true (is_result asked other) (comes_before other role) earlier).1),
-                  ));
-            };
-            names = names;
-            errors = wrote.others Errors (λ same. not_last asked role writes.result (sym same));
-          }
-
-      -- the file was written, and then the report
-      module _ (mid new : Role → Meaning) (file : Wrote role old mid (all_of first)) (part : Written) (report : Wrote Report mid new part) where
-        names : SameNames old new
-        names other = at_each Report mid new (λ a b. b.name ≡ a.name) report.others (λ m. refl) report.name other
-            ∙ at_each role old mid (λ a b. b.name ≡ a.name) file.others (λ m. refl) file.name other
-
-        others : WroteResultsAlone asked old new
-        others other none differ =
-            ap (λ m. m.written) (report.others other (not_the_report other none)) ∙ ap (λ m. m.written) (file.others other (a_result other none))
-
-        file_gained : (text : List ℕ) → text ≡ first → Appends (old role).written (new role).written text
-        file_gained text is =
-            subst (λ (m : Meaning). Appends (old role).written m.written text) (sym (report.others role apart))
-            (subst (λ (t : List ℕ). Appends (old role).written (mid role).written t) (sym is) file.gains)
-
-        report_gained : Gains part (old Report) (new Report)
-        report_gained = subst (λ (m : Meaning). Gains part m (new Report)) (file.others Report (λ same. apart (sym same))) report.gains
-
-        performs : (status : Status) → RowOf asked old new status → Performs asked old new status
-        performs status row = record {
-          row = row;
-          names = names;
-          errors = report.others Errors (λ same. cc) ∙ file.others Errors (λ same. not_last asked role writes.result (sym same));
+    -- what was given, also after something was written to other roles than the inputs
+    with_texts : (new : Role → Meaning) → ((other : Role) → IsTrue (is_input asked other) → new other ≡ mid other)
+        → (P : Gives → Type 0) → ((g : Gives) → GivesBoth role choices first second g → P g) → ForResults asked old new P
+    with_texts new stays P says bytes told =
+        let found = made bytes told in
+        record {
+          read = λ other is. ap (λ (m : Meaning). m.left) (stays other is) ∙ found.read other is;
+          sound = found.sound;
+          made = found.made;
+          are = found.are;
+          wrote = says found.made found.wrote;
         }
 
-      pub both_written : (mid new : Role → Meaning) → Wrote role old mid (all_of first) → Wrote Report mid new (all_of second) → Performs asked old new Done
-      both_written mid new file report = performs mid new file (all_of second) report Done (record {
-        bound = λ other. names mid new file (all_of second) report other ∙ bound other;
-        others = others mid new file (all_of second) report;
-        results = with_texts new (λ texts. Gained (is_result asked) texts old new) (λ texts is_first is_second other result.
-            elim (file_or_report other result) [
-              | inl same ↦ subst (λ (r : Role). Appends (old r).written (new r).written (texts r)) (sym same) (file_gained mid new file (all_of second) report (texts role) is_first)
-              | inr same ↦ subst (λ (r : Role). Appends (old r).written (new r).written (texts r)) (sym same)
-                  (subst (λ (t : List ℕ). Appends (old Report).written (new Report).written t) (sym is_second) (report_gained mid new file (all_of second) report))
-            ]);
-      })
+    -- the file was written in part
+    pub file_failed : (new : Role → Meaning) → Wrote role mid new (front_of first) → Performs asked old new (record { status = WriteFault role; choices = choices })
+    file_failed new wrote =
+        let names : SameNames mid new = at_each role mid new (λ a b. b.name ≡ a.name) wrote.others (λ m. refl) wrote.name in
+        record {
+          row = record {
+            result = writes.result;
+            rose = subst (λ (m : Meaning). Rose m.faults (new role).faults) same_file wrote.gains.1;
+            bound = λ other. names other ∙ read.names other ∙ bound other;
+            others = λ other none differ. ap (λ m. m.written) (wrote.others other (a_result other none)) ∙ read.written other;
+            after = λ other later. ap (λ m. m.written) (wrote.others other (λ same.
+                let parts = both_true (is_result asked other) (comes_before role other) later in
+                first_of_all role (subst (λ (r : Role). IsTrue (comes_before role r)) same parts.1))) ∙ read.written other;
+            results = with_texts new (λ other input. wrote.others other (not_read other input))
+                (λ g. (g.choices ≡ choices) × AppendsFront (old role).written (new role).written (g.texts role)
+                × Gained (λ other. is_result asked other && comes_before other role) g.texts old new) (λ g is. (
+                  is.is_made,
+                  subst (λ (t : List ℕ). AppendsFront (old role).written (new role).written t) (sym is.file)
+                      (subst (λ (m : Meaning). AppendsFront m.written (new role).written first) same_file wrote.gains.0),
+                  λ other earlier. absurd (first_of_all other (both_true (is_result asked other) (comes_before other role) earlier).1),
+                ));
+          };
+          names = λ other. names other ∙ read.names other;
+          errors = wrote.others Errors no_line ∙ read.others Errors refl;
+        }
 
-      pub report_failed : (mid new : Role → Meaning) → Wrote role old mid (all_of first) → Wrote Report mid new (front_of second) → Performs asked old new (WriteFault Report)
-      report_failed mid new file report = performs mid new file (front_of second) report (WriteFault Report) (record {
-        result = refl;
-        rose = (report_gained mid new file (front_of second) report).1;
-        bound = λ other. names mid new file (front_of second) report other ∙ bound other;
-        others = others mid new file (front_of second) report;
-        after = λ other later. let never = (both_true (is_result asked other) (comes_before Report other) later).1 in absurd (cc);
-        results = with_texts new (λ texts. AppendsFront (old Report).written (new Report).written (texts Report)
-            × Gained (λ other. is_result asked other && comes_before other Report) texts old new) (λ texts is_first is_second. (
-              subst (λ (t : List ℕ). AppendsFront (old Report).written (new Report).written t) (sym is_second) (report_gained mid new file (front_of second) report).0,
-              λ other earlier.
-                  let parts = both_true (is_result asked other) (comes_before other Report) earlier in
-                  elim (file_or_report other parts.0) [
-                    | inl same ↦ subst (λ (r : Role). Appends (old r).written (new r).written (texts r)) (sym same) (file_gained mid new file (front_of second) report (texts role) is_first)
-                    | inr same ↦
-                        let never : IsTrue (comes_before Report Report) = subst (λ (r : Role). IsTrue (comes_before r Report)) same parts.1 in absurd (cc)
-                  ],
-            ));
-      })
+    -- the file was written, and then the report
+    module _ (half new : Role → Meaning) (file : Wrote role mid half (all_of first)) (part : Written) (report : Wrote Report half new part) where
+      names : SameNames old new
+      names other = at_each Report half new (λ a b. b.name ≡ a.name) report.others (λ m. refl) report.name other
+          ∙ at_each role mid half (λ a b. b.name ≡ a.name) file.others (λ m. refl) file.name other ∙ read.names other
+
+      others : WroteResultsAlone asked old new
+      others other none differ =
+          ap (λ m. m.written) (report.others other (not_the_report other none)) ∙ ap (λ m. m.written) (file.others other (a_result other none)) ∙ read.written other
+
+      inputs : (other : Role) → IsTrue (is_input asked other) → new other ≡ mid other
+      inputs other input = report.others other (not_report asked other input) ∙ file.others other (not_read other input)
+
+      file_gained : (text : List ℕ) → text ≡ first → Appends (old role).written (new role).written text
+      file_gained text is =
+          subst (λ (m : Meaning). Appends (old role).written m.written text) (sym (report.others role apart))
+          (subst (λ (t : List ℕ). Appends (old role).written (half role).written t) (sym is)
+          (subst (λ (m : Meaning). Appends m.written (half role).written first) same_file file.gains))
+
+      report_gained : Gains part (old Report) (new Report)
+      report_gained = subst (λ (m : Meaning). Gains part m (new Report)) (file.others Report (λ same. apart (sym same)) ∙ read.others Report refl) report.gains
+
+      performs : (status : Status) → RowOf asked old new choices status → Performs asked old new (record { status = status; choices = choices })
+      performs status row = record {
+        row = row;
+        names = names;
+        errors = report.others Errors (λ same. cc) ∙ file.others Errors no_line ∙ read.others Errors refl;
+      }
+
+    pub both_written : (half new : Role → Meaning) → Wrote role mid half (all_of first) → Wrote Report half new (all_of second)
+        → Performs asked old new (record { status = Done; choices = choices })
+    both_written half new file report = performs half new file (all_of second) report Done (record {
+      bound = λ other. names half new file (all_of second) report other ∙ bound other;
+      others = others half new file (all_of second) report;
+      results = with_texts new (inputs half new file (all_of second) report)
+          (λ g. (g.choices ≡ choices) × Gained (is_result asked) g.texts old new) (λ g is. (is.is_made, λ other result.
+          elim (writes.only other result) [
+            | inl same ↦ subst (λ (r : Role). Appends (old r).written (new r).written (g.texts r)) (sym same) (file_gained half new file (all_of second) report (g.texts role) is.file)
+            | inr same ↦ subst (λ (r : Role). Appends (old r).written (new r).written (g.texts r)) (sym same)
+                (subst (λ (t : List ℕ). Appends (old Report).written (new Report).written t) (sym is.report) (report_gained half new file (all_of second) report))
+          ]));
+    })
+
+    pub second_failed : (half new : Role → Meaning) → Wrote role mid half (all_of first) → Wrote Report half new (front_of second)
+        → Performs asked old new (record { status = WriteFault Report; choices = choices })
+    second_failed half new file report = performs half new file (front_of second) report (WriteFault Report) (record {
+      result = refl;
+      rose = (report_gained half new file (front_of second) report).1;
+      bound = λ other. names half new file (front_of second) report other ∙ bound other;
+      others = others half new file (front_of second) report;
+      after = λ other later. let never = (both_true (is_result asked other) (comes_before Report other) later).1 in absurd (cc);
+      results = with_texts new (inputs half new file (front_of second) report)
+          (λ g. (g.choices ≡ choices) × AppendsFront (old Report).written (new Report).written (g.texts Report)
+          × Gained (λ other. is_result asked other && comes_before other Report) g.texts old new) (λ g is. (
+            is.is_made,
+            subst (λ (t : List ℕ). AppendsFront (old Report).written (new Report).written t) (sym is.report) (report_gained half new file (front_of second) report).0,
+            λ other earlier.
+                let parts = both_true (is_result asked other) (comes_before other Report) earlier in
+                elim (writes.only other parts.0) [
+                  | inl same ↦ subst (λ (r : Role). Appends (old r).written (new r).written (g.texts r)) (sym same) (file_gained half new file (front_of second) report (g.texts role) is.file)
+                  | inr same ↦
+                      let never : IsTrue (comes_before Report Report) = subst (λ (r : Role). IsTrue (comes_before r Report)) same parts.1 in absurd (cc)
+                ],
+          ));
+    })

@@ -2,7 +2,7 @@
 -- of the outside. This project's own.
 use Rattle.std.specs.Prelude.{◌≡◌, ◌≤◌, ℕ, true, false, All, List, [], Option, None, Some, is_some, Ok, length, IsTrue}
 use Rattle.nf_io.specs.declared.outside.Role.{Role}
-use Rattle.nf_io.specs.declared.outside.Role.TheVariants.{Errors, JournalOut, Script as ScriptRole, Trace as TraceRole}
+use Rattle.nf_io.specs.declared.outside.Role.TheVariants.{Errors, JournalOut, Report, Script as ScriptRole, Trace as TraceRole}
 use Rattle.nf_io.specs.Roles.{is_read}
 use Rattle.nf_io.specs.Meaning.{Meaning, OthersStay, Rose}
 use Rattle.flow_filter.specs.declared.site.Site.{Site}
@@ -127,6 +127,11 @@ result_texts journal report role = report
 
 abbrev pub gives : NetworkAsked → Made → Gives
 gives s made = record { choices = made.choices; texts = result_texts (journal_bytes s.kind (length s.instances.names) made.choices) made.report }
+
+-- the choices and the report that a command gives
+pub record GivesReport (choices : List Choice) (text : List ℕ) (made : Gives) : Type 0 where
+  pub is_made : made.choices ≡ choices
+  pub report : made.texts Report ≡ text
 
 -- why a schedule gives no report, for a function
 module _ {R : Type 0} (F : Type 0) (f : Semantics R) (s : NetworkAsked) (given : Given) where

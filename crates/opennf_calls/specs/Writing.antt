@@ -1,8 +1,15 @@
 -- Steps between code and definition, which nobody has to believe: what writing to one role does. This project's own.
-use Rattle.std.specs.Prelude.{◌≡◌, ◌≤◌, ℕ, List, Result, Ok, Err}
+use Rattle.std.specs.Prelude.{◌≡◌, ◌≤◌, ℕ, List, [], length, Option, None, is_some, IsTrue, Result, Ok, Err}
 use Rattle.std.specs.Io.KnownBytes.{Appends}
 use Rattle.nf_io.specs.declared.outside.Role.{Role}
+use Rattle.nf_io.specs.declared.outside.Role.TheVariants.{Report, JournalOut}
 use Rattle.nf_io.specs.Meaning.{Meaning, Rose, AppendsFront, OthersStay}
+use Rattle.journal_file.specs.Format.{journal_bytes}
+use Rattle.command_words.specs.Plan.{NetworkAsked}
+use Rattle.opennf_calls.specs.declared.status.Status.{Status}
+use Rattle.opennf_calls.specs.declared.status.Status.TheVariants.{Ok as Done, WriteFault, NoMemory}
+use Rattle.opennf_calls.specs.declared.outcome.Outcome.{Outcome}
+use Rattle.opennf_calls.specs.declared.network.Made.{Made}
 
 -- a text that was written whole, or one of which a front was written
 pub data Written : Type 0 where

@@ -1,5 +1,5 @@
 //! The command `audit`: the run that a journal tells, again.
-ghost use Rattle.std.specs.Prelude.{◌≡◌, MatchResult, []};
+ghost use Rattle.std.specs.Prelude.{◌≡◌, MatchResult, [], IsSome};
 ghost use Rattle.std.specs.Option.{ForSome};
 ghost use Rattle.nf_io.specs.declared.outside.Role.TheVariants.{JournalIn as JournalRole};
 ghost use Rattle.nf_io.specs.Meaning.{CanRead};
@@ -25,6 +25,7 @@ use std::alloc::Global;
 pub fn audit<O: Outside>(alloc: Global, asked: &NetworkRequest<'_>, outside: &mut O) -> Outcome
     requires bound { IsBound (asks_audit (network_view asked.now)) (O.seen outside.old) }
     requires runs { CanRun (network_view asked.now) }
+    requires journal { IsSome (network_view asked.now).journal }
     ensures { Performs (asks_audit (network_view asked.now)) (O.seen outside.old) (O.seen outside.new) result }
 {
     match make(alloc, asked, outside) {
@@ -41,6 +42,7 @@ fn make<O: Outside>(
 ) -> Result<Made, Status>
     requires bound { IsBound (asks_audit (network_view asked.now)) (O.seen outside.old) }
     requires runs { CanRun (network_view asked.now) }
+    requires journal { IsSome (network_view asked.now).journal }
     ensures only { OnlyRead (O.seen outside.old) (O.seen outside.new) }
     ensures row { MatchResult result
         (λ made. ForResults (asks_audit (network_view asked.now)) (O.seen outside.old) (O.seen outside.new) (λ g. g ≡ gives (network_view asked.now) made))

@@ -1,12 +1,12 @@
-ghost use Rattle.std.specs.Prelude.{◌≡◌, ◌≤◌, ◌+◌, Some, IfOk, MatchResult, length, take, drop};
+ghost use Rattle.std.specs.Prelude.{◌≡◌, ◌≤◌, ◌+◌, Some, IfOk, MatchResult, [], length, take, drop};
 ghost use Rattle.std.specs.Option.{ForSome};
-ghost use Rattle.nf_io.specs.declared.outside.Role.TheVariants.{Script as ScriptRole, Report as ReportRole};
+ghost use Rattle.nf_io.specs.declared.outside.Role.TheVariants.{Script as ScriptRole};
 ghost use Rattle.nf_io.specs.Meaning.{CanRead};
 ghost use Rattle.nf_io.specs.Transfers.{HasUptoCause};
 ghost use Rattle.command_words.specs.Plan.{asks_check};
 ghost use Rattle.command_words.specs.RequestViews.{check_view};
 ghost use Rattle.opennf_calls.specs.Outcome.{IsBound, ForResults, RowOf};
-ghost use Rattle.opennf_calls.specs.Phases.{Performs, ReadAlone};
+ghost use Rattle.opennf_calls.specs.Phases.{GivesReport, Performs, ReadAlone};
 
 use crate::status::Status;
 use crate::writing::put;
@@ -47,7 +47,7 @@ fn read_canonical<O: Outside>(
 
     // The text is the one that the command has for the script, or the status has its row.
     ensures row { MatchResult result
-        (λ text. ForResults (asks_check (check_view asked.now)) (O.seen outside.old) (O.seen outside.new) (λ made. (made.choices ≡ []) × (made.texts ReportRole ≡ text)))
+        (λ text. ForResults (asks_check (check_view asked.now)) (O.seen outside.old) (O.seen outside.new) (GivesReport [] text))
         (λ status. RowOf (asks_check (check_view asked.now)) (O.seen outside.old) (O.seen outside.new) [] status) }
 {
     let bytes = match read_bytes(alloc, outside, MOST_BYTES) {

@@ -1,4 +1,4 @@
-ghost use Rattle.std.specs.Prelude.{◌≡◌, MatchResult};
+ghost use Rattle.std.specs.Prelude.{◌≡◌, MatchResult, []};
 ghost use Rattle.nf_io.specs.declared.outside.Role.TheVariants.{TraceOut as TraceOutRole};
 ghost use Rattle.trace_reader.specs.Generated.{capture};
 ghost use Rattle.command_words.specs.Plan.{asks_gen};
@@ -19,7 +19,7 @@ use trace_reader::make_trace;
 /// Writes the capture to its file, which is bound, and then a line with its numbers.
 pub fn generate<O: Outside>(alloc: Global, asked: &Generating<'_>, outside: &mut O) -> Status
     requires { IsBound (asks_gen (gen_view asked.now)) (O.seen outside.old) }
-    ensures { Performs (asks_gen (gen_view asked.now)) (O.seen outside.old) (O.seen outside.new) result }
+    ensures { Performs (asks_gen (gen_view asked.now)) (O.seen outside.old) (O.seen outside.new) (record { status = result; choices = [] }) }
 {
     if let Err(status) = write_capture(alloc, asked, outside) {
         return status;
@@ -41,7 +41,7 @@ fn write_capture<O: Outside>(
     // The capture was written and nothing else changed, or the command ended with this status.
     ensures { MatchResult result
         (λ _. Wrote TraceOutRole (O.seen outside.old) (O.seen outside.new) (all_of (capture asked.now.number asked.now.packets asked.now.hosts)))
-        (λ status. Performs (asks_gen (gen_view asked.now)) (O.seen outside.old) (O.seen outside.new) status) }
+        (λ status. Performs (asks_gen (gen_view asked.now)) (O.seen outside.old) (O.seen outside.new) (record { status = status; choices = [] })) }
 {
     let mut sink = RoleSink {
         outside,

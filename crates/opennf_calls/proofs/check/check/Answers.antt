@@ -1,5 +1,5 @@
 -- What the command did is known from what it read and what it wrote.
-use Rattle.std.proofs.Common.{ℕ, List, refl, subst}
+use Rattle.std.proofs.Common.{ℕ, List, [], refl, subst}
 use Rattle.nf_io.specs.declared.outside.Role.TheVariants.{Script, Report}
 use Rattle.command_words.specs.Plan.{asks_check}
 use Rattle.command_words.specs.RequestViews.{check_view}
@@ -14,12 +14,12 @@ pub returns-in-Ok-put : goal.returns-in-Ok-put
 returns-in-Ok-put g c =
     report_written (asks_check (check_view c.args.asked.now)) _ _ _ (one_read Script _ _ refl c.read_canonical.ensures.alone) c.requires.bound
     (report_alone (asks_check (check_view c.args.asked.now)) Script (one_file-check (check_view c.args.asked.now)) refl)
-    c.in-Ok.text c.in-Ok.ensures.row
+    [] c.in-Ok.text c.in-Ok.ensures.row
     (subst (λ (text : List ℕ). Wrote Report (g.O.Outside.seen c.read_canonical.new.outside) (g.O.Outside.seen c.put.new.outside) (all_of text)) c.items.ensures c.in-Ok-put.ensures)
 
 pub returns : goal.returns
 returns g c =
     report_failed (asks_check (check_view c.args.asked.now)) _ _ _ (one_read Script _ _ refl c.read_canonical.ensures.alone) c.requires.bound
     (report_alone (asks_check (check_view c.args.asked.now)) Script (one_file-check (check_view c.args.asked.now)) refl)
-    c.in-Ok.text c.in-Ok.ensures.row
+    [] c.in-Ok.text c.in-Ok.ensures.row
     (subst (λ (text : List ℕ). Wrote Report (g.O.Outside.seen c.read_canonical.new.outside) (g.O.Outside.seen c.put.new.outside) (front_of text)) c.items.ensures c.in-Err-put.ensures)

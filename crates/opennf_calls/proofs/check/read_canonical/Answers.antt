@@ -39,7 +39,7 @@ returns-clause-row g c = λ bytes told.
           subst (λ (r : Role). (g.O.Outside.seen c.read_bytes.new.outside r).left ≡ Some []) (sym (input_alone (asks_check (check_view c.args.asked.now)) Script (one_file-check (check_view c.args.asked.now)) role input))
           (found.1 ∙ ap (λ rest. Some rest) none);
       sound = ap script_refusal said;
-      texts = λ role. c.in_ok-text.text;
-      are = record { script = c.in_ok-script.script; read = said; canonical = search rules };
-      wrote = refl;
+      made = record { choices = []; texts = λ role. c.in_ok-text.text };
+      are = (refl, record { script = c.in_ok-script.script; read = said; canonical = search rules });
+      wrote = record { is_made = refl; report = refl };
     }
