@@ -1,13 +1,14 @@
 pub mod BuiltCommands
 pub mod CompleteLemmas
 pub mod EndedCommands
+pub mod InputRows
 pub mod LastLineLemmas
 pub mod MakingLemmas
 pub mod RoleLemmas
 pub mod RowLemmas
 pub mod RunLemmas
+pub mod RunRows
 pub mod ScriptLemmas
-pub mod SimRows
 pub mod TwoResults
-pub mod WrittenRuns
 pub mod WritingLemmas
+pub mod WrittenRuns

@@ -29,11 +29,10 @@ use Rattle.run_report.specs.declared.head.Head.{Head}
 use Rattle.run_report.specs.Audits.{IsCause}
 use Rattle.run_report.specs.Lines.{report_text}
 use Rattle.opennf_calls.specs.declared.network.Made.{Made}
-use Rattle.opennf_calls.specs.declared.network.Opening.{Opening}
 use Rattle.opennf_calls.specs.declared.status.Status.{Status}
 use Rattle.opennf_calls.specs.declared.status.Status.TheVariants.{BadTrace, BadJournal, NotBuilt, NotARun, Unfinished, NoMemory, Ok as Done, Usage, BadScript, ReadFault, WriteFault}
 use Rattle.opennf_calls.specs.NetworkRuns.{Given, HasNoRun, HasShortRun, IsNoRun, IsRunOf, StopsShort, config_for, head_for, items_for}
-use Rattle.opennf_calls.specs.Phases.{EndsEarly, EndsEarlyAs, IsOpening, IsRefusedAs, IsRefusedRun, gives}
+use Rattle.opennf_calls.specs.Phases.{EndsEarly, EndsEarlyAs, IsRefusedAs, IsRefusedRun, gives}
 use Rattle.opennf_calls.specs.Status.{audit_status, run_status}
 
 -- the packet at a place of numbered ones
@@ -51,38 +50,39 @@ last_counts ps p numbered is =
     let few = slice_get_within ps (length ps - 1) p is in
     omega (arith, last, few)
 
-module _ {R : Type 0} (F : Type 0) (f : Semantics R) (s : NetworkAsked) (g : Given) (alloc : Global) (opening : Opening) (is : IsOpening s g opening) where
+module _ {R : Type 0} (F : Type 0) (f : Semantics R) (s : NetworkAsked) (g : Given) (alloc : Global) (config : Config) (items : List Msg) (head : Head)
+    (is_config : config ≡ config_for s g.site g.script.routes.items) (is_items : items ≡ items_for g.captured g.script) where
   -- what holds of the configuration and the input holds of those of the words
-  moved : (Q : Config → List Msg → Type 0) → Q opening.config opening.items.items → Q (config_for s g.site g.script.routes.items) (items_for g.captured g.script)
-  moved Q holds = subst (λ (c : Config). Q c (items_for g.captured g.script)) is.config (subst (λ (l : List Msg). Q opening.config l) is.items holds)
+  moved : (Q : Config → List Msg → Type 0) → Q config items → Q (config_for s g.site g.script.routes.items) (items_for g.captured g.script)
+  moved Q holds = subst (λ (c : Config). Q c (items_for g.captured g.script)) is_config (subst (λ (l : List Msg). Q config l) is_items holds)
 
   abbrev at_start : Network (Node F R) Msg Note
-  at_start = started alloc opening.config opening.items.items
+  at_start = started alloc config items
 
   -- a run from the start to its end
   pub record Ran (choices : List Choice) (world : Network (Node F R) Msg Note) : Type 0 where
     pub leads : LeadsTo f at_start choices world
     pub complete : is_done node_ended world ≡ true
-    pub promises : Promises f opening.config opening.items.items world
-    pub verdicts : Verdicts f at_start choices opening.config opening.items.items
-    pub completed : Completed f opening.config opening.items.items world
-    pub home : AllHome opening.config world
+    pub promises : Promises f config items world
+    pub verdicts : Verdicts {F = F} f at_start choices config items
+    pub completed : Completed f config items world
+    pub home : AllHome config world
 
   -- its report is made
   pub run_of : (by : Option Schedule) (made : Made) (world : Network (Node F R) Msg Note) → Ran made.choices world
-      → ((schedule : Schedule) → by ≡ Some schedule → made.choices ≡ chosen f at_start schedule)
-      → made.report ≡ report_text f opening.head s.summary world → IsRunOf F f s g by (gives s made)
-  run_of by made world ran scheduled report = record {
+      → ((schedule : Schedule) → by ≡ Some schedule → made.choices ≡ chosen {F = F} f at_start schedule)
+      → head ≡ head_for s g.captured → made.report ≡ report_text f head s.summary world → IsRunOf F f s g by (gives s made)
+  run_of by made world ran scheduled is_head report = record {
     alloc = alloc;
     world = world;
     leads = moved (λ c l. LeadsTo f (started alloc c l) made.choices world) ran.leads;
     complete = ran.complete;
-    scheduled = λ schedule same. moved (λ c l. made.choices ≡ chosen f (started alloc c l) schedule) (scheduled schedule same);
+    scheduled = λ schedule same. moved (λ c l. made.choices ≡ chosen {F = F} f (started alloc c l) schedule) (scheduled schedule same);
     promises = moved (λ c l. Promises f c l world) ran.promises;
-    verdicts = moved (λ c l. Verdicts f (started alloc c l) made.choices c l) ran.verdicts;
+    verdicts = moved (λ c l. Verdicts {F = F} f (started alloc c l) made.choices c l) ran.verdicts;
     completed = moved (λ c l. Completed f c l world) ran.completed;
     home = moved (λ c l. AllHome c world) ran.home;
-    report = report ∙ ap (λ (h : Head). report_text f h s.summary world) is.head;
+    report = report ∙ ap (λ (h : Head). report_text f h s.summary world) is_head;
     journal = refl;
   }
 
@@ -108,7 +108,7 @@ module _ {R : Type 0} (F : Type 0) (f : Semantics R) (s : NetworkAsked) (g : Giv
   early schedule same Usage stops = absurd stops
   early schedule same (BadScript line kind) stops = absurd stops
   early schedule same (BadTrace offset kind) stops = absurd stops
-  early schedule same (BadJournal kind) stops = absurd stops
+  early schedule same (BadJournal fault) stops = absurd stops
   early schedule same (NotBuilt command) stops = absurd stops
   early schedule same (NotARun step) stops = absurd stops
   early schedule same (ReadFault role) stops = absurd stops
@@ -123,7 +123,7 @@ module _ {R : Type 0} (F : Type 0) (f : Semantics R) (s : NetworkAsked) (g : Giv
   no_run choices same Usage cause = absurd cause
   no_run choices same (BadScript line kind) cause = absurd cause
   no_run choices same (BadTrace offset kind) cause = absurd cause
-  no_run choices same (BadJournal kind) cause = absurd cause
+  no_run choices same (BadJournal fault) cause = absurd cause
   no_run choices same (NotBuilt command) cause = absurd cause
   no_run choices same (ReadFault role) cause = absurd cause
   no_run choices same (WriteFault role) cause = absurd cause

@@ -2,7 +2,7 @@
 -- of the outside. This project's own.
 use Rattle.std.specs.Prelude.{◌≡◌, ◌≤◌, ℕ, true, false, All, List, [], Option, None, Some, is_some, Ok, length, IsTrue}
 use Rattle.nf_io.specs.declared.outside.Role.{Role}
-use Rattle.nf_io.specs.declared.outside.Role.TheVariants.{Errors, JournalOut, Report, Script as ScriptRole, Trace as TraceRole}
+use Rattle.nf_io.specs.declared.outside.Role.TheVariants.{Errors, JournalIn, JournalOut, Report, Script as ScriptRole, Trace as TraceRole}
 use Rattle.nf_io.specs.Roles.{is_read}
 use Rattle.nf_io.specs.Meaning.{Meaning, OthersStay, Rose}
 use Rattle.flow_filter.specs.declared.site.Site.{Site}
@@ -19,7 +19,7 @@ use Rattle.actor_net.specs.declared.choice.Choice.{Choice}
 use Rattle.actor_net.specs.declared.schedule.Schedule.{Schedule}
 use Rattle.command_words.specs.Plan.{Asked, NetworkAsked, asks_audit, asks_run, asks_sim}
 use Rattle.opennf_calls.specs.declared.status.Status.{Status}
-use Rattle.opennf_calls.specs.declared.status.Status.TheVariants.{NoMemory, NotARun, ReadFault, Unfinished}
+use Rattle.opennf_calls.specs.declared.status.Status.TheVariants.{BadScript, BadTrace, NoMemory, NotARun, NotBuilt, ReadFault, Unfinished}
 use Rattle.opennf_calls.specs.declared.outcome.Outcome.{Outcome}
 use Rattle.opennf_calls.specs.Command.{run_file}
 use Rattle.opennf_calls.specs.Outcome.{CauseOf, IsGiven, MayBind, RowOf, inputs_refusal}
@@ -89,17 +89,25 @@ pub record HasScript (s : NetworkAsked) (old new : Role → Meaning) (script : S
   pub said : (bytes : Role → List ℕ) → TellsInputs s old bytes → given_script s (bytes ScriptRole) ≡ Ok (script_view script)
   pub read : (bytes : Role → List ℕ) → TellsInputs s old bytes → IsTrue (is_some s.script) → (new ScriptRole).left ≡ Some []
 
--- the script and the capture were read, and every command is built
+-- the script and the capture were read, and every command is built; a journal wasn't touched
 pub record HasInputs (s : NetworkAsked) (old new : Role → Meaning) (given : Given) : Type 0 where
   pub is_given : (bytes : Role → List ℕ) → TellsInputs s old bytes → IsGiven s bytes given
   pub sound : (bytes : Role → List ℕ) → TellsInputs s old bytes → inputs_refusal s bytes ≡ None
   pub read : (bytes : Role → List ℕ) → TellsInputs s old bytes → ReadToEnd s new
+  pub journal : new JournalIn ≡ old JournalIn
+
+-- the script and the capture, where the outside tells them, are refused with this status
+abbrev pub RefusesInputs : NetworkAsked → (Role → Meaning) → Status → Type 0
+RefusesInputs s old status = (bytes : Role → List ℕ) → TellsInputs s old bytes → inputs_refusal s bytes ≡ Some status
 
 -- why the script and the capture give no run
 abbrev pub InputsFail : NetworkAsked → (old new : Role → Meaning) → Status → Type 0
 InputsFail s old new (ReadFault role) = IsTrue (is_some (run_file s role)) × Rose (old role).faults (new role).faults
 InputsFail s old new NoMemory = Unit {0}
-InputsFail s old new status = (bytes : Role → List ℕ) → TellsInputs s old bytes → inputs_refusal s bytes ≡ Some status
+InputsFail s old new (BadScript line kind) = RefusesInputs s old (BadScript line kind)
+InputsFail s old new (BadTrace offset kind) = RefusesInputs s old (BadTrace offset kind)
+InputsFail s old new (NotBuilt command) = RefusesInputs s old (NotBuilt command)
+InputsFail s old new status = ⊥
 
 -- what a run's inputs are read as, at a site
 abbrev pub given_by : Site → Inputs → Given

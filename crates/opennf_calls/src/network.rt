@@ -118,9 +118,13 @@ fn schedule_network<F: Function>(
         (λ made. IsRunOf F.row.Denot F.semantics (network_view asked.now) (given_by asked.now.site inputs) (Some schedule) (gives (network_view asked.now) made))
         (EndsEarlyAs F.row.Denot F.semantics (network_view asked.now) (given_by asked.now.site inputs) schedule) }
 {
-    let opening = open(alloc, asked, inputs)?;
-    let (world, choices) = simulate::<F>(alloc, &opening.config, opening.items, schedule)?;
-    let report = report::<F>(alloc, &opening.head, &world, asked.summary)?;
+    let Opening {
+        config,
+        items,
+        head,
+    } = open(alloc, asked, inputs)?;
+    let (world, choices) = simulate::<F>(alloc, &config, items, schedule)?;
+    let report = report::<F>(alloc, &head, &world, asked.summary)?;
     Ok(Made { choices, report })
 }
 
@@ -139,9 +143,13 @@ where
     requires sound { CanBegin (network_view asked.now) (given_by asked.now.site inputs) }
     ensures { IfOk result (λ made. IsRunOf F.row.Denot F.semantics (network_view asked.now) (given_by asked.now.site inputs) None (gives (network_view asked.now) made)) }
 {
-    let opening = open(alloc, asked, inputs)?;
-    let (world, choices) = run_network::<R, F, G>(rt, alloc, &opening.config, opening.items, gate)?;
-    let report = report::<F>(alloc, &opening.head, &world, asked.summary)?;
+    let Opening {
+        config,
+        items,
+        head,
+    } = open(alloc, asked, inputs)?;
+    let (world, choices) = run_network::<R, F, G>(rt, alloc, &config, items, gate)?;
+    let report = report::<F>(alloc, &head, &world, asked.summary)?;
     Ok(Made { choices, report })
 }
 

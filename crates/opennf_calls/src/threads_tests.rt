@@ -1,4 +1,4 @@
-ghost use Rattle.std.specs.Prelude.{◌≡◌, ◌<◌, ◌≤◌, vec_len, All, IfOk};
+ghost use Rattle.std.specs.Prelude.{◌≡◌, ◌<◌, true, vec_len, All, IfOk};
 ghost use Rattle.nf_function.specs.Units.{is_transport};
 ghost use Rattle.nf_function.specs.declared.kind.Kind.TheVariants.{Conntrack as OfFlows};
 ghost use Rattle.trace_reader.specs.Records.{AreNumbered};
@@ -61,7 +61,8 @@ fn packets(alloc: Global, count: u32) -> Result<Packets, Fail>
 {
     let mut packets = Packets::open(alloc);
     for number in 0..count {
-        packets.push(packet(number + 1))?;
+        let next = packet(number + 1);
+        packets.push(next)?;
     }
     Ok(packets)
 }

@@ -76,7 +76,7 @@ pub fn opennf_calm<O: Outside>(alloc: Global, words: &[String], outside: &mut O)
 }
 
 /// Whether the words name the command `run`.
-fn names_run(words: &[String]) -> bool
+pub(crate) fn names_run(words: &[String]) -> bool
     ensures { result ≡ is_command (codes "run") (map string_bytes words.now) }
 {
     match words {

@@ -1,49 +1,44 @@
--- The script is the one that is given, or the status has its row.
+-- The script is the one that is given, or the status has its cause.
 use Rattle.std.proofs.Common.{rules, ◌≡◌, ◌+◌, false, is_none, is_some, [], Some, Ok, Err, take, ap, sym, ◌∙◌, refl, subst}
 use Rattle.std.proofs.lemmas.Result.{err_from_is_err_and}
-use Rattle.nf_io.specs.declared.outside.Role.TheVariants.{Script, Trace}
-use Rattle.trace_reader.specs.Records.{capture_of}
+use Rattle.nf_io.specs.declared.outside.Role.TheVariants.{Script}
 use Rattle.op_script.specs.declared.fault.ScriptFault.{ScriptFault}
 use Rattle.op_script.specs.declared.fault.ScriptFault.TheVariants as script
 use Rattle.op_script.specs.Reading.{SaysWhole, script_of, script_view}
-use Rattle.command_words.specs.Plan.{asks_sim}
-use Rattle.command_words.specs.RequestViews.{sim_view}
-use Rattle.opennf_calls.specs.Outcome.{first_refusal, run_refusal, trace_refusal}
-use Rattle.opennf_calls.proofs.ScriptLemmas.{most_bytes, script_of-front, nothing_left, script_row}
-use Rattle.opennf_calls.proofs.SimRows.{is_named, named_script}
-use Rattle.opennf_calls.proofs.RowLemmas.{one_read}
+use Rattle.command_words.specs.RequestViews.{network_view}
+use Rattle.opennf_calls.proofs.ScriptLemmas.{most_bytes, script_of-front, nothing_left}
+use Rattle.opennf_calls.proofs.InputRows.{is_named, named_script, script_fails}
 use Rattle.opennf_calls.proofs.inputs.read_commands.Goals as goal
 
-pub returns-in_err-script-clause-row : goal.returns-in_err-script-clause-row
-returns-in_err-script-clause-row g c =
-    let s = sim_view c.args.asked.now in
+pub returns-in_err-script-clause-said : goal.returns-in_err-script-clause-said
+returns-in_err-script-clause-said g c =
+    let s = network_view c.args.asked.now in
     let given : is_none c.args.asked.now.script ≡ false = search rules in
     let named = is_named c.args.asked.now.script given in
     let failed = err_from_is_err_and c.from_residual.result c.from_residual.ensures.1 in
     rw (failed.1, failed.2)
-    (script_row (asks_sim s) (g.O.Outside.seen c.args.outside.now) (g.O.Outside.seen c.read_bytes.new.outside) c.in_err-script.field-0.0
-    (one_read Script _ _ refl c.read_bytes.ensures.alone) c.requires.bound (λ line kind is bytes told.
-    let found = c.in-Ok.ensures.bytes (bytes Script) (told Script named) in
+    (script_fails s (g.O.Outside.seen c.args.outside.now) (g.O.Outside.seen c.read_bytes.new.outside) c.in_err-script.field-0.0
+    (λ line kind is bytes told.
+    let found = c.in-Ok.ensures.bytes (bytes Script) (told.script named) in
     let read : c.items.result.now ≡ take (most_bytes + 1) (bytes Script) = search rules in
     let heard : SaysWhole script_view (Err c.in_err-script.field-0.0) (script_of c.args.asked.now.kind c.args.asked.now.instances.names.items (take (most_bytes + 1) (bytes Script))) = search rules in
     let bad : SaysWhole script_view (Err (script.Bad line kind)) (script_of c.args.asked.now.kind c.args.asked.now.instances.names.items (take (most_bytes + 1) (bytes Script))) =
     subst (λ (fault : ScriptFault). SaysWhole script_view (Err fault) (script_of c.args.asked.now.kind c.args.asked.now.instances.names.items (take (most_bytes + 1) (bytes Script)))) is heard in
-    ap (λ said. first_refusal (run_refusal said) (trace_refusal (capture_of (bytes Trace))))
-    (named_script s (bytes Script) named ∙ sym (script_of-front c.args.asked.now.kind c.args.asked.now.instances.names.items (bytes Script)) ∙ bad)))
+    named_script s (bytes Script) named ∙ sym (script_of-front c.args.asked.now.kind c.args.asked.now.instances.names.items (bytes Script)) ∙ bad))
 
-pub returns-clause-row : goal.returns-clause-row
-returns-clause-row g c =
-    let s = sim_view c.args.asked.now in
+pub returns-clause-said : goal.returns-clause-said
+returns-clause-said g c =
+    let s = network_view c.args.asked.now in
     let given : is_none c.args.asked.now.script ≡ false = search rules in
     let named = is_named c.args.asked.now.script given in
     record {
       said = λ bytes told.
-          let found = c.in-Ok.ensures.bytes (bytes Script) (told Script named) in
+          let found = c.in-Ok.ensures.bytes (bytes Script) (told.script named) in
           let read : c.items.result.now ≡ take (most_bytes + 1) (bytes Script) = search rules in
           let heard : script_of c.args.asked.now.kind c.args.asked.now.instances.names.items (take (most_bytes + 1) (bytes Script)) ≡ Ok (script_view c.in_ok-script.script) = search rules in
           named_script s (bytes Script) named ∙ sym (script_of-front c.args.asked.now.kind c.args.asked.now.instances.names.items (bytes Script)) ∙ heard;
       read = λ bytes told input.
-          let found = c.in-Ok.ensures.bytes (bytes Script) (told Script named) in
+          let found = c.in-Ok.ensures.bytes (bytes Script) (told.script named) in
           let read : c.items.result.now ≡ take (most_bytes + 1) (bytes Script) = search rules in
           let heard : script_of c.args.asked.now.kind c.args.asked.now.instances.names.items (take (most_bytes + 1) (bytes Script)) ≡ Ok (script_view c.in_ok-script.script) = search rules in
           let said : script_of c.args.asked.now.kind c.args.asked.now.instances.names.items (bytes Script) ≡ Ok (script_view c.in_ok-script.script) =

@@ -1,0 +1,1 @@
+-- The rows of the commands that run the network.

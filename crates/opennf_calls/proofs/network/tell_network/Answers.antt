@@ -1,0 +1,46 @@
+-- The run that is told is that of the words, the script and the capture.
+use Rattle.std.proofs.Common.{rules, None, Err, List, ap, refl, subst, sym, ◌≡◌, ◌∙◌}
+use Rattle.std.proofs.lemmas.Result.{err_from_is_err_and}
+use Rattle.nf_function.specs.declared.kind.Kind.{Kind}
+use Rattle.actor_net.specs.declared.choice.Choice.{Choice}
+use Rattle.command_words.specs.RequestViews.{network_view}
+use Rattle.nf_net.specs.Input.{IsInput}
+use Rattle.nf_net.specs.Start.{started}
+use Rattle.run_report.specs.Audits.{IsCause, world_after}
+use Rattle.opennf_calls.specs.Phases.{given_by}
+use Rattle.opennf_calls.proofs.RunLemmas.{Ran, run_of, run_refused}
+use Rattle.opennf_calls.proofs.network.tell_network.Goals as goal
+
+pub returns-in_err-report : goal.returns-in_err-report
+returns-in_err-report g c =
+    let opening = c.in_ok-config.field-0 in
+    let is = c.in_ok-config.ensures in
+    let told : c.items-told.result.now ≡ c.args.choices = search rules in
+    let failed = err_from_is_err_and c.from_residual-in_err-report.result c.from_residual-in_err-report.ensures.1 in
+    rw (failed.1, failed.2)
+    (run_refused g.row.F.Denot g.F.Function.semantics (network_view c.args.asked.now) (given_by c.args.asked.now.site c.args.inputs) c.args.alloc opening.config opening.items.items opening.head is.config is.items
+    c.args.choices c.in_err-report.field-0.0 (λ step same.
+    subst (λ (cs : List Choice). IsCause {F = g.row.F.Denot} g.F.Function.semantics (started c.args.alloc opening.config opening.items.items) cs step) told
+    (c.in_err-report.ensures.not_a_run step (ap Err same))))
+
+pub returns : goal.returns
+returns g c =
+    let opening = c.in_ok-config.field-0 in
+    let is = c.in_ok-config.ensures in
+    let report = c.in_ok-report.ensures in
+    let told : c.items-told.result.now ≡ c.args.choices = search rules in
+    let start = started {F = g.row.F.Denot} {R = g.row.F-Record.Denot} c.args.alloc opening.config opening.items.items in
+    let input = subst (λ (k : Kind). IsInput k opening.config opening.items.items) (sym c.requires.kind) is.is_input in (
+      run_of g.row.F.Denot g.F.Function.semantics (network_view c.args.asked.now) (given_by c.args.asked.now.site c.args.inputs) c.args.alloc opening.config opening.items.items opening.head is.config is.items
+          None (record { choices = c.args.choices; report = c.in_ok-report.report }) (world_after g.F.Function.semantics start c.items-told.result.now)
+          (subst (λ (cs : List Choice). Ran g.row.F.Denot g.F.Function.semantics (network_view c.args.asked.now) (given_by c.args.asked.now.site c.args.inputs) c.args.alloc opening.config opening.items.items opening.head is.config is.items cs (world_after g.F.Function.semantics start c.items-told.result.now)) told
+          (record {
+            leads = report.run.leads;
+            complete = report.run.complete;
+            promises = report.promises input;
+            verdicts = report.verdicts input;
+            completed = report.completed input;
+            home = report.home input;
+          })) (λ schedule same. cc) is.head report.text,
+      refl,
+    )
