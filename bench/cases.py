@@ -23,9 +23,6 @@ sys.dont_write_bytecode = True
 import make_capture  # noqa: E402
 import model  # noqa: E402
 
-# Whether the program runs several instances, scripts, windows and schedules. The cases that want them are left out until then.
-NETWORK = False
-
 HERE = os.path.dirname(os.path.abspath(__file__))
 EXAMPLES = os.path.join(HERE, os.pardir, "examples")
 MICRO, NANO = 0xA1B2C3D4, 0xA1B23C4D
@@ -445,6 +442,12 @@ def networks_by_hand(cases):
     four = [question(1), question(9), question(1), question(9)]
     singles = [f"out {number} single" for number in range(1, 5)]
     one_done = ["out 1 single", "done 1 a"]
+    # 100 hosts at a and 100 at b, all moved to c, which takes 180.
+    crowd = [*range(1, 101), *range(129, 229)]
+    crowd_dones = [f"out {number} single" for number in range(1, 201)]
+    crowd_dones += [f"done {number} {'a' if number <= 100 else 'b'}" for number in range(1, 201)]
+    to_c = ["at 200 move a c local=10.0.0.0/25 order", "at 200 move b c local=10.0.0.128/25 order"]
+    crowd_tallies = ["tally a 100 0 0", "tally b 0 100 0", "tally c 0 0 0"]
     ssh = [
         ipv4(tcp(40000, 22, 2), 6, "192.0.2.9", "10.0.0.5"),
         ipv4(tcp(22, 40000, 18), 6, "10.0.0.5", "192.0.2.9"),
@@ -491,6 +494,11 @@ def networks_by_hand(cases):
         "route": ("conntrack", "a,b,c", four, ["route local=10.0.0.9/32 c", "at 2 move a b any order", "at 2 settle"], last,
             [*singles, *dones("1a 2c 3b 4c"), "answer 1 done", host_state(1, "b", 2), host_state(9, "c", 2),
                 "tally a 1 0 0", "tally b 0 1 0", "tally c 0 0 2"]),
+        "past-limit": ("conntrack", "a,b,c:180", [question(host) for host in crowd], [halves[0], *to_c], first,
+            [*crowd_dones, "answer 1 done", "answer 2 done", *(host_state(host, "c", 1) for host in crowd), *crowd_tallies]),
+        "at-limit": ("conntrack", "a,b,c:180", [question(host) for host in crowd], [halves[0], to_c[0], "at 200 settle", to_c[1]], first,
+            [*crowd_dones, "answer 1 done", "answer 2 import 100 100 180",
+                *(host_state(host, "c" if host <= 100 else "b", 1) for host in crowd), *crowd_tallies]),
         "ports": ("nat", "a", ports, None, [*TRANSLATED, *last],
             [*translated, *(f"done {number} a" for number in range(1, 254)), "state 10.0.0.255 a ports 252 packets 253 drops 1", "tally a 253"]),
         "back": ("nat", "a,b", back, ["at 1 move a b local=10.0.0.1 order", "at 1 settle"], [*TRANSLATED, *last],
@@ -679,7 +687,7 @@ def main(arguments):
     folder, seed, count = arguments[0], arguments[1], int(arguments[2])
     os.chdir(folder)
     cases = Cases(os.curdir)
-    for make in by_hand, office, headers, records, frames, flows, paths, command_lines, making, *(NETWORKS if NETWORK else ()):
+    for make in by_hand, office, headers, records, frames, flows, paths, command_lines, making, *NETWORKS:
         make(cases)
     by_chance(cases, seed, count)
 

@@ -194,7 +194,7 @@ def check_settles(run):
 
 # --- Runs by chance ---
 
-NAMES = "abcde"
+NAMES = "abcdefghijklmnop"
 
 
 def chance_packet(chance, site, many):
@@ -223,14 +223,30 @@ def chance_filter(chance, function):
     return chance.choice(by_host + (by_flow if function is FUNCTIONS["conntrack"] else []))
 
 
+def chance_moves(chance, function, names):
+    """The moves of one moment, as source, destination and filter: one; a chain that takes the same flows on; or two into one
+    destination, which can be open at once."""
+    shape = chance.random()
+    if len(names) > 2 and shape < 0.15:
+        way = chance.sample(names, chance.randrange(3, len(names) + 1))
+        flows = chance_filter(chance, function)
+        return [(*ends, flows) for ends in zip(way, way[1:])]
+    if len(names) > 2 and shape < 0.3:
+        destination, *sources = chance.sample(names, 3)
+        return list(zip(sources, [destination] * 2, ["local=10.0.0.0/25", "local=10.0.0.128/25"]))
+    ends = chance.sample([*names, "z"] if chance.random() < 0.1 or len(names) == 1 else names, 2)
+    return [(*ends, chance_filter(chance, function))]
+
+
 def chance_script(chance, function, names, packets):
     lines = [f"route {chance_filter(chance, function)} {chance.choice(names)}" for _ in range(chance.choice([0, 0, 1, 3]))]
     for point in sorted(chance.randrange(packets + 2) for _ in range(chance.choice([0, 1, 2, 2, 4, 8]))):
-        ends = chance.sample([*names, "z"] if chance.random() < 0.1 or len(names) == 1 else names, 2)
-        how = chance.choice(["order", "order", "lossfree"])
-        lines.append(f"at {point} move {ends[0]} {ends[1]} {chance_filter(chance, function)} {how}")
-        if chance.random() < 0.5:
-            lines.append(f"at {point} settle")
+        settles = chance.choice([0, 0.5, 1])
+        for source, destination, flows in chance_moves(chance, function, names):
+            how = chance.choice(["order", "order", "lossfree"])
+            lines.append(f"at {point} move {source} {destination} {flows} {how}")
+            if chance.random() < settles:
+                lines.append(f"at {point} settle")
     return "".join(line + "\n" for line in lines)
 
 

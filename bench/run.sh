@@ -1,17 +1,23 @@
 #!/usr/bin/env bash
 # Compares the speed of the program with the yardstick, which is the same work by plain Rust with nothing proved.
-# Use: bench/run.sh [PROGRAM]; without a word it takes the program that `rt run` or `rt ci` left in its crate.
+# Use: bench/run.sh [PROGRAM [PACKETS]]; without a word it takes the program that `rt run` or `rt ci` left in its crate, and
+# 1,000,000 packets.
 #
-# Both read captures of 1,000,000 packets, in turn and five times each: a generated one of 32,768 flows (few), one of a
+# Both read captures of so many packets, in turn and five times each: a generated one of 32,768 flows (few), one of a
 # single flow (one), one in which no two packets are of one flow (distinct), and one of which every record is skipped
 # (skipped); and two more in which no two packets are of one flow, drawn alike, but for what their hashes have in common: nothing
 # (ordinary), or that the program finds all of them by a few windows of its table (colliding). Printed are the best times, their ratios
-# and the peak memory; the outputs must be the same bytes. This is no part of the gate. What it makes stands in bench/out.
+# and the peak memory; the outputs must be the same bytes.
+#
+# Then the program runs by itself: with one instance and three, with a tenth of the packets and all, with and without a move of a tenth as
+# many units as there are packets to another instance and back, and with and without 12 moves of half of the flows of 10,000 packets.
+# This is no part of the gate. What it makes stands in bench/out.
 set -eu
 bench=$(cd "$(dirname "${BASH_SOURCE[0]}")" && pwd)
 program=${1:-$bench/../crates/opennf/out/opennf}
+packets=${2:-1000000}
 out=$bench/out
-packets=1000000
+[ "$packets" = 1000000 ] || out=$out/$packets
 mkdir -p "$out"
 
 if [ ! -x "$program" ]; then
@@ -45,5 +51,12 @@ if [ ${#programs[@]} = 2 ]; then
     made ordinary "$out/collide" $packets 0 0
     made colliding "$out/collide" $packets 8 14
 fi
+# The captures of the runs by several instances.
+beside=("${captures[@]}")
+captures=("$out/few.pcap")
+made few-tenth python3 "$bench/make_capture.py" 7 $((packets / 10)) 256
+made repeated python3 "$bench/shapes.py" repeated $packets
+made twelve python3 "$bench/make_capture.py" 7 10000 200
 echo "load $(cut -d ' ' -f 1-3 /proc/loadavg), processors $(nproc)"
-python3 "$bench/measure.py" "$out" "${programs[@]}" -- "${captures[@]}"
+python3 "$bench/measure.py" "$out" "${programs[@]}" -- "${beside[@]}"
+python3 "$bench/network_speed.py" "$out" "$program" "${captures[@]}"

@@ -78,6 +78,26 @@ module _ {R : Type 0} (S : Sys R) (laws : IsSys S) (z : Seeing) where
         by_link (By_cc e _ _) = absurd (falsely (sym y1 ∙ ap (λ q. q == 1) e))
         by_link (By_cs e _ _) = absurd (falsely (sym y0 ∙ ap (λ q. q == 0) e))
 
+      -- the link that the message comes from is one from the switch
+      pub data From_switch : Type 0 where
+        From_sa : y ≡ z.op.src → From_switch
+        From_sb : y ≡ z.op.dst → (it : Item R) (v : List (Item R)) → x.sb ≡ it ∷ v → From_switch
+        From_sc : y ≡ z.third → (it : Item R) (v : List (Item R)) → x.sc ≡ it ∷ v → From_switch
+
+      from_switch : (it : Item R) (is : seen (frame S z) m ≡ Some it) → Shown_by z.op.src z.op.dst z.third x p y (it ∷ items (seen (frame S z)) rest) → From_switch
+      from_switch it is (By_sa ya p0 e) = From_sa ya
+      from_switch it is (By_sb yb p0 e) = From_sb yb it (items (seen (frame S z)) rest) e
+      from_switch it is (By_sc yc p0 e) = From_sc yc it (items (seen (frame S z)) rest) e
+      from_switch it is (By_ca ya p1 e) = let g = its_ran it is At_a x.a (is_src S laws z w s h p y m rest y0 y1 waits it is ya) in absurd (g.2 (still_ran S.F At_a g.0 g.1 x.a it (still_ca S.F s it (items (seen (frame S z)) rest) e)))
+      from_switch it is (By_cb yb p1 e) = let g = its_ran it is At_b x.b (is_dst S laws z w s h p y m rest y0 y1 waits it is yb) in absurd (g.2 (still_ran S.F At_b g.0 g.1 x.b it (still_cb S.F s it (items (seen (frame S z)) rest) e)))
+      from_switch it is (By_ac e _ _) = absurd (falsely (sym y1 ∙ ap (λ q. q == 1) e))
+      from_switch it is (By_bc e _ _) = absurd (falsely (sym y1 ∙ ap (λ q. q == 1) e))
+      from_switch it is (By_cc e _ _) = absurd (falsely (sym y1 ∙ ap (λ q. q == 1) e))
+      from_switch it is (By_cs e _ _) = absurd (falsely (sym y0 ∙ ap (λ q. q == 0) e))
+
+      pub comes_from_switch : From_switch
+      comes_from_switch = let i = some_seen in from_switch i.0 i.1 (shown_by z.op.src z.op.dst z.third h.nodes x p y i.0 (items (seen (frame S z)) rest) (shown S laws z w s h p y m rest y0 y1 waits i.0 i.1))
+
       fresh_seat : (node_at S z x y).live ≡ after S.F x.done
       fresh_seat = let i = some_seen in by_link i.0 i.1 (shown_by z.op.src z.op.dst z.third h.nodes x p y i.0 (items (seen (frame S z)) rest) (shown S laws z w s h p y m rest y0 y1 waits i.0 i.1))
 

@@ -20,4 +20,6 @@ pub mod Every
 pub mod Waits
 pub mod Outcomes
 pub mod Readings
+pub mod Stores
 pub mod Places
+pub mod Sources

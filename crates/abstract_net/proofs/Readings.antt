@@ -35,7 +35,7 @@ not_both false c f e = refl
 firsts_bare : (d e : List Ran) (p : List ℕ) → firsts e ++ p ≡ [] → firsts (d ++ e) ≡ firsts d
 firsts_bare d e p none = firsts-append d e ∙ ap (λ v. firsts d ++ v) (nil_left (firsts e) p none) ∙ append-nil (firsts d)
 
-seat_parts : {R : Type 0} (F : Steps R) (s : Seat F) → seat_all s ≡ firsts (seat_shape F s).done ++ seat_path s
+pub seat_parts : {R : Type 0} (F : Steps R) (s : Seat F) → seat_all s ≡ firsts (seat_shape F s).done ++ seat_path s
 seat_parts F (Covered s) = refl
 seat_parts F (Is_beside s) = ap (λ v. v ++ seat_path (Is_beside s)) (sym (firsts_bare s.d (shape F s.base).done (path s.base) s.bare))
 seat_parts F (Is_away s) = ap (λ v. v ++ s.l) (sym (firsts_bare s.d (shape F s.base).done (path s.base) s.bare))

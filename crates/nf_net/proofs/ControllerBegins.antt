@@ -19,7 +19,7 @@ use Rattle.nf_msgs.specs.declared.command.Order.{Order}
 use Rattle.nf_msgs.specs.declared.command.Order.TheVariants as order
 use Rattle.nf_msgs.specs.declared.msg.Msg.TheVariants as msg
 use Rattle.nf_msgs.specs.Nodes.{switch_node, instance_node}
-use Rattle.move_op.specs.Move.{MovePlan, MoveState, begun}
+use Rattle.move_op.specs.Move.{MovePlan, MoveState, answer_of, begun}
 use Rattle.ctrl_node.specs.declared.operation.Operation.{Operation}
 use Rattle.ctrl_node.specs.declared.operation.Operation.TheVariants.{Move}
 use Rattle.ctrl_node.specs.Operations.{lowest_meeting, meets_operation}
@@ -145,6 +145,15 @@ module _ {R : Type 0} (f : Semantics R) (g : Given) where
           | false ↦ λ _. at
         ] refl
 
+    emptied_begun : (k : ℕ) → cond (eqb k plan.op) (Some (Move (begun plan))) (finite.get c.operations k) ≡ None → stored c.store k ≡ []
+    emptied_begun k = elim (eqb k plan.op) as (λ b. cond b (Some (Move (begun plan))) (finite.get c.operations k) ≡ None → stored c.store k ≡ []) [ true ↦ λ gone. cc | false ↦ λ gone. is.emptied k gone ]
+
+    going_begun : (k : ℕ) (mv : MoveState) → cond (eqb k plan.op) (Some (Move (begun plan))) (finite.get c.operations k) ≡ Some (Move mv) → answer_of mv.phase ≡ None
+    going_begun k mv = elim (eqb k plan.op) as (λ b. cond b (Some (Move (begun plan))) (finite.get c.operations k) ≡ Some (Move mv) → answer_of mv.phase ≡ None) [
+      | true ↦ λ at. (let its : begun plan ≡ mv = cc in ap (λ m. answer_of m.phase) (sym its))
+      | false ↦ λ at. is.going k mv at
+    ]
+
     controller_begun : find_op ops plan.op ≡ None → IsController f g begun_at (ops ++ new ∷ []) (suc plan.op)
     controller_begun out = record {
       names = is.names;
@@ -152,6 +161,8 @@ module _ {R : Type 0} (f : Semantics R) (g : Given) where
       moves = moves_begun;
       listed = each-append (IsListed f g begun_at) ops (new ∷ []) (listed_old ops is.listed) (record { move = begun plan; there = get_begun plan.op ∙ ap (λ b. cond b (Some (Move (begun plan))) (finite.get c.operations plan.op)) self; filter = refl }, tt);
       nothing = λ k least. is.nothing k (omega (arith, fresh, least));
+      emptied = λ k gone. emptied_begun k (sym (get_begun k) ∙ gone);
+      going = λ k mv e. going_begun k mv (sym (get_begun k) ∙ e);
       genuine = is.genuine;
     }
 

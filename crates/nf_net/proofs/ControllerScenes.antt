@@ -72,6 +72,8 @@ module _ {R : Type 0} (f : Semantics R) (g : Given) where
     moves = λ k mv e. is.moves k mv (sym (ap (λ o. finite.get o k) operations) ∙ e);
     listed = listed_same c d ops operations is.listed;
     nothing = λ k least. ap (λ o. stored o k) store ∙ is.nothing k least;
+    emptied = λ k none. ap (λ o. stored o k) store ∙ is.emptied k (sym (ap (λ o. finite.get o k) operations) ∙ none);
+    going = λ k mv e. is.going k mv (sym (ap (λ o. finite.get o k) operations) ∙ e);
     genuine = λ k. subst (λ o. Each (Genuine f g) (stored o k)) (sym store) (is.genuine k);
   }
 

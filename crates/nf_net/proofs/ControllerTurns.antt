@@ -35,6 +35,7 @@ use Rattle.record_table.specs.Chunks.{spelled}
 use Rattle.abstract_net.proofs.Copies.{has, have, copies, one_copy, one_copy_back, event_open}
 use Rattle.nf_net.proofs.MoveOutline.{outline_plan, outline_phase, RowFollows, put_no_row, event_row}
 use Rattle.nf_net.proofs.ControlOutline.{Sees, SeesMove, Opens, TurnFollows, stored_after, got_insert, got_remove, turn_same}
+use Rattle.nf_net.proofs.ClosingMoves.{closed_empty}
 use Rattle.nf_net.proofs.MoveSteps.{RowKeeps, row_keeps, brought, kept_in}
 use Rattle.nf_net.proofs.UnitCounts.{times, times-append, times_is_has, times_chunks}
 use Rattle.nf_net.proofs.ControllerScenes.{AreQuiet, RowLeads, sent-append, waits, taken, stays}
@@ -57,7 +58,7 @@ move_same e = cc
 
 module _ {R : Type 0} (f : Semantics R) (g : Given) where
   -- the controller after a row of an open move
-  module _ (c : ControllerState) (ops : List (Open R)) (next n : ℕ) (mv : MoveState) (real_row : Row) (is : IsController f g c ops next) (has : finite.get c.operations n ≡ Some (Move mv)) (below : n < next) (keeps : RowKeeps f g n mv (stored c.store n) real_row) where
+  module _ (c : ControllerState) (ops : List (Open R)) (next n : ℕ) (mv : MoveState) (real_row : Row) (is : IsController f g c ops next) (has : finite.get c.operations n ≡ Some (Move mv)) (below : n < next) (keeps : RowKeeps f g n mv (stored c.store n) real_row) (ends : (why : Answer) → answer_of real_row.next.phase ≡ Some why → unwrap_or real_row.stored (stored c.store n) ≡ []) where
     abbrev after : MoveState
     after = record mv { phase = real_row.next.phase }
 
@@ -76,6 +77,9 @@ module _ {R : Type 0} (f : Semantics R) (g : Given) where
 
     nothing_after : (k : ℕ) → next ≤ k → stored (moved mv c.store real_row).store k ≡ []
     nothing_after k least = let off : eqb k n ≡ false = grind (arith, nat_tests, below, least) in store_is k ∙ ap (λ b. cond b (unwrap_or real_row.stored (stored c.store n)) (stored c.store k)) off ∙ is.nothing k least
+
+    stored_other : (k : ℕ) → eqb k n ≡ false → finite.get c.operations k ≡ None → stored (moved mv c.store real_row).store k ≡ []
+    stored_other k off none = store_is k ∙ ap (λ b. cond b (unwrap_or real_row.stored (stored c.store n)) (stored c.store k)) off ∙ is.emptied k none
 
     genuine_after : (k : ℕ) → Each (Genuine f g) (stored (moved mv c.store real_row).store k)
     genuine_after k = subst (Each (Genuine f g)) (sym (store_is k)) (elim (eqb k n) as (λ b. Each (Genuine f g) (cond b (unwrap_or real_row.stored (stored c.store n)) (stored c.store k))) [ true ↦ keeps.genuine | false ↦ is.genuine k ])
@@ -99,6 +103,26 @@ module _ {R : Type 0} (f : Semantics R) (g : Given) where
       | false ↦ λ e. is.moves k m e
     ]
 
+    -- what is stored of operations that aren't open
+    emptied_open : (k : ℕ) → cond (eqb k n) (Some (Move after)) (finite.get c.operations k) ≡ None → stored (moved mv c.store real_row).store k ≡ []
+    emptied_open k = elim (eqb k n) as (λ b. eqb k n ≡ b → cond b (Some (Move after)) (finite.get c.operations k) ≡ None → stored (moved mv c.store real_row).store k ≡ []) [ true ↦ λ on none. cc | false ↦ λ off none. stored_other k off none ] refl
+
+    emptied_closed : unwrap_or real_row.stored (stored c.store n) ≡ [] → (k : ℕ) → cond (eqb k n) None (cond (eqb k n) (Some (Move after)) (finite.get c.operations k)) ≡ None → stored (moved mv c.store real_row).store k ≡ []
+    emptied_closed left k = elim (eqb k n) as (λ b. eqb k n ≡ b → cond b None (cond b (Some (Move after)) (finite.get c.operations k)) ≡ None → stored (moved mv c.store real_row).store k ≡ []) [
+      | true ↦ λ on _. store_is k ∙ ap (λ b. cond b (unwrap_or real_row.stored (stored c.store n)) (stored c.store k)) on ∙ left
+      | false ↦ λ off none. stored_other k off none
+    ] refl
+
+    -- the open ones aren't over
+    going_open : answer_of real_row.next.phase ≡ None → (k : ℕ) (m : MoveState) → cond (eqb k n) (Some (Move after)) (finite.get c.operations k) ≡ Some (Move m) → answer_of m.phase ≡ None
+    going_open goes_on k m = elim (eqb k n) as (λ b. cond b (Some (Move after)) (finite.get c.operations k) ≡ Some (Move m) → answer_of m.phase ≡ None) [
+      | true ↦ λ e. ap (λ y. answer_of y.phase) (sym (move_same e)) ∙ goes_on
+      | false ↦ λ e. is.going k m e
+    ]
+
+    going_closed : (k : ℕ) (m : MoveState) → cond (eqb k n) None (cond (eqb k n) (Some (Move after)) (finite.get c.operations k)) ≡ Some (Move m) → answer_of m.phase ≡ None
+    going_closed k m = elim (eqb k n) as (λ b. cond b None (cond b (Some (Move after)) (finite.get c.operations k)) ≡ Some (Move m) → answer_of m.phase ≡ None) [ true ↦ λ e. cc | false ↦ λ e. is.going k m e ]
+
     -- the list after it
     listed_at : (e : Open R) → IsListed f g c e → IsListed f g (did None).node e
     listed_at e l = elim (eqb e.op.num n) as (λ b. eqb e.op.num n ≡ b → IsListed f g (did None).node e) [
@@ -115,22 +139,22 @@ module _ {R : Type 0} (f : Semantics R) (g : Given) where
     listed_closed : (why : Answer) → Each (IsListed f g (did (Some why)).node) (close_op n ops)
     listed_closed why = each_left (IsListed f g c) (IsListed f g (did (Some why)).node) n ops (λ e off l. let turned : eqb e.op.num n ≡ false = off in record { move = l.move; there = get_closed why e.op.num ∙ ap (λ b. cond b None (cond b (Some (Move after)) (finite.get c.operations e.op.num))) turned ∙ l.there; filter = l.filter }) is.listed
 
-    open_is : (rp : RPhase R) (fs : List ℕ) → Opens f (place g) (set_op n rp fs ops) (did None).node → IsController f g (did None).node (set_op n rp fs ops) next
-    open_is rp fs opens = record { names = is.names; opens = opens; moves = λ k m e. moves_open k m (sym (get_open k) ∙ e); listed = listed_open rp fs; nothing = nothing_after; genuine = genuine_after }
+    open_is : (rp : RPhase R) (fs : List ℕ) → answer_of real_row.next.phase ≡ None → Opens f (place g) (set_op n rp fs ops) (did None).node → IsController f g (did None).node (set_op n rp fs ops) next
+    open_is rp fs goes_on opens = record { names = is.names; opens = opens; moves = λ k m e. moves_open k m (sym (get_open k) ∙ e); listed = listed_open rp fs; nothing = nothing_after; emptied = λ k none. emptied_open k (sym (get_open k) ∙ none); going = λ k m e. going_open goes_on k m (sym (get_open k) ∙ e); genuine = genuine_after }
 
-    closed_is : (why : Answer) → Opens f (place g) (close_op n ops) (did (Some why)).node → IsController f g (did (Some why)).node (close_op n ops) next
-    closed_is why opens = record { names = is.names; opens = opens; moves = λ k m e. moves_closed k m (sym (get_closed why k) ∙ e); listed = listed_closed why; nothing = nothing_after; genuine = genuine_after }
+    closed_is : (why : Answer) → unwrap_or real_row.stored (stored c.store n) ≡ [] → Opens f (place g) (close_op n ops) (did (Some why)).node → IsController f g (did (Some why)).node (close_op n ops) next
+    closed_is why left opens = record { names = is.names; opens = opens; moves = λ k m e. moves_closed k m (sym (get_closed why k) ∙ e); listed = listed_closed why; nothing = nothing_after; emptied = λ k none. emptied_closed left k (sym (get_closed why k) ∙ none); going = λ k m e. going_closed k m (sym (get_closed why k) ∙ e); genuine = genuine_after }
 
-    controller_after : (ph : Phase) (rp : RPhase R) (fs : List ℕ) → rp ≡ outline_phase f (place g) ph → Opens f (place g) (write_op n rp fs ops) (did (answer_of ph)).node → IsController f g (did (answer_of ph)).node (write_op n rp fs ops) next
-    controller_after phase.Freezing rp fs e = rw e (open_is real.R_freezing fs)
-    controller_after (phase.Streaming fz fr last d) rp fs e = rw e (open_is (outline_phase f (place g) (phase.Streaming fz fr last d)) fs)
-    controller_after phase.Holding rp fs e = rw e (open_is real.R_holding fs)
-    controller_after phase.Passing rp fs e = rw e (open_is real.R_passing fs)
-    controller_after phase.Ending rp fs e = rw e (open_is real.R_ending fs)
-    controller_after (phase.Restoring why) rp fs e = rw e (open_is (real.R_restoring why) fs)
-    controller_after (phase.Returning why) rp fs e = rw e (open_is (real.R_returning why) fs)
-    controller_after (phase.Undoing why) rp fs e = rw e (open_is (real.R_undoing why) fs)
-    controller_after (phase.Over why) rp fs e = rw e (closed_is why)
+    controller_after : (ph : Phase) (rp : RPhase R) (fs : List ℕ) → ph ≡ real_row.next.phase → rp ≡ outline_phase f (place g) ph → Opens f (place g) (write_op n rp fs ops) (did (answer_of ph)).node → IsController f g (did (answer_of ph)).node (write_op n rp fs ops) next
+    controller_after phase.Freezing rp fs own e = rw e (open_is real.R_freezing fs (ap answer_of (sym own)))
+    controller_after (phase.Streaming fz fr last d) rp fs own e = rw e (open_is (outline_phase f (place g) (phase.Streaming fz fr last d)) fs (ap answer_of (sym own)))
+    controller_after phase.Holding rp fs own e = rw e (open_is real.R_holding fs (ap answer_of (sym own)))
+    controller_after phase.Passing rp fs own e = rw e (open_is real.R_passing fs (ap answer_of (sym own)))
+    controller_after phase.Ending rp fs own e = rw e (open_is real.R_ending fs (ap answer_of (sym own)))
+    controller_after (phase.Restoring why) rp fs own e = rw e (open_is (real.R_restoring why) fs (ap answer_of (sym own)))
+    controller_after (phase.Returning why) rp fs own e = rw e (open_is (real.R_returning why) fs (ap answer_of (sym own)))
+    controller_after (phase.Undoing why) rp fs own e = rw e (open_is (real.R_undoing why) fs (ap answer_of (sym own)))
+    controller_after (phase.Over why) rp fs own e = rw e (closed_is why (ends why (ap answer_of (sym own))))
 
   good_chunks : (ps : List Piece) → Each (IsGoodPiece f g) ps → Each (λ p. AreGoodChunks f g p.chunks) ps
   good_chunks ps h = each_same (IsGoodPiece f g) (λ p. AreGoodChunks f g p.chunks) (λ p k. k.good) ps h
@@ -209,8 +233,9 @@ module _ {F R : Type 0} (f : Semantics R) (g : Given) (n : ℕ) (x : Scene F f g
       let phases : (net.row e p pm).phase ≡ outline_phase f (place g) real_row.next.phase = ap (λ y. y.phase) seen_row ∙ sym follows.phase in
       let turns : TurnFollows f (place g) c (after_turn c op (moved mv c.store real_row) (answer_of real_row.next.phase)) (found x.world.ops op p pm (Some e)) = subst (λ s. TurnFollows f (place g) c s (found x.world.ops op p pm (Some e))) ended (turn_same f (place g) c x.world.ops op p m pm e mv are.controller.opens b.there has b.sees same follows) in
       let bound = each_found (λ y. y.op.num < x.world.next) op x.world.ops e are.every.global.ops b.there in
+      let ends : (why : Answer) → answer_of real_row.next.phase ≡ Some why → unwrap_or real_row.stored events ≡ [] = λ why over. closed_empty f g x.world _ _ are.every op e mv events b.there b.sees (are.controller.going op mv has) p m why over in
       let below : op < x.world.next = subst (λ k. k < x.world.next) ((Decides-eqb e.op.num op).0 bound.1) bound.0 in
-      let after = controller_after f g c x.world.ops x.world.next op mv real_row are.controller has below keeps real_row.next.phase (net.row e p pm).phase (net.row e p pm).store phases turns.ops in
+      let after = controller_after f g c x.world.ops x.world.next op mv real_row are.controller has below keeps ends real_row.next.phase (net.row e p pm).phase (net.row e p pm).store refl phases turns.ops in
       subst (RowLeads f g x p m) (sym ended) (taken f g n x p m are is (after_turn c op (moved mv c.store real_row) (answer_of real_row.next.phase)) (net.Mv net.everything pm) (found x.world.ops op p pm (Some e)) seen
       (ap (numbered x.world.ops p pm) num ∙ ap (found x.world.ops op p pm) b.there) after turns.sends
       (turn_labels f g c op (moved mv c.store real_row) (answer_of real_row.next.phase) keeps.labels)

@@ -1,5 +1,5 @@
 -- Every run keeps the promises, and a complete one those of its end.
-use Rattle.std.proofs.Common.{◌≡◌, ◌≢◌, ℕ, ◌+◌, true, None, Result, Ok, Err, IfOk, List, length, sym, ap, subst, ◌∙◌}
+use Rattle.std.proofs.Common.{◌≡◌, ◌≢◌, ℕ, ◌+◌, true, None, Result, Ok, Err, IfOk, List, length, refl, sym, ap, subst, ◌∙◌}
 use Rattle.std.specs.declared.alloc.Global.{Global}
 use Rattle.nf_function.specs.Records.{Laws as FunctionLaws}
 use Rattle.nf_function.specs.Semantics.{Semantics}
@@ -28,7 +28,10 @@ use Rattle.nf_net.proofs.OutputSteps.{outputs_run}
 use Rattle.nf_net.proofs.RecordPromises.{record_is, one_place}
 use Rattle.nf_net.proofs.CommandPromises.{run_answers}
 use Rattle.nf_net.proofs.JudgedRuns.{verdicts}
+use Rattle.nf_net.proofs.PathPromises.{in_place, each_in_place, came_once}
 use Rattle.nf_net.proofs.PlaceRuns.{places}
+use Rattle.nf_net.proofs.SettleRuns.{settles}
+use Rattle.nf_net.proofs.SourceRuns.{stays_at_source}
 use Rattle.nf_net.proofs.WindowRuns.{window_kept, all_home}
 use Rattle.nf_net.proofs.StartJoined.{given, count_at_start}
 use Rattle.nf_net.proofs.Joined.{S}
@@ -43,15 +46,22 @@ module _ (F : Type 0) {R : Type 0} (f : Semantics R) (laws : FunctionLaws f) (al
   pub every_run : IsRun node_ready (node_step f) cs (started {F = F} {R = R} alloc c items) → Promises f c items w
   every_run runs =
       let j = run_joined F f laws alloc c items is cs runs in
-      let counted = (run_world node_ready (node_step f) (length c.names + 2) (started {F = F} {R = R} alloc c items) (start_world F f laws alloc c items is) (count_at_start F f alloc c items is) cs runs).1 in
+      let reached = run_world node_ready (node_step f) (length c.names + 2) (started {F = F} {R = R} alloc c items) (start_world F f laws alloc c items is) (count_at_start F f alloc c items is) cs runs in
+      let counted = reached.1 in
+      let turn = arrivals_run F f laws alloc c items is cs runs in
       record {
-        in_turn = arrivals_run F f laws alloc c items is cs runs;
+        in_turn = turn;
         in_order = in_order f c items is (length c.names + 2) w j;
         once = once f c items is (length c.names + 2) w j;
+        in_place = in_place f c items is (length c.names + 2) refl w counted j reached.0 turn;
+        came_once = came_once f c items is w turn;
+        each_in_place = each_in_place f c items is (length c.names + 2) refl w counted j reached.0 turn;
         outputs_are = outputs_run F f laws alloc c items is cs runs;
         records_are = λ u i r live. fold_is f c items is None (went f c items u w.log) ∙ ap (λ ps. readings.fold (S f (given f c items is)).F None ps) (sym (done_same f c items is (length c.names + 2) w j u)) ∙ record_is f c items is (length c.names + 2) w counted j u i r live;
         places = places F f laws alloc c items is cs runs;
+        settles = settles F f laws alloc c items is cs runs (places F f laws alloc c items is cs runs);
         answers = run_answers F f laws alloc c items is cs runs;
+        at_source = stays_at_source F f laws alloc c items is cs runs;
         window = window_kept F f laws alloc c items is cs runs;
         one_record = λ u i k r s. one_place f c items is (length c.names + 2) w counted j u i k r s;
       }

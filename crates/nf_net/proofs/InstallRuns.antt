@@ -146,7 +146,7 @@ open_few : (o : Option Operation) → open_in o ≤ 1
 open_few None = omega arith
 open_few (Some (Move m)) = passed_few m.phase
 
-not_done : (a : Answer) → a ≢ answer.Done → done_in a ≡ 0
+pub not_done : (a : Answer) → a ≢ answer.Done → done_in a ≡ 0
 not_done answer.Done h = absurd (h refl)
 not_done (answer.Unknown a) h = refl
 not_done (answer.Overlap a) h = refl

@@ -58,7 +58,7 @@ abbrev pub open_in : Option Operation → ℕ
 open_in None = 0
 open_in (Some (Move m)) = passed m.phase
 
-over_is : (ph : Phase) (a : Answer) → answer_of ph ≡ Some a → passed ph ≡ done_in a
+pub over_is : (ph : Phase) (a : Answer) → answer_of ph ≡ Some a → passed ph ≡ done_in a
 over_is (phase.Over why) a is = by_some (Some why) is refl
   where
     done_of : Option Answer → ℕ

@@ -167,6 +167,7 @@ module _ {F R : Type 0} (f : Semantics R) (site : Site) (packet : ℕ → Packet
     pub at : i.site ≡ site
     pub whole : Each (λ r. is_whole f.kind r.filter ≡ true) i.rules
     pub held : Each (λ r. Each (IsGenuine site packet) r.held) i.rules
+    pub one_each : rules.HaveOneEach i.rules
 
   carried_same : (i : Instance F R) (cell : FullCell) (o : Option (EventRule FullCell)) → IsInstance i → IsGenuine site packet cell → Follows f site packet place (carried f i mark.Plain cell (rules.decided_by o)) (by_rule (sys f site packet) (outline_instance f site packet i) (number cell) (option_map outline_rule o))
   unfolding processed

@@ -17,6 +17,7 @@ use Rattle.event_filter.specs.declared.mark.Mark.{Mark}
 use Rattle.event_filter.specs.declared.mark.Mark.TheVariants as mark
 use Rattle.event_filter.specs.declared.rule.Rule.{Rule as EventRule}
 use Rattle.event_filter.specs.Rules as rules
+use Rattle.event_filter.proofs.RulePlaces.{None_of, one_each-changed, one_each-push, one_each-without}
 use Rattle.packet_pool.specs.Pool.{FullCell}
 use Rattle.nf_msgs.specs.declared.answer.Answer.{Answer}
 use Rattle.nf_msgs.specs.declared.answer.Answer.TheVariants as answer
@@ -63,6 +64,21 @@ module _ (P : EventRule FullCell → Type 0) where
   found_has p [] r h e = cc
   found_has p (x ∷ rs) r h e = elim (p x) as (λ b. (if b then Some x else find p rs) ≡ Some r → P r) [ true ↦ λ is. let same : x ≡ r = cc in subst P same h.0 | false ↦ λ is. found_has p rs r h.1 is ] e
 
+-- a rule that is set leaves one rule for each operation
+none_of : (op : ℕ) (rs : List (EventRule FullCell)) → rules.rule_at rs op ≡ None → None_of op rs
+none_of op [] e = tt
+none_of op (r ∷ rs) e = elim (r.op == op) as (λ b. (r.op == op) ≡ b → (if b then Some r else rules.rule_at rs op) ≡ None → ((r.op == op) ≡ false) × None_of op rs) [
+  | true ↦ λ here is. cc
+  | false ↦ λ off is. (off, none_of op rs is)
+] refl e
+
+one_each-with_rule : (rs : List (EventRule FullCell)) (op : ℕ) (filter : Filter) (act : Action) → rules.HaveOneEach rs → rules.HaveOneEach (rules.with_rule rs op filter act)
+one_each-with_rule rs op filter act one =
+    elim (rules.rule_at rs op) as (λ o. rules.rule_at rs op ≡ o → rules.HaveOneEach (if is_some o then rules.changed rs op (rules.ruled_by filter act) else rs ++ (record { op = op; filter = filter; action = act; held = [] }) ∷ [])) [
+      | None ↦ λ absent. one_each-push rs (record { op = op; filter = filter; action = act; held = [] }) (none_of op rs absent) one
+      | Some r ↦ λ is. one_each-changed rs op (rules.ruled_by filter act) (λ x. refl) one
+    ] refl
+
 module _ {F R : Type 0} (f : Semantics R) (g : Given) where
   -- what holds of an instance at node k in a run
   pub record IsRight (k : ℕ) (i : Instance F R) : Type 0 where
@@ -87,12 +103,12 @@ module _ {F R : Type 0} (f : Semantics R) (laws : FunctionLaws f) (g : Given) (f
   right_after : (i : Instance F R) (m : Mark) (cell : FullCell) → Right i → Genuine f g cell → is_unshared m ≡ true → Leaves f g k (processed f i m cell)
   unfolding processed
   right_after i mark.Plain cell h genuine e = record {
-    node = record { rules = record { at = h.rules.at; whole = h.rules.whole; held = h.rules.held }; held = h.held; sound = sound_after f laws i.site i.table.live cell.packet (fits_at i cell h genuine) h.sound; number = h.number };
+    node = record { rules = record { at = h.rules.at; whole = h.rules.whole; held = h.rules.held; one_each = h.rules.one_each }; held = h.held; sound = sound_after f laws i.site i.table.live cell.packet (fits_at i cell h genuine) h.sound; number = h.number };
     notes = (h.number, tt);
     sends = ((two, refl, genuine.pool), tt);
   }
   right_after i (mark.Pass op) cell h genuine e = record {
-    node = record { rules = record { at = h.rules.at; whole = h.rules.whole; held = h.rules.held }; held = h.held; sound = sound_after f laws i.site i.table.live cell.packet (fits_at i cell h genuine) h.sound; number = h.number };
+    node = record { rules = record { at = h.rules.at; whole = h.rules.whole; held = h.rules.held; one_each = h.rules.one_each }; held = h.held; sound = sound_after f laws i.site i.table.live cell.packet (fits_at i cell h genuine) h.sound; number = h.number };
     notes = (h.number, tt);
     sends = ((two, refl, genuine.pool), tt);
   }
@@ -111,12 +127,12 @@ module _ {F R : Type 0} (f : Semantics R) (laws : FunctionLaws f) (g : Given) (f
       }
 
   -- an instance with other rules
-  with_rules : (i : Instance F R) (rs : List (EventRule FullCell)) → Right i → Each (λ r. is_whole f.kind r.filter ≡ true) rs → Each (λ r. Each (Genuine f g) r.held) rs → Each (λ r. is_free (rule_of r.action) ≡ false) rs → Right (record i { rules = rs })
-  with_rules i rs h whole held ruled = record { rules = record { at = h.rules.at; whole = whole; held = held }; held = ruled; sound = h.sound; number = h.number }
+  with_rules : (i : Instance F R) (rs : List (EventRule FullCell)) → Right i → Each (λ r. is_whole f.kind r.filter ≡ true) rs → Each (λ r. Each (Genuine f g) r.held) rs → Each (λ r. is_free (rule_of r.action) ≡ false) rs → rules.HaveOneEach rs → Right (record i { rules = rs })
+  with_rules i rs h whole held ruled one = record { rules = record { at = h.rules.at; whole = whole; held = held; one_each = one }; held = ruled; sound = h.sound; number = h.number }
 
   -- an instance with other records
   with_live : (i : Instance F R) (live : Records R) → Right i → AreSound f live → Right (record i { table = record i.table { live = live } })
-  with_live i live h sound = record { rules = record { at = h.rules.at; whole = h.rules.whole; held = h.rules.held }; held = h.held; sound = sound; number = h.number }
+  with_live i live h sound = record { rules = record { at = h.rules.at; whole = h.rules.whole; held = h.rules.held; one_each = h.rules.one_each }; held = h.held; sound = sound; number = h.number }
 
   carried_leaves : (i : Instance F R) (cell : FullCell) (o : Option (EventRule FullCell)) → ((r : EventRule FullCell) → o ≡ Some r → is_free (rule_of r.action) ≡ false) → Right i → Genuine f g cell → Leaves f g k (carried f i mark.Plain cell (rules.decided_by o))
   carried_leaves i cell None ruled h genuine = right_after i mark.Plain cell h genuine refl
@@ -129,7 +145,8 @@ module _ {F R : Type 0} (f : Semantics R) (laws : FunctionLaws f) (g : Given) (f
         node = with_rules i (rules.with_held i.rules r.op cell) h
             (rules_changed (λ x. is_whole f.kind x.filter ≡ true) r.op (rules.holding cell) (λ x t. t) i.rules h.rules.whole)
             (rules_changed (λ x. Each (Genuine f g) x.held) r.op (rules.holding cell) (λ x t. each-append (Genuine f g) x.held (cell ∷ []) t (genuine, tt)) i.rules h.rules.held)
-            (rules_changed (λ x. is_free (rule_of x.action) ≡ false) r.op (rules.holding cell) (λ x t. t) i.rules h.held);
+            (rules_changed (λ x. is_free (rule_of x.action) ≡ false) r.op (rules.holding cell) (λ x t. t) i.rules h.held)
+            (one_each-changed i.rules r.op (rules.holding cell) (λ x. refl) h.rules.one_each);
         notes = tt;
         sends = tt;
       })
@@ -148,7 +165,8 @@ module _ {F R : Type 0} (f : Semantics R) (laws : FunctionLaws f) (g : Given) (f
       let without = with_rules i (rules.without i.rules op) h
       (rules_without (λ x. is_whole f.kind x.filter ≡ true) op i.rules h.rules.whole)
       (rules_without (λ x. Each (Genuine f g) x.held) op i.rules h.rules.held)
-      (rules_without (λ x. is_free (rule_of x.action) ≡ false) op i.rules h.held) in
+      (rules_without (λ x. is_free (rule_of x.action) ≡ false) op i.rules h.held)
+      (one_each-without i.rules op h.rules.one_each) in
       let cells = rules.held_at i.rules op in
       let all = all_right (record i { rules = rules.without i.rules op }) cells without (held_genuine g.site g.packet op i.rules h.rules.held) in
       record {
@@ -159,7 +177,7 @@ module _ {F R : Type 0} (f : Semantics R) (laws : FunctionLaws f) (g : Given) (f
 
   pub stop_leaves : (i : Instance F R) → Right i → Leaves f g k (on_stop i)
   stop_leaves i h = record {
-    node = record { rules = record { at = h.rules.at; whole = h.rules.whole; held = h.rules.held }; held = h.held; sound = h.sound; number = h.number };
+    node = record { rules = record { at = h.rules.at; whole = h.rules.whole; held = h.rules.held; one_each = h.rules.one_each }; held = h.held; sound = h.sound; number = h.number };
     notes = tt;
     sends = ((two, refl), tt);
   }
@@ -169,7 +187,8 @@ module _ {F R : Type 0} (f : Semantics R) (laws : FunctionLaws f) (g : Given) (f
     node = with_rules i (rules.with_rule i.rules op filter act) h
         (rules_set (λ x. is_whole f.kind x.filter ≡ true) op filter act i.rules (λ x t. whole) whole h.rules.whole)
         (rules_set (λ x. Each (Genuine f g) x.held) op filter act i.rules (λ x t. t) tt h.rules.held)
-        (rules_set (λ x. is_free (rule_of x.action) ≡ false) op filter act i.rules (λ x t. ruled) ruled h.held);
+        (rules_set (λ x. is_free (rule_of x.action) ≡ false) op filter act i.rules (λ x t. ruled) ruled h.held)
+        (one_each-with_rule i.rules op filter act h.rules.one_each);
     notes = tt;
     sends = ((two, refl), tt);
   }

@@ -32,7 +32,7 @@ use Rattle.move_op.specs.declared.door.Door.{Door}
 use Rattle.move_op.specs.declared.door.Door.TheVariants as door
 use Rattle.move_op.specs.declared.phase.Phase.{Phase}
 use Rattle.move_op.specs.declared.phase.Phase.TheVariants as phase
-use Rattle.move_op.specs.Move.{MovePlan, MoveState}
+use Rattle.move_op.specs.Move.{MovePlan, MoveState, answer_of}
 use Rattle.switch_node.specs.Switch.{SwitchState, takes_in}
 use Rattle.ctrl_node.specs.declared.operation.Operation.TheVariants.{Move}
 use Rattle.ctrl_node.specs.Controller.{ControllerState, place_of}
@@ -250,6 +250,8 @@ module _ {R : Type 0} (f : Semantics R) (g : Given) where
     pub moves : (op : ℕ) (m : MoveState) → finite.get c.operations op ≡ Some (Move m) → IsMove op m
     pub listed : Each (IsListed c) ops
     pub nothing : (op : ℕ) → next ≤ op → stored c.store op ≡ []
+    pub emptied : (op : ℕ) → finite.get c.operations op ≡ None → stored c.store op ≡ []
+    pub going : (op : ℕ) (m : MoveState) → finite.get c.operations op ≡ Some (Move m) → answer_of m.phase ≡ None
     pub genuine : (op : ℕ) → Each Genuine (stored c.store op)
 
   -- what was done, by number and node

@@ -17,7 +17,7 @@ use Rattle.nf_net.specs.Log.{has_begun, installed}
 use Rattle.nf_net.specs.Commands.{has_answered, is_busy}
 use Rattle.nf_net.specs.Places.{first_owner, handed_on, owner_after, hands_on_plain, loose_after, IsMoving, IsPlace, Owns, Is_source, Is_destination}
 use Rattle.nf_net.proofs.FiltersApart.{flow_fits, unit_fits, and_l, and_r}
-use Rattle.nf_net.proofs.PlaceNotes.{IsQuiet}
+use Rattle.nf_net.proofs.PlaceNotes.{IsQuiet, is_uninstalled}
 
 -- the unit of a flow is one that packets may have
 pub unit_is_fit : (kind : Kind) (flow : Flow) → flow_fits flow ≡ true → unit_fits kind (unit_of kind flow) ≡ true
@@ -65,7 +65,19 @@ installed_quiet k (note.Arrived number ∷ ys) h = absurd h.0
 installed_quiet k (note.Begun op ∷ ys) h = absurd h.0
 installed_quiet k (note.Answered op answer ∷ ys) h = absurd h.0
 
--- nor begins or ends a command
+-- nor does the controller
+pub installed_none : (ys : List Note) → Each (λ n. is_uninstalled n ≡ true) ys → installed ys ≡ []
+installed_none [] h = refl
+installed_none (note.Processed number instance output ∷ ys) h = installed_none ys h.1
+installed_none (note.Arrived number ∷ ys) h = installed_none ys h.1
+installed_none (note.Begun op ∷ ys) h = installed_none ys h.1
+installed_none (note.Exported instance op us ∷ ys) h = installed_none ys h.1
+installed_none (note.Imported instance op us ∷ ys) h = installed_none ys h.1
+installed_none (note.Kept instance op us ∷ ys) h = installed_none ys h.1
+installed_none (note.Installed op ∷ ys) h = let never = h.0 in cc
+installed_none (note.Answered op answer ∷ ys) h = installed_none ys h.1
+
+-- an instance begins or ends no command
 pub begun_quiet : (these : ℕ → Bool) (k : ℕ) (xs ys : List Note) → Each (IsQuiet k) ys → has_begun these (xs ++ ys) ≡ has_begun these xs
 begun_quiet these k [] [] h = refl
 begun_quiet these k [] (note.Processed number instance output ∷ ys) h = begun_quiet these k [] ys h.1

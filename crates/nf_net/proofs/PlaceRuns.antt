@@ -29,10 +29,10 @@ use Rattle.nf_net.proofs.PlaceSteps.{processed_place}
 use Rattle.nf_net.proofs.MovesUnderWay.{AreUnderWay, moves_under_way}
 use Rattle.nf_net.proofs.Joined.{Given, IsTaken, node_of, Joined}
 
-processed_off : (front back : List Note) (number i : ℕ) (output : Output) (notes : List Note) → AreUnprocessed notes → notes ≡ front ++ note.Processed number i output ∷ back → ⊥
+pub processed_off : (front back : List Note) (number i : ℕ) (output : Output) (notes : List Note) → AreUnprocessed notes → notes ≡ front ++ note.Processed number i output ∷ back → ⊥
 processed_off front back number i output notes h e = let never : false ≡ true = each_there (λ n. is_unprocessed n ≡ true) front (note.Processed number i output) back (subst AreUnprocessed e h) in cc
 
-uninstalled_unprocessed : (notes : List Note) → Each (λ n. is_uninstalled n ≡ true) notes → AreUnprocessed notes
+pub uninstalled_unprocessed : (notes : List Note) → Each (λ n. is_uninstalled n ≡ true) notes → AreUnprocessed notes
 uninstalled_unprocessed [] h = tt
 uninstalled_unprocessed (note.Processed number i output ∷ ns) h = let never = h.0 in cc
 uninstalled_unprocessed (note.Arrived number ∷ ns) h = (refl, uninstalled_unprocessed ns h.1)

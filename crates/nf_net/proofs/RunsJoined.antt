@@ -47,7 +47,7 @@ module _ {R : Type 0} (f : Semantics R) (c : Config) (items : List Msg) (is : Is
     | false ↦ went_same u ds
   ]
 
-times-append : (p : ℕ) (xs ys : List ℕ) → times p (xs ++ ys) ≡ times p xs + times p ys
+pub times-append : (p : ℕ) (xs ys : List ℕ) → times p (xs ++ ys) ≡ times p xs + times p ys
 times-append p [] ys = omega arith
 times-append p (x ∷ xs) ys = let rest = times-append p xs ys in omega (arith, rest)
 

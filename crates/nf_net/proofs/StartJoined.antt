@@ -9,6 +9,7 @@ use Rattle.std.proofs.lemmas.List.Elements.{All-cons, All-nil}
 use Rattle.std.proofs.lemmas.List.{get_or_append_left}
 use Rattle.std.proofs.Math.Seq.{get_or-append_seam}
 use Rattle.abstract_net.proofs.Rest.{Rest_rule}
+use Rattle.event_filter.proofs.RulePlaces.{one_each-none}
 use Rattle.event_store.specs.Store.{stored}
 use Rattle.event_store.proofs.StoreLookUps.{stored-empty}
 use Rattle.ctrl_node.specs.Controller.{opened as opened_controller}
@@ -29,6 +30,7 @@ use Rattle.nf_function.specs.Units.{takes, unit_cmp, unit_of}
 use Rattle.nf_function.specs.Semantics.{Semantics}
 use Rattle.switch_rules.specs.declared.target.Target.TheVariants as target
 use Rattle.switch_rules.specs.Rules.{AreFilters, any, first_match, opened}
+use Rattle.packet_pool.specs.Pool.{FullCell}
 use Rattle.nf_msgs.specs.declared.command.Command.{Command}
 use Rattle.nf_msgs.specs.declared.command.Order.{Order}
 use Rattle.nf_msgs.specs.declared.command.Order.TheVariants as order
@@ -163,6 +165,8 @@ module _ {R : Type 0} (f : Semantics R) (c : Config) (items : List Msg) (is : Is
     moves = λ op m there. (let none = sym there ∙ finite.get-empty nat_cmp op in cc);
     listed = tt;
     nothing = λ op _. stored-empty op;
+    emptied = λ op _. stored-empty op;
+    going = λ op m there. (let none = sym there ∙ finite.get-empty nat_cmp op in cc);
     genuine = λ op. (let none : stored (opened_controller c.names c.site).store op ≡ [] = stored-empty op in rw none tt);
   }
     where
@@ -209,7 +213,7 @@ module _ (F : Type 0) {R : Type 0} (f : Semantics R) (alloc : Global) (c : Confi
   instance_is (suc zero) two = absurd (omega (arith, two))
   instance_is (suc (suc i)) two = record {
     outline_is = refl;
-    rules = record { at = refl; whole = tt; held = tt };
+    rules = record { at = refl; whole = tt; held = tt; one_each = one_each-none FullCell };
     held = tt;
     records = record { sound = λ u. (let none = finite.get-empty {X = R} unit_cmp u in rw none refl); fits = λ u some. (let none = finite.get-empty {X = R} unit_cmp u in let never : false ≡ true = rw none at some in cc) };
     number = omega arith;

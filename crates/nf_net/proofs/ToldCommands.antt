@@ -205,7 +205,7 @@ listed op (msg.InCommand c ∷ items) what is = elim (c.op == op) as (λ b. opti
 listed op (m ∷ items) what is = let rest = listed op items what is in omega (arith, rest)
 
 -- an answer stands among the answers
-some_answers : (op : ℕ) (log : List Note) → has_answered op log ≡ true → 1 ≤ length (answers_of op log)
+pub some_answers : (op : ℕ) (log : List Note) → has_answered op log ≡ true → 1 ≤ length (answers_of op log)
 some_answers op [] h = cc
 some_answers op (note.Answered k answer ∷ xs) h = elim (k == op) as (λ b. b || has_answered op xs ≡ true → 1 ≤ length (if b then answer ∷ answers_of op xs else answers_of op xs)) [
   | true ↦ λ here. omega arith

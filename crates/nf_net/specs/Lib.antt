@@ -2,9 +2,12 @@ pub mod Commands
 pub mod Input
 pub mod Log
 pub mod Nodes
+pub mod Path
 pub mod Places
 pub mod Promises
+pub mod Refused
 pub mod Runs
+pub mod Settles
 pub mod Start
 pub mod Verdicts
 pub mod Window

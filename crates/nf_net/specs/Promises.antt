@@ -17,7 +17,10 @@ use Rattle.nf_net.specs.declared.node.Node.{Node}
 use Rattle.nf_net.specs.declared.node.Node.TheVariants.{Instance}
 use Rattle.nf_net.specs.Input.{packets, packet_of, order_of, ends_last}
 use Rattle.nf_net.specs.Commands.{Answers, answers_of, times_installed}
-use Rattle.nf_net.specs.Places.{is_loose, ArePlaces}
+use Rattle.nf_net.specs.Path.{under_way}
+use Rattle.nf_net.specs.Places.{owner, is_loose, ArePlaces}
+use Rattle.nf_net.specs.Refused.{StaysAtSource}
+use Rattle.nf_net.specs.Settles.{Settles}
 use Rattle.nf_net.specs.Window.{Window}
 use Rattle.nf_net.specs.Log.{arrived, done, those, done_of}
 
@@ -63,6 +66,10 @@ module _ {R : Type 0} (f : Semantics R) (config : Config) (items : List Msg) whe
   abbrev pub given : units.Unit → List Note → List Output
   given unit log = map (λ d. d.output) (done_of (is_of unit) (done log))
 
+  -- its packets under way, of which those at its owner come last
+  abbrev pub path : {F : Type 0} → units.Unit → Network (Node F R) Msg Note → List ℕ
+  path unit w = those (is_of unit) (under_way w (length config.names) (owner config items unit w.log))
+
   -- what every run keeps
   pub record Promises {F : Type 0} (w : Network (Node F R) Msg Note) : Type 0 where
     -- the switch takes the packets of the input in their order
@@ -70,6 +77,11 @@ module _ {R : Type 0} (f : Semantics R) (config : Config) (items : List Msg) whe
     -- what is processed of a unit is a front of what came, as long as no plain move handed it on; each packet once in any case
     pub in_order : (unit : units.Unit) → is_loose config items unit w.log ≡ false → IsFront (went unit w.log) (came unit w.log)
     pub once : (unit : units.Unit) (p : ℕ) → times p (went unit w.log) ≤ times p (came unit w.log)
+    -- what came and isn't processed is under way, and nothing else: behind what is processed in order, and each packet once in any case
+    pub in_place : (unit : units.Unit) → is_loose config items unit w.log ≡ false → went unit w.log ++ path unit w ≡ came unit w.log
+    pub each_in_place : (unit : units.Unit) (p : ℕ) → times p (went unit w.log) + times p (path unit w) ≡ times p (came unit w.log)
+    -- no packet comes twice: each that came is processed, or under way at one place
+    pub came_once : (p : ℕ) → times p (arrived w.log) ≤ 1
     -- outputs and records are those of one instance that nothing moved, and no unit has two records
     pub outputs_are : (unit : units.Unit) → given unit w.log ≡ outputs None (went unit w.log)
     pub records_are : (unit : units.Unit) (i : ℕ) (r : R) → live_at w i unit ≡ Some r → fold None (went unit w.log) ≡ Some r
@@ -78,8 +90,12 @@ module _ {R : Type 0} (f : Semantics R) (config : Config) (items : List Msg) whe
     pub window : Window config w
     -- each packet was processed at the owner of its unit, or at an instance of a move of the unit that was under way
     pub places : ArePlaces config items f.kind w.log
+    -- behind a settle, and before a later command begins, it was at the owner
+    pub settles : Settles config items f.kind w.log
     -- each command begins and is answered at most once, and what refuses it was true then
     pub answers : Answers config items w.log
+    -- what a refused move was to take away was processed at its source, as long as the move was under way
+    pub at_source : StaysAtSource config items f.kind w.log
 
   -- what a complete run keeps besides: all packets of the input came, and each was processed, once; the record of a unit is
   -- live at an instance; commands were answered, and the rules changed for those that are done

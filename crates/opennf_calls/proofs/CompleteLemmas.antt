@@ -24,7 +24,7 @@ complete_row asked old new choices (WriteFault role) bytes row told sound calm =
 complete_row asked old new choices (ReadFault role) bytes row told sound calm = absurd (calm role row.0.rose)
 complete_row asked old new choices (BadTrace offset kind) bytes row told sound calm = absurd (never asked bytes _ sound (row.0.refusal bytes told))
 complete_row asked old new choices (BadScript line kind) bytes row told sound calm = absurd (never asked bytes _ sound (row.0.refusal bytes told))
-complete_row asked old new choices (BadJournal kind) bytes row told sound calm = absurd (never asked bytes _ sound (row.0.refusal bytes told))
+complete_row asked old new choices (BadJournal fault) bytes row told sound calm = absurd (never asked bytes _ sound (row.0.refusal bytes told))
 complete_row asked old new choices Usage bytes row told sound calm = absurd row
 
 pub complete : (plan : Option Asked) (old new : Role → Meaning) (outcome : Outcome) → CauseOf plan old new outcome → IsComplete plan old new outcome.status

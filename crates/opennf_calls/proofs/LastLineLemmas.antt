@@ -87,9 +87,9 @@ module _ (before old mid new : Role → Meaning) (around : Around before old mid
             same_written other (not_last asked other result) ∙ row.after other later ∙ around.contents.written other;
         results = with_results asked
             (λ made. (made.choices ≡ choices) × AppendsFront (old role).written (mid role).written (made.texts role)
-                × Gained (λ other. is_result asked other && comes_before other role) made.texts old mid)
+            × Gained (λ other. is_result asked other && comes_before other role) made.texts old mid)
             (λ made. (made.choices ≡ choices) × AppendsFront (before role).written (new role).written (made.texts role)
-                × Gained (λ other. is_result asked other && comes_before other role) made.texts before new)
+            × Gained (λ other. is_result asked other && comes_before other role) made.texts before new)
             (λ made wrote. (
               wrote.0,
               (wrote.1.0, wrote.1.1, appends role _ differ wrote.1.2),
@@ -155,6 +155,14 @@ module _ (before old mid new : Role → Meaning) (around : Around before old mid
   pub cause_around : (plan : Option Asked) (outcome : Outcome) → CauseOf plan old mid outcome → CauseOf plan before new outcome
   cause_around None outcome cause = (cause.0, silent cause.1, cause.2)
   cause_around (Some asked) outcome cause = row_around asked outcome.choices outcome.status cause
+
+-- only names changed, and then again
+pub same_after : (old mid new : Role → Meaning) → SameContents old mid → SameContents mid new → SameContents old new
+same_after old mid new first second = record {
+  left = λ role. second.left role ∙ first.left role;
+  written = λ role. second.written role ∙ first.written role;
+  faults = λ role. second.faults role ∙ first.faults role;
+}
 
 -- files were bound before, and no line is written yet
 pub bound_before : (before old new : Role → Meaning) → SameContents before old → Around before old new new

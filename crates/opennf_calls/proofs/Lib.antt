@@ -1,6 +1,7 @@
 pub mod AuditRows
 pub mod BuiltCommands
 pub mod CompleteLemmas
+pub mod EndedCommands
 pub mod InputRows
 pub mod LastLineLemmas
 pub mod MakingLemmas
@@ -10,5 +11,5 @@ pub mod RunLemmas
 pub mod RunRows
 pub mod ScriptLemmas
 pub mod TwoResults
-pub mod WrittenRuns
 pub mod WritingLemmas
+pub mod WrittenRuns

@@ -3,6 +3,7 @@ use Rattle.std.proofs.Common.{◌≡◌, ℕ, List, [], Option, None, Some, is_s
 use Rattle.nf_io.specs.declared.outside.Role.{Role}
 use Rattle.nf_io.specs.declared.outside.Role.TheVariants.{Trace, Script, JournalIn, Report, JournalOut, TraceOut, Errors}
 use Rattle.nf_io.specs.Meaning.{Meaning}
+use Rattle.actor_net.specs.declared.choice.Choice.{Choice}
 use Rattle.actor_net.specs.declared.schedule.Schedule.{Schedule}
 use Rattle.journal_file.specs.Format.{journal_bytes}
 use Rattle.command_words.specs.Plan.{Asked, NetworkAsked, asks_sim, asks_run, asks_audit}
@@ -25,7 +26,9 @@ same_end asked old new made outcome status ended chose performs =
     subst (λ (o : Outcome). Performs asked old new o) (sym (both outcome ended chose)) performs
   where
     both : (o : Outcome) → o.status ≡ status → o.choices ≡ made.choices → o ≡ record { status = status; choices = made.choices }
-    both o is chosen = cc
+    both o is chosen =
+        subst (λ (st : Status). o ≡ record { status = st; choices = made.choices }) is
+        (subst (λ (cs : List Choice). o ≡ record { status = o.status; choices = cs }) chosen refl)
 
 module _ (s : NetworkAsked) (asked : Asked) (old mid : Role → Meaning) (read : OnlyRead old mid) (bound : IsBound asked old)
     (made : Made) (results : ForResults asked old mid (λ g. g ≡ gives s made)) where

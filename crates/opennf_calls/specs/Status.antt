@@ -20,6 +20,8 @@ use Rattle.run_report.specs.declared.auditing.AuditFault.{AuditFault}
 use Rattle.run_report.specs.declared.auditing.AuditFault.TheVariants as audit
 use Rattle.trace_reader.specs.declared.make.MakeFault.{MakeFault}
 use Rattle.trace_reader.specs.declared.make.MakeFault.TheVariants as making
+use Rattle.command_words.specs.declared.fault.ArgumentsFault.{ArgumentsFault}
+use Rattle.command_words.specs.declared.fault.ArgumentsFault.TheVariants as words
 use Rattle.opennf_calls.specs.declared.status.TraceKind.{TraceKind}
 use Rattle.opennf_calls.specs.declared.status.TraceKind.TheVariants.{Magic, PcapNg, Version, LinkType, RecordLength, TooLong, Header}
 use Rattle.opennf_calls.specs.declared.status.JournalKind.{JournalKind}
@@ -177,6 +179,11 @@ input_status given.NoMemory = NoMemory
 abbrev pub run_status : ScheduleFault → Status
 run_status (run.Unfinished step) = Unfinished step
 run_status run.NoMemory = NoMemory
+
+-- the status of words that aren't read as a command
+abbrev pub words_status : ArgumentsFault → Status
+words_status words.Usage = Usage
+words_status words.NoMemory = NoMemory
 
 -- the status of a capture that can't be made
 abbrev pub making_status : MakeFault → Status

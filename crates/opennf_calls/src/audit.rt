@@ -22,11 +22,7 @@ use nf_io::{Outside, Role, RoleSource};
 use std::alloc::Global;
 
 /// Reads the script, the capture and the journal, whose files are bound, and writes the report of the run that the journal tells.
-pub fn audit<O: Outside>(
-    alloc: Global,
-    asked: &NetworkRequest<'_>,
-    outside: &mut O,
-) -> Outcome
+pub fn audit<O: Outside>(alloc: Global, asked: &NetworkRequest<'_>, outside: &mut O) -> Outcome
     requires bound { IsBound (asks_audit (network_view asked.now)) (O.seen outside.old) }
     requires runs { CanRun (network_view asked.now) }
     requires journal { IsSome (network_view asked.now).journal }

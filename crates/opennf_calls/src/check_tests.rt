@@ -2,8 +2,8 @@ ghost use Rattle.std.specs.Prelude.{◌≡◌, None, IfOk};
 ghost use Rattle.nf_io.specs.declared.outside.Role.{Role as TheRole};
 ghost use Rattle.nf_io.specs.Memory.{seen_in};
 
-use crate::sim_tests::owned;
-use crate::{Status, opennf_calm};
+use crate::Status;
+use crate::sim_tests::{calm, owned};
 use flow_filter::NoMemory;
 use nf_io::{MemoryOutside, Role};
 use op_script::ScriptKind;
@@ -58,7 +58,7 @@ fn check_prints_the_canonical_text(rt: HostRuntime) -> Result<(), Fail> {
     let script =
         b"# x\nroute  local=10.0.0.9 b\nat 1 move a b rport=80,proto=tcp order\n".as_slice();
     let mut outside = outside_of(alloc, script)?;
-    let outcome = opennf_calm(alloc, words.as_slice(), &mut outside);
+    let outcome = calm(alloc, words.as_slice(), &mut outside);
     assert_eq!(rt; outcome.status, Status::Ok);
     let canonical = "route local=10.0.0.9/32 b\nat 1 move a b proto=tcp,rport=80 order\n";
     assert_eq!(rt; outside.written(Role::Report), canonical.as_bytes());
@@ -72,7 +72,7 @@ fn each_fault_of_a_script_is_named_with_its_line(rt: HostRuntime) -> Result<(), 
     let words = owned(alloc, &MONITOR)?;
     for (script, line) in FAULTS.as_slice() {
         let mut outside = outside_of(alloc, script.as_bytes())?;
-        let outcome = opennf_calm(alloc, words.as_slice(), &mut outside);
+        let outcome = calm(alloc, words.as_slice(), &mut outside);
         assert_eq!(rt; outcome.status.number(), 2);
         assert_eq!(rt; outside.written(Role::Errors), line.as_bytes());
         assert_eq!(rt; outside.written(Role::Report), b"".as_slice());
@@ -85,7 +85,7 @@ fn a_comment_that_is_no_text_is_refused(rt: HostRuntime) -> Result<(), Fail> {
     let alloc = rt.alloc();
     let words = owned(alloc, &WORDS)?;
     let mut outside = outside_of(alloc, b"at 0 settle\n# \xff\n")?;
-    let outcome = opennf_calm(alloc, words.as_slice(), &mut outside);
+    let outcome = calm(alloc, words.as_slice(), &mut outside);
     assert_eq!(rt; outcome.status.number(), 2);
     assert_eq!(rt;
         outside.written(Role::Errors),
@@ -104,7 +104,7 @@ fn the_1001st_line_of_a_sort_is_refused(rt: HostRuntime) -> Result<(), Fail> {
             script.extend_from_slice(line)?;
         }
         let mut outside = outside_of(alloc, script.as_slice())?;
-        let outcome = opennf_calm(alloc, words.as_slice(), &mut outside);
+        let outcome = calm(alloc, words.as_slice(), &mut outside);
         assert_eq!(rt; outcome.status.number(), 2);
         assert_eq!(rt;
             outside.written(Role::Errors),
@@ -120,7 +120,7 @@ fn a_script_that_is_too_long_is_refused_as_a_whole(rt: HostRuntime) -> Result<()
     let words = owned(alloc, &WORDS)?;
     let script = vec![in alloc; b'#'; 1_048_577]?;
     let mut outside = outside_of(alloc, script.as_slice())?;
-    let outcome = opennf_calm(alloc, words.as_slice(), &mut outside);
+    let outcome = calm(alloc, words.as_slice(), &mut outside);
     assert_eq!(rt;
         outcome.status,
         Status::BadScript {
@@ -141,7 +141,7 @@ fn a_script_that_cannot_be_read_is_a_read_fault(rt: HostRuntime) -> Result<(), F
     let words = owned(alloc, &WORDS)?;
     let mut outside = outside_of(alloc, b"at 0 settle\n")?;
     outside.fail(Role::Script, 1)?;
-    let outcome = opennf_calm(alloc, words.as_slice(), &mut outside);
+    let outcome = calm(alloc, words.as_slice(), &mut outside);
     assert_eq!(rt; outcome.status, Status::ReadFault { role: Role::Script });
     assert_eq!(rt;
         outside.written(Role::Errors),
@@ -158,7 +158,7 @@ fn a_check_that_cannot_be_written_leaves_a_front(rt: HostRuntime) -> Result<(), 
     let mut outside = outside_of(alloc, b"at 0 settle\nat 1 settle\n")?;
     outside.fail(Role::Report, 2)?;
     outside.piece(12);
-    let outcome = opennf_calm(alloc, words.as_slice(), &mut outside);
+    let outcome = calm(alloc, words.as_slice(), &mut outside);
     assert_eq!(rt; outcome.status, Status::WriteFault { role: Role::Report });
     assert_eq!(rt; outside.written(Role::Report), b"at 0 settle\n".as_slice());
     Ok(())

@@ -2,7 +2,9 @@
 ghost use Rattle.std.specs.Prelude.{◌≡◌, ◌≤◌, length};
 ghost use Rattle.opennf_calls.specs.Status.{line_of, script_line_of, trace_line_of, journal_line_of, unbuilt_line_of, no_run_line_of, unfinished_line_of, fault_line_of, trace_kind_number};
 
-use crate::status::{JournalKind, Status, TraceKind, journal_kind_name, role_name, script_kind_name};
+use crate::status::{
+    JournalKind, Status, TraceKind, journal_kind_name, role_name, script_kind_name,
+};
 use arrayvec::ArrayString;
 use itoa::Buffer;
 use nf_io::Role;

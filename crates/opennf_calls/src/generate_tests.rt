@@ -2,8 +2,8 @@ ghost use Rattle.std.specs.Prelude.{◌≡◌, ◌≤◌, None, IfOk};
 ghost use Rattle.nf_io.specs.declared.outside.Role.{Role as TheRole};
 ghost use Rattle.nf_io.specs.Memory.{seen_in};
 
-use crate::sim_tests::{owned, simulated};
-use crate::{Status, opennf_calm};
+use crate::Status;
+use crate::sim_tests::{calm, owned, simulated};
 use flow_filter::NoMemory;
 use nf_io::{MemoryOutside, Role};
 use std::alloc::Global;
@@ -51,7 +51,7 @@ fn the_capture_and_its_line_are_written(rt: HostRuntime) -> Result<(), Fail> {
     let alloc = rt.alloc();
     let words = owned(alloc, &WORDS)?;
     let mut outside = outside_of(alloc, Role::Report, 0, usize::MAX)?;
-    let outcome = opennf_calm(alloc, words.as_slice(), &mut outside);
+    let outcome = calm(alloc, words.as_slice(), &mut outside);
     assert_eq!(rt; outcome.status, Status::Ok);
     assert_eq!(rt; outside.written(Role::TraceOut), CAPTURE.as_slice());
     assert_eq!(rt; outside.written(Role::Report), LINE.as_bytes());
@@ -74,7 +74,7 @@ fn a_capture_that_cannot_be_written_leaves_a_front(rt: HostRuntime) -> Result<()
     let alloc = rt.alloc();
     let words = owned(alloc, &WORDS)?;
     let mut outside = outside_of(alloc, Role::TraceOut, 3, 30)?;
-    let outcome = opennf_calm(alloc, words.as_slice(), &mut outside);
+    let outcome = calm(alloc, words.as_slice(), &mut outside);
     assert_eq!(rt;
         outcome.status,
         Status::WriteFault {
@@ -95,7 +95,7 @@ fn a_line_that_cannot_be_written_leaves_the_capture_whole(rt: HostRuntime) -> Re
     let alloc = rt.alloc();
     let words = owned(alloc, &WORDS)?;
     let mut outside = outside_of(alloc, Role::Report, 2, 10)?;
-    let outcome = opennf_calm(alloc, words.as_slice(), &mut outside);
+    let outcome = calm(alloc, words.as_slice(), &mut outside);
     assert_eq!(rt; outcome.status, Status::WriteFault { role: Role::Report });
     assert_eq!(rt; outside.written(Role::TraceOut), CAPTURE.as_slice());
     assert_eq!(rt; outside.written(Role::Report), b"gen number".as_slice());
@@ -122,7 +122,7 @@ fn numbers_out_of_range_are_bad_words(rt: HostRuntime) -> Result<(), Fail> {
         ];
         let words = owned(alloc, &words)?;
         let mut outside = outside_of(alloc, Role::Report, 0, usize::MAX)?;
-        let outcome = opennf_calm(alloc, words.as_slice(), &mut outside);
+        let outcome = calm(alloc, words.as_slice(), &mut outside);
         assert_eq!(rt; outcome.status, Status::Usage);
         assert_eq!(rt; outside.written(Role::TraceOut), b"".as_slice());
     }

@@ -34,6 +34,8 @@ mod check_tests;
 #[cfg(test)]
 mod generate_tests;
 #[cfg(test)]
+mod journal_tests;
+#[cfg(test)]
 mod sim_tests;
 #[cfg(test)]
 mod threads_tests;

@@ -178,11 +178,7 @@ fn tell_network<F: Function>(
 }
 
 /// The network before its start.
-fn open(
-    alloc: Global,
-    asked: &NetworkRequest<'_>,
-    inputs: Inputs,
-) -> Result<Opening, NoMemory>
+fn open(alloc: Global, asked: &NetworkRequest<'_>, inputs: Inputs) -> Result<Opening, NoMemory>
     requires runs { CanRun (network_view asked.now) }
     requires sound { CanBegin (network_view asked.now) (given_by asked.now.site inputs) }
     ensures { IfOk result (IsOpening (network_view asked.now) (given_by asked.now.site inputs)) }

@@ -2,7 +2,9 @@ ghost use Rattle.std.specs.Prelude.{◌≡◌, ◌<◌, None, IfOk};
 ghost use Rattle.nf_io.specs.declared.outside.Role.{Role as TheRole};
 ghost use Rattle.nf_io.specs.Memory.{seen_in};
 
-use crate::opennf_calm;
+use crate::outcome::Outcome;
+use crate::status::Status;
+use crate::top::{names_run, opennf_calm};
 use flow_filter::NoMemory;
 use nf_io::{MemoryOutside, Role};
 use std::alloc::Global;
@@ -23,12 +25,12 @@ static WORDS: [&str; 10] = [
 ];
 
 /// The header of a little-endian capture of raw IP with microseconds.
-static HEADER: [u8; 24] = [
+pub(crate) static HEADER: [u8; 24] = [
     0xd4, 0xc3, 0xb2, 0xa1, 2, 0, 4, 0, 0, 0, 0, 0, 0, 0, 0, 0, 0xff, 0xff, 0, 0, 101, 0, 0, 0,
 ];
 
 /// A record of one UDP packet with 20 bytes of payload, from 10.0.0.1:5000 to 192.0.2.9:53.
-static RECORD: [u8; 64] = [
+pub(crate) static RECORD: [u8; 64] = [
     1, 0, 0, 0, 0, 0, 0, 0, 48, 0, 0, 0, 48, 0, 0, 0, //
     0x45, 0, 0, 48, 0, 0, 0, 0, 0x40, 17, 0, 0, 10, 0, 0, 1, 192, 0, 2, 9, //
     0x13, 0x88, 0, 53, 0, 28, 0, 0, //
@@ -82,8 +84,18 @@ pub(crate) fn owned(alloc: Global, words: &[&str]) -> Result<Vec<String>, NoMemo
     Ok(owned)
 }
 
+/// What the program does for words that don't ask for threads. It refuses those that do.
+pub(crate) fn calm(alloc: Global, words: &[String], outside: &mut MemoryOutside) -> Outcome
+    requires { (role : TheRole) → (seen_in outside.old role).name ≡ None }
+{
+    if names_run(words) {
+        return Outcome::refused(alloc, Status::Usage);
+    }
+    opennf_calm(alloc, words, outside)
+}
+
 /// An outside whose capture has these pieces, one after another.
-fn outside_of(alloc: Global, pieces: &[&[u8]]) -> Result<MemoryOutside, NoMemory>
+pub(crate) fn outside_of(alloc: Global, pieces: &[&[u8]]) -> Result<MemoryOutside, NoMemory>
     ensures { IfOk result (λ outside. (role : TheRole) → (seen_in outside role).name ≡ None) }
 {
     let mut outside = MemoryOutside::open(alloc);
@@ -97,7 +109,7 @@ fn outside_of(alloc: Global, pieces: &[&[u8]]) -> Result<MemoryOutside, NoMemory
 pub(crate) fn simulated(alloc: Global, pieces: &[&[u8]]) -> Result<(u8, MemoryOutside), NoMemory> {
     let words = owned(alloc, &WORDS)?;
     let mut outside = outside_of(alloc, pieces)?;
-    let outcome = opennf_calm(alloc, words.as_slice(), &mut outside);
+    let outcome = calm(alloc, words.as_slice(), &mut outside);
     Ok((outcome.status.number(), outside))
 }
 
@@ -166,7 +178,7 @@ fn too_few_words_are_bad_words(rt: HostRuntime) -> Result<(), Fail> {
     let alloc = rt.alloc();
     let words = owned(alloc, &["opennf", "sim", "conntrack", "T"])?;
     let mut outside = outside_of(alloc, &[&HEADER])?;
-    let outcome = opennf_calm(alloc, words.as_slice(), &mut outside);
+    let outcome = calm(alloc, words.as_slice(), &mut outside);
     assert_eq!(rt; outcome.status.number(), 1);
     assert_eq!(rt; outside.written(Role::Report), b"".as_slice());
     assert_eq!(rt;
@@ -182,7 +194,7 @@ fn a_failing_read_is_a_read_fault(rt: HostRuntime) -> Result<(), Fail> {
     let words = owned(alloc, &WORDS)?;
     let mut outside = outside_of(alloc, &[&HEADER, &RECORD])?;
     outside.fail(Role::Trace, 2)?;
-    let outcome = opennf_calm(alloc, words.as_slice(), &mut outside);
+    let outcome = calm(alloc, words.as_slice(), &mut outside);
     assert_eq!(rt; outcome.status.number(), 4);
     assert_eq!(rt; outside.written(Role::Report), b"".as_slice());
     assert_eq!(rt;
@@ -199,7 +211,7 @@ fn a_failing_write_leaves_a_front_of_the_report(rt: HostRuntime) -> Result<(), F
     let mut outside = outside_of(alloc, &[&HEADER, &RECORD])?;
     outside.fail(Role::Report, 2)?;
     outside.piece(16);
-    let outcome = opennf_calm(alloc, words.as_slice(), &mut outside);
+    let outcome = calm(alloc, words.as_slice(), &mut outside);
     assert_eq!(rt; outcome.status.number(), 5);
     assert_eq!(rt;
         outside.written(Role::Report),
@@ -253,7 +265,7 @@ fn scripted(
     let words = owned(alloc, &words)?;
     let mut outside = outside_of(alloc, pieces)?;
     outside.put(Role::Script, script.as_bytes())?;
-    let outcome = opennf_calm(alloc, words.as_slice(), &mut outside);
+    let outcome = calm(alloc, words.as_slice(), &mut outside);
     Ok((outcome.status.number(), outside))
 }
 
@@ -470,7 +482,7 @@ fn a_share_and_a_copy_are_not_built(rt: HostRuntime) -> Result<(), Fail> {
 fn one_packet(alloc: Global, words: &[&str]) -> Result<(u8, MemoryOutside), NoMemory> {
     let words = owned(alloc, words)?;
     let mut outside = outside_of(alloc, &[&HEADER, &RECORD])?;
-    let outcome = opennf_calm(alloc, words.as_slice(), &mut outside);
+    let outcome = calm(alloc, words.as_slice(), &mut outside);
     Ok((outcome.status.number(), outside))
 }
 
@@ -544,7 +556,7 @@ fn a_script_that_cannot_be_read_is_a_fault_before_the_capture(rt: HostRuntime) -
     words.push(String::from_str(alloc, "S")?)?;
     let mut outside = outside_of(alloc, &[&HEADER[..3]])?;
     outside.fail(Role::Script, 1)?;
-    let outcome = opennf_calm(alloc, words.as_slice(), &mut outside);
+    let outcome = calm(alloc, words.as_slice(), &mut outside);
     assert_eq!(rt; outcome.status.number(), 4);
     assert_eq!(rt; outside.written(Role::Report), b"".as_slice());
     assert_eq!(rt;

@@ -4,7 +4,8 @@ ghost use Rattle.nf_io.specs.Meaning.{CanBind};
 ghost use Rattle.command_words.specs.Plan.{plan_of};
 ghost use Rattle.command_words.specs.RequestViews.{network_view, request_view};
 ghost use Rattle.opennf_calls.specs.Command.{is_command, is_journal, with_journal};
-ghost use Rattle.opennf_calls.specs.Outcome.{IsBound, MayBind, HasOutcome, RefusesWords};
+ghost use Rattle.opennf_calls.specs.Outcome.{IsBound, MayBind, HasOutcome};
+ghost use Rattle.opennf_calls.specs.Status.{words_status};
 ghost use Rattle.opennf_calls.specs.Phases.{HasEnded, Named, SameContents};
 
 use crate::audit::audit;
@@ -75,7 +76,7 @@ pub fn opennf_calm<O: Outside>(alloc: Global, words: &[String], outside: &mut O)
 }
 
 /// Whether the words name the command `run`.
-fn names_run(words: &[String]) -> bool
+pub(crate) fn names_run(words: &[String]) -> bool
     ensures { result ≡ is_command (codes "run") (map string_bytes words.now) }
 {
     match words {
@@ -105,7 +106,10 @@ fn perform_run<R: Threads + Wait + Sync, O: Outside, G: Gate>(
     };
     match request {
         Request::Run(asked) => run(rt, alloc, &asked, outside, gate),
-        _other => unreachable!(),
+        Request::Sim(_asked, _schedule) => unreachable!(),
+        Request::Audit(_asked) => unreachable!(),
+        Request::Check(_asked) => unreachable!(),
+        Request::Gen(_asked) => unreachable!(),
     }
 }
 
@@ -133,7 +137,7 @@ fn perform<O: Outside>(alloc: Global, words: &[String], outside: &mut O) -> Outc
 
 /// The status of words that aren't a command.
 fn of_words(fault: ArgumentsFault) -> Status
-    ensures { RefusesWords result }
+    ensures { result ≡ words_status fault }
 {
     match fault {
         ArgumentsFault::Usage => Status::Usage,
@@ -179,6 +183,7 @@ fn bind_file<O: Outside>(outside: &mut O, role: Role, file: Option<&str>) -> Res
     requires { CanBind role (O.seen outside.old role) }
     ensures ok { OnOk result (Named role (option_map (λ t. t.now) file.entry) (O.seen outside.old) (O.seen outside.new)) }
     ensures err { OnErr result (Named role None (O.seen outside.old) (O.seen outside.new)) }
+    ensures contents { SameContents (O.seen outside.old) (O.seen outside.new) }
 {
     match file {
         Some(name) => outside.bind(role, name),

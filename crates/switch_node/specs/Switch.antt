@@ -16,6 +16,7 @@ use Rattle.nf_msgs.specs.declared.note.Note.{Note}
 use Rattle.nf_msgs.specs.declared.note.Note.TheVariants.{Arrived, Installed}
 use Rattle.nf_msgs.specs.Nodes.{controller_node, instance_node}
 use Rattle.actor_net.specs.Network.{Stepped}
+use Rattle.switch_node.specs.declared.switch.TheConstants.{MOST_WAITING}
 
 -- what the switch holds: how many packets are under way, how many commands wait for their answer, and whether all is done
 pub record SwitchState : Type 0 where
@@ -119,6 +120,7 @@ switch_step s message = still s
 -- whether the switch takes an item of the input now
 abbrev pub takes_in : SwitchState → Msg → Bool
 takes_in s (InPacket packet) = has_room s
+takes_in s (InCommand command) = nat_lt s.waiting MOST_WAITING
 takes_in s InSettle = s.waiting == 0
 takes_in s message = true
 

@@ -15,6 +15,9 @@ use switch_rules::{Rules, Target};
 /// The most packets that may be under way.
 pub const MOST_WINDOW: u32 = 4096;
 
+/// The most commands that may wait for their answer.
+pub const MOST_WAITING: u32 = u32::MAX;
+
 /// The number of the switch's pool.
 const POOL: u32 = 0;
 
@@ -69,6 +72,7 @@ impl Actor for Switch {
     fn ready(&self, item: &Msg) -> bool {
         match item {
             Msg::InPacket(_) => self.has_room(),
+            Msg::InCommand(_) => self.waiting < MOST_WAITING,
             Msg::InSettle => self.waiting == 0,
             _ => true,
         }

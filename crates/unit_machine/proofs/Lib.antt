@@ -34,3 +34,4 @@ pub mod NetViews
 pub mod RealFalls
 pub mod OneCopy
 pub mod Fresh
+pub mod Sides

@@ -28,7 +28,7 @@ forwards (_ ∷ xs) = forwards xs
 abbrev pub path_of : {R : Type 0} → State R → List ℕ
 path_of u = passes_in u.sa ++ (passes_in u.sb ++ (forwards u.cs ++ (u.store ++ (events_in u.ac ++ (u.a.held ++ (carries u.sa ++ (u.b.held ++ carries u.sb)))))))
 
-passes_in-append : {R : Type 0} (xs ys : List (Item R)) → passes_in (xs ++ ys) ≡ passes_in xs ++ passes_in ys
+pub passes_in-append : {R : Type 0} (xs ys : List (Item R)) → passes_in (xs ++ ys) ≡ passes_in xs ++ passes_in ys
 passes_in-append [] ys = refl
 passes_in-append (Pass p ∷ xs) ys = ap (λ z. p ∷ z) (passes_in-append xs ys)
 passes_in-append (x ∷ xs) ys = passes_in-append xs ys
@@ -38,12 +38,12 @@ carries-append [] ys = refl
 carries-append (Carry p ∷ xs) ys = ap (λ z. p ∷ z) (carries-append xs ys)
 carries-append (x ∷ xs) ys = carries-append xs ys
 
-events_in-append : {R : Type 0} (xs ys : List (Item R)) → events_in (xs ++ ys) ≡ events_in xs ++ events_in ys
+pub events_in-append : {R : Type 0} (xs ys : List (Item R)) → events_in (xs ++ ys) ≡ events_in xs ++ events_in ys
 events_in-append [] ys = refl
 events_in-append (Event p ∷ xs) ys = ap (λ z. p ∷ z) (events_in-append xs ys)
 events_in-append (x ∷ xs) ys = events_in-append xs ys
 
-forwards-append : {R : Type 0} (xs ys : List (Item R)) → forwards (xs ++ ys) ≡ forwards xs ++ forwards ys
+pub forwards-append : {R : Type 0} (xs ys : List (Item R)) → forwards (xs ++ ys) ≡ forwards xs ++ forwards ys
 forwards-append [] ys = refl
 forwards-append (Forward w p ∷ xs) ys = ap (λ z. p ∷ z) (forwards-append xs ys)
 forwards-append (x ∷ xs) ys = forwards-append xs ys
@@ -96,7 +96,7 @@ mixed_carries R [] = refl
 mixed_carries R ((true, p) ∷ x) = mixed_carries R x
 mixed_carries R ((false, p) ∷ x) = ap (λ z. p ∷ z) (mixed_carries R x)
 
-mixed_events : {R : Type 0} (y : List (Mix R)) → events_in (map shown y) ≡ events y
+pub mixed_events : {R : Type 0} (y : List (Mix R)) → events_in (map shown y) ≡ events y
 mixed_events [] = refl
 mixed_events (Ev p ∷ y) = ap (λ z. p ∷ z) (mixed_events y)
 mixed_events (Pc h ∷ y) = mixed_events y

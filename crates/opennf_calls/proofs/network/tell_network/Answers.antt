@@ -30,15 +30,17 @@ returns g c =
     let report = c.in_ok-report.ensures in
     let told : c.items-told.result.now ≡ c.args.choices = search rules in
     let start = started {F = g.row.F.Denot} {R = g.row.F-Record.Denot} c.args.alloc opening.config opening.items.items in
-    let input = subst (λ (k : Kind). IsInput k opening.config opening.items.items) (sym c.requires.kind) is.is_input in
-    (run_of g.row.F.Denot g.F.Function.semantics (network_view c.args.asked.now) (given_by c.args.asked.now.site c.args.inputs) c.args.alloc opening.config opening.items.items opening.head is.config is.items
-    None (record { choices = c.args.choices; report = c.in_ok-report.report }) (world_after g.F.Function.semantics start c.items-told.result.now)
-    (subst (λ (cs : List Choice). Ran g.row.F.Denot g.F.Function.semantics (network_view c.args.asked.now) (given_by c.args.asked.now.site c.args.inputs) c.args.alloc opening.config opening.items.items opening.head is.config is.items cs (world_after g.F.Function.semantics start c.items-told.result.now)) told
-    (record {
-      leads = report.run.leads;
-      complete = report.run.complete;
-      promises = report.promises input;
-      verdicts = report.verdicts input;
-      completed = report.completed input;
-      home = report.home input;
-    })) (λ schedule same. cc) is.head report.text, refl)
+    let input = subst (λ (k : Kind). IsInput k opening.config opening.items.items) (sym c.requires.kind) is.is_input in (
+      run_of g.row.F.Denot g.F.Function.semantics (network_view c.args.asked.now) (given_by c.args.asked.now.site c.args.inputs) c.args.alloc opening.config opening.items.items opening.head is.config is.items
+          None (record { choices = c.args.choices; report = c.in_ok-report.report }) (world_after g.F.Function.semantics start c.items-told.result.now)
+          (subst (λ (cs : List Choice). Ran g.row.F.Denot g.F.Function.semantics (network_view c.args.asked.now) (given_by c.args.asked.now.site c.args.inputs) c.args.alloc opening.config opening.items.items opening.head is.config is.items cs (world_after g.F.Function.semantics start c.items-told.result.now)) told
+          (record {
+            leads = report.run.leads;
+            complete = report.run.complete;
+            promises = report.promises input;
+            verdicts = report.verdicts input;
+            completed = report.completed input;
+            home = report.home input;
+          })) (λ schedule same. cc) is.head report.text,
+      refl,
+    )

@@ -1,0 +1,127 @@
+#!/usr/bin/env python3
+"""Measures runs of the network by several instances and with moves, and prints how their times and their memory compare.
+
+Use: network_speed.py FOLDER PROGRAM FEW TENTH MOVED TWELVE
+
+The captures are generated packets (FEW), a tenth as many of them (TENTH), packets of a tenth as many flows, each of which comes
+again and again (MOVED), and the generated ones for 12 moves (TWELVE). The scripts go into FOLDER. Each run is made five times,
+in turn with the run that it is compared with, and once more for its memory.
+"""
+import os
+import struct
+import sys
+from typing import NamedTuple
+
+import measure
+
+FILE_HEADER, RECORD_HEADER, CAPTURED = 24, 16, 8
+
+
+class Measure(NamedTuple):
+    seconds: float  # that pass
+    spent: float  # of the processor
+    peak: int  # in bytes
+
+
+def packets_in(capture):
+    """How many records a little-endian capture has."""
+    with open(capture, "rb") as file:
+        content = file.read()
+    count, place = 0, FILE_HEADER
+    while place < len(content):
+        place += RECORD_HEADER + struct.unpack_from("<I", content, place + CAPTURED)[0]
+        count += 1
+    return count
+
+
+def written(folder, name, lines):
+    """A script's path."""
+    path = os.path.join(folder, name + ".script")
+    with open(path, "w", encoding="ascii") as file:
+        file.writelines(line + "\n" for line in lines)
+    return path
+
+
+def sim(program, instances, *files):
+    return [program, "sim", "conntrack", "--instances", instances, "--inside", "10.0.0.0/24", *files]
+
+
+def measured(*commands):
+    """The best of each command, which are run in turn."""
+    times = [[] for _ in commands]
+    for _ in range(measure.RUNS):
+        for command, taken in zip(commands, times):
+            taken.append(measure.times_of(command, os.devnull))
+    return [
+        Measure(min(passed for passed, _ in taken), min(spent for _, spent in taken), measure.peak_of(command))
+        for command, taken in zip(commands, times)
+    ]
+
+
+def tell(name, it, beside=None):
+    line = f"  {it.seconds:.3f} s, {it.spent:.3f} s of the processor, {it.peak / 2**20:.1f} MiB  {name}"
+    if beside is not None:
+        line += f"; {it.seconds / beside.seconds:.2f} and {it.spent / beside.spent:.2f} times as long"
+    print(line, flush=True)
+
+
+def instances(folder, program, few):
+    print("one instance and three, by the schedule `first`:")
+    routes = written(folder, "routes", ["route local=10.0.0.0/26 b", "route local=10.0.0.128/26 c"])
+    one, three, routed = measured(
+        sim(program, "a", few), sim(program, "a,b,c", few), sim(program, "a,b,c", few, routes)
+    )
+    tell("one", one)
+    tell("three, of which the first has all packets", three, one)
+    tell("three, which two routes give packets to", routed, one)
+
+
+def growth(program, tenth, few):
+    print("a tenth of the packets, and all:")
+    less, more = measured(sim(program, "a", tenth), sim(program, "a", few))
+    tell("a tenth", less)
+    tell("all", more, less)
+    behind = packets_in(few) - packets_in(tenth)
+    print(f"  {(more.peak - less.peak) / behind:.0f} bytes at the peak for each further packet")
+
+
+def there_and_back(folder, program, moved):
+    packets = packets_in(moved)
+    print(f"{packets // 10} units moved to another instance and back, among {packets} packets:")
+    script = written(folder, "there-and-back", [
+        f"at {packets * 3 // 10} move a b any order", f"at {packets * 3 // 10} settle",
+        f"at {packets * 6 // 10} move b a any order", f"at {packets * 6 // 10} settle",
+    ])
+    without, with_moves = measured(sim(program, "a,b", moved), sim(program, "a,b", moved, script))
+    tell("without the moves", without)
+    tell("with them", with_moves, without)
+    print(f"  {(with_moves.peak - without.peak) / (packets // 10):.0f} bytes more at the peak for each unit that is moved")
+
+
+def twelve_moves(folder, program, twelve):
+    print("12 moves of half of the flows:")
+    ways = ("a b", "b c", "c a") * 4
+    script = written(folder, "twelve", [
+        line for place, way in enumerate(ways, 1)
+        for line in (f"at {700 * place} move {way} local=10.0.0.0/25 order", f"at {700 * place} settle")
+    ])
+    without, with_moves = measured(sim(program, "a,b,c", twelve), sim(program, "a,b,c", twelve, script))
+    tell("without the moves", without)
+    tell("with them", with_moves, without)
+
+
+def main(arguments):
+    if len(arguments) != 6:
+        sys.exit("use: network_speed.py FOLDER PROGRAM FEW TENTH MOVED TWELVE")
+    folder, program, few, tenth, moved, twelve = arguments
+    instances(folder, program, few)
+    growth(program, tenth, few)
+    there_and_back(folder, program, moved)
+    twelve_moves(folder, program, twelve)
+
+
+if __name__ == "__main__":
+    try:
+        main(sys.argv[1:])
+    except measure.subprocess.CalledProcessError as failure:
+        sys.exit(f"network_speed.py: {failure.cmd[0]} ended with status {failure.returncode}")

@@ -1,0 +1,151 @@
+-- How many commands of an input are answered, by the log; and two ends of one list, by their lengths.
+use Rattle.std.proofs.Common.{◌≡◌, ℕ, suc, ◌+◌, ◌<◌, ◌≤◌, Bool, true, false, Some, List, [], ◌∷◌, ◌++◌, map, length, length-append, refl, sym, ap, ◌∙◌, arith}
+use Rattle.std.specs.Prelude.{if◌then◌else◌, ◌||◌, ◌==◌, find, option_map}
+use Rattle.std.proofs.lemmas.Bool.Decides.{nat_tests, Decides-eqb}
+use Rattle.nf_msgs.specs.declared.answer.Answer.{Answer}
+use Rattle.nf_msgs.specs.declared.command.Command.{Command}
+use Rattle.nf_msgs.specs.declared.command.Order.{Order}
+use Rattle.nf_msgs.specs.declared.msg.Msg.{Msg}
+use Rattle.nf_msgs.specs.declared.msg.Msg.TheVariants as msg
+use Rattle.nf_msgs.specs.declared.note.Note.{Note}
+use Rattle.nf_msgs.specs.declared.note.Note.TheVariants as note
+use Rattle.unit_machine.proofs.Labels.{Each}
+use Rattle.nf_net.specs.Commands.{has_answered}
+use Rattle.nf_net.specs.Input.{packets, commands, IsRising}
+use Rattle.nf_net.proofs.BusyController.{told_in}
+use Rattle.nf_net.proofs.BusyLemmas.{answered_same, has_answered-append}
+use Rattle.nf_net.proofs.EndTables.{flag}
+use Rattle.nf_net.proofs.LinePicks.{picked}
+
+-- how many are answered
+abbrev pub answered_in : List Command → List Note → ℕ
+answered_in [] log = 0
+answered_in (c ∷ cs) log = flag (has_answered c.op log) + answered_in cs log
+
+abbrev pub AllAnswered : List Command → List Note → Type 0
+AllAnswered cs log = Each (λ c. has_answered c.op log ≡ true) cs
+
+pub answered_in-append : (xs ys : List Command) (log : List Note) → answered_in (xs ++ ys) log ≡ answered_in xs log + answered_in ys log
+answered_in-append [] ys log = omega arith
+answered_in-append (c ∷ xs) ys log = let rest = answered_in-append xs ys log in omega (arith, rest)
+
+flag_most : (b : Bool) → flag b ≤ 1
+flag_most true = omega arith
+flag_most false = omega arith
+
+flag_full : (b : Bool) → 1 ≤ flag b → b ≡ true
+flag_full true h = refl
+flag_full false h = absurd (omega (arith, h))
+
+-- no more than there are, and where as many, all
+pub answered_most : (cs : List Command) (log : List Note) → answered_in cs log ≤ length cs
+answered_most [] log = omega arith
+answered_most (c ∷ cs) log = let own = flag_most (has_answered c.op log) in let rest = answered_most cs log in omega (arith, own, rest)
+
+pub all_answered : (cs : List Command) (log : List Note) → length cs ≤ answered_in cs log → AllAnswered cs log
+all_answered [] log h = tt
+all_answered (c ∷ cs) log h =
+    let own = flag_most (has_answered c.op log) in
+    let rest = answered_most cs log in
+    (flag_full (has_answered c.op log) (omega (arith, h, rest)), all_answered cs log (omega (arith, h, own)))
+
+pub none_answered_in : (cs : List Command) (log : List Note) → Each (λ c. has_answered c.op log ≡ false) cs → answered_in cs log ≡ 0
+none_answered_in [] log h = refl
+none_answered_in (c ∷ cs) log h = let own = h.0 in let rest = none_answered_in cs log h.1 in rw (own, rest) refl
+
+-- as the log goes on
+true_first : (a b : Bool) → a ≡ true → a || b ≡ true
+true_first a b e = rw e refl
+
+pub answered_more : (op : ℕ) (log notes : List Note) → has_answered op log ≡ true → has_answered op (log ++ notes) ≡ true
+answered_more op log notes h = has_answered-append op log notes ∙ true_first (has_answered op log) (has_answered op notes) h
+
+pub all_answered_more : (cs : List Command) (log notes : List Note) → AllAnswered cs log → AllAnswered cs (log ++ notes)
+all_answered_more [] log notes h = tt
+all_answered_more (c ∷ cs) log notes h = (answered_more c.op log notes h.0, all_answered_more cs log notes h.1)
+
+pub answered_in_same : (cs : List Command) (log notes : List Note) → ((op : ℕ) → has_answered op notes ≡ false) → answered_in cs (log ++ notes) ≡ answered_in cs log
+answered_in_same [] log notes h = refl
+answered_in_same (c ∷ cs) log notes h = let own = ap flag (answered_same c.op log notes (h c.op)) in let rest = answered_in_same cs log notes h in omega (arith, own, rest)
+
+-- an answer to another command, and to one of these
+apart_answer : (op k : ℕ) (a : Answer) → (op == k) ≡ false → has_answered k (note.Answered op a ∷ []) ≡ false
+apart_answer op k a off = rw off refl
+
+or_true : (b : Bool) → b || true ≡ true
+or_true true = refl
+or_true false = refl
+
+answered_other : (op : ℕ) (a : Answer) (log : List Note) (least : ℕ) (cs : List Command) → op < least → IsRising least (map (λ c. c.op) cs) → answered_in cs (log ++ note.Answered op a ∷ []) ≡ answered_in cs log
+answered_other op a log least [] less h = refl
+answered_other op a log least (c ∷ cs) less h =
+    let first = h.0 in
+    let off : (op == c.op) ≡ false = grind (arith, nat_tests, less, first) in
+    let own = ap flag (answered_same c.op log (note.Answered op a ∷ []) (apart_answer op c.op a off)) in
+    let rest = answered_other op a log (suc c.op) cs (omega (arith, less, first)) h.1 in
+    omega (arith, own, rest)
+
+pub answered_one : (op : ℕ) (a : Answer) (what : Order) (log : List Note) → has_answered op log ≡ false → (least : ℕ) (cs : List Command) → IsRising least (map (λ c. c.op) cs) → option_map (λ c. c.what) (find (λ c. c.op == op) cs) ≡ Some what → answered_in cs (log ++ note.Answered op a ∷ []) ≡ answered_in cs log + 1
+answered_one op a what log none least [] h is = cc
+answered_one op a what log none least (c ∷ cs) h is = elim (c.op == op) as (λ b. (c.op == op) ≡ b → option_map (λ x. x.what) (if b then Some c else find (λ x. x.op == op) cs) ≡ Some what → answered_in (c ∷ cs) (log ++ note.Answered op a ∷ []) ≡ answered_in (c ∷ cs) log + 1) [
+  | true ↦ λ on _.
+      let same : op ≡ c.op = sym ((Decides-eqb c.op op).0 on) in
+      let self : (op == c.op) ≡ true = grind (arith, nat_tests, same) in
+      let new : has_answered c.op (log ++ note.Answered op a ∷ []) ≡ true = has_answered-append c.op log (note.Answered op a ∷ []) ∙ ap (λ b. has_answered c.op log || (b || false)) self ∙ or_true (has_answered c.op log) in
+      let old : has_answered c.op log ≡ false = ap (λ k. has_answered k log) (sym same) ∙ none in
+      let one = ap flag new in
+      let zero = ap flag old in
+      let rest = answered_other op a log (suc c.op) cs (omega (arith, same)) h.1 in
+      omega (arith, one, zero, rest)
+  | false ↦ λ off found.
+      let apart : (op == c.op) ≡ false = grind (arith, nat_tests, off) in
+      let own = ap flag (answered_same c.op log (note.Answered op a ∷ []) (apart_answer op c.op a apart)) in
+      let rest = answered_one op a what log none (suc c.op) cs h.1 found in
+      omega (arith, own, rest)
+] refl is
+
+-- an order that is found is that of one of them
+pub found : (P : Command → Type 0) (op : ℕ) (what : Order) (cs : List Command) → Each P cs → option_map (λ c. c.what) (find (λ c. c.op == op) cs) ≡ Some what → (c : Command) × (c.op ≡ op) × P c
+found P op what [] h is = cc
+found P op what (c ∷ cs) h is = elim (c.op == op) as (λ b. (c.op == op) ≡ b → option_map (λ x. x.what) (if b then Some c else find (λ x. x.op == op) cs) ≡ Some what → (x : Command) × (x.op ≡ op) × P x) [
+  | true ↦ λ on _. (c, (Decides-eqb c.op op).0 on, h.0)
+  | false ↦ λ _ behind. found P op what cs h.1 behind
+] refl is
+
+-- numbers of commands among messages
+pub low_commands : (P : ℕ → Type 0) (ms : List Msg) → Each P (picked told_in ms) → Each (λ c. P c.op) (commands ms)
+low_commands P [] h = tt
+low_commands P (msg.InCommand c ∷ ms) h = (h.0, low_commands P ms h.1)
+low_commands P (msg.Asked c ∷ ms) h = low_commands P ms h.1
+low_commands P (m ∷ ms) h = low_commands P ms h
+
+pub commands-append : (xs ys : List Msg) → commands (xs ++ ys) ≡ commands xs ++ commands ys
+commands-append [] ys = refl
+commands-append (msg.InCommand c ∷ xs) ys = ap (λ v. c ∷ v) (commands-append xs ys)
+commands-append (m ∷ xs) ys = commands-append xs ys
+
+pub packets-append : (xs ys : List Msg) → packets (xs ++ ys) ≡ packets xs ++ packets ys
+packets-append [] ys = refl
+packets-append (msg.InPacket p ∷ xs) ys = ap (λ v. p ∷ v) (packets-append xs ys)
+packets-append (m ∷ xs) ys = packets-append xs ys
+
+-- Two ends of one list.
+longer : {X : Type 0} (x : X) (xs ys : List X) → length (x ∷ xs ++ ys) ≡ length ys → ⊥
+longer x xs ys e = let both = length-append xs ys in omega (arith, e, both)
+
+-- as long as each other
+pub same_ends : {X : Type 0} (xs ys zs vs : List X) → xs ++ ys ≡ zs ++ vs → length ys ≡ length vs → (xs ≡ zs) × (ys ≡ vs)
+same_ends [] ys [] vs e l = (refl, e)
+same_ends [] ys (z ∷ zs) vs e l = absurd (longer z zs vs (ap length (sym e) ∙ l))
+same_ends (x ∷ xs) ys [] vs e l = absurd (longer x xs ys (ap length e ∙ sym l))
+same_ends (x ∷ xs) ys (z ∷ zs) vs e l =
+    let first : x ≡ z = cc in
+    let tail : xs ++ ys ≡ zs ++ vs = cc in
+    let rest = same_ends xs ys zs vs tail l in
+    (ap (λ q. q ∷ xs) first ∙ ap (λ q. z ∷ q) rest.0, rest.1)
+
+-- the longer one ends with the other
+pub longer_end : {X : Type 0} (xs ys zs vs : List X) → xs ++ ys ≡ zs ++ vs → length vs ≤ length ys → (ms : List X) × (ys ≡ ms ++ vs)
+longer_end [] ys zs vs e l = (zs, e)
+longer_end (x ∷ xs) ys [] vs e l = let both = length-append xs ys in let same = ap length e in absurd (omega (arith, l, both, same))
+longer_end (x ∷ xs) ys (z ∷ zs) vs e l = let tail : xs ++ ys ≡ zs ++ vs = cc in longer_end xs ys zs vs tail l

@@ -1,0 +1,231 @@
+-- As long as a move hasn't changed the rules, a unit that it takes from its source stays with the source: what each node's step keeps of it.
+use Rattle.std.proofs.Common.{◌≡◌, ◌≢◌, ℕ, suc, Bool, true, false, Option, Some, None, List, [], ◌∷◌, ◌++◌, append_assoc, refl, sym, ap, ◌∙◌, subst, arith}
+use Rattle.std.specs.Prelude.{◌&&◌, ◌||◌, ◌==◌}
+use Rattle.std.specs.List.{filter_map}
+use Rattle.std.specs.FinMap as finite
+use Rattle.std.proofs.lemmas.Bool.Decides.{nat_tests}
+use Rattle.flow_filter.specs.declared.filter.Filter.{Filter}
+use Rattle.nf_function.specs.declared.output.Output.{Output}
+use Rattle.nf_function.specs.declared.unit.Unit as units
+use Rattle.nf_function.specs.Records.{Laws as FunctionLaws}
+use Rattle.nf_function.specs.Semantics.{Semantics}
+use Rattle.nf_function.specs.Units.{takes}
+use Rattle.event_store.specs.Store.{stored}
+use Rattle.nf_msgs.specs.declared.answer.Answer.TheVariants as answer
+use Rattle.nf_msgs.specs.declared.msg.Msg.{Msg}
+use Rattle.nf_msgs.specs.declared.note.Note.{Note}
+use Rattle.nf_msgs.specs.declared.note.Note.TheVariants as note
+use Rattle.nf_msgs.specs.Nodes.{instance_node}
+use Rattle.move_op.specs.declared.phase.Phase.{Phase}
+use Rattle.move_op.specs.declared.phase.Phase.TheVariants as phase
+use Rattle.move_op.specs.Move.{MoveState}
+use Rattle.ctrl_node.specs.declared.operation.Operation.TheVariants.{Move}
+use Rattle.instance_worker.specs.declared.instance.Instance.{Instance as InstanceState}
+use Rattle.instance_worker.specs.Instance.{instance_step}
+use Rattle.actor_net.specs.Network.{Network, waiting}
+use Rattle.actor_net.proofs.EnabledChoices.{at as at_node}
+use Rattle.unit_machine.proofs.Labels.{Each, each-append}
+use Rattle.unit_machine.proofs.Real as real
+use Rattle.abstract_net.proofs.Net as net
+use Rattle.abstract_net.proofs.Net.{Open, find_op, inst_step}
+use Rattle.abstract_net.proofs.Rest.{none_mine}
+use Rattle.abstract_net.proofs.Sources.{is_early_real, at_source, untaken}
+use Rattle.nf_net.specs.declared.config.Config.{Config}
+use Rattle.nf_net.specs.declared.node.Node.{Node}
+use Rattle.nf_net.specs.Commands.{began}
+use Rattle.nf_net.specs.Input.{IsInput, order_of}
+use Rattle.nf_net.specs.Log.{installed}
+use Rattle.nf_net.specs.Places.{owner, owner_after, first_owner}
+use Rattle.nf_net.specs.Refused.{unit_numbered}
+use Rattle.nf_net.proofs.ControlOutline.{Sees, SeesMove}
+use Rattle.nf_net.proofs.FiltersApart.{is_whole, unit_fits, takes_whole, takes_same}
+use Rattle.nf_net.proofs.InstallCounts.{passed}
+use Rattle.nf_net.proofs.Joined.{Given, S, place, Scene, IsTaken, IsInstanceAt, Joined}
+use Rattle.nf_net.proofs.LogLemmas.{has_begun-append}
+use Rattle.nf_net.proofs.MoveOutline.{outline_phase}
+use Rattle.nf_net.proofs.Outline.{ran_in, is_sys}
+use Rattle.nf_net.proofs.OwnerLemmas.{installed_same, installed_quiet, Stands, In_first, In_second, stands}
+use Rattle.nf_net.proofs.PlaceNotes.{IsQuiet, instance_quiet, AreUnprocessed}
+use Rattle.nf_net.proofs.RunUnits.{Ran_as, Seen, Unseen, ran_as, some_mine}
+use Rattle.nf_net.proofs.StartJoined.{given}
+
+-- what is left of a list behind a front
+behind_front : {X : Type 0} (xs ys zs : List X) → xs ++ ys ≡ xs ++ zs → ys ≡ zs
+behind_front [] ys zs e = e
+behind_front (x ∷ xs) ys zs e = let tail : xs ++ ys ≡ xs ++ zs = cc in behind_front xs ys zs tail
+
+-- a fact of each element, by where it stands
+each_by : {X : Type 0} (P : X → Type 0) (front xs whole : List X) → whole ≡ front ++ xs → ((before after : List X) (x : X) → whole ≡ before ++ x ∷ after → P x) → Each P xs
+each_by P front [] whole e all = tt
+each_by P front (x ∷ xs) whole e all = (all front xs x e, each_by P (front ++ x ∷ []) xs whole (e ∙ sym (append_assoc front (x ∷ []) xs)) all)
+
+pub began_there : (op : ℕ) (front back : List Note) → began op (front ++ note.Begun op ∷ back) ≡ true
+began_there op front back =
+    let self : (op == op) ≡ true = grind (arith, nat_tests) in
+    has_begun-append (λ k. k == op) front (note.Begun op ∷ back) ∙ ap (λ b. began op front || (b || began op back)) self ∙ or_true (began op front)
+  where
+    or_true : (b : Bool) → b || true ≡ true
+    or_true true = refl
+    or_true false = refl
+
+-- a phase before the change of the rules, as the proof of moves sees it
+early_outline : {R : Type 0} (f : Semantics R) (place : List ℕ → Option ℕ) (ph : Phase) → passed ph ≡ 0 → is_early_real (outline_phase f place ph) ≡ true
+early_outline f place phase.Passing e = cc
+early_outline f place phase.Ending e = cc
+early_outline f place (phase.Over answer.Done) e = cc
+early_outline f place (phase.Over (answer.Unknown name)) e = refl
+early_outline f place (phase.Over (answer.Overlap op)) e = refl
+early_outline f place (phase.Over (answer.Import a b d)) e = refl
+early_outline f place (phase.Over (answer.Old a b)) e = refl
+early_outline f place phase.Freezing e = refl
+early_outline f place (phase.Streaming frozen free came door) e = refl
+early_outline f place phase.Holding e = refl
+early_outline f place (phase.Restoring why) e = refl
+early_outline f place (phase.Returning why) e = refl
+early_outline f place (phase.Undoing why) e = refl
+
+module _ {R : Type 0} (f : Semantics R) (c : Config) (items : List Msg) where
+  -- a packet of the unit was processed at the instance
+  abbrev pub Is_at : units.Unit → ℕ → Note → Type 0
+  Is_at u i (note.Processed number k output) = unit_numbered c items f.kind number ≡ u → k ≡ i
+  Is_at u i n = Unit {0}
+
+  abbrev pub Are_at : units.Unit → ℕ → List Note → Type 0
+  Are_at u i notes = Each (Is_at u i) notes
+
+  pub unprocessed_at : (u : units.Unit) (i : ℕ) (notes : List Note) → AreUnprocessed notes → Are_at u i notes
+  unprocessed_at u i [] h = tt
+  unprocessed_at u i (note.Processed number k output ∷ ns) h = let never = h.0 in cc
+  unprocessed_at u i (note.Arrived number ∷ ns) h = (tt, unprocessed_at u i ns h.1)
+  unprocessed_at u i (note.Begun op ∷ ns) h = (tt, unprocessed_at u i ns h.1)
+  unprocessed_at u i (note.Exported k op us ∷ ns) h = (tt, unprocessed_at u i ns h.1)
+  unprocessed_at u i (note.Imported k op us ∷ ns) h = (tt, unprocessed_at u i ns h.1)
+  unprocessed_at u i (note.Kept k op us ∷ ns) h = (tt, unprocessed_at u i ns h.1)
+  unprocessed_at u i (note.Installed op ∷ ns) h = (tt, unprocessed_at u i ns h.1)
+  unprocessed_at u i (note.Answered op a ∷ ns) h = (tt, unprocessed_at u i ns h.1)
+
+  -- since a command began, each unit that its filter takes and that this instance owned then is still the instance's
+  abbrev pub Stays : ℕ → Filter → ℕ → List Note → Type 0
+  Stays op filter i log = (first rest : List Note) (u : units.Unit) → log ≡ first ++ note.Begun op ∷ rest → unit_fits f.kind u ≡ true → takes filter u ≡ true → owner c items u first ≡ i → (owner c items u log ≡ i) × Are_at u i rest
+
+  -- notes that leave such units there
+  abbrev pub Leaves : Filter → ℕ → List Note → List Note → Type 0
+  Leaves filter i log notes = (u : units.Unit) → unit_fits f.kind u ≡ true → takes filter u ≡ true → owner c items u log ≡ i → (owner c items u (log ++ notes) ≡ i) × Are_at u i notes
+
+  pub stays_more : (op : ℕ) (filter : Filter) (i : ℕ) (log notes : List Note) → Stays op filter i log → began op notes ≡ false → Leaves filter i log notes → Stays op filter i (log ++ notes)
+  stays_more op filter i log notes h none leaves first rest u e fits taken owned = by_place (stands log notes first (note.Begun op) rest e)
+    where
+      by_place : Stands log notes first (note.Begun op) rest → (owner c items u (log ++ notes) ≡ i) × Are_at u i rest
+      by_place (In_first cs here) =
+          let old = h first cs u here fits taken owned in
+          let new = leaves u fits taken old.0 in
+          let both : first ++ (note.Begun op ∷ (cs ++ notes)) ≡ first ++ (note.Begun op ∷ rest) = sym (ap (λ l. l ++ notes) here ∙ append_assoc first (note.Begun op ∷ cs) notes) ∙ e in
+          let tail = behind_front first (note.Begun op ∷ (cs ++ notes)) (note.Begun op ∷ rest) both in
+          let same : cs ++ notes ≡ rest = cc in
+          (new.0, subst (λ ns. Are_at u i ns) same (each-append (Is_at u i) cs notes old.1 new.1))
+      by_place (In_second cs from there) = let never : true ≡ false = sym (began_there op cs rest) ∙ ap (began op) (sym there) ∙ none in cc
+
+  -- notes of no change of the rules leave the owner
+  pub owner_stays : (u : units.Unit) (log notes : List Note) → installed notes ≡ [] → owner c items u (log ++ notes) ≡ owner c items u log
+  owner_stays u log notes none = ap (owner_after c.names (order_of items) u (first_owner u c.routes)) (installed_same log notes none)
+
+  pub quiet_leaves : (filter : Filter) (i : ℕ) (log notes : List Note) → installed notes ≡ [] → AreUnprocessed notes → Leaves filter i log notes
+  quiet_leaves filter i log notes same none u fits taken owned = (owner_stays u log notes same ∙ owned, unprocessed_at u i notes none)
+
+module _ {F R : Type 0} (f : Semantics R) (laws : FunctionLaws f) (c : Config) (items : List Msg) (is : IsInput f.kind c items) (n : ℕ) (w : Network (Node F R) Msg Note) (j : Joined f (given f c items is) n w) where
+  abbrev g : Given
+  g = given f c items is
+
+  abbrev scene : Scene F f g
+  scene = record { nodes = j.nodes; world = j.world; log = w.log; input = waiting w (at_node 0 0) }
+
+  module _ (op : ℕ) (m : MoveState) (there : finite.get j.nodes.controller.operations op ≡ Some (Move m)) (early : passed m.phase ≡ 0) where
+    -- the move, as the proof of moves sees it
+    record Is_open : Type 0 where
+      e : Open R
+      found : find_op j.world.ops op ≡ Some e
+      sees : SeesMove f (place g) e m (stored j.nodes.controller.store op)
+
+    is_open : Is_open
+    is_open = by_found (find_op j.world.ops op) refl (subst (λ o. Sees f (place g) (find_op j.world.ops op) o (stored j.nodes.controller.store op)) there (j.shown_is.controller.opens op))
+      where
+        by_found : (o : Option (Open R)) → find_op j.world.ops op ≡ o → Sees f (place g) o (Some (Move m)) (stored j.nodes.controller.store op) → Is_open
+        by_found None e sees = absurd sees
+        by_found (Some e) found sees = record { e = e; found = found; sees = sees }
+
+    is_early_there : is_early_real is_open.e.phase ≡ true
+    is_early_there = ap is_early_real is_open.sees.phase ∙ early_outline f (place g) m.phase early
+
+    whole : is_whole f.kind m.plan.filter ≡ true
+    whole = (j.shown_is.controller.moves op m there).whole
+
+    module _ (u : units.Unit) (fits : unit_fits f.kind u ≡ true) (taken : takes m.plan.filter u ≡ true) (owned : owner c items u w.log ≡ m.plan.from) where
+      takes_it : takes_whole f.kind is_open.e.filter u ≡ true
+      takes_it = ap (λ x. takes_whole f.kind x u) is_open.sees.filter ∙ takes_same f.kind m.plan.filter u whole fits ∙ taken
+
+      route : j.world.target u ≡ is_open.e.op.src
+      route = j.shown_is.owners u fits ∙ ap instance_node owned ∙ ap (λ o. o.src) (sym is_open.sees.op)
+
+      -- a change of the rules that the switch takes next
+      pub other_change : (k : ℕ) (filter : Filter) (from to : ℕ) (rest : List (net.Msg R)) → is_whole f.kind filter ≡ true → j.world.link 1 0 ≡ net.Mv filter (real.M_install k from to) ∷ rest → takes filter u ≡ false
+      other_change k filter from to rest filter_whole waits = sym (takes_same f.kind filter u filter_whole fits) ∙ untaken (S f g) (is_sys f g.site g.packet) j.world op is_open.e is_open.found is_early_there u takes_it _ _ j.shown_is.every route filter k from to rest waits
+
+      -- what an instance processes of the unit
+      module _ (y p : ℕ) (message : Msg) (is_taken : IsTaken f g n scene (record { node = suc (suc y); port = p; message = message })) where
+        abbrev k : ℕ
+        k = suc (suc y)
+
+        abbrev own : InstanceState F R
+        own = j.nodes.instance k
+
+        abbrev at : IsInstanceAt f g k own (j.world.inst k)
+        at = j.shown_is.instances k (omega arith) is_taken.receiver
+
+        abbrev notes : List Note
+        notes = (instance_step f own message).notes
+
+        node_is : (before after : List Note) (number i : ℕ) (output : Output) → notes ≡ before ++ note.Processed number i output ∷ after → (S f g).unit_of number ≡ u → Ran_as f laws g own message → k ≡ is_open.e.op.src
+        node_is before after number i output e mine (Unseen none) = absurd (some before after number i output e (ap (none_mine (S f g) ((S f g).unit_of number)) none))
+          where
+            some : (before after : List Note) (number i : ℕ) (output : Output) → notes ≡ before ++ note.Processed number i output ∷ after → none_mine (S f g) ((S f g).unit_of number) (filter_map ran_in notes) ≢ []
+            some before after number i output e = subst (λ ns. none_mine (S f g) ((S f g).unit_of number) (filter_map ran_in ns) ≢ []) (sym e) (some_mine (S f g) before number i output after)
+        node_is before after number i output e mine (Seen a shown_as ran) =
+            let not_first : (k == 0) ≡ false = grind (arith, nat_tests) in
+            let not_second : (k == 1) ≡ false = grind (arith, nat_tests) in
+            let not_input : (p == 0) && (k == 0) ≡ false = grind (arith, nat_tests) in
+            let some : none_mine (S f g) ((S f g).unit_of number) (filter_map ran_in notes) ≢ [] = subst (λ ns. none_mine (S f g) ((S f g).unit_of number) (filter_map ran_in ns) ≢ []) (sym e) (some_mine (S f g) before number i output after) in
+            let follows : filter_map ran_in notes ≡ (inst_step (S f g) (j.world.inst k) a).ran = ran ∙ ap (λ x. (inst_step (S f g) x a).ran) at.outline_is in
+            at_source (S f g) (is_sys f g.site g.packet) j.world op is_open.e is_open.found is_early_there u takes_it _ _ j.shown_is.every route p k a is_taken.rest not_first not_second (is_taken.head not_input a shown_as)
+            (subst (λ x. none_mine (S f g) x (inst_step (S f g) (j.world.inst k) a).ran ≢ []) mine (subst (λ ns. none_mine (S f g) ((S f g).unit_of number) ns ≢ []) follows some))
+
+        one_at : (before after : List Note) (x : Note) → notes ≡ before ++ x ∷ after → Is_at f c items u m.plan.from x
+        one_at before after (note.Processed number i output) e = λ mine.
+            let quiet = each_there_is before after number i output e in
+            let node = node_is before after number i output e mine (ran_as f laws g k own (j.world.inst k) at p y message is_taken.label) in
+            let source = ap (λ o. o.src) is_open.sees.op in
+            let index = at.number in
+            omega (arith, quiet, node, source, index)
+          where
+            each_there_is : (before after : List Note) (number i : ℕ) (output : Output) → notes ≡ before ++ note.Processed number i output ∷ after → i ≡ own.index
+            each_there_is before after number i output e = quiet_there before (subst (λ ns. Each (IsQuiet own.index) ns) e (instance_quiet f own message))
+              where
+                quiet_there : (xs : List Note) → Each (IsQuiet own.index) (xs ++ note.Processed number i output ∷ after) → i ≡ own.index
+                quiet_there [] h = h.0
+                quiet_there (x ∷ xs) h = quiet_there xs h.1
+        one_at before after (note.Arrived number) e = tt
+        one_at before after (note.Begun o) e = tt
+        one_at before after (note.Exported i o us) e = tt
+        one_at before after (note.Imported i o us) e = tt
+        one_at before after (note.Kept i o us) e = tt
+        one_at before after (note.Installed o) e = tt
+        one_at before after (note.Answered o a) e = tt
+
+        instance_at : Are_at f c items u m.plan.from notes
+        instance_at = each_by (Is_at f c items u m.plan.from) [] notes notes refl one_at
+
+    -- an instance's step leaves such units at the source
+    pub instance_leaves : (y p : ℕ) (message : Msg) → IsTaken f g n scene (record { node = suc (suc y); port = p; message = message }) → Leaves f c items m.plan.filter m.plan.from w.log (instance_step f (j.nodes.instance (suc (suc y))) message).notes
+    instance_leaves y p message is_taken u fits taken owned = (
+      owner_stays f c items u w.log _ (installed_quiet (j.nodes.instance (suc (suc y))).index _ (instance_quiet f (j.nodes.instance (suc (suc y))) message)) ∙ owned,
+      instance_at u fits taken owned y p message is_taken,
+    )

@@ -1,0 +1,58 @@
+-- What a command that ended leaves, seen from before its files were bound.
+use Rattle.std.proofs.Common.{◌≡◌, ℕ, List, [], Option, None, Some, refl, ap, sym, ◌∙◌, subst, inl, inr}
+use Rattle.std.specs.Prelude.{option_and_then}
+use Rattle.nf_io.specs.declared.outside.Role.{Role}
+use Rattle.nf_io.specs.declared.outside.Role.TheVariants.{Errors}
+use Rattle.nf_io.specs.Meaning.{Meaning}
+use Rattle.command_words.specs.declared.fault.ArgumentsFault.{ArgumentsFault}
+use Rattle.command_words.specs.declared.fault.ArgumentsFault.TheVariants as words
+use Rattle.command_words.specs.Plan.{Asked, asks_sim, asks_run, asks_audit, asks_check, asks_gen}
+use Rattle.command_words.specs.Views.{Refuses}
+use Rattle.opennf_calls.specs.declared.status.Status.{Status}
+use Rattle.opennf_calls.specs.declared.outcome.Outcome.{Outcome}
+use Rattle.opennf_calls.specs.Command.{file_for}
+use Rattle.opennf_calls.specs.Outcome.{CauseOf, IsBound}
+use Rattle.opennf_calls.specs.Phases.{HasEnded, Performs, SameContents}
+use Rattle.opennf_calls.specs.Status.{words_status}
+use Rattle.opennf_calls.proofs.LastLineLemmas.{bound_before, row_around}
+
+same_meaning : (a b : Meaning) → a.left ≡ b.left → a.written ≡ b.written → a.faults ≡ b.faults → a.name ≡ b.name → a ≡ b
+same_meaning a b left written faults name =
+    subst (λ (l : Option (List ℕ)). a ≡ record { left = l; written = b.written; faults = b.faults; name = b.name }) left
+    (subst (λ (w : Option (List ℕ)). a ≡ record { left = a.left; written = w; faults = b.faults; name = b.name }) written
+    (subst (λ (f : ℕ). a ≡ record { left = a.left; written = a.written; faults = f; name = b.name }) faults
+    (subst (λ (n : Option (List ℕ)). a ≡ record { left = a.left; written = a.written; faults = a.faults; name = n }) name refl)))
+
+-- no file is named for the standard error
+no_file : (asked : Asked) → file_for asked Errors ≡ None
+no_file (asks_sim s schedule) = refl
+no_file (asks_run s) = refl
+no_file (asks_audit s) = refl
+no_file (asks_check c) = refl
+no_file (asks_gen g) = refl
+
+-- a command ended
+pub ended : (plan : Option Asked) (asked : Asked) (before old new : Role → Meaning) (outcome : Outcome) → plan ≡ Some asked
+    → ((role : Role) → (before role).name ≡ None) → SameContents before old → IsBound asked old → Performs asked old new outcome
+    → HasEnded plan before new outcome
+ended plan asked before old new outcome is unnamed contents bound performs = record {
+  cause = subst (λ (p : Option Asked). CauseOf p before new outcome) (sym is)
+      (row_around before old new new (bound_before before old new contents) asked outcome.choices outcome.status performs.row);
+  names = λ role. inr (performs.names role ∙ bound role ∙ ap (λ (p : Option Asked). option_and_then (λ a. file_for a role) p) (sym is));
+  errors = performs.errors ∙ same_meaning (old Errors) (before Errors) (contents.left Errors) (contents.written Errors) (contents.faults Errors)
+      (bound Errors ∙ no_file asked ∙ sym (unnamed Errors));
+}
+
+-- words were refused
+pub refused_words : (plan : Option Asked) (old : Role → Meaning) (fault : ArgumentsFault) (status : Status) (outcome : Outcome) → Refuses fault plan
+    → ((role : Role) → (old role).name ≡ None) → status ≡ words_status fault → outcome ≡ record { status = status; choices = [] } → HasEnded plan old old outcome
+refused_words plan old fault status outcome refuses unnamed is ends =
+    subst (λ (o : Outcome). HasEnded plan old old o) (sym ends)
+    (subst (λ (s : Status). HasEnded plan old old (record { status = s; choices = [] })) (sym is)
+    (record { cause = by fault plan refuses; names = λ role. inl (unnamed role); errors = refl }))
+  where
+    by : (fault : ArgumentsFault) (plan : Option Asked) → Refuses fault plan → CauseOf plan old old (record { status = words_status fault; choices = [] })
+    by words.Usage None refuses = (inl refl, λ role differ. refl, refl)
+    by words.Usage (Some asked) refuses = absurd (cc)
+    by words.NoMemory None refuses = (inr refl, λ role differ. refl, refl)
+    by words.NoMemory (Some asked) refuses = (λ role differ. refl, refl)
