@@ -87,9 +87,9 @@ module _ (before old mid new : Role → Meaning) (around : Around before old mid
             same_written other (not_last asked other result) ∙ row.after other later ∙ around.contents.written other;
         results = with_results asked
             (λ made. (made.choices ≡ choices) × AppendsFront (old role).written (mid role).written (made.texts role)
-                × Gained (λ other. is_result asked other && comes_before other role) made.texts old mid)
+            × Gained (λ other. is_result asked other && comes_before other role) made.texts old mid)
             (λ made. (made.choices ≡ choices) × AppendsFront (before role).written (new role).written (made.texts role)
-                × Gained (λ other. is_result asked other && comes_before other role) made.texts before new)
+            × Gained (λ other. is_result asked other && comes_before other role) made.texts before new)
             (λ made wrote. (
               wrote.0,
               (wrote.1.0, wrote.1.1, appends role _ differ wrote.1.2),

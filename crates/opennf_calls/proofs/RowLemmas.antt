@@ -163,9 +163,12 @@ module _ (asked : Asked) (old mid new : Role → Meaning) (read : OnlyRead old m
   report_written wrote = performs (all_of text) wrote Done (record {
     bound = new_bound (all_of text) wrote;
     others = others (all_of text) wrote;
-    results = with_texts (all_of text) wrote (λ g. (g.choices ≡ choices) × Gained (is_result asked) g.texts old new) (λ g is. (is.is_made, λ other result.
-        subst (λ (o : Role). Appends (old o).written (new o).written (g.texts o)) (sym (only other result))
-        (subst (λ (t : List ℕ). Appends (old Report).written (new Report).written t) (sym is.report) (gained (all_of text) wrote))));
+    results = with_texts (all_of text) wrote (λ g. (g.choices ≡ choices) × Gained (is_result asked) g.texts old new) (λ g is. (
+      is.is_made,
+      λ other result.
+          subst (λ (o : Role). Appends (old o).written (new o).written (g.texts o)) (sym (only other result))
+          (subst (λ (t : List ℕ). Appends (old Report).written (new Report).written t) (sym is.report) (gained (all_of text) wrote)),
+    ));
   })
 
   pub report_failed : Wrote Report mid new (front_of text) → Performs asked old new (record { status = WriteFault Report; choices = choices })

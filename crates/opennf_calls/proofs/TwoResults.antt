@@ -139,12 +139,15 @@ module _ (asked : Asked) (role : Role) (writes : WritesFirst asked role) where
       bound = λ other. names half new file (all_of second) report other ∙ bound other;
       others = others half new file (all_of second) report;
       results = with_texts new (inputs half new file (all_of second) report)
-          (λ g. (g.choices ≡ choices) × Gained (is_result asked) g.texts old new) (λ g is. (is.is_made, λ other result.
-          elim (writes.only other result) [
-            | inl same ↦ subst (λ (r : Role). Appends (old r).written (new r).written (g.texts r)) (sym same) (file_gained half new file (all_of second) report (g.texts role) is.file)
-            | inr same ↦ subst (λ (r : Role). Appends (old r).written (new r).written (g.texts r)) (sym same)
-                (subst (λ (t : List ℕ). Appends (old Report).written (new Report).written t) (sym is.report) (report_gained half new file (all_of second) report))
-          ]));
+          (λ g. (g.choices ≡ choices) × Gained (is_result asked) g.texts old new) (λ g is. (
+            is.is_made,
+            λ other result.
+                elim (writes.only other result) [
+                  | inl same ↦ subst (λ (r : Role). Appends (old r).written (new r).written (g.texts r)) (sym same) (file_gained half new file (all_of second) report (g.texts role) is.file)
+                  | inr same ↦ subst (λ (r : Role). Appends (old r).written (new r).written (g.texts r)) (sym same)
+                      (subst (λ (t : List ℕ). Appends (old Report).written (new Report).written t) (sym is.report) (report_gained half new file (all_of second) report))
+                ],
+          ));
     })
 
     pub second_failed : (half new : Role → Meaning) → Wrote role mid half (all_of first) → Wrote Report half new (front_of second)

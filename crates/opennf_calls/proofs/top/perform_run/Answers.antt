@@ -15,30 +15,30 @@ returns-in-Err g c =
 pub run-requires-clause-runs : goal.run-requires-clause-runs
 run-requires-clause-runs g c =
     let plan : plan_of (map string_bytes c.args.words.now) ≡ Some (asks_run (network_view c.in-Run.asked)) = search rules in
-    run_runs _ _ plan
+    λ lifetimes outlive. run_runs _ _ plan
 
 pub unreachable-requires : goal.unreachable-requires
 unreachable-requires g c =
     let plan : plan_of (map string_bytes c.args.words.now) ≡ Some (asks_sim (network_view c.in-Sim._asked) c.in-Sim._schedule) = search rules in
     let never : false ≡ true = called_run _ _ true plan c.requires.command in cc
 
-pub unreachable-in-Audit-requires : goal.unreachable-in-Audit-requires
-unreachable-in-Audit-requires g c =
+pub unreachable-requires-in-Audit : goal.unreachable-requires-in-Audit
+unreachable-requires-in-Audit g c =
     let plan : plan_of (map string_bytes c.args.words.now) ≡ Some (asks_audit (network_view c.in-Audit._asked)) = search rules in
     let never : false ≡ true = called_run _ _ true plan c.requires.command in cc
 
-pub unreachable-in-Check-requires : goal.unreachable-in-Check-requires
-unreachable-in-Check-requires g c =
+pub unreachable-requires-in-Check : goal.unreachable-requires-in-Check
+unreachable-requires-in-Check g c =
     let plan : plan_of (map string_bytes c.args.words.now) ≡ Some (asks_check (check_view c.in-Check._asked)) = search rules in
     let never : false ≡ true = called_run _ _ true plan c.requires.command in cc
 
-pub unreachable-in-Gen-requires : goal.unreachable-in-Gen-requires
-unreachable-in-Gen-requires g c =
+pub unreachable-requires-in-Gen : goal.unreachable-requires-in-Gen
+unreachable-requires-in-Gen g c =
     let plan : plan_of (map string_bytes c.args.words.now) ≡ Some (asks_gen (gen_view c.in-Gen._asked)) = search rules in
     let never : false ≡ true = called_run _ _ true plan c.requires.command in cc
 
-pub returns-in-Run : goal.returns-in-Run
-returns-in-Run g c =
+pub returns : goal.returns
+returns g c =
     let plan : plan_of (map string_bytes c.args.words.now) ≡ Some (asks_run (network_view c.in-Run.asked)) = search rules in
     ended (plan_of (map string_bytes c.args.words.now)) (asks_run (network_view c.in-Run.asked)) (g.O.Outside.seen c.args.outside.now) (g.O.Outside.seen c.bind_files.new.outside) (g.O.Outside.seen c.run.new.outside)
     c.run.result plan c.requires.unnamed c.bind_files.ensures.contents (search rules) c.run.ensures
