@@ -1,3 +1,4 @@
+pub mod AuditRows
 pub mod BuiltCommands
 pub mod CompleteLemmas
 pub mod EndedCommands

@@ -17,7 +17,7 @@ use Rattle.nf_net.specs.Input.{IsInput}
 use Rattle.run_input.specs.Given.{first_unbuilt}
 use Rattle.actor_net.specs.declared.choice.Choice.{Choice}
 use Rattle.actor_net.specs.declared.schedule.Schedule.{Schedule}
-use Rattle.command_words.specs.Plan.{Asked, NetworkAsked, asks_audit, asks_run, asks_sim}
+use Rattle.command_words.specs.Plan.{Asked, NetworkAsked}
 use Rattle.opennf_calls.specs.declared.status.Status.{Status}
 use Rattle.opennf_calls.specs.declared.status.Status.TheVariants.{BadScript, BadTrace, NoMemory, NotARun, NotBuilt, ReadFault, Unfinished}
 use Rattle.opennf_calls.specs.declared.outcome.Outcome.{Outcome}
@@ -62,12 +62,6 @@ pub record CanRun (s : NetworkAsked) : Type 0 where
   pub limits : length s.instances.limits ≡ length s.instances.names
   pub marked : length s.instances.marked ≡ length s.instances.names
   pub window : (1 ≤ s.window) × (s.window ≤ 4096)
-
--- a command runs the network of these words
-pub data Runs (s : NetworkAsked) : Asked → Type 0 where
-  Simulates : (schedule : Schedule) → Runs s (asks_sim s schedule)
-  Threads : Runs s (asks_run s)
-  Audits : Runs s (asks_audit s)
 
 -- the words' script and capture hold these bytes
 pub record TellsInputs (s : NetworkAsked) (old : Role → Meaning) (bytes : Role → List ℕ) : Type 0 where
