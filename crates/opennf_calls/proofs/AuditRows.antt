@@ -1,5 +1,5 @@
 -- The rows of an audit, which reads a journal behind the script and the capture.
-use Rattle.std.proofs.Common.{◌≡◌, ◌≢◌, ℕ, List, [], true, length, Option, None, Some, is_some, Result, Ok, Err, refl, ap, sym, ◌∙◌, subst, IsTrue}
+use Rattle.std.proofs.Common.{◌≡◌, ℕ, List, [], true, length, Option, None, Some, is_some, Result, Ok, Err, refl, ap, sym, ◌∙◌, subst}
 use Rattle.std.specs.Prelude.{MatchResult}
 use Rattle.nf_io.specs.declared.outside.Role.{Role}
 use Rattle.nf_io.specs.declared.outside.Role.TheVariants.{Trace, Script, JournalIn}
@@ -100,19 +100,22 @@ module _ (s : NetworkAsked) (named : is_some s.journal ≡ true) (given : Given)
     }
 
     no_run_row : (status : Status) → IsRefusedRun s given choices status → RowOf (asks_audit s) old new [] status
-    no_run_row (NotARun step) cause = (record {
-      bound = still_bound old new only (asks_audit s) bound;
-      silent = silent old new only;
-      failed = λ bytes is. record {
-        read = all_read bytes is;
-        sound = sound bytes is;
-        fails = record {
-          choices = choices;
-          told = told_choices bytes is;
-          no_run = record { given = given; is_given = has.is_given bytes (told bytes is); holds = cause };
+    no_run_row (NotARun step) cause = (
+      record {
+        bound = still_bound old new only (asks_audit s) bound;
+        silent = silent old new only;
+        failed = λ bytes is. record {
+          read = all_read bytes is;
+          sound = sound bytes is;
+          fails = record {
+            choices = choices;
+            told = told_choices bytes is;
+            no_run = record { given = given; is_given = has.is_given bytes (told bytes is); holds = cause };
+          };
         };
-      };
-    }, refl)
+      },
+      refl,
+    )
     no_run_row NoMemory cause = (silent old new only, refl)
     no_run_row Done cause = absurd cause
     no_run_row Usage cause = absurd cause

@@ -1,5 +1,5 @@
 -- What a run of the network is given, or why it is given nothing: a script where the words name one, and then a capture.
-use Rattle.std.proofs.Common.{◌≡◌, ◌≢◌, ℕ, List, [], ◌∷◌, map, true, false, Option, None, Some, is_some, is_none, Result, Ok, Err, refl, ap, sym, ◌∙◌, subst, IsTrue}
+use Rattle.std.proofs.Common.{◌≡◌, ℕ, List, [], ◌∷◌, map, true, false, Option, None, Some, is_some, is_none, Ok, Err, refl, ap, ◌∙◌, subst}
 use Rattle.std.specs.Prelude.{option_map}
 use Rattle.std.specs.Borrow.{Bor}
 use Rattle.flow_filter.specs.declared.site.Site.{Site}
@@ -24,9 +24,9 @@ use Rattle.op_script.specs.Reading.{line_view, what_view, order_view, script_of}
 use Rattle.command_words.specs.Plan.{NetworkAsked}
 use Rattle.run_input.specs.Given as input
 use Rattle.opennf_calls.specs.declared.status.Status.{Status}
-use Rattle.opennf_calls.specs.declared.status.Status.TheVariants.{BadScript, NotBuilt}
+use Rattle.opennf_calls.specs.declared.status.Status.TheVariants.{NotBuilt}
 use Rattle.opennf_calls.specs.Outcome.{IsSite, first_refusal, inputs_refusal, run_refusal, trace_refusal}
-use Rattle.opennf_calls.specs.NetworkRuns.{Given, first_unbuilt_line, given_script, unbuilt_what}
+use Rattle.opennf_calls.specs.NetworkRuns.{first_unbuilt_line, given_script, unbuilt_what}
 use Rattle.opennf_calls.specs.Phases.{HasInputs, HasScript, InputsFail, ReadAlone, RefusesInputs, TellsInputs}
 use Rattle.opennf_calls.specs.Status.{script_status, trace_status}
 

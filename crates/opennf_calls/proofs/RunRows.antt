@@ -13,7 +13,7 @@ use Rattle.opennf_calls.specs.declared.network.Made.{Made}
 use Rattle.opennf_calls.specs.Command.{is_input, run_file, with_journal}
 use Rattle.opennf_calls.specs.NetworkRuns.{Given, Gives, HasRun}
 use Rattle.opennf_calls.specs.Outcome.{ForResults, HasInput, IsBound, IsRead, IsRefused, RowOf, first_refusal, inputs_refusal, journal_read, journal_refusal, refusal_of}
-use Rattle.opennf_calls.specs.Phases.{EndsEarly, HasInputs, InputsFail, IsRefusedRun, OnlyRead, ReadToEnd, RefusesInputs, TellsInputs, gives}
+use Rattle.opennf_calls.specs.Phases.{EndsEarly, HasInputs, InputsFail, OnlyRead, ReadToEnd, RefusesInputs, TellsInputs, gives}
 use Rattle.opennf_calls.proofs.RowLemmas.{read_fault, refused, silent, still_bound}
 
 -- the files of a run of the network are inputs, where its journal is written and where it is read
@@ -117,15 +117,18 @@ module _ (s : NetworkAsked) (old new : Role → Meaning) (given : Given) (has : 
     }
 
     early_row : (status : Status) → EndsEarly s given schedule status → RowOf (asks_sim s schedule) old new [] status
-    early_row (Unfinished step) stops = (record {
-      bound = still_bound old new only (asks_sim s schedule) bound;
-      silent = silent old new only;
-      stopped = λ bytes is. let told = tells s (asks_sim s schedule) (sim_reads s schedule) old bytes is in record {
-        read = all_read s new (has.read bytes told);
-        sound = has.sound bytes told;
-        stops = record { given = given; is_given = has.is_given bytes told; holds = stops };
-      };
-    }, refl)
+    early_row (Unfinished step) stops = (
+      record {
+        bound = still_bound old new only (asks_sim s schedule) bound;
+        silent = silent old new only;
+        stopped = λ bytes is. let told = tells s (asks_sim s schedule) (sim_reads s schedule) old bytes is in record {
+          read = all_read s new (has.read bytes told);
+          sound = has.sound bytes told;
+          stops = record { given = given; is_given = has.is_given bytes told; holds = stops };
+        };
+      },
+      refl,
+    )
     early_row NoMemory stops = (silent old new only, refl)
     early_row Done stops = absurd stops
     early_row Usage stops = absurd stops

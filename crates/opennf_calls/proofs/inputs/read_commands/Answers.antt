@@ -1,5 +1,5 @@
 -- The script is the one that is given, or the status has its cause.
-use Rattle.std.proofs.Common.{rules, ◌≡◌, ◌+◌, false, is_none, is_some, [], Some, Ok, Err, take, ap, sym, ◌∙◌, refl, subst}
+use Rattle.std.proofs.Common.{rules, ◌≡◌, ◌+◌, false, is_none, Some, Ok, Err, take, ap, sym, ◌∙◌, subst}
 use Rattle.std.proofs.lemmas.Result.{err_from_is_err_and}
 use Rattle.nf_io.specs.declared.outside.Role.TheVariants.{Script}
 use Rattle.op_script.specs.declared.fault.ScriptFault.{ScriptFault}

@@ -1,5 +1,5 @@
 -- The inputs are those that are given, or the status has its cause.
-use Rattle.std.proofs.Common.{rules, ◌≡◌, None, Some, ap, sym, ◌∙◌, refl}
+use Rattle.std.proofs.Common.{rules, ◌≡◌, None, ap, sym, ◌∙◌, refl}
 use Rattle.std.proofs.lemmas.Result.{err_from_is_err_and}
 use Rattle.command_words.specs.RequestViews.{network_view}
 use Rattle.run_input.specs.Given.{first_unbuilt}
