@@ -1,6 +1,6 @@
 -- The invariant of a world: numbers below the next one, and for every unit where it is. Each step keeps it, and so do begins and ends.
 use Rattle.std.proofs.Common.{◌≡◌, ℕ, suc, ◌<◌, Bool, true, false, Option, Some, None, List, [], ◌∷◌, ◌++◌, map, length, refl, subst, arith}
-use Rattle.std.specs.Prelude.{if◌then◌else◌, ◌&&◌, ◌||◌, ◌==◌, not}
+use Rattle.std.specs.Prelude.{if◌then◌else◌, ◌&&◌, ◌==◌}
 use Rattle.unit_machine.proofs.Machine.{Rule, Free, Drops, Buffers}
 use Rattle.unit_machine.proofs.Real as Real
 use Rattle.unit_machine.proofs.Real.{RPiece, M_enable, M_stream, M_delete, M_put, M_restore, M_enabled, M_event, M_piece, M_deleted, M_put_ok, M_put_no, M_restored, M_fenced, M_forward, M_install, M_fence_to, RPhase, Op, sent_for}
@@ -15,7 +15,7 @@ use Rattle.abstract_net.proofs.Links.{each_after, each_put}
 use Rattle.abstract_net.proofs.RowNumbers.{Of_row, Sent_of, row_numbers}
 use Rattle.abstract_net.proofs.Ctrl.{each_write, each_found}
 use Rattle.abstract_net.proofs.Rest.{Below, Below_num, Global}
-use Rattle.abstract_net.proofs.Units.{Where, May, inst_where, ctrl_where, switch_where, input_where, put_where, begin_where}
+use Rattle.abstract_net.proofs.Units.{Where, May, Hands_on, inst_where, ctrl_where, switch_where, input_where, put_where, begin_where}
 use Rattle.nf_function.specs.declared.unit.Unit as units
 use Rattle.record_table.specs.Table.{same_unit}
 use Rattle.nf_msgs.specs.declared.answer.Answer.{Answer}
@@ -162,12 +162,13 @@ module _ {R : Type 0} (S : Sys R) (laws : IsSys S) where
         unit = λ u. ctrl_where S laws u w (arrived u) (bared u) h.global p m rest waits (h.unit u);
       }
 
-  pub switch_every : (w : World S) (arrived : units.Unit → List ℕ) (bared : units.Unit → Bool) → Every w arrived bared → (p : ℕ) (m : Msg R) (rest : List (Msg R)) → (p == 0) ≡ false → w.link p 0 ≡ m ∷ rest → Every (sw_to w p m) arrived bared
-  switch_every w arrived bared h p m rest p0 waits =
+  -- the switch's step, by what it says of the units that a move without a buffer hands on
+  pub switch_every : (w : World S) (arrived : units.Unit → List ℕ) (bared after : units.Unit → Bool) → Every w arrived bared → (p : ℕ) (m : Msg R) (rest : List (Msg R)) → (p == 0) ≡ false → w.link p 0 ≡ m ∷ rest → ((u : units.Unit) → bared u ≡ true → after u ≡ true) → ((u : units.Unit) → Hands_on S laws u w m (after u)) → Every (sw_to w p m) arrived after
+  switch_every w arrived bared after h p m rest p0 waits grows hands =
       let off : (p == 0) && (0 == 0) ≡ false = rw p0 refl in
       record {
         global = record { messages = each_after (λ _ _ x. Below w.next x) w.link p 0 (sw_sends m) h.global.messages (sw_below w.next m (head_below w p 0 m rest h.global off waits)); rules = h.global.rules; ops = h.global.ops };
-        unit = λ u. switch_where S laws u w (arrived u) (bared u) h.global p m rest p0 waits (h.unit u);
+        unit = λ u. switch_where S laws u w (arrived u) (bared u) (after u) h.global p m rest p0 waits (grows u) (hands u) (h.unit u);
       }
 
   pub input_every : (w : World S) (arrived : units.Unit → List ℕ) (bared : units.Unit → Bool) → Every w arrived bared → (q : ℕ) → Every (in_to w q) (λ u. arrived u ++ (if same_unit (S.unit_of q) u then q ∷ [] else [])) bared
@@ -190,7 +191,7 @@ module _ {R : Type 0} (S : Sys R) (laws : IsSys S) where
   abbrev pub begins : World S → Want → World S
   begins w x = begin_next S w x
 
-  pub begin_every : (w : World S) (arrived : units.Unit → List ℕ) (bared : units.Unit → Bool) → Every w arrived bared → (x : Want) → May S w x → Every (begins w x) arrived (λ u. bared u || (not x.keep && S.takes x.filter u))
+  pub begin_every : (w : World S) (arrived : units.Unit → List ℕ) (bared : units.Unit → Bool) → Every w arrived bared → (x : Want) → May S w x → Every (begins w x) arrived bared
   begin_every w arrived bared h x may = let fresh = may.fresh in record {
     global = record {
       messages = each_put (λ _ _ m. Below (suc x.num) m) w.link 1 (begin_sends x.num x) (λ i j e. each_map (λ m k. more m k) (w.link i j) (h.global.messages i j e)) ((omega arith), tt);

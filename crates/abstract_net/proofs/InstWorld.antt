@@ -10,7 +10,7 @@ use Rattle.unit_machine.proofs.Real.{add, sent_for}
 use Rattle.unit_machine.proofs.Cuts.{some_parts}
 use Rattle.unit_machine.proofs.Pairs.{expect, after_take, a_from_s, a_from_c, b_from_s, b_from_c, c_from_s, nothing_seen, Shown_by, By_sa, By_sb, By_sc, By_ca, By_cb, By_ac, By_bc, By_cc, By_cs, shown_by}
 use Rattle.unit_machine.proofs.Labels.{Each}
-use Rattle.unit_machine.proofs.Seats.{Seat, seat_shape, seat_all, seat_loose, seat_goes_on, seat_allowed, base_of}
+use Rattle.unit_machine.proofs.Seats.{Seat, is_covered, seat_shape, seat_all, seat_loose, seat_goes_on, covered_stays, seat_allowed, base_of}
 use Rattle.unit_machine.proofs.NetViews.{items}
 use Rattle.abstract_net.proofs.Net.{inst_next, Msg, In_packet, Asked, Carry_on, Pass_on, Fence_on, Mv, Sys, IsSys, Inst_n, I_did, says, inst_step, World, links_after, at_node, put, seen, find_op}
 use Rattle.abstract_net.proofs.Holding.{Seeing, EachSent, frame, Label, Sees_node, shows, node_at, done_of, Holds, Ctrl_is}
@@ -32,6 +32,7 @@ module _ {R : Type 0} (S : Sys R) (laws : IsSys S) (z : Seeing) where
     pub seat : Seat S.F
     pub holds : Holds S z w (seat_shape S.F seat)
     pub order : Order (seat_loose seat) (seat_all seat) (seat_all s ++ came)
+    pub covered : is_covered seat ≡ is_covered s
 
   -- labels of what an instance sends
   relabel : (y : ℕ) (xs : List (ℕ × Msg R)) → (y == 0) ≡ false → EachSent (λ j m. Label S z 1 m) xs → EachSent (λ j m. Label S z y m) xs
@@ -48,7 +49,7 @@ module _ {R : Type 0} (S : Sys R) (laws : IsSys S) (z : Seeing) where
 
   -- a move of the machine, once the world shows the state that it leads to
   pub moves_on : (w' : World S) (s : Seat S.F) (mv : Move R) (x' : State R) → Holds S z w' x' → moved S.F (seat_shape S.F s) mv ≡ x' → Allowed (shape S.F (base_of s)) mv → Goes_to w' s (arrived_by mv)
-  moves_on w' s mv x' hx is al = let g = seat_goes_on S.F s mv al in record { seat = g.0; holds = subst (λ v. Holds S z w' v) (sym is ∙ g.1) hx; order = g.2 }
+  moves_on w' s mv x' hx is al = let g = seat_goes_on S.F s mv al in record { seat = g.0; holds = subst (λ v. Holds S z w' v) (sym is ∙ g.1) hx; order = g.2; covered = covered_stays S.F s mv al }
 
   pub same_order : (b : Bool) (ys : List ℕ) → Order b ys (ys ++ [])
   same_order true ys = λ q. ap (λ v. Rattle.unit_machine.proofs.Stages.times q v) (sym (append-nil ys))
@@ -126,6 +127,7 @@ module _ {R : Type 0} (S : Sys R) (laws : IsSys S) (z : Seeing) where
           seat = s;
           holds = next_holds x (did_sends (node_at S z x y) []) g (λ i j. view_none S z w.link p y m rest waits no_input did.sends none i j ∙ ap (λ v. v ++ (if i == y then sent S z y did.sends j else [])) (h.views i j) ∙ nothing_seen z.op.src z.op.dst z.third x i j y (sent S z y did.sends) (λ j. sent_none g j)) refl (λ k e. refl) refl refl refl refl (sym (append-nil x.done));
           order = same_order (seat_loose s) (seat_all s);
+          covered = refl;
         }
       where
         quiet_of : (o : Option (Item R)) → Moves_inst S laws z num At_a i (node_at S z x y) here did o → o ≡ None → Inst_goes S laws z num did (did_sends (node_at S z x y) [])

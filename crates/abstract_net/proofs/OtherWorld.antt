@@ -107,6 +107,7 @@ module _ {R : Type 0} (S : Sys R) (laws : IsSys S) (z : Seeing) where
           seat = s;
           holds = next_holds x (goes x.phase x.store) g (λ i j. view_none S z w.link p 1 m rest waits no_input c.sends none i j ∙ ap (λ v. v ++ (if i == 1 then sent S z 1 c.sends j else [])) (h.views i j) ∙ nothing_seen z.op.src z.op.dst z.third x i j 1 (sent S z 1 c.sends) (λ j. all_none g j)) (λ k. refl) refl refl refl refl refl;
           order = same_order S laws z (seat_loose s) (seat_all s);
+          covered = refl;
         }
       where
         all_none : Ctrl_does S z w.ops x h.apart h.ops h.ctrl c (goes x.phase x.store) → (j : ℕ) → its (sent_for j c.sends) ≡ []

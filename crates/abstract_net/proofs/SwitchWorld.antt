@@ -64,6 +64,7 @@ module _ {R : Type 0} (S : Sys R) (laws : IsSys S) (z : Seeing) where
       seat = s;
       holds = next_holds x (λ i j. view_none S z w.link p 0 m rest waits no_input (sw_sends m) none i j ∙ ap (λ v. v ++ (if i == 0 then sent S z 0 (sw_sends m) j else [])) (h.views i j) ∙ nothing_seen z.op.src z.op.dst z.third x i j 0 (sent S z 0 (sw_sends m)) un) (λ k. refl) (target ∙ h.target) refl refl refl refl;
       order = same_order S laws z (seat_loose s) (seat_all s);
+      covered = refl;
     }
 
     module _ (it : Item R) (is : seen (frame S z) m ≡ Some it) where
@@ -268,5 +269,5 @@ module _ {R : Type 0} (S : Sys R) (laws : IsSys S) (z : Seeing) where
   pub input_holds : (w : World S) (s : Seat S.F) → Holds S z w (seat_shape S.F s) → (q : ℕ) → Goes_to S laws z (in_next S w q) s (came q)
   input_holds w s h q = elim (same_unit (S.unit_of q) z.unit) as (λ b. (same_unit (S.unit_of q) z.unit) ≡ b → Goes_to S laws z (in_next S w q) s (if b then q ∷ [] else [])) [
     | true ↦ λ ours. arrive_at w s h q ours
-    | false ↦ λ off. record { seat = s; holds = put_unseen S laws z w (seat_shape S.F s) h 0 ((w.target (S.unit_of q), Carry_on q) ∷ []) (one_unseen S laws z 0 (w.target (S.unit_of q)) (Carry_on q) (rw off refl)) (tt, tt); order = same_order S laws z (seat_loose s) (seat_all s) }
+    | false ↦ λ off. record { seat = s; holds = put_unseen S laws z w (seat_shape S.F s) h 0 ((w.target (S.unit_of q), Carry_on q) ∷ []) (one_unseen S laws z 0 (w.target (S.unit_of q)) (Carry_on q) (rw off refl)) (tt, tt); order = same_order S laws z (seat_loose s) (seat_all s); covered = refl }
   ] refl

@@ -1,21 +1,21 @@
 -- Each node's step and each begin of a move leaves a unit at rest or in a move, with all its packets that arrived.
 use Rattle.std.proofs.Common.{◌≡◌, ◌≢◌, ℕ, suc, ◌+◌, ◌≤◌, ◌<◌, Bool, true, false, Option, Some, None, List, [], ◌∷◌, ◌++◌, map, refl, sym, ap, ◌∙◌, subst, append-nil, arith}
-use Rattle.std.specs.Prelude.{if◌then◌else◌, ◌&&◌, ◌||◌, ◌==◌, not}
+use Rattle.std.specs.Prelude.{if◌then◌else◌, ◌&&◌, ◌||◌, ◌==◌}
 use Rattle.std.proofs.lemmas.Bool.Decides.{nat_tests, Decides-eqb}
 use Rattle.unit_machine.proofs.Machine.{Where as Side, At_a, At_b, At_c, Ran, Steps, after, Drops, Item, Enable, State, Phase, Idle, Freezing, Move, Begin, moved}
 use Rattle.unit_machine.proofs.Lists.{firsts}
 use Rattle.unit_machine.proofs.Stages.{Stage, Turned_loose, Fenced_loose, Ending_loose, Fence_loose, shape, loose, times, Order}
 use Rattle.unit_machine.proofs.Loose.{times-append}
 use Rattle.unit_machine.proofs.Ends.{same_of}
-use Rattle.unit_machine.proofs.Real.{M_enable, Op, sent_for}
+use Rattle.unit_machine.proofs.Real.{M_enable, M_install, Op, sent_for}
 use Rattle.unit_machine.proofs.Seen.{Apart}
 use Rattle.unit_machine.proofs.Labels.{Each, each-append}
 use Rattle.unit_machine.proofs.Pairs.{Nodes, expect}
 use Rattle.unit_machine.proofs.Rests.{is_over}
 use Rattle.unit_machine.proofs.Between.{At_rest_now, Rests_at, seat_ends, rest_at, seat_at, seat_begins}
-use Rattle.unit_machine.proofs.Seats.{Seat, Covered, Is_beside, Is_away, seat_shape, seat_all, seat_loose}
+use Rattle.unit_machine.proofs.Seats.{Seat, Covered, Is_beside, Is_away, is_covered, seat_shape, seat_all, seat_loose}
 use Rattle.flow_filter.specs.declared.filter.Filter.{Filter}
-use Rattle.abstract_net.proofs.Net.{inst_next, ctrl_next, sw_next, in_next, begin_next, Msg, Mv, Want, Sys, IsSys, Open, find_op, meets_any, new_op, begin_sends, World, seen}
+use Rattle.abstract_net.proofs.Net.{inst_next, ctrl_next, sw_next, in_next, begin_next, sw_target, Msg, In_packet, Asked, Carry_on, Pass_on, Fence_on, Mv, Want, Sys, IsSys, Open, find_op, meets_any, new_op, begin_sends, World, seen}
 use Rattle.abstract_net.proofs.Holding.{Seeing, frame, Label, Op_label, place, Ctrl_is, Holds}
 use Rattle.abstract_net.proofs.Links.{sent, view_put, each_put}
 use Rattle.abstract_net.proofs.Ctrl.{each_found}
@@ -47,10 +47,14 @@ module _ {R : Type 0} (S : Sys R) (laws : IsSys S) (u : units.Unit) where
   abbrev pub see : Op → ℕ → Seeing
   see o c = record { unit = u; op = o; third = c }
 
-  -- with all its packets that have arrived; the flag b says whether it was ever loose, c whether a move without a buffer ever took it
+  -- a move without a buffer that covers the unit has handed it on only where the flag says so
+  abbrev pub Flagged : World S → Op → Seat S.F → Bool → Type 0
+  Flagged w o s c = is_covered s ≡ true → o.keep ≡ false → w.target u ≡ o.dst → c ≡ true
+
+  -- with all its packets that have arrived; the flag b says whether it was ever loose, c whether a move without a buffer ever handed it on
   pub data Where (w : World S) (ps : List ℕ) (c : Bool) : Type 0 where
     At_rest : (owner : ℕ) (d : List Ran) (l : List ℕ) (b : Bool) → Rest S u w owner d l → Order b (firsts d ++ l) ps → (b ≡ true → c ≡ true) → Where w ps c
-    In_move : (o : Op) (third : ℕ) (e : Open R) (s : Seat S.F) (b : Bool) → find_op w.ops o.num ≡ Some e → Holds S (see o third) w (seat_shape S.F s) → Order b (seat_all s) ps → (b ≡ true → c ≡ true) → (o.keep ≡ false → c ≡ true) → Where w ps c
+    In_move : (o : Op) (third : ℕ) (e : Open R) (s : Seat S.F) (b : Bool) → find_op w.ops o.num ≡ Some e → Holds S (see o third) w (seat_shape S.F s) → Order b (seat_all s) ps → (b ≡ true → c ≡ true) → Flagged w o s c → Where w ps c
 
   -- in either case a seat shows it, open or not
   pub record Shown (w : World S) (ps : List ℕ) (c : Bool) : Type 0 where
@@ -61,7 +65,7 @@ module _ {R : Type 0} (S : Sys R) (laws : IsSys S) (u : units.Unit) where
     pub holds : Holds S (see op third) w (seat_shape S.F seat)
     pub order : Order flag (seat_all seat) ps
     pub flag_is : flag ≡ true → c ≡ true
-    pub keep_is : op.keep ≡ false → c ≡ true
+    pub handed : Flagged w op seat c
 
   -- back: the move is open, or has ended
   pub settle : (w : World S) (ps : List ℕ) (c : Bool) → Shown w ps c → Where w ps c
@@ -72,7 +76,7 @@ module _ {R : Type 0} (S : Sys R) (laws : IsSys S) (u : units.Unit) where
 
       by_op : (f : Option (Open R)) → find_op w.ops h.op.num ≡ f → Where w ps c
       by_op None none = ended none (seat_ends S.F h.seat (subst (λ f. Ctrl_is S (see h.op h.third) f (seat_shape S.F h.seat)) none h.holds.ctrl))
-      by_op (Some e) there = In_move h.op h.third e h.seat h.flag there h.holds h.order h.flag_is h.keep_is
+      by_op (Some e) there = In_move h.op h.third e h.seat h.flag there h.holds h.order h.flag_is h.handed
 
   self : (k : ℕ) → (k == k) ≡ true
   self k = grind (arith, nat_tests)
@@ -98,19 +102,19 @@ module _ {R : Type 0} (S : Sys R) (laws : IsSys S) (u : units.Unit) where
       rest_holds S (see (record { num = n; src = owner; dst = suc owner; keep = true }) (suc (suc owner))) w g new (apart_of n owner (suc owner) true two (omega (arith, two)) (grind (arith, nat_tests))) (record { a_is = two; b_is = omega (arith, two); c_is = omega (arith, two); ab = grind (arith, nat_tests); ac = grind (arith, nat_tests); bc = grind (arith, nat_tests) }) At_a d l true h
 
   pub shown : (w : World S) (ps : List ℕ) (c : Bool) → Global S w → Where w ps c → Shown w ps c
-  shown w ps c g (At_rest owner d l b h o f) = record { op = record { num = w.next; src = owner; dst = suc owner; keep = true }; third = suc (suc owner); seat = seat_at S.F At_a d l true; flag = b; holds = shown_rest w w.next owner d l g (omega arith) h; order = o; flag_is = f; keep_is = λ e. let never : true ≡ false = e in cc }
-  shown w ps c g (In_move op third e s b there h o f k) = record { op = op; third = third; seat = s; flag = b; holds = h; order = o; flag_is = f; keep_is = k }
+  shown w ps c g (At_rest owner d l b h o f) = record { op = record { num = w.next; src = owner; dst = suc owner; keep = true }; third = suc (suc owner); seat = seat_at S.F At_a d l true; flag = b; holds = shown_rest w w.next owner d l g (omega arith) h; order = o; flag_is = f; handed = λ _ e. let never : true ≡ false = e in cc }
+  shown w ps c g (In_move op third e s b there h o f k) = record { op = op; third = third; seat = s; flag = b; holds = h; order = o; flag_is = f; handed = k }
 
-  -- a loose seat is that of an open move without a buffer
-  loose_stage : (s : Stage S.F) → loose s ≡ true → ((shape S.F s).keep ≡ false) × (is_over (shape S.F s).phase ≡ false)
-  loose_stage (Turned_loose d x f e l) h = (refl, refl)
-  loose_stage (Fenced_loose d x f e) h = (refl, refl)
-  loose_stage (Ending_loose d x f) h = (refl, refl)
-  loose_stage (Fence_loose d x n) h = (refl, refl)
+  -- a loose seat is that of an open move without a buffer that has handed the unit on
+  loose_stage : (s : Stage S.F) → loose s ≡ true → ((shape S.F s).keep ≡ false) × (is_over (shape S.F s).phase ≡ false) × ((shape S.F s).target ≡ At_b)
+  loose_stage (Turned_loose d x f e l) h = (refl, refl, refl)
+  loose_stage (Fenced_loose d x f e) h = (refl, refl, refl)
+  loose_stage (Ending_loose d x f) h = (refl, refl, refl)
+  loose_stage (Fence_loose d x n) h = (refl, refl, refl)
   loose_stage s h = let never : false ≡ true = h in cc
 
-  loose_seat : (s : Seat S.F) → seat_loose s ≡ true → ((seat_shape S.F s).keep ≡ false) × (is_over (seat_shape S.F s).phase ≡ false)
-  loose_seat (Covered s) h = loose_stage s h
+  loose_seat : (s : Seat S.F) → seat_loose s ≡ true → (is_covered s ≡ true) × ((seat_shape S.F s).keep ≡ false) × (is_over (seat_shape S.F s).phase ≡ false) × ((seat_shape S.F s).target ≡ At_b)
+  loose_seat (Covered s) h = let k = loose_stage s h in (refl, k.0, k.1, k.2)
   loose_seat (Is_beside s) h = let never : false ≡ true = h in cc
   loose_seat (Is_away s) h = let never : false ≡ true = h in cc
 
@@ -122,39 +126,80 @@ module _ {R : Type 0} (S : Sys R) (laws : IsSys S) (u : units.Unit) where
   either true b c e f g = f refl
   either false b c e f g = g e
 
-  pub goes_on : (w w' : World S) (ps came : List ℕ) (c : Bool) (h : Shown w ps c) → Goes_to S laws (see h.op h.third) w' h.seat came → Where w' (ps ++ came) c
-  goes_on w w' ps came c h g = settle w' (ps ++ came) c (record {
+  -- where a loose seat is found, its flag says so
+  loose_flag : (w : World S) (o : Op) (third : ℕ) (s : Seat S.F) (c : Bool) → Holds S (see o third) w (seat_shape S.F s) → Flagged w o s c → seat_loose s ≡ true → c ≡ true
+  loose_flag w o third s c h handed l = let k = loose_seat s l in handed k.0 (loose_keep o third (seat_shape S.F s) (find_op w.ops o.num) h.ctrl k.1 k.2) (h.target ∙ ap (place S (see o third)) k.3)
+
+  -- the flag may turn true on the way
+  pub goes_on : (w w' : World S) (ps came : List ℕ) (c d : Bool) (h : Shown w ps c) → (c ≡ true → d ≡ true) → Flagged w' h.op h.seat d → Goes_to S laws (see h.op h.third) w' h.seat came → Where w' (ps ++ came) d
+  goes_on w w' ps came c d h grows handed g = settle w' (ps ++ came) d (record {
     op = h.op;
     third = h.third;
     seat = g.seat;
     flag = h.flag || seat_loose g.seat;
     holds = g.holds;
     order = order_join h.flag (seat_loose g.seat) (seat_all h.seat) ps (seat_all g.seat) came h.order g.order;
-    flag_is = λ e. either h.flag (seat_loose g.seat) c e h.flag_is (λ l. let k = loose_seat g.seat l in h.keep_is (loose_keep h.op h.third (seat_shape S.F g.seat) (find_op w'.ops h.op.num) g.holds.ctrl k.0 k.1));
-    keep_is = h.keep_is;
+    flag_is = λ e. either h.flag (seat_loose g.seat) d e (λ q. grows (h.flag_is q)) (loose_flag w' h.op h.third g.seat d g.holds after);
+    handed = after;
   })
+    where
+      after : Flagged w' h.op g.seat d
+      after on = handed (sym g.covered ∙ on)
 
   stays : (w : World S) (ps : List ℕ) (c : Bool) → Where w (ps ++ []) c → Where w ps c
   stays w ps c h = subst (λ v. Where w v c) (append-nil ps) h
 
   pub inst_where : (w : World S) (ps : List ℕ) (c : Bool) → Global S w → (p y : ℕ) (m : Msg R) (rest : List (Msg R)) → (y == 0) ≡ false → (y == 1) ≡ false → w.link p y ≡ m ∷ rest → Where w ps c → Where (inst_next S w p y m) ps c
-  inst_where w ps c g p y m rest y0 y1 waits h = let k = shown w ps c g h in stays (inst_next S w p y m) ps c (goes_on w (inst_next S w p y m) ps [] c k (inst_holds S laws (see k.op k.third) w k.seat k.holds p y m rest y0 y1 waits))
+  inst_where w ps c g p y m rest y0 y1 waits h = let k = shown w ps c g h in stays (inst_next S w p y m) ps c (goes_on w (inst_next S w p y m) ps [] c c k (λ e. e) k.handed (inst_holds S laws (see k.op k.third) w k.seat k.holds p y m rest y0 y1 waits))
 
   pub ctrl_where : (w : World S) (ps : List ℕ) (c : Bool) → Global S w → (p : ℕ) (m : Msg R) (rest : List (Msg R)) → w.link p 1 ≡ m ∷ rest → Where w ps c → Where (ctrl_next S w p m) ps c
-  ctrl_where w ps c g p m rest waits h = let k = shown w ps c g h in stays (ctrl_next S w p m) ps c (goes_on w (ctrl_next S w p m) ps [] c k (ctrl_holds S laws (see k.op k.third) w k.seat k.holds p m rest waits))
+  ctrl_where w ps c g p m rest waits h = let k = shown w ps c g h in stays (ctrl_next S w p m) ps c (goes_on w (ctrl_next S w p m) ps [] c c k (λ e. e) k.handed (ctrl_holds S laws (see k.op k.third) w k.seat k.holds p m rest waits))
 
-  pub switch_where : (w : World S) (ps : List ℕ) (c : Bool) → Global S w → (p : ℕ) (m : Msg R) (rest : List (Msg R)) → (p == 0) ≡ false → w.link p 0 ≡ m ∷ rest → Where w ps c → Where (sw_next S w p m) ps c
-  switch_where w ps c g p m rest p0 waits h = let k = shown w ps c g h in stays (sw_next S w p m) ps c (goes_on w (sw_next S w p m) ps [] c k (switch_holds S laws (see k.op k.third) w k.seat k.holds p m rest p0 waits))
+  -- the switch changes the flag where it takes the message by which a move without a buffer hands the unit on
+  abbrev pub Hands_on : World S → Msg R → Bool → Type 0
+  Hands_on w m d = (f : Filter) (n from to : ℕ) (e : Open R) → m ≡ Mv f (M_install n from to) → find_op w.ops n ≡ Some e → e.op.keep ≡ false → S.takes f u ≡ true → w.target u ≡ from → d ≡ true
+
+  -- a target that isn't changed is what it was
+  install_flag : (w : World S) (d : Bool) (o : Op) (e : Open R) (s : Seat S.F) (f : Filter) (n from to : ℕ) → find_op w.ops o.num ≡ Some e → e.op.keep ≡ o.keep → S.takes f u ≡ (n == o.num) → Hands_on w (Mv f (M_install n from to)) d → Flagged w o s d → is_covered s ≡ true → o.keep ≡ false → (b k : Bool) → S.takes f u ≡ b → (w.target u == from) ≡ k → (if b && k then to else w.target u) ≡ o.dst → d ≡ true
+  install_flag w d o e s f n from to there keep lab hands old on plain true true t at is =
+      let same : n ≡ o.num = (Decides-eqb n o.num).0 (sym lab ∙ t) in
+      hands f n from to e refl (subst (λ k. find_op w.ops k ≡ Some e) (sym same) there) (keep ∙ plain) t ((Decides-eqb (w.target u) from).0 at)
+  install_flag w d o e s f n from to there keep lab hands old on plain true false t at is = old on plain is
+  install_flag w d o e s f n from to there keep lab hands old on plain false k t at is = old on plain is
+
+  switch_flag : (w : World S) (ps : List ℕ) (c d : Bool) (g : Global S w) (p : ℕ) (m : Msg R) (rest : List (Msg R)) → (p == 0) ≡ false → w.link p 0 ≡ m ∷ rest → (c ≡ true → d ≡ true) → Hands_on w m d → (h : Where w ps c) → Flagged (sw_next S w p m) (shown w ps c g h).op (shown w ps c g h).seat d
+  unfolding shown
+  switch_flag w ps c d g p m rest p0 waits grows hands (At_rest owner l q b h o f) on plain is = let never : true ≡ false = plain in cc
+  switch_flag w ps c d g p m rest p0 waits grows hands (In_move op third e s b there h o f old) on plain is =
+      by_msg m ((subst (λ ms. Each (Label S (see op third) p) ms) waits (h.labels p 0 (rw p0 refl))).0) hands is
+    where
+      before : Flagged w op s d
+      before a k at = grows (old a k at)
+
+      keep : e.op.keep ≡ op.keep
+      keep = ap (λ x. x.keep) (subst (λ x. Ctrl_is S (see op third) x (seat_shape S.F s)) there h.ctrl).0
+
+      by_msg : (m : Msg R) → Label S (see op third) p m → Hands_on w m d → sw_target S w.target m u ≡ op.dst → d ≡ true
+      by_msg (Mv x (M_install n from to)) lab hands at = install_flag w d op e s x n from to there keep lab.1 hands before on plain (S.takes x u) (w.target u == from) refl refl at
+      by_msg (Mv x m) lab hands at = before on plain at
+      by_msg (In_packet q) lab hands at = before on plain at
+      by_msg (Asked x) lab hands at = before on plain at
+      by_msg (Carry_on q) lab hands at = before on plain at
+      by_msg (Pass_on q) lab hands at = before on plain at
+      by_msg (Fence_on q) lab hands at = before on plain at
+
+  pub switch_where : (w : World S) (ps : List ℕ) (c d : Bool) → Global S w → (p : ℕ) (m : Msg R) (rest : List (Msg R)) → (p == 0) ≡ false → w.link p 0 ≡ m ∷ rest → (c ≡ true → d ≡ true) → Hands_on w m d → Where w ps c → Where (sw_next S w p m) ps d
+  switch_where w ps c d g p m rest p0 waits grows hands h = let k = shown w ps c g h in stays (sw_next S w p m) ps d (goes_on w (sw_next S w p m) ps [] c d k grows (switch_flag w ps c d g p m rest p0 waits grows hands h) (switch_holds S laws (see k.op k.third) w k.seat k.holds p m rest p0 waits))
 
   pub input_where : (w : World S) (ps : List ℕ) (c : Bool) → Global S w → (q : ℕ) → Where w ps c → Where (in_next S w q) (ps ++ (if same_unit (S.unit_of q) u then q ∷ [] else [])) c
-  input_where w ps c g q h = let k = shown w ps c g h in goes_on w (in_next S w q) ps (if same_unit (S.unit_of q) u then q ∷ [] else []) c k (input_holds S laws (see k.op k.third) w k.seat k.holds q)
+  input_where w ps c g q h = let k = shown w ps c g h in goes_on w (in_next S w q) ps (if same_unit (S.unit_of q) u then q ∷ [] else []) c c k (λ e. e) k.handed (input_holds S laws (see k.op k.third) w k.seat k.holds q)
 
   -- a message that nobody sees is put on a node's link
   pub put_where : (w : World S) (ps : List ℕ) (c : Bool) → Global S w → (y r : ℕ) (m : Msg R) → ((z : Seeing) → seen (frame S z) m ≡ None) → ((z : Seeing) → Label S z y m) → Where w ps c → Where (record w { link = λ i j. w.link i j ++ (if i == y then sent_for j ((r, m) ∷ []) else []) }) ps c
   put_where w ps c g y r m none lab h =
       let k = shown w ps c g h in
       let z = see k.op k.third in
-      settle (record w { link = λ i j. w.link i j ++ (if i == y then sent_for j ((r, m) ∷ []) else []) }) ps c (record { op = k.op; third = k.third; seat = k.seat; flag = k.flag; holds = put_unseen S laws z w (seat_shape S.F k.seat) k.holds y ((r, m) ∷ []) (one_unseen S laws z y r m (none z)) (lab z, tt); order = k.order; flag_is = k.flag_is; keep_is = k.keep_is })
+      settle (record w { link = λ i j. w.link i j ++ (if i == y then sent_for j ((r, m) ∷ []) else []) }) ps c (record { op = k.op; third = k.third; seat = k.seat; flag = k.flag; holds = put_unseen S laws z w (seat_shape S.F k.seat) k.holds y ((r, m) ∷ []) (one_unseen S laws z y r m (none z)) (lab z, tt); order = k.order; flag_is = k.flag_is; handed = k.handed })
 
   -- A move begins.
   find_old : (es : List (Open R)) (x : Open R) (n : ℕ) → (x.op.num == n) ≡ false → find_op (es ++ x ∷ []) n ≡ find_op es n
@@ -239,8 +284,8 @@ module _ {R : Type 0} (S : Sys R) (laws : IsSys S) (u : units.Unit) where
   begun_rest At_c d l k = refl
 
   -- a unit at rest that the filter takes: covered, beside or away
-  takes_seat : (w : World S) (ps : List ℕ) (c : Bool) (x : Want) (side : Side) (third : ℕ) (d : List Ran) (l : List ℕ) (b : Bool) → Global S w → May S w x → S.takes x.filter u ≡ true → Nodes x.src x.dst third → Rest S u w (place S (see (new_op {R = R} x.num x).op third) side) d l → Order b (firsts d ++ l) ps → (b ≡ true → c ≡ true) → (x.keep ≡ false → c ≡ true) → Where (begin_next S w x) ps c
-  takes_seat w ps c x side third d l b g may takes nodes h o f fk =
+  takes_seat : (w : World S) (ps : List ℕ) (c : Bool) (x : Want) (side : Side) (third : ℕ) (d : List Ran) (l : List ℕ) (b : Bool) → Global S w → May S w x → S.takes x.filter u ≡ true → Nodes x.src x.dst third → Rest S u w (place S (see (new_op {R = R} x.num x).op third) side) d l → Order b (firsts d ++ l) ps → (b ≡ true → c ≡ true) → Where (begin_next S w x) ps c
+  takes_seat w ps c x side third d l b g may takes nodes h o f =
       let z = see (new_op {R = R} x.num x).op third in
       let apart = apart_of x.num x.src x.dst x.keep may.src may.dst may.other in
       let v = rest_at S.F side d l Idle x.keep in
@@ -249,32 +294,28 @@ module _ {R : Type 0} (S : Sys R) (laws : IsSys S) (u : units.Unit) where
       let at = covered_begins third w x v g may.fresh takes facts.0 facts.1 apart (rest_holds S z w g may.fresh apart nodes side d l x.keep h) in
       let goes = moves_on S laws z (begin_next S w x) s (Begin x.keep) (record v { phase = Freezing; keep = x.keep; ca = v.ca ++ Enable Drops ∷ [] }) at (ap (λ q. moved S.F q (Begin x.keep)) (seat_begins S.F side d l x.keep) ∙ begun_rest side d l x.keep) tt in
       let all : Order b (seat_all s) ps = order_same b (firsts d ++ l) ps (seat_all s) (sym (all_at_rest side d l x.keep)) o in
-      stays (begin_next S w x) ps c (settle (begin_next S w x) (ps ++ []) c (record { op = z.op; third = third; seat = goes.seat; flag = b || seat_loose goes.seat; holds = goes.holds; order = order_join b (seat_loose goes.seat) (seat_all s) ps (seat_all goes.seat) [] all goes.order; flag_is = λ e. either b (seat_loose goes.seat) c e f (λ q. let k = loose_seat goes.seat q in fk (loose_keep z.op third (seat_shape S.F goes.seat) (find_op (begin_next S w x).ops z.op.num) goes.holds.ctrl k.0 k.1)); keep_is = fk }))
+      stays (begin_next S w x) ps c (settle (begin_next S w x) (ps ++ []) c (record { op = z.op; third = third; seat = goes.seat; flag = b || seat_loose goes.seat; holds = goes.holds; order = order_join b (seat_loose goes.seat) (seat_all s) ps (seat_all goes.seat) [] all goes.order; flag_is = λ e. either b (seat_loose goes.seat) c e f (loose_flag (begin_next S w x) z.op third goes.seat c goes.holds (flagged goes.seat goes.covered)); handed = flagged goes.seat goes.covered }))
+    where
+      -- a unit that the new move covers is still at the source
+      at_source : (side : Side) → is_covered (seat_at S.F side d l x.keep) ≡ true → place S (see (new_op {R = R} x.num x).op third) side ≡ x.src
+      at_source At_a e = refl
+      at_source At_b e = let never : false ≡ true = e in cc
+      at_source At_c e = let never : false ≡ true = e in cc
+
+      flagged : (t : Seat S.F) → is_covered t ≡ is_covered (seat_at S.F side d l x.keep) → Flagged (begin_next S w x) (new_op {R = R} x.num x).op t c
+      flagged t same on plain at = absurd (may.other (sym (at_source side (sym same ∙ on)) ∙ sym h.target ∙ at))
 
   third_of : (a b : ℕ) → 2 ≤ a → 2 ≤ b → a ≢ b → Nodes a b (a + b)
   third_of a b two_a two_b ab = record { a_is = two_a; b_is = two_b; c_is = omega (arith, two_a); ab = ab; ac = (λ e. let never : ⊥ = omega (arith, two_b, e) in absurd never); bc = (λ e. let never : ⊥ = omega (arith, two_a, e) in absurd never) }
 
-  or_left : (a b : Bool) → a ≡ true → a || b ≡ true
-  or_left a b e = rw e refl
-
-  or_right : (a b : Bool) → b ≡ true → a || b ≡ true
-  or_right true b e = refl
-  or_right false b e = e
-
-  abbrev pub bares : Want → Bool
-  bares x = not x.keep && S.takes x.filter u
-
-  bare_is : (x : Want) → S.takes x.filter u ≡ true → x.keep ≡ false → bares x ≡ true
-  bare_is x t k = rw (k, t) refl
-
-  pub begin_where : (w : World S) (ps : List ℕ) (c : Bool) (x : Want) → Global S w → May S w x → Where w ps c → Where (begin_next S w x) ps (c || bares x)
+  pub begin_where : (w : World S) (ps : List ℕ) (c : Bool) (x : Want) → Global S w → May S w x → Where w ps c → Where (begin_next S w x) ps c
   begin_where w ps c x g may (At_rest owner d l b h o f) =
-      elim (S.takes x.filter u) as (λ t. S.takes x.filter u ≡ t → Where (begin_next S w x) ps (c || bares x)) [
-        | true ↦ λ takes. elim (owner == x.src) as (λ t. (owner == x.src) ≡ t → Where (begin_next S w x) ps (c || bares x)) [
-          | true ↦ λ e. takes_seat w ps (c || bares x) x At_a (x.src + x.dst) d l b g may takes (third_of x.src x.dst may.src may.dst may.other) (subst (λ k. Rest S u w k d l) ((Decides-eqb owner x.src).0 e) h) o (λ q. or_left c (bares x) (f q)) (λ q. or_right c (bares x) (bare_is x takes q))
-          | false ↦ λ na. elim (owner == x.dst) as (λ t. (owner == x.dst) ≡ t → Where (begin_next S w x) ps (c || bares x)) [
-            | true ↦ λ e. takes_seat w ps (c || bares x) x At_b (x.src + x.dst) d l b g may takes (third_of x.src x.dst may.src may.dst may.other) (subst (λ k. Rest S u w k d l) ((Decides-eqb owner x.dst).0 e) h) o (λ q. or_left c (bares x) (f q)) (λ q. or_right c (bares x) (bare_is x takes q))
-            | false ↦ λ nb. takes_seat w ps (c || bares x) x At_c owner d l b g may takes (record { a_is = may.src; b_is = may.dst; c_is = h.two; ab = may.other; ac = grind (arith, nat_tests); bc = grind (arith, nat_tests) }) h o (λ q. or_left c (bares x) (f q)) (λ q. or_right c (bares x) (bare_is x takes q))
+      elim (S.takes x.filter u) as (λ t. S.takes x.filter u ≡ t → Where (begin_next S w x) ps c) [
+        | true ↦ λ takes. elim (owner == x.src) as (λ t. (owner == x.src) ≡ t → Where (begin_next S w x) ps c) [
+          | true ↦ λ e. takes_seat w ps c x At_a (x.src + x.dst) d l b g may takes (third_of x.src x.dst may.src may.dst may.other) (subst (λ k. Rest S u w k d l) ((Decides-eqb owner x.src).0 e) h) o f
+          | false ↦ λ na. elim (owner == x.dst) as (λ t. (owner == x.dst) ≡ t → Where (begin_next S w x) ps c) [
+            | true ↦ λ e. takes_seat w ps c x At_b (x.src + x.dst) d l b g may takes (third_of x.src x.dst may.src may.dst may.other) (subst (λ k. Rest S u w k d l) ((Decides-eqb owner x.dst).0 e) h) o f
+            | false ↦ λ nb. takes_seat w ps c x At_c owner d l b g may takes (record { a_is = may.src; b_is = may.dst; c_is = h.two; ab = may.other; ac = grind (arith, nat_tests); bc = grind (arith, nat_tests) }) h o f
           ] refl
         ] refl
         | false ↦ λ out.
@@ -282,7 +323,7 @@ module _ {R : Type 0} (S : Sys R) (laws : IsSys S) (u : units.Unit) where
             let n = suc x.num in
             let op : Op = record { num = n; src = owner; dst = suc owner; keep = true } in
             let off : (x.num == n) ≡ false = grind (arith, nat_tests) in
-            settle (begin_next S w x) ps (c || bares x) (record { op = op; third = suc (suc owner); seat = seat_at S.F At_a d l true; flag = b; holds = other_begins op (suc (suc owner)) w x (seat_shape S.F (seat_at S.F At_a d l true)) off out (apart_of x.num x.src x.dst x.keep may.src may.dst may.other) (shown_rest w n owner d l g (omega (arith, fresh)) h); order = o; flag_is = λ q. or_left c (bares x) (f q); keep_is = λ e. let never : true ≡ false = e in cc })
+            settle (begin_next S w x) ps c (record { op = op; third = suc (suc owner); seat = seat_at S.F At_a d l true; flag = b; holds = other_begins op (suc (suc owner)) w x (seat_shape S.F (seat_at S.F At_a d l true)) off out (apart_of x.num x.src x.dst x.keep may.src may.dst may.other) (shown_rest w n owner d l g (omega (arith, fresh)) h); order = o; flag_is = f; handed = λ _ e. let never : true ≡ false = e in cc })
       ] refl
   begin_where w ps c x g may (In_move op third e s b there h o f fk) =
       let few = (each_found (λ y. y.op.num < w.next) op.num w.ops e g.ops there) in
@@ -292,4 +333,4 @@ module _ {R : Type 0} (S : Sys R) (laws : IsSys S) (u : units.Unit) where
       let off : (x.num == op.num) ≡ false = grind (arith, nat_tests, same, less, fresh) in
       let lab : S.takes e.filter u ≡ (e.op.num == op.num) = (each_found (Op_label S (see op third)) op.num w.ops e h.ops there).0.0 in
       let out : S.takes x.filter u ≡ false = elim (S.takes x.filter u) as (λ t. S.takes x.filter u ≡ t → t ≡ false) [ true ↦ λ on. let never : false ≡ true = sym (any_tells x.filter w.ops op.num e may.apart there on) ∙ lab ∙ few.1 in cc | false ↦ λ _. refl ] refl in
-      settle (begin_next S w x) ps (c || bares x) (record { op = op; third = third; seat = s; flag = b; holds = other_begins op third w x (seat_shape S.F s) off out (apart_of x.num x.src x.dst x.keep may.src may.dst may.other) h; order = o; flag_is = λ q. or_left c (bares x) (f q); keep_is = λ q. or_left c (bares x) (fk q) })
+      settle (begin_next S w x) ps c (record { op = op; third = third; seat = s; flag = b; holds = other_begins op third w x (seat_shape S.F s) off out (apart_of x.num x.src x.dst x.keep may.src may.dst may.other) h; order = o; flag_is = f; handed = fk })

@@ -16,8 +16,8 @@ use Rattle.ctrl_node.specs.Operations.{OpenOperations}
 use Rattle.nf_net.specs.Commands.{has_answered, began, is_busy, MayBegin, IsCause}
 use Rattle.nf_net.proofs.BusyLemmas.{AreOther, is_noted, is_outcome, IsAnswered, or_off, began_same, answered_same, busy_same, other_not_begun, other_not_answered, stays_answered, has_answered-append, answered_begun, answered_refused, begun_now}
 use Rattle.nf_net.proofs.LogLemmas.{has_begun-append}
-use Rattle.nf_net.proofs.BusyOperations.{IsPlan, HasOutcome, IsBusy}
-use Rattle.nf_net.proofs.Joined.{Given}
+use Rattle.nf_net.proofs.BusyOperations.{HasOutcome, IsBusy}
+use Rattle.nf_net.proofs.Joined.{Given, IsPlan}
 
 abbrev move_in : MoveState → Option Operation → MoveState
 move_in d (Some (Move m)) = m

@@ -1,5 +1,5 @@
 -- The controller's step keeps that its open operations are the commands under way, and sends what the orders say.
-use Rattle.std.proofs.Common.{◌≡◌, ℕ, Bool, true, false, Option, Some, None, List, [], ◌∷◌, ◌++◌, refl, sym, ap, ◌∙◌, subst}
+use Rattle.std.proofs.Common.{◌≡◌, ℕ, Bool, true, false, Option, Some, None, List, [], ◌∷◌, ◌++◌, refl, sym, ap, ◌∙◌}
 use Rattle.std.specs.Prelude.{if◌then◌else◌, ◌==◌}
 use Rattle.std.specs.FinMap as finite
 use Rattle.flow_filter.specs.declared.filter.Filter.{Filter}
@@ -22,7 +22,7 @@ use Rattle.ctrl_node.specs.Controller.{ControllerState, Step, still, place_of, r
 use Rattle.event_store.specs.Store.{stored}
 use Rattle.actor_net.proofs.WeightLaws.{EachSent}
 use Rattle.nf_net.proofs.Joined.{Given, Label}
-use Rattle.nf_net.proofs.BusyOperations.{IsPlan, HasOutcome, IsBusy, Causes, refusal_is}
+use Rattle.nf_net.proofs.BusyOperations.{HasOutcome, IsBusy, Causes, refusal_is}
 use Rattle.nf_net.proofs.BusyChanges.{other_notes, turned as op_turned, closed as op_closed, dropped, refused, begun as op_begun}
 use Rattle.nf_net.proofs.MoveSays.{Says, says-append, answer_is, move_says}
 
@@ -51,48 +51,44 @@ module _ (g : Given) (log : List Note) (waits : List ℕ) where
     still_is : StepIs (still c)
     still_is = record { busy = other_notes g c.operations log waits h [] tt; says = tt }
 
-    module _ (same : (op : ℕ) (m : MoveState) → finite.get c.operations op ≡ Some (Move m) → m.plan.op ≡ op) where
-      -- a message of an open operation
-      turn_is : (op port : ℕ) (m : Msg) (o : Option Operation) → finite.get c.operations op ≡ o → Says g port 1 m → StepIs (takes_turn c op (turn_of o c.store port m))
-      turn_is op port m None is label = record { busy = other_notes g c.operations log waits h [] tt; says = tt }
-      turn_is op port m (Some (Move mv)) is label = by_answer (answer_of r.next.phase) refl
-        where
-          r : Row
-          r = row_in mv c.store port m
+    -- a message of an open operation
+    turn_is : (op port : ℕ) (m : Msg) (o : Option Operation) → finite.get c.operations op ≡ o → Says g port 1 m → StepIs (takes_turn c op (turn_of o c.store port m))
+    turn_is op port m None is label = record { busy = other_notes g c.operations log waits h [] tt; says = tt }
+    turn_is op port m (Some (Move mv)) is label = by_answer (answer_of r.next.phase) refl
+      where
+        r : Row
+        r = row_in mv c.store port m
 
-          n : MoveState
-          n = record mv { phase = r.next.phase }
+        n : MoveState
+        n = record mv { phase = r.next.phase }
 
-          plan : IsPlan g mv.plan.op mv.plan
-          plan = subst (λ k. IsPlan g k mv.plan) (sym (same op mv is)) (h.plan op mv is)
+        says : HasOutcome r.next.phase × EachSent (Says g) 1 r.next.sends
+        says = let it = move_says g mv (stored c.store mv.plan.op) port m (h.outcome op mv is) label in (it.outcome, it.says)
 
-          says : HasOutcome r.next.phase × EachSent (Says g) 1 r.next.sends
-          says = let it = move_says g mv (stored c.store mv.plan.op) port m plan (h.outcome op mv is) label in (it.outcome, it.says)
+        by_answer : (a : Option Answer) → answer_of r.next.phase ≡ a → StepIs (after_turn c op (moved mv c.store r) a)
+        by_answer None e = record { busy = other_notes g (finite.insert c.operations op (Move n)) log waits (op_turned g c.operations log waits h op mv n is refl says.0) [] tt; says = says.1 }
+        by_answer (Some a) e = record {
+          busy = op_closed g c.operations log waits h op mv n is refl a (answer_is r.next.phase a says.0 e);
+          says = says-append g 1 r.next.sends ((switch_node, msg.Answered op) ∷ []) says.1 (tt, tt);
+        }
 
-          by_answer : (a : Option Answer) → answer_of r.next.phase ≡ a → StepIs (after_turn c op (moved mv c.store r) a)
-          by_answer None e = record { busy = other_notes g (finite.insert c.operations op (Move n)) log waits (op_turned g c.operations log waits h op mv n is refl says.0) [] tt; says = says.1 }
-          by_answer (Some a) e = record {
-            busy = op_closed g c.operations log waits h op mv n is refl a (answer_is r.next.phase a says.0 e);
-            says = says-append g 1 r.next.sends ((switch_node, msg.Answered op) ∷ []) says.1 (tt, tt);
-          }
+    handed_is : (op port : ℕ) (m : Msg) → Says g port 1 m → StepIs (handed c op port m)
+    handed_is op port m label = turn_is op port m (finite.get c.operations op) refl label
 
-      handed_is : (op port : ℕ) (m : Msg) → Says g port 1 m → StepIs (handed c op port m)
-      handed_is op port m label = turn_is op port m (finite.get c.operations op) refl label
+    numbered_is : (port : ℕ) (m : Msg) (o : Option ℕ) → Says g port 1 m → StepIs (numbered c port m o)
+    numbered_is port m None label = still_is
+    numbered_is port m (Some op) label = handed_is op port m label
 
-      numbered_is : (port : ℕ) (m : Msg) (o : Option ℕ) → Says g port 1 m → StepIs (numbered c port m o)
-      numbered_is port m None label = still_is
-      numbered_is port m (Some op) label = handed_is op port m label
+    event_is : (port op : ℕ) (cell : FullCell) (i : Option ℕ) → StepIs (on_event c port op cell i)
+    event_is port op cell None = still_is
+    event_is port op cell (Some i) = elim (finite.contains_key c.operations op) as (λ b. StepIs (if b then handed c op port (msg.Event op cell) else record { node = c; sends = (switch_node, msg.Forward i (Pass op) cell) ∷ []; notes = [] })) [
+      | true ↦ handed_is op port (msg.Event op cell) tt
+      | false ↦ record { busy = other_notes g c.operations log waits h [] tt; says = (tt, tt) }
+    ]
 
-      event_is : (port op : ℕ) (cell : FullCell) (i : Option ℕ) → StepIs (on_event c port op cell i)
-      event_is port op cell None = still_is
-      event_is port op cell (Some i) = elim (finite.contains_key c.operations op) as (λ b. StepIs (if b then handed c op port (msg.Event op cell) else record { node = c; sends = (switch_node, msg.Forward i (Pass op) cell) ∷ []; notes = [] })) [
-        | true ↦ handed_is op port (msg.Event op cell) tt
-        | false ↦ record { busy = other_notes g c.operations log waits h [] tt; says = (tt, tt) }
-      ]
-
-      final_is : (i : Option ℕ) → StepIs (on_final c i)
-      final_is None = still_is
-      final_is (Some i) = record { busy = other_notes g c.operations log waits h [] tt; says = tt }
+    final_is : (i : Option ℕ) → StepIs (on_final c i)
+    final_is None = still_is
+    final_is (Some i) = record { busy = other_notes g c.operations log waits h [] tt; says = tt }
 
   -- a command that waits
   module _ (c : ControllerState) (op : ℕ) (what : Order) (names : c.names ≡ g.names) (h : IsBusy g c.operations log (op ∷ waits)) (known : g.orders op ≡ Some what) where
@@ -124,7 +120,7 @@ module _ (g : Given) (log : List Note) (waits : List ℕ) where
       | false ↦ decided_is (refusal c what) (refusal_is g c log (op ∷ waits) names h what)
     ]
 
-module _ {R : Type 0} (f : Semantics R) (g : Given) (log : List Note) (waits : List ℕ) (c : ControllerState) (names : c.names ≡ g.names) (same : (op : ℕ) (m : MoveState) → finite.get c.operations op ≡ Some (Move m) → m.plan.op ≡ op) where
+module _ {R : Type 0} (f : Semantics R) (g : Given) (log : List Note) (waits : List ℕ) (c : ControllerState) (names : c.names ≡ g.names) where
   row_busy : (p : ℕ) (m : Msg) → Label f g p 1 m → Says g p 1 m → IsBusy g c.operations log (told_in m ++ waits) → StepIs g log waits (controller_row c p m)
   row_busy p (msg.Asked k) label says h = elim (p == switch_node) as (λ b. StepIs g log waits (if b then on_asked c k else still c)) [
     | true ↦ asked_is g log waits c k.op k.what names h label.2.known
@@ -134,10 +130,10 @@ module _ {R : Type 0} (f : Semantics R) (g : Given) (log : List Note) (waits : L
     | true ↦ record { busy = other_notes g c.operations log waits h [] tt; says = tt }
     | false ↦ still_is g log waits c h
   ]
-  row_busy p (msg.Event op cell) label says h = event_is g log waits c h same p op cell (instance_at c p)
-  row_busy p msg.Final label says h = final_is g log waits c h same (instance_at c p)
+  row_busy p (msg.Event op cell) label says h = event_is g log waits c h p op cell (instance_at c p)
+  row_busy p msg.Final label says h = final_is g log waits c h (instance_at c p)
   row_busy p (msg.InCommand k) label says h = let never = label.0.1 in cc
-  row_busy p m label says h = numbered_is g log waits c h same p m (op_of m) says
+  row_busy p m label says h = numbered_is g log waits c h p m (op_of m) says
 
   pub controller_busy : (p : ℕ) (m : Msg) → Label f g p 1 m → Says g p 1 m → IsBusy g c.operations log (told_in m ++ waits) → StepIs g log waits (controller_step c p m)
   controller_busy p m label says h = finished_is g log waits (controller_row c p m) (row_busy p m label says h)

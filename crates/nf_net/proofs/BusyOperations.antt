@@ -11,20 +11,19 @@ use Rattle.flow_filter.specs.Filter.{meets}
 use Rattle.nf_msgs.specs.declared.answer.Answer.{Answer}
 use Rattle.nf_msgs.specs.declared.answer.Answer.TheVariants.{Unknown, Overlap}
 use Rattle.nf_msgs.specs.declared.command.Order.{Order}
-use Rattle.nf_msgs.specs.declared.command.Order.TheVariants as order
 use Rattle.nf_msgs.specs.declared.note.Note.{Note}
 use Rattle.move_op.specs.declared.door.Door.TheVariants as door
 use Rattle.move_op.specs.declared.phase.Phase.{Phase}
 use Rattle.move_op.specs.declared.phase.Phase.TheVariants as phase
-use Rattle.move_op.specs.Move.{MovePlan, MoveState}
+use Rattle.move_op.specs.Move.{MoveState}
 use Rattle.ctrl_node.specs.declared.operation.Operation.{Operation}
 use Rattle.ctrl_node.specs.declared.operation.Operation.TheVariants.{Move}
 use Rattle.ctrl_node.specs.Operations.{OpenOperations, meets_operation, lowest_meeting}
-use Rattle.ctrl_node.specs.Controller.{ControllerState, place_of, filter_of, unknown_name, overlap, refusal}
+use Rattle.ctrl_node.specs.Controller.{ControllerState, filter_of, unknown_name, overlap, refusal}
 use Rattle.abstract_net.proofs.Waits.{Rising}
 use Rattle.nf_net.specs.Commands.{is_busy, busy_filter, unknown_in, MayBegin, IsCause}
 use Rattle.nf_net.proofs.BusyLemmas.{is_noted, is_outcome, IsAnswered}
-use Rattle.nf_net.proofs.Joined.{Given}
+use Rattle.nf_net.proofs.Joined.{Given, IsPlan}
 
 -- The first entry that passes a test has the lowest number.
 -- what a number's operation is, by a test; none fails it
@@ -115,14 +114,6 @@ module _ (ops : OpenOperations) (filter : Filter) where
   lowest_is (Some x) is =
       let first = first_passes (meets_operation filter) (finite.entries ops) x (finite.entries_sorted ops) is in
       (ap (passes (meets_operation filter)) (finite.get-entries ops x.0) ∙ first.here, λ k small. ap (passes (meets_operation filter)) (finite.get-entries ops k) ∙ first.none k small)
-
--- the plan of a move is that of the order under its number
-pub record IsPlan (g : Given) (op : ℕ) (plan : MovePlan) : Type 0 where
-  pub source : List ℕ
-  pub destination : List ℕ
-  pub order_is : g.orders op ≡ Some (order.Move source destination plan.filter plan.keep)
-  pub from_is : place_of g.names source ≡ Some plan.from
-  pub to_is : place_of g.names destination ≡ Some plan.to
 
 -- what a move that was refused, or is over, is to be answered
 abbrev pub HasOutcome : Phase → Type 0

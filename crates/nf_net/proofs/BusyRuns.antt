@@ -1,15 +1,13 @@
 -- Of every run, the open operations of the controller are the commands under way, and the log says what is true of commands.
-use Rattle.std.proofs.Common.{◌≡◌, ◌≢◌, ℕ, zero, suc, ◌+◌, ◌<◌, Bool, true, false, Some, List, [], ◌∷◌, ◌++◌, length, get_or, refl, sym, ap, ◌∙◌, subst, arith}
+use Rattle.std.proofs.Common.{◌≡◌, ◌≢◌, ℕ, zero, suc, ◌+◌, ◌<◌, Bool, true, false, Some, List, [], ◌++◌, get_or, refl, sym, ap, ◌∙◌, subst, arith}
 use Rattle.std.specs.Prelude.{if◌then◌else◌, ◌==◌}
 use Rattle.std.specs.FinMap as finite
-use Rattle.flow_filter.specs.declared.filter.Filter.{Filter}
 use Rattle.nf_function.specs.Semantics.{Semantics}
-use Rattle.switch_rules.specs.declared.target.Target.{Target}
 use Rattle.nf_msgs.specs.declared.msg.Msg.{Msg}
 use Rattle.nf_msgs.specs.declared.msg.Msg.TheVariants as msg
 use Rattle.nf_msgs.specs.declared.note.Note.{Note}
 use Rattle.actor_net.specs.declared.choice.Choice.{Choice}
-use Rattle.actor_net.specs.Network.{Network, Stepped, waiting, taken}
+use Rattle.actor_net.specs.Network.{Network, Stepped, taken}
 use Rattle.actor_net.proofs.EnabledChoices.{at}
 use Rattle.actor_net.proofs.StepOutcome.{Takes, Outcome, taken_outcome}
 use Rattle.actor_net.proofs.RunInduction.{Taking}
@@ -23,13 +21,13 @@ use Rattle.nf_net.specs.declared.node.Node.{Node}
 use Rattle.nf_net.specs.declared.node.Node.TheVariants.{Controller}
 use Rattle.nf_net.specs.Nodes.{node_step, node_ready}
 use Rattle.nf_net.specs.Commands.{is_busy}
-use Rattle.nf_net.proofs.Joined.{Given, Label, Joined, node_of, count}
-use Rattle.nf_net.proofs.BusyOperations.{IsPlan, IsBusy}
+use Rattle.nf_net.proofs.Joined.{Given, Label, Joined, node_of, count, IsPlan}
+use Rattle.nf_net.proofs.BusyOperations.{IsBusy}
 use Rattle.nf_net.proofs.BusyChanges.{other_notes}
 use Rattle.nf_net.proofs.BusyController.{told_in, controller_busy}
 use Rattle.nf_net.proofs.BusyNodes.{switch_hands, instance_says}
 use Rattle.nf_net.proofs.LinePicks.{on_way, at_switch as way_at_switch, at_controller as way_at_controller, at_instance as way_at_instance}
-use Rattle.nf_net.proofs.MoveSays.{IsInstall, Says}
+use Rattle.nf_net.proofs.MoveSays.{Says}
 
 module _ {F R : Type 0} where
   abbrev controller_in : ControllerState → Node F R → ControllerState
@@ -124,7 +122,7 @@ module _ {F R : Type 0} (f : Semantics R) (g : Given) (n : ℕ) (count_is : n �
           let after = taken step w (at 1 p) in
           let c = j.nodes.controller in
           let same : waits_of w ≡ told_in m ++ waits_of after = way_at_controller told_in step n one w p (node_of j.nodes 1) m rest takes (told_at_controller f g p m (label 1 p m rest takes)) in
-          let it = controller_busy f g w.log (waits_of after) c j.shown_is.controller.names (λ op mv there. (j.shown_is.controller.moves op mv there).op_is) p m (label 1 p m rest takes) (says 1 p m rest takes) (subst (λ xs. IsBusy g c.operations w.log xs) same is_busy_one) in
+          let it = controller_busy f g w.log (waits_of after) c j.shown_is.controller.names p m (label 1 p m rest takes) (says 1 p m rest takes) (subst (λ xs. IsBusy g c.operations w.log xs) same is_busy_one) in
           record {
             controller = (controller_step c p m).node;
             controller_is = (left 1 p m rest takes).own;
@@ -167,7 +165,3 @@ module _ {F R : Type 0} (f : Semantics R) (g : Given) (n : ℕ) (count_is : n �
     -- the plan of an open move is that of its order
     pub plan_is : (op : ℕ) (m : MoveState) → finite.get j.nodes.controller.operations op ≡ Some (Move m) → IsPlan g op m.plan
     plan_is op m there = (is_busy_one w j b).plan op m there
-
-    -- a change of the switch's rules that waits is that of its order
-    pub install_is : (s : ℕ) (op : ℕ) (filter : Filter) (from : ℕ) (to : Target) (rest : List Msg) → s < n → length w.nodes ≡ n → waiting w (at 0 s) ≡ msg.Install op filter from to ∷ rest → IsInstall g op filter from to
-    install_is s op filter from to rest there count waits = (subst (λ ms. Each (Says g s 0) ms) waits (b.says s 0 (rw count there) (rw count (omega (arith, count_is))))).0

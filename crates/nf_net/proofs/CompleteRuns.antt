@@ -39,18 +39,19 @@ use Rattle.nf_net.specs.declared.node.Node.{Node}
 use Rattle.nf_net.specs.declared.node.Node.TheVariants.{Instance}
 use Rattle.nf_net.specs.Input.{packets, packet_of, order_of, ends_last, IsInput}
 use Rattle.nf_net.specs.Commands.{answers_of, times_installed}
-use Rattle.nf_net.specs.Log.{arrived, has_begun, those}
+use Rattle.nf_net.specs.Log.{arrived, those}
+use Rattle.nf_net.specs.Places.{is_loose}
 use Rattle.nf_net.specs.Nodes.{node_step, node_ready, node_ended}
-use Rattle.nf_net.specs.Promises.{times, live_in, live_at, is_of, fold, came, went, is_loose, Completed}
+use Rattle.nf_net.specs.Promises.{times, live_in, live_at, is_of, fold, came, went, Completed}
 use Rattle.nf_net.specs.Start.{started}
 use Rattle.nf_net.proofs.ArrivalLemmas.{numbers, runs_joined}
 use Rattle.nf_net.proofs.CommandPromises.{run_busy}
 use Rattle.nf_net.proofs.ControlOutline.{Sees}
 use Rattle.nf_net.proofs.InstallRuns.{run_installs, done_installed}
 use Rattle.nf_net.proofs.Outline.{is_sys}
-use Rattle.nf_net.proofs.Joined.{Given, GenuinePacket, S, bares, shown, place, Joined}
+use Rattle.nf_net.proofs.Joined.{Given, GenuinePacket, S, shown, place, Joined}
 use Rattle.nf_net.proofs.RecordPromises.{instance_of}
-use Rattle.nf_net.proofs.RunsJoined.{done_same, not_bared, same_times, start_world}
+use Rattle.nf_net.proofs.RunsJoined.{done_same, same_times, start_world}
 use Rattle.nf_net.proofs.StartJoined.{given, all_fit, count_at_start, genuine}
 use Rattle.nf_net.proofs.ToldCommands.{each_answered}
 
@@ -93,8 +94,8 @@ module _ {R : Type 0} (f : Semantics R) (c : Config) (items : List Msg) (is : Is
             (subst (λ o. o.src < n) (sym h.op) (there m.plan.from move.from), subst (λ o. o.dst < n) (sym h.op) (there m.plan.to move.to))
 
     module _ (u : units.Unit) where
-      end : At_end (S f g) (is_sys f g.site g.packet) u n j.world (came f c items u w.log) (has_begun (bares f g u) w.log)
-      end = at_end (S f g) (is_sys f g.site g.packet) u n j.world (omega (arith, count)) quiet sides (came f c items u w.log) (has_begun (bares f g u) w.log) (j.shown_is.every.unit u)
+      end : At_end (S f g) (is_sys f g.site g.packet) u n j.world (came f c items u w.log) (is_loose c items u w.log)
+      end = at_end (S f g) (is_sys f g.site g.packet) u n j.world (omega (arith, count)) quiet sides (came f c items u w.log) (is_loose c items u w.log) (j.shown_is.every.unit u)
 
       -- a unit that a packet of the input has goes to an instance that is there
       target_there : (qs : List Packet) → Each (GenuinePacket f g) qs → (p : ℕ) (ps : List ℕ) → those (is_of f c items u) (map (λ q. q.number) qs) ≡ p ∷ ps → j.world.target u < n
@@ -127,8 +128,8 @@ module _ {R : Type 0} (f : Semantics R) (c : Config) (items : List Msg) (is : Is
       went_is : firsts end.ran ++ end.left ≡ went f c items u w.log
       went_is = ap (λ xs. firsts end.ran ++ xs) left_none ∙ append-nil (firsts end.ran) ∙ sym end.done ∙ done_same f c items is n w j u
 
-      all_went : is_loose f c items u w.log ≡ false → went f c items u w.log ≡ came f c items u w.log
-      all_went off = sym went_is ∙ exact_of end.flag (firsts end.ran ++ end.left) (came f c items u w.log) (not_both end.flag (has_begun (bares f g u) w.log) end.flag_is (not_bared f c items is u w.log off)) end.order
+      all_went : is_loose c items u w.log ≡ false → went f c items u w.log ≡ came f c items u w.log
+      all_went off = sym went_is ∙ exact_of end.flag (firsts end.ran ++ end.left) (came f c items u w.log) (not_both end.flag (is_loose c items u w.log) end.flag_is off) end.order
 
       each_once : (p : ℕ) → times p (went f c items u w.log) ≡ times p (came f c items u w.log)
       each_once p = sym (same_times p (went f c items u w.log)) ∙ ap (stages.times p) (sym went_is) ∙ same_of end.flag (firsts end.ran ++ end.left) (came f c items u w.log) end.order p ∙ same_times p (came f c items u w.log)

@@ -1,6 +1,6 @@
 -- The controller's step on a command: it is refused, or its move begins.
 use Rattle.std.proofs.Common.{◌≡◌, ◌≢◌, ℕ, suc, ◌≤◌, Bool, true, false, cond, Option, Some, None, List, [], ◌∷◌, ◌++◌, map, length, get_or, refl, sym, ap, ◌∙◌, subst, append-nil, arith, eqb}
-use Rattle.std.specs.Prelude.{if◌then◌else◌, ◌&&◌, ◌||◌, ◌==◌, not, nat_lt, find, is_some, option_map}
+use Rattle.std.specs.Prelude.{if◌then◌else◌, ◌&&◌, ◌==◌, not, nat_lt, find, is_some, option_map}
 use Rattle.std.specs.Option.{option_or}
 use Rattle.std.specs.Ordering.{nat_cmp, eq_by_cmp}
 use Rattle.std.specs.Str.{bytes_eq}
@@ -11,7 +11,6 @@ use Rattle.std.proofs.lemmas.Slice.Eq.{bytes_eq-Decides}
 use Rattle.flow_filter.specs.declared.filter.Filter.{Filter}
 use Rattle.flow_filter.specs.Filter.{meets}
 use Rattle.nf_function.specs.Semantics.{Semantics}
-use Rattle.nf_function.specs.declared.unit.Unit as units
 use Rattle.event_store.specs.Store.{stored}
 use Rattle.nf_msgs.specs.declared.answer.Answer.{Answer}
 use Rattle.nf_msgs.specs.declared.answer.Answer.TheVariants as answer
@@ -19,7 +18,6 @@ use Rattle.nf_msgs.specs.declared.command.Command.{Command}
 use Rattle.nf_msgs.specs.declared.command.Order.{Order}
 use Rattle.nf_msgs.specs.declared.command.Order.TheVariants as order
 use Rattle.nf_msgs.specs.declared.msg.Msg.TheVariants as msg
-use Rattle.nf_msgs.specs.declared.note.Note.TheVariants as note
 use Rattle.nf_msgs.specs.Nodes.{switch_node, instance_node}
 use Rattle.move_op.specs.Move.{MovePlan, MoveState, begun}
 use Rattle.ctrl_node.specs.declared.operation.Operation.{Operation}
@@ -33,14 +31,12 @@ use Rattle.abstract_net.proofs.Net.{World, Want, Open, find_op, new_op, begin_se
 use Rattle.abstract_net.proofs.Waits.{nums, Rising}
 use Rattle.abstract_net.proofs.Units.{May}
 use Rattle.abstract_net.proofs.Every.{ctrl_every, begin_every}
-use Rattle.nf_net.specs.Log.{has_begun}
-use Rattle.nf_net.proofs.FiltersApart.{and_l, and_r, is_whole, takes_whole}
+use Rattle.nf_net.proofs.FiltersApart.{and_l, and_r, is_whole}
 use Rattle.nf_net.proofs.Outline.{number, want_at, want_of, outline_sends, is_sys}
-use Rattle.nf_net.proofs.LogLemmas.{has_begun-append, every_same}
 use Rattle.nf_net.proofs.ControlOutline.{Sees, SeesMove, Opens, got_insert}
 use Rattle.nf_net.proofs.ControllerScenes.{RowLeads, links_by, waits, stays}
 use Rattle.nf_net.proofs.ControllerTurns.{none_open}
-use Rattle.nf_net.proofs.Joined.{Given, Scene, AreShown, IsTaken, IsController, IsListed, IsMove, S, place, shown, is_move, bares, bares_in, commands}
+use Rattle.nf_net.proofs.Joined.{Given, Scene, AreShown, IsTaken, IsController, IsListed, IsMove, S, place, shown, is_move, commands}
 
 -- a name has one place, and two names have two
 place_below : (names : List (List ℕ)) (name : List ℕ) (i : ℕ) → place_of names name ≡ Some i → nat_lt i (length names) ≡ true
@@ -173,10 +169,10 @@ module _ {F R : Type 0} (f : Semantics R) (g : Given) (n : ℕ) (x : Scene F f g
   asked_idle (Some w) a e = let same : net.Asked w ≡ a = cc in subst (λ b. ctrl_step x.world.ops p b ≡ record { ops = x.world.ops; sends = [] }) same refl
 
   stays_still : Leads_to (still c)
-  stays_still = stays f g n x p (msg.Asked cmd) are is (still c) refl refl refl refl tt (record { arrived_is = refl; done_is = refl }) (λ _. refl) (asked_idle (want_of (place g) cmd.op cmd.what))
+  stays_still = stays f g n x p (msg.Asked cmd) are is (still c) refl refl refl refl tt (record { arrived_is = refl; done_is = refl; installed_is = refl }) (asked_idle (want_of (place g) cmd.op cmd.what))
 
   answered : (why : Answer) → Leads_to (answers c cmd.op why)
-  answered why = stays f g n x p (msg.Asked cmd) are is (answers c cmd.op why) refl refl refl refl ((refl, refl), tt) (record { arrived_is = refl; done_is = refl }) (λ _. refl) (asked_idle (want_of (place g) cmd.op cmd.what))
+  answered why = stays f g n x p (msg.Asked cmd) are is (answers c cmd.op why) refl refl refl refl ((refl, refl), tt) (record { arrived_is = refl; done_is = refl; installed_is = refl }) (asked_idle (want_of (place g) cmd.op cmd.what))
 
   -- a move begins
   module _ (src dst : List ℕ) (filter : Filter) (keep : Bool) (from to : ℕ) (what : cmd.what ≡ order.Move src dst filter keep) (none : finite.get c.operations cmd.op ≡ None) (apart : lowest_meeting c.operations filter ≡ None) (from_is : place_of c.names src ≡ Some from) (to_is : place_of c.names dst ≡ Some to) where
@@ -214,6 +210,7 @@ module _ {F R : Type 0} (f : Semantics R) (g : Given) (n : ℕ) (x : Scene F f g
       to = place_below g.names dst to to_at;
       other = differ;
       whole = and_l (is_whole f.kind filter) _ is_moved;
+      plan = record { source = src; destination = dst; order_is = is.label.2.known ∙ ap Some what; from_is = from_at; to_is = to_at };
       refusing = tt;
       pieces = tt;
     }
@@ -232,13 +229,6 @@ module _ {F R : Type 0} (f : Semantics R) (g : Given) (n : ℕ) (x : Scene F f g
     link_same true xs ys = ap (λ zs. zs ++ ys) (append-nil xs)
     link_same false xs ys = ap (λ zs. zs ++ ys) (append-nil xs)
 
-    bared_same : (u : units.Unit) → has_begun (bares f g u) x.log || (not keep && takes_whole f.kind filter u) ≡ has_begun (bares f g u) (x.log ++ note.Begun cmd.op ∷ [])
-    bared_same u = sym (has_begun-append (bares f g u) x.log (note.Begun cmd.op ∷ []) ∙ ap (λ b. has_begun (bares f g u) x.log || b) (or_nothing (bares f g u cmd.op) ∙ ap (bares_in f g u) (is.label.2.known ∙ ap Some what)))
-      where
-        or_nothing : (b : Bool) → b || false ≡ b
-        or_nothing true = refl
-        or_nothing false = refl
-
     pub move_begins : Leads_to (begins_move c plan)
     move_begins = record {
       ops = after.ops;
@@ -247,8 +237,8 @@ module _ {F R : Type 0} (f : Semantics R) (g : Given) (n : ℕ) (x : Scene F f g
       links = λ i j. link_same (i == 1) (behind ((i == p) && (j == 1)) (x.world.link i j)) (if i == 1 then sent_for j (begin_sends cmd.op its) else []) ∙ sym (ap (λ o. links_by f g o x.world.link p (outline_sends f (place g) (begins_move c plan).sends) i j) seen);
       labels = (((refl, omega arith), move.whole, refl), tt);
       controller = controller_begun f g c x.world.ops x.world.next plan are.controller rises.0 none move (none_open f g n x p (msg.Asked cmd) are is cmd.op none);
-      quiet = record { arrived_is = refl; done_is = refl };
-      every = every_same (S f g) (is_sys f g.site g.packet) after _ _ _ _ (λ u. refl) bared_same (begin_every (S f g) (is_sys f g.site g.packet) asked _ _ (ctrl_every (S f g) (is_sys f g.site g.packet) x.world _ _ are.every p (net.Asked its) is.rest (waits f g n x p (msg.Asked cmd) are is (net.Asked its) seen)) its may);
+      quiet = record { arrived_is = refl; done_is = refl; installed_is = refl };
+      every = begin_every (S f g) (is_sys f g.site g.packet) asked _ _ (ctrl_every (S f g) (is_sys f g.site g.packet) x.world _ _ are.every p (net.Asked its) is.rest (waits f g n x p (msg.Asked cmd) are is (net.Asked its) seen)) its may;
       rising = subst (λ l. Rising (suc cmd.op) (nums l ++ commands f g x.input)) (sym left) rises.1;
     }
       where

@@ -1,7 +1,7 @@
 -- What a row of the controller's table leads to: a world of the abstract network that takes the same message, and no more changes than
 -- that. The finish behind a row changes nothing of it.
 use Rattle.std.proofs.Common.{◌≡◌, ◌≢◌, ℕ, zero, suc, Bool, true, false, Option, Some, None, List, [], ◌∷◌, ◌++◌, refl, sym, ap, ◌∙◌, subst, append-nil, arith}
-use Rattle.std.specs.Prelude.{if◌then◌else◌, ◌&&◌, ◌||◌, ◌==◌}
+use Rattle.std.specs.Prelude.{if◌then◌else◌, ◌&&◌, ◌==◌}
 use Rattle.std.proofs.lemmas.Bool.Decides.{nat_tests}
 use Rattle.std.specs.FinMap as finite
 use Rattle.nf_function.specs.Semantics.{Semantics}
@@ -21,11 +21,11 @@ use Rattle.abstract_net.proofs.Waits.{nums, Rising, rising_less}
 use Rattle.abstract_net.proofs.Every.{Every, ctrl_every}
 use Rattle.nf_net.specs.Nodes.{as_node}
 use Rattle.nf_net.specs.declared.node.Node.TheVariants.{Controller}
-use Rattle.nf_net.specs.Log.{arrived, done, has_begun, those}
+use Rattle.nf_net.specs.Log.{arrived, done, installed, those}
 use Rattle.nf_net.proofs.Outline.{outline_sent, outline_sends, is_sys}
 use Rattle.nf_net.proofs.InstanceOutline.{filter_map-put}
-use Rattle.nf_net.proofs.LogLemmas.{arrived-append, done-append, has_begun-append, every_same}
-use Rattle.nf_net.proofs.Joined.{Given, Genuine, Label, Scene, Nodes, AreShown, IsTaken, IsController, IsListed, Leads, node_of, place, shown, S, is_of, bares, by_node, commands, links_next}
+use Rattle.nf_net.proofs.LogLemmas.{arrived-append, done-append, every_same, owners_on, loose_on}
+use Rattle.nf_net.proofs.Joined.{Given, loose_by, Genuine, Label, Scene, Nodes, AreShown, IsTaken, IsController, IsListed, Leads, node_of, place, shown, S, is_of, by_node, commands, links_next}
 
 -- a message is taken from the switch's link, or from another: the numbers of waiting commands rise as before
 rising_drop : {R : Type 0} (b : ℕ) (a : net.Msg R) (rest : List (net.Msg R)) (ks : List ℕ) → Rising b (nums (a ∷ rest) ++ ks) → Rising b (nums rest ++ ks)
@@ -44,14 +44,11 @@ pub sent-append : {M : Type 0} (P : ℕ → ℕ → M → Type 0) (s : ℕ) (xs 
 sent-append P s [] ys a b = b
 sent-append P s (x ∷ xs) ys a b = (a.0, sent-append P s xs ys a.1 b)
 
-or_false : (b : Bool) → b || false ≡ b
-or_false true = refl
-or_false false = refl
-
--- no packet arrives in these notes, and none is processed
+-- in these notes no packet arrives, none is processed, and no rule changes
 pub record AreQuiet (notes : List Note) : Type 0 where
   pub arrived_is : arrived notes ≡ []
   pub done_is : done notes ≡ []
+  pub installed_is : installed notes ≡ []
 
 module _ {R : Type 0} (f : Semantics R) (g : Given) where
   -- the links after a message that is shown as this one
@@ -88,7 +85,7 @@ module _ {F R : Type 0} (f : Semantics R) (g : Given) where
     pub labels : EachSent (Label f g) 1 did.sends
     pub controller : IsController f g did.node ops next
     pub quiet : AreQuiet did.notes
-    pub every : Every (S f g) (is_sys f g.site g.packet) (record x.world { ops = ops; next = next; link = link }) (λ u. those (is_of f g u) (arrived x.log)) (λ u. has_begun (bares f g u) (x.log ++ did.notes))
+    pub every : Every (S f g) (is_sys f g.site g.packet) (record x.world { ops = ops; next = next; link = link }) (λ u. those (is_of f g u) (arrived x.log)) (λ u. loose_by g u (installed x.log))
     pub rising : Rising next (nums (link 0 1) ++ commands f g x.input)
 
   -- what comes behind a row and isn't looked at changes nothing of it
@@ -121,8 +118,9 @@ module _ {F R : Type 0} (f : Semantics R) (g : Given) where
       shown_is = record {
         switch = are.switch;
         controller = is;
+        owners = owners_on f g n x are did.notes l.quiet.installed_is;
         instances = are.instances;
-        every = every_same (S f g) (is_sys f g.site g.packet) world_after _ (λ u. those (is_of f g u) (arrived (x.log ++ did.notes))) (λ u. has_begun (bares f g u) (x.log ++ did.notes)) (λ u. has_begun (bares f g u) (x.log ++ did.notes)) arrived_same (λ u. refl) l.every;
+        every = every_same (S f g) (is_sys f g.site g.packet) world_after _ (λ u. those (is_of f g u) (arrived (x.log ++ did.notes))) _ (λ u. loose_by g u (installed (x.log ++ did.notes))) arrived_same (loose_on f g n x are did.notes l.quiet.installed_is) l.every;
         done_is = are.done_is ∙ ap (by_node f g) done_same;
         rising = l.rising;
       };
@@ -141,12 +139,9 @@ module _ {F R : Type 0} (f : Semantics R) (g : Given) where
     pub waits : (a : net.Msg R) → shown f g m ≡ Some a → x.world.link p 1 ≡ a ∷ is.rest
     waits a seen = is.head not_input a seen
 
-    none_begun : (did : Step) → ((these : ℕ → Bool) → has_begun these did.notes ≡ false) → (u : units.Unit) → has_begun (bares f g u) x.log ≡ has_begun (bares f g u) (x.log ++ did.notes)
-    none_begun did none u = sym (has_begun-append (bares f g u) x.log did.notes ∙ ap (λ b. has_begun (bares f g u) x.log || b) (none (bares f g u)) ∙ or_false (has_begun (bares f g u) x.log))
-
     -- a message that is shown is taken by the abstract controller
-    pub taken : (did : Step) (a : net.Msg R) (step : C_step R) → shown f g m ≡ Some a → ctrl_step x.world.ops p a ≡ step → IsController f g did.node step.ops x.world.next → outline_sends f (place g) did.sends ≡ step.sends → EachSent (Label f g) 1 did.sends → AreQuiet did.notes → ((these : ℕ → Bool) → has_begun these did.notes ≡ false) → RowLeads x p m did
-    taken did a step seen does controller sends labels quiet none = record {
+    pub taken : (did : Step) (a : net.Msg R) (step : C_step R) → shown f g m ≡ Some a → ctrl_step x.world.ops p a ≡ step → IsController f g did.node step.ops x.world.next → outline_sends f (place g) did.sends ≡ step.sends → EachSent (Label f g) 1 did.sends → AreQuiet did.notes → RowLeads x p m did
+    taken did a step seen does controller sends labels quiet = record {
       ops = (ctrl_step x.world.ops p a).ops;
       next = x.world.next;
       link = links_after x.world.link p 1 (ctrl_step x.world.ops p a).sends;
@@ -154,7 +149,7 @@ module _ {F R : Type 0} (f : Semantics R) (g : Given) where
       labels = labels;
       controller = subst (λ s. IsController f g did.node s.ops x.world.next) (sym does) controller;
       quiet = quiet;
-      every = every_same (S f g) (is_sys f g.site g.packet) _ _ _ _ _ (λ u. refl) (none_begun did none) (ctrl_every (S f g) (is_sys f g.site g.packet) x.world _ _ are.every p a is.rest (waits a seen));
+      every = ctrl_every (S f g) (is_sys f g.site g.packet) x.world _ _ are.every p a is.rest (waits a seen);
       rising = rising_behind x.world.next ((0 == p) && (1 == 1)) (x.world.link 0 1) is.rest a (commands f g x.input) (λ e. let at : p ≡ 0 = grind (arith, nat_tests) in ap (λ k. x.world.link k 1) (sym at) ∙ waits a seen) are.rising;
     }
 
@@ -162,14 +157,14 @@ module _ {F R : Type 0} (f : Semantics R) (g : Given) where
     unseen_links i j = elim (i == 1) as (λ b. x.world.link i j ++ (if b then [] else []) ≡ x.world.link i j) [ true ↦ append-nil (x.world.link i j) | false ↦ append-nil (x.world.link i j) ]
 
     -- a row that changes nothing that an operation looks at
-    pub stays : (did : Step) → did.node.names ≡ x.nodes.controller.names → did.node.operations ≡ x.nodes.controller.operations → did.node.store ≡ x.nodes.controller.store → outline_sends f (place g) did.sends ≡ [] → EachSent (Label f g) 1 did.sends → AreQuiet did.notes → ((these : ℕ → Bool) → has_begun these did.notes ≡ false) → ((a : net.Msg R) → shown f g m ≡ Some a → ctrl_step x.world.ops p a ≡ record { ops = x.world.ops; sends = [] }) → RowLeads x p m did
-    stays did names operations store sends labels quiet none idle = by_shown (shown f g m) refl
+    pub stays : (did : Step) → did.node.names ≡ x.nodes.controller.names → did.node.operations ≡ x.nodes.controller.operations → did.node.store ≡ x.nodes.controller.store → outline_sends f (place g) did.sends ≡ [] → EachSent (Label f g) 1 did.sends → AreQuiet did.notes → ((a : net.Msg R) → shown f g m ≡ Some a → ctrl_step x.world.ops p a ≡ record { ops = x.world.ops; sends = [] }) → RowLeads x p m did
+    stays did names operations store sends labels quiet idle = by_shown (shown f g m) refl
       where
         same : IsController f g did.node x.world.ops x.world.next
         same = controller_same f g x.nodes.controller did.node x.world.ops x.world.next names operations store are.controller
 
         by_shown : (o : Option (net.Msg R)) → shown f g m ≡ o → RowLeads x p m did
-        by_shown (Some a) seen = taken did a (record { ops = x.world.ops; sends = [] }) seen (idle a seen) same sends labels quiet none
+        by_shown (Some a) seen = taken did a (record { ops = x.world.ops; sends = [] }) seen (idle a seen) same sends labels quiet
         by_shown None seen = record {
           ops = x.world.ops;
           next = x.world.next;
@@ -178,6 +173,6 @@ module _ {F R : Type 0} (f : Semantics R) (g : Given) where
           labels = labels;
           controller = same;
           quiet = quiet;
-          every = every_same (S f g) (is_sys f g.site g.packet) x.world _ _ _ _ (λ u. refl) (none_begun did none) are.every;
+          every = are.every;
           rising = are.rising;
         }

@@ -32,13 +32,13 @@ module _ {F R : Type 0} (f : Semantics R) (g : Given) (n : ℕ) (x : Scene F f g
 
   end_leads : Taken msg.End → RowLeads f g x p msg.End (row c p msg.End)
   end_leads is = elim (p == switch_node) as (λ b. RowLeads f g x p msg.End (if b then still (record c { end_came = true }) else still c)) [
-    | true ↦ stays f g n x p msg.End are is (still (record c { end_came = true })) refl refl refl refl tt (record { arrived_is = refl; done_is = refl }) (λ _. refl) (λ a e. cc)
-    | false ↦ stays f g n x p msg.End are is (still c) refl refl refl refl tt (record { arrived_is = refl; done_is = refl }) (λ _. refl) (λ a e. cc)
+    | true ↦ stays f g n x p msg.End are is (still (record c { end_came = true })) refl refl refl refl tt (record { arrived_is = refl; done_is = refl; installed_is = refl }) (λ a e. cc)
+    | false ↦ stays f g n x p msg.End are is (still c) refl refl refl refl tt (record { arrived_is = refl; done_is = refl; installed_is = refl }) (λ a e. cc)
   ]
 
   final_leads : Taken msg.Final → (o : Option ℕ) → RowLeads f g x p msg.Final (on_final c o)
-  final_leads is None = stays f g n x p msg.Final are is (on_final c None) refl refl refl refl tt (record { arrived_is = refl; done_is = refl }) (λ _. refl) (λ a e. cc)
-  final_leads is (Some i) = stays f g n x p msg.Final are is (on_final c (Some i)) refl refl refl refl tt (record { arrived_is = refl; done_is = refl }) (λ _. refl) (λ a e. cc)
+  final_leads is None = stays f g n x p msg.Final are is (on_final c None) refl refl refl refl tt (record { arrived_is = refl; done_is = refl; installed_is = refl }) (λ a e. cc)
+  final_leads is (Some i) = stays f g n x p msg.Final are is (on_final c (Some i)) refl refl refl refl tt (record { arrived_is = refl; done_is = refl; installed_is = refl }) (λ a e. cc)
 
   row_leads : (m : Msg) → Taken m → RowLeads f g x p m (row c p m)
   row_leads (msg.Asked command) is = asked_leads f g n x p command are is

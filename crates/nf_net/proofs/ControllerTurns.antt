@@ -1,5 +1,5 @@
 -- The controller's step on a message of an open move, or of a number of which no move is open.
-use Rattle.std.proofs.Common.{◌≡◌, ℕ, ◌+◌, ◌<◌, ◌≤◌, Bool, true, false, cond, Option, Some, None, List, [], ◌∷◌, map, length, refl, sym, ap, ◌∙◌, subst, arith, eqb}
+use Rattle.std.proofs.Common.{◌≡◌, ℕ, ◌+◌, ◌<◌, ◌≤◌, true, false, cond, Option, Some, None, List, [], ◌∷◌, map, length, refl, sym, ap, ◌∙◌, subst, arith, eqb}
 use Rattle.std.specs.Prelude.{if◌then◌else◌, ◌==◌, ◌-◌, nat_lt, nat_le, unwrap_or}
 use Rattle.std.specs.FinMap as finite
 use Rattle.std.proofs.lemmas.Bool.Decides.{nat_tests, Decides-eqb, Decides-ltb}
@@ -32,7 +32,6 @@ use Rattle.abstract_net.proofs.Ctrl.{each_found, each_set}
 use Rattle.nf_net.proofs.Outline.{number, entries, outline_piece, is_sys}
 use Rattle.nf_net.proofs.InstanceOutline.{filter_map-put}
 use Rattle.record_table.specs.Chunks.{spelled}
-use Rattle.nf_net.specs.Log.{has_begun}
 use Rattle.abstract_net.proofs.Copies.{has, have, copies, one_copy, one_copy_back, event_open}
 use Rattle.nf_net.proofs.MoveOutline.{outline_plan, outline_phase, RowFollows, put_no_row, event_row}
 use Rattle.nf_net.proofs.ControlOutline.{Sees, SeesMove, Opens, TurnFollows, stored_after, got_insert, got_remove, turn_same}
@@ -159,12 +158,8 @@ module _ {R : Type 0} (f : Semantics R) (g : Given) where
   turn_labels c n t (Some why) h = sent-append (Label f g) 1 t.sends ((switch_node, msg.Answered n) ∷ []) h ((refl, refl), tt)
 
 turn_quiet : (c : ControllerState) (n : ℕ) (t : Turn) (a : Option Answer) → AreQuiet (after_turn c n t a).notes
-turn_quiet c n t None = record { arrived_is = refl; done_is = refl }
-turn_quiet c n t (Some why) = record { arrived_is = refl; done_is = refl }
-
-turn_begins : (c : ControllerState) (n : ℕ) (t : Turn) (a : Option Answer) (these : ℕ → Bool) → has_begun these (after_turn c n t a).notes ≡ false
-turn_begins c n t None these = refl
-turn_begins c n t (Some why) these = refl
+turn_quiet c n t None = record { arrived_is = refl; done_is = refl; installed_is = refl }
+turn_quiet c n t (Some why) = record { arrived_is = refl; done_is = refl; installed_is = refl }
 
 module _ {F R : Type 0} (f : Semantics R) (g : Given) (n : ℕ) (x : Scene F f g) (p : ℕ) (m : Msg) (are : AreShown f g n x) (is : IsTaken f g n x (record { node = 1; port = p; message = m })) where
   abbrev c : ControllerState
@@ -195,7 +190,7 @@ module _ {F R : Type 0} (f : Semantics R) (g : Given) (n : ℕ) (x : Scene F f g
 
   -- of a number that has no open move nothing is done
   idle : (op : ℕ) (pm : real.Msg R) → shown f g m ≡ Some (net.Mv net.everything pm) → num_of pm ≡ Some op → finite.get c.operations op ≡ None → RowLeads f g x p m (handed c op p m)
-  idle op pm seen num none = subst (λ o. RowLeads f g x p m (takes_turn c op (turn_of o c.store p m))) (sym none) (stays f g n x p m are is (takes_turn c op (turn_of None c.store p m)) refl refl refl refl tt (record { arrived_is = refl; done_is = refl }) (λ _. refl) (λ a e.
+  idle op pm seen num none = subst (λ o. RowLeads f g x p m (takes_turn c op (turn_of o c.store p m))) (sym none) (stays f g n x p m are is (takes_turn c op (turn_of None c.store p m)) refl refl refl refl tt (record { arrived_is = refl; done_is = refl; installed_is = refl }) (λ a e.
       let same : net.Mv net.everything pm ≡ a = some_same (sym seen ∙ e) in
       subst (λ b. ctrl_step x.world.ops p b ≡ record { ops = x.world.ops; sends = [] }) same (ap (numbered x.world.ops p pm) num ∙ ap (found x.world.ops op p pm) (none_open op none))))
 
@@ -219,8 +214,7 @@ module _ {F R : Type 0} (f : Semantics R) (g : Given) (n : ℕ) (x : Scene F f g
       subst (RowLeads f g x p m) (sym ended) (taken f g n x p m are is (after_turn c op (moved mv c.store real_row) (answer_of real_row.next.phase)) (net.Mv net.everything pm) (found x.world.ops op p pm (Some e)) seen
       (ap (numbered x.world.ops p pm) num ∙ ap (found x.world.ops op p pm) b.there) after turns.sends
       (turn_labels f g c op (moved mv c.store real_row) (answer_of real_row.next.phase) keeps.labels)
-      (turn_quiet c op (moved mv c.store real_row) (answer_of real_row.next.phase))
-      (turn_begins c op (moved mv c.store real_row) (answer_of real_row.next.phase)))
+      (turn_quiet c op (moved mv c.store real_row) (answer_of real_row.next.phase)))
 
   -- a unit stands at most once among what a move keeps
   kept_once : (op : ℕ) (mv : MoveState) → finite.get c.operations op ≡ Some (Move mv) → (u : units.Unit) → times u (entries f (kept_in mv.phase)) ≤ 1

@@ -20,12 +20,14 @@ use Rattle.nf_net.specs.Input.{IsInput}
 use Rattle.nf_net.specs.Nodes.{node_step, node_ready, node_ended}
 use Rattle.nf_net.specs.Promises.{Promises, Completed, went}
 use Rattle.nf_net.specs.Start.{started}
+use Rattle.nf_net.specs.Verdicts.{Verdicts}
 use Rattle.nf_net.specs.Window.{AllHome}
 use Rattle.nf_net.proofs.ArrivalLemmas.{arrivals_run}
 use Rattle.nf_net.proofs.CompleteRuns.{complete_run, fold_is}
 use Rattle.nf_net.proofs.OutputSteps.{outputs_run}
 use Rattle.nf_net.proofs.RecordPromises.{record_is, one_place}
 use Rattle.nf_net.proofs.CommandPromises.{run_answers}
+use Rattle.nf_net.proofs.JudgedRuns.{verdicts}
 use Rattle.nf_net.proofs.PlaceRuns.{places}
 use Rattle.nf_net.proofs.WindowRuns.{window_kept, all_home}
 use Rattle.nf_net.proofs.StartJoined.{given, count_at_start}
@@ -69,6 +71,7 @@ module _ (F : Type 0) {R : Type 0} (f : Semantics R) (laws : FunctionLaws f) (al
     pub choices : r.1 ≡ chosen f first schedule
     pub end : EndsIn f first schedule r.0
     pub promises : Promises f c items r.0
+    pub verdicts : Verdicts f first r.1 c items
     pub completed : Completed f c items r.0
     pub home : AllHome c r.0
 
@@ -92,6 +95,7 @@ module _ (F : Type 0) {R : Type 0} (f : Semantics R) (laws : FunctionLaws f) (al
           complete = h.complete;
         };
         promises = subst (λ v. Promises f c items v) (sym reached) (every_run F f laws alloc c items is r.1 runs);
+        verdicts = verdicts F f laws alloc c items is r.1 runs;
         completed = subst (λ v. Completed f c items v) (sym reached) (every_end F f laws alloc c items is r.1 runs complete);
         home = subst (λ v. AllHome c v) (sym reached) (every_home F f laws alloc c items is r.1 runs complete);
       }
@@ -102,14 +106,15 @@ module _ (F : Type 0) {R : Type 0} (f : Semantics R) (laws : FunctionLaws f) (al
     pub choices : IfOk result (λ r. r.1 ≡ chosen f (started {F = F} {R = R} alloc c items) schedule)
     pub end : IfOk result (λ r. EndsIn f (started alloc c items) schedule r.0)
     pub promises : IfOk result (λ r. Promises f c items r.0)
+    pub verdicts : IfOk result (λ r. Verdicts f (started {F = F} {R = R} alloc c items) r.1 c items)
     pub completed : IfOk result (λ r. Completed f c items r.0)
     pub home : IfOk result (λ r. AllHome c r.0)
 
   pub ends : {E : Type 0} (result : Result (Network (Node F R) Msg Note × List Choice) E) (w : Network (Node F R) Msg Note) → w ≡ started alloc c items → IfOk result (λ r. r.1 ≡ chosen f w schedule) → IfOk result (λ r. r.0 ≡ run (node_step f) r.1 w) → IfOk result (λ r. IsRun node_ready (node_step f) r.1 w) → IfOk result (λ r. is_done node_ended r.0 ≡ true) → Ends result
-  ends (Err e) w start a b d h = record { choices = tt; end = tt; promises = tt; completed = tt; home = tt }
+  ends (Err e) w start a b d h = record { choices = tt; end = tt; promises = tt; verdicts = tt; completed = tt; home = tt }
   ends (Ok r) w start a b d h =
       let k = keeps F f laws alloc c items is schedule w start r (record { choices = a; world = b; is_run = d; complete = h }) in
-      record { choices = k.choices; end = k.end; promises = k.promises; completed = k.completed; home = k.home }
+      record { choices = k.choices; end = k.end; promises = k.promises; verdicts = k.verdicts; completed = k.completed; home = k.home }
 
   pub stops : (w : Network (Node F R) Msg Note) → w ≡ started alloc c items → (step : ℕ) → length (chosen f w schedule) ≡ step → StopsShort node_ready node_ended (run (node_step f) (chosen f w schedule) w) step → StopsAt f (started {F = F} {R = R} alloc c items) schedule step
   stops w start step count short = subst (λ v. StopsAt f v schedule step) start (record { count = count; short = short })
@@ -121,3 +126,10 @@ replay_keeps F {R = R} f laws alloc c items is cs w (Ok reached) start h =
     let ok = replayed_ok node_ready (node_step f) cs w reached (sym (h (λ bad. cc))) in
     let runs : IsRun node_ready (node_step f) cs (started {F = F} {R = R} alloc c items) = subst (λ v. IsRun node_ready (node_step f) cs v) start ok.0 in
     subst (λ v. Promises f c items v) (sym (ok.1 ∙ ap (run (node_step f) cs) start)) (every_run F f laws alloc c items is cs runs)
+
+pub replay_judges : (F : Type 0) {R : Type 0} (f : Semantics R) (laws : FunctionLaws f) (alloc : Global) (c : Config) (items : List Msg) (is : IsInput f.kind c items) (cs : List Choice) (w : Network (Node F R) Msg Note) (result : Result (Network (Node F R) Msg Note) ReplayFault) → w ≡ started alloc c items → (result ≢ Err NoMemory → result ≡ replayed node_ready (node_step f) cs w) → IfOk result (λ reached. Verdicts f w cs c items)
+replay_judges F f laws alloc c items is cs w (Err e) start h = tt
+replay_judges F {R = R} f laws alloc c items is cs w (Ok reached) start h =
+    let ok = replayed_ok node_ready (node_step f) cs w reached (sym (h (λ bad. cc))) in
+    let runs : IsRun node_ready (node_step f) cs (started {F = F} {R = R} alloc c items) = subst (λ v. IsRun node_ready (node_step f) cs v) start ok.0 in
+    subst (λ v. Verdicts f v cs c items) (sym start) (verdicts F f laws alloc c items is cs runs)

@@ -138,6 +138,10 @@ takes_matches kind g (OfHost host) w e = local_takes g (flow_in (OfHost host)) (
 meet_none : (g h : Filter) → is_some (meet g h) ≡ false → meet g h ≡ None
 meet_none g h e = none_is (meet g h) e
 
+-- a filter that splits no unit takes a unit that packets may have, or doesn't
+pub takes_same : (kind : Kind) (g : Filter) (u : units.Unit) → is_whole kind g ≡ true → unit_fits kind u ≡ true → takes_whole kind g u ≡ takes g u
+takes_same kind g u whole fits = rw (whole, fits) refl
+
 -- two filters that don't meet
 pub filters_apart : (kind : Kind) (g h : Filter) (u : units.Unit) → meets g h ≡ false → takes_whole kind g u ≡ true → takes_whole kind h u ≡ false
 filters_apart kind g h u off on =

@@ -12,6 +12,7 @@ use Rattle.nf_msgs.specs.declared.msg.Piece.{Piece}
 use Rattle.nf_msgs.specs.declared.msg.Msg.{Msg}
 use Rattle.nf_msgs.specs.declared.msg.Msg.TheVariants as msg
 use Rattle.nf_msgs.specs.declared.note.Note.{Note}
+use Rattle.nf_msgs.specs.Nodes.{instance_node}
 use Rattle.packet_pool.specs.Pool.{FullCell}
 use Rattle.event_filter.specs.declared.action.Action.{Action}
 use Rattle.event_filter.specs.declared.mark.Mark.TheVariants as mark
@@ -26,16 +27,16 @@ use Rattle.abstract_net.proofs.Waits.{nums, Rising}
 use Rattle.abstract_net.proofs.Every.{Every, inst_every}
 use Rattle.nf_net.specs.declared.node.Node.TheVariants.{Instance}
 use Rattle.nf_net.specs.Nodes.{node_step}
-use Rattle.nf_net.specs.Log.{arrived, done, has_begun, those}
-use Rattle.nf_net.proofs.FiltersApart.{is_whole}
+use Rattle.nf_net.specs.Log.{arrived, done, installed, those}
+use Rattle.nf_net.proofs.FiltersApart.{is_whole, unit_fits}
 use Rattle.nf_net.proofs.Outline.{number, rule_of, entries, outline_piece, ran_in, is_sys, outline_instance}
 use Rattle.nf_net.proofs.InstanceOutline.{Follows, carry_follows, pass_follows, fence_follows, enable_follows}
 use Rattle.nf_net.proofs.StateOutline.{stream_follows, delete_follows, put_follows, restore_follows}
-use Rattle.nf_net.proofs.LogLemmas.{arrived-append, done-append, has_begun-append, by_node-append, every_same}
-use Rattle.nf_net.proofs.InstanceNotes.{AreOwn, none_arrived, none_begun, done_own}
+use Rattle.nf_net.proofs.LogLemmas.{arrived-append, done-append, by_node-append, every_same, owners_on, loose_on}
+use Rattle.nf_net.proofs.InstanceNotes.{AreOwn, none_arrived, none_installed, done_own}
 use Rattle.nf_net.proofs.InstanceKeeps.{has_records, chunks_good}
 use Rattle.nf_net.proofs.InstanceRows.{IsRight, Leaves, carry_leaves, pass_leaves, fence_leaves, stop_leaves, enable_leaves, stream_leaves, delete_leaves, put_leaves, restore_leaves}
-use Rattle.nf_net.proofs.Joined.{Given, place, Nodes, Took, Scene, S, shown, bares, is_of, commands, by_node, Genuine, AreGoodChunks, IsGoodPiece, Label, IsInstanceAt, AreShown, IsTaken, Leads, node_of}
+use Rattle.nf_net.proofs.Joined.{Given, owner_by, loose_by, place, Nodes, Took, Scene, S, shown, is_of, commands, by_node, Genuine, AreGoodChunks, IsGoodPiece, Label, IsInstanceAt, AreShown, IsTaken, Leads, node_of}
 
 or_false : (b : Bool) → b || false ≡ b
 or_false true = refl
@@ -94,11 +95,11 @@ module _ {F R : Type 0} (f : Semantics R) (laws : FunctionLaws f) (g : Given) (n
     arrived_same : arrived x.log ≡ arrived (x.log ++ notes)
     arrived_same = sym (arrived-append x.log notes ∙ ap (λ ps. arrived x.log ++ ps) (none_arrived own_node notes its_own) ∙ append-nil (arrived x.log))
 
-    begun_same : (these : ℕ → Bool) → has_begun these x.log ≡ has_begun these (x.log ++ notes)
-    begun_same these = sym (has_begun-append these x.log notes ∙ ap (λ b. has_begun these x.log || b) (none_begun these own_node notes its_own) ∙ or_false (has_begun these x.log))
+    owners_after : (u : units.Unit) → unit_fits f.kind u ≡ true → x.world.target u ≡ instance_node (owner_by g u (installed (x.log ++ notes)))
+    owners_after u fits = owners_on f g n x are notes (none_installed own_node notes its_own) u fits
 
-    every_after : (w : World (S f g)) → Every (S f g) (is_sys f g.site g.packet) w (λ u. those (is_of f g u) (arrived x.log)) (λ u. has_begun (bares f g u) x.log) → Every (S f g) (is_sys f g.site g.packet) w (λ u. those (is_of f g u) (arrived (x.log ++ notes))) (λ u. has_begun (bares f g u) (x.log ++ notes))
-    every_after w h = every_same (S f g) (is_sys f g.site g.packet) w _ _ _ _ (λ u. ap (those (is_of f g u)) arrived_same) (λ u. begun_same (bares f g u)) h
+    every_after : (w : World (S f g)) → Every (S f g) (is_sys f g.site g.packet) w (λ u. those (is_of f g u) (arrived x.log)) (λ u. loose_by g u (installed x.log)) → Every (S f g) (is_sys f g.site g.packet) w (λ u. those (is_of f g u) (arrived (x.log ++ notes))) (λ u. loose_by g u (installed (x.log ++ notes)))
+    every_after w h = every_same (S f g) (is_sys f g.site g.packet) w _ _ _ _ (λ u. ap (those (is_of f g u)) arrived_same) (loose_on f g n x are notes (none_installed own_node notes its_own)) h
 
     done_after : (ran : List ℕ) → filter_map ran_in notes ≡ ran → x.world.done ++ at_node own_node ran ≡ by_node f g (done (x.log ++ notes))
     done_after ran is =
@@ -144,6 +145,7 @@ module _ {F R : Type 0} (f : Semantics R) (laws : FunctionLaws f) (g : Given) (n
         shown_is = record {
           switch = are.switch;
           controller = are.controller;
+          owners = owners_after are step.notes leaves.notes;
           instances = instances_after are step.node (inst_step (S f g) (x.world.inst own_node) seen).node leaves.node goes.node;
           every = every_after are step.notes leaves.notes (inst_next (S f g) x.world p own_node seen) (inst_every (S f g) (is_sys f g.site g.packet) x.world _ _ are.every p own_node seen is.rest not_first not_second heads);
           done_is = done_after are step.notes leaves.notes (inst_step (S f g) (x.world.inst own_node) seen).ran goes.ran;
@@ -171,6 +173,7 @@ module _ {F R : Type 0} (f : Semantics R) (laws : FunctionLaws f) (g : Given) (n
         shown_is = record {
           switch = are.switch;
           controller = are.controller;
+          owners = owners_after are (on_stop own).notes leaves.notes;
           instances = λ k two within. subst (λ seen. IsInstanceAt f g k (put x.nodes.instance own_node (on_stop own).node k) seen) (same_world k) (instances_after are (on_stop own).node (x.world.inst own_node) leaves.node at.outline_is k two within);
           every = every_after are (on_stop own).notes leaves.notes x.world are.every;
           done_is = sym (append-nil x.world.done) ∙ done_after are (on_stop own).notes leaves.notes [] refl;

@@ -6,6 +6,7 @@ use Rattle.std.specs.List.{filter_map, IsDistinct}
 use Rattle.std.specs.Map.{keys_of}
 use Rattle.std.specs.Str.{bytes_eq}
 use Rattle.std.specs.FinMap as finite
+use Rattle.flow_filter.specs.declared.filter.Filter.{Filter}
 use Rattle.flow_filter.specs.declared.packet.Packet.{Packet}
 use Rattle.flow_filter.specs.declared.site.Site.{Site}
 use Rattle.nf_function.specs.declared.chunk.Chunk.{Chunk}
@@ -31,7 +32,7 @@ use Rattle.move_op.specs.declared.door.Door.{Door}
 use Rattle.move_op.specs.declared.door.Door.TheVariants as door
 use Rattle.move_op.specs.declared.phase.Phase.{Phase}
 use Rattle.move_op.specs.declared.phase.Phase.TheVariants as phase
-use Rattle.move_op.specs.Move.{MoveState}
+use Rattle.move_op.specs.Move.{MovePlan, MoveState}
 use Rattle.switch_node.specs.Switch.{SwitchState, takes_in}
 use Rattle.ctrl_node.specs.declared.operation.Operation.TheVariants.{Move}
 use Rattle.ctrl_node.specs.Controller.{ControllerState, place_of}
@@ -48,8 +49,9 @@ use Rattle.abstract_net.proofs.Every.{Every}
 use Rattle.unit_machine.proofs.Real.{sent_for}
 use Rattle.nf_net.specs.declared.node.Node.{Node}
 use Rattle.nf_net.specs.declared.node.Node.TheVariants.{Switch, Controller, Instance}
-use Rattle.nf_net.specs.Log.{Done, arrived, done, has_begun, those}
-use Rattle.nf_net.proofs.FiltersApart.{is_whole, unit_fits, takes_whole}
+use Rattle.nf_net.specs.Log.{Done, arrived, done, installed, those}
+use Rattle.nf_net.specs.Places.{owner_after, loose_after}
+use Rattle.nf_net.proofs.FiltersApart.{is_whole, unit_fits}
 use Rattle.nf_net.proofs.Outline.{entries, rule_of, outline, outline_sends, sys, is_sys, outline_instance}
 use Rattle.nf_net.proofs.InstanceOutline.{IsGenuine, IsInstance}
 use Rattle.nf_net.proofs.StateOutline.{HasRecords}
@@ -57,15 +59,40 @@ use Rattle.nf_net.proofs.MoveOutline.{IsChunk, IsRefusing, is_done}
 use Rattle.nf_net.proofs.SwitchOutline.{Routes}
 use Rattle.nf_net.proofs.ControlOutline.{Opens}
 
--- what a run is given: the site, the packet of each number, the instances' names, and the order under each number
+-- what a run is given: the site, the packet of each number, the instances' names, the order under each number, and who owns each
+-- unit at first
 pub record Given : Type 0 where
   pub site : Site
   pub packet : ℕ → Packet
   pub names : List (List ℕ)
   pub orders : ℕ → Option Order
+  pub first : units.Unit → ℕ
 
 abbrev pub place : Given → List ℕ → Option ℕ
 place g = place_of g.names
+
+-- the plan of a move is that of the order under its number
+pub record IsPlan (g : Given) (op : ℕ) (plan : MovePlan) : Type 0 where
+  pub source : List ℕ
+  pub destination : List ℕ
+  pub order_is : g.orders op ≡ Some (order.Move source destination plan.filter plan.keep)
+  pub from_is : place_of g.names source ≡ Some plan.from
+  pub to_is : place_of g.names destination ≡ Some plan.to
+
+-- a change of the switch's rules is that of the order under its number
+pub record IsInstall (g : Given) (op : ℕ) (filter : Filter) (from : ℕ) (to : Target) : Type 0 where
+  pub plan : MovePlan
+  pub plan_is : IsPlan g op plan
+  pub filter_is : plan.filter ≡ filter
+  pub from_is : plan.from ≡ from
+  pub to_is : to ≡ target.Instance plan.to
+
+-- who owns a unit after these commands were installed, and whether one of them was a plain move that handed it on
+abbrev pub owner_by : Given → units.Unit → List ℕ → ℕ
+owner_by g u ops = owner_after g.names g.orders u (g.first u) ops
+
+abbrev pub loose_by : Given → units.Unit → List ℕ → Bool
+loose_by g u ops = loose_after g.names g.orders u (g.first u) ops
 
 -- between which nodes a message goes
 abbrev pub FromSwitch : ℕ → ℕ → Type 0
@@ -149,6 +176,7 @@ module _ {R : Type 0} (f : Semantics R) (g : Given) where
     pub to : nat_lt m.plan.to count ≡ true
     pub other : m.plan.from ≢ m.plan.to
     pub whole : is_whole f.kind m.plan.filter ≡ true
+    pub plan : IsPlan g m.plan.op m.plan
     pub refusing : IsRefusing m.phase
     pub pieces : HasPieces m.phase
 
@@ -161,7 +189,7 @@ module _ {R : Type 0} (f : Semantics R) (g : Given) where
   Label s r (msg.Asked c) = (s ≡ 0) × (r ≡ 1) × IsCommand c
   Label s r msg.End = (s ≡ 0) × (r ≡ 1)
   Label s r (msg.Forward to mark cell) = ToSwitch s r × (nat_lt to count ≡ true) × (is_passed mark ≡ true) × Genuine cell
-  Label s r (msg.Install op filter from to) = ToSwitch s r × (nat_lt from count ≡ true) × (is_instance count to ≡ true) × (is_whole f.kind filter ≡ true)
+  Label s r (msg.Install op filter from to) = ToSwitch s r × (nat_lt from count ≡ true) × (is_instance count to ≡ true) × (is_whole f.kind filter ≡ true) × IsInstall g op filter from to
   Label s r (msg.FenceTo op to) = ToSwitch s r × (nat_lt to count ≡ true)
   Label s r (msg.Answered op) = ToSwitch s r
   Label s r msg.Finish = ToSwitch s r
@@ -196,14 +224,6 @@ module _ {R : Type 0} (f : Semantics R) (g : Given) where
   commands [] = []
   commands (msg.InCommand c ∷ ms) = c.op ∷ commands ms
   commands (m ∷ ms) = commands ms
-
-  -- whether a move that doesn't keep the order of a unit's packets has this number
-  abbrev pub bares_in : units.Unit → Option Order → Bool
-  bares_in u (Some (order.Move src dst filter keep)) = not keep && takes_whole f.kind filter u
-  bares_in u what = false
-
-  abbrev pub bares : units.Unit → ℕ → Bool
-  bares u op = bares_in u (g.orders op)
 
   -- whether a packet is of a unit
   abbrev pub is_of : units.Unit → ℕ → Bool
@@ -287,8 +307,9 @@ module _ {F R : Type 0} (f : Semantics R) (g : Given) where
   pub record AreShown (n : ℕ) (x : Scene F f g) : Type 0 where
     pub switch : IsSwitch f g x.nodes.switch x.world.target
     pub controller : IsController f g x.nodes.controller x.world.ops x.world.next
+    pub owners : (u : units.Unit) → unit_fits f.kind u ≡ true → x.world.target u ≡ instance_node (owner_by g u (installed x.log))
     pub instances : (k : ℕ) → 2 ≤ k → k < n → IsInstanceAt k (x.nodes.instance k) (x.world.inst k)
-    pub every : Every (S f g) (is_sys f g.site g.packet) x.world (λ u. those (is_of f g u) (arrived x.log)) (λ u. has_begun (bares f g u) x.log)
+    pub every : Every (S f g) (is_sys f g.site g.packet) x.world (λ u. those (is_of f g u) (arrived x.log)) (λ u. loose_by g u (installed x.log))
     pub done_is : x.world.done ≡ by_node f g (done x.log)
     pub rising : Rising x.world.next (nums (x.world.link 0 1) ++ commands f g x.input)
 

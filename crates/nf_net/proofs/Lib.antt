@@ -19,6 +19,8 @@ pub mod EndRuns
 pub mod EndTables
 pub mod EveryRun
 pub mod FiltersApart
+pub mod GivenState
+pub mod HandedUnits
 pub mod InputLemmas
 pub mod InstallCounts
 pub mod InstallRuns
@@ -31,9 +33,17 @@ pub mod InstanceSends
 pub mod InstanceSteps
 pub mod Joined
 pub mod JoinedSteps
+pub mod JudgedController
+pub mod JudgedFacts
+pub mod JudgedInstance
+pub mod JudgedNodes
+pub mod JudgedRuns
+pub mod JudgedSteps
 pub mod LinePicks
 pub mod LinkOutline
 pub mod LogLemmas
+pub mod MoveJudged
+pub mod MoveOnce
 pub mod MoveOutline
 pub mod MoveSays
 pub mod MoveSteps
@@ -42,7 +52,6 @@ pub mod Outline
 pub mod OutputLemmas
 pub mod OutputSteps
 pub mod OwnerLemmas
-pub mod OwnerSteps
 pub mod PacketCounts
 pub mod PlaceNotes
 pub mod PlaceRuns
@@ -58,5 +67,6 @@ pub mod SwitchOutline
 pub mod SwitchSteps
 pub mod ToldCommands
 pub mod UnitCounts
+pub mod VerdictLemmas
 pub mod WindowRuns
 pub mod WindowSteps

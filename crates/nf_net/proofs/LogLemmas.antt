@@ -1,5 +1,5 @@
 -- What is read off a log that goes on; and where a unit is doesn't depend on how its packets are told.
-use Rattle.std.proofs.Common.{◌≡◌, ℕ, Bool, true, false, List, [], ◌∷◌, ◌++◌, refl, ap, ◌∙◌, subst}
+use Rattle.std.proofs.Common.{◌≡◌, ℕ, Bool, true, false, List, [], ◌∷◌, ◌++◌, refl, sym, ap, ◌∙◌, subst}
 use Rattle.std.specs.Prelude.{if◌then◌else◌, ◌||◌}
 use Rattle.nf_function.specs.declared.unit.Unit as units
 use Rattle.nf_msgs.specs.declared.note.Note.{Note}
@@ -9,8 +9,10 @@ use Rattle.nf_function.specs.Semantics.{Semantics}
 use Rattle.abstract_net.proofs.Net.{Sys, IsSys, World}
 use Rattle.abstract_net.proofs.Every.{Every}
 use Rattle.abstract_net.proofs.Units.{Where}
-use Rattle.nf_net.specs.Log.{Done, arrived, done, has_begun, those}
-use Rattle.nf_net.proofs.Joined.{Given, by_node}
+use Rattle.nf_net.specs.Log.{Done, arrived, done, has_begun, installed, those}
+use Rattle.nf_net.proofs.FiltersApart.{unit_fits}
+use Rattle.nf_net.proofs.OwnerLemmas.{installed_same}
+use Rattle.nf_net.proofs.Joined.{Given, Scene, AreShown, by_node, owner_by, loose_by}
 
 pub arrived-append : (xs ys : List Note) → arrived (xs ++ ys) ≡ arrived xs ++ arrived ys
 arrived-append [] ys = refl
@@ -66,3 +68,11 @@ every_same S laws w arrived arrived' bared bared' a b h = record {
   global = h.global;
   unit = λ u. subst (λ ps. Where S laws u w ps (bared' u)) (a u) (subst (λ c. Where S laws u w (arrived u) c) (b u) (h.unit u));
 }
+
+-- who owns a unit, and whether a plain move handed it on, after notes among which no change of the rules stands
+module _ {F R : Type 0} (f : Semantics R) (g : Given) (n : ℕ) (x : Scene F f g) (are : AreShown f g n x) (notes : List Note) (none : installed notes ≡ []) where
+  pub owners_on : (u : units.Unit) → unit_fits f.kind u ≡ true → x.world.target u ≡ instance_node (owner_by g u (installed (x.log ++ notes)))
+  owners_on u fits = are.owners u fits ∙ ap (λ ops. instance_node (owner_by g u ops)) (sym (installed_same x.log notes none))
+
+  pub loose_on : (u : units.Unit) → loose_by g u (installed x.log) ≡ loose_by g u (installed (x.log ++ notes))
+  loose_on u = ap (loose_by g u) (sym (installed_same x.log notes none))

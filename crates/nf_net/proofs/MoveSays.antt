@@ -1,10 +1,8 @@
--- What a move sends to change the switch's rules is as its order says, and what a move is answered is why it was refused, or that it is done.
+-- What a move is answered is why it was refused, or that it is done.
 use Rattle.std.proofs.Common.{◌≡◌, ℕ, Bool, true, false, Option, Some, None, List, [], ◌∷◌, ◌++◌, map, refl, subst}
 use Rattle.std.specs.Prelude.{if◌then◌else◌, ◌&&◌, ◌||◌, ◌==◌, length}
-use Rattle.flow_filter.specs.declared.filter.Filter.{Filter}
 use Rattle.nf_function.specs.declared.chunk.Chunk.{Chunk}
 use Rattle.packet_pool.specs.Pool.{FullCell}
-use Rattle.switch_rules.specs.declared.target.Target.{Target}
 use Rattle.switch_rules.specs.declared.target.Target.TheVariants as target
 use Rattle.nf_msgs.specs.declared.answer.Answer.{Answer}
 use Rattle.nf_msgs.specs.declared.msg.Piece.{Piece}
@@ -19,19 +17,10 @@ use Rattle.move_op.specs.Move.{MovePlan, MoveState, Next, Row, keeps, goes, chun
 use Rattle.actor_net.proofs.WeightLaws.{EachSent}
 use Rattle.nf_net.proofs.Joined.{Given}
 use Rattle.nf_net.proofs.BusyLemmas.{is_outcome}
-use Rattle.nf_net.proofs.BusyOperations.{IsPlan, HasOutcome}
-
--- a change of the switch's rules is that of the order under its number
-pub record IsInstall (g : Given) (op : ℕ) (filter : Filter) (from : ℕ) (to : Target) : Type 0 where
-  pub plan : MovePlan
-  pub plan_is : IsPlan g op plan
-  pub filter_is : plan.filter ≡ filter
-  pub from_is : plan.from ≡ from
-  pub to_is : to ≡ target.Instance plan.to
+use Rattle.nf_net.proofs.BusyOperations.{HasOutcome}
 
 -- what is known of a message, by sender and receiver
 abbrev pub Says : Given → ℕ → ℕ → Msg → Type 0
-Says g s r (msg.Install op filter from to) = IsInstall g op filter from to
 Says g s r (msg.PutNo op refused) = is_outcome refused.why ≡ true
 Says g s r message = Unit {0}
 
@@ -61,7 +50,7 @@ module _ (g : Given) where
   stays : (ph : Phase) → HasOutcome ph → NextSays (goes ph [])
   stays ph h = record { outcome = h; says = tt }
 
-  module _ (plan : MovePlan) (is : IsPlan g plan.op plan) where
+  module _ (plan : MovePlan) where
     puts : (ps : List Piece) → EachSent (Says g) 1 (map (put_to plan false) ps)
     puts [] = tt
     puts (p ∷ ps) = (tt, puts ps)
@@ -85,7 +74,7 @@ module _ (g : Given) where
       released_says : NextSays (released plan events).next
       released_says = record {
         outcome = tt;
-        says = says-append g 1 (map (forward_to plan plan.to) events) ((0, msg.Install plan.op plan.filter plan.from (target.Instance plan.to)) ∷ []) (forwards plan.to events) (record { plan = plan; plan_is = is; filter_is = refl; from_is = refl; to_is = refl }, tt);
+        says = says-append g 1 (map (forward_to plan plan.to) events) ((0, msg.Install plan.op plan.filter plan.from (target.Instance plan.to)) ∷ []) (forwards plan.to events) (tt, tt);
       }
 
       returned_says : (why : Answer) → is_outcome why ≡ true → NextSays (returned plan why events).next
@@ -182,5 +171,5 @@ module _ (g : Given) where
     pub outcome : HasOutcome r.next.phase
     pub says : EachSent (Says g) 1 r.next.sends
 
-  pub move_says : (m : MoveState) (events : List FullCell) (port : ℕ) (message : Msg) → IsPlan g m.plan.op m.plan → HasOutcome m.phase → Says g port 1 message → RowSays (row m events port message)
-  move_says m events port message plan h label = let it = row_says m.plan plan events m.phase port message h label in record { outcome = it.outcome; says = it.says }
+  pub move_says : (m : MoveState) (events : List FullCell) (port : ℕ) (message : Msg) → HasOutcome m.phase → Says g port 1 message → RowSays (row m events port message)
+  move_says m events port message h label = let it = row_says m.plan events m.phase port message h label in record { outcome = it.outcome; says = it.says }

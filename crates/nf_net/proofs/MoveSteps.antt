@@ -23,7 +23,7 @@ use Rattle.nf_net.proofs.FiltersApart.{is_whole}
 use Rattle.nf_net.proofs.Outline.{entries}
 use Rattle.nf_net.proofs.InstanceOutline.{filter_map-put}
 use Rattle.nf_net.proofs.MoveOutline.{IsRefusing, is_done}
-use Rattle.nf_net.proofs.Joined.{Given, Genuine, IsMove, IsGoodChunk, AreGoodChunks, IsGoodPiece, AreFree, HasPieces, Label, count}
+use Rattle.nf_net.proofs.Joined.{Given, IsPlan, Genuine, IsMove, IsGoodChunk, AreGoodChunks, IsGoodPiece, AreFree, HasPieces, Label, count}
 use Rattle.nf_net.proofs.UnitCounts.{times, times-append, distinct_from_times}
 
 -- the chunks that a message brings back
@@ -92,7 +92,7 @@ module _ {R : Type 0} (f : Semantics R) (g : Given) where
   stays : (ph : Phase) → IsRefusing ph → HasPieces f g ph → NextIs (goes ph [])
   stays ph refusing pieces = record { refusing = refusing; pieces = pieces; labels = tt }
 
-  module _ (plan : MovePlan) (from : nat_lt plan.from (count f g) ≡ true) (to : nat_lt plan.to (count f g) ≡ true) (whole : is_whole f.kind plan.filter ≡ true) where
+  module _ (plan : MovePlan) (from : nat_lt plan.from (count f g) ≡ true) (to : nat_lt plan.to (count f g) ≡ true) (whole : is_whole f.kind plan.filter ≡ true) (its : IsPlan g plan.op plan) where
     puts : (ps : List Piece) → Each (IsGoodPiece f g) ps → EachSent (Label f g) 1 (map (put_to plan false) ps)
     puts [] h = tt
     puts (p ∷ ps) h = (((refl, omega arith), h.0), puts ps h.1)
@@ -129,7 +129,7 @@ module _ {R : Type 0} (f : Semantics R) (g : Given) where
         next = record {
           refusing = tt;
           pieces = tt;
-          labels = sent-append (Label f g) 1 (map (forward_to plan plan.to) events) ((0, msg.Install plan.op plan.filter plan.from (target.Instance plan.to)) ∷ []) (forwards plan.to to events genuine) (((refl, refl), from, to, whole), tt);
+          labels = sent-append (Label f g) 1 (map (forward_to plan plan.to) events) ((0, msg.Install plan.op plan.filter plan.from (target.Instance plan.to)) ∷ []) (forwards plan.to to events genuine) (((refl, refl), from, to, whole, record { plan = plan; plan_is = its; filter_is = refl; from_is = refl; to_is = refl }), tt);
         };
         genuine = tt;
       }
@@ -250,9 +250,9 @@ module _ {R : Type 0} (f : Semantics R) (g : Given) where
 
   pub row_keeps : (op : ℕ) (m : MoveState) (events : List FullCell) (port : ℕ) (message : Msg) → IsMove f g op m → Each (Genuine f g) events → Label f g port 1 message → ((u : units.Unit) → times u (entries f (brought message)) + times u (entries f (kept_in m.phase)) ≤ 1) → RowKeeps op m events (row m events port message)
   row_keeps op m events port message is genuine label once =
-      let it = row_is m.plan is.from is.to is.whole events genuine m.phase port message is.refusing is.pieces label once in
+      let it = row_is m.plan is.from is.to is.whole is.plan events genuine m.phase port message is.refusing is.pieces label once in
       record {
-        move = record { op_is = is.op_is; from = is.from; to = is.to; other = is.other; whole = is.whole; refusing = it.next.refusing; pieces = it.next.pieces };
+        move = record { op_is = is.op_is; from = is.from; to = is.to; other = is.other; whole = is.whole; plan = is.plan; refusing = it.next.refusing; pieces = it.next.pieces };
         labels = it.next.labels;
         genuine = it.genuine;
       }

@@ -1,5 +1,5 @@
 -- In every run the open operations of the controller are the commands under way, and what it knows of a move is what its order says.
-use Rattle.std.proofs.Common.{◌≡◌, ℕ, ◌+◌, Bool, Some, List, ◌∷◌, length, refl, subst, arith}
+use Rattle.std.proofs.Common.{◌≡◌, ℕ, ◌+◌, Bool, Some, List, length, refl}
 use Rattle.std.specs.declared.alloc.Global.{Global}
 use Rattle.std.specs.FinMap as finite
 use Rattle.flow_filter.specs.declared.filter.Filter.{Filter}
@@ -7,29 +7,22 @@ use Rattle.nf_function.specs.Records.{Laws as FunctionLaws}
 use Rattle.nf_function.specs.Semantics.{Semantics}
 use Rattle.nf_msgs.specs.declared.command.Order.TheVariants as order
 use Rattle.nf_msgs.specs.declared.msg.Msg.{Msg}
-use Rattle.nf_msgs.specs.declared.msg.Msg.TheVariants as msg
 use Rattle.nf_msgs.specs.declared.note.Note.{Note}
-use Rattle.switch_rules.specs.declared.target.Target.TheVariants as target
 use Rattle.move_op.specs.Move.{MovePlan, MoveState}
 use Rattle.ctrl_node.specs.declared.operation.Operation.TheVariants.{Move}
 use Rattle.ctrl_node.specs.Controller.{place_of}
 use Rattle.actor_net.specs.declared.choice.Choice.{Choice}
-use Rattle.actor_net.specs.Network.{Network, IsRun, run, waiting}
-use Rattle.actor_net.proofs.EnabledChoices.{at}
-use Rattle.actor_net.proofs.RunInduction.{run_world}
+use Rattle.actor_net.specs.Network.{Network, IsRun, run}
 use Rattle.nf_net.specs.declared.config.Config.{Config}
 use Rattle.nf_net.specs.declared.node.Node.{Node}
 use Rattle.nf_net.specs.Input.{order_of, IsInput}
 use Rattle.nf_net.specs.Commands.{is_busy}
 use Rattle.nf_net.specs.Nodes.{node_step, node_ready}
 use Rattle.nf_net.specs.Start.{started}
-use Rattle.nf_net.proofs.StartJoined.{given, count_at_start}
-use Rattle.nf_net.proofs.RunsJoined.{start_world}
-use Rattle.nf_net.proofs.BusyOperations.{IsPlan}
-use Rattle.nf_net.proofs.MoveSays.{IsInstall}
-use Rattle.nf_net.proofs.BusyRuns.{busy_is, plan_is, install_is}
+use Rattle.nf_net.proofs.StartJoined.{given}
+use Rattle.nf_net.proofs.BusyRuns.{busy_is, plan_is}
 use Rattle.nf_net.proofs.CommandPromises.{run_busy}
-use Rattle.nf_net.proofs.Joined.{Joined}
+use Rattle.nf_net.proofs.Joined.{IsPlan, Joined}
 
 -- the order under a number moves what this filter takes between these two instances
 pub record IsMoveOf (c : Config) (items : List Msg) (op : ℕ) (filter : Filter) (ends : ℕ × ℕ) : Type 0 where
@@ -44,19 +37,12 @@ module _ {R : Type 0} (f : Semantics R) (c : Config) (items : List Msg) (is : Is
   plan_of : (op : ℕ) (plan : MovePlan) → IsPlan (given f c items is) op plan → IsMoveOf c items op plan.filter (plan.from, plan.to)
   plan_of op plan p = record { source = p.source; destination = p.destination; keep = plan.keep; order = p.order_is; from = p.from_is; to = p.to_is }
 
-  install_of : (op : ℕ) (filter : Filter) (from to : ℕ) → IsInstall (given f c items is) op filter from (target.Instance to) → IsMoveOf c items op filter (from, to)
-  install_of op filter from to h =
-      let to_is = h.to_is in
-      let same : h.plan.to ≡ to = cc in
-      subst (λ k. IsMoveOf c items op k (from, to)) h.filter_is (subst (λ k. IsMoveOf c items op h.plan.filter (k, to)) h.from_is (subst (λ k. IsMoveOf c items op h.plan.filter (h.plan.from, k)) same (plan_of op h.plan h.plan_is)))
-
 module _ {F R : Type 0} (f : Semantics R) (c : Config) (items : List Msg) (is : IsInput f.kind c items) where
   pub record AreUnderWay (n : ℕ) (w : Network (Node F R) Msg Note) (j : Joined f (given f c items is) n w) : Type 0 where
     -- the open operations are the commands under way
     pub busy_is : (op : ℕ) → finite.contains_key j.nodes.controller.operations op ≡ is_busy op w.log
-    -- an open move's plan, and an Install that the switch takes next, are those of their number's order
+    -- an open move's plan is that of its number's order
     pub plan_is : (op : ℕ) (m : MoveState) → finite.get j.nodes.controller.operations op ≡ Some (Move m) → IsMoveOf c items op m.plan.filter (m.plan.from, m.plan.to)
-    pub install_is : (op : ℕ) (filter : Filter) (from to : ℕ) (rest : List Msg) → waiting w (at 0 1) ≡ msg.Install op filter from (target.Instance to) ∷ rest → IsMoveOf c items op filter (from, to)
 
 module _ (F : Type 0) {R : Type 0} (f : Semantics R) (laws : FunctionLaws f) (alloc : Global) (c : Config) (items : List Msg) (is : IsInput f.kind c items) where
   abbrev first : Network (Node F R) Msg Note
@@ -69,9 +55,7 @@ module _ (F : Type 0) {R : Type 0} (f : Semantics R) (laws : FunctionLaws f) (al
   moves_under_way cs run_is j =
       let w = run (node_step f) cs first in
       let b = (run_busy F f laws alloc c items is cs run_is).1 in
-      let count = (run_world node_ready (node_step f) n first (start_world F f laws alloc c items is) (count_at_start F f alloc c items is) cs run_is).1 in
       record {
         busy_is = busy_is f (given f c items is) n refl w j b;
         plan_is = λ op m there. plan_of f c items is op m.plan (plan_is f (given f c items is) n refl w j b op m there);
-        install_is = λ op filter from to rest waits. install_of f c items is op filter from to (install_is f (given f c items is) n refl w j b 1 op filter from (target.Instance to) rest (omega arith) count waits);
       }

@@ -1,4 +1,4 @@
--- Each choice of a run keeps that the routes lead to the owners that the log tells, and that packets are processed at places of their units.
+-- In a step of a run an instance processes packets at places of their units.
 use Rattle.std.proofs.Common.{◌≡◌, ◌≢◌, ℕ, suc, true, false, Option, Some, None, List, [], ◌∷◌, ◌++◌, refl, sym, ap, ◌∙◌, subst, arith}
 use Rattle.std.specs.Prelude.{◌&&◌, ◌==◌, is_some}
 use Rattle.std.specs.List.{filter_map}
@@ -48,14 +48,10 @@ module _ {F R : Type 0} (f : Semantics R) (laws : FunctionLaws f) (c : Config) (
   abbrev scene : Scene F f g
   scene = record { nodes = j.nodes; world = j.world; log = w.log; input = waiting w (at_node 0 0) }
 
-  -- the routes lead to the owners
-  abbrev pub Owners : Type 0
-  Owners = (u : units.Unit) → unit_fits f.kind u ≡ true → j.world.target u ≡ instance_node (owner c items u w.log)
-
   node_same : (a b k : ℕ) → instance_node a ≡ k → k ≡ instance_node b → a ≡ b
   node_same a b k x y = omega (arith, x, y)
 
-  module _ (owners : Owners) (number i : ℕ) where
+  module _ (number i : ℕ) where
     abbrev u : units.Unit
     u = unit_at f.kind c.site (packet_of items number)
 
@@ -93,12 +89,12 @@ module _ {F R : Type 0} (f : Semantics R) (laws : FunctionLaws f) (c : Config) (
     open_at k e there taken = under_way k e (finite.get j.nodes.controller.operations k) (stored j.nodes.controller.store k) refl (subst (λ q. Sees f (place g) q (finite.get j.nodes.controller.operations k) (stored j.nodes.controller.store k)) there (j.shown_is.controller.opens k)) taken
 
     by_may : May_process (S f g) j.world u (instance_node i) → IsPlace c items u w.log i
-    by_may (At_target at) = Owns (node_same i (owner c items u w.log) (j.world.target u) (sym at) (owners u (units_fit f c items is number)))
+    by_may (At_target at) = Owns (node_same i (owner c items u w.log) (j.world.target u) (sym at) (j.shown_is.owners u (units_fit f c items is number)))
     by_may (At_source k e there taken at) = let m = open_at k e there taken in Is_source m.source m.destination m.moving (m.from_is ∙ ap Some (node_same m.from i e.op.src (sym m.src) (sym at)))
     by_may (At_destination k e there taken at) = let m = open_at k e there taken in Is_destination m.source m.destination m.moving (m.to_is ∙ ap Some (node_same m.to i e.op.dst (sym m.dst) (sym at)))
 
   -- what an instance processes, it processes at a place of the unit
-  module _ (owners : Owners) (y p : ℕ) (m : Msg) (taken : IsTaken f g n scene (record { node = suc (suc y); port = p; message = m })) where
+  module _ (y p : ℕ) (m : Msg) (taken : IsTaken f g n scene (record { node = suc (suc y); port = p; message = m })) where
     abbrev k : ℕ
     k = suc (suc y)
 
@@ -138,4 +134,4 @@ module _ {F R : Type 0} (f : Semantics R) (laws : FunctionLaws f) (c : Config) (
         let index = noted_at front back number i output e in
         let node : k ≡ instance_node i = sym at.number ∙ ap instance_node (sym index) in
         place_quiet c items (unit_at f.kind c.site (packet_of items number)) own.index w.log front i (each_front (IsQuiet own.index) front (note.Processed number i output ∷ back) (subst (λ ns. Each (IsQuiet own.index) ns) e quiet))
-        (by_may owners number i (subst (λ q. May_process (S f g) j.world ((S f g).unit_of number) q) node (may front back number i output e (ran_as f laws g k own (j.world.inst k) at p y m taken.label))))
+        (by_may number i (subst (λ q. May_process (S f g) j.world ((S f g).unit_of number) q) node (may front back number i output e (ran_as f laws g k own (j.world.inst k) at p y m taken.label))))

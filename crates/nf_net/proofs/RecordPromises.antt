@@ -20,11 +20,11 @@ use Rattle.nf_net.specs.declared.config.Config.{Config}
 use Rattle.nf_net.specs.declared.node.Node.{Node}
 use Rattle.nf_net.specs.declared.node.Node.TheVariants.{Switch, Controller, Instance}
 use Rattle.nf_net.specs.Input.{IsInput}
-use Rattle.nf_net.specs.Log.{has_begun}
+use Rattle.nf_net.specs.Places.{is_loose}
 use Rattle.nf_net.specs.Promises.{live_in, live_at, came}
 use Rattle.nf_net.proofs.Outline.{is_sys}
 use Rattle.nf_net.proofs.StartJoined.{given}
-use Rattle.nf_net.proofs.Joined.{Given, S, bares, Nodes, node_of, Joined}
+use Rattle.nf_net.proofs.Joined.{Given, S, Nodes, node_of, Joined}
 
 -- where the machine has a record of the unit
 data Lives_at {R : Type 0} (S : Sys R) (z : Seeing) (x : State R) (k : ℕ) (r : R) : Type 0 where
@@ -90,7 +90,7 @@ module _ {F R : Type 0} (f : Semantics R) (c : Config) (items : List Msg) (is : 
   its = S f gr
 
   shown_record : Record_of its (is_sys f gr.site gr.packet) u j.world
-  shown_record = record_of its (is_sys f gr.site gr.packet) u j.world (came f c items u w.log) (has_begun (bares f gr u) w.log) j.shown_is.every.global (j.shown_is.every.unit u)
+  shown_record = record_of its (is_sys f gr.site gr.packet) u j.world (came f c items u w.log) (is_loose c items u w.log) j.shown_is.every.global (j.shown_is.every.unit u)
 
   one : IsOne (fold its.F None (done_u its u j.world.done)) shown_record.state.a.live shown_record.state.b.live shown_record.state.c.live
   one = is_one (fold its.F None (done_u its u j.world.done)) shown_record.state.a.live shown_record.state.b.live shown_record.state.c.live (at_most (fold its.F None (done_u its u j.world.done)) shown_record.state.a.live (lives shown_record.state) (on_way shown_record.state) shown_record.kept)

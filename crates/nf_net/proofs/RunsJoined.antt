@@ -1,16 +1,12 @@
 -- Every run of a network leads to a world of a run; what is then read off the log of a unit.
-use Rattle.std.proofs.Common.{◌≡◌, ℕ, ◌+◌, ◌≤◌, Bool, true, false, Option, Some, None, List, [], ◌∷◌, ◌++◌, map, length, refl, sym, ap, ◌∙◌, arith}
-use Rattle.std.specs.Prelude.{if◌then◌else◌, ◌&&◌, ◌||◌, ◌==◌, not}
+use Rattle.std.proofs.Common.{◌≡◌, ℕ, ◌+◌, ◌≤◌, true, false, List, [], ◌∷◌, ◌++◌, map, length, refl, sym, ap, ◌∙◌, arith}
+use Rattle.std.specs.Prelude.{if◌then◌else◌, ◌==◌}
 use Rattle.std.specs.declared.alloc.Global.{Global}
 use Rattle.nf_function.specs.declared.unit.Unit as units
 use Rattle.nf_function.specs.Records.{Laws as FunctionLaws}
 use Rattle.nf_function.specs.Semantics.{Semantics}
-use Rattle.nf_function.specs.Units.{takes}
-use Rattle.nf_msgs.specs.declared.command.Order.{Order}
-use Rattle.nf_msgs.specs.declared.command.Order.TheVariants as order
 use Rattle.nf_msgs.specs.declared.msg.Msg.{Msg}
 use Rattle.nf_msgs.specs.declared.note.Note.{Note}
-use Rattle.nf_msgs.specs.declared.note.Note.TheVariants as note
 use Rattle.actor_net.specs.declared.choice.Choice.{Choice}
 use Rattle.actor_net.specs.Network.{Network, IsWorld, IsRun, run}
 use Rattle.actor_net.proofs.OpeningWorlds.{opening_world}
@@ -20,16 +16,16 @@ use Rattle.abstract_net.proofs.Rest.{done_u}
 use Rattle.abstract_net.proofs.Readings.{In_order, order_of as in_order_of}
 use Rattle.nf_net.specs.declared.config.Config.{Config}
 use Rattle.nf_net.specs.declared.node.Node.{Node}
-use Rattle.nf_net.specs.Input.{order_of, IsInput}
-use Rattle.nf_net.specs.Log.{Done, done, has_begun, done_of}
+use Rattle.nf_net.specs.Input.{IsInput}
+use Rattle.nf_net.specs.Log.{Done, done, done_of}
+use Rattle.nf_net.specs.Places.{is_loose}
 use Rattle.nf_net.specs.Nodes.{node_step, node_ready}
 use Rattle.nf_net.specs.Start.{first_nodes, started}
-use Rattle.nf_net.specs.Promises.{times, IsFront, is_of, is_plain, came, went, is_loose}
-use Rattle.nf_net.proofs.FiltersApart.{is_whole, unit_fits}
+use Rattle.nf_net.specs.Promises.{times, IsFront, is_of, came, went}
 use Rattle.nf_net.proofs.Outline.{is_sys}
 use Rattle.nf_net.proofs.StartingLemmas.{few_nodes}
 use Rattle.nf_net.proofs.StartJoined.{given, all_fit, count_at_start, start_joined}
-use Rattle.nf_net.proofs.Joined.{Given, S, bares, bares_in, by_node, Joined}
+use Rattle.nf_net.proofs.Joined.{Given, S, by_node, Joined}
 use Rattle.nf_net.proofs.JoinedSteps.{joined_next}
 
 module _ (F : Type 0) {R : Type 0} (f : Semantics R) (laws : FunctionLaws f) (alloc : Global) (c : Config) (items : List Msg) (is : IsInput f.kind c items) where
@@ -51,34 +47,6 @@ module _ {R : Type 0} (f : Semantics R) (c : Config) (items : List Msg) (is : Is
     | false ↦ went_same u ds
   ]
 
-  -- a move that bares a unit is a plain one of it
-  plain_of : (u : units.Unit) (o : Option Order) → is_plain f c items u o ≡ false → bares_in f gi u o ≡ false
-  plain_of u None h = refl
-  plain_of u (Some (order.Move source destination filter keep)) h = none_of (not keep) (is_whole f.kind filter) (unit_fits f.kind u) (takes filter u) h
-    where
-      none_of : (a b d e : Bool) → a && e ≡ false → a && (b && (d && e)) ≡ false
-      none_of false b d e k = refl
-      none_of true b d true k = cc
-      none_of true true true false k = refl
-      none_of true true false false k = refl
-      none_of true false d false k = refl
-  plain_of u (Some (order.Copy source destination filter)) h = refl
-  plain_of u (Some (order.Share members filter)) h = refl
-
-  both_off : (a b : Bool) → a || b ≡ false → (a ≡ false) × (b ≡ false)
-  both_off false false h = (refl, refl)
-  both_off true b h = cc
-  both_off false true h = cc
-
-  not_begun : (p q : ℕ → Bool) → ((op : ℕ) → p op ≡ false → q op ≡ false) → (ns : List Note) → has_begun p ns ≡ false → has_begun q ns ≡ false
-  not_begun p q less [] h = refl
-  not_begun p q less (note.Begun op ∷ ns) h = let k = both_off (p op) (has_begun p ns) h in let a = less op k.0 in rw (a, not_begun p q less ns k.1) refl
-  not_begun p q less (note.Arrived k ∷ ns) h = not_begun p q less ns h
-  not_begun p q less (n ∷ ns) h = not_begun p q less ns h
-
-  pub not_bared : (u : units.Unit) (ns : List Note) → is_loose f c items u ns ≡ false → has_begun (bares f gi u) ns ≡ false
-  not_bared u ns h = not_begun (λ op. is_plain f c items u (order_of items op)) (bares f gi u) (λ op k. plain_of u (order_of items op) k) ns h
-
 times-append : (p : ℕ) (xs ys : List ℕ) → times p (xs ++ ys) ≡ times p xs + times p ys
 times-append p [] ys = omega arith
 times-append p (x ∷ xs) ys = let rest = times-append p xs ys in omega (arith, rest)
@@ -94,11 +62,11 @@ module _ {F R : Type 0} (f : Semantics R) (c : Config) (items : List Msg) (is : 
   pub done_same : (u : units.Unit) → done_u (S f gj) u j.world.done ≡ went f c items u w.log
   done_same u = ap (done_u (S f gj) u) j.shown_is.done_is ∙ went_same f c items is u (done w.log)
 
-  ordered : (u : units.Unit) → In_order (S f gj) (is_sys f gj.site gj.packet) u (done_u (S f gj) u j.world.done) (came f c items u w.log) (has_begun (bares f gj u) w.log)
-  ordered u = in_order_of (S f gj) (is_sys f gj.site gj.packet) u j.world (came f c items u w.log) (has_begun (bares f gj u) w.log) (j.shown_is.every.unit u)
+  ordered : (u : units.Unit) → In_order (S f gj) (is_sys f gj.site gj.packet) u (done_u (S f gj) u j.world.done) (came f c items u w.log) (is_loose c items u w.log)
+  ordered u = in_order_of (S f gj) (is_sys f gj.site gj.packet) u j.world (came f c items u w.log) (is_loose c items u w.log) (j.shown_is.every.unit u)
 
-  pub in_order : (u : units.Unit) → is_loose f c items u w.log ≡ false → IsFront (went f c items u w.log) (came f c items u w.log)
-  in_order u off = record { rest = (ordered u).waits; whole = ap (λ xs. xs ++ (ordered u).waits) (sym (done_same u)) ∙ (ordered u).exact (not_bared f c items is u w.log off) }
+  pub in_order : (u : units.Unit) → is_loose c items u w.log ≡ false → IsFront (went f c items u w.log) (came f c items u w.log)
+  in_order u off = record { rest = (ordered u).waits; whole = ap (λ xs. xs ++ (ordered u).waits) (sym (done_same u)) ∙ (ordered u).exact off }
 
   pub once : (u : units.Unit) (p : ℕ) → times p (went f c items u w.log) ≤ times p (came f c items u w.log)
   once u p =

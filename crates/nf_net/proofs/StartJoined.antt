@@ -25,7 +25,7 @@ use Rattle.flow_filter.specs.Flow.{flow_of}
 use Rattle.nf_function.specs.declared.unit.Unit as units
 use Rattle.nf_function.specs.declared.kind.Kind.{Kind}
 use Rattle.nf_function.specs.Records.{Fits}
-use Rattle.nf_function.specs.Units.{unit_cmp, unit_of}
+use Rattle.nf_function.specs.Units.{takes, unit_cmp, unit_of}
 use Rattle.nf_function.specs.Semantics.{Semantics}
 use Rattle.switch_rules.specs.declared.target.Target.TheVariants as target
 use Rattle.switch_rules.specs.Rules.{AreFilters, any, first_match, opened}
@@ -45,8 +45,9 @@ use Rattle.actor_net.specs.Network.{waiting}
 use Rattle.actor_net.proofs.EnabledChoices.{at}
 use Rattle.actor_net.proofs.OpeningWorlds.{opening_waiting, opening_on_links}
 use Rattle.nf_net.proofs.StartingLemmas.{length-first_instances}
+use Rattle.nf_net.specs.Places.{first_owner}
 use Rattle.nf_net.specs.Start.{first_switch, first_instance, first_instances, first_nodes, started}
-use Rattle.nf_net.proofs.FiltersApart.{is_whole, flow_fits, takes_whole, whole_takes}
+use Rattle.nf_net.proofs.FiltersApart.{is_whole, flow_fits, unit_fits, takes_whole, takes_same, whole_takes}
 use Rattle.nf_net.proofs.InputLemmas.{each_both, found_each, fits_flow, whole_is}
 use Rattle.nf_net.proofs.StateOutline.{all_each}
 use Rattle.nf_net.proofs.ControlOutline.{Sees}
@@ -75,9 +76,14 @@ module _ (kind : Kind) where
     | false ↦ route_there count some rs u few.1
   ]
 
+  -- for a unit that packets may have it is the first route whose filter takes it
+  route_is : (u : units.Unit) → unit_fits kind u ≡ true → (rs : List (Filter × ℕ)) → Each (λ r. is_whole kind r.0 ≡ true) rs → route rs u ≡ first_owner u rs
+  route_is u fits [] h = refl
+  route_is u fits (r ∷ rs) h = ap (λ b. if b then r.1 else route rs u) (takes_same kind r.0 u h.0 fits) ∙ ap (λ k. if takes r.0 u then r.1 else k) (route_is u fits rs h.1)
+
 module _ {R : Type 0} (f : Semantics R) (c : Config) (items : List Msg) (is : IsInput f.kind c items) where
   abbrev pub given : Given
-  given = record { site = c.site; packet = packet_of items; names = c.names; orders = order_of items }
+  given = record { site = c.site; packet = packet_of items; names = c.names; orders = order_of items; first = λ u. first_owner u c.routes }
 
   -- The items.
   found_packet : (p : Packet) → find (λ q. q.number == p.number) (packets items) ≡ Some p → IsSteered c.site p → GenuinePacket f given p
@@ -136,6 +142,9 @@ module _ {R : Type 0} (f : Semantics R) (c : Config) (items : List Msg) (is : Is
 
   route_is_there : (u : units.Unit) → nat_lt (route f.kind c.routes u) (length c.names) ≡ true
   route_is_there u = let some = is.is_config.some in route_there f.kind (length c.names) (omega (arith, some)) c.routes u (all_each (λ r. r.1 < length c.names) c.routes is.is_config.routes)
+
+  pub owners_are : (u : units.Unit) → unit_fits f.kind u ≡ true → routed u ≡ instance_node (first_owner u c.routes)
+  owners_are u fits = ap instance_node (route_is f.kind u fits c.routes (whole_routes c.routes each_whole))
 
   pub switch_is : IsSwitch f given (first_switch c) routed
   switch_is = record {
@@ -232,6 +241,7 @@ module _ (F : Type 0) {R : Type 0} (f : Semantics R) (alloc : Global) (c : Confi
   shown_at_start = record {
     switch = switch_is f c items is;
     controller = controller_is f c items is;
+    owners = owners_are f c items is;
     instances = λ k two few. instance_is k two;
     every = record { global = record { messages = λ i j off. tt; rules = λ k. no_rules k (λ r. r.num < 0); ops = tt }; unit = at_rest };
     done_is = refl;
@@ -241,7 +251,8 @@ module _ (F : Type 0) {R : Type 0} (f : Semantics R) (alloc : Global) (c : Confi
   pub count_at_start : length (first_nodes {F = F} {R = R} alloc c) ≡ length c.names + 2
   count_at_start = let few = length-first_instances F R alloc c (length c.names) in omega (arith, few)
 
-  instance_found : (i j : ℕ) (d : Node F R) → j < i → get_or (first_instances alloc c i) j d ≡ Instance (first_instance alloc c j)
+  -- each of the first instances stands at its place
+  pub instance_found : (i j : ℕ) (d : Node F R) → j < i → get_or (first_instances alloc c i) j d ≡ Instance (first_instance alloc c j)
   instance_found zero j d few = absurd (omega (arith, few))
   instance_found (suc i) j d few =
       let l = length-first_instances F R alloc c i in

@@ -51,7 +51,7 @@ module _ {R : Type 0} (f : Semantics R) (laws : FunctionLaws f) where
   entries_made [] h = refl
   entries_made (e ∷ es) h = let one = spelled-record_chunk f laws e.0 e.1 h.0 in rw one (ap (λ xs. e ∷ xs) (entries_made es h.1))
 
-  newest_made : (es : Chunks R) → newest_version (map chunk_of es) ≡ newest_in f es
+  pub newest_made : (es : Chunks R) → newest_version (map chunk_of es) ≡ newest_in f es
   unfolding record_bytes
   newest_made [] = refl
   newest_made (e ∷ es) = ap (λ n. max (version_number (f.is_timed e.1)) n) (newest_made es)

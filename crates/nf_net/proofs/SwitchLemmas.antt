@@ -19,11 +19,12 @@ use Rattle.abstract_net.proofs.Net.{Want, World}
 use Rattle.abstract_net.proofs.Waits.{nums, nums-append, None_asked, Rising, rising_less}
 use Rattle.abstract_net.proofs.Every.{Every}
 use Rattle.nf_net.specs.declared.node.Node.TheVariants.{Switch}
-use Rattle.nf_net.specs.Log.{arrived, done, has_begun, those}
+use Rattle.nf_net.specs.Log.{arrived, done, installed, those}
+use Rattle.nf_net.proofs.FiltersApart.{unit_fits}
 use Rattle.nf_net.proofs.Outline.{outline_sent, outline_sends, want_at, want_of, is_sys}
 use Rattle.nf_net.proofs.InstanceOutline.{filter_map-put}
-use Rattle.nf_net.proofs.LogLemmas.{done-append, every_same}
-use Rattle.nf_net.proofs.Joined.{Given, Nodes, node_of, place, Label, shown, S, commands, is_of, bares, by_node, IsSwitch, Scene, AreShown, Leads}
+use Rattle.nf_net.proofs.LogLemmas.{done-append, every_same, owners_on, loose_on}
+use Rattle.nf_net.proofs.Joined.{Given, owner_by, loose_by, Nodes, node_of, place, Label, shown, S, commands, is_of, by_node, IsSwitch, Scene, AreShown, Leads}
 
 -- the numbers of commands among what is sent to one node
 pub nums_sent : {R : Type 0} (r : ℕ) (xs : List (ℕ × net.Msg R)) → None_asked xs → nums (sent_for r xs) ≡ []
@@ -83,15 +84,16 @@ module _ {R : Type 0} (f : Semantics R) (g : Given) where
   stops_labels (suc k) = sent-append 0 (stops k) ((instance_node k, msg.Stop) ∷ []) (stops_labels k) ((refl, omega arith), tt)
 
 module _ {F R : Type 0} (f : Semantics R) (g : Given) (n : ℕ) (x : Scene F f g) (are : AreShown f g n x) where
-  -- where each unit is, by a log that goes on without packets and begins
-  pub every_on : (w : World (S f g)) (notes : List Note) → arrived (x.log ++ notes) ≡ arrived x.log → ((u : units.Unit) → has_begun (bares f g u) (x.log ++ notes) ≡ has_begun (bares f g u) x.log) → Every (S f g) (is_sys f g.site g.packet) w (λ u. those (is_of f g u) (arrived x.log)) (λ u. has_begun (bares f g u) x.log) → Every (S f g) (is_sys f g.site g.packet) w (λ u. those (is_of f g u) (arrived (x.log ++ notes))) (λ u. has_begun (bares f g u) (x.log ++ notes))
-  every_on w notes a b h = every_same (S f g) (is_sys f g.site g.packet) w _ _ _ _ (λ u. ap (those (is_of f g u)) (sym a)) (λ u. sym (b u)) h
+  -- where each unit is, by a log to which nothing is added
+  pub every_on : (w : World (S f g)) → Every (S f g) (is_sys f g.site g.packet) w (λ u. those (is_of f g u) (arrived x.log)) (λ u. loose_by g u (installed x.log)) → Every (S f g) (is_sys f g.site g.packet) w (λ u. those (is_of f g u) (arrived (x.log ++ []))) (λ u. loose_by g u (installed (x.log ++ [])))
+  every_on w h = every_same (S f g) (is_sys f g.site g.packet) w _ _ _ _ (λ u. ap (λ l. those (is_of f g u) (arrived l)) (sym (append-nil x.log))) (loose_on f g n x are [] refl) h
 
   -- what holds after a step of the switch, by what it changes
-  pub after : (s : SwitchState) (to : units.Unit → ℕ) (l : ℕ → ℕ → List (net.Msg R)) (notes : List Note) (input : List Msg) → IsSwitch f g s to → Every (S f g) (is_sys f g.site g.packet) (record x.world { target = to; link = l }) (λ u. those (is_of f g u) (arrived (x.log ++ notes))) (λ u. has_begun (bares f g u) (x.log ++ notes)) → done notes ≡ [] → Rising x.world.next (nums (l 0 1) ++ commands f g input) → AreShown f g n (record { nodes = record x.nodes { switch = s }; world = record x.world { target = to; link = l }; log = x.log ++ notes; input = input })
-  after s to l notes input switch every none rising = record {
+  pub after : (s : SwitchState) (to : units.Unit → ℕ) (l : ℕ → ℕ → List (net.Msg R)) (notes : List Note) (input : List Msg) → IsSwitch f g s to → Every (S f g) (is_sys f g.site g.packet) (record x.world { target = to; link = l }) (λ u. those (is_of f g u) (arrived (x.log ++ notes))) (λ u. loose_by g u (installed (x.log ++ notes))) → ((u : units.Unit) → unit_fits f.kind u ≡ true → to u ≡ instance_node (owner_by g u (installed (x.log ++ notes)))) → done notes ≡ [] → Rising x.world.next (nums (l 0 1) ++ commands f g input) → AreShown f g n (record { nodes = record x.nodes { switch = s }; world = record x.world { target = to; link = l }; log = x.log ++ notes; input = input })
+  after s to l notes input switch every owners none rising = record {
     switch = switch;
     controller = are.controller;
+    owners = owners;
     instances = are.instances;
     every = every;
     done_is = are.done_is ∙ ap (by_node f g) (sym (done-append x.log notes ∙ ap (λ v. done x.log ++ v) none ∙ append-nil (done x.log)));
@@ -107,5 +109,5 @@ module _ {F R : Type 0} (f : Semantics R) (g : Given) (n : ℕ) (x : Scene F f g
     world = x.world;
     links = λ i j. rw (unseen, nothing) (elim (i == 0) as (λ b. x.world.link i j ≡ x.world.link i j ++ (if b then [] else [])) [ true ↦ sym (append-nil (x.world.link i j)) | false ↦ sym (append-nil (x.world.link i j)) ]);
     labels = labels;
-    shown_is = after s x.world.target x.world.link [] _ switch (every_on x.world [] (ap arrived (append-nil x.log)) (λ u. ap (has_begun (bares f g u)) (append-nil x.log)) are.every) refl rising;
+    shown_is = after s x.world.target x.world.link [] _ switch (every_on x.world are.every) (owners_on f g n x are [] refl) refl rising;
   }

@@ -1,5 +1,5 @@
 -- The switch's step on a message of a run leads from a world of a run to one.
-use Rattle.std.proofs.Common.{◌≡◌, ℕ, ◌+◌, ◌-◌, ◌≤◌, Bool, true, false, Option, Some, None, List, [], ◌∷◌, ◌++◌, drop, append_assoc, append-nil, refl, sym, ap, ◌∙◌, subst, arith}
+use Rattle.std.proofs.Common.{◌≡◌, ◌≢◌, ℕ, ◌+◌, ◌-◌, ◌≤◌, true, false, Option, Some, None, List, [], ◌∷◌, ◌++◌, drop, append_assoc, append-nil, refl, sym, ap, ◌∙◌, subst, arith}
 use Rattle.std.specs.Prelude.{if◌then◌else◌, ◌&&◌, ◌||◌, ◌==◌, not, nat_lt, unwrap_or}
 use Rattle.std.proofs.lemmas.Bool.Decides.{nat_tests}
 use Rattle.flow_filter.specs.declared.filter.Filter.{Filter}
@@ -27,18 +27,20 @@ use Rattle.actor_net.proofs.WeightLaws.{EachSent}
 use Rattle.unit_machine.proofs.Real as real
 use Rattle.unit_machine.proofs.Real.{sent_for}
 use Rattle.abstract_net.proofs.Net as net
-use Rattle.abstract_net.proofs.Net.{Want, World, everything, in_next, sw_next, sw_sends, sw_target, links_after}
+use Rattle.abstract_net.proofs.Net.{Want, World, everything, find_op, in_next, sw_next, sw_sends, sw_target, links_after}
 use Rattle.abstract_net.proofs.Waits.{nums, nums-append, Rising, sw_none}
+use Rattle.abstract_net.proofs.Units.{Hands_on}
 use Rattle.abstract_net.proofs.Every.{said, said_every, input_every, switch_every}
 use Rattle.nf_net.specs.Nodes.{as_node, node_step}
 use Rattle.nf_net.specs.declared.node.Node.TheVariants.{Switch}
-use Rattle.nf_net.specs.Log.{arrived, done, has_begun, those}
-use Rattle.nf_net.proofs.FiltersApart.{and_l, filter_fits, filter_is, is_whole}
+use Rattle.nf_net.specs.Log.{arrived, done, installed, those}
+use Rattle.nf_net.proofs.FiltersApart.{and_l, and_r, filter_fits, filter_is, is_whole, takes_whole, unit_fits}
+use Rattle.nf_net.proofs.HandedUnits.{owner_next, loose_stays, loose_begins, handed, plain_hands, plain_is}
 use Rattle.nf_net.proofs.Outline.{number, outline_sends, want_of, is_sys}
 use Rattle.nf_net.proofs.SwitchOutline.{Routes, routes_after}
-use Rattle.nf_net.proofs.LogLemmas.{arrived-append, has_begun-append, those-append, every_same}
+use Rattle.nf_net.proofs.LogLemmas.{arrived-append, those-append, every_same, owners_on, loose_on}
 use Rattle.nf_net.proofs.SwitchLemmas.{after, every_on, nums_put, others_same, quiet, rising_without, same_switch, stops_labels, stops_unseen, want_num}
-use Rattle.nf_net.proofs.Joined.{Given, Scene, AreShown, IsTaken, Leads, IsSwitch, IsCommand, Label, Genuine, GenuinePacket, is_instance, is_passed, is_of, bares, commands, count, node_of, place, shown, S}
+use Rattle.nf_net.proofs.Joined.{Given, IsInstall, owner_by, loose_by, Scene, AreShown, IsTaken, Leads, IsSwitch, IsCommand, Label, Genuine, GenuinePacket, is_instance, is_passed, is_of, commands, count, node_of, place, shown, S}
 
 -- the number that a packet was handed on under
 abbrev pass_op : Mark → ℕ
@@ -58,34 +60,44 @@ pub instance_is : (k : ℕ) (to : Target) → is_instance k to ≡ true → to �
 instance_is k (target.Instance i) e = refl
 instance_is k target.Controller e = cc
 
-or_false : (b : Bool) → b || false ≡ b
-or_false true = refl
-or_false false = refl
-
 module _ {F R : Type 0} (f : Semantics R) (g : Given) (n : ℕ) (x : Scene F f g) (are : AreShown f g n x) where
   abbrev s : SwitchState
   s = x.nodes.switch
 
-  -- a message of the controller that the abstract network sees
-  seen_step : (m : Msg) (a : net.Msg R) (rest : List (net.Msg R)) (t : SwitchState) (sends : List (ℕ × Msg)) (notes : List Note) → shown f g m ≡ Some a → x.world.link 1 0 ≡ a ∷ rest → outline_sends f (place g) sends ≡ sw_sends a → EachSent (Label f g) 0 sends → IsSwitch f g t (λ v. sw_target (S f g) x.world.target a v) → arrived (x.log ++ notes) ≡ arrived x.log → ((u : units.Unit) → has_begun (bares f g u) (x.log ++ notes) ≡ has_begun (bares f g u) x.log) → done notes ≡ [] → Leads f g n x (record { node = 0; port = 1; message = m }) (record { node = Switch t; sends = sends; notes = notes })
-  seen_step m a rest t sends notes seen waits follows labels switch came begun none =
-      let every = switch_every (S f g) (is_sys f g.site g.packet) x.world _ _ are.every 1 a rest refl waits in
+  -- what the log tells after a message of the controller that the abstract network sees
+  record Told (a : net.Msg R) (notes : List Note) : Type 0 where
+    came : arrived (x.log ++ notes) ≡ arrived x.log
+    none : done notes ≡ []
+    owners : (u : units.Unit) → unit_fits f.kind u ≡ true → sw_target (S f g) x.world.target a u ≡ instance_node (owner_by g u (installed (x.log ++ notes)))
+    stays : (u : units.Unit) → loose_by g u (installed x.log) ≡ true → loose_by g u (installed (x.log ++ notes)) ≡ true
+    hands : (u : units.Unit) → Hands_on (S f g) (is_sys f g.site g.packet) u x.world a (loose_by g u (installed (x.log ++ notes)))
+
+  -- such a message
+  seen_step : (m : Msg) (a : net.Msg R) (rest : List (net.Msg R)) (t : SwitchState) (sends : List (ℕ × Msg)) (notes : List Note) → shown f g m ≡ Some a → x.world.link 1 0 ≡ a ∷ rest → outline_sends f (place g) sends ≡ sw_sends a → EachSent (Label f g) 0 sends → IsSwitch f g t (λ v. sw_target (S f g) x.world.target a v) → Told a notes → Leads f g n x (record { node = 0; port = 1; message = m }) (record { node = Switch t; sends = sends; notes = notes })
+  seen_step m a rest t sends notes seen waits follows labels switch told =
+      let next = sw_next (S f g) x.world 1 a in
+      let moved = switch_every (S f g) (is_sys f g.site g.packet) x.world (λ u. those (is_of f g u) (arrived x.log)) (λ u. loose_by g u (installed x.log)) (λ u. loose_by g u (installed (x.log ++ notes))) are.every 1 a rest refl waits told.stays told.hands in
+      let every = every_same (S f g) (is_sys f g.site g.packet) next _ (λ u. those (is_of f g u) (arrived (x.log ++ notes))) (λ u. loose_by g u (installed (x.log ++ notes))) (λ u. loose_by g u (installed (x.log ++ notes))) (λ u. ap (those (is_of f g u)) (sym told.came)) (λ u. refl) moved in
       let same : nums (links_after x.world.link 1 0 (sw_sends a) 0 1) ≡ nums (x.world.link 0 1) = nums_put (x.world.link 0 1) 1 (sw_sends a) (sw_none a) in
       record {
         nodes = record x.nodes { switch = t };
         own = refl;
         others = others_same x.nodes t;
-        world = sw_next (S f g) x.world 1 a;
+        world = next;
         links = λ i j. rw (seen, follows) refl;
         labels = labels;
-        shown_is = after f g n x are t (λ v. sw_target (S f g) x.world.target a v) (λ i j. links_after x.world.link 1 0 (sw_sends a) i j) notes x.input switch (every_on f g n x are (sw_next (S f g) x.world 1 a) notes came begun every) none (rw same are.rising);
+        shown_is = after f g n x are t (λ v. sw_target (S f g) x.world.target a v) (λ i j. links_after x.world.link 1 0 (sw_sends a) i j) notes x.input switch every told.owners told.none (rw same are.rising);
       }
 
-  nothing_came : arrived (x.log ++ []) ≡ arrived x.log
-  nothing_came = ap arrived (append-nil x.log)
-
-  nothing_begun : (u : units.Unit) → has_begun (bares f g u) (x.log ++ []) ≡ has_begun (bares f g u) x.log
-  nothing_begun u = ap (has_begun (bares f g u)) (append-nil x.log)
+  -- a message that changes no rule
+  told_nothing : (a : net.Msg R) → ((u : units.Unit) → sw_target (S f g) x.world.target a u ≡ x.world.target u) → ((h : Filter) (k from to : ℕ) → a ≢ net.Mv h (real.M_install k from to)) → Told a []
+  told_nothing a same other = record {
+    came = ap arrived (append-nil x.log);
+    none = refl;
+    owners = λ u fits. same u ∙ owners_on f g n x are [] refl u fits;
+    stays = λ u e. sym (loose_on f g n x are [] refl u) ∙ e;
+    hands = λ u h k from to e at _ _ _ _. absurd (other h k from to at);
+  }
 
   there : (i : ℕ) → nat_lt i (count f g) ≡ true → nat_lt i s.instances ≡ true
   there i e = let same = are.switch.instances in rw same e
@@ -93,7 +105,7 @@ module _ {F R : Type 0} (f : Semantics R) (g : Given) (n : ℕ) (x : Scene F f g
   passed_leads : (to op : ℕ) (cell : FullCell) (rest : List (net.Msg R)) → nat_lt to (count f g) ≡ true → Genuine f g cell → x.world.link 1 0 ≡ net.Mv everything (real.M_forward (number cell) (instance_node to)) ∷ rest → Leads f g n x (record { node = 0; port = 1; message = msg.Forward to (mark.Pass op) cell }) (as_node Switch (sends_to_instance s to (msg.Carry (mark.Pass op) cell)))
   passed_leads to op cell rest e genuine waits =
       let is_there = there to e in
-      rw is_there (seen_step (msg.Forward to (mark.Pass op) cell) _ rest s ((instance_node to, msg.Carry (mark.Pass op) cell) ∷ []) [] refl waits refl (((refl, omega arith), refl, genuine), tt) are.switch nothing_came nothing_begun refl)
+      rw is_there (seen_step (msg.Forward to (mark.Pass op) cell) _ rest s ((instance_node to, msg.Carry (mark.Pass op) cell) ∷ []) [] refl waits refl (((refl, omega arith), refl, genuine), tt) are.switch (told_nothing _ (λ u. refl) (λ h k from to e. cc)))
 
   forward_leads : (to : ℕ) (m : Mark) (cell : FullCell) (rest : List (net.Msg R)) → nat_lt to (count f g) ≡ true → is_passed m ≡ true → Genuine f g cell → x.world.link 1 0 ≡ net.Mv everything (real.M_forward (number cell) (instance_node to)) ∷ rest → Leads f g n x (record { node = 0; port = 1; message = msg.Forward to m cell }) (as_node Switch (sends_to_instance s to (msg.Carry m cell)))
   forward_leads to m cell rest e passed genuine waits = subst (λ k. Leads f g n x (record { node = 0; port = 1; message = msg.Forward to k cell }) (as_node Switch (sends_to_instance s to (msg.Carry k cell)))) (sym (pass_is m passed)) (passed_leads to (pass_op m) cell rest e genuine waits)
@@ -101,10 +113,25 @@ module _ {F R : Type 0} (f : Semantics R) (g : Given) (n : ℕ) (x : Scene F f g
   fence_leads : (op to : ℕ) (rest : List (net.Msg R)) → nat_lt to (count f g) ≡ true → x.world.link 1 0 ≡ net.Mv everything (real.M_fence_to op (instance_node to)) ∷ rest → Leads f g n x (record { node = 0; port = 1; message = msg.FenceTo op to }) (as_node Switch (sends_to_instance s to (msg.Fence op)))
   fence_leads op to rest e waits =
       let is_there = there to e in
-      rw is_there (seen_step (msg.FenceTo op to) _ rest s ((instance_node to, msg.Fence op) ∷ []) [] refl waits refl ((refl, omega arith), tt) are.switch nothing_came nothing_begun refl)
+      rw is_there (seen_step (msg.FenceTo op to) _ rest s ((instance_node to, msg.Fence op) ∷ []) [] refl waits refl ((refl, omega arith), tt) are.switch (told_nothing _ (λ u. refl) (λ h k from to e. cc)))
 
-  install_leads : (op : ℕ) (filter : Filter) (from to : ℕ) (rest : List (net.Msg R)) → nat_lt from (count f g) ≡ true → nat_lt to (count f g) ≡ true → is_whole f.kind filter ≡ true → x.world.link 1 0 ≡ net.Mv filter (real.M_install op (instance_node from) (instance_node to)) ∷ rest → Leads f g n x (record { node = 0; port = 1; message = msg.Install op filter from (target.Instance to) }) (as_node Switch (on_install s op filter from (target.Instance to)))
-  install_leads op filter from to rest a b whole waits =
+  -- a change of the rules
+  told_install : (op : ℕ) (filter : Filter) (from to : ℕ) → is_whole f.kind filter ≡ true → IsInstall g op filter from (target.Instance to) → Told (net.Mv filter (real.M_install op (instance_node from) (instance_node to))) (note.Installed op ∷ [])
+  told_install op filter from to whole its = record {
+    came = arrived-append x.log (note.Installed op ∷ []) ∙ append-nil (arrived x.log);
+    none = refl;
+    owners = λ u fits. handed f g op filter from to its x.world.target u fits (owner_by g u (installed x.log)) whole (are.owners u fits) ∙ ap instance_node (sym (owner_next g u x.log op));
+    stays = λ u e. loose_stays g u x.log op e;
+    hands = λ u h k src dst e same there plain taken at. (let number : op ≡ k = cc in let is_from : instance_node from ≡ src = cc in let is_filter : filter ≡ h = cc in
+        let takes_it : takes_whole f.kind filter u ≡ true = ap (λ y. takes_whole f.kind y u) is_filter ∙ taken in
+        let fits : unit_fits f.kind u ≡ true = and_l (unit_fits f.kind u) _ (and_r (is_whole f.kind filter) _ takes_it) in
+        let owns : instance_node (owner_by g u (installed x.log)) ≡ instance_node from = sym (are.owners u fits) ∙ at ∙ sym is_from in
+        loose_begins g u x.log op (plain_hands f g op filter from to its u (owner_by g u (installed x.log)) (and_r (unit_fits f.kind u) _ (and_r (is_whole f.kind filter) _ takes_it)) (omega (arith, owns))
+        (plain_is f g x.nodes.controller x.world.ops x.world.next are.controller op e (ap (find_op x.world.ops) number ∙ there) plain its.plan its.plan_is)));
+  }
+
+  install_leads : (op : ℕ) (filter : Filter) (from to : ℕ) (rest : List (net.Msg R)) → nat_lt from (count f g) ≡ true → nat_lt to (count f g) ≡ true → is_whole f.kind filter ≡ true → IsInstall g op filter from (target.Instance to) → x.world.link 1 0 ≡ net.Mv filter (real.M_install op (instance_node from) (instance_node to)) ∷ rest → Leads f g n x (record { node = 0; port = 1; message = msg.Install op filter from (target.Instance to) }) (as_node Switch (on_install s op filter from (target.Instance to)))
+  install_leads op filter from to rest a b whole its waits =
       let t : SwitchState = record s { rules = redirected (record { filter = filter; from = target.Instance from; to = target.Instance to }) s.rules } in
       let from_there = there from a in
       let to_there = there to b in
@@ -118,7 +145,7 @@ module _ {F R : Type 0} (f : Semantics R) (g : Given) (n : ℕ) (x : Scene F f g
         pool = are.switch.pool;
       } in
       subst (λ st. Leads f g n x (record { node = 0; port = 1; message = msg.Install op filter from (target.Instance to) }) (as_node Switch st)) (sym done_is)
-      (seen_step (msg.Install op filter from (target.Instance to)) _ rest t ((instance_node from, msg.Fence op) ∷ []) (note.Installed op ∷ []) refl waits refl ((refl, omega arith), tt) switch (arrived-append x.log (note.Installed op ∷ []) ∙ append-nil (arrived x.log)) (λ u. has_begun-append (bares f g u) x.log (note.Installed op ∷ []) ∙ or_false (has_begun (bares f g u) x.log)) refl)
+      (seen_step (msg.Install op filter from (target.Instance to)) _ rest t ((instance_node from, msg.Fence op) ∷ []) (note.Installed op ∷ []) refl waits refl ((refl, omega arith), tt) switch (told_install op filter from to whole its))
 
   -- a packet of the input
   packet_leads : (q : Packet) (items : List Msg) → GenuinePacket f g q → has_room s ≡ true → x.input ≡ msg.InPacket q ∷ items → Leads f g n x (record { node = 0; port = 0; message = msg.InPacket q }) (as_node Switch (on_packet s q))
@@ -134,7 +161,7 @@ module _ {F R : Type 0} (f : Semantics R) (g : Given) (n : ℕ) (x : Scene F f g
       let next : World (S f g) = in_next (S f g) x.world q.number in
       let kept : nums (next.link 0 1) ≡ nums (x.world.link 0 1) = nums_put (x.world.link 0 1) 1 ((x.world.target (unit_at f.kind g.site (g.packet q.number)), net.Carry_on q.number) ∷ []) (refl, tt) in
       let notes : List Note = note.Arrived q.number ∷ [] in
-      let every = every_same (S f g) (is_sys f g.site g.packet) next _ (λ u. those (is_of f g u) (arrived (x.log ++ notes))) _ (λ u. has_begun (bares f g u) (x.log ++ notes)) (λ u. sym (ap (those (is_of f g u)) (arrived-append x.log notes) ∙ those-append (is_of f g u) (arrived x.log) (q.number ∷ []))) (λ u. sym (has_begun-append (bares f g u) x.log notes ∙ or_false (has_begun (bares f g u) x.log))) (input_every (S f g) (is_sys f g.site g.packet) x.world _ _ are.every q.number) in
+      let every = every_same (S f g) (is_sys f g.site g.packet) next _ (λ u. those (is_of f g u) (arrived (x.log ++ notes))) _ (λ u. loose_by g u (installed (x.log ++ notes))) (λ u. sym (ap (those (is_of f g u)) (arrived-append x.log notes) ∙ those-append (is_of f g u) (arrived x.log) (q.number ∷ []))) (loose_on f g n x are notes refl) (input_every (S f g) (is_sys f g.site g.packet) x.world _ _ are.every q.number) in
       subst (λ st. Leads f g n x (record { node = 0; port = 0; message = msg.InPacket q }) (as_node Switch st)) (sym did) (record {
         nodes = record x.nodes { switch = t };
         own = refl;
@@ -142,7 +169,7 @@ module _ {F R : Type 0} (f : Semantics R) (g : Given) (n : ℕ) (x : Scene F f g
         world = next;
         links = λ i j. ap (λ r. x.world.link i j ++ (if i == 0 then sent_for j ((r, net.Carry_on q.number) ∷ []) else [])) node;
         labels = (((refl, omega arith), refl, record { same = genuine.same; transport = genuine.transport; fits = genuine.fits; pool = are.switch.pool }), tt);
-        shown_is = after f g n x are t x.world.target next.link notes (drop 1 x.input) (same_switch f g s t x.world.target refl refl refl refl are.switch) every refl (rw (kept, left) are.rising);
+        shown_is = after f g n x are t x.world.target next.link notes (drop 1 x.input) (same_switch f g s t x.world.target refl refl refl refl are.switch) every (owners_on f g n x are notes refl) refl (rw (kept, left) are.rising);
       })
 
   -- a command of the input
@@ -171,7 +198,7 @@ module _ {F R : Type 0} (f : Semantics R) (g : Given) (n : ℕ) (x : Scene F f g
             world = next;
             links = λ i j. rw e refl;
             labels = ((refl, refl, is), tt);
-            shown_is = after f g n x are (on_command s c).node x.world.target next.link [] (drop 1 x.input) switch (every_on f g n x are next [] nothing_came nothing_begun (said_every (S f g) (is_sys f g.site g.packet) x.world _ _ are.every w)) refl (rw rising rises);
+            shown_is = after f g n x are (on_command s c).node x.world.target next.link [] (drop 1 x.input) switch (every_on f g n x are next (said_every (S f g) (is_sys f g.site g.packet) x.world _ _ are.every w)) (owners_on f g n x are [] refl) refl (rw rising rises);
           }
 
   -- an item of the input that isn't seen
@@ -265,7 +292,7 @@ module _ {F R : Type 0} (f : Semantics R) (g : Given) (n : ℕ) (x : Scene F f g
     does_forward p to m cell is = at_port (msg.Forward to m cell) 1 p is.label.0.0 (λ t. forward_leads f g n x are to m cell t.rest t.label.1 t.label.2 t.label.3 (t.head refl _ refl)) is
 
     does_install : (p op : ℕ) (filter : Filter) (from : ℕ) (to : Target) → Does p (msg.Install op filter from to)
-    does_install p op filter from to is = subst (λ k. Does p (msg.Install op filter from k)) (sym (instance_is (count f g) to is.label.2)) (λ i. at_port (msg.Install op filter from (target.Instance (instance_in to))) 1 p i.label.0.0 (λ t. install_leads f g n x are op filter from (instance_in to) t.rest t.label.1 t.label.2 t.label.3 (t.head refl _ refl)) i) is
+    does_install p op filter from to is = subst (λ k. Does p (msg.Install op filter from k)) (sym (instance_is (count f g) to is.label.2)) (λ i. at_port (msg.Install op filter from (target.Instance (instance_in to))) 1 p i.label.0.0 (λ t. install_leads f g n x are op filter from (instance_in to) t.rest t.label.1 t.label.2 t.label.3 t.label.4 (t.head refl _ refl)) i) is
 
     does_fence : (p op to : ℕ) → Does p (msg.FenceTo op to)
     does_fence p op to is = at_port (msg.FenceTo op to) 1 p is.label.0.0 (λ t. fence_leads f g n x are op to t.rest t.label.1 (t.head refl _ refl)) is

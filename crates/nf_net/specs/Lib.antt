@@ -6,4 +6,5 @@ pub mod Places
 pub mod Promises
 pub mod Runs
 pub mod Start
+pub mod Verdicts
 pub mod Window

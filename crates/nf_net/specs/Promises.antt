@@ -1,15 +1,13 @@
 -- What every run of the network keeps, complete or not, for scripts of moves: each packet is processed at most once, in the order of
 -- its unit; outputs and records are those of one instance that nothing moved. Packets go by their numbers. This project's own.
-use Rattle.std.specs.Prelude.{◌≡◌, ℕ, ◌+◌, ◌==◌, ◌≤◌, Bool, true, false, not, ◌&&◌, if◌then◌else◌, List, [], ◌∷◌, ◌++◌, map, length, Option, None, Some, slice_get}
+use Rattle.std.specs.Prelude.{◌≡◌, ℕ, ◌+◌, ◌==◌, ◌≤◌, Bool, true, false, if◌then◌else◌, List, [], ◌∷◌, ◌++◌, map, length, Option, None, Some, slice_get}
 use Rattle.std.specs.FinMap as finite
 use Rattle.nf_function.specs.declared.output.Output.{Output}
 use Rattle.nf_function.specs.declared.unit.Unit as units
 use Rattle.nf_function.specs.Semantics.{Semantics, unit_at, kept_after, output_for}
-use Rattle.nf_function.specs.Units.{takes}
 use Rattle.record_table.specs.Table.{same_unit}
 use Rattle.nf_msgs.specs.declared.answer.Answer.TheVariants.{Done}
 use Rattle.nf_msgs.specs.declared.command.Order.{Order}
-use Rattle.nf_msgs.specs.declared.command.Order.TheVariants.{Move}
 use Rattle.nf_msgs.specs.declared.msg.Msg.{Msg}
 use Rattle.nf_msgs.specs.declared.note.Note.{Note}
 use Rattle.nf_msgs.specs.Nodes.{instance_node}
@@ -19,9 +17,9 @@ use Rattle.nf_net.specs.declared.node.Node.{Node}
 use Rattle.nf_net.specs.declared.node.Node.TheVariants.{Instance}
 use Rattle.nf_net.specs.Input.{packets, packet_of, order_of, ends_last}
 use Rattle.nf_net.specs.Commands.{Answers, answers_of, times_installed}
-use Rattle.nf_net.specs.Places.{ArePlaces}
+use Rattle.nf_net.specs.Places.{is_loose, ArePlaces}
 use Rattle.nf_net.specs.Window.{Window}
-use Rattle.nf_net.specs.Log.{arrived, done, has_begun, those, done_of}
+use Rattle.nf_net.specs.Log.{arrived, done, those, done_of}
 
 -- how often a number stands in a list
 abbrev pub times : ℕ → List ℕ → ℕ
@@ -55,12 +53,7 @@ module _ {R : Type 0} (f : Semantics R) (config : Config) (items : List Msg) whe
   outputs kept [] = []
   outputs kept (p ∷ ps) = output_for f config.site kept (packet_of items p) ∷ outputs (kept_after f config.site kept (packet_of items p)) ps
 
-  -- an order to move the unit without keeping the order of its packets
-  abbrev pub is_plain : units.Unit → Option Order → Bool
-  is_plain unit (Some (Move source destination filter keep)) = not keep && takes filter unit
-  is_plain unit order = false
-
-  -- the unit's packets that the switch took in, and that were processed, with their outputs; whether a plain move of it began
+  -- the unit's packets that the switch took in, and that were processed, with their outputs
   abbrev pub came : units.Unit → List Note → List ℕ
   came unit log = those (is_of unit) (arrived log)
 
@@ -70,15 +63,12 @@ module _ {R : Type 0} (f : Semantics R) (config : Config) (items : List Msg) whe
   abbrev pub given : units.Unit → List Note → List Output
   given unit log = map (λ d. d.output) (done_of (is_of unit) (done log))
 
-  abbrev pub is_loose : units.Unit → List Note → Bool
-  is_loose unit log = has_begun (λ op. is_plain unit (order_of items op)) log
-
   -- what every run keeps
   pub record Promises {F : Type 0} (w : Network (Node F R) Msg Note) : Type 0 where
     -- the switch takes the packets of the input in their order
     pub in_turn : IsFront (arrived w.log) (map (λ p. p.number) (packets items))
-    -- what is processed of a unit is a front of what came, as long as no plain move of it began; each packet once in any case
-    pub in_order : (unit : units.Unit) → is_loose unit w.log ≡ false → IsFront (went unit w.log) (came unit w.log)
+    -- what is processed of a unit is a front of what came, as long as no plain move handed it on; each packet once in any case
+    pub in_order : (unit : units.Unit) → is_loose config items unit w.log ≡ false → IsFront (went unit w.log) (came unit w.log)
     pub once : (unit : units.Unit) (p : ℕ) → times p (went unit w.log) ≤ times p (came unit w.log)
     -- outputs and records are those of one instance that nothing moved, and no unit has two records
     pub outputs_are : (unit : units.Unit) → given unit w.log ≡ outputs None (went unit w.log)
@@ -95,8 +85,8 @@ module _ {R : Type 0} (f : Semantics R) (config : Config) (items : List Msg) whe
   -- live at an instance; commands were answered, and the rules changed for those that are done
   pub record Completed {F : Type 0} (w : Network (Node F R) Msg Note) : Type 0 where
     pub all_came : arrived w.log ≡ map (λ p. p.number) (packets items)
-    -- in their order, as long as no plain move of their unit began
-    pub all_went : (unit : units.Unit) → is_loose unit w.log ≡ false → went unit w.log ≡ came unit w.log
+    -- in their order, as long as no plain move handed their unit on
+    pub all_went : (unit : units.Unit) → is_loose config items unit w.log ≡ false → went unit w.log ≡ came unit w.log
     pub each_once : (unit : units.Unit) (p : ℕ) → times p (went unit w.log) ≡ times p (came unit w.log)
     pub has_record : (unit : units.Unit) (r : R) → fold None (went unit w.log) ≡ Some r → (i : ℕ) × (live_at w i unit ≡ Some r)
     -- each command of the input was answered, if none stands behind its end

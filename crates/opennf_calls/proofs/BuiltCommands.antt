@@ -66,7 +66,7 @@ few_of text i is =
     let counts = as_many (slice_split (λ b. eqb b 44) text) all.0 all.1 in
     let parts = length-slice_split (λ b. eqb b 44) text in
     subst (λ (j : Instances). (1 ≤ length j.0) × (length j.0 ≤ 16) × (length j.1 ≡ length j.0)) (same_some kept.1)
-        (omega (arith, counts.0, parts), leb-true (length all.0.0) 16 few.0, counts.1 ∙ sym counts.0)
+    (omega (arith, counts.0, parts), leb-true (length all.0.0) 16 few.0, counts.1 ∙ sym counts.0)
 
 -- what was asked for can run
 values_run : (g : Given) (s : SimAsked) → sim_values g ≡ Some s → CanRun s

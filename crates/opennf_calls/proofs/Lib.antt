@@ -1,13 +1,7 @@
 pub mod BuiltCommands
 pub mod CompleteLemmas
-pub mod CountedDigits
-pub mod FlowOrderLemmas
-pub mod FoldLemmas
 pub mod LastLineLemmas
 pub mod MakingLemmas
-pub mod PageLemmas
-pub mod RecordedEntries
-pub mod ReportLemmas
 pub mod RoleLemmas
 pub mod RowLemmas
 pub mod RunLemmas

@@ -1,12 +1,6 @@
 pub mod Command
-pub mod Digits
-pub mod Fold
-pub mod FoldState
 pub mod Outcome
-pub mod PacketLines
 pub mod Phases
-pub mod Report
-pub mod ReportParts
 pub mod Simulated
 pub mod Status
 pub mod Writing

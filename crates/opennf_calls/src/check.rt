@@ -61,7 +61,11 @@ fn read_canonical<O: Outside>(
 }
 
 /// Reads the script, or one byte more than `most` of one that is longer.
-pub(crate) fn read_bytes<O: Outside>(alloc: Global, outside: &mut O, most: u64) -> Result<Bytes, UptoFault>
+pub(crate) fn read_bytes<O: Outside>(
+    alloc: Global,
+    outside: &mut O,
+    most: u64,
+) -> Result<Bytes, UptoFault>
     requires { CanRead ScriptRole (O.seen outside.old ScriptRole) }
     ensures bytes { ForSome (O.seen outside.old ScriptRole).left (λ bytes. IfOk result (λ found.
         (found ≡ take (most + 1) bytes) × ((O.seen outside.new ScriptRole).left ≡ Some (drop (most + 1) bytes)))) }

@@ -1,16 +1,15 @@
 //! The calls that do all that the program does.
 //!
 //! [`opennf_top`] and [`opennf_calm`] take the words of the command line, read the files that these name, and write what they
-//! ask for: the report of a capture, the canonical text of a script, or a generated capture. They touch nothing but the
-//! [`Outside`](nf_io::Outside) that they are handed, and memory.
+//! ask for: the report of a run of the network, the canonical text of a script, or a generated capture. They touch nothing but
+//! the [`Outside`](nf_io::Outside) that they are handed, and memory.
 //!
 //! Contracts see the outside as a function from roles to what is known of each, the words as lists of bytes, and a status as
-//! its fields. The main promise is `HasOutcome` of `specs/Outcome.antt`: at `Ok` the report is that of the capture's bytes,
-//! where each flow's outputs and record are those of its own packets, or it is the canonical text of the script's bytes, or the
-//! capture that was drawn is written; every other status has its cause.
+//! its fields. The main promise is `HasOutcome` of `specs/Outcome.antt`: at `Ok` the report is that of the world to which the
+//! words' schedule leads the network, whose input is what the capture's and the script's bytes are read as, or it is the
+//! canonical text of the script's bytes, or the capture that was drawn is written; every other status has its cause.
 #![tactic(auto)]
 
-// The commands, and how each ends.
 pub mod check;
 pub mod error_line;
 pub mod generate;
@@ -19,13 +18,6 @@ pub mod outcome;
 pub mod sim;
 pub mod status;
 pub mod top;
-
-// One instance and its report. These name no status, no command and no words, so that they can stand in a crate below.
-mod block;
-mod counter;
-pub mod fold;
-mod pages;
-pub mod report;
 pub mod writing;
 
 pub use outcome::Outcome;

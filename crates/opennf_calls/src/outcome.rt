@@ -5,6 +5,6 @@ use actor_net::Choices;
 #[derive(Debug, Drop)]
 pub struct Outcome {
     pub status: Status,
-    /// The choices of the run whose report was written. While the program folds the trace itself there are none.
+    /// The choices of the run whose report was written. A simulation doesn't hand its choices out yet, so there are none.
     pub choices: Choices,
 }

@@ -211,3 +211,345 @@ fn a_failing_write_leaves_a_front_of_the_report(rt: HostRuntime) -> Result<(), F
     );
     Ok(())
 }
+
+/// The record of a datagram of 20 bytes at a second, which 10.0.0.H:5000 sends to 192.0.2.9:53.
+fn sent(second: u8, h: u8) -> [u8; 64] {
+    let mut record = RECORD;
+    record[0] = second;
+    record[31] = h;
+    record
+}
+
+/// The record of one the other way.
+fn received(second: u8, h: u8) -> [u8; 64] {
+    let mut record = RECORD;
+    record[0] = second;
+    record[28..40].copy_from_slice(&[192, 0, 2, 9, 10, 0, 0, h, 0, 53, 0x13, 0x88]);
+    record
+}
+
+/// The number that a simulation with a script ends with, and the outside after it. The words name the instances and how the run picks
+/// its next step.
+fn scripted(
+    alloc: Global,
+    instances: &str,
+    schedule: &str,
+    script: &str,
+    pieces: &[&[u8]],
+) -> Result<(u8, MemoryOutside), NoMemory> {
+    let words = [
+        "opennf",
+        "sim",
+        "conntrack",
+        "--instances",
+        instances,
+        "--inside",
+        "10.0.0.0/24",
+        "--schedule",
+        schedule,
+        "T",
+        "S",
+    ];
+    let words = owned(alloc, &words)?;
+    let mut outside = outside_of(alloc, pieces)?;
+    outside.put(Role::Script, script.as_bytes())?;
+    let outcome = opennf_calm(alloc, words.as_slice(), &mut outside);
+    Ok((outcome.status.number(), outside))
+}
+
+/// The same of three packets of 10.0.0.1 and one of 10.0.0.2.
+fn four_packets(
+    alloc: Global,
+    instances: &str,
+    schedule: &str,
+    script: &str,
+) -> Result<(u8, MemoryOutside), NoMemory> {
+    let pieces: [&[u8]; 5] = [
+        &HEADER,
+        &sent(1, 1),
+        &received(2, 1),
+        &sent(3, 1),
+        &sent(4, 2),
+    ];
+    scripted(alloc, instances, schedule, script, &pieces)
+}
+
+#[test]
+fn a_move_keeps_the_order_of_packets_that_are_under_way(rt: HostRuntime) -> Result<(), Fail> {
+    let script = "at 1 move a b local=10.0.0.1 order\n";
+    let (number, outside) = four_packets(rt.alloc(), "a,b", "6", script)?;
+    assert_eq!(rt; number, 0);
+    let report = "opennf report 1
+function conntrack instances 2 window 256
+trace packets 4 skipped 0 whole
+out 1 single
+out 2 both
+out 3 both
+out 4 single
+done 1 a
+done 2 a
+done 4 a
+done 3 b
+answer 1 done
+state udp 10.0.0.1:5000 192.0.2.9:53 b both out packets 3 bytes 60 seen 3000000000
+state udp 10.0.0.2:5000 192.0.2.9:53 a single out packets 1 bytes 20 seen 4000000000
+tally a 3 0
+tally b 0 1
+end
+";
+    assert_eq!(rt; outside.written(Role::Report), report.as_bytes());
+    assert_eq!(rt; outside.written(Role::Errors), b"".as_slice());
+    Ok(())
+}
+
+#[test]
+fn a_plain_move_loses_no_packet(rt: HostRuntime) -> Result<(), Fail> {
+    let script = "at 1 move a b any lossfree\n";
+    let (number, outside) = four_packets(rt.alloc(), "a,b", "89", script)?;
+    assert_eq!(rt; number, 0);
+    let report = "opennf report 1
+function conntrack instances 2 window 256
+trace packets 4 skipped 0 whole
+out 1 single
+out 2 both
+out 3 both
+out 4 single
+done 1 a
+done 4 b
+done 2 b
+done 3 b
+answer 1 done
+state udp 10.0.0.1:5000 192.0.2.9:53 b both out packets 3 bytes 60 seen 3000000000
+state udp 10.0.0.2:5000 192.0.2.9:53 b single out packets 1 bytes 20 seen 4000000000
+tally a 1 0
+tally b 0 3
+end
+";
+    assert_eq!(rt; outside.written(Role::Report), report.as_bytes());
+    assert_eq!(rt; outside.written(Role::Errors), b"".as_slice());
+    Ok(())
+}
+
+#[test]
+fn a_refused_import_leaves_the_record_at_its_instance(rt: HostRuntime) -> Result<(), Fail> {
+    let script = "at 1 move a b local=10.0.0.1 order\nat 1 settle\n";
+    let (number, outside) = four_packets(rt.alloc(), "a,b:0", "first", script)?;
+    assert_eq!(rt; number, 0);
+    let report = "opennf report 1
+function conntrack instances 2 window 256
+trace packets 4 skipped 0 whole
+out 1 single
+out 2 both
+out 3 both
+out 4 single
+done 1 a
+done 2 a
+done 3 a
+done 4 a
+answer 1 import 0 1 0
+state udp 10.0.0.1:5000 192.0.2.9:53 a both out packets 3 bytes 60 seen 3000000000
+state udp 10.0.0.2:5000 192.0.2.9:53 a single out packets 1 bytes 20 seen 4000000000
+tally a 4 0
+tally b 0 0
+end
+";
+    assert_eq!(rt; outside.written(Role::Report), report.as_bytes());
+    assert_eq!(rt; outside.written(Role::Errors), b"".as_slice());
+    Ok(())
+}
+
+#[test]
+fn the_first_of_three_routes_that_matches_decides(rt: HostRuntime) -> Result<(), Fail> {
+    let script = "route local=10.0.0.1 b\nroute local=10.0.0.0/30 c\nroute local=10.0.0.4/30 b\n";
+    let pieces: [&[u8]; 5] = [&HEADER, &sent(1, 1), &sent(2, 2), &sent(3, 5), &sent(4, 9)];
+    let (number, outside) = scripted(rt.alloc(), "a,b,c", "last", script, &pieces)?;
+    assert_eq!(rt; number, 0);
+    let report = "opennf report 1
+function conntrack instances 3 window 256
+trace packets 4 skipped 0 whole
+out 1 single
+out 2 single
+out 3 single
+out 4 single
+done 1 b
+done 2 c
+done 3 b
+done 4 a
+state udp 10.0.0.1:5000 192.0.2.9:53 b single out packets 1 bytes 20 seen 1000000000
+state udp 10.0.0.2:5000 192.0.2.9:53 c single out packets 1 bytes 20 seen 2000000000
+state udp 10.0.0.5:5000 192.0.2.9:53 b single out packets 1 bytes 20 seen 3000000000
+state udp 10.0.0.9:5000 192.0.2.9:53 a single out packets 1 bytes 20 seen 4000000000
+tally a 1 0 0
+tally b 0 2 0
+tally c 0 0 1
+end
+";
+    assert_eq!(rt; outside.written(Role::Report), report.as_bytes());
+    assert_eq!(rt; outside.written(Role::Errors), b"".as_slice());
+    Ok(())
+}
+
+#[test]
+fn one_instance_reports_the_same_by_each_schedule(rt: HostRuntime) -> Result<(), Fail> {
+    let report = "opennf report 1
+function conntrack instances 1 window 256
+trace packets 4 skipped 0 whole
+out 1 single
+out 2 both
+out 3 both
+out 4 single
+done 1 a
+done 2 a
+done 3 a
+done 4 a
+state udp 10.0.0.1:5000 192.0.2.9:53 a both out packets 3 bytes 60 seen 3000000000
+state udp 10.0.0.2:5000 192.0.2.9:53 a single out packets 1 bytes 20 seen 4000000000
+tally a 4
+end
+";
+    for schedule in ["first", "last", "0", "18446744073709551615"] {
+        let (number, outside) = four_packets(rt.alloc(), "a", schedule, "# nothing\n")?;
+        assert_eq!(rt; number, 0);
+        assert_eq!(rt; outside.written(Role::Report), report.as_bytes());
+    }
+    Ok(())
+}
+
+/// Scripts beside a capture that is no capture, with the line on the standard error: the script's own faults come first, then the first
+/// command that isn't built, and the capture last.
+static REFUSALS: [(&str, &str); 6] = [
+    ("at 0 stop\n", "opennf: script line 1: word\n"),
+    (
+        "at 0 copy a b any\nat 0 stop\n",
+        "opennf: script line 2: word\n",
+    ),
+    (
+        "at 0 settle\nat 0 move a b any order\nat 0 copy a b any\n",
+        "opennf: command 2 not built\n",
+    ),
+    (
+        "at 0 share a,b any strict\nat 0 copy a b all\n",
+        "opennf: command 1 not built\n",
+    ),
+    ("at 0 move a b any order\n", "opennf: trace byte 0: magic\n"),
+    ("", "opennf: trace byte 0: magic\n"),
+];
+
+#[test]
+fn refusals_come_in_order_and_report_nothing(rt: HostRuntime) -> Result<(), Fail> {
+    for (script, line) in REFUSALS.as_slice() {
+        let (number, outside) = scripted(rt.alloc(), "a,b", "first", script, &[&HEADER[..3]])?;
+        assert_eq!(rt; number, 2);
+        assert_eq!(rt; outside.written(Role::Report), b"".as_slice());
+        assert_eq!(rt; outside.written(Role::Errors), line.as_bytes());
+    }
+    Ok(())
+}
+
+/// Scripts beside a capture that is sound.
+static UNBUILT: [(&str, &str); 2] = [
+    (
+        "at 0 move a b any order\nat 0 share b,a any strict\n",
+        "opennf: command 2 not built\n",
+    ),
+    ("at 9 copy a b all\n", "opennf: command 1 not built\n"),
+];
+
+#[test]
+fn a_share_and_a_copy_are_not_built(rt: HostRuntime) -> Result<(), Fail> {
+    for (script, line) in UNBUILT.as_slice() {
+        let (number, outside) = four_packets(rt.alloc(), "a,b", "first", script)?;
+        assert_eq!(rt; number, 2);
+        assert_eq!(rt; outside.written(Role::Report), b"".as_slice());
+        assert_eq!(rt; outside.written(Role::Errors), line.as_bytes());
+    }
+    Ok(())
+}
+
+/// The number that a simulation by these words ends with, where the capture is [`RECORD`] alone, and the outside after it.
+fn one_packet(alloc: Global, words: &[&str]) -> Result<(u8, MemoryOutside), NoMemory> {
+    let words = owned(alloc, words)?;
+    let mut outside = outside_of(alloc, &[&HEADER, &RECORD])?;
+    let outcome = opennf_calm(alloc, words.as_slice(), &mut outside);
+    Ok((outcome.status.number(), outside))
+}
+
+/// The words of a translator's simulation with a window of one packet.
+static TRANSLATOR: [&str; 12] = [
+    "opennf",
+    "sim",
+    "nat",
+    "--instances",
+    "a,b",
+    "--inside",
+    "10.0.0.0/24",
+    "--outside",
+    "203.0.113.1",
+    "--window",
+    "1",
+    "T",
+];
+
+#[test]
+fn the_report_of_a_translator_is_exact(rt: HostRuntime) -> Result<(), Fail> {
+    let (number, outside) = one_packet(rt.alloc(), &TRANSLATOR)?;
+    assert_eq!(rt; number, 0);
+    let report = "opennf report 1
+function nat instances 2 window 1
+trace packets 1 skipped 0 whole
+out 1 map 203.0.113.1:1276
+done 1 a
+state 10.0.0.1 a ports 1 packets 1 drops 0
+tally a 1 0
+tally b 0 0
+end
+";
+    assert_eq!(rt; outside.written(Role::Report), report.as_bytes());
+    Ok(())
+}
+
+/// The words of a monitor's simulation.
+static MONITOR: [&str; 8] = [
+    "opennf",
+    "sim",
+    "monitor",
+    "--instances",
+    "a",
+    "--inside",
+    "192.0.2.0/24",
+    "T",
+];
+
+#[test]
+fn the_report_of_a_monitor_is_exact(rt: HostRuntime) -> Result<(), Fail> {
+    let (number, outside) = one_packet(rt.alloc(), &MONITOR)?;
+    assert_eq!(rt; number, 0);
+    let report = "opennf report 1
+function monitor instances 1 window 256
+trace packets 1 skipped 0 whole
+out 1 quiet
+done 1 a
+state 192.0.2.9 a packets 1 services none
+tally a 1
+end
+";
+    assert_eq!(rt; outside.written(Role::Report), report.as_bytes());
+    Ok(())
+}
+
+#[test]
+fn a_script_that_cannot_be_read_is_a_fault_before_the_capture(rt: HostRuntime) -> Result<(), Fail> {
+    let alloc = rt.alloc();
+    let mut words = owned(alloc, &WORDS)?;
+    words.push(String::from_str(alloc, "S")?)?;
+    let mut outside = outside_of(alloc, &[&HEADER[..3]])?;
+    outside.fail(Role::Script, 1)?;
+    let outcome = opennf_calm(alloc, words.as_slice(), &mut outside);
+    assert_eq!(rt; outcome.status.number(), 4);
+    assert_eq!(rt; outside.written(Role::Report), b"".as_slice());
+    assert_eq!(rt;
+        outside.written(Role::Errors),
+        b"opennf: read fault script\n".as_slice()
+    );
+    Ok(())
+}

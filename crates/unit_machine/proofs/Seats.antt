@@ -16,6 +16,12 @@ pub data Seat {R : Type 0} (F : Steps R) : Type 0 where
   Is_beside : Beside F → Seat F
   Is_away : Away F → Seat F
 
+-- whether the move covers the unit
+abbrev pub is_covered : {R : Type 0} {F : Steps R} → Seat F → Bool
+is_covered (Covered s) = true
+is_covered (Is_beside s) = false
+is_covered (Is_away s) = false
+
 abbrev pub seat_shape : {R : Type 0} → (F : Steps R) → Seat F → State R
 seat_shape F (Covered s) = shape F s
 seat_shape F (Is_beside s) = shape_beside F s
@@ -60,6 +66,13 @@ pub seat_goes_on : {R : Type 0} (F : Steps R) (s : Seat F) (m : Move R) → Allo
 seat_goes_on F (Covered s) m a = let g = goes_on F s m a in (Covered g.0, g.1, g.2, g.3)
 seat_goes_on F (Is_beside s) m a = let g = beside_goes_on F s m a in (Is_beside g.0, g.1, g.2, g.3)
 seat_goes_on F (Is_away s) m a = let g = away_goes_on F s m a in (Is_away g.0, g.1, g.2, g.3)
+
+-- whichever step it takes
+pub covered_stays : {R : Type 0} (F : Steps R) (s : Seat F) (m : Move R) (a : Allowed (shape F (base_of s)) m) → is_covered (seat_goes_on F s m a).0 ≡ is_covered s
+unfolding seat_goes_on
+covered_stays F (Covered s) m a = refl
+covered_stays F (Is_beside s) m a = refl
+covered_stays F (Is_away s) m a = refl
 
 -- the controller's phase is that of the message
 pub seat_phase : {R : Type 0} (F : Steps R) (s : Seat F) → (seat_shape F s).phase ≡ (shape F (base_of s)).phase

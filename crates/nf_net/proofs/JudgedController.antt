@@ -1,0 +1,302 @@
+-- The controller's step keeps what is known of open moves and of their answers, asks once for a command's state, and puts one piece of it first.
+use Rattle.std.proofs.Common.{◌≡◌, ℕ, ◌+◌, ◌≤◌, Bool, true, false, cond, Option, Some, None, List, [], ◌∷◌, ◌++◌, get_or, refl, sym, ap, ◌∙◌, subst, arith}
+use Rattle.std.specs.Prelude.{if◌then◌else◌, ◌==◌, is_some, option_map, unwrap_or}
+use Rattle.std.specs.Option.{option_or}
+use Rattle.std.specs.FinMap as finite
+use Rattle.std.proofs.lemmas.Bool.Decides.{nat_tests, Decides-eqb}
+use Rattle.flow_filter.specs.declared.filter.Filter.{Filter}
+use Rattle.packet_pool.specs.Pool.{FullCell}
+use Rattle.event_filter.specs.declared.action.Action.TheVariants as action
+use Rattle.event_filter.specs.declared.mark.Mark.TheVariants.{Pass}
+use Rattle.nf_msgs.specs.declared.answer.Answer.{Answer}
+use Rattle.nf_msgs.specs.declared.answer.Answer.TheVariants.{Unknown, Overlap}
+use Rattle.nf_msgs.specs.declared.command.Order.{Order}
+use Rattle.nf_msgs.specs.declared.command.Order.TheVariants as order
+use Rattle.nf_msgs.specs.declared.msg.Piece.{Piece}
+use Rattle.nf_msgs.specs.declared.msg.Msg.{Msg}
+use Rattle.nf_msgs.specs.declared.msg.Msg.TheVariants as msg
+use Rattle.nf_msgs.specs.declared.note.Note.{Note}
+use Rattle.nf_msgs.specs.declared.note.Note.TheVariants as note
+use Rattle.nf_msgs.specs.Shown.{op_of}
+use Rattle.move_op.specs.Move.{MovePlan, MoveState, Row, row_in, begun, answer_of, destination}
+use Rattle.event_store.specs.Store.{stored}
+use Rattle.ctrl_node.specs.declared.operation.Operation.{Operation}
+use Rattle.ctrl_node.specs.declared.operation.Operation.TheVariants.{Move}
+use Rattle.ctrl_node.specs.Operations.{OpenOperations, turn_of, moved}
+use Rattle.ctrl_node.specs.Controller as controller
+use Rattle.ctrl_node.specs.Controller.{ControllerState, Step, still, refusal, place_of, begins_between, begins, decided, on_asked, after_turn, takes_turn, handed, numbered, on_event, on_final, instance_at, unknown_name, overlap, may_finish, finished, controller_step}
+use Rattle.actor_net.proofs.WeightLaws.{EachSent, sent_weight}
+use Rattle.unit_machine.proofs.Labels.{Each}
+use Rattle.nf_net.specs.Commands.{began, answers_of}
+use Rattle.nf_net.specs.Verdicts.{is_refusal}
+use Rattle.nf_net.proofs.BusyChanges.{got_insert, got_remove, gone_twice}
+use Rattle.nf_net.proofs.BusyLemmas.{began_same}
+use Rattle.nf_net.proofs.CreditCounts.{sent_weight-append}
+use Rattle.nf_net.proofs.MoveJudged.{Said, Knows, answer_known, row_follows, sent-append}
+use Rattle.nf_net.proofs.MoveOnce.{once, spent, spent_few, NoneOnce, no_one, row_spends}
+
+-- a note of a command's begin or answer
+abbrev pub is_own : Note → Bool
+is_own (note.Begun op) = true
+is_own (note.Answered op answer) = true
+is_own n = false
+
+-- how many of what is sent once were sent for a command, by its open operation, or else by whether it began
+abbrev pub used : Option Operation → Bool → Bool → ℕ
+used (Some (Move m)) has_begun first = spent m.phase first
+used None has_begun first = if has_begun then 1 else 0
+
+pub used_few : (o : Option Operation) (has_begun first : Bool) → used o has_begun first ≤ 1
+used_few (Some (Move m)) has_begun first = spent_few m.phase first
+used_few None true first = omega arith
+used_few None false first = omega arith
+
+-- a refusal
+refused_is : (u : Option (List ℕ)) (q : Option ℕ) (a : Answer) → option_or (option_map Unknown u) (option_map Overlap q) ≡ Some a → is_refusal a ≡ true
+refused_is (Some name) q a is = subst (λ x. is_refusal x ≡ true) (ap (λ o. unwrap_or o (Unknown name)) is) refl
+refused_is None (Some k) a is = subst (λ x. is_refusal x ≡ true) (ap (λ o. unwrap_or o (Overlap k)) is) refl
+refused_is None None a is = cc
+
+-- a command that a message brings didn't begin
+abbrev pub IsNew : List Note → Msg → Type 0
+IsNew log (msg.Asked a) = began a.op log ≡ false
+IsNew log m = Unit {0}
+
+abbrev move_in : MoveState → Option Operation → MoveState
+move_in d (Some (Move m)) = m
+move_in d None = d
+
+same_answer : (a b : Answer) → a ∷ [] ≡ b ∷ [] → a ≡ b
+same_answer a b is = ap (λ xs. get_or xs 0 a) is
+
+module _ (Part : ℕ → Piece → Type 0) (Verdict : ℕ → Answer → Type 0) (Goes : ℕ → ℕ → Type 0) (log : List Note) (n : ℕ) (c : ControllerState) where
+  -- the answer to a command that began is its verdict, and others are refused
+  pub record IsFound (op : ℕ) (a : Answer) : Type 0 where
+    pub known : began op log ≡ true → Verdict op a
+    pub refused : began op log ≡ false → is_refusal a ≡ true
+
+  -- each open move knows what it is to know
+  abbrev pub AllKnow : OpenOperations → Type 0
+  AllKnow ops = (op : ℕ) (m : MoveState) → finite.get ops op ≡ Some (Move m) → Knows Part Verdict Goes op m.phase
+
+  pub record StepIs (did : Step) : Type 0 where
+    pub knows : AllKnow did.node.operations
+    pub says : EachSent (Said Part Verdict Goes) 1 did.sends
+    pub found : (op : ℕ) (a : Answer) → answers_of op did.notes ≡ a ∷ [] → IsFound op a
+    pub own : Each (λ x. is_own x ≡ true) did.notes
+    pub once : (op : ℕ) (first : Bool) → sent_weight (once first op) n 1 did.sends + used (finite.get c.operations op) (began op log) first ≤ used (finite.get did.node.operations op) (began op (log ++ did.notes)) first
+
+  -- the finish behind all else
+  finished_is : (did : Step) → StepIs did → StepIs (finished did)
+  finished_is did h = by_finish (may_finish did.node)
+    where
+      by_finish : (b : Bool) → StepIs (record { node = if b then record did.node { finish_sent = true } else did.node; sends = did.sends ++ (if b then (0, msg.Finish) ∷ [] else []); notes = did.notes })
+      by_finish true = record {
+        knows = h.knows;
+        says = sent-append (Said Part Verdict Goes) 1 did.sends ((0, msg.Finish) ∷ []) h.says (tt, tt);
+        found = h.found;
+        own = h.own;
+        once = λ op first. (let both = sent_weight-append (once first op) n 1 did.sends ((0, msg.Finish) ∷ []) in let none = no_one n 1 first 0 msg.Finish (λ y. refl) op in let own = h.once op first in omega (arith, both, none, own));
+      }
+      by_finish false = record {
+        knows = h.knows;
+        says = sent-append (Said Part Verdict Goes) 1 did.sends [] h.says tt;
+        found = h.found;
+        own = h.own;
+        once = λ op first. (let both = sent_weight-append (once first op) n 1 did.sends [] in let own = h.once op first in omega (arith, both, own));
+      }
+
+  module _ (knows : AllKnow c.operations) where
+    -- the operations stay, and nothing is noted
+    quiet_is : (s : ControllerState) (sends : List (ℕ × Msg)) → s.operations ≡ c.operations → EachSent (Said Part Verdict Goes) 1 sends → ((first : Bool) → NoneOnce n 1 first sends) → StepIs (record { node = s; sends = sends; notes = [] })
+    quiet_is s sends same says none = record {
+      knows = λ op m there. knows op m (ap (λ ops. finite.get ops op) (sym same) ∙ there);
+      says = says;
+      found = λ op a is. cc;
+      own = tt;
+      once = λ op first. (let weighs = none first op in let all = ap (λ ops. used (finite.get ops op) (began op log) first) same in let begun = ap (λ b. used (finite.get s.operations op) b first) (began_same op log [] refl) in omega (arith, weighs, all, begun));
+    }
+
+    still_is : StepIs (still c)
+    still_is = quiet_is c [] refl tt (λ first op. refl)
+
+    -- an operation in place of one, or a new one
+    knows_insert : (op : ℕ) (m : MoveState) → Knows Part Verdict Goes op m.phase → AllKnow (finite.insert c.operations op (Move m))
+    knows_insert op m h k x there =
+        elim (k == op) as (λ b. (k == op) ≡ b → cond b (Some (Move m)) (finite.get c.operations k) ≡ Some (Move x) → Knows Part Verdict Goes k x.phase) [
+          | true ↦ λ on e. subst (λ j. Knows Part Verdict Goes j x.phase) (sym ((Decides-eqb k op).0 on)) (subst (λ y. Knows Part Verdict Goes op y.phase) (ap (move_in m) e) h)
+          | false ↦ λ off e. knows k x e
+        ] refl (sym (got_insert c.operations op k (Move m)) ∙ there)
+
+    module _ (moves : (op : ℕ) (m : MoveState) → finite.get c.operations op ≡ Some (Move m) → (m.plan.op ≡ op) × Goes op (destination m.plan)) (busy : (op : ℕ) (m : MoveState) → finite.get c.operations op ≡ Some (Move m) → began op log ≡ true) where
+      module _ (op port : ℕ) (m : Msg) (mv : MoveState) (there : finite.get c.operations op ≡ Some (Move mv)) (own : op_of m ≡ Some op) (label : Said Part Verdict Goes port 1 m) where
+        abbrev r : Row
+        r = row_in mv c.store port m
+
+        abbrev x : MoveState
+        x = record mv { phase = r.next.phase }
+
+        same : mv.plan.op ≡ op
+        same = (moves op mv there).0
+
+        knows_next : Knows Part Verdict Goes op r.next.phase
+        knows_next = subst (λ k. Knows Part Verdict Goes k r.next.phase) same (row_follows Part Verdict Goes mv.plan (subst (λ k. Goes k (destination mv.plan)) (sym same) (moves op mv there).1) (stored c.store mv.plan.op) mv.phase port m (subst (λ k. Knows Part Verdict Goes k mv.phase) (sym same) (knows op mv there)) (own ∙ ap Some (sym same)) label).knows
+
+        says_next : EachSent (Said Part Verdict Goes) 1 r.next.sends
+        says_next = (row_follows Part Verdict Goes mv.plan (subst (λ k. Goes k (destination mv.plan)) (sym same) (moves op mv there).1) (stored c.store mv.plan.op) mv.phase port m (subst (λ k. Knows Part Verdict Goes k mv.phase) (sym same) (knows op mv there)) (own ∙ ap Some (sym same)) label).says
+
+        -- what is sent once, where the operation then counts for so many
+        spends : (k : ℕ) (first : Bool) (after : ℕ) → spent r.next.phase first ≤ after → sent_weight (once first k) n 1 r.next.sends + used (finite.get c.operations k) (began k log) first ≤ (if k == op then after else used (finite.get c.operations k) (began k log) first)
+        spends k first after few = elim (k == op) as (λ b. (k == op) ≡ b → sent_weight (once first k) n 1 r.next.sends + used (finite.get c.operations k) (began k log) first ≤ (if b then after else used (finite.get c.operations k) (began k log) first)) [
+          | true ↦ λ on.
+              let it : mv.plan.op ≡ k = same ∙ sym ((Decides-eqb k op).0 on) in
+              let sent = subst (λ y. sent_weight (once first y) n 1 r.next.sends + spent mv.phase first ≤ spent r.next.phase first) it (row_spends n first mv.plan (stored c.store mv.plan.op) mv.phase port m).own in
+              let before : used (finite.get c.operations k) (began k log) first ≡ spent mv.phase first = ap (λ y. used (finite.get c.operations y) (began k log) first) ((Decides-eqb k op).0 on) ∙ ap (λ o. used o (began k log) first) there in
+              omega (arith, few, sent, before)
+          | false ↦ λ off.
+              let apart : (mv.plan.op == k) ≡ false = grind (arith, nat_tests, off, same) in
+              let none = (row_spends n first mv.plan (stored c.store mv.plan.op) mv.phase port m).other k apart in
+              omega (arith, none)
+        ] refl
+
+        turn_by : (a : Option Answer) → answer_of r.next.phase ≡ a → StepIs (after_turn c op (moved mv c.store r) a)
+        turn_by None e = record {
+          knows = knows_insert op x knows_next;
+          says = says_next;
+          found = λ k a is. cc;
+          own = tt;
+          once = λ k first.
+              let sent = spends k first (spent r.next.phase first) (omega arith) in
+              let begun = began_same k log [] refl in
+              let here : used (finite.get (finite.insert c.operations op (Move x)) k) (began k (log ++ [])) first ≡ (if k == op then spent r.next.phase first else used (finite.get c.operations k) (began k log) first) =
+              ap (λ o. used o (began k (log ++ [])) first) (got_insert c.operations op k (Move x)) ∙ ap (λ b. used (cond (k == op) (Some (Move x)) (finite.get c.operations k)) b first) begun
+              ∙ elim (k == op) as (λ b. used (cond b (Some (Move x)) (finite.get c.operations k)) (began k log) first ≡ (if b then spent r.next.phase first else used (finite.get c.operations k) (began k log) first)) [ true ↦ refl | false ↦ refl ] in
+              omega (arith, sent, here);
+        }
+        turn_by (Some a) e = record {
+          knows = λ k y got. elim (k == op) as (λ b. cond b None (finite.get c.operations k) ≡ Some (Move y) → Knows Part Verdict Goes k y.phase) [
+            | true ↦ λ never. cc
+            | false ↦ λ was. knows k y was
+          ] (sym (gone k) ∙ got);
+          says = sent-append (Said Part Verdict Goes) 1 r.next.sends ((0, msg.Answered op) ∷ []) says_next (tt, tt);
+          found = λ k b is. elim (op == k) as (λ t. (op == k) ≡ t → (if t then a ∷ [] else []) ≡ b ∷ [] → IsFound k b) [
+            | true ↦ λ on given.
+                let it : op ≡ k = (Decides-eqb op k).0 on in
+                let its : a ≡ b = same_answer a b given in
+                subst (λ j. IsFound j b) it (subst (λ z. IsFound op z) its (record {
+                  known = λ _. answer_known Part Verdict Goes op r.next.phase a knows_next e;
+                  refused = λ never. (let on = sym (busy op mv there) ∙ never in cc);
+                }))
+            | false ↦ λ off never. cc
+          ] refl is;
+          own = (refl, tt);
+          once = λ k first.
+              let both = sent_weight-append (once first k) n 1 r.next.sends ((0, msg.Answered op) ∷ []) in
+              let none = no_one n 1 first 0 (msg.Answered op) (λ y. refl) k in
+              let sent = spends k first 1 (spent_few r.next.phase first) in
+              let begun = began_same k log (note.Answered op a ∷ []) refl in
+              let here : used (finite.get (finite.remove (finite.insert c.operations op (Move x)) op) k) (began k (log ++ note.Answered op a ∷ [])) first ≡ (if k == op then 1 else used (finite.get c.operations k) (began k log) first) =
+              ap (λ o. used o (began k (log ++ note.Answered op a ∷ [])) first) (gone k) ∙ ap (λ b. used (cond (k == op) None (finite.get c.operations k)) b first) begun
+              ∙ elim (k == op) as (λ b. (k == op) ≡ b → used (cond b None (finite.get c.operations k)) (began k log) first ≡ (if b then 1 else used (finite.get c.operations k) (began k log) first)) [
+                | true ↦ λ on. (let has : began k log ≡ true = ap (λ j. began j log) ((Decides-eqb k op).0 on) ∙ busy op mv there in rw has refl)
+                | false ↦ λ off. refl
+              ] refl in
+              omega (arith, both, none, sent, here);
+        }
+          where
+            gone : (k : ℕ) → finite.get (finite.remove (finite.insert c.operations op (Move x)) op) k ≡ cond (k == op) None (finite.get c.operations k)
+            gone k = got_remove (finite.insert c.operations op (Move x)) op k ∙ ap (λ o. cond (k == op) None o) (got_insert c.operations op k (Move x)) ∙ gone_twice (k == op) (Some (Move x)) (finite.get c.operations k)
+
+      turn_is : (op port : ℕ) (m : Msg) (o : Option Operation) → finite.get c.operations op ≡ o → op_of m ≡ Some op → Said Part Verdict Goes port 1 m → StepIs (takes_turn c op (turn_of o c.store port m))
+      turn_is op port m None is own label = quiet_is (record c { operations = c.operations; store = c.store }) [] refl tt (λ first k. refl)
+      turn_is op port m (Some (Move mv)) is own label = turn_by op port m mv is own label (answer_of (row_in mv c.store port m).next.phase) refl
+
+      handed_is : (op port : ℕ) (m : Msg) → op_of m ≡ Some op → Said Part Verdict Goes port 1 m → StepIs (handed c op port m)
+      handed_is op port m own label = turn_is op port m (finite.get c.operations op) refl own label
+
+      numbered_is : (port : ℕ) (m : Msg) (o : Option ℕ) → op_of m ≡ o → Said Part Verdict Goes port 1 m → StepIs (numbered c port m o)
+      numbered_is port m None own label = still_is
+      numbered_is port m (Some op) own label = handed_is op port m own label
+
+      event_is : (port op : ℕ) (cell : FullCell) (i : Option ℕ) → StepIs (on_event c port op cell i)
+      event_is port op cell None = still_is
+      event_is port op cell (Some i) = elim (finite.contains_key c.operations op) as (λ b. StepIs (if b then handed c op port (msg.Event op cell) else record { node = c; sends = (0, msg.Forward i (Pass op) cell) ∷ []; notes = [] })) [
+        | true ↦ handed_is op port (msg.Event op cell) refl tt
+        | false ↦ quiet_is c ((0, msg.Forward i (Pass op) cell) ∷ []) refl (tt, tt) (λ first. no_one n 1 first 0 (msg.Forward i (Pass op) cell) (λ y. refl))
+      ]
+
+      final_is : (i : Option ℕ) → StepIs (on_final c i)
+      final_is None = still_is
+      final_is (Some i) = quiet_is _ [] refl tt (λ first op. refl)
+
+      -- a command that waits, of which nothing is noted
+      module _ (op : ℕ) (new : began op log ≡ false) (none : finite.get c.operations op ≡ None) where
+        between_is : (filter : Filter) (keep : Bool) (a b : Option ℕ) → StepIs (begins_between c op filter keep a b)
+        between_is filter keep (Some from) (Some to) =
+            let plan : MovePlan = record { op = op; from = from; to = to; filter = filter; keep = keep } in
+            record {
+              knows = knows_insert op (begun plan) tt;
+              says = (tt, tt);
+              found = λ k a is. cc;
+              own = (refl, tt);
+              once = λ k first.
+                  let sent = no_one n 1 first (from + 2) (msg.Enable op filter action.Drop) (λ y. refl) k in
+                  let here : used (finite.get c.operations k) (began k log) first ≤ used (finite.get (finite.insert c.operations op (Move (begun plan))) k) (began k (log ++ note.Begun op ∷ [])) first =
+                  subst (λ o. used (finite.get c.operations k) (began k log) first ≤ used o (began k (log ++ note.Begun op ∷ [])) first) (sym (got_insert c.operations op k (Move (begun plan)))) (elim (k == op) as (λ b. (k == op) ≡ b → used (finite.get c.operations k) (began k log) first ≤ used (cond b (Some (Move (begun plan))) (finite.get c.operations k)) (began k (log ++ note.Begun op ∷ [])) first) [
+                    | true ↦ λ on.
+                        let it : k ≡ op = (Decides-eqb k op).0 on in
+                        let zero : used (finite.get c.operations k) (began k log) first ≡ 0 = ap (λ j. used (finite.get c.operations j) (began j log) first) it ∙ ap (λ o. used o (began op log) first) none ∙ ap (λ b. if b then 1 else 0) new in
+                        omega (arith, zero)
+                    | false ↦ λ off.
+                        let turned : (op == k) ≡ false = grind (arith, nat_tests, off) in
+                        let same : began k (log ++ note.Begun op ∷ []) ≡ began k log = began_same k log (note.Begun op ∷ []) (rw turned refl) in
+                        rw same (omega arith)
+                  ] refl) in
+                  omega (arith, sent, here);
+            }
+        between_is filter keep None b = still_is
+        between_is filter keep (Some from) None = still_is
+
+        begins_is : (what : Order) → StepIs (begins c op what)
+        begins_is (order.Move source destination filter keep) = between_is filter keep (place_of c.names source) (place_of c.names destination)
+        begins_is (order.Copy source destination filter) = still_is
+        begins_is (order.Share members filter) = still_is
+
+        decided_is : (what : Order) (o : Option Answer) → refusal c what ≡ o → StepIs (decided c op what o)
+        decided_is what None is = begins_is what
+        decided_is what (Some a) is =
+            let cause = refused_is (unknown_name c what) (overlap c what) a is in
+            record {
+              knows = knows;
+              says = (tt, tt);
+              found = λ k b given. elim (op == k) as (λ t. (op == k) ≡ t → (if t then a ∷ [] else []) ≡ b ∷ [] → IsFound k b) [
+                | true ↦ λ on e.
+                    let it : op ≡ k = (Decides-eqb op k).0 on in
+                    let its : a ≡ b = same_answer a b e in
+                    subst (λ j. IsFound j b) it (subst (λ z. IsFound op z) its (record { known = λ never. (let on = sym new ∙ never in cc); refused = λ _. cause }))
+                | false ↦ λ off never. cc
+              ] refl given;
+              own = (refl, tt);
+              once = λ k first.
+                  let sent = no_one n 1 first 0 (msg.Answered op) (λ y. refl) k in
+                  let same = began_same k log (note.Answered op a ∷ []) refl in
+                  let here = ap (λ b. used (finite.get c.operations k) b first) same in
+                  omega (arith, sent, here);
+            }
+
+      asked_is : (op : ℕ) (what : Order) → began op log ≡ false → StepIs (on_asked c (record { op = op; what = what }))
+      asked_is op what new = by_got (finite.get c.operations op) refl
+        where
+          by_got : (o : Option Operation) → finite.get c.operations op ≡ o → StepIs (if is_some o then still c else decided c op what (refusal c what))
+          by_got None is = decided_is op new is what (refusal c what) refl
+          by_got (Some x) is = still_is
+
+      row_is : (port : ℕ) (m : Msg) → Said Part Verdict Goes port 1 m → IsNew log m → StepIs (controller.row c port m)
+      row_is port (msg.Asked a) label new = elim (port == 0) as (λ b. StepIs (if b then on_asked c a else still c)) [ true ↦ asked_is a.op a.what new | false ↦ still_is ]
+      row_is port msg.End label new = elim (port == 0) as (λ b. StepIs (if b then still (record c { end_came = true }) else still c)) [ true ↦ quiet_is _ [] refl tt (λ first op. refl) | false ↦ still_is ]
+      row_is port (msg.Event op cell) label new = event_is port op cell (instance_at c port)
+      row_is port msg.Final label new = final_is (instance_at c port)
+      row_is port m label new = numbered_is port m (op_of m) refl label
+
+      pub controller_judges : (port : ℕ) (m : Msg) → Said Part Verdict Goes port 1 m → IsNew log m → StepIs (controller_step c port m)
+      controller_judges port m label new = finished_is (controller.row c port m) (row_is port m label new)

@@ -1,0 +1,131 @@
+-- What is known of a move's pieces by the log, and of its verdict by the choices so far: it stays known as both go on.
+use Rattle.std.proofs.Common.{◌≡◌, ℕ, ◌+◌, Bool, true, false, Some, None, List, [], ◌∷◌, ◌++◌, length, refl, sym, ap, ◌∙◌}
+use Rattle.std.specs.Prelude.{if◌then◌else◌, ◌&&◌, ◌||◌, ◌==◌, nat_lt}
+use Rattle.std.specs.List.{list_any}
+use Rattle.std.specs.FinMap as finite
+use Rattle.nf_function.specs.declared.unit.Unit as units
+use Rattle.nf_function.specs.Semantics.{Semantics}
+use Rattle.state_chunk.specs.Format.{version_number}
+use Rattle.nf_msgs.specs.declared.answer.Answer.{Answer}
+use Rattle.nf_msgs.specs.declared.answer.Answer.TheVariants.{Done, Import, Old}
+use Rattle.nf_msgs.specs.declared.msg.Piece.{Piece}
+use Rattle.nf_msgs.specs.declared.msg.Msg.{Msg}
+use Rattle.nf_msgs.specs.declared.msg.Msg.TheVariants as msg
+use Rattle.nf_msgs.specs.declared.note.Note.{Note}
+use Rattle.nf_msgs.specs.Nodes.{instance_node}
+use Rattle.instance_worker.specs.declared.instance.Instance.{Instance}
+use Rattle.instance_worker.specs.Instance.{refusal}
+use Rattle.actor_net.specs.declared.choice.Choice.{Choice}
+use Rattle.actor_net.specs.Network.{Network, run}
+use Rattle.actor_net.proofs.WeightLaws.{Each, OnLinks}
+use Rattle.unit_machine.proofs.Labels as labels
+use Rattle.nf_net.specs.declared.config.Config.{Config}
+use Rattle.nf_net.specs.declared.node.Node.{Node}
+use Rattle.nf_net.specs.Commands.{began}
+use Rattle.nf_net.specs.Input.{order_of}
+use Rattle.nf_net.specs.Nodes.{node_step}
+use Rattle.nf_net.specs.Verdicts.{Weighed, verdict, is_refusal, exported, before_export, is_timed, receiver_of, IsWeighed, IsTakenAfter}
+use Rattle.nf_net.proofs.JudgedInstance.{answer_by}
+use Rattle.nf_net.proofs.LogLemmas.{has_begun-append}
+use Rattle.nf_net.proofs.MoveJudged.{Said, Knows}
+use Rattle.nf_net.proofs.VerdictLemmas.{exported_kept, before_export_kept, taken_more}
+use Rattle.move_op.specs.declared.door.Door.TheVariants as door
+use Rattle.move_op.specs.declared.phase.Phase.{Phase}
+use Rattle.move_op.specs.declared.phase.Phase.TheVariants as phase
+
+-- an instance's answer is the verdict by what it holds, and by what the piece says
+pub answer_is : {F R : Type 0} (i : Instance F R) (piece : Piece) (timed : Bool) → piece.newest ≡ version_number timed → answer_by (refusal i piece) ≡ verdict (record { held = finite.len i.table.live; coming = piece.total; limit = i.limit; marked = i.marked; timed = timed })
+answer_is i piece timed newest =
+    elim (nat_lt i.limit (finite.len i.table.live + piece.total)) as (λ b. answer_by (if b then Some (Import (finite.len i.table.live) piece.total i.limit) else if i.marked && nat_lt 1 piece.newest then Some (Old piece.newest 1) else None) ≡ (if b then Import (finite.len i.table.live) piece.total i.limit else if i.marked && timed then Old 2 1 else Done)) [
+      | true ↦ refl
+      | false ↦ by_version i.marked timed piece.newest newest
+    ]
+  where
+    by_version : (marked t : Bool) (version : ℕ) → version ≡ version_number t → answer_by (if marked && nat_lt 1 version then Some (Old version 1) else None) ≡ (if marked && t then Old 2 1 else Done)
+    by_version true true version e = rw e refl
+    by_version true false version e = rw e refl
+    by_version false t version e = refl
+
+module _ {F R : Type 0} (f : Semantics R) (c : Config) (items : List Msg) (start : Network (Node F R) Msg Note) where
+  -- a piece says how many units are given for its command, and whether one of them has a record with a time
+  pub record IsPart (log : List Note) (op : ℕ) (piece : Piece) : Type 0 where
+    pub units : List units.Unit
+    pub units_are : exported op log ≡ Some units
+    pub total : piece.total ≡ length units
+    pub newest : piece.newest ≡ version_number (list_any (λ unit. is_timed f c items unit (before_export op log)) units)
+
+  -- the node of the instance to which a command moves units
+  pub record IsGoing (op : ℕ) (node : ℕ) : Type 0 where
+    pub destination : ℕ
+    pub destination_is : receiver_of c (order_of items op) ≡ Some destination
+    pub node_is : node ≡ instance_node destination
+
+  -- the first piece was taken, and this is the answer by what was weighed then
+  pub record HasVerdict (cs : List Choice) (op : ℕ) (answer : Answer) : Type 0 where
+    pub front : List Choice
+    pub is_taken : IsTakenAfter f start cs op front
+    pub weighed : Weighed
+    pub are_weighed : IsWeighed f c items op (run (node_step f) front start) weighed
+    pub answer_is : answer ≡ verdict weighed
+
+  pub part_kept : (log notes : List Note) (op : ℕ) (piece : Piece) → IsPart log op piece → IsPart (log ++ notes) op piece
+  part_kept log notes op piece h = record {
+    units = h.units;
+    units_are = exported_kept op log notes h.units h.units_are;
+    total = h.total;
+    newest = h.newest ∙ ap (λ l. version_number (list_any (λ unit. is_timed f c items unit l) h.units)) (sym (before_export_kept op log notes h.units h.units_are));
+  }
+
+  pub verdict_kept : (cs : List Choice) (d : Choice) (op : ℕ) (answer : Answer) → HasVerdict cs op answer → HasVerdict (cs ++ d ∷ []) op answer
+  verdict_kept cs d op answer h = record { front = h.front; is_taken = taken_more f op start cs h.front d h.is_taken; weighed = h.weighed; are_weighed = h.are_weighed; answer_is = h.answer_is }
+
+  -- a command was refused, or it began and is answered by its verdict
+  pub data IsFound (cs : List Choice) (log : List Note) (op : ℕ) (answer : Answer) : Type 0 where
+    Was_refused : is_refusal answer ≡ true → IsFound cs log op answer
+    Was_judged : began op log ≡ true → HasVerdict cs op answer → IsFound cs log op answer
+
+  or_kept : (a b : Bool) → a ≡ true → a || b ≡ true
+  or_kept true b h = refl
+  or_kept false b h = cc
+
+  pub began_kept : (op : ℕ) (log notes : List Note) → began op log ≡ true → began op (log ++ notes) ≡ true
+  began_kept op log notes h = has_begun-append (λ k. k == op) log notes ∙ or_kept (began op log) (began op notes) h
+
+  pub found_kept : (cs : List Choice) (d : Choice) (log notes : List Note) (op : ℕ) (answer : Answer) → IsFound cs log op answer → IsFound (cs ++ d ∷ []) (log ++ notes) op answer
+  found_kept cs d log notes op answer (Was_refused h) = Was_refused h
+  found_kept cs d log notes op answer (Was_judged b h) = Was_judged (began_kept op log notes b) (verdict_kept cs d op answer h)
+
+-- What is known goes on with the facts that it is made of.
+module _ (P P' : ℕ → Piece → Type 0) (V V' : ℕ → Answer → Type 0) (G : ℕ → ℕ → Type 0) (part : (op : ℕ) (piece : Piece) → P op piece → P' op piece) (judged : (op : ℕ) (answer : Answer) → V op answer → V' op answer) where
+  pub said_kept : (s r : ℕ) (m : Msg) → Said P V G s r m → Said P' V' G s r m
+  said_kept s r (msg.Piece op piece) h = part op piece h
+  said_kept s r (msg.Put op piece true) h = (part op piece h.0, h.1)
+  said_kept s r (msg.Put op piece false) h = judged op Done h
+  said_kept s r (msg.PutOk op) h = judged op Done h
+  said_kept s r (msg.PutNo op refused) h = judged op refused.why h
+  said_kept s r m h = tt
+
+  each_part : (op : ℕ) (ps : List Piece) → labels.Each (P op) ps → labels.Each (P' op) ps
+  each_part op [] h = tt
+  each_part op (p ∷ ps) h = (part op p h.0, each_part op ps h.1)
+
+  pub knows_kept : (op : ℕ) (ph : Phase) → Knows P V G op ph → Knows P' V' G op ph
+  knows_kept op (phase.Streaming frozen free came door.Shut) h = (each_part op frozen h.0, each_part op free h.1)
+  knows_kept op (phase.Streaming frozen free came (door.Asked last)) h = tt
+  knows_kept op (phase.Streaming frozen free came door.Open) h = judged op Done h
+  knows_kept op (phase.Streaming frozen free came (door.Refused why)) h = judged op why h
+  knows_kept op phase.Freezing h = tt
+  knows_kept op phase.Holding h = judged op Done h
+  knows_kept op phase.Passing h = judged op Done h
+  knows_kept op phase.Ending h = judged op Done h
+  knows_kept op (phase.Restoring why) h = judged op why h
+  knows_kept op (phase.Returning why) h = judged op why h
+  knows_kept op (phase.Undoing why) h = judged op why h
+  knows_kept op (phase.Over why) h = judged op why h
+
+  each_said : (s r : ℕ) (ms : List Msg) → Each (Said P V G s r) ms → Each (Said P' V' G s r) ms
+  each_said s r [] h = tt
+  each_said s r (m ∷ ms) h = (said_kept s r m h.0, each_said s r ms h.1)
+
+  pub links_kept : {A : Type 0} (w : Network A Msg Note) → OnLinks (Said P V G) w → OnLinks (Said P' V' G) w
+  links_kept w h s r hs hr = each_said s r _ (h s r hs hr)

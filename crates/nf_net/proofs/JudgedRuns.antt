@@ -1,0 +1,161 @@
+-- In every run each move that began is answered by its verdict, which is on what its destination held, and on what came, when it took the first
+-- piece; and each other command is refused.
+use Rattle.std.proofs.Common.{◌≡◌, ℕ, zero, ◌+◌, ◌≤◌, Bool, true, false, Some, List, [], ◌∷◌, ◌++◌, length, refl, sym, ap, ◌∙◌, subst, arith}
+use Rattle.std.specs.declared.alloc.Global.{Global}
+use Rattle.std.specs.Ordering.{nat_cmp}
+use Rattle.std.specs.FinMap as finite
+use Rattle.nf_function.specs.Records.{Laws as FunctionLaws}
+use Rattle.nf_function.specs.Semantics.{Semantics}
+use Rattle.nf_msgs.specs.declared.answer.Answer.{Answer}
+use Rattle.nf_msgs.specs.declared.answer.Answer.TheVariants as answer
+use Rattle.nf_msgs.specs.declared.command.Order.{Order}
+use Rattle.nf_msgs.specs.declared.msg.Piece.{Piece}
+use Rattle.nf_msgs.specs.declared.msg.Msg.{Msg}
+use Rattle.nf_msgs.specs.declared.msg.Msg.TheVariants as msg
+use Rattle.nf_msgs.specs.declared.note.Note.{Note}
+use Rattle.actor_net.specs.declared.choice.Choice.{Choice}
+use Rattle.actor_net.specs.Network.{Network, Stepped, IsRun, is_input, run, taken}
+use Rattle.actor_net.proofs.OpeningWorlds.{opening_on_links, opening_weight}
+use Rattle.actor_net.proofs.RunInduction.{Taking, run_induction}
+use Rattle.actor_net.proofs.StepOutcome.{Takes}
+use Rattle.actor_net.proofs.WeightLaws.{total, weigh}
+use Rattle.unit_machine.proofs.Labels.{Each}
+use Rattle.ctrl_node.specs.declared.operation.Operation.{Operation}
+use Rattle.ctrl_node.specs.Controller.{opened as opened_controller}
+use Rattle.instance_worker.specs.declared.instance.Instance.{Instance as InstanceState}
+use Rattle.nf_net.specs.declared.config.Config.{Config}
+use Rattle.nf_net.specs.declared.node.Node.{Node}
+use Rattle.nf_net.specs.declared.node.Node.TheVariants.{Instance}
+use Rattle.nf_net.specs.Commands.{began, answers_of, before_first, IsCause, MayBegin}
+use Rattle.nf_net.specs.Input.{is_item, order_of, IsInput}
+use Rattle.nf_net.specs.Nodes.{node_step, node_ready}
+use Rattle.nf_net.specs.Start.{first_instance, first_nodes, started}
+use Rattle.nf_net.specs.Verdicts.{is_refusal, IsVerdict, Verdicts}
+use Rattle.nf_net.proofs.CommandPromises.{run_busy, run_answers}
+use Rattle.nf_net.proofs.Joined.{node_of}
+use Rattle.nf_net.proofs.JudgedController.{used, used_few}
+use Rattle.nf_net.proofs.JudgedFacts.{HasVerdict, IsFound, Was_refused, Was_judged}
+use Rattle.nf_net.proofs.JudgedNodes.{judging_next}
+use Rattle.nf_net.proofs.JudgedSteps.{Part, Verdict, Goes, Judging, SaidBy, happened}
+use Rattle.nf_net.proofs.MoveJudged.{Said}
+use Rattle.nf_net.proofs.MoveOnce.{once}
+use Rattle.nf_net.proofs.RunsJoined.{start_world}
+use Rattle.nf_net.proofs.StartJoined.{count_at_start, instance_found}
+use Rattle.nf_net.proofs.StateOutline.{all_each}
+use Rattle.nf_net.proofs.VerdictLemmas.{once_taken, times_taken}
+
+-- An input says nothing of moves.
+module _ (P : ℕ → Piece → Type 0) (V : ℕ → Answer → Type 0) (G : ℕ → ℕ → Type 0) where
+  items_said : (items : List Msg) → Each (λ item. is_item item ≡ true) items → Each (Said P V G 0 0) items
+  items_said [] ok = tt
+  items_said (msg.InCommand c ∷ items) ok = (tt, items_said items ok.1)
+  items_said (msg.InPacket p ∷ items) ok = (tt, items_said items ok.1)
+  items_said (msg.InSettle ∷ items) ok = (tt, items_said items ok.1)
+  items_said (msg.InEnd ∷ items) ok = (tt, items_said items ok.1)
+  items_said (m ∷ items) ok = let never : false ≡ true = ok.0 in cc
+
+items_weigh : (first : Bool) (op : ℕ) (items : List Msg) → Each (λ item. is_item item ≡ true) items → weigh (once first op) items ≡ 0
+items_weigh first op [] ok = refl
+items_weigh first op (msg.InCommand c ∷ items) ok = let rest = items_weigh first op items ok.1 in omega (arith, rest)
+items_weigh first op (msg.InPacket p ∷ items) ok = let rest = items_weigh first op items ok.1 in omega (arith, rest)
+items_weigh first op (msg.InSettle ∷ items) ok = let rest = items_weigh first op items ok.1 in omega (arith, rest)
+items_weigh first op (msg.InEnd ∷ items) ok = let rest = items_weigh first op items ok.1 in omega (arith, rest)
+items_weigh first op (m ∷ items) ok = let never : false ≡ true = ok.0 in cc
+
+-- what may begin isn't refused
+not_both : (c : Config) (items : List Msg) (a : Answer) (what : Order) (log : List Note) → is_refusal a ≡ true → MayBegin c.names (order_of items) what log → IsCause c.names (order_of items) a what log → ⊥
+not_both c items (answer.Unknown name) what log refusal may cause = let never = sym may.known ∙ cause in cc
+not_both c items (answer.Overlap op) what log refusal may cause = let never = sym (may.apart op) ∙ cause.overlaps_it in cc
+not_both c items answer.Done what log refusal may cause = cc
+not_both c items (answer.Import a b d) what log refusal may cause = cc
+not_both c items (answer.Old a b) what log refusal may cause = cc
+
+module _ (F : Type 0) {R : Type 0} (f : Semantics R) (laws : FunctionLaws f) (alloc : Global) (c : Config) (items : List Msg) (is : IsInput f.kind c items) where
+  abbrev start : Network (Node F R) Msg Note
+  start = started alloc c items
+
+  abbrev n : ℕ
+  n = length c.names + 2
+
+  abbrev step : Node F R → ℕ → Msg → Stepped (Node F R) Msg Note
+  step = node_step f
+
+  same_instance : (a b : InstanceState F R) → ◌≡◌ {A = Node F R} (Instance a) (Instance b) → a ≡ b
+  same_instance a b e = ap (instance_in a) e
+    where
+      instance_in : InstanceState F R → Node F R → InstanceState F R
+      instance_in d (Instance i) = i
+      instance_in d other = d
+
+  -- nothing is known at the start
+  start_judging : Judging F f alloc c items is [] start []
+  start_judging = record {
+    controller = opened_controller c.names c.site;
+    controller_is = λ d. refl;
+    knows = λ op m there. (let never = sym there ∙ finite.get-empty {X = Operation} nat_cmp op in cc);
+    says = opening_on_links Note (first_nodes {F = F} {R = R} alloc c) items (SaidBy F f alloc c items is [] []) (let count = count_at_start F f alloc c items is in omega (arith, count)) (items_said (Part F f alloc c items is []) (Verdict F f alloc c items is []) (Goes F f alloc c items is) items only);
+    found = λ op a e. cc;
+    once = λ op first.
+        let none = opening_weight Note (first_nodes {F = F} {R = R} alloc c) items (once first op) in
+        let zero = items_weigh first op items only in
+        by_first first op (omega (arith, none, zero));
+    fixed = λ i small s e.
+        let own : first_instance alloc c i ≡ s = same_instance (first_instance alloc c i) s (sym (instance_found F f alloc c items is (length c.names) i (Instance s) small) ∙ e (Instance s)) in
+        record { limit = ap (λ x. x.limit) (sym own); marked = ap (λ x. x.marked) (sym own) };
+  }
+    where
+      only : Each (λ item. is_item item ≡ true) items
+      only = all_each (λ item. is_item item ≡ true) items is.only_items
+
+      by_first : (first : Bool) (op : ℕ) → total (once first op) start ≡ 0 → total (once first op) start + happened F f alloc c items is first [] [] op ≤ used (finite.get (opened_controller c.names c.site).operations op) false first
+      by_first true op none = omega (arith, none)
+      by_first false op none = omega (arith, none)
+
+  -- every run keeps what is known
+  pub run_judging : (cs : List Choice) → IsRun node_ready step cs start → Judging F f alloc c items is cs (run step cs start) (run step cs start).log
+  run_judging cs run_is = run_induction node_ready step n (λ ds w. Judging F f alloc c items is ds w w.log) start
+      (λ ds w d next h. subst (λ v. Taking node_ready step n v d → Judging F f alloc c items is ds v v.log → Judging F f alloc c items is (ds ++ d ∷ []) (taken step v d) (taken step v d).log) (sym next.reached) (λ t x. next_judging ds next.is_run d t x) next.taking h)
+      (start_world F f laws alloc c items is) (count_at_start F f alloc c items is) start_judging cs run_is
+    where
+      next_judging : (ds : List Choice) (ds_is : IsRun node_ready step ds start) (d : Choice) → Taking node_ready step n (run step ds start) d → Judging F f alloc c items is ds (run step ds start) (run step ds start).log → Judging F f alloc c items is (ds ++ d ∷ []) (taken step (run step ds start) d) (taken step (run step ds start) d).log
+      next_judging ds ds_is d t h =
+          let j = (run_busy F f laws alloc c items is ds ds_is).0 in
+          let same : t.node ≡ node_of j.nodes d.node = sym (t.takes.node_is t.node) ∙ j.nodes_are d.node t.takes.receiver t.node in
+          judging_next F f laws alloc c items is ds ds_is h d.port t.rest d.node t.message (subst (λ y. Takes step n (run step ds start) d.node d.port y t.message t.rest) same t.takes) (subst (λ y. is_input d ≡ true → node_ready y t.message ≡ true) same t.was_ready)
+
+  -- and so its answers are as is promised
+  module _ (cs : List Choice) (run_is : IsRun node_ready step cs start) where
+    abbrev w : Network (Node F R) Msg Note
+    w = run step cs start
+
+    h : Judging F f alloc c items is cs w w.log
+    h = run_judging cs run_is
+
+    verdict_of : (op : ℕ) (a : Answer) → HasVerdict f c items start cs op a → IsVerdict f start cs c items op a
+    verdict_of op a v = record {
+      front = v.front;
+      is_taken = v.is_taken;
+      once = λ other u. once_taken f op start cs v.front other few v.is_taken u;
+      weighed = v.weighed;
+      are_weighed = v.are_weighed;
+      answer_is = v.answer_is;
+    }
+      where
+        few : times_taken f op cs start ≤ 1
+        few = let most = h.once op true in let one = used_few (finite.get h.controller.operations op) (began op w.log) true in omega (arith, most, one)
+
+    by_found : (op : ℕ) (what : Order) (a : Answer) → order_of items op ≡ Some what → began op w.log ≡ true → answers_of op w.log ≡ a ∷ [] → IsFound f c items start cs w.log op a → IsVerdict f start cs c items op a
+    by_found op what a known on e (Was_refused refusal) =
+        let said = run_answers F f laws alloc c items is cs run_is in
+        absurd (not_both c items a what (before_first op w.log) refusal (said.begins op what known on) (said.causes op what a known e))
+    by_found op what a known on e (Was_judged begun v) = verdict_of op a v
+
+    refused_by : (op : ℕ) (a : Answer) → began op w.log ≡ false → IsFound f c items start cs w.log op a → is_refusal a ≡ true
+    refused_by op a off (Was_refused refusal) = refusal
+    refused_by op a off (Was_judged begun v) = let never = sym begun ∙ off in cc
+
+    pub verdicts : Verdicts f start cs c items
+    verdicts = record {
+      judged = λ op what a known on e. by_found op what a known on e (h.found op a e);
+      refused = λ op a off e. refused_by op a off (h.found op a e);
+    }
