@@ -15,7 +15,7 @@ use Rattle.actor_net.specs.declared.schedule.Schedule.{Schedule}
 use Rattle.opennf_calls.specs.Command.{is_command}
 use Rattle.opennf_calls.specs.Phases.{CanRun}
 use Rattle.command_words.specs.Grammar.{Given, given_arguments, run_app, sim_app, check_app, gen_app}
-use Rattle.command_words.specs.Plan.{Asked, NetworkAsked, CheckAsked, GenAsked, Instances, asks_sim, asks_run, asks_audit, asks_check, asks_gen, only, function_of, instance_of, all_instances, instances_of, inside_of, outside_of, window_of, count_of, schedule_of, file_of, file_if, network_values, check_values, gen_values, sim_of, run_of, audit_of, check_of, gen_of, asked_of, plan_of}
+use Rattle.command_words.specs.Plan.{Asked, NetworkAsked, CheckAsked, Instances, asks_sim, asks_run, asks_audit, asks_check, asks_gen, only, function_of, instance_of, all_instances, instances_of, inside_of, outside_of, window_of, count_of, schedule_of, file_of, file_if, network_values, check_values, gen_values, sim_of, run_of, audit_of, check_of, gen_of, asked_of, plan_of}
 
 -- what an answer was made of
 and_then : {A B : Type 0} (f : A → Option B) (o : Option A) (y : B) → option_and_then f o ≡ Some y → (x : A) × (o ≡ Some x) × (f x ≡ Some y)

@@ -10,7 +10,6 @@ use Rattle.actor_net.specs.declared.choice.Choice.{Choice}
 use Rattle.command_words.specs.Plan.{Asked, CheckAsked, GenAsked, asks_check, asks_gen}
 use Rattle.opennf_calls.specs.declared.status.Status.{Status}
 use Rattle.opennf_calls.specs.declared.status.Status.TheVariants.{Ok as Done, WriteFault}
-use Rattle.opennf_calls.specs.declared.outcome.Outcome.{Outcome}
 use Rattle.opennf_calls.specs.Command.{file_for, is_input, is_result, comes_before}
 use Rattle.opennf_calls.specs.Outcome.{HasInput, ForResults, IsBound, WroteNothing, WroteResultsAlone, Gained, IsReadFault, IsRefused, RowOf, refusal_of}
 use Rattle.opennf_calls.specs.NetworkRuns.{Gives}

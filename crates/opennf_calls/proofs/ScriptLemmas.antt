@@ -1,10 +1,10 @@
 -- A script that is too long shows it in the front that is read; and the row of a script that is refused.
-use Rattle.std.proofs.Common.{◌≡◌, ◌≤◌, ◌+◌, ℕ, Bool, true, false, ltb, List, [], length, take, drop, Some, Ok, Err, refl, ap, arith, length-take}
+use Rattle.std.proofs.Common.{◌≡◌, ◌≤◌, ◌+◌, ℕ, Bool, true, false, ltb, List, [], length, take, drop, Some, Ok, refl, arith, length-take}
 use Rattle.std.proofs.lemmas.Bool.{ltb-true, ltb-false, lt-ltb}
 use Rattle.std.proofs.lemmas.List.{take_all, drop_all}
 use Rattle.nf_function.specs.declared.kind.Kind.{Kind}
 use Rattle.op_script.specs.Forms.{Word}
-use Rattle.op_script.specs.Reading.{SaysWhole, ScriptView, script_of, script_view}
+use Rattle.op_script.specs.Reading.{ScriptView, script_of}
 use Rattle.op_script.specs.declared.fault.ScriptFault.{ScriptFault}
 use Rattle.op_script.specs.declared.fault.ScriptFault.TheVariants as script
 use Rattle.nf_io.specs.declared.outside.Role.{Role}

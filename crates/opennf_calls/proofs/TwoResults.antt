@@ -1,5 +1,5 @@
 -- The row of a command that reads its inputs, if it has any, writes one file, and then the report.
-use Rattle.std.proofs.Common.{◌≡◌, ◌≢◌, ℕ, List, [], false, not, ◌&&◌, is_some, refl, ap, ◌∙◌, sym, subst, IsTrue, ◌⊎◌, inl, inr}
+use Rattle.std.proofs.Common.{◌≡◌, ◌≢◌, ℕ, List, false, not, ◌&&◌, is_some, refl, ap, ◌∙◌, sym, subst, IsTrue, ◌⊎◌, inl, inr}
 use Rattle.std.specs.Io.KnownBytes.{Appends}
 use Rattle.basics.proofs.BoolLemmas.{both_true}
 use Rattle.nf_io.specs.declared.outside.Role.{Role}
@@ -10,7 +10,6 @@ use Rattle.actor_net.specs.declared.choice.Choice.{Choice}
 use Rattle.command_words.specs.Plan.{Asked}
 use Rattle.opennf_calls.specs.declared.status.Status.{Status}
 use Rattle.opennf_calls.specs.declared.status.Status.TheVariants.{Ok as Done, WriteFault}
-use Rattle.opennf_calls.specs.declared.outcome.Outcome.{Outcome}
 use Rattle.opennf_calls.specs.Command.{file_for, is_input, is_result, comes_before}
 use Rattle.opennf_calls.specs.NetworkRuns.{Gives}
 use Rattle.opennf_calls.specs.Outcome.{ForResults, IsBound, WroteResultsAlone, Gained, RowOf}

@@ -1,5 +1,5 @@
 -- The row of a command that runs the network, from what it gives and what was written.
-use Rattle.std.proofs.Common.{◌≡◌, ℕ, List, [], Option, None, Some, is_some, false, length, refl, ap, sym, ◌∙◌, subst, IsTrue, ◌⊎◌, inl, inr}
+use Rattle.std.proofs.Common.{◌≡◌, ℕ, List, [], None, is_some, false, length, refl, ap, sym, ◌∙◌, subst, IsTrue, ◌⊎◌, inl, inr}
 use Rattle.nf_io.specs.declared.outside.Role.{Role}
 use Rattle.nf_io.specs.declared.outside.Role.TheVariants.{Trace, Script, JournalIn, Report, JournalOut, TraceOut, Errors}
 use Rattle.nf_io.specs.Meaning.{Meaning}
@@ -8,7 +8,7 @@ use Rattle.actor_net.specs.declared.schedule.Schedule.{Schedule}
 use Rattle.journal_file.specs.Format.{journal_bytes}
 use Rattle.command_words.specs.Plan.{Asked, NetworkAsked, asks_sim, asks_run, asks_audit}
 use Rattle.opennf_calls.specs.declared.status.Status.{Status}
-use Rattle.opennf_calls.specs.declared.status.Status.TheVariants.{Ok as Done, WriteFault, NoMemory}
+use Rattle.opennf_calls.specs.declared.status.Status.TheVariants.{WriteFault, NoMemory}
 use Rattle.opennf_calls.specs.declared.outcome.Outcome.{Outcome}
 use Rattle.opennf_calls.specs.declared.network.Made.{Made}
 use Rattle.opennf_calls.specs.Command.{file_for, is_result, with_journal}

@@ -1,6 +1,6 @@
 -- What a run of the program reads, writes and answers: one table of statuses for all commands. A further command is a further
 -- case of `file_for`, `refusal_of` and `AreResults`; the table stays as it is. This project's own.
-use Rattle.std.specs.Prelude.{◌≡◌, ◌≢◌, ℕ, ◌++◌, List, [], codes, decimal, length, Option, None, Some, Bool, true, false, ◌&&◌, Result, Ok, Err, option_and_then, option_map, IsTrue, ◌⊎◌}
+use Rattle.std.specs.Prelude.{◌≡◌, ◌≢◌, ℕ, ◌++◌, List, [], codes, decimal, length, Option, None, Some, Bool, false, ◌&&◌, Result, Ok, Err, option_and_then, option_map, IsTrue, ◌⊎◌}
 use Rattle.std.specs.Io.KnownBytes.{Appends}
 use Rattle.nf_io.specs.declared.outside.Role.{Role}
 use Rattle.nf_io.specs.declared.outside.Role.TheVariants.{Trace, Script, JournalIn, Report, TraceOut, Errors}

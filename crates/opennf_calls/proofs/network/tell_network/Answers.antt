@@ -1,5 +1,5 @@
 -- The run that is told is that of the words, the script and the capture.
-use Rattle.std.proofs.Common.{rules, None, Err, List, ap, refl, subst, sym, ◌≡◌, ◌∙◌}
+use Rattle.std.proofs.Common.{rules, None, Err, List, ap, refl, subst, sym, ◌≡◌}
 use Rattle.std.proofs.lemmas.Result.{err_from_is_err_and}
 use Rattle.nf_function.specs.declared.kind.Kind.{Kind}
 use Rattle.actor_net.specs.declared.choice.Choice.{Choice}
