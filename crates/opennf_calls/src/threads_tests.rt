@@ -5,10 +5,10 @@ ghost use Rattle.trace_reader.specs.Records.{AreNumbered};
 ghost use Rattle.nf_net.specs.Input.{IsInput};
 
 use crate::threads::run_network;
-use actor_net::World;
+use actor_net::{Choice, Choices, World};
 use actor_threads::{Gate, OpenGate};
 use conn_tracker::Conntrack;
-use flow_filter::{Name, Packet, Packets, Prefix, Site, UDP};
+use flow_filter::{Name, Packet, Packets, Prefix, Site, Text, UDP};
 use nf_function::Kind;
 use nf_msgs::{Msg, Names, Note};
 use nf_net::{Config, Node};
@@ -16,9 +16,11 @@ use op_script::read_script;
 use run_input::{Setting, input_of};
 use run_report::{Head, audit, report};
 use std::alloc::Global;
+use std::sync::Wait;
 use std::sync::atomic::{AtomicU64, Ordering};
 use std::test::Fail;
 use std::thread;
+use std::thread::Threads;
 
 /// How many packets may be under way.
 const WINDOW: u32 = 8;
@@ -139,15 +141,25 @@ fn head(alloc: Global) -> Result<Head, Fail> {
     })
 }
 
+/// The report of a run by threads, and its choices.
+fn run_told<R: Threads + Wait + Sync>(rt: &R, alloc: Global) -> Result<(Text, Choices), Fail> {
+    let (config, items) = given(alloc, MOVES.as_bytes(), 40)?;
+    let (world, choices) = run_network::<_, Conntrack, _>(rt, alloc, &config, items, &OpenGate)?;
+    let text = report::<Conntrack>(alloc, &head(alloc)?, &world, false)?;
+    Ok((text, choices))
+}
+
+/// The report of the same run, by its choices alone.
+fn audit_told(alloc: Global, choices: &[Choice]) -> Result<Text, Fail> {
+    let (config, items) = given(alloc, MOVES.as_bytes(), 40)?;
+    let text = audit::<Conntrack>(alloc, &config, items, &head(alloc)?, choices, false)?;
+    Ok(text)
+}
+
 #[test]
 fn the_choices_of_threads_are_audited_to_the_same_report(rt: HostRuntime) -> Result<(), Fail> {
-    let alloc = rt.alloc();
-    let head = head(alloc)?;
-    let (config, items) = given(alloc, MOVES.as_bytes(), 40)?;
-    let (world, choices) = run_network::<_, Conntrack, _>(&rt, alloc, &config, items, &OpenGate)?;
-    let text = report::<Conntrack>(alloc, &head, &world, false)?;
-    let (config, items) = given(alloc, MOVES.as_bytes(), 40)?;
-    let again = audit::<Conntrack>(alloc, &config, items, &head, choices.items(), false)?;
+    let (text, choices) = run_told(&rt, rt.alloc())?;
+    let again = audit_told(rt.alloc(), choices.items())?;
     assert_eq!(rt; text.items(), again.items());
     Ok(())
 }
