@@ -128,8 +128,8 @@ class Cases:
         self.file(words[-1], before)
 
 
-def words(trace, inside="10.0.0.0/24", instance="a"):
-    return ["sim", "conntrack", "--instances", instance, "--inside", inside, "--schedule", "last", trace]
+def words(trace, inside="10.0.0.0/24", instance="a", schedule="last"):
+    return ["sim", "conntrack", "--instances", instance, "--inside", inside, "--schedule", schedule, trace]
 
 
 def by_hand(cases):
@@ -176,9 +176,13 @@ def by_hand(cases):
     }
     for name, (capture, report) in wanted.items():
         cases.capture("hand-" + name, capture)
-        with open("hand-" + name + ".out", "rb") as file:
-            if file.read() != (start + report).encode():
-                sys.exit(f"cases.py: the model's report of {name} isn't the one that was worked out by hand")
+        # With one instance each schedule gives the same.
+        for schedule in "first", "29":
+            cases.words(f"hand-{name}-{schedule}", words(f"hand-{name}.pcap", schedule=schedule))
+        for out in f"hand-{name}.out", f"hand-{name}-first.out", f"hand-{name}-29.out":
+            with open(out, "rb") as file:
+                if file.read() != (start + report).encode():
+                    sys.exit(f"cases.py: the model's report {out} isn't the one that was worked out by hand")
     for length, line in (23, "trace byte 23: header"), (3, "trace byte 0: magic"), (0, "trace byte 0: magic"):
         cases.capture(f"hand-first-{length}", one_packet[:length])
         with open(f"hand-first-{length}.err", "rb") as file:
@@ -379,7 +383,7 @@ def making(cases):
 
 # --- Networks ---
 
-# Three packets of a TCP connection of 10.0.0.1: opened, answered, established. All at time 0, as the captures below are.
+# Three packets of a TCP connection of 10.0.0.1: opened, answered, established. The captures below are at time 0 where they name none.
 HANDSHAKE = [
     ipv4(tcp(40000, 80, 2), 6, "10.0.0.1", "198.51.100.7"),
     ipv4(tcp(80, 40000, 18), 6, "198.51.100.7", "10.0.0.1"),
@@ -393,8 +397,8 @@ def question(host, port=5000):
     return ipv4(udp(port, 53, bytes(20)), 17, f"10.0.0.{host}")
 
 
-def capture_of(frames):
-    return file_header() + b"".join(map(record, frames))
+def capture_of(frames, seconds=0):
+    return file_header() + b"".join(record(frame, seconds=seconds) for frame in frames)
 
 
 def network_words(function, instances, trace, script=None, more=()):
@@ -403,11 +407,15 @@ def network_words(function, instances, trace, script=None, more=()):
     return ["sim", function, "--instances", instances, "--inside", "10.0.0.0/24", *more, trace, *script]
 
 
-def network_case(cases, name, function, instances, frames, lines, more=()):
-    """A case by its packets and the lines of its script."""
-    trace = cases.file(f"net-{name}.pcap", capture_of(frames))
+def network_case(cases, name, function, instances, frames, lines, more=(), seconds=0):
+    """A case by its packets, all of one moment, and the lines of its script."""
+    trace = cases.file(f"net-{name}.pcap", capture_of(frames, seconds))
     script = None if lines is None else cases.file(f"net-{name}.script", "".join(line + "\n" for line in lines).encode())
     cases.words(f"net-{name}", network_words(function, instances, trace, script, more))
+
+
+# Each run that was worked out by hand is also compared with the model by these, which leave other packets under way.
+OTHER_WAYS = [["--window", window, "--schedule", schedule] for window in ("1", "4096") for schedule in ("first", "last", "29")]
 
 
 def connection(state, instance, packets):
@@ -416,6 +424,16 @@ def connection(state, instance, packets):
 
 def host_state(host, instance, packets):
     return f"state udp 10.0.0.{host}:5000 192.0.2.9:53 {instance} single out packets {packets} bytes {20 * packets}"
+
+
+def standby(host, instance, packets):
+    return f"standby udp 10.0.0.{host}:5000 192.0.2.9:53 {instance} single out packets {packets} bytes {20 * packets}"
+
+
+def refused(answer, seen=""):
+    """The lines of a connection's three packets, which are processed at a since its move to b is refused."""
+    return ["out 1 opening", "out 2 answered", "out 3 established", *dones("1a 2a 3a"), f"answer 1 {answer}",
+        connection("established", "a", 3) + seen, "tally a 3 0", "tally b 0 0"]
 
 
 def dones(text):
@@ -428,9 +446,9 @@ def networks_by_hand(cases):
     last, first = ["--schedule", "last"], []
     outs = ["out 1 opening", "out 2 answered", "out 3 established"]
     move = "at 1 move a b any order"
+    settled = [move, "at 1 settle"]
     early = ["at 0 move a b any order", "at 0 settle"]
-    at_b, at_a = connection("established", "b", 3), connection("established", "a", 3)
-    all_at_a = [*dones("1a 2a 3a")]
+    at_b = connection("established", "b", 3)
     half = "local=10.0.0.0/25"
     five = [question(host) for host in (1, 2, 3, 129, 130)]
     halves = ["route local=10.0.0.128/25 b", f"at 5 move a b {half} order"]
@@ -441,6 +459,9 @@ def networks_by_hand(cases):
         "answer 3 done", host_state(1, "a", 4), "tally a 2 0 0", "tally b 0 1 0", "tally c 0 0 1"]
     four = [question(1), question(9), question(1), question(9)]
     singles = [f"out {number} single" for number in range(1, 5)]
+    # The schedule `first` takes in all packets, and then the lower instance goes on.
+    routed = {order: [*singles, *dones(order), host_state(1, "a", 2), host_state(9, "c", 2), "tally a 2 0 0", "tally b 0 0 0", "tally c 0 0 2"]
+        for order in ("1a 2c 3a 4c", "1a 3a 2c 4c")}
     one_done = ["out 1 single", "done 1 a"]
     # 100 hosts at a and 100 at b, all moved to c, which takes 180.
     crowd = [*range(1, 101), *range(129, 229)]
@@ -454,6 +475,8 @@ def networks_by_hand(cases):
         ipv4(tcp(40000, 22, 16), 6, "192.0.2.9", "10.0.0.5"),
         ipv4(tcp(22, 40000, 16, b"SSH-2.0-x"), 6, "10.0.0.5", "192.0.2.9"),
     ]
+    assets = ["out 1 quiet", "out 2 new tcp 22", "out 3 quiet", "out 4 banner tcp 22 ssh", *dones("1a 2a 3a 4a"),
+        "state 10.0.0.5 a packets 4 services tcp/22/ssh", "tally a 4"]
     back = [
         question(1),
         ipv4(udp(53, 1276, bytes(20)), 17, "192.0.2.9", "203.0.113.1"),
@@ -465,17 +488,35 @@ def networks_by_hand(cases):
     back_outs = ("map 203.0.113.1:1276", "unmap 10.0.0.1:5000", "drop nomap", "drop direct", "pass", "map 203.0.113.1:1277")
     ports = [question(255, port) for port in range(1001, 1254)]
     translated = [f"out {number} map 203.0.113.1:{65283 + number}" for number in range(1, 253)] + ["out 253 drop noport"]
+    copied = ["at 1 copy a b any", "at 1 settle"]
+    then_moved = ["at 2 move a b any order", "at 2 settle"]
+    three = [*singles[:3], *dones("1a 2a 3b"), "answer 1 done", "answer 2 done"]
+    at_both = [host_state(1, "b", 3), standby(1, "b", 1)]
+    two_hosts = ["out 1 single", "out 2 single", *dones("1a 2a")]
     moved = [*outs, *dones("1a 2b 3b"), "answer 1 done", at_b, "tally a 1 0", "tally b 0 2"]
-    stayed = [*outs, *all_at_a, "answer 1 done", at_b, "tally a 3 0", "tally b 0 0"]
+    # 130 hosts, whose records go in pieces of 64, 64 and 2.
+    pieces = [question(host) for host in range(1, 131)]
+    in_pieces = ["at 130 move a b any order", "at 130 settle"]
+    pieces_at = {place: [*(f"out {host} single" for host in range(1, 131)), *(f"done {host} a" for host in range(1, 131)), answer,
+        *(host_state(host, place, 1) for host in range(1, 131)), "tally a 130 0", "tally b 0 0"]
+        for place, answer in (("a", "answer 1 import 0 130 129"), ("b", "answer 1 done"))}
+    stayed = [*outs, *dones("1a 2a 3a"), "answer 1 done", at_b, "tally a 3 0", "tally b 0 0"]
     wanted = {
-        "settled": ("conntrack", "a,b", HANDSHAKE, [move, "at 1 settle"], last, moved),
+        "settled": ("conntrack", "a,b", HANDSHAKE, settled, last, moved),
+        "settled-first": ("conntrack", "a,b", HANDSHAKE, settled, first, moved),
+        "plain": ("conntrack", "a,b", HANDSHAKE, ["at 1 move a b any lossfree", "at 1 settle"], last, moved),
+        "pieces": ("conntrack", "a,b", pieces, in_pieces, last, pieces_at["b"]),
+        "pieces-refused": ("conntrack", "a,b:129", pieces, in_pieces, last, pieces_at["a"]),
+        "no-room-for-any": ("conntrack", "a:0,b:0", HANDSHAKE, [move], last, refused("import 0 1 0")),
+        "marked-at-0": ("conntrack", "a,b:v1", HANDSHAKE, settled, last, moved),
+        "settle-alone": ("conntrack", "a,b,c", four, ["route local=10.0.0.9/32 c", "at 2 settle"], last, routed["1a 2c 3a 4c"]),
+        "settle-alone-first": ("conntrack", "a,b,c", four, ["route local=10.0.0.9/32 c", "at 2 settle"], first, routed["1a 3a 2c 4c"]),
         "late": ("conntrack", "a,b", HANDSHAKE, [move], last, moved),
         "late-first": ("conntrack", "a,b", HANDSHAKE, [move], first, stayed),
         "late-first-one": ("conntrack", "a,b", HANDSHAKE, [move], ["--window", "1", *first], stayed),
         "early": ("conntrack", "a,b", HANDSHAKE, early, last,
             [*outs, *dones("1b 2b 3b"), "answer 1 done", at_b, "tally a 0 0", "tally b 0 3"]),
-        "refused": ("conntrack", "a,b:0", HANDSHAKE, [move, "at 1 settle"], last,
-            [*outs, *all_at_a, "answer 1 import 0 1 0", at_a, "tally a 3 0", "tally b 0 0"]),
+        "refused": ("conntrack", "a,b:0", HANDSHAKE, settled, last, refused("import 0 1 0")),
         "five": ("conntrack", "a,b:5", five, halves, last,
             [*fives, "answer 1 done", *(host_state(host, "b", 1) for host in (1, 2, 3, 129, 130)), *five_states]),
         "five-refused": ("conntrack", "a,b:4", five, halves, last,
@@ -499,20 +540,89 @@ def networks_by_hand(cases):
         "at-limit": ("conntrack", "a,b,c:180", [question(host) for host in crowd], [halves[0], to_c[0], "at 200 settle", to_c[1]], first,
             [*crowd_dones, "answer 1 done", "answer 2 import 100 100 180",
                 *(host_state(host, "c" if host <= 100 else "b", 1) for host in crowd), *crowd_tallies]),
+        # The copy has the record after the first packet, and the move takes it on; so it stands by at b, and is live there.
+        "copied": ("conntrack", "a,b", [question(1)] * 3, [*copied, *then_moved], last, [*three, *at_both, "tally a 2 0", "tally b 0 1"]),
+        "copied-all": ("conntrack", "a,b", [question(1)] * 3, [*copied, "at 2 copy a b all", *then_moved], last,
+            [*three, "answer 3 done", *at_both, "tally a 2 0", "tally b 2 1"]),
+        "copied-twice": ("conntrack", "a,b", [question(1)], [*copied, *copied], last,
+            [*one_done, "answer 1 done", "answer 2 done", host_state(1, "a", 1), standby(1, "b", 1), "tally a 1 0", "tally b 0 0"]),
+        "copied-later": ("conntrack", "a,b", [question(1)] * 2, [*copied, "at 2 copy a b any"], first,
+            [*singles[:2], *dones("1a 2a"), "answer 1 done", "answer 2 done", host_state(1, "a", 2), standby(1, "b", 2), "tally a 2 0", "tally b 0 0"]),
+        "copied-early": ("conntrack", "a,b", [question(1)], ["at 0 copy a b any"], last,
+            [*one_done, "answer 1 done", host_state(1, "a", 1), "tally a 1 0", "tally b 0 0"]),
+        "copied-in-a-move": ("conntrack", "a,b", [question(1)], ["at 1 move a b any order", "at 1 copy b a local=10.0.0.1"], first,
+            [*one_done, "answer 1 done", "answer 2 overlap 1", host_state(1, "b", 1), "tally a 1 0", "tally b 0 0"]),
+        "copied-beside": ("conntrack", "a,b,c", [question(1), question(129)], [f"at 2 move a b {half} order", "at 2 copy a c local=10.0.0.128/25",
+            "at 2 copy a c all"], first, [*two_hosts, *(f"answer {number} done" for number in (1, 2, 3)), host_state(1, "b", 1), host_state(129, "a", 1),
+                standby(129, "c", 1), "tally a 2 0 0", "tally b 0 0 0", "tally c 2 0 0"]),
+        "copied-to-none": ("conntrack", "a,b", [question(1)], ["at 1 copy a z any", "at 1 copy z a all"], last,
+            [*one_done, "answer 1 unknown z", "answer 2 unknown z", host_state(1, "a", 1), "tally a 1 0", "tally b 0 0"]),
         "ports": ("nat", "a", ports, None, [*TRANSLATED, *last],
             [*translated, *(f"done {number} a" for number in range(1, 254)), "state 10.0.0.255 a ports 252 packets 253 drops 1", "tally a 253"]),
         "back": ("nat", "a,b", back, ["at 1 move a b local=10.0.0.1 order", "at 1 settle"], [*TRANSLATED, *last],
             [*(f"out {number} {output}" for number, output in enumerate(back_outs, 1)), *dones("1a 2b 3b 4b 5b 6b"), "answer 1 done",
                 "state 10.0.0.1 b ports 2 packets 6 drops 2", "tally a 1 0", "tally b 0 5"]),
-        "assets": ("monitor", "a", ssh, None, last,
-            ["out 1 quiet", "out 2 new tcp 22", "out 3 quiet", "out 4 banner tcp 22 ssh", *dones("1a 2a 3a 4a"),
-                "state 10.0.0.5 a packets 4 services tcp/22/ssh", "tally a 4"]),
+        "assets": ("monitor", "a", ssh, None, last, assets),
     }
     for name, (function, instances, frames, lines, more, report) in wanted.items():
         network_case(cases, f"hand-{name}", function, instances, frames, lines, more)
-        with open(f"net-hand-{name}.out", encoding="ascii") as file:
-            if file.read().splitlines()[3:-1] != report:
-                sys.exit(f"cases.py: the model's report of {name} isn't the one that was worked out by hand")
+        hold_to(f"net-hand-{name}", report)
+        for place, way in enumerate(OTHER_WAYS):
+            network_case(cases, f"way-{place}-{name}", function, instances, frames, lines, [*(TRANSLATED if function == "nat" else []), *way])
+    # Packets at 1 s, and a move to an instance that reads chunks of version 1 alone. The monitor keeps no times.
+    seen = " seen 1000000000"
+    for name, function, instances, frames, lines, report in (
+        ("old", "conntrack", "a,b:v1", HANDSHAKE, settled, refused("old 2 1", seen)),
+        ("old-and-full", "conntrack", "a,b:0:v1", HANDSHAKE, settled, refused("import 0 1 0", seen)),
+        ("no-times", "monitor", "a,b:v1", ssh, ["at 4 move a b any order", "at 4 settle"],
+            [*assets[:-2], "answer 1 done", "state 10.0.0.5 b packets 4 services tcp/22/ssh", "tally a 4 0", "tally b 0 0"]),
+    ):
+        network_case(cases, f"hand-{name}", function, instances, frames, lines, last, seconds=1)
+        hold_to(f"net-hand-{name}", report)
+
+
+def hold_to(name, report):
+    """Ends with a word where the model's lines from the outputs to the tallies aren't these."""
+    with open(name + ".out", encoding="ascii") as file:
+        if file.read().splitlines()[3:-1] != report:
+            sys.exit(f"cases.py: the model's report of {name} isn't the one that was worked out by hand")
+
+
+# Sixteen instances.
+MANY = "abcdefghijklmnop"
+
+
+def sixteen_instances(cases):
+    """1000 routes to sixteen instances; and a chain of moves from each to the next."""
+    instances = ",".join(MANY)
+    # 250 hosts with four ports each have a route of their own, and six hosts have none.
+    routes = [f"route local=10.0.0.{host},lport={5000 + port} {MANY[(host + 5 * port) % 16]}" for port in range(4) for host in range(250)]
+    packets = [(host, port) for host in range(256) for port in range(4)]
+    places = [MANY[(host + 5 * port) % 16] if host < 250 else "a" for host, port in packets]
+    tallies = [f"tally {name} {' '.join(str(places.count(name) if slot == name else 0) for slot in MANY)}" for name in MANY]
+    report = [*(f"out {number} single" for number in range(1, 1025)), *(f"done {number} {place}" for number, place in enumerate(places, 1)),
+        *(f"state udp 10.0.0.{host}:{5000 + port} 192.0.2.9:53 {place} single out packets 1 bytes 20"
+            for (host, port), place in zip(packets, places)), *tallies]
+    frames = [question(host, 5000 + port) for host, port in packets]
+    for name, more in ("last", ["--schedule", "last"]), ("one", ["--window", "1"]):
+        network_case(cases, f"hand-routes-{name}", "conntrack", instances, frames, routes, more)
+        hold_to(f"net-hand-routes-{name}", report)
+    for name, more in ("first", []), ("number", ["--schedule", "16"]), ("most", ["--window", "4096", "--schedule", "3"]):
+        network_case(cases, f"routes-{name}", "conntrack", instances, frames, [*routes, "at 500 move a p any order"], more)
+    # One packet at each instance in turn, and the last one at the first again.
+    steps = list(enumerate(zip(MANY, MANY[1:] + MANY[:1]), 1))
+    chain = [f"at {at} {what}" for at, (source, target) in steps for what in (f"move {source} {target} any order", "settle")]
+    report = [*(f"out {number} single" for number in range(1, 18)), *(f"done {number} {name}" for number, name in enumerate(MANY + "a", 1)),
+        *(f"answer {op} done" for op in range(1, 17)), host_state(1, "a", 17),
+        *(f"tally {name} {' '.join(str((2 if name == 'a' else 1) if slot == name else 0) for slot in MANY)}" for name in MANY)]
+    for name, more in ("last", []), ("one", ["--window", "1"]), ("most", ["--window", "4096"]):
+        network_case(cases, f"hand-chain-{name}", "conntrack", instances, [question(1)] * 17, chain, [*more, "--schedule", "last"])
+        hold_to(f"net-hand-chain-{name}", report)
+    # The same without settles, so that several are open, or refused; and plain moves.
+    for name, how in ("order", "order"), ("plain", "lossfree"):
+        lines = [f"at {at} move {source} {target} local=10.0.0.{at % 4} {how}" for at, (source, target) in steps]
+        for place, way in enumerate(OTHER_WAYS):
+            network_case(cases, f"chain-{name}-{place}", "conntrack", instances, [question(number % 4) for number in range(64)], lines, way)
 
 
 def office_moves(cases):
@@ -527,8 +637,10 @@ def office_moves(cases):
     three = [f"route {high} c", f"at 30 move a b {low} lossfree", f"at 30 move c a {high} order", "at 31 move a c any order",
         "at 80 settle", "at 80 move b c any order", "at 110 move c nobody any order", "at 110 settle"]
     ports = ["at 20 move a b proto=tcp order", "at 20 move a b proto=udp,rport=53 order", "at 60 settle", "at 100 move b a lport=80 lossfree"]
+    kept = ["at 20 copy a b any", f"at 40 move a b {low} order", f"at 40 copy a b {high}", "at 41 copy b a any", "at 60 settle",
+        "at 60 copy b a any", "at 80 copy a b any", "at 90 copy a b all", "at 100 copy b a all"]
     scripts = {name: cases.file(f"net-{name}.script", "".join(line + "\n" for line in lines).encode())
-        for name, lines in (("two", two), ("three", three), ("ports", ports))}
+        for name, lines in (("two", two), ("three", three), ("ports", ports), ("kept", kept))}
     runs = [
         ("conntrack", "a", trace, None, []),
         ("conntrack", "a", trace, None, ["--window", "1", "--schedule", "7"]),
@@ -548,6 +660,10 @@ def office_moves(cases):
         ("monitor", "a,b", trace, "two", ["--window", "1", "--schedule", "5"]),
         ("monitor", "a,b:1", trace, "two", ["--schedule", "last"]),
         ("monitor", "a,b,c", trace, "three", ["--window", "3", "--schedule", "6"]),
+        ("conntrack", "a,b", trace, "kept", []),
+        ("conntrack", "a:1,b:1", raw, "kept", ["--window", "3", "--schedule", "10"]),
+        ("nat", "a,b", trace, "kept", [*TRANSLATED, "--schedule", "last"]),
+        ("monitor", "a,b,c", trace, "kept", ["--window", "1", "--schedule", "11"]),
     ]
     for place, (function, instances, capture, script, more) in enumerate(runs):
         cases.words(f"net-office-{place:02}", network_words(function, instances, capture, scripts.get(script), more))
@@ -569,26 +685,27 @@ def many_units(cases):
 
 
 def network_refusals(cases):
-    """Which of several faults is told: words, then the script, then what isn't built, then the capture."""
+    """Which of several faults is told: words, then the script, then a share, which isn't built, then the capture."""
     bad = cases.file("net-bad.pcap", b"no capture")
     good = cases.file("net-good.pcap", capture_of([question(1)]))
-    faulty, copy, share = (
+    faulty, late, share = (
         cases.file(f"net-{name}.script", text)
         for name, text in (
             ("faulty", b"at 0 copy a b any\nat 0 stop\n"),
-            ("copy", b"at 0 move a b any order\nat 0 copy a b all\nat 0 share a,b any strict\n"),
+            ("late", b"at 0 move a b any order\nat 0 copy a b all\nat 0 share a,b any strict\n"),
             ("share", b"at 1 settle\nat 1 share a,b any strict\n"),
         )
     )
     for name, trace, script in (
-        ("script", bad, faulty), ("copy", bad, copy), ("share", good, share), ("trace", bad, None), ("no-script", bad, "missing"),
-        ("no-trace", "missing", copy), ("no-file", "missing", "missing"),
+        ("script", bad, faulty), ("late", bad, late), ("share", good, share), ("trace", bad, None), ("no-script", bad, "missing"),
+        ("no-trace", "missing", late), ("no-file", "missing", "missing"),
     ):
         cases.words(f"net-refused-{name}", network_words("conntrack", "a,b", trace, script))
     for place, (function, instances, more) in enumerate((
         ("nat", "a,b", []), ("monitor", "a", TRANSLATED),
         ("nat", "a", ["--outside", "10.0.0.9"]), ("nat", "a", ["--outside", "203.0.113.1/32"]),
-        ("conntrack", "a,a", []), ("conntrack", "a,b:1000001", []), ("conntrack", "a:", []), ("conntrack", "a:01", []),
+        ("conntrack", "a,a", []), ("conntrack", "a,b:1000001", []), ("conntrack", "a,b:v2", []), ("conntrack", "a,b:v1:5", []),
+        ("conntrack", "a,b:5:V1", []), ("conntrack", "a,b::v1", []), ("conntrack", "a,b:5:v1:v1", []), ("conntrack", "a,a:v1", []), ("conntrack", "a:", []), ("conntrack", "a:01", []),
         ("conntrack", ",".join(f"a{number}" for number in range(17)), []),
         ("conntrack", "a", ["--window", "0"]), ("conntrack", "a", ["--window", "4097"]), ("conntrack", "a", ["--window", "01"]),
         ("conntrack", "a", ["--schedule", "18446744073709551616"]), ("conntrack", "a", ["--schedule", "middle"]),
@@ -628,7 +745,7 @@ def faulty_scripts(cases):
                 sys.exit(f"cases.py: the model's line on {text[:50]} isn't the one that was worked out by hand")
 
 
-NETWORKS = networks_by_hand, office_moves, many_units, network_refusals, faulty_scripts
+NETWORKS = networks_by_hand, sixteen_instances, office_moves, many_units, network_refusals, faulty_scripts
 
 
 def by_chance(cases, seed, count):

@@ -1,9 +1,9 @@
 #!/usr/bin/env python3
-"""Compares the program with the model by whole reports, over captures and scripts of moves that are drawn by chance.
+"""Compares the program with the model by whole reports, over captures and scripts of moves and copies that are drawn by chance.
 
 Use: compare.py PROGRAM SEED COUNT
 
-Each run has a function, up to 16 instances with limits, a window, a schedule, a capture and a script of routes, moves and settles.
+Each run has a function, up to 16 instances with limits and marks, a window, a schedule, a capture and a script of routes, moves, copies and settles.
 The words, what the program wrote and what the model wrote of a run that differs are left in a folder, which is named. Printed at
 the end are how many runs were the same, and how often each answer came. The status is 1 where a run differs.
 """
@@ -52,9 +52,10 @@ def chance_trace(chance, site, many):
 
 
 def chance_limits(chance, names):
-    """The LIST of these instances. Few limits are so low that a move is refused."""
+    """The LIST of these instances. Few limits are so low that a move is refused, and few instances are marked."""
     limits = [chance.choice(["", "", "", ":0", ":1", ":2", ":5", ":70", ":1000000"]) for _ in names]
-    return ",".join(map(str.__add__, names, limits))
+    marks = [chance.choice(["", "", "", "", ":v1"]) for _ in names]
+    return ",".join(map("".join, zip(names, limits, marks)))
 
 
 def chance_words(chance):
@@ -77,7 +78,7 @@ def chance_words(chance):
         with open(SCRIPT, "w", encoding="ascii") as file:
             file.write(network_checks.chance_script(chance, function, names, count))
             if chance.random() < 0.02:
-                file.write(f"at {2**32 - 1} copy a b any\n")
+                file.write(f"at {2**32 - 1} share a,b any strict\n")
     return cases.network_words(function.name, chance_limits(chance, names), TRACE, script, more)
 
 

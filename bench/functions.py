@@ -186,6 +186,11 @@ class OfHosts:
         return any(name != "local" for name in flows.given)
 
     @staticmethod
+    def version(record):
+        """The version of the chunk that the record is stored as."""
+        return 1
+
+    @staticmethod
     def print_unit(unit):
         return print_address(unit)
 
@@ -280,6 +285,11 @@ class Tracker(OfFlows):
         """The record after the packet, and the output."""
         record = next_track(record, packet, flow_of(site, packet)[1])
         return record, record.state
+
+    @staticmethod
+    def version(record):
+        """The version of the chunk that the record is stored as."""
+        return 1 if record.seen == 0 else 2
 
     @staticmethod
     def print_record(record):

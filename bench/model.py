@@ -1,7 +1,8 @@
 #!/usr/bin/env python3
 """A model of the program, written apart from it, to compare the two.
 
-Use: model.py sim FUNCTION --instances LIST --inside PREFIX [--outside ADDR] [--window W] [--schedule S] TRACE [SCRIPT]
+Use: model.py sim FUNCTION --instances LIST --inside PREFIX [--outside ADDR] [--window W] [--schedule S] [--summary]
+         TRACE [SCRIPT]
      model.py gen NUMBER --packets N --hosts H TRACE
 
 It prints what the program prints for these words, writes the same file and ends with the same status. It takes the words in
@@ -38,11 +39,13 @@ class Simulation(NamedTuple):
     function: type
     names: list
     limits: list
+    marks: list  # whether the instance reads chunks of version 1 alone
     site: Site
     window: int
     schedule: object  # "first", "last" or a number
     trace: bytes
     script: Optional[bytes]
+    is_summary: bool = False
 
 
 class Making(NamedTuple):
@@ -74,7 +77,7 @@ def read_words(words):
     return asked
 
 
-MOST_INSTANCES, MOST_WINDOW, MOST_RECORDS = 16, 4096, 1_000_000
+MOST_INSTANCES, MOST_WINDOW, MOST_RECORDS, MARK = 16, 4096, 1_000_000, "v1"
 
 
 def read_sim(texts, words):
@@ -83,6 +86,8 @@ def read_sim(texts, words):
         if texts[place : place + 1] == [name] and place + 1 < len(texts):
             values[name] = texts[place + 1]
             place += 2
+    is_summary = texts[place : place + 1] == ["--summary"]
+    place += is_summary
     files = words[place:]
     if len(files) not in (1, 2) or not all(map(is_file, texts[place:])):
         return None
@@ -95,19 +100,23 @@ def read_sim(texts, words):
     schedule = read_schedule(values["--schedule"])
     if None in (function, instances, site, window, schedule):
         return None
-    return Simulation(function, *instances, site, window, schedule, files[0], files[1] if files[1:] else None)
+    return Simulation(function, *instances, site, window, schedule, files[0], files[1] if files[1:] else None, is_summary)
 
 
 def read_instances(text):
-    """The names and the limits of `NAME` or `NAME:LIMIT`, with commas between them."""
-    names, limits = [], []
+    """The names, limits and marks of `NAME`, `NAME:LIMIT`, `NAME:v1` or `NAME:LIMIT:v1`, with commas between them."""
+    names, limits, marks = [], [], []
     for item in text.split(","):
-        name, colon, limit = item.partition(":")
+        name, *more = item.split(":")
+        is_marked = more[-1:] == [MARK]
+        limit = ":".join(more[:-1] if is_marked else more)
+        has_limit = len(more) > is_marked
         names.append(name)
-        limits.append(read_number(limit, 0, MOST_RECORDS) if colon else MOST_RECORDS)
+        limits.append(read_number(limit, 0, MOST_RECORDS) if has_limit else MOST_RECORDS)
+        marks.append(is_marked)
     if not all(map(script_reader.is_name, names)) or None in limits:
         return None
-    return (names, limits) if len(set(names)) == len(names) <= MOST_INSTANCES else None
+    return (names, limits, marks) if len(set(names)) == len(names) <= MOST_INSTANCES else None
 
 
 def read_site(function, inside, outside):
@@ -257,19 +266,28 @@ def report(asked, trace, world):
     instances = list(zip(asked.names, world.nodes[2:]))
     outs = {number: output for kind, number, *_, output in of_kind(world, "processed")}
     answers = {command: answer for _, command, answer in of_kind(world, "answered")}
-    states = [
-        (unit, place, f"state {asked.function.print_unit(unit)} {name} {asked.function.print_record(record)}")
-        for place, (name, instance) in enumerate(instances)
-        for unit, record in instance.records.items()
+    packets = [
+        *(f"out {number} {output}" for number, output in sorted(outs.items())),
+        *(f"done {number} {asked.names[instance]}" for _, number, instance, _ in of_kind(world, "processed")),
     ]
+    lives = [f"live {name} {len(instance.records)}" for name, instance in instances]
+
+    def record_lines(kind, of):
+        lines = [
+            (unit, place, f"{kind} {asked.function.print_unit(unit)} {name} {asked.function.print_record(record)}")
+            for place, (name, instance) in enumerate(instances)
+            for unit, record in of(instance).items()
+        ]
+        return [line for *_, line in sorted(lines)]
+
     lines = [
         "opennf report 1",
         f"function {asked.function.name} instances {len(instances)} window {asked.window}",
         f"trace packets {len(trace.packets)} skipped {trace.skipped} {'cut' if trace.cut else 'whole'}",
-        *(f"out {number} {output}" for number, output in sorted(outs.items())),
-        *(f"done {number} {asked.names[instance]}" for _, number, instance, _ in of_kind(world, "processed")),
+        *([] if asked.is_summary else packets),
         *(f"answer {command} {answer}" for command, answer in sorted(answers.items())),
-        *(line for *_, line in sorted(states)),
+        *(lives if asked.is_summary else record_lines("state", lambda instance: instance.records)),
+        *([] if asked.is_summary else record_lines("standby", lambda instance: instance.standby)),
         *(f"tally {name} {' '.join(map(str, instance.tally))}" for name, instance in instances),
         "end",
     ]
@@ -297,16 +315,21 @@ def read_script(asked):
     except script_reader.ScriptFault as fault:
         raise Refusal(2, f"script line {fault.line}: {fault.rule}") from None
     for _, command in script.lines:
-        if command and command.verb != "move":
+        if command and command.verb == "share":
             raise Refusal(2, f"command {command.number} not built")
     return script
 
 
-def simulate(asked):
-    """The capture, and the world at the end of the run."""
+def start(asked):
+    """The capture, and the world at the start of the run."""
     script = read_script(asked)
     trace = read_trace(read_file(asked.trace, "trace"))
-    world = network.start(asked.site, asked.function, asked.names, asked.limits, asked.window, script, trace.packets)
+    return trace, network.start(asked, script, trace.packets)
+
+
+def simulate(asked):
+    """The capture, and the world at the end of the run."""
+    trace, world = start(asked)
     network.run(world, asked.schedule)
     return trace, world
 

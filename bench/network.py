@@ -3,7 +3,7 @@
 Node 0 is the switch, node 1 the controller, and node 2 + i instance i. A choice names a node and a port: the node takes the
 oldest message that the node of the port's number has sent it, or, as (0, 0), the next item of the input. Each node is a class
 whose `take` is its table: it changes the node, sends and notes. A message and a note are tuples that begin with their name.
-What no run may bring to a node raises Stray. Copies and shares aren't built.
+What no run may bring to a node raises Stray. Shares aren't built.
 
 The switch's rules are kept as what they mean: the routes, and the changes of target since.
 """
@@ -32,6 +32,15 @@ class Parcel(NamedTuple):
     number: int
     packet: object
     flow: object
+
+
+class Piece(NamedTuple):
+    """Up to 64 records of a move, by their units."""
+
+    chunks: list
+    total: int  # of all pieces of the move
+    newest: int  # the highest version of these, 1 where there is none
+    is_last: bool
 
 
 class Step:
@@ -111,12 +120,14 @@ class Switch:
 
 
 class Instance:
-    def __init__(self, index, instances, limit, site, function):
+    def __init__(self, index, instances, limit, is_marked, site, function):
         self.index = index
         self.limit = limit
+        self.is_marked = is_marked  # it reads chunks of version 1 alone
         self.site = site
         self.function = function
         self.records = {}  # by unit
+        self.standby = {}  # by unit, those that copies brought
         self.rules = {}  # by operation, in the order in which they were set: (filter, action)
         self.held = {}  # by operation: parcels
         self.tally = [0] * instances
@@ -152,6 +163,27 @@ class Instance:
         self.records.update(chunks)
         step.note("imported", op, self.index, units)
 
+    def keep(self, chunks):
+        """Of each unit the record of more packets stands by."""
+        for unit, record in chunks:
+            held = self.standby.get(unit)
+            if held is None or held.packets < record.packets:
+                self.standby[unit] = record
+            elif held.packets == record.packets and held != record:
+                raise Stray(unit, held, record)
+
+    def chunks(self, op, flows, step):
+        """What is live of the units that the filter takes, in their order."""
+        units = sorted(unit for unit in self.records if self.function.takes(flows, unit))
+        step.note("exported", op, self.index, units)
+        return [(unit, self.records[unit]) for unit in units]
+
+    def refusal(self, piece):
+        """Why the pieces of a move aren't taken, where they aren't; the first one is asked."""
+        if len(self.records) + piece.total > self.limit:
+            return f"import {len(self.records)} {piece.total} {self.limit}"
+        return f"old {piece.newest} 1" if self.is_marked and piece.newest > 1 else None
+
     def take(self, port, message, step):
         match message:
             case "carry", parcel, mark:
@@ -168,22 +200,33 @@ class Instance:
                 self.rules[op] = flows, action
                 step.send(CONTROLLER, "enabled", op)
             case "stream", op, flows:
-                units = sorted(unit for unit in self.records if self.function.takes(flows, unit))
-                step.note("exported", op, self.index, units)
-                for start in range(0, max(len(units), 1), MOST_CHUNKS):
-                    chunks = [(unit, self.records[unit]) for unit in units[start : start + MOST_CHUNKS]]
-                    step.send(CONTROLLER, "piece", op, chunks, len(units), start + MOST_CHUNKS >= len(units))
+                chunks = self.chunks(op, flows, step)
+                newest = max((self.function.version(record) for _, record in chunks), default=1)
+                for start in range(0, max(len(chunks), 1), MOST_CHUNKS):
+                    is_last = start + MOST_CHUNKS >= len(chunks)
+                    step.send(CONTROLLER, "piece", op, Piece(chunks[start : start + MOST_CHUNKS], len(chunks), newest, is_last))
+            case "get", op, flows:
+                step.send(CONTROLLER, "chunks", op, self.chunks(op, flows, step))
+            case "get all", op:
+                step.send(CONTROLLER, "all chunk", op, list(self.tally))
+            case "standby", op, chunks:
+                self.keep(chunks)
+                step.note("kept", op, self.index, [unit for unit, _ in chunks])
+                step.send(CONTROLLER, "kept", op)
+            case "put all", op, tally:
+                self.tally = list(map(max, self.tally, tally))
+                step.send(CONTROLLER, "kept", op)
             case "delete", op, units:
                 for unit in units:
                     del self.records[unit]
                 step.send(CONTROLLER, "deleted", op)
-            case "put", op, (chunks, total, is_last), is_first:
-                if is_first and len(self.records) + total > self.limit:
-                    answer = f"import {len(self.records)} {total} {self.limit}"
-                    step.send(CONTROLLER, "put no", op, answer, chunks)
+            case "put", op, piece, is_first:
+                answer = self.refusal(piece) if is_first else None
+                if answer:
+                    step.send(CONTROLLER, "put no", op, answer, piece)
                 else:
-                    self.add(op, chunks, step)
-                    if is_first or is_last:
+                    self.add(op, piece.chunks, step)
+                    if is_first or piece.is_last:
                         step.send(CONTROLLER, "put ok", op)
             case "restore", op, chunks:
                 self.add(op, chunks, step)
@@ -240,13 +283,13 @@ class Move:
         put = node_of(self.destination), "put", self.op
         if self.door == "shut" and self.free:
             piece = self.free.popleft()
-            self.door, self.asked_last = "asked", piece[2]
+            self.door, self.asked_last = "asked", piece.is_last
             step.send(*put, piece, True)
         elif self.door == "open":
             while self.free:
                 step.send(*put, self.free.popleft(), False)
         elif self.door == "refused" and self.all_came and not self.frozen:
-            chunks = [chunk for piece in self.free for chunk in piece[0]]
+            chunks = [chunk for piece in self.free for chunk in piece.chunks]
             step.send(node_of(self.source), "restore", self.op, chunks)
             self.phase = "restoring"
 
@@ -261,10 +304,10 @@ class Move:
             case "freezing", "source", ("enabled", _):
                 step.send(node_of(self.source), "stream", self.op, self.flows)
                 self.phase = "streaming"
-            case "streaming", "source", ("piece", _, chunks, total, is_last):
-                self.frozen.append((chunks, total, is_last))
-                self.all_came = is_last
-                step.send(node_of(self.source), "delete", self.op, [unit for unit, _ in chunks])
+            case "streaming", "source", ("piece", _, piece):
+                self.frozen.append(piece)
+                self.all_came = piece.is_last
+                step.send(node_of(self.source), "delete", self.op, [unit for unit, _ in piece.chunks])
             case "streaming", "source", ("deleted", _):
                 self.free.append(self.frozen.popleft())
                 self.push(step)
@@ -277,9 +320,9 @@ class Move:
                     self.phase = "holding"
                 else:
                     self.release(step)
-            case "streaming", "destination", ("put no", _, why, chunks):
+            case "streaming", "destination", ("put no", _, why, piece):
                 self.door, self.why = "refused", why
-                self.free.appendleft((chunks, None, self.asked_last))
+                self.free.appendleft(piece)
                 self.push(step)
             case "holding", "destination", ("enabled", _):
                 self.release(step)
@@ -302,10 +345,37 @@ class Move:
         return None
 
 
+class Copy:
+    """A copy under way: it waits for what the source gives, and then for the destination to keep that."""
+
+    def __init__(self, command, source, destination):
+        self.op = command.number
+        self.flows = command.flows  # None is the state of all flows
+        self.source = source
+        self.destination = destination
+        self.phase = "getting"
+
+    def begin(self, step):
+        asks = ("get all", self.op) if self.flows is None else ("get", self.op, self.flows)
+        step.send(node_of(self.source), *asks)
+
+    def take(self, instance, message, step):
+        """The answer, where the message ends the copy."""
+        match self.phase, message:
+            case "getting", ("chunks" | "all chunk" as kind, _, what) if instance == self.source:
+                step.send(node_of(self.destination), "standby" if kind == "chunks" else "put all", self.op, what)
+                self.phase = "keeping"
+            case "keeping", ("kept", _) if instance == self.destination:
+                return "done"
+            case _:
+                raise Stray(self.phase, instance, message)
+        return None
+
+
 class Controller:
     def __init__(self, names):
         self.names = names
-        self.moves = {}  # the open ones by their numbers
+        self.open = {}  # moves and copies by their numbers
         self.end_came = False
         self.finish_sent = False
         self.finals = set()
@@ -317,7 +387,8 @@ class Controller:
         for name in command.names:
             if name not in self.names:
                 return f"unknown {name}"
-        meeting = [op for op, move in self.moves.items() if move.flows.meets(command.flows)]
+        filters = [(op, it.flows) for op, it in self.open.items() if it.flows is not None and command.flows is not None]
+        meeting = [op for op, flows in filters if flows.meets(command.flows)]
         return f"overlap {min(meeting)}" if meeting else None
 
     def answer(self, op, answer, step):
@@ -331,24 +402,25 @@ class Controller:
                 if refusal:
                     self.answer(command.number, refusal, step)
                 else:
-                    move = Move(command, *map(self.names.index, command.names))
-                    self.moves[command.number] = move
+                    kind = {"move": Move, "copy": Copy}[command.verb]
+                    operation = kind(command, *map(self.names.index, command.names))
+                    self.open[command.number] = operation
                     step.note("begun", command.number)
-                    move.begin(step)
+                    operation.begin(step)
             case 0, ("end",):
                 self.end_came = True
             case _, ("final",):
                 self.finals.add(port)
-            case _, ("event", op, parcel) if op not in self.moves:
+            case _, ("event", op, parcel) if op not in self.open:
                 step.send(SWITCH, "forward", parcel, ("pass", op), port - 2)
-            case _, (_, op, *_) if op in self.moves:
-                answer = self.moves[op].take(port - 2, message, step)
+            case _, (_, op, *_) if op in self.open:
+                answer = self.open[op].take(port - 2, message, step)
                 if answer:
-                    del self.moves[op]
+                    del self.open[op]
                     self.answer(op, answer, step)
             case _:
                 raise Stray(port, message)
-        if self.end_came and not self.moves and not self.finish_sent:
+        if self.end_came and not self.open and not self.finish_sent:
             self.finish_sent = True
             step.send(SWITCH, "finish")
 
@@ -375,6 +447,13 @@ class World:
         self.links = {(sender, node): deque() for node in range(len(nodes)) for sender in range(len(nodes))}
         self.input = deque(items)
         self.log = []
+        self.choices = []  # that were taken
+
+    def is_enabled(self, choice):
+        node, port = choice
+        if choice == (SWITCH, SWITCH):
+            return bool(self.input) and self.nodes[SWITCH].is_ready(self.input[0])
+        return bool(self.links.get((port, node)))
 
     def enabled(self):
         """The choices that can be taken, in order of (node, port)."""
@@ -384,6 +463,7 @@ class World:
         return choices
 
     def take(self, choice):
+        self.choices.append(choice)
         node, port = choice
         line = self.input if choice == (SWITCH, SWITCH) else self.links[port, node]
         step = Step()
@@ -404,10 +484,14 @@ def places(schedule):
         count = yield {"first": 0, "last": count - 1}[schedule] if words is None else next(words) % count
 
 
-def start(site, function, names, limits, window, script, packets):
-    instances = [Instance(index, len(names), limit, site, function) for index, limit in enumerate(limits)]
-    nodes = [Switch(script.routes, window, len(names)), Controller(names), *instances]
-    return World(nodes, items_of(site, packets, script.lines))
+def start(asked, script, packets):
+    """The world of a run at its start: what is asked for has the function, the site, the instances and the window."""
+    instances = [
+        Instance(index, len(asked.names), limit, is_marked, asked.site, asked.function)
+        for index, (limit, is_marked) in enumerate(zip(asked.limits, asked.marks))
+    ]
+    nodes = [Switch(script.routes, asked.window, len(asked.names)), Controller(asked.names), *instances]
+    return World(nodes, items_of(asked.site, packets, script.lines))
 
 
 def run(world, schedule):
@@ -419,3 +503,12 @@ def run(world, schedule):
         if not choices:
             raise Stray("nothing can be taken, and the world isn't complete")
         world.take(choices[place.send(len(choices))])
+
+
+def run_told(world, choices):
+    """Runs a world as it is told, and gives None at its end; else the step, from 1, at which the choices fail to be a run."""
+    for step, choice in enumerate(choices, 1):
+        if not world.is_enabled(choice):
+            return step
+        world.take(choice)
+    return None if world.is_complete() else len(choices) + 1

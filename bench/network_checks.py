@@ -3,7 +3,7 @@
 
 Use: network_checks.py SEED COUNT
 
-Each run has a function, instances, limits, a window, a script of routes, moves and settles, and packets of a few hosts. Its
+Each run has a function, instances, limits, marks, a window, a script of routes, moves, copies and settles, and packets of a few hosts. Its
 choices are taken first, last, by a number, or with a weight for each link, so that some links are seldom looked at. `check`
 looks at one run that has ended. It knows the function's table for the packets of one unit, the script and the log of the run.
 Before them two runs are held to what was worked out by hand, choice by choice.
@@ -75,6 +75,8 @@ class Run:
 def check(run):
     check_packets(run)
     check_records(run)
+    check_tallies(run)
+    check_standby(run)
     check_answers(run)
     check_refused(run)
     check_settles(run)
@@ -106,11 +108,37 @@ def check_records(run):
         hold(places == [run.owner(unit, run.log)], "places", unit, places)
         hold(instances[places[0]].records[unit] == record, "record", unit)
     hold(sum(len(instance.records) for instance in instances) == len(set(run.units)), "records")
-    counts = Counter(instance for _, _, instance, _ in run.notes("processed"))
-    for place, instance in enumerate(instances):
-        wanted = [counts[place] if slot == place else 0 for slot in range(len(instances))]
-        hold(instance.tally == wanted, "tally", instance.tally)
+    for instance in instances:
         hold(not instance.held and not any(op in run.commands and run.answers[op] == "done" for op in instance.rules), "left")
+
+
+def check_tallies(run):
+    """Each instance has counted its own packets, and of another no more than that one; without copies of tallies none."""
+    counts = Counter(instance for _, _, instance, _ in run.notes("processed"))
+    are_copied = any(command.flows is None for command in run.commands.values())
+    for place, instance in enumerate(run.world.nodes[2:]):
+        for slot, count in enumerate(instance.tally):
+            most = counts[slot] if slot == place or are_copied else 0
+            hold(count == most if slot == place else count <= most, "tally", place, instance.tally)
+
+
+def check_standby(run):
+    """What stands by of a unit is its record after the packets that were processed before the latest of the copies that were kept."""
+    records, given = {}, {}  # by unit: its records so far; by copy and unit: how many packets were processed before
+    wanted = [{} for _ in run.asked.names]
+    for kind, number, *rest in run.log:
+        if kind == "processed":
+            unit = run.units[number - 1]
+            so_far = records.setdefault(unit, [])
+            before = so_far[-1] if so_far else None
+            so_far.append(run.asked.function.step(run.asked.site, before, run.packets[number - 1])[0])
+        elif kind == "exported":
+            given.update(((number, unit), len(records[unit])) for unit in rest[1])
+        elif kind == "kept":
+            for unit in rest[1]:
+                wanted[rest[0]][unit] = max(wanted[rest[0]].get(unit, 0), given[number, unit])
+    for instance, places in zip(run.world.nodes[2:], wanted):
+        hold(instance.standby == {unit: records[unit][count - 1] for unit, count in places.items()}, "standby", instance.standby)
 
 
 def check_answers(run):
@@ -118,12 +146,14 @@ def check_answers(run):
     hold(sorted(op for _, op, _ in run.notes("answered")) == sorted(run.commands), "answers")
     live = [set() for _ in run.asked.names]
     open_commands = set()
-    coming, held = {}, {}
+    coming = {}
     for kind, op, *rest in run.log:
         if kind == "processed":
             live[rest[0]].add(run.units[op - 1])
+        elif kind == "exported" and run.commands[op].verb == "copy":
+            hold(set(rest[1]) == {unit for unit in live[rest[0]] if run.takes(run.commands[op], unit)}, "copied", op)
         elif kind == "exported":
-            coming[op] = len(rest[1])
+            coming[op] = rest[1]
             live[rest[0]] -= set(rest[1])
             wanted = {unit for unit in set(run.units) if run.covers(op, unit)}
             hold(set(rest[1]) <= wanted, "exported", op)
@@ -144,26 +174,43 @@ def check_answer(run, op, answer, open_commands, coming):
         return
     begun = ("begun", op) in run.log
     if not begun:
-        meeting = [other for other in open_commands if run.commands[other].flows.meets(command.flows)]
+        meeting = [other for other in open_commands if meet(run.commands[other].flows, command.flows)]
         hold(meeting and answer == f"overlap {min(meeting)}", "overlap", answer)
         return
     installed = ("installed", op) in run.log
-    if answer == "done":
-        hold(installed, "done", op)
+    imported, exported, kept = (
+        [unit for _, its, _, units in run.notes(kind) if its == op for unit in units] for kind in ("imported", "exported", "kept")
+    )
+    if command.verb == "copy":
+        hold(answer == "done" and not installed and not imported and kept == exported, "copy", op)
+        return
+    destination = run.ends(command)[1]
+    is_old = run.asked.marks[destination] and any(has_time(run, op, unit) for unit in coming)
+    hold(installed == (answer == "done"), "installed", op)
+    if answer.startswith("import"):
+        held, its, limit = map(int, answer.split()[1:])
+        hold(held + its > limit and its == len(coming) and limit == run.asked.limits[destination], "import", answer)
     else:
-        word, held, its, limit = answer.split()
-        held, its, limit = int(held), int(its), int(limit)
-        hold(word == "import" and not installed and held + its > limit and its == coming, "import", answer)
-        hold(limit == run.asked.limits[run.ends(command)[1]], "limit", answer)
-    imported = [unit for _, its, _, units in run.notes("imported") if its == op for unit in units]
-    exported = [unit for _, its, _, units in run.notes("exported") if its == op for unit in units]
-    hold(sorted(imported) == exported, "imported", op)
+        hold(answer == ("old 2 1" if is_old else "done"), "old", answer)
+    hold(sorted(imported) == exported and not kept, "imported", op)
+
+
+def meet(one, other):
+    """Both are filters, and they meet."""
+    return one is not None and other is not None and one.meets(other)
+
+
+def has_time(run, op, unit):
+    """The function keeps times, and a packet of the unit that was processed before its state was given came later than at time 0."""
+    place = next(place for place, note in enumerate(run.log) if note[:2] == ("exported", op))
+    numbers = [number for kind, number, *_ in run.log[:place] if kind == "processed" and run.units[number - 1] == unit]
+    return run.asked.function is FUNCTIONS["conntrack"] and any(run.packets[number - 1].nanos > 0 for number in numbers)
 
 
 def check_refused(run):
     """While a move is refused, the packets of its units are processed at its source."""
     for op, answer in run.answers.items():
-        if not answer.startswith("import"):
+        if not answer.startswith(("import", "old")):
             continue
         begun, end = run.place_of(("begun", op)), run.place_of(("answered", op, answer))
         for kind, number, *rest in run.log[begun:end]:
@@ -238,10 +285,21 @@ def chance_moves(chance, function, names):
     return [(*ends, chance_filter(chance, function))]
 
 
+def chance_copy(chance, function, names):
+    """A copy of units, or of the state of all flows."""
+    source, destination = chance.sample([*names, "z"] if chance.random() < 0.1 or len(names) == 1 else names, 2)
+    what = "all" if chance.random() < 0.25 else chance_filter(chance, function)
+    return f"copy {source} {destination} {what}"
+
+
 def chance_script(chance, function, names, packets):
     lines = [f"route {chance_filter(chance, function)} {chance.choice(names)}" for _ in range(chance.choice([0, 0, 1, 3]))]
     for point in sorted(chance.randrange(packets + 2) for _ in range(chance.choice([0, 1, 2, 2, 4, 8]))):
         settles = chance.choice([0, 0.5, 1])
+        while chance.random() < 0.4:
+            lines.append(f"at {point} {chance_copy(chance, function, names)}")
+            if chance.random() < settles:
+                lines.append(f"at {point} settle")
         for source, destination, flows in chance_moves(chance, function, names):
             how = chance.choice(["order", "order", "lossfree"])
             lines.append(f"at {point} move {source} {destination} {flows} {how}")
@@ -270,13 +328,14 @@ def run_by_chance(chance):
     site = Site(Prefix(0x0A000000, 24), 0xCB007101 if function.name == "nat" else None)
     names = list(NAMES[: chance.choice([1, 2, 2, 3, 3, 5])])
     limits = [chance.choice([0, 1, 2, 5, 150, 1_000_000, 1_000_000]) for _ in names]
+    marks = [chance.random() < 0.2 for _ in names]
     many = chance.random() < 0.05
     packets = [chance_packet(chance, site, many) for _ in range(300 if many else chance.choice([0, 1, 3, 10, 30]))]
     text = chance_script(chance, function, names, len(packets))
     script = script_reader.read_script(text.encode(), function, names)
     schedule = chance.choice(["first", "last", chance.getrandbits(64), *["weights"] * 4])
-    asked = model.Simulation(function, names, limits, site, chance.choice([1, 2, 3, 256]), schedule, b"", None)
-    world = network.start(site, function, names, limits, asked.window, script, packets)
+    asked = model.Simulation(function, names, limits, marks, site, chance.choice([1, 2, 3, 256]), schedule, b"", None)
+    world = network.start(asked, script, packets)
     if schedule == "weights":
         run_by_weights(world, chance)
     else:
@@ -299,7 +358,8 @@ def run_by_hand(how, choices):
     ways = (inside, outside, 2), (outside, inside, 18), (inside, outside, 16)
     packets = [model.Packet(0, TCP, source, target, flags, 0, b"") for source, target, flags in ways]
     script = script_reader.read_script(f"at 1 move a b any {how}".encode(), function, ["a", "b"])
-    world = network.start(site, function, ["a", "b"], [1, 1], 256, script, packets)
+    asked = model.Simulation(function, ["a", "b"], [1, 1], [False, False], site, 256, None, b"", None)
+    world = network.start(asked, script, packets)
     for choice in choices.split():
         hold(tuple(map(int, choice)) in world.enabled(), "enabled", choice)
         world.take(tuple(map(int, choice)))

@@ -9,12 +9,14 @@ in turn with the run that it is compared with, and once more for its memory.
 """
 import os
 import struct
+import subprocess
 import sys
 from typing import NamedTuple
 
 import measure
 
 FILE_HEADER, RECORD_HEADER, CAPTURED = 24, 16, 8
+SIXTEEN = ",".join("abcdefghijklmnop")
 
 
 class Measure(NamedTuple):
@@ -42,8 +44,12 @@ def written(folder, name, lines):
     return path
 
 
-def sim(program, instances, *files):
-    return [program, "sim", "conntrack", "--instances", instances, "--inside", "10.0.0.0/24", *files]
+def command(program, name, instances, *words):
+    return [program, name, "conntrack", "--instances", instances, "--inside", "10.0.0.0/24", *words]
+
+
+def sim(program, instances, *words):
+    return command(program, "sim", instances, *words)
 
 
 def measured(*commands):
@@ -65,6 +71,11 @@ def tell(name, it, beside=None):
     print(line, flush=True)
 
 
+def report(command):
+    """What a command writes."""
+    return subprocess.run(command, stdin=subprocess.DEVNULL, stdout=subprocess.PIPE, check=True).stdout
+
+
 def instances(folder, program, few):
     print("one instance and three, by the schedule `first`:")
     routes = written(folder, "routes", ["route local=10.0.0.0/26 b", "route local=10.0.0.128/26 c"])
@@ -76,13 +87,35 @@ def instances(folder, program, few):
     tell("three, which two routes give packets to", routed, one)
 
 
+def threads(folder, program, few):
+    print("by threads, beside `sim` with as many instances:")
+    routes = os.path.join(folder, "routes.script")
+    spread, run = measured(sim(program, "a,b,c", few, routes), command(program, "run", "a,b,c", few, routes))
+    tell("`sim` with three instances", spread)
+    tell("`run` with three", run, spread)
+    one, sixteen = measured(command(program, "run", "a", few), command(program, "run", SIXTEEN, few))
+    tell("`run` with one instance", one)
+    tell("`run` with sixteen, of which the first has all packets", sixteen, one)
+
+
+def journals(folder, program, few):
+    print("with a journal, and an audit of it:")
+    journal = os.path.join(folder, "few.journal")
+    plain, written = measured(sim(program, "a", few), sim(program, "a", "--journal", journal, few))
+    audit, = measured(command(program, "audit", "a", "--journal", journal, few))
+    tell("`sim`", plain)
+    tell("`sim` that writes its journal", written, plain)
+    tell("`audit` of that journal", audit, plain)
+
+
 def growth(program, tenth, few):
     print("a tenth of the packets, and all:")
     less, more = measured(sim(program, "a", tenth), sim(program, "a", few))
     tell("a tenth", less)
     tell("all", more, less)
     behind = packets_in(few) - packets_in(tenth)
-    print(f"  {(more.peak - less.peak) / behind:.0f} bytes at the peak for each further packet")
+    print(f"  {(more.peak - less.peak) / behind:.0f} bytes at the peak for each further packet, the report's text among them: "
+          f"{len(report(sim(program, 'a', few))) / packets_in(few):.0f}")
 
 
 def there_and_back(folder, program, moved):
@@ -115,6 +148,8 @@ def main(arguments):
         sys.exit("use: network_speed.py FOLDER PROGRAM FEW TENTH MOVED TWELVE")
     folder, program, few, tenth, moved, twelve = arguments
     instances(folder, program, few)
+    threads(folder, program, few)
+    journals(folder, program, few)
     growth(program, tenth, few)
     there_and_back(folder, program, moved)
     twelve_moves(folder, program, twelve)
@@ -123,5 +158,5 @@ def main(arguments):
 if __name__ == "__main__":
     try:
         main(sys.argv[1:])
-    except measure.subprocess.CalledProcessError as failure:
+    except subprocess.CalledProcessError as failure:
         sys.exit(f"network_speed.py: {failure.cmd[0]} ended with status {failure.returncode}")

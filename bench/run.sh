@@ -9,8 +9,9 @@
 # (ordinary), or that the program finds all of them by a few windows of its table (colliding). Printed are the best times, their ratios
 # and the peak memory; the outputs must be the same bytes.
 #
-# Then the program runs by itself: with one instance and three, with a tenth of the packets and all, with and without a move of a tenth as
-# many units as there are packets to another instance and back, and with and without 12 moves of half of the flows of 10,000 packets.
+# Then the program runs by itself: with one instance and three, by threads, with a journal and its audit, with a tenth of the packets and
+# all, with and without a move of a tenth as many units as there are packets to another instance and back, and with and without 12 moves of
+# half of the flows of 10,000 packets.
 # This is no part of the gate. What it makes stands in bench/out.
 set -eu
 bench=$(cd "$(dirname "${BASH_SOURCE[0]}")" && pwd)

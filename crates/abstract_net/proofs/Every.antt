@@ -1,5 +1,5 @@
 -- The invariant of a world: numbers below the next one, and for every unit where it is. Each step keeps it, and so do begins and ends.
-use Rattle.std.proofs.Common.{◌≡◌, ℕ, suc, ◌<◌, Bool, true, false, Option, Some, None, List, [], ◌∷◌, ◌++◌, map, length, refl, subst, arith}
+use Rattle.std.proofs.Common.{◌≡◌, ℕ, suc, ◌<◌, ◌≤◌, Bool, true, false, Option, Some, None, List, [], ◌∷◌, ◌++◌, map, length, refl, subst, arith}
 use Rattle.std.specs.Prelude.{if◌then◌else◌, ◌&&◌, ◌==◌}
 use Rattle.unit_machine.proofs.Machine.{Rule, Free, Drops, Buffers}
 use Rattle.unit_machine.proofs.Real as Real
@@ -10,19 +10,15 @@ use Rattle.unit_machine.proofs.SeenInst.{r_put}
 use Rattle.flow_filter.specs.declared.filter.Filter.{Filter}
 use Rattle.abstract_net.proofs.Net.{inst_next, ctrl_next, sw_next, in_next, begin_next, Msg, In_packet, Asked, Carry_on, Pass_on, Fence_on, Mv, Want, Sys, IsSys, Ruling, first_rule, set_rule, hold, holding, drop_rule, to_ctrl, Inst_n, by_kind, by_rule, inst_step, Open, find_op, num_of, row, wrap, found, numbered, ctrl_step, sw_sends, new_op, begin_sends, World}
 use Rattle.abstract_net.proofs.RuleLists.{each-change, each_set}
-use Rattle.abstract_net.proofs.Holding.{Seeing, EachSent}
+use Rattle.abstract_net.proofs.Holding.{EachSent}
 use Rattle.abstract_net.proofs.Links.{each_after, each_put}
 use Rattle.abstract_net.proofs.RowNumbers.{Of_row, Sent_of, row_numbers}
 use Rattle.abstract_net.proofs.Ctrl.{each_write, each_found}
-use Rattle.abstract_net.proofs.Rest.{Below, Below_num, Global}
+use Rattle.abstract_net.proofs.Rest.{each_map, Below, Below_num, Global}
 use Rattle.abstract_net.proofs.Units.{Where, May, Hands_on, inst_where, ctrl_where, switch_where, input_where, put_where, begin_where}
 use Rattle.nf_function.specs.declared.unit.Unit as units
 use Rattle.record_table.specs.Table.{same_unit}
 use Rattle.nf_msgs.specs.declared.answer.Answer.{Answer}
-
-each_map : {X : Type 0} {P Q : X → Type 0} → ((x : X) → P x → Q x) → (xs : List X) → Each P xs → Each Q xs
-each_map g [] h = tt
-each_map g (x ∷ xs) h = (g x h.0, each_map g xs h.1)
 
 module _ {R : Type 0} (S : Sys R) (laws : IsSys S) where
   -- numbers of what an instance sends and of its rules
@@ -125,6 +121,59 @@ module _ {R : Type 0} (S : Sys R) (laws : IsSys S) where
   head_below : (w : World S) (p y : ℕ) (m : Msg R) (rest : List (Msg R)) → Global S w → (p == 0) && (y == 0) ≡ false → w.link p y ≡ m ∷ rest → Below w.next m
   head_below w p y m rest g off waits = (subst (λ ms. Each (Below w.next) ms) waits (g.messages p y off)).0
 
+  -- numbers below the next one, after each step
+  pub inst_global : (w : World S) → Global S w → (p y : ℕ) (m : Msg R) (rest : List (Msg R)) → (y == 0) ≡ false → w.link p y ≡ m ∷ rest → Global S (inst_next S w p y m)
+  inst_global w g p y m rest y0 waits =
+      let off : (p == 0) && (y == 0) ≡ false = rw y0 (elim (p == 0) as (λ b. b && false ≡ false) [ true ↦ refl | false ↦ refl ]) in
+      let k = inst_below w.next (w.inst y) m (head_below w p y m rest g off waits) (g.rules y) in
+      record {
+        messages = each_after (λ _ _ x. Below w.next x) w.link p y (inst_step S (w.inst y) m).sends g.messages k.0;
+        rules = λ j. elim (j == y) as (λ b. Each (λ r. r.num < w.next) (if b then (inst_step S (w.inst y) m).node else w.inst j).rules) [ true ↦ k.1 | false ↦ g.rules j ];
+        ops = g.ops;
+      }
+
+  pub ctrl_global : (w : World S) → Global S w → (p : ℕ) (m : Msg R) → Global S (ctrl_next S w p m)
+  ctrl_global w g p m =
+      let k = ctrl_below w.next w.ops p m g.ops in
+      record { messages = each_after (λ _ _ x. Below w.next x) w.link p 1 (ctrl_step w.ops p m).sends g.messages k.0; rules = g.rules; ops = k.1 }
+
+  pub switch_global : (w : World S) → Global S w → (p : ℕ) (m : Msg R) (rest : List (Msg R)) → (p == 0) ≡ false → w.link p 0 ≡ m ∷ rest → Global S (sw_next S w p m)
+  switch_global w g p m rest p0 waits =
+      let off : (p == 0) && (0 == 0) ≡ false = rw p0 refl in
+      record { messages = each_after (λ _ _ x. Below w.next x) w.link p 0 (sw_sends m) g.messages (sw_below w.next m (head_below w p 0 m rest g off waits)); rules = g.rules; ops = g.ops }
+
+  pub input_global : (w : World S) → Global S w → (q : ℕ) → Global S (in_next S w q)
+  input_global w g q = record { messages = each_put (λ _ _ x. Below w.next x) w.link 0 ((w.target (S.unit_of q), Carry_on q) ∷ []) g.messages (tt, tt); rules = g.rules; ops = g.ops }
+
+  -- the next number grows
+  below_num_more : (a b : ℕ) → a ≤ b → (o : Option ℕ) → Below_num a o → Below_num b o
+  below_num_more a b few None e = tt
+  below_num_more a b few (Some k) e = omega (arith, e, few)
+
+  below_more : (a b : ℕ) → a ≤ b → (m : Msg R) → Below a m → Below b m
+  below_more a b few (Mv g m) e = below_num_more a b few (num_of m) e
+  below_more a b few (Fence_on k) e = omega (arith, e, few)
+  below_more a b few (Carry_on p) e = tt
+  below_more a b few (Pass_on p) e = tt
+  below_more a b few (In_packet p) e = tt
+  below_more a b few (Asked y) e = tt
+
+  pub global_more : (w : World S) → Global S w → (b : ℕ) → w.next ≤ b → Global S (record w { next = b })
+  global_more w g b few = record {
+    messages = λ i j e. each_map (λ m k. below_more w.next b few m k) (w.link i j) (g.messages i j e);
+    rules = λ k. each_map (λ r e. omega (arith, e, few)) (w.inst k).rules (g.rules k);
+    ops = each_map (λ x k. omega (arith, k, few)) w.ops g.ops;
+  }
+
+  pub begin_global : (w : World S) → Global S w → (x : Want) → w.next ≤ x.num → Global S (begin_next S w x)
+  begin_global w g x fresh =
+      let more = global_more w g (suc x.num) (omega (arith, fresh)) in
+      record {
+        messages = each_put (λ _ _ m. Below (suc x.num) m) w.link 1 (begin_sends x.num x) more.messages ((omega arith), tt);
+        rules = more.rules;
+        ops = each-append (λ e. e.op.num < suc x.num) w.ops (new_op x.num x ∷ []) more.ops (omega arith, tt);
+      }
+
   pub record Every (w : World S) (arrived : units.Unit → List ℕ) (bared : units.Unit → Bool) : Type 0 where
     pub global : Global S w
     pub unit : (u : units.Unit) → Where S laws u w (arrived u) (bared u)
@@ -142,38 +191,27 @@ module _ {R : Type 0} (S : Sys R) (laws : IsSys S) where
   in_to w q = in_next S w q
 
   pub inst_every : (w : World S) (arrived : units.Unit → List ℕ) (bared : units.Unit → Bool) → Every w arrived bared → (p y : ℕ) (m : Msg R) (rest : List (Msg R)) → (y == 0) ≡ false → (y == 1) ≡ false → w.link p y ≡ m ∷ rest → Every (inst_to w p y m) arrived bared
-  inst_every w arrived bared h p y m rest y0 y1 waits =
-      let off : (p == 0) && (y == 0) ≡ false = rw y0 (elim (p == 0) as (λ b. b && false ≡ false) [ true ↦ refl | false ↦ refl ]) in
-      let k = inst_below w.next (w.inst y) m (head_below w p y m rest h.global off waits) (h.global.rules y) in
-      record {
-        global = record {
-          messages = each_after (λ _ _ x. Below w.next x) w.link p y (inst_step S (w.inst y) m).sends h.global.messages k.0;
-          rules = λ j. elim (j == y) as (λ b. Each (λ r. r.num < w.next) (if b then (inst_step S (w.inst y) m).node else w.inst j).rules) [ true ↦ k.1 | false ↦ h.global.rules j ];
-          ops = h.global.ops;
-        };
-        unit = λ u. inst_where S laws u w (arrived u) (bared u) h.global p y m rest y0 y1 waits (h.unit u);
-      }
+  inst_every w arrived bared h p y m rest y0 y1 waits = record {
+    global = inst_global w h.global p y m rest y0 waits;
+    unit = λ u. inst_where S laws u w (arrived u) (bared u) h.global p y m rest y0 y1 waits (h.unit u);
+  }
 
   pub ctrl_every : (w : World S) (arrived : units.Unit → List ℕ) (bared : units.Unit → Bool) → Every w arrived bared → (p : ℕ) (m : Msg R) (rest : List (Msg R)) → w.link p 1 ≡ m ∷ rest → Every (ctrl_to w p m) arrived bared
-  ctrl_every w arrived bared h p m rest waits =
-      let k = ctrl_below w.next w.ops p m h.global.ops in
-      record {
-        global = record { messages = each_after (λ _ _ x. Below w.next x) w.link p 1 (ctrl_step w.ops p m).sends h.global.messages k.0; rules = h.global.rules; ops = k.1 };
-        unit = λ u. ctrl_where S laws u w (arrived u) (bared u) h.global p m rest waits (h.unit u);
-      }
+  ctrl_every w arrived bared h p m rest waits = record {
+    global = ctrl_global w h.global p m;
+    unit = λ u. ctrl_where S laws u w (arrived u) (bared u) h.global p m rest waits (h.unit u);
+  }
 
   -- the switch's step, by what it says of the units that a move without a buffer hands on
   pub switch_every : (w : World S) (arrived : units.Unit → List ℕ) (bared after : units.Unit → Bool) → Every w arrived bared → (p : ℕ) (m : Msg R) (rest : List (Msg R)) → (p == 0) ≡ false → w.link p 0 ≡ m ∷ rest → ((u : units.Unit) → bared u ≡ true → after u ≡ true) → ((u : units.Unit) → Hands_on S laws u w m (after u)) → Every (sw_to w p m) arrived after
-  switch_every w arrived bared after h p m rest p0 waits grows hands =
-      let off : (p == 0) && (0 == 0) ≡ false = rw p0 refl in
-      record {
-        global = record { messages = each_after (λ _ _ x. Below w.next x) w.link p 0 (sw_sends m) h.global.messages (sw_below w.next m (head_below w p 0 m rest h.global off waits)); rules = h.global.rules; ops = h.global.ops };
-        unit = λ u. switch_where S laws u w (arrived u) (bared u) (after u) h.global p m rest p0 waits (grows u) (hands u) (h.unit u);
-      }
+  switch_every w arrived bared after h p m rest p0 waits grows hands = record {
+    global = switch_global w h.global p m rest p0 waits;
+    unit = λ u. switch_where S laws u w (arrived u) (bared u) (after u) h.global p m rest p0 waits (grows u) (hands u) (h.unit u);
+  }
 
   pub input_every : (w : World S) (arrived : units.Unit → List ℕ) (bared : units.Unit → Bool) → Every w arrived bared → (q : ℕ) → Every (in_to w q) (λ u. arrived u ++ (if same_unit (S.unit_of q) u then q ∷ [] else [])) bared
   input_every w arrived bared h q = record {
-    global = record { messages = each_put (λ _ _ x. Below w.next x) w.link 0 ((w.target (S.unit_of q), Carry_on q) ∷ []) h.global.messages (tt, tt); rules = h.global.rules; ops = h.global.ops };
+    global = input_global w h.global q;
     unit = λ u. input_where S laws u w (arrived u) (bared u) h.global q (h.unit u);
   }
 
@@ -192,26 +230,7 @@ module _ {R : Type 0} (S : Sys R) (laws : IsSys S) where
   begins w x = begin_next S w x
 
   pub begin_every : (w : World S) (arrived : units.Unit → List ℕ) (bared : units.Unit → Bool) → Every w arrived bared → (x : Want) → May S w x → Every (begins w x) arrived bared
-  begin_every w arrived bared h x may = let fresh = may.fresh in record {
-    global = record {
-      messages = each_put (λ _ _ m. Below (suc x.num) m) w.link 1 (begin_sends x.num x) (λ i j e. each_map (λ m k. more m k) (w.link i j) (h.global.messages i j e)) ((omega arith), tt);
-      rules = λ k. each_map (λ r e. less r.num e) (w.inst k).rules (h.global.rules k);
-      ops = each-append (λ e. e.op.num < suc x.num) w.ops (new_op x.num x ∷ []) (each_map (λ e k. less e.op.num k) w.ops h.global.ops) (omega arith, tt);
-    };
+  begin_every w arrived bared h x may = record {
+    global = begin_global w h.global x may.fresh;
     unit = λ u. begin_where S laws u w (arrived u) (bared u) x h.global (record { fresh = may.fresh; src = may.src; dst = may.dst; other = may.other; apart = may.apart }) (h.unit u);
   }
-    where
-      less : (k : ℕ) → k < w.next → k < suc x.num
-      less k e = let fresh = may.fresh in omega (arith, e, fresh)
-
-      more_num : (o : Option ℕ) → Below_num w.next o → Below_num (suc x.num) o
-      more_num None e = tt
-      more_num (Some k) e = less k e
-
-      more : (m : Msg R) → Below w.next m → Below (suc x.num) m
-      more (Mv g m) e = more_num (num_of m) e
-      more (Fence_on k) e = less k e
-      more (Carry_on p) e = tt
-      more (Pass_on p) e = tt
-      more (In_packet p) e = tt
-      more (Asked y) e = tt

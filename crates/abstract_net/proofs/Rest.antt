@@ -90,7 +90,7 @@ module _ {R : Type 0} (S : Sys R) (u : units.Unit) where
     pub ops : Each Rest_op w.ops
     pub done : done_u w.done ≡ firsts d
 
-each_map : {X : Type 0} {P Q : X → Type 0} → ((x : X) → P x → Q x) → (xs : List X) → Each P xs → Each Q xs
+pub each_map : {X : Type 0} {P Q : X → Type 0} → ((x : X) → P x → Q x) → (xs : List X) → Each P xs → Each Q xs
 each_map g [] h = tt
 each_map g (x ∷ xs) h = (g x h.0, each_map g xs h.1)
 
@@ -123,7 +123,7 @@ module _ {R : Type 0} (S : Sys R) (z : Seeing) where
     never_num : {P : Type 0} (k : ℕ) → k < b → (k == n) ≡ true → P
     never_num k e on = let both : false ≡ true = sym (off k e) ∙ on in cc
 
-    mv_label : (g : Filter) (m : Real.Msg R) → Below_num b (num_of m) → Mv_nothing S u g m → Mv_label S z g m
+    pub mv_label : (g : Filter) (m : Real.Msg R) → Below_num b (num_of m) → Mv_nothing S u g m → Mv_label S z g m
     mv_label g (M_enable k r) e h = (h.0 ∙ sym (off k e), h.1)
     mv_label g (M_stream k) e h = h ∙ sym (off k e)
     mv_label g (M_install k from to) e h = h ∙ sym (off k e)
@@ -141,7 +141,7 @@ module _ {R : Type 0} (S : Sys R) (z : Seeing) where
     to_label i (Carry_on p) e h = tt
     to_label i m e h = tt
 
-    mv_unseen : (g : Filter) (m : Real.Msg R) → Below_num b (num_of m) → Mv_nothing S u g m → Real.seen (frame S z) m ≡ None
+    pub mv_unseen : (g : Filter) (m : Real.Msg R) → Below_num b (num_of m) → Mv_nothing S u g m → Real.seen (frame S z) m ≡ None
     mv_unseen g (M_event k p) e h = rw h refl
     mv_unseen g (M_forward p to) e h = rw h refl
     mv_unseen g (M_enable k r) e h = let o = off k e in rw o refl
@@ -168,19 +168,19 @@ module _ {R : Type 0} (S : Sys R) (z : Seeing) where
     view_rest i (In_packet p ∷ ms) e h = view_rest i ms e.1 h.1
     view_rest i (Asked a ∷ ms) e h = view_rest i ms e.1 h.1
 
-    no_rule : (rs : List Ruling) → Each (λ r. r.num < b) rs → find_rule n rs ≡ None
+    pub no_rule : (rs : List Ruling) → Each (λ r. r.num < b) rs → find_rule n rs ≡ None
     no_rule [] e = refl
     no_rule (r ∷ rs) e = let o = off r.num e.0 in rw o (no_rule rs e.1)
 
-    no_op : (es : List (Open R)) → Each (λ e. e.op.num < b) es → find_op es n ≡ None
+    pub no_op : (es : List (Open R)) → Each (λ e. e.op.num < b) es → find_op es n ≡ None
     no_op [] e = refl
     no_op (x ∷ es) e = let o = off x.op.num e.0 in rw o (no_op es e.1)
 
-    rule_labels : (rs : List Ruling) → Each (λ r. r.num < b) rs → Each (Rest_rule S u) rs → Each (Rule_label S z) rs
+    pub rule_labels : (rs : List Ruling) → Each (λ r. r.num < b) rs → Each (Rest_rule S u) rs → Each (Rule_label S z) rs
     rule_labels [] e h = tt
     rule_labels (r ∷ rs) e h = ((h.0.0 ∙ sym (off r.num e.0), (λ _. sym (same_mine r.held) ∙ h.0.1), h.0.2), rule_labels rs e.1 h.1)
 
-    op_labels : (es : List (Open R)) → Each (λ e. e.op.num < b) es → Each (Rest_op S u) es → Each (Op_label S z) es
+    pub op_labels : (es : List (Open R)) → Each (λ e. e.op.num < b) es → Each (Rest_op S u) es → Each (Op_label S z) es
     op_labels [] e h = tt
     op_labels (x ∷ es) e h = ((h.0.0 ∙ sym (off x.op.num e.0), (λ _. (h.0.1.0, sym (same_mine x.store) ∙ h.0.1.1)), h.0.2), op_labels es e.1 h.1)
 
@@ -292,11 +292,11 @@ module _ {R : Type 0} (S : Sys R) (z : Seeing) where
   mv_no_carry (M_restored k) = no_if (k == n) _ refl
   mv_no_carry (M_fenced k) = no_if (k == n) _ refl
 
-  off_if : (t : Bool) (it : Item R) → where_true t it ≡ None → t ≡ false
+  pub off_if : (t : Bool) (it : Item R) → where_true t it ≡ None → t ≡ false
   off_if true it e = let never : Some it ≡ None = e in cc
   off_if false it e = refl
 
-  mv_nothing : (g : Filter) (m : Real.Msg R) → Real.seen (frame S z) m ≡ None → Mv_label S z g m → Mv_nothing S u g m
+  pub mv_nothing : (g : Filter) (m : Real.Msg R) → Real.seen (frame S z) m ≡ None → Mv_label S z g m → Mv_nothing S u g m
   mv_nothing g (M_enable k r) e l = (l.0 ∙ off_if (k == n) _ e, l.1)
   mv_nothing g (M_stream k) e l = l ∙ off_if (k == n) _ e
   mv_nothing g (M_install k from to) e l = l ∙ off_if (k == n) _ e
@@ -332,14 +332,14 @@ module _ {R : Type 0} (S : Sys R) (z : Seeing) where
   link_rest i (Asked a ∷ ms) l e h = let r = link_rest i ms l e h.1 in (r.0, (tt, r.1))
 
   -- no rule and no move with the number is left
-  rules_rest : (rs : List Ruling) → rule_of (find_rule n rs) ≡ Free → Each (Rule_label S z) rs → Each (Rest_rule S u) rs
+  pub rules_rest : (rs : List Ruling) → rule_of (find_rule n rs) ≡ Free → Each (Rule_label S z) rs → Each (Rest_rule S u) rs
   rules_rest [] e h = tt
   rules_rest (r ∷ rs) e h = elim (r.num == n) as (λ t. (r.num == n) ≡ t → rule_of (if t then Some r else find_rule n rs) ≡ Free → Each (Rest_rule S u) (r ∷ rs)) [
     | true ↦ λ _ free. let never : true ≡ false = ap is_free (sym free) ∙ h.0.2 in cc
     | false ↦ λ o free. ((h.0.0 ∙ o, same_mine r.held ∙ h.0.1 o, h.0.2), rules_rest rs free h.1)
   ] refl e
 
-  ops_rest : (es : List (Open R)) → find_op es n ≡ None → Each (Op_label S z) es → Each (Rest_op S u) es
+  pub ops_rest : (es : List (Open R)) → find_op es n ≡ None → Each (Op_label S z) es → Each (Rest_op S u) es
   ops_rest [] e h = tt
   ops_rest (x ∷ es) e h = elim (x.op.num == n) as (λ t. (x.op.num == n) ≡ t → (if t then Some x else find_op es n) ≡ None → Each (Rest_op S u) (x ∷ es)) [
     | true ↦ λ _ bad. cc

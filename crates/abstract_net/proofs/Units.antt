@@ -82,7 +82,7 @@ module _ {R : Type 0} (S : Sys R) (laws : IsSys S) (u : units.Unit) where
   self k = grind (arith, nat_tests)
 
   -- two instances
-  apart_of : (n a b : ℕ) (k : Bool) → 2 ≤ a → 2 ≤ b → a ≢ b → Apart (record { num = n; src = a; dst = b; keep = k })
+  pub apart_of : (n a b : ℕ) (k : Bool) → 2 ≤ a → 2 ≤ b → a ≢ b → Apart (record { num = n; src = a; dst = b; keep = k })
   apart_of n a b k two_a two_b ab = record {
     num = self n;
     src = self a;

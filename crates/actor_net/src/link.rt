@@ -60,6 +60,17 @@ impl<M> Link<M> {
         self.queue.pop_front()
     }
 
+    /// The same, and with the last message the room goes back.
+    pub fn pop_for_good(&mut self) -> Option<M>
+        ensures { MatchOption result ((self.old ≡ []) × (self.new ≡ [])) (λ x. self.old ≡ x ∷ self.new) }
+    {
+        let message = self.queue.pop_front();
+        if self.queue.is_empty() {
+            self.queue.shrink_to_fit();
+        }
+        message
+    }
+
     pub fn push(&mut self, message: M) -> Result<(), NoMemory>
     where
         M: Drop,

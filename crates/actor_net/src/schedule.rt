@@ -4,7 +4,7 @@ ghost use Rattle.actor_net.specs.Schedules.{enabled_choices, ports_below, place_
 
 use super::actor::Actor;
 use super::choice::{Choice, Choices};
-use super::world::{TakeFault, World};
+use super::world::World;
 use rand_core::SeedableRng;
 use rand_core::utils::NextWord;
 use rand_xoshiro::SplitMix64;
@@ -44,11 +44,7 @@ pub fn run_schedule<A: Actor>(
         let Some(choice) = picker.pick(&world) else {
             break;
         };
-        match world.take(choice) {
-            Ok(()) => {}
-            Err(TakeFault::NotEnabled) => unreachable!(),
-            Err(TakeFault::NoMemory) => return Err(ScheduleFault::NoMemory),
-        }
+        world.take_enabled(choice)?;
         choices.push(choice)?;
     }
     if world.complete() {

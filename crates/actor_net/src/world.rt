@@ -119,9 +119,17 @@ impl<A: Actor> World<A> {
         if !self.enabled(choice) {
             return Err(TakeFault::NotEnabled);
         }
-        let message = self.take_first(choice);
-        self.step(choice, message)?;
+        self.take_enabled(choice)?;
         Ok(())
+    }
+
+    /// The same, where the choice can be taken.
+    pub(crate) fn take_enabled(&mut self, choice: Choice) -> Result<(), NoMemory>
+        requires { is_enabled A.is_ready self.old choice ≡ true }
+        ensures { OnOk result (self.new ≡ taken A.stepped self.old choice) }
+    {
+        let message = self.take_first(choice);
+        self.step(choice, message)
     }
 
     /// Whether nothing is left to do: no input, no message on a link, and each node has ended.
@@ -137,7 +145,7 @@ impl<A: Actor> World<A> {
         ensures rest { self.new ≡ without_first self.old choice }
     {
         let first = if choice.is_input() {
-            self.input.pop()
+            self.input.pop_for_good()
         } else {
             self.links.pop(choice)
         };

@@ -14,8 +14,9 @@ use std::thread::Threads;
 // A worker's turn has at most so many steps.
 const TURN_STEPS: u32 = 256;
 
-// A group in which so many turns in a row did no step isn't busy.
-const REST_TURNS: u32 = 16;
+// A group in which so many turns in a row did no step isn't busy. They are many, since a round that ends while a thread waits for
+// its processor costs another round: about a third of a millisecond.
+const REST_TURNS: u32 = 128;
 
 // A group ends its part of a round after so many turns in a row that did no step, also where others are busy. Only where no
 // thread could be made for another group does it come to that.

@@ -1,3 +1,4 @@
 pub mod OperationLookUps
 pub mod WrittenOperations
 pub mod OtherMessages
+pub mod EndedTurns

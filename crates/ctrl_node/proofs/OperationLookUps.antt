@@ -19,6 +19,9 @@ use Rattle.std.proofs.lemmas.Bool.{eqb-true}
 order_test : (a b : ℕ) → eq_by_cmp nat_cmp a b ≡ eqb a b
 order_test a b = grind (arith, nat_tests)
 
+same_test : (a : ℕ) → eq_by_cmp nat_cmp a a ≡ true
+same_test a = grind (arith, nat_tests)
+
 turned_test : (a b : ℕ) → eq_by_cmp nat_cmp a b ≡ eq_by_cmp nat_cmp b a
 turned_test a b = grind (arith, nat_tests)
 
@@ -82,14 +85,18 @@ module _ {X : Type 0} where
       ∙ ap (cond (eq_by_cmp nat_cmp q op) (Some x)) (sym (get-view old q) ∙ ap (λ m. finite.get m q) is)
       ∙ sym (get-insert nat_cmp_total before op x q))
 
-  -- nothing was written where nothing stands
-  absent_case : (b : Bool) (o p : Option X) → (b ≡ true → p ≡ None) → o ≡ cond b None p → o ≡ p
-  absent_case true o p none e = e ∙ sym (none refl)
-  absent_case false o p none e = e
+  -- what stands was written again, or nothing where nothing stands
+  again_case : (b : Bool) (o p q : Option X) → (b ≡ true → p ≡ q) → o ≡ cond b q p → o ≡ p
+  again_case true o p q same e = e ∙ sym (same refl)
+  again_case false o p q same e = e
 
-  pub unwritten : (old new : tree.BTreeMap ℕ X) (before : finite.FinMap nat_cmp X) (op : ℕ) → view old ≡ before → tree.get nat_cmp old op ≡ None
-      → ((q : ℕ) → tree.get nat_cmp new q ≡ cond (eqb q op) None (tree.get nat_cmp old q)) → view new ≡ before
-  unwritten old new before op is none each = same_map nat_cmp_total nat_cmp-IsAntisymmetric (view new) (view old) (λ q.
+  pub unwritten : (old new : tree.BTreeMap ℕ X) (before : finite.FinMap nat_cmp X) (op : ℕ) (o : Option X) → view old ≡ before → tree.get nat_cmp old op ≡ o
+      → ((q : ℕ) → tree.get nat_cmp new q ≡ cond (eqb q op) o (tree.get nat_cmp old q)) → view new ≡ before
+  unwritten old new before op o is found each = same_map nat_cmp_total nat_cmp-IsAntisymmetric (view new) (view old) (λ q.
       get-view new q
-      ∙ absent_case (eqb q op) (tree.get nat_cmp new q) (tree.get nat_cmp old q) (λ here. ap (tree.get nat_cmp old) (eqb-true q op here) ∙ none) (each q)
+      ∙ again_case (eqb q op) (tree.get nat_cmp new q) (tree.get nat_cmp old q) o (λ here. ap (tree.get nat_cmp old) (eqb-true q op here) ∙ found) (each q)
       ∙ sym (get-view old q)) ∙ is
+
+  -- what was written under a number is found there
+  pub found_again : (m : finite.FinMap nat_cmp X) (op : ℕ) (x : X) → finite.get (finite.insert m op x) op ≡ Some x
+  found_again m op x = get-insert nat_cmp_total m op x op ∙ ap (λ b. cond b (Some x) (finite.get m op)) (same_test op)

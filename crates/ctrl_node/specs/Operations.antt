@@ -1,39 +1,54 @@
 -- Open operations: what the controller asks of one, and what a message of its number does to it. This project's own.
-use Rattle.std.specs.Prelude.{ℕ, ◌&&◌, Bool, true, false, not, List, [], find, Option, None, Some, option_map}
+use Rattle.std.specs.Prelude.{ℕ, Bool, true, false, List, [], find, Option, None, Some, option_map}
 use Rattle.std.specs.List.{list_all}
 use Rattle.std.specs.Option.{option_map_or}
 use Rattle.std.specs.Ordering.{nat_cmp}
 use Rattle.std.specs.FinMap as finite
 use Rattle.flow_filter.specs.declared.filter.Filter.{Filter}
-use Rattle.flow_filter.specs.Filter.{meets}
+use Rattle.flow_filter.specs.Filter.{matches, meets}
 use Rattle.nf_msgs.specs.declared.answer.Answer.{Answer}
 use Rattle.nf_msgs.specs.declared.msg.Msg.{Msg}
+use Rattle.flow_filter.specs.declared.flow.Flow.{Flow}
+use Rattle.event_store.specs.Store.{stored}
 use Rattle.move_op.specs.Move.{MoveState, Row, Store, row_in, store_after, answer_of}
+use Rattle.copy_share.specs.Copy.{CopyState, CopyRow}
+use Rattle.copy_share.specs.Copy as copy
+use Rattle.copy_share.specs.Share.{ShareState, ShareRow, Served}
+use Rattle.copy_share.specs.Share as share
 use Rattle.ctrl_node.specs.declared.operation.Operation.{Operation}
-use Rattle.ctrl_node.specs.declared.operation.Operation.TheVariants.{Move}
+use Rattle.ctrl_node.specs.declared.operation.Operation.TheVariants.{Move, Copy, Share}
 
 -- the open operations by their numbers
 abbrev pub OpenOperations : Type 0
 OpenOperations = finite.FinMap nat_cmp Operation
 
--- the filter of what an operation works on
+-- the filter of what an operation works on; a copy of the all-flows state has none
 abbrev pub filter_of : Operation → Option Filter
 filter_of (Move m) = Some m.plan.filter
+filter_of (Copy c) = c.plan.filter
+filter_of (Share s) = Some s.plan.filter
 
--- whether an operation is still to be answered: a move is, as long as it is open
-abbrev pub is_unfinished : Operation → Bool
-is_unfinished (Move m) = true
+-- whether an operation stays open when it is answered: a share does, and lasts to the end
+abbrev pub lasts : Option Operation → Bool
+lasts (Some (Share s)) = true
+lasts operation = false
 
--- whether an operation waits for nothing but packets: a move serves none once it is answered
-abbrev pub is_idle : Operation → Bool
-is_idle (Move m) = true
+-- whether an operation needs nothing more to be done: a move or a copy does as long as it is open, a share until it is idle
+abbrev pub is_quiet : Store → Operation → Bool
+is_quiet store (Share s) = share.is_idle s.phase (stored store s.plan.op)
+is_quiet store operation = false
 
--- whether an operation needs nothing more to be done
-abbrev pub is_quiet : Operation → Bool
-is_quiet operation = not (is_unfinished operation) && is_idle operation
+abbrev pub are_quiet : OpenOperations → Store → Bool
+are_quiet operations store = list_all (λ entry. is_quiet store entry.1) (finite.entries operations)
 
-abbrev pub are_quiet : OpenOperations → Bool
-are_quiet operations = list_all (λ entry. is_quiet entry.1) (finite.entries operations)
+-- whether an operation is a share whose filter matches a flow
+abbrev pub is_shared_by : Flow → Operation → Bool
+is_shared_by flow (Share s) = matches s.plan.filter flow
+is_shared_by flow operation = false
+
+-- the lowest number of such a share
+abbrev pub share_of : OpenOperations → Flow → Option ℕ
+share_of operations flow = option_map (λ entry. entry.0) (find (λ entry. is_shared_by flow entry.1) (finite.entries operations))
 
 -- whether a filter meets that of an operation
 abbrev pub meets_operation : Filter → Operation → Bool
@@ -58,9 +73,44 @@ moved m store row = record {
   answer = answer_of row.next.phase;
 }
 
+abbrev pub copied : CopyState → Store → CopyRow → Turn
+copied c store row = record {
+  operation = Some (Copy (record c { phase = row.phase }));
+  store = store;
+  sends = row.sends;
+  answer = copy.answer_of row.phase;
+}
+
+abbrev pub shared : ShareState → Store → ShareRow → Turn
+shared s store row = record {
+  operation = Some (Share (record s { phase = row.phase }));
+  store = store;
+  sends = row.sends;
+  answer = row.answer;
+}
+
+-- nothing happens to an operation
+abbrev pub idly : Store → Turn
+idly store = record { operation = None; store = store; sends = []; answer = None }
+
 abbrev pub turn_of : Option Operation → Store → ℕ → Msg → Turn
-turn_of None store sender message = record { operation = None; store = store; sends = []; answer = None }
+turn_of None store sender message = idly store
 turn_of (Some (Move m)) store sender message = moved m store (row_in m store sender message)
+turn_of (Some (Copy c)) store sender message = copied c store (copy.row c sender message)
+turn_of (Some (Share s)) store sender message = shared s store (share.row s sender message)
+
+-- a share serves the next packet, if it may
+abbrev pub served : ShareState → Store → Served → Turn
+served s store next = record {
+  operation = Some (Share (record s { phase = next.phase }));
+  store = store_after store s.plan.op next.stored;
+  sends = next.sends;
+  answer = None;
+}
+
+abbrev pub serving_of : Option Operation → Store → Turn
+serving_of (Some (Share s)) store = served s store (share.served s.plan s.phase (stored store s.plan.op))
+serving_of operation store = idly store
 
 -- the operations, with one that has changed
 abbrev pub with_operation : OpenOperations → ℕ → Option Operation → OpenOperations

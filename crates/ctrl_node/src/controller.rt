@@ -1,15 +1,18 @@
-ghost use Rattle.std.specs.Prelude.{◌≡◌, ◌≤◌, ◌<◌, ◌∷◌, [], ◌++◌, length, find, is_some, not, IfOk, IfSome, OnOk};
-ghost use Rattle.std.specs.List.{position};
+ghost use Rattle.std.specs.Prelude.{◌≡◌, ◌≤◌, ◌<◌, ◌∷◌, [], ◌++◌, length, find, is_some, not, if◌then◌else◌, All, IfOk, IfSome, OnOk};
+ghost use Rattle.std.specs.List.{filter_map, position};
 ghost use Rattle.std.specs.Str.{bytes_eq};
-ghost use Rattle.ctrl_node.specs.Controller.{answers, begins, begins_between, finish_of, handed, instance_at, on_asked, on_event, on_final, opened, overlap, place_of, refusal, row, unknown_name, with_finish};
+ghost use Rattle.ctrl_node.specs.Controller.{answers, begins, begins_between, begins_share, closed, copies_between, finish_of, handed, instance_at, on_asked, on_diverted, on_event, on_final, opened, overlap, place_of, refusal, row, serves, takes_turn, unknown_name, with_finish};
+ghost use Rattle.ctrl_node.specs.Operations.{lasts, turn_of};
+ghost use Rattle.std.specs.FinMap as finite;
 
 use crate::operation::Operation;
 use crate::operations::Operations;
 use actor_net::{Actor, Outbox};
 use basics::{Boxed, NoMemory, TryCopy};
+use copy_share::{CopyOp, ShareOp};
 use event_filter::Mark;
 use event_store::EventStore;
-use flow_filter::{Filter, Name, Site};
+use flow_filter::{Filter, Name, Site, flow_of};
 use move_op::MoveOp;
 use nf_msgs::{Answer, Command, MOST_INSTANCES, Msg, Names, Note, Order, SWITCH};
 use packet_pool::Cell;
@@ -125,6 +128,12 @@ impl Ctrl {
                 }
                 self.asked(command.into_inner(), out)
             }
+            Msg::Diverted(parcel) => {
+                if port != SWITCH {
+                    return Ok(());
+                }
+                self.divert(parcel, out)
+            }
             Msg::End => {
                 if port == SWITCH {
                     self.end_came = true;
@@ -221,7 +230,7 @@ impl Ctrl {
         Ok(None)
     }
 
-    /// An operation begins, where it is of a kind that is built.
+    /// An operation begins.
     fn begin(&mut self, op: u32, what: Order, out: &mut Outbox<Msg, Note>) -> Result<(), NoMemory>
         ensures node { OnOk result (self.new ≡ (begins self.old op what).node) }
         ensures sends { OnOk result (out.new.0 ≡ out.old.0 ++ (begins self.old op what).sends) }
@@ -238,7 +247,15 @@ impl Ctrl {
                 let to = self.place_of(&dst);
                 self.begin_between(op, from, to, &filter, keep, out)
             }
-            _ => Ok(()),
+            Order::Copy { src, dst, filter } => {
+                let from = self.place_of(&src);
+                let to = self.place_of(&dst);
+                self.copy_between(op, from, to, filter, out)
+            }
+            Order::Share { members, filter } => {
+                let places = self.places_of(members.items())?;
+                self.begin_share(op, places, &filter, out)
+            }
         }
     }
 
@@ -267,6 +284,68 @@ impl Ctrl {
         out.note(Note::Begun(op))?;
         let begun = MoveOp::begin(self.alloc, op, from, to, filter, keep, out)?;
         self.operations.insert(op, Operation::Move(begun))
+    }
+
+    /// A copy begins between two instances.
+    fn copy_between(
+        &mut self,
+        op: u32,
+        from: Option<u8>,
+        to: Option<u8>,
+        filter: Option<Filter>,
+        out: &mut Outbox<Msg, Note>,
+    ) -> Result<(), NoMemory>
+        requires from { IfSome from (λ place. place < MOST_INSTANCES) }
+        requires to { IfSome to (λ place. place < MOST_INSTANCES) }
+        ensures node { OnOk result (self.new ≡ (copies_between self.old op filter from to).node) }
+        ensures sends { OnOk result (out.new.0 ≡ out.old.0 ++ (copies_between self.old op filter from to).sends) }
+        ensures notes { OnOk result (out.new.1 ≡ out.old.1 ++ (copies_between self.old op filter from to).notes) }
+    {
+        let Some(from) = from else {
+            return Ok(());
+        };
+        let Some(to) = to else {
+            return Ok(());
+        };
+        out.note(Note::Begun(op))?;
+        let begun = CopyOp::begin(self.alloc, op, from, to, filter, out)?;
+        self.operations.insert(op, Operation::Copy(begun))
+    }
+
+    /// The numbers of the instances with these names, in order.
+    fn places_of(&self, names: &[Name]) -> Result<Vec<u8>, NoMemory>
+        ensures places { IfOk result (λ places. places.items ≡ filter_map (place_of self.now.names) names.now) }
+        ensures within { IfOk result (λ places. All (λ place. place < MOST_INSTANCES) places.items) }
+    {
+        let mut places = Vec::new(self.alloc);
+        for name in names {
+            let Some(place) = self.place_of(name) else {
+                continue;
+            };
+            places.push(place)?;
+        }
+        Ok(places)
+    }
+
+    /// A share begins, if it has members.
+    fn begin_share(
+        &mut self,
+        op: u32,
+        members: Vec<u8>,
+        filter: &Filter,
+        out: &mut Outbox<Msg, Note>,
+    ) -> Result<(), NoMemory>
+        requires instances { All (λ member. member < MOST_INSTANCES) members.items }
+        ensures node { OnOk result (self.new ≡ (begins_share self.old op filter.now members.items).node) }
+        ensures sends { OnOk result (out.new.0 ≡ out.old.0 ++ (begins_share self.old op filter.now members.items).sends) }
+        ensures notes { OnOk result (out.new.1 ≡ out.old.1 ++ (begins_share self.old op filter.now members.items).notes) }
+    {
+        if members.is_empty() {
+            return Ok(());
+        }
+        out.note(Note::Begun(op))?;
+        let begun = ShareOp::begin(self.alloc, op, members, filter, self.site, out)?;
+        self.operations.insert(op, Operation::Share(begun))
     }
 
     /// Answers a command.
@@ -301,7 +380,23 @@ impl Ctrl {
         out.send(SWITCH, Msg::Forward { to, mark, parcel })
     }
 
-    /// Hands a message to its operation, which is closed where it is then over.
+    /// A packet whose target is the controller waits for its share, which then serves the next one.
+    fn divert(&mut self, parcel: Cell, out: &mut Outbox<Msg, Note>) -> Result<(), NoMemory>
+        ensures node { OnOk result (self.new ≡ (on_diverted self.old parcel).node) }
+        ensures sends { OnOk result (out.new.0 ≡ out.old.0 ++ (on_diverted self.old parcel).sends) }
+        ensures notes { OnOk result (out.new.1 ≡ out.old.1 ++ (on_diverted self.old parcel).notes) }
+    {
+        let (flow, _direction) = flow_of(&self.site, parcel.packet());
+        let Some(op) = self.operations.share_of(&flow) else {
+            return Ok(());
+        };
+        match self.store.put(op, parcel) {
+            Ok(()) => self.serve(op, out),
+            Err((full, _parcel)) => Err(full),
+        }
+    }
+
+    /// Hands a message to its operation. Where it is a share, it then serves the next packet.
     fn hand(
         &mut self,
         op: u32,
@@ -313,12 +408,47 @@ impl Ctrl {
         ensures sends { OnOk result (out.new.0 ≡ out.old.0 ++ (handed self.old op port message).sends) }
         ensures notes { OnOk result (out.new.1 ≡ out.old.1 ++ (handed self.old op port message).notes) }
     {
+        self.turn(op, port, message, out)?;
+        self.serve(op, out)
+    }
+
+    /// An operation takes a message. Where it is then over, it is answered and closed; a share that is set up stays open.
+    fn turn(
+        &mut self,
+        op: u32,
+        port: u8,
+        message: Msg,
+        out: &mut Outbox<Msg, Note>,
+    ) -> Result<(), NoMemory>
+        ensures node { OnOk result (self.new ≡ (takes_turn self.old op (turn_of (finite.get self.old.operations op) self.old.store port message)).node) }
+        ensures sends { OnOk result (out.new.0 ≡ out.old.0 ++ (takes_turn self.old op (turn_of (finite.get self.old.operations op) self.old.store port message)).sends) }
+        ensures notes { OnOk result (out.new.1 ≡ out.old.1 ++ (takes_turn self.old op (turn_of (finite.get self.old.operations op) self.old.store port message)).notes) }
+    {
         let answer = self.operations.on(op, port, message, &mut self.store, out)?;
         let Some(answer) = answer else {
             return Ok(());
         };
-        self.operations.remove(op);
+        self.close(op);
         self.answer(op, answer, out)
+    }
+
+    /// Closes an operation that is answered, if it doesn't last.
+    fn close(&mut self, op: u32)
+        ensures { self.new ≡ (if lasts (finite.get self.old.operations op) then self.old else closed self.old op) }
+    {
+        if self.operations.lasts(op) {
+            return;
+        }
+        self.operations.remove(op);
+    }
+
+    /// A share serves its next packet, if it may.
+    fn serve(&mut self, op: u32, out: &mut Outbox<Msg, Note>) -> Result<(), NoMemory>
+        ensures node { OnOk result (self.new ≡ (serves self.old op).node) }
+        ensures sends { OnOk result (out.new.0 ≡ out.old.0 ++ (serves self.old op).sends) }
+        ensures notes { OnOk result (out.new.1 ≡ out.old.1) }
+    {
+        self.operations.serve(op, &mut self.store, out)
     }
 
     /// An instance has stopped.
@@ -337,7 +467,7 @@ impl Ctrl {
         ensures sends { OnOk result (out.new.0 ≡ out.old.0 ++ finish_of self.old) }
         ensures notes { OnOk result (out.new.1 ≡ out.old.1) }
     {
-        if !self.end_came || self.finish_sent || !self.operations.are_quiet() {
+        if !self.end_came || self.finish_sent || !self.operations.are_quiet(&self.store) {
             return Ok(());
         }
         self.finish_sent = true;

@@ -3,13 +3,14 @@ ghost use Rattle.std.specs.List.{list_all};
 ghost use Rattle.std.specs.Ordering.{nat_cmp};
 ghost use Rattle.std.specs.FinMap as finite;
 ghost use Rattle.std.specs.BTreeMap.{get, IsOrdered};
-ghost use Rattle.ctrl_node.specs.Operations.{are_quiet, is_quiet, lowest_meeting, meets_operation, turn_of, with_operation};
+ghost use Rattle.std.specs.Option.{option_or};
+ghost use Rattle.ctrl_node.specs.Operations.{are_quiet, is_quiet, is_shared_by, lasts, lowest_meeting, meets_operation, serving_of, share_of, turn_of, with_operation};
 
 use crate::operation::Operation;
 use actor_net::Outbox;
 use basics::NoMemory;
 use event_store::EventStore;
-use flow_filter::Filter;
+use flow_filter::{Filter, Flow};
 use nf_msgs::{Answer, Msg, Note};
 use packet_pool::Cell;
 use std::alloc::Global;
@@ -67,7 +68,8 @@ impl Operations {
         let _closed = self.by_number.remove(&op);
     }
 
-    /// Hands a message to the operation with this number, if it is open. The answer comes exactly where it is then over.
+    /// Hands a message to the operation with this number, if it is open. The answer comes exactly where it is then over, or
+    /// a share set up.
     pub fn on(
         &mut self,
         op: u32,
@@ -85,6 +87,35 @@ impl Operations {
         hand_on(&mut self.by_number, op, sender, message, store, out)
     }
 
+    /// The share with this number serves its next packet, if it may.
+    pub fn serve(
+        &mut self,
+        op: u32,
+        store: &mut EventStore<Cell>,
+        out: &mut Outbox<Msg, Note>,
+    ) -> Result<(), NoMemory>
+        ensures operations { OnOk result (self.new ≡ with_operation self.old op (serving_of (finite.get self.old op) store.old).operation) }
+        ensures store { OnOk result (store.new ≡ (serving_of (finite.get self.old op) store.old).store) }
+        ensures sends { OnOk result (out.new.0 ≡ out.old.0 ++ (serving_of (finite.get self.old op) store.old).sends) }
+        ensures notes { OnOk result (out.new.1 ≡ out.old.1) }
+    {
+        serve(&mut self.by_number, op, store, out)
+    }
+
+    /// Whether the operation with this number is open, and stays open when it is answered.
+    pub fn lasts(&self, op: u32) -> bool
+        ensures { result ≡ lasts (finite.get self.now op) }
+    {
+        lasts(&self.by_number, op)
+    }
+
+    /// The lowest number of a share whose filter matches this flow.
+    pub fn share_of(&self, flow: &Flow) -> Option<u32>
+        ensures { result ≡ share_of self.now flow.now }
+    {
+        first_sharing(&self.by_number, flow)
+    }
+
     /// The lowest number of an operation whose filter meets this one.
     pub fn lowest_meeting(&self, filter: &Filter) -> Option<u32>
         ensures { result ≡ lowest_meeting self.now filter.now }
@@ -93,10 +124,10 @@ impl Operations {
     }
 
     /// Whether no operation needs anything more to be done.
-    pub fn are_quiet(&self) -> bool
-        ensures { result ≡ are_quiet self.now }
+    pub fn are_quiet(&self, store: &EventStore<Cell>) -> bool
+        ensures { result ≡ are_quiet self.now store.now }
     {
-        all_quiet(&self.by_number)
+        all_quiet(&self.by_number, store)
     }
 }
 
@@ -122,6 +153,48 @@ fn hand_on(
     }
 }
 
+/// The share with this number serves its next packet, where it stands.
+fn serve(
+    operations: &mut BTreeMap<u32, Operation>,
+    op: u32,
+    store: &mut EventStore<Cell>,
+    out: &mut Outbox<Msg, Note>,
+) -> Result<(), NoMemory>
+    ensures each { OnOk result ((q : ℕ) → get nat_cmp operations.new q ≡ (if q == op
+        then option_or (serving_of (get nat_cmp operations.old op) store.old).operation (get nat_cmp operations.old op) else get nat_cmp operations.old q)) }
+    ensures store { OnOk result (store.new ≡ (serving_of (get nat_cmp operations.old op) store.old).store) }
+    ensures sends { OnOk result (out.new.0 ≡ out.old.0 ++ (serving_of (get nat_cmp operations.old op) store.old).sends) }
+    ensures notes { OnOk result (out.new.1 ≡ out.old.1) }
+{
+    match operations.get_mut(&op) {
+        Some(operation) => operation.serve(store, out),
+        None => Ok(()),
+    }
+}
+
+/// Whether the operation with this number stays open when it is answered.
+fn lasts(operations: &BTreeMap<u32, Operation>, op: u32) -> bool
+    ensures { result ≡ lasts (get nat_cmp operations.now op) }
+{
+    match operations.get(&op) {
+        Some(operation) => operation.lasts(),
+        None => false,
+    }
+}
+
+/// The first number of a share whose filter matches this flow.
+fn first_sharing(operations: &BTreeMap<u32, Operation>, flow: &Flow) -> Option<u32>
+    ensures first { result ≡ option_map (λ entry. entry.0) (find (λ entry. is_shared_by flow.now entry.1) operations.now.entries) }
+    ensures ordered { IsOrdered nat_cmp operations.now }
+{
+    for (op, operation) in operations.iter() {
+        if operation.shares(flow) {
+            return Some(*op);
+        }
+    }
+    None
+}
+
 /// The first number of an operation whose filter meets this one.
 fn first_meeting(operations: &BTreeMap<u32, Operation>, filter: &Filter) -> Option<u32>
     ensures first { result ≡ option_map (λ entry. entry.0) (find (λ entry. meets_operation filter.now entry.1) operations.now.entries) }
@@ -136,12 +209,12 @@ fn first_meeting(operations: &BTreeMap<u32, Operation>, filter: &Filter) -> Opti
 }
 
 /// Whether none of the operations needs anything more to be done.
-fn all_quiet(operations: &BTreeMap<u32, Operation>) -> bool
-    ensures all { result ≡ list_all (λ entry. is_quiet entry.1) operations.now.entries }
+fn all_quiet(operations: &BTreeMap<u32, Operation>, store: &EventStore<Cell>) -> bool
+    ensures all { result ≡ list_all (λ entry. is_quiet store.now entry.1) operations.now.entries }
     ensures ordered { IsOrdered nat_cmp operations.now }
 {
     for (_op, operation) in operations.iter() {
-        if !operation.is_quiet() {
+        if !operation.is_quiet(store) {
             return false;
         }
     }

@@ -1,8 +1,10 @@
+ghost use Rattle.std.specs.Prelude.{◌≡◌, ◌%◌};
+
 use crate::Ctrl;
 use actor_net::{Actor, Outbox};
 use basics::{Boxed, NoMemory, Text};
 use flow_filter::{Filter, Name, Packet, Prefix, Sequence, Site, UDP};
-use nf_function::Chunks;
+use nf_function::{Chunk, Chunks, Scope};
 use nf_msgs::{Command, Msg, Note, Order, Piece, print_answer, show};
 use packet_pool::Pool;
 use std::alloc::Global;
@@ -38,11 +40,31 @@ const PACKET: Packet = Packet {
     head: [0; 64],
 };
 
+/// The addresses that a share is of.
+#[derive(Clone, Copy)]
+enum Addresses {
+    All,
+    /// From 10.0.0.0 to 10.0.0.127.
+    Lower,
+    /// From 10.0.0.128 to 10.0.0.255.
+    Upper,
+}
+
 /// What a node says to the controller, of the operation with a number.
 #[derive(Clone, Copy)]
 enum Word {
     /// A move of everything from a to the instance with this letter, in any order of packets.
     Move(u32, u8),
+    /// A copy from a to b, of everything or of the all-flows state.
+    Copy(u32, bool),
+    /// A share between a and b of some of the site's addresses.
+    Share(u32, Addresses),
+    Chunks(u32),
+    AllChunk(u32),
+    Kept(u32),
+    Shared(u32),
+    Synced(u32),
+    Diverted,
     Enabled(u32),
     /// The one piece of a move.
     Piece(u32),
@@ -54,8 +76,23 @@ enum Word {
     Final,
 }
 
+/// The filter of half of the site's addresses, from this one on.
+fn half(bits: u32) -> Filter
+    requires { bits % 128 ≡ 0 }
+{
+    Filter {
+        local: Some(Prefix { bits, len: 25 }),
+        ..Filter::ANY
+    }
+}
+
+/// The message of a command.
+fn asked(alloc: Global, op: u32, what: Order) -> Result<Msg, NoMemory> {
+    Ok(Msg::Asked(Boxed::new(alloc, Command { op, what })?))
+}
+
 /// A command to move everything.
-fn command(alloc: Global, op: u32, letter: u8) -> Result<Msg, NoMemory> {
+fn move_command(alloc: Global, op: u32, letter: u8) -> Result<Msg, NoMemory> {
     let (Some(src), Some(dst)) = (Name::read(alloc, b"a")?, Name::read(alloc, &[letter])?) else {
         return Ok(Msg::Finish);
     };
@@ -65,7 +102,31 @@ fn command(alloc: Global, op: u32, letter: u8) -> Result<Msg, NoMemory> {
         filter: Filter::ANY,
         keep: false,
     };
-    Ok(Msg::Asked(Boxed::new(alloc, Command { op, what })?))
+    asked(alloc, op, what)
+}
+
+/// A command to copy everything, or the all-flows state.
+fn copy_command(alloc: Global, op: u32, filter: Option<Filter>) -> Result<Msg, NoMemory> {
+    let (Some(src), Some(dst)) = (Name::read(alloc, b"a")?, Name::read(alloc, b"b")?) else {
+        return Ok(Msg::Finish);
+    };
+    asked(alloc, op, Order::Copy { src, dst, filter })
+}
+
+/// A command to share what a filter takes.
+fn share_command(alloc: Global, op: u32, filter: Filter) -> Result<Msg, NoMemory> {
+    let members = Sequence::from_vec(names(alloc)?);
+    asked(alloc, op, Order::Share { members, filter })
+}
+
+/// A chunk without bytes.
+fn chunk(alloc: Global) -> Result<Boxed<Chunk>, NoMemory> {
+    let chunk = Chunk {
+        scope: Scope::PerFlow,
+        unit: None,
+        bytes: Text::open(alloc),
+    };
+    Boxed::new(alloc, chunk)
 }
 
 /// A piece without chunks.
@@ -80,11 +141,14 @@ fn piece(alloc: Global, op: u32) -> Result<Msg, NoMemory> {
     Ok(Msg::Piece { op, piece })
 }
 
-/// The event of a packet.
-fn event(alloc: Global, op: u32) -> Result<Msg, NoMemory> {
+/// A packet, as an event of an operation or as one that the switch's rules send to the controller.
+fn packet(alloc: Global, op: Option<u32>) -> Result<Msg, NoMemory> {
     let packet = Boxed::new(alloc, PACKET)?;
     match Pool::open(0, 1).take(packet) {
-        Ok(parcel) => Ok(Msg::Event { op, parcel }),
+        Ok(parcel) => match op {
+            Some(op) => Ok(Msg::Event { op, parcel }),
+            None => Ok(Msg::Diverted(parcel)),
+        },
         Err(_packet) => Ok(Msg::Finish),
     }
 }
@@ -92,13 +156,33 @@ fn event(alloc: Global, op: u32) -> Result<Msg, NoMemory> {
 /// The message of a word.
 fn message_of(alloc: Global, word: Word) -> Result<Msg, NoMemory> {
     match word {
-        Word::Move(op, letter) => command(alloc, op, letter),
+        Word::Move(op, letter) => move_command(alloc, op, letter),
+        Word::Copy(op, true) => copy_command(alloc, op, Some(Filter::ANY)),
+        Word::Copy(op, false) => copy_command(alloc, op, None),
+        Word::Share(op, Addresses::All) => share_command(alloc, op, Filter::ANY),
+        Word::Share(op, Addresses::Lower) => share_command(alloc, op, half(0x0a00_0000)),
+        Word::Share(op, Addresses::Upper) => share_command(alloc, op, half(0x0a00_0080)),
+        Word::Chunks(op) => Ok(Msg::Chunks {
+            op,
+            chunks: Chunks::open(alloc),
+        }),
+        Word::AllChunk(op) => Ok(Msg::AllChunk {
+            op,
+            chunk: chunk(alloc)?,
+        }),
+        Word::Kept(op) => Ok(Msg::Kept { op }),
+        Word::Shared(op) => Ok(Msg::Shared {
+            op,
+            chunk: chunk(alloc)?,
+        }),
+        Word::Synced(op) => Ok(Msg::Synced { op }),
+        Word::Diverted => packet(alloc, None),
         Word::Enabled(op) => Ok(Msg::Enabled { op }),
         Word::Piece(op) => piece(alloc, op),
         Word::Deleted(op) => Ok(Msg::Deleted { op }),
         Word::PutOk(op) => Ok(Msg::PutOk { op }),
         Word::Fenced(op) => Ok(Msg::Fenced { op }),
-        Word::Event(op) => event(alloc, op),
+        Word::Event(op) => packet(alloc, Some(op)),
         Word::End => Ok(Msg::End),
         Word::Final => Ok(Msg::Final),
     }
@@ -206,6 +290,80 @@ fn a_command_is_refused_for_its_names_before_its_filter(rt: HostRuntime) -> Resu
     ];
     let expected =
         b"2 enable op 4\n0 answered op 5\nunknown z\n0 answered op 6\noverlap 4\n0 forward packet 5 to 1\n";
+    let (text, has_ended) = told(rt.alloc(), &messages)?;
+    assert_eq!(rt; text.items(), expected.as_slice());
+    assert!(rt; !has_ended);
+    Ok(())
+}
+
+#[test]
+fn a_share_is_answered_before_it_serves_and_finishes_when_it_is_idle(
+    rt: HostRuntime,
+) -> Result<(), Fail> {
+    let messages = [
+        (SWITCH, Word::Share(3, Addresses::All)),
+        (SWITCH, Word::Diverted),
+        (A, Word::Fenced(3)),
+        (A, Word::Chunks(3)),
+        (SWITCH, Word::End),
+        (B, Word::Synced(3)),
+        (SWITCH, Word::Diverted),
+        (A, Word::Shared(3)),
+        (B, Word::Synced(3)),
+        (A, Word::Shared(3)),
+        (B, Word::Synced(3)),
+    ];
+    let expected =
+        b"0 install op 3\n2 get op 3\n3 sync op 3\n0 answered op 3\n0 forward packet 5 to 0\ndone\n3 sync op 3\n0 forward packet 5 to 0\n3 sync op 3\n0 finish\n";
+    let (text, has_ended) = told(rt.alloc(), &messages)?;
+    assert_eq!(rt; text.items(), expected.as_slice());
+    assert!(rt; !has_ended);
+    Ok(())
+}
+
+#[test]
+fn a_share_that_is_answered_still_overlaps_but_not_with_all_flows_state(
+    rt: HostRuntime,
+) -> Result<(), Fail> {
+    let messages = [
+        (SWITCH, Word::Share(3, Addresses::All)),
+        (A, Word::Fenced(3)),
+        (A, Word::Chunks(3)),
+        (B, Word::Synced(3)),
+        (SWITCH, Word::Move(4, b'b')),
+        (SWITCH, Word::Copy(5, true)),
+        (SWITCH, Word::Copy(6, false)),
+        (SWITCH, Word::End),
+        (A, Word::AllChunk(6)),
+        (B, Word::Kept(6)),
+    ];
+    let expected =
+        b"0 install op 3\n2 get op 3\n3 sync op 3\n0 answered op 3\ndone\n0 answered op 4\noverlap 3\n0 answered op 5\noverlap 3\n2 get all op 6\n3 put all op 6\n0 answered op 6\n0 finish\ndone\n";
+    let (text, has_ended) = told(rt.alloc(), &messages)?;
+    assert_eq!(rt; text.items(), expected.as_slice());
+    assert!(rt; !has_ended);
+    Ok(())
+}
+
+#[test]
+fn a_packet_waits_for_the_share_of_its_flow(rt: HostRuntime) -> Result<(), Fail> {
+    let messages = [
+        (SWITCH, Word::Share(3, Addresses::Upper)),
+        (SWITCH, Word::Share(4, Addresses::Lower)),
+        (A, Word::Fenced(3)),
+        (A, Word::Chunks(3)),
+        (B, Word::Synced(3)),
+        (SWITCH, Word::Diverted),
+        (A, Word::Fenced(4)),
+        (SWITCH, Word::End),
+        (A, Word::Chunks(4)),
+        (B, Word::Synced(4)),
+        (A, Word::Shared(3)),
+        (A, Word::Shared(4)),
+        (B, Word::Synced(4)),
+    ];
+    let expected =
+        b"0 install op 3\n0 install op 4\n2 get op 3\n3 sync op 3\n0 answered op 3\ndone\n2 get op 4\n3 sync op 4\n0 answered op 4\n0 forward packet 5 to 0\ndone\n3 sync op 4\n0 finish\n";
     let (text, has_ended) = told(rt.alloc(), &messages)?;
     assert_eq!(rt; text.items(), expected.as_slice());
     assert!(rt; !has_ended);

@@ -1,6 +1,6 @@
 -- Stores of parcels: for each operation the list of its parcels, in the order in which they came.
 -- This project's own.
-use Rattle.std.specs.Prelude.{ℕ, List, [], ◌∷◌, unwrap_or}
+use Rattle.std.specs.Prelude.{ℕ, List, [], ◌∷◌, Option, None, Some, unwrap_or}
 use Rattle.std.specs.Ordering.{nat_cmp}
 use Rattle.std.specs.FinMap as map
 
@@ -13,3 +13,8 @@ module _ {P : Type 0} where
   abbrev pub with_parcels : map.FinMap nat_cmp (List P) → ℕ → List P → map.FinMap nat_cmp (List P)
   with_parcels store op [] = map.remove store op
   with_parcels store op (parcel ∷ parcels) = map.insert store op (parcel ∷ parcels)
+
+  -- a store in which the parcels of an operation change, or stay
+  abbrev pub store_after : map.FinMap nat_cmp (List P) → ℕ → Option (List P) → map.FinMap nat_cmp (List P)
+  store_after store op None = store
+  store_after store op (Some parcels) = with_parcels store op parcels

@@ -1,13 +1,8 @@
-use basics::Sequence;
-
 /// The protocol number of TCP in an IPv4 header.
 pub const TCP: u8 = 6;
 
 /// The protocol number of UDP in an IPv4 header.
 pub const UDP: u8 = 17;
-
-/// Packets in order, which contracts see as their list.
-pub type Packets = Sequence<Packet>;
 
 /// One TCP or UDP packet of a capture.
 ///

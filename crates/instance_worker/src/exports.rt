@@ -42,7 +42,7 @@ impl<F: Function> Instance<F> {
         ensures sends { OnOk result (out.new.0 ≡ out.old.0) }
         ensures notes { OnOk result (out.new.1 ≡ out.old.1 ++ exported self.now op chunks.now ∷ []) }
     {
-        let units = units_in(self.alloc, chunks.items())?;
+        let units = Boxed::new(self.alloc, units_in(self.alloc, chunks.items())?)?;
         out.note(Note::Exported {
             instance: self.index.get(),
             op,

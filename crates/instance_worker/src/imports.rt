@@ -217,6 +217,7 @@ impl<F: Function> Instance<F> {
     ) -> Result<(), NoMemory>
         ensures { OnOk result (out.new ≡ (out.old.0, out.old.1 ++ ImportedNote self.now.index op units ∷ [])) }
     {
+        let units = Boxed::new(self.alloc, units)?;
         out.note(Note::Imported {
             instance: self.index.get(),
             op,
@@ -228,6 +229,7 @@ impl<F: Function> Instance<F> {
     fn note_kept(&self, op: u32, units: Units, out: &mut Outbox<Msg, Note>) -> Result<(), NoMemory>
         ensures { OnOk result (out.new ≡ (out.old.0, out.old.1 ++ KeptNote self.now.index op units ∷ [])) }
     {
+        let units = Boxed::new(self.alloc, units)?;
         out.note(Note::Kept {
             instance: self.index.get(),
             op,

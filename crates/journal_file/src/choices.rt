@@ -12,7 +12,8 @@ pub(crate) fn push_bytes_of(bytes: &mut Bytes, choices: &[Choice]) -> Result<(),
     ensures { OnOk result (bytes.new ≡ bytes.old ++ flat_map choice_bytes choices.now) }
 {
     for choice in choices {
-        bytes.push_bytes(&[choice.node, choice.port])?;
+        bytes.push(choice.node)?;
+        bytes.push(choice.port)?;
     }
     Ok(())
 }

@@ -9,7 +9,8 @@ use Rattle.nf_function.specs.declared.chunk.Chunk.{Chunk}
 use Rattle.event_filter.specs.declared.action.Action as actions
 use Rattle.event_filter.specs.declared.action.Action.TheVariants as action
 use Rattle.event_filter.specs.declared.mark.Mark.TheVariants.{Pass}
-use Rattle.event_store.specs.Store.{stored, with_parcels}
+use Rattle.event_store.specs.Store.{stored}
+pub use Rattle.event_store.specs.Store.{store_after}
 use Rattle.switch_rules.specs.declared.target.Target.TheVariants.{Instance}
 use Rattle.packet_pool.specs.Pool.{FullCell}
 use Rattle.nf_msgs.specs.declared.answer.Answer.{Answer}
@@ -220,8 +221,3 @@ row_in s store sender message = row s (stored store s.plan.op) sender message
 abbrev pub answer_of : Phase → Option Answer
 answer_of (Over answer) = Some answer
 answer_of phase = None
-
--- a store in which the parcels of an operation change, or stay
-abbrev pub store_after : Store → ℕ → Option (List FullCell) → Store
-store_after store op None = store
-store_after store op (Some parcels) = with_parcels store op parcels

@@ -1,11 +1,9 @@
-ghost use Rattle.std.specs.Prelude.{◌≡◌, ◌++◌, IfOk, OnOk};
-ghost use Rattle.std.specs.Option.{option_copied};
+ghost use Rattle.std.specs.Prelude.{◌≡◌, ◌++◌, option_map, IfOk, OnOk};
 ghost use Rattle.nf_msgs.specs.Shown.{kind_name, noted, op_of, packet_of, receiver_of, shown};
 
 use crate::answer_text::push_numbered;
 use crate::msg::Msg;
 use basics::{NoMemory, Text};
-use flow_filter::Packet;
 use std::alloc::Global;
 
 /// A message's kind, the numbers of its operation and of its packet, and the instance that the switch is to send to. For tests.
@@ -13,7 +11,7 @@ use std::alloc::Global;
 pub fn show(alloc: Global, message: &Msg) -> Result<Text, NoMemory>
     ensures { IfOk result (λ text. text ≡ shown message.now) }
 {
-    let number = message.packet().map(|packet| packet.number);
+    let number = message.packet_number();
     let mut text = Text::open(alloc);
     text.push_bytes(message.kind_name().as_bytes())?;
     push_noted(&mut text, b" op ", message.op())?;
@@ -120,17 +118,18 @@ impl Msg {
         }
     }
 
-    /// The packet that the message carries.
-    pub fn packet(&self) -> Option<&Packet>
-        ensures { option_copied result ≡ packet_of self.now }
+    /// The number of the packet that the message carries.
+    pub fn packet_number(&self) -> Option<u32>
+        ensures { result ≡ option_map (λ packet. packet.number) (packet_of self.now) }
     {
         match self {
-            Msg::InPacket(packet) | Msg::Seen { packet, .. } => Some(packet.get()),
+            Msg::InPacket(packet) => Some(packet.number()),
+            Msg::Seen { packet, .. } => Some(packet.get().number),
             Msg::Diverted(parcel)
             | Msg::Forward { parcel, .. }
             | Msg::Carry { parcel, .. }
             | Msg::Event { parcel, .. }
-            | Msg::Credit(parcel) => Some(parcel.packet()),
+            | Msg::Credit(parcel) => Some(parcel.packet().number),
             _ => None,
         }
     }

@@ -2,20 +2,20 @@ use crate::answer::Answer;
 use crate::command::Command;
 use basics::Boxed;
 use event_filter::{Action, Mark};
-use flow_filter::{Filter, Packet};
+use flow_filter::{CapturedPacket, Filter, Packet};
 use nf_function::{Chunk, Chunks, Units};
 use packet_pool::Cell;
 use switch_rules::Target;
 
 /// A message between two nodes of the network. What is large stands behind one pointer, since each message is moved through
-/// several queues.
+/// several queues; but for the packets of the input, which wait there in a row.
 ///
 /// `op` is the number of the operation, which is that of its command; `to` and `from` are the numbers of instances, from 0.
 #[derive(Debug, Drop)]
 pub enum Msg {
     // The input of the switch.
     /// The next packet of the trace.
-    InPacket(Boxed<Packet>),
+    InPacket(CapturedPacket),
     /// The next command of the operator.
     InCommand(Boxed<Command>),
     /// Further input waits until every earlier command is answered.

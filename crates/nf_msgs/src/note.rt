@@ -2,7 +2,7 @@ use crate::answer::Answer;
 use basics::Boxed;
 use nf_function::{Output, Units};
 
-/// What a step writes into the log.
+/// What a step writes into the log. Units stand behind a pointer, so that a note takes 24 bytes.
 ///
 /// `op` is the number of the operation, and `instance` that of the instance, from 0.
 #[derive(Debug, Drop)]
@@ -21,19 +21,19 @@ pub enum Note {
     Exported {
         instance: u8,
         op: u32,
-        units: Units,
+        units: Boxed<Units>,
     },
     /// The instance took the records of these units as live.
     Imported {
         instance: u8,
         op: u32,
-        units: Units,
+        units: Boxed<Units>,
     },
     /// The instance took the records of these units as standby, or as a share's.
     Kept {
         instance: u8,
         op: u32,
-        units: Units,
+        units: Boxed<Units>,
     },
     /// The switch changed its rules for the command with this number.
     Installed(u32),

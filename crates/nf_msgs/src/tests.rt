@@ -83,7 +83,7 @@ fn a_message_is_shown_by_its_kind_and_numbers(rt: HostRuntime) -> Result<(), Fai
 
 #[test]
 fn messages_and_notes_are_small(rt: HostRuntime) -> Result<(), Fail> {
-    assert_eq!(rt; size_of::<Msg>(), 32);
-    assert_eq!(rt; size_of::<Note>(), 32);
+    assert_eq!(rt; size_of::<Msg>(), 48);
+    assert_eq!(rt; size_of::<Note>(), 24);
     Ok(())
 }

@@ -1,6 +1,7 @@
 -- What a step of an instance notes as processed is answered as by one instance with its records; other nodes note none.
 use Rattle.std.proofs.Common.{◌≡◌, ℕ, Bool, true, false, Option, Some, None, List, [], ◌∷◌, append-nil, refl, sym, subst}
 use Rattle.std.specs.Prelude.{if◌then◌else◌, ◌&&◌, ◌||◌, ◌==◌, not, nat_lt, length, Result, Ok, Err}
+use Rattle.std.specs.List.{filter_map}
 use Rattle.std.specs.FinMap as finite
 use Rattle.flow_filter.specs.Flow.{flow_of}
 use Rattle.nf_function.specs.declared.chunk.Chunk.{Chunk}
@@ -31,7 +32,7 @@ use Rattle.switch_node.specs.Switch as switch
 use Rattle.switch_node.specs.Switch.{SwitchState}
 use Rattle.ctrl_node.specs.Controller as ctrl
 use Rattle.ctrl_node.specs.Controller.{ControllerState}
-use Rattle.ctrl_node.specs.Operations.{Turn, turn_of}
+use Rattle.ctrl_node.specs.Operations.{Turn, turn_of, share_of}
 use Rattle.nf_msgs.specs.declared.command.Command.{Command}
 use Rattle.nf_msgs.specs.declared.command.Order.{Order}
 use Rattle.nf_msgs.specs.declared.command.Order.TheVariants as order
@@ -172,10 +173,23 @@ between_none s op filter keep (Some from) (Some to) = refl
 between_none s op filter keep (Some from) None = refl
 between_none s op filter keep None to = refl
 
+copies_none : (s : ControllerState) (op : ℕ) (filter : Option Filter) (from to : Option ℕ) → done (ctrl.copies_between s op filter from to).notes ≡ []
+copies_none s op filter (Some from) (Some to) = refl
+copies_none s op filter (Some from) None = refl
+copies_none s op filter None to = refl
+
+shares_none : (s : ControllerState) (op : ℕ) (filter : Filter) (members : List ℕ) → done (ctrl.begins_share s op filter members).notes ≡ []
+shares_none s op filter [] = refl
+shares_none s op filter (home ∷ others) = refl
+
+diverted_none : (s : ControllerState) (cell : FullCell) (o : Option ℕ) → done (ctrl.queued s cell o).notes ≡ []
+diverted_none s cell None = refl
+diverted_none s cell (Some op) = refl
+
 begins_none : (s : ControllerState) (op : ℕ) (what : Order) → done (ctrl.begins s op what).notes ≡ []
 begins_none s op (order.Move source destination filter keep) = between_none s op filter keep (ctrl.place_of s.names source) (ctrl.place_of s.names destination)
-begins_none s op (order.Copy source destination filter) = refl
-begins_none s op (order.Share members filter) = refl
+begins_none s op (order.Copy source destination filter) = copies_none s op filter (ctrl.place_of s.names source) (ctrl.place_of s.names destination)
+begins_none s op (order.Share members filter) = shares_none s op filter (filter_map (ctrl.place_of s.names) members)
 
 decided_none : (s : ControllerState) (op : ℕ) (what : Order) (o : Option Answer) → done (ctrl.decided s op what o).notes ≡ []
 decided_none s op what (Some a) = refl
@@ -186,6 +200,7 @@ asked_none s k = if_none (finite.contains_key s.operations k.op) _ (ctrl.decided
 
 pub controller_none : (s : ControllerState) (port : ℕ) (m : Msg) → done (ctrl.controller_step s port m).notes ≡ []
 controller_none s port (msg.Asked k) = if_none (port == switch_node) (ctrl.on_asked s k) _ (asked_none s k) refl
+controller_none s port (msg.Diverted cell) = if_none (port == switch_node) (ctrl.on_diverted s cell) _ (diverted_none s cell (share_of s.operations (flow_of s.site cell.packet).0)) refl
 controller_none s port msg.End = if_none (port == switch_node) _ (ctrl.still s) refl refl
 controller_none s port (msg.Event op cell) = event_none s port op cell (ctrl.instance_at s port)
 controller_none s port msg.Final = final_none s (ctrl.instance_at s port)

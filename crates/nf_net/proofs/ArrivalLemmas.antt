@@ -112,7 +112,7 @@ module _ (F : Type 0) {R : Type 0} (f : Semantics R) (laws : FunctionLaws f) (al
     pub joined : Joined f g n w
     pub in_turn : arrived w.log ++ numbers (waiting w (at 0 0)) ≡ numbers items
 
-  next_in_run : (w : Network (Node F R) Msg Note) (ch : Choice) → Taking node_ready (node_step f) n w ch → InRun w → InRun (taken (node_step f) w ch)
+  pub next_in_run : (w : Network (Node F R) Msg Note) (ch : Choice) → Taking node_ready (node_step f) n w ch → InRun w → InRun (taken (node_step f) w ch)
   next_in_run w ch t h =
       let j = h.joined in
       let same : t.node ≡ node_of j.nodes ch.node = sym (t.takes.node_is t.node) ∙ j.nodes_are ch.node t.takes.receiver t.node in
@@ -124,7 +124,7 @@ module _ (F : Type 0) {R : Type 0} (f : Semantics R) (laws : FunctionLaws f) (al
   abbrev start : Network (Node F R) Msg Note
   start = started alloc c items
 
-  start_in_run : InRun start
+  pub start_in_run : InRun start
   start_in_run =
       let few = few_nodes {F = F} {R = R} alloc c (first_nodes alloc c) is.is_config refl in
       record {

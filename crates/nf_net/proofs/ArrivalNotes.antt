@@ -1,6 +1,7 @@
 -- Only the switch notes that packets arrived: one note for each packet of the input that it takes.
 use Rattle.std.proofs.Common.{◌≡◌, ℕ, ◌-◌, Bool, true, false, Option, Some, None, List, [], ◌∷◌, ◌++◌, length, refl, ap, ◌∙◌}
 use Rattle.std.specs.Prelude.{if◌then◌else◌, ◌&&◌, ◌||◌, ◌==◌, not, nat_lt, Result, Ok, Err}
+use Rattle.std.specs.List.{filter_map}
 use Rattle.std.specs.FinMap as finite
 use Rattle.flow_filter.specs.declared.filter.Filter.{Filter}
 use Rattle.flow_filter.specs.Flow.{flow_of}
@@ -29,7 +30,7 @@ use Rattle.switch_rules.specs.declared.target.Target.TheVariants as target
 use Rattle.switch_rules.specs.Rules.{redirected}
 use Rattle.switch_node.specs.Switch as switch
 use Rattle.switch_node.specs.Switch.{SwitchState, switch_step, is_there}
-use Rattle.ctrl_node.specs.Operations.{Turn, turn_of}
+use Rattle.ctrl_node.specs.Operations.{Turn, turn_of, share_of}
 use Rattle.ctrl_node.specs.Controller as controller
 use Rattle.ctrl_node.specs.Controller.{ControllerState, controller_step, instance_at, place_of}
 use Rattle.instance_worker.specs.declared.instance.Instance.{Instance as InstanceState}
@@ -69,7 +70,21 @@ module _ (s : ControllerState) where
       by_places (Some i) (Some j) = refl
       by_places None b = refl
       by_places (Some i) None = refl
-  begins_none op o = refl
+  begins_none op (order.Copy source destination filter) = by_places (place_of s.names source) (place_of s.names destination)
+    where
+      by_places : (a b : Option ℕ) → arrived (controller.copies_between s op filter a b).notes ≡ []
+      by_places (Some i) (Some j) = refl
+      by_places None b = refl
+      by_places (Some i) None = refl
+  begins_none op (order.Share members filter) = by_members (filter_map (place_of s.names) members)
+    where
+      by_members : (ms : List ℕ) → arrived (controller.begins_share s op filter ms).notes ≡ []
+      by_members [] = refl
+      by_members (home ∷ others) = refl
+
+  diverted_none : (cell : FullCell) (o : Option ℕ) → arrived (controller.queued s cell o).notes ≡ []
+  diverted_none cell None = refl
+  diverted_none cell (Some op) = refl
 
   decided_none : (op : ℕ) (o : Order) (r : Option Answer) → arrived (controller.decided s op o r).notes ≡ []
   decided_none op o None = begins_none op o
@@ -94,6 +109,7 @@ module _ (s : ControllerState) where
 
   row_none : (p : ℕ) (m : Msg) → arrived (controller.row s p m).notes ≡ []
   row_none p (msg.Asked c) = elim (p == 0) as (λ b. arrived (if b then controller.on_asked s c else controller.still s).notes ≡ []) [ true ↦ asked_none c | false ↦ refl ]
+  row_none p (msg.Diverted cell) = elim (p == 0) as (λ b. arrived (if b then controller.on_diverted s cell else controller.still s).notes ≡ []) [ true ↦ diverted_none cell (share_of s.operations (flow_of s.site cell.packet).0) | false ↦ refl ]
   row_none p msg.End = elim (p == 0) as (λ b. arrived (if b then controller.still (record s { end_came = true }) else controller.still s).notes ≡ []) [ true ↦ refl | false ↦ refl ]
   row_none p (msg.Event op cell) = event_none p op cell (instance_at s p)
   row_none p msg.Final = final_none (instance_at s p)

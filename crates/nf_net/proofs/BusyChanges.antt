@@ -1,44 +1,23 @@
 -- How open operations and the log go on together: an operation takes a message, is answered, is refused, or begins.
-use Rattle.std.proofs.Common.{◌≡◌, ℕ, suc, ◌<◌, ◌≤◌, Bool, true, false, cond, Option, Some, None, List, [], ◌∷◌, ◌++◌, refl, sym, ap, ◌∙◌, subst, arith}
-use Rattle.std.specs.Prelude.{◌&&◌, ◌||◌, ◌==◌, not, is_some, nat_lt}
-use Rattle.std.specs.Ordering.{nat_cmp, eq_by_cmp}
-use Rattle.std.specs.Cmp.{nat_cmp_total}
+use Rattle.std.proofs.Common.{◌≡◌, ℕ, suc, ◌<◌, ◌≤◌, Bool, true, false, cond, Some, None, List, [], ◌∷◌, ◌++◌, refl, sym, ap, ◌∙◌, subst, arith}
+use Rattle.std.specs.Prelude.{◌&&◌, ◌||◌, ◌==◌, not, is_some, nat_lt, unwrap_or}
 use Rattle.std.specs.FinMap as finite
 use Rattle.std.proofs.lemmas.Bool.Decides.{nat_tests, Decides-eqb, Decides-ltb}
 use Rattle.nf_msgs.specs.declared.answer.Answer.{Answer}
 use Rattle.nf_msgs.specs.declared.command.Order.{Order}
 use Rattle.nf_msgs.specs.declared.note.Note.{Note}
 use Rattle.nf_msgs.specs.declared.note.Note.TheVariants as note
-use Rattle.move_op.specs.Move.{MoveState}
 use Rattle.ctrl_node.specs.declared.operation.Operation.{Operation}
-use Rattle.ctrl_node.specs.declared.operation.Operation.TheVariants.{Move}
 use Rattle.ctrl_node.specs.Operations.{OpenOperations}
 use Rattle.nf_net.specs.Commands.{has_answered, began, is_busy, MayBegin, IsCause}
 use Rattle.nf_net.proofs.BusyLemmas.{AreOther, is_noted, is_outcome, IsAnswered, or_off, began_same, answered_same, busy_same, other_not_begun, other_not_answered, stays_answered, has_answered-append, answered_begun, answered_refused, begun_now}
 use Rattle.nf_net.proofs.LogLemmas.{has_begun-append}
-use Rattle.nf_net.proofs.BusyOperations.{HasOutcome, IsBusy}
-use Rattle.nf_net.proofs.Joined.{Given, IsPlan}
+use Rattle.nf_net.proofs.BusyOperations.{IsPlanned, HasAnswer, IsBusy}
+use Rattle.nf_net.proofs.OperationTables.{got_insert, got_remove}
+use Rattle.nf_net.proofs.Joined.{Given}
 
-abbrev move_in : MoveState → Option Operation → MoveState
-move_in d (Some (Move m)) = m
-move_in d None = d
-
-move_is : (a b : MoveState) → Some (Move a) ≡ Some (Move b) → a ≡ b
-move_is a b is = ap (move_in a) is
-
-order_test : (a b : ℕ) → eq_by_cmp nat_cmp a b ≡ (a == b)
-order_test a b = grind (arith, nat_tests)
-
-pub got_insert : (ops : OpenOperations) (op k : ℕ) (o : Operation) → finite.get (finite.insert ops op o) k ≡ cond (k == op) (Some o) (finite.get ops k)
-got_insert ops op k o = finite.get-insert nat_cmp_total ops op o k ∙ ap (λ b. cond b (Some o) (finite.get ops k)) (order_test k op)
-
-pub got_remove : (ops : OpenOperations) (op k : ℕ) → finite.get (finite.remove ops op) k ≡ cond (k == op) None (finite.get ops k)
-got_remove ops op k = finite.get-remove nat_cmp_total ops op k ∙ ap (λ b. cond b None (finite.get ops k)) (order_test k op)
-
--- two removals and writes at one number
-pub gone_twice : (b : Bool) (o p : Option Operation) → cond b None (cond b o p) ≡ cond b None p
-gone_twice true o p = refl
-gone_twice false o p = refl
+same_operation : (a b : Operation) → Some a ≡ Some b → a ≡ b
+same_operation a b is = ap (λ o. unwrap_or o a) is
 
 off_both : (a b : Bool) → a ≡ false → b ≡ false → a || b ≡ false
 off_both a b e h = rw (e, h) refl
@@ -108,7 +87,7 @@ module _ (g : Given) (ops : OpenOperations) (log : List Note) (waits : List ℕ)
         cc
   ] refl
 
-  module _ (op : ℕ) (m n : MoveState) (there : finite.get ops op ≡ Some (Move m)) (same : n.plan ≡ m.plan) where
+  module _ (op : ℕ) (m n : Operation) (there : finite.get ops op ≡ Some m) (planned : IsPlanned g op n) where
     is_on : is_busy op log ≡ true
     is_on = sym (h.busy op) ∙ ap is_some there
 
@@ -116,44 +95,41 @@ module _ (g : Given) (ops : OpenOperations) (log : List Note) (waits : List ℕ)
     at_own P k on own = subst P (sym ((Decides-eqb k op).0 on)) own
 
     -- it has taken a message
-    pub turned : HasOutcome n.phase → IsBusy g (finite.insert ops op (Move n)) log waits
+    pub turned : HasAnswer n → IsBusy g (finite.insert ops op n) log waits
     turned outcome = record {
-      busy = λ k. ap is_some (got_insert ops op k (Move n)) ∙ elim (k == op) as (λ b. (k == op) ≡ b → is_some (cond b (Some (Move n)) (finite.get ops k)) ≡ is_busy k log) [
+      busy = λ k. ap is_some (got_insert ops op k n) ∙ elim (k == op) as (λ b. (k == op) ≡ b → is_some (cond b (Some n) (finite.get ops k)) ≡ is_busy k log) [
         | true ↦ λ on. at_own (λ j. true ≡ is_busy j log) k on (sym is_on)
         | false ↦ λ off. h.busy k
       ] refl;
-      plan = λ k x is. elim (k == op) as (λ b. (k == op) ≡ b → cond b (Some (Move n)) (finite.get ops k) ≡ Some (Move x) → IsPlan g k x.plan) [
-        | true ↦ λ on e. at_own (λ j. IsPlan g j x.plan) k on (subst (λ y. IsPlan g op y.plan) (move_is n x e) (subst (λ p. IsPlan g op p) (sym same) (h.plan op m there)))
+      plan = λ k x is. elim (k == op) as (λ b. (k == op) ≡ b → cond b (Some n) (finite.get ops k) ≡ Some x → IsPlanned g k x) [
+        | true ↦ λ on e. at_own (λ j. IsPlanned g j x) k on (subst (IsPlanned g op) (same_operation n x e) planned)
         | false ↦ λ off e. h.plan k x e
-      ] refl (sym (got_insert ops op k (Move n)) ∙ is);
-      outcome = λ k x is. elim (k == op) as (λ b. cond b (Some (Move n)) (finite.get ops k) ≡ Some (Move x) → HasOutcome x.phase) [
-        | true ↦ λ e. subst (λ y. HasOutcome y.phase) (move_is n x e) outcome
+      ] refl (sym (got_insert ops op k n) ∙ is);
+      outcome = λ k x is. elim (k == op) as (λ b. cond b (Some n) (finite.get ops k) ≡ Some x → HasAnswer x) [
+        | true ↦ λ e. subst HasAnswer (same_operation n x e) outcome
         | false ↦ λ e. h.outcome k x e
-      ] (sym (got_insert ops op k (Move n)) ∙ is);
+      ] (sym (got_insert ops op k n) ∙ is);
       next = h.next;
       rising = h.rising;
       unnoted = h.unnoted;
       answered = h.answered;
     }
 
-    got_closed : (k : ℕ) → finite.get (finite.remove (finite.insert ops op (Move n)) op) k ≡ cond (k == op) None (finite.get ops k)
-    got_closed k = got_remove (finite.insert ops op (Move n)) op k ∙ ap (λ o. cond (k == op) None o) (got_insert ops op k (Move n)) ∙ gone_twice (k == op) (Some (Move n)) (finite.get ops k)
-
     -- it is answered and closed
-    pub closed : (a : Answer) → is_outcome a ≡ true → IsBusy g (finite.remove (finite.insert ops op (Move n)) op) (log ++ note.Answered op a ∷ []) waits
+    pub closed : (a : Answer) → is_outcome a ≡ true → IsBusy g (finite.remove ops op) (log ++ note.Answered op a ∷ []) waits
     closed a outcome = record {
-      busy = λ k. ap is_some (got_closed k) ∙ elim (k == op) as (λ b. (k == op) ≡ b → is_some (cond b None (finite.get ops k)) ≡ is_busy k (log ++ note.Answered op a ∷ [])) [
+      busy = λ k. ap is_some (got_remove ops op k) ∙ elim (k == op) as (λ b. (k == op) ≡ b → is_some (cond b None (finite.get ops k)) ≡ is_busy k (log ++ note.Answered op a ∷ [])) [
         | true ↦ λ on. at_own (λ j. false ≡ is_busy j (log ++ note.Answered op a ∷ [])) k on (sym (ended op log a))
         | false ↦ λ off. h.busy k ∙ sym (busy_same k log (note.Answered op a ∷ []) refl (apart_noted op k a off))
       ] refl;
-      plan = λ k x is. elim (k == op) as (λ b. cond b None (finite.get ops k) ≡ Some (Move x) → IsPlan g k x.plan) [
+      plan = λ k x is. elim (k == op) as (λ b. cond b None (finite.get ops k) ≡ Some x → IsPlanned g k x) [
         | true ↦ λ e. cc
         | false ↦ λ e. h.plan k x e
-      ] (sym (got_closed k) ∙ is);
-      outcome = λ k x is. elim (k == op) as (λ b. cond b None (finite.get ops k) ≡ Some (Move x) → HasOutcome x.phase) [
+      ] (sym (got_remove ops op k) ∙ is);
+      outcome = λ k x is. elim (k == op) as (λ b. cond b None (finite.get ops k) ≡ Some x → HasAnswer x) [
         | true ↦ λ e. cc
         | false ↦ λ e. h.outcome k x e
-      ] (sym (got_closed k) ∙ is);
+      ] (sym (got_remove ops op k) ∙ is);
       next = h.next;
       rising = h.rising;
       unnoted = λ k late. (let small = early op is_on in let off : (k == op) ≡ false = grind (arith, nat_tests) in not_noted k log (note.Answered op a ∷ []) (h.unnoted k late) refl (apart_noted op k a off));
@@ -206,20 +182,20 @@ module _ (g : Given) (ops : OpenOperations) (log : List Note) (op : ℕ) (waits 
   }
 
   -- it begins
-  pub begun : (what : Order) (n : MoveState) → g.orders op ≡ Some what → MayBegin g.names g.orders what log → IsPlan g op n.plan → HasOutcome n.phase → IsBusy g (finite.insert ops op (Move n)) (log ++ note.Begun op ∷ []) waits
+  pub begun : (what : Order) (n : Operation) → g.orders op ≡ Some what → MayBegin g.names g.orders what log → IsPlanned g op n → HasAnswer n → IsBusy g (finite.insert ops op n) (log ++ note.Begun op ∷ []) waits
   begun what n known may plan outcome = record {
-    busy = λ k. ap is_some (got_insert ops op k (Move n)) ∙ elim (k == op) as (λ b. (k == op) ≡ b → is_some (cond b (Some (Move n)) (finite.get ops k)) ≡ is_busy k (log ++ note.Begun op ∷ [])) [
+    busy = λ k. ap is_some (got_insert ops op k n) ∙ elim (k == op) as (λ b. (k == op) ≡ b → is_some (cond b (Some n) (finite.get ops k)) ≡ is_busy k (log ++ note.Begun op ∷ [])) [
       | true ↦ λ on. on_own (λ j. true ≡ is_busy j (log ++ note.Begun op ∷ [])) k on (sym (started op log still_new.1))
       | false ↦ λ off. h.busy k ∙ sym (busy_same k log (note.Begun op ∷ []) (apart_begun op k off) refl)
     ] refl;
-    plan = λ k x is. elim (k == op) as (λ b. (k == op) ≡ b → cond b (Some (Move n)) (finite.get ops k) ≡ Some (Move x) → IsPlan g k x.plan) [
-      | true ↦ λ on e. on_own (λ j. IsPlan g j x.plan) k on (subst (λ y. IsPlan g op y.plan) (move_is n x e) plan)
+    plan = λ k x is. elim (k == op) as (λ b. (k == op) ≡ b → cond b (Some n) (finite.get ops k) ≡ Some x → IsPlanned g k x) [
+      | true ↦ λ on e. on_own (λ j. IsPlanned g j x) k on (subst (IsPlanned g op) (same_operation n x e) plan)
       | false ↦ λ off e. h.plan k x e
-    ] refl (sym (got_insert ops op k (Move n)) ∙ is);
-    outcome = λ k x is. elim (k == op) as (λ b. cond b (Some (Move n)) (finite.get ops k) ≡ Some (Move x) → HasOutcome x.phase) [
-      | true ↦ λ e. subst (λ y. HasOutcome y.phase) (move_is n x e) outcome
+    ] refl (sym (got_insert ops op k n) ∙ is);
+    outcome = λ k x is. elim (k == op) as (λ b. cond b (Some n) (finite.get ops k) ≡ Some x → HasAnswer x) [
+      | true ↦ λ e. subst HasAnswer (same_operation n x e) outcome
       | false ↦ λ e. h.outcome k x e
-    ] (sym (got_insert ops op k (Move n)) ∙ is);
+    ] (sym (got_insert ops op k n) ∙ is);
     next = suc op;
     rising = h.rising.1;
     unnoted = λ k late. not_noted k log (note.Begun op ∷ []) (later_new k late) (apart_begun op k (later_off k late)) refl;

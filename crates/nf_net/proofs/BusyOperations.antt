@@ -15,15 +15,15 @@ use Rattle.nf_msgs.specs.declared.note.Note.{Note}
 use Rattle.move_op.specs.declared.door.Door.TheVariants as door
 use Rattle.move_op.specs.declared.phase.Phase.{Phase}
 use Rattle.move_op.specs.declared.phase.Phase.TheVariants as phase
-use Rattle.move_op.specs.Move.{MoveState}
+use Rattle.copy_share.specs.Copy as copy
 use Rattle.ctrl_node.specs.declared.operation.Operation.{Operation}
-use Rattle.ctrl_node.specs.declared.operation.Operation.TheVariants.{Move}
+use Rattle.ctrl_node.specs.declared.operation.Operation.TheVariants.{Move, Copy, Share}
 use Rattle.ctrl_node.specs.Operations.{OpenOperations, meets_operation, lowest_meeting}
 use Rattle.ctrl_node.specs.Controller.{ControllerState, filter_of, unknown_name, overlap, refusal}
 use Rattle.abstract_net.proofs.Waits.{Rising}
 use Rattle.nf_net.specs.Commands.{is_busy, busy_filter, unknown_in, MayBegin, IsCause}
 use Rattle.nf_net.proofs.BusyLemmas.{is_noted, is_outcome, IsAnswered}
-use Rattle.nf_net.proofs.Joined.{Given, IsPlan}
+use Rattle.nf_net.proofs.Joined.{Given, IsPlan, IsCopyPlan}
 
 -- The first entry that passes a test has the lowest number.
 -- what a number's operation is, by a test; none fails it
@@ -124,11 +124,21 @@ HasOutcome (phase.Undoing why) = is_outcome why ≡ true
 HasOutcome (phase.Over why) = is_outcome why ≡ true
 HasOutcome p = Unit {0}
 
+-- what is known of an open operation: it is that of its number's order, and no share is open
+abbrev pub IsPlanned : Given → ℕ → Operation → Type 0
+IsPlanned g op (Move m) = IsPlan g op m.plan
+IsPlanned g op (Copy y) = IsCopyPlan g op y.plan × (copy.answer_of y.phase ≡ None)
+IsPlanned g op (Share s) = ⊥
+
+abbrev pub HasAnswer : Operation → Type 0
+HasAnswer (Move m) = HasOutcome m.phase
+HasAnswer operation = Unit {0}
+
 -- a controller whose open operations are the commands under way, by the log, and the numbers of the commands that still wait
 pub record IsBusy (g : Given) (ops : OpenOperations) (log : List Note) (waits : List ℕ) : Type 0 where
   pub busy : (op : ℕ) → finite.contains_key ops op ≡ is_busy op log
-  pub plan : (op : ℕ) (m : MoveState) → finite.get ops op ≡ Some (Move m) → IsPlan g op m.plan
-  pub outcome : (op : ℕ) (m : MoveState) → finite.get ops op ≡ Some (Move m) → HasOutcome m.phase
+  pub plan : (op : ℕ) (o : Operation) → finite.get ops op ≡ Some o → IsPlanned g op o
+  pub outcome : (op : ℕ) (o : Operation) → finite.get ops op ≡ Some o → HasAnswer o
   pub next : ℕ
   pub rising : Rising next waits
   pub unnoted : (op : ℕ) → next ≤ op → is_noted op log ≡ false
@@ -142,8 +152,13 @@ module _ (g : Given) (ops : OpenOperations) (log : List Note) (waits : List ℕ)
       rw off refl
   filter_met filter op (Some (Move m)) is =
       let on : is_busy op log ≡ true = sym (h.busy op) ∙ ap is_some is in
-      let known = (h.plan op m is).order_is in
+      let known = (h.plan op (Move m) is).order_is in
       rw (on, known) refl
+  filter_met filter op (Some (Copy y)) is =
+      let on : is_busy op log ≡ true = sym (h.busy op) ∙ ap is_some is in
+      let known = (h.plan op (Copy y) is).0.order_is in
+      rw (on, known) refl
+  filter_met filter op (Some (Share s)) is = absurd (h.plan op (Share s) is)
 
   -- the test of the controller is that of the log
   test_same : (fo : Option Filter) (op : ℕ) → option_map_or (λ filter. passes (meets_operation filter) (finite.get ops op)) fo false ≡ option_map_or (λ filter. option_map_or (meets filter) (busy_filter g.names g.orders op log) false) fo false

@@ -164,4 +164,4 @@ module _ {F R : Type 0} (f : Semantics R) (g : Given) (n : ℕ) (count_is : n �
 
     -- the plan of an open move is that of its order
     pub plan_is : (op : ℕ) (m : MoveState) → finite.get j.nodes.controller.operations op ≡ Some (Move m) → IsPlan g op m.plan
-    plan_is op m there = (is_busy_one w j b).plan op m there
+    plan_is op m there = (is_busy_one w j b).plan op (Move m) there

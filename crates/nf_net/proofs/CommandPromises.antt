@@ -1,12 +1,14 @@
 -- What the log says of commands, of every run: each begins and is answered once at most, and what it was refused for, or may begin
 -- by, was true then.
-use Rattle.std.proofs.Common.{◌≡◌, ℕ, ◌+◌, true, false, None, List, [], ◌∷◌, ◌++◌, map, length, refl, sym, ap, ◌∙◌, subst, arith}
+use Rattle.std.proofs.Common.{◌≡◌, ℕ, ◌+◌, true, false, Option, Some, None, List, [], ◌∷◌, ◌++◌, map, length, refl, sym, ap, ◌∙◌, subst, arith}
 use Rattle.std.specs.Prelude.{is_some}
 use Rattle.std.specs.declared.alloc.Global.{Global}
 use Rattle.std.specs.Ordering.{nat_cmp}
 use Rattle.std.specs.FinMap as finite
+use Rattle.flow_filter.specs.declared.filter.Filter.{Filter}
 use Rattle.nf_function.specs.Records.{Laws as FunctionLaws}
 use Rattle.nf_function.specs.Semantics.{Semantics}
+use Rattle.nf_msgs.specs.declared.command.Order.TheVariants as order
 use Rattle.nf_msgs.specs.declared.msg.Msg.{Msg}
 use Rattle.nf_msgs.specs.declared.msg.Msg.TheVariants as msg
 use Rattle.nf_msgs.specs.declared.note.Note.{Note}
@@ -21,8 +23,8 @@ use Rattle.ctrl_node.specs.declared.operation.Operation.{Operation}
 use Rattle.ctrl_node.specs.Controller.{opened as opened_controller}
 use Rattle.nf_net.specs.declared.config.Config.{Config}
 use Rattle.nf_net.specs.declared.node.Node.{Node}
-use Rattle.nf_net.specs.Commands.{Answers}
-use Rattle.nf_net.specs.Input.{is_item, commands, IsInput}
+use Rattle.nf_net.specs.Commands.{Answers, times_installed}
+use Rattle.nf_net.specs.Input.{is_item, commands, order_of, IsInput}
 use Rattle.nf_net.specs.Nodes.{node_step, node_ready}
 use Rattle.nf_net.specs.Start.{first_nodes, started}
 use Rattle.nf_net.proofs.StateOutline.{all_each}
@@ -33,7 +35,8 @@ use Rattle.nf_net.proofs.Joined.{Given, Joined}
 use Rattle.nf_net.proofs.BusyOperations.{IsBusy}
 use Rattle.nf_net.proofs.BusyNodes.{numbers}
 use Rattle.nf_net.proofs.BusyRuns.{Busy, waits_of, busy_next}
-use Rattle.nf_net.proofs.InstallRuns.{run_installs, installed_once, refused_none_installed}
+use Rattle.nf_net.proofs.InstallRuns.{run_installs, installed_once, refused_none_installed, still_installed}
+use Rattle.nf_net.proofs.InstallSteps.{is_moving}
 use Rattle.nf_net.proofs.MoveSays.{Says}
 
 -- the commands of an input
@@ -110,3 +113,9 @@ module _ (F : Type 0) {R : Type 0} (f : Semantics R) (laws : FunctionLaws f) (al
         installed_once = λ op. installed_once f g (length c.names + 2) refl w busy.0 b h op;
         refused_is_not_installed = λ op what answer known is_answered other. refused_none_installed f g (length c.names + 2) refl w busy.0 b h op answer is_answered other;
       }
+
+  -- and the switch changes no rules for a copy
+  pub no_rules : (cs : List Choice) → IsRun node_ready (node_step f) cs first → (op : ℕ) (source destination : List ℕ) (filter : Option Filter) → order_of items op ≡ Some (order.Copy source destination filter) → times_installed op (run (node_step f) cs first).log ≡ 0
+  no_rules cs run_is op source destination filter known =
+      let busy = run_busy cs run_is in
+      still_installed f g (length c.names + 2) refl (run (node_step f) cs first) busy.0 busy.1 (run_installs F f laws alloc c items is cs run_is) op (ap is_moving known)

@@ -1,11 +1,12 @@
 -- In the world of a complete run each packet of the input was processed, and each unit that has a record has it at an instance.
-use Rattle.std.proofs.Common.{◌≡◌, ℕ, ◌+◌, ◌-◌, ◌<◌, ◌≤◌, true, false, Option, Some, None, List, [], ◌∷◌, ◌++◌, map, length, append-nil, refl, sym, ap, ◌∙◌, subst, arith}
+use Rattle.std.proofs.Common.{◌≡◌, ℕ, ◌+◌, ◌-◌, ◌<◌, ◌≤◌, Bool, true, false, Option, Some, None, List, [], ◌∷◌, ◌++◌, map, length, append-nil, refl, sym, ap, ◌∙◌, subst, arith}
 use Rattle.std.specs.Prelude.{if◌then◌else◌, ◌&&◌, ◌==◌, nat_lt, slice_get}
 use Rattle.std.specs.declared.alloc.Global.{Global}
 use Rattle.std.specs.List.{filter_map}
 use Rattle.std.specs.FinMap as finite
 use Rattle.std.proofs.lemmas.Bool.Decides.{nat_tests, Decides-ltb}
 use Rattle.std.proofs.lemmas.Option.{slice_get-get_or}
+use Rattle.flow_filter.specs.declared.filter.Filter.{Filter}
 use Rattle.flow_filter.specs.declared.packet.Packet.{Packet}
 use Rattle.flow_filter.specs.Flow.{flow_of}
 use Rattle.nf_function.specs.declared.unit.Unit as units
@@ -15,11 +16,12 @@ use Rattle.record_table.proofs.UnitOrder.{same_unit-true}
 use Rattle.event_store.specs.Store.{stored}
 use Rattle.nf_msgs.specs.declared.answer.Answer.TheVariants.{Done}
 use Rattle.nf_msgs.specs.declared.command.Order.{Order}
+use Rattle.nf_msgs.specs.declared.command.Order.TheVariants as order
 use Rattle.nf_msgs.specs.declared.msg.Msg.{Msg}
 use Rattle.nf_msgs.specs.declared.note.Note.{Note}
 use Rattle.nf_msgs.specs.Nodes.{instance_node}
 use Rattle.ctrl_node.specs.declared.operation.Operation.{Operation}
-use Rattle.ctrl_node.specs.declared.operation.Operation.TheVariants.{Move}
+use Rattle.ctrl_node.specs.declared.operation.Operation.TheVariants.{Move, Copy, Share}
 use Rattle.actor_net.specs.declared.choice.Choice.{Choice}
 use Rattle.actor_net.specs.Network.{Network, IsRun, is_done, run, waiting}
 use Rattle.actor_net.proofs.CompleteWorlds.{done_waiting}
@@ -42,12 +44,14 @@ use Rattle.nf_net.specs.Commands.{answers_of, times_installed}
 use Rattle.nf_net.specs.Log.{arrived, those}
 use Rattle.nf_net.specs.Places.{is_loose}
 use Rattle.nf_net.specs.Nodes.{node_step, node_ready, node_ended}
-use Rattle.nf_net.specs.Promises.{times, live_in, live_at, is_of, fold, came, went, Completed}
+use Rattle.nf_net.specs.Promises.{times, is_of, fold, came, went, Completed}
+use Rattle.nf_net.specs.Records.{live_in, live_at}
 use Rattle.nf_net.specs.Start.{started}
 use Rattle.nf_net.proofs.ArrivalLemmas.{numbers, runs_joined}
 use Rattle.nf_net.proofs.CommandPromises.{run_busy}
 use Rattle.nf_net.proofs.ControlOutline.{Sees}
 use Rattle.nf_net.proofs.InstallRuns.{run_installs, done_installed}
+use Rattle.nf_net.proofs.InstallSteps.{is_moving}
 use Rattle.nf_net.proofs.Outline.{is_sys}
 use Rattle.nf_net.proofs.Joined.{Given, GenuinePacket, S, shown, place, Joined}
 use Rattle.nf_net.proofs.RecordPromises.{instance_of}
@@ -73,7 +77,7 @@ module _ {R : Type 0} (f : Semantics R) (c : Config) (items : List Msg) (is : Is
   fold_is kept [] = refl
   fold_is kept (p ∷ ps) = let transport = (all_fit f c items is p).transport in rw transport (fold_is (Some (f.stepped c.site kept (packet_of items p)).kept) ps)
 
-  module _ {F : Type 0} (n : ℕ) (count : n ≡ length c.names + 2) (w : Network (Node F R) Msg Note) (nodes : length w.nodes ≡ n) (j : Joined f g n w) (in_turn : arrived w.log ++ numbers (waiting w (at 0 0)) ≡ numbers items) (done : is_done node_ended w ≡ true) (answered : ends_last items ≡ true → (op : ℕ) (what : Order) → order_of items op ≡ Some what → length (answers_of op w.log) ≡ 1) (installed : (op : ℕ) → answers_of op w.log ≡ Done ∷ [] → times_installed op w.log ≡ 1) where
+  module _ {F : Type 0} (n : ℕ) (count : n ≡ length c.names + 2) (w : Network (Node F R) Msg Note) (nodes : length w.nodes ≡ n) (j : Joined f g n w) (in_turn : arrived w.log ++ numbers (waiting w (at 0 0)) ≡ numbers items) (done : is_done node_ended w ≡ true) (answered : ends_last items ≡ true → (op : ℕ) (what : Order) → order_of items op ≡ Some what → length (answers_of op w.log) ≡ 1) (installed : (op : ℕ) (source destination : List ℕ) (filter : Filter) (keep : Bool) → order_of items op ≡ Some (order.Move source destination filter keep) → answers_of op w.log ≡ Done ∷ [] → times_installed op w.log ≡ 1) where
     all_came : arrived w.log ≡ numbers items
     all_came = sym (append-nil (arrived w.log)) ∙ ap (λ xs. arrived w.log ++ numbers xs) (sym (done_waiting node_ended w done (at 0 0))) ∙ in_turn
 
@@ -89,6 +93,8 @@ module _ {R : Type 0} (f : Semantics R) (c : Config) (items : List Msg) (is : Is
       where
         by_got : (o : Option Operation) → finite.get j.nodes.controller.operations k ≡ o → Sees f (place g) (Some e) o (stored j.nodes.controller.store k) → (e.op.src < n) × (e.op.dst < n)
         by_got None is h = absurd h
+        by_got (Some (Copy y)) is h = absurd h
+        by_got (Some (Share s)) is h = absurd h
         by_got (Some (Move m)) is h =
             let move = j.shown_is.controller.moves k m is in
             (subst (λ o. o.src < n) (sym h.op) (there m.plan.from move.from), subst (λ o. o.dst < n) (sym h.op) (there m.plan.to move.to))
@@ -167,4 +173,4 @@ module _ {F R : Type 0} (f : Semantics R) (laws : FunctionLaws f) (alloc : Globa
       let changes = run_installs F f laws alloc c items is cs ok in
       completed f c items is (length c.names + 2) refl (run (node_step f) cs start) world.1 h.joined h.in_turn done
       (λ last. each_answered F f laws alloc c items is last cs ok done)
-      (λ op is_done_so. done_installed f (given f c items is) (length c.names + 2) refl (run (node_step f) cs start) busy.0 busy.1 changes op done is_done_so)
+      (λ op source destination filter keep known is_done_so. done_installed f (given f c items is) (length c.names + 2) refl (run (node_step f) cs start) busy.0 busy.1 changes op (ap is_moving known) done is_done_so)

@@ -16,10 +16,10 @@ use Rattle.move_op.specs.declared.phase.Phase.{Phase}
 use Rattle.move_op.specs.declared.phase.Phase.TheVariants as phase
 use Rattle.move_op.specs.Move.{MoveState, row, row_in, store_after, answer_of}
 use Rattle.ctrl_node.specs.declared.operation.Operation.{Operation}
-use Rattle.ctrl_node.specs.declared.operation.Operation.TheVariants.{Move}
+use Rattle.ctrl_node.specs.declared.operation.Operation.TheVariants.{Move, Copy, Share}
 use Rattle.ctrl_node.specs.Operations.{OpenOperations, Turn, turn_of, moved}
 use Rattle.nf_msgs.specs.Nodes.{switch_node}
-use Rattle.ctrl_node.specs.Controller.{ControllerState, Step, after_turn, takes_turn, handed}
+use Rattle.ctrl_node.specs.Controller.{ControllerState, Step, after_turn, takes_turn}
 use Rattle.unit_machine.proofs.Real as real
 use Rattle.unit_machine.proofs.Real.{RPhase}
 use Rattle.abstract_net.proofs.Net.{Open, C_step, find_op, write_op, found, wrap}
@@ -40,7 +40,11 @@ module _ {R : Type 0} (f : Semantics R) (place : List ℕ → Option ℕ) where
   abbrev pub Sees : Option (Open R) → Option Operation → List FullCell → Type 0
   Sees None None events = Unit {0}
   Sees (Some e) (Some (Move m)) events = SeesMove e m events
-  Sees None (Some o) events = ⊥
+  Sees None (Some (Copy c)) events = Unit {0}
+  Sees None (Some (Move m)) events = ⊥
+  Sees None (Some (Share s)) events = ⊥
+  Sees (Some e) (Some (Copy c)) events = ⊥
+  Sees (Some e) (Some (Share s)) events = ⊥
   Sees (Some e) None events = ⊥
 
   -- the open operations by their numbers
@@ -133,7 +137,7 @@ module _ {R : Type 0} (f : Semantics R) (place : List ℕ → Option ℕ) where
   turn_sends s n t (Some why) = filter_map-put (outline_sent f place) t.sends ((switch_node, msg.Answered n) ∷ []) ∙ append-nil (outline_sends f place t.sends)
 
   -- A message of an open operation's number.
-  pub turn_same : (s : ControllerState) (ops : List (Open R)) (n port : ℕ) (m : Msg) (pm : real.Msg R) (e : Open R) (mv : MoveState) → Opens ops s → find_op ops n ≡ Some e → finite.get s.operations n ≡ Some (Move mv) → SeesMove e mv (stored s.store n) → mv.plan.op ≡ n → RowFollows f place mv.plan (stored s.store n) (row mv (stored s.store n) port m) (net.row_of (outline_plan mv.plan) (outline_phase f place mv.phase) (map number (stored s.store n)) port pm) → TurnFollows s (handed s n port m) (found ops n port pm (Some e))
+  pub turn_same : (s : ControllerState) (ops : List (Open R)) (n port : ℕ) (m : Msg) (pm : real.Msg R) (e : Open R) (mv : MoveState) → Opens ops s → find_op ops n ≡ Some e → finite.get s.operations n ≡ Some (Move mv) → SeesMove e mv (stored s.store n) → mv.plan.op ≡ n → RowFollows f place mv.plan (stored s.store n) (row mv (stored s.store n) port m) (net.row_of (outline_plan mv.plan) (outline_phase f place mv.phase) (map number (stored s.store n)) port pm) → TurnFollows s (takes_turn s n (turn_of (finite.get s.operations n) s.store port m)) (found ops n port pm (Some e))
   turn_same s ops n port m pm e mv h there has sees same follows =
       let events = stored s.store n in
       let real_row = row mv events port m in

@@ -18,34 +18,49 @@ use Rattle.nf_msgs.specs.declared.note.Note.{Note}
 use Rattle.nf_msgs.specs.declared.note.Note.TheVariants as note
 use Rattle.nf_msgs.specs.Shown.{op_of}
 use Rattle.event_store.specs.Store.{stored}
+use Rattle.copy_share.specs.declared.copy_phase.CopyPhase.TheVariants.{Keeping}
+use Rattle.copy_share.specs.Copy.{CopyPlan, CopyState}
+use Rattle.copy_share.specs.Copy as copy
 use Rattle.move_op.specs.Move.{MovePlan, MoveState, Row, row_in, begun, answer_of}
 use Rattle.ctrl_node.specs.declared.operation.Operation.{Operation}
-use Rattle.ctrl_node.specs.declared.operation.Operation.TheVariants.{Move}
+use Rattle.ctrl_node.specs.declared.operation.Operation.TheVariants.{Move, Copy, Share}
 use Rattle.ctrl_node.specs.Operations.{turn_of, moved}
 use Rattle.ctrl_node.specs.Controller as controller
-use Rattle.ctrl_node.specs.Controller.{ControllerState, Step, still, refusal, place_of, begins_between, begins, decided, on_asked, after_turn, takes_turn, handed, numbered, on_event, on_final, instance_at, may_finish, finish_of, finished, controller_step}
+use Rattle.ctrl_node.specs.Controller.{ControllerState, Step, still, refusal, place_of, begins_between, copies_between, begins, decided, on_asked, after_turn, takes_turn, handed, numbered, on_event, on_final, instance_at, may_finish, finish_of, finished, controller_step}
 use Rattle.actor_net.specs.Network.{reaches}
 use Rattle.actor_net.proofs.WeightLaws.{sent_weight}
 use Rattle.nf_net.proofs.AnswerSends.{answering, NoAnswer, none_weighs, row_quiet}
-use Rattle.nf_net.proofs.BusyChanges.{got_insert, got_remove, gone_twice}
+use Rattle.nf_net.proofs.ControllerCopies.{NotMove}
+use Rattle.nf_net.proofs.CopyTurns.{CopyTurn, Idle, Hands, Hands_all, Ends, hands, ends}
+use Rattle.nf_net.proofs.KnownOperations.{AreKnown, by_turn, copy_turns, NotSharing, not_sharing}
+use Rattle.nf_net.proofs.OperationTables.{got_insert, got_remove, gone_twice}
 use Rattle.nf_net.proofs.CreditCounts.{sent_weight-append}
 use Rattle.nf_net.proofs.InstallCounts.{passed, row_adds}
 use Rattle.nf_net.proofs.InstallRuns.{not_done}
 use Rattle.nf_net.proofs.InstallSteps.{over_is}
-use Rattle.nf_net.proofs.Joined.{Given, IsPlan, Label}
-use Rattle.nf_net.proofs.MoveOutline.{IsRefusing}
+use Rattle.nf_net.proofs.Joined.{Given, IsPlan, IsCopyPlan, Label}
 
 abbrev move_in : MoveState → Option Operation → MoveState
 move_in d (Some (Move m)) = m
-move_in d None = d
+move_in d o = d
 
 move_is : (a b : MoveState) → Some (Move a) ≡ Some (Move b) → a ≡ b
 move_is a b is = ap (move_in a) is
 
--- an operation that hasn't changed the rules, if it is open
+-- a move that hasn't changed the rules, or nothing open
 abbrev pub IsEarly : Option Operation → Type 0
 IsEarly None = Unit {0}
 IsEarly (Some (Move m)) = passed m.phase ≡ 0
+IsEarly (Some (Copy y)) = ⊥
+IsEarly (Some (Share s)) = ⊥
+
+-- where another operation stands
+pub other_there : (b : Bool) (p o : Option Operation) (x : MoveState) → NotMove p → cond b p o ≡ Some (Move x) → o ≡ Some (Move x)
+other_there true None o x h e = cc
+other_there true (Some (Copy y)) o x h e = cc
+other_there true (Some (Share s)) o x h e = cc
+other_there true (Some (Move m)) o x h e = absurd h
+other_there false p o x h e = e
 
 module _ (g : Given) (n : ℕ) (reach : reaches n 1 0 ≡ true) (c : ControllerState) where
   -- a move that hasn't changed the rules after the step
@@ -93,9 +108,30 @@ module _ (g : Given) (n : ℕ) (reach : reaches n 1 0 ≡ true) (c : ControllerS
   still_acts : Acts (still c)
   still_acts = quiet_acts c [] refl tt
 
-  module _ (moves : (op : ℕ) (m : MoveState) → finite.get c.operations op ≡ Some (Move m) → (m.plan.op ≡ op) × IsRefusing m.phase × IsPlan g op m.plan) where
+  module _ (are : AreKnown g c) where
+    -- a copy hands on what came, and ends
+    hands_acts : (op : ℕ) (y : CopyState) (m : Msg) → answering m ≡ 0 → Acts (hands c op y m)
+    hands_acts op y m quiet = record {
+      says = Neither refl (none_weighs n 1 (hands c op y m).sends (quiet, tt));
+      early = λ k x there zero. Was_open x (other_there (k == op) (Some (Copy (record y { phase = Keeping }))) (finite.get c.operations k) x tt (sym (got_insert c.operations op k (Copy (record y { phase = Keeping }))) ∙ there)) zero refl;
+    }
+
+    ends_acts : (op : ℕ) (y : CopyState) → finite.get c.operations op ≡ Some (Copy y) → Acts (ends c op)
+    ends_acts op y is = let plan : IsCopyPlan g op y.plan = (are.copies op y is).1 in record {
+      says = Answers op Done (order.Copy plan.source plan.destination y.plan.filter) refl (rw reach refl) plan.order_is (λ other. absurd (other refl));
+      early = λ k x there zero. Was_open x (other_there (k == op) None (finite.get c.operations k) x tt (sym (got_remove c.operations op k) ∙ there)) zero refl;
+    }
+
+    copy_acts : (op : ℕ) (y : CopyState) → finite.get c.operations op ≡ Some (Copy y) → (m : Msg) (did : Step) → CopyTurn c op y m did → Acts did
+    copy_acts op y is m did (Idle e) = subst Acts (sym e) still_acts
+    copy_acts op y is m did (Hands k chunks e d) = subst Acts (sym d) (hands_acts op y (msg.Standby y.plan.op chunks) refl)
+    copy_acts op y is m did (Hands_all k chunk e d) = subst Acts (sym d) (hands_acts op y (msg.PutAll y.plan.op chunk) refl)
+    copy_acts op y is m did (Ends d) = subst Acts (sym d) (ends_acts op y is)
+
     turn_acts : (op port : ℕ) (m : Msg) (o : Option Operation) → finite.get c.operations op ≡ o → Acts (takes_turn c op (turn_of o c.store port m))
     turn_acts op port m None is = quiet_acts c [] refl tt
+    turn_acts op port m (Some (Copy y)) is = copy_acts op y is m _ (copy_turns g c are op y is port m)
+    turn_acts op port m (Some (Share s)) is = absurd (are.no_shares op s is)
     turn_acts op port m (Some (Move mv)) is = by_answer (answer_of r.next.phase) refl
       where
         r : Row
@@ -109,7 +145,7 @@ module _ (g : Given) (n : ℕ) (reach : reaches n 1 0 ≡ true) (c : ControllerS
 
         -- a move that hasn't changed the rules hadn't before
         before : passed r.next.phase ≡ 0 → passed mv.phase ≡ 0
-        before zero = let sent = (row_adds n reach mv.plan (stored c.store mv.plan.op) mv.phase port m (moves op mv is).1).own in omega (arith, sent, zero)
+        before zero = let sent = (row_adds n reach mv.plan (stored c.store mv.plan.op) mv.phase port m (are.moves op mv is).1).own in omega (arith, sent, zero)
 
         by_answer : (a : Option Answer) → answer_of r.next.phase ≡ a → Acts (after_turn c op (moved mv c.store r) a)
         by_answer None e = record {
@@ -122,7 +158,7 @@ module _ (g : Given) (n : ℕ) (reach : reaches n 1 0 ≡ true) (c : ControllerS
             | false ↦ λ off other. Was_open y other zero refl
           ] refl (sym (got_insert c.operations op k (Move x)) ∙ there);
         }
-        by_answer (Some a) e = let plan : IsPlan g op mv.plan = (moves op mv is).2 in record {
+        by_answer (Some a) e = let plan : IsPlan g op mv.plan = (are.moves op mv is).2 in record {
           says = Answers op a (order.Move plan.source plan.destination mv.plan.filter mv.plan.keep) refl
               (let both = sent_weight-append answering n 1 r.next.sends ((0, msg.Answered op) ∷ []) in let none = none_weighs n 1 r.next.sends quiet in let one : sent_weight answering n 1 ((0, msg.Answered op) ∷ []) ≡ 1 = rw reach refl in omega (arith, both, none, one))
               plan.order_is
@@ -134,7 +170,7 @@ module _ (g : Given) (n : ℕ) (reach : reaches n 1 0 ≡ true) (c : ControllerS
         }
 
     handed_acts : (op port : ℕ) (m : Msg) → Acts (handed c op port m)
-    handed_acts op port m = turn_acts op port m (finite.get c.operations op) refl
+    handed_acts op port m = by_turn g c are Acts op port m (turn_acts op port m (finite.get c.operations op) refl)
 
     numbered_acts : (port : ℕ) (m : Msg) (o : Option ℕ) → Acts (numbered c port m o)
     numbered_acts port m None = still_acts
@@ -166,27 +202,42 @@ module _ (g : Given) (n : ℕ) (reach : reaches n 1 0 ≡ true) (c : ControllerS
       between_acts filter keep None b = still_acts
       between_acts filter keep (Some from) None = still_acts
 
-      begins_acts : (what : Order) → Acts (begins c op what)
-      begins_acts (order.Move source destination filter keep) = between_acts filter keep (place_of c.names source) (place_of c.names destination)
-      begins_acts (order.Copy source destination filter) = still_acts
-      begins_acts (order.Share members filter) = still_acts
+      copies_acts : (filter : Option Filter) (a b : Option ℕ) → Acts (copies_between c op filter a b)
+      copies_acts filter (Some from) (Some to) =
+          let plan : CopyPlan = record { op = op; from = from; to = to; filter = filter } in
+          record {
+            says = Begins op refl (none_weighs n 1 (copy.begin_sends plan) (asks_quiet filter, tt)) none;
+            early = λ k x there zero. Was_open x (other_there (k == op) (Some (Copy (copy.begun plan))) (finite.get c.operations k) x tt (sym (got_insert c.operations op k (Copy (copy.begun plan))) ∙ there)) zero refl;
+          }
+        where
+          asks_quiet : (o : Option Filter) → answering (copy.asks op o) ≡ 0
+          asks_quiet None = refl
+          asks_quiet (Some flt) = refl
+      copies_acts filter None b = still_acts
+      copies_acts filter (Some from) None = still_acts
 
-      decided_acts : (what : Order) → g.orders op ≡ Some what → (o : Option Answer) → Acts (decided c op what o)
-      decided_acts what known None = begins_acts what
-      decided_acts what known (Some a) = record {
+      begins_acts : (what : Order) → NotSharing what → Acts (begins c op what)
+      begins_acts (order.Move source destination filter keep) built = between_acts filter keep (place_of c.names source) (place_of c.names destination)
+      begins_acts (order.Copy source destination filter) built = copies_acts filter (place_of c.names source) (place_of c.names destination)
+      begins_acts (order.Share members filter) built = absurd built
+
+      decided_acts : (what : Order) → NotSharing what → g.orders op ≡ Some what → (o : Option Answer) → Acts (decided c op what o)
+      decided_acts what built known None = begins_acts what built
+      decided_acts what built known (Some a) = record {
         says = Answers op a what refl (rw reach refl) known (λ other. subst IsEarly (sym none) tt);
         early = λ k y there zero. Was_open y there zero refl;
       }
 
-    asked_acts : (op : ℕ) (what : Order) → g.orders op ≡ Some what → Acts (on_asked c (record { op = op; what = what }))
-    asked_acts op what known = by_got (finite.get c.operations op) refl
+    asked_acts : (op : ℕ) (what : Order) → NotSharing what → g.orders op ≡ Some what → Acts (on_asked c (record { op = op; what = what }))
+    asked_acts op what built known = by_got (finite.get c.operations op) refl
       where
         by_got : (o : Option Operation) → finite.get c.operations op ≡ o → Acts (if is_some o then still c else decided c op what (refusal c what))
-        by_got None is = decided_acts op is what known (refusal c what)
+        by_got None is = decided_acts op is what built known (refusal c what)
         by_got (Some x) is = still_acts
 
     row_acts : {R : Type 0} (f : Semantics R) (port : ℕ) (m : Msg) → Label f g port 1 m → Acts (controller.row c port m)
-    row_acts f port (msg.Asked a) label = elim (port == 0) as (λ b. Acts (if b then on_asked c a else still c)) [ true ↦ asked_acts a.op a.what label.2.known | false ↦ still_acts ]
+    row_acts f port (msg.Asked a) label = elim (port == 0) as (λ b. Acts (if b then on_asked c a else still c)) [ true ↦ asked_acts a.op a.what (not_sharing f g a.what label.2.built) label.2.known | false ↦ still_acts ]
+    row_acts f port (msg.Diverted cell) label = absurd label
     row_acts f port msg.End label = elim (port == 0) as (λ b. Acts (if b then still (record c { end_came = true }) else still c)) [ true ↦ quiet_acts _ [] refl tt | false ↦ still_acts ]
     row_acts f port (msg.Event op cell) label = event_acts port op cell (instance_at c port)
     row_acts f port msg.Final label = final_acts (instance_at c port)

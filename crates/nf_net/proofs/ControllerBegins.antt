@@ -1,4 +1,4 @@
--- The controller's step on a command: it is refused, or its move begins.
+-- The controller's step on a command: it is refused, or its move or copy begins.
 use Rattle.std.proofs.Common.{◌≡◌, ◌≢◌, ℕ, suc, ◌≤◌, Bool, true, false, cond, Option, Some, None, List, [], ◌∷◌, ◌++◌, map, length, get_or, refl, sym, ap, ◌∙◌, subst, append-nil, arith, eqb}
 use Rattle.std.specs.Prelude.{if◌then◌else◌, ◌&&◌, ◌==◌, not, nat_lt, find, is_some, option_map}
 use Rattle.std.specs.Option.{option_or}
@@ -21,9 +21,11 @@ use Rattle.nf_msgs.specs.declared.msg.Msg.TheVariants as msg
 use Rattle.nf_msgs.specs.Nodes.{switch_node, instance_node}
 use Rattle.move_op.specs.Move.{MovePlan, MoveState, answer_of, begun}
 use Rattle.ctrl_node.specs.declared.operation.Operation.{Operation}
-use Rattle.ctrl_node.specs.declared.operation.Operation.TheVariants.{Move}
+use Rattle.copy_share.specs.Copy.{CopyPlan}
+use Rattle.copy_share.specs.Copy as copy
+use Rattle.ctrl_node.specs.declared.operation.Operation.TheVariants.{Move, Copy}
 use Rattle.ctrl_node.specs.Operations.{lowest_meeting, meets_operation}
-use Rattle.ctrl_node.specs.Controller.{ControllerState, Step, still, refusal, unknown_name, overlap, answers, begins_move, begins_between, begins, decided, on_asked, place_of}
+use Rattle.ctrl_node.specs.Controller.{ControllerState, Step, still, refusal, unknown_name, overlap, answers, begins_move, begins_between, begins_copy, copies_between, begins, decided, on_asked, place_of}
 use Rattle.unit_machine.proofs.Real.{sent_for}
 use Rattle.unit_machine.proofs.Labels.{Each, each-append}
 use Rattle.abstract_net.proofs.Net as net
@@ -34,9 +36,12 @@ use Rattle.abstract_net.proofs.Every.{ctrl_every, begin_every}
 use Rattle.nf_net.proofs.FiltersApart.{and_l, and_r, is_whole}
 use Rattle.nf_net.proofs.Outline.{number, want_at, want_of, outline_sends, is_sys}
 use Rattle.nf_net.proofs.ControlOutline.{Sees, SeesMove, Opens, got_insert}
-use Rattle.nf_net.proofs.ControllerScenes.{RowLeads, links_by, waits, stays}
+use Rattle.nf_net.proofs.ControllerScenes.{RowLeads, links_by, waits, stays, unseen}
+use Rattle.nf_net.proofs.ControllerCopies.{NotMove, changed}
+use Rattle.nf_net.proofs.OperationTables.{got_insert as got_insert_at}
 use Rattle.nf_net.proofs.ControllerTurns.{none_open}
-use Rattle.nf_net.proofs.Joined.{Given, Scene, AreShown, IsTaken, IsController, IsListed, IsMove, S, place, shown, is_move, commands}
+use Rattle.nf_net.proofs.ControllerRows.{copy_kept, share_kept}
+use Rattle.nf_net.proofs.Joined.{Given, Scene, AreShown, IsTaken, IsController, IsListed, IsMove, IsCopy, Label, S, place, shown, is_whole_if, is_built, commands}
 
 -- a name has one place, and two names have two
 place_below : (names : List (List ℕ)) (name : List ℕ) (i : ℕ) → place_of names name ≡ Some i → nat_lt i (length names) ≡ true
@@ -159,9 +164,12 @@ module _ {R : Type 0} (f : Semantics R) (g : Given) where
       names = is.names;
       opens = opens_begun out;
       moves = moves_begun;
+      copies = λ k y e. is.copies k y (copy_kept (eqb k plan.op) (begun plan) (finite.get c.operations k) y (sym (get_begun k) ∙ e)).1;
+      no_shares = λ k s e. is.no_shares k s (share_kept (eqb k plan.op) (begun plan) (finite.get c.operations k) s (sym (get_begun k) ∙ e));
       listed = each-append (IsListed f g begun_at) ops (new ∷ []) (listed_old ops is.listed) (record { move = begun plan; there = get_begun plan.op ∙ ap (λ b. cond b (Some (Move (begun plan))) (finite.get c.operations plan.op)) self; filter = refl }, tt);
       nothing = λ k least. is.nothing k (omega (arith, fresh, least));
       emptied = λ k gone. emptied_begun k (sym (get_begun k) ∙ gone);
+      unstored = λ k y e. is.unstored k y (copy_kept (eqb k plan.op) (begun plan) (finite.get c.operations k) y (sym (get_begun k) ∙ e)).1;
       going = λ k mv e. going_begun k mv (sym (get_begun k) ∙ e);
       genuine = is.genuine;
     }
@@ -200,7 +208,7 @@ module _ {F R : Type 0} (f : Semantics R) (g : Given) (n : ℕ) (x : Scene F f g
     to_at = ap (λ names. place_of names dst) (sym are.controller.names) ∙ to_is
 
     is_moved : is_whole f.kind filter && not (bytes_eq src dst) ≡ true
-    is_moved = ap (is_move f g) (sym what) ∙ is.label.2.moves
+    is_moved = ap (is_built f g) (sym what) ∙ is.label.2.built
 
     differ : from ≢ to
     differ = places_apart g.names src dst from to from_at to_at (and_r (is_whole f.kind filter) _ is_moved)
@@ -259,10 +267,57 @@ module _ {F R : Type 0} (f : Semantics R) (g : Given) (n : ℕ) (x : Scene F f g
             let on : (0 == p) && (1 == 1) ≡ true = grind (arith, nat_tests, port) in
             append-nil (links_after x.world.link p 1 [] 0 1) ∙ append-nil (behind ((0 == p) && (1 == 1)) (x.world.link 0 1)) ∙ ap (λ b. behind b (x.world.link 0 1)) on ∙ ap (behind true) comes
 
+  -- a copy begins
+  module _ (src dst : List ℕ) (filter : Option Filter) (from to : ℕ) (what : cmd.what ≡ order.Copy src dst filter) (none : finite.get c.operations cmd.op ≡ None) (from_is : place_of c.names src ≡ Some from) (to_is : place_of c.names dst ≡ Some to) where
+    abbrev copy_plan : CopyPlan
+    copy_plan = record { op = cmd.op; from = from; to = to; filter = filter }
+
+    source_at : place g src ≡ Some from
+    source_at = ap (λ names. place_of names src) (sym are.controller.names) ∙ from_is
+
+    destination_at : place g dst ≡ Some to
+    destination_at = ap (λ names. place_of names dst) (sym are.controller.names) ∙ to_is
+
+    is_copied : is_whole_if f g filter && not (bytes_eq src dst) ≡ true
+    is_copied = ap (is_built f g) (sym what) ∙ is.label.2.built
+
+    hidden : shown f g (msg.Asked cmd) ≡ None
+    hidden = ap (λ o. option_map net.Asked (want_of (place g) cmd.op o)) what
+
+    copy_is : IsCopy f g cmd.op (copy.begun copy_plan)
+    copy_is = record {
+      op_is = refl;
+      from = place_below g.names src from source_at;
+      to = place_below g.names dst to destination_at;
+      other = places_apart g.names src dst from to source_at destination_at (and_r (is_whole_if f g filter) _ is_copied);
+      whole = and_l (is_whole_if f g filter) _ is_copied;
+      plan = record { source = src; destination = dst; order_is = is.label.2.known ∙ ap Some what; from_is = source_at; to_is = destination_at };
+      going = refl;
+    }
+
+    asks_hidden : (o : Option Filter) → outline_sends f (place g) ((instance_node from, copy.asks cmd.op o) ∷ []) ≡ []
+    asks_hidden None = refl
+    asks_hidden (Some flt) = refl
+
+    asks_label : (o : Option Filter) → is_whole_if f g o ≡ true → Label f g 1 (instance_node from) (copy.asks cmd.op o)
+    asks_label None whole = (refl, omega arith)
+    asks_label (Some flt) whole = ((refl, omega arith), whole)
+
+    pub copy_begins : Leads_to (begins_copy c copy_plan)
+    copy_begins = unseen f g n x p (msg.Asked cmd) are is (begins_copy c copy_plan) hidden
+        (changed f g c (begins_copy c copy_plan).node x.world.ops x.world.next cmd.op (Some (Copy (copy.begun copy_plan))) are.controller (subst NotMove (sym none) tt) (are.controller.emptied cmd.op none)
+        (record { names = refl; store = refl; got = λ k. got_insert_at c.operations cmd.op k (Copy (copy.begun copy_plan)) }) copy_is)
+        (asks_hidden filter) (asks_label filter copy_is.whole, tt) (record { arrived_is = refl; done_is = refl; installed_is = refl })
+
   -- a command that isn't refused
   begins_row : (what : Order) → cmd.what ≡ what → finite.get c.operations cmd.op ≡ None → refusal c what ≡ None → Leads_to (begins c cmd.op what)
-  begins_row (order.Copy src dst filter) e none fine = stays_still
-  begins_row (order.Share members filter) e none fine = stays_still
+  begins_row (order.Share members filter) e none fine = let never : false ≡ true = ap (is_built f g) (sym e) ∙ is.label.2.built in cc
+  begins_row (order.Copy src dst filter) e none fine = by_places (place_of c.names src) (place_of c.names dst) refl refl
+    where
+      by_places : (a b : Option ℕ) → place_of c.names src ≡ a → place_of c.names dst ≡ b → Leads_to (copies_between c cmd.op filter a b)
+      by_places (Some from) (Some to) from_is to_is = copy_begins src dst filter from to e none from_is to_is
+      by_places (Some from) None from_is to_is = stays_still
+      by_places None b from_is to_is = stays_still
   begins_row (order.Move src dst filter keep) e none fine = by_places (place_of c.names src) (place_of c.names dst) refl refl
     where
       by_places : (a b : Option ℕ) → place_of c.names src ≡ a → place_of c.names dst ≡ b → Leads_to (begins_between c cmd.op filter keep a b)

@@ -70,9 +70,12 @@ module _ {R : Type 0} (f : Semantics R) (g : Given) where
     names = names ∙ is.names;
     opens = λ k. subst (λ o. Sees f (place g) (find_op ops k) (finite.get o k) (stored d.store k)) (sym operations) (subst (λ o. Sees f (place g) (find_op ops k) (finite.get c.operations k) (stored o k)) (sym store) (is.opens k));
     moves = λ k mv e. is.moves k mv (sym (ap (λ o. finite.get o k) operations) ∙ e);
+    copies = λ k y e. is.copies k y (sym (ap (λ o. finite.get o k) operations) ∙ e);
+    no_shares = λ k s e. is.no_shares k s (sym (ap (λ o. finite.get o k) operations) ∙ e);
     listed = listed_same c d ops operations is.listed;
     nothing = λ k least. ap (λ o. stored o k) store ∙ is.nothing k least;
     emptied = λ k none. ap (λ o. stored o k) store ∙ is.emptied k (sym (ap (λ o. finite.get o k) operations) ∙ none);
+    unstored = λ k y e. ap (λ o. stored o k) store ∙ is.unstored k y (sym (ap (λ o. finite.get o k) operations) ∙ e);
     going = λ k mv e. is.going k mv (sym (ap (λ o. finite.get o k) operations) ∙ e);
     genuine = λ k. subst (λ o. Each (Genuine f g) (stored o k)) (sym store) (is.genuine k);
   }
@@ -158,6 +161,20 @@ module _ {F R : Type 0} (f : Semantics R) (g : Given) where
     unseen_links : (i j : ℕ) → x.world.link i j ++ (if i == 1 then [] else []) ≡ x.world.link i j
     unseen_links i j = elim (i == 1) as (λ b. x.world.link i j ++ (if b then [] else []) ≡ x.world.link i j) [ true ↦ append-nil (x.world.link i j) | false ↦ append-nil (x.world.link i j) ]
 
+    -- a message that isn't shown, and a row that changes no move
+    pub unseen : (did : Step) → shown f g m ≡ None → IsController f g did.node x.world.ops x.world.next → outline_sends f (place g) did.sends ≡ [] → EachSent (Label f g) 1 did.sends → AreQuiet did.notes → RowLeads x p m did
+    unseen did seen controller sends labels quiet = record {
+      ops = x.world.ops;
+      next = x.world.next;
+      link = x.world.link;
+      links = λ i j. sym (unseen_links i j) ∙ ap (λ xs. x.world.link i j ++ (if i == 1 then sent_for j xs else [])) (sym sends) ∙ sym (ap (λ o. links_by f g o x.world.link p (outline_sends f (place g) did.sends) i j) seen);
+      labels = labels;
+      controller = controller;
+      quiet = quiet;
+      every = are.every;
+      rising = are.rising;
+    }
+
     -- a row that changes nothing that an operation looks at
     pub stays : (did : Step) → did.node.names ≡ x.nodes.controller.names → did.node.operations ≡ x.nodes.controller.operations → did.node.store ≡ x.nodes.controller.store → outline_sends f (place g) did.sends ≡ [] → EachSent (Label f g) 1 did.sends → AreQuiet did.notes → ((a : net.Msg R) → shown f g m ≡ Some a → ctrl_step x.world.ops p a ≡ record { ops = x.world.ops; sends = [] }) → RowLeads x p m did
     stays did names operations store sends labels quiet idle = by_shown (shown f g m) refl
@@ -167,14 +184,4 @@ module _ {F R : Type 0} (f : Semantics R) (g : Given) where
 
         by_shown : (o : Option (net.Msg R)) → shown f g m ≡ o → RowLeads x p m did
         by_shown (Some a) seen = taken did a (record { ops = x.world.ops; sends = [] }) seen (idle a seen) same sends labels quiet
-        by_shown None seen = record {
-          ops = x.world.ops;
-          next = x.world.next;
-          link = x.world.link;
-          links = λ i j. sym (unseen_links i j) ∙ ap (λ xs. x.world.link i j ++ (if i == 1 then sent_for j xs else [])) (sym sends) ∙ sym (ap (λ o. links_by f g o x.world.link p (outline_sends f (place g) did.sends) i j) seen);
-          labels = labels;
-          controller = same;
-          quiet = quiet;
-          every = are.every;
-          rising = are.rising;
-        }
+        by_shown None seen = unseen did seen same sends labels quiet

@@ -13,8 +13,10 @@ use Rattle.nf_net.specs.Nodes.{node_step}
 use Rattle.nf_net.proofs.Outline.{outline_piece}
 use Rattle.nf_net.proofs.MoveOutline.{IsChunk, enabled_row, piece_row, deleted_row, put_ok_row, restored_row, fenced_row}
 use Rattle.nf_net.proofs.ControllerScenes.{RowLeads, lead, stays}
-use Rattle.nf_net.proofs.ControllerTurns.{each_same, numbered_leads, put_no_leads, event_leads}
+use Rattle.nf_net.proofs.ControllerRows.{each_same}
+use Rattle.nf_net.proofs.ControllerTurns.{numbered_leads, put_no_leads, event_leads}
 use Rattle.nf_net.proofs.ControllerBegins.{asked_leads}
+use Rattle.nf_net.proofs.ControllerCopies.{copied_leads}
 use Rattle.nf_net.proofs.Joined.{Given, Scene, AreShown, IsTaken, Leads, IsGoodChunk, place, node_of}
 
 not_two : {X : Type 0} → 2 ≤ 1 → X
@@ -46,12 +48,12 @@ module _ {F R : Type 0} (f : Semantics R) (g : Given) (n : ℕ) (x : Scene F f g
   row_leads msg.Final is = final_leads is (instance_at c p)
   row_leads (msg.Event op cell) is = event_leads f g n x p op cell are is
   row_leads (msg.PutNo op refused) is = put_no_leads f g n x p op refused are is
-  row_leads (msg.Enabled op) is = numbered_leads f g n x p (msg.Enabled op) are is op (real.M_enabled op) refl refl refl (λ mv h. enabled_row f (place g) mv.plan mv.phase (stored c.store op) p op)
-  row_leads (msg.Piece op piece) is = numbered_leads f g n x p (msg.Piece op piece) are is op (real.M_piece op (outline_piece f piece)) refl refl refl (λ mv h. piece_row f (place g) mv.plan mv.phase (stored c.store op) p op piece (each_same (IsGoodChunk f g) (IsChunk f (place g)) (λ y k. k.chunk) piece.chunks is.label.1.good.each))
-  row_leads (msg.Deleted op) is = numbered_leads f g n x p (msg.Deleted op) are is op (real.M_deleted op) refl refl refl (λ mv h. deleted_row f (place g) mv.plan mv.phase (stored c.store op) p op)
-  row_leads (msg.PutOk op) is = numbered_leads f g n x p (msg.PutOk op) are is op (real.M_put_ok op) refl refl refl (λ mv h. put_ok_row f (place g) mv.plan mv.phase (stored c.store op) p op)
-  row_leads (msg.Restored op) is = numbered_leads f g n x p (msg.Restored op) are is op (real.M_restored op) refl refl refl (λ mv h. restored_row f (place g) mv.plan mv.phase (stored c.store op) p op)
-  row_leads (msg.Fenced op) is = numbered_leads f g n x p (msg.Fenced op) are is op (real.M_fenced op) refl refl refl (λ mv h. fenced_row f (place g) mv.plan mv.phase (stored c.store op) p op h.refusing)
+  row_leads (msg.Enabled op) is = numbered_leads f g n x p (msg.Enabled op) are is op (real.M_enabled op) refl refl refl refl (λ mv h. enabled_row f (place g) mv.plan mv.phase (stored c.store op) p op)
+  row_leads (msg.Piece op piece) is = numbered_leads f g n x p (msg.Piece op piece) are is op (real.M_piece op (outline_piece f piece)) refl refl refl refl (λ mv h. piece_row f (place g) mv.plan mv.phase (stored c.store op) p op piece (each_same (IsGoodChunk f g) (IsChunk f (place g)) (λ y k. k.chunk) piece.chunks is.label.1.good.each))
+  row_leads (msg.Deleted op) is = numbered_leads f g n x p (msg.Deleted op) are is op (real.M_deleted op) refl refl refl refl (λ mv h. deleted_row f (place g) mv.plan mv.phase (stored c.store op) p op)
+  row_leads (msg.PutOk op) is = numbered_leads f g n x p (msg.PutOk op) are is op (real.M_put_ok op) refl refl refl refl (λ mv h. put_ok_row f (place g) mv.plan mv.phase (stored c.store op) p op)
+  row_leads (msg.Restored op) is = numbered_leads f g n x p (msg.Restored op) are is op (real.M_restored op) refl refl refl refl (λ mv h. restored_row f (place g) mv.plan mv.phase (stored c.store op) p op)
+  row_leads (msg.Fenced op) is = numbered_leads f g n x p (msg.Fenced op) are is op (real.M_fenced op) refl refl refl refl (λ mv h. fenced_row f (place g) mv.plan mv.phase (stored c.store op) p op h.refusing)
   row_leads (msg.InPacket packet) is = not_zero is.label.0.1
   row_leads (msg.InCommand command) is = not_zero is.label.0.1
   row_leads msg.InSettle is = not_zero is.label.1
@@ -71,14 +73,14 @@ module _ {F R : Type 0} (f : Semantics R) (g : Given) (n : ℕ) (x : Scene F f g
   row_leads (msg.Restore op chunks) is = not_two is.label.0.1
   row_leads (msg.Credit cell) is = not_zero is.label.1
   row_leads (msg.Diverted cell) is = absurd is.label
-  row_leads (msg.Get op filter) is = absurd is.label
-  row_leads (msg.GetAll op) is = absurd is.label
-  row_leads (msg.Standby op chunks) is = absurd is.label
-  row_leads (msg.PutAll op chunk) is = absurd is.label
+  row_leads (msg.Get op filter) is = not_two is.label.0.1
+  row_leads (msg.GetAll op) is = not_two is.label.1
+  row_leads (msg.Standby op chunks) is = not_two is.label.0.1
+  row_leads (msg.PutAll op chunk) is = not_two is.label.1
   row_leads (msg.Sync home op chunks) is = absurd is.label
-  row_leads (msg.Chunks op chunks) is = absurd is.label
-  row_leads (msg.AllChunk op chunk) is = absurd is.label
-  row_leads (msg.Kept op) is = absurd is.label
+  row_leads (msg.Chunks op chunks) is = copied_leads f g n x p (msg.Chunks op chunks) are is refl op refl is.label.1
+  row_leads (msg.AllChunk op chunk) is = copied_leads f g n x p (msg.AllChunk op chunk) are is refl op refl tt
+  row_leads (msg.Kept op) is = copied_leads f g n x p (msg.Kept op) are is refl op refl tt
   row_leads (msg.Seen op packet) is = absurd is.label
   row_leads (msg.Shared op chunk) is = absurd is.label
   row_leads (msg.Synced op) is = absurd is.label

@@ -1,189 +1,41 @@
 -- The controller's step on a message of an open move, or of a number of which no move is open.
-use Rattle.std.proofs.Common.{◌≡◌, ℕ, ◌+◌, ◌<◌, ◌≤◌, true, false, cond, Option, Some, None, List, [], ◌∷◌, map, length, refl, sym, ap, ◌∙◌, subst, arith, eqb}
-use Rattle.std.specs.Prelude.{if◌then◌else◌, ◌==◌, ◌-◌, nat_lt, nat_le, unwrap_or}
+use Rattle.std.proofs.Common.{◌≡◌, ℕ, ◌+◌, ◌<◌, ◌≤◌, true, false, Option, Some, None, List, [], ◌∷◌, map, length, refl, sym, ap, ◌∙◌, subst, arith}
+use Rattle.std.specs.Prelude.{if◌then◌else◌, ◌==◌, ◌-◌, nat_lt, nat_le, is_some, unwrap_or}
 use Rattle.std.specs.FinMap as finite
 use Rattle.std.proofs.lemmas.Bool.Decides.{nat_tests, Decides-eqb, Decides-ltb}
 use Rattle.nf_function.specs.Semantics.{Semantics}
 use Rattle.nf_function.specs.declared.unit.Unit as units
+use Rattle.event_filter.specs.declared.mark.Mark.TheVariants as mark
 use Rattle.packet_pool.specs.Pool.{FullCell}
 use Rattle.event_store.specs.Store.{stored}
 use Rattle.nf_msgs.specs.declared.answer.Answer.{Answer}
 use Rattle.nf_msgs.specs.declared.msg.Msg.{Msg}
 use Rattle.nf_msgs.specs.declared.msg.Msg.TheVariants as msg
-use Rattle.nf_msgs.specs.declared.msg.Piece.{Piece}
 use Rattle.nf_msgs.specs.declared.msg.Refused.{Refused}
 use Rattle.nf_msgs.specs.Nodes.{switch_node}
-use Rattle.move_op.specs.declared.door.Door.{Door}
-use Rattle.move_op.specs.declared.door.Door.TheVariants as door
-use Rattle.move_op.specs.declared.phase.Phase.{Phase}
-use Rattle.move_op.specs.declared.phase.Phase.TheVariants as phase
-use Rattle.move_op.specs.Move.{MoveState, Row, row, row_in, answer_of, source, destination, from_source, from_destination, keeps, goes, chunks_of}
+use Rattle.move_op.specs.Move.{MoveState, row, row_in, answer_of, source, destination, from_source, from_destination, keeps, goes}
 use Rattle.ctrl_node.specs.declared.operation.Operation.{Operation}
-use Rattle.ctrl_node.specs.declared.operation.Operation.TheVariants.{Move}
-use Rattle.ctrl_node.specs.Operations.{Turn, turn_of, moved}
-use Rattle.ctrl_node.specs.Controller.{ControllerState, Step, after_turn, takes_turn, handed, instance_at, on_event}
+use Rattle.copy_share.specs.Copy.{CopyState}
+use Rattle.ctrl_node.specs.declared.operation.Operation.TheVariants.{Move, Copy, Share}
+use Rattle.ctrl_node.specs.Operations.{turn_of, moved}
+use Rattle.ctrl_node.specs.Controller.{ControllerState, still, after_turn, takes_turn, handed, instance_at, on_event}
 use Rattle.unit_machine.proofs.Real as real
 use Rattle.unit_machine.proofs.Real.{RPhase}
-use Rattle.unit_machine.proofs.Labels.{Each}
-use Rattle.actor_net.proofs.WeightLaws.{EachSent}
 use Rattle.abstract_net.proofs.Net as net
 use Rattle.abstract_net.proofs.Net.{Open, C_step, find_op, close_op, set_op, write_op, num_of, found, ctrl_step, numbered}
-use Rattle.abstract_net.proofs.Ctrl.{each_found, each_set}
-use Rattle.nf_net.proofs.Outline.{number, entries, outline_piece, is_sys}
-use Rattle.nf_net.proofs.InstanceOutline.{filter_map-put}
-use Rattle.record_table.specs.Chunks.{spelled}
-use Rattle.abstract_net.proofs.Copies.{has, have, copies, one_copy, one_copy_back, event_open}
+use Rattle.abstract_net.proofs.Ctrl.{each_found}
+use Rattle.nf_net.proofs.Outline.{number, entries, is_sys}
+use Rattle.abstract_net.proofs.Copies.{has, copies, one_copy, one_copy_back, event_open}
 use Rattle.nf_net.proofs.MoveOutline.{outline_plan, outline_phase, RowFollows, put_no_row, event_row}
-use Rattle.nf_net.proofs.ControlOutline.{Sees, SeesMove, Opens, TurnFollows, stored_after, got_insert, got_remove, turn_same}
+use Rattle.nf_net.proofs.ControlOutline.{Sees, SeesMove, TurnFollows, turn_same}
 use Rattle.nf_net.proofs.ClosingMoves.{closed_empty}
 use Rattle.nf_net.proofs.MoveSteps.{RowKeeps, row_keeps, brought, kept_in}
-use Rattle.nf_net.proofs.UnitCounts.{times, times-append, times_is_has, times_chunks}
-use Rattle.nf_net.proofs.ControllerScenes.{AreQuiet, RowLeads, sent-append, waits, taken, stays}
-use Rattle.nf_net.proofs.Joined.{Given, Genuine, Label, Scene, AreShown, IsTaken, IsController, IsListed, IsMove, HasPieces, AreFree, AreGoodChunks, IsGoodPiece, S, count, place, shown}
-
--- moves that are left when one is closed
-each_left : {R : Type 0} (P Q : Open R → Type 0) (k : ℕ) (es : List (Open R)) → ((e : Open R) → (e.op.num == k) ≡ false → P e → Q e) → Each P es → Each Q (close_op k es)
-each_left P Q k [] keep h = tt
-each_left P Q k (e ∷ es) keep h = elim (e.op.num == k) as (λ b. (e.op.num == k) ≡ b → Each Q (if b then close_op k es else e ∷ close_op k es)) [ true ↦ λ _. each_left P Q k es keep h.1 | false ↦ λ off. (keep e off h.0, each_left P Q k es keep h.1) ] refl
-
-pub each_same : {X : Type 0} (P Q : X → Type 0) → ((x : X) → P x → Q x) → (xs : List X) → Each P xs → Each Q xs
-each_same P Q keep [] h = tt
-each_same P Q keep (x ∷ xs) h = (keep x h.0, each_same P Q keep xs h.1)
-
-some_same : {X : Type 0} {a b : X} → Some a ≡ Some b → a ≡ b
-some_same e = cc
-
-move_same : {a b : MoveState} → Some (Move a) ≡ Some (Move b) → a ≡ b
-move_same e = cc
-
-module _ {R : Type 0} (f : Semantics R) (g : Given) where
-  -- the controller after a row of an open move
-  module _ (c : ControllerState) (ops : List (Open R)) (next n : ℕ) (mv : MoveState) (real_row : Row) (is : IsController f g c ops next) (has : finite.get c.operations n ≡ Some (Move mv)) (below : n < next) (keeps : RowKeeps f g n mv (stored c.store n) real_row) (ends : (why : Answer) → answer_of real_row.next.phase ≡ Some why → unwrap_or real_row.stored (stored c.store n) ≡ []) where
-    abbrev after : MoveState
-    after = record mv { phase = real_row.next.phase }
-
-    abbrev did : Option Answer → Step
-    did a = after_turn c n (moved mv c.store real_row) a
-
-    mv_op : mv.plan.op ≡ n
-    mv_op = (is.moves n mv has).op_is
-
-    store_is : (k : ℕ) → stored (moved mv c.store real_row).store k ≡ cond (eqb k n) (unwrap_or real_row.stored (stored c.store n)) (stored c.store k)
-    store_is k = stored_after f (place g) c.store mv.plan.op k real_row.stored ∙ ap (λ j. cond (eqb k j) (unwrap_or real_row.stored (stored c.store k)) (stored c.store k)) mv_op
-        ∙ elim (eqb k n) as (λ b. eqb k n ≡ b → cond b (unwrap_or real_row.stored (stored c.store k)) (stored c.store k) ≡ cond b (unwrap_or real_row.stored (stored c.store n)) (stored c.store k)) [
-          | true ↦ λ on. let same : k ≡ n = (Decides-eqb k n).0 on in ap (λ j. unwrap_or real_row.stored (stored c.store j)) same
-          | false ↦ λ _. refl
-        ] refl
-
-    nothing_after : (k : ℕ) → next ≤ k → stored (moved mv c.store real_row).store k ≡ []
-    nothing_after k least = let off : eqb k n ≡ false = grind (arith, nat_tests, below, least) in store_is k ∙ ap (λ b. cond b (unwrap_or real_row.stored (stored c.store n)) (stored c.store k)) off ∙ is.nothing k least
-
-    stored_other : (k : ℕ) → eqb k n ≡ false → finite.get c.operations k ≡ None → stored (moved mv c.store real_row).store k ≡ []
-    stored_other k off none = store_is k ∙ ap (λ b. cond b (unwrap_or real_row.stored (stored c.store n)) (stored c.store k)) off ∙ is.emptied k none
-
-    genuine_after : (k : ℕ) → Each (Genuine f g) (stored (moved mv c.store real_row).store k)
-    genuine_after k = subst (Each (Genuine f g)) (sym (store_is k)) (elim (eqb k n) as (λ b. Each (Genuine f g) (cond b (unwrap_or real_row.stored (stored c.store n)) (stored c.store k))) [ true ↦ keeps.genuine | false ↦ is.genuine k ])
-
-    -- the operations after it
-    get_open : (k : ℕ) → finite.get (did None).node.operations k ≡ cond (eqb k n) (Some (Move after)) (finite.get c.operations k)
-    get_open k = got_insert f (place g) c.operations n k (Move after)
-
-    get_closed : (why : Answer) (k : ℕ) → finite.get (did (Some why)).node.operations k ≡ cond (eqb k n) None (cond (eqb k n) (Some (Move after)) (finite.get c.operations k))
-    get_closed why k = got_remove f (place g) (finite.insert c.operations n (Move after)) n k ∙ ap (cond (eqb k n) None) (got_insert f (place g) c.operations n k (Move after))
-
-    moves_open : (k : ℕ) (m : MoveState) → cond (eqb k n) (Some (Move after)) (finite.get c.operations k) ≡ Some (Move m) → IsMove f g k m
-    moves_open k m = elim (eqb k n) as (λ b. eqb k n ≡ b → cond b (Some (Move after)) (finite.get c.operations k) ≡ Some (Move m) → IsMove f g k m) [
-      | true ↦ λ on e. let same : k ≡ n = (Decides-eqb k n).0 on in subst (λ j. IsMove f g j m) (sym same) (subst (IsMove f g n) (move_same e) keeps.move)
-      | false ↦ λ _ e. is.moves k m e
-    ] refl
-
-    moves_closed : (k : ℕ) (m : MoveState) → cond (eqb k n) None (cond (eqb k n) (Some (Move after)) (finite.get c.operations k)) ≡ Some (Move m) → IsMove f g k m
-    moves_closed k m = elim (eqb k n) as (λ b. cond b None (cond b (Some (Move after)) (finite.get c.operations k)) ≡ Some (Move m) → IsMove f g k m) [
-      | true ↦ λ e. cc
-      | false ↦ λ e. is.moves k m e
-    ]
-
-    -- what is stored of operations that aren't open
-    emptied_open : (k : ℕ) → cond (eqb k n) (Some (Move after)) (finite.get c.operations k) ≡ None → stored (moved mv c.store real_row).store k ≡ []
-    emptied_open k = elim (eqb k n) as (λ b. eqb k n ≡ b → cond b (Some (Move after)) (finite.get c.operations k) ≡ None → stored (moved mv c.store real_row).store k ≡ []) [ true ↦ λ on none. cc | false ↦ λ off none. stored_other k off none ] refl
-
-    emptied_closed : unwrap_or real_row.stored (stored c.store n) ≡ [] → (k : ℕ) → cond (eqb k n) None (cond (eqb k n) (Some (Move after)) (finite.get c.operations k)) ≡ None → stored (moved mv c.store real_row).store k ≡ []
-    emptied_closed left k = elim (eqb k n) as (λ b. eqb k n ≡ b → cond b None (cond b (Some (Move after)) (finite.get c.operations k)) ≡ None → stored (moved mv c.store real_row).store k ≡ []) [
-      | true ↦ λ on _. store_is k ∙ ap (λ b. cond b (unwrap_or real_row.stored (stored c.store n)) (stored c.store k)) on ∙ left
-      | false ↦ λ off none. stored_other k off none
-    ] refl
-
-    -- the open ones aren't over
-    going_open : answer_of real_row.next.phase ≡ None → (k : ℕ) (m : MoveState) → cond (eqb k n) (Some (Move after)) (finite.get c.operations k) ≡ Some (Move m) → answer_of m.phase ≡ None
-    going_open goes_on k m = elim (eqb k n) as (λ b. cond b (Some (Move after)) (finite.get c.operations k) ≡ Some (Move m) → answer_of m.phase ≡ None) [
-      | true ↦ λ e. ap (λ y. answer_of y.phase) (sym (move_same e)) ∙ goes_on
-      | false ↦ λ e. is.going k m e
-    ]
-
-    going_closed : (k : ℕ) (m : MoveState) → cond (eqb k n) None (cond (eqb k n) (Some (Move after)) (finite.get c.operations k)) ≡ Some (Move m) → answer_of m.phase ≡ None
-    going_closed k m = elim (eqb k n) as (λ b. cond b None (cond b (Some (Move after)) (finite.get c.operations k)) ≡ Some (Move m) → answer_of m.phase ≡ None) [ true ↦ λ e. cc | false ↦ λ e. is.going k m e ]
-
-    -- the list after it
-    listed_at : (e : Open R) → IsListed f g c e → IsListed f g (did None).node e
-    listed_at e l = elim (eqb e.op.num n) as (λ b. eqb e.op.num n ≡ b → IsListed f g (did None).node e) [
-      | true ↦ λ on.
-          let same : e.op.num ≡ n = (Decides-eqb e.op.num n).0 on in
-          let its : l.move ≡ mv = move_same (sym l.there ∙ ap (finite.get c.operations) same ∙ has) in
-          record { move = after; there = get_open e.op.num ∙ ap (λ b. cond b (Some (Move after)) (finite.get c.operations e.op.num)) on; filter = l.filter ∙ ap (λ y. y.plan.filter) its }
-      | false ↦ λ off. record { move = l.move; there = get_open e.op.num ∙ ap (λ b. cond b (Some (Move after)) (finite.get c.operations e.op.num)) off ∙ l.there; filter = l.filter }
-    ] refl
-
-    listed_open : (rp : RPhase R) (fs : List ℕ) → Each (IsListed f g (did None).node) (set_op n rp fs ops)
-    listed_open rp fs = each_set (IsListed f g (did None).node) n rp fs ops (λ e _ l. record { move = l.move; there = l.there; filter = l.filter }) (each_same (IsListed f g c) (IsListed f g (did None).node) listed_at ops is.listed)
-
-    listed_closed : (why : Answer) → Each (IsListed f g (did (Some why)).node) (close_op n ops)
-    listed_closed why = each_left (IsListed f g c) (IsListed f g (did (Some why)).node) n ops (λ e off l. let turned : eqb e.op.num n ≡ false = off in record { move = l.move; there = get_closed why e.op.num ∙ ap (λ b. cond b None (cond b (Some (Move after)) (finite.get c.operations e.op.num))) turned ∙ l.there; filter = l.filter }) is.listed
-
-    open_is : (rp : RPhase R) (fs : List ℕ) → answer_of real_row.next.phase ≡ None → Opens f (place g) (set_op n rp fs ops) (did None).node → IsController f g (did None).node (set_op n rp fs ops) next
-    open_is rp fs goes_on opens = record { names = is.names; opens = opens; moves = λ k m e. moves_open k m (sym (get_open k) ∙ e); listed = listed_open rp fs; nothing = nothing_after; emptied = λ k none. emptied_open k (sym (get_open k) ∙ none); going = λ k m e. going_open goes_on k m (sym (get_open k) ∙ e); genuine = genuine_after }
-
-    closed_is : (why : Answer) → unwrap_or real_row.stored (stored c.store n) ≡ [] → Opens f (place g) (close_op n ops) (did (Some why)).node → IsController f g (did (Some why)).node (close_op n ops) next
-    closed_is why left opens = record { names = is.names; opens = opens; moves = λ k m e. moves_closed k m (sym (get_closed why k) ∙ e); listed = listed_closed why; nothing = nothing_after; emptied = λ k none. emptied_closed left k (sym (get_closed why k) ∙ none); going = λ k m e. going_closed k m (sym (get_closed why k) ∙ e); genuine = genuine_after }
-
-    controller_after : (ph : Phase) (rp : RPhase R) (fs : List ℕ) → ph ≡ real_row.next.phase → rp ≡ outline_phase f (place g) ph → Opens f (place g) (write_op n rp fs ops) (did (answer_of ph)).node → IsController f g (did (answer_of ph)).node (write_op n rp fs ops) next
-    controller_after phase.Freezing rp fs own e = rw e (open_is real.R_freezing fs (ap answer_of (sym own)))
-    controller_after (phase.Streaming fz fr last d) rp fs own e = rw e (open_is (outline_phase f (place g) (phase.Streaming fz fr last d)) fs (ap answer_of (sym own)))
-    controller_after phase.Holding rp fs own e = rw e (open_is real.R_holding fs (ap answer_of (sym own)))
-    controller_after phase.Passing rp fs own e = rw e (open_is real.R_passing fs (ap answer_of (sym own)))
-    controller_after phase.Ending rp fs own e = rw e (open_is real.R_ending fs (ap answer_of (sym own)))
-    controller_after (phase.Restoring why) rp fs own e = rw e (open_is (real.R_restoring why) fs (ap answer_of (sym own)))
-    controller_after (phase.Returning why) rp fs own e = rw e (open_is (real.R_returning why) fs (ap answer_of (sym own)))
-    controller_after (phase.Undoing why) rp fs own e = rw e (open_is (real.R_undoing why) fs (ap answer_of (sym own)))
-    controller_after (phase.Over why) rp fs own e = rw e (closed_is why (ends why (ap answer_of (sym own))))
-
-  good_chunks : (ps : List Piece) → Each (IsGoodPiece f g) ps → Each (λ p. AreGoodChunks f g p.chunks) ps
-  good_chunks ps h = each_same (IsGoodPiece f g) (λ p. AreGoodChunks f g p.chunks) (λ p k. k.good) ps h
-
-  free_chunks : (d : Door) (ps : List Piece) → AreFree f g d ps → Each (λ p. AreGoodChunks f g p.chunks) ps
-  free_chunks door.Shut ps h = good_chunks ps h
-  free_chunks (door.Asked last) ps h = good_chunks ps h
-  free_chunks door.Open ps h = good_chunks ps h
-  free_chunks (door.Refused why) ps h = h
-
-  -- how often a unit stands among the chunks that a move keeps
-  kept_count : (ph : Phase) → HasPieces f g ph → (u : units.Unit) → times u (entries f (kept_in ph)) ≡ copies u (outline_phase f (place g) ph)
-  kept_count (phase.Streaming fz fr came d) h u = ap (times u) (filter_map-put (spelled f) (chunks_of fz) (chunks_of fr)) ∙ times-append u (entries f (chunks_of fz)) (entries f (chunks_of fr)) ∙ ap (λ k. k + times u (entries f (chunks_of fr))) (times_chunks f g fz (good_chunks fz h.0) u) ∙ ap (λ k. have u (map (outline_piece f) fz) + k) (times_chunks f g fr (free_chunks d fr h.1) u)
-  kept_count phase.Freezing h u = refl
-  kept_count phase.Holding h u = refl
-  kept_count phase.Passing h u = refl
-  kept_count phase.Ending h u = refl
-  kept_count (phase.Restoring why) h u = refl
-  kept_count (phase.Returning why) h u = refl
-  kept_count (phase.Undoing why) h u = refl
-  kept_count (phase.Over why) h u = refl
-
-  turn_labels : (c : ControllerState) (n : ℕ) (t : Turn) (a : Option Answer) → EachSent (Label f g) 1 t.sends → EachSent (Label f g) 1 (after_turn c n t a).sends
-  turn_labels c n t None h = h
-  turn_labels c n t (Some why) h = sent-append (Label f g) 1 t.sends ((switch_node, msg.Answered n) ∷ []) h ((refl, refl), tt)
-
-turn_quiet : (c : ControllerState) (n : ℕ) (t : Turn) (a : Option Answer) → AreQuiet (after_turn c n t a).notes
-turn_quiet c n t None = record { arrived_is = refl; done_is = refl; installed_is = refl }
-turn_quiet c n t (Some why) = record { arrived_is = refl; done_is = refl; installed_is = refl }
+use Rattle.nf_net.proofs.UnitCounts.{times, times_is_has}
+use Rattle.nf_net.proofs.CopyTurns.{is_copied, quiet_turn}
+use Rattle.nf_net.proofs.OperationTables.{not_shared, handed_is}
+use Rattle.nf_net.proofs.ControllerRows.{some_same, controller_after, kept_count, turn_labels, turn_quiet}
+use Rattle.nf_net.proofs.ControllerScenes.{RowLeads, waits, taken, stays}
+use Rattle.nf_net.proofs.Joined.{Given, Label, Scene, AreShown, IsTaken, IsMove, S, count, place, shown}
 
 module _ {F R : Type 0} (f : Semantics R) (g : Given) (n : ℕ) (x : Scene F f g) (p : ℕ) (m : Msg) (are : AreShown f g n x) (is : IsTaken f g n x (record { node = 1; port = p; message = m })) where
   abbrev c : ControllerState
@@ -212,11 +64,32 @@ module _ {F R : Type 0} (f : Semantics R) (g : Given) (n : ℕ) (x : Scene F f g
       by_open None e s = e
       by_open (Some e) there s = absurd (subst (λ o. Sees f (place g) o None (stored c.store op)) there s)
 
+  none_copied : (op : ℕ) (y : CopyState) → finite.get c.operations op ≡ Some (Copy y) → find_op x.world.ops op ≡ None
+  none_copied op y there = by_open (find_op x.world.ops op) refl (subst (λ o. Sees f (place g) (find_op x.world.ops op) o (stored c.store op)) there (are.controller.opens op))
+    where
+      by_open : (o : Option (Open R)) → find_op x.world.ops op ≡ o → Sees f (place g) (find_op x.world.ops op) (Some (Copy y)) (stored c.store op) → find_op x.world.ops op ≡ None
+      by_open None e s = e
+      by_open (Some e) there s = absurd (subst (λ o. Sees f (place g) o (Some (Copy y)) (stored c.store op)) there s)
+
+  -- nothing is served, since no share is open
+  turn_leads : (op : ℕ) → RowLeads f g x p m (takes_turn c op (turn_of (finite.get c.operations op) c.store p m)) → RowLeads f g x p m (handed c op p m)
+  turn_leads op h = subst (RowLeads f g x p m) (sym (handed_is c op p m (not_shared c.operations op (are.controller.no_shares op)))) h
+
+  -- the abstract controller does nothing for a number that has no open move
+  does_nothing : (op : ℕ) (pm : real.Msg R) → shown f g m ≡ Some (net.Mv net.everything pm) → num_of pm ≡ Some op → find_op x.world.ops op ≡ None → (a : net.Msg R) → shown f g m ≡ Some a → ctrl_step x.world.ops p a ≡ record { ops = x.world.ops; sends = [] }
+  does_nothing op pm seen num none a e =
+      let same : net.Mv net.everything pm ≡ a = some_same (sym seen ∙ e) in
+      subst (λ b. ctrl_step x.world.ops p b ≡ record { ops = x.world.ops; sends = [] }) same (ap (numbered x.world.ops p pm) num ∙ ap (found x.world.ops op p pm) none)
+
   -- of a number that has no open move nothing is done
   idle : (op : ℕ) (pm : real.Msg R) → shown f g m ≡ Some (net.Mv net.everything pm) → num_of pm ≡ Some op → finite.get c.operations op ≡ None → RowLeads f g x p m (handed c op p m)
-  idle op pm seen num none = subst (λ o. RowLeads f g x p m (takes_turn c op (turn_of o c.store p m))) (sym none) (stays f g n x p m are is (takes_turn c op (turn_of None c.store p m)) refl refl refl refl tt (record { arrived_is = refl; done_is = refl; installed_is = refl }) (λ a e.
-      let same : net.Mv net.everything pm ≡ a = some_same (sym seen ∙ e) in
-      subst (λ b. ctrl_step x.world.ops p b ≡ record { ops = x.world.ops; sends = [] }) same (ap (numbered x.world.ops p pm) num ∙ ap (found x.world.ops op p pm) (none_open op none))))
+  idle op pm seen num none = turn_leads op (subst (λ o. RowLeads f g x p m (takes_turn c op (turn_of o c.store p m))) (sym none)
+      (stays f g n x p m are is (takes_turn c op (turn_of None c.store p m)) refl refl refl refl tt (record { arrived_is = refl; done_is = refl; installed_is = refl }) (does_nothing op pm seen num (none_open op none))))
+
+  -- nor where a copy is open
+  copy_idle : (op : ℕ) (pm : real.Msg R) (y : CopyState) → is_copied m ≡ false → shown f g m ≡ Some (net.Mv net.everything pm) → num_of pm ≡ Some op → finite.get c.operations op ≡ Some (Copy y) → RowLeads f g x p m (handed c op p m)
+  copy_idle op pm y other seen num there = turn_leads op (subst (RowLeads f g x p m) (sym (ap (λ o. takes_turn c op (turn_of o c.store p m)) there ∙ quiet_turn c op y (are.controller.copies op y there).going there p m other))
+      (stays f g n x p m are is (still c) refl refl refl refl tt (record { arrived_is = refl; done_is = refl; installed_is = refl }) (does_nothing op pm seen num (none_copied op y there))))
 
   -- an open move takes the message
   opened : (op : ℕ) (pm : real.Msg R) (mv : MoveState) → shown f g m ≡ Some (net.Mv net.everything pm) → num_of pm ≡ Some op → finite.get c.operations op ≡ Some (Move mv) → Its_row op pm mv → RowKeeps f g op mv (stored c.store op) (row mv (stored c.store op) p m) → RowLeads f g x p m (handed c op p m)
@@ -228,7 +101,7 @@ module _ {F R : Type 0} (f : Semantics R) (g : Given) (n : ℕ) (x : Scene F f g
       let same = (are.controller.moves op mv has).op_is in
       let in_store : row_in mv c.store p m ≡ real_row = ap (λ k. row mv (stored c.store k) p m) same in
       let turn : turn_of (finite.get c.operations op) c.store p m ≡ moved mv c.store real_row = ap (λ o. turn_of o c.store p m) has ∙ ap (λ r. moved mv c.store r) in_store in
-      let ended : handed c op p m ≡ after_turn c op (moved mv c.store real_row) (answer_of real_row.next.phase) = ap (takes_turn c op) turn in
+      let ended : takes_turn c op (turn_of (finite.get c.operations op) c.store p m) ≡ after_turn c op (moved mv c.store real_row) (answer_of real_row.next.phase) = ap (takes_turn c op) turn in
       let seen_row : net.row e p pm ≡ net.row_of (outline_plan mv.plan) (outline_phase f (place g) mv.phase) (map number events) p pm = ap (λ y. net.row_of y e.phase e.store p pm) b.sees.op ∙ ap (λ y. net.row_of (outline_plan mv.plan) y e.store p pm) b.sees.phase ∙ ap (λ y. net.row_of (outline_plan mv.plan) (outline_phase f (place g) mv.phase) y p pm) b.sees.store in
       let phases : (net.row e p pm).phase ≡ outline_phase f (place g) real_row.next.phase = ap (λ y. y.phase) seen_row ∙ sym follows.phase in
       let turns : TurnFollows f (place g) c (after_turn c op (moved mv c.store real_row) (answer_of real_row.next.phase)) (found x.world.ops op p pm (Some e)) = subst (λ s. TurnFollows f (place g) c s (found x.world.ops op p pm (Some e))) ended (turn_same f (place g) c x.world.ops op p m pm e mv are.controller.opens b.there has b.sees same follows) in
@@ -236,10 +109,10 @@ module _ {F R : Type 0} (f : Semantics R) (g : Given) (n : ℕ) (x : Scene F f g
       let ends : (why : Answer) → answer_of real_row.next.phase ≡ Some why → unwrap_or real_row.stored events ≡ [] = λ why over. closed_empty f g x.world _ _ are.every op e mv events b.there b.sees (are.controller.going op mv has) p m why over in
       let below : op < x.world.next = subst (λ k. k < x.world.next) ((Decides-eqb e.op.num op).0 bound.1) bound.0 in
       let after = controller_after f g c x.world.ops x.world.next op mv real_row are.controller has below keeps ends real_row.next.phase (net.row e p pm).phase (net.row e p pm).store refl phases turns.ops in
-      subst (RowLeads f g x p m) (sym ended) (taken f g n x p m are is (after_turn c op (moved mv c.store real_row) (answer_of real_row.next.phase)) (net.Mv net.everything pm) (found x.world.ops op p pm (Some e)) seen
+      turn_leads op (subst (RowLeads f g x p m) (sym ended) (taken f g n x p m are is (after_turn c op (moved mv c.store real_row) (answer_of real_row.next.phase)) (net.Mv net.everything pm) (found x.world.ops op p pm (Some e)) seen
       (ap (numbered x.world.ops p pm) num ∙ ap (found x.world.ops op p pm) b.there) after turns.sends
       (turn_labels f g c op (moved mv c.store real_row) (answer_of real_row.next.phase) keeps.labels)
-      (turn_quiet c op (moved mv c.store real_row) (answer_of real_row.next.phase)))
+      (turn_quiet c op (moved mv c.store real_row) (answer_of real_row.next.phase))))
 
   -- a unit stands at most once among what a move keeps
   kept_once : (op : ℕ) (mv : MoveState) → finite.get c.operations op ≡ Some (Move mv) → (u : units.Unit) → times u (entries f (kept_in mv.phase)) ≤ 1
@@ -258,16 +131,18 @@ module _ {F R : Type 0} (f : Semantics R) (g : Given) (n : ℕ) (x : Scene F f g
   keeps_row : (op : ℕ) (mv : MoveState) (message : Msg) → finite.get c.operations op ≡ Some (Move mv) → Label f g p 1 message → Once mv message → RowKeeps f g op mv (stored c.store op) (row mv (stored c.store op) p message)
   keeps_row op mv message has label once = row_keeps f g op mv (stored c.store op) p message (are.controller.moves op mv has) (are.controller.genuine op) label once
 
-  by_operation : (op : ℕ) → (finite.get c.operations op ≡ None → RowLeads f g x p m (handed c op p m)) → ((mv : MoveState) → finite.get c.operations op ≡ Some (Move mv) → RowLeads f g x p m (handed c op p m)) → RowLeads f g x p m (handed c op p m)
-  by_operation op at_none at_move = cases (finite.get c.operations op) refl
+  by_operation : (op : ℕ) (pm : real.Msg R) → is_copied m ≡ false → shown f g m ≡ Some (net.Mv net.everything pm) → num_of pm ≡ Some op → ((mv : MoveState) → finite.get c.operations op ≡ Some (Move mv) → RowLeads f g x p m (handed c op p m)) → RowLeads f g x p m (handed c op p m)
+  by_operation op pm other seen num at_move = cases (finite.get c.operations op) refl
     where
       cases : (o : Option Operation) → finite.get c.operations op ≡ o → RowLeads f g x p m (handed c op p m)
-      cases None e = at_none e
+      cases None e = idle op pm seen num e
       cases (Some (Move mv)) e = at_move mv e
+      cases (Some (Copy y)) e = copy_idle op pm y other seen num e
+      cases (Some (Share s)) e = absurd (are.controller.no_shares op s e)
 
   -- A message that brings no chunks back.
-  pub numbered_leads : (op : ℕ) (pm : real.Msg R) → shown f g m ≡ Some (net.Mv net.everything pm) → num_of pm ≡ Some op → brought m ≡ [] → ((mv : MoveState) → IsMove f g op mv → Its_row op pm mv) → RowLeads f g x p m (handed c op p m)
-  numbered_leads op pm seen num none rows = by_operation op (idle op pm seen num) (λ mv has. opened op pm mv seen num has (rows mv (are.controller.moves op mv has)) (keeps_row op mv m has is.label (nothing_brought op mv m has none)))
+  pub numbered_leads : (op : ℕ) (pm : real.Msg R) → is_copied m ≡ false → shown f g m ≡ Some (net.Mv net.everything pm) → num_of pm ≡ Some op → brought m ≡ [] → ((mv : MoveState) → IsMove f g op mv → Its_row op pm mv) → RowLeads f g x p m (handed c op p m)
+  numbered_leads op pm other seen num none rows = by_operation op pm other seen num (λ mv has. opened op pm mv seen num has (rows mv (are.controller.moves op mv has)) (keeps_row op mv m has is.label (nothing_brought op mv m has none)))
 
 -- What was refused comes back: from the destination, or else it isn't looked at.
 module _ {F R : Type 0} (f : Semantics R) (g : Given) (n : ℕ) (x : Scene F f g) (p op : ℕ) (refused : Refused) (are : AreShown f g n x) (is : IsTaken f g n x (record { node = 1; port = p; message = msg.PutNo op refused })) where
@@ -300,7 +175,7 @@ module _ {F R : Type 0} (f : Semantics R) (g : Given) (n : ℕ) (x : Scene F f g
   pub put_no_leads : RowLeads f g x p (msg.PutNo op refused) (handed x.nodes.controller op p (msg.PutNo op refused))
   put_no_leads =
       let pm = real.M_put_no op refused.why (entries f refused.chunks) in
-      by_operation f g n x p (msg.PutNo op refused) are is op (idle f g n x p (msg.PutNo op refused) are is op pm refl refl) (λ mv got. opened f g n x p (msg.PutNo op refused) are is op pm mv refl refl got (put_no_row f (place g) mv.plan mv.phase its_store p op refused) (back_keeps mv got))
+      by_operation f g n x p (msg.PutNo op refused) are is op pm refl refl refl (λ mv got. opened f g n x p (msg.PutNo op refused) are is op pm mv refl refl got (put_no_row f (place g) mv.plan mv.phase its_store p op refused) (back_keeps mv got))
 
 -- An event: its move is open.
 module _ {F R : Type 0} (f : Semantics R) (g : Given) (n : ℕ) (x : Scene F f g) (p op : ℕ) (cell : FullCell) (are : AreShown f g n x) (is : IsTaken f g n x (record { node = 1; port = p; message = msg.Event op cell })) where
@@ -320,12 +195,15 @@ module _ {F R : Type 0} (f : Semantics R) (g : Given) (n : ℕ) (x : Scene F f g
       let high : nat_lt (p - 2) (length x.nodes.controller.names) ≡ true = (Decides-ltb (p - 2) (length x.nodes.controller.names)).1 (omega (arith, named, two, count_is, sender)) in
       rw (low, high) refl
 
-  never : finite.get x.nodes.controller.operations op ≡ None → ⊥
-  never none = event_open (S f g) (is_sys f g.site g.packet) x.world _ _ are.every p op (number cell) net.everything is.rest (waits f g n x p event are is (net.Mv net.everything seen_event) refl) (none_open f g n x p event are is op none)
+  never : find_op x.world.ops op ≡ None → ⊥
+  never none = event_open (S f g) (is_sys f g.site g.packet) x.world _ _ are.every p op (number cell) net.everything is.rest (waits f g n x p event are is (net.Mv net.everything seen_event) refl) none
 
   pub event_leads : RowLeads f g x p event (on_event x.nodes.controller p op cell (instance_at x.nodes.controller p))
   event_leads = rw its_port (cases (finite.get x.nodes.controller.operations op) refl)
     where
       cases : (o : Option Operation) → finite.get x.nodes.controller.operations op ≡ o → RowLeads f g x p event (on_event x.nodes.controller p op cell (Some (p - 2)))
-      cases None e = absurd (never e)
-      cases (Some (Move mv)) e = rw e (subst (λ o. RowLeads f g x p event (takes_turn x.nodes.controller op (turn_of o x.nodes.controller.store p event))) e (numbered_leads f g n x p event are is op seen_event refl refl refl (λ y h. event_row f (place g) y.plan y.phase (stored x.nodes.controller.store op) p op cell)))
+      cases None e = absurd (never (none_open f g n x p event are is op e))
+      cases (Some (Copy y)) e = absurd (never (none_copied f g n x p event are is op y e))
+      cases (Some (Share s)) e = absurd (are.controller.no_shares op s e)
+      cases (Some (Move mv)) e = subst (λ b. RowLeads f g x p event (if b then handed x.nodes.controller op p event else record { node = x.nodes.controller; sends = (switch_node, msg.Forward (p - 2) (mark.Pass op) cell) ∷ []; notes = [] })) (sym (ap is_some e))
+          (numbered_leads f g n x p event are is op seen_event refl refl refl refl (λ y h. event_row f (place g) y.plan y.phase (stored x.nodes.controller.store op) p op cell))

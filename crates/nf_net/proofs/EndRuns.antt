@@ -18,8 +18,8 @@ use Rattle.actor_net.proofs.RunInduction.{Taking, run_induction}
 use Rattle.actor_net.proofs.StepOutcome.{Takes, taken_outcome}
 use Rattle.actor_net.proofs.WeightLaws.{total, sent_weight, total_after}
 use Rattle.unit_machine.proofs.Labels.{Each}
-use Rattle.move_op.specs.Move.{MoveState}
-use Rattle.ctrl_node.specs.declared.operation.Operation.TheVariants.{Move}
+use Rattle.copy_share.specs.Share.{ShareState}
+use Rattle.ctrl_node.specs.declared.operation.Operation.TheVariants.{Share}
 use Rattle.ctrl_node.specs.Operations.{are_quiet}
 use Rattle.ctrl_node.specs.Controller as controller
 use Rattle.ctrl_node.specs.Controller.{ControllerState, may_finish, controller_step, opened as opened_controller}
@@ -37,8 +37,8 @@ use Rattle.nf_net.proofs.InstallCounts.{finish}
 use Rattle.nf_net.proofs.InstallSteps.{row_counts, no_install_to, none_sent, items_none}
 use Rattle.nf_net.proofs.Joined.{Given, Label, Joined, count, node_of}
 use Rattle.nf_net.proofs.JoinedSteps.{label, step_leads, joined_next}
+use Rattle.nf_net.proofs.KnownOperations.{AreKnown, known}
 use Rattle.nf_net.proofs.LinePicks.{picked, on_way, at_switch, at_controller, at_instance}
-use Rattle.nf_net.proofs.MoveOutline.{IsRefusing}
 use Rattle.nf_net.proofs.RunsJoined.{start_world}
 use Rattle.nf_net.proofs.StartJoined.{given, all_fit, all_labelled, count_at_start, start_joined}
 use Rattle.nf_net.proofs.StateOutline.{all_each}
@@ -57,26 +57,29 @@ may_be true true q e = cc
 may_be false b q e = cc
 
 -- the controller's step
-module _ (n : ℕ) (reach : reaches n 1 0 ≡ true) {R : Type 0} (f : Semantics R) (g : Given) (c : ControllerState) (moves : (op : ℕ) (m : MoveState) → finite.get c.operations op ≡ Some (Move m) → (m.plan.op ≡ op) × IsRefusing m.phase) where
-  controller_ending : (closed : ℕ) (p : ℕ) (m : Msg) → Label f g p 1 m → (way : List Bool) (before after : ℕ) → IsEnding closed c (sign_in m ++ way) before → after + finish m ≡ before + sent_weight finish n 1 (controller_step c p m).sends → finish m ≡ 0 → IsEnding closed (controller_step c p m).node way after
-  controller_ending closed p m label way before after h weight none = by_may (may_finish r.node) refl weight
+module _ (n : ℕ) (reach : reaches n 1 0 ≡ true) {R : Type 0} (f : Semantics R) (g : Given) (c : ControllerState) (are : AreKnown g c) where
+  controller_ending : (closed : ℕ) (p : ℕ) (m : Msg) → Label f g p 1 m → ((op : ℕ) (s : ShareState) → finite.get (controller_step c p m).node.operations op ≢ Some (Share s)) → (way : List Bool) (before after : ℕ) → IsEnding closed c (sign_in m ++ way) before → after + finish m ≡ before + sent_weight finish n 1 (controller_step c p m).sends → finish m ≡ 0 → IsEnding closed (controller_step c p m).node way after
+  controller_ending closed p m label no_shares way before after h weight none = by_may (may_finish r.node) refl weight
     where
       r : controller.Step
       r = controller.row c p m
 
+      same_operations : (controller_step c p m).node.operations ≡ r.node.operations
+      same_operations = elim (may_finish r.node) as (λ b. (if b then record r.node { finish_sent = true } else r.node).operations ≡ r.node.operations) [ true ↦ refl | false ↦ refl ]
+
       by_may : (b : Bool) → may_finish r.node ≡ b → after + finish m ≡ before + sent_weight finish n 1 (r.sends ++ (if b then (0, msg.Finish) ∷ [] else [])) → IsEnding closed (if b then record r.node { finish_sent = true } else r.node) way after
       by_may true e weight =
-          let ends = row_ends c way f g p m label h.order h.ended in
-          let may = may_be r.node.end_came r.node.finish_sent (are_quiet r.node.operations) e in
+          let ends = row_ends g c are way f p m label h.order h.ended in
+          let may = may_be r.node.end_came r.node.finish_sent (are_quiet r.node.operations r.node.store) e in
           record {
             order = ordered_behind (sign_in m) way h.order;
             ended = ends.ended;
             unfinished = λ off. (let never : true ≡ false = off in cc);
-            finished = λ on. (may.0, quiet_none r.node.operations may.1);
+            finished = λ on. (may.0, quiet_none r.node.operations r.node.store may.1 (λ op s there. no_shares op s (ap (λ ops. finite.get ops op) same_operations ∙ there)));
           }
       by_may false e weight =
-          let ends = row_ends c way f g p m label h.order h.ended in
-          let counts = row_counts n reach 0 c moves p m in
+          let ends = row_ends g c are way f p m label h.order h.ended in
+          let counts = row_counts n reach g 0 c are f p m label in
           let both = sent_weight-append finish n 1 r.sends [] in
           let sent = counts.unfinished in
           record {
@@ -131,12 +134,15 @@ module _ {F R : Type 0} (f : Semantics R) (laws : FunctionLaws f) (g : Given) (f
       let some = takes.some in
       let reach : reaches n 1 0 ≡ true = grind (arith, nat_tests, some) in
       let way = at_controller sign_in step n (omega (arith, count_is)) w p (node_of j.nodes 1) m rest takes (sign_at_controller f g p m labelled) in
+      let leads = step_leads f laws g fitting n count_is w 1 p m rest j takes ready in
+      let after : (controller_step c p m).node ≡ leads.nodes.controller = same_controller {F = F} {R = R} (controller_step c p m).node leads.nodes.controller leads.own in
+      let unshared : (op : ℕ) (s : ShareState) → finite.get (controller_step c p m).node.operations op ≢ Some (Share s) = (λ op s there. leads.shown_is.controller.no_shares op s (ap (λ x. finite.get x.operations op) (sym after) ∙ there)) in
       record {
         switch = h.switch;
         switch_is = λ d. left.others 0 d (omega arith) ∙ h.switch_is d;
         controller = (controller_step c p m).node;
         controller_is = left.own;
-        is = controller_ending n reach f g c (λ k x there. (let it = j.shown_is.controller.moves k x there in (it.op_is, it.refusing))) (flag h.switch.closed) p m labelled (on_way sign_in (taken step w (at 1 p))) (total finish w) (total finish (taken step w (at 1 p)))
+        is = controller_ending n reach f g c (known f g c j.world.ops j.world.next j.shown_is.controller) (flag h.switch.closed) p m labelled unshared (on_way sign_in (taken step w (at 1 p))) (total finish w) (total finish (taken step w (at 1 p)))
             (subst (λ xs. IsEnding (flag h.switch.closed) c xs (total finish w)) way (subst (λ x. IsEnding (flag h.switch.closed) x (on_way sign_in w) (total finish w)) same h.is))
             (total_after step n w 1 p (node_of j.nodes 1) m rest takes finish) (no_install_to f g None p 1 m (omega arith) labelled);
       }

@@ -1,9 +1,9 @@
 -- What each node's step keeps of the input's end: no command comes behind it, the controller finishes once no operation is open, and the
 -- switch closes where it takes the finish.
-use Rattle.std.proofs.Common.{◌≡◌, ℕ, zero, suc, ◌+◌, ◌-◌, ◌≤◌, Bool, true, false, Option, Some, None, List, [], ◌∷◌, ◌++◌, refl, sym, ap, ◌∙◌, arith}
+use Rattle.std.proofs.Common.{◌≡◌, ◌≢◌, ℕ, zero, suc, ◌+◌, ◌-◌, ◌≤◌, Bool, true, false, cond, Option, Some, None, List, [], ◌∷◌, ◌++◌, refl, sym, ap, ◌∙◌, subst, arith}
 use Rattle.std.specs.Prelude.{if◌then◌else◌, ◌&&◌, ◌||◌, ◌==◌, not, nat_lt}
-use Rattle.std.specs.List.{list_all}
-use Rattle.std.specs.Ordering.{nat_cmp}
+use Rattle.std.specs.List.{filter_map, list_all}
+use Rattle.std.specs.Ordering.{nat_cmp, eq_by_cmp}
 use Rattle.std.specs.FinMap as finite
 use Rattle.flow_filter.specs.declared.filter.Filter.{Filter}
 use Rattle.flow_filter.specs.declared.packet.Packet.{Packet}
@@ -26,13 +26,16 @@ use Rattle.nf_msgs.specs.Shown.{op_of}
 use Rattle.actor_net.specs.Histories.{sent_for as core_sent}
 use Rattle.unit_machine.proofs.Labels.{Each, each-append}
 use Rattle.ctrl_node.specs.declared.operation.Operation.{Operation}
-use Rattle.ctrl_node.specs.declared.operation.Operation.TheVariants.{Move}
-use Rattle.ctrl_node.specs.Operations.{OpenOperations, Turn, turn_of, is_quiet, are_quiet}
+use Rattle.ctrl_node.specs.declared.operation.Operation.TheVariants.{Move, Copy, Share}
+use Rattle.move_op.specs.Move.{Store}
+use Rattle.copy_share.specs.Share.{ShareState}
+use Rattle.ctrl_node.specs.Operations.{OpenOperations, Turn, turn_of, lasts, is_quiet, are_quiet}
 use Rattle.ctrl_node.specs.Controller as controller
-use Rattle.ctrl_node.specs.Controller.{ControllerState, Step, still, refusal, place_of, begins_between, begins, decided, on_asked, after_turn, takes_turn, handed, numbered, on_event, on_final, instance_at}
+use Rattle.ctrl_node.specs.Controller.{ControllerState, Step, still, refusal, place_of, begins_between, copies_between, begins_share, begins, decided, on_asked, turned, closed, after_turn, takes_turn, handed, numbered, on_event, on_final, instance_at}
 use Rattle.switch_node.specs.Switch as switch
 use Rattle.switch_node.specs.Switch.{SwitchState, switch_step, stops, sends_to_instance, goes_to, target_of, has_room, is_there}
 use Rattle.nf_net.proofs.InstallCounts.{finish}
+use Rattle.nf_net.proofs.KnownOperations.{AreKnown, by_turn}
 use Rattle.nf_net.proofs.Joined.{Given, Label}
 use Rattle.nf_net.proofs.LinePicks.{picked}
 
@@ -71,15 +74,34 @@ ordered_behind (false ∷ xs) ys h = none_ordered ys (behind xs ys h)
     behind (false ∷ us) bs e = behind us bs e
 
 -- Nothing is open where all is quiet.
-none_entered : (es : List (ℕ × Operation)) → list_all (λ e. is_quiet e.1) es ≡ true → es ≡ []
-none_entered [] h = refl
-none_entered ((k, Move m) ∷ es) h = cc
+both : (a b : Bool) → a && b ≡ true → (a ≡ true) × (b ≡ true)
+both true true e = (refl, refl)
+both true false e = cc
+both false b e = cc
 
-pub quiet_none : (ops : OpenOperations) → are_quiet ops ≡ true → (op : ℕ) → finite.get ops op ≡ None
-quiet_none ops h op = finite.get-entries ops op ∙ ap (finite.find nat_cmp op) (none_entered (finite.entries ops) h)
+quiet_found : (store : Store) (op : ℕ) (es : List (ℕ × Operation)) (o : Operation) → list_all (λ e. is_quiet store e.1) es ≡ true → finite.find nat_cmp op es ≡ Some o → is_quiet store o ≡ true
+quiet_found store op [] o h there = cc
+quiet_found store op (e ∷ es) o h there =
+    let all = both (is_quiet store e.1) (list_all (λ x. is_quiet store x.1) es) h in
+    elim (eq_by_cmp nat_cmp op e.0) as (λ b. cond b (Some e.1) (finite.find nat_cmp op es) ≡ Some o → is_quiet store o ≡ true) [
+      | true ↦ λ here. let same : e.1 ≡ o = cc in subst (λ x. is_quiet store x ≡ true) same all.0
+      | false ↦ λ rest. quiet_found store op es o all.1 rest
+    ] there
+
+pub quiet_none : (ops : OpenOperations) (store : Store) → are_quiet ops store ≡ true → ((op : ℕ) (s : ShareState) → finite.get ops op ≢ Some (Share s)) → (op : ℕ) → finite.get ops op ≡ None
+quiet_none ops store h none op = by_got (finite.get ops op) refl
+  where
+    quiet : (o : Operation) → finite.get ops op ≡ Some o → is_quiet store o ≡ true
+    quiet o e = quiet_found store op (finite.entries ops) o h (sym (finite.get-entries ops op) ∙ e)
+
+    by_got : (o : Option Operation) → finite.get ops op ≡ o → o ≡ None
+    by_got None e = refl
+    by_got (Some (Move m)) e = let never : false ≡ true = quiet (Move m) e in cc
+    by_got (Some (Copy y)) e = let never : false ≡ true = quiet (Copy y) e in cc
+    by_got (Some (Share s)) e = absurd (none op s e)
 
 -- The controller.
-module _ (c : ControllerState) where
+module _ (g : Given) (c : ControllerState) (are : AreKnown g c) where
   -- the input's end is as it was, and nothing opens
   record Rests (did : Step) : Type 0 where
     end_same : did.node.end_came ≡ c.end_came
@@ -90,14 +112,16 @@ module _ (c : ControllerState) where
 
   turn_end : (op : ℕ) (t : Turn) (o : Option Answer) → (after_turn c op t o).node.end_came ≡ c.end_came
   turn_end op t None = refl
-  turn_end op t (Some a) = refl
+  turn_end op t (Some a) = elim (lasts t.operation) as (λ b. (if b then turned c op t else closed (turned c op t) op).end_came ≡ c.end_came) [ true ↦ refl | false ↦ refl ]
 
   turn_rests : (op port : ℕ) (m : Msg) (o : Option Operation) → finite.get c.operations op ≡ o → Rests (takes_turn c op (turn_of o c.store port m))
   turn_rests op port m None is = record { end_same = refl; none = λ h. h }
   turn_rests op port m (Some (Move mv)) is = record { end_same = turn_end op (turn_of (Some (Move mv)) c.store port m) (turn_of (Some (Move mv)) c.store port m).answer; none = λ h. (let never = sym (h op) ∙ is in cc) }
+  turn_rests op port m (Some (Copy y)) is = record { end_same = turn_end op (turn_of (Some (Copy y)) c.store port m) (turn_of (Some (Copy y)) c.store port m).answer; none = λ h. (let never = sym (h op) ∙ is in cc) }
+  turn_rests op port m (Some (Share s)) is = absurd (are.no_shares op s is)
 
   handed_rests : (op port : ℕ) (m : Msg) → Rests (handed c op port m)
-  handed_rests op port m = turn_rests op port m (finite.get c.operations op) refl
+  handed_rests op port m = by_turn g c are Rests op port m (turn_rests op port m (finite.get c.operations op) refl)
 
   numbered_rests : (port : ℕ) (m : Msg) (o : Option ℕ) → Rests (numbered c port m o)
   numbered_rests port m None = rests
@@ -123,10 +147,19 @@ module _ (c : ControllerState) where
   between_end op filter keep None b = refl
   between_end op filter keep (Some a) None = refl
 
+  copies_end : (op : ℕ) (filter : Option Filter) (a b : Option ℕ) → SameEnd (copies_between c op filter a b)
+  copies_end op filter (Some a) (Some b) = refl
+  copies_end op filter None b = refl
+  copies_end op filter (Some a) None = refl
+
+  shares_end : (op : ℕ) (filter : Filter) (members : List ℕ) → SameEnd (begins_share c op filter members)
+  shares_end op filter [] = refl
+  shares_end op filter (home ∷ others) = refl
+
   begins_end : (op : ℕ) (what : Order) → SameEnd (begins c op what)
   begins_end op (order.Move source destination filter keep) = between_end op filter keep (place_of c.names source) (place_of c.names destination)
-  begins_end op (order.Copy source destination filter) = refl
-  begins_end op (order.Share members filter) = refl
+  begins_end op (order.Copy source destination filter) = copies_end op filter (place_of c.names source) (place_of c.names destination)
+  begins_end op (order.Share members filter) = shares_end op filter (filter_map (place_of c.names) members)
 
   decided_end : (op : ℕ) (what : Order) (o : Option Answer) → SameEnd (decided c op what o)
   decided_end op what (Some a) = refl
@@ -147,7 +180,7 @@ module _ (c : ControllerState) where
     by_rests : (did : Step) → Rests did → (c.end_came ≡ true → no_command way ≡ true) → Ended did way
     by_rests did r ended = record { ended = λ e. ended (sym r.end_same ∙ e); none = λ e h. (r.end_same ∙ e, r.none h) }
 
-    module _ {R : Type 0} (f : Semantics R) (g : Given) where
+    module _ {R : Type 0} (f : Semantics R) where
       pub row_ends : (p : ℕ) (m : Msg) → Label f g p 1 m → in_order (sign_in m ++ way) ≡ true → (c.end_came ≡ true → no_command (sign_in m ++ way) ≡ true) → Ended (controller.row c p m) way
       row_ends p (msg.Asked k) label ordered ended = record {
         ended = λ e. (let never : false ≡ true = ended (sym (asked_end p k) ∙ e) in cc);
@@ -157,6 +190,7 @@ module _ (c : ControllerState) where
         | true ↦ λ on. record { ended = λ e. ordered; none = λ e h. (refl, h) }
         | false ↦ λ off. record { ended = λ e. ordered; none = λ e h. (e, h) }
       ] refl
+      row_ends p (msg.Diverted cell) label ordered ended = absurd label
       row_ends p (msg.InCommand k) label ordered ended = let never = label.0.1 in cc
       row_ends p msg.InEnd label ordered ended = let never = label.1 in cc
       row_ends p (msg.Event op cell) label ordered ended = by_rests _ (event_rests p op cell (instance_at c p)) ended

@@ -1,5 +1,5 @@
 -- Every run keeps the promises, and a complete one those of its end.
-use Rattle.std.proofs.Common.{◌≡◌, ◌≢◌, ℕ, ◌+◌, true, None, Result, Ok, Err, IfOk, List, length, refl, sym, ap, subst, ◌∙◌}
+use Rattle.std.proofs.Common.{◌≡◌, ◌≢◌, ℕ, ◌+◌, true, Result, Ok, Err, IfOk, List, length, refl, sym, ap, subst, ◌∙◌}
 use Rattle.std.specs.declared.alloc.Global.{Global}
 use Rattle.nf_function.specs.Records.{Laws as FunctionLaws}
 use Rattle.nf_function.specs.Semantics.{Semantics}
@@ -18,26 +18,30 @@ use Rattle.nf_net.specs.declared.config.Config.{Config}
 use Rattle.nf_net.specs.declared.node.Node.{Node}
 use Rattle.nf_net.specs.Input.{IsInput}
 use Rattle.nf_net.specs.Nodes.{node_step, node_ready, node_ended}
-use Rattle.nf_net.specs.Promises.{Promises, Completed, went}
+use Rattle.nf_net.specs.Promises.{Promises, Completed}
+use Rattle.nf_net.specs.Standby.{Standbys}
 use Rattle.nf_net.specs.Start.{started}
 use Rattle.nf_net.specs.Verdicts.{Verdicts}
 use Rattle.nf_net.specs.Window.{AllHome}
 use Rattle.nf_net.proofs.ArrivalLemmas.{arrivals_run}
+use Rattle.nf_net.proofs.ChunkMoves.{chunks_moved}
 use Rattle.nf_net.proofs.CompleteRuns.{complete_run, fold_is}
 use Rattle.nf_net.proofs.OutputSteps.{outputs_run}
-use Rattle.nf_net.proofs.RecordPromises.{record_is, one_place}
-use Rattle.nf_net.proofs.CommandPromises.{run_answers}
+use Rattle.nf_net.proofs.LiveRecords.{live_folds}
+use Rattle.nf_net.proofs.RecordPromises.{one_place}
+use Rattle.nf_net.proofs.CommandPromises.{run_answers, no_rules}
 use Rattle.nf_net.proofs.JudgedRuns.{verdicts}
+use Rattle.nf_net.proofs.MovesUnderWay.{moves_under_way}
 use Rattle.nf_net.proofs.PathPromises.{in_place, each_in_place, came_once}
 use Rattle.nf_net.proofs.PlaceRuns.{places}
+use Rattle.nf_net.proofs.RecordStands.{record_stands}
 use Rattle.nf_net.proofs.SettleRuns.{settles}
 use Rattle.nf_net.proofs.SourceRuns.{stays_at_source}
+use Rattle.nf_net.proofs.StandbyRuns.{standbys}
 use Rattle.nf_net.proofs.WindowRuns.{window_kept, all_home}
-use Rattle.nf_net.proofs.StartJoined.{given, count_at_start}
-use Rattle.nf_net.proofs.Joined.{S}
+use Rattle.nf_net.proofs.StartJoined.{count_at_start}
 use Rattle.actor_net.proofs.RunInduction.{run_world}
-use Rattle.abstract_net.proofs.Readings as readings
-use Rattle.nf_net.proofs.RunsJoined.{run_joined, start_world, in_order, once, done_same}
+use Rattle.nf_net.proofs.RunsJoined.{run_joined, start_world, in_order, once}
 
 module _ (F : Type 0) {R : Type 0} (f : Semantics R) (laws : FunctionLaws f) (alloc : Global) (c : Config) (items : List Msg) (is : IsInput f.kind c items) (cs : List Choice) where
   abbrev w : Network (Node F R) Msg Note
@@ -57,13 +61,16 @@ module _ (F : Type 0) {R : Type 0} (f : Semantics R) (laws : FunctionLaws f) (al
         came_once = came_once f c items is w turn;
         each_in_place = each_in_place f c items is (length c.names + 2) refl w counted j reached.0 turn;
         outputs_are = outputs_run F f laws alloc c items is cs runs;
-        records_are = λ u i r live. fold_is f c items is None (went f c items u w.log) ∙ ap (λ ps. readings.fold (S f (given f c items is)).F None ps) (sym (done_same f c items is (length c.names + 2) w j u)) ∙ record_is f c items is (length c.names + 2) w counted j u i r live;
+        records_are = λ u i r live. live_folds f c items is (length c.names + 2) w counted j u i r live;
         places = places F f laws alloc c items is cs runs;
         settles = settles F f laws alloc c items is cs runs (places F f laws alloc c items is cs runs);
         answers = run_answers F f laws alloc c items is cs runs;
+        no_rules = no_rules F f laws alloc c items is cs runs;
         at_source = stays_at_source F f laws alloc c items is cs runs;
         window = window_kept F f laws alloc c items is cs runs;
         one_record = λ u i k r s. one_place f c items is (length c.names + 2) w counted j u i k r s;
+        record_stands = record_stands f c items is (length c.names + 2) refl w counted j reached.0 turn;
+        chunks_moved = chunks_moved f laws c items is (length c.names + 2) refl w counted j reached.0 (moves_under_way F f laws alloc c items is cs runs j);
       }
 
   pub every_end : IsRun node_ready (node_step f) cs (started {F = F} {R = R} alloc c items) → is_done node_ended w ≡ true → Completed f c items w
@@ -98,6 +105,7 @@ module _ (F : Type 0) {R : Type 0} (f : Semantics R) (laws : FunctionLaws f) (al
     pub end : EndsIn f first schedule r.0
     pub promises : Promises f c items r.0
     pub verdicts : Verdicts f first r.1 c items
+    pub standbys : Standbys f first r.1 c items
     pub completed : Completed f c items r.0
     pub home : AllHome c r.0
 
@@ -122,6 +130,7 @@ module _ (F : Type 0) {R : Type 0} (f : Semantics R) (laws : FunctionLaws f) (al
         };
         promises = all.promises;
         verdicts = verdicts F f laws alloc c items is r.1 runs;
+        standbys = standbys F f laws alloc c items is r.1 runs;
         completed = all.completed;
         home = all.home;
       }
@@ -133,14 +142,15 @@ module _ (F : Type 0) {R : Type 0} (f : Semantics R) (laws : FunctionLaws f) (al
     pub end : IfOk result (λ r. EndsIn f (started alloc c items) schedule r.0)
     pub promises : IfOk result (λ r. Promises f c items r.0)
     pub verdicts : IfOk result (λ r. Verdicts f (started {F = F} {R = R} alloc c items) r.1 c items)
+    pub standbys : IfOk result (λ r. Standbys f (started {F = F} {R = R} alloc c items) r.1 c items)
     pub completed : IfOk result (λ r. Completed f c items r.0)
     pub home : IfOk result (λ r. AllHome c r.0)
 
   pub ends : {E : Type 0} (result : Result (Network (Node F R) Msg Note × List Choice) E) (w : Network (Node F R) Msg Note) → w ≡ started alloc c items → IfOk result (λ r. r.1 ≡ chosen f w schedule) → IfOk result (λ r. r.0 ≡ run (node_step f) r.1 w) → IfOk result (λ r. IsRun node_ready (node_step f) r.1 w) → IfOk result (λ r. is_done node_ended r.0 ≡ true) → Ends result
-  ends (Err e) w start a b d h = record { choices = tt; end = tt; promises = tt; verdicts = tt; completed = tt; home = tt }
+  ends (Err e) w start a b d h = record { choices = tt; end = tt; promises = tt; verdicts = tt; standbys = tt; completed = tt; home = tt }
   ends (Ok r) w start a b d h =
       let k = keeps F f laws alloc c items is schedule w start r (record { choices = a; world = b; is_run = d; complete = h }) in
-      record { choices = k.choices; end = k.end; promises = k.promises; verdicts = k.verdicts; completed = k.completed; home = k.home }
+      record { choices = k.choices; end = k.end; promises = k.promises; verdicts = k.verdicts; standbys = k.standbys; completed = k.completed; home = k.home }
 
   pub stops : (w : Network (Node F R) Msg Note) → w ≡ started alloc c items → (step : ℕ) → length (chosen f w schedule) ≡ step → StopsShort node_ready node_ended (run (node_step f) (chosen f w schedule) w) step → StopsAt f (started {F = F} {R = R} alloc c items) schedule step
   stops w start step count short = subst (λ v. StopsAt f v schedule step) start (record { count = count; short = short })
@@ -159,3 +169,10 @@ replay_judges F {R = R} f laws alloc c items is cs w (Ok reached) start h =
     let ok = replayed_ok node_ready (node_step f) cs w reached (sym (h (λ bad. cc))) in
     let runs : IsRun node_ready (node_step f) cs (started {F = F} {R = R} alloc c items) = subst (λ v. IsRun node_ready (node_step f) cs v) start ok.0 in
     subst (λ v. Verdicts f v cs c items) (sym start) (verdicts F f laws alloc c items is cs runs)
+
+pub replay_stands : (F : Type 0) {R : Type 0} (f : Semantics R) (laws : FunctionLaws f) (alloc : Global) (c : Config) (items : List Msg) (is : IsInput f.kind c items) (cs : List Choice) (w : Network (Node F R) Msg Note) (result : Result (Network (Node F R) Msg Note) ReplayFault) → w ≡ started alloc c items → (result ≢ Err NoMemory → result ≡ replayed node_ready (node_step f) cs w) → IfOk result (λ reached. Standbys f w cs c items)
+replay_stands F f laws alloc c items is cs w (Err e) start h = tt
+replay_stands F {R = R} f laws alloc c items is cs w (Ok reached) start h =
+    let ok = replayed_ok node_ready (node_step f) cs w reached (sym (h (λ bad. cc))) in
+    let runs : IsRun node_ready (node_step f) cs (started {F = F} {R = R} alloc c items) = subst (λ v. IsRun node_ready (node_step f) cs v) start ok.0 in
+    subst (λ v. Standbys f v cs c items) (sym start) (standbys F f laws alloc c items is cs runs)

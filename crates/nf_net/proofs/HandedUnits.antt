@@ -11,7 +11,7 @@ use Rattle.event_store.specs.Store.{stored}
 use Rattle.switch_rules.specs.declared.target.Target.TheVariants as target
 use Rattle.move_op.specs.Move.{MovePlan}
 use Rattle.ctrl_node.specs.declared.operation.Operation.{Operation}
-use Rattle.ctrl_node.specs.declared.operation.Operation.TheVariants.{Move}
+use Rattle.ctrl_node.specs.declared.operation.Operation.TheVariants.{Move, Copy, Share}
 use Rattle.ctrl_node.specs.Controller.{ControllerState, place_of}
 use Rattle.nf_msgs.specs.declared.command.Order.TheVariants as order
 use Rattle.nf_msgs.specs.declared.note.Note.{Note}
@@ -85,6 +85,8 @@ module _ {R : Type 0} (f : Semantics R) (g : Given) where
     where
       by_got : (o : Option Operation) → finite.get c.operations op ≡ o → Sees f (place g) (Some e) o (stored c.store op) → plan.keep ≡ false
       by_got None got sees = absurd sees
+      by_got (Some (Copy y)) got sees = absurd sees
+      by_got (Some (Share s)) got sees = absurd sees
       by_got (Some (Move m)) got sees =
           let move = is.moves op m got in
           let same : g.orders op ≡ Some (order.Move move.plan.source move.plan.destination m.plan.filter m.plan.keep) = ap g.orders (sym move.op_is) ∙ move.plan.order_is in

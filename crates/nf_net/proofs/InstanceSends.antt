@@ -99,3 +99,10 @@ module _ {R : Type 0} (f : Semantics R) (laws : FunctionLaws f) (g : Given) wher
   -- what a stream sends
   pub stream_sends : (k op : ℕ) (g' : Filter) (live : Records R) → 2 ≤ k → AreSound f live → EachSent (Label f g) k (told (map (msg.Piece op) (pieces (chunks_of f (taken_by g' live)))))
   stream_sends k op g' live two sound = pieces_sent k op two (pieces (chunks_of f (taken_by g' live))) (taken_good g' live sound)
+
+  -- what a copy is given
+  pub get_sends : (k op : ℕ) (g' : Filter) (live : Records R) → 2 ≤ k → AreSound f live → EachSent (Label f g) k (told (msg.Chunks op (chunks_of f (taken_by g' live)) ∷ []))
+  get_sends k op g' live two sound =
+      let es = finite.entries (taken_by g' live) in
+      let valid = all_each (λ e. f.is_valid e.0 e.1 ≡ true) es (valid_entries f (taken_by g' live) (sound_retain_keys f live (takes g') sound)) in
+      (((two, refl), all_good es valid (distinct_entries (taken_by g' live))), tt)

@@ -1,5 +1,5 @@
 -- An instance's step on a message of a run leads from a world of a run to one.
-use Rattle.std.proofs.Common.{◌≡◌, ◌≢◌, ℕ, zero, suc, ◌<◌, ◌≤◌, Bool, true, false, Some, List, [], ◌++◌, refl, sym, ap, ◌∙◌, subst, append-nil, arith}
+use Rattle.std.proofs.Common.{◌≡◌, ◌≢◌, ℕ, zero, suc, ◌<◌, ◌≤◌, Bool, true, false, Some, None, List, [], ◌++◌, refl, sym, ap, ◌∙◌, subst, append-nil, arith}
 use Rattle.std.specs.Prelude.{if◌then◌else◌, ◌&&◌, ◌||◌, ◌==◌}
 use Rattle.std.specs.List.{filter_map}
 use Rattle.std.proofs.lemmas.Bool.Decides.{nat_tests, Decides-eqb}
@@ -17,7 +17,7 @@ use Rattle.packet_pool.specs.Pool.{FullCell}
 use Rattle.event_filter.specs.declared.action.Action.{Action}
 use Rattle.event_filter.specs.declared.mark.Mark.TheVariants as mark
 use Rattle.instance_worker.specs.declared.instance.Instance.{Instance as InstanceState}
-use Rattle.instance_worker.specs.Instance.{instance_step, on_stop}
+use Rattle.instance_worker.specs.Instance.{instance_step}
 use Rattle.actor_net.proofs.WaitingMessages.{less_first}
 use Rattle.unit_machine.proofs.Real as real
 use Rattle.unit_machine.proofs.Real.{sent_for}
@@ -36,6 +36,7 @@ use Rattle.nf_net.proofs.LogLemmas.{arrived-append, done-append, by_node-append,
 use Rattle.nf_net.proofs.InstanceNotes.{AreOwn, none_arrived, none_installed, done_own}
 use Rattle.nf_net.proofs.InstanceKeeps.{has_records, chunks_good}
 use Rattle.nf_net.proofs.InstanceRows.{IsRight, Leaves, carry_leaves, pass_leaves, fence_leaves, stop_leaves, enable_leaves, stream_leaves, delete_leaves, put_leaves, restore_leaves}
+use Rattle.nf_net.proofs.CopyRows.{Hides, stop_hides, get_hides, get_all_hides, standby_hides, put_all_hides, get_leaves, get_all_leaves, standby_leaves, put_all_leaves}
 use Rattle.nf_net.proofs.Joined.{Given, owner_by, loose_by, place, Nodes, Took, Scene, S, shown, is_of, commands, by_node, Genuine, AreGoodChunks, IsGoodPiece, Label, IsInstanceAt, AreShown, IsTaken, Leads, node_of}
 
 or_false : (b : Bool) → b || false ≡ b
@@ -159,29 +160,30 @@ module _ {F R : Type 0} (f : Semantics R) (laws : FunctionLaws f) (g : Given) (n
     | false ↦ λ _. refl
   ] refl
 
-  -- the stop isn't shown
-  stop_leads : AreShown f g n x → IsTaken f g n x (took msg.Stop) → Leaves f g own_node (on_stop own) → Leads f g n x (took msg.Stop) (node_step f (node_of x.nodes own_node) p msg.Stop)
-  stop_leads are is leaves =
+  -- a step on a message that isn't shown, and that no move sees
+  unseen_leads : (m : Msg) → AreShown f g n x → IsTaken f g n x (took m) → shown f g m ≡ None → Hides f g own (instance_step f own m) → Leaves f g own_node (instance_step f own m) → Leads f g n x (took m) (node_step f (node_of x.nodes own_node) p m)
+  unseen_leads m are is hidden hides leaves =
+      let step = instance_step f own m in
       let at = are.instances own_node (omega arith) is.receiver in
       record {
-        nodes = nodes_after (on_stop own).node;
-        own = own_is (on_stop own).node;
-        others = others_are (on_stop own).node;
+        nodes = nodes_after step.node;
+        own = own_is step.node;
+        others = others_are step.node;
         world = x.world;
-        links = λ a b. sym (ap (λ ms. x.world.link a b ++ ms) (if_none (a == own_node)) ∙ append-nil (x.world.link a b));
+        links = λ a b. rw hidden (sym (ap (λ sends. x.world.link a b ++ (if a == own_node then sent_for b sends else [])) hides.sends ∙ ap (λ ms. x.world.link a b ++ ms) (if_none (a == own_node)) ∙ append-nil (x.world.link a b)));
         labels = leaves.sends;
         shown_is = record {
           switch = are.switch;
           controller = are.controller;
-          owners = owners_after are (on_stop own).notes leaves.notes;
-          instances = λ k two within. subst (λ seen. IsInstanceAt f g k (put x.nodes.instance own_node (on_stop own).node k) seen) (same_world k) (instances_after are (on_stop own).node (x.world.inst own_node) leaves.node at.outline_is k two within);
-          every = every_after are (on_stop own).notes leaves.notes x.world are.every;
-          done_is = sym (append-nil x.world.done) ∙ done_after are (on_stop own).notes leaves.notes [] refl;
+          owners = owners_after are step.notes leaves.notes;
+          instances = λ k two within. subst (λ seen. IsInstanceAt f g k (put x.nodes.instance own_node step.node k) seen) (same_world k) (instances_after are step.node (x.world.inst own_node) leaves.node (hides.outline_is ∙ at.outline_is) k two within);
+          every = every_after are step.notes leaves.notes x.world are.every;
+          done_is = sym (append-nil x.world.done) ∙ done_after are step.notes leaves.notes [] hides.ran;
           rising = rising_after (x.world.link 0 1) refl are;
         };
       }
 
--- The messages that an instance takes in a run of moves.
+-- The messages that an instance takes in a run of moves and copies.
 module _ {R : Type 0} (f : Semantics R) (g : Given) (Goal : Msg → Type 0) where
   pub record Rows : Type 0 where
     pub carry : (cell : FullCell) → Genuine f g cell → Goal (msg.Carry mark.Plain cell)
@@ -193,6 +195,10 @@ module _ {R : Type 0} (f : Semantics R) (g : Given) (Goal : Msg → Type 0) wher
     pub delete : (op : ℕ) (gone : List units.Unit) → Goal (msg.Delete op gone)
     pub put : (op : ℕ) (piece : Piece) (first : Bool) → IsGoodPiece f g piece → Goal (msg.Put op piece first)
     pub restore : (op : ℕ) (chunks : List Chunk) → AreGoodChunks f g chunks → Goal (msg.Restore op chunks)
+    pub get : (op : ℕ) (filter : Filter) → Goal (msg.Get op filter)
+    pub get_all : (op : ℕ) → Goal (msg.GetAll op)
+    pub standby : (op : ℕ) (chunks : List Chunk) → AreGoodChunks f g chunks → Goal (msg.Standby op chunks)
+    pub put_all : (op : ℕ) (chunk : Chunk) → Goal (msg.PutAll op chunk)
 
   pub by_message : (p j : ℕ) → Rows → (m : Msg) → Label f g p (suc (suc j)) m → Goal m
   by_message p j r (msg.Carry mark.Plain cell) label = r.carry cell label.2
@@ -227,14 +233,14 @@ module _ {R : Type 0} (f : Semantics R) (g : Given) (Goal : Msg → Type 0) wher
   by_message p j r msg.Final label = let never = label.1 in cc
   by_message p j r (msg.Credit cell) label = let never = label.1 in cc
   by_message p j r (msg.Diverted cell) label = absurd label
-  by_message p j r (msg.Get op filter) label = absurd label
-  by_message p j r (msg.GetAll op) label = absurd label
-  by_message p j r (msg.Standby op chunks) label = absurd label
-  by_message p j r (msg.PutAll op chunk) label = absurd label
+  by_message p j r (msg.Get op filter) label = r.get op filter
+  by_message p j r (msg.GetAll op) label = r.get_all op
+  by_message p j r (msg.Standby op chunks) label = r.standby op chunks label.1
+  by_message p j r (msg.PutAll op chunk) label = r.put_all op chunk
   by_message p j r (msg.Sync home op chunks) label = absurd label
-  by_message p j r (msg.Chunks op chunks) label = absurd label
-  by_message p j r (msg.AllChunk op chunk) label = absurd label
-  by_message p j r (msg.Kept op) label = absurd label
+  by_message p j r (msg.Chunks op chunks) label = let never = label.0.1 in cc
+  by_message p j r (msg.AllChunk op chunk) label = let never = label.1 in cc
+  by_message p j r (msg.Kept op) label = let never = label.1 in cc
   by_message p j r (msg.Seen op packet) label = absurd label
   by_message p j r (msg.Shared op chunk) label = absurd label
   by_message p j r (msg.Synced op) label = absurd label
@@ -272,17 +278,24 @@ module _ {F R : Type 0} (f : Semantics R) (laws : FunctionLaws f) (g : Given) (f
     restore_leads : (op : ℕ) (chunks : List Chunk) → Taken (msg.Restore op chunks) → AreGoodChunks f g chunks → Now (msg.Restore op chunks)
     restore_leads op chunks is e = shown_leads f laws g n x p j (msg.Restore op chunks) (net.Mv everything (real.M_restore op (entries f chunks))) are is refl (restore_follows f laws g.site g.packet (place g) (x.nodes.instance (suc (suc j))) op chunks (chunks_good f laws g chunks e)) (restore_leaves f laws g fitting (suc (suc j)) two (x.nodes.instance (suc (suc j))) op chunks h e)
 
+    abbrev own_at : InstanceState F R
+    own_at = x.nodes.instance (suc (suc j))
+
     all_rows : Rows f g (λ m. Taken m → Now m)
     all_rows = record {
       carry = λ cell e is. carry_leads cell is e;
       pass = λ op cell e is. pass_leads op cell is e;
       fence = λ op is. fence_leads op is;
-      stop = λ is. stop_leads f laws g n x p j are is (stop_leaves f laws g fitting (suc (suc j)) two (x.nodes.instance (suc (suc j))) h);
+      stop = λ is. unseen_leads f laws g n x p j msg.Stop are is refl (stop_hides f g own_at) (stop_leaves f laws g fitting (suc (suc j)) two own_at h);
       enable = λ op filter act w e is. enable_leads op filter act is (w, e);
       stream = λ op filter w is. stream_leads op filter is w;
       delete = λ op gone is. delete_leads op gone is;
       put = λ op piece first e is. put_leads op piece first is e;
       restore = λ op chunks e is. restore_leads op chunks is e;
+      get = λ op filter is. unseen_leads f laws g n x p j (msg.Get op filter) are is refl (get_hides f g own_at op filter) (get_leaves f laws g (suc (suc j)) two own_at op filter h);
+      get_all = λ op is. unseen_leads f laws g n x p j (msg.GetAll op) are is refl (get_all_hides f g own_at op) (get_all_leaves f laws g (suc (suc j)) two own_at op h);
+      standby = λ op chunks e is. unseen_leads f laws g n x p j (msg.Standby op chunks) are is refl (standby_hides f g own_at op chunks) (standby_leaves f laws g (suc (suc j)) two own_at op chunks h e);
+      put_all = λ op chunk is. unseen_leads f laws g n x p j (msg.PutAll op chunk) are is refl (put_all_hides f g own_at op chunk) (put_all_leaves f laws g (suc (suc j)) two own_at op chunk h);
     }
 
     pub each_leads : (m : Msg) → Taken m → Now m

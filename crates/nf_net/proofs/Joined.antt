@@ -1,5 +1,5 @@
 -- What holds of each world of a run: a world of the abstract network shows it, and its messages and nodes are such as come in a
--- run of moves.
+-- run of moves and copies.
 use Rattle.std.proofs.Common.{◌≡◌, ◌≢◌, ℕ, zero, suc, ◌+◌, ◌<◌, ◌≤◌, Bool, true, false, Option, Some, None, List, [], ◌∷◌, ◌++◌, length, get_or}
 use Rattle.std.specs.Prelude.{if◌then◌else◌, ◌&&◌, ◌==◌, not, nat_lt}
 use Rattle.std.specs.List.{filter_map, IsDistinct}
@@ -33,8 +33,11 @@ use Rattle.move_op.specs.declared.door.Door.TheVariants as door
 use Rattle.move_op.specs.declared.phase.Phase.{Phase}
 use Rattle.move_op.specs.declared.phase.Phase.TheVariants as phase
 use Rattle.move_op.specs.Move.{MovePlan, MoveState, answer_of}
+use Rattle.copy_share.specs.Copy.{CopyPlan, CopyState}
+use Rattle.copy_share.specs.Copy as copy
+use Rattle.copy_share.specs.Share.{ShareState}
 use Rattle.switch_node.specs.Switch.{SwitchState, takes_in}
-use Rattle.ctrl_node.specs.declared.operation.Operation.TheVariants.{Move}
+use Rattle.ctrl_node.specs.declared.operation.Operation.TheVariants.{Move, Copy, Share}
 use Rattle.ctrl_node.specs.Controller.{ControllerState, place_of}
 use Rattle.instance_worker.specs.declared.instance.Instance.{Instance as InstanceState}
 use Rattle.actor_net.specs.Network.{Network, Stepped, waiting}
@@ -76,6 +79,14 @@ pub record IsPlan (g : Given) (op : ℕ) (plan : MovePlan) : Type 0 where
   pub source : List ℕ
   pub destination : List ℕ
   pub order_is : g.orders op ≡ Some (order.Move source destination plan.filter plan.keep)
+  pub from_is : place_of g.names source ≡ Some plan.from
+  pub to_is : place_of g.names destination ≡ Some plan.to
+
+-- the plan of a copy is that of the order under its number
+pub record IsCopyPlan (g : Given) (op : ℕ) (plan : CopyPlan) : Type 0 where
+  pub source : List ℕ
+  pub destination : List ℕ
+  pub order_is : g.orders op ≡ Some (order.Copy source destination plan.filter)
   pub from_is : place_of g.names source ≡ Some plan.from
   pub to_is : place_of g.names destination ≡ Some plan.to
 
@@ -135,14 +146,20 @@ module _ {R : Type 0} (f : Semantics R) (g : Given) where
   abbrev pub count : ℕ
   count = length g.names
 
-  -- a move's order between two names, of a filter that splits no unit
-  abbrev pub is_move : Order → Bool
-  is_move (order.Move src dst filter keep) = is_whole f.kind filter && not (bytes_eq src dst)
-  is_move what = false
+  -- a filter that splits no unit, if there is one
+  abbrev pub is_whole_if : Option Filter → Bool
+  is_whole_if None = true
+  is_whole_if (Some filter) = is_whole f.kind filter
+
+  -- an order to move or copy between two names, with such a filter
+  abbrev pub is_built : Order → Bool
+  is_built (order.Move src dst filter keep) = is_whole f.kind filter && not (bytes_eq src dst)
+  is_built (order.Copy src dst filter) = is_whole_if filter && not (bytes_eq src dst)
+  is_built (order.Share members filter) = false
 
   pub record IsCommand (c : Command) : Type 0 where
     pub known : g.orders c.op ≡ Some c.what
-    pub moves : is_move c.what ≡ true
+    pub built : is_built c.what ≡ true
 
   -- a chunk that spells a valid record of its unit, and packets may have the unit
   pub record IsGoodChunk (c : Chunk) : Type 0 where
@@ -180,7 +197,17 @@ module _ {R : Type 0} (f : Semantics R) (g : Given) where
     pub refusing : IsRefusing m.phase
     pub pieces : HasPieces m.phase
 
-  -- the messages that come in a run of moves, by sender and receiver
+  -- an open copy of a number
+  pub record IsCopy (op : ℕ) (c : CopyState) : Type 0 where
+    pub op_is : c.plan.op ≡ op
+    pub from : nat_lt c.plan.from count ≡ true
+    pub to : nat_lt c.plan.to count ≡ true
+    pub other : c.plan.from ≢ c.plan.to
+    pub whole : is_whole_if c.plan.filter ≡ true
+    pub plan : IsCopyPlan g c.plan.op c.plan
+    pub going : copy.answer_of c.phase ≡ None
+
+  -- the messages that come in a run of moves and copies, by sender and receiver
   abbrev pub Label : ℕ → ℕ → Msg → Type 0
   Label s r (msg.InPacket p) = Input s r × GenuinePacket p
   Label s r (msg.InCommand c) = Input s r × IsCommand c
@@ -201,6 +228,10 @@ module _ {R : Type 0} (f : Semantics R) (g : Given) where
   Label s r (msg.Delete op gone) = FromController s r
   Label s r (msg.Put op piece first) = FromController s r × IsGoodPiece piece
   Label s r (msg.Restore op chunks) = FromController s r × AreGoodChunks chunks
+  Label s r (msg.Get op filter) = FromController s r × (is_whole f.kind filter ≡ true)
+  Label s r (msg.GetAll op) = FromController s r
+  Label s r (msg.Standby op chunks) = FromController s r × AreGoodChunks chunks
+  Label s r (msg.PutAll op chunk) = FromController s r
   Label s r (msg.Enabled op) = ToController s r
   Label s r (msg.Piece op piece) = ToController s r × IsGoodPiece piece
   Label s r (msg.Deleted op) = ToController s r
@@ -209,6 +240,9 @@ module _ {R : Type 0} (f : Semantics R) (g : Given) where
   Label s r (msg.Restored op) = ToController s r
   Label s r (msg.Event op cell) = ToController s r × Genuine cell
   Label s r (msg.Fenced op) = ToController s r
+  Label s r (msg.Chunks op chunks) = ToController s r × AreGoodChunks chunks
+  Label s r (msg.AllChunk op chunk) = ToController s r
+  Label s r (msg.Kept op) = ToController s r
   Label s r msg.Final = ToController s r
   Label s r (msg.Credit cell) = (2 ≤ s) × (r ≡ 0) × (cell.pool ≡ 0)
   Label s r message = ⊥
@@ -248,9 +282,12 @@ module _ {R : Type 0} (f : Semantics R) (g : Given) where
     pub names : c.names ≡ g.names
     pub opens : Opens f (place g) ops c
     pub moves : (op : ℕ) (m : MoveState) → finite.get c.operations op ≡ Some (Move m) → IsMove op m
+    pub copies : (op : ℕ) (y : CopyState) → finite.get c.operations op ≡ Some (Copy y) → IsCopy op y
+    pub no_shares : (op : ℕ) (s : ShareState) → finite.get c.operations op ≢ Some (Share s)
     pub listed : Each (IsListed c) ops
     pub nothing : (op : ℕ) → next ≤ op → stored c.store op ≡ []
     pub emptied : (op : ℕ) → finite.get c.operations op ≡ None → stored c.store op ≡ []
+    pub unstored : (op : ℕ) (y : CopyState) → finite.get c.operations op ≡ Some (Copy y) → stored c.store op ≡ []
     pub going : (op : ℕ) (m : MoveState) → finite.get c.operations op ≡ Some (Move m) → answer_of m.phase ≡ None
     pub genuine : (op : ℕ) → Each Genuine (stored c.store op)
 

@@ -1,5 +1,5 @@
 -- The controller's step keeps what is known of open moves and of their answers, asks once for a command's state, and puts one piece of it first.
-use Rattle.std.proofs.Common.{◌≡◌, ℕ, ◌+◌, ◌≤◌, Bool, true, false, cond, Option, Some, None, List, [], ◌∷◌, ◌++◌, get_or, refl, sym, ap, ◌∙◌, subst, arith}
+use Rattle.std.proofs.Common.{◌≡◌, ◌≢◌, ℕ, ◌+◌, ◌≤◌, Bool, true, false, cond, Option, Some, None, List, [], ◌∷◌, ◌++◌, refl, sym, ap, ◌∙◌, subst, arith}
 use Rattle.std.specs.Prelude.{if◌then◌else◌, ◌==◌, is_some, option_map, unwrap_or}
 use Rattle.std.specs.Option.{option_or}
 use Rattle.std.specs.FinMap as finite
@@ -17,39 +17,31 @@ use Rattle.nf_msgs.specs.declared.msg.Msg.{Msg}
 use Rattle.nf_msgs.specs.declared.msg.Msg.TheVariants as msg
 use Rattle.nf_msgs.specs.declared.note.Note.{Note}
 use Rattle.nf_msgs.specs.declared.note.Note.TheVariants as note
+use Rattle.nf_msgs.specs.Nodes.{instance_node}
 use Rattle.nf_msgs.specs.Shown.{op_of}
+use Rattle.copy_share.specs.Copy.{CopyPlan, CopyState}
+use Rattle.copy_share.specs.Copy as copy
+use Rattle.copy_share.specs.Share.{ShareState}
 use Rattle.move_op.specs.Move.{MovePlan, MoveState, Row, row_in, begun, answer_of, destination}
 use Rattle.event_store.specs.Store.{stored}
 use Rattle.ctrl_node.specs.declared.operation.Operation.{Operation}
-use Rattle.ctrl_node.specs.declared.operation.Operation.TheVariants.{Move}
+use Rattle.ctrl_node.specs.declared.operation.Operation.TheVariants.{Move, Copy, Share}
 use Rattle.ctrl_node.specs.Operations.{OpenOperations, turn_of, moved}
 use Rattle.ctrl_node.specs.Controller as controller
-use Rattle.ctrl_node.specs.Controller.{ControllerState, Step, still, refusal, place_of, begins_between, begins, decided, on_asked, after_turn, takes_turn, handed, numbered, on_event, on_final, instance_at, unknown_name, overlap, may_finish, finished, controller_step}
+use Rattle.ctrl_node.specs.Controller.{ControllerState, Step, still, refusal, place_of, begins_between, copies_between, begins, decided, on_asked, after_turn, takes_turn, handed, numbered, on_event, on_final, instance_at, unknown_name, overlap, may_finish, finished, controller_step}
 use Rattle.actor_net.proofs.WeightLaws.{EachSent, sent_weight}
-use Rattle.unit_machine.proofs.Labels.{Each}
-use Rattle.nf_net.specs.Commands.{began, answers_of}
+use Rattle.nf_net.specs.Commands.{began}
 use Rattle.nf_net.specs.Verdicts.{is_refusal}
-use Rattle.nf_net.proofs.BusyChanges.{got_insert, got_remove, gone_twice}
+use Rattle.nf_net.proofs.OperationTables.{got_insert, got_remove, gone_twice, not_shared, handed_is as handed_turn}
+use Rattle.nf_net.proofs.ControllerActs.{other_there}
+use Rattle.nf_net.proofs.JudgedTables as tables
+use Rattle.nf_net.proofs.JudgedTables.{used, is_own, By_verdict, same_answer}
+use Rattle.nf_net.proofs.CopyTurns.{copy_turn}
+use Rattle.nf_net.proofs.KnownOperations.{NotSharing}
 use Rattle.nf_net.proofs.BusyLemmas.{began_same}
 use Rattle.nf_net.proofs.CreditCounts.{sent_weight-append}
 use Rattle.nf_net.proofs.MoveJudged.{Said, Knows, answer_known, row_follows, sent-append}
-use Rattle.nf_net.proofs.MoveOnce.{once, spent, spent_few, NoneOnce, no_one, row_spends}
-
--- a note of a command's begin or answer
-abbrev pub is_own : Note → Bool
-is_own (note.Begun op) = true
-is_own (note.Answered op answer) = true
-is_own n = false
-
--- how many of what is sent once were sent for a command, by its open operation, or else by whether it began
-abbrev pub used : Option Operation → Bool → Bool → ℕ
-used (Some (Move m)) has_begun first = spent m.phase first
-used None has_begun first = if has_begun then 1 else 0
-
-pub used_few : (o : Option Operation) (has_begun first : Bool) → used o has_begun first ≤ 1
-used_few (Some (Move m)) has_begun first = spent_few m.phase first
-used_few None true first = omega arith
-used_few None false first = omega arith
+use Rattle.nf_net.proofs.MoveOnce.{once, spent, spent_few, NoneOnce, no_one, at_most, few_counts, row_spends}
 
 -- a refusal
 refused_is : (u : Option (List ℕ)) (q : Option ℕ) (a : Answer) → option_or (option_map Unknown u) (option_map Overlap q) ≡ Some a → is_refusal a ≡ true
@@ -57,34 +49,25 @@ refused_is (Some name) q a is = subst (λ x. is_refusal x ≡ true) (ap (λ o. u
 refused_is None (Some k) a is = subst (λ x. is_refusal x ≡ true) (ap (λ o. unwrap_or o (Overlap k)) is) refl
 refused_is None None a is = cc
 
--- a command that a message brings didn't begin
+-- a command that a message brings didn't begin, and isn't to share; and no packet is diverted
 abbrev pub IsNew : List Note → Msg → Type 0
-IsNew log (msg.Asked a) = began a.op log ≡ false
+IsNew log (msg.Asked a) = (began a.op log ≡ false) × NotSharing a.what
+IsNew log (msg.Diverted cell) = ⊥
 IsNew log m = Unit {0}
 
 abbrev move_in : MoveState → Option Operation → MoveState
 move_in d (Some (Move m)) = m
-move_in d None = d
+move_in d o = d
 
-same_answer : (a b : Answer) → a ∷ [] ≡ b ∷ [] → a ≡ b
-same_answer a b is = ap (λ xs. get_or xs 0 a) is
+module _ (Part : ℕ → Piece → Type 0) (Verdict : ℕ → Answer → Type 0) (Goes : ℕ → ℕ → Type 0) (Copied : ℕ → Type 0) (log : List Note) (n : ℕ) (c : ControllerState) where
+  abbrev IsFound : ℕ → Answer → Type 0
+  IsFound = tables.IsFound Part Verdict Goes Copied log n c
 
-module _ (Part : ℕ → Piece → Type 0) (Verdict : ℕ → Answer → Type 0) (Goes : ℕ → ℕ → Type 0) (log : List Note) (n : ℕ) (c : ControllerState) where
-  -- the answer to a command that began is its verdict, and others are refused
-  pub record IsFound (op : ℕ) (a : Answer) : Type 0 where
-    pub known : began op log ≡ true → Verdict op a
-    pub refused : began op log ≡ false → is_refusal a ≡ true
+  abbrev AllKnow : OpenOperations → Type 0
+  AllKnow = tables.AllKnow Part Verdict Goes Copied log n c
 
-  -- each open move knows what it is to know
-  abbrev pub AllKnow : OpenOperations → Type 0
-  AllKnow ops = (op : ℕ) (m : MoveState) → finite.get ops op ≡ Some (Move m) → Knows Part Verdict Goes op m.phase
-
-  pub record StepIs (did : Step) : Type 0 where
-    pub knows : AllKnow did.node.operations
-    pub says : EachSent (Said Part Verdict Goes) 1 did.sends
-    pub found : (op : ℕ) (a : Answer) → answers_of op did.notes ≡ a ∷ [] → IsFound op a
-    pub own : Each (λ x. is_own x ≡ true) did.notes
-    pub once : (op : ℕ) (first : Bool) → sent_weight (once first op) n 1 did.sends + used (finite.get c.operations op) (began op log) first ≤ used (finite.get did.node.operations op) (began op (log ++ did.notes)) first
+  abbrev pub StepIs : Step → Type 0
+  StepIs = tables.StepIs Part Verdict Goes Copied log n c
 
   -- the finish behind all else
   finished_is : (did : Step) → StepIs did → StepIs (finished did)
@@ -107,18 +90,11 @@ module _ (Part : ℕ → Piece → Type 0) (Verdict : ℕ → Answer → Type 0)
       }
 
   module _ (knows : AllKnow c.operations) where
-    -- the operations stay, and nothing is noted
     quiet_is : (s : ControllerState) (sends : List (ℕ × Msg)) → s.operations ≡ c.operations → EachSent (Said Part Verdict Goes) 1 sends → ((first : Bool) → NoneOnce n 1 first sends) → StepIs (record { node = s; sends = sends; notes = [] })
-    quiet_is s sends same says none = record {
-      knows = λ op m there. knows op m (ap (λ ops. finite.get ops op) (sym same) ∙ there);
-      says = says;
-      found = λ op a is. cc;
-      own = tt;
-      once = λ op first. (let weighs = none first op in let all = ap (λ ops. used (finite.get ops op) (began op log) first) same in let begun = ap (λ b. used (finite.get s.operations op) b first) (began_same op log [] refl) in omega (arith, weighs, all, begun));
-    }
+    quiet_is = tables.quiet_is Part Verdict Goes Copied log n c knows
 
     still_is : StepIs (still c)
-    still_is = quiet_is c [] refl tt (λ first op. refl)
+    still_is = tables.still_is Part Verdict Goes Copied log n c knows
 
     -- an operation in place of one, or a new one
     knows_insert : (op : ℕ) (m : MoveState) → Knows Part Verdict Goes op m.phase → AllKnow (finite.insert c.operations op (Move m))
@@ -128,7 +104,7 @@ module _ (Part : ℕ → Piece → Type 0) (Verdict : ℕ → Answer → Type 0)
           | false ↦ λ off e. knows k x e
         ] refl (sym (got_insert c.operations op k (Move m)) ∙ there)
 
-    module _ (moves : (op : ℕ) (m : MoveState) → finite.get c.operations op ≡ Some (Move m) → (m.plan.op ≡ op) × Goes op (destination m.plan)) (busy : (op : ℕ) (m : MoveState) → finite.get c.operations op ≡ Some (Move m) → began op log ≡ true) where
+    module _ (moves : (op : ℕ) (m : MoveState) → finite.get c.operations op ≡ Some (Move m) → (m.plan.op ≡ op) × Goes op (destination m.plan)) (copies : (op : ℕ) (y : CopyState) → finite.get c.operations op ≡ Some (Copy y) → (copy.answer_of y.phase ≡ None) × Copied op) (no_shares : (op : ℕ) (s : ShareState) → finite.get c.operations op ≢ Some (Share s)) (busy : (op : ℕ) (o : Operation) → finite.get c.operations op ≡ Some o → began op log ≡ true) where
       module _ (op port : ℕ) (m : Msg) (mv : MoveState) (there : finite.get c.operations op ≡ Some (Move mv)) (own : op_of m ≡ Some op) (label : Said Part Verdict Goes port 1 m) where
         abbrev r : Row
         r = row_in mv c.store port m
@@ -184,8 +160,8 @@ module _ (Part : ℕ → Piece → Type 0) (Verdict : ℕ → Answer → Type 0)
                 let it : op ≡ k = (Decides-eqb op k).0 on in
                 let its : a ≡ b = same_answer a b given in
                 subst (λ j. IsFound j b) it (subst (λ z. IsFound op z) its (record {
-                  known = λ _. answer_known Part Verdict Goes op r.next.phase a knows_next e;
-                  refused = λ never. (let on = sym (busy op mv there) ∙ never in cc);
+                  known = λ _. By_verdict (answer_known Part Verdict Goes op r.next.phase a knows_next e);
+                  refused = λ never. (let on = sym (busy op (Move mv) there) ∙ never in cc);
                 }))
             | false ↦ λ off never. cc
           ] refl is;
@@ -198,7 +174,7 @@ module _ (Part : ℕ → Piece → Type 0) (Verdict : ℕ → Answer → Type 0)
               let here : used (finite.get (finite.remove (finite.insert c.operations op (Move x)) op) k) (began k (log ++ note.Answered op a ∷ [])) first ≡ (if k == op then 1 else used (finite.get c.operations k) (began k log) first) =
               ap (λ o. used o (began k (log ++ note.Answered op a ∷ [])) first) (gone k) ∙ ap (λ b. used (cond (k == op) None (finite.get c.operations k)) b first) begun
               ∙ elim (k == op) as (λ b. (k == op) ≡ b → used (cond b None (finite.get c.operations k)) (began k log) first ≡ (if b then 1 else used (finite.get c.operations k) (began k log) first)) [
-                | true ↦ λ on. (let has : began k log ≡ true = ap (λ j. began j log) ((Decides-eqb k op).0 on) ∙ busy op mv there in rw has refl)
+                | true ↦ λ on. (let has : began k log ≡ true = ap (λ j. began j log) ((Decides-eqb k op).0 on) ∙ busy op (Move mv) there in rw has refl)
                 | false ↦ λ off. refl
               ] refl in
               omega (arith, both, none, sent, here);
@@ -209,10 +185,12 @@ module _ (Part : ℕ → Piece → Type 0) (Verdict : ℕ → Answer → Type 0)
 
       turn_is : (op port : ℕ) (m : Msg) (o : Option Operation) → finite.get c.operations op ≡ o → op_of m ≡ Some op → Said Part Verdict Goes port 1 m → StepIs (takes_turn c op (turn_of o c.store port m))
       turn_is op port m None is own label = quiet_is (record c { operations = c.operations; store = c.store }) [] refl tt (λ first k. refl)
+      turn_is op port m (Some (Copy y)) is own label = tables.copy_is Part Verdict Goes Copied log n c knows op y is (copies op y is).1 (busy op (Copy y) is) m _ (copy_turn c op y (copies op y is).0 is port m)
+      turn_is op port m (Some (Share s)) is own label = absurd (no_shares op s is)
       turn_is op port m (Some (Move mv)) is own label = turn_by op port m mv is own label (answer_of (row_in mv c.store port m).next.phase) refl
 
       handed_is : (op port : ℕ) (m : Msg) → op_of m ≡ Some op → Said Part Verdict Goes port 1 m → StepIs (handed c op port m)
-      handed_is op port m own label = turn_is op port m (finite.get c.operations op) refl own label
+      handed_is op port m own label = subst StepIs (sym (handed_turn c op port m (not_shared c.operations op (no_shares op)))) (turn_is op port m (finite.get c.operations op) refl own label)
 
       numbered_is : (port : ℕ) (m : Msg) (o : Option ℕ) → op_of m ≡ o → Said Part Verdict Goes port 1 m → StepIs (numbered c port m o)
       numbered_is port m None own label = still_is
@@ -257,14 +235,51 @@ module _ (Part : ℕ → Piece → Type 0) (Verdict : ℕ → Answer → Type 0)
         between_is filter keep None b = still_is
         between_is filter keep (Some from) None = still_is
 
-        begins_is : (what : Order) → StepIs (begins c op what)
-        begins_is (order.Move source destination filter keep) = between_is filter keep (place_of c.names source) (place_of c.names destination)
-        begins_is (order.Copy source destination filter) = still_is
-        begins_is (order.Share members filter) = still_is
+        copies_is : (filter : Option Filter) (a b : Option ℕ) → StepIs (copies_between c op filter a b)
+        copies_is filter (Some from) (Some to) =
+            let plan : CopyPlan = record { op = op; from = from; to = to; filter = filter } in
+            record {
+              knows = λ k x e. knows k x (other_there (k == op) (Some (Copy (copy.begun plan))) (finite.get c.operations k) x tt (sym (got_insert c.operations op k (Copy (copy.begun plan))) ∙ e));
+              says = (asks_said filter, tt);
+              found = λ k a is. cc;
+              own = (refl, tt);
+              once = λ k first.
+                  let most = at_most n 1 first (instance_node from) (copy.asks op filter) k in
+                  let few = few_counts (copy.asks op filter) first k in
+                  let here : once first k (copy.asks op filter) + used (finite.get c.operations k) (began k log) first ≤ used (finite.get (finite.insert c.operations op (Copy (copy.begun plan))) k) (began k (log ++ note.Begun op ∷ [])) first =
+                  subst (λ o. once first k (copy.asks op filter) + used (finite.get c.operations k) (began k log) first ≤ used o (began k (log ++ note.Begun op ∷ [])) first) (sym (got_insert c.operations op k (Copy (copy.begun plan)))) (elim (k == op) as (λ b. (k == op) ≡ b → once first k (copy.asks op filter) + used (finite.get c.operations k) (began k log) first ≤ used (cond b (Some (Copy (copy.begun plan))) (finite.get c.operations k)) (began k (log ++ note.Begun op ∷ [])) first) [
+                    | true ↦ λ on.
+                        let it : k ≡ op = (Decides-eqb k op).0 on in
+                        let zero : used (finite.get c.operations k) (began k log) first ≡ 0 = ap (λ j. used (finite.get c.operations j) (began j log) first) it ∙ ap (λ o. used o (began op log) first) none ∙ ap (λ b. if b then 1 else 0) new in
+                        omega (arith, zero, few)
+                    | false ↦ λ off.
+                        let turned : (op == k) ≡ false = grind (arith, nat_tests, off) in
+                        let same : began k (log ++ note.Begun op ∷ []) ≡ began k log = began_same k log (note.Begun op ∷ []) (rw turned refl) in
+                        let apart = asks_apart filter first k turned in
+                        rw same (omega (arith, apart))
+                  ] refl) in
+                  omega (arith, most, here);
+            }
+          where
+            asks_said : (o : Option Filter) → Said Part Verdict Goes 1 (instance_node from) (copy.asks op o)
+            asks_said None = tt
+            asks_said (Some flt) = tt
 
-        decided_is : (what : Order) (o : Option Answer) → refusal c what ≡ o → StepIs (decided c op what o)
-        decided_is what None is = begins_is what
-        decided_is what (Some a) is =
+            asks_apart : (o : Option Filter) (first : Bool) (k : ℕ) → (op == k) ≡ false → once first k (copy.asks op o) ≡ 0
+            asks_apart None first k off = refl
+            asks_apart (Some flt) true k off = refl
+            asks_apart (Some flt) false k off = rw off refl
+        copies_is filter None b = still_is
+        copies_is filter (Some from) None = still_is
+
+        begins_is : (what : Order) → NotSharing what → StepIs (begins c op what)
+        begins_is (order.Move source destination filter keep) built = between_is filter keep (place_of c.names source) (place_of c.names destination)
+        begins_is (order.Copy source destination filter) built = copies_is filter (place_of c.names source) (place_of c.names destination)
+        begins_is (order.Share members filter) built = absurd built
+
+        decided_is : (what : Order) → NotSharing what → (o : Option Answer) → refusal c what ≡ o → StepIs (decided c op what o)
+        decided_is what built None is = begins_is what built
+        decided_is what built (Some a) is =
             let cause = refused_is (unknown_name c what) (overlap c what) a is in
             record {
               knows = knows;
@@ -284,15 +299,16 @@ module _ (Part : ℕ → Piece → Type 0) (Verdict : ℕ → Answer → Type 0)
                   omega (arith, sent, here);
             }
 
-      asked_is : (op : ℕ) (what : Order) → began op log ≡ false → StepIs (on_asked c (record { op = op; what = what }))
-      asked_is op what new = by_got (finite.get c.operations op) refl
+      asked_is : (op : ℕ) (what : Order) → NotSharing what → began op log ≡ false → StepIs (on_asked c (record { op = op; what = what }))
+      asked_is op what built new = by_got (finite.get c.operations op) refl
         where
           by_got : (o : Option Operation) → finite.get c.operations op ≡ o → StepIs (if is_some o then still c else decided c op what (refusal c what))
-          by_got None is = decided_is op new is what (refusal c what) refl
+          by_got None is = decided_is op new is what built (refusal c what) refl
           by_got (Some x) is = still_is
 
       row_is : (port : ℕ) (m : Msg) → Said Part Verdict Goes port 1 m → IsNew log m → StepIs (controller.row c port m)
-      row_is port (msg.Asked a) label new = elim (port == 0) as (λ b. StepIs (if b then on_asked c a else still c)) [ true ↦ asked_is a.op a.what new | false ↦ still_is ]
+      row_is port (msg.Asked a) label new = elim (port == 0) as (λ b. StepIs (if b then on_asked c a else still c)) [ true ↦ asked_is a.op a.what new.1 new.0 | false ↦ still_is ]
+      row_is port (msg.Diverted cell) label new = absurd new
       row_is port msg.End label new = elim (port == 0) as (λ b. StepIs (if b then still (record c { end_came = true }) else still c)) [ true ↦ quiet_is _ [] refl tt (λ first op. refl) | false ↦ still_is ]
       row_is port (msg.Event op cell) label new = event_is port op cell (instance_at c port)
       row_is port msg.Final label new = final_is (instance_at c port)

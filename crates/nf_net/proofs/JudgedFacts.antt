@@ -1,13 +1,15 @@
 -- What is known of a move's pieces by the log, and of its verdict by the choices so far: it stays known as both go on.
-use Rattle.std.proofs.Common.{◌≡◌, ℕ, ◌+◌, Bool, true, false, Some, None, List, [], ◌∷◌, ◌++◌, length, refl, sym, ap, ◌∙◌}
+use Rattle.std.proofs.Common.{◌≡◌, ℕ, ◌+◌, Bool, true, false, Option, Some, None, List, [], ◌∷◌, ◌++◌, length, refl, sym, ap, ◌∙◌}
 use Rattle.std.specs.Prelude.{if◌then◌else◌, ◌&&◌, ◌||◌, ◌==◌, nat_lt}
 use Rattle.std.specs.List.{list_any}
 use Rattle.std.specs.FinMap as finite
+use Rattle.flow_filter.specs.declared.filter.Filter.{Filter}
 use Rattle.nf_function.specs.declared.unit.Unit as units
 use Rattle.nf_function.specs.Semantics.{Semantics}
 use Rattle.state_chunk.specs.Format.{version_number}
 use Rattle.nf_msgs.specs.declared.answer.Answer.{Answer}
 use Rattle.nf_msgs.specs.declared.answer.Answer.TheVariants.{Done, Import, Old}
+use Rattle.nf_msgs.specs.declared.command.Order.TheVariants as order
 use Rattle.nf_msgs.specs.declared.msg.Piece.{Piece}
 use Rattle.nf_msgs.specs.declared.msg.Msg.{Msg}
 use Rattle.nf_msgs.specs.declared.msg.Msg.TheVariants as msg
@@ -69,6 +71,13 @@ module _ {F R : Type 0} (f : Semantics R) (c : Config) (items : List Msg) (start
     pub at_destination : is_taken.choice.node ≡ instance_node are_weighed.destination
     pub answer_is : answer ≡ verdict weighed
 
+  -- the command is to copy
+  pub record IsCopied (op : ℕ) : Type 0 where
+    pub source : List ℕ
+    pub destination : List ℕ
+    pub filter : Option Filter
+    pub order_is : order_of items op ≡ Some (order.Copy source destination filter)
+
   pub part_kept : (log notes : List Note) (op : ℕ) (piece : Piece) → IsPart log op piece → IsPart (log ++ notes) op piece
   part_kept log notes op piece h = record {
     units = h.units;
@@ -81,10 +90,11 @@ module _ {F R : Type 0} (f : Semantics R) (c : Config) (items : List Msg) (start
   unfolding taken_more
   verdict_kept cs d op answer h = record { front = h.front; is_taken = taken_more f op start cs h.front d h.is_taken; weighed = h.weighed; are_weighed = h.are_weighed; at_destination = h.at_destination; answer_is = h.answer_is }
 
-  -- a command was refused, or it began and is answered by its verdict
+  -- a command was refused, or it began and is answered by its verdict, or as a copy
   pub data IsFound (cs : List Choice) (log : List Note) (op : ℕ) (answer : Answer) : Type 0 where
     Was_refused : is_refusal answer ≡ true → IsFound cs log op answer
     Was_judged : began op log ≡ true → HasVerdict cs op answer → IsFound cs log op answer
+    Was_copied : began op log ≡ true → IsCopied op → answer ≡ Done → IsFound cs log op answer
 
   or_kept : (a b : Bool) → a ≡ true → a || b ≡ true
   or_kept true b h = refl
@@ -95,6 +105,7 @@ module _ {F R : Type 0} (f : Semantics R) (c : Config) (items : List Msg) (start
 
   pub found_kept : (cs : List Choice) (d : Choice) (log notes : List Note) (op : ℕ) (answer : Answer) → IsFound cs log op answer → IsFound (cs ++ d ∷ []) (log ++ notes) op answer
   found_kept cs d log notes op answer (Was_refused h) = Was_refused h
+  found_kept cs d log notes op answer (Was_copied b h e) = Was_copied (began_kept op log notes b) h e
   found_kept cs d log notes op answer (Was_judged b h) = Was_judged (began_kept op log notes b) (verdict_kept cs d op answer h)
 
 -- What is known goes on with the facts that it is made of.

@@ -28,7 +28,7 @@ use Rattle.actor_net.proofs.WeightLaws.{EachSent}
 use Rattle.unit_machine.proofs.Labels.{Each}
 use Rattle.instance_worker.specs.declared.instance.Instance.{Instance}
 use Rattle.instance_worker.specs.Pieces.{pieces}
-use Rattle.instance_worker.specs.Instance.{Step, told, shared, and_then, tells, still, processed, all_processed, carried, on_carry, on_fence, on_stream, on_put, on_restore, on_standby, on_sync, on_put_all, tally_put, refusal, piece_put, where_good, instance_step, selected, chunk_told, with_count, table_after}
+use Rattle.instance_worker.specs.Instance.{Step, told, shared, and_then, tells, still, processed, all_processed, carried, on_carry, on_fence, on_get, on_stream, on_put, on_restore, on_standby, on_sync, on_put_all, tally_put, refusal, piece_put, where_good, instance_step, selected, chunk_told, with_count, table_after}
 use Rattle.nf_net.proofs.MoveJudged.{Said, sent-append}
 use Rattle.nf_net.proofs.MoveOnce.{counts}
 use Rattle.nf_net.proofs.VerdictLemmas.{times_given, times_given-append}
@@ -107,6 +107,10 @@ module _ (Part : ℕ → Piece → Type 0) (Verdict : ℕ → Answer → Type 0)
     unfolding on_stream
     stream_does i op filter h = record { limit = refl; marked = refl; says = pieces_say op (pieces (selected f i filter)) h; given = λ q. omega arith }
 
+    get_does : (i : Instance F R) (op : ℕ) (filter : Filter) → Does (counts (msg.Get op filter) false) i (on_get f i op filter)
+    unfolding on_get
+    get_does i op filter = record { limit = refl; marked = refl; says = (tt, tt); given = λ q. omega arith }
+
     good_does : (i : Instance F R) (chunks : List Chunk) (did : Step F R) → Quiet i did → Quiet i (where_good f i chunks did)
     good_does i chunks did h = elim (are_good f chunks) as (λ b. Quiet i (if b then did else still i)) [ true ↦ h | false ↦ still_does i ]
 
@@ -153,7 +157,6 @@ module _ (Part : ℕ → Piece → Type 0) (Verdict : ℕ → Answer → Type 0)
     abbrev pub IsReady : Instance F R → Msg → Type 0
     IsReady i (msg.Stream op filter) = Each (Part op) (pieces (selected f i filter))
     IsReady i (msg.Put op piece first) = Verdict op (answer_by (if first then refusal i piece else None))
-    IsReady i (msg.Get op filter) = ⊥
     IsReady i m = Unit {0}
 
     pub instance_does : (i : Instance F R) (m : Msg) → IsReady i m → Does (counts m false) i (instance_step f i m)
@@ -161,7 +164,7 @@ module _ (Part : ℕ → Piece → Type 0) (Verdict : ℕ → Answer → Type 0)
     instance_does i (msg.Fence op) h = fence_does i op
     instance_does i msg.Stop h = one_told i (record i { ended = true }) msg.Final refl refl tt
     instance_does i (msg.Enable op filter act) h = one_told i (record i { rules = rules.with_rule i.rules op filter act }) (msg.Enabled op) refl refl tt
-    instance_does i (msg.Get op filter) h = absurd h
+    instance_does i (msg.Get op filter) h = get_does i op filter
     instance_does i (msg.Stream op filter) h = stream_does i op filter h
     instance_does i (msg.GetAll op) h = record { limit = refl; marked = refl; says = (tt, tt); given = λ q. refl }
     instance_does i (msg.Delete op gone) h = record { limit = refl; marked = refl; says = (tt, tt); given = λ q. refl }

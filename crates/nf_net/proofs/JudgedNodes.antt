@@ -27,7 +27,10 @@ use Rattle.nf_msgs.specs.declared.note.Note.TheVariants as note
 use Rattle.nf_msgs.specs.Exports.{units_in}
 use Rattle.nf_msgs.specs.Nodes.{instance_node}
 use Rattle.move_op.specs.Move.{MoveState, destination}
-use Rattle.ctrl_node.specs.declared.operation.Operation.TheVariants.{Move}
+use Rattle.copy_share.specs.Copy.{CopyState}
+use Rattle.copy_share.specs.Copy as copy
+use Rattle.ctrl_node.specs.declared.operation.Operation.{Operation}
+use Rattle.ctrl_node.specs.declared.operation.Operation.TheVariants.{Move, Copy}
 use Rattle.ctrl_node.specs.Controller.{controller_step}
 use Rattle.switch_node.specs.Switch as switches
 use Rattle.switch_node.specs.Switch.{SwitchState, switch_step, sends_to_instance, on_packet, on_credit, on_install}
@@ -48,7 +51,8 @@ use Rattle.nf_net.specs.declared.node.Node.TheVariants.{Controller, Instance}
 use Rattle.nf_net.specs.Commands.{began, has_answered}
 use Rattle.nf_net.specs.Input.{IsInput}
 use Rattle.nf_net.specs.Nodes.{node_step, node_ready}
-use Rattle.nf_net.specs.Promises.{live_in, live_at, went, fold}
+use Rattle.nf_net.specs.Promises.{went, fold}
+use Rattle.nf_net.specs.Records.{live_in, live_at}
 use Rattle.nf_net.specs.Verdicts.{before_export, is_timed, exported, number_in, receiver_of}
 use Rattle.nf_net.proofs.BusyLemmas.{or_off}
 use Rattle.nf_net.proofs.BusyNodes.{switch_hands, instance_says}
@@ -59,9 +63,11 @@ use Rattle.nf_net.proofs.CommandPromises.{run_busy}
 use Rattle.nf_net.proofs.CompleteRuns.{fold_is}
 use Rattle.nf_net.proofs.GivenState.{IsOf, pieces_of, Gives, selected_give, record_timed}
 use Rattle.nf_net.proofs.Joined.{Given, Label, S, Joined, node_of}
+use Rattle.nf_net.proofs.KnownOperations.{not_sharing}
 use Rattle.nf_net.proofs.JoinedSteps.{label, step_leads}
-use Rattle.nf_net.proofs.JudgedController.{used, used_few, is_own, IsNew, controller_judges}
-use Rattle.nf_net.proofs.JudgedFacts.{answer_is, IsFound, Was_refused, Was_judged, began_kept, knows_kept}
+use Rattle.nf_net.proofs.JudgedController.{IsNew, controller_judges}
+use Rattle.nf_net.proofs.JudgedTables.{used, used_few, is_own, IsDue, By_verdict, By_copy}
+use Rattle.nf_net.proofs.JudgedFacts.{answer_is, IsCopied, IsFound, Was_refused, Was_judged, Was_copied, began_kept, knows_kept}
 use Rattle.nf_net.proofs.JudgedInstance.{answer_by, IsReady, instance_does}
 use Rattle.nf_net.proofs.JudgedSteps as steps
 use Rattle.nf_net.proofs.JudgedSteps.{Judging, Leaves, IsFixed, no_stream_to, none_once}
@@ -199,7 +205,7 @@ module _ (F : Type 0) {R : Type 0} (f : Semantics R) (laws : FunctionLaws f) (al
         let plan = plan_is f g n refl w j b op x there in
         ((j.shown_is.controller.moves op x there).op_is, record { destination = x.plan.to; destination_is = ap (receiver_of c) plan.order_is ∙ plan.to_is; node_is = refl })
 
-    open_began : (op : ℕ) (x : MoveState) → finite.get j.nodes.controller.operations op ≡ Some (Move x) → began op w.log ≡ true
+    open_began : (op : ℕ) (x : Operation) → finite.get j.nodes.controller.operations op ≡ Some x → began op w.log ≡ true
     open_began op x there = busy_began (began op w.log) (has_answered op w.log) (sym (busy_is f g n refl w j b op) ∙ ap is_some there)
 
     new_of : (m : Msg) (takes : Takes step n w 1 p (node_of j.nodes 1) m rest) → Label f g p 1 m → IsNew w.log m
@@ -207,8 +213,21 @@ module _ (F : Type 0) {R : Type 0} (f : Semantics R) (laws : FunctionLaws f) (al
         let from : told_in (msg.Asked a) ≡ (if 0 == p then told_in (msg.Asked a) else []) = (let sender = labelled.0 in rw sender refl) in
         let same = way_at_controller told_in step n (omega arith) w p (node_of j.nodes 1) (msg.Asked a) rest takes from in
         let first = subst (λ xs. IsBusy g b.controller.operations w.log xs) same b.is in
-        (or_off (began a.op w.log) (has_answered a.op w.log) (first.unnoted a.op first.rising.0)).0
+        ((or_off (began a.op w.log) (has_answered a.op w.log) (first.unnoted a.op first.rising.0)).0, not_sharing f g a.what labelled.2.built)
+    new_of (msg.Diverted cell) takes labelled = absurd labelled
     new_of m takes labelled = tt
+
+    abbrev Copied : ℕ → Type 0
+    Copied = IsCopied f c items (steps.start F f alloc c items is)
+
+    copies : (op : ℕ) (x : CopyState) → finite.get j.nodes.controller.operations op ≡ Some (Copy x) → (copy.answer_of x.phase ≡ None) × Copied op
+    copies op x there =
+        let it = j.shown_is.controller.copies op x there in
+        (it.going, record { source = it.plan.source; destination = it.plan.destination; filter = x.plan.filter; order_is = ap g.orders (sym it.op_is) ∙ it.plan.order_is })
+
+    due_found : (later : List Choice) (log : List Note) (op : ℕ) (a : Answer) → began op log ≡ true → IsDue (Part log) (Verdict later) Goes Copied w.log n j.nodes.controller op a → IsFound f c items (steps.start F f alloc c items is) later log op a
+    due_found later log op a on (By_verdict v) = Was_judged on v
+    due_found later log op a on (By_copy copied done) = Was_copied on copied done
 
     at_controller : (m : Msg) (takes : Takes step n w 1 p (node_of j.nodes 1) m rest) → WasReady 1 m → Leads 1 m takes
     at_controller m takes ready =
@@ -220,14 +239,14 @@ module _ (F : Type 0) {R : Type 0} (f : Semantics R) (laws : FunctionLaws f) (al
         let part = steps.part F f alloc c items is cs w refl h 1 p (node_of j.nodes 1) m rest takes in
         let judged = steps.judged F f alloc c items is cs w refl h 1 p (node_of j.nodes 1) m rest takes in
         let known : (op : ℕ) (x : MoveState) → finite.get s.operations op ≡ Some (Move x) → Knows (Part log) (Verdict later) Goes op x.phase = λ op x there. knows_kept (Part w.log) (Part log) (Verdict cs) (Verdict later) Goes part judged op x.phase (h.knows op x (ap (λ y. finite.get y.operations op) same ∙ there)) in
-        let did = controller_judges (Part log) (Verdict later) Goes w.log n s known moves open_began p m (steps.said_later F f alloc c items is cs w refl h 1 p (node_of j.nodes 1) m rest takes) (new_of m takes labelled) in
+        let did = controller_judges (Part log) (Verdict later) Goes Copied w.log n s known moves copies j.shown_is.controller.no_shares open_began p m (steps.said_later F f alloc c items is cs w refl h 1 p (node_of j.nodes 1) m rest takes) (new_of m takes labelled) in
         record {
           controller = (controller_step s p m).node;
           controller_is = (taken_outcome step n w 1 p (node_of j.nodes 1) m rest takes).own;
           knows = did.knows;
           says = did.says;
           found = λ op a e. elim (began op w.log) as (λ t. began op w.log ≡ t → IsFound f c items (steps.start F f alloc c items is) later log op a) [
-            | true ↦ λ on. Was_judged (began_kept f c items (steps.start F f alloc c items is) op w.log (controller_step s p m).notes on) ((did.found op a e).known on)
+            | true ↦ λ on. due_found later log op a (began_kept f c items (steps.start F f alloc c items is) op w.log (controller_step s p m).notes on) ((did.found op a e).known on)
             | false ↦ λ off. Was_refused ((did.found op a e).refused off)
           ] refl;
           spends = λ op first. subst (λ y. sent_weight (once first op) n 1 (controller_step s p m).sends + used (finite.get y.operations op) (began op w.log) first ≤ used (finite.get (controller_step s p m).node.operations op) (began op log) first) (sym same) (did.once op first);
@@ -321,7 +340,6 @@ module _ (F : Type 0) {R : Type 0} (f : Semantics R) (laws : FunctionLaws f) (al
       ready_for (msg.Stream op filter) takes ready labelled said later = streamed takes.receiver op filter (none_before op filter takes ready)
       ready_for (msg.Put op piece true) takes ready labelled said later = judged_first op piece takes said.0 said.1
       ready_for (msg.Put op piece false) takes ready labelled said later = later
-      ready_for (msg.Get op filter) takes ready labelled said later = absurd labelled
       ready_for m takes ready labelled said later = tt
 
       at_instance : (m : Msg) (takes : Takes step n w k p (Instance i) m rest) → WasReady k m → Leads k m takes

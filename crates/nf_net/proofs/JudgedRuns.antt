@@ -1,14 +1,16 @@
 -- In every run each move that began is answered by its verdict, which is on what its destination held, and on what came, when it took the first
--- piece; and each other command is refused.
-use Rattle.std.proofs.Common.{◌≡◌, ℕ, ◌+◌, ◌≤◌, Bool, true, false, Some, List, [], ◌∷◌, ◌++◌, length, refl, sym, ap, ◌∙◌, subst, arith}
+-- piece; a copy that began is done, and each other command is refused.
+use Rattle.std.proofs.Common.{◌≡◌, ℕ, ◌+◌, ◌≤◌, Bool, true, false, Option, Some, None, List, [], ◌∷◌, ◌++◌, length, refl, sym, ap, ◌∙◌, subst, arith}
 use Rattle.std.specs.declared.alloc.Global.{Global}
 use Rattle.std.specs.Ordering.{nat_cmp}
 use Rattle.std.specs.FinMap as finite
+use Rattle.flow_filter.specs.declared.filter.Filter.{Filter}
 use Rattle.nf_function.specs.Records.{Laws as FunctionLaws}
 use Rattle.nf_function.specs.Semantics.{Semantics}
 use Rattle.nf_msgs.specs.declared.answer.Answer.{Answer}
 use Rattle.nf_msgs.specs.declared.answer.Answer.TheVariants as answer
 use Rattle.nf_msgs.specs.declared.command.Order.{Order}
+use Rattle.nf_msgs.specs.declared.command.Order.TheVariants as order
 use Rattle.nf_msgs.specs.declared.msg.Piece.{Piece}
 use Rattle.nf_msgs.specs.declared.msg.Msg.{Msg}
 use Rattle.nf_msgs.specs.declared.msg.Msg.TheVariants as msg
@@ -30,11 +32,11 @@ use Rattle.nf_net.specs.Commands.{began, answers_of, before_first, IsCause, MayB
 use Rattle.nf_net.specs.Input.{is_item, order_of, IsInput}
 use Rattle.nf_net.specs.Nodes.{node_step, node_ready}
 use Rattle.nf_net.specs.Start.{first_instance, first_nodes, started}
-use Rattle.nf_net.specs.Verdicts.{is_refusal, IsVerdict, Verdicts}
+use Rattle.nf_net.specs.Verdicts.{is_refusal, receiver_of, IsVerdict, Verdicts}
 use Rattle.nf_net.proofs.CommandPromises.{run_busy, run_answers}
 use Rattle.nf_net.proofs.Joined.{node_of}
-use Rattle.nf_net.proofs.JudgedController.{used, used_few}
-use Rattle.nf_net.proofs.JudgedFacts.{HasVerdict, IsFound, Was_refused, Was_judged}
+use Rattle.nf_net.proofs.JudgedTables.{used, used_few}
+use Rattle.nf_net.proofs.JudgedFacts.{HasVerdict, IsFound, Was_refused, Was_judged, Was_copied}
 use Rattle.nf_net.proofs.JudgedNodes.{judging_next}
 use Rattle.nf_net.proofs.JudgedSteps.{Part, Verdict, Goes, Judging, SaidBy, happened}
 use Rattle.nf_net.proofs.MoveJudged.{Said}
@@ -145,18 +147,30 @@ module _ (F : Type 0) {R : Type 0} (f : Semantics R) (laws : FunctionLaws f) (al
         few : times_taken f op cs start ≤ 1
         few = let most = h.once op true in let one = used_few (finite.get h.controller.operations op) (began op w.log) true in omega (arith, most, one)
 
-    by_found : (op : ℕ) (what : Order) (a : Answer) → order_of items op ≡ Some what → began op w.log ≡ true → answers_of op w.log ≡ a ∷ [] → IsFound f c items start cs w.log op a → IsVerdict f start cs c items op a
-    by_found op what a known on e (Was_refused refusal) =
+    -- what began isn't refused
+    not_refused : (op : ℕ) (what : Order) (a : Answer) → order_of items op ≡ Some what → began op w.log ≡ true → answers_of op w.log ≡ a ∷ [] → is_refusal a ≡ true → ⊥
+    not_refused op what a known on e refusal =
         let said = run_answers F f laws alloc c items is cs run_is in
-        absurd (not_both c items a what (before_first op w.log) refusal (said.begins op what known on) (said.causes op what a known e))
-    by_found op what a known on e (Was_judged begun v) = verdict_of op a v
+        not_both c items a what (before_first op w.log) refusal (said.begins op what known on) (said.causes op what a known e)
+
+    by_found : (op : ℕ) (source destination : List ℕ) (filter : Filter) (keep : Bool) (a : Answer) → order_of items op ≡ Some (order.Move source destination filter keep) → began op w.log ≡ true → answers_of op w.log ≡ a ∷ [] → IsFound f c items start cs w.log op a → IsVerdict f start cs c items op a
+    by_found op source destination filter keep a known on e (Was_refused refusal) = absurd (not_refused op (order.Move source destination filter keep) a known on e refusal)
+    by_found op source destination filter keep a known on e (Was_judged begun v) = verdict_of op a v
+    by_found op source destination filter keep a known on e (Was_copied begun copied done) = let never : Some (order.Move source destination filter keep) ≡ Some (order.Copy copied.source copied.destination copied.filter) = sym known ∙ copied.order_is in cc
+
+    copy_found : (op : ℕ) (source destination : List ℕ) (filter : Option Filter) (a : Answer) → order_of items op ≡ Some (order.Copy source destination filter) → began op w.log ≡ true → answers_of op w.log ≡ a ∷ [] → IsFound f c items start cs w.log op a → a ≡ answer.Done
+    copy_found op source destination filter a known on e (Was_refused refusal) = absurd (not_refused op (order.Copy source destination filter) a known on e refusal)
+    copy_found op source destination filter a known on e (Was_judged begun v) = let never : None ≡ Some v.are_weighed.destination = ap (receiver_of c) (sym known) ∙ v.are_weighed.destination_is in cc
+    copy_found op source destination filter a known on e (Was_copied begun copied done) = done
 
     refused_by : (op : ℕ) (a : Answer) → began op w.log ≡ false → IsFound f c items start cs w.log op a → is_refusal a ≡ true
     refused_by op a off (Was_refused refusal) = refusal
     refused_by op a off (Was_judged begun v) = let never = sym begun ∙ off in cc
+    refused_by op a off (Was_copied begun copied done) = let never = sym begun ∙ off in cc
 
     pub verdicts : Verdicts f start cs c items
     verdicts = record {
-      judged = λ op what a known on e. by_found op what a known on e (h.found op a e);
+      judged = λ op source destination filter keep a known on e. by_found op source destination filter keep a known on e (h.found op a e);
+      copied = λ op source destination filter a known on e. copy_found op source destination filter a known on e (h.found op a e);
       refused = λ op a off e. refused_by op a off (h.found op a e);
     }

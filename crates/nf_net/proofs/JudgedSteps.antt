@@ -27,7 +27,7 @@ use Rattle.nf_net.specs.Input.{IsInput}
 use Rattle.nf_net.specs.Nodes.{node_step}
 use Rattle.nf_net.specs.Start.{started}
 use Rattle.nf_net.proofs.BusyLemmas.{AreOther, answers_of-append, none_answered, other_not_answered, other_not_begun, began_same}
-use Rattle.nf_net.proofs.JudgedController.{used}
+use Rattle.nf_net.proofs.JudgedTables.{used}
 use Rattle.nf_net.proofs.JudgedFacts.{IsPart, IsGoing, HasVerdict, IsFound, part_kept, verdict_kept, found_kept, said_kept, knows_kept, links_kept}
 use Rattle.nf_net.proofs.MoveJudged.{Said, Knows}
 use Rattle.nf_net.proofs.MoveOnce.{once, counts}
@@ -52,12 +52,13 @@ first_counts op (msg.Put k piece true) rest = refl
 first_counts op (msg.Put k piece false) rest = refl
 first_counts op m rest = refl
 
--- Only the controller sends what is sent once, and only an instance takes an order to stream.
+-- Only the controller sends what is sent once, and only an instance is asked for state.
 module _ {R : Type 0} (f : Semantics R) (g : Given) (op : ℕ) where
   no_once_from : (first : Bool) (k r : ℕ) (m : Msg) → k ≢ 1 → Label f g k r m → counts m first op ≡ 0
   no_once_from first k r (msg.Put j piece true) other label = absurd (other label.0.0)
   no_once_from first k r (msg.Put j piece false) other label = refl
   no_once_from first k r (msg.Stream j filter) other label = absurd (other label.0.0)
+  no_once_from first k r (msg.Get j filter) other label = absurd (other label.0.0)
   no_once_from first k r m other label = refl
 
   pub none_once : (first : Bool) (n k : ℕ) (sends : List (ℕ × Msg)) → k ≢ 1 → EachSent (Label f g) k sends → sent_weight (once first op) n k sends ≡ 0
@@ -69,6 +70,7 @@ module _ {R : Type 0} (f : Semantics R) (g : Given) (op : ℕ) where
 
   pub no_stream_to : (p k : ℕ) (m : Msg) → k ≤ 1 → Label f g p k m → counts m false op ≡ 0
   no_stream_to p k (msg.Stream j filter) few label = let two = label.0.1 in absurd (omega (arith, two, few))
+  no_stream_to p k (msg.Get j filter) few label = let two = label.0.1 in absurd (omega (arith, two, few))
   no_stream_to p k (msg.Put j piece true) few label = refl
   no_stream_to p k (msg.Put j piece false) few label = refl
   no_stream_to p k m few label = refl

@@ -20,10 +20,11 @@ use Rattle.actor_net.proofs.WeightLaws.{sent_weight}
 use Rattle.nf_net.proofs.CreditCounts.{sent_weight-append}
 use Rattle.nf_net.proofs.InstallCounts.{if_zero}
 
--- what is sent once for a command: a piece that is put first, or the order to stream
+-- what is sent once for a command: a piece that is put first, or the message that asks for its state
 abbrev pub counts : Msg → Bool → ℕ → ℕ
 counts (msg.Put k piece true) true op = if k == op then 1 else 0
 counts (msg.Stream k filter) false op = if k == op then 1 else 0
+counts (msg.Get k filter) false op = if k == op then 1 else 0
 counts m first op = 0
 
 abbrev pub once : Bool → ℕ → Msg → ℕ
@@ -75,6 +76,7 @@ one_if false = omega arith
 pub few_counts : (m : Msg) (first : Bool) (op : ℕ) → counts m first op ≤ 1
 few_counts (msg.Put k piece true) true op = one_if (k == op)
 few_counts (msg.Stream k filter) false op = one_if (k == op)
+few_counts (msg.Get k filter) false op = one_if (k == op)
 few_counts m first op = omega arith
 
 module _ (n : ℕ) (first : Bool) (plan : MovePlan) where

@@ -54,7 +54,7 @@ module _ {R : Type 0} (f : Semantics R) (c : Config) (items : List Msg) where
     pub carried : Each (λ d. IsCarried items d.number) ds
     pub same : (u : units.Unit) → answers u ds ≡ outputs f c items (kept u) (numbers u ds)
 
-  numbers-append : (u : units.Unit) (xs ys : List Done) → numbers u (xs ++ ys) ≡ numbers u xs ++ numbers u ys
+  pub numbers-append : (u : units.Unit) (xs ys : List Done) → numbers u (xs ++ ys) ≡ numbers u xs ++ numbers u ys
   numbers-append u xs ys = ap (map (λ d. d.number)) (done_of-append (is_of f c items u) xs ys) ∙ map-put (λ d. d.number) (done_of (is_of f c items u) xs) (done_of (is_of f c items u) ys)
 
   answers-append : (u : units.Unit) (xs ys : List Done) → answers u (xs ++ ys) ≡ answers u xs ++ answers u ys

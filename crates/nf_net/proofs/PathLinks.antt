@@ -62,7 +62,7 @@ module _ {R : Type 0} (f : Semantics R) (g : Given) (z : Seeing) where
   abbrev mine : ℕ → Bool
   mine = its.mine
 
-  abbrev see_of : Option (net.Msg R) → Option (Item R)
+  abbrev pub see_of : Option (net.Msg R) → Option (Item R)
   see_of None = None
   see_of (Some a) = seen its a
 
@@ -155,7 +155,7 @@ module _ {R : Type 0} (f : Semantics R) (g : Given) (z : Seeing) where
   msg_read s r (msg.Fenced op) l = either _ _ (record { pass = refl; carry = refl; event = refl; forward = λ _. refl }) (record { pass = refl; carry = refl; event = refl; forward = λ _. refl }) (op == its.move)
   msg_read s r m l = record { pass = refl; carry = refl; event = refl; forward = λ _. refl }
 
-  seen_more : (m : Msg) (ms : List Msg) → items (seen its) (filter_map (shown f g) (m ∷ ms)) ≡ add (see_of (shown f g m)) (items (seen its) (filter_map (shown f g) ms))
+  pub seen_more : (m : Msg) (ms : List Msg) → items (seen its) (filter_map (shown f g) (m ∷ ms)) ≡ add (see_of (shown f g m)) (items (seen its) (filter_map (shown f g) ms))
   seen_more m ms = by_shown (shown f g m) refl
     where
       by_shown : (o : Option (net.Msg R)) → shown f g m ≡ o → items (seen its) (filter_map (shown f g) (m ∷ ms)) ≡ add (see_of (shown f g m)) (items (seen its) (filter_map (shown f g) ms))

@@ -1,5 +1,5 @@
 -- What a unit sees of an instance's rules and of the controller's open moves is its packets that are held and stored.
-use Rattle.std.proofs.Common.{◌≡◌, ◌≢◌, ℕ, Bool, true, false, cond, Some, None, List, [], ◌∷◌, ◌++◌, map, refl, sym, ap, ◌∙◌, eqb, append-nil, arith}
+use Rattle.std.proofs.Common.{◌≡◌, ◌≢◌, ℕ, Bool, true, false, cond, Option, Some, None, List, [], ◌∷◌, ◌++◌, map, refl, sym, ap, ◌∙◌, eqb, append-nil, arith}
 use Rattle.std.specs.Prelude.{T, nat_eq, if◌then◌else◌, ◌&&◌, unwrap_or}
 use Rattle.std.specs.Ordering.{nat_cmp, eq_by_cmp, is_lt, is_eq}
 use Rattle.std.specs.declared.cmp.Ordering.{Ordering}
@@ -17,7 +17,7 @@ use Rattle.event_filter.proofs.RulePlaces.{None_of, none_behind}
 use Rattle.event_store.specs.Store.{stored}
 use Rattle.event_store.proofs.StoreLookUps.{order_test}
 use Rattle.packet_pool.specs.Pool.{FullCell}
-use Rattle.unit_machine.proofs.Labels.{Each}
+use Rattle.unit_machine.proofs.Labels.{Each, each-append}
 use Rattle.unit_machine.proofs.Real.{only_mine}
 use Rattle.abstract_net.proofs.Net.{find_rule, held_of}
 use Rattle.abstract_net.proofs.Holding.{Seeing, frame, Rule_label}
@@ -26,7 +26,7 @@ use Rattle.nf_net.specs.Path.{all_of, numbers}
 use Rattle.nf_net.proofs.Outline.{outline_rule}
 use Rattle.nf_net.proofs.Joined.{Given, S}
 
--- the entries of a store
+-- the entries of a finite map over numbers
 left_true : (a b : Bool) → T (a && b) → T a
 left_true true b h = tt
 left_true false b h = h
@@ -40,40 +40,58 @@ not_tied Less h = refl
 not_tied Equal h = absurd h
 not_tied Greater h = absurd h
 
-absent : (k : ℕ) (es : List (ℕ × List FullCell)) → T (below_all nat_cmp k es) → find nat_cmp k es ≡ None
+absent : {V : Type 0} (k : ℕ) (es : List (ℕ × V)) → T (below_all nat_cmp k es) → find nat_cmp k es ≡ None
 absent k [] h = refl
 absent k (e ∷ es) h =
     let apart : eq_by_cmp nat_cmp k e.0 ≡ false = not_tied (nat_cmp k e.0) (left_true (is_lt (nat_cmp k e.0)) (below_all nat_cmp k es) h) in
     ap (λ b. cond b (Some e.1) (find nat_cmp k es)) apart ∙ absent k es (right_true (is_lt (nat_cmp k e.0)) (below_all nat_cmp k es) h)
 
-module _ (of : List FullCell → List ℕ) (none : of [] ≡ []) (op : ℕ) where
-  own_tie : (k : ℕ) → eq_by_cmp nat_cmp k k ≡ true
-  own_tie k = order_test k k ∙ (let self : eqb k k ≡ true = grind (arith, nat_tests) in self)
+own_tie : (k : ℕ) → eq_by_cmp nat_cmp k k ≡ true
+own_tie k = order_test k k ∙ (let self : eqb k k ≡ true = grind (arith, nat_tests) in self)
 
+module _ {V Y : Type 0} (of : Option V → List Y) (none : of None ≡ []) (op : ℕ) where
   -- what stands under one key alone is all that stands
-  entries_of : (es : List (ℕ × List FullCell)) → T (is_sorted nat_cmp es) → ((k : ℕ) → k ≢ op → of (unwrap_or (find nat_cmp k es) []) ≡ []) → all_of (λ e. of e.1) es ≡ of (unwrap_or (find nat_cmp op es) [])
+  entries_of : (es : List (ℕ × V)) → T (is_sorted nat_cmp es) → ((k : ℕ) → k ≢ op → of (find nat_cmp k es) ≡ []) → all_of (λ e. of (Some e.1)) es ≡ of (find nat_cmp op es)
   entries_of [] up h = sym none
   entries_of (e ∷ es) up h =
       let below = left_true (below_all nat_cmp e.0 es) (is_sorted nat_cmp es) up in
       let more = right_true (below_all nat_cmp e.0 es) (is_sorted nat_cmp es) up in
       let gone = absent e.0 es below in
-      let later : (k : ℕ) → k ≢ op → of (unwrap_or (find nat_cmp k es) []) ≡ [] = λ k off. elim (eqb k e.0) as (λ b. eqb k e.0 ≡ b → of (unwrap_or (find nat_cmp k es) []) ≡ []) [
-        | true ↦ λ is. (let same : k ≡ e.0 = eqb-true k e.0 is in ap (λ q. of (unwrap_or (find nat_cmp q es) [])) same ∙ ap (λ o. of (unwrap_or o [])) gone ∙ none)
-        | false ↦ λ is. ap (λ b. of (unwrap_or (cond b (Some e.1) (find nat_cmp k es)) [])) (sym (order_test k e.0 ∙ is)) ∙ h k off
+      let later : (k : ℕ) → k ≢ op → of (find nat_cmp k es) ≡ [] = λ k off. elim (eqb k e.0) as (λ b. eqb k e.0 ≡ b → of (find nat_cmp k es) ≡ []) [
+        | true ↦ λ is. (let same : k ≡ e.0 = eqb-true k e.0 is in ap (λ q. of (find nat_cmp q es)) same ∙ ap of gone ∙ none)
+        | false ↦ λ is. ap (λ b. of (cond b (Some e.1) (find nat_cmp k es))) (sym (order_test k e.0 ∙ is)) ∙ h k off
       ] refl in
       let rest = entries_of es more later in
-      elim (eqb op e.0) as (λ b. eqb op e.0 ≡ b → of e.1 ++ all_of (λ x. of x.1) es ≡ of (unwrap_or (find nat_cmp op (e ∷ es)) [])) [
+      elim (eqb op e.0) as (λ b. eqb op e.0 ≡ b → of (Some e.1) ++ all_of (λ x. of (Some x.1)) es ≡ of (find nat_cmp op (e ∷ es))) [
         | true ↦ λ is.
             let same : op ≡ e.0 = eqb-true op e.0 is in
-            let left : all_of (λ x. of x.1) es ≡ [] = rest ∙ ap (λ q. of (unwrap_or (find nat_cmp q es) [])) same ∙ ap (λ o. of (unwrap_or o [])) gone ∙ none in
-            ap (λ v. of e.1 ++ v) left ∙ append-nil (of e.1) ∙ ap (λ b. of (unwrap_or (cond b (Some e.1) (find nat_cmp op es)) [])) (sym (order_test op e.0 ∙ is))
+            let left : all_of (λ x. of (Some x.1)) es ≡ [] = rest ∙ ap (λ q. of (find nat_cmp q es)) same ∙ ap of gone ∙ none in
+            ap (λ v. of (Some e.1) ++ v) left ∙ append-nil (of (Some e.1)) ∙ ap (λ b. of (cond b (Some e.1) (find nat_cmp op es))) (sym (order_test op e.0 ∙ is))
         | false ↦ λ is.
-            let own : of e.1 ≡ [] = ap (λ b. of (unwrap_or (cond b (Some e.1) (find nat_cmp e.0 es)) [])) (sym (own_tie e.0)) ∙ h e.0 (λ same. (let never : false ≡ true = sym is ∙ (Decides-eqb op e.0).1 (sym same) in cc)) in
-            ap (λ v. v ++ all_of (λ x. of x.1) es) own ∙ rest ∙ ap (λ b. of (unwrap_or (cond b (Some e.1) (find nat_cmp op es)) [])) (sym (order_test op e.0 ∙ is))
+            let own : of (Some e.1) ≡ [] = ap (λ b. of (cond b (Some e.1) (find nat_cmp e.0 es))) (sym (own_tie e.0)) ∙ h e.0 (λ same. (let never : false ≡ true = sym is ∙ (Decides-eqb op e.0).1 (sym same) in cc)) in
+            ap (λ v. v ++ all_of (λ x. of (Some x.1)) es) own ∙ rest ∙ ap (λ b. of (cond b (Some e.1) (find nat_cmp op es))) (sym (order_test op e.0 ∙ is))
       ] refl
 
-  pub store_of : (store : finite.FinMap nat_cmp (List FullCell)) → ((k : ℕ) → k ≢ op → of (stored store k) ≡ []) → all_of (λ e. of e.1) (finite.entries store) ≡ of (stored store op)
-  store_of store h = entries_of (finite.entries store) (entries_sorted store) (λ k off. ap (λ o. of (unwrap_or o [])) (sym (get-entries store k)) ∙ h k off) ∙ ap (λ o. of (unwrap_or o [])) (sym (get-entries store op))
+  pub map_of : (m : finite.FinMap nat_cmp V) → ((k : ℕ) → k ≢ op → of (finite.get m k) ≡ []) → all_of (λ e. of (Some e.1)) (finite.entries m) ≡ of (finite.get m op)
+  map_of m h = entries_of (finite.entries m) (entries_sorted m) (λ k off. ap of (sym (get-entries m k)) ∙ h k off) ∙ ap of (sym (get-entries m op))
+
+-- what holds of all that stands under each key holds of all
+module _ {V Y : Type 0} (P : Y → Type 0) (of : V → List Y) where
+  each_of : (es : List (ℕ × V)) → T (is_sorted nat_cmp es) → ((k : ℕ) (v : V) → find nat_cmp k es ≡ Some v → Each P (of v)) → Each P (all_of (λ e. of e.1) es)
+  each_of [] up h = tt
+  each_of (e ∷ es) up h =
+      let gone = absent e.0 es (left_true (below_all nat_cmp e.0 es) (is_sorted nat_cmp es) up) in
+      let own = h e.0 e.1 (ap (λ b. cond b (Some e.1) (find nat_cmp e.0 es)) (own_tie e.0)) in
+      each-append P (of e.1) (all_of (λ x. of x.1) es) own (each_of es (right_true (below_all nat_cmp e.0 es) (is_sorted nat_cmp es) up) (λ k v there. h k v (elim (eqb k e.0) as (λ b. eqb k e.0 ≡ b → find nat_cmp k (e ∷ es) ≡ Some v) [
+        | true ↦ λ is. (let never : None ≡ Some v = sym gone ∙ ap (λ q. find nat_cmp q es) (sym (eqb-true k e.0 is)) ∙ there in cc)
+        | false ↦ λ is. ap (λ b. cond b (Some e.1) (find nat_cmp k es)) (order_test k e.0 ∙ is) ∙ there
+      ] refl)))
+
+  pub each_entry : (m : finite.FinMap nat_cmp V) → ((k : ℕ) (v : V) → finite.get m k ≡ Some v → Each P (of v)) → Each P (all_of (λ e. of e.1) (finite.entries m))
+  each_entry m h = each_of (finite.entries m) (entries_sorted m) (λ k v there. h k v (get-entries m k ∙ there))
+
+pub store_of : (of : List FullCell → List ℕ) → of [] ≡ [] → (op : ℕ) (store : finite.FinMap nat_cmp (List FullCell)) → ((k : ℕ) → k ≢ op → of (stored store k) ≡ []) → all_of (λ e. of e.1) (finite.entries store) ≡ of (stored store op)
+store_of of none op store h = map_of (λ o. of (unwrap_or o [])) none op store h
 
 module _ {R : Type 0} (f : Semantics R) (g : Given) (z : Seeing) where
   abbrev mine : ℕ → Bool

@@ -10,7 +10,7 @@ use Rattle.event_store.specs.Store.{stored}
 use Rattle.nf_msgs.specs.declared.msg.Msg.{Msg}
 use Rattle.nf_msgs.specs.declared.note.Note.{Note}
 use Rattle.ctrl_node.specs.declared.operation.Operation.{Operation}
-use Rattle.ctrl_node.specs.declared.operation.Operation.TheVariants.{Move}
+use Rattle.ctrl_node.specs.declared.operation.Operation.TheVariants.{Move, Copy, Share}
 use Rattle.actor_net.specs.Network.{Network, IsWorld, on_link}
 use Rattle.unit_machine.proofs.Machine.{State}
 use Rattle.unit_machine.proofs.Real.{Op, only_mine}
@@ -222,23 +222,28 @@ module _ {F R : Type 0} (f : Semantics R) (c : Config) (items : List Msg) (is : 
     abbrev store : ℕ → List ℕ
     store k = those mine (numbers (stored j.nodes.controller.store k))
 
-    not_open : (k : ℕ) → finite.get j.nodes.controller.operations k ≡ None → store k ≡ []
-    not_open k none = ap (λ v. those mine (numbers v)) (j.shown_is.controller.emptied k none)
+    none_stored : (k : ℕ) → stored j.nodes.controller.store k ≡ [] → store k ≡ []
+    none_stored k none = ap (λ v. those mine (numbers v)) none
 
     -- an operation's parcels, as its open move has them
     seen_store : (k : ℕ) (e : Open R) (o : Option Operation) → Sees f (place g) (Some e) o (stored j.nodes.controller.store k) → store k ≡ only_mine (frame (S f g) z) e.store
     seen_store k e None h = absurd h
+    seen_store k e (Some (Copy y)) h = absurd h
+    seen_store k e (Some (Share s)) h = absurd h
     seen_store k e (Some (Move m)) h = sym (only_those f g z (numbers (stored j.nodes.controller.store k))) ∙ ap (only_mine (frame (S f g) z)) (sym h.store)
 
-    none_seen : (k : ℕ) (o : Option Operation) → Sees f (place g) None o (stored j.nodes.controller.store k) → o ≡ None
-    none_seen k None h = refl
-    none_seen k (Some m) h = absurd h
+    -- where no move is open, nothing is stored
+    none_seen : (k : ℕ) (o : Option Operation) → finite.get j.nodes.controller.operations k ≡ o → Sees f (place g) None o (stored j.nodes.controller.store k) → stored j.nodes.controller.store k ≡ []
+    none_seen k None e h = j.shown_is.controller.emptied k e
+    none_seen k (Some (Copy y)) e h = j.shown_is.controller.unstored k y e
+    none_seen k (Some (Move m)) e h = absurd h
+    none_seen k (Some (Share s)) e h = absurd h
 
     other_store : (k : ℕ) → k ≢ op.num → store k ≡ []
     other_store k off = by_open (find_op j.world.ops k) refl
       where
         by_open : (o : Option (Open R)) → find_op j.world.ops k ≡ o → store k ≡ []
-        by_open None e = not_open k (none_seen k (finite.get j.nodes.controller.operations k) (subst (λ o. Sees f (place g) o (finite.get j.nodes.controller.operations k) (stored j.nodes.controller.store k)) e (j.shown_is.controller.opens k)))
+        by_open None e = none_stored k (none_seen k (finite.get j.nodes.controller.operations k) refl (subst (λ o. Sees f (place g) o (finite.get j.nodes.controller.operations k) (stored j.nodes.controller.store k)) e (j.shown_is.controller.opens k)))
         by_open (Some e) found =
             let l = each_found (Op_label (S f g) z) k j.world.ops e holds.ops found in
             let same : e.op.num ≡ k = (Decides-eqb e.op.num k).0 l.1 in
@@ -251,7 +256,7 @@ module _ {F R : Type 0} (f : Semantics R) (c : Config) (items : List Msg) (is : 
         by_open : (o : Option (Open R)) → find_op j.world.ops op.num ≡ o → store op.num ≡ x.store
         by_open None e =
             let over = subst (λ o. Ctrl_is (S f g) z o x) e holds.ctrl in
-            not_open op.num (none_seen op.num (finite.get j.nodes.controller.operations op.num) (subst (λ o. Sees f (place g) o (finite.get j.nodes.controller.operations op.num) (stored j.nodes.controller.store op.num)) e (j.shown_is.controller.opens op.num))) ∙ sym (released (over_released x.phase over))
+            none_stored op.num (none_seen op.num (finite.get j.nodes.controller.operations op.num) refl (subst (λ o. Sees f (place g) o (finite.get j.nodes.controller.operations op.num) (stored j.nodes.controller.store op.num)) e (j.shown_is.controller.opens op.num))) ∙ sym (released (over_released x.phase over))
         by_open (Some e) found =
             let own = subst (λ o. Ctrl_is (S f g) z o x) found holds.ctrl in
             seen_store op.num e (finite.get j.nodes.controller.operations op.num) (subst (λ o. Sees f (place g) o (finite.get j.nodes.controller.operations op.num) (stored j.nodes.controller.store op.num)) found (j.shown_is.controller.opens op.num)) ∙ own.2

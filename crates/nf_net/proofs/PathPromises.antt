@@ -98,7 +98,7 @@ module _ {F R : Type 0} (f : Semantics R) (c : Config) (items : List Msg) (is : 
   abbrev i0 : ℕ
   i0 = owner c items u w.log
 
-  k : Seated f c items is n count w nodes j u
+  abbrev k : Seated f c items is n count w nodes j u
   k = seated f c items is n count w nodes j u
 
   abbrev x : State R
@@ -114,9 +114,9 @@ module _ {F R : Type 0} (f : Semantics R) (c : Config) (items : List Msg) (is : 
   stands = seat_stands (S f g).F k.seat
 
   -- a unit of which something came: its packets go to its owner, which is there
-  record IsOwned : Type 0 where
-    few : j.world.target u < n
-    own : j.world.target u ≡ instance_node i0
+  pub record IsOwned : Type 0 where
+    pub few : j.world.target u < n
+    pub own : j.world.target u ≡ instance_node i0
 
   known_of : (qs : List Packet) → Each (GenuinePacket f g) qs → (p : ℕ) (ps : List ℕ) → those mine (map (λ q. q.number) qs) ≡ p ∷ ps → IsOwned
   known_of [] h p ps e = cc
@@ -141,13 +141,11 @@ module _ {F R : Type 0} (f : Semantics R) (c : Config) (items : List Msg) (is : 
       let one : 1 + stages.times y xs ≡ 0 = rw self at here in
       absurd (omega (arith, one))
 
-  by_way : {P : Type 0} → (way ≡ [] → P) → (IsOwned → P) → P
-  by_way {P = P} none some = by_list (came f c items u w.log) refl
+  pub by_came : {P : Type 0} → (seat_all k.seat ≡ [] → P) → (IsOwned → P) → P
+  by_came {P = P} none some = by_list (came f c items u w.log) refl
     where
       by_list : (ps : List ℕ) → came f c items u w.log ≡ ps → P
-      by_list [] e =
-          let all : seat_all k.seat ≡ [] = none_in (seat_all k.seat) (λ p. same_of k.flag (seat_all k.seat) (came f c items u w.log) k.order p ∙ ap (stages.times p) e) in
-          none (nil_right (firsts x.done) way (sym (seat_parts (S f g).F k.seat) ∙ all))
+      by_list [] e = none (none_in (seat_all k.seat) (λ p. same_of k.flag (seat_all k.seat) (came f c items u w.log) k.order p ∙ ap (stages.times p) e))
       by_list (p ∷ ps) e =
           let whole : those mine (map (λ q. q.number) (packets items)) ≡ p ∷ (ps ++ those mine in_turn.rest) = ap (those mine) (sym in_turn.whole) ∙ those-append mine (arrived w.log) in_turn.rest ∙ ap (λ v. v ++ those mine in_turn.rest) e in
           some (known_of (packets items) (genuine f c items is) p (ps ++ those mine in_turn.rest) whole)
@@ -274,7 +272,7 @@ module _ {F R : Type 0} (f : Semantics R) (c : Config) (items : List Msg) (is : 
           placed (at_side x.c x.sc) (record { joins = ap (λ v. v ++ those mine (at_instance w i0)) (but [] others) ∙ inside i0 own_few ∙ ap at_one at ∙ at_third }) e
 
   path_is : path f c items u w ≡ way
-  path_is = by_way nowhere somewhere
+  path_is = by_came (λ all. nowhere (nil_right (firsts x.done) way (sym (seat_parts (S f g).F k.seat) ∙ all))) somewhere
 
   all_is : went f c items u w.log ++ path f c items u w ≡ seat_all k.seat
   all_is =

@@ -13,12 +13,13 @@ use Rattle.nf_msgs.specs.declared.msg.Msg.{Msg}
 use Rattle.nf_msgs.specs.declared.note.Note.{Note}
 use Rattle.nf_msgs.specs.Nodes.{instance_node}
 use Rattle.ctrl_node.specs.declared.operation.Operation.{Operation}
-use Rattle.ctrl_node.specs.declared.operation.Operation.TheVariants.{Move}
+use Rattle.ctrl_node.specs.declared.operation.Operation.TheVariants.{Move, Copy, Share}
 use Rattle.actor_net.specs.Network.{Network, IsWorld, on_link, waiting}
 use Rattle.actor_net.proofs.EnabledChoices.{at}
 use Rattle.actor_net.proofs.WeightLaws.{Each as EachOn}
 use Rattle.unit_machine.proofs.Machine.{At_a, At_b, State}
 use Rattle.unit_machine.proofs.Stages.{Order}
+use Rattle.unit_machine.proofs.Kept.{on_way}
 use Rattle.unit_machine.proofs.Labels.{Each}
 use Rattle.unit_machine.proofs.Real.{Op, only_mine}
 use Rattle.unit_machine.proofs.Pairs.{expect}
@@ -72,9 +73,16 @@ module _ {F R : Type 0} (f : Semantics R) (c : Config) (items : List Msg) (is : 
     where
       by_got : (o : Option Operation) → finite.get j.nodes.controller.operations k ≡ o → Sees f (place g) (Some e) o (stored j.nodes.controller.store k) → (e.op.src < n) × (e.op.dst < n)
       by_got None got h = absurd h
+      by_got (Some (Copy y)) got h = absurd h
+      by_got (Some (Share s)) got h = absurd h
       by_got (Some (Move m)) got h =
           let move = j.shown_is.controller.moves k m got in
           (subst (λ o. o.src < n) (sym h.op) (there m.plan.from move.from), subst (λ o. o.dst < n) (sym h.op) (there m.plan.to move.to))
+
+  -- the move of a seat is open, between two of the nodes; or the unit is at rest, where nothing of it is on its way
+  pub data HasSides (op : Op) (x : State R) : Type 0 where
+    Are_there : (e : Open R) → find_op j.world.ops op.num ≡ Some e → op.src < n → op.dst < n → HasSides op x
+    Rests : on_way x ≡ [] → x.b.live ≡ None → x.target ≡ At_a → HasSides op x
 
   -- A unit's seat.
   pub record Seated (u : units.Unit) : Type 0 where
@@ -89,6 +97,7 @@ module _ {F R : Type 0} (f : Semantics R) (c : Config) (items : List Msg) (is : 
     pub passes_b : There n op.dst (passes_in (seat_shape (S f g).F seat).sb)
     pub events_a : There n op.src (events_in (seat_shape (S f g).F seat).ac)
     pub source : (seat_shape (S f g).F seat).target ≡ At_b → op.src < n
+    pub ends : HasSides op (seat_shape (S f g).F seat)
 
   pub seated : (u : units.Unit) → Seated u
   seated u = by_where (j.shown_is.every.unit u)
@@ -106,15 +115,28 @@ module _ {F R : Type 0} (f : Semantics R) (c : Config) (items : List Msg) (is : 
         passes_b = Has_none refl;
         events_a = Has_none refl;
         source = λ e. cc;
+        ends = Rests refl refl refl;
       }
       by_where (In_move op third e s b found h o fl k) =
           let at : e.op ≡ op = (subst (λ x. Ctrl_is (S f g) (see (S f g) (is_sys f g.site g.packet) u op third) x (seat_shape (S f g).F s)) found h.ctrl).0 in
           let both = sides op.num e found in
           let src : op.src < n = subst (λ o. o.src < n) at both.0 in
           let dst : op.dst < n = subst (λ o. o.dst < n) at both.1 in
-          record { op = op; third = third; seat = s; flag = b; holds = h; order = o; flag_is = fl; passes_a = Is_there src; passes_b = Is_there dst; events_a = Is_there src; source = λ _. src }
+          record { op = op; third = third; seat = s; flag = b; holds = h; order = o; flag_is = fl; passes_a = Is_there src; passes_b = Is_there dst; events_a = Is_there src; source = λ _. src; ends = Are_there e found src dst }
 
-  -- Links, as the seat has them.
+  -- Links.
+  module _ (world : IsWorld w) where
+    on_is : (s r : ℕ) → (s == 0) && (r == 0) ≡ false → waiting w (at r s) ≡ on_link w s r
+    on_is s r off = let turned : (r == 0) && (s == 0) ≡ false = swap_false (s == 0) (r == 0) off in rw turned refl
+
+    pub labels : (s r : ℕ) → s < n → r < n → (s == 0) && (r == 0) ≡ false → EachOn (Label f g s r) (on_link w s r)
+    labels s r hs hr off = subst (EachOn (Label f g s r)) (on_is s r off) (j.labels s r (rw nodes hs) (rw nodes hr))
+
+    -- nothing is on the switch's link to itself
+    pub loop_is : on_link w 0 0 ≡ []
+    loop_is = let some = world.some_node in let on : nat_lt 0 (length w.nodes) ≡ true = (Decides-ltb 0 (length w.nodes)).1 some in let first : 0 * length w.nodes + 0 ≡ 0 = omega arith in rw on (ap (λ v. get_or w.links v []) first ∙ world.no_loop)
+
+  -- as the seat has them
   module _ (world : IsWorld w) (u : units.Unit) (op : Op) (third : ℕ) (x : State R) (holds : Holds (S f g) (see (S f g) (is_sys f g.site g.packet) u op third) j.world x) where
     abbrev z : Seeing
     z = see (S f g) (is_sys f g.site g.packet) u op third
@@ -122,34 +144,23 @@ module _ {F R : Type 0} (f : Semantics R) (c : Config) (items : List Msg) (is : 
     abbrev mine : ℕ → Bool
     mine = (frame (S f g) z).mine
 
-    on_is : (s r : ℕ) → (s == 0) && (r == 0) ≡ false → waiting w (at r s) ≡ on_link w s r
-    on_is s r off = let turned : (r == 0) && (s == 0) ≡ false = swap_false (s == 0) (r == 0) off in rw turned refl
+    pub link_shown : (s r : ℕ) → s < n → r < n → (s == 0) && (r == 0) ≡ false → j.world.link s r ≡ filter_map (shown f g) (on_link w s r)
+    link_shown s r hs hr off = j.links s r hs hr off ∙ ap (filter_map (shown f g)) (on_is world s r off)
 
-    labels : (s r : ℕ) → s < n → r < n → (s == 0) && (r == 0) ≡ false → EachOn (Label f g s r) (on_link w s r)
-    labels s r hs hr off = subst (EachOn (Label f g s r)) (on_is s r off) (j.labels s r (rw nodes hs) (rw nodes hr))
+    pub link_view : (s r : ℕ) → s < n → r < n → (s == 0) && (r == 0) ≡ false → view f g z (on_link w s r) ≡ expect op.src op.dst third x s r
+    link_view s r hs hr off =
+        ap (items_of (seen (frame (S f g) z))) (sym (link_shown s r hs hr off))
+        ∙ ap (λ b. if b then [] else items_of (seen (frame (S f g) z)) (j.world.link s r)) (sym off) ∙ holds.views s r
 
     pub link_read : (s r : ℕ) → s < n → r < n → (s == 0) && (r == 0) ≡ false → AreRead f g z (on_link w s r) (expect op.src op.dst third x s r)
-    link_read s r hs hr off = subst (AreRead f g z (on_link w s r)) (seen_is ∙ holds_is) (are_read f g z s r (on_link w s r) (labels s r hs hr off))
-      where
-        link_is : j.world.link s r ≡ filter_map (shown f g) (on_link w s r)
-        link_is = j.links s r hs hr off ∙ ap (filter_map (shown f g)) (on_is s r off)
-
-        seen_is : view f g z (on_link w s r) ≡ items_of (seen (frame (S f g) z)) (j.world.link s r)
-        seen_is = ap (items_of (seen (frame (S f g) z))) (sym link_is)
-
-        holds_is : items_of (seen (frame (S f g) z)) (j.world.link s r) ≡ expect op.src op.dst third x s r
-        holds_is = ap (λ b. if b then [] else items_of (seen (frame (S f g) z)) (j.world.link s r)) (sym off) ∙ holds.views s r
-
-    -- nothing is on the switch's link to itself
-    loop_is : on_link w 0 0 ≡ []
-    loop_is = let some = world.some_node in let on : nat_lt 0 (length w.nodes) ≡ true = (Decides-ltb 0 (length w.nodes)).1 some in let first : 0 * length w.nodes + 0 ≡ 0 = omega arith in rw on (ap (λ v. get_or w.links v []) first ∙ world.no_loop)
+    link_read s r hs hr off = subst (AreRead f g z (on_link w s r)) (link_view s r hs hr off) (are_read f g z s r (on_link w s r) (labels world s r hs hr off))
 
     none_else : (s r : ℕ) (of : Msg → List ℕ) → s < n → r < n → ((s == 0) && (r == 0) ≡ false → all_of of (on_link w s r) ≡ []) → those mine (all_of of (on_link w s r)) ≡ []
     none_else s r of hs hr none = elim ((s == 0) && (r == 0)) as (λ b. (s == 0) && (r == 0) ≡ b → those mine (all_of of (on_link w s r)) ≡ []) [
       | true ↦ λ on.
           let zs : s ≡ 0 = grind (arith, nat_tests) in
           let zr : r ≡ 0 = grind (arith, nat_tests) in
-          ap (λ v. those mine (all_of of v)) (ap (λ v. on_link w v r) zs ∙ ap (λ v. on_link w 0 v) zr ∙ loop_is)
+          ap (λ v. those mine (all_of of v)) (ap (λ v. on_link w v r) zs ∙ ap (λ v. on_link w 0 v) zr ∙ loop_is world)
       | false ↦ λ off. ap (those mine) (none off)
     ] refl
 
@@ -157,7 +168,7 @@ module _ {F R : Type 0} (f : Semantics R) (c : Config) (items : List Msg) (is : 
     passed_from k two few = (link_read 0 k (omega (arith, few)) few (let off : (k == 0) ≡ false = grind (arith, nat_tests, two) in off)).pass
 
     pub passed_else : (s r : ℕ) → s < n → r < n → (FromSwitch s r → ⊥) → those mine (all_of passed (on_link w s r)) ≡ []
-    passed_else s r hs hr other = none_else s r passed hs hr (λ off. no_passed f g s r (on_link w s r) (labels s r hs hr off) other)
+    passed_else s r hs hr other = none_else s r passed hs hr (λ off. no_passed f g s r (on_link w s r) (labels world s r hs hr off) other)
 
     pub carried_from : (k : ℕ) → 2 ≤ k → k < n → those mine (all_of carried (on_link w 0 k)) ≡ carries (expect op.src op.dst third x 0 k)
     carried_from k two few = (link_read 0 k (omega (arith, few)) few (let off : (k == 0) ≡ false = grind (arith, nat_tests, two) in off)).carry
@@ -166,13 +177,13 @@ module _ {F R : Type 0} (f : Semantics R) (c : Config) (items : List Msg) (is : 
     events_to k two few = (link_read k 1 few (omega (arith, two, few)) (let off : (k == 0) ≡ false = grind (arith, nat_tests, two) in rw off refl)).event
 
     pub events_else : (s r : ℕ) → s < n → r < n → (ToController s r → ⊥) → those mine (all_of handed_over (on_link w s r)) ≡ []
-    events_else s r hs hr other = none_else s r handed_over hs hr (λ off. no_events f g s r (on_link w s r) (labels s r hs hr off) other)
+    events_else s r hs hr other = none_else s r handed_over hs hr (λ off. no_events f g s r (on_link w s r) (labels world s r hs hr off) other)
 
     pub forwarded_to : is_known x.cs ≡ true → those mine (all_of forwarded (on_link w 1 0)) ≡ forwards x.cs
     forwarded_to known = (link_read 1 0 (omega (arith, count)) (omega (arith, count)) refl).forward known
 
     pub forwarded_else : (s r : ℕ) → s < n → r < n → (ToSwitch s r → ⊥) → those mine (all_of forwarded (on_link w s r)) ≡ []
-    forwarded_else s r hs hr other = none_else s r forwarded hs hr (λ off. no_forwards f g s r (on_link w s r) (labels s r hs hr off) other)
+    forwarded_else s r hs hr other = none_else s r forwarded hs hr (λ off. no_forwards f g s r (on_link w s r) (labels world s r hs hr off) other)
 
     -- what an instance holds
     pub held_from : (k : ℕ) → 2 ≤ k → k < n → those mine (held_by (slice_get w.nodes k)) ≡ (node_at (S f g) z x k).held

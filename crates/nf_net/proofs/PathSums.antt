@@ -5,27 +5,24 @@ use Rattle.std.proofs.lemmas.Bool.{ltb-false}
 use Rattle.std.proofs.lemmas.Bool.Decides.{nat_tests, Decides-eqb, Decides-ltb}
 use Rattle.actor_net.specs.Network.{Network, on_link}
 use Rattle.actor_net.proofs.LinkLemmas.{inside}
+use Rattle.unit_machine.proofs.Labels.{Each, each-append}
 use Rattle.nf_net.specs.Log.{those}
 use Rattle.nf_net.specs.Path.{all_of, all_but}
 use Rattle.nf_net.proofs.LogLemmas.{those-append}
 
-module _ {X : Type 0} where
-  pub all_same : (f g : X → List ℕ) → ((x : X) → f x ≡ g x) → (xs : List X) → all_of f xs ≡ all_of g xs
+module _ {X Y : Type 0} where
+  pub all_same : (f g : X → List Y) → ((x : X) → f x ≡ g x) → (xs : List X) → all_of f xs ≡ all_of g xs
   all_same f g h [] = refl
   all_same f g h (x ∷ xs) = rw (h x, all_same f g h xs) refl
 
-  pub those-all : (mine : ℕ → Bool) (of : X → List ℕ) (xs : List X) → those mine (all_of of xs) ≡ all_of (λ x. those mine (of x)) xs
-  those-all mine of [] = refl
-  those-all mine of (x ∷ xs) = those-append mine (of x) (all_of of xs) ∙ ap (λ v. those mine (of x) ++ v) (those-all mine of xs)
-
-  pub none_at : (of : X → List ℕ) (xs : List X) (d : X) → ((i : ℕ) → i < length xs → of (get_or xs i d) ≡ []) → all_of of xs ≡ []
+  pub none_at : (of : X → List Y) (xs : List X) (d : X) → ((i : ℕ) → i < length xs → of (get_or xs i d) ≡ []) → all_of of xs ≡ []
   none_at of [] d h = refl
   none_at of (x ∷ xs) d h =
       let here : of x ≡ [] = h 0 (omega arith) in
       let rest = none_at of xs d (λ i small. h (suc i) (omega (arith, small))) in
       rw (here, rest) refl
 
-  pub one_at : (of : X → List ℕ) (xs : List X) (m : ℕ) (d : X) → m < length xs → ((i : ℕ) → i < length xs → i ≢ m → of (get_or xs i d) ≡ []) → all_of of xs ≡ of (get_or xs m d)
+  pub one_at : (of : X → List Y) (xs : List X) (m : ℕ) (d : X) → m < length xs → ((i : ℕ) → i < length xs → i ≢ m → of (get_or xs i d) ≡ []) → all_of of xs ≡ of (get_or xs m d)
   one_at of [] m d small h = absurd (omega (arith, small))
   one_at of (x ∷ xs) zero d small h =
       let rest = none_at of xs d (λ i little. h (suc i) (omega (arith, little)) (λ e. cc)) in
@@ -34,6 +31,15 @@ module _ {X : Type 0} where
       let here : of x ≡ [] = h 0 (omega arith) (λ e. cc) in
       let rest = one_at of xs m d (omega (arith, small)) (λ i little off. h (suc i) (omega (arith, little)) (λ e. (let same : i ≡ m = cc in off same))) in
       rw here rest
+
+-- what holds of all that each has holds of all
+pub each_place : {X Y : Type 0} (P : Y → Type 0) (of : X → List Y) (xs : List X) (d : X) → ((i : ℕ) → i < length xs → Each P (of (get_or xs i d))) → Each P (all_of of xs)
+each_place P of [] d h = tt
+each_place P of (x ∷ xs) d h = each-append P (of x) (all_of of xs) (h 0 (omega arith)) (each_place P of xs d (λ i small. h (suc i) (omega (arith, small))))
+
+pub those-all : {X : Type 0} (mine : ℕ → Bool) (of : X → List ℕ) (xs : List X) → those mine (all_of of xs) ≡ all_of (λ x. those mine (of x)) xs
+those-all mine of [] = refl
+those-all mine of (x ∷ xs) = those-append mine (of x) (all_of of xs) ∙ ap (λ v. those mine (of x) ++ v) (those-all mine of xs)
 
 -- the first numbers but one
 pub those-but : (mine : ℕ → Bool) (one : ℕ) (of : ℕ → List ℕ) (n : ℕ) → those mine (all_but one of n) ≡ all_but one (λ i. those mine (of i)) n
@@ -94,7 +100,7 @@ pair_of (suc m) n i h = elim (nat_lt i n) as (λ b. nat_lt i n ≡ b → IsPair 
       record { from = suc rest.from; to = rest.to; at = whole ∙ ap (λ v. v + rest.to) (sym (one_more rest.from n)); from_is = omega (arith, rest.from_is); to_is = rest.to_is }
 ] refl
 
-module _ {A M N : Type 0} (w : Network A M N) (square : length w.links ≡ length w.nodes * length w.nodes) (of : List M → List ℕ) where
+module _ {A M N Y : Type 0} (w : Network A M N) (square : length w.links ≡ length w.nodes * length w.nodes) (of : List M → List Y) where
   abbrev n : ℕ
   n = length w.nodes
 
@@ -117,3 +123,9 @@ module _ {A M N : Type 0} (w : Network A M N) (square : length w.links ≡ lengt
       ap (λ k. of (get_or w.links k [])) pair.at ∙ ap of (sym (link_is pair.from pair.to pair.from_is pair.to_is))
       ∙ h pair.from pair.to pair.from_is pair.to_is (λ a b. off (pair.at ∙ rw (a, b) refl)))
       ∙ ap of (sym (link_is s r hs hr))
+
+pub each_link : {A M N Y : Type 0} (w : Network A M N) → length w.links ≡ length w.nodes * length w.nodes → (P : Y → Type 0) (of : List M → List Y) → ((s r : ℕ) → s < length w.nodes → r < length w.nodes → Each P (of (on_link w s r))) → Each P (all_of of w.links)
+each_link w square P of h = each_place P of w.links [] (λ i small.
+    let within : i < length w.nodes * length w.nodes = rw (← square) small in
+    let pair = pair_of (length w.nodes) (length w.nodes) i within in
+    subst (λ ms. Each P (of ms)) (link_is w square of pair.from pair.to pair.from_is pair.to_is ∙ ap (λ k. get_or w.links k []) (sym pair.at)) (h pair.from pair.to pair.from_is pair.to_is))

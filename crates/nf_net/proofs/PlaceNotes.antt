@@ -1,6 +1,7 @@
 -- What the steps of the nodes note: an instance what it processed, gave and took, and the others nothing that was processed.
 use Rattle.std.proofs.Common.{◌≡◌, ℕ, ◌+◌, ◌-◌, Bool, true, false, Option, Some, None, List, [], ◌∷◌, length, refl, ◌∙◌, subst}
 use Rattle.std.specs.Prelude.{if◌then◌else◌, ◌&&◌, ◌||◌, ◌==◌, not, nat_lt, Result, Ok, Err}
+use Rattle.std.specs.List.{filter_map}
 use Rattle.std.specs.FinMap as finite
 use Rattle.state_chunk.specs.declared.fault.ChunkFault.{ChunkFault}
 use Rattle.state_chunk.specs.Reading.{tally_read}
@@ -33,7 +34,7 @@ use Rattle.switch_node.specs.Switch as switches
 use Rattle.switch_node.specs.Switch.{SwitchState, switch_step, sends_to_instance, on_packet, on_credit, on_install}
 use Rattle.ctrl_node.specs.Controller as controllers
 use Rattle.ctrl_node.specs.Controller.{ControllerState, controller_step}
-use Rattle.ctrl_node.specs.Operations.{Turn, turn_of}
+use Rattle.ctrl_node.specs.Operations.{Turn, turn_of, share_of}
 use Rattle.instance_worker.specs.declared.instance.Instance.{Instance}
 use Rattle.instance_worker.specs.Instance.{Step, still, processed, all_processed, carried, on_carry, on_fence, on_get, on_stream, on_put, piece_put, refusal, where_good, on_restore, on_standby, on_put_all, tally_put, on_sync, instance_step}
 use Rattle.unit_machine.proofs.Labels.{Each, each-append}
@@ -199,10 +200,23 @@ between_quiet s op filter keep (Some i) (Some j) = (refl, tt)
 between_quiet s op filter keep None to = tt
 between_quiet s op filter keep (Some i) None = tt
 
+copies_quiet : (s : ControllerState) (op : ℕ) (filter : Option Filter) (from to : Option ℕ) → AreUninstalled (controllers.copies_between s op filter from to).notes
+copies_quiet s op filter (Some i) (Some j) = (refl, tt)
+copies_quiet s op filter None to = tt
+copies_quiet s op filter (Some i) None = tt
+
+shares_quiet : (s : ControllerState) (op : ℕ) (filter : Filter) (members : List ℕ) → AreUninstalled (controllers.begins_share s op filter members).notes
+shares_quiet s op filter [] = tt
+shares_quiet s op filter (home ∷ others) = (refl, tt)
+
+diverted_quiet : (s : ControllerState) (cell : FullCell) (o : Option ℕ) → AreUninstalled (controllers.queued s cell o).notes
+diverted_quiet s cell None = tt
+diverted_quiet s cell (Some op) = tt
+
 begins_quiet : (s : ControllerState) (op : ℕ) (what : Order) → AreUninstalled (controllers.begins s op what).notes
 begins_quiet s op (order.Move source destination filter keep) = between_quiet s op filter keep (controllers.place_of s.names source) (controllers.place_of s.names destination)
-begins_quiet s op (order.Copy source destination filter) = tt
-begins_quiet s op (order.Share members filter) = tt
+begins_quiet s op (order.Copy source destination filter) = copies_quiet s op filter (controllers.place_of s.names source) (controllers.place_of s.names destination)
+begins_quiet s op (order.Share members filter) = shares_quiet s op filter (filter_map (controllers.place_of s.names) members)
 
 decided_quiet : (s : ControllerState) (op : ℕ) (what : Order) (o : Option Answer) → AreUninstalled (controllers.decided s op what o).notes
 decided_quiet s op what (Some answer) = (refl, tt)
@@ -232,6 +246,7 @@ final_quiet s (Some i) = tt
 
 row_quiet : (s : ControllerState) (port : ℕ) (m : Msg) → AreUninstalled (controllers.row s port m).notes
 row_quiet s port (msg.Asked c) = elim (port == 0) as (λ b. AreUninstalled (if b then controllers.on_asked s c else controllers.still s).notes) [ true ↦ asked_quiet s c | false ↦ tt ]
+row_quiet s port (msg.Diverted cell) = elim (port == 0) as (λ b. AreUninstalled (if b then controllers.on_diverted s cell else controllers.still s).notes) [ true ↦ diverted_quiet s cell (share_of s.operations (flow_of s.site cell.packet).0) | false ↦ tt ]
 row_quiet s port msg.End = elim (port == 0) as (λ b. AreUninstalled (if b then controllers.still (record s { end_came = true }) else controllers.still s).notes) [ true ↦ tt | false ↦ tt ]
 row_quiet s port (msg.Event op cell) = event_quiet s port op cell (controllers.instance_at s port)
 row_quiet s port msg.Final = final_quiet s (controllers.instance_at s port)

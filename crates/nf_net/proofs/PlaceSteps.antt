@@ -17,7 +17,7 @@ use Rattle.packet_pool.specs.Pool.{FullCell}
 use Rattle.event_store.specs.Store.{stored}
 use Rattle.ctrl_node.specs.Controller.{place_of}
 use Rattle.ctrl_node.specs.declared.operation.Operation.{Operation}
-use Rattle.ctrl_node.specs.declared.operation.Operation.TheVariants.{Move}
+use Rattle.ctrl_node.specs.declared.operation.Operation.TheVariants.{Move, Copy, Share}
 use Rattle.instance_worker.specs.declared.instance.Instance.{Instance as InstanceState}
 use Rattle.instance_worker.specs.Instance.{instance_step}
 use Rattle.actor_net.specs.Network.{Network, waiting}
@@ -51,17 +51,14 @@ module _ {F R : Type 0} (f : Semantics R) (laws : FunctionLaws f) (c : Config) (
   node_same : (a b k : ℕ) → instance_node a ≡ k → k ≡ instance_node b → a ≡ b
   node_same a b k x y = omega (arith, x, y)
 
-  module _ (number i : ℕ) where
-    abbrev u : units.Unit
-    u = unit_at f.kind c.site (packet_of items number)
-
-    -- an open move between two instances, as one that is under way
-    record IsUnderWay (e : Open R) : Type 0 where
+  module _ (u : units.Unit) where
+    -- an open move of the unit between two instances, as one that is under way
+    pub record IsUnderWay (e : Open R) : Type 0 where
       from : ℕ
       to : ℕ
-      source : List ℕ
-      destination : List ℕ
-      moving : IsMoving c items u w.log source destination
+      pub source : List ℕ
+      pub destination : List ℕ
+      pub moving : IsMoving c items u w.log source destination
       from_is : place_of c.names source ≡ Some from
       to_is : place_of c.names destination ≡ Some to
       src : e.op.src ≡ instance_node from
@@ -84,14 +81,20 @@ module _ {F R : Type 0} (f : Semantics R) (laws : FunctionLaws f) (c : Config) (
           dst = ap (λ o. o.dst) sees.op;
         }
     under_way k e None events there sees taken = absurd sees
+    under_way k e (Some (Copy y)) events there sees taken = absurd sees
+    under_way k e (Some (Share s)) events there sees taken = absurd sees
 
-    open_at : (k : ℕ) (e : Open R) → find_op j.world.ops k ≡ Some e → takes_whole f.kind e.filter u ≡ true → IsUnderWay e
+    pub open_at : (k : ℕ) (e : Open R) → find_op j.world.ops k ≡ Some e → takes_whole f.kind e.filter u ≡ true → IsUnderWay e
     open_at k e there taken = under_way k e (finite.get j.nodes.controller.operations k) (stored j.nodes.controller.store k) refl (subst (λ q. Sees f (place g) q (finite.get j.nodes.controller.operations k) (stored j.nodes.controller.store k)) there (j.shown_is.controller.opens k)) taken
 
-    by_may : May_process (S f g) j.world u (instance_node i) → IsPlace c items u w.log i
-    by_may (At_target at) = Owns (node_same i (owner c items u w.log) (j.world.target u) (sym at) (j.shown_is.owners u (units_fit f c items is number)))
-    by_may (At_source k e there taken at) = let m = open_at k e there taken in Is_source m.source m.destination m.moving (m.from_is ∙ ap Some (node_same m.from i e.op.src (sym m.src) (sym at)))
-    by_may (At_destination k e there taken at) = let m = open_at k e there taken in Is_destination m.source m.destination m.moving (m.to_is ∙ ap Some (node_same m.to i e.op.dst (sym m.dst) (sym at)))
+  module _ (number i : ℕ) where
+    abbrev unit : units.Unit
+    unit = unit_at f.kind c.site (packet_of items number)
+
+    by_may : May_process (S f g) j.world unit (instance_node i) → IsPlace c items unit w.log i
+    by_may (At_target at) = Owns (node_same i (owner c items unit w.log) (j.world.target unit) (sym at) (j.shown_is.owners unit (units_fit f c items is number)))
+    by_may (At_source k e there taken at) = let m = open_at unit k e there taken in Is_source m.source m.destination m.moving (m.from_is ∙ ap Some (node_same m.from i e.op.src (sym m.src) (sym at)))
+    by_may (At_destination k e there taken at) = let m = open_at unit k e there taken in Is_destination m.source m.destination m.moving (m.to_is ∙ ap Some (node_same m.to i e.op.dst (sym m.dst) (sym at)))
 
   -- what an instance processes, it processes at a place of the unit
   module _ (y p : ℕ) (m : Msg) (taken : IsTaken f g n scene (record { node = suc (suc y); port = p; message = m })) where

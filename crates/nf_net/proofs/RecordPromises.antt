@@ -21,7 +21,8 @@ use Rattle.nf_net.specs.declared.node.Node.{Node}
 use Rattle.nf_net.specs.declared.node.Node.TheVariants.{Switch, Controller, Instance}
 use Rattle.nf_net.specs.Input.{IsInput}
 use Rattle.nf_net.specs.Places.{is_loose}
-use Rattle.nf_net.specs.Promises.{live_in, live_at, came}
+use Rattle.nf_net.specs.Promises.{came}
+use Rattle.nf_net.specs.Records.{live_in, live_at}
 use Rattle.nf_net.proofs.Outline.{is_sys}
 use Rattle.nf_net.proofs.StartJoined.{given}
 use Rattle.nf_net.proofs.Joined.{Given, S, Nodes, node_of, Joined}

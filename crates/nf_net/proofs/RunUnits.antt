@@ -33,6 +33,7 @@ use Rattle.nf_net.proofs.InstanceOutline.{carry_follows, pass_follows, fence_fol
 use Rattle.nf_net.proofs.InstanceKeeps.{chunks_good}
 use Rattle.nf_net.proofs.InstanceSteps.{Rows, by_message}
 use Rattle.nf_net.proofs.OwnerLemmas.{unit_is_fit}
+use Rattle.nf_net.proofs.CopyRows.{get_hides, get_all_hides, standby_hides, put_all_hides}
 use Rattle.nf_net.proofs.Joined.{Given, S, place, shown, Label, IsInstanceAt}
 
 -- the flow of the packet of zeros, whatever is inside
@@ -77,6 +78,10 @@ module _ {F R : Type 0} (f : Semantics R) (laws : FunctionLaws f) (g : Given) wh
         delete = λ op gone. Seen (net.Mv everything (real.M_delete op gone)) refl (delete_follows f laws g.site g.packet (place g) i op gone).ran;
         put = λ op piece first e. Seen (net.Mv everything (real.M_put op (outline_piece f piece) first)) refl (put_follows f laws g.site g.packet (place g) i op piece first (chunks_good f laws g piece.chunks e.good) e.few).ran;
         restore = λ op chunks e. Seen (net.Mv everything (real.M_restore op (entries f chunks))) refl (restore_follows f laws g.site g.packet (place g) i op chunks (chunks_good f laws g chunks e)).ran;
+        get = λ op filter. Unseen (get_hides f g i op filter).ran;
+        get_all = λ op. Unseen (get_all_hides f g i op).ran;
+        standby = λ op chunks e. Unseen (standby_hides f g i op chunks).ran;
+        put_all = λ op chunk. Unseen (put_all_hides f g i op chunk).ran;
       }
 
 -- a packet that was noted is one of its unit's that ran

@@ -39,8 +39,9 @@ use Rattle.nf_net.proofs.AnswerSends.{answering}
 use Rattle.nf_net.proofs.BusyController.{told_in}
 use Rattle.nf_net.proofs.BusyLemmas.{or_off, other_not_answered, answers_of-append}
 use Rattle.nf_net.proofs.BusyNodes.{switch_hands, instance_says}
-use Rattle.nf_net.proofs.BusyRuns.{Busy, waits_of, plan_is}
+use Rattle.nf_net.proofs.BusyRuns.{Busy, waits_of}
 use Rattle.nf_net.proofs.ControllerActs.{Says_so, Says_so.Neither, Says_so.Begins, Says_so.Answers, controller_acts}
+use Rattle.nf_net.proofs.KnownOperations.{known}
 use Rattle.nf_net.proofs.Joined.{Given, Label, Joined, node_of}
 use Rattle.nf_net.proofs.JoinedSteps.{label, step_leads, input_after}
 use Rattle.nf_net.proofs.LinePicks.{picked}
@@ -298,7 +299,7 @@ module _ (F : Type 0) {R : Type 0} (f : Semantics R) (laws : FunctionLaws f) (al
         let took = took_after 1 p m rest takes ready goes in
         let left = taken_outcome step n w 1 p (node_of j.nodes 1) m rest takes in
         let labelled_is = labelled 1 p m rest takes ready in
-        let acts = controller_acts g n reach t (λ op mv got. (let it = j.shown_is.controller.moves op mv got in (it.op_is, it.refusing, plan_is f g n refl w j b op mv got))) f p m labelled_is in
+        let acts = controller_acts g n reach t (known f g t j.world.ops j.world.next j.shown_is.controller) f p m labelled_is in
         let none = no_answer_to f g p 1 m (omega arith) labelled_is in
         let asked = not_asked goes in
         record {

@@ -23,7 +23,7 @@ use Rattle.switch_rules.specs.declared.target.Target.TheVariants as target
 use Rattle.switch_node.specs.Switch.{switch_step, on_install}
 use Rattle.move_op.specs.Move.{MoveState}
 use Rattle.ctrl_node.specs.declared.operation.Operation.{Operation}
-use Rattle.ctrl_node.specs.declared.operation.Operation.TheVariants.{Move}
+use Rattle.ctrl_node.specs.declared.operation.Operation.TheVariants.{Move, Copy, Share}
 use Rattle.ctrl_node.specs.Controller.{ControllerState, controller_step, opened as opened_controller}
 use Rattle.actor_net.specs.declared.choice.Choice.{Choice}
 use Rattle.actor_net.specs.Network.{Network, Stepped, IsRun, is_input, reaches, run, taken, waiting}
@@ -41,12 +41,13 @@ use Rattle.nf_net.specs.Refused.{moves_away, unit_numbered, StaysAtSource}
 use Rattle.nf_net.specs.Start.{started}
 use Rattle.nf_net.proofs.BusyLemmas.{AreOther, is_other, answers_of-append, times_begun-append, other_not_begun}
 use Rattle.nf_net.proofs.BusyNodes.{switch_hands, instance_says}
-use Rattle.nf_net.proofs.BusyRuns.{Busy, same_controller, busy_is, plan_is, busy_next}
+use Rattle.nf_net.proofs.BusyRuns.{Busy, same_controller, busy_is, busy_next}
 use Rattle.nf_net.proofs.CommandPromises.{run_busy}
 use Rattle.nf_net.proofs.ControllerActs.{IsEarly, Was, Was.Was_open, Was.Begins_now, Says_so, Says_so.Neither, Says_so.Begins, Says_so.Answers, Acts, controller_acts}
 use Rattle.nf_net.proofs.FiltersApart.{and_l, and_r}
 use Rattle.nf_net.proofs.HandedUnits.{owner_next}
 use Rattle.nf_net.proofs.InstallCounts.{passed}
+use Rattle.nf_net.proofs.KnownOperations.{known}
 use Rattle.nf_net.proofs.Joined.{Given, Label, Joined, node_of, shown}
 use Rattle.nf_net.proofs.JoinedSteps.{label, is_taken}
 use Rattle.nf_net.proofs.MovesUnderWay.{AreUnderWay, moves_under_way}
@@ -175,7 +176,7 @@ module _ (F : Type 0) {R : Type 0} (f : Semantics R) (laws : FunctionLaws f) (al
       left = (taken_outcome step n w 1 p (node_of j.nodes 1) m rest takes).log
 
       acts : Acts g n reach t (controller_step t p m)
-      acts = controller_acts g n reach t (λ op mv got. (let it = j.shown_is.controller.moves op mv got in (it.op_is, it.refusing, plan_is f g n refl w j b op mv got))) f p m labelled
+      acts = controller_acts g n reach t (known f g t j.world.ops j.world.next j.shown_is.controller) f p m labelled
 
       leaves : (filter : Filter) (i : ℕ) → Leaves f c items filter i w.log notes
       leaves filter i = quiet_leaves f c items filter i w.log notes (installed_none notes (controller_uninstalled t p m)) (uninstalled_unprocessed notes (controller_uninstalled t p m))
@@ -243,6 +244,8 @@ module _ (F : Type 0) {R : Type 0} (f : Semantics R) (laws : FunctionLaws f) (al
 
           by_got : (o : Option Operation) → finite.get t.operations op ≡ o → IsEarly o → notes ≡ note.Answered op a ∷ [] → w.log ≡ first ++ note.Begun op ∷ between → i ≡ owner c items (unit_numbered c items f.kind number) first
           by_got None got early noted whole = was_closed got noted whole
+          by_got (Some (Copy y)) got early noted whole = absurd early
+          by_got (Some (Share s)) got early noted whole = absurd early
           by_got (Some (Move x)) got early noted whole = was_open x got early whole
 
           by_alone : (k : ℕ) (d : Answer) → notes ≡ note.Answered k d ∷ [] → (d ≢ Done → IsEarly (finite.get t.operations k)) → Alone (note.Answered k d) (note.Answered op a) cs back → i ≡ owner c items (unit_numbered c items f.kind number) first

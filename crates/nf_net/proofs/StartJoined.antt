@@ -39,7 +39,7 @@ use Rattle.nf_msgs.specs.declared.msg.Msg.TheVariants as msg
 use Rattle.nf_msgs.specs.Nodes.{instance_node}
 use Rattle.unit_machine.proofs.Labels.{Each}
 use Rattle.nf_net.specs.declared.config.Config.{Config}
-use Rattle.nf_net.specs.Input.{is_item, packets, commands, no_packet, packet_of, order_of, IsRising, IsSteered, IsWhole, IsMove, IsInput}
+use Rattle.nf_net.specs.Input.{is_item, packets, commands, no_packet, packet_of, order_of, IsRising, IsSteered, IsWhole, IsBuilt, IsInput}
 use Rattle.nf_net.specs.declared.node.Node.{Node}
 use Rattle.nf_net.specs.declared.node.Node.TheVariants.{Instance}
 use Rattle.nf_msgs.specs.declared.note.Note.{Note}
@@ -53,7 +53,7 @@ use Rattle.nf_net.proofs.FiltersApart.{is_whole, flow_fits, unit_fits, takes_who
 use Rattle.nf_net.proofs.InputLemmas.{each_both, found_each, fits_flow, whole_is}
 use Rattle.nf_net.proofs.StateOutline.{all_each}
 use Rattle.nf_net.proofs.ControlOutline.{Sees}
-use Rattle.nf_net.proofs.Joined.{Given, place, GenuinePacket, is_move, IsCommand, Label, S, IsSwitch, IsController, Nodes, node_of, Scene, Joined, IsInstanceAt, AreShown, commands as numbers_of}
+use Rattle.nf_net.proofs.Joined.{Given, place, GenuinePacket, is_built, IsCommand, Label, S, IsSwitch, IsController, Nodes, node_of, Scene, Joined, IsInstanceAt, AreShown, commands as numbers_of}
 
 -- Routes.
 module _ (kind : Kind) where
@@ -105,16 +105,17 @@ module _ {R : Type 0} (f : Semantics R) (c : Config) (items : List Msg) (is : Is
   pub genuine : Each (GenuinePacket f given) (packets items)
   genuine = each_both found_packet (packets items) (found_each (λ p. p.number) 0 (packets items) is.numbers) (all_each (IsSteered c.site) (packets items) is.steered)
 
-  found_command : (k : Command) → find (λ q. q.op == k.op) (commands items) ≡ Some k → IsMove f.kind k.what → IsCommand f given k
-  found_command k found ok = record { known = ap (option_map (λ q. q.what)) found; moves = order_is k.what ok }
+  found_command : (k : Command) → find (λ q. q.op == k.op) (commands items) ≡ Some k → IsBuilt f.kind k.what → IsCommand f given k
+  found_command k found ok = record { known = ap (option_map (λ q. q.what)) found; built = order_is k.what ok }
     where
-      order_is : (o : Order) → IsMove f.kind o → is_move f given o ≡ true
+      order_is : (o : Order) → IsBuilt f.kind o → is_built f given o ≡ true
       order_is (order.Move source destination filter keep) h = let apart = h.0 in let whole = whole_is f.kind filter h.1 in rw (whole, apart) refl
-      order_is (order.Copy source destination filter) h = absurd h
+      order_is (order.Copy source destination None) h = let apart = h.0 in rw apart refl
+      order_is (order.Copy source destination (Some filter)) h = let apart = h.0 in let whole = whole_is f.kind filter (h.1 filter refl) in rw (whole, apart) refl
       order_is (order.Share members filter) h = absurd h
 
   listed : Each (IsCommand f given) (commands items)
-  listed = each_both found_command (commands items) (found_each (λ k. k.op) 0 (commands items) is.ops) (all_each (λ k. IsMove f.kind k.what) (commands items) is.moves)
+  listed = each_both found_command (commands items) (found_each (λ k. k.op) 0 (commands items) is.ops) (all_each (λ k. IsBuilt f.kind k.what) (commands items) is.orders)
 
   labelled : (xs : List Msg) → Each (λ item. is_item item ≡ true) xs → Each (GenuinePacket f given) (packets xs) → Each (IsCommand f given) (commands xs) → Each (Label f given 0 0) xs
   labelled [] ok ps cs = tt
@@ -163,9 +164,12 @@ module _ {R : Type 0} (f : Semantics R) (c : Config) (items : List Msg) (is : Is
     names = refl;
     opens = λ op. none op (finite.get-empty nat_cmp op);
     moves = λ op m there. (let none = sym there ∙ finite.get-empty nat_cmp op in cc);
+    copies = λ op y there. (let none = sym there ∙ finite.get-empty nat_cmp op in cc);
+    no_shares = λ op s there. (let none = sym there ∙ finite.get-empty nat_cmp op in cc);
     listed = tt;
     nothing = λ op _. stored-empty op;
     emptied = λ op _. stored-empty op;
+    unstored = λ op y _. stored-empty op;
     going = λ op m there. (let none = sym there ∙ finite.get-empty nat_cmp op in cc);
     genuine = λ op. (let none : stored (opened_controller c.names c.site).store op ≡ [] = stored-empty op in rw none tt);
   }

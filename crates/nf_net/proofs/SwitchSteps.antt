@@ -261,6 +261,13 @@ module _ {R : Type 0} (f : Semantics R) (g : Given) where
   comes p (msg.Restored op) e = let r = e.1 in cc
   comes p (msg.Event op cell) e = let r = e.0.1 in cc
   comes p (msg.Fenced op) e = let r = e.1 in cc
+  comes p (msg.Get op filter) e = let r = e.0.1 in absurd (omega (arith, r))
+  comes p (msg.GetAll op) e = let r = e.1 in absurd (omega (arith, r))
+  comes p (msg.Standby op chunks) e = let r = e.0.1 in absurd (omega (arith, r))
+  comes p (msg.PutAll op chunk) e = let r = e.1 in absurd (omega (arith, r))
+  comes p (msg.Chunks op chunks) e = let r = e.0.1 in cc
+  comes p (msg.AllChunk op chunk) e = let r = e.1 in cc
+  comes p (msg.Kept op) e = let r = e.1 in cc
   comes p msg.Final e = let r = e.1 in cc
   comes p m e = absurd e
 

@@ -25,7 +25,7 @@ use Rattle.actor_net.proofs.RunInduction.{Taking, run_induction, run_world}
 use Rattle.actor_net.proofs.StepOutcome.{Takes, taken_outcome}
 use Rattle.actor_net.proofs.WeightLaws.{weigh, total, sent_weight, total_after}
 use Rattle.ctrl_node.specs.Controller as controller
-use Rattle.ctrl_node.specs.Controller.{ControllerState, Step, still, refusal, unknown_name, overlap, place_of, begins_between, begins, decided, on_asked, controller_step}
+use Rattle.ctrl_node.specs.Controller.{ControllerState, Step, still, refusal, unknown_name, overlap, place_of, begins_between, copies_between, begins, decided, on_asked, controller_step}
 use Rattle.switch_node.specs.Switch.{SwitchState, switch_step}
 use Rattle.nf_net.specs.declared.config.Config.{Config}
 use Rattle.nf_net.specs.declared.node.Node.{Node}
@@ -39,7 +39,8 @@ use Rattle.nf_net.proofs.BusyRuns.{Busy, same_controller, busy_is, busy_next}
 use Rattle.nf_net.proofs.CommandPromises.{start_busy, run_busy}
 use Rattle.nf_net.proofs.EndRuns.{run_ends, none_open}
 use Rattle.nf_net.proofs.EndTables.{flag}
-use Rattle.nf_net.proofs.Joined.{Given, Label, Joined, is_move, count, node_of}
+use Rattle.nf_net.proofs.KnownOperations.{NotSharing, not_sharing}
+use Rattle.nf_net.proofs.Joined.{Given, Label, Joined, count, node_of}
 use Rattle.nf_net.proofs.JoinedSteps.{label, joined_next}
 use Rattle.nf_net.proofs.LogLemmas.{has_begun-append}
 use Rattle.nf_net.proofs.RunsJoined.{start_world}
@@ -77,11 +78,6 @@ noted_new op xs ys h =
     more false false false true k = refl
     more false false false false k = cc
 
--- an order to move
-abbrev is_move_order : Order → Bool
-is_move_order (order.Move source destination filter keep) = true
-is_move_order what = false
-
 -- The controller begins or answers each command that it takes.
 module _ (g : Given) (log : List Note) (c : ControllerState) (op : ℕ) (open_is : finite.contains_key c.operations op ≡ is_busy op log) where
   abbrev Noted : Step → Type 0
@@ -98,6 +94,11 @@ module _ (g : Given) (log : List Note) (c : ControllerState) (op : ℕ) (open_is
   between_noted filter keep None b h k = cc
   between_noted filter keep (Some a) None h k = cc
 
+  copies_noted : (filter : Option Filter) (a b : Option ℕ) → is_some a ≡ true → is_some b ≡ true → Noted (copies_between c op filter a b)
+  copies_noted filter (Some a) (Some b) h k = noted_new op log (copies_between c op filter (Some a) (Some b)).notes (let own = self in rw own refl)
+  copies_noted filter None b h k = cc
+  copies_noted filter (Some a) None h k = cc
+
   -- two names that are known
   both_known : (a b : List ℕ) (p q : Bool) → (if not p then Some a else if not q then Some b else None) ≡ None → (p ≡ true) × (q ≡ true)
   both_known a b true true e = (refl, refl)
@@ -108,21 +109,23 @@ module _ (g : Given) (log : List Note) (c : ControllerState) (op : ℕ) (open_is
   none_of None q e = refl
   none_of (Some u) q e = cc
 
-  begins_noted : (what : Order) → is_move_order what ≡ true → refusal c what ≡ None → Noted (begins c op what)
-  begins_noted (order.Move source destination filter keep) moves none =
+  begins_noted : (what : Order) → NotSharing what → refusal c what ≡ None → Noted (begins c op what)
+  begins_noted (order.Move source destination filter keep) built none =
       let known = both_known source destination (is_some (place_of c.names source)) (is_some (place_of c.names destination)) (none_of (unknown_name c (order.Move source destination filter keep)) (overlap c (order.Move source destination filter keep)) none) in
       between_noted filter keep (place_of c.names source) (place_of c.names destination) known.0 known.1
-  begins_noted (order.Copy source destination filter) moves none = cc
-  begins_noted (order.Share members filter) moves none = cc
+  begins_noted (order.Copy source destination filter) built none =
+      let known = both_known source destination (is_some (place_of c.names source)) (is_some (place_of c.names destination)) (none_of (unknown_name c (order.Copy source destination filter)) (overlap c (order.Copy source destination filter)) none) in
+      copies_noted filter (place_of c.names source) (place_of c.names destination) known.0 known.1
+  begins_noted (order.Share members filter) built none = absurd built
 
-  decided_noted : (what : Order) → is_move_order what ≡ true → (o : Option Answer) → refusal c what ≡ o → Noted (decided c op what o)
-  decided_noted what moves (Some a) is = answered_noted a
-  decided_noted what moves None is = begins_noted what moves is
+  decided_noted : (what : Order) → NotSharing what → (o : Option Answer) → refusal c what ≡ o → Noted (decided c op what o)
+  decided_noted what built (Some a) is = answered_noted a
+  decided_noted what built None is = begins_noted what built is
 
-  asked_noted : (what : Order) → is_move_order what ≡ true → Noted (on_asked c (record { op = op; what = what }))
-  asked_noted what moves = elim (finite.contains_key c.operations op) as (λ b. finite.contains_key c.operations op ≡ b → Noted (if b then still c else decided c op what (refusal c what))) [
+  asked_noted : (what : Order) → NotSharing what → Noted (on_asked c (record { op = op; what = what }))
+  asked_noted what built = elim (finite.contains_key c.operations op) as (λ b. finite.contains_key c.operations op ≡ b → Noted (if b then still c else decided c op what (refusal c what))) [
     | true ↦ λ on. (let busy : is_busy op log ≡ true = sym open_is ∙ on in let more = noted_more op log [] in let was = busy_noted (began op log) (has_answered op log) busy in flagged (is_noted op (log ++ [])) (omega (arith, more, ap flag was)))
-    | false ↦ λ off. decided_noted what moves (refusal c what) refl
+    | false ↦ λ off. decided_noted what built (refusal c what) refl
   ] refl
     where
       busy_noted : (a b : Bool) → a && not b ≡ true → a || b ≡ true
@@ -135,15 +138,10 @@ module _ (g : Given) (log : List Note) (c : ControllerState) (op : ℕ) (open_is
 
 -- What each node's step does with a command.
 module _ {R : Type 0} (f : Semantics R) (g : Given) (op : ℕ) where
-  moves_order : (what : Order) → is_move f g what ≡ true → is_move_order what ≡ true
-  moves_order (order.Move source destination filter keep) e = refl
-  moves_order (order.Copy source destination filter) e = cc
-  moves_order (order.Share members filter) e = cc
-
   controller_told : (log : List Note) (c : ControllerState) → ((k : ℕ) → finite.contains_key c.operations k ≡ is_busy k log) → (p : ℕ) (m : Msg) → Label f g p 1 m → told op m ≤ flag (is_noted op (log ++ (controller_step c p m).notes))
   controller_told log c open_is p (msg.InCommand k) label = let never = label.0.1 in cc
   controller_told log c open_is p (msg.Asked k) label =
-      let noted = asked_noted g log c k.op (open_is k.op) k.what (moves_order k.what label.2.moves) in
+      let noted = asked_noted g log c k.op (open_is k.op) k.what (not_sharing f g k.what label.2.built) in
       let from : (p == 0) ≡ true = (Decides-eqb p 0).1 label.0 in
       let all : is_noted k.op (log ++ (controller_step c p (msg.Asked k)).notes) ≡ true = ap (λ b. is_noted k.op (log ++ (if b then on_asked c k else still c).notes)) from ∙ noted in
       elim (k.op == op) as (λ b. (k.op == op) ≡ b → (if b then 1 else 0) ≤ flag (is_noted op (log ++ (controller_step c p (msg.Asked k)).notes))) [

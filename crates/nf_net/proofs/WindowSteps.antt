@@ -7,6 +7,7 @@ use Rattle.std.proofs.lemmas.Bool.Decides.{nat_tests, Decides-eqb}
 use Rattle.flow_filter.specs.declared.filter.Filter.{Filter}
 use Rattle.flow_filter.specs.declared.packet.Packet.{Packet}
 use Rattle.event_filter.specs.declared.mark.Mark.TheVariants as mark
+use Rattle.flow_filter.specs.Flow.{flow_of}
 use Rattle.packet_pool.specs.Pool.{FullCell}
 use Rattle.switch_rules.specs.declared.target.Target.{Target}
 use Rattle.switch_rules.specs.declared.target.Target.TheVariants as target
@@ -23,9 +24,9 @@ use Rattle.nf_msgs.specs.Nodes.{instance_node}
 use Rattle.nf_msgs.specs.Shown.{op_of}
 use Rattle.switch_node.specs.Switch as switch
 use Rattle.switch_node.specs.Switch.{SwitchState, switch_step, still, sends_to_instance, target_of, has_room, goes_to, is_there}
-use Rattle.ctrl_node.specs.Operations.{Turn, turn_of}
+use Rattle.ctrl_node.specs.Operations.{Turn, turn_of, share_of}
 use Rattle.ctrl_node.specs.Controller as controller
-use Rattle.ctrl_node.specs.Controller.{ControllerState, controller_step, row, on_asked, decided, begins, begins_between, refusal, on_event, on_final, instance_at, numbered, after_turn, handed}
+use Rattle.ctrl_node.specs.Controller.{ControllerState, controller_step, row, on_asked, decided, begins, begins_between, copies_between, begins_share, queued, on_diverted, refusal, on_event, on_final, instance_at, numbered, after_turn, handed}
 use Rattle.nf_net.specs.Log.{arrived, done}
 use Rattle.nf_net.proofs.CreditCounts.{credit}
 
@@ -43,7 +44,7 @@ module _ (c : ControllerState) where
   after_is op turn (Some answer) = record { came = refl; went = refl }
 
   handed_is : (op port : ℕ) (m : Msg) → IsSilent (handed c op port m)
-  handed_is op port m = after_is op (turn_of (finite.get c.operations op) c.store port m) _
+  handed_is op port m = let turn = turn_of (finite.get c.operations op) c.store port m in let after = after_is op turn turn.answer in record { came = after.came; went = after.went }
 
   numbered_is : (port : ℕ) (m : Msg) (o : Option ℕ) → IsSilent (numbered c port m o)
   numbered_is port m None = record { came = refl; went = refl }
@@ -54,9 +55,23 @@ module _ (c : ControllerState) where
   between_is op filter keep None b = record { came = refl; went = refl }
   between_is op filter keep (Some a) None = record { came = refl; went = refl }
 
+  copies_is : (op : ℕ) (filter : Option Filter) (a b : Option ℕ) → IsSilent (copies_between c op filter a b)
+  copies_is op filter (Some a) (Some b) = record { came = refl; went = refl }
+  copies_is op filter None b = record { came = refl; went = refl }
+  copies_is op filter (Some a) None = record { came = refl; went = refl }
+
+  shares_is : (op : ℕ) (filter : Filter) (members : List ℕ) → IsSilent (begins_share c op filter members)
+  shares_is op filter [] = record { came = refl; went = refl }
+  shares_is op filter (home ∷ others) = record { came = refl; went = refl }
+
+  diverted_is : (cell : FullCell) (o : Option ℕ) → IsSilent (queued c cell o)
+  diverted_is cell None = record { came = refl; went = refl }
+  diverted_is cell (Some op) = record { came = refl; went = refl }
+
   begins_is : (op : ℕ) (what : Order) → IsSilent (begins c op what)
   begins_is op (order.Move source destination filter keep) = between_is op filter keep _ _
-  begins_is op what = record { came = refl; went = refl }
+  begins_is op (order.Copy source destination filter) = copies_is op filter _ _
+  begins_is op (order.Share members filter) = shares_is op filter _
 
   decided_is : (op : ℕ) (what : Order) (o : Option Answer) → IsSilent (decided c op what o)
   decided_is op what (Some answer) = record { came = refl; went = refl }
@@ -75,6 +90,7 @@ module _ (c : ControllerState) where
 
   row_is : (port : ℕ) (m : Msg) → IsSilent (row c port m)
   row_is port (msg.Asked k) = elim (port == 0) as (λ b. IsSilent (if b then on_asked c k else controller.still c)) [ true ↦ asked_is k | false ↦ nothing_noted c [] ]
+  row_is port (msg.Diverted cell) = elim (port == 0) as (λ b. IsSilent (if b then on_diverted c cell else controller.still c)) [ true ↦ diverted_is cell (share_of c.operations (flow_of c.site cell.packet).0) | false ↦ nothing_noted c [] ]
   row_is port msg.End = elim (port == 0) as (λ b. IsSilent (if b then controller.still (record c { end_came = true }) else controller.still c)) [ true ↦ nothing_noted _ [] | false ↦ nothing_noted c [] ]
   row_is port (msg.Event op cell) = event_is port op cell (instance_at c port)
   row_is port msg.Final = final_is (instance_at c port)

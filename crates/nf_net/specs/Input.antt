@@ -1,6 +1,7 @@
 -- What a run of the network is given: its configuration, whose filters take whole units, and an input of packets and commands in
 -- the order of their numbers. This project's own.
-use Rattle.std.specs.Prelude.{◌≡◌, ◌==◌, ◌≤◌, ◌<◌, ◌^◌, ℕ, suc, Bool, true, false, List, [], ◌∷◌, map, find, length, Option, option_map, unwrap_or, All}
+use Rattle.std.specs.Prelude.{◌≡◌, ◌==◌, ◌≤◌, ◌<◌, ◌-◌, ◌^◌, ℕ, suc, Bool, true, false, List, [], ◌∷◌, map, find, length, Option, option_map, unwrap_or, All}
+use Rattle.std.specs.Option.{ForSome}
 use Rattle.std.specs.Str.{bytes_eq}
 use Rattle.flow_filter.specs.declared.filter.Filter.{Filter}
 use Rattle.flow_filter.specs.declared.packet.Packet.{Packet}
@@ -13,7 +14,7 @@ use Rattle.nf_function.specs.Records.{Fits}
 use Rattle.nf_function.specs.Units.{splits}
 use Rattle.nf_msgs.specs.declared.command.Command.{Command}
 use Rattle.nf_msgs.specs.declared.command.Order.{Order}
-use Rattle.nf_msgs.specs.declared.command.Order.TheVariants.{Move}
+use Rattle.nf_msgs.specs.declared.command.Order.TheVariants.{Move, Copy}
 use Rattle.nf_msgs.specs.declared.msg.Msg.{Msg}
 use Rattle.nf_msgs.specs.declared.msg.Msg.TheVariants.{InPacket, InCommand, InSettle, InEnd}
 use Rattle.nf_net.specs.declared.config.Config.{Config}
@@ -71,10 +72,15 @@ pub record IsWhole (kind : Kind) (filter : Filter) : Type 0 where
   pub numbers : IsFilter filter
   pub whole : splits kind (fields_of filter) ≡ false
 
--- an order to move units, with two names. Copies and shares aren't built yet
-abbrev pub IsMove : Kind → Order → Type 0
-IsMove kind (Move source destination filter keep) = (bytes_eq source destination ≡ false) × IsWhole kind filter
-IsMove kind what = ⊥
+-- an order to move units, or to copy their records or, without a filter, the all-flows state, with two names. Shares aren't built yet
+abbrev pub IsBuilt : Kind → Order → Type 0
+IsBuilt kind (Move source destination filter keep) = (bytes_eq source destination ≡ false) × IsWhole kind filter
+IsBuilt kind (Copy source destination filter) = (bytes_eq source destination ≡ false) × ForSome filter (IsWhole kind)
+IsBuilt kind what = ⊥
+
+-- the greatest number of packets that a record counts
+abbrev pub most_counted : ℕ
+most_counted = 2 ^ 64 - 1
 
 -- what a run is given
 pub record IsInput (kind : Kind) (config : Config) (items : List Msg) : Type 0 where
@@ -84,5 +90,6 @@ pub record IsInput (kind : Kind) (config : Config) (items : List Msg) : Type 0 w
   pub only_items : All (λ item. is_item item ≡ true) items
   pub steered : All (IsSteered config.site) (packets items)
   pub numbers : IsRising 0 (map (λ p. p.number) (packets items))
-  pub moves : All (λ command. IsMove kind command.what) (commands items)
+  pub few : length (packets items) ≤ most_counted
+  pub orders : All (λ command. IsBuilt kind command.what) (commands items)
   pub ops : IsRising 0 (map (λ c. c.op) (commands items))

@@ -5,9 +5,11 @@ pub mod Nodes
 pub mod Path
 pub mod Places
 pub mod Promises
+pub mod Records
 pub mod Refused
 pub mod Runs
 pub mod Settles
+pub mod Standby
 pub mod Start
 pub mod Verdicts
 pub mod Window

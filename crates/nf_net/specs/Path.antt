@@ -14,7 +14,7 @@ use Rattle.nf_net.specs.declared.node.Node.{Node}
 use Rattle.nf_net.specs.declared.node.Node.TheVariants.{Controller, Instance}
 
 -- what each of these has, one after the other
-abbrev pub all_of : {X : Type 0} → (X → List ℕ) → List X → List ℕ
+abbrev pub all_of : {X Y : Type 0} → (X → List Y) → List X → List Y
 all_of of [] = []
 all_of of (x ∷ xs) = of x ++ all_of of xs
 
@@ -58,8 +58,8 @@ module _ {F R : Type 0} where
   held_by other = []
 
 module _ {F R : Type 0} (w : Network (Node F R) Msg Note) where
-  -- the packets of one kind in all messages, link by link
-  abbrev pub on_links : (Msg → List ℕ) → List ℕ
+  -- what all messages have of one kind, link by link
+  abbrev pub on_links : {Y : Type 0} → (Msg → List Y) → List Y
   on_links of = all_of (all_of of) w.links
 
   -- what an instance holds, and behind it what comes to it by the rules of the switch

@@ -1,23 +1,23 @@
--- What every run of the network keeps, complete or not, for scripts of moves: each packet is processed at most once, in the order of
+-- What every run of the network keeps, complete or not, for scripts of moves and copies: each packet is processed at most once, in the order of
 -- its unit; outputs and records are those of one instance that nothing moved. Packets go by their numbers. This project's own.
-use Rattle.std.specs.Prelude.{◌≡◌, ℕ, ◌+◌, ◌==◌, ◌≤◌, Bool, true, false, if◌then◌else◌, List, [], ◌∷◌, ◌++◌, map, length, Option, None, Some, slice_get}
-use Rattle.std.specs.FinMap as finite
+use Rattle.std.specs.Prelude.{◌≡◌, ℕ, ◌+◌, ◌==◌, ◌≤◌, Bool, true, false, if◌then◌else◌, List, [], ◌∷◌, ◌++◌, map, length, Option, None, Some, All}
+use Rattle.flow_filter.specs.declared.filter.Filter.{Filter}
 use Rattle.nf_function.specs.declared.output.Output.{Output}
 use Rattle.nf_function.specs.declared.unit.Unit as units
 use Rattle.nf_function.specs.Semantics.{Semantics, unit_at, kept_after, output_for}
 use Rattle.record_table.specs.Table.{same_unit}
 use Rattle.nf_msgs.specs.declared.answer.Answer.TheVariants.{Done}
 use Rattle.nf_msgs.specs.declared.command.Order.{Order}
+use Rattle.nf_msgs.specs.declared.command.Order.TheVariants.{Move, Copy}
 use Rattle.nf_msgs.specs.declared.msg.Msg.{Msg}
 use Rattle.nf_msgs.specs.declared.note.Note.{Note}
-use Rattle.nf_msgs.specs.Nodes.{instance_node}
 use Rattle.actor_net.specs.Network.{Network}
 use Rattle.nf_net.specs.declared.config.Config.{Config}
 use Rattle.nf_net.specs.declared.node.Node.{Node}
-use Rattle.nf_net.specs.declared.node.Node.TheVariants.{Instance}
 use Rattle.nf_net.specs.Input.{packets, packet_of, order_of, ends_last}
 use Rattle.nf_net.specs.Commands.{Answers, answers_of, times_installed}
 use Rattle.nf_net.specs.Path.{under_way}
+use Rattle.nf_net.specs.Records.{live_at, chunks_on_way, HasOneRecord, IsOfMove}
 use Rattle.nf_net.specs.Places.{owner, is_loose, ArePlaces}
 use Rattle.nf_net.specs.Refused.{StaysAtSource}
 use Rattle.nf_net.specs.Settles.{Settles}
@@ -33,14 +33,6 @@ times p (q ∷ qs) = (if p == q then 1 else 0) + times p qs
 pub record IsFront (front all : List ℕ) : Type 0 where
   pub rest : List ℕ
   pub whole : front ++ rest ≡ all
-
--- the record of a unit that is live at an instance of a world
-abbrev pub live_in : {F R : Type 0} → units.Unit → Option (Node F R) → Option R
-live_in unit (Some (Instance i)) = finite.get i.table.live unit
-live_in unit other = None
-
-abbrev pub live_at : {F R : Type 0} → Network (Node F R) Msg Note → ℕ → units.Unit → Option R
-live_at w i unit = live_in unit (slice_get w.nodes (instance_node i))
 
 module _ {R : Type 0} (f : Semantics R) (config : Config) (items : List Msg) where
   -- the packets of a unit among some
@@ -86,6 +78,11 @@ module _ {R : Type 0} (f : Semantics R) (config : Config) (items : List Msg) whe
     pub outputs_are : (unit : units.Unit) → given unit w.log ≡ outputs None (went unit w.log)
     pub records_are : (unit : units.Unit) (i : ℕ) (r : R) → live_at w i unit ≡ Some r → fold None (went unit w.log) ≡ Some r
     pub one_record : (unit : units.Unit) (i j : ℕ) (r s : R) → live_at w i unit ≡ Some r → live_at w j unit ≡ Some s → i ≡ j
+    -- the record of a unit with a processed packet is live at one instance, or in one chunk on its way, or in both as long as its source
+    -- is still to remove it; no other unit has any
+    pub record_stands : (unit : units.Unit) → HasOneRecord f w unit (fold None (went unit w.log))
+    -- and each chunk on its way is one of a unit that a move under way takes
+    pub chunks_moved : All (IsOfMove config items w.log) (chunks_on_way w)
     -- no more packets are under way than the window says
     pub window : Window config w
     -- each packet was processed at the owner of its unit, or at an instance of a move of the unit that was under way
@@ -94,11 +91,13 @@ module _ {R : Type 0} (f : Semantics R) (config : Config) (items : List Msg) whe
     pub settles : Settles config items f.kind w.log
     -- each command begins and is answered at most once, and what refuses it was true then
     pub answers : Answers config items w.log
+    -- the switch changes no rules for a copy
+    pub no_rules : (op : ℕ) (source destination : List ℕ) (filter : Option Filter) → order_of items op ≡ Some (Copy source destination filter) → times_installed op w.log ≡ 0
     -- what a refused move was to take away was processed at its source, as long as the move was under way
     pub at_source : StaysAtSource config items f.kind w.log
 
   -- what a complete run keeps besides: all packets of the input came, and each was processed, once; the record of a unit is
-  -- live at an instance; commands were answered, and the rules changed for those that are done
+  -- live at an instance; commands were answered, and the rules changed for moves that are done
   pub record Completed {F : Type 0} (w : Network (Node F R) Msg Note) : Type 0 where
     pub all_came : arrived w.log ≡ map (λ p. p.number) (packets items)
     -- in their order, as long as no plain move handed their unit on
@@ -107,5 +106,5 @@ module _ {R : Type 0} (f : Semantics R) (config : Config) (items : List Msg) whe
     pub has_record : (unit : units.Unit) (r : R) → fold None (went unit w.log) ≡ Some r → (i : ℕ) × (live_at w i unit ≡ Some r)
     -- each command of the input was answered, if none stands behind its end
     pub answered : ends_last items ≡ true → (op : ℕ) (what : Order) → order_of items op ≡ Some what → length (answers_of op w.log) ≡ 1
-    -- the switch changed its rules once for each command that is done
-    pub installed : (op : ℕ) → answers_of op w.log ≡ Done ∷ [] → times_installed op w.log ≡ 1
+    -- the switch changed its rules once for each move that is done
+    pub installed : (op : ℕ) (source destination : List ℕ) (filter : Filter) (keep : Bool) → order_of items op ≡ Some (Move source destination filter keep) → answers_of op w.log ≡ Done ∷ [] → times_installed op w.log ≡ 1

@@ -1,15 +1,16 @@
--- Why a move that began is answered as it is: it is judged once, when its destination takes the first piece of its state. This
--- project's own.
+-- Why a command that began is answered as it is: a move is judged once, when its destination takes the first piece of its state, and a
+-- copy is done. This project's own.
 use Rattle.std.specs.Prelude.{◌≡◌, ℕ, ◌+◌, ◌==◌, ◌&&◌, nat_lt, nat_le, Bool, true, false, if◌then◌else◌, List, [], ◌∷◌, ◌++◌, length, Option, None, Some, slice_get, slice_index, slice_index_or}
 use Rattle.std.specs.List.{list_any}
 use Rattle.std.specs.FinMap as finite
+use Rattle.flow_filter.specs.declared.filter.Filter.{Filter}
 use Rattle.nf_function.specs.declared.unit.Unit as units
 use Rattle.nf_function.specs.Semantics.{Semantics}
 use Rattle.nf_function.specs.Units.{has_times}
 use Rattle.nf_msgs.specs.declared.answer.Answer.{Answer}
 use Rattle.nf_msgs.specs.declared.answer.Answer.TheVariants.{Done, Unknown, Overlap, Import, Old}
 use Rattle.nf_msgs.specs.declared.command.Order.{Order}
-use Rattle.nf_msgs.specs.declared.command.Order.TheVariants.{Move}
+use Rattle.nf_msgs.specs.declared.command.Order.TheVariants.{Move, Copy}
 use Rattle.nf_msgs.specs.declared.msg.Piece.{Piece}
 use Rattle.nf_msgs.specs.declared.msg.Msg.{Msg}
 use Rattle.nf_msgs.specs.declared.msg.Msg.TheVariants.{Put}
@@ -121,6 +122,8 @@ module _ {F R : Type 0} (f : Semantics R) (start : Network (Node F R) Msg Note) 
     -- what every run keeps
     pub record Verdicts : Type 0 where
       -- a move that began is answered by its verdict
-      pub judged : (op : ℕ) (what : Order) (answer : Answer) → order_of items op ≡ Some what → began op noted ≡ true → answers_of op noted ≡ answer ∷ [] → IsVerdict op answer
+      pub judged : (op : ℕ) (source destination : List ℕ) (filter : Filter) (keep : Bool) (answer : Answer) → order_of items op ≡ Some (Move source destination filter keep) → began op noted ≡ true → answers_of op noted ≡ answer ∷ [] → IsVerdict op answer
+      -- a copy that began is answered that it is done
+      pub copied : (op : ℕ) (source destination : List ℕ) (filter : Option Filter) (answer : Answer) → order_of items op ≡ Some (Copy source destination filter) → began op noted ≡ true → answers_of op noted ≡ answer ∷ [] → answer ≡ Done
       -- and what didn't begin is answered by a refusal
       pub refused : (op : ℕ) (answer : Answer) → began op noted ≡ false → answers_of op noted ≡ answer ∷ [] → is_refusal answer ≡ true

@@ -7,6 +7,7 @@ ghost use Rattle.nf_net.specs.Input.{IsInput};
 ghost use Rattle.nf_net.specs.Nodes.{node_ready, node_step};
 ghost use Rattle.nf_net.specs.Promises.{Completed, Promises};
 ghost use Rattle.nf_net.specs.Runs.{chosen, EndsIn, StopsAt};
+ghost use Rattle.nf_net.specs.Standby.{Standbys};
 ghost use Rattle.nf_net.specs.Start.{started};
 ghost use Rattle.nf_net.specs.Verdicts.{Verdicts};
 ghost use Rattle.nf_net.specs.Window.{AllHome};
@@ -33,6 +34,7 @@ pub fn simulate<F: Function>(
     ensures end { IfOk result (λ r. EndsIn F.semantics (started alloc config.now items.items) schedule r.0) }
     ensures promises { IfOk result (λ r. Promises F.semantics config.now items.items r.0) }
     ensures verdicts { IfOk result (λ r. Verdicts {F = F.row.Denot} F.semantics (started alloc config.now items.items) r.1 config.now items.items) }
+    ensures standbys { IfOk result (λ r. Standbys {F = F.row.Denot} F.semantics (started alloc config.now items.items) r.1 config.now items.items) }
     ensures completed { IfOk result (λ r. Completed F.semantics config.now items.items r.0) }
     ensures home { IfOk result (λ r. AllHome config.now r.0) }
     ensures unfinished { (step : ℕ) → result ≡ Err (ScheduleFault.Unfinished step) → StopsAt {F = F.row.Denot} F.semantics (started alloc config.now items.items) schedule step }
@@ -49,6 +51,7 @@ pub fn run_choices<F: Function>(
     ensures replay { result ≢ Err ReplayFault.NoMemory → result ≡ replayed node_ready (node_step F.semantics) choices.now world }
     ensures promises { (alloc : AnAllocator) (config : AConfig) (items : List AMessage) → IsInput F.semantics.kind config items → world ≡ started alloc config items → IfOk result (λ reached. Promises F.semantics config items reached) }
     ensures verdicts { (alloc : AnAllocator) (config : AConfig) (items : List AMessage) → IsInput F.semantics.kind config items → world ≡ started alloc config items → IfOk result (λ reached. Verdicts F.semantics world choices.now config items) }
+    ensures standbys { (alloc : AnAllocator) (config : AConfig) (items : List AMessage) → IsInput F.semantics.kind config items → world ≡ started alloc config items → IfOk result (λ reached. Standbys F.semantics world choices.now config items) }
 {
     replay(world, choices)
 }

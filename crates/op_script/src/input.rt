@@ -1,33 +1,42 @@
 ghost use Rattle.std.specs.Prelude.{◌≡◌, ◌≤◌, [], ◌∷◌, ◌++◌, ◌==◌, nat_le, length, map, IfOk, OnOk};
 ghost use Rattle.std.specs.List.{prefix_len};
-ghost use Rattle.nf_msgs.specs.declared.msg.Msg.TheVariants.{InPacket};
 ghost use Rattle.op_script.specs.Items.{msg_of, said_where, IsAhead, items};
 
 use crate::script::{Line, Script, What};
 use basics::Boxed;
-use flow_filter::{NoMemory, Packet, Packets};
+use flow_filter::{NoMemory, Packets};
 use nf_msgs::Msg;
 use std::alloc::Global;
+use std::collections::VecDeque;
 
 /// The input of a run: the packets in order, and each line of the script after the packet that it names, or after
 /// the last of a shorter trace; and then the end.
 pub fn items(alloc: Global, trace: Packets, script: &Script) -> Result<Vec<Msg>, NoMemory>
     ensures { IfOk result (λ found. found.items ≡ items trace script.now.lines.items) }
 {
-    let mut out = Vec::new(alloc);
+    let mut packets = VecDeque::from_vec(trace.into_vec());
+    let mut out = with_room(alloc, packets.len(), script.lines.len())?;
     let lines = in_order(alloc, script.lines.as_slice())?;
     let mut rest = lines.as_slice();
     let mut point = 0u64;
-    for packet in trace.items() {
+    while let Some(packet) = packets.pop_front() {
         let count = count_at(rest, point);
         push_lines(alloc, &mut out, &rest[..count])?;
         rest = &rest[count..];
-        push_packet(alloc, &mut out, packet)?;
+        out.push(Msg::InPacket(packet))?;
         point += 1;
     }
     push_from(alloc, &mut out, script.lines.as_slice(), point)?;
     out.push(Msg::InEnd)?;
     Ok(out)
+}
+
+/// No messages yet, with room for those of so many packets and lines, and for the end.
+fn with_room(alloc: Global, packets: usize, lines: usize) -> Result<Vec<Msg>, NoMemory>
+    ensures { IfOk result (λ out. out.items ≡ []) }
+{
+    let room = packets.saturating_add(lines).saturating_add(1);
+    Ok(Vec::with_capacity(alloc, room)?)
 }
 
 /// The lines in the order of their points, those of one point in file order.
@@ -48,15 +57,6 @@ fn count_at(lines: &[&Line], point: u64) -> usize
         .iter()
         .take_while(|line| u64::from(line.at) == point)
         .count()
-}
-
-/// Appends the message of a packet.
-fn push_packet(alloc: Global, out: &mut Vec<Msg>, packet: &Packet) -> Result<(), NoMemory>
-    ensures { OnOk result (out.new.items ≡ out.old.items ++ InPacket packet.now ∷ []) }
-{
-    let packet = Boxed::new(alloc, *packet)?;
-    out.push(Msg::InPacket(packet))?;
-    Ok(())
 }
 
 /// Appends the messages of lines.

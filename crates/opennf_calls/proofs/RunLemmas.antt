@@ -20,6 +20,7 @@ use Rattle.nf_net.specs.Nodes.{node_ended}
 use Rattle.nf_net.specs.Promises.{Completed, Promises}
 use Rattle.nf_net.specs.Runs.{LeadsTo, StopsAt, chosen}
 use Rattle.nf_net.specs.Start.{started}
+use Rattle.nf_net.specs.Standby.{Standbys}
 use Rattle.nf_net.specs.Verdicts.{Verdicts}
 use Rattle.nf_net.specs.Window.{AllHome}
 use Rattle.run_report.specs.declared.auditing.AuditFault.{AuditFault}
@@ -64,6 +65,7 @@ module _ {R : Type 0} (F : Type 0) (f : Semantics R) (s : NetworkAsked) (g : Giv
     pub complete : is_done node_ended world ≡ true
     pub promises : Promises f config items world
     pub verdicts : Verdicts {F = F} f at_start choices config items
+    pub standbys : Standbys {F = F} f at_start choices config items
     pub completed : Completed f config items world
     pub home : AllHome config world
 
@@ -79,6 +81,7 @@ module _ {R : Type 0} (F : Type 0) (f : Semantics R) (s : NetworkAsked) (g : Giv
     scheduled = λ schedule same. moved (λ c l. made.choices ≡ chosen {F = F} f (started alloc c l) schedule) (scheduled schedule same);
     promises = moved (λ c l. Promises f c l world) ran.promises;
     verdicts = moved (λ c l. Verdicts {F = F} f (started alloc c l) made.choices c l) ran.verdicts;
+    standbys = moved (λ c l. Standbys {F = F} f (started alloc c l) made.choices c l) ran.standbys;
     completed = moved (λ c l. Completed f c l world) ran.completed;
     home = moved (λ c l. AllHome c world) ran.home;
     report = report ∙ ap (λ (h : Head). report_text f h s.summary world) is_head;

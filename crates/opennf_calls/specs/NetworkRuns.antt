@@ -32,6 +32,7 @@ use Rattle.nf_net.specs.Promises.{Completed, Promises}
 use Rattle.nf_net.specs.Nodes.{node_ended}
 use Rattle.nf_net.specs.Runs.{chosen, LeadsTo, StopsAt}
 use Rattle.nf_net.specs.Start.{started}
+use Rattle.nf_net.specs.Standby.{Standbys}
 use Rattle.nf_net.specs.Verdicts.{Verdicts}
 use Rattle.nf_net.specs.Window.{AllHome}
 use Rattle.run_input.specs.Given.{or_else}
@@ -43,10 +44,10 @@ use Rattle.run_report.specs.Lines.{report_text}
 abbrev pub given_script : NetworkAsked → List ℕ → Result ScriptView (ℕ × ScriptKind)
 given_script s bytes = if is_some s.script then script_of s.kind s.instances.names bytes else Ok ([], [])
 
--- the number of a command that is a copy or a share
+-- the number of a command that is a share
 abbrev pub unbuilt_order : ℕ → OrderView → Option ℕ
 unbuilt_order op (Moves source target filter keep) = None
-unbuilt_order op (Copies source target filter) = Some op
+unbuilt_order op (Copies source target filter) = None
 unbuilt_order op (Shares members filter) = Some op
 
 abbrev pub unbuilt_what : Option (ℕ × OrderView) → Option ℕ
@@ -109,6 +110,7 @@ module _ {R : Type 0} (F : Type 0) (f : Semantics R) (s : NetworkAsked) (g : Giv
     pub scheduled : (schedule : Schedule) → by ≡ Some schedule → made.choices ≡ chosen f (start_for alloc) schedule
     pub promises : Promises f (config_for s g.site g.script.routes.items) (items_for g.captured g.script) world
     pub verdicts : Verdicts f (start_for alloc) made.choices (config_for s g.site g.script.routes.items) (items_for g.captured g.script)
+    pub standbys : Standbys f (start_for alloc) made.choices (config_for s g.site g.script.routes.items) (items_for g.captured g.script)
     pub completed : Completed f (config_for s g.site g.script.routes.items) (items_for g.captured g.script) world
     pub home : AllHome (config_for s g.site g.script.routes.items) world
     pub report : made.texts Report ≡ report_text f (head_for s g.captured) s.summary world

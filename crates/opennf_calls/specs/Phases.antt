@@ -107,7 +107,7 @@ InputsFail s old new status = ⊥
 abbrev pub given_by : Site → Inputs → Given
 given_by site inputs = record { site = site; captured = inputs.trace; script = inputs.script }
 
--- a script without copies and shares, whose filters split no unit, and packets in the order of their numbers
+-- a script without shares, whose filters split no unit, and packets in the order of their numbers
 pub record CanBegin (s : NetworkAsked) (given : Given) : Type 0 where
   pub right : IsScript s.instances.names (script_view given.script)
   pub whole : SplitsNone s.kind (script_view given.script)

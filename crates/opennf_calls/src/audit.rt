@@ -30,7 +30,7 @@ pub fn audit<O: Outside>(alloc: Global, asked: &NetworkRequest<'_>, outside: &mu
 {
     match make(alloc, asked, outside) {
         Ok(made) => write_report(made, outside),
-        Err(status) => Outcome::refused(alloc, status),
+        Err(status) => Outcome::without_run(alloc, status),
     }
 }
 

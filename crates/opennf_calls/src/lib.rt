@@ -28,14 +28,3 @@ pub mod writing;
 pub use outcome::Outcome;
 pub use status::{JournalKind, Status, TraceKind};
 pub use top::{opennf_calm, opennf_run, opennf_top};
-
-#[cfg(test)]
-mod check_tests;
-#[cfg(test)]
-mod generate_tests;
-#[cfg(test)]
-mod journal_tests;
-#[cfg(test)]
-mod sim_tests;
-#[cfg(test)]
-mod threads_tests;

@@ -16,7 +16,7 @@ use asset_monitor::Monitor;
 use basics::{NoMemory, TryCopy};
 use command_words::NetworkRequest;
 use conn_tracker::Conntrack;
-use flow_filter::{Packet, Text};
+use flow_filter::{CapturedPacket, Text};
 use nf_function::{Function, Kind};
 use nf_msgs::Msg;
 use nf_net::{Config, Node, simulate};
@@ -218,12 +218,12 @@ fn open(alloc: Global, asked: &NetworkRequest<'_>, inputs: Inputs) -> Result<Ope
 }
 
 /// How many packets these are, by the number of the last.
-fn last_number(packets: &[Packet]) -> u32
+fn last_number(packets: &[CapturedPacket]) -> u32
     requires { AreNumbered 1 packets.now }
     ensures { result ≡ length packets.now }
 {
     match packets.last() {
-        Some(packet) => packet.number,
+        Some(packet) => packet.number(),
         None => 0,
     }
 }

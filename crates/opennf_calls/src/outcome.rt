@@ -14,7 +14,7 @@ pub struct Outcome {
 
 impl Outcome {
     /// An end without a run.
-    pub fn refused(alloc: Global, status: Status) -> Self
+    pub fn without_run(alloc: Global, status: Status) -> Self
         ensures { result ≡ record { status = status; choices = [] } }
     {
         Outcome {

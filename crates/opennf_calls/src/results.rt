@@ -32,7 +32,7 @@ pub fn write_results<O: Outside>(
     }
     let count = asked.instances.names.len() as u8;
     let Ok(journal) = write_journal(alloc, asked.kind, count, made.choices.items()) else {
-        return Outcome::refused(alloc, Status::NoMemory);
+        return Outcome::without_run(alloc, Status::NoMemory);
     };
     match put(outside, Role::JournalOut, journal.items()) {
         Ok(()) => write_report(made, outside),

@@ -32,7 +32,7 @@ pub fn run<R: Threads + Wait + Sync, O: Outside, G: Gate>(
 {
     match make(rt, alloc, asked, outside, gate) {
         Ok(made) => write_results(alloc, asked, made, outside),
-        Err(status) => Outcome::refused(alloc, status),
+        Err(status) => Outcome::without_run(alloc, status),
     }
 }
 

@@ -29,7 +29,7 @@ pub fn simulate<O: Outside>(
 {
     match make(alloc, asked, schedule, outside) {
         Ok(made) => write_results(alloc, asked, made, outside),
-        Err(status) => Outcome::refused(alloc, status),
+        Err(status) => Outcome::without_run(alloc, status),
     }
 }
 

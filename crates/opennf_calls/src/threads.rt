@@ -5,6 +5,7 @@ ghost use Rattle.nf_net.specs.Input.{IsInput};
 ghost use Rattle.nf_net.specs.Nodes.{node_ended};
 ghost use Rattle.nf_net.specs.Promises.{Completed, Promises};
 ghost use Rattle.nf_net.specs.Runs.{LeadsTo};
+ghost use Rattle.nf_net.specs.Standby.{Standbys};
 ghost use Rattle.nf_net.specs.Start.{started};
 ghost use Rattle.nf_net.specs.Verdicts.{Verdicts};
 ghost use Rattle.nf_net.specs.Window.{AllHome};
@@ -34,6 +35,7 @@ where
     ensures complete { IfOk result (λ r. is_done node_ended r.0 ≡ true) }
     ensures promises { IfOk result (λ r. Promises F.semantics config.now items.items r.0) }
     ensures verdicts { IfOk result (λ r. Verdicts {F = F.row.Denot} F.semantics (started alloc config.now items.items) r.1 config.now items.items) }
+    ensures standbys { IfOk result (λ r. Standbys {F = F.row.Denot} F.semantics (started alloc config.now items.items) r.1 config.now items.items) }
     ensures completed { IfOk result (λ r. Completed F.semantics config.now items.items r.0) }
     ensures home { IfOk result (λ r. AllHome config.now r.0) }
 {

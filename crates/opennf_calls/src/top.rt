@@ -76,7 +76,7 @@ pub fn opennf_calm<O: Outside>(alloc: Global, words: &[String], outside: &mut O)
 }
 
 /// Whether the words name the command `run`.
-pub(crate) fn names_run(words: &[String]) -> bool
+pub fn names_run(words: &[String]) -> bool
     ensures { result ≡ is_command (codes "run") (map string_bytes words.now) }
 {
     match words {
@@ -99,10 +99,10 @@ fn perform_run<R: Threads + Wait + Sync, O: Outside, G: Gate>(
 {
     let request = match parse_command(alloc, words) {
         Ok(request) => request,
-        Err(fault) => return Outcome::refused(alloc, of_words(fault)),
+        Err(fault) => return Outcome::without_run(alloc, of_words(fault)),
     };
     let Ok(()) = bind_files(&request, outside) else {
-        return Outcome::refused(alloc, Status::NoMemory);
+        return Outcome::without_run(alloc, Status::NoMemory);
     };
     match request {
         Request::Run(asked) => run(rt, alloc, &asked, outside, gate),
@@ -121,16 +121,16 @@ fn perform<O: Outside>(alloc: Global, words: &[String], outside: &mut O) -> Outc
 {
     let request = match parse_command(alloc, words) {
         Ok(request) => request,
-        Err(fault) => return Outcome::refused(alloc, of_words(fault)),
+        Err(fault) => return Outcome::without_run(alloc, of_words(fault)),
     };
     let Ok(()) = bind_files(&request, outside) else {
-        return Outcome::refused(alloc, Status::NoMemory);
+        return Outcome::without_run(alloc, Status::NoMemory);
     };
     match request {
         Request::Sim(asked, schedule) => simulate(alloc, &asked, schedule, outside),
         Request::Audit(asked) => audit(alloc, &asked, outside),
-        Request::Check(asked) => Outcome::refused(alloc, check(alloc, &asked, outside)),
-        Request::Gen(asked) => Outcome::refused(alloc, generate(alloc, &asked, outside)),
+        Request::Check(asked) => Outcome::without_run(alloc, check(alloc, &asked, outside)),
+        Request::Gen(asked) => Outcome::without_run(alloc, generate(alloc, &asked, outside)),
         Request::Run(_asked) => unreachable!(),
     }
 }

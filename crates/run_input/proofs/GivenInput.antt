@@ -1,5 +1,5 @@
 -- What was made of the words' values, a script and a trace is an input of the network.
-use Rattle.std.proofs.Common.{◌≡◌, ℕ, ◌<◌, ◌^◌, List, arith}
+use Rattle.std.proofs.Common.{◌≡◌, ℕ, ◌<◌, ◌≤◌, ◌^◌, List, length, arith}
 use Rattle.std.specs.Prelude.{All}
 use Rattle.flow_filter.specs.declared.filter.Filter.{Filter}
 use Rattle.flow_filter.specs.declared.packet.Packet.{Packet}
@@ -12,13 +12,13 @@ use Rattle.op_script.specs.Items.{items}
 use Rattle.op_script.specs.Reading.{script_view}
 use Rattle.op_script.specs.Printing.{IsScript, SplitsNone}
 use Rattle.nf_net.specs.declared.config.Config.{Config}
-use Rattle.nf_net.specs.Input.{IsSteered, IsInput}
+use Rattle.nf_net.specs.Input.{IsSteered, most_counted, IsInput}
 use Rattle.nf_net.specs.Start.{IsConfig}
 use Rattle.run_input.specs.declared.setting.Setting.{Setting}
 use Rattle.run_input.specs.BuiltLines.{IsBuilt}
 use Rattle.run_input.specs.Given.{config_of, IsSetting}
 use Rattle.run_input.proofs.SaidCommands.{only_items, packets_in, commands_in}
-use Rattle.run_input.proofs.ScriptedMoves.{numbers_rise, in_order, ops_rise, all_moves, routes_whole, routes_there}
+use Rattle.run_input.proofs.ScriptedOrders.{numbers_rise, in_order, ops_rise, all_built, routes_whole, routes_there}
 
 -- what is known of all that is given
 pub record IsGiven (setting : Setting) (script : Script) (ps : List Packet) : Type 0 where
@@ -27,6 +27,7 @@ pub record IsGiven (setting : Setting) (script : Script) (ps : List Packet) : Ty
   pub whole : SplitsNone setting.kind (script_view script)
   pub numbers : AreNumbered 1 ps
   pub steered : All (IsSteered setting.site) ps
+  pub few : length ps ≤ most_counted
   pub site : setting.site.inside.bits < 2 ^ 32
   pub filters : All (λ (route : Filter × ℕ). IsFilter route.0) script.routes.items
   pub built : All (λ (line : Line). IsBuilt line.what) script.lines.items
@@ -53,7 +54,8 @@ input_is setting script ps g =
       only_items = only_items ps lines;
       steered = rw same g.steered;
       numbers = rw same (numbers_rise 1 0 ps (omega arith) g.numbers);
-      moves = rw said (all_moves setting.kind lines g.script_is.lines g.whole.lines g.built);
+      few = rw same g.few;
+      orders = rw said (all_built setting.kind lines g.script_is.lines g.whole.lines g.built);
       ops = rw said (ops_rise 0 0 1 lines (omega arith) g.script_is.follow);
     }
 

@@ -1,4 +1,4 @@
 pub mod GivenInput
 pub mod LoopFacts
 pub mod SaidCommands
-pub mod ScriptedMoves
+pub mod ScriptedOrders

@@ -19,10 +19,10 @@ pub record IsSetting (setting : Setting) : Type 0 where
   pub marks : length setting.marked.now ≡ length setting.names.now
   pub window : (1 ≤ setting.window) × (setting.window ≤ MOST_WINDOW)
 
--- the number of a command that is a copy or a share
+-- the number of a command that is a share
 abbrev pub unbuilt_order : ℕ → Order → Option ℕ
 unbuilt_order op (Move source destination filter keep) = None
-unbuilt_order op (Copy source destination filter) = Some op
+unbuilt_order op (Copy source destination filter) = None
 unbuilt_order op (Share members filter) = Some op
 
 abbrev pub unbuilt : What → Option ℕ

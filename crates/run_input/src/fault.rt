@@ -7,7 +7,7 @@ use thiserror::Error;
 /// Why no input was made.
 #[derive(Clone, Copy, Debug, PartialEq, Eq, Error)]
 pub enum InputFault {
-    /// This command is a copy or a share.
+    /// This command is a share.
     #[error("command {command} is not built")]
     NotBuilt { command: u32 },
     #[error("no memory")]

@@ -1,4 +1,4 @@
-ghost use Rattle.std.specs.Prelude.{◌≡◌, ◌<◌, ◌^◌, ℕ, true, Err, Some, All, IfOk, IfNone};
+ghost use Rattle.std.specs.Prelude.{◌≡◌, ◌<◌, ◌≤◌, ◌^◌, ℕ, true, Err, Some, All, length, IfOk, IfNone};
 ghost use Rattle.std.specs.Option.{ForSome};
 ghost use Rattle.flow_filter.specs.Filter.{IsFilter, IsFlow};
 ghost use Rattle.nf_function.specs.Records.{Fits};
@@ -7,7 +7,7 @@ ghost use Rattle.trace_reader.specs.Records.{AreNumbered};
 ghost use Rattle.op_script.specs.Reading.{script_view};
 ghost use Rattle.op_script.specs.Printing.{IsScript, SplitsNone};
 ghost use Rattle.op_script.specs.Items.{items};
-ghost use Rattle.nf_net.specs.Input.{IsInput, IsSteered, ends_last};
+ghost use Rattle.nf_net.specs.Input.{IsInput, IsSteered, ends_last, most_counted};
 ghost use Rattle.run_input.specs.declared.fault.InputFault.TheVariants.{NotBuilt};
 ghost use Rattle.run_input.specs.Given.{config_of, first_unbuilt, unbuilt, IsSetting};
 ghost use Rattle.run_input.specs.BuiltLines.{IsBuilt};
@@ -15,13 +15,13 @@ ghost use Rattle.run_input.specs.BuiltLines.{IsBuilt};
 use crate::fault::InputFault;
 use crate::setting::Setting;
 use basics::{NoMemory, TryCopy};
-use flow_filter::{Filter, Flow, Name, Packet, Packets, Sequence, Site, flow_of};
+use flow_filter::{CapturedPacket, Filter, Flow, Name, Packet, Packets, Sequence, Site, flow_of};
 use nf_msgs::{Msg, Names, Order};
 use nf_net::Config;
 use op_script::{Line, Script, What, items};
 use std::alloc::Global;
 
-/// The configuration and the input of a run, where each command of the script is a move.
+/// The configuration and the input of a run, where each command of the script is a move or a copy.
 pub fn input_of(
     alloc: Global,
     setting: &Setting<'_>,
@@ -37,7 +37,7 @@ pub fn input_of(
     ensures items { IfOk result (λ made. made.1.items ≡ items packets script.now.lines.items) }
     ensures input { IfOk result (λ made. IsInput setting.now.kind made.0 made.1.items) }
     ensures last { IfOk result (λ made. ends_last made.1.items ≡ true) }
-    // The first command that is no move is refused, and nothing else is.
+    // The first command that is a share is refused, and nothing else is.
     ensures unbuilt { ForSome (first_unbuilt script.now.lines.items) (λ command. result ≡ Err (NotBuilt command)) }
     ensures cause { (command : ℕ) → result ≡ Err (NotBuilt command) → first_unbuilt script.now.lines.items ≡ Some command }
 {
@@ -45,13 +45,14 @@ pub fn input_of(
         return Err(InputFault::NotBuilt { command });
     }
     are_steered(setting.site, packets.items());
+    are_few(packets.items());
     are_filters(script.routes.as_slice());
     let config = config_of(alloc, setting, script.routes.as_slice())?;
     let items = items(alloc, packets, script)?;
     Ok((config, items))
 }
 
-/// The number of the first command that is a copy or a share.
+/// The number of the first command that is a share.
 pub fn first_unbuilt(lines: &[Line]) -> Option<u32>
     ensures value { result ≡ first_unbuilt lines.now }
     ensures built { IfNone result (All (λ line. IsBuilt line.what) lines.now) }
@@ -64,7 +65,7 @@ pub fn first_unbuilt(lines: &[Line]) -> Option<u32>
     None
 }
 
-/// The number of a copy or a share.
+/// The number of a share.
 fn unbuilt(what: &What) -> Option<u32>
     ensures value { result ≡ unbuilt what.now }
     ensures built { IfNone result (IsBuilt what.now) }
@@ -76,7 +77,11 @@ fn unbuilt(what: &What) -> Option<u32>
                 is_filter(*filter);
                 None
             }
-            Order::Copy { .. } | Order::Share { .. } => Some(command.op),
+            Order::Copy { filter, .. } => {
+                is_filter_if(*filter);
+                None
+            }
+            Order::Share { .. } => Some(command.op),
         },
     }
 }
@@ -85,6 +90,15 @@ fn unbuilt(what: &What) -> Option<u32>
 fn is_filter(_filter: Filter)
     ensures { IsFilter _filter }
 {}
+
+/// The same of a filter that may be there.
+fn is_filter_if(filter: Option<Filter>)
+    ensures { ForSome filter IsFilter }
+{
+    if let Some(filter) = filter {
+        is_filter(filter);
+    }
+}
 
 /// Each route's filter is one.
 fn are_filters(routes: &[(Filter, u8)])
@@ -96,14 +110,29 @@ fn are_filters(routes: &[(Filter, u8)])
 }
 
 /// Packets of TCP and UDP are steered.
-fn are_steered(site: Site, packets: &[Packet])
+fn are_steered(site: Site, packets: &[CapturedPacket])
     requires { All (λ packet. is_transport packet.proto ≡ true) packets.now }
     ensures steered { All (IsSteered site) packets.now }
     ensures site { site.inside.bits < 2 ^ 32 }
 {
     for packet in packets {
-        is_steered(&site, packet);
+        waits_steered(&site, packet);
     }
+}
+
+/// As many packets as memory holds are no more than a record counts.
+fn are_few(packets: &[CapturedPacket])
+    ensures { length packets.now ≤ most_counted }
+{
+    let _count = packets.len();
+}
+
+/// A packet that waits is steered as any other.
+fn waits_steered(site: &Site, packet: &CapturedPacket)
+    requires { is_transport packet.now.proto ≡ true }
+    ensures { IsSteered site.now packet.now }
+{
+    is_steered(site, &packet.packet());
 }
 
 /// The numbers of a packet and those of its flow are within their types.

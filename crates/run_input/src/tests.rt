@@ -3,7 +3,7 @@ ghost use Rattle.nf_function.specs.Units.{is_transport};
 ghost use Rattle.trace_reader.specs.Records.{AreNumbered};
 
 use super::*;
-use flow_filter::{Filter, Name, Packet, Packets, Prefix, Site};
+use flow_filter::{CapturedPacket, Filter, Name, Packet, Packets, Prefix, Site};
 use nf_function::Kind;
 use nf_msgs::Msg;
 use nf_net::Config;
@@ -59,8 +59,8 @@ fn two_packets(alloc: Global) -> Result<Packets, Fail>
     ensures steered { IfOk result (All (λ packet. is_transport packet.proto ≡ true)) }
 {
     let mut trace = Packets::open(alloc);
-    trace.push(packet(1))?;
-    trace.push(packet(2))?;
+    trace.push(CapturedPacket::of(alloc, &packet(1))?)?;
+    trace.push(CapturedPacket::of(alloc, &packet(2))?)?;
     Ok(trace)
 }
 
@@ -104,7 +104,7 @@ fn shown(alloc: Global, input: &[Msg]) -> Result<(Vec<u8>, Vec<u32>), Fail> {
 #[test]
 fn routes_and_lines_are_taken_over(rt: HostRuntime) -> Result<(), Fail> {
     let text =
-        b"route rport=53 b\nroute any a\nat 0 settle\nat 1 move a b any order\nat 9 move b a any lossfree\n";
+        b"route rport=53 b\nroute any a\nat 0 settle\nat 1 move a b any order\nat 9 copy b a all\n";
     let (config, items) = given(rt.alloc(), text.as_slice())??;
     let routes = [(Filter::parse("rport=53")?, 1), (Filter::ANY, 0)];
     assert_eq!(rt; config.routes.items(), routes.as_slice());
@@ -128,9 +128,12 @@ fn a_script_without_lines_gives_the_packets_alone(rt: HostRuntime) -> Result<(),
 }
 
 #[test]
-fn the_first_copy_or_share_is_refused_by_its_number(rt: HostRuntime) -> Result<(), Fail> {
+fn the_first_share_is_refused_by_its_number(rt: HostRuntime) -> Result<(), Fail> {
     for (text, command) in [
-        ("at 0 settle\nat 0 move a b any order\nat 1 copy a b any", 2),
+        (
+            "at 0 settle\nat 0 copy a b any\nat 1 share a,b any strict",
+            2,
+        ),
         ("at 2 share b,a any strict\nat 3 copy a b all", 1),
     ] {
         let found = given(rt.alloc(), text.as_bytes())?.err();

@@ -1,6 +1,7 @@
 ghost use Rattle.std.specs.Prelude.{◌≡◌, ℕ, IfOk};
 ghost use Rattle.nf_net.specs.Input.{IsInput};
 ghost use Rattle.nf_net.specs.Promises.{Completed, Promises};
+ghost use Rattle.nf_net.specs.Standby.{Standbys};
 ghost use Rattle.nf_net.specs.Start.{IsConfig, started};
 ghost use Rattle.nf_net.specs.Verdicts.{Verdicts};
 ghost use Rattle.nf_net.specs.Window.{AllHome};
@@ -31,6 +32,7 @@ pub fn audit<F: Function>(
     ensures text { IfOk result (λ text. text ≡ report_text F.semantics head.now summary (world_after {F = F.row.Denot} F.semantics (started alloc config.now items.items) choices.now)) }
     ensures promises { IsInput F.semantics.kind config.now items.items → IfOk result (λ _. Promises F.semantics config.now items.items (world_after {F = F.row.Denot} F.semantics (started alloc config.now items.items) choices.now)) }
     ensures verdicts { IsInput F.semantics.kind config.now items.items → IfOk result (λ _. Verdicts {F = F.row.Denot} F.semantics (started alloc config.now items.items) choices.now config.now items.items) }
+    ensures standbys { IsInput F.semantics.kind config.now items.items → IfOk result (λ _. Standbys {F = F.row.Denot} F.semantics (started alloc config.now items.items) choices.now config.now items.items) }
     ensures completed { IsInput F.semantics.kind config.now items.items → IfOk result (λ _. Completed F.semantics config.now items.items (world_after {F = F.row.Denot} F.semantics (started alloc config.now items.items) choices.now)) }
     ensures home { IsInput F.semantics.kind config.now items.items → IfOk result (λ _. AllHome config.now (world_after {F = F.row.Denot} F.semantics (started alloc config.now items.items) choices.now)) }
     ensures not_a_run { (step : ℕ) → result ≡ Err (AuditFault.NotARun step) → IsCause {F = F.row.Denot} F.semantics (started alloc config.now items.items) choices.now step }

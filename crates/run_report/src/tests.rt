@@ -6,7 +6,7 @@ use actor_net::{Actor, Choice, Choices, Outbox, Schedule, World, run_schedule};
 use basics::{Boxed, NoMemory, Text};
 use conn_tracker::Conntrack;
 use event_filter::Mark;
-use flow_filter::{Filter, Name, Packet, Prefix, Sequence, Site, UDP};
+use flow_filter::{CapturedPacket, Filter, Name, Packet, Prefix, Sequence, Site, UDP};
 use instance_worker::Instance;
 use nf_function::Kind;
 use nf_msgs::{Command, Msg, Names, Order};
@@ -63,7 +63,7 @@ const PEER: u32 = 0xc000_0209;
 
 /// The message of a packet.
 fn packet_in(alloc: Global, packet: Packet) -> Result<Msg, NoMemory> {
-    Ok(Msg::InPacket(Boxed::new(alloc, packet)?))
+    Ok(Msg::InPacket(CapturedPacket::of(alloc, &packet)?))
 }
 
 /// A command to move the records of 10.0.0.1 from a.

@@ -5,7 +5,7 @@ ghost use Rattle.switch_node.specs.Switch.{Step, arrives, goes_to, has_closed, h
 use actor_net::{Actor, Outbox};
 use basics::{Boxed, NoMemory};
 use event_filter::Mark;
-use flow_filter::{Filter, Packet, Site, flow_of};
+use flow_filter::{CapturedPacket, Filter, Packet, Site, flow_of};
 use nf_msgs::{CONTROLLER, Command, MOST_INSTANCES, Msg, Note, instance_node};
 use packet_pool::{Cell, Pool};
 use std::alloc::Global;
@@ -34,6 +34,7 @@ pub struct Switch {
     waiting: u32,
     /// Whether all is done.
     closed: bool,
+    alloc: Global,
 }
 
 impl Model for Switch {
@@ -144,6 +145,7 @@ impl Switch {
             flying: 0,
             waiting: 0,
             closed: false,
+            alloc,
         })
     }
 
@@ -162,11 +164,16 @@ impl Switch {
     }
 
     /// Puts a packet into a cell and sends it to its target.
-    fn let_in(&mut self, packet: Boxed<Packet>, out: &mut Outbox<Msg, Note>) -> Result<(), NoMemory>
-        ensures node { OnOk result (self.new ≡ (on_packet self.old packet).node) }
-        ensures sends { OnOk result (out.new.0 ≡ out.old.0 ++ (on_packet self.old packet).sends) }
-        ensures notes { OnOk result (out.new.1 ≡ out.old.1 ++ (on_packet self.old packet).notes) }
+    fn let_in(
+        &mut self,
+        captured: CapturedPacket,
+        out: &mut Outbox<Msg, Note>,
+    ) -> Result<(), NoMemory>
+        ensures node { OnOk result (self.new ≡ (on_packet self.old captured).node) }
+        ensures sends { OnOk result (out.new.0 ≡ out.old.0 ++ (on_packet self.old captured).sends) }
+        ensures notes { OnOk result (out.new.1 ≡ out.old.1 ++ (on_packet self.old captured).notes) }
     {
+        let packet = captured.into_boxed(self.alloc)?;
         let target = self.target_of(packet.get());
         let number = packet.get().number;
         if self.flying >= self.pool.cells() || !self.is_there(target) {

@@ -1,8 +1,9 @@
 use crate::Switch;
 use actor_net::{Actor, Outbox};
-use basics::Boxed;
-use flow_filter::{Filter, Packet, Prefix, Site, UDP};
+use basics::{Boxed, NoMemory};
+use flow_filter::{CapturedPacket, Filter, Packet, Prefix, Site, UDP};
 use nf_msgs::{Msg, Note};
+use std::alloc::Global;
 use std::test::Fail;
 use switch_rules::Target;
 
@@ -31,6 +32,11 @@ fn packet(number: u32, host: u32) -> Packet {
     }
 }
 
+/// The message of the packet with this number of the host 10.0.0.9.
+fn came(alloc: Global, number: u32) -> Result<Msg, NoMemory> {
+    Ok(Msg::InPacket(CapturedPacket::of(alloc, &packet(number, 9))?))
+}
+
 /// The node that gets what was sent first.
 fn first_receiver(out: &mut Outbox<Msg, Note>) -> Option<u8> {
     out.next_sent().map(|sent| sent.0)
@@ -44,7 +50,7 @@ fn packets_go_by_the_rules_until_a_redirect_and_no_more_than_the_window(
     let routes = [(Filter::parse("local=10.0.0.9")?, 1u8)];
     let mut switch = Switch::open(alloc, 2, 2, SITE, &routes)?;
     let mut out = Outbox::open(alloc);
-    switch.step(0, Msg::InPacket(Boxed::new(alloc, packet(1, 9))?), &mut out)?;
+    switch.step(0, came(alloc, 1)?, &mut out)?;
     assert_eq!(rt; first_receiver(&mut out), Some(3));
     let filter = Boxed::new(alloc, Filter::ANY)?;
     let to = Target::Instance(0);
@@ -59,10 +65,10 @@ fn packets_go_by_the_rules_until_a_redirect_and_no_more_than_the_window(
         &mut out,
     )?;
     assert_eq!(rt; first_receiver(&mut out), Some(3));
-    switch.step(0, Msg::InPacket(Boxed::new(alloc, packet(2, 9))?), &mut out)?;
+    switch.step(0, came(alloc, 2)?, &mut out)?;
     assert_eq!(rt; first_receiver(&mut out), Some(2));
     assert_eq!(rt; switch.home(), 0);
-    let third = Msg::InPacket(Boxed::new(alloc, packet(3, 9))?);
+    let third = came(alloc, 3)?;
     assert!(rt; !switch.ready(&third));
     Ok(())
 }

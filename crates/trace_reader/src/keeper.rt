@@ -2,7 +2,8 @@
 ghost use Rattle.std.specs.Prelude.{◌≡◌, List, [], ◌∷◌, ◌++◌, OnOk};
 ghost use Rattle.flow_filter.specs.declared.packet.Packet.{Packet as ThePacket};
 
-use flow_filter::{NoMemory, Packet, Packets};
+use flow_filter::{CapturedPacket, NoMemory, Packet, Packets};
+use std::alloc::Global;
 
 /// What takes the packets of a capture, one after another.
 pub trait Keeper {
@@ -17,13 +18,20 @@ pub trait Keeper {
         ensures { OnOk result ((setup : Self.Setup) (before : List ThePacket) → HasKept self.old setup before → HasKept self.new setup (before ++ packet.now ∷ [])) };
 }
 
-/// A list of packets keeps each as it is.
-impl Keeper for Packets {
+/// Keeps each packet, to wait for its turn.
+#[derive(Debug, Drop)]
+pub(crate) struct PacketKeeper {
+    pub(crate) packets: Packets,
+    pub(crate) alloc: Global,
+}
+
+impl Keeper for PacketKeeper {
     ghost Setup = { Unit {0} };
 
-    ghost HasKept = { λ packets setup kept. packets ≡ kept };
+    ghost HasKept = { λ keeper setup kept. keeper.packets ≡ kept };
 
+    #[inline(always)]
     fn keep(&mut self, packet: &Packet) -> Result<(), NoMemory> {
-        self.push(*packet)
+        self.packets.push(CapturedPacket::of(self.alloc, packet)?)
     }
 }

@@ -6,7 +6,7 @@ ghost use Rattle.trace_reader.specs.Steered.{is_steered_proto};
 ghost use Rattle.trace_reader.specs.Answers.{HasReadCause, AnswersTrace, HandsPackets, HandsSteered};
 
 use crate::fault::TraceFault;
-use crate::keeper::Keeper;
+use crate::keeper::{Keeper, PacketKeeper};
 use crate::reader::TraceReader;
 use crate::record::Next;
 use flow_filter::Packets;
@@ -44,10 +44,13 @@ pub fn read_trace<S: Source>(alloc: Global, source: &mut S) -> Result<Trace, Tra
     ensures cause { HasReadCause (S.faults source.old) (S.faults source.new) result }
     ensures stays { StaysOpen S.IsOpen S.loan S.rest source.old source.new }
 {
-    let mut packets = Packets::open(alloc);
-    let end = read_into(source, &mut packets)?;
+    let mut keeper = PacketKeeper {
+        packets: Packets::open(alloc),
+        alloc,
+    };
+    let end = read_into(source, &mut keeper)?;
     Ok(Trace {
-        packets,
+        packets: keeper.packets,
         skipped: end.skipped,
         cut: end.cut,
     })

@@ -232,7 +232,7 @@ beside_goes_on F s Take_ac a = by_message F s Take_ac a refl
 beside_goes_on F s Take_bc a = by_message F s Take_bc a refl
 beside_goes_on F s (Take_ca parts) a = by_message F s (Take_ca parts) a refl
 
-c_live : {R : Type 0} (F : Steps R) (s : Stage F) → (shape F s).c.live ≡ None
+pub c_live : {R : Type 0} (F : Steps R) (s : Stage F) → (shape F s).c.live ≡ None
 c_live F (At_rest d l k) = refl
 c_live F s = refl
 

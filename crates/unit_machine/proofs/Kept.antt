@@ -43,15 +43,15 @@ pub data Kept {R : Type 0} (o at_a : Option R) (live way : List R) : Type 0 wher
 abbrev pub IsKept : {R : Type 0} → Steps R → State R → Type 0
 IsKept F u = Kept (after F u.done) u.a.live (lives u) (on_way u)
 
-records_on-append : {R : Type 0} (xs ys : List (Item R)) → records_on (xs ++ ys) ≡ records_on xs ++ records_on ys
+pub records_on-append : {R : Type 0} (xs ys : List (Item R)) → records_on (xs ++ ys) ≡ records_on xs ++ records_on ys
 records_on-append [] ys = refl
 records_on-append (x ∷ xs) ys = ap (λ z. option_to_list (record_in x) ++ z) (records_on-append xs ys) ∙ sym (append_assoc (option_to_list (record_in x)) (records_on xs) (records_on ys))
 
-none_on_events : (R : Type 0) (l : List ℕ) → records_on (map (λ p. let x : Item R = Event p in x) l) ≡ []
+pub none_on_events : (R : Type 0) (l : List ℕ) → records_on (map (λ p. let x : Item R = Event p in x) l) ≡ []
 none_on_events R [] = refl
 none_on_events R (p ∷ l) = none_on_events R l
 
-records_one : {R : Type 0} (h : Part R) (t : List (Part R)) → records (h ∷ t) ≡ option_to_list h.own ++ records t
+pub records_one : {R : Type 0} (h : Part R) (t : List (Part R)) → records (h ∷ t) ≡ option_to_list h.own ++ records t
 records_one {R = R} h t = elim h.own as (λ o. elim o as (λ _. List R) [ None ↦ records t | Some r ↦ r ∷ records t ] ≡ option_to_list o ++ records t) [ None ↦ refl | Some r ↦ refl ]
 
 on_pieces : {R : Type 0} (y : List (Mix R)) → records_on (map shown y) ≡ records (pieces y)

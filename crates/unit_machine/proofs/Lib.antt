@@ -35,3 +35,4 @@ pub mod RealFalls
 pub mod OneCopy
 pub mod Fresh
 pub mod Sides
+pub mod Given

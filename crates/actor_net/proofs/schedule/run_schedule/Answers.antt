@@ -1,5 +1,5 @@
 -- Each step leaves what the whole schedule takes, and where it ends nothing is left to take.
-use Rattle.std.proofs.Common.{◌+◌, ◌∙◌, Err, sym, ap, subst, inl, inr}
+use Rattle.std.proofs.Common.{◌+◌, ◌∙◌, sym, ap, subst, inl, inr}
 use Rattle.std.proofs.lemmas.List.{length_push}
 use Rattle.actor_net.specs.Network.{IsRun}
 use Rattle.actor_net.specs.Schedules.{schedule_of}
@@ -9,18 +9,15 @@ use Rattle.actor_net.proofs.ScheduleLaws.{picked_enabled, scheduled_more, schedu
 use Rattle.actor_net.proofs.schedule.run_schedule.Goals as goal
 use Rattle.actor_net.proofs.schedule.run_schedule.Goals.{else-loop-test, then-loop-test+in_default}
 
-pub unreachable-requires : goal.unreachable-requires
-unreachable-requires g c =
-    let on = picked_enabled g.A.Actor.is_ready (schedule_of c.loop.picker) c.loop.world c.in-Some.choice (sym c.pick.ensures.choice ∙ c.in-Some.is) in
-    let off = c.in-Err-NotEnabled.ensures.not_enabled (ap Err c.in-Err-NotEnabled.field-0-is) in
-    cc
+pub take_enabled-requires : goal.take_enabled-requires
+take_enabled-requires g c = picked_enabled g.A.Actor.is_ready (schedule_of c.loop.picker) c.loop.world c.in-Some.choice (sym c.pick.ensures.choice ∙ c.in-Some.is)
 
 pub loop-preserved : goal.loop-preserved
 loop-preserved g c =
     let ready = g.A.Actor.is_ready in
     let step = g.A.Actor.stepped in
     let chosen = sym c.pick.ensures.choice ∙ c.in-Some.is in
-    rw (c.in_ok-push.ensures.ok, c.in-Ok.ensures.ok, c.in-Some.ensures.later) (record {
+    rw (c.in_ok-push.ensures.ok, c.in_ok-take_enabled.ensures, c.in-Some.ensures.later) (record {
       choices = scheduled_more ready g.A.Actor.has_ended step MOST_CHOICES c.loop.counter (schedule_of c.loop.picker) c.loop.world c.loop.choices c.in-Some.choice c.loop-test.true chosen ∙ c.loop.invariant.choices;
       world = run_more step c.loop.choices c.in-Some.choice c.args.world c.loop.world c.loop.invariant.world;
       count = length_push c.loop.choices c.in-Some.choice ∙ ap (λ n. n + 1) c.loop.invariant.count;

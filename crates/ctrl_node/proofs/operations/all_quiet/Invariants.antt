@@ -6,4 +6,4 @@ use Rattle.ctrl_node.proofs.operations.all_quiet.Given as goal
 
 -- all are quiet where those that are left are
 abbrev pub invariant-loop-op : goal.invariant-loop-op
-invariant-loop-op l = list_all (λ entry. is_quiet entry.1) l._op-iterator ≡ list_all (λ entry. is_quiet entry.1) l.operations.entries
+invariant-loop-op l = list_all (λ entry. is_quiet l.store entry.1) l._op-iterator ≡ list_all (λ entry. is_quiet l.store entry.1) l.operations.entries

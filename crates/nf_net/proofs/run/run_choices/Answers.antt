@@ -1,5 +1,5 @@
 -- The choices that are replayed to their end are a run.
-use Rattle.nf_net.proofs.EveryRun.{replay_keeps, replay_judges}
+use Rattle.nf_net.proofs.EveryRun.{replay_keeps, replay_judges, replay_stands}
 use Rattle.nf_net.proofs.run.run_choices.Goals as goal
 
 pub returns-clause-promises : goal.returns-clause-promises
@@ -7,3 +7,6 @@ returns-clause-promises g c alloc config items is start = replay_keeps g.row.F.D
 
 pub returns-clause-verdicts : goal.returns-clause-verdicts
 returns-clause-verdicts g c alloc config items is start = replay_judges g.row.F.Denot g.F.Function.semantics g.met.F.Function.laws alloc config items is c.args.choices.now c.args.world c.replay.result start c.replay.ensures
+
+pub returns-clause-standbys : goal.returns-clause-standbys
+returns-clause-standbys g c alloc config items is start = replay_stands g.row.F.Denot g.F.Function.semantics g.met.F.Function.laws alloc config items is c.args.choices.now c.args.world c.replay.result start c.replay.ensures

@@ -24,3 +24,6 @@ returns-clause-unfinished g c step is =
 
 pub returns-clause-verdicts : goal.returns-clause-verdicts
 returns-clause-verdicts g c = (ends g.row.F.Denot g.F.Function.semantics g.met.F.Function.laws c.args.alloc c.args.config.now c.args.items.items c.requires c.args.schedule c.run_schedule.result c.in_ok-world.world c.in_ok-world.ensures c.run_schedule.ensures.choices c.run_schedule.ensures.world c.run_schedule.ensures.run c.run_schedule.ensures.complete).verdicts
+
+pub returns-clause-standbys : goal.returns-clause-standbys
+returns-clause-standbys g c = (ends g.row.F.Denot g.F.Function.semantics g.met.F.Function.laws c.args.alloc c.args.config.now c.args.items.items c.requires c.args.schedule c.run_schedule.result c.in_ok-world.world c.in_ok-world.ensures c.run_schedule.ensures.choices c.run_schedule.ensures.world c.run_schedule.ensures.run c.run_schedule.ensures.complete).standbys

@@ -29,6 +29,7 @@ returns g c =
       complete = c.in_ok-world.ensures.end.complete;
       promises = c.in_ok-world.ensures.promises;
       verdicts = c.in_ok-world.ensures.verdicts;
+      standbys = c.in_ok-world.ensures.standbys;
       completed = c.in_ok-world.ensures.completed;
       home = c.in_ok-world.ensures.home;
     }) (λ schedule same. let by : c.args.schedule ≡ schedule = cc in c.in_ok-world.ensures.choices ∙ ap (λ k. chosen {F = g.row.F.Denot} g.F.Function.semantics start k) by)

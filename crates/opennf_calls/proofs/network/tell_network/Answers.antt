@@ -39,6 +39,7 @@ returns g c =
             complete = report.run.complete;
             promises = report.promises input;
             verdicts = report.verdicts input;
+            standbys = report.standbys input;
             completed = report.completed input;
             home = report.home input;
           })) (λ schedule same. cc) is.head report.text,

@@ -16,6 +16,7 @@ returns g c =
       complete = c.in_ok-world.ensures.complete;
       promises = c.in_ok-world.ensures.promises;
       verdicts = c.in_ok-world.ensures.verdicts;
+      standbys = c.in_ok-world.ensures.standbys;
       completed = c.in_ok-world.ensures.completed;
       home = c.in_ok-world.ensures.home;
     }) (λ schedule same. cc) is.head c.in_ok-report.ensures

@@ -3,6 +3,7 @@ use Rattle.std.proofs.Common.{subst}
 use Rattle.nf_net.specs.Runs.{LeadsTo}
 use Rattle.nf_net.proofs.EveryRun.{keeps_all}
 use Rattle.nf_net.proofs.JudgedRuns.{verdicts}
+use Rattle.nf_net.proofs.StandbyRuns.{standbys}
 use Rattle.opennf_calls.proofs.threads.run_network.Goals as goal
 
 pub returns : goal.returns
@@ -13,4 +14,12 @@ returns g c =
     let run = c.in_ok-world.ensures.run in
     let leads = subst (λ v. LeadsTo {F = g.row.F.Denot} f v c.in_ok-world.choices c.in_ok-world.world) c.in_ok-opening.ensures (record { is_run = run.0; reached = run.1 }) in
     let all = keeps_all g.row.F.Denot f laws c.args.alloc c.args.config.now c.args.items.items c.requires c.in_ok-world.choices c.in_ok-world.world leads c.in_ok-world.ensures.complete in
-    record { leads = leads; complete = c.in_ok-world.ensures.complete; promises = all.promises; verdicts = verdicts g.row.F.Denot f laws c.args.alloc c.args.config.now c.args.items.items c.requires c.in_ok-world.choices leads.is_run; completed = all.completed; home = all.home }
+    record {
+      leads = leads;
+      complete = c.in_ok-world.ensures.complete;
+      promises = all.promises;
+      verdicts = verdicts g.row.F.Denot f laws c.args.alloc c.args.config.now c.args.items.items c.requires c.in_ok-world.choices leads.is_run;
+      standbys = standbys g.row.F.Denot f laws c.args.alloc c.args.config.now c.args.items.items c.requires c.in_ok-world.choices leads.is_run;
+      completed = all.completed;
+      home = all.home;
+    }

@@ -11,8 +11,8 @@ use Rattle.opennf_calls.proofs.top.perform.Goals as goal
 
 pub returns-in-Err : goal.returns-in-Err
 returns-in-Err g c =
-    refused_words (plan_of (map string_bytes c.args.words.now)) (g.O.Outside.seen c.args.outside.now) c.in-Err.fault c.of_words.result c.refused.result
-    c.in-Err.ensures c.requires.unnamed c.of_words.ensures c.refused.ensures
+    refused_words (plan_of (map string_bytes c.args.words.now)) (g.O.Outside.seen c.args.outside.now) c.in-Err.fault c.of_words.result c.without_run.result
+    c.in-Err.ensures c.requires.unnamed c.of_words.ensures c.without_run.ensures
 
 pub simulate-requires-clause-runs : goal.simulate-requires-clause-runs
 simulate-requires-clause-runs g c =
@@ -55,12 +55,12 @@ pub returns-in-Check : goal.returns-in-Check
 returns-in-Check g c =
     let plan : plan_of (map string_bytes c.args.words.now) ≡ Some (asks_check (check_view c.in-Check.asked)) = search rules in
     ended (plan_of (map string_bytes c.args.words.now)) (asks_check (check_view c.in-Check.asked)) (g.O.Outside.seen c.args.outside.now) (g.O.Outside.seen c.bind_files.new.outside) (g.O.Outside.seen c.check.new.outside)
-    c.refused-in-Check.result plan c.requires.unnamed c.bind_files.ensures.contents (search rules) (subst (λ (o : Outcome). Performs (asks_check (check_view c.in-Check.asked)) (g.O.Outside.seen c.bind_files.new.outside) (g.O.Outside.seen c.check.new.outside) o)
-    (sym c.refused-in-Check.ensures) c.check.ensures)
+    c.without_run-in-Check.result plan c.requires.unnamed c.bind_files.ensures.contents (search rules) (subst (λ (o : Outcome). Performs (asks_check (check_view c.in-Check.asked)) (g.O.Outside.seen c.bind_files.new.outside) (g.O.Outside.seen c.check.new.outside) o)
+    (sym c.without_run-in-Check.ensures) c.check.ensures)
 
 pub returns-in-Gen : goal.returns-in-Gen
 returns-in-Gen g c =
     let plan : plan_of (map string_bytes c.args.words.now) ≡ Some (asks_gen (gen_view c.in-Gen.asked)) = search rules in
     ended (plan_of (map string_bytes c.args.words.now)) (asks_gen (gen_view c.in-Gen.asked)) (g.O.Outside.seen c.args.outside.now) (g.O.Outside.seen c.bind_files.new.outside) (g.O.Outside.seen c.generate.new.outside)
-    c.refused-in-Gen.result plan c.requires.unnamed c.bind_files.ensures.contents (search rules) (subst (λ (o : Outcome). Performs (asks_gen (gen_view c.in-Gen.asked)) (g.O.Outside.seen c.bind_files.new.outside) (g.O.Outside.seen c.generate.new.outside) o)
-    (sym c.refused-in-Gen.ensures) c.generate.ensures)
+    c.without_run-in-Gen.result plan c.requires.unnamed c.bind_files.ensures.contents (search rules) (subst (λ (o : Outcome). Performs (asks_gen (gen_view c.in-Gen.asked)) (g.O.Outside.seen c.bind_files.new.outside) (g.O.Outside.seen c.generate.new.outside) o)
+    (sym c.without_run-in-Gen.ensures) c.generate.ensures)

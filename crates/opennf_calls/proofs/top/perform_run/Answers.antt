@@ -9,8 +9,8 @@ use Rattle.opennf_calls.proofs.top.perform_run.Goals as goal
 
 pub returns-in-Err : goal.returns-in-Err
 returns-in-Err g c =
-    refused_words (plan_of (map string_bytes c.args.words.now)) (g.O.Outside.seen c.args.outside.now) c.in-Err.fault c.of_words.result c.refused.result
-    c.in-Err.ensures c.requires.unnamed c.of_words.ensures c.refused.ensures
+    refused_words (plan_of (map string_bytes c.args.words.now)) (g.O.Outside.seen c.args.outside.now) c.in-Err.fault c.of_words.result c.without_run.result
+    c.in-Err.ensures c.requires.unnamed c.of_words.ensures c.without_run.ensures
 
 pub run-requires-clause-runs : goal.run-requires-clause-runs
 run-requires-clause-runs g c =

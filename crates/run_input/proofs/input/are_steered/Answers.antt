@@ -1,10 +1,10 @@
 -- One packet more, and all of them.
 use Rattle.nf_net.specs.Input.{IsSteered}
-use Rattle.run_input.proofs.LoopFacts.{all_at, all_done}
+use Rattle.run_input.proofs.LoopFacts.{all_more, all_done}
 use Rattle.run_input.proofs.input.are_steered.Goals as goal
 
 pub loop-packet-preserved : goal.loop-packet-preserved
-loop-packet-preserved c = all_at (IsSteered c.args.site) c.args.packets.now c.loop-packet.packet-index _ c.loop-packet-test.true c.loop-packet.invariant c.is_steered.ensures
+loop-packet-preserved c = all_more (IsSteered c.args.site) c.args.packets.now c.loop-packet.packet-index c.packet-item.result c.loop-packet-test.true c.packet-item.is c.loop-packet.invariant c.waits_steered.ensures
 
 pub returns-clause-steered : goal.returns-clause-steered
 returns-clause-steered c = all_done (IsSteered c.args.site) c.args.packets.now c.loop-packet.packet-index c.loop-packet-test.false c.loop-packet.invariant

@@ -1,10 +1,10 @@
 -- What was made is an input of the network.
-use Rattle.std.proofs.Common.{ℕ, ap, ◌∙◌, subst}
+use Rattle.std.proofs.Common.{ℕ, ◌≤◌, length, ap, ◌∙◌, subst}
 use Rattle.std.specs.Prelude.{All}
 use Rattle.flow_filter.specs.declared.filter.Filter.{Filter}
 use Rattle.flow_filter.specs.Filter.{IsFilter}
 use Rattle.op_script.specs.declared.script.Line.{Line}
-use Rattle.nf_net.specs.Input.{IsSteered, ends_last}
+use Rattle.nf_net.specs.Input.{IsSteered, most_counted, ends_last}
 use Rattle.run_input.specs.BuiltLines.{IsBuilt}
 use Rattle.run_input.specs.Given.{config_of}
 use Rattle.run_input.proofs.GivenInput.{made_is}
@@ -20,6 +20,7 @@ returns-clause-input c =
       whole = c.requires.whole;
       numbers = c.requires.numbers;
       steered = subst (All (IsSteered c.args.setting.now.site)) c.items.ensures c.are_steered.ensures.steered;
+      few = subst (λ packets. length packets ≤ most_counted) c.items-2.ensures c.are_few.ensures;
       site = c.are_steered.ensures.site;
       filters = subst (All (λ (route : Filter × ℕ). IsFilter route.0)) c.as_slice-2.ensures.value c.are_filters.ensures;
       built = subst (All (λ (line : Line). IsBuilt line.what)) c.as_slice.ensures.value c.in_default.ensures.built;

@@ -3,6 +3,7 @@ use Rattle.std.proofs.Common.{rules, Err, sym, ap, ◌∙◌}
 use Rattle.nf_net.specs.Start.{started}
 use Rattle.nf_net.proofs.EveryRun.{every_run, every_end, every_home}
 use Rattle.nf_net.proofs.JudgedRuns.{verdicts}
+use Rattle.nf_net.proofs.StandbyRuns.{standbys}
 use Rattle.run_report.specs.Lines.{report_text}
 use Rattle.run_report.proofs.AuditLemmas.{leads_to, complete, short, index_below, refused}
 use Rattle.run_report.proofs.auditing.audit.Goals as goal
@@ -29,6 +30,11 @@ pub returns-in_ok-report-in-Ok-clause-verdicts : goal.returns-in_ok-report-in-Ok
 returns-in_ok-report-in-Ok-clause-verdicts g c input =
     let leads = leads_to g.F.Function.semantics (started c.args.alloc c.args.config.now c.args.items.items) c.in_ok-start.start c.in_ok-start.ensures c.args.choices.now c.run_choices.result c.run_choices.ensures.replay c.in-Ok.world c.in-Ok.is in
     verdicts g.row.F.Denot g.F.Function.semantics g.met.F.Function.laws c.args.alloc c.args.config.now c.args.items.items input c.args.choices.now leads.is_run
+
+pub returns-in_ok-report-in-Ok-clause-standbys : goal.returns-in_ok-report-in-Ok-clause-standbys
+returns-in_ok-report-in-Ok-clause-standbys g c input =
+    let leads = leads_to g.F.Function.semantics (started c.args.alloc c.args.config.now c.args.items.items) c.in_ok-start.start c.in_ok-start.ensures c.args.choices.now c.run_choices.result c.run_choices.ensures.replay c.in-Ok.world c.in-Ok.is in
+    standbys g.row.F.Denot g.F.Function.semantics g.met.F.Function.laws c.args.alloc c.args.config.now c.args.items.items input c.args.choices.now leads.is_run
 
 pub returns-in_ok-report-in-Ok-clause-completed : goal.returns-in_ok-report-in-Ok-clause-completed
 returns-in_ok-report-in-Ok-clause-completed g c input =

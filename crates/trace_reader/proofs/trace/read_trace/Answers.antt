@@ -9,16 +9,16 @@ pub returns-clause-trace : goal.returns-clause-trace
 returns-clause-trace g c = λ bytes told.
     let gives = c.in_ok-end.ensures.trace bytes told in (
       gives.1 ∙ ap (λ (ps : List Packet). Ok (record { packets = ps; skipped = c.in_ok-end.end.skipped; cut = c.in_ok-end.end.cut }))
-          (sym (gives.4 tt [] c.open-packets.ensures)),
+          (sym (gives.4 tt [] c.«open».ensures)),
       gives.3,
     )
 
 pub returns-clause-numbers : goal.returns-clause-numbers
 returns-clause-numbers g c =
     let handed = c.in_ok-end.ensures.steered in
-    subst (λ (ps : List Packet). AreNumbered 1 ps) (sym (handed.kept tt [] c.open-packets.ensures)) handed.numbers
+    subst (λ (ps : List Packet). AreNumbered 1 ps) (sym (handed.kept tt [] c.«open».ensures)) handed.numbers
 
 pub returns-clause-steered : goal.returns-clause-steered
 returns-clause-steered g c =
     let handed = c.in_ok-end.ensures.steered in
-    subst (All (λ (packet : Packet). is_steered_proto packet.proto ≡ true)) (sym (handed.kept tt [] c.open-packets.ensures)) handed.steered
+    subst (All (λ (packet : Packet). is_steered_proto packet.proto ≡ true)) (sym (handed.kept tt [] c.«open».ensures)) handed.steered

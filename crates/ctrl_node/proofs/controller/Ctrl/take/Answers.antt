@@ -9,6 +9,6 @@ pub returns-in_default-op : goal.returns-in_default-op
 returns-in_default-op c =
     let no = c.in_default in
     let none : op_of c.args.message ≡ None = cc in
-    let same = other_row c.args.self.now c.args.port c.args.message no.not-Asked no.not-End no.not-Event no.not-Final
+    let same = other_row c.args.self.now c.args.port c.args.message no.not-Asked no.not-Diverted no.not-End no.not-Event no.not-Final
     ∙ ap (numbered c.args.self.now c.args.port c.args.message) none in
     rw same (search rules)

@@ -1,0 +1,132 @@
+-- A strict share: instances that process the packets of the same units one at a time, in the controller's order, each with the
+-- others' state. Its phases, what it does with each message, and which packet it serves next. This project's own, after the strictly
+-- consistent shares of OpenNF.
+use Rattle.std.specs.Prelude.{ℕ, ◌+◌, ◌-◌, ◌%◌, ◌==◌, Bool, true, false, not, List, [], ◌∷◌, map, length, filter, Option, None, Some, slice_index, if◌then◌else◌}
+use Rattle.flow_filter.specs.declared.filter.Filter.{Filter}
+use Rattle.flow_filter.specs.declared.flow.Flow.{Flow}
+use Rattle.flow_filter.specs.declared.site.Site.{Site}
+use Rattle.flow_filter.specs.Flow.{flow_of}
+use Rattle.nf_function.specs.declared.chunk.Chunk.{Chunk}
+use Rattle.event_filter.specs.declared.mark.Mark.TheVariants.{Shared}
+use Rattle.switch_rules.specs.declared.target.Target.TheVariants.{Controller}
+use Rattle.packet_pool.specs.Pool.{FullCell}
+use Rattle.nf_msgs.specs.declared.answer.Answer.{Answer}
+use Rattle.nf_msgs.specs.declared.answer.Answer.TheVariants.{Done}
+use Rattle.nf_msgs.specs.declared.msg.Msg.{Msg}
+use Rattle.nf_msgs.specs.declared.msg.Msg.TheVariants as msg
+use Rattle.nf_msgs.specs.Nodes.{switch_node, instance_node}
+use Rattle.copy_share.specs.declared.share_phase.SharePhase.{SharePhase}
+use Rattle.copy_share.specs.declared.share_phase.SharePhase.TheVariants.{Fencing, Getting, Setting, Idle, Out, Syncing}
+
+-- what is shared: the command's number, the members by their numbers, the first of which is the home, the filter of the units, and the
+-- site by which a packet's flow is told
+pub record SharePlan : Type 0 where
+  pub op : ℕ
+  pub members : List ℕ
+  pub filter : Filter
+  pub site : Site
+
+-- a share: what is shared, and how far it has come
+pub record ShareState : Type 0 where
+  pub plan : SharePlan
+  pub phase : SharePhase
+
+-- the phase of a share after a message, what it sends, each message with its receiver, and the answer where the share is then set up
+pub record ShareRow : Type 0 where
+  pub phase : SharePhase
+  pub sends : List (ℕ × Msg)
+  pub answer : Option Answer
+
+abbrev pub goes : SharePhase → List (ℕ × Msg) → ShareRow
+goes phase sends = record { phase = phase; sends = sends; answer = None }
+
+-- the first member: there the records of the units are live, and at the others they stand by
+abbrev pub home : SharePlan → ℕ
+home plan = slice_index plan.members 0
+
+-- the members but for one
+abbrev pub others : SharePlan → ℕ → List ℕ
+others plan one = filter (λ member. not (member == one)) plan.members
+
+-- the chunks go to each member but for one
+abbrev pub syncs : SharePlan → ℕ → List Chunk → List (ℕ × Msg)
+syncs plan one chunks = map (λ member. (instance_node member, msg.Sync (member == home plan) plan.op chunks)) (others plan one)
+
+-- a share begins: the packets of its units are to come to the controller
+abbrev pub begun : SharePlan → ShareState
+begun plan = record { plan = plan; phase = Fencing }
+
+abbrev pub begin_sends : SharePlan → List (ℕ × Msg)
+begin_sends plan = (switch_node, msg.Install plan.op plan.filter (home plan) Controller) ∷ []
+
+-- so many members have yet to take the first records: with none the share is set up, and answered
+abbrev pub setting : ℕ → List (ℕ × Msg) → ShareRow
+setting left sends =
+    if left == 0 then record { phase = Idle; sends = sends; answer = Some Done }
+    else goes (Setting left) sends
+
+-- so many members have yet to take the records after a packet: with none no packet is out
+abbrev pub syncing : ℕ → List (ℕ × Msg) → ShareRow
+syncing left sends = goes (if left == 0 then Idle else Syncing left) sends
+
+-- the fence came to the home: what it processed before is all that isn't shared
+abbrev pub on_fenced : SharePlan → SharePhase → ShareRow
+on_fenced plan Fencing = goes Getting ((instance_node (home plan), msg.Get plan.op plan.filter) ∷ [])
+on_fenced plan phase = goes phase []
+
+-- the first records come from the home
+abbrev pub on_chunks : SharePlan → SharePhase → List Chunk → ShareRow
+on_chunks plan Getting chunks = setting (length (others plan (home plan))) (syncs plan (home plan) chunks)
+on_chunks plan phase chunks = goes phase []
+
+-- a member has processed the packet that is out at it
+abbrev pub on_shared : SharePlan → SharePhase → ℕ → Chunk → ShareRow
+on_shared plan (Out member) sender chunk =
+    if sender == instance_node member then syncing (length (others plan member)) (syncs plan member (chunk ∷ []))
+    else goes (Out member) []
+on_shared plan phase sender chunk = goes phase []
+
+-- a member has taken the records
+abbrev pub on_synced : SharePhase → ShareRow
+on_synced (Setting left) = setting (left - 1) []
+on_synced (Syncing left) = syncing (left - 1) []
+on_synced phase = goes phase []
+
+-- the table of a share. What it doesn't name comes in no run
+abbrev pub row : ShareState → ℕ → Msg → ShareRow
+row s sender (msg.Fenced op) = if sender == instance_node (home s.plan) then on_fenced s.plan s.phase else goes s.phase []
+row s sender (msg.Chunks op chunks) = if sender == instance_node (home s.plan) then on_chunks s.plan s.phase chunks else goes s.phase []
+row s sender (msg.Shared op chunk) = on_shared s.plan s.phase sender chunk
+row s sender (msg.Synced op) = on_synced s.phase
+row s sender message = goes s.phase []
+
+-- the member that a flow's packets go to: by the two ports and the remote address, modulo the number of members
+abbrev pub member_for : SharePlan → Flow → ℕ
+member_for plan flow = slice_index plan.members ((flow.lport + flow.rport + flow.remote) % length plan.members)
+
+abbrev pub member_of : SharePlan → FullCell → ℕ
+member_of plan cell = member_for plan (flow_of plan.site cell.packet).0
+
+-- the phase of a share when it has served what it may, what is sent, and the packets that still wait, where they change
+pub record Served : Type 0 where
+  pub phase : SharePhase
+  pub sends : List (ℕ × Msg)
+  pub stored : Option (List FullCell)
+
+-- the next packet goes to its member
+abbrev pub serves : SharePlan → FullCell → List FullCell → Served
+serves plan cell cells = let member = member_of plan cell in record {
+  phase = Out member;
+  sends = (switch_node, msg.Forward member (Shared plan.op (member == home plan)) cell) ∷ [];
+  stored = Some cells;
+}
+
+-- a packet is served only where the share is set up, none is out, and one waits
+abbrev pub served : SharePlan → SharePhase → List FullCell → Served
+served plan Idle (cell ∷ cells) = serves plan cell cells
+served plan phase cells = record { phase = phase; sends = []; stored = None }
+
+-- whether a share has nothing to do: it is set up, no packet is out, and none waits
+abbrev pub is_idle : SharePhase → List FullCell → Bool
+is_idle Idle [] = true
+is_idle phase cells = false

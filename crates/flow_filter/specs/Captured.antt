@@ -1,0 +1,42 @@
+-- A packet as it stands while it waits for its turn: a step between code and definition, which nobody has to believe.
+use Rattle.std.specs.Prelude.{replicate}
+use Rattle.flow_filter.specs.declared.packet.Packet.{Packet}
+use Rattle.flow_filter.specs.declared.captured.Header.{Header}
+use Rattle.flow_filter.specs.declared.captured.Form.{Form}
+use Rattle.flow_filter.specs.declared.captured.Form.TheVariants.{Bare, Whole}
+
+-- what a packet has beside its payload
+abbrev pub header_of : Packet → Header
+header_of p = record {
+  nanos = p.nanos;
+  number = p.number;
+  src = p.src;
+  dst = p.dst;
+  length = p.length;
+  sport = p.sport;
+  dport = p.dport;
+  proto = p.proto;
+  flags = p.flags;
+  held = p.held;
+}
+
+-- the packet of which no payload was captured
+abbrev pub bare_packet : Header → Packet
+bare_packet h = record {
+  nanos = h.nanos;
+  number = h.number;
+  src = h.src;
+  dst = h.dst;
+  length = h.length;
+  sport = h.sport;
+  dport = h.dport;
+  proto = h.proto;
+  flags = h.flags;
+  held = h.held;
+  head = replicate 64 0;
+}
+
+-- the packet that waits so
+abbrev pub packet_in : Form → Packet
+packet_in (Bare header) = bare_packet header
+packet_in (Whole packet) = packet

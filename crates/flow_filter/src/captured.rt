@@ -1,0 +1,188 @@
+ghost use Rattle.std.specs.Prelude.{◌≡◌, true, replicate, IfOk};
+ghost use Rattle.flow_filter.specs.Captured.{bare_packet, header_of};
+
+use crate::packet::Packet;
+use basics::{Boxed, NoMemory, Sequence};
+use std::alloc::Global;
+use std::marker::Model;
+
+/// Packets in order, as they wait for their turn, which contracts see as their list.
+pub type Packets = Sequence<CapturedPacket>;
+
+/// The payload of a packet of which none was captured.
+const NO_PAYLOAD: [u8; 64] = [0; 64];
+
+/// A packet that waits for its turn, which contracts see as the packet. Where none of its payload was captured, it takes no room
+/// for it: 40 bytes in all.
+#[derive(Debug, Drop)]
+pub struct CapturedPacket {
+    form: Form,
+}
+
+/// How a packet waits.
+#[derive(Debug, Drop)]
+enum Form {
+    /// Without payload.
+    Bare(Header),
+    /// As it is.
+    Whole(Boxed<Packet>),
+}
+
+/// What a packet has beside its payload. The widest fields stand first, so that no room is lost between them.
+#[derive(Clone, Copy, Debug)]
+struct Header {
+    nanos: u64,
+    number: u32,
+    src: u32,
+    dst: u32,
+    length: u32,
+    sport: u16,
+    dport: u16,
+    proto: u8,
+    flags: u8,
+    held: u8,
+}
+
+impl Model for CapturedPacket {
+    ghost use Rattle.flow_filter.specs.declared.packet.Packet.{Packet as ThePacket};
+    ghost use Rattle.flow_filter.specs.Captured.{packet_in};
+
+    ghost Value = { ThePacket };
+
+    ghost view = { λ c. packet_in c.form };
+}
+
+impl CapturedPacket {
+    /// The packet as it is to wait.
+    #[inline(always)]
+    pub fn of(alloc: Global, packet: &Packet) -> Result<Self, NoMemory>
+        ensures { IfOk result (λ captured. captured ≡ packet.now) }
+    {
+        if is_zero(&packet.head) {
+            let form = Form::Bare(Header::of(packet));
+            return Ok(CapturedPacket { form });
+        }
+        let form = Form::Whole(Boxed::new(alloc, *packet)?);
+        Ok(CapturedPacket { form })
+    }
+
+    /// The packet behind a pointer, for its way.
+    pub fn into_boxed(self, alloc: Global) -> Result<Boxed<Packet>, NoMemory>
+        ensures { IfOk result (λ boxed. boxed ≡ self) }
+    {
+        match self.form {
+            Form::Bare(header) => Boxed::new(alloc, header.packet()),
+            Form::Whole(packet) => Ok(packet),
+        }
+    }
+
+    /// The packet.
+    pub fn packet(&self) -> Packet
+        ensures { result ≡ self.now }
+    {
+        match &self.form {
+            Form::Bare(header) => header.packet(),
+            Form::Whole(packet) => *packet.get(),
+        }
+    }
+
+    /// The packet's place among the steered packets of the capture, from 1.
+    pub fn number(&self) -> u32
+        ensures { result ≡ self.now.number }
+    {
+        match &self.form {
+            Form::Bare(header) => header.number,
+            Form::Whole(packet) => packet.get().number,
+        }
+    }
+}
+
+/// Whether all bytes are 0. It looks at all of them, which takes less time than to stop at the first that isn't.
+#[inline(always)]
+fn is_zero(bytes: &[u8; 64]) -> bool
+    ensures { result ≡ true → bytes.now ≡ replicate 64 0 }
+{
+    let mut greatest = 0;
+    for byte in bytes {
+        greatest = greatest.max(*byte);
+    }
+    greatest == 0
+}
+
+impl Header {
+    fn of(packet: &Packet) -> Self
+        ensures { result ≡ header_of packet.now }
+    {
+        Header {
+            nanos: packet.nanos,
+            number: packet.number,
+            src: packet.src,
+            dst: packet.dst,
+            length: packet.length,
+            sport: packet.sport,
+            dport: packet.dport,
+            proto: packet.proto,
+            flags: packet.flags,
+            held: packet.held,
+        }
+    }
+
+    /// The packet, of which no payload was captured.
+    fn packet(&self) -> Packet
+        ensures { result ≡ bare_packet self.now }
+    {
+        Packet {
+            nanos: self.nanos,
+            number: self.number,
+            src: self.src,
+            dst: self.dst,
+            length: self.length,
+            sport: self.sport,
+            dport: self.dport,
+            proto: self.proto,
+            flags: self.flags,
+            held: self.held,
+            head: NO_PAYLOAD,
+        }
+    }
+}
+
+#[cfg(test)]
+mod tests {
+    use super::*;
+    use crate::packet::UDP;
+    use std::test::Fail;
+
+    const PACKET: Packet = Packet {
+        nanos: 1_000_000_007,
+        number: 3,
+        src: 0x0a00_0001,
+        dst: 0xc000_0209,
+        length: 20,
+        sport: 5000,
+        dport: 53,
+        proto: UDP,
+        flags: 0,
+        held: 0,
+        head: NO_PAYLOAD,
+    };
+
+    #[test]
+    fn a_packet_waits_with_and_without_payload(rt: HostRuntime) -> Result<(), Fail> {
+        let alloc = rt.alloc();
+        let mut head = NO_PAYLOAD;
+        head[1] = 7;
+        let whole = Packet {
+            held: 2,
+            head,
+            ..PACKET
+        };
+        for packet in [PACKET, whole] {
+            let captured = CapturedPacket::of(alloc, &packet)?;
+            assert_eq!(rt; captured.number(), 3);
+            assert_eq!(rt; captured.packet(), packet);
+            assert_eq!(rt; captured.into_boxed(alloc)?.into_inner(), packet);
+        }
+        Ok(())
+    }
+}

@@ -1,0 +1,9 @@
+//! Tests of the network: runs of packets, moves and copies by schedules, held to what they write into the log and leave in the nodes.
+//!
+//! They stand in a crate of their own, so that `nf_net` isn't proved a second time for their sake. There is no other code here.
+#![tactic(auto)]
+
+#[cfg(test)]
+mod copy_tests;
+#[cfg(test)]
+mod move_tests;

@@ -1,0 +1,152 @@
+-- In every run each chunk on its way is one of a unit that a move under way takes.
+use Rattle.std.proofs.Common.{◌≡◌, ◌≢◌, ℕ, zero, suc, ◌+◌, ◌<◌, Bool, true, false, cond, Some, List, [], ◌∷◌, map, length, refl, sym, ap, ◌∙◌, subst, arith}
+use Rattle.std.specs.Prelude.{◌==◌, ◌&&◌, filter, All}
+use Rattle.std.specs.FinMap as finite
+use Rattle.std.proofs.lemmas.Bool.Decides.{nat_tests}
+use Rattle.nf_function.specs.declared.chunk.Chunk.{Chunk}
+use Rattle.nf_function.specs.declared.unit.Unit as units
+use Rattle.nf_function.specs.Records.{Laws as FunctionLaws}
+use Rattle.nf_function.specs.Semantics.{Semantics}
+use Rattle.record_table.specs.Table.{same_unit}
+use Rattle.record_table.specs.Chunks.{spelled}
+use Rattle.record_table.proofs.UnitOrder.{same_unit_equiv}
+use Rattle.nf_msgs.specs.declared.msg.Msg.{Msg}
+use Rattle.nf_msgs.specs.declared.msg.Msg.TheVariants as msg
+use Rattle.nf_msgs.specs.declared.msg.Piece.{Piece}
+use Rattle.nf_msgs.specs.declared.note.Note.{Note}
+use Rattle.move_op.specs.declared.phase.Phase.{Phase}
+use Rattle.move_op.specs.declared.phase.Phase.TheVariants as phase
+use Rattle.move_op.specs.Move.{chunks_of}
+use Rattle.ctrl_node.specs.declared.operation.Operation.{Operation}
+use Rattle.ctrl_node.specs.declared.operation.Operation.TheVariants.{Move, Copy, Share}
+use Rattle.actor_net.specs.Network.{Network, IsWorld, on_link}
+use Rattle.actor_net.proofs.WeightLaws.{Each as EachOn}
+use Rattle.unit_machine.proofs.Labels.{Each, each-append}
+use Rattle.unit_machine.proofs.Seats.{seat_shape}
+use Rattle.unit_machine.proofs.Given.{third_silent}
+use Rattle.abstract_net.proofs.Ctrl.{each_found}
+use Rattle.abstract_net.proofs.Holding.{Op_label}
+use Rattle.abstract_net.proofs.Units.{see}
+use Rattle.nf_net.specs.declared.config.Config.{Config}
+use Rattle.nf_net.specs.declared.node.Node.{Node}
+use Rattle.nf_net.specs.declared.node.Node.TheVariants.{Switch}
+use Rattle.nf_net.specs.Input.{IsInput}
+use Rattle.nf_net.specs.Path.{all_of, on_links}
+use Rattle.nf_net.specs.Places.{IsMoving}
+use Rattle.nf_net.specs.Records.{chunks_in, kept_in, kept_for, kept_by, is_chunk_of, spelled_of, chunks_on_way, IsOfMove}
+use Rattle.nf_net.proofs.ChunkLemmas.{all_chunks, spelled_more}
+use Rattle.nf_net.proofs.ChunkPlaces.{good_pieces, free_pieces, none_on_way}
+use Rattle.nf_net.proofs.MovesUnderWay.{AreUnderWay}
+use Rattle.nf_net.proofs.MoveOutline.{IsChunk}
+use Rattle.nf_net.proofs.Outline.{is_sys}
+use Rattle.nf_net.proofs.PathNodes.{each_entry}
+use Rattle.nf_net.proofs.PathSeats.{labels, loop_is, Seated, seated, HasSides, Are_there, Rests}
+use Rattle.nf_net.proofs.PathSums.{each_place, each_link}
+use Rattle.nf_net.proofs.PlaceSteps.{open_at}
+use Rattle.nf_net.proofs.StartJoined.{given}
+use Rattle.nf_net.proofs.Joined.{Given, S, place, Label, AreGoodChunks, HasPieces, Joined, node_of}
+
+all_from : {X : Type 0} (P : X → Type 0) (xs : List X) → Each P xs → All P xs
+all_from P [] h k d small = absurd (omega (arith, small))
+all_from P (x ∷ xs) h zero d small = h.0
+all_from P (x ∷ xs) h (suc k) d small = all_from P xs h.1 k d (omega (arith, small))
+
+module _ {R : Type 0} (f : Semantics R) (g : Given) where
+  -- a chunk that spells a record of its unit
+  abbrev Named : Chunk → Type 0
+  Named = IsChunk f (place g)
+
+  msg_named : (s r : ℕ) (m : Msg) → Label f g s r m → Each Named (chunks_in m)
+  msg_named s r (msg.Piece op piece) l = all_chunks f g piece.chunks l.1.good
+  msg_named s r (msg.Put op piece first) l = all_chunks f g piece.chunks l.1.good
+  msg_named s r (msg.Restore op chunks) l = all_chunks f g chunks l.1
+  msg_named s r (msg.PutNo op refused) l = all_chunks f g refused.chunks l.1
+  msg_named s r m l = tt
+
+  link_named : (s r : ℕ) (ms : List Msg) → EachOn (Label f g s r) ms → Each Named (all_of chunks_in ms)
+  link_named s r [] h = tt
+  link_named s r (m ∷ ms) h = each-append Named (chunks_in m) (all_of chunks_in ms) (msg_named s r m h.0) (link_named s r ms h.1)
+
+  pieces_named : (ps : List Piece) → Each (λ p. AreGoodChunks f g p.chunks) ps → Each Named (chunks_of ps)
+  pieces_named [] h = tt
+  pieces_named (p ∷ ps) h = each-append Named p.chunks (chunks_of ps) (all_chunks f g p.chunks h.0) (pieces_named ps h.1)
+
+  phase_named : (p : Phase) → HasPieces f g p → Each Named (kept_in p)
+  phase_named (phase.Streaming frozen free came d) h = each-append Named (chunks_of frozen) (chunks_of free) (pieces_named frozen (good_pieces f g frozen h.0)) (pieces_named free (free_pieces f g d free h.1))
+  phase_named phase.Freezing h = tt
+  phase_named phase.Holding h = tt
+  phase_named phase.Passing h = tt
+  phase_named phase.Ending h = tt
+  phase_named (phase.Restoring why) h = tt
+  phase_named (phase.Returning why) h = tt
+  phase_named (phase.Undoing why) h = tt
+  phase_named (phase.Over why) h = tt
+
+  -- such chunks, where each unit of which there is one has a fact
+  module _ (Q : units.Unit → Type 0) (P : Chunk → Type 0) (has : (c : Chunk) (u : units.Unit) → c.unit ≡ Some u → Q u → P c) where
+    shorter : (b : Bool) (c : Chunk) (cs : List Chunk) → map (spelled f) (cond b (c ∷ cs) cs) ≡ [] → map (spelled f) cs ≡ []
+    shorter true c cs e = cc
+    shorter false c cs e = e
+
+    each_has : (cs : List Chunk) → Each Named cs → ((u : units.Unit) → spelled_of f u cs ≢ [] → Q u) → Each P cs
+    each_has [] h q = tt
+    each_has (c ∷ cs) h q =
+        let u = h.0.entry.0 in
+        let own : same_unit u u ≡ true = same_unit_equiv.refl u in
+        let more = spelled_more f u (place g) c cs h.0 in (
+          has c u h.0.unit (q u (λ none. (let there : spelled f c ∷ spelled_of f u cs ≡ [] = ap (λ b. map (spelled f) (cond b (c ∷ filter (is_chunk_of u) cs) (filter (is_chunk_of u) cs))) (sym own) ∙ sym more ∙ none in cc))),
+          each_has cs h.1 (λ v some. q v (λ none. some (shorter (is_chunk_of v c) c (filter (is_chunk_of v) cs) none))),
+        )
+
+module _ {F R : Type 0} (f : Semantics R) (laws : FunctionLaws f) (c : Config) (items : List Msg) (is : IsInput f.kind c items) (n : ℕ) (count : n ≡ length c.names + 2) (w : Network (Node F R) Msg Note) (nodes : length w.nodes ≡ n) (j : Joined f (given f c items is) n w) (world : IsWorld w) (busy : AreUnderWay f c items is n w j) where
+  abbrev g : Given
+  g = given f c items is
+
+  -- all chunks on their way are of units
+  on_named : (s r : ℕ) → s < n → r < n → Each (Named f g) (all_of chunks_in (on_link w s r))
+  on_named s r hs hr = elim ((s == 0) && (r == 0)) as (λ t. (s == 0) && (r == 0) ≡ t → Each (Named f g) (all_of chunks_in (on_link w s r))) [
+    | true ↦ λ both.
+        let zs : s ≡ 0 = grind (arith, nat_tests) in
+        let zr : r ≡ 0 = grind (arith, nat_tests) in
+        subst (λ ms. Each (Named f g) (all_of chunks_in ms)) (sym (ap (λ k. on_link w k r) zs ∙ ap (λ k. on_link w 0 k) zr ∙ loop_is f c items is n count w nodes j world)) tt
+    | false ↦ λ off. link_named f g s r (on_link w s r) (labels f c items is n count w nodes j world s r hs hr off)
+  ] refl
+
+  kept_named : (k : ℕ) → Each (Named f g) (kept_by (node_of j.nodes k))
+  kept_named zero = tt
+  kept_named (suc zero) = each_entry (Named f g) kept_for j.nodes.controller.operations by_got
+    where
+      by_got : (k : ℕ) (o : Operation) → finite.get j.nodes.controller.operations k ≡ Some o → Each (Named f g) (kept_for o)
+      by_got k (Move m) there = phase_named f g m.phase (j.shown_is.controller.moves k m there).pieces
+      by_got k (Copy c) there = tt
+      by_got k (Share s) there = tt
+  kept_named (suc (suc k)) = tt
+
+  all_named : Each (Named f g) (chunks_on_way w)
+  all_named =
+      let d : Node F R = Switch j.nodes.switch in
+      each-append (Named f g) (on_links w chunks_in) (all_of kept_by w.nodes)
+      (each_link w world.square (Named f g) (all_of chunks_in) (λ s r hs hr. on_named s r (rw (← nodes) hs) (rw (← nodes) hr)))
+      (each_place (Named f g) kept_by w.nodes d (λ i small. subst (λ y. Each (Named f g) (kept_by y)) (sym (j.nodes_are i (rw (← nodes) small) d)) (kept_named i)))
+
+  -- a unit with a chunk on its way has a move
+  record IsMoved (u : units.Unit) : Type 0 where
+    source : List ℕ
+    destination : List ℕ
+    moving : IsMoving c items u w.log source destination
+
+  moved : (u : units.Unit) → spelled_of f u (chunks_on_way w) ≢ [] → IsMoved u
+  moved u some = by_sides k.ends
+    where
+      k : Seated f c items is n count w nodes j u
+      k = seated f c items is n count w nodes j u
+
+      by_sides : HasSides f c items is n count w nodes j k.op (seat_shape (S f g).F k.seat) → IsMoved u
+      by_sides (Are_there e found src dst) =
+          let label = each_found (Op_label (S f g) (see (S f g) (is_sys f g.site g.packet) u k.op k.third)) k.op.num j.world.ops e k.holds.ops found in
+          let m = open_at f laws c items is n w j busy u k.op.num e found (label.0.0 ∙ label.1) in
+          record { source = m.source; destination = m.destination; moving = m.moving }
+      by_sides (Rests none none_b at_a) = absurd (some (none_on_way f c items is n count w nodes j world u k.op k.third (seat_shape (S f g).F k.seat) k.holds (third_silent (S f g).F k.seat) none))
+
+  pub chunks_moved : All (IsOfMove c items w.log) (chunks_on_way w)
+  chunks_moved = all_from (IsOfMove c items w.log) (chunks_on_way w) (each_has f g IsMoved (IsOfMove c items w.log) (λ y u is_unit h. record { unit = u; unit_is = is_unit; source = h.source; destination = h.destination; moving = h.moving }) (chunks_on_way w) all_named moved)

@@ -1,0 +1,224 @@
+-- In every run the record of a unit is live at one instance, or in one chunk on its way, or in both as long as its source is still to
+-- remove it.
+use Rattle.std.proofs.Common.{◌≡◌, ℕ, ◌+◌, ◌<◌, ◌≤◌, Bool, true, false, Option, Some, None, List, [], ◌∷◌, ◌++◌, map, length, refl, sym, ap, ◌∙◌, subst, arith}
+use Rattle.std.specs.Prelude.{if◌then◌else◌, ◌==◌, ◌-◌, ◌||◌, nat_lt, slice_get, option_to_list}
+use Rattle.std.specs.FinMap as finite
+use Rattle.std.proofs.lemmas.Bool.{ltb-false}
+use Rattle.std.proofs.lemmas.Bool.Decides.{nat_tests, Decides-ltb}
+use Rattle.std.proofs.lemmas.Option.{slice_get-get_or, slice_get_past}
+use Rattle.nf_function.specs.declared.unit.Unit as units
+use Rattle.nf_function.specs.Semantics.{Semantics}
+use Rattle.nf_msgs.specs.declared.msg.Msg.{Msg}
+use Rattle.nf_msgs.specs.declared.note.Note.{Note}
+use Rattle.nf_msgs.specs.Nodes.{controller_node, instance_node}
+use Rattle.record_table.specs.Table.{is_among}
+use Rattle.actor_net.specs.Network.{Network, IsWorld, on_link}
+use Rattle.unit_machine.proofs.Machine.{State, after, idle}
+use Rattle.unit_machine.proofs.Fits.{nil_left}
+use Rattle.unit_machine.proofs.Lists.{firsts}
+use Rattle.unit_machine.proofs.Bare.{firsts_nil}
+use Rattle.unit_machine.proofs.Kept.{Kept, Nowhere, Is_live, On_way, Twice, lives, on_way}
+use Rattle.unit_machine.proofs.Given.{To_remove, Is_given, Is_named, still_to_remove, third_live, third_silent}
+use Rattle.unit_machine.proofs.Seats.{seat_shape, seat_path}
+use Rattle.unit_machine.proofs.SeatLaws.{seat_kept}
+use Rattle.abstract_net.proofs.Holding.{Seeing, node_at, place as side_place}
+use Rattle.abstract_net.proofs.Readings as readings
+use Rattle.abstract_net.proofs.Readings.{fold_runs, seat_parts}
+use Rattle.abstract_net.proofs.Rest.{same_done}
+use Rattle.abstract_net.proofs.Units.{see}
+use Rattle.nf_net.specs.declared.config.Config.{Config}
+use Rattle.nf_net.specs.declared.node.Node.{Node}
+use Rattle.nf_net.specs.declared.node.Node.TheVariants.{Instance}
+use Rattle.nf_net.specs.Input.{packets, IsInput}
+use Rattle.nf_net.specs.Log.{arrived}
+use Rattle.nf_net.specs.Path.{all_of}
+use Rattle.nf_net.specs.Promises.{IsFront, fold, went}
+use Rattle.nf_net.specs.Records as records
+use Rattle.nf_net.specs.Records.{live_in, live_at, given_in, removed_by, is_to_remove, IsNowhereLive, IsLiveAt, HasOneRecord}
+use Rattle.nf_net.proofs.ChunkPlaces.{link_spelled, none_on_way, one_on_way}
+use Rattle.nf_net.proofs.CompleteRuns.{fold_is}
+use Rattle.nf_net.proofs.Outline.{is_sys}
+use Rattle.nf_net.proofs.PathPromises.{IsOwned, by_came}
+use Rattle.nf_net.proofs.PathSeats.{Seated, seated, HasSides, Are_there, Rests}
+use Rattle.nf_net.proofs.RecordPromises.{instance_of, one_place}
+use Rattle.nf_net.proofs.RunsJoined.{done_same}
+use Rattle.nf_net.proofs.StartJoined.{given}
+use Rattle.nf_net.proofs.Joined.{Given, S, Joined}
+
+-- none of three, and one of three
+record AreNone {R : Type 0} (a b c : Option R) : Type 0 where
+  none_a : a ≡ None
+  none_b : b ≡ None
+  none_c : c ≡ None
+
+are_none : {R : Type 0} (a b c : Option R) → option_to_list a ++ (option_to_list b ++ option_to_list c) ≡ [] → AreNone a b c
+are_none None None None e = record { none_a = refl; none_b = refl; none_c = refl }
+are_none None None (Some z) e = cc
+are_none None (Some y) c e = cc
+are_none (Some x) b c e = cc
+
+data IsOneOf {R : Type 0} (r : R) (a b c : Option R) : Type 0 where
+  In_a : a ≡ Some r → IsOneOf r a b c
+  In_b : b ≡ Some r → IsOneOf r a b c
+  In_c : c ≡ Some r → IsOneOf r a b c
+
+one_of : {R : Type 0} (r : R) (a b c : Option R) → option_to_list a ++ (option_to_list b ++ option_to_list c) ≡ r ∷ [] → IsOneOf r a b c
+one_of r None None None e = cc
+one_of r None None (Some z) e = In_c cc
+one_of r None (Some y) c e = In_b cc
+one_of r (Some x) b c e = In_a cc
+
+or-right : (b c : Bool) → c ≡ true → b || c ≡ true
+or-right true c e = refl
+or-right false c e = e
+
+never : {P R : Type 0} (o : Option R) (r : R) → o ≡ None → o ≡ Some r → P
+never o r none some = let bad = sym none ∙ some in cc
+
+not_nil : {P R : Type 0} (xs : List R) (r : R) → xs ≡ [] → xs ≡ r ∷ [] → P
+not_nil xs r none one = let bad = sym none ∙ one in cc
+
+module _ {F R : Type 0} (f : Semantics R) (c : Config) (items : List Msg) (is : IsInput f.kind c items) (n : ℕ) (count : n ≡ length c.names + 2) (w : Network (Node F R) Msg Note) (nodes : length w.nodes ≡ n) (j : Joined f (given f c items is) n w) (world : IsWorld w) (in_turn : IsFront (arrived w.log) (map (λ p. p.number) (packets items))) (u : units.Unit) where
+  abbrev g : Given
+  g = given f c items is
+
+  abbrev k : Seated f c items is n count w nodes j u
+  k = seated f c items is n count w nodes j u
+
+  abbrev x : State R
+  x = seat_shape (S f g).F k.seat
+
+  abbrev z : Seeing
+  z = see (S f g) (is_sys f g.site g.packet) u k.op k.third
+
+  silent : x.cc ≡ []
+  silent = third_silent (S f g).F k.seat
+
+  -- What is live at an instance.
+  live_there : (m : ℕ) → 2 ≤ m → m < n → live_in u (slice_get w.nodes m) ≡ (node_at (S f g) z x m).live
+  live_there m two few =
+      let node = Instance (j.nodes.instance m) in
+      let found : slice_get w.nodes m ≡ Some node = slice_get-get_or w.nodes m node (rw nodes few) ∙ ap Some (j.nodes_are m few node ∙ instance_of j.nodes m two) in
+      ap (live_in u) found ∙ ap (λ y. finite.get y.live u) (j.shown_is.instances m two few).outline_is ∙ (k.holds.insts m).live
+
+  nowhere : lives x ≡ [] → IsNowhereLive w u
+  nowhere none i =
+      let three = are_none x.a.live x.b.live x.c.live none in
+      elim (nat_lt (instance_node i) n) as (λ t. nat_lt (instance_node i) n ≡ t → live_at w i u ≡ None) [
+        | true ↦ λ e. live_there (instance_node i) (omega arith) ((Decides-ltb (instance_node i) n).0 e) ∙ none_at three (instance_node i)
+        | false ↦ λ e. ap (live_in u) (slice_get_past w.nodes (instance_node i) (rw nodes (ltb-false (instance_node i) n e)))
+      ] refl
+    where
+      none_at : AreNone x.a.live x.b.live x.c.live → (m : ℕ) → (node_at (S f g) z x m).live ≡ None
+      none_at three m = elim (m == k.op.src) as (λ t. (if t then x.a else if m == k.op.dst then x.b else if m == k.third then x.c else idle None).live ≡ None) [
+        | true ↦ three.none_a
+        | false ↦ elim (m == k.op.dst) as (λ t. (if t then x.b else if m == k.third then x.c else idle None).live ≡ None) [
+          | true ↦ three.none_b
+          | false ↦ elim (m == k.third) as (λ t. (if t then x.c else idle None).live ≡ None) [ true ↦ three.none_c | false ↦ refl ]
+        ]
+      ]
+
+  -- a unit with a record goes to an instance that is there
+  owned : (r : R) → after (S f g).F x.done ≡ Some r → IsOwned f c items is n count w nodes j world in_turn u
+  owned r some = by_came f c items is n count w nodes j world in_turn u
+      (λ all.
+      let none : x.done ≡ [] = firsts_nil x.done (nil_left (firsts x.done) (seat_path k.seat) (sym (seat_parts (S f g).F k.seat) ∙ all)) in
+      never (after (S f g).F x.done) r (ap (after (S f g).F) none) some)
+      (λ h. h)
+
+  -- at a side that is there
+  live_one : (r : R) (m : ℕ) → 2 ≤ m → m < n → (node_at (S f g) z x m).live ≡ Some r → IsLiveAt w u (m - 2) r
+  live_one r m two few live =
+      let at : instance_node (m - 2) ≡ m = omega (arith, two) in
+      let there : live_at w (m - 2) u ≡ Some r = ap (λ y. live_in u (slice_get w.nodes y)) at ∙ live_there m two few ∙ live in
+      record { there = there; alone = λ i s h. one_place f c items is n w nodes j u i (m - 2) s r h there }
+
+  at_source : (r : R) → k.op.src < n → x.a.live ≡ Some r → IsLiveAt w u (k.op.src - 2) r
+  at_source r few live = let self = k.holds.apart.src in live_one r k.op.src k.holds.nodes.a_is few (rw self live)
+
+  record IsSomewhere (r : R) : Type 0 where
+    i : ℕ
+    live : IsLiveAt w u i r
+
+  somewhere : (r : R) → after (S f g).F x.done ≡ Some r → lives x ≡ r ∷ [] → IsSomewhere r
+  somewhere r some one = by_side (one_of r x.a.live x.b.live x.c.live one)
+    where
+      own : IsOwned f c items is n count w nodes j world in_turn u
+      own = owned r some
+
+      source_there : HasSides f c items is n count w nodes j k.op x → k.op.src < n
+      source_there (Are_there e found src dst) = src
+      source_there (Rests none_way none_b at_a) = subst (λ m. m < n) (k.holds.target ∙ ap (side_place (S f g) z) at_a) own.few
+
+      destination_there : x.b.live ≡ Some r → HasSides f c items is n count w nodes j k.op x → k.op.dst < n
+      destination_there live (Are_there e found src dst) = dst
+      destination_there live (Rests none_way none_b at_a) = never x.b.live r none_b live
+
+      by_side : IsOneOf r x.a.live x.b.live x.c.live → IsSomewhere r
+      by_side (In_a live) = record { i = k.op.src - 2; live = at_source r (source_there k.ends) live }
+      by_side (In_b live) =
+          let self = k.holds.apart.dst in let off = k.holds.apart.dst_src in
+          record { i = k.op.dst - 2; live = live_one r k.op.dst k.holds.nodes.b_is (destination_there live k.ends) (rw (off, self) live) }
+      by_side (In_c live) =
+          let ac = k.holds.nodes.ac in let bc = k.holds.nodes.bc in
+          let off_a : (k.third == k.op.src) ≡ false = grind (arith, nat_tests, ac) in
+          let off_b : (k.third == k.op.dst) ≡ false = grind (arith, nat_tests, bc) in
+          let self : (k.third == k.third) ≡ true = grind (arith, nat_tests) in
+          let few : k.third < n = subst (λ m. m < n) (k.holds.target ∙ ap (side_place (S f g) z) (third_live (S f g).F k.seat r live)) own.few in
+          record { i = k.third - 2; live = live_one r k.third k.holds.nodes.c_is few (rw (off_a, off_b, self) live) }
+
+  -- What is on its way.
+  none_way : on_way x ≡ [] → records.on_way f w u ≡ []
+  none_way none = none_on_way f c items is n count w nodes j world u k.op k.third x k.holds silent none
+
+  one_way : (r : R) → k.op.src < n → k.op.dst < n → on_way x ≡ r ∷ [] → records.on_way f w u ≡ Some (u, r) ∷ []
+  one_way r src dst one = one_on_way f c items is n count w nodes j world u k.op k.third x k.holds silent r one src dst
+
+  -- the source is still to remove it
+  to_remove : (r : R) → k.op.src < n → To_remove x.ac x.ca → is_to_remove w u (k.op.src - 2) ≡ true
+  to_remove r few h = ap (λ m. is_among (all_of given_in (on_link w m controller_node)) u || is_among (all_of removed_by (on_link w controller_node m)) u) at ∙ by_link h
+    where
+      at : instance_node (k.op.src - 2) ≡ k.op.src
+      at = let two = k.holds.nodes.a_is in omega (arith, two)
+
+      self : (k.op.src == k.op.src) ≡ true
+      self = k.holds.apart.src
+
+      off_0 : (k.op.src == 0) ≡ false
+      off_0 = let two = k.holds.nodes.a_is in grind (arith, nat_tests, two)
+
+      off_1 : (k.op.src == 1) ≡ false
+      off_1 = let two = k.holds.nodes.a_is in grind (arith, nat_tests, two)
+
+      some : 1 < n
+      some = omega (arith, count)
+
+      by_link : To_remove x.ac x.ca → is_among (all_of given_in (on_link w k.op.src controller_node)) u || is_among (all_of removed_by (on_link w controller_node k.op.src)) u ≡ true
+      by_link (Is_given e) =
+          let read = (link_spelled f c items is n count w nodes j world u k.op k.third x k.holds k.op.src 1 few some (rw off_0 refl)).given in
+          let on : is_among (all_of given_in (on_link w k.op.src controller_node)) u ≡ true = read ∙ rw (off_0, off_1, self) e in
+          rw on refl
+      by_link (Is_named e) =
+          let read = (link_spelled f c items is n count w nodes j world u k.op k.third x k.holds 1 k.op.src some few refl).removed in
+          let on : is_among (all_of removed_by (on_link w controller_node k.op.src)) u ≡ true = read ∙ rw (off_0, self) e in
+          or-right (is_among (all_of given_in (on_link w k.op.src controller_node)) u) (is_among (all_of removed_by (on_link w controller_node k.op.src)) u) on
+
+  -- the machine's record is the fold of what was processed
+  fold_same : after (S f g).F x.done ≡ fold f c items None (went f c items u w.log)
+  fold_same =
+      fold_runs (S f g).F None x.done
+      ∙ ap (readings.fold (S f g).F None) (sym (same_done (S f g) z j.world.done ∙ k.holds.done) ∙ done_same f c items is n w j u)
+      ∙ sym (fold_is f c items is None (went f c items u w.log))
+
+  pub record_stands : HasOneRecord f w u (fold f c items None (went f c items u w.log))
+  record_stands = by_kept (seat_kept (S f g).F k.seat)
+    where
+      by_sides : (r : R) → after (S f g).F x.done ≡ Some r → on_way x ≡ r ∷ [] → (k.op.src < n → k.op.dst < n → HasOneRecord f w u (fold f c items None (went f c items u w.log))) → HasSides f c items is n count w nodes j k.op x → HasOneRecord f w u (fold f c items None (went f c items u w.log))
+      by_sides r some one both (Are_there e found src dst) = both src dst
+      by_sides r some one both (Rests none none_b at_a) = not_nil (on_way x) r none one
+
+      by_kept : Kept (after (S f g).F x.done) x.a.live (lives x) (on_way x) → HasOneRecord f w u (fold f c items None (went f c items u w.log))
+      by_kept (Nowhere none live way) = records.Has_none (sym fold_same ∙ none) (nowhere live) (none_way way)
+      by_kept (Is_live r some live way) = let at = somewhere r some live in records.Is_live at.i r (sym fold_same ∙ some) at.live (none_way way)
+      by_kept (On_way r some live way) = by_sides r some way (λ src dst. records.Is_on_way r (sym fold_same ∙ some) (nowhere live) (one_way r src dst way)) k.ends
+      by_kept (Twice r some at_a live way) = by_sides r some way (λ src dst. records.Is_given (k.op.src - 2) r (sym fold_same ∙ some) (at_source r src at_a) (one_way r src dst way) (to_remove r src (still_to_remove (S f g).F k.seat r r [] at_a way))) k.ends

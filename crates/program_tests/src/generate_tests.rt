@@ -1,0 +1,130 @@
+ghost use Rattle.std.specs.Prelude.{◌≡◌, ◌≤◌, None, IfOk};
+ghost use Rattle.nf_io.specs.declared.outside.Role.{Role as TheRole};
+ghost use Rattle.nf_io.specs.Memory.{seen_in};
+
+use crate::sim_tests::{calm, owned, simulated};
+use flow_filter::NoMemory;
+use nf_io::{MemoryOutside, Role};
+use opennf_calls::Status;
+use std::alloc::Global;
+use std::test::Fail;
+
+/// The words that ask for a capture of 3 packets and one host.
+static WORDS: [&str; 8] = ["opennf", "gen", "7", "--packets", "3", "--hosts", "1", "T"];
+
+/// The line that says so.
+static LINE: &str = "gen number 7 packets 3 hosts 1\n";
+
+/// That capture, as `bench/make_capture.py` makes it: a TCP packet with SYN that comes in, a UDP packet that goes out, and one that comes
+/// in.
+static CAPTURE: [u8; 168] = [
+    0xd4, 0xc3, 0xb2, 0xa1, 2, 0, 4, 0, 0, 0, 0, 0, 0, 0, 0, 0, 0xff, 0xff, 0, 0, 101, 0, 0, 0, //
+    0, 0, 0, 0, 0xe8, 3, 0, 0, 40, 0, 0, 0, 0xf3, 1, 0, 0, //
+    0x45, 0, 1, 0xf3, 0, 0, 0, 0, 0x40, 6, 0, 0, 192, 0, 2, 50, 10, 0, 0, 0, //
+    1, 0xbb, 0x9c, 0x72, 0, 0, 0, 0, 0, 0, 0, 0, 0x50, 2, 0, 0, 0, 0, 0, 0, //
+    0, 0, 0, 0, 0xd0, 7, 0, 0, 28, 0, 0, 0, 104, 0, 0, 0, //
+    0x45, 0, 0, 104, 0, 0, 0, 0, 0x40, 17, 0, 0, 10, 0, 0, 0, 192, 0, 2, 60, //
+    0xc3, 0x8c, 0, 53, 0, 84, 0, 0, //
+    0, 0, 0, 0, 0xb8, 11, 0, 0, 28, 0, 0, 0, 180, 0, 0, 0, //
+    0x45, 0, 0, 180, 0, 0, 0, 0, 0x40, 17, 0, 0, 192, 0, 2, 49, 10, 0, 0, 0, //
+    0, 53, 0xc3, 0x81, 0, 160, 0, 0,
+];
+
+/// An outside of which one write to a role fails, where the number of that write isn't 0, and each write takes at most `most` bytes.
+fn outside_of(
+    alloc: Global,
+    role: Role,
+    failing: u64,
+    most: usize,
+) -> Result<MemoryOutside, NoMemory>
+    requires { 1 ≤ most }
+    ensures { IfOk result (λ outside. (role : TheRole) → (seen_in outside role).name ≡ None) }
+{
+    let mut outside = MemoryOutside::open(alloc);
+    outside.fail(role, failing)?;
+    outside.piece(most);
+    Ok(outside)
+}
+
+#[test]
+fn the_capture_and_its_line_are_written(rt: HostRuntime) -> Result<(), Fail> {
+    let alloc = rt.alloc();
+    let words = owned(alloc, &WORDS)?;
+    let mut outside = outside_of(alloc, Role::Report, 0, usize::MAX)?;
+    let outcome = calm(alloc, words.as_slice(), &mut outside);
+    assert_eq!(rt; outcome.status, Status::Ok);
+    assert_eq!(rt; outside.written(Role::TraceOut), CAPTURE.as_slice());
+    assert_eq!(rt; outside.written(Role::Report), LINE.as_bytes());
+    assert_eq!(rt; outside.written(Role::Errors), b"".as_slice());
+    Ok(())
+}
+
+#[test]
+fn a_simulation_reads_the_capture_whole(rt: HostRuntime) -> Result<(), Fail> {
+    let (number, outside) = simulated(rt.alloc(), &[&CAPTURE])?;
+    assert_eq!(rt; number, 0);
+    let report =
+        "opennf report 1\nfunction conntrack instances 1 window 256\ntrace packets 3 skipped 0 whole\nout 1 opening\nout 2 single\nout 3 single\ndone 1 a\ndone 2 a\ndone 3 a\nstate tcp 10.0.0.0:40050 192.0.2.50:443 a opening in packets 1 bytes 459 seen 1000000\nstate udp 10.0.0.0:50049 192.0.2.49:53 a single in packets 1 bytes 152 seen 3000000\nstate udp 10.0.0.0:50060 192.0.2.60:53 a single out packets 1 bytes 76 seen 2000000\ntally a 3\nend\n";
+    assert_eq!(rt; outside.written(Role::Report), report.as_bytes());
+    Ok(())
+}
+
+#[test]
+fn a_capture_that_cannot_be_written_leaves_a_front(rt: HostRuntime) -> Result<(), Fail> {
+    let alloc = rt.alloc();
+    let words = owned(alloc, &WORDS)?;
+    let mut outside = outside_of(alloc, Role::TraceOut, 3, 30)?;
+    let outcome = calm(alloc, words.as_slice(), &mut outside);
+    assert_eq!(rt;
+        outcome.status,
+        Status::WriteFault {
+            role: Role::TraceOut
+        }
+    );
+    assert_eq!(rt; outside.written(Role::TraceOut), &CAPTURE[..54]);
+    assert_eq!(rt; outside.written(Role::Report), b"".as_slice());
+    assert_eq!(rt;
+        outside.written(Role::Errors),
+        b"opennf: write fault capture\n".as_slice()
+    );
+    Ok(())
+}
+
+#[test]
+fn a_line_that_cannot_be_written_leaves_the_capture_whole(rt: HostRuntime) -> Result<(), Fail> {
+    let alloc = rt.alloc();
+    let words = owned(alloc, &WORDS)?;
+    let mut outside = outside_of(alloc, Role::Report, 2, 10)?;
+    let outcome = calm(alloc, words.as_slice(), &mut outside);
+    assert_eq!(rt; outcome.status, Status::WriteFault { role: Role::Report });
+    assert_eq!(rt; outside.written(Role::TraceOut), CAPTURE.as_slice());
+    assert_eq!(rt; outside.written(Role::Report), b"gen number".as_slice());
+    assert_eq!(rt;
+        outside.written(Role::Errors),
+        b"opennf: write fault report\n".as_slice()
+    );
+    Ok(())
+}
+
+#[test]
+fn numbers_out_of_range_are_bad_words(rt: HostRuntime) -> Result<(), Fail> {
+    let alloc = rt.alloc();
+    for (packets, hosts) in [("0", "1"), ("1", "257")] {
+        let words = [
+            "opennf",
+            "gen",
+            "0",
+            "--packets",
+            packets,
+            "--hosts",
+            hosts,
+            "T",
+        ];
+        let words = owned(alloc, &words)?;
+        let mut outside = outside_of(alloc, Role::Report, 0, usize::MAX)?;
+        let outcome = calm(alloc, words.as_slice(), &mut outside);
+        assert_eq!(rt; outcome.status, Status::Usage);
+        assert_eq!(rt; outside.written(Role::TraceOut), b"".as_slice());
+    }
+    Ok(())
+}

@@ -1,0 +1,15 @@
+//! Tests of the calls that do all that the program does, over outsides in memory, and of the network by threads.
+//!
+//! They stand in a crate of their own, so that `opennf_calls` isn't proved a second time for their sake. There is no other code here.
+#![tactic(auto)]
+
+#[cfg(test)]
+mod check_tests;
+#[cfg(test)]
+mod generate_tests;
+#[cfg(test)]
+mod journal_tests;
+#[cfg(test)]
+mod sim_tests;
+#[cfg(test)]
+mod threads_tests;

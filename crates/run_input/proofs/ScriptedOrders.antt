@@ -1,0 +1,125 @@
+-- The commands of a script's lines: their numbers rise, and each that is built is a move or a copy of whole units between two instances.
+use Rattle.std.proofs.Common.{◌≡◌, ℕ, suc, ◌+◌, ◌<◌, ◌≤◌, Bool, true, false, ◌&&◌, Some, None, List, [], ◌∷◌, map, length, eqb, eqb-true, leb, Ok, refl, subst, arith}
+use Rattle.std.specs.Prelude.{All, if◌then◌else◌, not}
+use Rattle.std.specs.List.{AllByRecursion}
+use Rattle.std.specs.Str.{bytes_eq}
+use Rattle.std.proofs.lemmas.Bool.Decides.{nat_tests}
+use Rattle.std.proofs.lemmas.List.Elements.{All-cons, All-nil, All-head, All-tail}
+use Rattle.flow_filter.specs.declared.filter.Filter.{Filter}
+use Rattle.flow_filter.specs.declared.packet.Packet.{Packet}
+use Rattle.flow_filter.specs.Filter.{IsFilter}
+use Rattle.flow_filter.specs.Name.{is_name}
+use Rattle.nf_function.specs.declared.kind.Kind.{Kind}
+use Rattle.nf_function.specs.Units.{splits}
+use Rattle.nf_msgs.specs.declared.command.Command.{Command}
+use Rattle.nf_msgs.specs.declared.command.Order.{Order}
+use Rattle.nf_msgs.specs.declared.command.Order.TheVariants.{Move, Copy, Share}
+use Rattle.trace_reader.specs.Records.{AreNumbered}
+use Rattle.op_script.specs.declared.fault.ScriptKind.TheVariants as bad
+use Rattle.op_script.specs.declared.script.Line.{Line}
+use Rattle.op_script.specs.declared.script.What.{What}
+use Rattle.op_script.specs.declared.script.What.TheVariants as what
+use Rattle.op_script.specs.Forms.{Word}
+use Rattle.op_script.specs.Items.{IsFrom}
+use Rattle.op_script.specs.Reading.{ends_of, unless, route_view, line_view, what_view, order_view}
+use Rattle.op_script.specs.Printing.{IsRoute, IsLine, IsWhat, IsOrder, next_after, and_then, follows, what_splits, order_splits}
+use Rattle.op_script.proofs.JudgedLemmas.{unless_Ok}
+use Rattle.nf_net.specs.Input.{IsRising, IsWhole, IsBuilt as IsBuiltFor}
+use Rattle.run_input.specs.BuiltLines.{IsBuilt, IsBuiltOrder}
+use Rattle.run_input.proofs.SaidCommands.{with_command, line_commands}
+
+-- Numbers that rise.
+pub numbers_rise : (n least : ℕ) (ps : List Packet) → least ≤ n → AreNumbered n ps → IsRising least (map (λ p. p.number) ps)
+numbers_rise n least [] le h = tt
+numbers_rise n least (p ∷ ps) le h =
+    let is : p.number ≡ n = h.0 in
+    (omega (arith, is, le), numbers_rise (n + 1) (suc p.number) ps (omega (arith, is)) h.1)
+
+-- the number after what happens, which has the next number if it is a command
+abbrev IsNext : ℕ → What → ℕ → Type 0
+IsNext next (what.Command command) n = (command.op ≡ next) × (n ≡ next + 1)
+IsNext next what.Settle n = n ≡ next
+
+record Followed (next : ℕ) (w : What) (test : ℕ → Bool) : Type 0 where
+  number : ℕ
+  is_next : IsNext next w number
+  holds : test number ≡ true
+
+followed : (next : ℕ) (w : What) (test : ℕ → Bool) → and_then (next_after next (what_view w)) test ≡ true → Followed next w test
+followed next what.Settle test h = record { number = next; is_next = refl; holds = h }
+followed next (what.Command command) test h = elim (eqb command.op next) as (λ b. eqb command.op next ≡ b → and_then (if b then Some (next + 1) else None) test ≡ true → Followed next (what.Command command) test) [
+  | true ↦ λ same more. record { number = next + 1; is_next = (eqb-true command.op next same, refl); holds = more }
+  | false ↦ λ other more. absurd cc
+] refl h
+
+both : (a b : Bool) → (a && b) ≡ true → (a ≡ true) × (b ≡ true)
+both true true h = (refl, refl)
+both true false h = absurd cc
+both false b h = absurd cc
+
+record Goes (last number : ℕ) (line : Line) (more : List Line) : Type 0 where
+  far : last ≤ line.at
+  next : Followed number line.what (λ n. follows line.at n (map line_view more))
+
+goes : (last next : ℕ) (line : Line) (more : List Line) → follows last next (map line_view (line ∷ more)) ≡ true → Goes last next line more
+goes last next line more h =
+    let two = both (leb last line.at) _ h in
+    let far = two.0 in
+    record { far = grind (arith, nat_tests, far); next = followed next line.what _ two.1 }
+
+-- the lines stand in the order of their points
+pub in_order : (last next : ℕ) (lines : List Line) → follows last next (map line_view lines) ≡ true → IsFrom last lines
+in_order last next [] h = tt
+in_order last next (line ∷ more) h = let g = goes last next line more h in (g.far, in_order line.at g.next.number more g.next.holds)
+
+rise_with : (least next n : ℕ) (w : What) (cs : List Command) → IsNext next w n → least ≤ next → ((l : ℕ) → l ≤ n → IsRising l (map (λ c. c.op) cs)) → IsRising least (map (λ c. c.op) (with_command w cs))
+rise_with least next n what.Settle cs is le rest = rest least (omega (arith, is, le))
+rise_with least next n (what.Command command) cs is le rest =
+    let here = is.0 in let after = is.1 in
+    (omega (arith, here, le), rest (suc command.op) (omega (arith, here, after)))
+
+-- and their commands are numbered from the next number on
+pub ops_rise : (least last next : ℕ) (lines : List Line) → least ≤ next → follows last next (map line_view lines) ≡ true → IsRising least (map (λ c. c.op) (line_commands lines))
+ops_rise least last next [] le h = tt
+ops_rise least last next (line ∷ more) le h =
+    let g = goes last next line more h in
+    rise_with least next g.next.number line.what (line_commands more) g.next.is_next le (λ l le'. ops_rise l line.at g.next.number more le' g.next.holds)
+
+-- Moves and copies.
+names_differ : (source target : Word) → ends_of source target ≡ Ok (source, target) → bytes_eq source target ≡ false
+unfolding ends_of
+names_differ source target is =
+    let first = unless_Ok (not (is_name source && is_name target)) bad.Name (unless (bytes_eq source target) bad.SameInstance (Ok (source, target))) (source, target) is in
+    (unless_Ok (bytes_eq source target) bad.SameInstance (Ok (source, target)) (source, target) first.1).0
+
+module _ (kind : Kind) where
+  built_order : (o : Order) → IsOrder (order_view o) → order_splits kind (order_view o) ≡ false → IsBuiltOrder o → IsBuiltFor kind o
+  built_order (Move source target filter keep) right whole built = (names_differ source target right.0, record { numbers = built; whole = whole })
+  built_order (Copy source target None) right whole built = (names_differ source target right.0, λ filter is. cc)
+  built_order (Copy source target (Some filter)) right whole built = (names_differ source target right.0, λ g is. (let same : filter ≡ g = cc in subst (IsWhole kind) same (record { numbers = built filter refl; whole = whole })))
+  built_order (Share members filter) right whole built = absurd built
+
+  built_with : (w : What) (cs : List Command) → IsWhat (what_view w) → what_splits kind (what_view w) ≡ false → IsBuilt w
+      → All (λ (c : Command). IsBuiltFor kind c.what) cs → All (λ (c : Command). IsBuiltFor kind c.what) (with_command w cs)
+  built_with what.Settle cs right whole built rest = rest
+  built_with (what.Command command) cs right whole built rest = All-cons (λ (c : Command). IsBuiltFor kind c.what) command cs (built_order command.what right whole built) rest
+
+  -- each command is one that is built
+  pub all_built : (lines : List Line) → AllByRecursion IsLine (map line_view lines) → AllByRecursion (λ line. what_splits kind line.what ≡ false) (map line_view lines)
+      → All (λ (line : Line). IsBuilt line.what) lines → All (λ (c : Command). IsBuiltFor kind c.what) (line_commands lines)
+  all_built [] right whole built = All-nil (λ (c : Command). IsBuiltFor kind c.what)
+  all_built (line ∷ more) right whole built = built_with line.what (line_commands more) right.0 whole.0 (All-head (λ (line : Line). IsBuilt line.what) line more built)
+      (all_built more right.1 whole.1 (All-tail (λ (line : Line). IsBuilt line.what) line more built))
+
+  -- Routes.
+  pub routes_whole : (routes : List (Filter × ℕ)) → AllByRecursion (λ route. splits kind route.0 ≡ false) (map route_view routes)
+      → All (λ (route : Filter × ℕ). IsFilter route.0) routes → All (λ (route : Filter × ℕ). IsWhole kind route.0) routes
+  routes_whole [] whole filters = All-nil (λ (route : Filter × ℕ). IsWhole kind route.0)
+  routes_whole (route ∷ more) whole filters =
+      All-cons (λ (route : Filter × ℕ). IsWhole kind route.0) route more
+      (record { numbers = All-head (λ (route : Filter × ℕ). IsFilter route.0) route more filters; whole = whole.0 })
+      (routes_whole more whole.1 (All-tail (λ (route : Filter × ℕ). IsFilter route.0) route more filters))
+
+pub routes_there : (names : List Word) (routes : List (Filter × ℕ)) → AllByRecursion (IsRoute names) (map route_view routes) → All (λ (route : Filter × ℕ). route.1 < length names) routes
+routes_there names [] there = All-nil (λ (route : Filter × ℕ). route.1 < length names)
+routes_there names (route ∷ more) there = All-cons (λ (route : Filter × ℕ). route.1 < length names) route more there.0.0 (routes_there names more there.1)

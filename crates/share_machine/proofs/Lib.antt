@@ -1,0 +1,13 @@
+pub mod Share
+pub mod Stages
+pub mod Lists
+pub mod Setting
+pub mod Serving
+pub mod Spreading
+pub mod Steps
+pub mod Records
+pub mod Heads
+pub mod Order
+pub mod Path
+pub mod Rests
+pub mod Places

@@ -1,0 +1,278 @@
+-- Each move from each stage in which a share is set up, up to the first Sync.
+use Rattle.std.proofs.Common.{◌≡◌, ℕ, ◌<◌, ◌≤◌, ◌+◌, Bool, true, false, cond, not, ◌&&◌, ◌==◌, Option, None, Some, List, [], ◌∷◌, ◌++◌, map, length, refl, sym, ap, subst, ◌∙◌, append_assoc, append-nil, arith}
+use Rattle.std.proofs.lemmas.Bool.Decides.{nat_tests, Decides-eqb}
+use Rattle.share_machine.proofs.Share.{Ran, Item, Item.Carry, Item.Fence, Item.Get, Item.Sync, Item.Fenced, Item.Chunks, Frame, View, Phase, Phase.Setting, put, put_ctrl, waits, serve, answers, sync_to, Move, Move.Arrive, Move.Take_cs, Move.Take_sc, Move.Take_sw, Move.Take_to, Move.Take_back, has, without, if_mine, after, only, moved, from_sw, from_to, from_back}
+use Rattle.share_machine.proofs.Stages.{Turn.Going, Turn.Quiet, is_going, goes_to, comes_from, Stage, Stage.Diverting, Stage.Fence_goes, Stage.Fenced_comes, Stage.Get_goes, Stage.Chunks_come, Stage.Spreads, front, early, late, shape, IsFront, IsShare, Fits, Alike, brings, Leads}
+use Rattle.share_machine.proofs.Lists.{cond-same, cond-append, cond-cond, self, runs-append, mine_in-append, served-append, packets-append, packets-served, map-append, over_front, has-without, distinct-without, length-without, counts_turns, turns_sent, turn_of, in_without, turn_self}
+
+pub ruleset links = (cond-append, cond-cond, cond-same, append-nil, map-append)
+
+pub ruleset orders = (packets-append, packets-served, mine_in-append, served-append, append_assoc, append-nil)
+
+-- a link that only one instance has
+pub at_only : {X : Type 0} (P : ℕ → List X → Type 0) (h j : ℕ) (xs : List X) → P h xs → P j [] → P j (only h xs j)
+at_only P h j xs here other =
+    elim (j == h) as (λ t. (j == h) ≡ t → P j (cond t xs [])) [
+      | true ↦ λ e. subst (λ n. P n xs) (sym ((Decides-eqb j h).0 e)) here
+      | false ↦ λ _. other
+    ] refl
+
+pub front_same : {X : Type 0} (xs : List X) → IsFront xs xs
+front_same xs = ([], sym (append-nil xs))
+
+pub front_more : {X : Type 0} (xs ys zs : List X) → IsFront xs ys → IsFront xs (ys ++ zs)
+front_more xs ys zs h = (h.0 ++ zs, ap (λ ws. ws ++ zs) h.1 ∙ append_assoc xs h.0 zs)
+
+pub nothing_comes : {X : Type 0} (b : Bool) (xs : List X) → xs ≡ xs ++ cond b [] []
+nothing_comes true xs = sym (append-nil xs)
+nothing_comes false xs = sym (append-nil xs)
+
+module _ {R : Type 0} (f : Frame R) where
+  pub same_view : (x : View R) → Alike f x x
+  same_view x = record { sw = λ k. refl; sc = refl; cs = refl; to = λ k. refl; back = λ k. refl; own = λ k _. refl; phase = refl; queue = refl; diverts = refl; done = refl }
+
+  -- a link with nothing on it
+  pub stays : (s : Stage R) → Fits f s → Leads f s (shape f s) []
+  stays s h = record {
+    next = s;
+    fits = h;
+    alike = same_view (shape f s);
+    early_is = nothing_comes (shape f s).diverts (early s);
+    late_is = nothing_comes (shape f s).diverts (late f s);
+    longer = λ k _. front_same (front f s k);
+  }
+
+  -- one member's record has seen more
+  pub seen_more : (t : Bool) (old new b : List Ran) (r : Option R) → r ≡ after f new → cond t r (after f (cond t old b)) ≡ after f (cond t new b)
+  seen_more true old new b r e = e
+  seen_more false old new b r e = refl
+
+  pub longer_at : (t : Bool) (old new b : List Ran) → IsFront old new → IsFront (cond t old b) (cond t new b)
+  longer_at true old new b h = h
+  longer_at false old new b h = front_same b
+
+  processes : (d : List Ran) (b : ℕ → List Ran) (l : List ℕ) → ((k : ℕ) → IsFront (b k) d) → Leads f (Diverting d b l) (from_sw f (shape f (Diverting d b l)) f.home (map Carry l)) []
+  processes d b [] h = stays (Diverting d b []) h
+  processes d b (p ∷ l) h = record {
+    next = Diverting (d ++ (p, f.home) ∷ []) b l;
+    fits = λ k. front_more (b k) d ((p, f.home) ∷ []) (h k);
+    alike = record {
+      sw = λ k. simp links;
+      sc = refl;
+      cs = refl;
+      to = λ k. refl;
+      back = λ k. simp links;
+      own = λ k _. rw (self f.home) (seen_more (k == f.home) d (d ++ (p, f.home) ∷ []) (b k) (Some (f.F.step (after f d) p)) (sym (runs-append f.F None d ((p, f.home) ∷ []))));
+      phase = refl;
+      queue = refl;
+      diverts = refl;
+      done = refl;
+    };
+    early_is = simp orders;
+    late_is = refl;
+    longer = λ k _. longer_at (k == f.home) d (d ++ (p, f.home) ∷ []) (b k) (front_more d d ((p, f.home) ∷ []) (front_same d));
+  }
+
+  pub diverting : (d : List Ran) (b : ℕ → List Ran) (l : List ℕ) → ((k : ℕ) → IsFront (b k) d) → (m : Move) → Leads f (Diverting d b l) (moved f (shape f (Diverting d b l)) m) (brings f m)
+  diverting d b l h (Arrive p) = record {
+    next = Diverting d b (l ++ if_mine f p);
+    fits = h;
+    alike = record { sw = λ k. simp links; sc = refl; cs = refl; to = λ k. refl; back = λ k. refl; own = λ k _. refl; phase = refl; queue = refl; diverts = refl; done = refl };
+    early_is = simp orders;
+    late_is = refl;
+    longer = λ k _. front_same (front f (Diverting d b l) k);
+  }
+  diverting d b l h Take_cs = record {
+    next = Fence_goes d b l [] [];
+    fits = h;
+    alike = record { sw = λ k. simp links; sc = refl; cs = refl; to = λ k. refl; back = λ k. refl; own = λ k _. refl; phase = refl; queue = refl; diverts = refl; done = refl };
+    early_is = simp orders;
+    late_is = refl;
+    longer = λ k _. front_same (front f (Diverting d b l) k);
+  }
+  diverting d b l h (Take_sw j) = at_only (λ n ys. Leads f (Diverting d b l) (from_sw f (shape f (Diverting d b l)) n ys) []) f.home j (map Carry l) (processes d b l h) (stays (Diverting d b l) h)
+  diverting d b l h m = stays (Diverting d b l) h
+
+  fence_takes : (d : List Ran) (b : ℕ → List Ran) (l q v : List ℕ) → ((k : ℕ) → IsFront (b k) d) → Leads f (Fence_goes d b l q v) (from_sw f (shape f (Fence_goes d b l q v)) f.home (map Carry l ++ Fence ∷ [])) []
+  fence_takes d b [] q v h = record {
+    next = Fenced_comes d b q v;
+    fits = h;
+    alike = record { sw = λ k. simp links; sc = refl; cs = refl; to = λ k. refl; back = λ k. refl; own = λ k _. rw (self f.home) (seen_more (k == f.home) d d (b k) (after f d) refl); phase = refl; queue = refl; diverts = refl; done = append-nil d };
+    early_is = simp orders;
+    late_is = simp orders;
+    longer = λ k _. front_same (front f (Fence_goes d b [] q v) k);
+  }
+  fence_takes d b (p ∷ l) q v h = record {
+    next = Fence_goes (d ++ (p, f.home) ∷ []) b l q v;
+    fits = λ k. front_more (b k) d ((p, f.home) ∷ []) (h k);
+    alike = record {
+      sw = λ k. simp links;
+      sc = refl;
+      cs = refl;
+      to = λ k. refl;
+      back = λ k. simp links;
+      own = λ k _. rw (self f.home) (seen_more (k == f.home) d (d ++ (p, f.home) ∷ []) (b k) (Some (f.F.step (after f d) p)) (sym (runs-append f.F None d ((p, f.home) ∷ []))));
+      phase = refl;
+      queue = refl;
+      diverts = refl;
+      done = refl;
+    };
+    early_is = simp orders;
+    late_is = simp orders;
+    longer = λ k _. longer_at (k == f.home) d (d ++ (p, f.home) ∷ []) (b k) (front_more d d ((p, f.home) ∷ []) (front_same d));
+  }
+
+  pub fence_goes : (d : List Ran) (b : ℕ → List Ran) (l q v : List ℕ) → ((k : ℕ) → IsFront (b k) d) → (m : Move) → Leads f (Fence_goes d b l q v) (moved f (shape f (Fence_goes d b l q v)) m) (brings f m)
+  fence_goes d b l q v h (Arrive p) = record {
+    next = Fence_goes d b l q (v ++ p ∷ []);
+    fits = h;
+    alike = record { sw = λ k. refl; sc = simp links; cs = refl; to = λ k. refl; back = λ k. refl; own = λ k _. refl; phase = refl; queue = refl; diverts = refl; done = refl };
+    early_is = simp orders;
+    late_is = simp orders;
+    longer = λ k _. front_same (front f (Fence_goes d b l q v) k);
+  }
+  fence_goes d b l q (p ∷ v) h Take_sc = record {
+    next = Fence_goes d b l (q ++ p ∷ []) v;
+    fits = h;
+    alike = record { sw = λ k. refl; sc = refl; cs = refl; to = λ k. refl; back = λ k. refl; own = λ k _. refl; phase = refl; queue = refl; diverts = refl; done = refl };
+    early_is = simp orders;
+    late_is = simp orders;
+    longer = λ k _. front_same (front f (Fence_goes d b l q v) k);
+  }
+  fence_goes d b l q v h (Take_sw j) = at_only (λ n ys. Leads f (Fence_goes d b l q v) (from_sw f (shape f (Fence_goes d b l q v)) n ys) []) f.home j (map Carry l ++ Fence ∷ []) (fence_takes d b l q v h) (stays (Fence_goes d b l q v) h)
+  fence_goes d b l q [] h Take_sc = stays (Fence_goes d b l q []) h
+  fence_goes d b l q v h m = stays (Fence_goes d b l q v) h
+
+  pub fenced_comes : (d : List Ran) (b : ℕ → List Ran) (q v : List ℕ) → ((k : ℕ) → IsFront (b k) d) → (m : Move) → Leads f (Fenced_comes d b q v) (moved f (shape f (Fenced_comes d b q v)) m) (brings f m)
+  fenced_comes d b q v h (Arrive p) = record {
+    next = Fenced_comes d b q (v ++ p ∷ []);
+    fits = h;
+    alike = record { sw = λ k. refl; sc = simp links; cs = refl; to = λ k. refl; back = λ k. refl; own = λ k _. refl; phase = refl; queue = refl; diverts = refl; done = refl };
+    early_is = simp orders;
+    late_is = simp orders;
+    longer = λ k _. front_same (front f (Fenced_comes d b q v) k);
+  }
+  fenced_comes d b q (p ∷ v) h Take_sc = record {
+    next = Fenced_comes d b (q ++ p ∷ []) v;
+    fits = h;
+    alike = record { sw = λ k. refl; sc = refl; cs = refl; to = λ k. refl; back = λ k. refl; own = λ k _. refl; phase = refl; queue = refl; diverts = refl; done = refl };
+    early_is = simp orders;
+    late_is = simp orders;
+    longer = λ k _. front_same (front f (Fenced_comes d b q v) k);
+  }
+  fenced_comes d b q v h (Take_back j) = at_only (λ n ys. Leads f (Fenced_comes d b q v) (from_back f (shape f (Fenced_comes d b q v)) n ys) []) f.home j (Fenced ∷ []) (record {
+    next = Get_goes d b q v;
+    fits = h;
+    alike = record { sw = λ k. refl; sc = refl; cs = refl; to = λ k. refl; back = λ k. simp links; own = λ k _. refl; phase = refl; queue = refl; diverts = refl; done = refl };
+    early_is = simp orders;
+    late_is = simp orders;
+    longer = λ k _. front_same (front f (Fenced_comes d b q v) k);
+  }) (stays (Fenced_comes d b q v) h)
+  fenced_comes d b q [] h Take_sc = stays (Fenced_comes d b q []) h
+  fenced_comes d b q v h m = stays (Fenced_comes d b q v) h
+
+  pub get_goes : (d : List Ran) (b : ℕ → List Ran) (q v : List ℕ) → ((k : ℕ) → IsFront (b k) d) → (m : Move) → Leads f (Get_goes d b q v) (moved f (shape f (Get_goes d b q v)) m) (brings f m)
+  get_goes d b q v h (Arrive p) = record {
+    next = Get_goes d b q (v ++ p ∷ []);
+    fits = h;
+    alike = record { sw = λ k. refl; sc = simp links; cs = refl; to = λ k. refl; back = λ k. refl; own = λ k _. refl; phase = refl; queue = refl; diverts = refl; done = refl };
+    early_is = simp orders;
+    late_is = simp orders;
+    longer = λ k _. front_same (front f (Get_goes d b q v) k);
+  }
+  get_goes d b q (p ∷ v) h Take_sc = record {
+    next = Get_goes d b (q ++ p ∷ []) v;
+    fits = h;
+    alike = record { sw = λ k. refl; sc = refl; cs = refl; to = λ k. simp links; back = λ k. refl; own = λ k _. refl; phase = refl; queue = refl; diverts = refl; done = refl };
+    early_is = simp orders;
+    late_is = simp orders;
+    longer = λ k _. front_same (front f (Get_goes d b q v) k);
+  }
+  get_goes d b q v h (Take_to j) = at_only (λ n ys. Leads f (Get_goes d b q v) (from_to f (shape f (Get_goes d b q v)) n ys) []) f.home j (Get ∷ []) (record {
+    next = Chunks_come d b q v;
+    fits = h;
+    alike = record { sw = λ k. refl; sc = refl; cs = refl; to = λ k. simp links; back = λ k. rw (self f.home) refl; own = λ k _. rw (self f.home) (seen_more (k == f.home) d d (b k) (after f d) refl); phase = refl; queue = refl; diverts = refl; done = append-nil d };
+    early_is = simp orders;
+    late_is = simp orders;
+    longer = λ k _. front_same (front f (Get_goes d b q v) k);
+  }) (stays (Get_goes d b q v) h)
+  get_goes d b q [] h Take_sc = stays (Get_goes d b q []) h
+  get_goes d b q v h m = stays (Get_goes d b q v) h
+
+  -- links and records where a Sync has just gone out
+  pub sync_goes : (t : Bool) (c : Option R) → cond t (Sync c ∷ []) [] ≡ goes_to c (cond t Going Quiet)
+  sync_goes true c = refl
+  sync_goes false c = refl
+
+  pub none_comes : (t : Bool) → ◌≡◌ {A = List (Item R)} [] (comes_from (cond t Going Quiet))
+  none_comes true = refl
+  none_comes false = refl
+
+  -- a member other than this one has a Sync on its way
+  pub turns : {X : Type 0} (ms : List ℕ) (j k : ℕ) (new old : X) → has ms k ≡ true → cond (is_going (turn_of (without ms j) k)) old new ≡ cond (k == j) new old
+  turns ms j k new old h =
+      rw (has-without ms j k, h) (elim (k == j) as (λ t. cond (is_going (cond (true && not t) Going Quiet)) old new ≡ cond t new old) [ true ↦ refl | false ↦ refl ])
+
+  -- a Sync goes to one member at least
+  pub some_left : IsShare f → (j : ℕ) → (length (without f.members j) == 0) ≡ false
+  some_left is j =
+      let two = is.two in
+      let others = length-without f.members j is.apart in
+      grind (arith, nat_tests)
+
+  -- the controller waits for one answer at least
+  pub at_least_one : (s : Stage R) (x : View R) (phase : ℕ → Phase) (left : ℕ) (q : List ℕ) (to : ℕ → List (Item R)) → (left == 0) ≡ false → Leads f s (put_ctrl x (record (waits (phase left) q) { to = to })) [] → Leads f s (put_ctrl x (record (answers f phase left q) { to = to })) []
+  at_least_one s x phase left q to off h = subst (λ b. Leads f s (put_ctrl x (record (cond b (serve f q) (waits (phase left) q)) { to = to })) []) (sym off) h
+
+  chunks_arrive : IsShare f → (d : List Ran) (b : ℕ → List Ran) (q v : List ℕ) → ((k : ℕ) → IsFront (b k) d) → Leads f (Chunks_come d b q v) (from_back f (shape f (Chunks_come d b q v)) f.home (Chunks (after f d) ∷ [])) []
+  chunks_arrive is d b q v h =
+      let o = without f.members f.home in
+      at_least_one (Chunks_come d b q v) (record (shape f (Chunks_come d b q v)) { back = put (shape f (Chunks_come d b q v)).back f.home [] }) Setting (length o) q (sync_to o (after f d)) (some_left is f.home) (record {
+        next = Spreads true d [] b (after f d) (turn_of o) o (length o) q v;
+        fits = record {
+          gives = λ k _. rw (append-nil d) (over_front f.F (b k) d (h k));
+          fronts = λ k. front_more (b k) d [] (h k);
+          counts = counts_turns o;
+          some = some_left is f.home;
+          sent = turns_sent o;
+          lately = λ g. let off : is_going (turn_of o f.home) ≡ false = ap is_going (turn_self f.members f.home) in let never : true ≡ false = sym g ∙ off in cc;
+          inside = λ k e. in_without f.members f.home k e;
+          apart = distinct-without f.members f.home is.apart;
+        };
+        alike = record {
+          sw = λ k. refl;
+          sc = refl;
+          cs = refl;
+          to = λ k. sync_goes (has o k) (after f d);
+          back = λ k. simp links (none_comes (has o k));
+          own = λ k m. rw (append-nil d, turns f.members f.home k d (b k) m) refl;
+          phase = refl;
+          queue = refl;
+          diverts = refl;
+          done = sym (append-nil d);
+        };
+        early_is = simp orders;
+        late_is = simp orders;
+        longer = λ k m. rw (append-nil d, turns f.members f.home k d (b k) m) (front_same (cond (k == f.home) d (b k)));
+      })
+
+  pub chunks_come : IsShare f → (d : List Ran) (b : ℕ → List Ran) (q v : List ℕ) → ((k : ℕ) → IsFront (b k) d) → (m : Move) → Leads f (Chunks_come d b q v) (moved f (shape f (Chunks_come d b q v)) m) (brings f m)
+  chunks_come is d b q v h (Arrive p) = record {
+    next = Chunks_come d b q (v ++ p ∷ []);
+    fits = h;
+    alike = record { sw = λ k. refl; sc = simp links; cs = refl; to = λ k. refl; back = λ k. refl; own = λ k _. refl; phase = refl; queue = refl; diverts = refl; done = refl };
+    early_is = simp orders;
+    late_is = simp orders;
+    longer = λ k _. front_same (front f (Chunks_come d b q v) k);
+  }
+  chunks_come is d b q (p ∷ v) h Take_sc = record {
+    next = Chunks_come d b (q ++ p ∷ []) v;
+    fits = h;
+    alike = record { sw = λ k. refl; sc = refl; cs = refl; to = λ k. refl; back = λ k. refl; own = λ k _. refl; phase = refl; queue = refl; diverts = refl; done = refl };
+    early_is = simp orders;
+    late_is = simp orders;
+    longer = λ k _. front_same (front f (Chunks_come d b q v) k);
+  }
+  chunks_come is d b q v h (Take_back j) = at_only (λ n ys. Leads f (Chunks_come d b q v) (from_back f (shape f (Chunks_come d b q v)) n ys) []) f.home j (Chunks (after f d) ∷ []) (chunks_arrive is d b q v h) (stays (Chunks_come d b q v) h)
+  chunks_come is d b q [] h Take_sc = stays (Chunks_come d b q []) h
+  chunks_come is d b q v h m = stays (Chunks_come d b q v) h

@@ -1,0 +1,12 @@
+pub mod WhereAll
+pub mod Readings
+pub mod MovePlaces
+pub mod PlacesAll
+pub mod Fronts
+pub mod FrontSteps
+pub mod SeesMore
+pub mod EndAll
+pub mod EveryAll
+pub mod Starts
+pub mod UnderMoves
+pub mod FrontPackets

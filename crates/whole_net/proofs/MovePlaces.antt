@@ -1,0 +1,163 @@
+-- Of one unit in a world of moves: where an instance processes packets of it, it may do so (`May_process`), and its record is the fold of all that
+-- was done before.
+use Rattle.std.proofs.Common.{◌≡◌, ◌≢◌, ℕ, suc, Bool, true, false, Option, Some, None, List, [], ◌∷◌, refl, sym, ap, ◌∙◌, subst, arith}
+use Rattle.std.specs.Prelude.{◌==◌}
+use Rattle.unit_machine.proofs.Machine.{At_a, At_b, At_c, Where as Side, Steps, Ran, Part, Inst, Did, inst_does, Item, State, after}
+use Rattle.unit_machine.proofs.Lists.{firsts}
+use Rattle.unit_machine.proofs.Pairs.{Shown_by, By_sa, By_sb, By_sc, By_ca, By_cb, By_ac, By_bc, By_cc, By_cs, shown_by}
+use Rattle.unit_machine.proofs.Stages.{Stage, At_rest, shape}
+use Rattle.unit_machine.proofs.Seats.{Seat, Covered, Is_beside, Is_away, seat_shape}
+use Rattle.unit_machine.proofs.Between.{seat_at}
+use Rattle.unit_machine.proofs.Fresh.{still_ca, still_cb, still_ran, fresh_sa, fresh_sb, fresh_sc}
+use Rattle.unit_machine.proofs.Real.{Op}
+use Rattle.unit_machine.proofs.NetViews.{items}
+use Rattle.abstract_net.proofs.Net.{Msg, Sys, IsSys, I_did, Open, World, find_op, inst_step, seen}
+use Rattle.abstract_net.proofs.Holding.{Seeing, frame, Sees_node, node_at, place, Ctrl_is, Op_label, Holds}
+use Rattle.abstract_net.proofs.Ctrl.{each_found}
+use Rattle.abstract_net.proofs.Insts.{Inst_goes, does}
+use Rattle.abstract_net.proofs.InstMoves.{Moves_inst, Any, Streams_out, Puts_in}
+use Rattle.abstract_net.proofs.InstWorld.{num, label, step_at, here, is_src, is_dst, is_third, shown}
+use Rattle.abstract_net.proofs.Rest.{Rest, Global, none_mine, same_mine, done_u, same_done}
+use Rattle.abstract_net.proofs.Readings.{fold, fold_runs}
+use Rattle.abstract_net.proofs.Units.{Where, Where.At_rest, Where.In_move, shown_rest, see}
+use Rattle.abstract_net.proofs.Fresh.{some_seen}
+use Rattle.abstract_net.proofs.Places.{May_process, At_target, At_source, At_destination}
+use Rattle.nf_function.specs.declared.unit.Unit as units
+use Rattle.nf_msgs.specs.declared.answer.Answer.{Answer}
+
+falsely : {Y : Type 0} → false ≡ true → Y
+falsely e = cc
+
+cons_nil : {X Y : Type 0} {x : X} {xs : List X} → [] ≡ x ∷ xs → Y
+cons_nil e = cc
+
+-- the third link has something for a unit of the third instance alone
+sc_stage : {R : Type 0} (F : Steps R) (s : Stage F) → (shape F s).sc ≡ []
+sc_stage F (At_rest d l k) = refl
+sc_stage F s = refl
+
+third_target : {R : Type 0} (F : Steps R) (s : Seat F) (it : Item R) (v : List (Item R)) → (seat_shape F s).sc ≡ it ∷ v → (seat_shape F s).target ≡ At_c
+third_target F (Covered s) it v e = cons_nil (sym (sc_stage F s) ∙ e)
+third_target F (Is_beside s) it v e = cons_nil (sym (sc_stage F s.base) ∙ e)
+third_target F (Is_away s) it v e = refl
+
+module _ {R : Type 0} (S : Sys R) (laws : IsSys S) (z : Seeing) (w : World S) (s : Seat S.F) (h : Holds S z w (seat_shape S.F s)) (p y : ℕ) (m : Msg R) (rest : List (Msg R)) (y0 : (y == 0) ≡ false) (y1 : (y == 1) ≡ false) (waits : w.link p y ≡ m ∷ rest) (some : none_mine S z.unit (inst_step S (w.inst y) m).ran ≢ []) where
+  abbrev x : State R
+  x = seat_shape S.F s
+
+  abbrev did : I_did S
+  did = inst_step S (w.inst y) m
+
+  abbrev own : (z.op.num == z.op.num) ≡ true
+  own = num S laws z w s h p y m rest y0 y1 waits
+
+  -- the machine's instance processes something, with the flags that it takes
+  record Ran_so (side : Side) (k : Inst R) (it : Item R) : Type 0 where
+    parts : List (Part R)
+    refuse : Option Answer
+    runs : (inst_does S.F side parts refuse k it).ran ≢ []
+
+  not_none : (d : Did R) → Inst_goes S laws z own did d → d.ran ≢ []
+  not_none d g none = some (same_mine S z did.ran ∙ g.ran ∙ ap firsts none)
+
+  by_flags : (side : Side) (k : Inst R) (it : Item R) (o : Option (Item R)) (n : Sees_node S z (w.inst y) k) → Moves_inst S laws z own side (w.inst y) k n did o → o ≡ Some it → Ran_so side k it
+  by_flags side k it o n (Any f) is = record { parts = []; refuse = None; runs = not_none (inst_does S.F side [] None k it) (subst (λ v. Inst_goes S laws z own did (does S laws z own side [] None k v)) is (f [] None)) }
+  by_flags side k it o n (Streams_out parts fits _ f) is = record { parts = parts; refuse = None; runs = not_none (inst_does S.F side parts None k it) (subst (λ v. Inst_goes S laws z own did (does S laws z own side parts None k v)) is (f None)) }
+  by_flags side k it o n (Puts_in refuse part first _ f) is = record { parts = []; refuse = refuse; runs = not_none (inst_does S.F side [] refuse k it) (subst (λ v. Inst_goes S laws z own did (does S laws z own side [] refuse k v)) is (f [])) }
+
+  module _ (it : Item R) (is : seen (frame S z) m ≡ Some it) where
+    abbrev left : List (Item R)
+    left = items (seen (frame S z)) rest
+
+    its_ran : (side : Side) (k : Inst R) → node_at S z x y ≡ k → Ran_so side k it
+    its_ran side k at =
+        let n = subst (λ q. Sees_node S z (w.inst y) q) at (here S laws z w s h p y m rest y0 y1 waits) in
+        by_flags side k it (seen (frame S z) m) n (step_at S laws z w s h p y m rest y0 y1 waits side k n m (label S laws z w s h p y m rest y0 y1 waits)) is
+
+    by_link : Shown_by z.op.src z.op.dst z.third x p y (it ∷ left) → (node_at S z x y).live ≡ after S.F x.done
+    by_link (By_sa ya p0 e) = let at = is_src S laws z w s h p y m rest y0 y1 waits it is ya in let g = its_ran At_a x.a at in ap (λ k. k.live) at ∙ fresh_sa S.F s it left g.parts g.refuse e g.runs
+    by_link (By_sb yb p0 e) = let at = is_dst S laws z w s h p y m rest y0 y1 waits it is yb in let g = its_ran At_b x.b at in ap (λ k. k.live) at ∙ fresh_sb S.F s it left g.parts g.refuse e g.runs
+    by_link (By_sc yc p0 e) = let at = is_third S laws z w s h p y m rest y0 y1 waits it is yc in ap (λ k. k.live) at ∙ fresh_sc S.F s it left e
+    by_link (By_ca ya p1 e) = let g = its_ran At_a x.a (is_src S laws z w s h p y m rest y0 y1 waits it is ya) in absurd (g.runs (still_ran S.F At_a g.parts g.refuse x.a it (still_ca S.F s it left e)))
+    by_link (By_cb yb p1 e) = let g = its_ran At_b x.b (is_dst S laws z w s h p y m rest y0 y1 waits it is yb) in absurd (g.runs (still_ran S.F At_b g.parts g.refuse x.b it (still_cb S.F s it left e)))
+    by_link (By_ac e _ _) = falsely (sym y1 ∙ ap (λ q. q == 1) e)
+    by_link (By_bc e _ _) = falsely (sym y1 ∙ ap (λ q. q == 1) e)
+    by_link (By_cc e _ _) = falsely (sym y1 ∙ ap (λ q. q == 1) e)
+    by_link (By_cs e _ _) = falsely (sym y0 ∙ ap (λ q. q == 0) e)
+
+  -- the link that shows the message, and the record of the instance that takes it
+  pub record Met : Type 0 where
+    pub item : Item R
+    pub left_there : List (Item R)
+    pub link : Shown_by z.op.src z.op.dst z.third x p y (item ∷ left_there)
+    pub live : S.B.at z.unit (w.inst y).live ≡ fold S.F None (done_u S z.unit w.done)
+
+  pub met : Met
+  met =
+      let i = some_seen S laws z w s h p y m rest y0 y1 waits some in
+      let link = shown_by z.op.src z.op.dst z.third h.nodes x p y i.0 (items (seen (frame S z)) rest) (shown S laws z w s h p y m rest y0 y1 waits i.0 i.1) in
+      record {
+        item = i.0;
+        left_there = items (seen (frame S z)) rest;
+        link = link;
+        live = (h.insts y).live ∙ by_link i.0 i.1 link ∙ fold_runs S.F None x.done ∙ ap (λ d. fold S.F None d) (sym (same_done S z w.done ∙ h.done));
+      }
+
+module _ {R : Type 0} (S : Sys R) (laws : IsSys S) (u : units.Unit) (w : World S) where
+  pub record Processed (y : ℕ) : Type 0 where
+    pub place : May_process S w u y
+    pub live : S.B.at u (w.inst y).live ≡ fold S.F None (done_u S u w.done)
+
+  module _ (p y : ℕ) (m : Msg R) (rest : List (Msg R)) (y0 : (y == 0) ≡ false) (y1 : (y == 1) ≡ false) (waits : w.link p y ≡ m ∷ rest) (some : none_mine S u (inst_step S (w.inst y) m).ran ≢ []) where
+    -- at a side of an open move, or at the third instance, where the unit's packets go
+    in_move : (op : Op) (third : ℕ) (e : Open R) (s : Seat S.F) → find_op w.ops op.num ≡ Some e → Holds S (see S laws u op third) w (seat_shape S.F s) → (it : Item R) (v : List (Item R)) → Shown_by op.src op.dst third (seat_shape S.F s) p y (it ∷ v) → May_process S w u y
+    in_move op third e s there h it v link = by_link link
+      where
+        z : Seeing
+        z = see S laws u op third
+
+        found : Op_label S (see S laws u op third) e × ((e.op.num == op.num) ≡ true)
+        found = each_found (Op_label S (see S laws u op third)) op.num w.ops e h.ops there
+
+        takes : S.takes e.filter u ≡ true
+        takes = found.0.0 ∙ found.1
+
+        same : e.op ≡ op
+        same = (subst (λ f. Ctrl_is S (see S laws u op third) f (seat_shape S.F s)) there h.ctrl).0
+
+        source : y ≡ op.src → May_process S w u y
+        source at = At_source op.num e there takes (at ∙ ap (λ o. o.src) (sym same))
+
+        destination : y ≡ op.dst → May_process S w u y
+        destination at = At_destination op.num e there takes (at ∙ ap (λ o. o.dst) (sym same))
+
+        by_link : Shown_by op.src op.dst third (seat_shape S.F s) p y (it ∷ v) → May_process S w u y
+        by_link (By_sa at p0 e) = source at
+        by_link (By_sb at p0 e) = destination at
+        by_link (By_sc at p0 e) = At_target (h.target ∙ ap (place S (see S laws u op third)) (third_target S.F s it v e) ∙ sym at)
+        by_link (By_ca at p1 e) = source at
+        by_link (By_cb at p1 e) = destination at
+        by_link (By_ac e _ _) = falsely (sym y1 ∙ ap (λ q. q == 1) e)
+        by_link (By_bc e _ _) = falsely (sym y1 ∙ ap (λ q. q == 1) e)
+        by_link (By_cc e _ _) = falsely (sym y1 ∙ ap (λ q. q == 1) e)
+        by_link (By_cs e _ _) = falsely (sym y0 ∙ ap (λ q. q == 0) e)
+
+    at_rest : (owner : ℕ) (d : List Ran) (l : List ℕ) → Rest S u w owner d l → (it : Item R) (v : List (Item R)) → Shown_by owner (suc owner) (suc (suc owner)) (seat_shape S.F (seat_at S.F At_a d l true)) p y (it ∷ v) → May_process S w u y
+    at_rest owner d l h it v (By_sa at p0 e) = At_target (h.target ∙ sym at)
+    at_rest owner d l h it v (By_sb at p0 e) = cons_nil e
+    at_rest owner d l h it v (By_sc at p0 e) = cons_nil e
+    at_rest owner d l h it v (By_ca at p1 e) = cons_nil e
+    at_rest owner d l h it v (By_cb at p1 e) = cons_nil e
+    at_rest owner d l h it v (By_ac e _ _) = falsely (sym y1 ∙ ap (λ q. q == 1) e)
+    at_rest owner d l h it v (By_bc e _ _) = falsely (sym y1 ∙ ap (λ q. q == 1) e)
+    at_rest owner d l h it v (By_cc e _ _) = falsely (sym y1 ∙ ap (λ q. q == 1) e)
+    at_rest owner d l h it v (By_cs e _ _) = falsely (sym y0 ∙ ap (λ q. q == 0) e)
+
+    pub processed_where : (ps : List ℕ) (c : Bool) → Global S w → Where S laws u w ps c → Processed y
+    processed_where ps c g (At_rest owner d l b h o f) =
+        let op : Op = record { num = w.next; src = owner; dst = suc owner; keep = true } in
+        let k = met S laws (see S laws u op (suc (suc owner))) w (seat_at S.F At_a d l true) (shown_rest S laws u w w.next owner d l g (omega arith) h) p y m rest y0 y1 waits some in
+        record { place = at_rest owner d l h k.item k.left_there k.link; live = k.live }
+    processed_where ps c g (In_move op third e s b there h o f c') =
+        let k = met S laws (see S laws u op third) w s h p y m rest y0 y1 waits some in
+        record { place = in_move op third e s there h k.item k.left_there k.link; live = k.live }
