@@ -1,16 +1,17 @@
 ghost use Rattle.std.specs.Prelude.{◌≡◌, All, IfOk};
 ghost use Rattle.nf_function.specs.declared.kind.Kind.TheVariants.{Conntrack as OfFlows};
 ghost use Rattle.nf_msgs.specs.declared.command.Order.{Order as AnOrder};
-ghost use Rattle.nf_net.specs.Input.{IsBuilt, IsInput, IsWhole};
-ghost use Rattle.nf_net.specs.Start.{IsConfig};
+ghost use Rattle.net_world.specs.Input.{IsBuilt, IsInput, IsWhole};
+ghost use Rattle.net_world.specs.Start.{IsConfig};
 
 use crate::move_tests::{CASE, Case, asked, came, config, told};
 use actor_net::{Schedule, World};
 use basics::{Boxed, NoMemory, Text};
 use conn_tracker::Conntrack;
 use flow_filter::{Filter, Name};
+use net_world::{Config, Node};
 use nf_msgs::{Command, Msg, Order};
-use nf_net::{Config, Node, simulate};
+use nf_net::simulate;
 use std::alloc::Global;
 use std::test::Fail;
 

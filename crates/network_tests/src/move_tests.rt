@@ -3,8 +3,8 @@ ghost use Rattle.flow_filter.specs.declared.packet.Packet.{Packet as APacket};
 ghost use Rattle.flow_filter.specs.Filter.{IsFlow};
 ghost use Rattle.nf_function.specs.declared.kind.Kind.TheVariants.{Conntrack as OfFlows, Monitor as OfHosts};
 ghost use Rattle.nf_msgs.specs.declared.command.Order.{Order as AnOrder};
-ghost use Rattle.nf_net.specs.Input.{IsBuilt, IsInput, IsSteered, IsWhole};
-ghost use Rattle.nf_net.specs.Start.{IsConfig};
+ghost use Rattle.net_world.specs.Input.{IsBuilt, IsInput, IsSteered, IsWhole};
+ghost use Rattle.net_world.specs.Start.{IsConfig};
 
 use actor_net::{Choice, ReplayFault, Schedule, World};
 use asset_monitor::Monitor;
@@ -13,9 +13,10 @@ use conn_tracker::Conntrack;
 use flow_filter::{
     CapturedPacket, Filter, Flow, Name, Packet, Prefix, Sequence, Site, UDP, flow_of,
 };
+use net_world::{Config, Node, start};
 use nf_function::{Function, Units};
 use nf_msgs::{Command, Msg, Names, Note, Order, print_answer};
-use nf_net::{Config, Node, run_choices, simulate, start};
+use nf_net::{run_choices, simulate};
 use record_table::Table;
 use std::alloc::Global;
 use std::test::Fail;

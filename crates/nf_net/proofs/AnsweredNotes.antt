@@ -39,11 +39,11 @@ use Rattle.nf_msgs.specs.declared.command.Order.TheVariants as order
 use Rattle.nf_msgs.specs.Shown.{op_of}
 use Rattle.actor_net.specs.Network.{Stepped}
 use Rattle.unit_machine.proofs.Labels.{Each}
-use Rattle.nf_net.specs.declared.config.Config.{Config}
-use Rattle.nf_net.specs.Input.{packet_of}
-use Rattle.nf_net.specs.Log.{done}
-use Rattle.nf_net.proofs.InstanceOutline.{IsGenuine}
-use Rattle.nf_net.proofs.Joined.{is_unshared}
+use Rattle.net_world.specs.declared.config.Config.{Config}
+use Rattle.net_world.specs.Input.{packet_of}
+use Rattle.net_world.specs.Log.{done}
+use Rattle.outline_net.proofs.InstanceOutline.{IsGenuine}
+use Rattle.joined_net.proofs.Joined.{is_unshared}
 use Rattle.nf_net.proofs.OutputLemmas.{Answered, answered_nothing, answered_packet}
 
 -- the live record of each unit

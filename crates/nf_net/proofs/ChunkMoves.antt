@@ -27,24 +27,24 @@ use Rattle.unit_machine.proofs.Given.{third_silent}
 use Rattle.abstract_net.proofs.Ctrl.{each_found}
 use Rattle.abstract_net.proofs.Holding.{Op_label}
 use Rattle.abstract_net.proofs.Units.{see}
-use Rattle.nf_net.specs.declared.config.Config.{Config}
-use Rattle.nf_net.specs.declared.node.Node.{Node}
-use Rattle.nf_net.specs.declared.node.Node.TheVariants.{Switch}
-use Rattle.nf_net.specs.Input.{IsInput}
-use Rattle.nf_net.specs.Path.{all_of, on_links}
-use Rattle.nf_net.specs.Places.{IsMoving}
-use Rattle.nf_net.specs.Records.{chunks_in, kept_in, kept_for, kept_by, is_chunk_of, spelled_of, chunks_on_way, IsOfMove}
-use Rattle.nf_net.proofs.ChunkLemmas.{all_chunks, spelled_more}
-use Rattle.nf_net.proofs.ChunkPlaces.{good_pieces, free_pieces, none_on_way}
-use Rattle.nf_net.proofs.MovesUnderWay.{AreUnderWay}
-use Rattle.nf_net.proofs.MoveOutline.{IsChunk}
-use Rattle.nf_net.proofs.Outline.{is_sys}
-use Rattle.nf_net.proofs.PathNodes.{each_entry}
-use Rattle.nf_net.proofs.PathSeats.{labels, loop_is, Seated, seated, HasSides, Are_there, Rests}
-use Rattle.nf_net.proofs.PathSums.{each_place, each_link}
+use Rattle.net_world.specs.declared.config.Config.{Config}
+use Rattle.net_world.specs.declared.node.Node.{Node}
+use Rattle.net_world.specs.declared.node.Node.TheVariants.{Switch}
+use Rattle.net_world.specs.Input.{IsInput}
+use Rattle.net_world.specs.Path.{all_of, on_links}
+use Rattle.net_world.specs.Places.{IsMoving}
+use Rattle.net_world.specs.Records.{chunks_in, kept_in, kept_for, kept_by, is_chunk_of, spelled_of, chunks_on_way, IsOfMove}
+use Rattle.path_net.proofs.ChunkLemmas.{all_chunks, spelled_more}
+use Rattle.path_net.proofs.ChunkPlaces.{good_pieces, free_pieces, none_on_way}
+use Rattle.answer_net.proofs.MovesUnderWay.{AreUnderWay}
+use Rattle.outline_net.proofs.MoveOutline.{IsChunk}
+use Rattle.outline_net.proofs.Outline.{is_sys}
+use Rattle.path_net.proofs.PathNodes.{each_entry}
+use Rattle.path_net.proofs.PathSeats.{labels, loop_is, Seated, seated, HasSides, Are_there, Rests}
+use Rattle.path_net.proofs.PathSums.{each_place, each_link}
 use Rattle.nf_net.proofs.PlaceSteps.{open_at}
-use Rattle.nf_net.proofs.StartJoined.{given}
-use Rattle.nf_net.proofs.Joined.{Given, S, place, Label, AreGoodChunks, HasPieces, Joined, node_of}
+use Rattle.joined_net.proofs.StartJoined.{given}
+use Rattle.joined_net.proofs.Joined.{Given, S, place, Label, AreGoodChunks, HasPieces, Joined, node_of}
 
 all_from : {X : Type 0} (P : X → Type 0) (xs : List X) → Each P xs → All P xs
 all_from P [] h k d small = absurd (omega (arith, small))

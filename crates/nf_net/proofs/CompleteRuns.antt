@@ -36,28 +36,29 @@ use Rattle.abstract_net.proofs.Net.{Open, find_op}
 use Rattle.abstract_net.proofs.Readings as readings
 use Rattle.abstract_net.proofs.Readings.{exact_of, fold_runs, not_both}
 use Rattle.abstract_net.proofs.AtEnd.{At_end, at_end}
-use Rattle.nf_net.specs.declared.config.Config.{Config}
-use Rattle.nf_net.specs.declared.node.Node.{Node}
-use Rattle.nf_net.specs.declared.node.Node.TheVariants.{Instance}
-use Rattle.nf_net.specs.Input.{packets, packet_of, order_of, ends_last, IsInput}
-use Rattle.nf_net.specs.Commands.{answers_of, times_installed}
-use Rattle.nf_net.specs.Log.{arrived, those}
-use Rattle.nf_net.specs.Places.{is_loose}
-use Rattle.nf_net.specs.Nodes.{node_step, node_ready, node_ended}
-use Rattle.nf_net.specs.Promises.{times, is_of, fold, came, went, Completed}
-use Rattle.nf_net.specs.Records.{live_in, live_at}
-use Rattle.nf_net.specs.Start.{started}
-use Rattle.nf_net.proofs.ArrivalLemmas.{numbers, runs_joined}
-use Rattle.nf_net.proofs.CommandPromises.{run_busy}
-use Rattle.nf_net.proofs.ControlOutline.{Sees}
-use Rattle.nf_net.proofs.InstallRuns.{run_installs, done_installed}
-use Rattle.nf_net.proofs.InstallSteps.{is_moving}
-use Rattle.nf_net.proofs.Outline.{is_sys}
-use Rattle.nf_net.proofs.Joined.{Given, GenuinePacket, S, shown, place, Joined}
-use Rattle.nf_net.proofs.RecordPromises.{instance_of}
-use Rattle.nf_net.proofs.RunsJoined.{done_same, same_times, start_world}
-use Rattle.nf_net.proofs.StartJoined.{given, all_fit, count_at_start, genuine}
-use Rattle.nf_net.proofs.ToldCommands.{each_answered}
+use Rattle.net_world.specs.declared.config.Config.{Config}
+use Rattle.net_world.specs.declared.node.Node.{Node}
+use Rattle.net_world.specs.declared.node.Node.TheVariants.{Instance}
+use Rattle.net_world.specs.Input.{packets, packet_of, order_of, ends_last, IsInput}
+use Rattle.net_world.specs.Commands.{answers_of, times_installed}
+use Rattle.net_world.specs.Log.{arrived, those}
+use Rattle.net_world.specs.Places.{is_loose}
+use Rattle.net_world.specs.Nodes.{node_step, node_ready, node_ended}
+use Rattle.net_world.specs.Fold.{times, is_of, fold, came, went}
+use Rattle.nf_net.specs.Promises.{Completed}
+use Rattle.net_world.specs.Records.{live_in, live_at}
+use Rattle.net_world.specs.Start.{started}
+use Rattle.answer_net.proofs.ArrivalLemmas.{numbers, runs_joined}
+use Rattle.answer_net.proofs.CommandPromises.{run_busy}
+use Rattle.outline_net.proofs.ControlOutline.{Sees}
+use Rattle.answer_net.proofs.InstallRuns.{run_installs, done_installed}
+use Rattle.answer_net.proofs.InstallSteps.{is_moving}
+use Rattle.outline_net.proofs.Outline.{is_sys}
+use Rattle.joined_net.proofs.Joined.{Given, GenuinePacket, S, shown, place, Joined}
+use Rattle.path_net.proofs.RecordPromises.{instance_of}
+use Rattle.joined_net.proofs.RunsJoined.{done_same, same_times, start_world}
+use Rattle.joined_net.proofs.StartJoined.{given, all_fit, count_at_start, genuine}
+use Rattle.answer_net.proofs.ToldCommands.{each_answered}
 
 -- a list in which nothing is
 none_in : (xs : List ℕ) → ((p : ℕ) → stages.times p xs ≡ 0) → xs ≡ []

@@ -12,36 +12,36 @@ use Rattle.actor_net.specs.declared.replays.ReplayFault.TheVariants.{NoMemory}
 use Rattle.actor_net.specs.Replays.{replayed}
 use Rattle.actor_net.proofs.ReplayLaws.{replayed_ok}
 use Rattle.actor_net.specs.Schedules.{StopsShort}
-use Rattle.nf_net.specs.Runs.{LeadsTo, chosen, EndsIn, StopsAt}
+use Rattle.net_world.specs.Runs.{LeadsTo, chosen, EndsIn, StopsAt}
 use Rattle.actor_net.specs.Network.{Network, IsRun, is_done, run}
-use Rattle.nf_net.specs.declared.config.Config.{Config}
-use Rattle.nf_net.specs.declared.node.Node.{Node}
-use Rattle.nf_net.specs.Input.{IsInput}
-use Rattle.nf_net.specs.Nodes.{node_step, node_ready, node_ended}
+use Rattle.net_world.specs.declared.config.Config.{Config}
+use Rattle.net_world.specs.declared.node.Node.{Node}
+use Rattle.net_world.specs.Input.{IsInput}
+use Rattle.net_world.specs.Nodes.{node_step, node_ready, node_ended}
 use Rattle.nf_net.specs.Promises.{Promises, Completed}
-use Rattle.nf_net.specs.Standby.{Standbys}
-use Rattle.nf_net.specs.Start.{started}
-use Rattle.nf_net.specs.Verdicts.{Verdicts}
-use Rattle.nf_net.specs.Window.{AllHome}
-use Rattle.nf_net.proofs.ArrivalLemmas.{arrivals_run}
+use Rattle.nf_net.specs.Promises.{Standbys}
+use Rattle.net_world.specs.Start.{started}
+use Rattle.nf_net.specs.Promises.{Verdicts}
+use Rattle.net_world.specs.Window.{AllHome}
+use Rattle.answer_net.proofs.ArrivalLemmas.{arrivals_run}
 use Rattle.nf_net.proofs.ChunkMoves.{chunks_moved}
 use Rattle.nf_net.proofs.CompleteRuns.{complete_run, fold_is}
 use Rattle.nf_net.proofs.OutputSteps.{outputs_run}
 use Rattle.nf_net.proofs.LiveRecords.{live_folds}
-use Rattle.nf_net.proofs.RecordPromises.{one_place}
-use Rattle.nf_net.proofs.CommandPromises.{run_answers, no_rules}
+use Rattle.path_net.proofs.RecordPromises.{one_place}
+use Rattle.answer_net.proofs.CommandPromises.{run_answers, no_rules}
 use Rattle.nf_net.proofs.JudgedRuns.{verdicts}
-use Rattle.nf_net.proofs.MovesUnderWay.{moves_under_way}
-use Rattle.nf_net.proofs.PathPromises.{in_place, each_in_place, came_once}
+use Rattle.answer_net.proofs.MovesUnderWay.{moves_under_way}
+use Rattle.path_net.proofs.PathPromises.{in_place, each_in_place, came_once}
 use Rattle.nf_net.proofs.PlaceRuns.{places}
 use Rattle.nf_net.proofs.RecordStands.{record_stands}
 use Rattle.nf_net.proofs.SettleRuns.{settles}
 use Rattle.nf_net.proofs.SourceRuns.{stays_at_source}
 use Rattle.nf_net.proofs.StandbyRuns.{standbys}
 use Rattle.nf_net.proofs.WindowRuns.{window_kept, all_home}
-use Rattle.nf_net.proofs.StartJoined.{count_at_start}
+use Rattle.joined_net.proofs.StartJoined.{count_at_start}
 use Rattle.actor_net.proofs.RunInduction.{run_world}
-use Rattle.nf_net.proofs.RunsJoined.{run_joined, start_world, in_order, once}
+use Rattle.joined_net.proofs.RunsJoined.{run_joined, start_world, in_order, once}
 
 module _ (F : Type 0) {R : Type 0} (f : Semantics R) (laws : FunctionLaws f) (alloc : Global) (c : Config) (items : List Msg) (is : IsInput f.kind c items) (cs : List Choice) where
   abbrev w : Network (Node F R) Msg Note

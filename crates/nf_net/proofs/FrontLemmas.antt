@@ -12,10 +12,10 @@ use Rattle.nf_function.specs.Records.{is_newer, newest, Laws as FunctionLaws}
 use Rattle.nf_function.specs.Semantics.{Semantics, packets_in}
 use Rattle.record_table.specs.Table.{either}
 use Rattle.nf_msgs.specs.declared.msg.Msg.{Msg}
-use Rattle.nf_net.specs.declared.config.Config.{Config}
-use Rattle.nf_net.specs.Input.{packet_of, most_counted, IsInput}
-use Rattle.nf_net.specs.Promises.{IsFront, fold}
-use Rattle.nf_net.proofs.StartJoined.{all_fit}
+use Rattle.net_world.specs.declared.config.Config.{Config}
+use Rattle.net_world.specs.Input.{packet_of, most_counted, IsInput}
+use Rattle.net_world.specs.Fold.{IsFront, fold}
+use Rattle.joined_net.proofs.StartJoined.{all_fit}
 
 -- Fronts.
 pub front_same : (xs : List ℕ) → IsFront xs xs

@@ -25,11 +25,11 @@ use Rattle.instance_worker.specs.declared.pieces.Whole.{Whole}
 use Rattle.instance_worker.specs.Pieces.{newest_version, piece_of, cut, whole_of, pieces}
 use Rattle.unit_machine.proofs.Labels.{Each}
 use Rattle.unit_machine.proofs.Real.{Chunks}
-use Rattle.nf_net.specs.declared.config.Config.{Config}
-use Rattle.nf_net.specs.Input.{packet_of}
-use Rattle.nf_net.specs.Promises.{fold}
-use Rattle.nf_net.proofs.Outline.{newest_in}
-use Rattle.nf_net.proofs.StateOutline.{newest_made}
+use Rattle.net_world.specs.declared.config.Config.{Config}
+use Rattle.net_world.specs.Input.{packet_of}
+use Rattle.net_world.specs.Fold.{fold}
+use Rattle.outline_net.proofs.Outline.{newest_in}
+use Rattle.outline_net.proofs.StateOutline.{newest_made}
 
 -- what each piece says of all
 abbrev pub IsOf : Whole → Piece → Type 0

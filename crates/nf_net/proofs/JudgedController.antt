@@ -30,18 +30,18 @@ use Rattle.ctrl_node.specs.Operations.{OpenOperations, turn_of, moved}
 use Rattle.ctrl_node.specs.Controller as controller
 use Rattle.ctrl_node.specs.Controller.{ControllerState, Step, still, refusal, place_of, begins_between, copies_between, begins, decided, on_asked, after_turn, takes_turn, handed, numbered, on_event, on_final, instance_at, unknown_name, overlap, may_finish, finished, controller_step}
 use Rattle.actor_net.proofs.WeightLaws.{EachSent, sent_weight}
-use Rattle.nf_net.specs.Commands.{began}
-use Rattle.nf_net.specs.Verdicts.{is_refusal}
-use Rattle.nf_net.proofs.OperationTables.{got_insert, got_remove, gone_twice, not_shared, handed_is as handed_turn}
-use Rattle.nf_net.proofs.ControllerActs.{other_there}
+use Rattle.net_world.specs.Commands.{began}
+use Rattle.net_world.specs.Verdicts.{is_refusal}
+use Rattle.outline_net.proofs.OperationTables.{got_insert, got_remove, gone_twice, not_shared, handed_is as handed_turn}
+use Rattle.answer_net.proofs.ControllerActs.{other_there}
 use Rattle.nf_net.proofs.JudgedTables as tables
 use Rattle.nf_net.proofs.JudgedTables.{used, is_own, By_verdict, same_answer}
-use Rattle.nf_net.proofs.CopyTurns.{copy_turn}
-use Rattle.nf_net.proofs.KnownOperations.{NotSharing}
-use Rattle.nf_net.proofs.BusyLemmas.{began_same}
-use Rattle.nf_net.proofs.CreditCounts.{sent_weight-append}
+use Rattle.outline_net.proofs.CopyTurns.{copy_turn}
+use Rattle.joined_net.proofs.KnownOperations.{NotSharing}
+use Rattle.answer_net.proofs.BusyLemmas.{began_same}
+use Rattle.answer_net.proofs.CreditCounts.{sent_weight-append}
 use Rattle.nf_net.proofs.MoveJudged.{Said, Knows, answer_known, row_follows, sent-append}
-use Rattle.nf_net.proofs.MoveOnce.{once, spent, spent_few, NoneOnce, no_one, at_most, few_counts, row_spends}
+use Rattle.answer_net.proofs.MoveOnce.{once, spent, spent_few, NoneOnce, no_one, at_most, few_counts, row_spends}
 
 -- a refusal
 refused_is : (u : Option (List ℕ)) (q : Option ℕ) (a : Answer) → option_or (option_map Unknown u) (option_map Overlap q) ≡ Some a → is_refusal a ≡ true

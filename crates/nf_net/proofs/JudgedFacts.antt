@@ -21,14 +21,14 @@ use Rattle.actor_net.specs.declared.choice.Choice.{Choice}
 use Rattle.actor_net.specs.Network.{Network, run}
 use Rattle.actor_net.proofs.WeightLaws.{Each, OnLinks}
 use Rattle.unit_machine.proofs.Labels as labels
-use Rattle.nf_net.specs.declared.config.Config.{Config}
-use Rattle.nf_net.specs.declared.node.Node.{Node}
-use Rattle.nf_net.specs.Commands.{began}
-use Rattle.nf_net.specs.Input.{order_of}
-use Rattle.nf_net.specs.Nodes.{node_step}
-use Rattle.nf_net.specs.Verdicts.{Weighed, verdict, is_refusal, exported, before_export, is_timed, receiver_of, IsWeighed, IsTakenAfter}
+use Rattle.net_world.specs.declared.config.Config.{Config}
+use Rattle.net_world.specs.declared.node.Node.{Node}
+use Rattle.net_world.specs.Commands.{began}
+use Rattle.net_world.specs.Input.{order_of}
+use Rattle.net_world.specs.Nodes.{node_step}
+use Rattle.net_world.specs.Verdicts.{Weighed, verdict, is_refusal, exported, before_export, is_timed, receiver_of, IsWeighed, IsTakenAfter}
 use Rattle.nf_net.proofs.JudgedInstance.{answer_by}
-use Rattle.nf_net.proofs.LogLemmas.{has_begun-append}
+use Rattle.joined_net.proofs.LogLemmas.{has_begun-append}
 use Rattle.nf_net.proofs.MoveJudged.{Said, Knows}
 use Rattle.nf_net.proofs.VerdictLemmas.{exported_kept, before_export_kept, taken_more}
 use Rattle.move_op.specs.declared.door.Door.TheVariants as door

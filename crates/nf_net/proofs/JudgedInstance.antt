@@ -30,7 +30,7 @@ use Rattle.instance_worker.specs.declared.instance.Instance.{Instance}
 use Rattle.instance_worker.specs.Pieces.{pieces}
 use Rattle.instance_worker.specs.Instance.{Step, told, shared, and_then, tells, still, processed, all_processed, carried, on_carry, on_fence, on_get, on_stream, on_put, on_restore, on_standby, on_sync, on_put_all, tally_put, refusal, piece_put, where_good, instance_step, selected, chunk_told, with_count, table_after}
 use Rattle.nf_net.proofs.MoveJudged.{Said, sent-append}
-use Rattle.nf_net.proofs.MoveOnce.{counts}
+use Rattle.answer_net.proofs.MoveOnce.{counts}
 use Rattle.nf_net.proofs.VerdictLemmas.{times_given, times_given-append}
 
 -- the answer by a refusal, or by none

@@ -45,38 +45,38 @@ use Rattle.actor_net.proofs.StepOutcome.{Takes, taken_outcome}
 use Rattle.actor_net.proofs.WeightLaws.{EachSent, total_after, sent_weight}
 use Rattle.unit_machine.proofs.Labels.{Each}
 use Rattle.abstract_net.proofs.Readings as readings
-use Rattle.nf_net.specs.declared.config.Config.{Config}
-use Rattle.nf_net.specs.declared.node.Node.{Node}
-use Rattle.nf_net.specs.declared.node.Node.TheVariants.{Controller, Instance}
-use Rattle.nf_net.specs.Commands.{began, has_answered}
-use Rattle.nf_net.specs.Input.{IsInput}
-use Rattle.nf_net.specs.Nodes.{node_step, node_ready}
-use Rattle.nf_net.specs.Promises.{went, fold}
-use Rattle.nf_net.specs.Records.{live_in, live_at}
-use Rattle.nf_net.specs.Verdicts.{before_export, is_timed, exported, number_in, receiver_of}
-use Rattle.nf_net.proofs.BusyLemmas.{or_off}
-use Rattle.nf_net.proofs.BusyNodes.{switch_hands, instance_says}
-use Rattle.nf_net.proofs.BusyController.{told_in}
-use Rattle.nf_net.proofs.BusyOperations.{IsBusy}
-use Rattle.nf_net.proofs.BusyRuns.{Busy, same_controller, busy_is, plan_is}
-use Rattle.nf_net.proofs.CommandPromises.{run_busy}
+use Rattle.net_world.specs.declared.config.Config.{Config}
+use Rattle.net_world.specs.declared.node.Node.{Node}
+use Rattle.net_world.specs.declared.node.Node.TheVariants.{Controller, Instance}
+use Rattle.net_world.specs.Commands.{began, has_answered}
+use Rattle.net_world.specs.Input.{IsInput}
+use Rattle.net_world.specs.Nodes.{node_step, node_ready}
+use Rattle.net_world.specs.Fold.{went, fold}
+use Rattle.net_world.specs.Records.{live_in, live_at}
+use Rattle.net_world.specs.Verdicts.{before_export, is_timed, exported, number_in, receiver_of}
+use Rattle.answer_net.proofs.BusyLemmas.{or_off}
+use Rattle.answer_net.proofs.BusyNodes.{switch_hands, instance_says}
+use Rattle.answer_net.proofs.BusyController.{told_in}
+use Rattle.answer_net.proofs.BusyOperations.{IsBusy}
+use Rattle.answer_net.proofs.BusyRuns.{Busy, same_controller, busy_is, plan_is}
+use Rattle.answer_net.proofs.CommandPromises.{run_busy}
 use Rattle.nf_net.proofs.CompleteRuns.{fold_is}
 use Rattle.nf_net.proofs.GivenState.{IsOf, pieces_of, Gives, selected_give, record_timed}
-use Rattle.nf_net.proofs.Joined.{Given, Label, S, Joined, node_of}
-use Rattle.nf_net.proofs.KnownOperations.{not_sharing}
-use Rattle.nf_net.proofs.JoinedSteps.{label, step_leads}
+use Rattle.joined_net.proofs.Joined.{Given, Label, S, Joined, node_of}
+use Rattle.joined_net.proofs.KnownOperations.{not_sharing}
+use Rattle.joined_net.proofs.JoinedSteps.{label, step_leads}
 use Rattle.nf_net.proofs.JudgedController.{IsNew, controller_judges}
 use Rattle.nf_net.proofs.JudgedTables.{used, used_few, is_own, IsDue, By_verdict, By_copy}
 use Rattle.nf_net.proofs.JudgedFacts.{answer_is, IsCopied, IsFound, Was_refused, Was_judged, Was_copied, began_kept, knows_kept}
 use Rattle.nf_net.proofs.JudgedInstance.{answer_by, IsReady, instance_does}
 use Rattle.nf_net.proofs.JudgedSteps as steps
 use Rattle.nf_net.proofs.JudgedSteps.{Judging, Leaves, IsFixed, no_stream_to, none_once}
-use Rattle.nf_net.proofs.LinePicks.{at_controller as way_at_controller}
+use Rattle.answer_net.proofs.LinePicks.{at_controller as way_at_controller}
 use Rattle.nf_net.proofs.MoveJudged.{Said, Knows}
-use Rattle.nf_net.proofs.MoveOnce.{once}
-use Rattle.nf_net.proofs.RecordPromises.{record_is}
-use Rattle.nf_net.proofs.RunsJoined.{start_world, done_same}
-use Rattle.nf_net.proofs.StartJoined.{given, all_fit, count_at_start}
+use Rattle.answer_net.proofs.MoveOnce.{once}
+use Rattle.path_net.proofs.RecordPromises.{record_is}
+use Rattle.joined_net.proofs.RunsJoined.{start_world, done_same}
+use Rattle.joined_net.proofs.StartJoined.{given, all_fit, count_at_start}
 use Rattle.nf_net.proofs.VerdictLemmas.{times_given, none_exported, exported_new, before_export_new}
 
 -- The switch and the controller note nothing of state that is given.

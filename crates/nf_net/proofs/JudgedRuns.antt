@@ -25,25 +25,26 @@ use Rattle.unit_machine.proofs.Labels.{Each}
 use Rattle.ctrl_node.specs.declared.operation.Operation.{Operation}
 use Rattle.ctrl_node.specs.Controller.{opened as opened_controller}
 use Rattle.instance_worker.specs.declared.instance.Instance.{Instance as InstanceState}
-use Rattle.nf_net.specs.declared.config.Config.{Config}
-use Rattle.nf_net.specs.declared.node.Node.{Node}
-use Rattle.nf_net.specs.declared.node.Node.TheVariants.{Instance}
-use Rattle.nf_net.specs.Commands.{began, answers_of, before_first, IsCause, MayBegin}
-use Rattle.nf_net.specs.Input.{is_item, order_of, IsInput}
-use Rattle.nf_net.specs.Nodes.{node_step, node_ready}
-use Rattle.nf_net.specs.Start.{first_instance, first_nodes, started}
-use Rattle.nf_net.specs.Verdicts.{is_refusal, receiver_of, IsVerdict, Verdicts}
-use Rattle.nf_net.proofs.CommandPromises.{run_busy, run_answers}
-use Rattle.nf_net.proofs.Joined.{node_of}
+use Rattle.net_world.specs.declared.config.Config.{Config}
+use Rattle.net_world.specs.declared.node.Node.{Node}
+use Rattle.net_world.specs.declared.node.Node.TheVariants.{Instance}
+use Rattle.net_world.specs.Commands.{began, answers_of, before_first, IsCause, MayBegin}
+use Rattle.net_world.specs.Input.{is_item, order_of, IsInput}
+use Rattle.net_world.specs.Nodes.{node_step, node_ready}
+use Rattle.net_world.specs.Start.{first_instance, first_nodes, started}
+use Rattle.net_world.specs.Verdicts.{is_refusal, receiver_of, IsVerdict}
+use Rattle.nf_net.specs.Promises.{Verdicts}
+use Rattle.answer_net.proofs.CommandPromises.{run_busy, run_answers}
+use Rattle.joined_net.proofs.Joined.{node_of}
 use Rattle.nf_net.proofs.JudgedTables.{used, used_few}
 use Rattle.nf_net.proofs.JudgedFacts.{HasVerdict, IsFound, Was_refused, Was_judged, Was_copied}
 use Rattle.nf_net.proofs.JudgedNodes.{judging_next}
 use Rattle.nf_net.proofs.JudgedSteps.{Part, Verdict, Goes, Judging, SaidBy, happened}
 use Rattle.nf_net.proofs.MoveJudged.{Said}
-use Rattle.nf_net.proofs.MoveOnce.{once}
-use Rattle.nf_net.proofs.RunsJoined.{start_world}
-use Rattle.nf_net.proofs.StartJoined.{count_at_start, instance_found}
-use Rattle.nf_net.proofs.StateOutline.{all_each}
+use Rattle.answer_net.proofs.MoveOnce.{once}
+use Rattle.joined_net.proofs.RunsJoined.{start_world}
+use Rattle.joined_net.proofs.StartJoined.{count_at_start, instance_found}
+use Rattle.outline_net.proofs.StateOutline.{all_each}
 use Rattle.nf_net.proofs.VerdictLemmas.{once_taken, times_taken}
 
 -- An input says nothing of moves.

@@ -19,21 +19,21 @@ use Rattle.actor_net.proofs.EnabledChoices.{at}
 use Rattle.actor_net.proofs.StepOutcome.{Takes, Outcome, taken_outcome}
 use Rattle.actor_net.proofs.WeightLaws.{OnLinks, EachSent, on_links_after, total, total_after, sent_weight}
 use Rattle.unit_machine.proofs.Labels.{Each}
-use Rattle.nf_net.specs.declared.config.Config.{Config}
-use Rattle.nf_net.specs.declared.node.Node.{Node}
-use Rattle.nf_net.specs.declared.node.Node.TheVariants.{Controller, Instance}
-use Rattle.nf_net.specs.Commands.{began, answers_of}
-use Rattle.nf_net.specs.Input.{IsInput}
-use Rattle.nf_net.specs.Nodes.{node_step}
-use Rattle.nf_net.specs.Start.{started}
-use Rattle.nf_net.proofs.BusyLemmas.{AreOther, answers_of-append, none_answered, other_not_answered, other_not_begun, began_same}
+use Rattle.net_world.specs.declared.config.Config.{Config}
+use Rattle.net_world.specs.declared.node.Node.{Node}
+use Rattle.net_world.specs.declared.node.Node.TheVariants.{Controller, Instance}
+use Rattle.net_world.specs.Commands.{began, answers_of}
+use Rattle.net_world.specs.Input.{IsInput}
+use Rattle.net_world.specs.Nodes.{node_step}
+use Rattle.net_world.specs.Start.{started}
+use Rattle.answer_net.proofs.BusyLemmas.{AreOther, answers_of-append, none_answered, other_not_answered, other_not_begun, began_same}
 use Rattle.nf_net.proofs.JudgedTables.{used}
 use Rattle.nf_net.proofs.JudgedFacts.{IsPart, IsGoing, HasVerdict, IsFound, part_kept, verdict_kept, found_kept, said_kept, knows_kept, links_kept}
 use Rattle.nf_net.proofs.MoveJudged.{Said, Knows}
-use Rattle.nf_net.proofs.MoveOnce.{once, counts}
-use Rattle.nf_net.proofs.InstallCounts.{if_zero}
-use Rattle.nf_net.proofs.Joined.{Given, Label}
-use Rattle.nf_net.proofs.StartJoined.{given}
+use Rattle.answer_net.proofs.MoveOnce.{once, counts}
+use Rattle.answer_net.proofs.InstallCounts.{if_zero}
+use Rattle.joined_net.proofs.Joined.{Given, Label}
+use Rattle.joined_net.proofs.StartJoined.{given}
 use Rattle.nf_net.proofs.VerdictLemmas.{times_given, times_given-append, is_first_piece, times_taken, times_taken-append}
 
 -- a list that is two has its one element in the first or in the second

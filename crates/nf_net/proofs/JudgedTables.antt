@@ -20,15 +20,15 @@ use Rattle.ctrl_node.specs.Operations.{OpenOperations}
 use Rattle.ctrl_node.specs.Controller.{ControllerState, Step, still}
 use Rattle.actor_net.proofs.WeightLaws.{EachSent, sent_weight}
 use Rattle.unit_machine.proofs.Labels.{Each}
-use Rattle.nf_net.specs.Commands.{began, answers_of}
-use Rattle.nf_net.specs.Verdicts.{is_refusal}
-use Rattle.nf_net.proofs.OperationTables.{got_insert, got_remove}
-use Rattle.nf_net.proofs.ControllerActs.{other_there}
-use Rattle.nf_net.proofs.ControllerCopies.{NotMove}
-use Rattle.nf_net.proofs.CopyTurns.{CopyTurn, Idle, Hands, Hands_all, Ends, hands, ends}
-use Rattle.nf_net.proofs.BusyLemmas.{began_same}
+use Rattle.net_world.specs.Commands.{began, answers_of}
+use Rattle.net_world.specs.Verdicts.{is_refusal}
+use Rattle.outline_net.proofs.OperationTables.{got_insert, got_remove}
+use Rattle.answer_net.proofs.ControllerActs.{other_there}
+use Rattle.joined_net.proofs.ControllerCopies.{NotMove}
+use Rattle.outline_net.proofs.CopyTurns.{CopyTurn, Idle, Hands, Hands_all, Ends, hands, ends}
+use Rattle.answer_net.proofs.BusyLemmas.{began_same}
 use Rattle.nf_net.proofs.MoveJudged.{Said, Knows}
-use Rattle.nf_net.proofs.MoveOnce.{once, spent, spent_few, NoneOnce, no_one}
+use Rattle.answer_net.proofs.MoveOnce.{once, spent, spent_few, NoneOnce, no_one}
 
 -- a note of a command's begin or answer
 abbrev pub is_own : Note → Bool

@@ -19,12 +19,12 @@ use Rattle.unit_machine.proofs.Labels.{Each, each-append}
 use Rattle.abstract_net.proofs.Net.{Sys}
 use Rattle.abstract_net.proofs.Readings as readings
 use Rattle.abstract_net.proofs.Rest.{none_mine}
-use Rattle.nf_net.specs.declared.config.Config.{Config}
-use Rattle.nf_net.specs.Input.{packet_of}
-use Rattle.nf_net.specs.Log.{Done, done, done_of}
-use Rattle.nf_net.specs.Promises.{is_of, fold, outputs}
-use Rattle.nf_net.proofs.Outline.{number, ran_in, sys, is_sys}
-use Rattle.nf_net.proofs.InstanceOutline.{IsGenuine, after_same}
+use Rattle.net_world.specs.declared.config.Config.{Config}
+use Rattle.net_world.specs.Input.{packet_of}
+use Rattle.net_world.specs.Log.{Done, done, done_of}
+use Rattle.net_world.specs.Fold.{is_of, fold, outputs}
+use Rattle.outline_net.proofs.Outline.{number, ran_in, sys, is_sys}
+use Rattle.outline_net.proofs.InstanceOutline.{IsGenuine, after_same}
 
 -- a packet of TCP or UDP has the number
 abbrev pub IsCarried : List Msg → ℕ → Type 0

@@ -25,20 +25,20 @@ use Rattle.abstract_net.proofs.Net.{inst_step}
 use Rattle.abstract_net.proofs.Fresh.{fresh}
 use Rattle.abstract_net.proofs.Readings as readings
 use Rattle.abstract_net.proofs.Rest.{none_mine, done_u}
-use Rattle.nf_net.specs.declared.config.Config.{Config}
-use Rattle.nf_net.specs.declared.node.Node.{Node}
-use Rattle.nf_net.specs.Input.{packet_of, IsInput}
-use Rattle.nf_net.specs.Log.{Done, done, done_of}
-use Rattle.nf_net.specs.Nodes.{node_step, node_ready}
-use Rattle.nf_net.specs.Promises.{is_of, fold, outputs, went, given as given_of}
-use Rattle.nf_net.specs.Start.{first_nodes, started}
-use Rattle.nf_net.proofs.Outline.{number, ran_in, is_sys, outline_instance}
-use Rattle.nf_net.proofs.InstanceOutline.{carry_follows, pass_follows, fence_follows, held_genuine}
-use Rattle.nf_net.proofs.Joined.{Given, place, count, S, shown, by_node, node_of, Scene, AreShown, Joined, IsTaken}
-use Rattle.nf_net.proofs.JoinedSteps.{is_taken, joined_next}
-use Rattle.nf_net.proofs.LogLemmas.{done-append}
-use Rattle.nf_net.proofs.StartJoined.{all_fit, given, start_joined, count_at_start}
-use Rattle.nf_net.proofs.StartingLemmas.{few_nodes}
+use Rattle.net_world.specs.declared.config.Config.{Config}
+use Rattle.net_world.specs.declared.node.Node.{Node}
+use Rattle.net_world.specs.Input.{packet_of, IsInput}
+use Rattle.net_world.specs.Log.{Done, done, done_of}
+use Rattle.net_world.specs.Nodes.{node_step, node_ready}
+use Rattle.net_world.specs.Fold.{is_of, fold, outputs, went, given as given_of}
+use Rattle.net_world.specs.Start.{first_nodes, started}
+use Rattle.outline_net.proofs.Outline.{number, ran_in, is_sys, outline_instance}
+use Rattle.outline_net.proofs.InstanceOutline.{carry_follows, pass_follows, fence_follows, held_genuine}
+use Rattle.joined_net.proofs.Joined.{Given, place, count, S, shown, by_node, node_of, Scene, AreShown, Joined, IsTaken}
+use Rattle.joined_net.proofs.JoinedSteps.{is_taken, joined_next}
+use Rattle.joined_net.proofs.LogLemmas.{done-append}
+use Rattle.joined_net.proofs.StartJoined.{all_fit, given, start_joined, count_at_start}
+use Rattle.net_world.proofs.StartingLemmas.{few_nodes}
 use Rattle.nf_net.proofs.OutputLemmas.{IsCarried, numbers, Answered, answered_nothing, answered_more, answered_by, fold_is, numbers_ran}
 use Rattle.nf_net.proofs.AnsweredNotes.{live_of, carry_answered, fence_answered, instance_none, switch_none, controller_none}
 

@@ -9,14 +9,14 @@ use Rattle.record_table.proofs.UnitOrder.{same_unit_equiv}
 use Rattle.nf_msgs.specs.declared.msg.Msg.{Msg}
 use Rattle.nf_msgs.specs.declared.note.Note.{Note}
 use Rattle.actor_net.specs.Network.{Network}
-use Rattle.nf_net.specs.declared.config.Config.{Config}
-use Rattle.nf_net.specs.declared.node.Node.{Node}
-use Rattle.nf_net.specs.Input.{packet_of, IsInput}
-use Rattle.nf_net.specs.Log.{Done, arrived, done, those, done_of}
-use Rattle.nf_net.specs.Promises.{times, is_of, came, went}
-use Rattle.nf_net.proofs.StartJoined.{given}
-use Rattle.nf_net.proofs.Joined.{Joined}
-use Rattle.nf_net.proofs.RunsJoined.{once}
+use Rattle.net_world.specs.declared.config.Config.{Config}
+use Rattle.net_world.specs.declared.node.Node.{Node}
+use Rattle.net_world.specs.Input.{packet_of, IsInput}
+use Rattle.net_world.specs.Log.{Done, arrived, done, those, done_of}
+use Rattle.net_world.specs.Fold.{times, is_of, came, went}
+use Rattle.joined_net.proofs.StartJoined.{given}
+use Rattle.joined_net.proofs.Joined.{Joined}
+use Rattle.joined_net.proofs.RunsJoined.{once}
 
 -- a list without the first of these
 abbrev without : ℕ → List ℕ → List ℕ

@@ -14,20 +14,20 @@ use Rattle.actor_net.specs.Network.{Network, Stepped, IsRun, is_input, run, take
 use Rattle.actor_net.proofs.RunInduction.{Taking, run_induction}
 use Rattle.actor_net.proofs.StepOutcome.{Takes, taken_outcome}
 use Rattle.unit_machine.proofs.Labels.{Each}
-use Rattle.nf_net.specs.declared.config.Config.{Config}
-use Rattle.nf_net.specs.declared.node.Node.{Node}
-use Rattle.nf_net.specs.Input.{packet_of, IsInput}
-use Rattle.nf_net.specs.Nodes.{node_step, node_ready}
-use Rattle.nf_net.specs.Start.{started}
-use Rattle.nf_net.specs.Places.{IsPlace, ArePlaces}
-use Rattle.nf_net.proofs.StartJoined.{given, all_fit, count_at_start}
-use Rattle.nf_net.proofs.JoinedSteps.{scene, is_taken}
-use Rattle.nf_net.proofs.RunsJoined.{start_world, run_joined}
-use Rattle.nf_net.proofs.PlaceNotes.{is_unprocessed, AreUnprocessed, switch_unprocessed, is_uninstalled, controller_uninstalled}
-use Rattle.nf_net.proofs.OwnerLemmas.{Stands, In_first, In_second, stands, each_there}
+use Rattle.net_world.specs.declared.config.Config.{Config}
+use Rattle.net_world.specs.declared.node.Node.{Node}
+use Rattle.net_world.specs.Input.{packet_of, IsInput}
+use Rattle.net_world.specs.Nodes.{node_step, node_ready}
+use Rattle.net_world.specs.Start.{started}
+use Rattle.net_world.specs.Places.{IsPlace, ArePlaces}
+use Rattle.joined_net.proofs.StartJoined.{given, all_fit, count_at_start}
+use Rattle.joined_net.proofs.JoinedSteps.{scene, is_taken}
+use Rattle.joined_net.proofs.RunsJoined.{start_world, run_joined}
+use Rattle.joined_net.proofs.PlaceNotes.{is_unprocessed, AreUnprocessed, switch_unprocessed, is_uninstalled, controller_uninstalled}
+use Rattle.joined_net.proofs.OwnerLemmas.{Stands, In_first, In_second, stands, each_there}
 use Rattle.nf_net.proofs.PlaceSteps.{processed_place}
-use Rattle.nf_net.proofs.MovesUnderWay.{AreUnderWay, moves_under_way}
-use Rattle.nf_net.proofs.Joined.{Given, IsTaken, node_of, Joined}
+use Rattle.answer_net.proofs.MovesUnderWay.{AreUnderWay, moves_under_way}
+use Rattle.joined_net.proofs.Joined.{Given, IsTaken, node_of, Joined}
 
 pub processed_off : (front back : List Note) (number i : ℕ) (output : Output) (notes : List Note) → AreUnprocessed notes → notes ≡ front ++ note.Processed number i output ∷ back → ⊥
 processed_off front back number i output notes h e = let never : false ≡ true = each_there (λ n. is_unprocessed n ≡ true) front (note.Processed number i output) back (subst AreUnprocessed e h) in cc

@@ -26,20 +26,20 @@ use Rattle.unit_machine.proofs.Labels.{Each}
 use Rattle.abstract_net.proofs.Net.{Open, find_op, inst_step}
 use Rattle.abstract_net.proofs.Rest.{none_mine}
 use Rattle.abstract_net.proofs.Places.{May_process, At_target, At_source, At_destination, processed_at}
-use Rattle.nf_net.specs.declared.config.Config.{Config}
-use Rattle.nf_net.specs.declared.node.Node.{Node}
-use Rattle.nf_net.specs.Input.{packet_of, IsInput}
-use Rattle.nf_net.specs.Commands.{is_busy}
-use Rattle.nf_net.specs.Places.{owner, IsMoving, IsPlace, Owns, Is_source, Is_destination}
-use Rattle.nf_net.proofs.FiltersApart.{is_whole, unit_fits, takes_whole, and_r}
-use Rattle.nf_net.proofs.Outline.{ran_in, is_sys}
-use Rattle.nf_net.proofs.ControlOutline.{Sees}
-use Rattle.nf_net.proofs.StartJoined.{given}
-use Rattle.nf_net.proofs.PlaceNotes.{IsQuiet, instance_quiet}
-use Rattle.nf_net.proofs.OwnerLemmas.{each_there, each_front, place_quiet}
-use Rattle.nf_net.proofs.RunUnits.{Ran_as, Seen, Unseen, ran_as, some_mine, units_fit}
-use Rattle.nf_net.proofs.MovesUnderWay.{AreUnderWay}
-use Rattle.nf_net.proofs.Joined.{Given, S, place, Scene, IsTaken, IsInstanceAt, Joined}
+use Rattle.net_world.specs.declared.config.Config.{Config}
+use Rattle.net_world.specs.declared.node.Node.{Node}
+use Rattle.net_world.specs.Input.{packet_of, IsInput}
+use Rattle.net_world.specs.Commands.{is_busy}
+use Rattle.net_world.specs.Places.{owner, IsMoving, IsPlace, Owns, Is_source, Is_destination}
+use Rattle.outline_net.proofs.FiltersApart.{is_whole, unit_fits, takes_whole, and_r}
+use Rattle.outline_net.proofs.Outline.{ran_in, is_sys}
+use Rattle.outline_net.proofs.ControlOutline.{Sees}
+use Rattle.joined_net.proofs.StartJoined.{given}
+use Rattle.joined_net.proofs.PlaceNotes.{IsQuiet, instance_quiet}
+use Rattle.joined_net.proofs.OwnerLemmas.{each_there, each_front, place_quiet}
+use Rattle.joined_net.proofs.RunUnits.{Ran_as, Seen, Unseen, ran_as, some_mine, units_fit}
+use Rattle.answer_net.proofs.MovesUnderWay.{AreUnderWay}
+use Rattle.joined_net.proofs.Joined.{Given, S, place, Scene, IsTaken, IsInstanceAt, Joined}
 
 module _ {F R : Type 0} (f : Semantics R) (laws : FunctionLaws f) (c : Config) (items : List Msg) (is : IsInput f.kind c items) (n : ℕ) (w : Network (Node F R) Msg Note) (j : Joined f (given f c items is) n w) (busy : AreUnderWay f c items is n w j) where
   abbrev g : Given

@@ -26,24 +26,24 @@ use Rattle.abstract_net.proofs.Readings as readings
 use Rattle.abstract_net.proofs.Readings.{fold_runs, seat_parts}
 use Rattle.abstract_net.proofs.Rest.{same_done}
 use Rattle.abstract_net.proofs.Units.{see}
-use Rattle.nf_net.specs.declared.config.Config.{Config}
-use Rattle.nf_net.specs.declared.node.Node.{Node}
-use Rattle.nf_net.specs.declared.node.Node.TheVariants.{Instance}
-use Rattle.nf_net.specs.Input.{packets, IsInput}
-use Rattle.nf_net.specs.Log.{arrived}
-use Rattle.nf_net.specs.Path.{all_of}
-use Rattle.nf_net.specs.Promises.{IsFront, fold, went}
-use Rattle.nf_net.specs.Records as records
-use Rattle.nf_net.specs.Records.{live_in, live_at, given_in, removed_by, is_to_remove, IsNowhereLive, IsLiveAt, HasOneRecord}
-use Rattle.nf_net.proofs.ChunkPlaces.{link_spelled, none_on_way, one_on_way}
+use Rattle.net_world.specs.declared.config.Config.{Config}
+use Rattle.net_world.specs.declared.node.Node.{Node}
+use Rattle.net_world.specs.declared.node.Node.TheVariants.{Instance}
+use Rattle.net_world.specs.Input.{packets, IsInput}
+use Rattle.net_world.specs.Log.{arrived}
+use Rattle.net_world.specs.Path.{all_of}
+use Rattle.net_world.specs.Fold.{IsFront, fold, went}
+use Rattle.net_world.specs.Records as records
+use Rattle.net_world.specs.Records.{live_in, live_at, given_in, removed_by, is_to_remove, IsNowhereLive, IsLiveAt, HasOneRecord}
+use Rattle.path_net.proofs.ChunkPlaces.{link_spelled, none_on_way, one_on_way}
 use Rattle.nf_net.proofs.CompleteRuns.{fold_is}
-use Rattle.nf_net.proofs.Outline.{is_sys}
-use Rattle.nf_net.proofs.PathPromises.{IsOwned, by_came}
-use Rattle.nf_net.proofs.PathSeats.{Seated, seated, HasSides, Are_there, Rests}
-use Rattle.nf_net.proofs.RecordPromises.{instance_of, one_place}
-use Rattle.nf_net.proofs.RunsJoined.{done_same}
-use Rattle.nf_net.proofs.StartJoined.{given}
-use Rattle.nf_net.proofs.Joined.{Given, S, Joined}
+use Rattle.outline_net.proofs.Outline.{is_sys}
+use Rattle.path_net.proofs.PathPromises.{IsOwned, by_came}
+use Rattle.path_net.proofs.PathSeats.{Seated, seated, HasSides, Are_there, Rests}
+use Rattle.path_net.proofs.RecordPromises.{instance_of, one_place}
+use Rattle.joined_net.proofs.RunsJoined.{done_same}
+use Rattle.joined_net.proofs.StartJoined.{given}
+use Rattle.joined_net.proofs.Joined.{Given, S, Joined}
 
 -- none of three, and one of three
 record AreNone {R : Type 0} (a b c : Option R) : Type 0 where

@@ -10,12 +10,12 @@ use Rattle.nf_msgs.specs.declared.msg.Msg.TheVariants as msg
 use Rattle.nf_msgs.specs.declared.note.Note.{Note}
 use Rattle.nf_msgs.specs.declared.note.Note.TheVariants as note
 use Rattle.unit_machine.proofs.Labels.{Each}
-use Rattle.nf_net.specs.Commands.{has_answered}
-use Rattle.nf_net.specs.Input.{packets, commands, IsRising}
-use Rattle.nf_net.proofs.BusyController.{told_in}
-use Rattle.nf_net.proofs.BusyLemmas.{answered_same, has_answered-append}
-use Rattle.nf_net.proofs.EndTables.{flag}
-use Rattle.nf_net.proofs.LinePicks.{picked}
+use Rattle.net_world.specs.Commands.{has_answered}
+use Rattle.net_world.specs.Input.{packets, commands, IsRising}
+use Rattle.answer_net.proofs.BusyController.{told_in}
+use Rattle.answer_net.proofs.BusyLemmas.{answered_same, has_answered-append}
+use Rattle.answer_net.proofs.EndTables.{flag}
+use Rattle.answer_net.proofs.LinePicks.{picked}
 
 -- how many are answered
 abbrev pub answered_in : List Command → List Note → ℕ

@@ -27,32 +27,32 @@ use Rattle.actor_net.proofs.WeightLaws.{total}
 use Rattle.unit_machine.proofs.Labels.{Each, each-append}
 use Rattle.switch_node.specs.Switch.{switch_step}
 use Rattle.ctrl_node.specs.Controller.{controller_step}
-use Rattle.nf_net.specs.declared.config.Config.{Config}
-use Rattle.nf_net.specs.declared.node.Node.{Node}
-use Rattle.nf_net.specs.Commands.{began, has_answered, is_busy}
-use Rattle.nf_net.specs.Input.{packets, packet_of, commands, IsRising, IsInput}
-use Rattle.nf_net.specs.Log.{arrived, done, done_of, those}
-use Rattle.nf_net.specs.Nodes.{node_step, node_ready}
-use Rattle.nf_net.specs.Places.{owner, IsMoving, IsPlace, Owns, Is_source, Is_destination, ArePlaces}
-use Rattle.nf_net.specs.Promises.{times, is_of, came, went}
-use Rattle.nf_net.specs.Settles.{has_packet, Settles}
-use Rattle.nf_net.specs.Start.{first_nodes, first_switch, started}
-use Rattle.nf_net.proofs.ArrivalLemmas.{numbers, runs_joined}
-use Rattle.nf_net.proofs.ArrivalNotes.{instance_notes_none}
-use Rattle.nf_net.proofs.AnswerSends.{answering}
-use Rattle.nf_net.proofs.BusyRuns.{Busy, busy_next}
-use Rattle.nf_net.proofs.CommandPromises.{run_busy}
-use Rattle.nf_net.proofs.Joined.{Given, Joined, node_of}
-use Rattle.nf_net.proofs.JoinedSteps.{joined_next}
-use Rattle.nf_net.proofs.LogLemmas.{arrived-append}
-use Rattle.nf_net.proofs.OwnerLemmas.{Stands, In_first, In_second, stands}
-use Rattle.nf_net.proofs.PlaceNotes.{switch_unprocessed, controller_uninstalled}
+use Rattle.net_world.specs.declared.config.Config.{Config}
+use Rattle.net_world.specs.declared.node.Node.{Node}
+use Rattle.net_world.specs.Commands.{began, has_answered, is_busy}
+use Rattle.net_world.specs.Input.{packets, packet_of, commands, IsRising, IsInput}
+use Rattle.net_world.specs.Log.{arrived, done, done_of, those}
+use Rattle.net_world.specs.Nodes.{node_step, node_ready}
+use Rattle.net_world.specs.Places.{owner, IsMoving, IsPlace, Owns, Is_source, Is_destination, ArePlaces}
+use Rattle.net_world.specs.Fold.{times, is_of, came, went}
+use Rattle.net_world.specs.Settles.{has_packet, Settles}
+use Rattle.net_world.specs.Start.{first_nodes, first_switch, started}
+use Rattle.answer_net.proofs.ArrivalLemmas.{numbers, runs_joined}
+use Rattle.answer_net.proofs.ArrivalNotes.{instance_notes_none}
+use Rattle.answer_net.proofs.AnswerSends.{answering}
+use Rattle.answer_net.proofs.BusyRuns.{Busy, busy_next}
+use Rattle.answer_net.proofs.CommandPromises.{run_busy}
+use Rattle.joined_net.proofs.Joined.{Given, Joined, node_of}
+use Rattle.joined_net.proofs.JoinedSteps.{joined_next}
+use Rattle.joined_net.proofs.LogLemmas.{arrived-append}
+use Rattle.joined_net.proofs.OwnerLemmas.{Stands, In_first, In_second, stands}
+use Rattle.joined_net.proofs.PlaceNotes.{switch_unprocessed, controller_uninstalled}
 use Rattle.nf_net.proofs.PlaceRuns.{processed_off, uninstalled_unprocessed}
-use Rattle.nf_net.proofs.RunsJoined.{start_world, once, times-append}
+use Rattle.joined_net.proofs.RunsJoined.{start_world, once, times-append}
 use Rattle.nf_net.proofs.SettleCounts.{AllAnswered, answered_in, all_answered_more, found, commands-append, packets-append, longer_end}
 use Rattle.nf_net.proofs.SettleSteps.{Counted, each_map, items_none, counted_after}
-use Rattle.nf_net.proofs.StateOutline.{all_each}
-use Rattle.nf_net.proofs.StartJoined.{given, all_fit, all_labelled, count_at_start}
+use Rattle.outline_net.proofs.StateOutline.{all_each}
+use Rattle.joined_net.proofs.StartJoined.{given, all_fit, all_labelled, count_at_start}
 
 -- A number that stands in rising ones stands there once.
 times_low : (p least : ℕ) (ks : List ℕ) → p < least → IsRising least ks → times p ks ≡ 0

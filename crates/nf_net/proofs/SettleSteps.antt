@@ -29,25 +29,25 @@ use Rattle.actor_net.proofs.WaitingMessages.{less_first}
 use Rattle.actor_net.proofs.WeightLaws.{EachSent, weigh, total, sent_weight, total_after}
 use Rattle.unit_machine.proofs.Labels.{Each}
 use Rattle.abstract_net.proofs.Waits.{Rising}
-use Rattle.nf_net.specs.declared.config.Config.{Config}
-use Rattle.nf_net.specs.declared.node.Node.{Node}
-use Rattle.nf_net.specs.declared.node.Node.TheVariants.{Switch}
-use Rattle.nf_net.specs.Commands.{has_answered, answers_of}
-use Rattle.nf_net.specs.Input.{commands, IsInput}
-use Rattle.nf_net.specs.Nodes.{node_step, node_ready}
-use Rattle.nf_net.proofs.AnswerSends.{answering}
-use Rattle.nf_net.proofs.BusyController.{told_in}
-use Rattle.nf_net.proofs.BusyLemmas.{or_off, other_not_answered, answers_of-append}
-use Rattle.nf_net.proofs.BusyNodes.{switch_hands, instance_says}
-use Rattle.nf_net.proofs.BusyRuns.{Busy, waits_of}
-use Rattle.nf_net.proofs.ControllerActs.{Says_so, Says_so.Neither, Says_so.Begins, Says_so.Answers, controller_acts}
-use Rattle.nf_net.proofs.KnownOperations.{known}
-use Rattle.nf_net.proofs.Joined.{Given, Label, Joined, node_of}
-use Rattle.nf_net.proofs.JoinedSteps.{label, step_leads, input_after}
-use Rattle.nf_net.proofs.LinePicks.{picked}
+use Rattle.net_world.specs.declared.config.Config.{Config}
+use Rattle.net_world.specs.declared.node.Node.{Node}
+use Rattle.net_world.specs.declared.node.Node.TheVariants.{Switch}
+use Rattle.net_world.specs.Commands.{has_answered, answers_of}
+use Rattle.net_world.specs.Input.{commands, IsInput}
+use Rattle.net_world.specs.Nodes.{node_step, node_ready}
+use Rattle.answer_net.proofs.AnswerSends.{answering}
+use Rattle.answer_net.proofs.BusyController.{told_in}
+use Rattle.answer_net.proofs.BusyLemmas.{or_off, other_not_answered, answers_of-append}
+use Rattle.answer_net.proofs.BusyNodes.{switch_hands, instance_says}
+use Rattle.answer_net.proofs.BusyRuns.{Busy, waits_of}
+use Rattle.answer_net.proofs.ControllerActs.{Says_so, Says_so.Neither, Says_so.Begins, Says_so.Answers, controller_acts}
+use Rattle.joined_net.proofs.KnownOperations.{known}
+use Rattle.joined_net.proofs.Joined.{Given, Label, Joined, node_of}
+use Rattle.joined_net.proofs.JoinedSteps.{label, step_leads, input_after}
+use Rattle.answer_net.proofs.LinePicks.{picked}
 use Rattle.nf_net.proofs.SettleCounts.{answered_in, AllAnswered, answered_in-append, answered_most, all_answered, none_answered_in, all_answered_more, answered_in_same, answered_one, low_commands, commands-append, same_ends}
-use Rattle.nf_net.proofs.StartJoined.{given, all_fit}
-use Rattle.nf_net.proofs.ToldCommands.{some_answers}
+use Rattle.joined_net.proofs.StartJoined.{given, all_fit}
+use Rattle.answer_net.proofs.ToldCommands.{some_answers}
 
 abbrev switch_in : {F R : Type 0} → SwitchState → Node F R → SwitchState
 switch_in s (Switch t) = t

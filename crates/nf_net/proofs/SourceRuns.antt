@@ -30,37 +30,37 @@ use Rattle.actor_net.specs.Network.{Network, Stepped, IsRun, is_input, reaches, 
 use Rattle.actor_net.proofs.EnabledChoices.{at}
 use Rattle.actor_net.proofs.RunInduction.{Taking, run_induction}
 use Rattle.actor_net.proofs.StepOutcome.{Takes, taken_outcome}
-use Rattle.nf_net.specs.declared.config.Config.{Config}
-use Rattle.nf_net.specs.declared.node.Node.{Node}
-use Rattle.nf_net.specs.declared.node.Node.TheVariants.{Controller}
-use Rattle.nf_net.specs.Commands.{began, has_answered, is_busy, answers_of, times_begun}
-use Rattle.nf_net.specs.Input.{IsInput, order_of}
-use Rattle.nf_net.specs.Nodes.{node_step, node_ready}
-use Rattle.nf_net.specs.Places.{owner, handed_on}
-use Rattle.nf_net.specs.Refused.{moves_away, unit_numbered, StaysAtSource}
-use Rattle.nf_net.specs.Start.{started}
-use Rattle.nf_net.proofs.BusyLemmas.{AreOther, is_other, answers_of-append, times_begun-append, other_not_begun}
-use Rattle.nf_net.proofs.BusyNodes.{switch_hands, instance_says}
-use Rattle.nf_net.proofs.BusyRuns.{Busy, same_controller, busy_is, busy_next}
-use Rattle.nf_net.proofs.CommandPromises.{run_busy}
-use Rattle.nf_net.proofs.ControllerActs.{IsEarly, Was, Was.Was_open, Was.Begins_now, Says_so, Says_so.Neither, Says_so.Begins, Says_so.Answers, Acts, controller_acts}
-use Rattle.nf_net.proofs.FiltersApart.{and_l, and_r}
-use Rattle.nf_net.proofs.HandedUnits.{owner_next}
-use Rattle.nf_net.proofs.InstallCounts.{passed}
-use Rattle.nf_net.proofs.KnownOperations.{known}
-use Rattle.nf_net.proofs.Joined.{Given, Label, Joined, node_of, shown}
-use Rattle.nf_net.proofs.JoinedSteps.{label, is_taken}
-use Rattle.nf_net.proofs.MovesUnderWay.{AreUnderWay, moves_under_way}
-use Rattle.nf_net.proofs.OwnerLemmas.{installed_none, Stands, In_first, In_second, stands, each_there}
-use Rattle.nf_net.proofs.PlaceNotes.{switch_unprocessed, controller_uninstalled}
+use Rattle.net_world.specs.declared.config.Config.{Config}
+use Rattle.net_world.specs.declared.node.Node.{Node}
+use Rattle.net_world.specs.declared.node.Node.TheVariants.{Controller}
+use Rattle.net_world.specs.Commands.{began, has_answered, is_busy, answers_of, times_begun}
+use Rattle.net_world.specs.Input.{IsInput, order_of}
+use Rattle.net_world.specs.Nodes.{node_step, node_ready}
+use Rattle.net_world.specs.Places.{owner, handed_on}
+use Rattle.net_world.specs.Refused.{moves_away, unit_numbered, StaysAtSource}
+use Rattle.net_world.specs.Start.{started}
+use Rattle.answer_net.proofs.BusyLemmas.{AreOther, is_other, answers_of-append, times_begun-append, other_not_begun}
+use Rattle.answer_net.proofs.BusyNodes.{switch_hands, instance_says}
+use Rattle.answer_net.proofs.BusyRuns.{Busy, same_controller, busy_is, busy_next}
+use Rattle.answer_net.proofs.CommandPromises.{run_busy}
+use Rattle.answer_net.proofs.ControllerActs.{IsEarly, Was, Was.Was_open, Was.Begins_now, Says_so, Says_so.Neither, Says_so.Begins, Says_so.Answers, Acts, controller_acts}
+use Rattle.outline_net.proofs.FiltersApart.{and_l, and_r}
+use Rattle.joined_net.proofs.HandedUnits.{owner_next}
+use Rattle.answer_net.proofs.InstallCounts.{passed}
+use Rattle.joined_net.proofs.KnownOperations.{known}
+use Rattle.joined_net.proofs.Joined.{Given, Label, Joined, node_of, shown}
+use Rattle.joined_net.proofs.JoinedSteps.{label, is_taken}
+use Rattle.answer_net.proofs.MovesUnderWay.{AreUnderWay, moves_under_way}
+use Rattle.joined_net.proofs.OwnerLemmas.{installed_none, Stands, In_first, In_second, stands, each_there}
+use Rattle.joined_net.proofs.PlaceNotes.{switch_unprocessed, controller_uninstalled}
 use Rattle.nf_net.proofs.PlaceRuns.{uninstalled_unprocessed}
-use Rattle.nf_net.proofs.RuleChanges.{Changes, Same, Installs, changes}
-use Rattle.nf_net.proofs.RunUnits.{units_fit}
-use Rattle.nf_net.proofs.RunsJoined.{start_world}
+use Rattle.joined_net.proofs.RuleChanges.{Changes, Same, Installs, changes}
+use Rattle.joined_net.proofs.RunUnits.{units_fit}
+use Rattle.joined_net.proofs.RunsJoined.{start_world}
 use Rattle.nf_net.proofs.SourceSteps.{Stays, Leaves, Are_at, Is_at, stays_more, owner_stays, quiet_leaves, unprocessed_at, other_change, instance_leaves, began_there}
-use Rattle.nf_net.proofs.StartJoined.{given, all_fit, count_at_start}
-use Rattle.nf_net.proofs.SwitchSteps.{instance_in, instance_is}
-use Rattle.nf_net.proofs.ToldCommands.{some_answers}
+use Rattle.joined_net.proofs.StartJoined.{given, all_fit, count_at_start}
+use Rattle.joined_net.proofs.SwitchSteps.{instance_in, instance_is}
+use Rattle.answer_net.proofs.ToldCommands.{some_answers}
 
 -- a note of an answer is none of other things
 answered_not_other : (front back : List Note) (op : ℕ) (a : Answer) (notes : List Note) → AreOther notes → notes ≡ front ++ note.Answered op a ∷ back → ⊥

@@ -30,24 +30,24 @@ use Rattle.abstract_net.proofs.Net as net
 use Rattle.abstract_net.proofs.Net.{Open, find_op, inst_step}
 use Rattle.abstract_net.proofs.Rest.{none_mine}
 use Rattle.abstract_net.proofs.Sources.{is_early_real, at_source, untaken}
-use Rattle.nf_net.specs.declared.config.Config.{Config}
-use Rattle.nf_net.specs.declared.node.Node.{Node}
-use Rattle.nf_net.specs.Commands.{began}
-use Rattle.nf_net.specs.Input.{IsInput, order_of}
-use Rattle.nf_net.specs.Log.{installed}
-use Rattle.nf_net.specs.Places.{owner, owner_after, first_owner}
-use Rattle.nf_net.specs.Refused.{unit_numbered}
-use Rattle.nf_net.proofs.ControlOutline.{Sees, SeesMove}
-use Rattle.nf_net.proofs.FiltersApart.{is_whole, unit_fits, takes_whole, takes_same}
-use Rattle.nf_net.proofs.InstallCounts.{passed}
-use Rattle.nf_net.proofs.Joined.{Given, S, place, Scene, IsTaken, IsInstanceAt, Joined}
-use Rattle.nf_net.proofs.LogLemmas.{has_begun-append}
-use Rattle.nf_net.proofs.MoveOutline.{outline_phase}
-use Rattle.nf_net.proofs.Outline.{ran_in, is_sys}
-use Rattle.nf_net.proofs.OwnerLemmas.{installed_same, installed_quiet, Stands, In_first, In_second, stands}
-use Rattle.nf_net.proofs.PlaceNotes.{IsQuiet, instance_quiet, AreUnprocessed}
-use Rattle.nf_net.proofs.RunUnits.{Ran_as, Seen, Unseen, ran_as, some_mine}
-use Rattle.nf_net.proofs.StartJoined.{given}
+use Rattle.net_world.specs.declared.config.Config.{Config}
+use Rattle.net_world.specs.declared.node.Node.{Node}
+use Rattle.net_world.specs.Commands.{began}
+use Rattle.net_world.specs.Input.{IsInput, order_of}
+use Rattle.net_world.specs.Log.{installed}
+use Rattle.net_world.specs.Places.{owner, owner_after, first_owner}
+use Rattle.net_world.specs.Refused.{unit_numbered}
+use Rattle.outline_net.proofs.ControlOutline.{Sees, SeesMove}
+use Rattle.outline_net.proofs.FiltersApart.{is_whole, unit_fits, takes_whole, takes_same}
+use Rattle.answer_net.proofs.InstallCounts.{passed}
+use Rattle.joined_net.proofs.Joined.{Given, S, place, Scene, IsTaken, IsInstanceAt, Joined}
+use Rattle.joined_net.proofs.LogLemmas.{has_begun-append}
+use Rattle.outline_net.proofs.MoveOutline.{outline_phase}
+use Rattle.outline_net.proofs.Outline.{ran_in, is_sys}
+use Rattle.joined_net.proofs.OwnerLemmas.{installed_same, installed_quiet, Stands, In_first, In_second, stands}
+use Rattle.joined_net.proofs.PlaceNotes.{IsQuiet, instance_quiet, AreUnprocessed}
+use Rattle.joined_net.proofs.RunUnits.{Ran_as, Seen, Unseen, ran_as, some_mine}
+use Rattle.joined_net.proofs.StartJoined.{given}
 
 -- what is left of a list behind a front
 behind_front : {X : Type 0} (xs ys zs : List X) → xs ++ ys ≡ xs ++ zs → ys ≡ zs

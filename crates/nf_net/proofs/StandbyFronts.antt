@@ -21,14 +21,14 @@ use Rattle.nf_msgs.specs.declared.note.Note.{Note}
 use Rattle.instance_worker.specs.declared.instance.Instance.{Instance}
 use Rattle.instance_worker.specs.Instance.{Step, instance_step, selected}
 use Rattle.unit_machine.proofs.Labels.{Each}
-use Rattle.nf_net.specs.declared.config.Config.{Config}
-use Rattle.nf_net.specs.Input.{packet_of, most_counted, IsInput}
-use Rattle.nf_net.specs.Log.{done}
-use Rattle.nf_net.specs.Promises.{IsFront, fold, went}
+use Rattle.net_world.specs.declared.config.Config.{Config}
+use Rattle.net_world.specs.Input.{packet_of, most_counted, IsInput}
+use Rattle.net_world.specs.Log.{done}
+use Rattle.net_world.specs.Fold.{IsFront, fold, went}
 use Rattle.nf_net.proofs.ChunksHandedOn.{none_bring}
 use Rattle.nf_net.proofs.FrontLemmas.{front_same, front_more, longer}
-use Rattle.nf_net.proofs.Joined.{Given, Label}
-use Rattle.nf_net.proofs.LogLemmas.{done-append}
+use Rattle.joined_net.proofs.Joined.{Given, Label}
+use Rattle.joined_net.proofs.LogLemmas.{done-append}
 use Rattle.nf_net.proofs.OutputLemmas.{numbers, numbers-append}
 use Rattle.nf_net.proofs.StandbyRows.{brought, is_plain, instance_leaves, get_gives, standby_keeps}
 

@@ -23,7 +23,7 @@ use Rattle.instance_worker.specs.declared.instance.Instance.{Instance}
 use Rattle.instance_worker.specs.Pieces.{pieces}
 use Rattle.instance_worker.specs.Instance.{Step, told, and_then, tells, still, processed, all_processed, carried, on_carry, on_fence, on_get, on_stream, on_put, on_restore, on_standby, on_put_all, tally_put, refusal, piece_put, where_good, with_standby, kept, tells_and_notes, instance_step, selected}
 use Rattle.unit_machine.proofs.Labels.{Each, each-append}
-use Rattle.nf_net.proofs.Joined.{is_unshared}
+use Rattle.joined_net.proofs.Joined.{is_unshared}
 
 -- the chunks of records that a message brings, so that they stand by or are shared
 abbrev pub brought : Msg → List Chunk

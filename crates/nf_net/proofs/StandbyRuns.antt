@@ -21,25 +21,26 @@ use Rattle.actor_net.proofs.RunInduction.{Taking, NextChoice, run_induction}
 use Rattle.actor_net.proofs.RunLaws.{run_more}
 use Rattle.actor_net.proofs.StepOutcome.{Takes, taken_outcome}
 use Rattle.unit_machine.proofs.Labels.{Each}
-use Rattle.nf_net.specs.declared.config.Config.{Config}
-use Rattle.nf_net.specs.declared.node.Node.{Node}
-use Rattle.nf_net.specs.declared.node.Node.TheVariants.{Switch, Controller, Instance}
-use Rattle.nf_net.specs.Input.{is_item, packets, most_counted, IsInput}
-use Rattle.nf_net.specs.Log.{Done, arrived, done, done_of}
-use Rattle.nf_net.specs.Nodes.{node_step, node_ready}
-use Rattle.nf_net.specs.Promises.{IsFront, is_of, went}
-use Rattle.nf_net.specs.Standby.{standby_in, standby_at, StandsBy, Standbys}
-use Rattle.nf_net.specs.Start.{first_instance, first_nodes, started}
-use Rattle.nf_net.proofs.ArrivalLemmas.{numbers, InRun, next_in_run, start_in_run}
+use Rattle.net_world.specs.declared.config.Config.{Config}
+use Rattle.net_world.specs.declared.node.Node.{Node}
+use Rattle.net_world.specs.declared.node.Node.TheVariants.{Switch, Controller, Instance}
+use Rattle.net_world.specs.Input.{is_item, packets, most_counted, IsInput}
+use Rattle.net_world.specs.Log.{Done, arrived, done, done_of}
+use Rattle.net_world.specs.Nodes.{node_step, node_ready}
+use Rattle.net_world.specs.Fold.{IsFront, is_of, went}
+use Rattle.net_world.specs.Standby.{standby_in, standby_at, StandsBy}
+use Rattle.nf_net.specs.Promises.{Standbys}
+use Rattle.net_world.specs.Start.{first_instance, first_nodes, started}
+use Rattle.answer_net.proofs.ArrivalLemmas.{numbers, InRun, next_in_run, start_in_run}
 use Rattle.nf_net.proofs.FrontLemmas.{front_same, front_trans, front_more, front_length, one_front}
-use Rattle.nf_net.proofs.Joined.{node_of}
+use Rattle.joined_net.proofs.Joined.{node_of}
 use Rattle.nf_net.proofs.PacketCounts.{few_done}
-use Rattle.nf_net.proofs.RunsJoined.{start_world}
+use Rattle.joined_net.proofs.RunsJoined.{start_world}
 use Rattle.nf_net.proofs.StandbyFronts.{IsOfFront, AreOfFronts, went_more, none_of_front, no_chunks_fronts, still_some}
 use Rattle.nf_net.proofs.StandbyRows.{brought}
 use Rattle.nf_net.proofs.StandbySteps.{AreFronts, GoesOn, goes_on_fronts, goes_on}
-use Rattle.nf_net.proofs.StartJoined.{count_at_start, instance_found}
-use Rattle.nf_net.proofs.StateOutline.{all_each}
+use Rattle.joined_net.proofs.StartJoined.{count_at_start, instance_found}
+use Rattle.outline_net.proofs.StateOutline.{all_each}
 
 few_of : (mine : ℕ → Bool) (ds : List Done) → length (done_of mine ds) ≤ length ds
 few_of mine [] = omega arith

@@ -18,21 +18,21 @@ use Rattle.actor_net.specs.Network.{Network, Stepped, is_input, taken}
 use Rattle.actor_net.proofs.EnabledChoices.{at}
 use Rattle.actor_net.proofs.StepOutcome.{Takes, Outcome, taken_outcome}
 use Rattle.actor_net.proofs.WeightLaws.{Each, OnLinks, EachSent, on_links_after}
-use Rattle.nf_net.specs.declared.config.Config.{Config}
-use Rattle.nf_net.specs.declared.node.Node.{Node}
-use Rattle.nf_net.specs.declared.node.Node.TheVariants.{Instance}
-use Rattle.nf_net.specs.Input.{most_counted, IsInput}
-use Rattle.nf_net.specs.Nodes.{node_step, node_ready}
-use Rattle.nf_net.specs.Promises.{went}
-use Rattle.nf_net.specs.Records.{live_in}
-use Rattle.nf_net.specs.Standby.{standby_in, standby_at}
+use Rattle.net_world.specs.declared.config.Config.{Config}
+use Rattle.net_world.specs.declared.node.Node.{Node}
+use Rattle.net_world.specs.declared.node.Node.TheVariants.{Instance}
+use Rattle.net_world.specs.Input.{most_counted, IsInput}
+use Rattle.net_world.specs.Nodes.{node_step, node_ready}
+use Rattle.net_world.specs.Fold.{went}
+use Rattle.net_world.specs.Records.{live_in}
+use Rattle.net_world.specs.Standby.{standby_in, standby_at}
 use Rattle.nf_net.proofs.ChunksHandedOn.{none_bring, each_brings, controller_brings, switch_brings_none}
-use Rattle.nf_net.proofs.Joined.{Given, Joined, node_of}
-use Rattle.nf_net.proofs.JoinedSteps.{label, step_leads}
+use Rattle.joined_net.proofs.Joined.{Given, Joined, node_of}
+use Rattle.joined_net.proofs.JoinedSteps.{label, step_leads}
 use Rattle.nf_net.proofs.LiveRecords.{live_folds}
 use Rattle.nf_net.proofs.StandbyFronts.{IsOfFront, SeesMore, AreOfFronts, IsKnown, sees_same, later, chunks_later, no_chunks_fronts, instance_goes}
 use Rattle.nf_net.proofs.StandbyRows.{brought}
-use Rattle.nf_net.proofs.StartJoined.{given, all_fit}
+use Rattle.joined_net.proofs.StartJoined.{given, all_fit}
 
 each_weaker : {M : Type 0} {P Q : M → Type 0} → ((m : M) → P m → Q m) → (ms : List M) → Each P ms → Each Q ms
 each_weaker g [] h = tt

@@ -11,9 +11,9 @@ use Rattle.nf_msgs.specs.declared.note.Note.{Note}
 use Rattle.nf_msgs.specs.declared.note.Note.TheVariants as note
 use Rattle.actor_net.specs.declared.choice.Choice.{Choice}
 use Rattle.actor_net.specs.Network.{Network, Stepped, run, taken, waiting}
-use Rattle.nf_net.specs.declared.node.Node.{Node}
-use Rattle.nf_net.specs.Nodes.{node_step}
-use Rattle.nf_net.specs.Verdicts.{exported, before_export, IsTakenAfter}
+use Rattle.net_world.specs.declared.node.Node.{Node}
+use Rattle.net_world.specs.Nodes.{node_step}
+use Rattle.net_world.specs.Verdicts.{exported, before_export, IsTakenAfter}
 
 -- how often state was given for a command
 abbrev pub times_given : ℕ → List Note → ℕ

@@ -19,20 +19,20 @@ use Rattle.actor_net.proofs.OpeningWorlds.{opening_weight}
 use Rattle.actor_net.proofs.CompleteWorlds.{done_node, done_weight}
 use Rattle.actor_net.proofs.WeightLaws.{weigh, total, sent_weight, total_after}
 use Rattle.unit_machine.proofs.Labels.{Each}
-use Rattle.nf_net.specs.declared.config.Config.{Config}
-use Rattle.nf_net.specs.declared.node.Node.{Node}
-use Rattle.nf_net.specs.declared.node.Node.TheVariants.{Switch}
-use Rattle.nf_net.specs.Input.{IsInput}
-use Rattle.nf_net.specs.Log.{arrived, done}
-use Rattle.nf_net.specs.Nodes.{node_step, node_ready, node_ended}
-use Rattle.nf_net.specs.Start.{first_nodes, first_switch, started}
-use Rattle.nf_net.specs.Window.{Window, AllHome, switch_in, switch_of}
-use Rattle.nf_net.proofs.LogLemmas.{arrived-append, done-append}
-use Rattle.nf_net.proofs.StartJoined.{given, all_fit, all_labelled, count_at_start, start_joined}
-use Rattle.nf_net.proofs.Joined.{Given, Label, Joined, count, node_of}
-use Rattle.nf_net.proofs.JoinedSteps.{label, step_leads, joined_next}
-use Rattle.nf_net.proofs.RunsJoined.{start_world}
-use Rattle.nf_net.proofs.CreditCounts.{credit, no_credit_from, no_credit_to, none_sent, instance_is}
+use Rattle.net_world.specs.declared.config.Config.{Config}
+use Rattle.net_world.specs.declared.node.Node.{Node}
+use Rattle.net_world.specs.declared.node.Node.TheVariants.{Switch}
+use Rattle.net_world.specs.Input.{IsInput}
+use Rattle.net_world.specs.Log.{arrived, done}
+use Rattle.net_world.specs.Nodes.{node_step, node_ready, node_ended}
+use Rattle.net_world.specs.Start.{first_nodes, first_switch, started}
+use Rattle.net_world.specs.Window.{Window, AllHome, switch_in, switch_of}
+use Rattle.joined_net.proofs.LogLemmas.{arrived-append, done-append}
+use Rattle.joined_net.proofs.StartJoined.{given, all_fit, all_labelled, count_at_start, start_joined}
+use Rattle.joined_net.proofs.Joined.{Given, Label, Joined, count, node_of}
+use Rattle.joined_net.proofs.JoinedSteps.{label, step_leads, joined_next}
+use Rattle.joined_net.proofs.RunsJoined.{start_world}
+use Rattle.answer_net.proofs.CreditCounts.{credit, no_credit_from, no_credit_to, none_sent, instance_is}
 use Rattle.nf_net.proofs.WindowSteps.{controller_came, controller_went, switch_counts}
 use Rattle.nf_net.proofs.PacketCounts.{few_done}
 

@@ -27,8 +27,8 @@ use Rattle.switch_node.specs.Switch.{SwitchState, switch_step, still, sends_to_i
 use Rattle.ctrl_node.specs.Operations.{Turn, turn_of, share_of}
 use Rattle.ctrl_node.specs.Controller as controller
 use Rattle.ctrl_node.specs.Controller.{ControllerState, controller_step, row, on_asked, decided, begins, begins_between, copies_between, begins_share, queued, on_diverted, refusal, on_event, on_final, instance_at, numbered, after_turn, handed}
-use Rattle.nf_net.specs.Log.{arrived, done}
-use Rattle.nf_net.proofs.CreditCounts.{credit}
+use Rattle.net_world.specs.Log.{arrived, done}
+use Rattle.answer_net.proofs.CreditCounts.{credit}
 
 -- The controller notes no packet.
 record IsSilent (step : controller.Step) : Type 0 where

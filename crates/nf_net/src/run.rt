@@ -2,22 +2,20 @@ ghost use Rattle.std.specs.Prelude.{◌≡◌, ◌≢◌, ℕ, List, IfOk};
 ghost use Rattle.std.specs.declared.alloc.Global.{Global as AnAllocator};
 ghost use Rattle.nf_msgs.specs.declared.msg.Msg.{Msg as AMessage};
 ghost use Rattle.actor_net.specs.Replays.{replayed};
-ghost use Rattle.nf_net.specs.declared.config.Config.{Config as AConfig};
-ghost use Rattle.nf_net.specs.Input.{IsInput};
-ghost use Rattle.nf_net.specs.Nodes.{node_ready, node_step};
+ghost use Rattle.net_world.specs.declared.config.Config.{Config as AConfig};
+ghost use Rattle.net_world.specs.Input.{IsInput};
+ghost use Rattle.net_world.specs.Nodes.{node_ready, node_step};
 ghost use Rattle.nf_net.specs.Promises.{Completed, Promises};
-ghost use Rattle.nf_net.specs.Runs.{chosen, EndsIn, StopsAt};
-ghost use Rattle.nf_net.specs.Standby.{Standbys};
-ghost use Rattle.nf_net.specs.Start.{started};
-ghost use Rattle.nf_net.specs.Verdicts.{Verdicts};
-ghost use Rattle.nf_net.specs.Window.{AllHome};
+ghost use Rattle.net_world.specs.Runs.{chosen, EndsIn, StopsAt};
+ghost use Rattle.nf_net.specs.Promises.{Standbys};
+ghost use Rattle.net_world.specs.Start.{started};
+ghost use Rattle.nf_net.specs.Promises.{Verdicts};
+ghost use Rattle.net_world.specs.Window.{AllHome};
 
-use crate::config::Config;
-use crate::node::Node;
-use crate::starting::start;
 use actor_net::{
     Choice, Choices, ReplayFault, Schedule, ScheduleFault, World, replay, run_schedule,
 };
+use net_world::{Config, Node, start};
 use nf_function::Function;
 use nf_msgs::Msg;
 use std::alloc::Global;

@@ -14,15 +14,15 @@ use Rattle.actor_net.specs.declared.schedule.Schedule.{Schedule}
 use Rattle.actor_net.specs.declared.schedule.ScheduleFault.{ScheduleFault}
 use Rattle.actor_net.specs.declared.schedule.ScheduleFault.TheVariants as run
 use Rattle.actor_net.specs.Network.{Network, is_done}
-use Rattle.nf_net.specs.declared.config.Config.{Config}
-use Rattle.nf_net.specs.declared.node.Node.{Node}
-use Rattle.nf_net.specs.Nodes.{node_ended}
+use Rattle.net_world.specs.declared.config.Config.{Config}
+use Rattle.net_world.specs.declared.node.Node.{Node}
+use Rattle.net_world.specs.Nodes.{node_ended}
 use Rattle.nf_net.specs.Promises.{Completed, Promises}
-use Rattle.nf_net.specs.Runs.{LeadsTo, StopsAt, chosen}
-use Rattle.nf_net.specs.Start.{started}
-use Rattle.nf_net.specs.Standby.{Standbys}
-use Rattle.nf_net.specs.Verdicts.{Verdicts}
-use Rattle.nf_net.specs.Window.{AllHome}
+use Rattle.net_world.specs.Runs.{LeadsTo, StopsAt, chosen}
+use Rattle.net_world.specs.Start.{started}
+use Rattle.nf_net.specs.Promises.{Standbys}
+use Rattle.nf_net.specs.Promises.{Verdicts}
+use Rattle.net_world.specs.Window.{AllHome}
 use Rattle.run_report.specs.declared.auditing.AuditFault.{AuditFault}
 use Rattle.run_report.specs.declared.auditing.AuditFault.TheVariants as audit
 use Rattle.run_report.specs.declared.head.Head.{Head}

@@ -26,15 +26,15 @@ use Rattle.actor_net.specs.declared.choice.Choice.{Choice}
 use Rattle.actor_net.specs.declared.schedule.Schedule.{Schedule}
 use Rattle.actor_net.specs.Network.{Network, is_done}
 use Rattle.journal_file.specs.Format.{journal_bytes}
-use Rattle.nf_net.specs.declared.config.Config.{Config}
-use Rattle.nf_net.specs.declared.node.Node.{Node}
+use Rattle.net_world.specs.declared.config.Config.{Config}
+use Rattle.net_world.specs.declared.node.Node.{Node}
 use Rattle.nf_net.specs.Promises.{Completed, Promises}
-use Rattle.nf_net.specs.Nodes.{node_ended}
-use Rattle.nf_net.specs.Runs.{chosen, LeadsTo, StopsAt}
-use Rattle.nf_net.specs.Start.{started}
-use Rattle.nf_net.specs.Standby.{Standbys}
-use Rattle.nf_net.specs.Verdicts.{Verdicts}
-use Rattle.nf_net.specs.Window.{AllHome}
+use Rattle.net_world.specs.Nodes.{node_ended}
+use Rattle.net_world.specs.Runs.{chosen, LeadsTo, StopsAt}
+use Rattle.net_world.specs.Start.{started}
+use Rattle.nf_net.specs.Promises.{Standbys}
+use Rattle.nf_net.specs.Promises.{Verdicts}
+use Rattle.net_world.specs.Window.{AllHome}
 use Rattle.run_input.specs.Given.{or_else}
 use Rattle.run_report.specs.declared.head.Head.{Head}
 use Rattle.run_report.specs.Audits.{IsCause}

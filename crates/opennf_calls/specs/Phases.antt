@@ -13,7 +13,7 @@ use Rattle.op_script.specs.declared.script.Script.{Script}
 use Rattle.op_script.specs.Printing.{IsScript, SplitsNone}
 use Rattle.op_script.specs.Reading.{script_view}
 use Rattle.journal_file.specs.Format.{journal_bytes}
-use Rattle.nf_net.specs.Input.{IsInput}
+use Rattle.net_world.specs.Input.{IsInput}
 use Rattle.run_input.specs.Given.{first_unbuilt}
 use Rattle.actor_net.specs.declared.choice.Choice.{Choice}
 use Rattle.actor_net.specs.declared.schedule.Schedule.{Schedule}

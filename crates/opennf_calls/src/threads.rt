@@ -1,21 +1,21 @@
 //! The run of a network by threads.
 ghost use Rattle.std.specs.Prelude.{◌≡◌, true, IfOk};
 ghost use Rattle.actor_net.specs.Network.{is_done};
-ghost use Rattle.nf_net.specs.Input.{IsInput};
-ghost use Rattle.nf_net.specs.Nodes.{node_ended};
+ghost use Rattle.net_world.specs.Input.{IsInput};
+ghost use Rattle.net_world.specs.Nodes.{node_ended};
 ghost use Rattle.nf_net.specs.Promises.{Completed, Promises};
-ghost use Rattle.nf_net.specs.Runs.{LeadsTo};
-ghost use Rattle.nf_net.specs.Standby.{Standbys};
-ghost use Rattle.nf_net.specs.Start.{started};
-ghost use Rattle.nf_net.specs.Verdicts.{Verdicts};
-ghost use Rattle.nf_net.specs.Window.{AllHome};
+ghost use Rattle.net_world.specs.Runs.{LeadsTo};
+ghost use Rattle.nf_net.specs.Promises.{Standbys};
+ghost use Rattle.net_world.specs.Start.{started};
+ghost use Rattle.nf_net.specs.Promises.{Verdicts};
+ghost use Rattle.net_world.specs.Window.{AllHome};
 
 use actor_net::{Choices, World};
 use actor_threads::{Gate, run_threads};
 use basics::NoMemory;
+use net_world::{Config, Node, start};
 use nf_function::Function;
 use nf_msgs::Msg;
-use nf_net::{Config, Node, start};
 use std::alloc::Global;
 use std::sync::Wait;
 use std::thread::Threads;

@@ -2,15 +2,15 @@ ghost use Rattle.std.specs.Prelude.{◌≡◌, ◌<◌, true, vec_len, All, IfOk
 ghost use Rattle.nf_function.specs.Units.{is_transport};
 ghost use Rattle.nf_function.specs.declared.kind.Kind.TheVariants.{Conntrack as OfFlows};
 ghost use Rattle.trace_reader.specs.Records.{AreNumbered};
-ghost use Rattle.nf_net.specs.Input.{IsInput};
+ghost use Rattle.net_world.specs.Input.{IsInput};
 
 use actor_net::{Choice, Choices, World};
 use actor_threads::{Gate, OpenGate};
 use conn_tracker::Conntrack;
 use flow_filter::{CapturedPacket, Name, Packet, Packets, Prefix, Site, Text, UDP};
+use net_world::{Config, Node};
 use nf_function::Kind;
 use nf_msgs::{Msg, Names, Note};
-use nf_net::{Config, Node};
 use op_script::read_script;
 use opennf_calls::threads::run_network;
 use run_input::{Setting, input_of};

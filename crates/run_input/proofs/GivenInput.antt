@@ -11,9 +11,9 @@ use Rattle.op_script.specs.declared.script.Line.{Line}
 use Rattle.op_script.specs.Items.{items}
 use Rattle.op_script.specs.Reading.{script_view}
 use Rattle.op_script.specs.Printing.{IsScript, SplitsNone}
-use Rattle.nf_net.specs.declared.config.Config.{Config}
-use Rattle.nf_net.specs.Input.{IsSteered, most_counted, IsInput}
-use Rattle.nf_net.specs.Start.{IsConfig}
+use Rattle.net_world.specs.declared.config.Config.{Config}
+use Rattle.net_world.specs.Input.{IsSteered, most_counted, IsInput}
+use Rattle.net_world.specs.Start.{IsConfig}
 use Rattle.run_input.specs.declared.setting.Setting.{Setting}
 use Rattle.run_input.specs.BuiltLines.{IsBuilt}
 use Rattle.run_input.specs.Given.{config_of, IsSetting}

@@ -12,7 +12,7 @@ use Rattle.op_script.specs.declared.script.Line.{Line}
 use Rattle.op_script.specs.declared.script.What.{What}
 use Rattle.op_script.specs.declared.script.What.TheVariants as what
 use Rattle.op_script.specs.Items.{msg_of, said_where, items_from, items, IsFrom}
-use Rattle.nf_net.specs.Input.{is_item, packets, commands, ends_last}
+use Rattle.net_world.specs.Input.{is_item, packets, commands, ends_last}
 
 -- the commands of lines, in file order
 abbrev pub with_command : What → List Command → List Command

@@ -24,7 +24,7 @@ use Rattle.op_script.specs.Items.{IsFrom}
 use Rattle.op_script.specs.Reading.{ends_of, unless, route_view, line_view, what_view, order_view}
 use Rattle.op_script.specs.Printing.{IsRoute, IsLine, IsWhat, IsOrder, next_after, and_then, follows, what_splits, order_splits}
 use Rattle.op_script.proofs.JudgedLemmas.{unless_Ok}
-use Rattle.nf_net.specs.Input.{IsRising, IsWhole, IsBuilt as IsBuiltFor}
+use Rattle.net_world.specs.Input.{IsRising, IsWhole, IsBuilt as IsBuiltFor}
 use Rattle.run_input.specs.BuiltLines.{IsBuilt, IsBuiltOrder}
 use Rattle.run_input.proofs.SaidCommands.{with_command, line_commands}
 

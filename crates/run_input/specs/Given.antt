@@ -8,7 +8,7 @@ use Rattle.nf_msgs.specs.declared.nodes.TheConstants.{MOST_INSTANCES}
 use Rattle.op_script.specs.declared.script.Line.{Line}
 use Rattle.op_script.specs.declared.script.What.{What}
 use Rattle.op_script.specs.declared.script.What.TheVariants as what
-use Rattle.nf_net.specs.declared.config.Config.{Config}
+use Rattle.net_world.specs.declared.config.Config.{Config}
 use Rattle.run_input.specs.declared.setting.Setting.{Setting}
 
 -- 1 to 16 instances, each with a limit and marked or not, and a window

@@ -7,7 +7,7 @@ ghost use Rattle.trace_reader.specs.Records.{AreNumbered};
 ghost use Rattle.op_script.specs.Reading.{script_view};
 ghost use Rattle.op_script.specs.Printing.{IsScript, SplitsNone};
 ghost use Rattle.op_script.specs.Items.{items};
-ghost use Rattle.nf_net.specs.Input.{IsInput, IsSteered, ends_last, most_counted};
+ghost use Rattle.net_world.specs.Input.{IsInput, IsSteered, ends_last, most_counted};
 ghost use Rattle.run_input.specs.declared.fault.InputFault.TheVariants.{NotBuilt};
 ghost use Rattle.run_input.specs.Given.{config_of, first_unbuilt, unbuilt, IsSetting};
 ghost use Rattle.run_input.specs.BuiltLines.{IsBuilt};
@@ -16,8 +16,8 @@ use crate::fault::InputFault;
 use crate::setting::Setting;
 use basics::{NoMemory, TryCopy};
 use flow_filter::{CapturedPacket, Filter, Flow, Name, Packet, Packets, Sequence, Site, flow_of};
+use net_world::Config;
 use nf_msgs::{Msg, Names, Order};
-use nf_net::Config;
 use op_script::{Line, Script, What, items};
 use std::alloc::Global;
 

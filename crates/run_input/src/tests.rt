@@ -4,9 +4,9 @@ ghost use Rattle.trace_reader.specs.Records.{AreNumbered};
 
 use super::*;
 use flow_filter::{CapturedPacket, Filter, Name, Packet, Packets, Prefix, Site};
+use net_world::Config;
 use nf_function::Kind;
 use nf_msgs::Msg;
-use nf_net::Config;
 use op_script::read_script;
 use std::alloc::Global;
 use std::test::Fail;

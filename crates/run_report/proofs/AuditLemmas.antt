@@ -11,9 +11,9 @@ use Rattle.actor_net.specs.declared.replays.ReplayFault.TheVariants.{NotEnabled,
 use Rattle.actor_net.specs.Network.{Network, is_done}
 use Rattle.actor_net.specs.Replays.{replayed, FirstFault}
 use Rattle.actor_net.proofs.ReplayLaws.{replayed_ok, replayed_fault}
-use Rattle.nf_net.specs.declared.node.Node.{Node}
-use Rattle.nf_net.specs.Nodes.{node_step, node_ready, node_ended}
-use Rattle.nf_net.specs.Runs.{LeadsTo}
+use Rattle.net_world.specs.declared.node.Node.{Node}
+use Rattle.net_world.specs.Nodes.{node_step, node_ready, node_ended}
+use Rattle.net_world.specs.Runs.{LeadsTo}
 use Rattle.run_report.specs.Audits.{world_after, IsCompleteRun, IsCause}
 
 module _ {F R : Type 0} (f : Semantics R) (first start : Network (Node F R) Msg Note) (at_start : start ≡ first) (cs : List Choice) (result : Result (Network (Node F R) Msg Note) ReplayFault) (h : result ≢ Err NoMemory → result ≡ replayed node_ready (node_step f) cs start) where

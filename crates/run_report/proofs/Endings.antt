@@ -1,7 +1,7 @@
 -- What a loop leaves at its end: nothing is still to come.
 use Rattle.std.proofs.Common.{◌≡◌, ℕ, ◌<◌, ◌≤◌, List, [], ◌∷◌, ◌++◌, drop, length, arith, refl, sym, ap, ◌∙◌}
 use Rattle.std.proofs.lemmas.List.{append-nil, drop_all}
-use Rattle.nf_net.specs.declared.node.Node.{Node}
+use Rattle.net_world.specs.declared.node.Node.{Node}
 use Rattle.run_report.specs.Lines.{NamedInstance, named_instances}
 
 pub all_done : {X A : Type 0} (f : List X → List A) → f [] ≡ [] → (front whole : List A) (i : ℕ) (xs : List X) → length xs ≤ i → front ++ f (drop i xs) ≡ whole → front ≡ whole

@@ -21,8 +21,8 @@ use Rattle.nf_msgs.specs.declared.note.Note.TheVariants.{Processed, Answered}
 use Rattle.nf_msgs.specs.Answers.{answer_text}
 use Rattle.actor_net.specs.Network.{Network}
 use Rattle.instance_worker.specs.declared.instance.Instance.{Instance as InstanceState}
-use Rattle.nf_net.specs.declared.node.Node.{Node}
-use Rattle.nf_net.specs.declared.node.Node.TheVariants.{Switch, Controller, Instance}
+use Rattle.net_world.specs.declared.node.Node.{Node}
+use Rattle.net_world.specs.declared.node.Node.TheVariants.{Switch, Controller, Instance}
 use Rattle.run_report.specs.declared.head.Head.{Head}
 use Rattle.run_report.specs.Sorting.{sorted_by}
 

@@ -1,10 +1,10 @@
 ghost use Rattle.std.specs.Prelude.{◌≡◌, ℕ, IfOk};
-ghost use Rattle.nf_net.specs.Input.{IsInput};
+ghost use Rattle.net_world.specs.Input.{IsInput};
 ghost use Rattle.nf_net.specs.Promises.{Completed, Promises};
-ghost use Rattle.nf_net.specs.Standby.{Standbys};
-ghost use Rattle.nf_net.specs.Start.{IsConfig, started};
-ghost use Rattle.nf_net.specs.Verdicts.{Verdicts};
-ghost use Rattle.nf_net.specs.Window.{AllHome};
+ghost use Rattle.nf_net.specs.Promises.{Standbys};
+ghost use Rattle.net_world.specs.Start.{IsConfig, started};
+ghost use Rattle.nf_net.specs.Promises.{Verdicts};
+ghost use Rattle.net_world.specs.Window.{AllHome};
 ghost use Rattle.run_report.specs.Audits.{IsCause, IsCompleteRun, world_after};
 ghost use Rattle.run_report.specs.Lines.{report_text};
 
@@ -12,9 +12,10 @@ use crate::head::Head;
 use crate::reporting::report;
 use actor_net::{Choice, ReplayFault};
 use basics::Text;
+use net_world::{Config, start};
 use nf_function::Function;
 use nf_msgs::Msg;
-use nf_net::{Config, run_choices, start};
+use nf_net::run_choices;
 use std::alloc::{AllocError, Global};
 use thiserror::Error;
 

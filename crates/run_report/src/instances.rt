@@ -6,8 +6,8 @@ ghost use Rattle.run_report.specs.Seen.{instance_seen};
 use basics::{NoMemory, Text};
 use flow_filter::Name;
 use instance_worker::Instance;
+use net_world::Node;
 use nf_function::{Function, Tally};
-use nf_net::Node;
 use std::alloc::Global;
 
 /// An instance under its name.

@@ -8,8 +8,8 @@ use crate::lines::{push_answers, push_packets};
 use crate::states::push_records;
 use actor_net::World;
 use basics::{NoMemory, Text};
+use net_world::Node;
 use nf_function::Function;
-use nf_net::Node;
 use std::alloc::Global;
 
 /// The report of a world. A summary has counts in place of the lines of packets and records.

@@ -1,5 +1,5 @@
 ghost use Rattle.std.specs.Prelude.{◌≡◌, ◌<◌, length, IfOk};
-ghost use Rattle.nf_net.specs.Start.{IsConfig};
+ghost use Rattle.net_world.specs.Start.{IsConfig};
 
 use crate::{AuditFault, Head, audit, report};
 use actor_net::{Actor, Choice, Choices, Outbox, Schedule, World, run_schedule};
@@ -8,9 +8,9 @@ use conn_tracker::Conntrack;
 use event_filter::Mark;
 use flow_filter::{CapturedPacket, Filter, Name, Packet, Prefix, Sequence, Site, UDP};
 use instance_worker::Instance;
+use net_world::{Config, Node, start};
 use nf_function::Kind;
 use nf_msgs::{Command, Msg, Names, Order};
-use nf_net::{Config, Node, start};
 use packet_pool::Pool;
 use std::alloc::Global;
 use std::test::Fail;

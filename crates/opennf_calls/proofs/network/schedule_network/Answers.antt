@@ -2,8 +2,8 @@
 use Rattle.std.proofs.Common.{Some, Err, ap, sym, ◌≡◌, ◌∙◌, subst}
 use Rattle.std.proofs.lemmas.Result.{err_from_is_err_and}
 use Rattle.command_words.specs.RequestViews.{network_view}
-use Rattle.nf_net.specs.Runs.{LeadsTo, chosen}
-use Rattle.nf_net.specs.Start.{started}
+use Rattle.net_world.specs.Runs.{LeadsTo, chosen}
+use Rattle.net_world.specs.Start.{started}
 use Rattle.opennf_calls.specs.Phases.{given_by}
 use Rattle.opennf_calls.proofs.RunLemmas.{run_early, run_of}
 use Rattle.opennf_calls.proofs.network.schedule_network.Goals as goal

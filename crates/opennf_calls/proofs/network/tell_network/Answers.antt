@@ -4,8 +4,8 @@ use Rattle.std.proofs.lemmas.Result.{err_from_is_err_and}
 use Rattle.nf_function.specs.declared.kind.Kind.{Kind}
 use Rattle.actor_net.specs.declared.choice.Choice.{Choice}
 use Rattle.command_words.specs.RequestViews.{network_view}
-use Rattle.nf_net.specs.Input.{IsInput}
-use Rattle.nf_net.specs.Start.{started}
+use Rattle.net_world.specs.Input.{IsInput}
+use Rattle.net_world.specs.Start.{started}
 use Rattle.run_report.specs.Audits.{IsCause, world_after}
 use Rattle.opennf_calls.specs.Phases.{given_by}
 use Rattle.opennf_calls.proofs.RunLemmas.{Ran, run_of, run_refused}

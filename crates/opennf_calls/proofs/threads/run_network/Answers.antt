@@ -1,6 +1,6 @@
 -- The choices of the workers lead from the start to a world in which nothing is left to do.
 use Rattle.std.proofs.Common.{subst}
-use Rattle.nf_net.specs.Runs.{LeadsTo}
+use Rattle.net_world.specs.Runs.{LeadsTo}
 use Rattle.nf_net.proofs.EveryRun.{keeps_all}
 use Rattle.nf_net.proofs.JudgedRuns.{verdicts}
 use Rattle.nf_net.proofs.StandbyRuns.{standbys}

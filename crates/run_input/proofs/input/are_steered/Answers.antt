@@ -1,5 +1,5 @@
 -- One packet more, and all of them.
-use Rattle.nf_net.specs.Input.{IsSteered}
+use Rattle.net_world.specs.Input.{IsSteered}
 use Rattle.run_input.proofs.LoopFacts.{all_more, all_done}
 use Rattle.run_input.proofs.input.are_steered.Goals as goal
 

@@ -1,6 +1,6 @@
 -- The packets so far.
 use Rattle.std.proofs.Common.{take, All}
-use Rattle.nf_net.specs.Input.{IsSteered}
+use Rattle.net_world.specs.Input.{IsSteered}
 use Rattle.run_input.proofs.input.are_steered.Given as goal
 
 abbrev pub invariant-loop-packet : goal.invariant-loop-packet

@@ -4,7 +4,7 @@ use Rattle.std.specs.Prelude.{All}
 use Rattle.flow_filter.specs.declared.filter.Filter.{Filter}
 use Rattle.flow_filter.specs.Filter.{IsFilter}
 use Rattle.op_script.specs.declared.script.Line.{Line}
-use Rattle.nf_net.specs.Input.{IsSteered, most_counted, ends_last}
+use Rattle.net_world.specs.Input.{IsSteered, most_counted, ends_last}
 use Rattle.run_input.specs.BuiltLines.{IsBuilt}
 use Rattle.run_input.specs.Given.{config_of}
 use Rattle.run_input.proofs.GivenInput.{made_is}

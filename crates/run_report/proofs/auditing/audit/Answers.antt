@@ -1,6 +1,6 @@
 -- The choices are a run where the replay hands back a world, and a complete one where that world is at its end.
 use Rattle.std.proofs.Common.{rules, Err, sym, ap, ◌∙◌}
-use Rattle.nf_net.specs.Start.{started}
+use Rattle.net_world.specs.Start.{started}
 use Rattle.nf_net.proofs.EveryRun.{every_run, every_end, every_home}
 use Rattle.nf_net.proofs.JudgedRuns.{verdicts}
 use Rattle.nf_net.proofs.StandbyRuns.{standbys}

@@ -1,0 +1,247 @@
+-- What the controller's step says of commands: it begins one, answers one and tells the switch, or neither. A move that hasn't changed the
+-- rules after the step hadn't before it, and one that is answered with a refusal hasn't.
+use Rattle.std.proofs.Common.{◌≡◌, ◌≢◌, ℕ, Bool, true, false, cond, Option, Some, None, List, [], ◌∷◌, refl, sym, ap, ◌∙◌, subst, arith}
+use Rattle.std.specs.Prelude.{if◌then◌else◌, ◌==◌, is_some}
+use Rattle.std.specs.FinMap as finite
+use Rattle.std.proofs.lemmas.Bool.Decides.{Decides-eqb}
+use Rattle.flow_filter.specs.declared.filter.Filter.{Filter}
+use Rattle.nf_function.specs.Semantics.{Semantics}
+use Rattle.packet_pool.specs.Pool.{FullCell}
+use Rattle.event_filter.specs.declared.mark.Mark.TheVariants as mark
+use Rattle.nf_msgs.specs.declared.answer.Answer.{Answer}
+use Rattle.nf_msgs.specs.declared.answer.Answer.TheVariants.{Done}
+use Rattle.nf_msgs.specs.declared.command.Order.{Order}
+use Rattle.nf_msgs.specs.declared.command.Order.TheVariants as order
+use Rattle.nf_msgs.specs.declared.msg.Msg.{Msg}
+use Rattle.nf_msgs.specs.declared.msg.Msg.TheVariants as msg
+use Rattle.nf_msgs.specs.declared.note.Note.{Note}
+use Rattle.nf_msgs.specs.declared.note.Note.TheVariants as note
+use Rattle.nf_msgs.specs.Shown.{op_of}
+use Rattle.event_store.specs.Store.{stored}
+use Rattle.copy_share.specs.declared.copy_phase.CopyPhase.TheVariants.{Keeping}
+use Rattle.copy_share.specs.Copy.{CopyPlan, CopyState}
+use Rattle.copy_share.specs.Copy as copy
+use Rattle.move_op.specs.Move.{MovePlan, MoveState, Row, row_in, begun, answer_of}
+use Rattle.ctrl_node.specs.declared.operation.Operation.{Operation}
+use Rattle.ctrl_node.specs.declared.operation.Operation.TheVariants.{Move, Copy, Share}
+use Rattle.ctrl_node.specs.Operations.{turn_of, moved}
+use Rattle.ctrl_node.specs.Controller as controller
+use Rattle.ctrl_node.specs.Controller.{ControllerState, Step, still, refusal, place_of, begins_between, copies_between, begins, decided, on_asked, after_turn, takes_turn, handed, numbered, on_event, on_final, instance_at, may_finish, finish_of, finished, controller_step}
+use Rattle.actor_net.specs.Network.{reaches}
+use Rattle.actor_net.proofs.WeightLaws.{sent_weight}
+use Rattle.answer_net.proofs.AnswerSends.{answering, NoAnswer, none_weighs, row_quiet}
+use Rattle.joined_net.proofs.ControllerCopies.{NotMove}
+use Rattle.outline_net.proofs.CopyTurns.{CopyTurn, Idle, Hands, Hands_all, Ends, hands, ends}
+use Rattle.joined_net.proofs.KnownOperations.{AreKnown, by_turn, copy_turns, NotSharing, not_sharing}
+use Rattle.outline_net.proofs.OperationTables.{got_insert, got_remove, gone_twice}
+use Rattle.answer_net.proofs.CreditCounts.{sent_weight-append}
+use Rattle.answer_net.proofs.InstallCounts.{passed, row_adds}
+use Rattle.answer_net.proofs.InstallRuns.{not_done}
+use Rattle.answer_net.proofs.InstallSteps.{over_is}
+use Rattle.joined_net.proofs.Joined.{Given, IsPlan, IsCopyPlan, Label}
+
+abbrev move_in : MoveState → Option Operation → MoveState
+move_in d (Some (Move m)) = m
+move_in d o = d
+
+move_is : (a b : MoveState) → Some (Move a) ≡ Some (Move b) → a ≡ b
+move_is a b is = ap (move_in a) is
+
+-- a move that hasn't changed the rules, or nothing open
+abbrev pub IsEarly : Option Operation → Type 0
+IsEarly None = Unit {0}
+IsEarly (Some (Move m)) = passed m.phase ≡ 0
+IsEarly (Some (Copy y)) = ⊥
+IsEarly (Some (Share s)) = ⊥
+
+-- where another operation stands
+pub other_there : (b : Bool) (p o : Option Operation) (x : MoveState) → NotMove p → cond b p o ≡ Some (Move x) → o ≡ Some (Move x)
+other_there true None o x h e = cc
+other_there true (Some (Copy y)) o x h e = cc
+other_there true (Some (Share s)) o x h e = cc
+other_there true (Some (Move m)) o x h e = absurd h
+other_there false p o x h e = e
+
+module _ (g : Given) (n : ℕ) (reach : reaches n 1 0 ≡ true) (c : ControllerState) where
+  -- a move that hasn't changed the rules after the step
+  pub data Was (k : ℕ) (x : MoveState) (notes : List Note) : Type 0 where
+    Was_open : (m : MoveState) → finite.get c.operations k ≡ Some (Move m) → passed m.phase ≡ 0 → m.plan ≡ x.plan → Was k x notes
+    Begins_now : notes ≡ note.Begun k ∷ [] → Was k x notes
+
+  -- what the step says
+  pub data Says_so (did : Step) : Type 0 where
+    Neither : did.notes ≡ [] → sent_weight answering n 1 did.sends ≡ 0 → Says_so did
+    Begins : (op : ℕ) → did.notes ≡ note.Begun op ∷ [] → sent_weight answering n 1 did.sends ≡ 0 → finite.get c.operations op ≡ None → Says_so did
+    Answers : (op : ℕ) (a : Answer) (what : Order) → did.notes ≡ note.Answered op a ∷ [] → sent_weight answering n 1 did.sends ≡ 1 → g.orders op ≡ Some what → (a ≢ Done → IsEarly (finite.get c.operations op)) → Says_so did
+
+  pub record Acts (did : Step) : Type 0 where
+    pub says : Says_so did
+    pub early : (k : ℕ) (x : MoveState) → finite.get did.node.operations k ≡ Some (Move x) → passed x.phase ≡ 0 → Was k x did.notes
+
+  finished_says : (did : Step) → Says_so did → Says_so (finished did)
+  finished_says did h = by_says h
+    where
+      none : sent_weight answering n 1 (finish_of did.node) ≡ 0
+      none = elim (may_finish did.node) as (λ b. sent_weight answering n 1 (if b then (0, msg.Finish) ∷ [] else []) ≡ 0) [ true ↦ rw reach refl | false ↦ refl ]
+
+      same : (k : ℕ) → sent_weight answering n 1 did.sends ≡ k → sent_weight answering n 1 (finished did).sends ≡ k
+      same k e = let both = sent_weight-append answering n 1 did.sends (finish_of did.node) in let last = none in omega (arith, both, last, e)
+
+      by_says : Says_so did → Says_so (finished did)
+      by_says (Neither e w) = Neither e (same 0 w)
+      by_says (Begins op e w none) = Begins op e (same 0 w) none
+      by_says (Answers op a what e w known was) = Answers op a what e (same 1 w) known was
+
+  finished_acts : (did : Step) → Acts did → Acts (finished did)
+  finished_acts did h = record {
+    says = finished_says did h.says;
+    early = λ k x. elim (may_finish did.node) as (λ b. finite.get (if b then record did.node { finish_sent = true } else did.node).operations k ≡ Some (Move x) → passed x.phase ≡ 0 → Was k x did.notes) [ true ↦ h.early k x | false ↦ h.early k x ];
+  }
+
+  -- open operations stay, and nothing is noted
+  quiet_acts : (s : ControllerState) (sends : List (ℕ × Msg)) → s.operations ≡ c.operations → NoAnswer sends → Acts (record { node = s; sends = sends; notes = [] })
+  quiet_acts s sends same none = record {
+    says = Neither refl (none_weighs n 1 sends none);
+    early = λ k x there zero. Was_open x (ap (λ ops. finite.get ops k) (sym same) ∙ there) zero refl;
+  }
+
+  still_acts : Acts (still c)
+  still_acts = quiet_acts c [] refl tt
+
+  module _ (are : AreKnown g c) where
+    -- a copy hands on what came, and ends
+    hands_acts : (op : ℕ) (y : CopyState) (m : Msg) → answering m ≡ 0 → Acts (hands c op y m)
+    hands_acts op y m quiet = record {
+      says = Neither refl (none_weighs n 1 (hands c op y m).sends (quiet, tt));
+      early = λ k x there zero. Was_open x (other_there (k == op) (Some (Copy (record y { phase = Keeping }))) (finite.get c.operations k) x tt (sym (got_insert c.operations op k (Copy (record y { phase = Keeping }))) ∙ there)) zero refl;
+    }
+
+    ends_acts : (op : ℕ) (y : CopyState) → finite.get c.operations op ≡ Some (Copy y) → Acts (ends c op)
+    ends_acts op y is = let plan : IsCopyPlan g op y.plan = (are.copies op y is).1 in record {
+      says = Answers op Done (order.Copy plan.source plan.destination y.plan.filter) refl (rw reach refl) plan.order_is (λ other. absurd (other refl));
+      early = λ k x there zero. Was_open x (other_there (k == op) None (finite.get c.operations k) x tt (sym (got_remove c.operations op k) ∙ there)) zero refl;
+    }
+
+    copy_acts : (op : ℕ) (y : CopyState) → finite.get c.operations op ≡ Some (Copy y) → (m : Msg) (did : Step) → CopyTurn c op y m did → Acts did
+    copy_acts op y is m did (Idle e) = subst Acts (sym e) still_acts
+    copy_acts op y is m did (Hands k chunks e d) = subst Acts (sym d) (hands_acts op y (msg.Standby y.plan.op chunks) refl)
+    copy_acts op y is m did (Hands_all k chunk e d) = subst Acts (sym d) (hands_acts op y (msg.PutAll y.plan.op chunk) refl)
+    copy_acts op y is m did (Ends d) = subst Acts (sym d) (ends_acts op y is)
+
+    turn_acts : (op port : ℕ) (m : Msg) (o : Option Operation) → finite.get c.operations op ≡ o → Acts (takes_turn c op (turn_of o c.store port m))
+    turn_acts op port m None is = quiet_acts c [] refl tt
+    turn_acts op port m (Some (Copy y)) is = copy_acts op y is m _ (copy_turns g c are op y is port m)
+    turn_acts op port m (Some (Share s)) is = absurd (are.no_shares op s is)
+    turn_acts op port m (Some (Move mv)) is = by_answer (answer_of r.next.phase) refl
+      where
+        r : Row
+        r = row_in mv c.store port m
+
+        x : MoveState
+        x = record mv { phase = r.next.phase }
+
+        quiet : NoAnswer r.next.sends
+        quiet = row_quiet mv.plan (stored c.store mv.plan.op) mv.phase port m
+
+        -- a move that hasn't changed the rules hadn't before
+        before : passed r.next.phase ≡ 0 → passed mv.phase ≡ 0
+        before zero = let sent = (row_adds n reach mv.plan (stored c.store mv.plan.op) mv.phase port m (are.moves op mv is).1).own in omega (arith, sent, zero)
+
+        by_answer : (a : Option Answer) → answer_of r.next.phase ≡ a → Acts (after_turn c op (moved mv c.store r) a)
+        by_answer None e = record {
+          says = Neither refl (none_weighs n 1 r.next.sends quiet);
+          early = λ k y there zero. elim (k == op) as (λ b. (k == op) ≡ b → cond b (Some (Move x)) (finite.get c.operations k) ≡ Some (Move y) → Was k y []) [
+            | true ↦ λ on own.
+                let same : x ≡ y = move_is x y own in
+                let at : k ≡ op = (Decides-eqb k op).0 on in
+                Was_open mv (ap (finite.get c.operations) at ∙ is) (before (ap (λ z. passed z.phase) same ∙ zero)) (ap (λ z. z.plan) same)
+            | false ↦ λ off other. Was_open y other zero refl
+          ] refl (sym (got_insert c.operations op k (Move x)) ∙ there);
+        }
+        by_answer (Some a) e = let plan : IsPlan g op mv.plan = (are.moves op mv is).2 in record {
+          says = Answers op a (order.Move plan.source plan.destination mv.plan.filter mv.plan.keep) refl
+              (let both = sent_weight-append answering n 1 r.next.sends ((0, msg.Answered op) ∷ []) in let none = none_weighs n 1 r.next.sends quiet in let one : sent_weight answering n 1 ((0, msg.Answered op) ∷ []) ≡ 1 = rw reach refl in omega (arith, both, none, one))
+              plan.order_is
+              (λ other. subst IsEarly (sym is) (before (over_is r.next.phase a e ∙ not_done a other)));
+          early = λ k y there zero. elim (k == op) as (λ b. cond b None (finite.get c.operations k) ≡ Some (Move y) → Was k y (note.Answered op a ∷ [])) [
+            | true ↦ λ own. cc
+            | false ↦ λ other. Was_open y other zero refl
+          ] (sym (got_remove (finite.insert c.operations op (Move x)) op k ∙ ap (λ o. cond (k == op) None o) (got_insert c.operations op k (Move x)) ∙ gone_twice (k == op) (Some (Move x)) (finite.get c.operations k)) ∙ there);
+        }
+
+    handed_acts : (op port : ℕ) (m : Msg) → Acts (handed c op port m)
+    handed_acts op port m = by_turn g c are Acts op port m (turn_acts op port m (finite.get c.operations op) refl)
+
+    numbered_acts : (port : ℕ) (m : Msg) (o : Option ℕ) → Acts (numbered c port m o)
+    numbered_acts port m None = still_acts
+    numbered_acts port m (Some op) = handed_acts op port m
+
+    event_acts : (port op : ℕ) (cell : FullCell) (i : Option ℕ) → Acts (on_event c port op cell i)
+    event_acts port op cell None = still_acts
+    event_acts port op cell (Some i) = elim (finite.contains_key c.operations op) as (λ b. Acts (if b then handed c op port (msg.Event op cell) else record { node = c; sends = (0, msg.Forward i (mark.Pass op) cell) ∷ []; notes = [] })) [
+      | true ↦ handed_acts op port (msg.Event op cell)
+      | false ↦ quiet_acts c ((0, msg.Forward i (mark.Pass op) cell) ∷ []) refl (refl, tt)
+    ]
+
+    final_acts : (i : Option ℕ) → Acts (on_final c i)
+    final_acts None = still_acts
+    final_acts (Some i) = quiet_acts _ [] refl tt
+
+    -- a command that waits
+    module _ (op : ℕ) (none : finite.get c.operations op ≡ None) where
+      between_acts : (filter : Filter) (keep : Bool) (a b : Option ℕ) → Acts (begins_between c op filter keep a b)
+      between_acts filter keep (Some from) (Some to) =
+          let plan : MovePlan = record { op = op; from = from; to = to; filter = filter; keep = keep } in
+          record {
+            says = Begins op refl (none_weighs n 1 (controller.begins_move c plan).sends (refl, tt)) none;
+            early = λ k y there zero. elim (k == op) as (λ b. (k == op) ≡ b → cond b (Some (Move (begun plan))) (finite.get c.operations k) ≡ Some (Move y) → Was k y (note.Begun op ∷ [])) [
+              | true ↦ λ on own. Begins_now (ap (λ q. note.Begun q ∷ []) (sym ((Decides-eqb k op).0 on)))
+              | false ↦ λ off other. Was_open y other zero refl
+            ] refl (sym (got_insert c.operations op k (Move (begun plan))) ∙ there);
+          }
+      between_acts filter keep None b = still_acts
+      between_acts filter keep (Some from) None = still_acts
+
+      copies_acts : (filter : Option Filter) (a b : Option ℕ) → Acts (copies_between c op filter a b)
+      copies_acts filter (Some from) (Some to) =
+          let plan : CopyPlan = record { op = op; from = from; to = to; filter = filter } in
+          record {
+            says = Begins op refl (none_weighs n 1 (copy.begin_sends plan) (asks_quiet filter, tt)) none;
+            early = λ k x there zero. Was_open x (other_there (k == op) (Some (Copy (copy.begun plan))) (finite.get c.operations k) x tt (sym (got_insert c.operations op k (Copy (copy.begun plan))) ∙ there)) zero refl;
+          }
+        where
+          asks_quiet : (o : Option Filter) → answering (copy.asks op o) ≡ 0
+          asks_quiet None = refl
+          asks_quiet (Some flt) = refl
+      copies_acts filter None b = still_acts
+      copies_acts filter (Some from) None = still_acts
+
+      begins_acts : (what : Order) → NotSharing what → Acts (begins c op what)
+      begins_acts (order.Move source destination filter keep) built = between_acts filter keep (place_of c.names source) (place_of c.names destination)
+      begins_acts (order.Copy source destination filter) built = copies_acts filter (place_of c.names source) (place_of c.names destination)
+      begins_acts (order.Share members filter) built = absurd built
+
+      decided_acts : (what : Order) → NotSharing what → g.orders op ≡ Some what → (o : Option Answer) → Acts (decided c op what o)
+      decided_acts what built known None = begins_acts what built
+      decided_acts what built known (Some a) = record {
+        says = Answers op a what refl (rw reach refl) known (λ other. subst IsEarly (sym none) tt);
+        early = λ k y there zero. Was_open y there zero refl;
+      }
+
+    asked_acts : (op : ℕ) (what : Order) → NotSharing what → g.orders op ≡ Some what → Acts (on_asked c (record { op = op; what = what }))
+    asked_acts op what built known = by_got (finite.get c.operations op) refl
+      where
+        by_got : (o : Option Operation) → finite.get c.operations op ≡ o → Acts (if is_some o then still c else decided c op what (refusal c what))
+        by_got None is = decided_acts op is what built known (refusal c what)
+        by_got (Some x) is = still_acts
+
+    row_acts : {R : Type 0} (f : Semantics R) (port : ℕ) (m : Msg) → Label f g port 1 m → Acts (controller.row c port m)
+    row_acts f port (msg.Asked a) label = elim (port == 0) as (λ b. Acts (if b then on_asked c a else still c)) [ true ↦ asked_acts a.op a.what (not_sharing f g a.what label.2.built) label.2.known | false ↦ still_acts ]
+    row_acts f port (msg.Diverted cell) label = absurd label
+    row_acts f port msg.End label = elim (port == 0) as (λ b. Acts (if b then still (record c { end_came = true }) else still c)) [ true ↦ quiet_acts _ [] refl tt | false ↦ still_acts ]
+    row_acts f port (msg.Event op cell) label = event_acts port op cell (instance_at c port)
+    row_acts f port msg.Final label = final_acts (instance_at c port)
+    row_acts f port m label = numbered_acts port m (op_of m)
+
+    pub controller_acts : {R : Type 0} (f : Semantics R) (port : ℕ) (m : Msg) → Label f g port 1 m → Acts (controller_step c port m)
+    controller_acts f port m label = finished_acts (controller.row c port m) (row_acts f port m label)

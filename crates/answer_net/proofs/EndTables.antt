@@ -1,0 +1,276 @@
+-- What each node's step keeps of the input's end: no command comes behind it, the controller finishes once no operation is open, and the
+-- switch closes where it takes the finish.
+use Rattle.std.proofs.Common.{◌≡◌, ◌≢◌, ℕ, zero, suc, ◌+◌, ◌-◌, ◌≤◌, Bool, true, false, cond, Option, Some, None, List, [], ◌∷◌, ◌++◌, refl, sym, ap, ◌∙◌, subst, arith}
+use Rattle.std.specs.Prelude.{if◌then◌else◌, ◌&&◌, ◌||◌, ◌==◌, not, nat_lt}
+use Rattle.std.specs.List.{filter_map, list_all}
+use Rattle.std.specs.Ordering.{nat_cmp, eq_by_cmp}
+use Rattle.std.specs.FinMap as finite
+use Rattle.flow_filter.specs.declared.filter.Filter.{Filter}
+use Rattle.flow_filter.specs.declared.packet.Packet.{Packet}
+use Rattle.nf_function.specs.Semantics.{Semantics}
+use Rattle.packet_pool.specs.Pool.{FullCell, one_more}
+use Rattle.event_filter.specs.declared.mark.Mark.TheVariants as mark
+use Rattle.switch_rules.specs.declared.target.Target.{Target}
+use Rattle.switch_rules.specs.declared.target.Target.TheVariants as target
+use Rattle.switch_rules.specs.Rules.{redirected}
+use Rattle.nf_msgs.specs.declared.answer.Answer.{Answer}
+use Rattle.nf_msgs.specs.declared.command.Command.{Command}
+use Rattle.nf_msgs.specs.declared.command.Order.{Order}
+use Rattle.nf_msgs.specs.declared.command.Order.TheVariants as order
+use Rattle.nf_msgs.specs.declared.msg.Msg.{Msg}
+use Rattle.nf_msgs.specs.declared.msg.Msg.TheVariants as msg
+use Rattle.nf_msgs.specs.declared.note.Note.{Note}
+use Rattle.nf_msgs.specs.declared.note.Note.TheVariants as note
+use Rattle.nf_msgs.specs.Nodes.{instance_node}
+use Rattle.nf_msgs.specs.Shown.{op_of}
+use Rattle.actor_net.specs.Histories.{sent_for as core_sent}
+use Rattle.unit_machine.proofs.Labels.{Each, each-append}
+use Rattle.ctrl_node.specs.declared.operation.Operation.{Operation}
+use Rattle.ctrl_node.specs.declared.operation.Operation.TheVariants.{Move, Copy, Share}
+use Rattle.move_op.specs.Move.{Store}
+use Rattle.copy_share.specs.Share.{ShareState}
+use Rattle.ctrl_node.specs.Operations.{OpenOperations, Turn, turn_of, lasts, is_quiet, are_quiet}
+use Rattle.ctrl_node.specs.Controller as controller
+use Rattle.ctrl_node.specs.Controller.{ControllerState, Step, still, refusal, place_of, begins_between, copies_between, begins_share, begins, decided, on_asked, turned, closed, after_turn, takes_turn, handed, numbered, on_event, on_final, instance_at}
+use Rattle.switch_node.specs.Switch as switch
+use Rattle.switch_node.specs.Switch.{SwitchState, switch_step, stops, sends_to_instance, goes_to, target_of, has_room, is_there}
+use Rattle.answer_net.proofs.InstallCounts.{finish}
+use Rattle.joined_net.proofs.KnownOperations.{AreKnown, by_turn}
+use Rattle.joined_net.proofs.Joined.{Given, Label}
+use Rattle.answer_net.proofs.LinePicks.{picked}
+
+-- a command, or the end
+abbrev pub sign_in : Msg → List Bool
+sign_in (msg.Asked c) = true ∷ []
+sign_in (msg.InCommand c) = true ∷ []
+sign_in msg.End = false ∷ []
+sign_in msg.InEnd = false ∷ []
+sign_in m = []
+
+-- no command is there, and none behind an end
+abbrev pub no_command : List Bool → Bool
+no_command [] = true
+no_command (true ∷ xs) = false
+no_command (false ∷ xs) = no_command xs
+
+abbrev pub in_order : List Bool → Bool
+in_order [] = true
+in_order (true ∷ xs) = in_order xs
+in_order (false ∷ xs) = no_command xs
+
+pub none_ordered : (xs : List Bool) → no_command xs ≡ true → in_order xs ≡ true
+none_ordered [] h = refl
+none_ordered (true ∷ xs) h = cc
+none_ordered (false ∷ xs) h = h
+
+pub ordered_behind : (xs ys : List Bool) → in_order (xs ++ ys) ≡ true → in_order ys ≡ true
+ordered_behind [] ys h = h
+ordered_behind (true ∷ xs) ys h = ordered_behind xs ys h
+ordered_behind (false ∷ xs) ys h = none_ordered ys (behind xs ys h)
+  where
+    behind : (us bs : List Bool) → no_command (us ++ bs) ≡ true → no_command bs ≡ true
+    behind [] bs e = e
+    behind (true ∷ us) bs e = cc
+    behind (false ∷ us) bs e = behind us bs e
+
+-- Nothing is open where all is quiet.
+both : (a b : Bool) → a && b ≡ true → (a ≡ true) × (b ≡ true)
+both true true e = (refl, refl)
+both true false e = cc
+both false b e = cc
+
+quiet_found : (store : Store) (op : ℕ) (es : List (ℕ × Operation)) (o : Operation) → list_all (λ e. is_quiet store e.1) es ≡ true → finite.find nat_cmp op es ≡ Some o → is_quiet store o ≡ true
+quiet_found store op [] o h there = cc
+quiet_found store op (e ∷ es) o h there =
+    let all = both (is_quiet store e.1) (list_all (λ x. is_quiet store x.1) es) h in
+    elim (eq_by_cmp nat_cmp op e.0) as (λ b. cond b (Some e.1) (finite.find nat_cmp op es) ≡ Some o → is_quiet store o ≡ true) [
+      | true ↦ λ here. let same : e.1 ≡ o = cc in subst (λ x. is_quiet store x ≡ true) same all.0
+      | false ↦ λ rest. quiet_found store op es o all.1 rest
+    ] there
+
+pub quiet_none : (ops : OpenOperations) (store : Store) → are_quiet ops store ≡ true → ((op : ℕ) (s : ShareState) → finite.get ops op ≢ Some (Share s)) → (op : ℕ) → finite.get ops op ≡ None
+quiet_none ops store h none op = by_got (finite.get ops op) refl
+  where
+    quiet : (o : Operation) → finite.get ops op ≡ Some o → is_quiet store o ≡ true
+    quiet o e = quiet_found store op (finite.entries ops) o h (sym (finite.get-entries ops op) ∙ e)
+
+    by_got : (o : Option Operation) → finite.get ops op ≡ o → o ≡ None
+    by_got None e = refl
+    by_got (Some (Move m)) e = let never : false ≡ true = quiet (Move m) e in cc
+    by_got (Some (Copy y)) e = let never : false ≡ true = quiet (Copy y) e in cc
+    by_got (Some (Share s)) e = absurd (none op s e)
+
+-- The controller.
+module _ (g : Given) (c : ControllerState) (are : AreKnown g c) where
+  -- the input's end is as it was, and nothing opens
+  record Rests (did : Step) : Type 0 where
+    end_same : did.node.end_came ≡ c.end_came
+    none : ((op : ℕ) → finite.get c.operations op ≡ None) → (op : ℕ) → finite.get did.node.operations op ≡ None
+
+  rests : Rests (still c)
+  rests = record { end_same = refl; none = λ h. h }
+
+  turn_end : (op : ℕ) (t : Turn) (o : Option Answer) → (after_turn c op t o).node.end_came ≡ c.end_came
+  turn_end op t None = refl
+  turn_end op t (Some a) = elim (lasts t.operation) as (λ b. (if b then turned c op t else closed (turned c op t) op).end_came ≡ c.end_came) [ true ↦ refl | false ↦ refl ]
+
+  turn_rests : (op port : ℕ) (m : Msg) (o : Option Operation) → finite.get c.operations op ≡ o → Rests (takes_turn c op (turn_of o c.store port m))
+  turn_rests op port m None is = record { end_same = refl; none = λ h. h }
+  turn_rests op port m (Some (Move mv)) is = record { end_same = turn_end op (turn_of (Some (Move mv)) c.store port m) (turn_of (Some (Move mv)) c.store port m).answer; none = λ h. (let never = sym (h op) ∙ is in cc) }
+  turn_rests op port m (Some (Copy y)) is = record { end_same = turn_end op (turn_of (Some (Copy y)) c.store port m) (turn_of (Some (Copy y)) c.store port m).answer; none = λ h. (let never = sym (h op) ∙ is in cc) }
+  turn_rests op port m (Some (Share s)) is = absurd (are.no_shares op s is)
+
+  handed_rests : (op port : ℕ) (m : Msg) → Rests (handed c op port m)
+  handed_rests op port m = by_turn g c are Rests op port m (turn_rests op port m (finite.get c.operations op) refl)
+
+  numbered_rests : (port : ℕ) (m : Msg) (o : Option ℕ) → Rests (numbered c port m o)
+  numbered_rests port m None = rests
+  numbered_rests port m (Some op) = handed_rests op port m
+
+  event_rests : (port op : ℕ) (cell : FullCell) (i : Option ℕ) → Rests (on_event c port op cell i)
+  event_rests port op cell None = rests
+  event_rests port op cell (Some i) = elim (finite.contains_key c.operations op) as (λ b. Rests (if b then handed c op port (msg.Event op cell) else record { node = c; sends = (0, msg.Forward i (mark.Pass op) cell) ∷ []; notes = [] })) [
+    | true ↦ handed_rests op port (msg.Event op cell)
+    | false ↦ record { end_same = refl; none = λ h. h }
+  ]
+
+  final_rests : (i : Option ℕ) → Rests (on_final c i)
+  final_rests None = rests
+  final_rests (Some i) = record { end_same = refl; none = λ h. h }
+
+  -- a command leaves the input's end as it was
+  abbrev SameEnd : Step → Type 0
+  SameEnd did = did.node.end_came ≡ c.end_came
+
+  between_end : (op : ℕ) (filter : Filter) (keep : Bool) (a b : Option ℕ) → SameEnd (begins_between c op filter keep a b)
+  between_end op filter keep (Some a) (Some b) = refl
+  between_end op filter keep None b = refl
+  between_end op filter keep (Some a) None = refl
+
+  copies_end : (op : ℕ) (filter : Option Filter) (a b : Option ℕ) → SameEnd (copies_between c op filter a b)
+  copies_end op filter (Some a) (Some b) = refl
+  copies_end op filter None b = refl
+  copies_end op filter (Some a) None = refl
+
+  shares_end : (op : ℕ) (filter : Filter) (members : List ℕ) → SameEnd (begins_share c op filter members)
+  shares_end op filter [] = refl
+  shares_end op filter (home ∷ others) = refl
+
+  begins_end : (op : ℕ) (what : Order) → SameEnd (begins c op what)
+  begins_end op (order.Move source destination filter keep) = between_end op filter keep (place_of c.names source) (place_of c.names destination)
+  begins_end op (order.Copy source destination filter) = copies_end op filter (place_of c.names source) (place_of c.names destination)
+  begins_end op (order.Share members filter) = shares_end op filter (filter_map (place_of c.names) members)
+
+  decided_end : (op : ℕ) (what : Order) (o : Option Answer) → SameEnd (decided c op what o)
+  decided_end op what (Some a) = refl
+  decided_end op what None = begins_end op what
+
+  asked_end : (p : ℕ) (k : Command) → SameEnd (controller.row c p (msg.Asked k))
+  asked_end p k = elim (p == 0) as (λ b. SameEnd (if b then on_asked c k else still c)) [
+    | true ↦ elim (finite.contains_key c.operations k.op) as (λ b. SameEnd (if b then still c else decided c k.op k.what (refusal c k.what))) [ true ↦ refl | false ↦ decided_end k.op k.what (refusal c k.what) ]
+    | false ↦ refl
+  ]
+
+  -- what is left of the way to the controller after its step, and what it says
+  pub record Ended (did : Step) (way : List Bool) : Type 0 where
+    pub ended : did.node.end_came ≡ true → no_command way ≡ true
+    pub none : c.end_came ≡ true → ((op : ℕ) → finite.get c.operations op ≡ None) → (did.node.end_came ≡ true) × ((op : ℕ) → finite.get did.node.operations op ≡ None)
+
+  module _ (way : List Bool) where
+    by_rests : (did : Step) → Rests did → (c.end_came ≡ true → no_command way ≡ true) → Ended did way
+    by_rests did r ended = record { ended = λ e. ended (sym r.end_same ∙ e); none = λ e h. (r.end_same ∙ e, r.none h) }
+
+    module _ {R : Type 0} (f : Semantics R) where
+      pub row_ends : (p : ℕ) (m : Msg) → Label f g p 1 m → in_order (sign_in m ++ way) ≡ true → (c.end_came ≡ true → no_command (sign_in m ++ way) ≡ true) → Ended (controller.row c p m) way
+      row_ends p (msg.Asked k) label ordered ended = record {
+        ended = λ e. (let never : false ≡ true = ended (sym (asked_end p k) ∙ e) in cc);
+        none = λ e h. (let never : false ≡ true = ended e in cc);
+      }
+      row_ends p msg.End label ordered ended = elim (p == 0) as (λ b. (p == 0) ≡ b → Ended (if b then still (record c { end_came = true }) else still c) way) [
+        | true ↦ λ on. record { ended = λ e. ordered; none = λ e h. (refl, h) }
+        | false ↦ λ off. record { ended = λ e. ordered; none = λ e h. (e, h) }
+      ] refl
+      row_ends p (msg.Diverted cell) label ordered ended = absurd label
+      row_ends p (msg.InCommand k) label ordered ended = let never = label.0.1 in cc
+      row_ends p msg.InEnd label ordered ended = let never = label.1 in cc
+      row_ends p (msg.Event op cell) label ordered ended = by_rests _ (event_rests p op cell (instance_at c p)) ended
+      row_ends p msg.Final label ordered ended = by_rests _ (final_rests (instance_at c p)) ended
+      row_ends p m label ordered ended = by_rests _ (numbered_rests p m (op_of m)) ended
+
+-- where commands and ends come from
+module _ {R : Type 0} (f : Semantics R) (g : Given) where
+  none_both : {X : Type 0} (b : Bool) → ◌≡◌ {A = List X} [] (if b then [] else [])
+  none_both true = refl
+  none_both false = refl
+
+  pub sign_at_switch : (p : ℕ) (m : Msg) → Label f g p 0 m → sign_in m ≡ (if 0 == p then sign_in m else [])
+  sign_at_switch p (msg.InCommand c) label = let from = label.0.0 in rw from refl
+  sign_at_switch p msg.InEnd label = let from = label.0 in rw from refl
+  sign_at_switch p (msg.Asked c) label = let never = label.1 in cc
+  sign_at_switch p msg.End label = let never = label.1 in cc
+  sign_at_switch p m label = none_both (0 == p)
+
+  pub sign_at_controller : (p : ℕ) (m : Msg) → Label f g p 1 m → sign_in m ≡ (if 0 == p then sign_in m else [])
+  sign_at_controller p (msg.Asked c) label = let from = label.0 in rw from refl
+  sign_at_controller p msg.End label = let from = label.0 in rw from refl
+  sign_at_controller p (msg.InCommand c) label = let never = label.0.1 in cc
+  sign_at_controller p msg.InEnd label = let never = label.1 in cc
+  sign_at_controller p m label = none_both (0 == p)
+
+-- The switch hands on commands and the end.
+abbrev NoSign : List (ℕ × Msg) → Type 0
+NoSign sends = Each (λ x. sign_in x.1 ≡ []) sends
+
+no_sign : (r : ℕ) (sends : List (ℕ × Msg)) → NoSign sends → picked sign_in (core_sent r sends) ≡ []
+no_sign r [] h = refl
+no_sign r (x ∷ xs) h = elim (x.0 == r) as (λ b. picked sign_in ((if b then x.1 ∷ [] else []) ++ core_sent r xs) ≡ []) [
+  | true ↦ ap (λ v. v ++ picked sign_in (core_sent r xs)) h.0 ∙ no_sign r xs h.1
+  | false ↦ no_sign r xs h.1
+]
+
+abbrev pub flag : Bool → ℕ
+flag b = if b then 1 else 0
+
+-- what is handed on, and whether the switch closes
+pub record Closes (s : SwitchState) (m : Msg) (did : switch.Step) : Type 0 where
+  pub hands : picked sign_in (core_sent 1 did.sends) ≡ sign_in m
+  pub closed : flag did.node.closed ≤ flag s.closed + finish m
+
+module _ (s : SwitchState) where
+  closes : (m : Msg) → sign_in m ≡ [] → finish m ≡ 0 → (t : SwitchState) → t.closed ≡ s.closed → (sends : List (ℕ × Msg)) (notes : List Note) → NoSign sends → Closes s m (record { node = t; sends = sends; notes = notes })
+  closes m none off t same sends notes h = record { hands = no_sign 1 sends h ∙ sym none; closed = (let e = ap flag same in omega (arith, e)) }
+
+  stops_none : (i : ℕ) → NoSign (stops i)
+  stops_none zero = tt
+  stops_none (suc i) = each-append (λ x. sign_in x.1 ≡ []) (stops i) ((instance_node i, msg.Stop) ∷ []) (stops_none i) (refl, tt)
+
+  still_closes : (m : Msg) → sign_in m ≡ [] → finish m ≡ 0 → Closes s m (switch.still s)
+  still_closes m none off = closes m none off s refl [] [] tt
+
+  goes_closes : (m : Msg) → sign_in m ≡ [] → finish m ≡ 0 → (p : Packet) (t : Target) → Closes s m (goes_to s p t)
+  goes_closes m none off p target.Controller = closes m none off _ refl _ _ (refl, tt)
+  goes_closes m none off p (target.Instance i) = elim (nat_lt i s.instances) as (λ b. Closes s m (if b then switch.arrives s p (instance_node i) (msg.Carry mark.Plain) else switch.still s)) [ true ↦ closes m none off _ refl _ _ (refl, tt) | false ↦ still_closes m none off ]
+
+  to_closes : (m : Msg) → sign_in m ≡ [] → finish m ≡ 0 → (i : ℕ) (a : Msg) → sign_in a ≡ [] → Closes s m (sends_to_instance s i a)
+  to_closes m none off i a h = elim (nat_lt i s.instances) as (λ b. Closes s m (if b then switch.sends_on s (instance_node i) a else switch.still s)) [ true ↦ closes m none off s refl ((instance_node i, a) ∷ []) [] (h, tt) | false ↦ still_closes m none off ]
+
+  install_closes : (op : ℕ) (filter : Filter) (from : ℕ) (to : Target) → Closes s (msg.Install op filter from to) (switch.on_install s op filter from to)
+  install_closes op filter from to = elim (nat_lt from s.instances && is_there s to) as (λ b. Closes s (msg.Install op filter from to) (if b then record { node = record s { rules = redirected (record { filter = filter; from = target.Instance from; to = to }) s.rules }; sends = (instance_node from, msg.Fence op) ∷ []; notes = note.Installed op ∷ [] } else switch.still s)) [
+    | true ↦ closes (msg.Install op filter from to) refl refl _ refl _ _ (refl, tt)
+    | false ↦ still_closes (msg.Install op filter from to) refl refl
+  ]
+
+  module _ {R : Type 0} (f : Semantics R) (g : Given) where
+    pub switch_closes : (p : ℕ) (m : Msg) → Label f g p 0 m → Closes s m (switch_step s m)
+    switch_closes p (msg.InPacket q) label = elim (has_room s) as (λ b. Closes s (msg.InPacket q) (if b then goes_to s q (target_of s q) else switch.still s)) [ true ↦ goes_closes (msg.InPacket q) refl refl q (target_of s q) | false ↦ still_closes (msg.InPacket q) refl refl ]
+    switch_closes p (msg.InCommand c) label = record { hands = refl; closed = omega arith }
+    switch_closes p msg.InEnd label = record { hands = refl; closed = omega arith }
+    switch_closes p (msg.Forward to k cell) label = to_closes (msg.Forward to k cell) refl refl to (msg.Carry k cell) refl
+    switch_closes p (msg.Install op filter from to) label = install_closes op filter from to
+    switch_closes p (msg.FenceTo op to) label = to_closes (msg.FenceTo op to) refl refl to (msg.Fence op) refl
+    switch_closes p (msg.Answered op) label = closes (msg.Answered op) refl refl _ refl [] [] tt
+    switch_closes p msg.Finish label = record { hands = no_sign 1 (stops s.instances) (stops_none s.instances); closed = omega arith }
+    switch_closes p (msg.Credit cell) label = elim ((s.flying == 0) || not (cell.pool == s.pool.name)) as (λ b. Closes s (msg.Credit cell) (if b then switch.still s else record { node = record s { pool = one_more s.pool; flying = s.flying - 1 }; sends = []; notes = [] })) [ true ↦ still_closes (msg.Credit cell) refl refl | false ↦ closes (msg.Credit cell) refl refl _ refl [] [] tt ]
+    switch_closes p (msg.Asked c) label = let never = label.1 in cc
+    switch_closes p msg.End label = let never = label.1 in cc
+    switch_closes p m label = still_closes m refl refl

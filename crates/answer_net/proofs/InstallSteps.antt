@@ -1,0 +1,390 @@
+-- What each node's step keeps of the changes of the switch's rules: the controller has sent one for each open move that passes packets on
+-- and for each that was done, and the switch notes each that it takes.
+use Rattle.std.proofs.Common.{◌≡◌, ◌≢◌, ℕ, ◌+◌, ◌-◌, ◌≤◌, Bool, true, false, cond, Option, Some, None, List, [], ◌∷◌, ◌++◌, refl, sym, ap, ◌∙◌, subst, arith}
+use Rattle.std.specs.Prelude.{if◌then◌else◌, ◌||◌, ◌==◌, not, nat_lt, is_some, option_map}
+use Rattle.std.specs.Option.{option_or}
+use Rattle.std.specs.FinMap as finite
+use Rattle.std.proofs.lemmas.Bool.Decides.{nat_tests, Decides-eqb}
+use Rattle.flow_filter.specs.declared.filter.Filter.{Filter}
+use Rattle.flow_filter.specs.declared.packet.Packet.{Packet}
+use Rattle.nf_function.specs.Semantics.{Semantics}
+use Rattle.packet_pool.specs.Pool.{FullCell, one_more}
+use Rattle.event_filter.specs.declared.action.Action.TheVariants as action
+use Rattle.event_filter.specs.declared.mark.Mark.TheVariants as mark
+use Rattle.switch_rules.specs.declared.target.Target.{Target}
+use Rattle.switch_rules.specs.declared.target.Target.TheVariants as target
+use Rattle.nf_msgs.specs.declared.answer.Answer.{Answer}
+use Rattle.nf_msgs.specs.declared.answer.Answer.TheVariants.{Done, Unknown, Overlap}
+use Rattle.nf_msgs.specs.declared.command.Order.{Order}
+use Rattle.nf_msgs.specs.declared.command.Order.TheVariants as order
+use Rattle.nf_msgs.specs.declared.msg.Msg.{Msg}
+use Rattle.nf_msgs.specs.declared.msg.Msg.TheVariants as msg
+use Rattle.nf_msgs.specs.declared.note.Note.{Note}
+use Rattle.nf_msgs.specs.declared.note.Note.TheVariants as note
+use Rattle.nf_msgs.specs.Nodes.{instance_node}
+use Rattle.nf_msgs.specs.Shown.{op_of}
+use Rattle.copy_share.specs.declared.copy_phase.CopyPhase.TheVariants.{Keeping}
+use Rattle.copy_share.specs.Copy.{CopyState}
+use Rattle.copy_share.specs.Copy as copy
+use Rattle.move_op.specs.declared.phase.Phase.{Phase}
+use Rattle.move_op.specs.declared.phase.Phase.TheVariants as phase
+use Rattle.move_op.specs.Move.{MovePlan, MoveState, Row, row_in, begun, answer_of}
+use Rattle.event_store.specs.Store.{stored}
+use Rattle.ctrl_node.specs.declared.operation.Operation.{Operation}
+use Rattle.ctrl_node.specs.declared.operation.Operation.TheVariants.{Move, Copy, Share}
+use Rattle.ctrl_node.specs.Operations.{turn_of, moved}
+use Rattle.ctrl_node.specs.Controller as controller
+use Rattle.ctrl_node.specs.Controller.{ControllerState, Step, still, refusal, place_of, opens, begins_between, copies_between, begins, decided, on_asked, after_turn, takes_turn, handed, numbered, on_event, on_final, instance_at, unknown_name, overlap, may_finish, finish_of, finished, controller_step}
+use Rattle.switch_node.specs.Switch as switch
+use Rattle.switch_node.specs.Switch.{SwitchState, switch_step, sends_to_instance, goes_to, target_of, has_room, is_there}
+use Rattle.actor_net.specs.Network.{reaches}
+use Rattle.actor_net.proofs.WeightLaws.{EachSent, weigh, sent_weight}
+use Rattle.net_world.specs.Commands.{answers_of, times_installed}
+use Rattle.outline_net.proofs.OperationTables.{got_insert, got_remove, gone_twice}
+use Rattle.outline_net.proofs.CopyTurns.{CopyTurn, Idle, Hands, Hands_all, Ends, hands, ends}
+use Rattle.joined_net.proofs.KnownOperations.{AreKnown, by_turn, copy_turns, NotSharing, not_sharing}
+use Rattle.answer_net.proofs.CreditCounts.{sent_weight-append}
+use Rattle.answer_net.proofs.InstallCounts.{sent_of, install, finish, done_in, passed, Adds, NoInstall, if_zero, no_one, row_adds}
+use Rattle.joined_net.proofs.Joined.{Given, IsPlan, IsCopyPlan, Label, count, is_instance}
+use Rattle.joined_net.proofs.PlaceNotes.{IsQuiet, is_uninstalled}
+use Rattle.unit_machine.proofs.Labels.{Each}
+
+-- a command that moves units changes the rules, and no other does
+abbrev pub is_moving : Option Order → Bool
+is_moving (Some (order.Move source destination filter keep)) = true
+is_moving o = false
+
+-- how many changes were sent for commands that are answered so, if they move units
+abbrev pub dones : Bool → List Answer → ℕ
+dones moving [] = 0
+dones moving (a ∷ answers) = (if moving then done_in a else 0) + dones moving answers
+
+pub dones-append : (moving : Bool) (xs ys : List Answer) → dones moving (xs ++ ys) ≡ dones moving xs + dones moving ys
+dones-append moving [] ys = omega arith
+dones-append moving (x ∷ xs) ys = let rest = dones-append moving xs ys in omega (arith, rest)
+
+pub dones-none : (moving : Bool) (a : Answer) → done_in a ≡ 0 → dones moving (a ∷ []) ≡ 0
+dones-none true a none = omega (arith, none)
+dones-none false a none = refl
+
+-- and for an open one
+abbrev pub open_in : Option Operation → ℕ
+open_in (Some (Move m)) = passed m.phase
+open_in o = 0
+
+pub over_is : (ph : Phase) (a : Answer) → answer_of ph ≡ Some a → passed ph ≡ done_in a
+over_is (phase.Over why) a is = by_some (Some why) is refl
+  where
+    done_of : Option Answer → ℕ
+    done_of (Some x) = done_in x
+    done_of None = 0
+
+    by_some : (o : Option Answer) → o ≡ Some a → o ≡ Some why → done_in why ≡ done_in a
+    by_some o e h = ap done_of (sym h) ∙ ap done_of e
+over_is ph a is = cc
+
+-- a refusal isn't an answer that it is done
+refused_none : (u : Option (List ℕ)) (q : Option ℕ) (a : Answer) → option_or (option_map Unknown u) (option_map Overlap q) ≡ Some a → done_in a ≡ 0
+refused_none (Some name) q a is = by_answer (Unknown name) a is refl
+  where
+    done_of : Option Answer → ℕ
+    done_of (Some x) = done_in x
+    done_of None = 0
+
+    by_answer : (b c : Answer) → Some b ≡ Some c → done_in b ≡ 0 → done_in c ≡ 0
+    by_answer b c e h = sym (ap done_of e) ∙ h
+refused_none None (Some k) a is = by_answer (Overlap k) a is refl
+  where
+    done_of : Option Answer → ℕ
+    done_of (Some x) = done_in x
+    done_of None = 0
+
+    by_answer : (b c : Answer) → Some b ≡ Some c → done_in b ≡ 0 → done_in c ≡ 0
+    by_answer b c e h = sym (ap done_of e) ∙ h
+refused_none None None a is = cc
+
+-- The controller.
+module _ (n : ℕ) (reach : reaches n 1 0 ≡ true) (g : Given) (k : ℕ) (c : ControllerState) where
+  -- whether the command moves units
+  abbrev moving : Bool
+  moving = is_moving (g.orders k)
+
+  -- what the step does for the command
+  pub record Counts (did : Step) : Type 0 where
+    pub sent : open_in (finite.get did.node.operations k) + dones moving (answers_of k did.notes) ≡ open_in (finite.get c.operations k) + sent_weight (install k) n 1 did.sends
+    pub unfinished : sent_weight finish n 1 did.sends ≡ 0
+    pub finish_same : did.node.finish_sent ≡ c.finish_sent
+
+  abbrev pub Sent : Step → Type 0
+  Sent did = open_in (finite.get did.node.operations k) + dones moving (answers_of k did.notes) ≡ open_in (finite.get c.operations k) + sent_weight (install k) n 1 did.sends
+
+  finished_is : (did : Step) → Counts did → Sent (finished did)
+  finished_is did h =
+      let none : sent_weight (install k) n 1 (finish_of did.node) ≡ 0 = elim (may_finish did.node) as (λ b. sent_weight (install k) n 1 (if b then (0, msg.Finish) ∷ [] else []) ≡ 0) [ true ↦ rw reach refl | false ↦ refl ] in
+      let same : open_in (finite.get (finished did).node.operations k) ≡ open_in (finite.get did.node.operations k) = elim (may_finish did.node) as (λ b. open_in (finite.get (if b then record did.node { finish_sent = true } else did.node).operations k) ≡ open_in (finite.get did.node.operations k)) [ true ↦ refl | false ↦ refl ] in
+      let both = sent_weight-append (install k) n 1 did.sends (finish_of did.node) in
+      let was = h.sent in
+      omega (arith, none, same, both, was)
+
+  still_is : Counts (still c)
+  still_is = record { sent = refl; unfinished = refl; finish_same = refl }
+
+  none_is : (s : ControllerState) (sends : List (ℕ × Msg)) → s.operations ≡ c.operations → s.finish_sent ≡ c.finish_sent → NoInstall n 1 sends → Counts (record { node = s; sends = sends; notes = [] })
+  none_is s sends same kept none = record { sent = (let own = none (Some k) in let all = ap (λ ops. open_in (finite.get ops k)) same in omega (arith, own, all)); unfinished = none None; finish_same = kept }
+
+  module _ (are : AreKnown g c) where
+    -- a copy sends no change
+    hands_is : (op : ℕ) (y : CopyState) → finite.get c.operations op ≡ Some (Copy y) → (m : Msg) → ((o : Option ℕ) → sent_of o m ≡ 0) → Counts (hands c op y m)
+    hands_is op y is m none =
+        let own = no_one n 1 (instance_node y.plan.to) m none in
+        let weighs = own (Some k) in
+        let here : open_in (finite.get (hands c op y m).node.operations k) ≡ open_in (finite.get c.operations k) = ap open_in (got_insert c.operations op k (Copy (record y { phase = Keeping }))) ∙ elim (k == op) as (λ b. (k == op) ≡ b → open_in (cond b (Some (Copy (record y { phase = Keeping }))) (finite.get c.operations k)) ≡ open_in (finite.get c.operations k)) [
+          | true ↦ λ on. sym (ap (λ j. open_in (finite.get c.operations j)) ((Decides-eqb k op).0 on) ∙ ap open_in is)
+          | false ↦ λ off. refl
+        ] refl in
+        record { sent = omega (arith, here, weighs); unfinished = own None; finish_same = refl }
+
+    ends_is : (op : ℕ) (y : CopyState) → finite.get c.operations op ≡ Some (Copy y) → Counts (ends c op)
+    ends_is op y is =
+        let plan : IsCopyPlan g op y.plan = (are.copies op y is).1 in
+        let own = no_one n 1 0 (msg.Answered op) (λ o. refl) in
+        let weighs = own (Some k) in
+        let turned : (op == k) ≡ (k == op) = grind (arith, nat_tests) in
+        let gone = got_remove c.operations op k in
+        let here : open_in (finite.get (finite.remove c.operations op) k) + dones moving (answers_of k (note.Answered op Done ∷ [])) ≡ open_in (finite.get c.operations k) =
+        rw (gone, turned) (elim (k == op) as (λ b. (k == op) ≡ b → open_in (cond b None (finite.get c.operations k)) + dones moving (if b then Done ∷ [] else []) ≡ open_in (finite.get c.operations k)) [
+          | true ↦ λ on.
+              let same : k ≡ op = (Decides-eqb k op).0 on in
+              let still : moving ≡ false = ap (λ j. is_moving (g.orders j)) same ∙ ap is_moving plan.order_is in
+              let none : open_in (finite.get c.operations k) ≡ 0 = ap (λ j. open_in (finite.get c.operations j)) same ∙ ap open_in is in
+              rw still (sym none)
+          | false ↦ λ off. omega arith
+        ] refl) in
+        record { sent = omega (arith, here, weighs); unfinished = own None; finish_same = refl }
+
+    copy_is : (op : ℕ) (y : CopyState) → finite.get c.operations op ≡ Some (Copy y) → (m : Msg) (did : Step) → CopyTurn c op y m did → Counts did
+    copy_is op y is m did (Idle e) = subst Counts (sym e) still_is
+    copy_is op y is m did (Hands j chunks e d) = subst Counts (sym d) (hands_is op y is (msg.Standby y.plan.op chunks) (λ o. refl))
+    copy_is op y is m did (Hands_all j chunk e d) = subst Counts (sym d) (hands_is op y is (msg.PutAll y.plan.op chunk) (λ o. refl))
+    copy_is op y is m did (Ends d) = subst Counts (sym d) (ends_is op y is)
+
+    turn_is : (op port : ℕ) (m : Msg) (o : Option Operation) → finite.get c.operations op ≡ o → Counts (takes_turn c op (turn_of o c.store port m))
+    turn_is op port m None is = record { sent = refl; unfinished = refl; finish_same = refl }
+    turn_is op port m (Some (Copy y)) is = copy_is op y is m _ (copy_turns g c are op y is port m)
+    turn_is op port m (Some (Share s)) is = absurd (are.no_shares op s is)
+    turn_is op port m (Some (Move mv)) is = by_answer (answer_of r.next.phase) refl
+      where
+        r : Row
+        r = row_in mv c.store port m
+
+        x : MoveState
+        x = record mv { phase = r.next.phase }
+
+        adds : Adds n reach mv.plan mv.phase r.next
+        adds = row_adds n reach mv.plan (stored c.store mv.plan.op) mv.phase port m (are.moves op mv is).1
+
+        -- what it sends, by whether the command is the move's
+        sends_are : (after : ℕ) → after ≡ passed r.next.phase → (if k == op then after else open_in (finite.get c.operations k)) ≡ open_in (finite.get c.operations k) + sent_weight (install k) n 1 r.next.sends
+        sends_are after e = elim (k == op) as (λ b. (k == op) ≡ b → (if b then after else open_in (finite.get c.operations k)) ≡ open_in (finite.get c.operations k) + sent_weight (install k) n 1 r.next.sends) [
+          | true ↦ λ on.
+              let own : mv.plan.op ≡ k = (are.moves op mv is).0 ∙ sym ((Decides-eqb k op).0 on) in
+              let sent = subst (λ y. sent_weight (install y) n 1 r.next.sends + passed mv.phase ≡ passed r.next.phase) own adds.own in
+              let before : open_in (finite.get c.operations k) ≡ passed mv.phase = ap (λ y. open_in (finite.get c.operations y)) ((Decides-eqb k op).0 on) ∙ ap open_in is in
+              omega (arith, e, sent, before)
+          | false ↦ λ off.
+              let same = (are.moves op mv is).0 in
+              let apart : (mv.plan.op == k) ≡ false = grind (arith, nat_tests, off, same) in
+              let none = adds.other k apart in
+              omega (arith, none)
+        ] refl
+
+        by_answer : (a : Option Answer) → answer_of r.next.phase ≡ a → Counts (after_turn c op (moved mv c.store r) a)
+        by_answer None e =
+            let here : open_in (finite.get (finite.insert c.operations op (Move x)) k) ≡ (if k == op then passed r.next.phase else open_in (finite.get c.operations k)) = ap open_in (got_insert c.operations op k (Move x)) ∙ elim (k == op) as (λ b. open_in (cond b (Some (Move x)) (finite.get c.operations k)) ≡ (if b then passed r.next.phase else open_in (finite.get c.operations k))) [ true ↦ refl | false ↦ refl ] in
+            let sent = sends_are (passed r.next.phase) refl in
+            record { sent = omega (arith, here, sent); unfinished = adds.unfinished; finish_same = refl }
+        by_answer (Some a) e =
+            let sends = r.next.sends ++ (0, msg.Answered op) ∷ [] in
+            let both = sent_weight-append (install k) n 1 r.next.sends ((0, msg.Answered op) ∷ []) in
+            let none = no_one n 1 0 (msg.Answered op) (λ y. refl) (Some k) in
+            let gone : finite.get (finite.remove (finite.insert c.operations op (Move x)) op) k ≡ cond (k == op) None (finite.get c.operations k) = got_remove (finite.insert c.operations op (Move x)) op k ∙ ap (λ o. cond (k == op) None o) (got_insert c.operations op k (Move x)) ∙ gone_twice (k == op) (Some (Move x)) (finite.get c.operations k) in
+            let turned : (op == k) ≡ (k == op) = grind (arith, nat_tests) in
+            let plan : IsPlan g op mv.plan = (are.moves op mv is).2 in
+            let here : open_in (finite.get (finite.remove (finite.insert c.operations op (Move x)) op) k) + dones moving (answers_of k (note.Answered op a ∷ [])) ≡ (if k == op then done_in a else open_in (finite.get c.operations k)) =
+            rw (gone, turned) (elim (k == op) as (λ b. (k == op) ≡ b → open_in (cond b None (finite.get c.operations k)) + dones moving (if b then a ∷ [] else []) ≡ (if b then done_in a else open_in (finite.get c.operations k))) [
+              | true ↦ λ on. (let does : moving ≡ true = ap (λ j. is_moving (g.orders j)) ((Decides-eqb k op).0 on) ∙ ap is_moving plan.order_is in rw does (omega arith))
+              | false ↦ λ off. omega arith
+            ] refl) in
+            let sent = sends_are (done_in a) (sym (over_is r.next.phase a e)) in
+            record {
+              sent = omega (arith, both, none, here, sent);
+              unfinished = (let all = sent_weight-append finish n 1 r.next.sends ((0, msg.Answered op) ∷ []) in let first = adds.unfinished in let last = no_one n 1 0 (msg.Answered op) (λ y. refl) None in omega (arith, all, first, last));
+              finish_same = refl;
+            }
+
+    handed_is : (op port : ℕ) (m : Msg) → Counts (handed c op port m)
+    handed_is op port m = by_turn g c are Counts op port m (turn_is op port m (finite.get c.operations op) refl)
+
+    numbered_is : (port : ℕ) (m : Msg) (o : Option ℕ) → Counts (numbered c port m o)
+    numbered_is port m None = still_is
+    numbered_is port m (Some op) = handed_is op port m
+
+    event_is : (port op : ℕ) (cell : FullCell) (i : Option ℕ) → Counts (on_event c port op cell i)
+    event_is port op cell None = still_is
+    event_is port op cell (Some i) = elim (finite.contains_key c.operations op) as (λ b. Counts (if b then handed c op port (msg.Event op cell) else record { node = c; sends = (0, msg.Forward i (mark.Pass op) cell) ∷ []; notes = [] })) [
+      | true ↦ handed_is op port (msg.Event op cell)
+      | false ↦ none_is c ((0, msg.Forward i (mark.Pass op) cell) ∷ []) refl refl (no_one n 1 0 (msg.Forward i (mark.Pass op) cell) (λ y. refl))
+    ]
+
+    final_is : (i : Option ℕ) → Counts (on_final c i)
+    final_is None = still_is
+    final_is (Some i) = none_is _ [] refl refl (λ op. refl)
+
+    -- a command that waits
+    module _ (op : ℕ) (none : finite.get c.operations op ≡ None) where
+      between_is : (filter : Filter) (keep : Bool) (a b : Option ℕ) → Counts (begins_between c op filter keep a b)
+      between_is filter keep (Some from) (Some to) =
+          let plan : MovePlan = record { op = op; from = from; to = to; filter = filter; keep = keep } in
+          let sent = no_one n 1 (from + 2) (msg.Enable op filter action.Drop) (λ y. refl) in
+          let own = sent (Some k) in
+          let here : open_in (finite.get (finite.insert c.operations op (Move (begun plan))) k) ≡ open_in (finite.get c.operations k) = ap open_in (got_insert c.operations op k (Move (begun plan))) ∙ elim (k == op) as (λ b. (k == op) ≡ b → open_in (cond b (Some (Move (begun plan))) (finite.get c.operations k)) ≡ open_in (finite.get c.operations k)) [
+            | true ↦ λ on. sym (ap (λ y. open_in (finite.get c.operations y)) ((Decides-eqb k op).0 on) ∙ ap open_in none)
+            | false ↦ λ off. refl
+          ] refl in
+          record { sent = omega (arith, here, own); unfinished = sent None; finish_same = refl }
+      between_is filter keep None b = still_is
+      between_is filter keep (Some from) None = still_is
+
+      -- another operation begins
+      opens_is : (o : Operation) (to : ℕ) (m : Msg) → open_in (Some o) ≡ 0 → ((j : Option ℕ) → sent_of j m ≡ 0) → Counts (opens c op o ((to, m) ∷ []))
+      opens_is o to m zero quiet =
+          let sent = no_one n 1 to m quiet in
+          let own = sent (Some k) in
+          let here : open_in (finite.get (finite.insert c.operations op o) k) ≡ open_in (finite.get c.operations k) = ap open_in (got_insert c.operations op k o) ∙ elim (k == op) as (λ b. (k == op) ≡ b → open_in (cond b (Some o) (finite.get c.operations k)) ≡ open_in (finite.get c.operations k)) [
+            | true ↦ λ on. zero ∙ sym (ap (λ y. open_in (finite.get c.operations y)) ((Decides-eqb k op).0 on) ∙ ap open_in none)
+            | false ↦ λ off. refl
+          ] refl in
+          record { sent = omega (arith, here, own); unfinished = sent None; finish_same = refl }
+
+      copies_is : (filter : Option Filter) (a b : Option ℕ) → Counts (copies_between c op filter a b)
+      copies_is filter (Some from) (Some to) = opens_is (Copy (copy.begun (record { op = op; from = from; to = to; filter = filter }))) (instance_node from) (copy.asks op filter) refl (asks_quiet filter)
+        where
+          asks_quiet : (o : Option Filter) (j : Option ℕ) → sent_of j (copy.asks op o) ≡ 0
+          asks_quiet None j = refl
+          asks_quiet (Some flt) j = refl
+      copies_is filter None b = still_is
+      copies_is filter (Some from) None = still_is
+
+      begins_is : (what : Order) → NotSharing what → Counts (begins c op what)
+      begins_is (order.Move source destination filter keep) built = between_is filter keep (place_of c.names source) (place_of c.names destination)
+      begins_is (order.Copy source destination filter) built = copies_is filter (place_of c.names source) (place_of c.names destination)
+      begins_is (order.Share members filter) built = absurd built
+
+      decided_is : (what : Order) (o : Option Answer) → NotSharing what → refusal c what ≡ o → Counts (decided c op what o)
+      decided_is what None built is = begins_is what built
+      decided_is what (Some a) built is =
+          let refused = refused_none (unknown_name c what) (overlap c what) a is in
+          let sent = no_one n 1 0 (msg.Answered op) (λ y. refl) in
+          let own = sent (Some k) in
+          let noted : dones moving (if op == k then a ∷ [] else []) ≡ 0 = elim (op == k) as (λ b. dones moving (if b then a ∷ [] else []) ≡ 0) [ true ↦ dones-none moving a refused | false ↦ refl ] in
+          record { sent = omega (arith, own, noted); unfinished = sent None; finish_same = refl }
+
+    asked_is : (op : ℕ) (what : Order) → NotSharing what → Counts (on_asked c (record { op = op; what = what }))
+    asked_is op what built = by_got (finite.get c.operations op) refl
+      where
+        by_got : (o : Option Operation) → finite.get c.operations op ≡ o → Counts (if is_some o then still c else decided c op what (refusal c what))
+        by_got None is = decided_is op is what (refusal c what) built refl
+        by_got (Some x) is = still_is
+
+    pub row_counts : {R : Type 0} (f : Semantics R) (port : ℕ) (m : Msg) → Label f g port 1 m → Counts (controller.row c port m)
+    row_counts f port (msg.Asked a) label = elim (port == 0) as (λ b. Counts (if b then on_asked c a else still c)) [ true ↦ asked_is a.op a.what (not_sharing f g a.what label.2.built) | false ↦ still_is ]
+    row_counts f port (msg.Diverted cell) label = absurd label
+    row_counts f port msg.End label = elim (port == 0) as (λ b. Counts (if b then still (record c { end_came = true }) else still c)) [ true ↦ none_is _ [] refl refl (λ op. refl) | false ↦ still_is ]
+    row_counts f port (msg.Event op cell) label = event_is port op cell (instance_at c port)
+    row_counts f port msg.Final label = final_is (instance_at c port)
+    row_counts f port m label = numbered_is port m (op_of m)
+
+    pub controller_counts : {R : Type 0} (f : Semantics R) (port : ℕ) (m : Msg) → Label f g port 1 m → Sent (controller_step c port m)
+    controller_counts f port m label = finished_is (controller.row c port m) (row_counts f port m label)
+
+-- Other nodes send neither a change of the rules nor the finish, and none is sent to another node than the switch.
+module _ {R : Type 0} (f : Semantics R) (g : Given) (o : Option ℕ) where
+  pub no_install_from : (k r : ℕ) (m : Msg) → k ≢ 1 → Label f g k r m → sent_of o m ≡ 0
+  no_install_from k r (msg.Install j filter from to) other label = absurd (other label.0.0)
+  no_install_from k r msg.Finish other label = absurd (other label.0)
+  no_install_from k r m other label = refl
+
+  pub no_install_to : (p k : ℕ) (m : Msg) → 1 ≤ k → Label f g p k m → sent_of o m ≡ 0
+  no_install_to p k (msg.Install j filter from to) some label = let none = label.0.1 in absurd (omega (arith, some, none))
+  no_install_to p k msg.Finish some label = let none = label.1 in absurd (omega (arith, some, none))
+  no_install_to p k m some label = refl
+
+  pub none_sent : (n k : ℕ) (sends : List (ℕ × Msg)) → k ≢ 1 → EachSent (Label f g) k sends → sent_weight (sent_of o) n k sends ≡ 0
+  none_sent n k [] other h = refl
+  none_sent n k (x ∷ xs) other h =
+      let own = no_install_from k x.0 x.1 other h.0 in
+      let rest = none_sent n k xs other h.1 in
+      rw (own, rest, if_zero (reaches n k x.0)) refl
+
+  -- an input has none
+  pub items_none : (items : List Msg) → Each (Label f g 0 0) items → weigh (sent_of o) items ≡ 0
+  items_none [] h = refl
+  items_none (m ∷ ms) h = let own = no_install_from 0 0 m (λ never. cc) h.0 in let rest = items_none ms h.1 in omega (arith, own, rest)
+
+module _ {R : Type 0} (f : Semantics R) (g : Given) (op : ℕ) where
+  -- The switch notes each change that it takes.
+  abbrev Notes : ℕ → switch.Step → Type 0
+  Notes one did = times_installed op did.notes ≡ one
+
+  goes_notes : (s : SwitchState) (p : Packet) (t : Target) → Notes 0 (goes_to s p t)
+  goes_notes s p target.Controller = refl
+  goes_notes s p (target.Instance i) = elim (nat_lt i s.instances) as (λ b. Notes 0 (if b then switch.arrives s p (i + 2) (msg.Carry mark.Plain) else switch.still s)) [ true ↦ refl | false ↦ refl ]
+
+  to_instance_notes : (s : SwitchState) (i : ℕ) (m : Msg) → Notes 0 (sends_to_instance s i m)
+  to_instance_notes s i m = elim (nat_lt i s.instances) as (λ b. Notes 0 (if b then switch.sends_on s (i + 2) m else switch.still s)) [ true ↦ refl | false ↦ refl ]
+
+  install_notes : (s : SwitchState) (j : ℕ) (filter : Filter) (from : ℕ) (to : Target) → s.instances ≡ count f g → nat_lt from (count f g) ≡ true → is_instance (count f g) to ≡ true → Notes (install op (msg.Install j filter from to)) (switch.on_install s j filter from to)
+  install_notes s j filter from target.Controller same here there = cc
+  install_notes s j filter from (target.Instance i) same here there = rw (same, here, there) (omega arith)
+
+  pub switch_notes : (s : SwitchState) (p : ℕ) (m : Msg) → s.instances ≡ count f g → Label f g p 0 m → Notes (install op m) (switch_step s m)
+  switch_notes s p (msg.InPacket q) same label = elim (has_room s) as (λ b. Notes 0 (if b then goes_to s q (target_of s q) else switch.still s)) [ true ↦ goes_notes s q (target_of s q) | false ↦ refl ]
+  switch_notes s p (msg.Forward to k cell) same label = to_instance_notes s to (msg.Carry k cell)
+  switch_notes s p (msg.Install j filter from to) same label = install_notes s j filter from to same label.1 label.2
+  switch_notes s p (msg.FenceTo j to) same label = to_instance_notes s to (msg.Fence j)
+  switch_notes s p (msg.Credit cell) same label = elim ((s.flying == 0) || not (cell.pool == s.pool.name)) as (λ b. Notes 0 (if b then switch.still s else record { node = record s { pool = one_more s.pool; flying = s.flying - 1 }; sends = []; notes = [] })) [ true ↦ refl | false ↦ refl ]
+  switch_notes s p m same label = refl
+
+-- Notes among which no change is.
+pub times_installed-append : (op : ℕ) (xs ys : List Note) → times_installed op (xs ++ ys) ≡ times_installed op xs + times_installed op ys
+times_installed-append op [] ys = omega arith
+times_installed-append op (note.Arrived number ∷ xs) ys = times_installed-append op xs ys
+times_installed-append op (note.Processed number instance output ∷ xs) ys = times_installed-append op xs ys
+times_installed-append op (note.Begun k ∷ xs) ys = times_installed-append op xs ys
+times_installed-append op (note.Exported instance k us ∷ xs) ys = times_installed-append op xs ys
+times_installed-append op (note.Imported instance k us ∷ xs) ys = times_installed-append op xs ys
+times_installed-append op (note.Kept instance k us ∷ xs) ys = times_installed-append op xs ys
+times_installed-append op (note.Installed k ∷ xs) ys = let rest = times_installed-append op xs ys in omega (arith, rest)
+times_installed-append op (note.Answered k answer ∷ xs) ys = times_installed-append op xs ys
+
+pub none_installed : (op : ℕ) (ns : List Note) → Each (λ x. is_uninstalled x ≡ true) ns → times_installed op ns ≡ 0
+none_installed op [] h = refl
+none_installed op (note.Processed number instance output ∷ ns) h = none_installed op ns h.1
+none_installed op (note.Installed k ∷ ns) h = let never = h.0 in cc
+none_installed op (note.Arrived number ∷ ns) h = none_installed op ns h.1
+none_installed op (note.Begun k ∷ ns) h = none_installed op ns h.1
+none_installed op (note.Exported instance k us ∷ ns) h = none_installed op ns h.1
+none_installed op (note.Imported instance k us ∷ ns) h = none_installed op ns h.1
+none_installed op (note.Kept instance k us ∷ ns) h = none_installed op ns h.1
+none_installed op (note.Answered k answer ∷ ns) h = none_installed op ns h.1
+
+pub quiet_installed : (op k : ℕ) (ns : List Note) → Each (IsQuiet k) ns → times_installed op ns ≡ 0
+quiet_installed op k [] h = refl
+quiet_installed op k (note.Processed number instance output ∷ ns) h = quiet_installed op k ns h.1
+quiet_installed op k (note.Exported instance j us ∷ ns) h = quiet_installed op k ns h.1
+quiet_installed op k (note.Imported instance j us ∷ ns) h = quiet_installed op k ns h.1
+quiet_installed op k (note.Kept instance j us ∷ ns) h = quiet_installed op k ns h.1
+quiet_installed op k (note.Installed j ∷ ns) h = absurd h.0
+quiet_installed op k (note.Arrived number ∷ ns) h = absurd h.0
+quiet_installed op k (note.Begun j ∷ ns) h = absurd h.0
+quiet_installed op k (note.Answered j answer ∷ ns) h = absurd h.0

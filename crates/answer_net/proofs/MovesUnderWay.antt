@@ -1,0 +1,61 @@
+-- In every run the open operations of the controller are the commands under way, and what it knows of a move is what its order says.
+use Rattle.std.proofs.Common.{◌≡◌, ℕ, ◌+◌, Bool, Some, List, length, refl}
+use Rattle.std.specs.declared.alloc.Global.{Global}
+use Rattle.std.specs.FinMap as finite
+use Rattle.flow_filter.specs.declared.filter.Filter.{Filter}
+use Rattle.nf_function.specs.Records.{Laws as FunctionLaws}
+use Rattle.nf_function.specs.Semantics.{Semantics}
+use Rattle.nf_msgs.specs.declared.command.Order.TheVariants as order
+use Rattle.nf_msgs.specs.declared.msg.Msg.{Msg}
+use Rattle.nf_msgs.specs.declared.note.Note.{Note}
+use Rattle.move_op.specs.Move.{MovePlan, MoveState}
+use Rattle.ctrl_node.specs.declared.operation.Operation.TheVariants.{Move}
+use Rattle.ctrl_node.specs.Controller.{place_of}
+use Rattle.actor_net.specs.declared.choice.Choice.{Choice}
+use Rattle.actor_net.specs.Network.{Network, IsRun, run}
+use Rattle.net_world.specs.declared.config.Config.{Config}
+use Rattle.net_world.specs.declared.node.Node.{Node}
+use Rattle.net_world.specs.Input.{order_of, IsInput}
+use Rattle.net_world.specs.Commands.{is_busy}
+use Rattle.net_world.specs.Nodes.{node_step, node_ready}
+use Rattle.net_world.specs.Start.{started}
+use Rattle.joined_net.proofs.StartJoined.{given}
+use Rattle.answer_net.proofs.BusyRuns.{busy_is, plan_is}
+use Rattle.answer_net.proofs.CommandPromises.{run_busy}
+use Rattle.joined_net.proofs.Joined.{IsPlan, Joined}
+
+-- the order under a number moves what this filter takes between these two instances
+pub record IsMoveOf (c : Config) (items : List Msg) (op : ℕ) (filter : Filter) (ends : ℕ × ℕ) : Type 0 where
+  pub source : List ℕ
+  pub destination : List ℕ
+  pub keep : Bool
+  pub order : order_of items op ≡ Some (order.Move source destination filter keep)
+  pub from : place_of c.names source ≡ Some ends.0
+  pub to : place_of c.names destination ≡ Some ends.1
+
+module _ {R : Type 0} (f : Semantics R) (c : Config) (items : List Msg) (is : IsInput f.kind c items) where
+  plan_of : (op : ℕ) (plan : MovePlan) → IsPlan (given f c items is) op plan → IsMoveOf c items op plan.filter (plan.from, plan.to)
+  plan_of op plan p = record { source = p.source; destination = p.destination; keep = plan.keep; order = p.order_is; from = p.from_is; to = p.to_is }
+
+module _ {F R : Type 0} (f : Semantics R) (c : Config) (items : List Msg) (is : IsInput f.kind c items) where
+  pub record AreUnderWay (n : ℕ) (w : Network (Node F R) Msg Note) (j : Joined f (given f c items is) n w) : Type 0 where
+    -- the open operations are the commands under way
+    pub busy_is : (op : ℕ) → finite.contains_key j.nodes.controller.operations op ≡ is_busy op w.log
+    -- an open move's plan is that of its number's order
+    pub plan_is : (op : ℕ) (m : MoveState) → finite.get j.nodes.controller.operations op ≡ Some (Move m) → IsMoveOf c items op m.plan.filter (m.plan.from, m.plan.to)
+
+module _ (F : Type 0) {R : Type 0} (f : Semantics R) (laws : FunctionLaws f) (alloc : Global) (c : Config) (items : List Msg) (is : IsInput f.kind c items) where
+  abbrev first : Network (Node F R) Msg Note
+  first = started {F = F} {R = R} alloc c items
+
+  abbrev n : ℕ
+  n = length c.names + 2
+
+  pub moves_under_way : (cs : List Choice) → IsRun node_ready (node_step f) cs first → (j : Joined f (given f c items is) n (run (node_step f) cs first)) → AreUnderWay f c items is n (run (node_step f) cs first) j
+  moves_under_way cs run_is j =
+      let w = run (node_step f) cs first in
+      let b = (run_busy F f laws alloc c items is cs run_is).1 in
+      record {
+        busy_is = busy_is f (given f c items is) n refl w j b;
+        plan_is = λ op m there. plan_of f c items is op m.plan (plan_is f (given f c items is) n refl w j b op m there);
+      }

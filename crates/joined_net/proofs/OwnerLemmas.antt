@@ -1,0 +1,155 @@
+-- Who owns a unit, and whether a plain move handed it on, by a log that goes on; and what stays a place of the unit.
+use Rattle.std.proofs.Common.{◌≡◌, ℕ, Bool, true, false, Option, List, [], ◌∷◌, ◌++◌, refl, sym, ap, ◌∙◌, append-nil}
+use Rattle.std.specs.Prelude.{◌&&◌, ◌||◌, ◌==◌, not}
+use Rattle.flow_filter.specs.declared.flow.Flow.{Flow}
+use Rattle.nf_function.specs.declared.kind.Kind.{Kind}
+use Rattle.nf_function.specs.declared.kind.Kind.TheVariants.{Conntrack, Nat, Monitor}
+use Rattle.nf_function.specs.declared.unit.Unit as units
+use Rattle.nf_function.specs.Units.{unit_of}
+use Rattle.nf_msgs.specs.declared.command.Order.{Order}
+use Rattle.nf_msgs.specs.declared.msg.Msg.{Msg}
+use Rattle.nf_msgs.specs.declared.note.Note.{Note}
+use Rattle.nf_msgs.specs.declared.note.Note.TheVariants as note
+use Rattle.unit_machine.proofs.Labels.{Each}
+use Rattle.net_world.specs.declared.config.Config.{Config}
+use Rattle.net_world.specs.Input.{order_of}
+use Rattle.net_world.specs.Log.{has_begun, installed}
+use Rattle.net_world.specs.Commands.{has_answered, is_busy}
+use Rattle.net_world.specs.Places.{first_owner, handed_on, owner_after, hands_on_plain, loose_after, IsMoving, IsPlace, Owns, Is_source, Is_destination}
+use Rattle.outline_net.proofs.FiltersApart.{flow_fits, unit_fits, and_l, and_r}
+use Rattle.joined_net.proofs.PlaceNotes.{IsQuiet, is_uninstalled}
+
+-- the unit of a flow is one that packets may have
+pub unit_is_fit : (kind : Kind) (flow : Flow) → flow_fits flow ≡ true → unit_fits kind (unit_of kind flow) ≡ true
+unit_is_fit Conntrack flow e = e
+unit_is_fit Nat flow e = and_l _ _ (and_r _ _ e)
+unit_is_fit Monitor flow e = and_l _ _ (and_r _ _ e)
+
+module _ (names : List (List ℕ)) (orders : ℕ → Option Order) where
+  pub owner_after-append : (u : units.Unit) (i : ℕ) (xs ys : List ℕ) → owner_after names orders u i (xs ++ ys) ≡ owner_after names orders u (owner_after names orders u i xs) ys
+  owner_after-append u i [] ys = refl
+  owner_after-append u i (op ∷ xs) ys = owner_after-append u (handed_on names orders u (orders op) i) xs ys
+
+  pub loose_after-append : (u : units.Unit) (i : ℕ) (xs ys : List ℕ) → loose_after names orders u i (xs ++ ys) ≡ loose_after names orders u i xs || loose_after names orders u (owner_after names orders u i xs) ys
+  loose_after-append u i [] ys = refl
+  loose_after-append u i (op ∷ xs) ys = ap (λ b. hands_on_plain names orders u (orders op) i || b) (loose_after-append u (handed_on names orders u (orders op) i) xs ys) ∙ or_assoc (hands_on_plain names orders u (orders op) i) _ _
+    where
+      or_assoc : (a b c : Bool) → a || (b || c) ≡ (a || b) || c
+      or_assoc true b c = refl
+      or_assoc false b c = refl
+
+-- the changes of the rules in a log that goes on
+pub installed-append : (xs ys : List Note) → installed (xs ++ ys) ≡ installed xs ++ installed ys
+installed-append [] ys = refl
+installed-append (note.Installed op ∷ xs) ys = ap (λ v. op ∷ v) (installed-append xs ys)
+installed-append (note.Arrived number ∷ xs) ys = installed-append xs ys
+installed-append (note.Processed number instance output ∷ xs) ys = installed-append xs ys
+installed-append (note.Begun op ∷ xs) ys = installed-append xs ys
+installed-append (note.Exported instance op us ∷ xs) ys = installed-append xs ys
+installed-append (note.Imported instance op us ∷ xs) ys = installed-append xs ys
+installed-append (note.Kept instance op us ∷ xs) ys = installed-append xs ys
+installed-append (note.Answered op answer ∷ xs) ys = installed-append xs ys
+
+pub installed_same : (log notes : List Note) → installed notes ≡ [] → installed (log ++ notes) ≡ installed log
+installed_same log notes none = installed-append log notes ∙ ap (λ v. installed log ++ v) none ∙ append-nil (installed log)
+
+-- an instance notes none
+pub installed_quiet : (k : ℕ) (ys : List Note) → Each (IsQuiet k) ys → installed ys ≡ []
+installed_quiet k [] h = refl
+installed_quiet k (note.Processed number instance output ∷ ys) h = installed_quiet k ys h.1
+installed_quiet k (note.Exported instance op us ∷ ys) h = installed_quiet k ys h.1
+installed_quiet k (note.Imported instance op us ∷ ys) h = installed_quiet k ys h.1
+installed_quiet k (note.Kept instance op us ∷ ys) h = installed_quiet k ys h.1
+installed_quiet k (note.Installed op ∷ ys) h = absurd h.0
+installed_quiet k (note.Arrived number ∷ ys) h = absurd h.0
+installed_quiet k (note.Begun op ∷ ys) h = absurd h.0
+installed_quiet k (note.Answered op answer ∷ ys) h = absurd h.0
+
+-- nor does the controller
+pub installed_none : (ys : List Note) → Each (λ n. is_uninstalled n ≡ true) ys → installed ys ≡ []
+installed_none [] h = refl
+installed_none (note.Processed number instance output ∷ ys) h = installed_none ys h.1
+installed_none (note.Arrived number ∷ ys) h = installed_none ys h.1
+installed_none (note.Begun op ∷ ys) h = installed_none ys h.1
+installed_none (note.Exported instance op us ∷ ys) h = installed_none ys h.1
+installed_none (note.Imported instance op us ∷ ys) h = installed_none ys h.1
+installed_none (note.Kept instance op us ∷ ys) h = installed_none ys h.1
+installed_none (note.Installed op ∷ ys) h = let never = h.0 in cc
+installed_none (note.Answered op answer ∷ ys) h = installed_none ys h.1
+
+-- an instance begins or ends no command
+pub begun_quiet : (these : ℕ → Bool) (k : ℕ) (xs ys : List Note) → Each (IsQuiet k) ys → has_begun these (xs ++ ys) ≡ has_begun these xs
+begun_quiet these k [] [] h = refl
+begun_quiet these k [] (note.Processed number instance output ∷ ys) h = begun_quiet these k [] ys h.1
+begun_quiet these k [] (note.Exported instance op us ∷ ys) h = begun_quiet these k [] ys h.1
+begun_quiet these k [] (note.Imported instance op us ∷ ys) h = begun_quiet these k [] ys h.1
+begun_quiet these k [] (note.Kept instance op us ∷ ys) h = begun_quiet these k [] ys h.1
+begun_quiet these k [] (note.Installed op ∷ ys) h = absurd h.0
+begun_quiet these k [] (note.Arrived number ∷ ys) h = absurd h.0
+begun_quiet these k [] (note.Begun op ∷ ys) h = absurd h.0
+begun_quiet these k [] (note.Answered op answer ∷ ys) h = absurd h.0
+begun_quiet these k (note.Begun op ∷ xs) ys h = ap (λ b. these op || b) (begun_quiet these k xs ys h)
+begun_quiet these k (note.Arrived number ∷ xs) ys h = begun_quiet these k xs ys h
+begun_quiet these k (note.Processed number instance output ∷ xs) ys h = begun_quiet these k xs ys h
+begun_quiet these k (note.Exported instance op us ∷ xs) ys h = begun_quiet these k xs ys h
+begun_quiet these k (note.Imported instance op us ∷ xs) ys h = begun_quiet these k xs ys h
+begun_quiet these k (note.Kept instance op us ∷ xs) ys h = begun_quiet these k xs ys h
+begun_quiet these k (note.Installed op ∷ xs) ys h = begun_quiet these k xs ys h
+begun_quiet these k (note.Answered op answer ∷ xs) ys h = begun_quiet these k xs ys h
+
+pub answered_quiet : (k : ℕ) (op : ℕ) (xs ys : List Note) → Each (IsQuiet k) ys → has_answered op (xs ++ ys) ≡ has_answered op xs
+answered_quiet k op [] [] h = refl
+answered_quiet k op [] (note.Processed number instance output ∷ ys) h = answered_quiet k op [] ys h.1
+answered_quiet k op [] (note.Exported instance o us ∷ ys) h = answered_quiet k op [] ys h.1
+answered_quiet k op [] (note.Imported instance o us ∷ ys) h = answered_quiet k op [] ys h.1
+answered_quiet k op [] (note.Kept instance o us ∷ ys) h = answered_quiet k op [] ys h.1
+answered_quiet k op [] (note.Installed o ∷ ys) h = absurd h.0
+answered_quiet k op [] (note.Arrived number ∷ ys) h = absurd h.0
+answered_quiet k op [] (note.Begun o ∷ ys) h = absurd h.0
+answered_quiet k op [] (note.Answered o answer ∷ ys) h = absurd h.0
+answered_quiet k op (note.Answered o answer ∷ xs) ys h = ap (λ b. (o == op) || b) (answered_quiet k op xs ys h)
+answered_quiet k op (note.Arrived number ∷ xs) ys h = answered_quiet k op xs ys h
+answered_quiet k op (note.Processed number instance output ∷ xs) ys h = answered_quiet k op xs ys h
+answered_quiet k op (note.Exported instance o us ∷ xs) ys h = answered_quiet k op xs ys h
+answered_quiet k op (note.Imported instance o us ∷ xs) ys h = answered_quiet k op xs ys h
+answered_quiet k op (note.Kept instance o us ∷ xs) ys h = answered_quiet k op xs ys h
+answered_quiet k op (note.Installed o ∷ xs) ys h = answered_quiet k op xs ys h
+answered_quiet k op (note.Begun o ∷ xs) ys h = answered_quiet k op xs ys h
+
+pub busy_quiet : (k : ℕ) (op : ℕ) (xs ys : List Note) → Each (IsQuiet k) ys → is_busy op (xs ++ ys) ≡ is_busy op xs
+busy_quiet k op xs ys h = ap (λ b. b && not (has_answered op (xs ++ ys))) (begun_quiet (λ other. other == op) k xs ys h) ∙ ap (λ b. has_begun (λ other. other == op) xs && not b) (answered_quiet k op xs ys h)
+
+module _ (config : Config) (items : List Msg) where
+  moving_quiet : (u : units.Unit) (k : ℕ) (xs ys : List Note) (source destination : List ℕ) → Each (IsQuiet k) ys → IsMoving config items u xs source destination → IsMoving config items u (xs ++ ys) source destination
+  moving_quiet u k xs ys source destination h m = record { op = m.op; filter = m.filter; keep = m.keep; order = m.order; takes_it = m.takes_it; busy = busy_quiet k m.op xs ys h ∙ m.busy }
+
+  -- a place of a log is one after notes of an instance
+  pub place_quiet : (u : units.Unit) (k : ℕ) (xs ys : List Note) (i : ℕ) → Each (IsQuiet k) ys → IsPlace config items u xs i → IsPlace config items u (xs ++ ys) i
+  place_quiet u k xs ys i h (Owns e) = Owns (e ∙ ap (owner_after config.names (order_of items) u (first_owner u config.routes)) (sym (installed_same xs ys (installed_quiet k ys h))))
+  place_quiet u k xs ys i h (Is_source source destination m e) = Is_source source destination (moving_quiet u k xs ys source destination h m) e
+  place_quiet u k xs ys i h (Is_destination source destination m e) = Is_destination source destination (moving_quiet u k xs ys source destination h m) e
+
+-- where in two lists one behind the other an element stands
+pub data Stands {X : Type 0} (xs ys zs : List X) (z : X) (bs : List X) : Type 0 where
+  In_first : (cs : List X) → xs ≡ zs ++ z ∷ cs → Stands xs ys zs z bs
+  In_second : (cs : List X) → zs ≡ xs ++ cs → ys ≡ cs ++ z ∷ bs → Stands xs ys zs z bs
+
+pub stands : {X : Type 0} (xs ys zs : List X) (z : X) (bs : List X) → xs ++ ys ≡ zs ++ z ∷ bs → Stands xs ys zs z bs
+stands [] ys zs z bs e = In_second zs refl e
+stands (x ∷ xs) ys [] z bs e = let same : x ≡ z = cc in In_first xs (ap (λ v. v ∷ xs) same)
+stands (x ∷ xs) ys (a ∷ zs) z bs e =
+    let same : x ≡ a = cc in
+    let rest : xs ++ ys ≡ zs ++ z ∷ bs = cc in
+    by_rest same (stands xs ys zs z bs rest)
+  where
+    by_rest : x ≡ a → Stands xs ys zs z bs → Stands (x ∷ xs) ys (a ∷ zs) z bs
+    by_rest same (In_first cs is) = In_first cs (ap (λ v. v ∷ xs) same ∙ ap (λ v. a ∷ v) is)
+    by_rest same (In_second cs is at) = In_second cs (ap (λ v. v ∷ zs) (sym same) ∙ ap (λ v. x ∷ v) is) at
+
+pub each_front : {X : Type 0} (P : X → Type 0) (xs ys : List X) → Each P (xs ++ ys) → Each P xs
+each_front P [] ys h = tt
+each_front P (x ∷ xs) ys h = (h.0, each_front P xs ys h.1)
+
+pub each_there : {X : Type 0} (P : X → Type 0) (xs : List X) (z : X) (ys : List X) → Each P (xs ++ z ∷ ys) → P z
+each_there P [] z ys h = h.0
+each_there P (x ∷ xs) z ys h = each_there P xs z ys h.1

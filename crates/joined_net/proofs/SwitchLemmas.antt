@@ -1,0 +1,113 @@
+-- What the steps of the switch have in common: what stays, and a step on a message that the abstract network doesn't see.
+use Rattle.std.proofs.Common.{◌≡◌, ◌≢◌, ℕ, zero, suc, true, false, Option, Some, None, List, [], ◌∷◌, ◌++◌, refl, sym, ap, ◌∙◌, subst, append-nil, arith}
+use Rattle.std.specs.Prelude.{if◌then◌else◌, ◌&&◌, ◌==◌}
+use Rattle.nf_function.specs.declared.unit.Unit as units
+use Rattle.nf_function.specs.Semantics.{Semantics}
+use Rattle.switch_rules.specs.Rules.{AreFilters}
+use Rattle.nf_msgs.specs.declared.command.Order.{Order}
+use Rattle.nf_msgs.specs.declared.command.Order.TheVariants as order
+use Rattle.nf_msgs.specs.declared.msg.Msg.{Msg}
+use Rattle.nf_msgs.specs.declared.msg.Msg.TheVariants as msg
+use Rattle.nf_msgs.specs.declared.note.Note.{Note}
+use Rattle.nf_msgs.specs.Nodes.{instance_node}
+use Rattle.switch_node.specs.Switch.{SwitchState, stops}
+use Rattle.actor_net.proofs.WaitingMessages.{less_first}
+use Rattle.actor_net.proofs.WeightLaws.{EachSent}
+use Rattle.unit_machine.proofs.Real.{sent_for}
+use Rattle.abstract_net.proofs.Net as net
+use Rattle.abstract_net.proofs.Net.{Want, World}
+use Rattle.abstract_net.proofs.Waits.{nums, nums-append, None_asked, Rising, rising_less}
+use Rattle.abstract_net.proofs.Every.{Every}
+use Rattle.net_world.specs.declared.node.Node.TheVariants.{Switch}
+use Rattle.net_world.specs.Log.{arrived, done, installed, those}
+use Rattle.outline_net.proofs.FiltersApart.{unit_fits}
+use Rattle.outline_net.proofs.Outline.{outline_sent, outline_sends, want_at, want_of, is_sys}
+use Rattle.outline_net.proofs.InstanceOutline.{filter_map-put}
+use Rattle.joined_net.proofs.LogLemmas.{done-append, every_same, owners_on, loose_on}
+use Rattle.joined_net.proofs.Joined.{Given, owner_by, loose_by, Nodes, node_of, place, Label, shown, S, commands, is_of, by_node, IsSwitch, Scene, AreShown, Leads}
+
+-- the numbers of commands among what is sent to one node
+pub nums_sent : {R : Type 0} (r : ℕ) (xs : List (ℕ × net.Msg R)) → None_asked xs → nums (sent_for r xs) ≡ []
+nums_sent r [] h = refl
+nums_sent r (x ∷ xs) h = elim (x.0 == r) as (λ b. nums (if b then x.1 ∷ sent_for r xs else sent_for r xs) ≡ []) [
+  | true ↦ nums-append (x.1 ∷ []) (sent_for r xs) ∙ ap (λ v. v ++ nums (sent_for r xs)) h.0 ∙ nums_sent r xs h.1
+  | false ↦ nums_sent r xs h.1
+]
+
+-- and where none is put on a link
+pub nums_put : {R : Type 0} (l : List (net.Msg R)) (r : ℕ) (xs : List (ℕ × net.Msg R)) → None_asked xs → nums (l ++ sent_for r xs) ≡ nums l
+nums_put l r xs h = nums-append l (sent_for r xs) ∙ ap (λ v. nums l ++ v) (nums_sent r xs h) ∙ append-nil (nums l)
+
+-- a number less still rises
+pub rising_without : (b k : ℕ) (xs ys : List ℕ) → Rising b (xs ++ k ∷ ys) → Rising b (xs ++ ys)
+rising_without b k [] ys h = let e = h.0 in rising_less b (suc k) ys (omega (arith, e)) h.1
+rising_without b k (x ∷ xs) ys h = (h.0, rising_without (suc x) k xs ys h.1)
+
+-- what is asked for has the command's number
+pub want_num : (op : ℕ) (what : Order) (place : List ℕ → Option ℕ) (w : Want) → want_of place op what ≡ Some w → w.num ≡ op
+want_num op (order.Move src dst filter keep) place w e = at_places (place src) (place dst) e
+  where
+    at_places : (from to : Option ℕ) → want_at op filter keep from to ≡ Some w → w.num ≡ op
+    at_places (Some i) (Some j) is = let same : op ≡ w.num = cc in sym same
+    at_places None to is = cc
+    at_places (Some i) None is = cc
+want_num op what place w e = cc
+
+-- the switch changed, the other nodes are what they were
+pub others_same : {F R : Type 0} (x : Nodes F R) (s : SwitchState) (j : ℕ) → j ≢ 0 → node_of (record x { switch = s }) j ≡ node_of x j
+others_same x s zero off = absurd (off refl)
+others_same x s (suc zero) off = refl
+others_same x s (suc (suc i)) off = refl
+
+module _ {R : Type 0} (f : Semantics R) (g : Given) where
+  -- a switch that differs in what no route looks at
+  pub same_switch : (s t : SwitchState) (to : units.Unit → ℕ) → t.rules ≡ s.rules → t.instances ≡ s.instances → t.site ≡ s.site → t.pool.name ≡ s.pool.name → IsSwitch f g s to → IsSwitch f g t to
+  same_switch s t to rules instances site pool is = record {
+    site = site ∙ is.site;
+    instances = instances ∙ is.instances;
+    filters = subst AreFilters (sym rules) is.filters;
+    routes = λ flow fits. let o = is.routes flow fits in record { instance = o.instance; first = rw rules o.first; node = o.node; there = rw instances o.there };
+    pool = pool ∙ is.pool;
+  }
+
+  -- stops aren't seen
+  pub stops_unseen : (k : ℕ) → outline_sends f (place g) (stops k) ≡ []
+  stops_unseen zero = refl
+  stops_unseen (suc k) = filter_map-put (outline_sent f (place g)) (stops k) ((instance_node k, msg.Stop) ∷ []) ∙ ap (λ v. v ++ []) (stops_unseen k)
+
+  sent-append : (s : ℕ) (xs ys : List (ℕ × Msg)) → EachSent (Label f g) s xs → EachSent (Label f g) s ys → EachSent (Label f g) s (xs ++ ys)
+  sent-append s [] ys a b = b
+  sent-append s (x ∷ xs) ys a b = (a.0, sent-append s xs ys a.1 b)
+
+  pub stops_labels : (k : ℕ) → EachSent (Label f g) 0 (stops k)
+  stops_labels zero = tt
+  stops_labels (suc k) = sent-append 0 (stops k) ((instance_node k, msg.Stop) ∷ []) (stops_labels k) ((refl, omega arith), tt)
+
+module _ {F R : Type 0} (f : Semantics R) (g : Given) (n : ℕ) (x : Scene F f g) (are : AreShown f g n x) where
+  -- where each unit is, by a log to which nothing is added
+  pub every_on : (w : World (S f g)) → Every (S f g) (is_sys f g.site g.packet) w (λ u. those (is_of f g u) (arrived x.log)) (λ u. loose_by g u (installed x.log)) → Every (S f g) (is_sys f g.site g.packet) w (λ u. those (is_of f g u) (arrived (x.log ++ []))) (λ u. loose_by g u (installed (x.log ++ [])))
+  every_on w h = every_same (S f g) (is_sys f g.site g.packet) w _ _ _ _ (λ u. ap (λ l. those (is_of f g u) (arrived l)) (sym (append-nil x.log))) (loose_on f g n x are [] refl) h
+
+  -- what holds after a step of the switch, by what it changes
+  pub after : (s : SwitchState) (to : units.Unit → ℕ) (l : ℕ → ℕ → List (net.Msg R)) (notes : List Note) (input : List Msg) → IsSwitch f g s to → Every (S f g) (is_sys f g.site g.packet) (record x.world { target = to; link = l }) (λ u. those (is_of f g u) (arrived (x.log ++ notes))) (λ u. loose_by g u (installed (x.log ++ notes))) → ((u : units.Unit) → unit_fits f.kind u ≡ true → to u ≡ instance_node (owner_by g u (installed (x.log ++ notes)))) → done notes ≡ [] → Rising x.world.next (nums (l 0 1) ++ commands f g input) → AreShown f g n (record { nodes = record x.nodes { switch = s }; world = record x.world { target = to; link = l }; log = x.log ++ notes; input = input })
+  after s to l notes input switch every owners none rising = record {
+    switch = switch;
+    controller = are.controller;
+    owners = owners;
+    instances = are.instances;
+    every = every;
+    done_is = are.done_is ∙ ap (by_node f g) (sym (done-append x.log notes ∙ ap (λ v. done x.log ++ v) none ∙ append-nil (done x.log)));
+    rising = rising;
+  }
+
+  -- a step that the abstract network doesn't see
+  pub quiet : (p : ℕ) (m : Msg) (s : SwitchState) (sends : List (ℕ × Msg)) → shown f g m ≡ None → outline_sends f (place g) sends ≡ [] → EachSent (Label f g) 0 sends → IsSwitch f g s x.world.target → Rising x.world.next (nums (x.world.link 0 1) ++ commands f g (less_first ((0 == 0) && (0 == p)) x.input)) → Leads f g n x (record { node = 0; port = p; message = m }) (record { node = Switch s; sends = sends; notes = [] })
+  quiet p m s sends unseen nothing labels switch rising = record {
+    nodes = record x.nodes { switch = s };
+    own = refl;
+    others = others_same x.nodes s;
+    world = x.world;
+    links = λ i j. rw (unseen, nothing) (elim (i == 0) as (λ b. x.world.link i j ≡ x.world.link i j ++ (if b then [] else [])) [ true ↦ sym (append-nil (x.world.link i j)) | false ↦ sym (append-nil (x.world.link i j)) ]);
+    labels = labels;
+    shown_is = after s x.world.target x.world.link [] _ switch (every_on x.world are.every) (owners_on f g n x are [] refl) refl rising;
+  }

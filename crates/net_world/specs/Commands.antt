@@ -1,0 +1,101 @@
+-- What the log of every run says of commands: each begins and is answered once at most, and why it is refused or may begin was true
+-- when that was noted, of the log up to there. Commands go by their numbers. This project's own.
+use Rattle.std.specs.Prelude.{◌≡◌, ◌≢◌, ℕ, ◌+◌, ◌<◌, ◌≤◌, ◌==◌, Bool, true, false, not, ◌&&◌, ◌||◌, if◌then◌else◌, List, [], ◌∷◌, length, find, is_some, Option, None, Some, option_and_then}
+use Rattle.std.specs.Option.{option_map_or}
+use Rattle.flow_filter.specs.declared.filter.Filter.{Filter}
+use Rattle.flow_filter.specs.Filter.{meets}
+use Rattle.nf_msgs.specs.declared.answer.Answer.{Answer}
+use Rattle.nf_msgs.specs.declared.answer.Answer.TheVariants.{Done, Unknown, Overlap}
+use Rattle.nf_msgs.specs.declared.command.Order.{Order}
+use Rattle.nf_msgs.specs.declared.msg.Msg.{Msg}
+use Rattle.nf_msgs.specs.declared.note.Note.{Note}
+use Rattle.nf_msgs.specs.declared.note.Note.TheVariants.{Begun, Installed, Answered}
+use Rattle.ctrl_node.specs.Controller.{place_of, names_of, filter_of}
+use Rattle.net_world.specs.declared.config.Config.{Config}
+use Rattle.net_world.specs.Input.{order_of}
+use Rattle.net_world.specs.Log.{has_begun}
+
+-- whether the command was answered
+abbrev pub has_answered : ℕ → List Note → Bool
+has_answered op [] = false
+has_answered op (Answered k answer ∷ notes) = (k == op) || has_answered op notes
+has_answered op (n ∷ notes) = has_answered op notes
+
+-- whether it began
+abbrev pub began : ℕ → List Note → Bool
+began op log = has_begun (λ k. k == op) log
+
+-- how often it began
+abbrev pub times_begun : ℕ → List Note → ℕ
+times_begun op [] = 0
+times_begun op (Begun k ∷ notes) = (if k == op then 1 else 0) + times_begun op notes
+times_begun op (n ∷ notes) = times_begun op notes
+
+-- how often the switch changed its rules for it
+abbrev pub times_installed : ℕ → List Note → ℕ
+times_installed op [] = 0
+times_installed op (Installed k ∷ notes) = (if k == op then 1 else 0) + times_installed op notes
+times_installed op (n ∷ notes) = times_installed op notes
+
+-- whether it is under way
+abbrev pub is_busy : ℕ → List Note → Bool
+is_busy op log = began op log && not (has_answered op log)
+
+-- all answers to the command, in order
+abbrev pub answers_of : ℕ → List Note → List Answer
+answers_of op [] = []
+answers_of op (Answered k answer ∷ notes) = if k == op then answer ∷ answers_of op notes else answers_of op notes
+answers_of op (n ∷ notes) = answers_of op notes
+
+-- the log before the command's first note, that it began or was answered
+abbrev pub before_first : ℕ → List Note → List Note
+before_first op [] = []
+before_first op (Begun k ∷ notes) = if k == op then [] else Begun k ∷ before_first op notes
+before_first op (Answered k answer ∷ notes) = if k == op then [] else Answered k answer ∷ before_first op notes
+before_first op (n ∷ notes) = n ∷ before_first op notes
+
+-- the first name in an order that no instance has
+abbrev pub unknown_in : List (List ℕ) → Order → Option (List ℕ)
+unknown_in names what = find (λ name. not (is_some (place_of names name))) (names_of what)
+
+-- The instances' names are given, and the order under each number.
+module _ (names : List (List ℕ)) (orders : ℕ → Option Order) where
+  -- the filter of a command that is under way
+  abbrev pub busy_filter : ℕ → List Note → Option Filter
+  busy_filter op log = if is_busy op log then option_and_then filter_of (orders op) else None
+
+  -- whether the filter of an order meets that of a command that is under way
+  abbrev pub overlaps : Order → ℕ → List Note → Bool
+  overlaps what op log = option_map_or (λ filter. option_map_or (meets filter) (busy_filter op log) false) (filter_of what) false
+
+  -- an instance has each name, and no command under way meets the order
+  pub record MayBegin (what : Order) (log : List Note) : Type 0 where
+    pub known : unknown_in names what ≡ None
+    pub apart : (op : ℕ) → overlaps what op log ≡ false
+
+  -- an instance has each name, and this is the lowest number of a command under way that meets the order
+  pub record IsLowest (op : ℕ) (what : Order) (log : List Note) : Type 0 where
+    pub known : unknown_in names what ≡ None
+    pub overlaps_it : overlaps what op log ≡ true
+    pub lowest : (k : ℕ) → k < op → overlaps what k log ≡ false
+
+  -- what was true of the order and the log when it was refused. Answers to commands that began have other causes
+  abbrev pub IsCause : Answer → Order → List Note → Type 0
+  IsCause (Unknown name) what log = unknown_in names what ≡ Some name
+  IsCause (Overlap op) what log = IsLowest op what log
+  IsCause answer what log = Unit {0}
+
+  pub record AreAnswered (log : List Note) : Type 0 where
+    -- no command begins twice, and none is answered twice
+    pub begun_once : (op : ℕ) → times_begun op log ≤ 1
+    pub answered_once : (op : ℕ) → length (answers_of op log) ≤ 1
+    -- a refused command has a cause, and one that began had none
+    pub causes : (op : ℕ) (what : Order) (answer : Answer) → orders op ≡ Some what → answers_of op log ≡ answer ∷ [] → IsCause answer what (before_first op log)
+    pub begins : (op : ℕ) (what : Order) → orders op ≡ Some what → began op log ≡ true → MayBegin what (before_first op log)
+    -- the switch changes its rules once at most for each command, and not for one that is answered otherwise than that it is done
+    pub installed_once : (op : ℕ) → times_installed op log ≤ 1
+    pub refused_is_not_installed : (op : ℕ) (what : Order) (answer : Answer) → orders op ≡ Some what → answers_of op log ≡ answer ∷ [] → answer ≢ Done → times_installed op log ≡ 0
+
+-- what the log of every run of an input says
+abbrev pub Answers : Config → List Msg → List Note → Type 0
+Answers config items log = AreAnswered config.names (order_of items) log

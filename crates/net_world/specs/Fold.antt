@@ -1,0 +1,54 @@
+-- One instance that nothing moves: what is kept of a unit and answered after packets; and which packets of a unit a log and a world name.
+-- Packets go by their numbers. This project's own.
+use Rattle.std.specs.Prelude.{◌≡◌, ℕ, ◌+◌, ◌==◌, if◌then◌else◌, List, [], ◌∷◌, ◌++◌, map, length, Option}
+use Rattle.nf_function.specs.declared.output.Output.{Output}
+use Rattle.nf_function.specs.declared.unit.Unit as units
+use Rattle.nf_function.specs.Semantics.{Semantics, unit_at, kept_after, output_for}
+use Rattle.record_table.specs.Table.{same_unit}
+use Rattle.nf_msgs.specs.declared.msg.Msg.{Msg}
+use Rattle.nf_msgs.specs.declared.note.Note.{Note}
+use Rattle.actor_net.specs.Network.{Network}
+use Rattle.net_world.specs.declared.config.Config.{Config}
+use Rattle.net_world.specs.declared.node.Node.{Node}
+use Rattle.net_world.specs.Input.{packet_of}
+use Rattle.net_world.specs.Log.{arrived, done, those, done_of}
+use Rattle.net_world.specs.Path.{under_way}
+use Rattle.net_world.specs.Places.{owner}
+
+-- how often a number stands in a list
+abbrev pub times : ℕ → List ℕ → ℕ
+times p [] = 0
+times p (q ∷ qs) = (if p == q then 1 else 0) + times p qs
+
+-- a list and more behind it
+pub record IsFront (front all : List ℕ) : Type 0 where
+  pub rest : List ℕ
+  pub whole : front ++ rest ≡ all
+
+module _ {R : Type 0} (f : Semantics R) (config : Config) (items : List Msg) where
+  -- the packets of a unit among some
+  abbrev pub is_of : units.Unit → ℕ → Bool
+  is_of unit p = same_unit (unit_at f.kind config.site (packet_of items p)) unit
+
+  -- one instance that nothing moves: what is kept of a unit after these packets, and the outputs to them
+  abbrev pub fold : Option R → List ℕ → Option R
+  fold kept [] = kept
+  fold kept (p ∷ ps) = fold (kept_after f config.site kept (packet_of items p)) ps
+
+  abbrev pub outputs : Option R → List ℕ → List Output
+  outputs kept [] = []
+  outputs kept (p ∷ ps) = output_for f config.site kept (packet_of items p) ∷ outputs (kept_after f config.site kept (packet_of items p)) ps
+
+  -- the unit's packets that the switch took in, and that were processed, with their outputs
+  abbrev pub came : units.Unit → List Note → List ℕ
+  came unit log = those (is_of unit) (arrived log)
+
+  abbrev pub went : units.Unit → List Note → List ℕ
+  went unit log = map (λ d. d.number) (done_of (is_of unit) (done log))
+
+  abbrev pub given : units.Unit → List Note → List Output
+  given unit log = map (λ d. d.output) (done_of (is_of unit) (done log))
+
+  -- its packets under way, of which those at its owner come last
+  abbrev pub path : {F : Type 0} → units.Unit → Network (Node F R) Msg Note → List ℕ
+  path unit w = those (is_of unit) (under_way w (length config.names) (owner config items unit w.log))

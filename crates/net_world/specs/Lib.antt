@@ -1,0 +1,15 @@
+pub mod Commands
+pub mod Fold
+pub mod Input
+pub mod Log
+pub mod Nodes
+pub mod Path
+pub mod Places
+pub mod Records
+pub mod Refused
+pub mod Runs
+pub mod Settles
+pub mod Standby
+pub mod Start
+pub mod Verdicts
+pub mod Window

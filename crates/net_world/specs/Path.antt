@@ -1,0 +1,72 @@
+-- The packets under way in a world, place by place: what stands on links, what the controller stores, and what instances hold. Read in
+-- this order, those of a unit are its packets that came and aren't processed, as they came. Packets go by their numbers. This
+-- project's own.
+use Rattle.std.specs.Prelude.{ℕ, zero, suc, ◌==◌, if◌then◌else◌, List, [], ◌∷◌, ◌++◌, map, Option, Some, slice_get}
+use Rattle.std.specs.FinMap as finite
+use Rattle.event_filter.specs.declared.mark.Mark.TheVariants.{Pass}
+use Rattle.packet_pool.specs.Pool.{FullCell}
+use Rattle.nf_msgs.specs.declared.msg.Msg.{Msg}
+use Rattle.nf_msgs.specs.declared.msg.Msg.TheVariants.{Carry, Forward, Event}
+use Rattle.nf_msgs.specs.declared.note.Note.{Note}
+use Rattle.nf_msgs.specs.Nodes.{switch_node, instance_node}
+use Rattle.actor_net.specs.Network.{Network, on_link}
+use Rattle.net_world.specs.declared.node.Node.{Node}
+use Rattle.net_world.specs.declared.node.Node.TheVariants.{Controller, Instance}
+
+-- what each of these has, one after the other
+abbrev pub all_of : {X Y : Type 0} → (X → List Y) → List X → List Y
+all_of of [] = []
+all_of of (x ∷ xs) = of x ++ all_of of xs
+
+-- what each of the first numbers has, but for one of them
+abbrev pub all_but : ℕ → (ℕ → List ℕ) → ℕ → List ℕ
+all_but one of zero = []
+all_but one of (suc i) = all_but one of i ++ (if i == one then [] else of i)
+
+-- the packets in cells
+abbrev pub numbers : List FullCell → List ℕ
+numbers cells = map (λ cell. cell.packet.number) cells
+
+-- the packet of a message to an instance: one that the controller handed on, or one that comes by the rules of the switch
+abbrev pub passed : Msg → List ℕ
+passed (Carry (Pass op) cell) = cell.packet.number ∷ []
+passed message = []
+
+abbrev pub carried : Msg → List ℕ
+carried (Carry (Pass op) cell) = []
+carried (Carry mark cell) = cell.packet.number ∷ []
+carried message = []
+
+-- the packet that the controller hands on by the switch, and the packet of an event
+abbrev pub forwarded : Msg → List ℕ
+forwarded (Forward to mark cell) = cell.packet.number ∷ []
+forwarded message = []
+
+abbrev pub handed_over : Msg → List ℕ
+handed_over (Event op cell) = cell.packet.number ∷ []
+handed_over message = []
+
+module _ {F R : Type 0} where
+  -- the packets that a controller stores, operation by operation
+  abbrev pub stored_by : Node F R → List ℕ
+  stored_by (Controller c) = all_of (λ e. numbers e.1) (finite.entries c.store)
+  stored_by node = []
+
+  -- the packets that an instance holds, rule by rule
+  abbrev pub held_by : Option (Node F R) → List ℕ
+  held_by (Some (Instance i)) = all_of (λ rule. numbers rule.held) i.rules
+  held_by other = []
+
+module _ {F R : Type 0} (w : Network (Node F R) Msg Note) where
+  -- what all messages have of one kind, link by link
+  abbrev pub on_links : {Y : Type 0} → (Msg → List Y) → List Y
+  on_links of = all_of (all_of of) w.links
+
+  -- what an instance holds, and behind it what comes to it by the rules of the switch
+  abbrev pub at_instance : ℕ → List ℕ
+  at_instance i = held_by (slice_get w.nodes (instance_node i)) ++ all_of carried (on_link w switch_node (instance_node i))
+
+  -- all packets under way, of so many instances; last those at one of them, the owner
+  abbrev pub under_way : (instances owner : ℕ) → List ℕ
+  under_way instances owner =
+      on_links passed ++ (on_links forwarded ++ (all_of stored_by w.nodes ++ (on_links handed_over ++ (all_but owner at_instance instances ++ at_instance owner))))

@@ -1,0 +1,81 @@
+-- Where the packets of a unit may be processed: at the instance that owns it by the rules of the switch, and, as long as a move of the
+-- unit is under way, at the move's two instances; and which units a plain move handed on. Instances go by their numbers. This project's
+-- own.
+use Rattle.std.specs.Prelude.{◌≡◌, ℕ, ◌==◌, Bool, true, false, not, ◌&&◌, ◌||◌, if◌then◌else◌, Option, None, Some, unwrap_or, List, [], ◌∷◌, ◌++◌}
+use Rattle.flow_filter.specs.declared.filter.Filter.{Filter}
+use Rattle.nf_function.specs.declared.kind.Kind.{Kind}
+use Rattle.nf_function.specs.declared.output.Output.{Output}
+use Rattle.nf_function.specs.declared.unit.Unit as units
+use Rattle.nf_function.specs.Semantics.{unit_at}
+use Rattle.nf_function.specs.Units.{takes}
+use Rattle.nf_msgs.specs.declared.command.Order.{Order}
+use Rattle.nf_msgs.specs.declared.command.Order.TheVariants.{Move}
+use Rattle.nf_msgs.specs.declared.msg.Msg.{Msg}
+use Rattle.nf_msgs.specs.declared.note.Note.{Note}
+use Rattle.nf_msgs.specs.declared.note.Note.TheVariants.{Processed}
+use Rattle.ctrl_node.specs.Controller.{place_of}
+use Rattle.net_world.specs.declared.config.Config.{Config}
+use Rattle.net_world.specs.Input.{packet_of, order_of}
+use Rattle.net_world.specs.Commands.{is_busy}
+use Rattle.net_world.specs.Log.{installed}
+
+-- the instance of the first route whose filter takes the unit, or the first
+abbrev pub first_owner : units.Unit → List (Filter × ℕ) → ℕ
+first_owner unit [] = 0
+first_owner unit (route ∷ routes) = if takes route.0 unit then route.1 else first_owner unit routes
+
+-- whether a name is that of this instance
+abbrev pub is_at : Option ℕ → ℕ → Bool
+is_at None i = false
+is_at (Some j) i = i == j
+
+-- The instances' names are given, and the order under each number.
+module _ (names : List (List ℕ)) (orders : ℕ → Option Order) where
+  -- who owns a unit after an order that the switch has installed, if this instance did before: a move of it hands it on from its
+  -- source alone
+  abbrev pub handed_on : units.Unit → Option Order → ℕ → ℕ
+  handed_on unit (Some (Move source destination filter keep)) i =
+      if takes filter unit && is_at (place_of names source) i then unwrap_or (place_of names destination) i else i
+  handed_on unit order i = i
+
+  -- who owns it after these commands were installed, in order
+  abbrev pub owner_after : units.Unit → ℕ → List ℕ → ℕ
+  owner_after unit i [] = i
+  owner_after unit i (op ∷ ops) = owner_after unit (handed_on unit (orders op) i) ops
+
+  -- whether an order is a plain move that hands the unit on from this instance: one that doesn't keep the order of its packets
+  abbrev pub hands_on_plain : units.Unit → Option Order → ℕ → Bool
+  hands_on_plain unit (Some (Move source destination filter keep)) i = not keep && (takes filter unit && is_at (place_of names source) i)
+  hands_on_plain unit order i = false
+
+  -- whether one of these commands is such a move, each from the owner before it
+  abbrev pub loose_after : units.Unit → ℕ → List ℕ → Bool
+  loose_after unit i [] = false
+  loose_after unit i (op ∷ ops) = hands_on_plain unit (orders op) i || loose_after unit (handed_on unit (orders op) i) ops
+
+module _ (config : Config) (items : List Msg) where
+  abbrev pub owner : units.Unit → List Note → ℕ
+  owner unit log = owner_after config.names (order_of items) unit (first_owner unit config.routes) (installed log)
+
+  -- a plain move that the switch has installed handed the unit on
+  abbrev pub is_loose : units.Unit → List Note → Bool
+  is_loose unit log = loose_after config.names (order_of items) unit (first_owner unit config.routes) (installed log)
+
+  -- a move of the unit between two names is under way
+  pub record IsMoving (unit : units.Unit) (log : List Note) (source destination : List ℕ) : Type 0 where
+    pub op : ℕ
+    pub filter : Filter
+    pub keep : Bool
+    pub order : order_of items op ≡ Some (Move source destination filter keep)
+    pub takes_it : takes filter unit ≡ true
+    pub busy : is_busy op log ≡ true
+
+  -- a packet of the unit may be processed at the instance
+  pub data IsPlace (unit : units.Unit) (log : List Note) (i : ℕ) : Type 0 where
+    Owns : i ≡ owner unit log → IsPlace unit log i
+    Is_source : (source destination : List ℕ) → IsMoving unit log source destination → place_of config.names source ≡ Some i → IsPlace unit log i
+    Is_destination : (source destination : List ℕ) → IsMoving unit log source destination → place_of config.names destination ≡ Some i → IsPlace unit log i
+
+  -- each packet was processed at such an instance, by what was noted before
+  abbrev pub ArePlaces : Kind → List Note → Type 0
+  ArePlaces kind log = (before after : List Note) (number instance : ℕ) (output : Output) → log ≡ before ++ Processed number instance output ∷ after → IsPlace (unit_at kind config.site (packet_of items number)) before instance

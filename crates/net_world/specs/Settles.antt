@@ -1,0 +1,31 @@
+-- What a settle promises: where a packet behind it is processed and none of the commands behind it has begun yet, all others are
+-- answered, so the packet is at the owner of its unit. This project's own.
+use Rattle.std.specs.Prelude.{◌≡◌, ℕ, ◌==◌, Bool, true, false, List, ◌∷◌, ◌++◌, find, is_some, All}
+use Rattle.nf_function.specs.declared.kind.Kind.{Kind}
+use Rattle.nf_function.specs.declared.output.Output.{Output}
+use Rattle.nf_function.specs.Semantics.{unit_at}
+use Rattle.nf_msgs.specs.declared.msg.Msg.{Msg}
+use Rattle.nf_msgs.specs.declared.msg.Msg.TheVariants.{InSettle}
+use Rattle.nf_msgs.specs.declared.note.Note.{Note}
+use Rattle.nf_msgs.specs.declared.note.Note.TheVariants.{Processed}
+use Rattle.net_world.specs.declared.config.Config.{Config}
+use Rattle.net_world.specs.Input.{packets, packet_of, commands}
+use Rattle.net_world.specs.Commands.{began}
+use Rattle.net_world.specs.Places.{owner}
+
+-- what stands behind a settle of an input
+pub record IsBehind (items behind : List Msg) : Type 0 where
+  pub front : List Msg
+  pub whole : items ≡ front ++ InSettle ∷ behind
+
+-- whether a packet among these items has the number
+abbrev pub has_packet : ℕ → List Msg → Bool
+has_packet number items = is_some (find (λ p. p.number == number) (packets items))
+
+-- none of the commands among these items has begun
+abbrev pub NoneBegan : List Msg → List Note → Type 0
+NoneBegan items log = All (λ command. began command.op log ≡ false) (commands items)
+
+-- a packet behind a settle that is processed before any command behind it begins is processed at its owner
+abbrev pub Settles : Config → List Msg → Kind → List Note → Type 0
+Settles config items kind log = (behind : List Msg) (before after : List Note) (number instance : ℕ) (output : Output) → IsBehind items behind → has_packet number behind ≡ true → log ≡ before ++ Processed number instance output ∷ after → NoneBegan behind before → instance ≡ owner config items (unit_at kind config.site (packet_of items number)) before

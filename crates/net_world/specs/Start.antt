@@ -1,0 +1,65 @@
+-- How a network starts: its configuration, and the world in which nothing has happened yet. This project's own.
+use Rattle.std.specs.Prelude.{◌≡◌, ◌<◌, ◌≤◌, ℕ, zero, suc, false, List, [], ◌∷◌, ◌++◌, length, replicate, slice_index, slice_index_or, All}
+use Rattle.std.specs.declared.alloc.Global.{Global}
+use Rattle.record_table.specs.Table.{empty}
+use Rattle.switch_rules.specs.Rules as rules
+use Rattle.switch_node.specs.Switch.{SwitchState}
+use Rattle.switch_node.specs.declared.switch.TheConstants.{MOST_WINDOW}
+use Rattle.ctrl_node.specs.Controller as controller
+use Rattle.instance_worker.specs.declared.instance.Instance.{Instance as InstanceState}
+use Rattle.nf_msgs.specs.declared.msg.Msg.{Msg}
+use Rattle.nf_msgs.specs.declared.note.Note.{Note}
+use Rattle.nf_msgs.specs.declared.nodes.TheConstants.{MOST_INSTANCES}
+use Rattle.actor_net.specs.Network.{Network}
+use Rattle.actor_net.specs.Opening.{opening}
+use Rattle.net_world.specs.declared.config.Config.{Config}
+use Rattle.net_world.specs.declared.node.Node.{Node}
+use Rattle.net_world.specs.declared.node.Node.TheVariants.{Switch, Controller, Instance}
+
+-- a configuration: 1 to 16 instances with a limit and a mark each, a window, and routes to instances
+pub record IsConfig (c : Config) : Type 0 where
+  pub some : 1 ≤ length c.names
+  pub few : length c.names ≤ MOST_INSTANCES
+  pub limits : length c.limits ≡ length c.names
+  pub marks : length c.marked ≡ length c.names
+  pub window : (1 ≤ c.window) × (c.window ≤ MOST_WINDOW)
+  pub routes : All (λ r. r.1 < length c.names) c.routes
+
+-- the switch: all cells are at home, and the rules are the routes
+abbrev pub first_switch : Config → SwitchState
+first_switch c = record {
+  rules = rules.opened c.routes;
+  pool = record { name = 0; cells = c.window; home = c.window };
+  site = c.site;
+  instances = length c.names;
+  flying = 0;
+  waiting = 0;
+  closed = false;
+}
+
+module _ {F R : Type 0} (alloc : Global) (c : Config) where
+  -- an instance without records and rules
+  abbrev pub first_instance : ℕ → InstanceState F R
+  first_instance i = record {
+    table = empty;
+    rules = [];
+    tally = record { slots = replicate 16 0 };
+    site = c.site;
+    alloc = alloc;
+    limit = slice_index c.limits i;
+    index = i;
+    marked = slice_index_or c.marked i false;
+    ended = false;
+  }
+
+  -- the first instances, as many as the number says
+  abbrev pub first_instances : ℕ → List (Node F R)
+  first_instances zero = []
+  first_instances (suc i) = first_instances i ++ Instance (first_instance i) ∷ []
+
+  abbrev pub first_nodes : List (Node F R)
+  first_nodes = Switch (first_switch c) ∷ Controller (controller.opened c.names c.site) ∷ first_instances (length c.names)
+
+  -- the world at the start: nothing stands on a link, and nothing is noted
+  abbrev pub started : List Msg → Network (Node F R) Msg Note
+  started items = opening first_nodes items

@@ -1,0 +1,120 @@
+-- Why a command that began is answered as it is: a move is judged once, when its destination takes the first piece of its state, and a
+-- copy is done. This project's own.
+use Rattle.std.specs.Prelude.{◌≡◌, ℕ, ◌+◌, ◌==◌, ◌&&◌, nat_lt, nat_le, Bool, true, false, if◌then◌else◌, List, [], ◌∷◌, ◌++◌, length, Option, None, Some, slice_get, slice_index, slice_index_or}
+use Rattle.std.specs.List.{list_any}
+use Rattle.std.specs.FinMap as finite
+use Rattle.flow_filter.specs.declared.filter.Filter.{Filter}
+use Rattle.nf_function.specs.declared.unit.Unit as units
+use Rattle.nf_function.specs.Semantics.{Semantics}
+use Rattle.nf_function.specs.Units.{has_times}
+use Rattle.nf_msgs.specs.declared.answer.Answer.{Answer}
+use Rattle.nf_msgs.specs.declared.answer.Answer.TheVariants.{Done, Unknown, Overlap, Import, Old}
+use Rattle.nf_msgs.specs.declared.command.Order.{Order}
+use Rattle.nf_msgs.specs.declared.command.Order.TheVariants.{Move, Copy}
+use Rattle.nf_msgs.specs.declared.msg.Piece.{Piece}
+use Rattle.nf_msgs.specs.declared.msg.Msg.{Msg}
+use Rattle.nf_msgs.specs.declared.msg.Msg.TheVariants.{Put}
+use Rattle.nf_msgs.specs.declared.note.Note.{Note}
+use Rattle.nf_msgs.specs.declared.note.Note.TheVariants.{Exported}
+use Rattle.nf_msgs.specs.Nodes.{instance_node}
+use Rattle.ctrl_node.specs.Controller.{place_of}
+use Rattle.actor_net.specs.declared.choice.Choice.{Choice}
+use Rattle.actor_net.specs.Network.{Network, run, waiting}
+use Rattle.net_world.specs.declared.config.Config.{Config}
+use Rattle.net_world.specs.declared.node.Node.{Node}
+use Rattle.net_world.specs.declared.node.Node.TheVariants.{Instance}
+use Rattle.net_world.specs.Commands.{began, answers_of}
+use Rattle.net_world.specs.Input.{packet_of, order_of}
+use Rattle.net_world.specs.Nodes.{node_step}
+use Rattle.net_world.specs.Fold.{went}
+
+-- what is weighed of a move: how many units are live at the destination, how many come, how many it takes at most, whether it is
+-- marked as one that reads only the first version of chunks, and whether one that comes is of the second
+pub record Weighed : Type 0 where
+  pub held : ℕ
+  pub coming : ℕ
+  pub limit : ℕ
+  pub marked : Bool
+  pub timed : Bool
+
+-- the answer by what is weighed
+abbrev pub verdict : Weighed → Answer
+verdict x =
+    if nat_lt x.limit (x.held + x.coming) then Import x.held x.coming x.limit
+    else if x.marked && x.timed then Old 2 1
+    else Done
+
+-- an answer to a command that doesn't begin
+abbrev pub is_refusal : Answer → Bool
+is_refusal (Unknown name) = true
+is_refusal (Overlap op) = true
+is_refusal answer = false
+
+-- the units whose state an instance gave for a command, by the first note of it
+abbrev pub exported : ℕ → List Note → Option (List units.Unit)
+exported op [] = None
+exported op (Exported instance k us ∷ notes) = if k == op then Some us else exported op notes
+exported op (n ∷ notes) = exported op notes
+
+-- the log before that note
+abbrev pub before_export : ℕ → List Note → List Note
+before_export op [] = []
+before_export op (Exported instance k us ∷ notes) = if k == op then [] else Exported instance k us ∷ before_export op notes
+before_export op (n ∷ notes) = n ∷ before_export op notes
+
+-- how many units are live at an instance of a world
+abbrev pub number_in : {F R : Type 0} → Option (Node F R) → ℕ
+number_in (Some (Instance i)) = finite.len i.table.live
+number_in other = 0
+
+abbrev pub number_live : {F R : Type 0} → Network (Node F R) Msg Note → ℕ → ℕ
+number_live w i = number_in (slice_get w.nodes (instance_node i))
+
+-- the instance to which an order moves units
+abbrev pub receiver_of : Config → Option Order → Option ℕ
+receiver_of config (Some (Move source destination filter keep)) = place_of config.names destination
+receiver_of config other = None
+
+module _ {R : Type 0} (f : Semantics R) (config : Config) (items : List Msg) where
+  -- the function keeps times, and some packet of the unit that was processed came later than at time 0
+  abbrev pub is_timed : units.Unit → List Note → Bool
+  is_timed unit log = has_times f.kind && list_any (λ p. nat_le 1 (packet_of items p).nanos) (went f config items unit log)
+
+module _ {F R : Type 0} (f : Semantics R) (config : Config) (items : List Msg) where
+  -- what is weighed of a move in a world
+  pub record IsWeighed (op : ℕ) (w : Network (Node F R) Msg Note) (x : Weighed) : Type 0 where
+    pub destination : ℕ
+    pub destination_is : receiver_of config (order_of items op) ≡ Some destination
+    pub units : List units.Unit
+    pub units_are : exported op w.log ≡ Some units
+    pub held : x.held ≡ number_live w destination
+    pub coming : x.coming ≡ length units
+    pub limit : x.limit ≡ slice_index config.limits destination
+    pub marked : x.marked ≡ slice_index_or config.marked destination false
+    pub timed : x.timed ≡ list_any (λ unit. is_timed f config items unit (before_export op w.log)) units
+
+-- The world at the start, and the choices of a run.
+module _ {F R : Type 0} (f : Semantics R) (start : Network (Node F R) Msg Note) (choices : List Choice) where
+  -- after some of the choices, the first piece of the move is taken next
+  pub record IsTakenAfter (op : ℕ) (front : List Choice) : Type 0 where
+    pub choice : Choice
+    pub back : List Choice
+    pub whole : front ++ choice ∷ back ≡ choices
+    pub piece : Piece
+    pub rest : List Msg
+    pub waits : waiting (run (node_step f) front start) choice ≡ Put op piece true ∷ rest
+
+  -- what was noted by the end
+  abbrev pub noted : List Note
+  noted = (run (node_step f) choices start).log
+
+  module _ (config : Config) (items : List Msg) where
+    -- the move was judged once, so
+    pub record IsVerdict (op : ℕ) (answer : Answer) : Type 0 where
+      pub front : List Choice
+      pub is_taken : IsTakenAfter op front
+      pub once : (other : List Choice) → IsTakenAfter op other → other ≡ front
+      pub weighed : Weighed
+      pub are_weighed : IsWeighed f config items op (run (node_step f) front start) weighed
+      pub at_destination : is_taken.choice.node ≡ instance_node are_weighed.destination
+      pub answer_is : answer ≡ verdict weighed

@@ -1,0 +1,10 @@
+pub mod ControlOutline
+pub mod CopyTurns
+pub mod FiltersApart
+pub mod InstanceOutline
+pub mod LinkOutline
+pub mod MoveOutline
+pub mod OperationTables
+pub mod Outline
+pub mod StateOutline
+pub mod SwitchOutline

@@ -1,0 +1,11 @@
+pub mod ChunkLemmas
+pub mod ChunkLinks
+pub mod ChunkPlaces
+pub mod ChunkSums
+pub mod PathLinks
+pub mod PathNodes
+pub mod PathPlaces
+pub mod PathPromises
+pub mod PathSeats
+pub mod PathSums
+pub mod RecordPromises

@@ -1,0 +1,218 @@
+-- What a unit sees of a link is its packets there: those that were handed on, those that come by the rules, those on their way by the
+-- switch, and events.
+use Rattle.std.proofs.Common.{◌≡◌, ℕ, Bool, true, false, Option, Some, None, List, [], ◌∷◌, ◌++◌, refl, sym, ap, ◌∙◌}
+use Rattle.std.specs.Prelude.{if◌then◌else◌, ◌==◌, ◌&&◌}
+use Rattle.std.specs.List.{filter_map}
+use Rattle.nf_function.specs.Semantics.{Semantics}
+use Rattle.packet_pool.specs.Pool.{FullCell}
+use Rattle.event_filter.specs.declared.mark.Mark.{Mark}
+use Rattle.event_filter.specs.declared.mark.Mark.TheVariants as mark
+use Rattle.switch_rules.specs.declared.target.Target.{Target}
+use Rattle.switch_rules.specs.declared.target.Target.TheVariants as target
+use Rattle.flow_filter.specs.declared.filter.Filter.{Filter}
+use Rattle.nf_msgs.specs.declared.msg.Msg.{Msg}
+use Rattle.nf_msgs.specs.declared.msg.Msg.TheVariants as msg
+use Rattle.nf_msgs.specs.Nodes.{instance_node}
+use Rattle.unit_machine.proofs.Machine.{Item, Carry, Pass, Fence, Event, Forward, Fence_to, Install, Stray, At_a, At_b}
+use Rattle.actor_net.proofs.WeightLaws.{Each}
+use Rattle.unit_machine.proofs.Real.{Frame, where_true, sends_to, add}
+use Rattle.unit_machine.proofs.NetViews.{items}
+use Rattle.unit_machine.proofs.Path.{passes_in, carries, events_in, forwards}
+use Rattle.unit_machine.proofs.Sides.{is_known}
+use Rattle.abstract_net.proofs.Net as net
+use Rattle.abstract_net.proofs.Net.{seen, Want}
+use Rattle.abstract_net.proofs.Holding.{Seeing, frame}
+use Rattle.net_world.specs.Log.{those}
+use Rattle.net_world.specs.Path.{all_of, passed, carried, forwarded, handed_over}
+use Rattle.joined_net.proofs.LogLemmas.{those-append}
+use Rattle.outline_net.proofs.Outline.{number, want_of}
+use Rattle.joined_net.proofs.Joined.{Given, place, S, shown, Label, FromSwitch, ToSwitch, ToController}
+
+-- an item that is seen, or not, before others
+module _ {R : Type 0} where
+  passes-add : (o : Option (Item R)) (xs : List (Item R)) → passes_in (add o xs) ≡ passes_in (add o []) ++ passes_in xs
+  passes-add None xs = refl
+  passes-add (Some (Pass p)) xs = refl
+  passes-add (Some x) xs = refl
+
+  carries-add : (o : Option (Item R)) (xs : List (Item R)) → carries (add o xs) ≡ carries (add o []) ++ carries xs
+  carries-add None xs = refl
+  carries-add (Some (Carry p)) xs = refl
+  carries-add (Some x) xs = refl
+
+  events-add : (o : Option (Item R)) (xs : List (Item R)) → events_in (add o xs) ≡ events_in (add o []) ++ events_in xs
+  events-add None xs = refl
+  events-add (Some (Event p)) xs = refl
+  events-add (Some x) xs = refl
+
+  forwards-add : (o : Option (Item R)) (xs : List (Item R)) → forwards (add o xs) ≡ forwards (add o []) ++ forwards xs
+  forwards-add None xs = refl
+  forwards-add (Some (Forward w p)) xs = refl
+  forwards-add (Some x) xs = refl
+
+  known-add : (o : Option (Item R)) (xs : List (Item R)) → is_known (add o xs) ≡ true → (is_known (add o []) ≡ true) × (is_known xs ≡ true)
+  known-add None xs e = (refl, e)
+  known-add (Some Stray) xs e = cc
+  known-add (Some x) xs e = (refl, e)
+
+module _ {R : Type 0} (f : Semantics R) (g : Given) (z : Seeing) where
+  abbrev its : Frame
+  its = frame (S f g) z
+
+  abbrev mine : ℕ → Bool
+  mine = its.mine
+
+  abbrev pub see_of : Option (net.Msg R) → Option (Item R)
+  see_of None = None
+  see_of (Some a) = seen its a
+
+  -- a message has the packets of the unit that are seen of it
+  record IsRead (m : Msg) (o : Option (Item R)) : Type 0 where
+    pass : those mine (passed m) ≡ passes_in (add o [])
+    carry : those mine (carried m) ≡ carries (add o [])
+    event : those mine (handed_over m) ≡ events_in (add o [])
+    forward : is_known (add o []) ≡ true → those mine (forwarded m) ≡ forwards (add o [])
+
+  either : (m : Msg) (x : Item R) → IsRead m None → IsRead m (Some x) → (b : Bool) → IsRead m (where_true b x)
+  either m x without with_it true = with_it
+  either m x without with_it false = without
+
+  forward_read : (to : ℕ) (m : Mark) (cell : FullCell) → IsRead (msg.Forward to m cell) (where_true (mine (number cell)) (sends_to its (instance_node to) (λ w. Forward w (number cell))))
+  forward_read to m cell =
+      elim (mine (number cell)) as (λ b. mine (number cell) ≡ b → IsRead (msg.Forward to m cell) (where_true b (sends_to its (instance_node to) (λ w. Forward w (number cell))))) [
+        | true ↦ λ is. elim (instance_node to == its.from) as (λ a. IsRead (msg.Forward to m cell) (Some (if a then Forward At_a (number cell) else if instance_node to == its.to then Forward At_b (number cell) else Stray))) [
+          | true ↦ record { pass = refl; carry = refl; event = refl; forward = λ _. rw is refl }
+          | false ↦ elim (instance_node to == its.to) as (λ b. IsRead (msg.Forward to m cell) (Some (if b then Forward At_b (number cell) else Stray))) [
+            | true ↦ record { pass = refl; carry = refl; event = refl; forward = λ _. rw is refl }
+            | false ↦ record { pass = refl; carry = refl; event = refl; forward = λ e. cc }
+          ]
+        ]
+        | false ↦ λ off. record { pass = refl; carry = refl; event = refl; forward = λ _. rw off refl }
+      ] refl
+
+  carry_read : (cell : FullCell) → IsRead (msg.Carry mark.Plain cell) (where_true (mine (number cell)) (Carry (number cell)))
+  carry_read cell = elim (mine (number cell)) as (λ b. mine (number cell) ≡ b → IsRead (msg.Carry mark.Plain cell) (where_true b (Carry (number cell)))) [
+    | true ↦ λ is. record { pass = refl; carry = rw is refl; event = refl; forward = λ _. refl }
+    | false ↦ λ off. record { pass = refl; carry = rw off refl; event = refl; forward = λ _. refl }
+  ] refl
+
+  pass_read : (op : ℕ) (cell : FullCell) → IsRead (msg.Carry (mark.Pass op) cell) (where_true (mine (number cell)) (Pass (number cell)))
+  pass_read op cell = elim (mine (number cell)) as (λ b. mine (number cell) ≡ b → IsRead (msg.Carry (mark.Pass op) cell) (where_true b (Pass (number cell)))) [
+    | true ↦ λ is. record { pass = rw is refl; carry = refl; event = refl; forward = λ _. refl }
+    | false ↦ λ off. record { pass = rw off refl; carry = refl; event = refl; forward = λ _. refl }
+  ] refl
+
+  event_read : (op : ℕ) (cell : FullCell) → IsRead (msg.Event op cell) (where_true (mine (number cell)) (Event (number cell)))
+  event_read op cell = elim (mine (number cell)) as (λ b. mine (number cell) ≡ b → IsRead (msg.Event op cell) (where_true b (Event (number cell)))) [
+    | true ↦ λ is. record { pass = refl; carry = refl; event = rw is refl; forward = λ _. refl }
+    | false ↦ λ off. record { pass = refl; carry = refl; event = rw off refl; forward = λ _. refl }
+  ] refl
+
+  fence_read : (op to : ℕ) → IsRead (msg.FenceTo op to) (Some (sends_to its (instance_node to) (λ w. Fence_to w)))
+  fence_read op to = elim (instance_node to == its.from) as (λ a. IsRead (msg.FenceTo op to) (Some (if a then Fence_to At_a else if instance_node to == its.to then Fence_to At_b else Stray))) [
+    | true ↦ record { pass = refl; carry = refl; event = refl; forward = λ _. refl }
+    | false ↦ elim (instance_node to == its.to) as (λ b. IsRead (msg.FenceTo op to) (Some (if b then Fence_to At_b else Stray))) [
+      | true ↦ record { pass = refl; carry = refl; event = refl; forward = λ _. refl }
+      | false ↦ record { pass = refl; carry = refl; event = refl; forward = λ _. refl }
+    ]
+  ]
+
+  install_read : (op : ℕ) (filter : Filter) (from : ℕ) (to : Target) → IsRead (msg.Install op filter from to) (see_of (shown f g (msg.Install op filter from to)))
+  install_read op filter from target.Controller = record { pass = refl; carry = refl; event = refl; forward = λ _. refl }
+  install_read op filter from (target.Instance to) = either (msg.Install op filter from (target.Instance to)) (if (instance_node from == its.from) && (instance_node to == its.to) then Install else Stray)
+      (record { pass = refl; carry = refl; event = refl; forward = λ _. refl })
+      (elim ((instance_node from == its.from) && (instance_node to == its.to)) as (λ b. IsRead (msg.Install op filter from (target.Instance to)) (Some (if b then Install else Stray))) [
+        | true ↦ record { pass = refl; carry = refl; event = refl; forward = λ _. refl }
+        | false ↦ record { pass = refl; carry = refl; event = refl; forward = λ _. refl }
+      ]) (op == its.move)
+
+  -- of a message of a run
+  msg_read : (s r : ℕ) (m : Msg) → Label f g s r m → IsRead m (see_of (shown f g m))
+  msg_read s r (msg.Carry mark.Plain cell) l = carry_read cell
+  msg_read s r (msg.Carry (mark.Pass op) cell) l = pass_read op cell
+  msg_read s r (msg.Carry (mark.Shared op home) cell) l = let never = l.1 in cc
+  msg_read s r (msg.Forward to m cell) l = forward_read to m cell
+  msg_read s r (msg.Event op cell) l = event_read op cell
+  msg_read s r (msg.FenceTo op to) l = either (msg.FenceTo op to) (sends_to its (instance_node to) (λ w. Fence_to w)) (record { pass = refl; carry = refl; event = refl; forward = λ _. refl }) (fence_read op to) (op == its.move)
+  msg_read s r (msg.Install op filter from to) l = install_read op filter from to
+  msg_read s r (msg.Asked c) l = by_want (want_of (place g) c.op c.what) refl
+    where
+      by_want : (o : Option Want) → want_of (place g) c.op c.what ≡ o → IsRead (msg.Asked c) (see_of (shown f g (msg.Asked c)))
+      by_want None e = rw e (record { pass = refl; carry = refl; event = refl; forward = λ _. refl })
+      by_want (Some x) e = rw e (record { pass = refl; carry = refl; event = refl; forward = λ _. refl })
+  msg_read s r (msg.Fence op) l = either (msg.Fence op) Fence (record { pass = refl; carry = refl; event = refl; forward = λ _. refl }) (record { pass = refl; carry = refl; event = refl; forward = λ _. refl }) (op == its.move)
+  msg_read s r (msg.Enable op filter action) l = either _ _ (record { pass = refl; carry = refl; event = refl; forward = λ _. refl }) (record { pass = refl; carry = refl; event = refl; forward = λ _. refl }) (op == its.move)
+  msg_read s r (msg.Stream op filter) l = either _ _ (record { pass = refl; carry = refl; event = refl; forward = λ _. refl }) (record { pass = refl; carry = refl; event = refl; forward = λ _. refl }) (op == its.move)
+  msg_read s r (msg.Delete op gone) l = either _ _ (record { pass = refl; carry = refl; event = refl; forward = λ _. refl }) (record { pass = refl; carry = refl; event = refl; forward = λ _. refl }) (op == its.move)
+  msg_read s r (msg.Put op piece first) l = either _ _ (record { pass = refl; carry = refl; event = refl; forward = λ _. refl }) (record { pass = refl; carry = refl; event = refl; forward = λ _. refl }) (op == its.move)
+  msg_read s r (msg.Restore op chunks) l = either _ _ (record { pass = refl; carry = refl; event = refl; forward = λ _. refl }) (record { pass = refl; carry = refl; event = refl; forward = λ _. refl }) (op == its.move)
+  msg_read s r (msg.Enabled op) l = either _ _ (record { pass = refl; carry = refl; event = refl; forward = λ _. refl }) (record { pass = refl; carry = refl; event = refl; forward = λ _. refl }) (op == its.move)
+  msg_read s r (msg.Piece op piece) l = either _ _ (record { pass = refl; carry = refl; event = refl; forward = λ _. refl }) (record { pass = refl; carry = refl; event = refl; forward = λ _. refl }) (op == its.move)
+  msg_read s r (msg.Deleted op) l = either _ _ (record { pass = refl; carry = refl; event = refl; forward = λ _. refl }) (record { pass = refl; carry = refl; event = refl; forward = λ _. refl }) (op == its.move)
+  msg_read s r (msg.PutOk op) l = either _ _ (record { pass = refl; carry = refl; event = refl; forward = λ _. refl }) (record { pass = refl; carry = refl; event = refl; forward = λ _. refl }) (op == its.move)
+  msg_read s r (msg.PutNo op refused) l = either _ _ (record { pass = refl; carry = refl; event = refl; forward = λ _. refl }) (record { pass = refl; carry = refl; event = refl; forward = λ _. refl }) (op == its.move)
+  msg_read s r (msg.Restored op) l = either _ _ (record { pass = refl; carry = refl; event = refl; forward = λ _. refl }) (record { pass = refl; carry = refl; event = refl; forward = λ _. refl }) (op == its.move)
+  msg_read s r (msg.Fenced op) l = either _ _ (record { pass = refl; carry = refl; event = refl; forward = λ _. refl }) (record { pass = refl; carry = refl; event = refl; forward = λ _. refl }) (op == its.move)
+  msg_read s r m l = record { pass = refl; carry = refl; event = refl; forward = λ _. refl }
+
+  pub seen_more : (m : Msg) (ms : List Msg) → items (seen its) (filter_map (shown f g) (m ∷ ms)) ≡ add (see_of (shown f g m)) (items (seen its) (filter_map (shown f g) ms))
+  seen_more m ms = by_shown (shown f g m) refl
+    where
+      by_shown : (o : Option (net.Msg R)) → shown f g m ≡ o → items (seen its) (filter_map (shown f g) (m ∷ ms)) ≡ add (see_of (shown f g m)) (items (seen its) (filter_map (shown f g) ms))
+      by_shown None e = rw e refl
+      by_shown (Some a) e = rw e refl
+
+  -- and so has a link
+  abbrev pub view : List Msg → List (Item R)
+  view ms = items (seen its) (filter_map (shown f g) ms)
+
+  pub record AreRead (ms : List Msg) (xs : List (Item R)) : Type 0 where
+    pub pass : those mine (all_of passed ms) ≡ passes_in xs
+    pub carry : those mine (all_of carried ms) ≡ carries xs
+    pub event : those mine (all_of handed_over ms) ≡ events_in xs
+    pub forward : is_known xs ≡ true → those mine (all_of forwarded ms) ≡ forwards xs
+
+  pub are_read : (s r : ℕ) (ms : List Msg) → Each (Label f g s r) ms → AreRead ms (view ms)
+  are_read s r [] h = record { pass = refl; carry = refl; event = refl; forward = λ _. refl }
+  are_read s r (m ∷ ms) h =
+      let one = msg_read s r m h.0 in
+      let rest = are_read s r ms h.1 in
+      let o = see_of (shown f g m) in
+      let xs = view ms in
+      let more = seen_more m ms in
+      record {
+        pass = those-append mine (passed m) (all_of passed ms) ∙ ap (λ v. v ++ those mine (all_of passed ms)) one.pass ∙ ap (λ v. passes_in (add o []) ++ v) rest.pass ∙ sym (passes-add o xs) ∙ ap passes_in (sym more);
+        carry = those-append mine (carried m) (all_of carried ms) ∙ ap (λ v. v ++ those mine (all_of carried ms)) one.carry ∙ ap (λ v. carries (add o []) ++ v) rest.carry ∙ sym (carries-add o xs) ∙ ap carries (sym more);
+        event = those-append mine (handed_over m) (all_of handed_over ms) ∙ ap (λ v. v ++ those mine (all_of handed_over ms)) one.event ∙ ap (λ v. events_in (add o []) ++ v) rest.event ∙ sym (events-add o xs) ∙ ap events_in (sym more);
+        forward = λ k.
+            let both = known-add o xs (ap is_known (sym more) ∙ k) in
+            those-append mine (forwarded m) (all_of forwarded ms) ∙ ap (λ v. v ++ those mine (all_of forwarded ms)) (one.forward both.0) ∙ ap (λ v. forwards (add o []) ++ v) (rest.forward both.1) ∙ sym (forwards-add o xs) ∙ ap forwards (sym more);
+      }
+
+-- On other links there are no such messages.
+module _ {R : Type 0} (f : Semantics R) (g : Given) (s r : ℕ) where
+  no_pass : (m : Msg) → Label f g s r m → (FromSwitch s r → ⊥) → passed m ≡ []
+  no_pass (msg.Carry (mark.Pass op) cell) l off = absurd (off l.0)
+  no_pass (msg.Carry mark.Plain cell) l off = refl
+  no_pass (msg.Carry (mark.Shared op home) cell) l off = refl
+  no_pass m l off = refl
+
+  no_event : (m : Msg) → Label f g s r m → (ToController s r → ⊥) → handed_over m ≡ []
+  no_event (msg.Event op cell) l off = absurd (off l.0)
+  no_event m l off = refl
+
+  no_forward : (m : Msg) → Label f g s r m → (ToSwitch s r → ⊥) → forwarded m ≡ []
+  no_forward (msg.Forward to mark cell) l off = absurd (off l.0)
+  no_forward m l off = refl
+
+  pub no_passes : (ms : List Msg) → Each (Label f g s r) ms → (FromSwitch s r → ⊥) → all_of passed ms ≡ []
+  no_passes [] h off = refl
+  no_passes (m ∷ ms) h off = rw (no_pass m h.0 off, no_passes ms h.1 off) refl
+
+  pub no_events : (ms : List Msg) → Each (Label f g s r) ms → (ToController s r → ⊥) → all_of handed_over ms ≡ []
+  no_events [] h off = refl
+  no_events (m ∷ ms) h off = rw (no_event m h.0 off, no_events ms h.1 off) refl
+
+  pub no_forwards : (ms : List Msg) → Each (Label f g s r) ms → (ToSwitch s r → ⊥) → all_of forwarded ms ≡ []
+  no_forwards [] h off = refl
+  no_forwards (m ∷ ms) h off = rw (no_forward m h.0 off, no_forwards ms h.1 off) refl
