@@ -18,6 +18,7 @@ module _ {M : Type 0} {old new : Incoming M} where
   pub drew_first : (x : Stamped M) → new.done ≡ old.done → old.kept ≡ x ∷ new.kept → new.link ≡ old.link → Draws old new (x ∷ [])
   drew_first x d k l = record { grown = []; done = d ∙ sym (append-nil _); whole = append-nil _ ∙ k; link = l }
 
+module _ {M : Type 0} (old new : Incoming M) where
   -- what was kept, and the first of it may be used
   pub drew_kept : (r : Option (Stamped M)) → MatchOption r (new ≡ old) (λ x. (x.clock < last_clock) × (old.kept ≡ x ∷ new.kept)) → (new.link ≡ old.link) × (new.done ≡ old.done)
       → MatchOption r (Draws old new []) (λ x. (x.clock < last_clock) × Draws old new (x ∷ []))
