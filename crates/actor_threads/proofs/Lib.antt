@@ -1,3 +1,4 @@
+pub mod BatchLemmas
 pub mod ClosingLinks
 pub mod LinkColumns
 pub mod NotesByCounts

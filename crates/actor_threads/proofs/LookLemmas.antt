@@ -41,14 +41,14 @@ module _ {A M N : Type 0} (ready : A → M → Bool) (w : WorkerView A M N) (por
 
   -- the next of what is kept
   pub kept_found : (r : Option (Stamped M)) → ((x : Stamped M) (rest : List (Stamped M)) → old.kept ≡ x ∷ rest → w.number ≡ 0 → port ≡ 0 → ready w.node x.message ≡ true)
-      → MatchOption r (way ≡ old) (λ x. (x.clock ≡ 0) × (old.kept ≡ x ∷ way.kept)) → (way.link ≡ old.link) × (way.done ≡ old.done)
+      → MatchOption r (way ≡ old) (λ x. (x.clock < last_clock) × (old.kept ≡ x ∷ way.kept)) → (way.link ≡ old.link) × (way.done ≡ old.done)
       → MatchOption r (now ≡ w) (λ x. Found ready w now port x)
   kept_found None ok e same = unchanged e
   kept_found (Some x) ok e same = record {
     rest = refl;
     count = length-set w.ins port way;
     within = within;
-    stamp = subst (λ n. n < last_clock) (sym e.0) (omega arith);
+    stamp = e.0;
     taken = drawn (x ∷ []) (record { draws = drew_first x same.1 e.1 same.0; closed = λ _. same.1 });
     was_ready = ok x way.kept e.1;
   }
@@ -76,16 +76,16 @@ module _ {A M N : Type 0} (ready : A → M → Bool) (w : WorkerView A M N) (por
   blocked_quiet (Some x) b = b
 
   -- the node isn't ready for the first item of the input
-  pub unready_quiet : (item : M) (rest : List (Stamped M)) → old.kept ≡ record { clock = 0; message = item } ∷ rest → is_input_of w.number port ≡ true → ready w.node item ≡ false → IsQuietAt ready w port
-  unready_quiet item rest first input unready = λ x more e.
-      let same : record { clock = 0; message = item } ≡ x = ap (λ (l : List (Stamped M)). slice_index_or l 0 x) (sym first ∙ ap (λ (v : Incoming M). v.kept) here ∙ e) in
+  pub unready_quiet : (clock : ℕ) (item : M) (rest : List (Stamped M)) → old.kept ≡ record { clock = clock; message = item } ∷ rest → is_input_of w.number port ≡ true → ready w.node item ≡ false → IsQuietAt ready w port
+  unready_quiet clock item rest first input unready = λ x more e.
+      let same : record { clock = clock; message = item } ≡ x = ap (λ (l : List (Stamped M)). slice_index_or l 0 x) (sym first ∙ ap (λ (v : Incoming M). v.kept) here ∙ e) in
       inr (inr (input, ap (λ (y : Stamped M). ready w.node y.message) (sym same) ∙ unready))
 
 -- the node is ready for the first of what is kept
-pub ready_first : {A M : Type 0} (ready : A → M → Bool) (node : A) (item : M) (kept more : List (Stamped M)) → kept ≡ record { clock = 0; message = item } ∷ more → ready node item ≡ true
+pub ready_first : {A M : Type 0} (ready : A → M → Bool) (node : A) (clock : ℕ) (item : M) (kept more : List (Stamped M)) → kept ≡ record { clock = clock; message = item } ∷ more → ready node item ≡ true
     → (x : Stamped M) (rest : List (Stamped M)) → kept ≡ x ∷ rest → ready node x.message ≡ true
-ready_first ready node item kept more first is_so x rest e =
-    let same : record { clock = 0; message = item } ≡ x = ap (λ (l : List (Stamped _)). slice_index_or l 0 x) (sym first ∙ e) in
+ready_first ready node clock item kept more first is_so x rest e =
+    let same : record { clock = clock; message = item } ≡ x = ap (λ (l : List (Stamped _)). slice_index_or l 0 x) (sym first ∙ e) in
     ap (λ (y : Stamped _). ready node y.message) (sym same) ∙ is_so
 
 -- the same, of a worker that is seen by its fields
@@ -97,7 +97,7 @@ module _ {A M N : Type 0} (ready : A → M → Bool) {before w : WorkerView A M 
   inside = subst (λ (v : WorkerView A M N). port < length v.ins) (sym e) within
 
   pub kept_at : (r : Option (Stamped M)) → ((x : Stamped M) (rest : List (Stamped M)) → old.kept ≡ x ∷ rest → before.number ≡ 0 → port ≡ 0 → ready before.node x.message ≡ true)
-      → MatchOption r (way ≡ old) (λ x. (x.clock ≡ 0) × (old.kept ≡ x ∷ way.kept)) → (way.link ≡ old.link) × (way.done ≡ old.done)
+      → MatchOption r (way ≡ old) (λ x. (x.clock < last_clock) × (old.kept ≡ x ∷ way.kept)) → (way.link ≡ old.link) × (way.done ≡ old.done)
       → MatchOption r (set ≡ w) (λ x. Found ready w set port x)
   kept_at r ok k same = subst (λ (v : WorkerView A M N). MatchOption r (set ≡ v) (λ x. Found ready v set port x)) e (kept_found ready before port old way is inside r ok k same)
 

@@ -1,11 +1,12 @@
 -- How many ways in a new worker has, and what waits at a node other than 0.
 use Rattle.std.proofs.Common.{◌≡◌, ◌≢◌, ◌==◌, ℕ, true, false, if◌then◌else◌, List, [], ◌∷◌, length, ap, refl, suc}
 use Rattle.std.proofs.lemmas.Bool.Decides.{Decides-eqb}
+use Rattle.actor_net.specs.declared.stamped.Stamped.{Stamped}
 use Rattle.fifo_link.specs.Ends.{End}
 use Rattle.actor_threads.specs.Work.{all_in, waits}
 
 module _ {M : Type 0} where
-  pub length-all_in : (takes : List (End M)) (kept : List (List M)) → length kept ≡ length takes → length (all_in takes kept) ≡ length takes
+  pub length-all_in : (takes : List (End (List (Stamped M)))) (kept : List (List M)) → length kept ≡ length takes → length (all_in takes kept) ≡ length takes
   length-all_in [] kept e = refl
   length-all_in (t ∷ ts) [] e = absurd (cc)
   length-all_in (t ∷ ts) (k ∷ ks) e = ap suc (length-all_in ts ks (cc))

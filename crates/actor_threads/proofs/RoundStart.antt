@@ -4,10 +4,11 @@ use Rattle.std.proofs.lemmas.Bool.Decides.{nat_tests}
 use Rattle.std.proofs.lemmas.List.{length-map, get_or-map, get_or_append_left}
 use Rattle.atomic_table.specs.Seated.{TableId}
 use Rattle.fifo_link.specs.Ends.{End}
+use Rattle.actor_net.specs.declared.stamped.Stamped.{Stamped}
 use Rattle.actor_net.specs.Network.{Network, waiting}
 use Rattle.actor_net.proofs.EnabledChoices.{at}
 use Rattle.actor_net.proofs.WaitingMessages.{waiting_is}
-use Rattle.actor_threads.specs.Ways.{with_stamp_0}
+use Rattle.actor_threads.specs.Ways.{unpacked, with_stamp_0}
 use Rattle.actor_threads.specs.Work.{WorkerView, in_at, no_out, opened, all_in, all_out, waits}
 use Rattle.actor_threads.specs.LinkTable.{row_at, no_end, one_at, name_of, AllOpened}
 use Rattle.actor_threads.specs.Round.{StartsAs}
@@ -16,8 +17,8 @@ use Rattle.actor_threads.proofs.LinkTableLemmas.{first_left, last_of, same_or}
 
 module _ {M : Type 0} where
   -- one way in
-  in_at-all_in : (takes : List (End M)) (kept : List (List M)) (p : ℕ) → length kept ≡ length takes → p < length takes
-      → in_at (all_in takes kept) p ≡ record { link = (one_at takes p).link; done = (one_at takes p).done; kept = with_stamp_0 (row_at kept p) }
+  in_at-all_in : (takes : List (End (List (Stamped M)))) (kept : List (List M)) (p : ℕ) → length kept ≡ length takes → p < length takes
+      → in_at (all_in takes kept) p ≡ record { link = (one_at takes p).link; done = unpacked (one_at takes p).done; kept = with_stamp_0 (row_at kept p) }
   in_at-all_in [] kept p e h = absurd (omega arith)
   in_at-all_in (t ∷ ts) [] p e h = absurd (cc)
   in_at-all_in (t ∷ ts) (k ∷ ks) zero e h = refl
@@ -36,7 +37,7 @@ module _ {M : Type 0} where
     | false ↦ refl
   ]
 
-module _ {A M N : Type 0} (w : Network A M N) (n k : ℕ) (sends takes : List (List (End M))) (count : length w.nodes ≡ n) (h : k < n) (o : AllOpened n n sends takes) where
+module _ {A M N : Type 0} (w : Network A M N) (n k : ℕ) (sends takes : List (List (End (List (Stamped M))))) (count : length w.nodes ≡ n) (h : k < n) (o : AllOpened n n sends takes) where
   -- a worker that is opened with the k-th node, what stands on its links, and its ends
   pub starts_as : (node : A) (rest : List A) (items : List M) (kept : List (List M)) → drop k w.nodes ≡ node ∷ rest → (k ≡ 0 → items ≡ w.input) → length kept ≡ n
       → ((p : ℕ) → p < n → row_at kept p ≡ row_at w.links (p * n + k))
@@ -61,10 +62,10 @@ module _ {A M N : Type 0} (w : Network A M N) (n k : ℕ) (sends takes : List (L
             ] refl
             ∙ sym (waiting_is w p k hp (subst (λ m. k < m) (sym count) h)) in
             in_at-all_in (row_at takes k) (waits k items kept) p lengths (subst (λ m. p < m) (sym (o.take_rows k h)) inside)
-            ∙ λ i. record { link = sym (o.fresh p k inside h).link i; done = (o.fresh p k inside h).taken i; kept = with_stamp_0 (waits_here i) };
+            ∙ λ i. record { link = sym (o.fresh p k inside h).link i; done = unpacked ((o.fresh p k inside h).taken i); kept = with_stamp_0 (waits_here i) };
         outs = λ r hr.
             let inside : r < n = subst (λ m. r < m) count hr in
-            get_or-map all_out (row_at sends k) r no_end no_out (subst (λ m. r < m) (sym (o.send_rows k h)) inside) ∙ λ i. record { link = name_of sends k r; all = (o.fresh k r h inside).sent i };
+            get_or-map all_out (row_at sends k) r no_end no_out (subst (λ m. r < m) (sym (o.send_rows k h)) inside) ∙ λ i. record { link = name_of sends k r; all = unpacked ((o.fresh k r h inside).sent i) };
       }
 
 -- one worker more

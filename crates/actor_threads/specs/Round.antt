@@ -1,6 +1,7 @@
 -- A round of all workers, this project's own: how the workers start in a world, and what stands on the links when all are closed.
 use Rattle.std.specs.Prelude.{◌≡◌, ◌<◌, ◌+◌, ◌*◌, ℕ, List, [], ◌++◌, length, slice_index_or, slice_set}
 use Rattle.atomic_table.specs.Seated.{TableId}
+use Rattle.actor_net.specs.declared.stamped.Stamped.{Stamped}
 use Rattle.actor_net.specs.declared.choice.Choice.{Choice}
 use Rattle.actor_net.specs.declared.histories.History.{History}
 use Rattle.actor_net.specs.Network.{Network, waiting}
@@ -31,7 +32,7 @@ module _ {A M N : Type 0} where
     pub each : (j : ℕ) (d : WorkerView A M N) → j < length w.nodes → StartsAs w names j (slice_index_or workers j d)
 
 -- the worker that is opened with these ends, with what stands on the links to its node, of n
-pub record OpenedWith {A M N : Type 0} (n : ℕ) (links : List (List M)) (number : ℕ) (node : A) (input : List M) (takes sends : List (End M)) (worker : WorkerView A M N) : Type 0 where
+pub record OpenedWith {A M N : Type 0} (n : ℕ) (links : List (List M)) (number : ℕ) (node : A) (input : List M) (takes sends : List (End (List (Stamped M)))) (worker : WorkerView A M N) : Type 0 where
   pub kept : List (List M)
   pub count : length kept ≡ n
   pub lists : (p : ℕ) → p < n → row_at kept p ≡ row_at links (p * n + number)

@@ -1,18 +1,13 @@
--- How the fields of a way are seen, and what always holds of them. This project's own.
-use Rattle.std.specs.Prelude.{◌≡◌, ◌≤◌, ◌++◌, Some}
-use Rattle.std.specs.Option.{option_to_list}
-use Rattle.actor_net.specs.declared.stamped.Stamped.{Stamped}
-use Rattle.actor_threads.specs.Ways.{Incoming, Outgoing, with_stamp_0, last_clock}
+-- How the fields of a way are seen. This project's own.
+use Rattle.std.specs.Prelude.{◌++◌}
+use Rattle.actor_threads.specs.Ways.{Incoming, Outgoing, unpacked, with_stamp_0}
 use Rattle.actor_threads.specs.declared.ways.WayIn.TheInside as way_in
 use Rattle.actor_threads.specs.declared.ways.WayOut.TheInside as way_out
 
 module _ {M : Type 0} where
+  -- what is left of a batch is kept behind what was kept before
   abbrev pub incoming : way_in.Inside M → Incoming M
-  incoming s = record { link = s.end.link; done = s.end.done; kept = option_to_list s.held ++ with_stamp_0 s.kept.items }
-
-  -- a message that is held has the last clock
-  abbrev pub HeldIsLast : way_in.Inside M → Type 0
-  HeldIsLast s = (x : Stamped M) → s.held ≡ Some x → last_clock ≤ x.clock
+  incoming s = record { link = s.end.link; done = unpacked s.end.done; kept = with_stamp_0 s.kept.items ++ s.batch.items }
 
   abbrev pub outgoing : way_out.Inside M → Outgoing M
-  outgoing s = record { link = s.end.link; all = s.end.done ++ s.waiting.items }
+  outgoing s = record { link = s.end.link; all = unpacked s.end.done ++ s.waiting.items }

@@ -1,6 +1,6 @@
--- What contracts see of a worker's ways, this project's own. A way in is its link, what the take end gave, and what is still
--- kept. A way out is its link, and all that was sent or waits to be sent.
-use Rattle.std.specs.Prelude.{◌≡◌, ℕ, ◌-◌, ◌^◌, ◌≤◌, List, ◌∷◌, ◌++◌, map}
+-- What contracts see of a worker's ways, this project's own. Messages are handed over in batches. A way in is its link, the
+-- messages that the take end gave, and what is still kept. A way out is its link, and all that was sent or waits to be sent.
+use Rattle.std.specs.Prelude.{◌≡◌, ℕ, ◌-◌, ◌^◌, ◌≤◌, List, ◌∷◌, ◌++◌, map, flat_map}
 use Rattle.atomic_table.specs.Seated.{TableId}
 use Rattle.actor_net.specs.declared.stamped.Stamped.{Stamped}
 
@@ -18,6 +18,10 @@ abbrev pub last_clock : ℕ
 last_clock = 2 ^ 64 - 1
 
 module _ {M : Type 0} where
+  -- the messages of batches, in order
+  abbrev pub unpacked : List (List (Stamped M)) → List (Stamped M)
+  unpacked batches = flat_map (λ batch. batch) batches
+
   -- messages from before a round have stamp 0
   abbrev pub with_stamp_0 : List M → List (Stamped M)
   with_stamp_0 messages = map (λ m. record { clock = 0; message = m }) messages

@@ -6,7 +6,7 @@ use Rattle.actor_net.specs.declared.stamped.Stamped.{Stamped}
 use Rattle.actor_net.specs.Network.{Stepped, reaches}
 use Rattle.actor_net.specs.Histories.{NodeStep, noted, node_after, notes_of, taken_at, sent_for, stamped, put_between, PortsBelow, WasReady}
 use Rattle.fifo_link.specs.Ends.{End}
-use Rattle.actor_threads.specs.Ways.{Incoming, Outgoing, Draws, Sends, with_stamp_0, last_clock}
+use Rattle.actor_threads.specs.Ways.{Incoming, Outgoing, Draws, Sends, unpacked, with_stamp_0, last_clock}
 
 -- a worker: its node's number, the node, its clock, its steps, each a clock and a port, what each of them noted, and its ways
 pub record WorkerView (A M N : Type 0) : Type 0 where
@@ -44,14 +44,14 @@ module _ {M : Type 0} where
   out_at outs to = slice_index_or outs to no_out
 
   -- the ways in, with what is kept from before the round
-  abbrev pub all_in : List (End M) → List (List M) → List (Incoming M)
-  all_in (take ∷ takes) (messages ∷ kept) = record { link = take.link; done = take.done; kept = with_stamp_0 messages } ∷ all_in takes kept
+  abbrev pub all_in : List (End (List (Stamped M))) → List (List M) → List (Incoming M)
+  all_in (take ∷ takes) (messages ∷ kept) = record { link = take.link; done = unpacked take.done; kept = with_stamp_0 messages } ∷ all_in takes kept
   all_in (take ∷ takes) [] = []
   all_in [] kept = []
 
   -- a way out, with nothing waiting
-  abbrev pub all_out : End M → Outgoing M
-  all_out send = record { link = send.link; all = send.done }
+  abbrev pub all_out : End (List (Stamped M)) → Outgoing M
+  all_out send = record { link = send.link; all = unpacked send.done }
 
   -- what waits at each port before the round: at node 0 the input stands first
   abbrev pub waits : ℕ → List M → List (List M) → List (List M)
@@ -83,7 +83,7 @@ module _ {M : Type 0} where
 
 module _ {A M N : Type 0} where
   -- a worker without steps
-  abbrev pub opened : ℕ → A → List (List M) → List (End M) → List (End M) → WorkerView A M N
+  abbrev pub opened : ℕ → A → List (List M) → List (End (List (Stamped M))) → List (End (List (Stamped M))) → WorkerView A M N
   opened number node kept takes sends = record { number = number; node = node; clock = 0; steps = []; notes = []; ins = all_in takes kept; outs = map all_out sends }
 
   -- nothing was done: what was taken is kept

@@ -10,17 +10,26 @@ use std::sync::Wait;
 use std::sync::atomic::{AtomicU64, Ordering};
 use std::thread;
 use std::thread::Threads;
+use std::time::Duration;
 
 // A worker's turn has at most so many steps.
 const TURN_STEPS: u32 = 256;
 
-// A group in which so many turns in a row did no step isn't busy. They are many, since a round that ends while a thread waits for
-// its processor costs another round: about a third of a millisecond.
-const REST_TURNS: u32 = 128;
+// A group waits so many turns in a row that did no step without giving its processor away. Its workers then see at once what
+// others send, as long as these have a processor.
+const SPIN_TURNS: u32 = 16;
 
-// A group ends its part of a round after so many turns in a row that did no step, also where others are busy. Only where no
-// thread could be made for another group does it come to that.
-const IDLE_TURNS: u32 = 20_000;
+// From then on it sleeps so long after each turn. A thread that sleeps gets its processor back before those of programs that
+// never sleep, and one that only gives it away gets it back after them.
+const SLEEP_MICROSECONDS: u64 = 50;
+
+// A group in which so many turns in a row did no step isn't busy. They are a few, since a round that ends while a thread waits for
+// its processor costs another round: about a third of a millisecond.
+const REST_TURNS: u32 = 32;
+
+// A group ends its part of a round after so many turns in a row that did no step, also where others are busy: no thread may have
+// been made for one of them. That is some fifth of a second.
+const IDLE_TURNS: u32 = 2000;
 
 // How often a group that found nothing to do looks whether others are busy, before it looks for messages again. So several of
 // them have come meanwhile, where the others have a processor.
@@ -194,7 +203,7 @@ fn run_group<R: Wait, A: Actor, G: Gate>(
     let mut idle = Idleness { turns: 0 };
     for _ in rt.forever() {
         let moved = turn_all(rt, gate, members);
-        if idle.is_over(busy, moved) {
+        if idle.is_over(rt, busy, moved) {
             return;
         }
     }
@@ -221,7 +230,7 @@ struct Idleness {
 
 impl Idleness {
     // Counts a turn, and waits a little after one that did no step. Tells whether the group's part of the round is over.
-    fn is_over(&mut self, busy: &AtomicU64, moved: bool) -> bool {
+    fn is_over<R: Wait>(&mut self, rt: &R, busy: &AtomicU64, moved: bool) -> bool {
         if moved {
             if self.turns >= REST_TURNS {
                 busy.fetch_add(1, Ordering::SeqCst);
@@ -240,18 +249,26 @@ impl Idleness {
             return true;
         }
         pause(busy);
+        if self.turns >= SPIN_TURNS {
+            sleep(rt, busy);
+        }
         false
     }
 }
 
-// Lets some time pass, and then others have the processor if they want it.
+// Lets some time pass.
 fn pause(busy: &AtomicU64) {
     for _ in 0..PAUSE_LOOKS {
         if busy.load(Ordering::SeqCst) == 0 {
             return;
         }
     }
-    thread::yield_now();
+}
+
+// Lets others have the processor for a while.
+fn sleep<R: Wait>(rt: &R, busy: &AtomicU64) {
+    let seen = busy.load(Ordering::SeqCst) as u32;
+    busy.park_timeout(rt, seen, Duration::from_micros(SLEEP_MICROSECONDS));
 }
 
 // How many workers are in a group, of so many beside that of node 0: but for the fewest groups, there is at most one for each

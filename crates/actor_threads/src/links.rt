@@ -1,24 +1,24 @@
 //! A link for each ordered pair of nodes, opened before a round and closed after it.
 ghost use Rattle.std.specs.Prelude.{◌≡◌, ◌<◌, ◌++◌, ℕ, length, map, IfOk, OnOk};
 ghost use Rattle.actor_net.specs.Histories.{messages};
+ghost use Rattle.actor_threads.specs.Ways.{unpacked};
 ghost use Rattle.actor_threads.specs.LinkTable.{row_at, RowOpened, AllOpened, Closed, RowClosed, CanClose};
 
-use crate::ways::{WayIn, WayOut};
-use actor_net::Stamped;
+use crate::ways::{Batch, WayIn, WayOut, append};
 use basics::{NoMemory, Sequence};
 use fifo_link::{Link, SendEnd, TakeEnd, close};
 use std::alloc::Global;
 use std::collections::VecDeque;
 use std::sync::Wait;
 
-/// A link holds at most so many messages.
+/// A link holds at most so many batches.
 pub const LINK_CAPACITY: usize = 64;
 
 /// The ends of the links between all nodes: a row of send ends for each sender, and a row of take ends for each receiver.
 #[derive(Drop)]
 pub struct Ends<M> {
-    pub sends: Vec<Vec<SendEnd<M>>>,
-    pub takes: Vec<Vec<TakeEnd<M>>>,
+    pub sends: Vec<Vec<SendEnd<Batch<M>>>>,
+    pub takes: Vec<Vec<TakeEnd<Batch<M>>>>,
 }
 
 /// One new link for each ordered pair of nodes, a node with itself among them.
@@ -39,8 +39,8 @@ pub fn open_all<M: Drop>(alloc: Global, nodes: usize) -> Result<Ends<M>, NoMemor
 // New links from one sender to all receivers.
 fn open_row<M: Drop>(
     alloc: Global,
-    takes: &mut Vec<Vec<TakeEnd<M>>>,
-) -> Result<Vec<SendEnd<M>>, NoMemory>
+    takes: &mut Vec<Vec<TakeEnd<Batch<M>>>>,
+) -> Result<Vec<SendEnd<Batch<M>>>, NoMemory>
     ensures { IfOk result (λ row. RowOpened (length takes.old.items) row.items (map (λ v. v.items) takes.old.items) (map (λ v. v.items) takes.new.items)) }
 {
     let mut row = Vec::with_capacity(alloc, takes.len())?;
@@ -84,17 +84,17 @@ fn close_way<M: Drop, R: Wait>(
 {
     let (take, mut list) = way_in.parts()?;
     let (send, waiting) = way_out.parts();
-    let left = close(rt, send, take).left;
-    append(&mut list, left)?;
+    append_all(&mut list, close(rt, send, take).left)?;
     append(&mut list, waiting)?;
     Ok(Sequence::from_vec(list.into_vec()))
 }
 
-fn append<M: Drop>(list: &mut VecDeque<M>, more: Vec<Stamped<M>>) -> Result<(), NoMemory>
-    ensures { OnOk result (list.new.items ≡ list.old.items ++ messages more.items) }
+// Puts the messages of batches behind others.
+fn append_all<M: Drop>(list: &mut VecDeque<M>, batches: Vec<Batch<M>>) -> Result<(), NoMemory>
+    ensures { OnOk result (list.new.items ≡ list.old.items ++ messages (unpacked batches.items)) }
 {
-    for next in more {
-        list.push_back(next.message)?;
+    for batch in batches {
+        append(list, batch.into_vec())?;
     }
     Ok(())
 }

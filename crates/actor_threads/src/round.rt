@@ -12,7 +12,7 @@ use crate::gate::Gate;
 use crate::groups::{Member, run_all};
 use crate::links::{Ends, close_row, open_all};
 use crate::notes::NoteQueue;
-use crate::ways::{WayIn, WayOut};
+use crate::ways::{Batch, WayIn, WayOut};
 use crate::worker::Worker;
 use actor_net::{Actor, Choice, Choices, History, Parts, World, merge};
 use basics::{NoMemory, Sequence};
@@ -71,8 +71,8 @@ fn worker_of<A: Actor>(
     node: A,
     input: Vec<A::Message>,
     links: &mut Vec<Sequence<A::Message>>,
-    takes: Vec<TakeEnd<A::Message>>,
-    sends: Vec<SendEnd<A::Message>>,
+    takes: Vec<TakeEnd<Batch<A::Message>>>,
+    sends: Vec<SendEnd<Batch<A::Message>>>,
 ) -> Result<Worker<A>, NoMemory>
     requires count { (number < length takes.items) × (length takes.items < 256) }
     requires square { length links.old.items ≡ length takes.items * length takes.items }
@@ -303,18 +303,22 @@ where
             return Ok((world, choices));
         }
         let (next, more) = run_round(rt, alloc, world, gate)?;
-        join(&mut choices, &more)?;
+        choices = join(choices, more)?;
         world = next;
     }
     unreachable!()
 }
 
-// Puts more choices behind those before.
-fn join(choices: &mut Choices, more: &Choices) -> Result<(), NoMemory>
-    ensures { OnOk result (choices.new ≡ choices.old ++ more.now) }
+// Choices, and behind them more.
+fn join(choices: Choices, more: Choices) -> Result<Choices, NoMemory>
+    ensures { IfOk result (λ all. all ≡ choices ++ more) }
 {
-    for choice in more.items() {
-        choices.push(*choice)?;
+    if choices.items().is_empty() {
+        return Ok(more);
     }
-    Ok(())
+    let mut all = choices;
+    for choice in more.items() {
+        all.push(*choice)?;
+    }
+    Ok(all)
 }

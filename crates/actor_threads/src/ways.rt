@@ -1,25 +1,29 @@
 //! A worker's way in from one node, and its way out to one.
-ghost use Rattle.std.specs.Prelude.{◌≡◌, ◌<◌, ◌^◌, ◌-◌, List, [], ◌∷◌, ◌++◌, OnOk, IfOk, IfNone, MatchOption, drop, false};
-ghost use Rattle.std.specs.Option.{option_to_list};
+ghost use Rattle.std.specs.Prelude.{◌≡◌, ◌<◌, ◌≤◌, ℕ, List, [], ◌∷◌, ◌++◌, OnOk, IfOk, IfNone, MatchOption, drop, true};
 ghost use Rattle.actor_net.specs.Histories.{messages};
-ghost use Rattle.actor_threads.specs.Ways.{Draws, IsBlocked, with_stamp_0};
+ghost use Rattle.actor_threads.specs.Ways.{Draws, IsBlocked, with_stamp_0, unpacked, last_clock};
 ghost use Rattle.actor_net.specs.declared.stamped.Stamped.{Stamped};
 
 use actor_net::Stamped;
-use basics::NoMemory;
+use basics::{NoMemory, Sequence};
 use fifo_link::{Full, SendEnd, TakeEnd};
 use std::alloc::Global;
 use std::collections::VecDeque;
 use std::marker::Model;
+use std::mem;
 use std::sync::Wait;
+
+/// Messages that are handed over at once. Two processors hand a part of their memory to each other for each message that is
+/// handed over by itself, and wait for it.
+pub type Batch<M> = Sequence<Stamped<M>>;
 
 /// What comes from one node: first what was kept from the start of the round, then what the take end gives.
 #[derive(Drop)]
 pub struct WayIn<M> {
-    end: TakeEnd<M>,
-    // A message that was taken, and whose step would have no clock. Nothing is taken after it.
-    held: Option<Stamped<M>>,
+    end: TakeEnd<Batch<M>>,
     kept: VecDeque<M>,
+    // What is left of the batch that was taken last. A message whose step would have no clock stays there.
+    batch: VecDeque<Stamped<M>>,
 }
 
 impl<M> Model for WayIn<M> {
@@ -27,117 +31,133 @@ impl<M> Model for WayIn<M> {
 
     ghost Value = { Incoming M };
 
-    ghost use Rattle.actor_threads.specs.WayFields.{incoming, HeldIsLast};
+    ghost use Rattle.actor_threads.specs.WayFields.{incoming};
 
     ghost view = { incoming };
-
-    ghost invariant = { HeldIsLast };
 }
 
 impl<M: Drop> WayIn<M> {
     /// The way with what is kept from before the round.
-    pub fn open(end: TakeEnd<M>, kept: Vec<M>) -> Self
-        ensures { result ≡ record { link = end.link; done = end.done; kept = with_stamp_0 kept.items } }
+    pub fn open(alloc: Global, end: TakeEnd<Batch<M>>, kept: Vec<M>) -> Self
+        ensures { result ≡ record { link = end.link; done = unpacked end.done; kept = with_stamp_0 kept.items } }
     {
         WayIn {
             end,
-            held: None,
             kept: VecDeque::from_vec(kept),
+            batch: VecDeque::new(alloc),
         }
     }
 
-    /// The first of what is kept.
+    /// The first of what is kept, if a step could take it.
     pub fn first(&self) -> Option<&M>
-        ensures { MatchOption result (IsBlocked self.now) (λ x. (rest : List (Stamped M)) × (self.now.kept ≡ record { clock = 0; message = x.now } ∷ rest)) }
+        ensures { MatchOption result (IsBlocked self.now) (λ x. (clock : ℕ) × (rest : List (Stamped M)) × (self.now.kept ≡ record { clock = clock; message = x.now } ∷ rest)) }
     {
-        if self.held.is_some() {
-            return None;
+        if let Some(message) = front(&self.kept) {
+            return Some(message);
         }
-        match front(&self.kept) {
-            Some(message) => Some(message),
-            None => None,
+        match front(&self.batch) {
+            Some(next) if next.clock < u64::MAX => Some(&next.message),
+            _ => None,
         }
     }
 
-    /// Whether something is kept.
-    pub fn keeps(&self) -> bool
-        ensures { result ≡ false → self.now.kept ≡ [] }
-    {
-        self.held.is_some() || !self.kept.is_empty()
+    /// Whether something is kept from the start of the round.
+    pub fn keeps(&self) -> bool {
+        !self.kept.is_empty()
     }
 
     /// The next of what is kept, taken out.
     pub fn next_kept(&mut self) -> Option<Stamped<M>>
-        ensures some { MatchOption result (self.new ≡ self.old) (λ x. (x.clock ≡ 0) × (self.old.kept ≡ x ∷ self.new.kept)) }
+        ensures some { MatchOption result (self.new ≡ self.old) (λ x. (x.clock < last_clock) × (self.old.kept ≡ x ∷ self.new.kept)) }
         ensures none { IfNone result (IsBlocked self.old) }
         ensures same { (self.new.link ≡ self.old.link) × (self.new.done ≡ self.old.done) }
     {
-        if self.held.is_some() {
-            return None;
+        match self.kept.pop_front() {
+            Some(message) => Some(Stamped { clock: 0, message }),
+            None => next_of(&mut self.batch),
         }
-        let message = self.kept.pop_front()?;
-        Some(Stamped { clock: 0, message })
     }
 
-    /// The next message from the take end, where nothing is kept. A message with the last clock is kept.
+    /// The next message: of what is kept, or where nothing is, of the take end.
     pub fn next_taken<R: Wait>(&mut self, rt: &R) -> Option<Stamped<M>>
-        ensures { MatchOption result (Draws self.old self.new []) (λ x. (x.clock < 2 ^ 64 - 1) × Draws self.old self.new (x ∷ [])) }
+        ensures { MatchOption result (Draws self.old self.new []) (λ x. (x.clock < last_clock) × Draws self.old self.new (x ∷ [])) }
     {
-        if self.keeps() {
-            return None;
+        if self.is_used_up() {
+            self.next_of_end(rt)
+        } else {
+            self.next_kept()
         }
-        let Some(message) = self.end.take(rt) else {
+    }
+
+    // Whether nothing is kept.
+    fn is_used_up(&self) -> bool
+        ensures { result ≡ true → self.now.kept ≡ [] }
+    {
+        self.batch.is_empty() && self.kept.is_empty()
+    }
+
+    // The first message of the next batch.
+    fn next_of_end<R: Wait>(&mut self, rt: &R) -> Option<Stamped<M>>
+        requires { self.old.kept ≡ [] }
+        ensures { MatchOption result (Draws self.old self.new []) (λ x. (x.clock < last_clock) × Draws self.old self.new (x ∷ [])) }
+    {
+        let Some(batch) = self.end.take(rt) else {
             return None;
         };
-        if message.clock < u64::MAX {
-            return Some(message);
-        }
-        self.held = Some(message);
-        None
+        self.batch = VecDeque::from_vec(batch.into_vec());
+        next_of(&mut self.batch)
     }
-}
 
-impl<M: Drop> WayIn<M> {
     /// The take end, and the messages that are kept.
-    pub fn parts(self) -> Result<(TakeEnd<M>, VecDeque<M>), NoMemory>
-        ensures end { IfOk result (λ p. (p.0.link ≡ self.link) × (p.0.done ≡ self.done)) }
+    pub fn parts(self) -> Result<(TakeEnd<Batch<M>>, VecDeque<M>), NoMemory>
+        ensures end { IfOk result (λ p. (p.0.link ≡ self.link) × (unpacked p.0.done ≡ self.done)) }
         ensures kept { IfOk result (λ p. p.1.items ≡ messages self.kept) }
     {
-        let WayIn { end, held, kept } = self;
-        let kept = with_held(held, kept)?;
+        let WayIn {
+            end,
+            mut kept,
+            batch,
+        } = self;
+        append(&mut kept, batch.into_vec())?;
         Ok((end, kept))
     }
 }
 
-// What is held stands before what is kept.
-fn with_held<M: Drop>(
-    held: Option<Stamped<M>>,
-    mut kept: VecDeque<M>,
-) -> Result<VecDeque<M>, NoMemory>
-    ensures { IfOk result (λ all. all.items ≡ messages (option_to_list held ++ with_stamp_0 kept.items)) }
+/// Puts messages without their stamps behind others.
+pub fn append<M: Drop>(list: &mut VecDeque<M>, more: Vec<Stamped<M>>) -> Result<(), NoMemory>
+    ensures { OnOk result (list.new.items ≡ list.old.items ++ messages more.items) }
 {
-    let Some(first) = held else {
-        return Ok(kept);
-    };
-    kept.push_front(first.message)?;
-    Ok(kept)
+    for next in more {
+        list.push_back(next.message)?;
+    }
+    Ok(())
 }
 
-fn front<M>(kept: &VecDeque<M>) -> Option<&M>
-    ensures { MatchOption result (kept.now.items ≡ []) (λ x. kept.now.items ≡ x.now ∷ drop 1 kept.now.items) }
+// The next message of a batch. One with the last clock stays there.
+fn next_of<M: Drop>(batch: &mut VecDeque<Stamped<M>>) -> Option<Stamped<M>>
+    ensures some { MatchOption result (batch.new.items ≡ batch.old.items) (λ x. (x.clock < last_clock) × (batch.old.items ≡ x ∷ batch.new.items)) }
+    ensures none { IfNone result ((x : Stamped M) (rest : List (Stamped M)) → batch.old.items ≡ x ∷ rest → last_clock ≤ x.clock) }
 {
-    kept.front()
+    match batch.front() {
+        Some(next) if next.clock < u64::MAX => batch.pop_front(),
+        _ => None,
+    }
 }
 
-/// So many messages are sent one right after another. Two processors hand a part of their memory to each other for each
-/// message that is sent by itself, and for several messages at once where they are sent in a burst.
+fn front<T>(list: &VecDeque<T>) -> Option<&T>
+    ensures { MatchOption result (list.now.items ≡ []) (λ x. list.now.items ≡ x.now ∷ drop 1 list.now.items) }
+{
+    list.front()
+}
+
+/// A batch that isn't sent at the end of a turn has so many messages.
 pub const BURST: usize = 32;
 
 /// What goes to one node: what was sent, and then what waits to be sent.
 #[derive(Drop)]
 pub struct WayOut<M> {
-    end: SendEnd<M>,
-    waiting: VecDeque<Stamped<M>>,
+    end: SendEnd<Batch<M>>,
+    waiting: Vec<Stamped<M>>,
 }
 
 impl<M> Model for WayOut<M> {
@@ -152,12 +172,12 @@ impl<M> Model for WayOut<M> {
 
 impl<M: Drop> WayOut<M> {
     /// The way with nothing waiting.
-    pub fn open(alloc: Global, end: SendEnd<M>) -> Self
-        ensures { result ≡ record { link = end.link; all = end.done } }
+    pub fn open(alloc: Global, end: SendEnd<Batch<M>>) -> Self
+        ensures { result ≡ record { link = end.link; all = unpacked end.done } }
     {
         WayOut {
             end,
-            waiting: VecDeque::new(alloc),
+            waiting: Vec::new(alloc),
         }
     }
 
@@ -166,7 +186,10 @@ impl<M: Drop> WayOut<M> {
         ensures ok { OnOk result (self.new.all ≡ self.old.all ++ message ∷ []) }
         ensures same { self.new.link ≡ self.old.link }
     {
-        self.waiting.push_back(message)?;
+        if self.waiting.is_empty() {
+            self.waiting.reserve(BURST)?;
+        }
+        self.waiting.push(message)?;
         self.flush_burst(rt);
         Ok(())
     }
@@ -186,22 +209,24 @@ impl<M: Drop> WayOut<M> {
     }
 
     /// The send end, and what waits.
-    pub fn parts(self) -> (SendEnd<M>, Vec<Stamped<M>>)
+    pub fn parts(self) -> (SendEnd<Batch<M>>, Vec<Stamped<M>>)
         ensures end { result.0.link ≡ self.link }
-        ensures all { self.all ≡ result.0.done ++ result.1.items }
+        ensures all { self.all ≡ unpacked result.0.done ++ result.1.items }
     {
-        (self.end, self.waiting.into_vec())
+        (self.end, self.waiting)
     }
 
-    /// Sends what waits, as far as the link has room.
+    /// Sends what waits, if the link has room.
     pub fn flush<R: Wait>(&mut self, rt: &R)
         ensures { self.new ≡ self.old }
     {
-        while let Some(front) = self.waiting.pop_front() {
-            if let Err(Full { message }) = self.end.send(rt, front) {
-                self.waiting.push_front_reserved(message);
-                return;
-            }
+        if self.waiting.is_empty() {
+            return;
+        }
+        let none = Vec::new(*self.waiting.allocator());
+        let batch = Sequence::from_vec(mem::replace(&mut self.waiting, none));
+        if let Err(Full { message }) = self.end.send(rt, batch) {
+            self.waiting = message.into_vec();
         }
     }
 }

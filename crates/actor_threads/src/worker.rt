@@ -5,7 +5,7 @@ ghost use Rattle.actor_threads.specs.Work.{is_input_of, opened, waits, all_in, a
 
 use crate::gate::Gate;
 use crate::notes::Notes;
-use crate::ways::{WayIn, WayOut};
+use crate::ways::{Batch, WayIn, WayOut};
 use actor_net::{Actor, Outbox, Stamped};
 use basics::NoMemory;
 use crossbeam_utils::CachePadded;
@@ -71,8 +71,8 @@ impl<A: Actor> Worker<A> {
         node: A,
         input: Vec<A::Message>,
         kept: Vec<Vec<A::Message>>,
-        takes: Vec<TakeEnd<A::Message>>,
-        sends: Vec<SendEnd<A::Message>>,
+        takes: Vec<TakeEnd<Batch<A::Message>>>,
+        sends: Vec<SendEnd<Batch<A::Message>>>,
     ) -> Result<Worker<A>, NoMemory>
         requires lengths { (length kept.items ≡ length takes.items) × (length sends.items ≡ length takes.items) }
         requires few { length takes.items < 256 }
@@ -351,7 +351,7 @@ fn with_input<M: Drop>(
 
 fn ways_in<M: Drop>(
     alloc: Global,
-    mut takes: VecDeque<TakeEnd<M>>,
+    mut takes: VecDeque<TakeEnd<Batch<M>>>,
     mut kept: VecDeque<Vec<M>>,
 ) -> Result<Vec<WayIn<M>>, NoMemory>
     requires { length kept.items ≡ length takes.items }
@@ -362,12 +362,12 @@ fn ways_in<M: Drop>(
         let Some(messages) = kept.pop_front() else {
             unreachable!()
         };
-        ways.push(WayIn::open(take, messages))?;
+        ways.push(WayIn::open(alloc, take, messages))?;
     }
     Ok(ways)
 }
 
-fn ways_out<M: Drop>(alloc: Global, sends: Vec<SendEnd<M>>) -> Result<Vec<WayOut<M>>, NoMemory>
+fn ways_out<M: Drop>(alloc: Global, sends: Vec<SendEnd<Batch<M>>>) -> Result<Vec<WayOut<M>>, NoMemory>
     ensures { IfOk result (λ ways. ways.items ≡ map all_out sends.items) }
 {
     let mut ways = Vec::with_capacity(alloc, sends.len())?;

@@ -5,7 +5,6 @@ use lib.ListN.{get_elem?}
 use Rattle.crossbeam_queue.specs.Fifo.{Pushes, Pops, Forks, Merges, Learns}
 use Rattle.crossbeam_queue.proofs.Lists.{at_set, at_snoc}
 use Rattle.std.proofs.lemmas.List.{append_cancel_left}
-use Rattle.actor_net.specs.declared.stamped.Stamped.{Stamped}
 use Rattle.fifo_link.specs.declared.rule.Transfer.{Transfer}
 use Rattle.fifo_link.specs.declared.rule.Transfer.TheVariants.{Sent, Taken}
 use Rattle.fifo_link.specs.declared.rule.Knowledge.{Knowledge}
@@ -44,7 +43,7 @@ module _ {M : Type 0} where
   )
 
   -- the sender may send
-  pub sends : (n holder : ℕ) (v : Knowledge M) (x : Stamped M) → v.sends ≡ true → Pushes Relayed n holder v x (AfterSend v x)
+  pub sends : (n holder : ℕ) (v : Knowledge M) (x : M) → v.sends ≡ true → Pushes Relayed n holder v x (AfterSend v x)
   sends n holder v x may items views _ h at =
       let all : List (Transfer M) = h.2 in
       let new : List (Transfer M) = all ++ Sent x ∷ [] in
@@ -95,12 +94,12 @@ module _ {M : Type 0} where
       )
 
   -- what was sent is what was taken, and then what the queue holds
-  totals_of : (sender taker all : List (Transfer M)) (items : List (Stamped M)) → TakenSince sender all → SentSince taker all → Leaves all items → sent_in sender ≡ taken_in taker ++ items
+  totals_of : (sender taker all : List (Transfer M)) (items : List M) → TakenSince sender all → SentSince taker all → Leaves all items → sent_in sender ≡ taken_in taker ++ items
   totals_of sender taker all items t s leaves = sym (same_sent sender all t) ∙ leaves ∙ ap (λ l. l ++ items) (same_taken taker all s)
 
   -- the holder of both rights takes one more of what was sent
   pub drains : (holder : ℕ) (v : Knowledge M) → v.sends ≡ true → v.takes ≡ true
-      → Pops Relayed holder v (λ x w. AfterTake v x w × ((rest : List (Stamped M)) × (sent_in v.sender ≡ (taken_in v.taker ++ x ∷ []) ++ rest)))
+      → Pops Relayed holder v (λ x w. AfterTake v x w × ((rest : List M) × (sent_in v.sender ≡ (taken_in v.taker ++ x ∷ []) ++ rest)))
   drains holder v a b x items views h at =
       let t = takes holder v b x items views h at in
       let mine = h.4 holder v at in
@@ -125,7 +124,7 @@ module _ {M : Type 0} where
               λ p. (
                 at_end vs r u j (λ x. (old j u x).1 p) e,
                 subst (λ (y : Knowledge M). SentSince y.taker h.2) is (mine.1 b).1,
-                subst (λ (y : Knowledge M). (held : List (Stamped M)) × Leaves y.taker held) is (mine.1 b).2,
+                subst (λ (y : Knowledge M). (held : List M) × Leaves y.taker held) is (mine.1 b).2,
               ),
             ))
             (at_snoc vs r u j e),
@@ -148,11 +147,11 @@ module _ {M : Type 0} where
   pub held_since : (holder : ℕ) (v : Knowledge M) → v.sends ≡ true → Learns Relayed holder v (λ items. HeldSince v.sender items)
   held_since holder v a items views h at = (h.2, ((h.4 holder v at).0 a).1, h.3)
 
-  none_of : (items : List (Stamped M)) → length items ≡ 0 → items ≡ []
+  none_of : (items : List M) → length items ≡ 0 → items ≡ []
   none_of [] e = refl
   none_of (x ∷ xs) e = absurd (cc)
 
-  front_none : (a b : List (Stamped M)) → a ++ b ≡ [] → a ≡ []
+  front_none : (a b : List M) → a ++ b ≡ [] → a ≡ []
   front_none [] b e = refl
   front_none (x ∷ xs) b e = absurd (cc)
 
@@ -175,19 +174,19 @@ module _ {M : Type 0} where
       (record { all = h.2; taken = t; sent = s; leaves = h.3 }, totals_of v.sender v.taker h.2 items t s h.3)
 
   -- what was taken since the first look is what was held then, but for what is held at last
-  drained : (first room rest : List (Stamped M)) (sender taker sender' taker' : List (Transfer M)) → sent_in sender ≡ taken_in taker ++ first → sender' ≡ sender → taken_in taker' ≡ taken_in taker ++ room
+  drained : (first room rest : List M) (sender taker sender' taker' : List (Transfer M)) → sent_in sender ≡ taken_in taker ++ first → sender' ≡ sender → taken_in taker' ≡ taken_in taker ++ room
       → sent_in sender' ≡ taken_in taker' ++ rest → room ++ rest ≡ first
   drained first room rest sender taker sender' taker' whole same taken end =
       append_cancel_left (taken_in taker) (room ++ rest) first (sym (append_assoc (taken_in taker) room rest) ∙ ap (λ l. l ++ rest) (sym taken) ∙ sym end ∙ ap sent_in same ∙ whole)
 
   -- where nothing is held at last, it is all that was held at first
-  pub all_drained : (first room rest : List (Stamped M)) (sender taker sender' taker' : List (Transfer M)) → sent_in sender ≡ taken_in taker ++ first → sender' ≡ sender → taken_in taker' ≡ taken_in taker ++ room
+  pub all_drained : (first room rest : List M) (sender taker sender' taker' : List (Transfer M)) → sent_in sender ≡ taken_in taker ++ first → sender' ≡ sender → taken_in taker' ≡ taken_in taker ++ room
       → sent_in sender' ≡ taken_in taker' ++ rest → length rest ≡ 0 → room ≡ first
   all_drained first room rest sender taker sender' taker' whole same taken end none =
       sym (append-nil room) ∙ ap (λ l. room ++ l) (sym (none_of rest none)) ∙ drained first room rest sender taker sender' taker' whole same taken end
 
   -- one more that is held leaves the room smaller than what was held at first
-  pub room_left : (first room rest : List (Stamped M)) (x : Stamped M) (sender taker sender' taker' : List (Transfer M)) → sent_in sender ≡ taken_in taker ++ first → sender' ≡ sender → taken_in taker' ≡ taken_in taker ++ room
+  pub room_left : (first room rest : List M) (x : M) (sender taker sender' taker' : List (Transfer M)) → sent_in sender ≡ taken_in taker ++ first → sender' ≡ sender → taken_in taker' ≡ taken_in taker ++ room
       → sent_in sender' ≡ (taken_in taker' ++ x ∷ []) ++ rest → length room < length first
   room_left first room rest x sender taker sender' taker' whole same taken end =
       let e = ap length (drained first room (x ∷ rest) sender taker sender' taker' whole same taken (end ∙ append_assoc (taken_in taker') (x ∷ []) rest)) in

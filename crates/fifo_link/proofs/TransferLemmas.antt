@@ -1,7 +1,6 @@
 -- What is sent and taken in transfers put one after another.
 use Rattle.std.proofs.Common.{◌≡◌, List, [], ◌∷◌, ◌++◌, map, sym, ap, refl, ◌∙◌, append-nil, append_assoc}
 use Rattle.std.proofs.lemmas.List.{map-append}
-use Rattle.actor_net.specs.declared.stamped.Stamped.{Stamped}
 use Rattle.fifo_link.specs.declared.rule.Transfer.{Transfer}
 use Rattle.fifo_link.specs.declared.rule.Transfer.TheVariants.{Sent, Taken}
 use Rattle.fifo_link.specs.Transfers.{sent_in, taken_in, SentSince, TakenSince}
@@ -19,17 +18,17 @@ module _ {M : Type 0} where
   taken_in-append (Sent x ∷ xs) b = taken_in-append xs b
   taken_in-append (Taken x ∷ xs) b = ap (λ l. x ∷ l) (taken_in-append xs b)
 
-  sent_in-taken : (xs : List (Stamped M)) → sent_in (map Taken xs) ≡ []
+  sent_in-taken : (xs : List M) → sent_in (map Taken xs) ≡ []
   unfolding sent_in
   sent_in-taken [] = refl
   sent_in-taken (x ∷ xs) = sent_in-taken xs
 
-  sent_in-sent : (xs : List (Stamped M)) → sent_in (map Sent xs) ≡ xs
+  sent_in-sent : (xs : List M) → sent_in (map Sent xs) ≡ xs
   unfolding sent_in
   sent_in-sent [] = refl
   sent_in-sent (x ∷ xs) = ap (λ l. x ∷ l) (sent_in-sent xs)
 
-  taken_in-sent : (xs : List (Stamped M)) → taken_in (map Sent xs) ≡ []
+  taken_in-sent : (xs : List M) → taken_in (map Sent xs) ≡ []
   unfolding taken_in
   taken_in-sent [] = refl
   taken_in-sent (x ∷ xs) = taken_in-sent xs
@@ -47,20 +46,20 @@ module _ {M : Type 0} where
   more_sent known all t = ap sent_in t.1 ∙ sent_in-append known (map Sent t.0) ∙ ap (λ l. sent_in known ++ l) (sent_in-sent t.0)
 
   -- one more is sent, and the same are taken
-  pub one_sent : (all : List (Transfer M)) (x : Stamped M) → (sent_in (all ++ Sent x ∷ []) ≡ sent_in all ++ x ∷ []) × (taken_in (all ++ Sent x ∷ []) ≡ taken_in all)
+  pub one_sent : (all : List (Transfer M)) (x : M) → (sent_in (all ++ Sent x ∷ []) ≡ sent_in all ++ x ∷ []) × (taken_in (all ++ Sent x ∷ []) ≡ taken_in all)
   unfolding sent_in taken_in
   one_sent all x = (sent_in-append all (Sent x ∷ []), taken_in-append all (Sent x ∷ []) ∙ append-nil (taken_in all))
 
   -- one more is taken, and the same are sent
-  pub one_taken : (all : List (Transfer M)) (x : Stamped M) → (taken_in (all ++ Taken x ∷ []) ≡ taken_in all ++ x ∷ []) × (sent_in (all ++ Taken x ∷ []) ≡ sent_in all)
+  pub one_taken : (all : List (Transfer M)) (x : M) → (taken_in (all ++ Taken x ∷ []) ≡ taken_in all ++ x ∷ []) × (sent_in (all ++ Taken x ∷ []) ≡ sent_in all)
   unfolding sent_in taken_in
   one_taken all x = (taken_in-append all (Taken x ∷ []), sent_in-append all (Taken x ∷ []) ∙ append-nil (sent_in all))
 
   -- the same was done since then, and one thing more
-  pub sent_more : (known all : List (Transfer M)) (x : Stamped M) → SentSince known all → SentSince known (all ++ Sent x ∷ [])
+  pub sent_more : (known all : List (Transfer M)) (x : M) → SentSince known all → SentSince known (all ++ Sent x ∷ [])
   sent_more known all x t = (t.0 ++ x ∷ [], ap (λ l. l ++ Sent x ∷ []) t.1 ∙ append_assoc known (map Sent t.0) (Sent x ∷ []) ∙ ap (λ l. known ++ l) (sym (map-append Sent t.0 (x ∷ []))))
 
-  pub taken_more : (known all : List (Transfer M)) (x : Stamped M) → TakenSince known all → TakenSince known (all ++ Taken x ∷ [])
+  pub taken_more : (known all : List (Transfer M)) (x : M) → TakenSince known all → TakenSince known (all ++ Taken x ∷ [])
   taken_more known all x t = (t.0 ++ x ∷ [], ap (λ l. l ++ Taken x ∷ []) t.1 ∙ append_assoc known (map Taken t.0) (Taken x ∷ []) ∙ ap (λ l. known ++ l) (sym (map-append Taken t.0 (x ∷ []))))
 
   -- nothing was done since then

@@ -1,7 +1,6 @@
 -- What contracts see of the two ends of a link, this project's own.
 use Rattle.std.specs.Prelude.{ℕ, List}
 use Rattle.atomic_table.specs.Seated.{TableId}
-use Rattle.actor_net.specs.declared.stamped.Stamped.{Stamped}
 use Rattle.fifo_link.specs.declared.rule.Transfer.{Transfer}
 
 -- an end of a link: which link it is of, how many messages that holds at most, what this end sent or took, and all that was done
@@ -9,5 +8,5 @@ use Rattle.fifo_link.specs.declared.rule.Transfer.{Transfer}
 pub record End (M : Type 0) : Type 0 where
   pub link : TableId
   pub capacity : ℕ
-  pub done : List (Stamped M)
+  pub done : List M
   pub known : List (Transfer M)

@@ -4,7 +4,6 @@
 use Rattle.std.specs.Prelude.{◌≡◌, ℕ, Bool, true, List, [], ◌∷◌, ◌++◌}
 use mathlib.Core.Option.{some}
 use lib.ListN.{get_elem?}
-use Rattle.actor_net.specs.declared.stamped.Stamped.{Stamped}
 use Rattle.fifo_link.specs.declared.rule.Transfer.{Transfer}
 use Rattle.fifo_link.specs.declared.rule.Knowledge.{Knowledge}
 use Rattle.fifo_link.specs.Transfers.{sent_in, taken_in, Leaves, SentSince, TakenSince, IsSent, IsTaken}
@@ -18,22 +17,22 @@ module _ {M : Type 0} where
   abbrev pub Fits : ℕ → ℕ → List (Transfer M) → ℕ → Knowledge M → Type 0
   Fits sender taker all holder v =
       (v.sends ≡ true → (holder ≡ sender) × TakenSince v.sender all)
-      × (v.takes ≡ true → (holder ≡ taker) × SentSince v.taker all × ((held : List (Stamped M)) × Leaves v.taker held))
+      × (v.takes ≡ true → (holder ≡ taker) × SentSince v.taker all × ((held : List M) × Leaves v.taker held))
 
   -- the rule, of what the queue holds and of what each holder knows
-  abbrev pub Relayed : List (Stamped M) → List (Knowledge M) → Type 0
+  abbrev pub Relayed : List M → List (Knowledge M) → Type 0
   Relayed items views = (sender : ℕ) × (taker : ℕ) × (all : List (Transfer M)) × Leaves all items
       × ((holder : ℕ) (v : Knowledge M) → get_elem? views holder ≡ some v → Fits sender taker all holder v)
 
   -- what a holder knows after it sent a message
-  pub record AfterSend (v : Knowledge M) (message : Stamped M) (w : Knowledge M) : Type 0 where
+  pub record AfterSend (v : Knowledge M) (message : M) (w : Knowledge M) : Type 0 where
     pub rights : (w.sends ≡ v.sends) × (w.takes ≡ v.takes)
     pub known : IsSent v.sender message w.sender
     pub done : sent_in w.sender ≡ sent_in v.sender ++ message ∷ []
     pub same : w.taker ≡ v.taker
 
   -- what a holder knows after it took a message
-  pub record AfterTake (v : Knowledge M) (message : Stamped M) (w : Knowledge M) : Type 0 where
+  pub record AfterTake (v : Knowledge M) (message : M) (w : Knowledge M) : Type 0 where
     pub rights : (w.sends ≡ v.sends) × (w.takes ≡ v.takes)
     pub known : IsTaken v.taker message w.taker
     pub done : taken_in w.taker ≡ taken_in v.taker ++ message ∷ []

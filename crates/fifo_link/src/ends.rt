@@ -4,16 +4,15 @@ ghost use Rattle.fifo_link.specs.Transfers.{sent_in, taken_in, IsSent, IsTaken, 
 ghost use Rattle.crossbeam_queue.specs.Passes.{view, IsPassOf, ruled_capacity};
 
 use crate::rule::{Drains, InOrder, Knowledge, Roles, Sends, Takes};
-use actor_net::Stamped;
 use basics::NoMemory;
 use crossbeam_queue::{Pass, RuledArrayQueue};
 use std::alloc::{AllocError, Global};
 use std::marker::{Model, PhantomData};
 use std::sync::{Arc, Wait};
 
-type Line<M> = RuledArrayQueue<Stamped<M>, Knowledge<M>, InOrder>;
+type Line<M> = RuledArrayQueue<M, Knowledge<M>, InOrder>;
 
-type Hand<M> = Pass<Stamped<M>, Knowledge<M>>;
+type Hand<M> = Pass<M, Knowledge<M>>;
 
 /// The end of a link that sends.
 #[derive(Drop)]
@@ -40,7 +39,7 @@ pub struct TakeEnd<M> {
     line: Arc<Line<M>, Global>,
     hand: Hand<M>,
     // Where `close` puts what is left.
-    room: Vec<Stamped<M>>,
+    room: Vec<M>,
 }
 
 impl<M> Model for TakeEnd<M> {
@@ -58,13 +57,13 @@ impl<M> Model for TakeEnd<M> {
 /// The link had no room. The message is handed back.
 #[derive(Debug, Drop)]
 pub struct Full<M> {
-    pub message: Stamped<M>,
+    pub message: M,
 }
 
 /// What was sent on a link and not taken, oldest first.
 #[derive(Debug, Drop)]
 pub struct Closed<M> {
-    pub left: Vec<Stamped<M>>,
+    pub left: Vec<M>,
 }
 
 /// A link for messages of one type. It is used by its two ends, and `open` makes them.
@@ -103,7 +102,7 @@ impl<M> Link<M> {
 impl<M: Drop> SendEnd<M> {
     /// Puts a message behind those that were sent, and learns what was taken before it. `Full` comes only where the link was
     /// full at a moment since the last message that was sent.
-    pub fn send<R: Wait>(&mut self, rt: &R, message: Stamped<M>) -> Result<(), Full<M>>
+    pub fn send<R: Wait>(&mut self, rt: &R, message: M) -> Result<(), Full<M>>
         ensures same { (self.new.link ≡ self.old.link) × (self.new.capacity ≡ self.old.capacity) }
         ensures sent { MatchResult result (λ _. self.new.done ≡ self.old.done ++ message ∷ []) (λ full. (full.message ≡ message) × (self.new.done ≡ self.old.done)) }
         ensures known { MatchResult result (λ _. IsSent self.old.known message self.new.known) (λ _. self.new.known ≡ self.old.known) }
@@ -119,7 +118,7 @@ impl<M: Drop> SendEnd<M> {
 impl<M: Drop> TakeEnd<M> {
     /// The next message, with what was sent before it was taken. `None` comes only where the link was empty right after the
     /// last message that was taken.
-    pub fn take<R: Wait>(&mut self, rt: &R) -> Option<Stamped<M>>
+    pub fn take<R: Wait>(&mut self, rt: &R) -> Option<M>
         ensures same { (self.new.link ≡ self.old.link) × (self.new.capacity ≡ self.old.capacity) }
         ensures taken { MatchOption result (self.new.done ≡ self.old.done) (λ message. self.new.done ≡ self.old.done ++ message ∷ []) }
         ensures known { MatchOption result (self.new.known ≡ self.old.known) (λ message. IsTaken self.old.known message self.new.known) }
@@ -153,8 +152,8 @@ fn drain<M: Drop, R: Wait>(
     rt: &R,
     line: &Line<M>,
     mut hand: Hand<M>,
-    mut room: Vec<Stamped<M>>,
-) -> Vec<Stamped<M>>
+    mut room: Vec<M>,
+) -> Vec<M>
     requires pass { IsPassOf line.now hand }
     requires both { ((view hand).sends ≡ true) × ((view hand).takes ≡ true) }
     requires empty { room.items ≡ [] }

@@ -13,5 +13,4 @@ mod rule;
 #[cfg(test)]
 mod tests;
 
-pub use actor_net::Stamped;
 pub use ends::{Closed, Full, Link, SendEnd, TakeEnd, close};

@@ -1,12 +1,11 @@
 //! The rule of a link, and what its steps tell.
-use actor_net::Stamped;
 use crossbeam_queue::protocol::{Join, Lesson, Outcome, Protocol, Split};
 use std::collections::LinkedList;
 
 // A message was sent, or taken. No value of it is made.
 pub enum Transfer<M> {
-    Sent(Stamped<M>),
-    Taken(Stamped<M>),
+    Sent(M),
+    Taken(M),
 }
 
 // What a holder of the queue may do, and what it knows of all that was done, as the sender and as the taker. No value of it
@@ -21,7 +20,7 @@ pub struct Knowledge<M> {
 // What was sent is what was taken and then what the queue holds.
 pub struct InOrder;
 
-impl<M> Protocol<Stamped<M>, Knowledge<M>> for InOrder {
+impl<M> Protocol<M, Knowledge<M>> for InOrder {
     ghost use Rattle.std.specs.Prelude.{true, []};
     ghost use Rattle.fifo_link.specs.Rule.{knows, Relayed};
 
@@ -54,13 +53,13 @@ impl<M> Join<Knowledge<M>> for Roles {
 // A message is sent, and the sender learns what was done before it. Where there is no room, it learns what the queue holds.
 pub struct Sends;
 
-impl<M> Outcome<Stamped<M>, Knowledge<M>> for Sends {
+impl<M> Outcome<M, Knowledge<M>> for Sends {
     ghost use Rattle.fifo_link.specs.Rule.{AfterSend};
 
     ghost then = { AfterSend };
 }
 
-impl<M> Lesson<Stamped<M>, Knowledge<M>> for Sends {
+impl<M> Lesson<M, Knowledge<M>> for Sends {
     ghost use Rattle.fifo_link.specs.Transfers.{HeldSince};
 
     ghost fact = { λ v items. HeldSince v.sender items };
@@ -69,13 +68,13 @@ impl<M> Lesson<Stamped<M>, Knowledge<M>> for Sends {
 // A message is taken, and the taker learns what was done before it. Where there is none, nothing was sent since its last one.
 pub struct Takes;
 
-impl<M> Outcome<Stamped<M>, Knowledge<M>> for Takes {
+impl<M> Outcome<M, Knowledge<M>> for Takes {
     ghost use Rattle.fifo_link.specs.Rule.{AfterTake};
 
     ghost then = { AfterTake };
 }
 
-impl<M> Lesson<Stamped<M>, Knowledge<M>> for Takes {
+impl<M> Lesson<M, Knowledge<M>> for Takes {
     ghost use Rattle.std.specs.Prelude.{◌≡◌, length};
     ghost use Rattle.fifo_link.specs.Transfers.{WasEmpty};
 
@@ -85,16 +84,15 @@ impl<M> Lesson<Stamped<M>, Knowledge<M>> for Takes {
 // A message is taken by the holder of both rights, who knows all that was sent.
 pub struct Drains;
 
-impl<M> Outcome<Stamped<M>, Knowledge<M>> for Drains {
+impl<M> Outcome<M, Knowledge<M>> for Drains {
     ghost use Rattle.std.specs.Prelude.{◌≡◌, List, [], ◌∷◌, ◌++◌};
-    ghost use Rattle.actor_net.specs.declared.stamped.Stamped.{Stamped};
     ghost use Rattle.fifo_link.specs.Rule.{AfterTake};
     ghost use Rattle.fifo_link.specs.Transfers.{sent_in, taken_in};
 
-    ghost then = { λ v x w. AfterTake v x w × ((rest : List (Stamped M)) × (sent_in v.sender ≡ (taken_in v.taker ++ x ∷ []) ++ rest)) };
+    ghost then = { λ v x w. AfterTake v x w × ((rest : List M) × (sent_in v.sender ≡ (taken_in v.taker ++ x ∷ []) ++ rest)) };
 }
 
-impl<M> Lesson<Stamped<M>, Knowledge<M>> for Drains {
+impl<M> Lesson<M, Knowledge<M>> for Drains {
     ghost use Rattle.std.specs.Prelude.{◌≡◌, ◌++◌};
     ghost use Rattle.fifo_link.specs.Transfers.{AllDone, sent_in, taken_in};
 

@@ -3,4 +3,4 @@ use Rattle.std.proofs.Common.{◌≡◌, ◌++◌, take}
 use Rattle.actor_threads.proofs.round.join.Given as goal
 
 abbrev pub invariant-loop-choice : goal.invariant-loop-choice
-invariant-loop-choice l = l.choices ≡ l.fn.choices ++ take l.choice-index l.fn.more
+invariant-loop-choice l = l.all ≡ l.fn.choices ++ take l.choice-index l.fn.more

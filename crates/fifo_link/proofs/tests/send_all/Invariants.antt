@@ -2,5 +2,5 @@
 use Rattle.std.proofs.Common.{◌≡◌}
 use Rattle.fifo_link.proofs.tests.send_all.Given as goal
 
-abbrev pub invariant-loop-clock : goal.invariant-loop-clock
-invariant-loop-clock g l = l.send.link ≡ l.fn.send.link
+abbrev pub invariant-loop-number : goal.invariant-loop-number
+invariant-loop-number g l = l.send.link ≡ l.fn.send.link

@@ -1,13 +1,6 @@
--- What the take end gave is drawn: none, or one message.
-use Rattle.std.proofs.Common.{refl, ap, ◌∙◌, arith}
-use Rattle.actor_threads.proofs.WayInLemmas.{drew_nothing, drew_one}
+-- What is kept is drawn first.
+use Rattle.actor_threads.proofs.WayInLemmas.{drew_kept}
 use Rattle.actor_threads.proofs.ways.WayIn.next_taken.Goals as goal
 
-pub returns-in_default : goal.returns-in_default
-returns-in_default g c = rw (← c.self.view_is) (drew_nothing c.in_default.ensures.taken refl c.in_default.ensures.same.0)
-
-pub returns-then-message-lt18446744073709551615 : goal.returns-then-message-lt18446744073709551615
-returns-then-message-lt18446744073709551615 g c = (
-  omega arith,
-  rw (← c.self.view_is) (drew_one _ c.in-Some.ensures.taken (ap (λ w. w.kept) c.self.view_is ∙ c.keeps.ensures c.if-keeps.false) (ap (λ w. w.kept) c.self.view_is ∙ c.keeps.ensures c.if-keeps.false) c.in-Some.ensures.same.0),
-)
+pub returns-else-is_used_up : goal.returns-else-is_used_up
+returns-else-is_used_up g c = drew_kept _ _ c.next_kept.result c.next_kept.ensures.some c.next_kept.ensures.same

@@ -1,7 +1,7 @@
 -- The messages so far were put behind the list.
 use Rattle.std.proofs.Common.{◌≡◌, ◌++◌}
 use Rattle.actor_net.specs.Histories.{messages}
-use Rattle.actor_threads.proofs.links.append.Given as goal
+use Rattle.actor_threads.proofs.ways.append.Given as goal
 
 abbrev pub invariant-loop-next : goal.invariant-loop-next
 invariant-loop-next g l = l.list.items ≡ l.fn.list.items ++ messages l.yielded

@@ -1,0 +1,8 @@
+-- The messages of the batches so far were put behind the list.
+use Rattle.std.proofs.Common.{◌≡◌, ◌++◌}
+use Rattle.actor_net.specs.Histories.{messages}
+use Rattle.actor_threads.specs.Ways.{unpacked}
+use Rattle.actor_threads.proofs.links.append_all.Given as goal
+
+abbrev pub invariant-loop-batch : goal.invariant-loop-batch
+invariant-loop-batch g l = l.list.items ≡ l.fn.list.items ++ messages (unpacked l.yielded)
