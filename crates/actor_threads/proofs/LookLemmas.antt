@@ -1,5 +1,5 @@
 -- What a look at one way does to a worker.
-use Rattle.std.proofs.Common.{◌≡◌, ◌==◌, ◌<◌, ℕ, Bool, true, false, true≢false, if◌then◌else◌, Option, Some, None, MatchOption, IfNone, List, [], ◌∷◌, length, slice_index_or, slice_set, sym, ◌∙◌, ap, refl, subst, inl, inr, arith, length-set}
+use Rattle.std.proofs.Common.{◌≡◌, ◌==◌, ◌<◌, ℕ, Bool, true, false, true≢false, if◌then◌else◌, Option, Some, None, MatchOption, IfNone, List, [], ◌∷◌, length, slice_index_or, slice_set, sym, ◌∙◌, ap, refl, subst, inl, inr, length-set}
 use Rattle.std.proofs.lemmas.Bool.Decides.{Decides-eqb}
 use Rattle.std.proofs.lemmas.List.{get_or_default, get_or-set_same, get_or-set_other, set-get_or}
 use Rattle.actor_net.specs.declared.stamped.Stamped.{Stamped}

@@ -267,8 +267,9 @@ fn pause(busy: &AtomicU64) {
 
 // Lets others have the processor for a while.
 fn sleep<R: Wait>(rt: &R, busy: &AtomicU64) {
-    let seen = busy.load(Ordering::SeqCst) as u32;
-    busy.park_timeout(rt, seen, Duration::from_micros(SLEEP_MICROSECONDS));
+    let seen = busy.load(Ordering::SeqCst) % 0x1_0000_0000;
+    let time = Duration::from_micros(SLEEP_MICROSECONDS);
+    busy.park_timeout(rt, seen as u32, time);
 }
 
 // How many workers are in a group, of so many beside that of node 0: but for the fewest groups, there is at most one for each

@@ -367,7 +367,10 @@ fn ways_in<M: Drop>(
     Ok(ways)
 }
 
-fn ways_out<M: Drop>(alloc: Global, sends: Vec<SendEnd<Batch<M>>>) -> Result<Vec<WayOut<M>>, NoMemory>
+fn ways_out<M: Drop>(
+    alloc: Global,
+    sends: Vec<SendEnd<Batch<M>>>,
+) -> Result<Vec<WayOut<M>>, NoMemory>
     ensures { IfOk result (λ ways. ways.items ≡ map all_out sends.items) }
 {
     let mut ways = Vec::with_capacity(alloc, sends.len())?;

@@ -148,12 +148,7 @@ pub fn close<M: Drop, R: Wait>(rt: &R, send: SendEnd<M>, take: TakeEnd<M>) -> Cl
 }
 
 // All that the queue holds, put into `room`.
-fn drain<M: Drop, R: Wait>(
-    rt: &R,
-    line: &Line<M>,
-    mut hand: Hand<M>,
-    mut room: Vec<M>,
-) -> Vec<M>
+fn drain<M: Drop, R: Wait>(rt: &R, line: &Line<M>, mut hand: Hand<M>, mut room: Vec<M>) -> Vec<M>
     requires pass { IsPassOf line.now hand }
     requires both { ((view hand).sends ≡ true) × ((view hand).takes ≡ true) }
     requires empty { room.items ≡ [] }

@@ -10,7 +10,7 @@ loop-preserved g c =
     let step = g.A.Actor.stepped in
     let inv = c.loop.invariant in
     let more = c.in_ok-next.ensures.run in
-    let joined = c.in_ok-join.ensures in
+    let joined = c.in_ok-choices.ensures in
     let w = c.args.world in
     record {
       is_run = subst (λ l. IsRun ready step l w) (sym joined) (runs_join ready step _ _ w inv.is_run (subst (λ v. IsRun ready step c.in_ok-next.more v) inv.world more.0));
