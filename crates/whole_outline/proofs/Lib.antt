@@ -1,1 +1,3 @@
+pub mod MoveSends
+pub mod ShareOutline
 pub mod WholeOutline
