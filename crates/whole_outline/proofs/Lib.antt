@@ -1,1 +1,3 @@
+pub mod MemberOutline
+pub mod StandbyKept
 pub mod WholeOutline
