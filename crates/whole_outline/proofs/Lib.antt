@@ -1,3 +1,4 @@
 pub mod MemberOutline
 pub mod StandbyKept
+pub mod SwitchAll
 pub mod WholeOutline
