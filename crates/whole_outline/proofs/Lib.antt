@@ -1,3 +1,4 @@
+pub mod AskedShare
 pub mod MemberOutline
 pub mod StandbyKept
 pub mod SwitchAll
