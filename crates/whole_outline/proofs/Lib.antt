@@ -1,4 +1,5 @@
 pub mod AskedShare
+pub mod InstanceWorlds
 pub mod MemberOutline
 pub mod MemberTables
 pub mod StandbyKept

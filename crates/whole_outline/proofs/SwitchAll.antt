@@ -81,20 +81,20 @@ module _ {R : Type 0} (f : Semantics R) (site : Site) (packet : ℕ → Packet) 
       rw (room, found, node) (sent_to s p o.target o.there)
 
   -- What the controller asks: packets of moves and of shares, fences, changed rules.
-  pub passed_all : (s : SwitchState) (i op : ℕ) (cell : FullCell) → nat_lt i s.instances ≡ true → outline_all f place (sends_to_instance s i (msg.Carry (mark.Pass op) cell)).sends ≡ as_old (sw_sends (net.Mv everything (real.M_forward (number cell) (instance_node i))))
-  passed_all s i op cell there = rw there refl
+  pub forward_passed : (s : SwitchState) (i op : ℕ) (cell : FullCell) → nat_lt i s.instances ≡ true → outline_all f place (sends_to_instance s i (msg.Carry (mark.Pass op) cell)).sends ≡ as_old (sw_sends (net.Mv everything (real.M_forward (number cell) (instance_node i))))
+  forward_passed s i op cell there = rw there refl
 
-  pub shared_all : (s : SwitchState) (i op : ℕ) (home : Bool) (cell : FullCell) → nat_lt i s.instances ≡ true → outline_all f place (sends_to_instance s i (msg.Carry (mark.Shared op home) cell)).sends ≡ share_sends (sys f site packet) (sharing f site packet) (S_forward op home (number cell) (instance_node i))
-  shared_all s i op home cell there = rw there refl
+  pub forward_shared : (s : SwitchState) (i op : ℕ) (home : Bool) (cell : FullCell) → nat_lt i s.instances ≡ true → outline_all f place (sends_to_instance s i (msg.Carry (mark.Shared op home) cell)).sends ≡ share_sends (sys f site packet) (sharing f site packet) (S_forward op home (number cell) (instance_node i))
+  forward_shared s i op home cell there = rw there refl
 
   pub fence_all : (s : SwitchState) (i op : ℕ) → nat_lt i s.instances ≡ true → outline_all f place (sends_to_instance s i (msg.Fence op)).sends ≡ as_old (sw_sends (net.Mv everything (real.M_fence_to op (instance_node i))))
   fence_all s i op there = rw there refl
 
-  pub moved_all : (s : SwitchState) (op : ℕ) (g : Filter) (from to : ℕ) → nat_lt from s.instances ≡ true → nat_lt to s.instances ≡ true → outline_all f place (on_install s op g from (target.Instance to)).sends ≡ as_old (sw_sends (net.Mv g (real.M_install op (instance_node from) (instance_node to))))
-  moved_all s op g from to a b = rw (a, b) refl
+  pub install_moved : (s : SwitchState) (op : ℕ) (g : Filter) (from to : ℕ) → nat_lt from s.instances ≡ true → nat_lt to s.instances ≡ true → outline_all f place (on_install s op g from (target.Instance to)).sends ≡ as_old (sw_sends (net.Mv g (real.M_install op (instance_node from) (instance_node to))))
+  install_moved s op g from to a b = rw (a, b) refl
 
-  pub installed_all : (s : SwitchState) (op : ℕ) (g : Filter) (from : ℕ) → nat_lt from s.instances ≡ true → outline_all f place (on_install s op g from target.Controller).sends ≡ share_sends (sys f site packet) (sharing f site packet) (S_install op g (instance_node from))
-  installed_all s op g from a = rw a refl
+  pub install_shared : (s : SwitchState) (op : ℕ) (g : Filter) (from : ℕ) → nat_lt from s.instances ≡ true → outline_all f place (on_install s op g from target.Controller).sends ≡ share_sends (sys f site packet) (sharing f site packet) (S_install op g (instance_node from))
+  install_shared s op g from a = rw a refl
 
   -- stops aren't seen
   pub stops_all : (k : ℕ) → outline_all f place (stops k) ≡ []
