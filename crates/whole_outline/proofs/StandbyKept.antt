@@ -58,45 +58,45 @@ module _ {R : Type 0} (f : Semantics R) (place : List ℕ → Option ℕ) where
 
 module _ {F R : Type 0} (f : Semantics R) (place : List ℕ → Option ℕ) where
   -- a step that leaves what stands by as it is, and sends nothing of a share
-  pub record Unshared (i : Instance F R) (step : Step F R) : Type 0 where
+  pub record SharesNothing (i : Instance F R) (step : Step F R) : Type 0 where
     pub standby : step.node.table.standby ≡ i.table.standby
     pub sends : AreUnshared f place step.sends
 
-  then_unshared : (i : Instance F R) (step : Step F R) (next : Instance F R → Step F R) → Unshared i step → Unshared step.node (next step.node) → Unshared i (and_then step next)
+  then_unshared : (i : Instance F R) (step : Step F R) (next : Instance F R → Step F R) → SharesNothing i step → SharesNothing step.node (next step.node) → SharesNothing i (and_then step next)
   then_unshared i step next one more = record { standby = more.standby ∙ one.standby; sends = each-append (λ sent. IsUnshared f place sent.1) step.sends _ one.sends more.sends }
 
-  still_unshared : (i : Instance F R) → Unshared i (still i)
+  still_unshared : (i : Instance F R) → SharesNothing i (still i)
   still_unshared i = record { standby = refl; sends = tt }
 
   -- packets
-  plain_unshared : (i : Instance F R) (cell : FullCell) → Unshared i (processed f i mark.Plain cell)
+  plain_unshared : (i : Instance F R) (cell : FullCell) → SharesNothing i (processed f i mark.Plain cell)
   unfolding processed
   plain_unshared i cell = record { standby = refl; sends = (refl, tt) }
 
-  passed_unshared : (i : Instance F R) (op : ℕ) (cell : FullCell) → Unshared i (processed f i (mark.Pass op) cell)
+  passed_unshared : (i : Instance F R) (op : ℕ) (cell : FullCell) → SharesNothing i (processed f i (mark.Pass op) cell)
   unfolding processed
   passed_unshared i op cell = record { standby = refl; sends = (refl, tt) }
 
-  carried_unshared : (i : Instance F R) (cell : FullCell) (d : Decide) → Unshared i (carried f i mark.Plain cell d)
+  carried_unshared : (i : Instance F R) (cell : FullCell) (d : Decide) → SharesNothing i (carried f i mark.Plain cell d)
   carried_unshared i cell decide.Process = plain_unshared i cell
   carried_unshared i cell (decide.ProcessAndEvent op) = then_unshared i (processed f i mark.Plain cell) (λ j. tells j (msg.Seen op cell.packet)) (plain_unshared i cell) (record { standby = refl; sends = (refl, tt) })
   carried_unshared i cell (decide.Event op) = record { standby = refl; sends = (refl, tt) }
   carried_unshared i cell (decide.Buffer op) = record { standby = refl; sends = tt }
 
-  all_unshared : (i : Instance F R) (cells : List FullCell) → Unshared i (all_processed f i cells)
+  all_unshared : (i : Instance F R) (cells : List FullCell) → SharesNothing i (all_processed f i cells)
   unfolding all_processed
   all_unshared i [] = still_unshared i
   all_unshared i (cell ∷ cells) = then_unshared i (processed f i mark.Plain cell) (λ j. all_processed f j cells) (plain_unshared i cell) (all_unshared (processed f i mark.Plain cell).node cells)
 
-  carry_unshared : (i : Instance F R) (cell : FullCell) → Unshared i (on_carry f i mark.Plain cell)
+  carry_unshared : (i : Instance F R) (cell : FullCell) → SharesNothing i (on_carry f i mark.Plain cell)
   unfolding on_carry
   carry_unshared i cell = carried_unshared i cell (rules.decide i.rules (flow_of i.site cell.packet).0 mark.Plain)
 
-  pass_unshared : (i : Instance F R) (op : ℕ) (cell : FullCell) → Unshared i (on_carry f i (mark.Pass op) cell)
+  pass_unshared : (i : Instance F R) (op : ℕ) (cell : FullCell) → SharesNothing i (on_carry f i (mark.Pass op) cell)
   unfolding on_carry
   pass_unshared i op cell = passed_unshared i op cell
 
-  fence_unshared : (i : Instance F R) (op : ℕ) → Unshared i (on_fence f i op)
+  fence_unshared : (i : Instance F R) (op : ℕ) → SharesNothing i (on_fence f i op)
   unfolding on_fence
   fence_unshared i op =
       let without = record i { rules = rules.without i.rules op } in
@@ -104,38 +104,38 @@ module _ {F R : Type 0} (f : Semantics R) (place : List ℕ → Option ℕ) wher
       record { standby = all.standby; sends = each-append (λ sent. IsUnshared f place sent.1) (all_processed f without (rules.held_at i.rules op)).sends _ all.sends (refl, tt) }
 
   -- state
-  good_unshared : (i : Instance F R) (chunks : List Chunk) (step : Step F R) → Unshared i step → Unshared i (where_good f i chunks step)
-  good_unshared i chunks step h = elim (are_good f chunks) as (λ b. Unshared i (if b then step else still i)) [ true ↦ h | false ↦ still_unshared i ]
+  good_unshared : (i : Instance F R) (chunks : List Chunk) (step : Step F R) → SharesNothing i step → SharesNothing i (where_good f i chunks step)
+  good_unshared i chunks step h = elim (are_good f chunks) as (λ b. SharesNothing i (if b then step else still i)) [ true ↦ h | false ↦ still_unshared i ]
 
-  piece_unshared : (i : Instance F R) (op : ℕ) (piece : APiece) (answered : Bool) (o : Option Answer) → Unshared i (piece_put f i op piece answered o)
+  piece_unshared : (i : Instance F R) (op : ℕ) (piece : APiece) (answered : Bool) (o : Option Answer) → SharesNothing i (piece_put f i op piece answered o)
   piece_unshared i op piece answered (Some why) = record { standby = refl; sends = (refl, tt) }
   piece_unshared i op piece answered None = good_unshared i piece.chunks _ (record { standby = refl; sends = answered_unshared f place op answered })
 
-  put_unshared : (i : Instance F R) (op : ℕ) (piece : APiece) (first : Bool) → Unshared i (on_put f i op piece first)
+  put_unshared : (i : Instance F R) (op : ℕ) (piece : APiece) (first : Bool) → SharesNothing i (on_put f i op piece first)
   unfolding on_put
-  put_unshared i op piece first = elim (nat_lt piece.total (length piece.chunks)) as (λ b. Unshared i (if b then still i else piece_put f i op piece (first || piece.last) (if first then refusal i piece else None))) [
+  put_unshared i op piece first = elim (nat_lt piece.total (length piece.chunks)) as (λ b. SharesNothing i (if b then still i else piece_put f i op piece (first || piece.last) (if first then refusal i piece else None))) [
     | true ↦ still_unshared i
     | false ↦ piece_unshared i op piece (first || piece.last) (if first then refusal i piece else None)
   ]
 
-  stream_unshared : (i : Instance F R) (op : ℕ) (g : Filter) → Unshared i (on_stream f i op g)
+  stream_unshared : (i : Instance F R) (op : ℕ) (g : Filter) → SharesNothing i (on_stream f i op g)
   unfolding on_stream
   stream_unshared i op g = record { standby = refl; sends = pieces_unshared f place op (pieces (selected f i g)) }
 
-  restore_unshared : (i : Instance F R) (op : ℕ) (chunks : List Chunk) → Unshared i (on_restore f i op chunks)
+  restore_unshared : (i : Instance F R) (op : ℕ) (chunks : List Chunk) → SharesNothing i (on_restore f i op chunks)
   unfolding on_restore
   restore_unshared i op chunks = good_unshared i chunks _ (record { standby = refl; sends = (refl, tt) })
 
-  tally_unshared : (i : Instance F R) (op : ℕ) (r : Result (List ℕ) ChunkFault) → Unshared i (tally_put i op r)
+  tally_unshared : (i : Instance F R) (op : ℕ) (r : Result (List ℕ) ChunkFault) → SharesNothing i (tally_put i op r)
   tally_unshared i op (Ok slots) = record { standby = refl; sends = (refl, tt) }
   tally_unshared i op (Err fault) = still_unshared i
 
-  put_all_unshared : (i : Instance F R) (op : ℕ) (chunk : Chunk) → Unshared i (on_put_all f i op chunk)
+  put_all_unshared : (i : Instance F R) (op : ℕ) (chunk : Chunk) → SharesNothing i (on_put_all f i op chunk)
   unfolding on_put_all
   put_all_unshared i op chunk = tally_unshared i op (tally_read f.kind chunk.bytes)
 
   -- each of them leaves what stands by as it is
-  pub step_unshared : (i : Instance F R) (m : Msg) → leaves_standby m ≡ true → Unshared i (instance_step f i m)
+  pub step_unshared : (i : Instance F R) (m : Msg) → leaves_standby m ≡ true → SharesNothing i (instance_step f i m)
   step_unshared i (msg.Carry mark.Plain cell) e = carry_unshared i cell
   step_unshared i (msg.Carry (mark.Pass op) cell) e = pass_unshared i op cell
   step_unshared i (msg.Fence op) e = fence_unshared i op
