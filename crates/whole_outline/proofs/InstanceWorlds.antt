@@ -12,9 +12,9 @@ use Rattle.instance_worker.specs.Instance.{Step}
 use Rattle.unit_machine.proofs.Real.{sent_for}
 use Rattle.abstract_net.proofs.Net as net
 use Rattle.abstract_net.proofs.Net.{Sys, Inst_n, inst_step, links_after, at_node, put}
-use Rattle.abstract_net.proofs.Shares.{Sharing, Old, New, Share_msg, Whole, member_step, whole_inst, keeps}
-use Rattle.outline_net.proofs.Outline.{ran_in, sys, outline_instance}
-use Rattle.whole_outline.proofs.WholeOutline.{outline_all, sharing}
+use Rattle.abstract_net.proofs.Shares.{Old, New, Share_msg, Whole, member_step, whole_inst, keeps}
+use Rattle.outline_net.proofs.Outline.{ran_in, outline_instance}
+use Rattle.whole_outline.proofs.WholeOutline.{outline_all, S, A}
 use Rattle.whole_outline.proofs.MemberOutline.{MemberFollows}
 use Rattle.whole_outline.proofs.StandbyKept.{WholeFollows, Keeps}
 
@@ -24,13 +24,6 @@ put_own g y x = let own : (y == y) ≡ true = grind (arith, nat_tests) in rw own
 if_none : {X : Type 0} (b : Bool) → ◌≡◌ {A = List X} (if b then [] else []) []
 if_none true = refl
 if_none false = refl
-
-module _ {R : Type 0} (f : Semantics R) (site : Site) (packet : ℕ → Packet) where
-  abbrev S : Sys R
-  S = sys f site packet
-
-  abbrev A : Sharing S
-  A = sharing f site packet
 
 module _ {F R : Type 0} (f : Semantics R) (site : Site) (packet : ℕ → Packet) (y : ℕ) where
   -- a world shows an instance at node y

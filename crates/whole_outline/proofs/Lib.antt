@@ -4,4 +4,5 @@ pub mod MemberOutline
 pub mod MemberTables
 pub mod StandbyKept
 pub mod SwitchAll
+pub mod SwitchWorlds
 pub mod WholeOutline

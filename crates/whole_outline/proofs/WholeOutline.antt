@@ -179,3 +179,10 @@ module _ {R : Type 0} (f : Semantics R) (site : Site) (packet : ℕ → Packet) 
     member_in = λ members p some. has_index members _ (mod_below _ (length members) some);
     replaced = λ u chunks t. get-joined (λ h c. c) t (finite.from_entries chunks) u ∙ ap (either (λ h c. c) (finite.get t u)) (finite.get-from_entries units_total chunks u) ∙ over_is (finite.get t u) (record_at u chunks);
   }
+
+  -- the two as they stand in worlds
+  abbrev pub S : net.Sys R
+  S = sys f site packet
+
+  abbrev pub A : Sharing S
+  A = sharing
