@@ -1,3 +1,10 @@
+pub mod AskedShare
+pub mod InstanceWorlds
+pub mod MemberOutline
+pub mod MemberTables
 pub mod MoveSends
 pub mod ShareOutline
+pub mod StandbyKept
+pub mod SwitchAll
+pub mod SwitchWorlds
 pub mod WholeOutline

@@ -1,6 +1,6 @@
 -- The outlines of messages with those of shares beside those of moves; and that the real choice of a member and the real records that
 -- are set have the laws of `abstract_net`.
-use Rattle.std.proofs.Common.{◌≡◌, ℕ, zero, suc, ◌+◌, ◌<◌, Bool, true, false, Option, Some, None, List, [], ◌∷◌, length, refl, sym, ap, ◌∙◌, arith}
+use Rattle.std.proofs.Common.{◌≡◌, ℕ, zero, suc, ◌+◌, ◌<◌, true, false, Option, Some, None, List, [], ◌∷◌, length, refl, sym, ap, ◌∙◌, arith}
 use Rattle.std.specs.Prelude.{if◌then◌else◌, ◌==◌, ◌%◌, option_map, slice_index}
 use Rattle.std.specs.List.{filter_map}
 use Rattle.std.specs.FinMap as finite
@@ -11,10 +11,9 @@ use Rattle.flow_filter.specs.declared.flow.Flow.{Flow}
 use Rattle.flow_filter.specs.declared.packet.Packet.{Packet}
 use Rattle.flow_filter.specs.declared.site.Site.{Site}
 use Rattle.flow_filter.specs.Flow.{flow_of}
-use Rattle.nf_function.specs.declared.unit.Unit as units
 use Rattle.nf_function.specs.UnitOrder.{units_total}
 use Rattle.nf_function.specs.Semantics.{Semantics}
-use Rattle.record_table.specs.Table.{Records, either, replaced_by}
+use Rattle.record_table.specs.Table.{either, replaced_by}
 use Rattle.record_table.specs.Chunks.{spelled}
 use Rattle.record_table.proofs.RecordLookUps.{get-joined}
 use Rattle.event_filter.specs.declared.mark.Mark.TheVariants as mark
@@ -24,11 +23,12 @@ use Rattle.nf_msgs.specs.declared.command.Order.TheVariants as order
 use Rattle.nf_msgs.specs.declared.msg.Msg.{Msg}
 use Rattle.nf_msgs.specs.declared.msg.Msg.TheVariants as msg
 use Rattle.nf_msgs.specs.Nodes.{instance_node}
-use Rattle.unit_machine.proofs.Real.{Chunks, record_at}
+use Rattle.unit_machine.proofs.Labels.{Each}
+use Rattle.unit_machine.proofs.Real.{record_at}
 use Rattle.share_machine.proofs.Share.{has, over}
 use Rattle.abstract_net.proofs.Net as net
-use Rattle.abstract_net.proofs.Shares.{Any, Old, New, Want_share, Sharing, IsSharing, olds, Shared_on, Diverted_on, S_asked, S_install, S_forward, S_get, S_sync, S_chunks, S_shared, S_synced}
-use Rattle.outline_net.proofs.Outline.{number, want_of, entries, outline, sys}
+use Rattle.abstract_net.proofs.Shares.{Any, Old, New, Want_share, Sharing, IsSharing, olds, as_old, Shared_on, Diverted_on, S_asked, S_install, S_forward, S_get, S_sync, S_chunks, S_shared, S_synced}
+use Rattle.outline_net.proofs.Outline.{number, want_of, entries, outline, outline_sends, sys}
 
 -- one member more, if it and the others are known
 abbrev pub with_member : Option ℕ → Option (List ℕ) → Option (List ℕ)
@@ -126,12 +126,28 @@ module _ {R : Type 0} (f : Semantics R) where
   -- what moves see of a link
   pub olds_same : (place : List ℕ → Option ℕ) (ms : List Msg) → olds (filter_map (outline_any place) ms) ≡ filter_map (outline_move place) ms
   olds_same place [] = refl
-  olds_same place (m ∷ ms) = by_head (outline_any place m) refl
+  olds_same place (m ∷ ms) = by_head (outline_any place m) refl (olds_same place ms)
     where
-      by_head : (o : Option (Any R)) → outline_any place m ≡ o → olds (filter_map (outline_any place) (m ∷ ms)) ≡ filter_map (outline_move place) (m ∷ ms)
-      by_head None e = let seen : outline_move place m ≡ None = sym (old_same place m) ∙ ap old_of e in rw (e, seen) (olds_same place ms)
-      by_head (Some (New n)) e = let seen : outline_move place m ≡ None = sym (old_same place m) ∙ ap old_of e in rw (e, seen) (olds_same place ms)
-      by_head (Some (Old n)) e = let seen : outline_move place m ≡ Some n = sym (old_same place m) ∙ ap old_of e in rw (e, seen) (ap (λ xs. n ∷ xs) (olds_same place ms))
+      by_head : (o : Option (Any R)) → outline_any place m ≡ o → olds (filter_map (outline_any place) ms) ≡ filter_map (outline_move place) ms → olds (filter_map (outline_any place) (m ∷ ms)) ≡ filter_map (outline_move place) (m ∷ ms)
+      by_head None e rest = let seen : outline_move place m ≡ None = sym (old_same place m) ∙ ap old_of e in rw (e, seen) rest
+      by_head (Some (New n)) e rest = let seen : outline_move place m ≡ None = sym (old_same place m) ∙ ap old_of e in rw (e, seen) rest
+      by_head (Some (Old n)) e rest = let seen : outline_move place m ≡ Some n = sym (old_same place m) ∙ ap old_of e in rw (e, seen) (ap (λ xs. n ∷ xs) rest)
+
+  -- a message that no share has
+  abbrev pub IsUnshared : (List ℕ → Option ℕ) → Msg → Type 0
+  IsUnshared place m = outline_any place m ≡ option_map Old (outline f place m)
+
+  abbrev pub AreUnshared : (List ℕ → Option ℕ) → List (ℕ × Msg) → Type 0
+  AreUnshared place sends = Each (λ sent. IsUnshared place sent.1) sends
+
+  -- what is sent without a message of a share
+  pub unshared_all : (place : List ℕ → Option ℕ) (sends : List (ℕ × Msg)) → AreUnshared place sends → outline_all place sends ≡ as_old (outline_sends f place sends)
+  unshared_all place [] h = refl
+  unshared_all place (s ∷ sends) h = by_seen (outline f place s.1) refl (unshared_all place sends h.1)
+    where
+      by_seen : (o : Option (net.Msg R)) → outline f place s.1 ≡ o → outline_all place sends ≡ as_old (outline_sends f place sends) → outline_all place (s ∷ sends) ≡ as_old (outline_sends f place (s ∷ sends))
+      by_seen None e rest = let seen : outline_any place s.1 ≡ None = h.0 ∙ ap (option_map Old) e in rw (seen, e) rest
+      by_seen (Some m) e rest = let seen : outline_any place s.1 ≡ Some (Old m) = h.0 ∙ ap (option_map Old) e in rw (seen, e) (ap (λ xs. (s.0, Old m) ∷ xs) rest)
 
 -- the member that a flow's packets go to
 abbrev pub member_for : List ℕ → Flow → ℕ
@@ -163,3 +179,10 @@ module _ {R : Type 0} (f : Semantics R) (site : Site) (packet : ℕ → Packet) 
     member_in = λ members p some. has_index members _ (mod_below _ (length members) some);
     replaced = λ u chunks t. get-joined (λ h c. c) t (finite.from_entries chunks) u ∙ ap (either (λ h c. c) (finite.get t u)) (finite.get-from_entries units_total chunks u) ∙ over_is (finite.get t u) (record_at u chunks);
   }
+
+  -- the two as they stand in worlds
+  abbrev pub S : net.Sys R
+  S = sys f site packet
+
+  abbrev pub A : Sharing S
+  A = sharing
