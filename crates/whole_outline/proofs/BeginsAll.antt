@@ -55,30 +55,30 @@ abbrev pub copy_sends : {R : Type 0} → ℕ → ℕ → Option Filter → List 
 copy_sends op source None = []
 copy_sends op source (Some filter) = (source, New (S_get op filter)) ∷ []
 
-module _ {R : Type 0} (f : Semantics R) (at : Site) (packet : ℕ → Packet) (place : List ℕ → Option ℕ) (c : ControllerState) (ops : List (Open R)) (shares : List Open_share) (h : OpensAll f at place ops shares c) (n : ℕ) (none : finite.get c.operations n ≡ None) (empty : stored c.store n ≡ []) where
+module _ {R : Type 0} (f : Semantics R) (at : Site) (packet : ℕ → Packet) (place : List ℕ → Option ℕ) (c : ControllerState) (ops : List (Open R)) (shares : List Open_share) (h : OpensAll f place at ops shares c) (n : ℕ) (none : finite.get c.operations n ≡ None) (empty : stored c.store n ≡ []) where
   abbrev table : Table R
   table = record { ops = ops; shares = shares; node = c }
 
   abbrev with_one : Operation → ControllerState
   with_one o = record c { operations = finite.insert c.operations n o }
 
-  seen_none : SeesAny f at place (find_op ops n) (find_share shares n) None (stored c.store n)
-  seen_none = subst (λ p. SeesAny f at place (find_op ops n) (find_share shares n) p (stored c.store n)) none (h n)
+  seen_none : SeesAny f place at (find_op ops n) (find_share shares n) None (stored c.store n)
+  seen_none = subst (λ p. SeesAny f place at (find_op ops n) (find_share shares n) p (stored c.store n)) none (h n)
 
   none_open : find_op ops n ≡ None
-  none_open = no_op f at place (find_op ops n) (find_share shares n) None (stored c.store n) tt seen_none
+  none_open = no_op f place at (find_op ops n) (find_share shares n) None (stored c.store n) tt seen_none
 
   none_shared : find_share shares n ≡ None
-  none_shared = no_open_share f at place (find_op ops n) (find_share shares n) None (stored c.store n) refl seen_none
+  none_shared = no_open_share f place at (find_op ops n) (find_share shares n) None (stored c.store n) refl seen_none
 
   got_at : (o : Operation) → finite.get (with_one o).operations n ≡ Some o
   got_at o = got_insert c.operations n n o ∙ ap (λ b. cond b (Some o) (finite.get c.operations n)) (self n)
 
   -- an operation more
-  begun_opens : (o : Operation) (new : List (Open R)) (others : List Open_share) → ((k : ℕ) → (k == n) ≡ false → find_op new k ≡ find_op ops k) → ((k : ℕ) → (k == n) ≡ false → find_share others k ≡ find_share shares k) → SeesAny f at place (find_op new n) (find_share others n) (Some o) [] → OpensAll f at place new others (with_one o)
-  begun_opens o new others moves more own = opens_at f at place n table (record { ops = new; shares = others; node = with_one o })
+  begun_opens : (o : Operation) (new : List (Open R)) (others : List Open_share) → ((k : ℕ) → (k == n) ≡ false → find_op new k ≡ find_op ops k) → ((k : ℕ) → (k == n) ≡ false → find_share others k ≡ find_share shares k) → SeesAny f place at (find_op new n) (find_share others n) (Some o) [] → OpensAll f place at new others (with_one o)
+  begun_opens o new others moves more own = opens_at f place at n table (record { ops = new; shares = others; node = with_one o })
       (record { ops = moves; shares = more; operations = λ k off. got_insert c.operations n k o ∙ ap (λ b. cond b (Some o) (finite.get c.operations k)) off; store = λ k off. refl })
-      (subst (λ p. SeesAny f at place (find_op new n) (find_share others n) p (stored c.store n)) (sym (got_at o)) (subst (SeesAny f at place (find_op new n) (find_share others n) (Some o)) (sym empty) own))
+      (subst (λ p. SeesAny f place at (find_op new n) (find_share others n) p (stored c.store n)) (sym (got_at o)) (subst (SeesAny f place at (find_op new n) (find_share others n) (Some o)) (sym empty) own))
       h
 
   -- what is wanted of a move with this plan
@@ -88,16 +88,16 @@ module _ {R : Type 0} (f : Semantics R) (at : Site) (packet : ℕ → Packet) (p
   abbrev moved_on : MovePlan → List (Open R)
   moved_on plan = ops ++ new_op plan.op (want_plan plan) ∷ []
 
-  move_seen : (plan : MovePlan) → plan.op ≡ n → SeesAny f at place (find_op (moved_on plan) n) (find_share shares n) (Some (Move (begun plan))) []
+  move_seen : (plan : MovePlan) → plan.op ≡ n → SeesAny f place at (find_op (moved_on plan) n) (find_share shares n) (Some (Move (begun plan))) []
   move_seen plan op =
-      subst (λ o. SeesAny f at place o (find_share shares n) (Some (Move (begun plan))) []) (sym (ops_new ops (new_op plan.op (want_plan plan)) n (ap (λ j. j == n) op ∙ self n) none_open))
-      (subst (λ o. SeesAny f at place (Some (new_op plan.op (want_plan plan))) o (Some (Move (begun plan))) []) (sym none_shared)
+      subst (λ o. SeesAny f place at o (find_share shares n) (Some (Move (begun plan))) []) (sym (ops_new ops (new_op plan.op (want_plan plan)) n (ap (λ j. j == n) op ∙ self n) none_open))
+      (subst (λ o. SeesAny f place at (Some (new_op plan.op (want_plan plan))) o (Some (Move (begun plan))) []) (sym none_shared)
       (record { move = record { op = refl; filter = refl; phase = refl; store = refl }; share = tt }))
 
   -- A move begins.
   pub move_begun : (plan : MovePlan) → plan.op ≡ n → StepFollows f at packet place (begins_move c plan) (record { ops = ops ++ new_op plan.op (want_plan plan) ∷ []; shares = shares; sends = as_old (begin_sends plan.op (want_plan plan)) })
   move_begun plan op = record {
-    opens = subst (λ k. OpensAll f at place (moved_on plan) shares (record c { operations = finite.insert c.operations k (Move (begun plan)) })) (sym op) (begun_opens (Move (begun plan)) (moved_on plan) shares (λ k off. ops_old ops (new_op plan.op (want_plan plan)) k (ap (λ j. j == k) op ∙ turned_test k n off)) (λ k off. refl) (move_seen plan op));
+    opens = subst (λ k. OpensAll f place at (moved_on plan) shares (record c { operations = finite.insert c.operations k (Move (begun plan)) })) (sym op) (begun_opens (Move (begun plan)) (moved_on plan) shares (λ k off. ops_old ops (new_op plan.op (want_plan plan)) k (ap (λ j. j == k) op ∙ turned_test k n off)) (λ k off. refl) (move_seen plan op));
     sends = refl;
   }
 
@@ -108,7 +108,7 @@ module _ {R : Type 0} (f : Semantics R) (at : Site) (packet : ℕ → Packet) (p
   -- A copy begins.
   pub copy_begun : (plan : CopyPlan) → plan.op ≡ n → StepFollows f at packet place (begins_copy c plan) (record { ops = ops; shares = shares; sends = copy_sends plan.op (instance_node plan.from) plan.filter })
   copy_begun plan op = record {
-    opens = subst (λ k. OpensAll f at place ops shares (record c { operations = finite.insert c.operations k (Copy (copy.begun plan)) })) (sym op) (begun_opens (Copy (copy.begun plan)) ops shares (λ k off. refl) (λ k off. refl) (unseen_at f at place (find_op ops n) (find_share shares n) None (Some (Copy (copy.begun plan))) (stored c.store n) [] tt tt seen_none));
+    opens = subst (λ k. OpensAll f place at ops shares (record c { operations = finite.insert c.operations k (Copy (copy.begun plan)) })) (sym op) (begun_opens (Copy (copy.begun plan)) ops shares (λ k off. refl) (λ k off. refl) (unseen_at f place at (find_op ops n) (find_share shares n) None (Some (Copy (copy.begun plan))) (stored c.store n) [] tt tt seen_none));
     sends = copy_sent plan plan.filter;
   }
 
@@ -126,13 +126,13 @@ module _ {R : Type 0} (f : Semantics R) (at : Site) (packet : ℕ → Packet) (p
   abbrev Begun : Filter → List ℕ → Want_share → Type 0
   Begun filter members want = StepFollows f at packet place (begins_share c n filter members) (record { ops = ops; shares = shared_on want; sends = (0, New (S_install want.num want.filter want.home)) ∷ [] })
 
-  share_seen : (filter : Filter) (home : ℕ) (others : List ℕ) → c.site ≡ at → SeesAny f at place (find_op ops n) (find_share (shared_on (want_between filter home others)) n) (Some (Share (share.begun (plan_between filter home others)))) []
+  share_seen : (filter : Filter) (home : ℕ) (others : List ℕ) → c.site ≡ at → SeesAny f place at (find_op ops n) (find_share (shared_on (want_between filter home others)) n) (Some (Share (share.begun (plan_between filter home others)))) []
   share_seen filter home others site =
       let one : Open_share = new_share (want_between filter home others) in
       let its : Option Operation = Some (Share (share.begun (plan_between filter home others))) in
       let sees : SeesShare at one (share.begun (plan_between filter home others)) [] = record { is = refl; site = site; some = omega arith; rests = tt } in
-      subst (λ o. SeesAny f at place o (find_share (shared_on (want_between filter home others)) n) its []) (sym none_open)
-      (subst (λ o. SeesAny f at place None o its []) (sym (find_new shares one n none_shared (self n)))
+      subst (λ o. SeesAny f place at o (find_share (shared_on (want_between filter home others)) n) its []) (sym none_open)
+      (subst (λ o. SeesAny f place at None o its []) (sym (find_new shares one n none_shared (self n)))
       (record { move = tt; share = sees }))
 
   between : (filter : Filter) (home : ℕ) (others : List ℕ) → c.site ≡ at → Begun filter (home ∷ others) (want_between filter home others)

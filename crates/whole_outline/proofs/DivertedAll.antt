@@ -97,7 +97,7 @@ takes_some S (x ∷ es) n e v is on none = elim (S.takes x.filter v) as (λ b. S
   ] is
 ] refl none
 
-module _ {R : Type 0} (f : Semantics R) (at : Site) (packet : ℕ → Packet) (place : List ℕ → Option ℕ) (c : ControllerState) (ops : List (Open R)) (shares : List Open_share) (h : OpensAll f at place ops shares c) where
+module _ {R : Type 0} (f : Semantics R) (at : Site) (packet : ℕ → Packet) (place : List ℕ → Option ℕ) (c : ControllerState) (ops : List (Open R)) (shares : List Open_share) (h : OpensAll f place at ops shares c) where
   abbrev S : Sys R
   S = sys f at packet
 
@@ -143,7 +143,7 @@ module _ {R : Type 0} (f : Semantics R) (at : Site) (packet : ℕ → Packet) (p
         by_operation : (p : Operation) → is_shared_by flow p ≡ true → finite.get c.operations x.0 ≡ Some p → Found_real x.0
         by_operation (Move m) on there = cc
         by_operation (Copy y) on there = cc
-        by_operation (Share s) on there = let b = both f at place ops shares c x.0 s h there in record { e = b.e; found = b.there; on = share_takes x.0 s b.e there b.sees.is ∙ on }
+        by_operation (Share s) on there = let b = both f place at ops shares c x.0 s h there in record { e = b.e; found = b.there; on = share_takes x.0 s b.e there b.sees.is ∙ on }
 
     abbrev real_first : Option (ℕ × Operation)
     real_first = find (λ e. is_shared_by flow e.1) (finite.entries c.operations)
@@ -159,7 +159,7 @@ module _ {R : Type 0} (f : Semantics R) (at : Site) (packet : ℕ → Packet) (p
 
         by_first : (o : Option (ℕ × Operation)) → real_first ≡ o → share_of c.operations flow ≡ Some e.num
         by_first None none =
-            let r = real_share f at place ops shares c e.num e h found in
+            let r = real_share f place at ops shares c e.num e h found in
             let out : matches r.s.plan.filter flow ≡ false = none_passes (is_shared_by flow) (finite.entries c.operations) e.num (Share r.s) none (sym (finite.get-entries c.operations e.num) ∙ r.there) in
             let never : true ≡ false = sym on ∙ share_takes e.num r.s e r.there r.sees.is ∙ out in
             cc
@@ -186,7 +186,7 @@ module _ {R : Type 0} (f : Semantics R) (at : Site) (packet : ℕ → Packet) (p
         by_taking None taking = subst (λ o. Queues port o (share_taking S shares u)) (sym (none_is taking)) (subst (Queues port None) (sym taking) (record { opens = h; sends = refl }))
         by_taking (Some e) taking =
             let found = taking_found S A shares u e apart.nums taking in
-            let r = real_share f at place ops shares c e.num e h found in
+            let r = real_share f place at ops shares c e.num e h found in
             let cells = stored c.store e.num in
             let follows : ShareFollows f at packet place r.s.plan (cells ++ cell ∷ []) (real.goes r.s.phase []) (share_row S A e port (Has_packet (number cell))) = subst (λ y. ShareFollows f at packet place r.s.plan (cells ++ cell ∷ []) (real.goes r.s.phase []) (share_row S A y port (Has_packet (number cell)))) (sym r.sees.is) (packet_rows f at packet place r.s cells port r.sees.site r.sees.some (genuines e.num) cell genuine) in
             subst (λ o. Queues port o (share_taking S shares u)) (sym (taken_is e taking)) (subst (Queues port (Some e.num)) (sym taking)

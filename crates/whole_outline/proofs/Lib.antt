@@ -1,7 +1,7 @@
 pub mod AskedShare
 pub mod BeginsAll
+pub mod ControlAll
 pub mod DivertedAll
-pub mod HandedAll
 pub mod InstanceWorlds
 pub mod MemberOutline
 pub mod MemberTables

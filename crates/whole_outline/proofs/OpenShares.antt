@@ -17,8 +17,8 @@ use Rattle.copy_share.specs.Share.{ShareState}
 use Rattle.ctrl_node.specs.declared.operation.Operation.{Operation}
 use Rattle.ctrl_node.specs.declared.operation.Operation.TheVariants.{Move, Copy, Share}
 use Rattle.ctrl_node.specs.Controller.{ControllerState, Step}
-use Rattle.abstract_net.proofs.Net.{Sys, Open, C_step, find_op}
-use Rattle.abstract_net.proofs.Shares.{Any, Sharing, Open_share, find_share, as_old, old_step, Shares_step, told_by, by_share}
+use Rattle.abstract_net.proofs.Net.{Sys, Open, C_step, find_op, links_after}
+use Rattle.abstract_net.proofs.Shares.{Any, Sharing, Open_share, find_share, as_old, old_step, Shares_step, told_by, by_share, Whole, whole_ctrl}
 use Rattle.outline_net.proofs.Outline.{sys}
 use Rattle.outline_net.proofs.ControlOutline.{Sees, Opens}
 use Rattle.whole_outline.proofs.WholeOutline.{outline_all, sharing}
@@ -54,7 +54,7 @@ pub record Elsewhere {R : Type 0} (n : ℕ) (a b : Table R) : Type 0 where
   pub operations : (k : ℕ) → (k == n) ≡ false → finite.get b.node.operations k ≡ finite.get a.node.operations k
   pub store : (k : ℕ) → (k == n) ≡ false → stored b.node.store k ≡ stored a.node.store k
 
-module _ {R : Type 0} (f : Semantics R) (at : Site) (place : List ℕ → Option ℕ) where
+module _ {R : Type 0} (f : Semantics R) (place : List ℕ → Option ℕ) (at : Site) where
   abbrev pub SeesOne : Option Open_share → Option ShareState → List FullCell → Type 0
   SeesOne None None cells = Unit {0}
   SeesOne (Some e) (Some s) cells = SeesShare at e s cells
@@ -209,5 +209,9 @@ module _ {R : Type 0} (f : Semantics R) (at : Site) (packet : ℕ → Packet) (p
 
   -- a real step is such a step
   pub record StepFollows (step : Step) (did : All_step R) : Type 0 where
-    pub opens : OpensAll f at place did.ops did.shares step.node
+    pub opens : OpensAll f place at did.ops did.shares step.node
     pub sends : outline_all f place step.sends ≡ did.sends
+
+  -- `whole_ctrl` is this step
+  pub step_is : (w : Whole S A) (p : ℕ) (a : Any R) → whole_ctrl S A w p a ≡ record w { ops = (all_step w.ops w.shares p a).ops; shares = (all_step w.ops w.shares p a).shares; link = links_after w.link p 1 (all_step w.ops w.shares p a).sends }
+  step_is w p a = refl

@@ -75,7 +75,7 @@ module _ {R : Type 0} (f : Semantics R) (at : Site) (packet : ℕ → Packet) (p
     ]
   ]
 
-  module _ (c : ControllerState) (ops : List (Open R)) (shares : List Open_share) (h : OpensAll f at place ops shares c) (n : ℕ) where
+  module _ (c : ControllerState) (ops : List (Open R)) (shares : List Open_share) (h : OpensAll f place at ops shares c) (n : ℕ) where
     abbrev table : Table R
     table = record { ops = ops; shares = shares; node = c }
 
@@ -92,13 +92,13 @@ module _ {R : Type 0} (f : Semantics R) (at : Site) (packet : ℕ → Packet) (p
 
     -- of a copy
     module _ (y : CopyState) (there : finite.get c.operations n ≡ Some (Copy y)) where
-      seen_there : SeesAny f at place (find_op ops n) (find_share shares n) (Some (Copy y)) (stored c.store n)
-      seen_there = subst (λ p. SeesAny f at place (find_op ops n) (find_share shares n) p (stored c.store n)) there (h n)
+      seen_there : SeesAny f place at (find_op ops n) (find_share shares n) (Some (Copy y)) (stored c.store n)
+      seen_there = subst (λ p. SeesAny f place at (find_op ops n) (find_share shares n) p (stored c.store n)) there (h n)
 
-      changed : (d : ControllerState) (p : Option Operation) → Is_unseen p → d.store ≡ c.store → ((k : ℕ) → finite.get d.operations k ≡ cond (k == n) p (finite.get c.operations k)) → OpensAll f at place ops shares d
-      changed d p unseen store got = opens_at f at place n table (record { ops = ops; shares = shares; node = d })
+      changed : (d : ControllerState) (p : Option Operation) → Is_unseen p → d.store ≡ c.store → ((k : ℕ) → finite.get d.operations k ≡ cond (k == n) p (finite.get c.operations k)) → OpensAll f place at ops shares d
+      changed d p unseen store got = opens_at f place at n table (record { ops = ops; shares = shares; node = d })
           (record { ops = λ k off. refl; shares = λ k off. refl; operations = λ k off. got k ∙ ap (λ b. cond b p (finite.get c.operations k)) off; store = λ k off. ap (λ x. stored x k) store })
-          (subst (λ q. SeesAny f at place (find_op ops n) (find_share shares n) q (stored d.store n)) (sym (got n ∙ ap (λ b. cond b p (finite.get c.operations n)) (self n))) (unseen_at f at place (find_op ops n) (find_share shares n) (Some (Copy y)) p (stored c.store n) (stored d.store n) tt unseen seen_there))
+          (subst (λ q. SeesAny f place at (find_op ops n) (find_share shares n) q (stored d.store n)) (sym (got n ∙ ap (λ b. cond b p (finite.get c.operations n)) (self n))) (unseen_at f place at (find_op ops n) (find_share shares n) (Some (Copy y)) p (stored c.store n) (stored d.store n) tt unseen seen_there))
           h
 
       copy_turn : (r : CopyRow) (a : Option Answer) → outline_all f place r.sends ≡ [] → Same (after_turn c n (copied y c.store r) a)
@@ -144,14 +144,14 @@ module _ {R : Type 0} (f : Semantics R) (at : Site) (packet : ℕ → Packet) (p
           by_open (Some e) is s = record { e = e; found_it = is; sees = subst (λ o. Sees f place o (Some (Move mv)) cells) is s }
 
       no_share_there : find_share shares n ≡ None
-      no_share_there = no_open_share f at place (find_op ops n) (find_share shares n) (finite.get c.operations n) cells (ap share_in there) (h n)
+      no_share_there = no_open_share f place at (find_op ops n) (find_share shares n) (finite.get c.operations n) cells (ap share_in there) (h n)
 
       -- the controller of moves alone
       abbrev alone : ControllerState
-      alone = without_shares f at place c
+      alone = without_shares f place at c
 
       there_alone : finite.get alone.operations n ≡ Some (Move mv)
-      there_alone = got_moves f at place c n ∙ ap but_shares there
+      there_alone = got_moves f place at c n ∙ ap but_shares there
 
       its_op : mv.plan.op ≡ n
       its_op = sym (ap (λ o. o.num) its_move.sees.op) ∙ (Decides-eqb its_move.e.op.num n).0 (found_op ops n its_move.e its_move.found_it)
@@ -202,16 +202,16 @@ module _ {R : Type 0} (f : Semantics R) (at : Site) (packet : ℕ → Packet) (p
               (subst (λ p. Sees f place (find_op new n) p (stored store n)) (got_here alone a)
               (subst (λ x. Sees f place (find_op new n) (finite.get (after_turn alone n turn a).node.operations n) (stored x n)) (store_is alone a) (opens n)))
 
-          own_share : SeesOne f at place (find_share shares n) (share_in (after_at a)) (stored store n)
-          own_share = subst (λ x. SeesOne f at place (find_share shares n) x (stored store n)) (sym (none_shared a)) (subst (λ o. SeesOne f at place o None (stored store n)) (sym no_share_there) tt)
+          own_share : SeesOne f place at (find_share shares n) (share_in (after_at a)) (stored store n)
+          own_share = subst (λ x. SeesOne f place at (find_share shares n) x (stored store n)) (sym (none_shared a)) (subst (λ o. SeesOne f place at o None (stored store n)) (sym no_share_there) tt)
 
-          own : SeesAny f at place (find_op new n) (find_share shares n) (finite.get next.node.operations n) (stored next.node.store n)
-          own = subst (λ p. SeesAny f at place (find_op new n) (find_share shares n) p (stored next.node.store n)) (sym (got_here c a))
-              (subst (λ x. SeesAny f at place (find_op new n) (find_share shares n) (after_at a) (stored x n)) (sym (store_is c a))
+          own : SeesAny f place at (find_op new n) (find_share shares n) (finite.get next.node.operations n) (stored next.node.store n)
+          own = subst (λ p. SeesAny f place at (find_op new n) (find_share shares n) p (stored next.node.store n)) (sym (got_here c a))
+              (subst (λ x. SeesAny f place at (find_op new n) (find_share shares n) (after_at a) (stored x n)) (sym (store_is c a))
               (record { move = own_move; share = own_share }))
 
-          all_after : OpensAll f at place new shares (after_turn c n turn a).node
-          all_after = opens_at f at place n table next (record {
+          all_after : OpensAll f place at new shares (after_turn c n turn a).node
+          all_after = opens_at f place at n table next (record {
             ops = news;
             shares = λ k off. refl;
             operations = got_other c a;
@@ -229,14 +229,14 @@ module _ {R : Type 0} (f : Semantics R) (at : Site) (packet : ℕ → Packet) (p
           let answer = move.answer_of row.next.phase in
           let alone_is : takes_turn alone n (turn_of (finite.get alone.operations n) alone.store port m) ≡ after_turn alone n (moved mv c.store row) answer = ap (λ p. takes_turn alone n (turn_of p alone.store port m)) there_alone in
           let real_is : handed c n port m ≡ after_turn c n (moved mv c.store row) answer = handed_is c n port m (subst NotShared (sym there) tt) ∙ ap (λ p. takes_turn c n (turn_of p c.store port m)) there in
-          let turns : TurnFollows f place alone (takes_turn alone n (turn_of (finite.get alone.operations n) alone.store port m)) did = turn_same f place alone ops n port m pm i.e mv (opens_moves f at place ops shares c h) i.found_it there_alone i.sees its_op follows in
+          let turns : TurnFollows f place alone (takes_turn alone n (turn_of (finite.get alone.operations n) alone.store port m)) did = turn_same f place alone ops n port m pm i.e mv (opens_moves f place at ops shares c h) i.found_it there_alone i.sees its_op follows in
           let opens : Opens f place did.ops (after_turn alone n (moved mv c.store row) answer).node = subst (λ s. Opens f place did.ops s.node) alone_is turns.ops in
           let news : (k : ℕ) → (k == n) ≡ false → find_op did.ops k ≡ find_op ops k = λ k off. find_write_other n k (net.row i.e port pm).phase (net.row i.e port pm).store ops (turned_test k n off) in
           let stays : (k : ℕ) → (k == n) ≡ false → stored store k ≡ stored c.store k = λ k off. stored_after f place c.store mv.plan.op k row.stored ∙ ap (λ j. cond (k == j) (unwrap_or row.stored (stored c.store k)) (stored c.store k)) its_op ∙ ap (λ b. cond b (unwrap_or row.stored (stored c.store k)) (stored c.store k)) off in
           let sends : outline_all f place (after_turn c n (moved mv c.store row) answer).sends ≡ as_old did.sends =
-              old_sends left store row.next.sends answer answer (row_old f place mv (stored c.store mv.plan.op) port m)
-              ∙ ap (λ xs. as_old (outline_sends f place xs)) (sends_same left store row.next.sends answer answer)
-              ∙ ap as_old (ap (λ s. outline_sends f place s.sends) (sym alone_is) ∙ turns.sends) in
+          old_sends left store row.next.sends answer answer (row_old f place mv (stored c.store mv.plan.op) port m)
+          ∙ ap (λ xs. as_old (outline_sends f place xs)) (sends_same left store row.next.sends answer answer)
+          ∙ ap as_old (ap (λ s. outline_sends f place s.sends) (sym alone_is) ∙ turns.sends) in
           subst (λ o. StepFollows f at packet place (handed c n port m) (record { ops = (found ops n port pm o).ops; shares = shares; sends = as_old (found ops n port pm o).sends })) (sym i.found_it)
           (subst (λ s. StepFollows f at packet place s (record { ops = did.ops; shares = shares; sends = as_old did.sends })) (sym real_is)
           (record { opens = all_after left store row.next.sends answer answer did.ops opens news stays; sends = sends }))

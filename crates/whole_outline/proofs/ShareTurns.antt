@@ -69,7 +69,7 @@ module _ {R : Type 0} (f : Semantics R) (at : Site) (packet : ℕ → Packet) (p
   pub answer_unseen : (n : ℕ) (xs : List (ℕ × Msg)) → outline_all f place (xs ++ (switch_node, msg.Answered n) ∷ []) ≡ outline_all f place xs
   answer_unseen n xs = filter_map-put (outline_each f place) xs ((switch_node, msg.Answered n) ∷ []) ∙ append-nil (outline_all f place xs)
 
-  module _ (c : ControllerState) (ops : List (Open R)) (shares : List Open_share) (h : OpensAll f at place ops shares c) (n : ℕ) (s : ShareState) (there : finite.get c.operations n ≡ Some (Share s)) (e : Open_share) (found : find_share shares n ≡ Some e) (sees : SeesShare at e s (stored c.store n)) where
+  module _ (c : ControllerState) (ops : List (Open R)) (shares : List Open_share) (h : OpensAll f place at ops shares c) (n : ℕ) (s : ShareState) (there : finite.get c.operations n ≡ Some (Share s)) (e : Open_share) (found : find_share shares n ≡ Some e) (sees : SeesShare at e s (stored c.store n)) where
     abbrev table : Table R
     table = record { ops = ops; shares = shares; node = c }
 
@@ -80,7 +80,7 @@ module _ {R : Type 0} (f : Semantics R) (at : Site) (packet : ℕ → Packet) (p
     op_is = sym (ap (λ x. x.num) sees.is) ∙ num_is
 
     no_move : (cells : List FullCell) → Sees f place (find_op ops n) None cells
-    no_move cells = sees_none f at place (find_op ops n) None None (stored c.store n) cells tt tt (subst (λ p. Sees f place (find_op ops n) (but_shares p) (stored c.store n)) there (h n).move)
+    no_move cells = sees_none f place at (find_op ops n) None None (stored c.store n) cells tt tt (subst (λ p. Sees f place (find_op ops n) (but_shares p) (stored c.store n)) there (h n).move)
 
     -- what is found in a list of shares in which this one has changed
     record Renewed (did : Share_did R) (new : List Open_share) : Type 0 where
@@ -116,11 +116,11 @@ module _ {R : Type 0} (f : Semantics R) (at : Site) (packet : ℕ → Packet) (p
         got_at : finite.get after.node.operations n ≡ Some last_share
         got_at = got_insert d.operations n n last_share ∙ ap (λ b. cond b (Some last_share) (finite.get d.operations n)) (self n)
 
-        own : stored d.store n ≡ cells → SeesAny f at place (find_op ops n) (find_share new n) (finite.get after.node.operations n) (stored after.node.store n)
+        own : stored d.store n ≡ cells → SeesAny f place at (find_op ops n) (find_share new n) (finite.get after.node.operations n) (stored after.node.store n)
         own has =
-            subst (λ p. SeesAny f at place (find_op ops n) (find_share new n) p (stored after.node.store n)) (sym got_at)
-            (subst (λ o. SeesAny f at place (find_op ops n) o (Some last_share) (stored after.node.store n)) (sym renewed.here)
-            (subst (SeesAny f at place (find_op ops n) (Some (record e { phase = did.phase; queue = did.queue })) (Some last_share)) (sym (left_at has))
+            subst (λ p. SeesAny f place at (find_op ops n) (find_share new n) p (stored after.node.store n)) (sym got_at)
+            (subst (λ o. SeesAny f place at (find_op ops n) o (Some last_share) (stored after.node.store n)) (sym renewed.here)
+            (subst (SeesAny f place at (find_op ops n) (Some (record e { phase = did.phase; queue = did.queue })) (Some last_share)) (sym (left_at has))
             (record { move = no_move left; share = sees_after f at packet place e s (stored c.store n) cells r did sees follows })))
 
         others : Elsewhere n table (record { ops = ops; shares = new; node = after.node })
@@ -131,8 +131,8 @@ module _ {R : Type 0} (f : Semantics R) (at : Site) (packet : ℕ → Packet) (p
           store = λ k off. stored_after f place d.store n k change ∙ ap (λ b. cond b (unwrap_or change (stored d.store k)) (stored d.store k)) off ∙ ready.store k off;
         }
 
-        served_opens : stored d.store n ≡ cells → OpensAll f at place ops new after.node
-        served_opens has = opens_at f at place n table (record { ops = ops; shares = new; node = after.node }) others (own has) h
+        served_opens : stored d.store n ≡ cells → OpensAll f place at ops new after.node
+        served_opens has = opens_at f place at n table (record { ops = ops; shares = new; node = after.node }) others (own has) h
 
       -- what the abstract network is after it
       abbrev Did : Step → Type 0
@@ -161,8 +161,8 @@ module _ {R : Type 0} (f : Semantics R) (at : Site) (packet : ℕ → Packet) (p
             ∙ sym (filter_map-put (outline_each f place) r.sends sent)
             ∙ follows.sends
 
-        opens_after : OpensAll f at place ops new (serves mid n).node
-        opens_after = subst (λ x. OpensAll f at place ops new x.node) (sym served_mid) (served_opens mid mid_ready (stored c.store n) r follows refl)
+        opens_after : OpensAll f place at ops new (serves mid n).node
+        opens_after = subst (λ x. OpensAll f place at ops new x.node) (sym served_mid) (served_opens mid mid_ready (stored c.store n) r follows refl)
 
         by_answer : (a : Option Answer) → Did (and_serves (after_turn c n (shared s c.store r) a) n)
         by_answer None = record { opens = opens_after; sends = served_sends r.sends refl }

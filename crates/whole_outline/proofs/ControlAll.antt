@@ -42,7 +42,7 @@ unlooked mv events port m a b = elim (port == move.source mv.plan) as (λ x. (if
   | false ↦ elim (port == move.destination mv.plan) as (λ x. (if x then move.from_destination mv.plan mv.phase events m else move.keeps (move.goes mv.phase [])) ≡ move.keeps (move.goes mv.phase [])) [ true ↦ b | false ↦ refl ]
 ]
 
-module _ {R : Type 0} (f : Semantics R) (at : Site) (packet : ℕ → Packet) (place : List ℕ → Option ℕ) (c : ControllerState) (ops : List (Open R)) (shares : List Open_share) (h : OpensAll f at place ops shares c) (n : ℕ) where
+module _ {R : Type 0} (f : Semantics R) (at : Site) (packet : ℕ → Packet) (place : List ℕ → Option ℕ) (c : ControllerState) (ops : List (Open R)) (shares : List Open_share) (h : OpensAll f place at ops shares c) (n : ℕ) where
   abbrev S : Sys R
   S = sys f at packet
 
@@ -67,10 +67,10 @@ module _ {R : Type 0} (f : Semantics R) (at : Site) (packet : ℕ → Packet) (p
     of_share : (s : ShareState) → finite.get c.operations n ≡ Some (Share s) → StepFollows f at packet place (handed c n port m) (record { ops = ops; shares = (by_share S A shares port (told (find_share shares n))).shares; sends = (by_share S A shares port (told (find_share shares n))).sends })
 
   none_open : (p : Option Operation) → finite.get c.operations n ≡ p → Is_unseen (but_shares p) → find_op ops n ≡ None
-  none_open p there unseen = no_op f at place (find_op ops n) (find_share shares n) p cells unseen (subst (λ q. SeesAny f at place (find_op ops n) (find_share shares n) q cells) there (h n))
+  none_open p there unseen = no_op f place at (find_op ops n) (find_share shares n) p cells unseen (subst (λ q. SeesAny f place at (find_op ops n) (find_share shares n) q cells) there (h n))
 
   none_shared : (p : Option Operation) → finite.get c.operations n ≡ p → share_in p ≡ None → find_share shares n ≡ None
-  none_shared p there unseen = no_open_share f at place (find_op ops n) (find_share shares n) p cells unseen (subst (λ q. SeesAny f at place (find_op ops n) (find_share shares n) q cells) there (h n))
+  none_shared p there unseen = no_open_share f place at (find_op ops n) (find_share shares n) p cells unseen (subst (λ q. SeesAny f place at (find_op ops n) (find_share shares n) q cells) there (h n))
 
   module _ (port : ℕ) (m : Msg) (a : Any R) (by : Handles port m a) where
     abbrev Joined : C_step R → Option (Open_share × Told R) → Type 0
@@ -102,13 +102,13 @@ module _ {R : Type 0} (f : Semantics R) (at : Site) (packet : ℕ → Packet) (p
   -- what is told to a share of a run
   told_share : (port : ℕ) (m : Msg) (told : Told R) (s : ShareState) → finite.get c.operations n ≡ Some (Share s) → (s.plan.site ≡ at → 0 < length s.plan.members → ShareFollows f at packet place s.plan cells (share.row s port m) (share_row S A (outline_share s cells) port told)) → StepFollows f at packet place (handed c n port m) (record { ops = ops; shares = (by_share S A shares port (option_map (λ e. (e, told)) (find_share shares n))).shares; sends = (by_share S A shares port (option_map (λ e. (e, told)) (find_share shares n))).sends })
   told_share port m told s there rows =
-      let b = both f at place ops shares c n s h there in
+      let b = both f place at ops shares c n s h there in
       let follows : ShareFollows f at packet place s.plan cells (share.row s port m) (share_row S A b.e port told) = subst (λ e. ShareFollows f at packet place s.plan cells (share.row s port m) (share_row S A e port told)) (sym b.sees.is) (rows b.sees.site b.sees.some) in
       subst (λ o. StepFollows f at packet place (handed c n port m) (record { ops = ops; shares = (by_share S A shares port (option_map (λ e. (e, told)) o)).shares; sends = (by_share S A shares port (option_map (λ e. (e, told)) o)).sends })) (sym b.there)
       (share_handed f at packet place c ops shares h n s there b.e b.there b.sees port m told follows)
 
   quiet_share : (port : ℕ) (m : Msg) (s : ShareState) → finite.get c.operations n ≡ Some (Share s) → share.row s port m ≡ share.goes s.phase [] → Same f at packet place c ops shares h n (handed c n port m)
-  quiet_share port m s there quiet = let b = both f at place ops shares c n s h there in share_quiet f at packet place c ops shares h n s there b.e b.there b.sees port m quiet
+  quiet_share port m s there quiet = let b = both f place at ops shares c n s h there in share_quiet f at packet place c ops shares h n s there b.e b.there b.sees port m quiet
 
   -- a move under the number, and what the abstract one does with the message
   abbrev pub Move_rows : ℕ → Msg → real.Msg R → Type 0
