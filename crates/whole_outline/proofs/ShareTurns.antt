@@ -1,6 +1,6 @@
 -- The controller's step on a message of an open share's number, and on a packet that is put behind its queue, is that of the network with
 -- shares.
-use Rattle.std.proofs.Common.{◌≡◌, ℕ, Bool, true, false, cond, Option, Some, None, List, [], ◌∷◌, ◌++◌, map, refl, sym, ap, ◌∙◌, subst, append-nil, arith, eqb}
+use Rattle.std.proofs.Common.{◌≡◌, ℕ, true, false, cond, Option, Some, None, List, [], ◌∷◌, ◌++◌, map, refl, sym, ap, ◌∙◌, subst, append-nil, arith}
 use Rattle.std.specs.Prelude.{◌==◌, unwrap_or}
 use Rattle.std.specs.FinMap as finite
 use Rattle.std.proofs.lemmas.Bool.Decides.{nat_tests, Decides-eqb}
@@ -22,7 +22,7 @@ use Rattle.ctrl_node.specs.declared.operation.Operation.TheVariants.{Share}
 use Rattle.ctrl_node.specs.Operations.{turn_of, shared, serving_of}
 use Rattle.ctrl_node.specs.Controller.{ControllerState, Step, turned, after_turn, takes_turn, serves, and_serves, handed, queued}
 use Rattle.abstract_net.proofs.Net.{Sys, Open, find_op}
-use Rattle.abstract_net.proofs.Shares.{Any, Sharing, Open_share, find_share, set_share, Told, Has_packet, Share_did, share_row, by_share}
+use Rattle.abstract_net.proofs.Shares.{Sharing, Open_share, find_share, set_share, Told, Has_packet, Share_did, share_row, by_share}
 use Rattle.abstract_net.proofs.ShareLists.{found_num}
 use Rattle.abstract_net.proofs.ShareSees.{found_set, found_set_other}
 use Rattle.outline_net.proofs.Outline.{number, sys}
