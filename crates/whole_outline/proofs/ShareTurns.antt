@@ -1,34 +1,29 @@
 -- The controller's step on a message of an open share's number, and on a packet that is put behind its queue, is that of the network with
 -- shares.
-use Rattle.std.proofs.Common.{◌≡◌, ℕ, true, false, cond, Option, Some, None, List, [], ◌∷◌, ◌++◌, map, refl, sym, ap, ◌∙◌, subst, append-nil, arith}
+use Rattle.std.proofs.Common.{◌≡◌, ℕ, false, cond, Option, Some, None, List, [], ◌∷◌, ◌++◌, map, refl, sym, ap, ◌∙◌, subst, append-nil}
 use Rattle.std.specs.Prelude.{◌==◌, unwrap_or}
 use Rattle.std.specs.FinMap as finite
-use Rattle.std.proofs.lemmas.Bool.Decides.{nat_tests, Decides-eqb}
+use Rattle.std.proofs.lemmas.Bool.Decides.{Decides-eqb}
 use Rattle.flow_filter.specs.declared.packet.Packet.{Packet}
 use Rattle.flow_filter.specs.declared.site.Site.{Site}
 use Rattle.nf_function.specs.Semantics.{Semantics}
 use Rattle.packet_pool.specs.Pool.{FullCell}
-use Rattle.event_store.specs.Store.{stored, with_parcels}
-use Rattle.event_store.proofs.StoreLookUps.{stored-with_parcels}
+use Rattle.event_store.specs.Store.{stored}
 use Rattle.nf_msgs.specs.declared.answer.Answer.{Answer}
 use Rattle.nf_msgs.specs.declared.msg.Msg.{Msg}
 use Rattle.nf_msgs.specs.declared.msg.Msg.TheVariants as msg
 use Rattle.nf_msgs.specs.Nodes.{switch_node}
-use Rattle.move_op.specs.Move.{store_after}
 use Rattle.copy_share.specs.Share.{ShareState, ShareRow}
 use Rattle.copy_share.specs.Share as real
-use Rattle.ctrl_node.specs.declared.operation.Operation.{Operation}
 use Rattle.ctrl_node.specs.declared.operation.Operation.TheVariants.{Share}
-use Rattle.ctrl_node.specs.Operations.{turn_of, shared, serving_of}
-use Rattle.ctrl_node.specs.Controller.{ControllerState, Step, turned, after_turn, takes_turn, serves, and_serves, handed, queued}
+use Rattle.ctrl_node.specs.Controller.{ControllerState, Step, handed, queued}
 use Rattle.abstract_net.proofs.Net.{Sys, Open, find_op}
 use Rattle.abstract_net.proofs.Shares.{Sharing, Open_share, find_share, set_share, Told, Has_packet, Share_did, share_row, by_share}
 use Rattle.abstract_net.proofs.ShareLists.{found_num}
 use Rattle.abstract_net.proofs.ShareSees.{found_set, found_set_other}
 use Rattle.outline_net.proofs.Outline.{number, sys}
 use Rattle.outline_net.proofs.InstanceOutline.{filter_map-put}
-use Rattle.outline_net.proofs.ControlOutline.{Sees, stored_after}
-use Rattle.outline_net.proofs.OperationTables.{got_insert}
+use Rattle.outline_net.proofs.ControlOutline.{Sees}
 use Rattle.whole_outline.proofs.WholeOutline.{outline_each, outline_all, sharing}
 use Rattle.whole_outline.proofs.ShareOutline.{share_phase, SeesShare, ShareFollows, sees_after, rests_served}
 use Rattle.whole_outline.proofs.ShareLeft.{OpenAt, answered, next_share, still_waits, ShareLeaves, handed_leaves, queued_leaves}
