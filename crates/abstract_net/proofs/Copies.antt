@@ -15,9 +15,8 @@ use Rattle.abstract_net.proofs.Net.{Msg, Mv, Sys, IsSys, Open, find_op, World, s
 use Rattle.abstract_net.proofs.Holding.{Seeing, frame, Label, Op_label, Ctrl_is, Holds}
 use Rattle.abstract_net.proofs.Links.{head}
 use Rattle.abstract_net.proofs.Ctrl.{none_some, each_found}
-use Rattle.abstract_net.proofs.Rest.{Nothing_of}
+use Rattle.abstract_net.proofs.Rest.{Nothing_of, Global}
 use Rattle.abstract_net.proofs.Units.{Where, Where.At_rest, Where.In_move, shown, see as seeing}
-use Rattle.abstract_net.proofs.Every.{Every}
 use Rattle.nf_function.specs.declared.unit.Unit as units
 use Rattle.record_table.specs.Table.{same_unit}
 use Rattle.record_table.proofs.UnitOrder.{same_unit_equiv}
@@ -89,9 +88,10 @@ module _ {R : Type 0} (S : Sys R) (laws : IsSys S) where
       let c : Ctrl_is S z (Some e) x = subst (λ o. Ctrl_is S z o x) (ap (λ k. find_op w.ops k) (sym same) ∙ there) h.ctrl in
       (c.0, copies_own (frame S z) e.phase ∙ ap (λ ph. length (frozen_in ph) + length (free_in ph)) c.1)
 
-  pub one_copy : (w : World S) (arrived : units.Unit → List ℕ) (bared : units.Unit → Bool) → Every S laws w arrived bared → (n : ℕ) (e : Open R) → find_op w.ops n ≡ Some e → (u : units.Unit) → copies u e.phase ≤ 1
-  one_copy w arrived bared h n e there u =
-      let k = shown S laws u w (arrived u) (bared u) h.global (h.unit u) in
+  -- of a unit, by where it is
+  pub one_copy : (w : World S) → Global S w → (u : units.Unit) (ps : List ℕ) (b : Bool) → Where S laws u w ps b → (n : ℕ) (e : Open R) → find_op w.ops n ≡ Some e → copies u e.phase ≤ 1
+  one_copy w g u ps b here n e there =
+      let k = shown S laws u w ps b g here in
       let z = seeing S laws u k.op k.third in
       let x = seat_shape S.F k.seat in
       elim (n == k.op.num) as (λ b. (n == k.op.num) ≡ b → copies u e.phase ≤ 1) [
@@ -112,9 +112,9 @@ module _ {R : Type 0} (S : Sys R) (laws : IsSys S) where
       ap (λ o. Rattle.unit_machine.proofs.Real.add o (items (seen (frame S z)) rest)) (sym is) ∙ head S z w.link i 1 m rest waits off [] ∙ h.views i 1 ∙ all
 
   -- and with what was refused and is on its way back
-  pub one_copy_back : (w : World S) (arrived : units.Unit → List ℕ) (bared : units.Unit → Bool) → Every S laws w arrived bared → (n : ℕ) (e : Open R) → find_op w.ops n ≡ Some e → (g : Filter) (why : Answer) (cs : Chunks R) (rest : List (Msg R)) → w.link e.op.dst 1 ≡ Mv g (M_put_no n why cs) ∷ rest → (u : units.Unit) → has u cs + copies u e.phase ≤ 1
-  one_copy_back w arrived bared h n e there g why cs rest waits u =
-      let k = shown S laws u w (arrived u) (bared u) h.global (h.unit u) in
+  pub one_copy_back : (w : World S) → Global S w → (u : units.Unit) (ps : List ℕ) (b : Bool) → Where S laws u w ps b → (n : ℕ) (e : Open R) → find_op w.ops n ≡ Some e → (g : Filter) (why : Answer) (cs : Chunks R) (rest : List (Msg R)) → w.link e.op.dst 1 ≡ Mv g (M_put_no n why cs) ∷ rest → has u cs + copies u e.phase ≤ 1
+  one_copy_back w global u ps b here n e there g why cs rest waits =
+      let k = shown S laws u w ps b global here in
       let z = seeing S laws u k.op k.third in
       let x = seat_shape S.F k.seat in
       elim (n == k.op.num) as (λ b. (n == k.op.num) ≡ b → has u cs + copies u e.phase ≤ 1) [
@@ -138,8 +138,8 @@ module _ {R : Type 0} (S : Sys R) (laws : IsSys S) where
       ] refl
 
   -- an event that comes is one of an open move
-  pub event_open : (w : World S) (arrived : units.Unit → List ℕ) (bared : units.Unit → Bool) → Every S laws w arrived bared → (i n p : ℕ) (g : Filter) (rest : List (Msg R)) → w.link i 1 ≡ Mv g (M_event n p) ∷ rest → find_op w.ops n ≡ None → ⊥
-  event_open w arrived bared h i n p g rest waits none = by_where (h.unit u)
+  pub event_open : (w : World S) (i n p : ℕ) (ps : List ℕ) (b : Bool) → Where S laws (S.unit_of p) w ps b → (g : Filter) (rest : List (Msg R)) → w.link i 1 ≡ Mv g (M_event n p) ∷ rest → find_op w.ops n ≡ None → ⊥
+  event_open w i n p ps bared here g rest waits none = by_where here
     where
       u : units.Unit
       u = S.unit_of p
@@ -150,7 +150,7 @@ module _ {R : Type 0} (S : Sys R) (laws : IsSys S) where
       no_input : (i == 0) && (1 == 0) ≡ false
       no_input = elim (i == 0) as (λ b. b && false ≡ false) [ true ↦ refl | false ↦ refl ]
 
-      by_where : Where S laws u w (arrived u) (bared u) → ⊥
+      by_where : Where S laws u w ps bared → ⊥
       by_where (At_rest owner d l b r o f) = let lab = (subst (λ ms. Each (Nothing_of S u i) ms) waits (r.labels i 1 no_input)).0 in let never : true ≡ false = sym self ∙ lab.1 in falsely never
       by_where (In_move op third e s b there r o f c) =
           let lab = (subst (λ ms. Each (Label S (seeing S laws u op third) i) ms) waits (r.labels i 1 no_input)).0 in

@@ -16,7 +16,6 @@ use Rattle.abstract_net.proofs.Ctrl.{each_found}
 use Rattle.abstract_net.proofs.Fresh.{From_switch, From_switch.From_sa, From_switch.From_sb, From_switch.From_sc, comes_from_switch}
 use Rattle.abstract_net.proofs.Rest.{Rest_op, none_mine}
 use Rattle.abstract_net.proofs.Units.{Where, Where.At_rest, Where.In_move, see}
-use Rattle.abstract_net.proofs.Every.{Every}
 use Rattle.nf_function.specs.declared.unit.Unit as units
 
 -- whether a move in this phase hasn't sent its change of the rules
@@ -117,9 +116,9 @@ module _ {R : Type 0} (S : Sys R) (laws : IsSys S) (w : World S) (n : ℕ) (e : 
     by_where ps c (At_rest owner d l b h o f) = let none = (each_found (Rest_op S u) n w.ops e h.ops there).0.0 in never (sym none ∙ takes)
     by_where ps c (In_move op third o s b found h r f k) = in_move op third o s found h
 
-  module _ (arrived : units.Unit → List ℕ) (bared : units.Unit → Bool) (h : Every S laws w arrived bared) (source : w.target u ≡ e.op.src) where
+  module _ (ps : List ℕ) (bared : Bool) (here : Where S laws u w ps bared) (source : w.target u ≡ e.op.src) where
     seated : Seated
-    seated = by_where source (arrived u) (bared u) (h.unit u)
+    seated = by_where source ps bared here
 
     -- where packets of the unit are processed
     pub at_source : (p y : ℕ) (m : Msg R) (rest : List (Msg R)) → (y == 0) ≡ false → (y == 1) ≡ false → w.link p y ≡ m ∷ rest → none_mine S u (inst_step S (w.inst y) m).ran ≢ [] → y ≡ e.op.src

@@ -8,9 +8,8 @@ use Rattle.unit_machine.proofs.Sides.{is_released, seat_stands}
 use Rattle.abstract_net.proofs.Net.{Sys, IsSys, Open, find_op, World}
 use Rattle.abstract_net.proofs.Holding.{frame, Op_label, Ctrl_is}
 use Rattle.abstract_net.proofs.Ctrl.{each_found}
-use Rattle.abstract_net.proofs.Rest.{none_mine, same_mine}
-use Rattle.abstract_net.proofs.Units.{shown, see as seeing}
-use Rattle.abstract_net.proofs.Every.{Every}
+use Rattle.abstract_net.proofs.Rest.{none_mine, same_mine, Global}
+use Rattle.abstract_net.proofs.Units.{Where, shown, see as seeing}
 use Rattle.nf_function.specs.declared.unit.Unit as units
 use Rattle.record_table.specs.Table.{same_unit}
 use Rattle.record_table.proofs.UnitOrder.{same_unit_equiv}
@@ -31,27 +30,25 @@ cons_nil e = cc
 
 module _ {R : Type 0} (S : Sys R) (laws : IsSys S) where
   -- a list in which no unit has a packet
-  nothing : (ps : List ℕ) → ((u : units.Unit) → none_mine S u ps ≡ []) → ps ≡ []
+  pub nothing : (ps : List ℕ) → ((u : units.Unit) → none_mine S u ps ≡ []) → ps ≡ []
   nothing [] h = refl
   nothing (p ∷ ps) h =
       let own : same_unit (S.unit_of p) (S.unit_of p) ≡ true = same_unit_equiv.refl (S.unit_of p) in
       let none : p ∷ none_mine S (S.unit_of p) ps ≡ [] = ap (λ b. if b then p ∷ none_mine S (S.unit_of p) ps else none_mine S (S.unit_of p) ps) (sym own) ∙ h (S.unit_of p) in
       cons_nil none
 
-  pub store_empty : (w : World S) (arrived : units.Unit → List ℕ) (bared : units.Unit → Bool) → Every S laws w arrived bared → (n : ℕ) (e : Open R) → find_op w.ops n ≡ Some e → ends e.phase ≡ true → e.store ≡ []
-  store_empty w arrived bared h n e there late = nothing e.store of_unit
-    where
-      of_unit : (u : units.Unit) → none_mine S u e.store ≡ []
-      of_unit u =
-          let k = shown S laws u w (arrived u) (bared u) h.global (h.unit u) in
-          let z = seeing S laws u k.op k.third in
-          same_mine S z e.store ∙ elim (n == k.op.num) as (λ b. (n == k.op.num) ≡ b → Rattle.unit_machine.proofs.Real.only_mine (frame S z) e.store ≡ []) [
-            | true ↦ λ on.
-                let same : n ≡ k.op.num = (Decides-eqb n k.op.num).0 on in
-                let c : Ctrl_is S z (Some e) (seat_shape S.F k.seat) = subst (λ o. Ctrl_is S z o (seat_shape S.F k.seat)) (ap (λ m. find_op w.ops m) (sym same) ∙ there) k.holds.ctrl in
-                c.2 ∙ (seat_stands S.F k.seat).released (ap is_released (sym c.1) ∙ ends_released (frame S z) e.phase late)
-            | false ↦ λ off.
-                let l = each_found (Op_label S z) n w.ops e k.holds.ops there in
-                let same : e.op.num ≡ n = (Decides-eqb e.op.num n).0 l.1 in
-                (l.0.1 (rw same off)).1
-          ] refl
+  -- of a unit, by where it is
+  pub none_left : (w : World S) → Global S w → (n : ℕ) (e : Open R) → find_op w.ops n ≡ Some e → ends e.phase ≡ true → (u : units.Unit) (ps : List ℕ) (b : Bool) → Where S laws u w ps b → none_mine S u e.store ≡ []
+  none_left w g n e there late u ps b here =
+      let k = shown S laws u w ps b g here in
+      let z = seeing S laws u k.op k.third in
+      same_mine S z e.store ∙ elim (n == k.op.num) as (λ b. (n == k.op.num) ≡ b → Rattle.unit_machine.proofs.Real.only_mine (frame S z) e.store ≡ []) [
+        | true ↦ λ on.
+            let same : n ≡ k.op.num = (Decides-eqb n k.op.num).0 on in
+            let c : Ctrl_is S z (Some e) (seat_shape S.F k.seat) = subst (λ o. Ctrl_is S z o (seat_shape S.F k.seat)) (ap (λ m. find_op w.ops m) (sym same) ∙ there) k.holds.ctrl in
+            c.2 ∙ (seat_stands S.F k.seat).released (ap is_released (sym c.1) ∙ ends_released (frame S z) e.phase late)
+        | false ↦ λ off.
+            let l = each_found (Op_label S z) n w.ops e k.holds.ops there in
+            let same : e.op.num ≡ n = (Decides-eqb e.op.num n).0 l.1 in
+            (l.0.1 (rw same off)).1
+      ] refl

@@ -17,7 +17,7 @@ use Rattle.move_op.specs.declared.phase.Phase.TheVariants as phase
 use Rattle.move_op.specs.Move.{MovePlan, MoveState, Row, row, answer_of, keeps, goes, chunks_of, have_units, source, destination, pushed, all_put, on_event, on_source_enabled, on_piece, on_deleted, on_restored, on_source_fenced, on_put_ok, on_put_no, on_destination_enabled, on_destination_fenced, from_source, from_destination, put_back}
 use Rattle.abstract_net.proofs.Net.{World, Open, find_op}
 use Rattle.abstract_net.proofs.Every.{Every}
-use Rattle.abstract_net.proofs.Stores.{ends, store_empty}
+use Rattle.abstract_net.proofs.Stores.{ends, nothing, none_left}
 use Rattle.outline_net.proofs.Outline.{number, is_sys}
 use Rattle.outline_net.proofs.MoveOutline.{outline_phase}
 use Rattle.outline_net.proofs.ControlOutline.{SeesMove}
@@ -133,5 +133,5 @@ module _ {R : Type 0} (f : Semantics R) (g : Given) where
   pub closed_empty : (w : World (S f g)) (arrived : units.Unit → List ℕ) (bared : units.Unit → Bool) → Every (S f g) (is_sys f g.site g.packet) w arrived bared → (n : ℕ) (e : Open R) (mv : MoveState) (events : List FullCell) → find_op w.ops n ≡ Some e → SeesMove f (place g) e mv events → answer_of mv.phase ≡ None → (port : ℕ) (m : Msg) (why : Answer) → answer_of (row mv events port m).next.phase ≡ Some why → unwrap_or (row mv events port m).stored events ≡ []
   closed_empty w arrived bared every n e mv events there sees going port m why over =
       let c = closes mv.plan events mv.phase port m why going over in
-      let none : e.store ≡ [] = store_empty (S f g) (is_sys f g.site g.packet) w arrived bared every n e there (ap ends sees.phase ∙ ends_at mv.phase c.at) in
+      let none : e.store ≡ [] = nothing (S f g) (is_sys f g.site g.packet) e.store (λ u. none_left (S f g) (is_sys f g.site g.packet) w every.global n e there (ap ends sees.phase ∙ ends_at mv.phase c.at) u _ _ (every.unit u)) in
       ap (λ o. unwrap_or o events) c.stays ∙ map_nil events (sym sees.store ∙ none)

@@ -118,7 +118,7 @@ module _ {F R : Type 0} (f : Semantics R) (g : Given) (n : ℕ) (x : Scene F f g
   kept_once : (op : ℕ) (mv : MoveState) → finite.get c.operations op ≡ Some (Move mv) → (u : units.Unit) → times u (entries f (kept_in mv.phase)) ≤ 1
   kept_once op mv has u =
       let b = both op mv has in
-      let one : copies u b.e.phase ≤ 1 = one_copy (S f g) (is_sys f g.site g.packet) x.world _ _ are.every op b.e b.there u in
+      let one : copies u b.e.phase ≤ 1 = one_copy (S f g) (is_sys f g.site g.packet) x.world are.every.global u _ _ (are.every.unit u) op b.e b.there in
       let counted : times u (entries f (kept_in mv.phase)) ≡ copies u b.e.phase = kept_count f g mv.phase (are.controller.moves op mv has).pieces u ∙ ap (copies u) (sym b.sees.phase) in
       omega (arith, one, counted)
 
@@ -154,7 +154,7 @@ module _ {F R : Type 0} (f : Semantics R) (g : Given) (n : ℕ) (x : Scene F f g
       let b = both f g n x p (msg.PutNo op refused) are is op mv got in
       let same : b.e.op.dst ≡ p = ap (λ o. o.dst) b.sees.op ∙ sym ((Decides-eqb p (destination mv.plan)).0 at) in
       let comes : x.world.link b.e.op.dst 1 ≡ net.Mv net.everything (real.M_put_no op refused.why (entries f refused.chunks)) ∷ is.rest = ap (λ k. x.world.link k 1) same ∙ waits f g n x p (msg.PutNo op refused) are is (net.Mv net.everything (real.M_put_no op refused.why (entries f refused.chunks))) refl in
-      let one : has u (entries f refused.chunks) + copies u b.e.phase ≤ 1 = one_copy_back (S f g) (is_sys f g.site g.packet) x.world _ _ are.every op b.e b.there net.everything refused.why (entries f refused.chunks) is.rest comes u in
+      let one : has u (entries f refused.chunks) + copies u b.e.phase ≤ 1 = one_copy_back (S f g) (is_sys f g.site g.packet) x.world are.every.global u _ _ (are.every.unit u) op b.e b.there net.everything refused.why (entries f refused.chunks) is.rest comes in
       let brought_is : times u (entries f refused.chunks) ≡ has u (entries f refused.chunks) = times_is_has (entries f refused.chunks) is.label.1.distinct u in
       let counted : times u (entries f (kept_in mv.phase)) ≡ copies u b.e.phase = kept_count f g mv.phase (are.controller.moves op mv got).pieces u ∙ ap (copies u) (sym b.sees.phase) in
       omega (arith, one, counted, brought_is)
@@ -196,7 +196,7 @@ module _ {F R : Type 0} (f : Semantics R) (g : Given) (n : ℕ) (x : Scene F f g
       rw (low, high) refl
 
   never : find_op x.world.ops op ≡ None → ⊥
-  never none = event_open (S f g) (is_sys f g.site g.packet) x.world _ _ are.every p op (number cell) net.everything is.rest (waits f g n x p event are is (net.Mv net.everything seen_event) refl) none
+  never none = event_open (S f g) (is_sys f g.site g.packet) x.world p op (number cell) _ _ (are.every.unit ((S f g).unit_of (number cell))) net.everything is.rest (waits f g n x p event are is (net.Mv net.everything seen_event) refl) none
 
   pub event_leads : RowLeads f g x p event (on_event x.nodes.controller p op cell (instance_at x.nodes.controller p))
   event_leads = rw its_port (cases (finite.get x.nodes.controller.operations op) refl)

@@ -168,7 +168,7 @@ module _ {F R : Type 0} (f : Semantics R) (laws : FunctionLaws f) (c : Config) (
 
       -- a change of the rules that the switch takes next
       pub other_change : (k : ℕ) (filter : Filter) (from to : ℕ) (rest : List (net.Msg R)) → is_whole f.kind filter ≡ true → j.world.link 1 0 ≡ net.Mv filter (real.M_install k from to) ∷ rest → takes filter u ≡ false
-      other_change k filter from to rest filter_whole waits = sym (takes_same f.kind filter u filter_whole fits) ∙ untaken (S f g) (is_sys f g.site g.packet) j.world op is_open.e is_open.found is_early_there u takes_it _ _ j.shown_is.every route filter k from to rest waits
+      other_change k filter from to rest filter_whole waits = sym (takes_same f.kind filter u filter_whole fits) ∙ untaken (S f g) (is_sys f g.site g.packet) j.world op is_open.e is_open.found is_early_there u takes_it _ _ (j.shown_is.every.unit u) route filter k from to rest waits
 
       -- what an instance processes of the unit
       module _ (y p : ℕ) (message : Msg) (is_taken : IsTaken f g n scene (record { node = suc (suc y); port = p; message = message })) where
@@ -195,7 +195,7 @@ module _ {F R : Type 0} (f : Semantics R) (laws : FunctionLaws f) (c : Config) (
             let not_input : (p == 0) && (k == 0) ≡ false = grind (arith, nat_tests) in
             let some : none_mine (S f g) ((S f g).unit_of number) (filter_map ran_in notes) ≢ [] = subst (λ ns. none_mine (S f g) ((S f g).unit_of number) (filter_map ran_in ns) ≢ []) (sym e) (some_mine (S f g) before number i output after) in
             let follows : filter_map ran_in notes ≡ (inst_step (S f g) (j.world.inst k) a).ran = ran ∙ ap (λ x. (inst_step (S f g) x a).ran) at.outline_is in
-            at_source (S f g) (is_sys f g.site g.packet) j.world op is_open.e is_open.found is_early_there u takes_it _ _ j.shown_is.every route p k a is_taken.rest not_first not_second (is_taken.head not_input a shown_as)
+            at_source (S f g) (is_sys f g.site g.packet) j.world op is_open.e is_open.found is_early_there u takes_it _ _ (j.shown_is.every.unit u) route p k a is_taken.rest not_first not_second (is_taken.head not_input a shown_as)
             (subst (λ x. none_mine (S f g) x (inst_step (S f g) (j.world.inst k) a).ran ≢ []) mine (subst (λ ns. none_mine (S f g) ((S f g).unit_of number) ns ≢ []) follows some))
 
         one_at : (before after : List Note) (x : Note) → notes ≡ before ++ x ∷ after → Is_at f c items u m.plan.from x
