@@ -1,3 +1,11 @@
+pub mod CopyRows
 pub mod Given
+pub mod InstanceKeeps
+pub mod InstanceNotes
+pub mod InstanceRows
+pub mod InstanceSends
+pub mod InstanceSteps
 pub mod Joined
-pub mod OpenStub
+pub mod LogLemmas
+pub mod RunUnits
+pub mod StandbyChunks
