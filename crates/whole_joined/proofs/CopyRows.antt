@@ -11,7 +11,7 @@ use Rattle.record_table.specs.Table.{AreSound}
 use Rattle.nf_msgs.specs.declared.msg.Msg.TheVariants as msg
 use Rattle.instance_worker.specs.declared.instance.Instance.{Instance}
 use Rattle.instance_worker.specs.Instance.{still, tells_and_notes, with_records, kept, on_get, on_get_all, on_standby, on_put_all, on_sync, tally_put}
-use Rattle.whole_joined.proofs.InstanceKeeps.{valid_chunks, chunks_good}
+use Rattle.whole_joined.proofs.InstanceKeeps.{chunks_good}
 use Rattle.whole_joined.proofs.InstanceRows.{IsRight, Leaves}
 use Rattle.whole_joined.proofs.InstanceSends.{get_sends}
 use Rattle.whole_joined.proofs.Given.{Given}

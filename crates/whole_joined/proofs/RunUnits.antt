@@ -15,7 +15,7 @@ use Rattle.outline_net.proofs.Outline.{number, rule_of, entries, outline_piece, 
 use Rattle.outline_net.proofs.InstanceOutline.{carry_follows, pass_follows, fence_follows, enable_follows}
 use Rattle.outline_net.proofs.StateOutline.{stream_follows, delete_follows, put_follows, restore_follows}
 use Rattle.whole_outline.proofs.MemberOutline.{shared_follows, get_follows, sync_follows}
-use Rattle.whole_outline.proofs.StandbyKept.{stop_keeps, get_all_keeps, standby_keeps, put_all_keeps}
+use Rattle.whole_outline.proofs.StandbyKept.{get_all_keeps, standby_keeps, put_all_keeps}
 use Rattle.whole_joined.proofs.InstanceKeeps.{chunks_good}
 use Rattle.whole_joined.proofs.InstanceRows.{sound_part}
 use Rattle.whole_joined.proofs.InstanceSteps.{Rows, by_message}

@@ -1,6 +1,6 @@
 -- The chunks of a copy that an instance is to keep: their records are folds of fronts of what was done, and no share takes their units. So
 -- what stands by after them may be kept.
-use Rattle.std.proofs.Common.{◌≡◌, ℕ, Option, None, List, ◌++◌, refl, sym, ap, ◌∙◌, subst}
+use Rattle.std.proofs.Common.{◌≡◌, ℕ, None, List, ◌++◌, sym, ap, ◌∙◌, subst}
 use Rattle.std.specs.FinMap as finite
 use Rattle.nf_function.specs.declared.chunk.Chunk.{Chunk}
 use Rattle.nf_function.specs.declared.unit.Unit as units
