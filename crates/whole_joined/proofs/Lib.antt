@@ -1,3 +1,9 @@
 pub mod Given
+pub mod HandedUnits
 pub mod Joined
+pub mod LogLemmas
 pub mod OpenStub
+pub mod StartJoined
+pub mod SwitchArrivals
+pub mod SwitchLemmas
+pub mod SwitchSteps
