@@ -16,7 +16,7 @@ use Rattle.nf_msgs.specs.declared.note.Note.TheVariants.{Arrived, Installed}
 use Rattle.nf_msgs.specs.Nodes.{instance_node}
 use Rattle.move_op.specs.Move.{MovePlan}
 use Rattle.copy_share.specs.Copy.{CopyPlan}
-use Rattle.copy_share.specs.Share.{SharePlan, home}
+use Rattle.copy_share.specs.Share.{SharePlan}
 use Rattle.ctrl_node.specs.Controller.{place_of}
 use Rattle.net_world.specs.Places.{owner_after, loose_after, handed_on, is_at}
 
@@ -63,12 +63,12 @@ pub record IsSharePlan (g : Given) (op : ℕ) (plan : SharePlan) : Type 0 where
   pub members_are : filter_map (place_of g.names) names ≡ plan.members
   pub site_is : plan.site ≡ g.site
 
--- and a change of the switch's rules to the controller is that of a share
+-- and a change of the switch's rules to the controller is that of a share: it takes packets from its home, which is the first of its names
 pub record IsDivert (g : Given) (op : ℕ) (filter : Filter) (from : ℕ) : Type 0 where
-  pub plan : SharePlan
-  pub plan_is : IsSharePlan g op plan
-  pub filter_is : plan.filter ≡ filter
-  pub from_is : home plan ≡ from
+  pub name : List ℕ
+  pub others : List (List ℕ)
+  pub order_is : g.orders op ≡ Some (order.Share (name ∷ others) filter)
+  pub home_is : place_of g.names name ≡ Some from
 
 abbrev pub IsChange : Given → ℕ → Filter → ℕ → Target → Type 0
 IsChange g op filter from (target.Instance to) = IsInstall g op filter from (target.Instance to)
