@@ -1,5 +1,5 @@
 -- The controller after a begin of a share, a move or a copy is that of the network with shares.
-use Rattle.std.proofs.Common.{◌≡◌, ℕ, ◌<◌, true, false, cond, Option, Some, None, List, [], ◌∷◌, ◌++◌, map, length, refl, sym, ap, ◌∙◌, subst, arith}
+use Rattle.std.proofs.Common.{◌≡◌, ℕ, true, false, cond, Option, Some, None, List, [], ◌∷◌, ◌++◌, map, refl, sym, ap, ◌∙◌, subst, arith}
 use Rattle.std.specs.Prelude.{if◌then◌else◌, ◌==◌}
 use Rattle.std.specs.List.{filter_map}
 use Rattle.std.specs.FinMap as finite
@@ -9,7 +9,6 @@ use Rattle.flow_filter.specs.declared.packet.Packet.{Packet}
 use Rattle.flow_filter.specs.declared.site.Site.{Site}
 use Rattle.nf_function.specs.Semantics.{Semantics}
 use Rattle.event_store.specs.Store.{stored}
-use Rattle.packet_pool.specs.Pool.{FullCell}
 use Rattle.nf_msgs.specs.declared.command.Order.TheVariants as order
 use Rattle.nf_msgs.specs.Nodes.{instance_node}
 use Rattle.move_op.specs.Move.{MovePlan, begun}
@@ -19,7 +18,7 @@ use Rattle.copy_share.specs.Share.{SharePlan}
 use Rattle.copy_share.specs.Share as share
 use Rattle.ctrl_node.specs.declared.operation.Operation.{Operation}
 use Rattle.ctrl_node.specs.declared.operation.Operation.TheVariants.{Move, Copy, Share}
-use Rattle.ctrl_node.specs.Controller.{ControllerState, Step, place_of, begins_move, begins_copy, begins_share, begins}
+use Rattle.ctrl_node.specs.Controller.{ControllerState, place_of, begins_move, begins_copy, begins_share, begins}
 use Rattle.abstract_net.proofs.Net.{Open, Want, find_op, new_op, begin_sends}
 use Rattle.abstract_net.proofs.GlobalShares.{ops_old}
 use Rattle.abstract_net.proofs.ShareLists.{find_old, find_new}
@@ -28,7 +27,7 @@ use Rattle.outline_net.proofs.OperationTables.{got_insert}
 use Rattle.whole_outline.proofs.WholeOutline.{members_of, share_between, want_share_of, outline_all}
 use Rattle.whole_outline.proofs.AskedShare.{is_more}
 use Rattle.whole_outline.proofs.ShareOutline.{SeesShare}
-use Rattle.whole_outline.proofs.OpenShares.{Table, Elsewhere, SeesAny, OpensAll, opens_at, unseen_at, no_op, no_open_share, All_step, StepFollows}
+use Rattle.whole_outline.proofs.OpenShares.{Table, SeesAny, OpensAll, opens_at, unseen_at, no_op, no_open_share, StepFollows}
 
 self : (n : ℕ) → (n == n) ≡ true
 self n = grind (arith, nat_tests)

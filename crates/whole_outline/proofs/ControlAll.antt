@@ -1,6 +1,6 @@
 -- The controller's step on each message of an operation's number is that of the network with shares: what the operation under the number is
 -- told, and nothing where there is none or a copy.
-use Rattle.std.proofs.Common.{◌≡◌, ℕ, ◌<◌, true, false, Option, Some, None, List, [], ◌∷◌, ◌++◌, map, length, refl, sym, ap, ◌∙◌, subst, append-nil}
+use Rattle.std.proofs.Common.{◌≡◌, ℕ, ◌<◌, true, false, Option, Some, None, List, [], map, length, refl, sym, ap, ◌∙◌, subst, append-nil}
 use Rattle.std.specs.Prelude.{if◌then◌else◌, ◌==◌, option_map}
 use Rattle.std.specs.FinMap as finite
 use Rattle.flow_filter.specs.declared.packet.Packet.{Packet}
@@ -15,12 +15,11 @@ use Rattle.nf_msgs.specs.declared.msg.Msg.{Msg}
 use Rattle.nf_msgs.specs.declared.msg.Msg.TheVariants as msg
 use Rattle.move_op.specs.Move as move
 use Rattle.move_op.specs.Move.{MoveState, row_in}
-use Rattle.copy_share.specs.Copy.{CopyState}
 use Rattle.copy_share.specs.Share.{ShareState}
 use Rattle.copy_share.specs.Share as share
 use Rattle.ctrl_node.specs.declared.operation.Operation.{Operation}
 use Rattle.ctrl_node.specs.declared.operation.Operation.TheVariants.{Move, Copy, Share}
-use Rattle.ctrl_node.specs.Controller.{ControllerState, Step, handed}
+use Rattle.ctrl_node.specs.Controller.{ControllerState, handed}
 use Rattle.unit_machine.proofs.Real as real
 use Rattle.abstract_net.proofs.Net as net
 use Rattle.abstract_net.proofs.Net.{Sys, Open, C_step, everything, find_op, found, num_of, numbered}
@@ -30,8 +29,8 @@ use Rattle.outline_net.proofs.InstanceOutline.{IsGenuine}
 use Rattle.outline_net.proofs.MoveOutline.{outline_plan, outline_phase, RowFollows}
 use Rattle.unit_machine.proofs.Labels.{Each}
 use Rattle.whole_outline.proofs.WholeOutline.{sharing}
-use Rattle.whole_outline.proofs.ShareOutline.{outline_share, SeesShare, ShareFollows, fenced_rows, chunks_rows, shared_rows, synced_rows}
-use Rattle.whole_outline.proofs.OpenShares.{but_shares, share_in, Is_unseen, SeesAny, OpensAll, no_op, no_open_share, Both, both, joins, all_step, StepFollows}
+use Rattle.whole_outline.proofs.ShareOutline.{outline_share, ShareFollows, fenced_rows, chunks_rows, shared_rows, synced_rows}
+use Rattle.whole_outline.proofs.OpenShares.{but_shares, share_in, Is_unseen, SeesAny, OpensAll, no_op, no_open_share, both, joins, all_step, StepFollows}
 use Rattle.whole_outline.proofs.ShareTurns.{share_handed, share_quiet}
 use Rattle.whole_outline.proofs.OtherTurns.{Same, none_handed, copy_handed, move_quiet, move_handed}
 

@@ -8,6 +8,7 @@ pub mod MemberTables
 pub mod MoveSends
 pub mod OpenShares
 pub mod OtherTurns
+pub mod ShareLeft
 pub mod ShareOutline
 pub mod ShareTurns
 pub mod StandbyKept

@@ -1,6 +1,6 @@
 -- The controller's step on a message of a number that is no open share's: of a copy or of nothing, neither moves nor shares change; of a move
 -- it is that of the network of moves.
-use Rattle.std.proofs.Common.{◌≡◌, ℕ, Bool, true, false, cond, Option, Some, None, List, [], ◌∷◌, ◌++◌, map, refl, sym, ap, ◌∙◌, subst, append-nil, arith}
+use Rattle.std.proofs.Common.{◌≡◌, ℕ, true, false, cond, Option, Some, None, List, [], ◌∷◌, map, refl, sym, ap, ◌∙◌, subst, arith}
 use Rattle.std.specs.Prelude.{if◌then◌else◌, ◌==◌, unwrap_or}
 use Rattle.std.specs.FinMap as finite
 use Rattle.std.proofs.lemmas.Bool.Decides.{nat_tests, Decides-eqb}
@@ -20,7 +20,7 @@ use Rattle.copy_share.specs.declared.copy_phase.CopyPhase.TheVariants.{Getting, 
 use Rattle.copy_share.specs.Copy.{CopyPlan, CopyState, CopyRow}
 use Rattle.copy_share.specs.Copy as copy
 use Rattle.ctrl_node.specs.declared.operation.Operation.{Operation}
-use Rattle.ctrl_node.specs.declared.operation.Operation.TheVariants.{Move, Copy, Share}
+use Rattle.ctrl_node.specs.declared.operation.Operation.TheVariants.{Move, Copy}
 use Rattle.ctrl_node.specs.Operations.{Turn, turn_of, moved, copied}
 use Rattle.ctrl_node.specs.Controller.{ControllerState, Step, still, after_turn, takes_turn, handed}
 use Rattle.unit_machine.proofs.Real as real
@@ -34,7 +34,7 @@ use Rattle.outline_net.proofs.ControlOutline.{Sees, SeesMove, Opens, TurnFollows
 use Rattle.outline_net.proofs.OperationTables.{got_insert, got_remove, gone_twice, insert_same, NotShared, handed_is}
 use Rattle.whole_outline.proofs.WholeOutline.{outline_all}
 use Rattle.whole_outline.proofs.MoveSends.{AreOld, old-put, row_old}
-use Rattle.whole_outline.proofs.OpenShares.{but_shares, share_in, Is_unseen, Table, Elsewhere, SeesOne, SeesAny, OpensAll, opens_at, unseen_at, no_open_share, without_shares, got_moves, opens_moves, StepFollows}
+use Rattle.whole_outline.proofs.OpenShares.{but_shares, share_in, Is_unseen, Table, SeesOne, SeesAny, OpensAll, opens_at, unseen_at, no_open_share, without_shares, got_moves, opens_moves, StepFollows}
 use Rattle.whole_outline.proofs.ShareTurns.{answer_unseen}
 
 self : (n : ℕ) → (n == n) ≡ true
