@@ -27,7 +27,7 @@ use Rattle.outline_net.proofs.FiltersApart.{is_whole, unit_fits, takes_same, tak
 use Rattle.joined_net.proofs.OwnerLemmas.{owner_after-append, loose_after-append, installed-append}
 use Rattle.whole_joined.proofs.Given.{Given, place, IsPlan, IsInstall, IsDivert, owner_by, loose_by, diverts, is_diverted, target_by}
 use Rattle.whole_joined.proofs.LogLemmas.{diverted_after-append}
-use Rattle.whole_joined.proofs.OpenStub.{SeesAny}
+use Rattle.whole_outline.proofs.OpenShares.{SeesAny}
 use Rattle.whole_joined.proofs.Joined.{IsController, S, A}
 
 -- a change of the rules more

@@ -63,7 +63,7 @@ use Rattle.outline_net.proofs.FiltersApart.{is_whole, unit_fits}
 use Rattle.outline_net.proofs.Outline.{entries, rule_of, sys, is_sys, outline_instance}
 use Rattle.whole_outline.proofs.WholeOutline.{outline_any, outline_all, sharing}
 use Rattle.whole_outline.proofs.SwitchAll.{RoutesAll}
-use Rattle.whole_joined.proofs.OpenStub.{OpensAll}
+use Rattle.whole_outline.proofs.OpenShares.{OpensAll}
 use Rattle.outline_net.proofs.InstanceOutline.{IsGenuine, IsInstance}
 use Rattle.outline_net.proofs.StateOutline.{HasRecords}
 use Rattle.outline_net.proofs.MoveOutline.{IsChunk, IsRefusing, is_done}

@@ -54,7 +54,7 @@ use Rattle.net_world.specs.Start.{first_switch, first_instance, first_instances,
 use Rattle.outline_net.proofs.FiltersApart.{is_whole, flow_fits, unit_fits, takes_whole, takes_same, whole_takes}
 use Rattle.joined_net.proofs.InputLemmas.{each_both, found_each, fits_flow, whole_is}
 use Rattle.outline_net.proofs.StateOutline.{HasRecords, all_each}
-use Rattle.whole_joined.proofs.OpenStub.{SeesAny}
+use Rattle.whole_outline.proofs.OpenShares.{SeesAny}
 use Rattle.whole_joined.proofs.Given.{Given, place}
 use Rattle.whole_joined.proofs.Joined.{GenuinePacket, is_built, IsCommand, Label, S, A, IsSwitch, IsController, Nodes, node_of, Scene, Joined, IsInstanceAt, AreShown, commands as numbers_of}
 

@@ -1,7 +1,16 @@
 pub mod AskedShare
+pub mod BeginsAll
+pub mod ControlAll
+pub mod DivertedAll
 pub mod InstanceWorlds
 pub mod MemberOutline
 pub mod MemberTables
+pub mod MoveSends
+pub mod OpenShares
+pub mod OtherTurns
+pub mod ShareLeft
+pub mod ShareOutline
+pub mod ShareTurns
 pub mod StandbyKept
 pub mod SwitchAll
 pub mod SwitchWorlds
