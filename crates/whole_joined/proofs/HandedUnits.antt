@@ -20,14 +20,15 @@ use Rattle.nf_msgs.specs.Nodes.{instance_node}
 use Rattle.unit_machine.proofs.Real as real
 use Rattle.abstract_net.proofs.Net as net
 use Rattle.abstract_net.proofs.Net.{Open, find_op, sw_target}
-use Rattle.abstract_net.proofs.Shares.{Open_share, S_install, find_share, share_target}
+use Rattle.abstract_net.proofs.Shares.{Open_share, S_install, share_target}
 use Rattle.net_world.specs.Log.{installed}
 use Rattle.net_world.specs.Places.{handed_on, hands_on_plain, is_at}
+use Rattle.outline_net.proofs.ControlOutline.{Sees}
 use Rattle.outline_net.proofs.FiltersApart.{is_whole, unit_fits, takes_same, takes_whole}
 use Rattle.joined_net.proofs.OwnerLemmas.{owner_after-append, loose_after-append, installed-append}
 use Rattle.whole_joined.proofs.Given.{Given, place, IsPlan, IsInstall, IsDivert, owner_by, loose_by, diverts, is_diverted, target_by}
 use Rattle.whole_joined.proofs.LogLemmas.{diverted_after-append}
-use Rattle.whole_outline.proofs.OpenShares.{SeesAny}
+use Rattle.whole_outline.proofs.OpenShares.{but_shares}
 use Rattle.whole_joined.proofs.Joined.{IsController, S, A}
 
 -- a change of the rules more
@@ -86,7 +87,7 @@ module _ (from i : ℕ) where
   pub diverted_target : (d taken : Bool) → (if taken && ((if d then 1 else instance_node i) == instance_node from) then 1 else (if d then 1 else instance_node i)) ≡ (if d || ((taken && (i == from)) || false) then 1 else instance_node i)
   diverted_target true taken = same_both (taken && (1 == instance_node from))
     where
-      same_both : (b : Bool) → (if b then 1 else 1) ≡ 1
+      same_both : (b : Bool) → ◌≡◌ {A = ℕ} (if b then 1 else 1) 1
       same_both true = refl
       same_both false = refl
   diverted_target false taken = rw same_owner (by_test (taken && (i == from)))
@@ -146,17 +147,13 @@ module _ {R : Type 0} (f : Semantics R) (g : Given) where
 
   -- an open move is plain where its order is
   pub plain_is : (c : ControllerState) (ops : List (Open R)) (shares : List Open_share) (next : ℕ) → IsController f g c ops shares next → (op : ℕ) (e : Open R) → find_op ops op ≡ Some e → e.op.keep ≡ false → (plan : MovePlan) → IsPlan g op plan → plan.keep ≡ false
-  plain_is c ops shares next is op e there plain plan its = by_got (find_share shares op) (finite.get c.operations op) refl (subst (λ o. SeesAny f (place g) g.site o (find_share shares op) (finite.get c.operations op) (stored c.store op)) there (is.opens op))
+  plain_is c ops shares next is op e there plain plan its = by_got (finite.get c.operations op) refl (subst (λ o. Sees f (place g) o (but_shares (finite.get c.operations op)) (stored c.store op)) there (is.opens op).move)
     where
-      by_got : (k : Option Open_share) (o : Option Operation) → finite.get c.operations op ≡ o → SeesAny f (place g) g.site (Some e) k o (stored c.store op) → plan.keep ≡ false
-      by_got None (Some (Move m)) got sees =
+      by_got : (o : Option Operation) → finite.get c.operations op ≡ o → Sees f (place g) (Some e) (but_shares o) (stored c.store op) → plan.keep ≡ false
+      by_got None got sees = absurd sees
+      by_got (Some (Copy y)) got sees = absurd sees
+      by_got (Some (Share s)) got sees = absurd sees
+      by_got (Some (Move m)) got sees =
           let move = is.moves op m got in
           let same : g.orders op ≡ Some (order.Move move.plan.source move.plan.destination m.plan.filter m.plan.keep) = ap g.orders (sym move.op_is) ∙ move.plan.order_is in
           same_keep (sym its.order_is ∙ same) ∙ ap (λ o. o.keep) (sym sees.op) ∙ plain
-      by_got None None got sees = absurd sees
-      by_got None (Some (Copy y)) got sees = absurd sees
-      by_got None (Some (Share s)) got sees = absurd sees
-      by_got (Some k) None got sees = absurd sees
-      by_got (Some k) (Some (Move m)) got sees = absurd sees
-      by_got (Some k) (Some (Copy y)) got sees = absurd sees
-      by_got (Some k) (Some (Share s)) got sees = absurd sees

@@ -34,7 +34,7 @@ module _ (F : Type 0) {R : Type 0} (f : Semantics R) (laws : FunctionLaws f) (al
   pub start_world : IsWorld (started {F = F} {R = R} alloc c items)
   start_world = let few = few_nodes alloc c (first_nodes {F = F} {R = R} alloc c) is.is_config refl in opening_world (first_nodes alloc c) items few.0 few.1
 
-  pub run_joined : Node_leads {F} f (given f c items is) (length c.names + 2) → (cs : List Choice) → IsRun node_ready (node_step f) cs (started {F = F} {R = R} alloc c items) → Joined f (given f c items is) (length c.names + 2) (run (node_step f) cs (started {F = F} {R = R} alloc c items))
+  pub run_joined : Node_leads F f (given f c items is) (length c.names + 2) → (cs : List Choice) → IsRun node_ready (node_step f) cs (started {F = F} {R = R} alloc c items) → Joined f (given f c items is) (length c.names + 2) (run (node_step f) cs (started {F = F} {R = R} alloc c items))
   run_joined leads cs run_is = run_induction node_ready (node_step f) (length c.names + 2) (λ _ w. Joined f (given f c items is) (length c.names + 2) w) (started alloc c items) (λ _ w k next j. joined_next f (given f c items is) (length c.names + 2) refl leads w k next.taking j) start_world (count_at_start F f alloc c items is) (start_joined F f alloc c items is) cs run_is
 
 module _ {R : Type 0} (f : Semantics R) (c : Config) (items : List Msg) (is : IsInput f.kind c items) where

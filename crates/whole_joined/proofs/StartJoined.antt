@@ -179,7 +179,7 @@ module _ {R : Type 0} (f : Semantics R) (c : Config) (items : List Msg) (is : Is
   }
     where
       none : (op : ℕ) → finite.get (opened_controller c.names c.site).operations op ≡ None → SeesAny f (place given) c.site None None (finite.get (opened_controller c.names c.site).operations op) (stored (opened_controller c.names c.site).store op)
-      none op is = rw is tt
+      none op is = rw is (record { move = tt; share = tt })
 
 nothing_carried : (b : Bool) → ◌≡◌ {A = List ℕ} [] (if b then [] else [])
 nothing_carried true = refl

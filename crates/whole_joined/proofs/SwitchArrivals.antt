@@ -56,9 +56,9 @@ goes_is s q target.Controller there = refl
 
 -- no command is among what a packet is sent on in
 none_arrives : {R : Type 0} (f : Semantics R) (g : Given) (t p : ℕ) → asked_nums (sent_for 1 (arrive_sends (S f g) (A f g) t p)) ≡ []
-none_arrives f g t p = elim (t == 1) as (λ b. asked_nums (sent_for 1 (if b then (1, New (Diverted_on p)) ∷ [] else (t, Old (net.Carry_on p)) ∷ [])) ≡ []) [
+none_arrives {R = R} f g t p = elim (t == 1) as (λ b. asked_nums {R = R} (sent_for 1 (if b then (1, New (Diverted_on p)) ∷ [] else (t, Old (net.Carry_on p)) ∷ [])) ≡ []) [
   | true ↦ refl
-  | false ↦ elim (t == 1) as (λ b. asked_nums (if b then Old (net.Carry_on p) ∷ [] else []) ≡ []) [ true ↦ refl | false ↦ refl ]
+  | false ↦ elim (t == 1) as (λ b. asked_nums {R = R} (if b then Old (net.Carry_on p) ∷ [] else []) ≡ []) [ true ↦ refl | false ↦ refl ]
 ]
 
 -- packets that go to the controller are of a unit that a share has
@@ -89,7 +89,11 @@ module _ {F R : Type 0} (f : Semantics R) (g : Given) (n : ℕ) (x : Scene F f g
 
     diverted_of : (u : units.Unit) (b : Bool) → is_of f g u q.number ≡ b → (if x.world.target u == 1 then (if b then q.number ∷ [] else []) else []) ≡ (if b && is_diverted g u (installed x.log) then q.number ∷ [] else [])
     diverted_of u true mine = ap (λ t. if t == 1 then q.number ∷ [] else []) (are.owners u (its_fits u mine)) ∙ ap (λ b. if b then q.number ∷ [] else []) (sent_to_one g u (installed x.log))
-    diverted_of u false mine = elim (x.world.target u == 1) as (λ b. (if b then [] else []) ≡ []) [ true ↦ refl | false ↦ refl ]
+    diverted_of u false mine = none_both (x.world.target u == 1)
+      where
+        none_both : (b : Bool) → ◌≡◌ {A = List ℕ} (if b then [] else []) []
+        none_both true = refl
+        none_both false = refl
 
     came_in : (u : units.Unit) → comes (S f g) (A f g) (is_sys f g.site g.packet) u x.world q.number (came_by f g x.log u) ≡ came_by f g (x.log ++ notes) u
     came_in u =

@@ -1,5 +1,5 @@
 -- The switch's step on a message of a run leads from a world of a run to one.
-use Rattle.std.proofs.Common.{◌≡◌, ◌≢◌, ℕ, ◌-◌, ◌≤◌, true, false, Option, Some, None, List, [], ◌∷◌, ◌++◌, append-nil, refl, sym, ap, ◌∙◌, subst, arith}
+use Rattle.std.proofs.Common.{◌≡◌, ◌≢◌, ℕ, ◌-◌, ◌≤◌, Bool, true, false, Option, Some, None, List, [], ◌∷◌, ◌++◌, append-nil, refl, sym, ap, ◌∙◌, subst, arith}
 use Rattle.std.specs.Prelude.{◌==◌, nat_lt}
 use Rattle.flow_filter.specs.declared.filter.Filter.{Filter}
 use Rattle.flow_filter.specs.declared.packet.Packet.{Packet}
@@ -26,7 +26,7 @@ use Rattle.abstract_net.proofs.Net as net
 use Rattle.abstract_net.proofs.Net.{everything, find_op, links_after, sw_target}
 use Rattle.abstract_net.proofs.UntakenSwitch.{Hands_any}
 use Rattle.abstract_net.proofs.Shares.{Any, Old, New, S_forward, S_install, Whole, whole_switch, share_target}
-use Rattle.whole_net.proofs.EveryAll.{switch_every_all}
+use Rattle.whole_net.proofs.EveryAll.{Every_all, switch_every_all}
 use Rattle.net_world.specs.Nodes.{as_node, node_step}
 use Rattle.net_world.specs.declared.node.Node.TheVariants.{Switch}
 use Rattle.net_world.specs.Log.{arrived, done, installed}
