@@ -83,6 +83,7 @@ ToController s r = (2 ≤ s) × (r ≡ 1)
 
 abbrev pub Input : ℕ → ℕ → Type 0
 Input s r = (s ≡ 0) × (r ≡ 0)
+
 -- a packet is marked as one that the controller handed on, for a move or a share
 abbrev pub is_handed : Mark → Bool
 is_handed mark.Plain = false

@@ -23,11 +23,11 @@ use Rattle.outline_net.proofs.LinkOutline.{shows_taken, shows_unseen}
 use Rattle.whole_joined.proofs.Given.{Given}
 use Rattle.whole_joined.proofs.Joined.{count, Label, shown, Took, node_of, links_next, Scene, Shows, AreShown, Joined, Leads, IsTaken}
 
--- what the nodes' steps give: each leads from a world of a run to one
-abbrev pub Node_leads : (F : Type 0) {R : Type 0} → Semantics R → Given → ℕ → Type 0
-Node_leads F f g n = (x : Scene F f g) (k p : ℕ) (m : Msg) → AreShown f g n x → IsTaken f g n x (record { node = k; port = p; message = m }) → Leads f g n x (record { node = k; port = p; message = m }) (node_step f (node_of x.nodes k) p m)
+-- what the nodes' steps give: each leads from a world of a run to one, where what the step wants beside is so
+abbrev pub Node_leads : (F : Type 0) {R : Type 0} (f : Semantics R) (g : Given) → ℕ → (Scene F f g → Msg → Type 0) → Type 0
+Node_leads F f g n May = (x : Scene F f g) (k p : ℕ) (m : Msg) → AreShown f g n x → IsTaken f g n x (record { node = k; port = p; message = m }) → May x m → Leads f g n x (record { node = k; port = p; message = m }) (node_step f (node_of x.nodes k) p m)
 
-module _ {F R : Type 0} (f : Semantics R) (g : Given) (n : ℕ) (count_is : n ≡ count f g + 2) (leads : Node_leads F f g n) where
+module _ {F R : Type 0} (f : Semantics R) (g : Given) (n : ℕ) (count_is : n ≡ count f g + 2) (May : Scene F f g → Msg → Type 0) (leads : Node_leads F f g n May) where
   abbrev pub step : Node F R → ℕ → Msg → Stepped (Node F R) Msg Note
   step = node_step f
 
@@ -66,8 +66,8 @@ module _ {F R : Type 0} (f : Semantics R) (g : Given) (n : ℕ) (count_is : n �
     abbrev pub did : Stepped (Node F R) Msg Note
     did = step (node_of j.nodes k) p m
 
-    pub step_leads : Leads f g n (scene w j) took did
-    step_leads = leads (scene w j) k p m j.shown_is is_taken
+    pub step_leads : May (scene w j) m → Leads f g n (scene w j) took did
+    step_leads may = leads (scene w j) k p m j.shown_is is_taken may
 
     -- the input after it
     pub input_after : waiting (taken step w (at k p)) (at 0 0) ≡ less_first ((0 == k) && (0 == p)) (waiting w (at 0 0))
@@ -88,9 +88,9 @@ module _ {F R : Type 0} (f : Semantics R) (g : Given) (n : ℕ) (count_is : n �
     links_after_step (Some a) is = rw is (shows_taken (shown f g) step n w k p (node_of j.nodes k) m rest takes j.world.link a j.links is)
     links_after_step None is = rw is (shows_unseen (shown f g) step n w k p (node_of j.nodes k) m rest takes j.world.link j.links is)
 
-    pub joined_after : Joined f g n (taken step w (at k p))
-    joined_after =
-        let l = step_leads in
+    pub joined_after : May (scene w j) m → Joined f g n (taken step w (at k p))
+    joined_after may =
+        let l = step_leads may in
         let left = taken_outcome step n w k p (node_of j.nodes k) m rest takes in
         record {
           nodes = l.nodes;
@@ -106,7 +106,7 @@ module _ {F R : Type 0} (f : Semantics R) (g : Given) (n : ℕ) (count_is : n �
         }
 
   -- a choice of a run
-  pub joined_next : (w : Network (Node F R) Msg Note) (c : Choice) → Taking node_ready step n w c → Joined f g n w → Joined f g n (taken step w c)
-  joined_next w c t j =
+  pub joined_next : (w : Network (Node F R) Msg Note) (c : Choice) (t : Taking node_ready step n w c) (j : Joined f g n w) → May (scene w j) t.message → Joined f g n (taken step w c)
+  joined_next w c t j may =
       let is : t.node ≡ node_of j.nodes c.node = sym (t.takes.node_is t.node) ∙ j.nodes_are c.node t.takes.receiver t.node in
-      joined_after w c.node c.port t.message t.rest j (subst (λ y. Takes step n w c.node c.port y t.message t.rest) is t.takes) (subst (λ y. is_input c ≡ true → node_ready y t.message ≡ true) is t.was_ready)
+      joined_after w c.node c.port t.message t.rest j (subst (λ y. Takes step n w c.node c.port y t.message t.rest) is t.takes) (subst (λ y. is_input c ≡ true → node_ready y t.message ≡ true) is t.was_ready) may

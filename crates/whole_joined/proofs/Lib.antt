@@ -1,6 +1,9 @@
 pub mod ClosingMoves
 pub mod ControllerChanges
+pub mod ControllerCopies
+pub mod ControllerRows
 pub mod ControllerScenes
+pub mod ControllerTurns
 pub mod Given
 pub mod HandedUnits
 pub mod Joined
@@ -9,6 +12,7 @@ pub mod LogLemmas
 pub mod MoveReadings
 pub mod MoveSteps
 pub mod RunsJoined
+pub mod ShareBegins
 pub mod ShareRows
 pub mod ShareTurns
 pub mod StartJoined

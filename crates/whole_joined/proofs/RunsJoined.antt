@@ -3,14 +3,13 @@ use Rattle.std.proofs.Common.{◌≡◌, ℕ, ◌+◌, ◌≤◌, true, false, L
 use Rattle.std.specs.Prelude.{if◌then◌else◌, ◌==◌}
 use Rattle.std.specs.declared.alloc.Global.{Global}
 use Rattle.nf_function.specs.declared.unit.Unit as units
-use Rattle.nf_function.specs.Records.{Laws as FunctionLaws}
 use Rattle.nf_function.specs.Semantics.{Semantics}
 use Rattle.nf_msgs.specs.declared.msg.Msg.{Msg}
 use Rattle.nf_msgs.specs.declared.note.Note.{Note}
 use Rattle.actor_net.specs.declared.choice.Choice.{Choice}
-use Rattle.actor_net.specs.Network.{Network, IsWorld, IsRun, run}
+use Rattle.actor_net.specs.Network.{Network, IsWorld, IsRun, run, taken}
 use Rattle.actor_net.proofs.OpeningWorlds.{opening_world}
-use Rattle.actor_net.proofs.RunInduction.{run_induction}
+use Rattle.actor_net.proofs.RunInduction.{Taking, run_induction}
 use Rattle.unit_machine.proofs.Stages as stages
 use Rattle.abstract_net.proofs.Rest.{done_u}
 use Rattle.abstract_net.proofs.Readings.{In_order}
@@ -27,15 +26,33 @@ use Rattle.outline_net.proofs.Outline.{is_sys}
 use Rattle.net_world.proofs.StartingLemmas.{few_nodes}
 use Rattle.whole_joined.proofs.StartJoined.{given, count_at_start, start_joined}
 use Rattle.whole_joined.proofs.Given.{Given}
-use Rattle.whole_joined.proofs.Joined.{S, A, by_node, came_by, Joined}
-use Rattle.whole_joined.proofs.JoinedSteps.{Node_leads, joined_next}
+use Rattle.whole_joined.proofs.Joined.{S, A, by_node, came_by, Scene, Joined}
+use Rattle.whole_joined.proofs.JoinedSteps.{Node_leads, scene, joined_next}
 
-module _ (F : Type 0) {R : Type 0} (f : Semantics R) (laws : FunctionLaws f) (alloc : Global) (c : Config) (items : List Msg) (is : IsInput f.kind c items) where
+module _ (F : Type 0) {R : Type 0} (f : Semantics R) (alloc : Global) (c : Config) (items : List Msg) (is : IsInput f.kind c items) where
   pub start_world : IsWorld (started {F = F} {R = R} alloc c items)
   start_world = let few = few_nodes alloc c (first_nodes {F = F} {R = R} alloc c) is.is_config refl in opening_world (first_nodes alloc c) items few.0 few.1
 
-  pub run_joined : Node_leads F f (given f c items is) (length c.names + 2) → (cs : List Choice) → IsRun node_ready (node_step f) cs (started {F = F} {R = R} alloc c items) → Joined f (given f c items is) (length c.names + 2) (run (node_step f) cs (started {F = F} {R = R} alloc c items))
-  run_joined leads cs run_is = run_induction node_ready (node_step f) (length c.names + 2) (λ _ w. Joined f (given f c items is) (length c.names + 2) w) (started alloc c items) (λ _ w k next j. joined_next f (given f c items is) (length c.names + 2) refl leads w k next.taking j) start_world (count_at_start F f alloc c items is) (start_joined F f alloc c items is) cs run_is
+  abbrev g : Given
+  g = given f c items is
+
+  abbrev n : ℕ
+  n = length c.names + 2
+
+  abbrev IsJoined : Network (Node F R) Msg Note → Type 0
+  IsJoined w = Joined f g n w
+
+  -- what is kept beside each world of a run, and gives what the steps want
+  module _ (May : Scene F f g → Msg → Type 0) (leads : Node_leads F f g n May) (Beside : (w : Network (Node F R) Msg Note) → IsJoined w → Type 0) (may : (w : Network (Node F R) Msg Note) (j : IsJoined w) → Beside w j → (k : Choice) (t : Taking node_ready (node_step f) n w k) → May (scene f g n refl May leads w j) t.message) where
+    next : (w : Network (Node F R) Msg Note) (j : IsJoined w) → Beside w j → (k : Choice) (t : Taking node_ready (node_step f) n w k) → IsJoined (taken (node_step f) w k)
+    next w j b k t = joined_next f g n refl May leads w k t j (may w j b k t)
+
+    pub record Runs (w : Network (Node F R) Msg Note) : Type 0 where
+      pub joined : IsJoined w
+      pub beside : Beside w joined
+
+    pub run_joined : Beside (started alloc c items) (start_joined F f alloc c items is) → ((w : Network (Node F R) Msg Note) (j : IsJoined w) (b : Beside w j) (k : Choice) (t : Taking node_ready (node_step f) n w k) → Beside (taken (node_step f) w k) (next w j b k t)) → (cs : List Choice) → IsRun node_ready (node_step f) cs (started {F = F} {R = R} alloc c items) → Runs (run (node_step f) cs (started {F = F} {R = R} alloc c items))
+    run_joined first keeps cs run_is = run_induction node_ready (node_step f) n (λ _ w. Runs w) (started alloc c items) (λ _ w k on r. record { joined = next w r.joined r.beside k on.taking; beside = keeps w r.joined r.beside k on.taking }) start_world (count_at_start F f alloc c items is) (record { joined = start_joined F f alloc c items is; beside = first }) cs run_is
 
 module _ {R : Type 0} (f : Semantics R) (c : Config) (items : List Msg) (is : IsInput f.kind c items) where
   abbrev gi : Given

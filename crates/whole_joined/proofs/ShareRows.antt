@@ -38,13 +38,13 @@ each_has P (m ∷ ms) k h is = elim (k == m) as (λ b. (k == m) ≡ b → (if b 
 module _ {R : Type 0} (f : Semantics R) (g : Given) where
   -- the record of one unit
   pub one_chunk : (chunk : Chunk) → IsGoodChunk f g chunk → AreGoodChunks f g (chunk ∷ [])
+  unfolding IsDistinct
   one_chunk chunk good = record { each = (good, tt); distinct = subst (λ es. IsDistinct same_unit (keys_of es)) (sym one) (alone good.chunk.entry) }
     where
       one : entries f (chunk ∷ []) ≡ good.chunk.entry ∷ []
       one = let spells = good.chunk.spells in rw spells refl
 
       alone : (e : units.Unit × R) → IsDistinct same_unit (keys_of (e ∷ []))
-      unfolding IsDistinct
       alone e = (tt, tt)
 
   -- what a row leaves of a share's phase, and sends
