@@ -1,3 +1,4 @@
+pub mod ChunksHandedOn
 pub mod ClosingMoves
 pub mod ControllerChanges
 pub mod ControllerCopies
@@ -23,6 +24,7 @@ pub mod ShareBegins
 pub mod ShareRows
 pub mod ShareTurns
 pub mod StandbyChunks
+pub mod StandbyFronts
 pub mod StartJoined
 pub mod SwitchArrivals
 pub mod SwitchLemmas
