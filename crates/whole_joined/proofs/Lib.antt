@@ -1,4 +1,5 @@
 pub mod ClosingMoves
+pub mod ControllerBegins
 pub mod ControllerChanges
 pub mod ControllerCopies
 pub mod ControllerRows
