@@ -1,5 +1,6 @@
 pub mod ChunksHandedOn
 pub mod ClosingMoves
+pub mod ControllerBegins
 pub mod ControllerChanges
 pub mod ControllerCopies
 pub mod ControllerRows

@@ -44,7 +44,7 @@ module _ (F : Type 0) {R : Type 0} (f : Semantics R) (alloc : Global) (c : Confi
 
   -- what is kept beside each world of a run, and gives what the steps want
   module _ (May : Scene F f g → Msg → Type 0) (leads : Node_leads F f g n May) (Beside : (w : Network (Node F R) Msg Note) → IsJoined w → Type 0) (may : (w : Network (Node F R) Msg Note) (j : IsJoined w) → Beside w j → (k : Choice) (t : Taking node_ready (node_step f) n w k) → May (scene f g n refl May leads w j) t.message) where
-    next : (w : Network (Node F R) Msg Note) (j : IsJoined w) → Beside w j → (k : Choice) (t : Taking node_ready (node_step f) n w k) → IsJoined (taken (node_step f) w k)
+    pub next : (w : Network (Node F R) Msg Note) (j : IsJoined w) → Beside w j → (k : Choice) (t : Taking node_ready (node_step f) n w k) → IsJoined (taken (node_step f) w k)
     next w j b k t = joined_next f g n refl May leads w k t j (may w j b k t)
 
     pub record Runs (w : Network (Node F R) Msg Note) : Type 0 where
