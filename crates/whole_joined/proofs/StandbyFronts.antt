@@ -1,6 +1,6 @@
 -- The records of a copy's chunks on their way to the destination are folds of fronts of what was done: they were, where they came to the
 -- controller, and so they stay.
-use Rattle.std.proofs.Common.{◌≡◌, ℕ, zero, suc, ◌+◌, ◌<◌, ◌≤◌, Bool, true, false, Some, List, [], ◌∷◌, ◌++◌, refl, sym, ap, ◌∙◌, subst, arith}
+use Rattle.std.proofs.Common.{◌≡◌, ℕ, zero, suc, ◌+◌, ◌<◌, ◌≤◌, Bool, true, false, Some, List, [], ◌∷◌, ◌++◌, length, refl, sym, ap, ◌∙◌, subst, arith}
 use Rattle.std.specs.Prelude.{◌&&◌, ◌==◌}
 use Rattle.std.proofs.lemmas.Bool.Decides.{nat_tests}
 use Rattle.nf_function.specs.declared.chunk.Chunk.{Chunk}
@@ -10,9 +10,11 @@ use Rattle.nf_msgs.specs.declared.msg.Msg.{Msg}
 use Rattle.nf_msgs.specs.declared.msg.Msg.TheVariants as msg
 use Rattle.nf_msgs.specs.declared.note.Note.{Note}
 use Rattle.ctrl_node.specs.Controller.{controller_step}
+use Rattle.actor_net.specs.declared.choice.Choice.{Choice}
 use Rattle.actor_net.specs.Network.{Network, Stepped, is_input, waiting, taken}
 use Rattle.actor_net.proofs.EnabledChoices.{at}
 use Rattle.actor_net.proofs.StepOutcome.{Takes}
+use Rattle.actor_net.proofs.RunInduction.{Taking}
 use Rattle.actor_net.proofs.WeightLaws.{Each, OnLinks, EachSent, on_links_after}
 use Rattle.unit_machine.proofs.Real.{record_at}
 use Rattle.abstract_net.proofs.Shares.{Any, New, Share_msg, S_chunks, S_shared, Whole, Each_new, ran_of}
@@ -27,7 +29,7 @@ use Rattle.whole_joined.proofs.LogLemmas.{by_node-append}
 use Rattle.whole_joined.proofs.StandbyChunks.{AreFronted, AreUnshared, MayStandBy, none_fronted, fronted_later}
 use Rattle.whole_joined.proofs.Given.{Given}
 use Rattle.whole_joined.proofs.Joined.{S, A, by_node, count, shown, node_of, Label, Scene, AreShown, Took, IsTaken, Leads, Joined}
-use Rattle.whole_joined.proofs.JoinedSteps.{Node_leads, scene, is_taken, step_leads, joined_after}
+use Rattle.whole_joined.proofs.JoinedSteps.{Node_leads, scene, is_taken, step_leads, joined_after, after_world, takes_at, ready_at, joined_next, next_is}
 
 -- the chunks that a message brings to stand by
 abbrev pub kept_of : Msg → List Chunk
@@ -119,7 +121,33 @@ module _ {F R : Type 0} (f : Semantics R) (g : Given) (n : ℕ) where
         let is = is_taken f g n count_is May leads w k p m rest j takes was_ready in
         let l = step_leads f g n count_is May leads w k p m rest j takes was_ready may in
         record {
-          each = on_links_after (λ s r y. AreFronted f g l.world (kept_of y)) (node_step f) n w k p (node_of j.nodes k) m rest takes
+          each = subst (λ v. OnLinks (λ s r y. AreFronted f g v (kept_of y)) (taken (node_step f) w (at k p))) (sym (after_world f g n count_is May leads w k p m rest j takes was_ready may))
+              (on_links_after (λ s r y. AreFronted f g l.world (kept_of y)) (node_step f) n w k p (node_of j.nodes k) m rest takes
               (λ s r hs hr. each_weaker (λ y. still_fronted f g n x k p m j.shown_is is (node_step f (node_of j.nodes k) p m) l (kept_of y)) (waiting w (at r s)) (h.each s r hs hr))
-              (node_keeps f g n x p j.shown_is k m is l);
+              (node_keeps f g n x p j.shown_is k m is l));
         }
+
+  -- after a choice of a run
+  module _ (count_is : n ≡ count f g + 2) (May : Scene F f g → Msg → Type 0) (leads : Node_leads F f g n May) (w : Network (Node F R) Msg Note) (c : Choice) (t : Taking node_ready (node_step f) n w c) (j : Joined f g n w) where
+    pub kept_fronts_next : AreKeptFronts w j → (may : May (scene f g n count_is May leads w j) t.message) → AreKeptFronts (taken (node_step f) w c) (joined_next f g n count_is May leads w c t j may)
+    kept_fronts_next h may = subst (λ after. AreKeptFronts (taken (node_step f) w c) after) (sym (next_is f g n count_is May leads w c t j may)) (kept_fronts_after count_is May leads w c.node c.port t.message t.rest j (takes_at f g n count_is May leads w c t j) (ready_at f g n count_is May leads w c t j) h may)
+
+    -- chunks of no unit that a share takes may then stand by
+    pub may_stand_by : AreKeptFronts w j → (op : ℕ) (chunks : List Chunk) → t.message ≡ msg.Standby op chunks → AreUnshared f g j.world chunks → MayStandBy f g j.world chunks
+    may_stand_by h op chunks is unshared = record {
+      fronts = subst (λ m. AreFronted f g j.world (kept_of m)) is (taken_front count_is May leads w c.node c.port t.message t.rest j (takes_at f g n count_is May leads w c t j) (ready_at f g n count_is May leads w c t j) h);
+      unshared = unshared;
+    }
+
+  -- at the start no chunks are on their way
+  pub no_kept_fronts : (w : Network (Node F R) Msg Note) (j : Joined f g n w) → ((s r : ℕ) → s < length w.nodes → r < length w.nodes → (s == 1) ≡ true → waiting w (at r s) ≡ []) → AreKeptFronts w j
+  no_kept_fronts w j empty = record {
+    each = λ s r hs hr. elim (s == 1) as (λ b. (s == 1) ≡ b → Each (λ m. AreFronted f g j.world (kept_of m)) (waiting w (at r s))) [
+      | true ↦ λ one. subst (λ ms. Each (λ m. AreFronted f g j.world (kept_of m)) ms) (sym (empty s r hs hr one)) tt
+      | false ↦ λ off. all_none s r off (waiting w (at r s)) (j.labels s r hs hr)
+    ] refl
+  }
+    where
+      all_none : (s r : ℕ) → (s == 1) ≡ false → (ms : List Msg) → Each (Label f g s r) ms → Each (λ m. AreFronted f g j.world (kept_of m)) ms
+      all_none s r off [] h = tt
+      all_none s r off (m ∷ ms) h = (none_kept f g (AreFronted f g j.world) (none_fronted f g j.world) s r off m h.0, all_none s r off ms h.1)
