@@ -19,6 +19,7 @@ pub mod JoinedSteps
 pub mod LogLemmas
 pub mod MoveReadings
 pub mod MoveSteps
+pub mod OperationsApart
 pub mod RunUnits
 pub mod RunsJoined
 pub mod ShareBegins
