@@ -5,7 +5,9 @@ pub mod ControllerCopies
 pub mod ControllerRows
 pub mod ControllerScenes
 pub mod ControllerTurns
+pub mod CopyAnswers
 pub mod CopyRows
+pub mod CopySends
 pub mod Given
 pub mod HandedUnits
 pub mod InstanceKeeps
