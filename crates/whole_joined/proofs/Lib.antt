@@ -1,4 +1,5 @@
 pub mod ClosingMoves
+pub mod ControllerAsked
 pub mod ControllerBegins
 pub mod ControllerChanges
 pub mod ControllerCopies
