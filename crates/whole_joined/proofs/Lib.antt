@@ -13,5 +13,6 @@ pub mod MoveReadings
 pub mod MoveSteps
 pub mod ShareBegins
 pub mod ShareRows
+pub mod ShareSteps
 pub mod ShareTurns
 pub mod UnitCounts
