@@ -36,7 +36,7 @@ use Rattle.whole_outline.proofs.OpenShares.{StepFollows}
 use Rattle.whole_outline.proofs.BeginsAll.{share_begun}
 use Rattle.whole_joined.proofs.ShareBegins.{place_tells, names_distinct, few_placed, all_apart, FirstKnown, first_known, unknown}
 use Rattle.whole_joined.proofs.ControllerScenes.{RowLeads, links_by, waits}
-use Rattle.whole_joined.proofs.ControllerBegins.{no_overlap, none_unknown, controller_begun, listed_begun, IsNext, Leads_to, stays_still, answered, shares_apart, moves_apart, rises, link_left, link_same, move_begins, copy_begins}
+use Rattle.whole_joined.proofs.ControllerBegins.{no_overlap, none_unknown, controller_begun, listed_begun, Order_next, Leads_to, stays_still, answered, shares_apart, moves_apart, rises, link_left, link_same, move_begins, copy_begins}
 use Rattle.whole_joined.proofs.Given.{Given, place}
 use Rattle.whole_joined.proofs.Joined.{Scene, AreShown, IsTaken, IsController, IsShare, Label, S, A, count, shown, is_built, are_unlike, commands, came_by, asked_nums}
 
@@ -151,13 +151,8 @@ module _ {F R : Type 0} (f : Semantics R) (g : Given) (n : ℕ) (x : Scene F f g
     share_begins : Leads (begins c cmd.op (order.Share (name ∷ others) filter))
     share_begins = subst Leads (sym did_is) begins_well
 
-  -- what a command of a copy needs beside the world: that its number, and those behind it, are new
-  abbrev pub Copies_next : Order → Type 0
-  Copies_next (order.Copy src dst filter) = IsNext f g x cmd
-  Copies_next what = Unit {0}
-
   -- a command that isn't refused
-  begins_row : (what : Order) → cmd.what ≡ what → Copies_next what → finite.get c.operations cmd.op ≡ None → refusal c what ≡ None → Leads (begins c cmd.op what)
+  begins_row : (what : Order) → cmd.what ≡ what → Order_next f g x cmd what → finite.get c.operations cmd.op ≡ None → refusal c what ≡ None → Leads (begins c cmd.op what)
   begins_row (order.Share [] filter) e next none fine =
       let bad : is_built f g (order.Share [] filter) ≡ true = ap (is_built f g) (sym e) ∙ is.label.2.built in
       let never : false ≡ true = and_r (is_whole f.kind filter) false bad in
@@ -176,7 +171,7 @@ module _ {F R : Type 0} (f : Semantics R) (g : Given) (n : ℕ) (x : Scene F f g
       by_places (Some from) None from_is to_is = stays_still f g n x p cmd are is
       by_places None b from_is to_is = stays_still f g n x p cmd are is
 
-  pub asked_leads : Copies_next cmd.what → Leads (if p == switch_node then on_asked c cmd else still c)
+  pub asked_leads : Order_next f g x cmd cmd.what → Leads (if p == switch_node then on_asked c cmd else still c)
   asked_leads next = elim (p == switch_node) as (λ b. Leads (if b then on_asked c cmd else still c)) [
     | true ↦ by_open (finite.get c.operations cmd.op) refl
     | false ↦ stays_still f g n x p cmd are is

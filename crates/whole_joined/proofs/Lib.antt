@@ -5,9 +5,11 @@ pub mod ControllerChanges
 pub mod ControllerCopies
 pub mod ControllerRows
 pub mod ControllerScenes
+pub mod ControllerSteps
 pub mod ControllerTurns
 pub mod Given
 pub mod Joined
+pub mod KnownOperations
 pub mod LogLemmas
 pub mod MoveReadings
 pub mod MoveSteps
