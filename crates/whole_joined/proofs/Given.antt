@@ -1,5 +1,5 @@
 -- What a run is given, the plans of its commands, and to which node the packets of a unit go behind commands that were installed.
-use Rattle.std.proofs.Common.{◌≡◌, ℕ, Bool, true, false, Option, Some, None, List, [], ◌∷◌, ◌++◌}
+use Rattle.std.proofs.Common.{◌≡◌, ℕ, Bool, false, Option, Some, List, [], ◌∷◌, ◌++◌}
 use Rattle.std.specs.Prelude.{if◌then◌else◌, ◌&&◌, ◌||◌}
 use Rattle.std.specs.List.{filter_map}
 use Rattle.flow_filter.specs.declared.filter.Filter.{Filter}

@@ -8,7 +8,6 @@ use Rattle.std.specs.Str.{bytes_eq}
 use Rattle.std.specs.FinMap as finite
 use Rattle.flow_filter.specs.declared.filter.Filter.{Filter}
 use Rattle.flow_filter.specs.declared.packet.Packet.{Packet}
-use Rattle.flow_filter.specs.declared.site.Site.{Site}
 use Rattle.nf_function.specs.declared.chunk.Chunk.{Chunk}
 use Rattle.nf_function.specs.declared.unit.Unit as units
 use Rattle.nf_function.specs.Semantics.{Semantics, unit_at}
@@ -32,15 +31,15 @@ use Rattle.move_op.specs.declared.door.Door.{Door}
 use Rattle.move_op.specs.declared.door.Door.TheVariants as door
 use Rattle.move_op.specs.declared.phase.Phase.{Phase}
 use Rattle.move_op.specs.declared.phase.Phase.TheVariants as phase
-use Rattle.move_op.specs.Move.{MovePlan, MoveState, answer_of}
+use Rattle.move_op.specs.Move.{MoveState, answer_of}
 use Rattle.copy_share.specs.Copy.{CopyPlan, CopyState}
 use Rattle.copy_share.specs.Copy as copy
-use Rattle.copy_share.specs.Share.{SharePlan, ShareState, home}
+use Rattle.copy_share.specs.Share.{ShareState, home}
 use Rattle.copy_share.specs.declared.share_phase.SharePhase.{SharePhase}
 use Rattle.copy_share.specs.declared.share_phase.SharePhase.TheVariants.{Out}
 use Rattle.switch_node.specs.Switch.{SwitchState, takes_in}
 use Rattle.ctrl_node.specs.declared.operation.Operation.TheVariants.{Move, Copy, Share}
-use Rattle.ctrl_node.specs.Controller.{ControllerState, place_of}
+use Rattle.ctrl_node.specs.Controller.{ControllerState}
 use Rattle.instance_worker.specs.declared.instance.Instance.{Instance as InstanceState}
 use Rattle.actor_net.specs.Network.{Network, Stepped, waiting}
 use Rattle.actor_net.proofs.EnabledChoices.{at}

@@ -27,13 +27,7 @@ use Rattle.outline_net.proofs.OperationTables.{got_insert}
 use Rattle.whole_outline.proofs.WholeOutline.{members_of, share_between, want_share_of, outline_all}
 use Rattle.whole_outline.proofs.AskedShare.{is_more}
 use Rattle.whole_outline.proofs.ShareOutline.{SeesShare}
-use Rattle.whole_outline.proofs.OpenShares.{Table, SeesAny, OpensAll, opens_at, unseen_at, no_op, no_open_share, StepFollows}
-
-self : (n : ℕ) → (n == n) ≡ true
-self n = grind (arith, nat_tests)
-
-turned_test : (k n : ℕ) → (k == n) ≡ false → (n == k) ≡ false
-turned_test k n off = grind (arith, nat_tests, off)
+use Rattle.whole_outline.proofs.OpenShares.{self, turned_test, Table, SeesAny, OpensAll, opens_at, unseen_at, no_op, no_open_share, StepFollows}
 
 -- a move more
 ops_new : {R : Type 0} (es : List (Open R)) (y : Open R) (n : ℕ) → (y.op.num == n) ≡ true → find_op es n ≡ None → find_op (es ++ y ∷ []) n ≡ Some y

@@ -1,10 +1,10 @@
 -- The controller's open operations as the network with shares sees them: moves and shares by their numbers, copies not at all; what a change
 -- at one number leaves of the others; and the controller without its shares, which is one of moves alone.
-use Rattle.std.proofs.Common.{◌≡◌, ℕ, Bool, true, false, cond, Option, Some, None, List, ◌++◌, refl, sym, ap, ◌∙◌, subst}
+use Rattle.std.proofs.Common.{◌≡◌, ℕ, Bool, true, false, cond, Option, Some, None, List, ◌++◌, refl, sym, ap, ◌∙◌, subst, arith}
 use Rattle.std.specs.Prelude.{◌==◌}
 use Rattle.std.specs.FinMap as finite
 use Rattle.std.specs.FinMap.{nat_cmp-IsAntisymmetric}
-use Rattle.std.proofs.lemmas.Bool.Decides.{Decides-eqb}
+use Rattle.std.proofs.lemmas.Bool.Decides.{nat_tests, Decides-eqb}
 use Rattle.flow_filter.specs.declared.packet.Packet.{Packet}
 use Rattle.flow_filter.specs.declared.site.Site.{Site}
 use Rattle.nf_function.specs.Semantics.{Semantics}
@@ -20,6 +20,13 @@ use Rattle.outline_net.proofs.Outline.{sys}
 use Rattle.outline_net.proofs.ControlOutline.{Sees, Opens}
 use Rattle.whole_outline.proofs.WholeOutline.{outline_all, sharing}
 use Rattle.whole_outline.proofs.ShareOutline.{SeesShare}
+
+-- tests of numbers
+pub self : (n : ℕ) → (n == n) ≡ true
+self n = grind (arith, nat_tests)
+
+pub turned_test : (k n : ℕ) → (k == n) ≡ false → (n == k) ≡ false
+turned_test k n off = grind (arith, nat_tests, off)
 
 -- an operation that isn't a share
 abbrev pub but_shares : Option Operation → Option Operation

@@ -34,14 +34,8 @@ use Rattle.outline_net.proofs.ControlOutline.{Sees, SeesMove, Opens, TurnFollows
 use Rattle.outline_net.proofs.OperationTables.{got_insert, got_remove, gone_twice, insert_same, NotShared, handed_is}
 use Rattle.whole_outline.proofs.WholeOutline.{outline_all}
 use Rattle.whole_outline.proofs.MoveSends.{AreOld, old-put, row_old}
-use Rattle.whole_outline.proofs.OpenShares.{but_shares, share_in, Is_unseen, Table, SeesOne, SeesAny, OpensAll, opens_at, unseen_at, no_open_share, without_shares, got_moves, opens_moves, StepFollows}
+use Rattle.whole_outline.proofs.OpenShares.{self, turned_test, but_shares, share_in, Is_unseen, Table, SeesOne, SeesAny, OpensAll, opens_at, unseen_at, no_open_share, without_shares, got_moves, opens_moves, StepFollows}
 use Rattle.whole_outline.proofs.ShareTurns.{answer_unseen}
-
-self : (n : ℕ) → (n == n) ≡ true
-self n = grind (arith, nat_tests)
-
-turned_test : (k n : ℕ) → (k == n) ≡ false → (n == k) ≡ false
-turned_test k n off = grind (arith, nat_tests, off)
 
 -- found by its own number
 found_op : {R : Type 0} (es : List (Open R)) (n : ℕ) (e : Open R) → find_op es n ≡ Some e → (e.op.num == n) ≡ true

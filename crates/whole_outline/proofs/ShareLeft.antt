@@ -22,9 +22,7 @@ use Rattle.ctrl_node.specs.Operations.{turn_of, shared, serving_of}
 use Rattle.ctrl_node.specs.Controller.{ControllerState, Step, turned, after_turn, takes_turn, serves, and_serves, handed, queued}
 use Rattle.unit_machine.proofs.Labels.{Each}
 use Rattle.outline_net.proofs.OperationTables.{got_insert}
-
-pub self : (n : ℕ) → (n == n) ≡ true
-self n = grind (arith, nat_tests)
+use Rattle.whole_outline.proofs.OpenShares.{self}
 
 -- an open share of a controller, with what waits for it
 pub record OpenAt : Type 0 where

@@ -31,11 +31,8 @@ use Rattle.outline_net.proofs.ControlOutline.{Sees, stored_after}
 use Rattle.outline_net.proofs.OperationTables.{got_insert}
 use Rattle.whole_outline.proofs.WholeOutline.{outline_each, outline_all, sharing}
 use Rattle.whole_outline.proofs.ShareOutline.{share_phase, SeesShare, ShareFollows, sees_after, rests_served}
-use Rattle.whole_outline.proofs.ShareLeft.{self, OpenAt, answered, next_share, still_waits, ShareLeaves, handed_leaves, queued_leaves}
-use Rattle.whole_outline.proofs.OpenShares.{but_shares, Table, Elsewhere, SeesAny, OpensAll, opens_at, sees_none, StepFollows}
-
-turned_test : (k n : ℕ) → (k == n) ≡ false → (n == k) ≡ false
-turned_test k n off = grind (arith, nat_tests, off)
+use Rattle.whole_outline.proofs.ShareLeft.{OpenAt, answered, next_share, still_waits, ShareLeaves, handed_leaves, queued_leaves}
+use Rattle.whole_outline.proofs.OpenShares.{self, turned_test, but_shares, Table, Elsewhere, SeesAny, OpensAll, opens_at, sees_none, StepFollows}
 
 module _ {R : Type 0} (f : Semantics R) (at : Site) (packet : ℕ → Packet) (place : List ℕ → Option ℕ) where
   abbrev S : Sys R
