@@ -130,6 +130,15 @@ pub record IsNext {F R : Type 0} (f : Semantics R) (g : Given) (x : Scene F f g)
   pub fresh : x.world.next ≤ cmd.op
   pub later : Rising (suc cmd.op) (asked_nums (x.world.link 0 1) ++ commands f g x.input)
 
+-- what the step on a message needs beside the world: where a copy is asked for, that its number and those behind it are new
+abbrev pub Order_next : {F R : Type 0} (f : Semantics R) (g : Given) → Scene F f g → Command → Order → Type 0
+Order_next f g x cmd (order.Copy src dst filter) = IsNext f g x cmd
+Order_next f g x cmd what = Unit {0}
+
+abbrev pub Copies_next : {F R : Type 0} (f : Semantics R) (g : Given) → Scene F f g → Msg → Type 0
+Copies_next f g x (msg.Asked cmd) = Order_next f g x cmd cmd.what
+Copies_next f g x m = Unit {0}
+
 -- The step on a command.
 module _ {F R : Type 0} (f : Semantics R) (g : Given) (n : ℕ) (x : Scene F f g) (p : ℕ) (cmd : Command) (are : AreShown f g n x) (is : IsTaken f g n x (record { node = 1; port = p; message = msg.Asked cmd })) where
   abbrev c : ControllerState
