@@ -8,7 +8,8 @@ use Rattle.nf_function.specs.declared.chunk.Chunk.{Chunk}
 use Rattle.nf_function.specs.Semantics.{Semantics, unit_at}
 use Rattle.state_chunk.specs.declared.fault.ChunkFault.{ChunkFault}
 use Rattle.state_chunk.specs.Reading.{tally_read}
-use Rattle.record_table.specs.Chunks.{are_good, record_chunk}
+use Rattle.record_table.specs.Chunks.{are_good}
+use Rattle.state_chunk.specs.Format.{record_chunk}
 use Rattle.record_table.specs.Table.{part}
 use Rattle.event_filter.specs.declared.decide.Decide.{Decide}
 use Rattle.event_filter.specs.declared.decide.Decide.TheVariants as decide
@@ -22,7 +23,7 @@ use Rattle.nf_msgs.specs.declared.msg.Msg.{Msg}
 use Rattle.nf_msgs.specs.declared.msg.Msg.TheVariants as msg
 use Rattle.instance_worker.specs.declared.instance.Instance.{Instance}
 use Rattle.instance_worker.specs.Pieces.{pieces}
-use Rattle.instance_worker.specs.Instance.{Step, told, and_then, tells, still, chunk_told, table_after, with_count, processed, all_processed, carried, on_carry, on_fence, on_get, on_stream, on_put, on_restore, on_standby, on_put_all, on_sync, tally_put, refusal, piece_put, where_good, with_standby, kept, tells_and_notes, instance_step, selected}
+use Rattle.instance_worker.specs.Instance.{Step, told, still, chunk_told, table_after, with_count, processed, all_processed, carried, on_carry, on_fence, on_get, on_stream, on_put, on_restore, on_standby, on_put_all, on_sync, tally_put, refusal, piece_put, where_good, with_standby, kept, tells_and_notes, instance_step, selected}
 use Rattle.unit_machine.proofs.Labels.{Each, each-append}
 
 -- not a message by which a copy goes on, but for those of the all-flows state that ask and give
@@ -51,7 +52,7 @@ pieces_sent op (p ∷ ps) = (refl, pieces_sent op ps)
 
 told_sent : (op : ℕ) (cell : FullCell) (o : Option Chunk) → AreUncopied (told (chunk_told op o) ++ (0, msg.Credit cell) ∷ [])
 told_sent op cell None = (refl, tt)
-told_sent op cell (Some chunk) = (refl, refl, tt)
+told_sent op cell (Some chunk) = (refl, (refl, tt))
 
 module _ {F R : Type 0} (f : Semantics R) where
   processed_sent : (i : Instance F R) (m : Mark) (cell : FullCell) → AreUncopied (processed f i m cell).sends
