@@ -1,12 +1,15 @@
-pub mod ChunksHandedOn
 pub mod ClosingMoves
+pub mod ControllerAsked
 pub mod ControllerBegins
 pub mod ControllerChanges
 pub mod ControllerCopies
 pub mod ControllerRows
 pub mod ControllerScenes
+pub mod ControllerSteps
 pub mod ControllerTurns
+pub mod CopyAnswers
 pub mod CopyRows
+pub mod CopySends
 pub mod Given
 pub mod HandedUnits
 pub mod InstanceKeeps
@@ -16,6 +19,7 @@ pub mod InstanceSends
 pub mod InstanceSteps
 pub mod Joined
 pub mod JoinedSteps
+pub mod KnownOperations
 pub mod LogLemmas
 pub mod MoveReadings
 pub mod MoveSteps
@@ -24,6 +28,7 @@ pub mod RunUnits
 pub mod RunsJoined
 pub mod ShareBegins
 pub mod ShareRows
+pub mod ShareSteps
 pub mod ShareTurns
 pub mod StandbyChunks
 pub mod StandbyFronts
