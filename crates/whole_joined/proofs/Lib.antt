@@ -21,6 +21,7 @@ pub mod KnownOperations
 pub mod LogLemmas
 pub mod MoveReadings
 pub mod MoveSteps
+pub mod NextNumbers
 pub mod RunUnits
 pub mod RunsJoined
 pub mod ShareBegins
