@@ -105,8 +105,25 @@ module _ {F R : Type 0} (f : Semantics R) (g : Given) (n : ℕ) (count_is : n �
               (subst (λ q. AreShown f g n (record { nodes = l.nodes; world = l.world; log = w.log ++ did.notes; input = q })) (sym input_after) l.shown_is);
         }
 
-  -- a choice of a run
-  pub joined_next : (w : Network (Node F R) Msg Note) (c : Choice) (t : Taking node_ready step n w c) (j : Joined f g n w) → May (scene w j) t.message → Joined f g n (taken step w c)
-  joined_next w c t j may =
-      let is : t.node ≡ node_of j.nodes c.node = sym (t.takes.node_is t.node) ∙ j.nodes_are c.node t.takes.receiver t.node in
-      joined_after w c.node c.port t.message t.rest j (subst (λ y. Takes step n w c.node c.port y t.message t.rest) is t.takes) (subst (λ y. is_input c ≡ true → node_ready y t.message ≡ true) is t.was_ready) may
+    -- its world
+    pub after_world : (may : May (scene w j) m) → (joined_after may).world ≡ (step_leads may).world
+    unfolding joined_after
+    after_world may = refl
+
+  -- a choice of a run: what it takes, and where it leads
+  module _ (w : Network (Node F R) Msg Note) (c : Choice) (t : Taking node_ready step n w c) (j : Joined f g n w) where
+    node_same : t.node ≡ node_of j.nodes c.node
+    node_same = sym (t.takes.node_is t.node) ∙ j.nodes_are c.node t.takes.receiver t.node
+
+    pub takes_at : Takes step n w c.node c.port (node_of j.nodes c.node) t.message t.rest
+    takes_at = subst (λ y. Takes step n w c.node c.port y t.message t.rest) node_same t.takes
+
+    pub ready_at : is_input c ≡ true → node_ready (node_of j.nodes c.node) t.message ≡ true
+    ready_at = subst (λ y. is_input c ≡ true → node_ready y t.message ≡ true) node_same t.was_ready
+
+    pub joined_next : May (scene w j) t.message → Joined f g n (taken step w c)
+    joined_next may = joined_after w c.node c.port t.message t.rest j takes_at ready_at may
+
+    pub next_is : (may : May (scene w j) t.message) → joined_next may ≡ joined_after w c.node c.port t.message t.rest j takes_at ready_at may
+    unfolding joined_next
+    next_is may = refl

@@ -1,3 +1,4 @@
+pub mod ChunksHandedOn
 pub mod ClosingMoves
 pub mod ControllerAsked
 pub mod ControllerBegins
@@ -29,6 +30,7 @@ pub mod ShareRows
 pub mod ShareSteps
 pub mod ShareTurns
 pub mod StandbyChunks
+pub mod StandbyFronts
 pub mod StartJoined
 pub mod SwitchArrivals
 pub mod SwitchLemmas
