@@ -1,3 +1,4 @@
+pub mod ChunksHandedOn
 pub mod ClosingMoves
 pub mod ControllerAsked
 pub mod ControllerBegins
@@ -23,6 +24,8 @@ pub mod KnownOperations
 pub mod LogLemmas
 pub mod MoveReadings
 pub mod MoveSteps
+pub mod NextNumbers
+pub mod NodeSteps
 pub mod RunUnits
 pub mod RunsJoined
 pub mod ShareBegins
@@ -30,6 +33,7 @@ pub mod ShareRows
 pub mod ShareSteps
 pub mod ShareTurns
 pub mod StandbyChunks
+pub mod StandbyFronts
 pub mod StartJoined
 pub mod SwitchArrivals
 pub mod SwitchLemmas

@@ -1,6 +1,6 @@
 -- The chunks of a copy that an instance is to keep: their records are folds of fronts of what was done, and no share takes their units. So
 -- what stands by after them may be kept.
-use Rattle.std.proofs.Common.{◌≡◌, ℕ, None, List, ◌++◌, sym, ap, ◌∙◌, subst}
+use Rattle.std.proofs.Common.{◌≡◌, ℕ, None, List, [], ◌++◌, refl, sym, ap, ◌∙◌, subst}
 use Rattle.std.specs.FinMap as finite
 use Rattle.nf_function.specs.declared.chunk.Chunk.{Chunk}
 use Rattle.nf_function.specs.declared.unit.Unit as units
@@ -11,7 +11,7 @@ use Rattle.unit_machine.proofs.Real.{record_at}
 use Rattle.abstract_net.proofs.GlobalAll.{Takes_some}
 use Rattle.abstract_net.proofs.Shares.{Whole, ran_of}
 use Rattle.whole_net.proofs.WhereAll.{Came}
-use Rattle.whole_net.proofs.Fronts.{Front_of, front_more, ran_more}
+use Rattle.whole_net.proofs.Fronts.{Front_of, front_none, front_more, ran_more}
 use Rattle.whole_net.proofs.EveryAll.{Every_all, May_keep}
 use Rattle.outline_net.proofs.Outline.{entries, is_sys}
 use Rattle.whole_outline.proofs.MemberTables.{kept_has, kept_same}
@@ -19,16 +19,25 @@ use Rattle.whole_joined.proofs.Given.{Given}
 use Rattle.whole_joined.proofs.Joined.{S, A}
 
 module _ {R : Type 0} (f : Semantics R) (g : Given) where
-  pub record MayStandBy (w : Whole (S f g) (A f g)) (chunks : List Chunk) : Type 0 where
-    pub fronts : (u : units.Unit) → Front_of (S f g) (A f g) (is_sys f g.site g.packet) u (ran_of (S f g) (A f g) u w.done) (record_at u (entries f chunks))
-    pub unshared : (u : units.Unit) → Takes_some (S f g) w.shares u → record_at u (entries f chunks) ≡ None
+  -- their records are such folds
+  abbrev pub AreFronted : Whole (S f g) (A f g) → List Chunk → Type 0
+  AreFronted w chunks = (u : units.Unit) → Front_of (S f g) (A f g) (is_sys f g.site g.packet) u (ran_of (S f g) (A f g) u w.done) (record_at u (entries f chunks))
 
-  -- they may stand by later, too, while the same shares are open
-  pub may_later : (w next : Whole (S f g) (A f g)) (chunks : List Chunk) (more : List (ℕ × ℕ)) → next.done ≡ w.done ++ more → next.shares ≡ w.shares → MayStandBy w chunks → MayStandBy next chunks
-  may_later w next chunks more done shares may = record {
-    fronts = λ u. subst (λ ds. Front_of (S f g) (A f g) (is_sys f g.site g.packet) u ds (record_at u (entries f chunks))) (sym (ap (ran_of (S f g) (A f g) u) done ∙ ran_more (S f g) (A f g) (is_sys f g.site g.packet) u w.done more)) (front_more (S f g) (A f g) (is_sys f g.site g.packet) u (ran_of (S f g) (A f g) u w.done) (ran_of (S f g) (A f g) u more) (record_at u (entries f chunks)) (may.fronts u));
-    unshared = λ u takes. may.unshared u (subst (λ es. Takes_some (S f g) es u) shares takes);
-  }
+  -- none is of a unit that a share takes
+  abbrev pub AreUnshared : Whole (S f g) (A f g) → List Chunk → Type 0
+  AreUnshared w chunks = (u : units.Unit) → Takes_some (S f g) w.shares u → record_at u (entries f chunks) ≡ None
+
+  pub record MayStandBy (w : Whole (S f g) (A f g)) (chunks : List Chunk) : Type 0 where
+    pub fronts : AreFronted w chunks
+    pub unshared : AreUnshared w chunks
+
+  -- no chunks are
+  pub none_fronted : (w : Whole (S f g) (A f g)) → AreFronted w []
+  none_fronted w u = front_none (S f g) (A f g) (is_sys f g.site g.packet) u (ran_of (S f g) (A f g) u w.done) None refl
+
+  -- they are such folds later, too
+  pub fronted_later : (w next : Whole (S f g) (A f g)) (chunks : List Chunk) (more : List (ℕ × ℕ)) → next.done ≡ w.done ++ more → AreFronted w chunks → AreFronted next chunks
+  fronted_later w next chunks more done fronts u = subst (λ ds. Front_of (S f g) (A f g) (is_sys f g.site g.packet) u ds (record_at u (entries f chunks))) (sym (ap (ran_of (S f g) (A f g) u) done ∙ ran_more (S f g) (A f g) (is_sys f g.site g.packet) u w.done more)) (front_more (S f g) (A f g) (is_sys f g.site g.packet) u (ran_of (S f g) (A f g) u w.done) (ran_of (S f g) (A f g) u more) (record_at u (entries f chunks)) (fronts u))
 
   module _ (w : Whole (S f g) (A f g)) (came : units.Unit → Came) (every : Every_all (S f g) (A f g) (is_sys f g.site g.packet) w came) (k : ℕ) (t : Records R) (shows : t ≡ w.standby k) where
     at_same : (u : units.Unit) → finite.get t u ≡ finite.get (w.standby k) u
