@@ -1,5 +1,5 @@
 -- Each node's step leads from a world of a run to one, where what the step wants beside the world is so.
-use Rattle.std.proofs.Common.{◌≡◌, ℕ, zero, suc, ◌+◌, List, arith}
+use Rattle.std.proofs.Common.{◌≡◌, ℕ, zero, suc, List, arith}
 use Rattle.nf_function.specs.declared.chunk.Chunk.{Chunk}
 use Rattle.nf_function.specs.Records.{Fits, Laws as FunctionLaws}
 use Rattle.nf_function.specs.Semantics.{Semantics}
@@ -12,7 +12,7 @@ use Rattle.whole_joined.proofs.ControllerSteps.{controller_leads}
 use Rattle.whole_joined.proofs.InstanceSteps.{instance_leads}
 use Rattle.whole_joined.proofs.JoinedSteps.{Node_leads}
 use Rattle.whole_joined.proofs.Given.{Given}
-use Rattle.whole_joined.proofs.Joined.{count, Scene}
+use Rattle.whole_joined.proofs.Joined.{Scene}
 
 -- chunks of a copy that an instance is to keep may stand by, and the number of a copy that is asked for is new
 pub record Wants {F R : Type 0} (f : Semantics R) (g : Given) (x : Scene F f g) (m : Msg) : Type 0 where
