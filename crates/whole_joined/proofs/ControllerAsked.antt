@@ -138,6 +138,7 @@ module _ {F R : Type 0} (f : Semantics R) (g : Given) (n : ℕ) (x : Scene F f g
       link = after.link;
       links = λ i j. link_same f g n x p cmd are is (i == 1) (behind ((i == p) && (j == 1)) (x.world.link i j)) (if i == 1 then sent_for j ((0, New (S_install cmd.op filter (instance_node known.home))) ∷ []) else []) ∙ sym (ap (λ o. links_by f g o x.world.link p (outline_all f (place g) did.sends) i j) seen);
       labels = (((refl, refl), share_is.few.0, refl, share_is.whole, record { name = name; others = others; order_is = is.label.2.known ∙ ap Some what; home_is = known.at }), tt);
+      grows = λ low. omega arith;
       controller = controller_shares;
       quiet = record { arrived_is = refl; done_is = refl; installed_is = refl };
       every = share_every_all (S f g) (A f g) (is_sys f g.site g.packet) (is_sharing f g.site g.packet) asked (came_by f g x.log) (ctrl_every_all (S f g) (A f g) (is_sys f g.site g.packet) (is_sharing f g.site g.packet) x.world (came_by f g x.log) are.every p its_message is.rest (waits f g n x p (msg.Asked cmd) are is its_message seen)) its may;

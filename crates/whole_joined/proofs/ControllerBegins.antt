@@ -264,6 +264,7 @@ module _ {F R : Type 0} (f : Semantics R) (g : Given) (n : ℕ) (x : Scene F f g
       link = after.link;
       links = λ i j. link_same (i == 1) (behind ((i == p) && (j == 1)) (x.world.link i j)) (if i == 1 then sent_for j (as_old (begin_sends cmd.op its)) else []) ∙ sym (ap (λ o. links_by f g o x.world.link p (outline_all f (place g) (begins_move c plan).sends) i j) seen);
       labels = (((refl, omega arith), move.whole, refl), tt);
+      grows = λ low. omega arith;
       controller = controller_moves;
       quiet = record { arrived_is = refl; done_is = refl; installed_is = refl };
       every = move_every_all (S f g) (A f g) (is_sys f g.site g.packet) asked (came_by f g x.log) (ctrl_every_all (S f g) (A f g) (is_sys f g.site g.packet) (is_sharing f g.site g.packet) x.world (came_by f g x.log) are.every p its_message is.rest (waits f g n x p (msg.Asked cmd) are is its_message seen)) its may (shares_apart filter apart);
@@ -324,6 +325,7 @@ module _ {F R : Type 0} (f : Semantics R) (g : Given) (n : ℕ) (x : Scene F f g
       link = (puts_get (S f g) (A f g) x.world cmd.op flt (instance_node from)).link;
       links = λ i j. ap (λ xs. x.world.link i j ++ (if i == 1 then sent_for j xs else [])) (sym sends) ∙ sym (ap (λ o. links_by f g o x.world.link p (outline_all f (place g) (begins_copy c copy_plan).sends) i j) hidden);
       labels = label;
+      grows = λ low. omega arith;
       controller = controller_copies (suc cmd.op) (let low = next.fresh in omega (arith, low));
       quiet = quiet;
       every = get_every_all (S f g) (A f g) (is_sys f g.site g.packet) x.world (came_by f g x.log) are.every cmd.op flt (instance_node from) next.fresh;

@@ -28,7 +28,8 @@ use Rattle.whole_outline.proofs.OpenShares.{SeesAny, All_step, all_step}
 use Rattle.joined_net.proofs.LogLemmas.{done-append}
 use Rattle.whole_joined.proofs.LogLemmas.{every_same, owners_on, came_on}
 use Rattle.whole_joined.proofs.Given.{Given, place}
-use Rattle.whole_joined.proofs.Joined.{Genuine, Label, Scene, Nodes, AreShown, IsTaken, IsController, IsListed, Leads, node_of, shown, S, A, by_node, commands, links_next, came_by, asked_nums}
+use Rattle.whole_joined.proofs.Joined.{Genuine, Label, Scene, Nodes, AreShown, IsTaken, IsController, IsListed, Leads, node_of, shown, S, A, by_node, commands, links_next, came_by, asked_nums, Grows}
+use Rattle.whole_joined.proofs.NextNumbers.{same_grows}
 
 -- a message is taken from the switch's link, or from another: the numbers of waiting commands rise as before
 rising_drop : {R : Type 0} (b : ℕ) (a : Any R) (rest : List (Any R)) (ks : List ℕ) → Rising b (asked_nums (a ∷ rest) ++ ks) → Rising b (asked_nums rest ++ ks)
@@ -103,6 +104,7 @@ module _ {F R : Type 0} (f : Semantics R) (g : Given) where
     pub link : ℕ → ℕ → List (Any R)
     pub links : (i j : ℕ) → link i j ≡ links_by f g (shown f g m) x.world.link p (outline_all f (place g) did.sends) i j
     pub labels : EachSent (Label f g) 1 did.sends
+    pub grows : Grows m x.world.next next
     pub controller : IsController f g did.node ops shares next
     pub quiet : AreQuiet did.notes
     pub every : Every_all (S f g) (A f g) (is_sys f g.site g.packet) (record x.world { ops = ops; shares = shares; next = next; link = link }) (came_by f g x.log)
@@ -132,6 +134,7 @@ module _ {F R : Type 0} (f : Semantics R) (g : Given) where
       world = world_after;
       links = λ i j. l.links i j ∙ ap (λ xs. links_by f g (shown f g m) x.world.link p xs i j) (sym (filter_map-put (outline_each f (place g)) did.sends tail ∙ ap (λ xs. outline_all f (place g) did.sends ++ xs) none ∙ append-nil (outline_all f (place g) did.sends))) ∙ links_are f g x.world.link p m (did.sends ++ tail) i j (shown f g m) refl;
       labels = sent-append (Label f g) 1 did.sends tail l.labels labels;
+      grows = l.grows;
       shown_is = record {
         switch = are.switch;
         controller = is;
@@ -169,6 +172,7 @@ module _ {F R : Type 0} (f : Semantics R) (g : Given) where
       link = links_after x.world.link p 1 (step_on a).sends;
       links = λ i j. ap (λ xs. links_after x.world.link p 1 xs i j) (sym sends) ∙ sym (ap (λ o. links_by f g o x.world.link p (outline_all f (place g) did.sends) i j) seen);
       labels = labels;
+      grows = same_grows m x.world.next;
       controller = controller;
       quiet = quiet;
       every = ctrl_every_all (S f g) (A f g) (is_sys f g.site g.packet) (is_sharing f g.site g.packet) x.world (came_by f g x.log) are.every p a is.rest (waits a seen);
@@ -187,6 +191,7 @@ module _ {F R : Type 0} (f : Semantics R) (g : Given) where
       link = x.world.link;
       links = λ i j. sym (unseen_links i j) ∙ ap (λ xs. x.world.link i j ++ (if i == 1 then sent_for j xs else [])) (sym sends) ∙ sym (ap (λ o. links_by f g o x.world.link p (outline_all f (place g) did.sends) i j) seen);
       labels = labels;
+      grows = same_grows m x.world.next;
       controller = controller;
       quiet = quiet;
       every = are.every;

@@ -49,7 +49,8 @@ use Rattle.whole_joined.proofs.InstanceRows.{IsRight, Leaves, sound_part, carry_
 use Rattle.whole_joined.proofs.CopyRows.{get_leaves, get_all_leaves, standby_leaves, put_all_leaves, sync_leaves}
 use Rattle.whole_joined.proofs.StandbyChunks.{MayStandBy, same_may_keep, chunks_may_keep}
 use Rattle.whole_joined.proofs.Given.{Given, place, target_by}
-use Rattle.whole_joined.proofs.Joined.{Nodes, Took, Scene, S, A, shown, commands, asked_nums, came_by, by_node, links_next, Genuine, AreGoodChunks, IsGoodPiece, Label, IsSwitch, IsController, IsInstanceAt, AreShown, IsTaken, Leads, node_of}
+use Rattle.whole_joined.proofs.Joined.{Nodes, Took, Scene, S, A, shown, commands, asked_nums, came_by, by_node, links_next, Genuine, AreGoodChunks, IsGoodPiece, Label, IsSwitch, IsController, IsInstanceAt, AreShown, IsTaken, Leads, node_of, Grows}
+use Rattle.whole_joined.proofs.NextNumbers.{same_grows}
 
 and_false : (b : Bool) → b && false ≡ false
 and_false true = refl
@@ -182,6 +183,7 @@ module _ {F R : Type 0} (f : Semantics R) (laws : FunctionLaws f) (g : Given) (n
       world = goes.next;
       links = links;
       labels = goes.leaves.sends;
+      grows = subst (Grows m x.world.next) (sym goes.differs_so.next_is) (same_grows m x.world.next);
       shown_is = record {
         switch = subst (λ to. IsSwitch f g x.nodes.switch to) (sym goes.differs_so.target) are.switch;
         controller = controller_after;

@@ -296,6 +296,11 @@ node_of x zero = Switch x.switch
 node_of x (suc zero) = Controller x.controller
 node_of x (suc (suc i)) = Instance (x.instance (suc (suc i)))
 
+-- how the next number may grow by a step: at most to behind that of a command that the controller takes
+abbrev pub Grows : Msg → ℕ → ℕ → Type 0
+Grows (msg.Asked c) b a = b ≤ suc c.op → a ≤ suc c.op
+Grows m b a = a ≤ b
+
 -- which node took which message, from where
 pub record Took : Type 0 where
   pub node : ℕ
@@ -375,6 +380,7 @@ module _ {F R : Type 0} (f : Semantics R) (g : Given) where
     pub world : Whole (S f g) (A f g)
     pub links : (i j : ℕ) → world.link i j ≡ links_next f g x.world.link t did.sends i j
     pub labels : EachSent (Label f g) t.node did.sends
+    pub grows : Grows t.message x.world.next world.next
     pub shown_is : AreShown n (scene_after x t did nodes world)
 
   -- what a step takes in a run of n nodes: a message that is the first on its link, or of the input

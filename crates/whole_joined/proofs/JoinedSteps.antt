@@ -1,13 +1,10 @@
 -- A choice that is taken leads from a world of a run to one, by the step of its node.
-use Rattle.std.proofs.Common.{◌≡◌, ◌≢◌, ℕ, zero, suc, ◌+◌, Bool, true, false, Option, Some, None, List, [], ◌∷◌, ◌++◌, get_or, refl, sym, ap, ◌∙◌, subst, append-nil, arith}
+use Rattle.std.proofs.Common.{◌≡◌, ◌≢◌, ℕ, ◌+◌, Bool, true, false, Option, Some, None, List, [], ◌∷◌, ◌++◌, get_or, refl, sym, ap, ◌∙◌, subst, append-nil, arith}
 use Rattle.std.specs.Prelude.{◌&&◌, ◌==◌, nat_lt, not}
 use Rattle.std.specs.List.{filter_map}
 use Rattle.std.proofs.lemmas.Bool.Decides.{nat_tests, Decides-eqb}
-use Rattle.nf_function.specs.declared.chunk.Chunk.{Chunk}
-use Rattle.nf_function.specs.Records.{Fits, Laws as FunctionLaws}
 use Rattle.nf_function.specs.Semantics.{Semantics}
 use Rattle.nf_msgs.specs.declared.msg.Msg.{Msg}
-use Rattle.nf_msgs.specs.declared.msg.Msg.TheVariants as msg
 use Rattle.nf_msgs.specs.declared.note.Note.{Note}
 use Rattle.actor_net.specs.declared.choice.Choice.{Choice}
 use Rattle.actor_net.specs.Network.{Network, Stepped, is_input, waiting, taken}
@@ -24,31 +21,18 @@ use Rattle.net_world.specs.declared.node.Node.{Node}
 use Rattle.net_world.specs.Nodes.{node_step, node_ready}
 use Rattle.outline_net.proofs.LinkOutline.{shows_taken, shows_unseen}
 use Rattle.whole_joined.proofs.Given.{Given}
-use Rattle.whole_joined.proofs.StandbyChunks.{MayStandBy}
-use Rattle.whole_joined.proofs.ControllerBegins.{Copies_next}
-use Rattle.whole_joined.proofs.SwitchSteps.{switch_leads}
-use Rattle.whole_joined.proofs.ControllerSteps.{controller_leads}
-use Rattle.whole_joined.proofs.InstanceSteps.{instance_leads}
 use Rattle.whole_joined.proofs.Joined.{count, Label, shown, Took, node_of, links_next, Scene, Shows, AreShown, Joined, Leads, IsTaken}
 
--- what a step on a message wants beside the world: chunks of a copy that an instance is to keep may stand by, and the number of a copy that is asked
--- for is new
-pub record Wants {F R : Type 0} (f : Semantics R) (g : Given) (x : Scene F f g) (m : Msg) : Type 0 where
-  pub stand : (op : ℕ) (chunks : List Chunk) → m ≡ msg.Standby op chunks → MayStandBy f g x.world chunks
-  pub next : Copies_next f g x m
+-- what the nodes' steps give: each leads from a world of a run to one, where what the step wants beside is so
+abbrev pub Node_leads : (F : Type 0) {R : Type 0} (f : Semantics R) (g : Given) → ℕ → (Scene F f g → Msg → Type 0) → Type 0
+Node_leads F f g n May = (x : Scene F f g) (k p : ℕ) (m : Msg) → AreShown f g n x → IsTaken f g n x (record { node = k; port = p; message = m }) → May x m → Leads f g n x (record { node = k; port = p; message = m }) (node_step f (node_of x.nodes k) p m)
 
-module _ {F R : Type 0} (f : Semantics R) (laws : FunctionLaws f) (g : Given) (fitting : (number : ℕ) → Fits g.site (g.packet number)) (n : ℕ) (count_is : n ≡ count f g + 2) where
+module _ {F R : Type 0} (f : Semantics R) (g : Given) (n : ℕ) (count_is : n ≡ count f g + 2) (May : Scene F f g → Msg → Type 0) (leads : Node_leads F f g n May) where
   abbrev pub step : Node F R → ℕ → Msg → Stepped (Node F R) Msg Note
   step = node_step f
 
   abbrev pub scene : (w : Network (Node F R) Msg Note) → Joined f g n w → Scene F f g
   scene w j = record { nodes = j.nodes; world = j.world; log = w.log; input = waiting w (at 0 0) }
-
-  -- a node's step, by which node it is
-  leads : (x : Scene F f g) (k p : ℕ) (m : Msg) → AreShown f g n x → IsTaken f g n x (record { node = k; port = p; message = m }) → Wants f g x m → Leads f g n x (record { node = k; port = p; message = m }) (step (node_of x.nodes k) p m)
-  leads x zero p m are is wants = switch_leads f laws g n x p m are is
-  leads x (suc zero) p m are is wants = controller_leads f laws g n x p m are is wants.next
-  leads x (suc (suc i)) p m are is wants = instance_leads f laws g fitting n x p m (suc (suc i)) (omega arith) are is wants.stand
 
   module _ (w : Network (Node F R) Msg Note) (k p : ℕ) (m : Msg) (rest : List Msg) (j : Joined f g n w) (takes : Takes step n w k p (node_of j.nodes k) m rest) (was_ready : is_input (at k p) ≡ true → node_ready (node_of j.nodes k) m ≡ true) where
     abbrev pub took : Took
@@ -82,8 +66,8 @@ module _ {F R : Type 0} (f : Semantics R) (laws : FunctionLaws f) (g : Given) (f
     abbrev pub did : Stepped (Node F R) Msg Note
     did = step (node_of j.nodes k) p m
 
-    pub step_leads : Wants f g (scene w j) m → Leads f g n (scene w j) took did
-    step_leads wants = leads (scene w j) k p m j.shown_is is_taken wants
+    pub step_leads : May (scene w j) m → Leads f g n (scene w j) took did
+    step_leads may = leads (scene w j) k p m j.shown_is is_taken may
 
     -- the input after it
     pub input_after : waiting (taken step w (at k p)) (at 0 0) ≡ less_first ((0 == k) && (0 == p)) (waiting w (at 0 0))
@@ -104,9 +88,9 @@ module _ {F R : Type 0} (f : Semantics R) (laws : FunctionLaws f) (g : Given) (f
     links_after_step (Some a) is = rw is (shows_taken (shown f g) step n w k p (node_of j.nodes k) m rest takes j.world.link a j.links is)
     links_after_step None is = rw is (shows_unseen (shown f g) step n w k p (node_of j.nodes k) m rest takes j.world.link j.links is)
 
-    pub joined_after : Wants f g (scene w j) m → Joined f g n (taken step w (at k p))
-    joined_after wants =
-        let l = step_leads wants in
+    pub joined_after : May (scene w j) m → Joined f g n (taken step w (at k p))
+    joined_after may =
+        let l = step_leads may in
         let left = taken_outcome step n w k p (node_of j.nodes k) m rest takes in
         record {
           nodes = l.nodes;
@@ -122,9 +106,9 @@ module _ {F R : Type 0} (f : Semantics R) (laws : FunctionLaws f) (g : Given) (f
         }
 
     -- its world
-    pub after_world : (wants : Wants f g (scene w j) m) → (joined_after wants).world ≡ (step_leads wants).world
+    pub after_world : (may : May (scene w j) m) → (joined_after may).world ≡ (step_leads may).world
     unfolding joined_after
-    after_world wants = refl
+    after_world may = refl
 
   -- a choice of a run: what it takes, and where it leads
   module _ (w : Network (Node F R) Msg Note) (c : Choice) (t : Taking node_ready step n w c) (j : Joined f g n w) where
@@ -137,9 +121,9 @@ module _ {F R : Type 0} (f : Semantics R) (laws : FunctionLaws f) (g : Given) (f
     pub ready_at : is_input c ≡ true → node_ready (node_of j.nodes c.node) t.message ≡ true
     ready_at = subst (λ y. is_input c ≡ true → node_ready y t.message ≡ true) node_same t.was_ready
 
-    pub joined_next : Wants f g (scene w j) t.message → Joined f g n (taken step w c)
-    joined_next wants = joined_after w c.node c.port t.message t.rest j takes_at ready_at wants
+    pub joined_next : May (scene w j) t.message → Joined f g n (taken step w c)
+    joined_next may = joined_after w c.node c.port t.message t.rest j takes_at ready_at may
 
-    pub next_is : (wants : Wants f g (scene w j) t.message) → joined_next wants ≡ joined_after w c.node c.port t.message t.rest j takes_at ready_at wants
+    pub next_is : (may : May (scene w j) t.message) → joined_next may ≡ joined_after w c.node c.port t.message t.rest j takes_at ready_at may
     unfolding joined_next
-    next_is wants = refl
+    next_is may = refl

@@ -7,6 +7,7 @@ pub mod ControllerRows
 pub mod ControllerScenes
 pub mod ControllerSteps
 pub mod ControllerTurns
+pub mod CopiesUnshared
 pub mod CopyAnswers
 pub mod CopyRows
 pub mod CopySends
@@ -23,6 +24,8 @@ pub mod KnownOperations
 pub mod LogLemmas
 pub mod MoveReadings
 pub mod MoveSteps
+pub mod NextNumbers
+pub mod NodeSteps
 pub mod OperationsApart
 pub mod RunUnits
 pub mod RunsJoined

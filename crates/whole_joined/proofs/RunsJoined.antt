@@ -3,7 +3,6 @@ use Rattle.std.proofs.Common.{◌≡◌, ℕ, ◌+◌, ◌≤◌, true, false, L
 use Rattle.std.specs.Prelude.{if◌then◌else◌, ◌==◌}
 use Rattle.std.specs.declared.alloc.Global.{Global}
 use Rattle.nf_function.specs.declared.unit.Unit as units
-use Rattle.nf_function.specs.Records.{Laws as FunctionLaws}
 use Rattle.nf_function.specs.Semantics.{Semantics}
 use Rattle.nf_msgs.specs.declared.msg.Msg.{Msg}
 use Rattle.nf_msgs.specs.declared.note.Note.{Note}
@@ -25,12 +24,12 @@ use Rattle.net_world.specs.Start.{first_nodes, started}
 use Rattle.net_world.specs.Fold.{times, IsFront, is_of, came, went}
 use Rattle.outline_net.proofs.Outline.{is_sys}
 use Rattle.net_world.proofs.StartingLemmas.{few_nodes}
-use Rattle.whole_joined.proofs.StartJoined.{given, all_fit, count_at_start, start_joined}
+use Rattle.whole_joined.proofs.StartJoined.{given, count_at_start, start_joined}
 use Rattle.whole_joined.proofs.Given.{Given}
-use Rattle.whole_joined.proofs.Joined.{S, A, by_node, came_by, Joined}
-use Rattle.whole_joined.proofs.JoinedSteps.{Wants, scene, joined_next}
+use Rattle.whole_joined.proofs.Joined.{S, A, by_node, came_by, Scene, Joined}
+use Rattle.whole_joined.proofs.JoinedSteps.{Node_leads, scene, joined_next}
 
-module _ (F : Type 0) {R : Type 0} (f : Semantics R) (laws : FunctionLaws f) (alloc : Global) (c : Config) (items : List Msg) (is : IsInput f.kind c items) where
+module _ (F : Type 0) {R : Type 0} (f : Semantics R) (alloc : Global) (c : Config) (items : List Msg) (is : IsInput f.kind c items) where
   pub start_world : IsWorld (started {F = F} {R = R} alloc c items)
   start_world = let few = few_nodes alloc c (first_nodes {F = F} {R = R} alloc c) is.is_config refl in opening_world (first_nodes alloc c) items few.0 few.1
 
@@ -44,9 +43,9 @@ module _ (F : Type 0) {R : Type 0} (f : Semantics R) (laws : FunctionLaws f) (al
   IsJoined w = Joined f g n w
 
   -- what is kept beside each world of a run, and gives what the steps want
-  module _ (Beside : (w : Network (Node F R) Msg Note) → IsJoined w → Type 0) (wants : (w : Network (Node F R) Msg Note) (j : IsJoined w) → Beside w j → (k : Choice) (t : Taking node_ready (node_step f) n w k) → Wants f g (scene f laws g (all_fit f c items is) n refl w j) t.message) where
+  module _ (May : Scene F f g → Msg → Type 0) (leads : Node_leads F f g n May) (Beside : (w : Network (Node F R) Msg Note) → IsJoined w → Type 0) (may : (w : Network (Node F R) Msg Note) (j : IsJoined w) → Beside w j → (k : Choice) (t : Taking node_ready (node_step f) n w k) → May (scene f g n refl May leads w j) t.message) where
     pub next : (w : Network (Node F R) Msg Note) (j : IsJoined w) → Beside w j → (k : Choice) (t : Taking node_ready (node_step f) n w k) → IsJoined (taken (node_step f) w k)
-    next w j b k t = joined_next f laws g (all_fit f c items is) n refl w k t j (wants w j b k t)
+    next w j b k t = joined_next f g n refl May leads w k t j (may w j b k t)
 
     pub record Runs (w : Network (Node F R) Msg Note) : Type 0 where
       pub joined : IsJoined w

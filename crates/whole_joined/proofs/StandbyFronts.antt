@@ -7,7 +7,6 @@ use Rattle.std.proofs.lemmas.Bool.Decides.{nat_tests}
 use Rattle.flow_filter.specs.declared.filter.Filter.{Filter}
 use Rattle.nf_function.specs.declared.chunk.Chunk.{Chunk}
 use Rattle.nf_function.specs.declared.unit.Unit as units
-use Rattle.nf_function.specs.Records.{Fits, Laws as FunctionLaws}
 use Rattle.nf_function.specs.Semantics.{Semantics}
 use Rattle.nf_msgs.specs.declared.msg.Msg.{Msg}
 use Rattle.nf_msgs.specs.declared.msg.Msg.TheVariants as msg
@@ -36,7 +35,7 @@ use Rattle.whole_joined.proofs.LogLemmas.{by_node-append}
 use Rattle.whole_joined.proofs.StandbyChunks.{AreFronted, AreUnshared, MayStandBy, none_fronted, fronted_later}
 use Rattle.whole_joined.proofs.Given.{Given}
 use Rattle.whole_joined.proofs.Joined.{S, A, by_node, count, shown, node_of, Label, Scene, AreShown, Took, IsTaken, Leads, Joined}
-use Rattle.whole_joined.proofs.JoinedSteps.{Wants, scene, is_taken, step_leads, joined_after, after_world, takes_at, ready_at, joined_next, next_is}
+use Rattle.whole_joined.proofs.JoinedSteps.{Node_leads, scene, is_taken, step_leads, joined_after, after_world, takes_at, ready_at, joined_next, next_is}
 
 -- the chunks that a message brings to stand by
 abbrev pub kept_of : Msg → List Chunk
@@ -134,19 +133,19 @@ module _ {F R : Type 0} (f : Semantics R) (g : Given) (n : ℕ) where
       all_none s r off [] h = tt
       all_none s r off (m ∷ ms) h = (none_kept f g (AreFronted f g j.world) (none_fronted f g j.world) s r off m h.0, all_none s r off ms h.1)
 
-module _ {F R : Type 0} (f : Semantics R) (laws : FunctionLaws f) (g : Given) (fitting : (number : ℕ) → Fits g.site (g.packet number)) (n : ℕ) (count_is : n ≡ count f g + 2) where
+module _ {F R : Type 0} (f : Semantics R) (g : Given) (n : ℕ) (count_is : n ≡ count f g + 2) (May : Scene F f g → Msg → Type 0) (leads : Node_leads F f g n May) where
   module _ (w : Network (Node F R) Msg Note) (k p : ℕ) (m : Msg) (rest : List Msg) (j : Joined f g n w) (takes : Takes (node_step f) n w k p (node_of j.nodes k) m rest) (was_ready : is_input (at k p) ≡ true → node_ready (node_of j.nodes k) m ≡ true) where
     -- the message that is taken
     pub taken_front : AreKeptFronts f g n w j → AreFronted f g j.world (kept_of m)
     taken_front h = (subst (λ ms. Each (λ y. AreFronted f g j.world (kept_of y)) ms) takes.waits (h.each p k (let c = takes.count in rw c takes.sender) (let c = takes.count in rw c takes.receiver))).0
 
-    pub kept_fronts_after : AreKeptFronts f g n w j → (wants : Wants f g (scene f laws g fitting n count_is w j) m) → AreKeptFronts f g n (taken (node_step f) w (at k p)) (joined_after f laws g fitting n count_is w k p m rest j takes was_ready wants)
-    kept_fronts_after h wants =
-        let x = scene f laws g fitting n count_is w j in
-        let is = is_taken f laws g fitting n count_is w k p m rest j takes was_ready in
-        let l = step_leads f laws g fitting n count_is w k p m rest j takes was_ready wants in
+    pub kept_fronts_after : AreKeptFronts f g n w j → (may : May (scene f g n count_is May leads w j) m) → AreKeptFronts f g n (taken (node_step f) w (at k p)) (joined_after f g n count_is May leads w k p m rest j takes was_ready may)
+    kept_fronts_after h may =
+        let x = scene f g n count_is May leads w j in
+        let is = is_taken f g n count_is May leads w k p m rest j takes was_ready in
+        let l = step_leads f g n count_is May leads w k p m rest j takes was_ready may in
         record {
-          each = subst (λ v. OnLinks (λ s r y. AreFronted f g v (kept_of y)) (taken (node_step f) w (at k p))) (sym (after_world f laws g fitting n count_is w k p m rest j takes was_ready wants))
+          each = subst (λ v. OnLinks (λ s r y. AreFronted f g v (kept_of y)) (taken (node_step f) w (at k p))) (sym (after_world f g n count_is May leads w k p m rest j takes was_ready may))
               (on_links_after (λ s r y. AreFronted f g l.world (kept_of y)) (node_step f) n w k p (node_of j.nodes k) m rest takes
               (λ s r hs hr. each_weaker (λ y. still_fronted f g n x k p m j.shown_is is (node_step f (node_of j.nodes k) p m) l (kept_of y)) (waiting w (at r s)) (h.each s r hs hr))
               (node_keeps f g n x p j.shown_is k m is l));
@@ -154,12 +153,12 @@ module _ {F R : Type 0} (f : Semantics R) (laws : FunctionLaws f) (g : Given) (f
 
   -- after a choice of a run
   module _ (w : Network (Node F R) Msg Note) (c : Choice) (t : Taking node_ready (node_step f) n w c) (j : Joined f g n w) where
-    pub kept_fronts_next : AreKeptFronts f g n w j → (wants : Wants f g (scene f laws g fitting n count_is w j) t.message) → AreKeptFronts f g n (taken (node_step f) w c) (joined_next f laws g fitting n count_is w c t j wants)
-    kept_fronts_next h wants = subst (λ after. AreKeptFronts f g n (taken (node_step f) w c) after) (sym (next_is f laws g fitting n count_is w c t j wants)) (kept_fronts_after w c.node c.port t.message t.rest j (takes_at f laws g fitting n count_is w c t j) (ready_at f laws g fitting n count_is w c t j) h wants)
+    pub kept_fronts_next : AreKeptFronts f g n w j → (may : May (scene f g n count_is May leads w j) t.message) → AreKeptFronts f g n (taken (node_step f) w c) (joined_next f g n count_is May leads w c t j may)
+    kept_fronts_next h may = subst (λ after. AreKeptFronts f g n (taken (node_step f) w c) after) (sym (next_is f g n count_is May leads w c t j may)) (kept_fronts_after w c.node c.port t.message t.rest j (takes_at f g n count_is May leads w c t j) (ready_at f g n count_is May leads w c t j) h may)
 
     -- chunks of no unit that a share takes may then stand by
     pub may_stand_by : AreKeptFronts f g n w j → (op : ℕ) (chunks : List Chunk) → t.message ≡ msg.Standby op chunks → AreUnshared f g j.world chunks → MayStandBy f g j.world chunks
     may_stand_by h op chunks is unshared = record {
-      fronts = subst (λ m. AreFronted f g j.world (kept_of m)) is (taken_front w c.node c.port t.message t.rest j (takes_at f laws g fitting n count_is w c t j) (ready_at f laws g fitting n count_is w c t j) h);
+      fronts = subst (λ m. AreFronted f g j.world (kept_of m)) is (taken_front w c.node c.port t.message t.rest j (takes_at f g n count_is May leads w c t j) (ready_at f g n count_is May leads w c t j) h);
       unshared = unshared;
     }

@@ -44,6 +44,7 @@ use Rattle.whole_joined.proofs.Given.{Given, place, is_diverted, owner_by, diver
 use Rattle.whole_joined.proofs.LogLemmas.{diverted_in-append, every_same, owners_on, loose_on}
 use Rattle.whole_joined.proofs.SwitchLemmas.{after, asked_nums-append, every_on, others_same, quiet, same_switch}
 use Rattle.whole_joined.proofs.Joined.{Genuine, GenuinePacket, IsCommand, IsSwitch, Label, S, A, asked_nums, came_by, commands, is_of, shown, Scene, AreShown, Leads}
+use Rattle.whole_joined.proofs.NextNumbers.{same_grows}
 
 -- the message that a packet goes on in, by its target
 abbrev message_for : Target → FullCell → Msg
@@ -122,6 +123,7 @@ module _ {F R : Type 0} (f : Semantics R) (g : Given) (n : ℕ) (x : Scene F f g
         world = next;
         links = λ i j. takes.links i j ∙ ap (λ st. x.world.link i j ++ (if i == 0 then sent_for j (outline_all f (place g) st.sends) else [])) did;
         labels = labels_for f g o.target (record { pool = s.pool.name; packet = q }) (record { same = genuine.same; transport = genuine.transport; fits = genuine.fits; pool = are.switch.pool });
+        grows = same_grows (msg.InPacket q) x.world.next;
         shown_is = after f g n x are t x.world.target next.link (note.Arrived q.number ∷ []) (drop 1 x.input) (same_switch f g s t x.world.target refl refl refl refl are.switch) every (owners_on f g n x are (note.Arrived q.number ∷ []) refl) refl (rw (kept, left) are.rising);
       })
 
@@ -151,6 +153,7 @@ module _ {F R : Type 0} (f : Semantics R) (g : Given) (n : ℕ) (x : Scene F f g
           world = next;
           links = (command_takes f g.site g.packet (place g) x.world s are.switch.routes c m e).links;
           labels = ((refl, refl, is), tt);
+          grows = same_grows (msg.InCommand c) x.world.next;
           shown_is = after f g n x are (on_command s c).node x.world.target next.link [] (drop 1 x.input) switch (every_on f g n x are next every) (owners_on f g n x are [] refl) refl (rw rising rises);
         }
 

@@ -27,6 +27,7 @@ use Rattle.joined_net.proofs.LogLemmas.{done-append}
 use Rattle.whole_joined.proofs.LogLemmas.{came_on, every_same, owners_on}
 use Rattle.whole_joined.proofs.Given.{Given, place, target_by}
 use Rattle.whole_joined.proofs.Joined.{Nodes, node_of, Label, shown, S, A, asked_nums, came_by, commands, by_node, IsSwitch, Scene, AreShown, Leads}
+use Rattle.whole_joined.proofs.NextNumbers.{same_grows}
 
 pub asked_nums-append : {R : Type 0} (xs ys : List (Any R)) → asked_nums (xs ++ ys) ≡ asked_nums xs ++ asked_nums ys
 asked_nums-append [] ys = refl
@@ -115,5 +116,6 @@ module _ {F R : Type 0} (f : Semantics R) (g : Given) (n : ℕ) (x : Scene F f g
     world = x.world;
     links = λ i j. rw (unseen, nothing) (elim (i == 0) as (λ b. x.world.link i j ≡ x.world.link i j ++ (if b then [] else [])) [ true ↦ sym (append-nil (x.world.link i j)) | false ↦ sym (append-nil (x.world.link i j)) ]);
     labels = labels;
+    grows = same_grows m x.world.next;
     shown_is = after s x.world.target x.world.link [] _ switch (every_on x.world are.every) (owners_on f g n x are [] refl) refl rising;
   }

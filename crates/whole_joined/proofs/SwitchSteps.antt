@@ -40,6 +40,7 @@ use Rattle.whole_joined.proofs.LogLemmas.{came_more, every_same, loose_on, owner
 use Rattle.whole_joined.proofs.SwitchLemmas.{None_asked, after, nums_put, others_same, quiet, same_switch, stops_labels}
 use Rattle.whole_joined.proofs.SwitchArrivals.{command_leads, credit_leads, item_leads, packet_leads}
 use Rattle.whole_joined.proofs.Joined.{Scene, AreShown, IsTaken, Leads, IsSwitch, Label, Genuine, S, A, asked_nums, came_by, count, node_of, shown}
+use Rattle.whole_joined.proofs.NextNumbers.{same_grows}
 
 module _ {F R : Type 0} (f : Semantics R) (g : Given) (n : ℕ) (x : Scene F f g) (are : AreShown f g n x) where
   abbrev s : SwitchState
@@ -72,6 +73,7 @@ module _ {F R : Type 0} (f : Semantics R) (g : Given) (n : ℕ) (x : Scene F f g
         world = next;
         links = λ i j. rw seen refl;
         labels = labels;
+        grows = same_grows m x.world.next;
         shown_is = after f g n x are t to next.link notes x.input switch every told.owners told.none (rw same are.rising);
       }
 
