@@ -9,6 +9,7 @@ pub mod ControllerSteps
 pub mod ControllerTurns
 pub mod CopiesUnshared
 pub mod CopyAnswers
+pub mod CopyFilters
 pub mod CopyRows
 pub mod CopySends
 pub mod Given
