@@ -36,6 +36,7 @@ pub mod ShareSteps
 pub mod ShareTurns
 pub mod StandbyChunks
 pub mod StandbyFronts
+pub mod StandbyRuns
 pub mod StartJoined
 pub mod SwitchArrivals
 pub mod SwitchLemmas
