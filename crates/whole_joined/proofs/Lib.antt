@@ -9,6 +9,8 @@ pub mod ControllerScenes
 pub mod ControllerSteps
 pub mod ControllerTurns
 pub mod CopyAnswers
+pub mod CopyCounts
+pub mod CopyFalls
 pub mod CopyRows
 pub mod CopySends
 pub mod Given
