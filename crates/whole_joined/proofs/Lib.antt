@@ -13,6 +13,7 @@ pub mod CopyCounts
 pub mod CopyFalls
 pub mod CopyRows
 pub mod CopySends
+pub mod CopyTokens
 pub mod Given
 pub mod HandedUnits
 pub mod InstanceKeeps
