@@ -23,6 +23,8 @@ pub mod LogLemmas
 pub mod MoveReadings
 pub mod MoveSteps
 pub mod NextNumbers
+pub mod RisingNumbers
+pub mod RisingRuns
 pub mod RunUnits
 pub mod RunsJoined
 pub mod ShareBegins
