@@ -1,9 +1,8 @@
 -- The controller's step on each command: it is refused, or its share, move or copy begins.
-use Rattle.std.proofs.Common.{◌≡◌, ◌≢◌, ℕ, suc, ◌+◌, ◌<◌, ◌≤◌, Bool, true, false, Option, Some, None, List, [], ◌∷◌, ◌++◌, map, length, refl, sym, ap, ◌∙◌, subst, arith}
-use Rattle.std.specs.Prelude.{if◌then◌else◌, ◌&&◌, ◌==◌, not, nat_lt, find, is_some, option_map}
+use Rattle.std.proofs.Common.{◌≡◌, ℕ, suc, ◌<◌, ◌≤◌, true, false, Option, Some, None, List, [], ◌∷◌, ◌++◌, length, refl, sym, ap, ◌∙◌, subst, arith}
+use Rattle.std.specs.Prelude.{if◌then◌else◌, ◌&&◌, ◌==◌, nat_lt, is_some, option_map}
 use Rattle.std.specs.List.{filter_map, IsDistinct}
 use Rattle.std.specs.FinMap as finite
-use Rattle.std.specs.Str.{bytes_eq}
 use Rattle.std.proofs.lemmas.Bool.Decides.{nat_tests, Decides-ltb}
 use Rattle.flow_filter.specs.declared.filter.Filter.{Filter}
 use Rattle.nf_function.specs.Semantics.{Semantics}
@@ -18,16 +17,13 @@ use Rattle.copy_share.specs.Share as share
 use Rattle.ctrl_node.specs.declared.operation.Operation.{Operation}
 use Rattle.ctrl_node.specs.declared.operation.Operation.TheVariants.{Share}
 use Rattle.ctrl_node.specs.Operations.{lowest_meeting}
-use Rattle.ctrl_node.specs.Controller.{ControllerState, Step, still, refusal, unknown_name, begins_between, copies_between, begins_share, begins, decided, on_asked, place_of}
+use Rattle.ctrl_node.specs.Controller.{ControllerState, Step, still, refusal, begins_between, copies_between, begins_share, begins, decided, on_asked, place_of}
 use Rattle.unit_machine.proofs.Real.{sent_for}
 use Rattle.unit_machine.proofs.Labels.{Each}
-use Rattle.share_machine.proofs.Share.{has}
-use Rattle.share_machine.proofs.Stages.{distinct}
-use Rattle.abstract_net.proofs.Net as net
 use Rattle.abstract_net.proofs.Net.{behind}
 use Rattle.abstract_net.proofs.Waits.{Rising}
 use Rattle.abstract_net.proofs.Shares.{Any, New, S_asked, S_install, Want_share, new_share, Whole, whole_ctrl, begin_share, May_share}
-use Rattle.whole_net.proofs.EveryAll.{Every_all, ctrl_every_all, share_every_all}
+use Rattle.whole_net.proofs.EveryAll.{ctrl_every_all, share_every_all}
 use Rattle.outline_net.proofs.FiltersApart.{and_l, and_r, is_whole}
 use Rattle.outline_net.proofs.Outline.{is_sys}
 use Rattle.whole_outline.proofs.WholeOutline.{outline_all, asked_of, with_member, members_of, share_between, want_share_of, is_sharing}
@@ -35,10 +31,10 @@ use Rattle.whole_outline.proofs.AskedShare.{members_long, members_are, members_a
 use Rattle.whole_outline.proofs.OpenShares.{StepFollows}
 use Rattle.whole_outline.proofs.BeginsAll.{share_begun}
 use Rattle.whole_joined.proofs.ShareBegins.{place_tells, names_distinct, few_placed, all_apart, FirstKnown, first_known, unknown}
-use Rattle.whole_joined.proofs.ControllerScenes.{RowLeads, links_by, waits}
+use Rattle.whole_joined.proofs.ControllerScenes.{links_by, waits}
 use Rattle.whole_joined.proofs.ControllerBegins.{no_overlap, none_unknown, controller_begun, listed_begun, Order_next, Leads_to, stays_still, answered, shares_apart, moves_apart, rises, link_left, link_same, move_begins, copy_begins}
 use Rattle.whole_joined.proofs.Given.{Given, place}
-use Rattle.whole_joined.proofs.Joined.{Scene, AreShown, IsTaken, IsController, IsShare, Label, S, A, count, shown, is_built, are_unlike, commands, came_by, asked_nums}
+use Rattle.whole_joined.proofs.Joined.{Scene, AreShown, IsTaken, IsController, IsShare, S, A, count, shown, is_built, are_unlike, commands, came_by, asked_nums}
 
 module _ {F R : Type 0} (f : Semantics R) (g : Given) (n : ℕ) (x : Scene F f g) (p : ℕ) (cmd : Command) (are : AreShown f g n x) (is : IsTaken f g n x (record { node = 1; port = p; message = msg.Asked cmd })) where
   abbrev c : ControllerState

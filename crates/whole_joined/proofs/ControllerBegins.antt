@@ -1,6 +1,6 @@
 -- The controller's step on a command that it refuses, or by which a move or a copy begins.
-use Rattle.std.proofs.Common.{◌≡◌, ◌≢◌, ℕ, suc, ◌≤◌, Bool, true, false, cond, Option, Some, None, List, [], ◌∷◌, ◌++◌, map, length, refl, sym, ap, ◌∙◌, subst, append-nil, arith}
-use Rattle.std.specs.Prelude.{if◌then◌else◌, ◌&&◌, ◌==◌, not, nat_lt, find, is_some, option_map}
+use Rattle.std.proofs.Common.{◌≡◌, ◌≢◌, ℕ, suc, ◌≤◌, Bool, true, false, cond, Option, Some, None, List, [], ◌∷◌, ◌++◌, refl, sym, ap, ◌∙◌, subst, append-nil, arith}
+use Rattle.std.specs.Prelude.{if◌then◌else◌, ◌&&◌, ◌==◌, not, find, option_map}
 use Rattle.std.specs.Option.{option_or}
 use Rattle.std.specs.Ordering.{nat_cmp, eq_by_cmp}
 use Rattle.std.specs.Str.{bytes_eq}
@@ -34,13 +34,13 @@ use Rattle.abstract_net.proofs.Waits.{Rising}
 use Rattle.abstract_net.proofs.Units.{May}
 use Rattle.abstract_net.proofs.ShareLists.{Nums_apart}
 use Rattle.abstract_net.proofs.Shares.{Any, Old, New, S_asked, S_get, Want_share, Open_share, find_share, Whole, moves_of, as_old, whole_ctrl, begin_move, puts_get, meets_shares}
-use Rattle.whole_net.proofs.EveryAll.{Every_all, ctrl_every_all, move_every_all, get_every_all}
+use Rattle.whole_net.proofs.EveryAll.{ctrl_every_all, move_every_all, get_every_all}
 use Rattle.outline_net.proofs.FiltersApart.{and_l, and_r, is_whole}
 use Rattle.outline_net.proofs.Outline.{want_at, want_of, is_sys}
 use Rattle.outline_net.proofs.OperationTables.{got_insert}
 use Rattle.whole_outline.proofs.WholeOutline.{outline_all, asked_of, want_share_of, is_sharing}
 use Rattle.whole_outline.proofs.OpenShares.{OpensAll, real_share}
-use Rattle.whole_outline.proofs.BeginsAll.{want_plan, move_begun, copy_begun}
+use Rattle.whole_outline.proofs.BeginsAll.{move_begun, copy_begun}
 use Rattle.whole_joined.proofs.ShareBegins.{place_below, places_apart}
 use Rattle.whole_joined.proofs.ControllerScenes.{AreQuiet, RowLeads, Idles, links_by, waits, stays, unseen}
 use Rattle.whole_joined.proofs.ControllerChanges.{NotMove, AreAlike, IsOperation, listed_alike, changed}

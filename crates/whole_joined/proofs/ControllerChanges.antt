@@ -1,14 +1,12 @@
 -- A controller of a run is one after a change at one number, where the operation under it is one of a run, with what is stored for it.
-use Rattle.std.proofs.Common.{◌≡◌, ℕ, ◌<◌, ◌≤◌, true, false, Option, Some, None, List, [], ◌∷◌, refl, sym, ap, ◌∙◌, subst, arith}
+use Rattle.std.proofs.Common.{◌≡◌, ℕ, ◌≤◌, true, false, Option, Some, None, List, [], ◌∷◌, refl, sym, ap, ◌∙◌, subst, arith}
 use Rattle.std.specs.Prelude.{◌==◌}
 use Rattle.std.specs.FinMap as finite
-use Rattle.std.proofs.lemmas.Bool.Decides.{nat_tests, Decides-eqb}
+use Rattle.std.proofs.lemmas.Bool.Decides.{Decides-eqb}
 use Rattle.nf_function.specs.Semantics.{Semantics}
 use Rattle.event_store.specs.Store.{stored}
 use Rattle.packet_pool.specs.Pool.{FullCell}
-use Rattle.move_op.specs.Move.{MoveState, answer_of}
-use Rattle.copy_share.specs.Copy.{CopyState}
-use Rattle.copy_share.specs.Share.{ShareState}
+use Rattle.move_op.specs.Move.{answer_of}
 use Rattle.ctrl_node.specs.declared.operation.Operation.{Operation}
 use Rattle.ctrl_node.specs.declared.operation.Operation.TheVariants.{Move, Copy, Share}
 use Rattle.ctrl_node.specs.Controller.{ControllerState}

@@ -1,6 +1,6 @@
 -- The controller's step on a message of a copy, or one that comes to shares and copies: what came is handed on, or the copy ends. No move and no
 -- share looks at either.
-use Rattle.std.proofs.Common.{◌≡◌, ℕ, ◌≤◌, true, false, cond, Option, Some, None, List, [], ◌∷◌, refl, sym, ap, ◌∙◌, subst, arith}
+use Rattle.std.proofs.Common.{◌≡◌, ℕ, true, cond, Option, Some, None, List, [], refl, sym, ap, ◌∙◌, subst, arith}
 use Rattle.std.specs.Prelude.{◌==◌, option_map}
 use Rattle.std.specs.FinMap as finite
 use Rattle.std.proofs.lemmas.Bool.Decides.{nat_tests}
@@ -10,7 +10,6 @@ use Rattle.event_store.specs.Store.{stored}
 use Rattle.nf_msgs.specs.declared.msg.Msg.{Msg}
 use Rattle.nf_msgs.specs.declared.msg.Msg.TheVariants as msg
 use Rattle.nf_msgs.specs.Nodes.{instance_node}
-use Rattle.move_op.specs.Move.{MoveState}
 use Rattle.copy_share.specs.declared.copy_phase.CopyPhase.TheVariants.{Keeping}
 use Rattle.copy_share.specs.Copy.{CopyState}
 use Rattle.copy_share.specs.Share.{ShareState}
@@ -18,7 +17,6 @@ use Rattle.ctrl_node.specs.declared.operation.Operation.{Operation}
 use Rattle.ctrl_node.specs.declared.operation.Operation.TheVariants.{Move, Copy, Share}
 use Rattle.ctrl_node.specs.Operations.{turn_of}
 use Rattle.ctrl_node.specs.Controller.{ControllerState, Step, still, takes_turn, handed}
-use Rattle.unit_machine.proofs.Labels.{Each}
 use Rattle.abstract_net.proofs.Shares.{Any, New, S_chunks, find_share, Has_chunks, by_share}
 use Rattle.outline_net.proofs.Outline.{entries}
 use Rattle.outline_net.proofs.CopyTurns.{CopyTurn, Idle, Hands, Hands_all, Ends, hands, ends, is_copied, copy_turn, move_idle}
@@ -28,8 +26,8 @@ use Rattle.whole_outline.proofs.OtherTurns.{copy_handed}
 use Rattle.whole_outline.proofs.ControlAll.{chunks_follows, all_chunk_follows, kept_follows}
 use Rattle.whole_joined.proofs.Given.{Given, place}
 use Rattle.whole_joined.proofs.Joined.{Label, Scene, AreShown, IsTaken, IsCopy, AreGoodChunks, S, A, shown}
-use Rattle.whole_joined.proofs.ControllerScenes.{AreQuiet, RowLeads, Idles}
-use Rattle.whole_joined.proofs.ControllerChanges.{NotMove, AreAlike, IsKind, IsOperation, operation_is}
+use Rattle.whole_joined.proofs.ControllerScenes.{RowLeads, Idles}
+use Rattle.whole_joined.proofs.ControllerChanges.{NotMove, IsKind, IsOperation, operation_is}
 use Rattle.whole_joined.proofs.ControllerRows.{some_same}
 use Rattle.whole_joined.proofs.ControllerTurns.{no_share_open, none_leads, still_leads, well_idles, share_below, share_leads}
 use Rattle.whole_joined.proofs.ShareTurns.{DidWell, share_handed_well}

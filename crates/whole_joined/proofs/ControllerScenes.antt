@@ -24,7 +24,7 @@ use Rattle.net_world.specs.Log.{arrived, done, installed}
 use Rattle.outline_net.proofs.Outline.{is_sys}
 use Rattle.outline_net.proofs.InstanceOutline.{filter_map-put}
 use Rattle.whole_outline.proofs.WholeOutline.{outline_each, outline_all, is_sharing}
-use Rattle.whole_outline.proofs.OpenShares.{SeesAny, All_step, all_step, StepFollows}
+use Rattle.whole_outline.proofs.OpenShares.{SeesAny, All_step, all_step}
 use Rattle.joined_net.proofs.LogLemmas.{done-append}
 use Rattle.whole_joined.proofs.LogLemmas.{every_same, owners_on, came_on}
 use Rattle.whole_joined.proofs.Given.{Given, place}

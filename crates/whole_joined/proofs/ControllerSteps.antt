@@ -11,7 +11,7 @@ use Rattle.ctrl_node.specs.Controller.{ControllerState, still, instance_at, on_f
 use Rattle.unit_machine.proofs.Real as real
 use Rattle.net_world.specs.Nodes.{node_step}
 use Rattle.outline_net.proofs.Outline.{outline_piece}
-use Rattle.outline_net.proofs.MoveOutline.{IsChunk, enabled_row, piece_row, deleted_row, put_ok_row, restored_row, fenced_row}
+use Rattle.outline_net.proofs.MoveOutline.{IsChunk, enabled_row, piece_row, deleted_row, put_ok_row, restored_row}
 use Rattle.whole_joined.proofs.ControllerScenes.{RowLeads, lead, stays}
 use Rattle.whole_joined.proofs.ControllerRows.{each_same}
 use Rattle.whole_joined.proofs.ControllerTurns.{numbered_leads, put_no_leads, event_leads}

@@ -22,7 +22,7 @@ use Rattle.abstract_net.proofs.Net as net
 use Rattle.abstract_net.proofs.Net.{Open, find_op, sw_target}
 use Rattle.abstract_net.proofs.Shares.{Open_share, S_install, share_target}
 use Rattle.net_world.specs.Log.{installed}
-use Rattle.net_world.specs.Places.{handed_on, hands_on_plain, is_at}
+use Rattle.net_world.specs.Places.{handed_on, hands_on_plain}
 use Rattle.outline_net.proofs.ControlOutline.{Sees}
 use Rattle.outline_net.proofs.FiltersApart.{is_whole, unit_fits, takes_same, takes_whole}
 use Rattle.joined_net.proofs.OwnerLemmas.{owner_after-append, loose_after-append, installed-append}

@@ -8,7 +8,9 @@ pub mod ControllerRows
 pub mod ControllerScenes
 pub mod ControllerSteps
 pub mod ControllerTurns
+pub mod CopyAnswers
 pub mod CopyRows
+pub mod CopySends
 pub mod Given
 pub mod HandedUnits
 pub mod InstanceKeeps
@@ -23,6 +25,7 @@ pub mod LogLemmas
 pub mod MoveReadings
 pub mod MoveSteps
 pub mod NextNumbers
+pub mod NodeSteps
 pub mod RisingNumbers
 pub mod RisingRuns
 pub mod RunUnits

@@ -12,9 +12,9 @@ use Rattle.whole_net.proofs.EveryAll.{Every_all}
 use Rattle.net_world.specs.Log.{Done, arrived, installed, those}
 use Rattle.net_world.specs.Places.{handed_on, owner_after}
 use Rattle.outline_net.proofs.FiltersApart.{unit_fits}
-use Rattle.joined_net.proofs.OwnerLemmas.{installed_same, owner_after-append}
-use Rattle.joined_net.proofs.LogLemmas.{arrived-append, those-append}
-use Rattle.whole_joined.proofs.Given.{Given, loose_by, owner_by, diverts, diverted_after, is_diverted, diverted_in, target_by}
+use Rattle.joined_net.proofs.OwnerLemmas.{installed_same}
+use Rattle.joined_net.proofs.LogLemmas.{arrived-append}
+use Rattle.whole_joined.proofs.Given.{Given, loose_by, diverts, diverted_after, is_diverted, diverted_in, target_by}
 use Rattle.whole_joined.proofs.Joined.{Scene, AreShown, by_node, came_by, is_of}
 
 pub by_node-append : {R : Type 0} (f : Semantics R) (g : Given) (xs ys : List Done) → by_node f g (xs ++ ys) ≡ by_node f g xs ++ by_node f g ys

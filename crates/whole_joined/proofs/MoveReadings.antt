@@ -1,7 +1,6 @@
 -- What is read of an open move in a whole world: of each unit at most one copy of its record, no packet that is left at the end, and no event
 -- without its move. A unit that a share takes has none of these.
-use Rattle.std.proofs.Common.{◌≡◌, ℕ, ◌+◌, ◌≤◌, Bool, true, false, Some, None, List, [], ◌∷◌, refl, sym, ap, ◌∙◌, arith}
-use Rattle.std.specs.Prelude.{◌==◌}
+use Rattle.std.proofs.Common.{◌≡◌, ℕ, ◌+◌, ◌≤◌, true, false, Some, None, List, [], ◌∷◌, sym, ap, ◌∙◌, arith}
 use Rattle.flow_filter.specs.declared.filter.Filter.{Filter}
 use Rattle.nf_function.specs.declared.unit.Unit as units
 use Rattle.nf_msgs.specs.declared.answer.Answer.{Answer}

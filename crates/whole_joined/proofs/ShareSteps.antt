@@ -1,6 +1,6 @@
 -- The controller's step on a message that a share looks at: a fence's answer, a record of one unit, an answer to records, and a packet whose
 -- target is the controller.
-use Rattle.std.proofs.Common.{◌≡◌, ℕ, Bool, true, false, Option, Some, None, List, [], ◌∷◌, refl, sym, ap, ◌∙◌, subst, arith}
+use Rattle.std.proofs.Common.{◌≡◌, ℕ, true, false, Option, Some, None, List, [], refl, sym, ap, ◌∙◌, subst, arith}
 use Rattle.std.specs.Prelude.{if◌then◌else◌, ◌==◌, option_map}
 use Rattle.std.specs.FinMap as finite
 use Rattle.std.proofs.lemmas.Bool.Decides.{Decides-eqb}
@@ -14,12 +14,11 @@ use Rattle.nf_msgs.specs.declared.msg.Msg.TheVariants as msg
 use Rattle.nf_msgs.specs.Nodes.{switch_node}
 use Rattle.move_op.specs.Move as move
 use Rattle.move_op.specs.Move.{MoveState}
-use Rattle.copy_share.specs.Copy.{CopyState}
 use Rattle.copy_share.specs.Share.{ShareState}
 use Rattle.ctrl_node.specs.declared.operation.Operation.{Operation}
 use Rattle.ctrl_node.specs.declared.operation.Operation.TheVariants.{Move, Copy, Share}
 use Rattle.ctrl_node.specs.Operations.{turn_of, moved}
-use Rattle.ctrl_node.specs.Controller.{ControllerState, Step, still, after_turn, takes_turn, handed, queued, on_diverted}
+use Rattle.ctrl_node.specs.Controller.{ControllerState, still, after_turn, takes_turn, handed, queued, on_diverted}
 use Rattle.unit_machine.proofs.Real as real
 use Rattle.abstract_net.proofs.Shares.{Any, New, S_shared, S_synced, Diverted_on, Open_share, find_share, share_taking, Told, Is_fenced, Has_chunk, Is_synced, Has_packet, by_share}
 use Rattle.abstract_net.proofs.ShareRows.{taking_found}

@@ -18,7 +18,7 @@ use Rattle.nf_msgs.specs.declared.msg.Msg.TheVariants as msg
 use Rattle.nf_msgs.specs.declared.note.Note.{Note}
 use Rattle.nf_msgs.specs.declared.note.Note.TheVariants as note
 use Rattle.nf_msgs.specs.Nodes.{instance_node}
-use Rattle.switch_node.specs.Switch.{SwitchState, Step, arrives, goes_to, has_room, is_there, on_packet, on_command, on_credit, still, target_of}
+use Rattle.switch_node.specs.Switch.{SwitchState, arrives, goes_to, has_room, is_there, on_packet, on_command, on_credit, still, target_of}
 use Rattle.actor_net.proofs.WaitingMessages.{less_first}
 use Rattle.actor_net.proofs.WeightLaws.{EachSent}
 use Rattle.unit_machine.proofs.Real.{sent_for}
@@ -40,9 +40,9 @@ use Rattle.whole_outline.proofs.SwitchWorlds.{command_takes, packet_takes}
 use Rattle.joined_net.proofs.LogLemmas.{arrived-append, those-append}
 use Rattle.joined_net.proofs.OwnerLemmas.{unit_is_fit}
 use Rattle.joined_net.proofs.SwitchLemmas.{rising_without, want_num}
-use Rattle.whole_joined.proofs.Given.{Given, place, is_diverted, owner_by, loose_by, diverted_in, target_by}
+use Rattle.whole_joined.proofs.Given.{Given, place, is_diverted, owner_by, diverted_in, target_by}
 use Rattle.whole_joined.proofs.LogLemmas.{diverted_in-append, every_same, owners_on, loose_on}
-use Rattle.whole_joined.proofs.SwitchLemmas.{after, asked_nums-append, every_on, nums_put, others_same, quiet, same_switch}
+use Rattle.whole_joined.proofs.SwitchLemmas.{after, asked_nums-append, every_on, others_same, quiet, same_switch}
 use Rattle.whole_joined.proofs.Joined.{Genuine, GenuinePacket, IsCommand, IsSwitch, Label, S, A, asked_nums, came_by, commands, is_of, shown, Scene, AreShown, Leads}
 use Rattle.whole_joined.proofs.NextNumbers.{same_grows}
 

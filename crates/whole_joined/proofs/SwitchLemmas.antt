@@ -24,7 +24,7 @@ use Rattle.outline_net.proofs.Outline.{is_sys}
 use Rattle.whole_outline.proofs.WholeOutline.{outline_all}
 use Rattle.whole_outline.proofs.SwitchAll.{routes_same}
 use Rattle.joined_net.proofs.LogLemmas.{done-append}
-use Rattle.whole_joined.proofs.LogLemmas.{by_node-append, came_on, every_same, owners_on}
+use Rattle.whole_joined.proofs.LogLemmas.{came_on, every_same, owners_on}
 use Rattle.whole_joined.proofs.Given.{Given, place, target_by}
 use Rattle.whole_joined.proofs.Joined.{Nodes, node_of, Label, shown, S, A, asked_nums, came_by, commands, by_node, IsSwitch, Scene, AreShown, Leads}
 use Rattle.whole_joined.proofs.NextNumbers.{same_grows}

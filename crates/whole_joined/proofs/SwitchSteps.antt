@@ -1,12 +1,11 @@
 -- The switch's step on a message of a run leads from a world of a run to one.
-use Rattle.std.proofs.Common.{◌≡◌, ◌≢◌, ℕ, ◌-◌, ◌≤◌, Bool, true, false, Option, Some, None, List, [], ◌∷◌, ◌++◌, append-nil, refl, sym, ap, ◌∙◌, subst, arith}
-use Rattle.std.specs.Prelude.{◌==◌, nat_lt}
+use Rattle.std.proofs.Common.{◌≡◌, ℕ, ◌-◌, Bool, true, Some, List, [], ◌∷◌, ◌++◌, refl, sym, ap, ◌∙◌, subst, arith}
+use Rattle.std.specs.Prelude.{nat_lt}
 use Rattle.flow_filter.specs.declared.filter.Filter.{Filter}
 use Rattle.flow_filter.specs.declared.packet.Packet.{Packet}
 use Rattle.nf_function.specs.declared.unit.Unit as units
 use Rattle.nf_function.specs.Records.{Laws as FunctionLaws}
 use Rattle.nf_function.specs.Semantics.{Semantics}
-use Rattle.event_filter.specs.declared.mark.Mark.{Mark}
 use Rattle.event_filter.specs.declared.mark.Mark.TheVariants as mark
 use Rattle.packet_pool.specs.Pool.{FullCell}
 use Rattle.switch_rules.specs.declared.target.Target.{Target}
@@ -40,7 +39,7 @@ use Rattle.whole_joined.proofs.HandedUnits.{handed, handed_to_share, loose_begin
 use Rattle.whole_joined.proofs.LogLemmas.{came_more, every_same, loose_on, owners_on}
 use Rattle.whole_joined.proofs.SwitchLemmas.{None_asked, after, nums_put, others_same, quiet, same_switch, stops_labels}
 use Rattle.whole_joined.proofs.SwitchArrivals.{command_leads, credit_leads, item_leads, packet_leads}
-use Rattle.whole_joined.proofs.Joined.{Scene, AreShown, IsTaken, Leads, IsSwitch, Label, Genuine, S, A, asked_nums, came_by, count, is_handed, node_of, shown}
+use Rattle.whole_joined.proofs.Joined.{Scene, AreShown, IsTaken, Leads, IsSwitch, Label, Genuine, S, A, asked_nums, came_by, count, node_of, shown}
 use Rattle.whole_joined.proofs.NextNumbers.{same_grows}
 
 module _ {F R : Type 0} (f : Semantics R) (g : Given) (n : ℕ) (x : Scene F f g) (are : AreShown f g n x) where
