@@ -1,9 +1,9 @@
 -- The numbers of commands that wait for the controller, copies' among them: which messages have one, what the switch sends of them, and what the
 -- abstract network sees of them.
-use Rattle.std.proofs.Common.{◌≡◌, ℕ, zero, suc, ◌+◌, ◌<◌, ◌≤◌, Bool, true, false, Option, Some, None, List, [], ◌∷◌, ◌++◌, drop, length, refl, sym, ap, ◌∙◌, subst, append_assoc, append-nil, arith}
+use Rattle.std.proofs.Common.{◌≡◌, ℕ, zero, suc, ◌≤◌, Bool, true, false, Option, Some, None, List, [], ◌∷◌, ◌++◌, refl, sym, ap, ◌∙◌, subst, append_assoc, arith}
 use Rattle.std.specs.Prelude.{if◌then◌else◌, ◌&&◌, ◌||◌, ◌==◌, not, nat_lt, option_map}
 use Rattle.std.specs.List.{filter_map}
-use Rattle.std.proofs.lemmas.Bool.Decides.{nat_tests, Decides-eqb}
+use Rattle.std.proofs.lemmas.Bool.Decides.{Decides-eqb}
 use Rattle.nf_function.specs.Semantics.{Semantics}
 use Rattle.event_filter.specs.declared.mark.Mark.TheVariants as mark
 use Rattle.switch_rules.specs.declared.target.Target.{Target}
@@ -16,31 +16,21 @@ use Rattle.nf_msgs.specs.declared.command.Order.{Order}
 use Rattle.nf_msgs.specs.declared.command.Order.TheVariants as order
 use Rattle.nf_msgs.specs.declared.msg.Msg.{Msg}
 use Rattle.nf_msgs.specs.declared.msg.Msg.TheVariants as msg
-use Rattle.nf_msgs.specs.declared.note.Note.{Note}
 use Rattle.nf_msgs.specs.Nodes.{instance_node}
-use Rattle.switch_node.specs.Switch.{SwitchState, Step, still, sends_to_instance, goes_to, on_packet, on_install, on_credit, stops, switch_step, has_room, is_there, target_of}
-use Rattle.actor_net.specs.declared.choice.Choice.{Choice}
-use Rattle.actor_net.specs.Network.{Network, Stepped, is_input, waiting, taken, reaches}
+use Rattle.switch_node.specs.Switch.{SwitchState, Step, still, sends_to_instance, goes_to, stops, switch_step, has_room, is_there, target_of}
 use Rattle.actor_net.specs.Histories.{sent_for}
 use Rattle.actor_net.proofs.EnabledChoices.{at}
-use Rattle.actor_net.proofs.LinkLemmas.{put_on_link}
-use Rattle.actor_net.proofs.WaitingMessages.{less_first}
-use Rattle.actor_net.proofs.StepOutcome.{Takes, taken_outcome}
-use Rattle.actor_net.proofs.RunInduction.{Taking}
 use Rattle.abstract_net.proofs.Net as net
 use Rattle.abstract_net.proofs.Net.{Want}
 use Rattle.abstract_net.proofs.Waits.{Rising, rising_less}
 use Rattle.abstract_net.proofs.Shares.{Any, Old, New, Want_share, S_asked, Shared_on, Diverted_on, S_install, S_forward, S_get, S_sync, S_chunks, S_shared, S_synced}
-use Rattle.net_world.specs.declared.node.Node.{Node}
-use Rattle.net_world.specs.Nodes.{node_step, node_ready}
 use Rattle.outline_net.proofs.Outline.{want_of}
 use Rattle.whole_outline.proofs.WholeOutline.{want_share_of, asked_of}
 use Rattle.whole_outline.proofs.AskedShare.{is_wanted}
 use Rattle.joined_net.proofs.SwitchLemmas.{want_num}
-use Rattle.whole_joined.proofs.ControllerBegins.{IsNext, Order_next, Copies_next}
 use Rattle.whole_joined.proofs.Given.{Given, place}
-use Rattle.whole_joined.proofs.Joined.{Label, count, shown, commands, asked_nums, node_of, Grows, Scene, Joined, Leads}
-use Rattle.whole_joined.proofs.JoinedSteps.{Node_leads, scene, label, is_taken, input_after, step_leads, joined_after, after_world, takes_at, ready_at, joined_next, next_is}
+use Rattle.whole_joined.proofs.Joined.{Label, shown, commands, asked_nums, Grows}
+use Rattle.whole_joined.proofs.JoinedSteps.{label}
 
 -- the numbers of commands that wait for the controller
 abbrev pub numbers : List Msg → List ℕ

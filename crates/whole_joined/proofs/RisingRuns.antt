@@ -1,20 +1,17 @@
 -- The numbers of commands that wait, at the controller and in the input, rise from the next number on, along every run, copies' among them. So
 -- where a copy is asked for, its number and those behind it are new.
-use Rattle.std.proofs.Common.{◌≡◌, ℕ, zero, suc, ◌+◌, ◌<◌, ◌≤◌, Bool, true, false, Option, Some, None, List, [], ◌∷◌, ◌++◌, drop, length, refl, sym, ap, ◌∙◌, subst, append_assoc, append-nil, arith}
-use Rattle.std.specs.Prelude.{if◌then◌else◌, ◌&&◌, ◌==◌, not, nat_lt}
+use Rattle.std.proofs.Common.{◌≡◌, ℕ, suc, ◌+◌, ◌<◌, Bool, true, false, None, List, [], ◌∷◌, ◌++◌, drop, refl, sym, ap, ◌∙◌, subst, append_assoc, append-nil, arith}
+use Rattle.std.specs.Prelude.{◌&&◌, ◌==◌, nat_lt}
 use Rattle.std.specs.List.{filter_map}
 use Rattle.std.proofs.lemmas.Bool.Decides.{nat_tests, Decides-eqb}
 use Rattle.nf_function.specs.Semantics.{Semantics}
-use Rattle.nf_msgs.specs.declared.command.Command.{Command}
 use Rattle.nf_msgs.specs.declared.command.Order.{Order}
 use Rattle.nf_msgs.specs.declared.command.Order.TheVariants as order
 use Rattle.nf_msgs.specs.declared.msg.Msg.{Msg}
 use Rattle.nf_msgs.specs.declared.msg.Msg.TheVariants as msg
 use Rattle.nf_msgs.specs.declared.note.Note.{Note}
-use Rattle.switch_node.specs.Switch.{switch_step}
 use Rattle.actor_net.specs.declared.choice.Choice.{Choice}
-use Rattle.actor_net.specs.Network.{Network, Stepped, is_input, waiting, taken}
-use Rattle.actor_net.specs.Histories.{sent_for}
+use Rattle.actor_net.specs.Network.{Network, is_input, waiting, taken}
 use Rattle.actor_net.proofs.EnabledChoices.{at}
 use Rattle.actor_net.proofs.LinkLemmas.{put_on_link}
 use Rattle.actor_net.proofs.WaitingMessages.{less_first}
@@ -24,11 +21,11 @@ use Rattle.abstract_net.proofs.Waits.{Rising, rising_less}
 use Rattle.net_world.specs.declared.node.Node.{Node}
 use Rattle.net_world.specs.Nodes.{node_step, node_ready}
 use Rattle.whole_outline.proofs.WholeOutline.{asked_of}
-use Rattle.whole_joined.proofs.ControllerBegins.{IsNext, Order_next, Copies_next}
-use Rattle.whole_joined.proofs.RisingNumbers.{numbers, numbers_behind, IsUnasked, numbers-append, switch_numbers, commands_behind, unasked_by, no_command, grows_low, rising_shown}
+use Rattle.whole_joined.proofs.ControllerBegins.{Order_next, Copies_next}
+use Rattle.whole_joined.proofs.RisingNumbers.{numbers, IsUnasked, numbers-append, switch_numbers, commands_behind, unasked_by, no_command, grows_low, rising_shown}
 use Rattle.whole_joined.proofs.Given.{Given, place}
-use Rattle.whole_joined.proofs.Joined.{Label, count, shown, commands, asked_nums, node_of, Grows, Scene, Joined, Leads}
-use Rattle.whole_joined.proofs.JoinedSteps.{Node_leads, scene, label, is_taken, input_after, step_leads, joined_after, after_world, takes_at, ready_at, joined_next, next_is}
+use Rattle.whole_joined.proofs.Joined.{Label, count, shown, commands, asked_nums, node_of, Grows, Scene, Joined}
+use Rattle.whole_joined.proofs.JoinedSteps.{Node_leads, scene, label, input_after, step_leads, joined_after, after_world, takes_at, ready_at, joined_next, next_is}
 
 and_false : (b : Bool) → b && false ≡ false
 and_false true = refl

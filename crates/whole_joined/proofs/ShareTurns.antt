@@ -1,7 +1,6 @@
 -- What the controller's step leaves of an open share of a run, on a message of its number and on a packet that is put behind its queue: a share of
 -- a run, and all else as it was.
-use Rattle.std.proofs.Common.{◌≡◌, ℕ, true, false, cond, Option, Some, None, List, [], ◌∷◌, ◌++◌, refl, sym, ap, ◌∙◌, subst, arith}
-use Rattle.std.specs.Prelude.{◌==◌}
+use Rattle.std.proofs.Common.{◌≡◌, ℕ, cond, Option, Some, None, List, [], ◌∷◌, ◌++◌, refl, sym, ap, ◌∙◌, subst}
 use Rattle.std.specs.FinMap as finite
 use Rattle.nf_function.specs.Semantics.{Semantics}
 use Rattle.packet_pool.specs.Pool.{FullCell}
