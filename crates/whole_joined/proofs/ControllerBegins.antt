@@ -73,7 +73,7 @@ no_overlap c what e = map_none answer.Overlap (overlap c what) (or_none (option_
 pub none_unknown : (c : ControllerState) (what : Order) → refusal c what ≡ None → unknown_name c what ≡ None
 none_unknown c what e = map_none answer.Unknown (unknown_name c what) (or_none (option_map answer.Unknown (unknown_name c what)) (option_map answer.Overlap (overlap c what)) e).0
 
-none_meets : (c : ControllerState) (filter : Filter) (k : ℕ) (o : Operation) → lowest_meeting c.operations filter ≡ None → finite.get c.operations k ≡ Some o → meets_operation filter o ≡ false
+pub none_meets : (c : ControllerState) (filter : Filter) (k : ℕ) (o : Operation) → lowest_meeting c.operations filter ≡ None → finite.get c.operations k ≡ Some o → meets_operation filter o ≡ false
 none_meets c filter k o none there = find_none (meets_operation filter) (finite.entries c.operations) k o (map_none (λ entry. entry.0) (find (λ entry. meets_operation filter entry.1) (finite.entries c.operations)) none) (sym (finite.get-entries c.operations k) ∙ there)
 
 -- a list of shares of different numbers: each is found by its own

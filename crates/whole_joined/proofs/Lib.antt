@@ -1,4 +1,3 @@
-pub mod ChunksHandedOn
 pub mod ClosingMoves
 pub mod ControllerAsked
 pub mod ControllerBegins
@@ -8,6 +7,7 @@ pub mod ControllerRows
 pub mod ControllerScenes
 pub mod ControllerSteps
 pub mod ControllerTurns
+pub mod CopiesUnshared
 pub mod CopyAnswers
 pub mod CopyCounts
 pub mod CopyFalls
@@ -29,6 +29,9 @@ pub mod MoveReadings
 pub mod MoveSteps
 pub mod NextNumbers
 pub mod NodeSteps
+pub mod OperationsApart
+pub mod RisingNumbers
+pub mod RisingRuns
 pub mod RunUnits
 pub mod RunsJoined
 pub mod ShareBegins

@@ -1,14 +1,19 @@
 -- The records of a copy's chunks on their way to the destination are folds of fronts of what was done: they were, where they came to the
 -- controller, and so they stay.
-use Rattle.std.proofs.Common.{◌≡◌, ℕ, zero, suc, ◌+◌, ◌<◌, true, false, Some, List, [], ◌∷◌, ◌++◌, length, refl, sym, ap, ◌∙◌, subst, arith}
+use Rattle.std.proofs.Common.{◌≡◌, ℕ, zero, suc, ◌+◌, ◌<◌, ◌≤◌, Bool, true, false, Option, Some, None, List, [], ◌∷◌, ◌++◌, length, refl, sym, ap, ◌∙◌, subst, arith}
 use Rattle.std.specs.Prelude.{◌&&◌, ◌==◌}
+use Rattle.std.specs.FinMap as finite
 use Rattle.std.proofs.lemmas.Bool.Decides.{nat_tests}
+use Rattle.flow_filter.specs.declared.filter.Filter.{Filter}
 use Rattle.nf_function.specs.declared.chunk.Chunk.{Chunk}
 use Rattle.nf_function.specs.declared.unit.Unit as units
 use Rattle.nf_function.specs.Semantics.{Semantics}
 use Rattle.nf_msgs.specs.declared.msg.Msg.{Msg}
 use Rattle.nf_msgs.specs.declared.msg.Msg.TheVariants as msg
 use Rattle.nf_msgs.specs.declared.note.Note.{Note}
+use Rattle.copy_share.specs.Copy as copy
+use Rattle.ctrl_node.specs.declared.operation.Operation.{Operation}
+use Rattle.ctrl_node.specs.declared.operation.Operation.TheVariants.{Move, Copy, Share}
 use Rattle.ctrl_node.specs.Controller.{controller_step}
 use Rattle.actor_net.specs.declared.choice.Choice.{Choice}
 use Rattle.actor_net.specs.Network.{Network, Stepped, is_input, waiting, taken}
@@ -17,18 +22,19 @@ use Rattle.actor_net.proofs.StepOutcome.{Takes}
 use Rattle.actor_net.proofs.RunInduction.{Taking}
 use Rattle.actor_net.proofs.WeightLaws.{Each, OnLinks, EachSent, on_links_after}
 use Rattle.unit_machine.proofs.Real.{record_at}
-use Rattle.abstract_net.proofs.Shares.{New, Share_msg, S_chunks, S_shared, Each_new, ran_of}
+use Rattle.abstract_net.proofs.Shares.{Any, New, Share_msg, S_chunks, S_shared, Whole, Each_new, ran_of}
 use Rattle.whole_net.proofs.Fronts.{Front_of, Msg_front}
 use Rattle.net_world.specs.declared.node.Node.{Node}
 use Rattle.net_world.specs.Nodes.{node_step, node_ready}
 use Rattle.net_world.specs.Log.{done}
 use Rattle.outline_net.proofs.Outline.{entries, is_sys}
 use Rattle.joined_net.proofs.LogLemmas.{done-append}
-use Rattle.whole_joined.proofs.ChunksHandedOn.{brought, controller_brings}
+use Rattle.whole_joined.proofs.CopyAnswers.{is_uncopied}
+use Rattle.whole_joined.proofs.CopySends.{Turn_so, controller_sent}
 use Rattle.whole_joined.proofs.LogLemmas.{by_node-append}
 use Rattle.whole_joined.proofs.StandbyChunks.{AreFronted, AreUnshared, MayStandBy, none_fronted, fronted_later}
 use Rattle.whole_joined.proofs.Given.{Given}
-use Rattle.whole_joined.proofs.Joined.{S, A, by_node, count, shown, node_of, Label, Scene, AreShown, IsTaken, Leads, Joined}
+use Rattle.whole_joined.proofs.Joined.{S, A, by_node, count, shown, node_of, Label, Scene, AreShown, Took, IsTaken, Leads, Joined}
 use Rattle.whole_joined.proofs.JoinedSteps.{Node_leads, scene, is_taken, step_leads, joined_after, after_world, takes_at, ready_at, joined_next, next_is}
 
 -- the chunks that a message brings to stand by
@@ -36,14 +42,9 @@ abbrev pub kept_of : Msg → List Chunk
 kept_of (msg.Standby op chunks) = chunks
 kept_of message = []
 
--- what holds of no chunks, and of those that a message brings, holds of those that it brings to stand by
-of_kept : (P : List Chunk → Type 0) → P [] → (m : Msg) → P (brought m) → P (kept_of m)
-of_kept P nothing (msg.Standby op chunks) h = h
-of_kept P nothing m h = nothing
-
-each_keeps : (P : List Chunk → Type 0) → P [] → (k : ℕ) (sends : List (ℕ × Msg)) → Each (λ x. P (brought x.1)) sends → EachSent (λ s r m. P (kept_of m)) k sends
-each_keeps P nothing k [] h = tt
-each_keeps P nothing k (x ∷ xs) h = (of_kept P nothing x.1 h.0, each_keeps P nothing k xs h.1)
+each_sent : (P : Msg → Type 0) (k : ℕ) (sends : List (ℕ × Msg)) → Each (λ x. P x.1) sends → EachSent (λ s r m. P m) k sends
+each_sent P k [] h = tt
+each_sent P k (x ∷ xs) h = (h.0, each_sent P k xs h.1)
 
 each_weaker : {M : Type 0} {P Q : M → Type 0} → ((m : M) → P m → Q m) → (ms : List M) → Each P ms → Each Q ms
 each_weaker g [] h = tt
@@ -79,24 +80,33 @@ module _ {F R : Type 0} (f : Semantics R) (g : Given) (n : ℕ) (x : Scene F f g
   no_input : (p == 0) && (1 == 0) ≡ false
   no_input = elim (p == 0) as (λ b. b && false ≡ false) [ true ↦ refl | false ↦ refl ]
 
-  comes_fronted : (m : Msg) → Taken m → Label f g p 1 m → AreFronted f g x.world (brought m)
-  comes_fronted (msg.Chunks op chunks) is its = λ u. head_front f g n x 1 p (msg.Chunks op chunks) are is no_input (S_chunks op (entries f chunks)) refl u
-  comes_fronted (msg.Shared op chunk) is its =
-      let c = its.1.chunk in
-      let spells = c.spells in
-      let one : c.entry ∷ [] ≡ entries f (chunk ∷ []) = rw spells refl in
-      let seen : shown f g (msg.Shared op chunk) ≡ Some (New (S_shared op c.entry)) = rw spells refl in
-      λ u. subst (λ es. Front_of (S f g) (A f g) (is_sys f g.site g.packet) u (ran_of (S f g) (A f g) u x.world.done) (record_at u es)) one (head_front f g n x 1 p (msg.Shared op chunk) are is no_input (S_shared op c.entry) seen u)
-  comes_fronted (msg.Standby op chunks) is its = let few = its.0.1 in absurd (omega (arith, few))
-  comes_fronted (msg.Sync home op chunks) is its = let few = its.0.1 in absurd (omega (arith, few))
-  comes_fronted m is its = none_fronted f g x.world
+  comes_fronted : (op : ℕ) (chunks : List Chunk) → Taken (msg.Chunks op chunks) → AreFronted f g x.world chunks
+  comes_fronted op chunks is u = head_front f g n x 1 p (msg.Chunks op chunks) are is no_input (S_chunks op (entries f chunks)) refl u
 
   -- and so is what it sends on
-  controller_keeps : (m : Msg) → Taken m → (l : Leads f g n x (record { node = 1; port = p; message = m }) (node_step f (node_of x.nodes 1) p m)) → EachSent (λ s r y. AreFronted f g l.world (kept_of y)) 1 (controller_step x.nodes.controller p m).sends
-  controller_keeps m is l =
-      let P : List Chunk → Type 0 = AreFronted f g l.world in
-      let came = still_fronted f g n x 1 p m are is (node_step f (node_of x.nodes 1) p m) l (brought m) (comes_fronted m is is.label) in
-      each_keeps P (none_fronted f g l.world) 1 (controller_step x.nodes.controller p m).sends (controller_brings P (none_fronted f g l.world) x.nodes.controller p m came)
+  module _ (m : Msg) (is : Taken m) (l : Leads f g n x (record { node = 1; port = p; message = m }) (node_step f (node_of x.nodes 1) p m)) where
+    abbrev P : Msg → Type 0
+    P y = AreFronted f g l.world (kept_of y)
+
+    others : (y : Msg) → is_uncopied y ≡ true → P y
+    others (msg.Standby op chunks) e = cc
+    others y e = none_fronted f g l.world
+
+    handed_on : (op k : ℕ) (chunks : List Chunk) → m ≡ msg.Chunks k chunks → P (msg.Standby op chunks)
+    handed_on op k chunks e = still_fronted f g n x 1 p m are is (node_step f (node_of x.nodes 1) p m) l chunks (comes_fronted k chunks (subst Taken e is))
+
+    turns : (o : Option Operation) → Turn_so P others o m
+    turns None = tt
+    turns (Some (Move mv)) = tt
+    turns (Some (Copy y)) = (handed_on y.plan.op, λ k chunk e. none_fronted f g l.world)
+    turns (Some (Share y)) = none_fronted f g l.world
+
+    begins : (op : ℕ) (filter : Option Filter) → P (copy.asks op filter)
+    begins op None = none_fronted f g l.world
+    begins op (Some filter) = none_fronted f g l.world
+
+    controller_keeps : EachSent (λ s r y. AreFronted f g l.world (kept_of y)) 1 (controller_step x.nodes.controller p m).sends
+    controller_keeps = each_sent P 1 (controller_step x.nodes.controller p m).sends (controller_sent P others x.nodes.controller p m (λ op e. turns (finite.get x.nodes.controller.operations op)) (λ k source destination filter e is_copy. begins k.op filter))
 
   -- of any node
   pub node_keeps : (k : ℕ) (m : Msg) → IsTaken f g n x (record { node = k; port = p; message = m }) → (l : Leads f g n x (record { node = k; port = p; message = m }) (node_step f (node_of x.nodes k) p m)) → EachSent (λ s r y. AreFronted f g l.world (kept_of y)) k (node_step f (node_of x.nodes k) p m).sends
@@ -110,12 +120,26 @@ module _ {F R : Type 0} (f : Semantics R) (g : Given) (n : ℕ) where
   pub record AreKeptFronts (w : Network (Node F R) Msg Note) (j : Joined f g n w) : Type 0 where
     pub each : OnLinks (λ s r m. AreFronted f g j.world (kept_of m)) w
 
-  module _ (count_is : n ≡ count f g + 2) (May : Scene F f g → Msg → Type 0) (leads : Node_leads F f g n May) (w : Network (Node F R) Msg Note) (k p : ℕ) (m : Msg) (rest : List Msg) (j : Joined f g n w) (takes : Takes (node_step f) n w k p (node_of j.nodes k) m rest) (was_ready : is_input (at k p) ≡ true → node_ready (node_of j.nodes k) m ≡ true) where
+  -- at the start no chunks are on their way
+  pub no_kept_fronts : (w : Network (Node F R) Msg Note) (j : Joined f g n w) → ((s r : ℕ) → s < length w.nodes → r < length w.nodes → (s == 1) ≡ true → waiting w (at r s) ≡ []) → AreKeptFronts w j
+  no_kept_fronts w j empty = record {
+    each = λ s r hs hr. elim (s == 1) as (λ b. (s == 1) ≡ b → Each (λ m. AreFronted f g j.world (kept_of m)) (waiting w (at r s))) [
+      | true ↦ λ one. subst (λ ms. Each (λ m. AreFronted f g j.world (kept_of m)) ms) (sym (empty s r hs hr one)) tt
+      | false ↦ λ off. all_none s r off (waiting w (at r s)) (j.labels s r hs hr)
+    ] refl;
+  }
+    where
+      all_none : (s r : ℕ) → (s == 1) ≡ false → (ms : List Msg) → Each (Label f g s r) ms → Each (λ m. AreFronted f g j.world (kept_of m)) ms
+      all_none s r off [] h = tt
+      all_none s r off (m ∷ ms) h = (none_kept f g (AreFronted f g j.world) (none_fronted f g j.world) s r off m h.0, all_none s r off ms h.1)
+
+module _ {F R : Type 0} (f : Semantics R) (g : Given) (n : ℕ) (count_is : n ≡ count f g + 2) (May : Scene F f g → Msg → Type 0) (leads : Node_leads F f g n May) where
+  module _ (w : Network (Node F R) Msg Note) (k p : ℕ) (m : Msg) (rest : List Msg) (j : Joined f g n w) (takes : Takes (node_step f) n w k p (node_of j.nodes k) m rest) (was_ready : is_input (at k p) ≡ true → node_ready (node_of j.nodes k) m ≡ true) where
     -- the message that is taken
-    pub taken_front : AreKeptFronts w j → AreFronted f g j.world (kept_of m)
+    pub taken_front : AreKeptFronts f g n w j → AreFronted f g j.world (kept_of m)
     taken_front h = (subst (λ ms. Each (λ y. AreFronted f g j.world (kept_of y)) ms) takes.waits (h.each p k (let c = takes.count in rw c takes.sender) (let c = takes.count in rw c takes.receiver))).0
 
-    pub kept_fronts_after : AreKeptFronts w j → (may : May (scene f g n count_is May leads w j) m) → AreKeptFronts (taken (node_step f) w (at k p)) (joined_after f g n count_is May leads w k p m rest j takes was_ready may)
+    pub kept_fronts_after : AreKeptFronts f g n w j → (may : May (scene f g n count_is May leads w j) m) → AreKeptFronts f g n (taken (node_step f) w (at k p)) (joined_after f g n count_is May leads w k p m rest j takes was_ready may)
     kept_fronts_after h may =
         let x = scene f g n count_is May leads w j in
         let is = is_taken f g n count_is May leads w k p m rest j takes was_ready in
@@ -128,26 +152,13 @@ module _ {F R : Type 0} (f : Semantics R) (g : Given) (n : ℕ) where
         }
 
   -- after a choice of a run
-  module _ (count_is : n ≡ count f g + 2) (May : Scene F f g → Msg → Type 0) (leads : Node_leads F f g n May) (w : Network (Node F R) Msg Note) (c : Choice) (t : Taking node_ready (node_step f) n w c) (j : Joined f g n w) where
-    pub kept_fronts_next : AreKeptFronts w j → (may : May (scene f g n count_is May leads w j) t.message) → AreKeptFronts (taken (node_step f) w c) (joined_next f g n count_is May leads w c t j may)
-    kept_fronts_next h may = subst (λ after. AreKeptFronts (taken (node_step f) w c) after) (sym (next_is f g n count_is May leads w c t j may)) (kept_fronts_after count_is May leads w c.node c.port t.message t.rest j (takes_at f g n count_is May leads w c t j) (ready_at f g n count_is May leads w c t j) h may)
+  module _ (w : Network (Node F R) Msg Note) (c : Choice) (t : Taking node_ready (node_step f) n w c) (j : Joined f g n w) where
+    pub kept_fronts_next : AreKeptFronts f g n w j → (may : May (scene f g n count_is May leads w j) t.message) → AreKeptFronts f g n (taken (node_step f) w c) (joined_next f g n count_is May leads w c t j may)
+    kept_fronts_next h may = subst (λ after. AreKeptFronts f g n (taken (node_step f) w c) after) (sym (next_is f g n count_is May leads w c t j may)) (kept_fronts_after w c.node c.port t.message t.rest j (takes_at f g n count_is May leads w c t j) (ready_at f g n count_is May leads w c t j) h may)
 
     -- chunks of no unit that a share takes may then stand by
-    pub may_stand_by : AreKeptFronts w j → (op : ℕ) (chunks : List Chunk) → t.message ≡ msg.Standby op chunks → AreUnshared f g j.world chunks → MayStandBy f g j.world chunks
+    pub may_stand_by : AreKeptFronts f g n w j → (op : ℕ) (chunks : List Chunk) → t.message ≡ msg.Standby op chunks → AreUnshared f g j.world chunks → MayStandBy f g j.world chunks
     may_stand_by h op chunks is unshared = record {
-      fronts = subst (λ m. AreFronted f g j.world (kept_of m)) is (taken_front count_is May leads w c.node c.port t.message t.rest j (takes_at f g n count_is May leads w c t j) (ready_at f g n count_is May leads w c t j) h);
+      fronts = subst (λ m. AreFronted f g j.world (kept_of m)) is (taken_front w c.node c.port t.message t.rest j (takes_at f g n count_is May leads w c t j) (ready_at f g n count_is May leads w c t j) h);
       unshared = unshared;
     }
-
-  -- at the start no chunks are on their way
-  pub no_kept_fronts : (w : Network (Node F R) Msg Note) (j : Joined f g n w) → ((s r : ℕ) → s < length w.nodes → r < length w.nodes → (s == 1) ≡ true → waiting w (at r s) ≡ []) → AreKeptFronts w j
-  no_kept_fronts w j empty = record {
-    each = λ s r hs hr. elim (s == 1) as (λ b. (s == 1) ≡ b → Each (λ m. AreFronted f g j.world (kept_of m)) (waiting w (at r s))) [
-      | true ↦ λ one. subst (λ ms. Each (λ m. AreFronted f g j.world (kept_of m)) ms) (sym (empty s r hs hr one)) tt
-      | false ↦ λ off. all_none s r off (waiting w (at r s)) (j.labels s r hs hr)
-    ] refl
-  }
-    where
-      all_none : (s r : ℕ) → (s == 1) ≡ false → (ms : List Msg) → Each (Label f g s r) ms → Each (λ m. AreFronted f g j.world (kept_of m)) ms
-      all_none s r off [] h = tt
-      all_none s r off (m ∷ ms) h = (none_kept f g (AreFronted f g j.world) (none_fronted f g j.world) s r off m h.0, all_none s r off ms h.1)
