@@ -261,7 +261,7 @@ module _ (P : Msg → Type 0) (others : (m : Msg) → is_uncopied m ≡ true →
     after_sent op t None h = h
     after_sent op t (Some a) h = each-both t.sends ((switch_node, msg.Answered op) ∷ []) h (others (msg.Answered op) refl, tt)
 
-    handed_sent : (op : ℕ) (m : Msg) → Turn_so (finite.get s.operations op) m → EachIs (ctrl.handed s op port m).sends
+    pub handed_sent : (op : ℕ) (m : Msg) → Turn_so (finite.get s.operations op) m → EachIs (ctrl.handed s op port m).sends
     handed_sent op m its =
         let t = turn_of (finite.get s.operations op) s.store port m in
         let did = ctrl.takes_turn s op t in
@@ -282,11 +282,11 @@ module _ (P : Msg → Type 0) (others : (m : Msg) → is_uncopied m ≡ true →
       | false ↦ (others (msg.Forward i (Pass op) cell) refl, tt)
     ]
 
-    final_sent : (o : Option ℕ) → EachIs (ctrl.on_final s o).sends
+    pub final_sent : (o : Option ℕ) → EachIs (ctrl.on_final s o).sends
     final_sent None = tt
     final_sent (Some i) = tt
 
-    queued_sent : (cell : FullCell) (o : Option ℕ) → EachIs (ctrl.queued s cell o).sends
+    pub queued_sent : (cell : FullCell) (o : Option ℕ) → EachIs (ctrl.queued s cell o).sends
     queued_sent cell None = tt
     queued_sent cell (Some op) = serves_sent (record s { store = with_parcels s.store op (stored s.store op ++ cell ∷ []) }) op
 
@@ -313,7 +313,7 @@ module _ (P : Msg → Type 0) (others : (m : Msg) → is_uncopied m ≡ true →
     decided_sent k (Some a) its = (others (msg.Answered k.op) refl, tt)
     decided_sent k None its = begins_sent k k.what refl its
 
-    asked_sent : (k : Command) → Begin_so (msg.Asked k) → EachIs (ctrl.on_asked s k).sends
+    pub asked_sent : (k : Command) → Begin_so (msg.Asked k) → EachIs (ctrl.on_asked s k).sends
     asked_sent k its = elim (finite.contains_key s.operations k.op) as (λ b. EachIs (if b then ctrl.still s else ctrl.decided s k.op k.what (ctrl.refusal s k.what)).sends) [ true ↦ tt | false ↦ decided_sent k (ctrl.refusal s k.what) its ]
 
     row_sent : (m : Msg) → Turns_so m → Begin_so m → EachIs (ctrl.row s port m).sends

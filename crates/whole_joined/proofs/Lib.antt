@@ -9,9 +9,12 @@ pub mod ControllerSteps
 pub mod ControllerTurns
 pub mod CopiesUnshared
 pub mod CopyAnswers
+pub mod CopyCounts
+pub mod CopyFalls
 pub mod CopyFilters
 pub mod CopyRows
 pub mod CopySends
+pub mod CopyTokens
 pub mod Given
 pub mod HandedUnits
 pub mod InstanceKeeps
@@ -28,6 +31,8 @@ pub mod MoveSteps
 pub mod NextNumbers
 pub mod NodeSteps
 pub mod OperationsApart
+pub mod RisingNumbers
+pub mod RisingRuns
 pub mod RunUnits
 pub mod RunsJoined
 pub mod ShareBegins

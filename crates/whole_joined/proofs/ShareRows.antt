@@ -132,7 +132,7 @@ module _ {R : Type 0} (f : Semantics R) (g : Given) where
     served_is (phase.Syncing left) cells out genuine = none_served (phase.Syncing left) cells out genuine refl
 
   -- an open share in another phase
-  pub moved_on : (op : ℕ) (s : ShareState) (ph : SharePhase) → IsShare f g op s → IsOutAt f g s.plan.members ph → IsShare f g op (record s { phase = ph })
+  moved_on : (op : ℕ) (s : ShareState) (ph : SharePhase) → IsShare f g op s → IsOutAt f g s.plan.members ph → IsShare f g op (record s { phase = ph })
   moved_on op s ph is out = record { op_is = is.op_is; few = is.few; some = is.some; distinct = is.distinct; whole = is.whole; plan = is.plan; out = out }
 
   -- A share after what is served in a phase, the packets that it leaves, and what is sent.

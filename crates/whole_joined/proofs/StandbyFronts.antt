@@ -126,7 +126,7 @@ module _ {F R : Type 0} (f : Semantics R) (g : Given) (n : ℕ) where
     each = λ s r hs hr. elim (s == 1) as (λ b. (s == 1) ≡ b → Each (λ m. AreFronted f g j.world (kept_of m)) (waiting w (at r s))) [
       | true ↦ λ one. subst (λ ms. Each (λ m. AreFronted f g j.world (kept_of m)) ms) (sym (empty s r hs hr one)) tt
       | false ↦ λ off. all_none s r off (waiting w (at r s)) (j.labels s r hs hr)
-    ] refl
+    ] refl;
   }
     where
       all_none : (s r : ℕ) → (s == 1) ≡ false → (ms : List Msg) → Each (Label f g s r) ms → Each (λ m. AreFronted f g j.world (kept_of m)) ms
