@@ -1,26 +1,21 @@
 -- No share takes a unit that an open copy's filter takes; so of chunks of such units none is a share's.
-use Rattle.std.proofs.Common.{◌≡◌, ℕ, Bool, true, false, cond, ◌⊎◌, inl, inr, Option, Some, None, List, [], ◌∷◌, refl, sym, ap, ◌∙◌, subst, arith}
+use Rattle.std.proofs.Common.{◌≡◌, ℕ, true, false, inl, inr, Some, None, List, [], ◌∷◌, refl, sym, ap, ◌∙◌, subst}
 use Rattle.std.specs.Prelude.{◌==◌}
 use Rattle.std.specs.FinMap as finite
-use Rattle.std.proofs.lemmas.Bool.Decides.{nat_tests, Decides-eqb}
+use Rattle.std.proofs.lemmas.Bool.Decides.{Decides-eqb}
 use Rattle.flow_filter.specs.declared.filter.Filter.{Filter}
-use Rattle.flow_filter.specs.Filter.{meets}
 use Rattle.nf_function.specs.declared.chunk.Chunk.{Chunk}
 use Rattle.nf_function.specs.declared.unit.Unit as units
 use Rattle.nf_function.specs.Semantics.{Semantics}
-use Rattle.record_table.specs.Table.{same_unit}
-use Rattle.record_table.proofs.UnitOrder.{same_unit-true}
 use Rattle.copy_share.specs.Copy.{CopyState}
 use Rattle.copy_share.specs.Share.{ShareState}
-use Rattle.ctrl_node.specs.declared.operation.Operation.{Operation}
 use Rattle.ctrl_node.specs.declared.operation.Operation.TheVariants.{Copy, Share}
-use Rattle.ctrl_node.specs.Operations.{filter_of}
 use Rattle.ctrl_node.specs.Controller.{ControllerState}
 use Rattle.unit_machine.proofs.Labels.{Each}
-use Rattle.unit_machine.proofs.Real.{Chunks, record_at}
+use Rattle.unit_machine.proofs.Real.{record_at}
 use Rattle.abstract_net.proofs.GlobalAll.{Takes_some}
 use Rattle.abstract_net.proofs.ShareRows.{taking_each, taking_found}
-use Rattle.abstract_net.proofs.Shares.{Open_share, share_taking}
+use Rattle.abstract_net.proofs.Shares.{Open_share}
 use Rattle.outline_net.proofs.Outline.{entries, is_sys}
 use Rattle.whole_outline.proofs.OpenShares.{real_share}
 use Rattle.whole_joined.proofs.OperationsApart.{AreApart, AllApart}

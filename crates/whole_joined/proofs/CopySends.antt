@@ -164,7 +164,6 @@ module _ (P : Msg → Type 0) (others : (m : Msg) → is_uncopied m ≡ true →
   each-both : (xs ys : List (ℕ × Msg)) → EachIs xs → EachIs ys → EachIs (xs ++ ys)
   each-both xs ys a b = each-append (λ x. P x.1) xs ys a b
 
-
   -- What a copy sends.
   abbrev Hands_so : ℕ → Msg → Type 0
   Hands_so op m = (k : ℕ) (chunks : List Chunk) → m ≡ msg.Chunks k chunks → P (msg.Standby op chunks)

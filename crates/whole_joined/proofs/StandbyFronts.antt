@@ -1,6 +1,6 @@
 -- The records of a copy's chunks on their way to the destination are folds of fronts of what was done: they were, where they came to the
 -- controller, and so they stay.
-use Rattle.std.proofs.Common.{◌≡◌, ℕ, zero, suc, ◌+◌, ◌<◌, ◌≤◌, Bool, true, false, Option, Some, None, List, [], ◌∷◌, ◌++◌, length, refl, sym, ap, ◌∙◌, subst, arith}
+use Rattle.std.proofs.Common.{◌≡◌, ℕ, zero, suc, ◌+◌, ◌<◌, true, false, Option, Some, None, List, [], ◌∷◌, ◌++◌, length, refl, sym, ap, ◌∙◌, subst, arith}
 use Rattle.std.specs.Prelude.{◌&&◌, ◌==◌}
 use Rattle.std.specs.FinMap as finite
 use Rattle.std.proofs.lemmas.Bool.Decides.{nat_tests}
@@ -21,9 +21,8 @@ use Rattle.actor_net.proofs.EnabledChoices.{at}
 use Rattle.actor_net.proofs.StepOutcome.{Takes}
 use Rattle.actor_net.proofs.RunInduction.{Taking}
 use Rattle.actor_net.proofs.WeightLaws.{Each, OnLinks, EachSent, on_links_after}
-use Rattle.unit_machine.proofs.Real.{record_at}
-use Rattle.abstract_net.proofs.Shares.{Any, New, Share_msg, S_chunks, S_shared, Whole, Each_new, ran_of}
-use Rattle.whole_net.proofs.Fronts.{Front_of, Msg_front}
+use Rattle.abstract_net.proofs.Shares.{New, Share_msg, S_chunks, Each_new, ran_of}
+use Rattle.whole_net.proofs.Fronts.{Msg_front}
 use Rattle.net_world.specs.declared.node.Node.{Node}
 use Rattle.net_world.specs.Nodes.{node_step, node_ready}
 use Rattle.net_world.specs.Log.{done}
@@ -34,7 +33,7 @@ use Rattle.whole_joined.proofs.CopySends.{Turn_so, controller_sent}
 use Rattle.whole_joined.proofs.LogLemmas.{by_node-append}
 use Rattle.whole_joined.proofs.StandbyChunks.{AreFronted, AreUnshared, MayStandBy, none_fronted, fronted_later}
 use Rattle.whole_joined.proofs.Given.{Given}
-use Rattle.whole_joined.proofs.Joined.{S, A, by_node, count, shown, node_of, Label, Scene, AreShown, Took, IsTaken, Leads, Joined}
+use Rattle.whole_joined.proofs.Joined.{S, A, by_node, count, shown, node_of, Label, Scene, AreShown, IsTaken, Leads, Joined}
 use Rattle.whole_joined.proofs.JoinedSteps.{Node_leads, scene, is_taken, step_leads, joined_after, after_world, takes_at, ready_at, joined_next, next_is}
 
 -- the chunks that a message brings to stand by

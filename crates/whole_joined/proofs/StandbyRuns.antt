@@ -1,6 +1,6 @@
 -- What a run keeps beside its worlds for copies: chunks that are to stand by are of fronts and of the units of their order's filter, and no two
 -- open operations have filters that meet. So where the copy is open, its chunks may stand by.
-use Rattle.std.proofs.Common.{◌≡◌, ◌≢◌, ℕ, zero, suc, ◌+◌, ◌<◌, Bool, true, false, Option, Some, None, List, [], ◌∷◌, length, refl, sym, ap, ◌∙◌, subst, arith}
+use Rattle.std.proofs.Common.{◌≡◌, ℕ, zero, suc, ◌+◌, ◌<◌, true, false, Option, Some, None, List, [], length, refl, sym, ap, ◌∙◌, subst, arith}
 use Rattle.std.specs.Prelude.{◌&&◌, ◌==◌}
 use Rattle.std.specs.FinMap as finite
 use Rattle.std.proofs.lemmas.Bool.Decides.{nat_tests}
@@ -29,7 +29,7 @@ use Rattle.whole_joined.proofs.OperationsApart.{AllApart, controller_apart}
 use Rattle.whole_joined.proofs.CopiesUnshared.{copy_unshared}
 use Rattle.whole_joined.proofs.CopyFilters.{AreWithinIf, IsFiltered, of_input, node_filtered}
 use Rattle.whole_joined.proofs.Given.{Given}
-use Rattle.whole_joined.proofs.Joined.{count, Nodes, node_of, Label, Scene, AreShown, IsTaken, Leads, Joined}
+use Rattle.whole_joined.proofs.Joined.{count, Nodes, node_of, Scene, AreShown, Leads, Joined}
 use Rattle.whole_joined.proofs.JoinedSteps.{Node_leads, scene, is_taken, step_leads, joined_after, after_nodes, takes_at, ready_at, joined_next, next_is}
 
 module _ {F R : Type 0} (f : Semantics R) (g : Given) (n : ℕ) where
