@@ -29,17 +29,9 @@ use Rattle.whole_joined.proofs.Given.{Given, place}
 use Rattle.whole_joined.proofs.Joined.{S, A, Scene, AreShown}
 
 module _ {R : Type 0} (f : Semantics R) (g : Given) where
-  -- the unit of each chunk is one that a filter takes
-  abbrev pub AreTakenBy : Filter → List Chunk → Type 0
-  AreTakenBy filter chunks = Each (λ e. (S f g).takes filter e.0 ≡ true) (entries f chunks)
-
-  -- so there is none of another unit
-  none_of : (filter : Filter) (es : Chunks R) (u : units.Unit) → Each (λ e. (S f g).takes filter e.0 ≡ true) es → (S f g).takes filter u ≡ false → record_at u es ≡ None
-  none_of filter [] u h out = refl
-  none_of filter (e ∷ es) u h out = elim (same_unit u e.0) as (λ b. same_unit u e.0 ≡ b → cond b (Some e.1) (record_at u es) ≡ None) [
-    | true ↦ λ same. let taken : (S f g).takes filter u ≡ true = ap ((S f g).takes filter) (same_unit-true u e.0 same) ∙ h.0 in let never : true ≡ false = sym taken ∙ out in cc
-    | false ↦ λ _. none_of filter es u h.1 out
-  ] refl
+  -- chunks of no unit but of those that a filter takes
+  abbrev pub AreWithin : Filter → List Chunk → Type 0
+  AreWithin filter chunks = (u : units.Unit) → (S f g).takes filter u ≡ false → record_at u (entries f chunks) ≡ None
 
   -- what one of two filters that don't meet takes, the other doesn't
   other_out : (a b : Filter) (u : units.Unit) → AreApart (Some a) (Some b) → (S f g).takes b u ≡ true → (S f g).takes a u ≡ false
@@ -76,5 +68,5 @@ module _ {F R : Type 0} (f : Semantics R) (g : Given) (n : ℕ) (x : Scene F f g
       ] refl
 
   -- and so its chunks are of no unit of a share
-  pub copy_unshared : (op : ℕ) (y : CopyState) (filter : Filter) (chunks : List Chunk) → finite.get c.operations op ≡ Some (Copy y) → y.plan.filter ≡ Some filter → AreTakenBy f g filter chunks → AreUnshared f g x.world chunks
-  copy_unshared op y filter chunks there is taken u takes = none_of f g filter (entries f chunks) u taken (copy_out op y filter there is u takes)
+  pub copy_unshared : (op : ℕ) (y : CopyState) (filter : Filter) (chunks : List Chunk) → finite.get c.operations op ≡ Some (Copy y) → y.plan.filter ≡ Some filter → AreWithin f g filter chunks → AreUnshared f g x.world chunks
+  copy_unshared op y filter chunks there is within u takes = within u (copy_out op y filter there is u takes)

@@ -110,6 +110,11 @@ module _ {F R : Type 0} (f : Semantics R) (g : Given) (n : ℕ) (count_is : n �
     unfolding joined_after
     after_world may = refl
 
+    -- and its nodes
+    pub after_nodes : (may : May (scene w j) m) → (joined_after may).nodes ≡ (step_leads may).nodes
+    unfolding joined_after
+    after_nodes may = refl
+
   -- a choice of a run: what it takes, and where it leads
   module _ (w : Network (Node F R) Msg Note) (c : Choice) (t : Taking node_ready step n w c) (j : Joined f g n w) where
     node_same : t.node ≡ node_of j.nodes c.node

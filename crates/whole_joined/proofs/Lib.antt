@@ -11,6 +11,7 @@ pub mod CopiesUnshared
 pub mod CopyAnswers
 pub mod CopyCounts
 pub mod CopyFalls
+pub mod CopyFilters
 pub mod CopyRows
 pub mod CopySends
 pub mod CopyTokens
@@ -40,6 +41,7 @@ pub mod ShareSteps
 pub mod ShareTurns
 pub mod StandbyChunks
 pub mod StandbyFronts
+pub mod StandbyRuns
 pub mod StartJoined
 pub mod SwitchArrivals
 pub mod SwitchLemmas
