@@ -26,6 +26,7 @@ use Rattle.whole_joined.proofs.Given.{Given}
 use Rattle.whole_joined.proofs.Joined.{Label, Joined, IsController, node_of}
 use Rattle.whole_joined.proofs.CopyAnswers.{is_uncopied, AreUncopied, IsAnswer, get_sent, standby_sent, put_all_sent, other_sent}
 use Rattle.whole_joined.proofs.CopyCounts.{keeps_of, keeping, keeps_sent, light_others, none_light}
+use Rattle.whole_joined.proofs.OperationsApart.{AllApart, controller_apart}
 use Rattle.whole_joined.proofs.CopyFalls.{AreNumbered, controller_falls}
 
 -- what arrives is at most what is sent
@@ -71,11 +72,12 @@ module _ {R : Type 0} (f : Semantics R) (g : Given) (n : ℕ) where
   switch_sends_none [] h = refl
   switch_sends_none (x ∷ xs) h = let one = switch_light x.0 x.1 h.0 in let rest = switch_sends_none xs h.1 in omega (arith, one, rest)
 
--- the messages that stand anywhere are at most what the open copies' phases say
+-- the messages that stand anywhere are at most what the open copies' phases say; and no two open operations have filters that meet
 pub record CopyTokens {F R : Type 0} (w : Network (Node F R) Msg Note) : Type 0 where
   pub controller : ControllerState
   pub controller_is : (d : Node F R) → get_or w.nodes 1 d ≡ Controller controller
   pub few : (n : ℕ) → total (keeps_of n) w ≤ keeping (finite.get controller.operations n)
+  pub apart : AllApart controller.operations
 
 same_controller : {F R : Type 0} (c d : ControllerState) → ◌≡◌ {A = Node F R} (Controller c) (Controller d) → c ≡ d
 same_controller c d e = cc
@@ -83,6 +85,10 @@ same_controller c d e = cc
 module _ {F R : Type 0} (f : Semantics R) (g : Given) (count : ℕ) (w : Network (Node F R) Msg Note) (j : Joined f g count w) where
   numbered : AreNumbered j.nodes.controller
   numbered op y there = let is = j.shown_is.controller.copies op y there in (is.op_is ∙ refl, is.going)
+
+  -- the controller of the world is that one
+  pub token_controller : 1 < count → (h : CopyTokens w) → h.controller ≡ j.nodes.controller
+  token_controller some h = same_controller {F = F} {R = R} h.controller j.nodes.controller (sym (h.controller_is (Controller h.controller)) ∙ j.nodes_are 1 some (Controller h.controller))
 
   pub tokens_after : (k p : ℕ) (m : Msg) (rest : List Msg) (takes : Takes (node_step f) count w k p (node_of j.nodes k) m rest) → EachSent (Label f g) k (node_step f (node_of j.nodes k) p m).sends → CopyTokens w → CopyTokens (taken (node_step f) w (at k p))
   tokens_after zero p m rest takes labels h =
@@ -96,11 +102,12 @@ module _ {F R : Type 0} (f : Semantics R) (g : Given) (count : ℕ) (w : Network
             let none = switch_sends_none f g n (switch_step j.nodes.switch m).sends labels in
             let before = h.few n in
             omega (arith, weight, most, none, before);
+        apart = h.apart;
       }
   tokens_after (suc zero) p m rest takes labels h =
       let c = j.nodes.controller in
       let left = taken_outcome (node_step f) count w 1 p (node_of j.nodes 1) m rest takes in
-      let same : h.controller ≡ c = same_controller {F = F} {R = R} h.controller c (sym (h.controller_is (Controller h.controller)) ∙ j.nodes_are 1 takes.receiver (Controller h.controller)) in
+      let same : h.controller ≡ c = token_controller takes.receiver h in
       record {
         controller = (controller_step c p m).node;
         controller_is = left.own;
@@ -110,6 +117,7 @@ module _ {F R : Type 0} (f : Semantics R) (g : Given) (count : ℕ) (w : Network
             let falls = controller_falls n c p numbered m in
             let before : total (keeps_of n) w ≤ keeping (finite.get c.operations n) = subst (λ x. total (keeps_of n) w ≤ keeping (finite.get x.operations n)) same (h.few n) in
             omega (arith, weight, most, falls, before);
+        apart = controller_apart c p m (subst (λ x. AllApart x.operations) same h.apart);
       }
   tokens_after (suc (suc i)) p m rest takes labels h =
       let left = taken_outcome (node_step f) count w (suc (suc i)) p (node_of j.nodes (suc (suc i))) m rest takes in
@@ -122,6 +130,7 @@ module _ {F R : Type 0} (f : Semantics R) (g : Given) (count : ℕ) (w : Network
             let falls = instance_falls f n (j.nodes.instance (suc (suc i))) m in
             let before = h.few n in
             omega (arith, weight, most, falls, before);
+        apart = h.apart;
       }
 
   -- where such a message is taken its copy is open
@@ -138,7 +147,7 @@ module _ {F R : Type 0} (f : Semantics R) (g : Given) (count : ℕ) (w : Network
   pub token_open : (k p op : ℕ) (chunks : List Chunk) (rest : List Msg) → 1 < count → Takes (node_step f) count w k p (node_of j.nodes k) (msg.Standby op chunks) rest → CopyTokens w → IsOpenCopy op
   token_open k p op chunks rest some takes h =
       let c = j.nodes.controller in
-      let same : h.controller ≡ c = same_controller {F = F} {R = R} h.controller c (sym (h.controller_is (Controller h.controller)) ∙ j.nodes_are 1 some (Controller h.controller)) in
+      let same : h.controller ≡ c = token_controller some h in
       let idle : Node F R → ℕ → Msg → Stepped (Node F R) Msg Note = λ node port m. record { node = node; sends = []; notes = [] } in
       let idly : Takes idle count w k p (node_of j.nodes k) (msg.Standby op chunks) rest = record { count = takes.count; some = takes.some; square = takes.square; receiver = takes.receiver; sender = takes.sender; node_is = takes.node_is; waits = takes.waits } in
       let weight = total_after idle count w k p (node_of j.nodes k) (msg.Standby op chunks) rest idly (keeps_of op) in
