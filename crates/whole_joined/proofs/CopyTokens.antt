@@ -26,7 +26,6 @@ use Rattle.whole_joined.proofs.Given.{Given}
 use Rattle.whole_joined.proofs.Joined.{Label, Joined, IsController, node_of}
 use Rattle.whole_joined.proofs.CopyAnswers.{is_uncopied, AreUncopied, IsAnswer, get_sent, standby_sent, put_all_sent, other_sent}
 use Rattle.whole_joined.proofs.CopyCounts.{keeps_of, keeping, keeps_sent, light_others, none_light}
-use Rattle.whole_joined.proofs.OperationsApart.{AllApart, controller_apart}
 use Rattle.whole_joined.proofs.CopyFalls.{AreNumbered, controller_falls}
 
 -- what arrives is at most what is sent
@@ -62,7 +61,7 @@ module _ {F R : Type 0} (f : Semantics R) (n : ℕ) where
 
 -- The switch sends none.
 module _ {R : Type 0} (f : Semantics R) (g : Given) (n : ℕ) where
-  switch_light : (r : ℕ) (m : Msg) → Label f g 0 r m → keeps_of n m ≡ 0
+  pub switch_light : (r : ℕ) (m : Msg) → Label f g 0 r m → keeps_of n m ≡ 0
   switch_light r (msg.Standby op chunks) label = let never = label.0.0 in cc
   switch_light r (msg.PutAll op chunk) label = let never = label.0 in cc
   switch_light r (msg.Kept op) label = let never = label.0 in absurd (omega (arith, never))
@@ -72,12 +71,11 @@ module _ {R : Type 0} (f : Semantics R) (g : Given) (n : ℕ) where
   switch_sends_none [] h = refl
   switch_sends_none (x ∷ xs) h = let one = switch_light x.0 x.1 h.0 in let rest = switch_sends_none xs h.1 in omega (arith, one, rest)
 
--- the messages that stand anywhere are at most what the open copies' phases say; and no two open operations have filters that meet
+-- the messages that stand anywhere are at most what the open copies' phases say
 pub record CopyTokens {F R : Type 0} (w : Network (Node F R) Msg Note) : Type 0 where
   pub controller : ControllerState
   pub controller_is : (d : Node F R) → get_or w.nodes 1 d ≡ Controller controller
   pub few : (n : ℕ) → total (keeps_of n) w ≤ keeping (finite.get controller.operations n)
-  pub apart : AllApart controller.operations
 
 same_controller : {F R : Type 0} (c d : ControllerState) → ◌≡◌ {A = Node F R} (Controller c) (Controller d) → c ≡ d
 same_controller c d e = cc
@@ -102,7 +100,6 @@ module _ {F R : Type 0} (f : Semantics R) (g : Given) (count : ℕ) (w : Network
             let none = switch_sends_none f g n (switch_step j.nodes.switch m).sends labels in
             let before = h.few n in
             omega (arith, weight, most, none, before);
-        apart = h.apart;
       }
   tokens_after (suc zero) p m rest takes labels h =
       let c = j.nodes.controller in
@@ -117,7 +114,6 @@ module _ {F R : Type 0} (f : Semantics R) (g : Given) (count : ℕ) (w : Network
             let falls = controller_falls n c p numbered m in
             let before : total (keeps_of n) w ≤ keeping (finite.get c.operations n) = subst (λ x. total (keeps_of n) w ≤ keeping (finite.get x.operations n)) same (h.few n) in
             omega (arith, weight, most, falls, before);
-        apart = controller_apart c p m (subst (λ x. AllApart x.operations) same h.apart);
       }
   tokens_after (suc (suc i)) p m rest takes labels h =
       let left = taken_outcome (node_step f) count w (suc (suc i)) p (node_of j.nodes (suc (suc i))) m rest takes in
@@ -130,7 +126,6 @@ module _ {F R : Type 0} (f : Semantics R) (g : Given) (count : ℕ) (w : Network
             let falls = instance_falls f n (j.nodes.instance (suc (suc i))) m in
             let before = h.few n in
             omega (arith, weight, most, falls, before);
-        apart = h.apart;
       }
 
   -- where such a message is taken its copy is open

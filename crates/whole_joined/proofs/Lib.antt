@@ -1,3 +1,4 @@
+pub mod BesideRuns
 pub mod ClosingMoves
 pub mod ControllerAsked
 pub mod ControllerBegins

@@ -3,6 +3,7 @@ use Rattle.std.proofs.Common.{◌≡◌, ℕ, ◌+◌, ◌≤◌, true, false, L
 use Rattle.std.specs.Prelude.{if◌then◌else◌, ◌==◌}
 use Rattle.std.specs.declared.alloc.Global.{Global}
 use Rattle.nf_function.specs.declared.unit.Unit as units
+use Rattle.nf_function.specs.Records.{Laws as FunctionLaws}
 use Rattle.nf_function.specs.Semantics.{Semantics}
 use Rattle.nf_msgs.specs.declared.msg.Msg.{Msg}
 use Rattle.nf_msgs.specs.declared.note.Note.{Note}
@@ -24,12 +25,12 @@ use Rattle.net_world.specs.Start.{first_nodes, started}
 use Rattle.net_world.specs.Fold.{times, IsFront, is_of, came, went}
 use Rattle.outline_net.proofs.Outline.{is_sys}
 use Rattle.net_world.proofs.StartingLemmas.{few_nodes}
-use Rattle.whole_joined.proofs.StartJoined.{given, count_at_start, start_joined}
+use Rattle.whole_joined.proofs.StartJoined.{given, all_fit, count_at_start, start_joined}
 use Rattle.whole_joined.proofs.Given.{Given}
-use Rattle.whole_joined.proofs.Joined.{S, A, by_node, came_by, Scene, Joined}
-use Rattle.whole_joined.proofs.JoinedSteps.{Node_leads, scene, joined_next}
+use Rattle.whole_joined.proofs.Joined.{S, A, by_node, came_by, Joined}
+use Rattle.whole_joined.proofs.BesideRuns.{Beside, next_joined, beside_next, beside_at_start}
 
-module _ (F : Type 0) {R : Type 0} (f : Semantics R) (alloc : Global) (c : Config) (items : List Msg) (is : IsInput f.kind c items) where
+module _ (F : Type 0) {R : Type 0} (f : Semantics R) (laws : FunctionLaws f) (alloc : Global) (c : Config) (items : List Msg) (is : IsInput f.kind c items) where
   pub start_world : IsWorld (started {F = F} {R = R} alloc c items)
   start_world = let few = few_nodes alloc c (first_nodes {F = F} {R = R} alloc c) is.is_config refl in opening_world (first_nodes alloc c) items few.0 few.1
 
@@ -39,20 +40,25 @@ module _ (F : Type 0) {R : Type 0} (f : Semantics R) (alloc : Global) (c : Confi
   abbrev n : ℕ
   n = length c.names + 2
 
-  abbrev IsJoined : Network (Node F R) Msg Note → Type 0
-  IsJoined w = Joined f g n w
+  -- a world of a run, with what is kept beside it
+  pub record Runs (w : Network (Node F R) Msg Note) : Type 0 where
+    pub joined : Joined f g n w
+    pub beside : Beside f g n w joined
 
-  -- what is kept beside each world of a run, and gives what the steps want
-  module _ (May : Scene F f g → Msg → Type 0) (leads : Node_leads F f g n May) (Beside : (w : Network (Node F R) Msg Note) → IsJoined w → Type 0) (may : (w : Network (Node F R) Msg Note) (j : IsJoined w) → Beside w j → (k : Choice) (t : Taking node_ready (node_step f) n w k) → May (scene f g n refl May leads w j) t.message) where
-    pub next : (w : Network (Node F R) Msg Note) (j : IsJoined w) → Beside w j → (k : Choice) (t : Taking node_ready (node_step f) n w k) → IsJoined (taken (node_step f) w k)
-    next w j b k t = joined_next f g n refl May leads w k t j (may w j b k t)
+  runs_at_start : Runs (started alloc c items)
+  runs_at_start = record { joined = start_joined F f alloc c items is; beside = beside_at_start F f alloc c items is }
 
-    pub record Runs (w : Network (Node F R) Msg Note) : Type 0 where
-      pub joined : IsJoined w
-      pub beside : Beside w joined
+  runs_next : (w : Network (Node F R) Msg Note) (k : Choice) → Taking node_ready (node_step f) n w k → Runs w → Runs (taken (node_step f) w k)
+  runs_next w k t r = record {
+    joined = next_joined f laws g (all_fit f c items is) n refl w k t r.joined r.beside;
+    beside = beside_next f laws g (all_fit f c items is) n refl w k t r.joined r.beside;
+  }
 
-    pub run_joined : Beside (started alloc c items) (start_joined F f alloc c items is) → ((w : Network (Node F R) Msg Note) (j : IsJoined w) (b : Beside w j) (k : Choice) (t : Taking node_ready (node_step f) n w k) → Beside (taken (node_step f) w k) (next w j b k t)) → (cs : List Choice) → IsRun node_ready (node_step f) cs (started {F = F} {R = R} alloc c items) → Runs (run (node_step f) cs (started {F = F} {R = R} alloc c items))
-    run_joined first keeps cs run_is = run_induction node_ready (node_step f) n (λ _ w. Runs w) (started alloc c items) (λ _ w k on r. record { joined = next w r.joined r.beside k on.taking; beside = keeps w r.joined r.beside k on.taking }) start_world (count_at_start F f alloc c items is) (record { joined = start_joined F f alloc c items is; beside = first }) cs run_is
+  pub run_beside : (cs : List Choice) → IsRun node_ready (node_step f) cs (started {F = F} {R = R} alloc c items) → Runs (run (node_step f) cs (started {F = F} {R = R} alloc c items))
+  run_beside cs run_is = run_induction node_ready (node_step f) n (λ _ w. Runs w) (started alloc c items) (λ _ w k on r. runs_next w k on.taking r) start_world (count_at_start F f alloc c items is) runs_at_start cs run_is
+
+  pub run_joined : (cs : List Choice) → IsRun node_ready (node_step f) cs (started {F = F} {R = R} alloc c items) → Joined f g n (run (node_step f) cs (started {F = F} {R = R} alloc c items))
+  run_joined cs run_is = (run_beside cs run_is).joined
 
 module _ {R : Type 0} (f : Semantics R) (c : Config) (items : List Msg) (is : IsInput f.kind c items) where
   abbrev gi : Given
