@@ -34,6 +34,7 @@ use Rattle.whole_outline.proofs.MemberOutline.{get_follows}
 use Rattle.net_world.specs.Nodes.{node_step}
 use Rattle.whole_joined.proofs.CopyAnswers.{is_uncopied, AreUncopied, IsAnswer, get_sent, standby_sent, put_all_sent, other_sent}
 use Rattle.whole_joined.proofs.CopySends.{Turn_so, controller_sent}
+use Rattle.whole_joined.proofs.StandbyFronts.{each_sent}
 use Rattle.whole_joined.proofs.CopiesUnshared.{AreWithin}
 use Rattle.whole_joined.proofs.Given.{Given, place}
 use Rattle.whole_joined.proofs.Joined.{S, node_of, Label, Scene, AreShown, IsCommand, IsController, IsTaken}
@@ -140,10 +141,6 @@ module _ {F R : Type 0} (f : Semantics R) (laws : FunctionLaws f) (g : Given) (i
   instance_filtered s r m label its = all_others f g (instance_step f i m).sends (other_sent f i m refl)
 
 -- What any node sends.
-each_sent : (P : Msg → Type 0) (k : ℕ) (sends : List (ℕ × Msg)) → Each (λ x. P x.1) sends → EachSent (λ s r m. P m) k sends
-each_sent P k [] h = tt
-each_sent P k (x ∷ xs) h = (h.0, each_sent P k xs h.1)
-
 module _ {F R : Type 0} (f : Semantics R) (laws : FunctionLaws f) (g : Given) (n : ℕ) (x : Scene F f g) (p : ℕ) (are : AreShown f g n x) where
   pub node_filtered : (k : ℕ) (m : Msg) → IsTaken f g n x (record { node = k; port = p; message = m }) → EachSent (Label f g) k (node_step f (node_of x.nodes k) p m).sends → IsFiltered f g m → EachSent (λ s r y. IsFiltered f g y) k (node_step f (node_of x.nodes k) p m).sends
   node_filtered zero m is labels its = each_sent (IsFiltered f g) 0 (node_step f (node_of x.nodes 0) p m).sends (switch_filtered f g (node_step f (node_of x.nodes 0) p m).sends labels)

@@ -77,7 +77,7 @@ pub record CopyTokens {F R : Type 0} (w : Network (Node F R) Msg Note) : Type 0 
   pub controller_is : (d : Node F R) → get_or w.nodes 1 d ≡ Controller controller
   pub few : (n : ℕ) → total (keeps_of n) w ≤ keeping (finite.get controller.operations n)
 
-same_controller : {F R : Type 0} (c d : ControllerState) → ◌≡◌ {A = Node F R} (Controller c) (Controller d) → c ≡ d
+pub same_controller : {F R : Type 0} (c d : ControllerState) → ◌≡◌ {A = Node F R} (Controller c) (Controller d) → c ≡ d
 same_controller c d e = cc
 
 module _ {F R : Type 0} (f : Semantics R) (g : Given) (count : ℕ) (w : Network (Node F R) Msg Note) (j : Joined f g count w) where

@@ -41,7 +41,8 @@ abbrev pub kept_of : Msg → List Chunk
 kept_of (msg.Standby op chunks) = chunks
 kept_of message = []
 
-each_sent : (P : Msg → Type 0) (k : ℕ) (sends : List (ℕ × Msg)) → Each (λ x. P x.1) sends → EachSent (λ s r m. P m) k sends
+-- what holds of each message that is sent holds of each that a node sends
+pub each_sent : (P : Msg → Type 0) (k : ℕ) (sends : List (ℕ × Msg)) → Each (λ x. P x.1) sends → EachSent (λ s r m. P m) k sends
 each_sent P k [] h = tt
 each_sent P k (x ∷ xs) h = (h.0, each_sent P k xs h.1)
 

@@ -13,7 +13,7 @@ use Rattle.nf_msgs.specs.declared.msg.Msg.TheVariants as msg
 use Rattle.nf_msgs.specs.declared.note.Note.{Note}
 use Rattle.copy_share.specs.Copy.{CopyState}
 use Rattle.ctrl_node.specs.declared.operation.Operation.TheVariants.{Copy}
-use Rattle.ctrl_node.specs.Controller.{ControllerState, controller_step}
+use Rattle.ctrl_node.specs.Controller.{controller_step}
 use Rattle.actor_net.specs.declared.choice.Choice.{Choice}
 use Rattle.actor_net.specs.Network.{Network, is_input, waiting, taken}
 use Rattle.actor_net.proofs.EnabledChoices.{at}
@@ -21,12 +21,12 @@ use Rattle.actor_net.proofs.StepOutcome.{Takes}
 use Rattle.actor_net.proofs.RunInduction.{Taking}
 use Rattle.actor_net.proofs.WeightLaws.{Each, OnLinks, on_links_after}
 use Rattle.net_world.specs.declared.node.Node.{Node}
-use Rattle.net_world.specs.declared.node.Node.TheVariants.{Controller}
 use Rattle.net_world.specs.Nodes.{node_step, node_ready}
 use Rattle.whole_joined.proofs.StandbyChunks.{AreUnshared, MayStandBy}
 use Rattle.whole_joined.proofs.StandbyFronts.{AreKeptFronts, no_kept_fronts, kept_fronts_next, may_stand_by}
 use Rattle.whole_joined.proofs.OperationsApart.{AllApart, controller_apart}
 use Rattle.whole_joined.proofs.CopiesUnshared.{copy_unshared}
+use Rattle.whole_joined.proofs.CopyTokens.{same_controller}
 use Rattle.whole_joined.proofs.CopyFilters.{AreWithinIf, IsFiltered, of_input, node_filtered}
 use Rattle.whole_joined.proofs.Given.{Given}
 use Rattle.whole_joined.proofs.Joined.{count, Nodes, node_of, Scene, AreShown, Leads, Joined}
@@ -64,14 +64,11 @@ module _ {F R : Type 0} (f : Semantics R) (g : Given) (n : ℕ) where
       by_filter (Some filter) e within = copy_unshared f g n x are apart op y filter chunks there e within
 
 module _ {F R : Type 0} (f : Semantics R) (g : Given) (n : ℕ) where
-  controller_same : (a b : ControllerState) → ◌≡◌ {A = Node F R} (Controller a) (Controller b) → a ≡ b
-  controller_same a b e = cc
-
   -- the controller after a step
   apart_after : (x : Scene F f g) (k p : ℕ) (m : Msg) (l : Leads f g n x (record { node = k; port = p; message = m }) (node_step f (node_of x.nodes k) p m)) → AllApart x.nodes.controller.operations → AllApart l.nodes.controller.operations
-  apart_after x zero p m l apart = subst (λ c. AllApart c.operations) (sym (controller_same l.nodes.controller x.nodes.controller (l.others 1 (λ e. cc)))) apart
-  apart_after x (suc zero) p m l apart = subst (λ c. AllApart c.operations) (controller_same (controller_step x.nodes.controller p m).node l.nodes.controller l.own) (controller_apart x.nodes.controller p m apart)
-  apart_after x (suc (suc i)) p m l apart = subst (λ c. AllApart c.operations) (sym (controller_same l.nodes.controller x.nodes.controller (l.others 1 (λ e. cc)))) apart
+  apart_after x zero p m l apart = subst (λ c. AllApart c.operations) (sym (same_controller {F = F} {R = R} l.nodes.controller x.nodes.controller (l.others 1 (λ e. cc)))) apart
+  apart_after x (suc zero) p m l apart = subst (λ c. AllApart c.operations) (same_controller {F = F} {R = R} (controller_step x.nodes.controller p m).node l.nodes.controller l.own) (controller_apart x.nodes.controller p m apart)
+  apart_after x (suc (suc i)) p m l apart = subst (λ c. AllApart c.operations) (sym (same_controller {F = F} {R = R} l.nodes.controller x.nodes.controller (l.others 1 (λ e. cc)))) apart
 
 module _ {F R : Type 0} (f : Semantics R) (laws : FunctionLaws f) (g : Given) (n : ℕ) (count_is : n ≡ count f g + 2) (May : Scene F f g → Msg → Type 0) (leads : Node_leads F f g n May) where
   module _ (w : Network (Node F R) Msg Note) (k p : ℕ) (m : Msg) (rest : List Msg) (j : Joined f g n w) (takes : Takes (node_step f) n w k p (node_of j.nodes k) m rest) (was_ready : is_input (at k p) ≡ true → node_ready (node_of j.nodes k) m ≡ true) (h : AreKept f g n w j) where
