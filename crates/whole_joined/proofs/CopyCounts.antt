@@ -1,37 +1,30 @@
 -- What is to be kept for a copy, and the answer to it, are one message at most: they come as the copy's phase says. Here, what a step of the
 -- controller does to that number.
-use Rattle.std.proofs.Common.{◌≡◌, ℕ, ◌+◌, ◌≤◌, Bool, true, false, cond, Option, Some, None, List, [], ◌∷◌, ◌++◌, refl, sym, ap, ◌∙◌, subst, arith}
+use Rattle.std.proofs.Common.{◌≡◌, ℕ, ◌+◌, ◌≤◌, true, false, cond, Option, Some, None, List, [], ◌∷◌, ◌++◌, refl, ap, ◌∙◌, arith}
 use Rattle.std.specs.Prelude.{if◌then◌else◌, ◌==◌}
 use Rattle.std.specs.List.{filter_map}
 use Rattle.std.specs.FinMap as finite
-use Rattle.std.proofs.lemmas.Bool.Decides.{nat_tests, Decides-eqb}
-use Rattle.flow_filter.specs.declared.filter.Filter.{Filter}
-use Rattle.flow_filter.specs.Flow.{flow_of}
+use Rattle.std.proofs.lemmas.Bool.Decides.{nat_tests}
 use Rattle.nf_function.specs.declared.chunk.Chunk.{Chunk}
-use Rattle.event_filter.specs.declared.mark.Mark.TheVariants.{Pass}
-use Rattle.packet_pool.specs.Pool.{FullCell}
-use Rattle.event_store.specs.Store.{stored, with_parcels}
 use Rattle.nf_msgs.specs.declared.answer.Answer.{Answer}
-use Rattle.nf_msgs.specs.declared.command.Command.{Command}
 use Rattle.nf_msgs.specs.declared.command.Order.{Order}
 use Rattle.nf_msgs.specs.declared.command.Order.TheVariants as order
 use Rattle.nf_msgs.specs.declared.msg.Msg.{Msg}
 use Rattle.nf_msgs.specs.declared.msg.Msg.TheVariants as msg
-use Rattle.nf_msgs.specs.Nodes.{switch_node, instance_node}
+use Rattle.nf_msgs.specs.Nodes.{instance_node}
 use Rattle.nf_msgs.specs.Shown.{op_of}
 use Rattle.copy_share.specs.declared.copy_phase.CopyPhase.{CopyPhase}
 use Rattle.copy_share.specs.declared.copy_phase.CopyPhase.TheVariants as copies
 use Rattle.copy_share.specs.Copy.{CopyPlan, CopyState, CopyRow, asks}
 use Rattle.copy_share.specs.Copy as copy
 use Rattle.ctrl_node.specs.declared.operation.Operation.{Operation}
-use Rattle.ctrl_node.specs.declared.operation.Operation.TheVariants.{Move, Copy, Share}
-use Rattle.ctrl_node.specs.Operations.{OpenOperations, Turn, turn_of, serving_of, share_of, copied, lasts, with_operation}
+use Rattle.ctrl_node.specs.declared.operation.Operation.TheVariants.{Copy}
+use Rattle.ctrl_node.specs.Operations.{OpenOperations, Turn, turn_of, serving_of, lasts, with_operation}
 use Rattle.ctrl_node.specs.Controller as ctrl
 use Rattle.ctrl_node.specs.Controller.{ControllerState, Step}
 use Rattle.unit_machine.proofs.Labels.{Each}
-use Rattle.outline_net.proofs.OperationTables.{got_insert, got_remove, handed_is}
+use Rattle.outline_net.proofs.OperationTables.{got_insert, got_remove}
 use Rattle.whole_joined.proofs.CopyAnswers.{is_uncopied}
-use Rattle.whole_joined.proofs.CopySends.{Turn_so, Begin_so, handed_sent, asked_sent, queued_sent, controller_sent}
 
 -- whether a message is to be kept for the copy of a number, or says that it was
 abbrev pub keeps_of : ℕ → Msg → ℕ

@@ -1,11 +1,9 @@
 -- The controller's step takes and sends what is to be kept for a copy as the copy's phase goes on: of each number there is one such message at most.
-use Rattle.std.proofs.Common.{◌≡◌, ℕ, ◌+◌, ◌≤◌, Bool, true, false, cond, Option, Some, None, List, [], ◌∷◌, ◌++◌, refl, sym, ap, ◌∙◌, subst, arith}
+use Rattle.std.proofs.Common.{◌≡◌, ℕ, ◌+◌, ◌≤◌, Bool, true, false, cond, Option, Some, None, [], ◌∷◌, ◌++◌, refl, sym, ap, ◌∙◌, subst, arith}
 use Rattle.std.specs.Prelude.{if◌then◌else◌, ◌==◌}
 use Rattle.std.specs.FinMap as finite
 use Rattle.std.proofs.lemmas.Bool.Decides.{nat_tests, Decides-eqb}
-use Rattle.flow_filter.specs.declared.filter.Filter.{Filter}
 use Rattle.flow_filter.specs.Flow.{flow_of}
-use Rattle.nf_function.specs.declared.chunk.Chunk.{Chunk}
 use Rattle.event_filter.specs.declared.mark.Mark.TheVariants.{Pass}
 use Rattle.packet_pool.specs.Pool.{FullCell}
 use Rattle.event_store.specs.Store.{stored, with_parcels}
@@ -18,7 +16,6 @@ use Rattle.copy_share.specs.declared.copy_phase.CopyPhase.{CopyPhase}
 use Rattle.copy_share.specs.declared.copy_phase.CopyPhase.TheVariants as copies
 use Rattle.copy_share.specs.Copy.{CopyState, CopyRow, asks}
 use Rattle.copy_share.specs.Copy as copy
-use Rattle.copy_share.specs.Share.{ShareState}
 use Rattle.ctrl_node.specs.declared.operation.Operation.{Operation}
 use Rattle.ctrl_node.specs.declared.operation.Operation.TheVariants.{Move, Copy, Share}
 use Rattle.ctrl_node.specs.Operations.{turn_of, share_of, copied}
@@ -26,7 +23,7 @@ use Rattle.ctrl_node.specs.Controller as ctrl
 use Rattle.ctrl_node.specs.Controller.{ControllerState, Step}
 use Rattle.outline_net.proofs.OperationTables.{got_insert, got_remove, handed_is, NotShared}
 use Rattle.whole_joined.proofs.CopyCounts.{keeps_of, in_phase, keeping, keeps_sent, keeps_sent-append, IsLight, light_others, none_light, other_light, serves_at, handed_at, decided_at, row_falls}
-use Rattle.whole_joined.proofs.CopySends.{EachIs, Turn_so, Turns_so, Begin_so, handed_sent, asked_sent, queued_sent, controller_sent}
+use Rattle.whole_joined.proofs.CopySends.{EachIs, Turn_so, Begin_so, handed_sent, asked_sent, queued_sent}
 
 -- the copies that are open have the numbers that they stand under
 abbrev pub AreNumbered : ControllerState → Type 0

@@ -72,7 +72,7 @@ module _ (from i : ℕ) where
   same_owner : (instance_node i == instance_node from) ≡ (i == from)
   same_owner = grind (arith, nat_tests)
 
-  pub moved_target : (d taken : Bool) (dst : ℕ) → (if taken && ((if d then 1 else instance_node i) == instance_node from) then instance_node dst else (if d then 1 else instance_node i)) ≡ (if d || false then 1 else instance_node (if taken && (i == from) then dst else i))
+  moved_target : (d taken : Bool) (dst : ℕ) → (if taken && ((if d then 1 else instance_node i) == instance_node from) then instance_node dst else (if d then 1 else instance_node i)) ≡ (if d || false then 1 else instance_node (if taken && (i == from) then dst else i))
   moved_target true taken dst = let off : (1 == instance_node from) ≡ false = grind (arith, nat_tests) in rw off (none taken)
     where
       none : (b : Bool) → (if b && false then instance_node dst else 1) ≡ 1
@@ -84,7 +84,7 @@ module _ (from i : ℕ) where
       by_test true = refl
       by_test false = refl
 
-  pub diverted_target : (d taken : Bool) → (if taken && ((if d then 1 else instance_node i) == instance_node from) then 1 else (if d then 1 else instance_node i)) ≡ (if d || ((taken && (i == from)) || false) then 1 else instance_node i)
+  diverted_target : (d taken : Bool) → (if taken && ((if d then 1 else instance_node i) == instance_node from) then 1 else (if d then 1 else instance_node i)) ≡ (if d || ((taken && (i == from)) || false) then 1 else instance_node i)
   diverted_target true taken = same_both (taken && (1 == instance_node from))
     where
       same_both : (b : Bool) → ◌≡◌ {A = ℕ} (if b then 1 else 1) 1
@@ -140,10 +140,6 @@ module _ {R : Type 0} (f : Semantics R) (g : Given) where
       ∙ ap (λ b. if b && (target_by g u (installed log) == instance_node from) then 1 else target_by g u (installed log)) taken
       ∙ diverted_target from i d (takes filter u)
       ∙ sym (target_next g u log op ∙ after)
-
-  -- and hands none on
-  pub share_hands_none : (op : ℕ) (filter : Filter) (from : ℕ) → IsDivert g op filter from → (u : units.Unit) (i : ℕ) → hands_on_plain g.names g.orders u (g.orders op) i ≡ false
-  share_hands_none op filter from h u i = let what = h.order_is in rw what refl
 
   -- an open move is plain where its order is
   pub plain_is : (c : ControllerState) (ops : List (Open R)) (shares : List Open_share) (next : ℕ) → IsController f g c ops shares next → (op : ℕ) (e : Open R) → find_op ops op ≡ Some e → e.op.keep ≡ false → (plan : MovePlan) → IsPlan g op plan → plan.keep ≡ false
