@@ -302,8 +302,8 @@ module _ {F R : Type 0} (f : Semantics R) (laws : FunctionLaws f) (g : Given) (f
     abbrev own_at : InstanceState F R
     own_at = x.nodes.instance (suc (suc j))
 
-    h : IsRight f g (suc (suc j)) own_at
-    h = record { rules = at.rules; held = at.held; sound = at.records.sound; number = at.number }
+    right : IsRight f g (suc (suc j)) own_at
+    right = record { rules = at.rules; held = at.held; sound = at.records.sound; number = at.number }
 
     both : AreBothSound f own_at.table
     both = record { live = at.records.sound; standby = at.stands.sound }
@@ -336,23 +336,23 @@ module _ {F R : Type 0} (f : Semantics R) (laws : FunctionLaws f) (g : Given) (f
 
     shared_leads : (op : ℕ) (home : Bool) (cell : FullCell) → Genuine f g cell → Taken (msg.Carry (mark.Shared op home) cell) → Now (msg.Carry (mark.Shared op home) cell)
     shared_leads op home cell e =
-        let sound = sound_part f laws g fitting (suc (suc j)) two own_at home cell h at.stands.sound e in
+        let sound = sound_part f laws g fitting (suc (suc j)) two own_at home cell right at.stands.sound e in
         new_leads (msg.Carry (mark.Shared op home) cell) (Shared_on op home (number cell)) refl
-        (shared_follows f laws g.site g.packet (place g) own_at op home cell h.rules e sound)
-        (shared_leaves f laws g fitting (suc (suc j)) two own_at op home cell h at.stands.sound e)
+        (shared_follows f laws g.site g.packet (place g) own_at op home cell right.rules e sound)
+        (shared_leaves f laws g fitting (suc (suc j)) two own_at op home cell right at.stands.sound e)
         (shared_sound f laws own_at op home cell both sound)
 
     get_leads : (op : ℕ) (filter : Filter) → is_whole f.kind filter ≡ true → Taken (msg.Get op filter) → Now (msg.Get op filter)
     get_leads op filter whole =
         new_leads (msg.Get op filter) (S_get op filter) refl (get_follows f laws g.site g.packet (place g) own_at op filter whole at.records)
-        (get_leaves f laws g (suc (suc j)) two own_at op filter h) (get_sound f laws own_at op filter both)
+        (get_leaves f laws g (suc (suc j)) two own_at op filter right) (get_sound f laws own_at op filter both)
 
     sync_leads : (home : Bool) (op : ℕ) (chunks : List Chunk) → AreGoodChunks f g chunks → Taken (msg.Sync home op chunks) → Now (msg.Sync home op chunks)
     sync_leads home op chunks good =
         let all = chunks_good f laws g chunks good in
         let sound = sync_sound f laws own_at home op chunks all (valid_chunks f laws g chunks good.each) both in
         new_leads (msg.Sync home op chunks) (S_sync op home (entries f chunks)) refl (sync_follows f laws g.site g.packet (place g) own_at home op chunks all)
-        (sync_leaves f laws g (suc (suc j)) two own_at home op chunks h sound.live good) sound
+        (sync_leaves f laws g (suc (suc j)) two own_at home op chunks right sound.live good) sound
 
     standby_leads : (op : ℕ) (chunks : List Chunk) → AreGoodChunks f g chunks → MayStand (msg.Standby op chunks) → Now (msg.Standby op chunks)
     standby_leads op chunks good may =
@@ -361,25 +361,25 @@ module _ {F R : Type 0} (f : Semantics R) (laws : FunctionLaws f) (g : Given) (f
         keeps_leads f laws g n x p j (msg.Standby op chunks) records are refl
         (keeps_steps f g.site g.packet (place g) x.world p (suc (suc j)) own_at (on_standby f own_at op chunks) records shows (standby_keeps f g.site g.packet (place g) own_at op chunks all))
         (chunks_may_keep f g x.world (came_by f g x.log) are.every (suc (suc j)) own_at.table.standby at.standby_is chunks (may op chunks refl))
-        (standby_leaves f laws g (suc (suc j)) two own_at op chunks h good)
+        (standby_leaves f laws g (suc (suc j)) two own_at op chunks right good)
         (standby_sound f laws own_at op chunks all (valid_chunks f laws g chunks good.each) both).standby
 
     all_rows : Rows f g (λ m. Taken m → MayStand m → Now m)
     all_rows = record {
-      carry = λ cell e is may. old_leads (msg.Carry mark.Plain cell) (net.Carry_on (number cell)) refl refl (carry_follows f g.site g.packet (place g) own_at cell h.rules e) (carry_leaves f laws g fitting (suc (suc j)) two own_at cell h e) is;
-      pass = λ op cell e is may. old_leads (msg.Carry (mark.Pass op) cell) (net.Pass_on (number cell)) refl refl (pass_follows f g.site g.packet (place g) own_at op cell h.rules e) (pass_leaves f laws g fitting (suc (suc j)) two own_at op cell h e) is;
+      carry = λ cell e is may. old_leads (msg.Carry mark.Plain cell) (net.Carry_on (number cell)) refl refl (carry_follows f g.site g.packet (place g) own_at cell right.rules e) (carry_leaves f laws g fitting (suc (suc j)) two own_at cell right e) is;
+      pass = λ op cell e is may. old_leads (msg.Carry (mark.Pass op) cell) (net.Pass_on (number cell)) refl refl (pass_follows f g.site g.packet (place g) own_at op cell right.rules e) (pass_leaves f laws g fitting (suc (suc j)) two own_at op cell right e) is;
       shared = λ op home cell e is may. shared_leads op home cell e is;
-      fence = λ op is may. old_leads (msg.Fence op) (net.Fence_on op) refl refl (fence_follows f g.site g.packet (place g) own_at op h.rules) (fence_leaves f laws g fitting (suc (suc j)) two own_at op h) is;
-      stop = λ is may. unseen_leads msg.Stop refl refl (stop_keeps f g.site g.packet (place g) own_at) (stop_leaves f laws g fitting (suc (suc j)) two own_at h);
-      enable = λ op filter act w e is may. old_leads (msg.Enable op filter act) (net.Mv filter (real.M_enable op (rule_of act))) refl refl (enable_follows f g.site g.packet (place g) own_at op filter act) (enable_leaves f laws g fitting (suc (suc j)) two own_at op filter act h w e) is;
-      stream = λ op filter w is may. old_leads (msg.Stream op filter) (net.Mv filter (real.M_stream op)) refl refl (stream_follows f laws g.site g.packet (place g) own_at op filter w at.records) (stream_leaves f laws g fitting (suc (suc j)) two own_at op filter h) is;
-      delete = λ op gone is may. old_leads (msg.Delete op gone) (net.Mv everything (real.M_delete op gone)) refl refl (delete_follows f laws g.site g.packet (place g) own_at op gone) (delete_leaves f laws g fitting (suc (suc j)) two own_at op gone h) is;
-      put = λ op piece first e is may. old_leads (msg.Put op piece first) (net.Mv everything (real.M_put op (outline_piece f piece) first)) refl refl (put_follows f laws g.site g.packet (place g) own_at op piece first (chunks_good f laws g piece.chunks e.good) e.few) (put_leaves f laws g fitting (suc (suc j)) two own_at op piece first h e) is;
-      restore = λ op chunks e is may. old_leads (msg.Restore op chunks) (net.Mv everything (real.M_restore op (entries f chunks))) refl refl (restore_follows f laws g.site g.packet (place g) own_at op chunks (chunks_good f laws g chunks e)) (restore_leaves f laws g fitting (suc (suc j)) two own_at op chunks h e) is;
+      fence = λ op is may. old_leads (msg.Fence op) (net.Fence_on op) refl refl (fence_follows f g.site g.packet (place g) own_at op right.rules) (fence_leaves f laws g fitting (suc (suc j)) two own_at op right) is;
+      stop = λ is may. unseen_leads msg.Stop refl refl (stop_keeps f g.site g.packet (place g) own_at) (stop_leaves f laws g fitting (suc (suc j)) two own_at right);
+      enable = λ op filter act w e is may. old_leads (msg.Enable op filter act) (net.Mv filter (real.M_enable op (rule_of act))) refl refl (enable_follows f g.site g.packet (place g) own_at op filter act) (enable_leaves f laws g fitting (suc (suc j)) two own_at op filter act right w e) is;
+      stream = λ op filter w is may. old_leads (msg.Stream op filter) (net.Mv filter (real.M_stream op)) refl refl (stream_follows f laws g.site g.packet (place g) own_at op filter w at.records) (stream_leaves f laws g fitting (suc (suc j)) two own_at op filter right) is;
+      delete = λ op gone is may. old_leads (msg.Delete op gone) (net.Mv everything (real.M_delete op gone)) refl refl (delete_follows f laws g.site g.packet (place g) own_at op gone) (delete_leaves f laws g fitting (suc (suc j)) two own_at op gone right) is;
+      put = λ op piece first e is may. old_leads (msg.Put op piece first) (net.Mv everything (real.M_put op (outline_piece f piece) first)) refl refl (put_follows f laws g.site g.packet (place g) own_at op piece first (chunks_good f laws g piece.chunks e.good) e.few) (put_leaves f laws g fitting (suc (suc j)) two own_at op piece first right e) is;
+      restore = λ op chunks e is may. old_leads (msg.Restore op chunks) (net.Mv everything (real.M_restore op (entries f chunks))) refl refl (restore_follows f laws g.site g.packet (place g) own_at op chunks (chunks_good f laws g chunks e)) (restore_leaves f laws g fitting (suc (suc j)) two own_at op chunks right e) is;
       get = λ op filter w is may. get_leads op filter w is;
-      get_all = λ op is may. unseen_leads (msg.GetAll op) refl refl (get_all_keeps f g.site g.packet (place g) own_at op) (get_all_leaves f laws g (suc (suc j)) two own_at op h);
+      get_all = λ op is may. unseen_leads (msg.GetAll op) refl refl (get_all_keeps f g.site g.packet (place g) own_at op) (get_all_leaves f laws g (suc (suc j)) two own_at op right);
       standby = λ op chunks e is may. standby_leads op chunks e may;
-      put_all = λ op chunk is may. unseen_leads (msg.PutAll op chunk) refl refl (put_all_keeps f g.site g.packet (place g) own_at op chunk) (put_all_leaves f laws g (suc (suc j)) two own_at op chunk h);
+      put_all = λ op chunk is may. unseen_leads (msg.PutAll op chunk) refl refl (put_all_keeps f g.site g.packet (place g) own_at op chunk) (put_all_leaves f laws g (suc (suc j)) two own_at op chunk right);
       sync = λ home op chunks e is may. sync_leads home op chunks e is;
     }
 
