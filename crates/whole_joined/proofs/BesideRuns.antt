@@ -31,17 +31,17 @@ use Rattle.whole_joined.proofs.OperationsApart.{AllApart, none_apart}
 use Rattle.whole_joined.proofs.StandbyChunks.{MayStandBy}
 use Rattle.whole_joined.proofs.StandbyRuns.{AreKept, kept_at_start, kept_next, open_may_stand}
 use Rattle.whole_joined.proofs.CopyCounts.{keeps_of}
-use Rattle.whole_joined.proofs.CopyTokens.{CopyTokens, tokens_after, token_controller, token_open, switch_light}
+use Rattle.whole_joined.proofs.CopyTokens.{HasTokens, tokens_after, token_controller, token_open, switch_light}
 use Rattle.whole_joined.proofs.RisingRuns.{NumbersRise, numbers_first, numbers_next, copies_next}
 use Rattle.whole_joined.proofs.StartJoined.{given, all_labelled, count_at_start, start_joined}
 
 module _ {F R : Type 0} (f : Semantics R) (g : Given) (n : ℕ) where
-  pub record Beside (w : Network (Node F R) Msg Note) (j : Joined f g n w) : Type 0 where
+  pub record HasBeside (w : Network (Node F R) Msg Note) (j : Joined f g n w) : Type 0 where
     pub kept : AreKept f g n w j
-    pub tokens : CopyTokens w
+    pub tokens : HasTokens w
     pub numbers : NumbersRise f g n w j
 
-module _ {F R : Type 0} (f : Semantics R) (laws : FunctionLaws f) (g : Given) (fitting : (number : ℕ) → Fits g.site (g.packet number)) (n : ℕ) (count_is : n ≡ count f g + 2) (w : Network (Node F R) Msg Note) (k : Choice) (t : Taking node_ready (node_step f) n w k) (j : Joined f g n w) (b : Beside f g n w j) where
+module _ {F R : Type 0} (f : Semantics R) (laws : FunctionLaws f) (g : Given) (fitting : (number : ℕ) → Fits g.site (g.packet number)) (n : ℕ) (count_is : n ≡ count f g + 2) (w : Network (Node F R) Msg Note) (k : Choice) (t : Taking node_ready (node_step f) n w k) (j : Joined f g n w) (b : HasBeside f g n w j) where
   its_takes : Takes (node_step f) n w k.node k.port (node_of j.nodes k.node) t.message t.rest
   its_takes = takes_at f g n count_is (Wants f g) (node_leads f laws g fitting n) w k t j
 
@@ -57,7 +57,7 @@ module _ {F R : Type 0} (f : Semantics R) (laws : FunctionLaws f) (g : Given) (f
   pub next_joined : Joined f g n (taken (node_step f) w k)
   next_joined = joined_next f g n count_is (Wants f g) (node_leads f laws g fitting n) w k t j wants
 
-  pub beside_next : Beside f g n (taken (node_step f) w k) next_joined
+  pub beside_next : HasBeside f g n (taken (node_step f) w k) next_joined
   unfolding next_joined
   beside_next =
       let l = step_leads f g n count_is (Wants f g) (node_leads f laws g fitting n) w k.node k.port t.message t.rest j its_takes (ready_at f g n count_is (Wants f g) (node_leads f laws g fitting n) w k t j) wants in
@@ -75,7 +75,7 @@ module _ (F : Type 0) {R : Type 0} (f : Semantics R) (alloc : Global) (c : Confi
   items_light op [] h = refl
   items_light op (m ∷ ms) h = let one = switch_light f given_so op 0 m h.0 in let rest = items_light op ms h.1 in omega (arith, one, rest)
 
-  tokens_at_start : CopyTokens (started {F = F} {R = R} alloc c items)
+  tokens_at_start : HasTokens (started {F = F} {R = R} alloc c items)
   tokens_at_start = record {
     controller = opened_controller c.names c.site;
     controller_is = λ d. refl;
@@ -89,7 +89,7 @@ module _ (F : Type 0) {R : Type 0} (f : Semantics R) (alloc : Global) (c : Confi
   waits_nowhere : (i y : ℕ) → (i == 0) && (y == 0) ≡ false → waiting (started {F = F} {R = R} alloc c items) (at y i) ≡ []
   waits_nowhere i y off = opening_waiting Note (first_nodes {F = F} {R = R} alloc c) items (omega (arith, count_at_start F f alloc c items is)) i y ∙ (let swapped : (y == 0) && (i == 0) ≡ false = grind (arith, nat_tests, off) in rw swapped refl)
 
-  pub beside_at_start : Beside f given_so (length c.names + 2) (started {F = F} {R = R} alloc c items) (start_joined F f alloc c items is)
+  pub beside_at_start : HasBeside f given_so (length c.names + 2) (started {F = F} {R = R} alloc c items) (start_joined F f alloc c items is)
   unfolding tokens_at_start
   beside_at_start =
       let some = is.is_config.some in

@@ -72,7 +72,7 @@ module _ {R : Type 0} (f : Semantics R) (g : Given) (n : ℕ) where
   switch_sends_none (x ∷ xs) h = let one = switch_light x.0 x.1 h.0 in let rest = switch_sends_none xs h.1 in omega (arith, one, rest)
 
 -- the messages that stand anywhere are at most what the open copies' phases say
-pub record CopyTokens {F R : Type 0} (w : Network (Node F R) Msg Note) : Type 0 where
+pub record HasTokens {F R : Type 0} (w : Network (Node F R) Msg Note) : Type 0 where
   pub controller : ControllerState
   pub controller_is : (d : Node F R) → get_or w.nodes 1 d ≡ Controller controller
   pub few : (n : ℕ) → total (keeps_of n) w ≤ keeping (finite.get controller.operations n)
@@ -85,10 +85,10 @@ module _ {F R : Type 0} (f : Semantics R) (g : Given) (count : ℕ) (w : Network
   numbered op y there = let is = j.shown_is.controller.copies op y there in (is.op_is ∙ refl, is.going)
 
   -- the controller of the world is that one
-  pub token_controller : 1 < count → (h : CopyTokens w) → h.controller ≡ j.nodes.controller
+  pub token_controller : 1 < count → (h : HasTokens w) → h.controller ≡ j.nodes.controller
   token_controller some h = same_controller {F = F} {R = R} h.controller j.nodes.controller (sym (h.controller_is (Controller h.controller)) ∙ j.nodes_are 1 some (Controller h.controller))
 
-  pub tokens_after : (k p : ℕ) (m : Msg) (rest : List Msg) (takes : Takes (node_step f) count w k p (node_of j.nodes k) m rest) → EachSent (Label f g) k (node_step f (node_of j.nodes k) p m).sends → CopyTokens w → CopyTokens (taken (node_step f) w (at k p))
+  pub tokens_after : (k p : ℕ) (m : Msg) (rest : List Msg) (takes : Takes (node_step f) count w k p (node_of j.nodes k) m rest) → EachSent (Label f g) k (node_step f (node_of j.nodes k) p m).sends → HasTokens w → HasTokens (taken (node_step f) w (at k p))
   tokens_after zero p m rest takes labels h =
       let left = taken_outcome (node_step f) count w 0 p (node_of j.nodes 0) m rest takes in
       record {
@@ -139,7 +139,7 @@ module _ {F R : Type 0} (f : Semantics R) (g : Given) (count : ℕ) (w : Network
   open_copy op (Some (Move mv)) e some = absurd (omega (arith, some))
   open_copy op (Some (Share s)) e some = absurd (omega (arith, some))
 
-  pub token_open : (k p op : ℕ) (chunks : List Chunk) (rest : List Msg) → 1 < count → Takes (node_step f) count w k p (node_of j.nodes k) (msg.Standby op chunks) rest → CopyTokens w → IsOpenCopy op
+  pub token_open : (k p op : ℕ) (chunks : List Chunk) (rest : List Msg) → 1 < count → Takes (node_step f) count w k p (node_of j.nodes k) (msg.Standby op chunks) rest → HasTokens w → IsOpenCopy op
   token_open k p op chunks rest some takes h =
       let c = j.nodes.controller in
       let same : h.controller ≡ c = token_controller some h in

@@ -28,7 +28,7 @@ use Rattle.net_world.proofs.StartingLemmas.{few_nodes}
 use Rattle.whole_joined.proofs.StartJoined.{given, all_fit, count_at_start, start_joined}
 use Rattle.whole_joined.proofs.Given.{Given}
 use Rattle.whole_joined.proofs.Joined.{S, A, by_node, came_by, Joined}
-use Rattle.whole_joined.proofs.BesideRuns.{Beside, next_joined, beside_next, beside_at_start}
+use Rattle.whole_joined.proofs.BesideRuns.{HasBeside, next_joined, beside_next, beside_at_start}
 
 module _ (F : Type 0) {R : Type 0} (f : Semantics R) (laws : FunctionLaws f) (alloc : Global) (c : Config) (items : List Msg) (is : IsInput f.kind c items) where
   pub start_world : IsWorld (started {F = F} {R = R} alloc c items)
@@ -43,7 +43,7 @@ module _ (F : Type 0) {R : Type 0} (f : Semantics R) (laws : FunctionLaws f) (al
   -- a world of a run, with what is kept beside it
   pub record Runs (w : Network (Node F R) Msg Note) : Type 0 where
     pub joined : Joined f g n w
-    pub beside : Beside f g n w joined
+    pub beside : HasBeside f g n w joined
 
   runs_at_start : Runs (started alloc c items)
   runs_at_start = record { joined = start_joined F f alloc c items is; beside = beside_at_start F f alloc c items is }
