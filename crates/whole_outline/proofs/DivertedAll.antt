@@ -148,7 +148,7 @@ module _ {R : Type 0} (f : Semantics R) (at : Site) (packet : ℕ → Packet) (p
     abbrev real_first : Option (ℕ × Operation)
     real_first = find (λ e. is_shared_by flow e.1) (finite.entries c.operations)
 
-    taken_is : (e : Open_share) → share_taking S shares u ≡ Some e → share_of c.operations flow ≡ Some e.num
+    pub taken_is : (e : Open_share) → share_taking S shares u ≡ Some e → share_of c.operations flow ≡ Some e.num
     taken_is e taking = by_first real_first refl
       where
         on : S.takes e.filter u ≡ true
@@ -167,7 +167,7 @@ module _ {R : Type 0} (f : Semantics R) (at : Site) (packet : ℕ → Packet) (p
             let r = found_real x is in
             ap (option_map (λ y. y.0)) is ∙ ap Some (apart.one x.0 e.num r.e e r.found found r.on on)
 
-    none_is : share_taking S shares u ≡ None → share_of c.operations flow ≡ None
+    pub none_is : share_taking S shares u ≡ None → share_of c.operations flow ≡ None
     none_is taking = by_first real_first refl
       where
         by_first : (o : Option (ℕ × Operation)) → real_first ≡ o → share_of c.operations flow ≡ None

@@ -1,0 +1,26 @@
+-- Each node's step leads from a world of a run to one, where what the step wants beside the world is so.
+use Rattle.std.proofs.Common.{◌≡◌, ℕ, zero, suc, List, arith}
+use Rattle.nf_function.specs.declared.chunk.Chunk.{Chunk}
+use Rattle.nf_function.specs.Records.{Fits, Laws as FunctionLaws}
+use Rattle.nf_function.specs.Semantics.{Semantics}
+use Rattle.nf_msgs.specs.declared.msg.Msg.{Msg}
+use Rattle.nf_msgs.specs.declared.msg.Msg.TheVariants as msg
+use Rattle.whole_joined.proofs.StandbyChunks.{MayStandBy}
+use Rattle.whole_joined.proofs.ControllerBegins.{Copies_next}
+use Rattle.whole_joined.proofs.SwitchSteps.{switch_leads}
+use Rattle.whole_joined.proofs.ControllerSteps.{controller_leads}
+use Rattle.whole_joined.proofs.InstanceSteps.{instance_leads}
+use Rattle.whole_joined.proofs.JoinedSteps.{Node_leads}
+use Rattle.whole_joined.proofs.Given.{Given}
+use Rattle.whole_joined.proofs.Joined.{Scene}
+
+-- chunks of a copy that an instance is to keep may stand by, and the number of a copy that is asked for is new
+pub record Wants {F R : Type 0} (f : Semantics R) (g : Given) (x : Scene F f g) (m : Msg) : Type 0 where
+  pub stand : (op : ℕ) (chunks : List Chunk) → m ≡ msg.Standby op chunks → MayStandBy f g x.world chunks
+  pub next : Copies_next f g x m
+
+module _ {F R : Type 0} (f : Semantics R) (laws : FunctionLaws f) (g : Given) (fitting : (number : ℕ) → Fits g.site (g.packet number)) (n : ℕ) where
+  pub node_leads : Node_leads F f g n (Wants f g)
+  node_leads x zero p m are is wants = switch_leads f laws g n x p m are is
+  node_leads x (suc zero) p m are is wants = controller_leads f laws g n x p m are is wants.next
+  node_leads x (suc (suc i)) p m are is wants = instance_leads f laws g fitting n x p m (suc (suc i)) (omega arith) are is wants.stand
