@@ -7,6 +7,7 @@ use Rattle.flow_filter.specs.Filter.{meets}
 use Rattle.nf_msgs.specs.declared.answer.Answer.{Answer}
 use Rattle.nf_msgs.specs.declared.answer.Answer.TheVariants.{Done, Unknown, Overlap}
 use Rattle.nf_msgs.specs.declared.command.Order.{Order}
+use Rattle.nf_msgs.specs.declared.command.Order.TheVariants.{Share}
 use Rattle.nf_msgs.specs.declared.msg.Msg.{Msg}
 use Rattle.nf_msgs.specs.declared.note.Note.{Note}
 use Rattle.nf_msgs.specs.declared.note.Note.TheVariants.{Begun, Installed, Answered}
@@ -41,6 +42,11 @@ times_installed op (n ∷ notes) = times_installed op notes
 abbrev pub is_busy : ℕ → List Note → Bool
 is_busy op log = began op log && not (has_answered op log)
 
+-- whether an order is to share
+abbrev pub is_share : Option Order → Bool
+is_share (Some (Share members filter)) = true
+is_share order = false
+
 -- all answers to the command, in order
 abbrev pub answers_of : ℕ → List Note → List Answer
 answers_of op [] = []
@@ -60,20 +66,24 @@ unknown_in names what = find (λ name. not (is_some (place_of names name))) (nam
 
 -- The instances' names are given, and the order under each number.
 module _ (names : List (List ℕ)) (orders : ℕ → Option Order) where
-  -- the filter of a command that is under way
-  abbrev pub busy_filter : ℕ → List Note → Option Filter
-  busy_filter op log = if is_busy op log then option_and_then filter_of (orders op) else None
+  -- whether a command keeps others off: as long as it is under way, and a share for good
+  abbrev pub keeps_off : ℕ → List Note → Bool
+  keeps_off op log = began op log && (is_share (orders op) || not (has_answered op log))
 
-  -- whether the filter of an order meets that of a command that is under way
+  -- the filter of a command that keeps others off
+  abbrev pub busy_filter : ℕ → List Note → Option Filter
+  busy_filter op log = if keeps_off op log then option_and_then filter_of (orders op) else None
+
+  -- whether the filter of an order meets that of such a command
   abbrev pub overlaps : Order → ℕ → List Note → Bool
   overlaps what op log = option_map_or (λ filter. option_map_or (meets filter) (busy_filter op log) false) (filter_of what) false
 
-  -- an instance has each name, and no command under way meets the order
+  -- an instance has each name, and no command that keeps others off meets the order
   pub record MayBegin (what : Order) (log : List Note) : Type 0 where
     pub known : unknown_in names what ≡ None
     pub apart : (op : ℕ) → overlaps what op log ≡ false
 
-  -- an instance has each name, and this is the lowest number of a command under way that meets the order
+  -- an instance has each name, and this is the lowest number of such a command that meets the order
   pub record IsLowest (op : ℕ) (what : Order) (log : List Note) : Type 0 where
     pub known : unknown_in names what ≡ None
     pub overlaps_it : overlaps what op log ≡ true

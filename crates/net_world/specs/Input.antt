@@ -1,6 +1,6 @@
 -- What a run of the network is given: its configuration, whose filters take whole units, and an input of packets and commands in
 -- the order of their numbers. This project's own.
-use Rattle.std.specs.Prelude.{◌≡◌, ◌==◌, ◌≤◌, ◌<◌, ◌-◌, ◌^◌, ℕ, suc, Bool, true, false, List, [], ◌∷◌, map, find, length, Option, option_map, unwrap_or, All}
+use Rattle.std.specs.Prelude.{◌≡◌, ◌==◌, ◌≤◌, ◌<◌, ◌-◌, ◌^◌, ℕ, suc, Bool, true, false, not, ◌&&◌, List, [], ◌∷◌, map, find, length, Option, option_map, unwrap_or, All}
 use Rattle.std.specs.Option.{ForSome}
 use Rattle.std.specs.Str.{bytes_eq}
 use Rattle.flow_filter.specs.declared.filter.Filter.{Filter}
@@ -14,7 +14,7 @@ use Rattle.nf_function.specs.Records.{Fits}
 use Rattle.nf_function.specs.Units.{splits}
 use Rattle.nf_msgs.specs.declared.command.Command.{Command}
 use Rattle.nf_msgs.specs.declared.command.Order.{Order}
-use Rattle.nf_msgs.specs.declared.command.Order.TheVariants.{Move, Copy}
+use Rattle.nf_msgs.specs.declared.command.Order.TheVariants.{Move, Copy, Share}
 use Rattle.nf_msgs.specs.declared.msg.Msg.{Msg}
 use Rattle.nf_msgs.specs.declared.msg.Msg.TheVariants.{InPacket, InCommand, InSettle, InEnd}
 use Rattle.net_world.specs.declared.config.Config.{Config}
@@ -72,11 +72,25 @@ pub record IsWhole (kind : Kind) (filter : Filter) : Type 0 where
   pub numbers : IsFilter filter
   pub whole : splits kind (fields_of filter) ≡ false
 
--- an order to move units, or to copy their records or, without a filter, the all-flows state, with two names. Shares aren't built yet
-abbrev pub IsBuilt : Kind → Order → Type 0
-IsBuilt kind (Move source destination filter keep) = (bytes_eq source destination ≡ false) × IsWhole kind filter
-IsBuilt kind (Copy source destination filter) = (bytes_eq source destination ≡ false) × ForSome filter (IsWhole kind)
-IsBuilt kind what = ⊥
+-- no two names of some are alike
+abbrev pub is_unlike : List ℕ → List (List ℕ) → Bool
+is_unlike name [] = true
+is_unlike name (other ∷ names) = not (bytes_eq name other) && is_unlike name names
+
+abbrev pub are_unlike : List (List ℕ) → Bool
+are_unlike [] = true
+are_unlike (name ∷ names) = is_unlike name names && are_unlike names
+
+-- the members of a share: two names or more, no two alike
+pub record AreMembers (names : List (List ℕ)) : Type 0 where
+  pub some : 2 ≤ length names
+  pub unlike : are_unlike names ≡ true
+
+-- an order to move units, to copy their records or, without a filter, the all-flows state, or to share them, with different names
+abbrev pub IsProper : Kind → Order → Type 0
+IsProper kind (Move source destination filter keep) = (bytes_eq source destination ≡ false) × IsWhole kind filter
+IsProper kind (Copy source destination filter) = (bytes_eq source destination ≡ false) × ForSome filter (IsWhole kind)
+IsProper kind (Share members filter) = AreMembers members × IsWhole kind filter
 
 -- the greatest number of packets that a record counts
 abbrev pub most_counted : ℕ
@@ -91,5 +105,5 @@ pub record IsInput (kind : Kind) (config : Config) (items : List Msg) : Type 0 w
   pub steered : All (IsSteered config.site) (packets items)
   pub numbers : IsRising 0 (map (λ p. p.number) (packets items))
   pub few : length (packets items) ≤ most_counted
-  pub orders : All (λ command. IsBuilt kind command.what) (commands items)
+  pub orders : All (λ command. IsProper kind command.what) (commands items)
   pub ops : IsRising 0 (map (λ c. c.op) (commands items))

@@ -8,6 +8,7 @@ pub mod Places
 pub mod Records
 pub mod Refused
 pub mod Runs
+pub mod Seen
 pub mod Settles
 pub mod Standby
 pub mod Start

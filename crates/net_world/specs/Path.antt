@@ -1,14 +1,16 @@
--- The packets under way in a world, place by place: what stands on links, what the controller stores, and what instances hold. Read in
--- this order, those of a unit are its packets that came and aren't processed, as they came. Packets go by their numbers. This
--- project's own.
-use Rattle.std.specs.Prelude.{ℕ, zero, suc, ◌==◌, if◌then◌else◌, List, [], ◌∷◌, ◌++◌, map, Option, Some, slice_get}
+-- The packets under way in a world, place by place: what stands on links, what the controller stores for moves, what instances hold, and
+-- what waits for shares. Read in this order, those of a unit are its packets that came and aren't processed, as they came. Packets go by
+-- their numbers. This project's own.
+use Rattle.std.specs.Prelude.{ℕ, zero, suc, Bool, true, false, ◌==◌, if◌then◌else◌, List, [], ◌∷◌, ◌++◌, map, Option, Some, slice_get}
 use Rattle.std.specs.FinMap as finite
-use Rattle.event_filter.specs.declared.mark.Mark.TheVariants.{Pass}
+use Rattle.event_filter.specs.declared.mark.Mark.TheVariants.{Plain}
 use Rattle.packet_pool.specs.Pool.{FullCell}
 use Rattle.nf_msgs.specs.declared.msg.Msg.{Msg}
-use Rattle.nf_msgs.specs.declared.msg.Msg.TheVariants.{Carry, Forward, Event}
+use Rattle.nf_msgs.specs.declared.msg.Msg.TheVariants.{Carry, Forward, Event, Diverted}
 use Rattle.nf_msgs.specs.declared.note.Note.{Note}
 use Rattle.nf_msgs.specs.Nodes.{switch_node, instance_node}
+use Rattle.ctrl_node.specs.declared.operation.Operation.{Operation}
+use Rattle.ctrl_node.specs.declared.operation.Operation.TheVariants.{Share}
 use Rattle.actor_net.specs.Network.{Network, on_link}
 use Rattle.net_world.specs.declared.node.Node.{Node}
 use Rattle.net_world.specs.declared.node.Node.TheVariants.{Controller, Instance}
@@ -27,15 +29,15 @@ all_but one of (suc i) = all_but one of i ++ (if i == one then [] else of i)
 abbrev pub numbers : List FullCell → List ℕ
 numbers cells = map (λ cell. cell.packet.number) cells
 
--- the packet of a message to an instance: one that the controller handed on, or one that comes by the rules of the switch
-abbrev pub passed : Msg → List ℕ
-passed (Carry (Pass op) cell) = cell.packet.number ∷ []
-passed message = []
-
+-- the packet of a message to an instance: one that comes by the rules of the switch, or one that the controller handed on
 abbrev pub carried : Msg → List ℕ
-carried (Carry (Pass op) cell) = []
-carried (Carry mark cell) = cell.packet.number ∷ []
+carried (Carry Plain cell) = cell.packet.number ∷ []
 carried message = []
+
+abbrev pub passed : Msg → List ℕ
+passed (Carry Plain cell) = []
+passed (Carry mark cell) = cell.packet.number ∷ []
+passed message = []
 
 -- the packet that the controller hands on by the switch, and the packet of an event
 abbrev pub forwarded : Msg → List ℕ
@@ -46,11 +48,25 @@ abbrev pub handed_over : Msg → List ℕ
 handed_over (Event op cell) = cell.packet.number ∷ []
 handed_over message = []
 
+-- the packet that the switch sends to the controller, for a share
+abbrev pub diverted : Msg → List ℕ
+diverted (Diverted cell) = cell.packet.number ∷ []
+diverted message = []
+
+-- whether an operation is a share
+abbrev pub is_shared : Option Operation → Bool
+is_shared (Some (Share s)) = true
+is_shared operation = false
+
 module _ {F R : Type 0} where
-  -- the packets that a controller stores, operation by operation
+  -- the packets that a controller stores, operation by operation: for moves, and for shares
   abbrev pub stored_by : Node F R → List ℕ
-  stored_by (Controller c) = all_of (λ e. numbers e.1) (finite.entries c.store)
+  stored_by (Controller c) = all_of (λ e. if is_shared (finite.get c.operations e.0) then [] else numbers e.1) (finite.entries c.store)
   stored_by node = []
+
+  abbrev pub queued_by : Node F R → List ℕ
+  queued_by (Controller c) = all_of (λ e. if is_shared (finite.get c.operations e.0) then numbers e.1 else []) (finite.entries c.store)
+  queued_by node = []
 
   -- the packets that an instance holds, rule by rule
   abbrev pub held_by : Option (Node F R) → List ℕ
@@ -66,7 +82,7 @@ module _ {F R : Type 0} (w : Network (Node F R) Msg Note) where
   abbrev pub at_instance : ℕ → List ℕ
   at_instance i = held_by (slice_get w.nodes (instance_node i)) ++ all_of carried (on_link w switch_node (instance_node i))
 
-  -- all packets under way, of so many instances; last those at one of them, the owner
+  -- all packets under way, of so many instances; those at one of them, the owner, come behind those at others, and what waits for shares last
   abbrev pub under_way : (instances owner : ℕ) → List ℕ
   under_way instances owner =
-      on_links passed ++ (on_links forwarded ++ (all_of stored_by w.nodes ++ (on_links handed_over ++ (all_but owner at_instance instances ++ at_instance owner))))
+      on_links passed ++ (on_links forwarded ++ (all_of stored_by w.nodes ++ (on_links handed_over ++ (all_but owner at_instance instances ++ (at_instance owner ++ (all_of queued_by w.nodes ++ on_links diverted))))))

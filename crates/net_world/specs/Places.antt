@@ -1,18 +1,21 @@
--- Where the packets of a unit may be processed: at the instance that owns it by the rules of the switch, and, as long as a move of the
--- unit is under way, at the move's two instances; and which units a plain move handed on. Instances go by their numbers. This project's
--- own.
-use Rattle.std.specs.Prelude.{◌≡◌, ℕ, ◌==◌, Bool, true, false, not, ◌&&◌, ◌||◌, if◌then◌else◌, Option, None, Some, unwrap_or, List, [], ◌∷◌, ◌++◌}
+-- Where the packets of a unit may be processed: at the instance that owns it by the rules of the switch; as long as a move of the unit is
+-- under way, at the move's two instances; and at members of a share that has the unit. And which units a plain move handed on. Instances go by
+-- their numbers. This project's own.
+use Rattle.std.specs.Prelude.{◌≡◌, ℕ, ◌+◌, ◌%◌, ◌==◌, Bool, true, false, not, ◌&&◌, ◌||◌, if◌then◌else◌, Option, None, Some, unwrap_or, option_or, option_map, List, [], ◌∷◌, ◌++◌, length, slice_index_or}
+use Rattle.std.specs.Option.{option_map_or}
 use Rattle.flow_filter.specs.declared.filter.Filter.{Filter}
+use Rattle.flow_filter.specs.declared.packet.Packet.{Packet}
+use Rattle.flow_filter.specs.Flow.{flow_of}
 use Rattle.nf_function.specs.declared.kind.Kind.{Kind}
 use Rattle.nf_function.specs.declared.output.Output.{Output}
 use Rattle.nf_function.specs.declared.unit.Unit as units
 use Rattle.nf_function.specs.Semantics.{unit_at}
 use Rattle.nf_function.specs.Units.{takes}
 use Rattle.nf_msgs.specs.declared.command.Order.{Order}
-use Rattle.nf_msgs.specs.declared.command.Order.TheVariants.{Move}
+use Rattle.nf_msgs.specs.declared.command.Order.TheVariants.{Move, Share}
 use Rattle.nf_msgs.specs.declared.msg.Msg.{Msg}
 use Rattle.nf_msgs.specs.declared.note.Note.{Note}
-use Rattle.nf_msgs.specs.declared.note.Note.TheVariants.{Processed}
+use Rattle.nf_msgs.specs.declared.note.Note.TheVariants.{Arrived, Processed}
 use Rattle.ctrl_node.specs.Controller.{place_of}
 use Rattle.net_world.specs.declared.config.Config.{Config}
 use Rattle.net_world.specs.Input.{packet_of, order_of}
@@ -53,6 +56,21 @@ module _ (names : List (List ℕ)) (orders : ℕ → Option Order) where
   loose_after unit i [] = false
   loose_after unit i (op ∷ ops) = hands_on_plain unit (orders op) i || loose_after unit (handed_on unit (orders op) i) ops
 
+  -- whether this instance is the home of a share among these members: the first of them
+  abbrev pub is_home : List (List ℕ) → ℕ → Bool
+  is_home [] i = false
+  is_home (name ∷ others) i = is_at (place_of names name) i
+
+  -- the members among whom an order shares a unit that this instance owns: it does if the instance is its home
+  abbrev pub shared_among : units.Unit → Option Order → ℕ → Option (List (List ℕ))
+  shared_among unit (Some (Share members filter)) i = if takes filter unit && is_home members i then Some members else None
+  shared_among unit order i = None
+
+  -- the members of the share that has the unit after these commands were installed, in order: the first that shares it from its owner
+  abbrev pub members_after : units.Unit → ℕ → List ℕ → Option (List (List ℕ))
+  members_after unit i [] = None
+  members_after unit i (op ∷ ops) = option_or (shared_among unit (orders op) i) (members_after unit (handed_on unit (orders op) i) ops)
+
 module _ (config : Config) (items : List Msg) where
   abbrev pub owner : units.Unit → List Note → ℕ
   owner unit log = owner_after config.names (order_of items) unit (first_owner unit config.routes) (installed log)
@@ -60,6 +78,16 @@ module _ (config : Config) (items : List Msg) where
   -- a plain move that the switch has installed handed the unit on
   abbrev pub is_loose : units.Unit → List Note → Bool
   is_loose unit log = loose_after config.names (order_of items) unit (first_owner unit config.routes) (installed log)
+
+  -- the members of the share that has the unit by the rules of the switch
+  abbrev pub members : units.Unit → List Note → Option (List (List ℕ))
+  members unit log = members_after config.names (order_of items) unit (first_owner unit config.routes) (installed log)
+
+  -- the member among some at which a packet is processed: by the two ports and the remote address of its flow, modulo the number of members
+  abbrev pub member_for : List (List ℕ) → Packet → Option ℕ
+  member_for names packet =
+      let flow = (flow_of config.site packet).0 in
+      place_of config.names (slice_index_or names ((flow.lport + flow.rport + flow.remote) % length names) [])
 
   -- a move of the unit between two names is under way
   pub record IsMoving (unit : units.Unit) (log : List Note) (source destination : List ℕ) : Type 0 where
@@ -70,12 +98,27 @@ module _ (config : Config) (items : List Msg) where
     pub takes_it : takes filter unit ≡ true
     pub busy : is_busy op log ≡ true
 
-  -- a packet of the unit may be processed at the instance
-  pub data IsPlace (unit : units.Unit) (log : List Note) (i : ℕ) : Type 0 where
-    Owns : i ≡ owner unit log → IsPlace unit log i
-    Is_source : (source destination : List ℕ) → IsMoving unit log source destination → place_of config.names source ≡ Some i → IsPlace unit log i
-    Is_destination : (source destination : List ℕ) → IsMoving unit log source destination → place_of config.names destination ≡ Some i → IsPlace unit log i
+module _ (config : Config) (items : List Msg) (kind : Kind) where
+  -- the unit of the packet with a number
+  abbrev pub unit_numbered : ℕ → units.Unit
+  unit_numbered number = unit_at kind config.site (packet_of items number)
+
+  -- where a packet goes by the rules of the switch: to its member of the share that has its unit, and else to the owner
+  abbrev pub goes_to : ℕ → List Note → Option ℕ
+  goes_to number log =
+      option_map_or (λ names. member_for config names (packet_of items number)) (members config items (unit_numbered number) log) (Some (owner config items (unit_numbered number) log))
+
+  -- a packet may be processed at the instance
+  pub data IsPlace (number : ℕ) (log : List Note) (i : ℕ) : Type 0 where
+    Owns : i ≡ owner config items (unit_numbered number) log → IsPlace number log i
+    Is_source : (source destination : List ℕ) → IsMoving config items (unit_numbered number) log source destination → place_of config.names source ≡ Some i → IsPlace number log i
+    Is_destination : (source destination : List ℕ) → IsMoving config items (unit_numbered number) log source destination → place_of config.names destination ≡ Some i → IsPlace number log i
+    Is_member : goes_to number log ≡ Some i → IsPlace number log i
 
   -- each packet was processed at such an instance, by what was noted before
-  abbrev pub ArePlaces : Kind → List Note → Type 0
-  ArePlaces kind log = (before after : List Note) (number instance : ℕ) (output : Output) → log ≡ before ++ Processed number instance output ∷ after → IsPlace (unit_at kind config.site (packet_of items number)) before instance
+  abbrev pub ArePlaces : List Note → Type 0
+  ArePlaces log = (before after : List Note) (number instance : ℕ) (output : Output) → log ≡ before ++ Processed number instance output ∷ after → IsPlace number before instance
+
+  -- each packet that came when a share had its unit was processed at its member
+  abbrev pub AreAtMembers : List Note → Type 0
+  AreAtMembers log = (before between after : List Note) (number instance : ℕ) (output : Output) (names : List (List ℕ)) → log ≡ before ++ Arrived number ∷ (between ++ Processed number instance output ∷ after) → members config items (unit_numbered number) before ≡ Some names → member_for config names (packet_of items number) ≡ Some instance

@@ -10,7 +10,7 @@ use Rattle.nf_function.specs.Semantics.{Semantics}
 use Rattle.record_table.specs.Table.{same_unit, is_among}
 use Rattle.record_table.specs.Chunks.{spelled}
 use Rattle.nf_msgs.specs.declared.msg.Msg.{Msg}
-use Rattle.nf_msgs.specs.declared.msg.Msg.TheVariants.{Piece, Put, PutNo, Restore, Delete}
+use Rattle.nf_msgs.specs.declared.msg.Msg.TheVariants.{Piece, Put, PutNo, Restore, Delete, Shared, Sync}
 use Rattle.nf_msgs.specs.declared.note.Note.{Note}
 use Rattle.nf_msgs.specs.Exports.{units_in}
 use Rattle.nf_msgs.specs.Nodes.{controller_node, instance_node}
@@ -64,6 +64,15 @@ abbrev pub removed_by : Msg → List units.Unit
 removed_by (Delete op gone) = gone
 removed_by message = []
 
+-- the units whose records a member of a share gives, when it has processed a packet, and those whose records a member is told to take
+abbrev pub shared_in : Msg → List units.Unit
+shared_in (Shared op chunk) = units_in (chunk ∷ [])
+shared_in message = []
+
+abbrev pub synced_in : Msg → List units.Unit
+synced_in (Sync home op chunks) = units_in chunks
+synced_in message = []
+
 -- whether a chunk is one of the unit
 abbrev pub is_chunk_of : units.Unit → Chunk → Bool
 is_chunk_of unit chunk = option_map_or (same_unit unit) chunk.unit false
@@ -83,6 +92,13 @@ module _ {F R : Type 0} (w : Network (Node F R) Msg Note) where
   is_to_remove unit i =
       is_among (all_of given_in (on_link w (instance_node i) controller_node)) unit
       || is_among (all_of removed_by (on_link w controller_node (instance_node i))) unit
+
+  -- whether the home of a share is still to take the record of the unit from a member that has processed a packet: the record stands on the link
+  -- from the member, or on the link to the home
+  abbrev pub is_to_take : units.Unit → (home member : ℕ) → Bool
+  is_to_take unit home member =
+      is_among (all_of shared_in (on_link w (instance_node member) controller_node)) unit
+      || is_among (all_of synced_in (on_link w controller_node (instance_node home))) unit
 
   abbrev pub IsNowhereLive : units.Unit → Type 0
   IsNowhereLive unit = (i : ℕ) → live_at w i unit ≡ None

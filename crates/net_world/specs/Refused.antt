@@ -4,7 +4,6 @@ use Rattle.std.specs.Prelude.{◌≡◌, ◌≢◌, ℕ, Bool, true, false, ◌&
 use Rattle.nf_function.specs.declared.kind.Kind.{Kind}
 use Rattle.nf_function.specs.declared.output.Output.{Output}
 use Rattle.nf_function.specs.declared.unit.Unit as units
-use Rattle.nf_function.specs.Semantics.{unit_at}
 use Rattle.nf_function.specs.Units.{takes}
 use Rattle.nf_msgs.specs.declared.answer.Answer.{Answer}
 use Rattle.nf_msgs.specs.declared.answer.Answer.TheVariants.{Done}
@@ -15,8 +14,8 @@ use Rattle.nf_msgs.specs.declared.note.Note.{Note}
 use Rattle.nf_msgs.specs.declared.note.Note.TheVariants.{Processed, Begun, Answered}
 use Rattle.ctrl_node.specs.Controller.{place_of}
 use Rattle.net_world.specs.declared.config.Config.{Config}
-use Rattle.net_world.specs.Input.{packet_of, order_of}
-use Rattle.net_world.specs.Places.{is_at, owner}
+use Rattle.net_world.specs.Input.{order_of}
+use Rattle.net_world.specs.Places.{is_at, owner, unit_numbered}
 
 -- what a log says of a command that began and was answered otherwise than that it is done: the notes before its begin, and those from there
 -- to its answer
@@ -32,10 +31,6 @@ moves_away config (Some (Move source destination filter keep)) unit i = takes fi
 moves_away config order unit i = false
 
 module _ (config : Config) (items : List Msg) (kind : Kind) where
-  -- the unit of the packet with a number
-  abbrev pub unit_numbered : ℕ → units.Unit
-  unit_numbered number = unit_at kind config.site (packet_of items number)
-
   -- each packet of a unit that a refused move was to take away from its owner was processed at that owner
   abbrev pub StaysAtSource : List Note → Type 0
-  StaysAtSource log = (op : ℕ) (first between before after : List Note) (number instance : ℕ) (output : Output) → IsRefused op log first between → between ≡ before ++ Processed number instance output ∷ after → moves_away config (order_of items op) (unit_numbered number) (owner config items (unit_numbered number) first) ≡ true → instance ≡ owner config items (unit_numbered number) first
+  StaysAtSource log = (op : ℕ) (first between before after : List Note) (number instance : ℕ) (output : Output) → IsRefused op log first between → between ≡ before ++ Processed number instance output ∷ after → moves_away config (order_of items op) (unit_numbered config items kind number) (owner config items (unit_numbered config items kind number) first) ≡ true → instance ≡ owner config items (unit_numbered config items kind number) first

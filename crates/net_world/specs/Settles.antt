@@ -1,17 +1,16 @@
 -- What a settle promises: where a packet behind it is processed and none of the commands behind it has begun yet, all others are
--- answered, so the packet is at the owner of its unit. This project's own.
-use Rattle.std.specs.Prelude.{◌≡◌, ℕ, ◌==◌, Bool, true, false, List, ◌∷◌, ◌++◌, find, is_some, All}
+-- answered, so the packet is where the rules of the switch send it. This project's own.
+use Rattle.std.specs.Prelude.{◌≡◌, ℕ, ◌==◌, Bool, true, false, List, ◌∷◌, ◌++◌, find, is_some, Some, All}
 use Rattle.nf_function.specs.declared.kind.Kind.{Kind}
 use Rattle.nf_function.specs.declared.output.Output.{Output}
-use Rattle.nf_function.specs.Semantics.{unit_at}
 use Rattle.nf_msgs.specs.declared.msg.Msg.{Msg}
 use Rattle.nf_msgs.specs.declared.msg.Msg.TheVariants.{InSettle}
 use Rattle.nf_msgs.specs.declared.note.Note.{Note}
 use Rattle.nf_msgs.specs.declared.note.Note.TheVariants.{Processed}
 use Rattle.net_world.specs.declared.config.Config.{Config}
-use Rattle.net_world.specs.Input.{packets, packet_of, commands}
+use Rattle.net_world.specs.Input.{packets, commands}
 use Rattle.net_world.specs.Commands.{began}
-use Rattle.net_world.specs.Places.{owner}
+use Rattle.net_world.specs.Places.{goes_to}
 
 -- what stands behind a settle of an input
 pub record IsBehind (items behind : List Msg) : Type 0 where
@@ -26,6 +25,7 @@ has_packet number items = is_some (find (λ p. p.number == number) (packets item
 abbrev pub NoneBegan : List Msg → List Note → Type 0
 NoneBegan items log = All (λ command. began command.op log ≡ false) (commands items)
 
--- a packet behind a settle that is processed before any command behind it begins is processed at its owner
+-- a packet behind a settle that is processed before any command behind it begins is processed where the rules of the switch send it: at its
+-- member of the share that has its unit, and else at the owner
 abbrev pub Settles : Config → List Msg → Kind → List Note → Type 0
-Settles config items kind log = (behind : List Msg) (before after : List Note) (number instance : ℕ) (output : Output) → IsBehind items behind → has_packet number behind ≡ true → log ≡ before ++ Processed number instance output ∷ after → NoneBegan behind before → instance ≡ owner config items (unit_at kind config.site (packet_of items number)) before
+Settles config items kind log = (behind : List Msg) (before after : List Note) (number instance : ℕ) (output : Output) → IsBehind items behind → has_packet number behind ≡ true → log ≡ before ++ Processed number instance output ∷ after → NoneBegan behind before → goes_to config items kind number before ≡ Some instance

@@ -1,6 +1,6 @@
--- What every run of the network keeps, complete or not, for scripts of moves and copies: each packet is processed at most once, in the order of
--- its unit; outputs and records are those of one instance that nothing moved. Packets go by their numbers. The words stand in `net_world`.
--- This project's own.
+-- What every run of the network keeps, complete or not, for every script: each packet is processed at most once, in the order of its unit;
+-- outputs and records are those of one instance that nothing moved. Packets go by their numbers. The words stand in `net_world`. This
+-- project's own.
 use Rattle.std.specs.Prelude.{◌≡◌, ℕ, ◌+◌, ◌≤◌, Bool, true, false, List, [], ◌∷◌, ◌++◌, map, length, Option, None, Some, All}
 use Rattle.flow_filter.specs.declared.filter.Filter.{Filter}
 use Rattle.nf_function.specs.declared.unit.Unit as units
@@ -8,7 +8,7 @@ use Rattle.nf_function.specs.Semantics.{Semantics}
 use Rattle.nf_msgs.specs.declared.answer.Answer.{Answer}
 use Rattle.nf_msgs.specs.declared.answer.Answer.TheVariants.{Done}
 use Rattle.nf_msgs.specs.declared.command.Order.{Order}
-use Rattle.nf_msgs.specs.declared.command.Order.TheVariants.{Move, Copy}
+use Rattle.nf_msgs.specs.declared.command.Order.TheVariants.{Move, Copy, Share}
 use Rattle.nf_msgs.specs.declared.msg.Msg.{Msg}
 use Rattle.nf_msgs.specs.declared.note.Note.{Note}
 use Rattle.actor_net.specs.declared.choice.Choice.{Choice}
@@ -20,9 +20,10 @@ use Rattle.net_world.specs.Fold.{IsFront, times, came, fold, given, outputs, pat
 use Rattle.net_world.specs.Input.{packets, order_of, ends_last}
 use Rattle.net_world.specs.Log.{arrived}
 use Rattle.net_world.specs.Nodes.{node_step}
-use Rattle.net_world.specs.Places.{is_loose, ArePlaces}
-use Rattle.net_world.specs.Records.{live_at, chunks_on_way, HasOneRecord, IsOfMove}
+use Rattle.net_world.specs.Places.{is_loose, ArePlaces, AreAtMembers}
+use Rattle.net_world.specs.Records.{live_at, chunks_on_way, IsOfMove}
 use Rattle.net_world.specs.Refused.{StaysAtSource}
+use Rattle.net_world.specs.Seen.{HasRecord}
 use Rattle.net_world.specs.Settles.{Settles}
 use Rattle.net_world.specs.Standby.{standby_at, StandsBy, EndsWith, EndsNoShorter}
 use Rattle.net_world.specs.Verdicts.{IsVerdict, is_refusal, noted}
@@ -41,20 +42,22 @@ module _ {R : Type 0} (f : Semantics R) (config : Config) (items : List Msg) whe
     pub each_in_place : (unit : units.Unit) (p : ℕ) → times p (went f config items unit w.log) + times p (path f config items unit w) ≡ times p (came f config items unit w.log)
     -- no packet comes twice: each that came is processed, or under way at one place
     pub came_once : (p : ℕ) → times p (arrived w.log) ≤ 1
-    -- outputs and records are those of one instance that nothing moved, and no unit has two records
+    -- outputs are those of one instance that nothing moved, and no unit has two live records
     pub outputs_are : (unit : units.Unit) → given f config items unit w.log ≡ outputs f config items None (went f config items unit w.log)
-    pub records_are : (unit : units.Unit) (i : ℕ) (r : R) → live_at w i unit ≡ Some r → fold f config items None (went f config items unit w.log) ≡ Some r
     pub one_record : (unit : units.Unit) (i j : ℕ) (r s : R) → live_at w i unit ≡ Some r → live_at w j unit ≡ Some s → i ≡ j
-    -- the record of a unit with a processed packet is live at one instance, or in one chunk on its way, or in both as long as its source
-    -- is still to remove it; no other unit has any
-    pub record_stands : (unit : units.Unit) → HasOneRecord f w unit (fold f config items None (went f config items unit w.log))
+    -- the record of a unit with a processed packet is that of one instance that nothing moved. It is live at one instance, or in one chunk on
+    -- its way, or in both as long as its source is still to remove it; no other unit has any. For a shared unit the last packet may be lacking,
+    -- as long as the home is to take the record of another member
+    pub record_stands : (unit : units.Unit) → HasRecord f config items w unit
     -- and each chunk on its way is one of a unit that a move under way takes
     pub chunks_moved : All (IsOfMove config items w.log) (chunks_on_way w)
     -- no more packets are under way than the window says
     pub window : Window config w
-    -- each packet was processed at the owner of its unit, or at an instance of a move of the unit that was under way
+    -- each packet was processed at the owner of its unit, at an instance of a move of the unit that was under way, or at its member of a share;
+    -- there it was if a share had its unit when it came
     pub places : ArePlaces config items f.kind w.log
-    -- behind a settle, and before a later command begins, it was at the owner
+    pub at_members : AreAtMembers config items f.kind w.log
+    -- behind a settle, and before a later command begins, it was where the rules of the switch send it
     pub settles : Settles config items f.kind w.log
     -- each command begins and is answered at most once, and what refuses it was true then
     pub answers : Answers config items w.log
@@ -64,12 +67,13 @@ module _ {R : Type 0} (f : Semantics R) (config : Config) (items : List Msg) whe
     pub at_source : StaysAtSource config items f.kind w.log
 
   -- what a complete run keeps besides: all packets of the input came, and each was processed, once; the record of a unit is
-  -- live at an instance; commands were answered, and the rules changed for moves that are done
+  -- live at an instance, and has seen all of them; commands were answered, and the rules changed for moves that are done
   pub record Completed {F : Type 0} (w : Network (Node F R) Msg Note) : Type 0 where
     pub all_came : arrived w.log ≡ map (λ p. p.number) (packets items)
     -- in their order, as long as no plain move handed their unit on
     pub all_went : (unit : units.Unit) → is_loose config items unit w.log ≡ false → went f config items unit w.log ≡ came f config items unit w.log
     pub each_once : (unit : units.Unit) (p : ℕ) → times p (went f config items unit w.log) ≡ times p (came f config items unit w.log)
+    pub records_are : (unit : units.Unit) (i : ℕ) (r : R) → live_at w i unit ≡ Some r → fold f config items None (went f config items unit w.log) ≡ Some r
     pub has_record : (unit : units.Unit) (r : R) → fold f config items None (went f config items unit w.log) ≡ Some r → (i : ℕ) × (live_at w i unit ≡ Some r)
     -- each command of the input was answered, if none stands behind its end
     pub answered : ends_last items ≡ true → (op : ℕ) (what : Order) → order_of items op ≡ Some what → length (answers_of op w.log) ≡ 1
@@ -91,5 +95,7 @@ module _ {F R : Type 0} (f : Semantics R) (start : Network (Node F R) Msg Note) 
     pub judged : (op : ℕ) (source destination : List ℕ) (filter : Filter) (keep : Bool) (answer : Answer) → order_of items op ≡ Some (Move source destination filter keep) → began op (noted f start choices) ≡ true → answers_of op (noted f start choices) ≡ answer ∷ [] → IsVerdict f start choices config items op answer
     -- a copy that began is answered that it is done
     pub copied : (op : ℕ) (source destination : List ℕ) (filter : Option Filter) (answer : Answer) → order_of items op ≡ Some (Copy source destination filter) → began op (noted f start choices) ≡ true → answers_of op (noted f start choices) ≡ answer ∷ [] → answer ≡ Done
+    -- and so is a share
+    pub set_up : (op : ℕ) (members : List (List ℕ)) (filter : Filter) (answer : Answer) → order_of items op ≡ Some (Share members filter) → began op (noted f start choices) ≡ true → answers_of op (noted f start choices) ≡ answer ∷ [] → answer ≡ Done
     -- and what didn't begin is answered by a refusal
     pub refused : (op : ℕ) (answer : Answer) → began op (noted f start choices) ≡ false → answers_of op (noted f start choices) ≡ answer ∷ [] → is_refusal answer ≡ true
