@@ -17,6 +17,7 @@ use Rattle.actor_net.proofs.EnabledChoices.{at}
 use Rattle.actor_net.proofs.OpeningWorlds.{opening_waiting, opening_weight}
 use Rattle.actor_net.proofs.RunInduction.{Taking}
 use Rattle.actor_net.proofs.StepOutcome.{Takes}
+use Rattle.actor_net.proofs.WaitingMessages.{less_first}
 use Rattle.actor_net.proofs.WeightLaws.{Each, EachSent, weigh}
 use Rattle.net_world.specs.declared.config.Config.{Config}
 use Rattle.net_world.specs.declared.node.Node.{Node}
@@ -25,7 +26,7 @@ use Rattle.net_world.specs.Nodes.{node_step, node_ready}
 use Rattle.net_world.specs.Start.{first_nodes, started}
 use Rattle.whole_joined.proofs.Given.{Given}
 use Rattle.whole_joined.proofs.Joined.{count, Label, Joined, node_of, IsTaken, Leads}
-use Rattle.whole_joined.proofs.JoinedSteps.{scene, is_taken, step_leads, takes_at, ready_at, joined_next}
+use Rattle.whole_joined.proofs.JoinedSteps.{scene, is_taken, input_after, step_leads, takes_at, ready_at, joined_next}
 use Rattle.whole_joined.proofs.NodeSteps.{Wants, node_leads}
 use Rattle.whole_joined.proofs.OperationsApart.{AllApart, none_apart}
 use Rattle.whole_joined.proofs.StandbyChunks.{MayStandBy}
@@ -67,6 +68,10 @@ module _ {F R : Type 0} (f : Semantics R) (laws : FunctionLaws f) (g : Given) (f
 
   pub its_labels : EachSent (Label f g) k.node (node_step f (node_of j.nodes k.node) k.port t.message).sends
   its_labels = its_leads.labels
+
+  -- and what it leaves of the input
+  pub its_input : waiting (taken (node_step f) w k) (at 0 0) ≡ less_first ((0 == k.node) && (0 == k.port)) (waiting w (at 0 0))
+  its_input = input_after f g n count_is (Wants f g) (node_leads f laws g fitting n) w k.node k.port t.message t.rest j its_takes (ready_at f g n count_is (Wants f g) (node_leads f laws g fitting n) w k t j)
 
   pub next_joined : Joined f g n (taken (node_step f) w k)
   next_joined = joined_next f g n count_is (Wants f g) (node_leads f laws g fitting n) w k t j wants
