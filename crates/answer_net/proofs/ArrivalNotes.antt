@@ -37,7 +37,7 @@ use Rattle.instance_worker.specs.declared.instance.Instance.{Instance as Instanc
 use Rattle.instance_worker.specs.Instance as worker
 use Rattle.instance_worker.specs.Instance.{instance_step}
 use Rattle.net_world.specs.Log.{arrived}
-use Rattle.joined_net.proofs.LogLemmas.{arrived-append}
+use Rattle.whole_joined.proofs.LogLemmas.{arrived-append}
 
 -- a packet of the input
 abbrev pub is_packet : Msg → Bool

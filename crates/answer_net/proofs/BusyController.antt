@@ -1,6 +1,7 @@
 -- The controller's step keeps that its open operations are the commands under way, and sends what the orders say.
 use Rattle.std.proofs.Common.{◌≡◌, ℕ, Bool, true, false, Option, Some, None, List, [], ◌∷◌, ◌++◌, refl, sym, ap, ◌∙◌, subst}
 use Rattle.std.specs.Prelude.{if◌then◌else◌, ◌==◌}
+use Rattle.std.specs.List.{filter_map}
 use Rattle.std.specs.FinMap as finite
 use Rattle.flow_filter.specs.declared.filter.Filter.{Filter}
 use Rattle.nf_function.specs.Semantics.{Semantics}
@@ -19,26 +20,52 @@ use Rattle.nf_msgs.specs.Shown.{op_of}
 use Rattle.copy_share.specs.declared.copy_phase.CopyPhase.TheVariants.{Keeping}
 use Rattle.copy_share.specs.Copy.{CopyPlan}
 use Rattle.copy_share.specs.Copy as copy
+use Rattle.copy_share.specs.Share.{SharePlan, ShareState}
+use Rattle.copy_share.specs.Share as share
 use Rattle.move_op.specs.Move.{MovePlan, MoveState, Row, row_in, answer_of, begun}
 use Rattle.ctrl_node.specs.declared.operation.Operation.{Operation}
 use Rattle.ctrl_node.specs.declared.operation.Operation.TheVariants.{Move, Copy, Share}
 use Rattle.ctrl_node.specs.Operations.{turn_of, moved}
-use Rattle.ctrl_node.specs.Controller.{ControllerState, Step, still, place_of, refusal, begins_between, copies_between, begins, decided, on_asked, after_turn, takes_turn, handed, numbered, on_event, on_final, instance_at, row as controller_row, may_finish, finish_of, finished, controller_step}
+use Rattle.ctrl_node.specs.Controller.{ControllerState, Step, still, place_of, refusal, begins_between, copies_between, begins_share, begins, decided, on_asked, on_diverted, queued, after_turn, takes_turn, handed, numbered, on_event, on_final, instance_at, row as controller_row, may_finish, finish_of, finished, controller_step}
 use Rattle.event_store.specs.Store.{stored}
 use Rattle.actor_net.proofs.WeightLaws.{EachSent}
 use Rattle.outline_net.proofs.CopyTurns.{CopyTurn, Idle, Hands, Hands_all, Ends, hands, copy_turn}
-use Rattle.joined_net.proofs.KnownOperations.{NotSharing, not_sharing}
-use Rattle.outline_net.proofs.OperationTables.{remove_insert, not_shared, handed_is as handed_turn}
-use Rattle.joined_net.proofs.Joined.{Given, Label}
-use Rattle.answer_net.proofs.BusyOperations.{HasOutcome, IsBusy, Causes, refusal_is}
-use Rattle.answer_net.proofs.BusyChanges.{other_notes, turned as op_turned, closed as op_closed, dropped, refused, begun as op_begun}
+use Rattle.outline_net.proofs.OperationTables.{got_insert, remove_insert, NotShared, handed_is as handed_turn}
+use Rattle.whole_joined.proofs.Given.{Given}
+use Rattle.whole_joined.proofs.Joined.{Label}
+use Rattle.answer_net.proofs.BusyOperations.{HasOutcome, IsShareOf, answers_to, IsBusy, Causes, refusal_is}
+use Rattle.answer_net.proofs.BusyChanges.{other_notes, turned as op_turned, set_up as op_set_up, closed as op_closed, dropped, refused, begun as op_begun}
 use Rattle.answer_net.proofs.MoveSays.{Says, says-append, answer_is, move_says}
+use Rattle.answer_net.proofs.ShareTells.{is_set_up, is_of_share, AreOfShare, Tells, ShareStep, handed_share, queued_share, Queues, Queues_none, Queues_at, queues}
+use Rattle.whole_outline.proofs.ShareLeft.{answered, noted}
+use Rattle.net_world.specs.Commands.{is_share}
 
 -- the number of a command that a message brings
 abbrev pub told_in : Msg → List ℕ
 told_in (msg.Asked c) = c.op ∷ []
 told_in (msg.InCommand c) = c.op ∷ []
 told_in m = []
+
+-- what a share sends says nothing of moves
+module _ (g : Given) where
+  share_says : (r : ℕ) (m : Msg) → is_of_share m ≡ true → Says g 1 r m
+  share_says r (msg.PutNo op refused) e = cc
+  share_says r m e = tt
+
+  shares_say : (sends : List (ℕ × Msg)) → AreOfShare sends → EachSent (Says g) 1 sends
+  shares_say [] h = tt
+  shares_say (x ∷ xs) h = (share_says x.0 x.1 h.0, shares_say xs h.1)
+
+  answer_says : (op : ℕ) (answer : Option Answer) (sends : List (ℕ × Msg)) → AreOfShare sends → EachSent (Says g) 1 (answered op answer sends)
+  answer_says op None sends h = shares_say sends h
+  answer_says op (Some why) sends h = says-append g 1 sends ((switch_node, msg.Answered op) ∷ []) (shares_say sends h) (tt, tt)
+
+-- the answers to a share that is set up, or isn't
+set_up_answers : (s : ShareState) → is_set_up s.phase ≡ true → answers_to (Share s) ≡ Done ∷ []
+set_up_answers s on = ap (λ b. if b then Done ∷ [] else []) on
+
+not_set_up : (s : ShareState) → is_set_up s.phase ≡ false → answers_to (Share s) ≡ []
+not_set_up s off = ap (λ b. if b then Done ∷ [] else []) off
 
 module _ (g : Given) (log : List Note) (waits : List ℕ) where
   pub record StepIs (did : Step) : Type 0 where
@@ -60,14 +87,14 @@ module _ (g : Given) (log : List Note) (waits : List ℕ) where
     still_is = record { busy = other_notes g c.operations log waits h [] tt; says = tt }
 
     -- a message of an open operation
-    turn_is : (op port : ℕ) (m : Msg) (o : Option Operation) → finite.get c.operations op ≡ o → Says g port 1 m → StepIs (takes_turn c op (turn_of o c.store port m))
-    turn_is op port m None is label = record { busy = other_notes g c.operations log waits h [] tt; says = tt }
-    turn_is op port m (Some (Share s)) is label = absurd (h.plan op (Share s) is)
-    turn_is op port m (Some (Copy y)) is label = by_turn _ (copy_turn c op y (h.plan op (Copy y) is).1 is port m)
+    turn_is : (op port : ℕ) (m : Msg) (o : Option Operation) → finite.get c.operations op ≡ o → NotShared o → Says g port 1 m → StepIs (takes_turn c op (turn_of o c.store port m))
+    turn_is op port m (Some (Share s)) is no label = absurd no
+    turn_is op port m None is no label = record { busy = other_notes g c.operations log waits h [] tt; says = tt }
+    turn_is op port m (Some (Copy y)) is no label = by_turn _ (copy_turn c op y (h.plan op (Copy y) is).1 is port m)
       where
         hands_is : (message : Msg) → Says g 1 (instance_node y.plan.to) message → StepIs (hands c op y message)
         hands_is message says = record {
-          busy = other_notes g (finite.insert c.operations op (Copy (record y { phase = Keeping }))) log waits (op_turned g c.operations log waits h op (Copy y) (Copy (record y { phase = Keeping })) is ((h.plan op (Copy y) is).0, refl) tt) [] tt;
+          busy = other_notes g (finite.insert c.operations op (Copy (record y { phase = Keeping }))) log waits (op_turned g c.operations log waits h op (Copy y) (Copy (record y { phase = Keeping })) is ((h.plan op (Copy y) is).0, refl) (finite.insert c.operations op (Copy (record y { phase = Keeping }))) (λ k. got_insert c.operations op k (Copy (record y { phase = Keeping }))) refl tt) [] tt;
           says = (says, tt);
         }
 
@@ -75,8 +102,8 @@ module _ (g : Given) (log : List Note) (waits : List ℕ) where
         by_turn did (Idle e) = subst StepIs (sym e) still_is
         by_turn did (Hands k chunks e d) = subst StepIs (sym d) (hands_is (msg.Standby y.plan.op chunks) tt)
         by_turn did (Hands_all k chunk e d) = subst StepIs (sym d) (hands_is (msg.PutAll y.plan.op chunk) tt)
-        by_turn did (Ends d) = subst StepIs (sym d) (record { busy = op_closed g c.operations log waits h op (Copy y) (Copy y) is (h.plan op (Copy y) is) Done refl; says = (tt, tt) })
-    turn_is op port m (Some (Move mv)) is label = by_answer (answer_of r.next.phase) refl
+        by_turn did (Ends d) = subst StepIs (sym d) (record { busy = op_closed g c.operations log waits h op (Copy y) (Copy y) is (h.plan op (Copy y) is) Done refl (ap is_share (h.plan op (Copy y) is).0.order_is) refl; says = (tt, tt) })
+    turn_is op port m (Some (Move mv)) is no label = by_answer (answer_of r.next.phase) refl
       where
         r : Row
         r = row_in mv c.store port m
@@ -88,14 +115,46 @@ module _ (g : Given) (log : List Note) (waits : List ℕ) where
         says = let it = move_says g mv (stored c.store mv.plan.op) port m (h.outcome op (Move mv) is) label in (it.outcome, it.says)
 
         by_answer : (a : Option Answer) → answer_of r.next.phase ≡ a → StepIs (after_turn c op (moved mv c.store r) a)
-        by_answer None e = record { busy = other_notes g (finite.insert c.operations op (Move n)) log waits (op_turned g c.operations log waits h op (Move mv) (Move n) is (h.plan op (Move mv) is) says.0) [] tt; says = says.1 }
+        by_answer None e = record { busy = other_notes g (finite.insert c.operations op (Move n)) log waits (op_turned g c.operations log waits h op (Move mv) (Move n) is (h.plan op (Move mv) is) (finite.insert c.operations op (Move n)) (λ k. got_insert c.operations op k (Move n)) refl says.0) [] tt; says = says.1 }
         by_answer (Some a) e = record {
-          busy = subst (λ ops. IsBusy g ops (log ++ note.Answered op a ∷ []) waits) (sym (remove_insert c.operations op (Move n))) (op_closed g c.operations log waits h op (Move mv) (Move mv) is (h.plan op (Move mv) is) a (answer_is r.next.phase a says.0 e));
+          busy = subst (λ ops. IsBusy g ops (log ++ note.Answered op a ∷ []) waits) (sym (remove_insert c.operations op (Move n))) (op_closed g c.operations log waits h op (Move mv) (Move mv) is (h.plan op (Move mv) is) a (answer_is r.next.phase a says.0 e) (ap is_share (h.plan op (Move mv) is).order_is) refl);
           says = says-append g 1 r.next.sends ((switch_node, msg.Answered op) ∷ []) says.1 (tt, tt);
         }
 
+    -- an open share
+    share_is : (op : ℕ) (s : ShareState) → finite.get c.operations op ≡ Some (Share s) → (did : Step) → ShareStep c op s did → StepIs did
+    share_is op s there did l = record { busy = by_answer l.answer l.notes_are l.tells; says = subst (EachSent (Says g) 1) (sym l.sends_are) (says-append g 1 (answered op l.answer l.first) l.second (answer_says g op l.answer l.first l.first_own) (shares_say g l.second l.second_own)) }
+      where
+        now : ShareState
+        now = record s { phase = l.after }
+
+        plan : IsShareOf g op s.plan
+        plan = h.plan op (Share s) there
+
+        by_answer : (o : Option Answer) → did.notes ≡ noted op o → Tells (is_set_up s.phase) (is_set_up l.after) o → IsBusy g did.node.operations (log ++ did.notes) waits
+        by_answer None notes same = subst (λ ns. IsBusy g did.node.operations (log ++ ns) waits) (sym notes)
+            (other_notes g did.node.operations log waits (op_turned g c.operations log waits h op (Share s) (Share now) there plan did.node.operations l.operations (ap (λ b. if b then Done ∷ [] else []) (sym same)) tt) [] tt)
+        by_answer (Some why) notes tells = subst (λ ns. IsBusy g did.node.operations (log ++ ns) waits) (sym (notes ∙ ap (λ a. note.Answered op a ∷ []) tells.0))
+            (op_set_up g c.operations log waits h op (Share s) (Share now) there plan did.node.operations l.operations (ap is_share plan.order_is) (not_set_up s tells.1) (set_up_answers now tells.2) tt)
+
     handed_is : (op port : ℕ) (m : Msg) → Says g port 1 m → StepIs (handed c op port m)
-    handed_is op port m label = subst StepIs (sym (handed_turn c op port m (not_shared c.operations op (λ s e. h.plan op (Share s) e)))) (turn_is op port m (finite.get c.operations op) refl label)
+    handed_is op port m label = by_got (finite.get c.operations op) refl
+      where
+        by_got : (o : Option Operation) → finite.get c.operations op ≡ o → StepIs (handed c op port m)
+        by_got (Some (Share s)) is = share_is op s is (handed c op port m) (handed_share c op s is (h.plan op (Share s) is).op_is port m)
+        by_got None is = other (subst NotShared (sym is) tt)
+        by_got (Some (Move mv)) is = other (subst NotShared (sym is) tt)
+        by_got (Some (Copy y)) is = other (subst NotShared (sym is) tt)
+
+        other : NotShared (finite.get c.operations op) → StepIs (handed c op port m)
+        other no = subst StepIs (sym (handed_turn c op port m no)) (turn_is op port m (finite.get c.operations op) refl no label)
+
+    diverted_is : (cell : FullCell) → StepIs (on_diverted c cell)
+    diverted_is cell = by_queues (on_diverted c cell) (queues c cell)
+      where
+        by_queues : (did : Step) → Queues c cell did → StepIs did
+        by_queues did (Queues_none e) = subst StepIs (sym e) still_is
+        by_queues did (Queues_at op s is e) = subst StepIs (sym e) (share_is op s is (queued c cell (Some op)) (queued_share c op s is (h.plan op (Share s) is).op_is cell))
 
     numbered_is : (port : ℕ) (m : Msg) (o : Option ℕ) → Says g port 1 m → StepIs (numbered c port m o)
     numbered_is port m None label = still_is
@@ -121,7 +180,7 @@ module _ (g : Given) (log : List Note) (waits : List ℕ) where
     between_is source destination filter keep is may (Some from) (Some to) e k =
         let plan : MovePlan = record { op = op; from = from; to = to; filter = filter; keep = keep } in
         record {
-          busy = op_begun g c.operations log op waits h what (Move (begun plan)) known may (record { source = source; destination = destination; order_is = known ∙ ap Some is; from_is = ap (λ ns. place_of ns source) (sym names) ∙ e; to_is = ap (λ ns. place_of ns destination) (sym names) ∙ k }) tt;
+          busy = op_begun g c.operations log op waits h what (Move (begun plan)) known may (record { source = source; destination = destination; order_is = known ∙ ap Some is; from_is = ap (λ ns. place_of ns source) (sym names) ∙ e; to_is = ap (λ ns. place_of ns destination) (sym names) ∙ k }) tt refl;
           says = (tt, tt);
         }
     between_is source destination filter keep is may None b e k = dropped_is
@@ -131,7 +190,7 @@ module _ (g : Given) (log : List Note) (waits : List ℕ) where
     copies_is source destination filter is may (Some from) (Some to) e k =
         let plan : CopyPlan = record { op = op; from = from; to = to; filter = filter } in
         record {
-          busy = op_begun g c.operations log op waits h what (Copy (copy.begun plan)) known may (record { source = source; destination = destination; order_is = known ∙ ap Some is; from_is = ap (λ ns. place_of ns source) (sym names) ∙ e; to_is = ap (λ ns. place_of ns destination) (sym names) ∙ k }, refl) tt;
+          busy = op_begun g c.operations log op waits h what (Copy (copy.begun plan)) known may (record { source = source; destination = destination; order_is = known ∙ ap Some is; from_is = ap (λ ns. place_of ns source) (sym names) ∙ e; to_is = ap (λ ns. place_of ns destination) (sym names) ∙ k }, refl) tt refl;
           says = (asks_say filter, tt);
         }
       where
@@ -141,28 +200,37 @@ module _ (g : Given) (log : List Note) (waits : List ℕ) where
     copies_is source destination filter is may None b e k = dropped_is
     copies_is source destination filter is may (Some from) None e k = dropped_is
 
-    begins_is : (o : Order) → NotSharing o → what ≡ o → Causes g c.operations log (op ∷ waits) h what None → StepIs (begins c op o)
-    begins_is (order.Move source destination filter keep) built is may = between_is source destination filter keep is may (place_of c.names source) (place_of c.names destination) refl refl
-    begins_is (order.Copy source destination filter) built is may = copies_is source destination filter is may (place_of c.names source) (place_of c.names destination) refl refl
-    begins_is (order.Share members filter) built is may = absurd built
+    shares_is : (names : List (List ℕ)) (filter : Filter) → what ≡ order.Share names filter → Causes g c.operations log (op ∷ waits) h what None → (members : List ℕ) → StepIs (begins_share c op filter members)
+    shares_is names filter is may [] = dropped_is
+    shares_is names filter is may (home ∷ others) =
+        let plan : SharePlan = record { op = op; members = home ∷ others; filter = filter; site = c.site } in
+        record { busy = op_begun g c.operations log op waits h what (Share (share.begun plan)) known may (record { op_is = refl; names = names; order_is = known ∙ ap Some is }) tt refl; says = (tt, tt) }
 
-    decided_is : NotSharing what → (o : Option Answer) → Causes g c.operations log (op ∷ waits) h what o → StepIs (decided c op what o)
-    decided_is built None may = begins_is what built refl may
-    decided_is built (Some a) cause = record { busy = refused g c.operations log op waits h what a known cause; says = (tt, tt) }
+    begins_is : (o : Order) → what ≡ o → Causes g c.operations log (op ∷ waits) h what None → StepIs (begins c op o)
+    begins_is (order.Move source destination filter keep) is may = between_is source destination filter keep is may (place_of c.names source) (place_of c.names destination) refl refl
+    begins_is (order.Copy source destination filter) is may = copies_is source destination filter is may (place_of c.names source) (place_of c.names destination) refl refl
+    begins_is (order.Share members filter) is may = shares_is members filter is may (filter_map (place_of c.names) members)
 
-    asked_is : NotSharing what → StepIs (on_asked c (record { op = op; what = what }))
-    asked_is built = elim (finite.contains_key c.operations op) as (λ b. StepIs (if b then still c else decided c op what (refusal c what))) [
+    decided_is : (o : Option Answer) → Causes g c.operations log (op ∷ waits) h what o → StepIs (decided c op what o)
+    decided_is None may = begins_is what refl may
+    decided_is (Some a) cause = record { busy = refused g c.operations log op waits h what a known cause; says = (tt, tt) }
+
+    asked_is : StepIs (on_asked c (record { op = op; what = what }))
+    asked_is = elim (finite.contains_key c.operations op) as (λ b. StepIs (if b then still c else decided c op what (refusal c what))) [
       | true ↦ dropped_is
-      | false ↦ decided_is built (refusal c what) (refusal_is g c log (op ∷ waits) names h what)
+      | false ↦ decided_is (refusal c what) (refusal_is g c log (op ∷ waits) names h what)
     ]
 
 module _ {R : Type 0} (f : Semantics R) (g : Given) (log : List Note) (waits : List ℕ) (c : ControllerState) (names : c.names ≡ g.names) where
   row_busy : (p : ℕ) (m : Msg) → Label f g p 1 m → Says g p 1 m → IsBusy g c.operations log (told_in m ++ waits) → StepIs g log waits (controller_row c p m)
   row_busy p (msg.Asked k) label says h = elim (p == switch_node) as (λ b. StepIs g log waits (if b then on_asked c k else still c)) [
-    | true ↦ asked_is g log waits c k.op k.what names h label.2.known (not_sharing f g k.what label.2.built)
+    | true ↦ asked_is g log waits c k.op k.what names h label.2.known
     | false ↦ dropped_is g log waits c k.op k.what names h label.2.known
   ]
-  row_busy p (msg.Diverted cell) label says h = absurd label
+  row_busy p (msg.Diverted cell) label says h = elim (p == switch_node) as (λ b. StepIs g log waits (if b then on_diverted c cell else still c)) [
+    | true ↦ diverted_is g log waits c h cell
+    | false ↦ still_is g log waits c h
+  ]
   row_busy p msg.End label says h = elim (p == switch_node) as (λ b. StepIs g log waits (if b then still (record c { end_came = true }) else still c)) [
     | true ↦ record { busy = other_notes g c.operations log waits h [] tt; says = tt }
     | false ↦ still_is g log waits c h

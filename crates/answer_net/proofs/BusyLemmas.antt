@@ -1,6 +1,6 @@
 -- What the log says of commands, as it goes on.
 use Rattle.std.proofs.Common.{◌≡◌, ℕ, ◌+◌, ◌≤◌, Bool, true, false, Option, Some, List, [], ◌∷◌, ◌++◌, get_or, length, refl, sym, ap, ◌∙◌, subst, append-nil, arith}
-use Rattle.std.specs.Prelude.{if◌then◌else◌, ◌||◌, ◌==◌, unwrap_or}
+use Rattle.std.specs.Prelude.{if◌then◌else◌, ◌&&◌, ◌||◌, ◌==◌, not, unwrap_or}
 use Rattle.std.proofs.lemmas.Bool.Decides.{nat_tests}
 use Rattle.nf_msgs.specs.declared.answer.Answer.{Answer}
 use Rattle.nf_msgs.specs.declared.answer.Answer.TheVariants as answer
@@ -8,8 +8,8 @@ use Rattle.nf_msgs.specs.declared.command.Order.{Order}
 use Rattle.nf_msgs.specs.declared.note.Note.{Note}
 use Rattle.nf_msgs.specs.declared.note.Note.TheVariants as note
 use Rattle.unit_machine.proofs.Labels.{Each}
-use Rattle.net_world.specs.Commands.{has_answered, began, is_busy, answers_of, before_first, times_begun, MayBegin, IsCause}
-use Rattle.joined_net.proofs.LogLemmas.{has_begun-append}
+use Rattle.net_world.specs.Commands.{has_answered, began, is_share, keeps_off, answers_of, before_first, times_begun, MayBegin, IsCause}
+use Rattle.whole_joined.proofs.LogLemmas.{has_begun-append}
 
 -- a note of no command's begin or answer
 abbrev pub is_other : Note → Bool
@@ -171,11 +171,27 @@ began_same op log notes h = has_begun-append (λ k. k == op) log notes ∙ ap (�
 pub answered_same : (op : ℕ) (log notes : List Note) → has_answered op notes ≡ false → has_answered op (log ++ notes) ≡ has_answered op log
 answered_same op log notes h = has_answered-append op log notes ∙ ap (λ b. has_answered op log || b) h ∙ or_false (has_answered op log)
 
-pub busy_same : (op : ℕ) (log notes : List Note) → began op notes ≡ false → has_answered op notes ≡ false → is_busy op (log ++ notes) ≡ is_busy op log
-busy_same op log notes a b = let begun = began_same op log notes a in let answered = answered_same op log notes b in rw (begun, answered) refl
-
 pub answers_same : (op : ℕ) (log notes : List Note) → has_answered op notes ≡ false → answers_of op (log ++ notes) ≡ answers_of op log
 answers_same op log notes h = answers_of-append op log notes ∙ ap (λ v. answers_of op log ++ v) (none_answered op notes h) ∙ append-nil (answers_of op log)
+
+-- a command keeps others off as it did
+pub keeps_same : (names : List (List ℕ)) (orders : ℕ → Option Order) (op : ℕ) (log notes : List Note) → began op notes ≡ false → has_answered op notes ≡ false → keeps_off names orders op (log ++ notes) ≡ keeps_off names orders op log
+keeps_same names orders op log notes a b = ap (λ x. x && (is_share (orders op) || not (has_answered op (log ++ notes)))) (began_same op log notes a) ∙ ap (λ x. began op log && (is_share (orders op) || not x)) (answered_same op log notes b)
+
+-- what has no answers isn't answered
+pub unanswered : (op : ℕ) (log : List Note) → answers_of op log ≡ [] → has_answered op log ≡ false
+unanswered op [] is = refl
+unanswered op (note.Answered k answer ∷ xs) is = elim (k == op) as (λ b. (if b then answer ∷ answers_of op xs else answers_of op xs) ≡ [] → b || has_answered op xs ≡ false) [
+  | true ↦ λ never. cc
+  | false ↦ λ rest. unanswered op xs rest
+] is
+unanswered op (note.Arrived number ∷ xs) is = unanswered op xs is
+unanswered op (note.Processed number instance output ∷ xs) is = unanswered op xs is
+unanswered op (note.Begun k ∷ xs) is = unanswered op xs is
+unanswered op (note.Exported instance k us ∷ xs) is = unanswered op xs is
+unanswered op (note.Imported instance k us ∷ xs) is = unanswered op xs is
+unanswered op (note.Kept instance k us ∷ xs) is = unanswered op xs is
+unanswered op (note.Installed k ∷ xs) is = unanswered op xs is
 
 -- an answer was noted
 pub some_answered : (op : ℕ) (log : List Note) (a : Answer) (more : List Answer) → answers_of op log ≡ a ∷ more → has_answered op log ≡ true

@@ -40,7 +40,8 @@ use Rattle.switch_node.specs.Switch.{SwitchState, switch_step, stops, has_room, 
 use Rattle.instance_worker.specs.declared.instance.Instance.{Instance as InstanceState}
 use Rattle.instance_worker.specs.Pieces.{pieces}
 use Rattle.instance_worker.specs.Instance.{told, shared, and_then, tells, still, processed, all_processed, carried, on_carry, on_fence, on_get, on_stream, on_put, on_restore, on_standby, on_sync, on_put_all, tally_put, refusal, piece_put, where_good, instance_step, selected, chunk_told, with_count, table_after}
-use Rattle.joined_net.proofs.Joined.{Given, Label}
+use Rattle.whole_joined.proofs.Given.{Given}
+use Rattle.whole_joined.proofs.Joined.{Label}
 use Rattle.answer_net.proofs.BusyLemmas.{AreOther, is_other, is_outcome}
 use Rattle.answer_net.proofs.BusyController.{told_in}
 use Rattle.answer_net.proofs.LinePicks.{picked}

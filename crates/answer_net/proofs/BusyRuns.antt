@@ -1,6 +1,6 @@
 -- Of every run, the open operations of the controller are the commands under way, and the log says what is true of commands.
-use Rattle.std.proofs.Common.{◌≡◌, ◌≢◌, ℕ, zero, suc, ◌+◌, ◌<◌, Bool, true, false, Some, List, [], ◌++◌, get_or, refl, sym, ap, ◌∙◌, subst, arith}
-use Rattle.std.specs.Prelude.{if◌then◌else◌, ◌==◌}
+use Rattle.std.proofs.Common.{◌≡◌, ◌≢◌, ℕ, zero, suc, ◌+◌, ◌<◌, Bool, true, false, Some, None, List, [], ◌++◌, get_or, refl, sym, ap, ◌∙◌, subst, arith}
+use Rattle.std.specs.Prelude.{if◌then◌else◌, ◌&&◌, ◌||◌, ◌==◌, not, is_some}
 use Rattle.std.specs.FinMap as finite
 use Rattle.nf_function.specs.Semantics.{Semantics}
 use Rattle.nf_msgs.specs.declared.msg.Msg.{Msg}
@@ -14,20 +14,39 @@ use Rattle.actor_net.proofs.RunInduction.{Taking}
 use Rattle.actor_net.proofs.WeightLaws.{OnLinks, EachSent, on_links_after}
 use Rattle.unit_machine.proofs.Labels.{Each}
 use Rattle.move_op.specs.Move.{MoveState}
-use Rattle.ctrl_node.specs.declared.operation.Operation.TheVariants.{Move}
+use Rattle.copy_share.specs.Share.{ShareState}
+use Rattle.ctrl_node.specs.declared.operation.Operation.{Operation}
+use Rattle.ctrl_node.specs.declared.operation.Operation.TheVariants.{Move, Share}
 use Rattle.ctrl_node.specs.Controller.{ControllerState, controller_step}
 use Rattle.switch_node.specs.Switch.{switch_step}
 use Rattle.net_world.specs.declared.node.Node.{Node}
 use Rattle.net_world.specs.declared.node.Node.TheVariants.{Controller}
 use Rattle.net_world.specs.Nodes.{node_step, node_ready}
-use Rattle.net_world.specs.Commands.{is_busy}
-use Rattle.joined_net.proofs.Joined.{Given, Label, Joined, node_of, count, IsPlan}
-use Rattle.answer_net.proofs.BusyOperations.{IsBusy}
+use Rattle.net_world.specs.Commands.{has_answered, began, is_busy, is_share, keeps_off, answers_of}
+use Rattle.whole_joined.proofs.Given.{Given, IsPlan}
+use Rattle.whole_joined.proofs.Joined.{Label, Joined, node_of, count}
+use Rattle.answer_net.proofs.BusyOperations.{IsBusy, IsShareOf, answers_to}
+use Rattle.answer_net.proofs.BusyLemmas.{unanswered}
 use Rattle.answer_net.proofs.BusyChanges.{other_notes}
 use Rattle.answer_net.proofs.BusyController.{told_in, controller_busy}
 use Rattle.answer_net.proofs.BusyNodes.{switch_hands, instance_says}
 use Rattle.answer_net.proofs.LinePicks.{on_way, at_switch as way_at_switch, at_controller as way_at_controller, at_instance as way_at_instance}
 use Rattle.answer_net.proofs.MoveSays.{Says}
+
+first_true : (a b : Bool) → a && b ≡ true → a ≡ true
+first_true true b e = refl
+first_true false b e = cc
+
+both_true : (a b : Bool) → a ≡ true → b ≡ false → a && not b ≡ true
+both_true true false h k = refl
+both_true true true h k = cc
+both_true false b h k = cc
+
+not_busy : (a s b : Bool) → a && (s || not b) ≡ false → a && not b ≡ false
+not_busy false s b e = refl
+not_busy true s true e = refl
+not_busy true true false e = cc
+not_busy true false false e = cc
 
 module _ {F R : Type 0} where
   abbrev controller_in : ControllerState → Node F R → ControllerState
@@ -158,10 +177,29 @@ module _ {F R : Type 0} (f : Semantics R) (g : Given) (n : ℕ) (count_is : n �
 
   -- Of a world of a run, what others need.
   module _ (w : Network (Node F R) Msg Note) (j : Joined f g n w) (b : Busy g w) where
-    -- an operation is open where its command is under way
-    pub busy_is : (op : ℕ) → finite.contains_key j.nodes.controller.operations op ≡ is_busy op w.log
-    busy_is op = (is_busy_one w j b).busy op
+    -- an operation is open where its command keeps others off
+    pub keeps_is : (op : ℕ) → finite.contains_key j.nodes.controller.operations op ≡ keeps_off g.names g.orders op w.log
+    keeps_is op = (is_busy_one w j b).busy op
 
-    -- the plan of an open move is that of its order
+    -- the plan of an open move is that of its order, and so is that of an open share
     pub plan_is : (op : ℕ) (m : MoveState) → finite.get j.nodes.controller.operations op ≡ Some (Move m) → IsPlan g op m.plan
     plan_is op m there = (is_busy_one w j b).plan op (Move m) there
+
+    pub share_is : (op : ℕ) (s : ShareState) → finite.get j.nodes.controller.operations op ≡ Some (Share s) → IsShareOf g op s.plan
+    share_is op s there = (is_busy_one w j b).plan op (Share s) there
+
+    -- the answers to a command whose operation is open
+    pub told_is : (op : ℕ) (o : Operation) → finite.get j.nodes.controller.operations op ≡ Some o → answers_of op w.log ≡ answers_to o
+    told_is op o there = (is_busy_one w j b).told op o there
+
+    -- a command whose operation is open began
+    pub open_began : (op : ℕ) (o : Operation) → finite.get j.nodes.controller.operations op ≡ Some o → began op w.log ≡ true
+    open_began op o there = first_true (began op w.log) (is_share (g.orders op) || not (has_answered op w.log)) (sym (keeps_is op) ∙ ap is_some there)
+
+    -- it is under way, if it wasn't answered
+    pub open_busy : (op : ℕ) (o : Operation) → finite.get j.nodes.controller.operations op ≡ Some o → answers_to o ≡ [] → is_busy op w.log ≡ true
+    open_busy op o there none = both_true (began op w.log) (has_answered op w.log) (open_began op o there) (unanswered op w.log (told_is op o there ∙ none))
+
+    -- and a command whose operation isn't open isn't
+    pub closed_busy : (op : ℕ) → finite.get j.nodes.controller.operations op ≡ None → is_busy op w.log ≡ false
+    closed_busy op none = not_busy (began op w.log) (is_share (g.orders op)) (has_answered op w.log) (sym (keeps_is op) ∙ ap is_some none)

@@ -23,15 +23,15 @@ use Rattle.ctrl_node.specs.declared.operation.Operation.{Operation}
 use Rattle.ctrl_node.specs.Controller.{opened as opened_controller}
 use Rattle.net_world.specs.declared.config.Config.{Config}
 use Rattle.net_world.specs.declared.node.Node.{Node}
-use Rattle.net_world.specs.Commands.{Answers, times_installed}
+use Rattle.net_world.specs.Commands.{Answers, is_share, times_installed}
 use Rattle.net_world.specs.Input.{is_item, commands, order_of, IsInput}
 use Rattle.net_world.specs.Nodes.{node_step, node_ready}
 use Rattle.net_world.specs.Start.{first_nodes, started}
 use Rattle.outline_net.proofs.StateOutline.{all_each}
-use Rattle.joined_net.proofs.StartJoined.{given, all_fit, count_at_start, start_joined, rising_of}
-use Rattle.joined_net.proofs.JoinedSteps.{joined_next}
-use Rattle.joined_net.proofs.RunsJoined.{start_world}
-use Rattle.joined_net.proofs.Joined.{Given, Joined}
+use Rattle.whole_joined.proofs.StartJoined.{given, count_at_start, rising_of}
+use Rattle.whole_joined.proofs.RunsJoined.{Runs, runs_at_start, runs_next, start_world}
+use Rattle.whole_joined.proofs.Given.{Given}
+use Rattle.whole_joined.proofs.Joined.{Joined}
 use Rattle.answer_net.proofs.BusyOperations.{IsBusy}
 use Rattle.answer_net.proofs.BusyNodes.{numbers}
 use Rattle.answer_net.proofs.BusyRuns.{Busy, waits_of, busy_next}
@@ -63,6 +63,7 @@ busy_at_start g waits rising = record {
   busy = λ op. ap is_some (none op);
   plan = λ op m there. (let never = sym there ∙ none op in cc);
   outcome = λ op m there. (let never = sym there ∙ none op in cc);
+  told = λ op m there. (let never = sym there ∙ none op in cc);
   next = 0;
   rising = rising;
   unnoted = λ op late. refl;
@@ -94,9 +95,12 @@ module _ (F : Type 0) {R : Type 0} (f : Semantics R) (laws : FunctionLaws f) (al
 
   -- every run leads to a world of a run in which the open operations are the commands under way
   pub run_busy : (cs : List Choice) → IsRun node_ready (node_step f) cs first → Joined f g (length c.names + 2) (run (node_step f) cs first) × Busy g (run (node_step f) cs first)
-  run_busy cs run_is = run_induction node_ready (node_step f) (length c.names + 2) (λ _ w. Joined f g (length c.names + 2) w × Busy g w) first
-      (λ _ w k next h. (joined_next f laws g (all_fit f c items is) (length c.names + 2) refl w k next.taking h.0, busy_next f g (length c.names + 2) refl w k next.taking h.0 h.1))
-      (start_world F f laws alloc c items is) (count_at_start F f alloc c items is) (start_joined F f alloc c items is, start_busy) cs run_is
+  run_busy cs run_is = (it.0.joined, it.1)
+    where
+      it : Runs F f laws alloc c items is (run (node_step f) cs first) × Busy g (run (node_step f) cs first)
+      it = run_induction node_ready (node_step f) (length c.names + 2) (λ _ w. Runs F f laws alloc c items is w × Busy g w) first
+          (λ _ w k next h. (runs_next F f laws alloc c items is w k next.taking h.0, busy_next f g (length c.names + 2) refl w k next.taking h.0.joined h.1))
+          (start_world F f laws alloc c items is) (count_at_start F f alloc c items is) (runs_at_start F f laws alloc c items is, start_busy) cs run_is
 
   -- and its log says what is promised of commands
   pub run_answers : (cs : List Choice) → IsRun node_ready (node_step f) cs first → Answers c items (run (node_step f) cs first).log
@@ -118,4 +122,4 @@ module _ (F : Type 0) {R : Type 0} (f : Semantics R) (laws : FunctionLaws f) (al
   pub no_rules : (cs : List Choice) → IsRun node_ready (node_step f) cs first → (op : ℕ) (source destination : List ℕ) (filter : Option Filter) → order_of items op ≡ Some (order.Copy source destination filter) → times_installed op (run (node_step f) cs first).log ≡ 0
   no_rules cs run_is op source destination filter known =
       let busy = run_busy cs run_is in
-      still_installed f g (length c.names + 2) refl (run (node_step f) cs first) busy.0 busy.1 (run_installs F f laws alloc c items is cs run_is) op (ap is_moving known)
+      still_installed f g (length c.names + 2) refl (run (node_step f) cs first) busy.0 busy.1 (run_installs F f laws alloc c items is cs run_is) op (ap is_moving known) (ap is_share known)

@@ -1,7 +1,8 @@
 -- What the controller's step says of commands: it begins one, answers one and tells the switch, or neither. A move that hasn't changed the
 -- rules after the step hadn't before it, and one that is answered with a refusal hasn't.
-use Rattle.std.proofs.Common.{◌≡◌, ◌≢◌, ℕ, Bool, true, false, cond, Option, Some, None, List, [], ◌∷◌, refl, sym, ap, ◌∙◌, subst, arith}
+use Rattle.std.proofs.Common.{◌≡◌, ◌≢◌, ℕ, Bool, true, false, cond, Option, Some, None, List, [], ◌∷◌, ◌++◌, refl, sym, ap, ◌∙◌, subst, arith}
 use Rattle.std.specs.Prelude.{if◌then◌else◌, ◌==◌, is_some}
+use Rattle.std.specs.List.{filter_map}
 use Rattle.std.specs.FinMap as finite
 use Rattle.std.proofs.lemmas.Bool.Decides.{Decides-eqb}
 use Rattle.flow_filter.specs.declared.filter.Filter.{Filter}
@@ -21,24 +22,29 @@ use Rattle.event_store.specs.Store.{stored}
 use Rattle.copy_share.specs.declared.copy_phase.CopyPhase.TheVariants.{Keeping}
 use Rattle.copy_share.specs.Copy.{CopyPlan, CopyState}
 use Rattle.copy_share.specs.Copy as copy
+use Rattle.copy_share.specs.Share.{SharePlan, ShareState}
+use Rattle.copy_share.specs.Share as share
 use Rattle.move_op.specs.Move.{MovePlan, MoveState, Row, row_in, begun, answer_of}
 use Rattle.ctrl_node.specs.declared.operation.Operation.{Operation}
 use Rattle.ctrl_node.specs.declared.operation.Operation.TheVariants.{Move, Copy, Share}
 use Rattle.ctrl_node.specs.Operations.{turn_of, moved}
 use Rattle.ctrl_node.specs.Controller as controller
-use Rattle.ctrl_node.specs.Controller.{ControllerState, Step, still, refusal, place_of, begins_between, copies_between, begins, decided, on_asked, after_turn, takes_turn, handed, numbered, on_event, on_final, instance_at, may_finish, finish_of, finished, controller_step}
+use Rattle.ctrl_node.specs.Controller.{ControllerState, Step, still, refusal, place_of, begins_between, copies_between, begins_share, begins, decided, on_asked, on_diverted, queued, after_turn, takes_turn, handed, numbered, on_event, on_final, instance_at, may_finish, finish_of, finished, controller_step}
 use Rattle.actor_net.specs.Network.{reaches}
 use Rattle.actor_net.proofs.WeightLaws.{sent_weight}
 use Rattle.answer_net.proofs.AnswerSends.{answering, NoAnswer, none_weighs, row_quiet}
-use Rattle.joined_net.proofs.ControllerCopies.{NotMove}
+use Rattle.whole_joined.proofs.ControllerChanges.{NotMove}
 use Rattle.outline_net.proofs.CopyTurns.{CopyTurn, Idle, Hands, Hands_all, Ends, hands, ends}
-use Rattle.joined_net.proofs.KnownOperations.{AreKnown, by_turn, copy_turns, NotSharing, not_sharing}
-use Rattle.outline_net.proofs.OperationTables.{got_insert, got_remove, gone_twice}
+use Rattle.whole_joined.proofs.KnownOperations.{AreKnown, by_turn, copy_turns}
+use Rattle.outline_net.proofs.OperationTables.{got_insert, got_remove, gone_twice, NotShared}
 use Rattle.answer_net.proofs.CreditCounts.{sent_weight-append}
 use Rattle.answer_net.proofs.InstallCounts.{passed, row_adds}
 use Rattle.answer_net.proofs.InstallRuns.{not_done}
 use Rattle.answer_net.proofs.InstallSteps.{over_is}
-use Rattle.joined_net.proofs.Joined.{Given, IsPlan, IsCopyPlan, Label}
+use Rattle.answer_net.proofs.ShareTells.{is_set_up, is_of_share, AreOfShare, Tells, ShareStep, handed_share, queued_share, Queues, Queues_none, Queues_at, queues}
+use Rattle.whole_outline.proofs.ShareLeft.{answered, noted}
+use Rattle.whole_joined.proofs.Given.{Given, IsPlan, IsCopyPlan}
+use Rattle.whole_joined.proofs.Joined.{Label}
 
 abbrev move_in : MoveState → Option Operation → MoveState
 move_in d (Some (Move m)) = m
@@ -46,6 +52,15 @@ move_in d o = d
 
 move_is : (a b : MoveState) → Some (Move a) ≡ Some (Move b) → a ≡ b
 move_is a b is = ap (move_in a) is
+
+-- a share sends no answer once it has begun
+share_quiet : (m : Msg) → is_of_share m ≡ true → answering m ≡ 0
+share_quiet (msg.Answered op) e = cc
+share_quiet m e = refl
+
+shares_quiet : (sends : List (ℕ × Msg)) → AreOfShare sends → NoAnswer sends
+shares_quiet [] h = tt
+shares_quiet (x ∷ xs) h = (share_quiet x.1 h.0, shares_quiet xs h.1)
 
 -- a move that hasn't changed the rules, or nothing open
 abbrev pub IsEarly : Option Operation → Type 0
@@ -128,11 +143,11 @@ module _ (g : Given) (n : ℕ) (reach : reaches n 1 0 ≡ true) (c : ControllerS
     copy_acts op y is m did (Hands_all k chunk e d) = subst Acts (sym d) (hands_acts op y (msg.PutAll y.plan.op chunk) refl)
     copy_acts op y is m did (Ends d) = subst Acts (sym d) (ends_acts op y is)
 
-    turn_acts : (op port : ℕ) (m : Msg) (o : Option Operation) → finite.get c.operations op ≡ o → Acts (takes_turn c op (turn_of o c.store port m))
-    turn_acts op port m None is = quiet_acts c [] refl tt
-    turn_acts op port m (Some (Copy y)) is = copy_acts op y is m _ (copy_turns g c are op y is port m)
-    turn_acts op port m (Some (Share s)) is = absurd (are.no_shares op s is)
-    turn_acts op port m (Some (Move mv)) is = by_answer (answer_of r.next.phase) refl
+    turn_acts : (op port : ℕ) (m : Msg) (o : Option Operation) → finite.get c.operations op ≡ o → NotShared o → Acts (takes_turn c op (turn_of o c.store port m))
+    turn_acts op port m (Some (Share s)) is no = absurd no
+    turn_acts op port m None is no = quiet_acts c [] refl tt
+    turn_acts op port m (Some (Copy y)) is no = copy_acts op y is m _ (copy_turns g c are op y is port m)
+    turn_acts op port m (Some (Move mv)) is no = by_answer (answer_of r.next.phase) refl
       where
         r : Row
         r = row_in mv c.store port m
@@ -169,8 +184,49 @@ module _ (g : Given) (n : ℕ) (reach : reaches n 1 0 ≡ true) (c : ControllerS
           ] (sym (got_remove (finite.insert c.operations op (Move x)) op k ∙ ap (λ o. cond (k == op) None o) (got_insert c.operations op k (Move x)) ∙ gone_twice (k == op) (Some (Move x)) (finite.get c.operations k)) ∙ there);
         }
 
+    -- an open share is answered where it is set up
+    share_acts : (op : ℕ) (s : ShareState) → finite.get c.operations op ≡ Some (Share s) → (did : Step) → ShareStep c op s did → Acts did
+    share_acts op s there did l = record {
+      says = by_answer l.answer l.notes_are l.sends_are l.tells;
+      early = λ k x stands zero. Was_open x (other_there (k == op) (Some (Share (record s { phase = l.after }))) (finite.get c.operations k) x tt (sym (l.operations k) ∙ stands)) zero refl;
+    }
+      where
+        first_none : sent_weight answering n 1 l.first ≡ 0
+        first_none = none_weighs n 1 l.first (shares_quiet l.first l.first_own)
+
+        second_none : sent_weight answering n 1 l.second ≡ 0
+        second_none = none_weighs n 1 l.second (shares_quiet l.second l.second_own)
+
+        weighs : (xs : List (ℕ × Msg)) (w : ℕ) → did.sends ≡ xs ++ l.second → sent_weight answering n 1 xs ≡ w → sent_weight answering n 1 did.sends ≡ w
+        weighs xs w sends own = let all = ap (sent_weight answering n 1) sends in let both = sent_weight-append answering n 1 xs l.second in let none = second_none in omega (arith, all, both, none, own)
+
+        by_answer : (o : Option Answer) → did.notes ≡ noted op o → did.sends ≡ answered op o l.first ++ l.second → Tells (is_set_up s.phase) (is_set_up l.after) o → Says_so did
+        by_answer None notes sends same = Neither notes (weighs l.first 0 sends first_none)
+        by_answer (Some why) notes sends tells =
+            let plan = (are.shares op s there).1 in
+            let one : sent_weight answering n 1 ((0, msg.Answered op) ∷ []) ≡ 1 = rw reach refl in
+            let both = sent_weight-append answering n 1 l.first ((0, msg.Answered op) ∷ []) in
+            let none = first_none in
+            Answers op Done (order.Share plan.names s.plan.filter) (notes ∙ ap (λ a. note.Answered op a ∷ []) tells.0) (weighs (l.first ++ (0, msg.Answered op) ∷ []) 1 sends (omega (arith, both, none, one))) plan.order_is (λ other. absurd (other refl))
+
     handed_acts : (op port : ℕ) (m : Msg) → Acts (handed c op port m)
-    handed_acts op port m = by_turn g c are Acts op port m (turn_acts op port m (finite.get c.operations op) refl)
+    handed_acts op port m = by_got (finite.get c.operations op) refl
+      where
+        by_got : (o : Option Operation) → finite.get c.operations op ≡ o → Acts (handed c op port m)
+        by_got (Some (Share s)) is = share_acts op s is (handed c op port m) (handed_share c op s is (are.shares op s is).0 port m)
+        by_got None is = other (subst NotShared (sym is) tt)
+        by_got (Some (Move mv)) is = other (subst NotShared (sym is) tt)
+        by_got (Some (Copy y)) is = other (subst NotShared (sym is) tt)
+
+        other : NotShared (finite.get c.operations op) → Acts (handed c op port m)
+        other no = by_turn g c are Acts op port m no (turn_acts op port m (finite.get c.operations op) refl no)
+
+    diverted_acts : (cell : FullCell) → Acts (on_diverted c cell)
+    diverted_acts cell = by_queues (on_diverted c cell) (queues c cell)
+      where
+        by_queues : (did : Step) → Queues c cell did → Acts did
+        by_queues did (Queues_none e) = subst Acts (sym e) still_acts
+        by_queues did (Queues_at op s is e) = subst Acts (sym e) (share_acts op s is (queued c cell (Some op)) (queued_share c op s is (are.shares op s is).0 cell))
 
     numbered_acts : (port : ℕ) (m : Msg) (o : Option ℕ) → Acts (numbered c port m o)
     numbered_acts port m None = still_acts
@@ -216,28 +272,37 @@ module _ (g : Given) (n : ℕ) (reach : reaches n 1 0 ≡ true) (c : ControllerS
       copies_acts filter None b = still_acts
       copies_acts filter (Some from) None = still_acts
 
-      begins_acts : (what : Order) → NotSharing what → Acts (begins c op what)
-      begins_acts (order.Move source destination filter keep) built = between_acts filter keep (place_of c.names source) (place_of c.names destination)
-      begins_acts (order.Copy source destination filter) built = copies_acts filter (place_of c.names source) (place_of c.names destination)
-      begins_acts (order.Share members filter) built = absurd built
+      shares_acts : (filter : Filter) (members : List ℕ) → Acts (begins_share c op filter members)
+      shares_acts filter [] = still_acts
+      shares_acts filter (home ∷ others) =
+          let plan : SharePlan = record { op = op; members = home ∷ others; filter = filter; site = c.site } in
+          record {
+            says = Begins op refl (none_weighs n 1 (share.begin_sends plan) (refl, tt)) none;
+            early = λ k x there zero. Was_open x (other_there (k == op) (Some (Share (share.begun plan))) (finite.get c.operations k) x tt (sym (got_insert c.operations op k (Share (share.begun plan))) ∙ there)) zero refl;
+          }
 
-      decided_acts : (what : Order) → NotSharing what → g.orders op ≡ Some what → (o : Option Answer) → Acts (decided c op what o)
-      decided_acts what built known None = begins_acts what built
-      decided_acts what built known (Some a) = record {
+      begins_acts : (what : Order) → Acts (begins c op what)
+      begins_acts (order.Move source destination filter keep) = between_acts filter keep (place_of c.names source) (place_of c.names destination)
+      begins_acts (order.Copy source destination filter) = copies_acts filter (place_of c.names source) (place_of c.names destination)
+      begins_acts (order.Share members filter) = shares_acts filter (filter_map (place_of c.names) members)
+
+      decided_acts : (what : Order) → g.orders op ≡ Some what → (o : Option Answer) → Acts (decided c op what o)
+      decided_acts what known None = begins_acts what
+      decided_acts what known (Some a) = record {
         says = Answers op a what refl (rw reach refl) known (λ other. subst IsEarly (sym none) tt);
         early = λ k y there zero. Was_open y there zero refl;
       }
 
-    asked_acts : (op : ℕ) (what : Order) → NotSharing what → g.orders op ≡ Some what → Acts (on_asked c (record { op = op; what = what }))
-    asked_acts op what built known = by_got (finite.get c.operations op) refl
+    asked_acts : (op : ℕ) (what : Order) → g.orders op ≡ Some what → Acts (on_asked c (record { op = op; what = what }))
+    asked_acts op what known = by_got (finite.get c.operations op) refl
       where
         by_got : (o : Option Operation) → finite.get c.operations op ≡ o → Acts (if is_some o then still c else decided c op what (refusal c what))
-        by_got None is = decided_acts op is what built known (refusal c what)
+        by_got None is = decided_acts op is what known (refusal c what)
         by_got (Some x) is = still_acts
 
     row_acts : {R : Type 0} (f : Semantics R) (port : ℕ) (m : Msg) → Label f g port 1 m → Acts (controller.row c port m)
-    row_acts f port (msg.Asked a) label = elim (port == 0) as (λ b. Acts (if b then on_asked c a else still c)) [ true ↦ asked_acts a.op a.what (not_sharing f g a.what label.2.built) label.2.known | false ↦ still_acts ]
-    row_acts f port (msg.Diverted cell) label = absurd label
+    row_acts f port (msg.Asked a) label = elim (port == 0) as (λ b. Acts (if b then on_asked c a else still c)) [ true ↦ asked_acts a.op a.what label.2.known | false ↦ still_acts ]
+    row_acts f port (msg.Diverted cell) label = elim (port == 0) as (λ b. Acts (if b then on_diverted c cell else still c)) [ true ↦ diverted_acts cell | false ↦ still_acts ]
     row_acts f port msg.End label = elim (port == 0) as (λ b. Acts (if b then still (record c { end_came = true }) else still c)) [ true ↦ quiet_acts _ [] refl tt | false ↦ still_acts ]
     row_acts f port (msg.Event op cell) label = event_acts port op cell (instance_at c port)
     row_acts f port msg.Final label = final_acts (instance_at c port)

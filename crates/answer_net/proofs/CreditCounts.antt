@@ -24,8 +24,9 @@ use Rattle.instance_worker.specs.Instance.{Step, told, chunk_told, shared, still
 use Rattle.actor_net.specs.Network.{reaches}
 use Rattle.actor_net.proofs.WeightLaws.{EachSent, sent_weight}
 use Rattle.net_world.specs.Log.{arrived, done}
-use Rattle.joined_net.proofs.LogLemmas.{arrived-append, done-append}
-use Rattle.joined_net.proofs.Joined.{Given, Label}
+use Rattle.whole_joined.proofs.LogLemmas.{arrived-append, done-append}
+use Rattle.whole_joined.proofs.Given.{Given}
+use Rattle.whole_joined.proofs.Joined.{Label}
 
 -- a cell that goes home counts, and nothing else
 abbrev pub credit : Msg → ℕ

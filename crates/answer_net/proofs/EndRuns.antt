@@ -1,25 +1,23 @@
--- Where nothing is left to be done, no operation is open and each command of the input was answered, if none stands behind the input's end.
+-- Where nothing is left to be done, no operation is open but shares that are set up, if no command stands behind the input's end.
 use Rattle.std.proofs.Common.{◌≡◌, ◌≢◌, ℕ, zero, suc, ◌+◌, ◌<◌, Bool, true, false, Some, None, List, [], ◌∷◌, ◌++◌, length, get_or, refl, sym, ap, ◌∙◌, subst, arith}
 use Rattle.std.specs.Prelude.{if◌then◌else◌, ◌&&◌, ◌==◌, not}
 use Rattle.std.specs.declared.alloc.Global.{Global}
 use Rattle.std.specs.FinMap as finite
 use Rattle.std.proofs.lemmas.Bool.Decides.{nat_tests, Decides-eqb}
-use Rattle.nf_function.specs.Records.{Fits, Laws as FunctionLaws}
+use Rattle.nf_function.specs.Records.{Laws as FunctionLaws}
 use Rattle.nf_function.specs.Semantics.{Semantics}
 use Rattle.nf_msgs.specs.declared.msg.Msg.{Msg}
 use Rattle.nf_msgs.specs.declared.msg.Msg.TheVariants as msg
 use Rattle.nf_msgs.specs.declared.note.Note.{Note}
 use Rattle.actor_net.specs.declared.choice.Choice.{Choice}
-use Rattle.actor_net.specs.Network.{Network, Stepped, IsRun, is_input, is_done, reaches, run, taken, waiting}
+use Rattle.actor_net.specs.Network.{Network, Stepped, IsRun, is_done, reaches, run, taken, waiting}
 use Rattle.actor_net.proofs.CompleteWorlds.{done_node, done_weight}
 use Rattle.actor_net.proofs.EnabledChoices.{at}
 use Rattle.actor_net.proofs.OpeningWorlds.{opening_waiting, opening_weight}
 use Rattle.actor_net.proofs.RunInduction.{Taking, run_induction}
 use Rattle.actor_net.proofs.StepOutcome.{Takes, taken_outcome}
-use Rattle.actor_net.proofs.WeightLaws.{total, sent_weight, total_after}
+use Rattle.actor_net.proofs.WeightLaws.{EachSent, total, sent_weight, total_after}
 use Rattle.unit_machine.proofs.Labels.{Each}
-use Rattle.copy_share.specs.Share.{ShareState}
-use Rattle.ctrl_node.specs.declared.operation.Operation.TheVariants.{Share}
 use Rattle.ctrl_node.specs.Operations.{are_quiet}
 use Rattle.ctrl_node.specs.Controller as controller
 use Rattle.ctrl_node.specs.Controller.{ControllerState, may_finish, controller_step, opened as opened_controller}
@@ -32,15 +30,17 @@ use Rattle.net_world.specs.Nodes.{node_step, node_ready, node_ended}
 use Rattle.net_world.specs.Start.{first_nodes, first_switch, started}
 use Rattle.answer_net.proofs.BusyRuns.{same_controller}
 use Rattle.answer_net.proofs.CreditCounts.{sent_weight-append}
-use Rattle.answer_net.proofs.EndTables.{sign_in, no_command, in_order, ordered_behind, quiet_none, row_ends, sign_at_switch, sign_at_controller, flag, switch_closes}
+use Rattle.answer_net.proofs.EndTables.{sign_in, no_command, in_order, ordered_behind, IsSettled, quiet_settled, row_ends, sign_at_switch, sign_at_controller, flag, switch_closes}
 use Rattle.answer_net.proofs.InstallCounts.{finish}
-use Rattle.answer_net.proofs.InstallSteps.{row_counts, no_install_to, none_sent, items_none}
-use Rattle.joined_net.proofs.Joined.{Given, Label, Joined, count, node_of}
-use Rattle.joined_net.proofs.JoinedSteps.{label, step_leads, joined_next}
-use Rattle.joined_net.proofs.KnownOperations.{AreKnown, known}
+use Rattle.answer_net.proofs.InstallSteps.{row_counts}
+use Rattle.answer_net.proofs.InstallNotes.{no_install_to, none_sent, items_none}
+use Rattle.whole_joined.proofs.Given.{Given}
+use Rattle.whole_joined.proofs.Joined.{Label, Joined, count, node_of}
+use Rattle.whole_joined.proofs.BesideRuns.{its_takes, its_label, its_labels}
+use Rattle.whole_joined.proofs.KnownOperations.{AreKnown, known}
 use Rattle.answer_net.proofs.LinePicks.{picked, on_way, at_switch, at_controller, at_instance}
-use Rattle.joined_net.proofs.RunsJoined.{start_world}
-use Rattle.joined_net.proofs.StartJoined.{given, all_fit, all_labelled, count_at_start, start_joined}
+use Rattle.whole_joined.proofs.RunsJoined.{Runs, runs_at_start, runs_next, start_world}
+use Rattle.whole_joined.proofs.StartJoined.{given, all_fit, all_labelled, count_at_start}
 use Rattle.outline_net.proofs.StateOutline.{all_each}
 
 -- how far the end of the input has come: on the way to the controller, at the controller, and with the finish to the switch
@@ -48,7 +48,7 @@ pub record IsEnding (closed : ℕ) (c : ControllerState) (way : List Bool) (fini
   pub order : in_order way ≡ true
   pub ended : c.end_came ≡ true → no_command way ≡ true
   pub unfinished : c.finish_sent ≡ false → finishes + closed ≡ 0
-  pub finished : c.finish_sent ≡ true → (c.end_came ≡ true) × ((op : ℕ) → finite.get c.operations op ≡ None)
+  pub finished : c.finish_sent ≡ true → (c.end_came ≡ true) × ((op : ℕ) → IsSettled (finite.get c.operations op))
 
 may_be : (a b q : Bool) → a && not b && q ≡ true → (a ≡ true) × (q ≡ true)
 may_be true false true e = (refl, refl)
@@ -58,14 +58,11 @@ may_be false b q e = cc
 
 -- the controller's step
 module _ (n : ℕ) (reach : reaches n 1 0 ≡ true) {R : Type 0} (f : Semantics R) (g : Given) (c : ControllerState) (are : AreKnown g c) where
-  controller_ending : (closed : ℕ) (p : ℕ) (m : Msg) → Label f g p 1 m → ((op : ℕ) (s : ShareState) → finite.get (controller_step c p m).node.operations op ≢ Some (Share s)) → (way : List Bool) (before after : ℕ) → IsEnding closed c (sign_in m ++ way) before → after + finish m ≡ before + sent_weight finish n 1 (controller_step c p m).sends → finish m ≡ 0 → IsEnding closed (controller_step c p m).node way after
-  controller_ending closed p m label no_shares way before after h weight none = by_may (may_finish r.node) refl weight
+  controller_ending : (closed : ℕ) (p : ℕ) (m : Msg) → Label f g p 1 m → (way : List Bool) (before after : ℕ) → IsEnding closed c (sign_in m ++ way) before → after + finish m ≡ before + sent_weight finish n 1 (controller_step c p m).sends → finish m ≡ 0 → IsEnding closed (controller_step c p m).node way after
+  controller_ending closed p m label way before after h weight none = by_may (may_finish r.node) refl weight
     where
       r : controller.Step
       r = controller.row c p m
-
-      same_operations : (controller_step c p m).node.operations ≡ r.node.operations
-      same_operations = elim (may_finish r.node) as (λ b. (if b then record r.node { finish_sent = true } else r.node).operations ≡ r.node.operations) [ true ↦ refl | false ↦ refl ]
 
       by_may : (b : Bool) → may_finish r.node ≡ b → after + finish m ≡ before + sent_weight finish n 1 (r.sends ++ (if b then (0, msg.Finish) ∷ [] else [])) → IsEnding closed (if b then record r.node { finish_sent = true } else r.node) way after
       by_may true e weight =
@@ -75,7 +72,7 @@ module _ (n : ℕ) (reach : reaches n 1 0 ≡ true) {R : Type 0} (f : Semantics 
             order = ordered_behind (sign_in m) way h.order;
             ended = ends.ended;
             unfinished = λ off. (let never : true ≡ false = off in cc);
-            finished = λ on. (may.0, quiet_none r.node.operations r.node.store may.1 (λ op s there. no_shares op s (ap (λ ops. finite.get ops op) same_operations ∙ there)));
+            finished = λ on. (may.0, quiet_settled r.node.operations r.node.store may.1);
           }
       by_may false e weight =
           let ends = row_ends g c are way f p m label h.order h.ended in
@@ -86,7 +83,7 @@ module _ (n : ℕ) (reach : reaches n 1 0 ≡ true) {R : Type 0} (f : Semantics 
             order = ordered_behind (sign_in m) way h.order;
             ended = ends.ended;
             unfinished = λ off. (let was = h.unfinished (sym counts.finish_same ∙ off) in omega (arith, was, weight, none, both, sent));
-            finished = λ on. (let was = h.finished (sym counts.finish_same ∙ on) in ends.none was.0 was.1);
+            finished = λ on. (let was = h.finished (sym counts.finish_same ∙ on) in ends.settled was.0 was.1);
           }
 
 pub record Ends {F R : Type 0} (w : Network (Node F R) Msg Note) : Type 0 where
@@ -96,16 +93,14 @@ pub record Ends {F R : Type 0} (w : Network (Node F R) Msg Note) : Type 0 where
   pub controller_is : (d : Node F R) → get_or w.nodes 1 d ≡ Controller controller
   pub is : IsEnding (flag switch.closed) controller (on_way sign_in w) (total finish w)
 
-module _ {F R : Type 0} (f : Semantics R) (laws : FunctionLaws f) (g : Given) (fitting : (number : ℕ) → Fits g.site (g.packet number)) (n : ℕ) (count_is : n ≡ count f g + 2) where
+module _ {F R : Type 0} (f : Semantics R) (g : Given) (n : ℕ) (count_is : n ≡ count f g + 2) where
   abbrev step : Node F R → ℕ → Msg → Stepped (Node F R) Msg Note
   step = node_step f
 
-  ends_after : (w : Network (Node F R) Msg Note) (k p : ℕ) (m : Msg) (rest : List Msg) (j : Joined f g n w) (takes : Takes step n w k p (node_of j.nodes k) m rest) → (is_input (at k p) ≡ true → node_ready (node_of j.nodes k) m ≡ true) → Ends w → Ends (taken step w (at k p))
-  ends_after w zero p m rest j takes ready h =
+  ends_after : (w : Network (Node F R) Msg Note) (k p : ℕ) (m : Msg) (rest : List Msg) (j : Joined f g n w) (takes : Takes step n w k p (node_of j.nodes k) m rest) → Label f g p k m → EachSent (Label f g) k (step (node_of j.nodes k) p m).sends → Ends w → Ends (taken step w (at k p))
+  ends_after w zero p m rest j takes labelled labels h =
       let s = j.nodes.switch in
       let left = taken_outcome step n w 0 p (node_of j.nodes 0) m rest takes in
-      let labelled = label f laws g fitting n count_is w 0 p m rest j takes ready in
-      let labels = (step_leads f laws g fitting n count_is w 0 p m rest j takes ready).labels in
       let is : Switch h.switch ≡ Switch s = sym (h.switch_is (Switch h.switch)) ∙ j.nodes_are 0 takes.some (Switch h.switch) in
       let same : h.switch ≡ s = cc in
       let did = switch_closes s f g p m labelled in
@@ -126,31 +121,25 @@ module _ {F R : Type 0} (f : Semantics R) (laws : FunctionLaws f) (g : Given) (f
           finished = h.is.finished;
         };
       }
-  ends_after w (suc zero) p m rest j takes ready h =
+  ends_after w (suc zero) p m rest j takes labelled labels h =
       let c = j.nodes.controller in
       let left = taken_outcome step n w 1 p (node_of j.nodes 1) m rest takes in
-      let labelled = label f laws g fitting n count_is w 1 p m rest j takes ready in
       let same : h.controller ≡ c = same_controller {F = F} {R = R} h.controller c (sym (h.controller_is (Controller h.controller)) ∙ j.nodes_are 1 takes.receiver (Controller h.controller)) in
       let some = takes.some in
       let reach : reaches n 1 0 ≡ true = grind (arith, nat_tests, some) in
       let way = at_controller sign_in step n (omega (arith, count_is)) w p (node_of j.nodes 1) m rest takes (sign_at_controller f g p m labelled) in
-      let leads = step_leads f laws g fitting n count_is w 1 p m rest j takes ready in
-      let after : (controller_step c p m).node ≡ leads.nodes.controller = same_controller {F = F} {R = R} (controller_step c p m).node leads.nodes.controller leads.own in
-      let unshared : (op : ℕ) (s : ShareState) → finite.get (controller_step c p m).node.operations op ≢ Some (Share s) = (λ op s there. leads.shown_is.controller.no_shares op s (ap (λ x. finite.get x.operations op) (sym after) ∙ there)) in
       record {
         switch = h.switch;
         switch_is = λ d. left.others 0 d (omega arith) ∙ h.switch_is d;
         controller = (controller_step c p m).node;
         controller_is = left.own;
-        is = controller_ending n reach f g c (known f g c j.world.ops j.world.next j.shown_is.controller) (flag h.switch.closed) p m labelled unshared (on_way sign_in (taken step w (at 1 p))) (total finish w) (total finish (taken step w (at 1 p)))
+        is = controller_ending n reach f g c (known f g c j.world.ops j.world.shares j.world.next j.shown_is.controller) (flag h.switch.closed) p m labelled (on_way sign_in (taken step w (at 1 p))) (total finish w) (total finish (taken step w (at 1 p)))
             (subst (λ xs. IsEnding (flag h.switch.closed) c xs (total finish w)) way (subst (λ x. IsEnding (flag h.switch.closed) x (on_way sign_in w) (total finish w)) same h.is))
             (total_after step n w 1 p (node_of j.nodes 1) m rest takes finish) (no_install_to f g None p 1 m (omega arith) labelled);
       }
-  ends_after w (suc (suc i)) p m rest j takes ready h =
+  ends_after w (suc (suc i)) p m rest j takes labelled labels h =
       let k : ℕ = suc (suc i) in
       let left = taken_outcome step n w k p (node_of j.nodes k) m rest takes in
-      let labelled = label f laws g fitting n count_is w k p m rest j takes ready in
-      let labels = (step_leads f laws g fitting n count_is w k p m rest j takes ready).labels in
       let other : k ≢ 1 = (λ never. absurd (omega (arith, never))) in
       let sent = none_sent f g None n k (step (node_of j.nodes k) p m).sends other labels in
       let none = no_install_to f g None p k m (omega arith) labelled in
@@ -212,23 +201,24 @@ module _ (F : Type 0) {R : Type 0} (f : Semantics R) (laws : FunctionLaws f) (al
         };
       }
 
-  ends_next : (w : Network (Node F R) Msg Note) (k : Choice) → Taking node_ready (node_step f) nodes w k → Joined f (given f c items is) nodes w → Ends w → Ends (taken (node_step f) w k)
-  ends_next w k t j h =
-      let same : t.node ≡ node_of j.nodes k.node = sym (t.takes.node_is t.node) ∙ j.nodes_are k.node t.takes.receiver t.node in
-      ends_after f laws (given f c items is) (all_fit f c items is) nodes refl w k.node k.port t.message t.rest j (subst (λ y. Takes (node_step f) nodes w k.node k.port y t.message t.rest) same t.takes) (subst (λ y. is_input k ≡ true → node_ready y t.message ≡ true) same t.was_ready) h
-
   pub run_ends : (cs : List Choice) → IsRun node_ready (node_step f) cs start → Ends (run (node_step f) cs start)
-  run_ends cs run_is = (run_induction node_ready (node_step f) nodes (λ _ w. Joined f (given f c items is) nodes w × Ends w) start (λ _ w k next h. (joined_next f laws (given f c items is) (all_fit f c items is) nodes refl w k next.taking h.0, ends_next w k next.taking h.0 h.1)) (start_world F f laws alloc c items is) (count_at_start F f alloc c items is) (start_joined F f alloc c items is, ends_at_start) cs run_is).1
+  run_ends cs run_is = (run_induction node_ready (node_step f) nodes (λ _ w. Runs F f laws alloc c items is w × Ends w) start (λ _ w k next h. (runs_next F f laws alloc c items is w k next.taking h.0, ends_next w k next.taking h.0 h.1)) (start_world F f laws alloc c items is) (count_at_start F f alloc c items is) (runs_at_start F f laws alloc c items is, ends_at_start) cs run_is).1
+    where
+      ends_next : (w : Network (Node F R) Msg Note) (k : Choice) → Taking node_ready (node_step f) nodes w k → Runs F f laws alloc c items is w → Ends w → Ends (taken (node_step f) w k)
+      ends_next w k t r h =
+          let g : Given = given f c items is in
+          let fitting = all_fit f c items is in
+          ends_after f g nodes refl w k.node k.port t.message t.rest r.joined (its_takes f laws g fitting nodes refl w k t r.joined r.beside) (its_label f laws g fitting nodes refl w k t r.joined r.beside) (its_labels f laws g fitting nodes refl w k t r.joined r.beside) h
 
--- where nothing is left to be done, no operation is open
-pub none_open : {F R : Type 0} (w : Network (Node F R) Msg Note) → 0 < length w.nodes → is_done node_ended w ≡ true → (h : Ends w) → (op : ℕ) → finite.get h.controller.operations op ≡ None
-none_open {F = F} {R = R} w some done h op = by_sent h.controller.finish_sent refl
+-- where nothing is left to be done, what is open is settled
+pub all_settled : {F R : Type 0} (w : Network (Node F R) Msg Note) → 0 < length w.nodes → is_done node_ended w ≡ true → (h : Ends w) → (op : ℕ) → IsSettled (finite.get h.controller.operations op)
+all_settled {F = F} {R = R} w some done h op = by_sent h.controller.finish_sent refl
   where
     closed_of : (a b : Bool) → a && b ≡ true → a ≡ true
     closed_of true b e = refl
     closed_of false b e = cc
 
-    by_sent : (b : Bool) → h.controller.finish_sent ≡ b → finite.get h.controller.operations op ≡ None
+    by_sent : (b : Bool) → h.controller.finish_sent ≡ b → IsSettled (finite.get h.controller.operations op)
     by_sent true on = (h.is.finished on).1 op
     by_sent false off =
         let ended : node_ended {F = F} {R = R} (Switch h.switch) ≡ true = ap node_ended (sym (h.switch_is (Switch h.switch))) ∙ done_node node_ended w done 0 (Switch h.switch) some in

@@ -1,5 +1,5 @@
--- What each node's step keeps of the input's end: no command comes behind it, the controller finishes once no operation is open, and the
--- switch closes where it takes the finish.
+-- What each node's step keeps of the input's end: no command comes behind it, the controller finishes once no operation is open but shares
+-- that are set up, and the switch closes where it takes the finish.
 use Rattle.std.proofs.Common.{◌≡◌, ◌≢◌, ℕ, zero, suc, ◌+◌, ◌-◌, ◌≤◌, Bool, true, false, cond, Option, Some, None, List, [], ◌∷◌, ◌++◌, refl, sym, ap, ◌∙◌, subst, arith}
 use Rattle.std.specs.Prelude.{if◌then◌else◌, ◌&&◌, ◌||◌, ◌==◌, not, nat_lt}
 use Rattle.std.specs.List.{filter_map, list_all}
@@ -28,15 +28,21 @@ use Rattle.unit_machine.proofs.Labels.{Each, each-append}
 use Rattle.ctrl_node.specs.declared.operation.Operation.{Operation}
 use Rattle.ctrl_node.specs.declared.operation.Operation.TheVariants.{Move, Copy, Share}
 use Rattle.move_op.specs.Move.{Store}
-use Rattle.copy_share.specs.Share.{ShareState}
-use Rattle.ctrl_node.specs.Operations.{OpenOperations, Turn, turn_of, lasts, is_quiet, are_quiet}
+use Rattle.event_store.specs.Store.{stored}
+use Rattle.copy_share.specs.declared.share_phase.SharePhase.{SharePhase}
+use Rattle.copy_share.specs.declared.share_phase.SharePhase.TheVariants as phase
+use Rattle.copy_share.specs.Share.{ShareState, is_idle}
+use Rattle.ctrl_node.specs.Operations.{OpenOperations, turn_of, is_quiet, are_quiet}
 use Rattle.ctrl_node.specs.Controller as controller
-use Rattle.ctrl_node.specs.Controller.{ControllerState, Step, still, refusal, place_of, begins_between, copies_between, begins_share, begins, decided, on_asked, turned, closed, after_turn, takes_turn, handed, numbered, on_event, on_final, instance_at}
+use Rattle.ctrl_node.specs.Controller.{ControllerState, Step, still, refusal, place_of, begins_between, copies_between, begins_share, begins, decided, on_asked, on_diverted, queued, takes_turn, handed, numbered, on_event, on_final, instance_at}
 use Rattle.switch_node.specs.Switch as switch
 use Rattle.switch_node.specs.Switch.{SwitchState, switch_step, stops, sends_to_instance, goes_to, target_of, has_room, is_there}
 use Rattle.answer_net.proofs.InstallCounts.{finish}
-use Rattle.joined_net.proofs.KnownOperations.{AreKnown, by_turn}
-use Rattle.joined_net.proofs.Joined.{Given, Label}
+use Rattle.answer_net.proofs.ShareTells.{is_set_up, Tells, turn_end, ShareStep, handed_share, queued_share, Queues, Queues_none, Queues_at, queues}
+use Rattle.outline_net.proofs.OperationTables.{NotShared}
+use Rattle.whole_joined.proofs.KnownOperations.{AreKnown, by_turn}
+use Rattle.whole_joined.proofs.Given.{Given}
+use Rattle.whole_joined.proofs.Joined.{Label}
 use Rattle.answer_net.proofs.LinePicks.{picked}
 
 -- a command, or the end
@@ -73,7 +79,18 @@ ordered_behind (false ∷ xs) ys h = none_ordered ys (behind xs ys h)
     behind (true ∷ us) bs e = cc
     behind (false ∷ us) bs e = behind us bs e
 
--- Nothing is open where all is quiet.
+-- Nothing but shares that are set up is open where all is quiet.
+abbrev pub IsSettled : Option Operation → Type 0
+IsSettled None = Unit {0}
+IsSettled (Some (Share s)) = is_set_up s.phase ≡ true
+IsSettled o = ⊥
+
+idle_set_up : (ph : SharePhase) (cells : List FullCell) → is_idle ph cells ≡ true → is_set_up ph ≡ true
+idle_set_up phase.Fencing cells e = cc
+idle_set_up phase.Getting cells e = cc
+idle_set_up (phase.Setting left) cells e = cc
+idle_set_up ph cells e = refl
+
 both : (a b : Bool) → a && b ≡ true → (a ≡ true) × (b ≡ true)
 both true true e = (refl, refl)
 both true false e = cc
@@ -88,40 +105,73 @@ quiet_found store op (e ∷ es) o h there =
       | false ↦ λ rest. quiet_found store op es o all.1 rest
     ] there
 
-pub quiet_none : (ops : OpenOperations) (store : Store) → are_quiet ops store ≡ true → ((op : ℕ) (s : ShareState) → finite.get ops op ≢ Some (Share s)) → (op : ℕ) → finite.get ops op ≡ None
-quiet_none ops store h none op = by_got (finite.get ops op) refl
+pub quiet_settled : (ops : OpenOperations) (store : Store) → are_quiet ops store ≡ true → (op : ℕ) → IsSettled (finite.get ops op)
+quiet_settled ops store h op = by_got (finite.get ops op) refl
   where
     quiet : (o : Operation) → finite.get ops op ≡ Some o → is_quiet store o ≡ true
     quiet o e = quiet_found store op (finite.entries ops) o h (sym (finite.get-entries ops op) ∙ e)
 
-    by_got : (o : Option Operation) → finite.get ops op ≡ o → o ≡ None
-    by_got None e = refl
+    by_got : (o : Option Operation) → finite.get ops op ≡ o → IsSettled o
+    by_got None e = tt
     by_got (Some (Move m)) e = let never : false ≡ true = quiet (Move m) e in cc
     by_got (Some (Copy y)) e = let never : false ≡ true = quiet (Copy y) e in cc
-    by_got (Some (Share s)) e = absurd (none op s e)
+    by_got (Some (Share s)) e = idle_set_up s.phase (stored store s.plan.op) (quiet (Share s) e)
+
+wrong : false ≡ true → ⊥
+wrong e = cc
 
 -- The controller.
 module _ (g : Given) (c : ControllerState) (are : AreKnown g c) where
+  -- what is open is settled
+  abbrev AreSettled : OpenOperations → Type 0
+  AreSettled ops = (op : ℕ) → IsSettled (finite.get ops op)
+
   -- the input's end is as it was, and nothing opens
   record Rests (did : Step) : Type 0 where
     end_same : did.node.end_came ≡ c.end_came
-    none : ((op : ℕ) → finite.get c.operations op ≡ None) → (op : ℕ) → finite.get did.node.operations op ≡ None
+    settled : AreSettled c.operations → AreSettled did.node.operations
 
   rests : Rests (still c)
-  rests = record { end_same = refl; none = λ h. h }
+  rests = record { end_same = refl; settled = λ h. h }
 
-  turn_end : (op : ℕ) (t : Turn) (o : Option Answer) → (after_turn c op t o).node.end_came ≡ c.end_came
-  turn_end op t None = refl
-  turn_end op t (Some a) = elim (lasts t.operation) as (λ b. (if b then turned c op t else closed (turned c op t) op).end_came ≡ c.end_came) [ true ↦ refl | false ↦ refl ]
+  turn_rests : (op port : ℕ) (m : Msg) (o : Option Operation) → finite.get c.operations op ≡ o → NotShared o → Rests (takes_turn c op (turn_of o c.store port m))
+  turn_rests op port m None is no = record { end_same = refl; settled = λ h. h }
+  turn_rests op port m (Some (Move mv)) is no = record { end_same = turn_end c op (turn_of (Some (Move mv)) c.store port m) (turn_of (Some (Move mv)) c.store port m).answer; settled = λ h. absurd (subst IsSettled is (h op)) }
+  turn_rests op port m (Some (Copy y)) is no = record { end_same = turn_end c op (turn_of (Some (Copy y)) c.store port m) (turn_of (Some (Copy y)) c.store port m).answer; settled = λ h. absurd (subst IsSettled is (h op)) }
+  turn_rests op port m (Some (Share s)) is no = absurd no
 
-  turn_rests : (op port : ℕ) (m : Msg) (o : Option Operation) → finite.get c.operations op ≡ o → Rests (takes_turn c op (turn_of o c.store port m))
-  turn_rests op port m None is = record { end_same = refl; none = λ h. h }
-  turn_rests op port m (Some (Move mv)) is = record { end_same = turn_end op (turn_of (Some (Move mv)) c.store port m) (turn_of (Some (Move mv)) c.store port m).answer; none = λ h. (let never = sym (h op) ∙ is in cc) }
-  turn_rests op port m (Some (Copy y)) is = record { end_same = turn_end op (turn_of (Some (Copy y)) c.store port m) (turn_of (Some (Copy y)) c.store port m).answer; none = λ h. (let never = sym (h op) ∙ is in cc) }
-  turn_rests op port m (Some (Share s)) is = absurd (are.no_shares op s is)
+  -- an open share stays one that is set up
+  share_rests : (op : ℕ) (s : ShareState) → finite.get c.operations op ≡ Some (Share s) → (did : Step) → ShareStep c op s did → Rests did
+  share_rests op s there did l = record {
+    end_same = l.end_same;
+    settled = λ h k. subst IsSettled (sym (l.operations k)) (elim (k == op) as (λ b. IsSettled (cond b (Some (Share (record s { phase = l.after }))) (finite.get c.operations k))) [
+      | true ↦ still_set_up (is_set_up s.phase) (is_set_up l.after) l.answer l.tells (subst IsSettled there (h op))
+      | false ↦ h k
+    ]);
+  }
+    where
+      still_set_up : (was now : Bool) (a : Option Answer) → Tells was now a → was ≡ true → now ≡ true
+      still_set_up was now None same on = sym same ∙ on
+      still_set_up was now (Some why) tells on = tells.2
 
   handed_rests : (op port : ℕ) (m : Msg) → Rests (handed c op port m)
-  handed_rests op port m = by_turn g c are Rests op port m (turn_rests op port m (finite.get c.operations op) refl)
+  handed_rests op port m = by_got (finite.get c.operations op) refl
+    where
+      by_got : (o : Option Operation) → finite.get c.operations op ≡ o → Rests (handed c op port m)
+      by_got (Some (Share s)) is = share_rests op s is (handed c op port m) (handed_share c op s is (are.shares op s is).0 port m)
+      by_got None is = other (subst NotShared (sym is) tt)
+      by_got (Some (Move mv)) is = other (subst NotShared (sym is) tt)
+      by_got (Some (Copy y)) is = other (subst NotShared (sym is) tt)
+
+      other : NotShared (finite.get c.operations op) → Rests (handed c op port m)
+      other no = by_turn g c are Rests op port m no (turn_rests op port m (finite.get c.operations op) refl no)
+
+  diverted_rests : (cell : FullCell) → Rests (on_diverted c cell)
+  diverted_rests cell = by_queues (on_diverted c cell) (queues c cell)
+    where
+      by_queues : (did : Step) → Queues c cell did → Rests did
+      by_queues did (Queues_none e) = subst Rests (sym e) rests
+      by_queues did (Queues_at op s is e) = subst Rests (sym e) (share_rests op s is (queued c cell (Some op)) (queued_share c op s is (are.shares op s is).0 cell))
 
   numbered_rests : (port : ℕ) (m : Msg) (o : Option ℕ) → Rests (numbered c port m o)
   numbered_rests port m None = rests
@@ -131,12 +181,16 @@ module _ (g : Given) (c : ControllerState) (are : AreKnown g c) where
   event_rests port op cell None = rests
   event_rests port op cell (Some i) = elim (finite.contains_key c.operations op) as (λ b. Rests (if b then handed c op port (msg.Event op cell) else record { node = c; sends = (0, msg.Forward i (mark.Pass op) cell) ∷ []; notes = [] })) [
     | true ↦ handed_rests op port (msg.Event op cell)
-    | false ↦ record { end_same = refl; none = λ h. h }
+    | false ↦ record { end_same = refl; settled = λ h. h }
   ]
 
   final_rests : (i : Option ℕ) → Rests (on_final c i)
   final_rests None = rests
-  final_rests (Some i) = record { end_same = refl; none = λ h. h }
+  final_rests (Some i) = record { end_same = refl; settled = λ h. h }
+
+  either_rests : (b : Bool) (did : Step) → Rests did → Rests (if b then did else still c)
+  either_rests true did h = h
+  either_rests false did h = rests
 
   -- a command leaves the input's end as it was
   abbrev SameEnd : Step → Type 0
@@ -174,23 +228,23 @@ module _ (g : Given) (c : ControllerState) (are : AreKnown g c) where
   -- what is left of the way to the controller after its step, and what it says
   pub record Ended (did : Step) (way : List Bool) : Type 0 where
     pub ended : did.node.end_came ≡ true → no_command way ≡ true
-    pub none : c.end_came ≡ true → ((op : ℕ) → finite.get c.operations op ≡ None) → (did.node.end_came ≡ true) × ((op : ℕ) → finite.get did.node.operations op ≡ None)
+    pub settled : c.end_came ≡ true → AreSettled c.operations → (did.node.end_came ≡ true) × AreSettled did.node.operations
 
   module _ (way : List Bool) where
     by_rests : (did : Step) → Rests did → (c.end_came ≡ true → no_command way ≡ true) → Ended did way
-    by_rests did r ended = record { ended = λ e. ended (sym r.end_same ∙ e); none = λ e h. (r.end_same ∙ e, r.none h) }
+    by_rests did r ended = record { ended = λ e. ended (sym r.end_same ∙ e); settled = λ e h. (r.end_same ∙ e, r.settled h) }
 
     module _ {R : Type 0} (f : Semantics R) where
       pub row_ends : (p : ℕ) (m : Msg) → Label f g p 1 m → in_order (sign_in m ++ way) ≡ true → (c.end_came ≡ true → no_command (sign_in m ++ way) ≡ true) → Ended (controller.row c p m) way
       row_ends p (msg.Asked k) label ordered ended = record {
         ended = λ e. (let never : false ≡ true = ended (sym (asked_end p k) ∙ e) in cc);
-        none = λ e h. (let never : false ≡ true = ended e in cc);
+        settled = λ e h. absurd (let never : false ≡ true = ended e in wrong never);
       }
       row_ends p msg.End label ordered ended = elim (p == 0) as (λ b. (p == 0) ≡ b → Ended (if b then still (record c { end_came = true }) else still c) way) [
-        | true ↦ λ on. record { ended = λ e. ordered; none = λ e h. (refl, h) }
-        | false ↦ λ off. record { ended = λ e. ordered; none = λ e h. (e, h) }
+        | true ↦ λ on. record { ended = λ e. ordered; settled = λ e h. (refl, h) }
+        | false ↦ λ off. record { ended = λ e. ordered; settled = λ e h. (e, h) }
       ] refl
-      row_ends p (msg.Diverted cell) label ordered ended = absurd label
+      row_ends p (msg.Diverted cell) label ordered ended = by_rests _ (either_rests (p == 0) (on_diverted c cell) (diverted_rests cell)) ended
       row_ends p (msg.InCommand k) label ordered ended = let never = label.0.1 in cc
       row_ends p msg.InEnd label ordered ended = let never = label.1 in cc
       row_ends p (msg.Event op cell) label ordered ended = by_rests _ (event_rests p op cell (instance_at c p)) ended

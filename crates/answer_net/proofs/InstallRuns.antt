@@ -1,26 +1,27 @@
--- Of every run, the switch's rules change once for each move that is done, and for no other command.
+-- Of every run, the switch's rules change once for each move that is done and for each share that began, and for no other command.
 use Rattle.std.proofs.Common.{◌≡◌, ◌≢◌, ℕ, zero, suc, ◌+◌, ◌≤◌, Bool, true, false, Option, Some, None, List, [], ◌∷◌, length, get_or, refl, sym, ap, ◌∙◌, subst, arith}
-use Rattle.std.specs.Prelude.{◌&&◌, is_some, not}
+use Rattle.std.specs.Prelude.{if◌then◌else◌}
 use Rattle.std.specs.declared.alloc.Global.{Global}
 use Rattle.std.specs.Ordering.{nat_cmp}
 use Rattle.std.specs.FinMap as finite
 use Rattle.std.proofs.lemmas.Bool.Decides.{nat_tests}
-use Rattle.nf_function.specs.Records.{Fits, Laws as FunctionLaws}
+use Rattle.nf_function.specs.Records.{Laws as FunctionLaws}
 use Rattle.nf_function.specs.Semantics.{Semantics}
 use Rattle.nf_msgs.specs.declared.answer.Answer.{Answer}
 use Rattle.nf_msgs.specs.declared.answer.Answer.TheVariants as answer
 use Rattle.nf_msgs.specs.declared.msg.Msg.{Msg}
 use Rattle.nf_msgs.specs.declared.note.Note.{Note}
 use Rattle.actor_net.specs.declared.choice.Choice.{Choice}
-use Rattle.actor_net.specs.Network.{Network, Stepped, IsRun, is_input, is_done, reaches, run, taken}
+use Rattle.actor_net.specs.Network.{Network, Stepped, IsRun, is_done, reaches, run, taken}
 use Rattle.actor_net.proofs.CompleteWorlds.{done_weight}
 use Rattle.actor_net.proofs.EnabledChoices.{at}
 use Rattle.actor_net.proofs.OpeningWorlds.{opening_weight}
 use Rattle.actor_net.proofs.RunInduction.{Taking, run_induction}
 use Rattle.actor_net.proofs.StepOutcome.{Takes, taken_outcome}
-use Rattle.actor_net.proofs.WeightLaws.{total, sent_weight, total_after}
+use Rattle.actor_net.proofs.WeightLaws.{EachSent, total, sent_weight, total_after}
 use Rattle.move_op.specs.declared.phase.Phase.{Phase}
 use Rattle.move_op.specs.declared.phase.Phase.TheVariants as phase
+use Rattle.copy_share.specs.Share.{ShareState}
 use Rattle.ctrl_node.specs.declared.operation.Operation.{Operation}
 use Rattle.ctrl_node.specs.declared.operation.Operation.TheVariants.{Move, Copy, Share}
 use Rattle.ctrl_node.specs.Controller.{ControllerState, controller_step, opened as opened_controller}
@@ -28,21 +29,25 @@ use Rattle.switch_node.specs.Switch.{switch_step}
 use Rattle.net_world.specs.declared.config.Config.{Config}
 use Rattle.net_world.specs.declared.node.Node.{Node}
 use Rattle.net_world.specs.declared.node.Node.TheVariants.{Controller}
-use Rattle.net_world.specs.Commands.{is_busy, has_answered, began, answers_of, times_installed}
+use Rattle.net_world.specs.Commands.{is_share as shares_units, answers_of, times_installed}
 use Rattle.net_world.specs.Input.{IsInput}
 use Rattle.net_world.specs.Nodes.{node_step, node_ready, node_ended}
 use Rattle.net_world.specs.Start.{first_nodes, started}
-use Rattle.answer_net.proofs.BusyLemmas.{AreOther, some_answered, answers_of-append, none_answered, other_not_answered}
+use Rattle.answer_net.proofs.BusyLemmas.{AreOther, answers_of-append, none_answered, other_not_answered}
+use Rattle.answer_net.proofs.BusyOperations.{answers_to}
+use Rattle.answer_net.proofs.ShareTells.{is_set_up}
 use Rattle.answer_net.proofs.BusyNodes.{switch_hands, instance_says}
-use Rattle.answer_net.proofs.BusyRuns.{Busy, same_controller, busy_is, plan_is}
+use Rattle.answer_net.proofs.BusyRuns.{Busy, same_controller, plan_is, share_is, told_is}
 use Rattle.answer_net.proofs.InstallCounts.{install, done_in, passed}
-use Rattle.answer_net.proofs.InstallSteps.{is_moving, dones, dones-append, dones-none, open_in, controller_counts, no_install_to, none_sent, items_none, switch_notes, times_installed-append, none_installed, quiet_installed}
-use Rattle.joined_net.proofs.Joined.{Given, Joined, count, node_of}
-use Rattle.joined_net.proofs.KnownOperations.{known}
-use Rattle.joined_net.proofs.JoinedSteps.{label, step_leads, joined_next}
-use Rattle.joined_net.proofs.PlaceNotes.{instance_quiet, controller_uninstalled}
-use Rattle.joined_net.proofs.RunsJoined.{start_world}
-use Rattle.joined_net.proofs.StartJoined.{given, all_fit, all_labelled, count_at_start, start_joined}
+use Rattle.answer_net.proofs.InstallSteps.{is_moving, dones, dones-append, dones-none, open_in, controller_counts}
+use Rattle.answer_net.proofs.InstallNotes.{no_install_to, none_sent, items_none, switch_notes, times_installed-append, none_installed, quiet_installed}
+use Rattle.whole_joined.proofs.Given.{Given}
+use Rattle.whole_joined.proofs.Joined.{Label, Joined, count, node_of}
+use Rattle.whole_joined.proofs.KnownOperations.{known}
+use Rattle.whole_joined.proofs.BesideRuns.{its_takes, its_label, its_labels}
+use Rattle.whole_joined.proofs.PlaceNotes.{instance_quiet, controller_uninstalled}
+use Rattle.whole_joined.proofs.RunsJoined.{Runs, runs_at_start, runs_next, start_world}
+use Rattle.whole_joined.proofs.StartJoined.{given, all_fit, all_labelled, count_at_start}
 
 -- the changes that wait and those that the switch noted are those that the controller has sent
 pub record Installs {F R : Type 0} (g : Given) (w : Network (Node F R) Msg Note) : Type 0 where
@@ -54,7 +59,7 @@ pub record Installs {F R : Type 0} (g : Given) (w : Network (Node F R) Msg Note)
 no_dones : (moving : Bool) (op : ℕ) (notes : List Note) → AreOther notes → dones moving (answers_of op notes) ≡ 0
 no_dones moving op notes h = ap (dones moving) (none_answered op notes (other_not_answered op notes h))
 
-module _ {F R : Type 0} (f : Semantics R) (laws : FunctionLaws f) (g : Given) (fitting : (number : ℕ) → Fits g.site (g.packet number)) (n : ℕ) (count_is : n ≡ count f g + 2) where
+module _ {F R : Type 0} (f : Semantics R) (g : Given) (n : ℕ) where
   abbrev step : Node F R → ℕ → Msg → Stepped (Node F R) Msg Note
   step = node_step f
 
@@ -68,12 +73,10 @@ module _ {F R : Type 0} (f : Semantics R) (laws : FunctionLaws f) (g : Given) (f
       let answered : dones (is_moving (g.orders op)) (answers_of op (taken step w (at k p)).log) ≡ dones (is_moving (g.orders op)) (answers_of op w.log) + dones (is_moving (g.orders op)) (answers_of op notes) = ap (λ l. dones (is_moving (g.orders op)) (answers_of op l)) left.log ∙ ap (dones (is_moving (g.orders op))) (answers_of-append op w.log notes) ∙ dones-append (is_moving (g.orders op)) (answers_of op w.log) (answers_of op notes) in
       omega (arith, balance, changes, weight, installed, answered)
 
-  installs_after : (w : Network (Node F R) Msg Note) (k p : ℕ) (m : Msg) (rest : List Msg) (j : Joined f g n w) (takes : Takes step n w k p (node_of j.nodes k) m rest) → (is_input (at k p) ≡ true → node_ready (node_of j.nodes k) m ≡ true) → Installs g w → Installs g (taken step w (at k p))
-  installs_after w zero p m rest j takes ready h =
+  installs_after : (w : Network (Node F R) Msg Note) (k p : ℕ) (m : Msg) (rest : List Msg) (j : Joined f g n w) (takes : Takes step n w k p (node_of j.nodes k) m rest) → Label f g p k m → EachSent (Label f g) k (step (node_of j.nodes k) p m).sends → Installs g w → Installs g (taken step w (at k p))
+  installs_after w zero p m rest j takes labelled labels h =
       let s = j.nodes.switch in
       let left = taken_outcome step n w 0 p (node_of j.nodes 0) m rest takes in
-      let labelled = label f laws g fitting n count_is w 0 p m rest j takes ready in
-      let labels = (step_leads f laws g fitting n count_is w 0 p m rest j takes ready).labels in
       record {
         controller = h.controller;
         controller_is = λ d. left.others 1 d (omega arith) ∙ h.controller_is d;
@@ -84,10 +87,9 @@ module _ {F R : Type 0} (f : Semantics R) (laws : FunctionLaws f) (g : Given) (f
             let own = open_in (finite.get h.controller.operations op) in
             balance_after w 0 p (node_of j.nodes 0) m rest takes op own own (h.balance op) (omega (arith, sent, noted, none));
       }
-  installs_after w (suc zero) p m rest j takes ready h =
+  installs_after w (suc zero) p m rest j takes labelled labels h =
       let c = j.nodes.controller in
       let left = taken_outcome step n w 1 p (node_of j.nodes 1) m rest takes in
-      let labelled = label f laws g fitting n count_is w 1 p m rest j takes ready in
       let same : h.controller ≡ c = same_controller {F = F} {R = R} h.controller c (sym (h.controller_is (Controller h.controller)) ∙ j.nodes_are 1 takes.receiver (Controller h.controller)) in
       let some = takes.some in
       let reach : reaches n 1 0 ≡ true = grind (arith, nat_tests, some) in
@@ -95,17 +97,15 @@ module _ {F R : Type 0} (f : Semantics R) (laws : FunctionLaws f) (g : Given) (f
         controller = (controller_step c p m).node;
         controller_is = left.own;
         balance = λ op.
-            let did = controller_counts n reach g op c (known f g c j.world.ops j.world.next j.shown_is.controller) f p m labelled in
+            let did = controller_counts n reach g op c (known f g c j.world.ops j.world.shares j.world.next j.shown_is.controller) f p m labelled in
             let none = no_install_to f g (Some op) p 1 m (omega arith) labelled in
             let noted = none_installed op (controller_step c p m).notes (controller_uninstalled c p m) in
             balance_after w 1 p (node_of j.nodes 1) m rest takes op (open_in (finite.get c.operations op)) (open_in (finite.get (controller_step c p m).node.operations op)) (subst (λ x. total (install op) w + times_installed op w.log ≡ open_in (finite.get x.operations op) + dones (is_moving (g.orders op)) (answers_of op w.log)) same (h.balance op)) (omega (arith, did, none, noted));
       }
-  installs_after w (suc (suc i)) p m rest j takes ready h =
+  installs_after w (suc (suc i)) p m rest j takes labelled labels h =
       let k : ℕ = suc (suc i) in
       let instance = j.nodes.instance k in
       let left = taken_outcome step n w k p (node_of j.nodes k) m rest takes in
-      let labelled = label f laws g fitting n count_is w k p m rest j takes ready in
-      let labels = (step_leads f laws g fitting n count_is w k p m rest j takes ready).labels in
       let notes = (step (node_of j.nodes k) p m).notes in
       let other : k ≢ 1 = (λ never. absurd (omega (arith, never))) in
       record {
@@ -153,7 +153,7 @@ open_few : (o : Option Operation) → open_in o ≤ 1
 open_few None = omega arith
 open_few (Some (Move m)) = passed_few m.phase
 open_few (Some (Copy y)) = omega arith
-open_few (Some (Share y)) = omega arith
+open_few (Some (Share s)) = omega arith
 
 pub not_done : (a : Answer) → a ≢ answer.Done → done_in a ≡ 0
 not_done answer.Done h = absurd (h refl)
@@ -173,68 +173,82 @@ module _ {F R : Type 0} (f : Semantics R) (g : Given) (n : ℕ) (count_is : n �
   same : h.controller ≡ j.nodes.controller
   same = same_controller {F = F} {R = R} h.controller j.nodes.controller (sym (h.controller_is (Controller h.controller)) ∙ j.nodes_are 1 (omega (arith, count_is)) (Controller h.controller))
 
-  open_is : is_some there ≡ is_busy op w.log
-  open_is = ap (λ c. is_some (finite.get c.operations op)) same ∙ busy_is f g n count_is w j b op
+  at_controller : (o : Option Operation) → there ≡ o → finite.get j.nodes.controller.operations op ≡ o
+  at_controller o e = sym (ap (λ x. finite.get x.operations op) same) ∙ e
+
+  told : (x : Operation) → there ≡ Some x → answers_of op w.log ≡ answers_to x
+  told x e = told_is f g n count_is w j b op x (at_controller (Some x) e)
+
+  unshared : (s : ShareState) → there ≡ Some (Share s) → moves_units ≡ false
+  unshared s e = ap is_moving (share_is f g n count_is w j b op s (at_controller (Some (Share s)) e)).order_is
+
+  -- an open move or copy isn't answered
+  few_open : (x : Operation) → there ≡ Some x → answers_to x ≡ [] → open_in (Some x) + dones moves_units (answers_of op w.log) ≤ 1
+  few_open x e none =
+      let no = ap (dones moves_units) (told x e ∙ none) in
+      let less = open_few (Some x) in
+      omega (arith, no, less)
 
   few : (o : Option Operation) → there ≡ o → open_in o + dones moves_units (answers_of op w.log) ≤ 1
-  few None is = let once = (b.is.answered op).answered_once in let less = dones_few moves_units (answers_of op w.log) in omega (arith, once, less)
-  few (Some x) is =
-      let on : is_busy op w.log ≡ true = sym open_is ∙ ap is_some is in
-      let none : dones moves_units (answers_of op w.log) ≡ 0 = ap (dones moves_units) (none_answered op w.log (unanswered (began op w.log) (has_answered op w.log) on)) in
-      let less = open_few (Some x) in
-      omega (arith, none, less)
-    where
-      unanswered : (p q : Bool) → p && not q ≡ true → q ≡ false
-      unanswered true false e = refl
-      unanswered true true e = cc
-      unanswered false q e = cc
+  few None e = let once = (b.is.answered op).answered_once in let less = dones_few moves_units (answers_of op w.log) in omega (arith, once, less)
+  few (Some (Move m)) e = few_open (Move m) e refl
+  few (Some (Copy y)) e = few_open (Copy y) e refl
+  few (Some (Share s)) e =
+      let none : dones moves_units (answers_of op w.log) ≡ 0 = ap (λ v. dones v (answers_of op w.log)) (unshared s e) ∙ dones_still (answers_of op w.log) in
+      omega (arith, none)
 
   pub installed_once : times_installed op w.log ≤ 1
   installed_once = let balance = h.balance op in let less = few there refl in omega (arith, balance, less)
 
-  -- a command that is answered isn't open
-  answered_closed : (a : Answer) → answers_of op w.log ≡ a ∷ [] → open_in there ≡ 0
-  answered_closed a is = by_got there refl
+  -- a command that is answered isn't open, if it isn't a share
+  balance_is : (a : Answer) → answers_of op w.log ≡ a ∷ [] → ((s : ShareState) → there ≢ Some (Share s)) → total (install op) w + times_installed op w.log ≡ dones moves_units (a ∷ [])
+  balance_is a is other = let balance = h.balance op in let closed = by_got there refl in let answers = ap (dones moves_units) is in omega (arith, balance, closed, answers)
     where
-      off : is_busy op w.log ≡ false
-      off = let answered = some_answered op w.log a [] is in rw answered (both_off (began op w.log))
-        where
-          both_off : (p : Bool) → p && false ≡ false
-          both_off true = refl
-          both_off false = refl
-
       by_got : (o : Option Operation) → there ≡ o → open_in o ≡ 0
       by_got None e = refl
-      by_got (Some x) e = let never : true ≡ false = sym (ap is_some e) ∙ open_is ∙ off in cc
-
-  balance_is : (a : Answer) → answers_of op w.log ≡ a ∷ [] → total (install op) w + times_installed op w.log ≡ dones moves_units (a ∷ [])
-  balance_is a is = let balance = h.balance op in let closed = answered_closed a is in let answers = ap (dones moves_units) is in omega (arith, balance, closed, answers)
+      by_got (Some (Move m)) e = let never = sym is ∙ told (Move m) e in cc
+      by_got (Some (Copy y)) e = refl
+      by_got (Some (Share s)) e = absurd (other s e)
 
   pub refused_none_installed : (a : Answer) → answers_of op w.log ≡ a ∷ [] → a ≢ answer.Done → times_installed op w.log ≡ 0
-  refused_none_installed a is other = let balance = balance_is a is in let none = dones-none moves_units a (not_done a other) in omega (arith, balance, none)
+  refused_none_installed a is other =
+      let balance = balance_is a is unlike in
+      let none = dones-none moves_units a (not_done a other) in
+      omega (arith, balance, none)
+    where
+      -- an open share was answered that it is done
+      done_is : (b : Bool) → a ∷ [] ≡ (if b then answer.Done ∷ [] else []) → ⊥
+      done_is true e = other (ap (λ xs. get_or xs 0 a) e)
+      done_is false e = cc
+
+      unlike : (s : ShareState) → there ≢ Some (Share s)
+      unlike s e = done_is (is_set_up s.phase) (sym is ∙ told (Share s) e)
 
   -- and where nothing waits, each change was noted
   pub done_installed : moves_units ≡ true → is_done node_ended w ≡ true → answers_of op w.log ≡ answer.Done ∷ [] → times_installed op w.log ≡ 1
   done_installed moves done is =
-      let balance = balance_is answer.Done is in
+      let balance = balance_is answer.Done is (λ s e. let never : true ≡ false = sym moves ∙ unshared s e in cc) in
       let none = done_weight node_ended w done (install op) in
       let one : dones moves_units (answer.Done ∷ []) ≡ 1 = rw moves refl in
       omega (arith, balance, none, one)
 
-  -- a command that doesn't move units changes no rules
-  pub still_installed : moves_units ≡ false → times_installed op w.log ≡ 0
-  still_installed still =
+  -- a command that neither moves nor shares units changes no rules
+  pub still_installed : moves_units ≡ false → shares_units (g.orders op) ≡ false → times_installed op w.log ≡ 0
+  still_installed still unlike =
       let balance = h.balance op in
-      let none : dones moves_units (answers_of op w.log) ≡ 0 = ap (λ b. dones b (answers_of op w.log)) still ∙ dones_still (answers_of op w.log) in
+      let none : dones moves_units (answers_of op w.log) ≡ 0 = ap (λ v. dones v (answers_of op w.log)) still ∙ dones_still (answers_of op w.log) in
       let closed = by_got there refl in
       omega (arith, balance, none, closed)
     where
       by_got : (o : Option Operation) → there ≡ o → open_in o ≡ 0
       by_got None e = refl
       by_got (Some (Copy y)) e = refl
-      by_got (Some (Share y)) e = refl
+      by_got (Some (Share s)) e =
+          let plan = share_is f g n count_is w j b op s (at_controller (Some (Share s)) e) in
+          let never : true ≡ false = sym (ap shares_units plan.order_is) ∙ unlike in
+          cc
       by_got (Some (Move m)) e =
-          let plan = plan_is f g n count_is w j b op m (sym (ap (λ c. finite.get c.operations op) same) ∙ e) in
+          let plan = plan_is f g n count_is w j b op m (at_controller (Some (Move m)) e) in
           let never : true ≡ false = sym (ap is_moving plan.order_is) ∙ still in
           cc
 
@@ -256,10 +270,11 @@ module _ (F : Type 0) {R : Type 0} (f : Semantics R) (laws : FunctionLaws f) (al
         omega (arith, none, given_none, closed);
   }
 
-  installs_next : (w : Network (Node F R) Msg Note) (k : Choice) → Taking node_ready (node_step f) nodes w k → Joined f (given f c items is) nodes w → Installs (given f c items is) w → Installs (given f c items is) (taken (node_step f) w k)
-  installs_next w k t j h =
-      let same : t.node ≡ node_of j.nodes k.node = sym (t.takes.node_is t.node) ∙ j.nodes_are k.node t.takes.receiver t.node in
-      installs_after f laws (given f c items is) (all_fit f c items is) nodes refl w k.node k.port t.message t.rest j (subst (λ y. Takes (node_step f) nodes w k.node k.port y t.message t.rest) same t.takes) (subst (λ y. is_input k ≡ true → node_ready y t.message ≡ true) same t.was_ready) h
-
   pub run_installs : (cs : List Choice) → IsRun node_ready (node_step f) cs start → Installs (given f c items is) (run (node_step f) cs start)
-  run_installs cs run_is = (run_induction node_ready (node_step f) nodes (λ _ w. Joined f (given f c items is) nodes w × Installs (given f c items is) w) start (λ _ w k next h. (joined_next f laws (given f c items is) (all_fit f c items is) nodes refl w k next.taking h.0, installs_next w k next.taking h.0 h.1)) (start_world F f laws alloc c items is) (count_at_start F f alloc c items is) (start_joined F f alloc c items is, installs_at_start) cs run_is).1
+  run_installs cs run_is = (run_induction node_ready (node_step f) nodes (λ _ w. Runs F f laws alloc c items is w × Installs (given f c items is) w) start (λ _ w k next h. (runs_next F f laws alloc c items is w k next.taking h.0, installs_next w k next.taking h.0 h.1)) (start_world F f laws alloc c items is) (count_at_start F f alloc c items is) (runs_at_start F f laws alloc c items is, installs_at_start) cs run_is).1
+    where
+      installs_next : (w : Network (Node F R) Msg Note) (k : Choice) → Taking node_ready (node_step f) nodes w k → Runs F f laws alloc c items is w → Installs (given f c items is) w → Installs (given f c items is) (taken (node_step f) w k)
+      installs_next w k t r h =
+          let g : Given = given f c items is in
+          let fitting = all_fit f c items is in
+          installs_after f g nodes w k.node k.port t.message t.rest r.joined (its_takes f laws g fitting nodes refl w k t r.joined r.beside) (its_label f laws g fitting nodes refl w k t r.joined r.beside) (its_labels f laws g fitting nodes refl w k t r.joined r.beside) h

@@ -1,31 +1,30 @@
--- What each node's step keeps of the changes of the switch's rules: the controller has sent one for each open move that passes packets on
--- and for each that was done, and the switch notes each that it takes.
+-- What the controller's step keeps of the changes of the switch's rules: it has sent one for each open move that passes packets on, for each
+-- that was done, and for each open share.
 use Rattle.std.proofs.Common.{◌≡◌, ◌≢◌, ℕ, ◌+◌, ◌-◌, ◌≤◌, Bool, true, false, cond, Option, Some, None, List, [], ◌∷◌, ◌++◌, refl, sym, ap, ◌∙◌, subst, arith}
 use Rattle.std.specs.Prelude.{if◌then◌else◌, ◌||◌, ◌==◌, not, nat_lt, is_some, option_map}
+use Rattle.std.specs.List.{filter_map}
 use Rattle.std.specs.Option.{option_or}
 use Rattle.std.specs.FinMap as finite
 use Rattle.std.proofs.lemmas.Bool.Decides.{nat_tests, Decides-eqb}
 use Rattle.flow_filter.specs.declared.filter.Filter.{Filter}
-use Rattle.flow_filter.specs.declared.packet.Packet.{Packet}
 use Rattle.nf_function.specs.Semantics.{Semantics}
-use Rattle.packet_pool.specs.Pool.{FullCell, one_more}
+use Rattle.packet_pool.specs.Pool.{FullCell}
 use Rattle.event_filter.specs.declared.action.Action.TheVariants as action
 use Rattle.event_filter.specs.declared.mark.Mark.TheVariants as mark
-use Rattle.switch_rules.specs.declared.target.Target.{Target}
-use Rattle.switch_rules.specs.declared.target.Target.TheVariants as target
 use Rattle.nf_msgs.specs.declared.answer.Answer.{Answer}
 use Rattle.nf_msgs.specs.declared.answer.Answer.TheVariants.{Done, Unknown, Overlap}
 use Rattle.nf_msgs.specs.declared.command.Order.{Order}
 use Rattle.nf_msgs.specs.declared.command.Order.TheVariants as order
 use Rattle.nf_msgs.specs.declared.msg.Msg.{Msg}
 use Rattle.nf_msgs.specs.declared.msg.Msg.TheVariants as msg
-use Rattle.nf_msgs.specs.declared.note.Note.{Note}
 use Rattle.nf_msgs.specs.declared.note.Note.TheVariants as note
 use Rattle.nf_msgs.specs.Nodes.{instance_node}
 use Rattle.nf_msgs.specs.Shown.{op_of}
 use Rattle.copy_share.specs.declared.copy_phase.CopyPhase.TheVariants.{Keeping}
 use Rattle.copy_share.specs.Copy.{CopyState}
 use Rattle.copy_share.specs.Copy as copy
+use Rattle.copy_share.specs.Share.{SharePlan, ShareState}
+use Rattle.copy_share.specs.Share as share
 use Rattle.move_op.specs.declared.phase.Phase.{Phase}
 use Rattle.move_op.specs.declared.phase.Phase.TheVariants as phase
 use Rattle.move_op.specs.Move.{MovePlan, MoveState, Row, row_in, begun, answer_of}
@@ -34,22 +33,21 @@ use Rattle.ctrl_node.specs.declared.operation.Operation.{Operation}
 use Rattle.ctrl_node.specs.declared.operation.Operation.TheVariants.{Move, Copy, Share}
 use Rattle.ctrl_node.specs.Operations.{turn_of, moved}
 use Rattle.ctrl_node.specs.Controller as controller
-use Rattle.ctrl_node.specs.Controller.{ControllerState, Step, still, refusal, place_of, opens, begins_between, copies_between, begins, decided, on_asked, after_turn, takes_turn, handed, numbered, on_event, on_final, instance_at, unknown_name, overlap, may_finish, finish_of, finished, controller_step}
-use Rattle.switch_node.specs.Switch as switch
-use Rattle.switch_node.specs.Switch.{SwitchState, switch_step, sends_to_instance, goes_to, target_of, has_room, is_there}
+use Rattle.ctrl_node.specs.Controller.{ControllerState, Step, still, refusal, place_of, opens, begins_between, copies_between, begins_share, begins, decided, on_asked, on_diverted, queued, after_turn, takes_turn, handed, numbered, on_event, on_final, instance_at, unknown_name, overlap, may_finish, finish_of, finished, controller_step}
 use Rattle.actor_net.specs.Network.{reaches}
-use Rattle.actor_net.proofs.WeightLaws.{EachSent, weigh, sent_weight}
-use Rattle.net_world.specs.Commands.{answers_of, times_installed}
-use Rattle.outline_net.proofs.OperationTables.{got_insert, got_remove, gone_twice}
+use Rattle.actor_net.proofs.WeightLaws.{sent_weight}
+use Rattle.net_world.specs.Commands.{answers_of}
+use Rattle.outline_net.proofs.OperationTables.{got_insert, got_remove, gone_twice, NotShared}
 use Rattle.outline_net.proofs.CopyTurns.{CopyTurn, Idle, Hands, Hands_all, Ends, hands, ends}
-use Rattle.joined_net.proofs.KnownOperations.{AreKnown, by_turn, copy_turns, NotSharing, not_sharing}
+use Rattle.whole_joined.proofs.KnownOperations.{AreKnown, by_turn, copy_turns}
 use Rattle.answer_net.proofs.CreditCounts.{sent_weight-append}
-use Rattle.answer_net.proofs.InstallCounts.{sent_of, install, finish, done_in, passed, Adds, NoInstall, if_zero, no_one, row_adds}
-use Rattle.joined_net.proofs.Joined.{Given, IsPlan, IsCopyPlan, Label, count, is_instance}
-use Rattle.joined_net.proofs.PlaceNotes.{IsQuiet, is_uninstalled}
-use Rattle.unit_machine.proofs.Labels.{Each}
+use Rattle.answer_net.proofs.InstallCounts.{sent_of, install, finish, done_in, passed, Adds, NoInstall, no_more, no_one, no_both, row_adds}
+use Rattle.answer_net.proofs.ShareTells.{is_of_share, AreOfShare, ShareStep, handed_share, queued_share, Queues, Queues_none, Queues_at, queues}
+use Rattle.whole_outline.proofs.ShareLeft.{answered, noted}
+use Rattle.whole_joined.proofs.Given.{Given, IsPlan, IsCopyPlan}
+use Rattle.whole_joined.proofs.Joined.{Label}
 
--- a command that moves units changes the rules, and no other does
+-- a command that moves units changes the rules where it is done
 abbrev pub is_moving : Option Order → Bool
 is_moving (Some (order.Move source destination filter keep)) = true
 is_moving o = false
@@ -70,6 +68,7 @@ dones-none false a none = refl
 -- and for an open one
 abbrev pub open_in : Option Operation → ℕ
 open_in (Some (Move m)) = passed m.phase
+open_in (Some (Share s)) = 1
 open_in o = 0
 
 pub over_is : (ph : Phase) (a : Answer) → answer_of ph ≡ Some a → passed ph ≡ done_in a
@@ -82,6 +81,20 @@ over_is (phase.Over why) a is = by_some (Some why) is refl
     by_some : (o : Option Answer) → o ≡ Some a → o ≡ Some why → done_in why ≡ done_in a
     by_some o e h = ap done_of (sym h) ∙ ap done_of e
 over_is ph a is = cc
+
+-- what a share sends once it has begun has no change
+share_sent_none : (o : Option ℕ) (m : Msg) → is_of_share m ≡ true → sent_of o m ≡ 0
+share_sent_none o (msg.Install k filter from to) e = cc
+share_sent_none o msg.Finish e = cc
+share_sent_none o m e = refl
+
+shares_none : (n : ℕ) (sends : List (ℕ × Msg)) → AreOfShare sends → NoInstall n 1 sends
+shares_none n [] h = λ o. refl
+shares_none n (x ∷ xs) h = no_more n 1 x.0 x.1 (λ o. share_sent_none o x.1 h.0) xs (shares_none n xs h.1)
+
+answered_none : (n op : ℕ) (a : Option Answer) (sends : List (ℕ × Msg)) → AreOfShare sends → NoInstall n 1 (answered op a sends)
+answered_none n op None sends h = shares_none n sends h
+answered_none n op (Some why) sends h = no_both n 1 sends ((0, msg.Answered op) ∷ []) (shares_none n sends h) (no_one n 1 0 (msg.Answered op) (λ o. refl))
 
 -- a refusal isn't an answer that it is done
 refused_none : (u : Option (List ℕ)) (q : Option ℕ) (a : Answer) → option_or (option_map Unknown u) (option_map Overlap q) ≡ Some a → done_in a ≡ 0
@@ -168,11 +181,11 @@ module _ (n : ℕ) (reach : reaches n 1 0 ≡ true) (g : Given) (k : ℕ) (c : C
     copy_is op y is m did (Hands_all j chunk e d) = subst Counts (sym d) (hands_is op y is (msg.PutAll y.plan.op chunk) (λ o. refl))
     copy_is op y is m did (Ends d) = subst Counts (sym d) (ends_is op y is)
 
-    turn_is : (op port : ℕ) (m : Msg) (o : Option Operation) → finite.get c.operations op ≡ o → Counts (takes_turn c op (turn_of o c.store port m))
-    turn_is op port m None is = record { sent = refl; unfinished = refl; finish_same = refl }
-    turn_is op port m (Some (Copy y)) is = copy_is op y is m _ (copy_turns g c are op y is port m)
-    turn_is op port m (Some (Share s)) is = absurd (are.no_shares op s is)
-    turn_is op port m (Some (Move mv)) is = by_answer (answer_of r.next.phase) refl
+    turn_is : (op port : ℕ) (m : Msg) (o : Option Operation) → finite.get c.operations op ≡ o → NotShared o → Counts (takes_turn c op (turn_of o c.store port m))
+    turn_is op port m (Some (Share s)) is no = absurd no
+    turn_is op port m None is no = record { sent = refl; unfinished = refl; finish_same = refl }
+    turn_is op port m (Some (Copy y)) is no = copy_is op y is m _ (copy_turns g c are op y is port m)
+    turn_is op port m (Some (Move mv)) is no = by_answer (answer_of r.next.phase) refl
       where
         r : Row
         r = row_in mv c.store port m
@@ -222,8 +235,46 @@ module _ (n : ℕ) (reach : reaches n 1 0 ≡ true) (g : Given) (k : ℕ) (c : C
               finish_same = refl;
             }
 
+    -- an open share sends no change, and has sent one
+    share_is : (op : ℕ) (s : ShareState) → finite.get c.operations op ≡ Some (Share s) → (did : Step) → ShareStep c op s did → Counts did
+    share_is op s there did l =
+        let quiet : NoInstall n 1 did.sends = subst (NoInstall n 1) (sym l.sends_are) (no_both n 1 (answered op l.answer l.first) l.second (answered_none n op l.answer l.first l.first_own) (shares_none n l.second l.second_own)) in
+        let none = quiet (Some k) in
+        let plan = (are.shares op s there).1 in
+        let still : (k == op) ≡ true → moving ≡ false = (λ on. ap (λ j. is_moving (g.orders j)) ((Decides-eqb k op).0 on) ∙ ap is_moving plan.order_is) in
+        let turned : (op == k) ≡ (k == op) = grind (arith, nat_tests) in
+        let noted_none : dones moving (answers_of k did.notes) ≡ 0 = ap (λ ns. dones moving (answers_of k ns)) l.notes_are ∙ by_answer op l.answer turned still in
+        let same : open_in (finite.get did.node.operations k) ≡ open_in (finite.get c.operations k) = ap open_in (l.operations k) ∙ elim (k == op) as (λ b. (k == op) ≡ b → open_in (cond b (Some (Share (record s { phase = l.after }))) (finite.get c.operations k)) ≡ open_in (finite.get c.operations k)) [
+          | true ↦ λ on. sym (ap (λ j. open_in (finite.get c.operations j)) ((Decides-eqb k op).0 on) ∙ ap open_in there)
+          | false ↦ λ off. refl
+        ] refl in
+        record { sent = omega (arith, none, noted_none, same); unfinished = quiet None; finish_same = l.finish_same }
+      where
+        by_answer : (op : ℕ) (a : Option Answer) → (op == k) ≡ (k == op) → ((k == op) ≡ true → moving ≡ false) → dones moving (answers_of k (noted op a)) ≡ 0
+        by_answer op None turned still = refl
+        by_answer op (Some why) turned still = ap (λ b. dones moving (if b then why ∷ [] else [])) turned ∙ elim (k == op) as (λ b. (k == op) ≡ b → dones moving (if b then why ∷ [] else []) ≡ 0) [
+          | true ↦ λ on. ap (λ b. dones b (why ∷ [])) (still on)
+          | false ↦ λ off. refl
+        ] refl
+
     handed_is : (op port : ℕ) (m : Msg) → Counts (handed c op port m)
-    handed_is op port m = by_turn g c are Counts op port m (turn_is op port m (finite.get c.operations op) refl)
+    handed_is op port m = by_got (finite.get c.operations op) refl
+      where
+        by_got : (o : Option Operation) → finite.get c.operations op ≡ o → Counts (handed c op port m)
+        by_got (Some (Share s)) is = share_is op s is (handed c op port m) (handed_share c op s is (are.shares op s is).0 port m)
+        by_got None is = other (subst NotShared (sym is) tt)
+        by_got (Some (Move mv)) is = other (subst NotShared (sym is) tt)
+        by_got (Some (Copy y)) is = other (subst NotShared (sym is) tt)
+
+        other : NotShared (finite.get c.operations op) → Counts (handed c op port m)
+        other no = by_turn g c are Counts op port m no (turn_is op port m (finite.get c.operations op) refl no)
+
+    diverted_is : (cell : FullCell) → Counts (on_diverted c cell)
+    diverted_is cell = by_queues (on_diverted c cell) (queues c cell)
+      where
+        by_queues : (did : Step) → Queues c cell did → Counts did
+        by_queues did (Queues_none e) = subst Counts (sym e) still_is
+        by_queues did (Queues_at op s is e) = subst Counts (sym e) (share_is op s is (queued c cell (Some op)) (queued_share c op s is (are.shares op s is).0 cell))
 
     numbered_is : (port : ℕ) (m : Msg) (o : Option ℕ) → Counts (numbered c port m o)
     numbered_is port m None = still_is
@@ -275,30 +326,43 @@ module _ (n : ℕ) (reach : reaches n 1 0 ≡ true) (g : Given) (k : ℕ) (c : C
       copies_is filter None b = still_is
       copies_is filter (Some from) None = still_is
 
-      begins_is : (what : Order) → NotSharing what → Counts (begins c op what)
-      begins_is (order.Move source destination filter keep) built = between_is filter keep (place_of c.names source) (place_of c.names destination)
-      begins_is (order.Copy source destination filter) built = copies_is filter (place_of c.names source) (place_of c.names destination)
-      begins_is (order.Share members filter) built = absurd built
+      -- a share begins by a change
+      shares_is : (filter : Filter) (members : List ℕ) → Counts (begins_share c op filter members)
+      shares_is filter [] = still_is
+      shares_is filter (home ∷ others) =
+          let plan : SharePlan = record { op = op; members = home ∷ others; filter = filter; site = c.site } in
+          let turned : (op == k) ≡ (k == op) = grind (arith, nat_tests) in
+          let sent : sent_weight (install k) n 1 (share.begin_sends plan) ≡ (if k == op then 1 else 0) = rw (reach, turned) (omega arith) in
+          let here : open_in (finite.get (finite.insert c.operations op (Share (share.begun plan))) k) ≡ open_in (finite.get c.operations k) + (if k == op then 1 else 0) = ap open_in (got_insert c.operations op k (Share (share.begun plan))) ∙ elim (k == op) as (λ b. (k == op) ≡ b → open_in (cond b (Some (Share (share.begun plan))) (finite.get c.operations k)) ≡ open_in (finite.get c.operations k) + (if b then 1 else 0)) [
+            | true ↦ λ on. (let was : open_in (finite.get c.operations k) ≡ 0 = ap (λ y. open_in (finite.get c.operations y)) ((Decides-eqb k op).0 on) ∙ ap open_in none in omega (arith, was))
+            | false ↦ λ off. omega arith
+          ] refl in
+          record { sent = omega (arith, sent, here); unfinished = rw reach refl; finish_same = refl }
 
-      decided_is : (what : Order) (o : Option Answer) → NotSharing what → refusal c what ≡ o → Counts (decided c op what o)
-      decided_is what None built is = begins_is what built
-      decided_is what (Some a) built is =
+      begins_is : (what : Order) → Counts (begins c op what)
+      begins_is (order.Move source destination filter keep) = between_is filter keep (place_of c.names source) (place_of c.names destination)
+      begins_is (order.Copy source destination filter) = copies_is filter (place_of c.names source) (place_of c.names destination)
+      begins_is (order.Share members filter) = shares_is filter (filter_map (place_of c.names) members)
+
+      decided_is : (what : Order) (o : Option Answer) → refusal c what ≡ o → Counts (decided c op what o)
+      decided_is what None is = begins_is what
+      decided_is what (Some a) is =
           let refused = refused_none (unknown_name c what) (overlap c what) a is in
           let sent = no_one n 1 0 (msg.Answered op) (λ y. refl) in
           let own = sent (Some k) in
           let noted : dones moving (if op == k then a ∷ [] else []) ≡ 0 = elim (op == k) as (λ b. dones moving (if b then a ∷ [] else []) ≡ 0) [ true ↦ dones-none moving a refused | false ↦ refl ] in
           record { sent = omega (arith, own, noted); unfinished = sent None; finish_same = refl }
 
-    asked_is : (op : ℕ) (what : Order) → NotSharing what → Counts (on_asked c (record { op = op; what = what }))
-    asked_is op what built = by_got (finite.get c.operations op) refl
+    asked_is : (op : ℕ) (what : Order) → Counts (on_asked c (record { op = op; what = what }))
+    asked_is op what = by_got (finite.get c.operations op) refl
       where
         by_got : (o : Option Operation) → finite.get c.operations op ≡ o → Counts (if is_some o then still c else decided c op what (refusal c what))
-        by_got None is = decided_is op is what (refusal c what) built refl
+        by_got None is = decided_is op is what (refusal c what) refl
         by_got (Some x) is = still_is
 
     pub row_counts : {R : Type 0} (f : Semantics R) (port : ℕ) (m : Msg) → Label f g port 1 m → Counts (controller.row c port m)
-    row_counts f port (msg.Asked a) label = elim (port == 0) as (λ b. Counts (if b then on_asked c a else still c)) [ true ↦ asked_is a.op a.what (not_sharing f g a.what label.2.built) | false ↦ still_is ]
-    row_counts f port (msg.Diverted cell) label = absurd label
+    row_counts f port (msg.Asked a) label = elim (port == 0) as (λ b. Counts (if b then on_asked c a else still c)) [ true ↦ asked_is a.op a.what | false ↦ still_is ]
+    row_counts f port (msg.Diverted cell) label = elim (port == 0) as (λ b. Counts (if b then on_diverted c cell else still c)) [ true ↦ diverted_is cell | false ↦ still_is ]
     row_counts f port msg.End label = elim (port == 0) as (λ b. Counts (if b then still (record c { end_came = true }) else still c)) [ true ↦ none_is _ [] refl refl (λ op. refl) | false ↦ still_is ]
     row_counts f port (msg.Event op cell) label = event_is port op cell (instance_at c port)
     row_counts f port msg.Final label = final_is (instance_at c port)
@@ -306,85 +370,3 @@ module _ (n : ℕ) (reach : reaches n 1 0 ≡ true) (g : Given) (k : ℕ) (c : C
 
     pub controller_counts : {R : Type 0} (f : Semantics R) (port : ℕ) (m : Msg) → Label f g port 1 m → Sent (controller_step c port m)
     controller_counts f port m label = finished_is (controller.row c port m) (row_counts f port m label)
-
--- Other nodes send neither a change of the rules nor the finish, and none is sent to another node than the switch.
-module _ {R : Type 0} (f : Semantics R) (g : Given) (o : Option ℕ) where
-  pub no_install_from : (k r : ℕ) (m : Msg) → k ≢ 1 → Label f g k r m → sent_of o m ≡ 0
-  no_install_from k r (msg.Install j filter from to) other label = absurd (other label.0.0)
-  no_install_from k r msg.Finish other label = absurd (other label.0)
-  no_install_from k r m other label = refl
-
-  pub no_install_to : (p k : ℕ) (m : Msg) → 1 ≤ k → Label f g p k m → sent_of o m ≡ 0
-  no_install_to p k (msg.Install j filter from to) some label = let none = label.0.1 in absurd (omega (arith, some, none))
-  no_install_to p k msg.Finish some label = let none = label.1 in absurd (omega (arith, some, none))
-  no_install_to p k m some label = refl
-
-  pub none_sent : (n k : ℕ) (sends : List (ℕ × Msg)) → k ≢ 1 → EachSent (Label f g) k sends → sent_weight (sent_of o) n k sends ≡ 0
-  none_sent n k [] other h = refl
-  none_sent n k (x ∷ xs) other h =
-      let own = no_install_from k x.0 x.1 other h.0 in
-      let rest = none_sent n k xs other h.1 in
-      rw (own, rest, if_zero (reaches n k x.0)) refl
-
-  -- an input has none
-  pub items_none : (items : List Msg) → Each (Label f g 0 0) items → weigh (sent_of o) items ≡ 0
-  items_none [] h = refl
-  items_none (m ∷ ms) h = let own = no_install_from 0 0 m (λ never. cc) h.0 in let rest = items_none ms h.1 in omega (arith, own, rest)
-
-module _ {R : Type 0} (f : Semantics R) (g : Given) (op : ℕ) where
-  -- The switch notes each change that it takes.
-  abbrev Notes : ℕ → switch.Step → Type 0
-  Notes one did = times_installed op did.notes ≡ one
-
-  goes_notes : (s : SwitchState) (p : Packet) (t : Target) → Notes 0 (goes_to s p t)
-  goes_notes s p target.Controller = refl
-  goes_notes s p (target.Instance i) = elim (nat_lt i s.instances) as (λ b. Notes 0 (if b then switch.arrives s p (i + 2) (msg.Carry mark.Plain) else switch.still s)) [ true ↦ refl | false ↦ refl ]
-
-  to_instance_notes : (s : SwitchState) (i : ℕ) (m : Msg) → Notes 0 (sends_to_instance s i m)
-  to_instance_notes s i m = elim (nat_lt i s.instances) as (λ b. Notes 0 (if b then switch.sends_on s (i + 2) m else switch.still s)) [ true ↦ refl | false ↦ refl ]
-
-  install_notes : (s : SwitchState) (j : ℕ) (filter : Filter) (from : ℕ) (to : Target) → s.instances ≡ count f g → nat_lt from (count f g) ≡ true → is_instance (count f g) to ≡ true → Notes (install op (msg.Install j filter from to)) (switch.on_install s j filter from to)
-  install_notes s j filter from target.Controller same here there = cc
-  install_notes s j filter from (target.Instance i) same here there = rw (same, here, there) (omega arith)
-
-  pub switch_notes : (s : SwitchState) (p : ℕ) (m : Msg) → s.instances ≡ count f g → Label f g p 0 m → Notes (install op m) (switch_step s m)
-  switch_notes s p (msg.InPacket q) same label = elim (has_room s) as (λ b. Notes 0 (if b then goes_to s q (target_of s q) else switch.still s)) [ true ↦ goes_notes s q (target_of s q) | false ↦ refl ]
-  switch_notes s p (msg.Forward to k cell) same label = to_instance_notes s to (msg.Carry k cell)
-  switch_notes s p (msg.Install j filter from to) same label = install_notes s j filter from to same label.1 label.2
-  switch_notes s p (msg.FenceTo j to) same label = to_instance_notes s to (msg.Fence j)
-  switch_notes s p (msg.Credit cell) same label = elim ((s.flying == 0) || not (cell.pool == s.pool.name)) as (λ b. Notes 0 (if b then switch.still s else record { node = record s { pool = one_more s.pool; flying = s.flying - 1 }; sends = []; notes = [] })) [ true ↦ refl | false ↦ refl ]
-  switch_notes s p m same label = refl
-
--- Notes among which no change is.
-pub times_installed-append : (op : ℕ) (xs ys : List Note) → times_installed op (xs ++ ys) ≡ times_installed op xs + times_installed op ys
-times_installed-append op [] ys = omega arith
-times_installed-append op (note.Arrived number ∷ xs) ys = times_installed-append op xs ys
-times_installed-append op (note.Processed number instance output ∷ xs) ys = times_installed-append op xs ys
-times_installed-append op (note.Begun k ∷ xs) ys = times_installed-append op xs ys
-times_installed-append op (note.Exported instance k us ∷ xs) ys = times_installed-append op xs ys
-times_installed-append op (note.Imported instance k us ∷ xs) ys = times_installed-append op xs ys
-times_installed-append op (note.Kept instance k us ∷ xs) ys = times_installed-append op xs ys
-times_installed-append op (note.Installed k ∷ xs) ys = let rest = times_installed-append op xs ys in omega (arith, rest)
-times_installed-append op (note.Answered k answer ∷ xs) ys = times_installed-append op xs ys
-
-pub none_installed : (op : ℕ) (ns : List Note) → Each (λ x. is_uninstalled x ≡ true) ns → times_installed op ns ≡ 0
-none_installed op [] h = refl
-none_installed op (note.Processed number instance output ∷ ns) h = none_installed op ns h.1
-none_installed op (note.Installed k ∷ ns) h = let never = h.0 in cc
-none_installed op (note.Arrived number ∷ ns) h = none_installed op ns h.1
-none_installed op (note.Begun k ∷ ns) h = none_installed op ns h.1
-none_installed op (note.Exported instance k us ∷ ns) h = none_installed op ns h.1
-none_installed op (note.Imported instance k us ∷ ns) h = none_installed op ns h.1
-none_installed op (note.Kept instance k us ∷ ns) h = none_installed op ns h.1
-none_installed op (note.Answered k answer ∷ ns) h = none_installed op ns h.1
-
-pub quiet_installed : (op k : ℕ) (ns : List Note) → Each (IsQuiet k) ns → times_installed op ns ≡ 0
-quiet_installed op k [] h = refl
-quiet_installed op k (note.Processed number instance output ∷ ns) h = quiet_installed op k ns h.1
-quiet_installed op k (note.Exported instance j us ∷ ns) h = quiet_installed op k ns h.1
-quiet_installed op k (note.Imported instance j us ∷ ns) h = quiet_installed op k ns h.1
-quiet_installed op k (note.Kept instance j us ∷ ns) h = quiet_installed op k ns h.1
-quiet_installed op k (note.Installed j ∷ ns) h = absurd h.0
-quiet_installed op k (note.Arrived number ∷ ns) h = absurd h.0
-quiet_installed op k (note.Begun j ∷ ns) h = absurd h.0
-quiet_installed op k (note.Answered j answer ∷ ns) h = absurd h.0

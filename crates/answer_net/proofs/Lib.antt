@@ -12,11 +12,14 @@ pub mod ControllerActs
 pub mod CreditCounts
 pub mod EndRuns
 pub mod EndTables
+pub mod FirstEntries
 pub mod InstallCounts
+pub mod InstallNotes
 pub mod InstallRuns
 pub mod InstallSteps
 pub mod LinePicks
 pub mod MoveOnce
 pub mod MoveSays
 pub mod MovesUnderWay
+pub mod ShareTells
 pub mod ToldCommands

@@ -15,7 +15,7 @@ use Rattle.move_op.specs.declared.phase.Phase.{Phase}
 use Rattle.move_op.specs.declared.phase.Phase.TheVariants as phase
 use Rattle.move_op.specs.Move.{MovePlan, MoveState, Next, Row, keeps, goes, chunks_of, have_units, put_back, source, destination, put_to, forward_to, pushed, released, returned, all_put, on_event, on_source_enabled, on_piece, on_deleted, on_restored, on_source_fenced, on_put_ok, on_put_no, on_destination_enabled, on_destination_fenced, from_source, from_destination, row, answer_of}
 use Rattle.actor_net.proofs.WeightLaws.{EachSent}
-use Rattle.joined_net.proofs.Joined.{Given}
+use Rattle.whole_joined.proofs.Given.{Given}
 use Rattle.answer_net.proofs.BusyLemmas.{is_outcome}
 use Rattle.answer_net.proofs.BusyOperations.{HasOutcome}
 

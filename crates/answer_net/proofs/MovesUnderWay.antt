@@ -1,5 +1,5 @@
--- In every run the open operations of the controller are the commands under way, and what it knows of a move is what its order says.
-use Rattle.std.proofs.Common.{◌≡◌, ℕ, ◌+◌, Bool, Some, List, length, refl}
+-- In every run the open operations of the controller are the commands that keep others off, and what it knows of a move is what its order says.
+use Rattle.std.proofs.Common.{◌≡◌, ℕ, ◌+◌, Bool, Some, None, List, length, refl}
 use Rattle.std.specs.declared.alloc.Global.{Global}
 use Rattle.std.specs.FinMap as finite
 use Rattle.flow_filter.specs.declared.filter.Filter.{Filter}
@@ -16,13 +16,14 @@ use Rattle.actor_net.specs.Network.{Network, IsRun, run}
 use Rattle.net_world.specs.declared.config.Config.{Config}
 use Rattle.net_world.specs.declared.node.Node.{Node}
 use Rattle.net_world.specs.Input.{order_of, IsInput}
-use Rattle.net_world.specs.Commands.{is_busy}
+use Rattle.net_world.specs.Commands.{is_busy, keeps_off}
 use Rattle.net_world.specs.Nodes.{node_step, node_ready}
 use Rattle.net_world.specs.Start.{started}
-use Rattle.joined_net.proofs.StartJoined.{given}
-use Rattle.answer_net.proofs.BusyRuns.{busy_is, plan_is}
+use Rattle.whole_joined.proofs.StartJoined.{given}
+use Rattle.answer_net.proofs.BusyRuns.{keeps_is, open_busy, closed_busy, plan_is}
 use Rattle.answer_net.proofs.CommandPromises.{run_busy}
-use Rattle.joined_net.proofs.Joined.{IsPlan, Joined}
+use Rattle.whole_joined.proofs.Given.{IsPlan}
+use Rattle.whole_joined.proofs.Joined.{Joined}
 
 -- the order under a number moves what this filter takes between these two instances
 pub record IsMoveOf (c : Config) (items : List Msg) (op : ℕ) (filter : Filter) (ends : ℕ × ℕ) : Type 0 where
@@ -39,8 +40,11 @@ module _ {R : Type 0} (f : Semantics R) (c : Config) (items : List Msg) (is : Is
 
 module _ {F R : Type 0} (f : Semantics R) (c : Config) (items : List Msg) (is : IsInput f.kind c items) where
   pub record AreUnderWay (n : ℕ) (w : Network (Node F R) Msg Note) (j : Joined f (given f c items is) n w) : Type 0 where
-    -- the open operations are the commands under way
-    pub busy_is : (op : ℕ) → finite.contains_key j.nodes.controller.operations op ≡ is_busy op w.log
+    -- the open operations are the commands that keep others off
+    pub keeps_is : (op : ℕ) → finite.contains_key j.nodes.controller.operations op ≡ keeps_off c.names (order_of items) op w.log
+    -- the command of an open move is under way, and one whose operation isn't open isn't
+    pub open_busy : (op : ℕ) (m : MoveState) → finite.get j.nodes.controller.operations op ≡ Some (Move m) → is_busy op w.log ≡ true
+    pub closed_busy : (op : ℕ) → finite.get j.nodes.controller.operations op ≡ None → is_busy op w.log ≡ false
     -- an open move's plan is that of its number's order
     pub plan_is : (op : ℕ) (m : MoveState) → finite.get j.nodes.controller.operations op ≡ Some (Move m) → IsMoveOf c items op m.plan.filter (m.plan.from, m.plan.to)
 
@@ -56,6 +60,8 @@ module _ (F : Type 0) {R : Type 0} (f : Semantics R) (laws : FunctionLaws f) (al
       let w = run (node_step f) cs first in
       let b = (run_busy F f laws alloc c items is cs run_is).1 in
       record {
-        busy_is = busy_is f (given f c items is) n refl w j b;
+        keeps_is = keeps_is f (given f c items is) n refl w j b;
+        open_busy = λ op m there. open_busy f (given f c items is) n refl w j b op (Move m) there refl;
+        closed_busy = closed_busy f (given f c items is) n refl w j b;
         plan_is = λ op m there. plan_of f c items is op m.plan (plan_is f (given f c items is) n refl w j b op m there);
       }

@@ -1,15 +1,16 @@
 -- No command is lost: each of the input waits still, or the log says that it began or was answered. So in a complete run each is answered.
 use Rattle.std.proofs.Common.{◌≡◌, ℕ, zero, suc, ◌+◌, ◌≤◌, Bool, true, false, Option, Some, None, List, [], ◌∷◌, ◌++◌, length, refl, sym, ap, ◌∙◌, subst, arith}
-use Rattle.std.specs.Prelude.{if◌then◌else◌, ◌&&◌, ◌||◌, ◌==◌, not, find, is_some, option_map}
+use Rattle.std.specs.Prelude.{if◌then◌else◌, ◌&&◌, ◌||◌, ◌==◌, not, nat_lt, find, is_some, option_map}
+use Rattle.std.specs.List.{filter_map}
 use Rattle.std.specs.Option.{option_or}
 use Rattle.std.specs.declared.alloc.Global.{Global}
 use Rattle.std.specs.FinMap as finite
-use Rattle.std.proofs.lemmas.Bool.Decides.{nat_tests, Decides-eqb}
+use Rattle.std.proofs.lemmas.Bool.Decides.{nat_tests, Decides-eqb, Decides-ltb}
 use Rattle.flow_filter.specs.declared.filter.Filter.{Filter}
-use Rattle.nf_function.specs.Records.{Fits, Laws as FunctionLaws}
+use Rattle.nf_function.specs.Records.{Laws as FunctionLaws}
 use Rattle.nf_function.specs.Semantics.{Semantics}
 use Rattle.nf_msgs.specs.declared.answer.Answer.{Answer}
-use Rattle.nf_msgs.specs.declared.answer.Answer.TheVariants.{Unknown, Overlap}
+use Rattle.nf_msgs.specs.declared.answer.Answer.TheVariants.{Done, Unknown, Overlap}
 use Rattle.nf_msgs.specs.declared.command.Order.{Order}
 use Rattle.nf_msgs.specs.declared.command.Order.TheVariants as order
 use Rattle.nf_msgs.specs.declared.msg.Msg.{Msg}
@@ -17,34 +18,38 @@ use Rattle.nf_msgs.specs.declared.msg.Msg.TheVariants as msg
 use Rattle.nf_msgs.specs.declared.note.Note.{Note}
 use Rattle.nf_msgs.specs.declared.note.Note.TheVariants as note
 use Rattle.actor_net.specs.declared.choice.Choice.{Choice}
-use Rattle.actor_net.specs.Network.{Network, Stepped, IsRun, is_input, is_done, reaches, run, taken}
+use Rattle.actor_net.specs.Network.{Network, Stepped, IsRun, is_done, reaches, run, taken}
 use Rattle.actor_net.proofs.CompleteWorlds.{done_weight}
 use Rattle.actor_net.proofs.EnabledChoices.{at}
 use Rattle.actor_net.proofs.OpeningWorlds.{opening_weight}
 use Rattle.actor_net.proofs.RunInduction.{Taking, run_induction, run_world}
 use Rattle.actor_net.proofs.StepOutcome.{Takes, taken_outcome}
 use Rattle.actor_net.proofs.WeightLaws.{weigh, total, sent_weight, total_after}
+use Rattle.ctrl_node.specs.declared.operation.Operation.{Operation}
+use Rattle.ctrl_node.specs.declared.operation.Operation.TheVariants.{Move, Copy, Share}
 use Rattle.ctrl_node.specs.Controller as controller
-use Rattle.ctrl_node.specs.Controller.{ControllerState, Step, still, refusal, unknown_name, overlap, place_of, begins_between, copies_between, begins, decided, on_asked, controller_step}
+use Rattle.ctrl_node.specs.Controller.{ControllerState, Step, still, refusal, unknown_name, overlap, place_of, begins_between, copies_between, begins_share, begins, decided, on_asked, controller_step}
 use Rattle.switch_node.specs.Switch.{SwitchState, switch_step}
 use Rattle.net_world.specs.declared.config.Config.{Config}
 use Rattle.net_world.specs.declared.node.Node.{Node}
 use Rattle.net_world.specs.declared.node.Node.TheVariants.{Controller}
-use Rattle.net_world.specs.Commands.{began, has_answered, is_busy, answers_of}
-use Rattle.net_world.specs.Input.{IsInput, commands, order_of, ends_last}
+use Rattle.net_world.specs.Commands.{began, has_answered, is_share, keeps_off, answers_of}
+use Rattle.net_world.specs.Input.{IsInput, are_unlike, commands, order_of, ends_last}
 use Rattle.net_world.specs.Nodes.{node_step, node_ready, node_ended}
 use Rattle.net_world.specs.Start.{first_nodes, started}
+use Rattle.outline_net.proofs.FiltersApart.{and_l, and_r, is_whole}
 use Rattle.answer_net.proofs.BusyLemmas.{is_noted, has_answered-append}
-use Rattle.answer_net.proofs.BusyRuns.{Busy, same_controller, busy_is, busy_next}
+use Rattle.answer_net.proofs.BusyRuns.{Busy, same_controller, keeps_is, told_is, busy_next}
 use Rattle.answer_net.proofs.CommandPromises.{start_busy, run_busy}
-use Rattle.answer_net.proofs.EndRuns.{run_ends, none_open}
-use Rattle.answer_net.proofs.EndTables.{flag}
-use Rattle.joined_net.proofs.KnownOperations.{NotSharing, not_sharing}
-use Rattle.joined_net.proofs.Joined.{Given, Label, Joined, count, node_of}
-use Rattle.joined_net.proofs.JoinedSteps.{label, joined_next}
-use Rattle.joined_net.proofs.LogLemmas.{has_begun-append}
-use Rattle.joined_net.proofs.RunsJoined.{start_world}
-use Rattle.joined_net.proofs.StartJoined.{given, all_fit, count_at_start, start_joined}
+use Rattle.answer_net.proofs.EndRuns.{run_ends, all_settled}
+use Rattle.answer_net.proofs.EndTables.{flag, IsSettled}
+use Rattle.whole_joined.proofs.Given.{Given}
+use Rattle.whole_joined.proofs.Joined.{Label, Joined, count, node_of, is_built}
+use Rattle.whole_joined.proofs.BesideRuns.{its_takes, its_label}
+use Rattle.whole_joined.proofs.LogLemmas.{has_begun-append}
+use Rattle.whole_joined.proofs.RunsJoined.{Runs, runs_at_start, runs_next, start_world}
+use Rattle.whole_joined.proofs.ShareBegins.{names_known}
+use Rattle.whole_joined.proofs.StartJoined.{given, all_fit, count_at_start}
 
 -- a command of this number that waits
 abbrev pub told : ℕ → Msg → ℕ
@@ -78,8 +83,17 @@ noted_new op xs ys h =
     more false false false true k = refl
     more false false false false k = cc
 
+-- a share has names
+abbrev NamesSome : Order → Type 0
+NamesSome (order.Share members filter) = 1 ≤ length members
+NamesSome what = Unit {0}
+
+names_some : {R : Type 0} (f : Semantics R) (g : Given) (what : Order) → is_built f g what ≡ true → NamesSome what
+names_some f g (order.Share members filter) built = let two = (Decides-ltb 1 (length members)).0 (and_l (nat_lt 1 (length members)) (are_unlike members) (and_r (is_whole f.kind filter) _ built)) in omega (arith, two)
+names_some f g what built = tt
+
 -- The controller begins or answers each command that it takes.
-module _ (g : Given) (log : List Note) (c : ControllerState) (op : ℕ) (open_is : finite.contains_key c.operations op ≡ is_busy op log) where
+module _ (g : Given) (log : List Note) (c : ControllerState) (op : ℕ) (open_is : finite.contains_key c.operations op ≡ keeps_off g.names g.orders op log) where
   abbrev Noted : Step → Type 0
   Noted did = is_noted op (log ++ did.notes) ≡ true
 
@@ -109,28 +123,35 @@ module _ (g : Given) (log : List Note) (c : ControllerState) (op : ℕ) (open_is
   none_of None q e = refl
   none_of (Some u) q e = cc
 
-  begins_noted : (what : Order) → NotSharing what → refusal c what ≡ None → Noted (begins c op what)
-  begins_noted (order.Move source destination filter keep) built none =
+  shares_noted : (filter : Filter) (members : List ℕ) → 1 ≤ length members → Noted (begins_share c op filter members)
+  shares_noted filter [] some = absurd (omega (arith, some))
+  shares_noted filter (home ∷ others) some = noted_new op log (begins_share c op filter (home ∷ others)).notes (let own = self in rw own refl)
+
+  begins_noted : (what : Order) → NamesSome what → refusal c what ≡ None → Noted (begins c op what)
+  begins_noted (order.Move source destination filter keep) some none =
       let known = both_known source destination (is_some (place_of c.names source)) (is_some (place_of c.names destination)) (none_of (unknown_name c (order.Move source destination filter keep)) (overlap c (order.Move source destination filter keep)) none) in
       between_noted filter keep (place_of c.names source) (place_of c.names destination) known.0 known.1
-  begins_noted (order.Copy source destination filter) built none =
+  begins_noted (order.Copy source destination filter) some none =
       let known = both_known source destination (is_some (place_of c.names source)) (is_some (place_of c.names destination)) (none_of (unknown_name c (order.Copy source destination filter)) (overlap c (order.Copy source destination filter)) none) in
       copies_noted filter (place_of c.names source) (place_of c.names destination) known.0 known.1
-  begins_noted (order.Share members filter) built none = absurd built
+  begins_noted (order.Share members filter) some none =
+      let known = names_known c.names members (none_of (unknown_name c (order.Share members filter)) (overlap c (order.Share members filter)) none) in
+      let many = known.many in
+      shares_noted filter (filter_map (place_of c.names) members) (omega (arith, many, some))
 
-  decided_noted : (what : Order) → NotSharing what → (o : Option Answer) → refusal c what ≡ o → Noted (decided c op what o)
-  decided_noted what built (Some a) is = answered_noted a
-  decided_noted what built None is = begins_noted what built is
+  decided_noted : (what : Order) → NamesSome what → (o : Option Answer) → refusal c what ≡ o → Noted (decided c op what o)
+  decided_noted what some (Some a) is = answered_noted a
+  decided_noted what some None is = begins_noted what some is
 
-  asked_noted : (what : Order) → NotSharing what → Noted (on_asked c (record { op = op; what = what }))
-  asked_noted what built = elim (finite.contains_key c.operations op) as (λ b. finite.contains_key c.operations op ≡ b → Noted (if b then still c else decided c op what (refusal c what))) [
-    | true ↦ λ on. (let busy : is_busy op log ≡ true = sym open_is ∙ on in let more = noted_more op log [] in let was = busy_noted (began op log) (has_answered op log) busy in flagged (is_noted op (log ++ [])) (omega (arith, more, ap flag was)))
-    | false ↦ λ off. decided_noted what built (refusal c what) refl
+  asked_noted : (what : Order) → NamesSome what → Noted (on_asked c (record { op = op; what = what }))
+  asked_noted what some = elim (finite.contains_key c.operations op) as (λ b. finite.contains_key c.operations op ≡ b → Noted (if b then still c else decided c op what (refusal c what))) [
+    | true ↦ λ on. (let more = noted_more op log [] in let was = kept_noted (began op log) (is_share (g.orders op)) (has_answered op log) (sym open_is ∙ on) in flagged (is_noted op (log ++ [])) (omega (arith, more, ap flag was)))
+    | false ↦ λ off. decided_noted what some (refusal c what) refl
   ] refl
     where
-      busy_noted : (a b : Bool) → a && not b ≡ true → a || b ≡ true
-      busy_noted true b e = refl
-      busy_noted false b e = cc
+      kept_noted : (a s b : Bool) → a && (s || not b) ≡ true → a || b ≡ true
+      kept_noted true s b e = refl
+      kept_noted false s b e = cc
 
       flagged : (b : Bool) → 1 ≤ flag b → b ≡ true
       flagged true h = refl
@@ -138,10 +159,10 @@ module _ (g : Given) (log : List Note) (c : ControllerState) (op : ℕ) (open_is
 
 -- What each node's step does with a command.
 module _ {R : Type 0} (f : Semantics R) (g : Given) (op : ℕ) where
-  controller_told : (log : List Note) (c : ControllerState) → ((k : ℕ) → finite.contains_key c.operations k ≡ is_busy k log) → (p : ℕ) (m : Msg) → Label f g p 1 m → told op m ≤ flag (is_noted op (log ++ (controller_step c p m).notes))
+  controller_told : (log : List Note) (c : ControllerState) → ((k : ℕ) → finite.contains_key c.operations k ≡ keeps_off g.names g.orders k log) → (p : ℕ) (m : Msg) → Label f g p 1 m → told op m ≤ flag (is_noted op (log ++ (controller_step c p m).notes))
   controller_told log c open_is p (msg.InCommand k) label = let never = label.0.1 in cc
   controller_told log c open_is p (msg.Asked k) label =
-      let noted = asked_noted g log c k.op (open_is k.op) k.what (not_sharing f g k.what label.2.built) in
+      let noted = asked_noted g log c k.op (open_is k.op) k.what (names_some f g k.what label.2.built) in
       let from : (p == 0) ≡ true = (Decides-eqb p 0).1 label.0 in
       let all : is_noted k.op (log ++ (controller_step c p (msg.Asked k)).notes) ≡ true = ap (λ b. is_noted k.op (log ++ (if b then on_asked c k else still c).notes)) from ∙ noted in
       elim (k.op == op) as (λ b. (k.op == op) ≡ b → (if b then 1 else 0) ≤ flag (is_noted op (log ++ (controller_step c p (msg.Asked k)).notes))) [
@@ -164,12 +185,12 @@ module _ {R : Type 0} (f : Semantics R) (g : Given) (op : ℕ) where
 abbrev pub Told : List Msg → {F R : Type 0} → Network (Node F R) Msg Note → Type 0
 Told items w = (op : ℕ) → 1 ≤ weigh (told op) items → 1 ≤ total (told op) w + flag (is_noted op w.log)
 
-module _ {F R : Type 0} (f : Semantics R) (laws : FunctionLaws f) (g : Given) (fitting : (number : ℕ) → Fits g.site (g.packet number)) (n : ℕ) (count_is : n ≡ count f g + 2) (items : List Msg) where
+module _ {F R : Type 0} (f : Semantics R) (g : Given) (n : ℕ) (count_is : n ≡ count f g + 2) (items : List Msg) where
   abbrev step : Node F R → ℕ → Msg → Stepped (Node F R) Msg Note
   step = node_step f
 
-  told_after : (w : Network (Node F R) Msg Note) (k p : ℕ) (m : Msg) (rest : List Msg) (j : Joined f g n w) (takes : Takes step n w k p (node_of j.nodes k) m rest) → (is_input (at k p) ≡ true → node_ready (node_of j.nodes k) m ≡ true) → Busy g w → Told items w → Told items (taken step w (at k p))
-  told_after w k p m rest j takes ready b h op some = by_node k takes (label f laws g fitting n count_is w k p m rest j takes ready)
+  told_after : (w : Network (Node F R) Msg Note) (k p : ℕ) (m : Msg) (rest : List Msg) (j : Joined f g n w) (takes : Takes step n w k p (node_of j.nodes k) m rest) → Label f g p k m → Busy g w → Told items w → Told items (taken step w (at k p))
+  told_after w k p m rest j takes labelled b h op some = by_node k takes labelled
     where
       -- what is left, by what the step sends and notes
       left : (k : ℕ) (takes : Takes step n w k p (node_of j.nodes k) m rest) → told op m ≤ sent_weight (told op) n k (step (node_of j.nodes k) p m).sends + flag (is_noted op (w.log ++ (step (node_of j.nodes k) p m).notes)) → 1 ≤ total (told op) (taken step w (at k p)) + flag (is_noted op (taken step w (at k p)).log)
@@ -187,7 +208,7 @@ module _ {F R : Type 0} (f : Semantics R) (laws : FunctionLaws f) (g : Given) (f
           let sent = switch_told f g op n reach j.nodes.switch p m labelled in
           left 0 takes (omega (arith, sent))
       by_node (suc zero) takes labelled =
-          let noted = controller_told f g op w.log j.nodes.controller (busy_is f g n count_is w j b) p m labelled in
+          let noted = controller_told f g op w.log j.nodes.controller (keeps_is f g n count_is w j b) p m labelled in
           left 1 takes (omega (arith, noted))
       by_node (suc (suc i)) takes labelled =
           let none = instance_told f g op p (suc (suc i)) m (omega arith) labelled in
@@ -227,18 +248,18 @@ module _ (F : Type 0) {R : Type 0} (f : Semantics R) (laws : FunctionLaws f) (al
   abbrev g : Given
   g = given f c items is
 
-  told_next : (w : Network (Node F R) Msg Note) (k : Choice) → Taking node_ready (node_step f) nodes w k → Joined f g nodes w → Busy g w → Told items w → Told items (taken (node_step f) w k)
-  told_next w k t j b h =
-      let same : t.node ≡ node_of j.nodes k.node = sym (t.takes.node_is t.node) ∙ j.nodes_are k.node t.takes.receiver t.node in
-      told_after f laws g (all_fit f c items is) nodes refl items w k.node k.port t.message t.rest j (subst (λ y. Takes (node_step f) nodes w k.node k.port y t.message t.rest) same t.takes) (subst (λ y. is_input k ≡ true → node_ready y t.message ≡ true) same t.was_ready) b h
-
   told_at_start : Told items start
   told_at_start op some = let all = opening_weight Note (first_nodes {F = F} {R = R} alloc c) items (told op) in omega (arith, all, some)
 
   run_told : (cs : List Choice) → IsRun node_ready (node_step f) cs start → Told items (run (node_step f) cs start)
-  run_told cs run_is = (run_induction node_ready (node_step f) nodes (λ _ w. Joined f g nodes w × Busy g w × Told items w) start
-      (λ _ w k next h. (joined_next f laws g (all_fit f c items is) nodes refl w k next.taking h.0, busy_next f g nodes refl w k next.taking h.0 h.1, told_next w k next.taking h.0 h.1 h.2))
-      (start_world F f laws alloc c items is) (count_at_start F f alloc c items is) (start_joined F f alloc c items is, start_busy F f laws alloc c items is, told_at_start) cs run_is).2
+  run_told cs run_is = (run_induction node_ready (node_step f) nodes (λ _ w. Runs F f laws alloc c items is w × Busy g w × Told items w) start
+      (λ _ w k next h. (runs_next F f laws alloc c items is w k next.taking h.0, busy_next f g nodes refl w k next.taking h.0.joined h.1, told_next w k next.taking h.0 h.1 h.2))
+      (start_world F f laws alloc c items is) (count_at_start F f alloc c items is) (runs_at_start F f laws alloc c items is, start_busy F f laws alloc c items is, told_at_start) cs run_is).2
+    where
+      told_next : (w : Network (Node F R) Msg Note) (k : Choice) → Taking node_ready (node_step f) nodes w k → Runs F f laws alloc c items is w → Busy g w → Told items w → Told items (taken (node_step f) w k)
+      told_next w k t r b h =
+          let fitting = all_fit f c items is in
+          told_after f g nodes refl items w k.node k.port t.message t.rest r.joined (its_takes f laws g fitting nodes refl w k t r.joined r.beside) (its_label f laws g fitting nodes refl w k t r.joined r.beside) b h
 
   -- in a complete run each command is answered, if none stands behind the input's end
   pub each_answered : ends_last items ≡ true → (cs : List Choice) → IsRun node_ready (node_step f) cs start → is_done node_ended (run (node_step f) cs start) ≡ true → (op : ℕ) (what : Order) → order_of items op ≡ Some what → length (answers_of op (run (node_step f) cs start).log) ≡ 1
@@ -252,12 +273,22 @@ module _ (F : Type 0) {R : Type 0} (f : Semantics R) (laws : FunctionLaws f) (al
       let waits = run_told cs run_is op (listed op items what known) in
       let nothing = done_weight node_ended w done (told op) in
       let same : ends.controller ≡ j.nodes.controller = same_controller {F = F} {R = R} ends.controller j.nodes.controller (sym (ends.controller_is (Controller ends.controller)) ∙ j.nodes_are 1 (omega arith) (Controller ends.controller)) in
-      let closed : is_busy op w.log ≡ false = sym (busy_is f g nodes refl w j busy.1 op) ∙ ap (λ x. is_some (finite.get x.operations op)) (sym same) ∙ ap is_some (none_open w (omega (arith, count)) done ends op) in
-      let few = (busy.1.is.answered op).answered_once in
-      let some = some_answers op w.log (answered (began op w.log) (has_answered op w.log) closed (omega (arith, waits, nothing))) in
-      omega (arith, few, some)
+      let settled : IsSettled (finite.get j.nodes.controller.operations op) = subst (λ x. IsSettled (finite.get x.operations op)) same (all_settled w (omega (arith, count)) done ends op) in
+      by_settled w j busy.1 (omega (arith, waits, nothing)) (finite.get j.nodes.controller.operations op) refl settled
     where
-      answered : (a b : Bool) → a && not b ≡ false → 1 ≤ flag (a || b) → b ≡ true
-      answered a true e h = refl
-      answered true false e h = cc
-      answered false false e h = absurd (omega (arith, h))
+      answered : (a s b : Bool) → a && (s || not b) ≡ false → 1 ≤ flag (a || b) → b ≡ true
+      answered a s true e h = refl
+      answered true true false e h = cc
+      answered true false false e h = cc
+      answered false s false e h = absurd (omega (arith, h))
+
+      -- a command whose operation isn't open was answered, and so was a share that is set up
+      by_settled : (w : Network (Node F R) Msg Note) (j : Joined f g nodes w) (b : Busy g w) → 1 ≤ flag (is_noted op w.log) → (o : Option Operation) → finite.get j.nodes.controller.operations op ≡ o → IsSettled o → length (answers_of op w.log) ≡ 1
+      by_settled w j b noted None is settled =
+          let few = (b.is.answered op).answered_once in
+          let off : keeps_off g.names g.orders op w.log ≡ false = sym (keeps_is f g nodes refl w j b op) ∙ ap is_some is in
+          let some = some_answers op w.log (answered (began op w.log) (is_share (g.orders op)) (has_answered op w.log) off noted) in
+          omega (arith, few, some)
+      by_settled w j b noted (Some (Share s)) is settled = ap length (told_is f g nodes refl w j b op (Share s) is ∙ ap (λ v. if v then Done ∷ [] else []) settled)
+      by_settled w j b noted (Some (Move m)) is settled = absurd settled
+      by_settled w j b noted (Some (Copy y)) is settled = absurd settled

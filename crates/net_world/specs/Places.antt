@@ -1,8 +1,8 @@
 -- Where the packets of a unit may be processed: at the instance that owns it by the rules of the switch; as long as a move of the unit is
 -- under way, at the move's two instances; and at members of a share that has the unit. And which units a plain move handed on. Instances go by
 -- their numbers. This project's own.
-use Rattle.std.specs.Prelude.{◌≡◌, ℕ, ◌+◌, ◌%◌, ◌==◌, Bool, true, false, not, ◌&&◌, ◌||◌, if◌then◌else◌, Option, None, Some, unwrap_or, option_or, option_map, List, [], ◌∷◌, ◌++◌, length, slice_index_or}
-use Rattle.std.specs.Option.{option_map_or}
+use Rattle.std.specs.Prelude.{◌≡◌, ℕ, ◌+◌, ◌%◌, ◌==◌, Bool, true, false, not, ◌&&◌, ◌||◌, if◌then◌else◌, Option, None, Some, unwrap_or, option_map, List, [], ◌∷◌, ◌++◌, length, slice_index_or}
+use Rattle.std.specs.Option.{option_map_or, option_or}
 use Rattle.flow_filter.specs.declared.filter.Filter.{Filter}
 use Rattle.flow_filter.specs.declared.packet.Packet.{Packet}
 use Rattle.flow_filter.specs.Flow.{flow_of}
@@ -106,7 +106,7 @@ module _ (config : Config) (items : List Msg) (kind : Kind) where
   -- where a packet goes by the rules of the switch: to its member of the share that has its unit, and else to the owner
   abbrev pub goes_to : ℕ → List Note → Option ℕ
   goes_to number log =
-      option_map_or (λ names. member_for config names (packet_of items number)) (members config items (unit_numbered number) log) (Some (owner config items (unit_numbered number) log))
+      option_map_or (λ names. member_for config items names (packet_of items number)) (members config items (unit_numbered number) log) (Some (owner config items (unit_numbered number) log))
 
   -- a packet may be processed at the instance
   pub data IsPlace (number : ℕ) (log : List Note) (i : ℕ) : Type 0 where
@@ -121,4 +121,4 @@ module _ (config : Config) (items : List Msg) (kind : Kind) where
 
   -- each packet that came when a share had its unit was processed at its member
   abbrev pub AreAtMembers : List Note → Type 0
-  AreAtMembers log = (before between after : List Note) (number instance : ℕ) (output : Output) (names : List (List ℕ)) → log ≡ before ++ Arrived number ∷ (between ++ Processed number instance output ∷ after) → members config items (unit_numbered number) before ≡ Some names → member_for config names (packet_of items number) ≡ Some instance
+  AreAtMembers log = (before between after : List Note) (number instance : ℕ) (output : Output) (names : List (List ℕ)) → log ≡ before ++ Arrived number ∷ (between ++ Processed number instance output ∷ after) → members config items (unit_numbered number) before ≡ Some names → member_for config items names (packet_of items number) ≡ Some instance

@@ -17,15 +17,16 @@ use Rattle.actor_net.proofs.EnabledChoices.{at}
 use Rattle.actor_net.proofs.OpeningWorlds.{opening_waiting, opening_weight}
 use Rattle.actor_net.proofs.RunInduction.{Taking}
 use Rattle.actor_net.proofs.StepOutcome.{Takes}
-use Rattle.actor_net.proofs.WeightLaws.{Each, weigh}
+use Rattle.actor_net.proofs.WaitingMessages.{less_first}
+use Rattle.actor_net.proofs.WeightLaws.{Each, EachSent, weigh}
 use Rattle.net_world.specs.declared.config.Config.{Config}
 use Rattle.net_world.specs.declared.node.Node.{Node}
 use Rattle.net_world.specs.Input.{IsInput}
 use Rattle.net_world.specs.Nodes.{node_step, node_ready}
 use Rattle.net_world.specs.Start.{first_nodes, started}
 use Rattle.whole_joined.proofs.Given.{Given}
-use Rattle.whole_joined.proofs.Joined.{count, Label, Joined, node_of}
-use Rattle.whole_joined.proofs.JoinedSteps.{scene, step_leads, takes_at, ready_at, joined_next}
+use Rattle.whole_joined.proofs.Joined.{count, Label, Joined, node_of, IsTaken, Leads}
+use Rattle.whole_joined.proofs.JoinedSteps.{scene, is_taken, input_after, step_leads, takes_at, ready_at, joined_next}
 use Rattle.whole_joined.proofs.NodeSteps.{Wants, node_leads}
 use Rattle.whole_joined.proofs.OperationsApart.{AllApart, none_apart}
 use Rattle.whole_joined.proofs.StandbyChunks.{MayStandBy}
@@ -42,7 +43,8 @@ module _ {F R : Type 0} (f : Semantics R) (g : Given) (n : ℕ) where
     pub numbers : NumbersRise f g n w j
 
 module _ {F R : Type 0} (f : Semantics R) (laws : FunctionLaws f) (g : Given) (fitting : (number : ℕ) → Fits g.site (g.packet number)) (n : ℕ) (count_is : n ≡ count f g + 2) (w : Network (Node F R) Msg Note) (k : Choice) (t : Taking node_ready (node_step f) n w k) (j : Joined f g n w) (b : HasBeside f g n w j) where
-  its_takes : Takes (node_step f) n w k.node k.port (node_of j.nodes k.node) t.message t.rest
+  -- what the choice takes
+  pub its_takes : Takes (node_step f) n w k.node k.port (node_of j.nodes k.node) t.message t.rest
   its_takes = takes_at f g n count_is (Wants f g) (node_leads f laws g fitting n) w k t j
 
   stand : (op : ℕ) (chunks : List Chunk) → t.message ≡ msg.Standby op chunks → MayStandBy f g j.world chunks
@@ -51,8 +53,25 @@ module _ {F R : Type 0} (f : Semantics R) (laws : FunctionLaws f) (g : Given) (f
       open_may_stand f laws g n count_is (Wants f g) (node_leads f laws g fitting n) w k t j b.kept op chunks is open_so.copy open_so.there
 
   -- what the step wants
-  wants : Wants f g (scene f g n count_is (Wants f g) (node_leads f laws g fitting n) w j) t.message
+  pub wants : Wants f g (scene f g n count_is (Wants f g) (node_leads f laws g fitting n) w j) t.message
   wants = record { stand = stand; next = copies_next f g n count_is (Wants f g) (node_leads f laws g fitting n) w k t j b.numbers }
+
+  pub its_taken : IsTaken f g n (scene f g n count_is (Wants f g) (node_leads f laws g fitting n) w j) (record { node = k.node; port = k.port; message = t.message })
+  its_taken = is_taken f g n count_is (Wants f g) (node_leads f laws g fitting n) w k.node k.port t.message t.rest j its_takes (ready_at f g n count_is (Wants f g) (node_leads f laws g fitting n) w k t j)
+
+  pub its_label : Label f g k.port k.node t.message
+  its_label = its_taken.label
+
+  -- and where its step leads
+  pub its_leads : Leads f g n (scene f g n count_is (Wants f g) (node_leads f laws g fitting n) w j) (record { node = k.node; port = k.port; message = t.message }) (node_step f (node_of j.nodes k.node) k.port t.message)
+  its_leads = step_leads f g n count_is (Wants f g) (node_leads f laws g fitting n) w k.node k.port t.message t.rest j its_takes (ready_at f g n count_is (Wants f g) (node_leads f laws g fitting n) w k t j) wants
+
+  pub its_labels : EachSent (Label f g) k.node (node_step f (node_of j.nodes k.node) k.port t.message).sends
+  its_labels = its_leads.labels
+
+  -- and what it leaves of the input
+  pub its_input : waiting (taken (node_step f) w k) (at 0 0) ≡ less_first ((0 == k.node) && (0 == k.port)) (waiting w (at 0 0))
+  its_input = input_after f g n count_is (Wants f g) (node_leads f laws g fitting n) w k.node k.port t.message t.rest j its_takes (ready_at f g n count_is (Wants f g) (node_leads f laws g fitting n) w k t j)
 
   pub next_joined : Joined f g n (taken (node_step f) w k)
   next_joined = joined_next f g n count_is (Wants f g) (node_leads f laws g fitting n) w k t j wants

@@ -34,7 +34,8 @@ use Rattle.whole_joined.proofs.ShareBegins.{place_tells, names_distinct, few_pla
 use Rattle.whole_joined.proofs.ControllerScenes.{links_by, waits}
 use Rattle.whole_joined.proofs.ControllerBegins.{no_overlap, none_unknown, controller_begun, listed_begun, Order_next, Leads_to, stays_still, answered, shares_apart, moves_apart, rises, link_left, link_same, move_begins, copy_begins}
 use Rattle.whole_joined.proofs.Given.{Given, place}
-use Rattle.whole_joined.proofs.Joined.{Scene, AreShown, IsTaken, IsController, IsShare, S, A, count, shown, is_built, are_unlike, commands, came_by, asked_nums}
+use Rattle.net_world.specs.Input.{are_unlike}
+use Rattle.whole_joined.proofs.Joined.{Scene, AreShown, IsTaken, IsController, IsShare, S, A, count, shown, is_built, commands, came_by, asked_nums}
 
 module _ {F R : Type 0} (f : Semantics R) (g : Given) (n : ℕ) (x : Scene F f g) (p : ℕ) (cmd : Command) (are : AreShown f g n x) (is : IsTaken f g n x (record { node = 1; port = p; message = msg.Asked cmd })) where
   abbrev c : ControllerState

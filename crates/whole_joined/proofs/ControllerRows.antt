@@ -33,8 +33,7 @@ use Rattle.outline_net.proofs.MoveOutline.{outline_phase}
 use Rattle.outline_net.proofs.ControlOutline.{stored_after}
 use Rattle.outline_net.proofs.OperationTables.{got_insert, got_remove}
 use Rattle.whole_outline.proofs.OpenShares.{OpensAll}
-use Rattle.joined_net.proofs.UnitCounts.{times, times-append}
-use Rattle.whole_joined.proofs.UnitCounts.{times_chunks}
+use Rattle.whole_joined.proofs.UnitCounts.{times, times-append, times_chunks}
 use Rattle.whole_joined.proofs.MoveSteps.{RowKeeps, kept_in}
 use Rattle.whole_joined.proofs.ControllerScenes.{AreQuiet, sent-append}
 use Rattle.whole_joined.proofs.ControllerChanges.{AreAlike, IsKind, IsOperation, changed}

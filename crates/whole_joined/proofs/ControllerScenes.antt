@@ -25,8 +25,7 @@ use Rattle.outline_net.proofs.Outline.{is_sys}
 use Rattle.outline_net.proofs.InstanceOutline.{filter_map-put}
 use Rattle.whole_outline.proofs.WholeOutline.{outline_each, outline_all, is_sharing}
 use Rattle.whole_outline.proofs.OpenShares.{SeesAny, All_step, all_step}
-use Rattle.joined_net.proofs.LogLemmas.{done-append}
-use Rattle.whole_joined.proofs.LogLemmas.{every_same, owners_on, came_on}
+use Rattle.whole_joined.proofs.LogLemmas.{done-append, every_same, owners_on, came_on}
 use Rattle.whole_joined.proofs.Given.{Given, place}
 use Rattle.whole_joined.proofs.Joined.{Genuine, Label, Scene, Nodes, AreShown, IsTaken, IsController, IsListed, Leads, node_of, shown, S, A, by_node, commands, links_next, came_by, asked_nums, Grows}
 use Rattle.whole_joined.proofs.NextNumbers.{same_grows}

@@ -36,7 +36,7 @@ use Rattle.outline_net.proofs.CopyTurns.{is_copied, quiet_turn}
 use Rattle.outline_net.proofs.OperationTables.{NotShared, handed_is}
 use Rattle.whole_outline.proofs.OpenShares.{but_shares, share_in, Is_unseen, SeesAny, OpensAll, no_op, no_open_share, both as both_shares, joins, All_step, StepFollows}
 use Rattle.whole_outline.proofs.ControlAll.{old_follows}
-use Rattle.joined_net.proofs.UnitCounts.{times, times_is_has}
+use Rattle.whole_joined.proofs.UnitCounts.{times, times_is_has}
 use Rattle.whole_joined.proofs.MoveReadings.{one_copy_all, one_copy_back_all, event_open_all}
 use Rattle.whole_joined.proofs.ClosingMoves.{closed_empty}
 use Rattle.whole_joined.proofs.MoveSteps.{RowKeeps, row_keeps, brought, kept_in}

@@ -18,7 +18,7 @@ use Rattle.move_op.specs.Move.{MovePlan}
 use Rattle.copy_share.specs.Copy.{CopyPlan}
 use Rattle.copy_share.specs.Share.{SharePlan}
 use Rattle.ctrl_node.specs.Controller.{place_of}
-use Rattle.net_world.specs.Places.{owner_after, loose_after, handed_on, is_at}
+use Rattle.net_world.specs.Places.{owner_after, loose_after, handed_on, is_home}
 
 -- what a run is given: the site, the packet of each number, the instances' names, the order under each number, and who owns each
 -- unit at first
@@ -82,12 +82,8 @@ abbrev pub loose_by : Given → units.Unit → List ℕ → Bool
 loose_by g u ops = loose_after g.names g.orders u (g.first u) ops
 
 -- whether a share that the switch has installed takes the unit from this instance: from its home alone
-abbrev pub is_home : Given → List (List ℕ) → ℕ → Bool
-is_home g [] i = false
-is_home g (name ∷ names) i = is_at (place g name) i
-
 abbrev pub diverts : Given → units.Unit → Option Order → ℕ → Bool
-diverts g u (Some (order.Share members filter)) i = takes filter u && is_home g members i
+diverts g u (Some (order.Share members filter)) i = takes filter u && is_home g.names g.orders members i
 diverts g u what i = false
 
 abbrev pub diverted_after : Given → units.Unit → ℕ → List ℕ → Bool

@@ -25,7 +25,7 @@ use Rattle.net_world.specs.Log.{installed}
 use Rattle.net_world.specs.Places.{handed_on, hands_on_plain}
 use Rattle.outline_net.proofs.ControlOutline.{Sees}
 use Rattle.outline_net.proofs.FiltersApart.{is_whole, unit_fits, takes_same, takes_whole}
-use Rattle.joined_net.proofs.OwnerLemmas.{owner_after-append, loose_after-append, installed-append}
+use Rattle.whole_joined.proofs.OwnerLemmas.{owner_after-append, loose_after-append, installed-append}
 use Rattle.whole_joined.proofs.Given.{Given, place, IsPlan, IsInstall, IsDivert, owner_by, loose_by, diverts, is_diverted, target_by}
 use Rattle.whole_joined.proofs.LogLemmas.{diverted_after-append}
 use Rattle.whole_outline.proofs.OpenShares.{but_shares}

@@ -33,9 +33,8 @@ use Rattle.outline_net.proofs.FiltersApart.{is_whole}
 use Rattle.outline_net.proofs.Outline.{number, rule_of}
 use Rattle.outline_net.proofs.MoveOutline.{is_done}
 use Rattle.outline_net.proofs.InstanceOutline.{IsInstance, held_genuine}
-use Rattle.joined_net.proofs.InstanceNotes.{AreOwn, IsOwn}
-use Rattle.joined_net.proofs.InstanceKeeps.{sound_after, sound_without, sound_newest}
-use Rattle.whole_joined.proofs.InstanceKeeps.{valid_chunks, chunks_good}
+use Rattle.whole_joined.proofs.InstanceNotes.{AreOwn, IsOwn}
+use Rattle.whole_joined.proofs.InstanceKeeps.{sound_after, sound_without, sound_newest, valid_chunks, chunks_good}
 use Rattle.whole_joined.proofs.InstanceSends.{stream_sends, shared_sends}
 use Rattle.whole_joined.proofs.Given.{Given, place}
 use Rattle.whole_joined.proofs.Joined.{Genuine, AreGoodChunks, IsGoodPiece, Label}

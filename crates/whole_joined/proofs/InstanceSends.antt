@@ -27,7 +27,7 @@ use Rattle.actor_net.proofs.WeightLaws.{EachSent}
 use Rattle.unit_machine.proofs.Labels.{Each}
 use Rattle.unit_machine.proofs.Real.{Chunks}
 use Rattle.outline_net.proofs.StateOutline.{chunk_of, AreValid, entries_made, valid_take, valid_drop, map-take, map-drop, all_each}
-use Rattle.joined_net.proofs.InstanceKeeps.{unit_is_fit}
+use Rattle.whole_joined.proofs.InstanceKeeps.{unit_is_fit}
 use Rattle.whole_joined.proofs.Given.{Given}
 use Rattle.whole_joined.proofs.Joined.{IsGoodChunk, AreGoodChunks, IsGoodPiece, Label}
 

@@ -39,12 +39,9 @@ use Rattle.whole_outline.proofs.MemberOutline.{MemberFollows, shared_follows, ge
 use Rattle.whole_outline.proofs.MemberTables.{AreBothSound, shared_sound, get_sound, sync_sound, standby_sound, step_sound}
 use Rattle.whole_outline.proofs.StandbyKept.{leaves_standby, whole_follows, Keeps, standby_keeps, stop_keeps, get_all_keeps, put_all_keeps}
 use Rattle.whole_outline.proofs.InstanceWorlds.{ShowsAt, StepsTo, KeepsTo, old_steps, new_steps, keeps_steps}
-use Rattle.joined_net.proofs.LogLemmas.{done-append}
-use Rattle.joined_net.proofs.InstanceNotes.{AreOwn, none_arrived, none_installed}
-use Rattle.joined_net.proofs.InstanceKeeps.{has_records}
-use Rattle.whole_joined.proofs.LogLemmas.{by_node-append, every_same, owners_on, came_on}
-use Rattle.whole_joined.proofs.InstanceNotes.{done_own}
-use Rattle.whole_joined.proofs.InstanceKeeps.{valid_chunks, chunks_good}
+use Rattle.whole_joined.proofs.LogLemmas.{done-append, by_node-append, every_same, owners_on, came_on}
+use Rattle.whole_joined.proofs.InstanceNotes.{AreOwn, none_arrived, none_installed, done_own}
+use Rattle.whole_joined.proofs.InstanceKeeps.{has_records, valid_chunks, chunks_good}
 use Rattle.whole_joined.proofs.InstanceRows.{IsRight, Leaves, sound_part, carry_leaves, pass_leaves, shared_leaves, fence_leaves, stop_leaves, enable_leaves, stream_leaves, delete_leaves, put_leaves, restore_leaves}
 use Rattle.whole_joined.proofs.CopyRows.{get_leaves, get_all_leaves, standby_leaves, put_all_leaves, sync_leaves}
 use Rattle.whole_joined.proofs.StandbyChunks.{MayStandBy, same_may_keep, chunks_may_keep}

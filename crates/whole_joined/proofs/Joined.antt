@@ -56,6 +56,7 @@ use Rattle.whole_net.proofs.WhereAll.{Came}
 use Rattle.unit_machine.proofs.Real.{sent_for}
 use Rattle.net_world.specs.declared.node.Node.{Node}
 use Rattle.net_world.specs.declared.node.Node.TheVariants.{Switch, Controller, Instance}
+use Rattle.net_world.specs.Input.{are_unlike}
 use Rattle.net_world.specs.Log.{Done, arrived, done, installed, those}
 use Rattle.whole_joined.proofs.Given.{Given, place, IsPlan, IsCopyPlan, IsSharePlan, IsChange, target_by, diverted_in, loose_by}
 use Rattle.outline_net.proofs.FiltersApart.{is_whole, unit_fits}
@@ -92,15 +93,6 @@ is_handed m = true
 abbrev pub is_target : ℕ → Target → Bool
 is_target count (target.Instance i) = nat_lt i count
 is_target count target.Controller = true
-
--- no two names of some are alike
-abbrev pub is_unlike : List ℕ → List (List ℕ) → Bool
-is_unlike name [] = true
-is_unlike name (other ∷ names) = not (bytes_eq name other) && is_unlike name names
-
-abbrev pub are_unlike : List (List ℕ) → Bool
-are_unlike [] = true
-are_unlike (name ∷ names) = is_unlike name names && are_unlike names
 
 module _ {R : Type 0} (f : Semantics R) (g : Given) where
   abbrev pub Genuine : FullCell → Type 0

@@ -18,6 +18,7 @@ pub mod CopySends
 pub mod CopyTokens
 pub mod Given
 pub mod HandedUnits
+pub mod InputLemmas
 pub mod InstanceKeeps
 pub mod InstanceNotes
 pub mod InstanceRows
@@ -32,8 +33,11 @@ pub mod MoveSteps
 pub mod NextNumbers
 pub mod NodeSteps
 pub mod OperationsApart
+pub mod OwnerLemmas
+pub mod PlaceNotes
 pub mod RisingNumbers
 pub mod RisingRuns
+pub mod RuleChanges
 pub mod RunUnits
 pub mod RunsJoined
 pub mod ShareBegins

@@ -4,18 +4,62 @@ use Rattle.std.specs.Prelude.{if◌then◌else◌, ◌&&◌, ◌||◌}
 use Rattle.nf_function.specs.declared.unit.Unit as units
 use Rattle.nf_msgs.specs.declared.note.Note.{Note}
 use Rattle.nf_msgs.specs.declared.note.Note.TheVariants as note
+use Rattle.nf_msgs.specs.Nodes.{instance_node}
 use Rattle.nf_function.specs.Semantics.{Semantics}
 use Rattle.abstract_net.proofs.Net.{Sys, IsSys}
 use Rattle.abstract_net.proofs.Shares.{Sharing, Whole}
 use Rattle.whole_net.proofs.WhereAll.{Came, Where_all}
 use Rattle.whole_net.proofs.EveryAll.{Every_all}
-use Rattle.net_world.specs.Log.{Done, arrived, installed, those}
+use Rattle.net_world.specs.Log.{Done, arrived, done, has_begun, installed, those}
 use Rattle.net_world.specs.Places.{handed_on, owner_after}
 use Rattle.outline_net.proofs.FiltersApart.{unit_fits}
-use Rattle.joined_net.proofs.OwnerLemmas.{installed_same}
-use Rattle.joined_net.proofs.LogLemmas.{arrived-append}
+use Rattle.whole_joined.proofs.OwnerLemmas.{installed_same}
 use Rattle.whole_joined.proofs.Given.{Given, loose_by, diverts, diverted_after, is_diverted, diverted_in, target_by}
 use Rattle.whole_joined.proofs.Joined.{Scene, AreShown, by_node, came_by, is_of}
+
+pub arrived-append : (xs ys : List Note) → arrived (xs ++ ys) ≡ arrived xs ++ arrived ys
+arrived-append [] ys = refl
+arrived-append (note.Arrived number ∷ xs) ys = ap (λ v. number ∷ v) (arrived-append xs ys)
+arrived-append (note.Processed number instance output ∷ xs) ys = arrived-append xs ys
+arrived-append (note.Begun op ∷ xs) ys = arrived-append xs ys
+arrived-append (note.Exported instance op us ∷ xs) ys = arrived-append xs ys
+arrived-append (note.Imported instance op us ∷ xs) ys = arrived-append xs ys
+arrived-append (note.Kept instance op us ∷ xs) ys = arrived-append xs ys
+arrived-append (note.Installed op ∷ xs) ys = arrived-append xs ys
+arrived-append (note.Answered op answer ∷ xs) ys = arrived-append xs ys
+
+pub done-append : (xs ys : List Note) → done (xs ++ ys) ≡ done xs ++ done ys
+done-append [] ys = refl
+done-append (note.Arrived number ∷ xs) ys = done-append xs ys
+done-append (note.Processed number instance output ∷ xs) ys = ap (λ v. (record { number = number; node = instance_node instance; output = output }) ∷ v) (done-append xs ys)
+done-append (note.Begun op ∷ xs) ys = done-append xs ys
+done-append (note.Exported instance op us ∷ xs) ys = done-append xs ys
+done-append (note.Imported instance op us ∷ xs) ys = done-append xs ys
+done-append (note.Kept instance op us ∷ xs) ys = done-append xs ys
+done-append (note.Installed op ∷ xs) ys = done-append xs ys
+done-append (note.Answered op answer ∷ xs) ys = done-append xs ys
+
+or_assoc : (a b c : Bool) → a || (b || c) ≡ (a || b) || c
+or_assoc true b c = refl
+or_assoc false b c = refl
+
+pub has_begun-append : (these : ℕ → Bool) (xs ys : List Note) → has_begun these (xs ++ ys) ≡ has_begun these xs || has_begun these ys
+has_begun-append these [] ys = refl
+has_begun-append these (note.Arrived number ∷ xs) ys = has_begun-append these xs ys
+has_begun-append these (note.Processed number instance output ∷ xs) ys = has_begun-append these xs ys
+has_begun-append these (note.Begun op ∷ xs) ys = ap (λ v. these op || v) (has_begun-append these xs ys) ∙ or_assoc (these op) (has_begun these xs) (has_begun these ys)
+has_begun-append these (note.Exported instance op us ∷ xs) ys = has_begun-append these xs ys
+has_begun-append these (note.Imported instance op us ∷ xs) ys = has_begun-append these xs ys
+has_begun-append these (note.Kept instance op us ∷ xs) ys = has_begun-append these xs ys
+has_begun-append these (note.Installed op ∷ xs) ys = has_begun-append these xs ys
+has_begun-append these (note.Answered op answer ∷ xs) ys = has_begun-append these xs ys
+
+pub those-append : (mine : ℕ → Bool) (xs ys : List ℕ) → those mine (xs ++ ys) ≡ those mine xs ++ those mine ys
+those-append mine [] ys = refl
+those-append mine (x ∷ xs) ys = elim (mine x) as (λ b. (if b then x ∷ those mine (xs ++ ys) else those mine (xs ++ ys)) ≡ (if b then x ∷ those mine xs else those mine xs) ++ those mine ys) [
+  | true ↦ ap (λ v. x ∷ v) (those-append mine xs ys)
+  | false ↦ those-append mine xs ys
+]
 
 pub by_node-append : {R : Type 0} (f : Semantics R) (g : Given) (xs ys : List Done) → by_node f g (xs ++ ys) ≡ by_node f g xs ++ by_node f g ys
 by_node-append f g [] ys = refl
@@ -28,10 +72,6 @@ every_same S A laws w came came' same h = record {
   unit = λ u. subst (λ k. Where_all S A laws u w k) (same u) (h.unit u);
   fronts = h.fronts;
 }
-
-or_assoc : (a b c : Bool) → a || (b || c) ≡ (a || b) || c
-or_assoc true b c = refl
-or_assoc false b c = refl
 
 -- Whether a share has a unit, by a log that goes on.
 module _ (g : Given) where

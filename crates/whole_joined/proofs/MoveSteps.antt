@@ -25,7 +25,7 @@ use Rattle.outline_net.proofs.InstanceOutline.{filter_map-put}
 use Rattle.outline_net.proofs.MoveOutline.{IsRefusing, is_done}
 use Rattle.whole_joined.proofs.Given.{Given, IsPlan}
 use Rattle.whole_joined.proofs.Joined.{Genuine, IsMove, IsGoodChunk, AreGoodChunks, IsGoodPiece, AreFree, HasPieces, Label, count}
-use Rattle.joined_net.proofs.UnitCounts.{times, times-append, distinct_from_times}
+use Rattle.whole_joined.proofs.UnitCounts.{times, times-append, distinct_from_times}
 
 -- the chunks that a message brings back
 abbrev pub brought : Msg → List Chunk

@@ -27,7 +27,7 @@ use Rattle.abstract_net.proofs.Shares.{Any, Old, New, Want_share, S_asked, Share
 use Rattle.outline_net.proofs.Outline.{want_of}
 use Rattle.whole_outline.proofs.WholeOutline.{want_share_of, asked_of}
 use Rattle.whole_outline.proofs.AskedShare.{is_wanted}
-use Rattle.joined_net.proofs.SwitchLemmas.{want_num}
+use Rattle.whole_joined.proofs.SwitchLemmas.{want_num}
 use Rattle.whole_joined.proofs.Given.{Given, place}
 use Rattle.whole_joined.proofs.Joined.{Label, shown, commands, asked_nums, Grows}
 use Rattle.whole_joined.proofs.JoinedSteps.{label}

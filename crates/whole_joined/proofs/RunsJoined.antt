@@ -45,10 +45,10 @@ module _ (F : Type 0) {R : Type 0} (f : Semantics R) (laws : FunctionLaws f) (al
     pub joined : Joined f g n w
     pub beside : HasBeside f g n w joined
 
-  runs_at_start : Runs (started alloc c items)
+  pub runs_at_start : Runs (started alloc c items)
   runs_at_start = record { joined = start_joined F f alloc c items is; beside = beside_at_start F f alloc c items is }
 
-  runs_next : (w : Network (Node F R) Msg Note) (k : Choice) → Taking node_ready (node_step f) n w k → Runs w → Runs (taken (node_step f) w k)
+  pub runs_next : (w : Network (Node F R) Msg Note) (k : Choice) → Taking node_ready (node_step f) n w k → Runs w → Runs (taken (node_step f) w k)
   runs_next w k t r = record {
     joined = next_joined f laws g (all_fit f c items is) n refl w k t r.joined r.beside;
     beside = beside_next f laws g (all_fit f c items is) n refl w k t r.joined r.beside;

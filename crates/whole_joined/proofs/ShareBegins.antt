@@ -11,7 +11,7 @@ use Rattle.ctrl_node.specs.Controller.{place_of}
 use Rattle.unit_machine.proofs.Labels.{Each}
 use Rattle.outline_net.proofs.FiltersApart.{and_l, and_r}
 use Rattle.whole_outline.proofs.WholeOutline.{with_member, members_of}
-use Rattle.whole_joined.proofs.Joined.{is_unlike, are_unlike}
+use Rattle.net_world.specs.Input.{is_unlike, are_unlike}
 
 -- a name has one place, and two names have two
 pub place_below : (names : List (List ℕ)) (name : List ℕ) (i : ℕ) → place_of names name ≡ Some i → nat_lt i (length names) ≡ true

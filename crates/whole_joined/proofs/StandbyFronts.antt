@@ -27,10 +27,9 @@ use Rattle.net_world.specs.declared.node.Node.{Node}
 use Rattle.net_world.specs.Nodes.{node_step, node_ready}
 use Rattle.net_world.specs.Log.{done}
 use Rattle.outline_net.proofs.Outline.{entries, is_sys}
-use Rattle.joined_net.proofs.LogLemmas.{done-append}
+use Rattle.whole_joined.proofs.LogLemmas.{done-append, by_node-append}
 use Rattle.whole_joined.proofs.CopyAnswers.{is_uncopied}
 use Rattle.whole_joined.proofs.CopySends.{Turn_so, controller_sent}
-use Rattle.whole_joined.proofs.LogLemmas.{by_node-append}
 use Rattle.whole_joined.proofs.StandbyChunks.{AreFronted, AreUnshared, MayStandBy, none_fronted, fronted_later}
 use Rattle.whole_joined.proofs.Given.{Given}
 use Rattle.whole_joined.proofs.Joined.{S, A, by_node, count, shown, node_of, Label, Scene, AreShown, IsTaken, Leads, Joined}

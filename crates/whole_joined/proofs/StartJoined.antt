@@ -41,7 +41,7 @@ use Rattle.nf_msgs.specs.declared.msg.Msg.TheVariants as msg
 use Rattle.nf_msgs.specs.Nodes.{instance_node}
 use Rattle.unit_machine.proofs.Labels.{Each}
 use Rattle.net_world.specs.declared.config.Config.{Config}
-use Rattle.net_world.specs.Input.{is_item, packets, commands, no_packet, packet_of, order_of, IsRising, IsSteered, IsWhole, IsBuilt, IsInput}
+use Rattle.net_world.specs.Input.{is_item, packets, commands, no_packet, packet_of, order_of, IsRising, IsSteered, IsWhole, IsProper, IsInput}
 use Rattle.net_world.specs.declared.node.Node.{Node}
 use Rattle.net_world.specs.declared.node.Node.TheVariants.{Instance}
 use Rattle.nf_msgs.specs.declared.note.Note.{Note}
@@ -52,7 +52,7 @@ use Rattle.net_world.proofs.StartingLemmas.{length-first_instances}
 use Rattle.net_world.specs.Places.{first_owner}
 use Rattle.net_world.specs.Start.{first_switch, first_instance, first_instances, first_nodes, started}
 use Rattle.outline_net.proofs.FiltersApart.{is_whole, flow_fits, unit_fits, takes_whole, takes_same, whole_takes}
-use Rattle.joined_net.proofs.InputLemmas.{each_both, found_each, fits_flow, whole_is}
+use Rattle.whole_joined.proofs.InputLemmas.{each_both, found_each, fits_flow, whole_is}
 use Rattle.outline_net.proofs.StateOutline.{HasRecords, all_each}
 use Rattle.whole_outline.proofs.OpenShares.{SeesAny}
 use Rattle.whole_joined.proofs.Given.{Given, place}
@@ -108,17 +108,17 @@ module _ {R : Type 0} (f : Semantics R) (c : Config) (items : List Msg) (is : Is
   pub genuine : Each (GenuinePacket f given) (packets items)
   genuine = each_both found_packet (packets items) (found_each (λ p. p.number) 0 (packets items) is.numbers) (all_each (IsSteered c.site) (packets items) is.steered)
 
-  found_command : (k : Command) → find (λ q. q.op == k.op) (commands items) ≡ Some k → IsBuilt f.kind k.what → IsCommand f given k
+  found_command : (k : Command) → find (λ q. q.op == k.op) (commands items) ≡ Some k → IsProper f.kind k.what → IsCommand f given k
   found_command k found ok = record { known = ap (option_map (λ q. q.what)) found; built = order_is k.what ok }
     where
-      order_is : (o : Order) → IsBuilt f.kind o → is_built f given o ≡ true
+      order_is : (o : Order) → IsProper f.kind o → is_built f given o ≡ true
       order_is (order.Move source destination filter keep) h = let apart = h.0 in let whole = whole_is f.kind filter h.1 in rw (whole, apart) refl
       order_is (order.Copy source destination None) h = let apart = h.0 in rw apart refl
       order_is (order.Copy source destination (Some filter)) h = let apart = h.0 in let whole = whole_is f.kind filter (h.1 filter refl) in rw (whole, apart) refl
-      order_is (order.Share members filter) h = absurd h
+      order_is (order.Share members filter) h = let some = (Decides-ltb 1 (length members)).1 h.0.some in let unlike = h.0.unlike in let whole = whole_is f.kind filter h.1 in rw (whole, some, unlike) refl
 
   listed : Each (IsCommand f given) (commands items)
-  listed = each_both found_command (commands items) (found_each (λ k. k.op) 0 (commands items) is.ops) (all_each (λ k. IsBuilt f.kind k.what) (commands items) is.orders)
+  listed = each_both found_command (commands items) (found_each (λ k. k.op) 0 (commands items) is.ops) (all_each (λ k. IsProper f.kind k.what) (commands items) is.orders)
 
   labelled : (xs : List Msg) → Each (λ item. is_item item ≡ true) xs → Each (GenuinePacket f given) (packets xs) → Each (IsCommand f given) (commands xs) → Each (Label f given 0 0) xs
   labelled [] ok ps cs = tt

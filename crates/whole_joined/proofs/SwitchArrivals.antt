@@ -37,12 +37,10 @@ use Rattle.whole_outline.proofs.WholeOutline.{asked_of, outline_all, is_sharing,
 use Rattle.whole_outline.proofs.AskedShare.{asked_move, asked_share, asked_none, is_wanted, command_unseen}
 use Rattle.whole_outline.proofs.SwitchAll.{target_node, GoesToTarget}
 use Rattle.whole_outline.proofs.SwitchWorlds.{command_takes, packet_takes}
-use Rattle.joined_net.proofs.LogLemmas.{arrived-append, those-append}
-use Rattle.joined_net.proofs.OwnerLemmas.{unit_is_fit}
-use Rattle.joined_net.proofs.SwitchLemmas.{rising_without, want_num}
+use Rattle.whole_joined.proofs.LogLemmas.{arrived-append, those-append, diverted_in-append, every_same, owners_on, loose_on}
+use Rattle.whole_joined.proofs.OwnerLemmas.{unit_is_fit}
+use Rattle.whole_joined.proofs.SwitchLemmas.{rising_without, want_num, after, asked_nums-append, every_on, others_same, quiet, same_switch}
 use Rattle.whole_joined.proofs.Given.{Given, place, is_diverted, owner_by, diverted_in, target_by}
-use Rattle.whole_joined.proofs.LogLemmas.{diverted_in-append, every_same, owners_on, loose_on}
-use Rattle.whole_joined.proofs.SwitchLemmas.{after, asked_nums-append, every_on, others_same, quiet, same_switch}
 use Rattle.whole_joined.proofs.Joined.{Genuine, GenuinePacket, IsCommand, IsSwitch, Label, S, A, asked_nums, came_by, commands, is_of, shown, Scene, AreShown, Leads}
 use Rattle.whole_joined.proofs.NextNumbers.{same_grows}
 

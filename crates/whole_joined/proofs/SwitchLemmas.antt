@@ -1,9 +1,11 @@
 -- What the steps of the switch have in common: what stays, and a step on a message that the abstract network doesn't see.
-use Rattle.std.proofs.Common.{◌≡◌, ◌≢◌, ℕ, zero, suc, true, false, None, List, [], ◌∷◌, ◌++◌, refl, sym, ap, ◌∙◌, subst, append-nil, arith}
+use Rattle.std.proofs.Common.{◌≡◌, ◌≢◌, ℕ, zero, suc, true, false, Option, Some, None, List, [], ◌∷◌, ◌++◌, refl, sym, ap, ◌∙◌, subst, append-nil, arith}
 use Rattle.std.specs.Prelude.{if◌then◌else◌, ◌&&◌, ◌==◌}
 use Rattle.nf_function.specs.declared.unit.Unit as units
 use Rattle.nf_function.specs.Semantics.{Semantics}
 use Rattle.switch_rules.specs.Rules.{AreFilters}
+use Rattle.nf_msgs.specs.declared.command.Order.{Order}
+use Rattle.nf_msgs.specs.declared.command.Order.TheVariants as order
 use Rattle.nf_msgs.specs.declared.msg.Msg.{Msg}
 use Rattle.nf_msgs.specs.declared.msg.Msg.TheVariants as msg
 use Rattle.nf_msgs.specs.declared.note.Note.{Note}
@@ -13,18 +15,18 @@ use Rattle.actor_net.proofs.WaitingMessages.{less_first}
 use Rattle.actor_net.proofs.WeightLaws.{EachSent}
 use Rattle.unit_machine.proofs.Real.{sent_for}
 use Rattle.abstract_net.proofs.Net as net
-use Rattle.abstract_net.proofs.Waits.{Rising}
+use Rattle.abstract_net.proofs.Net.{Want}
+use Rattle.abstract_net.proofs.Waits.{Rising, rising_less}
 use Rattle.abstract_net.proofs.Shares as shares
 use Rattle.abstract_net.proofs.Shares.{Any, Old, New, Whole}
 use Rattle.whole_net.proofs.EveryAll.{Every_all}
 use Rattle.net_world.specs.declared.node.Node.TheVariants.{Switch}
 use Rattle.net_world.specs.Log.{done, installed}
 use Rattle.outline_net.proofs.FiltersApart.{unit_fits}
-use Rattle.outline_net.proofs.Outline.{is_sys}
+use Rattle.outline_net.proofs.Outline.{want_at, want_of, is_sys}
 use Rattle.whole_outline.proofs.WholeOutline.{outline_all}
 use Rattle.whole_outline.proofs.SwitchAll.{routes_same}
-use Rattle.joined_net.proofs.LogLemmas.{done-append}
-use Rattle.whole_joined.proofs.LogLemmas.{came_on, every_same, owners_on}
+use Rattle.whole_joined.proofs.LogLemmas.{done-append, came_on, every_same, owners_on}
 use Rattle.whole_joined.proofs.Given.{Given, place, target_by}
 use Rattle.whole_joined.proofs.Joined.{Nodes, node_of, Label, shown, S, A, asked_nums, came_by, commands, by_node, IsSwitch, Scene, AreShown, Leads}
 use Rattle.whole_joined.proofs.NextNumbers.{same_grows}
@@ -64,6 +66,21 @@ nums_sent r (x ∷ xs) h = elim (x.0 == r) as (λ b. asked_nums (if b then x.1 �
 -- and where none is put on a link
 pub nums_put : {R : Type 0} (l : List (Any R)) (r : ℕ) (xs : List (ℕ × Any R)) → None_asked xs → asked_nums (l ++ sent_for r xs) ≡ asked_nums l
 nums_put l r xs h = asked_nums-append l (sent_for r xs) ∙ ap (λ v. asked_nums l ++ v) (nums_sent r xs h) ∙ append-nil (asked_nums l)
+
+-- a number less still rises
+pub rising_without : (b k : ℕ) (xs ys : List ℕ) → Rising b (xs ++ k ∷ ys) → Rising b (xs ++ ys)
+rising_without b k [] ys h = let e = h.0 in rising_less b (suc k) ys (omega (arith, e)) h.1
+rising_without b k (x ∷ xs) ys h = (h.0, rising_without (suc x) k xs ys h.1)
+
+-- what is asked for has the command's number
+pub want_num : (op : ℕ) (what : Order) (place : List ℕ → Option ℕ) (w : Want) → want_of place op what ≡ Some w → w.num ≡ op
+want_num op (order.Move src dst filter keep) place w e = at_places (place src) (place dst) e
+  where
+    at_places : (from to : Option ℕ) → want_at op filter keep from to ≡ Some w → w.num ≡ op
+    at_places (Some i) (Some j) is = let same : op ≡ w.num = cc in sym same
+    at_places None to is = cc
+    at_places (Some i) None is = cc
+want_num op what place w e = cc
 
 -- the switch changed, the other nodes are what they were
 pub others_same : {F R : Type 0} (x : Nodes F R) (s : SwitchState) (j : ℕ) → j ≢ 0 → node_of (record x { switch = s }) j ≡ node_of x j

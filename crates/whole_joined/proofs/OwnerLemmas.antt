@@ -1,6 +1,7 @@
 -- Who owns a unit, and whether a plain move handed it on, by a log that goes on; and what stays a place of the unit.
-use Rattle.std.proofs.Common.{◌≡◌, ℕ, Bool, true, false, Option, List, [], ◌∷◌, ◌++◌, refl, sym, ap, ◌∙◌, append-nil}
+use Rattle.std.proofs.Common.{◌≡◌, ℕ, Bool, true, false, Option, Some, List, [], ◌∷◌, ◌++◌, refl, sym, ap, ◌∙◌, append-nil}
 use Rattle.std.specs.Prelude.{◌&&◌, ◌||◌, ◌==◌, not}
+use Rattle.std.specs.Option.{option_map_or}
 use Rattle.flow_filter.specs.declared.flow.Flow.{Flow}
 use Rattle.nf_function.specs.declared.kind.Kind.{Kind}
 use Rattle.nf_function.specs.declared.kind.Kind.TheVariants.{Conntrack, Nat, Monitor}
@@ -12,12 +13,12 @@ use Rattle.nf_msgs.specs.declared.note.Note.{Note}
 use Rattle.nf_msgs.specs.declared.note.Note.TheVariants as note
 use Rattle.unit_machine.proofs.Labels.{Each}
 use Rattle.net_world.specs.declared.config.Config.{Config}
-use Rattle.net_world.specs.Input.{order_of}
+use Rattle.net_world.specs.Input.{order_of, packet_of}
 use Rattle.net_world.specs.Log.{has_begun, installed}
 use Rattle.net_world.specs.Commands.{has_answered, is_busy}
-use Rattle.net_world.specs.Places.{first_owner, handed_on, owner_after, hands_on_plain, loose_after, IsMoving, IsPlace, Owns, Is_source, Is_destination}
+use Rattle.net_world.specs.Places.{first_owner, handed_on, owner_after, hands_on_plain, loose_after, members_after, member_for, unit_numbered, goes_to, IsMoving, IsPlace, Owns, Is_source, Is_destination, Is_member}
 use Rattle.outline_net.proofs.FiltersApart.{flow_fits, unit_fits, and_l, and_r}
-use Rattle.joined_net.proofs.PlaceNotes.{IsQuiet, is_uninstalled}
+use Rattle.whole_joined.proofs.PlaceNotes.{IsQuiet, is_uninstalled}
 
 -- the unit of a flow is one that packets may have
 pub unit_is_fit : (kind : Kind) (flow : Flow) → flow_fits flow ≡ true → unit_fits kind (unit_of kind flow) ≡ true
@@ -123,11 +124,24 @@ module _ (config : Config) (items : List Msg) where
   moving_quiet : (u : units.Unit) (k : ℕ) (xs ys : List Note) (source destination : List ℕ) → Each (IsQuiet k) ys → IsMoving config items u xs source destination → IsMoving config items u (xs ++ ys) source destination
   moving_quiet u k xs ys source destination h m = record { op = m.op; filter = m.filter; keep = m.keep; order = m.order; takes_it = m.takes_it; busy = busy_quiet k m.op xs ys h ∙ m.busy }
 
+  -- where a packet goes behind these commands
+  abbrev goes_by : Kind → ℕ → List ℕ → Option ℕ
+  goes_by kind number ops =
+      let u = unit_numbered config items kind number in
+      option_map_or (λ names. member_for config items names (packet_of items number)) (members_after config.names (order_of items) u (first_owner u config.routes) ops) (Some (owner_after config.names (order_of items) u (first_owner u config.routes) ops))
+
+  -- a packet goes where it did, after notes of no change of the rules
+  pub goes_same : (kind : Kind) (number : ℕ) (xs ys : List Note) → installed ys ≡ [] → goes_to config items kind number (xs ++ ys) ≡ goes_to config items kind number xs
+  goes_same kind number xs ys none = ap (goes_by kind number) (installed_same xs ys none)
+
   -- a place of a log is one after notes of an instance
-  pub place_quiet : (u : units.Unit) (k : ℕ) (xs ys : List Note) (i : ℕ) → Each (IsQuiet k) ys → IsPlace config items u xs i → IsPlace config items u (xs ++ ys) i
-  place_quiet u k xs ys i h (Owns e) = Owns (e ∙ ap (owner_after config.names (order_of items) u (first_owner u config.routes)) (sym (installed_same xs ys (installed_quiet k ys h))))
-  place_quiet u k xs ys i h (Is_source source destination m e) = Is_source source destination (moving_quiet u k xs ys source destination h m) e
-  place_quiet u k xs ys i h (Is_destination source destination m e) = Is_destination source destination (moving_quiet u k xs ys source destination h m) e
+  pub place_quiet : (kind : Kind) (number k : ℕ) (xs ys : List Note) (i : ℕ) → Each (IsQuiet k) ys → IsPlace config items kind number xs i → IsPlace config items kind number (xs ++ ys) i
+  place_quiet kind number k xs ys i h (Owns e) =
+      let u = unit_numbered config items kind number in
+      Owns (e ∙ ap (owner_after config.names (order_of items) u (first_owner u config.routes)) (sym (installed_same xs ys (installed_quiet k ys h))))
+  place_quiet kind number k xs ys i h (Is_source source destination m e) = Is_source source destination (moving_quiet (unit_numbered config items kind number) k xs ys source destination h m) e
+  place_quiet kind number k xs ys i h (Is_destination source destination m e) = Is_destination source destination (moving_quiet (unit_numbered config items kind number) k xs ys source destination h m) e
+  place_quiet kind number k xs ys i h (Is_member e) = Is_member (goes_same kind number xs ys (installed_quiet k ys h) ∙ e)
 
 -- where in two lists one behind the other an element stands
 pub data Stands {X : Type 0} (xs ys zs : List X) (z : X) (bs : List X) : Type 0 where
