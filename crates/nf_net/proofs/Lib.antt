@@ -1,6 +1,5 @@
 pub mod AnsweredNotes
 pub mod ChunkMoves
-pub mod ChunksHandedOn
 pub mod CompleteRuns
 pub mod EveryRun
 pub mod FoldLemmas
