@@ -79,6 +79,7 @@ module _ {F R : Type 0} (f : Semantics R) where
   unfolding on_get
   get_leaves i op filter = refl
 
+module _ {R : Type 0} (f : Semantics R) where
   -- what chunks bring of a unit
   brought_is : (chunks : List Chunk) (u : units.Unit) → finite.get (records_of f chunks) u ≡ record_at u (entries f chunks)
   unfolding records_of
@@ -182,10 +183,10 @@ module _ {F R : Type 0} (f : Semantics R) (laws : FunctionLaws f) (c : Config) (
       let coming = finite.get (records_of f chunks) u in
       let new : did.node.table.standby ≡ newest_of f i.table.standby (records_of f chunks) = (standby_keeps f g.site g.packet (place g) i op chunks (chunks_good f laws g chunks good)).standby in
       let is_new : finite.get did.node.table.standby u ≡ either (newest f) held coming = ap (λ r. finite.get r u) new ∙ each_newest f i.table.standby (records_of f chunks) (newest_of f i.table.standby (records_of f chunks)) refl u in
-      let of_chunks : IsOfFront f c items (went f c items u x.log) coming = subst (λ o. IsOfFront f c items (went f c items u x.log) o) (sym (brought_is {F = F} f chunks u)) (of_front f c items is u x.log x.world.done are.done_is (record_at u (entries f chunks)) (fronts u)) in
+      let of_chunks : IsOfFront f c items (went f c items u x.log) coming = subst (λ o. IsOfFront f c items (went f c items u x.log) o) (sym (brought_is f chunks u)) (of_front f c items is u x.log x.world.done are.done_is (record_at u (entries f chunks)) (fronts u)) in
       subst (λ o. SeesMore f c items (all_of u did.notes) held o) (sym is_new) (newest_sees u (all_of u did.notes) held coming room (held_front u did.notes) (later f c items u x.log did.notes coming of_chunks))
 
-  rows : (u : units.Unit) → Rows {F = F} f g (Now u)
+  rows : (u : units.Unit) → Rows f g (Now u)
   rows u = record {
     carry = λ cell e. leaves u (msg.Carry mark.Plain cell) refl;
     pass = λ op cell e. leaves u (msg.Carry (mark.Pass op) cell) refl;
@@ -205,7 +206,7 @@ module _ {F R : Type 0} (f : Semantics R) (laws : FunctionLaws f) (c : Config) (
   }
 
   pub instance_sees : (u : units.Unit) (m : Msg) → Now u m
-  instance_sees u m t = by_message {F = F} f g (Now u) p y (rows u) m t.label t
+  instance_sees u m t = by_message f g (Now u) p y (rows u) m t.label t
 
 -- A choice of a run.
 module _ (F : Type 0) {R : Type 0} (f : Semantics R) (laws : FunctionLaws f) (c : Config) (items : List Msg) (is : IsInput f.kind c items) where
@@ -258,8 +259,8 @@ module _ (F : Type 0) {R : Type 0} (f : Semantics R) (laws : FunctionLaws f) (c 
       there : slice_get w.nodes (instance_node y) ≡ Some (Instance own)
       there = subst (λ z. slice_get w.nodes z ≡ Some (Instance own)) (sym node_is) (slice_get-get_or w.nodes (suc (suc y)) (Instance own) (let small = takes.receiver in let count = takes.count in rw count small) ∙ ap Some (j.nodes_are (suc (suc y)) takes.receiver (Instance own)))
 
-      then : slice_get (v (suc (suc y)) m takes).nodes (instance_node y) ≡ Some (Instance did.node)
-      then =
+      after : slice_get (v (suc (suc y)) m takes).nodes (instance_node y) ≡ Some (Instance did.node)
+      after =
           let out = left (suc (suc y)) m takes in
           subst (λ z. slice_get (v (suc (suc y)) m takes).nodes z ≡ Some (Instance did.node)) (sym node_is) (slice_get-get_or (v (suc (suc y)) m takes).nodes (suc (suc y)) (Instance did.node) (let small = takes.receiver in let count = out.count in rw count small) ∙ ap Some (out.own (Instance did.node)))
 
@@ -269,7 +270,7 @@ module _ (F : Type 0) {R : Type 0} (f : Semantics R) (laws : FunctionLaws f) (c 
           let sees = instance_sees f laws c items is nodes_count x j.shown_is p y (j.shown_is.instances (suc (suc y)) (omega arith) takes.receiver) u m t (its (suc (suc y)) m takes) (subst (λ l. length (went f c items u l) ≤ most_counted) out.log (room u)) in
           subst (λ l. SeesMore f c items (went f c items u l) (standby_at w y u) (standby_at (v (suc (suc y)) m takes) y u)) (sym out.log)
           (subst (λ o. SeesMore f c items (went f c items u (w.log ++ did.notes)) o (standby_at (v (suc (suc y)) m takes) y u)) (sym (ap (standby_in u) there))
-          (subst (λ o. SeesMore f c items (went f c items u (w.log ++ did.notes)) (finite.get own.table.standby u) o) (sym (ap (standby_in u) then)) sees))
+          (subst (λ o. SeesMore f c items (went f c items u (w.log ++ did.notes)) (finite.get own.table.standby u) o) (sym (ap (standby_in u) after)) sees))
 
       at_instance : GoesOn w (v (suc (suc y)) m takes)
       at_instance i u = elim (i == y) as (λ b. (i == y) ≡ b → SeesMore f c items (went f c items u (v (suc (suc y)) m takes).log) (standby_at w i u) (standby_at (v (suc (suc y)) m takes) i u)) [
