@@ -99,7 +99,7 @@ module _ {R : Type 0} (f : Semantics R) (c : Config) (items : List Msg) (is : Is
   g = given f c items is
 
   abbrev laws_of : IsSys (S f g)
-  laws_of = is_sys g.site g.packet
+  laws_of = is_sys f g.site g.packet
 
   module _ {F : Type 0} (n : ℕ) (count : n ≡ length c.names + 2) (w : Network (Node F R) Msg Note) (nodes : length w.nodes ≡ n) (j : Joined f g n w) (in_turn : arrived w.log ++ numbers (waiting w (at 0 0)) ≡ numbers items) (done : is_done node_ended w ≡ true) where
     all_came : arrived w.log ≡ numbers items
