@@ -34,7 +34,6 @@ use Rattle.unit_machine.proofs.Labels.{Each}
 use Rattle.unit_machine.proofs.Lists.{firsts}
 use Rattle.unit_machine.proofs.Fits.{nil_right}
 use Rattle.unit_machine.proofs.Stages as stages
-use Rattle.unit_machine.proofs.Stages.{Order}
 use Rattle.unit_machine.proofs.Ends.{same_of}
 use Rattle.share_machine.proofs.Share.{has}
 use Rattle.abstract_net.proofs.Net.{IsSys, Open, find_op}
@@ -137,7 +136,7 @@ module _ {R : Type 0} (f : Semantics R) (c : Config) (items : List Msg) (is : Is
       -- what was processed of the unit is all that came, and its record is at an instance
       record Ended : Type 0 where
         flag : Bool
-        order : Order flag (went f c items u w.log) (came f c items u w.log)
+        order : stages.Order flag (went f c items u w.log) (came f c items u w.log)
         flag_is : flag ≡ true → is_loose c items u w.log ≡ true
         place : (r : R) → fold f c items None (went f c items u w.log) ≡ Some r → (i : ℕ) × (live_at w i u ≡ Some r)
 
