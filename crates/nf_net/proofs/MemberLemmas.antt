@@ -74,7 +74,7 @@ module _ (g : Given) (u : units.Unit) where
     pub takes_it : takes filter u ≡ true
     pub home : is_home g.names g.orders ms i ≡ true
 
-  shares_it : (what : Option Order) (i : ℕ) (ms : List (List ℕ)) → sharing what i ≡ Some ms → Shares_it what i ms
+  pub shares_it : (what : Option Order) (i : ℕ) (ms : List (List ℕ)) → sharing what i ≡ Some ms → Shares_it what i ms
   shares_it (Some (order.Share members filter)) i ms e = by_test (takes filter u && is_home g.names g.orders members i) refl e
     where
       by_test : (b : Bool) → takes filter u && is_home g.names g.orders members i ≡ b → (if b then Some members else None) ≡ Some ms → Shares_it (Some (order.Share members filter)) i ms
