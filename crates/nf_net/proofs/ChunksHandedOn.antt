@@ -42,7 +42,8 @@ use Rattle.ctrl_node.specs.Controller as ctrl
 use Rattle.ctrl_node.specs.Controller.{ControllerState, Step}
 use Rattle.actor_net.proofs.WeightLaws.{EachSent}
 use Rattle.unit_machine.proofs.Labels.{Each, each-append}
-use Rattle.joined_net.proofs.Joined.{Given, Label}
+use Rattle.whole_joined.proofs.Given.{Given}
+use Rattle.whole_joined.proofs.Joined.{Label}
 use Rattle.nf_net.proofs.StandbyRows.{brought, NoneBrought}
 
 -- What a move sends.
