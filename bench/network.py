@@ -204,6 +204,8 @@ class Instance:
         return f"old {piece.newest} 1" if self.is_marked and piece.newest > 1 else None
 
     def take(self, port, message, step):
+        if self.ended:
+            raise Stray(message)
         match message:
             case "carry", parcel, mark:
                 self.carry(parcel, mark, step)
