@@ -15,11 +15,10 @@ use Rattle.whole_joined.proofs.Joined.{count, IsShare, IsOutAt}
 use Rattle.net_length.proofs.ControllerCosts.{HasFew}
 
 -- the members but for one
-but : ℕ → List ℕ → List ℕ
+abbrev but : ℕ → List ℕ → List ℕ
 but one members = filter (λ member. not (member == one)) members
 
 but_fewer : (one : ℕ) (members : List ℕ) → length (but one members) ≤ length members
-unfolding but
 but_fewer one [] = omega arith
 but_fewer one (m ∷ ms) =
     let rest = but_fewer one ms in
@@ -27,7 +26,6 @@ but_fewer one (m ∷ ms) =
 
 -- are one less, where it is a member
 but_one : (one : ℕ) (members : List ℕ) → has members one ≡ true → length (but one members) + 1 ≤ length members
-unfolding but
 but_one one [] h = cc
 but_one one (m ∷ ms) h =
     elim (m == one) as (λ b. (m == one) ≡ b → length (if not b then m ∷ but one ms else but one ms) + 1 ≤ 1 + length ms) [
@@ -52,8 +50,7 @@ module _ {R : Type 0} (f : Semantics R) (g : Given) (o : ℕ) (count_is : count 
   few = let all = length-le_from_distinct_below s.plan.members (count f g) is.distinct (each_below (count f g) s.plan.members is.few) in omega (arith, all, count_is)
 
   others_few : (one : ℕ) → has s.plan.members one ≡ true → length (others s.plan one) ≤ o
-  unfolding but
-  others_few one h = let less = but_one one s.plan.members h in let all = few in omega (arith, less, all)
+    others_few one h = let less = but_one one s.plan.members h in let all = few in omega (arith, less, all)
 
   home_has : (members : List ℕ) → 1 < length members → has members (slice_index members 0) ≡ true
   home_has [] some = absurd (omega (arith, some))
