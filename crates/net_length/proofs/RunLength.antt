@@ -33,14 +33,14 @@ use Rattle.net_length.proofs.MapWeights.{empty_weighs}
 use Rattle.net_length.proofs.Weights.{kept, weight, of_operation}
 use Rattle.net_length.proofs.NodeCosts.{of_node, of_world, world_falls}
 
--- one line more
+-- one more of so many
 times_more : (a k : ℕ) → a * (1 + k) ≡ a * k + a
-times_more a k = mul-suc a k
+times_more a k = let more : 1 + k ≡ suc k = omega arith in ap (λ j. a * j) more ∙ mul-suc a k
 
 -- what an input weighs
 input_weighs : (o : ℕ) (items : List Msg) → Each (λ item. is_item item ≡ true) items → weigh (weight o) items ≤ (7 + 2 * o) * length (packets items) + (16 + 2 * o) * lines items + 2 * ends items
 input_weighs o [] h = omega arith
-input_weighs o (msg.InPacket packet ∷ items) h = let rest = input_weighs o items h.1 in let one = times_more (7 + 2 * o) (length (packets items)) in omega (arith, rest, one)
+input_weighs o (msg.InPacket packet ∷ items) h = let rest = input_weighs o items h.1 in let one = mul-suc (7 + 2 * o) (length (packets items)) in omega (arith, rest, one)
 input_weighs o (msg.InCommand command ∷ items) h = let rest = input_weighs o items h.1 in let one = times_more (16 + 2 * o) (lines items) in omega (arith, rest, one)
 input_weighs o (msg.InSettle ∷ items) h = let rest = input_weighs o items h.1 in let one = times_more (16 + 2 * o) (lines items) in omega (arith, rest, one)
 input_weighs o (msg.InEnd ∷ items) h = let rest = input_weighs o items h.1 in omega (arith, rest)
