@@ -1,5 +1,5 @@
 -- What the controller sends and keeps as it takes a message weighs less than the message and what it kept before.
-use Rattle.std.proofs.Common.{◌≡◌, ℕ, ◌+◌, ◌*◌, ◌≤◌, Bool, true, false, Option, None, Some, List, [], ◌∷◌, ◌++◌, length, refl, sym, ap, ◌∙◌, subst, arith}
+use Rattle.std.proofs.Common.{◌≡◌, ℕ, ◌+◌, ◌*◌, ◌≤◌, Bool, true, false, Option, None, Some, List, [], ◌∷◌, ◌++◌, length, refl, ap, arith}
 use Rattle.std.specs.Prelude.{if◌then◌else◌, ◌==◌, ◌&&◌, not, is_some, unwrap_or}
 use Rattle.std.specs.List.{filter_map}
 use Rattle.std.specs.FinMap as finite
@@ -29,14 +29,14 @@ use Rattle.copy_share.specs.Share.{SharePlan, ShareState, home, others}
 use Rattle.copy_share.specs.Share as share
 use Rattle.ctrl_node.specs.declared.operation.Operation.{Operation}
 use Rattle.ctrl_node.specs.declared.operation.Operation.TheVariants.{Move, Copy, Share}
-use Rattle.ctrl_node.specs.Operations.{OpenOperations, Turn, turn_of, serving_of, moved, copied, shared, idly, with_operation, lasts, share_of, are_quiet}
+use Rattle.ctrl_node.specs.Operations.{OpenOperations, Turn, turn_of, serving_of, share_of, are_quiet}
 use Rattle.ctrl_node.specs.Controller as ctrl
 use Rattle.ctrl_node.specs.Controller.{ControllerState, Step, controller_step}
 use Rattle.actor_net.proofs.WeightLaws.{weigh-append}
 use Rattle.outline_net.proofs.OperationTables.{remove_insert}
 use Rattle.net_length.proofs.MapWeights.{in_all, if_found, insert_weighs, remove_weighs}
 use Rattle.net_length.proofs.Weights.{one_if, of_move, of_copy, of_share, of_operation, kept, weight, some, cost, cost-append, of_controller, unfinished, finish}
-use Rattle.net_length.proofs.MoveCosts.{row_costs, move_falls}
+use Rattle.net_length.proofs.MoveCosts.{move_falls}
 use Rattle.net_length.proofs.ShareCosts.{copy_falls, share_falls, served_costs}
 
 module _ (o : ℕ) where

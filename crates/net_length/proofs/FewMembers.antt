@@ -1,13 +1,11 @@
 -- A share of some of n instances has at most n - 1 members besides one.
-use Rattle.std.proofs.Common.{◌≡◌, ℕ, suc, ◌+◌, ◌<◌, ◌≤◌, Bool, true, false, List, [], ◌∷◌, length, refl, sym, ap, ◌∙◌, subst, arith}
+use Rattle.std.proofs.Common.{◌≡◌, ℕ, suc, ◌+◌, ◌<◌, ◌≤◌, true, false, List, [], ◌∷◌, length, refl, sym, ap, ◌∙◌, subst, arith}
 use Rattle.std.specs.Prelude.{if◌then◌else◌, ◌||◌, ◌==◌, not, nat_lt, filter, slice_index}
-use Rattle.std.specs.List.{IsDistinct, list_any}
+use Rattle.std.specs.List.{list_any}
 use Rattle.std.proofs.lemmas.Bool.Decides.{nat_tests, Decides-eqb}
 use Rattle.std.proofs.lemmas.Map.Steps.{length-le_from_distinct_below}
 use Rattle.nf_function.specs.Semantics.{Semantics}
-use Rattle.copy_share.specs.declared.share_phase.SharePhase.{SharePhase}
-use Rattle.copy_share.specs.declared.share_phase.SharePhase.TheVariants.{Out}
-use Rattle.copy_share.specs.Share.{SharePlan, ShareState, home, others}
+use Rattle.copy_share.specs.Share.{ShareState, home, others}
 use Rattle.unit_machine.proofs.Labels.{Each}
 use Rattle.share_machine.proofs.Share.{has}
 use Rattle.whole_joined.proofs.Given.{Given}

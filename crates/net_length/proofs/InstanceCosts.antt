@@ -1,12 +1,11 @@
 -- What an instance sends and holds as it takes a message weighs less than the message and what it held before, but for the pieces that it sends.
-use Rattle.std.proofs.Common.{◌≡◌, ℕ, zero, suc, ◌+◌, ◌*◌, ◌≤◌, Bool, true, false, Option, None, Some, Result, Ok, Err, List, [], ◌∷◌, ◌++◌, map, length, length-append, take, drop, refl, sym, ap, ◌∙◌, subst, arith}
-use Rattle.std.specs.Prelude.{if◌then◌else◌, ◌||◌, ◌==◌, not, nat_lt, nat_le, find, filter, is_some, nat_eq, option_map}
+use Rattle.std.proofs.Common.{◌≡◌, ℕ, zero, suc, ◌+◌, ◌*◌, ◌≤◌, Bool, true, false, Option, None, Some, Result, Ok, Err, List, [], ◌∷◌, ◌++◌, map, length, length-append, take, drop, refl, ap, ◌∙◌, subst, arith}
+use Rattle.std.specs.Prelude.{if◌then◌else◌, ◌||◌, ◌==◌, not, nat_lt, nat_le, filter, is_some, nat_eq, option_map}
 use Rattle.std.specs.FinMap as finite
 use Rattle.std.specs.List.{IsDistinct, AllByRecursion}
 use Rattle.std.specs.Option.{option_map_or}
 use Rattle.std.proofs.lemmas.Bool.Decides.{nat_tests, Decides-eqb}
 use Rattle.flow_filter.specs.declared.filter.Filter.{Filter}
-use Rattle.flow_filter.specs.Flow.{flow_of}
 use Rattle.nf_function.specs.declared.chunk.Chunk.{Chunk}
 use Rattle.nf_function.specs.declared.unit.Unit as units
 use Rattle.nf_function.specs.Semantics.{Semantics, unit_at}
@@ -27,13 +26,12 @@ use Rattle.nf_msgs.specs.declared.answer.Answer.{Answer}
 use Rattle.nf_msgs.specs.declared.msg.Piece.{Piece}
 use Rattle.nf_msgs.specs.declared.msg.Msg.{Msg}
 use Rattle.nf_msgs.specs.declared.msg.Msg.TheVariants as msg
-use Rattle.nf_msgs.specs.declared.note.Note.{Note}
 use Rattle.nf_msgs.specs.Nodes.{switch_node}
 use Rattle.instance_worker.specs.declared.instance.Instance.{Instance}
 use Rattle.instance_worker.specs.declared.pieces.Whole.{Whole}
-use Rattle.instance_worker.specs.Pieces.{piece_of, cut, whole_of, pieces}
-use Rattle.instance_worker.specs.Instance.{Step, told, chunk_told, shared, still, tells, tells_and_notes, and_then, selected, processed, all_processed, carried, where_good, refusal, piece_put, instance_step, on_carry, on_fence, on_get, on_stream, on_put, on_restore, on_standby, on_sync, on_put_all, tally_put}
-use Rattle.actor_net.proofs.WeightLaws.{weigh, weigh-append}
+use Rattle.instance_worker.specs.Pieces.{piece_of, cut, whole_of}
+use Rattle.instance_worker.specs.Instance.{Step, told, chunk_told, shared, still, selected, processed, all_processed, carried, where_good, refusal, piece_put, instance_step, on_carry, on_fence, on_get, on_stream, on_put, on_restore, on_standby, on_sync, on_put_all, tally_put}
+use Rattle.actor_net.proofs.WeightLaws.{weigh-append}
 use Rattle.net_length.specs.Length.{pieces_among}
 use Rattle.net_length.proofs.Weights.{one_if, of_rules, of_instance, weight, some, processing, cost, cost-append}
 use Rattle.net_length.proofs.Weights as weights

@@ -1,10 +1,9 @@
 -- No run has more choices than its instances, its packets, the lines of its script and the pieces of its moves allow.
-use Rattle.std.proofs.Common.{◌≡◌, ℕ, zero, suc, ◌+◌, ◌*◌, ◌≤◌, Bool, true, false, Option, None, Some, List, [], ◌∷◌, ◌++◌, length, length-append, refl, sym, ap, subst, ◌∙◌, arith}
-use Rattle.std.specs.Prelude.{◌==◌, ◌-◌, slice_get}
-use Rattle.std.specs.List.{All, AllByRecursion}
+use Rattle.std.proofs.Common.{◌≡◌, ℕ, zero, suc, ◌+◌, ◌*◌, ◌≤◌, true, false, Some, List, [], ◌∷◌, ◌++◌, length, length-append, refl, sym, ap, subst, ◌∙◌, arith}
+use Rattle.std.specs.Prelude.{◌-◌, slice_get}
 use Rattle.std.specs.declared.alloc.Global.{Global}
 use Rattle.std.proofs.Math.Nat.{mul-suc}
-use Rattle.std.proofs.lemmas.Bool.Decides.{nat_tests, Decides-eqb}
+use Rattle.std.proofs.lemmas.Bool.Decides.{Decides-eqb}
 use Rattle.std.proofs.lemmas.Option.{slice_get-get_or}
 use Rattle.nf_function.specs.Records.{Laws as FunctionLaws}
 use Rattle.nf_function.specs.Semantics.{Semantics}
@@ -14,7 +13,7 @@ use Rattle.nf_msgs.specs.declared.note.Note.{Note}
 use Rattle.actor_net.specs.declared.choice.Choice.{Choice}
 use Rattle.actor_net.specs.Network.{Network, IsRun, waiting, run, taken}
 use Rattle.actor_net.proofs.OpeningWorlds.{opening_weight}
-use Rattle.actor_net.proofs.RunInduction.{Taking, NextChoice, run_induction}
+use Rattle.actor_net.proofs.RunInduction.{NextChoice, run_induction}
 use Rattle.actor_net.proofs.StepOutcome.{Takes}
 use Rattle.actor_net.proofs.WeightLaws.{weigh, weigh-append}
 use Rattle.net_world.specs.declared.config.Config.{Config}
@@ -103,10 +102,10 @@ module _ (F : Type 0) {R : Type 0} (f : Semantics R) (laws : FunctionLaws f) (al
       let falls = world_falls f (given f c items is) nodes besides (let few = besides_is in omega (arith, few)) refl w j k.node k.port t.message t.rest takes in
       let more = pieces_more f cs k start in
       let sent : pieces_of f k (slice_get (run (node_step f) cs start).nodes k.node) (waiting (run (node_step f) cs start) k) ≡ pieces_among (node_step f (node_of j.nodes k.node) k.port t.message).sends =
-          ap (λ v. pieces_of f k (slice_get v.nodes k.node) (waiting v k)) (sym next.reached)
-          ∙ ap (λ x. pieces_of f k x (waiting w k)) (slice_get-get_or w.nodes k.node t.node (rw count t.takes.receiver) ∙ ap Some (t.takes.node_is t.node))
-          ∙ ap (pieces_of f k (Some t.node)) t.takes.waits
-          ∙ ap (λ y. pieces_among (node_step f y k.port t.message).sends) same in
+      ap (λ v. pieces_of f k (slice_get v.nodes k.node) (waiting v k)) (sym next.reached)
+      ∙ ap (λ x. pieces_of f k x (waiting w k)) (slice_get-get_or w.nodes k.node t.node (rw count t.takes.receiver) ∙ ap Some (t.takes.node_is t.node))
+      ∙ ap (pieces_of f k (Some t.node)) t.takes.waits
+      ∙ ap (λ y. pieces_among (node_step f y k.port t.message).sends) same in
       let long = length-append cs (k ∷ []) in
       let so_far = h.lighter in
       record {
