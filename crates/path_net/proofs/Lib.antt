@@ -13,9 +13,11 @@ pub mod PathStores
 pub mod PathSums
 pub mod RecordPromises
 pub mod SeatPaths
+pub mod SharedChunks
 pub mod SharedLinks
 pub mod SharedOwners
 pub mod SharedPaths
 pub mod SharedPlaces
+pub mod SharedRecords
 pub mod SharedStages
 pub mod SharesStay
