@@ -116,6 +116,10 @@ module _ {F R : Type 0} (f : Semantics R) (c : Config) (items : List Msg) (is : 
       let low : k < length c.names + 2 = few_nodes (length c.names) r.s.plan.members few k (ap (λ y. has y.members k) (sym r.sees.is) ∙ inside) in
       omega (arith, low, count)
 
+  -- the names in the orders of open shares are known
+  abbrev pub KnownNames : Type 0
+  KnownNames = (op : ℕ) (s : ShareState) (names : List (List ℕ)) → finite.get j.nodes.controller.operations op ≡ Some (Share s) → g.orders op ≡ Some (order.Share names s.plan.filter) → AreKnown c.names names
+
   module _ (u : units.Unit) (x : Want_share) (before since : List ℕ) (k : Under (S f g) (A f g) (seeing (S f g) (A f g) u x) j.world before since) where
     abbrev z : Seeing_share
     z = seeing (S f g) (A f g) u x
@@ -189,9 +193,10 @@ module _ {F R : Type 0} (f : Semantics R) (c : Config) (items : List Msg) (is : 
       diverted_owner : instance_node (owner c items u w.log) ≡ x.home
       diverted_owner = ap instance_node (sym (home_owns d.names real.s.plan.members (owner c items u w.log) d.home places_are)) ∙ sym home_is
 
-      -- a packet of the unit goes to its member
-      pub goes_so : AreKnown c.names d.names → (p : ℕ) → is_of f c items u p ≡ true → (m : ℕ) → (A f g).member x.members p ≡ instance_node m → goes_to c items f.kind p w.log ≡ Some m
-      goes_so known p its m at =
+      -- a packet of the unit goes to its member, if the names of open shares are known
+      pub goes_so : KnownNames → (p : ℕ) → is_of f c items u p ≡ true → (m : ℕ) → (A f g).member x.members p ≡ instance_node m → goes_to c items f.kind p w.log ≡ Some m
+      goes_so all_known p its m at =
+          let known : AreKnown c.names d.names = all_known d.op there.s d.names there.there (d.order_is ∙ ap (λ y. Some (order.Share d.names y.filter)) (sym there.plan_is)) in
           let unit : unit_numbered c items f.kind p ≡ u = same_unit-true (unit_numbered c items f.kind p) u its in
           let flow = (flow_of c.site (packet_of items p)).0 in
           let sum = flow.lport + flow.rport + flow.remote in
