@@ -12,7 +12,6 @@ pub mod JudgedNodes
 pub mod JudgedRuns
 pub mod JudgedSteps
 pub mod JudgedTables
-pub mod LiveRecords
 pub mod MoveJudged
 pub mod OutputLemmas
 pub mod OutputSteps

@@ -166,5 +166,5 @@ module _ {F R : Type 0} (f : Semantics R) (c : Config) (items : List Msg) (is : 
           at_home : (m : ℕ) (y : R) → live_at w m u ≡ Some y → instance_node m ≡ x.home
           at_home m y live = elim (instance_node m == x.home) as (λ t. (instance_node m == x.home) ≡ t → instance_node m ≡ x.home) [
             | true ↦ λ on. (Decides-eqb (instance_node m) x.home).0 on
-            | false ↦ λ off. (let never : None ≡ Some y = sym (h.away (instance_node m) off) ∙ live_in_world m y live in cc)
+            | false ↦ λ off. (let never : None ≡ Some y = sym (h.away (instance_node m) off) ∙ live_in_world f c items is n w count j u m y live in cc)
           ] refl

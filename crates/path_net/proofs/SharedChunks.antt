@@ -220,11 +220,11 @@ module _ {R : Type 0} (f : Semantics R) (g : Given) (z : Seeing_share) where
   module _ (covered : (S f g).takes z.filter z.unit ≡ true) (s r : ℕ) (of : Msg → List units.Unit) (it : Item R) (tells : (m : Msg) → Label f g s r m → item_of f g z r (shown f g m) ≡ Some it → is_among (of m) u ≡ true) where
     pub among : (ms : List Msg) → EachOn (Label f g s r) ms → view f g z covered r ms ≡ it ∷ [] → is_among (all_of of ms) u ≡ true
     among [] h e = cc
-    among (m ∷ ms) h e = list_any-append (same_unit u) (of m) (all_of of ms) ∙ by_item (item_of f g z r (shown f g m)) refl (sym (seen_more f g z covered r m ms) ∙ e)
+    among (m ∷ ms) h e = list_any-append (same_unit u) (of m) (all_of of ms) ∙ by_item (λ rest. among ms h.1 rest) (item_of f g z r (shown f g m)) refl (sym (seen_more f g z covered r m ms) ∙ e)
       where
-        by_item : (o : Option (Item R)) → item_of f g z r (shown f g m) ≡ o → add o (view f g z covered r ms) ≡ it ∷ [] → is_among (of m) u || is_among (all_of of ms) u ≡ true
-        by_item None is rest = or_right (is_among (of m) u) (is_among (all_of of ms) u) (among ms h.1 rest)
-        by_item (Some other) is rest = let same_item : other ≡ it = cc in or_left (is_among (of m) u) (is_among (all_of of ms) u) (tells m h.0 (is ∙ ap Some same_item))
+        by_item : (view f g z covered r ms ≡ it ∷ [] → is_among (all_of of ms) u ≡ true) → (o : Option (Item R)) → item_of f g z r (shown f g m) ≡ o → add o (view f g z covered r ms) ≡ it ∷ [] → is_among (of m) u || is_among (all_of of ms) u ≡ true
+        by_item later None is rest = or_right (is_among (of m) u) (is_among (all_of of ms) u) (later rest)
+        by_item later (Some other) is rest = let same_item : other ≡ it = cc in or_left (is_among (of m) u) (is_among (all_of of ms) u) (tells m h.0 (is ∙ ap Some same_item))
 
   tells_given : (s r : ℕ) (kept : R) (m : Msg) → Label f g s r m → item_of f g z r (shown f g m) ≡ Some (Chunk (Some kept)) → is_among (records.shared_in m) u ≡ true
   tells_given s r kept m l e = by_shown (shown f g m) refl e

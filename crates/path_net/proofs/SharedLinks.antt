@@ -203,14 +203,14 @@ module _ {R : Type 0} (f : Semantics R) (g : Given) (z : Seeing_share) where
         by_shown (Some a) e = rw e refl
 
     -- what is known of the messages of a link
-    pub record AreKnown (s r : ℕ) (as : List (Any R)) : Type 0 where
-      pub moves : labels.Each (Nothing_of (S f g) z.unit s) (olds as)
-      pub shares : Each_new (Share_label (S f g) (A f g) z r) as
+    pub record AreKnown (s r : ℕ) (ys : List (Any R)) : Type 0 where
+      pub moves : labels.Each (Nothing_of (S f g) z.unit s) (olds ys)
+      pub shares : Each_new (Share_label (S f g) (A f g) z r) ys
 
-    pub first_known : (s r : ℕ) (o : Option (Any R)) (as : List (Any R)) → AreKnown s r (cons_option o as) → IsKnown s r o × AreKnown s r as
-    first_known s r None as h = (tt, h)
-    first_known s r (Some (Old a)) as h = (h.moves.0, record { moves = h.moves.1; shares = h.shares })
-    first_known s r (Some (New a)) as h = (h.shares.0, record { moves = h.moves; shares = h.shares.1 })
+    pub first_known : (s r : ℕ) (o : Option (Any R)) (ys : List (Any R)) → AreKnown s r (cons_option o ys) → IsKnown s r o × AreKnown s r ys
+    first_known s r None ys h = (tt, h)
+    first_known s r (Some (Old a)) ys h = (h.moves.0, record { moves = h.moves.1; shares = h.shares })
+    first_known s r (Some (New a)) ys h = (h.shares.0, record { moves = h.moves; shares = h.shares.1 })
 
     pub record AreRead (ms : List Msg) (xs : List (Item R)) : Type 0 where
       pub shared : those mine (all_of passed ms) ≡ shared_in its xs

@@ -177,7 +177,7 @@ module _ {F R : Type 0} (f : Semantics R) (c : Config) (items : List Msg) (is : 
           let number : real.s.plan.op ≡ d.op = (j.shown_is.controller.shared x.num real.s real.there).op_is ∙ sym same_op in
           same_names (sym its_plan.order_is ∙ ap g.orders number ∙ d.order_is)
 
-      pub places_are : filter_map (place_of c.names) d.names ≡ real.s.plan.members
+      places_are : filter_map (place_of c.names) d.names ≡ real.s.plan.members
       places_are = ap (filter_map (place_of c.names)) (sym names_are) ∙ its_plan.members_are
 
       home_owns : (names : List (List ℕ)) (places : List ℕ) (i : ℕ) → is_home g.names g.orders names i ≡ true → filter_map (place_of c.names) names ≡ places → slice_index places 0 ≡ i

@@ -47,13 +47,13 @@ last_mine : {R : Type 0} (f : Semantics R) (g : Given) (u : units.Unit) (ds xs :
 last_mine f g u [] [] d e = cc
 last_mine f g u [] (y ∷ ys) d e = cc
 last_mine f g u (x ∷ ds) xs d e = elim (same_unit ((S f g).unit_of x.0) u) as (λ b. same_unit ((S f g).unit_of x.0) u ≡ b → (if b then x ∷ ran_of (S f g) (A f g) u ds else ran_of (S f g) (A f g) u ds) ≡ xs ++ d ∷ [] → same_unit ((S f g).unit_of d.0) u ≡ true) [
-  | true ↦ λ on q. by_front on xs q
+  | true ↦ λ on q. by_front on (λ ys more. last_mine f g u ds ys d more) xs q
   | false ↦ λ _ q. last_mine f g u ds xs d q
 ] refl e
   where
-    by_front : same_unit ((S f g).unit_of x.0) u ≡ true → (ys : List Ran) → x ∷ ran_of (S f g) (A f g) u ds ≡ ys ++ d ∷ [] → same_unit ((S f g).unit_of d.0) u ≡ true
-    by_front on [] q = let same_one : x ≡ d = cc in ap (λ y. same_unit ((S f g).unit_of y.0) u) (sym same_one) ∙ on
-    by_front on (y ∷ ys) q = let rest : ran_of (S f g) (A f g) u ds ≡ ys ++ d ∷ [] = cc in last_mine f g u ds ys d rest
+    by_front : same_unit ((S f g).unit_of x.0) u ≡ true → ((ys : List Ran) → ran_of (S f g) (A f g) u ds ≡ ys ++ d ∷ [] → same_unit ((S f g).unit_of d.0) u ≡ true) → (ys : List Ran) → x ∷ ran_of (S f g) (A f g) u ds ≡ ys ++ d ∷ [] → same_unit ((S f g).unit_of d.0) u ≡ true
+    by_front on later [] q = let same_one : x ≡ d = cc in ap (λ y. same_unit ((S f g).unit_of y.0) u) (sym same_one) ∙ on
+    by_front on later (y ∷ ys) q = let rest : ran_of (S f g) (A f g) u ds ≡ ys ++ d ∷ [] = cc in later ys rest
 
 or_left : (b c : Bool) → b ≡ true → b || c ≡ true
 or_left true c e = refl
