@@ -13,7 +13,6 @@ pub mod JudgedNodes
 pub mod JudgedRuns
 pub mod JudgedSteps
 pub mod JudgedTables
-pub mod LiveRecords
 pub mod MoveJudged
 pub mod OutputLemmas
 pub mod OutputSteps

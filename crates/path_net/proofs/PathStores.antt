@@ -42,10 +42,10 @@ module _ {F R : Type 0} (f : Semantics R) (c : Config) (items : List Msg) (is : 
   abbrev g : Given
   g = given f c items is
 
-  abbrev got : ℕ → Option Operation
+  abbrev pub got : ℕ → Option Operation
   got k = finite.get j.nodes.controller.operations k
 
-  abbrev cells : ℕ → List FullCell
+  abbrev pub cells : ℕ → List FullCell
   cells k = stored j.nodes.controller.store k
 
   -- what all nodes have of a kind that the controller alone has
