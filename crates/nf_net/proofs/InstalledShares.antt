@@ -46,7 +46,7 @@ use Rattle.whole_outline.proofs.OpenShares.{real_share}
 use Rattle.whole_joined.proofs.BesideRuns.{its_takes, its_taken}
 use Rattle.whole_joined.proofs.Given.{Given, place, IsInstall, IsDivert}
 use Rattle.whole_joined.proofs.HandedUnits.{owner_next}
-use Rattle.whole_joined.proofs.Joined.{S, A, Joined, Scene, IsTaken, node_of}
+use Rattle.whole_joined.proofs.Joined.{S, A, Joined, came_by, Scene, IsTaken, node_of}
 use Rattle.whole_joined.proofs.JoinedSteps.{scene}
 use Rattle.whole_joined.proofs.NodeSteps.{Wants, node_leads}
 use Rattle.whole_joined.proofs.OperationsApart.{AllApart}
@@ -139,10 +139,10 @@ module _ {F R : Type 0} (f : Semantics R) (c : Config) (items : List Msg) (is : 
   not_moved : (u : units.Unit) → unit_fits f.kind u ≡ true → (ms : List (List ℕ)) → members c items u w.log ≡ Some ms → (k : ℕ) (filter : Filter) (from dst : ℕ) (rest : List (Any R)) → is_whole f.kind filter ≡ true → j.world.link 1 0 ≡ Old (net.Mv filter (real.M_install k from dst)) ∷ rest → takes filter u ≡ false
   not_moved u fits ms e k filter from dst rest whole waits = sym (takes_same f.kind filter u whole fits) ∙ by_where (j.shown_is.every.unit u)
     where
-      by_where : Where_all (S f g) (A f g) (is_sys f g.site g.packet) u j.world _ → takes_whole f.kind filter u ≡ false
+      by_where : Where_all (S f g) (A f g) (is_sys f g.site g.packet) u j.world (came_by f g w.log u) → takes_whole f.kind filter u ≡ false
       by_where (Apart_from_shares q none) =
           let two = where_two (S f g) (is_sys f g.site g.packet) u (moves_of (S f g) (A f g) j.world) _ _ q.is in
-          let one = members_go f c items is n count_is w j apart b u fits ms e in
+          let one = members_go f c items is n w j u fits ms e in
           absurd (omega (arith, two, one))
       by_where (Under_share x before d q o m) = no_change (S f g) (A f g) (seeing (S f g) (A f g) u x) j.world before _ q k from dst filter rest waits
 

@@ -93,7 +93,7 @@ module _ {R : Type 0} (S : Sys R) (A : Sharing S) (laws : IsSys S) (u : units.Un
         | false ↦ r
       ]
 
-  mine_there : (q : ℕ) → same_unit (S.unit_of q) u ≡ true → (front back : List ℕ) → none_mine S u (front ++ q ∷ back) ≢ []
+  pub mine_there : (q : ℕ) → same_unit (S.unit_of q) u ≡ true → (front back : List ℕ) → none_mine S u (front ++ q ∷ back) ≢ []
   mine_there q mine [] back none = let some : q ∷ none_mine S u back ≡ [] = rw mine at none in cc
   mine_there q mine (p ∷ front) back none = elim (same_unit (S.unit_of p) u) as (λ b. (if b then p ∷ none_mine S u (front ++ q ∷ back) else none_mine S u (front ++ q ∷ back)) ≡ [] → ⊥) [
     | true ↦ λ never. cc

@@ -109,7 +109,7 @@ module _ {F R : Type 0} (f : Semantics R) (laws : FunctionLaws f) (c : Config) (
     fits = units_fit f c items is number
 
     by_target : j.world.target unit ≡ instance_node i → IsPlace c items f.kind number w.log i
-    by_target at = Owns (node_same i (owner c items unit w.log) (j.world.target unit) (sym at) (owner_goes f c items is n count_is w j apart b unit fits (omega (arith, at))))
+    by_target at = Owns (node_same i (owner c items unit w.log) (j.world.target unit) (sym at) (owner_goes f c items is n w j unit fits (omega (arith, at))))
 
     by_may : May_process (S f g) (moves_of (S f g) (A f g) j.world) unit (instance_node i) → IsPlace c items f.kind number w.log i
     by_may (At_target at) = by_target at
@@ -136,9 +136,9 @@ module _ {F R : Type 0} (f : Semantics R) (laws : FunctionLaws f) (c : Config) (
 
     by_one : Processes_one (S f g) (A f g) (is_sys f g.site g.packet) unit j.world (instance_node i) number → IsPlace c items f.kind number w.log i
     by_one (By_move may) = by_may may
-    by_one (By_home e its (inl one) at) = by_there e its (inl at) (diverted_members f c items is n count_is w j apart b unit fits one)
+    by_one (By_home e its (inl one) at) = by_there e its (inl at) (diverted_members f c items is n w j unit fits one)
     by_one (By_home e its (inr home) at) = by_target (home ∙ sym at)
-    by_one (By_member e its one at) = by_there e its (inr at) (diverted_members f c items is n count_is w j apart b unit fits one)
+    by_one (By_member e its one at) = by_there e its (inr at) (diverted_members f c items is n w j unit fits one)
 
   -- what an instance processes, it processes at a place of the unit
   module _ (y p : ℕ) (m : Msg) (taken : IsTaken f g n scene (record { node = suc (suc y); port = p; message = m })) where
