@@ -1,6 +1,6 @@
 -- In every run, a packet that came when a share had its unit is processed at its member.
-use Rattle.std.proofs.Common.{◌≡◌, ℕ, suc, ◌+◌, ◌<◌, ◌≤◌, Bool, true, false, Some, None, List, [], ◌∷◌, ◌++◌, map, length, append_assoc, refl, sym, ap, ◌∙◌, subst, arith}
-use Rattle.std.specs.Prelude.{if◌then◌else◌, ◌&&◌, ◌==◌, is_some}
+use Rattle.std.proofs.Common.{◌≡◌, ℕ, suc, ◌+◌, ◌<◌, ◌≤◌, Bool, true, false, Some, List, [], ◌∷◌, ◌++◌, length, append_assoc, refl, sym, ap, ◌∙◌, arith}
+use Rattle.std.specs.Prelude.{if◌then◌else◌, ◌==◌, is_some}
 use Rattle.std.specs.declared.alloc.Global.{Global}
 use Rattle.std.proofs.lemmas.Bool.Decides.{nat_tests, Decides-eqb}
 use Rattle.nf_function.specs.declared.output.Output.{Output}
@@ -23,13 +23,13 @@ use Rattle.net_world.specs.declared.node.Node.{Node}
 use Rattle.net_world.specs.Commands.{times_installed}
 use Rattle.net_world.specs.Fold.{times, is_of}
 use Rattle.net_world.specs.Input.{IsRising, IsInput, packet_of, packets}
-use Rattle.net_world.specs.Log.{Done, arrived, done, installed, those}
+use Rattle.net_world.specs.Log.{arrived, done, installed, those}
 use Rattle.net_world.specs.Nodes.{node_step, node_ready}
 use Rattle.net_world.specs.Places.{first_owner, members, member_for, unit_numbered, AreAtMembers}
 use Rattle.outline_net.proofs.Outline.{is_sys}
 use Rattle.whole_joined.proofs.Given.{Given, is_diverted, diverted_in}
 use Rattle.whole_joined.proofs.Joined.{S, A, by_node, came_by, Joined}
-use Rattle.whole_joined.proofs.LogLemmas.{arrived-append, done-append, by_node-append, diverted_in-append}
+use Rattle.whole_joined.proofs.LogLemmas.{done-append, by_node-append, diverted_in-append}
 use Rattle.whole_joined.proofs.OperationsApart.{AllApart}
 use Rattle.whole_joined.proofs.RunsJoined.{Runs, run_beside, times-append, same_times}
 use Rattle.whole_joined.proofs.StartJoined.{given}

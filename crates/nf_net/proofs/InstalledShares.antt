@@ -1,7 +1,7 @@
 -- What the log of every run says of shares: the home of the share that has a unit owns it for good; and a share that the switch installs has begun,
 -- and isn't answered before, if its home owns a unit that it takes.
-use Rattle.std.proofs.Common.{◌≡◌, ℕ, zero, suc, ◌+◌, ◌≤◌, Bool, true, false, Option, Some, None, List, [], ◌∷◌, ◌++◌, length, append-nil, refl, sym, ap, ◌∙◌, subst, arith}
-use Rattle.std.specs.Prelude.{if◌then◌else◌, ◌&&◌, ◌||◌, ◌==◌}
+use Rattle.std.proofs.Common.{◌≡◌, ℕ, zero, suc, ◌+◌, ◌≤◌, true, false, Option, Some, None, List, [], ◌∷◌, ◌++◌, length, append-nil, refl, sym, ap, ◌∙◌, subst, arith}
+use Rattle.std.specs.Prelude.{if◌then◌else◌}
 use Rattle.std.specs.Option.{option_or}
 use Rattle.std.specs.declared.alloc.Global.{Global}
 use Rattle.flow_filter.specs.declared.filter.Filter.{Filter}
@@ -9,14 +9,12 @@ use Rattle.nf_function.specs.declared.unit.Unit as units
 use Rattle.nf_function.specs.Records.{Laws as FunctionLaws}
 use Rattle.nf_function.specs.Semantics.{Semantics}
 use Rattle.nf_function.specs.Units.{takes}
-use Rattle.nf_msgs.specs.declared.command.Order.{Order}
 use Rattle.nf_msgs.specs.declared.command.Order.TheVariants as order
 use Rattle.nf_msgs.specs.declared.msg.Msg.{Msg}
 use Rattle.nf_msgs.specs.declared.note.Note.{Note}
 use Rattle.nf_msgs.specs.declared.note.Note.TheVariants as note
 use Rattle.nf_msgs.specs.Nodes.{instance_node}
 use Rattle.switch_node.specs.Switch.{switch_step}
-use Rattle.switch_rules.specs.declared.target.Target.TheVariants as target
 use Rattle.ctrl_node.specs.declared.operation.Operation.TheVariants.{Share}
 use Rattle.ctrl_node.specs.Controller.{controller_step}
 use Rattle.actor_net.specs.declared.choice.Choice.{Choice}
@@ -29,7 +27,7 @@ use Rattle.abstract_net.proofs.Net as net
 use Rattle.abstract_net.proofs.Elsewhere.{where_two}
 use Rattle.abstract_net.proofs.GlobalAll.{Of_share}
 use Rattle.abstract_net.proofs.NewMessages.{new_head}
-use Rattle.abstract_net.proofs.Shares.{Any, Old, New, S_install, moves_of}
+use Rattle.abstract_net.proofs.Shares.{Any, Old, S_install, moves_of}
 use Rattle.abstract_net.proofs.UnderStarts.{seeing}
 use Rattle.whole_net.proofs.UnderMoves.{no_change}
 use Rattle.whole_net.proofs.WhereAll.{Where_all, Apart_from_shares, Under_share}
@@ -44,7 +42,7 @@ use Rattle.outline_net.proofs.FiltersApart.{is_whole, unit_fits, takes_whole, ta
 use Rattle.outline_net.proofs.Outline.{is_sys}
 use Rattle.whole_outline.proofs.OpenShares.{real_share}
 use Rattle.whole_joined.proofs.BesideRuns.{its_takes, its_taken}
-use Rattle.whole_joined.proofs.Given.{Given, place, IsInstall, IsDivert}
+use Rattle.whole_joined.proofs.Given.{Given, place}
 use Rattle.whole_joined.proofs.HandedUnits.{owner_next}
 use Rattle.whole_joined.proofs.Joined.{S, A, Joined, came_by, Scene, IsTaken, node_of}
 use Rattle.whole_joined.proofs.JoinedSteps.{scene}

@@ -1,5 +1,5 @@
 -- In a step of a run an instance processes packets at places of their units.
-use Rattle.std.proofs.Common.{◌≡◌, ◌≢◌, ℕ, suc, ◌+◌, ◌≤◌, ◌⊎◌, inl, inr, true, false, Option, Some, None, List, [], ◌∷◌, ◌++◌, length, refl, sym, ap, ◌∙◌, subst, arith}
+use Rattle.std.proofs.Common.{◌≡◌, ℕ, suc, ◌+◌, ◌⊎◌, inl, inr, true, false, Option, Some, None, List, [], ◌∷◌, ◌++◌, length, refl, sym, ap, ◌∙◌, subst, arith}
 use Rattle.std.specs.Prelude.{◌&&◌, ◌==◌}
 use Rattle.std.specs.List.{filter_map}
 use Rattle.std.specs.Option.{option_map_or}
@@ -33,7 +33,7 @@ use Rattle.whole_net.proofs.Readings.{Its_share}
 use Rattle.net_world.specs.declared.config.Config.{Config}
 use Rattle.net_world.specs.declared.node.Node.{Node}
 use Rattle.net_world.specs.Input.{packet_of, IsInput}
-use Rattle.net_world.specs.Places.{owner, members, member_for, unit_numbered, goes_to, IsMoving, IsPlace, Owns, Is_source, Is_destination, Is_member}
+use Rattle.net_world.specs.Places.{owner, members, member_for, unit_numbered, IsMoving, IsPlace, Owns, Is_source, Is_destination, Is_member}
 use Rattle.outline_net.proofs.FiltersApart.{is_whole, unit_fits, takes_whole, and_r}
 use Rattle.outline_net.proofs.Outline.{ran_in, is_sys, outline_instance}
 use Rattle.outline_net.proofs.ControlOutline.{Sees}

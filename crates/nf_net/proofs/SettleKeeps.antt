@@ -1,6 +1,6 @@
 -- Of every run: what is processed came before, and where a packet behind a settle arrives, all commands before the settle are answered.
-use Rattle.std.proofs.Common.{◌≡◌, ℕ, zero, suc, ◌+◌, ◌<◌, ◌≤◌, Bool, true, false, Option, Some, None, List, [], ◌∷◌, ◌++◌, map, length, length-append, append_assoc, refl, sym, ap, ◌∙◌, subst, arith}
-use Rattle.std.specs.Prelude.{if◌then◌else◌, ◌&&◌, ◌||◌, ◌==◌, not, nat_lt, find, is_some}
+use Rattle.std.proofs.Common.{◌≡◌, ℕ, zero, suc, ◌+◌, ◌≤◌, Bool, true, false, Some, List, [], ◌∷◌, ◌++◌, map, length, length-append, append_assoc, refl, sym, ap, ◌∙◌, subst, arith}
+use Rattle.std.specs.Prelude.{if◌then◌else◌, ◌==◌, nat_lt, find, is_some}
 use Rattle.std.specs.declared.alloc.Global.{Global}
 use Rattle.std.proofs.lemmas.Bool.Decides.{nat_tests, Decides-ltb, Decides-eqb}
 use Rattle.std.proofs.lemmas.List.{map-append}
@@ -16,7 +16,7 @@ use Rattle.nf_msgs.specs.declared.msg.Msg.TheVariants as msg
 use Rattle.nf_msgs.specs.declared.note.Note.{Note}
 use Rattle.nf_msgs.specs.declared.note.Note.TheVariants as note
 use Rattle.actor_net.specs.declared.choice.Choice.{Choice}
-use Rattle.actor_net.specs.Network.{Network, Stepped, IsRun, is_input, run, taken, waiting}
+use Rattle.actor_net.specs.Network.{Network, Stepped, IsRun, run, taken, waiting}
 use Rattle.actor_net.proofs.EnabledChoices.{at}
 use Rattle.actor_net.proofs.OpeningWorlds.{opening_waiting, opening_weight}
 use Rattle.actor_net.proofs.RunInduction.{Taking}
@@ -55,7 +55,7 @@ use Rattle.nf_net.proofs.AtMembers.{times_once, times_those}
 use Rattle.nf_net.proofs.PlaceRuns.{processed_off, uninstalled_unprocessed}
 use Rattle.nf_net.proofs.RunKeeps.{start, count, run_keeps}
 use Rattle.nf_net.proofs.SettleCounts.{AllAnswered, answered_in, all_answered_more, packets-append, longer_end}
-use Rattle.nf_net.proofs.SettleSteps.{Counted, Takes_in_run, each_map, items_none, counted_after}
+use Rattle.nf_net.proofs.SettleSteps.{Counted, each_map, items_none, counted_after}
 
 -- a packet among items is one of their numbers
 has_times : (p : ℕ) (qs : List Packet) → is_some (find (λ q. q.number == p) qs) ≡ true → 1 ≤ times p (map (λ q. q.number) qs)

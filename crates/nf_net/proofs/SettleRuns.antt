@@ -1,9 +1,8 @@
 -- Of every run: a packet behind a settle is processed where the rules of the switch send it, if no command behind the settle has begun.
-use Rattle.std.proofs.Common.{◌≡◌, ℕ, suc, ◌+◌, ◌≤◌, Bool, true, false, Option, Some, None, List, [], ◌∷◌, ◌++◌, append_assoc, refl, sym, ap, ◌∙◌, subst, arith}
+use Rattle.std.proofs.Common.{◌≡◌, ℕ, ◌+◌, Bool, true, false, Option, Some, None, List, ◌∷◌, ◌++◌, append_assoc, refl, sym, ap, ◌∙◌, subst, arith}
 use Rattle.std.specs.Prelude.{if◌then◌else◌, ◌&&◌, ◌||◌, ◌==◌, not}
 use Rattle.std.specs.Option.{option_map_or}
 use Rattle.std.specs.declared.alloc.Global.{Global}
-use Rattle.flow_filter.specs.declared.filter.Filter.{Filter}
 use Rattle.nf_function.specs.declared.output.Output.{Output}
 use Rattle.nf_function.specs.declared.unit.Unit as units
 use Rattle.nf_function.specs.Records.{Laws as FunctionLaws}
@@ -25,17 +24,15 @@ use Rattle.net_world.specs.Log.{installed}
 use Rattle.net_world.specs.Nodes.{node_step, node_ready}
 use Rattle.net_world.specs.Places.{first_owner, owner_after, members_after, is_home, owner, members, member_for, unit_numbered, goes_to, IsMoving, IsPlace, Owns, Is_source, Is_destination, Is_member, ArePlaces}
 use Rattle.net_world.specs.Settles.{IsBehind, has_packet, NoneBegan, Settles}
-use Rattle.outline_net.proofs.FiltersApart.{unit_fits}
 use Rattle.outline_net.proofs.StateOutline.{all_each}
 use Rattle.whole_joined.proofs.Given.{Given}
 use Rattle.whole_joined.proofs.LogLemmas.{has_begun-append}
 use Rattle.whole_joined.proofs.OwnerLemmas.{installed-append, Stands, In_first, In_second, stands}
 use Rattle.whole_joined.proofs.StartJoined.{given}
 use Rattle.answer_net.proofs.CommandPromises.{run_answers}
-use Rattle.answer_net.proofs.InstallNotes.{times_installed-append}
 use Rattle.nf_net.proofs.AtMembers.{at_members}
 use Rattle.nf_net.proofs.InstalledShares.{IsInstalledShare, says_of_shares}
-use Rattle.nf_net.proofs.MemberLemmas.{Shares_it, IsSharedBy, shared_by, still_shared, Installed_in, installed_in, times_there}
+use Rattle.nf_net.proofs.MemberLemmas.{IsSharedBy, shared_by, still_shared, Installed_in, installed_in, times_there}
 use Rattle.nf_net.proofs.NumberedUnits.{units_fit}
 use Rattle.nf_net.proofs.RunKeeps.{start}
 use Rattle.nf_net.proofs.SettleCounts.{AllAnswered, answered_more, all_answered_more, found, commands-append}

@@ -1,12 +1,12 @@
 -- The share of a unit in a world of a run: a share that the switch has installed is open, and of all open ones it alone takes its units. So what
 -- the log says of the unit's members is what the controller serves.
-use Rattle.std.proofs.Common.{◌≡◌, ◌≢◌, ℕ, zero, suc, ◌+◌, ◌<◌, ◌≤◌, ◌⊎◌, inl, inr, Bool, true, false, Option, Some, None, List, [], ◌∷◌, ◌++◌, map, length, refl, sym, ap, ◌∙◌, subst, arith}
+use Rattle.std.proofs.Common.{◌≡◌, ℕ, zero, suc, ◌+◌, ◌<◌, ◌≤◌, inl, inr, Bool, true, false, Option, Some, None, List, [], ◌∷◌, map, length, refl, sym, ap, ◌∙◌, subst, arith}
 use Rattle.std.specs.Prelude.{if◌then◌else◌, ◌&&◌, ◌||◌, ◌==◌, ◌%◌, not, find, is_some, slice_index, slice_index_or}
 use Rattle.std.specs.List.{filter_map}
 use Rattle.std.specs.FinMap as finite
 use Rattle.std.proofs.lemmas.Nat.{mod_below}
 use Rattle.std.proofs.lemmas.List.{length-map}
-use Rattle.std.proofs.lemmas.Bool.Decides.{nat_tests, Decides-eqb}
+use Rattle.std.proofs.lemmas.Bool.Decides.{Decides-eqb}
 use Rattle.flow_filter.specs.declared.filter.Filter.{Filter}
 use Rattle.flow_filter.specs.declared.flow.Flow.{Flow}
 use Rattle.flow_filter.specs.Flow.{flow_of}
@@ -15,7 +15,6 @@ use Rattle.nf_function.specs.Semantics.{Semantics}
 use Rattle.nf_function.specs.Units.{takes}
 use Rattle.nf_msgs.specs.declared.answer.Answer.{Answer}
 use Rattle.nf_msgs.specs.declared.answer.Answer.TheVariants.{Done}
-use Rattle.nf_msgs.specs.declared.command.Order.{Order}
 use Rattle.nf_msgs.specs.declared.command.Order.TheVariants as order
 use Rattle.nf_msgs.specs.declared.msg.Msg.{Msg}
 use Rattle.nf_msgs.specs.declared.note.Note.{Note}
@@ -32,7 +31,7 @@ use Rattle.share_machine.proofs.Stages.{Stage, Stage.Diverting, Stage.Fence_goes
 use Rattle.abstract_net.proofs.Elsewhere.{where_two}
 use Rattle.abstract_net.proofs.ShareLists.{found_each}
 use Rattle.abstract_net.proofs.ShareViews.{share_frame}
-use Rattle.abstract_net.proofs.Shares.{Open_share, find_share, moves_of}
+use Rattle.abstract_net.proofs.Shares.{Open_share, moves_of}
 use Rattle.abstract_net.proofs.Untaken.{Elsewhere_home}
 use Rattle.abstract_net.proofs.UnderStarts.{seeing}
 use Rattle.whole_net.proofs.Readings.{Its_share, its_share}
@@ -40,16 +39,16 @@ use Rattle.whole_net.proofs.WhereAll.{Where_all, Apart_from_shares, Under_share}
 use Rattle.net_world.specs.declared.config.Config.{Config}
 use Rattle.net_world.specs.declared.node.Node.{Node}
 use Rattle.net_world.specs.declared.node.Node.TheVariants.{Controller}
-use Rattle.net_world.specs.Commands.{began, has_answered, keeps_off, is_share, answers_of, times_installed}
+use Rattle.net_world.specs.Commands.{began, has_answered, is_share, answers_of, times_installed}
 use Rattle.net_world.specs.Input.{IsInput, order_of, packet_of}
 use Rattle.net_world.specs.Log.{installed}
 use Rattle.net_world.specs.Places.{first_owner, is_home, owner, members, member_for}
-use Rattle.outline_net.proofs.FiltersApart.{is_whole, unit_fits, takes_whole, takes_same, filters_apart}
+use Rattle.outline_net.proofs.FiltersApart.{unit_fits, takes_whole, takes_same, filters_apart}
 use Rattle.outline_net.proofs.Outline.{is_sys}
 use Rattle.whole_outline.proofs.OpenShares.{Both, both, Real_share, real_share}
 use Rattle.whole_outline.proofs.ShareOutline.{share_phase}
-use Rattle.whole_joined.proofs.Given.{Given, place, target_by, is_diverted}
-use Rattle.whole_joined.proofs.Joined.{S, A, IsShare, Joined, came_by, count}
+use Rattle.whole_joined.proofs.Given.{Given, place, is_diverted}
+use Rattle.whole_joined.proofs.Joined.{S, A, IsShare, Joined, came_by}
 use Rattle.whole_joined.proofs.OperationsApart.{AreApart, AllApart}
 use Rattle.whole_joined.proofs.ShareBegins.{names_known}
 use Rattle.whole_joined.proofs.StartJoined.{given}
@@ -58,7 +57,7 @@ use Rattle.answer_net.proofs.BusyRuns.{Busy, same_controller, keeps_is, plan_is,
 use Rattle.answer_net.proofs.InstallRuns.{Installs}
 use Rattle.answer_net.proofs.InstallSteps.{is_moving, dones, open_in}
 use Rattle.answer_net.proofs.ShareTells.{is_set_up}
-use Rattle.nf_net.proofs.MemberLemmas.{IsThere, There, is_there, Shares_it, IsSharedBy, shared_by, members_diverted, Installed_in, installed_in, times_there, home_first, member_at}
+use Rattle.nf_net.proofs.MemberLemmas.{IsThere, There, is_there, IsSharedBy, shared_by, members_diverted, Installed_in, installed_in, times_there, home_first, member_at}
 
 -- a share that is set up, as its proof sees it
 abbrev serves : machine.Phase → Bool
