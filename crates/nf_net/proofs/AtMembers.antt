@@ -117,9 +117,10 @@ module _ {F R : Type 0} (f : Semantics R) (c : Config) (items : List Msg) (is : 
     done_there : ran_of (S f g) (A f g) u j.world.done ≡ ran front ++ (number, instance_node i) ∷ ran after
     done_there =
         let mine_is = own in
+        let here : ran_of (S f g) (A f g) u (by_node f g (done (note.Processed number i output ∷ after))) ≡ (number, instance_node i) ∷ ran after = rw mine_is refl in
         ap (ran_of (S f g) (A f g) u) (j.shown_is.done_is ∙ ap (λ log. by_node f g (done log)) log_is ∙ ap (by_node f g) (done-append front (note.Processed number i output ∷ after)) ∙ by_node-append f g (done front) (done (note.Processed number i output ∷ after)))
         ∙ ran_more (S f g) (A f g) (is_sys f g.site g.packet) u (by_node f g (done front)) (by_node f g (done (note.Processed number i output ∷ after)))
-        ∙ ap (λ v. ran front ++ v) (rw mine_is refl)
+        ∙ ap (λ v. ran front ++ v) here
 
     at : Done_at (S f g) (A f g) (is_sys f g.site g.packet) u j.world (came_by f g w.log u) number (instance_node i) once came (ran front) (ran after) done_there
     at = done_at (S f g) (A f g) (is_sys f g.site g.packet) u j.world (came_by f g w.log u) number (instance_node i) once came (ran front) (ran after) done_there (j.shown_is.every.unit u)

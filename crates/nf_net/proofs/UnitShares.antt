@@ -89,7 +89,7 @@ serving_diverts f (Chunk_comes d a p q v) e = refl
 
 dones_still : (xs : List Answer) → dones false xs ≡ 0
 dones_still [] = refl
-dones_still (x ∷ xs) = dones_still xs
+dones_still (x ∷ xs) = let rest = dones_still xs in omega (arith, rest)
 
 index_same : (ms : List ℕ) (i : ℕ) → i < length ms → slice_index (map instance_node ms) i ≡ instance_node (slice_index ms i)
 index_same [] i low = absurd (omega (arith, low))
@@ -159,7 +159,8 @@ module _ {F R : Type 0} (f : Semantics R) (c : Config) (items : List Msg) (is : 
   share_open op ms filter what None at e = cc
   share_open op ms filter what (Some (Share s)) at e = open_share op ms filter what s at
   share_open op ms filter what (Some (Move m)) at e =
-      let never = sym (plan_is f g n count_is w j b op m at).order_is ∙ what in
+      let plan = plan_is f g n count_is w j b op m at in
+      let never = sym plan.order_is ∙ what in
       cc
   share_open op ms filter what (Some (Copy y)) at e =
       let its = j.shown_is.controller.copies op y at in
@@ -196,7 +197,7 @@ module _ {F R : Type 0} (f : Semantics R) (c : Config) (items : List Msg) (is : 
       | false ↦ λ off. absurd (not_both (apart k l (Share s) (Share t) off at_k at_l))
     ] refl
       where
-        not_both : (meets_not : AreApart (Some s.plan.filter) (Some t.plan.filter)) → ⊥
+        not_both : AreApart (Some s.plan.filter) (Some t.plan.filter) → ⊥
         not_both (inl off) = let never : true ≡ false = sym on_l ∙ filters_apart f.kind s.plan.filter t.plan.filter u off on_k in cc
         not_both (inr off) = let never : true ≡ false = sym on_k ∙ filters_apart f.kind t.plan.filter s.plan.filter u off on_l in cc
 
