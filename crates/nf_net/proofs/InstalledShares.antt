@@ -1,7 +1,7 @@
 -- What the log of every run says of shares: the home of the share that has a unit owns it for good; and a share that the switch installs has begun,
 -- and isn't answered before, if its home owns a unit that it takes.
-use Rattle.std.proofs.Common.{◌≡◌, ℕ, zero, suc, ◌+◌, ◌≤◌, Bool, true, false, Option, Some, None, List, [], ◌∷◌, ◌++◌, length, append-nil, refl, sym, ap, ◌∙◌, subst, arith}
-use Rattle.std.specs.Prelude.{if◌then◌else◌, ◌&&◌, ◌||◌, ◌==◌}
+use Rattle.std.proofs.Common.{◌≡◌, ℕ, zero, suc, ◌+◌, ◌≤◌, true, false, Option, Some, None, List, [], ◌∷◌, ◌++◌, length, append-nil, refl, sym, ap, ◌∙◌, subst, arith}
+use Rattle.std.specs.Prelude.{if◌then◌else◌}
 use Rattle.std.specs.Option.{option_or}
 use Rattle.std.specs.declared.alloc.Global.{Global}
 use Rattle.flow_filter.specs.declared.filter.Filter.{Filter}
@@ -9,14 +9,12 @@ use Rattle.nf_function.specs.declared.unit.Unit as units
 use Rattle.nf_function.specs.Records.{Laws as FunctionLaws}
 use Rattle.nf_function.specs.Semantics.{Semantics}
 use Rattle.nf_function.specs.Units.{takes}
-use Rattle.nf_msgs.specs.declared.command.Order.{Order}
 use Rattle.nf_msgs.specs.declared.command.Order.TheVariants as order
 use Rattle.nf_msgs.specs.declared.msg.Msg.{Msg}
 use Rattle.nf_msgs.specs.declared.note.Note.{Note}
 use Rattle.nf_msgs.specs.declared.note.Note.TheVariants as note
 use Rattle.nf_msgs.specs.Nodes.{instance_node}
 use Rattle.switch_node.specs.Switch.{switch_step}
-use Rattle.switch_rules.specs.declared.target.Target.TheVariants as target
 use Rattle.ctrl_node.specs.declared.operation.Operation.TheVariants.{Share}
 use Rattle.ctrl_node.specs.Controller.{controller_step}
 use Rattle.actor_net.specs.declared.choice.Choice.{Choice}
@@ -29,7 +27,7 @@ use Rattle.abstract_net.proofs.Net as net
 use Rattle.abstract_net.proofs.Elsewhere.{where_two}
 use Rattle.abstract_net.proofs.GlobalAll.{Of_share}
 use Rattle.abstract_net.proofs.NewMessages.{new_head}
-use Rattle.abstract_net.proofs.Shares.{Any, Old, New, S_install, moves_of}
+use Rattle.abstract_net.proofs.Shares.{Any, Old, S_install, moves_of}
 use Rattle.abstract_net.proofs.UnderStarts.{seeing}
 use Rattle.whole_net.proofs.UnderMoves.{no_change}
 use Rattle.whole_net.proofs.WhereAll.{Where_all, Apart_from_shares, Under_share}
@@ -44,9 +42,9 @@ use Rattle.outline_net.proofs.FiltersApart.{is_whole, unit_fits, takes_whole, ta
 use Rattle.outline_net.proofs.Outline.{is_sys}
 use Rattle.whole_outline.proofs.OpenShares.{real_share}
 use Rattle.whole_joined.proofs.BesideRuns.{its_takes, its_taken}
-use Rattle.whole_joined.proofs.Given.{Given, place, IsInstall, IsDivert}
+use Rattle.whole_joined.proofs.Given.{Given, place}
 use Rattle.whole_joined.proofs.HandedUnits.{owner_next}
-use Rattle.whole_joined.proofs.Joined.{S, A, Joined, Scene, IsTaken, node_of}
+use Rattle.whole_joined.proofs.Joined.{S, A, Joined, came_by, Scene, IsTaken, node_of}
 use Rattle.whole_joined.proofs.JoinedSteps.{scene}
 use Rattle.whole_joined.proofs.NodeSteps.{Wants, node_leads}
 use Rattle.whole_joined.proofs.OperationsApart.{AllApart}
@@ -139,10 +137,10 @@ module _ {F R : Type 0} (f : Semantics R) (c : Config) (items : List Msg) (is : 
   not_moved : (u : units.Unit) → unit_fits f.kind u ≡ true → (ms : List (List ℕ)) → members c items u w.log ≡ Some ms → (k : ℕ) (filter : Filter) (from dst : ℕ) (rest : List (Any R)) → is_whole f.kind filter ≡ true → j.world.link 1 0 ≡ Old (net.Mv filter (real.M_install k from dst)) ∷ rest → takes filter u ≡ false
   not_moved u fits ms e k filter from dst rest whole waits = sym (takes_same f.kind filter u whole fits) ∙ by_where (j.shown_is.every.unit u)
     where
-      by_where : Where_all (S f g) (A f g) (is_sys f g.site g.packet) u j.world _ → takes_whole f.kind filter u ≡ false
+      by_where : Where_all (S f g) (A f g) (is_sys f g.site g.packet) u j.world (came_by f g w.log u) → takes_whole f.kind filter u ≡ false
       by_where (Apart_from_shares q none) =
           let two = where_two (S f g) (is_sys f g.site g.packet) u (moves_of (S f g) (A f g) j.world) _ _ q.is in
-          let one = members_go f c items is n count_is w j apart b u fits ms e in
+          let one = members_go f c items is n w j u fits ms e in
           absurd (omega (arith, two, one))
       by_where (Under_share x before d q o m) = no_change (S f g) (A f g) (seeing (S f g) (A f g) u x) j.world before _ q k from dst filter rest waits
 

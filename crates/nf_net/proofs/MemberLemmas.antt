@@ -1,5 +1,5 @@
 -- The members of the share that has a unit, by the commands that the switch has installed; and the place of a packet's member.
-use Rattle.std.proofs.Common.{◌≡◌, ℕ, zero, suc, ◌+◌, ◌<◌, ◌≤◌, Bool, true, false, Option, Some, None, List, [], ◌∷◌, ◌++◌, length, refl, sym, ap, ◌∙◌, subst, arith}
+use Rattle.std.proofs.Common.{◌≡◌, ℕ, zero, suc, ◌+◌, ◌<◌, Bool, true, false, Option, Some, None, List, [], ◌∷◌, ◌++◌, length, refl, sym, ap, ◌∙◌, subst, arith}
 use Rattle.std.specs.Prelude.{if◌then◌else◌, ◌&&◌, ◌||◌, ◌==◌, not, find, is_some, slice_index, slice_index_or}
 use Rattle.std.specs.List.{filter_map}
 use Rattle.std.specs.Option.{option_or}
@@ -101,9 +101,9 @@ module _ (g : Given) (u : units.Unit) where
     where
       by_first : (o : Option (List (List ℕ))) → sharing (g.orders op) i ≡ o → option_or o (members_by (handed_on g.names g.orders u (g.orders op) i) ops) ≡ Some ms → (members_by (handed_on g.names g.orders u (g.orders op) i) ops ≡ Some ms → IsSharedBy (handed_on g.names g.orders u (g.orders op) i) ops ms) → IsSharedBy i (op ∷ ops) ms
       by_first (Some these) at found rest = let same : these ≡ ms = cc in record { op = op; front = []; back = ops; whole = refl; its = shares_it (g.orders op) i ms (at ∙ ap Some same); unshared = refl }
-      by_first None at later rest =
+      by_first None is later rest =
           let r = rest later in
-          record { op = r.op; front = op ∷ r.front; back = r.back; whole = ap (λ v. op ∷ v) r.whole; its = r.its; unshared = rw at r.unshared }
+          record { op = r.op; front = op ∷ r.front; back = r.back; whole = ap (λ v. op ∷ v) r.whole; its = r.its; unshared = rw is r.unshared }
 
   -- it has these members wherever that command stands with the same before it
   pub still_shared : (i op : ℕ) (front back : List ℕ) (ms : List (List ℕ)) → members_by i front ≡ None → Shares_it (g.orders op) (owner_by i front) ms → members_by i (front ++ op ∷ back) ≡ Some ms
@@ -157,7 +157,7 @@ module _ (names : List (List ℕ)) where
   instances these = filter_map (place_of names) these
 
   first_instance : (name : List ℕ) (others : List (List ℕ)) (k : ℕ) → place_of names name ≡ Some k → instances (name ∷ others) ≡ k ∷ instances others
-  first_instance name others k at = rw at refl
+  first_instance name others k is = rw is refl
 
   -- the home is the first
   pub home_first : (orders : ℕ → Option Order) (these : List (List ℕ)) (i : ℕ) → is_home names orders these i ≡ true → slice_index (instances these) 0 ≡ i
