@@ -74,22 +74,22 @@ module _ {F R : Type 0} (f : Semantics R) (c : Config) (items : List Msg) (is : 
         ∙ record_is f c items is n w count j u apart i r live
 
 -- The records that a filter takes.
-module _ {R : Type 0} (g : Filter) where
-  got_taken : (m : Records R) (u : units.Unit) → finite.get (taken_by g m) u ≡ cond (takes g u) (finite.get m u) None
-  got_taken m u = finite.get-retain_keys m (takes g) u (λ x same. ap (takes g) (sym (one_unit u x same)))
+module _ {R : Type 0} (filter : Filter) where
+  got_taken : (m : Records R) (u : units.Unit) → finite.get (taken_by filter m) u ≡ cond (takes filter u) (finite.get m u) None
+  got_taken m u = finite.get-retain_keys m (takes filter) u (λ x same. ap (takes filter) (sym (one_unit u x same)))
 
   twice : (b : Bool) (o : Option R) → cond b (cond b o None) None ≡ cond b o None
   twice true o = refl
   twice false o = refl
 
-  taken_twice : (m : Records R) → taken_by g (taken_by g m) ≡ taken_by g m
-  taken_twice m = same_records (taken_by g (taken_by g m)) (taken_by g m) (λ u. got_taken (taken_by g m) u ∙ ap (λ o. cond (takes g u) o None) (got_taken m u) ∙ twice (takes g u) (finite.get m u) ∙ sym (got_taken m u))
+  taken_twice : (m : Records R) → taken_by filter (taken_by filter m) ≡ taken_by filter m
+  taken_twice m = same_records (taken_by filter (taken_by filter m)) (taken_by filter m) (λ u. got_taken (taken_by filter m) u ∙ ap (λ o. cond (takes filter u) o None) (got_taken m u) ∙ twice (takes filter u) (finite.get m u) ∙ sym (got_taken m u))
 
   both : (b : Bool) (o : Option R) (r : R) → cond b o None ≡ Some r → (b ≡ true) × (o ≡ Some r)
   both true o r e = (refl, e)
   both false o r e = cc
 
   -- what an instance gives of them, where a test tells which of them have a time
-  pub taken_give : (f : Semantics R) (laws : FunctionLaws f) (live : Records R) (test : units.Unit → Bool) → ((u : units.Unit) (r : R) → takes g u ≡ true → finite.get live u ≡ Some r → f.is_timed r ≡ test u) → Gives f laws test (chunks_of f (taken_by g live))
-  taken_give f laws live test h = subst (λ m. Gives f laws test (chunks_of f m)) (taken_twice live) (selected_give f laws g (taken_by g live) test (λ u r there.
-      let it = both (takes g u) (finite.get live u) r (sym (got_taken live u) ∙ there) in h u r it.0 it.1))
+  pub taken_give : (f : Semantics R) (laws : FunctionLaws f) (live : Records R) (test : units.Unit → Bool) → ((u : units.Unit) (r : R) → takes filter u ≡ true → finite.get live u ≡ Some r → f.is_timed r ≡ test u) → Gives f laws test (chunks_of f (taken_by filter live))
+  taken_give f laws live test h = subst (λ m. Gives f laws test (chunks_of f m)) (taken_twice live) (selected_give f laws filter (taken_by filter live) test (λ u r there.
+      let it = both (takes filter u) (finite.get live u) r (sym (got_taken live u) ∙ there) in h u r it.0 it.1))
