@@ -252,10 +252,12 @@ module _ (F : Type 0) {R : Type 0} (f : Semantics R) (laws : FunctionLaws f) (al
       i = j.nodes.instance k
 
       module _ (small : k < n) where
+        counted : length w.nodes ≡ n
+        counted = (run_world node_ready step n (steps.start F f alloc c items is) (start_world F f laws alloc c items is) (count_at_start F f alloc c items is) cs run_is).1
+
         there : slice_get w.nodes (instance_node y) ≡ Some (Instance i)
         there =
             let number : instance_node y ≡ k = omega arith in
-            let counted = (run_world node_ready step n (steps.start F f alloc c items is) (start_world F f laws alloc c items is) (count_at_start F f alloc c items is) cs run_is).1 in
             subst (λ z. slice_get w.nodes z ≡ Some (Instance i)) (sym number) (slice_get-get_or w.nodes k (Instance i) (rw counted small) ∙ ap Some (j.nodes_are k small (Instance i)))
 
         fixed_here : IsFixed F f alloc c items is y i
@@ -263,7 +265,7 @@ module _ (F : Type 0) {R : Type 0} (f : Semantics R) (laws : FunctionLaws f) (al
 
         -- whether a live record of a unit that is asked for has a time
         timed_is : (op : ℕ) (filter : Filter) → Takes step n w k p (Instance i) (msg.Stream op filter) rest → is_whole f.kind filter ≡ true → (u : units.Unit) (r : R) → filters.takes filter u ≡ true → finite.get i.table.live u ≡ Some r → f.is_timed r ≡ is_timed f c items u w.log
-        timed_is op filter takes whole u r on got = record_timed f laws c items (all_fit f c items is) (went f c items u w.log) r (streamed_record f c items is n w j k p (omega arith) small takes.sender op filter rest takes.waits whole u r on got)
+        timed_is op filter takes whole u r on got = record_timed f laws c items (all_fit f c items is) (went f c items u w.log) r (streamed_record f c items is n w j counted k p (omega arith) small takes.sender op filter rest takes.waits whole u y r on got (ap (live_in u) there ∙ got))
 
         part_of : (op : ℕ) (chunks : List Chunk) (log : List Note) → exported op log ≡ Some (units_in chunks) → before_export op log ≡ w.log → Gives f laws (λ u. is_timed f c items u w.log) chunks → (ps : List Piece) → Each (IsOf (whole_of chunks)) ps → Each (Part log op) ps
         part_of op chunks log units_are before gives [] each = tt

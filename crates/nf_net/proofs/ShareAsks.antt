@@ -7,6 +7,7 @@ use Rattle.nf_function.specs.declared.chunk.Chunk.{Chunk}
 use Rattle.packet_pool.specs.Pool.{FullCell}
 use Rattle.event_filter.specs.declared.mark.Mark.TheVariants.{Shared}
 use Rattle.nf_msgs.specs.declared.answer.Answer.{Answer}
+use Rattle.nf_msgs.specs.declared.answer.Answer.TheVariants.{Done}
 use Rattle.nf_msgs.specs.declared.msg.Msg.{Msg}
 use Rattle.nf_msgs.specs.declared.msg.Msg.TheVariants as msg
 use Rattle.nf_msgs.specs.Nodes.{switch_node, instance_node}
@@ -49,7 +50,7 @@ module _ (n : ℕ) (first : Bool) (plan : SharePlan) where
   syncs_none chunks (m ∷ ms) = no_more n 1 first (instance_node m) (msg.Sync (m == home plan) plan.op chunks) (λ op. refl) (map (λ member. (instance_node member, msg.Sync (member == home plan) plan.op chunks)) ms) (syncs_none chunks ms)
 
   setting_asks : (ph : SharePhase) (left : ℕ) (sends : List (ℕ × Msg)) → NoneOnce n 1 first sends → Asks ph (setting left sends)
-  setting_asks ph left sends none = elim (left == 0) as (λ b. Asks ph (if b then record { phase = phase.Idle; sends = sends; answer = Some _ } else goes (phase.Setting left) sends)) [
+  setting_asks ph left sends none = elim (left == 0) as (λ b. Asks ph (if b then record { phase = phase.Idle; sends = sends; answer = Some Done } else goes (phase.Setting left) sends)) [
     | true ↦ asks_none ph _ (asked_few ph) none
     | false ↦ asks_none ph _ (asked_few ph) none
   ]
