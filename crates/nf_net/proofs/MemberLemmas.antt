@@ -174,9 +174,9 @@ module _ (names : List (List ℕ)) where
 
   pub member_at : (these : List (List ℕ)) → unknown these ≡ None → (i : ℕ) → i < length these → place_of names (slice_index_or these i []) ≡ Some (slice_index (instances these) i)
   member_at [] e i low = absurd (omega (arith, low))
-  member_at (name ∷ others) e i low = by_place (place_of names name) refl e i low
+  member_at (name ∷ others) e i low = by_place (place_of names name) refl e (λ rest k less. member_at others rest k less) i low
     where
-      by_place : (o : Option ℕ) → place_of names name ≡ o → (if not (is_some o) then Some name else unknown others) ≡ None → (k : ℕ) → k < length (name ∷ others) → place_of names (slice_index_or (name ∷ others) k []) ≡ Some (slice_index (instances (name ∷ others)) k)
-      by_place None at never k less = cc
-      by_place (Some x) at rest zero less = at ∙ ap (λ v. Some (slice_index v 0)) (sym (first_instance name others x at))
-      by_place (Some x) at rest (suc k) less = member_at others rest k (omega (arith, less)) ∙ ap (λ v. Some (slice_index v (suc k))) (sym (first_instance name others x at))
+      by_place : (o : Option ℕ) → place_of names name ≡ o → (if not (is_some o) then Some name else unknown others) ≡ None → (unknown others ≡ None → (k : ℕ) → k < length others → place_of names (slice_index_or others k []) ≡ Some (slice_index (instances others) k)) → (k : ℕ) → k < length (name ∷ others) → place_of names (slice_index_or (name ∷ others) k []) ≡ Some (slice_index (instances (name ∷ others)) k)
+      by_place None at never again k less = cc
+      by_place (Some x) at rest again zero less = at ∙ ap (λ v. Some (slice_index v 0)) (sym (first_instance name others x at))
+      by_place (Some x) at rest again (suc k) less = again rest k (omega (arith, less)) ∙ ap (λ v. Some (slice_index v (suc k))) (sym (first_instance name others x at))

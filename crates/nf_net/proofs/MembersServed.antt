@@ -42,7 +42,7 @@ module _ {R : Type 0} (f : Frame R) where
   served_at [] [] back p y e = cc
   served_at [] (x ∷ front) back p y e = cc
   served_at (q ∷ ps) [] back p y e =
-      let first : (q, f.member_of q) ≡ (p, y) = cc in
+      let first : ◌≡◌ {A = Ran} (q, f.member_of q) (p, y) = cc in
       let same : q ≡ p = ap (λ d. d.0) first in
       let at : f.member_of q ≡ y = ap (λ d. d.1) first in
       sym at ∙ ap f.member_of same
