@@ -22,7 +22,7 @@ use Rattle.net_world.specs.declared.config.Config.{Config}
 use Rattle.net_world.specs.declared.node.Node.{Node}
 use Rattle.net_world.specs.Commands.{times_installed}
 use Rattle.net_world.specs.Fold.{times, is_of}
-use Rattle.net_world.specs.Input.{IsRising, IsInput, packet_of, packets}
+use Rattle.net_world.specs.Input.{IsRising, IsInput, packet_of}
 use Rattle.net_world.specs.Log.{arrived, done, installed, those}
 use Rattle.net_world.specs.Nodes.{node_step, node_ready}
 use Rattle.net_world.specs.Places.{first_owner, members, member_for, unit_numbered, AreAtMembers}

@@ -127,6 +127,9 @@ With_note n log front op = Installed_in log front op → Installed_in (n ∷ log
 behind_note : (n : Note) (log : List Note) (front : List ℕ) (op : ℕ) → ((xs : List Note) → installed (n ∷ xs) ≡ installed xs) → With_note n log front op
 behind_note n log front op same r = record { first = n ∷ r.first; rest = r.rest; whole = ap (λ v. n ∷ v) r.whole; before = same r.first ∙ r.before }
 
+behind_installed : (k x : ℕ) (log : List Note) (front : List ℕ) (op : ℕ) → k ≡ x → Installed_in log front op → Installed_in (note.Installed k ∷ log) (x ∷ front) op
+behind_installed k x log front op same r = record { first = note.Installed k ∷ r.first; rest = r.rest; whole = ap (λ v. note.Installed k ∷ v) r.whole; before = ap (λ v. k ∷ v) r.before ∙ ap (λ q. q ∷ front) same }
+
 pub installed_in : (log : List Note) (front : List ℕ) (op : ℕ) (back : List ℕ) → installed log ≡ front ++ op ∷ back → Installed_in log front op
 installed_in [] [] op back e = cc
 installed_in [] (x ∷ front) op back e = cc
@@ -134,8 +137,7 @@ installed_in (note.Installed k ∷ log) [] op back e = let same : k ≡ op = cc 
 installed_in (note.Installed k ∷ log) (x ∷ front) op back e =
     let same : k ≡ x = cc in
     let tail : installed log ≡ front ++ op ∷ back = cc in
-    let r = installed_in log front op back tail in
-    record { first = note.Installed k ∷ r.first; rest = r.rest; whole = ap (λ v. note.Installed k ∷ v) r.whole; before = ap (λ v. k ∷ v) r.before ∙ ap (λ q. q ∷ front) same }
+    behind_installed k x log front op same (installed_in log front op back tail)
 installed_in (note.Arrived number ∷ log) front op back e = behind_note (note.Arrived number) log front op (λ xs. refl) (installed_in log front op back e)
 installed_in (note.Processed number instance output ∷ log) front op back e = behind_note (note.Processed number instance output) log front op (λ xs. refl) (installed_in log front op back e)
 installed_in (note.Begun k ∷ log) front op back e = behind_note (note.Begun k) log front op (λ xs. refl) (installed_in log front op back e)
