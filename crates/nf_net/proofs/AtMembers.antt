@@ -22,7 +22,7 @@ use Rattle.net_world.specs.declared.config.Config.{Config}
 use Rattle.net_world.specs.declared.node.Node.{Node}
 use Rattle.net_world.specs.Commands.{times_installed}
 use Rattle.net_world.specs.Fold.{times, is_of}
-use Rattle.net_world.specs.Input.{IsRising, IsInput, packet_of, packets}
+use Rattle.net_world.specs.Input.{IsRising, IsInput, packet_of}
 use Rattle.net_world.specs.Log.{arrived, done, installed, those}
 use Rattle.net_world.specs.Nodes.{node_step, node_ready}
 use Rattle.net_world.specs.Places.{first_owner, members, member_for, unit_numbered, AreAtMembers}
@@ -140,7 +140,7 @@ module _ (F : Type 0) {R : Type 0} (f : Semantics R) (laws : FunctionLaws f) (al
   first = start F f laws alloc c items is
 
   -- each packet comes once
-  pub came_once : (cs : List Choice) → IsRun node_ready (node_step f) cs first → (p : ℕ) → times p (arrived (run (node_step f) cs first).log) ≤ 1
+  came_once : (cs : List Choice) → IsRun node_ready (node_step f) cs first → (p : ℕ) → times p (arrived (run (node_step f) cs first).log) ≤ 1
   came_once cs run_is p =
       let turn = (runs_joined F f laws alloc c items is cs run_is).in_turn in
       let both = ap (times p) turn in

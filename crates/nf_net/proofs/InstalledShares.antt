@@ -1,7 +1,6 @@
 -- What the log of every run says of shares: the home of the share that has a unit owns it for good; and a share that the switch installs has begun,
 -- and isn't answered before, if its home owns a unit that it takes.
 use Rattle.std.proofs.Common.{◌≡◌, ℕ, zero, suc, ◌+◌, ◌≤◌, true, false, Option, Some, None, List, [], ◌∷◌, ◌++◌, length, append-nil, refl, sym, ap, ◌∙◌, subst, arith}
-use Rattle.std.specs.Prelude.{if◌then◌else◌}
 use Rattle.std.specs.Option.{option_or}
 use Rattle.std.specs.declared.alloc.Global.{Global}
 use Rattle.flow_filter.specs.declared.filter.Filter.{Filter}
@@ -191,8 +190,8 @@ module _ {F R : Type 0} (f : Semantics R) (c : Config) (items : List Msg) (is : 
             open_began f g n count_is w j b k (Share s.s) s.there
 
 module _ (F : Type 0) {R : Type 0} (f : Semantics R) (laws : FunctionLaws f) (alloc : Global) (c : Config) (items : List Msg) (is : IsInput f.kind c items) where
-  abbrev g : Given
-  g = given f c items is
+  abbrev gr : Given
+  gr = given f c items is
 
   abbrev n : ℕ
   n = count F f laws alloc c items is
@@ -200,14 +199,14 @@ module _ (F : Type 0) {R : Type 0} (f : Semantics R) (laws : FunctionLaws f) (al
   abbrev first : Network (Node F R) Msg Note
   first = start F f laws alloc c items is
 
-  module _ (w : Network (Node F R) Msg Note) (r : Runs F f laws alloc c items is w) (b : Busy g w) (i : Installs g w) (h : SaysOfShares f c items w.log) where
-    step_says : (k p : ℕ) (m : Msg) → IsTaken f g n (scene f g n refl (Wants f g) (node_leads f laws g (all_fit f c items is) n) w r.joined) (record { node = k; port = p; message = m }) → SaysOfShares f c items (w.log ++ (node_step f (node_of r.joined.nodes k) p m).notes)
-    step_says zero p m it = says_after f c items is n refl w r.joined r.beside.kept.apart b i h p m it (changed f g n _ r.joined.shown_is p m it)
+  module _ (w : Network (Node F R) Msg Note) (r : Runs F f laws alloc c items is w) (b : Busy gr w) (i : Installs gr w) (h : SaysOfShares f c items w.log) where
+    step_says : (k p : ℕ) (m : Msg) → IsTaken f gr n (scene f gr n refl (Wants f gr) (node_leads f laws gr (all_fit f c items is) n) w r.joined) (record { node = k; port = p; message = m }) → SaysOfShares f c items (w.log ++ (node_step f (node_of r.joined.nodes k) p m).notes)
+    step_says zero p m it = says_after f c items is n refl w r.joined r.beside.kept.apart b i h p m it (changed f gr n _ r.joined.shown_is p m it)
     step_says (suc zero) p m it = quiet_says f c items w.log (controller_step r.joined.nodes.controller p m).notes (installed_none _ (controller_uninstalled r.joined.nodes.controller p m)) h
     step_says (suc (suc y)) p m it = quiet_says f c items w.log (node_step f (node_of r.joined.nodes (suc (suc y))) p m).notes (installed_quiet (r.joined.nodes.instance (suc (suc y))).index _ (instance_quiet f (r.joined.nodes.instance (suc (suc y))) m)) h
 
     next_says : (d : Choice) → Taking node_ready (node_step f) n w d → SaysOfShares f c items (taken (node_step f) w d).log
-    next_says d t = subst (SaysOfShares f c items) (sym (taken_outcome (node_step f) n w d.node d.port (node_of r.joined.nodes d.node) t.message t.rest (its_takes f laws g (all_fit f c items is) n refl w d t r.joined r.beside)).log) (step_says d.node d.port t.message (its_taken f laws g (all_fit f c items is) n refl w d t r.joined r.beside))
+    next_says d t = subst (SaysOfShares f c items) (sym (taken_outcome (node_step f) n w d.node d.port (node_of r.joined.nodes d.node) t.message t.rest (its_takes f laws gr (all_fit f c items is) n refl w d t r.joined r.beside)).log) (step_says d.node d.port t.message (its_taken f laws gr (all_fit f c items is) n refl w d t r.joined r.beside))
 
   says_at_start : SaysOfShares f c items []
   says_at_start = record {

@@ -6,8 +6,8 @@ use Rattle.unit_machine.proofs.Real.{add}
 use Rattle.unit_machine.proofs.Stages.{times, Order}
 use Rattle.unit_machine.proofs.Loose.{times-append}
 use Rattle.unit_machine.proofs.Ends.{same_of}
-use Rattle.share_machine.proofs.Share.{Ran, Item, Item.Carry, Frame, has}
-use Rattle.share_machine.proofs.Stages.{Stage, Stage.Diverting, Stage.Fence_goes, Stage.Fenced_comes, Stage.Get_goes, Stage.Chunks_come, Stage.Spreads, Stage.Resting, Stage.Forwards, Stage.Carries, Stage.Chunk_comes, packets, served, processed, shape}
+use Rattle.share_machine.proofs.Share.{Ran, Item, Item.Carry, Frame}
+use Rattle.share_machine.proofs.Stages.{Stage, Stage.Diverting, Stage.Fence_goes, Stage.Fenced_comes, Stage.Get_goes, Stage.Chunks_come, Stage.Spreads, Stage.Resting, Stage.Forwards, Stage.Carries, Stage.Chunk_comes, packets, served, shape}
 use Rattle.share_machine.proofs.Order.{Parts, parts}
 use Rattle.share_machine.proofs.Heads.{to_members}
 use Rattle.share_machine.proofs.Places.{At_places}
@@ -42,7 +42,7 @@ module _ {R : Type 0} (f : Frame R) where
   served_at [] [] back p y e = cc
   served_at [] (x ∷ front) back p y e = cc
   served_at (q ∷ ps) [] back p y e =
-      let first : (q, f.member_of q) ≡ (p, y) = cc in
+      let first : ◌≡◌ {A = Ran} (q, f.member_of q) (p, y) = cc in
       let same : q ≡ p = ap (λ d. d.0) first in
       let at : f.member_of q ≡ y = ap (λ d. d.1) first in
       sym at ∙ ap f.member_of same

@@ -55,15 +55,9 @@ use Rattle.nf_net.proofs.MembersServed.{Processes_one, By_move, By_home, By_memb
 use Rattle.nf_net.proofs.NumberedUnits.{units_fit, Ran_there, ran_there}
 use Rattle.nf_net.proofs.UnitShares.{share_of_unit, home_is, member_is, diverted_members, owner_goes}
 
-module _ {F R : Type 0} (f : Semantics R) (laws : FunctionLaws f) (c : Config) (items : List Msg) (is : IsInput f.kind c items) (n : ℕ) (count_is : n ≡ length c.names + 2) (w : Network (Node F R) Msg Note) (j : Joined f (given f c items is) n w) (apart : AllApart j.nodes.controller.operations) (b : Busy (given f c items is) w) (h : Installs (given f c items is) w) (busy : AreUnderWay f c items is n w j) (says : SaysOfShares f c items w.log) where
-  abbrev g : Given
-  g = given f c items is
-
-  abbrev scene : Scene F f g
-  scene = record { nodes = j.nodes; world = j.world; log = w.log; input = waiting w (at_node 0 0) }
-
-  node_same : (a b k : ℕ) → instance_node a ≡ k → k ≡ instance_node b → a ≡ b
-  node_same a b k x y = omega (arith, x, y)
+module _ {F R : Type 0} (f : Semantics R) (laws : FunctionLaws f) (c : Config) (items : List Msg) (is : IsInput f.kind c items) (n : ℕ) (w : Network (Node F R) Msg Note) (j : Joined f (given f c items is) n w) (busy : AreUnderWay f c items is n w j) where
+  abbrev gm : Given
+  gm = given f c items is
 
   module _ (u : units.Unit) where
     -- an open move of the unit between two instances, as one that is under way
@@ -78,7 +72,7 @@ module _ {F R : Type 0} (f : Semantics R) (laws : FunctionLaws f) (c : Config) (
       src : e.op.src ≡ instance_node from
       dst : e.op.dst ≡ instance_node to
 
-    under_way : (k : ℕ) (e : Open R) (o : Option Operation) (events : List FullCell) → finite.get j.nodes.controller.operations k ≡ o → Sees f (place g) (Some e) (but_shares o) events → takes_whole f.kind e.filter u ≡ true → IsUnderWay e
+    under_way : (k : ℕ) (e : Open R) (o : Option Operation) (events : List FullCell) → finite.get j.nodes.controller.operations k ≡ o → Sees f (place gm) (Some e) (but_shares o) events → takes_whole f.kind e.filter u ≡ true → IsUnderWay e
     under_way k e (Some (Move m)) events there sees taken =
         let of = busy.plan_is k m there in
         let on = busy.open_busy k m there in
@@ -99,7 +93,17 @@ module _ {F R : Type 0} (f : Semantics R) (laws : FunctionLaws f) (c : Config) (
     under_way k e (Some (Share s)) events there sees taken = absurd sees
 
     pub open_at : (k : ℕ) (e : Open R) → find_op j.world.ops k ≡ Some e → takes_whole f.kind e.filter u ≡ true → IsUnderWay e
-    open_at k e there taken = under_way k e (finite.get j.nodes.controller.operations k) (stored j.nodes.controller.store k) refl (subst (λ q. Sees f (place g) q (but_shares (finite.get j.nodes.controller.operations k)) (stored j.nodes.controller.store k)) there (j.shown_is.controller.opens k).move) taken
+    open_at k e there taken = under_way k e (finite.get j.nodes.controller.operations k) (stored j.nodes.controller.store k) refl (subst (λ q. Sees f (place gm) q (but_shares (finite.get j.nodes.controller.operations k)) (stored j.nodes.controller.store k)) there (j.shown_is.controller.opens k).move) taken
+
+module _ {F R : Type 0} (f : Semantics R) (laws : FunctionLaws f) (c : Config) (items : List Msg) (is : IsInput f.kind c items) (n : ℕ) (count_is : n ≡ length c.names + 2) (w : Network (Node F R) Msg Note) (j : Joined f (given f c items is) n w) (apart : AllApart j.nodes.controller.operations) (b : Busy (given f c items is) w) (h : Installs (given f c items is) w) (busy : AreUnderWay f c items is n w j) (says : SaysOfShares f c items w.log) where
+  abbrev g : Given
+  g = given f c items is
+
+  abbrev scene : Scene F f g
+  scene = record { nodes = j.nodes; world = j.world; log = w.log; input = waiting w (at_node 0 0) }
+
+  node_same : (a b k : ℕ) → instance_node a ≡ k → k ≡ instance_node b → a ≡ b
+  node_same a b k x y = omega (arith, x, y)
 
   module _ (number i : ℕ) where
     abbrev unit : units.Unit
@@ -113,8 +117,8 @@ module _ {F R : Type 0} (f : Semantics R) (laws : FunctionLaws f) (c : Config) (
 
     by_may : May_process (S f g) (moves_of (S f g) (A f g) j.world) unit (instance_node i) → IsPlace c items f.kind number w.log i
     by_may (At_target at) = by_target at
-    by_may (At_source k e there taken at) = let m = open_at unit k e there taken in Is_source m.source m.destination m.moving (m.from_is ∙ ap Some (node_same m.from i e.op.src (sym m.src) (sym at)))
-    by_may (At_destination k e there taken at) = let m = open_at unit k e there taken in Is_destination m.source m.destination m.moving (m.to_is ∙ ap Some (node_same m.to i e.op.dst (sym m.dst) (sym at)))
+    by_may (At_source k e there taken at) = let m = open_at f laws c items is n w j busy unit k e there taken in Is_source m.source m.destination m.moving (m.from_is ∙ ap Some (node_same m.from i e.op.src (sym m.src) (sym at)))
+    by_may (At_destination k e there taken at) = let m = open_at f laws c items is n w j busy unit k e there taken in Is_destination m.source m.destination m.moving (m.to_is ∙ ap Some (node_same m.to i e.op.dst (sym m.dst) (sym at)))
 
     -- the share of the unit by the log
     module _ (e : Open_share) (its : Its_share (S f g) (A f g) (is_sys f g.site g.packet) unit j.world e) (names : List (List ℕ)) (shared : members c items unit w.log ≡ Some names) where

@@ -93,7 +93,7 @@ pub arrived_in : (log : List Note) (p : ℕ) → 1 ≤ times p (arrived log) →
 arrived_in [] p some = absurd (omega (arith, some))
 arrived_in (note.Arrived k ∷ log) p some = elim (p == k) as (λ b. (p == k) ≡ b → 1 ≤ (if b then 1 else 0) + times p (arrived log) → Arrived_in (note.Arrived k ∷ log) p) [
   | true ↦ λ on _. record { first = []; rest = log; whole = ap (λ q. note.Arrived q ∷ log) (sym ((Decides-eqb p k).0 on)) }
-  | false ↦ λ _ more. behind_note (note.Arrived k) log p (arrived_in log p more)
+  | false ↦ λ _ more. behind_note (note.Arrived k) log p (arrived_in log p (omega (arith, more)))
 ] refl some
 arrived_in (note.Processed k instance output ∷ log) p some = behind_note (note.Processed k instance output) log p (arrived_in log p some)
 arrived_in (note.Begun op ∷ log) p some = behind_note (note.Begun op) log p (arrived_in log p some)

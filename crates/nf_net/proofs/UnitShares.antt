@@ -98,6 +98,8 @@ index_same (m ∷ ms) (suc i) low = index_same ms i (omega (arith, low))
 
 both_so : (a s b : Bool) → a ≡ true → s ≡ true → a && (s || b) ≡ true
 both_so true true b h k = refl
+both_so true false b h k = cc
+both_so false s b h k = cc
 
 -- Where a unit's packets go in a world of a run, by the log.
 module _ {F R : Type 0} (f : Semantics R) (c : Config) (items : List Msg) (is : IsInput f.kind c items) (n : ℕ) (w : Network (Node F R) Msg Note) (j : Joined f (given f c items is) n w) (u : units.Unit) (fits : unit_fits f.kind u ≡ true) where
