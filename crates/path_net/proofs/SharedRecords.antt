@@ -1,10 +1,10 @@
 -- The records of a unit under a share, at the instances of a world: the live one is at the home and has seen all that was processed, or all but the last
 -- packet, whose member has the newer record standing by while one is on its way to the home.
-use Rattle.std.proofs.Common.{◌≡◌, ◌≢◌, ℕ, ◌+◌, ◌<◌, ◌≤◌, Bool, true, false, Option, Some, None, List, [], ◌∷◌, ◌++◌, map, length, refl, sym, ap, ◌∙◌, subst, arith}
-use Rattle.std.specs.Prelude.{if◌then◌else◌, ◌==◌, ◌&&◌, ◌||◌, ◌-◌, nat_lt, slice_get}
+use Rattle.std.proofs.Common.{◌≡◌, ◌≢◌, ℕ, ◌+◌, ◌<◌, ◌≤◌, Bool, true, false, Option, None, List, [], ◌∷◌, ◌++◌, length, refl, sym, ap, ◌∙◌, arith}
+use Rattle.std.specs.Prelude.{if◌then◌else◌, ◌==◌, ◌||◌, ◌-◌, nat_lt, slice_get}
 use Rattle.std.specs.FinMap as finite
 use Rattle.std.proofs.lemmas.Bool.{ltb-false}
-use Rattle.std.proofs.lemmas.Bool.Decides.{nat_tests, Decides-eqb, Decides-ltb}
+use Rattle.std.proofs.lemmas.Bool.Decides.{nat_tests, Decides-ltb}
 use Rattle.std.proofs.lemmas.Option.{slice_get_past}
 use Rattle.nf_function.specs.declared.unit.Unit as units
 use Rattle.nf_function.specs.Semantics.{Semantics}
@@ -17,8 +17,7 @@ use Rattle.share_machine.proofs.Share.{Ran, Frame, View, has, runs}
 use Rattle.share_machine.proofs.Stages.{packets, processed, shape}
 use Rattle.share_machine.proofs.Lists.{self, packets-append}
 use Rattle.abstract_net.proofs.Readings.{fold}
-use Rattle.abstract_net.proofs.Rest.{done_u}
-use Rattle.abstract_net.proofs.ShareViews.{share_frame, share_expect, as_share}
+use Rattle.abstract_net.proofs.ShareViews.{share_frame, as_share}
 use Rattle.abstract_net.proofs.Shares.{Want_share, Seeing_share, ran_of}
 use Rattle.abstract_net.proofs.Under.{Under}
 use Rattle.abstract_net.proofs.UnderStarts.{seeing, packets_done}
