@@ -59,6 +59,14 @@ use Rattle.path_net.proofs.PathSums.{one_at, no_link}
 use Rattle.path_net.proofs.SharedLinks.{item_of, IsKnown, AreKnown, first_known, view, seen_more}
 use Rattle.path_net.proofs.SharedPlaces.{v, link_known, link_view}
 
+pub or_left : (b c : Bool) → b ≡ true → b || c ≡ true
+or_left true c e = refl
+or_left false c e = cc
+
+pub or_right : (b c : Bool) → c ≡ true → b || c ≡ true
+or_right true c e = refl
+or_right false c e = e
+
 module _ {R : Type 0} (f : Semantics R) (g : Given) (z : Seeing_share) where
   abbrev u : units.Unit
   u = z.unit
@@ -206,14 +214,6 @@ module _ {R : Type 0} (f : Semantics R) (g : Given) (z : Seeing_share) where
   real_takes s r (msg.Install op filter from target.Controller) l n flag cs kept e own = cc
   real_takes s r (msg.Install op filter from (target.Instance to)) l n flag cs kept e own = cc
   real_takes s r m l n flag cs kept e own = cc
-
-  or_left : (b c : Bool) → b ≡ true → b || c ≡ true
-  or_left true c e = refl
-  or_left false c e = cc
-
-  or_right : (b c : Bool) → c ≡ true → b || c ≡ true
-  or_right true c e = refl
-  or_right false c e = e
 
   -- The unit is among those of a link on which the unit sees such an item alone.
   module _ (covered : (S f g).takes z.filter z.unit ≡ true) (s r : ℕ) (of : Msg → List units.Unit) (it : Item R) (tells : (m : Msg) → Label f g s r m → item_of f g z r (shown f g m) ≡ Some it → is_among (of m) u ≡ true) where
