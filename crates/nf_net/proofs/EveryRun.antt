@@ -24,24 +24,25 @@ use Rattle.net_world.specs.Start.{started}
 use Rattle.nf_net.specs.Promises.{Verdicts}
 use Rattle.net_world.specs.Window.{AllHome}
 use Rattle.answer_net.proofs.ArrivalLemmas.{arrivals_run}
+use Rattle.nf_net.proofs.AtMembers.{at_members}
 use Rattle.nf_net.proofs.ChunkMoves.{chunks_moved}
-use Rattle.nf_net.proofs.CompleteRuns.{complete_run, fold_is}
+use Rattle.nf_net.proofs.CompleteRuns.{complete_run}
 use Rattle.nf_net.proofs.OutputSteps.{outputs_run}
-use Rattle.nf_net.proofs.LiveRecords.{live_folds}
 use Rattle.path_net.proofs.RecordPromises.{one_place}
 use Rattle.answer_net.proofs.CommandPromises.{run_answers, no_rules}
 use Rattle.nf_net.proofs.JudgedRuns.{verdicts}
 use Rattle.answer_net.proofs.MovesUnderWay.{moves_under_way}
+use Rattle.path_net.proofs.DivertedRuns.{run_diverted}
 use Rattle.path_net.proofs.PathPromises.{in_place, each_in_place, came_once}
 use Rattle.nf_net.proofs.PlaceRuns.{places}
-use Rattle.nf_net.proofs.RecordStands.{record_stands}
+use Rattle.nf_net.proofs.RecordStands.{records_stand}
 use Rattle.nf_net.proofs.SettleRuns.{settles}
 use Rattle.nf_net.proofs.SourceRuns.{stays_at_source}
 use Rattle.nf_net.proofs.StandbyRuns.{standbys}
 use Rattle.nf_net.proofs.WindowRuns.{window_kept, all_home}
-use Rattle.joined_net.proofs.StartJoined.{count_at_start}
+use Rattle.whole_joined.proofs.StartJoined.{count_at_start}
 use Rattle.actor_net.proofs.RunInduction.{run_world}
-use Rattle.joined_net.proofs.RunsJoined.{run_joined, start_world, in_order, once}
+use Rattle.whole_joined.proofs.RunsJoined.{run_joined, start_world, in_order, once}
 
 module _ (F : Type 0) {R : Type 0} (f : Semantics R) (laws : FunctionLaws f) (alloc : Global) (c : Config) (items : List Msg) (is : IsInput f.kind c items) (cs : List Choice) where
   abbrev w : Network (Node F R) Msg Note
@@ -53,24 +54,25 @@ module _ (F : Type 0) {R : Type 0} (f : Semantics R) (laws : FunctionLaws f) (al
       let reached = run_world node_ready (node_step f) (length c.names + 2) (started {F = F} {R = R} alloc c items) (start_world F f laws alloc c items is) (count_at_start F f alloc c items is) cs runs in
       let counted = reached.1 in
       let turn = arrivals_run F f laws alloc c items is cs runs in
+      let told = run_diverted F f laws alloc c items is cs runs in
       record {
         in_turn = turn;
         in_order = in_order f c items is (length c.names + 2) w j;
         once = once f c items is (length c.names + 2) w j;
-        in_place = in_place f c items is (length c.names + 2) refl w counted j reached.0 turn;
+        in_place = in_place f c items is (length c.names + 2) refl w counted j reached.0 turn told;
         came_once = came_once f c items is w turn;
-        each_in_place = each_in_place f c items is (length c.names + 2) refl w counted j reached.0 turn;
+        each_in_place = each_in_place f c items is (length c.names + 2) refl w counted j reached.0 turn told;
         outputs_are = outputs_run F f laws alloc c items is cs runs;
-        records_are = λ u i r live. live_folds f c items is (length c.names + 2) w counted j u i r live;
         places = places F f laws alloc c items is cs runs;
+        at_members = at_members F f laws alloc c items is cs runs;
         settles = settles F f laws alloc c items is cs runs (places F f laws alloc c items is cs runs);
         answers = run_answers F f laws alloc c items is cs runs;
         no_rules = no_rules F f laws alloc c items is cs runs;
         at_source = stays_at_source F f laws alloc c items is cs runs;
         window = window_kept F f laws alloc c items is cs runs;
         one_record = λ u i k r s. one_place f c items is (length c.names + 2) w counted j u i k r s;
-        record_stands = record_stands f c items is (length c.names + 2) refl w counted j reached.0 turn;
-        chunks_moved = chunks_moved f laws c items is (length c.names + 2) refl w counted j reached.0 (moves_under_way F f laws alloc c items is cs runs j);
+        record_stands = records_stand F f laws alloc c items is cs runs;
+        chunks_moved = chunks_moved f c items is (length c.names + 2) refl w counted j reached.0 (moves_under_way F f laws alloc c items is cs runs j);
       }
 
   pub every_end : IsRun node_ready (node_step f) cs (started {F = F} {R = R} alloc c items) → is_done node_ended w ≡ true → Completed f c items w
