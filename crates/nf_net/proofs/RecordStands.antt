@@ -196,10 +196,10 @@ module _ {F R : Type 0} (f : Semantics R) (c : Config) (items : List Msg) (is : 
 
   -- the source is still to remove it
   to_remove : (r : R) → k.op.src < n → To_remove x.ac x.ca → is_to_remove w u (k.op.src - 2) ≡ true
-  to_remove r few h = ap (λ m. is_among (all_of given_in (on_link w m controller_node)) u || is_among (all_of removed_by (on_link w controller_node m)) u) at ∙ by_link h
+  to_remove r few h = ap (λ m. is_among (all_of given_in (on_link w m controller_node)) u || is_among (all_of removed_by (on_link w controller_node m)) u) source_is ∙ by_link h
     where
-      at : instance_node (k.op.src - 2) ≡ k.op.src
-      at = let two = k.holds.nodes.a_is in omega (arith, two)
+      source_is : instance_node (k.op.src - 2) ≡ k.op.src
+      source_is = let two = k.holds.nodes.a_is in omega (arith, two)
 
       self : (k.op.src == k.op.src) ≡ true
       self = k.holds.apart.src

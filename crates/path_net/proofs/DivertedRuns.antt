@@ -1,11 +1,10 @@
 -- Of each world of a run, the log tells of each unit whose packets go to the controller the open share that has it.
-use Rattle.std.proofs.Common.{◌≡◌, ◌≢◌, ℕ, zero, suc, ◌+◌, ◌<◌, List, [], ◌++◌, length, get_or, refl, sym, ap, ◌∙◌, subst, arith}
+use Rattle.std.proofs.Common.{◌≡◌, ◌≢◌, ℕ, zero, suc, ◌+◌, ◌<◌, List, ◌++◌, length, get_or, refl, sym, ◌∙◌, subst, arith}
 use Rattle.std.specs.declared.alloc.Global.{Global}
 use Rattle.nf_function.specs.Records.{Laws as FunctionLaws}
 use Rattle.nf_function.specs.Semantics.{Semantics}
 use Rattle.nf_msgs.specs.declared.msg.Msg.{Msg}
 use Rattle.nf_msgs.specs.declared.note.Note.{Note}
-use Rattle.copy_share.specs.Share.{SharePlan}
 use Rattle.ctrl_node.specs.Controller.{ControllerState, controller_step, opened as opened_controller}
 use Rattle.switch_node.specs.Switch.{switch_step}
 use Rattle.actor_net.specs.declared.choice.Choice.{Choice}

@@ -1,7 +1,7 @@
 -- Of a unit whose packets go to the controller, the log tells the open share that has it: its home owns the unit, and its members are those of its
 -- order. Each change of the rules keeps that.
 use Rattle.std.proofs.Common.{◌≡◌, ℕ, Bool, true, false, Option, Some, None, List, [], ◌∷◌, ◌++◌, refl, sym, ap, ◌∙◌, subst, arith}
-use Rattle.std.specs.Prelude.{if◌then◌else◌, ◌&&◌, ◌||◌, ◌==◌, is_some, nat_lt}
+use Rattle.std.specs.Prelude.{if◌then◌else◌, ◌&&◌, ◌||◌, is_some, nat_lt}
 use Rattle.std.specs.Option.{option_or}
 use Rattle.std.specs.FinMap as finite
 use Rattle.flow_filter.specs.declared.filter.Filter.{Filter}
@@ -22,7 +22,6 @@ use Rattle.nf_msgs.specs.declared.note.Note.TheVariants as note
 use Rattle.nf_msgs.specs.Nodes.{instance_node}
 use Rattle.copy_share.specs.Share.{SharePlan}
 use Rattle.ctrl_node.specs.Operations.{OpenOperations}
-use Rattle.ctrl_node.specs.Controller.{place_of}
 use Rattle.unit_machine.proofs.Real as real
 use Rattle.abstract_net.proofs.Net as net
 use Rattle.abstract_net.proofs.Elsewhere.{where_two}
@@ -33,11 +32,11 @@ use Rattle.abstract_net.proofs.UnderStarts.{seeing}
 use Rattle.whole_net.proofs.WhereAll.{Where_all, Apart_from_shares, Under_share}
 use Rattle.whole_net.proofs.UnderMoves.{no_change}
 use Rattle.net_world.specs.Log.{installed}
-use Rattle.net_world.specs.Places.{handed_on, owner_after, is_at, is_home, shared_among, members_after}
+use Rattle.net_world.specs.Places.{handed_on, owner_after, is_home, shared_among, members_after}
 use Rattle.outline_net.proofs.FiltersApart.{is_whole, unit_fits, takes_same}
 use Rattle.outline_net.proofs.Outline.{is_sys}
 use Rattle.whole_outline.proofs.OpenShares.{real_share}
-use Rattle.whole_joined.proofs.Given.{Given, place, IsInstall, IsDivert, owner_by, diverts, diverted_after, is_diverted, target_by}
+use Rattle.whole_joined.proofs.Given.{Given, place, IsInstall, IsDivert, owner_by, diverts, diverted_after, is_diverted}
 use Rattle.whole_joined.proofs.HandedUnits.{owner_next, diverted_next}
 use Rattle.whole_joined.proofs.Joined.{S, A, shown, Scene, AreShown, IsTaken, came_by}
 use Rattle.whole_joined.proofs.OwnerLemmas.{installed-append, installed_same}

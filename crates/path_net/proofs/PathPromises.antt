@@ -8,7 +8,6 @@ use Rattle.nf_msgs.specs.declared.msg.Msg.{Msg}
 use Rattle.nf_msgs.specs.declared.note.Note.{Note}
 use Rattle.actor_net.specs.Network.{Network, IsWorld}
 use Rattle.unit_machine.proofs.Ends.{same_of}
-use Rattle.unit_machine.proofs.Seats.{seat_all}
 use Rattle.unit_machine.proofs.Stages.{Order}
 use Rattle.abstract_net.proofs.Readings.{exact_of, not_both}
 use Rattle.whole_net.proofs.WhereAll.{Where_all, Apart_from_shares, Under_share}

@@ -1,6 +1,6 @@
 -- No chunk on its way is one of a unit under a share. A record that a member gives, or that the home is told to take, is one of the unit where the unit
 -- sees it so.
-use Rattle.std.proofs.Common.{◌≡◌, ◌≢◌, ℕ, zero, suc, ◌+◌, ◌<◌, ◌≤◌, Bool, true, false, Option, Some, None, List, [], ◌∷◌, ◌++◌, map, length, get_or, refl, sym, ap, ◌∙◌, subst, arith}
+use Rattle.std.proofs.Common.{◌≡◌, ◌≢◌, ℕ, zero, suc, ◌+◌, ◌<◌, Bool, true, false, Option, Some, None, List, [], ◌∷◌, ◌++◌, map, length, refl, sym, ap, ◌∙◌, subst, arith}
 use Rattle.std.specs.Prelude.{if◌then◌else◌, ◌==◌, ◌&&◌, ◌||◌, is_some, option_map, option_to_list}
 use Rattle.std.specs.List.{filter_map}
 use Rattle.std.specs.FinMap as finite
@@ -10,7 +10,6 @@ use Rattle.nf_function.specs.declared.chunk.Chunk.{Chunk as RealChunk}
 use Rattle.nf_function.specs.declared.unit.Unit as units
 use Rattle.nf_function.specs.Semantics.{Semantics}
 use Rattle.record_table.specs.Table.{same_unit, is_among}
-use Rattle.record_table.specs.Chunks.{spelled}
 use Rattle.event_filter.specs.declared.mark.Mark.TheVariants as mark
 use Rattle.event_store.specs.Store.{stored}
 use Rattle.switch_rules.specs.declared.target.Target.TheVariants as target
@@ -33,7 +32,7 @@ use Rattle.abstract_net.proofs.Ctrl.{each_found}
 use Rattle.abstract_net.proofs.Holding.{frame}
 use Rattle.abstract_net.proofs.Rest.{Rest_op}
 use Rattle.abstract_net.proofs.ShareViews.{share_seen, share_expect}
-use Rattle.abstract_net.proofs.Shares.{Any, Old, New, Want_share, Share_msg, Shared_on, Diverted_on, S_asked, S_install, S_forward, S_get, S_sync, S_chunks, S_shared, S_synced, same, Seeing_share}
+use Rattle.abstract_net.proofs.Shares.{Any, Old, New, Want_share, Share_msg, Shared_on, Diverted_on, S_asked, S_install, S_forward, S_get, S_sync, S_chunks, S_shared, S_synced, Seeing_share}
 use Rattle.abstract_net.proofs.Under.{Under}
 use Rattle.abstract_net.proofs.UnderStarts.{seeing}
 use Rattle.net_world.specs.declared.config.Config.{Config}
@@ -55,10 +54,18 @@ use Rattle.path_net.proofs.ChunkLemmas.{as_spelled, spelled-append, spelled-all,
 use Rattle.path_net.proofs.ChunkPlaces.{phase_spelled, none_kept}
 use Rattle.path_net.proofs.ChunkSums.{kept_records}
 use Rattle.path_net.proofs.PathNodes.{map_of}
-use Rattle.path_net.proofs.PathSeats.{labels, link_shown, loop_is}
+use Rattle.path_net.proofs.PathSeats.{labels, loop_is}
 use Rattle.path_net.proofs.PathSums.{one_at, no_link}
 use Rattle.path_net.proofs.SharedLinks.{item_of, IsKnown, AreKnown, first_known, view, seen_more}
 use Rattle.path_net.proofs.SharedPlaces.{v, link_known, link_view}
+
+pub or_left : (b c : Bool) → b ≡ true → b || c ≡ true
+or_left true c e = refl
+or_left false c e = cc
+
+pub or_right : (b c : Bool) → c ≡ true → b || c ≡ true
+or_right true c e = refl
+or_right false c e = e
 
 module _ {R : Type 0} (f : Semantics R) (g : Given) (z : Seeing_share) where
   abbrev u : units.Unit
@@ -207,14 +214,6 @@ module _ {R : Type 0} (f : Semantics R) (g : Given) (z : Seeing_share) where
   real_takes s r (msg.Install op filter from target.Controller) l n flag cs kept e own = cc
   real_takes s r (msg.Install op filter from (target.Instance to)) l n flag cs kept e own = cc
   real_takes s r m l n flag cs kept e own = cc
-
-  or_left : (b c : Bool) → b ≡ true → b || c ≡ true
-  or_left true c e = refl
-  or_left false c e = cc
-
-  or_right : (b c : Bool) → c ≡ true → b || c ≡ true
-  or_right true c e = refl
-  or_right false c e = e
 
   -- The unit is among those of a link on which the unit sees such an item alone.
   module _ (covered : (S f g).takes z.filter z.unit ≡ true) (s r : ℕ) (of : Msg → List units.Unit) (it : Item R) (tells : (m : Msg) → Label f g s r m → item_of f g z r (shown f g m) ≡ Some it → is_among (of m) u ≡ true) where

@@ -22,7 +22,6 @@ use Rattle.nf_msgs.specs.Nodes.{instance_node}
 use Rattle.actor_net.proofs.WeightLaws.{Each}
 use Rattle.unit_machine.proofs.Labels as labels
 use Rattle.unit_machine.proofs.Real.{record_at, where_true, add}
-use Rattle.unit_machine.proofs.NetViews.{items}
 use Rattle.share_machine.proofs.Share.{Item, Item.Carry, Item.Fence, Item.Shared, Item.Diverted, Item.Install, Item.Forward, Item.Get, Item.Sync, Item.Fenced, Item.Chunks, Item.Chunk, Item.Synced, Item.Stray, Frame, if_mine}
 use Rattle.share_machine.proofs.Path.{carries, shared_in, forwarded, diverted}
 use Rattle.abstract_net.proofs.Net as net

@@ -1,15 +1,13 @@
 -- What is under way of a unit under a share is what waits at its stage, in the order of the stage.
-use Rattle.std.proofs.Common.{◌≡◌, ◌≢◌, ℕ, ◌+◌, ◌<◌, ◌≤◌, Bool, true, false, List, [], ◌++◌, length, refl, sym, ap, ◌∙◌, subst, arith}
-use Rattle.std.proofs.lemmas.Bool.Decides.{nat_tests}
+use Rattle.std.proofs.Common.{◌≡◌, ℕ, ◌+◌, ◌<◌, Bool, List, [], ◌++◌, length, refl, sym, ap, ◌∙◌, subst, arith}
 use Rattle.nf_function.specs.declared.unit.Unit as units
 use Rattle.nf_function.specs.Semantics.{Semantics}
 use Rattle.nf_msgs.specs.declared.msg.Msg.{Msg}
 use Rattle.nf_msgs.specs.declared.note.Note.{Note}
 use Rattle.nf_msgs.specs.Nodes.{instance_node}
 use Rattle.actor_net.specs.Network.{Network, IsWorld}
-use Rattle.share_machine.proofs.Share.{mine_in}
 use Rattle.share_machine.proofs.Stages.{path as stage_path}
-use Rattle.share_machine.proofs.Path.{carries, shared_in, forwarded as forwards, diverted as diverts}
+use Rattle.share_machine.proofs.Path.{carries}
 use Rattle.abstract_net.proofs.Rest.{done_u}
 use Rattle.abstract_net.proofs.ShareViews.{as_share}
 use Rattle.abstract_net.proofs.Shares.{Want_share}
@@ -31,7 +29,7 @@ use Rattle.path_net.proofs.DivertedRuns.{HasDiverted}
 use Rattle.path_net.proofs.PathSums.{those-but, but_none}
 use Rattle.path_net.proofs.SeatPaths.{those-places}
 use Rattle.path_net.proofs.SharedOwners.{home_owner, members_few}
-use Rattle.path_net.proofs.SharedPlaces.{z, fr, v, its_places, passed_are, forwards_are, diverts_are, events_are, store_is, queue_is, stands_is}
+use Rattle.path_net.proofs.SharedPlaces.{fr, v, its_places, passed_are, forwards_are, diverts_are, events_are, store_is, queue_is, stands_is}
 
 module _ {F R : Type 0} (f : Semantics R) (c : Config) (items : List Msg) (is : IsInput f.kind c items) (n : ℕ) (count : n ≡ length c.names + 2) (w : Network (Node F R) Msg Note) (nodes : length w.nodes ≡ n) (j : Joined f (given f c items is) n w) (world : IsWorld w) (told : HasDiverted f (given f c items is) w) (u : units.Unit) (x : Want_share) (before since : List ℕ) (k : Under (S f (given f c items is)) (A f (given f c items is)) (seeing (S f (given f c items is)) (A f (given f c items is)) u x) j.world before since) where
   abbrev g : Given
@@ -69,14 +67,14 @@ module _ {F R : Type 0} (f : Semantics R) (c : Config) (items : List Msg) (is : 
   path_is =
       those-places mine (on_links w passed) (on_links w forwarded) (all_of stored_by w.nodes) (on_links w handed_over) (all_but i0 (at_instance w) (length c.names)) (at_instance w i0) (all_of queued_by w.nodes) (on_links w diverted)
       ∙ joined_so _ _ _ _ _ _ _ _ _ _ _ _ _
-          (passed_are f c items is n count w nodes j world u x before since k)
-          (forwards_are f c items is n count w nodes j world u x before since k)
-          (store_is f c items is n count w nodes j world u x before since k)
-          (events_are f c items is n count w nodes j world u x before since k)
-          others_none
-          at_home
-          (queue_is f c items is n count w nodes j world u x before since k)
-          (diverts_are f c items is n count w nodes j world u x before since k)
+      (passed_are f c items is n count w nodes j world u x before since k)
+      (forwards_are f c items is n count w nodes j world u x before since k)
+      (store_is f c items is n count w nodes j world u x before since k)
+      (events_are f c items is n count w nodes j world u x before since k)
+      others_none
+      at_home
+      (queue_is f c items is n count w nodes j world u x before since k)
+      (diverts_are f c items is n count w nodes j world u x before since k)
       ∙ sym (its_places f c items is n count w nodes j world u x before since k).path_is
 
   -- what was processed and what is under way are what came, before the packets were diverted and since

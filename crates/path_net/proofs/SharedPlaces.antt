@@ -1,23 +1,19 @@
 -- What a world has of a unit under a share, place by place, in the order of its path, is what waits at the stage that shows the unit.
-use Rattle.std.proofs.Common.{◌≡◌, ◌≢◌, ℕ, suc, ◌+◌, ◌<◌, ◌≤◌, Bool, true, false, Option, Some, None, List, [], ◌∷◌, ◌++◌, map, length, refl, sym, ap, ◌∙◌, subst, append-nil, arith}
+use Rattle.std.proofs.Common.{◌≡◌, ℕ, ◌+◌, ◌<◌, ◌≤◌, Bool, true, false, Option, Some, None, List, [], ◌∷◌, ◌++◌, length, refl, sym, ap, ◌∙◌, subst, arith}
 use Rattle.std.specs.Prelude.{if◌then◌else◌, ◌==◌, ◌&&◌, nat_lt, slice_get}
 use Rattle.std.specs.List.{filter_map}
-use Rattle.std.specs.FinMap as finite
-use Rattle.std.proofs.lemmas.Bool.{ltb-false}
-use Rattle.std.proofs.lemmas.Bool.Decides.{nat_tests, Decides-eqb, Decides-ltb}
+use Rattle.std.proofs.lemmas.Bool.Decides.{nat_tests}
 use Rattle.nf_function.specs.declared.unit.Unit as units
 use Rattle.nf_function.specs.Semantics.{Semantics}
-use Rattle.event_store.specs.Store.{stored}
 use Rattle.packet_pool.specs.Pool.{FullCell}
 use Rattle.nf_msgs.specs.declared.msg.Msg.{Msg}
 use Rattle.nf_msgs.specs.declared.note.Note.{Note}
-use Rattle.nf_msgs.specs.Nodes.{instance_node}
 use Rattle.ctrl_node.specs.declared.operation.Operation.{Operation}
 use Rattle.ctrl_node.specs.declared.operation.Operation.TheVariants.{Move, Copy, Share}
 use Rattle.actor_net.specs.Network.{Network, IsWorld, on_link}
 use Rattle.unit_machine.proofs.Labels.{Each}
-use Rattle.share_machine.proofs.Share.{Item, Frame, View, has, if_mine, mine_in}
-use Rattle.share_machine.proofs.Stages.{Stage, shape, path as stage_path}
+use Rattle.share_machine.proofs.Share.{Frame, View, mine_in}
+use Rattle.share_machine.proofs.Stages.{shape}
 use Rattle.share_machine.proofs.Path.{carries, shared_in, forwarded as forwards, diverted as diverts}
 use Rattle.abstract_net.proofs.GlobalAll.{Of_share}
 use Rattle.abstract_net.proofs.Net.{Open, find_op}
@@ -31,19 +27,18 @@ use Rattle.abstract_net.proofs.UnderStarts.{seeing}
 use Rattle.whole_net.proofs.UnderMoves.{none_stored}
 use Rattle.net_world.specs.declared.config.Config.{Config}
 use Rattle.net_world.specs.declared.node.Node.{Node}
-use Rattle.net_world.specs.declared.node.Node.TheVariants.{Instance}
 use Rattle.net_world.specs.Input.{IsInput}
 use Rattle.net_world.specs.Log.{those}
-use Rattle.net_world.specs.Path.{all_of, numbers, passed, carried, forwarded, handed_over, diverted, is_shared, stored_by, queued_by, held_by, on_links, at_instance}
+use Rattle.net_world.specs.Path.{all_of, numbers, passed, carried, forwarded, handed_over, diverted, is_shared, stored_by, queued_by, held_by, on_links}
 use Rattle.outline_net.proofs.ControlOutline.{Sees}
 use Rattle.whole_outline.proofs.OpenShares.{but_shares, both}
 use Rattle.whole_joined.proofs.Given.{Given, place}
-use Rattle.whole_joined.proofs.Joined.{S, A, shown, Joined, FromSwitch, ToSwitch}
+use Rattle.whole_joined.proofs.Joined.{S, A, shown, Joined}
 use Rattle.whole_joined.proofs.LogLemmas.{those-append}
 use Rattle.whole_joined.proofs.StartJoined.{given}
 use Rattle.path_net.proofs.PathNodes.{those_mine, held_none}
 use Rattle.path_net.proofs.PathSeats.{labels, link_shown, none_on, passed_else, forwarded_else, diverted_else, found_instance}
-use Rattle.path_net.proofs.PathStores.{for_share, for_other, stored_for, queued_for, unseen_store, cells, got}
+use Rattle.path_net.proofs.PathStores.{for_other, stored_for, queued_for, unseen_store, cells, got}
 use Rattle.path_net.proofs.PathSums.{those-all, no_link, one_link}
 use Rattle.path_net.proofs.SharedLinks as links
 use Rattle.path_net.proofs.SharedLinks.{AreKnown, AreRead, are_read}

@@ -1,10 +1,10 @@
 -- The records of a unit under a share, at the instances of a world: the live one is at the home and has seen all that was processed, or all but the last
 -- packet, whose member has the newer record standing by while one is on its way to the home.
-use Rattle.std.proofs.Common.{◌≡◌, ◌≢◌, ℕ, ◌+◌, ◌<◌, ◌≤◌, Bool, true, false, Option, Some, None, List, [], ◌∷◌, ◌++◌, map, length, refl, sym, ap, ◌∙◌, subst, arith}
-use Rattle.std.specs.Prelude.{if◌then◌else◌, ◌==◌, ◌&&◌, ◌||◌, ◌-◌, nat_lt, slice_get}
+use Rattle.std.proofs.Common.{◌≡◌, ◌≢◌, ℕ, ◌+◌, ◌<◌, ◌≤◌, true, false, Option, None, List, [], ◌∷◌, ◌++◌, length, refl, sym, ap, ◌∙◌, arith}
+use Rattle.std.specs.Prelude.{if◌then◌else◌, ◌==◌, ◌-◌, nat_lt, slice_get}
 use Rattle.std.specs.FinMap as finite
 use Rattle.std.proofs.lemmas.Bool.{ltb-false}
-use Rattle.std.proofs.lemmas.Bool.Decides.{nat_tests, Decides-eqb, Decides-ltb}
+use Rattle.std.proofs.lemmas.Bool.Decides.{nat_tests, Decides-ltb}
 use Rattle.std.proofs.lemmas.Option.{slice_get_past}
 use Rattle.nf_function.specs.declared.unit.Unit as units
 use Rattle.nf_function.specs.Semantics.{Semantics}
@@ -17,8 +17,7 @@ use Rattle.share_machine.proofs.Share.{Ran, Frame, View, has, runs}
 use Rattle.share_machine.proofs.Stages.{packets, processed, shape}
 use Rattle.share_machine.proofs.Lists.{self, packets-append}
 use Rattle.abstract_net.proofs.Readings.{fold}
-use Rattle.abstract_net.proofs.Rest.{done_u}
-use Rattle.abstract_net.proofs.ShareViews.{share_frame, share_expect, as_share}
+use Rattle.abstract_net.proofs.ShareViews.{share_frame, as_share}
 use Rattle.abstract_net.proofs.Shares.{Want_share, Seeing_share, ran_of}
 use Rattle.abstract_net.proofs.Under.{Under}
 use Rattle.abstract_net.proofs.UnderStarts.{seeing, packets_done}
@@ -38,7 +37,7 @@ use Rattle.whole_joined.proofs.RunsJoined.{done_same}
 use Rattle.whole_joined.proofs.StartJoined.{given}
 use Rattle.path_net.proofs.DivertedRuns.{HasDiverted}
 use Rattle.path_net.proofs.PathSeats.{found_instance}
-use Rattle.path_net.proofs.SharedChunks.{given_on, taken_on}
+use Rattle.path_net.proofs.SharedChunks.{or_left, or_right, given_on, taken_on}
 use Rattle.path_net.proofs.SharedOwners.{home_owner, members_few}
 use Rattle.path_net.proofs.SharedStages.{Comes, From_member, To_home, Ahead, Sees, Sees_all, Is_ahead, sees}
 
@@ -54,14 +53,6 @@ last_mine f g u (x ∷ ds) xs d e = elim (same_unit ((S f g).unit_of x.0) u) as 
     by_front : same_unit ((S f g).unit_of x.0) u ≡ true → ((ys : List Ran) → ran_of (S f g) (A f g) u ds ≡ ys ++ d ∷ [] → same_unit ((S f g).unit_of d.0) u ≡ true) → (ys : List Ran) → x ∷ ran_of (S f g) (A f g) u ds ≡ ys ++ d ∷ [] → same_unit ((S f g).unit_of d.0) u ≡ true
     by_front on later [] q = let same_one : x ≡ d = cc in ap (λ y. same_unit ((S f g).unit_of y.0) u) (sym same_one) ∙ on
     by_front on later (y ∷ ys) q = let rest : ran_of (S f g) (A f g) u ds ≡ ys ++ d ∷ [] = cc in later ys rest
-
-or_left : (b c : Bool) → b ≡ true → b || c ≡ true
-or_left true c e = refl
-or_left false c e = cc
-
-or_right : (b c : Bool) → c ≡ true → b || c ≡ true
-or_right true c e = refl
-or_right false c e = e
 
 module _ {F R : Type 0} (f : Semantics R) (c : Config) (items : List Msg) (is : IsInput f.kind c items) (n : ℕ) (count : n ≡ length c.names + 2) (w : Network (Node F R) Msg Note) (nodes : length w.nodes ≡ n) (j : Joined f (given f c items is) n w) (world : IsWorld w) (told : HasDiverted f (given f c items is) w) (u : units.Unit) (x : Want_share) (before since : List ℕ) (k : Under (S f (given f c items is)) (A f (given f c items is)) (seeing (S f (given f c items is)) (A f (given f c items is)) u x) j.world before since) where
   abbrev g : Given

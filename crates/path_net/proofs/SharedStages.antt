@@ -1,9 +1,8 @@
 -- At a stage of a share: at which member's link the share's packet is, and the path by its places; and that the live record has seen all that was
 -- processed, or the record of the member that processed the last packet is on its way to the home.
-use Rattle.std.proofs.Common.{◌≡◌, ◌≢◌, ℕ, Bool, true, false, cond, ◌==◌, Option, Some, None, List, [], ◌∷◌, ◌++◌, map, ◌⊎◌, inl, inr, refl, sym, ap, ◌∙◌, append_assoc, append-nil, arith}
+use Rattle.std.proofs.Common.{◌≡◌, ◌≢◌, ℕ, Bool, true, false, cond, ◌==◌, Option, Some, None, List, [], ◌∷◌, ◌++◌, map, inl, inr, refl, sym, ap, ◌∙◌, append_assoc, append-nil, arith}
 use Rattle.std.proofs.lemmas.Bool.Decides.{nat_tests, Decides-eqb}
-use Rattle.unit_machine.proofs.Machine.{Steps}
-use Rattle.share_machine.proofs.Share.{Ran, Item, Item.Carry, Item.Fence, Item.Shared, Item.Sync, Item.Chunk, Frame, has, after, runs, over, only, if_mine, mine_in, nowhere}
+use Rattle.share_machine.proofs.Share.{Ran, Item, Item.Carry, Item.Fence, Item.Shared, Item.Sync, Item.Chunk, Frame, has, after, over, only, mine_in, nowhere}
 use Rattle.share_machine.proofs.Stages.{Turn, Turn.Going, Turn.Coming, Turn.Quiet, is_going, is_pending, goes_to, served, Stage, Stage.Diverting, Stage.Fence_goes, Stage.Fenced_comes, Stage.Get_goes, Stage.Chunks_come, Stage.Spreads, Stage.Resting, Stage.Forwards, Stage.Carries, Stage.Chunk_comes, path, processed, shape, IsShare, Behind, Fits}
 use Rattle.share_machine.proofs.Lists.{self, cond-same, runs-append, served-append}
 use Rattle.share_machine.proofs.Path as paths

@@ -92,7 +92,6 @@ turn_keeps (Some (Move mv)) store port m = tt
 turn_keeps (Some (Copy y)) store port m = tt
 turn_keeps (Some (Share s)) store port m = refl
 
-
 module _ (c : ControllerState) where
   abbrev Leaves_so : ControllerState → Type 0
   Leaves_so d = Stay c.operations d.operations
