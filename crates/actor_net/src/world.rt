@@ -205,6 +205,36 @@ impl<A: Actor> World<A> {
         None
     }
 
+    /// The last of the enabled choices, in order of (node, port).
+    pub(crate) fn last_enabled(&self) -> Option<Choice>
+        ensures { result ≡ slice_get (enabled_choices A.is_ready self.now) (length (enabled_choices A.is_ready self.now) - 1) }
+    {
+        let nodes = self.nodes.len() as u8;
+        for behind in 0..nodes {
+            let node = nodes - 1 - behind;
+            if self.count_of(node) > 0 {
+                return self.last_of(node);
+            }
+        }
+        None
+    }
+
+    /// The last of a node's enabled choices, in order of ports.
+    fn last_of(&self, node: u8) -> Option<Choice>
+        requires { node < length self.now.nodes }
+        ensures { result ≡ slice_get (ports_below A.is_ready self.now node (length self.now.nodes)) (length (ports_below A.is_ready self.now node (length self.now.nodes)) - 1) }
+    {
+        let nodes = self.nodes.len() as u8;
+        for behind in 0..nodes {
+            let port = nodes - 1 - behind;
+            let choice = Choice { node, port };
+            if self.enabled(choice) {
+                return Some(choice);
+            }
+        }
+        None
+    }
+
     /// How many choices of a node are enabled.
     fn count_of(&self, node: u8) -> usize
         requires { node < length self.now.nodes }
