@@ -1,0 +1,55 @@
+//! The first part of a record's chunk: what stands before its body.
+ghost use Rattle.std.specs.Prelude.{◌≡◌, ◌++◌, OnOk};
+ghost use Rattle.nf_function.specs.Stored.{number_bytes};
+ghost use Rattle.nf_function.specs.declared.unit.Unit.TheVariants.{Flow as OfFlow, Host as OfHost};
+ghost use Rattle.state_chunk.specs.Format.{key_bytes};
+
+use basics::{Bytes, NoMemory};
+use flow_filter::Flow;
+use nf_function::Unit;
+
+/// How many bytes the longest first part has.
+pub const LONGEST_FRONT: usize = 18;
+
+/// Puts three bytes, the key of a unit and the length of a body after other bytes, all at once.
+pub fn push_front(
+    bytes: &mut Bytes,
+    head: [u8; 3],
+    unit: &Unit,
+    length: u16,
+) -> Result<(), NoMemory>
+    ensures { OnOk result (bytes.new ≡ bytes.old ++ head ++ key_bytes unit.now ++ number_bytes 2 length) }
+{
+    match unit {
+        Unit::Flow(flow) => bytes.push_bytes(&flow_front(head, flow, length)),
+        Unit::Host(host) => bytes.push_bytes(&host_front(head, *host, length)),
+    }
+}
+
+/// The first part of a flow's chunk.
+#[tactic(auto, unfolding(crate::specs::Format::key_bytes, nf_function::specs::Stored::number_bytes))]
+fn flow_front(head: [u8; 3], flow: &Flow, length: u16) -> [u8; 18]
+    ensures { result ≡ head ++ key_bytes (OfFlow flow.now) ++ number_bytes 2 length }
+{
+    let [version, kind, scope] = head;
+    let [local, local_2, local_3, local_4] = flow.local.to_be_bytes();
+    let [lport, lport_2] = flow.lport.to_be_bytes();
+    let [remote, remote_2, remote_3, remote_4] = flow.remote.to_be_bytes();
+    let [rport, rport_2] = flow.rport.to_be_bytes();
+    let [length, length_2] = length.to_be_bytes();
+    [
+        version, kind, scope, flow.proto, local, local_2, local_3, local_4, lport, lport_2, remote,
+        remote_2, remote_3, remote_4, rport, rport_2, length, length_2,
+    ]
+}
+
+/// The first part of a host's chunk.
+#[tactic(auto, unfolding(crate::specs::Format::key_bytes, nf_function::specs::Stored::number_bytes))]
+fn host_front(head: [u8; 3], host: u32, length: u16) -> [u8; 9]
+    ensures { result ≡ head ++ key_bytes (OfHost host) ++ number_bytes 2 length }
+{
+    let [version, kind, scope] = head;
+    let [host, host_2, host_3, host_4] = host.to_be_bytes();
+    let [length, length_2] = length.to_be_bytes();
+    [version, kind, scope, host, host_2, host_3, host_4, length, length_2]
+}
