@@ -3,6 +3,7 @@ use Rattle.std.proofs.Common.{◌≡◌, ℕ, zero, suc, ◌+◌, ◌-◌, ◌*�
 use Rattle.std.specs.Prelude.{if◌then◌else◌, slice_get}
 use Rattle.std.proofs.lemmas.Grind.{common_steps}
 use Rattle.std.proofs.lemmas.Bool.{cases_lt}
+use Rattle.std.proofs.lemmas.Option.{slice_get_past}
 use Rattle.actor_net.specs.declared.choice.Choice.{Choice}
 use Rattle.actor_net.specs.Network.{Network, is_enabled}
 use Rattle.actor_net.specs.Schedules.{ports_below, nodes_below, enabled_choices}
@@ -153,6 +154,20 @@ last_node ready w k behind some stands all =
     let next : length w.nodes - behind ≡ suc k = omega arith in
     let whole : length (enabled_choices ready w) ≡ length (nodes_below ready w k) + length (ports_below ready w k (length w.nodes)) = all ∙ ap (λ n. length (nodes_below ready w n)) next ∙ nodes_counted ready w k in
     node_at ready w k (length (enabled_choices ready w) - 1) (length (ports_below ready w k (length w.nodes)) - 1) (omega arith) (omega arith) (omega arith)
+
+-- the same of the first node, also where it has none
+pub last_first : {A M N : Type 0} (ready : A → M → Bool) (w : Network A M N) (k behind : ℕ) → k ≡ 0 → k + 1 + behind ≡ length w.nodes → length (enabled_choices ready w) ≡ length (nodes_below ready w (length w.nodes - behind)) → slice_get (enabled_choices ready w) (length (enabled_choices ready w) - 1) ≡ slice_get (ports_below ready w k (length w.nodes)) (length (ports_below ready w k (length w.nodes)) - 1)
+last_first ready w k behind zeroth stands all =
+    elim (cases_lt 0 (length (ports_below ready w k (length w.nodes)))) [
+      | inl some ↦ last_node ready w k behind some stands all
+      | inr none ↦
+          let next : length w.nodes - behind ≡ suc k = omega arith in
+          let below : length (nodes_below ready w k) ≡ 0 = rw zeroth refl in
+          let counted = nodes_counted ready w k in
+          let whole : length (enabled_choices ready w) ≡ length (nodes_below ready w (suc k)) = all ∙ ap (λ n. length (nodes_below ready w n)) next in
+          slice_get_past (enabled_choices ready w) (length (enabled_choices ready w) - 1) (omega (arith, whole, counted, below, none))
+          ∙ sym (slice_get_past (ports_below ready w k (length w.nodes)) (length (ports_below ready w k (length w.nodes)) - 1) (omega (arith, none)))
+    ]
 
 -- where it hasn't, no node from it on has
 pub no_choice : {A M N : Type 0} (ready : A → M → Bool) (w : Network A M N) (k behind : ℕ) → length (ports_below ready w k (length w.nodes)) ≡ 0 → k + 1 + behind ≡ length w.nodes → length (enabled_choices ready w) ≡ length (nodes_below ready w (length w.nodes - behind)) → length (enabled_choices ready w) ≡ length (nodes_below ready w (length w.nodes - (behind + 1)))

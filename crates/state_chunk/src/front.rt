@@ -32,15 +32,23 @@ fn flow_front(head: [u8; 3], flow: &Flow, length: u16) -> [u8; 18]
     ensures { result ≡ head ++ key_bytes (OfFlow flow.now) ++ number_bytes 2 length }
 {
     let [version, kind, scope] = head;
-    let [local, local_2, local_3, local_4] = flow.local.to_be_bytes();
-    let [lport, lport_2] = flow.lport.to_be_bytes();
-    let [remote, remote_2, remote_3, remote_4] = flow.remote.to_be_bytes();
-    let [rport, rport_2] = flow.rport.to_be_bytes();
+    let [address, address_2, address_3, address_4, port, port_2] = end(flow.local, flow.lport);
+    let [remote, remote_2, remote_3, remote_4, rport, rport_2] = end(flow.remote, flow.rport);
     let [length, length_2] = length.to_be_bytes();
     [
-        version, kind, scope, flow.proto, local, local_2, local_3, local_4, lport, lport_2, remote,
-        remote_2, remote_3, remote_4, rport, rport_2, length, length_2,
+        version, kind, scope, flow.proto, address, address_2, address_3, address_4, port, port_2,
+        remote, remote_2, remote_3, remote_4, rport, rport_2, length, length_2,
     ]
+}
+
+/// The bytes of one end of a flow.
+#[tactic(auto, unfolding(nf_function::specs::Stored::number_bytes))]
+fn end(address: u32, port: u16) -> [u8; 6]
+    ensures { result ≡ number_bytes 4 address ++ number_bytes 2 port }
+{
+    let [first, second, third, fourth] = address.to_be_bytes();
+    let [high, low] = port.to_be_bytes();
+    [first, second, third, fourth, high, low]
 }
 
 /// The first part of a host's chunk.

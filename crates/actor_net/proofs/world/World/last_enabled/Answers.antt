@@ -3,13 +3,18 @@ use Rattle.std.proofs.Common.{◌≡◌, ◌-◌, length, ap, sym, ◌∙◌, ar
 use Rattle.std.proofs.lemmas.Grind.{common_steps}
 use Rattle.std.proofs.lemmas.Option.{slice_get_past}
 use Rattle.actor_net.specs.Schedules.{nodes_below, enabled_choices}
-use Rattle.actor_net.proofs.EnabledChoices.{last_node, no_choice}
+use Rattle.actor_net.proofs.EnabledChoices.{last_node, last_first, no_choice}
 use Rattle.actor_net.proofs.world.World.last_enabled.Goals as goal
 
 pub returns-then-count_of-gt0 : goal.returns-then-count_of-gt0
 returns-then-count_of-gt0 g c =
     let nodes = ap (λ w. length w.nodes) c.self.view_is in
     c.last_of.ensures ∙ sym (last_node g.A.Actor.is_ready c.args.self.now (c.len-nodes.result - 1 - c.loop-behind.behind) c.loop-behind.behind (grind (arith, common_steps)) (grind (arith, common_steps)) c.loop-behind.invariant)
+
+pub returns-then-node-eq0 : goal.returns-then-node-eq0
+returns-then-node-eq0 g c =
+    let nodes = ap (λ w. length w.nodes) c.self.view_is in
+    c.last_of.ensures ∙ sym (last_first g.A.Actor.is_ready c.args.self.now (c.len-nodes.result - 1 - c.loop-behind.behind) c.loop-behind.behind (grind (arith, common_steps)) (grind (arith, common_steps)) c.loop-behind.invariant)
 
 pub loop-behind-preserved : goal.loop-behind-preserved
 loop-behind-preserved g c =
