@@ -9,7 +9,7 @@ use Rattle.actor_net.proofs.world.World.last_enabled.Goals as goal
 pub returns-then-count_of-gt0 : goal.returns-then-count_of-gt0
 returns-then-count_of-gt0 g c =
     let nodes = ap (λ w. length w.nodes) c.self.view_is in
-    c.last_of.ensures ∙ sym (last_node g.A.Actor.is_ready c.args.self.now (c.len-nodes.result - 1 - c.loop-behind.behind) c.loop-behind.behind (grind (arith, common_steps)) (grind (arith, common_steps)) c.loop-behind.invariant)
+    c.last_of-then-count_of-gt0.ensures ∙ sym (last_node g.A.Actor.is_ready c.args.self.now (c.len-nodes.result - 1 - c.loop-behind.behind) c.loop-behind.behind (grind (arith, common_steps)) (grind (arith, common_steps)) c.loop-behind.invariant)
 
 pub returns-then-node-eq0 : goal.returns-then-node-eq0
 returns-then-node-eq0 g c =
