@@ -1,6 +1,5 @@
 //! Short texts in blocks of one size. A block is copied as a whole, which takes a step or two, and not a loop.
 ghost use Rattle.std.specs.Prelude.{◌≡◌, ◌≤◌, ◌+◌, ◌++◌, length, take, codes, decimal};
-
 ghost use Rattle.counted_lines.specs.declared.block.TheConstants.{LONGEST_END};
 
 use itoa::Buffer;
@@ -16,7 +15,7 @@ pub const LONGEST_END: usize = BLOCK - 2;
 pub const WORD: usize = 8;
 
 /// A text of at most [`BLOCK`] bytes, and bytes of no meaning after it. Contracts see the text.
-#[derive(Clone, Copy)]
+#[derive(Drop)]
 pub struct Block {
     bytes: [u8; BLOCK],
     len: usize,
@@ -62,6 +61,17 @@ impl Block {
         bytes[..word.len()].copy_from_slice(word);
         bytes[word.len()..len].copy_from_slice(digits);
         Block { bytes, len }
+    }
+
+    /// The same block again.
+    #[inline(always)]
+    pub fn copy(&self) -> Block
+        ensures { result ≡ self.now }
+    {
+        Block {
+            bytes: self.bytes,
+            len: self.len,
+        }
     }
 
     /// The length of the text.

@@ -54,7 +54,7 @@ impl<F: Function> OutputEnds<F> {
     {
         let made = self.by_code.get(usize::from(output.code))?.as_ref()?;
         if made.output == *output {
-            Some(made.end)
+            Some(made.end.copy())
         } else {
             None
         }
@@ -73,7 +73,7 @@ impl<F: Function> OutputEnds<F> {
         if let Some(place) = self.by_code.get_mut(usize::from(output.code)) {
             *place = Some(OutputEnd {
                 output: *output,
-                end,
+                end: end.copy(),
                 of: PhantomData,
             });
         }

@@ -3,8 +3,8 @@ ghost use Rattle.state_chunk.specs.Format.{record_chunk, record_bytes, version_n
 ghost use Rattle.state_chunk.specs.Reading.{record_read, record_of_version, Gives};
 
 use crate::fault::ChunkFault;
-use crate::header::{body_in, header_of, kind_number, record_scope, scope_number, version_number};
 use crate::front::{LONGEST_FRONT, push_front};
+use crate::header::{body_in, header_of, kind_number, record_scope, scope_number, version_number};
 use crate::key::{first_key, is_known};
 use basics::{Bytes, NoMemory};
 use nf_function::{Chunk, Function, Unit};
