@@ -2,4 +2,3 @@ pub mod Audits
 pub mod Sorting
 pub mod Lines
 pub mod Seen
-pub mod Ends

@@ -7,7 +7,6 @@
 #![tactic(auto)]
 
 pub mod auditing;
-mod ends;
 pub mod head;
 pub mod instances;
 pub mod lines;

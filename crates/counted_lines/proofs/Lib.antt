@@ -1,3 +1,0 @@
-pub mod PlacedBytes
-pub mod CountedDigits
-pub mod PageLemmas
