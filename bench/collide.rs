@@ -2,18 +2,18 @@
 // flows are ordinary ones.
 //
 // Build: rustc --edition 2021 -O collide.rs. Words: PACKETS BITS LOW FILE. Each flow is found by trying some 2^BITS of them. The hash is the
-// one by which the program finds flows: two multiplications with fixed numbers. The file is a pcap capture of version 2.4,
+// one by which the program finds flows: the product of two numbers of a flow, each mixed with a fixed one. The file is a pcap capture of version 2.4,
 // little-endian with microseconds and link type 101 (raw IP); the packets are UDP without a payload, 28 bytes each, and all of one moment.
 use std::fs::File;
 use std::io::{self, BufWriter, Write};
 use std::process::ExitCode;
 
-/// The hash before a flow, and what each of its two numbers of 8 bytes is multiplied with.
-const START: u64 = 0x243f_6a88_85a3_08d3;
-const FACTOR: u64 = 0x9e37_79b9_7f4a_7c15 ^ 16;
+/// What each of a flow's two numbers of 8 bytes is mixed with: its addresses, and its ports with the protocol.
+const ADDRESSES: u64 = 0x9e37_79b9_7f4a_7c15;
+const PORTS: u64 = 0x243f_6a88_85a3_08d3 + 16;
 
-fn mixed(state: u64, number: u64) -> u64 {
-    let product = (state ^ number) as u128 * FACTOR as u128;
+fn hash(addresses: u64, ports: u64) -> u64 {
+    let product = (ports ^ PORTS) as u128 * (addresses ^ ADDRESSES) as u128;
     (product >> 64) as u64 ^ product as u64
 }
 
@@ -42,10 +42,10 @@ fn write_capture(packets: u32, mask: u64, file: &mut impl Write) -> io::Result<(
         let word = pair.wrapping_mul(0x5851_f42d_4c95_7f2d);
         pair += 1;
         let (local, remote, rport) = (10 << 24 | (word >> 56) as u32, 192 << 24 | (word >> 32) as u32 % 0x100_0000, word as u16);
-        let state = mixed(START, (local as u64) << 32 | remote as u64);
+        let addresses = (local as u64) << 32 | remote as u64;
         let most = if mask == 0 { 64 } else { 65_535 };
         for lport in 1..=most {
-            if made < packets && mixed(state, (lport as u64) << 24 | (rport as u64) << 8 | 17) & mask == 0 {
+            if made < packets && hash(addresses, (lport as u64) << 24 | (rport as u64) << 8 | 17) & mask == 0 {
                 write_packet(file, local, remote, lport, rport)?;
                 made += 1;
             }

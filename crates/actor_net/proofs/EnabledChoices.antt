@@ -3,6 +3,7 @@ use Rattle.std.proofs.Common.{◌≡◌, ℕ, zero, suc, ◌+◌, ◌-◌, ◌*�
 use Rattle.std.specs.Prelude.{if◌then◌else◌, slice_get}
 use Rattle.std.proofs.lemmas.Grind.{common_steps}
 use Rattle.std.proofs.lemmas.Bool.{cases_lt}
+use Rattle.std.proofs.lemmas.Option.{slice_get_past}
 use Rattle.actor_net.specs.declared.choice.Choice.{Choice}
 use Rattle.actor_net.specs.Network.{Network, is_enabled}
 use Rattle.actor_net.specs.Schedules.{ports_below, nodes_below, enabled_choices}
@@ -125,3 +126,54 @@ pub node_at : {A M N : Type 0} (ready : A → M → Bool) (w : Network A M N) (k
 node_at ready w k place left small there is =
     let prefix = nodes_prefix ready w k (length w.nodes) small in
     rw (prefix.1, is) (slice_get_behind (nodes_below ready w k) _ left ∙ slice_get_before (ports_below ready w k (length w.nodes)) prefix.0 left there)
+
+-- where those behind a port aren't enabled, and it is, it is the last of its node
+pub last_here : {A M N : Type 0} (ready : A → M → Bool) (w : Network A M N) (k p behind : ℕ) → is_enabled ready w (at k p) ≡ true → p + 1 + behind ≡ length w.nodes → length (ports_below ready w k (length w.nodes)) ≡ length (ports_below ready w k (length w.nodes - behind)) → slice_get (ports_below ready w k (length w.nodes)) (length (ports_below ready w k (length w.nodes)) - 1) ≡ Some (at k p)
+last_here ready w k p behind is stands all =
+    let next : length w.nodes - behind ≡ suc p = omega arith in
+    let more : length (ports_below ready w k (suc p)) ≡ length (ports_below ready w k p) + 1 = ports_counted ready w k p ∙ ap (λ b. length (ports_below ready w k p) + one_if b) is in
+    let whole : length (ports_below ready w k (length w.nodes)) ≡ length (ports_below ready w k p) + 1 = all ∙ ap (λ n. length (ports_below ready w k n)) next ∙ more in
+    port_at ready w k p (length w.nodes) (length (ports_below ready w k (length w.nodes)) - 1) (omega arith) is (omega arith)
+
+-- where it isn't, none of those from it on is
+pub none_there : {A M N : Type 0} (ready : A → M → Bool) (w : Network A M N) (k p behind : ℕ) → is_enabled ready w (at k p) ≡ false → p + 1 + behind ≡ length w.nodes → length (ports_below ready w k (length w.nodes)) ≡ length (ports_below ready w k (length w.nodes - behind)) → length (ports_below ready w k (length w.nodes)) ≡ length (ports_below ready w k (length w.nodes - (behind + 1)))
+none_there ready w k p behind off stands all =
+    let next : length w.nodes - behind ≡ suc p = omega arith in
+    let here : p ≡ length w.nodes - (behind + 1) = omega arith in
+    let more : length (ports_below ready w k (suc p)) ≡ length (ports_below ready w k p) + 0 = ports_counted ready w k p ∙ ap (λ b. length (ports_below ready w k p) + one_if b) off in
+    let one : length (ports_below ready w k (suc p)) ≡ length (ports_below ready w k p) = omega (arith, more) in
+    all ∙ ap (λ n. length (ports_below ready w k n)) next ∙ one ∙ ap (λ n. length (ports_below ready w k n)) here
+
+-- one more node, with its choices
+nodes_counted : {A M N : Type 0} (ready : A → M → Bool) (w : Network A M N) (k : ℕ) → length (nodes_below ready w (suc k)) ≡ length (nodes_below ready w k) + length (ports_below ready w k (length w.nodes))
+nodes_counted ready w k = length-append (nodes_below ready w k) (ports_below ready w k (length w.nodes))
+
+-- where no node behind one has a choice, and it has, the last choice is its last
+pub last_node : {A M N : Type 0} (ready : A → M → Bool) (w : Network A M N) (k behind : ℕ) → 0 < length (ports_below ready w k (length w.nodes)) → k + 1 + behind ≡ length w.nodes → length (enabled_choices ready w) ≡ length (nodes_below ready w (length w.nodes - behind)) → slice_get (enabled_choices ready w) (length (enabled_choices ready w) - 1) ≡ slice_get (ports_below ready w k (length w.nodes)) (length (ports_below ready w k (length w.nodes)) - 1)
+last_node ready w k behind some stands all =
+    let next : length w.nodes - behind ≡ suc k = omega arith in
+    let whole : length (enabled_choices ready w) ≡ length (nodes_below ready w k) + length (ports_below ready w k (length w.nodes)) = all ∙ ap (λ n. length (nodes_below ready w n)) next ∙ nodes_counted ready w k in
+    node_at ready w k (length (enabled_choices ready w) - 1) (length (ports_below ready w k (length w.nodes)) - 1) (omega arith) (omega arith) (omega arith)
+
+-- the same of the first node, also where it has none
+pub last_first : {A M N : Type 0} (ready : A → M → Bool) (w : Network A M N) (k behind : ℕ) → k ≡ 0 → k + 1 + behind ≡ length w.nodes → length (enabled_choices ready w) ≡ length (nodes_below ready w (length w.nodes - behind)) → slice_get (enabled_choices ready w) (length (enabled_choices ready w) - 1) ≡ slice_get (ports_below ready w k (length w.nodes)) (length (ports_below ready w k (length w.nodes)) - 1)
+last_first ready w k behind zeroth stands all =
+    elim (cases_lt 0 (length (ports_below ready w k (length w.nodes)))) [
+      | inl some ↦ last_node ready w k behind some stands all
+      | inr none ↦
+          let next : length w.nodes - behind ≡ suc k = omega arith in
+          let below : length (nodes_below ready w k) ≡ 0 = rw zeroth refl in
+          let counted = nodes_counted ready w k in
+          let whole : length (enabled_choices ready w) ≡ length (nodes_below ready w (suc k)) = all ∙ ap (λ n. length (nodes_below ready w n)) next in
+          slice_get_past (enabled_choices ready w) (length (enabled_choices ready w) - 1) (omega (arith, whole, counted, below, none))
+          ∙ sym (slice_get_past (ports_below ready w k (length w.nodes)) (length (ports_below ready w k (length w.nodes)) - 1) (omega (arith, none)))
+    ]
+
+-- where it hasn't, no node from it on has
+pub no_choice : {A M N : Type 0} (ready : A → M → Bool) (w : Network A M N) (k behind : ℕ) → length (ports_below ready w k (length w.nodes)) ≡ 0 → k + 1 + behind ≡ length w.nodes → length (enabled_choices ready w) ≡ length (nodes_below ready w (length w.nodes - behind)) → length (enabled_choices ready w) ≡ length (nodes_below ready w (length w.nodes - (behind + 1)))
+no_choice ready w k behind none stands all =
+    let next : length w.nodes - behind ≡ suc k = omega arith in
+    let here : k ≡ length w.nodes - (behind + 1) = omega arith in
+    let more = nodes_counted ready w k in
+    let one : length (nodes_below ready w (suc k)) ≡ length (nodes_below ready w k) = omega (arith, more, none) in
+    all ∙ ap (λ n. length (nodes_below ready w n)) next ∙ one ∙ ap (λ n. length (nodes_below ready w n)) here

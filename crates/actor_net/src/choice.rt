@@ -17,12 +17,14 @@ impl Choice {
     ghost use Rattle.actor_net.specs.Network.{is_input};
 
     /// Whether it takes from the input.
+    #[inline(always)]
     pub fn is_input(self) -> bool
         ensures { result ≡ is_input self }
     {
         self.node == 0 && self.port == 0
     }
 
+    #[inline(always)]
     pub(crate) fn place(self, nodes: usize) -> usize
         requires { (self.node < nodes) × (self.port < nodes) × (nodes < 256) }
         ensures value { result ≡ self.port * nodes + self.node }

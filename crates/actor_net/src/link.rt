@@ -42,18 +42,21 @@ impl<M> Link<M> {
         self.queue.into_vec()
     }
 
+    #[inline(always)]
     pub fn is_empty(&self) -> bool
         ensures { result ≡ (length self.now == 0) }
     {
         self.queue.is_empty()
     }
 
+    #[inline(always)]
     pub fn first(&self) -> Option<&M>
         ensures { MatchOption result (self.now ≡ []) (λ x. self.now ≡ x.now ∷ drop 1 self.now) }
     {
         self.queue.front()
     }
 
+    #[inline]
     pub fn pop(&mut self) -> Option<M>
         ensures { MatchOption result ((self.old ≡ []) × (self.new ≡ [])) (λ x. self.old ≡ x ∷ self.new) }
     {
@@ -61,6 +64,7 @@ impl<M> Link<M> {
     }
 
     /// The same, and with the last message the room goes back.
+    #[inline]
     pub fn pop_for_good(&mut self) -> Option<M>
         ensures { MatchOption result ((self.old ≡ []) × (self.new ≡ [])) (λ x. self.old ≡ x ∷ self.new) }
     {
@@ -71,6 +75,7 @@ impl<M> Link<M> {
         message
     }
 
+    #[inline]
     pub fn push(&mut self, message: M) -> Result<(), NoMemory>
     where
         M: Drop,

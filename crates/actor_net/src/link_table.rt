@@ -87,6 +87,7 @@ impl<M> LinkTable<M> {
     }
 
     /// Whether a link holds nothing.
+    #[inline]
     pub fn is_empty(&self, link: Choice) -> bool
         requires { IsWithin self.now.nodes link }
         ensures { result ≡ (length (link_of self.now link) == 0) }
@@ -96,6 +97,7 @@ impl<M> LinkTable<M> {
     }
 
     /// How many of the links to a node hold something.
+    #[inline(always)]
     pub fn count_to(&self, node: u8) -> usize
         requires { node < self.now.nodes }
         ensures held { result ≡ held_below self.now node self.now.nodes }
@@ -105,6 +107,7 @@ impl<M> LinkTable<M> {
     }
 
     /// How many links hold something.
+    #[inline(always)]
     pub fn count(&self) -> usize
         ensures held { result ≡ all_held self.now self.now.nodes }
         ensures small { result < 2 ^ 16 }
@@ -120,6 +123,7 @@ impl<M> LinkTable<M> {
     }
 
     /// Takes the first message of a link.
+    #[inline]
     pub fn pop(&mut self, link: Choice) -> Option<M>
         requires { IsWithin self.old.nodes link }
         ensures first { MatchOption result (link_of self.old link ≡ []) (λ message. link_of self.old link ≡ message ∷ drop 1 (link_of self.old link)) }
@@ -136,6 +140,7 @@ impl<M> LinkTable<M> {
     }
 
     /// Puts a message at the end of a link.
+    #[inline]
     pub fn push(&mut self, link: Choice, message: M) -> Result<(), NoMemory>
     where
         M: Drop,

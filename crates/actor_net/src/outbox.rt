@@ -32,6 +32,7 @@ impl<M, N> Outbox<M, N> {
     }
 
     /// Sends a message to a node, after what was sent before.
+    #[inline]
     pub fn send(&mut self, to: u8, message: M) -> Result<(), NoMemory>
     where
         M: Drop,
@@ -43,6 +44,7 @@ impl<M, N> Outbox<M, N> {
     }
 
     /// Notes something, after what was noted before.
+    #[inline]
     pub fn note(&mut self, note: N) -> Result<(), NoMemory>
     where
         N: Drop,
@@ -62,6 +64,7 @@ impl<M, N> Outbox<M, N> {
     }
 
     /// The first of what was sent, taken out. Its place is used again.
+    #[inline]
     pub fn next_sent(&mut self) -> Option<(u8, M)>
         ensures sent { MatchOption result (self.old.0 ≡ []) (λ x. self.old.0 ≡ x ∷ self.new.0) }
         ensures none { IfNone result (self.new.0 ≡ []) }
@@ -80,6 +83,7 @@ impl<M, N> Outbox<M, N> {
     }
 
     /// Drops what was sent and noted, and keeps the room.
+    #[inline]
     pub fn clear(&mut self)
     where
         M: Drop,

@@ -102,7 +102,7 @@ impl Picker {
     {
         match self {
             Picker::First => world.nth_enabled(0),
-            Picker::Last => world.nth_enabled(world.count_enabled().saturating_sub(1)),
+            Picker::Last => world.last_enabled(),
             Picker::Word(words) => {
                 let count = world.count_enabled();
                 if count == 0 {

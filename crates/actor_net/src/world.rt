@@ -96,6 +96,7 @@ impl<A: Actor> World<A> {
     }
 
     /// Whether a choice can be taken.
+    #[inline]
     pub fn enabled(&self, choice: Choice) -> bool
         ensures { result ≡ is_enabled A.is_ready self.now choice }
     {
@@ -124,6 +125,7 @@ impl<A: Actor> World<A> {
     }
 
     /// The same, where the choice can be taken.
+    #[inline]
     pub(crate) fn take_enabled(&mut self, choice: Choice) -> Result<(), NoMemory>
         requires { is_enabled A.is_ready self.old choice ≡ true }
         ensures { OnOk result (self.new ≡ taken A.stepped self.old choice) }
@@ -139,6 +141,7 @@ impl<A: Actor> World<A> {
         self.input.is_empty() && self.links.all_empty() && all_ended(self.nodes.as_slice())
     }
 
+    #[inline]
     fn take_first(&mut self, choice: Choice) -> A::Message
         requires { is_enabled A.is_ready self.old choice ≡ true }
         ensures first { waiting self.old choice ≡ result ∷ drop 1 (waiting self.old choice) }
@@ -155,6 +158,7 @@ impl<A: Actor> World<A> {
         }
     }
 
+    #[inline]
     fn step(&mut self, choice: Choice, message: A::Message) -> Result<(), NoMemory>
         requires { choice.node < length self.old.nodes }
         ensures { OnOk result ((node : A) → slice_get self.old.nodes choice.node ≡ Some node → self.new ≡ after self.old choice.node (A.stepped node choice.port message)) }
@@ -172,6 +176,7 @@ impl<A: Actor> World<A> {
     }
 
     // Whether node 0 takes the first item of the input.
+    #[inline]
     fn input_ready(&self) -> bool
         ensures { result ≡ is_enabled A.is_ready self.now (record { node = 0; port = 0 }) }
     {
@@ -205,7 +210,43 @@ impl<A: Actor> World<A> {
         None
     }
 
+    /// The last of the enabled choices, in order of (node, port).
+    #[inline]
+    pub(crate) fn last_enabled(&self) -> Option<Choice>
+        ensures { result ≡ slice_get (enabled_choices A.is_ready self.now) (length (enabled_choices A.is_ready self.now) - 1) }
+    {
+        let nodes = self.nodes.len() as u8;
+        for behind in 0..nodes {
+            let node = nodes - 1 - behind;
+            if node == 0 {
+                return self.last_of(node);
+            }
+            if self.count_of(node) > 0 {
+                return self.last_of(node);
+            }
+        }
+        None
+    }
+
+    /// The last of a node's enabled choices, in order of ports.
+    #[inline]
+    fn last_of(&self, node: u8) -> Option<Choice>
+        requires { node < length self.now.nodes }
+        ensures { result ≡ slice_get (ports_below A.is_ready self.now node (length self.now.nodes)) (length (ports_below A.is_ready self.now node (length self.now.nodes)) - 1) }
+    {
+        let nodes = self.nodes.len() as u8;
+        for behind in 0..nodes {
+            let port = nodes - 1 - behind;
+            let choice = Choice { node, port };
+            if self.enabled(choice) {
+                return Some(choice);
+            }
+        }
+        None
+    }
+
     /// How many choices of a node are enabled.
+    #[inline]
     fn count_of(&self, node: u8) -> usize
         requires { node < length self.now.nodes }
         ensures { result ≡ length (ports_below A.is_ready self.now node (length self.now.nodes)) }
@@ -273,6 +314,7 @@ fn all_ended<A: Actor>(nodes: &[A]) -> bool
 }
 
 /// Moves what was sent to the ends of its links. What no node takes is dropped.
+#[inline]
 fn deliver<M: Drop, N>(
     nodes: usize,
     from: u8,

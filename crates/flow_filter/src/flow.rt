@@ -1,4 +1,4 @@
-ghost use Rattle.std.specs.Prelude.{◌≡◌, true};
+ghost use Rattle.std.specs.Prelude.{◌≡◌, ◌+◌, ◌*◌, ◌^◌, ◌<◌, true};
 ghost use Rattle.flow_filter.specs.Flow.{flow_of, inward, outward, owner_of_port, is_mapped, is_source_first};
 
 use crate::packet::Packet;
@@ -13,13 +13,88 @@ const FIRST_PORT: u16 = 1024;
 const PORTS_PER_HOST: u16 = 252;
 
 /// The two ends of a conversation, seen from the site. The widest fields stand first, so that a flow takes 16 bytes.
-#[derive(Clone, Copy, Debug, PartialEq, Eq)]
+#[derive(Clone, Copy, Debug)]
 pub struct Flow {
     pub local: u32,
     pub remote: u32,
     pub lport: u16,
     pub rport: u16,
     pub proto: u8,
+}
+
+impl Flow {
+    /// The addresses as one number.
+    #[inline(always)]
+    fn addresses(&self) -> u64
+        ensures value { result ≡ self.now.local * 2 ^ 32 + self.now.remote }
+        ensures small { self.now.remote < 2 ^ 32 }
+    {
+        let Flow { local, remote, .. } = *self;
+        u64::from(local) * 0x1_0000_0000 + u64::from(remote)
+    }
+
+    /// The ports and the protocol as one number.
+    #[inline(always)]
+    fn ports(&self) -> u64
+        ensures value { result ≡ (self.now.lport * 2 ^ 16 + self.now.rport) * 2 ^ 8 + self.now.proto }
+        ensures small { (self.now.rport < 2 ^ 16) × (self.now.proto < 2 ^ 8) }
+    {
+        let Flow {
+            lport,
+            rport,
+            proto,
+            ..
+        } = *self;
+        (u64::from(lport) * 0x1_0000 + u64::from(rport)) * 0x100 + u64::from(proto)
+    }
+
+    /// The protocol and the local end as one number.
+    #[inline(always)]
+    fn local_end(&self) -> u64
+        ensures value { result ≡ (self.now.proto * 2 ^ 32 + self.now.local) * 2 ^ 16 + self.now.lport }
+        ensures small { (self.now.local < 2 ^ 32) × (self.now.lport < 2 ^ 16) }
+    {
+        let Flow {
+            local,
+            lport,
+            proto,
+            ..
+        } = *self;
+        (u64::from(proto) * 0x1_0000_0000 + u64::from(local)) * 0x1_0000 + u64::from(lport)
+    }
+
+    /// The remote end as one number.
+    #[inline(always)]
+    fn remote_end(&self) -> u64
+        ensures value { result ≡ self.now.remote * 2 ^ 16 + self.now.rport }
+        ensures small { self.now.rport < 2 ^ 16 }
+    {
+        let Flow { remote, rport, .. } = *self;
+        u64::from(remote) * 0x1_0000 + u64::from(rport)
+    }
+}
+
+/// Flows are compared as two numbers, which takes less than half the time of five.
+impl PartialEq for Flow {
+    ghost use Rattle.std.proofs.Common.{rules};
+    ghost use Rattle.std.specs.Cmp.Rules.{comparing};
+    ghost use Rattle.flow_filter.specs.Flow.{flow_eq};
+
+    ghost eq = { flow_eq };
+
+    ghost laws = { Prim.search (comparing, rules) };
+
+    #[inline(always)]
+    fn eq(&self, other: &Flow) -> bool {
+        self.addresses() == other.addresses() && self.ports() == other.ports()
+    }
+}
+
+impl Eq for Flow {
+    ghost use Rattle.std.proofs.Common.{rules};
+    ghost use Rattle.std.specs.Cmp.Rules.{comparing};
+
+    ghost laws = { Prim.search (comparing, rules) };
 }
 
 /// Flows are ordered by their protocol, and then by their local and their remote end.
@@ -36,16 +111,10 @@ impl Ord for Flow {
 
     ghost matches_eq = { Prim.search (comparing, rules) };
 
+    #[inline(always)]
     fn cmp(&self, other: &Flow) -> Ordering {
-        let remote = self
-            .remote
-            .cmp(&other.remote)
-            .then(self.rport.cmp(&other.rport));
-        let local = self
-            .local
-            .cmp(&other.local)
-            .then(self.lport.cmp(&other.lport).then(remote));
-        self.proto.cmp(&other.proto).then(local)
+        let remote = self.remote_end().cmp(&other.remote_end());
+        self.local_end().cmp(&other.local_end()).then(remote)
     }
 }
 
@@ -66,29 +135,21 @@ impl PartialOrd for Flow {
     }
 }
 
-/// The fields are hashed as two numbers, which takes less than half the time of five.
+/// The fields are hashed as one number, which takes one multiplication.
 impl Hash for Flow {
-    ghost use Rattle.std.specs.Prelude.{◌+◌, ◌*◌, ◌^◌, ◌++◌};
+    ghost use Rattle.std.specs.Prelude.{◌+◌, ◌*◌, ◌^◌};
     ghost use Rattle.std.specs.Cmp.Rules.{hashing};
     ghost use Rattle.std.specs.Hash as fed;
     ghost use Rattle.std.proofs.Common.{rules};
 
-    ghost hash_input = { λ f. fed.u64 (f.local * 2 ^ 32 + f.remote) ++ fed.u64 ((f.lport * 2 ^ 16 + f.rport) * 2 ^ 8 + f.proto) };
+    ghost hash_input = { λ f. fed.u128 ((f.local * 2 ^ 32 + f.remote) * 2 ^ 64 + ((f.lport * 2 ^ 16 + f.rport) * 2 ^ 8 + f.proto)) };
 
     ghost respects_eq = { Prim.search (hashing, rules) };
 
+    #[inline(always)]
     fn hash<H: Hasher>(&self, state: &mut H) {
-        let Flow {
-            local,
-            remote,
-            lport,
-            rport,
-            proto,
-        } = *self;
-        let addresses = u64::from(local) * 0x1_0000_0000 + u64::from(remote);
-        let ports = u64::from(lport) * 0x1_0000 + u64::from(rport);
-        state.write_u64(addresses);
-        state.write_u64(ports * 0x100 + u64::from(proto));
+        let addresses = u128::from(self.addresses()) * 0x1_0000_0000_0000_0000;
+        state.write_u128(addresses + u128::from(self.ports()));
     }
 }
 

@@ -1,5 +1,7 @@
 -- What the functions keep records for, and which filters take whole units. This project's own rules.
-use Rattle.std.specs.Prelude.{◌≡◌, ℕ, ◌^◌, ◌==◌, nat_lt, Bool, true, false, not, ◌&&◌, ◌||◌, is_some}
+use Rattle.std.specs.Prelude.{◌≡◌, ℕ, ◌+◌, ◌*◌, ◌^◌, ◌==◌, nat_lt, Bool, true, false, not, ◌&&◌, ◌||◌, is_some}
+use Rattle.std.specs.Hash.{HashWrites}
+use Rattle.std.specs.Hash as fed
 use Rattle.std.specs.Ordering.{nat_cmp}
 use Rattle.std.specs.declared.cmp.Ordering.{Ordering}
 use Rattle.std.specs.declared.cmp.Ordering.TheVariants.{Less, Greater}
@@ -58,6 +60,11 @@ unit_cmp (OfFlow a) (OfFlow b) = flow_cmp a b
 unit_cmp (OfFlow a) (OfHost b) = Less
 unit_cmp (OfHost a) (OfFlow b) = Greater
 unit_cmp (OfHost a) (OfHost b) = nat_cmp a b
+
+-- what a unit is hashed as: one number
+abbrev pub unit_hashed : units.Unit → HashWrites
+unit_hashed (OfFlow f) = fed.u128 ((f.local * 2 ^ 32 + f.remote) * 2 ^ 64 + ((f.lport * 2 ^ 16 + f.rport) * 2 ^ 8 + f.proto))
+unit_hashed (OfHost host) = fed.u128 host
 
 -- the filter takes the unit: a flow that matches, or a host that `local` agrees with
 abbrev pub takes : Filter → units.Unit → Bool

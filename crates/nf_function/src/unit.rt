@@ -4,9 +4,10 @@ ghost use Rattle.nf_function.specs.Units.{is_transport, takes};
 use basics::Sequence;
 use flow_filter::{Filter, Flow, TCP, UDP};
 use std::cmp::Ordering;
+use std::hash::{Hash, Hasher};
 
 /// What a function keeps one record for.
-#[derive(Clone, Copy, Debug, PartialEq, Eq, Hash)]
+#[derive(Clone, Copy, Debug, PartialEq, Eq)]
 pub enum Unit {
     Flow(Flow),
     /// A local host, by its address.
@@ -53,6 +54,25 @@ impl PartialOrd for Unit {
 
     fn partial_cmp(&self, other: &Unit) -> Option<Ordering> {
         Some(self.cmp(other))
+    }
+}
+
+/// A unit is hashed as one number: a flow as itself, and a host as its address.
+impl Hash for Unit {
+    ghost use Rattle.std.specs.Cmp.Rules.{hashing};
+    ghost use Rattle.std.proofs.Common.{rules};
+    ghost use Rattle.nf_function.specs.Units.{unit_hashed};
+
+    ghost hash_input = { unit_hashed };
+
+    ghost respects_eq = { Prim.search (hashing, rules) };
+
+    #[inline(always)]
+    fn hash<H: Hasher>(&self, state: &mut H) {
+        match self {
+            Unit::Flow(flow) => flow.hash(state),
+            Unit::Host(host) => state.write_u128(u128::from(*host)),
+        }
     }
 }
 

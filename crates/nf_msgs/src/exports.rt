@@ -9,7 +9,7 @@ use std::alloc::Global;
 pub fn units_in(alloc: Global, chunks: &[Chunk]) -> Result<Units, NoMemory>
     ensures { IfOk result (λ units. units ≡ units_in chunks.now) }
 {
-    let mut units = Units::open(alloc);
+    let mut units = Units::from_vec(Vec::with_capacity(alloc, chunks.len())?);
     for chunk in chunks {
         let Some(unit) = chunk.unit else {
             continue;

@@ -21,7 +21,7 @@ pub(crate) fn ordered<'a, R>(
     ensures { IfOk result (λ found. map (λ e. (e.0, e.1.now)) found.items ≡ finite.entries (taken (option_copied filter.entry) (map_of entries.now))) }
 {
     let mut found = all_found(alloc, entries, filter)?;
-    found.sort_unstable_by_key(|entry| entry.0);
+    found.sort_by_key(|entry| entry.0)?;
     Ok(found)
 }
 

@@ -1,32 +1,10 @@
 //! The key of a chunk: the unit whose record it has.
-ghost use Rattle.std.specs.Prelude.{◌≡◌, ◌++◌, option_map, OnOk};
-ghost use Rattle.state_chunk.specs.Format.{key_bytes};
+ghost use Rattle.std.specs.Prelude.{◌≡◌, option_map};
 ghost use Rattle.state_chunk.specs.Reading.{first_key, first_flow, first_host, is_known};
 
-use basics::{Bytes, NoMemory};
 use flow_filter::Flow;
-use nf_function::stored::{first_byte, first_u16, first_u32, push_u16, push_u32};
+use nf_function::stored::{first_byte, first_u16, first_u32};
 use nf_function::{Kind, Unit, is_transport};
-
-/// How many bytes the longest key has.
-pub const LONGEST_KEY: usize = 13;
-
-/// Puts the key of a unit after other bytes.
-#[tactic(auto, unfolding(crate::specs::Format::key_bytes))]
-pub fn push_key(bytes: &mut Bytes, unit: &Unit) -> Result<(), NoMemory>
-    ensures { OnOk result (bytes.new ≡ bytes.old ++ key_bytes unit.now) }
-{
-    match unit {
-        Unit::Flow(flow) => {
-            bytes.push(flow.proto)?;
-            push_u32(bytes, flow.local)?;
-            push_u16(bytes, flow.lport)?;
-            push_u32(bytes, flow.remote)?;
-            push_u16(bytes, flow.rport)
-        }
-        Unit::Host(host) => push_u32(bytes, *host),
-    }
-}
 
 /// The key of a unit of the function, and the bytes after it.
 pub fn first_key(kind: Kind, bytes: &[u8]) -> Option<(Unit, &[u8])>

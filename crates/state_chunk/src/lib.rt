@@ -7,6 +7,7 @@
 #![tactic(auto)]
 
 pub mod fault;
+pub mod front;
 pub mod header;
 pub mod key;
 pub mod records;

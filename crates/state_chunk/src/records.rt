@@ -3,15 +3,12 @@ ghost use Rattle.state_chunk.specs.Format.{record_chunk, record_bytes, version_n
 ghost use Rattle.state_chunk.specs.Reading.{record_read, record_of_version, Gives};
 
 use crate::fault::ChunkFault;
+use crate::front::{LONGEST_FRONT, push_front};
 use crate::header::{body_in, header_of, kind_number, record_scope, scope_number, version_number};
-use crate::key::{LONGEST_KEY, first_key, is_known, push_key};
+use crate::key::{first_key, is_known};
 use basics::{Bytes, NoMemory};
-use nf_function::stored::push_u16;
 use nf_function::{Chunk, Function, Unit};
 use std::alloc::Global;
-
-/// How many bytes version, kind, scope and the length of the body have.
-const FIXED: usize = 5;
 
 /// The chunk of a unit's record.
 pub fn encode<F: Function>(alloc: Global, unit: &Unit, kept: &F::Record) -> Result<Chunk, NoMemory>
@@ -40,15 +37,14 @@ fn record_bytes<F: Function>(
 {
     let kind = F::which();
     let length = F::body_length(kept);
-    let room = FIXED + LONGEST_KEY + usize::from(length);
+    let room = LONGEST_FRONT + usize::from(length);
     let mut bytes = Bytes::from_vec(Vec::with_capacity(alloc, room)?);
-    bytes.push_bytes(&[
+    let head = [
         version_number(F::is_timed(kept)),
         kind_number(kind),
         scope_number(record_scope(kind)),
-    ])?;
-    push_key(&mut bytes, unit)?;
-    push_u16(&mut bytes, length)?;
+    ];
+    push_front(&mut bytes, head, unit, length)?;
     F::push_body(&mut bytes, kept)?;
     Ok(bytes)
 }

@@ -5,7 +5,6 @@ pub mod ReaderOpening
 pub mod CaptureSoFar
 pub mod KeeperSoFar
 pub mod PacketNumbers
-pub mod PlacedBytes
 pub mod GeneratedSizes
 pub mod GeneratedRecords
 pub mod MadeSoFar

@@ -34,6 +34,14 @@ module _ {K V : Type 0} (eq : K → K → Bool) where
       let m : suc i - 1 ≡ i = omega arith in
       rw (e, m) refl
 
+  -- the one entry has the key, or no entry has
+  pub only_key : (k : K) (es : List (K × V)) → length es ≡ 1 → has_key eq es 1 k ≡ false → (n : ℕ) → has_key eq es n k ≡ false
+  only_key k [] one h n = absurd (omega (arith, one))
+  only_key k (e ∷ []) one h zero = refl
+  only_key k (e ∷ []) one h (suc zero) = h
+  only_key k (e ∷ []) one h (suc (suc n)) = has_key_suc k (e ∷ []) (suc n)
+  only_key k (e ∷ d ∷ es) one h n = absurd (omega (arith, one))
+
   pub no_place : (k : K) (es : List (K × V)) → ((i : ℕ) → is_place_of eq es i k ≡ false) → lookup (eq k) es ≡ None
   no_place k [] h = refl
   no_place k (e ∷ es) h = rw (h zero) (no_place k es (λ i. h (suc i)))

@@ -65,6 +65,7 @@ fn start_of(hash: u64, slots: usize) -> usize
 }
 
 /// Whether the entry of a number has the key.
+#[inline(always)]
 fn has_key<K: PartialEq, V>(entries: &[(K, V)], number: u32, key: &K) -> bool
     ensures { result ≡ has_key K.eq entries.now number key.now }
 {
@@ -74,6 +75,20 @@ fn has_key<K: PartialEq, V>(entries: &[(K, V)], number: u32, key: &K) -> bool
     match entries.get(number as usize - 1) {
         Some(entry) => *key == entry.0,
         None => false,
+    }
+}
+
+/// The place of the one entry, if it has the key.
+#[inline(always)]
+fn only_place<K: PartialEq, V>(entries: &[(K, V)], key: &K) -> Option<usize>
+    requires { length entries.now ≡ 1 }
+    ensures found { IfSome result (λ place. is_place_of K.eq entries.now place key.now ≡ true) }
+    ensures absent { IfNone result ((n : ℕ) → has_key K.eq entries.now n key.now ≡ false) }
+{
+    if has_key(entries, 1, key) {
+        Some(0)
+    } else {
+        None
     }
 }
 
@@ -98,6 +113,18 @@ impl<K: Ord + Hash + Copy> Index<K> {
     /// The place in `entries` of the entry that has the key, if its number is noted.
     #[inline(always)]
     pub fn find<V>(&self, entries: &[(K, V)], key: &K) -> Option<usize>
+        ensures found { IfSome result (λ place. is_place_of K.eq entries.now place key.now ≡ true) }
+        ensures absent { IfNone result ((n : ℕ) → IsNoted (key_rules K.eq K.cmp K.hash_input) self.now (record { key = key.now; number = n }) → has_key K.eq entries.now n key.now ≡ false) }
+    {
+        if entries.len() == 1 {
+            return only_place(entries, key);
+        }
+        self.find_by_hash(entries, key)
+    }
+
+    /// The same, by the hash of the key.
+    #[inline(always)]
+    fn find_by_hash<V>(&self, entries: &[(K, V)], key: &K) -> Option<usize>
         ensures found { IfSome result (λ place. is_place_of K.eq entries.now place key.now ≡ true) }
         ensures absent { IfNone result ((n : ℕ) → IsNoted (key_rules K.eq K.cmp K.hash_input) self.now (record { key = key.now; number = n }) → has_key K.eq entries.now n key.now ≡ false) }
     {

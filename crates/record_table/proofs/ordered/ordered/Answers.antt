@@ -7,6 +7,6 @@ use Rattle.record_table.proofs.ordered.ordered.Goals as goal
 
 pub returns : goal.returns
 returns g c =
-    sorted_is (option_copied c.args.filter) c.in_ok-found.found.items c.sort_unstable_by_key.new.self.items c.args.entries.now c.requires.distinct c.in_ok-found.ensures
-    c.sort_unstable_by_key.ensures.permutation
-    (c.sort_unstable_by_key.ensures.sorted (λ x. x.0) (answers_always _ _ _ (λ f a r q k. search rules)))
+    sorted_is (option_copied c.args.filter) c.in_ok-found.found.items c.sort_by_key.new.self.items c.args.entries.now c.requires.distinct c.in_ok-found.ensures
+    c.sort_by_key.ensures.permutation
+    (c.in_ok-sort_by_key.ensures.sorted (λ x. x.0) (answers_always _ _ _ (λ f a r f' q. search rules)))

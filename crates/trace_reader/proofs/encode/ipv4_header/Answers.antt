@@ -2,7 +2,7 @@
 use Rattle.std.proofs.Common.{◌∙◌, ◌/◌, ◌%◌, [], ◌∷◌, refl, append-nil}
 use Rattle.trace_reader.specs.Generated.{ipv4_header, source, target, total_size}
 use Rattle.trace_reader.proofs.GeneratedSizes.{source-size}
-use Rattle.trace_reader.proofs.PlacedBytes.{put_two}
+use Rattle.counted_lines.proofs.PlacedBytes.{put_two}
 use Rattle.trace_reader.proofs.encode.ipv4_header.Goals as goal
 
 pub returns : goal.returns

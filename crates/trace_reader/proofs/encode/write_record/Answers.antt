@@ -3,7 +3,7 @@ use Rattle.std.proofs.Common.{◌≡◌, ◌++◌, ◌∙◌, ap, drop, length, 
 use Rattle.trace_reader.specs.declared.drawn.Transport.{Transport}
 use Rattle.trace_reader.specs.Generated.{record_head, ipv4_header, udp_header, tcp_header, datagram}
 use Rattle.trace_reader.proofs.GeneratedSizes.{record_head-size, ipv4_header-size}
-use Rattle.trace_reader.proofs.PlacedBytes.{put_two}
+use Rattle.counted_lines.proofs.PlacedBytes.{put_two}
 use Rattle.trace_reader.proofs.encode.write_record.Goals as goal
 
 pub returns-in-Udp-clause-bytes : goal.returns-in-Udp-clause-bytes

@@ -3,7 +3,7 @@ use Rattle.std.proofs.Common.{arith, ◌≡◌, ◌≤◌, ◌+◌, ◌++◌, �
 use Rattle.std.proofs.Math.Seq.{take-append_seam}
 use Rattle.std.proofs.lemmas.List.{length-append}
 use Rattle.trace_reader.specs.Generated.{record_bytes}
-use Rattle.trace_reader.proofs.PlacedBytes.{put_written}
+use Rattle.counted_lines.proofs.PlacedBytes.{put_written}
 use Rattle.trace_reader.proofs.piece.Piece.push.Goals as goal
 
 pub returns-clause-bytes : goal.returns-clause-bytes

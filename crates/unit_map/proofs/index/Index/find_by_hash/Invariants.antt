@@ -1,7 +1,7 @@
 -- Each slot so far is taken, and no number that stands in one for the key's hash is that of an entry with the key.
 use Rattle.std.proofs.Common.{◌≡◌, ℕ, false, ◌<◌}
 use Rattle.unit_map.specs.Notes.{window_slot, slot_of, has_key}
-use Rattle.unit_map.proofs.index.Index.find.Given as goal
+use Rattle.unit_map.proofs.index.Index.find_by_hash.Given as goal
 
 abbrev pub invariant-loop-step : goal.invariant-loop-step
 invariant-loop-step g l = record {

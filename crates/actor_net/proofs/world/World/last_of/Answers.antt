@@ -1,0 +1,24 @@
+-- The last choice is the first that is enabled from the end, and there is none where no port is left.
+use Rattle.std.proofs.Common.{◌≡◌, ◌-◌, length, ap, sym, ◌∙◌, arith}
+use Rattle.std.proofs.lemmas.Grind.{common_steps}
+use Rattle.std.proofs.lemmas.Option.{slice_get_past}
+use Rattle.actor_net.specs.Schedules.{ports_below}
+use Rattle.actor_net.proofs.EnabledChoices.{last_here, none_there}
+use Rattle.actor_net.proofs.world.World.last_of.Goals as goal
+
+pub returns-then-enabled : goal.returns-then-enabled
+returns-then-enabled g c =
+    let nodes = ap (λ w. length w.nodes) c.self.view_is in
+    sym (last_here g.A.Actor.is_ready c.args.self.now c.args.node (c.len-nodes.result - 1 - c.loop-behind.behind) c.loop-behind.behind (sym c.enabled.ensures ∙ c.if-enabled.true) (grind (arith, common_steps)) c.loop-behind.invariant)
+
+pub loop-behind-preserved : goal.loop-behind-preserved
+loop-behind-preserved g c =
+    let nodes = ap (λ w. length w.nodes) c.self.view_is in
+    none_there g.A.Actor.is_ready c.args.self.now c.args.node (c.len-nodes.result - 1 - c.loop-behind.behind) c.loop-behind.behind (sym c.enabled.ensures ∙ c.if-enabled.false) (grind (arith, common_steps)) c.loop-behind.invariant
+
+pub returns : goal.returns
+returns g c =
+    let nodes = ap (λ w. length w.nodes) c.self.view_is in
+    let all : length c.args.self.now.nodes - c.loop-behind.behind ≡ 0 = grind (arith, common_steps) in
+    let empty : length (ports_below g.A.Actor.is_ready c.args.self.now c.args.node (length c.args.self.now.nodes)) ≡ 0 = c.loop-behind.invariant ∙ ap (λ n. length (ports_below g.A.Actor.is_ready c.args.self.now c.args.node n)) all in
+    sym (slice_get_past (ports_below g.A.Actor.is_ready c.args.self.now c.args.node (length c.args.self.now.nodes)) _ (omega arith))

@@ -1,0 +1,3 @@
+pub mod PlacedBytes
+pub mod CountedDigits
+pub mod PageLemmas

@@ -1,0 +1,61 @@
+//! The first part of a record's chunk: what stands before its body.
+ghost use Rattle.std.specs.Prelude.{◌≡◌, ◌++◌, OnOk};
+ghost use Rattle.nf_function.specs.Stored.{number_bytes};
+ghost use Rattle.nf_function.specs.declared.unit.Unit.TheVariants.{Flow as OfFlow};
+ghost use Rattle.state_chunk.specs.Format.{key_bytes};
+
+use basics::{Bytes, NoMemory};
+use flow_filter::Flow;
+use nf_function::Unit;
+use nf_function::stored::{push_u16, push_u32};
+
+/// How many bytes the longest first part has.
+pub const LONGEST_FRONT: usize = 18;
+
+/// Puts three bytes, the key of a unit and the length of a body after other bytes.
+pub fn push_front(
+    bytes: &mut Bytes,
+    head: [u8; 3],
+    unit: &Unit,
+    length: u16,
+) -> Result<(), NoMemory>
+    ensures { OnOk result (bytes.new ≡ bytes.old ++ head ++ key_bytes unit.now ++ number_bytes 2 length) }
+{
+    bytes.push_bytes(&head)?;
+    push_key(bytes, unit)?;
+    push_u16(bytes, length)
+}
+
+/// Puts the key of a unit after other bytes, at once.
+#[tactic(auto, unfolding(crate::specs::Format::key_bytes))]
+fn push_key(bytes: &mut Bytes, unit: &Unit) -> Result<(), NoMemory>
+    ensures { OnOk result (bytes.new ≡ bytes.old ++ key_bytes unit.now) }
+{
+    match unit {
+        Unit::Flow(flow) => bytes.push_bytes(&flow_key(flow)),
+        Unit::Host(host) => push_u32(bytes, *host),
+    }
+}
+
+/// The key of a flow.
+#[tactic(auto, unfolding(crate::specs::Format::key_bytes, nf_function::specs::Stored::number_bytes))]
+fn flow_key(flow: &Flow) -> [u8; 13]
+    ensures { result ≡ key_bytes (OfFlow flow.now) }
+{
+    let [local, local_2, local_3, local_4, lport, lport_2] = end(flow.local, flow.lport);
+    let [remote, remote_2, remote_3, remote_4, rport, rport_2] = end(flow.remote, flow.rport);
+    [
+        flow.proto, local, local_2, local_3, local_4, lport, lport_2, remote, remote_2, remote_3,
+        remote_4, rport, rport_2,
+    ]
+}
+
+/// The bytes of one end of a flow.
+#[tactic(auto, unfolding(nf_function::specs::Stored::number_bytes))]
+fn end(address: u32, port: u16) -> [u8; 6]
+    ensures { result ≡ number_bytes 4 address ++ number_bytes 2 port }
+{
+    let [first, second, third, fourth] = address.to_be_bytes();
+    let [high, low] = port.to_be_bytes();
+    [first, second, third, fourth, high, low]
+}
