@@ -5,6 +5,8 @@ pub mod InstanceCosts
 pub mod MapWeights
 pub mod MoveCosts
 pub mod NodeCosts
+pub mod PieceController
+pub mod PieceInstances
 pub mod PieceMoves
 pub mod PieceSwitch
 pub mod RunLength
