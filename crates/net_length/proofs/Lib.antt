@@ -2,6 +2,7 @@ pub mod Chances
 pub mod ControllerCosts
 pub mod FewMembers
 pub mod InstanceCosts
+pub mod LiveUnits
 pub mod MapWeights
 pub mod MoveCosts
 pub mod NodeCosts

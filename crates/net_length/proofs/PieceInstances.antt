@@ -71,6 +71,11 @@ module _ (a k op : ℕ) where
   told_pieces [] = (omega arith, omega arith)
   told_pieces (p ∷ ps) = let rest = told_pieces ps in let all = rest.0 in let its = rest.1 in (omega (arith, all), omega (arith, its))
 
+-- as many pieces as an instance is asked for
+abbrev pub streamed : {F R : Type 0} → Semantics R → Instance F R → Msg → ℕ
+streamed f i (msg.Stream op filter) = length (pieces (selected f i filter))
+streamed f i m = 0
+
 module _ (a k : ℕ) {F R : Type 0} (f : Semantics R) where
   abbrev Uses_none : Step F R → Type 0
   Uses_none step = uses a k step ≡ 0
@@ -167,13 +172,8 @@ module _ (a k : ℕ) {F R : Type 0} (f : Semantics R) where
   unfolding on_put_all
   put_all_none i op chunk = tally_none i op (tally_read f.kind chunk.bytes)
 
-  -- as many pieces as it is asked for
-  abbrev pub streamed : Instance F R → Msg → ℕ
-  streamed i (msg.Stream op filter) = length (pieces (selected f i filter))
-  streamed i m = 0
-
   abbrev pub Streams : Instance F R → Msg → Step F R → Type 0
-  Streams i m step = (uses a k step ≡ streamed i m) × (pieces_among step.sends ≡ streamed i m)
+  Streams i m step = (uses a k step ≡ streamed f i m) × (pieces_among step.sends ≡ streamed f i m)
 
   stream_uses : (i : Instance F R) (op : ℕ) (filter : Filter) → Streams i (msg.Stream op filter) (on_stream f i op filter)
   unfolding on_stream
@@ -194,3 +194,8 @@ module _ (a k : ℕ) {F R : Type 0} (f : Semantics R) where
   instance_uses i (msg.PutAll op chunk) = no_pieces (on_put_all f i op chunk) (put_all_none i op chunk)
   instance_uses i (msg.Sync home op chunks) = no_pieces (on_sync f i home op chunks) (sync_none i home op chunks)
   instance_uses i m = (omega arith, omega arith)
+
+  -- a message allows them, where the instance has few records
+  pub streamed_few : (i : Instance F R) → ((filter : Filter) → length (pieces (selected f i filter)) ≤ k) → (m : Msg) → streamed f i m ≤ chance a k m
+  streamed_few i few (msg.Stream op filter) = few filter
+  streamed_few i few m = omega arith
