@@ -9,8 +9,10 @@ pub mod NodeCosts
 pub mod PieceController
 pub mod PieceInstances
 pub mod PieceMoves
+pub mod PieceRuns
 pub mod PieceSwitch
 pub mod RunLength
 pub mod ShareCosts
+pub mod ShortRuns
 pub mod SwitchCosts
 pub mod Weights
