@@ -1,5 +1,5 @@
 -- The moves of a run send few pieces: each command streams at most once, and then at most the chunks of as many units as there are packets.
-use Rattle.std.proofs.Common.{◌≡◌, ℕ, zero, suc, ◌+◌, ◌*◌, ◌<◌, ◌≤◌, true, false, List, [], ◌∷◌, ◌++◌, length, refl, sym, ap, ◌∙◌, subst, arith}
+use Rattle.std.proofs.Common.{◌≡◌, ℕ, zero, suc, ◌+◌, ◌*◌, ◌<◌, ◌≤◌, true, false, List, [], ◌∷◌, ◌++◌, length, refl, subst, arith}
 use Rattle.std.specs.Prelude.{◌/◌}
 use Rattle.std.specs.declared.alloc.Global.{Global}
 use Rattle.std.proofs.Math.Nat.{mul-suc, mul_comm}
@@ -21,7 +21,7 @@ use Rattle.instance_worker.specs.Instance.{selected}
 use Rattle.instance_worker.proofs.PieceLemmas.{few_selected}
 use Rattle.net_world.specs.declared.config.Config.{Config}
 use Rattle.net_world.specs.declared.node.Node.{Node}
-use Rattle.net_world.specs.declared.node.Node.TheVariants.{Switch, Controller, Instance}
+use Rattle.net_world.specs.declared.node.Node.TheVariants.{Controller, Instance}
 use Rattle.net_world.specs.Input.{IsInput, is_item, packets, commands}
 use Rattle.net_world.specs.Nodes.{node_step, node_ready}
 use Rattle.net_world.specs.Start.{first_instance, first_instances, first_nodes, started}
