@@ -12,6 +12,7 @@ pub mod PieceMoves
 pub mod PieceRuns
 pub mod PieceSwitch
 pub mod RunLength
+pub mod SentWeights
 pub mod ShareCosts
 pub mod ShortRuns
 pub mod SwitchCosts
