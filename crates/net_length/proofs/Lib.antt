@@ -6,6 +6,7 @@ pub mod LiveUnits
 pub mod MapWeights
 pub mod MoveCosts
 pub mod NodeCosts
+pub mod OperationWeights
 pub mod PieceController
 pub mod PieceInstances
 pub mod PieceMoves
