@@ -1,9 +1,12 @@
+pub mod Chances
 pub mod ControllerCosts
 pub mod FewMembers
 pub mod InstanceCosts
 pub mod MapWeights
 pub mod MoveCosts
 pub mod NodeCosts
+pub mod PieceMoves
+pub mod PieceSwitch
 pub mod RunLength
 pub mod ShareCosts
 pub mod SwitchCosts
