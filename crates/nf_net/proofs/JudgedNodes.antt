@@ -1,6 +1,6 @@
 -- Each node's step keeps what is known of moves: an instance weighs the first piece that comes, by what it holds and by what the piece says.
 use Rattle.std.proofs.Common.{◌≡◌, ℕ, zero, suc, ◌+◌, ◌-◌, ◌<◌, ◌≤◌, Bool, true, false, Some, None, List, [], ◌∷◌, ◌++◌, length, get_or, append-nil, refl, sym, ap, ◌∙◌, subst, arith}
-use Rattle.std.specs.Prelude.{if◌then◌else◌, ◌&&◌, ◌||◌, ◌==◌, not, nat_lt, is_some, slice_get, slice_index, slice_index_or}
+use Rattle.std.specs.Prelude.{if◌then◌else◌, ◌&&◌, ◌||◌, ◌==◌, not, nat_lt, slice_get, slice_index, slice_index_or}
 use Rattle.std.specs.List.{list_any}
 use Rattle.std.specs.declared.alloc.Global.{Global}
 use Rattle.std.specs.FinMap as finite
@@ -31,7 +31,6 @@ use Rattle.move_op.specs.Move.{MoveState, destination}
 use Rattle.copy_share.specs.Copy.{CopyState}
 use Rattle.copy_share.specs.Copy as copy
 use Rattle.copy_share.specs.Share.{ShareState}
-use Rattle.ctrl_node.specs.declared.operation.Operation.{Operation}
 use Rattle.ctrl_node.specs.declared.operation.Operation.TheVariants.{Move, Copy, Share}
 use Rattle.ctrl_node.specs.Controller.{controller_step}
 use Rattle.switch_node.specs.Switch as switches
@@ -40,7 +39,7 @@ use Rattle.instance_worker.specs.declared.instance.Instance.{Instance as Instanc
 use Rattle.instance_worker.specs.Instance.{refusal, selected, on_stream, instance_step}
 use Rattle.instance_worker.specs.Pieces.{pieces, whole_of}
 use Rattle.actor_net.specs.declared.choice.Choice.{Choice}
-use Rattle.actor_net.specs.Network.{Network, Stepped, IsRun, is_input, run, taken}
+use Rattle.actor_net.specs.Network.{Network, Stepped, IsRun, run, taken}
 use Rattle.actor_net.proofs.EnabledChoices.{at}
 use Rattle.actor_net.proofs.RunInduction.{run_world}
 use Rattle.actor_net.proofs.StepOutcome.{Takes, taken_outcome}
@@ -52,8 +51,8 @@ use Rattle.net_world.specs.declared.node.Node.TheVariants.{Controller, Instance}
 use Rattle.net_world.specs.Commands.{began, has_answered}
 use Rattle.net_world.specs.Input.{IsInput}
 use Rattle.net_world.specs.Nodes.{node_step, node_ready}
-use Rattle.net_world.specs.Fold.{went, fold}
-use Rattle.net_world.specs.Records.{live_in, live_at}
+use Rattle.net_world.specs.Fold.{went}
+use Rattle.net_world.specs.Records.{live_in}
 use Rattle.net_world.specs.Verdicts.{before_export, is_timed, exported, number_in, receiver_of}
 use Rattle.answer_net.proofs.BusyLemmas.{or_off}
 use Rattle.answer_net.proofs.BusyNodes.{switch_hands, instance_says}

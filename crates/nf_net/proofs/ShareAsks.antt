@@ -1,8 +1,7 @@
 -- A share asks once for the state of its units, when the fence has come to its home; nothing else that it sends is sent once for a command.
-use Rattle.std.proofs.Common.{◌≡◌, ℕ, ◌+◌, ◌≤◌, Bool, true, false, cond, Option, Some, None, List, [], ◌∷◌, ◌++◌, map, refl, sym, ap, ◌∙◌, subst, arith}
+use Rattle.std.proofs.Common.{◌≡◌, ℕ, ◌+◌, ◌≤◌, Bool, true, false, Option, Some, None, List, [], ◌∷◌, map, refl, ap, subst, arith}
 use Rattle.std.specs.Prelude.{◌==◌, ◌-◌, if◌then◌else◌, length}
 use Rattle.std.proofs.lemmas.Bool.Decides.{nat_tests}
-use Rattle.flow_filter.specs.declared.filter.Filter.{Filter}
 use Rattle.nf_function.specs.declared.chunk.Chunk.{Chunk}
 use Rattle.packet_pool.specs.Pool.{FullCell}
 use Rattle.event_filter.specs.declared.mark.Mark.TheVariants.{Shared}
@@ -13,7 +12,7 @@ use Rattle.nf_msgs.specs.declared.msg.Msg.TheVariants as msg
 use Rattle.nf_msgs.specs.Nodes.{switch_node, instance_node}
 use Rattle.copy_share.specs.declared.share_phase.SharePhase.{SharePhase}
 use Rattle.copy_share.specs.declared.share_phase.SharePhase.TheVariants as phase
-use Rattle.copy_share.specs.Share.{SharePlan, ShareState, ShareRow, goes, home, others, syncs, setting, syncing, on_fenced, on_chunks, on_shared, on_synced, row, member_of, served}
+use Rattle.copy_share.specs.Share.{SharePlan, ShareRow, goes, home, others, syncs, setting, syncing, on_fenced, on_chunks, on_shared, on_synced, row, member_of, served}
 use Rattle.ctrl_node.specs.Controller.{Step}
 use Rattle.actor_net.proofs.WeightLaws.{sent_weight}
 use Rattle.answer_net.proofs.CreditCounts.{sent_weight-append}
