@@ -1,6 +1,6 @@
 -- What can still become pieces of a move, and packets that are still to arrive: what messages and nodes weigh by these two. `a` is the weight of a
 -- packet of the input, `k` that of a move whose source hasn't been asked for its chunks.
-use Rattle.std.proofs.Common.{◌≡◌, ℕ, ◌+◌, ◌*◌, ◌≤◌, Bool, true, false, List, [], ◌∷◌, ◌++◌, map, length, arith}
+use Rattle.std.proofs.Common.{◌≡◌, ℕ, ◌+◌, ◌≤◌, Bool, true, false, List, [], ◌∷◌, ◌++◌, length, arith}
 use Rattle.std.specs.Prelude.{if◌then◌else◌}
 use Rattle.nf_msgs.specs.declared.msg.Msg.{Msg}
 use Rattle.nf_msgs.specs.declared.msg.Msg.TheVariants as msg
@@ -12,7 +12,7 @@ use Rattle.ctrl_node.specs.declared.operation.Operation.{Operation}
 use Rattle.ctrl_node.specs.declared.operation.Operation.TheVariants.{Move}
 use Rattle.ctrl_node.specs.Controller.{ControllerState}
 use Rattle.actor_net.specs.Network.{Stepped, reaches}
-use Rattle.actor_net.proofs.WeightLaws.{weigh, weigh-append, sent_weight}
+use Rattle.actor_net.proofs.WeightLaws.{weigh, sent_weight}
 use Rattle.net_world.specs.Log.{arrived}
 use Rattle.net_length.specs.Length.{one_piece, pieces_among}
 use Rattle.net_length.proofs.MapWeights.{in_all}

@@ -2,12 +2,17 @@ pub mod Chances
 pub mod ControllerCosts
 pub mod FewMembers
 pub mod InstanceCosts
+pub mod LiveUnits
 pub mod MapWeights
 pub mod MoveCosts
 pub mod NodeCosts
+pub mod PieceController
+pub mod PieceInstances
 pub mod PieceMoves
+pub mod PieceRuns
 pub mod PieceSwitch
 pub mod RunLength
 pub mod ShareCosts
+pub mod ShortRuns
 pub mod SwitchCosts
 pub mod Weights

@@ -1,5 +1,5 @@
 -- What the rows of operations send: a move asks its source for the chunks once, as it leaves its first phase, and nothing else makes pieces.
-use Rattle.std.proofs.Common.{◌≡◌, ℕ, ◌+◌, ◌≤◌, Bool, true, false, Some, List, [], ◌∷◌, ◌++◌, map, length, refl, arith}
+use Rattle.std.proofs.Common.{◌≡◌, ℕ, ◌+◌, ◌≤◌, Bool, true, false, Some, List, [], ◌∷◌, ◌++◌, map, length, arith}
 use Rattle.std.specs.Prelude.{if◌then◌else◌, ◌||◌, ◌&&◌, ◌-◌, ◌==◌}
 use Rattle.nf_function.specs.declared.chunk.Chunk.{Chunk}
 use Rattle.packet_pool.specs.Pool.{FullCell}
@@ -24,7 +24,7 @@ use Rattle.copy_share.specs.Copy.{CopyPlan, CopyRow}
 use Rattle.copy_share.specs.Copy as copy
 use Rattle.copy_share.specs.Share.{SharePlan, ShareRow, home, others, syncs, setting, syncing, on_fenced, on_chunks, on_shared, on_synced, served}
 use Rattle.copy_share.specs.Share as share
-use Rattle.net_length.proofs.Chances.{spent, spent-append, of_phase}
+use Rattle.net_length.proofs.Chances.{spent, of_phase}
 
 module _ (a k : ℕ) (plan : MovePlan) where
   -- a row sends no more than its phase had

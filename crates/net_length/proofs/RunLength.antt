@@ -13,7 +13,7 @@ use Rattle.nf_msgs.specs.declared.note.Note.{Note}
 use Rattle.actor_net.specs.declared.choice.Choice.{Choice}
 use Rattle.actor_net.specs.Network.{Network, IsRun, waiting, run, taken}
 use Rattle.actor_net.proofs.OpeningWorlds.{opening_weight}
-use Rattle.actor_net.proofs.RunInduction.{NextChoice, run_induction}
+use Rattle.actor_net.proofs.RunInduction.{Taking, NextChoice, run_induction}
 use Rattle.actor_net.proofs.StepOutcome.{Takes}
 use Rattle.actor_net.proofs.WeightLaws.{weigh, weigh-append}
 use Rattle.net_world.specs.declared.config.Config.{Config}
@@ -74,10 +74,10 @@ module _ {F R : Type 0} (f : Semantics R) where
   pieces_more (d ∷ ds) c w = let rest = pieces_more ds c (taken (node_step f) w d) in omega (arith, rest)
 
 module _ (F : Type 0) {R : Type 0} (f : Semantics R) (laws : FunctionLaws f) (alloc : Global) (c : Config) (items : List Msg) (is : IsInput f.kind c items) where
-  abbrev start : Network (Node F R) Msg Note
+  abbrev pub start : Network (Node F R) Msg Note
   start = started {F = F} {R = R} alloc c items
 
-  abbrev nodes : ℕ
+  abbrev pub nodes : ℕ
   nodes = length c.names + 2
 
   -- the members of a share besides one are at most so many
@@ -92,25 +92,34 @@ module _ (F : Type 0) {R : Type 0} (f : Semantics R) (laws : FunctionLaws f) (al
     runs : Runs F f laws alloc c items is w
     lighter : length cs + of_world {F = F} {R = R} besides w ≤ of_world {F = F} {R = R} besides start + 4 * pieces_sent f start cs
 
+  -- the node that takes a choice, and the pieces that it sends
+  pub node_is : (w : Network (Node F R) Msg Note) (k : Choice) (t : Taking node_ready (node_step f) nodes w k) (h : Runs F f laws alloc c items is w) → t.node ≡ node_of h.joined.nodes k.node
+  node_is w k t h = sym (t.takes.node_is t.node) ∙ h.joined.nodes_are k.node t.takes.receiver t.node
+
+  pub pieces_next : (cs : List Choice) (w : Network (Node F R) Msg Note) (k : Choice) (next : NextChoice node_ready (node_step f) nodes start cs w k) (h : Runs F f laws alloc c items is w) → pieces_sent f start (cs ++ k ∷ []) ≡ pieces_sent f start cs + pieces_among (node_step f (node_of h.joined.nodes k.node) k.port next.taking.message).sends
+  pieces_next cs w k next h =
+      let t = next.taking in
+      let count = t.takes.count in
+      let more = pieces_more f cs k start in
+      let sent : pieces_of f k (slice_get (run (node_step f) cs start).nodes k.node) (waiting (run (node_step f) cs start) k) ≡ pieces_among (node_step f (node_of h.joined.nodes k.node) k.port t.message).sends =
+      ap (λ v. pieces_of f k (slice_get v.nodes k.node) (waiting v k)) (sym next.reached)
+      ∙ ap (λ x. pieces_of f k x (waiting w k)) (slice_get-get_or w.nodes k.node t.node (rw count t.takes.receiver) ∙ ap Some (t.takes.node_is t.node))
+      ∙ ap (pieces_of f k (Some t.node)) t.takes.waits
+      ∙ ap (λ y. pieces_among (node_step f y k.port t.message).sends) (node_is w k t h) in
+      omega (arith, more, sent)
+
   next_lighter : (cs : List Choice) (w : Network (Node F R) Msg Note) (k : Choice) → NextChoice node_ready (node_step f) nodes start cs w k → IsLighter cs w → IsLighter (cs ++ k ∷ []) (taken (node_step f) w k)
   next_lighter cs w k next h =
       let j = h.runs.joined in
       let t = next.taking in
-      let same : t.node ≡ node_of j.nodes k.node = sym (t.takes.node_is t.node) ∙ j.nodes_are k.node t.takes.receiver t.node in
-      let takes = subst (λ y. Takes (node_step f) nodes w k.node k.port y t.message t.rest) same t.takes in
-      let count = t.takes.count in
+      let takes = subst (λ y. Takes (node_step f) nodes w k.node k.port y t.message t.rest) (node_is w k t h.runs) t.takes in
       let falls = world_falls f (given f c items is) nodes besides (let few = besides_is in omega (arith, few)) refl w j k.node k.port t.message t.rest takes in
-      let more = pieces_more f cs k start in
-      let sent : pieces_of f k (slice_get (run (node_step f) cs start).nodes k.node) (waiting (run (node_step f) cs start) k) ≡ pieces_among (node_step f (node_of j.nodes k.node) k.port t.message).sends =
-      ap (λ v. pieces_of f k (slice_get v.nodes k.node) (waiting v k)) (sym next.reached)
-      ∙ ap (λ x. pieces_of f k x (waiting w k)) (slice_get-get_or w.nodes k.node t.node (rw count t.takes.receiver) ∙ ap Some (t.takes.node_is t.node))
-      ∙ ap (pieces_of f k (Some t.node)) t.takes.waits
-      ∙ ap (λ y. pieces_among (node_step f y k.port t.message).sends) same in
+      let more = pieces_next cs w k next h.runs in
       let long = length-append cs (k ∷ []) in
       let so_far = h.lighter in
       record {
         runs = runs_next F f laws alloc c items is w k t h.runs;
-        lighter = omega (arith, falls, more, sent, long, so_far);
+        lighter = omega (arith, falls, more, long, so_far);
       }
 
   run_lighter : (cs : List Choice) → IsRun node_ready (node_step f) cs start → IsLighter cs (run (node_step f) cs start)
