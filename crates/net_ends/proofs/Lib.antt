@@ -1,0 +1,2 @@
+pub mod LinkWeights
+pub mod Tokens
