@@ -112,8 +112,6 @@ module _ {F R : Type 0} (f : Semantics R) (laws : FunctionLaws f) (g : Given) (f
   instance_passes x at p (msg.Standby op chunks) label can = inr (standby_goes x op chunks label.1)
   instance_passes x at p (msg.Sync home op chunks) label can = inr (sync_goes x home op chunks label.1)
   instance_passes x at p (msg.PutAll op chunk) label can = inr (put_all_goes x op chunk can.0 can.1)
-  instance_passes x at p (msg.Install op filter from to) label can = let never = label.0.1 in cc
-  instance_passes x at p (msg.Forward to m cell) label can = let never = label.0.1 in cc
   instance_passes x at p m label can = inl refl
 
 -- The switch
@@ -149,10 +147,9 @@ module _ {R : Type 0} (f : Semantics R) (g : Given) (n : ℕ) (count_is : n ≡ 
   })
 
   pub switch_passes : (p : ℕ) (m : Msg) → Label f g p 0 m → Passes (token_of p 0 m) n 0 (switch_step s m).sends
-  switch_passes p (msg.Install op filter from target.Controller) label = subst (λ q. Passes (token_of q 0 (msg.Install op filter from target.Controller)) n 0 (on_install s op filter from target.Controller).sends) (sym label.0.0) (install_passes op filter from label.1.0)
-  switch_passes p (msg.Install op filter from (target.Instance to)) label = inl refl
-  switch_passes p (msg.Forward to (mark.Shared op home) cell) label = subst (λ q. Passes (token_of q 0 (msg.Forward to (mark.Shared op home) cell)) n 0 (sends_to_instance s to (msg.Carry (mark.Shared op home) cell)).sends) (sym label.0.0) (forward_passes to op home cell label.1.0)
-  switch_passes p (msg.Forward to mark.Plain cell) label = inl refl
-  switch_passes p (msg.Forward to (mark.Pass op) cell) label = inl refl
-  switch_passes p (msg.Carry m cell) label = let never = label.0.1 in absurd (omega (arith, never))
+  switch_passes p (msg.Install op filter from target.Controller) label = subst (λ q. Passes (token_of q 0 (msg.Install op filter from target.Controller)) n 0 (on_install s op filter from target.Controller).sends) (sym label.0.0) (install_passes op filter from label.1)
+  switch_passes p (msg.Install op filter from (target.Instance to)) label = subst (λ q. Passes (token_of q 0 (msg.Install op filter from (target.Instance to))) n 0 (on_install s op filter from (target.Instance to)).sends) (sym label.0.0) (inl refl)
+  switch_passes p (msg.Forward to (mark.Shared op home) cell) label = subst (λ q. Passes (token_of q 0 (msg.Forward to (mark.Shared op home) cell)) n 0 (sends_to_instance s to (msg.Carry (mark.Shared op home) cell)).sends) (sym label.0.0) (forward_passes to op home cell label.1)
+  switch_passes p (msg.Forward to mark.Plain cell) label = subst (λ q. Passes (token_of q 0 (msg.Forward to mark.Plain cell)) n 0 (sends_to_instance s to (msg.Carry mark.Plain cell)).sends) (sym label.0.0) (inl refl)
+  switch_passes p (msg.Forward to (mark.Pass op) cell) label = subst (λ q. Passes (token_of q 0 (msg.Forward to (mark.Pass op) cell)) n 0 (sends_to_instance s to (msg.Carry (mark.Pass op) cell)).sends) (sym label.0.0) (inl refl)
   switch_passes p m label = inl refl

@@ -23,7 +23,7 @@ use Rattle.ctrl_node.specs.declared.operation.Operation.TheVariants.{Copy, Share
 use Rattle.actor_net.specs.Network.{reaches}
 use Rattle.unit_machine.proofs.Labels.{Each}
 use Rattle.net_ends.proofs.LinkWeights.{sends_weigh, sends_weigh-append}
-use Rattle.net_ends.proofs.Tokens.{Leg, Gets, Alls, Keeps, Fences, Syncs, Serves, token, to_instance, token_of, at_instance, in_copy, in_share, awaits, if_one, counts, weight, some_left, wanted}
+use Rattle.net_ends.proofs.Tokens.{Leg, Gets, Alls, Keeps, Fences, Syncs, Serves, Token, token, token_of, at_instance, in_copy, in_share, awaits, if_one, counts, weight, some_left, wanted}
 
 -- of n nodes, what the controller's step on a message from node p does to the operation of number k: it sends what is waited for from now on, or the
 -- operation waits on, for what is still there
@@ -62,6 +62,16 @@ module _ (n k p : ℕ) (plan : CopyPlan) (own : plan.op ≡ k) (to_there : reach
     | false ↦ λ off. elim (p == instance_node plan.to) as (λ b. (p == instance_node plan.to) ≡ b → CopyGrants ph m (if b then copy.from_destination plan ph m else copy.goes ph [])) [ true ↦ λ on. destination off on | false ↦ λ off_to. neither off off_to ] refl
   ] refl
 
+  over_none : (t : Option Token) → counts k (copy_at copies.Over) t ≡ 0
+  over_none None = refl
+  over_none (Some t) = ap (λ b. if_one (b && (t.op == k))) (none t.leg)
+    where
+      none : (leg : Leg) → in_copy plan leg copies.Over t.node ≡ false
+      none Gets = refl
+      none Alls = refl
+      none Keeps = refl
+      none leg = refl
+
   pub copy_row : (ph : CopyPhase) (m : Msg) → CopyGrants ph m (copy.row (record { plan = plan; phase = ph }) p m)
   copy_row copies.Getting (msg.Chunks op chunks) =
       let none : (p == instance_node plan.from) ≡ false → weight k (copy_at copies.Getting) p 1 (msg.Chunks op chunks) ≡ 0 = (λ off. ap (λ b. if_one (b && (op == k))) off) in
@@ -75,6 +85,7 @@ module _ (n k p : ℕ) (plan : CopyPlan) (own : plan.op ≡ k) (to_there : reach
     where
       apart : (p == instance_node plan.from) ≡ true → (p == instance_node plan.to) ≡ false
       apart on = grind (arith, nat_tests, on, other)
+  copy_row copies.Over m = by_sender copies.Over m (λ on. still_copy copies.Over m (over_none (token_of p 1 m))) (λ off on. still_copy copies.Over m (over_none (token_of p 1 m))) (λ off off_to. still_copy copies.Over m (over_none (token_of p 1 m)))
   copy_row ph m = by_sender ph m (λ on. still_copy ph m refl) (λ off on. still_copy ph m refl) (λ off off_to. still_copy ph m refl)
 
 if_one_most : (b : Bool) → if_one b ≤ 1

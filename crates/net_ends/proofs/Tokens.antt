@@ -48,21 +48,17 @@ abbrev pub to_controller : Leg → ℕ → ℕ → ℕ → Option Token
 to_controller leg op s (suc zero) = token leg op s
 to_controller leg op s r = None
 
-abbrev pub to_switch : Leg → ℕ → ℕ → ℕ → ℕ → Option Token
-to_switch leg op i (suc zero) zero = token leg op (instance_node i)
-to_switch leg op i s r = None
+abbrev pub carried : ℕ → Mark → Option Token
+carried (suc (suc i)) (mark.Shared op home) = token Serves op (suc (suc i))
+carried r m = None
 
-abbrev pub carried : Mark → ℕ → Option Token
-carried (mark.Shared op home) r = to_instance Serves op r
-carried m r = None
+abbrev pub forwarded : ℕ → ℕ → Mark → ℕ → Option Token
+forwarded zero (suc zero) (mark.Shared op home) i = token Serves op (instance_node i)
+forwarded r s m i = None
 
-abbrev pub forwarded : Mark → ℕ → ℕ → ℕ → Option Token
-forwarded (mark.Shared op home) i s r = to_switch Serves op i s r
-forwarded m i s r = None
-
-abbrev pub installed : Target → ℕ → ℕ → ℕ → ℕ → Option Token
-installed target.Controller op i s r = to_switch Fences op i s r
-installed (target.Instance to) op i s r = None
+abbrev pub installed : ℕ → ℕ → Target → ℕ → ℕ → Option Token
+installed zero (suc zero) target.Controller op i = token Fences op (instance_node i)
+installed r s t op i = None
 
 -- of a message from a node to another
 abbrev pub token_of : ℕ → ℕ → Msg → Option Token
@@ -73,13 +69,13 @@ token_of s r (msg.AllChunk op chunk) = to_controller Alls op s r
 token_of s r (msg.Standby op chunks) = to_instance Keeps op r
 token_of s r (msg.PutAll op chunk) = to_instance Keeps op r
 token_of s r (msg.Kept op) = to_controller Keeps op s r
-token_of s r (msg.Install op filter from to) = installed to op from s r
+token_of s r (msg.Install op filter from to) = installed r s to op from
 token_of s r (msg.Fence op) = to_instance Fences op r
 token_of s r (msg.Fenced op) = to_controller Fences op s r
 token_of s r (msg.Sync home op chunks) = to_instance Syncs op r
 token_of s r (msg.Synced op) = to_controller Syncs op s r
-token_of s r (msg.Forward to mark cell) = forwarded mark to s r
-token_of s r (msg.Carry mark cell) = carried mark r
+token_of s r (msg.Forward to mark cell) = forwarded r s mark to
+token_of s r (msg.Carry mark cell) = carried r mark
 token_of s r (msg.Shared op chunk) = to_controller Serves op s r
 token_of s r m = None
 
