@@ -3,7 +3,7 @@
 
 Use: audits.py PROGRAM SEED COUNT
 
-First some journals that were worked out by hand, and every fault of one. Then COUNT runs that are drawn by chance as in compare.py: a
+First some journals that were worked out by hand, every fault of one, and the rows on copies and shares by threads. Then COUNT runs that are drawn by chance as in compare.py: a
 simulation's journal has the choices of the model's schedule; what threads did is a run of the model with the same report; and an audit
 of a journal, right or spoiled, answers what the model makes of its choices. Right ones are those of simulations, of threads, and of
 choices that the model takes by weights. A run that differs is left in a folder, which is named. The status is 1 where one does.
@@ -205,6 +205,30 @@ def check_crowd(program):
         hold_audit(program, words, journal_left(), given)
 
 
+def check_rows(program):
+    """The rows on copies and shares by threads, in a window as it is and one of 1: the report is what the model makes of the journal, and
+    an audit's. Where nothing can change it, it is the one that was worked out by hand."""
+    for name, (function, instances, frames, lines, more, report) in {**cases.rows_on_copies(), **cases.rows_on_shares()}.items():
+        with open("row.pcap", "wb") as file:
+            file.write(cases.capture_of(frames))
+        with open("row.script", "w", encoding="ascii") as file:
+            file.write("".join(line + "\n" for line in lines))
+        site = more[:2] if more[:1] == ["--outside"] else []
+        for window in 256, 1:
+            words = cases.network_words(function, instances, "row.pcap", "row.script", [*site, "--window", str(window)])
+            running = unscheduled("run", words, "--journal", JOURNAL)
+            given = compare.by_program(program, running)
+            content = journal_left() or b""
+            wanted = audited(words, content)
+            if name in cases.SETTLED_ROWS:
+                head = f"opennf report 1\nfunction {function} instances {instances.count(',') + 1} window {window}\n"
+                head += f"trace packets {len(frames)} skipped 0 whole\n"
+                wanted = 0, (head + "".join(line + "\n" for line in [*report, "end"])).encode(), b""
+            if given != wanted:
+                raise Difference(running, wanted, given)
+            hold_audit(program, words, content, given)
+
+
 # --- Journals by chance ---
 
 
@@ -300,6 +324,7 @@ def main(arguments):
         try:
             check_by_hand(program)
             check_threads_by_hand(program)
+            check_rows(program)
             for place in range(count):
                 name = str(place)
                 check_by_chance(random.Random(f"{seed} {place}"), program, answers)

@@ -414,6 +414,9 @@ def network_case(cases, name, function, instances, frames, lines, more=(), secon
     cases.words(f"net-{name}", network_words(function, instances, trace, script, more))
 
 
+# Sixteen instances.
+MANY = "abcdefghijklmnop"
+
 # Each run that was worked out by hand is also compared with the model by these, which leave other packets under way.
 OTHER_WAYS = [["--window", window, "--schedule", schedule] for window in ("1", "4096") for schedule in ("first", "last", "29")]
 
@@ -439,6 +442,91 @@ def refused(answer, seen=""):
 def dones(text):
     """The done lines of packets at instances, as `1a 2b`."""
     return [f"done {word[:-1]} {word[-1]}" for word in text.split()]
+
+
+def rows_on_copies():
+    """Runs with copies by their names: the function, the instances, the frames, the script's lines, more words, and the report's lines
+    from the outputs to the tallies."""
+    last, first, half = ["--schedule", "last"], [], "local=10.0.0.0/25"
+    copied = ["at 1 copy a b any", "at 1 settle"]
+    then_moved = ["at 2 move a b any order", "at 2 settle"]
+    singles = [f"out {number} single" for number in range(1, 7)]
+    one_done = ["out 1 single", "done 1 a"]
+    three = [*singles[:3], *dones("1a 2a 3b"), "answer 1 done", "answer 2 done"]
+    at_both = [host_state(1, "b", 3), standby(1, "b", 1)]
+    two_hosts = [*singles[:2], *dones("1a 2a")]
+    in_turn = [question(host) for host in (1, 129) * 3]
+    return {
+        # The copy has the record after the first packet, and the move takes it on; so it stands by at b, and is live there.
+        "copied": ("conntrack", "a,b", [question(1)] * 3, [*copied, *then_moved], last, [*three, *at_both, "tally a 2 0", "tally b 0 1"]),
+        "copied-all": ("conntrack", "a,b", [question(1)] * 3, [*copied, "at 2 copy a b all", *then_moved], last,
+            [*three, "answer 3 done", *at_both, "tally a 2 0", "tally b 2 1"]),
+        "copied-twice": ("conntrack", "a,b", [question(1)], [*copied, *copied], last,
+            [*one_done, "answer 1 done", "answer 2 done", host_state(1, "a", 1), standby(1, "b", 1), "tally a 1 0", "tally b 0 0"]),
+        "copied-later": ("conntrack", "a,b", [question(1)] * 2, [*copied, "at 2 copy a b any"], first,
+            [*singles[:2], *dones("1a 2a"), "answer 1 done", "answer 2 done", host_state(1, "a", 2), standby(1, "b", 2), "tally a 2 0", "tally b 0 0"]),
+        "copied-early": ("conntrack", "a,b", [question(1)], ["at 0 copy a b any"], last,
+            [*one_done, "answer 1 done", host_state(1, "a", 1), "tally a 1 0", "tally b 0 0"]),
+        "copied-in-a-move": ("conntrack", "a,b", [question(1)], ["at 1 move a b any order", "at 1 copy b a local=10.0.0.1"], first,
+            [*one_done, "answer 1 done", "answer 2 overlap 1", host_state(1, "b", 1), "tally a 1 0", "tally b 0 0"]),
+        "copied-beside": ("conntrack", "a,b,c", [question(1), question(129)], [f"at 2 move a b {half} order", "at 2 copy a c local=10.0.0.128/25",
+            "at 2 copy a c all"], first, [*two_hosts, *(f"answer {number} done" for number in (1, 2, 3)), host_state(1, "b", 1), host_state(129, "a", 1),
+                standby(129, "c", 1), "tally a 2 0 0", "tally b 0 0 0", "tally c 2 0 0"]),
+        "copied-to-none": ("conntrack", "a,b", [question(1)], ["at 1 copy a z any", "at 1 copy z a all"], last,
+            [*one_done, "answer 1 unknown z", "answer 2 unknown z", host_state(1, "a", 1), "tally a 1 0", "tally b 0 0"]),
+        # Packets of both hosts come while one is moved and the other is copied.
+        "copied-amidst": ("conntrack", "a,b,c", in_turn, ["at 2 move a b local=10.0.0.1 order", "at 2 copy a c local=10.0.0.129", "at 2 copy a c all"],
+            last, [*singles, *dones("1a 2a 3b 4a 5b 6a"), *(f"answer {number} done" for number in (1, 2, 3)), host_state(1, "b", 3),
+                host_state(129, "a", 3), standby(129, "c", 1), "tally a 4 0 0", "tally b 0 2 0", "tally c 2 0 0"]),
+    }
+
+
+def rows_on_shares():
+    """Runs with shares, in the same form. The member of 10.0.0.h:P and 192.0.2.9:53 has the place P - 5000 + 6 by the number of members."""
+    last, one = ["--schedule", "last"], ["--window", "1", "--schedule", "last"]
+    shared = ["at 0 share a,b any strict", "at 0 settle"]
+    hosts = [question(2, 5000), question(2, 5001)]
+    maps = ["out 1 map 203.0.113.1:1528", "out 2 map 203.0.113.1:1529"]
+    both = ["state 10.0.0.2 a ports 2 packets 2 drops 0", "standby 10.0.0.2 b ports 2 packets 2 drops 0", "tally a 1 0", "tally b 0 1"]
+    crowd = [f"out {number} map 203.0.113.1:{1527 + number}" for number in range(1, 17)]
+    sixteenth = "ports 16 packets 16 drops 0"
+    few = [question(1), question(2)]
+    full = ["route local=10.0.0.2/32 b", "at 0 share a,b,c,d local=10.0.0.1/32 strict", "at 0 settle", "at 2 move b a local=10.0.0.2/32 order"]
+    many = [question(*end) for end in ((1, 5000), (1, 5001), (2, 5000), (2, 5001), (129, 5000), (1, 5001), (129, 5000), (2, 5000))]
+    beside = ["route local=10.0.0.2 c", "at 0 share a,b local=10.0.0.1 strict", "at 0 share c,a local=10.0.0.2 strict", "at 0 settle",
+        "at 5 move a b local=10.0.0.128/25 order", "at 5 move a c local=10.0.0.0/31 order", "at 5 settle"]
+    return {
+        "shared": ("nat", "a,b", hosts, shared, [*TRANSLATED, *last], [*maps, *dones("1a 2b"), "answer 1 done", *both]),
+        "shared-and-moved": ("nat", "a,b", hosts, [*shared, "at 1 move a b any order"], [*TRANSLATED, *last],
+            [*maps, *dones("1a 2b"), "answer 1 done", "answer 2 overlap 1", *both]),
+        "shared-with-none": ("nat", "a,b", hosts, ["at 0 share a,z any strict"], [*TRANSLATED, *last],
+            [*maps, *dones("1a 2a"), "answer 1 unknown z", "state 10.0.0.2 a ports 2 packets 2 drops 0", "tally a 2 0", "tally b 0 0"]),
+        # The first record comes to the home, which has room for one, by the share; so there is none for what is moved.
+        "shared-and-full": ("conntrack", "a:1,b,c,d", few, full, last,
+            ["out 1 single", "out 2 single", *dones("1c 2b"), "answer 1 done", "answer 2 import 1 1 1", host_state(1, "a", 1),
+                host_state(2, "b", 1), *(standby(1, name, 1) for name in "bcd"),
+                "tally a 0 0 0 0", "tally b 0 1 0 0", "tally c 0 0 1 0", "tally d 0 0 0 0"]),
+        "shared-by-sixteen": ("nat", ",".join(MANY), [question(2, port) for port in range(5000, 5016)],
+            [f"at 0 share {','.join(MANY)} any strict", "at 0 settle"], [*TRANSLATED, *last],
+            [*crowd, *(f"done {number} {MANY[(number + 5) % 16]}" for number in range(1, 17)), "answer 1 done", f"state 10.0.0.2 a {sixteenth}",
+                *(f"standby 10.0.0.2 {name} {sixteenth}" for name in MANY[1:]),
+                *(f"tally {name} {' '.join(str(int(slot == name)) for slot in MANY)}" for name in MANY)]),
+        # Each host's packets are those of its share; a third host is moved, and one that is shared is not.
+        "shared-twice": ("monitor", "a,b,c", many, beside, one,
+            [*(f"out {number} quiet" for number in range(1, 9)), *dones("1a 2b 3c 4a 5a 6b 7b 8c"),
+                *(f"answer {number} done" for number in (1, 2, 3)), "answer 4 overlap 1", "state 10.0.0.1 a packets 3 services none",
+                "state 10.0.0.2 c packets 3 services none", "state 10.0.0.129 b packets 2 services none",
+                "standby 10.0.0.1 b packets 3 services none", "standby 10.0.0.2 a packets 3 services none",
+                "tally a 3 0 0", "tally b 0 3 0", "tally c 0 0 2"]),
+        # What was there before goes to the other member at once; a copy of the state of all flows may go on, and one of units may not.
+        "shared-later": ("conntrack", "a,b", [question(1)] * 2, ["at 1 share a,b any strict", "at 1 settle", "at 2 copy a b any", "at 2 copy a b all"], last,
+            ["out 1 single", "out 2 single", *dones("1a 2a"), "answer 1 done", "answer 2 overlap 1", "answer 3 done", host_state(1, "a", 2),
+                standby(1, "b", 2), "tally a 2 0", "tally b 2 0"]),
+    }
+
+
+# Rows whose report is the same whatever is done when.
+SETTLED_ROWS = "shared", "shared-and-moved", "shared-with-none", "shared-by-sixteen"
 
 
 def networks_by_hand(cases):
@@ -488,11 +576,6 @@ def networks_by_hand(cases):
     back_outs = ("map 203.0.113.1:1276", "unmap 10.0.0.1:5000", "drop nomap", "drop direct", "pass", "map 203.0.113.1:1277")
     ports = [question(255, port) for port in range(1001, 1254)]
     translated = [f"out {number} map 203.0.113.1:{65283 + number}" for number in range(1, 253)] + ["out 253 drop noport"]
-    copied = ["at 1 copy a b any", "at 1 settle"]
-    then_moved = ["at 2 move a b any order", "at 2 settle"]
-    three = [*singles[:3], *dones("1a 2a 3b"), "answer 1 done", "answer 2 done"]
-    at_both = [host_state(1, "b", 3), standby(1, "b", 1)]
-    two_hosts = ["out 1 single", "out 2 single", *dones("1a 2a")]
     moved = [*outs, *dones("1a 2b 3b"), "answer 1 done", at_b, "tally a 1 0", "tally b 0 2"]
     # 130 hosts, whose records go in pieces of 64, 64 and 2.
     pieces = [question(host) for host in range(1, 131)]
@@ -540,23 +623,6 @@ def networks_by_hand(cases):
         "at-limit": ("conntrack", "a,b,c:180", [question(host) for host in crowd], [halves[0], to_c[0], "at 200 settle", to_c[1]], first,
             [*crowd_dones, "answer 1 done", "answer 2 import 100 100 180",
                 *(host_state(host, "c" if host <= 100 else "b", 1) for host in crowd), *crowd_tallies]),
-        # The copy has the record after the first packet, and the move takes it on; so it stands by at b, and is live there.
-        "copied": ("conntrack", "a,b", [question(1)] * 3, [*copied, *then_moved], last, [*three, *at_both, "tally a 2 0", "tally b 0 1"]),
-        "copied-all": ("conntrack", "a,b", [question(1)] * 3, [*copied, "at 2 copy a b all", *then_moved], last,
-            [*three, "answer 3 done", *at_both, "tally a 2 0", "tally b 2 1"]),
-        "copied-twice": ("conntrack", "a,b", [question(1)], [*copied, *copied], last,
-            [*one_done, "answer 1 done", "answer 2 done", host_state(1, "a", 1), standby(1, "b", 1), "tally a 1 0", "tally b 0 0"]),
-        "copied-later": ("conntrack", "a,b", [question(1)] * 2, [*copied, "at 2 copy a b any"], first,
-            [*singles[:2], *dones("1a 2a"), "answer 1 done", "answer 2 done", host_state(1, "a", 2), standby(1, "b", 2), "tally a 2 0", "tally b 0 0"]),
-        "copied-early": ("conntrack", "a,b", [question(1)], ["at 0 copy a b any"], last,
-            [*one_done, "answer 1 done", host_state(1, "a", 1), "tally a 1 0", "tally b 0 0"]),
-        "copied-in-a-move": ("conntrack", "a,b", [question(1)], ["at 1 move a b any order", "at 1 copy b a local=10.0.0.1"], first,
-            [*one_done, "answer 1 done", "answer 2 overlap 1", host_state(1, "b", 1), "tally a 1 0", "tally b 0 0"]),
-        "copied-beside": ("conntrack", "a,b,c", [question(1), question(129)], [f"at 2 move a b {half} order", "at 2 copy a c local=10.0.0.128/25",
-            "at 2 copy a c all"], first, [*two_hosts, *(f"answer {number} done" for number in (1, 2, 3)), host_state(1, "b", 1), host_state(129, "a", 1),
-                standby(129, "c", 1), "tally a 2 0 0", "tally b 0 0 0", "tally c 2 0 0"]),
-        "copied-to-none": ("conntrack", "a,b", [question(1)], ["at 1 copy a z any", "at 1 copy z a all"], last,
-            [*one_done, "answer 1 unknown z", "answer 2 unknown z", host_state(1, "a", 1), "tally a 1 0", "tally b 0 0"]),
         "ports": ("nat", "a", ports, None, [*TRANSLATED, *last],
             [*translated, *(f"done {number} a" for number in range(1, 254)), "state 10.0.0.255 a ports 252 packets 253 drops 1", "tally a 253"]),
         "back": ("nat", "a,b", back, ["at 1 move a b local=10.0.0.1 order", "at 1 settle"], [*TRANSLATED, *last],
@@ -564,7 +630,7 @@ def networks_by_hand(cases):
                 "state 10.0.0.1 b ports 2 packets 6 drops 2", "tally a 1 0", "tally b 0 5"]),
         "assets": ("monitor", "a", ssh, None, last, assets),
     }
-    for name, (function, instances, frames, lines, more, report) in wanted.items():
+    for name, (function, instances, frames, lines, more, report) in {**wanted, **rows_on_copies(), **rows_on_shares()}.items():
         network_case(cases, f"hand-{name}", function, instances, frames, lines, more)
         hold_to(f"net-hand-{name}", report)
         for place, way in enumerate(OTHER_WAYS):
@@ -586,10 +652,6 @@ def hold_to(name, report):
     with open(name + ".out", encoding="ascii") as file:
         if file.read().splitlines()[3:-1] != report:
             sys.exit(f"cases.py: the model's report of {name} isn't the one that was worked out by hand")
-
-
-# Sixteen instances.
-MANY = "abcdefghijklmnop"
 
 
 def sixteen_instances(cases):
@@ -639,8 +701,10 @@ def office_moves(cases):
     ports = ["at 20 move a b proto=tcp order", "at 20 move a b proto=udp,rport=53 order", "at 60 settle", "at 100 move b a lport=80 lossfree"]
     kept = ["at 20 copy a b any", f"at 40 move a b {low} order", f"at 40 copy a b {high}", "at 41 copy b a any", "at 60 settle",
         "at 60 copy b a any", "at 80 copy a b any", "at 90 copy a b all", "at 100 copy b a all"]
+    shared = ["at 20 share a,b local=10.0.0.2/31 strict", f"at 40 move a b {high} order", "at 60 settle", f"at 60 share b,a {high} strict",
+        "at 80 copy a b all", "at 90 move a b any order"]
     scripts = {name: cases.file(f"net-{name}.script", "".join(line + "\n" for line in lines).encode())
-        for name, lines in (("two", two), ("three", three), ("ports", ports), ("kept", kept))}
+        for name, lines in (("two", two), ("three", three), ("ports", ports), ("kept", kept), ("shared", shared))}
     runs = [
         ("conntrack", "a", trace, None, []),
         ("conntrack", "a", trace, None, ["--window", "1", "--schedule", "7"]),
@@ -664,6 +728,10 @@ def office_moves(cases):
         ("conntrack", "a:1,b:1", raw, "kept", ["--window", "3", "--schedule", "10"]),
         ("nat", "a,b", trace, "kept", [*TRANSLATED, "--schedule", "last"]),
         ("monitor", "a,b,c", trace, "kept", ["--window", "1", "--schedule", "11"]),
+        ("conntrack", "a,b", trace, "shared", []),
+        ("conntrack", "a:1,b:1", raw, "shared", ["--window", "3", "--schedule", "12"]),
+        ("nat", "a,b", trace, "shared", [*TRANSLATED, "--schedule", "last"]),
+        ("monitor", "a,b,c", trace, "shared", ["--window", "1", "--schedule", "13"]),
     ]
     for place, (function, instances, capture, script, more) in enumerate(runs):
         cases.words(f"net-office-{place:02}", network_words(function, instances, capture, scripts.get(script), more))
@@ -682,10 +750,13 @@ def many_units(cases):
         ("monitor", "a:100,b", ["--window", "1", "--schedule", "9"]),
     )):
         cases.words(f"net-many-{place}", network_words(function, instances, trace, script, more))
+    shared = cases.file("net-many-shared.script", f"at 300 share a,b,c {low} strict\nat 301 settle\nat 500 copy a c local=10.0.0.128/25\n".encode())
+    for place, (function, more) in enumerate((("conntrack", ["--schedule", "last"]), ("nat", [*TRANSLATED, "--schedule", "10"]), ("monitor", []))):
+        cases.words(f"net-many-shared-{place}", network_words(function, "a,b,c", trace, shared, more))
 
 
 def network_refusals(cases):
-    """Which of several faults is told: words, then the script, then a share, which isn't built, then the capture."""
+    """Which of several faults is told: words, then the script, then the capture."""
     bad = cases.file("net-bad.pcap", b"no capture")
     good = cases.file("net-good.pcap", capture_of([question(1)]))
     faulty, late, share = (
@@ -697,7 +768,7 @@ def network_refusals(cases):
         )
     )
     for name, trace, script in (
-        ("script", bad, faulty), ("late", bad, late), ("share", good, share), ("trace", bad, None), ("no-script", bad, "missing"),
+        ("script", bad, faulty), ("late", bad, late), ("share", bad, share), ("trace", bad, None), ("no-script", bad, "missing"),
         ("no-trace", "missing", late), ("no-file", "missing", "missing"),
     ):
         cases.words(f"net-refused-{name}", network_words("conntrack", "a,b", trace, script))

@@ -1,10 +1,10 @@
 #!/usr/bin/env python3
-"""Compares the program with the model by whole reports, over captures and scripts of moves and copies that are drawn by chance.
+"""Compares the program with the model by whole reports, over captures and scripts of moves, copies and shares that are drawn by chance.
 
 Use: compare.py PROGRAM SEED COUNT
 
-Each run has a function, up to 16 instances with limits and marks, a window, a schedule, a capture and a script of routes, moves, copies and settles.
-The words, what the program wrote and what the model wrote of a run that differs are left in a folder, which is named. Printed at
+Each run has a function, up to 16 instances with limits and marks, a window, a schedule, a capture and a script of routes, moves, copies, shares and
+settles. The words, what the program wrote and what the model wrote of a run that differs are left in a folder, which is named. Printed at
 the end are how many runs were the same, and how often each answer came. The status is 1 where a run differs.
 """
 import os
@@ -77,8 +77,6 @@ def chance_words(chance):
         script = SCRIPT
         with open(SCRIPT, "w", encoding="ascii") as file:
             file.write(network_checks.chance_script(chance, function, names, count))
-            if chance.random() < 0.02:
-                file.write(f"at {2**32 - 1} share a,b any strict\n")
     return cases.network_words(function.name, chance_limits(chance, names), TRACE, script, more)
 
 

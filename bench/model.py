@@ -314,9 +314,6 @@ def read_script(asked):
         script = script_reader.read_script(content, asked.function, asked.names)
     except script_reader.ScriptFault as fault:
         raise Refusal(2, f"script line {fault.line}: {fault.rule}") from None
-    for _, command in script.lines:
-        if command and command.verb == "share":
-            raise Refusal(2, f"command {command.number} not built")
     return script
 
 

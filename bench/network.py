@@ -3,7 +3,7 @@
 Node 0 is the switch, node 1 the controller, and node 2 + i instance i. A choice names a node and a port: the node takes the
 oldest message that the node of the port's number has sent it, or, as (0, 0), the next item of the input. Each node is a class
 whose `take` is its table: it changes the node, sends and notes. A message and a note are tuples that begin with their name.
-What no run may bring to a node raises Stray. Shares aren't built.
+What no run may bring to a node raises Stray.
 
 The switch's rules are kept as what they mean: the routes, and the changes of target since.
 """
@@ -14,6 +14,7 @@ import make_capture
 from functions import Filter, flow_of
 
 SWITCH, CONTROLLER = 0, 1
+AT_CONTROLLER = None  # in the place of an instance: the packets of what is shared go to the controller
 ANY = Filter("any")
 MOST_CHUNKS = 64
 
@@ -63,7 +64,7 @@ class Step:
 class Switch:
     def __init__(self, routes, window, instances):
         self.routes = routes + [(ANY, 0)]
-        self.changes = []  # of (filter, instance before, instance after)
+        self.changes = []  # of (filter, instance before, instance after or AT_CONTROLLER)
         self.window = window
         self.instances = instances
         self.flying = 0  # packets under way
@@ -88,7 +89,11 @@ class Switch:
             case "packet", parcel:
                 self.flying += 1
                 step.note("arrived", parcel.number)
-                step.send(node_of(self.target(parcel.flow)), "carry", parcel, "plain")
+                target = self.target(parcel.flow)
+                if target is AT_CONTROLLER:
+                    step.send(CONTROLLER, "diverted", parcel)
+                else:
+                    step.send(node_of(target), "carry", parcel, "plain")
             case "command", command:
                 self.waiting += 1
                 step.send(CONTROLLER, "asked", command)
@@ -127,7 +132,7 @@ class Instance:
         self.site = site
         self.function = function
         self.records = {}  # by unit
-        self.standby = {}  # by unit, those that copies brought
+        self.standby = {}  # by unit, those that copies and shares brought
         self.rules = {}  # by operation, in the order in which they were set: (filter, action)
         self.held = {}  # by operation: parcels
         self.tally = [0] * instances
@@ -136,11 +141,17 @@ class Instance:
     def has_ended(self):
         return self.ended
 
-    def process(self, parcel, step):
+    def process(self, parcel, mark, step):
+        """The live record takes the packet's step; of a packet that a share serves, the one that stands by does unless this is
+        its home, and the controller gets it."""
         unit = self.function.unit(parcel.flow)
-        self.records[unit], output = self.function.step(self.site, self.records.get(unit), parcel.packet)
+        share = mark[1] if mark[0] == "shared" else None
+        records = self.records if share is None or mark[2] else self.standby
+        records[unit], output = self.function.step(self.site, records.get(unit), parcel.packet)
         self.tally[self.index] += 1
         step.note("processed", parcel.number, self.index, output)
+        if share is not None:
+            step.send(CONTROLLER, "shared", share, (unit, records[unit]))
         step.send(SWITCH, "credit", parcel)
 
     def carry(self, parcel, mark, step):
@@ -153,7 +164,7 @@ class Instance:
         elif action == "buffer":
             self.held.setdefault(op, []).append(parcel)
         else:
-            self.process(parcel, step)
+            self.process(parcel, mark, step)
 
     def add(self, op, chunks, step):
         """The chunks' records become live. In a run no instance has a record of their units."""
@@ -172,6 +183,14 @@ class Instance:
             elif held.packets == record.packets and held != record:
                 raise Stray(unit, held, record)
 
+    def sync(self, chunks, is_home):
+        """Of each unit this is the record, whatever was here. In a run none is older."""
+        records = self.records if is_home else self.standby
+        for unit, record in chunks:
+            if unit in records and records[unit].packets > record.packets:
+                raise Stray(unit, records[unit], record)
+            records[unit] = record
+
     def chunks(self, op, flows, step):
         """What is live of the units that the filter takes, in their order."""
         units = sorted(unit for unit in self.records if self.function.takes(flows, unit))
@@ -185,13 +204,15 @@ class Instance:
         return f"old {piece.newest} 1" if self.is_marked and piece.newest > 1 else None
 
     def take(self, port, message, step):
+        if self.ended:
+            raise Stray(message)
         match message:
             case "carry", parcel, mark:
                 self.carry(parcel, mark, step)
             case "fence", op:
                 self.rules.pop(op, None)
                 for parcel in self.held.pop(op, []):
-                    self.process(parcel, step)
+                    self.process(parcel, "plain", step)
                 step.send(CONTROLLER, "fenced", op)
             case ("stop",):
                 self.ended = True
@@ -216,6 +237,10 @@ class Instance:
             case "put all", op, tally:
                 self.tally = list(map(max, self.tally, tally))
                 step.send(CONTROLLER, "kept", op)
+            case "sync", op, chunks, is_home:
+                self.sync(chunks, is_home)
+                step.note("kept", op, self.index, [unit for unit, _ in chunks])
+                step.send(CONTROLLER, "synced", op)
             case "delete", op, units:
                 for unit in units:
                     del self.records[unit]
@@ -372,10 +397,67 @@ class Copy:
         return None
 
 
+class Share:
+    """A share that has begun, up to the end of the run. It waits for the home's fence and then for its records; then members have
+    to take these. From there on it is idle, has a packet out at a member, or waits for members to take what that made of it."""
+
+    def __init__(self, command, *members):
+        self.op = command.number
+        self.flows = command.flows
+        self.members = members
+        self.home = members[0]
+        self.phase = "fencing"
+        self.left = 0  # members that have yet to answer
+        self.out = None  # the member that has a packet
+        self.queue = deque()
+
+    def begin(self, step):
+        step.send(SWITCH, "install", self.op, self.flows, self.home, AT_CONTROLLER)
+
+    def is_idle(self):
+        return self.phase == "idle" and not self.queue
+
+    def sync(self, but, chunks, step):
+        """Each member but one is to take the records."""
+        others = [member for member in self.members if member != but]
+        for member in others:
+            step.send(node_of(member), "sync", self.op, chunks, member == self.home)
+        self.left = len(others)
+
+    def serve(self, step):
+        if self.phase == "idle" and self.queue:
+            parcel = self.queue.popleft()
+            (_, local_port), (remote, remote_port) = parcel.flow.local, parcel.flow.remote
+            self.out = self.members[(local_port + remote_port + remote) % len(self.members)]
+            self.phase = "out"
+            step.send(SWITCH, "forward", parcel, ("shared", self.op, self.out == self.home), self.out)
+
+    def take(self, instance, message, step):
+        """The answer, where the message sets the share up."""
+        match self.phase, message:
+            case "fencing", ("fenced", _) if instance == self.home:
+                step.send(node_of(self.home), "get", self.op, self.flows)
+                self.phase = "getting"
+            case "getting", ("chunks", _, chunks) if instance == self.home:
+                self.sync(self.home, chunks, step)
+                self.phase = "setting"
+            case "out", ("shared", _, chunk) if instance == self.out:
+                self.sync(self.out, [chunk], step)
+                self.phase = "syncing"
+            case "setting" | "syncing" as phase, ("synced", _) if instance in self.members and self.left > 0:
+                self.left -= 1
+                if self.left == 0:
+                    self.phase = "idle"
+                    return "done" if phase == "setting" else None
+            case _:
+                raise Stray(self.phase, instance, message)
+        return None
+
+
 class Controller:
     def __init__(self, names):
         self.names = names
-        self.open = {}  # moves and copies by their numbers
+        self.open = {}  # moves, copies and shares by their numbers; a share stays
         self.end_came = False
         self.finish_sent = False
         self.finals = set()
@@ -391,6 +473,9 @@ class Controller:
         meeting = [op for op, flows in filters if flows.meets(command.flows)]
         return f"overlap {min(meeting)}" if meeting else None
 
+    def shares(self):
+        return [it for it in self.open.values() if isinstance(it, Share)]
+
     def answer(self, op, answer, step):
         step.note("answered", op, answer)
         step.send(SWITCH, "answered", op)
@@ -402,11 +487,15 @@ class Controller:
                 if refusal:
                     self.answer(command.number, refusal, step)
                 else:
-                    kind = {"move": Move, "copy": Copy}[command.verb]
+                    kind = {"move": Move, "copy": Copy, "share": Share}[command.verb]
                     operation = kind(command, *map(self.names.index, command.names))
                     self.open[command.number] = operation
                     step.note("begun", command.number)
                     operation.begin(step)
+            case 0, ("diverted", parcel):
+                share = next(it for it in self.shares() if it.flows.matches(parcel.flow))
+                share.queue.append(parcel)
+                share.serve(step)
             case 0, ("end",):
                 self.end_came = True
             case _, ("final",):
@@ -414,13 +503,18 @@ class Controller:
             case _, ("event", op, parcel) if op not in self.open:
                 step.send(SWITCH, "forward", parcel, ("pass", op), port - 2)
             case _, (_, op, *_) if op in self.open:
-                answer = self.open[op].take(port - 2, message, step)
+                operation = self.open[op]
+                answer = operation.take(port - 2, message, step)
                 if answer:
-                    del self.open[op]
                     self.answer(op, answer, step)
+                if operation in self.shares():
+                    operation.serve(step)
+                elif answer:
+                    del self.open[op]
             case _:
                 raise Stray(port, message)
-        if self.end_came and not self.open and not self.finish_sent:
+        is_done = all(isinstance(it, Share) and it.is_idle() for it in self.open.values())
+        if self.end_came and is_done and not self.finish_sent:
             self.finish_sent = True
             step.send(SWITCH, "finish")
 

@@ -3,8 +3,8 @@
 
 Use: network_checks.py SEED COUNT
 
-Each run has a function, instances, limits, marks, a window, a script of routes, moves, copies and settles, and packets of a few hosts. Its
-choices are taken first, last, by a number, or with a weight for each link, so that some links are seldom looked at. `check`
+Each run has a function, instances, limits, marks, a window, a script of routes, moves, copies, shares and settles, and packets of a few
+hosts. Its choices are taken first, last, by a number, or with a weight for each link, so that some links are seldom looked at. `check`
 looks at one run that has ended. It knows the function's table for the packets of one unit, the script and the log of the run.
 Before them two runs are held to what was worked out by hand, choice by choice.
 """
@@ -61,13 +61,24 @@ class Run:
         routes = [*self.script.routes, (network.ANY, 0)]
         owner = next(instance for flows, instance in routes if self.asked.function.takes(flows, unit))
         for kind, op, *_ in log:
-            if kind == "installed" and self.takes(self.commands[op], unit):
+            if kind == "installed" and self.commands[op].verb == "move" and self.takes(self.commands[op], unit):
                 source, destination = self.ends(self.commands[op])
                 owner = destination if owner == source else owner
         return owner
 
+    def share_of(self, unit, log):
+        """The share whose Installed note is among these and that covers the unit, and None without one."""
+        ops = (op for kind, op, *_ in log if kind == "installed" and self.commands[op].verb == "share")
+        return next((op for op in ops if self.covers(op, unit)), None)
+
+    def member_of(self, op, number):
+        """The member of a share that processes a packet."""
+        flow = flow_of(self.asked.site, self.packets[number - 1])[0]
+        members = self.ends(self.commands[op])
+        return members[(flow.local[1] + flow.remote[1] + flow.remote[0]) % len(members)]
+
     def covers(self, op, unit):
-        """The command takes the unit, whose packets went to its source when it began."""
+        """The command takes the unit, whose packets went to its source, or to the home of what it shares, when it began."""
         begun = self.place_of(("begun", op))
         return self.takes(self.commands[op], unit) and self.owner(unit, self.log[:begun]) == self.ends(self.commands[op])[0]
 
@@ -80,6 +91,7 @@ def check(run):
     check_answers(run)
     check_refused(run)
     check_settles(run)
+    check_shared(run)
 
 
 def check_packets(run):
@@ -123,20 +135,25 @@ def check_tallies(run):
 
 
 def check_standby(run):
-    """What stands by of a unit is its record after the packets that were processed before the latest of the copies that were kept."""
+    """What stands by of a unit is its record after the packets that were processed before the latest of the copies that were kept; at
+    the members of a share but its home, after all that were processed up to then, by itself too."""
     records, given = {}, {}  # by unit: its records so far; by copy and unit: how many packets were processed before
     wanted = [{} for _ in run.asked.names]
-    for kind, number, *rest in run.log:
+    for place, (kind, number, *rest) in enumerate(run.log):
         if kind == "processed":
             unit = run.units[number - 1]
             so_far = records.setdefault(unit, [])
             before = so_far[-1] if so_far else None
             so_far.append(run.asked.function.step(run.asked.site, before, run.packets[number - 1])[0])
+            if rest[0] != run.owner(unit, run.log[:place]) and run.share_of(unit, run.log[:place]) is not None:
+                wanted[rest[0]][unit] = len(so_far)
         elif kind == "exported":
             given.update(((number, unit), len(records[unit])) for unit in rest[1])
-        elif kind == "kept":
+        elif kind == "kept" and run.commands[number].verb == "copy":
             for unit in rest[1]:
                 wanted[rest[0]][unit] = max(wanted[rest[0]].get(unit, 0), given[number, unit])
+        elif kind == "kept" and rest[0] != run.ends(run.commands[number])[0]:
+            wanted[rest[0]].update((unit, len(records[unit])) for unit in rest[1])
     for instance, places in zip(run.world.nodes[2:], wanted):
         hold(instance.standby == {unit: records[unit][count - 1] for unit, count in places.items()}, "standby", instance.standby)
 
@@ -150,7 +167,9 @@ def check_answers(run):
     for kind, op, *rest in run.log:
         if kind == "processed":
             live[rest[0]].add(run.units[op - 1])
-        elif kind == "exported" and run.commands[op].verb == "copy":
+        elif kind == "kept" and run.commands[op].verb == "share" and rest[0] == run.ends(run.commands[op])[0]:
+            live[rest[0]] |= set(rest[1])
+        elif kind == "exported" and run.commands[op].verb != "move":
             hold(set(rest[1]) == {unit for unit in live[rest[0]] if run.takes(run.commands[op], unit)}, "copied", op)
         elif kind == "exported":
             coming[op] = rest[1]
@@ -163,7 +182,8 @@ def check_answers(run):
             open_commands.add(op)
         elif kind == "answered":
             check_answer(run, op, rest[0], open_commands, coming.get(op))
-            open_commands.discard(op)
+            if run.commands[op].verb != "share":
+                open_commands.discard(op)
 
 
 def check_answer(run, op, answer, open_commands, coming):
@@ -183,6 +203,9 @@ def check_answer(run, op, answer, open_commands, coming):
     )
     if command.verb == "copy":
         hold(answer == "done" and not installed and not imported and kept == exported, "copy", op)
+        return
+    if command.verb == "share":
+        hold(answer == "done" and installed and not imported and set(exported) <= set(kept), "share", op)
         return
     destination = run.ends(command)[1]
     is_old = run.asked.marks[destination] and any(has_time(run, op, unit) for unit in coming)
@@ -235,8 +258,33 @@ def check_settles(run):
         if kind == "begun":
             latest = max(latest, number)
         if kind == "processed" and in_front[number] is not None and latest <= in_front[number]:
-            owner = run.owner(run.units[number - 1], run.log[:place])
-            hold(rest[0] == owner, "settle", number)
+            unit, log = run.units[number - 1], run.log[:place]
+            share = run.share_of(unit, log)
+            wanted = run.owner(unit, log) if share is None else run.member_of(share, number)
+            hold(rest[0] == wanted, "settle", number)
+
+
+def check_shared(run):
+    """A packet that arrived after a share had its unit is processed at its member, and the next of these packets when all members have
+    what that one made of the record. Each member but the home took the first records before."""
+    arrived = {}  # by packet: the share that had its unit then
+    for op, command in run.commands.items():
+        if command.verb != "share" or ("installed", op) not in run.log:
+            continue
+        home, *others = members = run.ends(command)
+        to_sync = Counter(others)  # members that have yet to take records
+        for place in range(run.place_of(("installed", op)), len(run.log)):
+            kind, number, *rest = run.log[place]
+            if kind == "arrived" and run.share_of(run.units[number - 1], run.log[:place]) == op:
+                arrived[number] = op
+            elif kind == "processed" and arrived.get(number) == op:
+                hold(rest[0] == run.member_of(op, number), "member", number)
+                hold(not +to_sync, "before all are synced", number)
+                to_sync = Counter(member for member in members if member != rest[0])
+            elif kind == "kept" and number == op:
+                hold(to_sync[rest[0]] == 1, "synced", op, rest[0])
+                to_sync[rest[0]] = 0
+        hold(not +to_sync, "synced at the end", op)
 
 
 # --- Runs by chance ---
@@ -292,10 +340,21 @@ def chance_copy(chance, function, names):
     return f"copy {source} {destination} {what}"
 
 
+def chance_share(chance, function, names):
+    """A share, mostly of some of the units: those that it takes are no move's or copy's from then on."""
+    members = chance.sample([*names, "z"] if chance.random() < 0.05 or len(names) == 1 else names, chance.randrange(2, max(len(names), 2) + 1))
+    return f"share {','.join(members)} {chance_filter(chance, function)} strict"
+
+
 def chance_script(chance, function, names, packets):
+    shares = chance.choice([0, 0, 0.1, 0.5])
     lines = [f"route {chance_filter(chance, function)} {chance.choice(names)}" for _ in range(chance.choice([0, 0, 1, 3]))]
     for point in sorted(chance.randrange(packets + 2) for _ in range(chance.choice([0, 1, 2, 2, 4, 8]))):
         settles = chance.choice([0, 0.5, 1])
+        while chance.random() < shares:
+            lines.append(f"at {point} {chance_share(chance, function, names)}")
+            if chance.random() < settles:
+                lines.append(f"at {point} settle")
         while chance.random() < 0.4:
             lines.append(f"at {point} {chance_copy(chance, function, names)}")
             if chance.random() < settles:

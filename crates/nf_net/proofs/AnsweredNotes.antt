@@ -8,6 +8,7 @@ use Rattle.nf_function.specs.declared.chunk.Chunk.{Chunk}
 use Rattle.nf_function.specs.declared.unit.Unit as units
 use Rattle.nf_function.specs.Semantics.{Semantics}
 use Rattle.record_table.specs.Chunks.{are_good}
+use Rattle.record_table.specs.Table.{part, after_packet}
 use Rattle.event_filter.specs.declared.decide.Decide.{Decide}
 use Rattle.event_filter.specs.declared.decide.Decide.TheVariants as decide
 use Rattle.event_filter.specs.declared.mark.Mark.{Mark}
@@ -21,7 +22,7 @@ use Rattle.nf_msgs.specs.declared.msg.Msg.TheVariants as msg
 use Rattle.nf_msgs.specs.declared.note.Note.{Note}
 use Rattle.nf_msgs.specs.Nodes.{switch_node, instance_node}
 use Rattle.instance_worker.specs.declared.instance.Instance.{Instance}
-use Rattle.instance_worker.specs.Instance.{Step, processed, all_processed, carried, on_carry, on_fence, on_get, on_stream, on_put, on_restore, on_standby, on_sync, on_put_all, tally_put, piece_put, refusal, still, where_good, instance_step}
+use Rattle.instance_worker.specs.Instance.{Step, is_live, processed, all_processed, carried, on_carry, on_fence, on_get, on_stream, on_put, on_restore, on_standby, on_sync, on_put_all, tally_put, piece_put, refusal, still, where_good, instance_step}
 use Rattle.state_chunk.specs.declared.fault.ChunkFault.{ChunkFault}
 use Rattle.state_chunk.specs.Reading.{tally_read}
 use Rattle.flow_filter.specs.declared.filter.Filter.{Filter}
@@ -43,12 +44,15 @@ use Rattle.net_world.specs.declared.config.Config.{Config}
 use Rattle.net_world.specs.Input.{packet_of}
 use Rattle.net_world.specs.Log.{done}
 use Rattle.outline_net.proofs.InstanceOutline.{IsGenuine}
-use Rattle.joined_net.proofs.Joined.{is_unshared}
 use Rattle.nf_net.proofs.OutputLemmas.{Answered, answered_nothing, answered_packet}
 
 -- the live record of each unit
 abbrev pub live_of : {F R : Type 0} → Instance F R → units.Unit → Option R
 live_of i u = finite.get i.table.live u
+
+-- the record of each unit in the part of the table that a packet with this mark steps
+abbrev pub kept_of : {F R : Type 0} → Instance F R → Mark → units.Unit → Option R
+kept_of i m u = finite.get (part i.table (is_live m)) u
 
 abbrev GenuineCell : Config → List Msg → FullCell → Type 0
 GenuineCell c items = IsGenuine c.site (packet_of items)
@@ -61,21 +65,19 @@ module _ {F R : Type 0} (f : Semantics R) (c : Config) (items : List Msg) where
       let next = (processed f i mark.Plain cell).node in
       answered_packet f c items i.table.live i.site cell at h.0 (instance_node i.index) (done (all_processed f next cells).notes) (all_answered next cells at h.1)
 
-  one_answered : (i : Instance F R) (m : Mark) (cell : FullCell) → is_unshared m ≡ true → i.site ≡ c.site → GenuineCell c items cell → Answered f c items (live_of i) (done (processed f i m cell).notes)
+  one_answered : (i : Instance F R) (m : Mark) (cell : FullCell) → i.site ≡ c.site → GenuineCell c items cell → Answered f c items (kept_of i m) (done (processed f i m cell).notes)
   unfolding processed
-  one_answered i mark.Plain cell e at g = answered_packet f c items i.table.live i.site cell at g (instance_node i.index) [] (answered_nothing f c items (live_of (processed f i mark.Plain cell).node))
-  one_answered i (mark.Pass op) cell e at g = answered_packet f c items i.table.live i.site cell at g (instance_node i.index) [] (answered_nothing f c items (live_of (processed f i (mark.Pass op) cell).node))
-  one_answered i (mark.Shared op home) cell e at g = cc
+  one_answered i m cell at g = answered_packet f c items (part i.table (is_live m)) i.site cell at g (instance_node i.index) [] (answered_nothing f c items (λ u. finite.get (after_packet f i.site (part i.table (is_live m)) cell.packet) u))
 
-  carried_answered : (i : Instance F R) (m : Mark) (cell : FullCell) (d : Decide) → is_unshared m ≡ true → i.site ≡ c.site → GenuineCell c items cell → Answered f c items (live_of i) (done (carried f i m cell d).notes)
-  carried_answered i m cell decide.Process e at g = one_answered i m cell e at g
-  carried_answered i m cell (decide.ProcessAndEvent op) e at g = subst (λ ns. Answered f c items (live_of i) (done ns)) (sym (append-nil (processed f i m cell).notes)) (one_answered i m cell e at g)
-  carried_answered i m cell (decide.Event op) e at g = answered_nothing f c items (live_of i)
-  carried_answered i m cell (decide.Buffer op) e at g = answered_nothing f c items (live_of i)
+  carried_answered : (i : Instance F R) (m : Mark) (cell : FullCell) (d : Decide) → i.site ≡ c.site → GenuineCell c items cell → Answered f c items (kept_of i m) (done (carried f i m cell d).notes)
+  carried_answered i m cell decide.Process at g = one_answered i m cell at g
+  carried_answered i m cell (decide.ProcessAndEvent op) at g = subst (λ ns. Answered f c items (kept_of i m) (done ns)) (sym (append-nil (processed f i m cell).notes)) (one_answered i m cell at g)
+  carried_answered i m cell (decide.Event op) at g = answered_nothing f c items (kept_of i m)
+  carried_answered i m cell (decide.Buffer op) at g = answered_nothing f c items (kept_of i m)
 
-  pub carry_answered : (i : Instance F R) (m : Mark) (cell : FullCell) → is_unshared m ≡ true → i.site ≡ c.site → GenuineCell c items cell → Answered f c items (live_of i) (done (on_carry f i m cell).notes)
+  pub carry_answered : (i : Instance F R) (m : Mark) (cell : FullCell) → i.site ≡ c.site → GenuineCell c items cell → Answered f c items (kept_of i m) (done (on_carry f i m cell).notes)
   unfolding on_carry
-  carry_answered i m cell e at g = carried_answered i m cell (rules.decide i.rules (flow_of i.site cell.packet).0 m) e at g
+  carry_answered i m cell at g = carried_answered i m cell (rules.decide i.rules (flow_of i.site cell.packet).0 m) at g
 
   pub fence_answered : (i : Instance F R) (op : ℕ) → i.site ≡ c.site → Each (GenuineCell c items) (rules.held_at i.rules op) → Answered f c items (live_of i) (done (on_fence f i op).notes)
   unfolding on_fence

@@ -43,8 +43,9 @@ use Rattle.path_net.proofs.PathNodes.{each_entry}
 use Rattle.path_net.proofs.PathSeats.{labels, loop_is, Seated, seated, HasSides, Are_there, Rests}
 use Rattle.path_net.proofs.PathSums.{each_place, each_link}
 use Rattle.nf_net.proofs.PlaceSteps.{open_at}
-use Rattle.joined_net.proofs.StartJoined.{given}
-use Rattle.joined_net.proofs.Joined.{Given, S, place, Label, AreGoodChunks, HasPieces, Joined, node_of}
+use Rattle.whole_joined.proofs.StartJoined.{given}
+use Rattle.whole_joined.proofs.Given.{Given, place}
+use Rattle.whole_joined.proofs.Joined.{S, Label, AreGoodChunks, HasPieces, Joined, node_of}
 
 all_from : {X : Type 0} (P : X → Type 0) (xs : List X) → Each P xs → All P xs
 all_from P [] h k d small = absurd (omega (arith, small))

@@ -4,7 +4,7 @@ use Rattle.std.specs.Prelude.{if◌then◌else◌, ◌&&◌, ◌==◌, nat_lt, s
 use Rattle.std.specs.declared.alloc.Global.{Global}
 use Rattle.std.specs.List.{filter_map}
 use Rattle.std.specs.FinMap as finite
-use Rattle.std.proofs.lemmas.Bool.Decides.{nat_tests, Decides-ltb}
+use Rattle.std.proofs.lemmas.Bool.Decides.{nat_tests, Decides-eqb, Decides-ltb}
 use Rattle.std.proofs.lemmas.Option.{slice_get-get_or}
 use Rattle.flow_filter.specs.declared.filter.Filter.{Filter}
 use Rattle.flow_filter.specs.declared.packet.Packet.{Packet}
@@ -13,6 +13,8 @@ use Rattle.nf_function.specs.declared.unit.Unit as units
 use Rattle.nf_function.specs.Records.{Laws as FunctionLaws}
 use Rattle.nf_function.specs.Semantics.{Semantics, unit_at}
 use Rattle.record_table.proofs.UnitOrder.{same_unit-true}
+use Rattle.switch_rules.specs.declared.target.Target.{Target}
+use Rattle.switch_rules.specs.declared.target.Target.TheVariants as target
 use Rattle.event_store.specs.Store.{stored}
 use Rattle.nf_msgs.specs.declared.answer.Answer.TheVariants.{Done}
 use Rattle.nf_msgs.specs.declared.command.Order.{Order}
@@ -20,6 +22,7 @@ use Rattle.nf_msgs.specs.declared.command.Order.TheVariants as order
 use Rattle.nf_msgs.specs.declared.msg.Msg.{Msg}
 use Rattle.nf_msgs.specs.declared.note.Note.{Note}
 use Rattle.nf_msgs.specs.Nodes.{instance_node}
+use Rattle.switch_node.specs.Switch.{is_there}
 use Rattle.ctrl_node.specs.declared.operation.Operation.{Operation}
 use Rattle.ctrl_node.specs.declared.operation.Operation.TheVariants.{Move, Copy, Share}
 use Rattle.actor_net.specs.declared.choice.Choice.{Choice}
@@ -31,11 +34,17 @@ use Rattle.unit_machine.proofs.Labels.{Each}
 use Rattle.unit_machine.proofs.Lists.{firsts}
 use Rattle.unit_machine.proofs.Fits.{nil_right}
 use Rattle.unit_machine.proofs.Stages as stages
+use Rattle.unit_machine.proofs.Stages.{Order}
 use Rattle.unit_machine.proofs.Ends.{same_of}
-use Rattle.abstract_net.proofs.Net.{Open, find_op}
+use Rattle.share_machine.proofs.Share.{has}
+use Rattle.abstract_net.proofs.Net.{IsSys, Open, find_op}
+use Rattle.abstract_net.proofs.Rest.{done_u}
 use Rattle.abstract_net.proofs.Readings as readings
 use Rattle.abstract_net.proofs.Readings.{exact_of, fold_runs, not_both}
-use Rattle.abstract_net.proofs.AtEnd.{At_end, at_end}
+use Rattle.abstract_net.proofs.AtEnd.{At_end}
+use Rattle.abstract_net.proofs.Shares.{Open_share, find_share, moves_of}
+use Rattle.whole_net.proofs.EndAll.{Share_rests, Ends_all, As_moves, At_share, end_all}
+use Rattle.whole_net.proofs.WhereAll.{order_same}
 use Rattle.net_world.specs.declared.config.Config.{Config}
 use Rattle.net_world.specs.declared.node.Node.{Node}
 use Rattle.net_world.specs.declared.node.Node.TheVariants.{Instance}
@@ -54,10 +63,15 @@ use Rattle.outline_net.proofs.ControlOutline.{Sees}
 use Rattle.answer_net.proofs.InstallRuns.{run_installs, done_installed}
 use Rattle.answer_net.proofs.InstallSteps.{is_moving}
 use Rattle.outline_net.proofs.Outline.{is_sys}
-use Rattle.joined_net.proofs.Joined.{Given, GenuinePacket, S, shown, place, Joined}
-use Rattle.path_net.proofs.RecordPromises.{instance_of}
-use Rattle.joined_net.proofs.RunsJoined.{done_same, same_times, start_world}
-use Rattle.joined_net.proofs.StartJoined.{given, all_fit, count_at_start, genuine}
+use Rattle.whole_outline.proofs.OpenShares.{but_shares, share_in, SeesOne}
+use Rattle.whole_outline.proofs.SwitchAll.{target_node}
+use Rattle.whole_joined.proofs.Given.{Given, place}
+use Rattle.whole_joined.proofs.Joined.{GenuinePacket, S, A, shown, came_by, Joined}
+use Rattle.whole_joined.proofs.RunsJoined.{done_same, same_times, start_world}
+use Rattle.whole_joined.proofs.StartJoined.{given, count_at_start, genuine}
+use Rattle.path_net.proofs.RecordPromises.{instance_of, one_place}
+use Rattle.nf_net.proofs.FoldLemmas.{fold_is}
+use Rattle.nf_net.proofs.StandbyFronts.{IsOfFront, still_some, lives_front}
 use Rattle.answer_net.proofs.ToldCommands.{each_answered}
 
 -- a list in which nothing is
@@ -69,16 +83,25 @@ none_in (x ∷ xs) h =
     let one : 1 + stages.times x xs ≡ 0 = rw self at here in
     absurd (omega (arith, one))
 
+-- the nodes of instances that are there are behind the controller
+members_there : (n count : ℕ) → n ≡ count + 2 → (ms : List ℕ) → Each (λ member. nat_lt member count ≡ true) ms → (k : ℕ) → has (map instance_node ms) k ≡ true → (2 ≤ k) × (k < n)
+members_there n count is [] few k inside = cc
+members_there n count is (m ∷ ms) few k inside = elim (k == instance_node m) as (λ b. (k == instance_node m) ≡ b → (if b then true else has (map instance_node ms) k) ≡ true → (2 ≤ k) × (k < n)) [
+  | true ↦ λ on _.
+      let same : k ≡ instance_node m = (Decides-eqb k (instance_node m)).0 on in
+      let small : m < count = (Decides-ltb m count).0 few.0 in
+      (omega (arith, same), omega (arith, same, small, is))
+  | false ↦ λ _ rest. members_there n count is ms few.1 k rest
+] refl inside
+
 module _ {R : Type 0} (f : Semantics R) (c : Config) (items : List Msg) (is : IsInput f.kind c items) where
   abbrev g : Given
   g = given f c items is
 
-  -- the fold of the records is that of the proof of moves
-  pub fold_is : (kept : Option R) (ps : List ℕ) → fold f c items kept ps ≡ readings.fold (S f g).F kept ps
-  fold_is kept [] = refl
-  fold_is kept (p ∷ ps) = let transport = (all_fit f c items is p).transport in rw transport (fold_is (Some (f.stepped c.site kept (packet_of items p)).kept) ps)
+  abbrev laws_of : IsSys (S f g)
+  laws_of = is_sys g.site g.packet
 
-  module _ {F : Type 0} (n : ℕ) (count : n ≡ length c.names + 2) (w : Network (Node F R) Msg Note) (nodes : length w.nodes ≡ n) (j : Joined f g n w) (in_turn : arrived w.log ++ numbers (waiting w (at 0 0)) ≡ numbers items) (done : is_done node_ended w ≡ true) (answered : ends_last items ≡ true → (op : ℕ) (what : Order) → order_of items op ≡ Some what → length (answers_of op w.log) ≡ 1) (installed : (op : ℕ) (source destination : List ℕ) (filter : Filter) (keep : Bool) → order_of items op ≡ Some (order.Move source destination filter keep) → answers_of op w.log ≡ Done ∷ [] → times_installed op w.log ≡ 1) where
+  module _ {F : Type 0} (n : ℕ) (count : n ≡ length c.names + 2) (w : Network (Node F R) Msg Note) (nodes : length w.nodes ≡ n) (j : Joined f g n w) (in_turn : arrived w.log ++ numbers (waiting w (at 0 0)) ≡ numbers items) (done : is_done node_ended w ≡ true) where
     all_came : arrived w.log ≡ numbers items
     all_came = sym (append-nil (arrived w.log)) ∙ ap (λ xs. arrived w.log ++ numbers xs) (sym (done_waiting node_ended w done (at 0 0))) ∙ in_turn
 
@@ -90,9 +113,9 @@ module _ {R : Type 0} (f : Semantics R) (c : Config) (items : List Msg) (is : Is
 
     -- both sides of an open move are among the nodes
     sides : (k : ℕ) (e : Open R) → find_op j.world.ops k ≡ Some e → (e.op.src < n) × (e.op.dst < n)
-    sides k e found = by_got (finite.get j.nodes.controller.operations k) refl (subst (λ o. Sees f (place g) o (finite.get j.nodes.controller.operations k) (stored j.nodes.controller.store k)) found (j.shown_is.controller.opens k))
+    sides k e found = by_got (finite.get j.nodes.controller.operations k) refl (subst (λ o. Sees f (place g) o (but_shares (finite.get j.nodes.controller.operations k)) (stored j.nodes.controller.store k)) found (j.shown_is.controller.opens k).move)
       where
-        by_got : (o : Option Operation) → finite.get j.nodes.controller.operations k ≡ o → Sees f (place g) (Some e) o (stored j.nodes.controller.store k) → (e.op.src < n) × (e.op.dst < n)
+        by_got : (o : Option Operation) → finite.get j.nodes.controller.operations k ≡ o → Sees f (place g) (Some e) (but_shares o) (stored j.nodes.controller.store k) → (e.op.src < n) × (e.op.dst < n)
         by_got None is h = absurd h
         by_got (Some (Copy y)) is h = absurd h
         by_got (Some (Share s)) is h = absurd h
@@ -100,66 +123,128 @@ module _ {R : Type 0} (f : Semantics R) (c : Config) (items : List Msg) (is : Is
             let move = j.shown_is.controller.moves k m is in
             (subst (λ o. o.src < n) (sym h.op) (there m.plan.from move.from), subst (λ o. o.dst < n) (sym h.op) (there m.plan.to move.to))
 
-    module _ (u : units.Unit) where
-      end : At_end (S f g) (is_sys f g.site g.packet) u n j.world (came f c items u w.log) (is_loose c items u w.log)
-      end = at_end (S f g) (is_sys f g.site g.packet) u n j.world (omega (arith, count)) quiet sides (came f c items u w.log) (is_loose c items u w.log) (j.shown_is.every.unit u)
+    -- and so are the members of an open share
+    sharing : (e : Open_share) → find_share j.world.shares e.num ≡ Some e → (k : ℕ) → has e.members k ≡ true → (2 ≤ k) × (k < n)
+    sharing e found k inside = by_got (finite.get j.nodes.controller.operations e.num) refl (subst (λ o. SeesOne f (place g) g.site o (share_in (finite.get j.nodes.controller.operations e.num)) (stored j.nodes.controller.store e.num)) found (j.shown_is.controller.opens e.num).share)
+      where
+        by_got : (o : Option Operation) → finite.get j.nodes.controller.operations e.num ≡ o → SeesOne f (place g) g.site (Some e) (share_in o) (stored j.nodes.controller.store e.num) → (2 ≤ k) × (k < n)
+        by_got None is h = absurd h
+        by_got (Some (Copy y)) is h = absurd h
+        by_got (Some (Move m)) is h = absurd h
+        by_got (Some (Share s)) is h = members_there n (length c.names) count s.plan.members (j.shown_is.controller.shared e.num s is).few k (subst (λ ms. has ms k ≡ true) (ap (λ x. x.members) h.is) inside)
 
-      -- a unit that a packet of the input has goes to an instance that is there
-      target_there : (qs : List Packet) → Each (GenuinePacket f g) qs → (p : ℕ) (ps : List ℕ) → those (is_of f c items u) (map (λ q. q.number) qs) ≡ p ∷ ps → j.world.target u < n
-      target_there [] h p ps e = cc
-      target_there (q ∷ qs) h p ps e =
-          elim (is_of f c items u q.number) as (λ b. is_of f c items u q.number ≡ b → (if b then q.number ∷ those (is_of f c items u) (map (λ x. x.number) qs) else those (is_of f c items u) (map (λ x. x.number) qs)) ≡ p ∷ ps → j.world.target u < n) [
-            | true ↦ λ mine _.
-                let way = j.shown_is.switch.routes (flow_of c.site q).0 h.0.fits in
-                let unit : unit_at f.kind c.site q ≡ u = ap (unit_at f.kind c.site) h.0.same ∙ same_unit-true (unit_at f.kind c.site (packet_of items q.number)) u mine in
-                let few : nat_lt way.instance (length c.names) ≡ true = subst (λ k. nat_lt way.instance k ≡ true) j.shown_is.switch.instances way.there in
-                subst (λ k. k < n) (sym way.node ∙ ap j.world.target unit) (there way.instance few)
-            | false ↦ λ _ rest. target_there qs h.1 p ps rest
-          ] refl e
+    module _ (u : units.Unit) where
+      -- what was processed of the unit is all that came, and its record is at an instance
+      record Ended : Type 0 where
+        flag : Bool
+        order : Order flag (went f c items u w.log) (came f c items u w.log)
+        flag_is : flag ≡ true → is_loose c items u w.log ≡ true
+        place : (r : R) → fold f c items None (went f c items u w.log) ≡ Some r → (i : ℕ) × (live_at w i u ≡ Some r)
+
+      -- what is live at an instance that is there
+      live_there : (k : ℕ) → 2 ≤ k → k < n → (live : Option R) → finite.get (j.world.inst k).live u ≡ live → (i : ℕ) × (live_at w i u ≡ live)
+      live_there k two few live is_live =
+          let node = Instance (j.nodes.instance k) in
+          let found : slice_get w.nodes k ≡ Some node = slice_get-get_or w.nodes k node (rw nodes few) ∙ ap Some (j.nodes_are k few node ∙ instance_of j.nodes k two) in
+          let number : instance_node (k - 2) ≡ k = omega (arith, two) in
+          (k - 2, ap (λ y. live_in u (slice_get w.nodes y)) number ∙ ap (live_in u) found ∙ ap (λ x. finite.get x.live u) (j.shown_is.instances k two few).outline_is ∙ is_live)
+
+      done_is : done_u (S f g) u j.world.done ≡ went f c items u w.log
+      done_is = done_same f c items is n w j u
+
+      -- the fold of what was done
+      folds : (r : R) → fold f c items None (went f c items u w.log) ≡ Some r → readings.fold (S f g).F None (done_u (S f g) u j.world.done) ≡ Some r
+      folds r h = ap (readings.fold (S f g).F None) done_is ∙ sym (fold_is f c items is None (went f c items u w.log)) ∙ h
 
       came_is : came f c items u w.log ≡ those (is_of f c items u) (numbers items)
       came_is = ap (those (is_of f c items u)) all_came
 
-      -- nothing came of the unit, or its packets go to an instance that is there
-      by_came : {P : Type 0} → (firsts end.ran ++ end.left ≡ [] → P) → (j.world.target u < n → P) → P
-      by_came {P = P} none some = by_list (came f c items u w.log) refl
+      -- a unit that a packet of the input has goes to an instance that is there, where it goes to one
+      target_there : 2 ≤ j.world.target u → (qs : List Packet) → Each (GenuinePacket f g) qs → (p : ℕ) (ps : List ℕ) → those (is_of f c items u) (map (λ q. q.number) qs) ≡ p ∷ ps → j.world.target u < n
+      target_there two [] h p ps e = cc
+      target_there two (q ∷ qs) h p ps e =
+          elim (is_of f c items u q.number) as (λ b. is_of f c items u q.number ≡ b → (if b then q.number ∷ those (is_of f c items u) (map (λ x. x.number) qs) else those (is_of f c items u) (map (λ x. x.number) qs)) ≡ p ∷ ps → j.world.target u < n) [
+            | true ↦ λ mine _.
+                let way = j.shown_is.switch.routes (flow_of c.site q).0 h.0.fits in
+                let unit : unit_at f.kind c.site q ≡ u = ap (unit_at f.kind c.site) h.0.same ∙ same_unit-true (unit_at f.kind c.site (packet_of items q.number)) u mine in
+                by_target way.target (ap j.world.target (sym unit) ∙ way.node) way.there
+            | false ↦ λ _ rest. target_there two qs h.1 p ps rest
+          ] refl e
         where
-          by_list : (ps : List ℕ) → came f c items u w.log ≡ ps → P
-          by_list [] e = none (none_in (firsts end.ran ++ end.left) (λ p. same_of end.flag (firsts end.ran ++ end.left) (came f c items u w.log) end.order p ∙ ap (stages.times p) e))
-          by_list (p ∷ ps) e = some (target_there (packets items) (genuine f c items is) p ps (sym came_is ∙ e))
+          by_target : (t : Target) → j.world.target u ≡ target_node t → is_there j.nodes.switch t ≡ true → j.world.target u < n
+          by_target target.Controller at inside = absurd (omega (arith, two, at))
+          by_target (target.Instance i) at inside = subst (λ k. k < n) (sym at) (there i (subst (λ k. nat_lt i k ≡ true) j.shown_is.switch.instances inside))
 
-      -- no packet is left
-      left_none : end.left ≡ []
-      left_none = by_came (nil_right (firsts end.ran) end.left) end.none
+      -- a unit that no share has
+      module _ (e : At_end (S f g) laws_of u n (moves_of (S f g) (A f g) j.world) (came f c items u w.log) (is_loose c items u w.log)) where
+        -- nothing came of it, or its packets go to an instance that is there
+        by_came : {P : Type 0} → (firsts e.ran ++ e.left ≡ [] → P) → (j.world.target u < n → P) → P
+        by_came {P = P} none some = by_list (came f c items u w.log) refl
+          where
+            by_list : (ps : List ℕ) → came f c items u w.log ≡ ps → P
+            by_list [] k = none (none_in (firsts e.ran ++ e.left) (λ p. same_of e.flag (firsts e.ran ++ e.left) (came f c items u w.log) e.order p ∙ ap (stages.times p) k))
+            by_list (p ∷ ps) k = some (target_there e.two (packets items) (genuine f c items is) p ps (sym came_is ∙ k))
 
-      went_is : firsts end.ran ++ end.left ≡ went f c items u w.log
-      went_is = ap (λ xs. firsts end.ran ++ xs) left_none ∙ append-nil (firsts end.ran) ∙ sym end.done ∙ done_same f c items is n w j u
+        -- no packet is left
+        left_none : e.left ≡ []
+        left_none = by_came (nil_right (firsts e.ran) e.left) e.none
+
+        ran_is : firsts e.ran ≡ went f c items u w.log
+        ran_is = sym e.done ∙ done_is
+
+        went_is : firsts e.ran ++ e.left ≡ went f c items u w.log
+        went_is = ap (λ xs. firsts e.ran ++ xs) left_none ∙ append-nil (firsts e.ran) ∙ ran_is
+
+        moves_ended : Ended
+        moves_ended = record {
+          flag = e.flag;
+          order = order_same e.flag (firsts e.ran ++ e.left) (went f c items u w.log) (came f c items u w.log) went_is e.order;
+          flag_is = e.flag_is;
+          place = λ r h. by_came
+              (λ none. let went_none : went f c items u w.log ≡ [] = sym went_is ∙ none in let never : None ≡ Some r = ap (fold f c items None) (sym went_none) ∙ h in cc)
+              (λ few. live_there (j.world.target u) e.two few (Some r) (e.live ∙ fold_runs (S f g).F None e.ran ∙ ap (readings.fold (S f g).F None) (sym e.done) ∙ folds r h));
+        }
+
+      -- a unit of a share
+      share_ended : (e : Open_share) → Share_rests (S f g) (A f g) laws_of u n j.world (came_by f g w.log u) e → Ended
+      share_ended e s =
+          let home = sharing e s.its.found e.home s.its.home_in in
+          record {
+            flag = s.flag;
+            order = order_same s.flag (done_u (S f g) u j.world.done) (went f c items u w.log) (came f c items u w.log) done_is s.order;
+            flag_is = s.flag_is;
+            place = λ r h. live_there e.home home.0 home.1 (Some r) (s.live ∙ folds r h);
+          }
+
+      ended : Ended
+      ended = by_end (end_all (S f g) (A f g) laws_of u n j.world (omega (arith, count)) quiet sides (λ e found k inside. (sharing e found k inside).1) (came_by f g w.log u) (j.shown_is.every.unit u))
+        where
+          by_end : Ends_all (S f g) (A f g) laws_of u n j.world (came_by f g w.log u) → Ended
+          by_end (As_moves e) = moves_ended e
+          by_end (At_share e s) = share_ended e s
 
       all_went : is_loose c items u w.log ≡ false → went f c items u w.log ≡ came f c items u w.log
-      all_went off = sym went_is ∙ exact_of end.flag (firsts end.ran ++ end.left) (came f c items u w.log) (not_both end.flag (is_loose c items u w.log) end.flag_is off) end.order
+      all_went off = exact_of ended.flag (went f c items u w.log) (came f c items u w.log) (not_both ended.flag (is_loose c items u w.log) ended.flag_is off) ended.order
 
       each_once : (p : ℕ) → times p (went f c items u w.log) ≡ times p (came f c items u w.log)
-      each_once p = sym (same_times p (went f c items u w.log)) ∙ ap (stages.times p) (sym went_is) ∙ same_of end.flag (firsts end.ran ++ end.left) (came f c items u w.log) end.order p ∙ same_times p (came f c items u w.log)
+      each_once p = sym (same_times p (went f c items u w.log)) ∙ same_of ended.flag (went f c items u w.log) (came f c items u w.log) ended.order p ∙ same_times p (came f c items u w.log)
 
-      -- what is live at an instance that is there
-      live_there : (k : ℕ) → 2 ≤ k → k < n → live_in u (slice_get w.nodes k) ≡ finite.get (j.world.inst k).live u
-      live_there k two few =
-          let node = Instance (j.nodes.instance k) in
-          let found : slice_get w.nodes k ≡ Some node = slice_get-get_or w.nodes k node (rw nodes few) ∙ ap Some (j.nodes_are k few node ∙ instance_of j.nodes k two) in
-          ap (live_in u) found ∙ ap (λ x. finite.get x.live u) (j.shown_is.instances k two few).outline_is
-
-      has_record : (r : R) → fold f c items None (went f c items u w.log) ≡ Some r → (i : ℕ) × (live_at w i u ≡ Some r)
-      has_record r h = by_came
-          (λ none. let went_none : went f c items u w.log ≡ [] = sym went_is ∙ none in let never : None ≡ Some r = ap (fold f c items None) (sym went_none) ∙ h in cc)
-          (λ few. let two = end.two in
-          let at : instance_node (j.world.target u - 2) ≡ j.world.target u = omega (arith, two) in
-          (j.world.target u - 2, ap (λ k. live_in u (slice_get w.nodes k)) at ∙ live_there (j.world.target u) two few ∙ end.live ∙ fold_runs (S f g).F None end.ran ∙ ap (readings.fold (S f g).F None) end_done ∙ sym (fold_is None (went f c items u w.log)) ∙ h))
+      -- a live record has seen a front of what was processed, and the unit has no other: so it is the one that has seen all
+      live_is : (i : ℕ) (r : R) → live_at w i u ≡ Some r → fold f c items None (went f c items u w.log) ≡ Some r
+      live_is i r live = by_fold (fold f c items None (went f c items u w.log)) refl
         where
-          end_done : firsts end.ran ≡ went f c items u w.log
-          end_done = sym end.done ∙ done_same f c items is n w j u
+          front : IsOfFront f c items (went f c items u w.log) (Some r)
+          front = subst (λ o. IsOfFront f c items (went f c items u w.log) o) live (lives_front f c items is n w nodes j i u)
 
-    pub completed : Completed f c items w
-    completed = record { all_came = all_came; all_went = all_went; each_once = each_once; has_record = has_record; answered = answered; installed = installed }
+          by_fold : (o : Option R) → fold f c items None (went f c items u w.log) ≡ o → fold f c items None (went f c items u w.log) ≡ Some r
+          by_fold None e = let more = still_some f c items front.front (went f c items u w.log) r front.is_front front.folds in let never : None ≡ Some more.0 = sym e ∙ more.1 in cc
+          by_fold (Some s) e =
+              let at = ended.place s e in
+              let same : i ≡ at.0 = one_place f c items is n w nodes j u i at.0 r s live at.1 in
+              e ∙ sym at.1 ∙ ap (λ k. live_at w k u) (sym same) ∙ live
+
+    pub completed : (ends_last items ≡ true → (op : ℕ) (what : Order) → order_of items op ≡ Some what → length (answers_of op w.log) ≡ 1) → ((op : ℕ) (source destination : List ℕ) (filter : Filter) (keep : Bool) → order_of items op ≡ Some (order.Move source destination filter keep) → answers_of op w.log ≡ Done ∷ [] → times_installed op w.log ≡ 1) → Completed f c items w
+    completed answered installed = record { all_came = all_came; all_went = all_went; each_once = each_once; records_are = live_is; has_record = λ u. (ended u).place; answered = answered; installed = installed }
 
 module _ {F R : Type 0} (f : Semantics R) (laws : FunctionLaws f) (alloc : Global) (c : Config) (items : List Msg) (is : IsInput f.kind c items) where
   abbrev start : Network (Node F R) Msg Note

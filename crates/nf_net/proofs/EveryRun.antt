@@ -25,9 +25,8 @@ use Rattle.nf_net.specs.Promises.{Verdicts}
 use Rattle.net_world.specs.Window.{AllHome}
 use Rattle.answer_net.proofs.ArrivalLemmas.{arrivals_run}
 use Rattle.nf_net.proofs.ChunkMoves.{chunks_moved}
-use Rattle.nf_net.proofs.CompleteRuns.{complete_run, fold_is}
+use Rattle.nf_net.proofs.CompleteRuns.{complete_run}
 use Rattle.nf_net.proofs.OutputSteps.{outputs_run}
-use Rattle.nf_net.proofs.LiveRecords.{live_folds}
 use Rattle.path_net.proofs.RecordPromises.{one_place}
 use Rattle.answer_net.proofs.CommandPromises.{run_answers, no_rules}
 use Rattle.nf_net.proofs.JudgedRuns.{verdicts}
@@ -39,9 +38,9 @@ use Rattle.nf_net.proofs.SettleRuns.{settles}
 use Rattle.nf_net.proofs.SourceRuns.{stays_at_source}
 use Rattle.nf_net.proofs.StandbyRuns.{standbys}
 use Rattle.nf_net.proofs.WindowRuns.{window_kept, all_home}
-use Rattle.joined_net.proofs.StartJoined.{count_at_start}
+use Rattle.whole_joined.proofs.StartJoined.{count_at_start}
 use Rattle.actor_net.proofs.RunInduction.{run_world}
-use Rattle.joined_net.proofs.RunsJoined.{run_joined, start_world, in_order, once}
+use Rattle.whole_joined.proofs.RunsJoined.{run_joined, start_world, in_order, once}
 
 module _ (F : Type 0) {R : Type 0} (f : Semantics R) (laws : FunctionLaws f) (alloc : Global) (c : Config) (items : List Msg) (is : IsInput f.kind c items) (cs : List Choice) where
   abbrev w : Network (Node F R) Msg Note
@@ -61,8 +60,8 @@ module _ (F : Type 0) {R : Type 0} (f : Semantics R) (laws : FunctionLaws f) (al
         came_once = came_once f c items is w turn;
         each_in_place = each_in_place f c items is (length c.names + 2) refl w counted j reached.0 turn;
         outputs_are = outputs_run F f laws alloc c items is cs runs;
-        records_are = λ u i r live. live_folds f c items is (length c.names + 2) w counted j u i r live;
         places = places F f laws alloc c items is cs runs;
+        at_members = at_members F f laws alloc c items is cs runs;
         settles = settles F f laws alloc c items is cs runs (places F f laws alloc c items is cs runs);
         answers = run_answers F f laws alloc c items is cs runs;
         no_rules = no_rules F f laws alloc c items is cs runs;

@@ -15,7 +15,7 @@ use Rattle.nf_msgs.specs.declared.msg.Msg.{Msg}
 use Rattle.net_world.specs.declared.config.Config.{Config}
 use Rattle.net_world.specs.Input.{packet_of, most_counted, IsInput}
 use Rattle.net_world.specs.Fold.{IsFront, fold}
-use Rattle.joined_net.proofs.StartJoined.{all_fit}
+use Rattle.whole_joined.proofs.StartJoined.{all_fit}
 
 -- Fronts.
 pub front_same : (xs : List ℕ) → IsFront xs xs

@@ -1,6 +1,7 @@
 -- The controller's step keeps what is known of open moves and of their answers, asks once for a command's state, and puts one piece of it first.
 use Rattle.std.proofs.Common.{◌≡◌, ◌≢◌, ℕ, ◌+◌, ◌≤◌, Bool, true, false, cond, Option, Some, None, List, [], ◌∷◌, ◌++◌, refl, sym, ap, ◌∙◌, subst, arith}
 use Rattle.std.specs.Prelude.{if◌then◌else◌, ◌==◌, is_some, option_map, unwrap_or}
+use Rattle.std.specs.List.{filter_map}
 use Rattle.std.specs.Option.{option_or}
 use Rattle.std.specs.FinMap as finite
 use Rattle.std.proofs.lemmas.Bool.Decides.{nat_tests, Decides-eqb}
@@ -8,6 +9,7 @@ use Rattle.flow_filter.specs.declared.filter.Filter.{Filter}
 use Rattle.packet_pool.specs.Pool.{FullCell}
 use Rattle.event_filter.specs.declared.action.Action.TheVariants as action
 use Rattle.event_filter.specs.declared.mark.Mark.TheVariants.{Pass}
+use Rattle.switch_rules.specs.declared.target.Target.TheVariants as target
 use Rattle.nf_msgs.specs.declared.answer.Answer.{Answer}
 use Rattle.nf_msgs.specs.declared.answer.Answer.TheVariants.{Unknown, Overlap}
 use Rattle.nf_msgs.specs.declared.command.Order.{Order}
@@ -21,23 +23,25 @@ use Rattle.nf_msgs.specs.Nodes.{instance_node}
 use Rattle.nf_msgs.specs.Shown.{op_of}
 use Rattle.copy_share.specs.Copy.{CopyPlan, CopyState}
 use Rattle.copy_share.specs.Copy as copy
-use Rattle.copy_share.specs.Share.{ShareState}
+use Rattle.copy_share.specs.Share.{SharePlan, ShareState}
+use Rattle.copy_share.specs.Share as share
 use Rattle.move_op.specs.Move.{MovePlan, MoveState, Row, row_in, begun, answer_of, destination}
 use Rattle.event_store.specs.Store.{stored}
 use Rattle.ctrl_node.specs.declared.operation.Operation.{Operation}
 use Rattle.ctrl_node.specs.declared.operation.Operation.TheVariants.{Move, Copy, Share}
 use Rattle.ctrl_node.specs.Operations.{OpenOperations, turn_of, moved}
 use Rattle.ctrl_node.specs.Controller as controller
-use Rattle.ctrl_node.specs.Controller.{ControllerState, Step, still, refusal, place_of, begins_between, copies_between, begins, decided, on_asked, after_turn, takes_turn, handed, numbered, on_event, on_final, instance_at, unknown_name, overlap, may_finish, finished, controller_step}
+use Rattle.ctrl_node.specs.Controller.{ControllerState, Step, still, refusal, place_of, begins_between, copies_between, begins_share, begins, decided, on_asked, on_diverted, after_turn, takes_turn, handed, numbered, on_event, on_final, instance_at, unknown_name, overlap, may_finish, finished, controller_step}
 use Rattle.actor_net.proofs.WeightLaws.{EachSent, sent_weight}
 use Rattle.net_world.specs.Commands.{began}
 use Rattle.net_world.specs.Verdicts.{is_refusal}
-use Rattle.outline_net.proofs.OperationTables.{got_insert, got_remove, gone_twice, not_shared, handed_is as handed_turn}
+use Rattle.outline_net.proofs.OperationTables.{got_insert, got_remove, gone_twice, NotShared, handed_is as handed_turn}
 use Rattle.answer_net.proofs.ControllerActs.{other_there}
+use Rattle.answer_net.proofs.ShareTells.{Queues, Queues_none, Queues_at, queues}
+use Rattle.nf_net.proofs.JudgedShares.{handed_shared, queued_shared}
 use Rattle.nf_net.proofs.JudgedTables as tables
 use Rattle.nf_net.proofs.JudgedTables.{used, is_own, By_verdict, same_answer}
 use Rattle.outline_net.proofs.CopyTurns.{copy_turn}
-use Rattle.joined_net.proofs.KnownOperations.{NotSharing}
 use Rattle.answer_net.proofs.BusyLemmas.{began_same}
 use Rattle.answer_net.proofs.CreditCounts.{sent_weight-append}
 use Rattle.nf_net.proofs.MoveJudged.{Said, Knows, answer_known, row_follows, sent-append}
@@ -49,25 +53,24 @@ refused_is (Some name) q a is = subst (λ x. is_refusal x ≡ true) (ap (λ o. u
 refused_is None (Some k) a is = subst (λ x. is_refusal x ≡ true) (ap (λ o. unwrap_or o (Overlap k)) is) refl
 refused_is None None a is = cc
 
--- a command that a message brings didn't begin, and isn't to share; and no packet is diverted
+-- a command that a message brings didn't begin
 abbrev pub IsNew : List Note → Msg → Type 0
-IsNew log (msg.Asked a) = (began a.op log ≡ false) × NotSharing a.what
-IsNew log (msg.Diverted cell) = ⊥
+IsNew log (msg.Asked a) = began a.op log ≡ false
 IsNew log m = Unit {0}
 
 abbrev move_in : MoveState → Option Operation → MoveState
 move_in d (Some (Move m)) = m
 move_in d o = d
 
-module _ (Part : ℕ → Piece → Type 0) (Verdict : ℕ → Answer → Type 0) (Goes : ℕ → ℕ → Type 0) (Copied : ℕ → Type 0) (log : List Note) (n : ℕ) (c : ControllerState) where
+module _ (Part : ℕ → Piece → Type 0) (Verdict : ℕ → Answer → Type 0) (Goes : ℕ → ℕ → Type 0) (Still : ℕ → Type 0) (log : List Note) (n : ℕ) (c : ControllerState) where
   abbrev IsFound : ℕ → Answer → Type 0
-  IsFound = tables.IsFound Part Verdict Goes Copied log n c
+  IsFound = tables.IsFound Part Verdict Goes Still log n c
 
   abbrev AllKnow : OpenOperations → Type 0
-  AllKnow = tables.AllKnow Part Verdict Goes Copied log n c
+  AllKnow = tables.AllKnow Part Verdict Goes Still log n c
 
   abbrev pub StepIs : Step → Type 0
-  StepIs = tables.StepIs Part Verdict Goes Copied log n c
+  StepIs = tables.StepIs Part Verdict Goes Still log n c
 
   -- the finish behind all else
   finished_is : (did : Step) → StepIs did → StepIs (finished did)
@@ -91,10 +94,10 @@ module _ (Part : ℕ → Piece → Type 0) (Verdict : ℕ → Answer → Type 0)
 
   module _ (knows : AllKnow c.operations) where
     quiet_is : (s : ControllerState) (sends : List (ℕ × Msg)) → s.operations ≡ c.operations → EachSent (Said Part Verdict Goes) 1 sends → ((first : Bool) → NoneOnce n 1 first sends) → StepIs (record { node = s; sends = sends; notes = [] })
-    quiet_is = tables.quiet_is Part Verdict Goes Copied log n c knows
+    quiet_is = tables.quiet_is Part Verdict Goes Still log n c knows
 
     still_is : StepIs (still c)
-    still_is = tables.still_is Part Verdict Goes Copied log n c knows
+    still_is = tables.still_is Part Verdict Goes Still log n c knows
 
     -- an operation in place of one, or a new one
     knows_insert : (op : ℕ) (m : MoveState) → Knows Part Verdict Goes op m.phase → AllKnow (finite.insert c.operations op (Move m))
@@ -104,7 +107,7 @@ module _ (Part : ℕ → Piece → Type 0) (Verdict : ℕ → Answer → Type 0)
           | false ↦ λ off e. knows k x e
         ] refl (sym (got_insert c.operations op k (Move m)) ∙ there)
 
-    module _ (moves : (op : ℕ) (m : MoveState) → finite.get c.operations op ≡ Some (Move m) → (m.plan.op ≡ op) × Goes op (destination m.plan)) (copies : (op : ℕ) (y : CopyState) → finite.get c.operations op ≡ Some (Copy y) → (copy.answer_of y.phase ≡ None) × Copied op) (no_shares : (op : ℕ) (s : ShareState) → finite.get c.operations op ≢ Some (Share s)) (busy : (op : ℕ) (o : Operation) → finite.get c.operations op ≡ Some o → began op log ≡ true) where
+    module _ (moves : (op : ℕ) (m : MoveState) → finite.get c.operations op ≡ Some (Move m) → (m.plan.op ≡ op) × Goes op (destination m.plan)) (copies : (op : ℕ) (y : CopyState) → finite.get c.operations op ≡ Some (Copy y) → (copy.answer_of y.phase ≡ None) × Still op) (shares : (op : ℕ) (s : ShareState) → finite.get c.operations op ≡ Some (Share s) → (s.plan.op ≡ op) × Still op) (busy : (op : ℕ) (o : Operation) → finite.get c.operations op ≡ Some o → began op log ≡ true) where
       module _ (op port : ℕ) (m : Msg) (mv : MoveState) (there : finite.get c.operations op ≡ Some (Move mv)) (own : op_of m ≡ Some op) (label : Said Part Verdict Goes port 1 m) where
         abbrev r : Row
         r = row_in mv c.store port m
@@ -183,14 +186,30 @@ module _ (Part : ℕ → Piece → Type 0) (Verdict : ℕ → Answer → Type 0)
             gone : (k : ℕ) → finite.get (finite.remove (finite.insert c.operations op (Move x)) op) k ≡ cond (k == op) None (finite.get c.operations k)
             gone k = got_remove (finite.insert c.operations op (Move x)) op k ∙ ap (λ o. cond (k == op) None o) (got_insert c.operations op k (Move x)) ∙ gone_twice (k == op) (Some (Move x)) (finite.get c.operations k)
 
-      turn_is : (op port : ℕ) (m : Msg) (o : Option Operation) → finite.get c.operations op ≡ o → op_of m ≡ Some op → Said Part Verdict Goes port 1 m → StepIs (takes_turn c op (turn_of o c.store port m))
-      turn_is op port m None is own label = quiet_is (record c { operations = c.operations; store = c.store }) [] refl tt (λ first k. refl)
-      turn_is op port m (Some (Copy y)) is own label = tables.copy_is Part Verdict Goes Copied log n c knows op y is (copies op y is).1 (busy op (Copy y) is) m _ (copy_turn c op y (copies op y is).0 is port m)
-      turn_is op port m (Some (Share s)) is own label = absurd (no_shares op s is)
-      turn_is op port m (Some (Move mv)) is own label = turn_by op port m mv is own label (answer_of (row_in mv c.store port m).next.phase) refl
+      turn_is : (op port : ℕ) (m : Msg) (o : Option Operation) → finite.get c.operations op ≡ o → NotShared o → op_of m ≡ Some op → Said Part Verdict Goes port 1 m → StepIs (takes_turn c op (turn_of o c.store port m))
+      turn_is op port m (Some (Share s)) is no own label = absurd no
+      turn_is op port m None is no own label = quiet_is (record c { operations = c.operations; store = c.store }) [] refl tt (λ first k. refl)
+      turn_is op port m (Some (Copy y)) is no own label = tables.copy_is Part Verdict Goes Still log n c knows op y is (copies op y is).1 (busy op (Copy y) is) m _ (copy_turn c op y (copies op y is).0 is port m)
+      turn_is op port m (Some (Move mv)) is no own label = turn_by op port m mv is own label (answer_of (row_in mv c.store port m).next.phase) refl
 
       handed_is : (op port : ℕ) (m : Msg) → op_of m ≡ Some op → Said Part Verdict Goes port 1 m → StepIs (handed c op port m)
-      handed_is op port m own label = subst StepIs (sym (handed_turn c op port m (not_shared c.operations op (no_shares op)))) (turn_is op port m (finite.get c.operations op) refl own label)
+      handed_is op port m own label = by_got (finite.get c.operations op) refl
+        where
+          by_got : (o : Option Operation) → finite.get c.operations op ≡ o → StepIs (handed c op port m)
+          by_got (Some (Share s)) is = let it = shares op s is in handed_shared Part Verdict Goes Still log n c knows op s is it.1 (busy op (Share s) is) it.0 port m
+          by_got None is = other (subst NotShared (sym is) tt)
+          by_got (Some (Move mv)) is = other (subst NotShared (sym is) tt)
+          by_got (Some (Copy y)) is = other (subst NotShared (sym is) tt)
+
+          other : NotShared (finite.get c.operations op) → StepIs (handed c op port m)
+          other no = subst StepIs (sym (handed_turn c op port m no)) (turn_is op port m (finite.get c.operations op) refl no own label)
+
+      diverted_is : (cell : FullCell) → StepIs (on_diverted c cell)
+      diverted_is cell = by_queues (on_diverted c cell) (queues c cell)
+        where
+          by_queues : (did : Step) → Queues c cell did → StepIs did
+          by_queues did (Queues_none e) = subst StepIs (sym e) still_is
+          by_queues did (Queues_at op s is e) = let it = shares op s is in subst StepIs (sym e) (queued_shared Part Verdict Goes Still log n c knows op s is it.1 (busy op (Share s) is) it.0 cell)
 
       numbered_is : (port : ℕ) (m : Msg) (o : Option ℕ) → op_of m ≡ o → Said Part Verdict Goes port 1 m → StepIs (numbered c port m o)
       numbered_is port m None own label = still_is
@@ -209,6 +228,17 @@ module _ (Part : ℕ → Piece → Type 0) (Verdict : ℕ → Answer → Type 0)
 
       -- a command that waits, of which nothing is noted
       module _ (op : ℕ) (new : began op log ≡ false) (none : finite.get c.operations op ≡ None) where
+        -- before it began nothing was sent once for it
+        opened_more : (o : Operation) (k : ℕ) (first b : Bool) → (k == op) ≡ b → used (finite.get c.operations k) (began k log) first ≤ used (cond b (Some o) (finite.get c.operations k)) (began k (log ++ note.Begun op ∷ [])) first
+        opened_more o k first true on =
+            let it : k ≡ op = (Decides-eqb k op).0 on in
+            let zero : used (finite.get c.operations k) (began k log) first ≡ 0 = ap (λ j. used (finite.get c.operations j) (began j log) first) it ∙ ap (λ q. used q (began op log) first) none ∙ ap (λ b. if b then 1 else 0) new in
+            omega (arith, zero)
+        opened_more o k first false off =
+            let turned : (op == k) ≡ false = grind (arith, nat_tests, off) in
+            let same : began k (log ++ note.Begun op ∷ []) ≡ began k log = began_same k log (note.Begun op ∷ []) (rw turned refl) in
+            rw same (omega arith)
+
         between_is : (filter : Filter) (keep : Bool) (a b : Option ℕ) → StepIs (begins_between c op filter keep a b)
         between_is filter keep (Some from) (Some to) =
             let plan : MovePlan = record { op = op; from = from; to = to; filter = filter; keep = keep } in
@@ -220,16 +250,7 @@ module _ (Part : ℕ → Piece → Type 0) (Verdict : ℕ → Answer → Type 0)
               once = λ k first.
                   let sent = no_one n 1 first (from + 2) (msg.Enable op filter action.Drop) (λ y. refl) k in
                   let here : used (finite.get c.operations k) (began k log) first ≤ used (finite.get (finite.insert c.operations op (Move (begun plan))) k) (began k (log ++ note.Begun op ∷ [])) first =
-                  subst (λ o. used (finite.get c.operations k) (began k log) first ≤ used o (began k (log ++ note.Begun op ∷ [])) first) (sym (got_insert c.operations op k (Move (begun plan)))) (elim (k == op) as (λ b. (k == op) ≡ b → used (finite.get c.operations k) (began k log) first ≤ used (cond b (Some (Move (begun plan))) (finite.get c.operations k)) (began k (log ++ note.Begun op ∷ [])) first) [
-                    | true ↦ λ on.
-                        let it : k ≡ op = (Decides-eqb k op).0 on in
-                        let zero : used (finite.get c.operations k) (began k log) first ≡ 0 = ap (λ j. used (finite.get c.operations j) (began j log) first) it ∙ ap (λ o. used o (began op log) first) none ∙ ap (λ b. if b then 1 else 0) new in
-                        omega (arith, zero)
-                    | false ↦ λ off.
-                        let turned : (op == k) ≡ false = grind (arith, nat_tests, off) in
-                        let same : began k (log ++ note.Begun op ∷ []) ≡ began k log = began_same k log (note.Begun op ∷ []) (rw turned refl) in
-                        rw same (omega arith)
-                  ] refl) in
+                  subst (λ o. used (finite.get c.operations k) (began k log) first ≤ used o (began k (log ++ note.Begun op ∷ [])) first) (sym (got_insert c.operations op k (Move (begun plan)))) (opened_more (Move (begun plan)) k first (k == op) refl) in
                   omega (arith, sent, here);
             }
         between_is filter keep None b = still_is
@@ -272,14 +293,30 @@ module _ (Part : ℕ → Piece → Type 0) (Verdict : ℕ → Answer → Type 0)
         copies_is filter None b = still_is
         copies_is filter (Some from) None = still_is
 
-        begins_is : (what : Order) → NotSharing what → StepIs (begins c op what)
-        begins_is (order.Move source destination filter keep) built = between_is filter keep (place_of c.names source) (place_of c.names destination)
-        begins_is (order.Copy source destination filter) built = copies_is filter (place_of c.names source) (place_of c.names destination)
-        begins_is (order.Share members filter) built = absurd built
+        shares_is : (filter : Filter) (members : List ℕ) → StepIs (begins_share c op filter members)
+        shares_is filter [] = still_is
+        shares_is filter (home ∷ others) =
+            let plan : SharePlan = record { op = op; members = home ∷ others; filter = filter; site = c.site } in
+            record {
+              knows = λ k x e. knows k x (other_there (k == op) (Some (Share (share.begun plan))) (finite.get c.operations k) x tt (sym (got_insert c.operations op k (Share (share.begun plan))) ∙ e));
+              says = (tt, tt);
+              found = λ k a is. cc;
+              own = (refl, tt);
+              once = λ k first.
+                  let sent = no_one n 1 first 0 (msg.Install op filter home target.Controller) (λ y. refl) k in
+                  let here : used (finite.get c.operations k) (began k log) first ≤ used (finite.get (finite.insert c.operations op (Share (share.begun plan))) k) (began k (log ++ note.Begun op ∷ [])) first =
+                  subst (λ o. used (finite.get c.operations k) (began k log) first ≤ used o (began k (log ++ note.Begun op ∷ [])) first) (sym (got_insert c.operations op k (Share (share.begun plan)))) (opened_more (Share (share.begun plan)) k first (k == op) refl) in
+                  omega (arith, sent, here);
+            }
 
-        decided_is : (what : Order) → NotSharing what → (o : Option Answer) → refusal c what ≡ o → StepIs (decided c op what o)
-        decided_is what built None is = begins_is what built
-        decided_is what built (Some a) is =
+        begins_is : (what : Order) → StepIs (begins c op what)
+        begins_is (order.Move source destination filter keep) = between_is filter keep (place_of c.names source) (place_of c.names destination)
+        begins_is (order.Copy source destination filter) = copies_is filter (place_of c.names source) (place_of c.names destination)
+        begins_is (order.Share members filter) = shares_is filter (filter_map (place_of c.names) members)
+
+        decided_is : (what : Order) → (o : Option Answer) → refusal c what ≡ o → StepIs (decided c op what o)
+        decided_is what None is = begins_is what
+        decided_is what (Some a) is =
             let cause = refused_is (unknown_name c what) (overlap c what) a is in
             record {
               knows = knows;
@@ -299,16 +336,16 @@ module _ (Part : ℕ → Piece → Type 0) (Verdict : ℕ → Answer → Type 0)
                   omega (arith, sent, here);
             }
 
-      asked_is : (op : ℕ) (what : Order) → NotSharing what → began op log ≡ false → StepIs (on_asked c (record { op = op; what = what }))
-      asked_is op what built new = by_got (finite.get c.operations op) refl
+      asked_is : (op : ℕ) (what : Order) → began op log ≡ false → StepIs (on_asked c (record { op = op; what = what }))
+      asked_is op what new = by_got (finite.get c.operations op) refl
         where
           by_got : (o : Option Operation) → finite.get c.operations op ≡ o → StepIs (if is_some o then still c else decided c op what (refusal c what))
-          by_got None is = decided_is op new is what built (refusal c what) refl
+          by_got None is = decided_is op new is what (refusal c what) refl
           by_got (Some x) is = still_is
 
       row_is : (port : ℕ) (m : Msg) → Said Part Verdict Goes port 1 m → IsNew log m → StepIs (controller.row c port m)
-      row_is port (msg.Asked a) label new = elim (port == 0) as (λ b. StepIs (if b then on_asked c a else still c)) [ true ↦ asked_is a.op a.what new.1 new.0 | false ↦ still_is ]
-      row_is port (msg.Diverted cell) label new = absurd new
+      row_is port (msg.Asked a) label new = elim (port == 0) as (λ b. StepIs (if b then on_asked c a else still c)) [ true ↦ asked_is a.op a.what new | false ↦ still_is ]
+      row_is port (msg.Diverted cell) label new = elim (port == 0) as (λ b. StepIs (if b then on_diverted c cell else still c)) [ true ↦ diverted_is cell | false ↦ still_is ]
       row_is port msg.End label new = elim (port == 0) as (λ b. StepIs (if b then still (record c { end_came = true }) else still c)) [ true ↦ quiet_is _ [] refl tt (λ first op. refl) | false ↦ still_is ]
       row_is port (msg.Event op cell) label new = event_is port op cell (instance_at c port)
       row_is port msg.Final label new = final_is (instance_at c port)

@@ -3,13 +3,11 @@ use Rattle.std.proofs.Common.{◌≡◌, ℕ, ◌+◌, Bool, true, false, Option
 use Rattle.std.specs.Prelude.{if◌then◌else◌, ◌&&◌, ◌||◌, ◌==◌, nat_lt}
 use Rattle.std.specs.List.{list_any}
 use Rattle.std.specs.FinMap as finite
-use Rattle.flow_filter.specs.declared.filter.Filter.{Filter}
 use Rattle.nf_function.specs.declared.unit.Unit as units
 use Rattle.nf_function.specs.Semantics.{Semantics}
 use Rattle.state_chunk.specs.Format.{version_number}
 use Rattle.nf_msgs.specs.declared.answer.Answer.{Answer}
 use Rattle.nf_msgs.specs.declared.answer.Answer.TheVariants.{Done, Import, Old}
-use Rattle.nf_msgs.specs.declared.command.Order.TheVariants as order
 use Rattle.nf_msgs.specs.declared.msg.Piece.{Piece}
 use Rattle.nf_msgs.specs.declared.msg.Msg.{Msg}
 use Rattle.nf_msgs.specs.declared.msg.Msg.TheVariants as msg
@@ -27,8 +25,9 @@ use Rattle.net_world.specs.Commands.{began}
 use Rattle.net_world.specs.Input.{order_of}
 use Rattle.net_world.specs.Nodes.{node_step}
 use Rattle.net_world.specs.Verdicts.{Weighed, verdict, is_refusal, exported, before_export, is_timed, receiver_of, IsWeighed, IsTakenAfter}
+use Rattle.answer_net.proofs.InstallSteps.{is_moving}
 use Rattle.nf_net.proofs.JudgedInstance.{answer_by}
-use Rattle.joined_net.proofs.LogLemmas.{has_begun-append}
+use Rattle.whole_joined.proofs.LogLemmas.{has_begun-append}
 use Rattle.nf_net.proofs.MoveJudged.{Said, Knows}
 use Rattle.nf_net.proofs.VerdictLemmas.{exported_kept, before_export_kept, taken_more}
 use Rattle.move_op.specs.declared.door.Door.TheVariants as door
@@ -71,12 +70,9 @@ module _ {F R : Type 0} (f : Semantics R) (c : Config) (items : List Msg) (start
     pub at_destination : is_taken.choice.node ≡ instance_node are_weighed.destination
     pub answer_is : answer ≡ verdict weighed
 
-  -- the command is to copy
-  pub record IsCopied (op : ℕ) : Type 0 where
-    pub source : List ℕ
-    pub destination : List ℕ
-    pub filter : Option Filter
-    pub order_is : order_of items op ≡ Some (order.Copy source destination filter)
+  -- the command moves no units
+  abbrev pub IsStill : ℕ → Type 0
+  IsStill op = is_moving (order_of items op) ≡ false
 
   pub part_kept : (log notes : List Note) (op : ℕ) (piece : Piece) → IsPart log op piece → IsPart (log ++ notes) op piece
   part_kept log notes op piece h = record {
@@ -90,11 +86,11 @@ module _ {F R : Type 0} (f : Semantics R) (c : Config) (items : List Msg) (start
   unfolding taken_more
   verdict_kept cs d op answer h = record { front = h.front; is_taken = taken_more f op start cs h.front d h.is_taken; weighed = h.weighed; are_weighed = h.are_weighed; at_destination = h.at_destination; answer_is = h.answer_is }
 
-  -- a command was refused, or it began and is answered by its verdict, or as a copy
+  -- a command was refused, or it began and is answered by its verdict, or that it is done, where it moves no units
   pub data IsFound (cs : List Choice) (log : List Note) (op : ℕ) (answer : Answer) : Type 0 where
     Was_refused : is_refusal answer ≡ true → IsFound cs log op answer
     Was_judged : began op log ≡ true → HasVerdict cs op answer → IsFound cs log op answer
-    Was_copied : began op log ≡ true → IsCopied op → answer ≡ Done → IsFound cs log op answer
+    Was_still : began op log ≡ true → IsStill op → answer ≡ Done → IsFound cs log op answer
 
   or_kept : (a b : Bool) → a ≡ true → a || b ≡ true
   or_kept true b h = refl
@@ -105,7 +101,7 @@ module _ {F R : Type 0} (f : Semantics R) (c : Config) (items : List Msg) (start
 
   pub found_kept : (cs : List Choice) (d : Choice) (log notes : List Note) (op : ℕ) (answer : Answer) → IsFound cs log op answer → IsFound (cs ++ d ∷ []) (log ++ notes) op answer
   found_kept cs d log notes op answer (Was_refused h) = Was_refused h
-  found_kept cs d log notes op answer (Was_copied b h e) = Was_copied (began_kept op log notes b) h e
+  found_kept cs d log notes op answer (Was_still b h e) = Was_still (began_kept op log notes b) h e
   found_kept cs d log notes op answer (Was_judged b h) = Was_judged (began_kept op log notes b) (verdict_kept cs d op answer h)
 
 -- What is known goes on with the facts that it is made of.

@@ -11,6 +11,7 @@ use Rattle.flow_filter.specs.declared.packet.Packet.{Packet}
 use Rattle.nf_function.specs.declared.chunk.Chunk.{Chunk}
 use Rattle.nf_function.specs.declared.unit.Unit as units
 use Rattle.nf_function.specs.Records.{Laws as FunctionLaws}
+use Rattle.nf_function.specs.Units as filters
 use Rattle.nf_function.specs.Semantics.{Semantics}
 use Rattle.state_chunk.specs.Format.{version_number}
 use Rattle.packet_pool.specs.Pool.{FullCell, one_more}
@@ -29,8 +30,9 @@ use Rattle.nf_msgs.specs.Nodes.{instance_node}
 use Rattle.move_op.specs.Move.{MoveState, destination}
 use Rattle.copy_share.specs.Copy.{CopyState}
 use Rattle.copy_share.specs.Copy as copy
+use Rattle.copy_share.specs.Share.{ShareState}
 use Rattle.ctrl_node.specs.declared.operation.Operation.{Operation}
-use Rattle.ctrl_node.specs.declared.operation.Operation.TheVariants.{Move, Copy}
+use Rattle.ctrl_node.specs.declared.operation.Operation.TheVariants.{Move, Copy, Share}
 use Rattle.ctrl_node.specs.Controller.{controller_step}
 use Rattle.switch_node.specs.Switch as switches
 use Rattle.switch_node.specs.Switch.{SwitchState, switch_step, sends_to_instance, on_packet, on_credit, on_install}
@@ -44,7 +46,6 @@ use Rattle.actor_net.proofs.RunInduction.{run_world}
 use Rattle.actor_net.proofs.StepOutcome.{Takes, taken_outcome}
 use Rattle.actor_net.proofs.WeightLaws.{EachSent, total_after, sent_weight}
 use Rattle.unit_machine.proofs.Labels.{Each}
-use Rattle.abstract_net.proofs.Readings as readings
 use Rattle.net_world.specs.declared.config.Config.{Config}
 use Rattle.net_world.specs.declared.node.Node.{Node}
 use Rattle.net_world.specs.declared.node.Node.TheVariants.{Controller, Instance}
@@ -58,25 +59,25 @@ use Rattle.answer_net.proofs.BusyLemmas.{or_off}
 use Rattle.answer_net.proofs.BusyNodes.{switch_hands, instance_says}
 use Rattle.answer_net.proofs.BusyController.{told_in}
 use Rattle.answer_net.proofs.BusyOperations.{IsBusy}
-use Rattle.answer_net.proofs.BusyRuns.{Busy, same_controller, busy_is, plan_is}
+use Rattle.answer_net.proofs.BusyRuns.{Busy, same_controller, open_began, plan_is}
+use Rattle.answer_net.proofs.InstallSteps.{is_moving}
 use Rattle.answer_net.proofs.CommandPromises.{run_busy}
-use Rattle.nf_net.proofs.CompleteRuns.{fold_is}
-use Rattle.nf_net.proofs.GivenState.{IsOf, pieces_of, Gives, selected_give, record_timed}
-use Rattle.joined_net.proofs.Joined.{Given, Label, S, Joined, node_of}
-use Rattle.joined_net.proofs.KnownOperations.{not_sharing}
-use Rattle.joined_net.proofs.JoinedSteps.{label, step_leads}
+use Rattle.nf_net.proofs.GivenState.{IsOf, pieces_of, Gives, record_timed}
+use Rattle.nf_net.proofs.MovedRecords.{streamed_record, taken_give}
+use Rattle.whole_joined.proofs.Given.{Given}
+use Rattle.whole_joined.proofs.Joined.{Label, Joined, node_of}
+use Rattle.outline_net.proofs.FiltersApart.{is_whole}
 use Rattle.nf_net.proofs.JudgedController.{IsNew, controller_judges}
-use Rattle.nf_net.proofs.JudgedTables.{used, used_few, is_own, IsDue, By_verdict, By_copy}
-use Rattle.nf_net.proofs.JudgedFacts.{answer_is, IsCopied, IsFound, Was_refused, Was_judged, Was_copied, began_kept, knows_kept}
+use Rattle.nf_net.proofs.JudgedTables.{used, used_few, is_own, IsDue, By_verdict, By_still}
+use Rattle.nf_net.proofs.JudgedFacts.{answer_is, IsStill, IsFound, Was_refused, Was_judged, Was_still, began_kept, knows_kept}
 use Rattle.nf_net.proofs.JudgedInstance.{answer_by, IsReady, instance_does}
 use Rattle.nf_net.proofs.JudgedSteps as steps
 use Rattle.nf_net.proofs.JudgedSteps.{Judging, Leaves, IsFixed, no_stream_to, none_once}
 use Rattle.answer_net.proofs.LinePicks.{at_controller as way_at_controller}
 use Rattle.nf_net.proofs.MoveJudged.{Said, Knows}
 use Rattle.answer_net.proofs.MoveOnce.{once}
-use Rattle.path_net.proofs.RecordPromises.{record_is}
-use Rattle.joined_net.proofs.RunsJoined.{start_world, done_same}
-use Rattle.joined_net.proofs.StartJoined.{given, all_fit, count_at_start}
+use Rattle.whole_joined.proofs.RunsJoined.{run_beside, start_world}
+use Rattle.whole_joined.proofs.StartJoined.{given, all_fit, count_at_start}
 use Rattle.nf_net.proofs.VerdictLemmas.{times_given, none_exported, exported_new, before_export_new}
 
 -- The switch and the controller note nothing of state that is given.
@@ -118,10 +119,6 @@ module _ (op : ℕ) where
   own_given (note.Answered j answer ∷ notes) h = own_given notes h.1
   own_given (n ∷ notes) h = let never = h.0 in cc
 
-busy_began : (a b : Bool) → a && not b ≡ true → a ≡ true
-busy_began true b h = refl
-busy_began false b h = cc
-
 -- What the switch sends, nothing is to be known of.
 module _ {R : Type 0} (f : Semantics R) (g : Given) (P : ℕ → Piece → Type 0) (V : ℕ → Answer → Type 0) (G : ℕ → ℕ → Type 0) where
   switch_said : (r : ℕ) (m : Msg) → Label f g 0 r m → Said P V G 0 r m
@@ -162,7 +159,7 @@ module _ (F : Type 0) {R : Type 0} (f : Semantics R) (laws : FunctionLaws f) (al
   w = run step cs (steps.start F f alloc c items is)
 
   abbrev j : Joined f g n w
-  j = (run_busy F f laws alloc c items is cs run_is).0
+  j = (run_beside F f laws alloc c items is cs run_is).joined
 
   abbrev b : Busy g w
   b = (run_busy F f laws alloc c items is cs run_is).1
@@ -176,24 +173,16 @@ module _ (F : Type 0) {R : Type 0} (f : Semantics R) (laws : FunctionLaws f) (al
   abbrev Goes : ℕ → ℕ → Type 0
   Goes = steps.Goes F f alloc c items is
 
-  -- a live record is that of its unit's packets
-  record_by : (u : units.Unit) (i : ℕ) (r : R) → live_at w i u ≡ Some r → fold f c items None (went f c items u w.log) ≡ Some r
-  record_by u i r live =
-      let counted = (run_world node_ready step n (steps.start F f alloc c items is) (start_world F f laws alloc c items is) (count_at_start F f alloc c items is) cs run_is).1 in
-      fold_is f c items is None (went f c items u w.log) ∙ ap (λ ps. readings.fold (S f g).F None ps) (sym (done_same f c items is n w j u)) ∙ record_is f c items is n w counted j u i r live
-
   module _ (h : Judging F f alloc c items is cs w w.log) (p : ℕ) (rest : List Msg) where
     abbrev Leads : (k : ℕ) (m : Msg) → Takes step n w k p (node_of j.nodes k) m rest → Type 0
     Leads k m takes = Leaves F f alloc c items is cs w refl h k p (node_of j.nodes k) m rest takes
 
-    abbrev WasReady : ℕ → Msg → Type 0
-    WasReady k m = is_input (at k p) ≡ true → node_ready (node_of j.nodes k) m ≡ true
+    abbrev AreLabelled : ℕ → Msg → Type 0
+    AreLabelled k m = EachSent (Label f g) k (step (node_of j.nodes k) p m).sends
 
-    at_switch : (m : Msg) (takes : Takes step n w 0 p (node_of j.nodes 0) m rest) → WasReady 0 m → Leads 0 m takes
-    at_switch m takes ready =
+    at_switch : (m : Msg) (takes : Takes step n w 0 p (node_of j.nodes 0) m rest) → Label f g p 0 m → AreLabelled 0 m → Leads 0 m takes
+    at_switch m takes labelled labels =
         let s = j.nodes.switch in
-        let labelled = label f laws g (all_fit f c items is) n refl w 0 p m rest j takes ready in
-        let labels = (step_leads f laws g (all_fit f c items is) n refl w 0 p m rest j takes ready).labels in
         steps.leaves_other F f alloc c items is cs w refl h 0 p (node_of j.nodes 0) m rest takes (λ never. cc) (switch_hands f g s p m labelled).notes_are labels
         (switch_says f g (Part (w.log ++ (switch_step s m).notes)) (Verdict (cs ++ at 0 p ∷ [])) Goes (switch_step s m).sends labels)
         (λ op. switch_given op s m ∙ sym (no_stream_to f g op p 0 m (omega arith) labelled))
@@ -205,41 +194,41 @@ module _ (F : Type 0) {R : Type 0} (f : Semantics R) (laws : FunctionLaws f) (al
         let plan = plan_is f g n refl w j b op x there in
         ((j.shown_is.controller.moves op x there).op_is, record { destination = x.plan.to; destination_is = ap (receiver_of c) plan.order_is ∙ plan.to_is; node_is = refl })
 
-    open_began : (op : ℕ) (x : Operation) → finite.get j.nodes.controller.operations op ≡ Some x → began op w.log ≡ true
-    open_began op x there = busy_began (began op w.log) (has_answered op w.log) (sym (busy_is f g n refl w j b op) ∙ ap is_some there)
-
     new_of : (m : Msg) (takes : Takes step n w 1 p (node_of j.nodes 1) m rest) → Label f g p 1 m → IsNew w.log m
     new_of (msg.Asked a) takes labelled =
         let from : told_in (msg.Asked a) ≡ (if 0 == p then told_in (msg.Asked a) else []) = (let sender = labelled.0 in rw sender refl) in
         let same = way_at_controller told_in step n (omega arith) w p (node_of j.nodes 1) (msg.Asked a) rest takes from in
         let first = subst (λ xs. IsBusy g b.controller.operations w.log xs) same b.is in
-        ((or_off (began a.op w.log) (has_answered a.op w.log) (first.unnoted a.op first.rising.0)).0, not_sharing f g a.what labelled.2.built)
-    new_of (msg.Diverted cell) takes labelled = absurd labelled
+        (or_off (began a.op w.log) (has_answered a.op w.log) (first.unnoted a.op first.rising.0)).0
     new_of m takes labelled = tt
 
-    abbrev Copied : ℕ → Type 0
-    Copied = IsCopied f c items (steps.start F f alloc c items is)
+    abbrev Still : ℕ → Type 0
+    Still = IsStill f c items (steps.start F f alloc c items is)
 
-    copies : (op : ℕ) (x : CopyState) → finite.get j.nodes.controller.operations op ≡ Some (Copy x) → (copy.answer_of x.phase ≡ None) × Copied op
+    copies : (op : ℕ) (x : CopyState) → finite.get j.nodes.controller.operations op ≡ Some (Copy x) → (copy.answer_of x.phase ≡ None) × Still op
     copies op x there =
         let it = j.shown_is.controller.copies op x there in
-        (it.going, record { source = it.plan.source; destination = it.plan.destination; filter = x.plan.filter; order_is = ap g.orders (sym it.op_is) ∙ it.plan.order_is })
+        (it.going, ap is_moving (ap g.orders (sym it.op_is) ∙ it.plan.order_is))
 
-    due_found : (later : List Choice) (log : List Note) (op : ℕ) (a : Answer) → began op log ≡ true → IsDue (Part log) (Verdict later) Goes Copied w.log n j.nodes.controller op a → IsFound f c items (steps.start F f alloc c items is) later log op a
+    shares : (op : ℕ) (x : ShareState) → finite.get j.nodes.controller.operations op ≡ Some (Share x) → (x.plan.op ≡ op) × Still op
+    shares op x there =
+        let it = j.shown_is.controller.shared op x there in
+        (it.op_is, ap is_moving (ap g.orders (sym it.op_is) ∙ it.plan.order_is))
+
+    due_found : (later : List Choice) (log : List Note) (op : ℕ) (a : Answer) → began op log ≡ true → IsDue (Part log) (Verdict later) Goes Still w.log n j.nodes.controller op a → IsFound f c items (steps.start F f alloc c items is) later log op a
     due_found later log op a on (By_verdict v) = Was_judged on v
-    due_found later log op a on (By_copy copied done) = Was_copied on copied done
+    due_found later log op a on (By_still still done) = Was_still on still done
 
-    at_controller : (m : Msg) (takes : Takes step n w 1 p (node_of j.nodes 1) m rest) → WasReady 1 m → Leads 1 m takes
-    at_controller m takes ready =
+    at_controller : (m : Msg) (takes : Takes step n w 1 p (node_of j.nodes 1) m rest) → Label f g p 1 m → Leads 1 m takes
+    at_controller m takes labelled =
         let s = j.nodes.controller in
-        let labelled = label f laws g (all_fit f c items is) n refl w 1 p m rest j takes ready in
         let log = w.log ++ (controller_step s p m).notes in
         let later = cs ++ at 1 p ∷ [] in
         let same : h.controller ≡ s = same_controller {F = F} {R = R} h.controller s (sym (h.controller_is (Controller h.controller)) ∙ j.nodes_are 1 takes.receiver (Controller h.controller)) in
         let part = steps.part F f alloc c items is cs w refl h 1 p (node_of j.nodes 1) m rest takes in
         let judged = steps.judged F f alloc c items is cs w refl h 1 p (node_of j.nodes 1) m rest takes in
         let known : (op : ℕ) (x : MoveState) → finite.get s.operations op ≡ Some (Move x) → Knows (Part log) (Verdict later) Goes op x.phase = λ op x there. knows_kept (Part w.log) (Part log) (Verdict cs) (Verdict later) Goes part judged op x.phase (h.knows op x (ap (λ y. finite.get y.operations op) same ∙ there)) in
-        let did = controller_judges (Part log) (Verdict later) Goes Copied w.log n s known moves copies j.shown_is.controller.no_shares open_began p m (steps.said_later F f alloc c items is cs w refl h 1 p (node_of j.nodes 1) m rest takes) (new_of m takes labelled) in
+        let did = controller_judges (Part log) (Verdict later) Goes Still w.log n s known moves copies shares (open_began f g n refl w j b) p m (steps.said_later F f alloc c items is cs w refl h 1 p (node_of j.nodes 1) m rest takes) (new_of m takes labelled) in
         record {
           controller = (controller_step s p m).node;
           controller_is = (taken_outcome step n w 1 p (node_of j.nodes 1) m rest takes).own;
@@ -272,9 +261,9 @@ module _ (F : Type 0) {R : Type 0} (f : Semantics R) (laws : FunctionLaws f) (al
         fixed_here : IsFixed F f alloc c items is y i
         fixed_here = h.fixed y (omega (arith, small)) i (λ d. j.nodes_are k small d)
 
-        -- whether a live record has a time
-        timed_is : (u : units.Unit) (r : R) → finite.get i.table.live u ≡ Some r → f.is_timed r ≡ is_timed f c items u w.log
-        timed_is u r got = record_timed f laws c items (all_fit f c items is) (went f c items u w.log) r (record_by u y r (ap (live_in u) there ∙ got))
+        -- whether a live record of a unit that is asked for has a time
+        timed_is : (op : ℕ) (filter : Filter) → Takes step n w k p (Instance i) (msg.Stream op filter) rest → is_whole f.kind filter ≡ true → (u : units.Unit) (r : R) → filters.takes filter u ≡ true → finite.get i.table.live u ≡ Some r → f.is_timed r ≡ is_timed f c items u w.log
+        timed_is op filter takes whole u r on got = record_timed f laws c items (all_fit f c items is) (went f c items u w.log) r (streamed_record f c items is n w j k p (omega arith) small takes.sender op filter rest takes.waits whole u r on got)
 
         part_of : (op : ℕ) (chunks : List Chunk) (log : List Note) → exported op log ≡ Some (units_in chunks) → before_export op log ≡ w.log → Gives f laws (λ u. is_timed f c items u w.log) chunks → (ps : List Piece) → Each (IsOf (whole_of chunks)) ps → Each (Part log op) ps
         part_of op chunks log units_are before gives [] each = tt
@@ -289,20 +278,19 @@ module _ (F : Type 0) {R : Type 0} (f : Semantics R) (laws : FunctionLaws f) (al
         )
 
         -- the pieces of a stream say what is noted that is given
-        streamed : (op : ℕ) (filter : Filter) → exported op w.log ≡ None → Each (Part (w.log ++ (instance_step f i (msg.Stream op filter)).notes) op) (pieces (selected f i filter))
-        streamed op filter none =
+        streamed : (op : ℕ) (filter : Filter) → Takes step n w k p (Instance i) (msg.Stream op filter) rest → is_whole f.kind filter ≡ true → exported op w.log ≡ None → Each (Part (w.log ++ (instance_step f i (msg.Stream op filter)).notes) op) (pieces (selected f i filter))
+        streamed op filter takes whole none =
             let chunks = selected f i filter in
             let notes = note.Exported i.index op (units_in chunks) ∷ [] in
             let own : (op == op) ≡ true = grind (arith, nat_tests) in
             let units_are : exported op (w.log ++ notes) ≡ Some (units_in chunks) = exported_new op w.log notes none ∙ rw own refl in
             let before : before_export op (w.log ++ notes) ≡ w.log = before_export_new op w.log notes none ∙ ap (λ t. w.log ++ (if t then [] else notes)) own ∙ append-nil w.log in
-            subst (λ ns. Each (Part (w.log ++ ns) op) (pieces chunks)) (sym (stream_notes f i op filter)) (part_of op chunks (w.log ++ notes) units_are before (selected_give f laws filter i.table.live (λ u. is_timed f c items u w.log) timed_is) (pieces chunks) (pieces_of chunks))
+            subst (λ ns. Each (Part (w.log ++ ns) op) (pieces chunks)) (sym (stream_notes f i op filter)) (part_of op chunks (w.log ++ notes) units_are before (taken_give filter f laws i.table.live (λ u. is_timed f c items u w.log) (timed_is op filter takes whole)) (pieces chunks) (pieces_of chunks))
 
       -- nothing was given before a stream is taken
-      none_before : (op : ℕ) (filter : Filter) (takes : Takes step n w k p (Instance i) (msg.Stream op filter) rest) → WasReady k (msg.Stream op filter) → exported op w.log ≡ None
-      none_before op filter takes ready =
+      none_before : (op : ℕ) (filter : Filter) (takes : Takes step n w k p (Instance i) (msg.Stream op filter) rest) → AreLabelled k (msg.Stream op filter) → exported op w.log ≡ None
+      none_before op filter takes labels =
           let m = msg.Stream op filter in
-          let labels = (step_leads f laws g (all_fit f c items is) n refl w k p m rest j takes ready).labels in
           let weight = total_after step n w k p (Instance i) m rest takes (once false op) in
           let none = none_once f g op false n k (step (Instance i) p m).sends (λ never. absurd (omega (arith, never))) labels in
           let own : (op == op) ≡ true = grind (arith, nat_tests) in
@@ -336,19 +324,17 @@ module _ (F : Type 0) {R : Type 0} (f : Semantics R) (laws : FunctionLaws f) (al
             answer_is = answer_is i piece timed part.newest;
           }
 
-      ready_for : (m : Msg) (takes : Takes step n w k p (Instance i) m rest) → WasReady k m → Label f g p k m → steps.SaidBy F f alloc c items is cs w.log p k m → steps.SaidBy F f alloc c items is (cs ++ at k p ∷ []) (w.log ++ (instance_step f i m).notes) p k m → IsReady (Part (w.log ++ (instance_step f i m).notes)) (Verdict (cs ++ at k p ∷ [])) Goes k f i m
-      ready_for (msg.Stream op filter) takes ready labelled said later = streamed takes.receiver op filter (none_before op filter takes ready)
-      ready_for (msg.Put op piece true) takes ready labelled said later = judged_first op piece takes said.0 said.1
-      ready_for (msg.Put op piece false) takes ready labelled said later = later
-      ready_for m takes ready labelled said later = tt
+      ready_for : (m : Msg) (takes : Takes step n w k p (Instance i) m rest) → AreLabelled k m → Label f g p k m → steps.SaidBy F f alloc c items is cs w.log p k m → steps.SaidBy F f alloc c items is (cs ++ at k p ∷ []) (w.log ++ (instance_step f i m).notes) p k m → IsReady (Part (w.log ++ (instance_step f i m).notes)) (Verdict (cs ++ at k p ∷ [])) Goes k f i m
+      ready_for (msg.Stream op filter) takes labels labelled said later = streamed takes.receiver op filter takes labelled.1 (none_before op filter takes labels)
+      ready_for (msg.Put op piece true) takes labels labelled said later = judged_first op piece takes said.0 said.1
+      ready_for (msg.Put op piece false) takes labels labelled said later = later
+      ready_for m takes labels labelled said later = tt
 
-      at_instance : (m : Msg) (takes : Takes step n w k p (Instance i) m rest) → WasReady k m → Leads k m takes
-      at_instance m takes ready =
-          let labelled = label f laws g (all_fit f c items is) n refl w k p m rest j takes ready in
-          let labels = (step_leads f laws g (all_fit f c items is) n refl w k p m rest j takes ready).labels in
+      at_instance : (m : Msg) (takes : Takes step n w k p (Instance i) m rest) → Label f g p k m → AreLabelled k m → Leads k m takes
+      at_instance m takes labelled labels =
           let log = w.log ++ (instance_step f i m).notes in
           let later = cs ++ at k p ∷ [] in
-          let does = instance_does (Part log) (Verdict later) Goes k f i m (ready_for m takes ready labelled (steps.said F f alloc c items is cs w refl h k p (Instance i) m rest takes) (steps.said_later F f alloc c items is cs w refl h k p (Instance i) m rest takes)) in
+          let does = instance_does (Part log) (Verdict later) Goes k f i m (ready_for m takes labels labelled (steps.said F f alloc c items is cs w refl h k p (Instance i) m rest takes) (steps.said_later F f alloc c items is cs w refl h k p (Instance i) m rest takes)) in
           let left = taken_outcome step n w k p (Instance i) m rest takes in
           let fixed = fixed_here takes.receiver in
           steps.leaves_other F f alloc c items is cs w refl h k p (Instance i) m rest takes (λ never. absurd (omega (arith, never))) (instance_says f g k i m).notes_are labels does.says does.given
@@ -364,7 +350,7 @@ module _ (F : Type 0) {R : Type 0} (f : Semantics R) (laws : FunctionLaws f) (al
           ] refl)
 
     -- a choice that is taken
-    pub judging_next : (k : ℕ) (m : Msg) (takes : Takes step n w k p (node_of j.nodes k) m rest) → WasReady k m → Judging F f alloc c items is (cs ++ at k p ∷ []) (taken step w (at k p)) (taken step w (at k p)).log
-    judging_next zero m takes ready = steps.leaves F f alloc c items is cs w refl h 0 p (node_of j.nodes 0) m rest takes (at_switch m takes ready)
-    judging_next (suc zero) m takes ready = steps.leaves F f alloc c items is cs w refl h 1 p (node_of j.nodes 1) m rest takes (at_controller m takes ready)
-    judging_next (suc (suc y)) m takes ready = steps.leaves F f alloc c items is cs w refl h (suc (suc y)) p (node_of j.nodes (suc (suc y))) m rest takes (at_instance y m takes ready)
+    pub judging_next : (k : ℕ) (m : Msg) (takes : Takes step n w k p (node_of j.nodes k) m rest) → Label f g p k m → AreLabelled k m → Judging F f alloc c items is (cs ++ at k p ∷ []) (taken step w (at k p)) (taken step w (at k p)).log
+    judging_next zero m takes labelled labels = steps.leaves F f alloc c items is cs w refl h 0 p (node_of j.nodes 0) m rest takes (at_switch m takes labelled labels)
+    judging_next (suc zero) m takes labelled labels = steps.leaves F f alloc c items is cs w refl h 1 p (node_of j.nodes 1) m rest takes (at_controller m takes labelled)
+    judging_next (suc (suc y)) m takes labelled labels = steps.leaves F f alloc c items is cs w refl h (suc (suc y)) p (node_of j.nodes (suc (suc y))) m rest takes (at_instance y m takes labelled labels)

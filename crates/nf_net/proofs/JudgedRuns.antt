@@ -1,5 +1,5 @@
 -- In every run each move that began is answered by its verdict, which is on what its destination held, and on what came, when it took the first
--- piece; a copy that began is done, and each other command is refused.
+-- piece; a copy or a share that began is done, and each other command is refused.
 use Rattle.std.proofs.Common.{◌≡◌, ℕ, ◌+◌, ◌≤◌, Bool, true, false, Option, Some, None, List, [], ◌∷◌, ◌++◌, length, refl, sym, ap, ◌∙◌, subst, arith}
 use Rattle.std.specs.declared.alloc.Global.{Global}
 use Rattle.std.specs.Ordering.{nat_cmp}
@@ -34,16 +34,17 @@ use Rattle.net_world.specs.Nodes.{node_step, node_ready}
 use Rattle.net_world.specs.Start.{first_instance, first_nodes, started}
 use Rattle.net_world.specs.Verdicts.{is_refusal, receiver_of, IsVerdict}
 use Rattle.nf_net.specs.Promises.{Verdicts}
-use Rattle.answer_net.proofs.CommandPromises.{run_busy, run_answers}
-use Rattle.joined_net.proofs.Joined.{node_of}
+use Rattle.answer_net.proofs.CommandPromises.{run_answers}
+use Rattle.answer_net.proofs.InstallSteps.{is_moving}
 use Rattle.nf_net.proofs.JudgedTables.{used, used_few}
-use Rattle.nf_net.proofs.JudgedFacts.{HasVerdict, IsFound, Was_refused, Was_judged, Was_copied}
+use Rattle.nf_net.proofs.JudgedFacts.{HasVerdict, IsFound, Was_refused, Was_judged, Was_still}
 use Rattle.nf_net.proofs.JudgedNodes.{judging_next}
 use Rattle.nf_net.proofs.JudgedSteps.{Part, Verdict, Goes, Judging, SaidBy, happened}
 use Rattle.nf_net.proofs.MoveJudged.{Said}
 use Rattle.answer_net.proofs.MoveOnce.{once}
-use Rattle.joined_net.proofs.RunsJoined.{start_world}
-use Rattle.joined_net.proofs.StartJoined.{count_at_start, instance_found}
+use Rattle.whole_joined.proofs.BesideRuns.{its_takes, its_label, its_labels}
+use Rattle.whole_joined.proofs.RunsJoined.{Runs, run_beside, start_world}
+use Rattle.whole_joined.proofs.StartJoined.{given, all_fit, count_at_start, instance_found}
 use Rattle.outline_net.proofs.StateOutline.{all_each}
 use Rattle.nf_net.proofs.VerdictLemmas.{once_taken, times_taken}
 
@@ -122,9 +123,9 @@ module _ (F : Type 0) {R : Type 0} (f : Semantics R) (laws : FunctionLaws f) (al
     where
       next_judging : (ds : List Choice) (ds_is : IsRun node_ready step ds start) (d : Choice) → Taking node_ready step n (run step ds start) d → Judging F f alloc c items is ds (run step ds start) (run step ds start).log → Judging F f alloc c items is (ds ++ d ∷ []) (taken step (run step ds start) d) (taken step (run step ds start) d).log
       next_judging ds ds_is d t h =
-          let j = (run_busy F f laws alloc c items is ds ds_is).0 in
-          let same : t.node ≡ node_of j.nodes d.node = sym (t.takes.node_is t.node) ∙ j.nodes_are d.node t.takes.receiver t.node in
-          judging_next F f laws alloc c items is ds ds_is h d.port t.rest d.node t.message (subst (λ y. Takes step n (run step ds start) d.node d.port y t.message t.rest) same t.takes) (subst (λ y. is_input d ≡ true → node_ready y t.message ≡ true) same t.was_ready)
+          let r : Runs F f laws alloc c items is (run step ds start) = run_beside F f laws alloc c items is ds ds_is in
+          let fitting = all_fit f c items is in
+          judging_next F f laws alloc c items is ds ds_is h d.port t.rest d.node t.message (its_takes f laws (given f c items is) fitting n refl (run step ds start) d t r.joined r.beside) (its_label f laws (given f c items is) fitting n refl (run step ds start) d t r.joined r.beside) (its_labels f laws (given f c items is) fitting n refl (run step ds start) d t r.joined r.beside)
 
   -- and so its answers are as is promised
   module _ (cs : List Choice) (run_is : IsRun node_ready step cs start) where
@@ -157,21 +158,23 @@ module _ (F : Type 0) {R : Type 0} (f : Semantics R) (laws : FunctionLaws f) (al
     by_found : (op : ℕ) (source destination : List ℕ) (filter : Filter) (keep : Bool) (a : Answer) → order_of items op ≡ Some (order.Move source destination filter keep) → began op w.log ≡ true → answers_of op w.log ≡ a ∷ [] → IsFound f c items start cs w.log op a → IsVerdict f start cs c items op a
     by_found op source destination filter keep a known on e (Was_refused refusal) = absurd (not_refused op (order.Move source destination filter keep) a known on e refusal)
     by_found op source destination filter keep a known on e (Was_judged begun v) = verdict_of op a v
-    by_found op source destination filter keep a known on e (Was_copied begun copied done) = let never : Some (order.Move source destination filter keep) ≡ Some (order.Copy copied.source copied.destination copied.filter) = sym known ∙ copied.order_is in cc
+    by_found op source destination filter keep a known on e (Was_still begun still done) = let never : true ≡ false = ap is_moving (sym known) ∙ still in cc
 
-    copy_found : (op : ℕ) (source destination : List ℕ) (filter : Option Filter) (a : Answer) → order_of items op ≡ Some (order.Copy source destination filter) → began op w.log ≡ true → answers_of op w.log ≡ a ∷ [] → IsFound f c items start cs w.log op a → a ≡ answer.Done
-    copy_found op source destination filter a known on e (Was_refused refusal) = absurd (not_refused op (order.Copy source destination filter) a known on e refusal)
-    copy_found op source destination filter a known on e (Was_judged begun v) = let never : None ≡ Some v.are_weighed.destination = ap (receiver_of c) (sym known) ∙ v.are_weighed.destination_is in cc
-    copy_found op source destination filter a known on e (Was_copied begun copied done) = done
+    -- a command that moves no units and began is done
+    still_found : (op : ℕ) (what : Order) (a : Answer) → receiver_of c (Some what) ≡ None → order_of items op ≡ Some what → began op w.log ≡ true → answers_of op w.log ≡ a ∷ [] → IsFound f c items start cs w.log op a → a ≡ answer.Done
+    still_found op what a none known on e (Was_refused refusal) = absurd (not_refused op what a known on e refusal)
+    still_found op what a none known on e (Was_judged begun v) = let never : None ≡ Some v.are_weighed.destination = sym none ∙ ap (receiver_of c) (sym known) ∙ v.are_weighed.destination_is in cc
+    still_found op what a none known on e (Was_still begun still done) = done
 
     refused_by : (op : ℕ) (a : Answer) → began op w.log ≡ false → IsFound f c items start cs w.log op a → is_refusal a ≡ true
     refused_by op a off (Was_refused refusal) = refusal
     refused_by op a off (Was_judged begun v) = let never = sym begun ∙ off in cc
-    refused_by op a off (Was_copied begun copied done) = let never = sym begun ∙ off in cc
+    refused_by op a off (Was_still begun still done) = let never = sym begun ∙ off in cc
 
     pub verdicts : Verdicts f start cs c items
     verdicts = record {
       judged = λ op source destination filter keep a known on e. by_found op source destination filter keep a known on e (h.found op a e);
-      copied = λ op source destination filter a known on e. copy_found op source destination filter a known on e (h.found op a e);
+      copied = λ op source destination filter a known on e. still_found op (order.Copy source destination filter) a refl known on e (h.found op a e);
+      set_up = λ op members filter a known on e. still_found op (order.Share members filter) a refl known on e (h.found op a e);
       refused = λ op a off e. refused_by op a off (h.found op a e);
     }

@@ -32,8 +32,9 @@ use Rattle.nf_net.proofs.JudgedFacts.{IsPart, IsGoing, HasVerdict, IsFound, part
 use Rattle.nf_net.proofs.MoveJudged.{Said, Knows}
 use Rattle.answer_net.proofs.MoveOnce.{once, counts}
 use Rattle.answer_net.proofs.InstallCounts.{if_zero}
-use Rattle.joined_net.proofs.Joined.{Given, Label}
-use Rattle.joined_net.proofs.StartJoined.{given}
+use Rattle.whole_joined.proofs.Given.{Given}
+use Rattle.whole_joined.proofs.Joined.{Label}
+use Rattle.whole_joined.proofs.StartJoined.{given}
 use Rattle.nf_net.proofs.VerdictLemmas.{times_given, times_given-append, is_first_piece, times_taken, times_taken-append}
 
 -- a list that is two has its one element in the first or in the second

@@ -24,11 +24,12 @@ use Rattle.net_world.specs.Commands.{began, answers_of}
 use Rattle.net_world.specs.Verdicts.{is_refusal}
 use Rattle.outline_net.proofs.OperationTables.{got_insert, got_remove}
 use Rattle.answer_net.proofs.ControllerActs.{other_there}
-use Rattle.joined_net.proofs.ControllerCopies.{NotMove}
+use Rattle.whole_joined.proofs.ControllerChanges.{NotMove}
 use Rattle.outline_net.proofs.CopyTurns.{CopyTurn, Idle, Hands, Hands_all, Ends, hands, ends}
 use Rattle.answer_net.proofs.BusyLemmas.{began_same}
 use Rattle.nf_net.proofs.MoveJudged.{Said, Knows}
 use Rattle.answer_net.proofs.MoveOnce.{once, spent, spent_few, NoneOnce, no_one}
+use Rattle.nf_net.proofs.ShareAsks.{asked, asked_few}
 
 -- a note of a command's begin or answer
 abbrev pub is_own : Note → Bool
@@ -39,24 +40,25 @@ is_own n = false
 -- how many of what is sent once were sent for a command, by its open operation, or else by whether it began
 abbrev pub used : Option Operation → Bool → Bool → ℕ
 used (Some (Move m)) has_begun first = spent m.phase first
+used (Some (Share s)) has_begun first = asked s.phase
 used None has_begun first = if has_begun then 1 else 0
-used (Some o) has_begun first = 1
+used (Some (Copy y)) has_begun first = 1
 
 pub used_few : (o : Option Operation) (has_begun first : Bool) → used o has_begun first ≤ 1
 used_few (Some (Move m)) has_begun first = spent_few m.phase first
 used_few (Some (Copy y)) has_begun first = omega arith
-used_few (Some (Share s)) has_begun first = omega arith
+used_few (Some (Share s)) has_begun first = asked_few s.phase
 used_few None true first = omega arith
 used_few None false first = omega arith
 
 pub same_answer : (a b : Answer) → a ∷ [] ≡ b ∷ [] → a ≡ b
 same_answer a b is = ap (λ xs. get_or xs 0 a) is
 
-module _ (Part : ℕ → Piece → Type 0) (Verdict : ℕ → Answer → Type 0) (Goes : ℕ → ℕ → Type 0) (Copied : ℕ → Type 0) (log : List Note) (n : ℕ) (c : ControllerState) where
-  -- why a command that began is answered so: by its verdict, or since it copies
+module _ (Part : ℕ → Piece → Type 0) (Verdict : ℕ → Answer → Type 0) (Goes : ℕ → ℕ → Type 0) (Still : ℕ → Type 0) (log : List Note) (n : ℕ) (c : ControllerState) where
+  -- why a command that began is answered so: by its verdict, or that it is done, since it moves no units
   pub data IsDue (op : ℕ) (a : Answer) : Type 0 where
     By_verdict : Verdict op a → IsDue op a
-    By_copy : Copied op → a ≡ Done → IsDue op a
+    By_still : Still op → a ≡ Done → IsDue op a
 
   -- the answer to a command that began is due, and others are refused
   pub record IsFound (op : ℕ) (a : Answer) : Type 0 where
@@ -89,7 +91,7 @@ module _ (Part : ℕ → Piece → Type 0) (Verdict : ℕ → Answer → Type 0)
     still_is = quiet_is c [] refl tt (λ first op. refl)
 
     -- a copy, which has asked, hands on what came or ends
-    module _ (op : ℕ) (y : CopyState) (there : finite.get c.operations op ≡ Some (Copy y)) (its : Copied op) (begun_is : began op log ≡ true) where
+    module _ (op : ℕ) (y : CopyState) (there : finite.get c.operations op ≡ Some (Copy y)) (its : Still op) (begun_is : began op log ≡ true) where
       -- other moves know what they knew
       knows_other : (o : Option Operation) → NotMove o → (k : ℕ) (x : MoveState) → cond (k == op) o (finite.get c.operations k) ≡ Some (Move x) → Knows Part Verdict Goes k x.phase
       knows_other o h k x e = knows k x (other_there (k == op) o (finite.get c.operations k) x h e)
@@ -118,7 +120,7 @@ module _ (Part : ℕ → Piece → Type 0) (Verdict : ℕ → Answer → Type 0)
         says = (tt, tt);
         found = λ k b is. elim (op == k) as (λ t. (op == k) ≡ t → (if t then Done ∷ [] else []) ≡ b ∷ [] → IsFound k b) [
           | true ↦ λ on given. subst (λ j. IsFound j b) ((Decides-eqb op k).0 on) (record {
-            known = λ _. By_copy its (sym (same_answer Done b given));
+            known = λ _. By_still its (sym (same_answer Done b given));
             refused = λ never. (let on = sym (begun_is) ∙ never in cc);
           })
           | false ↦ λ off never. cc

@@ -1,8 +1,9 @@
 pub mod AnsweredNotes
 pub mod ChunkMoves
-pub mod ChunksHandedOn
 pub mod CompleteRuns
 pub mod EveryRun
+pub mod FoldLemmas
+pub mod FreshRecords
 pub mod FrontLemmas
 pub mod GivenState
 pub mod JudgedController
@@ -26,7 +27,6 @@ pub mod SettleSteps
 pub mod SourceRuns
 pub mod SourceSteps
 pub mod StandbyFronts
-pub mod StandbyRows
 pub mod StandbyRuns
 pub mod StandbySteps
 pub mod VerdictLemmas

@@ -12,10 +12,10 @@ use Rattle.net_world.specs.Input.{IsInput}
 use Rattle.net_world.specs.Records.{live_at}
 use Rattle.net_world.specs.Fold.{fold, went}
 use Rattle.nf_net.proofs.CompleteRuns.{fold_is}
-use Rattle.joined_net.proofs.Joined.{S, Joined}
+use Rattle.whole_joined.proofs.Joined.{S, Joined}
 use Rattle.path_net.proofs.RecordPromises.{record_is}
-use Rattle.joined_net.proofs.RunsJoined.{done_same}
-use Rattle.joined_net.proofs.StartJoined.{given}
+use Rattle.whole_joined.proofs.RunsJoined.{done_same}
+use Rattle.whole_joined.proofs.StartJoined.{given}
 
 pub live_folds : {F R : Type 0} (f : Semantics R) (c : Config) (items : List Msg) (is : IsInput f.kind c items) (n : ℕ) (w : Network (Node F R) Msg Note) → length w.nodes ≡ n → Joined f (given f c items is) n w → (u : units.Unit) (i : ℕ) (r : R) → live_at w i u ≡ Some r → fold f c items None (went f c items u w.log) ≡ Some r
 live_folds f c items is n w count j u i r live =

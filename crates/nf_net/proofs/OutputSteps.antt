@@ -1,46 +1,50 @@
 -- Along a run all packets that were processed are answered as one instance that nothing moved answers them.
-use Rattle.std.proofs.Common.{◌≡◌, ◌≢◌, ℕ, zero, suc, ◌+◌, ◌≤◌, true, false, Option, Some, None, List, [], ◌∷◌, map, length, refl, sym, ap, ◌∙◌, subst, arith}
+use Rattle.std.proofs.Common.{◌≡◌, ◌≢◌, ℕ, zero, suc, ◌+◌, ◌≤◌, Bool, true, false, Option, None, List, [], ◌∷◌, length, refl, sym, ap, ◌∙◌, subst, arith}
 use Rattle.std.specs.Prelude.{if◌then◌else◌, ◌&&◌, ◌==◌}
 use Rattle.std.specs.List.{filter_map}
 use Rattle.std.specs.FinMap as finite
 use Rattle.std.specs.declared.alloc.Global.{Global}
 use Rattle.std.proofs.lemmas.Bool.Decides.{nat_tests}
 use Rattle.nf_function.specs.declared.unit.Unit as units
-use Rattle.nf_function.specs.Records.{Laws as FunctionLaws}
+use Rattle.nf_function.specs.Records.{Fits, Laws as FunctionLaws}
 use Rattle.nf_function.specs.Semantics.{Semantics}
+use Rattle.record_table.specs.Table.{part}
 use Rattle.event_filter.specs.declared.mark.Mark.TheVariants as mark
+use Rattle.packet_pool.specs.Pool.{FullCell}
 use Rattle.instance_worker.specs.declared.instance.Instance.{Instance as InstanceState}
-use Rattle.instance_worker.specs.Instance.{on_carry, on_fence, instance_step}
+use Rattle.instance_worker.specs.Instance.{processed, on_carry, on_fence, instance_step}
 use Rattle.nf_msgs.specs.declared.msg.Msg.{Msg}
 use Rattle.nf_msgs.specs.declared.msg.Msg.TheVariants as msg
 use Rattle.nf_msgs.specs.declared.note.Note.{Note}
 use Rattle.actor_net.specs.declared.choice.Choice.{Choice}
-use Rattle.actor_net.specs.Network.{Network, IsWorld, is_input, taken, run, IsRun}
-use Rattle.actor_net.proofs.OpeningWorlds.{opening_world}
-use Rattle.actor_net.proofs.StepOutcome.{Takes, taken_outcome}
+use Rattle.actor_net.specs.Network.{Network, taken, run, IsRun}
+use Rattle.actor_net.proofs.StepOutcome.{taken_outcome}
 use Rattle.actor_net.proofs.RunInduction.{Taking, run_induction}
 use Rattle.unit_machine.proofs.Labels.{Each}
 use Rattle.abstract_net.proofs.Net as net
 use Rattle.abstract_net.proofs.Net.{inst_step}
-use Rattle.abstract_net.proofs.Fresh.{fresh}
 use Rattle.abstract_net.proofs.Readings as readings
 use Rattle.abstract_net.proofs.Rest.{none_mine, done_u}
+use Rattle.abstract_net.proofs.Shares.{Old, New, Shared_on}
 use Rattle.net_world.specs.declared.config.Config.{Config}
 use Rattle.net_world.specs.declared.node.Node.{Node}
 use Rattle.net_world.specs.Input.{packet_of, IsInput}
-use Rattle.net_world.specs.Log.{Done, done, done_of}
+use Rattle.net_world.specs.Log.{done}
 use Rattle.net_world.specs.Nodes.{node_step, node_ready}
 use Rattle.net_world.specs.Fold.{is_of, fold, outputs, went, given as given_of}
-use Rattle.net_world.specs.Start.{first_nodes, started}
+use Rattle.net_world.specs.Start.{started}
 use Rattle.outline_net.proofs.Outline.{number, ran_in, is_sys, outline_instance}
 use Rattle.outline_net.proofs.InstanceOutline.{carry_follows, pass_follows, fence_follows, held_genuine}
-use Rattle.joined_net.proofs.Joined.{Given, place, count, S, shown, by_node, node_of, Scene, AreShown, Joined, IsTaken}
-use Rattle.joined_net.proofs.JoinedSteps.{is_taken, joined_next}
-use Rattle.joined_net.proofs.LogLemmas.{done-append}
-use Rattle.joined_net.proofs.StartJoined.{all_fit, given, start_joined, count_at_start}
-use Rattle.net_world.proofs.StartingLemmas.{few_nodes}
+use Rattle.whole_outline.proofs.WholeOutline.{is_sharing}
+use Rattle.whole_joined.proofs.Given.{Given, place}
+use Rattle.whole_joined.proofs.Joined.{S, A, shown, by_node, came_by, node_of, Scene, IsInstanceAt, AreShown, IsTaken}
+use Rattle.whole_joined.proofs.BesideRuns.{its_takes, its_taken}
+use Rattle.whole_joined.proofs.LogLemmas.{done-append}
+use Rattle.whole_joined.proofs.RunsJoined.{Runs, runs_at_start, runs_next, start_world, went_same}
+use Rattle.whole_joined.proofs.StartJoined.{all_fit, given, count_at_start}
 use Rattle.nf_net.proofs.OutputLemmas.{IsCarried, numbers, Answered, answered_nothing, answered_more, answered_by, fold_is, numbers_ran}
-use Rattle.nf_net.proofs.AnsweredNotes.{live_of, carry_answered, fence_answered, instance_none, switch_none, controller_none}
+use Rattle.nf_net.proofs.AnsweredNotes.{live_of, kept_of, carry_answered, fence_answered, instance_none, switch_none, controller_none}
+use Rattle.nf_net.proofs.FreshRecords.{fresh_live, fresh_shared}
 
 module _ {R : Type 0} (f : Semantics R) (c : Config) (items : List Msg) (is : IsInput f.kind c items) where
   abbrev g : Given
@@ -54,19 +58,17 @@ module _ {R : Type 0} (f : Semantics R) (c : Config) (items : List Msg) (is : Is
   abbrev so_far : List Note → units.Unit → Option R
   so_far log u = fold f c items None (went f c items u log)
 
-  went_done : (u : units.Unit) (ds : List Done) → numbers f c items u ds ≡ done_u (S f g) u (by_node f g ds)
-  went_done u [] = refl
-  went_done u (d ∷ ds) = elim (is_of f c items u d.number) as (λ b. map (λ e. e.number) (if b then d ∷ done_of (is_of f c items u) ds else done_of (is_of f c items u) ds) ≡ (if b then d.number ∷ done_u (S f g) u (by_node f g ds) else done_u (S f g) u (by_node f g ds))) [
-    | true ↦ ap (λ v. d.number ∷ v) (went_done u ds)
-    | false ↦ went_done u ds
-  ]
-
   -- what is kept of a unit is what the abstract network folds
   pub fold_same : (u : units.Unit) (log : List Note) (ds : List (ℕ × ℕ)) → ds ≡ by_node f g (done log) → Each (λ d. IsCarried items d.number) (done log) → fold f c items None (went f c items u log) ≡ readings.fold (S f g).F None (done_u (S f g) u ds)
   fold_same u log ds at carried =
       fold_is f c items None (done log) u carried
-      ∙ ap (readings.fold (S f g).F None) (went_done u (done log))
+      ∙ ap (readings.fold (S f g).F None) (sym (went_same f c items is u (done log)))
       ∙ ap (λ d. readings.fold (S f g).F None (done_u (S f g) u d)) (sym at)
+
+-- what an instance processes of a packet of a share
+shared_ran : {F R : Type 0} (f : Semantics R) (i : InstanceState F R) (op : ℕ) (home : Bool) (cell : FullCell) → filter_map ran_in (on_carry f i (mark.Shared op home) cell).notes ≡ number cell ∷ []
+unfolding on_carry processed
+shared_ran f i op home cell = refl
 
 module _ {F R : Type 0} (f : Semantics R) (c : Config) (items : List Msg) (is : IsInput f.kind c items) (n : ℕ) (x : Scene F f (g f c items is)) (are : AreShown f (g f c items is) n x) (so : AreAnswered f c items is x.log) where
   abbrev Now : List Note → Type 0
@@ -82,29 +84,64 @@ module _ {F R : Type 0} (f : Semantics R) (c : Config) (items : List Msg) (is : 
     abbrev i : InstanceState F R
     i = x.nodes.instance k
 
+    k0 : (k == 0) ≡ false
+    k0 = grind (arith, nat_tests, two)
+
+    k1 : (k == 1) ≡ false
+    k1 = grind (arith, nat_tests, two)
+
+    off : (p == 0) && (k == 0) ≡ false
+    off = grind (arith, nat_tests, two)
+
     -- where an instance processes packets of a unit, its record is what is kept
-    kept_is : (m : Msg) → Takes_it k p m → (a : net.Msg R) (notes : List Note) → shown f (g f c items is) m ≡ Some a → filter_map ran_in notes ≡ (inst_step (S f (g f c items is)) (outline_instance f c.site (packet_of items) i) a).ran → (u : units.Unit) → numbers f c items u (done notes) ≢ [] → live_of i u ≡ so_far f c items is x.log u
+    kept_is : (m : Msg) → Takes_it k p m → (a : net.Msg R) (notes : List Note) → shown f (g f c items is) m ≡ Some (Old a) → filter_map ran_in notes ≡ (inst_step (S f (g f c items is)) (outline_instance f c.site (packet_of items) i) a).ran → (u : units.Unit) → numbers f c items u (done notes) ≢ [] → live_of i u ≡ so_far f c items is x.log u
     kept_is m t a notes seen ran u some =
         let at = are.instances k two t.receiver in
-        let k0 : (k == 0) ≡ false = grind (arith, nat_tests, two) in
-        let k1 : (k == 1) ≡ false = grind (arith, nat_tests, two) in
-        let off : (p == 0) && (k == 0) ≡ false = grind (arith, nat_tests, two) in
         let its : numbers f c items u (done notes) ≡ none_mine (S f (g f c items is)) u (inst_step (S f (g f c items is)) (x.world.inst k) a).ran = numbers_ran f c items u notes ∙ ap (none_mine (S f (g f c items is)) u) (ran ∙ ap (λ y. (inst_step (S f (g f c items is)) y a).ran) at.outline_is) in
         ap (λ y. finite.get y.live u) at.outline_is
-        ∙ fresh (S f (g f c items is)) (is_sys f c.site (packet_of items)) x.world _ _ are.every p k a t.rest k0 k1 (t.head off a seen) u (λ none. some (its ∙ none))
+        ∙ fresh_live (S f (g f c items is)) (A f (g f c items is)) (is_sys f c.site (packet_of items)) u (is_sharing f c.site (packet_of items)) x.world (came_by f (g f c items is) x.log u) are.every.global p k t.rest k0 k1 a (t.head off (Old a) seen) (λ none. some (its ∙ none)) (are.every.unit u)
         ∙ sym (fold_same f c items is u x.log x.world.done are.done_is so.carried)
 
-    fresh_at : (m : Msg) → Takes_it k p m → (a : net.Msg R) (notes : List Note) → shown f (g f c items is) m ≡ Some a → filter_map ran_in notes ≡ (inst_step (S f (g f c items is)) (outline_instance f c.site (packet_of items) i) a).ran → Answered f c items (live_of i) (done notes) → Now notes
+    fresh_at : (m : Msg) → Takes_it k p m → (a : net.Msg R) (notes : List Note) → shown f (g f c items is) m ≡ Some (Old a) → filter_map ran_in notes ≡ (inst_step (S f (g f c items is)) (outline_instance f c.site (packet_of items) i) a).ran → Answered f c items (live_of i) (done notes) → Now notes
     fresh_at m t a notes seen ran ok = answered_by f c items (live_of i) (so_far f c items is x.log) (done notes) ok (kept_is m t a notes seen ran)
+
+    -- a packet of a share, by the record in the table that its mark names
+    module _ (op : ℕ) (home : Bool) (cell : FullCell) (t : Takes_it k p (msg.Carry (mark.Shared op home) cell)) where
+      abbrev at : IsInstanceAt f (g f c items is) k i x.world
+      at = are.instances k two t.receiver
+
+      table_is : (u : units.Unit) → kept_of i (mark.Shared op home) u ≡ (S f (g f c items is)).B.at u (if home then (x.world.inst k).live else x.world.standby k)
+      table_is u = by_home home
+        where
+          by_home : (b : Bool) → finite.get (part i.table b) u ≡ (S f (g f c items is)).B.at u (if b then (x.world.inst k).live else x.world.standby k)
+          by_home true = ap (λ y. finite.get y.live u) at.outline_is
+          by_home false = ap (λ r. finite.get r u) at.standby_is
+
+      shared_is : (u : units.Unit) → numbers f c items u (done (on_carry f i (mark.Shared op home) cell).notes) ≢ [] → kept_of i (mark.Shared op home) u ≡ so_far f c items is x.log u
+      shared_is u some =
+          table_is u
+          ∙ fresh_shared (S f (g f c items is)) (A f (g f c items is)) (is_sys f c.site (packet_of items)) u (is_sharing f c.site (packet_of items)) x.world (came_by f (g f c items is) x.log u) are.every.global p k t.rest k0 k1 op home (number cell) (t.head off (New (Shared_on op home (number cell))) refl) (mine_of (is_of f c items u (number cell)) refl) (are.every.unit u)
+          ∙ sym (fold_same f c items is u x.log x.world.done are.done_is so.carried)
+        where
+          -- its packet alone is noted
+          one : numbers f c items u (done (on_carry f i (mark.Shared op home) cell).notes) ≡ (if is_of f c items u (number cell) then number cell ∷ [] else [])
+          one = numbers_ran f c items u (on_carry f i (mark.Shared op home) cell).notes ∙ ap (none_mine (S f (g f c items is)) u) (shared_ran f i op home cell)
+
+          mine_of : (b : Bool) → is_of f c items u (number cell) ≡ b → is_of f c items u (number cell) ≡ true
+          mine_of true is_true = is_true
+          mine_of false other = absurd (some (one ∙ ap (λ (b : Bool). if b then number cell ∷ [] else []) other))
+
+      shared_answers : Now (on_carry f i (mark.Shared op home) cell).notes
+      shared_answers = answered_by f c items (kept_of i (mark.Shared op home)) (so_far f c items is x.log) (done (on_carry f i (mark.Shared op home) cell).notes) (carry_answered f c items i (mark.Shared op home) cell at.rules.at t.label.1) shared_is
 
     instance_answers : (m : Msg) → Takes_it k p m → Now (instance_step f i m).notes
     instance_answers (msg.Carry mark.Plain cell) t =
         let at = are.instances k two t.receiver in
-        fresh_at (msg.Carry mark.Plain cell) t (net.Carry_on (number cell)) (on_carry f i mark.Plain cell).notes refl (carry_follows f c.site (packet_of items) (place (g f c items is)) i cell at.rules t.label.2).ran (carry_answered f c items i mark.Plain cell refl at.rules.at t.label.2)
+        fresh_at (msg.Carry mark.Plain cell) t (net.Carry_on (number cell)) (on_carry f i mark.Plain cell).notes refl (carry_follows f c.site (packet_of items) (place (g f c items is)) i cell at.rules t.label.1).ran (carry_answered f c items i mark.Plain cell at.rules.at t.label.1)
     instance_answers (msg.Carry (mark.Pass op) cell) t =
         let at = are.instances k two t.receiver in
-        fresh_at (msg.Carry (mark.Pass op) cell) t (net.Pass_on (number cell)) (on_carry f i (mark.Pass op) cell).notes refl (pass_follows f c.site (packet_of items) (place (g f c items is)) i op cell at.rules t.label.2).ran (carry_answered f c items i (mark.Pass op) cell refl at.rules.at t.label.2)
-    instance_answers (msg.Carry (mark.Shared op home) cell) t = let never : false ≡ true = t.label.1 in cc
+        fresh_at (msg.Carry (mark.Pass op) cell) t (net.Pass_on (number cell)) (on_carry f i (mark.Pass op) cell).notes refl (pass_follows f c.site (packet_of items) (place (g f c items is)) i op cell at.rules t.label.1).ran (carry_answered f c items i (mark.Pass op) cell at.rules.at t.label.1)
+    instance_answers (msg.Carry (mark.Shared op home) cell) t = shared_answers op home cell t
     instance_answers (msg.Fence op) t =
         let at = are.instances k two t.receiver in
         fresh_at (msg.Fence op) t (net.Fence_on op) (on_fence f i op).notes refl (fence_follows f c.site (packet_of items) (place (g f c items is)) i op at.rules).ran (fence_answered f c items i op at.rules.at (held_genuine c.site (packet_of items) op i.rules at.rules.held))
@@ -116,36 +153,37 @@ module _ {F R : Type 0} (f : Semantics R) (c : Config) (items : List Msg) (is : 
   node_answers (suc zero) p m t = nothing_done (node_step f (node_of x.nodes 1) p m).notes (controller_none x.nodes.controller p m)
   node_answers (suc (suc i)) p m t = instance_answers (suc (suc i)) (omega arith) p m t
 
-module _ {F R : Type 0} (f : Semantics R) (laws : FunctionLaws f) (c : Config) (items : List Msg) (is : IsInput f.kind c items) where
-  -- a choice of a run
-  pub outputs_next : (n : ℕ) → n ≡ count f (g f c items is) + 2 → (w : Network (Node F R) Msg Note) (k : Choice) → Taking node_ready (node_step f) n w k → Joined f (g f c items is) n w → AreAnswered f c items is w.log → AreAnswered f c items is (taken (node_step f) w k).log
-  outputs_next n count_is w k t j so =
-      let same : t.node ≡ node_of j.nodes k.node = sym (t.takes.node_is t.node) ∙ j.nodes_are k.node t.takes.receiver t.node in
-      let takes = subst (λ y. Takes (node_step f) n w k.node k.port y t.message t.rest) same t.takes in
-      let ready = subst (λ y. is_input k ≡ true → node_ready y t.message ≡ true) same t.was_ready in
-      let notes = (node_step f (node_of j.nodes k.node) k.port t.message).notes in
-      let now = node_answers f c items is n _ j.shown_is so k.node k.port t.message (is_taken f laws (g f c items is) (all_fit f c items is) n count_is w k.node k.port t.message t.rest j takes ready) in
-      let log = (taken_outcome (node_step f) n w k.node k.port (node_of j.nodes k.node) t.message t.rest takes).log in
-      subst (λ l. AreAnswered f c items is l) (sym log) (subst (λ ds. Answered f c items (λ u. None) ds) (sym (done-append w.log notes)) (answered_more f c items (done w.log) (done notes) so now))
-
 module _ (F : Type 0) {R : Type 0} (f : Semantics R) (laws : FunctionLaws f) (alloc : Global) (c : Config) (items : List Msg) (is : IsInput f.kind c items) where
   abbrev start : Network (Node F R) Msg Note
   start = started alloc c items
 
+  abbrev nodes_count : ℕ
+  nodes_count = length c.names + 2
+
+  abbrev fitting : (number : ℕ) → Fits c.site (packet_of items number)
+  fitting = all_fit f c items is
+
   -- what is known of a world of a run
   abbrev pub Known : Network (Node F R) Msg Note → Type 0
-  Known w = Joined f (g f c items is) (length c.names + 2) w × AreAnswered f c items is w.log
+  Known w = Runs F f laws alloc c items is w × AreAnswered f c items is w.log
 
-  start_world : IsWorld start
-  start_world = let few = few_nodes alloc c (first_nodes alloc c) is.is_config refl in opening_world (first_nodes alloc c) items few.0 few.1
+  -- a choice of a run
+  answered_after : (w : Network (Node F R) Msg Note) (k : Choice) → Taking node_ready (node_step f) nodes_count w k → Known w → AreAnswered f c items is (taken (node_step f) w k).log
+  answered_after w k t h =
+      let j = h.0.joined in
+      let takes = its_takes f laws (g f c items is) fitting nodes_count refl w k t j h.0.beside in
+      let notes = (node_step f (node_of j.nodes k.node) k.port t.message).notes in
+      let now = node_answers f c items is nodes_count _ j.shown_is h.1 k.node k.port t.message (its_taken f laws (g f c items is) fitting nodes_count refl w k t j h.0.beside) in
+      let log = (taken_outcome (node_step f) nodes_count w k.node k.port (node_of j.nodes k.node) t.message t.rest takes).log in
+      subst (λ l. AreAnswered f c items is l) (sym log) (subst (λ ds. Answered f c items (λ u. None) ds) (sym (done-append w.log notes)) (answered_more f c items (done w.log) (done notes) h.1 now))
 
   -- every run, complete or not
   pub run_answered : (cs : List Choice) → IsRun node_ready (node_step f) cs start → Known (run (node_step f) cs start)
   run_answered cs runs =
-      run_induction node_ready (node_step f) (length c.names + 2) (λ cs w. Known w) start (λ cs w k next h. (
-        joined_next f laws (g f c items is) (all_fit f c items is) (length c.names + 2) refl w k next.taking h.0,
-        outputs_next f laws c items is (length c.names + 2) refl w k next.taking h.0 h.1,
-      )) start_world (count_at_start F f alloc c items is) (start_joined F f alloc c items is, answered_nothing f c items (λ u. None)) cs runs
+      run_induction node_ready (node_step f) nodes_count (λ cs w. Known w) start (λ cs w k next h. (
+        runs_next F f laws alloc c items is w k next.taking h.0,
+        answered_after w k next.taking h,
+      )) (start_world F f laws alloc c items is) (count_at_start F f alloc c items is) (runs_at_start F f laws alloc c items is, answered_nothing f c items (λ u. None)) cs runs
 
   pub outputs_run : (cs : List Choice) → IsRun node_ready (node_step f) cs start → (unit : units.Unit) → given_of f c items unit (run (node_step f) cs start).log ≡ outputs f c items None (went f c items unit (run (node_step f) cs start).log)
   outputs_run cs runs unit = (run_answered cs runs).1.same unit

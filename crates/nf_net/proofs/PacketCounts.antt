@@ -14,9 +14,9 @@ use Rattle.net_world.specs.declared.node.Node.{Node}
 use Rattle.net_world.specs.Input.{packet_of, IsInput}
 use Rattle.net_world.specs.Log.{Done, arrived, done, those, done_of}
 use Rattle.net_world.specs.Fold.{times, is_of, came, went}
-use Rattle.joined_net.proofs.StartJoined.{given}
-use Rattle.joined_net.proofs.Joined.{Joined}
-use Rattle.joined_net.proofs.RunsJoined.{once}
+use Rattle.whole_joined.proofs.StartJoined.{given}
+use Rattle.whole_joined.proofs.Joined.{Joined}
+use Rattle.whole_joined.proofs.RunsJoined.{once}
 
 -- a list without the first of these
 abbrev without : ℕ → List ℕ → List ℕ

@@ -41,9 +41,10 @@ use Rattle.outline_net.proofs.Outline.{is_sys}
 use Rattle.path_net.proofs.PathPromises.{IsOwned, by_came}
 use Rattle.path_net.proofs.PathSeats.{Seated, seated, HasSides, Are_there, Rests}
 use Rattle.path_net.proofs.RecordPromises.{instance_of, one_place}
-use Rattle.joined_net.proofs.RunsJoined.{done_same}
-use Rattle.joined_net.proofs.StartJoined.{given}
-use Rattle.joined_net.proofs.Joined.{Given, S, Joined}
+use Rattle.whole_joined.proofs.RunsJoined.{done_same}
+use Rattle.whole_joined.proofs.StartJoined.{given}
+use Rattle.whole_joined.proofs.Given.{Given}
+use Rattle.whole_joined.proofs.Joined.{S, Joined}
 
 -- none of three, and one of three
 record AreNone {R : Type 0} (a b c : Option R) : Type 0 where

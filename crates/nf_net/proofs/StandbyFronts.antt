@@ -1,36 +1,46 @@
--- A step of an instance: what stands by, and what its chunks bring, are records of fronts, and what stands by never goes back.
-use Rattle.std.proofs.Common.{◌≡◌, ℕ, ◌≤◌, true, false, cond, inl, inr, Option, Some, None, List, [], ◌∷◌, ◌++◌, length, refl, sym, ap, ◌∙◌, subst}
-use Rattle.std.specs.Prelude.{if◌then◌else◌}
+-- Fronts of what was processed of a unit, by its packets: what stands by at an instance in a world of a run, and what is live there, is the record of
+-- one; and what sees more in the whole world that shows it has seen a front that goes on from the older.
+use Rattle.std.proofs.Common.{◌≡◌, ℕ, ◌+◌, ◌<◌, ◌≤◌, true, false, Option, Some, None, List, [], ◌∷◌, ◌++◌, length, get_or, refl, sym, ap, ◌∙◌, subst, arith}
+use Rattle.std.specs.Prelude.{if◌then◌else◌, nat_lt, slice_get}
 use Rattle.std.specs.FinMap as finite
-use Rattle.flow_filter.specs.declared.filter.Filter.{Filter}
-use Rattle.nf_function.specs.declared.chunk.Chunk.{Chunk}
+use Rattle.std.proofs.lemmas.Bool.Decides.{nat_tests}
+use Rattle.std.proofs.lemmas.Option.{slice_get-get_or, slice_get_past}
 use Rattle.nf_function.specs.declared.unit.Unit as units
-use Rattle.nf_function.specs.Records.{Laws as FunctionLaws}
 use Rattle.nf_function.specs.Semantics.{Semantics, kept_after}
-use Rattle.nf_function.specs.Units.{unit_cmp, takes, is_transport}
-use Rattle.nf_function.specs.Records.{newest}
-use Rattle.record_table.specs.Table.{Records, AreSound, either, newest_of, taken_by}
-use Rattle.record_table.specs.Chunks.{records_of}
-use Rattle.record_table.proofs.ChunkFronts.{brought_by_none}
-use Rattle.record_table.proofs.MadeChunks.{table_read}
-use Rattle.record_table.proofs.RecordLookUps.{each_newest, sound_retain_keys}
-use Rattle.record_table.proofs.UnitOrder.{one_unit}
+use Rattle.nf_function.specs.Units.{is_transport}
 use Rattle.nf_msgs.specs.declared.msg.Msg.{Msg}
-use Rattle.nf_msgs.specs.declared.msg.Msg.TheVariants as msg
 use Rattle.nf_msgs.specs.declared.note.Note.{Note}
-use Rattle.instance_worker.specs.declared.instance.Instance.{Instance}
-use Rattle.instance_worker.specs.Instance.{Step, instance_step, selected}
-use Rattle.unit_machine.proofs.Labels.{Each}
+use Rattle.nf_msgs.specs.Nodes.{instance_node}
+use Rattle.actor_net.specs.Network.{Network}
+use Rattle.share_machine.proofs.Share as share
+use Rattle.share_machine.proofs.Share.{Ran}
+use Rattle.share_machine.proofs.Stages as stages
+use Rattle.share_machine.proofs.Stages.{packets}
+use Rattle.abstract_net.proofs.Rest.{done_u}
+use Rattle.abstract_net.proofs.Shares.{ran_of}
+use Rattle.abstract_net.proofs.UnderStarts.{packets_done}
+use Rattle.whole_net.proofs.FrontPackets.{front_packets}
+use Rattle.whole_net.proofs.Fronts.{Front_of, live_front}
+use Rattle.whole_net.proofs.Readings.{fold_packets}
+use Rattle.whole_net.proofs.SeesMore.{Sees_more}
 use Rattle.net_world.specs.declared.config.Config.{Config}
-use Rattle.net_world.specs.Input.{packet_of, most_counted, IsInput}
+use Rattle.net_world.specs.declared.node.Node.{Node}
+use Rattle.net_world.specs.declared.node.Node.TheVariants.{Instance}
+use Rattle.net_world.specs.Input.{packet_of, IsInput}
 use Rattle.net_world.specs.Log.{done}
 use Rattle.net_world.specs.Fold.{IsFront, fold, went}
-use Rattle.nf_net.proofs.ChunksHandedOn.{none_bring}
-use Rattle.nf_net.proofs.FrontLemmas.{front_same, front_more, longer}
-use Rattle.joined_net.proofs.Joined.{Given, Label}
-use Rattle.joined_net.proofs.LogLemmas.{done-append}
+use Rattle.net_world.specs.Records.{live_in, live_at}
+use Rattle.net_world.specs.Standby.{standby_in, standby_at}
+use Rattle.outline_net.proofs.Outline.{is_sys}
+use Rattle.whole_joined.proofs.Given.{Given}
+use Rattle.whole_joined.proofs.Joined.{S, A, by_node, came_by, Scene, AreShown, IsInstanceAt, Joined}
+use Rattle.whole_joined.proofs.LogLemmas.{done-append}
+use Rattle.whole_joined.proofs.RunsJoined.{went_same}
+use Rattle.whole_joined.proofs.StartJoined.{given}
+use Rattle.path_net.proofs.RecordPromises.{instance_of}
+use Rattle.nf_net.proofs.FoldLemmas.{fold_is}
+use Rattle.nf_net.proofs.FrontLemmas.{front_same, front_more}
 use Rattle.nf_net.proofs.OutputLemmas.{numbers, numbers-append}
-use Rattle.nf_net.proofs.StandbyRows.{brought, is_plain, instance_leaves, get_gives, standby_keeps}
 
 module _ {R : Type 0} (f : Semantics R) (c : Config) (items : List Msg) where
   abbrev kept_of : List ℕ → Option R
@@ -54,12 +64,7 @@ module _ {R : Type 0} (f : Semantics R) (c : Config) (items : List Msg) where
   pub none_of_front : (all : List ℕ) → IsOfFront all None
   none_of_front all = record { front = []; is_front = record { rest = all; whole = refl }; folds = refl }
 
-  -- where there is a record, it is that of all of these packets
-  whole_front : (all : List ℕ) (kept : Option R) → ((r : R) → kept ≡ Some r → kept_of all ≡ Some r) → IsOfFront all kept
-  whole_front all None h = none_of_front all
-  whole_front all (Some r) h = record { front = all; is_front = front_same all; folds = h r refl }
-
-  pub of_front_more : (all more : List ℕ) (kept : Option R) → IsOfFront all kept → IsOfFront (all ++ more) kept
+  of_front_more : (all more : List ℕ) (kept : Option R) → IsOfFront all kept → IsOfFront (all ++ more) kept
   of_front_more all more kept h = record { front = h.front; is_front = front_more h.front all more h.is_front; folds = h.folds }
 
   pub sees_same : (all : List ℕ) (kept : Option R) → IsOfFront all kept → SeesMore all kept kept
@@ -71,16 +76,6 @@ module _ {R : Type 0} (f : Semantics R) (c : Config) (items : List Msg) where
 
   pub later : (u : units.Unit) (log notes : List Note) (kept : Option R) → IsOfFront (went f c items u log) kept → IsOfFront (went f c items u (log ++ notes)) kept
   later u log notes kept h = subst (λ all. IsOfFront all kept) (sym (went_more u log notes)) (of_front_more (went f c items u log) (went f c items u notes) kept h)
-
-  -- the records of chunks are such
-  abbrev pub AreOfFronts : List Note → List Chunk → Type 0
-  AreOfFronts log chunks = (u : units.Unit) → IsOfFront (went f c items u log) (finite.get (records_of f chunks) u)
-
-  pub no_chunks_fronts : (log : List Note) → AreOfFronts log []
-  no_chunks_fronts log u = subst (λ m. IsOfFront (went f c items u log) (finite.get m u)) (sym (brought_by_none f)) (subst (λ o. IsOfFront (went f c items u log) o) (sym (finite.get-empty unit_cmp u)) (none_of_front (went f c items u log)))
-
-  pub chunks_later : (log notes : List Note) (chunks : List Chunk) → AreOfFronts log chunks → AreOfFronts (log ++ notes) chunks
-  chunks_later log notes chunks h u = later u log notes (finite.get (records_of f chunks) u) (h u)
 
   -- what a record was folded to stays one as more is folded
   fold-append : (kept : Option R) (xs ys : List ℕ) → fold f c items kept (xs ++ ys) ≡ fold f c items (fold f c items kept xs) ys
@@ -99,81 +94,63 @@ module _ {R : Type 0} (f : Semantics R) (c : Config) (items : List Msg) where
       let more = fold_some r h.rest in
       (more.0, ap kept_of (sym h.whole) ∙ fold-append None before h.rest ∙ ap (λ k. fold f c items k h.rest) e ∙ more.1)
 
-module _ {F R : Type 0} (f : Semantics R) (laws : FunctionLaws f) (c : Config) (items : List Msg) (is : IsInput f.kind c items) where
-  -- what a step of an instance leaves
-  pub record Goes (log : List Note) (i : Instance F R) (did : Step F R) : Type 0 where
-    pub sees : (u : units.Unit) → SeesMore f c items (went f c items u (log ++ did.notes)) (finite.get i.table.standby u) (finite.get did.node.table.standby u)
-    pub brings : Each (λ x. AreOfFronts f c items (log ++ did.notes) (brought x.1)) did.sends
+module _ {R : Type 0} (f : Semantics R) (c : Config) (items : List Msg) (is : IsInput f.kind c items) where
+  abbrev g : Given
+  g = given f c items is
 
-  -- what is known of the instance: its live records are those of their units, and what stands by is of fronts
-  pub record IsKnown (log : List Note) (i : Instance F R) : Type 0 where
-    pub sound : AreSound f i.table.live
-    pub live : (u : units.Unit) (r : R) → finite.get i.table.live u ≡ Some r → fold f c items None (went f c items u log) ≡ Some r
-    pub standby : (u : units.Unit) → IsOfFront f c items (went f c items u log) (finite.get i.table.standby u)
+  -- the same of what the whole world has done
+  to_front : (xs ys : List Ran) → stages.IsFront xs ys → IsFront (packets xs) (packets ys)
+  to_front xs ys h = let p = front_packets xs ys h in record { rest = p.0; whole = sym p.1 }
 
-  selected_fronts : (log : List Note) (i : Instance F R) (filter : Filter) → IsKnown log i → AreOfFronts f c items log (selected f i filter)
-  selected_fronts log i filter known u =
-      let taken = taken_by filter i.table.live in
-      let read = (table_read f laws taken (sound_retain_keys f i.table.live (takes filter) known.sound)).spells in
-      let found : finite.get (records_of f (selected f i filter)) u ≡ cond (takes filter u) (finite.get i.table.live u) None = ap (λ m. finite.get m u) read ∙ finite.get-retain_keys i.table.live (takes filter) u (λ x same. ap (takes filter) (sym (one_unit u x same))) in
-      subst (λ o. IsOfFront f c items (went f c items u log) o) (sym found) (elim (takes filter u) as (λ b. IsOfFront f c items (went f c items u log) (cond b (finite.get i.table.live u) None)) [
-        | true ↦ whole_front f c items (went f c items u log) (finite.get i.table.live u) (known.live u)
-        | false ↦ none_of_front f c items (went f c items u log)
-      ])
+  to_kept : (seen : List Ran) (r : Option R) → r ≡ share.runs (S f g).F None seen → fold f c items None (packets seen) ≡ r
+  to_kept seen r h = fold_is f c items is None (packets seen) ∙ sym (fold_packets (S f g).F None seen) ∙ sym h
 
-  -- A step after this log. What will then be processed of a unit is no more than a record counts.
-  module _ (log : List Note) (i : Instance F R) (known : IsKnown log i) where
-    same_standby : (notes : List Note) (new : Records R) → new ≡ i.table.standby → (u : units.Unit) → SeesMore f c items (went f c items u (log ++ notes)) (finite.get i.table.standby u) (finite.get new u)
-    same_standby notes new same u = subst (λ m. SeesMore f c items (went f c items u (log ++ notes)) (finite.get i.table.standby u) (finite.get m u)) (sym same) (sees_same f c items (went f c items u (log ++ notes)) (finite.get i.table.standby u) (later f c items u log notes (finite.get i.table.standby u) (known.standby u)))
+  module _ (u : units.Unit) (log : List Note) (ds : List (ℕ × ℕ)) (at : ds ≡ by_node f g (done log)) where
+    went_is : packets (ran_of (S f g) (A f g) u ds) ≡ went f c items u log
+    went_is = packets_done (S f g) (A f g) u ds ∙ ap (done_u (S f g) u) at ∙ went_same f c items is u (done log)
 
-    -- what comes to stand by
-    newest_sees : (u : units.Unit) (all : List ℕ) (held coming : Option R) → length all ≤ most_counted → IsOfFront f c items all held → IsOfFront f c items all coming → SeesMore f c items all held (either (newest f) held coming)
-    newest_sees u all held coming room h g =
-        let it = longer f laws c items is all room h.front g.front h.is_front g.is_front in
-        record { before = h.front; since = it.front; old_is = h.folds; new_is = sym it.kept ∙ ap (λ o. either (newest f) o (fold f c items None g.front)) h.folds ∙ ap (either (newest f) held) g.folds; behind = it.behind; within = it.is_front }
+    within_log : (seen : List Ran) → stages.IsFront seen (ran_of (S f g) (A f g) u ds) → IsFront (packets seen) (went f c items u log)
+    within_log seen h = subst (λ all. IsFront (packets seen) all) went_is (to_front seen (ran_of (S f g) (A f g) u ds) h)
 
-    newest_standby : (notes : List Note) (chunks : List Chunk) → AreOfFronts f c items log chunks → ((u : units.Unit) → length (went f c items u (log ++ notes)) ≤ most_counted) → (u : units.Unit) → SeesMore f c items (went f c items u (log ++ notes)) (finite.get i.table.standby u) (finite.get (newest_of f i.table.standby (records_of f chunks)) u)
-    newest_standby notes chunks its room u =
-        let held = finite.get i.table.standby u in
-        let coming = finite.get (records_of f chunks) u in
-        subst (λ o. SeesMore f c items (went f c items u (log ++ notes)) held o) (sym (each_newest f i.table.standby (records_of f chunks) (newest_of f i.table.standby (records_of f chunks)) refl u))
-        (newest_sees u (went f c items u (log ++ notes)) held coming (room u) (later f c items u log notes held (known.standby u)) (later f c items u log notes coming (its u)))
+    pub of_front : (r : Option R) → Front_of (S f g) (A f g) (is_sys g.site g.packet) u (ran_of (S f g) (A f g) u ds) r → IsOfFront f c items (went f c items u log) r
+    of_front r h = record { front = packets h.seen; is_front = within_log h.seen h.front; folds = to_kept h.seen r h.fold }
 
-    plain_goes : (m : Msg) → is_plain m ≡ true → Goes log i (instance_step f i m)
-    plain_goes m plain =
-        let did = instance_step f i m in
-        let it = instance_leaves f i m plain in
-        record {
-          sees = same_standby did.notes did.node.table.standby it.standby;
-          brings = none_bring (AreOfFronts f c items (log ++ did.notes)) (no_chunks_fronts f c items (log ++ did.notes)) did.sends it.none;
-        }
+    pub sees_more : (old new : Option R) → Sees_more (S f g) (A f g) (is_sys g.site g.packet) u (ran_of (S f g) (A f g) u ds) old new → SeesMore f c items (went f c items u log) old new
+    sees_more old new h = record {
+      before = packets h.before;
+      since = packets h.since;
+      old_is = to_kept h.before old h.old_is;
+      new_is = to_kept h.since new h.new_is;
+      behind = to_front h.before h.since h.behind;
+      within = within_log h.since h.within;
+    }
 
-    get_goes : (op : ℕ) (filter : Filter) → Goes log i (instance_step f i (msg.Get op filter))
-    get_goes op filter =
-        let did = instance_step f i (msg.Get op filter) in
-        let it = get_gives f i op filter in
-        record {
-          sees = same_standby did.notes did.node.table.standby it.standby;
-          brings = subst (λ xs. Each (λ x. AreOfFronts f c items (log ++ did.notes) (brought x.1)) xs) (sym it.sends.2) (chunks_later f c items log did.notes (selected f i filter) (selected_fronts log i filter known), tt);
-        }
+  module _ {F : Type 0} (n : ℕ) where
+    -- what stands by at an instance
+    pub instance_front : (x : Scene F f g) → AreShown f g n x → (k : ℕ) → IsInstanceAt f g k (x.nodes.instance k) x.world → (u : units.Unit) → IsOfFront f c items (went f c items u x.log) (finite.get (x.nodes.instance k).table.standby u)
+    instance_front x are k at u = of_front u x.log x.world.done are.done_is (finite.get (x.nodes.instance k).table.standby u) (subst (λ o. Front_of (S f g) (A f g) (is_sys g.site g.packet) u (ran_of (S f g) (A f g) u x.world.done) o) (sym (ap (λ t. finite.get t u) at.standby_is)) ((are.every.fronts u).standby k))
 
-    standby_goes : (op : ℕ) (chunks : List Chunk) → AreOfFronts f c items log chunks → ((u : units.Unit) → length (went f c items u (log ++ (instance_step f i (msg.Standby op chunks)).notes)) ≤ most_counted) → Goes log i (instance_step f i (msg.Standby op chunks))
-    standby_goes op chunks its room =
-        let did = instance_step f i (msg.Standby op chunks) in
-        let it = standby_keeps f i op chunks in
-        record {
-          sees = λ u. elim it.standby as (λ _. SeesMore f c items (went f c items u (log ++ did.notes)) (finite.get i.table.standby u) (finite.get did.node.table.standby u)) [
-            | inl same ↦ same_standby did.notes did.node.table.standby same u
-            | inr new ↦ subst (λ m. SeesMore f c items (went f c items u (log ++ did.notes)) (finite.get i.table.standby u) (finite.get m u)) (sym new) (newest_standby did.notes chunks its room u)
-          ];
-          brings = none_bring (AreOfFronts f c items (log ++ did.notes)) (no_chunks_fronts f c items (log ++ did.notes)) did.sends it.none;
-        }
+    -- and what is live there
+    live_front_at : (x : Scene F f g) → AreShown f g n x → (k : ℕ) → IsInstanceAt f g k (x.nodes.instance k) x.world → (u : units.Unit) → IsOfFront f c items (went f c items u x.log) (finite.get (x.nodes.instance k).table.live u)
+    live_front_at x are k at u = of_front u x.log x.world.done are.done_is (finite.get (x.nodes.instance k).table.live u) (subst (λ o. Front_of (S f g) (A f g) (is_sys g.site g.packet) u (ran_of (S f g) (A f g) u x.world.done) o) (sym (ap (λ y. finite.get y.live u) at.outline_is)) (live_front (S f g) (A f g) (is_sys g.site g.packet) u x.world (came_by f g x.log u) are.every.global (are.every.unit u) k))
 
-    -- a step by its message, of a run
-    module _ (g : Given) (s r : ℕ) where
-      pub instance_goes : (m : Msg) → Label f g s r m → AreOfFronts f c items log (brought m) → ((u : units.Unit) → length (went f c items u (log ++ (instance_step f i m).notes)) ≤ most_counted) → Goes log i (instance_step f i m)
-      instance_goes (msg.Get op filter) label its room = get_goes op filter
-      instance_goes (msg.Standby op chunks) label its room = standby_goes op chunks its room
-      instance_goes (msg.Sync home op chunks) label its room = absurd label
-      instance_goes (msg.Carry mark cell) label its room = plain_goes (msg.Carry mark cell) label.1
-      instance_goes m label its room = plain_goes m refl
+    -- In a world of a run.
+    module _ (w : Network (Node F R) Msg Note) (count : length w.nodes ≡ n) (j : Joined f g n w) where
+      -- what holds of each instance and of none holds of what is at a place
+      at_place : (i : ℕ) (P : Option (Node F R) → Type 0) → P None → ((k : ℕ) → 2 ≤ k → k < n → P (Some (Instance (j.nodes.instance k)))) → P (slice_get w.nodes (instance_node i))
+      at_place i P none some = elim (nat_lt (instance_node i) n) as (λ b. nat_lt (instance_node i) n ≡ b → P (slice_get w.nodes (instance_node i))) [
+        | true ↦ λ on.
+            let few : instance_node i < n = grind (arith, nat_tests, on) in
+            let node = Instance (j.nodes.instance (instance_node i)) in
+            let there : slice_get w.nodes (instance_node i) ≡ Some node = slice_get-get_or w.nodes (instance_node i) node (rw count few) ∙ ap Some (j.nodes_are (instance_node i) few node ∙ instance_of j.nodes (instance_node i) (omega arith)) in
+            subst P (sym there) (some (instance_node i) (omega arith) few)
+        | false ↦ λ off.
+            let past : length w.nodes ≤ instance_node i = grind (arith, nat_tests, off, count) in
+            subst P (sym (slice_get_past w.nodes (instance_node i) past)) none
+      ] refl
+
+      pub stands_front : (i : ℕ) (u : units.Unit) → IsOfFront f c items (went f c items u w.log) (standby_at w i u)
+      stands_front i u = at_place i (λ o. IsOfFront f c items (went f c items u w.log) (standby_in u o)) (none_of_front f c items (went f c items u w.log)) (λ k two few. instance_front _ j.shown_is k (j.shown_is.instances k two few) u)
+
+      pub lives_front : (i : ℕ) (u : units.Unit) → IsOfFront f c items (went f c items u w.log) (live_at w i u)
+      lives_front i u = at_place i (λ o. IsOfFront f c items (went f c items u w.log) (live_in u o)) (none_of_front f c items (went f c items u w.log)) (λ k two few. live_front_at _ j.shown_is k (j.shown_is.instances k two few) u)

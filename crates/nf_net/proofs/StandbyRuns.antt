@@ -1,46 +1,36 @@
 -- In every run each record that stands by is that of a front of what was processed of its unit, and the front never gets shorter.
-use Rattle.std.proofs.Common.{◌≡◌, ℕ, suc, ◌+◌, ◌<◌, ◌≤◌, Bool, true, false, ◌⊎◌, inl, inr, Option, Some, None, List, [], ◌∷◌, ◌++◌, length, length-append, get_or, refl, sym, ap, ◌∙◌, subst, arith}
-use Rattle.std.specs.Prelude.{if◌then◌else◌, slice_get}
+use Rattle.std.proofs.Common.{◌≡◌, ℕ, suc, ◌+◌, ◌≤◌, Bool, true, false, ◌⊎◌, inl, inr, List, [], ◌∷◌, ◌++◌, length, length-append, refl, sym, ap, ◌∙◌, subst, arith}
+use Rattle.std.specs.Prelude.{if◌then◌else◌}
 use Rattle.std.specs.declared.alloc.Global.{Global}
-use Rattle.std.specs.FinMap as finite
 use Rattle.std.proofs.lemmas.List.{length-map}
-use Rattle.std.proofs.lemmas.Option.{slice_get_within, get_or_from_slice_get}
-use Rattle.nf_function.specs.declared.chunk.Chunk.{Chunk}
 use Rattle.nf_function.specs.declared.unit.Unit as units
 use Rattle.nf_function.specs.Records.{Laws as FunctionLaws}
 use Rattle.nf_function.specs.Semantics.{Semantics}
-use Rattle.nf_function.specs.Units.{unit_cmp}
 use Rattle.nf_msgs.specs.declared.msg.Msg.{Msg}
-use Rattle.nf_msgs.specs.declared.msg.Msg.TheVariants as msg
 use Rattle.nf_msgs.specs.declared.note.Note.{Note}
-use Rattle.nf_msgs.specs.Nodes.{instance_node}
 use Rattle.actor_net.specs.declared.choice.Choice.{Choice}
-use Rattle.actor_net.specs.Network.{Network, Stepped, IsRun, is_input, run, taken}
-use Rattle.actor_net.proofs.OpeningWorlds.{opening_on_links}
-use Rattle.actor_net.proofs.RunInduction.{Taking, NextChoice, run_induction}
+use Rattle.actor_net.specs.Network.{Network, Stepped, IsRun, run, taken}
+use Rattle.actor_net.proofs.RunInduction.{Taking, NextChoice, run_induction, run_world}
 use Rattle.actor_net.proofs.RunLaws.{run_more}
 use Rattle.actor_net.proofs.StepOutcome.{Takes, taken_outcome}
-use Rattle.unit_machine.proofs.Labels.{Each}
 use Rattle.net_world.specs.declared.config.Config.{Config}
 use Rattle.net_world.specs.declared.node.Node.{Node}
-use Rattle.net_world.specs.declared.node.Node.TheVariants.{Switch, Controller, Instance}
-use Rattle.net_world.specs.Input.{is_item, packets, most_counted, IsInput}
+use Rattle.net_world.specs.Input.{packets, most_counted, IsInput}
 use Rattle.net_world.specs.Log.{Done, arrived, done, done_of}
 use Rattle.net_world.specs.Nodes.{node_step, node_ready}
 use Rattle.net_world.specs.Fold.{IsFront, is_of, went}
-use Rattle.net_world.specs.Standby.{standby_in, standby_at, StandsBy}
+use Rattle.net_world.specs.Standby.{StandsBy}
+use Rattle.net_world.specs.Start.{started}
 use Rattle.nf_net.specs.Promises.{Standbys}
-use Rattle.net_world.specs.Start.{first_instance, first_nodes, started}
+use Rattle.whole_joined.proofs.BesideRuns.{its_takes}
+use Rattle.whole_joined.proofs.Joined.{node_of}
+use Rattle.whole_joined.proofs.RunsJoined.{start_world}
+use Rattle.whole_joined.proofs.StartJoined.{given, all_fit, count_at_start}
 use Rattle.answer_net.proofs.ArrivalLemmas.{numbers, InRun, next_in_run, start_in_run}
 use Rattle.nf_net.proofs.FrontLemmas.{front_same, front_trans, front_more, front_length, one_front}
-use Rattle.joined_net.proofs.Joined.{node_of}
 use Rattle.nf_net.proofs.PacketCounts.{few_done}
-use Rattle.joined_net.proofs.RunsJoined.{start_world}
-use Rattle.nf_net.proofs.StandbyFronts.{IsOfFront, AreOfFronts, went_more, none_of_front, no_chunks_fronts, still_some}
-use Rattle.nf_net.proofs.StandbyRows.{brought}
-use Rattle.nf_net.proofs.StandbySteps.{AreFronts, GoesOn, goes_on_fronts, goes_on}
-use Rattle.joined_net.proofs.StartJoined.{count_at_start, instance_found}
-use Rattle.outline_net.proofs.StateOutline.{all_each}
+use Rattle.nf_net.proofs.StandbyFronts.{went_more, stands_front, still_some}
+use Rattle.nf_net.proofs.StandbySteps.{GoesOn, goes_on}
 
 few_of : (mine : ℕ → Bool) (ds : List Done) → length (done_of mine ds) ≤ length ds
 few_of mine [] = omega arith
@@ -61,15 +51,6 @@ fronts_of_more {X} (b ∷ bs) after (y ∷ xs) x e =
       | inl whole ↦ inl (rw (heads, whole) refl)
       | inr more ↦ inr (more.0, rw heads (ap (λ zs. y ∷ zs) more.1))
     ]
-
--- an input brings no chunks
-items_bring : (P : List Chunk → Type 0) (items : List Msg) → P [] → Each (λ item. is_item item ≡ true) items → Each (λ m. P (brought m)) items
-items_bring P [] none ok = tt
-items_bring P (msg.InCommand c ∷ items) none ok = (none, items_bring P items none ok.1)
-items_bring P (msg.InPacket p ∷ items) none ok = (none, items_bring P items none ok.1)
-items_bring P (msg.InSettle ∷ items) none ok = (none, items_bring P items none ok.1)
-items_bring P (msg.InEnd ∷ items) none ok = (none, items_bring P items none ok.1)
-items_bring P (m ∷ items) none ok = let never : false ≡ true = ok.0 in cc
 
 module _ (F : Type 0) {R : Type 0} (f : Semantics R) (laws : FunctionLaws f) (alloc : Global) (c : Config) (items : List Msg) (is : IsInput f.kind c items) where
   abbrev start : Network (Node F R) Msg Note
@@ -104,7 +85,7 @@ module _ (F : Type 0) {R : Type 0} (f : Semantics R) (laws : FunctionLaws f) (al
   -- one choice further
   behind_next : (w v : Network (Node F R) Msg Note) (notes : List Note) → v.log ≡ w.log ++ notes → ((u : units.Unit) → length (went f c items u v.log) ≤ most_counted) → GoesOn F f laws c items is w v → (i : ℕ) (u : units.Unit) (earlier : List ℕ) → NoShorter w i u earlier → NoShorter v i u earlier
   behind_next w v notes log few goes i u earlier h =
-      let it = goes.sees i u in
+      let it = goes i u in
       let all = went f c items u v.log in
       let was : IsFront h.front all = subst (λ l. IsFront h.front (went f c items u l)) (sym log) (subst (λ l. IsFront h.front l) (sym (went_more f c items u w.log notes)) (front_more h.front (went f c items u w.log) (went f c items u notes) h.stands_by.is_front)) in
       let same : h.front ≡ it.before = one_front f laws c items is all (few u) h.front it.before was (front_trans it.before it.since all it.behind it.within) (h.stands_by.folds ∙ sym h.stands_by.there ∙ sym it.old_is) in
@@ -119,41 +100,13 @@ module _ (F : Type 0) {R : Type 0} (f : Semantics R) (laws : FunctionLaws f) (al
   -- what holds of the choices so far and the world
   pub record Standing (cs : List Choice) (w : Network (Node F R) Msg Note) : Type 0 where
     pub in_run : InRun F f laws alloc c items is w
-    pub fronts : AreFronts F f laws c items is w
     pub never_back : NeverBack cs w
-
-  abbrev nodes : List (Node F R)
-  nodes = first_nodes alloc c
-
-  -- nothing stands by at the start
-  none_stands : (i : ℕ) (u : units.Unit) → standby_at start i u ≡ None
-  none_stands i u = by_node (slice_get nodes (instance_node i)) refl
-    where
-      by_node : (o : Option (Node F R)) → slice_get nodes (instance_node i) ≡ o → standby_in u o ≡ None
-      by_node None e = refl
-      by_node (Some (Switch s)) e = refl
-      by_node (Some (Controller s)) e = refl
-      by_node (Some (Instance s)) e =
-          let within = slice_get_within nodes (instance_node i) (Instance s) e in
-          let count = count_at_start F f alloc c items is in
-          let small : i < length c.names = omega (arith, within, count) in
-          let number : instance_node i ≡ suc (suc i) = omega arith in
-          let got : get_or nodes (suc (suc i)) (Instance s) ≡ Instance s = subst (λ z. get_or nodes z (Instance s) ≡ Instance s) number (get_or_from_slice_get nodes (instance_node i) (Instance s) (Instance s) e) in
-          let both : Instance (first_instance {F = F} {R = R} alloc c i) ≡ Instance s = sym (instance_found F f alloc c items is (length c.names) i (Instance s) small) ∙ got in
-          let own : first_instance alloc c i ≡ s = cc in
-          ap (λ x. finite.get x.table.standby u) (sym own) ∙ finite.get-empty unit_cmp u
-
-  start_fronts : AreFronts F f laws c items is start
-  start_fronts = record {
-    standby = λ i u. subst (λ o. IsOfFront f c items [] o) (sym (none_stands i u)) (none_of_front f c items []);
-    brings = opening_on_links Note (first_nodes {F = F} {R = R} alloc c) items (λ s r m. AreOfFronts f c items [] (brought m)) (let count = count_at_start F f alloc c items is in omega (arith, count)) (items_bring (AreOfFronts f c items []) items (no_chunks_fronts f c items []) (all_each (λ item. is_item item ≡ true) items is.only_items));
-  }
 
   itself : (w : Network (Node F R) Msg Note) (i : ℕ) (u : units.Unit) (earlier : List ℕ) → StandsBy f c items w i u earlier → NoShorter w i u earlier
   itself w i u earlier h = record { front = earlier; stands_by = h; behind = front_same earlier }
 
   start_standing : Standing [] start
-  start_standing = record { in_run = start_in_run F f laws alloc c items is; fronts = start_fronts; never_back = never }
+  start_standing = record { in_run = start_in_run F f laws alloc c items is; never_back = never }
     where
       never : NeverBack [] start
       never [] after i u earlier e h = itself start i u earlier h
@@ -161,7 +114,7 @@ module _ (F : Type 0) {R : Type 0} (f : Semantics R) (laws : FunctionLaws f) (al
 
   -- a choice that is taken
   standing_next : (cs : List Choice) (w : Network (Node F R) Msg Note) (d : Choice) → NextChoice node_ready step n start cs w d → Standing cs w → Standing (cs ++ d ∷ []) (taken step w d)
-  standing_next cs w d next h = record { in_run = since; fronts = goes_on_fronts F f laws c items is w (taken step w d) goes; never_back = never }
+  standing_next cs w d next h = record { in_run = since; never_back = never }
     where
       t : Taking node_ready step n w d
       t = next.taking
@@ -169,14 +122,11 @@ module _ (F : Type 0) {R : Type 0} (f : Semantics R) (laws : FunctionLaws f) (al
       since : InRun F f laws alloc c items is (taken step w d)
       since = next_in_run F f laws alloc c items is w d t h.in_run
 
-      same : t.node ≡ node_of h.in_run.joined.nodes d.node
-      same = sym (t.takes.node_is t.node) ∙ h.in_run.joined.nodes_are d.node t.takes.receiver t.node
-
       takes : Takes step n w d.node d.port (node_of h.in_run.joined.nodes d.node) t.message t.rest
-      takes = subst (λ y. Takes step n w d.node d.port y t.message t.rest) same t.takes
+      takes = its_takes f laws (given f c items is) (all_fit f c items is) n refl w d t h.in_run.joined h.in_run.beside
 
       goes : GoesOn F f laws c items is w (taken step w d)
-      goes = goes_on F f laws c items is w h.in_run.joined h.fronts d.port t.rest d.node t.message takes (subst (λ y. is_input d ≡ true → node_ready y t.message ≡ true) same t.was_ready) (room (taken step w d) since)
+      goes = goes_on F f laws c items is w d t h.in_run.joined h.in_run.beside (room (taken step w d) since)
 
       never : NeverBack (cs ++ d ∷ []) (taken step w d)
       never before after i u earlier whole stood = elim (fronts_of_more before after cs d whole) as (λ _. NoShorter (taken step w d) i u earlier) [
@@ -191,7 +141,8 @@ module _ (F : Type 0) {R : Type 0} (f : Semantics R) (laws : FunctionLaws f) (al
   pub standbys : (cs : List Choice) → IsRun node_ready step cs start → Standbys f start cs c items
   standbys cs run_is =
       let h = run_standing cs run_is in
+      let reached = run_world node_ready step n start (start_world F f laws alloc c items is) (count_at_start F f alloc c items is) cs run_is in
       record {
-        fronts = λ i u kept there. (let it = h.fronts.standby i u in record { front = it.front; stands_by = record { kept = kept; there = there; is_front = it.is_front; folds = it.folds ∙ there } });
+        fronts = λ i u kept there. (let it = stands_front f c items is n (run step cs start) reached.1 h.in_run.joined i u in record { front = it.front; stands_by = record { kept = kept; there = there; is_front = it.is_front; folds = it.folds ∙ there } });
         never_back = λ before after i u earlier whole stood. (let it = h.never_back before after i u earlier whole stood in record { ends = record { front = it.front; stands_by = it.stands_by }; behind = it.behind });
       }

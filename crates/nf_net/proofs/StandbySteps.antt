@@ -1,42 +1,65 @@
--- A choice of a run keeps that what stands by, and what chunks on links bring, are records of fronts, and what stands by goes on.
-use Rattle.std.proofs.Common.{◌≡◌, ◌≢◌, ℕ, zero, suc, ◌+◌, ◌<◌, ◌≤◌, true, false, Some, List, [], ◌∷◌, ◌++◌, length, get_or, refl, sym, ap, ◌∙◌, subst, arith}
-use Rattle.std.specs.Prelude.{◌==◌, nat_lt, slice_get}
+-- A choice of a run leaves what stands by at each instance, or lets it see more of what was processed of its unit: an instance's step by its message.
+use Rattle.std.proofs.Common.{◌≡◌, ◌≢◌, ℕ, zero, suc, ◌+◌, ◌<◌, ◌≤◌, Bool, true, false, Option, Some, None, List, [], ◌∷◌, ◌++◌, length, get_or, refl, sym, ap, ◌∙◌, subst, arith}
+use Rattle.std.specs.Prelude.{if◌then◌else◌, ◌==◌, nat_lt, slice_get}
 use Rattle.std.specs.FinMap as finite
+use Rattle.std.specs.List.{filter_map}
 use Rattle.std.proofs.lemmas.Bool.Decides.{nat_tests, Decides-eqb}
 use Rattle.std.proofs.lemmas.Option.{slice_get-get_or, slice_get_past}
+use Rattle.flow_filter.specs.declared.filter.Filter.{Filter}
+use Rattle.nf_function.specs.declared.chunk.Chunk.{Chunk}
 use Rattle.nf_function.specs.declared.unit.Unit as units
-use Rattle.nf_function.specs.Records.{Laws as FunctionLaws}
+use Rattle.nf_function.specs.UnitOrder.{units_total}
+use Rattle.nf_function.specs.Records.{Fits, newest, Laws as FunctionLaws}
 use Rattle.nf_function.specs.Semantics.{Semantics}
+use Rattle.record_table.specs.Table.{Records, either, newest_of}
+use Rattle.record_table.specs.Chunks.{records_of}
+use Rattle.record_table.proofs.RecordLookUps.{each_newest}
+use Rattle.event_filter.specs.declared.mark.Mark.TheVariants as mark
+use Rattle.packet_pool.specs.Pool.{FullCell}
 use Rattle.nf_msgs.specs.declared.msg.Msg.{Msg}
+use Rattle.nf_msgs.specs.declared.msg.Msg.TheVariants as msg
 use Rattle.nf_msgs.specs.declared.note.Note.{Note}
 use Rattle.nf_msgs.specs.Nodes.{instance_node}
-use Rattle.ctrl_node.specs.Controller.{controller_step}
-use Rattle.switch_node.specs.Switch.{switch_step}
 use Rattle.instance_worker.specs.declared.instance.Instance.{Instance as InstanceState}
-use Rattle.instance_worker.specs.Instance.{instance_step}
-use Rattle.actor_net.specs.Network.{Network, Stepped, is_input, taken}
+use Rattle.instance_worker.specs.Instance.{Step, on_get, instance_step}
+use Rattle.actor_net.specs.declared.choice.Choice.{Choice}
+use Rattle.actor_net.specs.Network.{Network, waiting, taken}
 use Rattle.actor_net.proofs.EnabledChoices.{at}
 use Rattle.actor_net.proofs.StepOutcome.{Takes, Outcome, taken_outcome}
-use Rattle.actor_net.proofs.WeightLaws.{Each, OnLinks, EachSent, on_links_after}
+use Rattle.actor_net.proofs.RunInduction.{Taking}
+use Rattle.actor_net.proofs.WeightLaws.{Each as EachOn}
+use Rattle.unit_machine.proofs.Real.{record_at}
+use Rattle.abstract_net.proofs.Net.{at_node}
+use Rattle.abstract_net.proofs.Shares.{New, Share_msg, Shared_on, S_sync, member_step, whole_inst, ran_of}
+use Rattle.whole_net.proofs.SeesMore.{Sees_more, inst_sees}
 use Rattle.net_world.specs.declared.config.Config.{Config}
 use Rattle.net_world.specs.declared.node.Node.{Node}
 use Rattle.net_world.specs.declared.node.Node.TheVariants.{Instance}
-use Rattle.net_world.specs.Input.{most_counted, IsInput}
+use Rattle.net_world.specs.Input.{packet_of, most_counted, IsInput}
+use Rattle.net_world.specs.Log.{done}
 use Rattle.net_world.specs.Nodes.{node_step, node_ready}
-use Rattle.net_world.specs.Fold.{went}
-use Rattle.net_world.specs.Records.{live_in}
+use Rattle.net_world.specs.Fold.{fold, went}
 use Rattle.net_world.specs.Standby.{standby_in, standby_at}
-use Rattle.nf_net.proofs.ChunksHandedOn.{none_bring, each_brings, controller_brings, switch_brings_none}
-use Rattle.joined_net.proofs.Joined.{Given, Joined, node_of}
-use Rattle.joined_net.proofs.JoinedSteps.{label, step_leads}
-use Rattle.nf_net.proofs.LiveRecords.{live_folds}
-use Rattle.nf_net.proofs.StandbyFronts.{IsOfFront, SeesMore, AreOfFronts, IsKnown, sees_same, later, chunks_later, no_chunks_fronts, instance_goes}
-use Rattle.nf_net.proofs.StandbyRows.{brought}
-use Rattle.joined_net.proofs.StartJoined.{given, all_fit}
-
-each_weaker : {M : Type 0} {P Q : M → Type 0} → ((m : M) → P m → Q m) → (ms : List M) → Each P ms → Each Q ms
-each_weaker g [] h = tt
-each_weaker g (m ∷ ms) h = (g m h.0, each_weaker g ms h.1)
+use Rattle.outline_net.proofs.Outline.{number, entries, ran_in, is_sys}
+use Rattle.whole_outline.proofs.WholeOutline.{is_sharing}
+use Rattle.whole_outline.proofs.InstanceWorlds.{ShowsAt, new_steps}
+use Rattle.whole_outline.proofs.MemberOutline.{MemberFollows, shared_follows, sync_follows}
+use Rattle.whole_outline.proofs.MemberTables.{AreBothSound, sync_sound}
+use Rattle.whole_outline.proofs.StandbyKept.{leaves_standby, step_unshared, standby_keeps}
+use Rattle.whole_joined.proofs.BesideRuns.{HasBeside, its_takes, its_taken}
+use Rattle.whole_joined.proofs.CopyRows.{sync_leaves}
+use Rattle.whole_joined.proofs.Given.{Given, place}
+use Rattle.whole_joined.proofs.InstanceKeeps.{valid_chunks, chunks_good}
+use Rattle.whole_joined.proofs.InstanceNotes.{AreOwn, done_own}
+use Rattle.whole_joined.proofs.InstanceRows.{IsRight, sound_part, shared_leaves}
+use Rattle.whole_joined.proofs.InstanceSteps.{Rows, by_message}
+use Rattle.whole_joined.proofs.Joined.{S, A, shown, by_node, came_by, node_of, Genuine, AreGoodChunks, Scene, IsInstanceAt, AreShown, IsTaken, Joined}
+use Rattle.whole_joined.proofs.LogLemmas.{done-append, by_node-append}
+use Rattle.whole_joined.proofs.StandbyChunks.{AreFronted}
+use Rattle.whole_joined.proofs.StandbyFronts.{kept_of, AreKeptFronts}
+use Rattle.whole_joined.proofs.StartJoined.{given, all_fit}
+use Rattle.nf_net.proofs.FrontLemmas.{longer}
+use Rattle.nf_net.proofs.StandbyFronts.{IsOfFront, SeesMore, sees_same, later, of_front, sees_more, instance_front, stands_front}
 
 -- two lists of one length that are read the same at a place
 same_place : {X : Type 0} (xs ys : List X) (i : ℕ) → length xs ≡ length ys → ((d : X) → get_or ys i d ≡ get_or xs i d) → slice_get ys i ≡ slice_get xs i
@@ -51,121 +74,215 @@ same_place {X} (x ∷ xs) ys i long same = elim (nat_lt i (length ys)) as (λ b.
       slice_get_past ys i past ∙ sym (slice_get_past (x ∷ xs) i (rw long past))
 ] refl
 
-module _ (F : Type 0) {R : Type 0} (f : Semantics R) (laws : FunctionLaws f) (c : Config) (items : List Msg) (is : IsInput f.kind c items) where
+module _ {F R : Type 0} (f : Semantics R) where
+  get_leaves : (i : InstanceState F R) (op : ℕ) (filter : Filter) → (instance_step f i (msg.Get op filter)).node.table.standby ≡ i.table.standby
+  unfolding on_get
+  get_leaves i op filter = refl
+
+module _ {R : Type 0} (f : Semantics R) where
+  -- what chunks bring of a unit
+  brought_is : (chunks : List Chunk) (u : units.Unit) → finite.get (records_of f chunks) u ≡ record_at u (entries f chunks)
+  unfolding records_of
+  brought_is chunks u = finite.get-from_entries units_total (entries f chunks) u
+
+-- An instance's step.
+module _ {F R : Type 0} (f : Semantics R) (laws : FunctionLaws f) (c : Config) (items : List Msg) (is : IsInput f.kind c items) (n : ℕ) (x : Scene F f (given f c items is)) (are : AreShown f (given f c items is) n x) (p y : ℕ) (at : IsInstanceAt f (given f c items is) (suc (suc y)) (x.nodes.instance (suc (suc y))) x.world) where
   abbrev g : Given
   g = given f c items is
 
-  abbrev n : ℕ
-  n = length c.names + 2
+  abbrev fitting : (number : ℕ) → Fits g.site (g.packet number)
+  fitting = all_fit f c items is
 
-  abbrev step : Node F R → ℕ → Msg → Stepped (Node F R) Msg Note
-  step = node_step f
+  abbrev k : ℕ
+  k = suc (suc y)
 
-  abbrev Bring : List Note → ℕ → ℕ → Msg → Type 0
-  Bring log s r m = AreOfFronts f c items log (brought m)
+  two : 2 ≤ k
+  two = omega arith
 
-  -- what holds of each world of a run
-  pub record AreFronts (w : Network (Node F R) Msg Note) : Type 0 where
-    pub standby : (i : ℕ) (u : units.Unit) → IsOfFront f c items (went f c items u w.log) (standby_at w i u)
-    pub brings : OnLinks (Bring w.log) w
+  k0 : (k == 0) ≡ false
+  k0 = grind (arith, nat_tests)
 
-  -- and from one world to the next
-  pub record GoesOn (w v : Network (Node F R) Msg Note) : Type 0 where
-    pub sees : (i : ℕ) (u : units.Unit) → SeesMore f c items (went f c items u v.log) (standby_at w i u) (standby_at v i u)
-    pub brings : OnLinks (Bring v.log) v
+  k1 : (k == 1) ≡ false
+  k1 = grind (arith, nat_tests)
 
-  pub goes_on_fronts : (w v : Network (Node F R) Msg Note) → GoesOn w v → AreFronts v
-  goes_on_fronts w v h = record { standby = λ i u. (let it = h.sees i u in record { front = it.since; is_front = it.within; folds = it.new_is }); brings = h.brings }
+  abbrev i : InstanceState F R
+  i = x.nodes.instance k
 
-  module _ (w : Network (Node F R) Msg Note) (j : Joined f g n w) (h : AreFronts w) (p : ℕ) (rest : List Msg) where
-    module _ (k : ℕ) (m : Msg) (takes : Takes step n w k p (node_of j.nodes k) m rest) where
-      abbrev did : Stepped (Node F R) Msg Note
-      did = step (node_of j.nodes k) p m
+  abbrev Taken : Msg → Type 0
+  Taken m = IsTaken f g n x (record { node = k; port = p; message = m })
+
+  abbrev all_of : units.Unit → List Note → List ℕ
+  all_of u notes = went f c items u (x.log ++ notes)
+
+  -- what the step leaves of the unit
+  abbrev Sees : units.Unit → Step F R → Type 0
+  Sees u did = SeesMore f c items (all_of u did.notes) (finite.get i.table.standby u) (finite.get did.node.table.standby u)
+
+  -- no more was then processed of the unit than a record counts, and a copy's chunks are of fronts
+  abbrev Room : units.Unit → Step F R → Type 0
+  Room u did = length (all_of u did.notes) ≤ most_counted
+
+  abbrev Now : units.Unit → Msg → Type 0
+  Now u m = Taken m → AreFronted f g x.world (kept_of m) → Room u (instance_step f i m) → Sees u (instance_step f i m)
+
+  right : IsRight f g k i
+  right = record { rules = at.rules; held = at.held; sound = at.records.sound; number = at.number }
+
+  shows : ShowsAt f g.site g.packet k x.world i
+  shows = record { inst = at.outline_is; standby = at.standby_is }
+
+  held_front : (u : units.Unit) (notes : List Note) → IsOfFront f c items (all_of u notes) (finite.get i.table.standby u)
+  held_front u notes = later f c items u x.log notes (finite.get i.table.standby u) (instance_front f c items is n x are k at u)
+
+  same_sees : (u : units.Unit) (did : Step F R) → did.node.table.standby ≡ i.table.standby → Sees u did
+  same_sees u did same = subst (λ t. SeesMore f c items (all_of u did.notes) (finite.get i.table.standby u) (finite.get t u)) (sym same) (sees_same f c items (all_of u did.notes) (finite.get i.table.standby u) (held_front u did.notes))
+
+  leaves : (u : units.Unit) (m : Msg) → leaves_standby m ≡ true → Now u m
+  leaves u m e t fronts room = same_sees u (instance_step f i m) (step_unshared f (place g) i m e).standby
+
+  -- a message of a share, as the whole world takes it
+  new_sees : (u : units.Unit) (m : Msg) (seen : Share_msg R) → shown f g m ≡ Some (New seen) → Taken m → MemberFollows f g.site g.packet (place g) i (instance_step f i m) (member_step (S f g) (A f g) i.table.live i.table.standby seen) → AreOwn k (instance_step f i m).notes → Sees u (instance_step f i m)
+  new_sees u m seen shown_as t follows own =
+      let did = instance_step f i m in
+      let off : (p == 0) && (k == 0) ≡ false = grind (arith, nat_tests) in
+      let waits = t.head off (New seen) shown_as in
+      let v = whole_inst (S f g) (A f g) x.world p k (New seen) in
+      let steps = new_steps f g.site g.packet (place g) x.world p k i did seen shows follows in
+      let log : v.done ≡ by_node f g (done (x.log ++ did.notes)) =
+          steps.done ∙ ap (λ ds. ds ++ at_node k (filter_map ran_in did.notes)) are.done_is ∙ ap (λ ds. by_node f g (done x.log) ++ ds) (sym (done_own f g k did.notes own)) ∙ sym (ap (by_node f g) (done-append x.log did.notes) ∙ by_node-append f g (done x.log) (done did.notes)) in
+      let sees = inst_sees (S f g) (A f g) (is_sys g.site g.packet) u (is_sharing f g.site g.packet) x.world (came_by f g x.log u) are.every.global p k t.rest k0 k1 (are.every.unit u) (are.every.fronts u) (New seen) waits k in
+      sees_more f c items is u (x.log ++ did.notes) v.done log (finite.get i.table.standby u) (finite.get did.node.table.standby u)
+      (subst (λ o. Sees_more (S f g) (A f g) (is_sys g.site g.packet) u (ran_of (S f g) (A f g) u v.done) o (finite.get did.node.table.standby u)) (sym (ap (λ r. finite.get r u) shows.standby))
+      (subst (λ o. Sees_more (S f g) (A f g) (is_sys g.site g.packet) u (ran_of (S f g) (A f g) u v.done) (finite.get (x.world.standby k) u) o) (sym (ap (λ r. finite.get r u) steps.shows.standby)) sees))
+
+  shared_sees : (u : units.Unit) (op : ℕ) (home : Bool) (cell : FullCell) → Genuine f g cell → Now u (msg.Carry (mark.Shared op home) cell)
+  shared_sees u op home cell e t fronts room =
+      new_sees u (msg.Carry (mark.Shared op home) cell) (Shared_on op home (number cell)) refl t
+      (shared_follows f laws g.site g.packet (place g) i op home cell right.rules e (sound_part f laws g fitting k two i home cell right at.stands.sound e))
+      (shared_leaves f laws g fitting k two i op home cell right at.stands.sound e).notes
+
+  sync_sees : (u : units.Unit) (home : Bool) (op : ℕ) (chunks : List Chunk) → AreGoodChunks f g chunks → Now u (msg.Sync home op chunks)
+  sync_sees u home op chunks good t fronts room =
+      let all = chunks_good f laws g chunks good in
+      let both : AreBothSound f i.table = record { live = at.records.sound; standby = at.stands.sound } in
+      let sound = sync_sound f laws i home op chunks all (valid_chunks f laws g chunks good.each) both in
+      new_sees u (msg.Sync home op chunks) (S_sync op home (entries f chunks)) refl t
+      (sync_follows f laws g.site g.packet (place g) i home op chunks all)
+      (sync_leaves f laws g k two i home op chunks right sound.live good).notes
+
+  -- a copy's chunks: the newer of what stands by and what comes is that of the longer front
+  newest_sees : (u : units.Unit) (all : List ℕ) (held coming : Option R) → length all ≤ most_counted → IsOfFront f c items all held → IsOfFront f c items all coming → SeesMore f c items all held (either (newest f) held coming)
+  newest_sees u all held coming few h b =
+      let it = longer f laws c items is all few h.front b.front h.is_front b.is_front in
+      record { before = h.front; since = it.front; old_is = h.folds; new_is = sym it.kept ∙ ap (λ o. either (newest f) o (fold f c items None b.front)) h.folds ∙ ap (either (newest f) held) b.folds; behind = it.behind; within = it.is_front }
+
+  standby_sees : (u : units.Unit) (op : ℕ) (chunks : List Chunk) → AreGoodChunks f g chunks → Now u (msg.Standby op chunks)
+  standby_sees u op chunks good t fronts room =
+      let did = instance_step f i (msg.Standby op chunks) in
+      let held = finite.get i.table.standby u in
+      let coming = finite.get (records_of f chunks) u in
+      let new : did.node.table.standby ≡ newest_of f i.table.standby (records_of f chunks) = (standby_keeps f g.site g.packet (place g) i op chunks (chunks_good f laws g chunks good)).standby in
+      let is_new : finite.get did.node.table.standby u ≡ either (newest f) held coming = ap (λ r. finite.get r u) new ∙ each_newest f i.table.standby (records_of f chunks) (newest_of f i.table.standby (records_of f chunks)) refl u in
+      let of_chunks : IsOfFront f c items (went f c items u x.log) coming = subst (λ o. IsOfFront f c items (went f c items u x.log) o) (sym (brought_is f chunks u)) (of_front f c items is u x.log x.world.done are.done_is (record_at u (entries f chunks)) (fronts u)) in
+      subst (λ o. SeesMore f c items (all_of u did.notes) held o) (sym is_new) (newest_sees u (all_of u did.notes) held coming room (held_front u did.notes) (later f c items u x.log did.notes coming of_chunks))
+
+  rows : (u : units.Unit) → Rows f g (Now u)
+  rows u = record {
+    carry = λ cell e. leaves u (msg.Carry mark.Plain cell) refl;
+    pass = λ op cell e. leaves u (msg.Carry (mark.Pass op) cell) refl;
+    shared = λ op home cell e. shared_sees u op home cell e;
+    fence = λ op. leaves u (msg.Fence op) refl;
+    stop = leaves u msg.Stop refl;
+    enable = λ op filter act w e. leaves u (msg.Enable op filter act) refl;
+    stream = λ op filter w. leaves u (msg.Stream op filter) refl;
+    delete = λ op gone. leaves u (msg.Delete op gone) refl;
+    put = λ op piece first e. leaves u (msg.Put op piece first) refl;
+    restore = λ op chunks e. leaves u (msg.Restore op chunks) refl;
+    get = λ op filter w t fronts room. same_sees u (instance_step f i (msg.Get op filter)) (get_leaves f i op filter);
+    get_all = λ op. leaves u (msg.GetAll op) refl;
+    standby = λ op chunks e. standby_sees u op chunks e;
+    put_all = λ op chunk. leaves u (msg.PutAll op chunk) refl;
+    sync = λ home op chunks e. sync_sees u home op chunks e;
+  }
+
+  pub instance_sees : (u : units.Unit) (m : Msg) → Now u m
+  instance_sees u m t = by_message f g (Now u) p y (rows u) m t.label t
+
+-- A choice of a run.
+module _ (F : Type 0) {R : Type 0} (f : Semantics R) (laws : FunctionLaws f) (c : Config) (items : List Msg) (is : IsInput f.kind c items) where
+  abbrev gn : Given
+  gn = given f c items is
+
+  abbrev nodes_count : ℕ
+  nodes_count = length c.names + 2
+
+  -- what stands by sees more from one world to the next
+  abbrev pub GoesOn : Network (Node F R) Msg Note → Network (Node F R) Msg Note → Type 0
+  GoesOn w v = (i : ℕ) (u : units.Unit) → SeesMore f c items (went f c items u v.log) (standby_at w i u) (standby_at v i u)
+
+  module _ (w : Network (Node F R) Msg Note) (j : Joined f gn nodes_count w) (fronts : AreKeptFronts f gn nodes_count w j) (p : ℕ) (rest : List Msg) where
+    abbrev x : Scene F f gn
+    x = record { nodes = j.nodes; world = j.world; log = w.log; input = waiting w (at 0 0) }
+
+    module _ (k : ℕ) (m : Msg) (takes : Takes (node_step f) nodes_count w k p (node_of j.nodes k) m rest) where
+      abbrev v : Network (Node F R) Msg Note
+      v = taken (node_step f) w (at k p)
 
       abbrev log : List Note
-      log = w.log ++ did.notes
+      log = w.log ++ (node_step f (node_of j.nodes k) p m).notes
 
-      abbrev v : Network (Node F R) Msg Note
-      v = taken step w (at k p)
+      left : Outcome (node_step f) nodes_count w k p (node_of j.nodes k) m rest v
+      left = taken_outcome (node_step f) nodes_count w k p (node_of j.nodes k) m rest takes
 
-      left : Outcome step n w k p (node_of j.nodes k) m rest v
-      left = taken_outcome step n w k p (node_of j.nodes k) m rest takes
-
-      -- what the message brings
-      its : AreOfFronts f c items w.log (brought m)
-      its = (subst (λ ms. Each (Bring w.log p k) ms) takes.waits (h.brings p k (let count = takes.count in rw count takes.sender) (let count = takes.count in rw count takes.receiver))).0
-
-      brings_after : EachSent (Bring log) k did.sends → OnLinks (Bring v.log) v
-      brings_after sent = subst (λ q. OnLinks (Bring q) v) (sym left.log) (on_links_after (Bring log) step n w k p (node_of j.nodes k) m rest takes (λ s r hs hr. each_weaker (λ x. chunks_later f c items w.log did.notes (brought x)) _ (h.brings s r hs hr)) sent)
+      -- a copy's chunks are of fronts
+      its : AreFronted f gn j.world (kept_of m)
+      its = (subst (λ ms. EachOn (λ y. AreFronted f gn j.world (kept_of y)) ms) takes.waits (fronts.each p k (let count = takes.count in rw count takes.sender) (let count = takes.count in rw count takes.receiver))).0
 
       -- another instance
       stays : (i : ℕ) → instance_node i ≢ k → (u : units.Unit) → SeesMore f c items (went f c items u v.log) (standby_at w i u) (standby_at v i u)
       stays i off u =
           let same : standby_at v i u ≡ standby_at w i u = ap (standby_in u) (same_place w.nodes v.nodes (instance_node i) (takes.count ∙ sym left.count) (λ d. left.others (instance_node i) d off)) in
-          subst (λ q. SeesMore f c items (went f c items u q) (standby_at w i u) (standby_at v i u)) (sym left.log)
+          subst (λ l. SeesMore f c items (went f c items u l) (standby_at w i u) (standby_at v i u)) (sym left.log)
           (subst (λ o. SeesMore f c items (went f c items u log) (standby_at w i u) o) (sym same)
-          (sees_same f c items (went f c items u log) (standby_at w i u) (later f c items u w.log did.notes (standby_at w i u) (h.standby i u))))
+          (sees_same f c items (went f c items u log) (standby_at w i u) (later f c items u w.log (node_step f (node_of j.nodes k) p m).notes (standby_at w i u) (stands_front f c items is nodes_count w takes.count j i u))))
 
-      -- a node that isn't an instance
-      quiet : k < 2 → EachSent (Bring log) k did.sends → GoesOn w v
-      quiet few sent = record { sees = λ i u. stays i (λ e. absurd (omega (arith, few, e))) u; brings = brings_after sent }
+    module _ (y : ℕ) (m : Msg) (takes : Takes (node_step f) nodes_count w (suc (suc y)) p (node_of j.nodes (suc (suc y))) m rest) (t : IsTaken f gn nodes_count x (record { node = suc (suc y); port = p; message = m })) (room : (u : units.Unit) → length (went f c items u (taken (node_step f) w (at (suc (suc y)) p)).log) ≤ most_counted) where
+      abbrev own : InstanceState F R
+      own = j.nodes.instance (suc (suc y))
 
-    abbrev WasReady : ℕ → Msg → Type 0
-    WasReady k m = is_input (at k p) ≡ true → node_ready (node_of j.nodes k) m ≡ true
+      abbrev did : Step F R
+      did = instance_step f own m
 
-    at_switch : (m : Msg) (takes : Takes step n w 0 p (node_of j.nodes 0) m rest) → WasReady 0 m → GoesOn w (taken step w (at 0 p))
-    at_switch m takes ready =
-        let did = switch_step j.nodes.switch m in
-        let log = w.log ++ did.notes in
-        let labels = (step_leads f laws g (all_fit f c items is) n refl w 0 p m rest j takes ready).labels in
-        quiet 0 m takes (omega arith) (each_brings (AreOfFronts f c items log) (no_chunks_fronts f c items log) 0 did.sends (none_bring (AreOfFronts f c items log) (no_chunks_fronts f c items log) did.sends (switch_brings_none f g did.sends labels)))
+      node_is : instance_node y ≡ suc (suc y)
+      node_is = omega arith
 
-    at_controller : (m : Msg) (takes : Takes step n w 1 p (node_of j.nodes 1) m rest) → GoesOn w (taken step w (at 1 p))
-    at_controller m takes =
-        let s = j.nodes.controller in
-        let did = controller_step s p m in
-        let log = w.log ++ did.notes in
-        quiet 1 m takes (omega arith) (each_brings (AreOfFronts f c items log) (no_chunks_fronts f c items log) 1 did.sends (controller_brings (AreOfFronts f c items log) (no_chunks_fronts f c items log) s p m (chunks_later f c items w.log did.notes (brought m) (its 1 m takes))))
+      there : slice_get w.nodes (instance_node y) ≡ Some (Instance own)
+      there = subst (λ z. slice_get w.nodes z ≡ Some (Instance own)) (sym node_is) (slice_get-get_or w.nodes (suc (suc y)) (Instance own) (let small = takes.receiver in let count = takes.count in rw count small) ∙ ap Some (j.nodes_are (suc (suc y)) takes.receiver (Instance own)))
 
-    module _ (y : ℕ) where
-      abbrev k : ℕ
-      k = suc (suc y)
+      after : slice_get (v (suc (suc y)) m takes).nodes (instance_node y) ≡ Some (Instance did.node)
+      after =
+          let out = left (suc (suc y)) m takes in
+          subst (λ z. slice_get (v (suc (suc y)) m takes).nodes z ≡ Some (Instance did.node)) (sym node_is) (slice_get-get_or (v (suc (suc y)) m takes).nodes (suc (suc y)) (Instance did.node) (let small = takes.receiver in let count = out.count in rw count small) ∙ ap Some (out.own (Instance did.node)))
 
-      abbrev i : InstanceState F R
-      i = j.nodes.instance k
+      own_sees : (u : units.Unit) → SeesMore f c items (went f c items u (v (suc (suc y)) m takes).log) (standby_at w y u) (standby_at (v (suc (suc y)) m takes) y u)
+      own_sees u =
+          let out = left (suc (suc y)) m takes in
+          let sees = instance_sees f laws c items is nodes_count x j.shown_is p y (j.shown_is.instances (suc (suc y)) (omega arith) takes.receiver) u m t (its (suc (suc y)) m takes) (subst (λ l. length (went f c items u l) ≤ most_counted) out.log (room u)) in
+          subst (λ l. SeesMore f c items (went f c items u l) (standby_at w y u) (standby_at (v (suc (suc y)) m takes) y u)) (sym out.log)
+          (subst (λ o. SeesMore f c items (went f c items u (w.log ++ did.notes)) o (standby_at (v (suc (suc y)) m takes) y u)) (sym (ap (standby_in u) there))
+          (subst (λ o. SeesMore f c items (went f c items u (w.log ++ did.notes)) (finite.get own.table.standby u) o) (sym (ap (standby_in u) after)) sees))
 
-      at_instance : (m : Msg) (takes : Takes step n w k p (Instance i) m rest) → WasReady k m → ((u : units.Unit) → length (went f c items u (taken step w (at k p)).log) ≤ most_counted) → GoesOn w (taken step w (at k p))
-      at_instance m takes ready room =
-          let v = taken step w (at k p) in
-          let did = instance_step f i m in
-          let out = left k m takes in
-          let log = w.log ++ did.notes in
-          let number : instance_node y ≡ k = omega arith in
-          let small : k < n = takes.receiver in
-          let there : slice_get w.nodes (instance_node y) ≡ Some (Instance i) = subst (λ z. slice_get w.nodes z ≡ Some (Instance i)) (sym number) (slice_get-get_or w.nodes k (Instance i) (let count = takes.count in rw count small) ∙ ap Some (j.nodes_are k small (Instance i))) in
-          let then : slice_get v.nodes (instance_node y) ≡ Some (Instance did.node) = subst (λ z. slice_get v.nodes z ≡ Some (Instance did.node)) (sym number) (slice_get-get_or v.nodes k (Instance did.node) (let count = out.count in rw count small) ∙ ap Some (out.own (Instance did.node))) in
-          let shown = j.shown_is.instances k (omega arith) small in
-          let known : IsKnown f laws c items is w.log i = record {
-            sound = shown.records.sound;
-            live = λ u r got. live_folds f c items is n w takes.count j u y r (ap (live_in u) there ∙ got);
-            standby = λ u. subst (λ o. IsOfFront f c items (went f c items u w.log) o) (ap (standby_in u) there) (h.standby y u);
-          } in
-          let goes = instance_goes f laws c items is w.log i known g p k m (label f laws g (all_fit f c items is) n refl w k p m rest j takes ready) (its k m takes) (λ u. subst (λ q. length (went f c items u q) ≤ most_counted) out.log (room u)) in
-          record {
-            sees = λ z u. elim (z == y) as (λ t. (z == y) ≡ t → SeesMore f c items (went f c items u v.log) (standby_at w z u) (standby_at v z u)) [
-              | true ↦ λ on.
-                  let same : z ≡ y = (Decides-eqb z y).0 on in
-                  subst (λ a. SeesMore f c items (went f c items u v.log) (standby_at w a u) (standby_at v a u)) (sym same)
-                  (subst (λ q. SeesMore f c items (went f c items u q) (standby_at w y u) (standby_at v y u)) (sym out.log)
-                  (subst (λ o. SeesMore f c items (went f c items u log) o (standby_at v y u)) (sym (ap (standby_in u) there))
-                  (subst (λ o. SeesMore f c items (went f c items u log) (finite.get i.table.standby u) o) (sym (ap (standby_in u) then)) (goes.sees u))))
-              | false ↦ λ off. stays k m takes z (λ e. (let bad : z ≡ y = omega (arith, e) in let never : true ≡ false = sym ((Decides-eqb z y).1 bad) ∙ off in cc)) u
-            ] refl;
-            brings = brings_after k m takes (each_brings (AreOfFronts f c items log) (no_chunks_fronts f c items log) k did.sends goes.brings);
-          }
+      at_instance : GoesOn w (v (suc (suc y)) m takes)
+      at_instance i u = elim (i == y) as (λ b. (i == y) ≡ b → SeesMore f c items (went f c items u (v (suc (suc y)) m takes).log) (standby_at w i u) (standby_at (v (suc (suc y)) m takes) i u)) [
+        | true ↦ λ on. subst (λ z. SeesMore f c items (went f c items u (v (suc (suc y)) m takes).log) (standby_at w z u) (standby_at (v (suc (suc y)) m takes) z u)) (sym ((Decides-eqb i y).0 on)) (own_sees u)
+        | false ↦ λ off. stays (suc (suc y)) m takes i (λ e. (let bad : i ≡ y = omega (arith, e) in let never : true ≡ false = sym ((Decides-eqb i y).1 bad) ∙ off in cc)) u
+      ] refl
 
-    -- a choice that is taken, after which no more was processed of a unit than a record counts
-    pub goes_on : (k : ℕ) (m : Msg) (takes : Takes step n w k p (node_of j.nodes k) m rest) → WasReady k m → ((u : units.Unit) → length (went f c items u (taken step w (at k p)).log) ≤ most_counted) → GoesOn w (taken step w (at k p))
-    goes_on zero m takes ready room = at_switch m takes ready
-    goes_on (suc zero) m takes ready room = at_controller m takes
-    goes_on (suc (suc y)) m takes ready room = at_instance y m takes ready room
+    by_node : (k : ℕ) (m : Msg) (takes : Takes (node_step f) nodes_count w k p (node_of j.nodes k) m rest) → IsTaken f gn nodes_count x (record { node = k; port = p; message = m }) → ((u : units.Unit) → length (went f c items u (taken (node_step f) w (at k p)).log) ≤ most_counted) → GoesOn w (taken (node_step f) w (at k p))
+    by_node zero m takes t room = λ i u. stays 0 m takes i (λ e. absurd (omega (arith, e))) u
+    by_node (suc zero) m takes t room = λ i u. stays 1 m takes i (λ e. absurd (omega (arith, e))) u
+    by_node (suc (suc y)) m takes t room = at_instance y m takes t room
+
+  -- after which no more was processed of a unit than a record counts
+  pub goes_on : (w : Network (Node F R) Msg Note) (d : Choice) → Taking node_ready (node_step f) nodes_count w d → (j : Joined f gn nodes_count w) → HasBeside f gn nodes_count w j → ((u : units.Unit) → length (went f c items u (taken (node_step f) w d).log) ≤ most_counted) → GoesOn w (taken (node_step f) w d)
+  goes_on w d t j b room = by_node w j b.kept.fronts d.port t.rest d.node t.message (its_takes f laws gn (all_fit f c items is) nodes_count refl w d t j b) (its_taken f laws gn (all_fit f c items is) nodes_count refl w d t j b) room

@@ -4,7 +4,7 @@ use Rattle.std.specs.Prelude.{◌==◌, ◌&&◌}
 use Rattle.std.specs.declared.alloc.Global.{Global}
 use Rattle.std.proofs.lemmas.Bool.Decides.{nat_tests, Decides-eqb}
 use Rattle.std.proofs.lemmas.Option.{slice_get-get_or}
-use Rattle.nf_function.specs.Records.{Fits, Laws as FunctionLaws}
+use Rattle.nf_function.specs.Records.{Laws as FunctionLaws}
 use Rattle.nf_function.specs.Semantics.{Semantics}
 use Rattle.nf_msgs.specs.declared.msg.Msg.{Msg}
 use Rattle.nf_msgs.specs.declared.msg.Msg.TheVariants as msg
@@ -17,7 +17,7 @@ use Rattle.actor_net.proofs.StepOutcome.{Takes, taken_outcome}
 use Rattle.actor_net.proofs.RunInduction.{Taking, run_induction, run_world}
 use Rattle.actor_net.proofs.OpeningWorlds.{opening_weight}
 use Rattle.actor_net.proofs.CompleteWorlds.{done_node, done_weight}
-use Rattle.actor_net.proofs.WeightLaws.{weigh, total, sent_weight, total_after}
+use Rattle.actor_net.proofs.WeightLaws.{EachSent, weigh, total, sent_weight, total_after}
 use Rattle.unit_machine.proofs.Labels.{Each}
 use Rattle.net_world.specs.declared.config.Config.{Config}
 use Rattle.net_world.specs.declared.node.Node.{Node}
@@ -27,11 +27,12 @@ use Rattle.net_world.specs.Log.{arrived, done}
 use Rattle.net_world.specs.Nodes.{node_step, node_ready, node_ended}
 use Rattle.net_world.specs.Start.{first_nodes, first_switch, started}
 use Rattle.net_world.specs.Window.{Window, AllHome, switch_in, switch_of}
-use Rattle.joined_net.proofs.LogLemmas.{arrived-append, done-append}
-use Rattle.joined_net.proofs.StartJoined.{given, all_fit, all_labelled, count_at_start, start_joined}
-use Rattle.joined_net.proofs.Joined.{Given, Label, Joined, count, node_of}
-use Rattle.joined_net.proofs.JoinedSteps.{label, step_leads, joined_next}
-use Rattle.joined_net.proofs.RunsJoined.{start_world}
+use Rattle.whole_joined.proofs.LogLemmas.{arrived-append, done-append}
+use Rattle.whole_joined.proofs.StartJoined.{given, all_fit, all_labelled, count_at_start}
+use Rattle.whole_joined.proofs.Given.{Given}
+use Rattle.whole_joined.proofs.Joined.{Label, Joined, node_of}
+use Rattle.whole_joined.proofs.BesideRuns.{its_takes, its_label, its_labels}
+use Rattle.whole_joined.proofs.RunsJoined.{Runs, runs_at_start, runs_next, start_world}
 use Rattle.answer_net.proofs.CreditCounts.{credit, no_credit_from, no_credit_to, none_sent, instance_is}
 use Rattle.nf_net.proofs.WindowSteps.{controller_came, controller_went, switch_counts}
 use Rattle.nf_net.proofs.PacketCounts.{few_done}
@@ -44,7 +45,7 @@ record InWindow (window : ℕ) {F R : Type 0} (w : Network (Node F R) Msg Note) 
   home : switch.flying + switch.pool.home ≡ window
   balance : length (done w.log) + switch.flying ≡ length (arrived w.log) + total credit w
 
-module _ {F R : Type 0} (f : Semantics R) (laws : FunctionLaws f) (g : Given) (fitting : (number : ℕ) → Fits g.site (g.packet number)) (n : ℕ) (count_is : n ≡ count f g + 2) (window : ℕ) where
+module _ {F R : Type 0} (f : Semantics R) (g : Given) (n : ℕ) (window : ℕ) where
   abbrev step : Node F R → ℕ → Msg → Stepped (Node F R) Msg Note
   step = node_step f
 
@@ -58,12 +59,11 @@ module _ {F R : Type 0} (f : Semantics R) (laws : FunctionLaws f) (g : Given) (f
       let came : length (arrived (taken step w (at k p)).log) ≡ length (arrived w.log) + length (arrived notes) = ap (λ v. length (arrived v)) left.log ∙ ap length (arrived-append w.log notes) ∙ length-append (arrived w.log) (arrived notes) in
       omega (arith, balance, changes, weight, went, came)
 
-  window_after : (w : Network (Node F R) Msg Note) (k p : ℕ) (m : Msg) (rest : List Msg) (j : Joined f g n w) (takes : Takes step n w k p (node_of j.nodes k) m rest) → (is_input (at k p) ≡ true → node_ready (node_of j.nodes k) m ≡ true) → length (done w.log) ≤ length (arrived w.log) → InWindow window w → InWindow window (taken step w (at k p))
-  window_after w zero p m rest j takes ready few h =
+  window_after : (w : Network (Node F R) Msg Note) (k p : ℕ) (m : Msg) (rest : List Msg) (j : Joined f g n w) (takes : Takes step n w k p (node_of j.nodes k) m rest) → Label f g p k m → EachSent (Label f g) k (step (node_of j.nodes k) p m).sends → length (done w.log) ≤ length (arrived w.log) → InWindow window w → InWindow window (taken step w (at k p))
+  window_after w zero p m rest j takes labelled labels few h =
       let s = j.nodes.switch in
       let left = taken_outcome step n w 0 p (Switch s) m rest takes in
-      let labelled = label f laws g fitting n count_is w 0 p m rest j takes ready in
-      let sent : sent_weight credit n 0 (switch_step s m).sends ≡ 0 = none_sent f g n 0 (switch_step s m).sends (omega arith) (step_leads f laws g fitting n count_is w 0 p m rest j takes ready).labels in
+      let sent : sent_weight credit n 0 (switch_step s m).sends ≡ 0 = none_sent f g n 0 (switch_step s m).sends (omega arith) labels in
       let is : Switch h.switch ≡ Switch s = sym (h.there (Switch h.switch)) ∙ j.nodes_are 0 takes.some (Switch h.switch) in
       let same : h.switch ≡ s = cc in
       let balance : length (done w.log) + s.flying ≡ length (arrived w.log) + total credit w = ap (λ x. length (done w.log) + x.flying) (sym same) ∙ h.balance in
@@ -81,10 +81,10 @@ module _ {F R : Type 0} (f : Semantics R) (laws : FunctionLaws f) (g : Given) (f
         home = did.home;
         balance = balance_after w 0 p (Switch s) m rest takes s.flying (switch_step s m).node.flying balance (omega (arith, flying, went, sent));
       }
-  window_after w (suc zero) p m rest j takes ready few h =
+  window_after w (suc zero) p m rest j takes labelled labels few h =
       let left = taken_outcome step n w 1 p (node_of j.nodes 1) m rest takes in
-      let none = no_credit_to f g p 1 m (omega arith) (label f laws g fitting n count_is w 1 p m rest j takes ready) in
-      let sent = none_sent f g n 1 (step (node_of j.nodes 1) p m).sends (omega arith) (step_leads f laws g fitting n count_is w 1 p m rest j takes ready).labels in
+      let none = no_credit_to f g p 1 m (omega arith) labelled in
+      let sent = none_sent f g n 1 (step (node_of j.nodes 1) p m).sends (omega arith) labels in
       let came = ap length (controller_came j.nodes.controller p m) in
       let went = ap length (controller_went j.nodes.controller p m) in
       record {
@@ -94,11 +94,11 @@ module _ {F R : Type 0} (f : Semantics R) (laws : FunctionLaws f) (g : Given) (f
         home = h.home;
         balance = balance_after w 1 p (node_of j.nodes 1) m rest takes h.switch.flying h.switch.flying h.balance (omega (arith, none, sent, came, went));
       }
-  window_after w (suc (suc i)) p m rest j takes ready few h =
+  window_after w (suc (suc i)) p m rest j takes labelled labels few h =
       let k : ℕ = suc (suc i) in
       let instance = j.nodes.instance k in
       let left = taken_outcome step n w k p (node_of j.nodes k) m rest takes in
-      let none = no_credit_to f g p k m (omega arith) (label f laws g fitting n count_is w k p m rest j takes ready) in
+      let none = no_credit_to f g p k m (omega arith) labelled in
       let some = takes.some in
       let reach : reaches n k 0 ≡ true = grind (arith, nat_tests, some) in
       let did = instance_is f n k reach instance m in
@@ -133,13 +133,14 @@ module _ (F : Type 0) {R : Type 0} (f : Semantics R) (laws : FunctionLaws f) (al
     balance = let none = opening_weight Note (first_nodes {F = F} {R = R} alloc c) items credit in let given_none = items_none f (given f c items is) items (all_labelled f c items is) in omega (arith, none, given_none);
   }
 
-  window_next : (w : Network (Node F R) Msg Note) (k : Choice) → Taking node_ready (node_step f) nodes w k → Joined f (given f c items is) nodes w → InWindow c.window w → InWindow c.window (taken (node_step f) w k)
-  window_next w k t j h =
-      let same : t.node ≡ node_of j.nodes k.node = sym (t.takes.node_is t.node) ∙ j.nodes_are k.node t.takes.receiver t.node in
-      window_after f laws (given f c items is) (all_fit f c items is) nodes refl c.window w k.node k.port t.message t.rest j (subst (λ y. Takes (node_step f) nodes w k.node k.port y t.message t.rest) same t.takes) (subst (λ y. is_input k ≡ true → node_ready y t.message ≡ true) same t.was_ready) (few_done f c items is nodes w j) h
+  window_next : (w : Network (Node F R) Msg Note) (k : Choice) → Taking node_ready (node_step f) nodes w k → Runs F f laws alloc c items is w → InWindow c.window w → InWindow c.window (taken (node_step f) w k)
+  window_next w k t r h =
+      let g : Given = given f c items is in
+      let fitting = all_fit f c items is in
+      window_after f g nodes c.window w k.node k.port t.message t.rest r.joined (its_takes f laws g fitting nodes refl w k t r.joined r.beside) (its_label f laws g fitting nodes refl w k t r.joined r.beside) (its_labels f laws g fitting nodes refl w k t r.joined r.beside) (few_done f c items is nodes w r.joined) h
 
   in_window : (cs : List Choice) → IsRun node_ready (node_step f) cs start → InWindow c.window (run (node_step f) cs start)
-  in_window cs run_is = (run_induction node_ready (node_step f) nodes (λ _ w. Joined f (given f c items is) nodes w × InWindow c.window w) start (λ _ w k next h. (joined_next f laws (given f c items is) (all_fit f c items is) nodes refl w k next.taking h.0, window_next w k next.taking h.0 h.1)) (start_world F f laws alloc c items is) (count_at_start F f alloc c items is) (start_joined F f alloc c items is, window_at_start) cs run_is).1
+  in_window cs run_is = (run_induction node_ready (node_step f) nodes (λ _ w. Runs F f laws alloc c items is w × InWindow c.window w) start (λ _ w k next h. (runs_next F f laws alloc c items is w k next.taking h.0, window_next w k next.taking h.0 h.1)) (start_world F f laws alloc c items is) (count_at_start F f alloc c items is) (runs_at_start F f laws alloc c items is, window_at_start) cs run_is).1
 
   switch_there : (cs : List Choice) (run_is : IsRun node_ready (node_step f) cs start) → switch_of (run (node_step f) cs start) ≡ Some (in_window cs run_is).switch
   switch_there cs run_is =

@@ -5,7 +5,7 @@ use Rattle.nf_io.specs.Meaning.{Meaning, Rose}
 use Rattle.actor_net.specs.declared.choice.Choice.{Choice}
 use Rattle.command_words.specs.Plan.{Asked}
 use Rattle.opennf_calls.specs.declared.status.Status.{Status}
-use Rattle.opennf_calls.specs.declared.status.Status.TheVariants.{Ok as Done, Usage, BadScript, BadTrace, BadJournal, NotBuilt, NotARun, Unfinished, ReadFault, WriteFault, NoMemory}
+use Rattle.opennf_calls.specs.declared.status.Status.TheVariants.{Ok as Done, Usage, BadScript, BadTrace, BadJournal, NotARun, Unfinished, ReadFault, WriteFault, NoMemory}
 use Rattle.opennf_calls.specs.declared.outcome.Outcome.{Outcome}
 use Rattle.opennf_calls.specs.Outcome.{HasInput, RowOf, CauseOf, IsComplete, IsGoodEnd, Is_done, Is_memory, Is_no_run, Is_short, refusal_of}
 
@@ -19,7 +19,6 @@ complete_row asked old new choices Done bytes row told sound calm = Is_done refl
 complete_row asked old new choices NoMemory bytes row told sound calm = Is_memory refl
 complete_row asked old new choices (Unfinished step) bytes row told sound calm = Is_short step refl
 complete_row asked old new choices (NotARun step) bytes row told sound calm = Is_no_run step refl
-complete_row asked old new choices (NotBuilt command) bytes row told sound calm = absurd (never asked bytes _ sound (row.0.refusal bytes told))
 complete_row asked old new choices (WriteFault role) bytes row told sound calm = absurd (calm role row.rose)
 complete_row asked old new choices (ReadFault role) bytes row told sound calm = absurd (calm role row.0.rose)
 complete_row asked old new choices (BadTrace offset kind) bytes row told sound calm = absurd (never asked bytes _ sound (row.0.refusal bytes told))

@@ -1,13 +1,11 @@
 -- What a run of the network is given, or why it is given nothing: a script where the words name one, and then a capture.
-use Rattle.std.proofs.Common.{◌≡◌, ℕ, List, [], ◌∷◌, map, true, false, Option, None, Some, is_some, is_none, Ok, Err, refl, ap, ◌∙◌, subst}
+use Rattle.std.proofs.Common.{◌≡◌, ℕ, List, [], true, false, Option, None, Some, is_some, is_none, Ok, Err, refl, ap, ◌∙◌, subst}
 use Rattle.std.specs.Prelude.{option_map}
 use Rattle.std.specs.Borrow.{Bor}
 use Rattle.flow_filter.specs.declared.site.Site.{Site}
 use Rattle.nf_io.specs.declared.outside.Role.{Role}
 use Rattle.nf_io.specs.declared.outside.Role.TheVariants.{Trace, Script, JournalIn}
 use Rattle.nf_io.specs.Meaning.{Meaning, Rose}
-use Rattle.nf_msgs.specs.declared.command.Order.{Order}
-use Rattle.nf_msgs.specs.declared.command.Order.TheVariants.{Move, Copy, Share}
 use Rattle.trace_reader.specs.declared.trace.Trace.{Trace as Captured}
 use Rattle.trace_reader.specs.declared.fault.TraceFault.{TraceFault}
 use Rattle.trace_reader.specs.declared.fault.TraceFault.TheVariants as fault
@@ -16,29 +14,14 @@ use Rattle.trace_reader.specs.Records.{capture_of}
 use Rattle.op_script.specs.declared.fault.ScriptFault.{ScriptFault}
 use Rattle.op_script.specs.declared.fault.ScriptFault.TheVariants as unread
 use Rattle.op_script.specs.declared.fault.ScriptKind.{ScriptKind}
-use Rattle.op_script.specs.declared.script.Line.{Line}
 use Rattle.op_script.specs.declared.script.Script.{Script as TheScript}
-use Rattle.op_script.specs.declared.script.What.{What}
-use Rattle.op_script.specs.declared.script.What.TheVariants as what
-use Rattle.op_script.specs.Reading.{line_view, what_view, order_view, script_of}
+use Rattle.op_script.specs.Reading.{script_of}
 use Rattle.command_words.specs.Plan.{NetworkAsked}
-use Rattle.run_input.specs.Given as input
 use Rattle.opennf_calls.specs.declared.status.Status.{Status}
-use Rattle.opennf_calls.specs.declared.status.Status.TheVariants.{NotBuilt}
-use Rattle.opennf_calls.specs.Outcome.{IsSite, first_refusal, inputs_refusal, run_refusal, trace_refusal}
-use Rattle.opennf_calls.specs.NetworkRuns.{first_unbuilt_line, given_script, unbuilt_what}
+use Rattle.opennf_calls.specs.Outcome.{IsSite, first_refusal, inputs_refusal, script_refusal, trace_refusal}
+use Rattle.opennf_calls.specs.NetworkRuns.{given_script}
 use Rattle.opennf_calls.specs.Phases.{HasInputs, HasScript, InputsFail, ReadAlone, RefusesInputs, TellsInputs}
 use Rattle.opennf_calls.specs.Status.{script_status, trace_status}
-
--- a command is built where its view is
-unbuilt_as_seen : (w : What) → unbuilt_what (what_view w) ≡ input.unbuilt w
-unbuilt_as_seen (what.Command command) = by command.what
-  where
-    by : (order : Order) → unbuilt_what (Some (command.op, order_view order)) ≡ input.unbuilt_order command.op order
-    by (Move source destination filter keep) = refl
-    by (Copy source destination filter) = refl
-    by (Share members filter) = refl
-unbuilt_as_seen what.Settle = refl
 
 -- a file that is named is there
 pub is_named : (file : Option (Bor (List ℕ))) → is_none file ≡ false → is_some (option_map (λ t. t.now) file) ≡ true
@@ -48,36 +31,22 @@ is_named (Some name) none = refl
 pub named_script : (s : NetworkAsked) (bytes : List ℕ) → is_some s.script ≡ true → given_script s bytes ≡ script_of s.kind s.instances.names bytes
 named_script s bytes named = rw named refl
 
--- the first line that isn't built, in the lines and in their views
-pub first_as_seen : (lines : List Line) → first_unbuilt_line (map line_view lines) ≡ input.first_unbuilt lines
-first_as_seen [] = refl
-first_as_seen (line ∷ more) =
-    ap (λ first. input.or_else first (first_unbuilt_line (map line_view more))) (unbuilt_as_seen line.what)
-    ∙ ap (λ rest. input.or_else (input.unbuilt line.what) rest) (first_as_seen more)
-
 -- a script that is refused
 pub script_fails : (s : NetworkAsked) (old new : Role → Meaning) (e : ScriptFault)
     → ((line : ℕ) (kind : ScriptKind) → e ≡ unread.Bad line kind → (bytes : Role → List ℕ) → TellsInputs s old bytes → given_script s (bytes Script) ≡ Err (line, kind))
     → InputsFail s old new (script_status e)
 script_fails s old new (unread.Bad line kind) says = λ bytes told.
-    ap (λ said. first_refusal (run_refusal said) (trace_refusal (capture_of (bytes Trace)))) (says line kind refl bytes told)
+    ap (λ said. first_refusal (script_refusal said) (trace_refusal (capture_of (bytes Trace)))) (says line kind refl bytes told)
 script_fails s old new unread.NoMemory says = tt
 
 -- a script has been read
 module _ (s : NetworkAsked) (old mid : Role → Meaning) (script : TheScript) (first : ReadAlone Script old mid) (has : HasScript s old mid script) where
-  -- a command of it isn't built
-  pub unbuilt_fails : (command : ℕ) → input.first_unbuilt script.lines.items ≡ Some command → InputsFail s old mid (NotBuilt command)
-  unbuilt_fails command is bytes told =
-      ap (λ said. first_refusal (run_refusal said) (trace_refusal (capture_of (bytes Trace)))) (has.said bytes told)
-      ∙ rw (first_as_seen script.lines.items) (rw is refl)
-
   -- the capture is read behind it
-  module _ (new : Role → Meaning) (second : ReadAlone Trace mid new) (built : input.first_unbuilt script.lines.items ≡ None) where
+  module _ (new : Role → Meaning) (second : ReadAlone Trace mid new) where
     -- then the capture alone refuses
     refusal : (bytes : Role → List ℕ) → TellsInputs s old bytes → inputs_refusal s bytes ≡ trace_refusal (capture_of (bytes Trace))
     refusal bytes told =
-        ap (λ said. first_refusal (run_refusal said) (trace_refusal (capture_of (bytes Trace)))) (has.said bytes told)
-        ∙ rw (first_as_seen script.lines.items) (rw built refl)
+        ap (λ said. first_refusal (script_refusal said) (trace_refusal (capture_of (bytes Trace)))) (has.said bytes told)
 
     same_trace : mid Trace ≡ old Trace
     same_trace = first.others Trace (λ same. cc)

@@ -8,7 +8,7 @@ use Rattle.nf_io.specs.Meaning.{Meaning, Rose, AppendsFront}
 use Rattle.actor_net.specs.declared.choice.Choice.{Choice}
 use Rattle.command_words.specs.Plan.{Asked}
 use Rattle.opennf_calls.specs.declared.status.Status.{Status}
-use Rattle.opennf_calls.specs.declared.status.Status.TheVariants.{Ok as Done, Usage, BadScript, BadTrace, BadJournal, NotBuilt, NotARun, Unfinished, ReadFault, WriteFault, NoMemory}
+use Rattle.opennf_calls.specs.declared.status.Status.TheVariants.{Ok as Done, Usage, BadScript, BadTrace, BadJournal, NotARun, Unfinished, ReadFault, WriteFault, NoMemory}
 use Rattle.opennf_calls.specs.declared.outcome.Outcome.{Outcome}
 use Rattle.opennf_calls.specs.Command.{is_result, comes_before}
 use Rattle.opennf_calls.specs.NetworkRuns.{Gives}
@@ -146,7 +146,6 @@ module _ (before old mid new : Role → Meaning) (around : Around before old mid
   row_around asked choices (BadScript line kind) row = (refused asked (BadScript line kind) row.0, row.1)
   row_around asked choices (BadTrace offset kind) row = (refused asked (BadTrace offset kind) row.0, row.1)
   row_around asked choices (BadJournal kind) row = (refused asked (BadJournal kind) row.0, row.1)
-  row_around asked choices (NotBuilt command) row = (refused asked (NotBuilt command) row.0, row.1)
   row_around asked choices (NotARun step) row = (no_run asked step row.0, row.1)
   row_around asked choices (Unfinished step) row = (unfinished asked step row.0, row.1)
   row_around asked choices NoMemory row = (silent row.0, row.1)

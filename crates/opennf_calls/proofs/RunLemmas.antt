@@ -30,7 +30,7 @@ use Rattle.run_report.specs.Audits.{IsCause}
 use Rattle.run_report.specs.Lines.{report_text}
 use Rattle.opennf_calls.specs.declared.network.Made.{Made}
 use Rattle.opennf_calls.specs.declared.status.Status.{Status}
-use Rattle.opennf_calls.specs.declared.status.Status.TheVariants.{BadTrace, BadJournal, NotBuilt, NotARun, Unfinished, NoMemory, Ok as Done, Usage, BadScript, ReadFault, WriteFault}
+use Rattle.opennf_calls.specs.declared.status.Status.TheVariants.{BadTrace, BadJournal, NotARun, Unfinished, NoMemory, Ok as Done, Usage, BadScript, ReadFault, WriteFault}
 use Rattle.opennf_calls.specs.NetworkRuns.{Given, HasNoRun, HasShortRun, IsNoRun, IsRunOf, StopsShort, config_for, head_for, items_for}
 use Rattle.opennf_calls.specs.Phases.{EndsEarly, EndsEarlyAs, IsRefusedAs, IsRefusedRun, gives}
 use Rattle.opennf_calls.specs.Status.{audit_status, run_status}
@@ -111,7 +111,6 @@ module _ {R : Type 0} (F : Type 0) (f : Semantics R) (s : NetworkAsked) (g : Giv
   early schedule same (BadScript line kind) stops = absurd stops
   early schedule same (BadTrace offset kind) stops = absurd stops
   early schedule same (BadJournal fault) stops = absurd stops
-  early schedule same (NotBuilt command) stops = absurd stops
   early schedule same (NotARun step) stops = absurd stops
   early schedule same (ReadFault role) stops = absurd stops
   early schedule same (WriteFault role) stops = absurd stops
@@ -126,7 +125,6 @@ module _ {R : Type 0} (F : Type 0) (f : Semantics R) (s : NetworkAsked) (g : Giv
   no_run choices same (BadScript line kind) cause = absurd cause
   no_run choices same (BadTrace offset kind) cause = absurd cause
   no_run choices same (BadJournal fault) cause = absurd cause
-  no_run choices same (NotBuilt command) cause = absurd cause
   no_run choices same (ReadFault role) cause = absurd cause
   no_run choices same (WriteFault role) cause = absurd cause
 

@@ -8,7 +8,7 @@ use Rattle.nf_io.specs.Roles.{is_read}
 use Rattle.actor_net.specs.declared.schedule.Schedule.{Schedule}
 use Rattle.command_words.specs.Plan.{Asked, NetworkAsked, asks_sim, asks_run, asks_audit}
 use Rattle.opennf_calls.specs.declared.status.Status.{Status}
-use Rattle.opennf_calls.specs.declared.status.Status.TheVariants.{Ok as Done, Usage, BadScript, BadTrace, BadJournal, NotBuilt, NotARun, Unfinished, ReadFault, WriteFault, NoMemory}
+use Rattle.opennf_calls.specs.declared.status.Status.TheVariants.{Ok as Done, Usage, BadScript, BadTrace, BadJournal, NotARun, Unfinished, ReadFault, WriteFault, NoMemory}
 use Rattle.opennf_calls.specs.declared.network.Made.{Made}
 use Rattle.opennf_calls.specs.Command.{is_input, run_file, with_journal}
 use Rattle.opennf_calls.specs.NetworkRuns.{Given, Gives, HasRun}
@@ -85,7 +85,6 @@ module _ (s : NetworkAsked) (asked : Asked) (reads : Reads s asked) (old new : R
   fails_row NoMemory fails = (silent old new only, refl)
   fails_row (BadScript line kind) fails = (refuses (BadScript line kind) fails, refl)
   fails_row (BadTrace offset kind) fails = (refuses (BadTrace offset kind) fails, refl)
-  fails_row (NotBuilt command) fails = (refuses (NotBuilt command) fails, refl)
   fails_row Done fails = absurd fails
   fails_row Usage fails = absurd fails
   fails_row (BadJournal _) fails = absurd fails
@@ -135,7 +134,6 @@ module _ (s : NetworkAsked) (old new : Role → Meaning) (given : Given) (has : 
     early_row (BadScript line kind) stops = absurd stops
     early_row (BadTrace offset kind) stops = absurd stops
     early_row (BadJournal _) stops = absurd stops
-    early_row (NotBuilt command) stops = absurd stops
     early_row (NotARun step) stops = absurd stops
     early_row (ReadFault role) stops = absurd stops
     early_row (WriteFault role) stops = absurd stops

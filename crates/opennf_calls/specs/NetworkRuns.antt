@@ -18,7 +18,7 @@ use Rattle.trace_reader.specs.declared.trace.Trace.{Trace as Captured}
 use Rattle.op_script.specs.declared.script.Script.{Script as TheScript}
 use Rattle.op_script.specs.declared.fault.ScriptKind.{ScriptKind}
 use Rattle.op_script.specs.Items as script_items
-use Rattle.op_script.specs.Reading.{OrderView, Moves, Copies, Shares, LineView, ScriptView, script_of}
+use Rattle.op_script.specs.Reading.{ScriptView, script_of}
 use Rattle.command_words.specs.Plan.{NetworkAsked}
 use Rattle.nf_io.specs.declared.outside.Role.{Role}
 use Rattle.nf_io.specs.declared.outside.Role.TheVariants.{Report, JournalOut}
@@ -35,7 +35,6 @@ use Rattle.net_world.specs.Start.{started}
 use Rattle.nf_net.specs.Promises.{Standbys}
 use Rattle.nf_net.specs.Promises.{Verdicts}
 use Rattle.net_world.specs.Window.{AllHome}
-use Rattle.run_input.specs.Given.{or_else}
 use Rattle.run_report.specs.declared.head.Head.{Head}
 use Rattle.run_report.specs.Audits.{IsCause}
 use Rattle.run_report.specs.Lines.{report_text}
@@ -43,21 +42,6 @@ use Rattle.run_report.specs.Lines.{report_text}
 -- the script that the words' file is read as, and one without routes and lines where the words name none
 abbrev pub given_script : NetworkAsked → List ℕ → Result ScriptView (ℕ × ScriptKind)
 given_script s bytes = if is_some s.script then script_of s.kind s.instances.names bytes else Ok ([], [])
-
--- the number of a command that is a share
-abbrev pub unbuilt_order : ℕ → OrderView → Option ℕ
-unbuilt_order op (Moves source target filter keep) = None
-unbuilt_order op (Copies source target filter) = None
-unbuilt_order op (Shares members filter) = Some op
-
-abbrev pub unbuilt_what : Option (ℕ × OrderView) → Option ℕ
-unbuilt_what None = None
-unbuilt_what (Some command) = unbuilt_order command.0 command.1
-
--- the number of the first such command in file order
-abbrev pub first_unbuilt_line : List LineView → Option ℕ
-first_unbuilt_line [] = None
-first_unbuilt_line (line ∷ more) = or_else (unbuilt_what line.what) (first_unbuilt_line more)
 
 -- the network that the words and the routes ask for, at a site
 abbrev pub config_for : NetworkAsked → Site → List (Filter × ℕ) → Config

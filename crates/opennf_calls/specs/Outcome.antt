@@ -1,6 +1,6 @@
 -- What a run of the program reads, writes and answers: one table of statuses for all commands. A further command is a further
 -- case of `file_for`, `refusal_of` and `AreResults`; the table stays as it is. This project's own.
-use Rattle.std.specs.Prelude.{◌≡◌, ◌≢◌, ℕ, ◌++◌, List, [], codes, decimal, length, Option, None, Some, Bool, false, ◌&&◌, Result, Ok, Err, option_and_then, option_map, IsTrue, ◌⊎◌}
+use Rattle.std.specs.Prelude.{◌≡◌, ◌≢◌, ℕ, ◌++◌, List, [], codes, decimal, length, Option, None, Some, Bool, false, ◌&&◌, Result, Ok, Err, option_and_then, IsTrue, ◌⊎◌}
 use Rattle.std.specs.Io.KnownBytes.{Appends}
 use Rattle.nf_io.specs.declared.outside.Role.{Role}
 use Rattle.nf_io.specs.declared.outside.Role.TheVariants.{Trace, Script, JournalIn, Report, TraceOut, Errors}
@@ -20,10 +20,10 @@ use Rattle.actor_net.specs.declared.choice.Choice.{Choice}
 use Rattle.actor_net.specs.declared.schedule.Schedule.{Schedule}
 use Rattle.command_words.specs.Plan.{Asked, NetworkAsked, CheckAsked, GenAsked, asks_sim, asks_run, asks_audit, asks_check, asks_gen}
 use Rattle.opennf_calls.specs.declared.status.Status.{Status}
-use Rattle.opennf_calls.specs.declared.status.Status.TheVariants.{Ok as Done, Usage, BadScript, BadTrace, BadJournal, NotBuilt, NotARun, Unfinished, ReadFault, WriteFault, NoMemory}
+use Rattle.opennf_calls.specs.declared.status.Status.TheVariants.{Ok as Done, Usage, BadScript, BadTrace, BadJournal, NotARun, Unfinished, ReadFault, WriteFault, NoMemory}
 use Rattle.opennf_calls.specs.declared.outcome.Outcome.{Outcome}
 use Rattle.opennf_calls.specs.Command.{file_for, is_input, is_result, comes_before}
-use Rattle.opennf_calls.specs.NetworkRuns.{Given, Gives, given_script, first_unbuilt_line, HasRun, HasShortRun, HasNoRun}
+use Rattle.opennf_calls.specs.NetworkRuns.{Given, Gives, given_script, HasRun, HasShortRun, HasNoRun}
 use Rattle.opennf_calls.specs.Status.{line_of, trace_status, journal_status}
 
 -- the site with this inside prefix and this outside address
@@ -88,11 +88,6 @@ abbrev pub journal_refusal : Result (List Choice) JournalFault → Option Status
 journal_refusal (Ok choices) = None
 journal_refusal (Err fault) = Some (journal_status fault)
 
--- the status that refuses the script of a run
-abbrev pub run_refusal : Result ScriptView (ℕ × ScriptKind) → Option Status
-run_refusal (Ok script) = option_map NotBuilt (first_unbuilt_line script.1)
-run_refusal (Err fault) = Some (BadScript fault.0 fault.1)
-
 -- the first of two refusals
 abbrev pub first_refusal : Option Status → Option Status → Option Status
 first_refusal None next = next
@@ -100,7 +95,7 @@ first_refusal (Some status) next = Some status
 
 -- a run's script comes before its capture
 abbrev pub inputs_refusal : NetworkAsked → (Role → List ℕ) → Option Status
-inputs_refusal s bytes = first_refusal (run_refusal (given_script s (bytes Script))) (trace_refusal (capture_of (bytes Trace)))
+inputs_refusal s bytes = first_refusal (script_refusal (given_script s (bytes Script))) (trace_refusal (capture_of (bytes Trace)))
 
 -- the first refusal for these input bytes, if there is one: a journal comes last
 abbrev pub refusal_of : Asked → (Role → List ℕ) → Option Status
@@ -236,7 +231,6 @@ RowOf asked old new choices (ReadFault role) = IsReadFault asked old new role ×
 RowOf asked old new choices (BadScript line kind) = IsRefused asked old new (BadScript line kind) × (choices ≡ [])
 RowOf asked old new choices (BadTrace offset kind) = IsRefused asked old new (BadTrace offset kind) × (choices ≡ [])
 RowOf asked old new choices (BadJournal kind) = IsRefused asked old new (BadJournal kind) × (choices ≡ [])
-RowOf asked old new choices (NotBuilt command) = IsRefused asked old new (NotBuilt command) × (choices ≡ [])
 RowOf asked old new choices (NotARun step) = IsNotARun asked old new step × (choices ≡ [])
 RowOf asked old new choices (Unfinished step) = IsUnfinished asked old new step × (choices ≡ [])
 RowOf asked old new choices NoMemory = WroteNothing old new × (choices ≡ [])

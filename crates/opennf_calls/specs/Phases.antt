@@ -14,12 +14,11 @@ use Rattle.op_script.specs.Printing.{IsScript, SplitsNone}
 use Rattle.op_script.specs.Reading.{script_view}
 use Rattle.journal_file.specs.Format.{journal_bytes}
 use Rattle.net_world.specs.Input.{IsInput}
-use Rattle.run_input.specs.Given.{first_unbuilt}
 use Rattle.actor_net.specs.declared.choice.Choice.{Choice}
 use Rattle.actor_net.specs.declared.schedule.Schedule.{Schedule}
 use Rattle.command_words.specs.Plan.{Asked, NetworkAsked}
 use Rattle.opennf_calls.specs.declared.status.Status.{Status}
-use Rattle.opennf_calls.specs.declared.status.Status.TheVariants.{BadScript, BadTrace, NoMemory, NotARun, NotBuilt, ReadFault, Unfinished}
+use Rattle.opennf_calls.specs.declared.status.Status.TheVariants.{BadScript, BadTrace, NoMemory, NotARun, ReadFault, Unfinished}
 use Rattle.opennf_calls.specs.declared.outcome.Outcome.{Outcome}
 use Rattle.opennf_calls.specs.Command.{run_file}
 use Rattle.opennf_calls.specs.Outcome.{CauseOf, IsGiven, MayBind, RowOf, inputs_refusal}
@@ -83,7 +82,7 @@ pub record HasScript (s : NetworkAsked) (old new : Role → Meaning) (script : S
   pub said : (bytes : Role → List ℕ) → TellsInputs s old bytes → given_script s (bytes ScriptRole) ≡ Ok (script_view script)
   pub read : (bytes : Role → List ℕ) → TellsInputs s old bytes → IsTrue (is_some s.script) → (new ScriptRole).left ≡ Some []
 
--- the script and the capture were read, and every command is built; a journal wasn't touched
+-- the script and the capture were read; a journal wasn't touched
 pub record HasInputs (s : NetworkAsked) (old new : Role → Meaning) (given : Given) : Type 0 where
   pub is_given : (bytes : Role → List ℕ) → TellsInputs s old bytes → IsGiven s bytes given
   pub sound : (bytes : Role → List ℕ) → TellsInputs s old bytes → inputs_refusal s bytes ≡ None
@@ -100,18 +99,16 @@ InputsFail s old new (ReadFault role) = IsTrue (is_some (run_file s role)) × Ro
 InputsFail s old new NoMemory = Unit {0}
 InputsFail s old new (BadScript line kind) = RefusesInputs s old (BadScript line kind)
 InputsFail s old new (BadTrace offset kind) = RefusesInputs s old (BadTrace offset kind)
-InputsFail s old new (NotBuilt command) = RefusesInputs s old (NotBuilt command)
 InputsFail s old new status = ⊥
 
 -- what a run's inputs are read as, at a site
 abbrev pub given_by : Site → Inputs → Given
 given_by site inputs = record { site = site; captured = inputs.trace; script = inputs.script }
 
--- a script without shares, whose filters split no unit, and packets in the order of their numbers
+-- a script whose filters split no unit, and packets in the order of their numbers
 pub record CanBegin (s : NetworkAsked) (given : Given) : Type 0 where
   pub right : IsScript s.instances.names (script_view given.script)
   pub whole : SplitsNone s.kind (script_view given.script)
-  pub built : first_unbuilt given.script.lines.items ≡ None
   pub numbers : AreNumbered 1 given.captured.packets
   pub steered : All (λ packet. is_steered_proto packet.proto ≡ true) given.captured.packets
 

@@ -10,8 +10,6 @@ use Rattle.op_script.specs.declared.fault.ScriptFault.{ScriptFault}
 use Rattle.op_script.specs.declared.fault.ScriptFault.TheVariants as script
 use Rattle.trace_reader.specs.declared.fault.TraceFault.{TraceFault}
 use Rattle.trace_reader.specs.declared.fault.TraceFault.TheVariants as fault
-use Rattle.run_input.specs.declared.fault.InputFault.{InputFault}
-use Rattle.run_input.specs.declared.fault.InputFault.TheVariants as given
 use Rattle.actor_net.specs.declared.schedule.ScheduleFault.{ScheduleFault}
 use Rattle.actor_net.specs.declared.schedule.ScheduleFault.TheVariants as run
 use Rattle.journal_file.specs.declared.fault.JournalFault.{JournalFault}
@@ -27,7 +25,7 @@ use Rattle.opennf_calls.specs.declared.status.TraceKind.TheVariants.{Magic, Pcap
 use Rattle.opennf_calls.specs.declared.status.JournalKind.{JournalKind}
 use Rattle.opennf_calls.specs.declared.status.JournalKind.TheVariants as kinds
 use Rattle.opennf_calls.specs.declared.status.Status.{Status}
-use Rattle.opennf_calls.specs.declared.status.Status.TheVariants.{Ok as Done, Usage, BadScript, BadTrace, BadJournal, NotBuilt, NotARun, Unfinished, ReadFault, WriteFault, NoMemory}
+use Rattle.opennf_calls.specs.declared.status.Status.TheVariants.{Ok as Done, Usage, BadScript, BadTrace, BadJournal, NotARun, Unfinished, ReadFault, WriteFault, NoMemory}
 
 -- the number that the program ends with
 abbrev pub exit_number : Status → ℕ
@@ -36,7 +34,6 @@ exit_number Usage = 1
 exit_number (BadScript line kind) = 2
 exit_number (BadTrace offset kind) = 2
 exit_number (BadJournal _) = 2
-exit_number (NotBuilt command) = 2
 exit_number (NotARun step) = 3
 exit_number (Unfinished step) = 7
 exit_number (ReadFault role) = 4
@@ -102,10 +99,6 @@ trace_line_of offset kind =
 abbrev pub journal_line_of : JournalKind → List ℕ
 journal_line_of kind = codes "opennf: journal: " ++ journal_kind_name kind ++ codes "\n"
 
--- the line on a command that isn't built
-abbrev pub unbuilt_line_of : ℕ → List ℕ
-unbuilt_line_of command = codes "opennf: command " ++ decimal command ++ codes " not built\n"
-
 -- the line on a journal whose choices aren't a complete run
 abbrev pub no_run_line_of : ℕ → List ℕ
 no_run_line_of step = codes "opennf: not a run at step " ++ decimal step ++ codes "\n"
@@ -125,7 +118,6 @@ line_of Usage = codes "opennf: bad words\n"
 line_of (BadScript line kind) = script_line_of line kind
 line_of (BadTrace offset kind) = trace_line_of offset kind
 line_of (BadJournal kind) = journal_line_of kind
-line_of (NotBuilt command) = unbuilt_line_of command
 line_of (NotARun step) = no_run_line_of step
 line_of (Unfinished step) = unfinished_line_of step
 line_of (ReadFault role) = fault_line_of (codes "opennf: read fault ") role
@@ -169,11 +161,6 @@ script_status script.NoMemory = NoMemory
 abbrev pub reading_status : Role → UptoFault → Status
 reading_status role upto.Failed = ReadFault role
 reading_status role upto.NoMemory = NoMemory
-
--- the status of an input that can't be made
-abbrev pub input_status : InputFault → Status
-input_status (given.NotBuilt command) = NotBuilt command
-input_status given.NoMemory = NoMemory
 
 -- the status of a run that has no end
 abbrev pub run_status : ScheduleFault → Status

@@ -1,6 +1,6 @@
 //! The line that goes to the standard error where a command did not end well.
 ghost use Rattle.std.specs.Prelude.{◌≡◌, ◌≤◌, length};
-ghost use Rattle.opennf_calls.specs.Status.{line_of, script_line_of, trace_line_of, journal_line_of, unbuilt_line_of, no_run_line_of, unfinished_line_of, fault_line_of, trace_kind_number};
+ghost use Rattle.opennf_calls.specs.Status.{line_of, script_line_of, trace_line_of, journal_line_of, no_run_line_of, unfinished_line_of, fault_line_of, trace_kind_number};
 
 use crate::status::{
     JournalKind, Status, TraceKind, journal_kind_name, role_name, script_kind_name,
@@ -24,7 +24,6 @@ pub fn line(status: &Status) -> Line
         Status::BadScript { line, kind } => script_line(line, kind),
         Status::BadTrace { offset, kind } => trace_line(offset, kind),
         Status::BadJournal { kind } => journal_line(kind),
-        Status::NotBuilt { command } => unbuilt_line(command),
         Status::NotARun { step } => no_run_line(step),
         Status::Unfinished { step } => unfinished_line(step),
         Status::ReadFault { role } => fault_line("opennf: read fault ", role),
@@ -88,17 +87,6 @@ fn journal_line(kind: JournalKind) -> Line
     let mut line = whole_line("opennf: journal: ");
     line.push_str(journal_kind_name(kind));
     line.push_str("\n");
-    line
-}
-
-/// The line of a command that isn't built.
-fn unbuilt_line(command: u32) -> Line
-    ensures { result.bytes ≡ unbuilt_line_of command }
-{
-    let mut line = whole_line("opennf: command ");
-    let mut buffer = Buffer::new();
-    line.push_str(buffer.format(command));
-    line.push_str(" not built\n");
     line
 }
 

@@ -16,7 +16,6 @@ use crate::status::Status;
 use command_words::NetworkRequest;
 use nf_io::{Outside, Role, RoleSource};
 use op_script::{Script, read_script};
-use run_input::first_unbuilt;
 use std::alloc::Global;
 use trace_reader::{Trace, TraceFault, read_trace};
 
@@ -27,8 +26,7 @@ pub struct Inputs {
     pub trace: Trace,
 }
 
-/// Reads the script, if the words name one, and then the capture. A script that has a command that isn't built is refused before the
-/// capture is read.
+/// Reads the script, if the words name one, and then the capture.
 pub fn read_inputs<O: Outside>(
     alloc: Global,
     asked: &NetworkRequest<'_>,
@@ -45,9 +43,6 @@ pub fn read_inputs<O: Outside>(
         (InputsFail (network_view asked.now) (O.seen outside.old) (O.seen outside.new)) }
 {
     let script = read_commands(alloc, asked, outside)?;
-    if let Some(command) = first_unbuilt(script.lines.as_slice()) {
-        return Err(Status::NotBuilt { command });
-    }
     let trace = read_capture(alloc, outside)?;
     Ok(Inputs { script, trace })
 }

@@ -23,7 +23,7 @@ use nf_msgs::Msg;
 use nf_net::simulate;
 use run_input::{Setting, input_of};
 use run_report::{Head, audit, report};
-use std::alloc::{AllocError, Global};
+use std::alloc::Global;
 use std::sync::Wait;
 use std::thread::Threads;
 use trace_reader::Trace;
@@ -199,10 +199,7 @@ fn open(alloc: Global, asked: &NetworkRequest<'_>, inputs: Inputs) -> Result<Ope
         cut,
     } = trace;
     let count = last_number(packets.items());
-    let (config, items) = match input_of(alloc, &setting, &script, packets) {
-        Ok(made) => made,
-        Err(_) => return Err(AllocError),
-    };
+    let (config, items) = input_of(alloc, &setting, &script, packets)?;
     let head = Head {
         kind: asked.kind,
         names: config.names.copy()?,

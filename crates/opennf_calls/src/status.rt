@@ -6,7 +6,6 @@ use flow_filter::NoMemory;
 use journal_file::JournalFault;
 use nf_io::{Role, UptoFault};
 use op_script::{ScriptFault, ScriptKind};
-use run_input::InputFault;
 use run_report::AuditFault;
 use trace_reader::{MakeFault, TraceFault};
 
@@ -59,8 +58,6 @@ pub enum Status {
     BadTrace { offset: u64, kind: TraceKind },
     /// The journal breaks a rule.
     BadJournal { kind: JournalKind },
-    /// This command of the script isn't built.
-    NotBuilt { command: u32 },
     /// The journal's choices aren't a complete run: the choice of this step, from 1, can't be taken, or is missing.
     NotARun { step: u64 },
     /// The run took so many steps, and came to no end.
@@ -94,7 +91,6 @@ impl Status {
             Status::BadScript { .. } => 2,
             Status::BadTrace { .. } => 2,
             Status::BadJournal { .. } => 2,
-            Status::NotBuilt { .. } => 2,
             Status::NotARun { .. } => 3,
             Status::Unfinished { .. } => 7,
             Status::ReadFault { .. } => 4,
@@ -192,21 +188,6 @@ impl From<ScriptFault> for Status {
         match fault {
             ScriptFault::Bad { line, kind } => Status::BadScript { line, kind },
             ScriptFault::NoMemory => Status::NoMemory,
-        }
-    }
-}
-
-/// The status of an input that can't be made.
-impl From<InputFault> for Status {
-    ghost use Rattle.std.specs.Prelude.{◌≡◌};
-    ghost use Rattle.opennf_calls.specs.Status.{input_status};
-
-    ghost from_gives = { λ fault status. status ≡ input_status fault };
-
-    fn from(fault: InputFault) -> Self {
-        match fault {
-            InputFault::NotBuilt { command } => Status::NotBuilt { command },
-            InputFault::NoMemory => Status::NoMemory,
         }
     }
 }

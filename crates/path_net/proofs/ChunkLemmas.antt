@@ -20,11 +20,12 @@ use Rattle.unit_machine.proofs.Real.{Frame, record_at, see}
 use Rattle.unit_machine.proofs.Seen.{is_among-units}
 use Rattle.net_world.specs.Path.{all_of}
 use Rattle.net_world.specs.Records.{is_chunk_of, spelled_of}
-use Rattle.joined_net.proofs.ControllerRows.{each_same}
+use Rattle.whole_joined.proofs.ControllerRows.{each_same}
 use Rattle.outline_net.proofs.MoveOutline.{IsChunk, units_same}
 use Rattle.outline_net.proofs.Outline.{entries, outline_piece}
-use Rattle.joined_net.proofs.UnitCounts.{times, times_from_distinct}
-use Rattle.joined_net.proofs.Joined.{Given, place, IsGoodChunk, AreGoodChunks}
+use Rattle.whole_joined.proofs.UnitCounts.{times, times_from_distinct}
+use Rattle.whole_joined.proofs.Given.{Given, place}
+use Rattle.whole_joined.proofs.Joined.{IsGoodChunk, AreGoodChunks}
 
 -- records, as the unit's chunks spell them
 abbrev pub as_spelled : {R : Type 0} → units.Unit → List R → List (Option (units.Unit × R))

@@ -1,14 +1,18 @@
 -- What a unit sees of a link is what the chunks there spell of it, and of which units the pieces and the Deletes there are.
 use Rattle.std.proofs.Common.{◌≡◌, ℕ, Bool, true, false, Option, Some, None, List, [], ◌∷◌, ◌++◌, append-nil, refl, sym, ap, ◌∙◌}
-use Rattle.std.specs.Prelude.{if◌then◌else◌, ◌==◌, ◌&&◌, ◌||◌, is_some, option_to_list}
+use Rattle.std.specs.Prelude.{if◌then◌else◌, ◌==◌, ◌&&◌, ◌||◌, is_some, option_map, option_to_list}
 use Rattle.std.specs.List.{filter_map, cons_option}
 use Rattle.std.proofs.lemmas.List.{map-append}
 use Rattle.std.proofs.lemmas.List.Folds.{list_any-append}
 use Rattle.nf_function.specs.declared.unit.Unit as units
 use Rattle.nf_function.specs.Semantics.{Semantics}
 use Rattle.record_table.specs.Table.{same_unit, is_among}
+use Rattle.record_table.specs.Chunks.{spelled}
 use Rattle.event_filter.specs.declared.mark.Mark.TheVariants as mark
 use Rattle.switch_rules.specs.declared.target.Target.TheVariants as target
+use Rattle.nf_msgs.specs.declared.command.Command.{Command}
+use Rattle.nf_msgs.specs.declared.command.Order.{Order}
+use Rattle.nf_msgs.specs.declared.command.Order.TheVariants as order
 use Rattle.nf_msgs.specs.declared.msg.Msg.{Msg}
 use Rattle.nf_msgs.specs.declared.msg.Msg.TheVariants as msg
 use Rattle.actor_net.proofs.WeightLaws.{Each}
@@ -21,12 +25,15 @@ use Rattle.abstract_net.proofs.Net as net
 use Rattle.abstract_net.proofs.Net.{In_packet, Asked, Carry_on, Pass_on, Fence_on, Mv, seen, Want}
 use Rattle.abstract_net.proofs.Holding.{Seeing, frame}
 use Rattle.abstract_net.proofs.Holding as holding
+use Rattle.abstract_net.proofs.Shares.{Any, Old, New, Want_share, S_asked, S_shared, olds, Open_share}
 use Rattle.net_world.specs.Path.{all_of}
 use Rattle.net_world.specs.Records.{chunks_in, given_in, removed_by, spelled_of}
 use Rattle.path_net.proofs.ChunkLemmas.{as_spelled, spelled-append, good_spelled, good_units}
 use Rattle.outline_net.proofs.Outline.{want_of}
+use Rattle.whole_outline.proofs.WholeOutline.{asked_of, want_share_of}
 use Rattle.path_net.proofs.PathLinks.{see_of, view, seen_more}
-use Rattle.joined_net.proofs.Joined.{Given, place, S, shown, Label, FromController, ToController}
+use Rattle.whole_joined.proofs.Given.{Given, place}
+use Rattle.whole_joined.proofs.Joined.{S, shown, Label, FromController, ToController}
 
 -- what a list of items has of a unit's record
 pub record Reading (R : Type 0) : Type 0 where
@@ -77,7 +84,7 @@ module _ {R : Type 0} where
     | false ↦ elim (to == v.to) as (λ b. read ((if b then item At_b else Stray) ∷ []) ≡ nothing) [ true ↦ none At_b | false ↦ refl ]
   ]
 
-module _ {R : Type 0} (f : Semantics R) (g : Given) (z : Seeing) where
+module _ {R : Type 0} (f : Semantics R) (g : Given) (z : Seeing) (es : List Open_share) where
   abbrev its : Frame
   its = frame (S f g) z
 
@@ -96,9 +103,10 @@ module _ {R : Type 0} (f : Semantics R) (g : Given) (z : Seeing) where
   read_msg (Mv x (M_delete n us)) = reading [] false (is_among us u)
   read_msg m = nothing
 
-  abbrev read_shown : Option (net.Msg R) → Reading R
+  abbrev read_shown : Option (Any R) → Reading R
   read_shown None = nothing
-  read_shown (Some a) = read_msg a
+  read_shown (Some (Old a)) = read_msg a
+  read_shown (Some (New a)) = nothing
 
   own_brought : (b : Bool) (x : Item R) (o : Option R) → read (x ∷ []) ≡ reading (option_to_list o ++ []) false false → (b ≡ false → o ≡ None) → read (add (where_true b x) []) ≡ brought o
   own_brought b x o is none = by_test b x (brought o) (is ∙ ap (λ rs. reading rs false false) (append-nil (option_to_list o))) (λ off. ap brought (sym (none off)))
@@ -135,35 +143,55 @@ module _ {R : Type 0} (f : Semantics R) (g : Given) (z : Seeing) where
     given : is_among (given_in m) u ≡ v.given
     removed : is_among (removed_by m) u ≡ v.removed
 
+  asked_spells : (k : Command) (what : Order) → Spells (msg.Asked k) (read_shown (asked_of f (place g) k.op what))
+  asked_spells k (order.Move src dst filter keep) = by_want (want_of (place g) k.op (order.Move src dst filter keep))
+    where
+      by_want : (o : Option Want) → Spells (msg.Asked k) (read_shown (option_map (λ want. Old (net.Asked want)) o))
+      by_want None = record { chunks = refl; given = refl; removed = refl }
+      by_want (Some x) = record { chunks = refl; given = refl; removed = refl }
+  asked_spells k (order.Copy src dst filter) = record { chunks = refl; given = refl; removed = refl }
+  asked_spells k (order.Share members filter) = by_want (want_share_of (place g) k.op (order.Share members filter))
+    where
+      by_want : (o : Option Want_share) → Spells (msg.Asked k) (read_shown (option_map (λ want. New (S_asked want)) o))
+      by_want None = record { chunks = refl; given = refl; removed = refl }
+      by_want (Some x) = record { chunks = refl; given = refl; removed = refl }
+
   msg_spells : (s r : ℕ) (m : Msg) → Label f g s r m → Spells m (read_shown (shown f g m))
   msg_spells s r (msg.Piece op piece) l = record { chunks = good_spelled f g u piece.chunks l.1.good; given = good_units f g u piece.chunks l.1.good; removed = refl }
   msg_spells s r (msg.Put op piece first) l = record { chunks = good_spelled f g u piece.chunks l.1.good; given = refl; removed = refl }
   msg_spells s r (msg.Restore op chunks) l = record { chunks = good_spelled f g u chunks l.1; given = refl; removed = refl }
   msg_spells s r (msg.PutNo op refused) l = record { chunks = good_spelled f g u refused.chunks l.1; given = refl; removed = refl }
-  msg_spells s r (msg.Asked c) l = by_want (want_of (place g) c.op c.what) refl
+  msg_spells s r (msg.Asked c) l = asked_spells c c.what
+  msg_spells s r (msg.Shared op chunk) l = by_entry (spelled f chunk)
     where
-      by_want : (o : Option Want) → want_of (place g) c.op c.what ≡ o → Spells (msg.Asked c) (read_shown (shown f g (msg.Asked c)))
-      by_want None e = rw e (record { chunks = refl; given = refl; removed = refl })
-      by_want (Some x) e = rw e (record { chunks = refl; given = refl; removed = refl })
+      by_entry : (o : Option (units.Unit × R)) → Spells (msg.Shared op chunk) (read_shown (option_map (λ entry. New (S_shared op entry)) o))
+      by_entry None = record { chunks = refl; given = refl; removed = refl }
+      by_entry (Some x) = record { chunks = refl; given = refl; removed = refl }
   msg_spells s r (msg.Carry mark.Plain cell) l = record { chunks = refl; given = refl; removed = refl }
   msg_spells s r (msg.Carry (mark.Pass op) cell) l = record { chunks = refl; given = refl; removed = refl }
   msg_spells s r (msg.Carry (mark.Shared op home) cell) l = record { chunks = refl; given = refl; removed = refl }
+  msg_spells s r (msg.Forward to mark.Plain cell) l = record { chunks = refl; given = refl; removed = refl }
+  msg_spells s r (msg.Forward to (mark.Pass op) cell) l = record { chunks = refl; given = refl; removed = refl }
+  msg_spells s r (msg.Forward to (mark.Shared op home) cell) l = record { chunks = refl; given = refl; removed = refl }
   msg_spells s r (msg.Install op filter from (target.Instance to)) l = record { chunks = refl; given = refl; removed = refl }
   msg_spells s r (msg.Install op filter from target.Controller) l = record { chunks = refl; given = refl; removed = refl }
   msg_spells s r m l = record { chunks = refl; given = refl; removed = refl }
 
   -- a message, as the unit sees it
-  abbrev MayBe : ℕ → Option (net.Msg R) → Type 0
+  abbrev MayBe : ℕ → Option (Any R) → Type 0
   MayBe s None = Unit {0}
-  MayBe s (Some a) = holding.Label (S f g) z s a
+  MayBe s (Some (Old a)) = holding.Label (S f g) z s a
+  MayBe s (Some (New a)) = Unit {0}
 
-  shown_read : (s : ℕ) (o : Option (net.Msg R)) → MayBe s o → read_shown o ≡ read (add (see_of f g z o) [])
+  shown_read : (s : ℕ) (o : Option (Any R)) → MayBe s o → read_shown o ≡ read (add (see_of f g z es o) [])
   shown_read s None l = refl
-  shown_read s (Some a) l = sym (seen_read s a l)
+  shown_read s (Some (Old a)) l = sym (seen_read s a l)
+  shown_read s (Some (New a)) l = refl
 
-  first_of_link : (s : ℕ) (o : Option (net.Msg R)) (ms : List (net.Msg R)) → labels.Each (holding.Label (S f g) z s) (cons_option o ms) → MayBe s o × labels.Each (holding.Label (S f g) z s) ms
+  first_of_link : (s : ℕ) (o : Option (Any R)) (ms : List (Any R)) → labels.Each (holding.Label (S f g) z s) (olds (cons_option o ms)) → MayBe s o × labels.Each (holding.Label (S f g) z s) (olds ms)
   first_of_link s None ms h = (tt, h)
-  first_of_link s (Some a) ms h = (h.0, h.1)
+  first_of_link s (Some (Old a)) ms h = (h.0, h.1)
+  first_of_link s (Some (New a)) ms h = (tt, h)
 
   -- and so of a link
   pub record AreSpelled (ms : List Msg) (xs : List (Item R)) : Type 0 where
@@ -171,16 +199,16 @@ module _ {R : Type 0} (f : Semantics R) (g : Given) (z : Seeing) where
     pub given : is_among (all_of given_in ms) u ≡ gives xs
     pub removed : is_among (all_of removed_by ms) u ≡ deletes xs
 
-  pub are_spelled : (s r : ℕ) (ms : List Msg) → Each (Label f g s r) ms → labels.Each (holding.Label (S f g) z s) (filter_map (shown f g) ms) → AreSpelled ms (view f g z ms)
+  pub are_spelled : (s r : ℕ) (ms : List Msg) → Each (Label f g s r) ms → labels.Each (holding.Label (S f g) z s) (olds (filter_map (shown f g) ms)) → AreSpelled ms (view f g z es ms)
   are_spelled s r [] h k = record { chunks = refl; given = refl; removed = refl }
   are_spelled s r (m ∷ ms) h k =
       let both = first_of_link s (shown f g m) (filter_map (shown f g) ms) k in
       let one = msg_spells s r m h.0 in
       let is = shown_read s (shown f g m) both.0 in
       let rest = are_spelled s r ms h.1 both.1 in
-      let o = see_of f g z (shown f g m) in
-      let xs = view f g z ms in
-      let more = seen_more f g z m ms in
+      let o = see_of f g z es (shown f g m) in
+      let xs = view f g z es ms in
+      let more = seen_more f g z es m ms in
       record {
         chunks = spelled-append f u (chunks_in m) (all_of chunks_in ms)
             ∙ ap (λ v. v ++ spelled_of f u (all_of chunks_in ms)) (one.chunks ∙ ap (λ v. as_spelled u v.records) is)

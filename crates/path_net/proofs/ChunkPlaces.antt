@@ -31,7 +31,9 @@ use Rattle.unit_machine.proofs.Real.{Op, Frame, RPiece, RPhase, R_streaming, see
 use Rattle.abstract_net.proofs.Net.{Open, find_op}
 use Rattle.abstract_net.proofs.Ctrl.{each_found}
 use Rattle.abstract_net.proofs.Holding.{Seeing, frame, Label, Op_label, Ctrl_is, Holds}
+use Rattle.abstract_net.proofs.Shares.{olds, moves_of}
 use Rattle.abstract_net.proofs.Units.{see as seeing}
+use Rattle.abstract_net.proofs.Untaken.{Untaken}
 use Rattle.net_world.specs.declared.config.Config.{Config}
 use Rattle.net_world.specs.declared.node.Node.{Node}
 use Rattle.net_world.specs.declared.node.Node.TheVariants.{Switch}
@@ -42,15 +44,17 @@ use Rattle.net_world.specs.Records as specs
 use Rattle.path_net.proofs.ChunkLemmas.{as_spelled, spelled-append, spelled-all, pieces_spelled}
 use Rattle.path_net.proofs.ChunkLinks.{AreSpelled, are_spelled, no_chunks}
 use Rattle.path_net.proofs.ChunkSums.{kept_records, IsAt, From_a, From_b, To_a, To_b, In_store, none_of, one_of}
-use Rattle.joined_net.proofs.ControllerRows.{each_same}
+use Rattle.whole_joined.proofs.ControllerRows.{each_same}
 use Rattle.outline_net.proofs.ControlOutline.{Sees}
+use Rattle.whole_outline.proofs.OpenShares.{but_shares}
 use Rattle.outline_net.proofs.MoveOutline.{outline_phase}
 use Rattle.outline_net.proofs.Outline.{outline_piece, is_sys}
 use Rattle.path_net.proofs.PathNodes.{map_of}
 use Rattle.path_net.proofs.PathSeats.{labels, link_shown, link_view, loop_is}
 use Rattle.path_net.proofs.PathSums.{one_at, no_link, one_link}
-use Rattle.joined_net.proofs.StartJoined.{given}
-use Rattle.joined_net.proofs.Joined.{Given, S, place, AreGoodChunks, IsGoodPiece, AreFree, HasPieces, Joined, node_of, FromController, ToController}
+use Rattle.whole_joined.proofs.StartJoined.{given}
+use Rattle.whole_joined.proofs.Given.{Given, place}
+use Rattle.whole_joined.proofs.Joined.{S, A, AreGoodChunks, IsGoodPiece, AreFree, HasPieces, Joined, node_of, FromController, ToController}
 
 -- The pieces that the controller keeps.
 module _ {R : Type 0} (f : Semantics R) (g : Given) where
@@ -98,7 +102,7 @@ over_keeps : {R : Type 0} (ph : machine.Phase R) → is_over ph ≡ true → kep
 over_keeps (machine.Streaming fz fr came d) e = cc
 over_keeps ph e = refl
 
-module _ {F R : Type 0} (f : Semantics R) (c : Config) (items : List Msg) (is : IsInput f.kind c items) (n : ℕ) (count : n ≡ length c.names + 2) (w : Network (Node F R) Msg Note) (nodes : length w.nodes ≡ n) (j : Joined f (given f c items is) n w) (world : IsWorld w) (u : units.Unit) (op : Op) (third : ℕ) (x : State R) (holds : Holds (S f (given f c items is)) (seeing (S f (given f c items is)) (is_sys f (given f c items is).site (given f c items is).packet) u op third) j.world x) where
+module _ {F R : Type 0} (f : Semantics R) (c : Config) (items : List Msg) (is : IsInput f.kind c items) (n : ℕ) (count : n ≡ length c.names + 2) (w : Network (Node F R) Msg Note) (nodes : length w.nodes ≡ n) (j : Joined f (given f c items is) n w) (world : IsWorld w) (u : units.Unit) (apart : Untaken (S f (given f c items is)) u (A f (given f c items is)) j.world) (op : Op) (third : ℕ) (x : State R) (holds : Holds (S f (given f c items is)) (seeing (S f (given f c items is)) (is_sys f (given f c items is).site (given f c items is).packet) u op third) (moves_of (S f (given f c items is)) (A f (given f c items is)) j.world) x) where
   abbrev g : Given
   g = given f c items is
 
@@ -112,9 +116,9 @@ module _ {F R : Type 0} (f : Semantics R) (c : Config) (items : List Msg) (is : 
   b = op.dst
 
   -- A link.
-  pub link_spelled : (s r : ℕ) → s < n → r < n → (s == 0) && (r == 0) ≡ false → AreSpelled f g z (on_link w s r) (expect a b third x s r)
-  link_spelled s r hs hr off = subst (AreSpelled f g z (on_link w s r)) (link_view f c items is n count w nodes j world u op third x holds s r hs hr off)
-      (are_spelled f g z s r (on_link w s r) (labels f c items is n count w nodes j world s r hs hr off) (subst (Each (Label (S f g) z s)) (link_shown f c items is n count w nodes j world u op third x holds s r hs hr off) (holds.labels s r off)))
+  pub link_spelled : (s r : ℕ) → s < n → r < n → (s == 0) && (r == 0) ≡ false → AreSpelled f g z j.world.shares (on_link w s r) (expect a b third x s r)
+  link_spelled s r hs hr off = subst (AreSpelled f g z j.world.shares (on_link w s r)) (link_view f c items is n count w nodes j world u apart op third x holds s r hs hr off)
+      (are_spelled f g z j.world.shares s r (on_link w s r) (labels f c items is n count w nodes j world s r hs hr off) (subst (λ ms. Each (Label (S f g) z s) (olds ms)) (link_shown f c items is n count w nodes j world s r hs hr off) (holds.labels s r off)))
 
   abbrev on : ℕ → ℕ → List (Option (units.Unit × R))
   on s r = spelled_of f u (all_of chunks_in (on_link w s r))
@@ -227,16 +231,16 @@ module _ {F R : Type 0} (f : Semantics R) (c : Config) (items : List Msg) (is : 
   abbrev got : ℕ → Option Operation
   got k = finite.get j.nodes.controller.operations k
 
-  sees_at : (k : ℕ) (o : Option (Open R)) → find_op j.world.ops k ≡ o → Sees f (place g) o (got k) (stored j.nodes.controller.store k)
-  sees_at k o found = subst (λ e. Sees f (place g) e (got k) (stored j.nodes.controller.store k)) found (j.shown_is.controller.opens k)
+  sees_at : (k : ℕ) (o : Option (Open R)) → find_op j.world.ops k ≡ o → Sees f (place g) o (but_shares (got k)) (stored j.nodes.controller.store k)
+  sees_at k o found = subst (λ e. Sees f (place g) e (but_shares (got k)) (stored j.nodes.controller.store k)) found (j.shown_is.controller.opens k).move
 
-  none_seen : (o : Option Operation) (k : ℕ) → Sees f (place g) None o (stored j.nodes.controller.store k) → kept_at o ≡ []
+  none_seen : (o : Option Operation) (k : ℕ) → Sees f (place g) None (but_shares o) (stored j.nodes.controller.store k) → kept_at o ≡ []
   none_seen None k h = refl
   none_seen (Some (Copy c)) k h = refl
   none_seen (Some (Move m)) k h = absurd h
-  none_seen (Some (Share s)) k h = absurd h
+  none_seen (Some (Share s)) k h = refl
 
-  seen_kept : (k : ℕ) (e : Open R) (o : Option Operation) → got k ≡ o → Sees f (place g) (Some e) o (stored j.nodes.controller.store k) → kept_at o ≡ as_spelled u (kept_records (see_phase (frame (S f g) z) e.phase))
+  seen_kept : (k : ℕ) (e : Open R) (o : Option Operation) → got k ≡ o → Sees f (place g) (Some e) (but_shares o) (stored j.nodes.controller.store k) → kept_at o ≡ as_spelled u (kept_records (see_phase (frame (S f g) z) e.phase))
   seen_kept k e None there h = absurd h
   seen_kept k e (Some (Copy c)) there h = absurd h
   seen_kept k e (Some (Share s)) there h = absurd h
@@ -280,7 +284,7 @@ module _ {F R : Type 0} (f : Semantics R) (c : Config) (items : List Msg) (is : 
       ∙ one_at (λ y. spelled_of f u (kept_by y)) w.nodes 1 d (rw nodes one) (λ i small off. node_is i (rw (← nodes) small) d ∙ others_keep i off)
       ∙ node_is 1 one d
       ∙ spelled-all f u (λ e. kept_for e.1) (finite.entries j.nodes.controller.operations)
-      ∙ map_of kept_at refl op.num j.nodes.controller.operations other_kept
+      ∙ map_of (λ k o. kept_at o) (λ k. refl) op.num j.nodes.controller.operations other_kept
       ∙ own_kept
 
   -- All of it.

@@ -1,15 +1,21 @@
 -- What a unit sees of a link is its packets there: those that were handed on, those that come by the rules, those on their way by the
 -- switch, and events.
 use Rattle.std.proofs.Common.{◌≡◌, ℕ, Bool, true, false, Option, Some, None, List, [], ◌∷◌, ◌++◌, refl, sym, ap, ◌∙◌}
-use Rattle.std.specs.Prelude.{if◌then◌else◌, ◌==◌, ◌&&◌}
-use Rattle.std.specs.List.{filter_map}
+use Rattle.std.specs.Prelude.{if◌then◌else◌, ◌==◌, ◌&&◌, option_map}
+use Rattle.std.specs.List.{filter_map, cons_option}
+use Rattle.nf_function.specs.declared.chunk.Chunk.{Chunk}
+use Rattle.nf_function.specs.declared.unit.Unit as units
 use Rattle.nf_function.specs.Semantics.{Semantics}
+use Rattle.record_table.specs.Chunks.{spelled}
 use Rattle.packet_pool.specs.Pool.{FullCell}
 use Rattle.event_filter.specs.declared.mark.Mark.{Mark}
 use Rattle.event_filter.specs.declared.mark.Mark.TheVariants as mark
 use Rattle.switch_rules.specs.declared.target.Target.{Target}
 use Rattle.switch_rules.specs.declared.target.Target.TheVariants as target
 use Rattle.flow_filter.specs.declared.filter.Filter.{Filter}
+use Rattle.nf_msgs.specs.declared.command.Command.{Command}
+use Rattle.nf_msgs.specs.declared.command.Order.{Order}
+use Rattle.nf_msgs.specs.declared.command.Order.TheVariants as order
 use Rattle.nf_msgs.specs.declared.msg.Msg.{Msg}
 use Rattle.nf_msgs.specs.declared.msg.Msg.TheVariants as msg
 use Rattle.nf_msgs.specs.Nodes.{instance_node}
@@ -22,11 +28,16 @@ use Rattle.unit_machine.proofs.Sides.{is_known}
 use Rattle.abstract_net.proofs.Net as net
 use Rattle.abstract_net.proofs.Net.{seen, Want}
 use Rattle.abstract_net.proofs.Holding.{Seeing, frame}
+use Rattle.abstract_net.proofs.NewMessages.{On_new}
+use Rattle.abstract_net.proofs.Shares.{Any, Old, New, Want_share, S_asked, S_shared, Each_new, olds, Open_share}
+use Rattle.abstract_net.proofs.Untaken.{No_share}
 use Rattle.net_world.specs.Log.{those}
-use Rattle.net_world.specs.Path.{all_of, passed, carried, forwarded, handed_over}
-use Rattle.joined_net.proofs.LogLemmas.{those-append}
+use Rattle.net_world.specs.Path.{all_of, passed, carried, forwarded, handed_over, diverted}
+use Rattle.whole_joined.proofs.LogLemmas.{those-append}
 use Rattle.outline_net.proofs.Outline.{number, want_of}
-use Rattle.joined_net.proofs.Joined.{Given, place, S, shown, Label, FromSwitch, ToSwitch, ToController}
+use Rattle.whole_outline.proofs.WholeOutline.{asked_of, want_share_of}
+use Rattle.whole_joined.proofs.Given.{Given, place}
+use Rattle.whole_joined.proofs.Joined.{S, shown, Label, FromSwitch, ToSwitch, ToController}
 
 -- an item that is seen, or not, before others
 module _ {R : Type 0} where
@@ -55,16 +66,23 @@ module _ {R : Type 0} where
   known-add (Some Stray) xs e = cc
   known-add (Some x) xs e = (refl, e)
 
-module _ {R : Type 0} (f : Semantics R) (g : Given) (z : Seeing) where
+module _ {R : Type 0} (f : Semantics R) (g : Given) (z : Seeing) (es : List Open_share) where
   abbrev its : Frame
   its = frame (S f g) z
 
   abbrev mine : ℕ → Bool
   mine = its.mine
 
-  abbrev pub see_of : Option (net.Msg R) → Option (Item R)
+  -- moves see nothing of a share's message
+  abbrev pub see_of : Option (Any R) → Option (Item R)
   see_of None = None
-  see_of (Some a) = seen its a
+  see_of (Some (Old a)) = seen its a
+  see_of (Some (New a)) = None
+
+  -- which has nothing of the unit
+  abbrev pub NotShared : Option (Any R) → Type 0
+  NotShared None = Unit {0}
+  NotShared (Some a) = On_new (No_share (S f g) z.unit es) a
 
   -- a message has the packets of the unit that are seen of it
   record IsRead (m : Msg) (o : Option (Item R)) : Type 0 where
@@ -126,57 +144,90 @@ module _ {R : Type 0} (f : Semantics R) (g : Given) (z : Seeing) where
         | false ↦ record { pass = refl; carry = refl; event = refl; forward = λ _. refl }
       ]) (op == its.move)
 
-  -- of a message of a run
-  msg_read : (s r : ℕ) (m : Msg) → Label f g s r m → IsRead m (see_of (shown f g m))
-  msg_read s r (msg.Carry mark.Plain cell) l = carry_read cell
-  msg_read s r (msg.Carry (mark.Pass op) cell) l = pass_read op cell
-  msg_read s r (msg.Carry (mark.Shared op home) cell) l = let never = l.1 in cc
-  msg_read s r (msg.Forward to m cell) l = forward_read to m cell
-  msg_read s r (msg.Event op cell) l = event_read op cell
-  msg_read s r (msg.FenceTo op to) l = either (msg.FenceTo op to) (sends_to its (instance_node to) (λ w. Fence_to w)) (record { pass = refl; carry = refl; event = refl; forward = λ _. refl }) (fence_read op to) (op == its.move)
-  msg_read s r (msg.Install op filter from to) l = install_read op filter from to
-  msg_read s r (msg.Asked c) l = by_want (want_of (place g) c.op c.what) refl
+  asked_read : (k : Command) (what : Order) → IsRead (msg.Asked k) (see_of (asked_of f (place g) k.op what))
+  asked_read k (order.Move src dst filter keep) = by_want (want_of (place g) k.op (order.Move src dst filter keep))
     where
-      by_want : (o : Option Want) → want_of (place g) c.op c.what ≡ o → IsRead (msg.Asked c) (see_of (shown f g (msg.Asked c)))
-      by_want None e = rw e (record { pass = refl; carry = refl; event = refl; forward = λ _. refl })
-      by_want (Some x) e = rw e (record { pass = refl; carry = refl; event = refl; forward = λ _. refl })
-  msg_read s r (msg.Fence op) l = either (msg.Fence op) Fence (record { pass = refl; carry = refl; event = refl; forward = λ _. refl }) (record { pass = refl; carry = refl; event = refl; forward = λ _. refl }) (op == its.move)
-  msg_read s r (msg.Enable op filter action) l = either _ _ (record { pass = refl; carry = refl; event = refl; forward = λ _. refl }) (record { pass = refl; carry = refl; event = refl; forward = λ _. refl }) (op == its.move)
-  msg_read s r (msg.Stream op filter) l = either _ _ (record { pass = refl; carry = refl; event = refl; forward = λ _. refl }) (record { pass = refl; carry = refl; event = refl; forward = λ _. refl }) (op == its.move)
-  msg_read s r (msg.Delete op gone) l = either _ _ (record { pass = refl; carry = refl; event = refl; forward = λ _. refl }) (record { pass = refl; carry = refl; event = refl; forward = λ _. refl }) (op == its.move)
-  msg_read s r (msg.Put op piece first) l = either _ _ (record { pass = refl; carry = refl; event = refl; forward = λ _. refl }) (record { pass = refl; carry = refl; event = refl; forward = λ _. refl }) (op == its.move)
-  msg_read s r (msg.Restore op chunks) l = either _ _ (record { pass = refl; carry = refl; event = refl; forward = λ _. refl }) (record { pass = refl; carry = refl; event = refl; forward = λ _. refl }) (op == its.move)
-  msg_read s r (msg.Enabled op) l = either _ _ (record { pass = refl; carry = refl; event = refl; forward = λ _. refl }) (record { pass = refl; carry = refl; event = refl; forward = λ _. refl }) (op == its.move)
-  msg_read s r (msg.Piece op piece) l = either _ _ (record { pass = refl; carry = refl; event = refl; forward = λ _. refl }) (record { pass = refl; carry = refl; event = refl; forward = λ _. refl }) (op == its.move)
-  msg_read s r (msg.Deleted op) l = either _ _ (record { pass = refl; carry = refl; event = refl; forward = λ _. refl }) (record { pass = refl; carry = refl; event = refl; forward = λ _. refl }) (op == its.move)
-  msg_read s r (msg.PutOk op) l = either _ _ (record { pass = refl; carry = refl; event = refl; forward = λ _. refl }) (record { pass = refl; carry = refl; event = refl; forward = λ _. refl }) (op == its.move)
-  msg_read s r (msg.PutNo op refused) l = either _ _ (record { pass = refl; carry = refl; event = refl; forward = λ _. refl }) (record { pass = refl; carry = refl; event = refl; forward = λ _. refl }) (op == its.move)
-  msg_read s r (msg.Restored op) l = either _ _ (record { pass = refl; carry = refl; event = refl; forward = λ _. refl }) (record { pass = refl; carry = refl; event = refl; forward = λ _. refl }) (op == its.move)
-  msg_read s r (msg.Fenced op) l = either _ _ (record { pass = refl; carry = refl; event = refl; forward = λ _. refl }) (record { pass = refl; carry = refl; event = refl; forward = λ _. refl }) (op == its.move)
-  msg_read s r m l = record { pass = refl; carry = refl; event = refl; forward = λ _. refl }
+      by_want : (o : Option Want) → IsRead (msg.Asked k) (see_of (option_map (λ want. Old (net.Asked want)) o))
+      by_want None = record { pass = refl; carry = refl; event = refl; forward = λ _. refl }
+      by_want (Some x) = record { pass = refl; carry = refl; event = refl; forward = λ _. refl }
+  asked_read k (order.Copy src dst filter) = record { pass = refl; carry = refl; event = refl; forward = λ _. refl }
+  asked_read k (order.Share members filter) = by_want (want_share_of (place g) k.op (order.Share members filter))
+    where
+      by_want : (o : Option Want_share) → IsRead (msg.Asked k) (see_of (option_map (λ want. New (S_asked want)) o))
+      by_want None = record { pass = refl; carry = refl; event = refl; forward = λ _. refl }
+      by_want (Some x) = record { pass = refl; carry = refl; event = refl; forward = λ _. refl }
 
-  pub seen_more : (m : Msg) (ms : List Msg) → items (seen its) (filter_map (shown f g) (m ∷ ms)) ≡ add (see_of (shown f g m)) (items (seen its) (filter_map (shown f g) ms))
-  seen_more m ms = by_shown (shown f g m) refl
+  chunk_read : (op : ℕ) (chunk : Chunk) → IsRead (msg.Shared op chunk) (see_of (shown f g (msg.Shared op chunk)))
+  chunk_read op chunk = by_entry (spelled f chunk)
     where
-      by_shown : (o : Option (net.Msg R)) → shown f g m ≡ o → items (seen its) (filter_map (shown f g) (m ∷ ms)) ≡ add (see_of (shown f g m)) (items (seen its) (filter_map (shown f g) ms))
-      by_shown None e = rw e refl
-      by_shown (Some a) e = rw e refl
+      by_entry : (o : Option (units.Unit × R)) → IsRead (msg.Shared op chunk) (see_of (option_map (λ entry. New (S_shared op entry)) o))
+      by_entry None = record { pass = refl; carry = refl; event = refl; forward = λ _. refl }
+      by_entry (Some x) = record { pass = refl; carry = refl; event = refl; forward = λ _. refl }
+
+  -- of a message of a run
+  msg_read : (s r : ℕ) (m : Msg) → Label f g s r m → NotShared (shown f g m) → IsRead m (see_of (shown f g m))
+  msg_read s r (msg.Carry mark.Plain cell) l k = carry_read cell
+  msg_read s r (msg.Carry (mark.Pass op) cell) l k = pass_read op cell
+  msg_read s r (msg.Carry (mark.Shared op home) cell) l k = let off : mine (number cell) ≡ false = k in record { pass = rw off refl; carry = refl; event = refl; forward = λ _. refl }
+  msg_read s r (msg.Forward to mark.Plain cell) l k = forward_read to mark.Plain cell
+  msg_read s r (msg.Forward to (mark.Pass op) cell) l k = forward_read to (mark.Pass op) cell
+  msg_read s r (msg.Forward to (mark.Shared op home) cell) l k = let off : mine (number cell) ≡ false = k in record { pass = refl; carry = refl; event = refl; forward = λ _. rw off refl }
+  msg_read s r (msg.Event op cell) l k = event_read op cell
+  msg_read s r (msg.FenceTo op to) l k = either (msg.FenceTo op to) (sends_to its (instance_node to) (λ w. Fence_to w)) (record { pass = refl; carry = refl; event = refl; forward = λ _. refl }) (fence_read op to) (op == its.move)
+  msg_read s r (msg.Install op filter from to) l k = install_read op filter from to
+  msg_read s r (msg.Asked c) l k = asked_read c c.what
+  msg_read s r (msg.Shared op chunk) l k = chunk_read op chunk
+  msg_read s r (msg.Fence op) l k = either (msg.Fence op) Fence (record { pass = refl; carry = refl; event = refl; forward = λ _. refl }) (record { pass = refl; carry = refl; event = refl; forward = λ _. refl }) (op == its.move)
+  msg_read s r (msg.Enable op filter action) l k = either _ _ (record { pass = refl; carry = refl; event = refl; forward = λ _. refl }) (record { pass = refl; carry = refl; event = refl; forward = λ _. refl }) (op == its.move)
+  msg_read s r (msg.Stream op filter) l k = either _ _ (record { pass = refl; carry = refl; event = refl; forward = λ _. refl }) (record { pass = refl; carry = refl; event = refl; forward = λ _. refl }) (op == its.move)
+  msg_read s r (msg.Delete op gone) l k = either _ _ (record { pass = refl; carry = refl; event = refl; forward = λ _. refl }) (record { pass = refl; carry = refl; event = refl; forward = λ _. refl }) (op == its.move)
+  msg_read s r (msg.Put op piece first) l k = either _ _ (record { pass = refl; carry = refl; event = refl; forward = λ _. refl }) (record { pass = refl; carry = refl; event = refl; forward = λ _. refl }) (op == its.move)
+  msg_read s r (msg.Restore op chunks) l k = either _ _ (record { pass = refl; carry = refl; event = refl; forward = λ _. refl }) (record { pass = refl; carry = refl; event = refl; forward = λ _. refl }) (op == its.move)
+  msg_read s r (msg.Enabled op) l k = either _ _ (record { pass = refl; carry = refl; event = refl; forward = λ _. refl }) (record { pass = refl; carry = refl; event = refl; forward = λ _. refl }) (op == its.move)
+  msg_read s r (msg.Piece op piece) l k = either _ _ (record { pass = refl; carry = refl; event = refl; forward = λ _. refl }) (record { pass = refl; carry = refl; event = refl; forward = λ _. refl }) (op == its.move)
+  msg_read s r (msg.Deleted op) l k = either _ _ (record { pass = refl; carry = refl; event = refl; forward = λ _. refl }) (record { pass = refl; carry = refl; event = refl; forward = λ _. refl }) (op == its.move)
+  msg_read s r (msg.PutOk op) l k = either _ _ (record { pass = refl; carry = refl; event = refl; forward = λ _. refl }) (record { pass = refl; carry = refl; event = refl; forward = λ _. refl }) (op == its.move)
+  msg_read s r (msg.PutNo op refused) l k = either _ _ (record { pass = refl; carry = refl; event = refl; forward = λ _. refl }) (record { pass = refl; carry = refl; event = refl; forward = λ _. refl }) (op == its.move)
+  msg_read s r (msg.Restored op) l k = either _ _ (record { pass = refl; carry = refl; event = refl; forward = λ _. refl }) (record { pass = refl; carry = refl; event = refl; forward = λ _. refl }) (op == its.move)
+  msg_read s r (msg.Fenced op) l k = either _ _ (record { pass = refl; carry = refl; event = refl; forward = λ _. refl }) (record { pass = refl; carry = refl; event = refl; forward = λ _. refl }) (op == its.move)
+  msg_read s r m l k = record { pass = refl; carry = refl; event = refl; forward = λ _. refl }
+
+  -- no packet of it goes to the controller
+  msg_diverts : (m : Msg) → NotShared (shown f g m) → those mine (diverted m) ≡ []
+  msg_diverts (msg.Diverted cell) k = let off : mine (number cell) ≡ false = k in rw off refl
+  msg_diverts m k = refl
 
   -- and so has a link
   abbrev pub view : List Msg → List (Item R)
-  view ms = items (seen its) (filter_map (shown f g) ms)
+  view ms = items (seen its) (olds (filter_map (shown f g) ms))
+
+  pub seen_more : (m : Msg) (ms : List Msg) → view (m ∷ ms) ≡ add (see_of (shown f g m)) (view ms)
+  seen_more m ms = by_shown (shown f g m) refl
+    where
+      by_shown : (o : Option (Any R)) → shown f g m ≡ o → view (m ∷ ms) ≡ add (see_of (shown f g m)) (view ms)
+      by_shown None e = rw e refl
+      by_shown (Some (Old a)) e = rw e refl
+      by_shown (Some (New a)) e = rw e refl
+
+  -- the first message of a link, and those behind it
+  pub first_shared : (o : Option (Any R)) (as : List (Any R)) → Each_new (No_share (S f g) z.unit es) (cons_option o as) → NotShared o × Each_new (No_share (S f g) z.unit es) as
+  first_shared None as h = (tt, h)
+  first_shared (Some (Old a)) as h = (tt, h)
+  first_shared (Some (New a)) as h = (h.0, h.1)
 
   pub record AreRead (ms : List Msg) (xs : List (Item R)) : Type 0 where
     pub pass : those mine (all_of passed ms) ≡ passes_in xs
     pub carry : those mine (all_of carried ms) ≡ carries xs
     pub event : those mine (all_of handed_over ms) ≡ events_in xs
+    pub divert : those mine (all_of diverted ms) ≡ []
     pub forward : is_known xs ≡ true → those mine (all_of forwarded ms) ≡ forwards xs
 
-  pub are_read : (s r : ℕ) (ms : List Msg) → Each (Label f g s r) ms → AreRead ms (view ms)
-  are_read s r [] h = record { pass = refl; carry = refl; event = refl; forward = λ _. refl }
-  are_read s r (m ∷ ms) h =
-      let one = msg_read s r m h.0 in
-      let rest = are_read s r ms h.1 in
+  pub are_read : (s r : ℕ) (ms : List Msg) → Each (Label f g s r) ms → Each_new (No_share (S f g) z.unit es) (filter_map (shown f g) ms) → AreRead ms (view ms)
+  are_read s r [] h k = record { pass = refl; carry = refl; event = refl; divert = refl; forward = λ _. refl }
+  are_read s r (m ∷ ms) h k =
+      let both = first_shared (shown f g m) (filter_map (shown f g) ms) k in
+      let one = msg_read s r m h.0 both.0 in
+      let rest = are_read s r ms h.1 both.1 in
       let o = see_of (shown f g m) in
       let xs = view ms in
       let more = seen_more m ms in
@@ -184,9 +235,10 @@ module _ {R : Type 0} (f : Semantics R) (g : Given) (z : Seeing) where
         pass = those-append mine (passed m) (all_of passed ms) ∙ ap (λ v. v ++ those mine (all_of passed ms)) one.pass ∙ ap (λ v. passes_in (add o []) ++ v) rest.pass ∙ sym (passes-add o xs) ∙ ap passes_in (sym more);
         carry = those-append mine (carried m) (all_of carried ms) ∙ ap (λ v. v ++ those mine (all_of carried ms)) one.carry ∙ ap (λ v. carries (add o []) ++ v) rest.carry ∙ sym (carries-add o xs) ∙ ap carries (sym more);
         event = those-append mine (handed_over m) (all_of handed_over ms) ∙ ap (λ v. v ++ those mine (all_of handed_over ms)) one.event ∙ ap (λ v. events_in (add o []) ++ v) rest.event ∙ sym (events-add o xs) ∙ ap events_in (sym more);
-        forward = λ k.
-            let both = known-add o xs (ap is_known (sym more) ∙ k) in
-            those-append mine (forwarded m) (all_of forwarded ms) ∙ ap (λ v. v ++ those mine (all_of forwarded ms)) (one.forward both.0) ∙ ap (λ v. forwards (add o []) ++ v) (rest.forward both.1) ∙ sym (forwards-add o xs) ∙ ap forwards (sym more);
+        divert = those-append mine (diverted m) (all_of diverted ms) ∙ ap (λ v. v ++ those mine (all_of diverted ms)) (msg_diverts m both.0) ∙ rest.divert;
+        forward = λ t.
+            let known = known-add o xs (ap is_known (sym more) ∙ t) in
+            those-append mine (forwarded m) (all_of forwarded ms) ∙ ap (λ v. v ++ those mine (all_of forwarded ms)) (one.forward known.0) ∙ ap (λ v. forwards (add o []) ++ v) (rest.forward known.1) ∙ sym (forwards-add o xs) ∙ ap forwards (sym more);
       }
 
 -- On other links there are no such messages.
@@ -194,7 +246,7 @@ module _ {R : Type 0} (f : Semantics R) (g : Given) (s r : ℕ) where
   no_pass : (m : Msg) → Label f g s r m → (FromSwitch s r → ⊥) → passed m ≡ []
   no_pass (msg.Carry (mark.Pass op) cell) l off = absurd (off l.0)
   no_pass (msg.Carry mark.Plain cell) l off = refl
-  no_pass (msg.Carry (mark.Shared op home) cell) l off = refl
+  no_pass (msg.Carry (mark.Shared op home) cell) l off = absurd (off l.0)
   no_pass m l off = refl
 
   no_event : (m : Msg) → Label f g s r m → (ToController s r → ⊥) → handed_over m ≡ []
@@ -216,3 +268,11 @@ module _ {R : Type 0} (f : Semantics R) (g : Given) (s r : ℕ) where
   pub no_forwards : (ms : List Msg) → Each (Label f g s r) ms → (ToSwitch s r → ⊥) → all_of forwarded ms ≡ []
   no_forwards [] h off = refl
   no_forwards (m ∷ ms) h off = rw (no_forward m h.0 off, no_forwards ms h.1 off) refl
+
+  no_divert : (m : Msg) → Label f g s r m → (s ≡ 0 → r ≡ 1 → ⊥) → diverted m ≡ []
+  no_divert (msg.Diverted cell) l off = absurd (off l.0 l.1)
+  no_divert m l off = refl
+
+  pub no_diverts : (ms : List Msg) → Each (Label f g s r) ms → (s ≡ 0 → r ≡ 1 → ⊥) → all_of diverted ms ≡ []
+  no_diverts [] h off = refl
+  no_diverts (m ∷ ms) h off = rw (no_divert m h.0 off, no_diverts ms h.1 off) refl

@@ -10,7 +10,9 @@ use Rattle.std.specs.FinMap.Entries.{below_all}
 use Rattle.std.proofs.lemmas.Bool.{eqb-true}
 use Rattle.std.proofs.lemmas.Bool.Decides.{nat_tests, Decides-eqb}
 use Rattle.std.proofs.lemmas.Map.Keys.{IsDistinct-head, IsDistinct-tail}
+use Rattle.nf_function.specs.declared.unit.Unit as units
 use Rattle.nf_function.specs.Semantics.{Semantics}
+use Rattle.record_table.specs.Table.{same_unit}
 use Rattle.event_filter.specs.declared.rule.Rule.{Rule as EventRule}
 use Rattle.event_filter.specs.Rules.{HaveOneEach}
 use Rattle.event_filter.proofs.RulePlaces.{None_of, none_behind}
@@ -21,10 +23,12 @@ use Rattle.unit_machine.proofs.Labels.{Each, each-append}
 use Rattle.unit_machine.proofs.Real.{only_mine}
 use Rattle.abstract_net.proofs.Net.{find_rule, held_of}
 use Rattle.abstract_net.proofs.Holding.{Seeing, frame, Rule_label}
+use Rattle.abstract_net.proofs.Rest.{none_mine, Rest_rule}
 use Rattle.net_world.specs.Log.{those}
 use Rattle.net_world.specs.Path.{all_of, numbers}
 use Rattle.outline_net.proofs.Outline.{outline_rule}
-use Rattle.joined_net.proofs.Joined.{Given, S}
+use Rattle.whole_joined.proofs.Given.{Given}
+use Rattle.whole_joined.proofs.Joined.{S}
 
 -- the entries of a finite map over numbers
 left_true : (a b : Bool) → T (a && b) → T a
@@ -49,31 +53,31 @@ absent k (e ∷ es) h =
 own_tie : (k : ℕ) → eq_by_cmp nat_cmp k k ≡ true
 own_tie k = order_test k k ∙ (let self : eqb k k ≡ true = grind (arith, nat_tests) in self)
 
-module _ {V Y : Type 0} (of : Option V → List Y) (none : of None ≡ []) (op : ℕ) where
+module _ {V Y : Type 0} (of : ℕ → Option V → List Y) (none : (k : ℕ) → of k None ≡ []) (op : ℕ) where
   -- what stands under one key alone is all that stands
-  entries_of : (es : List (ℕ × V)) → T (is_sorted nat_cmp es) → ((k : ℕ) → k ≢ op → of (find nat_cmp k es) ≡ []) → all_of (λ e. of (Some e.1)) es ≡ of (find nat_cmp op es)
-  entries_of [] up h = sym none
+  entries_of : (es : List (ℕ × V)) → T (is_sorted nat_cmp es) → ((k : ℕ) → k ≢ op → of k (find nat_cmp k es) ≡ []) → all_of (λ e. of e.0 (Some e.1)) es ≡ of op (find nat_cmp op es)
+  entries_of [] up h = sym (none op)
   entries_of (e ∷ es) up h =
       let below = left_true (below_all nat_cmp e.0 es) (is_sorted nat_cmp es) up in
       let more = right_true (below_all nat_cmp e.0 es) (is_sorted nat_cmp es) up in
       let gone = absent e.0 es below in
-      let later : (k : ℕ) → k ≢ op → of (find nat_cmp k es) ≡ [] = λ k off. elim (eqb k e.0) as (λ b. eqb k e.0 ≡ b → of (find nat_cmp k es) ≡ []) [
-        | true ↦ λ is. (let same : k ≡ e.0 = eqb-true k e.0 is in ap (λ q. of (find nat_cmp q es)) same ∙ ap of gone ∙ none)
-        | false ↦ λ is. ap (λ b. of (cond b (Some e.1) (find nat_cmp k es))) (sym (order_test k e.0 ∙ is)) ∙ h k off
+      let later : (k : ℕ) → k ≢ op → of k (find nat_cmp k es) ≡ [] = λ k off. elim (eqb k e.0) as (λ b. eqb k e.0 ≡ b → of k (find nat_cmp k es) ≡ []) [
+        | true ↦ λ is. (let same : k ≡ e.0 = eqb-true k e.0 is in ap (λ q. of k (find nat_cmp q es)) same ∙ ap (of k) gone ∙ none k)
+        | false ↦ λ is. ap (λ b. of k (cond b (Some e.1) (find nat_cmp k es))) (sym (order_test k e.0 ∙ is)) ∙ h k off
       ] refl in
       let rest = entries_of es more later in
-      elim (eqb op e.0) as (λ b. eqb op e.0 ≡ b → of (Some e.1) ++ all_of (λ x. of (Some x.1)) es ≡ of (find nat_cmp op (e ∷ es))) [
+      elim (eqb op e.0) as (λ b. eqb op e.0 ≡ b → of e.0 (Some e.1) ++ all_of (λ x. of x.0 (Some x.1)) es ≡ of op (find nat_cmp op (e ∷ es))) [
         | true ↦ λ is.
             let same : op ≡ e.0 = eqb-true op e.0 is in
-            let left : all_of (λ x. of (Some x.1)) es ≡ [] = rest ∙ ap (λ q. of (find nat_cmp q es)) same ∙ ap of gone ∙ none in
-            ap (λ v. of (Some e.1) ++ v) left ∙ append-nil (of (Some e.1)) ∙ ap (λ b. of (cond b (Some e.1) (find nat_cmp op es))) (sym (order_test op e.0 ∙ is))
+            let left : all_of (λ x. of x.0 (Some x.1)) es ≡ [] = rest ∙ ap (λ q. of op (find nat_cmp q es)) same ∙ ap (of op) gone ∙ none op in
+            ap (λ v. of e.0 (Some e.1) ++ v) left ∙ append-nil (of e.0 (Some e.1)) ∙ ap (λ q. of q (Some e.1)) (sym same) ∙ ap (λ b. of op (cond b (Some e.1) (find nat_cmp op es))) (sym (order_test op e.0 ∙ is))
         | false ↦ λ is.
-            let own : of (Some e.1) ≡ [] = ap (λ b. of (cond b (Some e.1) (find nat_cmp e.0 es))) (sym (own_tie e.0)) ∙ h e.0 (λ same. (let never : false ≡ true = sym is ∙ (Decides-eqb op e.0).1 (sym same) in cc)) in
-            ap (λ v. v ++ all_of (λ x. of (Some x.1)) es) own ∙ rest ∙ ap (λ b. of (cond b (Some e.1) (find nat_cmp op es))) (sym (order_test op e.0 ∙ is))
+            let own : of e.0 (Some e.1) ≡ [] = ap (λ b. of e.0 (cond b (Some e.1) (find nat_cmp e.0 es))) (sym (own_tie e.0)) ∙ h e.0 (λ same. (let never : false ≡ true = sym is ∙ (Decides-eqb op e.0).1 (sym same) in cc)) in
+            ap (λ v. v ++ all_of (λ x. of x.0 (Some x.1)) es) own ∙ rest ∙ ap (λ b. of op (cond b (Some e.1) (find nat_cmp op es))) (sym (order_test op e.0 ∙ is))
       ] refl
 
-  pub map_of : (m : finite.FinMap nat_cmp V) → ((k : ℕ) → k ≢ op → of (finite.get m k) ≡ []) → all_of (λ e. of (Some e.1)) (finite.entries m) ≡ of (finite.get m op)
-  map_of m h = entries_of (finite.entries m) (entries_sorted m) (λ k off. ap of (sym (get-entries m k)) ∙ h k off) ∙ ap of (sym (get-entries m op))
+  pub map_of : (m : finite.FinMap nat_cmp V) → ((k : ℕ) → k ≢ op → of k (finite.get m k) ≡ []) → all_of (λ e. of e.0 (Some e.1)) (finite.entries m) ≡ of op (finite.get m op)
+  map_of m h = entries_of (finite.entries m) (entries_sorted m) (λ k off. ap (of k) (sym (get-entries m k)) ∙ h k off) ∙ ap (of op) (sym (get-entries m op))
 
 -- what holds of all that stands under each key holds of all
 module _ {V Y : Type 0} (P : Y → Type 0) (of : V → List Y) where
@@ -90,8 +94,8 @@ module _ {V Y : Type 0} (P : Y → Type 0) (of : V → List Y) where
   pub each_entry : (m : finite.FinMap nat_cmp V) → ((k : ℕ) (v : V) → finite.get m k ≡ Some v → Each P (of v)) → Each P (all_of (λ e. of e.1) (finite.entries m))
   each_entry m h = each_of (finite.entries m) (entries_sorted m) (λ k v there. h k v (get-entries m k ∙ there))
 
-pub store_of : (of : List FullCell → List ℕ) → of [] ≡ [] → (op : ℕ) (store : finite.FinMap nat_cmp (List FullCell)) → ((k : ℕ) → k ≢ op → of (stored store k) ≡ []) → all_of (λ e. of e.1) (finite.entries store) ≡ of (stored store op)
-store_of of none op store h = map_of (λ o. of (unwrap_or o [])) none op store h
+pub store_of : (of : ℕ → List FullCell → List ℕ) → ((k : ℕ) → of k [] ≡ []) → (op : ℕ) (store : finite.FinMap nat_cmp (List FullCell)) → ((k : ℕ) → k ≢ op → of k (stored store k) ≡ []) → all_of (λ e. of e.0 e.1) (finite.entries store) ≡ of op (stored store op)
+store_of of none op store h = map_of (λ k o. of k (unwrap_or o [])) none op store h
 
 module _ {R : Type 0} (f : Semantics R) (g : Given) (z : Seeing) where
   abbrev mine : ℕ → Bool
@@ -121,3 +125,19 @@ module _ {R : Type 0} (f : Semantics R) (g : Given) (z : Seeing) where
             ap (λ v. held_in r ++ v) rest ∙ append-nil (held_in r) ∙ sym (only_those (numbers r.held))
         | false ↦ λ off. ap (λ v. v ++ all_of held_in rs) (other_rule r h.0 off) ∙ held_is rs (IsDistinct-tail nat_eq r.op (map (λ x. x.op) rs) one) h.1
       ] refl
+
+-- Of a unit that no move has, rules hold nothing.
+module _ {R : Type 0} (f : Semantics R) (g : Given) (u : units.Unit) where
+  abbrev its : ℕ → Bool
+  its p = same_unit ((S f g).unit_of p) u
+
+  pub those_mine : (ps : List ℕ) → those its ps ≡ none_mine (S f g) u ps
+  those_mine [] = refl
+  those_mine (p ∷ ps) = ap (λ v. if its p then p ∷ v else v) (those_mine ps)
+
+  pub held_none : (rs : List (EventRule FullCell)) → Each (Rest_rule (S f g) u) (map outline_rule rs) → all_of (λ r. those its (numbers r.held)) rs ≡ []
+  held_none [] h = refl
+  held_none (r ∷ rs) h =
+      let own : those its (numbers r.held) ≡ [] = those_mine (numbers r.held) ∙ h.0.1 in
+      let rest = held_none rs h.1 in
+      rw (own, rest) refl

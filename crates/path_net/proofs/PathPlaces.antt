@@ -1,45 +1,39 @@
--- What a world has of a unit in all places, in the order of its path, is what waits at the seat that shows the unit.
+-- What a world has of a unit that no share has on all its links, kind by kind, is what waits there at the seat that shows the unit.
 use Rattle.std.proofs.Common.{◌≡◌, ◌≢◌, ℕ, zero, suc, ◌+◌, ◌<◌, ◌≤◌, Bool, true, false, Option, Some, None, List, [], ◌++◌, length, get_or, refl, sym, ap, ◌∙◌, subst, append-nil, arith}
 use Rattle.std.specs.Prelude.{if◌then◌else◌, ◌==◌, ◌&&◌, nat_lt}
-use Rattle.std.specs.FinMap as finite
 use Rattle.std.proofs.lemmas.Bool.{ltb-false}
 use Rattle.std.proofs.lemmas.Bool.Decides.{nat_tests, Decides-eqb, Decides-ltb}
 use Rattle.nf_function.specs.declared.unit.Unit as units
 use Rattle.nf_function.specs.Semantics.{Semantics}
-use Rattle.event_store.specs.Store.{stored}
 use Rattle.nf_msgs.specs.declared.msg.Msg.{Msg}
 use Rattle.nf_msgs.specs.declared.note.Note.{Note}
-use Rattle.ctrl_node.specs.declared.operation.Operation.{Operation}
-use Rattle.ctrl_node.specs.declared.operation.Operation.TheVariants.{Move, Copy, Share}
 use Rattle.actor_net.specs.Network.{Network, IsWorld, on_link}
 use Rattle.unit_machine.proofs.Machine.{State}
-use Rattle.unit_machine.proofs.Real.{Op, only_mine}
+use Rattle.unit_machine.proofs.Real.{Op}
 use Rattle.unit_machine.proofs.Pairs.{expect}
 use Rattle.unit_machine.proofs.Path.{passes_in, events_in, forwards}
-use Rattle.unit_machine.proofs.Sides.{OneOf, First, Second, is_known, is_released, over_released}
-use Rattle.abstract_net.proofs.Net.{Open, find_op}
-use Rattle.abstract_net.proofs.Ctrl.{each_found}
-use Rattle.abstract_net.proofs.Holding.{Seeing, frame, Op_label, Ctrl_is, Holds}
+use Rattle.unit_machine.proofs.Sides.{OneOf, First, Second, is_known}
+use Rattle.abstract_net.proofs.Holding.{Seeing, frame, Holds}
+use Rattle.abstract_net.proofs.Shares.{moves_of}
 use Rattle.abstract_net.proofs.Units.{see}
+use Rattle.abstract_net.proofs.Untaken.{Untaken}
 use Rattle.net_world.specs.declared.config.Config.{Config}
 use Rattle.net_world.specs.declared.node.Node.{Node}
-use Rattle.net_world.specs.declared.node.Node.TheVariants.{Switch}
 use Rattle.net_world.specs.Input.{IsInput}
 use Rattle.net_world.specs.Log.{those}
-use Rattle.net_world.specs.Path.{all_of, numbers, passed, forwarded, handed_over, stored_by, on_links}
-use Rattle.outline_net.proofs.ControlOutline.{Sees}
+use Rattle.net_world.specs.Path.{all_of, passed, forwarded, handed_over, diverted, on_links}
 use Rattle.outline_net.proofs.Outline.{is_sys}
-use Rattle.joined_net.proofs.Joined.{Given, S, place, Joined, node_of}
-use Rattle.path_net.proofs.PathNodes.{only_those, store_of}
-use Rattle.path_net.proofs.PathSeats.{There, Is_there, Has_none, passed_from, passed_else, events_to, events_else, forwarded_to, forwarded_else}
-use Rattle.path_net.proofs.PathSums.{those-all, one_at, no_link, one_link}
-use Rattle.joined_net.proofs.StartJoined.{given}
+use Rattle.whole_joined.proofs.Given.{Given}
+use Rattle.whole_joined.proofs.Joined.{S, A, Joined}
+use Rattle.path_net.proofs.PathSeats.{There, Is_there, Has_none, passed_from, passed_else, events_to, events_else, forwarded_to, forwarded_else, diverted_none}
+use Rattle.path_net.proofs.PathSums.{those-all, no_link, one_link}
+use Rattle.whole_joined.proofs.StartJoined.{given}
 
 if_nil : (b : Bool) (xs : List ℕ) → xs ≡ [] → (if b then xs else []) ≡ []
 if_nil true xs e = e
 if_nil false xs e = refl
 
-module _ {F R : Type 0} (f : Semantics R) (c : Config) (items : List Msg) (is : IsInput f.kind c items) (n : ℕ) (count : n ≡ length c.names + 2) (w : Network (Node F R) Msg Note) (nodes : length w.nodes ≡ n) (j : Joined f (given f c items is) n w) (world : IsWorld w) (u : units.Unit) (op : Op) (third : ℕ) (x : State R) (holds : Holds (S f (given f c items is)) (see (S f (given f c items is)) (is_sys f (given f c items is).site (given f c items is).packet) u op third) j.world x) where
+module _ {F R : Type 0} (f : Semantics R) (c : Config) (items : List Msg) (is : IsInput f.kind c items) (n : ℕ) (count : n ≡ length c.names + 2) (w : Network (Node F R) Msg Note) (nodes : length w.nodes ≡ n) (j : Joined f (given f c items is) n w) (world : IsWorld w) (u : units.Unit) (apart : Untaken (S f (given f c items is)) u (A f (given f c items is)) j.world) (op : Op) (third : ℕ) (x : State R) (holds : Holds (S f (given f c items is)) (see (S f (given f c items is)) (is_sys f (given f c items is).site (given f c items is).packet) u op third) (moves_of (S f (given f c items is)) (A f (given f c items is)) j.world) x) where
   abbrev g : Given
   g = given f c items is
 
@@ -105,12 +99,12 @@ module _ {F R : Type 0} (f : Semantics R) (c : Config) (items : List Msg) (is : 
             let off_a : (k == a) ≡ false = grind (arith, nat_tests, low, a_two) in
             let off_b : (k == b) ≡ false = grind (arith, nat_tests, low, b_two) in
             let small : k < 2 = (Decides-ltb k 2).0 low in
-            rw (off_a, off_b) (passed_else f c items is n count w nodes j world u op third x holds i k hi hk (λ h. absurd (omega (arith, small, h.1))))
+            rw (off_a, off_b) (passed_else f c items is n count w nodes j world mine i k hi hk (λ h. absurd (omega (arith, small, h.1))))
         | false ↦ λ high.
             let two : 2 ≤ k = ltb-false k 2 high in
-            ap (λ v. those mine (all_of passed (on_link w v k))) ((Decides-eqb i 0).0 e) ∙ passed_from f c items is n count w nodes j world u op third x holds k two hk ∙ expect_pass k
+            ap (λ v. those mine (all_of passed (on_link w v k))) ((Decides-eqb i 0).0 e) ∙ passed_from f c items is n count w nodes j world u apart op third x holds k two hk ∙ expect_pass k
       ] refl
-      | false ↦ λ e. passed_else f c items is n count w nodes j world u op third x holds i k hi hk (λ h. (let never : false ≡ true = sym e ∙ (Decides-eqb i 0).1 h.0 in cc))
+      | false ↦ λ e. passed_else f c items is n count w nodes j world mine i k hi hk (λ h. (let never : false ≡ true = sym e ∙ (Decides-eqb i 0).1 h.0 in cc))
     ] refl
 
     -- on the link of one side alone
@@ -154,8 +148,8 @@ module _ {F R : Type 0} (f : Semantics R) (c : Config) (items : List Msg) (is : 
       | true ↦ λ on.
           let i1 : i ≡ 1 = grind (arith, nat_tests, on) in
           let k0 : k ≡ 0 = grind (arith, nat_tests, on) in
-          ap (λ v. those mine (all_of forwarded (on_link w v k))) i1 ∙ ap (λ v. those mine (all_of forwarded (on_link w 1 v))) k0 ∙ forwarded_to f c items is n count w nodes j world u op third x holds known
-      | false ↦ λ off. forwarded_else f c items is n count w nodes j world u op third x holds i k hi hk (λ h. (let on : (i == 1) && (k == 0) ≡ true = rw (h.0, h.1) refl in let never : false ≡ true = sym off ∙ on in cc))
+          ap (λ v. those mine (all_of forwarded (on_link w v k))) i1 ∙ ap (λ v. those mine (all_of forwarded (on_link w 1 v))) k0 ∙ forwarded_to f c items is n count w nodes j world u apart op third x holds known
+      | false ↦ λ off. forwarded_else f c items is n count w nodes j world mine i k hi hk (λ h. (let on : (i == 1) && (k == 0) ≡ true = rw (h.0, h.1) refl in let never : false ≡ true = sym off ∙ on in cc))
     ] refl
 
     pub forwards_are : those mine (on_links w forwarded) ≡ forwards x.cs
@@ -190,12 +184,12 @@ module _ {F R : Type 0} (f : Semantics R) (c : Config) (items : List Msg) (is : 
         | true ↦ λ low.
             let off : (i == a) ≡ false = grind (arith, nat_tests, low, a_two) in
             let small : i < 2 = (Decides-ltb i 2).0 low in
-            rw off (events_else f c items is n count w nodes j world u op third x holds i k hi hk (λ h. absurd (omega (arith, small, h.0))))
+            rw off (events_else f c items is n count w nodes j world mine i k hi hk (λ h. absurd (omega (arith, small, h.0))))
         | false ↦ λ high.
             let two : 2 ≤ i = ltb-false i 2 high in
-            ap (λ v. those mine (all_of handed_over (on_link w i v))) ((Decides-eqb k 1).0 e) ∙ events_to f c items is n count w nodes j world u op third x holds i two hi ∙ expect_event i two
+            ap (λ v. those mine (all_of handed_over (on_link w i v))) ((Decides-eqb k 1).0 e) ∙ events_to f c items is n count w nodes j world u apart op third x holds i two hi ∙ expect_event i two
       ] refl
-      | false ↦ λ e. events_else f c items is n count w nodes j world u op third x holds i k hi hk (λ h. (let never : false ≡ true = sym e ∙ (Decides-eqb k 1).1 h.1 in cc))
+      | false ↦ λ e. events_else f c items is n count w nodes j world mine i k hi hk (λ h. (let never : false ≡ true = sym e ∙ (Decides-eqb k 1).1 h.1 in cc))
     ] refl
 
     event_only : (i k : ℕ) → (i ≡ a → k ≡ 1 → ⊥) → event_at i k ≡ []
@@ -217,65 +211,8 @@ module _ {F R : Type 0} (f : Semantics R) (c : Config) (items : List Msg) (is : 
     pub events_are : There n a (events_in x.ac) → those mine (on_links w handed_over) ≡ events_in x.ac
     events_are h = event_there h ∙ own_event
 
-  -- What the controller stores.
-  module _ (released : is_released x.phase ≡ true → x.store ≡ []) where
-    abbrev store : ℕ → List ℕ
-    store k = those mine (numbers (stored j.nodes.controller.store k))
-
-    none_stored : (k : ℕ) → stored j.nodes.controller.store k ≡ [] → store k ≡ []
-    none_stored k none = ap (λ v. those mine (numbers v)) none
-
-    -- an operation's parcels, as its open move has them
-    seen_store : (k : ℕ) (e : Open R) (o : Option Operation) → Sees f (place g) (Some e) o (stored j.nodes.controller.store k) → store k ≡ only_mine (frame (S f g) z) e.store
-    seen_store k e None h = absurd h
-    seen_store k e (Some (Copy y)) h = absurd h
-    seen_store k e (Some (Share s)) h = absurd h
-    seen_store k e (Some (Move m)) h = sym (only_those f g z (numbers (stored j.nodes.controller.store k))) ∙ ap (only_mine (frame (S f g) z)) (sym h.store)
-
-    -- where no move is open, nothing is stored
-    none_seen : (k : ℕ) (o : Option Operation) → finite.get j.nodes.controller.operations k ≡ o → Sees f (place g) None o (stored j.nodes.controller.store k) → stored j.nodes.controller.store k ≡ []
-    none_seen k None e h = j.shown_is.controller.emptied k e
-    none_seen k (Some (Copy y)) e h = j.shown_is.controller.unstored k y e
-    none_seen k (Some (Move m)) e h = absurd h
-    none_seen k (Some (Share s)) e h = absurd h
-
-    other_store : (k : ℕ) → k ≢ op.num → store k ≡ []
-    other_store k off = by_open (find_op j.world.ops k) refl
-      where
-        by_open : (o : Option (Open R)) → find_op j.world.ops k ≡ o → store k ≡ []
-        by_open None e = none_stored k (none_seen k (finite.get j.nodes.controller.operations k) refl (subst (λ o. Sees f (place g) o (finite.get j.nodes.controller.operations k) (stored j.nodes.controller.store k)) e (j.shown_is.controller.opens k)))
-        by_open (Some e) found =
-            let l = each_found (Op_label (S f g) z) k j.world.ops e holds.ops found in
-            let same : e.op.num ≡ k = (Decides-eqb e.op.num k).0 l.1 in
-            let other : (e.op.num == op.num) ≡ false = grind (arith, nat_tests, same, off) in
-            seen_store k e (finite.get j.nodes.controller.operations k) (subst (λ o. Sees f (place g) o (finite.get j.nodes.controller.operations k) (stored j.nodes.controller.store k)) found (j.shown_is.controller.opens k)) ∙ (l.0.1 other).1
-
-    own_store : store op.num ≡ x.store
-    own_store = by_open (find_op j.world.ops op.num) refl
-      where
-        by_open : (o : Option (Open R)) → find_op j.world.ops op.num ≡ o → store op.num ≡ x.store
-        by_open None e =
-            let over = subst (λ o. Ctrl_is (S f g) z o x) e holds.ctrl in
-            none_stored op.num (none_seen op.num (finite.get j.nodes.controller.operations op.num) refl (subst (λ o. Sees f (place g) o (finite.get j.nodes.controller.operations op.num) (stored j.nodes.controller.store op.num)) e (j.shown_is.controller.opens op.num))) ∙ sym (released (over_released x.phase over))
-        by_open (Some e) found =
-            let own = subst (λ o. Ctrl_is (S f g) z o x) found holds.ctrl in
-            seen_store op.num e (finite.get j.nodes.controller.operations op.num) (subst (λ o. Sees f (place g) o (finite.get j.nodes.controller.operations op.num) (stored j.nodes.controller.store op.num)) found (j.shown_is.controller.opens op.num)) ∙ own.2
-
-    node_is : (k : ℕ) → k < n → (d : Node F R) → those mine (stored_by (get_or w.nodes k d)) ≡ those mine (stored_by (node_of j.nodes k))
-    node_is k few d = ap (λ y. those mine (stored_by y)) (j.nodes_are k few d)
-
-    others_store : (k : ℕ) → k ≢ 1 → those mine (stored_by (node_of j.nodes k)) ≡ []
-    others_store zero off = refl
-    others_store (suc zero) off = absurd (off refl)
-    others_store (suc (suc k)) off = refl
-
-    pub store_is : those mine (all_of stored_by w.nodes) ≡ x.store
-    store_is =
-        let d : Node F R = Switch j.nodes.switch in
-        let one : 1 < n = omega (arith, count) in
-        those-all mine stored_by w.nodes
-        ∙ one_at (λ y. those mine (stored_by y)) w.nodes 1 d (rw nodes one) (λ i small off. node_is i (rw (← nodes) small) d ∙ others_store i off)
-        ∙ node_is 1 one d
-        ∙ those-all mine (λ e. numbers e.1) (finite.entries j.nodes.controller.store)
-        ∙ store_of (λ ps. those mine (numbers ps)) refl op.num j.nodes.controller.store other_store
-        ∙ own_store
+  -- nothing of it is diverted
+  pub diverted_are : those mine (on_links w diverted) ≡ []
+  diverted_are =
+      those-all mine (all_of diverted) w.links
+      ∙ no_link w world.square (λ ms. those mine (all_of diverted ms)) (λ i k hi hk. diverted_none f c items is n count w nodes j world u apart op third x holds i k (rw (← nodes) hi) (rw (← nodes) hk))

@@ -35,15 +35,16 @@ use Rattle.net_world.specs.Path.{all_of, all_but, passed, forwarded, handed_over
 use Rattle.net_world.specs.Places.{owner, is_loose}
 use Rattle.net_world.specs.Fold.{times, IsFront, is_of, came, went, path}
 use Rattle.outline_net.proofs.FiltersApart.{unit_fits}
-use Rattle.joined_net.proofs.LogLemmas.{those-append}
+use Rattle.whole_joined.proofs.LogLemmas.{those-append}
 use Rattle.outline_net.proofs.Outline.{is_sys}
-use Rattle.joined_net.proofs.OwnerLemmas.{unit_is_fit}
-use Rattle.joined_net.proofs.Joined.{Given, GenuinePacket, S, Joined}
+use Rattle.whole_joined.proofs.OwnerLemmas.{unit_is_fit}
+use Rattle.whole_joined.proofs.Given.{Given}
+use Rattle.whole_joined.proofs.Joined.{GenuinePacket, S, Joined}
 use Rattle.path_net.proofs.PathPlaces.{passes_are, forwards_are, events_are, store_is}
 use Rattle.path_net.proofs.PathSeats.{Seated, seated, stands_at}
 use Rattle.path_net.proofs.PathSums.{those-but, but_none, but_one}
-use Rattle.joined_net.proofs.RunsJoined.{done_same, same_times}
-use Rattle.joined_net.proofs.StartJoined.{given, genuine}
+use Rattle.whole_joined.proofs.RunsJoined.{done_same, same_times}
+use Rattle.whole_joined.proofs.StartJoined.{given, genuine}
 
 times-append : (p : ℕ) (xs ys : List ℕ) → times p (xs ++ ys) ≡ times p xs + times p ys
 times-append p [] ys = omega arith

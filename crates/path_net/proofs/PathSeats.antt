@@ -1,5 +1,5 @@
--- A seat that shows where a unit is in a world of a run, with nodes that are there; and what the world has of the unit on each link and
--- at each instance, by that seat.
+-- A seat that shows where a unit that no share has is in a world of a run, with nodes that are there; and what the world has of the unit on each
+-- link and at each instance, by that seat.
 use Rattle.std.proofs.Common.{◌≡◌, ℕ, suc, ◌+◌, ◌*◌, ◌<◌, ◌≤◌, Bool, true, false, Option, Some, None, List, [], ◌++◌, length, get_or, refl, sym, ap, ◌∙◌, subst, arith}
 use Rattle.std.specs.Prelude.{if◌then◌else◌, ◌==◌, ◌&&◌, nat_lt, slice_get}
 use Rattle.std.specs.List.{filter_map}
@@ -30,24 +30,28 @@ use Rattle.unit_machine.proofs.NetViews.{items as items_of}
 use Rattle.unit_machine.proofs.Sides.{is_known}
 use Rattle.abstract_net.proofs.Net.{Open, find_op, find_rule, held_of, seen}
 use Rattle.abstract_net.proofs.Holding.{Seeing, frame, node_at, Rule_label, Ctrl_is, Holds}
+use Rattle.abstract_net.proofs.Shares.{Each_new, olds, Open_share, moves_of}
 use Rattle.abstract_net.proofs.Units.{Where, Where.At_rest, Where.In_move, see, shown_rest}
+use Rattle.abstract_net.proofs.Untaken.{No_share, Untaken}
 use Rattle.net_world.specs.declared.config.Config.{Config}
 use Rattle.net_world.specs.declared.node.Node.{Node}
 use Rattle.net_world.specs.declared.node.Node.TheVariants.{Instance}
 use Rattle.net_world.specs.Input.{IsInput}
 use Rattle.net_world.specs.Log.{those}
 use Rattle.net_world.specs.Places.{is_loose}
-use Rattle.net_world.specs.Path.{all_of, numbers, passed, carried, forwarded, handed_over, held_by}
+use Rattle.net_world.specs.Path.{all_of, numbers, passed, carried, forwarded, handed_over, diverted, held_by}
 use Rattle.net_world.specs.Fold.{came}
 use Rattle.outline_net.proofs.ControlOutline.{Sees}
-use Rattle.joined_net.proofs.LogLemmas.{those-append}
+use Rattle.whole_outline.proofs.OpenShares.{but_shares}
+use Rattle.whole_joined.proofs.LogLemmas.{those-append}
 use Rattle.outline_net.proofs.Outline.{is_sys}
-use Rattle.joined_net.proofs.Joined.{Given, S, Label, FromSwitch, ToSwitch, ToController, place, shown, Joined}
-use Rattle.path_net.proofs.PathLinks.{view, AreRead, are_read, no_passes as no_passed, no_events, no_forwards}
+use Rattle.whole_joined.proofs.Given.{Given, place}
+use Rattle.whole_joined.proofs.Joined.{S, A, Label, FromSwitch, ToSwitch, ToController, shown, Joined}
+use Rattle.path_net.proofs.PathLinks.{view, AreRead, are_read, no_passes as no_passed, no_events, no_forwards, no_diverts}
 use Rattle.path_net.proofs.PathNodes.{held_is}
 use Rattle.path_net.proofs.PathSums.{those-all}
 use Rattle.path_net.proofs.RecordPromises.{instance_of}
-use Rattle.joined_net.proofs.StartJoined.{given}
+use Rattle.whole_joined.proofs.StartJoined.{given}
 
 -- a node that is there, or of which there is nothing
 pub data There (n k : ℕ) (xs : List ℕ) : Type 0 where
@@ -69,9 +73,9 @@ module _ {F R : Type 0} (f : Semantics R) (c : Config) (items : List Msg) (is : 
 
   -- both sides of an open move are among the nodes
   sides : (k : ℕ) (e : Open R) → find_op j.world.ops k ≡ Some e → (e.op.src < n) × (e.op.dst < n)
-  sides k e found = by_got (finite.get j.nodes.controller.operations k) refl (subst (λ o. Sees f (place g) o (finite.get j.nodes.controller.operations k) (stored j.nodes.controller.store k)) found (j.shown_is.controller.opens k))
+  sides k e found = by_got (finite.get j.nodes.controller.operations k) refl (subst (λ o. Sees f (place g) o (but_shares (finite.get j.nodes.controller.operations k)) (stored j.nodes.controller.store k)) found (j.shown_is.controller.opens k).move)
     where
-      by_got : (o : Option Operation) → finite.get j.nodes.controller.operations k ≡ o → Sees f (place g) (Some e) o (stored j.nodes.controller.store k) → (e.op.src < n) × (e.op.dst < n)
+      by_got : (o : Option Operation) → finite.get j.nodes.controller.operations k ≡ o → Sees f (place g) (Some e) (but_shares o) (stored j.nodes.controller.store k) → (e.op.src < n) × (e.op.dst < n)
       by_got None got h = absurd h
       by_got (Some (Copy y)) got h = absurd h
       by_got (Some (Share s)) got h = absurd h
@@ -84,13 +88,13 @@ module _ {F R : Type 0} (f : Semantics R) (c : Config) (items : List Msg) (is : 
     Are_there : (e : Open R) → find_op j.world.ops op.num ≡ Some e → op.src < n → op.dst < n → HasSides op x
     Rests : on_way x ≡ [] → x.b.live ≡ None → x.target ≡ At_a → HasSides op x
 
-  -- A unit's seat.
+  -- The seat of a unit that no share has.
   pub record Seated (u : units.Unit) : Type 0 where
     pub op : Op
     pub third : ℕ
     pub seat : Seat (S f g).F
     pub flag : Bool
-    pub holds : Holds (S f g) (see (S f g) (is_sys f g.site g.packet) u op third) j.world (seat_shape (S f g).F seat)
+    pub holds : Holds (S f g) (see (S f g) (is_sys f g.site g.packet) u op third) (moves_of (S f g) (A f g) j.world) (seat_shape (S f g).F seat)
     pub order : Order flag (seat_all seat) (came f c items u w.log)
     pub flag_is : flag ≡ true → is_loose c items u w.log ≡ true
     pub passes_a : There n op.src (passes_in (seat_shape (S f g).F seat).sa)
@@ -99,16 +103,20 @@ module _ {F R : Type 0} (f : Semantics R) (c : Config) (items : List Msg) (is : 
     pub source : (seat_shape (S f g).F seat).target ≡ At_b → op.src < n
     pub ends : HasSides op (seat_shape (S f g).F seat)
 
-  pub seated : (u : units.Unit) → Seated u
-  seated u = by_where (j.shown_is.every.unit u)
+  -- as moves know where it is
+  abbrev pub AsMoves : units.Unit → Type 0
+  AsMoves u = Where (S f g) (is_sys f g.site g.packet) u (moves_of (S f g) (A f g) j.world) (came f c items u w.log) (is_loose c items u w.log)
+
+  pub seated : (u : units.Unit) → AsMoves u → Seated u
+  seated u at = by_where at
     where
-      by_where : Where (S f g) (is_sys f g.site g.packet) u j.world (came f c items u w.log) (is_loose c items u w.log) → Seated u
+      by_where : AsMoves u → Seated u
       by_where (At_rest owner d l b h o fl) = record {
         op = record { num = j.world.next; src = owner; dst = suc owner; keep = true };
         third = suc (suc owner);
         seat = seat_at (S f g).F At_a d l true;
         flag = b;
-        holds = shown_rest (S f g) (is_sys f g.site g.packet) u j.world j.world.next owner d l j.shown_is.every.global (omega arith) h;
+        holds = shown_rest (S f g) (is_sys f g.site g.packet) u (moves_of (S f g) (A f g) j.world) j.world.next owner d l j.shown_is.every.global.moves (omega arith) h;
         order = o;
         flag_is = fl;
         passes_a = Has_none (no_passes R l);
@@ -136,39 +144,66 @@ module _ {F R : Type 0} (f : Semantics R) (c : Config) (items : List Msg) (is : 
     pub loop_is : on_link w 0 0 ≡ []
     loop_is = let some = world.some_node in let on : nat_lt 0 (length w.nodes) ≡ true = (Decides-ltb 0 (length w.nodes)).1 some in let first : 0 * length w.nodes + 0 ≡ 0 = omega arith in rw on (ap (λ v. get_or w.links v []) first ∙ world.no_loop)
 
+    -- and the abstract network has what they show
+    pub link_shown : (s r : ℕ) → s < n → r < n → (s == 0) && (r == 0) ≡ false → j.world.link s r ≡ filter_map (shown f g) (on_link w s r)
+    link_shown s r hs hr off = j.links s r hs hr off ∙ ap (filter_map (shown f g)) (on_is s r off)
+
+    -- what each link but the loop has nothing of
+    pub none_on : (mine : ℕ → Bool) (s r : ℕ) (of : Msg → List ℕ) → s < n → r < n → ((s == 0) && (r == 0) ≡ false → those mine (all_of of (on_link w s r)) ≡ []) → those mine (all_of of (on_link w s r)) ≡ []
+    none_on mine s r of hs hr none = elim ((s == 0) && (r == 0)) as (λ b. (s == 0) && (r == 0) ≡ b → those mine (all_of of (on_link w s r)) ≡ []) [
+      | true ↦ λ on.
+          let zs : s ≡ 0 = grind (arith, nat_tests) in
+          let zr : r ≡ 0 = grind (arith, nat_tests) in
+          ap (λ v. those mine (all_of of v)) (ap (λ v. on_link w v r) zs ∙ ap (λ v. on_link w 0 v) zr ∙ loop_is)
+      | false ↦ λ off. none off
+    ] refl
+
+    -- and whose messages say nothing of the kind
+    pub none_else : (mine : ℕ → Bool) (s r : ℕ) (of : Msg → List ℕ) → s < n → r < n → ((s == 0) && (r == 0) ≡ false → all_of of (on_link w s r) ≡ []) → those mine (all_of of (on_link w s r)) ≡ []
+    none_else mine s r of hs hr none = none_on mine s r of hs hr (λ off. ap (those mine) (none off))
+
+    pub passed_else : (mine : ℕ → Bool) (s r : ℕ) → s < n → r < n → (FromSwitch s r → ⊥) → those mine (all_of passed (on_link w s r)) ≡ []
+    passed_else mine s r hs hr other = none_else mine s r passed hs hr (λ off. no_passed f g s r (on_link w s r) (labels s r hs hr off) other)
+
+    pub events_else : (mine : ℕ → Bool) (s r : ℕ) → s < n → r < n → (ToController s r → ⊥) → those mine (all_of handed_over (on_link w s r)) ≡ []
+    events_else mine s r hs hr other = none_else mine s r handed_over hs hr (λ off. no_events f g s r (on_link w s r) (labels s r hs hr off) other)
+
+    pub forwarded_else : (mine : ℕ → Bool) (s r : ℕ) → s < n → r < n → (ToSwitch s r → ⊥) → those mine (all_of forwarded (on_link w s r)) ≡ []
+    forwarded_else mine s r hs hr other = none_else mine s r forwarded hs hr (λ off. no_forwards f g s r (on_link w s r) (labels s r hs hr off) other)
+
+    pub diverted_else : (mine : ℕ → Bool) (s r : ℕ) → s < n → r < n → (s ≡ 0 → r ≡ 1 → ⊥) → those mine (all_of diverted (on_link w s r)) ≡ []
+    diverted_else mine s r hs hr other = none_else mine s r diverted hs hr (λ off. no_diverts f g s r (on_link w s r) (labels s r hs hr off) other)
+
+  -- an instance is where its number says
+  pub found_instance : (k : ℕ) → 2 ≤ k → k < n → slice_get w.nodes k ≡ Some (Instance (j.nodes.instance k))
+  found_instance k two few =
+      let node = Instance (j.nodes.instance k) in
+      slice_get-get_or w.nodes k node (rw nodes few) ∙ ap Some (j.nodes_are k few node ∙ instance_of j.nodes k two)
+
   -- as the seat has them
-  module _ (world : IsWorld w) (u : units.Unit) (op : Op) (third : ℕ) (x : State R) (holds : Holds (S f g) (see (S f g) (is_sys f g.site g.packet) u op third) j.world x) where
+  module _ (world : IsWorld w) (u : units.Unit) (apart : Untaken (S f g) u (A f g) j.world) (op : Op) (third : ℕ) (x : State R) (holds : Holds (S f g) (see (S f g) (is_sys f g.site g.packet) u op third) (moves_of (S f g) (A f g) j.world) x) where
     abbrev z : Seeing
     z = see (S f g) (is_sys f g.site g.packet) u op third
 
     abbrev mine : ℕ → Bool
     mine = (frame (S f g) z).mine
 
-    pub link_shown : (s r : ℕ) → s < n → r < n → (s == 0) && (r == 0) ≡ false → j.world.link s r ≡ filter_map (shown f g) (on_link w s r)
-    link_shown s r hs hr off = j.links s r hs hr off ∙ ap (filter_map (shown f g)) (on_is world s r off)
+    abbrev es : List Open_share
+    es = j.world.shares
 
-    pub link_view : (s r : ℕ) → s < n → r < n → (s == 0) && (r == 0) ≡ false → view f g z (on_link w s r) ≡ expect op.src op.dst third x s r
+    pub link_view : (s r : ℕ) → s < n → r < n → (s == 0) && (r == 0) ≡ false → view f g z es (on_link w s r) ≡ expect op.src op.dst third x s r
     link_view s r hs hr off =
-        ap (items_of (seen (frame (S f g) z))) (sym (link_shown s r hs hr off))
-        ∙ ap (λ b. if b then [] else items_of (seen (frame (S f g) z)) (j.world.link s r)) (sym off) ∙ holds.views s r
+        ap (λ ms. items_of (seen (frame (S f g) z)) (olds ms)) (sym (link_shown world s r hs hr off))
+        ∙ ap (λ b. if b then [] else items_of (seen (frame (S f g) z)) (olds (j.world.link s r))) (sym off) ∙ holds.views s r
 
-    pub link_read : (s r : ℕ) → s < n → r < n → (s == 0) && (r == 0) ≡ false → AreRead f g z (on_link w s r) (expect op.src op.dst third x s r)
-    link_read s r hs hr off = subst (AreRead f g z (on_link w s r)) (link_view s r hs hr off) (are_read f g z s r (on_link w s r) (labels world s r hs hr off))
+    pub link_unshared : (s r : ℕ) → s < n → r < n → (s == 0) && (r == 0) ≡ false → Each_new (No_share (S f g) u es) (filter_map (shown f g) (on_link w s r))
+    link_unshared s r hs hr off = subst (Each_new (No_share (S f g) u es)) (link_shown world s r hs hr off) (apart.links s r off)
 
-    none_else : (s r : ℕ) (of : Msg → List ℕ) → s < n → r < n → ((s == 0) && (r == 0) ≡ false → all_of of (on_link w s r) ≡ []) → those mine (all_of of (on_link w s r)) ≡ []
-    none_else s r of hs hr none = elim ((s == 0) && (r == 0)) as (λ b. (s == 0) && (r == 0) ≡ b → those mine (all_of of (on_link w s r)) ≡ []) [
-      | true ↦ λ on.
-          let zs : s ≡ 0 = grind (arith, nat_tests) in
-          let zr : r ≡ 0 = grind (arith, nat_tests) in
-          ap (λ v. those mine (all_of of v)) (ap (λ v. on_link w v r) zs ∙ ap (λ v. on_link w 0 v) zr ∙ loop_is world)
-      | false ↦ λ off. ap (those mine) (none off)
-    ] refl
+    pub link_read : (s r : ℕ) → s < n → r < n → (s == 0) && (r == 0) ≡ false → AreRead f g z es (on_link w s r) (expect op.src op.dst third x s r)
+    link_read s r hs hr off = subst (AreRead f g z es (on_link w s r)) (link_view s r hs hr off) (are_read f g z es s r (on_link w s r) (labels world s r hs hr off) (link_unshared s r hs hr off))
 
     pub passed_from : (k : ℕ) → 2 ≤ k → k < n → those mine (all_of passed (on_link w 0 k)) ≡ passes_in (expect op.src op.dst third x 0 k)
     passed_from k two few = (link_read 0 k (omega (arith, few)) few (let off : (k == 0) ≡ false = grind (arith, nat_tests, two) in off)).pass
-
-    pub passed_else : (s r : ℕ) → s < n → r < n → (FromSwitch s r → ⊥) → those mine (all_of passed (on_link w s r)) ≡ []
-    passed_else s r hs hr other = none_else s r passed hs hr (λ off. no_passed f g s r (on_link w s r) (labels world s r hs hr off) other)
 
     pub carried_from : (k : ℕ) → 2 ≤ k → k < n → those mine (all_of carried (on_link w 0 k)) ≡ carries (expect op.src op.dst third x 0 k)
     carried_from k two few = (link_read 0 k (omega (arith, few)) few (let off : (k == 0) ≡ false = grind (arith, nat_tests, two) in off)).carry
@@ -176,20 +211,17 @@ module _ {F R : Type 0} (f : Semantics R) (c : Config) (items : List Msg) (is : 
     pub events_to : (k : ℕ) → 2 ≤ k → k < n → those mine (all_of handed_over (on_link w k 1)) ≡ events_in (expect op.src op.dst third x k 1)
     events_to k two few = (link_read k 1 few (omega (arith, two, few)) (let off : (k == 0) ≡ false = grind (arith, nat_tests, two) in rw off refl)).event
 
-    pub events_else : (s r : ℕ) → s < n → r < n → (ToController s r → ⊥) → those mine (all_of handed_over (on_link w s r)) ≡ []
-    events_else s r hs hr other = none_else s r handed_over hs hr (λ off. no_events f g s r (on_link w s r) (labels world s r hs hr off) other)
-
     pub forwarded_to : is_known x.cs ≡ true → those mine (all_of forwarded (on_link w 1 0)) ≡ forwards x.cs
     forwarded_to known = (link_read 1 0 (omega (arith, count)) (omega (arith, count)) refl).forward known
 
-    pub forwarded_else : (s r : ℕ) → s < n → r < n → (ToSwitch s r → ⊥) → those mine (all_of forwarded (on_link w s r)) ≡ []
-    forwarded_else s r hs hr other = none_else s r forwarded hs hr (λ off. no_forwards f g s r (on_link w s r) (labels world s r hs hr off) other)
+    -- nothing of it is diverted
+    pub diverted_none : (s r : ℕ) → s < n → r < n → those mine (all_of diverted (on_link w s r)) ≡ []
+    diverted_none s r hs hr = none_on world mine s r diverted hs hr (λ off. (link_read s r hs hr off).divert)
 
     -- what an instance holds
     pub held_from : (k : ℕ) → 2 ≤ k → k < n → those mine (held_by (slice_get w.nodes k)) ≡ (node_at (S f g) z x k).held
     held_from k two few =
-        let node = Instance (j.nodes.instance k) in
-        let found : slice_get w.nodes k ≡ Some node = slice_get-get_or w.nodes k node (rw nodes few) ∙ ap Some (j.nodes_are k few node ∙ instance_of j.nodes k two) in
+        let found = found_instance k two few in
         let own = j.shown_is.instances k two few in
         let rules = (j.nodes.instance k).rules in
         let labelled = subst (λ i. Each (Rule_label (S f g) z) i.rules) (sym own.outline_is) (holds.insts k).rules in

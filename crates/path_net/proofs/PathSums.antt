@@ -8,7 +8,7 @@ use Rattle.actor_net.proofs.LinkLemmas.{inside}
 use Rattle.unit_machine.proofs.Labels.{Each, each-append}
 use Rattle.net_world.specs.Log.{those}
 use Rattle.net_world.specs.Path.{all_of, all_but}
-use Rattle.joined_net.proofs.LogLemmas.{those-append}
+use Rattle.whole_joined.proofs.LogLemmas.{those-append}
 
 module _ {X Y : Type 0} where
   pub all_same : (f g : X → List Y) → ((x : X) → f x ≡ g x) → (xs : List X) → all_of f xs ≡ all_of g xs

@@ -1,4 +1,4 @@
--- A unit's live record is the fold of what was processed of it, and it stands at one instance.
+-- The live record of a unit that no share has is the fold of what was processed of it, and it stands at one instance.
 use Rattle.std.proofs.Common.{◌≡◌, ℕ, zero, suc, ◌<◌, ◌≤◌, true, false, Option, Some, None, List, [], ◌∷◌, ◌++◌, length, refl, sym, ap, ◌∙◌, arith}
 use Rattle.std.specs.Prelude.{if◌then◌else◌, ◌==◌, slice_get, option_to_list}
 use Rattle.std.specs.FinMap as finite
@@ -12,10 +12,12 @@ use Rattle.nf_msgs.specs.Nodes.{instance_node}
 use Rattle.actor_net.specs.Network.{Network}
 use Rattle.unit_machine.proofs.Machine.{State, idle}
 use Rattle.unit_machine.proofs.Kept.{Kept, Kept.Nowhere, Kept.Is_live, Kept.On_way, Kept.Twice, lives, on_way}
-use Rattle.abstract_net.proofs.Net.{Sys}
+use Rattle.abstract_net.proofs.Net.{Sys, World}
 use Rattle.abstract_net.proofs.Holding.{Seeing, node_at}
 use Rattle.abstract_net.proofs.Rest.{done_u}
 use Rattle.abstract_net.proofs.Readings.{fold, Record_of, record_of}
+use Rattle.abstract_net.proofs.Shares.{moves_of}
+use Rattle.abstract_net.proofs.Units.{Where}
 use Rattle.net_world.specs.declared.config.Config.{Config}
 use Rattle.net_world.specs.declared.node.Node.{Node}
 use Rattle.net_world.specs.declared.node.Node.TheVariants.{Switch, Controller, Instance}
@@ -24,8 +26,9 @@ use Rattle.net_world.specs.Places.{is_loose}
 use Rattle.net_world.specs.Fold.{came}
 use Rattle.net_world.specs.Records.{live_in, live_at}
 use Rattle.outline_net.proofs.Outline.{is_sys}
-use Rattle.joined_net.proofs.StartJoined.{given}
-use Rattle.joined_net.proofs.Joined.{Given, S, Nodes, node_of, Joined}
+use Rattle.whole_joined.proofs.StartJoined.{given}
+use Rattle.whole_joined.proofs.Given.{Given}
+use Rattle.whole_joined.proofs.Joined.{S, A, Nodes, node_of, Joined}
 
 -- where the machine has a record of the unit
 data Lives_at {R : Type 0} (S : Sys R) (z : Seeing) (x : State R) (k : ℕ) (r : R) : Type 0 where
@@ -83,15 +86,18 @@ instance_of x zero two = absurd (omega (arith, two))
 instance_of x (suc zero) two = absurd (omega (arith, two))
 instance_of x (suc (suc i)) two = refl
 
-module _ {F R : Type 0} (f : Semantics R) (c : Config) (items : List Msg) (is : IsInput f.kind c items) (n : ℕ) (w : Network (Node F R) Msg Note) (count : length w.nodes ≡ n) (j : Joined f (given f c items is) n w) (u : units.Unit) where
+module _ {F R : Type 0} (f : Semantics R) (c : Config) (items : List Msg) (is : IsInput f.kind c items) (n : ℕ) (w : Network (Node F R) Msg Note) (count : length w.nodes ≡ n) (j : Joined f (given f c items is) n w) (u : units.Unit) (at : Where (S f (given f c items is)) (is_sys f (given f c items is).site (given f c items is).packet) u (moves_of (S f (given f c items is)) (A f (given f c items is)) j.world) (came f c items u w.log) (is_loose c items u w.log)) where
   abbrev gr : Given
   gr = given f c items is
+
+  abbrev moves : World (S f gr)
+  moves = moves_of (S f gr) (A f gr) j.world
 
   abbrev its : Sys R
   its = S f gr
 
-  shown_record : Record_of its (is_sys f gr.site gr.packet) u j.world
-  shown_record = record_of its (is_sys f gr.site gr.packet) u j.world (came f c items u w.log) (is_loose c items u w.log) j.shown_is.every.global (j.shown_is.every.unit u)
+  shown_record : Record_of its (is_sys f gr.site gr.packet) u moves
+  shown_record = record_of its (is_sys f gr.site gr.packet) u moves (came f c items u w.log) (is_loose c items u w.log) j.shown_is.every.global.moves at
 
   one : IsOne (fold its.F None (done_u its u j.world.done)) shown_record.state.a.live shown_record.state.b.live shown_record.state.c.live
   one = is_one (fold its.F None (done_u its u j.world.done)) shown_record.state.a.live shown_record.state.b.live shown_record.state.c.live (at_most (fold its.F None (done_u its u j.world.done)) shown_record.state.a.live (lives shown_record.state) (on_way shown_record.state) shown_record.kept)

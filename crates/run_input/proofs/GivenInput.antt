@@ -10,15 +10,14 @@ use Rattle.op_script.specs.declared.script.Script.{Script}
 use Rattle.op_script.specs.declared.script.Line.{Line}
 use Rattle.op_script.specs.Items.{items}
 use Rattle.op_script.specs.Reading.{script_view}
-use Rattle.op_script.specs.Printing.{IsScript, SplitsNone}
+use Rattle.op_script.specs.Printing.{IsScript, SplitsNone, WhatFits}
 use Rattle.net_world.specs.declared.config.Config.{Config}
 use Rattle.net_world.specs.Input.{IsSteered, most_counted, IsInput}
 use Rattle.net_world.specs.Start.{IsConfig}
 use Rattle.run_input.specs.declared.setting.Setting.{Setting}
-use Rattle.run_input.specs.BuiltLines.{IsBuilt}
 use Rattle.run_input.specs.Given.{config_of, IsSetting}
 use Rattle.run_input.proofs.SaidCommands.{only_items, packets_in, commands_in}
-use Rattle.run_input.proofs.ScriptedOrders.{numbers_rise, in_order, ops_rise, all_built, routes_whole, routes_there}
+use Rattle.run_input.proofs.ScriptedOrders.{numbers_rise, in_order, ops_rise, all_proper, routes_whole, routes_there}
 
 -- what is known of all that is given
 pub record IsGiven (setting : Setting) (script : Script) (ps : List Packet) : Type 0 where
@@ -30,7 +29,7 @@ pub record IsGiven (setting : Setting) (script : Script) (ps : List Packet) : Ty
   pub few : length ps ≤ most_counted
   pub site : setting.site.inside.bits < 2 ^ 32
   pub filters : All (λ (route : Filter × ℕ). IsFilter route.0) script.routes.items
-  pub built : All (λ (line : Line). IsBuilt line.what) script.lines.items
+  pub fits : All (λ (line : Line). WhatFits line.what) script.lines.items
 
 is_config : (setting : Setting) (script : Script) (ps : List Packet) → IsGiven setting script ps → IsConfig (config_of setting script.routes.items)
 is_config setting script ps g = record {
@@ -55,7 +54,7 @@ input_is setting script ps g =
       steered = rw same g.steered;
       numbers = rw same (numbers_rise 1 0 ps (omega arith) g.numbers);
       few = rw same g.few;
-      orders = rw said (all_built setting.kind lines g.script_is.lines g.whole.lines g.built);
+      orders = rw said (all_proper setting.kind lines g.script_is.lines g.whole.lines g.fits);
       ops = rw said (ops_rise 0 0 1 lines (omega arith) g.script_is.follow);
     }
 

@@ -1,14 +1,15 @@
--- The commands of a script's lines: their numbers rise, and each that is built is a move or a copy of whole units between two instances.
-use Rattle.std.proofs.Common.{◌≡◌, ℕ, suc, ◌+◌, ◌<◌, ◌≤◌, Bool, true, false, ◌&&◌, Some, None, List, [], ◌∷◌, map, length, eqb, eqb-true, leb, Ok, refl, subst, arith}
+-- The commands of a script's lines: their numbers rise, and each is of whole units and names different instances.
+use Rattle.std.proofs.Common.{◌≡◌, ℕ, suc, ◌+◌, ◌<◌, ◌≤◌, Bool, true, false, true≢false, ◌&&◌, ◌||◌, Some, None, List, [], ◌∷◌, map, length, eqb, eqb-true, leb, Ok, refl, sym, subst, ◌∙◌, arith}
 use Rattle.std.specs.Prelude.{All, if◌then◌else◌, not}
-use Rattle.std.specs.List.{AllByRecursion}
+use Rattle.std.specs.List.{AllByRecursion, list_any}
 use Rattle.std.specs.Str.{bytes_eq}
 use Rattle.std.proofs.lemmas.Bool.Decides.{nat_tests}
+use Rattle.std.proofs.lemmas.Slice.Eq.{bytes_eq-Decides}
 use Rattle.std.proofs.lemmas.List.Elements.{All-cons, All-nil, All-head, All-tail}
 use Rattle.flow_filter.specs.declared.filter.Filter.{Filter}
 use Rattle.flow_filter.specs.declared.packet.Packet.{Packet}
 use Rattle.flow_filter.specs.Filter.{IsFilter}
-use Rattle.flow_filter.specs.Name.{is_name}
+use Rattle.flow_filter.specs.Name.{has_twice, is_name}
 use Rattle.nf_function.specs.declared.kind.Kind.{Kind}
 use Rattle.nf_function.specs.Units.{splits}
 use Rattle.nf_msgs.specs.declared.command.Command.{Command}
@@ -22,10 +23,9 @@ use Rattle.op_script.specs.declared.script.What.TheVariants as what
 use Rattle.op_script.specs.Forms.{Word}
 use Rattle.op_script.specs.Items.{IsFrom}
 use Rattle.op_script.specs.Reading.{ends_of, unless, route_view, line_view, what_view, order_view}
-use Rattle.op_script.specs.Printing.{IsRoute, IsLine, IsWhat, IsOrder, next_after, and_then, follows, what_splits, order_splits}
+use Rattle.op_script.specs.Printing.{IsRoute, IsLine, IsWhat, IsOrder, OrderFits, WhatFits, next_after, and_then, follows, what_splits, order_splits}
 use Rattle.op_script.proofs.JudgedLemmas.{unless_Ok}
-use Rattle.net_world.specs.Input.{IsRising, IsWhole, IsBuilt as IsBuiltFor}
-use Rattle.run_input.specs.BuiltLines.{IsBuilt, IsBuiltOrder}
+use Rattle.net_world.specs.Input.{IsRising, IsWhole, IsProper, AreMembers, is_unlike, are_unlike}
 use Rattle.run_input.proofs.SaidCommands.{with_command, line_commands}
 
 -- Numbers that rise.
@@ -92,24 +92,49 @@ names_differ source target is =
     let first = unless_Ok (not (is_name source && is_name target)) bad.Name (unless (bytes_eq source target) bad.SameInstance (Ok (source, target))) (source, target) is in
     (unless_Ok (bytes_eq source target) bad.SameInstance (Ok (source, target)) (source, target) first.1).0
 
+either : (a b : Bool) → (a || b) ≡ false → (a ≡ false) × (b ≡ false)
+either true b h = absurd cc
+either false b h = (refl, h)
+
+-- A share's members.
+turned : (a b : Word) → bytes_eq a b ≡ false → bytes_eq b a ≡ false
+turned a b differ = elim (bytes_eq b a) as (λ c. bytes_eq b a ≡ c → c ≡ false) [
+  | true ↦ λ same. absurd (true≢false (sym ((bytes_eq-Decides a b).1 (sym ((bytes_eq-Decides b a).0 same))) ∙ differ))
+  | false ↦ λ other. refl
+] refl
+
+one_unlike : (name : Word) (more : List Word) → list_any (λ other. bytes_eq other name) more ≡ false → is_unlike name more ≡ true
+one_unlike name [] once = refl
+one_unlike name (other ∷ more) once =
+    let two = either (bytes_eq other name) (list_any (λ other. bytes_eq other name) more) once in
+    let differ : bytes_eq name other ≡ false = turned other name two.0 in
+    rw differ (one_unlike name more two.1)
+
+all_unlike : (names : List Word) → has_twice names ≡ false → are_unlike names ≡ true
+all_unlike [] once = refl
+all_unlike (name ∷ more) once =
+    let two = either (list_any (λ other. bytes_eq other name) more) (has_twice more) once in
+    rw (one_unlike name more two.0) (all_unlike more two.1)
+
 module _ (kind : Kind) where
-  built_order : (o : Order) → IsOrder (order_view o) → order_splits kind (order_view o) ≡ false → IsBuiltOrder o → IsBuiltFor kind o
-  built_order (Move source target filter keep) right whole built = (names_differ source target right.0, record { numbers = built; whole = whole })
-  built_order (Copy source target None) right whole built = (names_differ source target right.0, λ filter is. cc)
-  built_order (Copy source target (Some filter)) right whole built = (names_differ source target right.0, λ g is. (let same : filter ≡ g = cc in subst (IsWhole kind) same (record { numbers = built filter refl; whole = whole })))
-  built_order (Share members filter) right whole built = absurd built
+  is_proper : (o : Order) → IsOrder (order_view o) → order_splits kind (order_view o) ≡ false → OrderFits o → IsProper kind o
+  is_proper (Move source destination filter keep) right whole fits = (names_differ source destination right.0, record { numbers = fits; whole = whole })
+  is_proper (Copy source destination None) right whole fits = (names_differ source destination right.0, λ filter is. cc)
+  is_proper (Copy source destination (Some filter)) right whole fits = (names_differ source destination right.0, λ g is. (let same : filter ≡ g = cc in subst (IsWhole kind) same (record { numbers = fits; whole = whole })))
+  is_proper (Share members filter) right whole fits =
+      (record { some = right.0; unlike = all_unlike members right.2 }, record { numbers = fits; whole = whole })
 
-  built_with : (w : What) (cs : List Command) → IsWhat (what_view w) → what_splits kind (what_view w) ≡ false → IsBuilt w
-      → All (λ (c : Command). IsBuiltFor kind c.what) cs → All (λ (c : Command). IsBuiltFor kind c.what) (with_command w cs)
-  built_with what.Settle cs right whole built rest = rest
-  built_with (what.Command command) cs right whole built rest = All-cons (λ (c : Command). IsBuiltFor kind c.what) command cs (built_order command.what right whole built) rest
+  proper_with : (w : What) (cs : List Command) → IsWhat (what_view w) → what_splits kind (what_view w) ≡ false → WhatFits w
+      → All (λ (c : Command). IsProper kind c.what) cs → All (λ (c : Command). IsProper kind c.what) (with_command w cs)
+  proper_with what.Settle cs right whole fits rest = rest
+  proper_with (what.Command command) cs right whole fits rest = All-cons (λ (c : Command). IsProper kind c.what) command cs (is_proper command.what right whole fits) rest
 
-  -- each command is one that is built
-  pub all_built : (lines : List Line) → AllByRecursion IsLine (map line_view lines) → AllByRecursion (λ line. what_splits kind line.what ≡ false) (map line_view lines)
-      → All (λ (line : Line). IsBuilt line.what) lines → All (λ (c : Command). IsBuiltFor kind c.what) (line_commands lines)
-  all_built [] right whole built = All-nil (λ (c : Command). IsBuiltFor kind c.what)
-  all_built (line ∷ more) right whole built = built_with line.what (line_commands more) right.0 whole.0 (All-head (λ (line : Line). IsBuilt line.what) line more built)
-      (all_built more right.1 whole.1 (All-tail (λ (line : Line). IsBuilt line.what) line more built))
+  -- each command is one that a run may be given
+  pub all_proper : (lines : List Line) → AllByRecursion IsLine (map line_view lines) → AllByRecursion (λ line. what_splits kind line.what ≡ false) (map line_view lines)
+      → All (λ (line : Line). WhatFits line.what) lines → All (λ (c : Command). IsProper kind c.what) (line_commands lines)
+  all_proper [] right whole fits = All-nil (λ (c : Command). IsProper kind c.what)
+  all_proper (line ∷ more) right whole fits = proper_with line.what (line_commands more) right.0 whole.0 (All-head (λ (line : Line). WhatFits line.what) line more fits)
+      (all_proper more right.1 whole.1 (All-tail (λ (line : Line). WhatFits line.what) line more fits))
 
   -- Routes.
   pub routes_whole : (routes : List (Filter × ℕ)) → AllByRecursion (λ route. splits kind route.0 ≡ false) (map route_view routes)

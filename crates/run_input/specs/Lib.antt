@@ -1,2 +1,1 @@
-pub mod BuiltLines
 pub mod Given

@@ -1,18 +1,14 @@
-ghost use Rattle.std.specs.Prelude.{◌≡◌, ◌<◌, ◌≤◌, ◌^◌, ℕ, true, Err, Some, All, length, IfOk, IfNone};
-ghost use Rattle.std.specs.Option.{ForSome};
+ghost use Rattle.std.specs.Prelude.{◌≡◌, ◌<◌, ◌≤◌, ◌^◌, true, All, length, IfOk};
 ghost use Rattle.flow_filter.specs.Filter.{IsFilter, IsFlow};
 ghost use Rattle.nf_function.specs.Records.{Fits};
 ghost use Rattle.nf_function.specs.Units.{is_transport};
 ghost use Rattle.trace_reader.specs.Records.{AreNumbered};
 ghost use Rattle.op_script.specs.Reading.{script_view};
-ghost use Rattle.op_script.specs.Printing.{IsScript, SplitsNone};
+ghost use Rattle.op_script.specs.Printing.{CopiedFits, IsScript, SplitsNone, WhatFits};
 ghost use Rattle.op_script.specs.Items.{items};
 ghost use Rattle.net_world.specs.Input.{IsInput, IsSteered, ends_last, most_counted};
-ghost use Rattle.run_input.specs.declared.fault.InputFault.TheVariants.{NotBuilt};
-ghost use Rattle.run_input.specs.Given.{config_of, first_unbuilt, unbuilt, IsSetting};
-ghost use Rattle.run_input.specs.BuiltLines.{IsBuilt};
+ghost use Rattle.run_input.specs.Given.{config_of, IsSetting};
 
-use crate::fault::InputFault;
 use crate::setting::Setting;
 use basics::{NoMemory, TryCopy};
 use flow_filter::{CapturedPacket, Filter, Flow, Name, Packet, Packets, Sequence, Site, flow_of};
@@ -21,13 +17,13 @@ use nf_msgs::{Msg, Names, Order};
 use op_script::{Line, Script, What, items};
 use std::alloc::Global;
 
-/// The configuration and the input of a run, where each command of the script is a move or a copy.
+/// The configuration and the input of a run.
 pub fn input_of(
     alloc: Global,
     setting: &Setting<'_>,
     script: &Script,
     packets: Packets,
-) -> Result<(Config, Vec<Msg>), InputFault>
+) -> Result<(Config, Vec<Msg>), NoMemory>
     requires setting { IsSetting setting.now }
     requires script { IsScript setting.now.names.now (script_view script.now) }
     requires whole { SplitsNone setting.now.kind (script_view script.now) }
@@ -37,13 +33,8 @@ pub fn input_of(
     ensures items { IfOk result (λ made. made.1.items ≡ items packets script.now.lines.items) }
     ensures input { IfOk result (λ made. IsInput setting.now.kind made.0 made.1.items) }
     ensures last { IfOk result (λ made. ends_last made.1.items ≡ true) }
-    // The first command that is a share is refused, and nothing else is.
-    ensures unbuilt { ForSome (first_unbuilt script.now.lines.items) (λ command. result ≡ Err (NotBuilt command)) }
-    ensures cause { (command : ℕ) → result ≡ Err (NotBuilt command) → first_unbuilt script.now.lines.items ≡ Some command }
 {
-    if let Some(command) = first_unbuilt(script.lines.as_slice()) {
-        return Err(InputFault::NotBuilt { command });
-    }
+    are_lines(script.lines.as_slice());
     are_steered(setting.site, packets.items());
     are_few(packets.items());
     are_filters(script.routes.as_slice());
@@ -52,36 +43,25 @@ pub fn input_of(
     Ok((config, items))
 }
 
-/// The number of the first command that is a share.
-pub fn first_unbuilt(lines: &[Line]) -> Option<u32>
-    ensures value { result ≡ first_unbuilt lines.now }
-    ensures built { IfNone result (All (λ line. IsBuilt line.what) lines.now) }
+/// The numbers of each line's filter are within their types.
+fn are_lines(lines: &[Line])
+    ensures { All (λ line. WhatFits line.what) lines.now }
 {
     for line in lines {
-        if let Some(command) = unbuilt(&line.what) {
-            return Some(command);
-        }
+        is_what(&line.what);
     }
-    None
 }
 
-/// The number of a share.
-fn unbuilt(what: &What) -> Option<u32>
-    ensures value { result ≡ unbuilt what.now }
-    ensures built { IfNone result (IsBuilt what.now) }
+/// The same of what happens.
+fn is_what(what: &What)
+    ensures { WhatFits what.now }
 {
     match what {
-        What::Settle => None,
+        What::Settle => {}
         What::Command(command) => match &command.what {
-            Order::Move { filter, .. } => {
-                is_filter(*filter);
-                None
-            }
-            Order::Copy { filter, .. } => {
-                is_filter_if(*filter);
-                None
-            }
-            Order::Share { .. } => Some(command.op),
+            Order::Move { filter, .. } => is_filter(*filter),
+            Order::Copy { filter, .. } => is_filter_if(*filter),
+            Order::Share { filter, .. } => is_filter(*filter),
         },
     }
 }
@@ -93,7 +73,7 @@ fn is_filter(_filter: Filter)
 
 /// The same of a filter that may be there.
 fn is_filter_if(filter: Option<Filter>)
-    ensures { ForSome filter IsFilter }
+    ensures { CopiedFits filter }
 {
     if let Some(filter) = filter {
         is_filter(filter);

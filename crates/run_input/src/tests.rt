@@ -65,7 +65,7 @@ fn two_packets(alloc: Global) -> Result<Packets, Fail>
 }
 
 /// What the tracker's instances `a` and `b` are given, by the text of a script.
-fn given(alloc: Global, text: &[u8]) -> Result<Result<(Config, Vec<Msg>), InputFault>, Fail> {
+fn given(alloc: Global, text: &[u8]) -> Result<(Config, Vec<Msg>), Fail> {
     let names = instances(alloc)?;
     let script = read_script(alloc, text, Kind::Conntrack, names.as_slice())?;
     let limits = [5, 7];
@@ -78,7 +78,7 @@ fn given(alloc: Global, text: &[u8]) -> Result<Result<(Config, Vec<Msg>), InputF
         site: site(),
         window: 3,
     };
-    Ok(input_of(alloc, &setting, &script, two_packets(alloc)?))
+    Ok(input_of(alloc, &setting, &script, two_packets(alloc)?)?)
 }
 
 /// A letter for each message, and the number of each command.
@@ -105,7 +105,7 @@ fn shown(alloc: Global, input: &[Msg]) -> Result<(Vec<u8>, Vec<u32>), Fail> {
 fn routes_and_lines_are_taken_over(rt: HostRuntime) -> Result<(), Fail> {
     let text =
         b"route rport=53 b\nroute any a\nat 0 settle\nat 1 move a b any order\nat 9 copy b a all\n";
-    let (config, items) = given(rt.alloc(), text.as_slice())??;
+    let (config, items) = given(rt.alloc(), text.as_slice())?;
     let routes = [(Filter::parse("rport=53")?, 1), (Filter::ANY, 0)];
     assert_eq!(rt; config.routes.items(), routes.as_slice());
     let (kinds, numbers) = shown(rt.alloc(), items.as_slice())?;
@@ -116,7 +116,7 @@ fn routes_and_lines_are_taken_over(rt: HostRuntime) -> Result<(), Fail> {
 
 #[test]
 fn a_script_without_lines_gives_the_packets_alone(rt: HostRuntime) -> Result<(), Fail> {
-    let (config, items) = given(rt.alloc(), b"".as_slice())??;
+    let (config, items) = given(rt.alloc(), b"".as_slice())?;
     assert_eq!(rt; config.names.items().len(), 2);
     assert_eq!(rt; config.limits.items(), [5, 7].as_slice());
     assert_eq!(rt; config.marked.items(), [false, true].as_slice());
@@ -128,16 +128,11 @@ fn a_script_without_lines_gives_the_packets_alone(rt: HostRuntime) -> Result<(),
 }
 
 #[test]
-fn the_first_share_is_refused_by_its_number(rt: HostRuntime) -> Result<(), Fail> {
-    for (text, command) in [
-        (
-            "at 0 settle\nat 0 copy a b any\nat 1 share a,b any strict",
-            2,
-        ),
-        ("at 2 share b,a any strict\nat 3 copy a b all", 1),
-    ] {
-        let found = given(rt.alloc(), text.as_bytes())?.err();
-        assert_eq!(rt; found, Some(InputFault::NotBuilt { command }), "{text}");
-    }
+fn copies_and_shares_are_taken_as_moves_are(rt: HostRuntime) -> Result<(), Fail> {
+    let text = b"at 0 share b,a any strict\nat 1 copy a b rport=53\nat 2 move b a any order\n";
+    let (_config, items) = given(rt.alloc(), text.as_slice())?;
+    let (kinds, numbers) = shown(rt.alloc(), items.as_slice())?;
+    assert_eq!(rt; kinds.as_slice(), b"cpcpce".as_slice());
+    assert_eq!(rt; numbers.as_slice(), [1, 2, 3].as_slice());
     Ok(())
 }

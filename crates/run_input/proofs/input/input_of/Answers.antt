@@ -5,7 +5,7 @@ use Rattle.flow_filter.specs.declared.filter.Filter.{Filter}
 use Rattle.flow_filter.specs.Filter.{IsFilter}
 use Rattle.op_script.specs.declared.script.Line.{Line}
 use Rattle.net_world.specs.Input.{IsSteered, most_counted, ends_last}
-use Rattle.run_input.specs.BuiltLines.{IsBuilt}
+use Rattle.op_script.specs.Printing.{WhatFits}
 use Rattle.run_input.specs.Given.{config_of}
 use Rattle.run_input.proofs.GivenInput.{made_is}
 use Rattle.run_input.proofs.SaidCommands.{end_is_last}
@@ -23,7 +23,7 @@ returns-clause-input c =
       few = subst (λ packets. length packets ≤ most_counted) c.items-2.ensures c.are_few.ensures;
       site = c.are_steered.ensures.site;
       filters = subst (All (λ (route : Filter × ℕ). IsFilter route.0)) c.as_slice-2.ensures.value c.are_filters.ensures;
-      built = subst (All (λ (line : Line). IsBuilt line.what)) c.as_slice.ensures.value c.in_default.ensures.built;
+      fits = subst (All (λ (line : Line). WhatFits line.what)) c.as_slice.ensures.value c.are_lines.ensures;
     }) (c.in_ok-config.ensures ∙ ap (config_of c.args.setting.now) routes) c.in_ok-items.ensures
 
 pub returns-clause-last : goal.returns-clause-last

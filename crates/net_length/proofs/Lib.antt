@@ -1,0 +1,10 @@
+pub mod ControllerCosts
+pub mod FewMembers
+pub mod InstanceCosts
+pub mod MapWeights
+pub mod MoveCosts
+pub mod NodeCosts
+pub mod RunLength
+pub mod ShareCosts
+pub mod SwitchCosts
+pub mod Weights

@@ -1,0 +1,140 @@
+-- No run has more choices than its instances, its packets, the lines of its script and the pieces of its moves allow.
+use Rattle.std.proofs.Common.{◌≡◌, ℕ, zero, suc, ◌+◌, ◌*◌, ◌≤◌, Bool, true, false, Option, None, Some, List, [], ◌∷◌, ◌++◌, length, length-append, refl, sym, ap, subst, ◌∙◌, arith}
+use Rattle.std.specs.Prelude.{◌==◌, ◌-◌, slice_get}
+use Rattle.std.specs.List.{All, AllByRecursion}
+use Rattle.std.specs.declared.alloc.Global.{Global}
+use Rattle.std.proofs.Math.Nat.{mul-suc}
+use Rattle.std.proofs.lemmas.Bool.Decides.{nat_tests, Decides-eqb}
+use Rattle.std.proofs.lemmas.Option.{slice_get-get_or}
+use Rattle.nf_function.specs.Records.{Laws as FunctionLaws}
+use Rattle.nf_function.specs.Semantics.{Semantics}
+use Rattle.nf_msgs.specs.declared.msg.Msg.{Msg}
+use Rattle.nf_msgs.specs.declared.msg.Msg.TheVariants as msg
+use Rattle.nf_msgs.specs.declared.note.Note.{Note}
+use Rattle.actor_net.specs.declared.choice.Choice.{Choice}
+use Rattle.actor_net.specs.Network.{Network, IsRun, waiting, run, taken}
+use Rattle.actor_net.proofs.OpeningWorlds.{opening_weight}
+use Rattle.actor_net.proofs.RunInduction.{Taking, NextChoice, run_induction}
+use Rattle.actor_net.proofs.StepOutcome.{Takes}
+use Rattle.actor_net.proofs.WeightLaws.{Each, weigh, weigh-append}
+use Rattle.net_world.specs.declared.config.Config.{Config}
+use Rattle.net_world.specs.declared.node.Node.{Node}
+use Rattle.net_world.specs.declared.node.Node.TheVariants.{Instance}
+use Rattle.net_world.specs.Input.{IsInput, packets}
+use Rattle.net_world.specs.Nodes.{node_step, node_ready}
+use Rattle.net_world.specs.Start.{first_instance, first_instances, first_nodes, started}
+use Rattle.whole_joined.proofs.Given.{Given}
+use Rattle.whole_joined.proofs.Joined.{Label, node_of}
+use Rattle.whole_joined.proofs.StartJoined.{given, all_labelled, count_at_start}
+use Rattle.whole_joined.proofs.RunsJoined.{Runs, runs_at_start, runs_next, start_world}
+use Rattle.net_length.specs.Length.{lines, ends, has_end, pieces_among, pieces_of, pieces_sent, most_choices}
+use Rattle.net_length.proofs.MapWeights.{empty_weighs}
+use Rattle.net_length.proofs.Weights.{kept, weight, of_operation}
+use Rattle.net_length.proofs.NodeCosts.{of_node, of_world, world_falls}
+
+-- a product of a list's length is its elements' weight
+times_length : {X : Type 0} (a : ℕ) (xs : List X) → a * length xs ≡ weigh (λ x. a) xs
+times_length a [] = omega arith
+times_length a (x ∷ xs) = let rest = times_length a xs in let one = mul-suc a (length xs) in omega (arith, rest, one)
+
+-- one line more
+times_more : (a k : ℕ) → a * (1 + k) ≡ a * k + a
+times_more a k = mul-suc a k
+
+-- What an input weighs.
+module _ (o : ℕ) {R : Type 0} (f : Semantics R) (g : Given) where
+  input_weighs : (items : List Msg) → Each (Label f g 0 0) items → weigh (weight o) items ≤ (7 + 2 * o) * length (packets items) + (16 + 2 * o) * lines items + 2 * ends items
+  input_weighs [] h = omega arith
+  input_weighs (msg.InPacket packet ∷ items) h = let rest = input_weighs items h.1 in let one = times_more (7 + 2 * o) (length (packets items)) in omega (arith, rest, one)
+  input_weighs (msg.InCommand command ∷ items) h = let rest = input_weighs items h.1 in let one = times_more (16 + 2 * o) (lines items) in omega (arith, rest, one)
+  input_weighs (msg.InSettle ∷ items) h = let rest = input_weighs items h.1 in let one = times_more (16 + 2 * o) (lines items) in omega (arith, rest, one)
+  input_weighs (msg.InEnd ∷ items) h = let rest = input_weighs items h.1 in omega (arith, rest)
+  input_weighs (m ∷ items) h = ?
+
+module _ (F : Type 0) {R : Type 0} (f : Semantics R) (o : ℕ) (alloc : Global) (c : Config) where
+  -- at the start no instance holds anything
+  instances_light : (i : ℕ) → weigh (of_node {F = F} {R = R} o) (first_instances alloc c i) ≡ 0
+  instances_light zero = refl
+  instances_light (suc i) =
+      let rest = instances_light i in
+      let both = weigh-append (of_node {F = F} {R = R} o) (first_instances alloc c i) (Instance (first_instance alloc c i) ∷ []) in
+      omega (arith, rest, both)
+
+  nodes_weigh : weigh (of_node {F = F} {R = R} o) (first_nodes alloc c) ≡ 3 + 2 * o
+  nodes_weigh =
+      let rest = instances_light (length c.names) in
+      let none = empty_weighs (of_operation o) in
+      let empty = empty_weighs (kept o) in
+      omega (arith, rest, none, empty)
+
+  start_weighs : (items : List Msg) → of_world {F = F} {R = R} o (started alloc c items) ≡ weigh (weight o) items + (3 + 2 * o)
+  start_weighs items =
+      let messages = opening_weight Note (first_nodes {F = F} {R = R} alloc c) items (weight o) in
+      let nodes = nodes_weigh in
+      omega (arith, messages, nodes)
+
+-- the pieces of one choice more
+module _ {F R : Type 0} (f : Semantics R) where
+  pieces_more : (cs : List Choice) (c : Choice) (w : Network (Node F R) Msg Note) → pieces_sent f w (cs ++ c ∷ []) ≡ pieces_sent f w cs + pieces_of f c (slice_get (run (node_step f) cs w).nodes c.node) (waiting (run (node_step f) cs w) c)
+  pieces_more [] c w = omega arith
+  pieces_more (d ∷ ds) c w = let rest = pieces_more ds c (taken (node_step f) w d) in omega (arith, rest)
+
+module _ (F : Type 0) {R : Type 0} (f : Semantics R) (laws : FunctionLaws f) (alloc : Global) (c : Config) (items : List Msg) (is : IsInput f.kind c items) where
+  abbrev start : Network (Node F R) Msg Note
+  start = started {F = F} {R = R} alloc c items
+
+  abbrev nodes : ℕ
+  nodes = length c.names + 2
+
+  -- the members of a share besides one are at most so many
+  abbrev besides : ℕ
+  besides = length c.names - 1
+
+  besides_is : length c.names ≡ 1 + besides
+  besides_is = let some = is.is_config.some in omega (arith, some)
+
+  -- so far the choices, and what is still to come
+  record IsLighter (cs : List Choice) (w : Network (Node F R) Msg Note) : Type 0 where
+    runs : Runs F f laws alloc c items is w
+    lighter : length cs + of_world {F = F} {R = R} besides w ≤ of_world {F = F} {R = R} besides start + 4 * pieces_sent f start cs
+
+  next_lighter : (cs : List Choice) (w : Network (Node F R) Msg Note) (k : Choice) → NextChoice node_ready (node_step f) nodes start cs w k → IsLighter cs w → IsLighter (cs ++ k ∷ []) (taken (node_step f) w k)
+  next_lighter cs w k next h =
+      let j = h.runs.joined in
+      let t = next.taking in
+      let same : t.node ≡ node_of j.nodes k.node = sym (t.takes.node_is t.node) ∙ j.nodes_are k.node t.takes.receiver t.node in
+      let takes = subst (λ y. Takes (node_step f) nodes w k.node k.port y t.message t.rest) same t.takes in
+      let count = t.takes.count in
+      let falls = world_falls f (given f c items is) nodes besides (let few = besides_is in omega (arith, few)) refl w j k.node k.port t.message t.rest takes in
+      let more = pieces_more f cs k start in
+      let sent : pieces_of f k (slice_get (run (node_step f) cs start).nodes k.node) (waiting (run (node_step f) cs start) k) ≡ pieces_among (node_step f (node_of j.nodes k.node) k.port t.message).sends =
+          ap (λ v. pieces_of f k (slice_get v.nodes k.node) (waiting v k)) (sym next.reached)
+          ∙ ap (λ x. pieces_of f k x (waiting w k)) (slice_get-get_or w.nodes k.node t.node (rw count t.takes.receiver) ∙ ap Some (t.takes.node_is t.node))
+          ∙ ap (pieces_of f k (Some t.node)) t.takes.waits
+          ∙ ap (λ y. pieces_among (node_step f y k.port t.message).sends) same in
+      let long = length-append cs (k ∷ []) in
+      let so_far = h.lighter in
+      record {
+        runs = runs_next F f laws alloc c items is w k t h.runs;
+        lighter = omega (arith, falls, more, sent, long, so_far);
+      }
+
+  run_lighter : (cs : List Choice) → IsRun node_ready (node_step f) cs start → IsLighter cs (run (node_step f) cs start)
+  run_lighter cs run_is = run_induction node_ready (node_step f) nodes IsLighter start next_lighter (start_world F f laws alloc c items is) (count_at_start F f alloc c items is) (record { runs = runs_at_start F f laws alloc c items is; lighter = omega arith }) cs run_is
+
+  -- a run has at most so many choices
+  pub run_length : has_end items ≡ true → (cs : List Choice) → IsRun node_ready (node_step f) cs start → length cs ≤ most_choices (length c.names) items (pieces_sent f start cs)
+  run_length ended cs run_is =
+      let o = besides in
+      let few = besides_is in
+      let lighter = (run_lighter cs run_is).lighter in
+      let begins = start_weighs F f o alloc c items in
+      let input = input_weighs o f (given f c items is) items (all_labelled f c items is) in
+      let once : ends items ≡ 1 = (Decides-eqb (ends items) 1).0 ended in
+      let more_packets = times_le (7 + 2 * o) (2 * length c.names + 6) (length (packets items)) (omega (arith, few)) in
+      let more_lines = times_le (16 + 2 * o) (4 * length c.names + 24) (lines items) (omega (arith, few)) in
+      omega (arith, lighter, begins, input, once, more_packets, more_lines, few)
+    where
+      times_le : (a b k : ℕ) → a ≤ b → a * k ≤ b * k
+      times_le a b zero low = omega arith
+      times_le a b (suc k) low = let rest = times_le a b k low in let one = mul-suc a k in let two = mul-suc b k in omega (arith, rest, one, two, low)

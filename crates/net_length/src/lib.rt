@@ -1,0 +1,5 @@
+//! How long a run of the network can be: at most as many choices as its instances, packets, commands and pieces allow.
+//!
+//! There is no code here. `specs/Length.antt` says how many choices that is. A world weighs what its messages, its open
+//! operations and its parcels can still cause, and each choice makes it lighter.
+#![tactic(auto)]

@@ -1,0 +1,58 @@
+-- What a step of the switch in a run does to its rules: nothing, or it takes a change that a move or a share has sent, which it notes.
+use Rattle.std.proofs.Common.{◌≡◌, ℕ, ◌+◌, Bool, true, false, Some, List, [], ◌∷◌, refl, sym, ap, ◌∙◌, subst}
+use Rattle.std.specs.Prelude.{◌&&◌, ◌==◌, nat_lt}
+use Rattle.flow_filter.specs.declared.filter.Filter.{Filter}
+use Rattle.nf_function.specs.Semantics.{Semantics}
+use Rattle.nf_msgs.specs.declared.msg.Msg.{Msg}
+use Rattle.nf_msgs.specs.declared.msg.Msg.TheVariants as msg
+use Rattle.nf_msgs.specs.declared.note.Note.{Note}
+use Rattle.nf_msgs.specs.declared.note.Note.TheVariants as note
+use Rattle.nf_msgs.specs.Nodes.{instance_node}
+use Rattle.switch_rules.specs.declared.target.Target.{Target}
+use Rattle.switch_rules.specs.declared.target.Target.TheVariants as target
+use Rattle.switch_node.specs.Switch.{SwitchState, switch_step, on_install}
+use Rattle.unit_machine.proofs.Real as real
+use Rattle.abstract_net.proofs.Net as net
+use Rattle.abstract_net.proofs.Shares.{Any, Old, New, S_install}
+use Rattle.net_world.specs.Log.{installed}
+use Rattle.outline_net.proofs.FiltersApart.{is_whole}
+use Rattle.whole_joined.proofs.Given.{Given, IsInstall, IsDivert}
+use Rattle.whole_joined.proofs.Joined.{Scene, AreShown, IsTaken, Label, shown, count, is_target}
+use Rattle.whole_joined.proofs.RuleChanges.{Changes, Same, Installs, changes}
+
+installed_note : (s : SwitchState) (count k : ℕ) (filter : Filter) (from : ℕ) (to : Target) → s.instances ≡ count → nat_lt from count ≡ true → is_target count to ≡ true → (on_install s k filter from to).notes ≡ note.Installed k ∷ []
+installed_note s count k filter from target.Controller same here there = rw (same, here) refl
+installed_note s count k filter from (target.Instance i) same here there = rw (same, here, there) refl
+
+module _ {F R : Type 0} (f : Semantics R) (g : Given) (n : ℕ) (x : Scene F f g) (are : AreShown f g n x) (p : ℕ) (m : Msg) (it : IsTaken f g n x (record { node = 0; port = p; message = m })) where
+  abbrev pub notes : List Note
+  notes = (switch_step x.nodes.switch m).notes
+
+  pub data Changed : Type 0 where
+    No_rule : installed notes ≡ [] → Changed
+    Moves_on : (k : ℕ) (filter : Filter) (from dst : ℕ) (rest : List (Any R)) → notes ≡ note.Installed k ∷ [] → IsInstall g k filter from (target.Instance dst) → is_whole f.kind filter ≡ true → x.world.link 1 0 ≡ Old (net.Mv filter (real.M_install k (instance_node from) (instance_node dst))) ∷ rest → Changed
+    Diverts : (k : ℕ) (filter : Filter) (from : ℕ) (rest : List (Any R)) → notes ≡ note.Installed k ∷ [] → IsDivert g k filter from → is_whole f.kind filter ≡ true → x.world.link 1 0 ≡ New (S_install k filter (instance_node from)) ∷ rest → Changed
+
+  module _ (k : ℕ) (filter : Filter) (from : ℕ) (to : Target) (e : m ≡ msg.Install k filter from to) where
+    label : Label f g p 0 (msg.Install k filter from to)
+    label = subst (λ y. Label f g p 0 y) e it.label
+
+    noted : notes ≡ note.Installed k ∷ []
+    noted = ap (λ y. (switch_step x.nodes.switch y).notes) e ∙ installed_note x.nodes.switch (count f g) k filter from to are.switch.instances label.1 label.2
+
+    head : (a : Any R) → shown f g m ≡ Some a → x.world.link 1 0 ≡ a ∷ it.rest
+    head a is =
+        let one = label.0.0 in
+        let off : (p == 0) && (0 == 0) ≡ false = rw one refl in
+        ap (λ q. x.world.link q 0) (sym one) ∙ it.head off a is
+
+  by_target : (k : ℕ) (filter : Filter) (from : ℕ) (to : Target) → m ≡ msg.Install k filter from to → Changed
+  by_target k filter from target.Controller e = Diverts k filter from it.rest (noted k filter from target.Controller e) (label k filter from target.Controller e).4 (label k filter from target.Controller e).3 (head k filter from target.Controller e (New (S_install k filter (instance_node from))) (ap (shown f g) e))
+  by_target k filter from (target.Instance dst) e = Moves_on k filter from dst it.rest (noted k filter from (target.Instance dst) e) (label k filter from (target.Instance dst) e).4 (label k filter from (target.Instance dst) e).3 (head k filter from (target.Instance dst) e (Old (net.Mv filter (real.M_install k (instance_node from) (instance_node dst)))) (ap (shown f g) e))
+
+  by_changes : Changes x.nodes.switch m → Changed
+  by_changes (Same none) = No_rule none
+  by_changes (Installs k filter from to e) = by_target k filter from to e
+
+  pub changed : Changed
+  changed = by_changes (changes x.nodes.switch m)

@@ -1,0 +1,304 @@
+-- The share of a unit in a world of a run: a share that the switch has installed is open, and of all open ones it alone takes its units. So what
+-- the log says of the unit's members is what the controller serves.
+use Rattle.std.proofs.Common.{◌≡◌, ◌≢◌, ℕ, zero, suc, ◌+◌, ◌<◌, ◌≤◌, ◌⊎◌, inl, inr, Bool, true, false, Option, Some, None, List, [], ◌∷◌, ◌++◌, map, length, refl, sym, ap, ◌∙◌, subst, arith}
+use Rattle.std.specs.Prelude.{if◌then◌else◌, ◌&&◌, ◌||◌, ◌==◌, ◌%◌, not, find, is_some, slice_index, slice_index_or}
+use Rattle.std.specs.List.{filter_map}
+use Rattle.std.specs.FinMap as finite
+use Rattle.std.proofs.lemmas.Nat.{mod_below}
+use Rattle.std.proofs.lemmas.List.{length-map}
+use Rattle.std.proofs.lemmas.Bool.Decides.{nat_tests, Decides-eqb}
+use Rattle.flow_filter.specs.declared.filter.Filter.{Filter}
+use Rattle.flow_filter.specs.declared.flow.Flow.{Flow}
+use Rattle.flow_filter.specs.Flow.{flow_of}
+use Rattle.nf_function.specs.declared.unit.Unit as units
+use Rattle.nf_function.specs.Semantics.{Semantics}
+use Rattle.nf_function.specs.Units.{takes}
+use Rattle.nf_msgs.specs.declared.answer.Answer.{Answer}
+use Rattle.nf_msgs.specs.declared.answer.Answer.TheVariants.{Done}
+use Rattle.nf_msgs.specs.declared.command.Order.{Order}
+use Rattle.nf_msgs.specs.declared.command.Order.TheVariants as order
+use Rattle.nf_msgs.specs.declared.msg.Msg.{Msg}
+use Rattle.nf_msgs.specs.declared.note.Note.{Note}
+use Rattle.nf_msgs.specs.Nodes.{instance_node}
+use Rattle.copy_share.specs.Share.{ShareState, home}
+use Rattle.copy_share.specs.declared.share_phase.SharePhase.{SharePhase}
+use Rattle.copy_share.specs.declared.share_phase.SharePhase.TheVariants as phase
+use Rattle.ctrl_node.specs.declared.operation.Operation.{Operation}
+use Rattle.ctrl_node.specs.declared.operation.Operation.TheVariants.{Move, Copy, Share}
+use Rattle.ctrl_node.specs.Controller.{place_of}
+use Rattle.actor_net.specs.Network.{Network}
+use Rattle.share_machine.proofs.Share as machine
+use Rattle.share_machine.proofs.Stages.{Stage, Stage.Diverting, Stage.Fence_goes, Stage.Fenced_comes, Stage.Get_goes, Stage.Chunks_come, Stage.Spreads, Stage.Resting, Stage.Forwards, Stage.Carries, Stage.Chunk_comes, shape}
+use Rattle.abstract_net.proofs.Elsewhere.{where_two}
+use Rattle.abstract_net.proofs.ShareLists.{found_each}
+use Rattle.abstract_net.proofs.ShareViews.{share_frame}
+use Rattle.abstract_net.proofs.Shares.{Open_share, find_share, moves_of}
+use Rattle.abstract_net.proofs.Untaken.{Elsewhere_home}
+use Rattle.abstract_net.proofs.UnderStarts.{seeing}
+use Rattle.whole_net.proofs.Readings.{Its_share, its_share}
+use Rattle.whole_net.proofs.WhereAll.{Where_all, Apart_from_shares, Under_share}
+use Rattle.net_world.specs.declared.config.Config.{Config}
+use Rattle.net_world.specs.declared.node.Node.{Node}
+use Rattle.net_world.specs.declared.node.Node.TheVariants.{Controller}
+use Rattle.net_world.specs.Commands.{began, has_answered, keeps_off, is_share, answers_of, times_installed}
+use Rattle.net_world.specs.Input.{IsInput, order_of, packet_of}
+use Rattle.net_world.specs.Log.{installed}
+use Rattle.net_world.specs.Places.{first_owner, is_home, owner, members, member_for}
+use Rattle.outline_net.proofs.FiltersApart.{is_whole, unit_fits, takes_whole, takes_same, filters_apart}
+use Rattle.outline_net.proofs.Outline.{is_sys}
+use Rattle.whole_outline.proofs.OpenShares.{Both, both, Real_share, real_share}
+use Rattle.whole_outline.proofs.ShareOutline.{share_phase}
+use Rattle.whole_joined.proofs.Given.{Given, place, target_by, is_diverted}
+use Rattle.whole_joined.proofs.Joined.{S, A, IsShare, Joined, count}
+use Rattle.whole_joined.proofs.OperationsApart.{AreApart, AllApart}
+use Rattle.whole_joined.proofs.ShareBegins.{names_known}
+use Rattle.whole_joined.proofs.StartJoined.{given}
+use Rattle.answer_net.proofs.BusyLemmas.{unanswered}
+use Rattle.answer_net.proofs.BusyRuns.{Busy, same_controller, keeps_is, plan_is, told_is, open_began}
+use Rattle.answer_net.proofs.InstallRuns.{Installs}
+use Rattle.answer_net.proofs.InstallSteps.{is_moving, dones, open_in}
+use Rattle.answer_net.proofs.ShareTells.{is_set_up}
+use Rattle.nf_net.proofs.MemberLemmas.{IsThere, There, is_there, Shares_it, IsSharedBy, shared_by, members_diverted, Installed_in, installed_in, times_there, home_first, member_at}
+
+-- a share that is set up, as its proof sees it
+abbrev serves : machine.Phase → Bool
+serves machine.Fencing = false
+serves machine.Getting = false
+serves (machine.Setting left) = false
+serves ph = true
+
+serves_same : (ph : SharePhase) → serves (share_phase ph) ≡ is_set_up ph
+serves_same phase.Fencing = refl
+serves_same phase.Getting = refl
+serves_same (phase.Setting left) = refl
+serves_same phase.Idle = refl
+serves_same (phase.Out member) = refl
+serves_same (phase.Syncing left) = refl
+
+-- diverts the packets of its units
+serving_diverts : {R : Type 0} (f : machine.Frame R) (s : Stage R) → serves (shape f s).phase ≡ true → (shape f s).diverts ≡ true
+serving_diverts f (Diverting d b l) e = cc
+serving_diverts f (Fence_goes d b l q v) e = refl
+serving_diverts f (Fenced_comes d b q v) e = refl
+serving_diverts f (Get_goes d b q v) e = refl
+serving_diverts f (Chunks_come d b q v) e = refl
+serving_diverts f (Spreads first d a b c at o left q v) e = refl
+serving_diverts f (Resting d a v) e = refl
+serving_diverts f (Forwards d a p q v) e = refl
+serving_diverts f (Carries d a p q v) e = refl
+serving_diverts f (Chunk_comes d a p q v) e = refl
+
+dones_still : (xs : List Answer) → dones false xs ≡ 0
+dones_still [] = refl
+dones_still (x ∷ xs) = dones_still xs
+
+index_same : (ms : List ℕ) (i : ℕ) → i < length ms → slice_index (map instance_node ms) i ≡ instance_node (slice_index ms i)
+index_same [] i low = absurd (omega (arith, low))
+index_same (m ∷ ms) zero low = refl
+index_same (m ∷ ms) (suc i) low = index_same ms i (omega (arith, low))
+
+both_so : (a s b : Bool) → a ≡ true → s ≡ true → a && (s || b) ≡ true
+both_so true true b h k = refl
+
+module _ {F R : Type 0} (f : Semantics R) (c : Config) (items : List Msg) (is : IsInput f.kind c items) (n : ℕ) (count_is : n ≡ length c.names + 2) (w : Network (Node F R) Msg Note) (j : Joined f (given f c items is) n w) (apart : AllApart j.nodes.controller.operations) (b : Busy (given f c items is) w) where
+  abbrev g : Given
+  g = given f c items is
+
+  -- an open share of an order
+  pub record IsOpenShare (op : ℕ) (ms : List (List ℕ)) (filter : Filter) : Type 0 where
+    pub state : ShareState
+    pub there : finite.get j.nodes.controller.operations op ≡ Some (Share state)
+    pub filter_is : state.plan.filter ≡ filter
+    pub members_are : filter_map (place_of c.names) ms ≡ state.plan.members
+    pub known : find (λ name. not (is_some (place_of c.names name))) ms ≡ None
+
+  same_names : {a d : List (List ℕ)} {p q : Filter} → Some (order.Share a p) ≡ Some (order.Share d q) → a ≡ d
+  same_names e = cc
+
+  same_filter : {a d : List (List ℕ)} {p q : Filter} → Some (order.Share a p) ≡ Some (order.Share d q) → p ≡ q
+  same_filter e = cc
+
+  open_share : (op : ℕ) (ms : List (List ℕ)) (filter : Filter) → order_of items op ≡ Some (order.Share ms filter) → (s : ShareState) → finite.get j.nodes.controller.operations op ≡ Some (Share s) → IsOpenShare op ms filter
+  open_share op ms filter what s there =
+      let its : IsShare f g op s = j.shown_is.controller.shared op s there in
+      let own : order_of items op ≡ Some (order.Share its.plan.names s.plan.filter) = ap (order_of items) (sym its.op_is) ∙ its.plan.order_is in
+      let on = open_began f g n count_is w j b op (Share s) there in
+      record {
+        state = s;
+        there = there;
+        filter_is = same_filter (sym own ∙ what);
+        members_are = ap (filter_map (place_of c.names)) (same_names (sym what ∙ own)) ∙ its.plan.members_are;
+        known = ((b.is.answered op).begins (order.Share ms filter) what on).known;
+      }
+
+  -- a share's command that is open has a share for its operation
+  share_open : (op : ℕ) (ms : List (List ℕ)) (filter : Filter) → order_of items op ≡ Some (order.Share ms filter) → (o : Option Operation) → finite.get j.nodes.controller.operations op ≡ o → is_some o ≡ true → IsOpenShare op ms filter
+  share_open op ms filter what None at e = cc
+  share_open op ms filter what (Some (Share s)) at e = open_share op ms filter what s at
+  share_open op ms filter what (Some (Move m)) at e =
+      let never = sym (plan_is f g n count_is w j b op m at).order_is ∙ what in
+      cc
+  share_open op ms filter what (Some (Copy y)) at e =
+      let its = j.shown_is.controller.copies op y at in
+      let never = sym (ap (order_of items) (sym its.op_is) ∙ its.plan.order_is) ∙ what in
+      cc
+
+  -- it is open if the switch has installed it, and if it began
+  pub open_installed : Installs g w → (op : ℕ) (ms : List (List ℕ)) (filter : Filter) → order_of items op ≡ Some (order.Share ms filter) → 1 ≤ times_installed op w.log → IsOpenShare op ms filter
+  open_installed h op ms filter what some = by_got (finite.get h.controller.operations op) refl
+    where
+      same : h.controller ≡ j.nodes.controller
+      same = same_controller {F = F} {R = R} h.controller j.nodes.controller (sym (h.controller_is (Controller h.controller)) ∙ j.nodes_are 1 (omega (arith, count_is)) (Controller h.controller))
+
+      none_done : dones (is_moving (order_of items op)) (answers_of op w.log) ≡ 0
+      none_done = ap (λ o. dones (is_moving o) (answers_of op w.log)) what ∙ dones_still (answers_of op w.log)
+
+      by_got : (o : Option Operation) → finite.get h.controller.operations op ≡ o → IsOpenShare op ms filter
+      by_got None at =
+          let zero : open_in (finite.get h.controller.operations op) ≡ 0 = ap open_in at in
+          let balance = h.balance op in
+          let none = none_done in
+          absurd (omega (arith, balance, none, zero, some))
+      by_got (Some o) at = share_open op ms filter what (Some o) (ap (λ x. finite.get x.operations op) (sym same) ∙ at) refl
+
+  pub open_begun : (op : ℕ) (ms : List (List ℕ)) (filter : Filter) → order_of items op ≡ Some (order.Share ms filter) → began op w.log ≡ true → IsOpenShare op ms filter
+  open_begun op ms filter what on = share_open op ms filter what (finite.get j.nodes.controller.operations op) refl (keeps_is f g n count_is w j b op ∙ both_so (began op w.log) (is_share (order_of items op)) (not (has_answered op w.log)) on (ap is_share what))
+
+  -- Of the units that packets may have.
+  module _ (u : units.Unit) (fits : unit_fits f.kind u ≡ true) where
+    -- what one open operation takes no other takes
+    one_takes : (k l : ℕ) (s t : ShareState) → finite.get j.nodes.controller.operations k ≡ Some (Share s) → finite.get j.nodes.controller.operations l ≡ Some (Share t) → takes_whole f.kind s.plan.filter u ≡ true → takes_whole f.kind t.plan.filter u ≡ true → k ≡ l
+    one_takes k l s t at_k at_l on_k on_l = elim (k == l) as (λ e. (k == l) ≡ e → k ≡ l) [
+      | true ↦ λ same. (Decides-eqb k l).0 same
+      | false ↦ λ off. absurd (not_both (apart k l (Share s) (Share t) off at_k at_l))
+    ] refl
+      where
+        not_both : (meets_not : AreApart (Some s.plan.filter) (Some t.plan.filter)) → ⊥
+        not_both (inl off) = let never : true ≡ false = sym on_l ∙ filters_apart f.kind s.plan.filter t.plan.filter u off on_k in cc
+        not_both (inr off) = let never : true ≡ false = sym on_k ∙ filters_apart f.kind t.plan.filter s.plan.filter u off on_l in cc
+
+    whole_on : (op : ℕ) (ms : List (List ℕ)) (filter : Filter) (o : IsOpenShare op ms filter) → takes filter u ≡ true → takes_whole f.kind o.state.plan.filter u ≡ true
+    whole_on op ms filter o on = takes_same f.kind o.state.plan.filter u (j.shown_is.controller.shared op o.state o.there).whole fits ∙ ap (λ q. takes q u) o.filter_is ∙ on
+
+    -- the share that has the unit in the network, and an open one that takes it
+    module _ (op : ℕ) (ms : List (List ℕ)) (filter : Filter) (o : IsOpenShare op ms filter) (on : takes filter u ≡ true) (e : Open_share) (its : Its_share (S f g) (A f g) (is_sys f g.site g.packet) u j.world e) where
+      real : Real_share f (place g) g.site j.nodes.controller e.num e
+      real = real_share f (place g) g.site j.world.ops j.world.shares j.nodes.controller e.num e j.shown_is.controller.opens its.found
+
+      pub number_is : op ≡ e.num
+      number_is = one_takes op e.num o.state real.s o.there real.there (whole_on op ms filter o on) (ap (λ q. takes_whole f.kind q u) (sym (ap (λ x. x.filter) real.sees.is)) ∙ its.takes)
+
+      same_state : o.state ≡ real.s
+      same_state = let both : Some (Share o.state) ≡ Some (Share real.s) = sym o.there ∙ ap (finite.get j.nodes.controller.operations) number_is ∙ real.there in cc
+
+      pub phase_is : e.phase ≡ share_phase o.state.phase
+      phase_is = ap (λ x. x.phase) real.sees.is ∙ ap (λ s. share_phase s.phase) (sym same_state)
+
+      members_same : e.members ≡ map instance_node (filter_map (place_of c.names) ms)
+      members_same = ap (λ x. x.members) real.sees.is ∙ ap (λ s. map instance_node s.plan.members) (sym same_state) ∙ ap (map instance_node) (sym o.members_are)
+
+      -- its home is the first of its names
+      pub home_is : (i : ℕ) → is_home c.names (order_of items) ms i ≡ true → e.home ≡ instance_node i
+      home_is i at =
+          let first : home real.s.plan ≡ slice_index (filter_map (place_of c.names) ms) 0 = ap (λ s. home s.plan) (sym same_state) ∙ ap (λ v. slice_index v 0) (sym o.members_are) in
+          ap (λ x. x.home) real.sees.is ∙ ap instance_node (first ∙ home_first c.names (order_of items) ms i at)
+
+      -- and the member of a packet is the one that its names say
+      pub member_is : (p i : ℕ) → (A f g).member e.members p ≡ instance_node i → member_for c items ms (packet_of items p) ≡ Some i
+      member_is p i at =
+          let flow : Flow = (flow_of c.site (packet_of items p)).0 in
+          let nodes : List ℕ = filter_map (place_of c.names) ms in
+          let k : ℕ = flow.lport + flow.rport + flow.remote in
+          let many : length nodes ≡ length ms = all_placed ms o.known in
+          let some : 0 < length nodes = subst (λ v. 0 < length v) (sym o.members_are) (let two = (j.shown_is.controller.shared op o.state o.there).some in omega (arith, two)) in
+          let low = mod_below k (length nodes) some in
+          let seen : slice_index (map instance_node nodes) (k % length (map instance_node nodes)) ≡ instance_node i = sym (ap (λ v. (A f g).member v p) members_same) ∙ at in
+          let same : instance_node (slice_index nodes (k % length nodes)) ≡ instance_node i = sym (ap (λ m. slice_index (map instance_node nodes) (k % m)) (length-map nodes instance_node) ∙ index_same nodes (k % length nodes) low) ∙ seen in
+          let index : slice_index nodes (k % length nodes) ≡ i = omega (arith, same) in
+          ap (λ m. place_of c.names (slice_index_or ms (k % m) [])) (sym many) ∙ member_at c.names ms o.known (k % length nodes) (subst (λ m. k % length nodes < m) many low) ∙ ap Some index
+        where
+          all_placed : (these : List (List ℕ)) → find (λ name. not (is_some (place_of c.names name))) these ≡ None → length (filter_map (place_of c.names) these) ≡ length these
+          all_placed these none = (names_known c.names these none).many
+
+    -- the share by the log: one that the switch has installed, with these members
+    pub record IsShareOfUnit (ms : List (List ℕ)) : Type 0 where
+      pub op : ℕ
+      pub filter : Filter
+      pub open_is : IsOpenShare op ms filter
+      pub takes_it : takes filter u ≡ true
+      pub times : 1 ≤ times_installed op w.log
+
+    pub share_of_unit : Installs g w → (ms : List (List ℕ)) → members c items u w.log ≡ Some ms → IsShareOfUnit ms
+    share_of_unit h ms e =
+        let r : IsSharedBy g u (first_owner u c.routes) (installed w.log) ms = shared_by g u (first_owner u c.routes) (installed w.log) ms e in
+        let at : Installed_in w.log r.front r.op = installed_in w.log r.front r.op r.back r.whole in
+        let some : 1 ≤ times_installed r.op w.log = let there = ap (times_installed r.op) at.whole ∙ times_there r.op at.first at.rest in omega (arith, there) in
+        record { op = r.op; filter = r.its.filter; open_is = open_installed h r.op ms r.its.filter r.its.order_is some; takes_it = r.its.takes_it; times = some }
+
+    -- packets go to the controller where the unit has members
+    pub diverted_members : j.world.target u ≡ 1 → IsThere (members c items u w.log)
+    diverted_members one = is_there (members c items u w.log) (members_diverted g u (first_owner u c.routes) (installed w.log) ∙ by_test (is_diverted g u (installed w.log)) (sym one ∙ j.shown_is.owners u fits))
+      where
+        by_test : (d : Bool) → 1 ≡ (if d then 1 else instance_node (owner c items u w.log)) → d ≡ true
+        by_test true at = refl
+        by_test false at = absurd (omega (arith, at))
+
+    pub members_go : (ms : List (List ℕ)) → members c items u w.log ≡ Some ms → j.world.target u ≡ 1
+    members_go ms e = j.shown_is.owners u fits ∙ ap (λ d. if d then 1 else instance_node (owner c items u w.log)) (sym (members_diverted g u (first_owner u c.routes) (installed w.log)) ∙ ap is_some e)
+
+    -- and to the owner where it has none
+    pub owner_goes : 2 ≤ j.world.target u → j.world.target u ≡ instance_node (owner c items u w.log)
+    owner_goes two = by_test (is_diverted g u (installed w.log)) (j.shown_is.owners u fits)
+      where
+        by_test : (d : Bool) → j.world.target u ≡ (if d then 1 else instance_node (owner c items u w.log)) → j.world.target u ≡ instance_node (owner c items u w.log)
+        by_test true at = absurd (omega (arith, at, two))
+        by_test false at = at
+
+    -- A share that was answered has been installed for each unit that its home owns
+    module _ (h : Installs g w) (op : ℕ) (ms : List (List ℕ)) (filter : Filter) (what : order_of items op ≡ Some (order.Share ms filter)) (on : takes filter u ≡ true) (at_home : is_home c.names (order_of items) ms (owner c items u w.log) ≡ true) (answered : has_answered op w.log ≡ true) (begun : began op w.log ≡ true) where
+      own : IsOpenShare op ms filter
+      own = open_begun op ms filter what begun
+
+      seen : Both f (place g) g.site j.world.shares j.nodes.controller op own.state
+      seen = both f (place g) g.site j.world.ops j.world.shares j.nodes.controller op own.state j.shown_is.controller.opens own.there
+
+      set_up : is_set_up own.state.phase ≡ true
+      set_up = by_test (is_set_up own.state.phase) refl
+        where
+          by_test : (d : Bool) → is_set_up own.state.phase ≡ d → d ≡ true
+          by_test true e = refl
+          by_test false e =
+              let none : answers_of op w.log ≡ [] = told_is f g n count_is w j b op (Share own.state) own.there ∙ ap (λ d. if d then Done ∷ [] else []) e in
+              let never : true ≡ false = sym answered ∙ unanswered op w.log none in
+              cc
+
+      -- the share that has the unit is this one
+      its_own : (S f g).takes seen.e.filter u ≡ true
+      its_own = ap (λ x. takes_whole f.kind x.filter u) seen.sees.is ∙ whole_on op ms filter own on
+
+      home_so : seen.e.home ≡ instance_node (owner c items u w.log)
+      home_so =
+          let first : home own.state.plan ≡ slice_index (filter_map (place_of c.names) ms) 0 = ap (λ v. slice_index v 0) (sym own.members_are) in
+          ap (λ x. x.home) seen.sees.is ∙ ap instance_node (first ∙ home_first c.names (order_of items) ms (owner c items u w.log) at_home)
+
+      diverted_by : Where_all (S f g) (A f g) (is_sys f g.site g.packet) u j.world _ → j.world.target u ≡ 1
+      diverted_by (Apart_from_shares k none) =
+          let two = where_two (S f g) (is_sys f g.site g.packet) u (moves_of (S f g) (A f g) j.world) _ _ k.is in
+          let away = found_each (Elsewhere_home (S f g) u j.world.target) j.world.shares op seen.e k.untaken.homes seen.there its_own in
+          let same : seen.e.home ≡ j.world.target u = home_so ∙ sym (owner_goes two) in
+          let never : (seen.e.home == j.world.target u) ≡ true = (Decides-eqb seen.e.home (j.world.target u)).1 same in
+          cc
+      diverted_by (Under_share x before d k o m) =
+          let here : Open_share = its_share (S f g) (A f g) (is_sys f g.site g.packet) u j.world x before _ k in
+          let its : Its_share (S f g) (A f g) (is_sys f g.site g.packet) u j.world here = record { found = k.holds.share; takes = k.covered; home_in = k.is.home_in } in
+          let serving : serves (shape (share_frame (S f g) (A f g) (seeing (S f g) (A f g) u x)) k.stage).phase ≡ true = ap serves (phase_is op ms filter own on here its) ∙ serves_same own.state.phase ∙ set_up in
+          k.holds.target ∙ ap (λ d. if d then 1 else x.home) (serving_diverts (share_frame (S f g) (A f g) (seeing (S f g) (A f g) u x)) k.stage serving)
+
+      pub set_up_installed : 1 ≤ times_installed op w.log
+      set_up_installed = by_members (diverted_members (diverted_by (j.shown_is.every.unit u)))
+        where
+          by_members : IsThere (members c items u w.log) → 1 ≤ times_installed op w.log
+          by_members (There these e) =
+              let r = share_of_unit h these e in
+              let same : r.op ≡ op = one_takes r.op op r.open_is.state own.state r.open_is.there own.there (whole_on r.op these r.filter r.open_is r.takes_it) (whole_on op ms filter own on) in
+              subst (λ k. 1 ≤ times_installed k w.log) same r.times
