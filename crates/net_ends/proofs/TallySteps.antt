@@ -71,7 +71,7 @@ module _ {R : Type 0} (f : Semantics R) where
   MergesTally m = Unit {0}
 
   abbrev Gives : List (ℕ × Msg) → Type 0
-  Gives sends = Each (λ x. GivesTally f x.1) sends
+  Gives sends = Each (λ x. GivesTally x.1) sends
 
   chunk_gives : (op : ℕ) (o : Option Chunk) (behind : List (ℕ × Msg)) → Gives behind → Gives (told (chunk_told op o) ++ behind)
   chunk_gives op None behind h = h
@@ -102,14 +102,14 @@ module _ {F R : Type 0} (f : Semantics R) where
   then_leaves : (step : Step F R) (next : Instance F R → Step F R) → LeavesTally step → LeavesTally (next step.node) → LeavesTally (and_then step next)
   then_leaves step next a b = record { tally = b.tally; sends = each-append (λ x. GivesTally f x.1) step.sends (next step.node).sends a.sends b.sends }
 
-  shared_gives : (i : Instance F R) (m : Mark) (u : units.Unit) (behind : List (ℕ × Msg)) → Gives behind → Gives (told (shared f i m u) ++ behind)
+  shared_gives : (i : Instance F R) (m : Mark) (u : units.Unit) (behind : List (ℕ × Msg)) → Gives f behind → Gives f (told (shared f i m u) ++ behind)
   shared_gives i mark.Plain u behind h = h
   shared_gives i (mark.Pass op) u behind h = h
-  shared_gives i (mark.Shared op home) u behind h = chunk_gives op _ behind h
+  shared_gives i (mark.Shared op home) u behind h = chunk_gives f op _ behind h
 
   processed_leaves : (i : Instance F R) (m : Mark) (cell : FullCell) → Has i → LeavesTally (processed f i m cell)
   unfolding processed
-  processed_leaves i m cell h = record { tally = counted_is i.tally.slots i.index h; sends = shared_gives _ m (unit_at f.kind i.site cell.packet) ((0, msg.Credit cell) ∷ []) (tt, tt) }
+  processed_leaves i m cell h = record { tally = counted_is i.tally.slots i.index h; sends = shared_gives (processed f i m cell).node m (unit_at f.kind i.site cell.packet) ((0, msg.Credit cell) ∷ []) (tt, tt) }
 
   all_leave : (i : Instance F R) (cells : List FullCell) → Has i → LeavesTally (all_processed f i cells)
   unfolding all_processed
@@ -143,11 +143,11 @@ module _ {F R : Type 0} (f : Semantics R) where
 
   stream_leaves : (i : Instance F R) (op : ℕ) (filter : _) → Has i → LeavesTally (on_stream f i op filter)
   unfolding on_stream
-  stream_leaves i op filter h = record { tally = h; sends = pieces_give op (pieces (selected f i filter)) }
+  stream_leaves i op filter h = record { tally = h; sends = pieces_give f op (pieces (selected f i filter)) }
 
   piece_leaves : (i : Instance F R) (op : ℕ) (piece : Piece) (is_answered : Bool) (o : Option Answer) → Has i → LeavesTally (piece_put f i op piece is_answered o)
   piece_leaves i op piece is_answered (Some why) h = tells_leaves i (msg.PutNo op (record { why = why; chunks = piece.chunks })) h tt
-  piece_leaves i op piece is_answered None h = good_leaves i piece.chunks _ h (record { tally = h; sends = elim is_answered as (λ b. Gives (told (if b then msg.PutOk op ∷ [] else []))) [ true ↦ (tt, tt) | false ↦ tt ] })
+  piece_leaves i op piece is_answered None h = good_leaves i piece.chunks _ h (record { tally = h; sends = elim is_answered as (λ b. Gives f (told (if b then msg.PutOk op ∷ [] else []))) [ true ↦ (tt, tt) | false ↦ tt ] })
 
   put_leaves : (i : Instance F R) (op : ℕ) (piece : Piece) (first : Bool) → Has i → LeavesTally (on_put f i op piece first)
   unfolding on_put

@@ -8,6 +8,7 @@ use Rattle.flow_filter.specs.declared.filter.Filter.{Filter}
 use Rattle.event_filter.specs.declared.mark.Mark.TheVariants as mark
 use Rattle.packet_pool.specs.Pool.{FullCell}
 use Rattle.event_store.specs.Store.{stored}
+use Rattle.switch_rules.specs.declared.target.Target.TheVariants as target
 use Rattle.nf_msgs.specs.declared.answer.Answer.{Answer}
 use Rattle.nf_msgs.specs.declared.command.Command.{Command}
 use Rattle.nf_msgs.specs.declared.command.Order.{Order}
@@ -106,25 +107,25 @@ module _ (n : ℕ) (switch_there : reaches n 1 0 ≡ true) (c : ControllerState)
     gone ops = got_remove ops op op ∙ ap (λ b. cond b None (finite.get ops op)) (self op)
 
     move_turn : (mv : MoveState) (r : Row) (a : Option Answer) → Given_at op m (ctrl.after_turn c op (moved mv c.store r) a)
-    move_turn mv r None = nothing op m _ (ap wanted (written (Move (record mv { phase = r.next.phase }))))
-    move_turn mv r (Some why) = nothing op m _ (ap wanted (gone (finite.insert c.operations op (Move (record mv { phase = r.next.phase })))))
+    move_turn mv r None = nothing op m (ctrl.after_turn c op (moved mv c.store r) None) (ap wanted (written (Move (record mv { phase = r.next.phase }))))
+    move_turn mv r (Some why) = nothing op m (ctrl.after_turn c op (moved mv c.store r) (Some why)) (ap wanted (gone (finite.insert c.operations op (Move (record mv { phase = r.next.phase })))))
 
     copy_turn : (y : CopyState) (r : CopyRow) → finite.get c.operations op ≡ Some (Copy y) → Grants n op p m (Some (Copy y)) (Some (Copy (record y { phase = r.phase }))) r.sends → (a : Option Answer) → Given_at op m (ctrl.after_turn c op (copied y c.store r) a)
     copy_turn y r there h None =
         subst (λ o. Grants n op p m o (finite.get (finite.insert c.operations op (Copy (record y { phase = r.phase }))) op) r.sends) (sym there)
         (subst (λ o. Grants n op p m (Some (Copy y)) o r.sends) (sym (written (Copy (record y { phase = r.phase })))) h)
-    copy_turn y r there h (Some why) = nothing op m _ (ap wanted (gone (finite.insert c.operations op (Copy (record y { phase = r.phase })))))
+    copy_turn y r there h (Some why) = nothing op m (ctrl.after_turn c op (copied y c.store r) (Some why)) (ap wanted (gone (finite.insert c.operations op (Copy (record y { phase = r.phase })))))
 
     own_turn : (o : Option Operation) → finite.get c.operations op ≡ o → NotShared o → Given_at op m (ctrl.takes_turn c op (turn_of o c.store p m))
-    own_turn None there no = nothing op m _ (ap wanted there)
-    own_turn (Some (Move mv)) there no = move_turn mv (row_in mv c.store p m) (answer_of (row_in mv c.store p m).next.phase)
-    own_turn (Some (Copy y)) there no =
+    own_turn None there unshared = nothing op m (ctrl.takes_turn c op (turn_of None c.store p m)) (ap wanted there)
+    own_turn (Some (Move mv)) there unshared = move_turn mv (row_in mv c.store p m) (answer_of (row_in mv c.store p m).next.phase)
+    own_turn (Some (Copy y)) there unshared =
         let w = within.copies op y there in
         copy_turn y (copy.row y p m) there (copy_row n op p y.plan w.op_is w.to w.other y.phase m) (copy.answer_of (copy.row y p m).phase)
-    own_turn (Some (Share s)) there no = absurd no
+    own_turn (Some (Share s)) there unshared = absurd unshared
 
     not_shared : NotShared (finite.get c.operations op) → Given_at op m (ctrl.handed c op p m)
-    not_shared no = subst (Given_at op m) (sym (handed_is c op p m no)) (own_turn (finite.get c.operations op) refl no)
+    not_shared unshared = subst (Given_at op m) (sym (handed_is c op p m unshared)) (own_turn (finite.get c.operations op) refl unshared)
 
     -- a share's row, behind which it serves
     share_leaves : (s : ShareState) (cells : List FullCell) (r : share.ShareRow) (did : Step) → finite.get c.operations op ≡ Some (Share s) → ShareLeaves (record { node = c; num = op; share = s; cells = cells }) r did → Grants n op p m (Some (Share s)) (Some (Share (record s { phase = r.phase }))) r.sends → Given_at op m did
@@ -235,8 +236,8 @@ module _ (n : ℕ) (switch_there : reaches n 1 0 ≡ true) (c : ControllerState)
         let plan : SharePlan = record { op = op; members = member ∷ others; filter = filter; site = c.site } in
         let here = self (instance_node member) in
         let mine = self op in
-        let one : weight op (Some (Share (share.begun plan))) 1 0 (msg.Install op filter member _) ≡ 1 = ap (λ b. if_one (b && (op == op))) here ∙ ap if_one mine in
-        let all : (if reaches n 1 0 then weight op (Some (Share (share.begun plan))) 1 0 (msg.Install op filter member _) else 0) ≡ 1 = ap (λ b. if b then weight op (Some (Share (share.begun plan))) 1 0 (msg.Install op filter member _) else 0) switch_there ∙ one in
+        let one : weight op (Some (Share (share.begun plan))) 1 0 (msg.Install op filter member target.Controller) ≡ 1 = ap (λ b. if_one (b && (op == op))) here ∙ ap if_one mine in
+        let all : (if reaches n 1 0 then weight op (Some (Share (share.begun plan))) 1 0 (msg.Install op filter member target.Controller) else 0) ≡ 1 = ap (λ b. if b then weight op (Some (Share (share.begun plan))) 1 0 (msg.Install op filter member target.Controller) else 0) switch_there ∙ one in
         opens_gives (Share (share.begun plan)) (share.begin_sends plan) (omega (arith, all))
 
     begins_gives : (o : Order) → Gives asked (ctrl.begins c op o)
@@ -245,7 +246,7 @@ module _ (n : ℕ) (switch_there : reaches n 1 0 ≡ true) (c : ControllerState)
     begins_gives (order.Share members filter) = shares_among filter (filter_map (place_of c.names) members)
 
     decided_gives : (o : Option Answer) → Gives asked (ctrl.decided c op what o)
-    decided_gives (Some a) k = stays k asked (ctrl.answers c op a) refl refl
+    decided_gives (Some a) = λ k. stays k asked (ctrl.answers c op a) refl refl
     decided_gives None = begins_gives what
 
     asked_gives : Gives asked (ctrl.on_asked c (record { op = op; what = what }))
@@ -270,7 +271,7 @@ module _ (n : ℕ) (switch_there : reaches n 1 0 ≡ true) (c : ControllerState)
     where
       by_place : (o : Option ℕ) → Gives msg.Final (ctrl.on_final c o)
       by_place None = still_gives msg.Final (λ k. refl)
-      by_place (Some i) k = stays k msg.Final (ctrl.on_final c (Some i)) refl refl
+      by_place (Some i) = λ k. stays k msg.Final (ctrl.on_final c (Some i)) refl refl
   row_gives m = numbered_gives m (op_of m) refl
 
   -- the finish changes nothing of it

@@ -33,7 +33,7 @@ use Rattle.switch_node.specs.Switch.{SwitchState, switch_step, sends_to_instance
 use Rattle.whole_joined.proofs.Given.{Given}
 use Rattle.whole_joined.proofs.Joined.{Genuine, AreGoodChunks, Label, count}
 use Rattle.whole_joined.proofs.InstanceKeeps.{chunks_good}
-use Rattle.net_ends.proofs.Tokens.{Leg, Serves, Fences, Token, token, to_instance, token_of, at_instance, Goes, Passes}
+use Rattle.net_ends.proofs.Tokens.{Leg, Serves, Fences, Token, token, to_instance, token_of, at_instance, at_member, Goes, Passes}
 
 -- what a packet leaves of its unit
 kept_some : {R : Type 0} (f : Semantics R) (site : Site) (t : Records R) (p : Packet) → Fits site p → is_some (finite.get (after_packet f site t p) (unit_at f.kind site p)) ≡ true
@@ -44,27 +44,33 @@ kept_some f site t p fits =
     ap (λ o. is_some (finite.get (with_kept t u o) u)) kept_is ∙ ap is_some (finite.get-insert units_total t u x u ∙ ap (λ b. cond b (Some x) (finite.get t u)) (same_unit_equiv.refl u))
 
 -- An instance, at node i + 2
-module _ {F R : Type 0} (f : Semantics R) (laws : FunctionLaws f) (g : Given) (fitting : (number : ℕ) → Fits g.site (g.packet number)) (n i : ℕ) (less : suc (suc i) < n) where
-  abbrev k : ℕ
-  k = suc (suc i)
+abbrev node : ℕ → ℕ
+node i = suc (suc i)
 
-  reach : reaches n k 1 ≡ true
+module _ (n i : ℕ) (less : suc (suc i) < n) where
+  reach : reaches n (node i) 1 ≡ true
   reach = grind (arith, nat_tests, less)
 
   -- one answer
-  one_goes : (o : Option Token) (m : Msg) → token_of k 1 m ≡ o → Goes o n k ((1, m) ∷ [])
+  one_goes : (o : Option Token) (m : Msg) → token_of (node i) 1 m ≡ o → Goes o n (node i) ((1, m) ∷ [])
   one_goes o m same = record { before = []; to = 1; message = m; after = []; whole = refl; reach = reach; same = same }
 
-  chunk_goes : (op : ℕ) (u : units.Unit) (cell : FullCell) (o : Option R) → is_some o ≡ true → Goes (token Serves op k) n k (told (chunk_told op (option_map (record_chunk f u) o)) ++ (0, msg.Credit cell) ∷ [])
-  chunk_goes op u cell None some = cc
-  chunk_goes op u cell (Some r) some = record { before = []; to = 1; message = msg.Shared op (record_chunk f u r); after = (0, msg.Credit cell) ∷ []; whole = refl; reach = reach; same = refl }
+  chunk_goes : {R : Type 0} (f : Semantics R) (op : ℕ) (u : units.Unit) (cell : FullCell) (o : Option R) → is_some o ≡ true → Goes (token Serves op (node i)) n (node i) (told (chunk_told op (option_map (record_chunk f u) o)) ++ (0, msg.Credit cell) ∷ [])
+  chunk_goes f op u cell None some = cc
+  chunk_goes f op u cell (Some r) some = record { before = []; to = 1; message = msg.Shared op (record_chunk f u r); after = (0, msg.Credit cell) ∷ []; whole = refl; reach = reach; same = refl }
 
-  shared_goes : (x : Instance F R) (op : ℕ) (home : Bool) (cell : FullCell) → Fits x.site cell.packet → Goes (token Serves op k) n k (on_carry f x (mark.Shared op home) cell).sends
+-- the tally of a chunk that is to be merged can be read
+abbrev pub CanRead : {R : Type 0} → Semantics R → Msg → Type 0
+CanRead f (msg.PutAll op chunk) = (slots : List ℕ) × (tally_read f.kind chunk.bytes ≡ Ok slots)
+CanRead f m = Unit {0}
+
+module _ {F R : Type 0} (f : Semantics R) (laws : FunctionLaws f) (g : Given) (fitting : (number : ℕ) → Fits g.site (g.packet number)) (n i : ℕ) (less : suc (suc i) < n) where
+  shared_goes : (x : Instance F R) (op : ℕ) (home : Bool) (cell : FullCell) → Fits x.site cell.packet → Goes (token Serves op (node i)) n (node i) (on_carry f x (mark.Shared op home) cell).sends
   unfolding on_carry processed
-  shared_goes x op true cell fits = chunk_goes op (unit_at f.kind x.site cell.packet) cell (finite.get (after_packet f x.site x.table.live cell.packet) (unit_at f.kind x.site cell.packet)) (kept_some f x.site x.table.live cell.packet fits)
-  shared_goes x op false cell fits = chunk_goes op (unit_at f.kind x.site cell.packet) cell (finite.get (after_packet f x.site x.table.standby cell.packet) (unit_at f.kind x.site cell.packet)) (kept_some f x.site x.table.standby cell.packet fits)
+  shared_goes x op true cell fits = chunk_goes n i less f op (unit_at f.kind x.site cell.packet) cell (finite.get (after_packet f x.site x.table.live cell.packet) (unit_at f.kind x.site cell.packet)) (kept_some f x.site x.table.live cell.packet fits)
+  shared_goes x op false cell fits = chunk_goes n i less f op (unit_at f.kind x.site cell.packet) cell (finite.get (after_packet f x.site x.table.standby cell.packet) (unit_at f.kind x.site cell.packet)) (kept_some f x.site x.table.standby cell.packet fits)
 
-  fence_goes : (x : Instance F R) (op : ℕ) → Goes (token Fences op k) n k (on_fence f x op).sends
+  fence_goes : (x : Instance F R) (op : ℕ) → Goes (token Fences op (node i)) n (node i) (on_fence f x op).sends
   unfolding on_fence
   fence_goes x op = record {
     before = (all_processed f (record x { rules = rules.without x.rules op }) (rules.held_at x.rules op)).sends;
@@ -72,35 +78,30 @@ module _ {F R : Type 0} (f : Semantics R) (laws : FunctionLaws f) (g : Given) (f
     message = msg.Fenced op;
     after = [];
     whole = refl;
-    reach = reach;
+    reach = reach n i less;
     same = refl;
   }
 
-  good_goes : (x : Instance F R) (chunks : List Chunk) (did : Step F R) (o : Option Token) → AreGoodChunks f g chunks → Goes o n k did.sends → Goes o n k (where_good f x chunks did).sends
-  good_goes x chunks did o good h = subst (λ b. Goes o n k (if b then did else still x).sends) (sym (chunks_good f laws g chunks good)) h
+  good_goes : (x : Instance F R) (chunks : List Chunk) (did : Step F R) (o : Option Token) → AreGoodChunks f g chunks → Goes o n (node i) did.sends → Goes o n (node i) (where_good f x chunks did).sends
+  good_goes x chunks did o good h = subst (λ b. Goes o n (node i) (if b then did else still x).sends) (sym (chunks_good f laws g chunks good)) h
 
-  get_goes : (x : Instance F R) (op : ℕ) (filter : _) → Goes (token_of 1 k (msg.Get op filter)) n k (on_get f x op filter).sends
+  get_goes : (x : Instance F R) (op : ℕ) (filter : _) → Goes (token_of 1 (node i) (msg.Get op filter)) n (node i) (on_get f x op filter).sends
   unfolding on_get
-  get_goes x op filter = one_goes _ (msg.Chunks op _) refl
+  get_goes x op filter = one_goes n i less _ (msg.Chunks op _) refl
 
-  standby_goes : (x : Instance F R) (op : ℕ) (chunks : List Chunk) → AreGoodChunks f g chunks → Goes (token_of 1 k (msg.Standby op chunks)) n k (on_standby f x op chunks).sends
+  standby_goes : (x : Instance F R) (op : ℕ) (chunks : List Chunk) → AreGoodChunks f g chunks → Goes (token_of 1 (node i) (msg.Standby op chunks)) n (node i) (on_standby f x op chunks).sends
   unfolding on_standby
-  standby_goes x op chunks good = good_goes x chunks (tells_and_notes (with_standby f x chunks) (msg.Kept op) (kept x op chunks)) _ good (one_goes _ (msg.Kept op) refl)
+  standby_goes x op chunks good = good_goes x chunks (tells_and_notes (with_standby f x chunks) (msg.Kept op) (kept x op chunks)) _ good (one_goes n i less _ (msg.Kept op) refl)
 
-  sync_goes : (x : Instance F R) (home : Bool) (op : ℕ) (chunks : List Chunk) → AreGoodChunks f g chunks → Goes (token_of 1 k (msg.Sync home op chunks)) n k (on_sync f x home op chunks).sends
+  sync_goes : (x : Instance F R) (home : Bool) (op : ℕ) (chunks : List Chunk) → AreGoodChunks f g chunks → Goes (token_of 1 (node i) (msg.Sync home op chunks)) n (node i) (on_sync f x home op chunks).sends
   unfolding on_sync
-  sync_goes x home op chunks good = good_goes x chunks (tells_and_notes (with_records f x home chunks) (msg.Synced op) (kept x op chunks)) _ good (one_goes _ (msg.Synced op) refl)
+  sync_goes x home op chunks good = good_goes x chunks (tells_and_notes (with_records f x home chunks) (msg.Synced op) (kept x op chunks)) _ good (one_goes n i less _ (msg.Synced op) refl)
 
-  put_all_goes : (x : Instance F R) (op : ℕ) (chunk : Chunk) (slots : List ℕ) → tally_read f.kind chunk.bytes ≡ Ok slots → Goes (token_of 1 k (msg.PutAll op chunk)) n k (on_put_all f x op chunk).sends
+  put_all_goes : (x : Instance F R) (op : ℕ) (chunk : Chunk) (slots : List ℕ) → tally_read f.kind chunk.bytes ≡ Ok slots → Goes (token_of 1 (node i) (msg.PutAll op chunk)) n (node i) (on_put_all f x op chunk).sends
   unfolding on_put_all
-  put_all_goes x op chunk slots reads = subst (λ r. Goes (token_of 1 k (msg.PutAll op chunk)) n k (tally_put x op r).sends) (sym reads) (one_goes _ (msg.Kept op) refl)
+  put_all_goes x op chunk slots reads = subst (λ r. Goes (token_of 1 (node i) (msg.PutAll op chunk)) n (node i) (tally_put x op r).sends) (sym reads) (one_goes n i less _ (msg.Kept op) refl)
 
-  -- the tally of a chunk that is to be merged can be read
-  abbrev pub CanRead : Msg → Type 0
-  CanRead (msg.PutAll op chunk) = (slots : List ℕ) × (tally_read f.kind chunk.bytes ≡ Ok slots)
-  CanRead m = Unit {0}
-
-  pub instance_passes : (x : Instance F R) → x.site ≡ g.site → (p : ℕ) (m : Msg) → Label f g p k m → CanRead m → Passes (token_of p k m) n k (instance_step f x m).sends
+  pub instance_passes : (x : Instance F R) → x.site ≡ g.site → (p : ℕ) (m : Msg) → Label f g p (node i) m → CanRead f m → Passes (token_of p (node i) m) n (node i) (instance_step f x m).sends
   instance_passes x at p (msg.Carry (mark.Shared op home) cell) label can =
       let fits : Fits x.site cell.packet = subst (λ s. Fits s cell.packet) (sym at) (subst (λ q. Fits g.site q) (sym label.1.same) (fitting cell.packet.number)) in
       inr (shared_goes x op home cell fits)
@@ -108,7 +109,7 @@ module _ {F R : Type 0} (f : Semantics R) (laws : FunctionLaws f) (g : Given) (f
   instance_passes x at p (msg.Carry (mark.Pass op) cell) label can = inl refl
   instance_passes x at p (msg.Fence op) label can = inr (fence_goes x op)
   instance_passes x at p (msg.Get op filter) label can = inr (get_goes x op filter)
-  instance_passes x at p (msg.GetAll op) label can = inr (one_goes _ (msg.AllChunk op _) refl)
+  instance_passes x at p (msg.GetAll op) label can = inr (one_goes n i less _ (msg.AllChunk op _) refl)
   instance_passes x at p (msg.Standby op chunks) label can = inr (standby_goes x op chunks label.1)
   instance_passes x at p (msg.Sync home op chunks) label can = inr (sync_goes x home op chunks label.1)
   instance_passes x at p (msg.PutAll op chunk) label can = inr (put_all_goes x op chunk can.0 can.1)
@@ -143,7 +144,7 @@ module _ {R : Type 0} (f : Semantics R) (g : Given) (n : ℕ) (count_is : n ≡ 
     after = [];
     whole = ap (λ b. (if b then switches.sends_on s (instance_node to) (msg.Carry (mark.Shared op home) cell) else switches.still s).sends) (there to low);
     reach = reach_instance to low;
-    same = at_instance Serves op to;
+    same = at_member op to home;
   })
 
   pub switch_passes : (p : ℕ) (m : Msg) → Label f g p 0 m → Passes (token_of p 0 m) n 0 (switch_step s m).sends

@@ -82,6 +82,9 @@ token_of s r m = None
 pub at_instance : (leg : Leg) (op i : ℕ) → to_instance leg op (instance_node i) ≡ token leg op (instance_node i)
 at_instance leg op i = let two : i + 2 ≡ suc (suc i) = omega arith in rw two refl
 
+pub at_member : (op i : ℕ) (home : Bool) → carried (instance_node i) (mark.Shared op home) ≡ token Serves op (instance_node i)
+at_member op i home = let two : i + 2 ≡ suc (suc i) = omega arith in rw two refl
+
 -- whether an operation waits for a leg's message at a node
 abbrev pub in_copy : CopyPlan → Leg → CopyPhase → ℕ → Bool
 in_copy plan Gets copies.Getting node = node == instance_node plan.from
