@@ -5,3 +5,4 @@ pub mod TokenNodes
 pub mod TokenController
 pub mod TallySteps
 pub mod TokenRuns
+pub mod NoMoves
