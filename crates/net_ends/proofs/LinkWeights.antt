@@ -85,7 +85,7 @@ at_links_none f n w h = upto_none _ n (λ s hs. upto_none _ n (λ r hr. h s r hs
 
 module _ {M : Type 0} (f : ℕ → ℕ → M → ℕ) (n k : ℕ) where
   -- what is put on the link from s to r
-  abbrev gains : List (ℕ × M) → ℕ → ℕ → ℕ
+  abbrev pub gains : List (ℕ × M) → ℕ → ℕ → ℕ
   gains sends s r = weigh (f s r) (put_on_link n k s r sends)
 
   gains_nothing : (s r : ℕ) → gains [] s r ≡ 0
@@ -140,7 +140,7 @@ module _ {A M N : Type 0} (step : A → ℕ → M → Stepped A M N) (n : ℕ) (
   sends = (step node p m).sends
 
   -- the message that is taken weighs on its link alone
-  abbrev loses : ℕ → ℕ → ℕ
+  abbrev pub loses : ℕ → ℕ → ℕ
   loses s r = if (s == p) && (r == k) then f s r m else 0
 
   there : (s r : ℕ) → (s == p) && (r == k) ≡ true → waiting w (at r s) ≡ m ∷ rest
@@ -149,7 +149,8 @@ module _ {A M N : Type 0} (step : A → ℕ → M → Stepped A M N) (n : ℕ) (
       let to : r ≡ k = grind (arith, nat_tests) in
       ap (λ x. waiting w (at r x)) from ∙ ap (λ x. waiting w (at x p)) to ∙ takes.waits
 
-  cell : (s r : ℕ) → weigh (f s r) (waiting v (at r s)) + loses s r ≡ weigh (f s r) (waiting w (at r s)) + gains f n k sends s r
+  -- what a step changes on one link
+  pub cell : (s r : ℕ) → weigh (f s r) (waiting v (at r s)) + loses s r ≡ weigh (f s r) (waiting w (at r s)) + gains f n k sends s r
   cell s r =
       let is = ap (weigh (f s r)) ((taken_outcome step n w k p node m rest takes).waits s r) in
       let both = weigh-append (f s r) (less_first ((s == p) && (r == k)) (waiting w (at r s))) (put_on_link n k s r sends) in
