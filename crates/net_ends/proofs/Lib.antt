@@ -6,3 +6,5 @@ pub mod TokenController
 pub mod TallySteps
 pub mod TokenRuns
 pub mod NoMoves
+pub mod EndSteps
+pub mod EndingRuns

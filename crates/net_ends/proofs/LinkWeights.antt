@@ -91,7 +91,7 @@ module _ {M : Type 0} (f : ℕ → ℕ → M → ℕ) (n k : ℕ) where
   gains_nothing : (s r : ℕ) → gains [] s r ≡ 0
   gains_nothing s r = elim ((s == k) && reaches n k r) as (λ b. weigh (f s r) (if b then [] else []) ≡ 0) [ true ↦ refl | false ↦ refl ]
 
-  gains_elsewhere : (sends : List (ℕ × M)) (s r : ℕ) → (s == k) ≡ false → gains sends s r ≡ 0
+  pub gains_elsewhere : (sends : List (ℕ × M)) (s r : ℕ) → (s == k) ≡ false → gains sends s r ≡ 0
   gains_elsewhere sends s r off = ap (λ b. weigh (f s r) (if b && reaches n k r then sent_for r sends else [])) off
 
   -- the first message alone

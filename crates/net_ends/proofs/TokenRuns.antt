@@ -55,7 +55,7 @@ use Rattle.net_ends.proofs.Tokens.{Token, token_of, awaits, if_one, counts, weig
 use Rattle.net_ends.proofs.TokenNodes.{CanRead, instance_passes, switch_passes}
 use Rattle.net_ends.proofs.TokenRows.{Grants, Fresh, Waits}
 use Rattle.net_ends.proofs.TokenController.{CopyWithin, ShareWithin, AreWithin, controller_gives}
-use Rattle.net_ends.proofs.TallySteps.{IsTallyChunk, reads, GivesTally, MergesTally, instance_leaves}
+use Rattle.net_ends.proofs.TallySteps.{IsTallyChunk, reads, GivesTally, MergesTally, over_by, StepLeaves, instance_leaves}
 
 counts_same : (k : ℕ) (a b : Option Operation) → ((leg : _) (node : ℕ) → awaits b leg node ≡ awaits a leg node) → (t : Option Token) → counts k b t ≡ counts k a t
 counts_same k a b same None = refl
@@ -199,6 +199,10 @@ module _ {F R : Type 0} (f : Semantics R) (laws : FunctionLaws f) (g : Given) (f
     reads_it (msg.PutAll op chunk) h = (h.slots, reads f chunk h)
     reads_it x h = tt
 
+    -- what an instance's step leaves
+    pub its_leaves : (i : ℕ) → Takes step n w (suc (suc i)) p (node_of j.nodes (suc (suc i))) m rest → Label f g p (suc (suc i)) m → HasEnough f n w → StepLeaves f (over_by m (j.nodes.instance (suc (suc i))).ended) (instance_step f (j.nodes.instance (suc (suc i))) m)
+    its_leaves i takes label h = instance_leaves f (j.nodes.instance (suc (suc i))) m (subst HasTally (j.nodes_are (suc (suc i)) takes.receiver (node_of j.nodes (suc (suc i)))) (h.tallies (suc (suc i)) takes.receiver (node_of j.nodes (suc (suc i))))) (can_read i label (tally_label (suc (suc i)) takes h))
+
     enough_after : (k : ℕ) (takes : Takes step n w k p (node_of j.nodes k) m rest) → Label f g p k m → HasEnough f n w → HasEnough f n (taken step w (at k p))
     enough_after zero takes label h =
         let passes = switch_passes f g n count_is j.nodes.switch j.shown_is.switch.instances p m label in
@@ -228,8 +232,7 @@ module _ {F R : Type 0} (f : Semantics R) (laws : FunctionLaws f) (g : Given) (f
         let x = j.nodes.instance k in
         let at_site = (j.shown_is.instances k (omega arith) takes.receiver).rules.at in
         let merges = can_read i label (tally_label k takes h) in
-        let holds : IsTally x.tally.slots = subst HasTally (j.nodes_are k takes.receiver (node_of j.nodes k)) (h.tallies k takes.receiver (node_of j.nodes k)) in
-        let leaves = instance_leaves f x m holds merges in
+        let leaves = its_leaves i takes label h in
         let passes = instance_passes f laws g fitting n i takes.receiver x at_site p m label (reads_it m merges) in
         others_keep k (λ e. absurd (omega (arith, e))) takes (λ op o. passes_weigh op o n k (token_of p k m) (instance_step f x m).sends passes) (instance_sent f i (instance_step f x m).sends leaves.sends) leaves.tally h
 
@@ -251,7 +254,7 @@ zero_at (suc n) (suc i) = zero_at n i
 first_tally : IsTally (replicate 16 0)
 first_tally = record { size = length-replicate {A = ℕ} 16 0; each = λ i. (let e = zero_at 16 i in omega (arith, e)) }
 
-each_at : {X : Type 0} (P : X → Type 0) (xs : List X) → Each P xs → (i : ℕ) → i < length xs → (d : X) → P (get_or xs i d)
+pub each_at : {X : Type 0} (P : X → Type 0) (xs : List X) → Each P xs → (i : ℕ) → i < length xs → (d : X) → P (get_or xs i d)
 each_at P [] h i less d = absurd (omega (arith, less))
 each_at P (x ∷ xs) h zero less d = h.0
 each_at P (x ∷ xs) h (suc i) less d = each_at P xs h.1 i (omega (arith, less)) d
@@ -271,7 +274,7 @@ module _ (F : Type 0) {R : Type 0} (f : Semantics R) (laws : FunctionLaws f) (al
   items_way [] = tt
   items_way (m ∷ ms) = (from_switch f 0 m, items_way ms)
 
-  enough_at_start : HasEnough f nodes start
+  pub enough_at_start : HasEnough f nodes start
   enough_at_start =
       let count = count_at_start F f alloc c items is in
       record {
@@ -282,7 +285,7 @@ module _ (F : Type 0) {R : Type 0} (f : Semantics R) (laws : FunctionLaws f) (al
         tallies = λ i low d. each_at HasTally (first_nodes {F = F} {R = R} alloc c) (tt, (tt, instances_tally (length c.names))) i (omega (arith, count, low)) d;
       }
 
-  enough_next : (w : Network (Node F R) Msg Note) (k : Choice) → Taking node_ready (node_step f) nodes w k → Runs F f laws alloc c items is w → HasEnough f nodes w → HasEnough f nodes (taken (node_step f) w k)
+  pub enough_next : (w : Network (Node F R) Msg Note) (k : Choice) → Taking node_ready (node_step f) nodes w k → Runs F f laws alloc c items is w → HasEnough f nodes w → HasEnough f nodes (taken (node_step f) w k)
   enough_next w k t r h =
       let g : Given = given f c items is in
       let fitting = all_fit f c items is in
