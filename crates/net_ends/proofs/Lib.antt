@@ -8,3 +8,5 @@ pub mod TokenRuns
 pub mod NoMoves
 pub mod EndSteps
 pub mod EndingRuns
+pub mod SilentLinks
+pub mod AllEnded
