@@ -88,9 +88,9 @@ module _ (g : Given) (log : List Note) (waits : List ℕ) where
 
     -- a message of an open operation
     turn_is : (op port : ℕ) (m : Msg) (o : Option Operation) → finite.get c.operations op ≡ o → NotShared o → Says g port 1 m → StepIs (takes_turn c op (turn_of o c.store port m))
-    turn_is op port m (Some (Share s)) is no label = absurd no
-    turn_is op port m None is no label = record { busy = other_notes g c.operations log waits h [] tt; says = tt }
-    turn_is op port m (Some (Copy y)) is no label = by_turn _ (copy_turn c op y (h.plan op (Copy y) is).1 is port m)
+    turn_is op port m (Some (Share s)) is no_share label = absurd no_share
+    turn_is op port m None is no_share label = record { busy = other_notes g c.operations log waits h [] tt; says = tt }
+    turn_is op port m (Some (Copy y)) is no_share label = by_turn _ (copy_turn c op y (h.plan op (Copy y) is).1 is port m)
       where
         hands_is : (message : Msg) → Says g 1 (instance_node y.plan.to) message → StepIs (hands c op y message)
         hands_is message says = record {
@@ -103,7 +103,7 @@ module _ (g : Given) (log : List Note) (waits : List ℕ) where
         by_turn did (Hands k chunks e d) = subst StepIs (sym d) (hands_is (msg.Standby y.plan.op chunks) tt)
         by_turn did (Hands_all k chunk e d) = subst StepIs (sym d) (hands_is (msg.PutAll y.plan.op chunk) tt)
         by_turn did (Ends d) = subst StepIs (sym d) (record { busy = op_closed g c.operations log waits h op (Copy y) (Copy y) is (h.plan op (Copy y) is) Done refl (ap is_share (h.plan op (Copy y) is).0.order_is) refl; says = (tt, tt) })
-    turn_is op port m (Some (Move mv)) is no label = by_answer (answer_of r.next.phase) refl
+    turn_is op port m (Some (Move mv)) is no_share label = by_answer (answer_of r.next.phase) refl
       where
         r : Row
         r = row_in mv c.store port m
@@ -140,14 +140,14 @@ module _ (g : Given) (log : List Note) (waits : List ℕ) where
     handed_is : (op port : ℕ) (m : Msg) → Says g port 1 m → StepIs (handed c op port m)
     handed_is op port m label = by_got (finite.get c.operations op) refl
       where
+        other : NotShared (finite.get c.operations op) → StepIs (handed c op port m)
+        other no_share = subst StepIs (sym (handed_turn c op port m no_share)) (turn_is op port m (finite.get c.operations op) refl no_share label)
+
         by_got : (o : Option Operation) → finite.get c.operations op ≡ o → StepIs (handed c op port m)
         by_got (Some (Share s)) is = share_is op s is (handed c op port m) (handed_share c op s is (h.plan op (Share s) is).op_is port m)
         by_got None is = other (subst NotShared (sym is) tt)
         by_got (Some (Move mv)) is = other (subst NotShared (sym is) tt)
         by_got (Some (Copy y)) is = other (subst NotShared (sym is) tt)
-
-        other : NotShared (finite.get c.operations op) → StepIs (handed c op port m)
-        other no = subst StepIs (sym (handed_turn c op port m no)) (turn_is op port m (finite.get c.operations op) refl no label)
 
     diverted_is : (cell : FullCell) → StepIs (on_diverted c cell)
     diverted_is cell = by_queues (on_diverted c cell) (queues c cell)

@@ -144,10 +144,10 @@ module _ (g : Given) (n : ℕ) (reach : reaches n 1 0 ≡ true) (c : ControllerS
     copy_acts op y is m did (Ends d) = subst Acts (sym d) (ends_acts op y is)
 
     turn_acts : (op port : ℕ) (m : Msg) (o : Option Operation) → finite.get c.operations op ≡ o → NotShared o → Acts (takes_turn c op (turn_of o c.store port m))
-    turn_acts op port m (Some (Share s)) is no = absurd no
-    turn_acts op port m None is no = quiet_acts c [] refl tt
-    turn_acts op port m (Some (Copy y)) is no = copy_acts op y is m _ (copy_turns g c are op y is port m)
-    turn_acts op port m (Some (Move mv)) is no = by_answer (answer_of r.next.phase) refl
+    turn_acts op port m (Some (Share s)) is no_share = absurd no_share
+    turn_acts op port m None is no_share = quiet_acts c [] refl tt
+    turn_acts op port m (Some (Copy y)) is no_share = copy_acts op y is m _ (copy_turns g c are op y is port m)
+    turn_acts op port m (Some (Move mv)) is no_share = by_answer (answer_of r.next.phase) refl
       where
         r : Row
         r = row_in mv c.store port m
@@ -212,14 +212,14 @@ module _ (g : Given) (n : ℕ) (reach : reaches n 1 0 ≡ true) (c : ControllerS
     handed_acts : (op port : ℕ) (m : Msg) → Acts (handed c op port m)
     handed_acts op port m = by_got (finite.get c.operations op) refl
       where
+        other : NotShared (finite.get c.operations op) → Acts (handed c op port m)
+        other no_share = by_turn g c are Acts op port m no_share (turn_acts op port m (finite.get c.operations op) refl no_share)
+
         by_got : (o : Option Operation) → finite.get c.operations op ≡ o → Acts (handed c op port m)
         by_got (Some (Share s)) is = share_acts op s is (handed c op port m) (handed_share c op s is (are.shares op s is).0 port m)
         by_got None is = other (subst NotShared (sym is) tt)
         by_got (Some (Move mv)) is = other (subst NotShared (sym is) tt)
         by_got (Some (Copy y)) is = other (subst NotShared (sym is) tt)
-
-        other : NotShared (finite.get c.operations op) → Acts (handed c op port m)
-        other no = by_turn g c are Acts op port m no (turn_acts op port m (finite.get c.operations op) refl no)
 
     diverted_acts : (cell : FullCell) → Acts (on_diverted c cell)
     diverted_acts cell = by_queues (on_diverted c cell) (queues c cell)

@@ -1,6 +1,6 @@
 -- What each node's step keeps of the input's end: no command comes behind it, the controller finishes once no operation is open but shares
 -- that are set up, and the switch closes where it takes the finish.
-use Rattle.std.proofs.Common.{◌≡◌, ◌≢◌, ℕ, zero, suc, ◌+◌, ◌-◌, ◌≤◌, Bool, true, false, cond, Option, Some, None, List, [], ◌∷◌, ◌++◌, refl, sym, ap, ◌∙◌, subst, arith}
+use Rattle.std.proofs.Common.{◌≡◌, ℕ, zero, suc, ◌+◌, ◌-◌, ◌≤◌, Bool, true, false, cond, Option, Some, None, List, [], ◌∷◌, ◌++◌, refl, sym, ap, ◌∙◌, subst, arith}
 use Rattle.std.specs.Prelude.{if◌then◌else◌, ◌&&◌, ◌||◌, ◌==◌, not, nat_lt}
 use Rattle.std.specs.List.{filter_map, list_all}
 use Rattle.std.specs.Ordering.{nat_cmp, eq_by_cmp}
@@ -135,10 +135,10 @@ module _ (g : Given) (c : ControllerState) (are : AreKnown g c) where
   rests = record { end_same = refl; settled = λ h. h }
 
   turn_rests : (op port : ℕ) (m : Msg) (o : Option Operation) → finite.get c.operations op ≡ o → NotShared o → Rests (takes_turn c op (turn_of o c.store port m))
-  turn_rests op port m None is no = record { end_same = refl; settled = λ h. h }
-  turn_rests op port m (Some (Move mv)) is no = record { end_same = turn_end c op (turn_of (Some (Move mv)) c.store port m) (turn_of (Some (Move mv)) c.store port m).answer; settled = λ h. absurd (subst IsSettled is (h op)) }
-  turn_rests op port m (Some (Copy y)) is no = record { end_same = turn_end c op (turn_of (Some (Copy y)) c.store port m) (turn_of (Some (Copy y)) c.store port m).answer; settled = λ h. absurd (subst IsSettled is (h op)) }
-  turn_rests op port m (Some (Share s)) is no = absurd no
+  turn_rests op port m None is no_share = record { end_same = refl; settled = λ h. h }
+  turn_rests op port m (Some (Move mv)) is no_share = record { end_same = turn_end c op (turn_of (Some (Move mv)) c.store port m) (turn_of (Some (Move mv)) c.store port m).answer; settled = λ h. absurd (subst IsSettled is (h op)) }
+  turn_rests op port m (Some (Copy y)) is no_share = record { end_same = turn_end c op (turn_of (Some (Copy y)) c.store port m) (turn_of (Some (Copy y)) c.store port m).answer; settled = λ h. absurd (subst IsSettled is (h op)) }
+  turn_rests op port m (Some (Share s)) is no_share = absurd no_share
 
   -- an open share stays one that is set up
   share_rests : (op : ℕ) (s : ShareState) → finite.get c.operations op ≡ Some (Share s) → (did : Step) → ShareStep c op s did → Rests did
@@ -157,14 +157,14 @@ module _ (g : Given) (c : ControllerState) (are : AreKnown g c) where
   handed_rests : (op port : ℕ) (m : Msg) → Rests (handed c op port m)
   handed_rests op port m = by_got (finite.get c.operations op) refl
     where
+      other : NotShared (finite.get c.operations op) → Rests (handed c op port m)
+      other no_share = by_turn g c are Rests op port m no_share (turn_rests op port m (finite.get c.operations op) refl no_share)
+
       by_got : (o : Option Operation) → finite.get c.operations op ≡ o → Rests (handed c op port m)
       by_got (Some (Share s)) is = share_rests op s is (handed c op port m) (handed_share c op s is (are.shares op s is).0 port m)
       by_got None is = other (subst NotShared (sym is) tt)
       by_got (Some (Move mv)) is = other (subst NotShared (sym is) tt)
       by_got (Some (Copy y)) is = other (subst NotShared (sym is) tt)
-
-      other : NotShared (finite.get c.operations op) → Rests (handed c op port m)
-      other no = by_turn g c are Rests op port m no (turn_rests op port m (finite.get c.operations op) refl no)
 
   diverted_rests : (cell : FullCell) → Rests (on_diverted c cell)
   diverted_rests cell = by_queues (on_diverted c cell) (queues c cell)

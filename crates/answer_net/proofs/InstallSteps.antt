@@ -1,7 +1,7 @@
 -- What the controller's step keeps of the changes of the switch's rules: it has sent one for each open move that passes packets on, for each
 -- that was done, and for each open share.
-use Rattle.std.proofs.Common.{◌≡◌, ◌≢◌, ℕ, ◌+◌, ◌-◌, ◌≤◌, Bool, true, false, cond, Option, Some, None, List, [], ◌∷◌, ◌++◌, refl, sym, ap, ◌∙◌, subst, arith}
-use Rattle.std.specs.Prelude.{if◌then◌else◌, ◌||◌, ◌==◌, not, nat_lt, is_some, option_map}
+use Rattle.std.proofs.Common.{◌≡◌, ℕ, ◌+◌, Bool, true, false, cond, Option, Some, None, List, [], ◌∷◌, ◌++◌, refl, sym, ap, ◌∙◌, subst, arith}
+use Rattle.std.specs.Prelude.{if◌then◌else◌, ◌==◌, is_some, option_map}
 use Rattle.std.specs.List.{filter_map}
 use Rattle.std.specs.Option.{option_or}
 use Rattle.std.specs.FinMap as finite
@@ -182,10 +182,10 @@ module _ (n : ℕ) (reach : reaches n 1 0 ≡ true) (g : Given) (k : ℕ) (c : C
     copy_is op y is m did (Ends d) = subst Counts (sym d) (ends_is op y is)
 
     turn_is : (op port : ℕ) (m : Msg) (o : Option Operation) → finite.get c.operations op ≡ o → NotShared o → Counts (takes_turn c op (turn_of o c.store port m))
-    turn_is op port m (Some (Share s)) is no = absurd no
-    turn_is op port m None is no = record { sent = refl; unfinished = refl; finish_same = refl }
-    turn_is op port m (Some (Copy y)) is no = copy_is op y is m _ (copy_turns g c are op y is port m)
-    turn_is op port m (Some (Move mv)) is no = by_answer (answer_of r.next.phase) refl
+    turn_is op port m (Some (Share s)) is no_share = absurd no_share
+    turn_is op port m None is no_share = record { sent = refl; unfinished = refl; finish_same = refl }
+    turn_is op port m (Some (Copy y)) is no_share = copy_is op y is m _ (copy_turns g c are op y is port m)
+    turn_is op port m (Some (Move mv)) is no_share = by_answer (answer_of r.next.phase) refl
       where
         r : Row
         r = row_in mv c.store port m
@@ -260,14 +260,14 @@ module _ (n : ℕ) (reach : reaches n 1 0 ≡ true) (g : Given) (k : ℕ) (c : C
     handed_is : (op port : ℕ) (m : Msg) → Counts (handed c op port m)
     handed_is op port m = by_got (finite.get c.operations op) refl
       where
+        other : NotShared (finite.get c.operations op) → Counts (handed c op port m)
+        other no_share = by_turn g c are Counts op port m no_share (turn_is op port m (finite.get c.operations op) refl no_share)
+
         by_got : (o : Option Operation) → finite.get c.operations op ≡ o → Counts (handed c op port m)
         by_got (Some (Share s)) is = share_is op s is (handed c op port m) (handed_share c op s is (are.shares op s is).0 port m)
         by_got None is = other (subst NotShared (sym is) tt)
         by_got (Some (Move mv)) is = other (subst NotShared (sym is) tt)
         by_got (Some (Copy y)) is = other (subst NotShared (sym is) tt)
-
-        other : NotShared (finite.get c.operations op) → Counts (handed c op port m)
-        other no = by_turn g c are Counts op port m no (turn_is op port m (finite.get c.operations op) refl no)
 
     diverted_is : (cell : FullCell) → Counts (on_diverted c cell)
     diverted_is cell = by_queues (on_diverted c cell) (queues c cell)

@@ -1,8 +1,7 @@
 -- What a message does to an open share, and a packet that is put behind its queue: it is answered once, where it is set up, and what it
 -- sends are records, packets and the request for records.
-use Rattle.std.proofs.Common.{◌≡◌, ℕ, Bool, true, false, cond, Option, Some, None, List, [], ◌∷◌, ◌++◌, map, length, refl, sym, ap, ◌∙◌}
+use Rattle.std.proofs.Common.{◌≡◌, ℕ, Bool, true, false, cond, Option, Some, None, List, [], ◌∷◌, ◌++◌, map, length, refl, sym, ◌∙◌}
 use Rattle.std.specs.Prelude.{if◌then◌else◌, ◌==◌, ◌-◌, find, option_map}
-use Rattle.std.specs.Option.{option_map_or}
 use Rattle.std.specs.FinMap as finite
 use Rattle.flow_filter.specs.declared.flow.Flow.{Flow}
 use Rattle.flow_filter.specs.Flow.{flow_of}
@@ -13,14 +12,13 @@ use Rattle.nf_msgs.specs.declared.answer.Answer.{Answer}
 use Rattle.nf_msgs.specs.declared.answer.Answer.TheVariants.{Done}
 use Rattle.nf_msgs.specs.declared.msg.Msg.{Msg}
 use Rattle.nf_msgs.specs.declared.msg.Msg.TheVariants as msg
-use Rattle.nf_msgs.specs.declared.note.Note.{Note}
 use Rattle.nf_msgs.specs.Nodes.{instance_node}
 use Rattle.copy_share.specs.declared.share_phase.SharePhase.{SharePhase}
 use Rattle.copy_share.specs.declared.share_phase.SharePhase.TheVariants as phase
 use Rattle.copy_share.specs.Share.{SharePlan, ShareState, ShareRow, goes, home, others, syncs, setting, syncing, on_fenced, on_chunks, on_shared, on_synced, row, served}
 use Rattle.ctrl_node.specs.declared.operation.Operation.{Operation}
 use Rattle.ctrl_node.specs.declared.operation.Operation.TheVariants.{Move, Copy, Share}
-use Rattle.ctrl_node.specs.Operations.{OpenOperations, Turn, turn_of, lasts, is_shared_by, share_of}
+use Rattle.ctrl_node.specs.Operations.{Turn, turn_of, lasts, is_shared_by}
 use Rattle.ctrl_node.specs.Controller.{ControllerState, Step, still, turned, closed, after_turn, handed, queued, on_diverted}
 use Rattle.unit_machine.proofs.Labels.{Each, each-append}
 use Rattle.whole_outline.proofs.ShareLeft.{OpenAt, answered, noted, ShareLeaves, handed_leaves, queued_leaves}

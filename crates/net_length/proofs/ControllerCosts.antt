@@ -1,5 +1,5 @@
 -- What the controller sends and keeps as it takes a message weighs less than the message and what it kept before.
-use Rattle.std.proofs.Common.{◌≡◌, ℕ, ◌+◌, ◌*◌, ◌≤◌, Bool, true, false, Option, None, Some, List, [], ◌∷◌, ◌++◌, length, refl, sym, ap, ◌∙◌, subst, arith}
+use Rattle.std.proofs.Common.{◌≡◌, ℕ, ◌+◌, ◌*◌, ◌≤◌, Bool, true, false, Option, None, Some, List, [], ◌∷◌, ◌++◌, length, refl, ap, arith}
 use Rattle.std.specs.Prelude.{if◌then◌else◌, ◌==◌, ◌&&◌, not, is_some, unwrap_or}
 use Rattle.std.specs.List.{filter_map}
 use Rattle.std.specs.FinMap as finite
@@ -18,25 +18,25 @@ use Rattle.nf_msgs.specs.Nodes.{switch_node}
 use Rattle.nf_msgs.specs.Shown.{op_of}
 use Rattle.move_op.specs.declared.phase.Phase.{Phase}
 use Rattle.move_op.specs.declared.phase.Phase.TheVariants as phase
-use Rattle.move_op.specs.Move.{MoveState, Store, row_in, answer_of}
+use Rattle.move_op.specs.Move.{MovePlan, MoveState, Store, begun, begin_sends, row_in, answer_of}
 use Rattle.copy_share.specs.declared.copy_phase.CopyPhase.{CopyPhase}
 use Rattle.copy_share.specs.declared.copy_phase.CopyPhase.TheVariants as copies
 use Rattle.copy_share.specs.declared.share_phase.SharePhase.{SharePhase}
 use Rattle.copy_share.specs.declared.share_phase.SharePhase.TheVariants as shares
-use Rattle.copy_share.specs.Copy.{CopyState}
+use Rattle.copy_share.specs.Copy.{CopyPlan, CopyState}
 use Rattle.copy_share.specs.Copy as copy
-use Rattle.copy_share.specs.Share.{ShareState, home, others}
+use Rattle.copy_share.specs.Share.{SharePlan, ShareState, home, others}
 use Rattle.copy_share.specs.Share as share
 use Rattle.ctrl_node.specs.declared.operation.Operation.{Operation}
 use Rattle.ctrl_node.specs.declared.operation.Operation.TheVariants.{Move, Copy, Share}
-use Rattle.ctrl_node.specs.Operations.{OpenOperations, Turn, turn_of, serving_of, moved, copied, shared, idly, with_operation, lasts, share_of, are_quiet}
+use Rattle.ctrl_node.specs.Operations.{OpenOperations, Turn, turn_of, serving_of, share_of, are_quiet}
 use Rattle.ctrl_node.specs.Controller as ctrl
 use Rattle.ctrl_node.specs.Controller.{ControllerState, Step, controller_step}
 use Rattle.actor_net.proofs.WeightLaws.{weigh-append}
 use Rattle.outline_net.proofs.OperationTables.{remove_insert}
 use Rattle.net_length.proofs.MapWeights.{in_all, if_found, insert_weighs, remove_weighs}
 use Rattle.net_length.proofs.Weights.{one_if, of_move, of_copy, of_share, of_operation, kept, weight, some, cost, cost-append, of_controller, unfinished, finish}
-use Rattle.net_length.proofs.MoveCosts.{row_costs, move_falls}
+use Rattle.net_length.proofs.MoveCosts.{move_falls}
 use Rattle.net_length.proofs.ShareCosts.{copy_falls, share_falls, served_costs}
 
 module _ (o : ℕ) where
@@ -184,9 +184,9 @@ module _ (o : ℕ) where
     handed_falls op port m =
         let first = ctrl.takes_turn c op (turn_of (finite.get c.operations op) c.store port m) in
         let falls = turn_falls c op port m (finite.get c.operations op) refl (few op) in
-        let then = serves_costs first.node op in
+        let later = serves_costs first.node op in
         let both = cost-append o first.sends (ctrl.serves first.node op).sends in
-        omega (arith, falls, then, both)
+        omega (arith, falls, later, both)
 
     numbered_falls : (port : ℕ) (m : Msg) (x : Option ℕ) → Falls c m (ctrl.numbered c port m x)
     numbered_falls port m None = still_falls m
@@ -198,8 +198,8 @@ module _ (o : ℕ) where
     queued_falls cell (Some op) =
         let more = parcels_weigh c.store op (stored c.store op ++ cell ∷ []) in
         let both = weigh-append (λ x. 4 + 2 * o) (stored c.store op) (cell ∷ []) in
-        let then = serves_costs (record c { store = with_parcels c.store op (stored c.store op ++ cell ∷ []) }) op in
-        omega (arith, more, both, then)
+        let later = serves_costs (record c { store = with_parcels c.store op (stored c.store op ++ cell ∷ []) }) op in
+        omega (arith, more, both, later)
 
     event_falls : (port op : ℕ) (cell : FullCell) (x : Option ℕ) → Falls c (msg.Event op cell) (ctrl.on_event c port op cell x)
     event_falls port op cell None = still_falls (msg.Event op cell)
@@ -220,21 +220,29 @@ module _ (o : ℕ) where
     begins_falls k op (order.Move source destination filter keep) = between (ctrl.place_of c.names source) (ctrl.place_of c.names destination)
       where
         between : (from to : Option ℕ) → Falls c (msg.Asked k) (ctrl.begins_between c op filter keep from to)
-        between (Some from) (Some to) = opens_falls k op _ _ (omega arith)
+        between (Some from) (Some to) =
+            let plan : MovePlan = record { op = op; from = from; to = to; filter = filter; keep = keep } in
+            opens_falls k op (Move (begun plan)) (begin_sends plan) (omega arith)
         between (Some from) None = still_falls (msg.Asked k)
         between None to = still_falls (msg.Asked k)
     begins_falls k op (order.Copy source destination filter) = between filter (ctrl.place_of c.names source) (ctrl.place_of c.names destination)
       where
         between : (x : Option Filter) (from to : Option ℕ) → Falls c (msg.Asked k) (ctrl.copies_between c op x from to)
-        between None (Some from) (Some to) = opens_falls k op _ _ (omega arith)
-        between (Some filter) (Some from) (Some to) = opens_falls k op _ _ (omega arith)
+        between None (Some from) (Some to) =
+            let plan : CopyPlan = record { op = op; from = from; to = to; filter = None } in
+            opens_falls k op (Copy (copy.begun plan)) (copy.begin_sends plan) (omega arith)
+        between (Some filter) (Some from) (Some to) =
+            let plan : CopyPlan = record { op = op; from = from; to = to; filter = Some filter } in
+            opens_falls k op (Copy (copy.begun plan)) (copy.begin_sends plan) (omega arith)
         between x (Some from) None = still_falls (msg.Asked k)
         between x None to = still_falls (msg.Asked k)
     begins_falls k op (order.Share members filter) = among (filter_map (ctrl.place_of c.names) members)
       where
         among : (places : List ℕ) → Falls c (msg.Asked k) (ctrl.begins_share c op filter places)
         among [] = still_falls (msg.Asked k)
-        among (first ∷ rest) = opens_falls k op _ _ (omega arith)
+        among (first ∷ rest) =
+            let plan : SharePlan = record { op = op; members = first ∷ rest; filter = filter; site = c.site } in
+            opens_falls k op (Share (share.begun plan)) (share.begin_sends plan) (omega arith)
 
     decided_falls : (k : Command) (op : ℕ) (what : Order) (x : Option Answer) → Falls c (msg.Asked k) (ctrl.decided c op what x)
     decided_falls k op what (Some answer) = omega arith

@@ -1,13 +1,11 @@
 -- A share of some of n instances has at most n - 1 members besides one.
-use Rattle.std.proofs.Common.{◌≡◌, ℕ, ◌+◌, ◌<◌, ◌≤◌, Bool, true, false, List, [], ◌∷◌, length, refl, sym, ap, ◌∙◌, subst, arith}
+use Rattle.std.proofs.Common.{◌≡◌, ℕ, suc, ◌+◌, ◌<◌, ◌≤◌, true, false, List, [], ◌∷◌, length, refl, sym, ap, ◌∙◌, subst, arith}
 use Rattle.std.specs.Prelude.{if◌then◌else◌, ◌||◌, ◌==◌, not, nat_lt, filter, slice_index}
-use Rattle.std.specs.List.{IsDistinct, list_any}
+use Rattle.std.specs.List.{list_any}
 use Rattle.std.proofs.lemmas.Bool.Decides.{nat_tests, Decides-eqb}
 use Rattle.std.proofs.lemmas.Map.Steps.{length-le_from_distinct_below}
 use Rattle.nf_function.specs.Semantics.{Semantics}
-use Rattle.copy_share.specs.declared.share_phase.SharePhase.{SharePhase}
-use Rattle.copy_share.specs.declared.share_phase.SharePhase.TheVariants.{Out}
-use Rattle.copy_share.specs.Share.{SharePlan, ShareState, home, others}
+use Rattle.copy_share.specs.Share.{ShareState, home, others}
 use Rattle.unit_machine.proofs.Labels.{Each}
 use Rattle.share_machine.proofs.Share.{has}
 use Rattle.whole_joined.proofs.Given.{Given}
@@ -15,22 +13,20 @@ use Rattle.whole_joined.proofs.Joined.{count, IsShare, IsOutAt}
 use Rattle.net_length.proofs.ControllerCosts.{HasFew}
 
 -- the members but for one
-but : ℕ → List ℕ → List ℕ
+abbrev but : ℕ → List ℕ → List ℕ
 but one members = filter (λ member. not (member == one)) members
 
 but_fewer : (one : ℕ) (members : List ℕ) → length (but one members) ≤ length members
-unfolding but
 but_fewer one [] = omega arith
 but_fewer one (m ∷ ms) =
     let rest = but_fewer one ms in
-    elim (m == one) as (λ b. length (if not b then m ∷ but one ms else but one ms) ≤ 1 + length ms) [ true ↦ omega (arith, rest) | false ↦ omega (arith, rest) ]
+    elim (m == one) as (λ b. length (if not b then m ∷ but one ms else but one ms) ≤ suc (length ms)) [ true ↦ omega (arith, rest) | false ↦ omega (arith, rest) ]
 
 -- are one less, where it is a member
 but_one : (one : ℕ) (members : List ℕ) → has members one ≡ true → length (but one members) + 1 ≤ length members
-unfolding but
 but_one one [] h = cc
 but_one one (m ∷ ms) h =
-    elim (m == one) as (λ b. (m == one) ≡ b → length (if not b then m ∷ but one ms else but one ms) + 1 ≤ 1 + length ms) [
+    elim (m == one) as (λ b. (m == one) ≡ b → length (if not b then m ∷ but one ms else but one ms) + 1 ≤ suc (length ms)) [
       | true ↦ λ e. let rest = but_fewer one ms in omega (arith, rest)
       | false ↦ λ e.
           let off : (one == m) ≡ false = grind (arith, nat_tests, e) in
@@ -52,7 +48,6 @@ module _ {R : Type 0} (f : Semantics R) (g : Given) (o : ℕ) (count_is : count 
   few = let all = length-le_from_distinct_below s.plan.members (count f g) is.distinct (each_below (count f g) s.plan.members is.few) in omega (arith, all, count_is)
 
   others_few : (one : ℕ) → has s.plan.members one ≡ true → length (others s.plan one) ≤ o
-  unfolding but
   others_few one h = let less = but_one one s.plan.members h in let all = few in omega (arith, less, all)
 
   home_has : (members : List ℕ) → 1 < length members → has members (slice_index members 0) ≡ true

@@ -1,14 +1,16 @@
 -- What an instance sends and holds as it takes a message weighs less than the message and what it held before, but for the pieces that it sends.
-use Rattle.std.proofs.Common.{◌≡◌, ℕ, zero, suc, ◌+◌, ◌*◌, ◌≤◌, Bool, true, false, Option, None, Some, Result, Ok, Err, List, [], ◌∷◌, ◌++◌, map, length, length-append, take, drop, refl, sym, ap, ◌∙◌, subst, arith}
-use Rattle.std.specs.Prelude.{if◌then◌else◌, ◌||◌, ◌==◌, not, nat_lt, nat_le, find, filter, is_some, nat_eq}
+use Rattle.std.proofs.Common.{◌≡◌, ℕ, zero, suc, ◌+◌, ◌*◌, ◌≤◌, Bool, true, false, Option, None, Some, Result, Ok, Err, List, [], ◌∷◌, ◌++◌, map, length, length-append, take, drop, refl, ap, ◌∙◌, subst, arith}
+use Rattle.std.specs.Prelude.{if◌then◌else◌, ◌||◌, ◌==◌, not, nat_lt, nat_le, filter, is_some, nat_eq, option_map}
+use Rattle.std.specs.FinMap as finite
 use Rattle.std.specs.List.{IsDistinct, AllByRecursion}
 use Rattle.std.specs.Option.{option_map_or}
 use Rattle.std.proofs.lemmas.Bool.Decides.{nat_tests, Decides-eqb}
 use Rattle.flow_filter.specs.declared.filter.Filter.{Filter}
-use Rattle.flow_filter.specs.Flow.{flow_of}
 use Rattle.nf_function.specs.declared.chunk.Chunk.{Chunk}
 use Rattle.nf_function.specs.declared.unit.Unit as units
 use Rattle.nf_function.specs.Semantics.{Semantics, unit_at}
+use Rattle.state_chunk.specs.Format.{record_chunk}
+use Rattle.record_table.specs.Table.{part}
 use Rattle.record_table.specs.Chunks.{are_good}
 use Rattle.event_filter.specs.declared.action.Action.{Action}
 use Rattle.event_filter.specs.declared.mark.Mark.{Mark}
@@ -24,13 +26,12 @@ use Rattle.nf_msgs.specs.declared.answer.Answer.{Answer}
 use Rattle.nf_msgs.specs.declared.msg.Piece.{Piece}
 use Rattle.nf_msgs.specs.declared.msg.Msg.{Msg}
 use Rattle.nf_msgs.specs.declared.msg.Msg.TheVariants as msg
-use Rattle.nf_msgs.specs.declared.note.Note.{Note}
 use Rattle.nf_msgs.specs.Nodes.{switch_node}
 use Rattle.instance_worker.specs.declared.instance.Instance.{Instance}
 use Rattle.instance_worker.specs.declared.pieces.Whole.{Whole}
-use Rattle.instance_worker.specs.Pieces.{piece_of, cut, whole_of, pieces}
-use Rattle.instance_worker.specs.Instance.{Step, told, chunk_told, shared, still, tells, tells_and_notes, and_then, selected, processed, all_processed, carried, where_good, refusal, piece_put, instance_step, on_carry, on_fence, on_get, on_stream, on_put, on_restore, on_standby, on_sync, on_put_all, tally_put}
-use Rattle.actor_net.proofs.WeightLaws.{weigh, weigh-append}
+use Rattle.instance_worker.specs.Pieces.{piece_of, cut, whole_of}
+use Rattle.instance_worker.specs.Instance.{Step, told, chunk_told, shared, still, selected, processed, all_processed, carried, where_good, refusal, piece_put, instance_step, on_carry, on_fence, on_get, on_stream, on_put, on_restore, on_standby, on_sync, on_put_all, tally_put}
+use Rattle.actor_net.proofs.WeightLaws.{weigh-append}
 use Rattle.net_length.specs.Length.{pieces_among}
 use Rattle.net_length.proofs.Weights.{one_if, of_rules, of_instance, weight, some, processing, cost, cost-append}
 use Rattle.net_length.proofs.Weights as weights
@@ -57,7 +58,8 @@ module _ (op : ℕ) where
   others_weigh cell [] h = refl
   others_weigh cell (r ∷ rs) h =
       let rest = others_weigh cell rs h.1 in
-      let off : (r.op == op) ≡ false = grind (arith, nat_tests, h.0) in
+      let apart = h.0 in
+      let off : (r.op == op) ≡ false = grind (arith, nat_tests, apart) in
       let same : length (if r.op == op then rules.holding cell r else r).held ≡ length r.held = ap (λ b. length (if b then rules.holding cell r else r).held) off in
       omega (arith, rest, same)
 
@@ -101,6 +103,11 @@ module _ (o op : ℕ) where
         | false ↦ let rest = cut_costs whole n (drop 64 chunks) in omega (arith, rest)
       ]
 
+-- what a share is told
+chunk_costs : (o op : ℕ) (x : Option Chunk) → cost o (told (chunk_told op x)) ≤ 1 + 2 * o
+chunk_costs o op None = omega arith
+chunk_costs o op (Some chunk) = omega arith
+
 module _ {F R : Type 0} (f : Semantics R) (o : ℕ) where
   -- what a step sends and leaves, and the message and what there was
   abbrev pub Falls : Instance F R → Msg → Step F R → Type 0
@@ -109,15 +116,11 @@ module _ {F R : Type 0} (f : Semantics R) (o : ℕ) where
   still_falls : (i : Instance F R) (m : Msg) → Falls i m (still i)
   still_falls i m = let one = some o m in omega (arith, one)
 
-  chunk_costs : (op : ℕ) (x : Option Chunk) → cost o (told (chunk_told op x)) ≤ 1 + 2 * o
-  chunk_costs op None = omega arith
-  chunk_costs op (Some chunk) = omega arith
-
   -- what a packet's processing sends
   shared_costs : (i : Instance F R) (mk : Mark) (u : units.Unit) → cost o (told (shared f i mk u)) + 1 ≤ processing o mk
   shared_costs i mark.Plain u = omega arith
   shared_costs i (mark.Pass op) u = omega arith
-  shared_costs i (mark.Shared op home) u = let less = chunk_costs op _ in omega (arith, less)
+  shared_costs i (mark.Shared op home) u = let less = chunk_costs o op (option_map (record_chunk f u) (finite.get (part i.table home) u)) in omega (arith, less)
 
   processed_costs : (i : Instance F R) (mk : Mark) (cell : FullCell) → cost o (processed f i mk cell).sends ≤ processing o mk
   unfolding processed

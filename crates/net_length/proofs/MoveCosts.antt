@@ -1,7 +1,6 @@
 -- What a move's row sends and leaves to do weighs less than the message that it takes and what there was to do.
-use Rattle.std.proofs.Common.{◌≡◌, ℕ, ◌+◌, ◌*◌, ◌≤◌, Bool, true, false, Option, None, Some, List, [], ◌∷◌, ◌++◌, map, length, refl, sym, ap, ◌∙◌, arith}
+use Rattle.std.proofs.Common.{◌≡◌, ℕ, ◌+◌, ◌*◌, ◌≤◌, Bool, true, false, List, [], ◌∷◌, ◌++◌, map, length, refl, arith}
 use Rattle.std.specs.Prelude.{if◌then◌else◌, ◌||◌, ◌&&◌, ◌==◌, unwrap_or}
-use Rattle.nf_function.specs.declared.chunk.Chunk.{Chunk}
 use Rattle.packet_pool.specs.Pool.{FullCell}
 use Rattle.switch_rules.specs.declared.target.Target.TheVariants.{Instance}
 use Rattle.nf_msgs.specs.declared.answer.Answer.{Answer}
@@ -16,7 +15,7 @@ use Rattle.move_op.specs.declared.phase.Phase.{Phase}
 use Rattle.move_op.specs.declared.phase.Phase.TheVariants as phase
 use Rattle.move_op.specs.Move.{MovePlan, Next, Row, keeps, goes, chunks_of, have_units, put_back, source, destination, put_to, forward_to, pushed, released, returned, all_put, on_event, on_source_enabled, on_piece, on_deleted, on_restored, on_source_fenced, on_put_ok, on_put_no, on_destination_enabled, on_destination_fenced, from_source, from_destination, row}
 use Rattle.actor_net.proofs.WeightLaws.{weigh, weigh-append}
-use Rattle.net_length.proofs.Weights.{one_if, of_piece, streaming, of_move, kept, weight, some, cost, cost-append}
+use Rattle.net_length.proofs.Weights.{one_if, of_piece, streaming, of_move, kept, weight, some, cost}
 
 module _ (o : ℕ) (plan : MovePlan) where
   -- what a row weighs: what it sends, its phase, and what is then kept for the move

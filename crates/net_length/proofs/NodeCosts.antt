@@ -1,5 +1,5 @@
 -- Each node's step of a run makes the world lighter, but for the pieces that it sends.
-use Rattle.std.proofs.Common.{◌≡◌, ℕ, zero, suc, ◌+◌, ◌*◌, ◌<◌, ◌≤◌, List, [], ◌∷◌, length, refl, sym, ap, ◌∙◌, arith}
+use Rattle.std.proofs.Common.{◌≡◌, ℕ, zero, suc, ◌+◌, ◌*◌, ◌<◌, ◌≤◌, List, arith}
 use Rattle.nf_function.specs.Semantics.{Semantics}
 use Rattle.nf_msgs.specs.declared.msg.Msg.{Msg}
 use Rattle.nf_msgs.specs.declared.note.Note.{Note}
@@ -7,8 +7,6 @@ use Rattle.actor_net.specs.Network.{Network, Stepped, taken}
 use Rattle.actor_net.proofs.EnabledChoices.{at}
 use Rattle.actor_net.proofs.StepOutcome.{Takes}
 use Rattle.actor_net.proofs.WeightLaws.{weigh, total, total_after, nodes_after}
-use Rattle.switch_node.specs.Switch.{switch_step}
-use Rattle.ctrl_node.specs.Controller.{controller_step}
 use Rattle.net_world.specs.declared.node.Node.{Node}
 use Rattle.net_world.specs.declared.node.Node.TheVariants.{Switch, Controller, Instance}
 use Rattle.net_world.specs.Nodes.{node_step}

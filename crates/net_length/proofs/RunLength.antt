@@ -1,10 +1,9 @@
 -- No run has more choices than its instances, its packets, the lines of its script and the pieces of its moves allow.
-use Rattle.std.proofs.Common.{◌≡◌, ℕ, zero, suc, ◌+◌, ◌*◌, ◌≤◌, Bool, true, false, Option, None, Some, List, [], ◌∷◌, ◌++◌, length, length-append, refl, sym, ap, subst, ◌∙◌, arith}
-use Rattle.std.specs.Prelude.{◌==◌, ◌-◌, slice_get}
-use Rattle.std.specs.List.{All, AllByRecursion}
+use Rattle.std.proofs.Common.{◌≡◌, ℕ, zero, suc, ◌+◌, ◌*◌, ◌≤◌, true, false, Some, List, [], ◌∷◌, ◌++◌, length, length-append, refl, sym, ap, subst, ◌∙◌, arith}
+use Rattle.std.specs.Prelude.{◌-◌, slice_get}
 use Rattle.std.specs.declared.alloc.Global.{Global}
 use Rattle.std.proofs.Math.Nat.{mul-suc}
-use Rattle.std.proofs.lemmas.Bool.Decides.{nat_tests, Decides-eqb}
+use Rattle.std.proofs.lemmas.Bool.Decides.{Decides-eqb}
 use Rattle.std.proofs.lemmas.Option.{slice_get-get_or}
 use Rattle.nf_function.specs.Records.{Laws as FunctionLaws}
 use Rattle.nf_function.specs.Semantics.{Semantics}
@@ -14,42 +13,37 @@ use Rattle.nf_msgs.specs.declared.note.Note.{Note}
 use Rattle.actor_net.specs.declared.choice.Choice.{Choice}
 use Rattle.actor_net.specs.Network.{Network, IsRun, waiting, run, taken}
 use Rattle.actor_net.proofs.OpeningWorlds.{opening_weight}
-use Rattle.actor_net.proofs.RunInduction.{Taking, NextChoice, run_induction}
+use Rattle.actor_net.proofs.RunInduction.{NextChoice, run_induction}
 use Rattle.actor_net.proofs.StepOutcome.{Takes}
-use Rattle.actor_net.proofs.WeightLaws.{Each, weigh, weigh-append}
+use Rattle.actor_net.proofs.WeightLaws.{weigh, weigh-append}
 use Rattle.net_world.specs.declared.config.Config.{Config}
 use Rattle.net_world.specs.declared.node.Node.{Node}
 use Rattle.net_world.specs.declared.node.Node.TheVariants.{Instance}
-use Rattle.net_world.specs.Input.{IsInput, packets}
+use Rattle.net_world.specs.Input.{IsInput, is_item, packets}
 use Rattle.net_world.specs.Nodes.{node_step, node_ready}
 use Rattle.net_world.specs.Start.{first_instance, first_instances, first_nodes, started}
-use Rattle.whole_joined.proofs.Given.{Given}
-use Rattle.whole_joined.proofs.Joined.{Label, node_of}
-use Rattle.whole_joined.proofs.StartJoined.{given, all_labelled, count_at_start}
+use Rattle.outline_net.proofs.StateOutline.{all_each}
+use Rattle.unit_machine.proofs.Labels.{Each}
+use Rattle.whole_joined.proofs.Joined.{node_of}
+use Rattle.whole_joined.proofs.StartJoined.{given, count_at_start}
 use Rattle.whole_joined.proofs.RunsJoined.{Runs, runs_at_start, runs_next, start_world}
 use Rattle.net_length.specs.Length.{lines, ends, has_end, pieces_among, pieces_of, pieces_sent, most_choices}
 use Rattle.net_length.proofs.MapWeights.{empty_weighs}
 use Rattle.net_length.proofs.Weights.{kept, weight, of_operation}
 use Rattle.net_length.proofs.NodeCosts.{of_node, of_world, world_falls}
 
--- a product of a list's length is its elements' weight
-times_length : {X : Type 0} (a : ℕ) (xs : List X) → a * length xs ≡ weigh (λ x. a) xs
-times_length a [] = omega arith
-times_length a (x ∷ xs) = let rest = times_length a xs in let one = mul-suc a (length xs) in omega (arith, rest, one)
-
--- one line more
+-- one more of so many
 times_more : (a k : ℕ) → a * (1 + k) ≡ a * k + a
-times_more a k = mul-suc a k
+times_more a k = let more : 1 + k ≡ suc k = omega arith in ap (λ j. a * j) more ∙ mul-suc a k
 
--- What an input weighs.
-module _ (o : ℕ) {R : Type 0} (f : Semantics R) (g : Given) where
-  input_weighs : (items : List Msg) → Each (Label f g 0 0) items → weigh (weight o) items ≤ (7 + 2 * o) * length (packets items) + (16 + 2 * o) * lines items + 2 * ends items
-  input_weighs [] h = omega arith
-  input_weighs (msg.InPacket packet ∷ items) h = let rest = input_weighs items h.1 in let one = times_more (7 + 2 * o) (length (packets items)) in omega (arith, rest, one)
-  input_weighs (msg.InCommand command ∷ items) h = let rest = input_weighs items h.1 in let one = times_more (16 + 2 * o) (lines items) in omega (arith, rest, one)
-  input_weighs (msg.InSettle ∷ items) h = let rest = input_weighs items h.1 in let one = times_more (16 + 2 * o) (lines items) in omega (arith, rest, one)
-  input_weighs (msg.InEnd ∷ items) h = let rest = input_weighs items h.1 in omega (arith, rest)
-  input_weighs (m ∷ items) h = ?
+-- what an input weighs
+input_weighs : (o : ℕ) (items : List Msg) → Each (λ item. is_item item ≡ true) items → weigh (weight o) items ≤ (7 + 2 * o) * length (packets items) + (16 + 2 * o) * lines items + 2 * ends items
+input_weighs o [] h = omega arith
+input_weighs o (msg.InPacket packet ∷ items) h = let rest = input_weighs o items h.1 in let one = mul-suc (7 + 2 * o) (length (packets items)) in omega (arith, rest, one)
+input_weighs o (msg.InCommand command ∷ items) h = let rest = input_weighs o items h.1 in let one = times_more (16 + 2 * o) (lines items) in omega (arith, rest, one)
+input_weighs o (msg.InSettle ∷ items) h = let rest = input_weighs o items h.1 in let one = times_more (16 + 2 * o) (lines items) in omega (arith, rest, one)
+input_weighs o (msg.InEnd ∷ items) h = let rest = input_weighs o items h.1 in omega (arith, rest)
+input_weighs o (m ∷ items) h = let never : false ≡ true = h.0 in cc
 
 module _ (F : Type 0) {R : Type 0} (f : Semantics R) (o : ℕ) (alloc : Global) (c : Config) where
   -- at the start no instance holds anything
@@ -108,10 +102,10 @@ module _ (F : Type 0) {R : Type 0} (f : Semantics R) (laws : FunctionLaws f) (al
       let falls = world_falls f (given f c items is) nodes besides (let few = besides_is in omega (arith, few)) refl w j k.node k.port t.message t.rest takes in
       let more = pieces_more f cs k start in
       let sent : pieces_of f k (slice_get (run (node_step f) cs start).nodes k.node) (waiting (run (node_step f) cs start) k) ≡ pieces_among (node_step f (node_of j.nodes k.node) k.port t.message).sends =
-          ap (λ v. pieces_of f k (slice_get v.nodes k.node) (waiting v k)) (sym next.reached)
-          ∙ ap (λ x. pieces_of f k x (waiting w k)) (slice_get-get_or w.nodes k.node t.node (rw count t.takes.receiver) ∙ ap Some (t.takes.node_is t.node))
-          ∙ ap (pieces_of f k (Some t.node)) t.takes.waits
-          ∙ ap (λ y. pieces_among (node_step f y k.port t.message).sends) same in
+      ap (λ v. pieces_of f k (slice_get v.nodes k.node) (waiting v k)) (sym next.reached)
+      ∙ ap (λ x. pieces_of f k x (waiting w k)) (slice_get-get_or w.nodes k.node t.node (rw count t.takes.receiver) ∙ ap Some (t.takes.node_is t.node))
+      ∙ ap (pieces_of f k (Some t.node)) t.takes.waits
+      ∙ ap (λ y. pieces_among (node_step f y k.port t.message).sends) same in
       let long = length-append cs (k ∷ []) in
       let so_far = h.lighter in
       record {
@@ -129,7 +123,7 @@ module _ (F : Type 0) {R : Type 0} (f : Semantics R) (laws : FunctionLaws f) (al
       let few = besides_is in
       let lighter = (run_lighter cs run_is).lighter in
       let begins = start_weighs F f o alloc c items in
-      let input = input_weighs o f (given f c items is) items (all_labelled f c items is) in
+      let input = input_weighs o items (all_each (λ item. is_item item ≡ true) items is.only_items) in
       let once : ends items ≡ 1 = (Decides-eqb (ends items) 1).0 ended in
       let more_packets = times_le (7 + 2 * o) (2 * length c.names + 6) (length (packets items)) (omega (arith, few)) in
       let more_lines = times_le (16 + 2 * o) (4 * length c.names + 24) (lines items) (omega (arith, few)) in

@@ -1,5 +1,5 @@
 -- What a copy's row and a share's row send and leave to do weighs less than the message that they take and what there was to do.
-use Rattle.std.proofs.Common.{◌≡◌, ℕ, ◌+◌, ◌*◌, ◌≤◌, Bool, true, false, Option, None, Some, List, [], ◌∷◌, ◌++◌, map, length, refl, sym, ap, ◌∙◌, arith}
+use Rattle.std.proofs.Common.{◌≡◌, ℕ, ◌+◌, ◌*◌, ◌≤◌, true, false, Some, List, [], ◌∷◌, map, length, refl, arith}
 use Rattle.std.specs.Prelude.{if◌then◌else◌, ◌-◌, ◌==◌, is_some, unwrap_or}
 use Rattle.nf_function.specs.declared.chunk.Chunk.{Chunk}
 use Rattle.packet_pool.specs.Pool.{FullCell}

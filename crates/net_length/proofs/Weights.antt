@@ -1,7 +1,7 @@
 -- What each message, each open operation and each node weighs: at least as much as the choices that are still to come of it. `o` is the
 -- greatest number of members that a share has besides one.
-use Rattle.std.proofs.Common.{◌≡◌, ℕ, ◌+◌, ◌*◌, ◌≤◌, Bool, true, false, Option, None, Some, List, [], ◌∷◌, ◌++◌, map, length, refl, arith}
-use Rattle.std.specs.Prelude.{if◌then◌else◌, ◌||◌, is_some}
+use Rattle.std.proofs.Common.{◌≡◌, ℕ, ◌+◌, ◌*◌, ◌≤◌, Bool, true, false, List, [], ◌∷◌, ◌++◌, length, arith}
+use Rattle.std.specs.Prelude.{if◌then◌else◌, ◌||◌}
 use Rattle.event_filter.specs.declared.mark.Mark.{Mark}
 use Rattle.event_filter.specs.declared.mark.Mark.TheVariants as mark
 use Rattle.event_filter.specs.declared.rule.Rule.{Rule}
@@ -9,7 +9,6 @@ use Rattle.packet_pool.specs.Pool.{FullCell}
 use Rattle.nf_msgs.specs.declared.msg.Piece.{Piece}
 use Rattle.nf_msgs.specs.declared.msg.Msg.{Msg}
 use Rattle.nf_msgs.specs.declared.msg.Msg.TheVariants as msg
-use Rattle.nf_msgs.specs.Nodes.{controller_node}
 use Rattle.move_op.specs.declared.door.Door.{Door}
 use Rattle.move_op.specs.declared.door.Door.TheVariants as door
 use Rattle.move_op.specs.declared.phase.Phase.{Phase}

@@ -1,7 +1,7 @@
 ghost use Rattle.std.specs.Prelude.{◌≡◌, All, IfOk};
 ghost use Rattle.nf_function.specs.declared.kind.Kind.TheVariants.{Conntrack as OfFlows};
 ghost use Rattle.nf_msgs.specs.declared.command.Order.{Order as AnOrder};
-ghost use Rattle.net_world.specs.Input.{IsBuilt, IsInput, IsWhole};
+ghost use Rattle.net_world.specs.Input.{IsInput, IsProper, IsWhole};
 ghost use Rattle.net_world.specs.Start.{IsConfig};
 
 use crate::move_tests::{CASE, Case, asked, came, config, told};
@@ -37,7 +37,7 @@ fn filter_of(what: What) -> Option<Filter> {
 
 /// The item of a command to copy from a to b.
 fn copied(alloc: Global, op: u32, what: What) -> Result<Msg, Fail>
-    ensures { IfOk result (λ item. (what : AnOrder) × (item ≡ Msg.InCommand (record { op = op; what = what })) × IsBuilt OfFlows what) }
+    ensures { IfOk result (λ item. (what : AnOrder) × (item ≡ Msg.InCommand (record { op = op; what = what })) × IsProper OfFlows what) }
 {
     let src = Name::read(alloc, b"a")?.ok_or("no name")?;
     let dst = Name::read(alloc, b"b")?.ok_or("no name")?;

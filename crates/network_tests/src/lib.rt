@@ -1,4 +1,4 @@
-//! Tests of the network: runs of packets, moves and copies by schedules, held to what they write into the log and leave in the nodes.
+//! Tests of the network: runs of packets, moves, copies and shares by schedules, held to what they write into the log and leave in the nodes.
 //!
 //! They stand in a crate of their own, so that `nf_net` isn't proved a second time for their sake. There is no other code here.
 #![tactic(auto)]
@@ -7,3 +7,5 @@
 mod copy_tests;
 #[cfg(test)]
 mod move_tests;
+#[cfg(test)]
+mod share_tests;

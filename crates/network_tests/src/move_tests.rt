@@ -3,7 +3,7 @@ ghost use Rattle.flow_filter.specs.declared.packet.Packet.{Packet as APacket};
 ghost use Rattle.flow_filter.specs.Filter.{IsFlow};
 ghost use Rattle.nf_function.specs.declared.kind.Kind.TheVariants.{Conntrack as OfFlows, Monitor as OfHosts};
 ghost use Rattle.nf_msgs.specs.declared.command.Order.{Order as AnOrder};
-ghost use Rattle.net_world.specs.Input.{IsBuilt, IsInput, IsSteered, IsWhole};
+ghost use Rattle.net_world.specs.Input.{IsInput, IsProper, IsSteered, IsWhole};
 ghost use Rattle.net_world.specs.Start.{IsConfig};
 
 use actor_net::{Choice, ReplayFault, Schedule, World};
@@ -110,7 +110,7 @@ pub const CASE: Case = Case {
 
 /// The item of a command to move the flow of the local port 5001 from a to the case's destination.
 pub fn asked(alloc: Global, op: u32, case: Case) -> Result<Msg, Fail>
-    ensures { IfOk result (λ item. (what : AnOrder) × (item ≡ Msg.InCommand (record { op = op; what = what })) × IsBuilt OfFlows what) }
+    ensures { IfOk result (λ item. (what : AnOrder) × (item ≡ Msg.InCommand (record { op = op; what = what })) × IsProper OfFlows what) }
 {
     let src = Name::read(alloc, b"a")?.ok_or("no name")?;
     let dst = Name::read(alloc, [case.to].as_slice())?.ok_or("no name")?;

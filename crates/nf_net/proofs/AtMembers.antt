@@ -1,6 +1,6 @@
 -- In every run, a packet that came when a share had its unit is processed at its member.
-use Rattle.std.proofs.Common.{◌≡◌, ℕ, suc, ◌+◌, ◌<◌, ◌≤◌, Bool, true, false, Some, None, List, [], ◌∷◌, ◌++◌, map, length, append_assoc, refl, sym, ap, ◌∙◌, subst, arith}
-use Rattle.std.specs.Prelude.{if◌then◌else◌, ◌&&◌, ◌==◌, is_some}
+use Rattle.std.proofs.Common.{◌≡◌, ℕ, suc, ◌+◌, ◌<◌, ◌≤◌, Bool, true, false, Some, List, [], ◌∷◌, ◌++◌, length, append_assoc, refl, sym, ap, ◌∙◌, arith}
+use Rattle.std.specs.Prelude.{if◌then◌else◌, ◌==◌, is_some}
 use Rattle.std.specs.declared.alloc.Global.{Global}
 use Rattle.std.proofs.lemmas.Bool.Decides.{nat_tests, Decides-eqb}
 use Rattle.nf_function.specs.declared.output.Output.{Output}
@@ -22,14 +22,14 @@ use Rattle.net_world.specs.declared.config.Config.{Config}
 use Rattle.net_world.specs.declared.node.Node.{Node}
 use Rattle.net_world.specs.Commands.{times_installed}
 use Rattle.net_world.specs.Fold.{times, is_of}
-use Rattle.net_world.specs.Input.{IsRising, IsInput, packet_of, packets}
-use Rattle.net_world.specs.Log.{Done, arrived, done, installed, those}
+use Rattle.net_world.specs.Input.{IsRising, IsInput, packet_of}
+use Rattle.net_world.specs.Log.{arrived, done, installed, those}
 use Rattle.net_world.specs.Nodes.{node_step, node_ready}
 use Rattle.net_world.specs.Places.{first_owner, members, member_for, unit_numbered, AreAtMembers}
 use Rattle.outline_net.proofs.Outline.{is_sys}
 use Rattle.whole_joined.proofs.Given.{Given, is_diverted, diverted_in}
 use Rattle.whole_joined.proofs.Joined.{S, A, by_node, came_by, Joined}
-use Rattle.whole_joined.proofs.LogLemmas.{arrived-append, done-append, by_node-append, diverted_in-append}
+use Rattle.whole_joined.proofs.LogLemmas.{done-append, by_node-append, diverted_in-append}
 use Rattle.whole_joined.proofs.OperationsApart.{AllApart}
 use Rattle.whole_joined.proofs.RunsJoined.{Runs, run_beside, times-append, same_times}
 use Rattle.whole_joined.proofs.StartJoined.{given}
@@ -117,9 +117,10 @@ module _ {F R : Type 0} (f : Semantics R) (c : Config) (items : List Msg) (is : 
     done_there : ran_of (S f g) (A f g) u j.world.done ≡ ran front ++ (number, instance_node i) ∷ ran after
     done_there =
         let mine_is = own in
+        let here : ran_of (S f g) (A f g) u (by_node f g (done (note.Processed number i output ∷ after))) ≡ (number, instance_node i) ∷ ran after = rw mine_is refl in
         ap (ran_of (S f g) (A f g) u) (j.shown_is.done_is ∙ ap (λ log. by_node f g (done log)) log_is ∙ ap (by_node f g) (done-append front (note.Processed number i output ∷ after)) ∙ by_node-append f g (done front) (done (note.Processed number i output ∷ after)))
         ∙ ran_more (S f g) (A f g) (is_sys f g.site g.packet) u (by_node f g (done front)) (by_node f g (done (note.Processed number i output ∷ after)))
-        ∙ ap (λ v. ran front ++ v) (rw mine_is refl)
+        ∙ ap (λ v. ran front ++ v) here
 
     at : Done_at (S f g) (A f g) (is_sys f g.site g.packet) u j.world (came_by f g w.log u) number (instance_node i) once came (ran front) (ran after) done_there
     at = done_at (S f g) (A f g) (is_sys f g.site g.packet) u j.world (came_by f g w.log u) number (instance_node i) once came (ran front) (ran after) done_there (j.shown_is.every.unit u)
@@ -139,7 +140,7 @@ module _ (F : Type 0) {R : Type 0} (f : Semantics R) (laws : FunctionLaws f) (al
   first = start F f laws alloc c items is
 
   -- each packet comes once
-  pub came_once : (cs : List Choice) → IsRun node_ready (node_step f) cs first → (p : ℕ) → times p (arrived (run (node_step f) cs first).log) ≤ 1
+  came_once : (cs : List Choice) → IsRun node_ready (node_step f) cs first → (p : ℕ) → times p (arrived (run (node_step f) cs first).log) ≤ 1
   came_once cs run_is p =
       let turn = (runs_joined F f laws alloc c items is cs run_is).in_turn in
       let both = ap (times p) turn in

@@ -1,15 +1,16 @@
 -- In every run each chunk on its way is one of a unit that a move under way takes.
-use Rattle.std.proofs.Common.{◌≡◌, ◌≢◌, ℕ, zero, suc, ◌+◌, ◌<◌, Bool, true, false, cond, Some, List, [], ◌∷◌, map, length, refl, sym, ap, ◌∙◌, subst, arith}
+use Rattle.std.proofs.Common.{◌≡◌, ◌≢◌, ℕ, zero, suc, ◌+◌, ◌<◌, Bool, true, false, cond, Option, Some, None, List, [], ◌∷◌, map, length, refl, sym, ap, ◌∙◌, subst, arith}
 use Rattle.std.specs.Prelude.{◌==◌, ◌&&◌, filter, All}
 use Rattle.std.specs.FinMap as finite
 use Rattle.std.proofs.lemmas.Bool.Decides.{nat_tests}
 use Rattle.nf_function.specs.declared.chunk.Chunk.{Chunk}
 use Rattle.nf_function.specs.declared.unit.Unit as units
-use Rattle.nf_function.specs.Records.{Laws as FunctionLaws}
 use Rattle.nf_function.specs.Semantics.{Semantics}
+use Rattle.nf_function.specs.Units.{takes}
 use Rattle.record_table.specs.Table.{same_unit}
 use Rattle.record_table.specs.Chunks.{spelled}
 use Rattle.record_table.proofs.UnitOrder.{same_unit_equiv}
+use Rattle.event_store.specs.Store.{stored}
 use Rattle.nf_msgs.specs.declared.msg.Msg.{Msg}
 use Rattle.nf_msgs.specs.declared.msg.Msg.TheVariants as msg
 use Rattle.nf_msgs.specs.declared.msg.Piece.{Piece}
@@ -26,7 +27,9 @@ use Rattle.unit_machine.proofs.Seats.{seat_shape}
 use Rattle.unit_machine.proofs.Given.{third_silent}
 use Rattle.abstract_net.proofs.Ctrl.{each_found}
 use Rattle.abstract_net.proofs.Holding.{Op_label}
+use Rattle.abstract_net.proofs.Net.{Open}
 use Rattle.abstract_net.proofs.Units.{see}
+use Rattle.abstract_net.proofs.Untaken.{Untaken}
 use Rattle.net_world.specs.declared.config.Config.{Config}
 use Rattle.net_world.specs.declared.node.Node.{Node}
 use Rattle.net_world.specs.declared.node.Node.TheVariants.{Switch}
@@ -38,14 +41,18 @@ use Rattle.path_net.proofs.ChunkLemmas.{all_chunks, spelled_more}
 use Rattle.path_net.proofs.ChunkPlaces.{good_pieces, free_pieces, none_on_way}
 use Rattle.answer_net.proofs.MovesUnderWay.{AreUnderWay}
 use Rattle.outline_net.proofs.MoveOutline.{IsChunk}
+use Rattle.outline_net.proofs.ControlOutline.{Sees}
+use Rattle.outline_net.proofs.FiltersApart.{and_r, is_whole, takes_whole, unit_fits}
 use Rattle.outline_net.proofs.Outline.{is_sys}
+use Rattle.whole_outline.proofs.OpenShares.{but_shares}
 use Rattle.path_net.proofs.PathNodes.{each_entry}
-use Rattle.path_net.proofs.PathSeats.{labels, loop_is, Seated, seated, HasSides, Are_there, Rests}
+use Rattle.path_net.proofs.PathSeats.{labels, loop_is, AsMoves, Seated, seated, HasSides, Are_there, Rests}
+use Rattle.path_net.proofs.SharedChunks.{none_on_way as none_shared}
 use Rattle.path_net.proofs.PathSums.{each_place, each_link}
-use Rattle.nf_net.proofs.PlaceSteps.{open_at}
 use Rattle.whole_joined.proofs.StartJoined.{given}
 use Rattle.whole_joined.proofs.Given.{Given, place}
-use Rattle.whole_joined.proofs.Joined.{S, Label, AreGoodChunks, HasPieces, Joined, node_of}
+use Rattle.whole_net.proofs.WhereAll.{Where_all, Apart_from_shares, Under_share}
+use Rattle.whole_joined.proofs.Joined.{S, A, came_by, Label, AreGoodChunks, HasPieces, Joined, node_of}
 
 all_from : {X : Type 0} (P : X → Type 0) (xs : List X) → Each P xs → All P xs
 all_from P [] h k d small = absurd (omega (arith, small))
@@ -99,7 +106,7 @@ module _ {R : Type 0} (f : Semantics R) (g : Given) where
           each_has cs h.1 (λ v some. q v (λ none. some (shorter (is_chunk_of v c) c (filter (is_chunk_of v) cs) none))),
         )
 
-module _ {F R : Type 0} (f : Semantics R) (laws : FunctionLaws f) (c : Config) (items : List Msg) (is : IsInput f.kind c items) (n : ℕ) (count : n ≡ length c.names + 2) (w : Network (Node F R) Msg Note) (nodes : length w.nodes ≡ n) (j : Joined f (given f c items is) n w) (world : IsWorld w) (busy : AreUnderWay f c items is n w j) where
+module _ {F R : Type 0} (f : Semantics R) (c : Config) (items : List Msg) (is : IsInput f.kind c items) (n : ℕ) (count : n ≡ length c.names + 2) (w : Network (Node F R) Msg Note) (nodes : length w.nodes ≡ n) (j : Joined f (given f c items is) n w) (world : IsWorld w) (busy : AreUnderWay f c items is n w j) where
   abbrev g : Given
   g = given f c items is
 
@@ -136,18 +143,38 @@ module _ {F R : Type 0} (f : Semantics R) (laws : FunctionLaws f) (c : Config) (
     destination : List ℕ
     moving : IsMoving c items u w.log source destination
 
-  moved : (u : units.Unit) → spelled_of f u (chunks_on_way w) ≢ [] → IsMoved u
-  moved u some = by_sides k.ends
-    where
-      k : Seated f c items is n count w nodes j u
-      k = seated f c items is n count w nodes j u
+  -- an open move that takes the unit is under way
+  by_move : (u : units.Unit) (k : ℕ) (e : Open R) (o : Option Operation) → finite.get j.nodes.controller.operations k ≡ o → Sees f (place g) (Some e) (but_shares o) (stored j.nodes.controller.store k) → takes_whole f.kind e.filter u ≡ true → IsMoved u
+  by_move u k e None there sees taken = absurd sees
+  by_move u k e (Some (Copy y)) there sees taken = absurd sees
+  by_move u k e (Some (Share s)) there sees taken = absurd sees
+  by_move u k e (Some (Move m)) there sees taken =
+      let of = busy.plan_is k m there in
+      let takes_it : takes m.plan.filter u ≡ true = and_r (unit_fits f.kind u) _ (and_r (is_whole f.kind m.plan.filter) _ (ap (λ x. takes_whole f.kind x u) (sym sees.filter) ∙ taken)) in
+      record {
+        source = of.source;
+        destination = of.destination;
+        moving = record { op = k; filter = m.plan.filter; keep = of.keep; order = of.order; takes_it = takes_it; busy = busy.open_busy k m there };
+      }
 
-      by_sides : HasSides f c items is n count w nodes j k.op (seat_shape (S f g).F k.seat) → IsMoved u
-      by_sides (Are_there e found src dst) =
-          let label = each_found (Op_label (S f g) (see (S f g) (is_sys f g.site g.packet) u k.op k.third)) k.op.num j.world.ops e k.holds.ops found in
-          let m = open_at f laws c items is n w j busy u k.op.num e found (label.0.0 ∙ label.1) in
-          record { source = m.source; destination = m.destination; moving = m.moving }
-      by_sides (Rests none none_b at_a) = absurd (some (none_on_way f c items is n count w nodes j world u k.op k.third (seat_shape (S f g).F k.seat) k.holds (third_silent (S f g).F k.seat) none))
+  moved : (u : units.Unit) → spelled_of f u (chunks_on_way w) ≢ [] → IsMoved u
+  moved u some = by_where (j.shown_is.every.unit u)
+    where
+      by_seat : AsMoves f c items is n count w nodes j u → Untaken (S f g) u (A f g) j.world → IsMoved u
+      by_seat at apart = by_sides k.ends
+        where
+          k : Seated f c items is n count w nodes j u
+          k = seated f c items is n count w nodes j u at
+
+          by_sides : HasSides f c items is n count w nodes j k.op (seat_shape (S f g).F k.seat) → IsMoved u
+          by_sides (Are_there e found src dst) =
+              let label = each_found (Op_label (S f g) (see (S f g) (is_sys f g.site g.packet) u k.op k.third)) k.op.num j.world.ops e k.holds.ops found in
+              by_move u k.op.num e (finite.get j.nodes.controller.operations k.op.num) refl (subst (λ q. Sees f (place g) q (but_shares (finite.get j.nodes.controller.operations k.op.num)) (stored j.nodes.controller.store k.op.num)) found (j.shown_is.controller.opens k.op.num).move) (label.0.0 ∙ label.1)
+          by_sides (Rests none none_b at_a) = absurd (some (none_on_way f c items is n count w nodes j world u apart k.op k.third (seat_shape (S f g).F k.seat) k.holds (third_silent (S f g).F k.seat) none))
+
+      by_where : Where_all (S f g) (A f g) (is_sys f g.site g.packet) u j.world (came_by f g w.log u) → IsMoved u
+      by_where (Apart_from_shares h none) = by_seat h.is h.untaken
+      by_where (Under_share x before b h o i) = absurd (some (none_shared f c items is n count w nodes j world u x before (came_by f g w.log u).diverted h))
 
   pub chunks_moved : All (IsOfMove c items w.log) (chunks_on_way w)
   chunks_moved = all_from (IsOfMove c items w.log) (chunks_on_way w) (each_has f g IsMoved (IsOfMove c items w.log) (λ y u is_unit h. record { unit = u; unit_is = is_unit; source = h.source; destination = h.destination; moving = h.moving }) (chunks_on_way w) all_named moved)

@@ -4,7 +4,7 @@ use Rattle.std.specs.Prelude.{if◌then◌else◌, ◌&&◌, ◌==◌, nat_lt, s
 use Rattle.std.specs.declared.alloc.Global.{Global}
 use Rattle.std.specs.List.{filter_map}
 use Rattle.std.specs.FinMap as finite
-use Rattle.std.proofs.lemmas.Bool.Decides.{nat_tests, Decides-eqb, Decides-ltb}
+use Rattle.std.proofs.lemmas.Bool.Decides.{nat_tests}
 use Rattle.std.proofs.lemmas.Option.{slice_get-get_or}
 use Rattle.flow_filter.specs.declared.filter.Filter.{Filter}
 use Rattle.flow_filter.specs.declared.packet.Packet.{Packet}
@@ -15,7 +15,6 @@ use Rattle.nf_function.specs.Semantics.{Semantics, unit_at}
 use Rattle.record_table.proofs.UnitOrder.{same_unit-true}
 use Rattle.switch_rules.specs.declared.target.Target.{Target}
 use Rattle.switch_rules.specs.declared.target.Target.TheVariants as target
-use Rattle.event_store.specs.Store.{stored}
 use Rattle.nf_msgs.specs.declared.answer.Answer.TheVariants.{Done}
 use Rattle.nf_msgs.specs.declared.command.Order.{Order}
 use Rattle.nf_msgs.specs.declared.command.Order.TheVariants as order
@@ -23,8 +22,6 @@ use Rattle.nf_msgs.specs.declared.msg.Msg.{Msg}
 use Rattle.nf_msgs.specs.declared.note.Note.{Note}
 use Rattle.nf_msgs.specs.Nodes.{instance_node}
 use Rattle.switch_node.specs.Switch.{is_there}
-use Rattle.ctrl_node.specs.declared.operation.Operation.{Operation}
-use Rattle.ctrl_node.specs.declared.operation.Operation.TheVariants.{Move, Copy, Share}
 use Rattle.actor_net.specs.declared.choice.Choice.{Choice}
 use Rattle.actor_net.specs.Network.{Network, IsRun, is_done, run, waiting}
 use Rattle.actor_net.proofs.CompleteWorlds.{done_waiting}
@@ -34,10 +31,8 @@ use Rattle.unit_machine.proofs.Labels.{Each}
 use Rattle.unit_machine.proofs.Lists.{firsts}
 use Rattle.unit_machine.proofs.Fits.{nil_right}
 use Rattle.unit_machine.proofs.Stages as stages
-use Rattle.unit_machine.proofs.Stages.{Order}
 use Rattle.unit_machine.proofs.Ends.{same_of}
-use Rattle.share_machine.proofs.Share.{has}
-use Rattle.abstract_net.proofs.Net.{IsSys, Open, find_op}
+use Rattle.abstract_net.proofs.Net.{IsSys}
 use Rattle.abstract_net.proofs.Rest.{done_u}
 use Rattle.abstract_net.proofs.Readings as readings
 use Rattle.abstract_net.proofs.Readings.{exact_of, fold_runs, not_both}
@@ -59,17 +54,18 @@ use Rattle.net_world.specs.Records.{live_in, live_at}
 use Rattle.net_world.specs.Start.{started}
 use Rattle.answer_net.proofs.ArrivalLemmas.{numbers, runs_joined}
 use Rattle.answer_net.proofs.CommandPromises.{run_busy}
-use Rattle.outline_net.proofs.ControlOutline.{Sees}
 use Rattle.answer_net.proofs.InstallRuns.{run_installs, done_installed}
 use Rattle.answer_net.proofs.InstallSteps.{is_moving}
 use Rattle.outline_net.proofs.Outline.{is_sys}
-use Rattle.whole_outline.proofs.OpenShares.{but_shares, share_in, SeesOne}
+use Rattle.whole_outline.proofs.OpenShares.{real_share}
 use Rattle.whole_outline.proofs.SwitchAll.{target_node}
 use Rattle.whole_joined.proofs.Given.{Given, place}
 use Rattle.whole_joined.proofs.Joined.{GenuinePacket, S, A, shown, came_by, Joined}
 use Rattle.whole_joined.proofs.RunsJoined.{done_same, same_times, start_world}
 use Rattle.whole_joined.proofs.StartJoined.{given, count_at_start, genuine}
+use Rattle.path_net.proofs.PathSeats.{there, sides}
 use Rattle.path_net.proofs.RecordPromises.{instance_of, one_place}
+use Rattle.path_net.proofs.SharedOwners.{members_few}
 use Rattle.nf_net.proofs.FoldLemmas.{fold_is}
 use Rattle.nf_net.proofs.StandbyFronts.{IsOfFront, still_some, lives_front}
 use Rattle.answer_net.proofs.ToldCommands.{each_answered}
@@ -83,23 +79,12 @@ none_in (x ∷ xs) h =
     let one : 1 + stages.times x xs ≡ 0 = rw self at here in
     absurd (omega (arith, one))
 
--- the nodes of instances that are there are behind the controller
-members_there : (n count : ℕ) → n ≡ count + 2 → (ms : List ℕ) → Each (λ member. nat_lt member count ≡ true) ms → (k : ℕ) → has (map instance_node ms) k ≡ true → (2 ≤ k) × (k < n)
-members_there n count is [] few k inside = cc
-members_there n count is (m ∷ ms) few k inside = elim (k == instance_node m) as (λ b. (k == instance_node m) ≡ b → (if b then true else has (map instance_node ms) k) ≡ true → (2 ≤ k) × (k < n)) [
-  | true ↦ λ on _.
-      let same : k ≡ instance_node m = (Decides-eqb k (instance_node m)).0 on in
-      let small : m < count = (Decides-ltb m count).0 few.0 in
-      (omega (arith, same), omega (arith, same, small, is))
-  | false ↦ λ _ rest. members_there n count is ms few.1 k rest
-] refl inside
-
 module _ {R : Type 0} (f : Semantics R) (c : Config) (items : List Msg) (is : IsInput f.kind c items) where
   abbrev g : Given
   g = given f c items is
 
   abbrev laws_of : IsSys (S f g)
-  laws_of = is_sys g.site g.packet
+  laws_of = is_sys f g.site g.packet
 
   module _ {F : Type 0} (n : ℕ) (count : n ≡ length c.names + 2) (w : Network (Node F R) Msg Note) (nodes : length w.nodes ≡ n) (j : Joined f g n w) (in_turn : arrived w.log ++ numbers (waiting w (at 0 0)) ≡ numbers items) (done : is_done node_ended w ≡ true) where
     all_came : arrived w.log ≡ numbers items
@@ -108,36 +93,18 @@ module _ {R : Type 0} (f : Semantics R) (c : Config) (items : List Msg) (is : Is
     quiet : (i k : ℕ) → i < n → k < n → (i == 0) && (k == 0) ≡ false → j.world.link i k ≡ []
     quiet i k hi hk off = j.links i k hi hk off ∙ ap (filter_map (shown f g)) (done_waiting node_ended w done (at k i))
 
-    there : (i : ℕ) → nat_lt i (length c.names) ≡ true → instance_node i < n
-    there i e = let few = (Decides-ltb i (length c.names)).0 e in omega (arith, few, count)
-
-    -- both sides of an open move are among the nodes
-    sides : (k : ℕ) (e : Open R) → find_op j.world.ops k ≡ Some e → (e.op.src < n) × (e.op.dst < n)
-    sides k e found = by_got (finite.get j.nodes.controller.operations k) refl (subst (λ o. Sees f (place g) o (but_shares (finite.get j.nodes.controller.operations k)) (stored j.nodes.controller.store k)) found (j.shown_is.controller.opens k).move)
-      where
-        by_got : (o : Option Operation) → finite.get j.nodes.controller.operations k ≡ o → Sees f (place g) (Some e) (but_shares o) (stored j.nodes.controller.store k) → (e.op.src < n) × (e.op.dst < n)
-        by_got None is h = absurd h
-        by_got (Some (Copy y)) is h = absurd h
-        by_got (Some (Share s)) is h = absurd h
-        by_got (Some (Move m)) is h =
-            let move = j.shown_is.controller.moves k m is in
-            (subst (λ o. o.src < n) (sym h.op) (there m.plan.from move.from), subst (λ o. o.dst < n) (sym h.op) (there m.plan.to move.to))
-
-    -- and so are the members of an open share
-    sharing : (e : Open_share) → find_share j.world.shares e.num ≡ Some e → (k : ℕ) → has e.members k ≡ true → (2 ≤ k) × (k < n)
-    sharing e found k inside = by_got (finite.get j.nodes.controller.operations e.num) refl (subst (λ o. SeesOne f (place g) g.site o (share_in (finite.get j.nodes.controller.operations e.num)) (stored j.nodes.controller.store e.num)) found (j.shown_is.controller.opens e.num).share)
-      where
-        by_got : (o : Option Operation) → finite.get j.nodes.controller.operations e.num ≡ o → SeesOne f (place g) g.site (Some e) (share_in o) (stored j.nodes.controller.store e.num) → (2 ≤ k) × (k < n)
-        by_got None is h = absurd h
-        by_got (Some (Copy y)) is h = absurd h
-        by_got (Some (Move m)) is h = absurd h
-        by_got (Some (Share s)) is h = members_there n (length c.names) count s.plan.members (j.shown_is.controller.shared e.num s is).few k (subst (λ ms. has ms k ≡ true) (ap (λ x. x.members) h.is) inside)
+    -- the home of an open share is an instance
+    home_two : (e : Open_share) → find_share j.world.shares e.num ≡ Some e → 2 ≤ e.home
+    home_two e found =
+        let r = real_share f (place g) g.site j.world.ops j.world.shares j.nodes.controller e.num e j.shown_is.controller.opens found in
+        let at = ap (λ x. x.home) r.sees.is in
+        omega (arith, at)
 
     module _ (u : units.Unit) where
       -- what was processed of the unit is all that came, and its record is at an instance
       record Ended : Type 0 where
         flag : Bool
-        order : Order flag (went f c items u w.log) (came f c items u w.log)
+        order : stages.Order flag (went f c items u w.log) (came f c items u w.log)
         flag_is : flag ≡ true → is_loose c items u w.log ≡ true
         place : (r : R) → fold f c items None (went f c items u w.log) ≡ Some r → (i : ℕ) × (live_at w i u ≡ Some r)
 
@@ -173,7 +140,7 @@ module _ {R : Type 0} (f : Semantics R) (c : Config) (items : List Msg) (is : Is
         where
           by_target : (t : Target) → j.world.target u ≡ target_node t → is_there j.nodes.switch t ≡ true → j.world.target u < n
           by_target target.Controller at inside = absurd (omega (arith, two, at))
-          by_target (target.Instance i) at inside = subst (λ k. k < n) (sym at) (there i (subst (λ k. nat_lt i k ≡ true) j.shown_is.switch.instances inside))
+          by_target (target.Instance i) at inside = subst (λ k. k < n) (sym at) (there f c items is n count w nodes j i (subst (λ k. nat_lt i k ≡ true) j.shown_is.switch.instances inside))
 
       -- a unit that no share has
       module _ (e : At_end (S f g) laws_of u n (moves_of (S f g) (A f g) j.world) (came f c items u w.log) (is_loose c items u w.log)) where
@@ -208,16 +175,15 @@ module _ {R : Type 0} (f : Semantics R) (c : Config) (items : List Msg) (is : Is
       -- a unit of a share
       share_ended : (e : Open_share) → Share_rests (S f g) (A f g) laws_of u n j.world (came_by f g w.log u) e → Ended
       share_ended e s =
-          let home = sharing e s.its.found e.home s.its.home_in in
           record {
             flag = s.flag;
             order = order_same s.flag (done_u (S f g) u j.world.done) (went f c items u w.log) (came f c items u w.log) done_is s.order;
             flag_is = s.flag_is;
-            place = λ r h. live_there e.home home.0 home.1 (Some r) (s.live ∙ folds r h);
+            place = λ r h. live_there e.home (home_two e s.its.found) (members_few f c items is n count w j e s.its.found e.home s.its.home_in) (Some r) (s.live ∙ folds r h);
           }
 
       ended : Ended
-      ended = by_end (end_all (S f g) (A f g) laws_of u n j.world (omega (arith, count)) quiet sides (λ e found k inside. (sharing e found k inside).1) (came_by f g w.log u) (j.shown_is.every.unit u))
+      ended = by_end (end_all (S f g) (A f g) laws_of u n j.world (omega (arith, count)) quiet (sides f c items is n count w nodes j) (members_few f c items is n count w j) (came_by f g w.log u) (j.shown_is.every.unit u))
         where
           by_end : Ends_all (S f g) (A f g) laws_of u n j.world (came_by f g w.log u) → Ended
           by_end (As_moves e) = moves_ended e

@@ -24,6 +24,7 @@ use Rattle.net_world.specs.Start.{started}
 use Rattle.nf_net.specs.Promises.{Verdicts}
 use Rattle.net_world.specs.Window.{AllHome}
 use Rattle.answer_net.proofs.ArrivalLemmas.{arrivals_run}
+use Rattle.nf_net.proofs.AtMembers.{at_members}
 use Rattle.nf_net.proofs.ChunkMoves.{chunks_moved}
 use Rattle.nf_net.proofs.CompleteRuns.{complete_run}
 use Rattle.nf_net.proofs.OutputSteps.{outputs_run}
@@ -31,9 +32,10 @@ use Rattle.path_net.proofs.RecordPromises.{one_place}
 use Rattle.answer_net.proofs.CommandPromises.{run_answers, no_rules}
 use Rattle.nf_net.proofs.JudgedRuns.{verdicts}
 use Rattle.answer_net.proofs.MovesUnderWay.{moves_under_way}
+use Rattle.path_net.proofs.DivertedRuns.{run_diverted}
 use Rattle.path_net.proofs.PathPromises.{in_place, each_in_place, came_once}
 use Rattle.nf_net.proofs.PlaceRuns.{places}
-use Rattle.nf_net.proofs.RecordStands.{record_stands}
+use Rattle.nf_net.proofs.RecordStands.{records_stand}
 use Rattle.nf_net.proofs.SettleRuns.{settles}
 use Rattle.nf_net.proofs.SourceRuns.{stays_at_source}
 use Rattle.nf_net.proofs.StandbyRuns.{standbys}
@@ -52,13 +54,14 @@ module _ (F : Type 0) {R : Type 0} (f : Semantics R) (laws : FunctionLaws f) (al
       let reached = run_world node_ready (node_step f) (length c.names + 2) (started {F = F} {R = R} alloc c items) (start_world F f laws alloc c items is) (count_at_start F f alloc c items is) cs runs in
       let counted = reached.1 in
       let turn = arrivals_run F f laws alloc c items is cs runs in
+      let told = run_diverted F f laws alloc c items is cs runs in
       record {
         in_turn = turn;
         in_order = in_order f c items is (length c.names + 2) w j;
         once = once f c items is (length c.names + 2) w j;
-        in_place = in_place f c items is (length c.names + 2) refl w counted j reached.0 turn;
+        in_place = in_place f c items is (length c.names + 2) refl w counted j reached.0 turn told;
         came_once = came_once f c items is w turn;
-        each_in_place = each_in_place f c items is (length c.names + 2) refl w counted j reached.0 turn;
+        each_in_place = each_in_place f c items is (length c.names + 2) refl w counted j reached.0 turn told;
         outputs_are = outputs_run F f laws alloc c items is cs runs;
         places = places F f laws alloc c items is cs runs;
         at_members = at_members F f laws alloc c items is cs runs;
@@ -68,8 +71,8 @@ module _ (F : Type 0) {R : Type 0} (f : Semantics R) (laws : FunctionLaws f) (al
         at_source = stays_at_source F f laws alloc c items is cs runs;
         window = window_kept F f laws alloc c items is cs runs;
         one_record = λ u i k r s. one_place f c items is (length c.names + 2) w counted j u i k r s;
-        record_stands = record_stands f c items is (length c.names + 2) refl w counted j reached.0 turn;
-        chunks_moved = chunks_moved f laws c items is (length c.names + 2) refl w counted j reached.0 (moves_under_way F f laws alloc c items is cs runs j);
+        record_stands = records_stand F f laws alloc c items is cs runs;
+        chunks_moved = chunks_moved f c items is (length c.names + 2) refl w counted j reached.0 (moves_under_way F f laws alloc c items is cs runs j);
       }
 
   pub every_end : IsRun node_ready (node_step f) cs (started {F = F} {R = R} alloc c items) → is_done node_ended w ≡ true → Completed f c items w

@@ -1,7 +1,6 @@
 -- What the log of every run says of shares: the home of the share that has a unit owns it for good; and a share that the switch installs has begun,
 -- and isn't answered before, if its home owns a unit that it takes.
-use Rattle.std.proofs.Common.{◌≡◌, ℕ, zero, suc, ◌+◌, ◌≤◌, Bool, true, false, Option, Some, None, List, [], ◌∷◌, ◌++◌, length, append-nil, refl, sym, ap, ◌∙◌, subst, arith}
-use Rattle.std.specs.Prelude.{if◌then◌else◌, ◌&&◌, ◌||◌, ◌==◌}
+use Rattle.std.proofs.Common.{◌≡◌, ℕ, zero, suc, ◌+◌, ◌≤◌, true, false, Option, Some, None, List, [], ◌∷◌, ◌++◌, length, append-nil, refl, sym, ap, ◌∙◌, subst, arith}
 use Rattle.std.specs.Option.{option_or}
 use Rattle.std.specs.declared.alloc.Global.{Global}
 use Rattle.flow_filter.specs.declared.filter.Filter.{Filter}
@@ -9,14 +8,12 @@ use Rattle.nf_function.specs.declared.unit.Unit as units
 use Rattle.nf_function.specs.Records.{Laws as FunctionLaws}
 use Rattle.nf_function.specs.Semantics.{Semantics}
 use Rattle.nf_function.specs.Units.{takes}
-use Rattle.nf_msgs.specs.declared.command.Order.{Order}
 use Rattle.nf_msgs.specs.declared.command.Order.TheVariants as order
 use Rattle.nf_msgs.specs.declared.msg.Msg.{Msg}
 use Rattle.nf_msgs.specs.declared.note.Note.{Note}
 use Rattle.nf_msgs.specs.declared.note.Note.TheVariants as note
 use Rattle.nf_msgs.specs.Nodes.{instance_node}
 use Rattle.switch_node.specs.Switch.{switch_step}
-use Rattle.switch_rules.specs.declared.target.Target.TheVariants as target
 use Rattle.ctrl_node.specs.declared.operation.Operation.TheVariants.{Share}
 use Rattle.ctrl_node.specs.Controller.{controller_step}
 use Rattle.actor_net.specs.declared.choice.Choice.{Choice}
@@ -29,7 +26,7 @@ use Rattle.abstract_net.proofs.Net as net
 use Rattle.abstract_net.proofs.Elsewhere.{where_two}
 use Rattle.abstract_net.proofs.GlobalAll.{Of_share}
 use Rattle.abstract_net.proofs.NewMessages.{new_head}
-use Rattle.abstract_net.proofs.Shares.{Any, Old, New, S_install, moves_of}
+use Rattle.abstract_net.proofs.Shares.{Any, Old, S_install, moves_of}
 use Rattle.abstract_net.proofs.UnderStarts.{seeing}
 use Rattle.whole_net.proofs.UnderMoves.{no_change}
 use Rattle.whole_net.proofs.WhereAll.{Where_all, Apart_from_shares, Under_share}
@@ -44,9 +41,9 @@ use Rattle.outline_net.proofs.FiltersApart.{is_whole, unit_fits, takes_whole, ta
 use Rattle.outline_net.proofs.Outline.{is_sys}
 use Rattle.whole_outline.proofs.OpenShares.{real_share}
 use Rattle.whole_joined.proofs.BesideRuns.{its_takes, its_taken}
-use Rattle.whole_joined.proofs.Given.{Given, place, IsInstall, IsDivert}
+use Rattle.whole_joined.proofs.Given.{Given, place}
 use Rattle.whole_joined.proofs.HandedUnits.{owner_next}
-use Rattle.whole_joined.proofs.Joined.{S, A, Joined, Scene, IsTaken, node_of}
+use Rattle.whole_joined.proofs.Joined.{S, A, Joined, came_by, Scene, IsTaken, node_of}
 use Rattle.whole_joined.proofs.JoinedSteps.{scene}
 use Rattle.whole_joined.proofs.NodeSteps.{Wants, node_leads}
 use Rattle.whole_joined.proofs.OperationsApart.{AllApart}
@@ -139,10 +136,10 @@ module _ {F R : Type 0} (f : Semantics R) (c : Config) (items : List Msg) (is : 
   not_moved : (u : units.Unit) → unit_fits f.kind u ≡ true → (ms : List (List ℕ)) → members c items u w.log ≡ Some ms → (k : ℕ) (filter : Filter) (from dst : ℕ) (rest : List (Any R)) → is_whole f.kind filter ≡ true → j.world.link 1 0 ≡ Old (net.Mv filter (real.M_install k from dst)) ∷ rest → takes filter u ≡ false
   not_moved u fits ms e k filter from dst rest whole waits = sym (takes_same f.kind filter u whole fits) ∙ by_where (j.shown_is.every.unit u)
     where
-      by_where : Where_all (S f g) (A f g) (is_sys f g.site g.packet) u j.world _ → takes_whole f.kind filter u ≡ false
+      by_where : Where_all (S f g) (A f g) (is_sys f g.site g.packet) u j.world (came_by f g w.log u) → takes_whole f.kind filter u ≡ false
       by_where (Apart_from_shares q none) =
           let two = where_two (S f g) (is_sys f g.site g.packet) u (moves_of (S f g) (A f g) j.world) _ _ q.is in
-          let one = members_go f c items is n count_is w j apart b u fits ms e in
+          let one = members_go f c items is n w j u fits ms e in
           absurd (omega (arith, two, one))
       by_where (Under_share x before d q o m) = no_change (S f g) (A f g) (seeing (S f g) (A f g) u x) j.world before _ q k from dst filter rest waits
 
@@ -193,8 +190,8 @@ module _ {F R : Type 0} (f : Semantics R) (c : Config) (items : List Msg) (is : 
             open_began f g n count_is w j b k (Share s.s) s.there
 
 module _ (F : Type 0) {R : Type 0} (f : Semantics R) (laws : FunctionLaws f) (alloc : Global) (c : Config) (items : List Msg) (is : IsInput f.kind c items) where
-  abbrev g : Given
-  g = given f c items is
+  abbrev gr : Given
+  gr = given f c items is
 
   abbrev n : ℕ
   n = count F f laws alloc c items is
@@ -202,14 +199,14 @@ module _ (F : Type 0) {R : Type 0} (f : Semantics R) (laws : FunctionLaws f) (al
   abbrev first : Network (Node F R) Msg Note
   first = start F f laws alloc c items is
 
-  module _ (w : Network (Node F R) Msg Note) (r : Runs F f laws alloc c items is w) (b : Busy g w) (i : Installs g w) (h : SaysOfShares f c items w.log) where
-    step_says : (k p : ℕ) (m : Msg) → IsTaken f g n (scene f g n refl (Wants f g) (node_leads f laws g (all_fit f c items is) n) w r.joined) (record { node = k; port = p; message = m }) → SaysOfShares f c items (w.log ++ (node_step f (node_of r.joined.nodes k) p m).notes)
-    step_says zero p m it = says_after f c items is n refl w r.joined r.beside.kept.apart b i h p m it (changed f g n _ r.joined.shown_is p m it)
+  module _ (w : Network (Node F R) Msg Note) (r : Runs F f laws alloc c items is w) (b : Busy gr w) (i : Installs gr w) (h : SaysOfShares f c items w.log) where
+    step_says : (k p : ℕ) (m : Msg) → IsTaken f gr n (scene f gr n refl (Wants f gr) (node_leads f laws gr (all_fit f c items is) n) w r.joined) (record { node = k; port = p; message = m }) → SaysOfShares f c items (w.log ++ (node_step f (node_of r.joined.nodes k) p m).notes)
+    step_says zero p m it = says_after f c items is n refl w r.joined r.beside.kept.apart b i h p m it (changed f gr n _ r.joined.shown_is p m it)
     step_says (suc zero) p m it = quiet_says f c items w.log (controller_step r.joined.nodes.controller p m).notes (installed_none _ (controller_uninstalled r.joined.nodes.controller p m)) h
     step_says (suc (suc y)) p m it = quiet_says f c items w.log (node_step f (node_of r.joined.nodes (suc (suc y))) p m).notes (installed_quiet (r.joined.nodes.instance (suc (suc y))).index _ (instance_quiet f (r.joined.nodes.instance (suc (suc y))) m)) h
 
     next_says : (d : Choice) → Taking node_ready (node_step f) n w d → SaysOfShares f c items (taken (node_step f) w d).log
-    next_says d t = subst (SaysOfShares f c items) (sym (taken_outcome (node_step f) n w d.node d.port (node_of r.joined.nodes d.node) t.message t.rest (its_takes f laws g (all_fit f c items is) n refl w d t r.joined r.beside)).log) (step_says d.node d.port t.message (its_taken f laws g (all_fit f c items is) n refl w d t r.joined r.beside))
+    next_says d t = subst (SaysOfShares f c items) (sym (taken_outcome (node_step f) n w d.node d.port (node_of r.joined.nodes d.node) t.message t.rest (its_takes f laws gr (all_fit f c items is) n refl w d t r.joined r.beside)).log) (step_says d.node d.port t.message (its_taken f laws gr (all_fit f c items is) n refl w d t r.joined r.beside))
 
   says_at_start : SaysOfShares f c items []
   says_at_start = record {

@@ -1,5 +1,5 @@
 -- The controller's step keeps what is known of open moves and of their answers, asks once for a command's state, and puts one piece of it first.
-use Rattle.std.proofs.Common.{◌≡◌, ◌≢◌, ℕ, ◌+◌, ◌≤◌, Bool, true, false, cond, Option, Some, None, List, [], ◌∷◌, ◌++◌, refl, sym, ap, ◌∙◌, subst, arith}
+use Rattle.std.proofs.Common.{◌≡◌, ℕ, ◌+◌, ◌≤◌, Bool, true, false, cond, Option, Some, None, List, [], ◌∷◌, ◌++◌, refl, sym, ap, ◌∙◌, subst, arith}
 use Rattle.std.specs.Prelude.{if◌then◌else◌, ◌==◌, is_some, option_map, unwrap_or}
 use Rattle.std.specs.List.{filter_map}
 use Rattle.std.specs.Option.{option_or}
@@ -187,22 +187,22 @@ module _ (Part : ℕ → Piece → Type 0) (Verdict : ℕ → Answer → Type 0)
             gone k = got_remove (finite.insert c.operations op (Move x)) op k ∙ ap (λ o. cond (k == op) None o) (got_insert c.operations op k (Move x)) ∙ gone_twice (k == op) (Some (Move x)) (finite.get c.operations k)
 
       turn_is : (op port : ℕ) (m : Msg) (o : Option Operation) → finite.get c.operations op ≡ o → NotShared o → op_of m ≡ Some op → Said Part Verdict Goes port 1 m → StepIs (takes_turn c op (turn_of o c.store port m))
-      turn_is op port m (Some (Share s)) is no own label = absurd no
-      turn_is op port m None is no own label = quiet_is (record c { operations = c.operations; store = c.store }) [] refl tt (λ first k. refl)
-      turn_is op port m (Some (Copy y)) is no own label = tables.copy_is Part Verdict Goes Still log n c knows op y is (copies op y is).1 (busy op (Copy y) is) m _ (copy_turn c op y (copies op y is).0 is port m)
-      turn_is op port m (Some (Move mv)) is no own label = turn_by op port m mv is own label (answer_of (row_in mv c.store port m).next.phase) refl
+      turn_is op port m (Some (Share s)) is no_share own label = absurd no_share
+      turn_is op port m None is no_share own label = quiet_is (record c { operations = c.operations; store = c.store }) [] refl tt (λ first k. refl)
+      turn_is op port m (Some (Copy y)) is no_share own label = tables.copy_is Part Verdict Goes Still log n c knows op y is (copies op y is).1 (busy op (Copy y) is) m _ (copy_turn c op y (copies op y is).0 is port m)
+      turn_is op port m (Some (Move mv)) is no_share own label = turn_by op port m mv is own label (answer_of (row_in mv c.store port m).next.phase) refl
 
       handed_is : (op port : ℕ) (m : Msg) → op_of m ≡ Some op → Said Part Verdict Goes port 1 m → StepIs (handed c op port m)
       handed_is op port m own label = by_got (finite.get c.operations op) refl
         where
+          other : NotShared (finite.get c.operations op) → StepIs (handed c op port m)
+          other no_share = subst StepIs (sym (handed_turn c op port m no_share)) (turn_is op port m (finite.get c.operations op) refl no_share own label)
+
           by_got : (o : Option Operation) → finite.get c.operations op ≡ o → StepIs (handed c op port m)
           by_got (Some (Share s)) is = let it = shares op s is in handed_shared Part Verdict Goes Still log n c knows op s is it.1 (busy op (Share s) is) it.0 port m
           by_got None is = other (subst NotShared (sym is) tt)
           by_got (Some (Move mv)) is = other (subst NotShared (sym is) tt)
           by_got (Some (Copy y)) is = other (subst NotShared (sym is) tt)
-
-          other : NotShared (finite.get c.operations op) → StepIs (handed c op port m)
-          other no = subst StepIs (sym (handed_turn c op port m no)) (turn_is op port m (finite.get c.operations op) refl no own label)
 
       diverted_is : (cell : FullCell) → StepIs (on_diverted c cell)
       diverted_is cell = by_queues (on_diverted c cell) (queues c cell)

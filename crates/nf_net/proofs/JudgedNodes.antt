@@ -1,6 +1,6 @@
 -- Each node's step keeps what is known of moves: an instance weighs the first piece that comes, by what it holds and by what the piece says.
 use Rattle.std.proofs.Common.{◌≡◌, ℕ, zero, suc, ◌+◌, ◌-◌, ◌<◌, ◌≤◌, Bool, true, false, Some, None, List, [], ◌∷◌, ◌++◌, length, get_or, append-nil, refl, sym, ap, ◌∙◌, subst, arith}
-use Rattle.std.specs.Prelude.{if◌then◌else◌, ◌&&◌, ◌||◌, ◌==◌, not, nat_lt, is_some, slice_get, slice_index, slice_index_or}
+use Rattle.std.specs.Prelude.{if◌then◌else◌, ◌&&◌, ◌||◌, ◌==◌, not, nat_lt, slice_get, slice_index, slice_index_or}
 use Rattle.std.specs.List.{list_any}
 use Rattle.std.specs.declared.alloc.Global.{Global}
 use Rattle.std.specs.FinMap as finite
@@ -31,7 +31,6 @@ use Rattle.move_op.specs.Move.{MoveState, destination}
 use Rattle.copy_share.specs.Copy.{CopyState}
 use Rattle.copy_share.specs.Copy as copy
 use Rattle.copy_share.specs.Share.{ShareState}
-use Rattle.ctrl_node.specs.declared.operation.Operation.{Operation}
 use Rattle.ctrl_node.specs.declared.operation.Operation.TheVariants.{Move, Copy, Share}
 use Rattle.ctrl_node.specs.Controller.{controller_step}
 use Rattle.switch_node.specs.Switch as switches
@@ -40,7 +39,7 @@ use Rattle.instance_worker.specs.declared.instance.Instance.{Instance as Instanc
 use Rattle.instance_worker.specs.Instance.{refusal, selected, on_stream, instance_step}
 use Rattle.instance_worker.specs.Pieces.{pieces, whole_of}
 use Rattle.actor_net.specs.declared.choice.Choice.{Choice}
-use Rattle.actor_net.specs.Network.{Network, Stepped, IsRun, is_input, run, taken}
+use Rattle.actor_net.specs.Network.{Network, Stepped, IsRun, run, taken}
 use Rattle.actor_net.proofs.EnabledChoices.{at}
 use Rattle.actor_net.proofs.RunInduction.{run_world}
 use Rattle.actor_net.proofs.StepOutcome.{Takes, taken_outcome}
@@ -52,8 +51,8 @@ use Rattle.net_world.specs.declared.node.Node.TheVariants.{Controller, Instance}
 use Rattle.net_world.specs.Commands.{began, has_answered}
 use Rattle.net_world.specs.Input.{IsInput}
 use Rattle.net_world.specs.Nodes.{node_step, node_ready}
-use Rattle.net_world.specs.Fold.{went, fold}
-use Rattle.net_world.specs.Records.{live_in, live_at}
+use Rattle.net_world.specs.Fold.{went}
+use Rattle.net_world.specs.Records.{live_in}
 use Rattle.net_world.specs.Verdicts.{before_export, is_timed, exported, number_in, receiver_of}
 use Rattle.answer_net.proofs.BusyLemmas.{or_off}
 use Rattle.answer_net.proofs.BusyNodes.{switch_hands, instance_says}
@@ -252,10 +251,12 @@ module _ (F : Type 0) {R : Type 0} (f : Semantics R) (laws : FunctionLaws f) (al
       i = j.nodes.instance k
 
       module _ (small : k < n) where
+        counted : length w.nodes ≡ n
+        counted = (run_world node_ready step n (steps.start F f alloc c items is) (start_world F f laws alloc c items is) (count_at_start F f alloc c items is) cs run_is).1
+
         there : slice_get w.nodes (instance_node y) ≡ Some (Instance i)
         there =
             let number : instance_node y ≡ k = omega arith in
-            let counted = (run_world node_ready step n (steps.start F f alloc c items is) (start_world F f laws alloc c items is) (count_at_start F f alloc c items is) cs run_is).1 in
             subst (λ z. slice_get w.nodes z ≡ Some (Instance i)) (sym number) (slice_get-get_or w.nodes k (Instance i) (rw counted small) ∙ ap Some (j.nodes_are k small (Instance i)))
 
         fixed_here : IsFixed F f alloc c items is y i
@@ -263,7 +264,7 @@ module _ (F : Type 0) {R : Type 0} (f : Semantics R) (laws : FunctionLaws f) (al
 
         -- whether a live record of a unit that is asked for has a time
         timed_is : (op : ℕ) (filter : Filter) → Takes step n w k p (Instance i) (msg.Stream op filter) rest → is_whole f.kind filter ≡ true → (u : units.Unit) (r : R) → filters.takes filter u ≡ true → finite.get i.table.live u ≡ Some r → f.is_timed r ≡ is_timed f c items u w.log
-        timed_is op filter takes whole u r on got = record_timed f laws c items (all_fit f c items is) (went f c items u w.log) r (streamed_record f c items is n w j k p (omega arith) small takes.sender op filter rest takes.waits whole u r on got)
+        timed_is op filter takes whole u r on got = record_timed f laws c items (all_fit f c items is) (went f c items u w.log) r (streamed_record f c items is n w j counted k p (omega arith) small takes.sender op filter rest takes.waits whole u y r on got (ap (live_in u) there ∙ got))
 
         part_of : (op : ℕ) (chunks : List Chunk) (log : List Note) → exported op log ≡ Some (units_in chunks) → before_export op log ≡ w.log → Gives f laws (λ u. is_timed f c items u w.log) chunks → (ps : List Piece) → Each (IsOf (whole_of chunks)) ps → Each (Part log op) ps
         part_of op chunks log units_are before gives [] each = tt

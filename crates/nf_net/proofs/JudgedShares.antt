@@ -7,21 +7,20 @@ use Rattle.std.proofs.lemmas.Bool.Decides.{Decides-eqb}
 use Rattle.event_store.specs.Store.{stored}
 use Rattle.packet_pool.specs.Pool.{FullCell}
 use Rattle.nf_msgs.specs.declared.answer.Answer.{Answer}
-use Rattle.nf_msgs.specs.declared.answer.Answer.TheVariants.{Done}
 use Rattle.nf_msgs.specs.declared.msg.Piece.{Piece}
 use Rattle.nf_msgs.specs.declared.msg.Msg.{Msg}
 use Rattle.nf_msgs.specs.declared.msg.Msg.TheVariants as msg
 use Rattle.nf_msgs.specs.declared.note.Note.{Note}
 use Rattle.copy_share.specs.Share.{ShareState, ShareRow, goes, row, served}
-use Rattle.ctrl_node.specs.declared.operation.Operation.TheVariants.{Move, Copy, Share}
-use Rattle.ctrl_node.specs.Controller.{ControllerState, Step, still, handed, queued, on_diverted}
+use Rattle.ctrl_node.specs.declared.operation.Operation.TheVariants.{Share}
+use Rattle.ctrl_node.specs.Controller.{ControllerState, Step, handed, queued}
 use Rattle.actor_net.proofs.WeightLaws.{EachSent, sent_weight}
 use Rattle.unit_machine.proofs.Labels.{Each}
 use Rattle.net_world.specs.Commands.{began, answers_of}
 use Rattle.whole_outline.proofs.ShareLeft.{OpenAt, answered, noted, next_share, ShareLeaves, handed_leaves, queued_leaves}
 use Rattle.answer_net.proofs.BusyLemmas.{began_same}
 use Rattle.answer_net.proofs.ControllerActs.{other_there}
-use Rattle.answer_net.proofs.ShareTells.{is_set_up, is_of_share, AreOfShare, Tells, ShareStep, handed_share, queued_share, Queues, Queues_none, Queues_at, queues}
+use Rattle.answer_net.proofs.ShareTells.{is_set_up, is_of_share, AreOfShare, Tells, ShareStep, handed_share, queued_share}
 use Rattle.answer_net.proofs.MoveOnce.{once}
 use Rattle.nf_net.proofs.JudgedTables as tables
 use Rattle.nf_net.proofs.JudgedTables.{used, is_own, By_still, same_answer}

@@ -1,5 +1,5 @@
 -- The members of the share that has a unit, by the commands that the switch has installed; and the place of a packet's member.
-use Rattle.std.proofs.Common.{◌≡◌, ℕ, zero, suc, ◌+◌, ◌<◌, ◌≤◌, Bool, true, false, Option, Some, None, List, [], ◌∷◌, ◌++◌, length, refl, sym, ap, ◌∙◌, subst, arith}
+use Rattle.std.proofs.Common.{◌≡◌, ℕ, zero, suc, ◌+◌, ◌<◌, Bool, true, false, Option, Some, None, List, [], ◌∷◌, ◌++◌, length, refl, sym, ap, ◌∙◌, subst, arith}
 use Rattle.std.specs.Prelude.{if◌then◌else◌, ◌&&◌, ◌||◌, ◌==◌, not, find, is_some, slice_index, slice_index_or}
 use Rattle.std.specs.List.{filter_map}
 use Rattle.std.specs.Option.{option_or}
@@ -101,9 +101,9 @@ module _ (g : Given) (u : units.Unit) where
     where
       by_first : (o : Option (List (List ℕ))) → sharing (g.orders op) i ≡ o → option_or o (members_by (handed_on g.names g.orders u (g.orders op) i) ops) ≡ Some ms → (members_by (handed_on g.names g.orders u (g.orders op) i) ops ≡ Some ms → IsSharedBy (handed_on g.names g.orders u (g.orders op) i) ops ms) → IsSharedBy i (op ∷ ops) ms
       by_first (Some these) at found rest = let same : these ≡ ms = cc in record { op = op; front = []; back = ops; whole = refl; its = shares_it (g.orders op) i ms (at ∙ ap Some same); unshared = refl }
-      by_first None at later rest =
+      by_first None is later rest =
           let r = rest later in
-          record { op = r.op; front = op ∷ r.front; back = r.back; whole = ap (λ v. op ∷ v) r.whole; its = r.its; unshared = rw at r.unshared }
+          record { op = r.op; front = op ∷ r.front; back = r.back; whole = ap (λ v. op ∷ v) r.whole; its = r.its; unshared = rw is r.unshared }
 
   -- it has these members wherever that command stands with the same before it
   pub still_shared : (i op : ℕ) (front back : List ℕ) (ms : List (List ℕ)) → members_by i front ≡ None → Shares_it (g.orders op) (owner_by i front) ms → members_by i (front ++ op ∷ back) ≡ Some ms
@@ -127,6 +127,9 @@ With_note n log front op = Installed_in log front op → Installed_in (n ∷ log
 behind_note : (n : Note) (log : List Note) (front : List ℕ) (op : ℕ) → ((xs : List Note) → installed (n ∷ xs) ≡ installed xs) → With_note n log front op
 behind_note n log front op same r = record { first = n ∷ r.first; rest = r.rest; whole = ap (λ v. n ∷ v) r.whole; before = same r.first ∙ r.before }
 
+behind_installed : (k x : ℕ) (log : List Note) (front : List ℕ) (op : ℕ) → k ≡ x → Installed_in log front op → Installed_in (note.Installed k ∷ log) (x ∷ front) op
+behind_installed k x log front op same r = record { first = note.Installed k ∷ r.first; rest = r.rest; whole = ap (λ v. note.Installed k ∷ v) r.whole; before = ap (λ v. k ∷ v) r.before ∙ ap (λ q. q ∷ front) same }
+
 pub installed_in : (log : List Note) (front : List ℕ) (op : ℕ) (back : List ℕ) → installed log ≡ front ++ op ∷ back → Installed_in log front op
 installed_in [] [] op back e = cc
 installed_in [] (x ∷ front) op back e = cc
@@ -134,8 +137,7 @@ installed_in (note.Installed k ∷ log) [] op back e = let same : k ≡ op = cc 
 installed_in (note.Installed k ∷ log) (x ∷ front) op back e =
     let same : k ≡ x = cc in
     let tail : installed log ≡ front ++ op ∷ back = cc in
-    let r = installed_in log front op back tail in
-    record { first = note.Installed k ∷ r.first; rest = r.rest; whole = ap (λ v. note.Installed k ∷ v) r.whole; before = ap (λ v. k ∷ v) r.before ∙ ap (λ q. q ∷ front) same }
+    behind_installed k x log front op same (installed_in log front op back tail)
 installed_in (note.Arrived number ∷ log) front op back e = behind_note (note.Arrived number) log front op (λ xs. refl) (installed_in log front op back e)
 installed_in (note.Processed number instance output ∷ log) front op back e = behind_note (note.Processed number instance output) log front op (λ xs. refl) (installed_in log front op back e)
 installed_in (note.Begun k ∷ log) front op back e = behind_note (note.Begun k) log front op (λ xs. refl) (installed_in log front op back e)
@@ -157,7 +159,7 @@ module _ (names : List (List ℕ)) where
   instances these = filter_map (place_of names) these
 
   first_instance : (name : List ℕ) (others : List (List ℕ)) (k : ℕ) → place_of names name ≡ Some k → instances (name ∷ others) ≡ k ∷ instances others
-  first_instance name others k at = rw at refl
+  first_instance name others k is = rw is refl
 
   -- the home is the first
   pub home_first : (orders : ℕ → Option Order) (these : List (List ℕ)) (i : ℕ) → is_home names orders these i ≡ true → slice_index (instances these) 0 ≡ i
@@ -174,9 +176,9 @@ module _ (names : List (List ℕ)) where
 
   pub member_at : (these : List (List ℕ)) → unknown these ≡ None → (i : ℕ) → i < length these → place_of names (slice_index_or these i []) ≡ Some (slice_index (instances these) i)
   member_at [] e i low = absurd (omega (arith, low))
-  member_at (name ∷ others) e i low = by_place (place_of names name) refl e i low
+  member_at (name ∷ others) e i low = by_place (place_of names name) refl e (λ rest k less. member_at others rest k less) i low
     where
-      by_place : (o : Option ℕ) → place_of names name ≡ o → (if not (is_some o) then Some name else unknown others) ≡ None → (k : ℕ) → k < length (name ∷ others) → place_of names (slice_index_or (name ∷ others) k []) ≡ Some (slice_index (instances (name ∷ others)) k)
-      by_place None at never k less = cc
-      by_place (Some x) at rest zero less = at ∙ ap (λ v. Some (slice_index v 0)) (sym (first_instance name others x at))
-      by_place (Some x) at rest (suc k) less = member_at others rest k (omega (arith, less)) ∙ ap (λ v. Some (slice_index v (suc k))) (sym (first_instance name others x at))
+      by_place : (o : Option ℕ) → place_of names name ≡ o → (if not (is_some o) then Some name else unknown others) ≡ None → (unknown others ≡ None → (k : ℕ) → k < length others → place_of names (slice_index_or others k []) ≡ Some (slice_index (instances others) k)) → (k : ℕ) → k < length (name ∷ others) → place_of names (slice_index_or (name ∷ others) k []) ≡ Some (slice_index (instances (name ∷ others)) k)
+      by_place None at never again k less = cc
+      by_place (Some x) at rest again zero less = at ∙ ap (λ v. Some (slice_index v 0)) (sym (first_instance name others x at))
+      by_place (Some x) at rest again (suc k) less = again rest k (omega (arith, less)) ∙ ap (λ v. Some (slice_index v (suc k))) (sym (first_instance name others x at))

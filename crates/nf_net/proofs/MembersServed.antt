@@ -1,19 +1,18 @@
 -- Where one packet of a unit that a share has is processed: at its member, if it came while the unit's packets were diverted, and else at home.
-use Rattle.std.proofs.Common.{◌≡◌, ◌≢◌, ℕ, suc, ◌+◌, ◌≤◌, Bool, true, false, cond, Option, Some, None, List, [], ◌∷◌, ◌++◌, map, ◌⊎◌, inl, inr, refl, sym, ap, ◌∙◌, subst, arith}
+use Rattle.std.proofs.Common.{◌≡◌, ◌≢◌, ℕ, ◌+◌, ◌≤◌, Bool, true, false, cond, Option, Some, None, List, [], ◌∷◌, ◌++◌, map, ◌⊎◌, inl, inr, refl, sym, ap, ◌∙◌, subst, arith}
 use Rattle.std.specs.Prelude.{if◌then◌else◌, ◌&&◌, ◌==◌}
 use Rattle.std.proofs.lemmas.Bool.Decides.{nat_tests, Decides-eqb}
 use Rattle.unit_machine.proofs.Real.{add}
 use Rattle.unit_machine.proofs.Stages.{times, Order}
 use Rattle.unit_machine.proofs.Loose.{times-append}
 use Rattle.unit_machine.proofs.Ends.{same_of}
-use Rattle.share_machine.proofs.Share.{Ran, Item, Item.Carry, Frame, has, only}
-use Rattle.share_machine.proofs.Stages.{Stage, Stage.Diverting, Stage.Fence_goes, Stage.Fenced_comes, Stage.Get_goes, Stage.Chunks_come, Stage.Spreads, Stage.Resting, Stage.Forwards, Stage.Carries, Stage.Chunk_comes, packets, served, processed, early, late, shape}
+use Rattle.share_machine.proofs.Share.{Ran, Item, Item.Carry, Frame}
+use Rattle.share_machine.proofs.Stages.{Stage, Stage.Diverting, Stage.Fence_goes, Stage.Fenced_comes, Stage.Get_goes, Stage.Chunks_come, Stage.Spreads, Stage.Resting, Stage.Forwards, Stage.Carries, Stage.Chunk_comes, packets, served, shape}
 use Rattle.share_machine.proofs.Order.{Parts, parts}
 use Rattle.share_machine.proofs.Heads.{to_members}
 use Rattle.share_machine.proofs.Places.{At_places}
-use Rattle.abstract_net.proofs.Net.{Msg, Sys, IsSys, inst_step, at_node}
+use Rattle.abstract_net.proofs.Net.{Sys, IsSys, at_node}
 use Rattle.abstract_net.proofs.Rest.{none_mine}
-use Rattle.abstract_net.proofs.Elsewhere.{where_two}
 use Rattle.abstract_net.proofs.Places.{May_process}
 use Rattle.abstract_net.proofs.GlobalAll.{Global_all}
 use Rattle.abstract_net.proofs.Untaken.{No_share, head_none}
@@ -26,7 +25,6 @@ use Rattle.abstract_net.proofs.UnderReadings.{all_done}
 use Rattle.abstract_net.proofs.Shares.{Any, Any.Old, Any.New, Share_msg, Share_msg.Shared_on, Share_msg.S_sync, olds, Sharing, IsSharing, Open_share, Want_share, member_step, Whole, moves_of, ran_of, Seeing_share}
 use Rattle.whole_net.proofs.WhereAll.{Came, Where_all, Apart_from_shares, Under_share}
 use Rattle.whole_net.proofs.Readings.{Its_share, its_share}
-use Rattle.whole_net.proofs.Fronts.{ran_more}
 use Rattle.whole_net.proofs.PlacesAll.{ran_by, Processes, As_moves, At_member, processes_all}
 use Rattle.whole_net.proofs.MovePlaces.{processed_where}
 use Rattle.nf_function.specs.declared.unit.Unit as units
@@ -44,7 +42,7 @@ module _ {R : Type 0} (f : Frame R) where
   served_at [] [] back p y e = cc
   served_at [] (x ∷ front) back p y e = cc
   served_at (q ∷ ps) [] back p y e =
-      let first : (q, f.member_of q) ≡ (p, y) = cc in
+      let first : ◌≡◌ {A = Ran} (q, f.member_of q) (p, y) = cc in
       let same : q ≡ p = ap (λ d. d.0) first in
       let at : f.member_of q ≡ y = ap (λ d. d.1) first in
       sym at ∙ ap f.member_of same
@@ -93,7 +91,7 @@ module _ {R : Type 0} (S : Sys R) (A : Sharing S) (laws : IsSys S) (u : units.Un
         | false ↦ r
       ]
 
-  mine_there : (q : ℕ) → same_unit (S.unit_of q) u ≡ true → (front back : List ℕ) → none_mine S u (front ++ q ∷ back) ≢ []
+  pub mine_there : (q : ℕ) → same_unit (S.unit_of q) u ≡ true → (front back : List ℕ) → none_mine S u (front ++ q ∷ back) ≢ []
   mine_there q mine [] back none = let some : q ∷ none_mine S u back ≡ [] = rw mine at none in cc
   mine_there q mine (p ∷ front) back none = elim (same_unit (S.unit_of p) u) as (λ b. (if b then p ∷ none_mine S u (front ++ q ∷ back) else none_mine S u (front ++ q ∷ back)) ≡ [] → ⊥) [
     | true ↦ λ never. cc

@@ -1,5 +1,5 @@
 -- The unit of the packet with any number is one that packets may have; and what an instance notes as processed is among what ran.
-use Rattle.std.proofs.Common.{◌≡◌, ℕ, Bool, true, false, Option, Some, None, List, [], ◌∷◌, ◌++◌, refl, ap, ◌∙◌}
+use Rattle.std.proofs.Common.{◌≡◌, ℕ, Bool, true, false, Option, Some, None, List, [], ◌∷◌, ◌++◌, refl, ap}
 use Rattle.std.specs.Prelude.{if◌then◌else◌, ◌&&◌, ◌==◌, not, find, unwrap_or}
 use Rattle.std.specs.List.{cons_option, filter_map}
 use Rattle.flow_filter.specs.declared.packet.Packet.{Packet}

@@ -1,14 +1,16 @@
 -- In a step of a run an instance processes packets at places of their units.
-use Rattle.std.proofs.Common.{◌≡◌, ◌≢◌, ℕ, suc, true, false, Option, Some, None, List, [], ◌∷◌, ◌++◌, refl, sym, ap, ◌∙◌, subst, arith}
-use Rattle.std.specs.Prelude.{◌&&◌, ◌==◌, is_some}
+use Rattle.std.proofs.Common.{◌≡◌, ℕ, suc, ◌+◌, ◌⊎◌, inl, inr, true, false, Option, Some, None, List, [], ◌∷◌, ◌++◌, length, refl, sym, ap, ◌∙◌, subst, arith}
+use Rattle.std.specs.Prelude.{◌&&◌, ◌==◌}
 use Rattle.std.specs.List.{filter_map}
+use Rattle.std.specs.Option.{option_map_or}
 use Rattle.std.specs.FinMap as finite
 use Rattle.std.proofs.lemmas.Bool.Decides.{nat_tests}
 use Rattle.nf_function.specs.Records.{Laws as FunctionLaws}
-use Rattle.nf_function.specs.Semantics.{Semantics, unit_at}
+use Rattle.nf_function.specs.Semantics.{Semantics}
 use Rattle.nf_function.specs.Units.{takes}
 use Rattle.nf_function.specs.declared.output.Output.{Output}
 use Rattle.nf_function.specs.declared.unit.Unit as units
+use Rattle.record_table.proofs.UnitOrder.{same_unit_equiv}
 use Rattle.nf_msgs.specs.declared.msg.Msg.{Msg}
 use Rattle.nf_msgs.specs.declared.note.Note.{Note}
 use Rattle.nf_msgs.specs.declared.note.Note.TheVariants as note
@@ -23,33 +25,39 @@ use Rattle.instance_worker.specs.Instance.{instance_step}
 use Rattle.actor_net.specs.Network.{Network, waiting}
 use Rattle.actor_net.proofs.EnabledChoices.{at as at_node}
 use Rattle.unit_machine.proofs.Labels.{Each}
-use Rattle.abstract_net.proofs.Net.{Open, find_op, inst_step}
-use Rattle.abstract_net.proofs.Rest.{none_mine}
-use Rattle.abstract_net.proofs.Places.{May_process, At_target, At_source, At_destination, processed_at}
+use Rattle.abstract_net.proofs.Net.{Open, find_op}
+use Rattle.abstract_net.proofs.Places.{May_process, At_target, At_source, At_destination}
+use Rattle.abstract_net.proofs.Shares.{Any, Old, New, Open_share, moves_of}
+use Rattle.whole_net.proofs.PlacesAll.{ran_by}
+use Rattle.whole_net.proofs.Readings.{Its_share}
 use Rattle.net_world.specs.declared.config.Config.{Config}
 use Rattle.net_world.specs.declared.node.Node.{Node}
 use Rattle.net_world.specs.Input.{packet_of, IsInput}
-use Rattle.net_world.specs.Commands.{is_busy}
-use Rattle.net_world.specs.Places.{owner, IsMoving, IsPlace, Owns, Is_source, Is_destination}
+use Rattle.net_world.specs.Places.{owner, members, member_for, unit_numbered, IsMoving, IsPlace, Owns, Is_source, Is_destination, Is_member}
 use Rattle.outline_net.proofs.FiltersApart.{is_whole, unit_fits, takes_whole, and_r}
-use Rattle.outline_net.proofs.Outline.{ran_in, is_sys}
+use Rattle.outline_net.proofs.Outline.{ran_in, is_sys, outline_instance}
 use Rattle.outline_net.proofs.ControlOutline.{Sees}
-use Rattle.joined_net.proofs.StartJoined.{given}
-use Rattle.joined_net.proofs.PlaceNotes.{IsQuiet, instance_quiet}
-use Rattle.joined_net.proofs.OwnerLemmas.{each_there, each_front, place_quiet}
-use Rattle.joined_net.proofs.RunUnits.{Ran_as, Seen, Unseen, ran_as, some_mine, units_fit}
+use Rattle.whole_outline.proofs.OpenShares.{but_shares}
+use Rattle.whole_outline.proofs.WholeOutline.{is_sharing}
+use Rattle.whole_joined.proofs.Given.{Given, place}
+use Rattle.whole_joined.proofs.Joined.{S, A, Scene, IsTaken, IsInstanceAt, Joined, came_by}
+use Rattle.whole_joined.proofs.OperationsApart.{AllApart}
+use Rattle.whole_joined.proofs.OwnerLemmas.{each_there, each_front, place_quiet}
+use Rattle.whole_joined.proofs.PlaceNotes.{IsQuiet, instance_quiet}
+use Rattle.whole_joined.proofs.RunUnits.{Ran_as, Seen, Unseen, ran_as, ran_any}
+use Rattle.whole_joined.proofs.StartJoined.{given, all_fit}
+use Rattle.answer_net.proofs.BusyRuns.{Busy}
+use Rattle.answer_net.proofs.InstallRuns.{Installs}
 use Rattle.answer_net.proofs.MovesUnderWay.{AreUnderWay}
-use Rattle.joined_net.proofs.Joined.{Given, S, place, Scene, IsTaken, IsInstanceAt, Joined}
+use Rattle.nf_net.proofs.InstalledShares.{SaysOfShares}
+use Rattle.nf_net.proofs.MemberLemmas.{IsThere, There}
+use Rattle.nf_net.proofs.MembersServed.{Processes_one, By_move, By_home, By_member, processes_one}
+use Rattle.nf_net.proofs.NumberedUnits.{units_fit, Ran_there, ran_there}
+use Rattle.nf_net.proofs.UnitShares.{share_of_unit, home_is, member_is, diverted_members, owner_goes}
 
 module _ {F R : Type 0} (f : Semantics R) (laws : FunctionLaws f) (c : Config) (items : List Msg) (is : IsInput f.kind c items) (n : ℕ) (w : Network (Node F R) Msg Note) (j : Joined f (given f c items is) n w) (busy : AreUnderWay f c items is n w j) where
-  abbrev g : Given
-  g = given f c items is
-
-  abbrev scene : Scene F f g
-  scene = record { nodes = j.nodes; world = j.world; log = w.log; input = waiting w (at_node 0 0) }
-
-  node_same : (a b k : ℕ) → instance_node a ≡ k → k ≡ instance_node b → a ≡ b
-  node_same a b k x y = omega (arith, x, y)
+  abbrev gm : Given
+  gm = given f c items is
 
   module _ (u : units.Unit) where
     -- an open move of the unit between two instances, as one that is under way
@@ -64,10 +72,10 @@ module _ {F R : Type 0} (f : Semantics R) (laws : FunctionLaws f) (c : Config) (
       src : e.op.src ≡ instance_node from
       dst : e.op.dst ≡ instance_node to
 
-    under_way : (k : ℕ) (e : Open R) (o : Option Operation) (events : List FullCell) → finite.get j.nodes.controller.operations k ≡ o → Sees f (place g) (Some e) o events → takes_whole f.kind e.filter u ≡ true → IsUnderWay e
+    under_way : (k : ℕ) (e : Open R) (o : Option Operation) (events : List FullCell) → finite.get j.nodes.controller.operations k ≡ o → Sees f (place gm) (Some e) (but_shares o) events → takes_whole f.kind e.filter u ≡ true → IsUnderWay e
     under_way k e (Some (Move m)) events there sees taken =
         let of = busy.plan_is k m there in
-        let on : is_busy k w.log ≡ true = sym (busy.busy_is k) ∙ ap is_some there in
+        let on = busy.open_busy k m there in
         let takes_it : takes m.plan.filter u ≡ true = and_r (unit_fits f.kind u) _ (and_r (is_whole f.kind m.plan.filter) _ (ap (λ x. takes_whole f.kind x u) (sym sees.filter) ∙ taken)) in
         record {
           from = m.plan.from;
@@ -85,16 +93,56 @@ module _ {F R : Type 0} (f : Semantics R) (laws : FunctionLaws f) (c : Config) (
     under_way k e (Some (Share s)) events there sees taken = absurd sees
 
     pub open_at : (k : ℕ) (e : Open R) → find_op j.world.ops k ≡ Some e → takes_whole f.kind e.filter u ≡ true → IsUnderWay e
-    open_at k e there taken = under_way k e (finite.get j.nodes.controller.operations k) (stored j.nodes.controller.store k) refl (subst (λ q. Sees f (place g) q (finite.get j.nodes.controller.operations k) (stored j.nodes.controller.store k)) there (j.shown_is.controller.opens k)) taken
+    open_at k e there taken = under_way k e (finite.get j.nodes.controller.operations k) (stored j.nodes.controller.store k) refl (subst (λ q. Sees f (place gm) q (but_shares (finite.get j.nodes.controller.operations k)) (stored j.nodes.controller.store k)) there (j.shown_is.controller.opens k).move) taken
+
+module _ {F R : Type 0} (f : Semantics R) (laws : FunctionLaws f) (c : Config) (items : List Msg) (is : IsInput f.kind c items) (n : ℕ) (count_is : n ≡ length c.names + 2) (w : Network (Node F R) Msg Note) (j : Joined f (given f c items is) n w) (apart : AllApart j.nodes.controller.operations) (b : Busy (given f c items is) w) (h : Installs (given f c items is) w) (busy : AreUnderWay f c items is n w j) (says : SaysOfShares f c items w.log) where
+  abbrev g : Given
+  g = given f c items is
+
+  abbrev scene : Scene F f g
+  scene = record { nodes = j.nodes; world = j.world; log = w.log; input = waiting w (at_node 0 0) }
+
+  node_same : (a b k : ℕ) → instance_node a ≡ k → k ≡ instance_node b → a ≡ b
+  node_same a b k x y = omega (arith, x, y)
 
   module _ (number i : ℕ) where
     abbrev unit : units.Unit
-    unit = unit_at f.kind c.site (packet_of items number)
+    unit = unit_numbered c items f.kind number
 
-    by_may : May_process (S f g) j.world unit (instance_node i) → IsPlace c items unit w.log i
-    by_may (At_target at) = Owns (node_same i (owner c items unit w.log) (j.world.target unit) (sym at) (j.shown_is.owners unit (units_fit f c items is number)))
-    by_may (At_source k e there taken at) = let m = open_at unit k e there taken in Is_source m.source m.destination m.moving (m.from_is ∙ ap Some (node_same m.from i e.op.src (sym m.src) (sym at)))
-    by_may (At_destination k e there taken at) = let m = open_at unit k e there taken in Is_destination m.source m.destination m.moving (m.to_is ∙ ap Some (node_same m.to i e.op.dst (sym m.dst) (sym at)))
+    fits : unit_fits f.kind unit ≡ true
+    fits = units_fit f c items is number
+
+    by_target : j.world.target unit ≡ instance_node i → IsPlace c items f.kind number w.log i
+    by_target at = Owns (node_same i (owner c items unit w.log) (j.world.target unit) (sym at) (owner_goes f c items is n w j unit fits (omega (arith, at))))
+
+    by_may : May_process (S f g) (moves_of (S f g) (A f g) j.world) unit (instance_node i) → IsPlace c items f.kind number w.log i
+    by_may (At_target at) = by_target at
+    by_may (At_source k e there taken at) = let m = open_at f laws c items is n w j busy unit k e there taken in Is_source m.source m.destination m.moving (m.from_is ∙ ap Some (node_same m.from i e.op.src (sym m.src) (sym at)))
+    by_may (At_destination k e there taken at) = let m = open_at f laws c items is n w j busy unit k e there taken in Is_destination m.source m.destination m.moving (m.to_is ∙ ap Some (node_same m.to i e.op.dst (sym m.dst) (sym at)))
+
+    -- the share of the unit by the log
+    module _ (e : Open_share) (its : Its_share (S f g) (A f g) (is_sys f g.site g.packet) unit j.world e) (names : List (List ℕ)) (shared : members c items unit w.log ≡ Some names) where
+      at_home : instance_node i ≡ e.home → IsPlace c items f.kind number w.log i
+      at_home at =
+          let r = share_of_unit f c items is n count_is w j apart b unit fits h names shared in
+          let home : e.home ≡ instance_node (owner c items unit w.log) = home_is f c items is n count_is w j apart b unit fits r.op names r.filter r.open_is r.takes_it e its (owner c items unit w.log) (says.homes unit fits names shared) in
+          Owns (node_same i (owner c items unit w.log) e.home at home)
+
+      at_member : instance_node i ≡ (A f g).member e.members number → IsPlace c items f.kind number w.log i
+      at_member at =
+          let r = share_of_unit f c items is n count_is w j apart b unit fits h names shared in
+          let member : member_for c items names (packet_of items number) ≡ Some i = member_is f c items is n count_is w j apart b unit fits r.op names r.filter r.open_is r.takes_it e its number i (sym at) in
+          Is_member (ap (λ o. option_map_or (λ ns. member_for c items ns (packet_of items number)) o (Some (owner c items unit w.log))) shared ∙ member)
+
+    by_there : (e : Open_share) → Its_share (S f g) (A f g) (is_sys f g.site g.packet) unit j.world e → (instance_node i ≡ e.home) ⊎ (instance_node i ≡ (A f g).member e.members number) → IsThere (members c items unit w.log) → IsPlace c items f.kind number w.log i
+    by_there e its (inl at) (There names shared) = at_home e its names shared at
+    by_there e its (inr at) (There names shared) = at_member e its names shared at
+
+    by_one : Processes_one (S f g) (A f g) (is_sys f g.site g.packet) unit j.world (instance_node i) number → IsPlace c items f.kind number w.log i
+    by_one (By_move may) = by_may may
+    by_one (By_home e its (inl one) at) = by_there e its (inl at) (diverted_members f c items is n w j unit fits one)
+    by_one (By_home e its (inr home) at) = by_target (home ∙ sym at)
+    by_one (By_member e its one at) = by_there e its (inr at) (diverted_members f c items is n w j unit fits one)
 
   -- what an instance processes, it processes at a place of the unit
   module _ (y p : ℕ) (m : Msg) (taken : IsTaken f g n scene (record { node = suc (suc y); port = p; message = m })) where
@@ -113,28 +161,36 @@ module _ {F R : Type 0} (f : Semantics R) (laws : FunctionLaws f) (c : Config) (
     not_input : (p == 0) && (k == 0) ≡ false
     not_input = grind (arith, nat_tests)
 
-    abbrev at : IsInstanceAt f g k own (j.world.inst k)
+    abbrev at : IsInstanceAt f g k own j.world
     at = j.shown_is.instances k (omega arith) taken.receiver
 
     quiet : Each (IsQuiet own.index) (instance_step f own m).notes
     quiet = instance_quiet f own m
 
-    noted_at : (front back : List Note) (number i : ℕ) (output : Output) → (instance_step f own m).notes ≡ front ++ note.Processed number i output ∷ back → i ≡ own.index
-    noted_at front back number i output e = each_there (IsQuiet own.index) front (note.Processed number i output) back (subst (λ ns. Each (IsQuiet own.index) ns) e quiet)
+    module _ (front back : List Note) (number i : ℕ) (output : Output) (e : (instance_step f own m).notes ≡ front ++ note.Processed number i output ∷ back) where
+      noted_at : i ≡ own.index
+      noted_at = each_there (IsQuiet own.index) front (note.Processed number i output) back (subst (λ ns. Each (IsQuiet own.index) ns) e quiet)
 
-    some_ran : (front back : List Note) (number i : ℕ) (output : Output) → (instance_step f own m).notes ≡ front ++ note.Processed number i output ∷ back → none_mine (S f g) ((S f g).unit_of number) (filter_map ran_in (instance_step f own m).notes) ≢ []
-    some_ran front back number i output e = subst (λ ns. none_mine (S f g) ((S f g).unit_of number) (filter_map ran_in ns) ≢ []) (sym e) (some_mine (S f g) front number i output back)
+      node : k ≡ instance_node i
+      node = sym at.number ∙ ap instance_node (sym noted_at)
 
-    may : (front back : List Note) (number i : ℕ) (output : Output) → (instance_step f own m).notes ≡ front ++ note.Processed number i output ∷ back → Ran_as f laws g own m → May_process (S f g) j.world ((S f g).unit_of number) k
-    may front back number i output e (Unseen none) = absurd (some_ran front back number i output e (ap (none_mine (S f g) ((S f g).unit_of number)) none))
-    may front back number i output e (Seen a shown_as ran) =
-        let follows : filter_map ran_in (instance_step f own m).notes ≡ (inst_step (S f g) (j.world.inst k) a).ran = ran ∙ ap (λ x. (inst_step (S f g) x a).ran) at.outline_is in
-        processed_at (S f g) (is_sys f g.site g.packet) j.world _ _ j.shown_is.every p k a taken.rest not_first not_second (taken.head not_input a shown_as) ((S f g).unit_of number)
-        (subst (λ ns. none_mine (S f g) ((S f g).unit_of number) ns ≢ []) follows (some_ran front back number i output e))
+      there : Ran_there (filter_map ran_in (instance_step f own m).notes) number
+      there = subst (λ ns. Ran_there (filter_map ran_in ns) number) (sym e) (ran_there front number i output back)
 
-    pub processed_place : (front back : List Note) (number i : ℕ) (output : Output) → (instance_step f own m).notes ≡ front ++ note.Processed number i output ∷ back → IsPlace c items (unit_at f.kind c.site (packet_of items number)) (w.log ++ front) i
-    processed_place front back number i output e =
-        let index = noted_at front back number i output e in
-        let node : k ≡ instance_node i = sym at.number ∙ ap instance_node (sym index) in
-        place_quiet c items (unit_at f.kind c.site (packet_of items number)) own.index w.log front i (each_front (IsQuiet own.index) front (note.Processed number i output ∷ back) (subst (λ ns. Each (IsQuiet own.index) ns) e quiet))
-        (by_may number i (subst (λ q. May_process (S f g) j.world ((S f g).unit_of number) q) node (may front back number i output e (ran_as f laws g k own (j.world.inst k) at p y m taken.label))))
+      none_there : (xs ys : List ℕ) → [] ≡ xs ++ number ∷ ys → ⊥
+      none_there [] ys never = cc
+      none_there (x ∷ xs) ys never = cc
+
+      -- what ran is what the network runs
+      follows : (a : Any R) → ran_any f g (outline_instance f g.site g.packet own) own.table.standby a ≡ ran_by (S f g) (A f g) (is_sys f g.site g.packet) j.world k a
+      follows (Old a) = ap (λ x. ran_any f g x own.table.standby (Old a)) at.outline_is
+      follows (New a) = ap (λ x. ran_any f g x own.table.standby (New a)) at.outline_is ∙ ap (λ t. ran_any f g (j.world.inst k) t (New a)) at.standby_is
+
+      one : Ran_as f laws g (all_fit f c items is) own m → Processes_one (S f g) (A f g) (is_sys f g.site g.packet) (unit_numbered c items f.kind number) j.world k number
+      one (Unseen none) = absurd (none_there there.front there.back (sym none ∙ there.whole))
+      one (Seen a shown_as ran) = processes_one (S f g) (A f g) (is_sys f g.site g.packet) (unit_numbered c items f.kind number) (is_sharing f g.site g.packet) j.world (came_by f g w.log (unit_numbered c items f.kind number)) j.shown_is.every.global p k a taken.rest not_first not_second (taken.head not_input a shown_as) number (same_unit_equiv.refl (unit_numbered c items f.kind number)) there.front there.back (sym (follows a) ∙ sym ran ∙ there.whole) (j.shown_is.every.unit (unit_numbered c items f.kind number))
+
+      pub processed_place : IsPlace c items f.kind number (w.log ++ front) i
+      processed_place =
+          place_quiet c items f.kind number own.index w.log front i (each_front (IsQuiet own.index) front (note.Processed number i output ∷ back) (subst (λ ns. Each (IsQuiet own.index) ns) e quiet))
+          (by_one number i (subst (λ q. Processes_one (S f g) (A f g) (is_sys f g.site g.packet) (unit_numbered c items f.kind number) j.world q number) node (one (ran_as f laws g (all_fit f c items is) k own j.world (omega arith) at p y m taken.label))))

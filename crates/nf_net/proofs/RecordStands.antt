@@ -1,18 +1,24 @@
 -- In every run the record of a unit is live at one instance, or in one chunk on its way, or in both as long as its source is still to
--- remove it.
-use Rattle.std.proofs.Common.{◌≡◌, ℕ, ◌+◌, ◌<◌, ◌≤◌, Bool, true, false, Option, Some, None, List, [], ◌∷◌, ◌++◌, map, length, refl, sym, ap, ◌∙◌, subst, arith}
+-- remove it. Where a share has the unit, it is live at the home, and may lack the last packet as long as the home is to take a newer one.
+use Rattle.std.proofs.Common.{◌≡◌, ◌≢◌, ℕ, ◌+◌, ◌<◌, ◌≤◌, Bool, true, false, Option, Some, None, List, [], ◌∷◌, ◌++◌, map, length, refl, sym, ap, ◌∙◌, subst, arith}
 use Rattle.std.specs.Prelude.{if◌then◌else◌, ◌==◌, ◌-◌, ◌||◌, nat_lt, slice_get, option_to_list}
+use Rattle.std.specs.declared.alloc.Global.{Global}
 use Rattle.std.specs.FinMap as finite
 use Rattle.std.proofs.lemmas.Bool.{ltb-false}
-use Rattle.std.proofs.lemmas.Bool.Decides.{nat_tests, Decides-ltb}
-use Rattle.std.proofs.lemmas.Option.{slice_get-get_or, slice_get_past}
+use Rattle.std.proofs.lemmas.Bool.Decides.{nat_tests, Decides-eqb, Decides-ltb}
+use Rattle.std.proofs.lemmas.Option.{slice_get_past}
 use Rattle.nf_function.specs.declared.unit.Unit as units
+use Rattle.nf_function.specs.Records.{Laws as FunctionLaws}
 use Rattle.nf_function.specs.Semantics.{Semantics}
 use Rattle.nf_msgs.specs.declared.msg.Msg.{Msg}
 use Rattle.nf_msgs.specs.declared.note.Note.{Note}
 use Rattle.nf_msgs.specs.Nodes.{controller_node, instance_node}
 use Rattle.record_table.specs.Table.{is_among}
-use Rattle.actor_net.specs.Network.{Network, IsWorld, on_link}
+use Rattle.nf_msgs.specs.declared.command.Order.TheVariants as order
+use Rattle.ctrl_node.specs.declared.operation.Operation.TheVariants.{Share}
+use Rattle.actor_net.specs.declared.choice.Choice.{Choice}
+use Rattle.actor_net.specs.Network.{Network, IsWorld, IsRun, on_link, run}
+use Rattle.actor_net.proofs.RunInduction.{run_world}
 use Rattle.unit_machine.proofs.Machine.{State, after, idle}
 use Rattle.unit_machine.proofs.Fits.{nil_left}
 use Rattle.unit_machine.proofs.Lists.{firsts}
@@ -25,26 +31,41 @@ use Rattle.abstract_net.proofs.Holding.{Seeing, node_at, place as side_place}
 use Rattle.abstract_net.proofs.Readings as readings
 use Rattle.abstract_net.proofs.Readings.{fold_runs, seat_parts}
 use Rattle.abstract_net.proofs.Rest.{same_done}
+use Rattle.abstract_net.proofs.Shares.{Want_share}
+use Rattle.abstract_net.proofs.Under.{Under}
+use Rattle.abstract_net.proofs.UnderStarts.{seeing}
 use Rattle.abstract_net.proofs.Units.{see}
+use Rattle.abstract_net.proofs.Untaken.{Untaken}
+use Rattle.whole_net.proofs.WhereAll.{Where_all, Apart_from_shares, Under_share}
 use Rattle.net_world.specs.declared.config.Config.{Config}
 use Rattle.net_world.specs.declared.node.Node.{Node}
-use Rattle.net_world.specs.declared.node.Node.TheVariants.{Instance}
 use Rattle.net_world.specs.Input.{packets, IsInput}
 use Rattle.net_world.specs.Log.{arrived}
 use Rattle.net_world.specs.Path.{all_of}
 use Rattle.net_world.specs.Fold.{IsFront, fold, went}
+use Rattle.net_world.specs.Places.{owner}
+use Rattle.net_world.specs.Nodes.{node_step, node_ready}
+use Rattle.net_world.specs.Start.{started}
+use Rattle.net_world.specs.Seen.{HasRecord, Sees_all, Lacks_last}
 use Rattle.net_world.specs.Records as records
 use Rattle.net_world.specs.Records.{live_in, live_at, given_in, removed_by, is_to_remove, IsNowhereLive, IsLiveAt, HasOneRecord}
 use Rattle.path_net.proofs.ChunkPlaces.{link_spelled, none_on_way, one_on_way}
-use Rattle.nf_net.proofs.CompleteRuns.{fold_is}
+use Rattle.answer_net.proofs.ArrivalLemmas.{arrivals_run}
+use Rattle.answer_net.proofs.BusyRuns.{open_began}
+use Rattle.answer_net.proofs.CommandPromises.{run_busy, run_answers}
+use Rattle.nf_net.proofs.FoldLemmas.{fold_is}
 use Rattle.outline_net.proofs.Outline.{is_sys}
-use Rattle.path_net.proofs.PathPromises.{IsOwned, by_came}
-use Rattle.path_net.proofs.PathSeats.{Seated, seated, HasSides, Are_there, Rests}
-use Rattle.path_net.proofs.RecordPromises.{instance_of, one_place}
-use Rattle.whole_joined.proofs.RunsJoined.{done_same}
-use Rattle.whole_joined.proofs.StartJoined.{given}
+use Rattle.path_net.proofs.SeatPaths.{IsOwned, by_came}
+use Rattle.path_net.proofs.DivertedRuns.{HasDiverted, run_diverted}
+use Rattle.path_net.proofs.PathSeats.{AsMoves, Seated, seated, HasSides, Are_there, Rests, found_instance}
+use Rattle.path_net.proofs.RecordPromises.{one_place}
+use Rattle.path_net.proofs.SharedChunks.{none_on_way as none_shared}
+use Rattle.path_net.proofs.SharedOwners.{KnownNames, diverts_so, goes_so}
+use Rattle.path_net.proofs.SharedRecords.{HasShared, Saw_all, Is_behind, alone, has_shared}
+use Rattle.whole_joined.proofs.RunsJoined.{run_joined, start_world, done_same}
+use Rattle.whole_joined.proofs.StartJoined.{given, count_at_start}
 use Rattle.whole_joined.proofs.Given.{Given}
-use Rattle.whole_joined.proofs.Joined.{S, Joined}
+use Rattle.whole_joined.proofs.Joined.{S, A, came_by, Joined}
 
 -- none of three, and one of three
 record AreNone {R : Type 0} (a b c : Option R) : Type 0 where
@@ -79,12 +100,12 @@ never o r none some = let bad = sym none ∙ some in cc
 not_nil : {P R : Type 0} (xs : List R) (r : R) → xs ≡ [] → xs ≡ r ∷ [] → P
 not_nil xs r none one = let bad = sym none ∙ one in cc
 
-module _ {F R : Type 0} (f : Semantics R) (c : Config) (items : List Msg) (is : IsInput f.kind c items) (n : ℕ) (count : n ≡ length c.names + 2) (w : Network (Node F R) Msg Note) (nodes : length w.nodes ≡ n) (j : Joined f (given f c items is) n w) (world : IsWorld w) (in_turn : IsFront (arrived w.log) (map (λ p. p.number) (packets items))) (u : units.Unit) where
+module _ {F R : Type 0} (f : Semantics R) (c : Config) (items : List Msg) (is : IsInput f.kind c items) (n : ℕ) (count : n ≡ length c.names + 2) (w : Network (Node F R) Msg Note) (nodes : length w.nodes ≡ n) (j : Joined f (given f c items is) n w) (world : IsWorld w) (in_turn : IsFront (arrived w.log) (map (λ p. p.number) (packets items))) (u : units.Unit) (at : AsMoves f c items is n count w nodes j u) (apart : Untaken (S f (given f c items is)) u (A f (given f c items is)) j.world) where
   abbrev g : Given
   g = given f c items is
 
   abbrev k : Seated f c items is n count w nodes j u
-  k = seated f c items is n count w nodes j u
+  k = seated f c items is n count w nodes j u at
 
   abbrev x : State R
   x = seat_shape (S f g).F k.seat
@@ -98,9 +119,7 @@ module _ {F R : Type 0} (f : Semantics R) (c : Config) (items : List Msg) (is : 
   -- What is live at an instance.
   live_there : (m : ℕ) → 2 ≤ m → m < n → live_in u (slice_get w.nodes m) ≡ (node_at (S f g) z x m).live
   live_there m two few =
-      let node = Instance (j.nodes.instance m) in
-      let found : slice_get w.nodes m ≡ Some node = slice_get-get_or w.nodes m node (rw nodes few) ∙ ap Some (j.nodes_are m few node ∙ instance_of j.nodes m two) in
-      ap (live_in u) found ∙ ap (λ y. finite.get y.live u) (j.shown_is.instances m two few).outline_is ∙ (k.holds.insts m).live
+      ap (live_in u) (found_instance f c items is n count w nodes j m two few) ∙ ap (λ y. finite.get y.live u) (j.shown_is.instances m two few).outline_is ∙ (k.holds.insts m).live
 
   nowhere : lives x ≡ [] → IsNowhereLive w u
   nowhere none i =
@@ -120,8 +139,8 @@ module _ {F R : Type 0} (f : Semantics R) (c : Config) (items : List Msg) (is : 
       ]
 
   -- a unit with a record goes to an instance that is there
-  owned : (r : R) → after (S f g).F x.done ≡ Some r → IsOwned f c items is n count w nodes j world in_turn u
-  owned r some = by_came f c items is n count w nodes j world in_turn u
+  owned : (r : R) → after (S f g).F x.done ≡ Some r → IsOwned f c items is n count w nodes j world in_turn u at apart
+  owned r some = by_came f c items is n count w nodes j world in_turn u at apart
       (λ all.
       let none : x.done ≡ [] = firsts_nil x.done (nil_left (firsts x.done) (seat_path k.seat) (sym (seat_parts (S f g).F k.seat) ∙ all)) in
       never (after (S f g).F x.done) r (ap (after (S f g).F) none) some)
@@ -144,7 +163,7 @@ module _ {F R : Type 0} (f : Semantics R) (c : Config) (items : List Msg) (is : 
   somewhere : (r : R) → after (S f g).F x.done ≡ Some r → lives x ≡ r ∷ [] → IsSomewhere r
   somewhere r some one = by_side (one_of r x.a.live x.b.live x.c.live one)
     where
-      own : IsOwned f c items is n count w nodes j world in_turn u
+      own : IsOwned f c items is n count w nodes j world in_turn u at apart
       own = owned r some
 
       source_there : HasSides f c items is n count w nodes j k.op x → k.op.src < n
@@ -170,17 +189,17 @@ module _ {F R : Type 0} (f : Semantics R) (c : Config) (items : List Msg) (is : 
 
   -- What is on its way.
   none_way : on_way x ≡ [] → records.on_way f w u ≡ []
-  none_way none = none_on_way f c items is n count w nodes j world u k.op k.third x k.holds silent none
+  none_way none = none_on_way f c items is n count w nodes j world u apart k.op k.third x k.holds silent none
 
   one_way : (r : R) → k.op.src < n → k.op.dst < n → on_way x ≡ r ∷ [] → records.on_way f w u ≡ Some (u, r) ∷ []
-  one_way r src dst one = one_on_way f c items is n count w nodes j world u k.op k.third x k.holds silent r one src dst
+  one_way r src dst one = one_on_way f c items is n count w nodes j world u apart k.op k.third x k.holds silent r one src dst
 
   -- the source is still to remove it
   to_remove : (r : R) → k.op.src < n → To_remove x.ac x.ca → is_to_remove w u (k.op.src - 2) ≡ true
-  to_remove r few h = ap (λ m. is_among (all_of given_in (on_link w m controller_node)) u || is_among (all_of removed_by (on_link w controller_node m)) u) at ∙ by_link h
+  to_remove r few h = ap (λ m. is_among (all_of given_in (on_link w m controller_node)) u || is_among (all_of removed_by (on_link w controller_node m)) u) source_is ∙ by_link h
     where
-      at : instance_node (k.op.src - 2) ≡ k.op.src
-      at = let two = k.holds.nodes.a_is in omega (arith, two)
+      source_is : instance_node (k.op.src - 2) ≡ k.op.src
+      source_is = let two = k.holds.nodes.a_is in omega (arith, two)
 
       self : (k.op.src == k.op.src) ≡ true
       self = k.holds.apart.src
@@ -196,11 +215,11 @@ module _ {F R : Type 0} (f : Semantics R) (c : Config) (items : List Msg) (is : 
 
       by_link : To_remove x.ac x.ca → is_among (all_of given_in (on_link w k.op.src controller_node)) u || is_among (all_of removed_by (on_link w controller_node k.op.src)) u ≡ true
       by_link (Is_given e) =
-          let read = (link_spelled f c items is n count w nodes j world u k.op k.third x k.holds k.op.src 1 few some (rw off_0 refl)).given in
+          let read = (link_spelled f c items is n count w nodes j world u apart k.op k.third x k.holds k.op.src 1 few some (rw off_0 refl)).given in
           let on : is_among (all_of given_in (on_link w k.op.src controller_node)) u ≡ true = read ∙ rw (off_0, off_1, self) e in
           rw on refl
       by_link (Is_named e) =
-          let read = (link_spelled f c items is n count w nodes j world u k.op k.third x k.holds 1 k.op.src some few refl).removed in
+          let read = (link_spelled f c items is n count w nodes j world u apart k.op k.third x k.holds 1 k.op.src some few refl).removed in
           let on : is_among (all_of removed_by (on_link w controller_node k.op.src)) u ≡ true = read ∙ rw (off_0, self) e in
           or-right (is_among (all_of given_in (on_link w k.op.src controller_node)) u) (is_among (all_of removed_by (on_link w controller_node k.op.src)) u) on
 
@@ -211,8 +230,8 @@ module _ {F R : Type 0} (f : Semantics R) (c : Config) (items : List Msg) (is : 
       ∙ ap (readings.fold (S f g).F None) (sym (same_done (S f g) z j.world.done ∙ k.holds.done) ∙ done_same f c items is n w j u)
       ∙ sym (fold_is f c items is None (went f c items u w.log))
 
-  pub record_stands : HasOneRecord f w u (fold f c items None (went f c items u w.log))
-  record_stands = by_kept (seat_kept (S f g).F k.seat)
+  apart_stands : HasOneRecord f w u (fold f c items None (went f c items u w.log))
+  apart_stands = by_kept (seat_kept (S f g).F k.seat)
     where
       by_sides : (r : R) → after (S f g).F x.done ≡ Some r → on_way x ≡ r ∷ [] → (k.op.src < n → k.op.dst < n → HasOneRecord f w u (fold f c items None (went f c items u w.log))) → HasSides f c items is n count w nodes j k.op x → HasOneRecord f w u (fold f c items None (went f c items u w.log))
       by_sides r some one both (Are_there e found src dst) = both src dst
@@ -223,3 +242,78 @@ module _ {F R : Type 0} (f : Semantics R) (c : Config) (items : List Msg) (is : 
       by_kept (Is_live r some live way) = let at = somewhere r some live in records.Is_live at.i r (sym fold_same ∙ some) at.live (none_way way)
       by_kept (On_way r some live way) = by_sides r some way (λ src dst. records.Is_on_way r (sym fold_same ∙ some) (nowhere live) (one_way r src dst way)) k.ends
       by_kept (Twice r some at_a live way) = by_sides r some way (λ src dst. records.Is_given (k.op.src - 2) r (sym fold_same ∙ some) (at_source r src at_a) (one_way r src dst way) (to_remove r src (still_to_remove (S f g).F k.seat r r [] at_a way))) k.ends
+
+module _ {F R : Type 0} (f : Semantics R) (c : Config) (items : List Msg) (is : IsInput f.kind c items) (n : ℕ) (count : n ≡ length c.names + 2) (w : Network (Node F R) Msg Note) (nodes : length w.nodes ≡ n) (j : Joined f (given f c items is) n w) (world : IsWorld w) (in_turn : IsFront (arrived w.log) (map (λ p. p.number) (packets items))) (told : HasDiverted f (given f c items is) w) (known : KnownNames f c items is n count w j) (u : units.Unit) where
+  abbrev gr : Given
+  gr = given f c items is
+
+  abbrev all : List ℕ
+  all = went f c items u w.log
+
+  folded : (ps : List ℕ) → fold f c items None ps ≡ readings.fold (S f gr).F None ps
+  folded ps = fold_is f c items is None ps
+
+  -- Under a share.
+  module _ (x : Want_share) (before since : List ℕ) (k : Under (S f gr) (A f gr) (seeing (S f gr) (A f gr) u x) j.world before since) where
+    abbrev home : ℕ
+    home = owner c items u w.log
+
+    only_home : (i : ℕ) → i ≢ home → live_at w i u ≡ None
+    only_home = alone f c items is n count w nodes j world told u x before since k
+
+    -- the record at the home is all that there is
+    one_there : (o : Option R) → live_at w home u ≡ o → HasOneRecord f w u o
+    one_there None e = records.Has_none refl nowhere_live (none_shared f c items is n count w nodes j world u x before since k)
+      where
+        nowhere_live : IsNowhereLive w u
+        nowhere_live i = elim (i == home) as (λ t. (i == home) ≡ t → live_at w i u ≡ None) [
+          | true ↦ λ on. ap (λ q. live_at w q u) ((Decides-eqb i home).0 on) ∙ e
+          | false ↦ λ off. only_home i (λ same. (let never : true ≡ false = sym ((Decides-eqb i home).1 same) ∙ off in cc))
+        ] refl
+    one_there (Some r) e = records.Is_live home r refl (record { there = e; alone = at_home }) (none_shared f c items is n count w nodes j world u x before since k)
+      where
+        at_home : (i : ℕ) (s : R) → live_at w i u ≡ Some s → i ≡ home
+        at_home i s live = elim (i == home) as (λ t. (i == home) ≡ t → i ≡ home) [
+          | true ↦ λ on. (Decides-eqb i home).0 on
+          | false ↦ λ off. never (live_at w i u) s (only_home i (λ same. (let bad : true ≡ false = sym ((Decides-eqb i home).1 same) ∙ off in cc))) live
+        ] refl
+
+    shared_stands : HasShared f c items is n count w nodes j world told u x before since k → HasRecord f c items w u
+    shared_stands (Saw_all live) = record { seen = all; has_seen = Sees_all refl; one = one_there (fold f c items None all) (live ∙ sym (folded all)) }
+    shared_stands (Is_behind b) = record {
+      seen = b.seen;
+      has_seen = Lacks_last (record {
+        last = b.last;
+        went_is = b.last_is;
+        member = b.member;
+        member_is = goes_so f c items is n count w j u x before since k told (diverts_so f c items is n count w j u x before since k b.diverts) known b.last b.its b.member b.member_is;
+        other = b.other;
+        stands_by = b.stands_by ∙ sym (folded all);
+        on_its_way = b.on_its_way;
+      });
+      one = one_there (fold f c items None b.seen) (b.live ∙ sym (folded b.seen));
+    }
+
+  pub record_stands : HasRecord f c items w u
+  record_stands = by_where (j.shown_is.every.unit u)
+    where
+      by_where : Where_all (S f gr) (A f gr) (is_sys f gr.site gr.packet) u j.world (came_by f gr w.log u) → HasRecord f c items w u
+      by_where (Apart_from_shares h none) = record { seen = all; has_seen = Sees_all refl; one = apart_stands f c items is n count w nodes j world in_turn u h.is h.untaken }
+      by_where (Under_share x before b h o i) = shared_stands x before (came_by f gr w.log u).diverted h (has_shared f c items is n count w nodes j world told u x before (came_by f gr w.log u).diverted h)
+
+-- Of every run.
+module _ (F : Type 0) {R : Type 0} (f : Semantics R) (laws : FunctionLaws f) (alloc : Global) (c : Config) (items : List Msg) (is : IsInput f.kind c items) (cs : List Choice) (runs : IsRun node_ready (node_step f) cs (started {F = F} {R = R} alloc c items)) where
+  abbrev n : ℕ
+  n = length c.names + 2
+
+  abbrev w : Network (Node F R) Msg Note
+  w = run (node_step f) cs (started {F = F} {R = R} alloc c items)
+
+  pub records_stand : (u : units.Unit) → HasRecord f c items w u
+  records_stand u =
+      let j = run_joined F f laws alloc c items is cs runs in
+      let reached = run_world node_ready (node_step f) n (started {F = F} {R = R} alloc c items) (start_world F f laws alloc c items is) (count_at_start F f alloc c items is) cs runs in
+      let busy = (run_busy F f laws alloc c items is cs runs).1 in
+      let answers = run_answers F f laws alloc c items is cs runs in
+      record_stands f c items is n refl w reached.1 j reached.0 (arrivals_run F f laws alloc c items is cs runs) (run_diverted F f laws alloc c items is cs runs)
+      (λ op s names there order_so. (answers.begins op (order.Share names s.plan.filter) order_so (open_began f (given f c items is) n refl w j busy op (Share s) there)).known) u

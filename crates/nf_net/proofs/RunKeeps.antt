@@ -1,5 +1,5 @@
 -- What holds of a network at the start, and goes on with each choice of a run, holds of every run.
-use Rattle.std.proofs.Common.{◌≡◌, ℕ, ◌+◌, List, length, sym, subst}
+use Rattle.std.proofs.Common.{ℕ, ◌+◌, List, length, sym, subst}
 use Rattle.std.specs.declared.alloc.Global.{Global}
 use Rattle.nf_function.specs.Records.{Laws as FunctionLaws}
 use Rattle.nf_function.specs.Semantics.{Semantics}

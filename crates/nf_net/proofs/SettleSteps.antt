@@ -41,12 +41,12 @@ use Rattle.answer_net.proofs.BusyLemmas.{or_off, other_not_answered, answers_of-
 use Rattle.answer_net.proofs.BusyNodes.{switch_hands, instance_says}
 use Rattle.answer_net.proofs.BusyRuns.{Busy, waits_of}
 use Rattle.answer_net.proofs.ControllerActs.{Says_so, Says_so.Neither, Says_so.Begins, Says_so.Answers, controller_acts}
-use Rattle.joined_net.proofs.KnownOperations.{known}
-use Rattle.joined_net.proofs.Joined.{Given, Label, Joined, node_of}
-use Rattle.joined_net.proofs.JoinedSteps.{label, step_leads, input_after}
+use Rattle.whole_joined.proofs.KnownOperations.{known}
+use Rattle.whole_joined.proofs.Given.{Given}
+use Rattle.whole_joined.proofs.Joined.{Label, Joined, node_of}
 use Rattle.answer_net.proofs.LinePicks.{picked}
 use Rattle.nf_net.proofs.SettleCounts.{answered_in, AllAnswered, answered_in-append, answered_most, all_answered, none_answered_in, all_answered_more, answered_in_same, answered_one, low_commands, commands-append, same_ends}
-use Rattle.joined_net.proofs.StartJoined.{given, all_fit}
+use Rattle.whole_joined.proofs.StartJoined.{given}
 use Rattle.answer_net.proofs.ToldCommands.{some_answers}
 
 abbrev switch_in : {F R : Type 0} → SwitchState → Node F R → SwitchState
@@ -191,15 +191,23 @@ module _ (F : Type 0) {R : Type 0} (f : Semantics R) (laws : FunctionLaws f) (al
   reach = let some = (Decides-ltb 0 n).1 (omega arith) in rw some refl
 
   module _ (w : Network (Node F R) Msg Note) (j : Joined f g n w) (b : Busy g w) (h : Counted items w) where
-    module _ (k p : ℕ) (m : Msg) (rest : List Msg) (takes : Takes step n w k p (node_of j.nodes k) m rest) (ready : is_input (at k p) ≡ true → node_ready (node_of j.nodes k) m ≡ true) where
+    -- a message that a node takes in a run: what comes and what is sent is labelled, and what is left of the input
+    pub record Takes_in_run (k p : ℕ) (m : Msg) (rest : List Msg) : Type 0 where
+      pub takes : Takes step n w k p (node_of j.nodes k) m rest
+      pub ready : is_input (at k p) ≡ true → node_ready (node_of j.nodes k) m ≡ true
+      pub label : Label f g p k m
+      pub labels : EachSent (Label f g) k (step (node_of j.nodes k) p m).sends
+      pub input : waiting (taken step w (at k p)) (at 0 0) ≡ less_first ((0 == k) && (0 == p)) (waiting w (at 0 0))
+
+    module _ (k p : ℕ) (m : Msg) (rest : List Msg) (it : Takes_in_run k p m rest) where
+      abbrev takes : Takes step n w k p (node_of j.nodes k) m rest
+      takes = it.takes
+
       abbrev v : Network (Node F R) Msg Note
       v = taken step w (at k p)
 
       abbrev notes : List Note
       notes = (step (node_of j.nodes k) p m).notes
-
-      labelled : Label f g p k m
-      labelled = label f laws g (all_fit f c items is) n refl w k p m rest j takes ready
 
       abbrev Is_ready : Type 0
       Is_ready = (k ≡ 0) × (takes_in j.nodes.switch m ≡ true)
@@ -211,14 +219,14 @@ module _ (F : Type 0) {R : Type 0} (f : Semantics R) (laws : FunctionLaws f) (al
             let p0 : 0 ≡ p = grind (arith, nat_tests, on) in
             let waits : waiting w (at 0 0) ≡ m ∷ rest = ap (λ x. waiting w (at x 0)) k0 ∙ ap (λ x. waiting w (at k x)) p0 ∙ takes.waits in
             let behind : waiting v (at 0 0) ≡ rest = e ∙ ap (λ xs. drop 1 xs) waits in
-            Loses (waits ∙ ap (λ xs. m ∷ xs) (sym behind)) (sym k0, subst (λ x. node_ready (node_of j.nodes x) m ≡ true) (sym k0) (ready (rw (← k0, ← p0) refl)))
+            Loses (waits ∙ ap (λ xs. m ∷ xs) (sym behind)) (sym k0, subst (λ x. node_ready (node_of j.nodes x) m ≡ true) (sym k0) (it.ready (rw (← k0, ← p0) refl)))
         | false ↦ λ off e. Stays e (by_asking (asking m) refl off)
-      ] refl (input_after f laws g (all_fit f c items is) n refl w k p m rest j takes ready)
+      ] refl it.input
         where
           by_asking : (a : ℕ) → asking m ≡ a → (0 == k) && (0 == p) ≡ false → asking m ≡ 0
           by_asking zero e off = e
           by_asking (suc a) e off =
-              let there = asked_there f g p k m labelled (omega (arith, e)) in
+              let there = asked_there f g p k m it.label (omega (arith, e)) in
               let p0 = there.0 in
               let k0 = there.1 in
               let never : true ≡ false = rw (p0, k0) at off in
@@ -269,37 +277,36 @@ module _ (F : Type 0) {R : Type 0} (f : Semantics R) (laws : FunctionLaws f) (al
     switch_same : 0 < n → h.switch ≡ j.nodes.switch
     switch_same some = ap (switch_in h.switch) (sym (h.switch_is (Switch h.switch)) ∙ j.nodes_are 0 some (Switch h.switch))
 
-    pub counted_after : (k p : ℕ) (m : Msg) (rest : List Msg) (takes : Takes step n w k p (node_of j.nodes k) m rest) → (is_input (at k p) ≡ true → node_ready (node_of j.nodes k) m ≡ true) → Busy g (taken step w (at k p)) → Counted items (taken step w (at k p))
-    counted_after zero p m rest takes ready after =
+    pub counted_after : (k p : ℕ) (m : Msg) (rest : List Msg) (it : Takes_in_run k p m rest) → Busy g (taken step w (at k p)) → Counted items (taken step w (at k p))
+    counted_after zero p m rest it after =
         let s = j.nodes.switch in
-        let same = switch_same takes.some in
-        let goes = input_goes 0 p m rest takes ready in
-        let took = took_after 0 p m rest takes ready goes in
-        let labels = (step_leads f laws g (all_fit f c items is) n refl w 0 p m rest j takes ready).labels in
-        let sent = none_sent f g n 0 (switch_step s m).sends (λ never. cc) labels in
-        let weight = total_after step n w 0 p (node_of j.nodes 0) m rest takes answering in
+        let same = switch_same it.takes.some in
+        let goes = input_goes 0 p m rest it in
+        let took = took_after 0 p m rest it goes in
+        let sent = none_sent f g n 0 (switch_step s m).sends (λ never. cc) it.labels in
+        let weight = total_after step n w 0 p (node_of j.nodes 0) m rest it.takes answering in
         let most = few g w b items h in
         let was = h.balance in
         let counts = switch_counts f g s m (asked_ready goes) (let e = ap (λ x. x.waiting) same in omega (arith, e, sent, weight, most, was)) in
         record {
           switch = (switch_step s m).node;
-          switch_is = (taken_outcome step n w 0 p (node_of j.nodes 0) m rest takes).own;
+          switch_is = (taken_outcome step n w 0 p (node_of j.nodes 0) m rest it.takes).own;
           took = took.0;
           whole = took.1;
-          balance = balance_after 0 p m rest takes ready (switch_step s m).node 0 (counts ∙ ap (λ x. x.waiting + asking m) (sym same)) (let stays = answered_in_same (commands items) w.log (switch_step s m).notes (λ op. other_not_answered op (switch_step s m).notes (switch_hands f g s p m (labelled 0 p m rest takes ready)).notes_are) in omega (arith, stays)) sent;
-          settled = settled_after 0 p m rest takes ready same goes;
+          balance = balance_after 0 p m rest it (switch_step s m).node 0 (counts ∙ ap (λ x. x.waiting + asking m) (sym same)) (let stays = answered_in_same (commands items) w.log (switch_step s m).notes (λ op. other_not_answered op (switch_step s m).notes (switch_hands f g s p m it.label).notes_are) in omega (arith, stays)) sent;
+          settled = settled_after 0 p m rest it same goes;
         }
       where
-        asked_ready : Input_goes m (waiting w (at 0 0)) (waiting (taken step w (at 0 p)) (at 0 0)) (Is_ready 0 p m rest takes ready) → 1 ≤ asking m → takes_in j.nodes.switch m ≡ true
+        asked_ready : Input_goes m (waiting w (at 0 0)) (waiting (taken step w (at 0 p)) (at 0 0)) (Is_ready 0 p m rest it) → 1 ≤ asking m → takes_in j.nodes.switch m ≡ true
         asked_ready (Stays e none) some = absurd (omega (arith, none, some))
         asked_ready (Loses e r) some = r.1
-    counted_after (suc zero) p m rest takes ready after =
+    counted_after (suc zero) p m rest it after =
         let t = j.nodes.controller in
-        let goes = input_goes 1 p m rest takes ready in
-        let took = took_after 1 p m rest takes ready goes in
-        let left = taken_outcome step n w 1 p (node_of j.nodes 1) m rest takes in
-        let labelled_is = labelled 1 p m rest takes ready in
-        let acts = controller_acts g n reach t (known f g t j.world.ops j.world.next j.shown_is.controller) f p m labelled_is in
+        let goes = input_goes 1 p m rest it in
+        let took = took_after 1 p m rest it goes in
+        let left = taken_outcome step n w 1 p (node_of j.nodes 1) m rest it.takes in
+        let labelled_is = it.label in
+        let acts = controller_acts g n reach t (known f g t j.world.ops j.world.shares j.world.next j.shown_is.controller) f p m labelled_is in
         let none = no_answer_to f g p 1 m (omega arith) labelled_is in
         let asked = not_asked goes in
         record {
@@ -308,10 +315,10 @@ module _ (F : Type 0) {R : Type 0} (f : Semantics R) (laws : FunctionLaws f) (al
           took = took.0;
           whole = took.1;
           balance = by_says acts.says (omega (arith, none, asked));
-          settled = settled_after 1 p m rest takes ready (switch_same takes.some) goes;
+          settled = settled_after 1 p m rest it (switch_same it.takes.some) goes;
         }
       where
-        not_asked : Input_goes m (waiting w (at 0 0)) (waiting (taken step w (at 1 p)) (at 0 0)) (Is_ready 1 p m rest takes ready) → asking m ≡ 0
+        not_asked : Input_goes m (waiting w (at 0 0)) (waiting (taken step w (at 1 p)) (at 0 0)) (Is_ready 1 p m rest it) → asking m ≡ 0
         not_asked (Stays e none) = none
         not_asked (Loses e r) = let never = r.0 in cc
 
@@ -323,7 +330,7 @@ module _ (F : Type 0) {R : Type 0} (f : Semantics R) (laws : FunctionLaws f) (al
         unanswered_before op a e false is = is
         unanswered_before op a e true is =
             let self : (op == op) ≡ true = grind (arith, nat_tests) in
-            let log : (taken step w (at 1 p)).log ≡ w.log ++ note.Answered op a ∷ [] = (taken_outcome step n w 1 p (node_of j.nodes 1) m rest takes).log ∙ ap (λ ns. w.log ++ ns) e in
+            let log : (taken step w (at 1 p)).log ≡ w.log ++ note.Answered op a ∷ [] = (taken_outcome step n w 1 p (node_of j.nodes 1) m rest it.takes).log ∙ ap (λ ns. w.log ++ ns) e in
             let one : length (answers_of op (note.Answered op a ∷ [])) ≡ 1 = rw self refl in
             let both = ap (λ l. length (answers_of op l)) log ∙ ap length (answers_of-append op w.log (note.Answered op a ∷ [])) ∙ length-append (answers_of op w.log) (answers_of op (note.Answered op a ∷ [])) in
             let some = some_answers op w.log is in
@@ -331,19 +338,18 @@ module _ (F : Type 0) {R : Type 0} (f : Semantics R) (laws : FunctionLaws f) (al
             absurd (omega (arith, one, both, some, once))
 
         by_says : Says_so g n reach j.nodes.controller (controller_step j.nodes.controller p m) → h.switch.waiting + answering m ≡ h.switch.waiting + asking m → h.switch.waiting + answered_in (commands items) (taken step w (at 1 p)).log + length (commands (waiting (taken step w (at 1 p)) (at 0 0))) ≡ length (commands items) + total answering (taken step w (at 1 p))
-        by_says (Neither e sent) counts = balance_after 1 p m rest takes ready h.switch 0 counts (stays_by [] e (λ op. refl)) sent
-        by_says (Begins op e sent closed) counts = balance_after 1 p m rest takes ready h.switch 0 counts (stays_by (note.Begun op ∷ []) e (λ k. refl)) sent
-        by_says (Answers op a what e sent known early) counts = balance_after 1 p m rest takes ready h.switch 1 counts
+        by_says (Neither e sent) counts = balance_after 1 p m rest it h.switch 0 counts (stays_by [] e (λ op. refl)) sent
+        by_says (Begins op e sent closed) counts = balance_after 1 p m rest it h.switch 0 counts (stays_by (note.Begun op ∷ []) e (λ k. refl)) sent
+        by_says (Answers op a what e sent known early) counts = balance_after 1 p m rest it h.switch 1 counts
             (ap (λ ns. answered_in (commands items) (w.log ++ ns)) e ∙ answered_one op a what w.log (unanswered_before op a e (has_answered op w.log) refl) 0 (commands items) is.ops known) sent
-    counted_after (suc (suc i)) p m rest takes ready after =
+    counted_after (suc (suc i)) p m rest it after =
         let k : ℕ = suc (suc i) in
-        let goes = input_goes k p m rest takes ready in
-        let took = took_after k p m rest takes ready goes in
-        let left = taken_outcome step n w k p (node_of j.nodes k) m rest takes in
-        let labels = (step_leads f laws g (all_fit f c items is) n refl w k p m rest j takes ready).labels in
+        let goes = input_goes k p m rest it in
+        let took = took_after k p m rest it goes in
+        let left = taken_outcome step n w k p (node_of j.nodes k) m rest it.takes in
         let other : k ≢ 1 = (λ never. absurd (omega (arith, never))) in
-        let sent = none_sent f g n k (step (node_of j.nodes k) p m).sends other labels in
-        let none = no_answer_to f g p k m (omega arith) (labelled k p m rest takes ready) in
+        let sent = none_sent f g n k (step (node_of j.nodes k) p m).sends other it.labels in
+        let none = no_answer_to f g p k m (omega arith) it.label in
         let asked = not_asked goes in
         let stays = answered_in_same (commands items) w.log (step (node_of j.nodes k) p m).notes (λ op. other_not_answered op (step (node_of j.nodes k) p m).notes (instance_says f g k (j.nodes.instance k) m).notes_are) in
         record {
@@ -351,10 +357,10 @@ module _ (F : Type 0) {R : Type 0} (f : Semantics R) (laws : FunctionLaws f) (al
           switch_is = λ d. left.others 0 d (λ never. cc) ∙ h.switch_is d;
           took = took.0;
           whole = took.1;
-          balance = balance_after k p m rest takes ready h.switch 0 (omega (arith, none, asked)) (omega (arith, stays)) sent;
-          settled = settled_after k p m rest takes ready (switch_same takes.some) goes;
+          balance = balance_after k p m rest it h.switch 0 (omega (arith, none, asked)) (omega (arith, stays)) sent;
+          settled = settled_after k p m rest it (switch_same it.takes.some) goes;
         }
       where
-        not_asked : Input_goes m (waiting w (at 0 0)) (waiting (taken step w (at (suc (suc i)) p)) (at 0 0)) (Is_ready (suc (suc i)) p m rest takes ready) → asking m ≡ 0
+        not_asked : Input_goes m (waiting w (at 0 0)) (waiting (taken step w (at (suc (suc i)) p)) (at 0 0)) (Is_ready (suc (suc i)) p m rest it) → asking m ≡ 0
         not_asked (Stays e none) = none
         not_asked (Loses e r) = let never = r.0 in cc

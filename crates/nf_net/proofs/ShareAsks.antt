@@ -1,18 +1,18 @@
 -- A share asks once for the state of its units, when the fence has come to its home; nothing else that it sends is sent once for a command.
-use Rattle.std.proofs.Common.{◌≡◌, ℕ, ◌+◌, ◌≤◌, Bool, true, false, cond, Option, Some, None, List, [], ◌∷◌, ◌++◌, map, refl, sym, ap, ◌∙◌, subst, arith}
+use Rattle.std.proofs.Common.{◌≡◌, ℕ, ◌+◌, ◌≤◌, Bool, true, false, Option, Some, None, List, [], ◌∷◌, map, refl, ap, subst, arith}
 use Rattle.std.specs.Prelude.{◌==◌, ◌-◌, if◌then◌else◌, length}
 use Rattle.std.proofs.lemmas.Bool.Decides.{nat_tests}
-use Rattle.flow_filter.specs.declared.filter.Filter.{Filter}
 use Rattle.nf_function.specs.declared.chunk.Chunk.{Chunk}
 use Rattle.packet_pool.specs.Pool.{FullCell}
 use Rattle.event_filter.specs.declared.mark.Mark.TheVariants.{Shared}
 use Rattle.nf_msgs.specs.declared.answer.Answer.{Answer}
+use Rattle.nf_msgs.specs.declared.answer.Answer.TheVariants.{Done}
 use Rattle.nf_msgs.specs.declared.msg.Msg.{Msg}
 use Rattle.nf_msgs.specs.declared.msg.Msg.TheVariants as msg
 use Rattle.nf_msgs.specs.Nodes.{switch_node, instance_node}
 use Rattle.copy_share.specs.declared.share_phase.SharePhase.{SharePhase}
 use Rattle.copy_share.specs.declared.share_phase.SharePhase.TheVariants as phase
-use Rattle.copy_share.specs.Share.{SharePlan, ShareState, ShareRow, goes, home, others, syncs, setting, syncing, on_fenced, on_chunks, on_shared, on_synced, row, member_of, served}
+use Rattle.copy_share.specs.Share.{SharePlan, ShareRow, goes, home, others, syncs, setting, syncing, on_fenced, on_chunks, on_shared, on_synced, row, member_of, served}
 use Rattle.ctrl_node.specs.Controller.{Step}
 use Rattle.actor_net.proofs.WeightLaws.{sent_weight}
 use Rattle.answer_net.proofs.CreditCounts.{sent_weight-append}
@@ -49,7 +49,7 @@ module _ (n : ℕ) (first : Bool) (plan : SharePlan) where
   syncs_none chunks (m ∷ ms) = no_more n 1 first (instance_node m) (msg.Sync (m == home plan) plan.op chunks) (λ op. refl) (map (λ member. (instance_node member, msg.Sync (member == home plan) plan.op chunks)) ms) (syncs_none chunks ms)
 
   setting_asks : (ph : SharePhase) (left : ℕ) (sends : List (ℕ × Msg)) → NoneOnce n 1 first sends → Asks ph (setting left sends)
-  setting_asks ph left sends none = elim (left == 0) as (λ b. Asks ph (if b then record { phase = phase.Idle; sends = sends; answer = Some _ } else goes (phase.Setting left) sends)) [
+  setting_asks ph left sends none = elim (left == 0) as (λ b. Asks ph (if b then record { phase = phase.Idle; sends = sends; answer = Some Done } else goes (phase.Setting left) sends)) [
     | true ↦ asks_none ph _ (asked_few ph) none
     | false ↦ asks_none ph _ (asked_few ph) none
   ]

@@ -1,7 +1,6 @@
 -- In every run the packets of units that a refused move was to take from its source were processed there, from its begin to its answer.
 use Rattle.std.proofs.Common.{◌≡◌, ◌≢◌, ℕ, zero, suc, ◌+◌, ◌<◌, Bool, true, false, Option, Some, None, List, [], ◌∷◌, ◌++◌, length, length-append, get_or, append_assoc, append-nil, refl, sym, ap, ◌∙◌, subst, arith}
-use Rattle.std.specs.Prelude.{◌&&◌, ◌||◌, ◌==◌, not, nat_lt, is_some}
-use Rattle.std.specs.List.{filter_map}
+use Rattle.std.specs.Prelude.{◌&&◌, ◌||◌, ◌==◌, not}
 use Rattle.std.specs.declared.alloc.Global.{Global}
 use Rattle.std.specs.Ordering.{nat_cmp}
 use Rattle.std.specs.FinMap as finite
@@ -15,20 +14,18 @@ use Rattle.nf_msgs.specs.declared.answer.Answer.{Answer}
 use Rattle.nf_msgs.specs.declared.answer.Answer.TheVariants.{Done}
 use Rattle.nf_msgs.specs.declared.command.Order.TheVariants as order
 use Rattle.nf_msgs.specs.declared.msg.Msg.{Msg}
-use Rattle.nf_msgs.specs.declared.msg.Msg.TheVariants as msg
 use Rattle.nf_msgs.specs.declared.note.Note.{Note}
 use Rattle.nf_msgs.specs.declared.note.Note.TheVariants as note
 use Rattle.nf_msgs.specs.Nodes.{instance_node}
-use Rattle.switch_rules.specs.declared.target.Target.TheVariants as target
-use Rattle.switch_node.specs.Switch.{switch_step, on_install}
+use Rattle.switch_node.specs.Switch.{switch_step}
 use Rattle.move_op.specs.Move.{MoveState}
 use Rattle.ctrl_node.specs.declared.operation.Operation.{Operation}
 use Rattle.ctrl_node.specs.declared.operation.Operation.TheVariants.{Move, Copy, Share}
 use Rattle.ctrl_node.specs.Controller.{ControllerState, controller_step, opened as opened_controller}
 use Rattle.actor_net.specs.declared.choice.Choice.{Choice}
-use Rattle.actor_net.specs.Network.{Network, Stepped, IsRun, is_input, reaches, run, taken, waiting}
+use Rattle.actor_net.specs.Network.{Network, Stepped, IsRun, reaches, run, taken}
 use Rattle.actor_net.proofs.EnabledChoices.{at}
-use Rattle.actor_net.proofs.RunInduction.{Taking, run_induction}
+use Rattle.actor_net.proofs.RunInduction.{Taking}
 use Rattle.actor_net.proofs.StepOutcome.{Takes, taken_outcome}
 use Rattle.net_world.specs.declared.config.Config.{Config}
 use Rattle.net_world.specs.declared.node.Node.{Node}
@@ -36,44 +33,38 @@ use Rattle.net_world.specs.declared.node.Node.TheVariants.{Controller}
 use Rattle.net_world.specs.Commands.{began, has_answered, is_busy, answers_of, times_begun}
 use Rattle.net_world.specs.Input.{IsInput, order_of}
 use Rattle.net_world.specs.Nodes.{node_step, node_ready}
-use Rattle.net_world.specs.Places.{owner, handed_on}
-use Rattle.net_world.specs.Refused.{moves_away, unit_numbered, StaysAtSource}
-use Rattle.net_world.specs.Start.{started}
+use Rattle.net_world.specs.Places.{owner, handed_on, unit_numbered}
+use Rattle.net_world.specs.Refused.{moves_away, StaysAtSource}
 use Rattle.answer_net.proofs.BusyLemmas.{AreOther, is_other, answers_of-append, times_begun-append, other_not_begun}
 use Rattle.answer_net.proofs.BusyNodes.{switch_hands, instance_says}
-use Rattle.answer_net.proofs.BusyRuns.{Busy, same_controller, busy_is, busy_next}
+use Rattle.answer_net.proofs.BusyRuns.{Busy, same_controller, busy_next}
 use Rattle.answer_net.proofs.CommandPromises.{run_busy}
 use Rattle.answer_net.proofs.ControllerActs.{IsEarly, Was, Was.Was_open, Was.Begins_now, Says_so, Says_so.Neither, Says_so.Begins, Says_so.Answers, Acts, controller_acts}
 use Rattle.outline_net.proofs.FiltersApart.{and_l, and_r}
-use Rattle.joined_net.proofs.HandedUnits.{owner_next}
+use Rattle.whole_joined.proofs.HandedUnits.{owner_next}
 use Rattle.answer_net.proofs.InstallCounts.{passed}
-use Rattle.joined_net.proofs.KnownOperations.{known}
-use Rattle.joined_net.proofs.Joined.{Given, Label, Joined, node_of, shown}
-use Rattle.joined_net.proofs.JoinedSteps.{label, is_taken}
+use Rattle.whole_joined.proofs.KnownOperations.{known}
+use Rattle.whole_joined.proofs.BesideRuns.{its_takes, its_taken}
+use Rattle.whole_joined.proofs.Given.{Given}
+use Rattle.whole_joined.proofs.Joined.{Label, IsTaken, Joined, node_of}
+use Rattle.whole_joined.proofs.JoinedSteps.{scene}
+use Rattle.whole_joined.proofs.NodeSteps.{Wants, node_leads}
 use Rattle.answer_net.proofs.MovesUnderWay.{AreUnderWay, moves_under_way}
-use Rattle.joined_net.proofs.OwnerLemmas.{installed_none, Stands, In_first, In_second, stands, each_there}
-use Rattle.joined_net.proofs.PlaceNotes.{switch_unprocessed, controller_uninstalled}
+use Rattle.whole_joined.proofs.OwnerLemmas.{installed_none, Stands, In_first, In_second, stands, each_there}
+use Rattle.whole_joined.proofs.PlaceNotes.{switch_unprocessed, controller_uninstalled}
 use Rattle.nf_net.proofs.PlaceRuns.{uninstalled_unprocessed}
-use Rattle.joined_net.proofs.RuleChanges.{Changes, Same, Installs, changes}
-use Rattle.joined_net.proofs.RunUnits.{units_fit}
-use Rattle.joined_net.proofs.RunsJoined.{start_world}
+use Rattle.whole_joined.proofs.RunsJoined.{Runs, run_beside}
+use Rattle.nf_net.proofs.InstalledShares.{Alone, Is_it, alone}
+use Rattle.nf_net.proofs.NumberedUnits.{units_fit}
+use Rattle.nf_net.proofs.RuleSteps.{Changed, No_rule, Moves_on, Diverts, changed}
+use Rattle.nf_net.proofs.RunKeeps.{start, count, run_keeps}
 use Rattle.nf_net.proofs.SourceSteps.{Stays, Leaves, Are_at, Is_at, stays_more, owner_stays, quiet_leaves, unprocessed_at, other_change, instance_leaves, began_there}
-use Rattle.joined_net.proofs.StartJoined.{given, all_fit, count_at_start}
-use Rattle.joined_net.proofs.SwitchSteps.{instance_in, instance_is}
+use Rattle.whole_joined.proofs.StartJoined.{given, all_fit}
 use Rattle.answer_net.proofs.ToldCommands.{some_answers}
 
 -- a note of an answer is none of other things
 answered_not_other : (front back : List Note) (op : ℕ) (a : Answer) (notes : List Note) → AreOther notes → notes ≡ front ++ note.Answered op a ∷ back → ⊥
 answered_not_other front back op a notes h e = let never : false ≡ true = each_there (λ n. is_other n ≡ true) front (note.Answered op a) back (subst AreOther e h) in cc
-
--- one note alone
-data Alone {X : Type 0} (x y : X) (front back : List X) : Type 0 where
-  Is_it : x ≡ y → front ≡ [] → back ≡ [] → Alone x y front back
-
-alone : {X : Type 0} (x y : X) (front back : List X) → x ∷ [] ≡ front ++ y ∷ back → Alone x y front back
-alone x y [] back e = let same : x ≡ y = cc in let none : [] ≡ back = cc in Is_it same refl (sym none)
-alone x y (z ∷ []) back e = cc
-alone x y (z ∷ (v ∷ front)) back e = cc
 
 none_there : {X Y : Type 0} (y : X) (front back : List X) → [] ≡ front ++ y ∷ back → Y
 none_there y [] back e = cc
@@ -92,13 +83,13 @@ module _ (F : Type 0) {R : Type 0} (f : Semantics R) (laws : FunctionLaws f) (al
   g = given f c items is
 
   abbrev n : ℕ
-  n = length c.names + 2
+  n = count F f laws alloc c items is
 
   abbrev step : Node F R → ℕ → Msg → Stepped (Node F R) Msg Note
   step = node_step f
 
-  abbrev start : Network (Node F R) Msg Note
-  start = started {F = F} {R = R} alloc c items
+  abbrev at_start : Network (Node F R) Msg Note
+  at_start = start F f laws alloc c items is
 
   reach : reaches n 1 0 ≡ true
   reach = let some = (Decides-ltb 0 n).1 (omega arith) in rw some refl
@@ -121,7 +112,14 @@ module _ (F : Type 0) {R : Type 0} (f : Semantics R) (laws : FunctionLaws f) (al
       by_place (In_first cs here) = old op first between front behind number i output (record { answer = refused.answer; refused = refused.refused; after = cs; whole = here ∙ append_assoc first (note.Begun op ∷ between) (note.Answered op refused.answer ∷ cs) }) e away
       by_place (In_second cs from there) = new op refused.answer first between cs refused.after refused.refused from there front behind number i output e away
 
-  module _ (w : Network (Node F R) Msg Note) (j : Joined f g n w) (b : Busy g w) (under : AreUnderWay f c items is n w j) (h : Keeps w) where
+  module _ (w : Network (Node F R) Msg Note) (r : Runs F f laws alloc c items is w) (b : Busy g w) (under : AreUnderWay f c items is n w r.joined) (h : Keeps w) where
+    abbrev j : Joined f g n w
+    j = r.joined
+
+    -- what a node takes in a run
+    abbrev In_run : ℕ → ℕ → Msg → Type 0
+    In_run k p m = IsTaken f g n (scene f g n refl (Wants f g) (node_leads f laws g (all_fit f c items is) n) w r.joined) (record { node = k; port = p; message = m })
+
     same_one : 1 < n → h.controller ≡ j.nodes.controller
     same_one there = same_controller {F = F} {R = R} h.controller j.nodes.controller (sym (h.controller_is (Controller h.controller)) ∙ j.nodes_are 1 there (Controller h.controller))
 
@@ -142,27 +140,18 @@ module _ (F : Type 0) {R : Type 0} (f : Semantics R) (laws : FunctionLaws f) (al
           }
 
     -- the switch
-    switch_leaves : (p : ℕ) (m : Msg) (rest : List Msg) → Takes step n w 0 p (node_of j.nodes 0) m rest → Label f g p 0 m → Changes j.nodes.switch m → (op : ℕ) (x : MoveState) → finite.get j.nodes.controller.operations op ≡ Some (Move x) → passed x.phase ≡ 0 → Leaves f c items x.plan.filter x.plan.from w.log (switch_step j.nodes.switch m).notes
-    switch_leaves p m rest takes labelled (Same none) op x there early u fits owning owned = quiet_leaves f c items x.plan.filter x.plan.from w.log (switch_step j.nodes.switch m).notes none (switch_unprocessed j.nodes.switch m) u fits owning owned
-    switch_leaves p m rest takes labelled (Installs k filter from to e) op x there early u fits owning owned =
-        let dst = instance_in to in
-        let same : m ≡ msg.Install k filter from (target.Instance dst) = e ∙ ap (λ t. msg.Install k filter from t) (instance_is (length c.names) to (subst (λ y. Label f g p 0 y) e labelled).2) in
-        let l = subst (λ y. Label f g p 0 y) same labelled in
-        let waits : waiting w (at 0 1) ≡ msg.Install k filter from (target.Instance dst) ∷ rest = ap (λ q. waiting w (at 0 q)) (sym l.0.0) ∙ takes.waits ∙ ap (λ y. y ∷ rest) same in
-        let link = j.links 1 0 (omega arith) takes.some refl ∙ ap (λ ms. filter_map (shown f g) ms) waits in
-        let off = other_change f laws c items is n w j op x there early u fits owning owned k filter (instance_node from) (instance_node dst) _ l.3 link in
-        let same_count = j.shown_is.switch.instances in
-        let from_there : nat_lt from j.nodes.switch.instances ≡ true = rw same_count l.1 in
-        let to_there : nat_lt dst j.nodes.switch.instances ≡ true = rw same_count l.2 in
-        let noted : (switch_step j.nodes.switch m).notes ≡ note.Installed k ∷ [] = ap (λ y. (switch_step j.nodes.switch y).notes) same ∙ installed_note k filter from dst from_there to_there in
-        let plan = l.4.plan_is in
-        let order_is = plan.order_is ∙ ap (λ y. Some (order.Move plan.source plan.destination y l.4.plan.keep)) l.4.filter_is in
+    switch_leaves : (p : ℕ) (m : Msg) (it : In_run 0 p m) → Changed f g n _ j.shown_is p m it → (op : ℕ) (x : MoveState) → finite.get j.nodes.controller.operations op ≡ Some (Move x) → passed x.phase ≡ 0 → Leaves f c items x.plan.filter x.plan.from w.log (switch_step j.nodes.switch m).notes
+    switch_leaves p m it (No_rule none) op x there early u fits owning owned = quiet_leaves f c items x.plan.filter x.plan.from w.log (switch_step j.nodes.switch m).notes none (switch_unprocessed j.nodes.switch m) u fits owning owned
+    switch_leaves p m it (Moves_on k filter from dst rest noted its whole waits) op x there early u fits owning owned =
+        let off = other_change f laws c items is n w j op x there early u fits owning owned k filter (instance_node from) (instance_node dst) rest whole waits in
+        let plan = its.plan_is in
+        let order_is = plan.order_is ∙ ap (λ y. Some (order.Move plan.source plan.destination y its.plan.keep)) its.filter_is in
         let handed : handed_on c.names (order_of items) u (order_of items k) (owner c items u w.log) ≡ owner c items u w.log = rw (order_is, off) refl in
-        let next : owner c items u (w.log ++ note.Installed k ∷ []) ≡ handed_on c.names (order_of items) u (order_of items k) (owner c items u w.log) = owner_next g u w.log k in
-        (ap (λ ns. owner c items u (w.log ++ ns)) noted ∙ next ∙ handed ∙ owned, unprocessed_at f c items u x.plan.from (switch_step j.nodes.switch m).notes (switch_unprocessed j.nodes.switch m))
-      where
-        installed_note : (k : ℕ) (filter : Filter) (from dst : ℕ) → nat_lt from j.nodes.switch.instances ≡ true → nat_lt dst j.nodes.switch.instances ≡ true → (on_install j.nodes.switch k filter from (target.Instance dst)).notes ≡ note.Installed k ∷ []
-        installed_note k filter from dst a d = rw (a, d) refl
+        (ap (λ ns. owner c items u (w.log ++ ns)) noted ∙ owner_next g u w.log k ∙ handed ∙ owned, unprocessed_at f c items u x.plan.from (switch_step j.nodes.switch m).notes (switch_unprocessed j.nodes.switch m))
+    switch_leaves p m it (Diverts k filter from rest noted its whole waits) op x there early u fits owning owned =
+        let order_is = its.order_is in
+        let handed : handed_on c.names (order_of items) u (order_of items k) (owner c items u w.log) ≡ owner c items u w.log = rw order_is refl in
+        (ap (λ ns. owner c items u (w.log ++ ns)) noted ∙ owner_next g u w.log k ∙ handed ∙ owned, unprocessed_at f c items u x.plan.from (switch_step j.nodes.switch m).notes (switch_unprocessed j.nodes.switch m))
 
     -- the controller
     module _ (p : ℕ) (m : Msg) (rest : List Msg) (takes : Takes step n w 1 p (node_of j.nodes 1) m rest) (labelled : Label f g p 1 m) (after : Busy g (taken step w (at 1 p))) where
@@ -176,7 +165,7 @@ module _ (F : Type 0) {R : Type 0} (f : Semantics R) (laws : FunctionLaws f) (al
       left = (taken_outcome step n w 1 p (node_of j.nodes 1) m rest takes).log
 
       acts : Acts g n reach t (controller_step t p m)
-      acts = controller_acts g n reach t (known f g t j.world.ops j.world.next j.shown_is.controller) f p m labelled
+      acts = controller_acts g n reach t (known f g t j.world.ops j.world.shares j.world.next j.shown_is.controller) f p m labelled
 
       leaves : (filter : Filter) (i : ℕ) → Leaves f c items filter i w.log notes
       leaves filter i = quiet_leaves f c items filter i w.log notes (installed_none notes (controller_uninstalled t p m)) (uninstalled_unprocessed notes (controller_uninstalled t p m))
@@ -228,7 +217,7 @@ module _ (F : Type 0) {R : Type 0} (f : Semantics R) (laws : FunctionLaws f) (al
           -- a command that isn't open would be answered twice
           was_closed : finite.get t.operations op ≡ None → notes ≡ note.Answered op a ∷ [] → w.log ≡ first ++ note.Begun op ∷ between → i ≡ owner c items (unit_numbered c items f.kind number) first
           was_closed none noted whole =
-              let off : is_busy op w.log ≡ false = sym (busy_is f g n refl w j b op) ∙ ap is_some none in
+              let off : is_busy op w.log ≡ false = under.closed_busy op none in
               let on : began op w.log ≡ true = ap (began op) whole ∙ began_there op first between in
               let answered : has_answered op w.log ≡ true = (let both : true && not (has_answered op w.log) ≡ false = rw on at off in answered_of (has_answered op w.log) both) in
               let self : (op == op) ≡ true = grind (arith, nat_tests) in
@@ -275,19 +264,15 @@ module _ (F : Type 0) {R : Type 0} (f : Semantics R) (laws : FunctionLaws f) (al
           by_was op x (Was_open y got early same) = subst (λ q. Stays f c items op q.filter q.from (w.log ++ notes)) same (stays_more f c items op y.plan.filter y.plan.from w.log notes (kept op y got early) (not_begun op y got acts.says) (leaves y.plan.filter y.plan.from))
           by_was op x (Begins_now e) = begins_now op x.plan.filter x.plan.from e
 
-    keeps : (k p : ℕ) (m : Msg) (rest : List Msg) (takes : Takes step n w k p (node_of j.nodes k) m rest) → (is_input (at k p) ≡ true → node_ready (node_of j.nodes k) m ≡ true) → Busy g (taken step w (at k p)) → Keeps (taken step w (at k p))
-    keeps zero p m rest takes ready after =
-        let labelled = label f laws g (all_fit f c items is) n refl w 0 p m rest j takes ready in
-        others_keep 0 p m rest takes (λ e. cc) (switch_hands f g j.nodes.switch p m labelled).notes_are (switch_leaves p m rest takes labelled (changes j.nodes.switch m))
-    keeps (suc zero) p m rest takes ready after = controller_keeps p m rest takes (label f laws g (all_fit f c items is) n refl w 1 p m rest j takes ready) after
-    keeps (suc (suc y)) p m rest takes ready after = others_keep (suc (suc y)) p m rest takes (λ e. cc) (instance_says f g (suc (suc y)) (j.nodes.instance (suc (suc y))) m).notes_are (λ op x there early. instance_leaves f laws c items is n w j op x there early y p m (is_taken f laws g (all_fit f c items is) n refl w (suc (suc y)) p m rest j takes ready))
+    keeps : (k p : ℕ) (m : Msg) (rest : List Msg) → Takes step n w k p (node_of j.nodes k) m rest → In_run k p m → Busy g (taken step w (at k p)) → Keeps (taken step w (at k p))
+    keeps zero p m rest takes it after = others_keep 0 p m rest takes (λ e. cc) (switch_hands f g j.nodes.switch p m it.label).notes_are (switch_leaves p m it (changed f g n _ j.shown_is p m it))
+    keeps (suc zero) p m rest takes it after = controller_keeps p m rest takes it.label after
+    keeps (suc (suc y)) p m rest takes it after = others_keep (suc (suc y)) p m rest takes (λ e. cc) (instance_says f g (suc (suc y)) (j.nodes.instance (suc (suc y))) m).notes_are (λ op x there early. instance_leaves f laws c items is n w j op x there early y p m it)
 
     next_keeps : (d : Choice) → Taking node_ready step n w d → Keeps (taken step w d)
-    next_keeps d q =
-        let same : q.node ≡ node_of j.nodes d.node = sym (q.takes.node_is q.node) ∙ j.nodes_are d.node q.takes.receiver q.node in
-        keeps d.node d.port q.message q.rest (subst (λ y. Takes step n w d.node d.port y q.message q.rest) same q.takes) (subst (λ y. is_input d ≡ true → node_ready y q.message ≡ true) same q.was_ready) (busy_next f g n refl w d q j b)
+    next_keeps d t = keeps d.node d.port t.message t.rest (its_takes f laws g (all_fit f c items is) n refl w d t j r.beside) (its_taken f laws g (all_fit f c items is) n refl w d t j r.beside) (busy_next f g n refl w d t j b)
 
-  start_keeps : Keeps start
+  start_keeps : Keeps at_start
   start_keeps = record {
     controller = opened_controller c.names c.site;
     controller_is = λ d. refl;
@@ -298,9 +283,6 @@ module _ (F : Type 0) {R : Type 0} (f : Semantics R) (laws : FunctionLaws f) (al
       closed : (op : ℕ) → finite.get (finite.empty {X = Operation} {R = nat_cmp}) op ≡ None
       closed op = finite.get-empty nat_cmp op
 
-  run_keeps : (cs : List Choice) → IsRun node_ready step cs start → Keeps (run step cs start)
-  run_keeps cs run_is = run_induction node_ready step n (λ _ w. Keeps w) start (λ ds w d next h. subst (λ v. Taking node_ready step n v d → Keeps v → Keeps (taken step v d)) (sym next.reached) (λ q k. (let both = run_busy F f laws alloc c items is ds next.is_run in next_keeps (run step ds start) both.0 both.1 (moves_under_way F f laws alloc c items is ds next.is_run both.0) k d q)) next.taking h) (start_world F f laws alloc c items is) (count_at_start F f alloc c items is) start_keeps cs run_is
-
   -- of every run
-  pub stays_at_source : (cs : List Choice) → IsRun node_ready step cs start → StaysAtSource c items f.kind (run step cs start).log
-  stays_at_source cs run_is = (run_keeps cs run_is).at_source
+  pub stays_at_source : (cs : List Choice) → IsRun node_ready step cs at_start → StaysAtSource c items f.kind (run step cs at_start).log
+  stays_at_source cs run_is = (run_keeps F f laws alloc c items is Keeps start_keeps (λ ds ok d t h. (let r = run_beside F f laws alloc c items is ds ok in next_keeps (run step ds at_start) r (run_busy F f laws alloc c items is ds ok).1 (moves_under_way F f laws alloc c items is ds ok r.joined) h d t)) cs run_is).at_source

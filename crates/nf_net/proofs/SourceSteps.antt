@@ -11,6 +11,8 @@ use Rattle.nf_function.specs.Records.{Laws as FunctionLaws}
 use Rattle.nf_function.specs.Semantics.{Semantics}
 use Rattle.nf_function.specs.Units.{takes}
 use Rattle.event_store.specs.Store.{stored}
+use Rattle.record_table.specs.Table.{same_unit}
+use Rattle.record_table.proofs.UnitOrder.{same_unit_equiv}
 use Rattle.nf_msgs.specs.declared.answer.Answer.TheVariants as answer
 use Rattle.nf_msgs.specs.declared.msg.Msg.{Msg}
 use Rattle.nf_msgs.specs.declared.note.Note.{Note}
@@ -27,27 +29,38 @@ use Rattle.actor_net.proofs.EnabledChoices.{at as at_node}
 use Rattle.unit_machine.proofs.Labels.{Each, each-append}
 use Rattle.unit_machine.proofs.Real as real
 use Rattle.abstract_net.proofs.Net as net
-use Rattle.abstract_net.proofs.Net.{Open, find_op, inst_step}
+use Rattle.abstract_net.proofs.Net.{Open, find_op}
 use Rattle.abstract_net.proofs.Rest.{none_mine}
+use Rattle.abstract_net.proofs.Elsewhere.{where_two}
+use Rattle.abstract_net.proofs.Shares.{Any, Old, New, Share_msg, olds, moves_of, member_step}
 use Rattle.abstract_net.proofs.Sources.{is_early_real, at_source, untaken}
+use Rattle.abstract_net.proofs.UnderStarts.{seeing}
+use Rattle.abstract_net.proofs.Units.{Where}
+use Rattle.abstract_net.proofs.Untaken.{head_none}
 use Rattle.net_world.specs.declared.config.Config.{Config}
 use Rattle.net_world.specs.declared.node.Node.{Node}
 use Rattle.net_world.specs.Commands.{began}
 use Rattle.net_world.specs.Input.{IsInput, order_of}
 use Rattle.net_world.specs.Log.{installed}
-use Rattle.net_world.specs.Places.{owner, owner_after, first_owner}
-use Rattle.net_world.specs.Refused.{unit_numbered}
+use Rattle.net_world.specs.Places.{owner, owner_after, first_owner, unit_numbered}
 use Rattle.outline_net.proofs.ControlOutline.{Sees, SeesMove}
 use Rattle.outline_net.proofs.FiltersApart.{is_whole, unit_fits, takes_whole, takes_same}
 use Rattle.answer_net.proofs.InstallCounts.{passed}
-use Rattle.joined_net.proofs.Joined.{Given, S, place, Scene, IsTaken, IsInstanceAt, Joined}
-use Rattle.joined_net.proofs.LogLemmas.{has_begun-append}
+use Rattle.whole_joined.proofs.Given.{Given, place}
+use Rattle.whole_joined.proofs.Joined.{S, A, Scene, IsTaken, IsInstanceAt, Joined, came_by}
+use Rattle.whole_joined.proofs.LogLemmas.{has_begun-append}
 use Rattle.outline_net.proofs.MoveOutline.{outline_phase}
 use Rattle.outline_net.proofs.Outline.{ran_in, is_sys}
-use Rattle.joined_net.proofs.OwnerLemmas.{installed_same, installed_quiet, Stands, In_first, In_second, stands}
-use Rattle.joined_net.proofs.PlaceNotes.{IsQuiet, instance_quiet, AreUnprocessed}
-use Rattle.joined_net.proofs.RunUnits.{Ran_as, Seen, Unseen, ran_as, some_mine}
-use Rattle.joined_net.proofs.StartJoined.{given}
+use Rattle.whole_joined.proofs.OwnerLemmas.{installed_same, installed_quiet, Stands, In_first, In_second, stands}
+use Rattle.whole_joined.proofs.PlaceNotes.{IsQuiet, instance_quiet, AreUnprocessed}
+use Rattle.whole_joined.proofs.RunUnits.{Ran_as, Seen, Unseen, ran_as, ran_any}
+use Rattle.whole_joined.proofs.StartJoined.{given, all_fit}
+use Rattle.whole_outline.proofs.OpenShares.{but_shares}
+use Rattle.whole_net.proofs.UnderMoves.{move_apart, not_taken}
+use Rattle.whole_net.proofs.WhereAll.{Where_all, Apart_from_shares, Under_share}
+use Rattle.nf_net.proofs.MembersServed.{mine_there, unseen_ran}
+use Rattle.nf_net.proofs.NumberedUnits.{Ran_there, ran_there}
+use Rattle.nf_net.proofs.UnitShares.{owner_goes}
 
 -- what is left of a list behind a front
 behind_front : {X : Type 0} (xs ys zs : List X) → xs ++ ys ≡ xs ++ zs → ys ≡ zs
@@ -147,7 +160,7 @@ module _ {F R : Type 0} (f : Semantics R) (laws : FunctionLaws f) (c : Config) (
       sees : SeesMove f (place g) e m (stored j.nodes.controller.store op)
 
     is_open : Is_open
-    is_open = by_found (find_op j.world.ops op) refl (subst (λ o. Sees f (place g) (find_op j.world.ops op) o (stored j.nodes.controller.store op)) there (j.shown_is.controller.opens op))
+    is_open = by_found (find_op j.world.ops op) refl (subst (λ o. Sees f (place g) (find_op j.world.ops op) (but_shares o) (stored j.nodes.controller.store op)) there (j.shown_is.controller.opens op).move)
       where
         by_found : (o : Option (Open R)) → find_op j.world.ops op ≡ o → Sees f (place g) o (Some (Move m)) (stored j.nodes.controller.store op) → Is_open
         by_found None e sees = absurd sees
@@ -163,12 +176,16 @@ module _ {F R : Type 0} (f : Semantics R) (laws : FunctionLaws f) (c : Config) (
       takes_it : takes_whole f.kind is_open.e.filter u ≡ true
       takes_it = ap (λ x. takes_whole f.kind x u) is_open.sees.filter ∙ takes_same f.kind m.plan.filter u whole fits ∙ taken
 
+      -- the unit is apart from shares
+      where_is : Where (S f g) (is_sys f g.site g.packet) u (moves_of (S f g) (A f g) j.world) (came_by f g w.log u).all (came_by f g w.log u).bared
+      where_is = move_apart (S f g) (A f g) (is_sys f g.site g.packet) u j.world (came_by f g w.log u) (j.shown_is.every.unit u) op is_open.e is_open.found takes_it
+
       route : j.world.target u ≡ is_open.e.op.src
-      route = j.shown_is.owners u fits ∙ ap instance_node owned ∙ ap (λ o. o.src) (sym is_open.sees.op)
+      route = owner_goes f c items is n w j u fits (where_two (S f g) (is_sys f g.site g.packet) u (moves_of (S f g) (A f g) j.world) _ _ where_is) ∙ ap instance_node owned ∙ ap (λ o. o.src) (sym is_open.sees.op)
 
       -- a change of the rules that the switch takes next
-      pub other_change : (k : ℕ) (filter : Filter) (from to : ℕ) (rest : List (net.Msg R)) → is_whole f.kind filter ≡ true → j.world.link 1 0 ≡ net.Mv filter (real.M_install k from to) ∷ rest → takes filter u ≡ false
-      other_change k filter from to rest filter_whole waits = sym (takes_same f.kind filter u filter_whole fits) ∙ untaken (S f g) (is_sys f g.site g.packet) j.world op is_open.e is_open.found is_early_there u takes_it _ _ (j.shown_is.every.unit u) route filter k from to rest waits
+      pub other_change : (k : ℕ) (filter : Filter) (from to : ℕ) (rest : List (Any R)) → is_whole f.kind filter ≡ true → j.world.link 1 0 ≡ Old (net.Mv filter (real.M_install k from to)) ∷ rest → takes filter u ≡ false
+      other_change k filter from to rest filter_whole waits = sym (takes_same f.kind filter u filter_whole fits) ∙ untaken (S f g) (is_sys f g.site g.packet) (moves_of (S f g) (A f g) j.world) op is_open.e is_open.found is_early_there u takes_it _ _ where_is route filter k from to (olds rest) (ap olds waits)
 
       -- what an instance processes of the unit
       module _ (y p : ℕ) (message : Msg) (is_taken : IsTaken f g n scene (record { node = suc (suc y); port = p; message = message })) where
@@ -178,30 +195,49 @@ module _ {F R : Type 0} (f : Semantics R) (laws : FunctionLaws f) (c : Config) (
         abbrev own : InstanceState F R
         own = j.nodes.instance k
 
-        abbrev at : IsInstanceAt f g k own (j.world.inst k)
+        abbrev at : IsInstanceAt f g k own j.world
         at = j.shown_is.instances k (omega arith) is_taken.receiver
 
         abbrev notes : List Note
         notes = (instance_step f own message).notes
 
-        node_is : (before after : List Note) (number i : ℕ) (output : Output) → notes ≡ before ++ note.Processed number i output ∷ after → (S f g).unit_of number ≡ u → Ran_as f laws g own message → k ≡ is_open.e.op.src
-        node_is before after number i output e mine (Unseen none) = absurd (some before after number i output e (ap (none_mine (S f g) ((S f g).unit_of number)) none))
-          where
-            some : (before after : List Note) (number i : ℕ) (output : Output) → notes ≡ before ++ note.Processed number i output ∷ after → none_mine (S f g) ((S f g).unit_of number) (filter_map ran_in notes) ≢ []
-            some before after number i output e = subst (λ ns. none_mine (S f g) ((S f g).unit_of number) (filter_map ran_in ns) ≢ []) (sym e) (some_mine (S f g) before number i output after)
-        node_is before after number i output e mine (Seen a shown_as ran) =
-            let not_first : (k == 0) ≡ false = grind (arith, nat_tests) in
-            let not_second : (k == 1) ≡ false = grind (arith, nat_tests) in
-            let not_input : (p == 0) && (k == 0) ≡ false = grind (arith, nat_tests) in
-            let some : none_mine (S f g) ((S f g).unit_of number) (filter_map ran_in notes) ≢ [] = subst (λ ns. none_mine (S f g) ((S f g).unit_of number) (filter_map ran_in ns) ≢ []) (sym e) (some_mine (S f g) before number i output after) in
-            let follows : filter_map ran_in notes ≡ (inst_step (S f g) (j.world.inst k) a).ran = ran ∙ ap (λ x. (inst_step (S f g) x a).ran) at.outline_is in
-            at_source (S f g) (is_sys f g.site g.packet) j.world op is_open.e is_open.found is_early_there u takes_it _ _ (j.shown_is.every.unit u) route p k a is_taken.rest not_first not_second (is_taken.head not_input a shown_as)
-            (subst (λ x. none_mine (S f g) x (inst_step (S f g) (j.world.inst k) a).ran ≢ []) mine (subst (λ ns. none_mine (S f g) ((S f g).unit_of number) ns ≢ []) follows some))
+        not_first : (k == 0) ≡ false
+        not_first = grind (arith, nat_tests)
+
+        not_second : (k == 1) ≡ false
+        not_second = grind (arith, nat_tests)
+
+        not_input : (p == 0) && (k == 0) ≡ false
+        not_input = grind (arith, nat_tests)
+
+        none_among : (xs ys : List ℕ) (q : ℕ) → [] ≡ xs ++ q ∷ ys → ⊥
+        none_among [] ys q e = cc
+        none_among (x ∷ xs) ys q e = cc
+
+        module _ (before after : List Note) (number i : ℕ) (output : Output) (e : notes ≡ before ++ note.Processed number i output ∷ after) (mine : (S f g).unit_of number ≡ u) where
+          stood : Ran_there (filter_map ran_in notes) number
+          stood = subst (λ ns. Ran_there (filter_map ran_in ns) number) (sym e) (ran_there before number i output after)
+
+          some : none_mine (S f g) u (filter_map ran_in notes) ≢ []
+          some = subst (λ v. none_mine (S f g) u v ≢ []) (sym stood.whole) (mine_there (S f g) (A f g) (is_sys f g.site g.packet) u number (subst (λ v. same_unit ((S f g).unit_of number) v ≡ true) mine (same_unit_equiv.refl ((S f g).unit_of number))) stood.front stood.back)
+
+          -- a message of a share has nothing of the unit
+          not_shared : (m : Share_msg R) → j.world.link p k ≡ New m ∷ is_taken.rest → none_mine (S f g) u (member_step (S f g) (A f g) (j.world.inst k).live (j.world.standby k) m).ran ≢ [] → Where_all (S f g) (A f g) (is_sys f g.site g.packet) u j.world (came_by f g w.log u) → ⊥
+          not_shared m waits ran (Apart_from_shares h none) = ran (unseen_ran (S f g) (A f g) (is_sys f g.site g.packet) u j.world.shares (j.world.inst k).live (j.world.standby k) m (head_none (S f g) u (A f g) j.world p k (New m) is_taken.rest not_input waits h.untaken))
+          not_shared m waits ran (Under_share x older d h o flags) = let never : true ≡ false = sym takes_it ∙ not_taken (S f g) (A f g) (seeing (S f g) (A f g) u x) j.world older _ h op is_open.e is_open.found in cc
+
+          by_seen : (a : Any R) → j.world.link p k ≡ a ∷ is_taken.rest → filter_map ran_in notes ≡ ran_any f g (j.world.inst k) (j.world.standby k) a → k ≡ is_open.e.op.src
+          by_seen (Old a) waits ran = at_source (S f g) (is_sys f g.site g.packet) (moves_of (S f g) (A f g) j.world) op is_open.e is_open.found is_early_there u takes_it _ _ where_is route p k a (olds is_taken.rest) not_first not_second (ap olds waits) (subst (λ v. none_mine (S f g) u v ≢ []) ran some)
+          by_seen (New m) waits ran = absurd (not_shared m waits (subst (λ v. none_mine (S f g) u v ≢ []) ran some) (j.shown_is.every.unit u))
+
+          node_is : Ran_as f laws g (all_fit f c items is) own message → k ≡ is_open.e.op.src
+          node_is (Unseen none) = absurd (none_among stood.front stood.back number (sym none ∙ stood.whole))
+          node_is (Seen a shown_as ran) = by_seen a (is_taken.head not_input a shown_as) (ran ∙ ap (λ x. ran_any f g x own.table.standby a) at.outline_is ∙ ap (λ t. ran_any f g (j.world.inst k) t a) at.standby_is)
 
         one_at : (before after : List Note) (x : Note) → notes ≡ before ++ x ∷ after → Is_at f c items u m.plan.from x
         one_at before after (note.Processed number i output) e = λ mine.
             let quiet = each_there_is before after number i output e in
-            let node = node_is before after number i output e mine (ran_as f laws g k own (j.world.inst k) at p y message is_taken.label) in
+            let node = node_is before after number i output e mine (ran_as f laws g (all_fit f c items is) k own j.world (omega arith) at p y message is_taken.label) in
             let source = ap (λ o. o.src) is_open.sees.op in
             let index = at.number in
             omega (arith, quiet, node, source, index)

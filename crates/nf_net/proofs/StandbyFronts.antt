@@ -1,6 +1,6 @@
 -- Fronts of what was processed of a unit, by its packets: what stands by at an instance in a world of a run, and what is live there, is the record of
 -- one; and what sees more in the whole world that shows it has seen a front that goes on from the older.
-use Rattle.std.proofs.Common.{◌≡◌, ℕ, ◌+◌, ◌<◌, ◌≤◌, true, false, Option, Some, None, List, [], ◌∷◌, ◌++◌, length, get_or, refl, sym, ap, ◌∙◌, subst, arith}
+use Rattle.std.proofs.Common.{◌≡◌, ℕ, ◌<◌, ◌≤◌, true, false, Option, Some, None, List, [], ◌∷◌, ◌++◌, length, refl, sym, ap, ◌∙◌, subst, arith}
 use Rattle.std.specs.Prelude.{if◌then◌else◌, nat_lt, slice_get}
 use Rattle.std.specs.FinMap as finite
 use Rattle.std.proofs.lemmas.Bool.Decides.{nat_tests}
@@ -112,10 +112,10 @@ module _ {R : Type 0} (f : Semantics R) (c : Config) (items : List Msg) (is : Is
     within_log : (seen : List Ran) → stages.IsFront seen (ran_of (S f g) (A f g) u ds) → IsFront (packets seen) (went f c items u log)
     within_log seen h = subst (λ all. IsFront (packets seen) all) went_is (to_front seen (ran_of (S f g) (A f g) u ds) h)
 
-    pub of_front : (r : Option R) → Front_of (S f g) (A f g) (is_sys g.site g.packet) u (ran_of (S f g) (A f g) u ds) r → IsOfFront f c items (went f c items u log) r
+    pub of_front : (r : Option R) → Front_of (S f g) (A f g) (is_sys f g.site g.packet) u (ran_of (S f g) (A f g) u ds) r → IsOfFront f c items (went f c items u log) r
     of_front r h = record { front = packets h.seen; is_front = within_log h.seen h.front; folds = to_kept h.seen r h.fold }
 
-    pub sees_more : (old new : Option R) → Sees_more (S f g) (A f g) (is_sys g.site g.packet) u (ran_of (S f g) (A f g) u ds) old new → SeesMore f c items (went f c items u log) old new
+    pub sees_more : (old new : Option R) → Sees_more (S f g) (A f g) (is_sys f g.site g.packet) u (ran_of (S f g) (A f g) u ds) old new → SeesMore f c items (went f c items u log) old new
     sees_more old new h = record {
       before = packets h.before;
       since = packets h.since;
@@ -128,11 +128,11 @@ module _ {R : Type 0} (f : Semantics R) (c : Config) (items : List Msg) (is : Is
   module _ {F : Type 0} (n : ℕ) where
     -- what stands by at an instance
     pub instance_front : (x : Scene F f g) → AreShown f g n x → (k : ℕ) → IsInstanceAt f g k (x.nodes.instance k) x.world → (u : units.Unit) → IsOfFront f c items (went f c items u x.log) (finite.get (x.nodes.instance k).table.standby u)
-    instance_front x are k at u = of_front u x.log x.world.done are.done_is (finite.get (x.nodes.instance k).table.standby u) (subst (λ o. Front_of (S f g) (A f g) (is_sys g.site g.packet) u (ran_of (S f g) (A f g) u x.world.done) o) (sym (ap (λ t. finite.get t u) at.standby_is)) ((are.every.fronts u).standby k))
+    instance_front x are k at u = of_front u x.log x.world.done are.done_is (finite.get (x.nodes.instance k).table.standby u) (subst (λ o. Front_of (S f g) (A f g) (is_sys f g.site g.packet) u (ran_of (S f g) (A f g) u x.world.done) o) (sym (ap (λ t. finite.get t u) at.standby_is)) ((are.every.fronts u).standby k))
 
     -- and what is live there
     live_front_at : (x : Scene F f g) → AreShown f g n x → (k : ℕ) → IsInstanceAt f g k (x.nodes.instance k) x.world → (u : units.Unit) → IsOfFront f c items (went f c items u x.log) (finite.get (x.nodes.instance k).table.live u)
-    live_front_at x are k at u = of_front u x.log x.world.done are.done_is (finite.get (x.nodes.instance k).table.live u) (subst (λ o. Front_of (S f g) (A f g) (is_sys g.site g.packet) u (ran_of (S f g) (A f g) u x.world.done) o) (sym (ap (λ y. finite.get y.live u) at.outline_is)) (live_front (S f g) (A f g) (is_sys g.site g.packet) u x.world (came_by f g x.log u) are.every.global (are.every.unit u) k))
+    live_front_at x are k at u = of_front u x.log x.world.done are.done_is (finite.get (x.nodes.instance k).table.live u) (subst (λ o. Front_of (S f g) (A f g) (is_sys f g.site g.packet) u (ran_of (S f g) (A f g) u x.world.done) o) (sym (ap (λ y. finite.get y.live u) at.outline_is)) (live_front (S f g) (A f g) (is_sys f g.site g.packet) u x.world (came_by f g x.log u) are.every.global (are.every.unit u) k))
 
     -- In a world of a run.
     module _ (w : Network (Node F R) Msg Note) (count : length w.nodes ≡ n) (j : Joined f g n w) where

@@ -1,6 +1,6 @@
 -- A choice of a run leaves what stands by at each instance, or lets it see more of what was processed of its unit: an instance's step by its message.
 use Rattle.std.proofs.Common.{◌≡◌, ◌≢◌, ℕ, zero, suc, ◌+◌, ◌<◌, ◌≤◌, Bool, true, false, Option, Some, None, List, [], ◌∷◌, ◌++◌, length, get_or, refl, sym, ap, ◌∙◌, subst, arith}
-use Rattle.std.specs.Prelude.{if◌then◌else◌, ◌==◌, nat_lt, slice_get}
+use Rattle.std.specs.Prelude.{◌&&◌, ◌==◌, nat_lt, slice_get}
 use Rattle.std.specs.FinMap as finite
 use Rattle.std.specs.List.{filter_map}
 use Rattle.std.proofs.lemmas.Bool.Decides.{nat_tests, Decides-eqb}
@@ -11,7 +11,7 @@ use Rattle.nf_function.specs.declared.unit.Unit as units
 use Rattle.nf_function.specs.UnitOrder.{units_total}
 use Rattle.nf_function.specs.Records.{Fits, newest, Laws as FunctionLaws}
 use Rattle.nf_function.specs.Semantics.{Semantics}
-use Rattle.record_table.specs.Table.{Records, either, newest_of}
+use Rattle.record_table.specs.Table.{either, newest_of}
 use Rattle.record_table.specs.Chunks.{records_of}
 use Rattle.record_table.proofs.RecordLookUps.{each_newest}
 use Rattle.event_filter.specs.declared.mark.Mark.TheVariants as mark
@@ -35,7 +35,7 @@ use Rattle.whole_net.proofs.SeesMore.{Sees_more, inst_sees}
 use Rattle.net_world.specs.declared.config.Config.{Config}
 use Rattle.net_world.specs.declared.node.Node.{Node}
 use Rattle.net_world.specs.declared.node.Node.TheVariants.{Instance}
-use Rattle.net_world.specs.Input.{packet_of, most_counted, IsInput}
+use Rattle.net_world.specs.Input.{most_counted, IsInput}
 use Rattle.net_world.specs.Log.{done}
 use Rattle.net_world.specs.Nodes.{node_step, node_ready}
 use Rattle.net_world.specs.Fold.{fold, went}
@@ -149,11 +149,11 @@ module _ {F R : Type 0} (f : Semantics R) (laws : FunctionLaws f) (c : Config) (
       let v = whole_inst (S f g) (A f g) x.world p k (New seen) in
       let steps = new_steps f g.site g.packet (place g) x.world p k i did seen shows follows in
       let log : v.done ≡ by_node f g (done (x.log ++ did.notes)) =
-          steps.done ∙ ap (λ ds. ds ++ at_node k (filter_map ran_in did.notes)) are.done_is ∙ ap (λ ds. by_node f g (done x.log) ++ ds) (sym (done_own f g k did.notes own)) ∙ sym (ap (by_node f g) (done-append x.log did.notes) ∙ by_node-append f g (done x.log) (done did.notes)) in
-      let sees = inst_sees (S f g) (A f g) (is_sys g.site g.packet) u (is_sharing f g.site g.packet) x.world (came_by f g x.log u) are.every.global p k t.rest k0 k1 (are.every.unit u) (are.every.fronts u) (New seen) waits k in
+      steps.done ∙ ap (λ ds. ds ++ at_node k (filter_map ran_in did.notes)) are.done_is ∙ ap (λ ds. by_node f g (done x.log) ++ ds) (sym (done_own f g k did.notes own)) ∙ sym (ap (by_node f g) (done-append x.log did.notes) ∙ by_node-append f g (done x.log) (done did.notes)) in
+      let sees = inst_sees (S f g) (A f g) (is_sys f g.site g.packet) u (is_sharing f g.site g.packet) x.world (came_by f g x.log u) are.every.global p k t.rest k0 k1 (are.every.unit u) (are.every.fronts u) (New seen) waits k in
       sees_more f c items is u (x.log ++ did.notes) v.done log (finite.get i.table.standby u) (finite.get did.node.table.standby u)
-      (subst (λ o. Sees_more (S f g) (A f g) (is_sys g.site g.packet) u (ran_of (S f g) (A f g) u v.done) o (finite.get did.node.table.standby u)) (sym (ap (λ r. finite.get r u) shows.standby))
-      (subst (λ o. Sees_more (S f g) (A f g) (is_sys g.site g.packet) u (ran_of (S f g) (A f g) u v.done) (finite.get (x.world.standby k) u) o) (sym (ap (λ r. finite.get r u) steps.shows.standby)) sees))
+      (subst (λ o. Sees_more (S f g) (A f g) (is_sys f g.site g.packet) u (ran_of (S f g) (A f g) u v.done) o (finite.get did.node.table.standby u)) (sym (ap (λ r. finite.get r u) shows.standby))
+      (subst (λ o. Sees_more (S f g) (A f g) (is_sys f g.site g.packet) u (ran_of (S f g) (A f g) u v.done) (finite.get (x.world.standby k) u) o) (sym (ap (λ r. finite.get r u) steps.shows.standby)) sees))
 
   shared_sees : (u : units.Unit) (op : ℕ) (home : Bool) (cell : FullCell) → Genuine f g cell → Now u (msg.Carry (mark.Shared op home) cell)
   shared_sees u op home cell e t fronts room =
@@ -278,11 +278,11 @@ module _ (F : Type 0) {R : Type 0} (f : Semantics R) (laws : FunctionLaws f) (c 
         | false ↦ λ off. stays (suc (suc y)) m takes i (λ e. (let bad : i ≡ y = omega (arith, e) in let never : true ≡ false = sym ((Decides-eqb i y).1 bad) ∙ off in cc)) u
       ] refl
 
-    by_node : (k : ℕ) (m : Msg) (takes : Takes (node_step f) nodes_count w k p (node_of j.nodes k) m rest) → IsTaken f gn nodes_count x (record { node = k; port = p; message = m }) → ((u : units.Unit) → length (went f c items u (taken (node_step f) w (at k p)).log) ≤ most_counted) → GoesOn w (taken (node_step f) w (at k p))
-    by_node zero m takes t room = λ i u. stays 0 m takes i (λ e. absurd (omega (arith, e))) u
-    by_node (suc zero) m takes t room = λ i u. stays 1 m takes i (λ e. absurd (omega (arith, e))) u
-    by_node (suc (suc y)) m takes t room = at_instance y m takes t room
+    each_goes : (k : ℕ) (m : Msg) (takes : Takes (node_step f) nodes_count w k p (node_of j.nodes k) m rest) → IsTaken f gn nodes_count x (record { node = k; port = p; message = m }) → ((u : units.Unit) → length (went f c items u (taken (node_step f) w (at k p)).log) ≤ most_counted) → GoesOn w (taken (node_step f) w (at k p))
+    each_goes zero m takes t room = λ i u. stays 0 m takes i (λ e. absurd (omega (arith, e))) u
+    each_goes (suc zero) m takes t room = λ i u. stays 1 m takes i (λ e. absurd (omega (arith, e))) u
+    each_goes (suc (suc y)) m takes t room = at_instance y m takes t room
 
   -- after which no more was processed of a unit than a record counts
   pub goes_on : (w : Network (Node F R) Msg Note) (d : Choice) → Taking node_ready (node_step f) nodes_count w d → (j : Joined f gn nodes_count w) → HasBeside f gn nodes_count w j → ((u : units.Unit) → length (went f c items u (taken (node_step f) w d).log) ≤ most_counted) → GoesOn w (taken (node_step f) w d)
-  goes_on w d t j b room = by_node w j b.kept.fronts d.port t.rest d.node t.message (its_takes f laws gn (all_fit f c items is) nodes_count refl w d t j b) (its_taken f laws gn (all_fit f c items is) nodes_count refl w d t j b) room
+  goes_on w d t j b room = each_goes w j b.kept.fronts d.port t.rest d.node t.message (its_takes f laws gn (all_fit f c items is) nodes_count refl w d t j b) (its_taken f laws gn (all_fit f c items is) nodes_count refl w d t j b) room

@@ -1,12 +1,12 @@
 -- The share of a unit in a world of a run: a share that the switch has installed is open, and of all open ones it alone takes its units. So what
 -- the log says of the unit's members is what the controller serves.
-use Rattle.std.proofs.Common.{◌≡◌, ◌≢◌, ℕ, zero, suc, ◌+◌, ◌<◌, ◌≤◌, ◌⊎◌, inl, inr, Bool, true, false, Option, Some, None, List, [], ◌∷◌, ◌++◌, map, length, refl, sym, ap, ◌∙◌, subst, arith}
+use Rattle.std.proofs.Common.{◌≡◌, ℕ, zero, suc, ◌+◌, ◌<◌, ◌≤◌, inl, inr, Bool, true, false, Option, Some, None, List, [], ◌∷◌, map, length, refl, sym, ap, ◌∙◌, subst, arith}
 use Rattle.std.specs.Prelude.{if◌then◌else◌, ◌&&◌, ◌||◌, ◌==◌, ◌%◌, not, find, is_some, slice_index, slice_index_or}
 use Rattle.std.specs.List.{filter_map}
 use Rattle.std.specs.FinMap as finite
 use Rattle.std.proofs.lemmas.Nat.{mod_below}
 use Rattle.std.proofs.lemmas.List.{length-map}
-use Rattle.std.proofs.lemmas.Bool.Decides.{nat_tests, Decides-eqb}
+use Rattle.std.proofs.lemmas.Bool.Decides.{Decides-eqb}
 use Rattle.flow_filter.specs.declared.filter.Filter.{Filter}
 use Rattle.flow_filter.specs.declared.flow.Flow.{Flow}
 use Rattle.flow_filter.specs.Flow.{flow_of}
@@ -15,7 +15,6 @@ use Rattle.nf_function.specs.Semantics.{Semantics}
 use Rattle.nf_function.specs.Units.{takes}
 use Rattle.nf_msgs.specs.declared.answer.Answer.{Answer}
 use Rattle.nf_msgs.specs.declared.answer.Answer.TheVariants.{Done}
-use Rattle.nf_msgs.specs.declared.command.Order.{Order}
 use Rattle.nf_msgs.specs.declared.command.Order.TheVariants as order
 use Rattle.nf_msgs.specs.declared.msg.Msg.{Msg}
 use Rattle.nf_msgs.specs.declared.note.Note.{Note}
@@ -32,7 +31,7 @@ use Rattle.share_machine.proofs.Stages.{Stage, Stage.Diverting, Stage.Fence_goes
 use Rattle.abstract_net.proofs.Elsewhere.{where_two}
 use Rattle.abstract_net.proofs.ShareLists.{found_each}
 use Rattle.abstract_net.proofs.ShareViews.{share_frame}
-use Rattle.abstract_net.proofs.Shares.{Open_share, find_share, moves_of}
+use Rattle.abstract_net.proofs.Shares.{Open_share, moves_of}
 use Rattle.abstract_net.proofs.Untaken.{Elsewhere_home}
 use Rattle.abstract_net.proofs.UnderStarts.{seeing}
 use Rattle.whole_net.proofs.Readings.{Its_share, its_share}
@@ -40,16 +39,16 @@ use Rattle.whole_net.proofs.WhereAll.{Where_all, Apart_from_shares, Under_share}
 use Rattle.net_world.specs.declared.config.Config.{Config}
 use Rattle.net_world.specs.declared.node.Node.{Node}
 use Rattle.net_world.specs.declared.node.Node.TheVariants.{Controller}
-use Rattle.net_world.specs.Commands.{began, has_answered, keeps_off, is_share, answers_of, times_installed}
+use Rattle.net_world.specs.Commands.{began, has_answered, is_share, answers_of, times_installed}
 use Rattle.net_world.specs.Input.{IsInput, order_of, packet_of}
 use Rattle.net_world.specs.Log.{installed}
 use Rattle.net_world.specs.Places.{first_owner, is_home, owner, members, member_for}
-use Rattle.outline_net.proofs.FiltersApart.{is_whole, unit_fits, takes_whole, takes_same, filters_apart}
+use Rattle.outline_net.proofs.FiltersApart.{unit_fits, takes_whole, takes_same, filters_apart}
 use Rattle.outline_net.proofs.Outline.{is_sys}
 use Rattle.whole_outline.proofs.OpenShares.{Both, both, Real_share, real_share}
 use Rattle.whole_outline.proofs.ShareOutline.{share_phase}
-use Rattle.whole_joined.proofs.Given.{Given, place, target_by, is_diverted}
-use Rattle.whole_joined.proofs.Joined.{S, A, IsShare, Joined, count}
+use Rattle.whole_joined.proofs.Given.{Given, place, is_diverted}
+use Rattle.whole_joined.proofs.Joined.{S, A, IsShare, Joined, came_by}
 use Rattle.whole_joined.proofs.OperationsApart.{AreApart, AllApart}
 use Rattle.whole_joined.proofs.ShareBegins.{names_known}
 use Rattle.whole_joined.proofs.StartJoined.{given}
@@ -58,7 +57,7 @@ use Rattle.answer_net.proofs.BusyRuns.{Busy, same_controller, keeps_is, plan_is,
 use Rattle.answer_net.proofs.InstallRuns.{Installs}
 use Rattle.answer_net.proofs.InstallSteps.{is_moving, dones, open_in}
 use Rattle.answer_net.proofs.ShareTells.{is_set_up}
-use Rattle.nf_net.proofs.MemberLemmas.{IsThere, There, is_there, Shares_it, IsSharedBy, shared_by, members_diverted, Installed_in, installed_in, times_there, home_first, member_at}
+use Rattle.nf_net.proofs.MemberLemmas.{IsThere, There, is_there, IsSharedBy, shared_by, members_diverted, Installed_in, installed_in, times_there, home_first, member_at}
 
 -- a share that is set up, as its proof sees it
 abbrev serves : machine.Phase → Bool
@@ -90,7 +89,7 @@ serving_diverts f (Chunk_comes d a p q v) e = refl
 
 dones_still : (xs : List Answer) → dones false xs ≡ 0
 dones_still [] = refl
-dones_still (x ∷ xs) = dones_still xs
+dones_still (x ∷ xs) = let rest = dones_still xs in omega (arith, rest)
 
 index_same : (ms : List ℕ) (i : ℕ) → i < length ms → slice_index (map instance_node ms) i ≡ instance_node (slice_index ms i)
 index_same [] i low = absurd (omega (arith, low))
@@ -99,6 +98,32 @@ index_same (m ∷ ms) (suc i) low = index_same ms i (omega (arith, low))
 
 both_so : (a s b : Bool) → a ≡ true → s ≡ true → a && (s || b) ≡ true
 both_so true true b h k = refl
+both_so true false b h k = cc
+both_so false s b h k = cc
+
+-- Where a unit's packets go in a world of a run, by the log.
+module _ {F R : Type 0} (f : Semantics R) (c : Config) (items : List Msg) (is : IsInput f.kind c items) (n : ℕ) (w : Network (Node F R) Msg Note) (j : Joined f (given f c items is) n w) (u : units.Unit) (fits : unit_fits f.kind u ≡ true) where
+  abbrev gt : Given
+  gt = given f c items is
+
+  -- packets go to the controller where the unit has members
+  pub diverted_members : j.world.target u ≡ 1 → IsThere (members c items u w.log)
+  diverted_members one = is_there (members c items u w.log) (members_diverted gt u (first_owner u c.routes) (installed w.log) ∙ by_test (is_diverted gt u (installed w.log)) (sym one ∙ j.shown_is.owners u fits))
+    where
+      by_test : (d : Bool) → 1 ≡ (if d then 1 else instance_node (owner c items u w.log)) → d ≡ true
+      by_test true at = refl
+      by_test false at = absurd (omega (arith, at))
+
+  pub members_go : (ms : List (List ℕ)) → members c items u w.log ≡ Some ms → j.world.target u ≡ 1
+  members_go ms e = j.shown_is.owners u fits ∙ ap (λ d. if d then 1 else instance_node (owner c items u w.log)) (sym (members_diverted gt u (first_owner u c.routes) (installed w.log)) ∙ ap is_some e)
+
+  -- and to the owner where it has none
+  pub owner_goes : 2 ≤ j.world.target u → j.world.target u ≡ instance_node (owner c items u w.log)
+  owner_goes two = by_test (is_diverted gt u (installed w.log)) (j.shown_is.owners u fits)
+    where
+      by_test : (d : Bool) → j.world.target u ≡ (if d then 1 else instance_node (owner c items u w.log)) → j.world.target u ≡ instance_node (owner c items u w.log)
+      by_test true at = absurd (omega (arith, at, two))
+      by_test false at = at
 
 module _ {F R : Type 0} (f : Semantics R) (c : Config) (items : List Msg) (is : IsInput f.kind c items) (n : ℕ) (count_is : n ≡ length c.names + 2) (w : Network (Node F R) Msg Note) (j : Joined f (given f c items is) n w) (apart : AllApart j.nodes.controller.operations) (b : Busy (given f c items is) w) where
   abbrev g : Given
@@ -136,7 +161,8 @@ module _ {F R : Type 0} (f : Semantics R) (c : Config) (items : List Msg) (is : 
   share_open op ms filter what None at e = cc
   share_open op ms filter what (Some (Share s)) at e = open_share op ms filter what s at
   share_open op ms filter what (Some (Move m)) at e =
-      let never = sym (plan_is f g n count_is w j b op m at).order_is ∙ what in
+      let plan = plan_is f g n count_is w j b op m at in
+      let never = sym plan.order_is ∙ what in
       cc
   share_open op ms filter what (Some (Copy y)) at e =
       let its = j.shown_is.controller.copies op y at in
@@ -173,7 +199,7 @@ module _ {F R : Type 0} (f : Semantics R) (c : Config) (items : List Msg) (is : 
       | false ↦ λ off. absurd (not_both (apart k l (Share s) (Share t) off at_k at_l))
     ] refl
       where
-        not_both : (meets_not : AreApart (Some s.plan.filter) (Some t.plan.filter)) → ⊥
+        not_both : AreApart (Some s.plan.filter) (Some t.plan.filter) → ⊥
         not_both (inl off) = let never : true ≡ false = sym on_l ∙ filters_apart f.kind s.plan.filter t.plan.filter u off on_k in cc
         not_both (inr off) = let never : true ≡ false = sym on_k ∙ filters_apart f.kind t.plan.filter s.plan.filter u off on_l in cc
 
@@ -235,25 +261,6 @@ module _ {F R : Type 0} (f : Semantics R) (c : Config) (items : List Msg) (is : 
         let some : 1 ≤ times_installed r.op w.log = let there = ap (times_installed r.op) at.whole ∙ times_there r.op at.first at.rest in omega (arith, there) in
         record { op = r.op; filter = r.its.filter; open_is = open_installed h r.op ms r.its.filter r.its.order_is some; takes_it = r.its.takes_it; times = some }
 
-    -- packets go to the controller where the unit has members
-    pub diverted_members : j.world.target u ≡ 1 → IsThere (members c items u w.log)
-    diverted_members one = is_there (members c items u w.log) (members_diverted g u (first_owner u c.routes) (installed w.log) ∙ by_test (is_diverted g u (installed w.log)) (sym one ∙ j.shown_is.owners u fits))
-      where
-        by_test : (d : Bool) → 1 ≡ (if d then 1 else instance_node (owner c items u w.log)) → d ≡ true
-        by_test true at = refl
-        by_test false at = absurd (omega (arith, at))
-
-    pub members_go : (ms : List (List ℕ)) → members c items u w.log ≡ Some ms → j.world.target u ≡ 1
-    members_go ms e = j.shown_is.owners u fits ∙ ap (λ d. if d then 1 else instance_node (owner c items u w.log)) (sym (members_diverted g u (first_owner u c.routes) (installed w.log)) ∙ ap is_some e)
-
-    -- and to the owner where it has none
-    pub owner_goes : 2 ≤ j.world.target u → j.world.target u ≡ instance_node (owner c items u w.log)
-    owner_goes two = by_test (is_diverted g u (installed w.log)) (j.shown_is.owners u fits)
-      where
-        by_test : (d : Bool) → j.world.target u ≡ (if d then 1 else instance_node (owner c items u w.log)) → j.world.target u ≡ instance_node (owner c items u w.log)
-        by_test true at = absurd (omega (arith, at, two))
-        by_test false at = at
-
     -- A share that was answered has been installed for each unit that its home owns
     module _ (h : Installs g w) (op : ℕ) (ms : List (List ℕ)) (filter : Filter) (what : order_of items op ≡ Some (order.Share ms filter)) (on : takes filter u ≡ true) (at_home : is_home c.names (order_of items) ms (owner c items u w.log) ≡ true) (answered : has_answered op w.log ≡ true) (begun : began op w.log ≡ true) where
       own : IsOpenShare op ms filter
@@ -281,11 +288,11 @@ module _ {F R : Type 0} (f : Semantics R) (c : Config) (items : List Msg) (is : 
           let first : home own.state.plan ≡ slice_index (filter_map (place_of c.names) ms) 0 = ap (λ v. slice_index v 0) (sym own.members_are) in
           ap (λ x. x.home) seen.sees.is ∙ ap instance_node (first ∙ home_first c.names (order_of items) ms (owner c items u w.log) at_home)
 
-      diverted_by : Where_all (S f g) (A f g) (is_sys f g.site g.packet) u j.world _ → j.world.target u ≡ 1
+      diverted_by : Where_all (S f g) (A f g) (is_sys f g.site g.packet) u j.world (came_by f g w.log u) → j.world.target u ≡ 1
       diverted_by (Apart_from_shares k none) =
           let two = where_two (S f g) (is_sys f g.site g.packet) u (moves_of (S f g) (A f g) j.world) _ _ k.is in
           let away = found_each (Elsewhere_home (S f g) u j.world.target) j.world.shares op seen.e k.untaken.homes seen.there its_own in
-          let same : seen.e.home ≡ j.world.target u = home_so ∙ sym (owner_goes two) in
+          let same : seen.e.home ≡ j.world.target u = home_so ∙ sym (owner_goes f c items is n w j u fits two) in
           let never : (seen.e.home == j.world.target u) ≡ true = (Decides-eqb seen.e.home (j.world.target u)).1 same in
           cc
       diverted_by (Under_share x before d k o m) =
@@ -295,7 +302,7 @@ module _ {F R : Type 0} (f : Semantics R) (c : Config) (items : List Msg) (is : 
           k.holds.target ∙ ap (λ d. if d then 1 else x.home) (serving_diverts (share_frame (S f g) (A f g) (seeing (S f g) (A f g) u x)) k.stage serving)
 
       pub set_up_installed : 1 ≤ times_installed op w.log
-      set_up_installed = by_members (diverted_members (diverted_by (j.shown_is.every.unit u)))
+      set_up_installed = by_members (diverted_members f c items is n w j u fits (diverted_by (j.shown_is.every.unit u)))
         where
           by_members : IsThere (members c items u w.log) → 1 ≤ times_installed op w.log
           by_members (There these e) =

@@ -11,7 +11,7 @@ use Rattle.nf_msgs.specs.declared.msg.Msg.TheVariants as msg
 use Rattle.nf_msgs.specs.declared.note.Note.{Note}
 use Rattle.switch_node.specs.Switch.{SwitchState, switch_step}
 use Rattle.actor_net.specs.declared.choice.Choice.{Choice}
-use Rattle.actor_net.specs.Network.{Network, Stepped, IsRun, is_input, is_done, reaches, run, taken}
+use Rattle.actor_net.specs.Network.{Network, Stepped, IsRun, is_done, reaches, run, taken}
 use Rattle.actor_net.proofs.EnabledChoices.{at}
 use Rattle.actor_net.proofs.StepOutcome.{Takes, taken_outcome}
 use Rattle.actor_net.proofs.RunInduction.{Taking, run_induction, run_world}

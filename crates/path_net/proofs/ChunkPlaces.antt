@@ -72,7 +72,7 @@ module _ {R : Type 0} (f : Semantics R) (g : Given) (v : Frame) where
   u = v.unit
 
   -- these pieces spell what the unit sees of them
-  phase_spelled : (p : Phase) → HasPieces f g p → spelled_of f u (kept_in p) ≡ as_spelled u (kept_records (see_phase v (outline_phase f (place g) p)))
+  pub phase_spelled : (p : Phase) → HasPieces f g p → spelled_of f u (kept_in p) ≡ as_spelled u (kept_records (see_phase v (outline_phase f (place g) p)))
   phase_spelled (phase.Streaming frozen free came d) h =
       let fz = records (map (see v) (map (outline_piece f) frozen)) in
       let fr = records (map (see v) (map (outline_piece f) free)) in
@@ -94,7 +94,7 @@ module _ {R : Type 0} (f : Semantics R) (g : Given) (v : Frame) where
   none_in [] h = refl
   none_in (p ∷ ps) h = let own = h.0 in let rest = none_in ps h.1 in records_one (see v p) (map (see v) ps) ∙ rw (own, rest) refl
 
-  none_kept : (ph : RPhase R) → Clean u ph → kept_records (see_phase v ph) ≡ []
+  pub none_kept : (ph : RPhase R) → Clean u ph → kept_records (see_phase v ph) ≡ []
   none_kept (R_streaming fz fr came d) h = let a = none_in fz h.0 in let b = none_in fr h.1 in rw (a, b) refl
   none_kept ph h = refl
 

@@ -210,10 +210,10 @@ module _ {R : Type 0} (f : Semantics R) (g : Given) (z : Seeing) (es : List Open
       by_shown (Some (New a)) e = rw e refl
 
   -- the first message of a link, and those behind it
-  pub first_shared : (o : Option (Any R)) (as : List (Any R)) → Each_new (No_share (S f g) z.unit es) (cons_option o as) → NotShared o × Each_new (No_share (S f g) z.unit es) as
-  first_shared None as h = (tt, h)
-  first_shared (Some (Old a)) as h = (tt, h)
-  first_shared (Some (New a)) as h = (h.0, h.1)
+  pub first_shared : (o : Option (Any R)) (ys : List (Any R)) → Each_new (No_share (S f g) z.unit es) (cons_option o ys) → NotShared o × Each_new (No_share (S f g) z.unit es) ys
+  first_shared None ys h = (tt, h)
+  first_shared (Some (Old a)) ys h = (tt, h)
+  first_shared (Some (New a)) ys h = (h.0, h.1)
 
   pub record AreRead (ms : List Msg) (xs : List (Item R)) : Type 0 where
     pub pass : those mine (all_of passed ms) ≡ passes_in xs

@@ -1,54 +1,31 @@
 -- In every run what came of a unit is what was processed and what is under way, and nothing stands in two places.
-use Rattle.std.proofs.Common.{◌≡◌, ◌≢◌, ℕ, suc, ◌+◌, ◌<◌, ◌≤◌, Bool, true, false, List, [], ◌∷◌, ◌++◌, map, length, refl, sym, ap, ◌∙◌, subst, append_assoc, arith}
-use Rattle.std.specs.Prelude.{if◌then◌else◌, ◌==◌, ◌&&◌, ◌-◌, nat_lt, slice_get, None}
-use Rattle.std.proofs.lemmas.Bool.{ltb-false}
-use Rattle.std.proofs.lemmas.Bool.Decides.{nat_tests, Decides-eqb, Decides-ltb}
-use Rattle.std.proofs.lemmas.Option.{slice_get_past}
-use Rattle.flow_filter.specs.declared.packet.Packet.{Packet}
-use Rattle.flow_filter.specs.Flow.{flow_of}
+use Rattle.std.proofs.Common.{◌≡◌, ℕ, suc, ◌+◌, ◌<◌, ◌≤◌, Bool, true, false, List, [], ◌∷◌, ◌++◌, map, length, refl, sym, ap, ◌∙◌, subst, arith}
+use Rattle.std.specs.Prelude.{if◌then◌else◌, ◌==◌}
+use Rattle.std.proofs.lemmas.Bool.Decides.{nat_tests, Decides-eqb}
 use Rattle.nf_function.specs.declared.unit.Unit as units
-use Rattle.nf_function.specs.Semantics.{Semantics, unit_at}
-use Rattle.record_table.proofs.UnitOrder.{same_unit-true}
+use Rattle.nf_function.specs.Semantics.{Semantics}
 use Rattle.nf_msgs.specs.declared.msg.Msg.{Msg}
 use Rattle.nf_msgs.specs.declared.note.Note.{Note}
-use Rattle.nf_msgs.specs.Nodes.{instance_node}
 use Rattle.actor_net.specs.Network.{Network, IsWorld}
-use Rattle.unit_machine.proofs.Machine.{State, idle}
-use Rattle.unit_machine.proofs.Fits.{nil_right}
-use Rattle.unit_machine.proofs.Labels.{Each}
-use Rattle.unit_machine.proofs.Lists.{firsts}
-use Rattle.unit_machine.proofs.Stages as stages
 use Rattle.unit_machine.proofs.Ends.{same_of}
-use Rattle.unit_machine.proofs.Path.{passes_in, carries, events_in, forwards}
-use Rattle.unit_machine.proofs.Pairs.{expect}
-use Rattle.unit_machine.proofs.Seats.{seat_shape, seat_all, seat_path}
-use Rattle.unit_machine.proofs.Sides.{at_side, places, Last, At_source, At_destination, At_third, Stands, seat_stands, Empty, empty_of}
-use Rattle.abstract_net.proofs.Holding.{Seeing, node_at, place as side_place}
-use Rattle.abstract_net.proofs.Rest.{same_done}
-use Rattle.abstract_net.proofs.Readings.{exact_of, not_both, seat_parts}
-use Rattle.abstract_net.proofs.Units.{see}
+use Rattle.unit_machine.proofs.Stages.{Order}
+use Rattle.abstract_net.proofs.Readings.{exact_of, not_both}
+use Rattle.whole_net.proofs.WhereAll.{Where_all, Apart_from_shares, Under_share}
 use Rattle.net_world.specs.declared.config.Config.{Config}
 use Rattle.net_world.specs.declared.node.Node.{Node}
-use Rattle.net_world.specs.Input.{packets, packet_of, IsRising, IsInput}
-use Rattle.net_world.specs.Log.{arrived, those}
-use Rattle.net_world.specs.Path.{all_of, all_but, passed, forwarded, handed_over, stored_by, on_links, at_instance}
-use Rattle.net_world.specs.Places.{owner, is_loose}
-use Rattle.net_world.specs.Fold.{times, IsFront, is_of, came, went, path}
-use Rattle.outline_net.proofs.FiltersApart.{unit_fits}
-use Rattle.whole_joined.proofs.LogLemmas.{those-append}
+use Rattle.net_world.specs.Input.{packets, IsRising, IsInput}
+use Rattle.net_world.specs.Log.{arrived}
+use Rattle.net_world.specs.Places.{is_loose}
+use Rattle.net_world.specs.Fold.{times, IsFront, came, went, path}
 use Rattle.outline_net.proofs.Outline.{is_sys}
-use Rattle.whole_joined.proofs.OwnerLemmas.{unit_is_fit}
 use Rattle.whole_joined.proofs.Given.{Given}
-use Rattle.whole_joined.proofs.Joined.{GenuinePacket, S, Joined}
-use Rattle.path_net.proofs.PathPlaces.{passes_are, forwards_are, events_are, store_is}
-use Rattle.path_net.proofs.PathSeats.{Seated, seated, stands_at}
-use Rattle.path_net.proofs.PathSums.{those-but, but_none, but_one}
-use Rattle.whole_joined.proofs.RunsJoined.{done_same, same_times}
-use Rattle.whole_joined.proofs.StartJoined.{given, genuine}
-
-times-append : (p : ℕ) (xs ys : List ℕ) → times p (xs ++ ys) ≡ times p xs + times p ys
-times-append p [] ys = omega arith
-times-append p (x ∷ xs) ys = let rest = times-append p xs ys in omega (arith, rest)
+use Rattle.whole_joined.proofs.Joined.{S, A, came_by, Joined}
+use Rattle.whole_joined.proofs.RunsJoined.{times-append, same_times}
+use Rattle.whole_joined.proofs.StartJoined.{given}
+use Rattle.path_net.proofs.DivertedRuns.{HasDiverted}
+use Rattle.path_net.proofs.PathSeats.{seated}
+use Rattle.path_net.proofs.SeatPaths as seats
+use Rattle.path_net.proofs.SharedPaths as shares
 
 -- no number stands twice where numbers rise
 rising_above : (p least : ℕ) (ns : List ℕ) → IsRising least ns → p < least → times p ns ≡ 0
@@ -73,218 +50,38 @@ came_once f c items is w in_turn p =
     let both = times-append p (arrived w.log) in_turn.rest in
     omega (arith, one, whole, both)
 
--- of three lists each is empty
-three_nil : (a b c : Bool) (xs ys zs : List ℕ) → xs ≡ [] → ys ≡ [] → zs ≡ [] → (if a then xs else if b then ys else if c then zs else []) ≡ []
-three_nil true b c xs ys zs e f h = e
-three_nil false true c xs ys zs e f h = f
-three_nil false false true xs ys zs e f h = h
-three_nil false false false xs ys zs e f h = refl
-
--- the places of a path, each as the unit sees it
-those-places : (mine : ℕ → Bool) (p q r s t v : List ℕ) → those mine (p ++ (q ++ (r ++ (s ++ (t ++ v))))) ≡ those mine p ++ (those mine q ++ (those mine r ++ (those mine s ++ (those mine t ++ those mine v))))
-those-places mine p q r s t v =
-    those-append mine p (q ++ (r ++ (s ++ (t ++ v))))
-    ∙ ap (λ y. those mine p ++ y) (those-append mine q (r ++ (s ++ (t ++ v)))
-    ∙ ap (λ y. those mine q ++ y) (those-append mine r (s ++ (t ++ v))
-    ∙ ap (λ y. those mine r ++ y) (those-append mine s (t ++ v)
-    ∙ ap (λ y. those mine s ++ y) (those-append mine t v))))
-
-module _ {F R : Type 0} (f : Semantics R) (c : Config) (items : List Msg) (is : IsInput f.kind c items) (n : ℕ) (count : n ≡ length c.names + 2) (w : Network (Node F R) Msg Note) (nodes : length w.nodes ≡ n) (j : Joined f (given f c items is) n w) (world : IsWorld w) (in_turn : IsFront (arrived w.log) (map (λ p. p.number) (packets items))) (u : units.Unit) where
+module _ {F R : Type 0} (f : Semantics R) (c : Config) (items : List Msg) (is : IsInput f.kind c items) (n : ℕ) (count : n ≡ length c.names + 2) (w : Network (Node F R) Msg Note) (nodes : length w.nodes ≡ n) (j : Joined f (given f c items is) n w) (world : IsWorld w) (in_turn : IsFront (arrived w.log) (map (λ p. p.number) (packets items))) (told : HasDiverted f (given f c items is) w) (u : units.Unit) where
   abbrev g : Given
   g = given f c items is
 
-  abbrev mine : ℕ → Bool
-  mine = is_of f c items u
+  -- what was processed, and then what is under way, is what came: in order, if no plain move handed the unit on
+  record Ordered : Type 0 where
+    flag : Bool
+    order : Order flag (went f c items u w.log ++ path f c items u w) (came f c items u w.log)
+    flag_is : flag ≡ true → is_loose c items u w.log ≡ true
 
-  abbrev i0 : ℕ
-  i0 = owner c items u w.log
-
-  abbrev k : Seated f c items is n count w nodes j u
-  k = seated f c items is n count w nodes j u
-
-  abbrev x : State R
-  x = seat_shape (S f g).F k.seat
-
-  abbrev way : List ℕ
-  way = seat_path k.seat
-
-  abbrev z : Seeing
-  z = see (S f g) (is_sys f g.site g.packet) u k.op k.third
-
-  stands : Stands x way
-  stands = seat_stands (S f g).F k.seat
-
-  -- a unit of which something came: its packets go to its owner, which is there
-  pub record IsOwned : Type 0 where
-    pub few : j.world.target u < n
-    pub own : j.world.target u ≡ instance_node i0
-
-  known_of : (qs : List Packet) → Each (GenuinePacket f g) qs → (p : ℕ) (ps : List ℕ) → those mine (map (λ q. q.number) qs) ≡ p ∷ ps → IsOwned
-  known_of [] h p ps e = cc
-  known_of (q ∷ qs) h p ps e =
-      elim (mine q.number) as (λ b. mine q.number ≡ b → (if b then q.number ∷ those mine (map (λ y. y.number) qs) else those mine (map (λ y. y.number) qs)) ≡ p ∷ ps → IsOwned) [
-        | true ↦ λ its _.
-            let to = j.shown_is.switch.routes (flow_of c.site q).0 h.0.fits in
-            let unit : unit_at f.kind c.site q ≡ u = ap (unit_at f.kind c.site) h.0.same ∙ same_unit-true (unit_at f.kind c.site (packet_of items q.number)) u its in
-            let small : nat_lt to.instance (length c.names) ≡ true = subst (λ m. nat_lt to.instance m ≡ true) j.shown_is.switch.instances to.there in
-            let less = (Decides-ltb to.instance (length c.names)).0 small in
-            let at : instance_node to.instance < n = omega (arith, less, count) in
-            let fits : unit_fits f.kind u ≡ true = subst (λ v. unit_fits f.kind v ≡ true) unit (unit_is_fit f.kind (flow_of c.site q).0 h.0.fits) in
-            record { few = subst (λ m. m < n) (sym to.node ∙ ap j.world.target unit) at; own = j.shown_is.owners u fits }
-        | false ↦ λ _ rest. known_of qs h.1 p ps rest
-      ] refl e
-
-  none_in : (xs : List ℕ) → ((p : ℕ) → stages.times p xs ≡ 0) → xs ≡ []
-  none_in [] h = refl
-  none_in (y ∷ xs) h =
-      let here = h y in
-      let self : (y == y) ≡ true = grind (arith, nat_tests) in
-      let one : 1 + stages.times y xs ≡ 0 = rw self at here in
-      absurd (omega (arith, one))
-
-  pub by_came : {P : Type 0} → (seat_all k.seat ≡ [] → P) → (IsOwned → P) → P
-  by_came {P = P} none some = by_list (came f c items u w.log) refl
+  ordered : Ordered
+  ordered = by_where (j.shown_is.every.unit u)
     where
-      by_list : (ps : List ℕ) → came f c items u w.log ≡ ps → P
-      by_list [] e = none (none_in (seat_all k.seat) (λ p. same_of k.flag (seat_all k.seat) (came f c items u w.log) k.order p ∙ ap (stages.times p) e))
-      by_list (p ∷ ps) e =
-          let whole : those mine (map (λ q. q.number) (packets items)) ≡ p ∷ (ps ++ those mine in_turn.rest) = ap (those mine) (sym in_turn.whole) ∙ those-append mine (arrived w.log) in_turn.rest ∙ ap (λ v. v ++ those mine in_turn.rest) e in
-          some (known_of (packets items) (genuine f c items is) p (ps ++ those mine in_turn.rest) whole)
-
-  -- what stands at an instance
-  abbrev at_one : ℕ → List ℕ
-  at_one m = if m == k.op.src then at_side x.a x.sa else if m == k.op.dst then at_side x.b x.sb else if m == k.third then at_side x.c x.sc else []
-
-  side_is : (m : ℕ) → (node_at (S f g) z x m).held ++ carries (expect k.op.src k.op.dst k.third x 0 m) ≡ at_one m
-  side_is m = elim (m == k.op.src) as (λ t. (if t then x.a else if m == k.op.dst then x.b else if m == k.third then x.c else idle None).held ++ carries (if t then x.sa else if m == k.op.dst then x.sb else if m == k.third then x.sc else []) ≡ (if t then at_side x.a x.sa else if m == k.op.dst then at_side x.b x.sb else if m == k.third then at_side x.c x.sc else [])) [
-    | true ↦ refl
-    | false ↦ elim (m == k.op.dst) as (λ t. (if t then x.b else if m == k.third then x.c else idle None).held ++ carries (if t then x.sb else if m == k.third then x.sc else []) ≡ (if t then at_side x.b x.sb else if m == k.third then at_side x.c x.sc else [])) [
-      | true ↦ refl
-      | false ↦ elim (m == k.third) as (λ t. (if t then x.c else idle None).held ++ carries (if t then x.sc else []) ≡ (if t then at_side x.c x.sc else [])) [ true ↦ refl | false ↦ refl ]
-    ]
-  ]
-
-  inside : (i : ℕ) → instance_node i < n → those mine (at_instance w i) ≡ at_one (instance_node i)
-  inside i few = stands_at f c items is n count w nodes j world u k.op k.third x k.holds (instance_node i) (omega arith) few ∙ side_is (instance_node i)
-
-  outside : (i : ℕ) → n ≤ instance_node i → those mine (at_instance w i) ≡ []
-  outside i far =
-      let past : slice_get w.nodes (instance_node i) ≡ None = slice_get_past w.nodes (instance_node i) (rw nodes far) in
-      let off : nat_lt (instance_node i) (length w.nodes) ≡ false = grind (arith, nat_tests, far, nodes) in
-      let both : nat_lt 0 (length w.nodes) && nat_lt (instance_node i) (length w.nodes) ≡ false = rw off (elim (nat_lt 0 (length w.nodes)) as (λ b. b && false ≡ false) [ true ↦ refl | false ↦ refl ]) in
-      rw (past, both) refl
-
-  -- the path has these places
-  record Ends (last : List ℕ) : Type 0 where
-    joins : those mine (all_but i0 (at_instance w) (length c.names)) ++ those mine (at_instance w i0) ≡ last
-
-  placed : (last : List ℕ) → Ends last → way ≡ places x last → path f c items u w ≡ way
-  placed last ends e =
-      those-places mine (on_links w passed) (on_links w forwarded) (all_of stored_by w.nodes) (on_links w handed_over) (all_but i0 (at_instance w) (length c.names)) (at_instance w i0)
-      ∙ ap (λ v. v ++ (those mine (on_links w forwarded) ++ (those mine (all_of stored_by w.nodes) ++ (those mine (on_links w handed_over) ++ (those mine (all_but i0 (at_instance w) (length c.names)) ++ those mine (at_instance w i0)))))) (passes_are f c items is n count w nodes j world u k.op k.third x k.holds stands.third stands.handed k.passes_a k.passes_b)
-      ∙ ap (λ v. (passes_in x.sa ++ passes_in x.sb) ++ (v ++ (those mine (all_of stored_by w.nodes) ++ (those mine (on_links w handed_over) ++ (those mine (all_but i0 (at_instance w) (length c.names)) ++ those mine (at_instance w i0)))))) (forwards_are f c items is n count w nodes j world u k.op k.third x k.holds stands.known)
-      ∙ ap (λ v. (passes_in x.sa ++ passes_in x.sb) ++ (forwards x.cs ++ (v ++ (those mine (on_links w handed_over) ++ (those mine (all_but i0 (at_instance w) (length c.names)) ++ those mine (at_instance w i0)))))) (store_is f c items is n count w nodes j world u k.op k.third x k.holds stands.released)
-      ∙ ap (λ v. (passes_in x.sa ++ passes_in x.sb) ++ (forwards x.cs ++ (x.store ++ (v ++ (those mine (all_but i0 (at_instance w) (length c.names)) ++ those mine (at_instance w i0)))))) (events_are f c items is n count w nodes j world u k.op k.third x k.holds stands.events_b stands.events_c k.events_a)
-      ∙ ap (λ v. (passes_in x.sa ++ passes_in x.sb) ++ (forwards x.cs ++ (x.store ++ (events_in x.ac ++ v)))) ends.joins
-      ∙ append_assoc (passes_in x.sa) (passes_in x.sb) (forwards x.cs ++ (x.store ++ (events_in x.ac ++ last)))
-      ∙ sym e
-
-  but : (of : List ℕ) → all_but i0 (λ i. those mine (at_instance w i)) (length c.names) ≡ of → those mine (all_but i0 (at_instance w) (length c.names)) ≡ of
-  but of e = those-but mine i0 (at_instance w) (length c.names) ∙ e
-
-  -- nothing of the unit is under way
-  nowhere : way ≡ [] → path f c items u w ≡ way
-  nowhere none =
-      let empty = empty_of x way stands.last none in
-      let no_side : (m : ℕ) → at_one m ≡ [] = λ m. no_one m empty in
-      let none_at : (i : ℕ) → those mine (at_instance w i) ≡ [] = λ i. elim (nat_lt (instance_node i) n) as (λ t. nat_lt (instance_node i) n ≡ t → those mine (at_instance w i) ≡ []) [
-        | true ↦ λ e. inside i ((Decides-ltb (instance_node i) n).0 e) ∙ no_side (instance_node i)
-        | false ↦ λ e. outside i (ltb-false (instance_node i) n e)
-      ] refl in
-      placed [] (record { joins = ap (λ v. v ++ those mine (at_instance w i0)) (but [] (but_none i0 (λ i. those mine (at_instance w i)) (length c.names) (λ i _ _. none_at i))) ∙ none_at i0 }) (none ∙ sym (rw (empty.passes_a, empty.passes_b, empty.forwards_s, empty.store, empty.events_a) refl))
-    where
-      no_one : (m : ℕ) → Empty x → at_one m ≡ []
-      no_one m empty = three_nil (m == k.op.src) (m == k.op.dst) (m == k.third) (at_side x.a x.sa) (at_side x.b x.sb) (at_side x.c x.sc) empty.at_a empty.at_b empty.at_c
-
-  -- at the sides
-  at_source : at_one k.op.src ≡ at_side x.a x.sa
-  at_source = let self = k.holds.apart.src in rw self refl
-
-  at_destination : at_one k.op.dst ≡ at_side x.b x.sb
-  at_destination = let self = k.holds.apart.dst in let off = k.holds.apart.dst_src in rw (off, self) refl
-
-  at_third : at_one k.third ≡ at_side x.c x.sc
-  at_third =
-      let ac = k.holds.nodes.ac in
-      let bc = k.holds.nodes.bc in
-      let off_a : (k.third == k.op.src) ≡ false = grind (arith, nat_tests, ac) in
-      let off_b : (k.third == k.op.dst) ≡ false = grind (arith, nat_tests, bc) in
-      let self : (k.third == k.third) ≡ true = grind (arith, nat_tests) in
-      rw (off_a, off_b, self) refl
-
-  -- where a side isn't, and what the others have
-  not_source : (m : ℕ) → m ≢ k.op.src → at_side x.b x.sb ≡ [] → at_side x.c x.sc ≡ [] → at_one m ≡ []
-  not_source m off none_b none_c =
-      let out : (m == k.op.src) ≡ false = grind (arith, nat_tests, off) in
-      rw out (three_nil false (m == k.op.dst) (m == k.third) [] (at_side x.b x.sb) (at_side x.c x.sc) refl none_b none_c)
-
-  not_either : (m : ℕ) → m ≢ k.op.src → m ≢ k.op.dst → at_side x.c x.sc ≡ [] → at_one m ≡ []
-  not_either m off_a off_b none_c =
-      let out_a : (m == k.op.src) ≡ false = grind (arith, nat_tests, off_a) in
-      let out_b : (m == k.op.dst) ≡ false = grind (arith, nat_tests, off_b) in
-      rw (out_a, out_b) (three_nil false false (m == k.third) [] [] (at_side x.c x.sc) refl refl none_c)
-
-  not_third : (m : ℕ) → m ≢ k.third → at_side x.a x.sa ≡ [] → at_side x.b x.sb ≡ [] → at_one m ≡ []
-  not_third m off none_a none_b =
-      let out : (m == k.third) ≡ false = grind (arith, nat_tests, off) in
-      rw out (three_nil (m == k.op.src) (m == k.op.dst) false (at_side x.a x.sa) (at_side x.b x.sb) [] none_a none_b refl)
-
-  few_of : (i : ℕ) → i < length c.names → instance_node i < n
-  few_of i small = omega (arith, small, count)
-
-  -- the unit goes to its owner
-  somewhere : IsOwned → path f c items u w ≡ way
-  somewhere owned = by_last stands.last
-    where
-      own_few : instance_node i0 < n
-      own_few = subst (λ m. m < n) owned.own owned.few
-
-      by_last : Last x way → path f c items u w ≡ way
-      by_last (At_source t none_b none_c e) =
-          let at : instance_node i0 ≡ k.op.src = sym owned.own ∙ k.holds.target ∙ ap (side_place (S f g) z) t in
-          let others : all_but i0 (λ i. those mine (at_instance w i)) (length c.names) ≡ [] = but_none i0 (λ i. those mine (at_instance w i)) (length c.names) (λ i small off. inside i (few_of i small) ∙ not_source (instance_node i) (λ same. off (omega (arith, same, at))) none_b none_c) in
-          placed (at_side x.a x.sa) (record { joins = ap (λ v. v ++ those mine (at_instance w i0)) (but [] others) ∙ inside i0 own_few ∙ ap at_one at ∙ at_source }) e
-      by_last (At_destination t none_c e) =
-          let at : instance_node i0 ≡ k.op.dst = sym owned.own ∙ k.holds.target ∙ ap (side_place (S f g) z) t in
-          let src = k.source t in
-          let two = k.holds.nodes.a_is in
-          let ab = k.holds.nodes.ab in
-          let m : ℕ = k.op.src - 2 in
-          let m_is : instance_node m ≡ k.op.src = omega (arith, two) in
-          let others : all_but i0 (λ i. those mine (at_instance w i)) (length c.names) ≡ those mine (at_instance w m) = but_one i0 m (λ i. those mine (at_instance w i)) (length c.names) (omega (arith, src, count, two)) (λ same. ab (sym m_is ∙ ap instance_node same ∙ at)) (λ i small off apart. inside i (few_of i small) ∙ not_either (instance_node i) (λ same. apart (omega (arith, same, m_is))) (λ same. off (omega (arith, same, at))) none_c) in
-          placed (at_side x.a x.sa ++ at_side x.b x.sb) (record {
-            joins = ap (λ v. v ++ those mine (at_instance w i0)) (but (those mine (at_instance w m)) others)
-                ∙ ap (λ v. v ++ those mine (at_instance w i0)) (inside m (subst (λ q. q < n) (sym m_is) src) ∙ ap at_one m_is ∙ at_source)
-                ∙ ap (λ v. at_side x.a x.sa ++ v) (inside i0 own_few ∙ ap at_one at ∙ at_destination);
-          }) e
-      by_last (At_third t none_a none_b e) =
-          let at : instance_node i0 ≡ k.third = sym owned.own ∙ k.holds.target ∙ ap (side_place (S f g) z) t in
-          let others : all_but i0 (λ i. those mine (at_instance w i)) (length c.names) ≡ [] = but_none i0 (λ i. those mine (at_instance w i)) (length c.names) (λ i small off. inside i (few_of i small) ∙ not_third (instance_node i) (λ same. off (omega (arith, same, at))) none_a none_b) in
-          placed (at_side x.c x.sc) (record { joins = ap (λ v. v ++ those mine (at_instance w i0)) (but [] others) ∙ inside i0 own_few ∙ ap at_one at ∙ at_third }) e
-
-  path_is : path f c items u w ≡ way
-  path_is = by_came (λ all. nowhere (nil_right (firsts x.done) way (sym (seat_parts (S f g).F k.seat) ∙ all))) somewhere
-
-  all_is : went f c items u w.log ++ path f c items u w ≡ seat_all k.seat
-  all_is =
-      ap (λ v. v ++ path f c items u w) (sym (done_same f c items is n w j u) ∙ same_done (S f g) z j.world.done ∙ k.holds.done)
-      ∙ ap (λ v. firsts x.done ++ v) path_is ∙ sym (seat_parts (S f g).F k.seat)
+      by_where : Where_all (S f g) (A f g) (is_sys f g.site g.packet) u j.world (came_by f g w.log u) → Ordered
+      by_where (Apart_from_shares h none) =
+          let k = seated f c items is n count w nodes j u h.is in
+          record {
+            flag = k.flag;
+            order = subst (λ ps. Order k.flag ps (came f c items u w.log)) (sym (seats.all_is f c items is n count w nodes j world in_turn u h.is h.untaken)) k.order;
+            flag_is = k.flag_is;
+          }
+      by_where (Under_share x before b h o i) = record {
+        flag = b;
+        order = subst (λ ps. Order b ps (came f c items u w.log)) (sym (shares.all_is f c items is n count w nodes j world told u x before (came_by f g w.log u).diverted h)) o;
+        flag_is = i;
+      }
 
   pub in_place : is_loose c items u w.log ≡ false → went f c items u w.log ++ path f c items u w ≡ came f c items u w.log
-  in_place off = all_is ∙ exact_of k.flag (seat_all k.seat) (came f c items u w.log) (not_both k.flag (is_loose c items u w.log) k.flag_is off) k.order
+  in_place off = exact_of ordered.flag (went f c items u w.log ++ path f c items u w) (came f c items u w.log) (not_both ordered.flag (is_loose c items u w.log) ordered.flag_is off) ordered.order
 
   pub each_in_place : (p : ℕ) → times p (went f c items u w.log) + times p (path f c items u w) ≡ times p (came f c items u w.log)
   each_in_place p =
       let whole = times-append p (went f c items u w.log) (path f c items u w) in
-      let same : times p (went f c items u w.log ++ path f c items u w) ≡ times p (came f c items u w.log) = ap (times p) all_is ∙ sym (same_times p (seat_all k.seat)) ∙ same_of k.flag (seat_all k.seat) (came f c items u w.log) k.order p ∙ same_times p (came f c items u w.log) in
+      let same : times p (went f c items u w.log ++ path f c items u w) ≡ times p (came f c items u w.log) = sym (same_times p (went f c items u w.log ++ path f c items u w)) ∙ same_of ordered.flag (went f c items u w.log ++ path f c items u w) (came f c items u w.log) ordered.order p ∙ same_times p (came f c items u w.log) in
       omega (arith, whole, same)

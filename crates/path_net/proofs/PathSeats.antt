@@ -68,11 +68,11 @@ module _ {F R : Type 0} (f : Semantics R) (c : Config) (items : List Msg) (is : 
   abbrev g : Given
   g = given f c items is
 
-  there : (i : ℕ) → nat_lt i (length c.names) ≡ true → instance_node i < n
+  pub there : (i : ℕ) → nat_lt i (length c.names) ≡ true → instance_node i < n
   there i e = let few = (Decides-ltb i (length c.names)).0 e in omega (arith, few, count)
 
   -- both sides of an open move are among the nodes
-  sides : (k : ℕ) (e : Open R) → find_op j.world.ops k ≡ Some e → (e.op.src < n) × (e.op.dst < n)
+  pub sides : (k : ℕ) (e : Open R) → find_op j.world.ops k ≡ Some e → (e.op.src < n) × (e.op.dst < n)
   sides k e found = by_got (finite.get j.nodes.controller.operations k) refl (subst (λ o. Sees f (place g) o (but_shares (finite.get j.nodes.controller.operations k)) (stored j.nodes.controller.store k)) found (j.shown_is.controller.opens k).move)
     where
       by_got : (o : Option Operation) → finite.get j.nodes.controller.operations k ≡ o → Sees f (place g) (Some e) (but_shares o) (stored j.nodes.controller.store k) → (e.op.src < n) × (e.op.dst < n)

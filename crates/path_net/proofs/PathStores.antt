@@ -1,5 +1,5 @@
 -- What the controller stores of a unit that no share has is what its seat has there, and nothing of it waits for a share.
-use Rattle.std.proofs.Common.{◌≡◌, ◌≢◌, ℕ, zero, suc, ◌+◌, ◌<◌, Bool, true, false, Option, Some, None, List, [], ◌++◌, length, get_or, refl, sym, ap, ◌∙◌, subst, arith}
+use Rattle.std.proofs.Common.{◌≡◌, ◌≢◌, ℕ, zero, suc, ◌+◌, ◌<◌, Bool, true, false, Option, Some, None, List, [], length, get_or, refl, sym, ap, ◌∙◌, subst, arith}
 use Rattle.std.specs.Prelude.{if◌then◌else◌, ◌==◌}
 use Rattle.std.specs.FinMap as finite
 use Rattle.std.proofs.lemmas.Bool.Decides.{nat_tests, Decides-eqb}
@@ -20,7 +20,7 @@ use Rattle.abstract_net.proofs.Ctrl.{each_found}
 use Rattle.abstract_net.proofs.Holding.{Seeing, frame, Op_label, Ctrl_is, Holds}
 use Rattle.abstract_net.proofs.Rest.{none_mine}
 use Rattle.abstract_net.proofs.ShareLists.{found_each}
-use Rattle.abstract_net.proofs.Shares.{Open_share, find_share, moves_of}
+use Rattle.abstract_net.proofs.Shares.{moves_of}
 use Rattle.abstract_net.proofs.Units.{see}
 use Rattle.abstract_net.proofs.Untaken.{Untaken}
 use Rattle.net_world.specs.declared.config.Config.{Config}
@@ -42,10 +42,10 @@ module _ {F R : Type 0} (f : Semantics R) (c : Config) (items : List Msg) (is : 
   abbrev g : Given
   g = given f c items is
 
-  abbrev got : ℕ → Option Operation
+  abbrev pub got : ℕ → Option Operation
   got k = finite.get j.nodes.controller.operations k
 
-  abbrev cells : ℕ → List FullCell
+  abbrev pub cells : ℕ → List FullCell
   cells k = stored j.nodes.controller.store k
 
   -- what all nodes have of a kind that the controller alone has

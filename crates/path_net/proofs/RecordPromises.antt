@@ -28,7 +28,8 @@ use Rattle.net_world.specs.Records.{live_in, live_at}
 use Rattle.outline_net.proofs.Outline.{is_sys}
 use Rattle.whole_joined.proofs.StartJoined.{given}
 use Rattle.whole_joined.proofs.Given.{Given}
-use Rattle.whole_joined.proofs.Joined.{S, A, Nodes, node_of, Joined}
+use Rattle.whole_net.proofs.WhereAll.{Where_all, Apart_from_shares, Under_share}
+use Rattle.whole_joined.proofs.Joined.{S, A, came_by, Nodes, node_of, Joined}
 
 -- where the machine has a record of the unit
 data Lives_at {R : Type 0} (S : Sys R) (z : Seeing) (x : State R) (k : ℕ) (r : R) : Type 0 where
@@ -86,6 +87,21 @@ instance_of x zero two = absurd (omega (arith, two))
 instance_of x (suc zero) two = absurd (omega (arith, two))
 instance_of x (suc (suc i)) two = refl
 
+module _ {F R : Type 0} (f : Semantics R) (c : Config) (items : List Msg) (is : IsInput f.kind c items) (n : ℕ) (w : Network (Node F R) Msg Note) (count : length w.nodes ≡ n) (j : Joined f (given f c items is) n w) (u : units.Unit) where
+  -- what is live at an instance is so in the world that shows it
+  live_in_world : (i : ℕ) (r : R) → live_at w i u ≡ Some r → finite.get (j.world.inst (instance_node i)).live u ≡ Some r
+  live_in_world i r h = by_node (slice_get w.nodes (instance_node i)) refl h
+    where
+      by_node : (o : Option (Node F R)) → slice_get w.nodes (instance_node i) ≡ o → live_in u o ≡ Some r → finite.get (j.world.inst (instance_node i)).live u ≡ Some r
+      by_node None e k = cc
+      by_node (Some (Switch s)) e k = cc
+      by_node (Some (Controller s)) e k = cc
+      by_node (Some (Instance s)) e k =
+          let few : instance_node i < n = (let there = slice_get_within w.nodes (instance_node i) (Instance s) e in rw (← count) there) in
+          let got : Instance (j.nodes.instance (instance_node i)) ≡ Instance s = sym (instance_of j.nodes (instance_node i) (omega arith)) ∙ sym (j.nodes_are (instance_node i) few (Instance s)) ∙ get_or_from_slice_get w.nodes (instance_node i) (Instance s) (Instance s) e in
+          let same : j.nodes.instance (instance_node i) ≡ s = cc in
+          ap (λ x. finite.get x.live u) (sym (j.shown_is.instances (instance_node i) (omega arith) few).outline_is) ∙ ap (λ x. finite.get x.table.live u) same ∙ k
+
 module _ {F R : Type 0} (f : Semantics R) (c : Config) (items : List Msg) (is : IsInput f.kind c items) (n : ℕ) (w : Network (Node F R) Msg Note) (count : length w.nodes ≡ n) (j : Joined f (given f c items is) n w) (u : units.Unit) (at : Where (S f (given f c items is)) (is_sys f (given f c items is).site (given f c items is).packet) u (moves_of (S f (given f c items is)) (A f (given f c items is)) j.world) (came f c items u w.log) (is_loose c items u w.log)) where
   abbrev gr : Given
   gr = given f c items is
@@ -104,18 +120,7 @@ module _ {F R : Type 0} (f : Semantics R) (c : Config) (items : List Msg) (is : 
 
   -- what a world has at an instance, its state of the machine has
   live_shown : (i : ℕ) (r : R) → live_at w i u ≡ Some r → Lives_at its shown_record.seeing shown_record.state (instance_node i) r
-  live_shown i r h = by_node (slice_get w.nodes (instance_node i)) refl h
-    where
-      by_node : (o : Option (Node F R)) → slice_get w.nodes (instance_node i) ≡ o → live_in u o ≡ Some r → Lives_at its shown_record.seeing shown_record.state (instance_node i) r
-      by_node None e k = cc
-      by_node (Some (Switch s)) e k = cc
-      by_node (Some (Controller s)) e k = cc
-      by_node (Some (Instance s)) e k =
-          let few : instance_node i < n = (let there = slice_get_within w.nodes (instance_node i) (Instance s) e in rw (← count) there) in
-          let got : Instance (j.nodes.instance (instance_node i)) ≡ Instance s = sym (instance_of j.nodes (instance_node i) (omega arith)) ∙ sym (j.nodes_are (instance_node i) few (Instance s)) ∙ get_or_from_slice_get w.nodes (instance_node i) (Instance s) (Instance s) e in
-          let same : j.nodes.instance (instance_node i) ≡ s = cc in
-          let table : finite.get (j.world.inst (instance_node i)).live u ≡ finite.get s.table.live u = ap (λ x. finite.get x.live u) (sym (j.shown_is.instances (instance_node i) (omega arith) few).outline_is) ∙ ap (λ x. finite.get x.table.live u) same in
-          lives_at its shown_record.seeing shown_record.state (instance_node i) r (sym (shown_record.tables (instance_node i)) ∙ table ∙ k)
+  live_shown i r h = lives_at its shown_record.seeing shown_record.state (instance_node i) r (sym (shown_record.tables (instance_node i)) ∙ live_in_world f c items is n w count j u i r h)
 
   pub record_is : (i : ℕ) (r : R) → live_at w i u ≡ Some r → fold its.F None (done_u its u j.world.done) ≡ Some r
   record_is i r h = by_place (live_shown i r h)
@@ -125,8 +130,8 @@ module _ {F R : Type 0} (f : Semantics R) (c : Config) (items : List Msg) (is : 
       by_place (In_b k e) = (one.is_b r e).0
       by_place (In_c k e) = (one.is_c r e).0
 
-  pub one_place : (i k : ℕ) (r s : R) → live_at w i u ≡ Some r → live_at w k u ≡ Some s → i ≡ k
-  one_place i k r s hi hk = by_places (live_shown i r hi) (live_shown k s hk)
+  one_place_apart : (i k : ℕ) (r s : R) → live_at w i u ≡ Some r → live_at w k u ≡ Some s → i ≡ k
+  one_place_apart i k r s hi hk = by_places (live_shown i r hi) (live_shown k s hk)
     where
       same : (m : ℕ) → instance_node i ≡ m → instance_node k ≡ m → i ≡ k
       same m a b = omega (arith, a, b)
@@ -144,3 +149,22 @@ module _ {F R : Type 0} (f : Semantics R) (c : Config) (items : List Msg) (is : 
       by_places (In_b a e) (In_c b d) = never shown_record.state.c.live s d (one.is_b r e).2
       by_places (In_c a e) (In_a b d) = never shown_record.state.a.live s d (one.is_c r e).1
       by_places (In_c a e) (In_b b d) = never shown_record.state.b.live s d (one.is_c r e).2
+
+-- No unit has two live records.
+module _ {F R : Type 0} (f : Semantics R) (c : Config) (items : List Msg) (is : IsInput f.kind c items) (n : ℕ) (w : Network (Node F R) Msg Note) (count : length w.nodes ≡ n) (j : Joined f (given f c items is) n w) (u : units.Unit) where
+  abbrev g : Given
+  g = given f c items is
+
+  pub one_place : (i k : ℕ) (r s : R) → live_at w i u ≡ Some r → live_at w k u ≡ Some s → i ≡ k
+  one_place i k r s hi hk = by_where (j.shown_is.every.unit u)
+    where
+      by_where : Where_all (S f g) (A f g) (is_sys f g.site g.packet) u j.world (came_by f g w.log u) → i ≡ k
+      by_where (Apart_from_shares h none) = one_place_apart f c items is n w count j u h.is i k r s hi hk
+      by_where (Under_share x before b h o fl) = omega (arith, at_home i r hi, at_home k s hk)
+        where
+          -- under a share it is at the home
+          at_home : (m : ℕ) (y : R) → live_at w m u ≡ Some y → instance_node m ≡ x.home
+          at_home m y live = elim (instance_node m == x.home) as (λ t. (instance_node m == x.home) ≡ t → instance_node m ≡ x.home) [
+            | true ↦ λ on. (Decides-eqb (instance_node m) x.home).0 on
+            | false ↦ λ off. (let never : None ≡ Some y = sym (h.away (instance_node m) off) ∙ live_in_world f c items is n w count j u m y live in cc)
+          ] refl

@@ -458,21 +458,16 @@ end
     Ok(())
 }
 
-/// Scripts beside a capture that is no capture, with the line on the standard error: the script's own faults come first, then the first
-/// command that isn't built, and the capture last.
-static REFUSALS: [(&str, &str); 6] = [
+/// Scripts beside a capture that is no capture, with the line on the standard error: the script's own faults come first.
+static REFUSALS: [(&str, &str); 5] = [
     ("at 0 stop\n", "opennf: script line 1: word\n"),
     (
         "at 0 copy a b any\nat 0 stop\n",
         "opennf: script line 2: word\n",
     ),
     (
-        "at 0 settle\nat 0 copy a b any\nat 0 share a,b any strict\n",
-        "opennf: command 2 not built\n",
-    ),
-    (
         "at 0 share a,b any strict\nat 0 copy a b all\n",
-        "opennf: command 1 not built\n",
+        "opennf: trace byte 0: magic\n",
     ),
     ("at 0 move a b any order\n", "opennf: trace byte 0: magic\n"),
     ("", "opennf: trace byte 0: magic\n"),
@@ -482,29 +477,6 @@ static REFUSALS: [(&str, &str); 6] = [
 fn refusals_come_in_order_and_report_nothing(rt: HostRuntime) -> Result<(), Fail> {
     for (script, line) in REFUSALS.as_slice() {
         let (number, outside) = scripted(rt.alloc(), "a,b", "first", script, &[&HEADER[..3]])?;
-        assert_eq!(rt; number, 2);
-        assert_eq!(rt; outside.written(Role::Report), b"".as_slice());
-        assert_eq!(rt; outside.written(Role::Errors), line.as_bytes());
-    }
-    Ok(())
-}
-
-/// Scripts beside a capture that is sound.
-static UNBUILT: [(&str, &str); 2] = [
-    (
-        "at 0 move a b any order\nat 0 share b,a any strict\n",
-        "opennf: command 2 not built\n",
-    ),
-    (
-        "at 9 share a,b any strict\nat 9 copy a b all\n",
-        "opennf: command 1 not built\n",
-    ),
-];
-
-#[test]
-fn a_share_is_not_built(rt: HostRuntime) -> Result<(), Fail> {
-    for (script, line) in UNBUILT.as_slice() {
-        let (number, outside) = four_packets(rt.alloc(), "a,b", "first", script)?;
         assert_eq!(rt; number, 2);
         assert_eq!(rt; outside.written(Role::Report), b"".as_slice());
         assert_eq!(rt; outside.written(Role::Errors), line.as_bytes());
