@@ -1,0 +1,12 @@
+pub mod LinkWeights
+pub mod Tokens
+pub mod TokenRows
+pub mod TokenNodes
+pub mod TokenController
+pub mod TallySteps
+pub mod TokenRuns
+pub mod NoMoves
+pub mod EndSteps
+pub mod EndingRuns
+pub mod SilentLinks
+pub mod AllEnded
