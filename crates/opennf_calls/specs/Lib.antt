@@ -1,6 +1,7 @@
+pub mod Again
 pub mod Command
+pub mod NetworkRuns
 pub mod Outcome
 pub mod Phases
-pub mod NetworkRuns
 pub mod Status
 pub mod Writing
