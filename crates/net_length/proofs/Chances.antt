@@ -1,7 +1,6 @@
 -- What can still become pieces of a move, and packets that are still to arrive: what messages and nodes weigh by these two. `a` is the weight of a
 -- packet of the input, `k` that of a move whose source hasn't been asked for its chunks.
-use Rattle.std.proofs.Common.{◌≡◌, ℕ, ◌+◌, ◌≤◌, Bool, true, false, List, [], ◌∷◌, ◌++◌, length, arith}
-use Rattle.std.specs.Prelude.{if◌then◌else◌}
+use Rattle.std.proofs.Common.{◌≡◌, ℕ, ◌+◌, List, [], ◌∷◌, ◌++◌, length, arith}
 use Rattle.nf_msgs.specs.declared.msg.Msg.{Msg}
 use Rattle.nf_msgs.specs.declared.msg.Msg.TheVariants as msg
 use Rattle.nf_msgs.specs.declared.note.Note.{Note}
@@ -11,11 +10,12 @@ use Rattle.move_op.specs.declared.phase.Phase.TheVariants.{Freezing}
 use Rattle.ctrl_node.specs.declared.operation.Operation.{Operation}
 use Rattle.ctrl_node.specs.declared.operation.Operation.TheVariants.{Move}
 use Rattle.ctrl_node.specs.Controller.{ControllerState}
-use Rattle.actor_net.specs.Network.{Stepped, reaches}
-use Rattle.actor_net.proofs.WeightLaws.{weigh, sent_weight}
+use Rattle.actor_net.specs.Network.{Stepped}
+use Rattle.actor_net.proofs.WeightLaws.{weigh}
 use Rattle.net_world.specs.Log.{arrived}
 use Rattle.net_length.specs.Length.{one_piece, pieces_among}
 use Rattle.net_length.proofs.MapWeights.{in_all}
+use Rattle.net_length.proofs.SentWeights.{sent_cost}
 
 module _ (a k : ℕ) where
   -- a message that waits: a packet of the input, or a command until its move's source is to send the chunks
@@ -28,8 +28,7 @@ module _ (a k : ℕ) where
 
   -- what is sent, without its pieces
   abbrev pub chances : List (ℕ × Msg) → ℕ
-  chances [] = 0
-  chances (x ∷ xs) = chance x.1 + chances xs
+  chances sends = sent_cost chance sends
 
   -- and with them
   abbrev pub spent : List (ℕ × Msg) → ℕ
@@ -43,18 +42,6 @@ module _ (a k : ℕ) where
   pub spent_parts : (xs : List (ℕ × Msg)) → spent xs ≡ pieces_among xs + chances xs
   spent_parts [] = omega arith
   spent_parts (x ∷ xs) = let rest = spent_parts xs in omega (arith, rest)
-
-  arrives : (b : Bool) (m : ℕ) → (if b then m else 0) ≤ m
-  arrives true m = omega arith
-  arrives false m = omega arith
-
-  -- of that no more comes to a link
-  pub few_sent : (n i : ℕ) (sends : List (ℕ × Msg)) → sent_weight chance n i sends ≤ chances sends
-  few_sent n i [] = omega arith
-  few_sent n i (x ∷ xs) =
-      let one = arrives (reaches n i x.0) (chance x.1) in
-      let rest = few_sent n i xs in
-      omega (arith, one, rest)
 
   -- a note: a packet that arrived
   abbrev pub arrival : Note → ℕ

@@ -6,12 +6,14 @@ pub mod LiveUnits
 pub mod MapWeights
 pub mod MoveCosts
 pub mod NodeCosts
+pub mod OperationWeights
 pub mod PieceController
 pub mod PieceInstances
 pub mod PieceMoves
 pub mod PieceRuns
 pub mod PieceSwitch
 pub mod RunLength
+pub mod SentWeights
 pub mod ShareCosts
 pub mod ShortRuns
 pub mod SwitchCosts

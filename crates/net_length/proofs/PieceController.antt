@@ -1,5 +1,5 @@
 -- What the controller sends and keeps as it takes a message weighs no more than the message and what it kept before: each move asks its source once.
-use Rattle.std.proofs.Common.{◌≡◌, ℕ, ◌+◌, ◌≤◌, true, false, Option, None, Some, List, [], ◌∷◌, ◌++◌, refl, ap, arith}
+use Rattle.std.proofs.Common.{◌≡◌, ℕ, ◌+◌, ◌≤◌, true, false, Option, None, Some, List, [], ◌∷◌, ◌++◌, refl, arith}
 use Rattle.std.specs.Prelude.{if◌then◌else◌, ◌==◌}
 use Rattle.std.specs.List.{filter_map}
 use Rattle.std.specs.FinMap as finite
@@ -27,9 +27,9 @@ use Rattle.ctrl_node.specs.Operations.{turn_of, serving_of, share_of}
 use Rattle.ctrl_node.specs.Controller as ctrl
 use Rattle.ctrl_node.specs.Controller.{ControllerState, Step, controller_step}
 use Rattle.actor_net.proofs.WeightLaws.{weigh}
-use Rattle.outline_net.proofs.OperationTables.{remove_insert}
-use Rattle.net_length.proofs.MapWeights.{in_all, if_found, insert_weighs, remove_weighs}
+use Rattle.net_length.proofs.MapWeights.{insert_weighs}
 use Rattle.net_length.proofs.Chances.{chance, spent, spent-append, arrival, uses, of_operation, of_controller}
+use Rattle.net_length.proofs.OperationWeights.{ops_weigh, closed_weigh}
 use Rattle.net_length.proofs.PieceMoves.{move_falls, copy_none, share_none, served_none}
 
 module _ (a k : ℕ) where
@@ -37,35 +37,21 @@ module _ (a k : ℕ) where
   Falls c m step = uses a k step + of_controller a k step.node ≤ of_controller a k c + chance a k m
 
   -- An operation that has taken a message: it stays, or is closed
-  module _ (c : ControllerState) (op : ℕ) (old : Operation) (there : finite.get c.operations op ≡ Some old) where
-    found : if_found (of_operation a k) (finite.get c.operations op) ≡ of_operation a k old
-    found = ap (if_found (of_operation a k)) there
+  module _ (c : ControllerState) (op : ℕ) (old : Operation) (there : finite.get c.operations op ≡ Some old) (store : Store) (sends : List (ℕ × Msg)) where
+    abbrev after : Operation → Option Answer → Step
+    after new answer = ctrl.after_turn c op (record { operation = Some new; store = store; sends = sends; answer = answer }) answer
 
-    stays : (new : Operation) → in_all (of_operation a k) (finite.insert c.operations op new) + of_operation a k old ≤ in_all (of_operation a k) c.operations + of_operation a k new
-    stays new = let less = insert_weighs (of_operation a k) c.operations op new in let same = found in omega (arith, less, same)
+    turn_costs : (new : Operation) (answer : Option Answer) → uses a k (after new answer) + of_controller a k (after new answer).node + of_operation a k old ≤ of_controller a k c + spent a k sends + of_operation a k new
+    turn_costs new None = let less = ops_weigh (of_operation a k) c.operations op old new there in omega (arith, less)
+    turn_costs new (Some answer) = by_kind new
+      where
+        both : spent a k (sends ++ (switch_node, msg.Answered op) ∷ []) ≡ spent a k sends
+        both = let all = spent-append a k sends ((switch_node, msg.Answered op) ∷ []) in omega (arith, all)
 
-    closes : (new : Operation) → in_all (of_operation a k) (finite.remove (finite.insert c.operations op new) op) + of_operation a k old ≤ in_all (of_operation a k) c.operations
-    closes new =
-        let less = remove_weighs (of_operation a k) c.operations op in
-        let same = found in
-        let gone = ap (in_all (of_operation a k)) (remove_insert c.operations op new) in
-        omega (arith, less, same, gone)
-
-    module _ (store : Store) (sends : List (ℕ × Msg)) where
-      abbrev after : Operation → Option Answer → Step
-      after new answer = ctrl.after_turn c op (record { operation = Some new; store = store; sends = sends; answer = answer }) answer
-
-      turn_costs : (new : Operation) (answer : Option Answer) → uses a k (after new answer) + of_controller a k (after new answer).node + of_operation a k old ≤ of_controller a k c + spent a k sends + of_operation a k new
-      turn_costs new None = let less = stays new in omega (arith, less)
-      turn_costs new (Some answer) = by_kind new
-        where
-          both : spent a k (sends ++ (switch_node, msg.Answered op) ∷ []) ≡ spent a k sends
-          both = let all = spent-append a k sends ((switch_node, msg.Answered op) ∷ []) in omega (arith, all)
-
-          by_kind : (x : Operation) → uses a k (after x (Some answer)) + of_controller a k (after x (Some answer)).node + of_operation a k old ≤ of_controller a k c + spent a k sends + of_operation a k x
-          by_kind (Share s) = let less = stays (Share s) in omega (arith, less, both)
-          by_kind (Move m) = let less = closes (Move m) in omega (arith, less, both)
-          by_kind (Copy y) = let less = closes (Copy y) in omega (arith, less, both)
+        by_kind : (x : Operation) → uses a k (after x (Some answer)) + of_controller a k (after x (Some answer)).node + of_operation a k old ≤ of_controller a k c + spent a k sends + of_operation a k x
+        by_kind (Share s) = let less = ops_weigh (of_operation a k) c.operations op old (Share s) there in omega (arith, less, both)
+        by_kind (Move m) = let less = closed_weigh (of_operation a k) c.operations op old (Move m) there in omega (arith, less, both)
+        by_kind (Copy y) = let less = closed_weigh (of_operation a k) c.operations op old (Copy y) there in omega (arith, less, both)
 
   -- A message to an open operation
   turn_falls : (c : ControllerState) (op port : ℕ) (m : Msg) (x : Option Operation) → finite.get c.operations op ≡ x → Falls c m (ctrl.takes_turn c op (turn_of x c.store port m))
@@ -94,7 +80,7 @@ module _ (a k : ℕ) where
   serving_costs c op (Some (Share s)) there =
       let next = share.served s.plan s.phase (stored c.store s.plan.op) in
       let none = served_none a k s.plan s.phase (stored c.store s.plan.op) in
-      let ops = stays c op (Share s) there (Share (record s { phase = next.phase })) in
+      let ops = ops_weigh (of_operation a k) c.operations op (Share s) (Share (record s { phase = next.phase })) there in
       omega (arith, none, ops)
 
   serves_costs : (c : ControllerState) (op : ℕ) → spent a k (ctrl.serves c op).sends + of_controller a k (ctrl.serves c op).node ≤ of_controller a k c

@@ -12,19 +12,18 @@ use Rattle.nf_msgs.specs.declared.note.Note.{Note}
 use Rattle.actor_net.specs.declared.choice.Choice.{Choice}
 use Rattle.actor_net.specs.Network.{Network, Stepped, IsRun, run, taken}
 use Rattle.actor_net.proofs.EnabledChoices.{at}
-use Rattle.actor_net.proofs.OpeningWorlds.{opening_weight}
 use Rattle.actor_net.proofs.RunInduction.{NextChoice, run_induction}
 use Rattle.actor_net.proofs.StepOutcome.{Takes}
-use Rattle.actor_net.proofs.WeightLaws.{weigh, weigh-append, total, total_after, nodes_after, log_after}
+use Rattle.actor_net.proofs.WeightLaws.{weigh, total, total_after, nodes_after, log_after}
 use Rattle.instance_worker.specs.Pieces.{pieces}
 use Rattle.instance_worker.specs.Instance.{selected}
 use Rattle.instance_worker.proofs.PieceLemmas.{few_selected}
 use Rattle.net_world.specs.declared.config.Config.{Config}
 use Rattle.net_world.specs.declared.node.Node.{Node}
-use Rattle.net_world.specs.declared.node.Node.TheVariants.{Controller, Instance}
+use Rattle.net_world.specs.declared.node.Node.TheVariants.{Controller}
 use Rattle.net_world.specs.Input.{IsInput, is_item, packets, commands}
 use Rattle.net_world.specs.Nodes.{node_step, node_ready}
-use Rattle.net_world.specs.Start.{first_instance, first_instances, first_nodes, started}
+use Rattle.net_world.specs.Start.{started}
 use Rattle.outline_net.proofs.StateOutline.{all_each}
 use Rattle.unit_machine.proofs.Labels.{Each}
 use Rattle.whole_joined.proofs.Given.{Given}
@@ -33,7 +32,8 @@ use Rattle.whole_joined.proofs.StartJoined.{given, count_at_start}
 use Rattle.whole_joined.proofs.RunsJoined.{Runs, runs_at_start, runs_next, start_world}
 use Rattle.net_length.specs.Length.{pieces_among, pieces_sent, most_pieces}
 use Rattle.net_length.proofs.MapWeights.{empty_weighs}
-use Rattle.net_length.proofs.Chances.{chance, spent_parts, few_sent, arrival, uses, of_operation, of_controller, arrivals_weigh}
+use Rattle.net_length.proofs.SentWeights.{few_sent, start_weight}
+use Rattle.net_length.proofs.Chances.{chance, spent_parts, arrival, uses, of_operation, of_controller, arrivals_weigh}
 use Rattle.net_length.proofs.PieceSwitch.{switch_uses}
 use Rattle.net_length.proofs.PieceController.{controller_uses}
 use Rattle.net_length.proofs.PieceInstances.{few_pieces, instance_uses, streamed_few}
@@ -81,7 +81,7 @@ module _ {F R : Type 0} (f : Semantics R) (a k : ℕ) (g : Given) (n : ℕ) (w :
       let messages = total_after (node_step f) n w i p (node_of j.nodes i) m rest takes (chance a k) in
       let all = nodes_after (node_step f) n w i p (node_of j.nodes i) m rest takes (node_chances {F = F} {R = R} a k) in
       let log = log_after (node_step f) n w i p (node_of j.nodes i) m rest takes (arrival a k) in
-      let few = few_sent a k n i did.sends in
+      let few = few_sent (chance a k) n i did.sends in
       let parts = spent_parts a k did.sends in
       omega (arith, messages, all, log, few, parts, falls)
 
@@ -94,22 +94,14 @@ input_chances a k (msg.InSettle ∷ items) h = let rest = input_chances a k item
 input_chances a k (msg.InEnd ∷ items) h = let rest = input_chances a k items h.1 in omega (arith, rest)
 input_chances a k (m ∷ items) h = let never : false ≡ true = h.0 in cc
 
-module _ (F : Type 0) {R : Type 0} (f : Semantics R) (a k : ℕ) (alloc : Global) (c : Config) where
-  -- at the start no instance and no operation weighs anything
-  instances_none : (i : ℕ) → weigh (node_chances {F = F} {R = R} a k) (first_instances alloc c i) ≡ 0
-  instances_none zero = refl
-  instances_none (suc i) =
-      let rest = instances_none i in
-      let both = weigh-append (node_chances {F = F} {R = R} a k) (first_instances alloc c i) (Instance (first_instance alloc c i) ∷ []) in
-      omega (arith, rest, both)
-
+module _ (F R : Type 0) (a k : ℕ) (alloc : Global) (c : Config) where
+  -- at the start only the input weighs anything
   start_chances : (items : List Msg) → Each (λ item. is_item item ≡ true) items → world_chances {F = F} {R = R} a k (started alloc c items) ≡ a * length (packets items) + k * length (commands items)
   start_chances items h =
-      let messages = opening_weight Note (first_nodes {F = F} {R = R} alloc c) items (chance a k) in
-      let rest = instances_none (length c.names) in
+      let first = start_weight (chance a k) (node_chances {F = F} {R = R} a k) alloc c (λ i. refl) items in
       let none = empty_weighs (of_operation a k) in
       let input = input_chances a k items h in
-      omega (arith, messages, rest, none, input)
+      omega (arith, first, none, input)
 
 module _ (F : Type 0) {R : Type 0} (f : Semantics R) (laws : FunctionLaws f) (alloc : Global) (c : Config) (items : List Msg) (is : IsInput f.kind c items) where
   abbrev begin : Network (Node F R) Msg Note
@@ -131,8 +123,8 @@ module _ (F : Type 0) {R : Type 0} (f : Semantics R) (laws : FunctionLaws f) (al
   few_begin : AreFew [] begin
   few_begin =
       let each = all_each (λ item. is_item item ≡ true) items is.only_items in
-      let one = start_chances F f 1 0 alloc c items each in
-      let other = start_chances F f 0 most alloc c items each in
+      let one = start_chances F R 1 0 alloc c items each in
+      let other = start_chances F R 0 most alloc c items each in
       record { runs = runs_at_start F f laws alloc c items is; came = omega (arith, one); sent = omega (arith, other) }
 
   -- each instance has few records
