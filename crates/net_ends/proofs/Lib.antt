@@ -10,3 +10,5 @@ pub mod EndSteps
 pub mod EndingRuns
 pub mod SilentLinks
 pub mod AllEnded
+pub mod ToldRuns
+pub mod FlyingRuns
