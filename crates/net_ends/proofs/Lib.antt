@@ -12,3 +12,5 @@ pub mod SilentLinks
 pub mod AllEnded
 pub mod ToldRuns
 pub mod FlyingRuns
+pub mod PacketLengths
+pub mod GroundedWorlds
