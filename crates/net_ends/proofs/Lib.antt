@@ -14,3 +14,5 @@ pub mod ToldRuns
 pub mod FlyingRuns
 pub mod PacketLengths
 pub mod GroundedWorlds
+pub mod WaitingWorlds
+pub mod NoStuckWorld
