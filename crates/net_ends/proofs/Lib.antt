@@ -10,3 +10,9 @@ pub mod EndSteps
 pub mod EndingRuns
 pub mod SilentLinks
 pub mod AllEnded
+pub mod ToldRuns
+pub mod FlyingRuns
+pub mod PacketLengths
+pub mod GroundedWorlds
+pub mod WaitingWorlds
+pub mod NoStuckWorld

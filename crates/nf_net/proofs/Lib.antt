@@ -29,7 +29,6 @@ pub mod PlaceSteps
 pub mod RecordStands
 pub mod RuleSteps
 pub mod RunKeeps
-pub mod RunsEnd
 pub mod SettleCounts
 pub mod SettleKeeps
 pub mod SettleRuns

@@ -2,9 +2,7 @@
 //!
 //! This crate touches nothing but memory. The main promises are those of [`simulate`] and [`run_choices`]: for an input of packets,
 //! moves and copies every run keeps `Promises` (of packets, records, places, answers and the window), each move that began is answered by its
-//! verdict, what stands by never goes back, and a complete run has processed all. They stand in one file, `specs/Promises.antt`. An input of at
-//! most a million packets and a thousand lines, with its end, has fewer than `MOST_CHOICES` choices in each run (`IsShort`), and none is stuck
-//! before its end; so a schedule always comes to it.
+//! verdict, what stands by never goes back, and a complete run has processed all. They stand in one file, `specs/Promises.antt`.
 #![tactic(auto)]
 
 pub mod run;

@@ -1,13 +1,10 @@
-ghost use Rattle.std.specs.Prelude.{◌≡◌, ◌≢◌, ◌≤◌, ℕ, true, List, [], length, IfOk};
+ghost use Rattle.std.specs.Prelude.{◌≡◌, ◌≢◌, ℕ, List, IfOk};
 ghost use Rattle.std.specs.declared.alloc.Global.{Global as AnAllocator};
 ghost use Rattle.nf_msgs.specs.declared.msg.Msg.{Msg as AMessage};
-ghost use Rattle.actor_net.specs.Network.{is_done};
 ghost use Rattle.actor_net.specs.Replays.{replayed};
-ghost use Rattle.actor_net.specs.Schedules.{enabled_choices};
 ghost use Rattle.net_world.specs.declared.config.Config.{Config as AConfig};
 ghost use Rattle.net_world.specs.Input.{IsInput};
-ghost use Rattle.net_world.specs.Nodes.{node_ended, node_ready, node_step};
-ghost use Rattle.net_length.specs.Length.{IsShort, has_end, most_choices, pieces_sent};
+ghost use Rattle.net_world.specs.Nodes.{node_ready, node_step};
 ghost use Rattle.nf_net.specs.Promises.{Completed, Promises};
 ghost use Rattle.net_world.specs.Runs.{chosen, EndsIn, StopsAt};
 ghost use Rattle.nf_net.specs.Promises.{Standbys};
@@ -39,9 +36,6 @@ pub fn simulate<F: Function>(
     ensures completed { IfOk result (λ r. Completed F.semantics config.now items.items r.0) }
     ensures home { IfOk result (λ r. AllHome config.now r.0) }
     ensures unfinished { (step : ℕ) → result ≡ Err (ScheduleFault.Unfinished step) → StopsAt {F = F.row.Denot} F.semantics (started alloc config.now items.items) schedule step }
-
-    // That never happens with a short input.
-    ensures finished { (step : ℕ) → IsShort items.items → result ≢ Err (ScheduleFault.Unfinished step) }
 {
     let world = start::<F>(alloc, config, items)?;
     run_schedule(alloc, world, schedule)
@@ -56,10 +50,6 @@ pub fn run_choices<F: Function>(
     ensures promises { (alloc : AnAllocator) (config : AConfig) (items : List AMessage) → IsInput F.semantics.kind config items → world ≡ started alloc config items → IfOk result (λ reached. Promises F.semantics config items reached) }
     ensures verdicts { (alloc : AnAllocator) (config : AConfig) (items : List AMessage) → IsInput F.semantics.kind config items → world ≡ started alloc config items → IfOk result (λ reached. Verdicts F.semantics world choices.now config items) }
     ensures standbys { (alloc : AnAllocator) (config : AConfig) (items : List AMessage) → IsInput F.semantics.kind config items → world ≡ started alloc config items → IfOk result (λ reached. Standbys F.semantics world choices.now config items) }
-
-    // An input with its end has no longer run, and none that is stuck before nothing is left to do.
-    ensures few { (alloc : AnAllocator) (config : AConfig) (items : List AMessage) → IsInput F.semantics.kind config items → world ≡ started alloc config items → has_end items ≡ true → IfOk result (λ reached. length choices.now ≤ most_choices (length config.names) items (pieces_sent F.semantics world choices.now)) }
-    ensures goes_on { (alloc : AnAllocator) (config : AConfig) (items : List AMessage) → IsInput F.semantics.kind config items → world ≡ started alloc config items → has_end items ≡ true → IfOk result (λ reached. enabled_choices node_ready reached ≡ [] → is_done node_ended reached ≡ true) }
 {
     replay(world, choices)
 }

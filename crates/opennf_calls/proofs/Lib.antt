@@ -10,6 +10,7 @@ pub mod RoleLemmas
 pub mod RowLemmas
 pub mod RunLemmas
 pub mod RunRows
+pub mod RunsEnd
 pub mod SameInputs
 pub mod ScriptLemmas
 pub mod TwoResults

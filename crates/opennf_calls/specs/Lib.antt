@@ -1,5 +1,6 @@
 pub mod Again
 pub mod Command
+pub mod Ends
 pub mod NetworkRuns
 pub mod Outcome
 pub mod Phases

@@ -3,6 +3,7 @@ ghost use Rattle.std.specs.Prelude.{◌≡◌, length, IfOk, MatchResult, OnErr}
 ghost use Rattle.trace_reader.specs.Records.{AreNumbered};
 ghost use Rattle.command_words.specs.RequestViews.{network_view};
 ghost use Rattle.opennf_calls.specs.declared.status.Status.TheVariants.{NoMemory as OutOfMemory};
+ghost use Rattle.opennf_calls.specs.Ends.{EndLaw};
 ghost use Rattle.opennf_calls.specs.NetworkRuns.{HasRun, IsRunOf};
 ghost use Rattle.opennf_calls.specs.Phases.{CanBegin, CanRun, IsOpening, IsRefusedRun, IsRefusedAs, given_by, gives};
 
@@ -225,3 +226,8 @@ fn last_number(packets: &[CapturedPacket]) -> u32
         None => 0,
     }
 }
+
+/// The law of ends: each run of an input that ends once has few choices, and where none is enabled behind them nothing is left to do.
+pub fn runs_end<F: Function>()
+    ensures { EndLaw F.row.Denot F.semantics }
+{}

@@ -1,6 +1,5 @@
 -- The choices that are replayed to their end are a run.
 use Rattle.nf_net.proofs.EveryRun.{replay_keeps, replay_judges, replay_stands}
-use Rattle.nf_net.proofs.RunsEnd.{replay_length, replay_goes_on}
 use Rattle.nf_net.proofs.run.run_choices.Goals as goal
 
 pub returns-clause-promises : goal.returns-clause-promises
@@ -11,9 +10,3 @@ returns-clause-verdicts g c alloc config items is start = replay_judges g.row.F.
 
 pub returns-clause-standbys : goal.returns-clause-standbys
 returns-clause-standbys g c alloc config items is start = replay_stands g.row.F.Denot g.F.Function.semantics g.met.F.Function.laws alloc config items is c.args.choices.now c.args.world c.replay.result start c.replay.ensures
-
-pub returns-clause-few : goal.returns-clause-few
-returns-clause-few g c alloc config items is start ended = replay_length g.row.F.Denot g.F.Function.semantics g.met.F.Function.laws alloc config items is c.args.choices.now c.args.world start c.replay.result c.replay.ensures ended
-
-pub returns-clause-goes_on : goal.returns-clause-goes_on
-returns-clause-goes_on g c alloc config items is start ended = replay_goes_on g.row.F.Denot g.F.Function.semantics g.met.F.Function.laws alloc config items is c.args.choices.now c.args.world start c.replay.result c.replay.ensures ended

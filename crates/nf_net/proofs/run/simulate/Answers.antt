@@ -1,6 +1,5 @@
 -- A world at its start, run by a schedule to its end, keeps the promises.
 use Rattle.nf_net.proofs.EveryRun.{ends, stops}
-use Rattle.nf_net.proofs.RunsEnd.{never_stops}
 use Rattle.nf_net.proofs.run.simulate.Goals as goal
 
 pub returns-clause-choices : goal.returns-clause-choices
@@ -28,6 +27,3 @@ returns-clause-verdicts g c = (ends g.row.F.Denot g.F.Function.semantics g.met.F
 
 pub returns-clause-standbys : goal.returns-clause-standbys
 returns-clause-standbys g c = (ends g.row.F.Denot g.F.Function.semantics g.met.F.Function.laws c.args.alloc c.args.config.now c.args.items.items c.requires c.args.schedule c.run_schedule.result c.in_ok-world.world c.in_ok-world.ensures c.run_schedule.ensures.choices c.run_schedule.ensures.world c.run_schedule.ensures.run c.run_schedule.ensures.complete).standbys
-
-pub returns-clause-finished : goal.returns-clause-finished
-returns-clause-finished g c step short is = never_stops g.row.F.Denot g.F.Function.semantics g.met.F.Function.laws c.args.alloc c.args.config.now c.args.items.items c.requires short c.args.schedule step (returns-clause-unfinished g c step is)

@@ -1,5 +1,5 @@
 -- The run of a schedule is that of the words, the script and the capture. The schedule comes to its end.
-use Rattle.std.proofs.Common.{Some, ap, sym, ◌≡◌, ◌∙◌, subst}
+use Rattle.std.proofs.Common.{Some, ap, refl, sym, ◌≡◌, ◌∙◌, subst}
 use Rattle.nf_function.specs.declared.kind.Kind.{Kind}
 use Rattle.command_words.specs.RequestViews.{network_view}
 use Rattle.net_length.proofs.ShortRuns.{short_runs}
@@ -8,7 +8,15 @@ use Rattle.net_world.specs.Runs.{LeadsTo, chosen}
 use Rattle.net_world.specs.Start.{started}
 use Rattle.opennf_calls.specs.Phases.{given_by}
 use Rattle.opennf_calls.proofs.RunLemmas.{run_of}
+use Rattle.opennf_calls.proofs.RunsEnd.{never_stops}
 use Rattle.opennf_calls.proofs.network.schedule_network.Goals as goal
+
+pub unreachable-requires : goal.unreachable-requires
+unreachable-requires g c =
+    let opening = c.in_ok-config.field-0 in
+    let is = c.in_ok-config.ensures in
+    let input = subst (λ (k : Kind). IsInput k opening.config opening.items.items) (sym c.requires.kind) is.is_input in
+    never_stops g.row.F.Denot g.F.Function.semantics g.met.F.Function.laws c.args.alloc opening.config opening.items.items input is.short c.args.schedule c.in-Unfinished.step (c.in-Err.ensures.unfinished c.in-Unfinished.step refl)
 
 pub returns : goal.returns
 returns g c =
