@@ -542,6 +542,7 @@ class World:
         self.input = deque(items)
         self.log = []
         self.choices = []  # that were taken
+        self.pieces = 0  # that moves sent
 
     def is_enabled(self, choice):
         node, port = choice
@@ -565,6 +566,7 @@ class World:
         for receiver, message in step.sent:
             self.links[node, receiver].append(message)
         self.log += step.notes
+        self.pieces += sum(message[0] == "piece" for _, message in step.sent)
 
     def is_complete(self):
         return not self.input and not any(self.links.values()) and all(node.has_ended() for node in self.nodes)

@@ -10,7 +10,7 @@ use Rattle.journal_file.specs.declared.fault.JournalFault.TheVariants as fault
 use Rattle.journal_file.specs.Reading.{GivesFrom, HasReadCause, count_of, journal_of, looked_at}
 use Rattle.command_words.specs.Plan.{NetworkAsked, asks_audit}
 use Rattle.opennf_calls.specs.declared.status.Status.{Status}
-use Rattle.opennf_calls.specs.declared.status.Status.TheVariants.{Ok as Done, Usage, BadScript, BadTrace, BadJournal, NotARun, Unfinished, ReadFault, WriteFault, NoMemory}
+use Rattle.opennf_calls.specs.declared.status.Status.TheVariants.{Ok as Done, Usage, BadScript, BadTrace, BadJournal, NotARun, ReadFault, WriteFault, NoMemory}
 use Rattle.opennf_calls.specs.declared.status.JournalKind.TheVariants as kinds
 use Rattle.opennf_calls.specs.declared.network.Made.{Made}
 use Rattle.opennf_calls.specs.NetworkRuns.{Given, Gives, HasRun}
@@ -122,7 +122,6 @@ module _ (s : NetworkAsked) (named : is_some s.journal ≡ true) (given : Given)
     no_run_row (BadScript line kind) cause = absurd cause
     no_run_row (BadTrace offset kind) cause = absurd cause
     no_run_row (BadJournal _) cause = absurd cause
-    no_run_row (Unfinished step) cause = absurd cause
     no_run_row (ReadFault role) cause = absurd cause
     no_run_row (WriteFault role) cause = absurd cause
 

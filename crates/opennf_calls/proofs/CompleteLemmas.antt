@@ -1,24 +1,23 @@
--- Good input and no fault of the outside leave four statuses: Ok, out of memory, a schedule without an end, and a journal that tells no run.
+-- Good input and no fault of the outside leave two statuses, Ok and out of memory, and for a journal whose choices aren't a complete run its own.
 use Rattle.std.proofs.Common.{◌≡◌, ℕ, List, Option, None, Some, refl, sym, ◌∙◌, subst}
 use Rattle.nf_io.specs.declared.outside.Role.{Role}
 use Rattle.nf_io.specs.Meaning.{Meaning, Rose}
 use Rattle.actor_net.specs.declared.choice.Choice.{Choice}
 use Rattle.command_words.specs.Plan.{Asked}
 use Rattle.opennf_calls.specs.declared.status.Status.{Status}
-use Rattle.opennf_calls.specs.declared.status.Status.TheVariants.{Ok as Done, Usage, BadScript, BadTrace, BadJournal, NotARun, Unfinished, ReadFault, WriteFault, NoMemory}
+use Rattle.opennf_calls.specs.declared.status.Status.TheVariants.{Ok as Done, Usage, BadScript, BadTrace, BadJournal, NotARun, ReadFault, WriteFault, NoMemory}
 use Rattle.opennf_calls.specs.declared.outcome.Outcome.{Outcome}
-use Rattle.opennf_calls.specs.Outcome.{HasInput, RowOf, CauseOf, IsComplete, IsGoodEnd, Is_done, Is_memory, Is_no_run, Is_short, refusal_of}
+use Rattle.opennf_calls.specs.Outcome.{HasInput, RowOf, CauseOf, IsComplete, IsGoodEnd, Is_done, Is_memory, Is_no_run, refusal_of}
 
 -- nothing refuses the input, so no status does
 never : (asked : Asked) (bytes : Role → List ℕ) (status : Status) → refusal_of asked bytes ≡ None → refusal_of asked bytes ≡ Some status → ⊥
 never asked bytes status sound refused = let both : None ≡ Some status = sym sound ∙ refused in cc
 
 complete_row : (asked : Asked) (old new : Role → Meaning) (choices : List Choice) (status : Status) (bytes : Role → List ℕ) → RowOf asked old new choices status
-    → HasInput asked old bytes → refusal_of asked bytes ≡ None → ((role : Role) → Rose (old role).faults (new role).faults → ⊥) → IsGoodEnd status
+    → HasInput asked old bytes → refusal_of asked bytes ≡ None → ((role : Role) → Rose (old role).faults (new role).faults → ⊥) → IsGoodEnd asked bytes status
 complete_row asked old new choices Done bytes row told sound calm = Is_done refl
 complete_row asked old new choices NoMemory bytes row told sound calm = Is_memory refl
-complete_row asked old new choices (Unfinished step) bytes row told sound calm = Is_short step refl
-complete_row asked old new choices (NotARun step) bytes row told sound calm = Is_no_run step refl
+complete_row asked old new choices (NotARun step) bytes row told sound calm = Is_no_run step refl (row.0.failed bytes told).fails
 complete_row asked old new choices (WriteFault role) bytes row told sound calm = absurd (calm role row.rose)
 complete_row asked old new choices (ReadFault role) bytes row told sound calm = absurd (calm role row.0.rose)
 complete_row asked old new choices (BadTrace offset kind) bytes row told sound calm = absurd (never asked bytes _ sound (row.0.refusal bytes told))

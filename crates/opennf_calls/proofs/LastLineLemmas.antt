@@ -8,11 +8,11 @@ use Rattle.nf_io.specs.Meaning.{Meaning, Rose, AppendsFront}
 use Rattle.actor_net.specs.declared.choice.Choice.{Choice}
 use Rattle.command_words.specs.Plan.{Asked}
 use Rattle.opennf_calls.specs.declared.status.Status.{Status}
-use Rattle.opennf_calls.specs.declared.status.Status.TheVariants.{Ok as Done, Usage, BadScript, BadTrace, BadJournal, NotARun, Unfinished, ReadFault, WriteFault, NoMemory}
+use Rattle.opennf_calls.specs.declared.status.Status.TheVariants.{Ok as Done, Usage, BadScript, BadTrace, BadJournal, NotARun, ReadFault, WriteFault, NoMemory}
 use Rattle.opennf_calls.specs.declared.outcome.Outcome.{Outcome}
 use Rattle.opennf_calls.specs.Command.{is_result, comes_before}
 use Rattle.opennf_calls.specs.NetworkRuns.{Gives}
-use Rattle.opennf_calls.specs.Outcome.{HasInput, ForResults, IsBound, IsDone, IsWriteFault, IsReadFault, IsRefused, IsUnfinished, IsNotARun, MayBind, WroteNothing, WroteResultsAlone, Gained, RowOf, CauseOf, PutsLine}
+use Rattle.opennf_calls.specs.Outcome.{HasInput, ForResults, IsBound, IsDone, IsWriteFault, IsReadFault, IsRefused, IsNotARun, MayBind, WroteNothing, WroteResultsAlone, Gained, RowOf, CauseOf, PutsLine}
 use Rattle.opennf_calls.specs.Phases.{SameContents, SameNames}
 use Rattle.opennf_calls.specs.Writing.{Written, Wrote, written}
 use Rattle.opennf_calls.proofs.RoleLemmas.{at_each}
@@ -113,19 +113,6 @@ module _ (before old mid new : Role → Meaning) (around : Around before old mid
     refusal = λ bytes told. row.refusal bytes (has_input asked bytes told);
   }
 
-  unfinished : (asked : Asked) (step : ℕ) → IsUnfinished asked old mid step → IsUnfinished asked before new step
-  unfinished asked step row = record {
-    bound = bound asked row.bound;
-    silent = silent row.silent;
-    stopped = λ bytes told.
-        let found = row.stopped bytes (has_input asked bytes told) in
-        record {
-          read = λ role input. ap (λ m. m.left) (around.others role (not_errors asked role input)) ∙ found.read role input;
-          sound = found.sound;
-          stops = found.stops;
-        };
-  }
-
   no_run : (asked : Asked) (step : ℕ) → IsNotARun asked old mid step → IsNotARun asked before new step
   no_run asked step row = record {
     bound = bound asked row.bound;
@@ -147,7 +134,6 @@ module _ (before old mid new : Role → Meaning) (around : Around before old mid
   row_around asked choices (BadTrace offset kind) row = (refused asked (BadTrace offset kind) row.0, row.1)
   row_around asked choices (BadJournal kind) row = (refused asked (BadJournal kind) row.0, row.1)
   row_around asked choices (NotARun step) row = (no_run asked step row.0, row.1)
-  row_around asked choices (Unfinished step) row = (unfinished asked step row.0, row.1)
   row_around asked choices NoMemory row = (silent row.0, row.1)
   row_around asked choices Usage row = row
 

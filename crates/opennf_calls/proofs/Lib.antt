@@ -1,3 +1,4 @@
+pub mod AuditLaws
 pub mod AuditRows
 pub mod BuiltCommands
 pub mod CompleteLemmas
@@ -9,6 +10,8 @@ pub mod RoleLemmas
 pub mod RowLemmas
 pub mod RunLemmas
 pub mod RunRows
+pub mod RunsEnd
+pub mod SameInputs
 pub mod ScriptLemmas
 pub mod TwoResults
 pub mod WritingLemmas

@@ -1,5 +1,5 @@
 -- What is known of a run of the network, in the words of its command.
-use Rattle.std.proofs.Common.{◌≡◌, ℕ, ◌+◌, ◌-◌, true, List, [], ◌∷◌, length, Option, Some, Result, Ok, Err, refl, ap, ◌∙◌, subst, arith, zero, suc}
+use Rattle.std.proofs.Common.{◌≡◌, ℕ, ◌+◌, ◌-◌, ◌<◌, true, List, [], ◌∷◌, length, Option, Some, Result, Ok, Err, refl, ap, ◌∙◌, subst, arith, zero, suc}
 use Rattle.std.specs.Prelude.{MatchResult, slice_get}
 use Rattle.std.proofs.lemmas.Option.{slice_get_within}
 use Rattle.std.specs.declared.alloc.Global.{Global}
@@ -11,14 +11,14 @@ use Rattle.trace_reader.specs.Records.{AreNumbered}
 use Rattle.command_words.specs.Plan.{NetworkAsked}
 use Rattle.actor_net.specs.declared.choice.Choice.{Choice}
 use Rattle.actor_net.specs.declared.schedule.Schedule.{Schedule}
-use Rattle.actor_net.specs.declared.schedule.ScheduleFault.{ScheduleFault}
-use Rattle.actor_net.specs.declared.schedule.ScheduleFault.TheVariants as run
+use Rattle.actor_net.specs.declared.schedule.TheConstants.{MOST_CHOICES}
 use Rattle.actor_net.specs.Network.{Network, is_done}
+use Rattle.journal_file.proofs.HeaderReads.{journal_again}
 use Rattle.net_world.specs.declared.config.Config.{Config}
 use Rattle.net_world.specs.declared.node.Node.{Node}
 use Rattle.net_world.specs.Nodes.{node_ended}
 use Rattle.nf_net.specs.Promises.{Completed, Promises}
-use Rattle.net_world.specs.Runs.{LeadsTo, StopsAt, chosen}
+use Rattle.net_world.specs.Runs.{LeadsTo, chosen}
 use Rattle.net_world.specs.Start.{started}
 use Rattle.nf_net.specs.Promises.{Standbys}
 use Rattle.nf_net.specs.Promises.{Verdicts}
@@ -30,10 +30,10 @@ use Rattle.run_report.specs.Audits.{IsCause}
 use Rattle.run_report.specs.Lines.{report_text}
 use Rattle.opennf_calls.specs.declared.network.Made.{Made}
 use Rattle.opennf_calls.specs.declared.status.Status.{Status}
-use Rattle.opennf_calls.specs.declared.status.Status.TheVariants.{BadTrace, BadJournal, NotARun, Unfinished, NoMemory, Ok as Done, Usage, BadScript, ReadFault, WriteFault}
-use Rattle.opennf_calls.specs.NetworkRuns.{Given, HasNoRun, HasShortRun, IsNoRun, IsRunOf, StopsShort, config_for, head_for, items_for}
-use Rattle.opennf_calls.specs.Phases.{EndsEarly, EndsEarlyAs, IsRefusedAs, IsRefusedRun, gives}
-use Rattle.opennf_calls.specs.Status.{audit_status, run_status}
+use Rattle.opennf_calls.specs.declared.status.Status.TheVariants.{BadTrace, BadJournal, NotARun, NoMemory, Ok as Done, Usage, BadScript, ReadFault, WriteFault}
+use Rattle.opennf_calls.specs.NetworkRuns.{Given, HasNoRun, IsNoRun, IsRunOf, config_for, head_for, items_for}
+use Rattle.opennf_calls.specs.Phases.{IsRefusedAs, IsRefusedRun, gives}
+use Rattle.opennf_calls.specs.Status.{audit_status}
 
 -- the packet at a place of numbered ones
 numbered_at : (n : ℕ) (ps : List Packet) (i : ℕ) (p : Packet) → AreNumbered n ps → slice_get ps i ≡ Some p → p.number ≡ n + i
@@ -68,6 +68,7 @@ module _ {R : Type 0} (F : Type 0) (f : Semantics R) (s : NetworkAsked) (g : Giv
     pub standbys : Standbys {F = F} f at_start choices config items
     pub completed : Completed f config items world
     pub home : AllHome config world
+    pub few : length choices < MOST_CHOICES
 
   -- its report is made
   pub run_of : (by : Option Schedule) (made : Made) (world : Network (Node F R) Msg Note) → Ran made.choices world
@@ -86,13 +87,9 @@ module _ {R : Type 0} (F : Type 0) (f : Semantics R) (s : NetworkAsked) (g : Giv
     home = moved (λ c l. AllHome c world) ran.home;
     report = report ∙ ap (λ (h : Head). report_text f h s.summary world) is_head;
     journal = refl;
+    few = ran.few;
+    again = (let few = ran.few in journal_again s.kind (length s.instances.names) made.choices (omega (arith, few)));
   }
-
-  -- the schedule has no end
-  pub run_early : (schedule : Schedule) (e : ScheduleFault) → ((step : ℕ) → e ≡ run.Unfinished step → StopsAt {F = F} f at_start schedule step)
-      → EndsEarlyAs F f s g schedule (run_status e)
-  run_early schedule (run.Unfinished step) stops = record { alloc = alloc; stops = moved (λ c l. StopsAt {F = F} f (started alloc c l) schedule step) (stops step refl) }
-  run_early schedule run.NoMemory stops = tt
 
   -- the choices are no complete run
   pub run_refused : (choices : List Choice) (e : AuditFault) → ((step : ℕ) → e ≡ audit.NotARun step → IsCause {F = F} f at_start choices step)
@@ -102,24 +99,10 @@ module _ {R : Type 0} (F : Type 0) (f : Semantics R) (s : NetworkAsked) (g : Giv
 
 -- The function is that of the words.
 module _ {R : Type 0} (F : Type 0) (f : Semantics R) (s : NetworkAsked) (g : Given) where
-  early : (schedule : Schedule) → ((step : ℕ) → StopsShort F f s g schedule step → HasShortRun s.kind s g schedule step)
-      → (status : Status) → EndsEarlyAs F f s g schedule status → EndsEarly s g schedule status
-  early schedule same (Unfinished step) stops = same step stops
-  early schedule same NoMemory stops = stops
-  early schedule same Done stops = absurd stops
-  early schedule same Usage stops = absurd stops
-  early schedule same (BadScript line kind) stops = absurd stops
-  early schedule same (BadTrace offset kind) stops = absurd stops
-  early schedule same (BadJournal fault) stops = absurd stops
-  early schedule same (NotARun step) stops = absurd stops
-  early schedule same (ReadFault role) stops = absurd stops
-  early schedule same (WriteFault role) stops = absurd stops
-
   no_run : (choices : List Choice) → ((step : ℕ) → IsNoRun F f s g choices step → HasNoRun s.kind s g choices step)
       → (status : Status) → IsRefusedAs F f s g choices status → IsRefusedRun s g choices status
   no_run choices same (NotARun step) cause = same step cause
   no_run choices same NoMemory cause = cause
-  no_run choices same (Unfinished step) cause = absurd cause
   no_run choices same Done cause = absurd cause
   no_run choices same Usage cause = absurd cause
   no_run choices same (BadScript line kind) cause = absurd cause
@@ -127,12 +110,6 @@ module _ {R : Type 0} (F : Type 0) (f : Semantics R) (s : NetworkAsked) (g : Giv
   no_run choices same (BadJournal fault) cause = absurd cause
   no_run choices same (ReadFault role) cause = absurd cause
   no_run choices same (WriteFault role) cause = absurd cause
-
-  pub scheduled_kind : (schedule : Schedule) (r : Result Made Status) (P Q : Made → Type 0)
-      → ((made : Made) → P made → Q made) → ((step : ℕ) → StopsShort F f s g schedule step → HasShortRun s.kind s g schedule step)
-      → MatchResult r P (EndsEarlyAs F f s g schedule) → MatchResult r Q (EndsEarly s g schedule)
-  scheduled_kind schedule (Ok made) P Q of_kind same holds = of_kind made holds
-  scheduled_kind schedule (Err status) P Q of_kind same holds = early schedule same status holds
 
   pub told_kind : (choices : List Choice) (r : Result Made Status) (P Q : Made → Type 0)
       → ((made : Made) → P made → Q made) → ((step : ℕ) → IsNoRun F f s g choices step → HasNoRun s.kind s g choices step)

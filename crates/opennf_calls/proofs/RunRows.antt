@@ -1,6 +1,5 @@
 -- The rows of the commands that run the network: what is wrong with their inputs, what their run gives, and why there is none.
-use Rattle.std.proofs.Common.{◌≡◌, ℕ, List, [], ◌&&◌, Option, None, Some, is_some, Result, Ok, Err, refl, ap, IsTrue}
-use Rattle.std.specs.Prelude.{MatchResult}
+use Rattle.std.proofs.Common.{◌≡◌, ℕ, List, [], ◌&&◌, Option, None, Some, is_some, refl, ap, IsTrue}
 use Rattle.nf_io.specs.declared.outside.Role.{Role}
 use Rattle.nf_io.specs.declared.outside.Role.TheVariants.{Trace, Script, JournalIn, Report, JournalOut, TraceOut, Errors}
 use Rattle.nf_io.specs.Meaning.{Meaning}
@@ -8,13 +7,12 @@ use Rattle.nf_io.specs.Roles.{is_read}
 use Rattle.actor_net.specs.declared.schedule.Schedule.{Schedule}
 use Rattle.command_words.specs.Plan.{Asked, NetworkAsked, asks_sim, asks_run, asks_audit}
 use Rattle.opennf_calls.specs.declared.status.Status.{Status}
-use Rattle.opennf_calls.specs.declared.status.Status.TheVariants.{Ok as Done, Usage, BadScript, BadTrace, BadJournal, NotARun, Unfinished, ReadFault, WriteFault, NoMemory}
-use Rattle.opennf_calls.specs.declared.network.Made.{Made}
+use Rattle.opennf_calls.specs.declared.status.Status.TheVariants.{Ok as Done, Usage, BadScript, BadTrace, BadJournal, NotARun, ReadFault, WriteFault, NoMemory}
 use Rattle.opennf_calls.specs.Command.{is_input, run_file, with_journal}
 use Rattle.opennf_calls.specs.NetworkRuns.{Given, Gives, HasRun}
 use Rattle.opennf_calls.specs.Outcome.{ForResults, HasInput, IsBound, IsRead, IsRefused, RowOf, first_refusal, inputs_refusal, journal_read, journal_refusal, refusal_of}
-use Rattle.opennf_calls.specs.Phases.{EndsEarly, HasInputs, InputsFail, OnlyRead, ReadToEnd, RefusesInputs, TellsInputs, gives}
-use Rattle.opennf_calls.proofs.RowLemmas.{read_fault, refused, silent, still_bound}
+use Rattle.opennf_calls.specs.Phases.{HasInputs, InputsFail, OnlyRead, ReadToEnd, RefusesInputs, TellsInputs}
+use Rattle.opennf_calls.proofs.RowLemmas.{read_fault, refused, silent}
 
 -- the files of a run of the network are inputs, where its journal is written and where it is read
 beside_written : (s : NetworkAsked) (role : Role) → IsTrue (is_some (run_file s role)) → IsTrue (is_read role && is_some (with_journal s JournalOut role))
@@ -89,7 +87,6 @@ module _ (s : NetworkAsked) (asked : Asked) (reads : Reads s asked) (old new : R
   fails_row Usage fails = absurd fails
   fails_row (BadJournal _) fails = absurd fails
   fails_row (NotARun step) fails = absurd fails
-  fails_row (Unfinished step) fails = absurd fails
   fails_row (WriteFault role) fails = absurd fails
 
 -- they give a run
@@ -105,41 +102,11 @@ module _ (s : NetworkAsked) (old new : Role → Meaning) (given : Given) (has : 
   }
 
   -- by a schedule
-  module _ (schedule : Schedule) (only : OnlyRead old new) (bound : IsBound (asks_sim s schedule) old) where
-    sim_results : (made : Gives) → HasRun s.kind s given (Some schedule) made → ForResults (asks_sim s schedule) old new (λ g. g ≡ made)
-    sim_results made holds bytes is = let told = tells s (asks_sim s schedule) (sim_reads s schedule) old bytes is in record {
-      read = all_read s new (has.read bytes told);
-      sound = has.sound bytes told;
-      made = made;
-      are = record { given = given; is_given = has.is_given bytes told; holds = holds };
-      wrote = refl;
-    }
-
-    early_row : (status : Status) → EndsEarly s given schedule status → RowOf (asks_sim s schedule) old new [] status
-    early_row (Unfinished step) stops = (
-      record {
-        bound = still_bound old new only (asks_sim s schedule) bound;
-        silent = silent old new only;
-        stopped = λ bytes is. let told = tells s (asks_sim s schedule) (sim_reads s schedule) old bytes is in record {
-          read = all_read s new (has.read bytes told);
-          sound = has.sound bytes told;
-          stops = record { given = given; is_given = has.is_given bytes told; holds = stops };
-        };
-      },
-      refl,
-    )
-    early_row NoMemory stops = (silent old new only, refl)
-    early_row Done stops = absurd stops
-    early_row Usage stops = absurd stops
-    early_row (BadScript line kind) stops = absurd stops
-    early_row (BadTrace offset kind) stops = absurd stops
-    early_row (BadJournal _) stops = absurd stops
-    early_row (NotARun step) stops = absurd stops
-    early_row (ReadFault role) stops = absurd stops
-    early_row (WriteFault role) stops = absurd stops
-
-    -- what it gives, or why there is nothing
-    pub sim_row : (r : Result Made Status) → MatchResult r (λ made. HasRun s.kind s given (Some schedule) (gives s made)) (EndsEarly s given schedule)
-        → MatchResult r (λ made. ForResults (asks_sim s schedule) old new (λ g. g ≡ gives s made)) (λ status. RowOf (asks_sim s schedule) old new [] status)
-    sim_row (Ok made) holds = sim_results (gives s made) holds
-    sim_row (Err status) holds = early_row status holds
+  pub sim_results : (schedule : Schedule) (made : Gives) → HasRun s.kind s given (Some schedule) made → ForResults (asks_sim s schedule) old new (λ g. g ≡ made)
+  sim_results schedule made holds bytes is = let told = tells s (asks_sim s schedule) (sim_reads s schedule) old bytes is in record {
+    read = all_read s new (has.read bytes told);
+    sound = has.sound bytes told;
+    made = made;
+    are = record { given = given; is_given = has.is_given bytes told; holds = holds };
+    wrote = refl;
+  }

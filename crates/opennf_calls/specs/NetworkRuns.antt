@@ -1,5 +1,5 @@
 -- What a run of the network is given, and what comes of it: a complete run from its start, its report and its journal. This project's own.
-use Rattle.std.specs.Prelude.{◌≡◌, ℕ, true, List, [], ◌∷◌, length, Option, None, Some, is_some, Result, Ok, if◌then◌else◌}
+use Rattle.std.specs.Prelude.{◌≡◌, ◌<◌, ℕ, true, List, [], ◌∷◌, length, Option, None, Some, is_some, Result, Ok, if◌then◌else◌}
 use Rattle.std.specs.declared.alloc.Global.{Global}
 use Rattle.flow_filter.specs.declared.filter.Filter.{Filter}
 use Rattle.flow_filter.specs.declared.site.Site.{Site}
@@ -24,13 +24,15 @@ use Rattle.nf_io.specs.declared.outside.Role.{Role}
 use Rattle.nf_io.specs.declared.outside.Role.TheVariants.{Report, JournalOut}
 use Rattle.actor_net.specs.declared.choice.Choice.{Choice}
 use Rattle.actor_net.specs.declared.schedule.Schedule.{Schedule}
+use Rattle.actor_net.specs.declared.schedule.TheConstants.{MOST_CHOICES}
 use Rattle.actor_net.specs.Network.{Network, is_done}
 use Rattle.journal_file.specs.Format.{journal_bytes}
+use Rattle.journal_file.specs.Reading.{journal_of}
 use Rattle.net_world.specs.declared.config.Config.{Config}
 use Rattle.net_world.specs.declared.node.Node.{Node}
 use Rattle.nf_net.specs.Promises.{Completed, Promises}
 use Rattle.net_world.specs.Nodes.{node_ended}
-use Rattle.net_world.specs.Runs.{chosen, LeadsTo, StopsAt}
+use Rattle.net_world.specs.Runs.{chosen, LeadsTo}
 use Rattle.net_world.specs.Start.{started}
 use Rattle.nf_net.specs.Promises.{Standbys}
 use Rattle.nf_net.specs.Promises.{Verdicts}
@@ -99,11 +101,9 @@ module _ {R : Type 0} (F : Type 0) (f : Semantics R) (s : NetworkAsked) (g : Giv
     pub home : AllHome (config_for s g.site g.script.routes.items) world
     pub report : made.texts Report ≡ report_text f (head_for s g.captured) s.summary world
     pub journal : made.texts JournalOut ≡ journal_bytes s.kind (length s.instances.names) made.choices
-
-  -- a schedule has taken so many steps, and doesn't come to such a world
-  pub record StopsShort (schedule : Schedule) (step : ℕ) : Type 0 where
-    pub alloc : Global
-    pub stops : StopsAt f (start_for alloc) schedule step
+    -- its choices are fewer than a journal may have, so the journal is read as these choices again
+    pub few : length made.choices < MOST_CHOICES
+    pub again : journal_of s.kind (length s.instances.names) (made.texts JournalOut) ≡ Ok made.choices
 
   -- these choices aren't a complete run, which shows at this step
   pub record IsNoRun (choices : List Choice) (step : ℕ) : Type 0 where
@@ -115,11 +115,6 @@ abbrev pub HasRun : Kind → NetworkAsked → Given → Option Schedule → Give
 HasRun kinds.Conntrack = IsRunOf Conntrack conntrack
 HasRun kinds.Nat = IsRunOf Nat nat
 HasRun kinds.Monitor = IsRunOf Monitor monitor
-
-abbrev pub HasShortRun : Kind → NetworkAsked → Given → Schedule → ℕ → Type 0
-HasShortRun kinds.Conntrack = StopsShort Conntrack conntrack
-HasShortRun kinds.Nat = StopsShort Nat nat
-HasShortRun kinds.Monitor = StopsShort Monitor monitor
 
 abbrev pub HasNoRun : Kind → NetworkAsked → Given → List Choice → ℕ → Type 0
 HasNoRun kinds.Conntrack = IsNoRun Conntrack conntrack

@@ -20,10 +20,10 @@ use Rattle.actor_net.specs.declared.choice.Choice.{Choice}
 use Rattle.actor_net.specs.declared.schedule.Schedule.{Schedule}
 use Rattle.command_words.specs.Plan.{Asked, NetworkAsked, CheckAsked, GenAsked, asks_sim, asks_run, asks_audit, asks_check, asks_gen}
 use Rattle.opennf_calls.specs.declared.status.Status.{Status}
-use Rattle.opennf_calls.specs.declared.status.Status.TheVariants.{Ok as Done, Usage, BadScript, BadTrace, BadJournal, NotARun, Unfinished, ReadFault, WriteFault, NoMemory}
+use Rattle.opennf_calls.specs.declared.status.Status.TheVariants.{Ok as Done, Usage, BadScript, BadTrace, BadJournal, NotARun, ReadFault, WriteFault, NoMemory}
 use Rattle.opennf_calls.specs.declared.outcome.Outcome.{Outcome}
 use Rattle.opennf_calls.specs.Command.{file_for, is_input, is_result, comes_before}
-use Rattle.opennf_calls.specs.NetworkRuns.{Given, Gives, given_script, HasRun, HasShortRun, HasNoRun}
+use Rattle.opennf_calls.specs.NetworkRuns.{Given, Gives, given_script, HasRun, HasNoRun}
 use Rattle.opennf_calls.specs.Status.{line_of, trace_status, journal_status}
 
 -- the site with this inside prefix and this outside address
@@ -104,11 +104,6 @@ refusal_of (asks_run s) bytes = inputs_refusal s bytes
 refusal_of (asks_audit s) bytes = first_refusal (inputs_refusal s bytes) (journal_refusal (journal_read s bytes))
 refusal_of (asks_check c) bytes = script_refusal (script_of c.kind c.instances.names (bytes Script))
 refusal_of (asks_gen g) bytes = None
-
--- the run of a schedule stops after so many steps
-abbrev pub StopsAfter : Asked → (Role → List ℕ) → ℕ → Type 0
-StopsAfter (asks_sim s schedule) bytes step = OfGiven s bytes (λ given. HasShortRun s.kind s given schedule step)
-StopsAfter asked bytes step = ⊥
 
 -- the choices of a journal aren't a complete run, which shows at this step
 pub record TellsNoRun (s : NetworkAsked) (bytes : Role → List ℕ) (step : ℕ) : Type 0 where
@@ -198,18 +193,6 @@ pub record IsRefused (asked : Asked) (old new : Role → Meaning) (status : Stat
   pub silent : WroteNothing old new
   pub refusal : (bytes : Role → List ℕ) → HasInput asked old bytes → refusal_of asked bytes ≡ Some status
 
--- the inputs were read to their end and nothing refuses them, but the run stops after so many steps
-pub record Stopped (asked : Asked) (bytes : Role → List ℕ) (new : Role → Meaning) (step : ℕ) : Type 0 where
-  pub read : IsRead asked new
-  pub sound : refusal_of asked bytes ≡ None
-  pub stops : StopsAfter asked bytes step
-
--- the run, where the outside tells the inputs, stops after so many steps: nothing was written
-pub record IsUnfinished (asked : Asked) (old new : Role → Meaning) (step : ℕ) : Type 0 where
-  pub bound : IsBound asked new
-  pub silent : WroteNothing old new
-  pub stopped : (bytes : Role → List ℕ) → HasInput asked old bytes → Stopped asked bytes new step
-
 -- the inputs were read to their end and nothing refuses them, but the journal's choices aren't a complete run
 pub record Failed (asked : Asked) (bytes : Role → List ℕ) (new : Role → Meaning) (step : ℕ) : Type 0 where
   pub read : IsRead asked new
@@ -232,7 +215,6 @@ RowOf asked old new choices (BadScript line kind) = IsRefused asked old new (Bad
 RowOf asked old new choices (BadTrace offset kind) = IsRefused asked old new (BadTrace offset kind) × (choices ≡ [])
 RowOf asked old new choices (BadJournal kind) = IsRefused asked old new (BadJournal kind) × (choices ≡ [])
 RowOf asked old new choices (NotARun step) = IsNotARun asked old new step × (choices ≡ [])
-RowOf asked old new choices (Unfinished step) = IsUnfinished asked old new step × (choices ≡ [])
 RowOf asked old new choices NoMemory = WroteNothing old new × (choices ≡ [])
 RowOf asked old new choices Usage = ⊥
 
@@ -254,17 +236,17 @@ abbrev pub PutsLine : List ℕ → (old new : Meaning) → Type 0
 PutsLine line old new =
     Appends old.written new.written line ⊎ (Rose old.faults new.faults × AppendsFront old.written new.written line)
 
--- what good input ends with where nothing fails: Ok, out of memory, a schedule that stops before its end, or a journal that tells no run
-pub data IsGoodEnd (status : Status) : Type 0 where
-  Is_done : status ≡ Done → IsGoodEnd status
-  Is_memory : status ≡ NoMemory → IsGoodEnd status
-  Is_short : (step : ℕ) → status ≡ Unfinished step → IsGoodEnd status
-  Is_no_run : (step : ℕ) → status ≡ NotARun step → IsGoodEnd status
+-- what good input ends with where nothing fails: Ok or out of memory; a command that reads a journal also where its choices aren't a
+-- complete run
+pub data IsGoodEnd (asked : Asked) (bytes : Role → List ℕ) (status : Status) : Type 0 where
+  Is_done : status ≡ Done → IsGoodEnd asked bytes status
+  Is_memory : status ≡ NoMemory → IsGoodEnd asked bytes status
+  Is_no_run : (step : ℕ) → status ≡ NotARun step → FailsAt asked bytes step → IsGoodEnd asked bytes status
 
 abbrev pub IsComplete : Option Asked → (old new : Role → Meaning) → Status → Type 0
 IsComplete plan old new status =
     (asked : Asked) → plan ≡ Some asked → (bytes : Role → List ℕ) → HasInput asked old bytes → refusal_of asked bytes ≡ None
-    → ((role : Role) → Rose (old role).faults (new role).faults → ⊥) → IsGoodEnd status
+    → ((role : Role) → Rose (old role).faults (new role).faults → ⊥) → IsGoodEnd asked bytes status
 
 -- all that a call of the program promises
 pub record HasOutcome (plan : Option Asked) (old new : Role → Meaning) (outcome : Outcome) : Type 0 where

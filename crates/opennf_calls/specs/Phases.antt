@@ -7,6 +7,7 @@ use Rattle.nf_io.specs.Roles.{is_read}
 use Rattle.nf_io.specs.Meaning.{Meaning, OthersStay, Rose}
 use Rattle.flow_filter.specs.declared.site.Site.{Site}
 use Rattle.nf_function.specs.Semantics.{Semantics}
+use Rattle.trace_reader.specs.Limits.{most_packets}
 use Rattle.trace_reader.specs.Records.{AreNumbered}
 use Rattle.trace_reader.specs.Steered.{is_steered_proto}
 use Rattle.op_script.specs.declared.script.Script.{Script}
@@ -14,18 +15,18 @@ use Rattle.op_script.specs.Printing.{IsScript, SplitsNone}
 use Rattle.op_script.specs.Reading.{script_view}
 use Rattle.journal_file.specs.Format.{journal_bytes}
 use Rattle.net_world.specs.Input.{IsInput}
+use Rattle.net_length.specs.Length.{IsShort}
 use Rattle.actor_net.specs.declared.choice.Choice.{Choice}
-use Rattle.actor_net.specs.declared.schedule.Schedule.{Schedule}
 use Rattle.command_words.specs.Plan.{Asked, NetworkAsked}
 use Rattle.opennf_calls.specs.declared.status.Status.{Status}
-use Rattle.opennf_calls.specs.declared.status.Status.TheVariants.{BadScript, BadTrace, NoMemory, NotARun, ReadFault, Unfinished}
+use Rattle.opennf_calls.specs.declared.status.Status.TheVariants.{BadScript, BadTrace, NoMemory, NotARun, ReadFault}
 use Rattle.opennf_calls.specs.declared.outcome.Outcome.{Outcome}
 use Rattle.opennf_calls.specs.Command.{run_file}
 use Rattle.opennf_calls.specs.Outcome.{CauseOf, IsGiven, MayBind, RowOf, inputs_refusal}
 use Rattle.opennf_calls.specs.declared.inputs.Inputs.{Inputs}
 use Rattle.opennf_calls.specs.declared.network.Made.{Made}
 use Rattle.opennf_calls.specs.declared.network.Opening.{Opening}
-use Rattle.opennf_calls.specs.NetworkRuns.{Given, Gives, HasNoRun, HasShortRun, IsNoRun, StopsShort, config_for, given_script, head_for, items_for}
+use Rattle.opennf_calls.specs.NetworkRuns.{Given, Gives, HasNoRun, IsNoRun, config_for, given_script, head_for, items_for}
 
 -- a role has this name now, and nothing else changed
 pub record Named (role : Role) (name : Option (List ℕ)) (old new : Role → Meaning) : Type 0 where
@@ -105,12 +106,13 @@ InputsFail s old new status = ⊥
 abbrev pub given_by : Site → Inputs → Given
 given_by site inputs = record { site = site; captured = inputs.trace; script = inputs.script }
 
--- a script whose filters split no unit, and packets in the order of their numbers
+-- a script whose filters split no unit, and packets in the order of their numbers, no more than are read
 pub record CanBegin (s : NetworkAsked) (given : Given) : Type 0 where
   pub right : IsScript s.instances.names (script_view given.script)
   pub whole : SplitsNone s.kind (script_view given.script)
   pub numbers : AreNumbered 1 given.captured.packets
   pub steered : All (λ packet. is_steered_proto packet.proto ≡ true) given.captured.packets
+  pub few : length given.captured.packets ≤ most_packets
 
 -- a network before its start, with what its report repeats
 pub record IsOpening (s : NetworkAsked) (given : Given) (opening : Opening) : Type 0 where
@@ -118,6 +120,7 @@ pub record IsOpening (s : NetworkAsked) (given : Given) (opening : Opening) : Ty
   pub items : opening.items.items ≡ items_for given.captured given.script
   pub head : opening.head ≡ head_for s given.captured
   pub is_input : IsInput s.kind opening.config opening.items.items
+  pub short : IsShort opening.items.items
 
 -- what a run gives, by role
 abbrev pub result_texts : (journal report : List ℕ) → Role → List ℕ
@@ -132,25 +135,14 @@ pub record GivesReport (choices : List Choice) (text : List ℕ) (made : Gives) 
   pub is_made : made.choices ≡ choices
   pub report : made.texts Report ≡ text
 
--- why a schedule gives no report, for a function
+-- why a journal's choices give no report, for a function
 module _ {R : Type 0} (F : Type 0) (f : Semantics R) (s : NetworkAsked) (given : Given) where
-  abbrev pub EndsEarlyAs : Schedule → Status → Type 0
-  EndsEarlyAs schedule (Unfinished step) = StopsShort F f s given schedule step
-  EndsEarlyAs schedule NoMemory = Unit {0}
-  EndsEarlyAs schedule status = ⊥
-
-  -- why a journal's choices give no report
   abbrev pub IsRefusedAs : List Choice → Status → Type 0
   IsRefusedAs choices (NotARun step) = IsNoRun F f s given choices step
   IsRefusedAs choices NoMemory = Unit {0}
   IsRefusedAs choices status = ⊥
 
 -- the same, for the function that the words name
-abbrev pub EndsEarly : NetworkAsked → Given → Schedule → Status → Type 0
-EndsEarly s given schedule (Unfinished step) = HasShortRun s.kind s given schedule step
-EndsEarly s given schedule NoMemory = Unit {0}
-EndsEarly s given schedule status = ⊥
-
 abbrev pub IsRefusedRun : NetworkAsked → Given → List Choice → Status → Type 0
 IsRefusedRun s given choices (NotARun step) = HasNoRun s.kind s given choices step
 IsRefusedRun s given choices NoMemory = Unit {0}

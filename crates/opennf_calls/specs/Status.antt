@@ -10,8 +10,6 @@ use Rattle.op_script.specs.declared.fault.ScriptFault.{ScriptFault}
 use Rattle.op_script.specs.declared.fault.ScriptFault.TheVariants as script
 use Rattle.trace_reader.specs.declared.fault.TraceFault.{TraceFault}
 use Rattle.trace_reader.specs.declared.fault.TraceFault.TheVariants as fault
-use Rattle.actor_net.specs.declared.schedule.ScheduleFault.{ScheduleFault}
-use Rattle.actor_net.specs.declared.schedule.ScheduleFault.TheVariants as run
 use Rattle.journal_file.specs.declared.fault.JournalFault.{JournalFault}
 use Rattle.journal_file.specs.declared.fault.JournalFault.TheVariants as journal
 use Rattle.run_report.specs.declared.auditing.AuditFault.{AuditFault}
@@ -25,7 +23,7 @@ use Rattle.opennf_calls.specs.declared.status.TraceKind.TheVariants.{Magic, Pcap
 use Rattle.opennf_calls.specs.declared.status.JournalKind.{JournalKind}
 use Rattle.opennf_calls.specs.declared.status.JournalKind.TheVariants as kinds
 use Rattle.opennf_calls.specs.declared.status.Status.{Status}
-use Rattle.opennf_calls.specs.declared.status.Status.TheVariants.{Ok as Done, Usage, BadScript, BadTrace, BadJournal, NotARun, Unfinished, ReadFault, WriteFault, NoMemory}
+use Rattle.opennf_calls.specs.declared.status.Status.TheVariants.{Ok as Done, Usage, BadScript, BadTrace, BadJournal, NotARun, ReadFault, WriteFault, NoMemory}
 
 -- the number that the program ends with
 abbrev pub exit_number : Status → ℕ
@@ -35,7 +33,6 @@ exit_number (BadScript line kind) = 2
 exit_number (BadTrace offset kind) = 2
 exit_number (BadJournal _) = 2
 exit_number (NotARun step) = 3
-exit_number (Unfinished step) = 7
 exit_number (ReadFault role) = 4
 exit_number (WriteFault role) = 5
 exit_number NoMemory = 6
@@ -103,10 +100,6 @@ journal_line_of kind = codes "opennf: journal: " ++ journal_kind_name kind ++ co
 abbrev pub no_run_line_of : ℕ → List ℕ
 no_run_line_of step = codes "opennf: not a run at step " ++ decimal step ++ codes "\n"
 
--- the line on a run that stops before its end
-abbrev pub unfinished_line_of : ℕ → List ℕ
-unfinished_line_of step = codes "opennf: unfinished at step " ++ decimal step ++ codes "\n"
-
 -- the line on a file that couldn't be read or written
 abbrev pub fault_line_of : List ℕ → Role → List ℕ
 fault_line_of front role = front ++ role_name role ++ codes "\n"
@@ -119,7 +112,6 @@ line_of (BadScript line kind) = script_line_of line kind
 line_of (BadTrace offset kind) = trace_line_of offset kind
 line_of (BadJournal kind) = journal_line_of kind
 line_of (NotARun step) = no_run_line_of step
-line_of (Unfinished step) = unfinished_line_of step
 line_of (ReadFault role) = fault_line_of (codes "opennf: read fault ") role
 line_of (WriteFault role) = fault_line_of (codes "opennf: write fault ") role
 line_of NoMemory = codes "opennf: no memory\n"
@@ -161,11 +153,6 @@ script_status script.NoMemory = NoMemory
 abbrev pub reading_status : Role → UptoFault → Status
 reading_status role upto.Failed = ReadFault role
 reading_status role upto.NoMemory = NoMemory
-
--- the status of a run that has no end
-abbrev pub run_status : ScheduleFault → Status
-run_status (run.Unfinished step) = Unfinished step
-run_status run.NoMemory = NoMemory
 
 -- the status of words that aren't read as a command
 abbrev pub words_status : ArgumentsFault → Status

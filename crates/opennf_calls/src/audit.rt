@@ -6,6 +6,7 @@ ghost use Rattle.nf_io.specs.Meaning.{CanRead};
 ghost use Rattle.journal_file.specs.Reading.{GivesFrom, HasReadCause, count_of, journal_of, looked_at};
 ghost use Rattle.command_words.specs.Plan.{asks_audit};
 ghost use Rattle.command_words.specs.RequestViews.{network_view};
+ghost use Rattle.opennf_calls.specs.Again.{AuditLaw};
 ghost use Rattle.opennf_calls.specs.Outcome.{IsBound, ForResults, RowOf};
 ghost use Rattle.opennf_calls.specs.Phases.{CanRun, OnlyRead, Performs, ReadAlone, gives};
 
@@ -80,3 +81,8 @@ fn read_choices<O: Outside>(
     };
     read_journal_from(alloc, &mut source, kind, instances)
 }
+
+/// The law of audits: with the same words and inputs, that of the journal of a run isn't refused, and its report is the same.
+pub fn audits_again()
+    ensures { AuditLaw }
+{}

@@ -1,6 +1,6 @@
 //! The line that goes to the standard error where a command did not end well.
 ghost use Rattle.std.specs.Prelude.{◌≡◌, ◌≤◌, length};
-ghost use Rattle.opennf_calls.specs.Status.{line_of, script_line_of, trace_line_of, journal_line_of, no_run_line_of, unfinished_line_of, fault_line_of, trace_kind_number};
+ghost use Rattle.opennf_calls.specs.Status.{line_of, script_line_of, trace_line_of, journal_line_of, no_run_line_of, fault_line_of, trace_kind_number};
 
 use crate::status::{
     JournalKind, Status, TraceKind, journal_kind_name, role_name, script_kind_name,
@@ -25,7 +25,6 @@ pub fn line(status: &Status) -> Line
         Status::BadTrace { offset, kind } => trace_line(offset, kind),
         Status::BadJournal { kind } => journal_line(kind),
         Status::NotARun { step } => no_run_line(step),
-        Status::Unfinished { step } => unfinished_line(step),
         Status::ReadFault { role } => fault_line("opennf: read fault ", role),
         Status::WriteFault { role } => fault_line("opennf: write fault ", role),
         Status::NoMemory => whole_line("opennf: no memory\n"),
@@ -95,17 +94,6 @@ fn no_run_line(step: u64) -> Line
     ensures { result.bytes ≡ no_run_line_of step }
 {
     let mut line = whole_line("opennf: not a run at step ");
-    let mut buffer = Buffer::new();
-    line.push_str(buffer.format(step));
-    line.push_str("\n");
-    line
-}
-
-/// The line of a run that came to no end.
-fn unfinished_line(step: u64) -> Line
-    ensures { result.bytes ≡ unfinished_line_of step }
-{
-    let mut line = whole_line("opennf: unfinished at step ");
     let mut buffer = Buffer::new();
     line.push_str(buffer.format(step));
     line.push_str("\n");

@@ -1,9 +1,10 @@
 //! Reading what a run of the network is given: the script, and then the capture.
-ghost use Rattle.std.specs.Prelude.{◌≡◌, None, true, All, IfOk, MatchResult};
+ghost use Rattle.std.specs.Prelude.{◌≡◌, ◌≤◌, None, true, All, IfOk, MatchResult, length};
 ghost use Rattle.std.specs.Option.{ForSome};
 ghost use Rattle.nf_io.specs.declared.outside.Role.TheVariants.{Trace as TraceRole, Script as ScriptRole};
 ghost use Rattle.nf_io.specs.Meaning.{CanRead};
 ghost use Rattle.trace_reader.specs.Answers.{AnswersTrace, HasReadCause};
+ghost use Rattle.trace_reader.specs.Limits.{most_packets};
 ghost use Rattle.trace_reader.specs.Records.{AreNumbered, capture_of};
 ghost use Rattle.trace_reader.specs.Steered.{is_steered_proto};
 ghost use Rattle.op_script.specs.Printing.{IsScript, SplitsNone};
@@ -86,6 +87,7 @@ fn read_capture<O: Outside>(alloc: Global, outside: &mut O) -> Result<Trace, Tra
         AnswersTrace (capture_of bytes) (O.seen outside.new TraceRole).left result) }
     ensures numbers { IfOk result (λ trace. AreNumbered 1 trace.packets) }
     ensures steered { IfOk result (λ trace. All (λ packet. is_steered_proto packet.proto ≡ true) trace.packets) }
+    ensures few { IfOk result (λ trace. length trace.packets ≤ most_packets) }
     ensures cause { HasReadCause (O.seen outside.old TraceRole).faults (O.seen outside.new TraceRole).faults result }
     ensures alone { ReadAlone TraceRole (O.seen outside.old) (O.seen outside.new) }
 {

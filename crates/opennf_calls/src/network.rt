@@ -3,13 +3,14 @@ ghost use Rattle.std.specs.Prelude.{◌≡◌, length, IfOk, MatchResult, OnErr}
 ghost use Rattle.trace_reader.specs.Records.{AreNumbered};
 ghost use Rattle.command_words.specs.RequestViews.{network_view};
 ghost use Rattle.opennf_calls.specs.declared.status.Status.TheVariants.{NoMemory as OutOfMemory};
+ghost use Rattle.opennf_calls.specs.Ends.{EndLaw};
 ghost use Rattle.opennf_calls.specs.NetworkRuns.{HasRun, IsRunOf};
-ghost use Rattle.opennf_calls.specs.Phases.{CanBegin, CanRun, EndsEarly, EndsEarlyAs, IsOpening, IsRefusedRun, IsRefusedAs, given_by, gives};
+ghost use Rattle.opennf_calls.specs.Phases.{CanBegin, CanRun, IsOpening, IsRefusedRun, IsRefusedAs, given_by, gives};
 
 use crate::inputs::Inputs;
 use crate::status::Status;
 use crate::threads::run_network;
-use actor_net::{Choices, Schedule, World};
+use actor_net::{Choices, Schedule, ScheduleFault, World};
 use actor_threads::Gate;
 use addr_translator::Nat;
 use asset_monitor::Monitor;
@@ -49,12 +50,10 @@ pub fn run_scheduled(
     asked: &NetworkRequest<'_>,
     inputs: Inputs,
     schedule: Schedule,
-) -> Result<Made, Status>
+) -> Result<Made, NoMemory>
     requires runs { CanRun (network_view asked.now) }
     requires sound { CanBegin (network_view asked.now) (given_by asked.now.site inputs) }
-    ensures { MatchResult result
-        (λ made. HasRun asked.now.kind (network_view asked.now) (given_by asked.now.site inputs) (Some schedule) (gives (network_view asked.now) made))
-        (EndsEarly (network_view asked.now) (given_by asked.now.site inputs) schedule) }
+    ensures { IfOk result (λ made. HasRun asked.now.kind (network_view asked.now) (given_by asked.now.site inputs) (Some schedule) (gives (network_view asked.now) made)) }
 {
     let kind = asked.kind;
     match kind {
@@ -105,26 +104,28 @@ pub fn run_told(
     }
 }
 
-/// Runs the network by a schedule.
+/// Runs the network by a schedule, which comes to the end of the run.
 fn schedule_network<F: Function>(
     alloc: Global,
     asked: &NetworkRequest<'_>,
     inputs: Inputs,
     schedule: Schedule,
-) -> Result<Made, Status>
+) -> Result<Made, NoMemory>
     requires kind { F.semantics.kind ≡ asked.now.kind }
     requires runs { CanRun (network_view asked.now) }
     requires sound { CanBegin (network_view asked.now) (given_by asked.now.site inputs) }
-    ensures { MatchResult result
-        (λ made. IsRunOf F.row.Denot F.semantics (network_view asked.now) (given_by asked.now.site inputs) (Some schedule) (gives (network_view asked.now) made))
-        (EndsEarlyAs F.row.Denot F.semantics (network_view asked.now) (given_by asked.now.site inputs) schedule) }
+    ensures { IfOk result (λ made. IsRunOf F.row.Denot F.semantics (network_view asked.now) (given_by asked.now.site inputs) (Some schedule) (gives (network_view asked.now) made)) }
 {
     let Opening {
         config,
         items,
         head,
     } = open(alloc, asked, inputs)?;
-    let (world, choices) = simulate::<F>(alloc, &config, items, schedule)?;
+    let (world, choices) = match simulate::<F>(alloc, &config, items, schedule) {
+        Ok(run) => run,
+        Err(ScheduleFault::Unfinished { .. }) => unreachable!(),
+        Err(ScheduleFault::NoMemory) => return Err(NoMemory),
+    };
     let report = report::<F>(alloc, &head, &world, asked.summary)?;
     Ok(Made { choices, report })
 }
@@ -225,3 +226,8 @@ fn last_number(packets: &[CapturedPacket]) -> u32
         None => 0,
     }
 }
+
+/// The law of ends: each run of an input that ends once has few choices, and where none is enabled behind them nothing is left to do.
+pub fn runs_end<F: Function>()
+    ensures { EndLaw F.row.Denot F.semantics }
+{}

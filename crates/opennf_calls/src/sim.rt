@@ -50,5 +50,6 @@ fn make<O: Outside>(
         (λ status. RowOf (asks_sim (network_view asked.now) schedule) (O.seen outside.old) (O.seen outside.new) [] status) }
 {
     let inputs = read_inputs(alloc, asked, outside)?;
-    run_scheduled(alloc, asked, inputs, schedule)
+    let made = run_scheduled(alloc, asked, inputs, schedule)?;
+    Ok(made)
 }

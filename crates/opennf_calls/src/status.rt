@@ -1,7 +1,6 @@
 ghost use Rattle.std.specs.Prelude.{◌≡◌, ◌≤◌, length};
 ghost use Rattle.opennf_calls.specs.Status.{trace_kind_name, exit_number, journal_kind_name, role_name, script_kind_name, reading_status};
 
-use actor_net::ScheduleFault;
 use flow_filter::NoMemory;
 use journal_file::JournalFault;
 use nf_io::{Role, UptoFault};
@@ -60,8 +59,6 @@ pub enum Status {
     BadJournal { kind: JournalKind },
     /// The journal's choices aren't a complete run: the choice of this step, from 1, can't be taken, or is missing.
     NotARun { step: u64 },
-    /// The run took so many steps, and came to no end.
-    Unfinished { step: u64 },
     /// A file couldn't be read.
     ReadFault { role: Role },
     /// A file couldn't be written.
@@ -92,7 +89,6 @@ impl Status {
             Status::BadTrace { .. } => 2,
             Status::BadJournal { .. } => 2,
             Status::NotARun { .. } => 3,
-            Status::Unfinished { .. } => 7,
             Status::ReadFault { .. } => 4,
             Status::WriteFault { .. } => 5,
             Status::NoMemory => 6,
@@ -188,21 +184,6 @@ impl From<ScriptFault> for Status {
         match fault {
             ScriptFault::Bad { line, kind } => Status::BadScript { line, kind },
             ScriptFault::NoMemory => Status::NoMemory,
-        }
-    }
-}
-
-/// The status of a run that has no end.
-impl From<ScheduleFault> for Status {
-    ghost use Rattle.std.specs.Prelude.{◌≡◌};
-    ghost use Rattle.opennf_calls.specs.Status.{run_status};
-
-    ghost from_gives = { λ fault status. status ≡ run_status fault };
-
-    fn from(fault: ScheduleFault) -> Self {
-        match fault {
-            ScheduleFault::Unfinished { step } => Status::Unfinished { step },
-            ScheduleFault::NoMemory => Status::NoMemory,
         }
     }
 }

@@ -1,6 +1,8 @@
 //! The run of a network by threads.
-ghost use Rattle.std.specs.Prelude.{◌≡◌, true, IfOk};
+ghost use Rattle.std.specs.Prelude.{◌≡◌, ◌<◌, true, length, IfOk};
 ghost use Rattle.actor_net.specs.Network.{is_done};
+ghost use Rattle.actor_net.specs.declared.schedule.TheConstants.{MOST_CHOICES};
+ghost use Rattle.net_length.specs.Length.{IsShort};
 ghost use Rattle.net_world.specs.Input.{IsInput};
 ghost use Rattle.net_world.specs.Nodes.{node_ended};
 ghost use Rattle.nf_net.specs.Promises.{Completed, Promises};
@@ -38,6 +40,7 @@ where
     ensures standbys { IfOk result (λ r. Standbys {F = F.row.Denot} F.semantics (started alloc config.now items.items) r.1 config.now items.items) }
     ensures completed { IfOk result (λ r. Completed F.semantics config.now items.items r.0) }
     ensures home { IfOk result (λ r. AllHome config.now r.0) }
+    ensures few { IsShort items.items → IfOk result (λ r. length r.1 < MOST_CHOICES) }
 {
     let opening = start::<F>(alloc, config, items)?;
     let (world, choices) = run_threads(rt, alloc, opening, gate)?;

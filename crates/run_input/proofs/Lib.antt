@@ -2,3 +2,4 @@ pub mod GivenInput
 pub mod LoopFacts
 pub mod SaidCommands
 pub mod ScriptedOrders
+pub mod ShortInput

@@ -110,10 +110,10 @@ pub end_is_last : (ps : List Packet) (lines : List Line) → ends_last (items ps
 end_is_last ps lines = ends_from 0 ps lines
 
 -- The lines at a point and those behind it.
-abbrev here : ℕ → List Line → List Line
+abbrev pub here : ℕ → List Line → List Line
 here k lines = filter (λ (l : Line). eqb l.at k) lines
 
-abbrev from : ℕ → List Line → List Line
+abbrev pub from : ℕ → List Line → List Line
 from k lines = filter (λ (l : Line). leb k l.at) lines
 
 none_here : (j k : ℕ) (lines : List Line) → IsFrom j lines → k < j → here k lines ≡ []
@@ -123,7 +123,7 @@ none_here j k (line ∷ more) order below =
     let other : eqb line.at k ≡ false = grind (arith, nat_tests, first, below) in
     rw other (none_here line.at k more order.1 (omega (arith, first, below)))
 
-here_and_behind : (j k : ℕ) (lines : List Line) → IsFrom j lines → here k lines ++ from (k + 1) lines ≡ from k lines
+pub here_and_behind : (j k : ℕ) (lines : List Line) → IsFrom j lines → here k lines ++ from (k + 1) lines ≡ from k lines
 here_and_behind j k [] order = refl
 here_and_behind j k (line ∷ more) order = elim (leb k line.at) as (λ b. leb k line.at ≡ b → here k (line ∷ more) ++ from (k + 1) (line ∷ more) ≡ from k (line ∷ more)) [
   | false ↦ λ no.
@@ -155,7 +155,7 @@ commands_from j k (p ∷ ps) lines order =
     ∙ sym (line_commands-append (here k lines) (from (k + 1) lines))
     ∙ ap line_commands (here_and_behind j k lines order)
 
-from_start : (lines : List Line) → from 0 lines ≡ lines
+pub from_start : (lines : List Line) → from 0 lines ≡ lines
 from_start [] = refl
 from_start (line ∷ more) = let all : leb 0 line.at ≡ true = grind (arith, nat_tests) in rw all (ap (λ ls. line ∷ ls) (from_start more))
 

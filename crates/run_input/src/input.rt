@@ -7,6 +7,7 @@ ghost use Rattle.op_script.specs.Reading.{script_view};
 ghost use Rattle.op_script.specs.Printing.{CopiedFits, IsScript, SplitsNone, WhatFits};
 ghost use Rattle.op_script.specs.Items.{items};
 ghost use Rattle.net_world.specs.Input.{IsInput, IsSteered, ends_last, most_counted};
+ghost use Rattle.net_length.specs.Length.{IsShort, most_packets};
 ghost use Rattle.run_input.specs.Given.{config_of, IsSetting};
 
 use crate::setting::Setting;
@@ -33,6 +34,7 @@ pub fn input_of(
     ensures items { IfOk result (λ made. made.1.items ≡ items packets script.now.lines.items) }
     ensures input { IfOk result (λ made. IsInput setting.now.kind made.0 made.1.items) }
     ensures last { IfOk result (λ made. ends_last made.1.items ≡ true) }
+    ensures short { length packets ≤ most_packets → IfOk result (λ made. IsShort made.1.items) }
 {
     are_lines(script.lines.as_slice());
     are_steered(setting.site, packets.items());

@@ -54,7 +54,8 @@ impl TraceReader {
 
     /// How many packets it has given.
     pub fn packets(&self) -> u32
-        ensures { result ≡ self.now.count }
+        ensures value { result ≡ self.now.count }
+        ensures few { result ≤ most_packets }
     {
         self.count
     }

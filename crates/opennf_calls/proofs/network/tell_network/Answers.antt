@@ -6,6 +6,7 @@ use Rattle.actor_net.specs.declared.choice.Choice.{Choice}
 use Rattle.command_words.specs.RequestViews.{network_view}
 use Rattle.net_world.specs.Input.{IsInput}
 use Rattle.net_world.specs.Start.{started}
+use Rattle.net_length.proofs.ShortRuns.{short_runs}
 use Rattle.run_report.specs.Audits.{IsCause, world_after}
 use Rattle.opennf_calls.specs.Phases.{given_by}
 use Rattle.opennf_calls.proofs.RunLemmas.{Ran, run_of, run_refused}
@@ -42,6 +43,7 @@ returns g c =
             standbys = report.standbys input;
             completed = report.completed input;
             home = report.home input;
+            few = short_runs g.row.F.Denot g.F.Function.semantics g.met.F.Function.laws c.args.alloc opening.config opening.items.items input is.short c.items-told.result.now report.run.leads.is_run;
           })) (λ schedule same. cc) is.head report.text,
       refl,
     )

@@ -19,4 +19,5 @@ returns g c =
       standbys = c.in_ok-world.ensures.standbys;
       completed = c.in_ok-world.ensures.completed;
       home = c.in_ok-world.ensures.home;
+      few = c.in_ok-world.ensures.few is.short;
     }) (λ schedule same. cc) is.head c.in_ok-report.ensures

@@ -1,5 +1,6 @@
 -- The choices of the workers lead from the start to a world in which nothing is left to do.
 use Rattle.std.proofs.Common.{subst}
+use Rattle.net_length.proofs.ShortRuns.{short_runs}
 use Rattle.net_world.specs.Runs.{LeadsTo}
 use Rattle.nf_net.proofs.EveryRun.{keeps_all}
 use Rattle.nf_net.proofs.JudgedRuns.{verdicts}
@@ -22,4 +23,5 @@ returns g c =
       standbys = standbys g.row.F.Denot f laws c.args.alloc c.args.config.now c.args.items.items c.requires c.in_ok-world.choices leads.is_run;
       completed = all.completed;
       home = all.home;
+      few = λ short. short_runs g.row.F.Denot f laws c.args.alloc c.args.config.now c.args.items.items c.requires short c.in_ok-world.choices leads.is_run;
     }

@@ -9,6 +9,7 @@ use Rattle.op_script.specs.Printing.{WhatFits}
 use Rattle.run_input.specs.Given.{config_of}
 use Rattle.run_input.proofs.GivenInput.{made_is}
 use Rattle.run_input.proofs.SaidCommands.{end_is_last}
+use Rattle.run_input.proofs.ShortInput.{short_is}
 use Rattle.run_input.proofs.input.input_of.Goals as goal
 
 pub returns-clause-input : goal.returns-clause-input
@@ -28,3 +29,6 @@ returns-clause-input c =
 
 pub returns-clause-last : goal.returns-clause-last
 returns-clause-last c = ap ends_last c.in_ok-items.ensures ∙ end_is_last c.args.packets c.args.script.now.lines.items
+
+pub returns-clause-short : goal.returns-clause-short
+returns-clause-short c few = short_is c.args.setting.now.names.now c.args.script.now c.args.packets c.in_ok-items.items.items c.requires.script c.in_ok-items.ensures few

@@ -60,10 +60,10 @@ pub returns-in-End-clause-trace : goal.returns-in-End-clause-trace
 returns-in-End-clause-trace g c = λ bytes told.
     let answers = rw c.in-End.is at (c.in_ok-packet.ensures.answers c.records.invariant.running) in
     let moves = rw c.in-End.is at (c.in_ok-packet.ensures.advances c.records.invariant.running) in
-    rw (c.packets.ensures, moves.1) (handed_end _ _ _ (reading_of c.next.new.self (g.S.Source.left c.next.new.source)) _ _ _ (c.records.invariant.told bytes told) answers)
+    rw (c.packets.ensures.value, moves.1) (handed_end _ _ _ (reading_of c.next.new.self (g.S.Source.left c.next.new.source)) _ _ _ (c.records.invariant.told bytes told) answers)
 
 pub returns-in-Cut-clause-trace : goal.returns-in-Cut-clause-trace
 returns-in-Cut-clause-trace g c = λ bytes told.
     let answers = rw c.in-Cut.is at (c.in_ok-packet.ensures.answers c.records.invariant.running) in
     let moves = rw c.in-Cut.is at (c.in_ok-packet.ensures.advances c.records.invariant.running) in
-    rw (c.packets-in-Cut.ensures, moves.1) (handed_cut _ _ _ (reading_of c.next.new.self (g.S.Source.left c.next.new.source)) _ _ _ (c.records.invariant.told bytes told) answers)
+    rw (c.packets-in-Cut.ensures.value, moves.1) (handed_cut _ _ _ (reading_of c.next.new.self (g.S.Source.left c.next.new.source)) _ _ _ (c.records.invariant.told bytes told) answers)

@@ -1,6 +1,7 @@
 -- The packets that a list took are the trace's.
-use Rattle.std.proofs.Common.{◌≡◌, true, All, List, [], Ok, ap, sym, ◌∙◌, subst}
+use Rattle.std.proofs.Common.{◌≡◌, ◌≤◌, true, All, List, [], Ok, length, ap, sym, ◌∙◌, subst, arith}
 use Rattle.flow_filter.specs.declared.packet.Packet.{Packet}
+use Rattle.trace_reader.specs.Limits.{most_packets}
 use Rattle.trace_reader.specs.Steered.{is_steered_proto}
 use Rattle.trace_reader.specs.Records.{AreNumbered}
 use Rattle.trace_reader.proofs.trace.read_trace.Goals as goal
@@ -22,3 +23,10 @@ pub returns-clause-steered : goal.returns-clause-steered
 returns-clause-steered g c =
     let handed = c.in_ok-end.ensures.steered in
     subst (All (λ (packet : Packet). is_steered_proto packet.proto ≡ true)) (sym (handed.kept tt [] c.«open».ensures)) handed.steered
+
+pub returns-clause-few : goal.returns-clause-few
+returns-clause-few g c =
+    let handed = c.in_ok-end.ensures.steered in
+    let most = c.in_ok-end.ensures.few in
+    let counted = handed.counted in
+    subst (λ (ps : List Packet). length ps ≤ most_packets) (sym (handed.kept tt [] c.«open».ensures)) (omega (arith, most, counted))

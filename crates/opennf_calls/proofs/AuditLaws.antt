@@ -1,0 +1,102 @@
+-- An audit of the journal that a run wrote, with the same words and inputs, tells a complete run and reports the same.
+use Rattle.std.proofs.Common.{◌≡◌, ℕ, zero, suc, Bool, true, false, List, [], ◌∷◌, Option, None, Some, Result, Ok, length, take, inl, inr, refl, ap, sym, ◌∙◌, subst}
+use Rattle.std.specs.Prelude.{slice_get}
+use Rattle.std.specs.declared.alloc.Global.{Global}
+use Rattle.nf_function.specs.declared.kind.Kind.{Kind}
+use Rattle.nf_function.specs.declared.kind.Kind.TheVariants as kinds
+use Rattle.nf_function.specs.Semantics.{Semantics}
+use Rattle.conn_tracker.specs.declared.conntrack.Conntrack.{Conntrack}
+use Rattle.conn_tracker.specs.Conntrack.{conntrack}
+use Rattle.addr_translator.specs.declared.nat.Nat.{Nat}
+use Rattle.addr_translator.specs.Nat.{nat}
+use Rattle.asset_monitor.specs.declared.monitor.Monitor.{Monitor}
+use Rattle.asset_monitor.specs.Monitor.{monitor}
+use Rattle.nf_io.specs.declared.outside.Role.{Role}
+use Rattle.nf_io.specs.declared.outside.Role.TheVariants.{Trace, Script, JournalIn, Report, JournalOut}
+use Rattle.trace_reader.specs.Records.{capture_of}
+use Rattle.actor_net.specs.declared.choice.Choice.{Choice}
+use Rattle.actor_net.specs.declared.schedule.Schedule.{Schedule}
+use Rattle.actor_net.specs.Network.{Network, Stepped, IsRun, is_done, is_enabled, run, taken}
+use Rattle.journal_file.specs.declared.fault.JournalFault.{JournalFault}
+use Rattle.journal_file.specs.Reading.{journal_of}
+use Rattle.net_world.specs.declared.node.Node.{Node}
+use Rattle.net_world.specs.Nodes.{node_ended, node_ready, node_step}
+use Rattle.run_report.specs.Lines.{report_text}
+use Rattle.command_words.specs.Plan.{NetworkAsked, asks_audit}
+use Rattle.opennf_calls.specs.declared.status.Status.{Status}
+use Rattle.opennf_calls.specs.Again.{AreAgain, AuditLaw, AuditsAgain}
+use Rattle.opennf_calls.specs.NetworkRuns.{Given, Gives, HasNoRun, HasRun, IsNoRun, IsRunOf, given_script, head_for, start_for}
+use Rattle.opennf_calls.specs.Outcome.{FailsAt, IsAudited, IsGiven, first_refusal, journal_read, journal_refusal, refusal_of, script_refusal, trace_refusal}
+use Rattle.opennf_calls.proofs.SameInputs.{AreSame, same_given}
+
+-- each choice of a run is enabled in its turn
+enabled_at : {A M N : Type 0} (ready : A → M → Bool) (step : A → ℕ → M → Stepped A M N) (cs : List Choice) (w : Network A M N) (i : ℕ) (c : Choice) → IsRun ready step cs w → slice_get cs i ≡ Some c → is_enabled ready (run step (take i cs) w) c ≡ true
+enabled_at ready step [] w i c runs is = cc
+enabled_at ready step (d ∷ ds) w zero c runs is = let same : d ≡ c = cc in subst (λ x. is_enabled ready w x ≡ true) same runs.0
+enabled_at ready step (d ∷ ds) w (suc i) c runs is = enabled_at ready step ds (taken step w d) i c runs.1 is
+
+-- A function of the words, and two runs that are given the same.
+module _ {R : Type 0} (F : Type 0) (f : Semantics R) (s : NetworkAsked) (g h : Given) (same : AreSame g h) where
+  starts : (a b : Global) → start_for F f s g a ≡ start_for F f s h b
+  starts a b = rw (same.site, same.captured, same.routes, same.lines) refl
+
+  module _ (by : Option Schedule) (made : Gives) (x : IsRunOf F f s g by made) where
+    -- the end of the first is where the same choices lead in the second
+    ends : (b : Global) (cs : List Choice) → cs ≡ made.choices → run (node_step f) cs (start_for F f s h b) ≡ x.world
+    ends b cs chose = ap (λ l. run (node_step f) l (start_for F f s h b)) chose ∙ ap (run (node_step f) made.choices) (sym (starts x.alloc b)) ∙ sym x.leads.reached
+
+    reports : (audited : Gives) (y : IsRunOf F f s h None audited) → audited.choices ≡ made.choices → audited.texts Report ≡ made.texts Report
+    reports audited y chose =
+        y.report
+        ∙ ap (λ w. report_text f (head_for s h.captured) s.summary w) (y.leads.reached ∙ ends y.alloc audited.choices chose)
+        ∙ ap (λ c. report_text f (head_for s c) s.summary x.world) (sym same.captured)
+        ∙ sym x.report
+
+    no_cause : (cs : List Choice) → cs ≡ made.choices → (step : ℕ) → IsNoRun F f s h cs step → ⊥
+    no_cause cs chose step no =
+        let start = start_for F f s h no.alloc in
+        let runs : IsRun node_ready (node_step f) cs start =
+            subst (λ l. IsRun node_ready (node_step f) l start) (sym chose) (subst (λ w. IsRun node_ready (node_step f) made.choices w) (starts x.alloc no.alloc) x.leads.is_run) in
+        elim no.cause [
+          | inl refused ↦ (
+            let fault = refused.fault in
+            let on = enabled_at node_ready (node_step f) cs start refused.index fault.choice runs fault.there in
+            let never : true ≡ false = sym on ∙ fault.refused in cc)
+          | inr short ↦ (
+            let done : is_done node_ended (run (node_step f) cs start) ≡ true = ap (is_done node_ended) (ends no.alloc cs chose) ∙ x.complete in
+            let never : true ≡ false = sym done ∙ short.incomplete in cc)
+        ]
+
+-- The same, for the function that the words name.
+module _ (s : NetworkAsked) (g h : Given) (same : AreSame g h) (by : Option Schedule) (made : Gives) where
+  same_report : (kind : Kind) → HasRun kind s g by made → (audited : Gives) → HasRun kind s h None audited → audited.choices ≡ made.choices → audited.texts Report ≡ made.texts Report
+  same_report kinds.Conntrack x audited y chose = reports Conntrack conntrack s g h same by made x audited y chose
+  same_report kinds.Nat x audited y chose = reports Nat nat s g h same by made x audited y chose
+  same_report kinds.Monitor x audited y chose = reports Monitor monitor s g h same by made x audited y chose
+
+  still_runs : (kind : Kind) → HasRun kind s g by made → (cs : List Choice) → cs ≡ made.choices → (step : ℕ) → HasNoRun kind s h cs step → ⊥
+  still_runs kinds.Conntrack x cs chose step no = no_cause Conntrack conntrack s g h same by made x cs chose step no
+  still_runs kinds.Nat x cs chose step no = no_cause Nat nat s g h same by made x cs chose step no
+  still_runs kinds.Monitor x cs chose step no = no_cause Monitor monitor s g h same by made x cs chose step no
+
+read_again : (s : NetworkAsked) (g : Given) (by : Option Schedule) (made : Gives) (kind : Kind) → HasRun kind s g by made → journal_of s.kind (length s.instances.names) (made.texts JournalOut) ≡ Ok made.choices
+read_again s g by made kinds.Conntrack x = x.again
+read_again s g by made kinds.Nat x = x.again
+read_again s g by made kinds.Monitor x = x.again
+
+pub audit_law : AuditLaw
+audit_law s bytes again by made is back =
+    let told : journal_read s again ≡ Ok made.choices = ap (journal_of s.kind (length s.instances.names)) back.journal ∙ read_again s is.given by made s.kind is.holds in
+    let chosen : (cs : List Choice) → journal_read s again ≡ Ok cs → cs ≡ made.choices = (λ cs read. let both : Ok cs ≡ Ok made.choices = sym read ∙ told in cc) in
+    record {
+      sound =
+          ap (λ said. first_refusal (first_refusal (script_refusal said) (trace_refusal (capture_of (again Trace)))) (journal_refusal (journal_read s again))) (ap (given_script s) back.script ∙ is.is_given.said)
+          ∙ ap (λ read. first_refusal (trace_refusal read) (journal_refusal (journal_read s again))) (ap capture_of back.trace ∙ is.is_given.read)
+          ∙ ap journal_refusal told;
+      complete = λ step fails.
+          still_runs s is.given fails.no_run.given (same_given s bytes again is.given fails.no_run.given is.is_given fails.no_run.is_given back.trace back.script) by made s.kind is.holds
+          fails.choices (chosen fails.choices fails.told) step fails.no_run.holds;
+      same = λ audited a.
+          same_report s is.given a.run.given (same_given s bytes again is.given a.run.given is.is_given a.run.is_given back.trace back.script) by made s.kind is.holds
+          audited a.run.holds (chosen audited.choices a.told);
+    }
