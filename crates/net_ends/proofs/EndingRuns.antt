@@ -41,7 +41,7 @@ use Rattle.whole_joined.proofs.Joined.{Label, Joined, count, node_of}
 use Rattle.whole_joined.proofs.BesideRuns.{its_takes, its_label}
 use Rattle.whole_joined.proofs.RunsJoined.{Runs, runs_at_start, runs_next, start_world}
 use Rattle.whole_joined.proofs.StartJoined.{given, all_fit, count_at_start}
-use Rattle.net_ends.specs.Ends.{has_end}
+use Rattle.net_length.specs.Length.{ends}
 use Rattle.net_ends.proofs.LinkWeights.{cell}
 use Rattle.net_ends.proofs.TallySteps.{over_by, StepLeaves}
 use Rattle.net_ends.proofs.TokenRuns.{each_at, HasEnough, its_leaves, enough_at_start, enough_next}
@@ -273,12 +273,12 @@ module _ {F R : Type 0} (f : Semantics R) (laws : FunctionLaws f) (g : Given) (f
     ending_after (suc (suc y)) takes label enough = at_instance y takes label enough
 
 -- an input with an end
-end_weighs : (items : List Msg) → has_end items ≡ true → 1 ≤ weigh ending items
-end_weighs [] e = cc
-end_weighs (msg.InEnd ∷ items) e = omega arith
-end_weighs (m ∷ items) e = let rest = end_weighs items e in omega (arith, rest)
+end_weighs : (items : List Msg) → ends items ≤ weigh ending items
+end_weighs [] = omega arith
+end_weighs (msg.InEnd ∷ items) = let rest = end_weighs items in omega (arith, rest)
+end_weighs (m ∷ items) = let rest = end_weighs items in omega (arith, rest)
 
-module _ (F : Type 0) {R : Type 0} (f : Semantics R) (laws : FunctionLaws f) (alloc : Global) (c : Config) (items : List Msg) (is : IsInput f.kind c items) (ends : has_end items ≡ true) where
+module _ (F : Type 0) {R : Type 0} (f : Semantics R) (laws : FunctionLaws f) (alloc : Global) (c : Config) (items : List Msg) (is : IsInput f.kind c items) (some_end : 1 ≤ ends items) where
   abbrev start : Network (Node F R) Msg Note
   start = started {F = F} {R = R} alloc c items
 
@@ -304,7 +304,7 @@ module _ (F : Type 0) {R : Type 0} (f : Semantics R) (laws : FunctionLaws f) (al
     controller = opened_controller c.names c.site;
     controller_is = λ d. refl;
     many = length-map c.names (λ name. false);
-    came = (let all = opening_weight Note (first_nodes {F = F} {R = R} alloc c) items ending in let some = end_weighs items ends in omega (arith, all, some));
+    came = (let all = opening_weight Note (first_nodes {F = F} {R = R} alloc c) items ending in let some = end_weighs items in omega (arith, all, some, some_end));
     quiet = refl;
     finished = λ sent. (let never : false ≡ true = sent in cc);
     stops = λ closed i low d. (let never : false ≡ true = closed in cc);

@@ -32,7 +32,7 @@ use Rattle.whole_joined.proofs.StartJoined.{given, count_at_start}
 use Rattle.answer_net.proofs.ArrivalLemmas.{runs_joined}
 use Rattle.answer_net.proofs.CommandPromises.{run_busy}
 use Rattle.nf_net.proofs.SettleKeeps.{run_settles}
-use Rattle.net_ends.specs.Ends.{has_end}
+use Rattle.net_length.specs.Length.{ends}
 use Rattle.net_ends.proofs.SilentLinks.{all_done}
 use Rattle.net_ends.proofs.TokenRuns.{HasEnough, run_enough}
 use Rattle.net_ends.proofs.EndingRuns.{run_ending}
@@ -49,7 +49,7 @@ takes_all s (msg.InCommand k) flying cells waits = (Decides-ltb s.waiting MOST_W
 takes_all s msg.InSettle flying cells waits = (Decides-eqb s.waiting 0).1 waits
 takes_all s m flying cells waits = refl
 
-module _ (F : Type 0) {R : Type 0} (f : Semantics R) (laws : FunctionLaws f) (alloc : Global) (c : Config) (items : List Msg) (is : IsInput f.kind c items) (ends : has_end items ≡ true) where
+module _ (F : Type 0) {R : Type 0} (f : Semantics R) (laws : FunctionLaws f) (alloc : Global) (c : Config) (items : List Msg) (is : IsInput f.kind c items) (some_end : 1 ≤ ends items) where
   abbrev start : Network (Node F R) Msg Note
   start = started {F = F} {R = R} alloc c items
 
@@ -97,7 +97,7 @@ module _ (F : Type 0) {R : Type 0} (f : Semantics R) (laws : FunctionLaws f) (al
             cc
 
     pub no_stuck_world : is_done node_ended w ≡ true
-    no_stuck_world = all_done w reached.0 silent node_ended input_empty (nodes_ended f (given f c items is) n refl w reached.0 reached.1 joined (run_enough F f laws alloc c items is cs run_is) silent (run_ending F f laws alloc c items is ends cs run_is) input_empty rests.0)
+    no_stuck_world = all_done w reached.0 silent node_ended input_empty (nodes_ended f (given f c items is) n refl w reached.0 reached.1 joined (run_enough F f laws alloc c items is cs run_is) silent (run_ending F f laws alloc c items is some_end cs run_is) input_empty rests.0)
 
   -- a schedule that stops short took all choices that it may take
   pub short_is_long : (cs : List Choice) → IsRun node_ready (node_step f) cs start → (count : ℕ) → StopsShort node_ready node_ended (run (node_step f) cs start) count → count ≡ MOST_CHOICES

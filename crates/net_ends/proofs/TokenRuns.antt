@@ -50,8 +50,10 @@ use Rattle.whole_joined.proofs.Joined.{Label, Joined, count, node_of}
 use Rattle.whole_joined.proofs.BesideRuns.{its_takes, its_label}
 use Rattle.whole_joined.proofs.RunsJoined.{Runs, runs_at_start, runs_next, start_world}
 use Rattle.whole_joined.proofs.StartJoined.{given, all_fit, count_at_start}
+use Rattle.answer_net.proofs.EndTables.{flag}
+use Rattle.nf_net.proofs.SettleSteps.{each_map}
 use Rattle.net_ends.proofs.LinkWeights.{sends_weigh, at_links, at_links_same, at_links_none, at_links_after, taken_least}
-use Rattle.net_ends.proofs.Tokens.{Token, token_of, awaits, if_one, counts, weight, some_left, copy_wants, share_wants, wanted, passes_weigh}
+use Rattle.net_ends.proofs.Tokens.{Token, token_of, awaits, counts, weight, some_left, copy_wants, share_wants, wanted, passes_weigh}
 use Rattle.net_ends.proofs.TokenNodes.{CanRead, instance_passes, switch_passes}
 use Rattle.net_ends.proofs.TokenRows.{Grants, Fresh, Waits}
 use Rattle.net_ends.proofs.TokenController.{CopyWithin, ShareWithin, AreWithin, controller_gives}
@@ -59,7 +61,7 @@ use Rattle.net_ends.proofs.TallySteps.{IsTallyChunk, reads, GivesTally, MergesTa
 
 counts_same : (k : ℕ) (a b : Option Operation) → ((leg : _) (node : ℕ) → awaits b leg node ≡ awaits a leg node) → (t : Option Token) → counts k b t ≡ counts k a t
 counts_same k a b same None = refl
-counts_same k a b same (Some t) = ap (λ x. if_one (x && (t.op == k))) (same t.leg t.node)
+counts_same k a b same (Some t) = ap (λ x. flag (x && (t.op == k))) (same t.leg t.node)
 
 -- what an operation waits for goes on, where the controller takes a message
 grants_keep : (n k p : ℕ) (m : Msg) (a b : Option Operation) (sends : List (ℕ × Msg)) → Grants n k p m a b sends → (before after : ℕ) → (lost : ℕ) → weight k b p 1 m ≡ lost → after + lost ≡ before + sends_weigh (weight k b) n 1 sends → lost ≤ before → (was : ℕ) → (((leg : _) (node : ℕ) → awaits b leg node ≡ awaits a leg node) → before ≡ was) → wanted a ≤ was → wanted b ≤ after
@@ -134,10 +136,6 @@ pub record HasEnough {F R : Type 0} (f : Semantics R) (n : ℕ) (w : Network (No
   pub enough : (k : ℕ) → wanted (finite.get controller.operations k) ≤ at_links (weight k (finite.get controller.operations k)) n w
   pub way : OnLinks (TallyLabel f) w
   pub tallies : (i : ℕ) → i < n → (d : Node F R) → HasTally (get_or w.nodes i d)
-
-each_map : {X : Type 0} (P Q : X → Type 0) → ((x : X) → P x → Q x) → (xs : List X) → Each P xs → Each Q xs
-each_map P Q more [] h = tt
-each_map P Q more (x ∷ xs) h = (more x h.0, each_map P Q more xs h.1)
 
 first_each : (P : ℕ → Type 0) (xs : List ℕ) → 1 < length xs → Each P xs → P (slice_index xs 0)
 first_each P [] some h = absurd (omega (arith, some))

@@ -18,6 +18,7 @@ use Rattle.copy_share.specs.Share.{SharePlan, home}
 use Rattle.ctrl_node.specs.declared.operation.Operation.{Operation}
 use Rattle.ctrl_node.specs.declared.operation.Operation.TheVariants.{Move, Copy, Share}
 use Rattle.actor_net.specs.Network.{reaches}
+use Rattle.answer_net.proofs.EndTables.{flag}
 use Rattle.net_ends.proofs.LinkWeights.{sends_weigh, sends_weigh-append}
 
 -- the legs of a copy's and a share's way
@@ -105,13 +106,10 @@ awaits (Some (Copy y)) leg node = in_copy y.plan leg y.phase node
 awaits (Some (Share s)) leg node = in_share s.plan leg s.phase node
 awaits o leg node = false
 
-abbrev pub if_one : Bool → ℕ
-if_one b = if b then 1 else 0
-
 -- what a message counts for the operation of a number
 abbrev pub counts : ℕ → Option Operation → Option Token → ℕ
 counts n o None = 0
-counts n o (Some t) = if_one (awaits o t.leg t.node && (t.op == n))
+counts n o (Some t) = flag (awaits o t.leg t.node && (t.op == n))
 
 abbrev pub weight : ℕ → Option Operation → ℕ → ℕ → Msg → ℕ
 weight n o s r m = counts n o (token_of s r m)

@@ -33,7 +33,7 @@ use Rattle.answer_net.proofs.BusyRuns.{Busy, keeps_is, told_is}
 use Rattle.answer_net.proofs.EndTables.{flag}
 use Rattle.answer_net.proofs.ToldCommands.{told, Told}
 use Rattle.nf_net.proofs.SettleCounts.{answered_in, AllAnswered, answered_in-append, commands-append}
-use Rattle.nf_net.proofs.SettleSteps.{Counted, items_none}
+use Rattle.nf_net.proofs.SettleSteps.{Counted, each_map, items_none}
 use Rattle.net_ends.proofs.SilentLinks.{silent_total}
 use Rattle.net_ends.proofs.TokenRuns.{HasEnough}
 use Rattle.net_ends.proofs.AllEnded.{settled_share}
@@ -95,10 +95,6 @@ closed_answered false s false e h = absurd (omega (arith, h))
 all_counted : (ks : List Command) (log : List Note) → AllAnswered ks log → answered_in ks log ≡ length ks
 all_counted [] log h = refl
 all_counted (k ∷ ks) log h = let own = ap flag h.0 in let rest = all_counted ks log h.1 in omega (arith, own, rest)
-
-each_map : {X : Type 0} (P Q : X → Type 0) → ((x : X) → P x → Q x) → (xs : List X) → Each P xs → Each Q xs
-each_map P Q more [] h = tt
-each_map P Q more (x ∷ xs) h = (more x h.0, each_map P Q more xs h.1)
 
 module _ {F R : Type 0} (f : Semantics R) (c : Config) (items : List Msg) (is : IsInput f.kind c items) (n : ℕ) (count_is : n ≡ length c.names + 2) (w : Network (Node F R) Msg Note) (world : IsWorld w) (nodes : length w.nodes ≡ n) (j : Joined f (given f c items is) n w) (b : Busy (given f c items is) w) (enough : HasEnough f n w) (counted : Counted items w) (waits : Told items w) (silent : (s r : ℕ) → (r == 0) && (s == 0) ≡ false → waiting w (at r s) ≡ []) where
   abbrev g : Given
