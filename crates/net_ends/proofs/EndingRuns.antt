@@ -1,8 +1,7 @@
 -- In every run the input's end goes round: from the input to the controller, from there as the finish to the switch, from there as stops to the instances, and
 -- back as their answers. So where no message is on a link, and nothing is in the input, all nodes have ended, if all is quiet at the controller.
-use Rattle.std.proofs.Common.{◌≡◌, ◌≢◌, ◌⊎◌, inl, inr, ℕ, zero, suc, ◌+◌, ◌-◌, ◌<◌, ◌≤◌, Bool, true, false, Option, Some, None, List, [], ◌∷◌, ◌++◌, map, length, length-append, get_or, refl, sym, ap, ◌∙◌, subst, arith}
-use Rattle.std.specs.Prelude.{if◌then◌else◌, ◌&&◌, ◌==◌, not}
-use Rattle.std.specs.List.{list_all}
+use Rattle.std.proofs.Common.{◌≡◌, ◌≢◌, inl, inr, ℕ, zero, suc, ◌+◌, ◌<◌, ◌≤◌, Bool, true, false, None, List, [], ◌∷◌, length, length-append, get_or, refl, sym, ap, ◌∙◌, subst, arith}
+use Rattle.std.specs.Prelude.{if◌then◌else◌, ◌&&◌, ◌==◌}
 use Rattle.std.specs.declared.alloc.Global.{Global}
 use Rattle.std.proofs.lemmas.Bool.Decides.{nat_tests, Decides-eqb}
 use Rattle.std.proofs.lemmas.List.{length-map}
@@ -13,7 +12,6 @@ use Rattle.nf_msgs.specs.declared.msg.Msg.{Msg}
 use Rattle.nf_msgs.specs.declared.msg.Msg.TheVariants as msg
 use Rattle.nf_msgs.specs.declared.note.Note.{Note}
 use Rattle.nf_msgs.specs.Nodes.{instance_node}
-use Rattle.ctrl_node.specs.Operations.{are_quiet}
 use Rattle.ctrl_node.specs.Controller.{ControllerState, may_finish, controller_step, opened as opened_controller}
 use Rattle.switch_node.specs.Switch.{SwitchState, switch_step}
 use Rattle.instance_worker.specs.declared.instance.Instance.{Instance as InstanceState}
@@ -22,10 +20,10 @@ use Rattle.actor_net.specs.declared.choice.Choice.{Choice}
 use Rattle.actor_net.specs.Network.{Network, Stepped, IsRun, reaches, run, taken, waiting}
 use Rattle.actor_net.proofs.EnabledChoices.{at}
 use Rattle.actor_net.proofs.LinkLemmas.{put_on_link}
-use Rattle.actor_net.proofs.OpeningWorlds.{opening_waiting, opening_weight}
+use Rattle.actor_net.proofs.OpeningWorlds.{opening_weight}
 use Rattle.actor_net.proofs.RunInduction.{Taking, run_induction}
 use Rattle.actor_net.proofs.StepOutcome.{Takes, taken_outcome}
-use Rattle.actor_net.proofs.WeightLaws.{weigh, total, sent_weight, total_after}
+use Rattle.actor_net.proofs.WeightLaws.{weigh, total, total_after}
 use Rattle.net_world.specs.declared.config.Config.{Config}
 use Rattle.net_world.specs.declared.node.Node.{Node}
 use Rattle.net_world.specs.declared.node.Node.TheVariants.{Switch, Controller, Instance}
@@ -45,7 +43,7 @@ use Rattle.net_length.specs.Length.{ends}
 use Rattle.net_ends.proofs.LinkWeights.{cell}
 use Rattle.net_ends.proofs.TallySteps.{over_by, StepLeaves}
 use Rattle.net_ends.proofs.TokenRuns.{each_at, HasEnough, its_leaves, enough_at_start, enough_next}
-use Rattle.net_ends.proofs.EndSteps.{ending, stop, final, ControllerEnds, RowEnds, controller_ends, SwitchEnds, switch_ends}
+use Rattle.net_ends.proofs.EndSteps.{ending, stop, final, controller_ends, switch_ends}
 
 -- how far the end has come
 pub record HasEnding {F R : Type 0} (n : ℕ) (w : Network (Node F R) Msg Note) : Type 0 where

@@ -1,6 +1,6 @@
 -- What the messages on all links weigh together, where a message weighs by the link that it stands on; and what a step changes of it. Generic
 -- in the actor.
-use Rattle.std.proofs.Common.{◌≡◌, ℕ, zero, suc, ◌+◌, ◌<◌, ◌≤◌, Bool, true, false, List, [], ◌∷◌, ◌++◌, length, drop, refl, sym, ap, subst, ◌∙◌, arith}
+use Rattle.std.proofs.Common.{◌≡◌, ℕ, zero, suc, ◌+◌, ◌<◌, ◌≤◌, true, false, List, [], ◌∷◌, ◌++◌, refl, ap, subst, ◌∙◌, arith}
 use Rattle.std.specs.Prelude.{if◌then◌else◌, ◌==◌, ◌&&◌}
 use Rattle.std.proofs.lemmas.Bool.Decides.{nat_tests, Decides-eqb}
 use Rattle.actor_net.specs.Network.{Network, Stepped, waiting, taken, reaches}
@@ -91,7 +91,7 @@ module _ {M : Type 0} (f : ℕ → ℕ → M → ℕ) (n k : ℕ) where
   gains_nothing : (s r : ℕ) → gains [] s r ≡ 0
   gains_nothing s r = elim ((s == k) && reaches n k r) as (λ b. weigh (f s r) (if b then [] else []) ≡ 0) [ true ↦ refl | false ↦ refl ]
 
-  pub gains_elsewhere : (sends : List (ℕ × M)) (s r : ℕ) → (s == k) ≡ false → gains sends s r ≡ 0
+  gains_elsewhere : (sends : List (ℕ × M)) (s r : ℕ) → (s == k) ≡ false → gains sends s r ≡ 0
   gains_elsewhere sends s r off = ap (λ b. weigh (f s r) (if b && reaches n k r then sent_for r sends else [])) off
 
   -- the first message alone

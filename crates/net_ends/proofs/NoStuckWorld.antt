@@ -1,9 +1,9 @@
 -- A world of a run in which no choice is enabled is complete, where the input has an end: each phase that waits has a message on a link, and what the switch
 -- waits for is under way.
-use Rattle.std.proofs.Common.{◌≡◌, ◌⊎◌, inl, inr, ℕ, zero, suc, ◌+◌, ◌<◌, ◌≤◌, Bool, true, false, Option, Some, None, List, [], ◌∷◌, length, get_or, refl, sym, ap, ◌∙◌, subst, arith}
-use Rattle.std.specs.Prelude.{if◌then◌else◌, ◌&&◌, ◌==◌, nat_lt, slice_get}
+use Rattle.std.proofs.Common.{◌≡◌, inl, inr, ℕ, ◌+◌, ◌≤◌, true, false, Some, List, [], length, refl, sym, ap, ◌∙◌, subst, arith}
+use Rattle.std.specs.Prelude.{◌&&◌, ◌==◌, slice_get}
 use Rattle.std.specs.declared.alloc.Global.{Global}
-use Rattle.std.proofs.lemmas.Bool.Decides.{nat_tests, Decides-eqb, Decides-ltb}
+use Rattle.std.proofs.lemmas.Bool.Decides.{Decides-eqb, Decides-ltb}
 use Rattle.std.proofs.lemmas.Option.{slice_get-get_or}
 use Rattle.nf_function.specs.Records.{Laws as FunctionLaws}
 use Rattle.nf_function.specs.Semantics.{Semantics}
@@ -25,7 +25,6 @@ use Rattle.net_world.specs.declared.node.Node.TheVariants.{Switch}
 use Rattle.net_world.specs.Input.{IsInput}
 use Rattle.net_world.specs.Nodes.{node_step, node_ready, node_ended}
 use Rattle.net_world.specs.Start.{started}
-use Rattle.whole_joined.proofs.Given.{Given}
 use Rattle.whole_joined.proofs.Joined.{Joined}
 use Rattle.whole_joined.proofs.RunsJoined.{start_world}
 use Rattle.whole_joined.proofs.StartJoined.{given, count_at_start}
@@ -34,7 +33,7 @@ use Rattle.answer_net.proofs.CommandPromises.{run_busy}
 use Rattle.nf_net.proofs.SettleKeeps.{run_settles}
 use Rattle.net_length.specs.Length.{ends}
 use Rattle.net_ends.proofs.SilentLinks.{all_done}
-use Rattle.net_ends.proofs.TokenRuns.{HasEnough, run_enough}
+use Rattle.net_ends.proofs.TokenRuns.{run_enough}
 use Rattle.net_ends.proofs.EndingRuns.{run_ending}
 use Rattle.net_ends.proofs.AllEnded.{nodes_ended}
 use Rattle.net_ends.proofs.ToldRuns.{run_told}

@@ -1,6 +1,6 @@
 -- What the controller's step leaves of what each open copy and share waits for.
-use Rattle.std.proofs.Common.{◌≡◌, ◌≢◌, ℕ, zero, suc, ◌+◌, ◌≤◌, Bool, true, false, cond, Option, Some, None, List, [], ◌∷◌, ◌++◌, length, refl, sym, ap, ◌∙◌, subst, arith}
-use Rattle.std.specs.Prelude.{if◌then◌else◌, ◌&&◌, ◌==◌, nat_lt, is_some}
+use Rattle.std.proofs.Common.{◌≡◌, ◌≢◌, ℕ, ◌+◌, ◌≤◌, Bool, true, false, cond, Option, Some, None, List, [], ◌∷◌, ◌++◌, length, refl, sym, ap, ◌∙◌, subst, arith}
+use Rattle.std.specs.Prelude.{if◌then◌else◌, ◌&&◌, ◌==◌}
 use Rattle.std.specs.List.{filter_map}
 use Rattle.std.specs.FinMap as finite
 use Rattle.std.proofs.lemmas.Bool.Decides.{nat_tests, Decides-eqb, Decides-ltb}
@@ -10,7 +10,6 @@ use Rattle.packet_pool.specs.Pool.{FullCell}
 use Rattle.event_store.specs.Store.{stored}
 use Rattle.switch_rules.specs.declared.target.Target.TheVariants as target
 use Rattle.nf_msgs.specs.declared.answer.Answer.{Answer}
-use Rattle.nf_msgs.specs.declared.command.Command.{Command}
 use Rattle.nf_msgs.specs.declared.command.Order.{Order}
 use Rattle.nf_msgs.specs.declared.command.Order.TheVariants as order
 use Rattle.nf_msgs.specs.declared.msg.Msg.{Msg}
@@ -30,15 +29,15 @@ use Rattle.ctrl_node.specs.Controller.{ControllerState, Step, place_of}
 use Rattle.actor_net.specs.Network.{reaches}
 use Rattle.unit_machine.proofs.Labels.{Each}
 use Rattle.outline_net.proofs.OperationTables.{NotShared, got_insert, got_remove, handed_is}
-use Rattle.whole_outline.proofs.ShareLeft.{OpenAt, answered, ShareLeaves, handed_leaves, queued_leaves}
+use Rattle.whole_outline.proofs.ShareLeft.{answered, ShareLeaves, handed_leaves, queued_leaves}
 use Rattle.whole_outline.proofs.OpenShares.{self, turned_test}
-use Rattle.whole_joined.proofs.CopyCounts.{handed_at, decided_at}
+use Rattle.whole_joined.proofs.CopyCounts.{handed_at}
 use Rattle.whole_joined.proofs.ShareBegins.{place_below}
 use Rattle.answer_net.proofs.ShareTells.{Queues, Queues_none, Queues_at, queues}
 use Rattle.answer_net.proofs.EndTables.{flag}
 use Rattle.net_ends.proofs.LinkWeights.{sends_weigh}
-use Rattle.net_ends.proofs.Tokens.{Leg, Gets, Alls, Fences, Token, token, token_of, at_instance, awaits, counts, weight, wanted}
-use Rattle.net_ends.proofs.TokenRows.{Grants, Fresh, Waits, grants_more, share_at, copy_row, share_row, served_grants}
+use Rattle.net_ends.proofs.Tokens.{Leg, Gets, Alls, token, token_of, at_instance, awaits, counts, weight, wanted}
+use Rattle.net_ends.proofs.TokenRows.{Grants, Fresh, Waits, grants_more, copy_row, share_row, served_grants}
 
 -- what is known of the open copies and shares, of n nodes
 pub record CopyWithin (n op : ℕ) (y : CopyState) : Type 0 where

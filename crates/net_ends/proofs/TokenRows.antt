@@ -1,11 +1,10 @@
 -- A copy's and a share's row send what their next phase waits for, or stay as they are on a message that they don't wait for.
-use Rattle.std.proofs.Common.{◌≡◌, ◌≢◌, ℕ, zero, suc, ◌+◌, ◌-◌, ◌≤◌, Bool, true, false, Option, Some, None, List, [], ◌∷◌, ◌++◌, map, length, refl, sym, ap, ◌∙◌, subst, arith}
+use Rattle.std.proofs.Common.{◌≡◌, ◌≢◌, ℕ, zero, suc, ◌+◌, ◌-◌, ◌≤◌, Bool, true, false, Option, Some, None, List, [], ◌∷◌, ◌++◌, map, length, refl, ap, ◌∙◌, arith}
 use Rattle.std.specs.Prelude.{if◌then◌else◌, ◌&&◌, ◌==◌, not}
 use Rattle.std.proofs.lemmas.Bool.Decides.{nat_tests, Decides-eqb}
 use Rattle.nf_function.specs.declared.chunk.Chunk.{Chunk}
 use Rattle.event_filter.specs.declared.mark.Mark.TheVariants as mark
 use Rattle.packet_pool.specs.Pool.{FullCell}
-use Rattle.nf_msgs.specs.declared.answer.Answer.{Answer}
 use Rattle.nf_msgs.specs.declared.answer.Answer.TheVariants.{Done}
 use Rattle.nf_msgs.specs.declared.msg.Msg.{Msg}
 use Rattle.nf_msgs.specs.declared.msg.Msg.TheVariants as msg
@@ -24,7 +23,7 @@ use Rattle.actor_net.specs.Network.{reaches}
 use Rattle.unit_machine.proofs.Labels.{Each}
 use Rattle.answer_net.proofs.EndTables.{flag}
 use Rattle.net_ends.proofs.LinkWeights.{sends_weigh, sends_weigh-append}
-use Rattle.net_ends.proofs.Tokens.{Leg, Gets, Alls, Keeps, Fences, Syncs, Serves, Token, token, token_of, at_instance, in_copy, in_share, awaits, counts, weight, some_left, wanted}
+use Rattle.net_ends.proofs.Tokens.{Leg, Gets, Alls, Keeps, Syncs, Serves, Token, token, token_of, at_instance, in_copy, in_share, awaits, counts, weight, some_left, wanted}
 
 -- of n nodes, what the controller's step on a message from node p does to the operation of number k: it sends what is waited for from now on, or the
 -- operation waits on, for what is still there

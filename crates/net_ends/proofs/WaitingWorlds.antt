@@ -1,12 +1,9 @@
 -- Where no message is on a link no command waits for its answer at the switch: each that was taken is answered.
-use Rattle.std.proofs.Common.{◌≡◌, ℕ, zero, suc, ◌+◌, ◌<◌, ◌≤◌, Bool, true, false, Option, Some, None, List, [], ◌∷◌, ◌++◌, map, length, length-append, get_or, refl, sym, ap, ◌∙◌, subst, arith}
+use Rattle.std.proofs.Common.{◌≡◌, ℕ, suc, ◌+◌, ◌<◌, ◌≤◌, Bool, true, false, Option, Some, None, List, [], ◌∷◌, ◌++◌, map, length, length-append, refl, sym, ap, ◌∙◌, subst, arith}
 use Rattle.std.specs.Prelude.{if◌then◌else◌, ◌&&◌, ◌||◌, ◌==◌, not, is_some}
-use Rattle.std.specs.declared.alloc.Global.{Global}
 use Rattle.std.specs.FinMap as finite
 use Rattle.std.proofs.lemmas.Bool.Decides.{nat_tests}
-use Rattle.nf_function.specs.Records.{Laws as FunctionLaws}
 use Rattle.nf_function.specs.Semantics.{Semantics}
-use Rattle.nf_msgs.specs.declared.answer.Answer.TheVariants.{Done}
 use Rattle.nf_msgs.specs.declared.command.Command.{Command}
 use Rattle.nf_msgs.specs.declared.msg.Msg.{Msg}
 use Rattle.nf_msgs.specs.declared.msg.Msg.TheVariants as msg
@@ -25,7 +22,7 @@ use Rattle.net_world.specs.Commands.{began, has_answered, is_share, keeps_off, a
 use Rattle.net_world.specs.Input.{IsInput, IsRising, is_item, commands}
 use Rattle.outline_net.proofs.StateOutline.{all_each}
 use Rattle.whole_joined.proofs.Given.{Given}
-use Rattle.whole_joined.proofs.Joined.{Label, Joined, count}
+use Rattle.whole_joined.proofs.Joined.{Label, Joined}
 use Rattle.whole_joined.proofs.StartJoined.{given}
 use Rattle.answer_net.proofs.AnswerSends.{answering}
 use Rattle.answer_net.proofs.BusyLemmas.{is_noted}
