@@ -1,5 +1,5 @@
 -- What the controller sends and keeps as it takes a message weighs less than the message and what it kept before.
-use Rattle.std.proofs.Common.{◌≡◌, ℕ, ◌+◌, ◌*◌, ◌≤◌, Bool, true, false, Option, None, Some, List, [], ◌∷◌, ◌++◌, length, refl, ap, arith}
+use Rattle.std.proofs.Common.{◌≡◌, ℕ, ◌+◌, ◌*◌, ◌≤◌, Bool, true, false, Option, None, Some, List, [], ◌∷◌, ◌++◌, length, refl, arith}
 use Rattle.std.specs.Prelude.{if◌then◌else◌, ◌==◌, ◌&&◌, not, is_some, unwrap_or}
 use Rattle.std.specs.List.{filter_map}
 use Rattle.std.specs.FinMap as finite
@@ -29,13 +29,13 @@ use Rattle.copy_share.specs.Share.{SharePlan, ShareState, home, others}
 use Rattle.copy_share.specs.Share as share
 use Rattle.ctrl_node.specs.declared.operation.Operation.{Operation}
 use Rattle.ctrl_node.specs.declared.operation.Operation.TheVariants.{Move, Copy, Share}
-use Rattle.ctrl_node.specs.Operations.{OpenOperations, Turn, turn_of, serving_of, share_of, are_quiet}
+use Rattle.ctrl_node.specs.Operations.{Turn, turn_of, serving_of, share_of, are_quiet}
 use Rattle.ctrl_node.specs.Controller as ctrl
 use Rattle.ctrl_node.specs.Controller.{ControllerState, Step, controller_step}
 use Rattle.actor_net.proofs.WeightLaws.{weigh-append}
-use Rattle.outline_net.proofs.OperationTables.{remove_insert}
 use Rattle.net_length.proofs.MapWeights.{in_all, if_found, insert_weighs, remove_weighs}
 use Rattle.net_length.proofs.Weights.{one_if, of_move, of_copy, of_share, of_operation, kept, weight, some, cost, cost-append, of_controller, unfinished, finish}
+use Rattle.net_length.proofs.OperationWeights.{ops_weigh, closed_weigh}
 use Rattle.net_length.proofs.MoveCosts.{move_falls}
 use Rattle.net_length.proofs.ShareCosts.{copy_falls, share_falls, served_costs}
 
@@ -77,35 +77,22 @@ module _ (o : ℕ) where
   closing (Share s) (Some answer) = 1 + of_share o s.phase
   closing x (Some answer) = 1
 
-  ops_weigh : (ops : OpenOperations) (op : ℕ) (old new : Operation) → finite.get ops op ≡ Some old → in_all (of_operation o) (finite.insert ops op new) + of_operation o old ≤ in_all (of_operation o) ops + of_operation o new
-  ops_weigh ops op old new there =
-      let less = insert_weighs (of_operation o) ops op new in
-      let same : if_found (of_operation o) (finite.get ops op) ≡ of_operation o old = ap (if_found (of_operation o)) there in
-      omega (arith, less, same)
-
-  closed_weigh : (ops : OpenOperations) (op : ℕ) (old new : Operation) → finite.get ops op ≡ Some old → in_all (of_operation o) (finite.remove (finite.insert ops op new) op) + of_operation o old ≤ in_all (of_operation o) ops
-  closed_weigh ops op old new there =
-      let less = remove_weighs (of_operation o) ops op in
-      let same : if_found (of_operation o) (finite.get ops op) ≡ of_operation o old = ap (if_found (of_operation o)) there in
-      let gone = ap (in_all (of_operation o)) (remove_insert ops op new) in
-      omega (arith, less, same, gone)
-
   module _ (c : ControllerState) (op : ℕ) (old new : Operation) (there : finite.get c.operations op ≡ Some old) (store : Store) (sends : List (ℕ × Msg)) where
     abbrev turn : Option Answer → Turn
     turn answer = record { operation = Some new; store = store; sends = sends; answer = answer }
 
     -- its turn
     after_costs : (answer : Option Answer) → step_costs (ctrl.after_turn c op (turn answer) answer) + of_operation o old + in_all (kept o) c.store ≤ of_controller o c + cost o sends + closing new answer + in_all (kept o) store
-    after_costs None = let less = ops_weigh c.operations op old new there in omega (arith, less)
+    after_costs None = let less = ops_weigh (of_operation o) c.operations op old new there in omega (arith, less)
     after_costs (Some answer) = by_kind new refl
       where
         both : cost o (sends ++ (switch_node, msg.Answered op) ∷ []) ≡ cost o sends + 1
         both = let all = cost-append o sends ((switch_node, msg.Answered op) ∷ []) in omega (arith, all)
 
         by_kind : (x : Operation) → new ≡ x → step_costs (ctrl.after_turn c op (record { operation = Some x; store = store; sends = sends; answer = Some answer }) (Some answer)) + of_operation o old + in_all (kept o) c.store ≤ of_controller o c + cost o sends + closing x (Some answer) + in_all (kept o) store
-        by_kind (Share s) is = let less = ops_weigh c.operations op old (Share s) there in omega (arith, less, both)
-        by_kind (Move m) is = let less = closed_weigh c.operations op old (Move m) there in omega (arith, less, both)
-        by_kind (Copy y) is = let less = closed_weigh c.operations op old (Copy y) there in omega (arith, less, both)
+        by_kind (Share s) is = let less = ops_weigh (of_operation o) c.operations op old (Share s) there in omega (arith, less, both)
+        by_kind (Move m) is = let less = closed_weigh (of_operation o) c.operations op old (Move m) there in omega (arith, less, both)
+        by_kind (Copy y) is = let less = closed_weigh (of_operation o) c.operations op old (Copy y) there in omega (arith, less, both)
 
   closing_move : (m : MoveState) (ph : Phase) → closing (Move (record m { phase = ph })) (answer_of ph) ≤ of_move ph
   closing_move m (phase.Over why) = omega arith
@@ -152,7 +139,7 @@ module _ (o : ℕ) where
   serving_costs c op (Some (Share s)) there =
       let next = share.served s.plan s.phase (stored c.store s.plan.op) in
       let less = served_costs o s.plan s.phase (stored c.store s.plan.op) in
-      let ops = ops_weigh c.operations op (Share s) (Share (record s { phase = next.phase })) there in
+      let ops = ops_weigh (of_operation o) c.operations op (Share s) (Share (record s { phase = next.phase })) there in
       let keeps = store_weighs c.store s.plan.op next.stored in
       omega (arith, less, ops, keeps)
 

@@ -13,7 +13,8 @@ use Rattle.net_world.specs.Nodes.{node_step}
 use Rattle.whole_joined.proofs.Given.{Given}
 use Rattle.whole_joined.proofs.Joined.{count, Joined, node_of}
 use Rattle.net_length.specs.Length.{pieces_among}
-use Rattle.net_length.proofs.Weights.{of_instance, of_controller, weight, cost, sent_few}
+use Rattle.net_length.proofs.Weights.{of_instance, of_controller, weight, cost}
+use Rattle.net_length.proofs.SentWeights.{few_sent}
 use Rattle.net_length.proofs.ControllerCosts.{controller_falls}
 use Rattle.net_length.proofs.InstanceCosts.{instance_falls}
 use Rattle.net_length.proofs.SwitchCosts.{switch_falls}
@@ -52,5 +53,5 @@ module _ {F R : Type 0} (f : Semantics R) (g : Given) (n o : ℕ) (n_is : n ≡ 
       let messages = total_after (node_step f) n w k p (node_of j.nodes k) m rest takes (weight o) in
       let nodes = nodes_after (node_step f) n w k p (node_of j.nodes k) m rest takes (of_node {F = F} {R = R} o) in
       let falls = node_falls k p m takes.receiver in
-      let few = sent_few o n k did.sends in
+      let few = few_sent (weight o) n k did.sends in
       omega (arith, messages, nodes, falls, few)

@@ -12,16 +12,14 @@ use Rattle.nf_msgs.specs.declared.msg.Msg.TheVariants as msg
 use Rattle.nf_msgs.specs.declared.note.Note.{Note}
 use Rattle.actor_net.specs.declared.choice.Choice.{Choice}
 use Rattle.actor_net.specs.Network.{Network, IsRun, waiting, run, taken}
-use Rattle.actor_net.proofs.OpeningWorlds.{opening_weight}
-use Rattle.actor_net.proofs.RunInduction.{NextChoice, run_induction}
+use Rattle.actor_net.proofs.RunInduction.{Taking, NextChoice, run_induction}
 use Rattle.actor_net.proofs.StepOutcome.{Takes}
-use Rattle.actor_net.proofs.WeightLaws.{weigh, weigh-append}
+use Rattle.actor_net.proofs.WeightLaws.{weigh}
 use Rattle.net_world.specs.declared.config.Config.{Config}
 use Rattle.net_world.specs.declared.node.Node.{Node}
-use Rattle.net_world.specs.declared.node.Node.TheVariants.{Instance}
 use Rattle.net_world.specs.Input.{IsInput, is_item, packets}
 use Rattle.net_world.specs.Nodes.{node_step, node_ready}
-use Rattle.net_world.specs.Start.{first_instance, first_instances, first_nodes, started}
+use Rattle.net_world.specs.Start.{started}
 use Rattle.outline_net.proofs.StateOutline.{all_each}
 use Rattle.unit_machine.proofs.Labels.{Each}
 use Rattle.whole_joined.proofs.Joined.{node_of}
@@ -29,6 +27,7 @@ use Rattle.whole_joined.proofs.StartJoined.{given, count_at_start}
 use Rattle.whole_joined.proofs.RunsJoined.{Runs, runs_at_start, runs_next, start_world}
 use Rattle.net_length.specs.Length.{lines, ends, has_end, pieces_among, pieces_of, pieces_sent, most_choices}
 use Rattle.net_length.proofs.MapWeights.{empty_weighs}
+use Rattle.net_length.proofs.SentWeights.{start_weight}
 use Rattle.net_length.proofs.Weights.{kept, weight, of_operation}
 use Rattle.net_length.proofs.NodeCosts.{of_node, of_world, world_falls}
 
@@ -45,27 +44,13 @@ input_weighs o (msg.InSettle ∷ items) h = let rest = input_weighs o items h.1 
 input_weighs o (msg.InEnd ∷ items) h = let rest = input_weighs o items h.1 in omega (arith, rest)
 input_weighs o (m ∷ items) h = let never : false ≡ true = h.0 in cc
 
-module _ (F : Type 0) {R : Type 0} (f : Semantics R) (o : ℕ) (alloc : Global) (c : Config) where
-  -- at the start no instance holds anything
-  instances_light : (i : ℕ) → weigh (of_node {F = F} {R = R} o) (first_instances alloc c i) ≡ 0
-  instances_light zero = refl
-  instances_light (suc i) =
-      let rest = instances_light i in
-      let both = weigh-append (of_node {F = F} {R = R} o) (first_instances alloc c i) (Instance (first_instance alloc c i) ∷ []) in
-      omega (arith, rest, both)
-
-  nodes_weigh : weigh (of_node {F = F} {R = R} o) (first_nodes alloc c) ≡ 3 + 2 * o
-  nodes_weigh =
-      let rest = instances_light (length c.names) in
-      let none = empty_weighs (of_operation o) in
-      let empty = empty_weighs (kept o) in
-      omega (arith, rest, none, empty)
-
-  start_weighs : (items : List Msg) → of_world {F = F} {R = R} o (started alloc c items) ≡ weigh (weight o) items + (3 + 2 * o)
-  start_weighs items =
-      let messages = opening_weight Note (first_nodes {F = F} {R = R} alloc c) items (weight o) in
-      let nodes = nodes_weigh in
-      omega (arith, messages, nodes)
+-- at the start no instance holds anything
+start_weighs : (F R : Type 0) (o : ℕ) (alloc : Global) (c : Config) (items : List Msg) → of_world {F = F} {R = R} o (started alloc c items) ≡ weigh (weight o) items + (3 + 2 * o)
+start_weighs F R o alloc c items =
+    let first = start_weight (weight o) (of_node {F = F} {R = R} o) alloc c (λ i. refl) items in
+    let none = empty_weighs (of_operation o) in
+    let empty = empty_weighs (kept o) in
+    omega (arith, first, none, empty)
 
 -- the pieces of one choice more
 module _ {F R : Type 0} (f : Semantics R) where
@@ -74,10 +59,10 @@ module _ {F R : Type 0} (f : Semantics R) where
   pieces_more (d ∷ ds) c w = let rest = pieces_more ds c (taken (node_step f) w d) in omega (arith, rest)
 
 module _ (F : Type 0) {R : Type 0} (f : Semantics R) (laws : FunctionLaws f) (alloc : Global) (c : Config) (items : List Msg) (is : IsInput f.kind c items) where
-  abbrev start : Network (Node F R) Msg Note
+  abbrev pub start : Network (Node F R) Msg Note
   start = started {F = F} {R = R} alloc c items
 
-  abbrev nodes : ℕ
+  abbrev pub nodes : ℕ
   nodes = length c.names + 2
 
   -- the members of a share besides one are at most so many
@@ -92,25 +77,34 @@ module _ (F : Type 0) {R : Type 0} (f : Semantics R) (laws : FunctionLaws f) (al
     runs : Runs F f laws alloc c items is w
     lighter : length cs + of_world {F = F} {R = R} besides w ≤ of_world {F = F} {R = R} besides start + 4 * pieces_sent f start cs
 
+  -- the node that takes a choice, and the pieces that it sends
+  pub node_is : (w : Network (Node F R) Msg Note) (k : Choice) (t : Taking node_ready (node_step f) nodes w k) (h : Runs F f laws alloc c items is w) → t.node ≡ node_of h.joined.nodes k.node
+  node_is w k t h = sym (t.takes.node_is t.node) ∙ h.joined.nodes_are k.node t.takes.receiver t.node
+
+  pub pieces_next : (cs : List Choice) (w : Network (Node F R) Msg Note) (k : Choice) (next : NextChoice node_ready (node_step f) nodes start cs w k) (h : Runs F f laws alloc c items is w) → pieces_sent f start (cs ++ k ∷ []) ≡ pieces_sent f start cs + pieces_among (node_step f (node_of h.joined.nodes k.node) k.port next.taking.message).sends
+  pieces_next cs w k next h =
+      let t = next.taking in
+      let count = t.takes.count in
+      let more = pieces_more f cs k start in
+      let sent : pieces_of f k (slice_get (run (node_step f) cs start).nodes k.node) (waiting (run (node_step f) cs start) k) ≡ pieces_among (node_step f (node_of h.joined.nodes k.node) k.port t.message).sends =
+      ap (λ v. pieces_of f k (slice_get v.nodes k.node) (waiting v k)) (sym next.reached)
+      ∙ ap (λ x. pieces_of f k x (waiting w k)) (slice_get-get_or w.nodes k.node t.node (rw count t.takes.receiver) ∙ ap Some (t.takes.node_is t.node))
+      ∙ ap (pieces_of f k (Some t.node)) t.takes.waits
+      ∙ ap (λ y. pieces_among (node_step f y k.port t.message).sends) (node_is w k t h) in
+      omega (arith, more, sent)
+
   next_lighter : (cs : List Choice) (w : Network (Node F R) Msg Note) (k : Choice) → NextChoice node_ready (node_step f) nodes start cs w k → IsLighter cs w → IsLighter (cs ++ k ∷ []) (taken (node_step f) w k)
   next_lighter cs w k next h =
       let j = h.runs.joined in
       let t = next.taking in
-      let same : t.node ≡ node_of j.nodes k.node = sym (t.takes.node_is t.node) ∙ j.nodes_are k.node t.takes.receiver t.node in
-      let takes = subst (λ y. Takes (node_step f) nodes w k.node k.port y t.message t.rest) same t.takes in
-      let count = t.takes.count in
+      let takes = subst (λ y. Takes (node_step f) nodes w k.node k.port y t.message t.rest) (node_is w k t h.runs) t.takes in
       let falls = world_falls f (given f c items is) nodes besides (let few = besides_is in omega (arith, few)) refl w j k.node k.port t.message t.rest takes in
-      let more = pieces_more f cs k start in
-      let sent : pieces_of f k (slice_get (run (node_step f) cs start).nodes k.node) (waiting (run (node_step f) cs start) k) ≡ pieces_among (node_step f (node_of j.nodes k.node) k.port t.message).sends =
-      ap (λ v. pieces_of f k (slice_get v.nodes k.node) (waiting v k)) (sym next.reached)
-      ∙ ap (λ x. pieces_of f k x (waiting w k)) (slice_get-get_or w.nodes k.node t.node (rw count t.takes.receiver) ∙ ap Some (t.takes.node_is t.node))
-      ∙ ap (pieces_of f k (Some t.node)) t.takes.waits
-      ∙ ap (λ y. pieces_among (node_step f y k.port t.message).sends) same in
+      let more = pieces_next cs w k next h.runs in
       let long = length-append cs (k ∷ []) in
       let so_far = h.lighter in
       record {
         runs = runs_next F f laws alloc c items is w k t h.runs;
-        lighter = omega (arith, falls, more, sent, long, so_far);
+        lighter = omega (arith, falls, more, long, so_far);
       }
 
   run_lighter : (cs : List Choice) → IsRun node_ready (node_step f) cs start → IsLighter cs (run (node_step f) cs start)
@@ -122,7 +116,7 @@ module _ (F : Type 0) {R : Type 0} (f : Semantics R) (laws : FunctionLaws f) (al
       let o = besides in
       let few = besides_is in
       let lighter = (run_lighter cs run_is).lighter in
-      let begins = start_weighs F f o alloc c items in
+      let begins = start_weighs F R o alloc c items in
       let input = input_weighs o items (all_each (λ item. is_item item ≡ true) items is.only_items) in
       let once : ends items ≡ 1 = (Decides-eqb (ends items) 1).0 ended in
       let more_packets = times_le (7 + 2 * o) (2 * length c.names + 6) (length (packets items)) (omega (arith, few)) in

@@ -1,7 +1,7 @@
 -- What each message, each open operation and each node weighs: at least as much as the choices that are still to come of it. `o` is the
 -- greatest number of members that a share has besides one.
-use Rattle.std.proofs.Common.{◌≡◌, ℕ, ◌+◌, ◌*◌, ◌≤◌, Bool, true, false, List, [], ◌∷◌, ◌++◌, length, arith}
-use Rattle.std.specs.Prelude.{if◌then◌else◌, ◌||◌}
+use Rattle.std.proofs.Common.{◌≡◌, ℕ, ◌+◌, ◌*◌, ◌≤◌, Bool, true, false, List, ◌++◌, length, arith}
+use Rattle.std.specs.Prelude.{◌||◌}
 use Rattle.event_filter.specs.declared.mark.Mark.{Mark}
 use Rattle.event_filter.specs.declared.mark.Mark.TheVariants as mark
 use Rattle.event_filter.specs.declared.rule.Rule.{Rule}
@@ -21,9 +21,9 @@ use Rattle.ctrl_node.specs.declared.operation.Operation.{Operation}
 use Rattle.ctrl_node.specs.declared.operation.Operation.TheVariants.{Move, Copy, Share}
 use Rattle.ctrl_node.specs.Controller.{ControllerState}
 use Rattle.instance_worker.specs.declared.instance.Instance.{Instance as InstanceState}
-use Rattle.actor_net.specs.Network.{reaches}
-use Rattle.actor_net.proofs.WeightLaws.{weigh, sent_weight}
+use Rattle.actor_net.proofs.WeightLaws.{weigh, weigh-append}
 use Rattle.net_length.proofs.MapWeights.{in_all}
+use Rattle.net_length.proofs.SentWeights.{sent_cost}
 
 abbrev pub one_if : Bool → ℕ
 one_if true = 1
@@ -129,24 +129,10 @@ module _ (o : ℕ) where
 
   -- what is sent weighs together
   abbrev pub cost : List (ℕ × Msg) → ℕ
-  cost [] = 0
-  cost (x ∷ xs) = weight x.1 + cost xs
+  cost sends = sent_cost weight sends
 
   pub cost-append : (xs ys : List (ℕ × Msg)) → cost (xs ++ ys) ≡ cost xs + cost ys
-  cost-append [] ys = omega arith
-  cost-append (x ∷ xs) ys = let rest = cost-append xs ys in omega (arith, rest)
-
-  arrives : (b : Bool) (k : ℕ) → (if b then k else 0) ≤ k
-  arrives true k = omega arith
-  arrives false k = omega arith
-
-  -- of that no more arrives
-  pub sent_few : (n k : ℕ) (sends : List (ℕ × Msg)) → sent_weight weight n k sends ≤ cost sends
-  sent_few n k [] = omega arith
-  sent_few n k (x ∷ xs) =
-      let one = arrives (reaches n k x.0) (weight x.1) in
-      let rest = sent_few n k xs in
-      omega (arith, one, rest)
+  cost-append xs ys = weigh-append (λ x. weight x.1) xs ys
 
   -- a share
   abbrev pub of_share : SharePhase → ℕ

@@ -1,5 +1,5 @@
 -- How many choices a run of the network may have. This project's own.
-use Rattle.std.specs.Prelude.{ℕ, ◌+◌, ◌*◌, ◌==◌, Bool, List, [], ◌∷◌, length, Option, None, Some, slice_get}
+use Rattle.std.specs.Prelude.{◌≡◌, ◌≤◌, ℕ, ◌+◌, ◌*◌, ◌/◌, ◌==◌, Bool, true, List, [], ◌∷◌, length, Option, None, Some, slice_get}
 use Rattle.nf_function.specs.Semantics.{Semantics}
 use Rattle.nf_msgs.specs.declared.msg.Msg.{Msg}
 use Rattle.nf_msgs.specs.declared.msg.Msg.TheVariants.{InCommand, InSettle, InEnd, Piece}
@@ -7,7 +7,7 @@ use Rattle.nf_msgs.specs.declared.note.Note.{Note}
 use Rattle.actor_net.specs.declared.choice.Choice.{Choice}
 use Rattle.actor_net.specs.Network.{Network, waiting, taken}
 use Rattle.net_world.specs.declared.node.Node.{Node}
-use Rattle.net_world.specs.Input.{packets}
+use Rattle.net_world.specs.Input.{packets, commands}
 use Rattle.net_world.specs.Nodes.{node_step}
 
 -- how many lines of a script an input has: its commands and settles
@@ -53,3 +53,20 @@ module _ {F R : Type 0} (f : Semantics R) where
 abbrev pub most_choices : ℕ → List Msg → ℕ → ℕ
 most_choices n items pieces =
     (2 * n + 6) * length (packets items) + (4 * n + 24) * lines items + 4 * pieces + 3 * n + 8
+
+-- the most pieces that the moves of a run with this input send: each move the chunks of as many units as there are packets, up to 64 in a piece
+abbrev pub most_pieces : List Msg → ℕ
+most_pieces items = length (commands items) * (length (packets items) / 64 + 1)
+
+-- the most packets of a capture, and the most lines of a script
+abbrev pub most_packets : ℕ
+most_packets = 1000000
+
+abbrev pub most_lines : ℕ
+most_lines = 1000
+
+-- an input of a capture and a script, with its end
+pub record IsShort (items : List Msg) : Type 0 where
+  pub few_packets : length (packets items) ≤ most_packets
+  pub few_lines : lines items ≤ most_lines
+  pub ended : has_end items ≡ true
