@@ -31,7 +31,8 @@ use Rattle.whole_joined.proofs.StartJoined.{given, count_at_start}
 use Rattle.answer_net.proofs.ArrivalLemmas.{runs_joined}
 use Rattle.answer_net.proofs.CommandPromises.{run_busy}
 use Rattle.nf_net.proofs.SettleKeeps.{run_settles}
-use Rattle.net_length.specs.Length.{ends}
+use Rattle.net_length.specs.Length.{ends, IsShort}
+use Rattle.net_length.proofs.ShortRuns.{short_runs}
 use Rattle.net_ends.proofs.SilentLinks.{all_done}
 use Rattle.net_ends.proofs.TokenRuns.{run_enough}
 use Rattle.net_ends.proofs.EndingRuns.{run_ending}
@@ -104,3 +105,12 @@ module _ (F : Type 0) {R : Type 0} (f : Semantics R) (laws : FunctionLaws f) (al
     | inl none ↦ (let never : false ≡ true = sym short.incomplete ∙ no_stuck_world cs run_is none in cc)
     | inr most ↦ most
   ]
+
+-- and of a short input none stops short
+module _ (F : Type 0) {R : Type 0} (f : Semantics R) (laws : FunctionLaws f) (alloc : Global) (c : Config) (items : List Msg) (is : IsInput f.kind c items) where
+  pub never_short : IsShort items → (cs : List Choice) → IsRun node_ready (node_step f) cs (started {F = F} {R = R} alloc c items) → StopsShort node_ready node_ended (run (node_step f) cs (started {F = F} {R = R} alloc c items)) (length cs) → ⊥
+  never_short short cs run_is stops =
+      let once = (Decides-eqb (ends items) 1).0 short.ended in
+      let all = short_is_long F f laws alloc c items is (omega (arith, once)) cs run_is (length cs) stops in
+      let few = short_runs F f laws alloc c items is short cs run_is in
+      omega (arith, all, few)
