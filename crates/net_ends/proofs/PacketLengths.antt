@@ -1,0 +1,80 @@
+-- Where each packet that came was processed as often as it came, as many were processed as came.
+use Rattle.std.proofs.Common.{◌≡◌, ℕ, suc, ◌+◌, ◌≤◌, Bool, true, false, List, [], ◌∷◌, map, length, refl, sym, ap, ◌∙◌, arith}
+use Rattle.std.specs.Prelude.{if◌then◌else◌, ◌==◌}
+use Rattle.std.proofs.lemmas.Bool.Decides.{nat_tests, Decides-eqb}
+use Rattle.std.proofs.lemmas.List.{length-map}
+use Rattle.nf_function.specs.Semantics.{Semantics, unit_at}
+use Rattle.nf_function.specs.declared.unit.Unit as units
+use Rattle.record_table.proofs.UnitOrder.{same_unit_equiv}
+use Rattle.nf_msgs.specs.declared.msg.Msg.{Msg}
+use Rattle.nf_msgs.specs.declared.note.Note.{Note}
+use Rattle.net_world.specs.declared.config.Config.{Config}
+use Rattle.net_world.specs.Input.{packet_of, IsInput}
+use Rattle.net_world.specs.Log.{Done, arrived, done, those, done_of}
+use Rattle.net_world.specs.Fold.{times, is_of, came, went}
+
+-- a list without the first of these
+abbrev without : ℕ → List ℕ → List ℕ
+without p [] = []
+without p (q ∷ qs) = if p == q then qs else q ∷ without p qs
+
+without_long : (p : ℕ) (xs : List ℕ) → 1 ≤ times p xs → length xs ≡ suc (length (without p xs))
+without_long p [] some = absurd (omega (arith, some))
+without_long p (x ∷ xs) some = elim (p == x) as (λ b. 1 ≤ (if b then 1 else 0) + times p xs → suc (length xs) ≡ suc (length (if b then xs else x ∷ without p xs))) [
+  | true ↦ λ _. refl
+  | false ↦ λ more. ap suc (without_long p xs (omega (arith, more)))
+] some
+
+without_times : (p q : ℕ) (xs : List ℕ) → 1 ≤ times p xs → times q xs ≡ (if q == p then 1 else 0) + times q (without p xs)
+without_times p q [] some = absurd (omega (arith, some))
+without_times p q (x ∷ xs) some = elim (p == x) as (λ b. (p == x) ≡ b → 1 ≤ (if b then 1 else 0) + times p xs → (if q == x then 1 else 0) + times q xs ≡ (if q == p then 1 else 0) + times q (if b then xs else x ∷ without p xs)) [
+  | true ↦ λ e _. let same : p ≡ x = (Decides-eqb p x).0 e in ap (λ y. (if q == y then 1 else 0) + times q xs) (sym same)
+  | false ↦ λ _ more. let rest = without_times p q xs (omega (arith, more)) in omega (arith, rest)
+] refl some
+
+-- a list in which nothing stands oftener is no longer
+no_longer : (xs ys : List ℕ) → ((p : ℕ) → times p xs ≤ times p ys) → length xs ≤ length ys
+no_longer [] ys h = omega arith
+no_longer (x ∷ xs) ys h =
+    let own : (x == x) ≡ true = grind (arith, nat_tests) in
+    let here : (if x == x then 1 else 0) + times x xs ≤ times x ys = h x in
+    let first : ◌≡◌ {A = ℕ} (if x == x then 1 else 0) 1 = rw own refl in
+    let some : 1 ≤ times x ys = omega (arith, here, first) in
+    let rest = no_longer xs (without x ys) (λ p. let all = h p in let less = without_times x p ys some in omega (arith, all, less)) in
+    let long = without_long x ys some in
+    omega (arith, rest, long)
+
+those_times : (mine : ℕ → Bool) (p : ℕ) → mine p ≡ true → (xs : List ℕ) → times p (those mine xs) ≡ times p xs
+those_times mine p is [] = refl
+those_times mine p is (x ∷ xs) = elim (mine x) as (λ b. mine x ≡ b → times p (if b then x ∷ those mine xs else those mine xs) ≡ (if p == x then 1 else 0) + times p xs) [
+  | true ↦ λ _. ap (λ k. (if p == x then 1 else 0) + k) (those_times mine p is xs)
+  | false ↦ λ off. elim (p == x) as (λ b. (p == x) ≡ b → times p (those mine xs) ≡ (if b then 1 else 0) + times p xs) [
+    | true ↦ λ e. let never : true ≡ false = sym is ∙ ap mine ((Decides-eqb p x).0 e) ∙ off in cc
+    | false ↦ λ _. let rest = those_times mine p is xs in omega (arith, rest)
+  ] refl
+] refl
+
+done_times : (mine : ℕ → Bool) (p : ℕ) → mine p ≡ true → (ds : List Done) → times p (map (λ d. d.number) (done_of mine ds)) ≡ times p (map (λ d. d.number) ds)
+done_times mine p is ds = ap (times p) (same mine ds) ∙ those_times mine p is (map (λ d. d.number) ds)
+  where
+    same : (mine : ℕ → Bool) (ds : List Done) → map (λ d. d.number) (done_of mine ds) ≡ those mine (map (λ d. d.number) ds)
+    same mine [] = refl
+    same mine (d ∷ ds) = elim (mine d.number) as (λ b. map (λ x. x.number) (if b then d ∷ done_of mine ds else done_of mine ds) ≡ (if b then d.number ∷ those mine (map (λ x. x.number) ds) else those mine (map (λ x. x.number) ds))) [
+      | true ↦ ap (λ xs. d.number ∷ xs) (same mine ds)
+      | false ↦ same mine ds
+    ]
+
+module _ {R : Type 0} (f : Semantics R) (c : Config) (items : List Msg) (is : IsInput f.kind c items) where
+  -- what came is no longer than what was processed
+  pub few_came : (log : List Note) → ((u : units.Unit) (p : ℕ) → times p (went f c items u log) ≡ times p (came f c items u log)) → length (arrived log) ≤ length (done log)
+  few_came log all =
+      let numbers : List ℕ = map (λ d. d.number) (done log) in
+      let long : length numbers ≡ length (done log) = length-map (done log) (λ d. d.number) in
+      let fewer = no_longer (arrived log) numbers (λ p.
+      let u : units.Unit = unit_at f.kind c.site (packet_of items p) in
+      let own : is_of f c items u p ≡ true = same_unit_equiv.refl u in
+      let same = all u p in
+      let first : times p (came f c items u log) ≡ times p (arrived log) = those_times (is_of f c items u) p own (arrived log) in
+      let second : times p (went f c items u log) ≡ times p numbers = done_times (is_of f c items u) p own (done log) in
+      omega (arith, same, first, second)) in
+      omega (arith, long, fewer)
