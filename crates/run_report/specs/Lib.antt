@@ -2,3 +2,4 @@ pub mod Audits
 pub mod Sorting
 pub mod Lines
 pub mod Seen
+pub mod Ends

@@ -7,6 +7,7 @@
 #![tactic(auto)]
 
 pub mod auditing;
+mod ends;
 pub mod head;
 pub mod instances;
 pub mod lines;

@@ -1,10 +1,13 @@
 //! The lines that are read off the log.
-ghost use Rattle.std.specs.Prelude.{◌≡◌, ◌++◌, map, filter_map, IfOk, OnOk};
+ghost use Rattle.std.specs.Prelude.{◌≡◌, ◌++◌, codes, map, filter_map, IfOk, OnOk};
 ghost use Rattle.std.specs.List.{flat_map};
+ghost use Rattle.counted_lines.specs.Pages.{pending, word_of};
 ghost use Rattle.run_report.specs.Lines.{answer_in, answer_line, answer_lines, by_number, done_line, done_lines, done_text, name_of, out_line, out_lines, output_in, packet_lines};
 ghost use Rattle.run_report.specs.Seen.{answer_seen};
 
+use crate::ends::OutputEnds;
 use basics::{NoMemory, Text};
+use counted_lines::{Block, CountedLines, LONGEST_END};
 use flow_filter::Name;
 use nf_function::{Function, Output};
 use nf_msgs::{Answer, Note, print_answer};
@@ -21,7 +24,7 @@ pub(crate) fn push_packets<F: Function>(
     ensures { OnOk result (text.new ≡ text.old ++ packet_lines F.semantics names.now log.now) }
 {
     push_outs::<F>(alloc, text, log)?;
-    push_dones(text, names, log)
+    push_dones(alloc, text, names, log)
 }
 
 /// Puts the line of each packet's output after a text, by the packets' numbers.
@@ -29,10 +32,12 @@ fn push_outs<F: Function>(alloc: Global, text: &mut Text, log: &[Note]) -> Resul
     ensures { OnOk result (text.new ≡ text.old ++ out_lines F.semantics log.now) }
 {
     let outputs = outputs_by_number(alloc, log)?;
+    let mut lines = CountedLines::open(alloc, b"out ")?;
+    let mut ends = OutputEnds::<F>::open(alloc)?;
     for (number, output) in &outputs {
-        push_out::<F>(text, *number, output)?;
+        push_out::<F>(text, &mut lines, &mut ends, *number, output)?;
     }
-    Ok(())
+    lines.flush(text)
 }
 
 /// The packets' outputs by their numbers.
@@ -57,8 +62,34 @@ fn outputs(alloc: Global, log: &[Note]) -> Result<Vec<(u32, Output)>, NoMemory>
     Ok(found)
 }
 
+/// Puts an output's line behind the text and the lines that are still to go there.
 #[tactic(auto, unfolding(crate::specs::Lines::out_line))]
-fn push_out<F: Function>(text: &mut Text, number: u32, output: &Output) -> Result<(), NoMemory>
+fn push_out<F: Function>(
+    text: &mut Text,
+    lines: &mut CountedLines,
+    ends: &mut OutputEnds<F>,
+    number: u32,
+    output: &Output,
+) -> Result<(), NoMemory>
+    requires { word_of lines.old ≡ codes "out " }
+    ensures text { OnOk result (text.new ++ pending lines.new ≡ (text.old ++ pending lines.old) ++ out_line F.semantics (number, output.now)) }
+    ensures word { word_of lines.new ≡ word_of lines.old }
+{
+    match ends.of(output)? {
+        Some(end) => lines.push(text, u64::from(number), &end),
+        None => {
+            lines.flush(text)?;
+            push_long_out::<F>(text, number, output)
+        }
+    }
+}
+
+#[tactic(auto, unfolding(crate::specs::Lines::out_line))]
+fn push_long_out<F: Function>(
+    text: &mut Text,
+    number: u32,
+    output: &Output,
+) -> Result<(), NoMemory>
     ensures { OnOk result (text.new ≡ text.old ++ out_line F.semantics (number, output.now)) }
 {
     text.push_bytes(b"out ")?;
@@ -69,24 +100,33 @@ fn push_out<F: Function>(text: &mut Text, number: u32, output: &Output) -> Resul
 }
 
 /// Puts the line of each packet that was processed after a text, in the order of the log.
-fn push_dones(text: &mut Text, names: &[Name], log: &[Note]) -> Result<(), NoMemory>
+fn push_dones(alloc: Global, text: &mut Text, names: &[Name], log: &[Note]) -> Result<(), NoMemory>
     ensures { OnOk result (text.new ≡ text.old ++ done_lines names.now log.now) }
 {
+    let mut lines = CountedLines::open(alloc, b"done ")?;
     for note in log {
-        push_done(text, names, note)?;
+        push_done(text, &mut lines, names, note)?;
     }
-    Ok(())
+    lines.flush(text)
 }
 
-fn push_done(text: &mut Text, names: &[Name], note: &Note) -> Result<(), NoMemory>
-    ensures { OnOk result (text.new ≡ text.old ++ done_line names.now note.now) }
+/// Puts the line of a packet that was processed behind the text and the lines that are still to go there.
+fn push_done(
+    text: &mut Text,
+    lines: &mut CountedLines,
+    names: &[Name],
+    note: &Note,
+) -> Result<(), NoMemory>
+    requires { word_of lines.old ≡ codes "done " }
+    ensures text { OnOk result (text.new ++ pending lines.new ≡ (text.old ++ pending lines.old) ++ done_line names.now note.now) }
+    ensures word { word_of lines.new ≡ word_of lines.old }
 {
     match note {
         Note::Processed {
             number,
             instance,
             ..
-        } => push_done_at(text, *number, name_of(names, *instance)),
+        } => push_done_at(text, lines, *number, name_of(names, *instance)),
         _ => Ok(()),
     }
 }
@@ -101,8 +141,27 @@ fn name_of(names: &[Name], instance: u8) -> &[u8]
     }
 }
 
+/// The same for a number and a name.
 #[tactic(auto, unfolding(crate::specs::Lines::done_text))]
-fn push_done_at(text: &mut Text, number: u32, name: &[u8]) -> Result<(), NoMemory>
+fn push_done_at(
+    text: &mut Text,
+    lines: &mut CountedLines,
+    number: u32,
+    name: &[u8],
+) -> Result<(), NoMemory>
+    requires { word_of lines.old ≡ codes "done " }
+    ensures text { OnOk result (text.new ++ pending lines.new ≡ (text.old ++ pending lines.old) ++ done_text number name.now) }
+    ensures word { word_of lines.new ≡ word_of lines.old }
+{
+    if name.len() <= LONGEST_END {
+        return lines.push(text, u64::from(number), &Block::line_end(name));
+    }
+    lines.flush(text)?;
+    push_long_done(text, number, name)
+}
+
+#[tactic(auto, unfolding(crate::specs::Lines::done_text))]
+fn push_long_done(text: &mut Text, number: u32, name: &[u8]) -> Result<(), NoMemory>
     ensures { OnOk result (text.new ≡ text.old ++ done_text number name.now) }
 {
     text.push_bytes(b"done ")?;
