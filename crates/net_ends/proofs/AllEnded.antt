@@ -1,8 +1,7 @@
 -- Where no message is on a link and nothing is in the input, all is quiet at the controller, so the finish was sent, and all nodes have ended.
-use Rattle.std.proofs.Common.{◌≡◌, ◌≢◌, ℕ, zero, suc, ◌+◌, ◌<◌, ◌≤◌, Bool, true, false, Option, Some, None, List, [], ◌∷◌, length, get_or, refl, sym, ap, ◌∙◌, subst, arith}
+use Rattle.std.proofs.Common.{◌≡◌, ℕ, zero, suc, ◌+◌, ◌<◌, ◌≤◌, Bool, true, false, Option, Some, None, List, [], ◌∷◌, length, get_or, refl, sym, ap, ◌∙◌, subst, arith}
 use Rattle.std.specs.Prelude.{if◌then◌else◌, ◌&&◌, ◌==◌, not, find}
 use Rattle.std.specs.List.{list_all}
-use Rattle.std.specs.Option.{option_map_or}
 use Rattle.std.specs.FinMap as finite
 use Rattle.std.proofs.lemmas.Bool.Decides.{nat_tests, Decides-eqb}
 use Rattle.nf_function.specs.Semantics.{Semantics}
@@ -10,27 +9,23 @@ use Rattle.event_store.specs.Store.{stored}
 use Rattle.packet_pool.specs.Pool.{FullCell}
 use Rattle.nf_msgs.specs.declared.msg.Msg.{Msg}
 use Rattle.nf_msgs.specs.declared.note.Note.{Note}
-use Rattle.move_op.specs.Move.{Store}
 use Rattle.copy_share.specs.declared.share_phase.SharePhase.{SharePhase}
 use Rattle.copy_share.specs.declared.share_phase.SharePhase.TheVariants as shares
 use Rattle.copy_share.specs.Share.{ShareState, is_idle}
 use Rattle.ctrl_node.specs.declared.operation.Operation.{Operation}
 use Rattle.ctrl_node.specs.declared.operation.Operation.TheVariants.{Move, Copy, Share}
 use Rattle.ctrl_node.specs.Operations.{OpenOperations, is_quiet, are_quiet}
-use Rattle.ctrl_node.specs.Controller.{ControllerState, may_finish, all_stopped}
-use Rattle.switch_node.specs.Switch.{SwitchState, has_closed}
 use Rattle.actor_net.specs.Network.{Network, IsWorld, waiting}
 use Rattle.actor_net.proofs.EnabledChoices.{at}
 use Rattle.actor_net.proofs.WeightLaws.{weigh, total}
 use Rattle.abstract_net.proofs.Shares.{Open_share, find_share}
 use Rattle.net_world.specs.declared.node.Node.{Node}
-use Rattle.net_world.specs.declared.node.Node.TheVariants.{Switch, Controller, Instance}
+use Rattle.net_world.specs.declared.node.Node.TheVariants.{Switch, Controller}
 use Rattle.net_world.specs.Nodes.{node_ended}
-use Rattle.outline_net.proofs.OperationTables.{NotShared}
 use Rattle.whole_outline.proofs.OpenShares.{share_in, SeesOne}
 use Rattle.whole_outline.proofs.ShareOutline.{Rests}
 use Rattle.whole_joined.proofs.Given.{Given, place}
-use Rattle.whole_joined.proofs.Joined.{Joined, count, node_of}
+use Rattle.whole_joined.proofs.Joined.{Joined, count}
 use Rattle.answer_net.proofs.BusyRuns.{same_controller}
 use Rattle.answer_net.proofs.EndTables.{flag}
 use Rattle.answer_net.proofs.FirstEntries.{passes, found_passes}

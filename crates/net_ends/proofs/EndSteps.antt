@@ -1,11 +1,11 @@
 -- What each node's step does with the input's end, the finish and the stops: the end goes to the controller, which sends the finish once all is quiet, and
 -- the switch then stops the instances, each of which answers.
 use Rattle.std.proofs.Common.{◌≡◌, ◌⊎◌, inl, inr, ℕ, zero, suc, ◌+◌, ◌-◌, ◌<◌, ◌≤◌, Bool, true, false, Option, Some, None, List, [], ◌∷◌, ◌++◌, length, get_or, set, refl, sym, ap, ◌∙◌, subst, arith}
-use Rattle.std.specs.Prelude.{if◌then◌else◌, ◌&&◌, ◌||◌, ◌==◌, not, nat_lt, nat_le, slice_set}
+use Rattle.std.specs.Prelude.{if◌then◌else◌, ◌&&◌, ◌||◌, ◌==◌, not, nat_lt, nat_le}
 use Rattle.std.specs.List.{filter_map}
 use Rattle.std.specs.FinMap as finite
-use Rattle.std.proofs.lemmas.Bool.Decides.{nat_tests, Decides-eqb, Decides-ltb}
-use Rattle.std.proofs.lemmas.List.{get_or-set_same, get_or-set_other, length-set}
+use Rattle.std.proofs.lemmas.Bool.Decides.{nat_tests, Decides-eqb}
+use Rattle.std.proofs.lemmas.List.{get_or-set_same, length-set}
 use Rattle.flow_filter.specs.declared.filter.Filter.{Filter}
 use Rattle.flow_filter.specs.Flow.{flow_of}
 use Rattle.flow_filter.specs.declared.packet.Packet.{Packet}
@@ -32,7 +32,7 @@ use Rattle.switch_node.specs.Switch.{SwitchState, switch_step, stops}
 use Rattle.actor_net.specs.Network.{reaches}
 use Rattle.actor_net.specs.Histories.{sent_for}
 use Rattle.actor_net.proofs.LinkLemmas.{put_on_link}
-use Rattle.actor_net.proofs.WeightLaws.{weigh, weigh-append, sent_weight}
+use Rattle.actor_net.proofs.WeightLaws.{weigh, sent_weight}
 use Rattle.answer_net.proofs.CreditCounts.{sent_weight-append}
 use Rattle.answer_net.proofs.InstallCounts.{finish}
 use Rattle.whole_joined.proofs.Given.{Given}

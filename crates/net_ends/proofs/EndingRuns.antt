@@ -1,8 +1,7 @@
 -- In every run the input's end goes round: from the input to the controller, from there as the finish to the switch, from there as stops to the instances, and
 -- back as their answers. So where no message is on a link, and nothing is in the input, all nodes have ended, if all is quiet at the controller.
-use Rattle.std.proofs.Common.{◌≡◌, ◌≢◌, ◌⊎◌, inl, inr, ℕ, zero, suc, ◌+◌, ◌-◌, ◌<◌, ◌≤◌, Bool, true, false, Option, Some, None, List, [], ◌∷◌, ◌++◌, map, length, length-append, get_or, refl, sym, ap, ◌∙◌, subst, arith}
-use Rattle.std.specs.Prelude.{if◌then◌else◌, ◌&&◌, ◌==◌, not}
-use Rattle.std.specs.List.{list_all}
+use Rattle.std.proofs.Common.{◌≡◌, ◌≢◌, inl, inr, ℕ, zero, suc, ◌+◌, ◌<◌, ◌≤◌, Bool, true, false, None, List, [], ◌∷◌, length, length-append, get_or, refl, sym, ap, ◌∙◌, subst, arith}
+use Rattle.std.specs.Prelude.{if◌then◌else◌, ◌&&◌, ◌==◌}
 use Rattle.std.specs.declared.alloc.Global.{Global}
 use Rattle.std.proofs.lemmas.Bool.Decides.{nat_tests, Decides-eqb}
 use Rattle.std.proofs.lemmas.List.{length-map}
@@ -13,7 +12,6 @@ use Rattle.nf_msgs.specs.declared.msg.Msg.{Msg}
 use Rattle.nf_msgs.specs.declared.msg.Msg.TheVariants as msg
 use Rattle.nf_msgs.specs.declared.note.Note.{Note}
 use Rattle.nf_msgs.specs.Nodes.{instance_node}
-use Rattle.ctrl_node.specs.Operations.{are_quiet}
 use Rattle.ctrl_node.specs.Controller.{ControllerState, may_finish, controller_step, opened as opened_controller}
 use Rattle.switch_node.specs.Switch.{SwitchState, switch_step}
 use Rattle.instance_worker.specs.declared.instance.Instance.{Instance as InstanceState}
@@ -22,10 +20,10 @@ use Rattle.actor_net.specs.declared.choice.Choice.{Choice}
 use Rattle.actor_net.specs.Network.{Network, Stepped, IsRun, reaches, run, taken, waiting}
 use Rattle.actor_net.proofs.EnabledChoices.{at}
 use Rattle.actor_net.proofs.LinkLemmas.{put_on_link}
-use Rattle.actor_net.proofs.OpeningWorlds.{opening_waiting, opening_weight}
+use Rattle.actor_net.proofs.OpeningWorlds.{opening_weight}
 use Rattle.actor_net.proofs.RunInduction.{Taking, run_induction}
 use Rattle.actor_net.proofs.StepOutcome.{Takes, taken_outcome}
-use Rattle.actor_net.proofs.WeightLaws.{weigh, total, sent_weight, total_after}
+use Rattle.actor_net.proofs.WeightLaws.{weigh, total, total_after}
 use Rattle.net_world.specs.declared.config.Config.{Config}
 use Rattle.net_world.specs.declared.node.Node.{Node}
 use Rattle.net_world.specs.declared.node.Node.TheVariants.{Switch, Controller, Instance}
@@ -41,11 +39,11 @@ use Rattle.whole_joined.proofs.Joined.{Label, Joined, count, node_of}
 use Rattle.whole_joined.proofs.BesideRuns.{its_takes, its_label}
 use Rattle.whole_joined.proofs.RunsJoined.{Runs, runs_at_start, runs_next, start_world}
 use Rattle.whole_joined.proofs.StartJoined.{given, all_fit, count_at_start}
-use Rattle.net_ends.specs.Ends.{has_end}
+use Rattle.net_length.specs.Length.{ends}
 use Rattle.net_ends.proofs.LinkWeights.{cell}
 use Rattle.net_ends.proofs.TallySteps.{over_by, StepLeaves}
 use Rattle.net_ends.proofs.TokenRuns.{each_at, HasEnough, its_leaves, enough_at_start, enough_next}
-use Rattle.net_ends.proofs.EndSteps.{ending, stop, final, ControllerEnds, RowEnds, controller_ends, SwitchEnds, switch_ends}
+use Rattle.net_ends.proofs.EndSteps.{ending, stop, final, controller_ends, switch_ends}
 
 -- how far the end has come
 pub record HasEnding {F R : Type 0} (n : ℕ) (w : Network (Node F R) Msg Note) : Type 0 where
@@ -273,12 +271,12 @@ module _ {F R : Type 0} (f : Semantics R) (laws : FunctionLaws f) (g : Given) (f
     ending_after (suc (suc y)) takes label enough = at_instance y takes label enough
 
 -- an input with an end
-end_weighs : (items : List Msg) → has_end items ≡ true → 1 ≤ weigh ending items
-end_weighs [] e = cc
-end_weighs (msg.InEnd ∷ items) e = omega arith
-end_weighs (m ∷ items) e = let rest = end_weighs items e in omega (arith, rest)
+end_weighs : (items : List Msg) → ends items ≤ weigh ending items
+end_weighs [] = omega arith
+end_weighs (msg.InEnd ∷ items) = let rest = end_weighs items in omega (arith, rest)
+end_weighs (m ∷ items) = let rest = end_weighs items in omega (arith, rest)
 
-module _ (F : Type 0) {R : Type 0} (f : Semantics R) (laws : FunctionLaws f) (alloc : Global) (c : Config) (items : List Msg) (is : IsInput f.kind c items) (ends : has_end items ≡ true) where
+module _ (F : Type 0) {R : Type 0} (f : Semantics R) (laws : FunctionLaws f) (alloc : Global) (c : Config) (items : List Msg) (is : IsInput f.kind c items) (some_end : 1 ≤ ends items) where
   abbrev start : Network (Node F R) Msg Note
   start = started {F = F} {R = R} alloc c items
 
@@ -304,7 +302,7 @@ module _ (F : Type 0) {R : Type 0} (f : Semantics R) (laws : FunctionLaws f) (al
     controller = opened_controller c.names c.site;
     controller_is = λ d. refl;
     many = length-map c.names (λ name. false);
-    came = (let all = opening_weight Note (first_nodes {F = F} {R = R} alloc c) items ending in let some = end_weighs items ends in omega (arith, all, some));
+    came = (let all = opening_weight Note (first_nodes {F = F} {R = R} alloc c) items ending in let some = end_weighs items in omega (arith, all, some, some_end));
     quiet = refl;
     finished = λ sent. (let never : false ≡ true = sent in cc);
     stops = λ closed i low d. (let never : false ≡ true = closed in cc);

@@ -1,6 +1,5 @@
 -- In every run the packets that the switch counts as under way are those that came and weren't processed, and those whose cells are on their way home.
-use Rattle.std.proofs.Common.{◌≡◌, ℕ, zero, suc, ◌+◌, ◌≤◌, Bool, true, false, List, [], ◌∷◌, ◌++◌, length, length-append, get_or, refl, sym, ap, ◌∙◌, subst, arith}
-use Rattle.std.specs.Prelude.{if◌then◌else◌, ◌==◌, ◌&&◌}
+use Rattle.std.proofs.Common.{◌≡◌, ℕ, zero, suc, ◌+◌, ◌≤◌, true, List, [], ◌∷◌, length, length-append, get_or, refl, sym, ap, ◌∙◌, subst, arith}
 use Rattle.std.specs.declared.alloc.Global.{Global}
 use Rattle.std.proofs.lemmas.Bool.Decides.{nat_tests}
 use Rattle.nf_function.specs.Records.{Laws as FunctionLaws}
@@ -27,7 +26,7 @@ use Rattle.net_world.specs.Start.{first_nodes, first_switch, started}
 use Rattle.whole_joined.proofs.LogLemmas.{arrived-append, done-append}
 use Rattle.whole_joined.proofs.StartJoined.{given, all_fit, all_labelled, count_at_start}
 use Rattle.whole_joined.proofs.Given.{Given}
-use Rattle.whole_joined.proofs.Joined.{Label, Joined, count, node_of}
+use Rattle.whole_joined.proofs.Joined.{Label, Joined, node_of}
 use Rattle.whole_joined.proofs.BesideRuns.{its_takes, its_label, its_labels}
 use Rattle.whole_joined.proofs.RunsJoined.{Runs, runs_at_start, runs_next, start_world}
 use Rattle.answer_net.proofs.CreditCounts.{credit, no_credit_from, no_credit_to, none_sent, instance_is}
@@ -64,9 +63,9 @@ module _ {F R : Type 0} (f : Semantics R) (g : Given) (n : ℕ) (window : ℕ) (
       let balance : length (done w.log) + s.flying ≡ length (arrived w.log) + total credit w = ap (λ x. length (done w.log) + x.flying) (sym same) ∙ h.balance in
       let weight = total_after step n w 0 p (Switch s) m rest takes credit in
       let did : Counts window s m (switch_step s m) = switch_counts window s (ap (λ x. x.pool.cells) (sym same) ∙ h.cells) (ap (λ x. x.flying + x.pool.home) (sym same) ∙ h.home) m (λ cell e.
-          let comes : Label f g p 0 (msg.Credit cell) = subst (λ a. Label f g p 0 a) e label in
-          let one : credit m ≡ 1 = ap credit e in
-          (comes.2 ∙ sym j.shown_is.switch.pool, omega (arith, few, balance, weight, sent, one))) in
+      let comes : Label f g p 0 (msg.Credit cell) = subst (λ a. Label f g p 0 a) e label in
+      let one : credit m ≡ 1 = ap credit e in
+      (comes.2 ∙ sym j.shown_is.switch.pool, omega (arith, few, balance, weight, sent, one))) in
       let flying = did.flying in
       let went = ap length did.went in
       record {

@@ -1,7 +1,6 @@
 -- Where no message is on a link no packet is under way: each unit that came rests, with all its packets processed.
-use Rattle.std.proofs.Common.{◌≡◌, ℕ, ◌+◌, ◌<◌, ◌≤◌, Bool, true, false, List, [], ◌∷◌, ◌++◌, map, length, get_or, append-nil, refl, sym, ap, ◌∙◌, subst, arith}
+use Rattle.std.proofs.Common.{◌≡◌, ℕ, ◌+◌, ◌<◌, ◌≤◌, true, false, List, [], ◌∷◌, ◌++◌, map, length, append-nil, refl, sym, ap, ◌∙◌, subst, arith}
 use Rattle.std.specs.Prelude.{if◌then◌else◌, ◌&&◌, ◌==◌, nat_lt}
-use Rattle.std.specs.List.{filter_map}
 use Rattle.std.proofs.lemmas.Bool.Decides.{nat_tests}
 use Rattle.flow_filter.specs.declared.packet.Packet.{Packet}
 use Rattle.flow_filter.specs.Flow.{flow_of}
@@ -21,7 +20,7 @@ use Rattle.unit_machine.proofs.Lists.{firsts}
 use Rattle.unit_machine.proofs.Fits.{nil_right}
 use Rattle.unit_machine.proofs.Stages as stages
 use Rattle.unit_machine.proofs.Ends.{same_of}
-use Rattle.abstract_net.proofs.Net.{Sys, IsSys}
+use Rattle.abstract_net.proofs.Net.{IsSys}
 use Rattle.abstract_net.proofs.AtEnd.{At_end}
 use Rattle.abstract_net.proofs.Shares.{Open_share, moves_of}
 use Rattle.whole_net.proofs.EndAll.{Ends_all, As_moves, At_share, Share_rests, end_all}
@@ -29,7 +28,7 @@ use Rattle.net_world.specs.declared.config.Config.{Config}
 use Rattle.net_world.specs.declared.node.Node.{Node}
 use Rattle.net_world.specs.declared.node.Node.TheVariants.{Switch}
 use Rattle.net_world.specs.Input.{packets, packet_of, IsInput}
-use Rattle.net_world.specs.Log.{arrived, done, those}
+use Rattle.net_world.specs.Log.{arrived, those}
 use Rattle.net_world.specs.Places.{is_loose}
 use Rattle.net_world.specs.Fold.{times, is_of, came, went}
 use Rattle.answer_net.proofs.ArrivalLemmas.{numbers}

@@ -1,6 +1,6 @@
 -- What the messages on all links weigh together, where a message weighs by the link that it stands on; and what a step changes of it. Generic
 -- in the actor.
-use Rattle.std.proofs.Common.{◌≡◌, ℕ, zero, suc, ◌+◌, ◌<◌, ◌≤◌, Bool, true, false, List, [], ◌∷◌, ◌++◌, length, drop, refl, sym, ap, subst, ◌∙◌, arith}
+use Rattle.std.proofs.Common.{◌≡◌, ℕ, zero, suc, ◌+◌, ◌<◌, ◌≤◌, true, false, List, [], ◌∷◌, ◌++◌, refl, ap, subst, ◌∙◌, arith}
 use Rattle.std.specs.Prelude.{if◌then◌else◌, ◌==◌, ◌&&◌}
 use Rattle.std.proofs.lemmas.Bool.Decides.{nat_tests, Decides-eqb}
 use Rattle.actor_net.specs.Network.{Network, Stepped, waiting, taken, reaches}
@@ -72,13 +72,13 @@ pub sends_weigh-append : {M : Type 0} (f : ℕ → ℕ → M → ℕ) (n k : ℕ
 sends_weigh-append f n k [] ys = omega arith
 sends_weigh-append f n k (x ∷ xs) ys = let rest = sends_weigh-append f n k xs ys in omega (arith, rest)
 
--- a heavier weight of each message
-pub weigh_same : {M : Type 0} (f g : M → ℕ) (ms : List M) → ((m : M) → f m ≡ g m) → weigh f ms ≡ weigh g ms
-weigh_same f g [] e = refl
-weigh_same f g (m ∷ ms) e = let own = e m in let rest = weigh_same f g ms e in omega (arith, own, rest)
+-- equal weights of each message
+weigh_alike : {M : Type 0} (f g : M → ℕ) (ms : List M) → ((m : M) → f m ≡ g m) → weigh f ms ≡ weigh g ms
+weigh_alike f g [] e = refl
+weigh_alike f g (m ∷ ms) e = let own = e m in let rest = weigh_alike f g ms e in omega (arith, own, rest)
 
 pub at_links_same : {A M N : Type 0} (f g : ℕ → ℕ → M → ℕ) (n : ℕ) (w : Network A M N) → ((s r : ℕ) (m : M) → f s r m ≡ g s r m) → at_links f n w ≡ at_links g n w
-at_links_same f g n w e = upto_same _ _ n (λ s. upto_same _ _ n (λ r. weigh_same (f s r) (g s r) (waiting w (at r s)) (e s r)))
+at_links_same f g n w e = upto_same _ _ n (λ s. upto_same _ _ n (λ r. weigh_alike (f s r) (g s r) (waiting w (at r s)) (e s r)))
 
 pub at_links_none : {A M N : Type 0} (f : ℕ → ℕ → M → ℕ) (n : ℕ) (w : Network A M N) → ((s r : ℕ) → s < n → r < n → weigh (f s r) (waiting w (at r s)) ≡ 0) → at_links f n w ≡ 0
 at_links_none f n w h = upto_none _ n (λ s hs. upto_none _ n (λ r hr. h s r hs hr))
@@ -91,7 +91,7 @@ module _ {M : Type 0} (f : ℕ → ℕ → M → ℕ) (n k : ℕ) where
   gains_nothing : (s r : ℕ) → gains [] s r ≡ 0
   gains_nothing s r = elim ((s == k) && reaches n k r) as (λ b. weigh (f s r) (if b then [] else []) ≡ 0) [ true ↦ refl | false ↦ refl ]
 
-  pub gains_elsewhere : (sends : List (ℕ × M)) (s r : ℕ) → (s == k) ≡ false → gains sends s r ≡ 0
+  gains_elsewhere : (sends : List (ℕ × M)) (s r : ℕ) → (s == k) ≡ false → gains sends s r ≡ 0
   gains_elsewhere sends s r off = ap (λ b. weigh (f s r) (if b && reaches n k r then sent_for r sends else [])) off
 
   -- the first message alone

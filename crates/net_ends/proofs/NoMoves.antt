@@ -1,9 +1,9 @@
 -- Where no message is on a link no move is open: its filter takes a unit, and that unit's seat has no message, so the move has ended.
-use Rattle.std.proofs.Common.{◌≡◌, ◌≢◌, ℕ, ◌+◌, ◌^◌, ◌<◌, ◌≤◌, Bool, true, false, Option, Some, None, List, [], ◌∷◌, length, refl, sym, ap, ◌∙◌, subst, arith}
+use Rattle.std.proofs.Common.{◌≡◌, ◌≢◌, ℕ, ◌+◌, ◌^◌, ◌<◌, ◌≤◌, Bool, true, false, Option, Some, None, List, [], refl, sym, ap, ◌∙◌, subst, arith}
 use Rattle.std.specs.Prelude.{if◌then◌else◌, ◌&&◌, ◌==◌, nat_lt, nat_eq}
 use Rattle.std.specs.List.{filter_map}
 use Rattle.std.specs.FinMap as finite
-use Rattle.std.proofs.lemmas.Bool.Decides.{nat_tests, Decides-eqb, Decides-ltb}
+use Rattle.std.proofs.lemmas.Bool.Decides.{nat_tests, Decides-ltb}
 use Rattle.flow_filter.specs.declared.filter.Filter.{Filter}
 use Rattle.flow_filter.specs.declared.flow.Flow.{Flow}
 use Rattle.flow_filter.specs.declared.prefix.Prefix.{Prefix}
@@ -13,22 +13,19 @@ use Rattle.nf_function.specs.declared.kind.Kind.{Kind}
 use Rattle.nf_function.specs.declared.kind.Kind.TheVariants.{Conntrack, Nat, Monitor}
 use Rattle.nf_function.specs.declared.unit.Unit as units
 use Rattle.nf_function.specs.declared.unit.Unit.TheVariants.{Flow as OfFlow, Host as OfHost}
-use Rattle.nf_function.specs.Units.{has_hosts, takes}
 use Rattle.nf_function.specs.Semantics.{Semantics}
 use Rattle.event_store.specs.Store.{stored}
-use Rattle.nf_msgs.specs.declared.answer.Answer.{Answer}
 use Rattle.nf_msgs.specs.declared.msg.Msg.{Msg}
 use Rattle.nf_msgs.specs.declared.note.Note.{Note}
 use Rattle.nf_msgs.specs.Nodes.{instance_node}
 use Rattle.move_op.specs.declared.phase.Phase.{Phase as RealPhase}
 use Rattle.move_op.specs.declared.phase.Phase.TheVariants as phase
 use Rattle.move_op.specs.Move.{MoveState, answer_of}
-use Rattle.ctrl_node.specs.declared.operation.Operation.{Operation}
-use Rattle.ctrl_node.specs.declared.operation.Operation.TheVariants.{Move, Copy, Share}
+use Rattle.ctrl_node.specs.declared.operation.Operation.TheVariants.{Move}
 use Rattle.actor_net.specs.Network.{Network, waiting}
 use Rattle.actor_net.proofs.EnabledChoices.{at}
-use Rattle.unit_machine.proofs.Machine.{Where as Side, Phase, State}
-use Rattle.unit_machine.proofs.Real.{Frame, RPhase, see_phase, Op}
+use Rattle.unit_machine.proofs.Machine.{State}
+use Rattle.unit_machine.proofs.Real.{Frame, see_phase}
 use Rattle.unit_machine.proofs.Pairs.{Nodes, expect}
 use Rattle.unit_machine.proofs.NetViews.{items}
 use Rattle.unit_machine.proofs.Rests.{Silent, is_over}
@@ -36,15 +33,15 @@ use Rattle.unit_machine.proofs.Seats.{Seat, seat_shape, seat_rests}
 use Rattle.abstract_net.proofs.Net.{Sys, IsSys, Open, find_op, World, seen}
 use Rattle.abstract_net.proofs.Holding.{Seeing, frame, Op_label, Ctrl_is, Holds}
 use Rattle.abstract_net.proofs.Ctrl.{each_found}
-use Rattle.abstract_net.proofs.Rest.{Rest, Rest_op}
+use Rattle.abstract_net.proofs.Rest.{Rest_op}
 use Rattle.abstract_net.proofs.Shares.{olds, moves_of}
 use Rattle.abstract_net.proofs.Units.{Where, Where.At_rest, Where.In_move, see}
 use Rattle.whole_net.proofs.UnderMoves.{move_apart}
 use Rattle.net_world.specs.declared.node.Node.{Node}
-use Rattle.outline_net.proofs.FiltersApart.{number_fits, prefix_fits, filter_fits, is_whole, flow_fits, unit_fits, takes_whole, and_l, and_r}
+use Rattle.outline_net.proofs.FiltersApart.{number_fits, prefix_fits, filter_fits, is_whole, flow_fits, takes_whole, and_l, and_r}
 use Rattle.outline_net.proofs.Outline.{is_sys}
-use Rattle.outline_net.proofs.ControlOutline.{Sees, SeesMove}
-use Rattle.outline_net.proofs.MoveOutline.{outline_plan, outline_phase}
+use Rattle.outline_net.proofs.ControlOutline.{Sees}
+use Rattle.outline_net.proofs.MoveOutline.{outline_phase}
 use Rattle.whole_outline.proofs.OpenShares.{but_shares}
 use Rattle.whole_joined.proofs.Given.{Given, place}
 use Rattle.whole_joined.proofs.Joined.{S, A, Joined, count, shown, came_by}

@@ -1,9 +1,9 @@
 -- A world of a run in which no choice is enabled is complete, where the input has an end: each phase that waits has a message on a link, and what the switch
 -- waits for is under way.
-use Rattle.std.proofs.Common.{◌≡◌, ◌⊎◌, inl, inr, ℕ, zero, suc, ◌+◌, ◌<◌, ◌≤◌, Bool, true, false, Option, Some, None, List, [], ◌∷◌, length, get_or, refl, sym, ap, ◌∙◌, subst, arith}
-use Rattle.std.specs.Prelude.{if◌then◌else◌, ◌&&◌, ◌==◌, nat_lt, slice_get}
+use Rattle.std.proofs.Common.{◌≡◌, inl, inr, ℕ, ◌+◌, ◌≤◌, true, false, Some, List, [], length, refl, sym, ap, ◌∙◌, subst, arith}
+use Rattle.std.specs.Prelude.{◌&&◌, ◌==◌, slice_get}
 use Rattle.std.specs.declared.alloc.Global.{Global}
-use Rattle.std.proofs.lemmas.Bool.Decides.{nat_tests, Decides-eqb, Decides-ltb}
+use Rattle.std.proofs.lemmas.Bool.Decides.{Decides-eqb, Decides-ltb}
 use Rattle.std.proofs.lemmas.Option.{slice_get-get_or}
 use Rattle.nf_function.specs.Records.{Laws as FunctionLaws}
 use Rattle.nf_function.specs.Semantics.{Semantics}
@@ -25,16 +25,16 @@ use Rattle.net_world.specs.declared.node.Node.TheVariants.{Switch}
 use Rattle.net_world.specs.Input.{IsInput}
 use Rattle.net_world.specs.Nodes.{node_step, node_ready, node_ended}
 use Rattle.net_world.specs.Start.{started}
-use Rattle.whole_joined.proofs.Given.{Given}
 use Rattle.whole_joined.proofs.Joined.{Joined}
 use Rattle.whole_joined.proofs.RunsJoined.{start_world}
 use Rattle.whole_joined.proofs.StartJoined.{given, count_at_start}
 use Rattle.answer_net.proofs.ArrivalLemmas.{runs_joined}
 use Rattle.answer_net.proofs.CommandPromises.{run_busy}
 use Rattle.nf_net.proofs.SettleKeeps.{run_settles}
-use Rattle.net_ends.specs.Ends.{has_end}
+use Rattle.net_length.specs.Length.{ends, IsShort}
+use Rattle.net_length.proofs.ShortRuns.{short_runs}
 use Rattle.net_ends.proofs.SilentLinks.{all_done}
-use Rattle.net_ends.proofs.TokenRuns.{HasEnough, run_enough}
+use Rattle.net_ends.proofs.TokenRuns.{run_enough}
 use Rattle.net_ends.proofs.EndingRuns.{run_ending}
 use Rattle.net_ends.proofs.AllEnded.{nodes_ended}
 use Rattle.net_ends.proofs.ToldRuns.{run_told}
@@ -49,7 +49,7 @@ takes_all s (msg.InCommand k) flying cells waits = (Decides-ltb s.waiting MOST_W
 takes_all s msg.InSettle flying cells waits = (Decides-eqb s.waiting 0).1 waits
 takes_all s m flying cells waits = refl
 
-module _ (F : Type 0) {R : Type 0} (f : Semantics R) (laws : FunctionLaws f) (alloc : Global) (c : Config) (items : List Msg) (is : IsInput f.kind c items) (ends : has_end items ≡ true) where
+module _ (F : Type 0) {R : Type 0} (f : Semantics R) (laws : FunctionLaws f) (alloc : Global) (c : Config) (items : List Msg) (is : IsInput f.kind c items) (some_end : 1 ≤ ends items) where
   abbrev start : Network (Node F R) Msg Note
   start = started {F = F} {R = R} alloc c items
 
@@ -97,7 +97,7 @@ module _ (F : Type 0) {R : Type 0} (f : Semantics R) (laws : FunctionLaws f) (al
             cc
 
     pub no_stuck_world : is_done node_ended w ≡ true
-    no_stuck_world = all_done w reached.0 silent node_ended input_empty (nodes_ended f (given f c items is) n refl w reached.0 reached.1 joined (run_enough F f laws alloc c items is cs run_is) silent (run_ending F f laws alloc c items is ends cs run_is) input_empty rests.0)
+    no_stuck_world = all_done w reached.0 silent node_ended input_empty (nodes_ended f (given f c items is) n refl w reached.0 reached.1 joined (run_enough F f laws alloc c items is cs run_is) silent (run_ending F f laws alloc c items is some_end cs run_is) input_empty rests.0)
 
   -- a schedule that stops short took all choices that it may take
   pub short_is_long : (cs : List Choice) → IsRun node_ready (node_step f) cs start → (count : ℕ) → StopsShort node_ready node_ended (run (node_step f) cs start) count → count ≡ MOST_CHOICES
@@ -105,3 +105,12 @@ module _ (F : Type 0) {R : Type 0} (f : Semantics R) (laws : FunctionLaws f) (al
     | inl none ↦ (let never : false ≡ true = sym short.incomplete ∙ no_stuck_world cs run_is none in cc)
     | inr most ↦ most
   ]
+
+-- and of a short input none stops short
+module _ (F : Type 0) {R : Type 0} (f : Semantics R) (laws : FunctionLaws f) (alloc : Global) (c : Config) (items : List Msg) (is : IsInput f.kind c items) where
+  pub never_short : IsShort items → (cs : List Choice) → IsRun node_ready (node_step f) cs (started {F = F} {R = R} alloc c items) → StopsShort node_ready node_ended (run (node_step f) cs (started {F = F} {R = R} alloc c items)) (length cs) → ⊥
+  never_short short cs run_is stops =
+      let once = (Decides-eqb (ends items) 1).0 short.ended in
+      let all = short_is_long F f laws alloc c items is (omega (arith, once)) cs run_is (length cs) stops in
+      let few = short_runs F f laws alloc c items is short cs run_is in
+      omega (arith, all, few)

@@ -1,6 +1,6 @@
 -- Tallies on their way, and those that instances hold, are such: so what an instance is to merge can be read. And an instance ends where it is told to
 -- stop, and not otherwise.
-use Rattle.std.proofs.Common.{◌≡◌, ℕ, zero, suc, ◌+◌, ◌^◌, ◌<◌, ◌≤◌, Bool, true, false, Option, Some, None, Result, Ok, Err, List, [], ◌∷◌, ◌++◌, map, length, slice_index, refl, sym, ap, ◌∙◌, subst, arith}
+use Rattle.std.proofs.Common.{◌≡◌, ℕ, zero, suc, ◌^◌, ◌<◌, Bool, true, false, Option, Some, None, Ok, List, [], ◌∷◌, ◌++◌, map, length, slice_index, refl, sym, ap, ◌∙◌, subst, arith}
 use Rattle.std.specs.Prelude.{if◌then◌else◌, ◌||◌, nat_lt, slice_set}
 use Rattle.std.proofs.lemmas.List.{length-set}
 use Rattle.flow_filter.specs.Flow.{flow_of}
@@ -9,7 +9,6 @@ use Rattle.nf_function.specs.declared.unit.Unit as units
 use Rattle.nf_function.specs.Semantics.{Semantics, count, unit_at}
 use Rattle.nf_function.specs.Tally.{counted, merged}
 use Rattle.nf_function.proofs.MergeLemmas.{merge_laws}
-use Rattle.state_chunk.specs.declared.fault.ChunkFault.{ChunkFault}
 use Rattle.state_chunk.specs.Format.{IsTally, tally_bytes}
 use Rattle.state_chunk.specs.Reading.{tally_read}
 use Rattle.state_chunk.proofs.TallyLemmas.{tally_read-tally_bytes}

@@ -1,6 +1,6 @@
 -- What the controller's step leaves of what each open copy and share waits for.
-use Rattle.std.proofs.Common.{◌≡◌, ◌≢◌, ℕ, zero, suc, ◌+◌, ◌≤◌, Bool, true, false, cond, Option, Some, None, List, [], ◌∷◌, ◌++◌, length, refl, sym, ap, ◌∙◌, subst, arith}
-use Rattle.std.specs.Prelude.{if◌then◌else◌, ◌&&◌, ◌==◌, nat_lt, is_some}
+use Rattle.std.proofs.Common.{◌≡◌, ◌≢◌, ℕ, ◌+◌, ◌≤◌, Bool, true, false, cond, Option, Some, None, List, [], ◌∷◌, ◌++◌, length, refl, sym, ap, ◌∙◌, subst, arith}
+use Rattle.std.specs.Prelude.{if◌then◌else◌, ◌&&◌, ◌==◌}
 use Rattle.std.specs.List.{filter_map}
 use Rattle.std.specs.FinMap as finite
 use Rattle.std.proofs.lemmas.Bool.Decides.{nat_tests, Decides-eqb, Decides-ltb}
@@ -10,7 +10,6 @@ use Rattle.packet_pool.specs.Pool.{FullCell}
 use Rattle.event_store.specs.Store.{stored}
 use Rattle.switch_rules.specs.declared.target.Target.TheVariants as target
 use Rattle.nf_msgs.specs.declared.answer.Answer.{Answer}
-use Rattle.nf_msgs.specs.declared.command.Command.{Command}
 use Rattle.nf_msgs.specs.declared.command.Order.{Order}
 use Rattle.nf_msgs.specs.declared.command.Order.TheVariants as order
 use Rattle.nf_msgs.specs.declared.msg.Msg.{Msg}
@@ -30,13 +29,15 @@ use Rattle.ctrl_node.specs.Controller.{ControllerState, Step, place_of}
 use Rattle.actor_net.specs.Network.{reaches}
 use Rattle.unit_machine.proofs.Labels.{Each}
 use Rattle.outline_net.proofs.OperationTables.{NotShared, got_insert, got_remove, handed_is}
-use Rattle.whole_outline.proofs.ShareLeft.{OpenAt, answered, ShareLeaves, handed_leaves, queued_leaves}
-use Rattle.whole_joined.proofs.CopyCounts.{handed_at, decided_at}
+use Rattle.whole_outline.proofs.ShareLeft.{answered, ShareLeaves, handed_leaves, queued_leaves}
+use Rattle.whole_outline.proofs.OpenShares.{self, turned_test}
+use Rattle.whole_joined.proofs.CopyCounts.{handed_at}
 use Rattle.whole_joined.proofs.ShareBegins.{place_below}
 use Rattle.answer_net.proofs.ShareTells.{Queues, Queues_none, Queues_at, queues}
+use Rattle.answer_net.proofs.EndTables.{flag}
 use Rattle.net_ends.proofs.LinkWeights.{sends_weigh}
-use Rattle.net_ends.proofs.Tokens.{Leg, Gets, Alls, Fences, Token, token, token_of, at_instance, awaits, if_one, counts, weight, wanted}
-use Rattle.net_ends.proofs.TokenRows.{Grants, Fresh, Waits, grants_more, share_at, copy_row, share_row, served_grants}
+use Rattle.net_ends.proofs.Tokens.{Leg, Gets, Alls, token, token_of, at_instance, awaits, counts, weight, wanted}
+use Rattle.net_ends.proofs.TokenRows.{Grants, Fresh, Waits, grants_more, copy_row, share_row, served_grants}
 
 -- what is known of the open copies and shares, of n nodes
 pub record CopyWithin (n op : ℕ) (y : CopyState) : Type 0 where
@@ -53,14 +54,8 @@ pub record AreWithin (n : ℕ) (ops : OpenOperations) : Type 0 where
   pub copies : (op : ℕ) (y : CopyState) → finite.get ops op ≡ Some (Copy y) → CopyWithin n op y
   pub shares : (op : ℕ) (s : ShareState) → finite.get ops op ≡ Some (Share s) → ShareWithin n op s
 
-self : (op : ℕ) → (op == op) ≡ true
-self op = grind (arith, nat_tests)
-
-turned : (a b : ℕ) → (a == b) ≡ false → (b == a) ≡ false
-turned a b off = grind (arith, nat_tests, off)
-
-and_off : (a b : Bool) → b ≡ false → if_one (a && b) ≡ 0
-and_off true b off = ap if_one off
+and_off : (a b : Bool) → b ≡ false → flag (a && b) ≡ 0
+and_off true b off = ap flag off
 and_off false b off = refl
 
 -- a message of another number
@@ -151,7 +146,7 @@ module _ (n : ℕ) (switch_there : reaches n 1 0 ≡ true) (c : ControllerState)
     handed_gives : op_of m ≡ Some op → Gives m (ctrl.handed c op p m)
     handed_gives its k = elim (op == k) as (λ b. (op == k) ≡ b → Given_at k m (ctrl.handed c op p m)) [
       | true ↦ λ on. subst (λ x. Given_at x m (ctrl.handed c op p m)) ((Decides-eqb op k).0 on) (by_got (finite.get c.operations op) refl)
-      | false ↦ λ off. stays k m (ctrl.handed c op p m) (handed_at k op (turned op k off) c p m) (other_number k p (finite.get c.operations k) op m its off)
+      | false ↦ λ off. stays k m (ctrl.handed c op p m) (handed_at k op (turned_test op k off) c p m) (other_number k p (finite.get c.operations k) op m its off)
     ] refl
       where
         by_got : (o : Option Operation) → finite.get c.operations op ≡ o → Given_at op m (ctrl.handed c op p m)
@@ -176,7 +171,7 @@ module _ (n : ℕ) (switch_there : reaches n 1 0 ≡ true) (c : ControllerState)
       let l = queued_leaves c op s cell there (within.shares op s there).op_is in
       elim (op == k) as (λ b. (op == k) ≡ b → Given_at k m did) [
         | true ↦ λ on. subst (λ x. Given_at x m did) ((Decides-eqb op k).0 on) (share_leaves op m s cells (share.goes s.phase []) did there l (Waits (λ leg node. refl) (omega arith)))
-        | false ↦ λ off. stays k m did (l.operations k ∙ ap (λ b. cond b (Some (Share (record s { phase = (share.served s.plan s.phase cells).phase }))) (finite.get c.operations k)) (turned op k off)) refl
+        | false ↦ λ off. stays k m did (l.operations k ∙ ap (λ b. cond b (Some (Share (record s { phase = (share.served s.plan s.phase cells).phase }))) (finite.get c.operations k)) (turned_test op k off)) refl
       ] refl
 
   diverted_gives : (cell : FullCell) → Gives (msg.Diverted cell) (ctrl.on_diverted c cell)
@@ -194,7 +189,7 @@ module _ (n : ℕ) (switch_there : reaches n 1 0 ≡ true) (c : ControllerState)
     opens_gives : (o : Operation) (sends : List (ℕ × Msg)) → wanted (Some o) ≤ sends_weigh (weight op (Some o)) n 1 sends → Gives asked (ctrl.opens c op o sends)
     opens_gives o sends h k = elim (op == k) as (λ b. (op == k) ≡ b → Given_at k asked (ctrl.opens c op o sends)) [
       | true ↦ λ on. subst (λ x. Given_at x asked (ctrl.opens c op o sends)) ((Decides-eqb op k).0 on) (subst (λ x. Grants n op p asked (finite.get c.operations op) x sends) (sym (written op asked o)) (Fresh h))
-      | false ↦ λ off. stays k asked (ctrl.opens c op o sends) (got_insert c.operations op k o ∙ ap (λ b. cond b (Some o) (finite.get c.operations k)) (turned op k off)) refl
+      | false ↦ λ off. stays k asked (ctrl.opens c op o sends) (got_insert c.operations op k o ∙ ap (λ b. cond b (Some o) (finite.get c.operations k)) (turned_test op k off)) refl
     ] refl
 
     reach_at : (name : List ℕ) (i : ℕ) → place_of c.names name ≡ Some i → reaches n 1 (instance_node i) ≡ true
@@ -217,7 +212,7 @@ module _ (n : ℕ) (switch_there : reaches n 1 0 ≡ true) (c : ControllerState)
 
         one : (leg : Leg) (a : Msg) → token_of 1 (instance_node plan.from) a ≡ token leg plan.op (instance_node plan.from) → awaits (Some (Copy (copy.begun plan))) leg (instance_node plan.from) ≡ true → 1 ≤ (if reaches n 1 (instance_node plan.from) then weight op (Some (Copy (copy.begun plan))) 1 (instance_node plan.from) a else 0) + 0
         one leg a same waits =
-            let w : weight op (Some (Copy (copy.begun plan))) 1 (instance_node plan.from) a ≡ 1 = ap (counts op (Some (Copy (copy.begun plan)))) same ∙ ap (λ b. if_one (b && (plan.op == op))) waits ∙ ap if_one mine in
+            let w : weight op (Some (Copy (copy.begun plan))) 1 (instance_node plan.from) a ≡ 1 = ap (counts op (Some (Copy (copy.begun plan)))) same ∙ ap (λ b. flag (b && (plan.op == op))) waits ∙ ap flag mine in
             let all : (if reaches n 1 (instance_node plan.from) then weight op (Some (Copy (copy.begun plan))) 1 (instance_node plan.from) a else 0) ≡ 1 = ap (λ b. if b then weight op (Some (Copy (copy.begun plan))) 1 (instance_node plan.from) a else 0) there ∙ w in
             omega (arith, all)
 
@@ -236,7 +231,7 @@ module _ (n : ℕ) (switch_there : reaches n 1 0 ≡ true) (c : ControllerState)
         let plan : SharePlan = record { op = op; members = member ∷ others; filter = filter; site = c.site } in
         let here = self (instance_node member) in
         let mine = self op in
-        let one : weight op (Some (Share (share.begun plan))) 1 0 (msg.Install op filter member target.Controller) ≡ 1 = ap (λ b. if_one (b && (op == op))) here ∙ ap if_one mine in
+        let one : weight op (Some (Share (share.begun plan))) 1 0 (msg.Install op filter member target.Controller) ≡ 1 = ap (λ b. flag (b && (op == op))) here ∙ ap flag mine in
         let all : (if reaches n 1 0 then weight op (Some (Share (share.begun plan))) 1 0 (msg.Install op filter member target.Controller) else 0) ≡ 1 = ap (λ b. if b then weight op (Some (Share (share.begun plan))) 1 0 (msg.Install op filter member target.Controller) else 0) switch_there ∙ one in
         opens_gives (Share (share.begun plan)) (share.begin_sends plan) (omega (arith, all))
 

@@ -1,6 +1,6 @@
 -- The switch and the instances lose no message that an operation waits for: each goes on, as another one of its leg.
-use Rattle.std.proofs.Common.{◌≡◌, ℕ, zero, suc, ◌+◌, ◌≤◌, ◌<◌, inl, inr, Bool, true, false, cond, Option, Some, None, List, [], ◌∷◌, ◌++◌, refl, sym, ap, ◌∙◌, subst, arith}
-use Rattle.std.specs.Prelude.{if◌then◌else◌, ◌&&◌, ◌==◌, nat_lt, is_some, option_map, Result, Ok, Err}
+use Rattle.std.proofs.Common.{◌≡◌, ℕ, suc, ◌+◌, ◌<◌, inl, inr, Bool, true, false, cond, Option, Some, None, List, [], ◌∷◌, ◌++◌, refl, sym, ap, ◌∙◌, subst, arith}
+use Rattle.std.specs.Prelude.{if◌then◌else◌, ◌&&◌, nat_lt, is_some, option_map, Ok}
 use Rattle.std.specs.FinMap as finite
 use Rattle.std.proofs.lemmas.Bool.Decides.{nat_tests, Decides-ltb}
 use Rattle.flow_filter.specs.declared.packet.Packet.{Packet}
@@ -10,12 +10,10 @@ use Rattle.nf_function.specs.declared.unit.Unit as units
 use Rattle.nf_function.specs.UnitOrder.{units_total}
 use Rattle.nf_function.specs.Records.{Fits, Laws as FunctionLaws}
 use Rattle.nf_function.specs.Semantics.{Semantics, kept_after, unit_at}
-use Rattle.state_chunk.specs.declared.fault.ChunkFault.{ChunkFault}
 use Rattle.state_chunk.specs.Format.{record_chunk}
 use Rattle.state_chunk.specs.Reading.{tally_read}
-use Rattle.record_table.specs.Table.{Records, part, with_kept, after_packet}
+use Rattle.record_table.specs.Table.{Records, with_kept, after_packet}
 use Rattle.record_table.proofs.UnitOrder.{same_unit_equiv}
-use Rattle.event_filter.specs.declared.mark.Mark.{Mark}
 use Rattle.event_filter.specs.declared.mark.Mark.TheVariants as mark
 use Rattle.event_filter.specs.Rules as rules
 use Rattle.packet_pool.specs.Pool.{FullCell}
@@ -31,9 +29,9 @@ use Rattle.instance_worker.specs.Instance.{Step, told, chunk_told, still, tells_
 use Rattle.switch_node.specs.Switch as switches
 use Rattle.switch_node.specs.Switch.{SwitchState, switch_step, sends_to_instance, on_install}
 use Rattle.whole_joined.proofs.Given.{Given}
-use Rattle.whole_joined.proofs.Joined.{Genuine, AreGoodChunks, Label, count}
+use Rattle.whole_joined.proofs.Joined.{AreGoodChunks, Label, count}
 use Rattle.whole_joined.proofs.InstanceKeeps.{chunks_good}
-use Rattle.net_ends.proofs.Tokens.{Leg, Serves, Fences, Token, token, to_instance, token_of, at_instance, at_member, Goes, Passes}
+use Rattle.net_ends.proofs.Tokens.{Serves, Fences, Token, token, token_of, at_instance, at_member, Goes, Passes}
 
 -- what a packet leaves of its unit
 kept_some : {R : Type 0} (f : Semantics R) (site : Site) (t : Records R) (p : Packet) → Fits site p → is_some (finite.get (after_packet f site t p) (unit_at f.kind site p)) ≡ true

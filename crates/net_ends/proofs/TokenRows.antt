@@ -1,11 +1,10 @@
 -- A copy's and a share's row send what their next phase waits for, or stay as they are on a message that they don't wait for.
-use Rattle.std.proofs.Common.{◌≡◌, ◌≢◌, ℕ, zero, suc, ◌+◌, ◌-◌, ◌≤◌, Bool, true, false, Option, Some, None, List, [], ◌∷◌, ◌++◌, map, length, refl, sym, ap, ◌∙◌, subst, arith}
+use Rattle.std.proofs.Common.{◌≡◌, ◌≢◌, ℕ, zero, suc, ◌+◌, ◌-◌, ◌≤◌, Bool, true, false, Option, Some, None, List, [], ◌∷◌, ◌++◌, map, length, refl, ap, ◌∙◌, arith}
 use Rattle.std.specs.Prelude.{if◌then◌else◌, ◌&&◌, ◌==◌, not}
 use Rattle.std.proofs.lemmas.Bool.Decides.{nat_tests, Decides-eqb}
 use Rattle.nf_function.specs.declared.chunk.Chunk.{Chunk}
 use Rattle.event_filter.specs.declared.mark.Mark.TheVariants as mark
 use Rattle.packet_pool.specs.Pool.{FullCell}
-use Rattle.nf_msgs.specs.declared.answer.Answer.{Answer}
 use Rattle.nf_msgs.specs.declared.answer.Answer.TheVariants.{Done}
 use Rattle.nf_msgs.specs.declared.msg.Msg.{Msg}
 use Rattle.nf_msgs.specs.declared.msg.Msg.TheVariants as msg
@@ -22,8 +21,9 @@ use Rattle.ctrl_node.specs.declared.operation.Operation.{Operation}
 use Rattle.ctrl_node.specs.declared.operation.Operation.TheVariants.{Copy, Share}
 use Rattle.actor_net.specs.Network.{reaches}
 use Rattle.unit_machine.proofs.Labels.{Each}
+use Rattle.answer_net.proofs.EndTables.{flag}
 use Rattle.net_ends.proofs.LinkWeights.{sends_weigh, sends_weigh-append}
-use Rattle.net_ends.proofs.Tokens.{Leg, Gets, Alls, Keeps, Fences, Syncs, Serves, Token, token, token_of, at_instance, in_copy, in_share, awaits, if_one, counts, weight, some_left, wanted}
+use Rattle.net_ends.proofs.Tokens.{Leg, Gets, Alls, Keeps, Syncs, Serves, Token, token, token_of, at_instance, in_copy, in_share, awaits, counts, weight, some_left, wanted}
 
 -- of n nodes, what the controller's step on a message from node p does to the operation of number k: it sends what is waited for from now on, or the
 -- operation waits on, for what is still there
@@ -51,7 +51,7 @@ module _ (n k p : ℕ) (plan : CopyPlan) (own : plan.op ≡ k) (to_there : reach
   hands_on m a same =
       let self : (instance_node plan.to == instance_node plan.to) ≡ true = grind (arith, nat_tests) in
       let its : (plan.op == k) ≡ true = (Decides-eqb plan.op k).1 own in
-      let one : weight k (copy_at copies.Keeping) 1 (instance_node plan.to) a ≡ 1 = ap (counts k (copy_at copies.Keeping)) same ∙ ap (λ b. if_one (b && (plan.op == k))) self ∙ ap if_one its in
+      let one : weight k (copy_at copies.Keeping) 1 (instance_node plan.to) a ≡ 1 = ap (counts k (copy_at copies.Keeping)) same ∙ ap (λ b. flag (b && (plan.op == k))) self ∙ ap flag its in
       let all : (if reaches n 1 (instance_node plan.to) then weight k (copy_at copies.Keeping) 1 (instance_node plan.to) a else 0) ≡ 1 = ap (λ b. if b then weight k (copy_at copies.Keeping) 1 (instance_node plan.to) a else 0) to_there ∙ one in
       Fresh (omega (arith, all))
 
@@ -64,7 +64,7 @@ module _ (n k p : ℕ) (plan : CopyPlan) (own : plan.op ≡ k) (to_there : reach
 
   over_none : (t : Option Token) → counts k (copy_at copies.Over) t ≡ 0
   over_none None = refl
-  over_none (Some t) = ap (λ b. if_one (b && (t.op == k))) (none t.leg)
+  over_none (Some t) = ap (λ b. flag (b && (t.op == k))) (none t.leg)
     where
       none : (leg : Leg) → in_copy plan leg copies.Over t.node ≡ false
       none Gets = refl
@@ -74,13 +74,13 @@ module _ (n k p : ℕ) (plan : CopyPlan) (own : plan.op ≡ k) (to_there : reach
 
   pub copy_row : (ph : CopyPhase) (m : Msg) → CopyGrants ph m (copy.row (record { plan = plan; phase = ph }) p m)
   copy_row copies.Getting (msg.Chunks op chunks) =
-      let none : (p == instance_node plan.from) ≡ false → weight k (copy_at copies.Getting) p 1 (msg.Chunks op chunks) ≡ 0 = (λ off. ap (λ b. if_one (b && (op == k))) off) in
+      let none : (p == instance_node plan.from) ≡ false → weight k (copy_at copies.Getting) p 1 (msg.Chunks op chunks) ≡ 0 = (λ off. ap (λ b. flag (b && (op == k))) off) in
       by_sender copies.Getting (msg.Chunks op chunks) (λ on. hands_on (msg.Chunks op chunks) (msg.Standby plan.op chunks) (at_instance Keeps plan.op plan.to)) (λ off on. still_copy copies.Getting (msg.Chunks op chunks) (none off)) (λ off off_to. still_copy copies.Getting (msg.Chunks op chunks) (none off))
   copy_row copies.Getting (msg.AllChunk op chunk) =
-      let none : (p == instance_node plan.from) ≡ false → weight k (copy_at copies.Getting) p 1 (msg.AllChunk op chunk) ≡ 0 = (λ off. ap (λ b. if_one (b && (op == k))) off) in
+      let none : (p == instance_node plan.from) ≡ false → weight k (copy_at copies.Getting) p 1 (msg.AllChunk op chunk) ≡ 0 = (λ off. ap (λ b. flag (b && (op == k))) off) in
       by_sender copies.Getting (msg.AllChunk op chunk) (λ on. hands_on (msg.AllChunk op chunk) (msg.PutAll plan.op chunk) (at_instance Keeps plan.op plan.to)) (λ off on. still_copy copies.Getting (msg.AllChunk op chunk) (none off)) (λ off off_to. still_copy copies.Getting (msg.AllChunk op chunk) (none off))
   copy_row copies.Keeping (msg.Kept op) =
-      let none : (p == instance_node plan.to) ≡ false → weight k (copy_at copies.Keeping) p 1 (msg.Kept op) ≡ 0 = (λ off. ap (λ b. if_one (b && (op == k))) off) in
+      let none : (p == instance_node plan.to) ≡ false → weight k (copy_at copies.Keeping) p 1 (msg.Kept op) ≡ 0 = (λ off. ap (λ b. flag (b && (op == k))) off) in
       by_sender copies.Keeping (msg.Kept op) (λ on. still_copy copies.Keeping (msg.Kept op) (none (apart on))) (λ off on. Fresh (omega arith)) (λ off off_to. still_copy copies.Keeping (msg.Kept op) (none off_to))
     where
       apart : (p == instance_node plan.from) ≡ true → (p == instance_node plan.to) ≡ false
@@ -88,7 +88,7 @@ module _ (n k p : ℕ) (plan : CopyPlan) (own : plan.op ≡ k) (to_there : reach
   copy_row copies.Over m = by_sender copies.Over m (λ on. still_copy copies.Over m (over_none (token_of p 1 m))) (λ off on. still_copy copies.Over m (over_none (token_of p 1 m))) (λ off off_to. still_copy copies.Over m (over_none (token_of p 1 m)))
   copy_row ph m = by_sender ph m (λ on. still_copy ph m refl) (λ off on. still_copy ph m refl) (λ off off_to. still_copy ph m refl)
 
-if_one_most : (b : Bool) → if_one b ≤ 1
+if_one_most : (b : Bool) → flag b ≤ 1
 if_one_most true = omega arith
 if_one_most false = omega arith
 
@@ -113,7 +113,7 @@ module _ (n k p : ℕ) (plan : SharePlan) (own : plan.op ≡ k) (few : Each (λ 
   -- a message of a leg that the phase waits for at that node
   one_sent : (ph : SharePhase) (leg : Leg) (node to : ℕ) (a : Msg) → reaches n 1 to ≡ true → token_of 1 to a ≡ token leg plan.op node → in_share plan leg ph node ≡ true → sends_weigh (weight k (share_at ph)) n 1 ((to, a) ∷ []) ≡ 1
   one_sent ph leg node to a there same waits =
-      let one : weight k (share_at ph) 1 to a ≡ 1 = ap (counts k (share_at ph)) same ∙ ap (λ b. if_one (b && (plan.op == k))) waits ∙ ap if_one its in
+      let one : weight k (share_at ph) 1 to a ≡ 1 = ap (counts k (share_at ph)) same ∙ ap (λ b. flag (b && (plan.op == k))) waits ∙ ap flag its in
       let all : (if reaches n 1 to then weight k (share_at ph) 1 to a else 0) ≡ 1 = ap (λ b. if b then weight k (share_at ph) 1 to a else 0) there ∙ one in
       omega (arith, all)
 
@@ -152,21 +152,21 @@ module _ (n k p : ℕ) (plan : SharePlan) (own : plan.op ≡ k) (few : Each (λ 
         let self : (instance_node (home plan) == instance_node (home plan)) ≡ true = grind (arith, nat_tests) in
         let one = one_sent shares.Getting Gets (instance_node (home plan)) (instance_node (home plan)) (msg.Get plan.op plan.filter) home_there (at_instance Gets plan.op (home plan)) self in
         Fresh (omega (arith, one))
-    | false ↦ λ off. still_share shares.Fencing (msg.Fenced op) (ap (λ b. if_one (b && (op == k))) off)
+    | false ↦ λ off. still_share shares.Fencing (msg.Fenced op) (ap (λ b. flag (b && (op == k))) off)
   ] refl
   fenced_row ph op = elim (p == instance_node (home plan)) as (λ b. ShareGrants ph (msg.Fenced op) (if b then share.on_fenced plan ph else share.goes ph [])) [ true ↦ still_share ph (msg.Fenced op) refl | false ↦ still_share ph (msg.Fenced op) refl ]
 
   chunks_row : (ph : SharePhase) (op : ℕ) (chunks : List Chunk) → ShareGrants ph (msg.Chunks op chunks) (share.row (record { plan = plan; phase = ph }) p (msg.Chunks op chunks))
   chunks_row shares.Getting op chunks = elim (p == instance_node (home plan)) as (λ b. (p == instance_node (home plan)) ≡ b → ShareGrants shares.Getting (msg.Chunks op chunks) (if b then share.on_chunks plan shares.Getting chunks else share.goes shares.Getting [])) [
     | true ↦ λ on. (let left = length (others plan (home plan)) in let all = sync_all (shares.Setting left) (λ node. refl) (home plan) chunks in setting_grants shares.Getting (msg.Chunks op chunks) left (syncs plan (home plan) chunks) (omega (arith, all)))
-    | false ↦ λ off. still_share shares.Getting (msg.Chunks op chunks) (ap (λ b. if_one (b && (op == k))) off)
+    | false ↦ λ off. still_share shares.Getting (msg.Chunks op chunks) (ap (λ b. flag (b && (op == k))) off)
   ] refl
   chunks_row ph op chunks = elim (p == instance_node (home plan)) as (λ b. ShareGrants ph (msg.Chunks op chunks) (if b then share.on_chunks plan ph chunks else share.goes ph [])) [ true ↦ still_share ph (msg.Chunks op chunks) refl | false ↦ still_share ph (msg.Chunks op chunks) refl ]
 
   shared_row : (ph : SharePhase) (op : ℕ) (chunk : Chunk) → ShareGrants ph (msg.Shared op chunk) (share.row (record { plan = plan; phase = ph }) p (msg.Shared op chunk))
   shared_row (shares.Out member) op chunk = elim (p == instance_node member) as (λ b. (p == instance_node member) ≡ b → ShareGrants (shares.Out member) (msg.Shared op chunk) (if b then share.syncing (length (others plan member)) (syncs plan member (chunk ∷ [])) else share.goes (shares.Out member) [])) [
     | true ↦ λ on. (let left = length (others plan member) in let all = sync_all (shares.Syncing left) (λ node. refl) member (chunk ∷ []) in syncing_grants (shares.Out member) (msg.Shared op chunk) left (syncs plan member (chunk ∷ [])) (omega (arith, all)))
-    | false ↦ λ off. still_share (shares.Out member) (msg.Shared op chunk) (ap (λ b. if_one (b && (op == k))) off)
+    | false ↦ λ off. still_share (shares.Out member) (msg.Shared op chunk) (ap (λ b. flag (b && (op == k))) off)
   ] refl
   shared_row ph op chunk = still_share ph (msg.Shared op chunk) refl
 

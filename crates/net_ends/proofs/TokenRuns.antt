@@ -1,6 +1,6 @@
 -- In every run each open copy and share has on the links what it waits for: so where no message is on a link no copy is open, and each share is idle.
-use Rattle.std.proofs.Common.{◌≡◌, ◌≢◌, ℕ, zero, suc, ◌+◌, ◌<◌, ◌≤◌, Bool, true, false, Option, Some, None, List, [], ◌∷◌, ◌++◌, length, get_or, replicate, slice_index, refl, sym, ap, ◌∙◌, subst, arith}
-use Rattle.std.specs.Prelude.{if◌then◌else◌, ◌&&◌, ◌==◌, nat_lt}
+use Rattle.std.proofs.Common.{◌≡◌, ◌≢◌, ℕ, zero, suc, ◌+◌, ◌<◌, ◌≤◌, true, false, Option, Some, None, List, [], ◌∷◌, length, get_or, replicate, slice_index, refl, sym, ap, ◌∙◌, subst, arith}
+use Rattle.std.specs.Prelude.{◌&&◌, ◌==◌, nat_lt}
 use Rattle.std.specs.declared.alloc.Global.{Global}
 use Rattle.std.specs.Ordering.{nat_cmp}
 use Rattle.std.specs.FinMap as finite
@@ -10,7 +10,6 @@ use Rattle.nf_function.specs.declared.chunk.Chunk.{Chunk}
 use Rattle.nf_function.specs.Records.{Fits, Laws as FunctionLaws}
 use Rattle.nf_function.specs.Semantics.{Semantics}
 use Rattle.state_chunk.specs.Format.{IsTally}
-use Rattle.nf_msgs.specs.declared.command.Command.{Command}
 use Rattle.nf_msgs.specs.declared.msg.Msg.{Msg}
 use Rattle.nf_msgs.specs.declared.msg.Msg.TheVariants as msg
 use Rattle.nf_msgs.specs.declared.note.Note.{Note}
@@ -21,7 +20,6 @@ use Rattle.copy_share.specs.declared.share_phase.SharePhase.{SharePhase}
 use Rattle.copy_share.specs.declared.share_phase.SharePhase.TheVariants as shares
 use Rattle.copy_share.specs.Copy.{CopyState}
 use Rattle.copy_share.specs.Copy as copy
-use Rattle.copy_share.specs.Share.{ShareState}
 use Rattle.ctrl_node.specs.declared.operation.Operation.{Operation}
 use Rattle.ctrl_node.specs.declared.operation.Operation.TheVariants.{Move, Copy, Share}
 use Rattle.ctrl_node.specs.Controller.{ControllerState, controller_step, opened as opened_controller}
@@ -38,28 +36,30 @@ use Rattle.actor_net.proofs.WeightLaws as weights
 use Rattle.unit_machine.proofs.Labels.{Each, each-append}
 use Rattle.net_world.specs.declared.config.Config.{Config}
 use Rattle.net_world.specs.declared.node.Node.{Node}
-use Rattle.net_world.specs.declared.node.Node.TheVariants.{Switch, Controller, Instance}
+use Rattle.net_world.specs.declared.node.Node.TheVariants.{Controller, Instance}
 use Rattle.net_world.specs.Input.{IsInput}
 use Rattle.net_world.specs.Nodes.{node_step, node_ready}
 use Rattle.net_world.specs.Start.{first_instance, first_instances, first_nodes, started}
 use Rattle.answer_net.proofs.BusyRuns.{same_controller}
 use Rattle.whole_joined.proofs.CopyAnswers.{is_uncopied}
-use Rattle.whole_joined.proofs.CopySends.{Turn_so, Turns_so, Begin_so, controller_sent}
+use Rattle.whole_joined.proofs.CopySends.{Turn_so, Begin_so, controller_sent}
 use Rattle.whole_joined.proofs.Given.{Given}
 use Rattle.whole_joined.proofs.Joined.{Label, Joined, count, node_of}
 use Rattle.whole_joined.proofs.BesideRuns.{its_takes, its_label}
 use Rattle.whole_joined.proofs.RunsJoined.{Runs, runs_at_start, runs_next, start_world}
 use Rattle.whole_joined.proofs.StartJoined.{given, all_fit, count_at_start}
+use Rattle.answer_net.proofs.EndTables.{flag}
+use Rattle.nf_net.proofs.SettleSteps.{each_map}
 use Rattle.net_ends.proofs.LinkWeights.{sends_weigh, at_links, at_links_same, at_links_none, at_links_after, taken_least}
-use Rattle.net_ends.proofs.Tokens.{Token, token_of, awaits, if_one, counts, weight, some_left, copy_wants, share_wants, wanted, passes_weigh}
+use Rattle.net_ends.proofs.Tokens.{Token, token_of, awaits, counts, weight, some_left, copy_wants, share_wants, wanted, passes_weigh}
 use Rattle.net_ends.proofs.TokenNodes.{CanRead, instance_passes, switch_passes}
 use Rattle.net_ends.proofs.TokenRows.{Grants, Fresh, Waits}
-use Rattle.net_ends.proofs.TokenController.{CopyWithin, ShareWithin, AreWithin, controller_gives}
+use Rattle.net_ends.proofs.TokenController.{AreWithin, controller_gives}
 use Rattle.net_ends.proofs.TallySteps.{IsTallyChunk, reads, GivesTally, MergesTally, over_by, StepLeaves, instance_leaves}
 
 counts_same : (k : ℕ) (a b : Option Operation) → ((leg : _) (node : ℕ) → awaits b leg node ≡ awaits a leg node) → (t : Option Token) → counts k b t ≡ counts k a t
 counts_same k a b same None = refl
-counts_same k a b same (Some t) = ap (λ x. if_one (x && (t.op == k))) (same t.leg t.node)
+counts_same k a b same (Some t) = ap (λ x. flag (x && (t.op == k))) (same t.leg t.node)
 
 -- what an operation waits for goes on, where the controller takes a message
 grants_keep : (n k p : ℕ) (m : Msg) (a b : Option Operation) (sends : List (ℕ × Msg)) → Grants n k p m a b sends → (before after : ℕ) → (lost : ℕ) → weight k b p 1 m ≡ lost → after + lost ≡ before + sends_weigh (weight k b) n 1 sends → lost ≤ before → (was : ℕ) → (((leg : _) (node : ℕ) → awaits b leg node ≡ awaits a leg node) → before ≡ was) → wanted a ≤ was → wanted b ≤ after
@@ -134,10 +134,6 @@ pub record HasEnough {F R : Type 0} (f : Semantics R) (n : ℕ) (w : Network (No
   pub enough : (k : ℕ) → wanted (finite.get controller.operations k) ≤ at_links (weight k (finite.get controller.operations k)) n w
   pub way : OnLinks (TallyLabel f) w
   pub tallies : (i : ℕ) → i < n → (d : Node F R) → HasTally (get_or w.nodes i d)
-
-each_map : {X : Type 0} (P Q : X → Type 0) → ((x : X) → P x → Q x) → (xs : List X) → Each P xs → Each Q xs
-each_map P Q more [] h = tt
-each_map P Q more (x ∷ xs) h = (more x h.0, each_map P Q more xs h.1)
 
 first_each : (P : ℕ → Type 0) (xs : List ℕ) → 1 < length xs → Each P xs → P (slice_index xs 0)
 first_each P [] some h = absurd (omega (arith, some))

@@ -1,6 +1,6 @@
 -- What an open copy or share waits for: messages of its number on their way, between nodes that its phase names. Each goes on as another one of the same
 -- leg, until the controller takes it.
-use Rattle.std.proofs.Common.{◌≡◌, ℕ, zero, suc, ◌+◌, ◌≤◌, ◌⊎◌, inl, inr, Bool, true, false, Option, Some, None, List, [], ◌∷◌, ◌++◌, refl, sym, ap, ◌∙◌, subst, arith}
+use Rattle.std.proofs.Common.{◌≡◌, ℕ, zero, suc, ◌+◌, ◌≤◌, ◌⊎◌, inl, inr, Bool, true, false, Option, Some, None, List, ◌∷◌, ◌++◌, refl, ap, arith}
 use Rattle.std.specs.Prelude.{if◌then◌else◌, ◌&&◌, ◌==◌}
 use Rattle.event_filter.specs.declared.mark.Mark.{Mark}
 use Rattle.event_filter.specs.declared.mark.Mark.TheVariants as mark
@@ -16,8 +16,9 @@ use Rattle.copy_share.specs.declared.share_phase.SharePhase.TheVariants as share
 use Rattle.copy_share.specs.Copy.{CopyPlan}
 use Rattle.copy_share.specs.Share.{SharePlan, home}
 use Rattle.ctrl_node.specs.declared.operation.Operation.{Operation}
-use Rattle.ctrl_node.specs.declared.operation.Operation.TheVariants.{Move, Copy, Share}
+use Rattle.ctrl_node.specs.declared.operation.Operation.TheVariants.{Copy, Share}
 use Rattle.actor_net.specs.Network.{reaches}
+use Rattle.answer_net.proofs.EndTables.{flag}
 use Rattle.net_ends.proofs.LinkWeights.{sends_weigh, sends_weigh-append}
 
 -- the legs of a copy's and a share's way
@@ -105,13 +106,10 @@ awaits (Some (Copy y)) leg node = in_copy y.plan leg y.phase node
 awaits (Some (Share s)) leg node = in_share s.plan leg s.phase node
 awaits o leg node = false
 
-abbrev pub if_one : Bool → ℕ
-if_one b = if b then 1 else 0
-
 -- what a message counts for the operation of a number
 abbrev pub counts : ℕ → Option Operation → Option Token → ℕ
 counts n o None = 0
-counts n o (Some t) = if_one (awaits o t.leg t.node && (t.op == n))
+counts n o (Some t) = flag (awaits o t.leg t.node && (t.op == n))
 
 abbrev pub weight : ℕ → Option Operation → ℕ → ℕ → Msg → ℕ
 weight n o s r m = counts n o (token_of s r m)
@@ -161,7 +159,3 @@ passes_weigh op x n k o sends (inr goes) =
     let one = ap (λ b. if b then weight op x k goes.to goes.message else 0) goes.reach in
     let same = ap (counts op x) goes.same in
     omega (arith, whole, both, one, same)
-
--- more sends weigh no less
-pub sends_more : (f : ℕ → ℕ → Msg → ℕ) (n k : ℕ) (xs ys : List (ℕ × Msg)) → sends_weigh f n k xs ≤ sends_weigh f n k (xs ++ ys)
-sends_more f n k xs ys = let both = sends_weigh-append f n k xs ys in omega (arith, both)

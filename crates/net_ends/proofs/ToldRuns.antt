@@ -1,6 +1,6 @@
 -- No command is lost in a run that may not be complete: each of the input waits still, or the log says that it began or was answered.
 use Rattle.std.proofs.Common.{◌≡◌, ℕ, zero, suc, ◌+◌, ◌≤◌, Bool, true, false, Option, Some, None, List, [], ◌∷◌, ◌++◌, length, refl, sym, ap, ◌∙◌, subst, arith}
-use Rattle.std.specs.Prelude.{if◌then◌else◌, ◌&&◌, ◌||◌, ◌==◌, not, nat_lt, find, is_some, option_map}
+use Rattle.std.specs.Prelude.{if◌then◌else◌, ◌&&◌, ◌||◌, ◌==◌, not, nat_lt, is_some, option_map}
 use Rattle.std.specs.List.{filter_map}
 use Rattle.std.specs.Option.{option_or}
 use Rattle.std.specs.declared.alloc.Global.{Global}
@@ -10,39 +10,33 @@ use Rattle.flow_filter.specs.declared.filter.Filter.{Filter}
 use Rattle.nf_function.specs.Records.{Laws as FunctionLaws}
 use Rattle.nf_function.specs.Semantics.{Semantics}
 use Rattle.nf_msgs.specs.declared.answer.Answer.{Answer}
-use Rattle.nf_msgs.specs.declared.answer.Answer.TheVariants.{Done, Unknown, Overlap}
+use Rattle.nf_msgs.specs.declared.answer.Answer.TheVariants.{Unknown, Overlap}
 use Rattle.nf_msgs.specs.declared.command.Order.{Order}
 use Rattle.nf_msgs.specs.declared.command.Order.TheVariants as order
 use Rattle.nf_msgs.specs.declared.msg.Msg.{Msg}
 use Rattle.nf_msgs.specs.declared.msg.Msg.TheVariants as msg
 use Rattle.nf_msgs.specs.declared.note.Note.{Note}
-use Rattle.nf_msgs.specs.declared.note.Note.TheVariants as note
 use Rattle.actor_net.specs.declared.choice.Choice.{Choice}
-use Rattle.actor_net.specs.Network.{Network, Stepped, IsRun, is_done, reaches, run, taken}
-use Rattle.actor_net.proofs.CompleteWorlds.{done_weight}
+use Rattle.actor_net.specs.Network.{Network, Stepped, IsRun, reaches, run, taken}
 use Rattle.actor_net.proofs.EnabledChoices.{at}
 use Rattle.actor_net.proofs.OpeningWorlds.{opening_weight}
-use Rattle.actor_net.proofs.RunInduction.{Taking, run_induction, run_world}
+use Rattle.actor_net.proofs.RunInduction.{Taking, run_induction}
 use Rattle.actor_net.proofs.StepOutcome.{Takes, taken_outcome}
-use Rattle.actor_net.proofs.WeightLaws.{weigh, total, sent_weight, total_after}
-use Rattle.ctrl_node.specs.declared.operation.Operation.{Operation}
-use Rattle.ctrl_node.specs.declared.operation.Operation.TheVariants.{Move, Copy, Share}
+use Rattle.actor_net.proofs.WeightLaws.{total, sent_weight, total_after}
 use Rattle.ctrl_node.specs.Controller as controller
 use Rattle.ctrl_node.specs.Controller.{ControllerState, Step, still, refusal, unknown_name, overlap, place_of, begins_between, copies_between, begins_share, begins, decided, on_asked, controller_step}
 use Rattle.switch_node.specs.Switch.{SwitchState, switch_step}
 use Rattle.net_world.specs.declared.config.Config.{Config}
 use Rattle.net_world.specs.declared.node.Node.{Node}
-use Rattle.net_world.specs.declared.node.Node.TheVariants.{Controller}
-use Rattle.net_world.specs.Commands.{began, has_answered, is_share, keeps_off, answers_of}
-use Rattle.net_world.specs.Input.{IsInput, are_unlike, commands, order_of, ends_last}
-use Rattle.net_world.specs.Nodes.{node_step, node_ready, node_ended}
+use Rattle.net_world.specs.Commands.{began, has_answered, is_share, keeps_off}
+use Rattle.net_world.specs.Input.{IsInput, are_unlike}
+use Rattle.net_world.specs.Nodes.{node_step, node_ready}
 use Rattle.net_world.specs.Start.{first_nodes, started}
 use Rattle.outline_net.proofs.FiltersApart.{and_l, and_r, is_whole}
 use Rattle.answer_net.proofs.BusyLemmas.{is_noted, has_answered-append}
-use Rattle.answer_net.proofs.BusyRuns.{Busy, same_controller, keeps_is, told_is, busy_next}
-use Rattle.answer_net.proofs.CommandPromises.{start_busy, run_busy}
-use Rattle.answer_net.proofs.EndRuns.{run_ends, all_settled}
-use Rattle.answer_net.proofs.EndTables.{flag, IsSettled}
+use Rattle.answer_net.proofs.BusyRuns.{Busy, keeps_is, busy_next}
+use Rattle.answer_net.proofs.CommandPromises.{start_busy}
+use Rattle.answer_net.proofs.EndTables.{flag}
 use Rattle.whole_joined.proofs.Given.{Given}
 use Rattle.whole_joined.proofs.Joined.{Label, Joined, count, node_of, is_built}
 use Rattle.whole_joined.proofs.BesideRuns.{its_takes, its_label}
@@ -204,15 +198,6 @@ module _ {F R : Type 0} (f : Semantics R) (g : Given) (n : ℕ) (count_is : n �
       by_node (suc (suc i)) takes labelled =
           let none = instance_told f g op p (suc (suc i)) m (omega arith) labelled in
           left (suc (suc i)) takes (omega (arith, none))
-
--- a command of the input
-pub listed : (op : ℕ) (items : List Msg) (what : Order) → order_of items op ≡ Some what → 1 ≤ weigh (told op) items
-listed op [] what is = cc
-listed op (msg.InCommand c ∷ items) what is = elim (c.op == op) as (λ b. option_map (λ x. x.what) (if b then Some c else find (λ x. x.op == op) (commands items)) ≡ Some what → 1 ≤ (if b then 1 else 0) + weigh (told op) items) [
-  | true ↦ λ here. omega arith
-  | false ↦ λ behind. (let rest = listed op items what behind in omega (arith, rest))
-] is
-listed op (m ∷ items) what is = let rest = listed op items what is in omega (arith, rest)
 
 module _ (F : Type 0) {R : Type 0} (f : Semantics R) (laws : FunctionLaws f) (alloc : Global) (c : Config) (items : List Msg) (is : IsInput f.kind c items) where
   abbrev start : Network (Node F R) Msg Note

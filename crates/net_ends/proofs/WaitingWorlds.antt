@@ -1,12 +1,9 @@
 -- Where no message is on a link no command waits for its answer at the switch: each that was taken is answered.
-use Rattle.std.proofs.Common.{◌≡◌, ℕ, zero, suc, ◌+◌, ◌<◌, ◌≤◌, Bool, true, false, Option, Some, None, List, [], ◌∷◌, ◌++◌, map, length, length-append, get_or, refl, sym, ap, ◌∙◌, subst, arith}
+use Rattle.std.proofs.Common.{◌≡◌, ℕ, suc, ◌+◌, ◌<◌, ◌≤◌, Bool, true, false, Option, Some, None, List, [], ◌∷◌, ◌++◌, map, length, length-append, refl, sym, ap, ◌∙◌, subst, arith}
 use Rattle.std.specs.Prelude.{if◌then◌else◌, ◌&&◌, ◌||◌, ◌==◌, not, is_some}
-use Rattle.std.specs.declared.alloc.Global.{Global}
 use Rattle.std.specs.FinMap as finite
 use Rattle.std.proofs.lemmas.Bool.Decides.{nat_tests}
-use Rattle.nf_function.specs.Records.{Laws as FunctionLaws}
 use Rattle.nf_function.specs.Semantics.{Semantics}
-use Rattle.nf_msgs.specs.declared.answer.Answer.TheVariants.{Done}
 use Rattle.nf_msgs.specs.declared.command.Command.{Command}
 use Rattle.nf_msgs.specs.declared.msg.Msg.{Msg}
 use Rattle.nf_msgs.specs.declared.msg.Msg.TheVariants as msg
@@ -25,7 +22,7 @@ use Rattle.net_world.specs.Commands.{began, has_answered, is_share, keeps_off, a
 use Rattle.net_world.specs.Input.{IsInput, IsRising, is_item, commands}
 use Rattle.outline_net.proofs.StateOutline.{all_each}
 use Rattle.whole_joined.proofs.Given.{Given}
-use Rattle.whole_joined.proofs.Joined.{Label, Joined, count}
+use Rattle.whole_joined.proofs.Joined.{Label, Joined}
 use Rattle.whole_joined.proofs.StartJoined.{given}
 use Rattle.answer_net.proofs.AnswerSends.{answering}
 use Rattle.answer_net.proofs.BusyLemmas.{is_noted}
@@ -33,7 +30,7 @@ use Rattle.answer_net.proofs.BusyRuns.{Busy, keeps_is, told_is}
 use Rattle.answer_net.proofs.EndTables.{flag}
 use Rattle.answer_net.proofs.ToldCommands.{told, Told}
 use Rattle.nf_net.proofs.SettleCounts.{answered_in, AllAnswered, answered_in-append, commands-append}
-use Rattle.nf_net.proofs.SettleSteps.{Counted, items_none}
+use Rattle.nf_net.proofs.SettleSteps.{Counted, each_map, items_none}
 use Rattle.net_ends.proofs.SilentLinks.{silent_total}
 use Rattle.net_ends.proofs.TokenRuns.{HasEnough}
 use Rattle.net_ends.proofs.AllEnded.{settled_share}
@@ -95,10 +92,6 @@ closed_answered false s false e h = absurd (omega (arith, h))
 all_counted : (ks : List Command) (log : List Note) → AllAnswered ks log → answered_in ks log ≡ length ks
 all_counted [] log h = refl
 all_counted (k ∷ ks) log h = let own = ap flag h.0 in let rest = all_counted ks log h.1 in omega (arith, own, rest)
-
-each_map : {X : Type 0} (P Q : X → Type 0) → ((x : X) → P x → Q x) → (xs : List X) → Each P xs → Each Q xs
-each_map P Q more [] h = tt
-each_map P Q more (x ∷ xs) h = (more x h.0, each_map P Q more xs h.1)
 
 module _ {F R : Type 0} (f : Semantics R) (c : Config) (items : List Msg) (is : IsInput f.kind c items) (n : ℕ) (count_is : n ≡ length c.names + 2) (w : Network (Node F R) Msg Note) (world : IsWorld w) (nodes : length w.nodes ≡ n) (j : Joined f (given f c items is) n w) (b : Busy (given f c items is) w) (enough : HasEnough f n w) (counted : Counted items w) (waits : Told items w) (silent : (s r : ℕ) → (r == 0) && (s == 0) ≡ false → waiting w (at r s) ≡ []) where
   abbrev g : Given
