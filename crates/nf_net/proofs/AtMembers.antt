@@ -1,8 +1,8 @@
 -- In every run, a packet that came when a share had its unit is processed at its member.
-use Rattle.std.proofs.Common.{◌≡◌, ℕ, suc, ◌+◌, ◌<◌, ◌≤◌, Bool, true, false, Some, List, [], ◌∷◌, ◌++◌, length, append_assoc, refl, sym, ap, ◌∙◌, arith}
+use Rattle.std.proofs.Common.{◌≡◌, ℕ, ◌+◌, ◌≤◌, Bool, true, false, Some, List, [], ◌∷◌, ◌++◌, length, append_assoc, refl, sym, ap, ◌∙◌, arith}
 use Rattle.std.specs.Prelude.{if◌then◌else◌, ◌==◌, is_some}
 use Rattle.std.specs.declared.alloc.Global.{Global}
-use Rattle.std.proofs.lemmas.Bool.Decides.{nat_tests, Decides-eqb}
+use Rattle.std.proofs.lemmas.Bool.Decides.{nat_tests}
 use Rattle.nf_function.specs.declared.output.Output.{Output}
 use Rattle.nf_function.specs.declared.unit.Unit as units
 use Rattle.nf_function.specs.Records.{Laws as FunctionLaws}
@@ -13,8 +13,7 @@ use Rattle.nf_msgs.specs.declared.note.Note.{Note}
 use Rattle.nf_msgs.specs.declared.note.Note.TheVariants as note
 use Rattle.nf_msgs.specs.Nodes.{instance_node}
 use Rattle.actor_net.specs.declared.choice.Choice.{Choice}
-use Rattle.actor_net.specs.Network.{Network, IsRun, run, waiting}
-use Rattle.actor_net.proofs.EnabledChoices.{at as at_node}
+use Rattle.actor_net.specs.Network.{Network, IsRun, run}
 use Rattle.share_machine.proofs.Share.{Ran}
 use Rattle.unit_machine.proofs.Stages as stages
 use Rattle.abstract_net.proofs.Shares.{ran_of}
@@ -22,7 +21,7 @@ use Rattle.net_world.specs.declared.config.Config.{Config}
 use Rattle.net_world.specs.declared.node.Node.{Node}
 use Rattle.net_world.specs.Commands.{times_installed}
 use Rattle.net_world.specs.Fold.{times, is_of}
-use Rattle.net_world.specs.Input.{IsRising, IsInput, packet_of}
+use Rattle.net_world.specs.Input.{IsInput, packet_of}
 use Rattle.net_world.specs.Log.{arrived, done, installed, those}
 use Rattle.net_world.specs.Nodes.{node_step, node_ready}
 use Rattle.net_world.specs.Places.{first_owner, members, member_for, unit_numbered, AreAtMembers}
@@ -34,31 +33,16 @@ use Rattle.whole_joined.proofs.OperationsApart.{AllApart}
 use Rattle.whole_joined.proofs.RunsJoined.{Runs, run_beside, times-append, same_times}
 use Rattle.whole_joined.proofs.StartJoined.{given}
 use Rattle.whole_net.proofs.Fronts.{ran_more}
-use Rattle.answer_net.proofs.ArrivalLemmas.{numbers, runs_joined}
+use Rattle.answer_net.proofs.ArrivalLemmas.{arrivals_run}
 use Rattle.answer_net.proofs.BusyRuns.{Busy}
 use Rattle.answer_net.proofs.CommandPromises.{run_busy}
 use Rattle.answer_net.proofs.InstallRuns.{Installs, run_installs}
+use Rattle.path_net.proofs.PathPromises.{came_once}
 use Rattle.nf_net.proofs.MemberLemmas.{IsSharedBy, shared_by, members_diverted, Installed_in, installed_in, times_there}
 use Rattle.nf_net.proofs.MembersServed.{Done_at, done_at}
 use Rattle.nf_net.proofs.NumberedUnits.{units_fit}
 use Rattle.nf_net.proofs.RunKeeps.{start, count}
 use Rattle.nf_net.proofs.UnitShares.{IsOpenShare, open_installed, member_is}
-
--- A number that stands in rising ones stands there once.
-times_low : (p least : ℕ) (ks : List ℕ) → p < least → IsRising least ks → times p ks ≡ 0
-times_low p least [] less h = refl
-times_low p least (k ∷ ks) less h =
-    let first = h.0 in
-    let off : (p == k) ≡ false = grind (arith, nat_tests, less, first) in
-    let rest = times_low p (suc k) ks (omega (arith, less, first)) h.1 in
-    rw off (omega (arith, rest))
-
-pub times_once : (p least : ℕ) (ks : List ℕ) → IsRising least ks → times p ks ≤ 1
-times_once p least [] h = omega arith
-times_once p least (k ∷ ks) h = elim (p == k) as (λ b. (p == k) ≡ b → (if b then 1 else 0) + times p ks ≤ 1) [
-  | true ↦ λ on. (let same = (Decides-eqb p k).0 on in let rest = times_low p (suc k) ks (omega (arith, same)) h.1 in omega (arith, rest))
-  | false ↦ λ off. (let rest = times_once p (suc k) ks h.1 in omega (arith, rest))
-] refl
 
 pub times_those : (mine : ℕ → Bool) (p : ℕ) (qs : List ℕ) → times p (those mine qs) ≤ times p qs
 times_those mine p [] = omega arith
@@ -139,16 +123,7 @@ module _ (F : Type 0) {R : Type 0} (f : Semantics R) (laws : FunctionLaws f) (al
   abbrev first : Network (Node F R) Msg Note
   first = start F f laws alloc c items is
 
-  -- each packet comes once
-  came_once : (cs : List Choice) → IsRun node_ready (node_step f) cs first → (p : ℕ) → times p (arrived (run (node_step f) cs first).log) ≤ 1
-  came_once cs run_is p =
-      let turn = (runs_joined F f laws alloc c items is cs run_is).in_turn in
-      let both = ap (times p) turn in
-      let two = times-append p (arrived (run (node_step f) cs first).log) (numbers (waiting (run (node_step f) cs first) (at_node 0 0))) in
-      let one = times_once p 0 (numbers items) is.numbers in
-      omega (arith, both, two, one)
-
   pub at_members : (cs : List Choice) → IsRun node_ready (node_step f) cs first → AreAtMembers c items f.kind (run (node_step f) cs first).log
   at_members cs run_is before between after number instance output names whole shared =
       let r : Runs F f laws alloc c items is (run (node_step f) cs first) = run_beside F f laws alloc c items is cs run_is in
-      its_member f c items is (count F f laws alloc c items is) refl (run (node_step f) cs first) r.joined r.beside.kept.apart (run_busy F f laws alloc c items is cs run_is).1 (run_installs F f laws alloc c items is cs run_is) (came_once cs run_is) before between after number instance output names whole shared
+      its_member f c items is (count F f laws alloc c items is) refl (run (node_step f) cs first) r.joined r.beside.kept.apart (run_busy F f laws alloc c items is cs run_is).1 (run_installs F f laws alloc c items is cs run_is) (came_once f c items is (run (node_step f) cs first) (arrivals_run F f laws alloc c items is cs run_is)) before between after number instance output names whole shared

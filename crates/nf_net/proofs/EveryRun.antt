@@ -32,17 +32,17 @@ use Rattle.path_net.proofs.RecordPromises.{one_place}
 use Rattle.answer_net.proofs.CommandPromises.{run_answers, no_rules}
 use Rattle.nf_net.proofs.JudgedRuns.{verdicts}
 use Rattle.answer_net.proofs.MovesUnderWay.{moves_under_way}
-use Rattle.path_net.proofs.DivertedRuns.{run_diverted}
 use Rattle.path_net.proofs.PathPromises.{in_place, each_in_place, came_once}
 use Rattle.nf_net.proofs.PlaceRuns.{places}
 use Rattle.nf_net.proofs.RecordStands.{records_stand}
 use Rattle.nf_net.proofs.SettleRuns.{settles}
+use Rattle.nf_net.proofs.SharedHomes.{run_homes}
 use Rattle.nf_net.proofs.SourceRuns.{stays_at_source}
 use Rattle.nf_net.proofs.StandbyRuns.{standbys}
 use Rattle.nf_net.proofs.WindowRuns.{window_kept, all_home}
 use Rattle.whole_joined.proofs.StartJoined.{count_at_start}
 use Rattle.actor_net.proofs.RunInduction.{run_world}
-use Rattle.whole_joined.proofs.RunsJoined.{run_joined, start_world, in_order, once}
+use Rattle.whole_joined.proofs.RunsJoined.{run_beside, start_world, in_order, once}
 
 module _ (F : Type 0) {R : Type 0} (f : Semantics R) (laws : FunctionLaws f) (alloc : Global) (c : Config) (items : List Msg) (is : IsInput f.kind c items) (cs : List Choice) where
   abbrev w : Network (Node F R) Msg Note
@@ -50,11 +50,11 @@ module _ (F : Type 0) {R : Type 0} (f : Semantics R) (laws : FunctionLaws f) (al
 
   pub every_run : IsRun node_ready (node_step f) cs (started {F = F} {R = R} alloc c items) → Promises f c items w
   every_run runs =
-      let j = run_joined F f laws alloc c items is cs runs in
+      let j = (run_beside F f laws alloc c items is cs runs).joined in
       let reached = run_world node_ready (node_step f) (length c.names + 2) (started {F = F} {R = R} alloc c items) (start_world F f laws alloc c items is) (count_at_start F f alloc c items is) cs runs in
       let counted = reached.1 in
       let turn = arrivals_run F f laws alloc c items is cs runs in
-      let told = run_diverted F f laws alloc c items is cs runs in
+      let told = run_homes F f laws alloc c items is cs runs in
       record {
         in_turn = turn;
         in_order = in_order f c items is (length c.names + 2) w j;

@@ -34,6 +34,7 @@ pub mod SettleKeeps
 pub mod SettleRuns
 pub mod SettleSteps
 pub mod ShareAsks
+pub mod SharedHomes
 pub mod SourceRuns
 pub mod SourceSteps
 pub mod StandbyFronts

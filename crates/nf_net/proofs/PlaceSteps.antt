@@ -2,7 +2,6 @@
 use Rattle.std.proofs.Common.{◌≡◌, ℕ, suc, ◌+◌, ◌⊎◌, inl, inr, true, false, Option, Some, None, List, [], ◌∷◌, ◌++◌, length, refl, sym, ap, ◌∙◌, subst, arith}
 use Rattle.std.specs.Prelude.{◌&&◌, ◌==◌}
 use Rattle.std.specs.List.{filter_map}
-use Rattle.std.specs.Option.{option_map_or}
 use Rattle.std.specs.FinMap as finite
 use Rattle.std.proofs.lemmas.Bool.Decides.{nat_tests}
 use Rattle.nf_function.specs.Records.{Laws as FunctionLaws}
@@ -32,8 +31,8 @@ use Rattle.whole_net.proofs.PlacesAll.{ran_by}
 use Rattle.whole_net.proofs.Readings.{Its_share}
 use Rattle.net_world.specs.declared.config.Config.{Config}
 use Rattle.net_world.specs.declared.node.Node.{Node}
-use Rattle.net_world.specs.Input.{packet_of, IsInput}
-use Rattle.net_world.specs.Places.{owner, members, member_for, unit_numbered, IsMoving, IsPlace, Owns, Is_source, Is_destination, Is_member}
+use Rattle.net_world.specs.Input.{IsInput}
+use Rattle.net_world.specs.Places.{owner, members, unit_numbered, IsMoving, IsPlace, Owns, Is_source, Is_destination, Is_member}
 use Rattle.outline_net.proofs.FiltersApart.{is_whole, unit_fits, takes_whole, and_r}
 use Rattle.outline_net.proofs.Outline.{ran_in, is_sys, outline_instance}
 use Rattle.outline_net.proofs.ControlOutline.{Sees}
@@ -50,10 +49,11 @@ use Rattle.answer_net.proofs.BusyRuns.{Busy}
 use Rattle.answer_net.proofs.InstallRuns.{Installs}
 use Rattle.answer_net.proofs.MovesUnderWay.{AreUnderWay}
 use Rattle.nf_net.proofs.InstalledShares.{SaysOfShares}
-use Rattle.nf_net.proofs.MemberLemmas.{IsThere, There}
+use Rattle.nf_net.proofs.MemberLemmas.{IsThere}
 use Rattle.nf_net.proofs.MembersServed.{Processes_one, By_move, By_home, By_member, processes_one}
 use Rattle.nf_net.proofs.NumberedUnits.{units_fit, Ran_there, ran_there}
-use Rattle.nf_net.proofs.UnitShares.{share_of_unit, home_is, member_is, diverted_members, owner_goes}
+use Rattle.nf_net.proofs.SharedHomes.{home_owns, member_goes}
+use Rattle.nf_net.proofs.UnitShares.{diverted_members, owner_goes}
 
 module _ {F R : Type 0} (f : Semantics R) (laws : FunctionLaws f) (c : Config) (items : List Msg) (is : IsInput f.kind c items) (n : ℕ) (w : Network (Node F R) Msg Note) (j : Joined f (given f c items is) n w) (busy : AreUnderWay f c items is n w j) where
   abbrev gm : Given
@@ -121,22 +121,9 @@ module _ {F R : Type 0} (f : Semantics R) (laws : FunctionLaws f) (c : Config) (
     by_may (At_destination k e there taken at) = let m = open_at f laws c items is n w j busy unit k e there taken in Is_destination m.source m.destination m.moving (m.to_is ∙ ap Some (node_same m.to i e.op.dst (sym m.dst) (sym at)))
 
     -- the share of the unit by the log
-    module _ (e : Open_share) (its : Its_share (S f g) (A f g) (is_sys f g.site g.packet) unit j.world e) (names : List (List ℕ)) (shared : members c items unit w.log ≡ Some names) where
-      at_home : instance_node i ≡ e.home → IsPlace c items f.kind number w.log i
-      at_home at =
-          let r = share_of_unit f c items is n count_is w j apart b unit fits h names shared in
-          let home : e.home ≡ instance_node (owner c items unit w.log) = home_is f c items is n count_is w j apart b unit fits r.op names r.filter r.open_is r.takes_it e its (owner c items unit w.log) (says.homes unit fits names shared) in
-          Owns (node_same i (owner c items unit w.log) e.home at home)
-
-      at_member : instance_node i ≡ (A f g).member e.members number → IsPlace c items f.kind number w.log i
-      at_member at =
-          let r = share_of_unit f c items is n count_is w j apart b unit fits h names shared in
-          let member : member_for c items names (packet_of items number) ≡ Some i = member_is f c items is n count_is w j apart b unit fits r.op names r.filter r.open_is r.takes_it e its number i (sym at) in
-          Is_member (ap (λ o. option_map_or (λ ns. member_for c items ns (packet_of items number)) o (Some (owner c items unit w.log))) shared ∙ member)
-
     by_there : (e : Open_share) → Its_share (S f g) (A f g) (is_sys f g.site g.packet) unit j.world e → (instance_node i ≡ e.home) ⊎ (instance_node i ≡ (A f g).member e.members number) → IsThere (members c items unit w.log) → IsPlace c items f.kind number w.log i
-    by_there e its (inl at) (There names shared) = at_home e its names shared at
-    by_there e its (inr at) (There names shared) = at_member e its names shared at
+    by_there e its (inl at) there = Owns (node_same i (owner c items unit w.log) e.home at (home_owns f c items is n count_is w j apart b h says unit fits e its there))
+    by_there e its (inr at) there = Is_member (member_goes f c items is n count_is w j apart b h says unit fits e its number i refl (sym at) there)
 
     by_one : Processes_one (S f g) (A f g) (is_sys f g.site g.packet) unit j.world (instance_node i) number → IsPlace c items f.kind number w.log i
     by_one (By_move may) = by_may may

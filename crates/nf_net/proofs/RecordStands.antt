@@ -14,8 +14,6 @@ use Rattle.nf_msgs.specs.declared.msg.Msg.{Msg}
 use Rattle.nf_msgs.specs.declared.note.Note.{Note}
 use Rattle.nf_msgs.specs.Nodes.{controller_node, instance_node}
 use Rattle.record_table.specs.Table.{is_among}
-use Rattle.nf_msgs.specs.declared.command.Order.TheVariants as order
-use Rattle.ctrl_node.specs.declared.operation.Operation.TheVariants.{Share}
 use Rattle.actor_net.specs.declared.choice.Choice.{Choice}
 use Rattle.actor_net.specs.Network.{Network, IsWorld, IsRun, on_link, run}
 use Rattle.actor_net.proofs.RunInduction.{run_world}
@@ -51,18 +49,21 @@ use Rattle.net_world.specs.Records as records
 use Rattle.net_world.specs.Records.{live_in, live_at, given_in, removed_by, is_to_remove, IsNowhereLive, IsLiveAt, HasOneRecord}
 use Rattle.path_net.proofs.ChunkPlaces.{link_spelled, none_on_way, one_on_way}
 use Rattle.answer_net.proofs.ArrivalLemmas.{arrivals_run}
-use Rattle.answer_net.proofs.BusyRuns.{open_began}
-use Rattle.answer_net.proofs.CommandPromises.{run_busy, run_answers}
+use Rattle.answer_net.proofs.BusyRuns.{Busy}
+use Rattle.answer_net.proofs.CommandPromises.{run_busy}
+use Rattle.answer_net.proofs.InstallRuns.{Installs, run_installs}
+use Rattle.path_net.proofs.SharedOwners.{HomesOwn}
+use Rattle.whole_joined.proofs.OperationsApart.{AllApart}
 use Rattle.nf_net.proofs.FoldLemmas.{fold_is}
 use Rattle.outline_net.proofs.Outline.{is_sys}
 use Rattle.path_net.proofs.SeatPaths.{IsOwned, by_came}
-use Rattle.path_net.proofs.DivertedRuns.{HasDiverted, run_diverted}
 use Rattle.path_net.proofs.PathSeats.{AsMoves, Seated, seated, HasSides, Are_there, Rests, found_instance}
 use Rattle.path_net.proofs.RecordPromises.{one_place}
 use Rattle.path_net.proofs.SharedChunks.{none_on_way as none_shared}
-use Rattle.path_net.proofs.SharedOwners.{KnownNames, diverts_so, goes_so}
+use Rattle.nf_net.proofs.InstalledShares.{SaysOfShares, says_of_shares}
+use Rattle.nf_net.proofs.SharedHomes.{goes_so, homes_own}
 use Rattle.path_net.proofs.SharedRecords.{HasShared, Saw_all, Is_behind, alone, has_shared}
-use Rattle.whole_joined.proofs.RunsJoined.{run_joined, start_world, done_same}
+use Rattle.whole_joined.proofs.RunsJoined.{run_beside, start_world, done_same}
 use Rattle.whole_joined.proofs.StartJoined.{given, count_at_start}
 use Rattle.whole_joined.proofs.Given.{Given}
 use Rattle.whole_joined.proofs.Joined.{S, A, came_by, Joined}
@@ -243,9 +244,13 @@ module _ {F R : Type 0} (f : Semantics R) (c : Config) (items : List Msg) (is : 
       by_kept (On_way r some live way) = by_sides r some way (λ src dst. records.Is_on_way r (sym fold_same ∙ some) (nowhere live) (one_way r src dst way)) k.ends
       by_kept (Twice r some at_a live way) = by_sides r some way (λ src dst. records.Is_given (k.op.src - 2) r (sym fold_same ∙ some) (at_source r src at_a) (one_way r src dst way) (to_remove r src (still_to_remove (S f g).F k.seat r r [] at_a way))) k.ends
 
-module _ {F R : Type 0} (f : Semantics R) (c : Config) (items : List Msg) (is : IsInput f.kind c items) (n : ℕ) (count : n ≡ length c.names + 2) (w : Network (Node F R) Msg Note) (nodes : length w.nodes ≡ n) (j : Joined f (given f c items is) n w) (world : IsWorld w) (in_turn : IsFront (arrived w.log) (map (λ p. p.number) (packets items))) (told : HasDiverted f (given f c items is) w) (known : KnownNames f c items is n count w j) (u : units.Unit) where
+module _ {F R : Type 0} (f : Semantics R) (c : Config) (items : List Msg) (is : IsInput f.kind c items) (n : ℕ) (count : n ≡ length c.names + 2) (w : Network (Node F R) Msg Note) (nodes : length w.nodes ≡ n) (j : Joined f (given f c items is) n w) (world : IsWorld w) (in_turn : IsFront (arrived w.log) (map (λ p. p.number) (packets items))) (unmixed : AllApart j.nodes.controller.operations) (b : Busy (given f c items is) w) (h : Installs (given f c items is) w) (says : SaysOfShares f c items w.log) (u : units.Unit) where
   abbrev gr : Given
   gr = given f c items is
+
+  -- by the log
+  told : HomesOwn f c items is n count w j
+  told = homes_own f c items is n count w j unmixed b h says
 
   abbrev all : List ℕ
   all = went f c items u w.log
@@ -280,18 +285,18 @@ module _ {F R : Type 0} (f : Semantics R) (c : Config) (items : List Msg) (is : 
 
     shared_stands : HasShared f c items is n count w nodes j world told u x before since k → HasRecord f c items w u
     shared_stands (Saw_all live) = record { seen = all; has_seen = Sees_all refl; one = one_there (fold f c items None all) (live ∙ sym (folded all)) }
-    shared_stands (Is_behind b) = record {
-      seen = b.seen;
+    shared_stands (Is_behind y) = record {
+      seen = y.seen;
       has_seen = Lacks_last (record {
-        last = b.last;
-        went_is = b.last_is;
-        member = b.member;
-        member_is = goes_so f c items is n count w j u x before since k told (diverts_so f c items is n count w j u x before since k b.diverts) known b.last b.its b.member b.member_is;
-        other = b.other;
-        stands_by = b.stands_by ∙ sym (folded all);
-        on_its_way = b.on_its_way;
+        last = y.last;
+        went_is = y.last_is;
+        member = y.member;
+        member_is = goes_so f c items is n count w j unmixed b h says u x before since k y.diverts y.last y.its y.member y.member_is;
+        other = y.other;
+        stands_by = y.stands_by ∙ sym (folded all);
+        on_its_way = y.on_its_way;
       });
-      one = one_there (fold f c items None b.seen) (b.live ∙ sym (folded b.seen));
+      one = one_there (fold f c items None y.seen) (y.live ∙ sym (folded y.seen));
     }
 
   pub record_stands : HasRecord f c items w u
@@ -311,9 +316,6 @@ module _ (F : Type 0) {R : Type 0} (f : Semantics R) (laws : FunctionLaws f) (al
 
   pub records_stand : (u : units.Unit) → HasRecord f c items w u
   records_stand u =
-      let j = run_joined F f laws alloc c items is cs runs in
+      let r = run_beside F f laws alloc c items is cs runs in
       let reached = run_world node_ready (node_step f) n (started {F = F} {R = R} alloc c items) (start_world F f laws alloc c items is) (count_at_start F f alloc c items is) cs runs in
-      let busy = (run_busy F f laws alloc c items is cs runs).1 in
-      let answers = run_answers F f laws alloc c items is cs runs in
-      record_stands f c items is n refl w reached.1 j reached.0 (arrivals_run F f laws alloc c items is cs runs) (run_diverted F f laws alloc c items is cs runs)
-      (λ op s names there order_so. (answers.begins op (order.Share names s.plan.filter) order_so (open_began f (given f c items is) n refl w j busy op (Share s) there)).known) u
+      record_stands f c items is n refl w reached.1 r.joined reached.0 (arrivals_run F f laws alloc c items is cs runs) r.beside.kept.apart (run_busy F f laws alloc c items is cs runs).1 (run_installs F f laws alloc c items is cs runs) (says_of_shares F f laws alloc c items is cs runs) u

@@ -51,7 +51,8 @@ use Rattle.whole_joined.proofs.OwnerLemmas.{Stands, In_first, In_second, stands}
 use Rattle.whole_joined.proofs.PlaceNotes.{switch_unprocessed, controller_uninstalled}
 use Rattle.whole_joined.proofs.RunsJoined.{once, times-append}
 use Rattle.whole_joined.proofs.StartJoined.{given, all_fit, all_labelled, count_at_start}
-use Rattle.nf_net.proofs.AtMembers.{times_once, times_those}
+use Rattle.path_net.proofs.PathPromises.{rising_once}
+use Rattle.nf_net.proofs.AtMembers.{times_those}
 use Rattle.nf_net.proofs.PlaceRuns.{processed_off, uninstalled_unprocessed}
 use Rattle.nf_net.proofs.RunKeeps.{start, count, run_keeps}
 use Rattle.nf_net.proofs.SettleCounts.{AllAnswered, answered_in, all_answered_more, packets-append, longer_end}
@@ -162,7 +163,7 @@ module _ (F : Type 0) {R : Type 0} (f : Semantics R) (laws : FunctionLaws f) (al
         let ends = longer_end counted.took (waiting w (at 0 0)) front (msg.InSettle ∷ behind) (sym counted.whole ∙ whole) (omega (arith, more)) in
         let all : times p (numbers (waiting w (at 0 0))) ≡ times p (numbers ends.0) + times p (numbers behind) = ap (λ ms. times p (numbers ms)) ends.1 ∙ ap (λ ps. times p (map (λ q. q.number) ps)) (packets-append ends.0 (msg.InSettle ∷ behind)) ∙ ap (times p) (map-append (λ q. q.number) (packets ends.0) (packets behind)) ∙ times-append p (numbers ends.0) (numbers behind) in
         let turn = ap (times p) (sym in_turn) ∙ times-append p (arrived w.log) (numbers (waiting w (at 0 0))) in
-        let one = times_once p 0 (numbers items) is.numbers in
+        let one = rising_once p 0 (numbers items) is.numbers in
         let some = has_times p (packets behind) has in
         absurd (omega (arith, all, turn, one, some, came))
     | false ↦ λ off. grind (arith, nat_tests, off)

@@ -2,8 +2,6 @@ pub mod ChunkLemmas
 pub mod ChunkLinks
 pub mod ChunkPlaces
 pub mod ChunkSums
-pub mod DivertedRuns
-pub mod DivertedUnits
 pub mod PathLinks
 pub mod PathNodes
 pub mod PathPlaces
@@ -20,4 +18,3 @@ pub mod SharedPaths
 pub mod SharedPlaces
 pub mod SharedRecords
 pub mod SharedStages
-pub mod SharesStay

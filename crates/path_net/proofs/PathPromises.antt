@@ -22,9 +22,9 @@ use Rattle.whole_joined.proofs.Given.{Given}
 use Rattle.whole_joined.proofs.Joined.{S, A, came_by, Joined}
 use Rattle.whole_joined.proofs.RunsJoined.{times-append, same_times}
 use Rattle.whole_joined.proofs.StartJoined.{given}
-use Rattle.path_net.proofs.DivertedRuns.{HasDiverted}
 use Rattle.path_net.proofs.PathSeats.{seated}
 use Rattle.path_net.proofs.SeatPaths as seats
+use Rattle.path_net.proofs.SharedOwners.{HomesOwn}
 use Rattle.path_net.proofs.SharedPaths as shares
 
 -- no number stands twice where numbers rise
@@ -36,7 +36,7 @@ rising_above p least (n ∷ ns) h low =
     let rest = rising_above p (suc n) ns h.1 (omega (arith, low, least_n)) in
     rw (off, rest) refl
 
-rising_once : (p least : ℕ) (ns : List ℕ) → IsRising least ns → times p ns ≤ 1
+pub rising_once : (p least : ℕ) (ns : List ℕ) → IsRising least ns → times p ns ≤ 1
 rising_once p least [] h = omega arith
 rising_once p least (n ∷ ns) h = elim (p == n) as (λ b. (p == n) ≡ b → (if b then 1 else 0) + times p ns ≤ 1) [
   | true ↦ λ e. (let same : p ≡ n = (Decides-eqb p n).0 e in let rest = rising_above p (suc n) ns h.1 (omega (arith, same)) in omega (arith, rest))
@@ -50,7 +50,7 @@ came_once f c items is w in_turn p =
     let both = times-append p (arrived w.log) in_turn.rest in
     omega (arith, one, whole, both)
 
-module _ {F R : Type 0} (f : Semantics R) (c : Config) (items : List Msg) (is : IsInput f.kind c items) (n : ℕ) (count : n ≡ length c.names + 2) (w : Network (Node F R) Msg Note) (nodes : length w.nodes ≡ n) (j : Joined f (given f c items is) n w) (world : IsWorld w) (in_turn : IsFront (arrived w.log) (map (λ p. p.number) (packets items))) (told : HasDiverted f (given f c items is) w) (u : units.Unit) where
+module _ {F R : Type 0} (f : Semantics R) (c : Config) (items : List Msg) (is : IsInput f.kind c items) (n : ℕ) (count : n ≡ length c.names + 2) (w : Network (Node F R) Msg Note) (nodes : length w.nodes ≡ n) (j : Joined f (given f c items is) n w) (world : IsWorld w) (in_turn : IsFront (arrived w.log) (map (λ p. p.number) (packets items))) (told : HomesOwn f c items is n count w j) (u : units.Unit) where
   abbrev g : Given
   g = given f c items is
 

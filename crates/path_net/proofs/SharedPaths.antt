@@ -25,13 +25,12 @@ use Rattle.whole_joined.proofs.Given.{Given}
 use Rattle.whole_joined.proofs.Joined.{S, A, Joined}
 use Rattle.whole_joined.proofs.RunsJoined.{done_same}
 use Rattle.whole_joined.proofs.StartJoined.{given}
-use Rattle.path_net.proofs.DivertedRuns.{HasDiverted}
 use Rattle.path_net.proofs.PathSums.{those-but, but_none}
 use Rattle.path_net.proofs.SeatPaths.{those-places}
-use Rattle.path_net.proofs.SharedOwners.{home_owner, members_few}
+use Rattle.path_net.proofs.SharedOwners.{HomesOwn, members_few}
 use Rattle.path_net.proofs.SharedPlaces.{fr, v, its_places, passed_are, forwards_are, diverts_are, events_are, store_is, queue_is, stands_is}
 
-module _ {F R : Type 0} (f : Semantics R) (c : Config) (items : List Msg) (is : IsInput f.kind c items) (n : ℕ) (count : n ≡ length c.names + 2) (w : Network (Node F R) Msg Note) (nodes : length w.nodes ≡ n) (j : Joined f (given f c items is) n w) (world : IsWorld w) (told : HasDiverted f (given f c items is) w) (u : units.Unit) (x : Want_share) (before since : List ℕ) (k : Under (S f (given f c items is)) (A f (given f c items is)) (seeing (S f (given f c items is)) (A f (given f c items is)) u x) j.world before since) where
+module _ {F R : Type 0} (f : Semantics R) (c : Config) (items : List Msg) (is : IsInput f.kind c items) (n : ℕ) (count : n ≡ length c.names + 2) (w : Network (Node F R) Msg Note) (nodes : length w.nodes ≡ n) (j : Joined f (given f c items is) n w) (world : IsWorld w) (told : HomesOwn f c items is n count w j) (u : units.Unit) (x : Want_share) (before since : List ℕ) (k : Under (S f (given f c items is)) (A f (given f c items is)) (seeing (S f (given f c items is)) (A f (given f c items is)) u x) j.world before since) where
   abbrev g : Given
   g = given f c items is
 
@@ -42,7 +41,7 @@ module _ {F R : Type 0} (f : Semantics R) (c : Config) (items : List Msg) (is : 
   i0 = owner c items u w.log
 
   home_is : instance_node i0 ≡ x.home
-  home_is = home_owner f c items is n count w j u x before since k told
+  home_is = told u x before since k
 
   few_of : (i : ℕ) → i < length c.names → instance_node i < n
   few_of i small = omega (arith, small, count)

@@ -35,10 +35,9 @@ use Rattle.whole_joined.proofs.Given.{Given}
 use Rattle.whole_joined.proofs.Joined.{S, A, Joined}
 use Rattle.whole_joined.proofs.RunsJoined.{done_same}
 use Rattle.whole_joined.proofs.StartJoined.{given}
-use Rattle.path_net.proofs.DivertedRuns.{HasDiverted}
 use Rattle.path_net.proofs.PathSeats.{found_instance}
 use Rattle.path_net.proofs.SharedChunks.{or_left, or_right, given_on, taken_on}
-use Rattle.path_net.proofs.SharedOwners.{home_owner, members_few}
+use Rattle.path_net.proofs.SharedOwners.{HomesOwn, members_few}
 use Rattle.path_net.proofs.SharedStages.{Comes, From_member, To_home, Ahead, Sees, Sees_all, Is_ahead, sees}
 
 -- the last of those that were done of a unit is the unit's
@@ -54,7 +53,7 @@ last_mine f g u (x ∷ ds) xs d e = elim (same_unit ((S f g).unit_of x.0) u) as 
     by_front on later [] q = let same_one : x ≡ d = cc in ap (λ y. same_unit ((S f g).unit_of y.0) u) (sym same_one) ∙ on
     by_front on later (y ∷ ys) q = let rest : ran_of (S f g) (A f g) u ds ≡ ys ++ d ∷ [] = cc in later ys rest
 
-module _ {F R : Type 0} (f : Semantics R) (c : Config) (items : List Msg) (is : IsInput f.kind c items) (n : ℕ) (count : n ≡ length c.names + 2) (w : Network (Node F R) Msg Note) (nodes : length w.nodes ≡ n) (j : Joined f (given f c items is) n w) (world : IsWorld w) (told : HasDiverted f (given f c items is) w) (u : units.Unit) (x : Want_share) (before since : List ℕ) (k : Under (S f (given f c items is)) (A f (given f c items is)) (seeing (S f (given f c items is)) (A f (given f c items is)) u x) j.world before since) where
+module _ {F R : Type 0} (f : Semantics R) (c : Config) (items : List Msg) (is : IsInput f.kind c items) (n : ℕ) (count : n ≡ length c.names + 2) (w : Network (Node F R) Msg Note) (nodes : length w.nodes ≡ n) (j : Joined f (given f c items is) n w) (world : IsWorld w) (told : HomesOwn f c items is n count w j) (u : units.Unit) (x : Want_share) (before since : List ℕ) (k : Under (S f (given f c items is)) (A f (given f c items is)) (seeing (S f (given f c items is)) (A f (given f c items is)) u x) j.world before since) where
   abbrev g : Given
   g = given f c items is
 
@@ -72,7 +71,7 @@ module _ {F R : Type 0} (f : Semantics R) (c : Config) (items : List Msg) (is : 
   i0 = owner c items u w.log
 
   home_is : instance_node i0 ≡ x.home
-  home_is = home_owner f c items is n count w j u x before since k told
+  home_is = told u x before since k
 
   few : (m : ℕ) → has x.members m ≡ true → m < n
   few m inside = members_few f c items is n count w j (as_share (S f g) (A f g) z v.phase v.queue) k.holds.share m inside
