@@ -1,5 +1,5 @@
 -- A run of an input that ends once has few choices, and as long as something is left to do some choice is enabled. So a schedule comes to the end.
-use Rattle.std.proofs.Common.{◌≡◌, ℕ, ◌+◌, ◌<◌, ◌≤◌, true, false, List, length, refl, sym, ap, subst, ◌∙◌, arith}
+use Rattle.std.proofs.Common.{◌≡◌, ℕ, ◌≤◌, true, List, length, sym, subst, arith}
 use Rattle.std.specs.declared.alloc.Global.{Global}
 use Rattle.std.proofs.lemmas.Bool.Decides.{Decides-eqb}
 use Rattle.nf_function.specs.Records.{Laws as FunctionLaws}
@@ -7,11 +7,13 @@ use Rattle.nf_function.specs.Semantics.{Semantics}
 use Rattle.nf_msgs.specs.declared.msg.Msg.{Msg}
 use Rattle.actor_net.specs.declared.schedule.Schedule.{Schedule}
 use Rattle.actor_net.specs.declared.schedule.TheConstants.{MOST_CHOICES}
+use Rattle.actor_net.specs.Network.{run}
+use Rattle.actor_net.specs.Schedules.{StopsShort}
 use Rattle.actor_net.proofs.ScheduleLaws.{scheduled_is_run}
 use Rattle.net_length.specs.Length.{ends, has_end, IsShort}
 use Rattle.net_length.proofs.RunLength.{run_length}
 use Rattle.net_length.proofs.ShortRuns.{short_runs}
-use Rattle.net_ends.proofs.NoStuckWorld.{no_stuck_world, short_is_long}
+use Rattle.net_ends.proofs.NoStuckWorld.{no_stuck_world, never_short}
 use Rattle.net_world.specs.declared.config.Config.{Config}
 use Rattle.net_world.specs.Input.{IsInput}
 use Rattle.net_world.specs.Nodes.{node_ended, node_ready, node_step}
@@ -35,7 +37,4 @@ module _ (F : Type 0) {R : Type 0} (f : Semantics R) (laws : FunctionLaws f) whe
   never_stops alloc config items is short schedule step stops =
       let first = started {F = F} {R = R} alloc config items in
       let runs = scheduled_is_run node_ready node_ended (node_step f) MOST_CHOICES schedule first in
-      let few = short_runs F f laws alloc config items is short (chosen f first schedule) runs in
-      let most = short_is_long F f laws alloc config items is (some_end items short.ended) (chosen f first schedule) runs step stops.short in
-      let count = stops.count in
-      absurd (omega (arith, few, count, most))
+      never_short F f laws alloc config items is short (chosen f first schedule) runs (subst (λ k. StopsShort node_ready node_ended (run (node_step f) (chosen f first schedule) first) k) (sym stops.count) stops.short)

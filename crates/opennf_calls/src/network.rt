@@ -24,7 +24,7 @@ use nf_msgs::Msg;
 use nf_net::simulate;
 use run_input::{Setting, input_of};
 use run_report::{Head, audit, report};
-use std::alloc::Global;
+use std::alloc::{AllocError, Global};
 use std::sync::Wait;
 use std::thread::Threads;
 use trace_reader::Trace;
@@ -124,7 +124,7 @@ fn schedule_network<F: Function>(
     let (world, choices) = match simulate::<F>(alloc, &config, items, schedule) {
         Ok(run) => run,
         Err(ScheduleFault::Unfinished { .. }) => unreachable!(),
-        Err(ScheduleFault::NoMemory) => return Err(NoMemory),
+        Err(ScheduleFault::NoMemory) => return Err(AllocError),
     };
     let report = report::<F>(alloc, &head, &world, asked.summary)?;
     Ok(Made { choices, report })
