@@ -16,7 +16,7 @@ unreachable-requires g c =
     let opening = c.in_ok-config.field-0 in
     let is = c.in_ok-config.ensures in
     let input = subst (λ (k : Kind). IsInput k opening.config opening.items.items) (sym c.requires.kind) is.is_input in
-    never_stops g.row.F.Denot g.F.Function.semantics g.met.F.Function.laws c.args.alloc opening.config opening.items.items input is.short c.args.schedule c.in-Err-Unfinished._step (c.in-Err-Unfinished.ensures.unfinished c.in-Err-Unfinished._step (ap Err c.in-Err-Unfinished.is))
+    never_stops g.row.F.Denot g.F.Function.semantics g.met.F.Function.laws c.args.alloc opening.config opening.items.items input is.short c.args.schedule c.in-Err-Unfinished._step (c.in-Err-Unfinished.ensures.unfinished c.in-Err-Unfinished._step (ap Err c.in-Err-Unfinished.field-0-is))
 
 pub returns : goal.returns
 returns g c =
