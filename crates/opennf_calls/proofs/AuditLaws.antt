@@ -2,6 +2,9 @@
 use Rattle.std.proofs.Common.{◌≡◌, ℕ, zero, suc, Bool, true, false, List, [], ◌∷◌, Option, None, Some, Result, Ok, length, take, inl, inr, refl, ap, sym, ◌∙◌, subst}
 use Rattle.std.specs.Prelude.{slice_get}
 use Rattle.std.specs.declared.alloc.Global.{Global}
+use Rattle.flow_filter.specs.declared.filter.Filter.{Filter}
+use Rattle.flow_filter.specs.declared.packet.Packet.{Packet}
+use Rattle.flow_filter.specs.declared.site.Site.{Site}
 use Rattle.nf_function.specs.declared.kind.Kind.{Kind}
 use Rattle.nf_function.specs.declared.kind.Kind.TheVariants as kinds
 use Rattle.nf_function.specs.Semantics.{Semantics}
@@ -13,7 +16,11 @@ use Rattle.asset_monitor.specs.declared.monitor.Monitor.{Monitor}
 use Rattle.asset_monitor.specs.Monitor.{monitor}
 use Rattle.nf_io.specs.declared.outside.Role.{Role}
 use Rattle.nf_io.specs.declared.outside.Role.TheVariants.{Trace, Script, JournalIn, Report, JournalOut}
+use Rattle.nf_msgs.specs.declared.msg.Msg.{Msg}
+use Rattle.nf_msgs.specs.declared.note.Note.{Note}
 use Rattle.trace_reader.specs.Records.{capture_of}
+use Rattle.op_script.specs.declared.script.Line.{Line}
+use Rattle.op_script.specs.Items.{items}
 use Rattle.actor_net.specs.declared.choice.Choice.{Choice}
 use Rattle.actor_net.specs.declared.schedule.Schedule.{Schedule}
 use Rattle.actor_net.specs.Network.{Network, Stepped, IsRun, is_done, is_enabled, run, taken}
@@ -21,11 +28,12 @@ use Rattle.journal_file.specs.declared.fault.JournalFault.{JournalFault}
 use Rattle.journal_file.specs.Reading.{journal_of}
 use Rattle.net_world.specs.declared.node.Node.{Node}
 use Rattle.net_world.specs.Nodes.{node_ended, node_ready, node_step}
+use Rattle.net_world.specs.Start.{started}
 use Rattle.run_report.specs.Lines.{report_text}
 use Rattle.command_words.specs.Plan.{NetworkAsked, asks_audit}
 use Rattle.opennf_calls.specs.declared.status.Status.{Status}
 use Rattle.opennf_calls.specs.Again.{AreAgain, AuditLaw, AuditsAgain}
-use Rattle.opennf_calls.specs.NetworkRuns.{Given, Gives, HasNoRun, HasRun, IsNoRun, IsRunOf, given_script, head_for, start_for}
+use Rattle.opennf_calls.specs.NetworkRuns.{Given, Gives, HasNoRun, HasRun, IsNoRun, IsRunOf, config_for, given_script, head_for, start_for}
 use Rattle.opennf_calls.specs.Outcome.{FailsAt, IsAudited, IsGiven, first_refusal, journal_read, journal_refusal, refusal_of, script_refusal, trace_refusal}
 use Rattle.opennf_calls.proofs.SameInputs.{AreSame, same_given}
 
@@ -37,8 +45,16 @@ enabled_at ready step (d ∷ ds) w (suc i) c runs is = enabled_at ready step ds 
 
 -- A function of the words, and two runs that are given the same.
 module _ {R : Type 0} (F : Type 0) (f : Semantics R) (s : NetworkAsked) (g h : Given) (same : AreSame g h) where
+  abbrev begins : Global → Site → List (Filter × ℕ) → List Packet → List Line → Network (Node F R) Msg Note
+  begins a site routes packets lines = started a (config_for s site routes) (items packets lines)
+
+  -- allocators are alike
   starts : (a b : Global) → start_for F f s g a ≡ start_for F f s h b
-  starts a b = rw (same.site, same.captured, same.routes, same.lines) refl
+  starts a b =
+      ap (λ x. begins a x g.script.routes.items g.captured.packets g.script.lines.items) same.site
+      ∙ ap (λ x. begins a h.site x g.captured.packets g.script.lines.items) same.routes
+      ∙ ap (λ x. begins a h.site h.script.routes.items x.packets g.script.lines.items) same.captured
+      ∙ ap (λ x. begins a h.site h.script.routes.items h.captured.packets x) same.lines
 
   module _ (by : Option Schedule) (made : Gives) (x : IsRunOf F f s g by made) where
     -- the end of the first is where the same choices lead in the second
@@ -53,17 +69,17 @@ module _ {R : Type 0} (F : Type 0) (f : Semantics R) (s : NetworkAsked) (g h : G
         ∙ sym x.report
 
     no_cause : (cs : List Choice) → cs ≡ made.choices → (step : ℕ) → IsNoRun F f s h cs step → ⊥
-    no_cause cs chose step no =
-        let start = start_for F f s h no.alloc in
+    no_cause cs chose step told =
+        let start = start_for F f s h told.alloc in
         let runs : IsRun node_ready (node_step f) cs start =
-            subst (λ l. IsRun node_ready (node_step f) l start) (sym chose) (subst (λ w. IsRun node_ready (node_step f) made.choices w) (starts x.alloc no.alloc) x.leads.is_run) in
-        elim no.cause [
+            subst (λ l. IsRun node_ready (node_step f) l start) (sym chose) (subst (λ w. IsRun node_ready (node_step f) made.choices w) (starts x.alloc told.alloc) x.leads.is_run) in
+        elim told.cause [
           | inl refused ↦ (
             let fault = refused.fault in
             let on = enabled_at node_ready (node_step f) cs start refused.index fault.choice runs fault.there in
             let never : true ≡ false = sym on ∙ fault.refused in cc)
           | inr short ↦ (
-            let done : is_done node_ended (run (node_step f) cs start) ≡ true = ap (is_done node_ended) (ends no.alloc cs chose) ∙ x.complete in
+            let done : is_done node_ended (run (node_step f) cs start) ≡ true = ap (is_done node_ended) (ends told.alloc cs chose) ∙ x.complete in
             let never : true ≡ false = sym done ∙ short.incomplete in cc)
         ]
 
@@ -75,9 +91,9 @@ module _ (s : NetworkAsked) (g h : Given) (same : AreSame g h) (by : Option Sche
   same_report kinds.Monitor x audited y chose = reports Monitor monitor s g h same by made x audited y chose
 
   still_runs : (kind : Kind) → HasRun kind s g by made → (cs : List Choice) → cs ≡ made.choices → (step : ℕ) → HasNoRun kind s h cs step → ⊥
-  still_runs kinds.Conntrack x cs chose step no = no_cause Conntrack conntrack s g h same by made x cs chose step no
-  still_runs kinds.Nat x cs chose step no = no_cause Nat nat s g h same by made x cs chose step no
-  still_runs kinds.Monitor x cs chose step no = no_cause Monitor monitor s g h same by made x cs chose step no
+  still_runs kinds.Conntrack x cs chose step told = no_cause Conntrack conntrack s g h same by made x cs chose step told
+  still_runs kinds.Nat x cs chose step told = no_cause Nat nat s g h same by made x cs chose step told
+  still_runs kinds.Monitor x cs chose step told = no_cause Monitor monitor s g h same by made x cs chose step told
 
 read_again : (s : NetworkAsked) (g : Given) (by : Option Schedule) (made : Gives) (kind : Kind) → HasRun kind s g by made → journal_of s.kind (length s.instances.names) (made.texts JournalOut) ≡ Ok made.choices
 read_again s g by made kinds.Conntrack x = x.again

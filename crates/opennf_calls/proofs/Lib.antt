@@ -12,6 +12,7 @@ pub mod RunLemmas
 pub mod RunRows
 pub mod RunsEnd
 pub mod SameInputs
+pub mod SameSites
 pub mod ScriptLemmas
 pub mod TwoResults
 pub mod WritingLemmas

@@ -3,7 +3,6 @@ use Rattle.std.proofs.Common.{◌≡◌, ℕ, Option, Some, None, List, [], ◌�
 use Rattle.std.specs.Prelude.{option_map}
 use Rattle.flow_filter.specs.declared.filter.Filter.{Filter}
 use Rattle.flow_filter.specs.declared.prefix.Prefix.{Prefix}
-use Rattle.flow_filter.specs.declared.site.Site.{Site}
 use Rattle.flow_filter.specs.FilterText.{fields_of}
 use Rattle.flow_filter.specs.Reading.{prefix_numbers}
 use Rattle.nf_io.specs.declared.outside.Role.{Role}
@@ -15,10 +14,11 @@ use Rattle.trace_reader.specs.Records.{capture_of}
 use Rattle.op_script.specs.declared.script.Line.{Line}
 use Rattle.op_script.specs.declared.script.What.{What}
 use Rattle.op_script.specs.declared.script.What.TheVariants as what
-use Rattle.op_script.specs.Reading.{line_view, order_view, route_view, script_view, what_view}
+use Rattle.op_script.specs.Reading.{OrderView, line_view, order_view, route_view, script_view, what_view}
 use Rattle.command_words.specs.Plan.{NetworkAsked}
 use Rattle.opennf_calls.specs.NetworkRuns.{Given, given_script}
-use Rattle.opennf_calls.specs.Outcome.{IsGiven, IsSite}
+use Rattle.opennf_calls.specs.Outcome.{IsGiven}
+use Rattle.opennf_calls.proofs.SameSites.{same_prefix, same_site}
 
 -- lists that are seen the same are the same, where their elements are
 map_same : {A B : Type 0} (f : A → B) → ((x y : A) → f x ≡ f y → x ≡ y) → (xs ys : List A) → map f xs ≡ map f ys → xs ≡ ys
@@ -37,18 +37,15 @@ option_same f each (Some x) None e = cc
 option_same f each (Some x) (Some y) e = let is : f x ≡ f y = cc in ap Some (each x y is)
 
 -- Filters are seen as their fields.
-prefix_of_two : (a b c d : ℕ) → a ≡ c → b ≡ d → (P : Prefix → Type 0) → P (record { bits = a; len = b }) → P (record { bits = c; len = d })
-prefix_of_two a b c d bits len P holds = subst (λ n. P (record { bits = c; len = n })) len (subst (λ n. P (record { bits = n; len = b })) bits holds)
-
-same_prefix : (p q : Prefix) → prefix_numbers p ≡ prefix_numbers q → p ≡ q
-same_prefix p q e = prefix_of_two p.bits p.len q.bits q.len (ap (λ n. n.0) e) (ap (λ n. n.1) e) (λ x. p ≡ x) refl
+seen_prefix : (p q : Prefix) → prefix_numbers p ≡ prefix_numbers q → p ≡ q
+seen_prefix p q e = same_prefix p q (ap (λ n. n.0) e) (ap (λ n. n.1) e)
 
 same_filter : (p q : Filter) → fields_of p ≡ fields_of q → p ≡ q
 same_filter p q e =
     let proto : p.proto ≡ q.proto = ap (λ n. n.proto) e in
-    let local : p.local ≡ q.local = option_same prefix_numbers same_prefix p.local q.local (ap (λ n. n.local) e) in
+    let local : p.local ≡ q.local = option_same prefix_numbers seen_prefix p.local q.local (ap (λ n. n.local) e) in
     let lport : p.lport ≡ q.lport = ap (λ n. n.lport) e in
-    let remote : p.remote ≡ q.remote = option_same prefix_numbers same_prefix p.remote q.remote (ap (λ n. n.remote) e) in
+    let remote : p.remote ≡ q.remote = option_same prefix_numbers seen_prefix p.remote q.remote (ap (λ n. n.remote) e) in
     let rport : p.rport ≡ q.rport = ap (λ n. n.rport) e in
     subst (λ x. p ≡ record { proto = x; local = q.local; lport = q.lport; remote = q.remote; rport = q.rport }) proto
     (subst (λ x. p ≡ record { proto = p.proto; local = x; lport = q.lport; remote = q.remote; rport = q.rport }) local
@@ -86,8 +83,9 @@ same_command a b op what = subst (λ x. a ≡ record { op = x; what = b.what }) 
 same_what : (a b : What) → what_view a ≡ what_view b → a ≡ b
 same_what what.Settle what.Settle e = refl
 same_what (what.Command c) (what.Command d) e =
-    let op : c.op ≡ d.op = cc in
-    let seen : order_view c.what ≡ order_view d.what = cc in
+    let both : ◌≡◌ {A = ℕ × OrderView} (c.op, order_view c.what) (d.op, order_view d.what) = cc in
+    let op : c.op ≡ d.op = ap (λ x. x.0) both in
+    let seen : order_view c.what ≡ order_view d.what = ap (λ x. x.1) both in
     ap what.Command (same_command c d op (same_order c.what d.what seen))
 same_what what.Settle (what.Command d) e = cc
 same_what (what.Command c) what.Settle e = cc
@@ -104,12 +102,6 @@ same_route a b e =
     let place : a.1 ≡ b.1 = ap (λ r. r.1) e in
     subst (λ x. a ≡ (x, b.1)) filter (subst (λ x. a ≡ (a.0, x)) place refl)
 
-same_site : (a b : Site) (prefix : ℕ × ℕ) (address : Option ℕ) → IsSite a prefix address → IsSite b prefix address → a ≡ b
-same_site a b prefix address x y =
-    let inside : a.inside ≡ b.inside = prefix_of_two a.inside.bits a.inside.len b.inside.bits b.inside.len (x.bits ∙ sym y.bits) (x.len ∙ sym y.len) (λ p. a.inside ≡ p) refl in
-    let outside : a.outside ≡ b.outside = x.outside ∙ sym y.outside in
-    subst (λ p. a ≡ record { inside = p; outside = b.outside }) inside (subst (λ o. a ≡ record { inside = a.inside; outside = o }) outside refl)
-
 -- what two runs are given, as far as they look at it
 pub record AreSame (g h : Given) : Type 0 where
   pub site : g.site ≡ h.site
@@ -123,7 +115,7 @@ same_given s bytes again g h x y trace script =
     let said : Ok (script_view g.script) ≡ Ok (script_view h.script) = sym x.said ∙ ap (given_script s) (sym script) ∙ y.said in
     let seen : script_view g.script ≡ script_view h.script = cc in
     record {
-      site = same_site g.site h.site s.inside s.outside x.is_site y.is_site;
+      site = same_site g.site h.site (same_prefix g.site.inside h.site.inside (x.is_site.bits ∙ sym y.is_site.bits) (x.is_site.len ∙ sym y.is_site.len)) (x.is_site.outside ∙ sym y.is_site.outside);
       captured = cc;
       routes = map_same route_view same_route g.script.routes.items h.script.routes.items (ap (λ v. v.0) seen);
       lines = map_same line_view same_line g.script.lines.items h.script.lines.items (ap (λ v. v.1) seen);

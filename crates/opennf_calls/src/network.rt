@@ -122,8 +122,8 @@ fn schedule_network<F: Function>(
         head,
     } = open(alloc, asked, inputs)?;
     let (world, choices) = match simulate::<F>(alloc, &config, items, schedule) {
-        Ok(run) => run,
-        Err(ScheduleFault::Unfinished { .. }) => unreachable!(),
+        Ok(ended) => ended,
+        Err(ScheduleFault::Unfinished { step: _step }) => unreachable!(),
         Err(ScheduleFault::NoMemory) => return Err(AllocError),
     };
     let report = report::<F>(alloc, &head, &world, asked.summary)?;

@@ -1,5 +1,5 @@
 -- The run of a schedule is that of the words, the script and the capture. The schedule comes to its end.
-use Rattle.std.proofs.Common.{Some, ap, refl, sym, ◌≡◌, ◌∙◌, subst}
+use Rattle.std.proofs.Common.{Some, Err, ap, sym, ◌≡◌, ◌∙◌, subst}
 use Rattle.nf_function.specs.declared.kind.Kind.{Kind}
 use Rattle.command_words.specs.RequestViews.{network_view}
 use Rattle.net_length.proofs.ShortRuns.{short_runs}
@@ -16,7 +16,7 @@ unreachable-requires g c =
     let opening = c.in_ok-config.field-0 in
     let is = c.in_ok-config.ensures in
     let input = subst (λ (k : Kind). IsInput k opening.config opening.items.items) (sym c.requires.kind) is.is_input in
-    never_stops g.row.F.Denot g.F.Function.semantics g.met.F.Function.laws c.args.alloc opening.config opening.items.items input is.short c.args.schedule c.in-Unfinished.step (c.in-Err.ensures.unfinished c.in-Unfinished.step refl)
+    never_stops g.row.F.Denot g.F.Function.semantics g.met.F.Function.laws c.args.alloc opening.config opening.items.items input is.short c.args.schedule c.in-Err-Unfinished._step (c.in-Err-Unfinished.ensures.unfinished c.in-Err-Unfinished._step (ap Err c.in-Err-Unfinished.field-0-is))
 
 pub returns : goal.returns
 returns g c =
@@ -25,9 +25,9 @@ returns g c =
     let is = c.in_ok-config.ensures in
     let start = started {F = g.row.F.Denot} {R = g.row.F-Record.Denot} c.args.alloc opening.config opening.items.items in
     let input = subst (λ (k : Kind). IsInput k opening.config opening.items.items) (sym c.requires.kind) is.is_input in
-    let leads = subst (λ cs. LeadsTo f start cs c.in-Ok.run.0) (sym c.in-Ok.ensures.choices) c.in-Ok.ensures.end.leads in
+    let leads = subst (λ cs. LeadsTo f start cs c.in-Ok.ended.0) (sym c.in-Ok.ensures.choices) c.in-Ok.ensures.end.leads in
     run_of g.row.F.Denot f (network_view c.args.asked.now) (given_by c.args.asked.now.site c.args.inputs) c.args.alloc opening.config opening.items.items opening.head is.config is.items
-    (Some c.args.schedule) (record { choices = c.in-Ok.run.1; report = c.in_ok-report.report }) c.in-Ok.run.0
+    (Some c.args.schedule) (record { choices = c.in-Ok.ended.1; report = c.in_ok-report.report }) c.in-Ok.ended.0
     (record {
       leads = leads;
       complete = c.in-Ok.ensures.end.complete;
@@ -36,6 +36,6 @@ returns g c =
       standbys = c.in-Ok.ensures.standbys;
       completed = c.in-Ok.ensures.completed;
       home = c.in-Ok.ensures.home;
-      few = short_runs g.row.F.Denot f g.met.F.Function.laws c.args.alloc opening.config opening.items.items input is.short c.in-Ok.run.1 leads.is_run;
+      few = short_runs g.row.F.Denot f g.met.F.Function.laws c.args.alloc opening.config opening.items.items input is.short c.in-Ok.ended.1 leads.is_run;
     }) (λ schedule same. let by : c.args.schedule ≡ schedule = cc in c.in-Ok.ensures.choices ∙ ap (λ k. chosen {F = g.row.F.Denot} f start k) by)
     is.head c.in_ok-report.ensures
