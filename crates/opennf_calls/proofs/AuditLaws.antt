@@ -72,15 +72,15 @@ module _ {R : Type 0} (F : Type 0) (f : Semantics R) (s : NetworkAsked) (g h : G
     no_cause cs chose step told =
         let start = start_for F f s h told.alloc in
         let runs : IsRun node_ready (node_step f) cs start =
-            subst (λ l. IsRun node_ready (node_step f) l start) (sym chose) (subst (λ w. IsRun node_ready (node_step f) made.choices w) (starts x.alloc told.alloc) x.leads.is_run) in
+        subst (λ l. IsRun node_ready (node_step f) l start) (sym chose) (subst (λ w. IsRun node_ready (node_step f) made.choices w) (starts x.alloc told.alloc) x.leads.is_run) in
         elim told.cause [
           | inl refused ↦ (
-            let fault = refused.fault in
-            let on = enabled_at node_ready (node_step f) cs start refused.index fault.choice runs fault.there in
-            let never : true ≡ false = sym on ∙ fault.refused in cc)
+              let fault = refused.fault in
+              let on = enabled_at node_ready (node_step f) cs start refused.index fault.choice runs fault.there in
+              let never : true ≡ false = sym on ∙ fault.refused in cc)
           | inr short ↦ (
-            let done : is_done node_ended (run (node_step f) cs start) ≡ true = ap (is_done node_ended) (ends told.alloc cs chose) ∙ x.complete in
-            let never : true ≡ false = sym done ∙ short.incomplete in cc)
+              let done : is_done node_ended (run (node_step f) cs start) ≡ true = ap (is_done node_ended) (ends told.alloc cs chose) ∙ x.complete in
+              let never : true ≡ false = sym done ∙ short.incomplete in cc)
         ]
 
 -- The same, for the function that the words name.

@@ -85,11 +85,7 @@ fn push_out<F: Function>(
 }
 
 #[tactic(auto, unfolding(crate::specs::Lines::out_line))]
-fn push_long_out<F: Function>(
-    text: &mut Text,
-    number: u32,
-    output: &Output,
-) -> Result<(), NoMemory>
+fn push_long_out<F: Function>(text: &mut Text, number: u32, output: &Output) -> Result<(), NoMemory>
     ensures { OnOk result (text.new ≡ text.old ++ out_line F.semantics (number, output.now)) }
 {
     text.push_bytes(b"out ")?;
