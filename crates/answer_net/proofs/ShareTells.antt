@@ -20,7 +20,7 @@ use Rattle.ctrl_node.specs.declared.operation.Operation.{Operation}
 use Rattle.ctrl_node.specs.declared.operation.Operation.TheVariants.{Move, Copy, Share}
 use Rattle.ctrl_node.specs.Operations.{Turn, turn_of, lasts, is_shared_by}
 use Rattle.ctrl_node.specs.Controller.{ControllerState, Step, still, turned, closed, after_turn, handed, queued, on_diverted}
-use Rattle.unit_machine.proofs.Labels.{Each, each-append}
+use Rattle.unit_machine.proofs.Labels.{Each}
 use Rattle.whole_outline.proofs.ShareLeft.{OpenAt, answered, noted, ShareLeaves, handed_leaves, queued_leaves}
 use Rattle.answer_net.proofs.FirstEntries.{passes, found_passes}
 
@@ -199,15 +199,3 @@ module _ (c : ControllerState) (cell : FullCell) where
       by_found : (o : Option (ℕ × Operation)) → find (λ e. is_shared_by its_flow e.1) (finite.entries c.operations) ≡ o → Queues c cell (queued c cell (option_map (λ e. e.0) o))
       by_found None is = Queues_none refl
       by_found (Some x) is = by_passes x.0 (finite.get c.operations x.0) refl (found_passes c.operations (is_shared_by its_flow) x is)
-
--- Of a message that a share sends, what it isn't.
-pub answered_own : (P : Msg → Type 0) (op : ℕ) (answer : Option Answer) (first second : List (ℕ × Msg)) → ((m : Msg) → is_of_share m ≡ true → P m) → P (msg.Answered op) → AreOfShare first → AreOfShare second → Each (λ x. P x.1) (answered op answer first ++ second)
-answered_own P op answer first second own end a b = each-append (λ x. P x.1) (answered op answer first) second (by_answer answer) (all second b)
-  where
-    all : (xs : List (ℕ × Msg)) → AreOfShare xs → Each (λ x. P x.1) xs
-    all [] h = tt
-    all (x ∷ xs) h = (own x.1 h.0, all xs h.1)
-
-    by_answer : (o : Option Answer) → Each (λ x. P x.1) (answered op o first)
-    by_answer None = all first a
-    by_answer (Some why) = each-append (λ x. P x.1) first ((0, msg.Answered op) ∷ []) (all first a) (end, tt)

@@ -34,6 +34,16 @@ impl<T> Boxed<T> {
         &self.place
     }
 
+    /// Puts another value in the place.
+    #[inline]
+    pub fn set(&mut self, value: T)
+    where
+        T: Drop,
+        ensures { self.new ≡ value }
+    {
+        *self.place = value;
+    }
+
     /// Moves the value out of its place.
     pub fn into_inner(self) -> T
         ensures { result ≡ self }

@@ -76,6 +76,20 @@ impl CapturedPacket {
         }
     }
 
+    /// The same, in the room of a packet that isn't needed any more.
+    pub fn into_room(self, room: Boxed<Packet>) -> Boxed<Packet>
+        ensures { result ≡ self }
+    {
+        match self.form {
+            Form::Bare(header) => {
+                let mut room = room;
+                room.set(header.packet());
+                room
+            }
+            Form::Whole(packet) => packet,
+        }
+    }
+
     /// The packet.
     pub fn packet(&self) -> Packet
         ensures { result ≡ self.now }
@@ -181,6 +195,9 @@ mod tests {
             let captured = CapturedPacket::of(alloc, &packet)?;
             assert_eq!(rt; captured.number(), 3);
             assert_eq!(rt; captured.packet(), packet);
+            let room = Boxed::new(alloc, PACKET)?;
+            let again = CapturedPacket::of(alloc, &packet)?;
+            assert_eq!(rt; again.into_room(room).into_inner(), packet);
             assert_eq!(rt; captured.into_boxed(alloc)?.into_inner(), packet);
         }
         Ok(())

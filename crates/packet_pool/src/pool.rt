@@ -56,14 +56,15 @@ impl Pool {
         })
     }
 
-    /// Takes a cell home. Its packet is dropped.
-    pub fn give(&mut self, cell: Cell)
+    /// Takes a cell home, and gives its packet back, whose room can be used again.
+    pub fn give(&mut self, cell: Cell) -> Boxed<Packet>
         requires own { cell.pool ≡ self.old.name }
         requires away { self.old.home < self.old.cells }
-        ensures { self.new ≡ one_more self.old }
+        ensures more { self.new ≡ one_more self.old }
+        ensures packet { result ≡ cell.packet }
     {
-        let _gone = cell;
         self.home += 1;
+        cell.packet
     }
 
     /// The pool's number, by which a cell names it.
@@ -126,7 +127,7 @@ mod tests {
             assert_eq!(rt; pool.home(), 0);
             let refused = pool.take(Boxed::new(rt.alloc(), SECOND)?);
             assert_eq!(rt; refused.err().map(Boxed::into_inner), Some(SECOND));
-            pool.give(cell);
+            assert_eq!(rt; pool.give(cell).into_inner(), FIRST);
         }
         assert_eq!(rt; pool.home(), 1);
         assert_eq!(rt; pool.cells(), 1);

@@ -11,10 +11,6 @@ use Rattle.net_world.specs.Path.{all_of, all_but}
 use Rattle.whole_joined.proofs.LogLemmas.{those-append}
 
 module _ {X Y : Type 0} where
-  pub all_same : (f g : X → List Y) → ((x : X) → f x ≡ g x) → (xs : List X) → all_of f xs ≡ all_of g xs
-  all_same f g h [] = refl
-  all_same f g h (x ∷ xs) = rw (h x, all_same f g h xs) refl
-
   pub none_at : (of : X → List Y) (xs : List X) (d : X) → ((i : ℕ) → i < length xs → of (get_or xs i d) ≡ []) → all_of of xs ≡ []
   none_at of [] d h = refl
   none_at of (x ∷ xs) d h =

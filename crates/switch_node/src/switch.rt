@@ -26,6 +26,8 @@ const POOL: u32 = 0;
 pub struct Switch {
     rules: Rules,
     pool: Pool,
+    /// Packets that came home: their room is used again.
+    spare: Vec<Boxed<Packet>>,
     site: Site,
     instances: u8,
     /// How many packets are under way.
@@ -140,6 +142,7 @@ impl Switch {
         Ok(Switch {
             rules: Rules::open(alloc, routes)?,
             pool: Pool::open(POOL, window),
+            spare: Vec::new(alloc),
             site,
             instances,
             flying: 0,
@@ -173,7 +176,7 @@ impl Switch {
         ensures sends { OnOk result (out.new.0 ≡ out.old.0 ++ (on_packet self.old captured).sends) }
         ensures notes { OnOk result (out.new.1 ≡ out.old.1 ++ (on_packet self.old captured).notes) }
     {
-        let packet = captured.into_boxed(self.alloc)?;
+        let packet = self.boxed(captured)?;
         let target = self.target_of(packet.get());
         let number = packet.get().number;
         if self.flying >= self.pool.cells() || !self.is_there(target) {
@@ -193,6 +196,17 @@ impl Switch {
                 };
                 out.send(instance_node(to), message)
             }
+        }
+    }
+
+    /// The packet behind a pointer: in the room that one before it has left, or else in a new one.
+    fn boxed(&mut self, captured: CapturedPacket) -> Result<Boxed<Packet>, NoMemory>
+        ensures packet { IfOk result (λ packet. packet ≡ captured) }
+        ensures same { self.new ≡ self.old }
+    {
+        match self.spare.pop() {
+            Some(room) => Ok(captured.into_room(room)),
+            None => captured.into_boxed(self.alloc),
         }
     }
 
@@ -274,7 +288,7 @@ impl Switch {
         Ok(())
     }
 
-    /// Takes a cell home, if it is one of the pool's.
+    /// Takes a cell home, if it is one of the pool's. Where there is no memory to keep its packet's room, that is dropped.
     fn take_home(&mut self, cell: Cell)
         ensures { self.new ≡ (on_credit self.old cell).node }
     {
@@ -282,6 +296,7 @@ impl Switch {
             return;
         }
         self.flying -= 1;
-        self.pool.give(cell);
+        let packet = self.pool.give(cell);
+        let _kept = self.spare.push(packet);
     }
 }

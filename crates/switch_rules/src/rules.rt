@@ -1,4 +1,4 @@
-ghost use Rattle.std.specs.Prelude.{◌≡◌, IfOk, OnOk, OnErr, Some, flat_map};
+ghost use Rattle.std.specs.Prelude.{◌≡◌, true, is_some, IfOk, OnOk, OnErr, Some, flat_map};
 ghost use Rattle.flow_filter.specs.Filter.{IsFlow, IsFilter};
 ghost use Rattle.flow_filter.specs.declared.flow.Flow.{Flow as EachFlow};
 ghost use Rattle.switch_rules.specs.Rules.{first_match, opened, routed, split, uncovered, redirected, Redirects};
@@ -10,6 +10,9 @@ use basics::NoMemory;
 use flow_filter::{Filter, Flow};
 use std::alloc::Global;
 use std::marker::Model;
+
+/// So many rules are looked at one after another, which takes less time than the classifier.
+const FEW_RULES: usize = 4;
 
 /// The rules of the switch in order, which contracts see as the list of filters with their targets. Each flow has a rule.
 #[derive(Drop)]
@@ -46,10 +49,21 @@ impl Rules {
     pub fn target(&self, flow: &Flow) -> Target
         ensures { first_match self.now flow.now ≡ Some result }
     {
-        match self.classifier.target(flow) {
+        match self.first(flow) {
             Some(target) => target,
             None => unreachable!(),
         }
+    }
+
+    /// The target of the first rule that matches a flow, by the shorter way.
+    fn first(&self, flow: &Flow) -> Option<Target>
+        ensures value { result ≡ first_match self.now flow.now }
+        ensures found { is_some result ≡ true }
+    {
+        if self.list.len() > FEW_RULES {
+            return self.classifier.target(flow);
+        }
+        first_match(&self.list, *flow)
     }
 
     /// Sends the flows that the filter matches and whose target is `from` to `to`. Every other flow keeps its target.
@@ -65,6 +79,15 @@ impl Rules {
         self.classifier = classifier;
         Ok(())
     }
+}
+
+/// The target of the first rule that matches the flow, if one does.
+fn first_match(rules: &[(Filter, Target)], flow: Flow) -> Option<Target>
+    ensures value { result ≡ first_match rules.now flow }
+    ensures flow { IsFlow flow }
+{
+    let rule = rules.iter().find(|rule| rule.0.matches(&flow))?;
+    Some(rule.1)
 }
 
 /// The list of rules that routes open.

@@ -41,10 +41,6 @@ numbers (m ∷ ms) = numbers ms
 abbrev pub IsUnasked : Msg → Type 0
 IsUnasked m = numbers (m ∷ []) ≡ []
 
-pub numbers_behind : (m : Msg) (ms : List Msg) → IsUnasked m → numbers (m ∷ ms) ≡ numbers ms
-numbers_behind (msg.Asked c) ms e = cc
-numbers_behind m ms e = refl
-
 pub numbers-append : (xs ys : List Msg) → numbers (xs ++ ys) ≡ numbers xs ++ numbers ys
 numbers-append [] ys = refl
 numbers-append (msg.Asked c ∷ xs) ys = ap (λ v. c.op ∷ v) (numbers-append xs ys)

@@ -57,9 +57,6 @@ module _ (F : Type 0) {R : Type 0} (f : Semantics R) (laws : FunctionLaws f) (al
   pub run_beside : (cs : List Choice) → IsRun node_ready (node_step f) cs (started {F = F} {R = R} alloc c items) → Runs (run (node_step f) cs (started {F = F} {R = R} alloc c items))
   run_beside cs run_is = run_induction node_ready (node_step f) n (λ _ w. Runs w) (started alloc c items) (λ _ w k on r. runs_next w k on.taking r) start_world (count_at_start F f alloc c items is) runs_at_start cs run_is
 
-  pub run_joined : (cs : List Choice) → IsRun node_ready (node_step f) cs (started {F = F} {R = R} alloc c items) → Joined f g n (run (node_step f) cs (started {F = F} {R = R} alloc c items))
-  run_joined cs run_is = (run_beside cs run_is).joined
-
 module _ {R : Type 0} (f : Semantics R) (c : Config) (items : List Msg) (is : IsInput f.kind c items) where
   abbrev gi : Given
   gi = given f c items is
