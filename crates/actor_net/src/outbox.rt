@@ -65,7 +65,10 @@ impl<M, N> Outbox<M, N> {
         ensures ok { OnOk result (self.new ≡ (self.old.0, self.old.1 ++ note ∷ [])) }
         ensures err { OnErr result (self.new ≡ self.old) }
     {
-        self.notes.push(note)?;
+        if self.notes.len() == self.notes.capacity() {
+            self.notes.reserve(1)?;
+        }
+        self.notes.push_reserved(note);
         Ok(())
     }
 

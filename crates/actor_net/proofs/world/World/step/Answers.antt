@@ -1,5 +1,5 @@
 -- What a step made of the fields is what the definition says.
-use Rattle.std.proofs.Common.{◌≡◌, ap, ◌∙◌, arith, rules, Result, Ok, Err, OnOk}
+use Rattle.std.proofs.Common.{arith, Result, Ok, Err, OnOk}
 use Rattle.std.proofs.lemmas.Grind.{common_steps}
 use Rattle.actor_net.proofs.WorldStepLemmas.{made_after}
 use Rattle.actor_net.proofs.world.World.step.Goals as goal
