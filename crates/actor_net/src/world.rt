@@ -99,14 +99,24 @@ impl<A: Actor> World<A> {
     pub fn enabled(&self, choice: Choice) -> bool
         ensures { result ≡ is_enabled A.is_ready self.now choice }
     {
-        if choice.is_input() {
-            return self.input_ready();
-        }
         let nodes = self.nodes.len();
         if (choice.node as usize) < nodes && (choice.port as usize) < nodes {
-            !self.links.is_empty(choice)
+            self.enabled_within(choice)
         } else {
             false
+        }
+    }
+
+    /// The same, of a node and a port that are there.
+    #[inline(always)]
+    fn enabled_within(&self, choice: Choice) -> bool
+        requires { (choice.node < length self.now.nodes) × (choice.port < length self.now.nodes) }
+        ensures { result ≡ is_enabled A.is_ready self.now choice }
+    {
+        if choice.is_input() {
+            self.input_ready()
+        } else {
+            !self.links.is_empty(choice)
         }
     }
 
@@ -239,7 +249,7 @@ impl<A: Actor> World<A> {
         for behind in 0..nodes {
             let port = nodes - 1 - behind;
             let choice = Choice { node, port };
-            if self.enabled(choice) {
+            if self.enabled_within(choice) {
                 return Some(choice);
             }
         }
@@ -269,7 +279,7 @@ impl<A: Actor> World<A> {
         let mut left = place;
         for port in 0..nodes {
             let choice = Choice { node, port };
-            let count = self.enabled(choice) as usize;
+            let count = self.enabled_within(choice) as usize;
             if left < count {
                 return Some(choice);
             }
