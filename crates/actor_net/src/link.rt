@@ -56,7 +56,7 @@ impl<M> Link<M> {
         self.queue.front()
     }
 
-    #[inline]
+    #[inline(always)]
     pub fn pop(&mut self) -> Option<M>
         ensures { MatchOption result ((self.old ≡ []) × (self.new ≡ [])) (λ x. self.old ≡ x ∷ self.new) }
     {
@@ -64,25 +64,36 @@ impl<M> Link<M> {
     }
 
     /// The same, and with the last message the room goes back.
-    #[inline]
+    #[inline(always)]
     pub fn pop_for_good(&mut self) -> Option<M>
         ensures { MatchOption result ((self.old ≡ []) × (self.new ≡ [])) (λ x. self.old ≡ x ∷ self.new) }
     {
         let message = self.queue.pop_front();
         if self.queue.is_empty() {
-            self.queue.shrink_to_fit();
+            self.give_back();
         }
         message
     }
 
-    #[inline]
+    #[cold]
+    #[inline(never)]
+    fn give_back(&mut self)
+        ensures { self.new ≡ self.old }
+    {
+        self.queue.shrink_to_fit();
+    }
+
+    #[inline(always)]
     pub fn push(&mut self, message: M) -> Result<(), NoMemory>
     where
         M: Drop,
         ensures ok { OnOk result (self.new ≡ self.old ++ message ∷ []) }
         ensures err { OnErr result (self.new ≡ self.old) }
     {
-        self.queue.push_back(message)?;
+        if self.queue.len() == self.queue.capacity() {
+            self.queue.reserve(1)?;
+        }
+        self.queue.push_back_reserved(message);
         Ok(())
     }
 }

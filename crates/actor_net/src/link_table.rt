@@ -123,7 +123,7 @@ impl<M> LinkTable<M> {
     }
 
     /// Takes the first message of a link.
-    #[inline]
+    #[inline(always)]
     pub fn pop(&mut self, link: Choice) -> Option<M>
         requires { IsWithin self.old.nodes link }
         ensures first { MatchOption result (link_of self.old link ≡ []) (λ message. link_of self.old link ≡ message ∷ drop 1 (link_of self.old link)) }
@@ -140,7 +140,7 @@ impl<M> LinkTable<M> {
     }
 
     /// Puts a message at the end of a link.
-    #[inline]
+    #[inline(always)]
     pub fn push(&mut self, link: Choice, message: M) -> Result<(), NoMemory>
     where
         M: Drop,

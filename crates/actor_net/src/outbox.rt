@@ -1,4 +1,4 @@
-ghost use Rattle.std.specs.Prelude.{◌≡◌, [], ◌∷◌, ◌++◌, OnOk, OnErr, MatchOption, IfNone};
+ghost use Rattle.std.specs.Prelude.{◌≡◌, ◌==◌, [], ◌∷◌, ◌++◌, length, not, OnOk, OnErr, MatchOption, IfNone};
 
 use basics::NoMemory;
 use std::alloc::Global;
@@ -6,6 +6,7 @@ use std::collections::VecDeque;
 use std::marker::Model;
 
 /// What a step sends and notes. Contracts see two lists: what was sent, each message with its receiver, and the notes.
+/// A world's outbox stays over all steps: what was sent leaves it after each of them, and the notes stay as the log.
 #[derive(Drop)]
 pub struct Outbox<M, N> {
     sent: VecDeque<(u8, M)>,
@@ -31,28 +32,51 @@ impl<M, N> Outbox<M, N> {
         }
     }
 
+    /// Nothing sent, behind these notes. This takes no memory.
+    pub(crate) fn with_notes(alloc: Global, notes: Vec<N>) -> Self
+        ensures { result ≡ ([], notes.items) }
+    {
+        Outbox {
+            sent: VecDeque::new(alloc),
+            notes,
+        }
+    }
+
     /// Sends a message to a node, after what was sent before.
-    #[inline]
+    #[inline(always)]
     pub fn send(&mut self, to: u8, message: M) -> Result<(), NoMemory>
     where
         M: Drop,
         ensures ok { OnOk result (self.new ≡ (self.old.0 ++ (to, message) ∷ [], self.old.1)) }
         ensures err { OnErr result (self.new ≡ self.old) }
     {
-        self.sent.push_back((to, message))?;
+        if self.sent.len() == self.sent.capacity() {
+            self.sent.reserve(1)?;
+        }
+        self.sent.push_back_reserved((to, message));
         Ok(())
     }
 
     /// Notes something, after what was noted before.
-    #[inline]
+    #[inline(always)]
     pub fn note(&mut self, note: N) -> Result<(), NoMemory>
     where
         N: Drop,
         ensures ok { OnOk result (self.new ≡ (self.old.0, self.old.1 ++ note ∷ [])) }
         ensures err { OnErr result (self.new ≡ self.old) }
     {
-        self.notes.push(note)?;
+        if self.notes.len() == self.notes.capacity() {
+            self.notes.reserve(1)?;
+        }
+        self.notes.push_reserved(note);
         Ok(())
+    }
+
+    /// The notes, in the order in which they were made.
+    pub(crate) fn notes(&self) -> &[N]
+        ensures { result.now ≡ self.now.1 }
+    {
+        self.notes.as_slice()
     }
 
     /// What was sent and what was noted, without a copy.
@@ -63,8 +87,16 @@ impl<M, N> Outbox<M, N> {
         (self.sent.into_vec(), self.notes)
     }
 
+    /// Whether something was sent that isn't taken out.
+    #[inline(always)]
+    pub(crate) fn has_sent(&self) -> bool
+        ensures { result ≡ not (length self.now.0 == 0) }
+    {
+        !self.sent.is_empty()
+    }
+
     /// The first of what was sent, taken out. Its place is used again.
-    #[inline]
+    #[inline(always)]
     pub fn next_sent(&mut self) -> Option<(u8, M)>
         ensures sent { MatchOption result (self.old.0 ≡ []) (λ x. self.old.0 ≡ x ∷ self.new.0) }
         ensures none { IfNone result (self.new.0 ≡ []) }
@@ -80,6 +112,17 @@ impl<M, N> Outbox<M, N> {
         ensures err { OnErr result ((log.new.items ≡ log.old.items) × (self.new ≡ self.old)) }
     {
         log.append(&mut self.notes)
+    }
+
+    /// Drops what was sent, and keeps the room and the notes.
+    #[cold]
+    #[inline(never)]
+    pub(crate) fn drop_sent(&mut self)
+    where
+        M: Drop,
+        ensures { self.new ≡ ([], self.old.1) }
+    {
+        self.sent.clear();
     }
 
     /// Drops what was sent and noted, and keeps the room.

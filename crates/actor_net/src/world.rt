@@ -1,6 +1,6 @@
 ghost use Rattle.std.specs.Prelude.{◌≡◌, ◌==◌, ◌<◌, ◌-◌, ◌*◌, ℕ, Bool, true, false, List, [], ◌∷◌, length, drop, map, replicate, slice_get, slice_index_or, Some, OnOk, OnErr, IfOk, IsErrOf};
 ghost use Rattle.std.specs.List.{list_all};
-ghost use Rattle.actor_net.specs.Network.{Network, Stepped, IsWorld, is_enabled, taken, is_done, waiting, without_first, after, delivered, reaches};
+ghost use Rattle.actor_net.specs.Network.{Network, Stepped, IsWorld, is_enabled, taken, is_done, waiting, without_first, after, delivered, put_on, reaches};
 ghost use Rattle.actor_net.specs.Schedules.{ports_below, enabled_choices};
 
 use super::actor::Actor;
@@ -19,19 +19,19 @@ pub struct World<A: Actor> {
     nodes: Vec<A>,
     links: LinkTable<A::Message>,
     input: Link<A::Message>,
-    log: Vec<A::Note>,
+    // Its notes are the log. Between steps nothing that was sent stands in it.
     outbox: Outbox<A::Message, A::Note>,
 }
 
 impl<A: Actor> Model for World<A> {
-    ghost use Rattle.std.specs.Prelude.{◌≡◌, length};
+    ghost use Rattle.std.specs.Prelude.{◌≡◌, [], length};
     ghost use Rattle.actor_net.specs.Network.{Network, IsWorld};
 
     ghost Value = { Network A A.Message A.Note };
 
-    ghost view = { λ w. record { nodes = w.nodes.items; links = w.links.lists; input = w.input; log = w.log.items } };
+    ghost view = { λ w. record { nodes = w.nodes.items; links = w.links.lists; input = w.input; log = w.outbox.1 } };
 
-    ghost invariant = { λ w. IsWorld (record { nodes = w.nodes.items; links = w.links.lists; input = w.input; log = w.log.items }) × (w.links.nodes ≡ length w.nodes.items) };
+    ghost invariant = { λ w. IsWorld (record { nodes = w.nodes.items; links = w.links.lists; input = w.input; log = w.outbox.1 }) × (w.links.nodes ≡ length w.nodes.items) × (w.outbox.0 ≡ []) };
 }
 
 impl<A: Actor> World<A> {
@@ -47,7 +47,6 @@ impl<A: Actor> World<A> {
             nodes,
             links,
             input: Link::from_vec(items),
-            log: Vec::new(alloc),
             outbox: Outbox::open(alloc),
         })
     }
@@ -62,8 +61,7 @@ impl<A: Actor> World<A> {
             nodes: parts.nodes.into_vec(),
             links,
             input: Link::from_vec(parts.input.into_vec()),
-            log: parts.log.into_vec(),
-            outbox: Outbox::open(alloc),
+            outbox: Outbox::with_notes(alloc, parts.log.into_vec()),
         })
     }
 
@@ -73,11 +71,12 @@ impl<A: Actor> World<A> {
         ensures world { IsWorld self }
     {
         let links = self.links.into_lists()?;
+        let (_, log) = self.outbox.parts();
         Ok(Parts {
             nodes: Sequence::from_vec(self.nodes),
             links,
             input: Sequence::from_vec(self.input.into_vec()),
-            log: Sequence::from_vec(self.log),
+            log: Sequence::from_vec(log),
         })
     }
 
@@ -92,7 +91,7 @@ impl<A: Actor> World<A> {
     pub fn log(&self) -> &[A::Note]
         ensures { result.now ≡ self.now.log }
     {
-        self.log.as_slice()
+        self.outbox.notes()
     }
 
     /// Whether a choice can be taken.
@@ -100,14 +99,24 @@ impl<A: Actor> World<A> {
     pub fn enabled(&self, choice: Choice) -> bool
         ensures { result ≡ is_enabled A.is_ready self.now choice }
     {
-        if choice.is_input() {
-            return self.input_ready();
-        }
         let nodes = self.nodes.len();
         if (choice.node as usize) < nodes && (choice.port as usize) < nodes {
-            !self.links.is_empty(choice)
+            self.enabled_within(choice)
         } else {
             false
+        }
+    }
+
+    /// The same, of a node and a port that are there.
+    #[inline(always)]
+    fn enabled_within(&self, choice: Choice) -> bool
+        requires { (choice.node < length self.now.nodes) × (choice.port < length self.now.nodes) }
+        ensures { result ≡ is_enabled A.is_ready self.now choice }
+    {
+        if choice.is_input() {
+            self.input_ready()
+        } else {
+            !self.links.is_empty(choice)
         }
     }
 
@@ -125,7 +134,7 @@ impl<A: Actor> World<A> {
     }
 
     /// The same, where the choice can be taken.
-    #[inline]
+    #[inline(always)]
     pub(crate) fn take_enabled(&mut self, choice: Choice) -> Result<(), NoMemory>
         requires { is_enabled A.is_ready self.old choice ≡ true }
         ensures { OnOk result (self.new ≡ taken A.stepped self.old choice) }
@@ -141,7 +150,7 @@ impl<A: Actor> World<A> {
         self.input.is_empty() && self.links.all_empty() && all_ended(self.nodes.as_slice())
     }
 
-    #[inline]
+    #[inline(always)]
     fn take_first(&mut self, choice: Choice) -> A::Message
         requires { is_enabled A.is_ready self.old choice ≡ true }
         ensures first { waiting self.old choice ≡ result ∷ drop 1 (waiting self.old choice) }
@@ -158,21 +167,23 @@ impl<A: Actor> World<A> {
         }
     }
 
-    #[inline]
+    // Where the node or a link fails, what is left of what was sent is dropped.
+    #[inline(always)]
     fn step(&mut self, choice: Choice, message: A::Message) -> Result<(), NoMemory>
         requires { choice.node < length self.old.nodes }
         ensures { OnOk result ((node : A) → slice_get self.old.nodes choice.node ≡ Some node → self.new ≡ after self.old choice.node (A.stepped node choice.port message)) }
     {
-        self.outbox.clear();
-        self.nodes[choice.node as usize].step(choice.port, message, &mut self.outbox)?;
+        let node = &mut self.nodes[choice.node as usize];
+        let Ok(()) = node.step(choice.port, message, &mut self.outbox) else {
+            self.outbox.drop_sent();
+            return Err(AllocError);
+        };
         deliver(
             self.nodes.len(),
             choice.node,
             &mut self.outbox,
             &mut self.links,
-        )?;
-        self.outbox.move_notes(&mut self.log)?;
-        Ok(())
+        )
     }
 
     // Whether node 0 takes the first item of the input.
@@ -238,7 +249,7 @@ impl<A: Actor> World<A> {
         for behind in 0..nodes {
             let port = nodes - 1 - behind;
             let choice = Choice { node, port };
-            if self.enabled(choice) {
+            if self.enabled_within(choice) {
                 return Some(choice);
             }
         }
@@ -268,7 +279,7 @@ impl<A: Actor> World<A> {
         let mut left = place;
         for port in 0..nodes {
             let choice = Choice { node, port };
-            let count = self.enabled(choice) as usize;
+            let count = self.enabled_within(choice) as usize;
             if left < count {
                 return Some(choice);
             }
@@ -313,8 +324,9 @@ fn all_ended<A: Actor>(nodes: &[A]) -> bool
     nodes.iter().all(|node| node.ended())
 }
 
-/// Moves what was sent to the ends of its links. What no node takes is dropped.
-#[inline]
+/// Moves what was sent to the ends of its links. What no node takes is dropped, and where memory runs out all that is left.
+/// Most steps send one message or none.
+#[inline(always)]
 fn deliver<M: Drop, N>(
     nodes: usize,
     from: u8,
@@ -324,19 +336,68 @@ fn deliver<M: Drop, N>(
     requires nodes { (from < nodes) × (nodes < 256) }
     requires square { (links.old.nodes ≡ nodes) × (length links.old.lists ≡ nodes * nodes) }
     ensures links { OnOk result (links.new.lists ≡ delivered nodes from outbox.old.0 links.old.lists) }
-    ensures outbox { OnOk result (outbox.new ≡ ([], outbox.old.1)) }
+    ensures outbox { outbox.new ≡ ([], outbox.old.1) }
     ensures count { (links.new.nodes ≡ nodes) × (length links.new.lists ≡ nodes * nodes) }
     ensures loop_link { slice_index_or links.new.lists 0 [] ≡ slice_index_or links.old.lists 0 [] }
-    ensures notes { outbox.new.1 ≡ outbox.old.1 }
+{
+    let Some((to, message)) = outbox.next_sent() else {
+        return Ok(());
+    };
+    let Ok(()) = put(nodes, from, to, message, links) else {
+        outbox.drop_sent();
+        return Err(AllocError);
+    };
+    if outbox.has_sent() {
+        return deliver_rest(nodes, from, outbox, links);
+    }
+    Ok(())
+}
+
+#[cold]
+#[inline(never)]
+fn deliver_rest<M: Drop, N>(
+    nodes: usize,
+    from: u8,
+    outbox: &mut Outbox<M, N>,
+    links: &mut LinkTable<M>,
+) -> Result<(), NoMemory>
+    requires nodes { (from < nodes) × (nodes < 256) }
+    requires square { (links.old.nodes ≡ nodes) × (length links.old.lists ≡ nodes * nodes) }
+    ensures links { OnOk result (links.new.lists ≡ delivered nodes from outbox.old.0 links.old.lists) }
+    ensures outbox { outbox.new ≡ ([], outbox.old.1) }
+    ensures count { (links.new.nodes ≡ nodes) × (length links.new.lists ≡ nodes * nodes) }
+    ensures loop_link { slice_index_or links.new.lists 0 [] ≡ slice_index_or links.old.lists 0 [] }
 {
     while let Some((to, message)) = outbox.next_sent() {
-        let link = Choice {
-            node: to,
-            port: from,
+        let Ok(()) = put(nodes, from, to, message, links) else {
+            outbox.drop_sent();
+            return Err(AllocError);
         };
-        if (to as usize) < nodes && !link.is_input() {
-            links.push(link, message)?;
-        }
+    }
+    Ok(())
+}
+
+/// Puts a message that was sent at the end of its link, or drops it.
+#[inline(always)]
+fn put<M: Drop>(
+    nodes: usize,
+    from: u8,
+    to: u8,
+    message: M,
+    links: &mut LinkTable<M>,
+) -> Result<(), NoMemory>
+    requires nodes { (from < nodes) × (nodes < 256) }
+    requires square { (links.old.nodes ≡ nodes) × (length links.old.lists ≡ nodes * nodes) }
+    ensures links { OnOk result (links.new.lists ≡ put_on nodes from (to, message) links.old.lists) }
+    ensures count { (links.new.nodes ≡ nodes) × (length links.new.lists ≡ nodes * nodes) }
+    ensures loop_link { slice_index_or links.new.lists 0 [] ≡ slice_index_or links.old.lists 0 [] }
+{
+    let link = Choice {
+        node: to,
+        port: from,
+    };
+    if (to as usize) < nodes && !link.is_input() {
+        return links.push(link, message);
     }
     Ok(())
 }

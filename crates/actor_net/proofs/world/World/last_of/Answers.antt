@@ -6,15 +6,15 @@ use Rattle.actor_net.specs.Schedules.{ports_below}
 use Rattle.actor_net.proofs.EnabledChoices.{last_here, none_there}
 use Rattle.actor_net.proofs.world.World.last_of.Goals as goal
 
-pub returns-then-enabled : goal.returns-then-enabled
-returns-then-enabled g c =
+pub returns-then-enabled_within : goal.returns-then-enabled_within
+returns-then-enabled_within g c =
     let nodes = ap (λ w. length w.nodes) c.self.view_is in
-    sym (last_here g.A.Actor.is_ready c.args.self.now c.args.node (c.len-nodes.result - 1 - c.loop-behind.behind) c.loop-behind.behind (sym c.enabled.ensures ∙ c.if-enabled.true) (grind (arith, common_steps)) c.loop-behind.invariant)
+    sym (last_here g.A.Actor.is_ready c.args.self.now c.args.node (c.len-nodes.result - 1 - c.loop-behind.behind) c.loop-behind.behind (sym c.enabled_within.ensures ∙ c.if-enabled_within.true) (grind (arith, common_steps)) c.loop-behind.invariant)
 
 pub loop-behind-preserved : goal.loop-behind-preserved
 loop-behind-preserved g c =
     let nodes = ap (λ w. length w.nodes) c.self.view_is in
-    none_there g.A.Actor.is_ready c.args.self.now c.args.node (c.len-nodes.result - 1 - c.loop-behind.behind) c.loop-behind.behind (sym c.enabled.ensures ∙ c.if-enabled.false) (grind (arith, common_steps)) c.loop-behind.invariant
+    none_there g.A.Actor.is_ready c.args.self.now c.args.node (c.len-nodes.result - 1 - c.loop-behind.behind) c.loop-behind.behind (sym c.enabled_within.ensures ∙ c.if-enabled_within.false) (grind (arith, common_steps)) c.loop-behind.invariant
 
 pub returns : goal.returns
 returns g c =

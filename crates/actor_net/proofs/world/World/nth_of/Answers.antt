@@ -14,11 +14,11 @@ byte_is false = refl
 pub returns-then-left-count : goal.returns-then-left-count
 returns-then-left-count g c =
     let nodes = ap (λ w. length w.nodes) c.self.view_is in
-    sym (found_here g.A.Actor.is_ready c.args.self.now c.args.node c.loop-port.port c.args.place c.loop-port.left (bool_byte c.enabled-count.result) (grind (arith, common_steps)) (byte_is c.enabled-count.result ∙ ap one_if c.enabled-count.ensures) c.if-left-count.true c.loop-port.invariant)
+    sym (found_here g.A.Actor.is_ready c.args.self.now c.args.node c.loop-port.port c.args.place c.loop-port.left (bool_byte c.enabled_within-count.result) (grind (arith, common_steps)) (byte_is c.enabled_within-count.result ∙ ap one_if c.enabled_within-count.ensures) c.if-left-count.true c.loop-port.invariant)
 
 pub loop-port-preserved : goal.loop-port-preserved
 loop-port-preserved g c =
-    place_on g.A.Actor.is_ready c.args.self.now c.args.node c.loop-port.port c.args.place c.loop-port.left (bool_byte c.enabled-count.result) (byte_is c.enabled-count.result ∙ ap one_if c.enabled-count.ensures) c.if-left-count.false c.loop-port.invariant
+    place_on g.A.Actor.is_ready c.args.self.now c.args.node c.loop-port.port c.args.place c.loop-port.left (bool_byte c.enabled_within-count.result) (byte_is c.enabled_within-count.result ∙ ap one_if c.enabled_within-count.ensures) c.if-left-count.false c.loop-port.invariant
 
 pub returns : goal.returns
 returns g c =

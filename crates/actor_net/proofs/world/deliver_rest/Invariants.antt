@@ -1,7 +1,7 @@
 -- What is left to deliver, from here, gives what all of it gives.
 use Rattle.std.proofs.Common.{◌≡◌, ◌*◌, [], length, get_or}
 use Rattle.actor_net.specs.Network.{delivered}
-use Rattle.actor_net.proofs.world.deliver.Given as goal
+use Rattle.actor_net.proofs.world.deliver_rest.Given as goal
 
 abbrev pub invariant-loop-to : goal.invariant-loop-to
 invariant-loop-to g l = record {
