@@ -75,6 +75,7 @@ impl Block {
     }
 
     /// The length of the text.
+    #[inline(always)]
     pub fn len(&self) -> usize
         ensures value { result ≡ length self.now }
         ensures bound { result ≤ BLOCK }
@@ -83,6 +84,7 @@ impl Block {
     }
 
     /// Copies the block to a place of its size, the text in front.
+    #[inline(always)]
     pub fn copy_to(&self, place: &mut [u8])
         requires { length place.old ≡ BLOCK }
         ensures text { take (length self.now) place.new ≡ self.now }

@@ -35,6 +35,7 @@ impl Counter {
     }
 
     /// All of the text but the last digit, and some byte after it.
+    #[inline(always)]
     pub fn block(&self) -> &Block
         ensures some { 0 < length result.now }
         ensures text { take (length result.now - 1) result.now ++ digit_byte self.now.digit ∷ [] ≡ self.now.word.now ++ decimal self.now.number }
@@ -43,6 +44,7 @@ impl Counter {
     }
 
     /// The last digit.
+    #[inline(always)]
     pub fn digit(&self) -> u8
         ensures value { result ≡ self.now.digit }
         ensures bound { result < 10 }
@@ -51,7 +53,7 @@ impl Counter {
     }
 
     /// Goes on to a number.
-    #[inline]
+    #[inline(always)]
     pub fn go_to(&mut self, number: u64)
         ensures word { self.new.word.now ≡ self.old.word.now }
         ensures number { self.new.number ≡ number }
@@ -63,10 +65,11 @@ impl Counter {
             self.step();
             return;
         }
-        *self = Counter::from(self.word, number);
+        self.restart(number);
     }
 
     /// Counts up.
+    #[inline(always)]
     pub fn step(&mut self)
         requires { self.old.number + 1 < 2 ^ 64 }
         ensures word { self.new.word.now ≡ self.old.word.now }
@@ -75,10 +78,20 @@ impl Counter {
         let next = self.number + 1;
         let digit = (next % 10) as u8;
         if digit == 0 {
-            *self = Counter::from(self.word, next);
+            self.restart(next);
             return;
         }
         self.number = next;
         self.digit = digit;
+    }
+
+    /// Begins with a number again.
+    #[cold]
+    #[inline(never)]
+    fn restart(&mut self, number: u64)
+        ensures word { self.new.word.now ≡ self.old.word.now }
+        ensures number { self.new.number ≡ number }
+    {
+        *self = Counter::from(self.word, number);
     }
 }

@@ -34,7 +34,7 @@ impl Page {
     }
 
     /// Puts the line of a count and an end behind the text and what stands on the page.
-    #[inline]
+    #[inline(always)]
     pub fn push_line(
         &mut self,
         text: &mut Text,
@@ -64,6 +64,7 @@ impl Page {
     }
 
     /// Puts a line after the text.
+    #[inline(always)]
     fn put_line(&mut self, count: &Counter, end: &Block)
         requires { self.old.used + LONGEST_LINE ≤ PAGE_BYTES }
         ensures { page_text self.new ≡ page_text self.old ++ (count.now.word.now ++ decimal count.now.number ++ end.now) }
@@ -74,6 +75,7 @@ impl Page {
 
     /// Puts a word and a number after the text. The last digit goes to the page alone, since a block that was written to a
     /// moment ago is slow to copy.
+    #[inline(always)]
     fn put_count(&mut self, count: &Counter)
         requires { self.old.used + BLOCK ≤ PAGE_BYTES }
         ensures text { page_text self.new ≡ page_text self.old ++ (count.now.word.now ++ decimal count.now.number) }
@@ -84,6 +86,7 @@ impl Page {
     }
 
     /// Puts a block after the text.
+    #[inline(always)]
     fn put(&mut self, block: &Block)
         requires room { self.old.used + BLOCK ≤ PAGE_BYTES }
         ensures text { page_text self.new ≡ page_text self.old ++ block.now }
@@ -96,6 +99,7 @@ impl Page {
     }
 
     /// Puts another byte in place of the text's last.
+    #[inline(always)]
     fn set_last(&mut self, byte: u8)
         requires { 0 < self.old.used }
         ensures text { (front : List ℕ) (last : ℕ) → page_text self.old ≡ front ++ last ∷ [] → page_text self.new ≡ front ++ byte ∷ [] }

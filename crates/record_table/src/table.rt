@@ -1,4 +1,4 @@
-ghost use Rattle.std.specs.Prelude.{◌≡◌, ◌+◌, ◌≤◌, Bool, true, false, not, if◌then◌else◌, List, length, option_map, IfOk, IfErr, IfSome, OnOk, OnErr, None};
+ghost use Rattle.std.specs.Prelude.{◌≡◌, ◌+◌, ◌≤◌, Bool, true, false, not, if◌then◌else◌, List, length, map, option_map, IfOk, IfErr, IfSome, OnOk, OnErr, None};
 ghost use Rattle.std.specs.Option.{option_copied, option_or};
 ghost use Rattle.std.specs.FinMap as finite;
 ghost use Rattle.flow_filter.specs.Flow.{flow_of};
@@ -234,6 +234,13 @@ impl<F: Function> Table<F> {
             units.push(entry.0)?;
         }
         Ok(units)
+    }
+
+    /// The live records, or else those that stand by, in the order of their units.
+    pub fn records(&self, live: bool) -> Result<Vec<(Unit, &F::Record)>, NoMemory>
+        ensures { IfOk result (λ found. map (λ e. (e.0, e.1.now)) found.items ≡ finite.entries (part self.now live)) }
+    {
+        self.part(live).ordered(None)
     }
 
     /// The live record of a unit, or else the one that stands by.

@@ -1,4 +1,5 @@
 pub mod AuditLemmas
 pub mod Endings
-pub mod FoundRecords
+pub mod NumberBefore
 pub mod SortLemmas
+pub mod SortedAlready

@@ -1,10 +1,11 @@
 -- What stands behind the references of lists on the way to the report. Steps between code and definition: there is nothing here to
 -- believe.
-use Rattle.std.specs.Prelude.{ℕ}
+use Rattle.std.specs.Prelude.{ℕ, List}
 use Rattle.std.specs.Borrow.{Bor}
 use Rattle.nf_msgs.specs.declared.answer.Answer.{Answer}
 use Rattle.run_report.specs.Lines.{NamedInstance, NamedRecord}
 use Rattle.run_report.specs.declared.instances.NamedInstance as code
+use Rattle.run_report.specs.declared.ends.NameEnd as end_code
 use Rattle.run_report.specs.declared.states.NamedRecord as record_code
 
 module _ {F R : Type 0} where
@@ -20,3 +21,7 @@ module _ {R : Type 0} where
 -- an answer with its number, behind its reference
 abbrev pub answer_seen : ℕ × Bor Answer → ℕ × Answer
 answer_seen x = (x.0, x.1.now)
+
+-- an instance's name, behind its reference
+abbrev pub name_seen : end_code.NameEnd → List ℕ
+name_seen end = end.name.now

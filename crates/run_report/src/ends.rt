@@ -1,5 +1,6 @@
-//! What ends the lines of the packets' outputs.
-ghost use Rattle.std.specs.Prelude.{◌≡◌, IfOk, IfSome};
+//! What ends the lines of packets: their outputs, and the names of instances.
+ghost use Rattle.std.specs.Prelude.{◌≡◌, ◌++◌, codes, IfOk, IfSome};
+ghost use Rattle.std.specs.Option.{ForSome};
 ghost use Rattle.run_report.specs.Ends.{end_text};
 
 use basics::{NoMemory, Text};
@@ -37,31 +38,21 @@ impl<F: Function> OutputEnds<F> {
         Ok(OutputEnds { by_code, alloc })
     }
 
-    /// What ends the line of an output, or none where that is long.
-    pub(crate) fn of(&mut self, output: &Output) -> Result<Option<Block>, NoMemory>
-        ensures { IfOk result (λ end. IfSome end (λ block. block ≡ end_text F.semantics output.now)) }
-    {
-        match self.kept(output) {
-            Some(end) => Ok(Some(end)),
-            None => self.make(output),
-        }
-    }
-
     /// The end that was kept of this output.
-    #[inline]
-    fn kept(&self, output: &Output) -> Option<Block>
-        ensures { IfSome result (λ block. block ≡ end_text F.semantics output.now) }
+    #[inline(always)]
+    pub(crate) fn kept(&self, output: &Output) -> Option<&Block>
+        ensures { IfSome result (λ block. block.now ≡ end_text F.semantics output.now) }
     {
         let made = self.by_code.get(usize::from(output.code))?.as_ref()?;
         if made.output == *output {
-            Some(made.end.copy())
+            Some(&made.end)
         } else {
             None
         }
     }
 
-    /// Makes the end of an output, and keeps it.
-    fn make(&mut self, output: &Output) -> Result<Option<Block>, NoMemory>
+    /// Makes the end of an output and keeps it, or gives none where it is long.
+    pub(crate) fn make(&mut self, output: &Output) -> Result<Option<Block>, NoMemory>
         ensures { IfOk result (λ end. IfSome end (λ block. block ≡ end_text F.semantics output.now)) }
     {
         let mut text = Text::open(self.alloc);
@@ -78,5 +69,43 @@ impl<F: Function> OutputEnds<F> {
             });
         }
         Ok(Some(end))
+    }
+}
+
+/// An instance's name, and what ends the lines of its packets.
+#[derive(Drop)]
+pub(crate) struct NameEnd<'a> {
+    name: &'a [u8],
+    /// None where the name is long.
+    end: Option<Block>,
+    ghost is_end: { ForSome end (λ block. block ≡ codes " " ++ name.now ++ codes "\n") },
+}
+
+impl<'a> NameEnd<'a> {
+    /// The end of a name.
+    pub(crate) fn of(name: &'a [u8]) -> NameEnd<'a>
+        ensures { result.name.now ≡ name.entry.now }
+    {
+        let end = if name.len() <= LONGEST_END {
+            Some(Block::line_end(name))
+        } else {
+            None
+        };
+        NameEnd { name, end }
+    }
+
+    /// The name.
+    pub(crate) fn name(&self) -> &[u8]
+        ensures { result.now ≡ self.now.name.now }
+    {
+        self.name
+    }
+
+    /// What ends the lines, or none where the name is long.
+    #[inline(always)]
+    pub(crate) fn block(&self) -> Option<&Block>
+        ensures { IfSome result (λ block. block.now ≡ codes " " ++ self.now.name.now ++ codes "\n") }
+    {
+        self.end.as_ref()
     }
 }

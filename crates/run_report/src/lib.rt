@@ -10,6 +10,7 @@ pub mod auditing;
 mod ends;
 pub mod head;
 pub mod instances;
+mod line_front;
 pub mod lines;
 pub mod reporting;
 pub mod states;

@@ -1,13 +1,13 @@
 //! The lines that are read off the log.
-ghost use Rattle.std.specs.Prelude.{◌≡◌, ◌++◌, codes, map, filter_map, IfOk, OnOk};
+ghost use Rattle.std.specs.Prelude.{◌≡◌, ◌++◌, true, codes, map, filter_map, IfOk, OnOk};
 ghost use Rattle.std.specs.List.{flat_map};
 ghost use Rattle.counted_lines.specs.Pages.{pending, word_of};
 ghost use Rattle.run_report.specs.Lines.{answer_in, answer_line, answer_lines, by_number, done_line, done_lines, done_text, name_of, out_line, out_lines, output_in, packet_lines};
-ghost use Rattle.run_report.specs.Seen.{answer_seen};
+ghost use Rattle.run_report.specs.Seen.{answer_seen, name_seen};
 
-use crate::ends::OutputEnds;
+use crate::ends::{NameEnd, OutputEnds};
 use basics::{NoMemory, Text};
-use counted_lines::{Block, CountedLines, LONGEST_END};
+use counted_lines::CountedLines;
 use flow_filter::Name;
 use nf_function::{Function, Output};
 use nf_msgs::{Answer, Note, print_answer};
@@ -31,13 +31,68 @@ pub(crate) fn push_packets<F: Function>(
 fn push_outs<F: Function>(alloc: Global, text: &mut Text, log: &[Note]) -> Result<(), NoMemory>
     ensures { OnOk result (text.new ≡ text.old ++ out_lines F.semantics log.now) }
 {
-    let outputs = outputs_by_number(alloc, log)?;
     let mut lines = CountedLines::open(alloc, b"out ")?;
     let mut ends = OutputEnds::<F>::open(alloc)?;
-    for (number, output) in &outputs {
-        push_out::<F>(text, &mut lines, &mut ends, *number, output)?;
+    if is_by_number(log) {
+        push_noted_outs::<F>(text, &mut lines, &mut ends, log)?;
+        return lines.flush(text);
     }
+    push_sorted_outs::<F>(alloc, text, &mut lines, &mut ends, log)?;
     lines.flush(text)
+}
+
+/// Whether the packets' outputs stand in the log by their numbers, as they nearly always do.
+fn is_by_number(log: &[Note]) -> bool
+    ensures { result ≡ true → filter_map output_in log.now ≡ by_number output_in log.now }
+{
+    let mut last = 0;
+    for note in log {
+        if let Note::Processed { number, .. } = note {
+            if *number < last {
+                return false;
+            }
+            last = *number;
+        }
+    }
+    true
+}
+
+/// Puts the line of each packet's output behind the text and the lines that are still to go there, in the order of the log.
+fn push_noted_outs<F: Function>(
+    text: &mut Text,
+    lines: &mut CountedLines,
+    ends: &mut OutputEnds<F>,
+    log: &[Note],
+) -> Result<(), NoMemory>
+    requires word { word_of lines.old ≡ codes "out " }
+    requires in_order { filter_map output_in log.now ≡ by_number output_in log.now }
+    ensures { OnOk result (text.new ++ pending lines.new ≡ (text.old ++ pending lines.old) ++ out_lines F.semantics log.now) }
+{
+    for note in log {
+        if let Note::Processed { number, output, .. } = note {
+            push_out::<F>(text, lines, ends, *number, output)?;
+        }
+    }
+    Ok(())
+}
+
+/// The same by the packets' numbers, where they stand in another order.
+#[cold]
+fn push_sorted_outs<F: Function>(
+    alloc: Global,
+    text: &mut Text,
+    lines: &mut CountedLines,
+    ends: &mut OutputEnds<F>,
+    log: &[Note],
+) -> Result<(), NoMemory>
+    requires { word_of lines.old ≡ codes "out " }
+    ensures { OnOk result (text.new ++ pending lines.new ≡ (text.old ++ pending lines.old) ++ out_lines F.semantics log.now) }
+{
+    let outputs = outputs_by_number(alloc, log)?;
+    for (number, output) in &outputs {
+        push_out::<F>(text, lines, ends, *number, output)?;
+    }
+    Ok(())
 }
 
 /// The packets' outputs by their numbers.
@@ -64,6 +119,7 @@ fn outputs(alloc: Global, log: &[Note]) -> Result<Vec<(u32, Output)>, NoMemory>
 
 /// Puts an output's line behind the text and the lines that are still to go there.
 #[tactic(auto, unfolding(crate::specs::Lines::out_line))]
+#[inline(always)]
 fn push_out<F: Function>(
     text: &mut Text,
     lines: &mut CountedLines,
@@ -75,7 +131,28 @@ fn push_out<F: Function>(
     ensures text { OnOk result (text.new ++ pending lines.new ≡ (text.old ++ pending lines.old) ++ out_line F.semantics (number, output.now)) }
     ensures word { word_of lines.new ≡ word_of lines.old }
 {
-    match ends.of(output)? {
+    match ends.kept(output) {
+        Some(end) => lines.push(text, u64::from(number), end),
+        None => push_other_out::<F>(text, lines, ends, number, output),
+    }
+}
+
+/// The same for an output whose end isn't kept yet.
+#[tactic(auto, unfolding(crate::specs::Lines::out_line))]
+#[cold]
+#[inline(never)]
+fn push_other_out<F: Function>(
+    text: &mut Text,
+    lines: &mut CountedLines,
+    ends: &mut OutputEnds<F>,
+    number: u32,
+    output: &Output,
+) -> Result<(), NoMemory>
+    requires { word_of lines.old ≡ codes "out " }
+    ensures text { OnOk result (text.new ++ pending lines.new ≡ (text.old ++ pending lines.old) ++ out_line F.semantics (number, output.now)) }
+    ensures word { word_of lines.new ≡ word_of lines.old }
+{
+    match ends.make(output)? {
         Some(end) => lines.push(text, u64::from(number), &end),
         None => {
             lines.flush(text)?;
@@ -99,22 +176,35 @@ fn push_long_out<F: Function>(text: &mut Text, number: u32, output: &Output) -> 
 fn push_dones(alloc: Global, text: &mut Text, names: &[Name], log: &[Note]) -> Result<(), NoMemory>
     ensures { OnOk result (text.new ≡ text.old ++ done_lines names.now log.now) }
 {
+    let ends = name_ends(alloc, names)?;
     let mut lines = CountedLines::open(alloc, b"done ")?;
     for note in log {
-        push_done(text, &mut lines, names, note)?;
+        push_done(text, &mut lines, &ends, note)?;
     }
     lines.flush(text)
 }
 
+/// The ends of the instances' names, in their order.
+fn name_ends(alloc: Global, names: &[Name]) -> Result<Vec<NameEnd<'_>>, NoMemory>
+    ensures { IfOk result (λ ends. map name_seen ends.items ≡ names.entry.now) }
+{
+    let mut ends = Vec::with_capacity(alloc, names.len())?;
+    for name in names {
+        ends.push(NameEnd::of(name.items()))?;
+    }
+    Ok(ends)
+}
+
 /// Puts the line of a packet that was processed behind the text and the lines that are still to go there.
+#[inline(always)]
 fn push_done(
     text: &mut Text,
     lines: &mut CountedLines,
-    names: &[Name],
+    ends: &[NameEnd<'_>],
     note: &Note,
 ) -> Result<(), NoMemory>
     requires { word_of lines.old ≡ codes "done " }
-    ensures text { OnOk result (text.new ++ pending lines.new ≡ (text.old ++ pending lines.old) ++ done_line names.now note.now) }
+    ensures text { OnOk result (text.new ++ pending lines.new ≡ (text.old ++ pending lines.old) ++ done_line (map name_seen ends.now) note.now) }
     ensures word { word_of lines.new ≡ word_of lines.old }
 {
     match note {
@@ -122,24 +212,53 @@ fn push_done(
             number,
             instance,
             ..
-        } => push_done_at(text, lines, *number, name_of(names, *instance)),
+        } => push_done_at(text, lines, ends, *number, *instance),
         _ => Ok(()),
     }
 }
 
-/// The name of an instance by its number.
-fn name_of(names: &[Name], instance: u8) -> &[u8]
-    ensures { result.now ≡ name_of names.now instance }
+/// The same for a number and an instance.
+#[inline(always)]
+fn push_done_at(
+    text: &mut Text,
+    lines: &mut CountedLines,
+    ends: &[NameEnd<'_>],
+    number: u32,
+    instance: u8,
+) -> Result<(), NoMemory>
+    requires { word_of lines.old ≡ codes "done " }
+    ensures text { OnOk result (text.new ++ pending lines.new ≡ (text.old ++ pending lines.old) ++ done_text number (name_of (map name_seen ends.now) instance)) }
+    ensures word { word_of lines.new ≡ word_of lines.old }
 {
-    match names.get(usize::from(instance)) {
-        Some(name) => name.items(),
-        None => &[],
+    match ends.get(usize::from(instance)) {
+        Some(end) => push_done_of(text, lines, end, number),
+        None => push_other_done(text, lines, number, &[]),
     }
 }
 
-/// The same for a number and a name.
+/// The same for a number and what ends the line.
 #[tactic(auto, unfolding(crate::specs::Lines::done_text))]
-fn push_done_at(
+#[inline(always)]
+fn push_done_of(
+    text: &mut Text,
+    lines: &mut CountedLines,
+    named: &NameEnd<'_>,
+    number: u32,
+) -> Result<(), NoMemory>
+    requires { word_of lines.old ≡ codes "done " }
+    ensures text { OnOk result (text.new ++ pending lines.new ≡ (text.old ++ pending lines.old) ++ done_text number (name_seen named.now)) }
+    ensures word { word_of lines.new ≡ word_of lines.old }
+{
+    match named.block() {
+        Some(end) => lines.push(text, u64::from(number), end),
+        None => push_other_done(text, lines, number, named.name()),
+    }
+}
+
+/// The same for a number and a name that is long, or isn't there.
+#[cold]
+#[inline(never)]
+fn push_other_done(
     text: &mut Text,
     lines: &mut CountedLines,
     number: u32,
@@ -149,9 +268,6 @@ fn push_done_at(
     ensures text { OnOk result (text.new ++ pending lines.new ≡ (text.old ++ pending lines.old) ++ done_text number name.now) }
     ensures word { word_of lines.new ≡ word_of lines.old }
 {
-    if name.len() <= LONGEST_END {
-        return lines.push(text, u64::from(number), &Block::line_end(name));
-    }
     lines.flush(text)?;
     push_long_done(text, number, name)
 }

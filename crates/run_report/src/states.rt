@@ -5,7 +5,8 @@ ghost use Rattle.run_report.specs.Lines.{by_unit, named_records, record_line, re
 ghost use Rattle.run_report.specs.Seen.{record_seen, instance_seen};
 
 use crate::instances::NamedInstance;
-use crate::units::push_unit;
+use crate::line_front::LineFront;
+use crate::units::put_unit;
 use basics::{NoMemory, Text};
 use nf_function::{Function, Unit};
 use std::alloc::Global;
@@ -42,9 +43,33 @@ fn push_record_lines<F: Function>(
 ) -> Result<(), NoMemory>
     ensures { OnOk result (text.new ≡ text.old ++ flat_map (record_line F.semantics word.now) (by_unit live (map instance_seen instances.now))) }
 {
+    if let [only] = instances {
+        return push_own_lines(text, word, live, only);
+    }
     let records = records_by_unit(alloc, live, instances)?;
     for record in &records {
         push_record_line::<F>(text, word, record)?;
+    }
+    Ok(())
+}
+
+/// The same for the records of one instance, which are in order.
+fn push_own_lines<F: Function>(
+    text: &mut Text,
+    word: &[u8],
+    live: bool,
+    named: &NamedInstance<'_, F>,
+) -> Result<(), NoMemory>
+    ensures { OnOk result (text.new ≡ text.old ++ flat_map (record_line F.semantics word.now) (named_records live (instance_seen named.now))) }
+{
+    let records = named.instance.table().records(live)?;
+    for (unit, kept) in &records {
+        let record = NamedRecord {
+            unit: *unit,
+            name: named.name,
+            kept: *kept,
+        };
+        push_record_line::<F>(text, word, &record)?;
     }
     Ok(())
 }
@@ -85,16 +110,13 @@ fn add_records<'a, F: Function>(
 ) -> Result<(), NoMemory>
     ensures { OnOk result (map record_seen found.new.items ≡ map record_seen found.old.items ++ named_records live (instance_seen named.entry.now)) }
 {
-    let table = named.instance.table();
-    let units = table.units(live)?;
-    for unit in units.items() {
-        if let Some(kept) = table.record(unit, live) {
-            found.push(NamedRecord {
-                unit: *unit,
-                name: named.name,
-                kept,
-            })?;
-        }
+    let records = named.instance.table().records(live)?;
+    for (unit, kept) in &records {
+        found.push(NamedRecord {
+            unit: *unit,
+            name: named.name,
+            kept: *kept,
+        })?;
     }
     Ok(())
 }
@@ -107,9 +129,11 @@ fn push_record_line<F: Function>(
 ) -> Result<(), NoMemory>
     ensures { OnOk result (text.new ≡ text.old ++ record_line F.semantics word.now (record_seen named.now)) }
 {
+    let mut front = LineFront::open();
+    front.put_byte(b' ');
+    put_unit(&mut front, &named.unit);
     text.push_bytes(word)?;
-    push_unit(text, &named.unit)?;
-    text.push_bytes(b" ")?;
+    text.push_bytes(front.bytes())?;
     text.push_bytes(named.name)?;
     text.push_bytes(b" ")?;
     F::push_record(text, named.kept)?;

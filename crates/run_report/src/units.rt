@@ -1,42 +1,59 @@
-ghost use Rattle.std.specs.Prelude.{◌≡◌, ◌++◌, OnOk};
+ghost use Rattle.std.specs.Prelude.{◌≡◌, ◌≤◌, ◌+◌, ◌++◌, length};
 ghost use Rattle.flow_filter.specs.FilterText.{protocol_text};
+ghost use Rattle.run_report.specs.declared.line_front.TheConstants.{ROOM};
+ghost use Rattle.run_report.specs.declared.units.TheConstants.{LONGEST_END_POINT};
 ghost use Rattle.run_report.specs.Lines.{end_point_text, flow_text, unit_text};
 
-use basics::{NoMemory, Text};
+use crate::line_front::{LONGEST_ADDRESS, LONGEST_NUMBER, LineFront};
 use flow_filter::{Flow, TCP};
 use nf_function::Unit;
 
-/// Puts a unit after a text: a flow, or a host's address.
-pub(crate) fn push_unit(text: &mut Text, unit: &Unit) -> Result<(), NoMemory>
-    ensures { OnOk result (text.new ≡ text.old ++ unit_text unit.now) }
+/// Room for an address and a port.
+const LONGEST_END_POINT: usize = LONGEST_ADDRESS + 1 + LONGEST_NUMBER;
+
+/// Puts a unit before a short text: a flow, or a host's address.
+pub(crate) fn put_unit(front: &mut LineFront, unit: &Unit)
+    requires { length front.old ≤ 1 }
+    ensures { front.new ≡ unit_text unit.now ++ front.old }
 {
     match unit {
-        Unit::Flow(flow) => push_flow(text, flow),
-        Unit::Host(host) => text.push_address(*host),
+        Unit::Flow(flow) => put_flow(front, flow),
+        Unit::Host(host) => front.put_address(*host),
     }
 }
 
 #[tactic(auto, unfolding(crate::specs::Lines::flow_text))]
-fn push_flow(text: &mut Text, flow: &Flow) -> Result<(), NoMemory>
-    ensures { OnOk result (text.new ≡ text.old ++ flow_text flow.now) }
+fn put_flow(front: &mut LineFront, flow: &Flow)
+    requires { length front.old ≤ 1 }
+    ensures { front.new ≡ flow_text flow.now ++ front.old }
 {
-    text.push_bytes(protocol_name(flow.proto).as_bytes())?;
-    text.push_bytes(b" ")?;
-    push_end(text, flow.local, flow.lport)?;
-    text.push_bytes(b" ")?;
-    push_end(text, flow.remote, flow.rport)
+    put_end(front, flow.remote, flow.rport);
+    front.put_byte(b' ');
+    put_end(front, flow.local, flow.lport);
+    front.put_byte(b' ');
+    put_protocol(front, flow.proto);
 }
 
-fn push_end(text: &mut Text, address: u32, port: u16) -> Result<(), NoMemory>
-    ensures { OnOk result (text.new ≡ text.old ++ end_point_text address port) }
+fn put_end(front: &mut LineFront, address: u32, port: u16)
+    requires { length front.old + LONGEST_END_POINT ≤ ROOM }
+    ensures text { front.new ≡ end_point_text address port ++ front.old }
+    ensures room { length front.new ≤ length front.old + LONGEST_END_POINT }
 {
-    text.push_address(address)?;
-    text.push_bytes(b":")?;
-    text.push_decimal(u64::from(port))
+    front.put_number(u32::from(port));
+    front.put_byte(b':');
+    front.put_address(address);
 }
 
-fn protocol_name(proto: u8) -> &'static str
-    ensures { result.now ≡ protocol_text proto }
+fn put_protocol(front: &mut LineFront, proto: u8)
+    requires { length front.old + 3 ≤ ROOM }
+    ensures { front.new ≡ protocol_text proto ++ front.old }
 {
-    if proto == TCP { "tcp" } else { "udp" }
+    front.put_byte(b'p');
+    if proto == TCP {
+        front.put_byte(b'c');
+        front.put_byte(b't');
+        return;
+    }
+    front.put_byte(b'd');
+    front.put_byte(b'u');
 }
