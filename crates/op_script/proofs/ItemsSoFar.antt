@@ -1,11 +1,15 @@
 -- The input so far, one packet more, and the end.
-use Rattle.std.proofs.Common.{◌≡◌, ℕ, ◌+◌, ◌<◌, ◌^◌, eqb, leb, List, ◌∷◌, [], ◌++◌, length, drop, refl, ap, ◌∙◌, arith, length-drop}
+use Rattle.std.proofs.Common.{◌≡◌, ℕ, ◌+◌, ◌<◌, ◌^◌, eqb, leb, List, ◌∷◌, [], ◌++◌, map, length, drop, refl, ap, sym, ◌∙◌, arith, length-drop}
 use Rattle.std.proofs.lemmas.List.{append_assoc}
 use Rattle.flow_filter.specs.declared.packet.Packet.{Packet}
 use Rattle.nf_msgs.specs.declared.msg.Msg.{Msg}
 use Rattle.nf_msgs.specs.declared.msg.Msg.TheVariants.{InPacket, InEnd}
 use Rattle.op_script.specs.declared.script.Line.{Line}
 use Rattle.op_script.specs.Items.{said_where, items_from, items}
+
+no_packets : (ps : List Packet) → map InPacket ps ≡ [] → ps ≡ []
+no_packets [] none = refl
+no_packets (p ∷ ps) none = absurd (cc)
 
 no_items : {X : Type 0} (xs : List X) → length xs ≡ 0 → xs ≡ []
 no_items [] none = refl
@@ -15,27 +19,79 @@ no_items (x ∷ xs) none = absurd (omega arith)
 no_first : {X : Type 0} (xs ys : List X) → xs ≡ ys → ys ≡ drop 1 xs → xs ≡ []
 no_first xs ys same rest = no_items xs (omega (arith, ap length (same ∙ rest), length-drop 1 xs))
 
--- the packets are written, and then the lines that are left, and the end
-pub all_items : (packets : List Packet) (lines : List Line) (point : ℕ) (left after_none : List Packet) (before last after : List Msg)
-    → left ≡ after_none → after_none ≡ drop 1 left
-    → before ++ items_from point left lines ≡ items_from 0 packets lines → last ≡ before ++ said_where (λ at. leb point at) lines → after ≡ last ++ InEnd ∷ []
-    → after ≡ items packets lines
-all_items packets lines point left after_none before last after same rest so_far said end =
-    let whole : before ++ said_where (λ at. leb point at) lines ≡ items_from 0 packets lines = rw (no_first left after_none same rest) at so_far in
-    end ∙ ap (λ t. t ++ InEnd ∷ []) (said ∙ whole)
+-- items that are packets: the first is one, and so are the others
+pub record Split (items rest : List Msg) (item : Msg) (ps : List Packet) : Type 0 where
+  pub packet : Packet
+  pub left : List Packet
+  pub first : item ≡ InPacket packet
+  pub rest_are : rest ≡ map InPacket left
+  pub packets : ps ≡ packet ∷ left
 
--- with one packet less the point is one more
-pub fits_on : (packets : List Packet) (packet : Packet) (left : List Packet) (point : ℕ) → packets ≡ packet ∷ left → point + length packets < 2 ^ 64
+pub split : (items rest : List Msg) (item : Msg) (ps : List Packet) → items ≡ item ∷ rest → items ≡ map InPacket ps → Split items rest item ps
+split items rest item [] first are = let none : item ∷ rest ≡ [] = cc in absurd (cc)
+split items rest item (p ∷ ps) first are =
+    let same : item ∷ rest ≡ InPacket p ∷ map InPacket ps = cc in
+    record { packet = p; left = ps; first = cc; rest_are = cc; packets = refl }
+
+-- what is written, and what the packets that wait and the lines still give
+pub record SoFar (whole : List Packet) (lines : List Line) (point : ℕ) (waiting out : List Msg) : Type 0 where
+  pub left : List Packet
+  pub waits : waiting ≡ map InPacket left
+  pub counted : point + length left ≡ length whole
+  pub same : out ++ items_from point left lines ≡ items_from 0 whole lines
+
+pub so_far_start : (whole : List Packet) (lines : List Line) (waiting out : List Msg) → waiting ≡ map InPacket whole → out ≡ [] → SoFar whole lines 0 waiting out
+so_far_start whole lines waiting out are none = record {
+  left = whole;
+  waits = are;
+  counted = omega arith;
+  same = ap (λ l. l ++ items_from 0 whole lines) none;
+}
+
+-- all packets are written
+pub all_written : (whole : List Packet) (lines : List Line) (point : ℕ) (waiting none out : List Msg) → waiting ≡ none → none ≡ drop 1 waiting
+    → SoFar whole lines point waiting out → out ++ said_where (λ at. leb (length whole) at) lines ≡ items_from 0 whole lines
+all_written whole lines point waiting none out same rest so_far =
+    let no_items : map InPacket so_far.left ≡ [] = sym so_far.waits ∙ no_first waiting none same rest in
+    let no_left : so_far.left ≡ [] = no_packets so_far.left no_items in
+    let all : out ++ said_where (λ at. leb point at) lines ≡ items_from 0 whole lines = rw no_left at so_far.same in
+    let count : point + length {A = Packet} [] ≡ length whole = rw no_left at so_far.counted in
+    let is : length whole ≡ point = omega (arith, count) in
+    rw is all
+
+-- the whole input
+pub all_items : (packets : List Packet) (lines : List Line) (count : ℕ) (before last after : List Msg) → count ≡ length packets
+    → before ++ said_where (λ at. leb (length packets) at) lines ≡ items_from 0 packets lines
+    → last ≡ before ++ said_where (λ at. leb count at) lines → after ≡ last ++ InEnd ∷ [] → after ≡ items packets lines
+all_items packets lines count before last after counted so_far said end =
+    end ∙ ap (λ t. t ++ InEnd ∷ []) (said ∙ ap (λ n. before ++ said_where (λ at. leb n at) lines) counted ∙ so_far)
+
+-- with one item less the point is one more
+pub fits_on : (items : List Msg) (item : Msg) (left : List Msg) (point : ℕ) → items ≡ item ∷ left → point + length items < 2 ^ 64
     → point + 1 + length left < 2 ^ 64
-fits_on packets packet left point first fits =
-    let before : point + length (packet ∷ left) < 2 ^ 64 = rw first at fits in
+fits_on items item left point first fits =
+    let before : point + length (item ∷ left) < 2 ^ 64 = rw first at fits in
     omega (arith, before)
 
 -- the lines at the point are written, and a packet
-pub one_more : (lines : List Line) (point : ℕ) (packet : Packet) (packets left : List Packet) (before said last after whole : List Msg)
+one_more : (lines : List Line) (point : ℕ) (packet : Packet) (packets left : List Packet) (before said last after whole : List Msg)
     → said ≡ said_where (λ at. eqb at point) lines → last ≡ before ++ said → after ≡ last ++ InPacket packet ∷ [] → packets ≡ packet ∷ left
     → before ++ items_from point packets lines ≡ whole → after ++ items_from (point + 1) left lines ≡ whole
 one_more lines point packet packets left before said last after whole is more end first so_far =
     let rest : before ++ (said_where (λ at. eqb at point) lines ++ InPacket packet ∷ items_from (point + 1) left lines) ≡ whole = rw first at so_far in
     let all : after ≡ (before ++ said) ++ InPacket packet ∷ [] = end ∙ ap (λ ms. ms ++ InPacket packet ∷ []) more in
     rw all (simp append_assoc (rw is rest))
+
+pub so_far_more : (whole : List Packet) (lines : List Line) (point : ℕ) (waiting rest before said last after : List Msg) (item : Msg)
+    → said ≡ said_where (λ at. eqb at point) lines → last ≡ before ++ said → after ≡ last ++ item ∷ [] → waiting ≡ item ∷ rest
+    → SoFar whole lines point waiting before → SoFar whole lines (point + 1) rest after
+so_far_more whole lines point waiting rest before said last after item is more end first so_far =
+    let parts = split waiting rest item so_far.left first so_far.waits in
+    let count : point + length (parts.packet ∷ parts.left) ≡ length whole = rw parts.packets at so_far.counted in
+    record {
+      left = parts.left;
+      waits = parts.rest_are;
+      counted = omega (arith, count);
+      same = one_more lines point parts.packet so_far.left parts.left before said last after _ is more
+          (end ∙ ap (λ m. last ++ m ∷ []) parts.first) parts.packets so_far.same;
+    }

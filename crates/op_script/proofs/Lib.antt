@@ -2,6 +2,7 @@ pub mod WrittenTexts
 pub mod JudgedLemmas
 pub mod ScriptLineLemmas
 pub mod FormLemmas
+pub mod PacketLists
 pub mod ParsedScripts
 pub mod ItemsSoFar
 pub mod PrintableWords

@@ -3,3 +3,4 @@ pub mod Reading
 pub mod FormViews
 pub mod Printing
 pub mod Items
+pub mod PacketItems

@@ -1,34 +1,55 @@
 ghost use Rattle.std.specs.Prelude.{◌≡◌, ◌≤◌, [], ◌∷◌, ◌++◌, ◌==◌, nat_le, length, map, IfOk, OnOk};
-ghost use Rattle.std.specs.List.{prefix_len};
-ghost use Rattle.op_script.specs.Items.{msg_of, said_where, IsAhead, items};
+ghost use Rattle.std.specs.List.{list_all, prefix_len};
+ghost use Rattle.op_script.specs.Items.{msg_of, said_where, items_from, IsAhead, items};
 
+use crate::packet_items::PacketItems;
 use crate::script::{Line, Script, What};
 use basics::Boxed;
-use flow_filter::{NoMemory, Packets};
+use flow_filter::NoMemory;
 use nf_msgs::Msg;
 use std::alloc::Global;
 use std::collections::VecDeque;
 
 /// The input of a run: the packets in order, and each line of the script after the packet that it names, or after
 /// the last of a shorter trace; and then the end.
-pub fn items(alloc: Global, trace: Packets, script: &Script) -> Result<Vec<Msg>, NoMemory>
-    ensures { IfOk result (λ found. found.items ≡ items trace script.now.lines.items) }
+pub fn items(alloc: Global, packets: PacketItems, script: &Script) -> Result<Vec<Msg>, NoMemory>
+    ensures { IfOk result (λ found. found.items ≡ items packets script.now.lines.items) }
 {
-    let mut packets = VecDeque::from_vec(trace.into_vec());
-    let mut out = with_room(alloc, packets.len(), script.lines.len())?;
-    let lines = in_order(alloc, script.lines.as_slice())?;
-    let mut rest = lines.as_slice();
+    let lines = script.lines.as_slice();
+    let count = packets.items().len() as u64;
+    let mut out = with_lines(alloc, packets, lines)?;
+    push_from(alloc, &mut out, lines, count)?;
+    out.push(Msg::InEnd)?;
+    Ok(out)
+}
+
+/// The packets, and the lines before them. Where there are none, no packet is moved.
+fn with_lines(alloc: Global, packets: PacketItems, lines: &[Line]) -> Result<Vec<Msg>, NoMemory>
+    ensures { IfOk result (λ out. out.items ++ said_where (λ at. nat_le (length packets) at) lines.now ≡ items_from 0 packets lines.now) }
+{
+    if are_behind(lines, packets.items().len() as u64) {
+        return Ok(packets.into_items());
+    }
+    let mut waiting = VecDeque::from_vec(packets.into_items());
+    let mut out = with_room(alloc, waiting.len(), lines.len())?;
+    let ordered = in_order(alloc, lines)?;
+    let mut rest = ordered.as_slice();
     let mut point = 0u64;
-    while let Some(packet) = packets.pop_front() {
+    while let Some(item) = waiting.pop_front() {
         let count = count_at(rest, point);
         push_lines(alloc, &mut out, &rest[..count])?;
         rest = &rest[count..];
-        out.push(Msg::InPacket(packet))?;
+        out.push(item)?;
         point += 1;
     }
-    push_from(alloc, &mut out, script.lines.as_slice(), point)?;
-    out.push(Msg::InEnd)?;
     Ok(out)
+}
+
+/// Whether all lines stand at this point or behind it.
+fn are_behind(lines: &[Line], point: u64) -> bool
+    ensures { result ≡ list_all (λ line. nat_le point line.at) lines.now }
+{
+    lines.iter().all(|line| point <= u64::from(line.at))
 }
 
 /// No messages yet, with room for those of so many packets and lines, and for the end.

@@ -9,6 +9,7 @@
 pub mod fault;
 mod form;
 mod input;
+mod packet_items;
 mod printing;
 mod reader;
 mod reading;
@@ -16,6 +17,7 @@ pub mod script;
 
 pub use fault::{ScriptFault, ScriptKind};
 pub use input::items;
+pub use packet_items::PacketItems;
 pub use printing::print_script;
 pub use reading::read_script;
 pub use script::{Line, Script, What};

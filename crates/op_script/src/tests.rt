@@ -1,7 +1,7 @@
 ghost use Rattle.std.specs.Prelude.{◌≡◌, IfOk, vec_len};
 
 use super::*;
-use flow_filter::{CapturedPacket, Name, Packet, Packets};
+use flow_filter::{CapturedPacket, Name, Packet};
 use nf_function::Kind;
 use nf_msgs::{Command, Msg, Order};
 use std::alloc::Global;
@@ -207,8 +207,8 @@ fn kinds_of(alloc: Global, input: &[Msg]) -> Result<Vec<u8>, Fail> {
 }
 
 /// A trace of two packets.
-fn two_packets(alloc: Global) -> Result<Packets, Fail> {
-    let mut trace = Packets::open(alloc);
+fn two_packets(alloc: Global) -> Result<PacketItems, Fail> {
+    let mut trace = PacketItems::open(alloc);
     for number in 1..=2 {
         trace.push(CapturedPacket::of(alloc, &packet(number))?)?;
     }

@@ -1,13 +1,10 @@
 -- What is known of a run of the network, in the words of its command.
-use Rattle.std.proofs.Common.{◌≡◌, ℕ, ◌+◌, ◌-◌, ◌<◌, true, List, [], ◌∷◌, length, Option, Some, Result, Ok, Err, refl, ap, ◌∙◌, subst, arith, zero, suc}
-use Rattle.std.specs.Prelude.{MatchResult, slice_get}
-use Rattle.std.proofs.lemmas.Option.{slice_get_within}
+use Rattle.std.proofs.Common.{◌≡◌, ℕ, ◌<◌, true, List, length, Option, Some, Result, Ok, Err, refl, ap, ◌∙◌, subst, arith}
+use Rattle.std.specs.Prelude.{MatchResult}
 use Rattle.std.specs.declared.alloc.Global.{Global}
-use Rattle.flow_filter.specs.declared.packet.Packet.{Packet}
 use Rattle.nf_function.specs.Semantics.{Semantics}
 use Rattle.nf_msgs.specs.declared.msg.Msg.{Msg}
 use Rattle.nf_msgs.specs.declared.note.Note.{Note}
-use Rattle.trace_reader.specs.Records.{AreNumbered}
 use Rattle.command_words.specs.Plan.{NetworkAsked}
 use Rattle.actor_net.specs.declared.choice.Choice.{Choice}
 use Rattle.actor_net.specs.declared.schedule.Schedule.{Schedule}
@@ -34,21 +31,6 @@ use Rattle.opennf_calls.specs.declared.status.Status.TheVariants.{BadTrace, BadJ
 use Rattle.opennf_calls.specs.NetworkRuns.{Given, HasNoRun, IsNoRun, IsRunOf, config_for, head_for, items_for}
 use Rattle.opennf_calls.specs.Phases.{IsRefusedAs, IsRefusedRun, gives}
 use Rattle.opennf_calls.specs.Status.{audit_status}
-
--- the packet at a place of numbered ones
-numbered_at : (n : ℕ) (ps : List Packet) (i : ℕ) (p : Packet) → AreNumbered n ps → slice_get ps i ≡ Some p → p.number ≡ n + i
-numbered_at n [] i p numbered is = cc
-numbered_at n (q ∷ qs) zero p numbered is =
-    let same : q ≡ p = cc in
-    let here : p.number ≡ n = subst (λ (x : Packet). x.number ≡ n) same numbered.0 in omega (arith, here)
-numbered_at n (q ∷ qs) (suc i) p numbered is = let behind = numbered_at (n + 1) qs i p numbered.1 is in omega (arith, behind)
-
--- the last of numbered packets has their count as its number
-pub last_counts : (ps : List Packet) (p : Packet) → AreNumbered 1 ps → slice_get ps (length ps - 1) ≡ Some p → p.number ≡ length ps
-last_counts ps p numbered is =
-    let last = numbered_at 1 ps (length ps - 1) p numbered is in
-    let few = slice_get_within ps (length ps - 1) p is in
-    omega (arith, last, few)
 
 module _ {R : Type 0} (F : Type 0) (f : Semantics R) (s : NetworkAsked) (g : Given) (alloc : Global) (config : Config) (items : List Msg) (head : Head)
     (is_config : config ≡ config_for s g.site g.script.routes.items) (is_items : items ≡ items_for g.captured g.script) where

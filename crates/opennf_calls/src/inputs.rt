@@ -17,14 +17,15 @@ use crate::status::Status;
 use command_words::NetworkRequest;
 use nf_io::{Outside, Role, RoleSource};
 use op_script::{Script, read_script};
+use run_input::CapturedItems;
 use std::alloc::Global;
-use trace_reader::{Trace, TraceFault, read_trace};
+use trace_reader::TraceFault;
 
 /// What a run of the network is given.
 #[derive(Drop)]
 pub struct Inputs {
     pub script: Script,
-    pub trace: Trace,
+    pub trace: CapturedItems,
 }
 
 /// Reads the script, if the words name one, and then the capture.
@@ -81,7 +82,7 @@ fn read_commands<O: Outside>(
 }
 
 /// Reads the capture.
-fn read_capture<O: Outside>(alloc: Global, outside: &mut O) -> Result<Trace, TraceFault>
+fn read_capture<O: Outside>(alloc: Global, outside: &mut O) -> Result<CapturedItems, TraceFault>
     requires { CanRead TraceRole (O.seen outside.old TraceRole) }
     ensures trace { ForSome (O.seen outside.old TraceRole).left (λ bytes.
         AnswersTrace (capture_of bytes) (O.seen outside.new TraceRole).left result) }
@@ -95,5 +96,5 @@ fn read_capture<O: Outside>(alloc: Global, outside: &mut O) -> Result<Trace, Tra
         outside,
         role: Role::Trace,
     };
-    read_trace(alloc, &mut source)
+    CapturedItems::read(alloc, &mut source)
 }

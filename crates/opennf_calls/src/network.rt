@@ -1,6 +1,5 @@
 //! The run of a network, and what comes of it: by a schedule, by threads, or by choices that are told.
-ghost use Rattle.std.specs.Prelude.{◌≡◌, length, IfOk, MatchResult, OnErr};
-ghost use Rattle.trace_reader.specs.Records.{AreNumbered};
+ghost use Rattle.std.specs.Prelude.{◌≡◌, IfOk, MatchResult, OnErr};
 ghost use Rattle.command_words.specs.RequestViews.{network_view};
 ghost use Rattle.opennf_calls.specs.declared.status.Status.TheVariants.{NoMemory as OutOfMemory};
 ghost use Rattle.opennf_calls.specs.Ends.{EndLaw};
@@ -17,7 +16,7 @@ use asset_monitor::Monitor;
 use basics::{NoMemory, TryCopy};
 use command_words::NetworkRequest;
 use conn_tracker::Conntrack;
-use flow_filter::{CapturedPacket, Text};
+use flow_filter::Text;
 use net_world::{Config, Node};
 use nf_function::{Function, Kind};
 use nf_msgs::Msg;
@@ -27,7 +26,6 @@ use run_report::{Head, audit, report};
 use std::alloc::{AllocError, Global};
 use std::sync::Wait;
 use std::thread::Threads;
-use trace_reader::Trace;
 
 /// What comes of a run: its choices, and its report.
 #[derive(Drop)]
@@ -194,37 +192,21 @@ fn open(alloc: Global, asked: &NetworkRequest<'_>, inputs: Inputs) -> Result<Ope
         window: asked.window,
     };
     let Inputs { script, trace } = inputs;
-    let Trace {
-        packets,
-        skipped,
-        cut,
-    } = trace;
-    let count = last_number(packets.items());
-    let (config, items) = input_of(alloc, &setting, &script, packets)?;
+    let end = trace.end();
+    let (config, items) = input_of(alloc, &setting, &script, trace.into_packets())?;
     let head = Head {
         kind: asked.kind,
         names: config.names.copy()?,
         window: asked.window,
-        packets: count,
-        skipped,
-        cut,
+        packets: end.packets,
+        skipped: end.skipped,
+        cut: end.cut,
     };
     Ok(Opening {
         config,
         items,
         head,
     })
-}
-
-/// How many packets these are, by the number of the last.
-fn last_number(packets: &[CapturedPacket]) -> u32
-    requires { AreNumbered 1 packets.now }
-    ensures { result ≡ length packets.now }
-{
-    match packets.last() {
-        Some(packet) => packet.number(),
-        None => 0,
-    }
 }
 
 /// The law of ends: each run of an input that ends once has few choices, and where none is enabled behind them nothing is left to do.

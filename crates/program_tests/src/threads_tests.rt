@@ -7,11 +7,11 @@ ghost use Rattle.net_world.specs.Input.{IsInput};
 use actor_net::{Choice, Choices, World};
 use actor_threads::{Gate, OpenGate};
 use conn_tracker::Conntrack;
-use flow_filter::{CapturedPacket, Name, Packet, Packets, Prefix, Site, Text, UDP};
+use flow_filter::{CapturedPacket, Name, Packet, Prefix, Site, Text, UDP};
 use net_world::{Config, Node};
 use nf_function::Kind;
 use nf_msgs::{Msg, Names, Note};
-use op_script::read_script;
+use op_script::{PacketItems, read_script};
 use opennf_calls::threads::run_network;
 use run_input::{Setting, input_of};
 use run_report::{Head, audit, report};
@@ -56,12 +56,12 @@ fn packet(number: u32) -> Packet
 }
 
 /// So many packets.
-fn packets(alloc: Global, count: u32) -> Result<Packets, Fail>
+fn packets(alloc: Global, count: u32) -> Result<PacketItems, Fail>
     requires { count < 1000 }
     ensures numbers { IfOk result (AreNumbered 1) }
     ensures steered { IfOk result (All (λ packet. is_transport packet.proto ≡ true)) }
 {
-    let mut packets = Packets::open(alloc);
+    let mut packets = PacketItems::open(alloc);
     for number in 0..count {
         let next = packet(number + 1);
         packets.push(CapturedPacket::of(alloc, &next)?)?;

@@ -1,5 +1,6 @@
 pub mod GivenInput
 pub mod LoopFacts
+pub mod PacketFactLemmas
 pub mod SaidCommands
 pub mod ScriptedOrders
 pub mod ShortInput

@@ -9,13 +9,14 @@ ghost use Rattle.op_script.specs.Items.{items};
 ghost use Rattle.net_world.specs.Input.{IsInput, IsSteered, ends_last, most_counted};
 ghost use Rattle.net_length.specs.Length.{IsShort, most_packets};
 ghost use Rattle.run_input.specs.Given.{config_of, IsSetting};
+ghost use Rattle.run_input.specs.PacketFacts.{IsTransport, IsSteeredItem};
 
 use crate::setting::Setting;
 use basics::{NoMemory, TryCopy};
-use flow_filter::{CapturedPacket, Filter, Flow, Name, Packet, Packets, Sequence, Site, flow_of};
+use flow_filter::{CapturedPacket, Filter, Flow, Name, Packet, Sequence, Site, flow_of};
 use net_world::Config;
 use nf_msgs::{Msg, Names, Order};
-use op_script::{Line, Script, What, items};
+use op_script::{Line, PacketItems, Script, What, items};
 use std::alloc::Global;
 
 /// The configuration and the input of a run.
@@ -23,7 +24,7 @@ pub fn input_of(
     alloc: Global,
     setting: &Setting<'_>,
     script: &Script,
-    packets: Packets,
+    packets: PacketItems,
 ) -> Result<(Config, Vec<Msg>), NoMemory>
     requires setting { IsSetting setting.now }
     requires script { IsScript setting.now.names.now (script_view script.now) }
@@ -92,21 +93,31 @@ fn are_filters(routes: &[(Filter, u8)])
 }
 
 /// Packets of TCP and UDP are steered.
-fn are_steered(site: Site, packets: &[CapturedPacket])
-    requires { All (λ packet. is_transport packet.proto ≡ true) packets.now }
-    ensures steered { All (IsSteered site) packets.now }
+fn are_steered(site: Site, items: &[Msg])
+    requires { All IsTransport items.now }
+    ensures steered { All (IsSteeredItem site) items.now }
     ensures site { site.inside.bits < 2 ^ 32 }
 {
-    for packet in packets {
-        waits_steered(&site, packet);
+    for item in items {
+        is_steered_item(&site, item);
     }
 }
 
-/// As many packets as memory holds are no more than a record counts.
-fn are_few(packets: &[CapturedPacket])
-    ensures { length packets.now ≤ most_counted }
+/// As many items as memory holds are no more than a record counts.
+fn are_few(items: &[Msg])
+    ensures { length items.now ≤ most_counted }
 {
-    let _count = packets.len();
+    let _count = items.len();
+}
+
+/// An item that is a packet is steered.
+fn is_steered_item(site: &Site, item: &Msg)
+    requires { IsTransport item.now }
+    ensures { IsSteeredItem site.now item.now }
+{
+    if let Msg::InPacket(packet) = item {
+        waits_steered(site, packet);
+    }
 }
 
 /// A packet that waits is steered as any other.

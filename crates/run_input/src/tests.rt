@@ -3,11 +3,11 @@ ghost use Rattle.nf_function.specs.Units.{is_transport};
 ghost use Rattle.trace_reader.specs.Records.{AreNumbered};
 
 use super::*;
-use flow_filter::{CapturedPacket, Filter, Name, Packet, Packets, Prefix, Site};
+use flow_filter::{CapturedPacket, Filter, Name, Packet, Prefix, Site};
 use net_world::Config;
 use nf_function::Kind;
 use nf_msgs::Msg;
-use op_script::read_script;
+use op_script::{PacketItems, read_script};
 use std::alloc::Global;
 use std::test::Fail;
 
@@ -54,11 +54,11 @@ fn packet(number: u32) -> Packet
 }
 
 /// A trace of two packets.
-fn two_packets(alloc: Global) -> Result<Packets, Fail>
+fn two_packets(alloc: Global) -> Result<PacketItems, Fail>
     ensures numbers { IfOk result (AreNumbered 1) }
     ensures steered { IfOk result (All (λ packet. is_transport packet.proto ≡ true)) }
 {
-    let mut trace = Packets::open(alloc);
+    let mut trace = PacketItems::open(alloc);
     trace.push(CapturedPacket::of(alloc, &packet(1))?)?;
     trace.push(CapturedPacket::of(alloc, &packet(2))?)?;
     Ok(trace)

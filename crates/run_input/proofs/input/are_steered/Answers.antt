@@ -1,10 +1,10 @@
--- One packet more, and all of them.
-use Rattle.net_world.specs.Input.{IsSteered}
+-- One item more, and all of them.
+use Rattle.run_input.specs.PacketFacts.{IsSteeredItem}
 use Rattle.run_input.proofs.LoopFacts.{all_more, all_done}
 use Rattle.run_input.proofs.input.are_steered.Goals as goal
 
-pub loop-packet-preserved : goal.loop-packet-preserved
-loop-packet-preserved c = all_more (IsSteered c.args.site) c.args.packets.now c.loop-packet.packet-index c.packet-item.result c.loop-packet-test.true c.packet-item.is c.loop-packet.invariant c.waits_steered.ensures
+pub loop-item-preserved : goal.loop-item-preserved
+loop-item-preserved c = all_more (IsSteeredItem c.args.site) c.args.items.now c.loop-item.item-index c.item-item.result c.loop-item-test.true c.item-item.is c.loop-item.invariant c.is_steered_item.ensures
 
 pub returns-clause-steered : goal.returns-clause-steered
-returns-clause-steered c = all_done (IsSteered c.args.site) c.args.packets.now c.loop-packet.packet-index c.loop-packet-test.false c.loop-packet.invariant
+returns-clause-steered c = all_done (IsSteeredItem c.args.site) c.args.items.now c.loop-item.item-index c.loop-item-test.false c.loop-item.invariant

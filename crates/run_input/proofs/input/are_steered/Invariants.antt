@@ -1,7 +1,7 @@
--- The packets so far.
+-- The items so far.
 use Rattle.std.proofs.Common.{take, All}
-use Rattle.net_world.specs.Input.{IsSteered}
+use Rattle.run_input.specs.PacketFacts.{IsSteeredItem}
 use Rattle.run_input.proofs.input.are_steered.Given as goal
 
-abbrev pub invariant-loop-packet : goal.invariant-loop-packet
-invariant-loop-packet l = All (IsSteered l.site) (take l.packet-index l.packets)
+abbrev pub invariant-loop-item : goal.invariant-loop-item
+invariant-loop-item l = All (IsSteeredItem l.site) (take l.item-index l.items)

@@ -1,16 +1,21 @@
 -- What was made is an input of the network.
-use Rattle.std.proofs.Common.{ℕ, ◌≤◌, length, ap, ◌∙◌, subst}
+use Rattle.std.proofs.Common.{ℕ, ◌≤◌, length, ap, sym, ◌∙◌, subst}
 use Rattle.std.specs.Prelude.{All}
 use Rattle.flow_filter.specs.declared.filter.Filter.{Filter}
 use Rattle.flow_filter.specs.Filter.{IsFilter}
 use Rattle.op_script.specs.declared.script.Line.{Line}
-use Rattle.net_world.specs.Input.{IsSteered, most_counted, ends_last}
+use Rattle.net_world.specs.Input.{most_counted, ends_last}
 use Rattle.op_script.specs.Printing.{WhatFits}
 use Rattle.run_input.specs.Given.{config_of}
+use Rattle.run_input.specs.PacketFacts.{IsTransport, IsSteeredItem}
 use Rattle.run_input.proofs.GivenInput.{made_is}
 use Rattle.run_input.proofs.SaidCommands.{end_is_last}
+use Rattle.run_input.proofs.PacketFactLemmas.{few_packets, steered_packets, transport_items}
 use Rattle.run_input.proofs.ShortInput.{short_is}
 use Rattle.run_input.proofs.input.input_of.Goals as goal
+
+pub are_steered-requires : goal.are_steered-requires
+are_steered-requires c = subst (All IsTransport) (sym c.items.ensures) (transport_items c.args.packets c.requires.steered)
 
 pub returns-clause-input : goal.returns-clause-input
 returns-clause-input c =
@@ -20,8 +25,8 @@ returns-clause-input c =
       script_is = c.requires.script;
       whole = c.requires.whole;
       numbers = c.requires.numbers;
-      steered = subst (All (IsSteered c.args.setting.now.site)) c.items.ensures c.are_steered.ensures.steered;
-      few = subst (λ packets. length packets ≤ most_counted) c.items-2.ensures c.are_few.ensures;
+      steered = steered_packets c.args.setting.now.site c.args.packets (subst (All (IsSteeredItem c.args.setting.now.site)) c.items.ensures c.are_steered.ensures.steered);
+      few = few_packets c.args.packets (subst (λ items. length items ≤ most_counted) c.items-2.ensures c.are_few.ensures);
       site = c.are_steered.ensures.site;
       filters = subst (All (λ (route : Filter × ℕ). IsFilter route.0)) c.as_slice-2.ensures.value c.are_filters.ensures;
       fits = subst (All (λ (line : Line). WhatFits line.what)) c.as_slice.ensures.value c.are_lines.ensures;
