@@ -4,6 +4,7 @@ pub mod EntryMaps
 pub mod Results
 pub mod ChunkFronts
 pub mod Joining
+pub mod Numbers
 pub mod InOrder
 pub mod SortedEntries
 pub mod MadeChunks

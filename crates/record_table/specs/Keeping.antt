@@ -1,15 +1,19 @@
 -- Which record is kept where one is held and one comes, which records are listed, and why chunks give no records. Steps between
 -- code and definition: there is nothing here to believe.
-use Rattle.std.specs.Prelude.{Bool, true, if◌then◌else◌, List, Option, None, Some}
+use Rattle.std.specs.Prelude.{◌≡◌, ℕ, ◌+◌, ◌*◌, ◌^◌, ◌<◌, Bool, true, if◌then◌else◌, List, map, Option, None, Some}
 use Rattle.std.specs.List.{filter_map}
 use Rattle.std.specs.FinMap as finite
+use Rattle.std.specs.Borrow.{Bor}
 use Rattle.flow_filter.specs.declared.filter.Filter.{Filter}
+use Rattle.flow_filter.specs.declared.flow.Flow.{Flow}
 use Rattle.nf_function.specs.declared.chunk.Chunk.{Chunk}
 use Rattle.nf_function.specs.declared.unit.Unit as units
+use Rattle.nf_function.specs.declared.unit.Unit.TheVariants.{Flow as OfFlow, Host as OfHost}
 use Rattle.nf_function.specs.Units.{takes}
 use Rattle.nf_function.specs.Records.{newest}
 use Rattle.nf_function.specs.Semantics.{Semantics}
 use Rattle.unit_map.specs.Entries.{Entries}
+use Rattle.record_table.specs.declared.ordered.Found.{Found}
 use Rattle.record_table.specs.declared.reading.ReadFault.{ReadFault}
 use Rattle.record_table.specs.declared.reading.ReadFault.TheVariants.{Bad, NoMemory}
 use Rattle.record_table.specs.declared.refusal.ImportFault.{ImportFault}
@@ -39,6 +43,36 @@ found filter (unit, Some r) = if is_taken filter unit then Some (unit, r) else N
 
 abbrev pub all_found : {R : Type 0} → Option Filter → Entries units.Unit R → List (units.Unit × R)
 all_found filter entries = filter_map (found filter) entries
+
+-- each field of the flow is within its type
+pub record AreWithin (flow : Flow) : Type 0 where
+  pub local : flow.local < 2 ^ 32
+  pub remote : flow.remote < 2 ^ 32
+  pub lport : flow.lport < 2 ^ 16
+  pub rport : flow.rport < 2 ^ 16
+  pub proto : flow.proto < 2 ^ 8
+
+abbrev pub IsWithin : units.Unit → Type 0
+IsWithin (OfFlow flow) = AreWithin flow
+IsWithin (OfHost host) = host < 2 ^ 32
+
+-- a flow as one number: its protocol, and then its local and its remote end
+abbrev pub flow_number : Flow → ℕ
+flow_number flow = ((flow.proto * 2 ^ 32 + flow.local) * 2 ^ 16 + flow.lport) * 2 ^ 64 + (flow.remote * 2 ^ 16 + flow.rport)
+
+-- a unit as one number
+abbrev pub unit_number : units.Unit → ℕ
+unit_number (OfFlow flow) = flow_number flow
+unit_number (OfHost host) = (2 ^ 56 + host) * 2 ^ 64
+
+-- what was found has the number of its unit
+pub record IsNumbered {R : Type 0} (found : Found R) : Type 0 where
+  pub number : found.number ≡ unit_number found.unit.now
+  pub within : IsWithin found.unit.now
+
+-- the units and their records, without the numbers
+abbrev pub pairs_of : {R : Type 0} → List (Found R) → List (units.Unit × Bor R)
+pairs_of found = map (λ e. (e.unit.now, e.record)) found
 
 abbrev pub IsReadFault : {R : Type 0} → Semantics R → List Chunk → ReadFault → Type 0
 IsReadFault f chunks (Bad place) = IsFirstBad f chunks place
