@@ -92,12 +92,15 @@ fn only_place<K: PartialEq, V>(entries: &[(K, V)], key: &K) -> Option<usize>
     }
 }
 
-/// The number of slots for some entries: a power of two that is four times as large at least, and a window less one.
+/// The number of slots for some entries: a power of two that is three times as large at least, and a window less one.
+///
+/// An index has room for half as many entries. So one that is made anew has twice the slots of the last, and room for half as many
+/// entries again at least.
 fn slot_count(entries: usize) -> usize
     requires { entries ≤ MOST_ENTRIES }
     ensures { WINDOW ≤ result }
 {
-    (4 * entries).next_power_of_two().max(16) + (WINDOW - 1)
+    (3 * entries).next_power_of_two().max(16) + (WINDOW - 1)
 }
 
 impl<K: Ord + Hash + Copy> Index<K> {
