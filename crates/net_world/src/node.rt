@@ -27,6 +27,7 @@ impl<F: Function> Actor for Node<F> {
 
     ghost has_ended = { node_ended };
 
+    #[inline(always)]
     fn ready(&self, item: &Msg) -> bool {
         match self {
             Node::Switch(switch) => switch.ready(item),
@@ -35,6 +36,7 @@ impl<F: Function> Actor for Node<F> {
         }
     }
 
+    #[inline(always)]
     fn step(
         &mut self,
         port: u8,
