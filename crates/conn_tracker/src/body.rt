@@ -46,8 +46,24 @@ fn untimed(kept: &TrackRecord) -> [u8; 18]
     let [p, p_2, p_3, p_4, p_5, p_6, p_7, p_8] = kept.packets.to_be_bytes();
     let [b, b_2, b_3, b_4, b_5, b_6, b_7, b_8] = kept.bytes.to_be_bytes();
     [
-        kept.state.number(), direction_number(kept.opener), p, p_2, p_3, p_4, p_5, p_6, p_7, p_8, b,
-        b_2, b_3, b_4, b_5, b_6, b_7, b_8,
+        kept.state.number(),
+        direction_number(kept.opener),
+        p,
+        p_2,
+        p_3,
+        p_4,
+        p_5,
+        p_6,
+        p_7,
+        p_8,
+        b,
+        b_2,
+        b_3,
+        b_4,
+        b_5,
+        b_6,
+        b_7,
+        b_8,
     ]
 }
 

@@ -34,8 +34,19 @@ fn flow_front(head: [u8; 3], flow: &Flow, length: u16) -> [u8; LONGEST_FRONT]
 {
     let [version, kind, scope] = head;
     let [
-        proto, local, local_2, local_3, local_4, lport, lport_2, remote, remote_2, remote_3, remote_4,
-        rport, rport_2,
+        proto,
+        local,
+        local_2,
+        local_3,
+        local_4,
+        lport,
+        lport_2,
+        remote,
+        remote_2,
+        remote_3,
+        remote_4,
+        rport,
+        rport_2,
     ] = flow_key(flow);
     let [high, low] = length.to_be_bytes();
     [
