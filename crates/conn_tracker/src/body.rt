@@ -1,7 +1,9 @@
 //! The bytes that a record is stored as.
-ghost use Rattle.std.specs.Prelude.{◌≡◌, ◌++◌, length, OnOk};
+ghost use Rattle.std.specs.Prelude.{◌≡◌, ◌++◌, ◌∷◌, [], length, OnOk};
 ghost use Rattle.nf_function.specs.declared.unit.Unit.TheVariants.{Flow as OfFlow};
 ghost use Rattle.nf_function.specs.Records.{age_cmp};
+ghost use Rattle.nf_function.specs.Stored.{number_bytes};
+ghost use Rattle.conn_tracker.specs.Table.{number_of};
 ghost use Rattle.conn_tracker.specs.Conntrack.{conntrack};
 ghost use Rattle.conn_tracker.specs.Body.{is_valid, suits, body_of, seen_bytes, record_in, spelled, seen_in, direction_number, direction_of};
 
@@ -32,10 +34,37 @@ pub fn body_length(kept: &TrackRecord) -> u16
 pub fn push_body(bytes: &mut Bytes, kept: &TrackRecord) -> Result<(), NoMemory>
     ensures { OnOk result (bytes.new ≡ bytes.old ++ body_of kept.now) }
 {
-    bytes.push_bytes(&[kept.state.number(), direction_number(kept.opener)])?;
-    push_u64(bytes, kept.packets)?;
-    push_u64(bytes, kept.bytes)?;
+    bytes.push_bytes(&untimed(kept))?;
     push_time(bytes, kept.seen)
+}
+
+/// What stands before the time.
+#[tactic(auto, unfolding(nf_function::specs::Stored::number_bytes))]
+fn untimed(kept: &TrackRecord) -> [u8; 18]
+    ensures { result ≡ (number_of kept.now.state ∷ direction_number kept.now.opener ∷ []) ++ number_bytes 8 kept.now.packets ++ number_bytes 8 kept.now.bytes }
+{
+    let [p, p_2, p_3, p_4, p_5, p_6, p_7, p_8] = kept.packets.to_be_bytes();
+    let [b, b_2, b_3, b_4, b_5, b_6, b_7, b_8] = kept.bytes.to_be_bytes();
+    [
+        kept.state.number(),
+        direction_number(kept.opener),
+        p,
+        p_2,
+        p_3,
+        p_4,
+        p_5,
+        p_6,
+        p_7,
+        p_8,
+        b,
+        b_2,
+        b_3,
+        b_4,
+        b_5,
+        b_6,
+        b_7,
+        b_8,
+    ]
 }
 
 /// Puts a time after other bytes, where one is known.

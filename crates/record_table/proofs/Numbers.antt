@@ -1,5 +1,5 @@
 -- The numbers of units stand in the order of the units.
-use Rattle.std.proofs.Common.{◌≡◌, ℕ, ◌+◌, ◌*◌, ◌^◌, ◌<◌, Bool, true, false, List, [], ◌∷◌, map, length, get_or, Bor, refl, sym, ap, subst, ◌∙◌, arith}
+use Rattle.std.proofs.Common.{◌≡◌, ℕ, ◌+◌, ◌*◌, ◌^◌, ◌<◌, List, [], ◌∷◌, length, get_or, Bor, refl, sym, ap, ◌∙◌, arith}
 use Rattle.std.specs.List.{All}
 use Rattle.std.specs.List.Sorted.{IsSortedByKey}
 use Rattle.std.proofs.lemmas.List.{length-map, get_or-map}
@@ -59,7 +59,7 @@ flows a b v w =
     let near = two_16 (a.proto * 2 ^ 32 + a.local) a.lport (b.proto * 2 ^ 32 + b.local) b.lport v.lport w.lport (ordering_then proto local) lport front (rank a.lport b.lport) in
     let far = two_16 a.remote a.rport b.remote b.rport v.rport w.rport remote rport (rank a.remote b.remote) (rank a.rport b.rport) in
     let whole = two_64 ((a.proto * 2 ^ 32 + a.local) * 2 ^ 16 + a.lport) (a.remote * 2 ^ 16 + a.rport) ((b.proto * 2 ^ 32 + b.local) * 2 ^ 16 + b.lport) (b.remote * 2 ^ 16 + b.rport)
-        (omega (arith, v.remote, v.rport)) (omega (arith, w.remote, w.rport)) (ordering_then (ordering_then proto local) lport) (ordering_then remote rport) near far in
+    (omega (arith, v.remote, v.rport)) (omega (arith, w.remote, w.rport)) (ordering_then (ordering_then proto local) lport) (ordering_then remote rport) near far in
     sym (then_then proto local (ordering_then lport (ordering_then remote rport))) ∙ sym (then_then (ordering_then proto local) lport (ordering_then remote rport))
     ∙ nat_cmp_is (flow_number a) (flow_number b) (ordering_then (ordering_then (ordering_then proto local) lport) (ordering_then remote rport)) whole
 

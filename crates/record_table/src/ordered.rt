@@ -116,10 +116,7 @@ fn flow_number(flow: Flow) -> u128
 }
 
 /// The units and their records, without the numbers.
-fn pairs_of<'a, R>(
-    alloc: Global,
-    found: &[Found<'a, R>],
-) -> Result<Vec<(Unit, &'a R)>, NoMemory>
+fn pairs_of<'a, R>(alloc: Global, found: &[Found<'a, R>]) -> Result<Vec<(Unit, &'a R)>, NoMemory>
     ensures { IfOk result (λ pairs. pairs.items ≡ pairs_of found.now) }
 {
     let mut pairs = Vec::with_capacity(alloc, found.len())?;

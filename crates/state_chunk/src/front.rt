@@ -7,12 +7,13 @@ ghost use Rattle.state_chunk.specs.Format.{key_bytes};
 use basics::{Bytes, NoMemory};
 use flow_filter::Flow;
 use nf_function::Unit;
-use nf_function::stored::{push_u16, push_u32};
 
 /// How many bytes the longest first part has.
 pub const LONGEST_FRONT: usize = 18;
 
-/// Puts three bytes, the key of a unit and the length of a body after other bytes.
+/// Puts three bytes, the key of a unit and the length of a body after other bytes, at once.
+#[inline]
+#[tactic(auto, unfolding(crate::specs::Format::key_bytes))]
 pub fn push_front(
     bytes: &mut Bytes,
     head: [u8; 3],
@@ -21,20 +22,50 @@ pub fn push_front(
 ) -> Result<(), NoMemory>
     ensures { OnOk result (bytes.new ≡ bytes.old ++ head ++ key_bytes unit.now ++ number_bytes 2 length) }
 {
-    bytes.push_bytes(&head)?;
-    push_key(bytes, unit)?;
-    push_u16(bytes, length)
+    match unit {
+        Unit::Flow(flow) => bytes.push_bytes(&flow_front(head, flow, length)),
+        Unit::Host(host) => bytes.push_bytes(&host_front(head, *host, length)),
+    }
 }
 
-/// Puts the key of a unit after other bytes, at once.
-#[tactic(auto, unfolding(crate::specs::Format::key_bytes))]
-fn push_key(bytes: &mut Bytes, unit: &Unit) -> Result<(), NoMemory>
-    ensures { OnOk result (bytes.new ≡ bytes.old ++ key_bytes unit.now) }
+/// The first part of a flow's chunk.
+fn flow_front(head: [u8; 3], flow: &Flow, length: u16) -> [u8; LONGEST_FRONT]
+    ensures { result ≡ head ++ key_bytes (OfFlow flow.now) ++ number_bytes 2 length }
 {
-    match unit {
-        Unit::Flow(flow) => bytes.push_bytes(&flow_key(flow)),
-        Unit::Host(host) => push_u32(bytes, *host),
-    }
+    let [version, kind, scope] = head;
+    let [
+        proto,
+        local,
+        local_2,
+        local_3,
+        local_4,
+        lport,
+        lport_2,
+        remote,
+        remote_2,
+        remote_3,
+        remote_4,
+        rport,
+        rport_2,
+    ] = flow_key(flow);
+    let [high, low] = length.to_be_bytes();
+    [
+        version, kind, scope, proto, local, local_2, local_3, local_4, lport, lport_2, remote,
+        remote_2, remote_3, remote_4, rport, rport_2, high, low,
+    ]
+}
+
+/// The first part of a host's chunk.
+#[tactic(auto, unfolding(nf_function::specs::Stored::number_bytes))]
+fn host_front(head: [u8; 3], host: u32, length: u16) -> [u8; 9]
+    ensures { result ≡ head ++ number_bytes 4 host ++ number_bytes 2 length }
+{
+    let [version, kind, scope] = head;
+    let [first, second, third, fourth] = host.to_be_bytes();
+    let [high, low] = length.to_be_bytes();
+    [
+        version, kind, scope, first, second, third, fourth, high, low,
+    ]
 }
 
 /// The key of a flow.

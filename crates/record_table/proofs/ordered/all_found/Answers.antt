@@ -1,5 +1,5 @@
 -- An entry is found where it has a record and its unit is such a unit.
-use Rattle.std.proofs.Common.{map, sym, ◌∙◌, ap, ◌++◌, ◌∷◌, [], Some}
+use Rattle.std.proofs.Common.{sym, ◌∙◌, ap, ◌++◌, ◌∷◌, [], Some}
 use Rattle.std.proofs.lemmas.List.{map_push}
 use Rattle.std.proofs.lemmas.List.Elements.{All-push}
 use Rattle.std.specs.Option.{option_copied}
@@ -31,9 +31,9 @@ loop-entry-preserved g c = elim c.if-is_taken.branch [
         numbered = rw (w.found-is, w.in_ok-push.ensures.items) (All-push IsNumbered so_far more c.loop-entry.invariant.numbered w.found_at.ensures.numbered);
       }
   | else-is_taken w ↦ record {
-      found = ap (λ v. seen (option_copied c.args.filter) (pairs_of v.items)) w.found-is
-          ∙ found_other (option_copied c.args.filter) (pairs_of c.loop-entry.found.items) c.args.entries.now c.loop-entry.entry-index c.entry-item.result c.loop-entry-test.true c.entry-item.is
-          c.loop-entry.invariant.found c.in-Some.record c.in-Some.is (sym c.is_taken.ensures ∙ w.if-is_taken.false);
-      numbered = rw w.found-is c.loop-entry.invariant.numbered;
-    }
+    found = ap (λ v. seen (option_copied c.args.filter) (pairs_of v.items)) w.found-is
+        ∙ found_other (option_copied c.args.filter) (pairs_of c.loop-entry.found.items) c.args.entries.now c.loop-entry.entry-index c.entry-item.result c.loop-entry-test.true c.entry-item.is
+        c.loop-entry.invariant.found c.in-Some.record c.in-Some.is (sym c.is_taken.ensures ∙ w.if-is_taken.false);
+    numbered = rw w.found-is c.loop-entry.invariant.numbered;
+  }
 ]
