@@ -7,3 +7,4 @@ pub mod Joining
 pub mod InOrder
 pub mod SortedEntries
 pub mod MadeChunks
+pub mod OrderedChunks

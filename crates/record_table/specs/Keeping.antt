@@ -2,11 +2,12 @@
 -- code and definition: there is nothing here to believe.
 use Rattle.std.specs.Prelude.{Bool, true, if◌then◌else◌, List, Option, None, Some}
 use Rattle.std.specs.List.{filter_map}
+use Rattle.std.specs.Ordering.{is_lt}
 use Rattle.std.specs.FinMap as finite
 use Rattle.flow_filter.specs.declared.filter.Filter.{Filter}
 use Rattle.nf_function.specs.declared.chunk.Chunk.{Chunk}
 use Rattle.nf_function.specs.declared.unit.Unit as units
-use Rattle.nf_function.specs.Units.{takes}
+use Rattle.nf_function.specs.Units.{takes, unit_cmp}
 use Rattle.nf_function.specs.Records.{newest}
 use Rattle.nf_function.specs.Semantics.{Semantics}
 use Rattle.unit_map.specs.Entries.{Entries}
@@ -39,6 +40,11 @@ found filter (unit, Some r) = if is_taken filter unit then Some (unit, r) else N
 
 abbrev pub all_found : {R : Type 0} → Option Filter → Entries units.Unit R → List (units.Unit × R)
 all_found filter entries = filter_map (found filter) entries
+
+-- the unit stands behind the last one, if there is one
+abbrev pub is_behind : Option units.Unit → units.Unit → Bool
+is_behind None unit = true
+is_behind (Some last) unit = is_lt (unit_cmp last unit)
 
 abbrev pub IsReadFault : {R : Type 0} → Semantics R → List Chunk → ReadFault → Type 0
 IsReadFault f chunks (Bad place) = IsFirstBad f chunks place
