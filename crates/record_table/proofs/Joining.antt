@@ -8,9 +8,9 @@ use Rattle.std.specs.FinMap as finite
 use Rattle.std.specs.FinMap.{get-empty}
 use Rattle.nf_function.specs.declared.unit.Unit as units
 use Rattle.nf_function.specs.Units.{unit_cmp}
-use Rattle.unit_map.specs.Entries.{Entries, IsMap, held, record_of, is_place_of, with_record}
+use Rattle.unit_map.specs.Entries.{Entries, held, record_of, is_place_of, with_record}
 use Rattle.unit_map.proofs.EntryLemmas.{keys_added, lookup_added}
-use Rattle.record_table.specs.Table.{Records, same_unit, either, joined}
+use Rattle.record_table.specs.Table.{Records, same_unit, with_kept, either, joined}
 use Rattle.record_table.specs.Entries.{map_of}
 use Rattle.record_table.proofs.UnitOrder.{unit_eq, unit_eq_equiv, tied, same_unit-true, same_unit_equiv}
 use Rattle.record_table.proofs.RecordLookUps.{same_records, get-joined, get-with_kept}
@@ -53,11 +53,8 @@ module _ {A B : Type 0} (P : A → B → Type 0) where
   zip_weaker Q f (x ∷ xs) (y ∷ ys) all = (f x y all.0, zip_weaker Q f xs ys all.1)
 
 module _ {R : Type 0} where
-  pub map_front : (es : Entries units.Unit R) (u : units.Unit) (o : Option R) → IsMap unit_eq (es ++ (u, o) ∷ []) → IsMap unit_eq es
-  map_front es u o map = record {
-    distinct = distinct_front unit_eq (keys_of es) u (rw (keys_added unit_eq u o es) at map.distinct);
-    few = omega (arith, length-append es ((u, o) ∷ []), map.few);
-  }
+  pub keys_front : (es : Entries units.Unit R) (u : units.Unit) (o : Option R) → IsDistinct unit_eq (keys_of (es ++ (u, o) ∷ [])) → IsDistinct unit_eq (keys_of es)
+  keys_front es u o distinct = distinct_front unit_eq (keys_of es) u (rw (keys_added unit_eq u o es) at distinct)
 
   pub no_keys : (es : Entries units.Unit R) → keys_of es ≡ [] → es ≡ []
   no_keys [] h = refl
@@ -81,6 +78,10 @@ module _ {R : Type 0} where
       get-map_of (es ++ (u, o) ∷ []) q ∙ ap held (lookup_added unit_eq unit_eq_equiv q u o es absent) ∙ held_last (unit_eq u q) o (lookup (unit_eq q) es)
       ∙ ap (λ b. cond b o (record_of unit_eq es q)) (tied u q ∙ same_unit_equiv.symm u q) ∙ ap (cond (same_unit q u) o) (sym (get-map_of es q))
 
+  -- an entry of a unit that has none is put in
+  pub map_of-added : (es : Entries units.Unit R) (u : units.Unit) (o : Option R) → lookup (unit_eq u) es ≡ None → map_of (es ++ (u, o) ∷ []) ≡ with_kept (map_of es) u o
+  map_of-added es u o absent = same_records (map_of (es ++ (u, o) ∷ [])) (with_kept (map_of es) u o) (λ q. get-last es u o q absent ∙ sym (get-with_kept (map_of es) u o q))
+
   module _ (choose : R → R → R) where
     taken_in : (b : Bool) (now_u now_q left_q o : Option R) → (b ≡ true → now_q ≡ now_u) → (b ≡ true → left_q ≡ None)
         → either choose (cond b (either choose now_u o) now_q) left_q ≡ either choose now_q (cond b o left_q)
@@ -93,9 +94,9 @@ module _ {R : Type 0} where
 
     -- the last entry of what is left is taken in
     pub whole_more : (now new left : Entries units.Unit R) (u : units.Unit) (o : Option R) → IsPut now new u (either choose (finite.get (map_of now) u) o)
-        → IsMap unit_eq (left ++ (u, o) ∷ []) → joined choose (map_of new) (map_of left) ≡ joined choose (map_of now) (map_of (left ++ (u, o) ∷ []))
-    whole_more now new left u o is map =
-        let absent = absent_last unit_eq unit_eq_equiv.symm left u o map.distinct in
+        → IsDistinct unit_eq (keys_of (left ++ (u, o) ∷ [])) → joined choose (map_of new) (map_of left) ≡ joined choose (map_of now) (map_of (left ++ (u, o) ∷ []))
+    whole_more now new left u o is distinct =
+        let absent = absent_last unit_eq unit_eq_equiv.symm left u o distinct in
         same_records (joined choose (map_of new) (map_of left)) (joined choose (map_of now) (map_of (left ++ (u, o) ∷ []))) (λ q.
         get-joined choose (map_of new) (map_of left) q
         ∙ ap (λ p. either choose p (finite.get (map_of left) q)) (ap (λ m. finite.get m q) is.map ∙ get-with_kept (map_of now) u (either choose (finite.get (map_of now) u) o) q)

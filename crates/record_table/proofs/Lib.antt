@@ -8,3 +8,4 @@ pub mod Numbers
 pub mod InOrder
 pub mod SortedEntries
 pub mod MadeChunks
+pub mod OrderedChunks

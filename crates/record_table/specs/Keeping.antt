@@ -2,6 +2,7 @@
 -- code and definition: there is nothing here to believe.
 use Rattle.std.specs.Prelude.{◌≡◌, ℕ, ◌+◌, ◌*◌, ◌^◌, ◌<◌, Bool, true, if◌then◌else◌, List, map, Option, None, Some}
 use Rattle.std.specs.List.{filter_map}
+use Rattle.std.specs.Ordering.{is_lt}
 use Rattle.std.specs.FinMap as finite
 use Rattle.std.specs.Borrow.{Bor}
 use Rattle.flow_filter.specs.declared.filter.Filter.{Filter}
@@ -9,7 +10,7 @@ use Rattle.flow_filter.specs.declared.flow.Flow.{Flow}
 use Rattle.nf_function.specs.declared.chunk.Chunk.{Chunk}
 use Rattle.nf_function.specs.declared.unit.Unit as units
 use Rattle.nf_function.specs.declared.unit.Unit.TheVariants.{Flow as OfFlow, Host as OfHost}
-use Rattle.nf_function.specs.Units.{takes}
+use Rattle.nf_function.specs.Units.{takes, unit_cmp}
 use Rattle.nf_function.specs.Records.{newest}
 use Rattle.nf_function.specs.Semantics.{Semantics}
 use Rattle.unit_map.specs.Entries.{Entries}
@@ -73,6 +74,11 @@ pub record IsNumbered {R : Type 0} (found : Found R) : Type 0 where
 -- the units and their records, without the numbers
 abbrev pub pairs_of : {R : Type 0} → List (Found R) → List (units.Unit × Bor R)
 pairs_of found = map (λ e. (e.unit.now, e.record)) found
+
+-- the unit stands behind the last one, if there is one
+abbrev pub is_behind : Option units.Unit → units.Unit → Bool
+is_behind None unit = true
+is_behind (Some last) unit = is_lt (unit_cmp last unit)
 
 abbrev pub IsReadFault : {R : Type 0} → Semantics R → List Chunk → ReadFault → Type 0
 IsReadFault f chunks (Bad place) = IsFirstBad f chunks place

@@ -2,7 +2,8 @@
 ghost use Rattle.std.specs.Prelude.{◌≡◌, true, IfOk, IfSome, OnOk, IfErr};
 ghost use Rattle.record_table.specs.Table.{AreSound};
 ghost use Rattle.record_table.specs.Chunks.{spelled, records_of, are_good};
-ghost use Rattle.record_table.specs.Keeping.{IsReadFault, fault_with};
+ghost use Rattle.record_table.specs.Entries.{map_of, AreEntriesOf};
+ghost use Rattle.record_table.specs.Keeping.{IsReadFault, fault_with, is_behind};
 
 use crate::record_map::RecordMap;
 use crate::refusal::ImportFault;
@@ -43,8 +44,61 @@ impl ReadFault {
     }
 }
 
-/// The records that chunks spell.
+/// The records that chunks spell, as entries, each unit's once.
 pub(crate) fn records_of<F: Function>(
+    alloc: Global,
+    chunks: &[Chunk],
+) -> Result<Vec<(Unit, Option<F::Record>)>, ReadFault>
+    ensures records { IfOk result (λ entries. AreEntriesOf entries.items (records_of F.semantics chunks.now)) }
+    ensures sound { IfOk result (λ entries. AreSound F.semantics (map_of entries.items)) }
+    ensures good { OnOk result (are_good F.semantics chunks.now ≡ true) }
+    ensures bad { IfErr result (IsReadFault F.semantics chunks.now) }
+{
+    if let Some(entries) = records_in_order::<F>(alloc, chunks)? {
+        return Ok(entries);
+    }
+    let records = records_in_any_order::<F>(alloc, chunks)?;
+    Ok(records.into_entries())
+}
+
+/// The same, where each chunk spells a record and the units stand in order, so that no unit comes twice.
+fn records_in_order<F: Function>(
+    alloc: Global,
+    chunks: &[Chunk],
+) -> Result<Option<Vec<(Unit, Option<F::Record>)>>, NoMemory>
+    ensures records { IfOk result (λ found. IfSome found (λ entries. AreEntriesOf entries.items (records_of F.semantics chunks.now))) }
+    ensures sound { IfOk result (λ found. IfSome found (λ entries. AreSound F.semantics (map_of entries.items))) }
+    ensures good { IfOk result (λ found. IfSome found (λ entries. are_good F.semantics chunks.now ≡ true)) }
+{
+    let mut entries = Vec::with_capacity(alloc, chunks.len())?;
+    let mut last = None;
+    for chunk in chunks {
+        let Some((unit, record)) = spelled::<F>(alloc, chunk)? else {
+            return Ok(None);
+        };
+        if !is_behind(last, &unit) {
+            return Ok(None);
+        }
+        entries.push((unit, Some(record)))?;
+        last = Some(unit);
+    }
+    Ok(Some(entries))
+}
+
+/// Whether a unit stands behind the last one, if there is one.
+fn is_behind(last: Option<Unit>, unit: &Unit) -> bool
+    ensures { result ≡ is_behind last unit.now }
+{
+    match last {
+        Some(last) => last.cmp(unit).is_lt(),
+        None => true,
+    }
+}
+
+/// The records that chunks spell, whatever the order of their units.
+#[cold]
+#[inline(never)]
+fn records_in_any_order<F: Function>(
     alloc: Global,
     chunks: &[Chunk],
 ) -> Result<RecordMap<F::Record>, ReadFault>
@@ -67,6 +121,7 @@ pub(crate) fn records_of<F: Function>(
 }
 
 /// The unit and the record that a chunk spells.
+#[inline(always)]
 fn spelled<F: Function>(alloc: Global, chunk: &Chunk) -> Result<Option<(Unit, F::Record)>, NoMemory>
     ensures found { IfOk result (λ found. found ≡ spelled F.semantics chunk.now) }
     ensures valid { IfOk result (λ found. IfSome found (λ x. F.semantics.is_valid x.0 x.1 ≡ true)) }

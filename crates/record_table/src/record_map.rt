@@ -1,10 +1,13 @@
 //! The records of units, as a finite map.
 ghost use Rattle.std.specs.Prelude.{◌≡◌, true, not, Some, map, IfOk, OnOk, OnErr};
+ghost use Rattle.std.specs.List.{IsDistinct};
+ghost use Rattle.std.specs.Map.{keys_of};
 ghost use Rattle.std.specs.Option.{option_copied};
 ghost use Rattle.std.specs.FinMap as finite;
 ghost use Rattle.flow_filter.specs.Flow.{flow_of};
 ghost use Rattle.nf_function.specs.Semantics.{output_for, unit_at};
 ghost use Rattle.record_table.specs.Table.{after_packet, with_kept, without, either, joined, AreSound};
+ghost use Rattle.record_table.specs.Entries.{map_of, AreEntriesOf};
 ghost use Rattle.record_table.specs.Keeping.{choice, taken};
 
 use crate::ordered::ordered;
@@ -142,18 +145,24 @@ impl<R: Drop> RecordMap<R> {
         Ok(output)
     }
 
-    /// Takes the records of another map in. All growth comes before the first change.
+    /// All entries, without a copy: each unit stands once.
+    pub(crate) fn into_entries(self) -> Vec<(Unit, Option<R>)>
+        ensures { AreEntriesOf result.items self }
+    {
+        self.records.into_entries()
+    }
+
+    /// Takes the records of some entries in, where each unit stands once. All growth comes before the first change.
     pub(crate) fn join<F: Function<Record = R>>(
         &mut self,
-        coming: RecordMap<R>,
+        mut entries: Vec<(Unit, Option<R>)>,
         keep: Keep,
     ) -> Result<(), NoMemory>
-        ensures ok { OnOk result (self.new ≡ joined (choice F.semantics keep) self.old coming) }
+        requires { IsDistinct ⟦<Unit as PartialEq>⟧.eq (keys_of entries.items) }
+        ensures ok { OnOk result (self.new ≡ joined (choice F.semantics keep) self.old (map_of entries.items)) }
         ensures err { OnErr result (self.new ≡ self.old) }
     {
-        let mut entries = coming.records.into_entries();
-        let units: Vec<Unit> = entries.iter().map(|entry| entry.0).collect(self.alloc)?;
-        let mut places = self.records.places(&units)?;
+        let mut places = self.records.places(&entries)?;
         while let Some(place) = places.pop() {
             let Some((_, coming)) = entries.pop() else {
                 continue;

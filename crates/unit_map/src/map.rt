@@ -2,7 +2,7 @@
 ghost use Rattle.std.specs.Prelude.{◌≡◌, ℕ, true, ◌<◌, List, [], length, Option, Some, None, IfSome, IfNone, IfOk, OnOk, OnErr};
 ghost use Rattle.std.specs.Borrow.{sem};
 ghost use Rattle.std.specs.List.{AllZip};
-ghost use Rattle.std.specs.Map.{lookup, update};
+ghost use Rattle.std.specs.Map.{lookup, update, keys_of};
 ghost use Rattle.std.specs.Option.{option_copied};
 ghost use Rattle.unit_map.specs.Entries.{IsMap, is_place_of, record_at, record_of};
 
@@ -103,16 +103,17 @@ impl<K: Ord + Hash + Copy, R: Drop> UnitMap<K, R> {
         self.index.add(&mut self.entries, key)
     }
 
-    /// The places of some keys' entries, which are added without a record where keys have none. No key's record changes.
-    pub fn places(&mut self, keys: &[K]) -> Result<Vec<usize>, NoMemory>
-        ensures found { IfOk result (λ places. AllZip (λ k place. is_place_of K.eq self.new place k ≡ true) keys.now places.items) }
+    /// The places of the entries of the keys that some items have, which are added without a record where keys have none. No
+    /// key's record changes.
+    pub fn places<V>(&mut self, items: &[(K, V)]) -> Result<Vec<usize>, NoMemory>
+        ensures found { IfOk result (λ places. AllZip (λ k place. is_place_of K.eq self.new place k ≡ true) (keys_of items.now) places.items) }
         ensures same { (k : K) → record_of K.eq self.new k ≡ record_of K.eq self.old k }
         ensures map { IsMap K.eq self.new }
     {
-        let mut places = Vec::with_capacity(*self.entries.allocator(), keys.len())?;
-        self.index.make_room(&mut self.entries, keys.len())?;
-        for key in keys {
-            let place = self.index.place_in(&mut self.entries, *key)?;
+        let mut places = Vec::with_capacity(*self.entries.allocator(), items.len())?;
+        self.index.make_room(&mut self.entries, items.len())?;
+        for item in items {
+            let place = self.index.place_in(&mut self.entries, item.0)?;
             places.push(place)?;
         }
         Ok(places)

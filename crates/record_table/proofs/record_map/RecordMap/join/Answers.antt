@@ -1,10 +1,7 @@
 -- Each record that comes is put at the place of its unit, and counted where there was none.
 use Rattle.std.proofs.Common.{◌≡◌, ℕ, ◌+◌, ◌≤◌, Bool, true, false, List, [], ◌∷◌, ◌++◌, length, map, Option, is_some, refl, sym, ap, ◌∙◌, arith, rules}
 use mir.Val.{bool_byte}
-use Rattle.std.proofs.lemmas.Result.{IfOk-at_ok}
-use Rattle.std.proofs.lemmas.Iterator.{YieldsList-from_map, YieldsList-from_slice, items_from_collect}
-use Rattle.std.proofs.lemmas.Iterator.Consumers.{YieldsList-at}
-use Rattle.std.specs.List.{AllZip}
+use Rattle.std.specs.List.{AllZip, IsDistinct}
 use Rattle.std.specs.Map.{keys_of}
 use Rattle.std.specs.FinMap as finite
 use Rattle.nf_function.specs.declared.unit.Unit as units
@@ -15,7 +12,7 @@ use Rattle.record_table.specs.Entries.{map_of}
 use Rattle.record_table.specs.Keeping.{choice}
 use Rattle.record_table.proofs.UnitOrder.{unit_eq, unit_eq_equiv}
 use Rattle.record_table.proofs.EntryMaps.{IsPut, put_at, kept_at, map_of-same, get-map_of, counted_at, within_at}
-use Rattle.record_table.proofs.Joining.{zip_front, zip_none, zip_weaker, map_front, no_keys, same_places, whole_more, whole_none}
+use Rattle.record_table.proofs.Joining.{zip_front, zip_none, zip_weaker, keys_front, no_keys, same_places, whole_more, whole_none}
 use Rattle.record_table.proofs.Results.{on_err_given}
 use Rattle.record_table.proofs.record_map.RecordMap.join.Given.{Over}
 use Rattle.record_table.proofs.record_map.RecordMap.join.Goals as goal
@@ -26,22 +23,17 @@ invariant_of-self g c = c.self.invariant ∙ sym (ap finite.len (map_of-same c.s
 
 pub returns-in_err-places-clause-err : goal.returns-in_err-places-clause-err
 returns-in_err-places-clause-err g c =
-    on_err_given c.from_residual-in_err-places.result (map_of-same c.self.inside.records c.places.new.self c.in_err-places.ensures.same ∙ c.self.view_is)
+    on_err_given c.from_residual.result (map_of-same c.self.inside.records c.places.new.self c.in_err-places.ensures.same ∙ c.self.view_is)
 
 pub loop-place-init : goal.loop-place-init
 loop-place-init g c =
-    let units : c.in_ok-units.units.items ≡ map (λ e. e.0) c.into_entries-entries.result.items =
-    IfOk-at_ok _ c.in_ok-units.was (items_from_collect c.collect.result c.collect.ensures.ran
-    (YieldsList-from_map _ (λ e. e.0) (YieldsList-at c.map.ensures.source (YieldsList-from_slice c.into_entries-entries.result.items (c.iter.ensures.rest ∙ c.deref.ensures.value)))
-    c.map.ensures.closure (λ x r q k. search rules))) in
     let same = map_of-same c.self.inside.records c.places.new.self c.places.ensures.same in
     record {
       held = c.places.ensures.map;
-      left = rw c.into_entries-entries.ensures.all c.into_entries-entries.ensures.map;
-      found = rw (← units, ← c.deref-2.ensures.value) c.in_ok-places.ensures.found;
+      left = c.requires;
+      found = rw (← c.deref.ensures.value) c.in_ok-places.ensures.found;
       count = c.self.invariant ∙ sym (ap finite.len same);
-      whole = ap (λ m. joined (choice g.F.Function.semantics c.args.keep) m (map_of c.into_entries-entries.result.items)) (same ∙ c.self.view_is)
-          ∙ ap (joined (choice g.F.Function.semantics c.args.keep) c.args.self.now) (ap map_of c.into_entries-entries.ensures.all ∙ c.coming.view_is);
+      whole = ap (λ m. joined (choice g.F.Function.semantics c.args.keep) m (map_of c.args.entries.items)) (same ∙ c.self.view_is);
     }
 
 -- the last unit has the last place
@@ -74,12 +66,12 @@ loop-place-preserved g c =
     let left = c.pop-in-Some.new.self.items in
     let choose = choice g.F.Function.semantics c.args.keep in
     let ends = last g (goal.at.loop-place-preserved g c).In-Some-pop in
-    let all : IsMap unit_eq (left ++ (u, c.in-Some-pop.coming) ∷ []) = rw c.in-Some-pop.ensures.items at c.loop-place.invariant.left in
+    let all : IsDistinct unit_eq (keys_of (left ++ (u, c.in-Some-pop.coming) ∷ [])) = rw c.in-Some-pop.ensures.items at c.loop-place.invariant.left in
     let held : c.put.new.kept ≡ either choose (finite.get (map_of now) u) c.in-Some-pop.coming =
     c.put.ensures ∙ ap (λ o. either choose o c.in-Some-pop.coming) (c.record_mut-kept.ensures.value ∙ kept_at now now place u c.loop-place.invariant.held ends.1 (λ q. refl)) in
     record {
       held = map_with_record unit_eq unit_eq_equiv now place c.put.new.kept c.loop-place.invariant.held;
-      left = map_front left u c.in-Some-pop.coming all;
+      left = keys_front left u c.in-Some-pop.coming all;
       found = zip_weaker (λ v p. is_place_of unit_eq now p v ≡ true) (λ v p. is_place_of unit_eq (with_record now place c.put.new.kept) p v ≡ true)
           (λ v p h. rw (same_places now place c.put.new.kept p v) h) (keys_of left) c.pop.new.self.items ends.0;
       count = omega (

@@ -1,6 +1,6 @@
 -- What is left to take in, taken into what is held by now, gives what all gives.
 use Rattle.std.proofs.Common.{◌≡◌, vec_len, true}
-use Rattle.std.specs.List.{AllZip}
+use Rattle.std.specs.List.{AllZip, IsDistinct}
 use Rattle.std.specs.Map.{keys_of}
 use Rattle.std.specs.FinMap as finite
 use Rattle.unit_map.specs.Entries.{IsMap, is_place_of}
@@ -13,10 +13,10 @@ use Rattle.record_table.proofs.record_map.RecordMap.join.Given as goal
 abbrev pub invariant-loop-place : goal.invariant-loop-place
 invariant-loop-place g l = record {
   held : IsMap unit_eq l.self-inside.records;
-  left : IsMap unit_eq l.entries.items;
+  left : IsDistinct unit_eq (keys_of l.entries.items);
   found : AllZip (λ u place. is_place_of unit_eq l.self-inside.records place u ≡ true) (keys_of l.entries.items) l.places.items;
   count : l.self-inside.count ≡ finite.len (map_of l.self-inside.records);
-  whole : joined (choice g.F.Function.semantics l.keep) (map_of l.self-inside.records) (map_of l.entries.items) ≡ joined (choice g.F.Function.semantics l.keep) l.fn.self l.fn.coming;
+  whole : joined (choice g.F.Function.semantics l.keep) (map_of l.self-inside.records) (map_of l.entries.items) ≡ joined (choice g.F.Function.semantics l.keep) l.fn.self (map_of l.fn.entries.items);
 }
 
 abbrev pub decreases-loop-place : goal.decreases-loop-place

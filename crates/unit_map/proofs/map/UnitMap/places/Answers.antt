@@ -1,8 +1,10 @@
 -- Places stay those of their keys while further entries are added.
-use Rattle.std.proofs.Common.{arith, ◌≡◌, ◌∙◌, sym, ap, subst, true, List, [], ◌∷◌, ◌++◌, take}
+use Rattle.std.proofs.Common.{arith, ◌≡◌, ◌∙◌, ◌+◌, sym, ap, subst, true, List, [], ◌∷◌, ◌++◌, take}
 use Rattle.std.specs.List.{AllZip}
 use Rattle.std.proofs.lemmas.List.{take_all, take_more}
+use Rattle.std.specs.Map.{keys_of}
 use Rattle.unit_map.specs.Entries.{is_place_of}
+use Rattle.unit_map.proofs.EntryLemmas.{keys_added}
 use Rattle.unit_map.proofs.map.UnitMap.places.Goals as goal
 
 AllZip-weaker : {A B : Type 0} (P Q : A → B → Type 0) → ((a : A) (b : B) → P a b → Q a b) → (xs : List A) (ys : List B) → AllZip P xs ys → AllZip Q xs ys
@@ -17,20 +19,24 @@ AllZip-more R [] (z ∷ ys) x y h r = absurd h
 AllZip-more R (z ∷ xs) [] x y h r = absurd h
 AllZip-more R (z ∷ xs) (w ∷ ys) x y h r = (h.0, AllZip-more R xs ys x y h.1 r)
 
-pub loop-key-preserved : goal.loop-key-preserved
-loop-key-preserved g c =
-    let keys = c.args.keys.now in
-    let i = c.loop-key.key-index in
-    let more = take_more keys i c.key-item.result c.loop-key-test.true ∙ ap (λ (k : g.row.K.Denot). take i keys ++ k ∷ []) (sym c.key-item.is) in
+pub loop-item-preserved : goal.loop-item-preserved
+loop-item-preserved g c =
+    let items = c.args.items.now in
+    let i = c.loop-item.item-index in
+    let item = c.item-item.result in
+    let keys = keys_of (take i items) in
+    let more : keys_of (take (i + 1) items) ≡ keys ++ item.0 ∷ [] =
+    ap keys_of (take_more items i item c.loop-item-test.true ∙ ap (λ e. take i items ++ e ∷ []) (sym c.item-item.is))
+    ∙ keys_added g.K.PartialEq.eq item.0 item.1 (take i items) in
     record {
       room = c.place_in.ensures.room;
       sound = c.place_in.ensures.sound;
-      found = rw (more, c.in_ok-push.ensures.items) (AllZip-more _ (take i keys) c.loop-key.places.items c.key-item.result c.in_ok-place.place
-          (AllZip-weaker _ _ (λ k place h. c.place_in.ensures.stays place k h) (take i keys) c.loop-key.places.items c.loop-key.invariant.found) c.in_ok-place.ensures.found);
-      same = λ k. c.place_in.ensures.same k ∙ c.loop-key.invariant.same k;
+      found = rw (more, c.in_ok-push.ensures.items) (AllZip-more _ keys c.loop-item.places.items item.0 c.in_ok-place.place
+          (AllZip-weaker _ _ (λ k place h. c.place_in.ensures.stays place k h) keys c.loop-item.places.items c.loop-item.invariant.found) c.in_ok-place.ensures.found);
+      same = λ k. c.place_in.ensures.same k ∙ c.loop-item.invariant.same k;
     }
 
 pub returns-clause-found : goal.returns-clause-found
 returns-clause-found g c =
-    subst (λ ks. AllZip (λ k place. is_place_of g.K.PartialEq.eq c.loop-key.self-inside.entries.items place k ≡ true) ks c.loop-key.places.items)
-    (take_all c.loop-key.key-index c.args.keys.now (omega (arith, c.loop-key-test.false))) c.loop-key.invariant.found
+    subst (λ es. AllZip (λ k place. is_place_of g.K.PartialEq.eq c.loop-item.self-inside.entries.items place k ≡ true) (keys_of es) c.loop-item.places.items)
+    (take_all c.loop-item.item-index c.args.items.now (omega (arith, c.loop-item-test.false))) c.loop-item.invariant.found

@@ -10,9 +10,9 @@ use Rattle.record_table.specs.Table.{AreSound}
 use Rattle.record_table.specs.Chunks.{spelled, records_of, are_good}
 use Rattle.record_table.proofs.RecordLookUps.{sound_with_kept}
 use Rattle.record_table.proofs.ChunkFronts.{brought_by_none, good_none, brings, good_more, bad_none, bad_again, first_bad}
-use Rattle.record_table.proofs.reading.records_of.Given.{Over}
-use Rattle.record_table.proofs.reading.records_of.Goals as goal
-use Rattle.record_table.proofs.reading.records_of.Goals.{In_ok-insert}
+use Rattle.record_table.proofs.reading.records_in_any_order.Given.{Over}
+use Rattle.record_table.proofs.reading.records_in_any_order.Goals as goal
+use Rattle.record_table.proofs.reading.records_in_any_order.Goals.{In_ok-insert}
 
 was_new : (a b : Bool) → a ≡ not b → b ≡ not a
 was_new a true h = ap not (sym h)

@@ -1,0 +1,24 @@
+-- A chunk of a unit behind the last one brings its record.
+use Rattle.std.proofs.Common.{◌≡◌, ◌∙◌, ◌+◌, ◌∷◌, ◌++◌, [], true, Some, sym, ap, take, arith, subst}
+use Rattle.std.proofs.lemmas.List.{take_all, take_more}
+use Rattle.nf_function.specs.Semantics.{is_sound}
+use Rattle.record_table.specs.Chunks.{spelled}
+use Rattle.record_table.specs.Keeping.{is_behind}
+use Rattle.record_table.proofs.OrderedChunks.{InOrder, none_in_order, one_more}
+use Rattle.record_table.proofs.reading.records_in_order.Given.{Over}
+use Rattle.record_table.proofs.reading.records_in_order.Goals as goal
+
+pub loop-chunk-init : goal.loop-chunk-init
+loop-chunk-init g c = rw c.in_ok-entries.ensures.items (none_in_order g.F.Function.semantics)
+
+pub loop-chunk-preserved : goal.loop-chunk-preserved
+loop-chunk-preserved g c =
+    let f = g.F.Function.semantics in
+    let i = c.loop-chunk.chunk-index in
+    let chunk = c.chunk-item.result in
+    let front = take i c.args.chunks.now in
+    let more : take (i + 1) c.args.chunks.now ≡ front ++ chunk ∷ [] = take_more c.args.chunks.now i chunk c.loop-chunk-test.true ∙ ap (λ x. front ++ x ∷ []) (sym c.chunk-item.is) in
+    let spells : spelled f chunk ≡ Some (c.in-Some.unit, c.in-Some.record) = sym c.in_ok-unit.ensures.found ∙ c.in-Some.is in
+    let valid : f.is_valid c.in-Some.unit c.in-Some.record ≡ true = rw c.in-Some.is at c.in_ok-unit.ensures.valid in
+    let next : is_behind c.loop-chunk.last c.in-Some.unit ≡ true = sym c.is_behind.ensures ∙ c.if-not-is_behind.false in
+    rw (more, c.in_ok-push.ensures.items) (one_more f front c.loop-chunk.entries.items c.loop-chunk.last chunk c.in-Some.unit c.in-Some.record c.loop-chunk.invariant spells valid next)
