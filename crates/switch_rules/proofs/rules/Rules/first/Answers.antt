@@ -13,5 +13,5 @@ returns-then-len-gt-FEW_RULES-clause-value c =
 pub returns-then-len-gt-FEW_RULES-clause-found : goal.returns-then-len-gt-FEW_RULES-clause-found
 returns-then-len-gt-FEW_RULES-clause-found c =
     ap is_some (c.target.ensures.value
-        ∙ answer-first c.self.inside.list.items c.self.inside.classifier c.self.invariant.grouped c.args.flow.now c.target.ensures.flow)
+    ∙ answer-first c.self.inside.list.items c.self.inside.classifier c.self.invariant.grouped c.args.flow.now c.target.ensures.flow)
     ∙ c.self.invariant.all c.args.flow.now c.target.ensures.flow
