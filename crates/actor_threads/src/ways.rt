@@ -78,12 +78,13 @@ impl<M: Drop> WayIn<M> {
         }
     }
 
-    /// The next message: of what is kept, or where nothing is, of the take end.
-    pub fn next_taken<R: Wait>(&mut self, rt: &R) -> Option<Stamped<M>>
+    /// The next message: of what is kept, or where nothing is, of the take end. The room of a batch that is used up goes to
+    /// `rooms`.
+    pub fn next_taken<R: Wait>(&mut self, rt: &R, rooms: &mut Rooms<M>) -> Option<Stamped<M>>
         ensures { MatchOption result (Draws self.old self.new []) (λ x. (x.clock < last_clock) × Draws self.old self.new (x ∷ [])) }
     {
         if self.is_used_up() {
-            self.next_of_end(rt)
+            self.next_of_end(rt, rooms)
         } else {
             self.next_kept()
         }
@@ -97,14 +98,15 @@ impl<M: Drop> WayIn<M> {
     }
 
     // The first message of the next batch.
-    fn next_of_end<R: Wait>(&mut self, rt: &R) -> Option<Stamped<M>>
+    fn next_of_end<R: Wait>(&mut self, rt: &R, rooms: &mut Rooms<M>) -> Option<Stamped<M>>
         requires { self.old.kept ≡ [] }
         ensures { MatchOption result (Draws self.old self.new []) (λ x. (x.clock < last_clock) × Draws self.old self.new (x ∷ [])) }
     {
         let Some(batch) = self.end.take(rt) else {
             return None;
         };
-        self.batch = VecDeque::from_vec(batch.into_vec());
+        let used = mem::replace(&mut self.batch, VecDeque::from_vec(batch.into_vec()));
+        rooms.keep(used.into_vec());
         next_of(&mut self.batch)
     }
 
@@ -181,17 +183,44 @@ impl<M: Drop> WayOut<M> {
         }
     }
 
-    /// Puts a message behind those that wait, and sends these as soon as there are [`BURST`] of them.
-    pub fn push<R: Wait>(&mut self, rt: &R, message: Stamped<M>) -> Result<(), NoMemory>
+    /// Puts a message behind those that wait, and sends these as soon as there are [`BURST`] of them. Where there is no room for
+    /// it, that of `rooms` is used.
+    pub fn push<R: Wait>(
+        &mut self,
+        rt: &R,
+        rooms: &mut Rooms<M>,
+        message: Stamped<M>,
+    ) -> Result<(), NoMemory>
         ensures ok { OnOk result (self.new.all ≡ self.old.all ++ message ∷ []) }
         ensures same { self.new.link ≡ self.old.link }
     {
         if self.waiting.is_empty() {
-            self.waiting.reserve(BURST)?;
+            self.find_room(rooms)?;
         }
         self.waiting.push(message)?;
         self.flush_burst(rt);
         Ok(())
+    }
+
+    // Finds room for a burst, where nothing waits.
+    fn find_room(&mut self, rooms: &mut Rooms<M>) -> Result<(), NoMemory>
+        ensures { self.new ≡ self.old }
+    {
+        if self.waiting.capacity() == 0 {
+            if let Some(room) = rooms.take() {
+                self.use_room(room);
+            }
+        }
+        self.waiting.reserve(BURST)
+    }
+
+    // Uses an empty room for what is still to come, where nothing waits.
+    fn use_room(&mut self, room: Vec<Stamped<M>>)
+        ensures { self.new ≡ self.old }
+    {
+        if self.waiting.is_empty() && room.is_empty() {
+            self.waiting = room;
+        }
     }
 
     // Sends what waits, where that is a burst.
@@ -228,5 +257,35 @@ impl<M: Drop> WayOut<M> {
         if let Err(Full { message }) = self.end.send(rt, batch) {
             self.waiting = message.into_vec();
         }
+    }
+}
+
+// So many rooms of batches are kept at most.
+const MOST_ROOMS: usize = 64;
+
+/// Rooms of batches that are used up, for batches that are still to be sent. So most batches take no memory, and no thread
+/// waits for another one that gives memory back.
+#[derive(Drop)]
+pub struct Rooms<M> {
+    all: Vec<Vec<Stamped<M>>>,
+}
+
+impl<M: Drop> Rooms<M> {
+    /// No room.
+    pub fn open(alloc: Global) -> Self {
+        Rooms {
+            all: Vec::new(alloc),
+        }
+    }
+
+    // Keeps a room, as far as there is memory for that.
+    fn keep(&mut self, room: Vec<Stamped<M>>) {
+        if self.all.len() < MOST_ROOMS && room.capacity() > 0 {
+            let _kept = self.all.push(room);
+        }
+    }
+
+    fn take(&mut self) -> Option<Vec<Stamped<M>>> {
+        self.all.pop()
     }
 }

@@ -5,7 +5,7 @@ ghost use Rattle.actor_threads.specs.Work.{is_input_of, opened, waits, all_in, a
 
 use crate::gate::Gate;
 use crate::notes::Notes;
-use crate::ways::{Batch, WayIn, WayOut};
+use crate::ways::{Batch, Rooms, WayIn, WayOut};
 use actor_net::{Actor, Outbox, Stamped};
 use basics::NoMemory;
 use crossbeam_utils::CachePadded;
@@ -29,6 +29,7 @@ pub struct Worker<A: Actor> {
     ins: Vec<WayIn<A::Message>>,
     outs: Vec<WayOut<A::Message>>,
     outbox: Outbox<A::Message, A::Note>,
+    rooms: Rooms<A::Message>,
     // Whether something may wait to be sent.
     unsent: bool,
     // Whether something but the input may be kept.
@@ -92,6 +93,7 @@ impl<A: Actor> Worker<A> {
             ins,
             outs,
             outbox: Outbox::open(alloc),
+            rooms: Rooms::open(alloc),
             unsent: false,
             keeping: true,
             turn: 0,
@@ -310,7 +312,7 @@ impl<A: Actor> Worker<A> {
         requires { (is_input_of self.old.number port ≡ false) × (port < length self.old.ins) }
         ensures { MatchOption result (Idled self.old self.new) (λ x. Found A.is_ready self.old self.new port x) }
     {
-        self.ins[port].next_taken(rt)
+        self.ins[port].next_taken(rt, &mut self.rooms)
     }
 
     // Does one step: the node takes the message, and what it sends carries the step's clock.
@@ -326,7 +328,14 @@ impl<A: Actor> Worker<A> {
         self.clock = clock;
         self.steps.push((clock, port))?;
         self.notes.add(&mut self.outbox)?;
-        put_all(rt, self.number, clock, &mut self.outbox, &mut self.outs)?;
+        put_all(
+            rt,
+            self.number,
+            clock,
+            &mut self.rooms,
+            &mut self.outbox,
+            &mut self.outs,
+        )?;
         Ok(())
     }
 }
@@ -392,6 +401,7 @@ fn put_all<R: Wait, M: Drop, N>(
     rt: &R,
     from: u8,
     clock: u64,
+    rooms: &mut Rooms<M>,
     outbox: &mut Outbox<M, N>,
     outs: &mut Vec<WayOut<M>>,
 ) -> Result<(), NoMemory>
@@ -400,7 +410,7 @@ fn put_all<R: Wait, M: Drop, N>(
 {
     while let Some((to, message)) = outbox.next_sent() {
         if (to as usize) < outs.len() && !(from == 0 && to == 0) {
-            outs[to as usize].push(rt, Stamped { clock, message })?;
+            outs[to as usize].push(rt, rooms, Stamped { clock, message })?;
         }
     }
     Ok(())
