@@ -7,7 +7,7 @@
 //! gives is the replay of that run, the log included. [`run_threads`] repeats rounds until the world is complete. A
 //! [`Gate`] is passed before each step; [`OpenGate`] lets every step pass.
 //!
-//! Nothing here says that threads ran at once, or that a call returns.
+//! The crate touches nothing but memory and threads. Nothing here says that threads ran at once, or that a call returns.
 #![tactic(auto)]
 
 pub mod gate;

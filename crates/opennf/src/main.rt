@@ -1,6 +1,7 @@
 //! The program `opennf`: its arguments are the words of the top call, and its files and standard streams are the outside.
-//! It touches nothing else. The main promise is that of `run`: its exit code is the number of the status, and all that the
-//! top call promises holds of the words that it is given.
+//! It touches nothing else but threads, and `/dev/null`, which holds the places of standard streams that are closed. The main
+//! promise is that of `run`: its exit code is the number of the status, and all that the top call promises holds of the words
+//! that it is given.
 #![tactic(auto)]
 
 mod places;

@@ -2,12 +2,13 @@
 //!
 //! [`opennf_top`], [`opennf_run`] and [`opennf_calm`] take the words of the command line, read the files that these name, and write what they
 //! ask for: the report of a run of the network, the canonical text of a script, or a generated capture. They touch nothing but
-//! the [`Outside`](nf_io::Outside) that they are handed, and memory.
+//! the [`Outside`](nf_io::Outside) that they are handed, and memory; [`opennf_run`] starts threads besides.
 //!
 //! Contracts see the outside as a function from roles to what is known of each, the words as lists of bytes, and a status as
-//! its fields. The main promise is `HasOutcome` of `specs/Outcome.antt`: at `Ok` the report is that of the world to which the
-//! words' schedule leads the network, whose input is what the capture's and the script's bytes are read as, or it is the
-//! canonical text of the script's bytes, or the capture that was drawn is written; every other status has its cause.
+//! its fields. The main promise is `HasOutcome` of `specs/Outcome.antt`: at `Ok` the report is that of a world to which a
+//! complete run leads the network, whose input is what the capture's and the script's bytes are read as: the run of the words'
+//! schedule for `sim`, the one that the workers made for `run`, the one that the journal tells for `audit`. Or the report is the
+//! canonical text of the script's bytes, or the capture that was drawn is written. Every other status has its cause.
 #![tactic(auto)]
 
 pub mod audit;
