@@ -1,5 +1,5 @@
--- The links between all pairs of so many nodes, and how many of them hold something. These are steps between the code and the
--- definition of a world. This is the project's own.
+-- Steps between code and definition, which nobody has to believe: the links between all pairs of so many nodes, and how many of them hold
+-- something. This project's own.
 use Rattle.std.specs.Prelude.{◌≡◌, ◌<◌, ◌+◌, ◌*◌, ℕ, zero, suc, List, [], ◌∷◌, length, sum, slice_index_or, slice_set}
 use Rattle.actor_net.specs.declared.choice.Choice.{Choice}
 

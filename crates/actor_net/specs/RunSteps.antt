@@ -1,4 +1,5 @@
--- The steps of a run: for each choice which node took which message, and what it noted. This is the project's own.
+-- Steps between code and definition, which nobody has to believe: the steps of a run, for each choice which node took which message, and
+-- what it noted. This project's own.
 use Rattle.std.specs.Prelude.{ℕ, Option, None, Some, List, [], ◌∷◌, ◌++◌, slice_get}
 use Rattle.actor_net.specs.declared.choice.Choice.{Choice}
 use Rattle.actor_net.specs.Network.{Network, Stepped, waiting, taken}

@@ -1,4 +1,5 @@
--- A worker as a member of a group, this project's own: how far it is in a round that it began in some state.
+-- Steps between code and definition, which nobody has to believe: a worker as a member of a group, and how far it is in a round that it
+-- began in some state. This project's own.
 use Rattle.std.specs.Prelude.{◌≡◌, ◌<◌, ◌≤◌, ◌&&◌, ℕ, Bool, true, false, not, List, length, slice_index_or}
 use Rattle.actor_net.specs.Network.{Stepped}
 use Rattle.actor_threads.specs.declared.groups.Member.{Member}

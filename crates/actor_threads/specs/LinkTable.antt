@@ -1,4 +1,5 @@
--- The links of a round, one for each ordered pair of nodes. This project's own.
+-- Steps between code and definition, which nobody has to believe: the links of a round, one for each ordered pair of nodes. This project's
+-- own.
 use Rattle.std.specs.Prelude.{◌≡◌, ◌<◌, ◌≤◌, ℕ, ◌+◌, List, [], ◌∷◌, ◌++◌, length, slice_index_or}
 use Rattle.atomic_table.specs.Seated.{TableId}
 use Rattle.actor_net.specs.declared.stamped.Stamped.{Stamped}

@@ -1,4 +1,5 @@
--- The notes of steps, kept as one list with a count for each step, in runs that end at a step with notes. This project's own.
+-- Steps between code and definition, which nobody has to believe: the notes of steps, kept as one list with a count for each step, in runs
+-- that end at a step with notes. This project's own.
 use Rattle.std.specs.Prelude.{ℕ, zero, suc, List, [], ◌∷◌, take, drop}
 use Rattle.actor_threads.specs.declared.notes.Run.{Run}
 

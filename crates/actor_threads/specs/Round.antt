@@ -1,4 +1,5 @@
--- A round of all workers, this project's own: how the workers start in a world, and what stands on the links when all are closed.
+-- Steps between code and definition, which nobody has to believe: a round of all workers, how these start in a world, and what stands on
+-- the links when all are closed. This project's own.
 use Rattle.std.specs.Prelude.{◌≡◌, ◌<◌, ◌+◌, ◌*◌, ℕ, List, [], ◌++◌, length, slice_index_or, slice_set}
 use Rattle.atomic_table.specs.Seated.{TableId}
 use Rattle.actor_net.specs.declared.stamped.Stamped.{Stamped}

@@ -1,4 +1,4 @@
--- How the fields of a way are seen. This project's own.
+-- Steps between code and definition, which nobody has to believe: how the fields of a way are seen. This project's own.
 use Rattle.std.specs.Prelude.{◌++◌}
 use Rattle.actor_threads.specs.Ways.{Incoming, Outgoing, unpacked, with_stamp_0}
 use Rattle.actor_threads.specs.declared.ways.WayIn.TheInside as way_in

@@ -1,4 +1,4 @@
--- The address translator as a network function.
+-- The address translator as a network function. This project's own.
 use Rattle.std.specs.Prelude.{false}
 use Rattle.nf_function.specs.declared.kind.Kind.TheVariants as kinds
 use Rattle.nf_function.specs.Semantics.{Semantics}

@@ -1,5 +1,5 @@
--- What a step of the translator keeps of a record, and all its laws together. A step between code and definition: there is
--- nothing here to believe. It stands in specs/ since the laws of a trait may cite nothing else.
+-- Steps between code and definition, which nobody has to believe: what a step of the translator keeps of a record, and all its laws
+-- together. It stands in specs/ since the laws of a trait may cite nothing else.
 use Rattle.std.proofs.Common.{◌≡◌, ◌<◌, ◌≤◌, ◌+◌, ◌-◌, ◌%◌, ◌^◌, ◌&&◌, ◌||◌, ◌==◌, eqb, ℕ, suc, Bool, true, false, cond, not, List, [], ◌∷◌, ◌++◌, length, Option, None, Some, slice_get, unwrap_or, refl, sym, ap, arith, nat_lt, length-append}
 use Rattle.std.specs.List.{list_all, list_any, position, position_or_len}
 use Rattle.std.proofs.lemmas.Bool.Decides.{nat_tests}

@@ -1,5 +1,5 @@
--- What a monitor's record is stored as is read again, and only that. A step between code and definition: there is nothing here to believe.
--- It stands in specs/ since the laws of a trait may cite nothing else.
+-- Steps between code and definition, which nobody has to believe: what a monitor's record is stored as is read again, and only that. It
+-- stands in specs/ since the laws of a trait may cite nothing else.
 use Rattle.std.proofs.Common.{◌≡◌, ◌∙◌, ◌<◌, ◌≤◌, ◌+◌, ◌*◌, ◌^◌, ◌&&◌, ℕ, zero, suc, true, List, [], ◌∷◌, ◌++◌, length, Some, option_and_then, refl, sym, ap, arith, nat_lt, nat_le, length-append}
 use Rattle.std.specs.List.{flat_map, list_all}
 use Rattle.std.proofs.lemmas.Bool.{ltb-true, lt-ltb, leb-true, le-leb}

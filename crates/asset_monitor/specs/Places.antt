@@ -1,4 +1,4 @@
--- Where a service stands among others, and where it would stand. A step between code and definition: there is nothing here to believe.
+-- Steps between code and definition, which nobody has to believe: where a service stands among others, and where it would stand.
 use Rattle.std.specs.Prelude.{◌≡◌, ℕ, ◌+◌, ◌<◌, ◌≤◌, List, length}
 use Rattle.std.specs.List.{AllWithin, HoldsAt}
 use Rattle.std.specs.declared.cmp.Ordering.TheVariants.{Less, Equal, Greater}

@@ -1,5 +1,5 @@
--- The rows of the table by what is known of the packet's source, and what they keep. A step between code and definition: there is nothing
--- here to believe.
+-- Steps between code and definition, which nobody has to believe: the rows of the table by what is known of the packet's source, and what
+-- they keep.
 use Rattle.std.proofs.Common.{◌≡◌, ◌∙◌, ◌&&◌, ℕ, Bool, true, false, cond, not, is_some, List, length, get_or, nat_lt, Option, None, Some, refl}
 use Rattle.flow_filter.specs.declared.packet.Packet.{Packet}
 use Rattle.flow_filter.specs.declared.flow.Direction.{Direction}

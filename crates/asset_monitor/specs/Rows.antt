@@ -1,4 +1,4 @@
--- The rows of the table by what is known of the packet's source. A step between code and definition: there is nothing here to believe.
+-- Steps between code and definition, which nobody has to believe: the rows of the table by what is known of the packet's source.
 use Rattle.std.specs.Prelude.{nat_lt, if◌then◌else◌, length, Option, None, Some}
 use Rattle.flow_filter.specs.declared.packet.Packet.{Packet}
 use Rattle.nf_function.specs.Semantics.{Step}

@@ -1,5 +1,5 @@
--- Services in order: where one stands, and what one more leaves. A step between code and definition: there is nothing here to believe.
--- It stands in specs/ since the laws of a trait may cite nothing else.
+-- Steps between code and definition, which nobody has to believe: services in order: where one stands, and what one more leaves. It stands
+-- in specs/ since the laws of a trait may cite nothing else.
 use Rattle.std.proofs.Common.{◌≡◌, ◌∙◌, inl, inr, subst, ◌<◌, ◌≤◌, ◌+◌, ◌&&◌, ℕ, zero, suc, Bool, true, false, cond, List, [], ◌∷◌, ◌++◌, length, get_or, take, drop, set, None, Some, is_some, Result, Ok, Err, IfOk, IfErr, refl, sym, ap, arith, nat_le, length-append}
 use Rattle.std.specs.List.{AllWithin, HoldsAt, filter, find, insert, list_all}
 use Rattle.std.specs.List.Sorted.{IsSearchInRange, IsBinarySearchResult}

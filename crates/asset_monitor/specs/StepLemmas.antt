@@ -1,5 +1,5 @@
--- What a step of the monitor keeps of a record, and all its laws together. A step between code and definition: there is
--- nothing here to believe. It stands in specs/ since the laws of a trait may cite nothing else.
+-- Steps between code and definition, which nobody has to believe: what a step of the monitor keeps of a record, and all its laws together.
+-- It stands in specs/ since the laws of a trait may cite nothing else.
 use Rattle.std.proofs.Common.{◌≡◌, ◌<◌, ◌≤◌, ◌^◌, ℕ, Bool, true, false, cond, is_some, length, Option, None, Some, unwrap_or, refl, ap, arith, nat_lt}
 use Rattle.std.proofs.lemmas.Bool.{ltb-true, lt-ltb}
 use Rattle.basics.proofs.BoolLemmas.{true_both}

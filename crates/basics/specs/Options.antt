@@ -1,4 +1,4 @@
--- Chains of values that may not be there.
+-- Chains of values that may not be there. This project's own, for definitions.
 use Rattle.std.specs.Prelude.{Option, option_and_then}
 
 -- go on with what is there

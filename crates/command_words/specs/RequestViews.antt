@@ -1,4 +1,4 @@
--- How contracts see what the words ask for.
+-- How contracts see what the words ask for. This project's own.
 use Rattle.std.specs.Prelude.{option_map}
 use Rattle.flow_filter.specs.Reading.{prefix_numbers}
 use Rattle.command_words.specs.declared.request.Instances as code

@@ -1,4 +1,4 @@
--- What reading words gives: exactly what a definition reads, or a refusal exactly where it reads nothing.
+-- What reading words gives: exactly what a definition reads, or a refusal exactly where it reads nothing. This project's own.
 use Rattle.std.specs.Prelude.{◌≡◌, Option, Some, None, Result, Ok, Err, option_map}
 use Rattle.command_words.specs.declared.fault.ArgumentsFault.{ArgumentsFault}
 use Rattle.command_words.specs.declared.fault.ArgumentsFault.TheVariants.{Usage, NoMemory}

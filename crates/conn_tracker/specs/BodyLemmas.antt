@@ -1,5 +1,5 @@
--- What a tracker's record is stored as is read again, and only that. A step between code and definition: there is nothing
--- here to believe. It stands in specs/ since the laws of a trait may cite nothing else.
+-- Steps between code and definition, which nobody has to believe: what a tracker's record is stored as is read again, and only that. It
+-- stands in specs/ since the laws of a trait may cite nothing else.
 use Rattle.std.proofs.Common.{◌≡◌, ◌∙◌, ◌<◌, ◌≤◌, ◌^◌, ◌&&◌, eqb, ℕ, Bool, true, false, cond, List, [], ◌∷◌, ◌++◌, length, Option, None, Some, option_and_then, refl, sym, ap, arith, zero, suc, nat_lt, nat_le, append-nil, length-append}
 use Rattle.std.proofs.lemmas.Bool.Decides.{nat_tests}
 use Rattle.std.proofs.lemmas.List.{append_assoc}

@@ -1,4 +1,4 @@
--- The connection tracker as a network function.
+-- The connection tracker as a network function. This project's own.
 use Rattle.std.specs.Prelude.{nat_le}
 use Rattle.nf_function.specs.declared.kind.Kind.TheVariants.{Conntrack}
 use Rattle.nf_function.specs.Semantics.{Semantics}

@@ -1,5 +1,5 @@
--- What a step of the tracker keeps of a record, and all laws of the tracker together. A step between code and definition:
--- there is nothing here to believe. It stands in specs/ since the laws of a trait may cite nothing else.
+-- Steps between code and definition, which nobody has to believe: what a step of the tracker keeps of a record, and all laws of the tracker
+-- together. It stands in specs/ since the laws of a trait may cite nothing else.
 use Rattle.std.proofs.Common.{◌≡◌, ◌<◌, ◌≤◌, ◌^◌, ◌||◌, ℕ, Bool, true, false, cond, not, max, Option, None, Some, refl, ap, arith, nat_le}
 use Rattle.std.proofs.lemmas.Bool.Decides.{nat_tests}
 use Rattle.flow_filter.specs.declared.packet.Packet.{Packet}

@@ -1,4 +1,4 @@
--- A step between code and definition, which nobody has to believe: the byte of a digit in ASCII.
+-- Steps between code and definition, which nobody has to believe: the byte of a digit in ASCII.
 use Rattle.std.specs.Prelude.{ℕ, ◌+◌}
 
 -- the byte of a decimal digit

@@ -1,4 +1,4 @@
--- The queues that a store keeps in memory. Steps between the code and the definition of a store: nobody has to believe them.
+-- Steps between code and definition, which nobody has to believe: the queues that a store keeps in memory.
 use Rattle.std.specs.Prelude.{ℕ, List, [], ◌∷◌, unwrap_or}
 use Rattle.std.specs.Ordering.{nat_cmp}
 use Rattle.std.specs.FinMap as map

@@ -1,4 +1,5 @@
--- How an end's fields are seen as an `End`, and what always holds of them. This project's own.
+-- Steps between code and definition, which nobody has to believe: how an end's fields are seen as an `End`, and what always holds of them.
+-- This project's own.
 use Rattle.std.specs.Prelude.{◌≡◌, ◌≤◌, true, [], vec_capacity}
 use Rattle.std.specs.Arc.{arc_value}
 use Rattle.crossbeam_queue.specs.Passes.{view, IsPassOf, ruled_capacity}

@@ -1,5 +1,5 @@
--- The rule of a link, this project's own: what was sent is what was taken and then what the queue holds.
--- One holder at most may send. It knows all that was done, but for what was taken since its last message.
+-- Steps between code and definition, which nobody has to believe: the rule of a link. What was sent is what was taken and then what the
+-- queue holds. This project's own. One holder at most may send. It knows all that was done, but for what was taken since its last message.
 -- One holder at most may take. It knows all that was done, but for what was sent since its last message.
 use Rattle.std.specs.Prelude.{◌≡◌, ℕ, Bool, true, List, [], ◌∷◌, ◌++◌}
 use mathlib.Core.Option.{some}

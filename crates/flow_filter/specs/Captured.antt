@@ -1,4 +1,4 @@
--- A packet as it stands while it waits for its turn: a step between code and definition, which nobody has to believe.
+-- Steps between code and definition, which nobody has to believe: a packet as it stands while it waits for its turn.
 use Rattle.std.specs.Prelude.{replicate}
 use Rattle.flow_filter.specs.declared.packet.Packet.{Packet}
 use Rattle.flow_filter.specs.declared.captured.Header.{Header}

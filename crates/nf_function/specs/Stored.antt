@@ -1,4 +1,4 @@
--- Numbers in stored bytes: big-endian, each of a fixed number of bytes. The formats of this project are made of them.
+-- Numbers in stored bytes: big-endian, each of a fixed number of bytes. The formats of this project are made of them; they are its own.
 use Rattle.std.specs.Prelude.{ℕ, ◌<◌, nat_lt, if◌then◌else◌, List, [], ◌∷◌, length, drop, slice_index, Option, None, Some}
 use Rattle.byteorder.specs.Endian.{big_bytes, big_number}
 

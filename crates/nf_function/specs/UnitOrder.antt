@@ -1,4 +1,4 @@
--- The order of units is a total order. This is a step between code and definition: there is nothing here to believe.
+-- Steps between code and definition, which nobody has to believe: the order of units is a total order.
 use Rattle.std.proofs.Common.{◌≡◌, refl, ap}
 use Rattle.std.proofs.lemmas.Bool.{false≢true}
 use Rattle.std.specs.Ordering.{is_lt, is_eq, ordering_reverse}

@@ -1,4 +1,5 @@
--- How contracts see the forms of lines: each word as its bytes.
+-- Steps between code and definition, which nobody has to believe: how contracts see the forms of lines, each word as its bytes. This
+-- project's own.
 use Rattle.std.specs.Prelude.{option_map}
 use Rattle.op_script.specs.declared.form.Form as code
 use Rattle.op_script.specs.declared.form.Form.TheVariants.{Silent as CodeSilent, Route, At}

@@ -1,4 +1,4 @@
--- A step between code and definition, which nobody has to believe: what ends the line of an output.
+-- Steps between code and definition, which nobody has to believe: what ends the line of an output.
 use Rattle.std.specs.Prelude.{ℕ, ◌++◌, List, codes}
 use Rattle.nf_function.specs.declared.output.Output.{Output}
 use Rattle.nf_function.specs.Semantics.{Semantics}

@@ -1,5 +1,4 @@
--- What stands behind the references of lists on the way to the report. Steps between code and definition: there is nothing here to
--- believe.
+-- Steps between code and definition, which nobody has to believe: what stands behind the references of lists on the way to the report.
 use Rattle.std.specs.Prelude.{ℕ, List}
 use Rattle.std.specs.Borrow.{Bor}
 use Rattle.nf_msgs.specs.declared.answer.Answer.{Answer}

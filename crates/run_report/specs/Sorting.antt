@@ -1,4 +1,4 @@
--- A stable sort: the elements by their keys, and those whose keys tie as they stood.
+-- A stable sort: the elements by their keys, and those whose keys tie as they stood. This project's own.
 use Rattle.std.specs.Prelude.{List, [], ◌∷◌, if◌then◌else◌}
 use Rattle.std.specs.Ordering.{is_lt}
 use Rattle.std.specs.declared.cmp.Ordering.{Ordering}

@@ -1,4 +1,4 @@
--- Numbers in the bytes of a capture.
+-- Numbers in the bytes of a capture: those of pcap in the order of bytes that the file states, those of IP, TCP and UDP in network order.
 use Rattle.std.specs.Prelude.{ℕ, List, slice_index, drop}
 use Rattle.byteorder.specs.Endian.{big_number, little_number}
 use Rattle.trace_reader.specs.declared.form.Form.{Form}

@@ -1,4 +1,5 @@
--- What is taken from a source in several reads. Each definition speaks where the bytes are told.
+-- Steps between code and definition, which nobody has to believe: what is taken from a source in several reads. Each definition speaks
+-- where the bytes are told. This project's own.
 use Rattle.std.specs.Prelude.{◌≡◌, ℕ, min, nat_le, Bool, true, false, List, [], length, take, drop, Option, Some}
 use Rattle.std.specs.Option.{ForSome}
 
