@@ -281,7 +281,7 @@ def flows(cases):
 
 
 def paths(cases):
-    """The tracker: every flag byte behind every way into a state."""
+    """The tracker: every flag byte after every way into a state."""
     syn, ack, fin, rst = 2, 16, 1, 4
     ways = {
         "opening": [(1, syn)],

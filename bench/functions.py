@@ -42,7 +42,7 @@ class Prefix(NamedTuple):
 
 
 def read_prefix(text):
-    """`A.B.C.D/L`, where no bit is set behind the first L."""
+    """`A.B.C.D/L`, where no bit is set after the first L."""
     address, slash, length = text.partition("/")
     bits, length = read_address(address), read_number(length, 0, 32)
     if not slash or bits is None or length is None:

@@ -46,7 +46,7 @@ def report(turns, answers, home):
 
 
 def moves(*points):
-    """The lines of these moves, each with a settle behind it."""
+    """The lines of these moves, each with a settle after it."""
     return [line for point, move in points for line in (f"at {point} move {move}", f"at {point} settle")]
 
 

@@ -22,7 +22,7 @@ JOURNAL = "journal"
 INSTANCES = {2: "a,b", 16: ",".join(cases.MANY)}
 HOSTS = [1, 2, 3, 1, 2, 3, 1, 1, 2, 2, 3, 3]
 
-# What stands behind `at K` in the script, once near the front of the packets and once behind their midst, or once alone.
+# What stands after `at K` in the script, once near the front of the packets and once after their midst, or once alone.
 KINDS = {
     "none": [],
     "move order": ["move a b any order"] * 2,
@@ -40,7 +40,7 @@ KINDS = {
 
 
 def most_choices(instances, packets, lines, pieces):
-    """The most choices of a run of so many instances, packets, lines of the script behind its routes, and pieces that moves send."""
+    """The most choices of a run of so many instances, packets, lines of the script after its routes, and pieces that moves send."""
     return (2 * instances + 6) * packets + (4 * instances + 24) * lines + 4 * pieces + 3 * instances + 8
 
 
@@ -90,7 +90,7 @@ def hold(holds, *what):
 
 
 def lines_of(kind, names):
-    """The script of a kind: its lines stand near the front and behind the midst of the packets, in their order."""
+    """The script of a kind: its lines stand near the front and after the midst of the packets, in their order."""
     lines = [line.format(names=names) for line in KINDS[kind]]
     return [f"at {1 if 2 * place < len(lines) else 7} {line}" for place, line in enumerate(lines)]
 

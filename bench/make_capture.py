@@ -36,7 +36,7 @@ def words(number):
 
 
 FILE_HEADER = struct.pack("<IHHIIII", 0xA1B2C3D4, 2, 4, 0, 0, 65535, 101)
-# The record's header is little-endian, and the packet behind it big-endian: two structs.
+# The record's header is little-endian, and the packet after it big-endian: two structs.
 RECORD = struct.Struct("<IIII")
 # Version and header length, service, total length, identification, fragment; time to live, protocol, checksum; addresses.
 IPV4 = struct.Struct(">BBHHHBBHII")

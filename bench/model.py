@@ -332,7 +332,7 @@ def simulate(asked):
 
 
 def run(words):
-    """The report's bytes for the program's words behind its name, each as bytes. A capture that is asked for is written."""
+    """The report's bytes for the program's words after its name, each as bytes. A capture that is asked for is written."""
     asked = read_words(words)
     if isinstance(asked, Making):
         return make(asked)

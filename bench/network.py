@@ -523,7 +523,7 @@ class Controller:
 
 
 def items_of(site, packets, lines):
-    """The input: the packets, each line of the script behind the packet that it names, and the end."""
+    """The input: the packets, each line of the script after the packet that it names, and the end."""
     items, lines = [], deque(lines)
     for number in range(len(packets) + 1):
         if number > 0:

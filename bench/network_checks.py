@@ -242,7 +242,7 @@ def check_refused(run):
 
 
 def check_settles(run):
-    """A packet behind a settle is processed at its owner, where no command behind the settle has begun before."""
+    """A packet after a settle is processed at its owner, where no command after the settle has begun before."""
     in_front = {}  # by packet: how many commands stand in front of the last settle before it
     commands, settled, lines = 0, None, list(run.script.lines)
     for number in range(1, len(run.packets) + 1):

@@ -22,7 +22,7 @@ LANES = ["switch", "controller", "a", "b"]
 
 
 def sent_by_model():
-    """What is sent in a run of one share and one packet, which is b's, as (sender, receiver, name): before the packet arrives, and behind that."""
+    """What is sent in a run of one share and one packet, which is b's, as (sender, receiver, name): before the packet arrives, and after that."""
     function, site = FUNCTIONS["conntrack"], Site(Prefix(0x0A000000, 24), None)
     packet = model.Packet(0, UDP, (0x0A000001, 5001), (0xC0000209, 53), 0, 0, b"")
     script = script_reader.read_script(b"at 0 share a,b any strict\nat 0 settle\n", function, ["a", "b"])

@@ -87,7 +87,7 @@ def add_line(lines, line):
 
 
 def form_of(words):
-    """What stands behind a point as a verb, names, a filter or None, and how a move is made; None where it has no form."""
+    """What stands after a point as a verb, names, a filter or None, and how a move is made; None where it has no form."""
     match words:
         case ["move", source, destination, flows, ("order" | "lossfree") as how]:
             return "move", [source, destination], flows, how

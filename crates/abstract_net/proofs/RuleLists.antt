@@ -1,4 +1,4 @@
--- Lists of rules: what a number finds after rules were changed, or one was put behind them.
+-- Lists of rules: what a number finds after rules were changed, or one was put after them.
 use Rattle.std.proofs.Common.{◌≡◌, ℕ, Bool, true, false, Option, Some, None, List, [], ◌∷◌, ◌++◌, refl, sym, ap, ◌∙◌, subst}
 use Rattle.std.specs.Prelude.{if◌then◌else◌, ◌==◌, option_map, is_some}
 use Rattle.std.proofs.lemmas.Bool.Decides.{Decides-eqb}

@@ -32,7 +32,7 @@ impl<M, N> Outbox<M, N> {
         }
     }
 
-    /// Nothing sent, behind these notes. This takes no memory.
+    /// Nothing sent, after these notes. This takes no memory.
     pub(crate) fn with_notes(alloc: Global, notes: Vec<N>) -> Self
         ensures { result ≡ ([], notes.items) }
     {

@@ -1,4 +1,4 @@
--- What one more event behind a history adds to its steps, messages and clocks.
+-- What one more event after a history adds to its steps, messages and clocks.
 use Rattle.std.proofs.Common.{◌≡◌, ◌==◌, ◌<◌, ℕ, Bool, true, false, if◌then◌else◌, List, [], ◌∷◌, ◌++◌, sym, ◌∙◌, ap, refl, append-nil, append_assoc}
 use Rattle.std.proofs.lemmas.List.{map-append}
 use Rattle.actor_net.specs.Network.{Stepped, reaches}

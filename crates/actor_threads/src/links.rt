@@ -52,7 +52,7 @@ fn open_row<M: Drop>(
     Ok(row)
 }
 
-/// Closes the links of one sender. Each receiver's way in from it is its first. The lists of the links go behind those before.
+/// Closes the links of one sender. Each receiver's way in from it is its first. The lists of the links go after those before.
 pub fn close_row<M: Drop, R: Wait>(
     rt: &R,
     mut row: VecDeque<WayOut<M>>,
@@ -89,7 +89,7 @@ fn close_way<M: Drop, R: Wait>(
     Ok(Sequence::from_vec(list.into_vec()))
 }
 
-// Puts the messages of batches behind others.
+// Puts the messages of batches after others.
 fn append_all<M: Drop>(list: &mut VecDeque<M>, batches: Vec<Batch<M>>) -> Result<(), NoMemory>
     ensures { OnOk result (list.new.items ≡ list.old.items ++ messages (unpacked batches.items)) }
 {

@@ -8,7 +8,7 @@ use std::alloc::{AllocError, Global};
 use std::collections::VecDeque;
 use std::marker::Model;
 
-// Steps that noted nothing, and how much the step behind them noted.
+// Steps that noted nothing, and how much the step after them noted.
 #[derive(Clone, Copy, Debug)]
 struct Run {
     silent: u32,
@@ -19,7 +19,7 @@ struct Run {
 #[derive(Drop)]
 struct Counts {
     runs: Vec<Run>,
-    // How many steps behind the last run noted nothing.
+    // How many steps after the last run noted nothing.
     silent: u32,
 }
 
@@ -134,7 +134,7 @@ impl<N: Drop> Notes<N> {
         }
     }
 
-    /// Moves what a step noted behind what the steps before it noted.
+    /// Moves what a step noted to the end of what the steps before it noted.
     pub fn add<M>(&mut self, out: &mut Outbox<M, N>) -> Result<(), NoMemory>
         ensures list { OnOk result (self.new ≡ self.old ++ out.old.1 ∷ []) }
         ensures sent { out.new.0 ≡ out.old.0 }
@@ -183,7 +183,7 @@ impl<N> Model for NoteQueue<N> {
 }
 
 impl<N: Drop> NoteQueue<N> {
-    /// Moves the notes of the next step behind those of a log.
+    /// Moves the notes of the next step to the end of a log.
     pub fn deal(&mut self, log: &mut Vec<N>) -> Result<(), NoMemory>
         ensures queue { OnOk result (self.new ≡ without_first_list self.old) }
         ensures log { OnOk result (log.new.items ≡ log.old.items ++ first_list self.old) }
@@ -195,7 +195,7 @@ impl<N: Drop> NoteQueue<N> {
     }
 }
 
-// Moves the first notes of a queue behind those of a log. At most so many leave the queue, also where memory runs out.
+// Moves the first notes of a queue to the end of a log. At most so many leave the queue, also where memory runs out.
 fn give<N: Drop>(all: &mut VecDeque<N>, count: u32, log: &mut Vec<N>) -> Result<(), NoMemory>
     requires { count ≤ length all.old.items }
     ensures all { OnOk result (all.new.items ≡ drop count all.old.items) }

@@ -125,7 +125,7 @@ impl<M: Drop> WayIn<M> {
     }
 }
 
-/// Puts messages without their stamps behind others.
+/// Puts messages without their stamps after others.
 pub fn append<M: Drop>(list: &mut VecDeque<M>, more: Vec<Stamped<M>>) -> Result<(), NoMemory>
     ensures { OnOk result (list.new.items ≡ list.old.items ++ messages more.items) }
 {
@@ -183,7 +183,7 @@ impl<M: Drop> WayOut<M> {
         }
     }
 
-    /// Puts a message behind those that wait, and sends these as soon as there are [`BURST`] of them. Where there is no room for
+    /// Puts a message after those that wait, and sends these as soon as there are [`BURST`] of them. Where there is no room for
     /// it, that of `rooms` is used.
     pub fn push<R: Wait>(
         &mut self,

@@ -1,4 +1,4 @@
--- Where nothing is left to be done, no operation is open but shares that are set up, if no command stands behind the input's end.
+-- Where nothing is left to be done, no operation is open but shares that are set up, if no command stands after the input's end.
 use Rattle.std.proofs.Common.{◌≡◌, ◌≢◌, ℕ, zero, suc, ◌+◌, ◌<◌, Bool, true, false, None, List, [], ◌∷◌, ◌++◌, length, get_or, refl, sym, ap, ◌∙◌, subst, arith}
 use Rattle.std.specs.Prelude.{if◌then◌else◌, ◌&&◌, ◌==◌, not}
 use Rattle.std.specs.declared.alloc.Global.{Global}

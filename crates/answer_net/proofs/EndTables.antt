@@ -1,4 +1,4 @@
--- What each node's step keeps of the input's end: no command comes behind it, the controller finishes once no operation is open but shares
+-- What each node's step keeps of the input's end: no command comes after it, the controller finishes once no operation is open but shares
 -- that are set up, and the switch closes where it takes the finish.
 use Rattle.std.proofs.Common.{◌≡◌, ℕ, zero, suc, ◌+◌, ◌-◌, ◌≤◌, Bool, true, false, cond, Option, Some, None, List, [], ◌∷◌, ◌++◌, refl, sym, ap, ◌∙◌, subst, arith}
 use Rattle.std.specs.Prelude.{if◌then◌else◌, ◌&&◌, ◌||◌, ◌==◌, not, nat_lt}

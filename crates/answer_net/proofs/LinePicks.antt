@@ -1,4 +1,4 @@
--- What stands on the way to the controller, which is its link from the switch and the input behind it: what is picked out of it, in order,
+-- What stands on the way to the controller, which is its link from the switch and the input after it: what is picked out of it, in order,
 -- as a step goes on.
 use Rattle.std.proofs.Common.{◌≡◌, ℕ, suc, ◌<◌, Bool, true, false, List, [], ◌∷◌, ◌++◌, drop, append_assoc, append-nil, refl, sym, ap, ◌∙◌, arith}
 use Rattle.std.specs.Prelude.{if◌then◌else◌, ◌&&◌, ◌==◌, not, nat_lt}

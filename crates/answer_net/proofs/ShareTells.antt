@@ -1,4 +1,4 @@
--- What a message does to an open share, and a packet that is put behind its queue: it is answered once, where it is set up, and what it
+-- What a message does to an open share, and a packet that is put at the end of its queue: it is answered once, where it is set up, and what it
 -- sends are records, packets and the request for records.
 use Rattle.std.proofs.Common.{◌≡◌, ℕ, Bool, true, false, cond, Option, Some, None, List, [], ◌∷◌, ◌++◌, map, length, refl, sym, ◌∙◌}
 use Rattle.std.specs.Prelude.{if◌then◌else◌, ◌==◌, ◌-◌, find, option_map}

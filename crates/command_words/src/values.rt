@@ -62,7 +62,7 @@ fn instance_of(alloc: Global, text: &[u8]) -> Result<Option<Instance>, NoMemory>
     }
 }
 
-/// The limit that the text behind a name and a colon spells, and whether it marks the instance.
+/// The limit that the text after a name and a colon spells, and whether it marks the instance.
 #[tactic(auto, unfolding(crate::specs::Plan::suffix_of))]
 fn suffix_of(text: &[u8]) -> Option<(u32, bool)>
     ensures { result ≡ suffix_of text.now }
@@ -85,7 +85,7 @@ fn limit_of(text: &[u8]) -> Option<u32>
     Some(limit as u32)
 }
 
-/// The instance with this name, where the name is one and what stands behind it is well formed.
+/// The instance with this name, where the name is one and what stands after it is well formed.
 fn named(
     alloc: Global,
     name: &[u8],

@@ -1,4 +1,4 @@
--- Bytes that are put behind those that stand at the front of a place, or of a buffer.
+-- Bytes that are put after those that stand at the front of a place, or of a buffer.
 use Rattle.std.proofs.Common.{◌≡◌, ◌≤◌, ℕ, zero, suc, ◌+◌, List, [], ◌∷◌, ◌++◌, length, take, drop, refl, ap, sym, ◌∙◌, subst, append_assoc, length-take, arith}
 use Rattle.std.proofs.Math.Seq.{take-append_seam, drop-append_seam, take-append-add}
 use Rattle.std.proofs.lemmas.List.{drop-drop, length-append, take-append-le}

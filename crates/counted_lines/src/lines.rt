@@ -30,7 +30,7 @@ impl CountedLines {
         })
     }
 
-    /// Puts the line with a number and an end behind the text and what is still to go there.
+    /// Puts the line with a number and an end after the text and what is still to go there.
     #[inline(always)]
     pub fn push(&mut self, text: &mut Text, number: u64, end: &Block) -> Result<(), NoMemory>
         ensures text { OnOk result (text.new ++ pending self.new ≡ (text.old ++ pending self.old) ++ (word_of self.old ++ decimal number ++ end.now)) }

@@ -33,7 +33,7 @@ impl Page {
         Ok(Page { bytes, used: 0 })
     }
 
-    /// Puts the line of a count and an end behind the text and what stands on the page.
+    /// Puts the line of a count and an end after the text and what stands on the page.
     #[inline(always)]
     pub fn push_line(
         &mut self,

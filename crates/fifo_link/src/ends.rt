@@ -100,7 +100,7 @@ impl<M> Link<M> {
 }
 
 impl<M: Drop> SendEnd<M> {
-    /// Puts a message behind those that were sent, and learns what was taken before it. `Full` comes only where the link was
+    /// Puts a message after those that were sent, and learns what was taken before it. `Full` comes only where the link was
     /// full at a moment since the last message that was sent.
     pub fn send<R: Wait>(&mut self, rt: &R, message: M) -> Result<(), Full<M>>
         ensures same { (self.new.link ≡ self.old.link) × (self.new.capacity ≡ self.old.capacity) }

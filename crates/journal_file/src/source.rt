@@ -26,7 +26,7 @@ pub fn read_journal_from<S: Source>(
 ) -> Result<Choices, JournalFault>
     requires { S.IsOpen source.old }
 
-    // Its answer is that of the bytes left, and none behind the first part that shows a fault is taken.
+    // Its answer is that of the bytes left, and none after the first part that shows a fault is taken.
     ensures value { ForSome (S.left source.old) (λ bytes.
         GivesFrom (journal_of kind instances bytes) (looked_at (count_of kind instances bytes)) bytes (S.left source.new) result) }
     ensures cause { HasReadCause (S.faults source.old) (S.faults source.new) result }

@@ -99,7 +99,7 @@ impl Plan {
         })
     }
 
-    /// Sends the stored parcels back to the source, and its fence behind them.
+    /// Sends the stored parcels back to the source, and its fence after them.
     fn give_back(
         &self,
         why: Answer,

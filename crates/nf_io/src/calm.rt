@@ -41,7 +41,7 @@ impl CalmOutside {
         }
     }
 
-    /// Puts bytes behind those that a role has left.
+    /// Puts bytes after those that a role has left.
     pub fn put(&mut self, role: Role, bytes: &[u8]) -> Result<(), NoMemory>
         ensures ok { OnOk result (calm_in self.new role ≡ record (calm_in self.old role) {
           left = append_known (calm_in self.old role).left bytes.now;

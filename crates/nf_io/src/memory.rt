@@ -42,7 +42,7 @@ impl MemoryOutside {
         }
     }
 
-    /// Puts bytes behind those that a role has left.
+    /// Puts bytes after those that a role has left.
     pub fn put(&mut self, role: Role, bytes: &[u8]) -> Result<(), NoMemory>
         ensures ok { OnOk result (seen_in self.new role ≡ record (seen_in self.old role) {
           left = append_known (seen_in self.old role).left bytes.now;

@@ -33,7 +33,7 @@ impl Tape {
         }
     }
 
-    /// Puts bytes behind those that are left.
+    /// Puts bytes after those that are left.
     pub(crate) fn put(&mut self, bytes: &[u8]) -> Result<(), NoMemory>
         ensures ok { OnOk result (meaning_on self.new ≡ record (meaning_on self.old) { left = Some (left_on self.old ++ bytes.now) }) }
         ensures err { OnErr result (meaning_on self.new ≡ meaning_on self.old) }

@@ -45,7 +45,7 @@ fn with_lines(alloc: Global, packets: PacketItems, lines: &[Line]) -> Result<Vec
     Ok(out)
 }
 
-/// Whether all lines stand at this point or behind it.
+/// Whether all lines stand at this point or after it.
 fn are_behind(lines: &[Line], point: u64) -> bool
     ensures { result ≡ list_all (λ line. nat_le point line.at) lines.now }
 {

@@ -1,4 +1,4 @@
--- The rows of an audit, which reads a journal behind the script and the capture.
+-- The rows of an audit, which reads a journal after the script and the capture.
 use Rattle.std.proofs.Common.{◌≡◌, ℕ, List, [], true, length, Option, None, Some, is_some, Result, Ok, Err, refl, ap, sym, ◌∙◌, subst}
 use Rattle.std.specs.Prelude.{MatchResult}
 use Rattle.nf_io.specs.declared.outside.Role.{Role}

@@ -57,7 +57,7 @@ fn is_by_number(log: &[Note]) -> bool
     true
 }
 
-/// Puts the line of each packet's output behind the text and the lines that are still to go there, in the order of the log.
+/// Puts the line of each packet's output after the text and the lines that are still to go there, in the order of the log.
 fn push_noted_outs<F: Function>(
     text: &mut Text,
     lines: &mut CountedLines,
@@ -117,7 +117,7 @@ fn outputs(alloc: Global, log: &[Note]) -> Result<Vec<(u32, Output)>, NoMemory>
     Ok(found)
 }
 
-/// Puts an output's line behind the text and the lines that are still to go there.
+/// Puts an output's line after the text and the lines that are still to go there.
 #[tactic(auto, unfolding(crate::specs::Lines::out_line))]
 #[inline(always)]
 fn push_out<F: Function>(
@@ -195,7 +195,7 @@ fn name_ends(alloc: Global, names: &[Name]) -> Result<Vec<NameEnd<'_>>, NoMemory
     Ok(ends)
 }
 
-/// Puts the line of a packet that was processed behind the text and the lines that are still to go there.
+/// Puts the line of a packet that was processed after the text and the lines that are still to go there.
 #[inline(always)]
 fn push_done(
     text: &mut Text,

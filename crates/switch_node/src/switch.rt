@@ -254,7 +254,7 @@ impl Switch {
         out.send(instance_node(instance), message)
     }
 
-    /// Changes the rules, and sends a fence behind the packets of the old ones.
+    /// Changes the rules, and sends a fence after the packets of the old ones.
     fn install(
         &mut self,
         op: u32,

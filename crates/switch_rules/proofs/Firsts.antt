@@ -1,4 +1,4 @@
--- Lists without the items that a test leaves out behind earlier ones.
+-- Lists without the items that a test leaves out after earlier ones.
 use Rattle.std.proofs.Common.{◌≡◌, Bool, true, false, cond, not, ◌||◌, List, [], ◌∷◌, ◌++◌, Option, Some, is_some, refl, ap, sym, ◌∙◌}
 use Rattle.std.specs.Prelude.{find, filter}
 use Rattle.std.specs.List.{list_any, IsDistinct, AllByRecursion}

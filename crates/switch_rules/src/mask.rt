@@ -65,7 +65,7 @@ pub fn values_of(filter: &Filter) -> Flow
     }
 }
 
-/// The first bits of an address, and zeros behind them.
+/// The first bits of an address, and zeros after them.
 fn front(len: u8, address: u32) -> u32
     ensures { result ≡ front len address }
 {

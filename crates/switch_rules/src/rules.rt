@@ -102,7 +102,7 @@ fn opened(alloc: Global, routes: &[(Filter, u8)]) -> Result<Vec<(Filter, Target)
     Ok(list)
 }
 
-/// The rules, each behind what it and the filter both match where it has the old target.
+/// The rules, each after what it and the filter both match where it has the old target.
 fn split(
     alloc: Global,
     rules: &[(Filter, Target)],

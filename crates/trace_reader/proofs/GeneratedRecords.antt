@@ -1,4 +1,4 @@
--- The records that stand in a piece, and those that come behind them.
+-- The records that stand in a piece, and those that come after them.
 use Rattle.std.proofs.Common.{◌≡◌, ℕ, suc, ◌+◌, List, ◌++◌, refl, ap, sym, ◌∙◌, append_assoc}
 use Rattle.rand_core.specs.Steps.{first_words}
 use Rattle.rand_xoshiro.specs.SplitMix64.{mix_u64}

@@ -1,4 +1,4 @@
--- Each step of a move without a buffer at B, behind its Install, leads to a stage, with the same packets in whatever order.
+-- Each step of a move without a buffer at B, after its Install, leads to a stage, with the same packets in whatever order.
 use Rattle.std.proofs.Common.{◌≡◌, ℕ, Bool, true, false, List, [], ◌∷◌, ◌++◌, append_assoc, append-nil}
 use Rattle.unit_machine.proofs.Machine.{At_b, Ran, Steps, Move, Arrive, Take_sa, Take_sb, Take_ac, Take_cs}
 use Rattle.std.proofs.Common.{◌+◌, arith}

@@ -1,4 +1,4 @@
--- What a row of the controller's table leads to: a whole world that takes the same message, and no more changes than that. The finish behind
+-- What a row of the controller's table leads to: a whole world that takes the same message, and no more changes than that. The finish after
 -- a row changes nothing of it.
 use Rattle.std.proofs.Common.{◌≡◌, ◌≢◌, ℕ, zero, suc, Bool, true, false, Option, Some, None, List, [], ◌∷◌, ◌++◌, refl, sym, ap, ◌∙◌, subst, append-nil, arith}
 use Rattle.std.specs.Prelude.{if◌then◌else◌, ◌&&◌, ◌==◌}

@@ -1,4 +1,4 @@
--- What a run is given, the plans of its commands, and to which node the packets of a unit go behind commands that were installed.
+-- What a run is given, the plans of its commands, and to which node the packets of a unit go after commands that were installed.
 use Rattle.std.proofs.Common.{◌≡◌, ℕ, Bool, false, Option, Some, List, [], ◌∷◌, ◌++◌}
 use Rattle.std.specs.Prelude.{if◌then◌else◌, ◌&&◌, ◌||◌}
 use Rattle.std.specs.List.{filter_map}

@@ -1,5 +1,5 @@
 -- The numbers of commands that wait, at the controller and in the input, rise from the next number on, along every run, copies' among them. So
--- where a copy is asked for, its number and those behind it are new.
+-- where a copy is asked for, its number and those after it are new.
 use Rattle.std.proofs.Common.{◌≡◌, ℕ, suc, ◌+◌, ◌<◌, Bool, true, false, None, List, [], ◌∷◌, ◌++◌, drop, refl, sym, ap, ◌∙◌, subst, append_assoc, append-nil, arith}
 use Rattle.std.specs.Prelude.{◌&&◌, ◌==◌, nat_lt}
 use Rattle.std.specs.List.{filter_map}

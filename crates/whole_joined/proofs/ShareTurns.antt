@@ -1,4 +1,4 @@
--- What the controller's step leaves of an open share of a run, on a message of its number and on a packet that is put behind its queue: a share of
+-- What the controller's step leaves of an open share of a run, on a message of its number and on a packet that is put at the end of its queue: a share of
 -- a run, and all else as it was.
 use Rattle.std.proofs.Common.{◌≡◌, ℕ, cond, Option, Some, None, List, [], ◌∷◌, ◌++◌, refl, sym, ap, ◌∙◌, subst}
 use Rattle.std.specs.FinMap as finite

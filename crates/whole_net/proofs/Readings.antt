@@ -1,5 +1,5 @@
 -- What is read off where a unit is in the whole world: its done packets and those that wait are all that came, in order unless a move without a
--- buffer took it; its records; and that what came while its packets were diverted is processed behind all else, each packet at its member.
+-- buffer took it; its records; and that what came while its packets were diverted is processed after all else, each packet at its member.
 use Rattle.std.proofs.Common.{◌≡◌, ◌≢◌, ℕ, ◌≤◌, Bool, true, false, Option, Some, None, List, [], ◌∷◌, ◌++◌, refl, sym, ap, ◌∙◌, subst}
 use Rattle.std.specs.Prelude.{if◌then◌else◌, ◌==◌}
 use Rattle.unit_machine.proofs.Machine.{Steps}

@@ -1,4 +1,4 @@
--- What a message of an open share, or a packet behind its queue, leaves at the controller: the share in its next phase with what still waits,
+-- What a message of an open share, or a packet at the end of its queue, leaves at the controller: the share in its next phase with what still waits,
 -- and all else as it was.
 use Rattle.std.proofs.Common.{◌≡◌, ℕ, Bool, true, false, cond, Option, Some, None, List, [], ◌∷◌, ◌++◌, refl, sym, ap, ◌∙◌, subst}
 use Rattle.std.specs.Prelude.{◌==◌, unwrap_or}

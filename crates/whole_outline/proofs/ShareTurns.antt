@@ -1,4 +1,4 @@
--- The controller's step on a message of an open share's number, and on a packet that is put behind its queue, is that of the network with
+-- The controller's step on a message of an open share's number, and on a packet that is put at the end of its queue, is that of the network with
 -- shares.
 use Rattle.std.proofs.Common.{◌≡◌, ℕ, false, cond, Option, Some, None, List, [], ◌∷◌, ◌++◌, map, refl, sym, ap, ◌∙◌, subst, append-nil}
 use Rattle.std.specs.Prelude.{◌==◌, unwrap_or}

@@ -1,4 +1,4 @@
--- The messages of one batch more stand behind the others.
+-- The messages of one batch more stand after the others.
 use Rattle.std.proofs.Common.{◌∙◌, ◌++◌}
 use Rattle.actor_net.specs.Histories.{messages}
 use Rattle.actor_threads.proofs.BatchLemmas.{messages_more}

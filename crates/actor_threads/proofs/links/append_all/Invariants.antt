@@ -1,4 +1,4 @@
--- The messages of the batches so far were put behind the list.
+-- The messages of the batches so far were put after the list.
 use Rattle.std.proofs.Common.{◌≡◌, ◌++◌}
 use Rattle.actor_net.specs.Histories.{messages}
 use Rattle.actor_threads.specs.Ways.{unpacked}

@@ -1,4 +1,4 @@
--- So many of the further choices were put behind the first ones.
+-- So many of the further choices were put after the first ones.
 use Rattle.std.proofs.Common.{◌≡◌, ◌++◌, take}
 use Rattle.actor_threads.proofs.round.join.Given as goal
 

@@ -1,4 +1,4 @@
--- All packets are written, each behind the lines at its point; or no line stands before the last of them.
+-- All packets are written, each after the lines at its point; or no line stands before the last of them.
 use Rattle.std.proofs.Common.{rules, ◌∙◌}
 use Rattle.std.proofs.lemmas.List.{take_rest}
 use Rattle.op_script.proofs.LinesByPoint.{still_short, ahead_next, said_first}

@@ -1,4 +1,4 @@
--- One more packet behind has the next number.
+-- One more packet at the end has the next number.
 use Rattle.std.proofs.Common.{◌≡◌, ℕ, ◌+◌, arith, true, All, List, [], ◌∷◌, ◌++◌, length, sym, ap, ◌∙◌, subst}
 use Rattle.std.proofs.lemmas.List.{length-append}
 use Rattle.std.proofs.lemmas.List.Elements.{All-push}

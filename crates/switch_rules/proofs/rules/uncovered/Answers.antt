@@ -1,4 +1,4 @@
--- One more rule: it is covered, or goes behind the others.
+-- One more rule: it is covered, or goes after the others.
 use Rattle.std.proofs.Common.{ap, sym, ◌∙◌, subst, take, [], ◌∷◌, ◌++◌}
 use Rattle.std.specs.List.{list_any}
 use Rattle.flow_filter.specs.Filter.{covers}

@@ -1,4 +1,4 @@
--- The addresses stand behind the rest.
+-- The addresses stand after the rest.
 use Rattle.std.proofs.Common.{◌∙◌, ◌/◌, ◌%◌, [], ◌∷◌, refl, append-nil}
 use Rattle.trace_reader.specs.Generated.{ipv4_header, source, target, total_size}
 use Rattle.trace_reader.proofs.GeneratedSizes.{source-size}

@@ -1,4 +1,4 @@
--- The head, the IPv4 header and that of the transport stand one behind the other.
+-- The head, the IPv4 header and that of the transport stand one after the other.
 use Rattle.std.proofs.Common.{◌≡◌, ◌++◌, ◌∙◌, ap, drop, length, refl, sym}
 use Rattle.trace_reader.specs.declared.drawn.Transport.{Transport}
 use Rattle.trace_reader.specs.Generated.{record_head, ipv4_header, udp_header, tcp_header, datagram}

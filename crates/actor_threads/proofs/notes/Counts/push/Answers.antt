@@ -1,4 +1,4 @@
--- One more step's count is put behind the others.
+-- One more step's count is put after the others.
 use Rattle.actor_threads.proofs.NotesByCounts.{counts_one, counts_run}
 use Rattle.actor_threads.proofs.notes.Counts.push.Goals as goal
 

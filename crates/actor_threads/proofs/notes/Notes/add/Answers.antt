@@ -1,4 +1,4 @@
--- One more step's notes are put behind the others, and cut off by their count.
+-- One more step's notes are put after the others, and cut off by their count.
 use Rattle.std.proofs.Common.{◌≡◌, length, arith, ap, length-append}
 use Rattle.actor_threads.proofs.NotesByCounts.{cut-snoc}
 use Rattle.actor_threads.proofs.notes.Notes.add.Goals as goal

@@ -1,4 +1,4 @@
--- What is left of the batch stands behind what was kept before.
+-- What is left of the batch stands after what was kept before.
 use Rattle.std.proofs.Common.{◌∙◌}
 use Rattle.actor_threads.proofs.WayInLemmas.{messages_kept}
 use Rattle.actor_threads.proofs.ways.WayIn.parts.Goals as goal

@@ -1,4 +1,4 @@
--- The rule is written at the operation's place, or goes behind the others.
+-- The rule is written at the operation's place, or goes after the others.
 use Rattle.std.proofs.Common.{◌≡◌, eqb, None, Some, [], ◌∷◌, ◌++◌, set, refl, ap, sym, ◌∙◌}
 use Rattle.std.specs.Prelude.{position}
 use Rattle.event_filter.specs.declared.mark.Mark.TheVariants.{Plain}

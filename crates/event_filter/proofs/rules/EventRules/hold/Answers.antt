@@ -1,4 +1,4 @@
--- The parcel goes behind those of the rule at the operation's place.
+-- The parcel goes after those of the rule at the operation's place.
 use Rattle.std.proofs.Common.{◌≡◌, eqb, None, Some, set, refl, ap, sym, ◌∙◌}
 use Rattle.std.specs.Prelude.{position, is_some}
 use Rattle.std.proofs.lemmas.Result.{on_ok_weaker, on_err_weaker}

@@ -1,4 +1,4 @@
--- One packet more stands behind the others, as an item.
+-- One packet more stands after the others, as an item.
 use Rattle.std.proofs.Common.{◌≡◌, ◌∙◌, [], ◌∷◌, ◌++◌, ap}
 use Rattle.op_script.specs.PacketItems.{packets_of}
 use Rattle.op_script.proofs.PacketLists.{more_packets, still_items}
