@@ -149,7 +149,7 @@ pub fn instances_of(alloc: Global, list: Option<&str>) -> Result<Option<Instance
     }
 }
 
-/// The block that the text spells as `A.B.C.D/L`.
+/// The prefix that the text spells as `A.B.C.D/L`.
 #[tactic(auto, unfolding(crate::specs::Plan::inside_of))]
 pub fn inside_of(text: Option<&str>) -> Option<Prefix>
     ensures { option_map prefix_numbers result ≡ option_and_then inside_of (option_map (λ t. t.now) text.entry) }
@@ -159,7 +159,7 @@ pub fn inside_of(text: Option<&str>) -> Option<Prefix>
     prefix(text)
 }
 
-/// The site with this block and, for the translator alone, this outside address.
+/// The site with this prefix inside and, for the translator alone, this outside address.
 pub fn site_of(kind: Kind, inside: Prefix, outside: Option<&str>) -> Option<Site>
     ensures outside { option_map (λ s. s.outside) result ≡ outside_of kind (prefix_numbers inside) (option_map (λ t. t.now) outside.entry) }
     ensures inside { IfSome result (λ s. s.inside ≡ inside) }

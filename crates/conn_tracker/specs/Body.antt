@@ -12,7 +12,7 @@ use Rattle.conn_tracker.specs.declared.record.TrackRecord.{TrackRecord}
 use Rattle.conn_tracker.specs.declared.state.State.{State}
 use Rattle.conn_tracker.specs.Table.{number_of, state_of, is_udp_state}
 
--- the ways by their numbers
+-- the directions by their numbers
 abbrev pub direction_number : Direction → ℕ
 direction_number Out = 0
 direction_number In = 1

@@ -72,7 +72,7 @@ within : (u : units.Unit) (r : TrackRecord) → is_valid u r ≡ true → Within
 within (OfFlow flow) r h = let v = valid_facts flow r h in record { packets = v.packets; bytes = v.bytes; seen = v.seen }
 within (OfHost host) r h = cc
 
--- states and ways are known by their numbers
+-- states and directions are known by their numbers
 state_of-number_of : (s : State) → state_of (number_of s) ≡ Some s
 state_of-number_of Opening = refl
 state_of-number_of Answered = refl

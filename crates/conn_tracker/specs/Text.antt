@@ -16,9 +16,9 @@ abbrev pub output_text : Output → List ℕ
 output_text output = option_map_or name_of (state_of output.code) []
 
 -- `out` or `in`
-abbrev pub way_text : Direction → List ℕ
-way_text Out = codes "out"
-way_text In = codes "in"
+abbrev pub direction_text : Direction → List ℕ
+direction_text Out = codes "out"
+direction_text In = codes "in"
 
 -- ` seen N` where a time is known
 abbrev pub seen_text : ℕ → List ℕ
@@ -27,5 +27,5 @@ seen_text seen = if seen == 0 then [] else codes " seen " ++ decimal seen
 -- `STATE out|in packets P bytes B`, and ` seen N` after it where a time is known
 unfoldable pub record_text : TrackRecord → List ℕ
 record_text r =
-    name_of r.state ++ codes " " ++ way_text r.opener ++ codes " packets " ++ decimal r.packets
+    name_of r.state ++ codes " " ++ direction_text r.opener ++ codes " packets " ++ decimal r.packets
     ++ codes " bytes " ++ decimal r.bytes ++ seen_text r.seen

@@ -25,7 +25,7 @@ pub enum State {
     Loose,
     /// UDP: packets in one direction.
     Single,
-    /// UDP: packets both ways.
+    /// UDP: packets in both directions.
     Both,
 }
 

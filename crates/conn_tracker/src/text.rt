@@ -1,5 +1,5 @@
 ghost use Rattle.std.specs.Prelude.{◌≡◌, ◌≤◌, ◌++◌, length, OnOk, OnErr, IfOk};
-ghost use Rattle.conn_tracker.specs.Text.{output_text, record_text, seen_text, way_text};
+ghost use Rattle.conn_tracker.specs.Text.{direction_text, output_text, record_text, seen_text};
 
 use crate::record::TrackRecord;
 use crate::state::State;
@@ -40,7 +40,7 @@ fn record_text(kept: &TrackRecord) -> RecordText
     let mut text = RecordText::new();
     text.push_str(kept.state.name());
     text.push_str(" ");
-    text.push_str(way_name(kept.opener));
+    text.push_str(direction_name(kept.opener));
     text.push_str(" packets ");
     text.push_str(buffer.format(kept.packets));
     text.push_str(" bytes ");
@@ -62,8 +62,9 @@ fn push_seen(text: &mut RecordText, seen: u64)
     text.push_str(buffer.format(seen));
 }
 
-fn way_name(direction: Direction) -> &'static str
-    ensures name { result.now ≡ way_text direction }
+/// The word of a direction: `out` of the site, or `in`.
+fn direction_name(direction: Direction) -> &'static str
+    ensures name { result.now ≡ direction_text direction }
     ensures short { length result.now ≤ 3 }
 {
     match direction {

@@ -8,7 +8,7 @@ use Rattle.flow_filter.specs.declared.prefix.Prefix.{Prefix}
 use Rattle.flow_filter.specs.declared.flow.Flow.{Flow}
 use Rattle.flow_filter.specs.declared.filter.Filter.{Filter}
 
--- the prefix's block has the address
+-- the prefix has the address
 abbrev pub holds : Prefix → ℕ → Bool
 holds p address = in_prefix p.bits p.len address
 

@@ -1,4 +1,4 @@
--- Blocks of IPv4 addresses, written as CIDR prefixes (RFC 4632).
+-- Prefixes of IPv4 addresses, as CIDR has them (RFC 4632).
 use Rattle.std.specs.Prelude.{ℕ, ◌-◌, ◌/◌, ◌^◌, ◌==◌, Bool}
 
 -- whether an address and `bits` agree in their first `len` bits

@@ -149,24 +149,24 @@ mod tests {
 
     #[test]
     fn a_longer_prefix_meets_a_shorter_one(rt: HostRuntime) -> Result<(), Fail> {
-        let block = Filter::parse("local=10.0.0.0/25,rport=80")?;
+        let prefix = Filter::parse("local=10.0.0.0/25,rport=80")?;
         let host = Filter::parse("local=10.0.0.9,proto=tcp")?;
-        assert!(rt; block.matches(&FLOW));
+        assert!(rt; prefix.matches(&FLOW));
         assert_eq!(rt;
-            block.meet(&host),
+            prefix.meet(&host),
             Some(Filter::parse("proto=tcp,local=10.0.0.9/32,rport=80")?)
         );
-        assert_eq!(rt; block.meet(&Filter::parse("local=10.0.0.128/25")?), None);
+        assert_eq!(rt; prefix.meet(&Filter::parse("local=10.0.0.128/25")?), None);
         Ok(())
     }
 
     #[test]
     fn a_prefix_of_length_0_covers_a_field_that_is_not_given(rt: HostRuntime) -> Result<(), Fail> {
         let all = Filter::parse("remote=0.0.0.0/0")?;
-        let block = Filter::parse("remote=198.51.100.0/24")?;
+        let prefix = Filter::parse("remote=198.51.100.0/24")?;
         assert!(rt; all.covers(&Filter::ANY));
-        assert!(rt; all.covers(&block));
-        assert!(rt; !block.covers(&all));
+        assert!(rt; all.covers(&prefix));
+        assert!(rt; !prefix.covers(&all));
         Ok(())
     }
 }

@@ -273,12 +273,12 @@ fn print_prefix(out: &mut Printed, begun: bool, name: &str, prefix: Option<Prefi
         return begun;
     };
     print_name(out, begun, name);
-    print_block(out, prefix);
+    push_prefix(out, prefix);
     true
 }
 
 /// Puts a prefix after the text, as `A.B.C.D/L`.
-fn print_block(out: &mut Printed, prefix: Prefix)
+fn push_prefix(out: &mut Printed, prefix: Prefix)
     requires room { length out.old.bytes ≤ 264 }
     ensures text { out.new.bytes ≡ out.old.bytes ++ prefix_text prefix }
     ensures short { length out.new.bytes ≤ length out.old.bytes + 120 }

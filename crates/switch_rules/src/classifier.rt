@@ -152,14 +152,14 @@ mod tests {
     use flow_filter::Prefix;
     use std::test::Fail;
 
-    /// How many blocks of addresses have routes, and how many ports of each.
-    const BLOCKS: u8 = 250;
+    /// How many prefixes of addresses have routes, and how many ports of each.
+    const PREFIXES: u8 = 250;
 
     const PORTS: u16 = 4;
 
-    /// The instance of the route of a block and a port.
-    fn instance_of(block: u8, port: u16) -> u8 {
-        ((u32::from(block) * 7 + u32::from(port)) % 16) as u8
+    /// The instance of the route of a prefix and a port.
+    fn instance_of(prefix: u8, port: u16) -> u8 {
+        ((u32::from(prefix) * 7 + u32::from(port)) % 16) as u8
     }
 
     #[test]
@@ -208,33 +208,33 @@ mod tests {
     #[test]
     fn each_of_2000_flows_goes_by_its_own_of_1000_routes(rt: HostRuntime) -> Result<(), Fail> {
         let mut rules = Vec::new(rt.alloc());
-        for block in 0..BLOCKS {
+        for prefix in 0..PREFIXES {
             for port in 0..PORTS {
                 let filter = Filter {
                     local: Some(Prefix {
-                        bits: 0x0a00_0000 + u32::from(block) * 0x100,
+                        bits: 0x0a00_0000 + u32::from(prefix) * 0x100,
                         len: 24,
                     }),
                     lport: Some(port),
                     ..Filter::ANY
                 };
-                rules.push((filter, Target::Instance(instance_of(block, port))))?;
+                rules.push((filter, Target::Instance(instance_of(prefix, port))))?;
             }
         }
         rules.push((Filter::ANY, Target::Controller))?;
         let classifier = Classifier::build(rt.alloc(), &rules)?;
         assert_eq!(rt; classifier.groups(), 2);
-        for block in 0..BLOCKS {
+        for prefix in 0..PREFIXES {
             for port in 0..2 * PORTS {
                 let flow = Flow {
-                    local: 0x0a00_0000 + u32::from(block) * 0x100 + 9,
+                    local: 0x0a00_0000 + u32::from(prefix) * 0x100 + 9,
                     remote: 0xc000_0209,
                     lport: port,
                     rport: 53,
                     proto: 17,
                 };
                 let target = if port < PORTS {
-                    Target::Instance(instance_of(block, port))
+                    Target::Instance(instance_of(prefix, port))
                 } else {
                     Target::Controller
                 };
