@@ -6,16 +6,19 @@ use basics::NoMemory;
 
 /// A node that takes one message at a time.
 pub trait Actor: Drop {
+    /// What is sent on links and stands in the input.
     type Message: Drop;
 
+    /// What a step writes into the log.
     type Note: Drop;
 
-    // What a step does at each node, port and message.
+    /// What a step does at each node, port and message.
     ghost stepped: { Self → ℕ → Self.Message → Stepped Self Self.Message Self.Note };
 
-    // Whether the first item of the input may be taken.
+    /// Whether the first item of the input may be taken.
     ghost is_ready: { Self → Self.Message → Bool };
 
+    /// Whether the node has nothing left to do.
     ghost has_ended: { Self → Bool };
 
     /// Whether the node may take this item from the head of the input. Only node 0 is asked.

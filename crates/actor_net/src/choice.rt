@@ -24,6 +24,7 @@ impl Choice {
         self.node == 0 && self.port == 0
     }
 
+    /// The place of its link among those of so many nodes: one row of receivers for each sender. The input is place 0.
     #[inline(always)]
     pub(crate) fn place(self, nodes: usize) -> usize
         requires { (self.node < nodes) × (self.port < nodes) × (nodes < 256) }

@@ -34,7 +34,7 @@ pub fn merge(alloc: Global, histories: &[History]) -> Result<Choices, NoMemory>
     }
 }
 
-// The same by sorting a list of all steps.
+/// The same by sorting a list of all steps.
 fn merge_sorted(alloc: Global, histories: &[History]) -> Result<Choices, NoMemory>
     ensures { IfOk result (IsMerge histories.now) }
 {
@@ -44,6 +44,7 @@ fn merge_sorted(alloc: Global, histories: &[History]) -> Result<Choices, NoMemor
     Ok(Choices::from_vec(choices))
 }
 
+/// The steps of all histories, one history after another.
 fn all_steps(alloc: Global, histories: &[History]) -> Result<Vec<HistoryStep>, NoMemory>
     ensures { IfOk result (λ steps. steps.items ≡ all_steps_lem histories.now) }
 {
@@ -54,6 +55,7 @@ fn all_steps(alloc: Global, histories: &[History]) -> Result<Vec<HistoryStep>, N
     Ok(steps)
 }
 
+/// Adds the steps of a history, in its order.
 fn push_steps(steps: &mut Vec<HistoryStep>, history: &History) -> Result<(), NoMemory>
     ensures { OnOk result (steps.new.items ≡ steps.old.items ++ history_steps history.now) }
 {
@@ -67,6 +69,7 @@ fn push_steps(steps: &mut Vec<HistoryStep>, history: &History) -> Result<(), NoM
     Ok(())
 }
 
+/// The choice of each step, in their order.
 fn choices_of(alloc: Global, steps: &[HistoryStep]) -> Result<Vec<Choice>, NoMemory>
     ensures { IfOk result (λ choices. choices.items ≡ map choice_of steps.now) }
 {

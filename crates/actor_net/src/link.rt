@@ -20,6 +20,7 @@ impl<M> Model for Link<M> {
 }
 
 impl<M> Link<M> {
+    /// No messages. This takes no memory.
     pub fn open(alloc: Global) -> Self
         ensures { result ≡ [] }
     {
@@ -28,6 +29,7 @@ impl<M> Link<M> {
         }
     }
 
+    /// These messages, in their order, without a copy.
     pub fn from_vec(messages: Vec<M>) -> Self
         ensures { result ≡ messages.items }
     {
@@ -36,12 +38,14 @@ impl<M> Link<M> {
         }
     }
 
+    /// The messages, in their order.
     pub fn into_vec(self) -> Vec<M>
         ensures { result.items ≡ self }
     {
         self.queue.into_vec()
     }
 
+    /// Whether no message is there.
     #[inline(always)]
     pub fn is_empty(&self) -> bool
         ensures { result ≡ (length self.now == 0) }
@@ -49,6 +53,7 @@ impl<M> Link<M> {
         self.queue.is_empty()
     }
 
+    /// The message that comes out next, where one is there.
     #[inline(always)]
     pub fn first(&self) -> Option<&M>
         ensures { MatchOption result (self.now ≡ []) (λ x. self.now ≡ x.now ∷ drop 1 self.now) }
@@ -56,6 +61,7 @@ impl<M> Link<M> {
         self.queue.front()
     }
 
+    /// Takes the first message, where one is there. The room stays.
     #[inline(always)]
     pub fn pop(&mut self) -> Option<M>
         ensures { MatchOption result ((self.old ≡ []) × (self.new ≡ [])) (λ x. self.old ≡ x ∷ self.new) }
@@ -75,6 +81,7 @@ impl<M> Link<M> {
         message
     }
 
+    /// Gives back the room that no message takes.
     #[cold]
     #[inline(never)]
     fn give_back(&mut self)
@@ -83,6 +90,7 @@ impl<M> Link<M> {
         self.queue.shrink_to_fit();
     }
 
+    /// Puts a message after the others.
     #[inline(always)]
     pub fn push(&mut self, message: M) -> Result<(), NoMemory>
     where

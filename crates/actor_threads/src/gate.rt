@@ -2,6 +2,7 @@
 
 /// Called by a worker before each step, with its node and the number of steps that it has done in this round. It may wait.
 pub trait Gate: Sync {
+    /// Passes before the step of a node, whose number is that of the node's steps before it in the round.
     fn pass(&self, node: u8, step: u64);
 }
 

@@ -36,7 +36,7 @@ pub fn open_all<M: Drop>(alloc: Global, nodes: usize) -> Result<Ends<M>, NoMemor
     Ok(Ends { sends, takes })
 }
 
-// New links from one sender to all receivers.
+/// New links from one sender to all receivers.
 fn open_row<M: Drop>(
     alloc: Global,
     takes: &mut Vec<Vec<TakeEnd<Batch<M>>>>,
@@ -73,7 +73,7 @@ pub fn close_row<M: Drop, R: Wait>(
     Ok(())
 }
 
-// Closes one link: what its receiver keeps, what was left on it, and what its sender got back.
+/// Closes one link: what its receiver keeps, what was left on it, and what its sender got back.
 fn close_way<M: Drop, R: Wait>(
     rt: &R,
     way_in: WayIn<M>,
@@ -89,7 +89,7 @@ fn close_way<M: Drop, R: Wait>(
     Ok(Sequence::from_vec(list.into_vec()))
 }
 
-// Puts the messages of batches after others.
+/// Puts the messages of batches after others.
 fn append_all<M: Drop>(list: &mut VecDeque<M>, batches: Vec<Batch<M>>) -> Result<(), NoMemory>
     ensures { OnOk result (list.new.items ≡ list.old.items ++ messages (unpacked batches.items)) }
 {

@@ -8,18 +8,18 @@ use std::alloc::{AllocError, Global};
 use std::collections::VecDeque;
 use std::marker::Model;
 
-// Steps that noted nothing, and how much the step after them noted.
+/// Steps that noted nothing, and how much the step after them noted.
 #[derive(Clone, Copy, Debug)]
 struct Run {
     silent: u32,
     count: u32,
 }
 
-// How much each step noted. A step that noted nothing takes no memory.
+/// How much each step noted. A step that noted nothing takes no memory.
 #[derive(Drop)]
 struct Counts {
     runs: Vec<Run>,
-    // How many steps after the last run noted nothing.
+    /// How many steps after the last run noted nothing.
     silent: u32,
 }
 
@@ -34,6 +34,7 @@ impl Model for Counts {
 }
 
 impl Counts {
+    /// No step yet. This takes no memory.
     fn open(alloc: Global) -> Self
         ensures { result ≡ [] }
     {
@@ -43,6 +44,7 @@ impl Counts {
         }
     }
 
+    /// Adds the count of one more step.
     fn push(&mut self, count: u32) -> Result<(), NoMemory>
         ensures ok { OnOk result (self.new ≡ self.old ++ count ∷ []) }
         ensures err { OnErr result (self.new ≡ self.old) }
@@ -57,6 +59,7 @@ impl Counts {
         Ok(())
     }
 
+    /// The same counts, to be given out.
     fn into_queue(self) -> CountQueue
         ensures { result ≡ self }
     {
@@ -67,7 +70,7 @@ impl Counts {
     }
 }
 
-// The same, given out from the first on.
+/// The same, given out from the first on.
 #[derive(Drop)]
 struct CountQueue {
     runs: VecDeque<Run>,
@@ -85,6 +88,7 @@ impl Model for CountQueue {
 }
 
 impl CountQueue {
+    /// The count of the next step, where one is left.
     fn pop(&mut self) -> Option<u32>
         ensures { MatchOption result ((self.old ≡ []) × (self.new ≡ [])) (λ count. self.old ≡ count ∷ self.new) }
     {
@@ -195,7 +199,7 @@ impl<N: Drop> NoteQueue<N> {
     }
 }
 
-// Moves the first notes of a queue to the end of a log. At most so many leave the queue, also where memory runs out.
+/// Moves the first notes of a queue to the end of a log. At most so many leave the queue, also where memory runs out.
 fn give<N: Drop>(all: &mut VecDeque<N>, count: u32, log: &mut Vec<N>) -> Result<(), NoMemory>
     requires { count ≤ length all.old.items }
     ensures all { OnOk result (all.new.items ≡ drop count all.old.items) }

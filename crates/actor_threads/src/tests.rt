@@ -129,7 +129,7 @@ fn crowded(alloc: Global, items: usize) -> Result<World<Chatter>, Fail> {
     Ok(world)
 }
 
-// Both workers have messages from the start, and so many that neither is through before the other begins.
+/// Both workers have messages from the start, and so many that neither is through before the other begins.
 #[test]
 fn two_workers_are_in_a_pass_at_once(rt: HostRuntime) -> Result<(), Fail> {
     let gate = Meeting::open();

@@ -22,7 +22,7 @@ pub type Batch<M> = Sequence<Stamped<M>>;
 pub struct WayIn<M> {
     end: TakeEnd<Batch<M>>,
     kept: VecDeque<M>,
-    // What is left of the batch that was taken last. A message whose step would have no clock stays there.
+    /// What is left of the batch that was taken last. A message whose step would have no clock stays there.
     batch: VecDeque<Stamped<M>>,
 }
 
@@ -90,14 +90,14 @@ impl<M: Drop> WayIn<M> {
         }
     }
 
-    // Whether nothing is kept.
+    /// Whether nothing is kept.
     fn is_used_up(&self) -> bool
         ensures { result ≡ true → self.now.kept ≡ [] }
     {
         self.batch.is_empty() && self.kept.is_empty()
     }
 
-    // The first message of the next batch.
+    /// The first message of the next batch.
     fn next_of_end<R: Wait>(&mut self, rt: &R, rooms: &mut Rooms<M>) -> Option<Stamped<M>>
         requires { self.old.kept ≡ [] }
         ensures { MatchOption result (Draws self.old self.new []) (λ x. (x.clock < last_clock) × Draws self.old self.new (x ∷ [])) }
@@ -135,7 +135,7 @@ pub fn append<M: Drop>(list: &mut VecDeque<M>, more: Vec<Stamped<M>>) -> Result<
     Ok(())
 }
 
-// The next message of a batch. One with the last clock stays there.
+/// The next message of a batch. One with the last clock stays there.
 fn next_of<M: Drop>(batch: &mut VecDeque<Stamped<M>>) -> Option<Stamped<M>>
     ensures some { MatchOption result (batch.new.items ≡ batch.old.items) (λ x. (x.clock < last_clock) × (batch.old.items ≡ x ∷ batch.new.items)) }
     ensures none { IfNone result ((x : Stamped M) (rest : List (Stamped M)) → batch.old.items ≡ x ∷ rest → last_clock ≤ x.clock) }
@@ -146,6 +146,7 @@ fn next_of<M: Drop>(batch: &mut VecDeque<Stamped<M>>) -> Option<Stamped<M>>
     }
 }
 
+/// The first of a list, where one is there.
 fn front<T>(list: &VecDeque<T>) -> Option<&T>
     ensures { MatchOption result (list.now.items ≡ []) (λ x. list.now.items ≡ x.now ∷ drop 1 list.now.items) }
 {
@@ -202,7 +203,7 @@ impl<M: Drop> WayOut<M> {
         Ok(())
     }
 
-    // Finds room for a burst, where nothing waits.
+    /// Finds room for a burst, where nothing waits.
     fn find_room(&mut self, rooms: &mut Rooms<M>) -> Result<(), NoMemory>
         ensures { self.new ≡ self.old }
     {
@@ -214,7 +215,7 @@ impl<M: Drop> WayOut<M> {
         self.waiting.reserve(BURST)
     }
 
-    // Uses an empty room for what is still to come, where nothing waits.
+    /// Uses an empty room for what is still to come, where nothing waits.
     fn use_room(&mut self, room: Vec<Stamped<M>>)
         ensures { self.new ≡ self.old }
     {
@@ -223,7 +224,7 @@ impl<M: Drop> WayOut<M> {
         }
     }
 
-    // Sends what waits, where that is a burst.
+    /// Sends what waits, where that is a burst.
     fn flush_burst<R: Wait>(&mut self, rt: &R)
         ensures { self.new ≡ self.old }
     {
@@ -260,7 +261,7 @@ impl<M: Drop> WayOut<M> {
     }
 }
 
-// So many rooms of batches are kept at most.
+/// So many rooms of batches are kept at most.
 const MOST_ROOMS: usize = 64;
 
 /// Rooms of batches that are used up, for batches that are still to be sent. So most batches take no memory, and no thread
@@ -278,13 +279,14 @@ impl<M: Drop> Rooms<M> {
         }
     }
 
-    // Keeps a room, as far as there is memory for that.
+    /// Keeps a room, as far as there is memory for that.
     fn keep(&mut self, room: Vec<Stamped<M>>) {
         if self.all.len() < MOST_ROOMS && room.capacity() > 0 {
             let _kept = self.all.push(room);
         }
     }
 
+    /// Gives a room that was kept, where there is one.
     fn take(&mut self) -> Option<Vec<Stamped<M>>> {
         self.all.pop()
     }

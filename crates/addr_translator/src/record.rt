@@ -55,12 +55,14 @@ impl NatRecord {
         &self.mappings[..self.used]
     }
 
+    /// How many packets of the host were counted, those that were dropped among them.
     pub fn packets(&self) -> u64
         ensures { result ≡ self.now.packets }
     {
         self.packets
     }
 
+    /// How many of these were dropped.
     pub fn drops(&self) -> u64
         ensures { result ≡ self.now.drops }
     {

@@ -14,14 +14,19 @@ use nf_function::{Output, is_transport};
 /// The codes of outputs.
 const PASS: u8 = 0;
 
+/// The packet left by an outside port.
 const MAP: u8 = 1;
 
+/// The packet came back to an inside host and port.
 const UNMAP: u8 = 2;
 
+/// It was dropped: all ports of its host are given.
 const NO_PORT: u8 = 3;
 
+/// It was dropped: the outside port wasn't given for its protocol.
 const NO_MAP: u8 = 4;
 
+/// It was dropped: it came from outside to an inside address.
 const DIRECT: u8 = 5;
 
 /// Takes a packet into what is kept of its host, and gives the output. A packet that is neither of TCP nor of UDP changes

@@ -16,17 +16,22 @@ use std::alloc::Global;
 /// The codes of outputs.
 const QUIET: u8 = 0;
 
+/// A service was found.
 const NEW: u8 = 1;
 
+/// A service greeted by a banner that wasn't known of it.
 const BANNER: u8 = 2;
 
+/// A service was found, and its host has no room for one more.
 const FULL: u8 = 3;
 
 /// Flags of the TCP header.
 const SYN: u8 = 2;
 
+/// The flag RST.
 const RST: u8 = 4;
 
+/// The flag ACK.
 const ACK: u8 = 16;
 
 /// The first port that doesn't belong to servers.

@@ -73,6 +73,7 @@ fn name_of(number: u8) -> &'static str
     }
 }
 
+/// The word of a protocol: `tcp`, or `udp` for any other.
 fn protocol_name(proto: u32) -> &'static str
     ensures name { result.now ≡ protocol_text proto }
     ensures short { length result.now ≤ 3 }

@@ -77,6 +77,7 @@ fn push_time(bytes: &mut Bytes, seen: u64) -> Result<(), NoMemory>
     push_u64(bytes, seen)
 }
 
+/// The byte that a direction is stored as.
 fn direction_number(direction: Direction) -> u8
     ensures { result ≡ direction_number direction }
 {
@@ -116,6 +117,7 @@ fn spelled(body: &[u8]) -> Option<TrackRecord>
     })
 }
 
+/// The direction that a byte stands for, if there is one.
 fn direction_numbered(number: u8) -> Option<Direction>
     ensures { result ≡ direction_of number }
 {

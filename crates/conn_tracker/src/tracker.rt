@@ -138,6 +138,7 @@ fn next_opener(before: &TrackRecord, packet: &Packet, direction: Direction) -> D
     }
 }
 
+/// Whether both directions are the same.
 fn is_same_direction(one: Direction, other: Direction) -> bool
     ensures { result ≡ is_same_direction one other }
 {

@@ -24,6 +24,7 @@ pub fn network_world(
     World::start(alloc, nodes, items)
 }
 
+/// The switch, the controller, and then so many instances.
 fn nodes_of(alloc: Global, instances: u8, rounds: u32) -> Result<Vec<Node>, NoMemory>
     requires { (0 < instances) × (instances ≤ 16) }
     ensures nodes { IfOk result (λ all. all.items ≡ network_nodes instances rounds instances) }
@@ -41,6 +42,7 @@ fn nodes_of(alloc: Global, instances: u8, rounds: u32) -> Result<Vec<Node>, NoMe
     Ok(all)
 }
 
+/// So many packets, numbered from 0, each with a flow drawn from its number.
 fn packets_of(alloc: Global, packets: u64) -> Result<Vec<Message>, NoMemory>
     ensures { IfOk result (λ all. all.items ≡ packets_below packets) }
 {

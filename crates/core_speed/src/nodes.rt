@@ -42,6 +42,7 @@ pub struct Instance {
     pub digest: u64,
 }
 
+/// A node of the world: the switch at 0, the controller at 1, and the instances from [`FIRST`] on.
 #[derive(Debug, Drop)]
 pub enum Node {
     Switch(Switch),
@@ -94,6 +95,7 @@ impl Actor for Node {
 impl Switch {
     ghost use Rattle.core_speed.specs.NetworkWorld.{switch_step};
 
+    /// Sends a packet to the instance of its flow; a credit makes room for one more.
     fn step(&mut self, message: Message, out: &mut Outbox<Message, u64>) -> Result<(), NoMemory>
         ensures switch { OnOk result (self.new ≡ (switch_step self.old message).0) }
         ensures sends { OnOk result (out.new ≡ (out.old.0 ++ (switch_step self.old message).1, out.old.1)) }
@@ -115,6 +117,7 @@ impl Switch {
 impl Instance {
     ghost use Rattle.core_speed.specs.NetworkWorld.{instance_step};
 
+    /// Works on a packet, gives its place in the window back, and notes its number.
     fn step(&mut self, message: Message, out: &mut Outbox<Message, u64>) -> Result<(), NoMemory>
         ensures instance { OnOk result (self.new ≡ (instance_step self.old message).0) }
         ensures sends { OnOk result (out.new.0 ≡ out.old.0 ++ (instance_step self.old message).1) }

@@ -56,6 +56,7 @@ pub fn task_of(words: &[String]) -> Option<Task> {
     Some(Task { order, world })
 }
 
+/// Who makes the choices: `threads`, `first`, `last` or a number.
 fn order_of(word: &str) -> Option<Order> {
     match word {
         "threads" => Some(Order::Threads),
@@ -68,6 +69,7 @@ fn order_of(word: &str) -> Option<Order> {
     }
 }
 
+/// A world of tokens, where it has from 2 to 17 nodes.
 fn tokens_of(shape: Shape, nodes: u8, items: usize, hops: u32) -> Option<Tokens> {
     if nodes < 2 || nodes > 17 {
         return None;
@@ -80,6 +82,7 @@ fn tokens_of(shape: Shape, nodes: u8, items: usize, hops: u32) -> Option<Tokens>
     })
 }
 
+/// A world like the program's network, where it has from 3 to 18 nodes, of which all but two are instances.
 fn network_of(nodes: u8, packets: u64, rounds: u32) -> Option<Network> {
     if nodes < 3 || nodes > 18 {
         return None;

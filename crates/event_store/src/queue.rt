@@ -53,6 +53,7 @@ impl<P> Queue<P> {
         self.parcels.pop_front()
     }
 
+    /// How many parcels there are.
     pub(crate) fn len(&self) -> usize
         ensures { result ≡ length self.now }
     {

@@ -10,8 +10,10 @@ use std::alloc::{AllocError, Global};
 use std::marker::{Model, PhantomData};
 use std::sync::{Arc, Wait};
 
+/// The queue of a link, under the rule [`InOrder`].
 type Line<M> = RuledArrayQueue<M, Knowledge<M>, InOrder>;
 
+/// What a holder of the queue may do there.
 type Hand<M> = Pass<M, Knowledge<M>>;
 
 /// The end of a link that sends.
@@ -38,7 +40,7 @@ impl<M> Model for SendEnd<M> {
 pub struct TakeEnd<M> {
     line: Arc<Line<M>, Global>,
     hand: Hand<M>,
-    // Where `close` puts what is left.
+    /// Where `close` puts what is left.
     room: Vec<M>,
 }
 
@@ -147,7 +149,7 @@ pub fn close<M: Drop, R: Wait>(rt: &R, send: SendEnd<M>, take: TakeEnd<M>) -> Cl
     Closed { left }
 }
 
-// All that the queue holds, put into `room`.
+/// All that the queue holds, put into `room`.
 fn drain<M: Drop, R: Wait>(rt: &R, line: &Line<M>, mut hand: Hand<M>, mut room: Vec<M>) -> Vec<M>
     requires pass { IsPassOf line.now hand }
     requires both { ((view hand).sends ≡ true) × ((view hand).takes ≡ true) }

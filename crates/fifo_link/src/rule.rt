@@ -2,14 +2,14 @@
 use crossbeam_queue::protocol::{Join, Lesson, Outcome, Protocol, Split};
 use std::collections::LinkedList;
 
-// A message was sent, or taken. No value of it is made.
+/// A message was sent, or taken. No value of it is made.
 pub enum Transfer<M> {
     Sent(M),
     Taken(M),
 }
 
-// What a holder of the queue may do, and what it knows of all that was done, as the sender and as the taker. No value of it
-// is made.
+/// What a holder of the queue may do, and what it knows of all that was done, as the sender and as the taker. No value of it
+/// is made.
 pub struct Knowledge<M> {
     pub sends: bool,
     pub takes: bool,
@@ -17,7 +17,7 @@ pub struct Knowledge<M> {
     pub taker: LinkedList<Transfer<M>>,
 }
 
-// What was sent is what was taken and then what the queue holds.
+/// What was sent is what was taken and then what the queue holds.
 pub struct InOrder;
 
 impl<M> Protocol<M, Knowledge<M>> for InOrder {
@@ -29,7 +29,7 @@ impl<M> Protocol<M, Knowledge<M>> for InOrder {
     ghost first = { knows true true [] [] };
 }
 
-// The right to send and the right to take, apart and together.
+/// The right to send and the right to take, apart and together.
 pub struct Roles;
 
 impl<M> Split<Knowledge<M>> for Roles {
@@ -50,7 +50,7 @@ impl<M> Join<Knowledge<M>> for Roles {
     ghost spent = { knows false false [] [] };
 }
 
-// A message is sent, and the sender learns what was done before it. Where there is no room, it learns what the queue holds.
+/// A message is sent, and the sender learns what was done before it. Where there is no room, it learns what the queue holds.
 pub struct Sends;
 
 impl<M> Outcome<M, Knowledge<M>> for Sends {
@@ -65,7 +65,7 @@ impl<M> Lesson<M, Knowledge<M>> for Sends {
     ghost fact = { λ v items. HeldSince v.sender items };
 }
 
-// A message is taken, and the taker learns what was done before it. Where there is none, nothing was sent since its last one.
+/// A message is taken, and the taker learns what was done before it. Where there is none, nothing was sent since its last one.
 pub struct Takes;
 
 impl<M> Outcome<M, Knowledge<M>> for Takes {
@@ -81,7 +81,7 @@ impl<M> Lesson<M, Knowledge<M>> for Takes {
     ghost fact = { λ v items. length items ≡ 0 → WasEmpty v.taker };
 }
 
-// A message is taken by the holder of both rights, who knows all that was sent.
+/// A message is taken by the holder of both rights, who knows all that was sent.
 pub struct Drains;
 
 impl<M> Outcome<M, Knowledge<M>> for Drains {

@@ -124,6 +124,7 @@ fn is_zero(bytes: &[u8; 64]) -> bool
 }
 
 impl Header {
+    /// All of a packet but its payload.
     fn of(packet: &Packet) -> Self
         ensures { result ≡ header_of packet.now }
     {

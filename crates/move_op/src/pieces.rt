@@ -33,6 +33,7 @@ impl Pieces {
         }
     }
 
+    /// Whether there are none.
     pub fn is_empty(&self) -> bool
         ensures { result ≡ (length self.now == 0) }
     {

@@ -25,6 +25,7 @@ pub trait Function {
 
     ghost KIND: { TheKind };
 
+    /// Which function it is.
     const KIND: Kind;
 
     /// Which function it is.

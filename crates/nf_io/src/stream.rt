@@ -12,6 +12,7 @@ use crate::system::System;
 use basics::NoMemory;
 use std::alloc::Global;
 
+/// A named file with its read-ahead. It isn't opened or made before its first use.
 #[derive(Drop)]
 pub(crate) struct Stream<F> {
     name: String,

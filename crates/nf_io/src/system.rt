@@ -10,6 +10,7 @@ use std::{fs, io};
 
 /// Named files, the standard output and the standard error.
 pub trait System {
+    /// A file that is open.
     type File: Read + Write + Drop;
 
     /// The bytes of the files and streams, where they are told.

@@ -13,6 +13,7 @@ use nf_io::FileOutside;
 use nf_io::arguments::arguments;
 use std::process::ExitCode;
 
+/// Ends with the exit code of [`run`], or of [`refuse`] where no memory was left for the arguments.
 fn main(rt: HostRuntime) -> ExitCode {
     let _places = hold_places(&rt);
     let mut outside = FileOutside::open(&rt, rt.alloc());

@@ -9,6 +9,7 @@ pub fn hold_places<R: Files>(rt: &R) -> [io::Result<R::File>; 3] {
     [hold_place(rt), hold_place(rt), hold_place(rt)]
 }
 
+/// Takes the lowest free place, with a file that nothing can be written to.
 fn hold_place<R: Files>(rt: &R) -> io::Result<R::File> {
     fs::open(rt, "/dev/null")
 }

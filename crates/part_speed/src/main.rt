@@ -21,6 +21,7 @@ use nf_io::arguments::arguments;
 use std::env::Env;
 use std::process::ExitCode;
 
+/// Prints the sum, or the fault; its status is the exit code.
 fn main(rt: HostRuntime) -> ExitCode {
     match sum_of(&rt) {
         Ok(sum) => match println!(rt; "sum {sum}") {

@@ -37,6 +37,7 @@ pub fn task_of(words: &[String]) -> Option<Task> {
     Some(Task { part, size, count })
 }
 
+/// The part of this word, if there is one.
 fn part_of(word: &str) -> Option<Part> {
     match word {
         "step" => Some(Part::Step),

@@ -108,7 +108,7 @@ fn processed(alloc: Global, world: &World<Node<Conntrack>>) -> Result<Vec<u32>, 
     Ok(numbers)
 }
 
-// Some packets are under way when the move begins, and some come while it is open.
+/// Some packets are under way when the move begins, and some come while it is open.
 static MOVES: &str = "route any a\nat 9 move a b lport=5001 order\nat 20 move b a any lossfree\n";
 
 #[test]

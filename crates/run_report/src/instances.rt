@@ -54,6 +54,7 @@ pub(crate) fn push_lives<F: Function>(
     Ok(())
 }
 
+/// Puts the line of an instance's number of live records after a text: `live NAME N`.
 #[tactic(auto, unfolding(crate::specs::Lines::live_line))]
 fn push_live<F: Function>(text: &mut Text, named: &NamedInstance<'_, F>) -> Result<(), NoMemory>
     ensures { OnOk result (text.new ≡ text.old ++ live_line (instance_seen named.now)) }
@@ -79,6 +80,7 @@ pub(crate) fn push_tallies<F: Function>(
     Ok(())
 }
 
+/// Puts the line of an instance's tally after a text: `tally NAME` and the counts.
 #[tactic(auto, unfolding(crate::specs::Lines::tally_line))]
 fn push_tally<F: Function>(
     text: &mut Text,

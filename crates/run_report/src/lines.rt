@@ -161,6 +161,7 @@ fn push_other_out<F: Function>(
     }
 }
 
+/// The same without a block, for an output whose text is longer than one.
 #[tactic(auto, unfolding(crate::specs::Lines::out_line))]
 fn push_long_out<F: Function>(text: &mut Text, number: u32, output: &Output) -> Result<(), NoMemory>
     ensures { OnOk result (text.new ≡ text.old ++ out_line F.semantics (number, output.now)) }
@@ -272,6 +273,7 @@ fn push_other_done(
     push_long_done(text, number, name)
 }
 
+/// The same without a block, after a text that has all lines so far: `done NUMBER NAME`.
 #[tactic(auto, unfolding(crate::specs::Lines::done_text))]
 fn push_long_done(text: &mut Text, number: u32, name: &[u8]) -> Result<(), NoMemory>
     ensures { OnOk result (text.new ≡ text.old ++ done_text number name.now) }
@@ -316,6 +318,7 @@ fn answers(alloc: Global, log: &[Note]) -> Result<Vec<(u32, &Answer)>, NoMemory>
     Ok(found)
 }
 
+/// Puts the line of an answer after a text: `answer OP WORDS`.
 #[tactic(auto, unfolding(crate::specs::Lines::answer_line))]
 fn push_answer(alloc: Global, text: &mut Text, op: u32, answer: &Answer) -> Result<(), NoMemory>
     ensures { OnOk result (text.new ≡ text.old ++ answer_line (op, answer.now)) }

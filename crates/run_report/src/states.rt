@@ -121,6 +121,7 @@ fn add_records<'a, F: Function>(
     Ok(())
 }
 
+/// Puts the line of a record after a text: a word, the unit, the instance, and the record's text.
 #[tactic(auto, unfolding(crate::specs::Lines::record_line))]
 fn push_record_line<F: Function>(
     text: &mut Text,

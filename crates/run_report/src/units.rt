@@ -22,6 +22,7 @@ pub(crate) fn put_unit(front: &mut LineFront, unit: &Unit)
     }
 }
 
+/// Puts a flow before a short text, back to front: `tcp LOCAL:PORT REMOTE:PORT`.
 #[tactic(auto, unfolding(crate::specs::Lines::flow_text))]
 fn put_flow(front: &mut LineFront, flow: &Flow)
     requires { length front.old ≤ 1 }
@@ -34,6 +35,7 @@ fn put_flow(front: &mut LineFront, flow: &Flow)
     put_protocol(front, flow.proto);
 }
 
+/// Puts an end of a flow before a text: `A.B.C.D:PORT`.
 fn put_end(front: &mut LineFront, address: u32, port: u16)
     requires { length front.old + LONGEST_END_POINT ≤ ROOM }
     ensures text { front.new ≡ end_point_text address port ++ front.old }
@@ -44,6 +46,7 @@ fn put_end(front: &mut LineFront, address: u32, port: u16)
     front.put_address(address);
 }
 
+/// Puts the word of a protocol before a text, its last letter first: `tcp`, or `udp` for any other.
 fn put_protocol(front: &mut LineFront, proto: u8)
     requires { length front.old + 3 ≤ ROOM }
     ensures { front.new ≡ protocol_text proto ++ front.old }
