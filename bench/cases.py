@@ -128,8 +128,9 @@ class Cases:
         self.file(words[-1], before)
 
 
-def words(trace, inside="10.0.0.0/24", instance="a", schedule="last"):
-    return ["sim", "conntrack", "--instances", instance, "--inside", inside, "--schedule", schedule, trace]
+def words(trace, inside="10.0.0.0/24", instance="a", schedule="last", more=()):
+    """The options stand in the order in which the model takes them; `more` are those of the window."""
+    return ["sim", "conntrack", "--instances", instance, "--inside", inside, *more, "--schedule", schedule, trace]
 
 
 def by_hand(cases):
@@ -139,7 +140,7 @@ def by_hand(cases):
         "01000000 00000000 30000000 30000000"
         "45000030 00000000 40110000 0a000001 c0000209 13880035 001c0000" + "00" * 20
     )
-    start = "opennf report 1\nfunction conntrack instances 1 window 256\ntrace "
+    start = "opennf report 1\nfunction conntrack instances 1 window {}\ntrace "
     single = (
         "out 1 single\ndone 1 a\nstate udp 10.0.0.1:5000 192.0.2.9:53 a single out packets 1 bytes 20 seen 1000000000\ntally a 1\nend\n"
     )
@@ -174,15 +175,19 @@ def by_hand(cases):
             "tally a 2\nend\n",
         ),
     }
+    # With one instance each schedule and each window gives the same.
+    ways = [(schedule, window) for window in ("1", "256", "4096") for schedule in ("first", "last", "29")]
     for name, (capture, report) in wanted.items():
         cases.capture("hand-" + name, capture)
-        # With one instance each schedule gives the same.
-        for schedule in "first", "29":
-            cases.words(f"hand-{name}-{schedule}", words(f"hand-{name}.pcap", schedule=schedule))
-        for out in f"hand-{name}.out", f"hand-{name}-first.out", f"hand-{name}-29.out":
-            with open(out, "rb") as file:
-                if file.read() != (start + report).encode():
-                    sys.exit(f"cases.py: the model's report {out} isn't the one that was worked out by hand")
+        windows = {f"hand-{name}": "256"}
+        for schedule, window in ways:
+            way = f"hand-{name}-{schedule}-{window}"
+            cases.words(way, words(f"hand-{name}.pcap", schedule=schedule, more=["--window", window]))
+            windows[way] = window
+        for way, window in windows.items():
+            with open(way + ".out", "rb") as file:
+                if file.read() != (start.format(window) + report).encode():
+                    sys.exit(f"cases.py: the model's report of {way} isn't the one that was worked out by hand")
     for length, line in (23, "trace byte 23: header"), (3, "trace byte 0: magic"), (0, "trace byte 0: magic"):
         cases.capture(f"hand-first-{length}", one_packet[:length])
         with open(f"hand-first-{length}.err", "rb") as file:
@@ -645,6 +650,8 @@ def networks_by_hand(cases):
     ):
         network_case(cases, f"hand-{name}", function, instances, frames, lines, last, seconds=1)
         hold_to(f"net-hand-{name}", report)
+        for place, way in enumerate(OTHER_WAYS):
+            network_case(cases, f"way-{place}-{name}", function, instances, frames, lines, way, seconds=1)
 
 
 def hold_to(name, report):
@@ -769,7 +776,7 @@ def network_refusals(cases):
     )
     for name, trace, script in (
         ("script", bad, faulty), ("late", bad, late), ("share", bad, share), ("trace", bad, None), ("no-script", bad, "missing"),
-        ("no-trace", "missing", late), ("no-file", "missing", "missing"),
+        ("no-trace", "missing", late), ("script-no-trace", "missing", faulty), ("no-file", "missing", "missing"),
     ):
         cases.words(f"net-refused-{name}", network_words("conntrack", "a,b", trace, script))
     for place, (function, instances, more) in enumerate((
