@@ -19,7 +19,6 @@ pub mod Rest
 pub mod Units
 pub mod Every
 pub mod Waits
-pub mod Outcomes
 pub mod Readings
 pub mod Stores
 pub mod Places

@@ -11,7 +11,7 @@ use Rattle.actor_net.proofs.ClockOrder.{SentBefore, with_history, at_history, sa
 use Rattle.actor_net.proofs.ClockOrderStep.{NextStep, enabled, outcome_by, node_own, node_other, fits_on, past_on, holds'}
 
 -- the notes of equal queues are dealt alike
-dealt_same : {N : Type 0} (q r : ℕ → List (List N)) (cs : List Choice) → ((j : ℕ) → q j ≡ r j) → dealt q cs ≡ dealt r cs
+pub dealt_same : {N : Type 0} (q r : ℕ → List (List N)) (cs : List Choice) → ((j : ℕ) → q j ≡ r j) → dealt q cs ≡ dealt r cs
 dealt_same q r [] same = refl
 dealt_same q r (c ∷ cs) same =
     let here = same c.node in

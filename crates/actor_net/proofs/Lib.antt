@@ -12,7 +12,6 @@ pub mod PartialMergeLemmas
 pub mod ReplayLaws
 pub mod RunInduction
 pub mod RunLaws
-pub mod RunStepLaws
 pub mod ScheduleLaws
 pub mod SortedSteps
 pub mod StepOutcome

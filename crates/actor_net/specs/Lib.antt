@@ -3,7 +3,6 @@ pub mod Opening
 pub mod LinkTable
 pub mod Schedules
 pub mod Replays
-pub mod RunSteps
 pub mod Histories
 pub mod Merging
 pub mod PartialMerge

@@ -4,16 +4,10 @@ use Rattle.std.proofs.lemmas.Bool.Decides.{Decides-eqb}
 use Rattle.std.proofs.lemmas.List.{get_or-set_same, get_or-set_other, get_or_past}
 use Rattle.actor_net.specs.declared.choice.Choice.{Choice}
 use Rattle.actor_net.specs.Histories.{without_first_list, first_list, dealt}
+use Rattle.actor_net.proofs.ClockOrderRun.{dealt_same}
 use Rattle.actor_threads.specs.LinkTable.{row_at}
 
 module _ {N : Type 0} where
-  -- the notes of equal queues are dealt alike
-  pub dealt_same : (q r : ℕ → List (List N)) (cs : List Choice) → ((j : ℕ) → q j ≡ r j) → dealt q cs ≡ dealt r cs
-  dealt_same q r [] same = refl
-  dealt_same q r (c ∷ cs) same =
-      ap (λ l. first_list l ++ dealt (λ j. if j == c.node then without_first_list (q j) else q j) cs) (same c.node)
-      ∙ ap (λ l. first_list (r c.node) ++ l) (dealt_same (λ j. if j == c.node then without_first_list (q j) else q j) (λ j. if j == c.node then without_first_list (r j) else r j) cs (λ j. elim (j == c.node) as (λ b. (if b then without_first_list (q j) else q j) ≡ (if b then without_first_list (r j) else r j)) [ true ↦ ap without_first_list (same j) | false ↦ same j ]))
-
   -- the queue of the choice's node loses its first list
   taken_front : (table : List (List (List N))) (k : ℕ) → k < length table → (j : ℕ) → row_at (slice_set table k (without_first_list (row_at table k))) j ≡ (if j == k then without_first_list (row_at table j) else row_at table j)
   taken_front table k h j = elim (j == k) as (λ b. (j == k) ≡ b → row_at (slice_set table k (without_first_list (row_at table k))) j ≡ (if b then without_first_list (row_at table j) else row_at table j)) [

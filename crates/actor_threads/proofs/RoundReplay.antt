@@ -18,7 +18,7 @@ use Rattle.actor_threads.specs.Work.{WorkerView, in_at, out_at, Ticks, Worked, R
 use Rattle.actor_threads.specs.LinkTable.{row_at, Closed}
 use Rattle.actor_threads.specs.Round.{StartsAs, AllStart, CanCloseAll}
 use Rattle.actor_threads.proofs.WayInLemmas.{messages-with_stamp_0}
-use Rattle.actor_threads.proofs.DealtNotes.{dealt_same}
+use Rattle.actor_net.proofs.ClockOrderRun.{dealt_same}
 
 -- what was held and then sent was taken or is left
 joined : {X : Type 0} (holds grown taken kept tail put : List X) → holds ++ grown ≡ taken ++ kept → put ≡ grown ++ tail → taken ++ (kept ++ tail) ≡ holds ++ put

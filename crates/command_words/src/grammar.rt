@@ -69,183 +69,6 @@ static GEN: [(ArgumentKind, &str); 4] = [
     (ArgumentKind::Positional, "trace"),
 ];
 
-/// A place that must be there.
-fn place<'a>(alloc: Global, name: &'a str) -> Arg<'a>
-    ensures rule { rule_of result ≡ rule_by ArgumentKind.Positional name.entry.now }
-    ensures local { result.global ≡ false }
-{
-    Arg::new(alloc, name).required(true)
-}
-
-/// A place that may be there.
-fn other_place<'a>(alloc: Global, name: &'a str) -> Arg<'a>
-    ensures rule { rule_of result ≡ rule_by ArgumentKind.OptionalPositional name.entry.now }
-    ensures local { result.global ≡ false }
-{
-    Arg::new(alloc, name)
-}
-
-/// An option that must be there.
-fn wanted<'a>(alloc: Global, name: &'a str) -> Arg<'a>
-    ensures rule { rule_of result ≡ rule_by ArgumentKind.Required name.entry.now }
-    ensures local { result.global ≡ false }
-{
-    Arg::new(alloc, name).long(name).required(true)
-}
-
-/// An option that may be there.
-fn optional<'a>(alloc: Global, name: &'a str) -> Arg<'a>
-    ensures rule { rule_of result ≡ rule_by ArgumentKind.Optional name.entry.now }
-    ensures local { result.global ≡ false }
-{
-    Arg::new(alloc, name).long(name)
-}
-
-/// An option without a value, that may be there.
-fn flag<'a>(alloc: Global, name: &'a str) -> Arg<'a>
-    ensures rule { rule_of result ≡ rule_by ArgumentKind.Flag name.entry.now }
-    ensures local { result.global ≡ false }
-{
-    Arg::new(alloc, name).long(name).action(ArgAction::SetTrue)
-}
-
-/// An argument.
-fn argument<'a>(alloc: Global, want: ArgumentKind, name: &'a str) -> Arg<'a>
-    ensures rule { rule_of result ≡ rule_by want name.entry.now }
-    ensures local { result.global ≡ false }
-{
-    match want {
-        ArgumentKind::Positional => place(alloc, name),
-        ArgumentKind::OptionalPositional => other_place(alloc, name),
-        ArgumentKind::Required => wanted(alloc, name),
-        ArgumentKind::Optional => optional(alloc, name),
-        ArgumentKind::Flag => flag(alloc, name),
-    }
-}
-
-/// A command without arguments and without help.
-fn bare<'a>(alloc: Global, name: &'a str) -> Command<'a>
-    ensures { app_of result ≡ app_with name.entry.now [] }
-{
-    Command::new(alloc, name)
-        .no_binary_name(true)
-        .disable_help_flag(true)
-}
-
-/// The command with an argument more.
-#[tactic(auto, unfolding(crate::specs::Grammar::app_with))]
-fn with<'a>(
-    alloc: Global,
-    command: Command<'a>,
-    want: ArgumentKind,
-    name: &'a str,
-) -> Result<Command<'a>, AllocError>
-    ensures { IfOk result (λ c. (title : Text) (rules : List Rule) → app_of command.entry ≡ app_with title rules
-        → app_of c ≡ app_with title (rules ++ rule_by want name.entry.now ∷ [])) }
-{
-    command.arg(argument(alloc, want, name))
-}
-
-/// The command with the arguments of a table.
-fn command_of<'a>(
-    alloc: Global,
-    title: &'a str,
-    table: &'a [(ArgumentKind, &'a str)],
-) -> Result<Command<'a>, AllocError>
-    ensures { IfOk result (λ c. app_of c ≡ app_with title.entry.now (map (λ e. rule_by e.0 e.1.now) table.entry.now)) }
-{
-    let mut command = bare(alloc, title);
-    for (want, name) in table {
-        command = with(alloc, command, *want, name)?;
-    }
-    Ok(command)
-}
-
-/// The command `run`, whose words `audit` has as well.
-fn run_command<'a>(alloc: Global) -> Result<Command<'a>, AllocError>
-    ensures app { IfOk result (λ c. app_of c ≡ run_app) }
-    ensures simple { IfOk result (λ c. is_simple_and_free (app_of c) ≡ true) }
-{
-    command_of(alloc, "run", NETWORK.as_slice())
-}
-
-/// The command `sim`.
-fn sim_command<'a>(alloc: Global) -> Result<Command<'a>, AllocError>
-    ensures app { IfOk result (λ c. app_of c ≡ sim_app) }
-    ensures simple { IfOk result (λ c. is_simple_and_free (app_of c) ≡ true) }
-{
-    let command = command_of(alloc, "sim", NETWORK.as_slice())?;
-    with(alloc, command, ArgumentKind::Optional, "schedule")
-}
-
-/// The command `check`.
-fn check_command<'a>(alloc: Global) -> Result<Command<'a>, AllocError>
-    ensures app { IfOk result (λ c. app_of c ≡ check_app) }
-    ensures simple { IfOk result (λ c. is_simple_and_free (app_of c) ≡ true) }
-{
-    command_of(alloc, "check", CHECK.as_slice())
-}
-
-/// The command `gen`.
-fn gen_command<'a>(alloc: Global) -> Result<Command<'a>, AllocError>
-    ensures app { IfOk result (λ c. app_of c ≡ gen_app) }
-    ensures simple { IfOk result (λ c. is_simple_and_free (app_of c) ≡ true) }
-{
-    command_of(alloc, "gen", GEN.as_slice())
-}
-
-/// What the words of a command give.
-fn parsed<'a>(command: Command<'a>, words: &'a [String]) -> Result<ArgMatches<'a>, ArgumentsFault>
-    requires { is_simple_and_free (app_of command) ≡ true }
-    ensures { Reads (λ m. rows_of (found_of m)) result (rows_taken (app_of command.entry) (map string_bytes words.entry.now)) }
-{
-    match command.try_get_matches_from(words) {
-        Ok(matches) => Ok(matches),
-        Err(error) => match error.kind() {
-            ErrorKind::OutOfMemory => Err(ArgumentsFault::NoMemory),
-            _ => Err(ArgumentsFault::Usage),
-        },
-    }
-}
-
-/// The text that is given for a name.
-fn text_of<'a>(matches: &ArgMatches<'a>, name: &str) -> Option<&'a str>
-    ensures { option_map (λ s. s.now) result ≡ value_of name.now (rows_of (found_of matches.now)) }
-{
-    matches.get_str(name)
-}
-
-/// Whether the flag with this name is given.
-fn is_given(matches: &ArgMatches<'_>, name: &str) -> bool
-    ensures { result ≡ is_on (value_of name.now (rows_of (found_of matches.now))) }
-{
-    match text_of(matches, name) {
-        Some(text) => text == "true",
-        None => false,
-    }
-}
-
-/// The texts that are given, and whether the flag is.
-fn given_of<'a>(matches: &ArgMatches<'a>) -> GivenWords<'a>
-    ensures { given_view result ≡ given_of (rows_of (found_of matches.now)) }
-{
-    GivenWords {
-        function: text_of(matches, "function"),
-        instances: text_of(matches, "instances"),
-        inside: text_of(matches, "inside"),
-        outside: text_of(matches, "outside"),
-        window: text_of(matches, "window"),
-        schedule: text_of(matches, "schedule"),
-        journal: text_of(matches, "journal"),
-        summary: is_given(matches, "summary"),
-        trace: text_of(matches, "trace"),
-        script: text_of(matches, "script"),
-        number: text_of(matches, "number"),
-        packets: text_of(matches, "packets"),
-        hosts: text_of(matches, "hosts"),
-    }
-}
-
 /// The texts that the words after `sim` give.
 #[tactic(auto, unfolding(crate::specs::Grammar::given_arguments))]
 pub fn read_sim<'a>(alloc: Global, words: &'a [String]) -> Result<GivenWords<'a>, ArgumentsFault>
@@ -310,3 +133,180 @@ pub fn written_words()
     ensures unknown { (f l s : Text) → given_arguments check_app ((codes "--instances=" ++ l) ∷ codes "--summary" ∷ codes "--" ∷ f ∷ s ∷ []) ≡ None }
     ensures help { (f l s : Text) → given_arguments check_app ((codes "--instances=" ++ l) ∷ codes "--help" ∷ codes "--" ∷ f ∷ s ∷ []) ≡ None }
 {}
+
+/// The command `sim`.
+fn sim_command<'a>(alloc: Global) -> Result<Command<'a>, AllocError>
+    ensures app { IfOk result (λ c. app_of c ≡ sim_app) }
+    ensures simple { IfOk result (λ c. is_simple_and_free (app_of c) ≡ true) }
+{
+    let command = command_of(alloc, "sim", NETWORK.as_slice())?;
+    with(alloc, command, ArgumentKind::Optional, "schedule")
+}
+
+/// The command with the arguments of a table.
+fn command_of<'a>(
+    alloc: Global,
+    title: &'a str,
+    table: &'a [(ArgumentKind, &'a str)],
+) -> Result<Command<'a>, AllocError>
+    ensures { IfOk result (λ c. app_of c ≡ app_with title.entry.now (map (λ e. rule_by e.0 e.1.now) table.entry.now)) }
+{
+    let mut command = bare(alloc, title);
+    for (want, name) in table {
+        command = with(alloc, command, *want, name)?;
+    }
+    Ok(command)
+}
+
+/// A command without arguments and without help.
+fn bare<'a>(alloc: Global, name: &'a str) -> Command<'a>
+    ensures { app_of result ≡ app_with name.entry.now [] }
+{
+    Command::new(alloc, name)
+        .no_binary_name(true)
+        .disable_help_flag(true)
+}
+
+/// The command with an argument more.
+#[tactic(auto, unfolding(crate::specs::Grammar::app_with))]
+fn with<'a>(
+    alloc: Global,
+    command: Command<'a>,
+    want: ArgumentKind,
+    name: &'a str,
+) -> Result<Command<'a>, AllocError>
+    ensures { IfOk result (λ c. (title : Text) (rules : List Rule) → app_of command.entry ≡ app_with title rules
+        → app_of c ≡ app_with title (rules ++ rule_by want name.entry.now ∷ [])) }
+{
+    command.arg(argument(alloc, want, name))
+}
+
+/// An argument.
+fn argument<'a>(alloc: Global, want: ArgumentKind, name: &'a str) -> Arg<'a>
+    ensures rule { rule_of result ≡ rule_by want name.entry.now }
+    ensures local { result.global ≡ false }
+{
+    match want {
+        ArgumentKind::Positional => place(alloc, name),
+        ArgumentKind::OptionalPositional => other_place(alloc, name),
+        ArgumentKind::Required => wanted(alloc, name),
+        ArgumentKind::Optional => optional(alloc, name),
+        ArgumentKind::Flag => flag(alloc, name),
+    }
+}
+
+/// A place that must be there.
+fn place<'a>(alloc: Global, name: &'a str) -> Arg<'a>
+    ensures rule { rule_of result ≡ rule_by ArgumentKind.Positional name.entry.now }
+    ensures local { result.global ≡ false }
+{
+    Arg::new(alloc, name).required(true)
+}
+
+/// A place that may be there.
+fn other_place<'a>(alloc: Global, name: &'a str) -> Arg<'a>
+    ensures rule { rule_of result ≡ rule_by ArgumentKind.OptionalPositional name.entry.now }
+    ensures local { result.global ≡ false }
+{
+    Arg::new(alloc, name)
+}
+
+/// An option that must be there.
+fn wanted<'a>(alloc: Global, name: &'a str) -> Arg<'a>
+    ensures rule { rule_of result ≡ rule_by ArgumentKind.Required name.entry.now }
+    ensures local { result.global ≡ false }
+{
+    Arg::new(alloc, name).long(name).required(true)
+}
+
+/// An option that may be there.
+fn optional<'a>(alloc: Global, name: &'a str) -> Arg<'a>
+    ensures rule { rule_of result ≡ rule_by ArgumentKind.Optional name.entry.now }
+    ensures local { result.global ≡ false }
+{
+    Arg::new(alloc, name).long(name)
+}
+
+/// An option without a value, that may be there.
+fn flag<'a>(alloc: Global, name: &'a str) -> Arg<'a>
+    ensures rule { rule_of result ≡ rule_by ArgumentKind.Flag name.entry.now }
+    ensures local { result.global ≡ false }
+{
+    Arg::new(alloc, name).long(name).action(ArgAction::SetTrue)
+}
+
+/// What the words of a command give.
+fn parsed<'a>(command: Command<'a>, words: &'a [String]) -> Result<ArgMatches<'a>, ArgumentsFault>
+    requires { is_simple_and_free (app_of command) ≡ true }
+    ensures { Reads (λ m. rows_of (found_of m)) result (rows_taken (app_of command.entry) (map string_bytes words.entry.now)) }
+{
+    match command.try_get_matches_from(words) {
+        Ok(matches) => Ok(matches),
+        Err(error) => match error.kind() {
+            ErrorKind::OutOfMemory => Err(ArgumentsFault::NoMemory),
+            _ => Err(ArgumentsFault::Usage),
+        },
+    }
+}
+
+/// The texts that are given, and whether the flag is.
+fn given_of<'a>(matches: &ArgMatches<'a>) -> GivenWords<'a>
+    ensures { given_view result ≡ given_of (rows_of (found_of matches.now)) }
+{
+    GivenWords {
+        function: text_of(matches, "function"),
+        instances: text_of(matches, "instances"),
+        inside: text_of(matches, "inside"),
+        outside: text_of(matches, "outside"),
+        window: text_of(matches, "window"),
+        schedule: text_of(matches, "schedule"),
+        journal: text_of(matches, "journal"),
+        summary: is_given(matches, "summary"),
+        trace: text_of(matches, "trace"),
+        script: text_of(matches, "script"),
+        number: text_of(matches, "number"),
+        packets: text_of(matches, "packets"),
+        hosts: text_of(matches, "hosts"),
+    }
+}
+
+/// The text that is given for a name.
+fn text_of<'a>(matches: &ArgMatches<'a>, name: &str) -> Option<&'a str>
+    ensures { option_map (λ s. s.now) result ≡ value_of name.now (rows_of (found_of matches.now)) }
+{
+    matches.get_str(name)
+}
+
+/// Whether the flag with this name is given.
+fn is_given(matches: &ArgMatches<'_>, name: &str) -> bool
+    ensures { result ≡ is_on (value_of name.now (rows_of (found_of matches.now))) }
+{
+    match text_of(matches, name) {
+        Some(text) => text == "true",
+        None => false,
+    }
+}
+
+/// The command `run`, whose words `audit` has as well.
+fn run_command<'a>(alloc: Global) -> Result<Command<'a>, AllocError>
+    ensures app { IfOk result (λ c. app_of c ≡ run_app) }
+    ensures simple { IfOk result (λ c. is_simple_and_free (app_of c) ≡ true) }
+{
+    command_of(alloc, "run", NETWORK.as_slice())
+}
+
+/// The command `check`.
+fn check_command<'a>(alloc: Global) -> Result<Command<'a>, AllocError>
+    ensures app { IfOk result (λ c. app_of c ≡ check_app) }
+    ensures simple { IfOk result (λ c. is_simple_and_free (app_of c) ≡ true) }
+{
+    command_of(alloc, "check", CHECK.as_slice())
+}
+
+/// The command `gen`.
+fn gen_command<'a>(alloc: Global) -> Result<Command<'a>, AllocError>
+    ensures app { IfOk result (λ c. app_of c ≡ gen_app) }
+    ensures simple { IfOk result (λ c. is_simple_and_free (app_of c) ≡ true) }
+{
+    command_of(alloc, "gen", GEN.as_slice())
+}

@@ -51,58 +51,21 @@ pub fn function_of(text: Option<&str>) -> Option<Kind>
     }
 }
 
-/// The instance that the text spells as `NAME`, `NAME:LIMIT`, `NAME:v1` or `NAME:LIMIT:v1`.
-#[tactic(auto, unfolding(crate::specs::Plan::instance_of))]
-fn instance_of(alloc: Global, text: &[u8]) -> Result<Option<Instance>, NoMemory>
-    ensures { IfOk result (λ found. option_map instance_view found ≡ instance_of text.now) }
+/// The instances of a list, where there are at most 16 and their names differ.
+#[tactic(auto, unfolding(crate::specs::Plan::instances_of))]
+pub fn instances_of(alloc: Global, list: Option<&str>) -> Result<Option<Instances>, NoMemory>
+    ensures { IfOk result (λ found. option_map instances_view found ≡ option_and_then instances_of (option_map (λ t. t.now) list.entry)) }
 {
-    match split_once(text, b':') {
-        None => named(alloc, text, Some((MOST_RECORDS, false))),
-        Some((name, suffix)) => named(alloc, name, suffix_of(suffix)),
-    }
-}
-
-/// The limit that the text after a name and a colon spells, and whether it marks the instance.
-#[tactic(auto, unfolding(crate::specs::Plan::suffix_of))]
-fn suffix_of(text: &[u8]) -> Option<(u32, bool)>
-    ensures { result ≡ suffix_of text.now }
-{
-    if text == VERSION_1 {
-        return Some((MOST_RECORDS, true));
-    }
-    match split_once(text, b':') {
-        None => Some((limit_of(text)?, false)),
-        Some((limit, mark)) if mark == VERSION_1 => Some((limit_of(limit)?, true)),
-        Some(_) => None,
-    }
-}
-
-/// The limit that the text spells.
-fn limit_of(text: &[u8]) -> Option<u32>
-    ensures { result ≡ limit_of text.now }
-{
-    let limit = parse_number(text, 1_000_000)?;
-    Some(limit as u32)
-}
-
-/// The instance with this name, where the name is one and what stands after it is well formed.
-fn named(
-    alloc: Global,
-    name: &[u8],
-    suffix: Option<(u32, bool)>,
-) -> Result<Option<Instance>, NoMemory>
-    ensures { IfOk result (λ found. option_map instance_view found ≡ with_suffix name.now suffix) }
-{
-    let Some(name) = Name::read(alloc, name)? else {
+    let Some(list) = list else {
         return Ok(None);
     };
-    match suffix {
-        None => Ok(None),
-        Some((limit, marked)) => Ok(Some(Instance {
-            name,
-            limit,
-            marked,
-        })),
+    let Some(instances) = all_instances(alloc, list.as_bytes())? else {
+        return Ok(None);
+    };
+    if instances.names.len() <= MOST_INSTANCES && !has_twice(alloc, instances.names.as_slice())? {
+        Ok(Some(instances))
+    } else {
+        Ok(None)
     }
 }
 
@@ -131,22 +94,59 @@ fn all_instances(alloc: Global, list: &[u8]) -> Result<Option<Instances>, NoMemo
     }))
 }
 
-/// The instances of a list, where there are at most 16 and their names differ.
-#[tactic(auto, unfolding(crate::specs::Plan::instances_of))]
-pub fn instances_of(alloc: Global, list: Option<&str>) -> Result<Option<Instances>, NoMemory>
-    ensures { IfOk result (λ found. option_map instances_view found ≡ option_and_then instances_of (option_map (λ t. t.now) list.entry)) }
+/// The instance that the text spells as `NAME`, `NAME:LIMIT`, `NAME:v1` or `NAME:LIMIT:v1`.
+#[tactic(auto, unfolding(crate::specs::Plan::instance_of))]
+fn instance_of(alloc: Global, text: &[u8]) -> Result<Option<Instance>, NoMemory>
+    ensures { IfOk result (λ found. option_map instance_view found ≡ instance_of text.now) }
 {
-    let Some(list) = list else {
-        return Ok(None);
-    };
-    let Some(instances) = all_instances(alloc, list.as_bytes())? else {
-        return Ok(None);
-    };
-    if instances.names.len() <= MOST_INSTANCES && !has_twice(alloc, instances.names.as_slice())? {
-        Ok(Some(instances))
-    } else {
-        Ok(None)
+    match split_once(text, b':') {
+        None => named(alloc, text, Some((MOST_RECORDS, false))),
+        Some((name, suffix)) => named(alloc, name, suffix_of(suffix)),
     }
+}
+
+/// The instance with this name, where the name is one and what stands after it is well formed.
+fn named(
+    alloc: Global,
+    name: &[u8],
+    suffix: Option<(u32, bool)>,
+) -> Result<Option<Instance>, NoMemory>
+    ensures { IfOk result (λ found. option_map instance_view found ≡ with_suffix name.now suffix) }
+{
+    let Some(name) = Name::read(alloc, name)? else {
+        return Ok(None);
+    };
+    match suffix {
+        None => Ok(None),
+        Some((limit, marked)) => Ok(Some(Instance {
+            name,
+            limit,
+            marked,
+        })),
+    }
+}
+
+/// The limit that the text after a name and a colon spells, and whether it marks the instance.
+#[tactic(auto, unfolding(crate::specs::Plan::suffix_of))]
+fn suffix_of(text: &[u8]) -> Option<(u32, bool)>
+    ensures { result ≡ suffix_of text.now }
+{
+    if text == VERSION_1 {
+        return Some((MOST_RECORDS, true));
+    }
+    match split_once(text, b':') {
+        None => Some((limit_of(text)?, false)),
+        Some((limit, mark)) if mark == VERSION_1 => Some((limit_of(limit)?, true)),
+        Some(_) => None,
+    }
+}
+
+/// The limit that the text spells.
+fn limit_of(text: &[u8]) -> Option<u32>
+    ensures { result ≡ limit_of text.now }
+{
+    let limit = parse_number(text, 1_000_000)?;
+    Some(limit as u32)
 }
 
 /// The prefix that the text spells as `A.B.C.D/L`.

@@ -79,19 +79,6 @@ impl Actor for Passer {
     }
 }
 
-/// The nodes of a world.
-fn nodes_of(alloc: Global, shape: Shape, nodes: u8) -> Result<Vec<Passer>, NoMemory>
-    requires { (1 < nodes) × (nodes ≤ 17) }
-    ensures count { IfOk result (λ all. length all.items ≡ nodes) }
-    ensures reaches { IfOk result (λ all. map (λ p. (p.first, p.count)) all.items ≡ reaches_below shape nodes nodes) }
-{
-    let mut all = Vec::new(alloc);
-    for number in 0..nodes {
-        all.push(Passer::of(shape, number, nodes))?;
-    }
-    Ok(all)
-}
-
 /// A world at its start, whose input is so many tokens with so many hops each.
 pub fn token_world(
     alloc: Global,
@@ -106,4 +93,17 @@ pub fn token_world(
 {
     let all = nodes_of(alloc, shape, nodes)?;
     World::start(alloc, all, Vec::from_elem(alloc, hops, items)?)
+}
+
+/// The nodes of a world.
+fn nodes_of(alloc: Global, shape: Shape, nodes: u8) -> Result<Vec<Passer>, NoMemory>
+    requires { (1 < nodes) × (nodes ≤ 17) }
+    ensures count { IfOk result (λ all. length all.items ≡ nodes) }
+    ensures reaches { IfOk result (λ all. map (λ p. (p.first, p.count)) all.items ≡ reaches_below shape nodes nodes) }
+{
+    let mut all = Vec::new(alloc);
+    for number in 0..nodes {
+        all.push(Passer::of(shape, number, nodes))?;
+    }
+    Ok(all)
 }

@@ -26,295 +26,6 @@ const MOST_BYTES: usize = 1_048_576;
 /// The most lines of a sort.
 const MOST_LINES: usize = 1000;
 
-/// The names of a source and a target, where they are names and differ.
-#[tactic(auto, unfolding(crate::specs::Reading::ends_of))]
-fn ends_of(alloc: Global, source: &[u8], target: &[u8]) -> Result<(Name, Name), LineFault>
-    ensures { Says (λ ends. ends) result (ends_of source.now target.now) }
-{
-    let Some(source_name) = Name::read(alloc, source)? else {
-        return Err(LineFault::Bad(ScriptKind::Name));
-    };
-    let Some(target_name) = Name::read(alloc, target)? else {
-        return Err(LineFault::Bad(ScriptKind::Name));
-    };
-    if source == target {
-        return Err(LineFault::Bad(ScriptKind::SameInstance));
-    }
-    Ok((source_name, target_name))
-}
-
-/// The filter that the text spells, where it splits no unit.
-#[tactic(auto, unfolding(crate::specs::Reading::filter_of))]
-fn filter_of(kind: Kind, text: &[u8]) -> Result<Filter, LineFault>
-    ensures { Says fields_of result (filter_of kind text.now) }
-{
-    let Ok(filter) = Filter::parse_bytes(text) else {
-        return Err(LineFault::Bad(ScriptKind::Filter));
-    };
-    if splits(kind, &filter) {
-        return Err(LineFault::Bad(ScriptKind::SplitsUnit));
-    }
-    Ok(filter)
-}
-
-/// The filter of a copy, if it has one.
-fn filter_or_all(kind: Kind, text: Option<&[u8]>) -> Result<Option<Filter>, LineFault>
-    ensures { Says (λ f. option_map fields_of f) result (filter_or_all kind (option_map (λ t. t.now) text.entry)) }
-{
-    match text {
-        None => Ok(None),
-        Some(text) => Ok(Some(filter_of(kind, text)?)),
-    }
-}
-
-/// The members of a share, where they are names and differ.
-#[tactic(auto, unfolding(crate::specs::Reading::members_of))]
-fn members_of(alloc: Global, list: &[u8]) -> Result<Names, LineFault>
-    ensures { Says (λ members. members) result (members_of list.now) }
-{
-    let Some(members) = names_of(alloc, list)? else {
-        return Err(LineFault::Bad(ScriptKind::Name));
-    };
-    if has_twice(alloc, members.items())? {
-        return Err(LineFault::Bad(ScriptKind::SameInstance));
-    }
-    Ok(members)
-}
-
-/// The names of a list with commas between them, or `None` where one is malformed.
-fn names_of(alloc: Global, list: &[u8]) -> Result<Option<Names>, NoMemory>
-    ensures { IfOk result (λ found. let names = slice_split (λ b. b == 44) list.now in found ≡ (if list_all is_name names then Some names else None)) }
-{
-    let mut names = Names::open(alloc);
-    let mut rest = Some(list);
-    while let Some(text) = rest {
-        let (first, more) = first_piece(text, b',');
-        let Some(name) = Name::read(alloc, first)? else {
-            return Ok(None);
-        };
-        names.push(name)?;
-        rest = more;
-    }
-    Ok(Some(names))
-}
-
-/// The reader with an initial rule more.
-#[tactic(auto, unfolding(crate::specs::Reading::with_route))]
-fn with_route(
-    kind: Kind,
-    names: &[Name],
-    mut reader: Reader,
-    filter: &[u8],
-    instance: &[u8],
-) -> Result<Reader, LineFault>
-    requires { length names.now ≤ 256 }
-    ensures { Says state_of result (with_route kind names.now (state_of reader) filter.now instance.now) }
-{
-    if reader.last.is_some() {
-        return Err(LineFault::Bad(ScriptKind::Order));
-    }
-    let Some(place) = place_of(instance, names) else {
-        return Err(LineFault::Bad(ScriptKind::Name));
-    };
-    let filter = filter_of(kind, filter)?;
-    if reader.routes.len() >= MOST_LINES {
-        return Err(LineFault::Bad(ScriptKind::TooMany));
-    }
-    reader.routes.push((filter, place))?;
-    Ok(reader)
-}
-
-/// The place of an instance among the names.
-#[tactic(auto, unfolding(crate::specs::Reading::place_of))]
-fn place_of(name: &[u8], names: &[Name]) -> Option<u8>
-    requires { length names.now ≤ 256 }
-    ensures { result ≡ place_of name.now names.now }
-{
-    let place = first_place(name, names)?;
-    Some(place as u8)
-}
-
-/// The place of the first name with these bytes.
-fn first_place(name: &[u8], names: &[Name]) -> Option<usize>
-    ensures place { result ≡ position (λ other. bytes_eq other name.now) names.now }
-    ensures within { IfSome result (λ place. place < length names.now) }
-{
-    names.iter().position(|other| other.items() == name)
-}
-
-/// The reader with an `at` line more: an order, or a settle.
-fn with_line(mut reader: Reader, at: u32, order: Option<Order>) -> Result<Reader, LineFault>
-    ensures { Says state_of result (with_line (state_of reader) at (option_map order_view order)) }
-{
-    if reader.lines.len() >= MOST_LINES {
-        return Err(LineFault::Bad(ScriptKind::TooMany));
-    }
-    let what = numbered_order(reader.lines.as_slice(), order);
-    reader.lines.push(Line { at, what })?;
-    reader.last = Some(at);
-    Ok(reader)
-}
-
-/// An order under the number after those of the lines so far, or a settle.
-fn numbered_order(lines: &[Line], order: Option<Order>) -> What
-    requires { length lines.now < 1000 }
-    ensures { what_view result ≡ numbered (map line_view lines.now) (option_map order_view order) }
-{
-    match order {
-        Some(what) => {
-            let op = command_count(lines) + 1;
-            What::Command(Command { op, what })
-        }
-        None => What::Settle,
-    }
-}
-
-/// How many commands stand in the lines.
-fn command_count(lines: &[Line]) -> u32
-    requires { length lines.now < 1000 }
-    ensures count { result ≡ command_count (map line_view lines.now) }
-    ensures most { result ≤ length lines.now }
-{
-    match lines {
-        [] => 0,
-        [line, more @ ..] => u32::from(is_command(line)) + command_count(more),
-    }
-}
-
-/// Whether a command stands in the line.
-fn is_command(line: &Line) -> bool
-    ensures { result ≡ is_command (line_view line.now) }
-{
-    matches!(line.what, What::Command(_))
-}
-
-/// The order of an event, or `None` for a settle.
-#[tactic(auto, unfolding(crate::specs::Reading::order_of))]
-fn order_of(alloc: Global, kind: Kind, event: Event<'_>) -> Result<Option<Order>, LineFault>
-    ensures { Says (λ order. option_map order_view order) result (order_of kind (event_view event.entry)) }
-{
-    match event {
-        Event::Move {
-            source,
-            target,
-            filter,
-            keep,
-        } => {
-            let (src, dst) = ends_of(alloc, source, target)?;
-            let filter = filter_of(kind, filter)?;
-            Ok(Some(Order::Move {
-                src,
-                dst,
-                filter,
-                keep,
-            }))
-        }
-        Event::Copy {
-            source,
-            target,
-            filter,
-        } => {
-            let (src, dst) = ends_of(alloc, source, target)?;
-            let filter = filter_or_all(kind, filter)?;
-            Ok(Some(Order::Copy { src, dst, filter }))
-        }
-        Event::Share { members, filter } => {
-            let members = members_of(alloc, members)?;
-            let filter = filter_of(kind, filter)?;
-            Ok(Some(Order::Share { members, filter }))
-        }
-        Event::Settle => Ok(None),
-    }
-}
-
-/// The reader with an event more.
-fn with_event(
-    alloc: Global,
-    kind: Kind,
-    reader: Reader,
-    at: u32,
-    event: Event<'_>,
-) -> Result<Reader, LineFault>
-    ensures { Says state_of result (with_event kind (state_of reader) at (event_view event.entry)) }
-{
-    if reader.last.is_some_and(|last| at < last) {
-        return Err(LineFault::Bad(ScriptKind::Order));
-    }
-    let order = order_of(alloc, kind, event)?;
-    with_line(reader, at, order)
-}
-
-/// The reader with what a line says, more.
-fn with_form(
-    alloc: Global,
-    kind: Kind,
-    names: &[Name],
-    reader: Reader,
-    form: Form<'_>,
-) -> Result<Reader, LineFault>
-    requires { length names.now ≤ 256 }
-    ensures { Says state_of result (with_form kind names.now (state_of reader) (form_view form.entry)) }
-{
-    match form {
-        Form::Silent => Ok(reader),
-        Form::Route { filter, instance } => with_route(kind, names, reader, filter, instance),
-        Form::At { at, event } => with_event(alloc, kind, reader, at, event),
-    }
-}
-
-/// The reader with a line more.
-fn with_text(
-    alloc: Global,
-    kind: Kind,
-    names: &[Name],
-    reader: Reader,
-    line: &[u8],
-) -> Result<Reader, LineFault>
-    requires { length names.now ≤ 256 }
-    ensures { Says state_of result (with_text kind names.now (state_of reader) line.now) }
-{
-    if !is_utf8(line) {
-        return Err(LineFault::Bad(ScriptKind::NotUtf8));
-    }
-    let words = words(alloc, line)?;
-    let Some(form) = form_of(words.as_slice()) else {
-        return Err(LineFault::Bad(ScriptKind::Word));
-    };
-    with_form(alloc, kind, names, reader, form)
-}
-
-/// Whether the bytes are UTF-8.
-fn is_utf8(line: &[u8]) -> bool
-    ensures { result ≡ is_utf8 line.now }
-{
-    match str::from_utf8(line) {
-        Ok(_) => true,
-        Err(_) => false,
-    }
-}
-
-/// A line without the carriage return at its end.
-fn without_return(line: &[u8]) -> &[u8]
-    ensures { result.now ≡ strip_carriage_return line.now }
-{
-    if line.last() == Some(&b'\r') {
-        &line[..line.len() - 1]
-    } else {
-        line
-    }
-}
-
-/// A line's fault, under its number.
-fn numbered(line: u32, read: Result<Reader, LineFault>) -> Result<Reader, ScriptFault>
-    ensures { Numbered line read result }
-{
-    match read {
-        Ok(reader) => Ok(reader),
-        Err(LineFault::Bad(kind)) => Err(ScriptFault::Bad { line, kind }),
-        Err(LineFault::NoMemory) => Err(ScriptFault::NoMemory),
-    }
-}
-
 /// Reads a script for a function and the instances with these names.
 #[tactic(auto, unfolding(crate::specs::Reading::script_of))]
 pub fn read_script(
@@ -367,4 +78,293 @@ fn read_lines(
         rest = more;
     }
     Ok(reader)
+}
+
+/// A line's fault, under its number.
+fn numbered(line: u32, read: Result<Reader, LineFault>) -> Result<Reader, ScriptFault>
+    ensures { Numbered line read result }
+{
+    match read {
+        Ok(reader) => Ok(reader),
+        Err(LineFault::Bad(kind)) => Err(ScriptFault::Bad { line, kind }),
+        Err(LineFault::NoMemory) => Err(ScriptFault::NoMemory),
+    }
+}
+
+/// The reader with a line more.
+fn with_text(
+    alloc: Global,
+    kind: Kind,
+    names: &[Name],
+    reader: Reader,
+    line: &[u8],
+) -> Result<Reader, LineFault>
+    requires { length names.now ≤ 256 }
+    ensures { Says state_of result (with_text kind names.now (state_of reader) line.now) }
+{
+    if !is_utf8(line) {
+        return Err(LineFault::Bad(ScriptKind::NotUtf8));
+    }
+    let words = words(alloc, line)?;
+    let Some(form) = form_of(words.as_slice()) else {
+        return Err(LineFault::Bad(ScriptKind::Word));
+    };
+    with_form(alloc, kind, names, reader, form)
+}
+
+/// Whether the bytes are UTF-8.
+fn is_utf8(line: &[u8]) -> bool
+    ensures { result ≡ is_utf8 line.now }
+{
+    match str::from_utf8(line) {
+        Ok(_) => true,
+        Err(_) => false,
+    }
+}
+
+/// The reader with what a line says, more.
+fn with_form(
+    alloc: Global,
+    kind: Kind,
+    names: &[Name],
+    reader: Reader,
+    form: Form<'_>,
+) -> Result<Reader, LineFault>
+    requires { length names.now ≤ 256 }
+    ensures { Says state_of result (with_form kind names.now (state_of reader) (form_view form.entry)) }
+{
+    match form {
+        Form::Silent => Ok(reader),
+        Form::Route { filter, instance } => with_route(kind, names, reader, filter, instance),
+        Form::At { at, event } => with_event(alloc, kind, reader, at, event),
+    }
+}
+
+/// The reader with an initial rule more.
+#[tactic(auto, unfolding(crate::specs::Reading::with_route))]
+fn with_route(
+    kind: Kind,
+    names: &[Name],
+    mut reader: Reader,
+    filter: &[u8],
+    instance: &[u8],
+) -> Result<Reader, LineFault>
+    requires { length names.now ≤ 256 }
+    ensures { Says state_of result (with_route kind names.now (state_of reader) filter.now instance.now) }
+{
+    if reader.last.is_some() {
+        return Err(LineFault::Bad(ScriptKind::Order));
+    }
+    let Some(place) = place_of(instance, names) else {
+        return Err(LineFault::Bad(ScriptKind::Name));
+    };
+    let filter = filter_of(kind, filter)?;
+    if reader.routes.len() >= MOST_LINES {
+        return Err(LineFault::Bad(ScriptKind::TooMany));
+    }
+    reader.routes.push((filter, place))?;
+    Ok(reader)
+}
+
+/// The place of an instance among the names.
+#[tactic(auto, unfolding(crate::specs::Reading::place_of))]
+fn place_of(name: &[u8], names: &[Name]) -> Option<u8>
+    requires { length names.now ≤ 256 }
+    ensures { result ≡ place_of name.now names.now }
+{
+    let place = first_place(name, names)?;
+    Some(place as u8)
+}
+
+/// The place of the first name with these bytes.
+fn first_place(name: &[u8], names: &[Name]) -> Option<usize>
+    ensures place { result ≡ position (λ other. bytes_eq other name.now) names.now }
+    ensures within { IfSome result (λ place. place < length names.now) }
+{
+    names.iter().position(|other| other.items() == name)
+}
+
+/// The filter that the text spells, where it splits no unit.
+#[tactic(auto, unfolding(crate::specs::Reading::filter_of))]
+fn filter_of(kind: Kind, text: &[u8]) -> Result<Filter, LineFault>
+    ensures { Says fields_of result (filter_of kind text.now) }
+{
+    let Ok(filter) = Filter::parse_bytes(text) else {
+        return Err(LineFault::Bad(ScriptKind::Filter));
+    };
+    if splits(kind, &filter) {
+        return Err(LineFault::Bad(ScriptKind::SplitsUnit));
+    }
+    Ok(filter)
+}
+
+/// The reader with an event more.
+fn with_event(
+    alloc: Global,
+    kind: Kind,
+    reader: Reader,
+    at: u32,
+    event: Event<'_>,
+) -> Result<Reader, LineFault>
+    ensures { Says state_of result (with_event kind (state_of reader) at (event_view event.entry)) }
+{
+    if reader.last.is_some_and(|last| at < last) {
+        return Err(LineFault::Bad(ScriptKind::Order));
+    }
+    let order = order_of(alloc, kind, event)?;
+    with_line(reader, at, order)
+}
+
+/// The order of an event, or `None` for a settle.
+#[tactic(auto, unfolding(crate::specs::Reading::order_of))]
+fn order_of(alloc: Global, kind: Kind, event: Event<'_>) -> Result<Option<Order>, LineFault>
+    ensures { Says (λ order. option_map order_view order) result (order_of kind (event_view event.entry)) }
+{
+    match event {
+        Event::Move {
+            source,
+            target,
+            filter,
+            keep,
+        } => {
+            let (src, dst) = ends_of(alloc, source, target)?;
+            let filter = filter_of(kind, filter)?;
+            Ok(Some(Order::Move {
+                src,
+                dst,
+                filter,
+                keep,
+            }))
+        }
+        Event::Copy {
+            source,
+            target,
+            filter,
+        } => {
+            let (src, dst) = ends_of(alloc, source, target)?;
+            let filter = filter_or_all(kind, filter)?;
+            Ok(Some(Order::Copy { src, dst, filter }))
+        }
+        Event::Share { members, filter } => {
+            let members = members_of(alloc, members)?;
+            let filter = filter_of(kind, filter)?;
+            Ok(Some(Order::Share { members, filter }))
+        }
+        Event::Settle => Ok(None),
+    }
+}
+
+/// The names of a source and a target, where they are names and differ.
+#[tactic(auto, unfolding(crate::specs::Reading::ends_of))]
+fn ends_of(alloc: Global, source: &[u8], target: &[u8]) -> Result<(Name, Name), LineFault>
+    ensures { Says (λ ends. ends) result (ends_of source.now target.now) }
+{
+    let Some(source_name) = Name::read(alloc, source)? else {
+        return Err(LineFault::Bad(ScriptKind::Name));
+    };
+    let Some(target_name) = Name::read(alloc, target)? else {
+        return Err(LineFault::Bad(ScriptKind::Name));
+    };
+    if source == target {
+        return Err(LineFault::Bad(ScriptKind::SameInstance));
+    }
+    Ok((source_name, target_name))
+}
+
+/// The filter of a copy, if it has one.
+fn filter_or_all(kind: Kind, text: Option<&[u8]>) -> Result<Option<Filter>, LineFault>
+    ensures { Says (λ f. option_map fields_of f) result (filter_or_all kind (option_map (λ t. t.now) text.entry)) }
+{
+    match text {
+        None => Ok(None),
+        Some(text) => Ok(Some(filter_of(kind, text)?)),
+    }
+}
+
+/// The members of a share, where they are names and differ.
+#[tactic(auto, unfolding(crate::specs::Reading::members_of))]
+fn members_of(alloc: Global, list: &[u8]) -> Result<Names, LineFault>
+    ensures { Says (λ members. members) result (members_of list.now) }
+{
+    let Some(members) = names_of(alloc, list)? else {
+        return Err(LineFault::Bad(ScriptKind::Name));
+    };
+    if has_twice(alloc, members.items())? {
+        return Err(LineFault::Bad(ScriptKind::SameInstance));
+    }
+    Ok(members)
+}
+
+/// The names of a list with commas between them, or `None` where one is malformed.
+fn names_of(alloc: Global, list: &[u8]) -> Result<Option<Names>, NoMemory>
+    ensures { IfOk result (λ found. let names = slice_split (λ b. b == 44) list.now in found ≡ (if list_all is_name names then Some names else None)) }
+{
+    let mut names = Names::open(alloc);
+    let mut rest = Some(list);
+    while let Some(text) = rest {
+        let (first, more) = first_piece(text, b',');
+        let Some(name) = Name::read(alloc, first)? else {
+            return Ok(None);
+        };
+        names.push(name)?;
+        rest = more;
+    }
+    Ok(Some(names))
+}
+
+/// The reader with an `at` line more: an order, or a settle.
+fn with_line(mut reader: Reader, at: u32, order: Option<Order>) -> Result<Reader, LineFault>
+    ensures { Says state_of result (with_line (state_of reader) at (option_map order_view order)) }
+{
+    if reader.lines.len() >= MOST_LINES {
+        return Err(LineFault::Bad(ScriptKind::TooMany));
+    }
+    let what = numbered_order(reader.lines.as_slice(), order);
+    reader.lines.push(Line { at, what })?;
+    reader.last = Some(at);
+    Ok(reader)
+}
+
+/// An order under the number after those of the lines so far, or a settle.
+fn numbered_order(lines: &[Line], order: Option<Order>) -> What
+    requires { length lines.now < 1000 }
+    ensures { what_view result ≡ numbered (map line_view lines.now) (option_map order_view order) }
+{
+    match order {
+        Some(what) => {
+            let op = command_count(lines) + 1;
+            What::Command(Command { op, what })
+        }
+        None => What::Settle,
+    }
+}
+
+/// How many commands stand in the lines.
+fn command_count(lines: &[Line]) -> u32
+    requires { length lines.now < 1000 }
+    ensures count { result ≡ command_count (map line_view lines.now) }
+    ensures most { result ≤ length lines.now }
+{
+    match lines {
+        [] => 0,
+        [line, more @ ..] => u32::from(is_command(line)) + command_count(more),
+    }
+}
+
+/// Whether a command stands in the line.
+fn is_command(line: &Line) -> bool
+    ensures { result ≡ is_command (line_view line.now) }
+{
+    matches!(line.what, What::Command(_))
+}
+
+/// A line without the carriage return at its end.
+fn without_return(line: &[u8]) -> &[u8]
+    ensures { result.now ≡ strip_carriage_return line.now }
+{
+    if line.last() == Some(&b'\r') {
+        &line[..line.len() - 1]
+    } else {
+        line
+    }
 }

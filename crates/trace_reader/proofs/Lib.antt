@@ -4,7 +4,6 @@ pub mod NextRecord
 pub mod ReaderOpening
 pub mod CaptureSoFar
 pub mod KeeperSoFar
-pub mod PacketNumbers
 pub mod GeneratedSizes
 pub mod GeneratedRecords
 pub mod MadeSoFar

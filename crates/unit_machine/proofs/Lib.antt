@@ -31,7 +31,6 @@ pub mod Between
 pub mod Quiet
 pub mod Pairs
 pub mod NetViews
-pub mod RealFalls
 pub mod OneCopy
 pub mod Fresh
 pub mod Sides
