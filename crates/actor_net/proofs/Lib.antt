@@ -9,6 +9,7 @@ pub mod LinkLemmas
 pub mod MergeRun
 pub mod OpeningWorlds
 pub mod PartialMergeLemmas
+pub mod RemainderLemmas
 pub mod ReplayLaws
 pub mod RunInduction
 pub mod RunLaws

@@ -18,11 +18,13 @@ mod link;
 mod link_table;
 pub mod outbox;
 mod partial_merge;
+mod remainders;
 pub mod replays;
 pub mod schedule;
 pub mod stamped;
 #[cfg(test)]
 mod tests;
+mod turns;
 pub mod world;
 
 pub use actor::Actor;

@@ -4,6 +4,7 @@ ghost use Rattle.actor_net.specs.Schedules.{enabled_choices, ports_below, place_
 
 use super::actor::Actor;
 use super::choice::{Choice, Choices};
+use super::remainders::Remainders;
 use super::world::World;
 use rand_core::SeedableRng;
 use rand_core::utils::NextWord;
@@ -40,8 +41,9 @@ pub fn run_schedule<A: Actor>(
     let mut world = world;
     let mut choices = Choices::open(alloc);
     let mut picker = Picker::open(schedule);
+    let remainders = Remainders::open();
     for _ in 0..MOST_CHOICES {
-        let Some(choice) = picker.pick(&world) else {
+        let Some(choice) = picker.pick(&world, &remainders) else {
             break;
         };
         world.take_enabled(choice)?;
@@ -96,7 +98,8 @@ impl Picker {
     }
 
     /// The choice that the schedule takes.
-    fn pick<A: Actor>(&mut self, world: &World<A>) -> Option<Choice>
+    #[inline(always)]
+    fn pick<A: Actor>(&mut self, world: &World<A>, remainders: &Remainders) -> Option<Choice>
         ensures choice { result ≡ picked A.is_ready (schedule_of self.old) world.now }
         ensures later { OnSome result (schedule_of self.new ≡ later (schedule_of self.old)) }
     {
@@ -108,7 +111,7 @@ impl Picker {
                 if count == 0 {
                     return None;
                 }
-                let place = words.next_word() % count as u64;
+                let place = remainders.of(words.next_word(), count as u64);
                 world.nth_enabled(place as usize)
             }
         }
