@@ -1,10 +1,10 @@
 //! Remainders of words by small numbers, without a division.
 ghost use Rattle.std.specs.Prelude.{◌≡◌, ◌<◌, ◌%◌, IfSome};
 
-// There is a share for each number below this one.
+/// There is a share for each number below this one.
 const SHARES: usize = 64;
 
-// The lower half of a product's bits is less than this.
+/// The lower half of a product's bits is less than this.
 const UPPER: u128 = 0x1_0000_0000_0000_0000;
 
 /// How often each small number goes into the greatest word. It only leads to a quotient, which is looked at.
@@ -38,7 +38,7 @@ impl Remainders {
     }
 }
 
-// The remainder of a word by a number with this share, where that leads to it. The quotient is right or one too small.
+/// The remainder of a word by a number with this share, where that leads to it. The quotient is right or one too small.
 #[inline(always)]
 fn remainder_by(word: u64, number: u64, share: u64) -> Option<u64>
     requires { 0 < number }
@@ -55,7 +55,7 @@ fn remainder_by(word: u64, number: u64, share: u64) -> Option<u64>
     None
 }
 
-// The number taken off once, where that can be.
+/// The number taken off once, where that can be.
 #[inline(always)]
 fn less_once(left: u64, number: u64) -> u64
     requires { 0 < number }
