@@ -35,6 +35,11 @@ module _ {K S : Type 0} (HasKept : K → S → List Packet → Type 0) where
     kept = λ setup before has. subst (λ (ps : List Packet). HasKept keeper setup ps) (sym (append-nil before)) has;
   }
 
+  -- a reader that read nothing is as far as before
+  pub handed_same : (whole : Result Trace TraceFault) (before after : Reading) (skipped : ℕ) (old new : K)
+      → after ≡ before → Handed whole before skipped old new → Handed whole after skipped old new
+  handed_same whole before after skipped old new same h = subst (λ (now : Reading). Handed whole now skipped old new) (sym same) h
+
   -- the keeper takes one more
   pub handed_packet : (whole : Result Trace TraceFault) (before after : Reading) (skipped : ℕ) (old mid new : K) (packet : Packet)
       → Handed whole before skipped old mid → AnswersNext before after (Ok (next.Packet packet))

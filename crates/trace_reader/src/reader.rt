@@ -1,11 +1,12 @@
-ghost use Rattle.std.specs.Prelude.{◌≡◌, ◌≤◌, ◌^◌, ◌+◌, min, None, Some, Err, length, drop, IfOk};
+ghost use Rattle.std.specs.Prelude.{◌≡◌, ◌≤◌, ◌^◌, ◌+◌, min, None, Some, Ok, Err, length, drop, IfOk, IfSome, IfNone};
 ghost use Rattle.std.specs.Option.{ForSome, ForNone};
 ghost use Rattle.trace_reader.specs.Limits.{header_size, most_bytes, most_packets};
 
 use crate::fault::TraceFault;
 use crate::form::{Form, form_of};
-use crate::record::{Next, read_record};
+use crate::record::{Next, bare_at_hand, read_record};
 use crate::takes::fill;
+use flow_filter::Packet;
 use nf_io::Source;
 
 /// Why a reader is at its end.
@@ -30,6 +31,7 @@ pub struct TraceReader {
 
 impl TraceReader {
     ghost use Rattle.nf_io.specs.Meaning.{StaysOpen, Rose};
+    ghost use Rattle.trace_reader.specs.declared.record.Next.TheVariants as next;
     ghost use Rattle.trace_reader.specs.Records.{opened};
     ghost use Rattle.trace_reader.specs.Answers.{HasReadCause, AnswersOpen, AnswersNext, Advances, reading_of, stop_of, answer_of};
 
@@ -92,6 +94,27 @@ impl TraceReader {
             Next::Cut => self.stop = Some(Stop::Cut),
         }
         Ok(step.next)
+    }
+
+    /// Reads the next record where it is at hand whole and is a packet of which no payload was captured. Else it reads nothing.
+    #[inline(always)]
+    pub(crate) fn next_bare<S: Source>(&mut self, source: &mut S) -> Option<Packet>
+        requires { S.IsOpen source.old }
+        ensures answers { IfSome result (λ packet. AnswersNext (reading_of self.old (S.left source.old)) (reading_of self.new (S.left source.new)) (Ok (next.Packet packet))) }
+        ensures advances { IfSome result (λ packet. Advances (reading_of self.old (S.left source.old)) (reading_of self.new (S.left source.new)) (Ok (next.Packet packet))) }
+        ensures form { self.new.form ≡ self.old.form }
+        ensures stop { self.new.stop ≡ self.old.stop }
+        ensures unread { IfNone result (self.new ≡ self.old) }
+        ensures untouched { IfNone result (source.new ≡ source.old) }
+        ensures later { S.faults source.old ≤ S.faults source.new }
+        ensures stays { StaysOpen S.IsOpen S.loan S.rest source.old source.new }
+    {
+        let ahead = source.at_hand();
+        let (packet, size) = bare_at_hand(self.form, self.place, self.count, ahead)?;
+        source.skip(size);
+        self.place += size as u64;
+        self.count += 1;
+        Some(packet)
     }
 }
 

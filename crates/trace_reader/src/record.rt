@@ -1,13 +1,15 @@
-ghost use Rattle.std.specs.Prelude.{◌≡◌, ◌≢◌, ◌<◌, ◌≤◌, ℕ, ◌^◌, ◌+◌, min, length, take, None, Ok, Err, IfOk, IfSome};
+ghost use Rattle.std.specs.Prelude.{◌≡◌, ◌≢◌, ◌<◌, ◌≤◌, ℕ, ◌^◌, ◌+◌, List, min, length, take, None, Ok, Err, IfOk, IfSome};
+ghost use Rattle.std.specs.Io.{StartsWith};
 ghost use Rattle.nf_io.specs.Meaning.{StaysOpen};
 ghost use Rattle.trace_reader.specs.Limits.{front_size, head_size, most_bytes, most_captured, most_packets};
 ghost use Rattle.trace_reader.specs.Numbers.{byte_at, captured_of};
-ghost use Rattle.trace_reader.specs.Records.{record_answer};
+ghost use Rattle.trace_reader.specs.Records.{next_of, record_answer, record_size};
+ghost use Rattle.trace_reader.specs.declared.record.Next.TheVariants as next;
 ghost use Rattle.trace_reader.specs.Answers.{HasReadCause, AnswersNext, Advances, next_in, count_after, reading, reading_after};
 
 use crate::fault::TraceFault;
 use crate::form::Form;
-use crate::steer::{FRONT, packet_of};
+use crate::steer::{FRONT, bare_packet_of, packet_of};
 use crate::takes::{fill, take_body};
 use flow_filter::Packet;
 use nf_io::Source;
@@ -73,6 +75,29 @@ pub(crate) fn read_record<S: Source>(
     })
 }
 
+/// The packet of the record at a place and how many bytes the record takes, where it is there whole in the bytes at hand and none of
+/// the packet's payload was captured.
+#[inline(always)]
+pub(crate) fn bare_at_hand(
+    form: Form,
+    place: u64,
+    count: u32,
+    ahead: &[u8],
+) -> Option<(Packet, usize)>
+    requires place { place ≤ most_bytes }
+    requires count { count ≤ most_packets }
+    ensures gives { IfSome result (λ found. (bytes : List ℕ) → StartsWith bytes ahead.now →
+        (next_of form place count bytes ≡ Ok (next.Packet found.0)) × (found.1 ≡ record_size form bytes)) }
+    ensures fits { IfSome result (λ found. Advances (reading form place count None)
+        (reading form (place + found.1) (count + 1) None) (Ok (next.Packet found.0))) }
+    ensures within { IfSome result (λ found. found.1 ≤ length ahead.now) }
+{
+    let len = whole_at_hand(form, ahead)?;
+    let front = &ahead[16..16 + len.min(FRONT)];
+    let packet = judge_bare(form, place, count, &ahead[..16], len, front)?;
+    Some((packet, 16 + len))
+}
+
 /// How many bytes the record has that the bytes at hand begin with, where it is there whole and isn't too long.
 #[inline(always)]
 fn whole_at_hand(form: Form, ahead: &[u8]) -> Option<usize>
@@ -120,6 +145,33 @@ fn judge(
         Some(packet) if count < MOST_PACKETS => Ok(Next::Packet(packet)),
         Some(_) => Err(TraceFault::TooLong { offset: place }),
     }
+}
+
+/// The packet that a whole record gives, as [`judge`] does, if none of its payload was captured.
+#[tactic(auto, unfolding(crate::specs::Records::record_answer))]
+#[inline(always)]
+fn judge_bare(
+    form: Form,
+    place: u64,
+    count: u32,
+    head: &[u8],
+    len: usize,
+    front: &[u8],
+) -> Option<Packet>
+    requires place { place ≤ most_bytes }
+    requires count { count ≤ most_packets }
+    requires head { length head.now ≡ head_size }
+    requires len { len ≤ most_captured }
+    requires front { length front.now ≡ min len front_size }
+    ensures gives { IfSome result (λ packet. record_answer form place count head.now len front.now ≡ Ok (next.Packet packet)) }
+    ensures fits { IfSome result (λ packet. Advances (reading form place count None)
+        (reading form (place + (head_size + len)) (count + 1) None) (Ok (next.Packet packet))) }
+    ensures bytes { (i : ℕ) → byte_at front.now i < 256 }
+{
+    if place + 16 + len as u64 > MOST_BYTES || count >= MOST_PACKETS {
+        return None;
+    }
+    bare_packet_of(form, count + 1, head, len, front)
 }
 
 /// Reads the record at a place in parts.

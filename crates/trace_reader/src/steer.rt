@@ -1,4 +1,4 @@
-ghost use Rattle.std.specs.Prelude.{◌≡◌, ◌≤◌, ◌+◌, ◌-◌, ◌^◌, ◌++◌, min, length, replicate, true, IfSome};
+ghost use Rattle.std.specs.Prelude.{◌≡◌, ◌≤◌, ◌+◌, ◌-◌, ◌^◌, ◌++◌, min, length, replicate, true, Some, IfSome};
 ghost use Rattle.trace_reader.specs.Limits.{front_size, head_size, most_captured};
 ghost use Rattle.trace_reader.specs.Numbers.{u16_at, u32_at, byte_at};
 ghost use Rattle.trace_reader.specs.Steered.{start_of, header_length, is_first, is_steered_proto, transport_length, total_length, parts_of, HasParts, held_of, payload_of, packet_with, packet_of};
@@ -38,6 +38,31 @@ pub(crate) fn packet_of(
 {
     let parts = parts_of(form.link_type, len, front)?;
     Some(packet_with(number, form.nanos(head), len, front, &parts))
+}
+
+/// The packet of a record, if none of its payload was captured; None for any other record. It is inlined, so that the zeros in place
+/// of the payload are neither copied nor looked at.
+#[tactic(auto, unfolding(crate::specs::Steered::packet_of))]
+#[inline(always)]
+pub(crate) fn bare_packet_of(
+    form: Form,
+    number: u32,
+    head: &[u8],
+    len: usize,
+    front: &[u8],
+) -> Option<Packet>
+    requires head { length head.now ≡ head_size }
+    requires front { length front.now ≡ min len front_size }
+    requires len { len ≤ most_captured }
+    ensures value { IfSome result (λ packet. packet_of form number head.now len front.now ≡ Some packet) }
+    ensures steered { IfSome result (λ packet. (packet.number ≡ number) × (is_steered_proto packet.proto ≡ true)) }
+{
+    let parts = parts_of(form.link_type, len, front)?;
+    if held_of(len, &parts) > 0 {
+        return None;
+    }
+    let nanos = form.nanos(head);
+    Some(packet_around(number, nanos, len, front, &parts, [0; 64]))
 }
 
 /// The lengths of a steered record, None for one that is skipped.
@@ -146,9 +171,27 @@ fn packet_with(number: u32, nanos: u64, len: usize, front: &[u8], parts: &Parts)
     requires parts { HasParts len front.now parts.now }
     ensures { result ≡ packet_with number nanos len front.now parts.now }
 {
+    let head = padded(payload_of(len, front, parts));
+    packet_around(number, nanos, len, front, parts, head)
+}
+
+/// The same with this payload.
+#[inline(always)]
+fn packet_around(
+    number: u32,
+    nanos: u64,
+    len: usize,
+    front: &[u8],
+    parts: &Parts,
+    head: [u8; 64],
+) -> Packet
+    requires front { length front.now ≡ min len front_size }
+    requires len { len ≤ most_captured }
+    requires parts { HasParts len front.now parts.now }
+    ensures { result ≡ record (packet_with number nanos len front.now parts.now) { head = head } }
+{
     let at = parts.start + parts.header;
     let proto = front[parts.start + 9];
-    let payload = payload_of(len, front, parts);
     Packet {
         number,
         nanos,
@@ -159,8 +202,8 @@ fn packet_with(number: u32, nanos: u64, len: usize, front: &[u8], parts: &Parts)
         dport: u16_at(front, at + 2),
         flags: if proto == TCP { front[at + 13] } else { 0 },
         length: (parts.total - parts.header - parts.transport) as u32,
-        held: payload.len() as u8,
-        head: padded(payload),
+        held: held_of(len, parts) as u8,
+        head,
     }
 }
 
@@ -173,10 +216,20 @@ fn payload_of<'a>(len: usize, front: &'a [u8], parts: &Parts) -> &'a [u8]
     ensures held { length result.now ≡ held_of len parts.now }
 {
     let at = parts.start + parts.header + parts.transport;
-    let end = len.min(parts.start + parts.total);
-    let held = end.saturating_sub(at).min(64);
     let from = at.min(front.len());
-    &front[from..from + held]
+    &front[from..from + held_of(len, parts)]
+}
+
+/// How many bytes of the payload are captured and kept.
+#[inline(always)]
+fn held_of(len: usize, parts: &Parts) -> usize
+    requires sizes { parts.now.start + parts.now.header + parts.now.transport + parts.now.total ≤ 2 ^ 20 }
+    ensures value { result ≡ held_of len parts.now }
+    ensures bound { result ≤ 64 }
+{
+    let at = parts.start + parts.header + parts.transport;
+    let end = len.min(parts.start + parts.total);
+    end.saturating_sub(at).min(64)
 }
 
 /// Those bytes, and zeros behind them.

@@ -74,23 +74,26 @@ pub fn read_into<S: Source, K: Keeper>(
     let mut reader = TraceReader::open(source)?;
     let mut skipped = 0;
     'records: loop {
-        match reader.next(source)? {
-            Next::Packet(packet) => keeper.keep(&packet)?,
-            Next::Skipped => skipped += 1,
-            Next::End => {
-                return Ok(TraceEnd {
-                    packets: reader.packets(),
-                    skipped,
-                    cut: false,
-                });
-            }
-            Next::Cut => {
-                return Ok(TraceEnd {
-                    packets: reader.packets(),
-                    skipped,
-                    cut: true,
-                });
-            }
+        match reader.next_bare(source) {
+            Some(bare) => keeper.keep(&bare)?,
+            None => match reader.next(source)? {
+                Next::Packet(packet) => keeper.keep(&packet)?,
+                Next::Skipped => skipped += 1,
+                Next::End => {
+                    return Ok(TraceEnd {
+                        packets: reader.packets(),
+                        skipped,
+                        cut: false,
+                    });
+                }
+                Next::Cut => {
+                    return Ok(TraceEnd {
+                        packets: reader.packets(),
+                        skipped,
+                        cut: true,
+                    });
+                }
+            },
         }
     }
 }

@@ -1,10 +1,11 @@
 -- The keeper has the packets read so far.
-use Rattle.std.proofs.Common.{arith, rules, drop}
+use Rattle.std.proofs.Common.{◌≡◌, ◌∙◌, None, ap, arith, rules, drop}
 use Rattle.std.proofs.lemmas.Result.{err_from_is_err_and}
 use Rattle.nf_io.proofs.TransferLemmas.{StaysOpen-trans}
+use Rattle.trace_reader.specs.declared.reader.TraceReader.{TraceReader}
 use Rattle.trace_reader.specs.Answers.{reading_of}
 use Rattle.trace_reader.proofs.CaptureSoFar.{open_fault}
-use Rattle.trace_reader.proofs.KeeperSoFar.{handed_start, handed_packet, handed_skipped, handed_end, handed_cut, handed_fault, into_fault, steered_start, steered_packet}
+use Rattle.trace_reader.proofs.KeeperSoFar.{handed_start, handed_same, handed_packet, handed_skipped, handed_end, handed_cut, handed_fault, into_fault, steered_start, steered_packet}
 use Rattle.trace_reader.proofs.trace.read_into.Goals as goal
 
 pub returns-in_err-reader-clause-trace : goal.returns-in_err-reader-clause-trace
@@ -23,47 +24,85 @@ records-init g c = record {
   stays = c.in_ok-reader.ensures.stays;
 }
 
-pub returns-in_err-packet-clause-trace : goal.returns-in_err-packet-clause-trace
-returns-in_err-packet-clause-trace g c = λ bytes told.
-    let p = err_from_is_err_and c.from_residual-in_err-packet.result c.from_residual-in_err-packet.ensures.1 in
-    rw (p.1, p.2) (handed_fault _ _ _ (reading_of c.next.new.self (g.S.Source.left c.next.new.source)) _ _ _ (g.S.Source.left c.next.new.source) _
-    (c.records.invariant.told bytes told) (c.in_err-packet.ensures.answers c.records.invariant.running))
-
-pub records-preserved-in-Continue-branch-4 : goal.records-preserved-in-Continue-branch-4
-records-preserved-in-Continue-branch-4 g c =
-    let answers = rw c.in-Packet.is at (c.in_ok-packet.ensures.answers c.records.invariant.running) in
-    let moves = rw c.in-Packet.is at (c.in_ok-packet.ensures.advances c.records.invariant.running) in
+pub records-preserved-in-Continue-branch-2 : goal.records-preserved-in-Continue-branch-2
+records-preserved-in-Continue-branch-2 g c =
+    let moves = c.in-Some.ensures.advances in
     record {
-      running = rw c.in-Packet.is at c.in_ok-packet.ensures.stop;
-      few = omega (arith, moves.0);
-      told = (λ bytes told. handed_packet _ _ _ (reading_of c.next.new.self (g.S.Source.left c.next.new.source)) _ _ _ _ c.in-Packet.packet (c.records.invariant.told bytes told) answers
-          c.in_ok-packet.ensures.form moves.3 c.in_ok-keep-in-Packet.ensures);
-      steered = steered_packet _ _ _ _ _ _ c.in-Packet.packet c.records.invariant.steered moves.3 moves.4 moves.5 c.in_ok-keep-in-Packet.ensures;
-      later = omega (arith, c.in_ok-packet.ensures.later);
-      stays = StaysOpen-trans _ _ _ _ _ _ c.records.invariant.stays c.in_ok-packet.ensures.stays;
+      running = c.next_bare.ensures.stop ∙ c.records.invariant.running;
+      few = omega (arith, moves.0, c.records.invariant.few);
+      told = (λ bytes told. handed_packet _ _ _ (reading_of c.next_bare.new.self (g.S.Source.left c.next_bare.new.source)) _ _ _ _ c.in-Some.bare (c.records.invariant.told bytes told)
+          c.in-Some.ensures.answers c.next_bare.ensures.form moves.3 c.in_ok-keep-in-Some.ensures);
+      steered = steered_packet _ _ _ _ _ _ c.in-Some.bare c.records.invariant.steered moves.3 moves.4 moves.5 c.in_ok-keep-in-Some.ensures;
+      later = omega (arith, c.records.invariant.later, c.next_bare.ensures.later);
+      stays = StaysOpen-trans _ _ _ _ _ _ c.records.invariant.stays c.next_bare.ensures.stays;
+    }
+
+pub returns-in_err-packet-in-None-clause-trace : goal.returns-in_err-packet-in-None-clause-trace
+returns-in_err-packet-in-None-clause-trace g c = λ bytes told.
+    let p = err_from_is_err_and c.from_residual-in_err-packet-in-None.result c.from_residual-in_err-packet-in-None.ensures.1 in
+    let same = ap (λ (r : TraceReader). reading_of r (g.S.Source.left c.next_bare.new.source)) c.in-None.ensures.unread
+    ∙ ap (λ s. reading_of c.records.reader (g.S.Source.left s)) c.in-None.ensures.untouched in
+    let running : c.next_bare.new.self.stop ≡ None = c.next_bare.ensures.stop ∙ c.records.invariant.running in
+    rw (p.1, p.2) (handed_fault _ _ _ (reading_of c.next.new.self (g.S.Source.left c.next.new.source)) _ _ _ (g.S.Source.left c.next.new.source) _
+    (handed_same _ _ _ (reading_of c.next_bare.new.self (g.S.Source.left c.next_bare.new.source)) _ _ _ same (c.records.invariant.told bytes told))
+    (c.in_err-packet-in-None.ensures.answers running))
+
+pub records-preserved-in-Continue-branch-5 : goal.records-preserved-in-Continue-branch-5
+records-preserved-in-Continue-branch-5 g c =
+    let same = ap (λ (r : TraceReader). reading_of r (g.S.Source.left c.next_bare.new.source)) c.in-None.ensures.unread
+    ∙ ap (λ s. reading_of c.records.reader (g.S.Source.left s)) c.in-None.ensures.untouched in
+    let running : c.next_bare.new.self.stop ≡ None = c.next_bare.ensures.stop ∙ c.records.invariant.running in
+    let place_is : c.next_bare.new.self.place ≡ c.records.reader.place = ap (λ (r : TraceReader). r.place) c.in-None.ensures.unread in
+    let count_is : c.next_bare.new.self.count ≡ c.records.reader.count = ap (λ (r : TraceReader). r.count) c.in-None.ensures.unread in
+    let answers = rw c.in-Packet.is at (c.in_ok-packet-in-None.ensures.answers running) in
+    let moves = rw c.in-Packet.is at (c.in_ok-packet-in-None.ensures.advances running) in
+    record {
+      running = rw c.in-Packet.is at c.in_ok-packet-in-None.ensures.stop;
+      few = omega (arith, moves.0, place_is, c.records.invariant.few);
+      told = (λ bytes told. handed_packet _ _ _ (reading_of c.next.new.self (g.S.Source.left c.next.new.source)) _ _ _ _ c.in-Packet.packet
+          (handed_same _ _ _ (reading_of c.next_bare.new.self (g.S.Source.left c.next_bare.new.source)) _ _ _ same (c.records.invariant.told bytes told))
+          answers c.in_ok-packet-in-None.ensures.form moves.3 c.in_ok-keep-in-Packet.ensures);
+      steered = steered_packet _ _ _ _ _ _ c.in-Packet.packet (rw count_is c.records.invariant.steered) moves.3 moves.4 moves.5 c.in_ok-keep-in-Packet.ensures;
+      later = omega (arith, c.records.invariant.later, c.next_bare.ensures.later, c.in_ok-packet-in-None.ensures.later);
+      stays = StaysOpen-trans _ _ _ _ _ _ (StaysOpen-trans _ _ _ _ _ _ c.records.invariant.stays c.next_bare.ensures.stays) c.in_ok-packet-in-None.ensures.stays;
     }
 
 pub records-preserved : goal.records-preserved
 records-preserved g c =
-    let answers = rw c.in-Skipped.is at (c.in_ok-packet.ensures.answers c.records.invariant.running) in
-    let moves = rw c.in-Skipped.is at (c.in_ok-packet.ensures.advances c.records.invariant.running) in
+    let same = ap (λ (r : TraceReader). reading_of r (g.S.Source.left c.next_bare.new.source)) c.in-None.ensures.unread
+    ∙ ap (λ s. reading_of c.records.reader (g.S.Source.left s)) c.in-None.ensures.untouched in
+    let running : c.next_bare.new.self.stop ≡ None = c.next_bare.ensures.stop ∙ c.records.invariant.running in
+    let place_is : c.next_bare.new.self.place ≡ c.records.reader.place = ap (λ (r : TraceReader). r.place) c.in-None.ensures.unread in
+    let count_is : c.next_bare.new.self.count ≡ c.records.reader.count = ap (λ (r : TraceReader). r.count) c.in-None.ensures.unread in
+    let answers = rw c.in-Skipped.is at (c.in_ok-packet-in-None.ensures.answers running) in
+    let moves = rw c.in-Skipped.is at (c.in_ok-packet-in-None.ensures.advances running) in
     record {
-      running = rw c.in-Skipped.is at c.in_ok-packet.ensures.stop;
-      few = omega (arith, moves.0);
-      told = (λ bytes told. handed_skipped _ _ _ (reading_of c.next.new.self (g.S.Source.left c.next.new.source)) _ _ _ (c.records.invariant.told bytes told) answers c.in_ok-packet.ensures.form moves.2);
-      steered = rw moves.2 c.records.invariant.steered;
-      later = omega (arith, c.in_ok-packet.ensures.later);
-      stays = StaysOpen-trans _ _ _ _ _ _ c.records.invariant.stays c.in_ok-packet.ensures.stays;
+      running = rw c.in-Skipped.is at c.in_ok-packet-in-None.ensures.stop;
+      few = omega (arith, moves.0, place_is, c.records.invariant.few);
+      told = (λ bytes told. handed_skipped _ _ _ (reading_of c.next.new.self (g.S.Source.left c.next.new.source)) _ _ _
+          (handed_same _ _ _ (reading_of c.next_bare.new.self (g.S.Source.left c.next_bare.new.source)) _ _ _ same (c.records.invariant.told bytes told))
+          answers c.in_ok-packet-in-None.ensures.form moves.2);
+      steered = rw (moves.2, count_is) c.records.invariant.steered;
+      later = omega (arith, c.records.invariant.later, c.next_bare.ensures.later, c.in_ok-packet-in-None.ensures.later);
+      stays = StaysOpen-trans _ _ _ _ _ _ (StaysOpen-trans _ _ _ _ _ _ c.records.invariant.stays c.next_bare.ensures.stays) c.in_ok-packet-in-None.ensures.stays;
     }
 
 pub returns-in-End-clause-trace : goal.returns-in-End-clause-trace
 returns-in-End-clause-trace g c = λ bytes told.
-    let answers = rw c.in-End.is at (c.in_ok-packet.ensures.answers c.records.invariant.running) in
-    let moves = rw c.in-End.is at (c.in_ok-packet.ensures.advances c.records.invariant.running) in
-    rw (c.packets.ensures.value, moves.1) (handed_end _ _ _ (reading_of c.next.new.self (g.S.Source.left c.next.new.source)) _ _ _ (c.records.invariant.told bytes told) answers)
+    let same = ap (λ (r : TraceReader). reading_of r (g.S.Source.left c.next_bare.new.source)) c.in-None.ensures.unread
+    ∙ ap (λ s. reading_of c.records.reader (g.S.Source.left s)) c.in-None.ensures.untouched in
+    let running : c.next_bare.new.self.stop ≡ None = c.next_bare.ensures.stop ∙ c.records.invariant.running in
+    let answers = rw c.in-End.is at (c.in_ok-packet-in-None.ensures.answers running) in
+    let moves = rw c.in-End.is at (c.in_ok-packet-in-None.ensures.advances running) in
+    rw (c.packets.ensures.value, moves.1) (handed_end _ _ _ (reading_of c.next.new.self (g.S.Source.left c.next.new.source)) _ _ _
+    (handed_same _ _ _ (reading_of c.next_bare.new.self (g.S.Source.left c.next_bare.new.source)) _ _ _ same (c.records.invariant.told bytes told)) answers)
 
 pub returns-in-Cut-clause-trace : goal.returns-in-Cut-clause-trace
 returns-in-Cut-clause-trace g c = λ bytes told.
-    let answers = rw c.in-Cut.is at (c.in_ok-packet.ensures.answers c.records.invariant.running) in
-    let moves = rw c.in-Cut.is at (c.in_ok-packet.ensures.advances c.records.invariant.running) in
-    rw (c.packets-in-Cut.ensures.value, moves.1) (handed_cut _ _ _ (reading_of c.next.new.self (g.S.Source.left c.next.new.source)) _ _ _ (c.records.invariant.told bytes told) answers)
+    let same = ap (λ (r : TraceReader). reading_of r (g.S.Source.left c.next_bare.new.source)) c.in-None.ensures.unread
+    ∙ ap (λ s. reading_of c.records.reader (g.S.Source.left s)) c.in-None.ensures.untouched in
+    let running : c.next_bare.new.self.stop ≡ None = c.next_bare.ensures.stop ∙ c.records.invariant.running in
+    let answers = rw c.in-Cut.is at (c.in_ok-packet-in-None.ensures.answers running) in
+    let moves = rw c.in-Cut.is at (c.in_ok-packet-in-None.ensures.advances running) in
+    rw (c.packets-in-Cut.ensures.value, moves.1) (handed_cut _ _ _ (reading_of c.next.new.self (g.S.Source.left c.next.new.source)) _ _ _
+    (handed_same _ _ _ (reading_of c.next_bare.new.self (g.S.Source.left c.next_bare.new.source)) _ _ _ same (c.records.invariant.told bytes told)) answers)
