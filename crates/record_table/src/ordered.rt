@@ -49,7 +49,7 @@ fn all_found<'a, R>(
     ensures found { IfOk result (λ found. map (λ e. (e.0, e.1.now)) (pairs_of found.items) ≡ all_found (option_copied filter.entry) entries.now) }
     ensures numbered { IfOk result (λ found. All IsNumbered found.items) }
 {
-    let mut found = Vec::new(alloc);
+    let mut found = Vec::with_capacity(alloc, entries.len())?;
     for entry in entries {
         let Some(record) = &entry.1 else {
             continue;
@@ -75,6 +75,7 @@ fn found_at<'a, R>(unit: &'a Unit, kept: &'a R) -> Found<'a, R>
 }
 
 /// Whether the filter, if there is one, takes the unit.
+#[inline(always)]
 fn is_taken(filter: Option<&Filter>, unit: &Unit) -> bool
     ensures { result ≡ is_taken (option_copied filter.entry) unit.now }
 {

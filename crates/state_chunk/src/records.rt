@@ -50,6 +50,7 @@ fn record_bytes<F: Function>(
 }
 
 /// The unit and the record of a chunk, or the fault of its first part from the front that is missing or wrong.
+#[inline(always)]
 pub fn decode<F: Function>(alloc: Global, bytes: &[u8]) -> Result<(Unit, F::Record), ChunkFault>
     ensures value { Gives (λ x. x) result (record_read F.semantics bytes.now) }
 
@@ -60,6 +61,7 @@ pub fn decode<F: Function>(alloc: Global, bytes: &[u8]) -> Result<(Unit, F::Reco
 }
 
 /// The same, part by part.
+#[inline(always)]
 #[tactic(auto, unfolding(crate::specs::Reading::record_read))]
 fn decoded<F: Function>(alloc: Global, bytes: &[u8]) -> Result<(Unit, F::Record), ChunkFault>
     ensures { Gives (λ x. x) result (record_read F.semantics bytes.now) }
@@ -79,6 +81,7 @@ fn decoded<F: Function>(alloc: Global, bytes: &[u8]) -> Result<(Unit, F::Record)
 }
 
 /// The record that a body spells, where this version is the one that it needs.
+#[inline(always)]
 fn record_of_version<F: Function>(
     alloc: Global,
     version: u8,
