@@ -178,3 +178,18 @@ replay_stands F {R = R} f laws alloc c items is cs w (Ok reached) start h =
     let ok = replayed_ok node_ready (node_step f) cs w reached (sym (h (λ bad. cc))) in
     let runs : IsRun node_ready (node_step f) cs (started {F = F} {R = R} alloc c items) = subst (λ v. IsRun node_ready (node_step f) cs v) start ok.0 in
     subst (λ v. Standbys f v cs c items) (sym start) (standbys F f laws alloc c items is cs runs)
+
+-- and what its end keeps, where nothing is left to do in the world
+replay_ends : (F : Type 0) {R : Type 0} (f : Semantics R) (laws : FunctionLaws f) (alloc : Global) (c : Config) (items : List Msg) (is : IsInput f.kind c items) (cs : List Choice) (w reached : Network (Node F R) Msg Note) → w ≡ started alloc c items → replayed node_ready (node_step f) cs w ≡ Ok reached → is_done node_ended reached ≡ true → KeepsAll F f laws alloc c items is reached
+replay_ends F {R = R} f laws alloc c items is cs w reached start replay done =
+    let ok = replayed_ok node_ready (node_step f) cs w reached replay in
+    let runs : IsRun node_ready (node_step f) cs (started {F = F} {R = R} alloc c items) = subst (λ v. IsRun node_ready (node_step f) cs v) start ok.0 in
+    keeps_all F f laws alloc c items is cs reached (record { is_run = runs; reached = ok.1 ∙ ap (run (node_step f) cs) start }) done
+
+pub replay_completes : (F : Type 0) {R : Type 0} (f : Semantics R) (laws : FunctionLaws f) (alloc : Global) (c : Config) (items : List Msg) (is : IsInput f.kind c items) (cs : List Choice) (w : Network (Node F R) Msg Note) (result : Result (Network (Node F R) Msg Note) ReplayFault) → w ≡ started alloc c items → (result ≢ Err NoMemory → result ≡ replayed node_ready (node_step f) cs w) → IfOk result (λ reached. is_done node_ended reached ≡ true → Completed f c items reached)
+replay_completes F f laws alloc c items is cs w (Err e) start h = tt
+replay_completes F f laws alloc c items is cs w (Ok reached) start h = λ done. (replay_ends F f laws alloc c items is cs w reached start (sym (h (λ bad. cc))) done).completed
+
+pub replay_homes : (F : Type 0) {R : Type 0} (f : Semantics R) (laws : FunctionLaws f) (alloc : Global) (c : Config) (items : List Msg) (is : IsInput f.kind c items) (cs : List Choice) (w : Network (Node F R) Msg Note) (result : Result (Network (Node F R) Msg Note) ReplayFault) → w ≡ started alloc c items → (result ≢ Err NoMemory → result ≡ replayed node_ready (node_step f) cs w) → IfOk result (λ reached. is_done node_ended reached ≡ true → AllHome c reached)
+replay_homes F f laws alloc c items is cs w (Err e) start h = tt
+replay_homes F f laws alloc c items is cs w (Ok reached) start h = λ done. (replay_ends F f laws alloc c items is cs w reached start (sym (h (λ bad. cc))) done).home
