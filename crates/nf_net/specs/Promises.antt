@@ -20,7 +20,7 @@ use Rattle.net_world.specs.Fold.{IsFront, times, came, fold, given, outputs, pat
 use Rattle.net_world.specs.Input.{packets, order_of, ends_last}
 use Rattle.net_world.specs.Log.{arrived}
 use Rattle.net_world.specs.Nodes.{node_step}
-use Rattle.net_world.specs.Places.{is_loose, ArePlaces, AreAtMembers}
+use Rattle.net_world.specs.Places.{is_loose, owner, ArePlaces, AreAtMembers}
 use Rattle.net_world.specs.Records.{live_at, chunks_on_way, IsOfMove}
 use Rattle.net_world.specs.Refused.{StaysAtSource}
 use Rattle.net_world.specs.Seen.{HasRecord}
@@ -75,6 +75,8 @@ module _ {R : Type 0} (f : Semantics R) (config : Config) (items : List Msg) whe
     pub each_once : (unit : units.Unit) (p : ℕ) → times p (went f config items unit w.log) ≡ times p (came f config items unit w.log)
     pub records_are : (unit : units.Unit) (i : ℕ) (r : R) → live_at w i unit ≡ Some r → fold f config items None (went f config items unit w.log) ≡ Some r
     pub has_record : (unit : units.Unit) (r : R) → fold f config items None (went f config items unit w.log) ≡ Some r → (i : ℕ) × (live_at w i unit ≡ Some r)
+    -- it is at the owner of the unit by the rules of the switch: behind a move that is done not at the source, behind a refused one still there
+    pub at_owner : (unit : units.Unit) (i : ℕ) (r : R) → live_at w i unit ≡ Some r → i ≡ owner config items unit w.log
     -- each command of the input was answered, if none stands behind its end
     pub answered : ends_last items ≡ true → (op : ℕ) (what : Order) → order_of items op ≡ Some what → length (answers_of op w.log) ≡ 1
     -- the switch changed its rules once for each move that is done
