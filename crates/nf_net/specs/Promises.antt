@@ -53,8 +53,8 @@ module _ {R : Type 0} (f : Semantics R) (config : Config) (items : List Msg) whe
     pub chunks_moved : All (IsOfMove config items w.log) (chunks_on_way w)
     -- no more packets are under way than the window says
     pub window : Window config w
-    -- each packet was processed at the owner of its unit, at an instance of a move of the unit that was under way, or at its member of a share;
-    -- there it was if a share had its unit when it came
+    -- each packet was processed at the owner of its unit, at the destination of a move under way that took the unit from there, or at its member
+    -- of a share; there it was if a share had its unit when it came
     pub places : ArePlaces config items f.kind w.log
     pub at_members : AreAtMembers config items f.kind w.log
     -- behind a settle, and before a later command begins, it was where the rules of the switch send it
