@@ -33,6 +33,7 @@ use Rattle.answer_net.proofs.CommandPromises.{run_answers, no_rules}
 use Rattle.nf_net.proofs.JudgedRuns.{verdicts}
 use Rattle.answer_net.proofs.MovesUnderWay.{moves_under_way}
 use Rattle.path_net.proofs.PathPromises.{in_place, each_in_place, came_once}
+use Rattle.nf_net.proofs.ParcelCounts.{parcels_are}
 use Rattle.nf_net.proofs.PlaceRuns.{places}
 use Rattle.nf_net.proofs.RecordStands.{records_stand}
 use Rattle.nf_net.proofs.SettleRuns.{settles}
@@ -70,6 +71,7 @@ module _ (F : Type 0) {R : Type 0} (f : Semantics R) (laws : FunctionLaws f) (al
         no_rules = no_rules F f laws alloc c items is cs runs;
         at_source = stays_at_source F f laws alloc c items is cs runs;
         window = window_kept F f laws alloc c items is cs runs;
+        parcels = parcels_are f c items w counted (each_in_place f c items is (length c.names + 2) refl w counted j reached.0 turn told);
         one_record = λ u i k r s. one_place f c items is (length c.names + 2) w counted j u i k r s;
         record_stands = records_stand F f laws alloc c items is cs runs;
         chunks_moved = chunks_moved f c items is (length c.names + 2) refl w counted j reached.0 (moves_under_way F f laws alloc c items is cs runs j);

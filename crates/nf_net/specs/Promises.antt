@@ -18,8 +18,9 @@ use Rattle.net_world.specs.declared.node.Node.{Node}
 use Rattle.net_world.specs.Commands.{Answers, answers_of, began, times_installed}
 use Rattle.net_world.specs.Fold.{IsFront, times, came, fold, given, outputs, path, went}
 use Rattle.net_world.specs.Input.{packets, order_of, ends_last}
-use Rattle.net_world.specs.Log.{arrived}
+use Rattle.net_world.specs.Log.{arrived, done}
 use Rattle.net_world.specs.Nodes.{node_step}
+use Rattle.net_world.specs.Path.{under_way}
 use Rattle.net_world.specs.Places.{is_loose, owner, ArePlaces, AreAtMembers}
 use Rattle.net_world.specs.Records.{live_at, chunks_on_way, IsOfMove}
 use Rattle.net_world.specs.Refused.{StaysAtSource}
@@ -51,8 +52,10 @@ module _ {R : Type 0} (f : Semantics R) (config : Config) (items : List Msg) whe
     pub record_stands : (unit : units.Unit) → HasRecord f config items w unit
     -- and each chunk on its way is one of a unit that a move under way takes
     pub chunks_moved : All (IsOfMove config items w.log) (chunks_on_way w)
-    -- no more packets are under way than the window says
+    -- no more packets are under way than the window says, and at their places, whichever instance is read last, there are as many as came and
+    -- aren't processed
     pub window : Window config w
+    pub parcels : (one : ℕ) → length (under_way w (length config.names) one) + length (done w.log) ≡ length (arrived w.log)
     -- each packet was processed at the owner of its unit, at the destination of a move under way that took the unit from there, or at its member
     -- of a share; there it was if a share had its unit when it came
     pub places : ArePlaces config items f.kind w.log
