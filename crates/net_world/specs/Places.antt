@@ -1,5 +1,5 @@
--- Where the packets of a unit may be processed: at the instance that owns it by the rules of the switch; as long as a move of the unit is
--- under way, at the move's two instances; and at members of a share that has the unit. And which units a plain move handed on. Instances go by
+-- Where the packets of a unit may be processed: at the instance that owns it by the rules of the switch; as long as a move of the unit from
+-- there is under way, at the move's destination; and at members of a share that has the unit. And which units a plain move handed on. Instances go by
 -- their numbers. This project's own.
 use Rattle.std.specs.Prelude.{◌≡◌, ℕ, ◌+◌, ◌%◌, ◌==◌, Bool, true, false, not, ◌&&◌, ◌||◌, if◌then◌else◌, Option, None, Some, unwrap_or, option_map, List, [], ◌∷◌, ◌++◌, length, slice_index_or}
 use Rattle.std.specs.Option.{option_map_or, option_or}
@@ -98,6 +98,11 @@ module _ (config : Config) (items : List Msg) where
     pub takes_it : takes filter unit ≡ true
     pub busy : is_busy op log ≡ true
 
+  -- and it is to take the unit from its owner: one whose owner is another instance, or the destination already, isn't touched
+  pub record IsMovingOn (unit : units.Unit) (log : List Note) (source destination : List ℕ) : Type 0 where
+    pub moving : IsMoving unit log source destination
+    pub covers : is_at (place_of config.names source) (owner unit log) ≡ true
+
 module _ (config : Config) (items : List Msg) (kind : Kind) where
   -- the unit of the packet with a number
   abbrev pub unit_numbered : ℕ → units.Unit
@@ -111,8 +116,7 @@ module _ (config : Config) (items : List Msg) (kind : Kind) where
   -- a packet may be processed at the instance
   pub data IsPlace (number : ℕ) (log : List Note) (i : ℕ) : Type 0 where
     Owns : i ≡ owner config items (unit_numbered number) log → IsPlace number log i
-    Is_source : (source destination : List ℕ) → IsMoving config items (unit_numbered number) log source destination → place_of config.names source ≡ Some i → IsPlace number log i
-    Is_destination : (source destination : List ℕ) → IsMoving config items (unit_numbered number) log source destination → place_of config.names destination ≡ Some i → IsPlace number log i
+    Is_destination : (source destination : List ℕ) → IsMovingOn config items (unit_numbered number) log source destination → place_of config.names destination ≡ Some i → IsPlace number log i
     Is_member : goes_to number log ≡ Some i → IsPlace number log i
 
   -- each packet was processed at such an instance, by what was noted before

@@ -33,6 +33,7 @@ use Rattle.answer_net.proofs.CommandPromises.{run_answers, no_rules}
 use Rattle.nf_net.proofs.JudgedRuns.{verdicts}
 use Rattle.answer_net.proofs.MovesUnderWay.{moves_under_way}
 use Rattle.path_net.proofs.PathPromises.{in_place, each_in_place, came_once}
+use Rattle.nf_net.proofs.ParcelCounts.{parcels_are}
 use Rattle.nf_net.proofs.PlaceRuns.{places}
 use Rattle.nf_net.proofs.RecordStands.{records_stand}
 use Rattle.nf_net.proofs.SettleRuns.{settles}
@@ -70,6 +71,7 @@ module _ (F : Type 0) {R : Type 0} (f : Semantics R) (laws : FunctionLaws f) (al
         no_rules = no_rules F f laws alloc c items is cs runs;
         at_source = stays_at_source F f laws alloc c items is cs runs;
         window = window_kept F f laws alloc c items is cs runs;
+        parcels = parcels_are f c items w counted (each_in_place f c items is (length c.names + 2) refl w counted j reached.0 turn told);
         one_record = λ u i k r s. one_place f c items is (length c.names + 2) w counted j u i k r s;
         record_stands = records_stand F f laws alloc c items is cs runs;
         chunks_moved = chunks_moved f c items is (length c.names + 2) refl w counted j reached.0 (moves_under_way F f laws alloc c items is cs runs j);
@@ -178,3 +180,18 @@ replay_stands F {R = R} f laws alloc c items is cs w (Ok reached) start h =
     let ok = replayed_ok node_ready (node_step f) cs w reached (sym (h (λ bad. cc))) in
     let runs : IsRun node_ready (node_step f) cs (started {F = F} {R = R} alloc c items) = subst (λ v. IsRun node_ready (node_step f) cs v) start ok.0 in
     subst (λ v. Standbys f v cs c items) (sym start) (standbys F f laws alloc c items is cs runs)
+
+-- and what its end keeps, where nothing is left to do in the world
+replay_ends : (F : Type 0) {R : Type 0} (f : Semantics R) (laws : FunctionLaws f) (alloc : Global) (c : Config) (items : List Msg) (is : IsInput f.kind c items) (cs : List Choice) (w reached : Network (Node F R) Msg Note) → w ≡ started alloc c items → replayed node_ready (node_step f) cs w ≡ Ok reached → is_done node_ended reached ≡ true → KeepsAll F f laws alloc c items is reached
+replay_ends F {R = R} f laws alloc c items is cs w reached start replay done =
+    let ok = replayed_ok node_ready (node_step f) cs w reached replay in
+    let runs : IsRun node_ready (node_step f) cs (started {F = F} {R = R} alloc c items) = subst (λ v. IsRun node_ready (node_step f) cs v) start ok.0 in
+    keeps_all F f laws alloc c items is cs reached (record { is_run = runs; reached = ok.1 ∙ ap (run (node_step f) cs) start }) done
+
+pub replay_completes : (F : Type 0) {R : Type 0} (f : Semantics R) (laws : FunctionLaws f) (alloc : Global) (c : Config) (items : List Msg) (is : IsInput f.kind c items) (cs : List Choice) (w : Network (Node F R) Msg Note) (result : Result (Network (Node F R) Msg Note) ReplayFault) → w ≡ started alloc c items → (result ≢ Err NoMemory → result ≡ replayed node_ready (node_step f) cs w) → IfOk result (λ reached. is_done node_ended reached ≡ true → Completed f c items reached)
+replay_completes F f laws alloc c items is cs w (Err e) start h = tt
+replay_completes F f laws alloc c items is cs w (Ok reached) start h = λ done. (replay_ends F f laws alloc c items is cs w reached start (sym (h (λ bad. cc))) done).completed
+
+pub replay_homes : (F : Type 0) {R : Type 0} (f : Semantics R) (laws : FunctionLaws f) (alloc : Global) (c : Config) (items : List Msg) (is : IsInput f.kind c items) (cs : List Choice) (w : Network (Node F R) Msg Note) (result : Result (Network (Node F R) Msg Note) ReplayFault) → w ≡ started alloc c items → (result ≢ Err NoMemory → result ≡ replayed node_ready (node_step f) cs w) → IfOk result (λ reached. is_done node_ended reached ≡ true → AllHome c reached)
+replay_homes F f laws alloc c items is cs w (Err e) start h = tt
+replay_homes F f laws alloc c items is cs w (Ok reached) start h = λ done. (replay_ends F f laws alloc c items is cs w reached start (sym (h (λ bad. cc))) done).home

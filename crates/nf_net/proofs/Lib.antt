@@ -24,6 +24,7 @@ pub mod NumberedUnits
 pub mod OutputLemmas
 pub mod OutputSteps
 pub mod PacketCounts
+pub mod ParcelCounts
 pub mod PlaceRuns
 pub mod PlaceSteps
 pub mod RecordStands

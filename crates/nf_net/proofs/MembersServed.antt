@@ -13,7 +13,6 @@ use Rattle.share_machine.proofs.Heads.{to_members}
 use Rattle.share_machine.proofs.Places.{At_places}
 use Rattle.abstract_net.proofs.Net.{Sys, IsSys, at_node}
 use Rattle.abstract_net.proofs.Rest.{none_mine}
-use Rattle.abstract_net.proofs.Places.{May_process}
 use Rattle.abstract_net.proofs.GlobalAll.{Global_all}
 use Rattle.abstract_net.proofs.Untaken.{No_share, head_none}
 use Rattle.abstract_net.proofs.ShareViews.{share_expect, share_frame, share_seen, share_items, own_at}
@@ -26,7 +25,7 @@ use Rattle.abstract_net.proofs.Shares.{Any, Any.Old, Any.New, Share_msg, Share_m
 use Rattle.whole_net.proofs.WhereAll.{Came, Where_all, Apart_from_shares, Under_share}
 use Rattle.whole_net.proofs.Readings.{Its_share, its_share}
 use Rattle.whole_net.proofs.PlacesAll.{ran_by, Processes, As_moves, At_member, processes_all}
-use Rattle.whole_net.proofs.MovePlaces.{processed_where}
+use Rattle.whole_net.proofs.MovePlaces.{May_run, processed_where}
 use Rattle.nf_function.specs.declared.unit.Unit as units
 use Rattle.record_table.specs.Table.{same_unit}
 use Rattle.whole_joined.proofs.OwnerLemmas.{Stands, In_first, In_second, stands}
@@ -168,7 +167,7 @@ module _ {R : Type 0} (S : Sys R) (A : Sharing S) (laws : IsSys S) (u : units.Un
 
   -- Where an instance processes a packet of the unit: as moves know it, at the home of its share, or at its member while its packets are diverted
   pub data Processes_one (w : Whole S A) (y q : ℕ) : Type 0 where
-    By_move : May_process S (moves_of S A w) u y → Processes_one w y q
+    By_move : May_run S (moves_of S A w) u y → Processes_one w y q
     By_home : (e : Open_share) → Its_share S A laws u w e → (w.target u ≡ 1) ⊎ (w.target u ≡ e.home) → y ≡ e.home → Processes_one w y q
     By_member : (e : Open_share) → Its_share S A laws u w e → w.target u ≡ 1 → y ≡ A.member e.members q → Processes_one w y q
 

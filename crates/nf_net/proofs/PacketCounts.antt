@@ -38,7 +38,7 @@ without_times p q (x ∷ xs) some = elim (p == x) as (λ b. (p == x) ≡ b → 1
 ] refl some
 
 -- a list in which nothing stands oftener is no longer
-no_longer : (xs ys : List ℕ) → ((p : ℕ) → times p xs ≤ times p ys) → length xs ≤ length ys
+pub no_longer : (xs ys : List ℕ) → ((p : ℕ) → times p xs ≤ times p ys) → length xs ≤ length ys
 no_longer [] ys h = omega arith
 no_longer (x ∷ xs) ys h =
     let own : (x == x) ≡ true = grind (arith, nat_tests) in
@@ -49,7 +49,7 @@ no_longer (x ∷ xs) ys h =
     let long = without_long x ys some in
     omega (arith, rest, long)
 
-those_times : (mine : ℕ → Bool) (p : ℕ) → mine p ≡ true → (xs : List ℕ) → times p (those mine xs) ≡ times p xs
+pub those_times : (mine : ℕ → Bool) (p : ℕ) → mine p ≡ true → (xs : List ℕ) → times p (those mine xs) ≡ times p xs
 those_times mine p is [] = refl
 those_times mine p is (x ∷ xs) = elim (mine x) as (λ b. mine x ≡ b → times p (if b then x ∷ those mine xs else those mine xs) ≡ (if p == x then 1 else 0) + times p xs) [
   | true ↦ λ _. ap (λ k. (if p == x then 1 else 0) + k) (those_times mine p is xs)
@@ -59,7 +59,7 @@ those_times mine p is (x ∷ xs) = elim (mine x) as (λ b. mine x ≡ b → time
   ] refl
 ] refl
 
-done_times : (mine : ℕ → Bool) (p : ℕ) → mine p ≡ true → (ds : List Done) → times p (map (λ d. d.number) (done_of mine ds)) ≡ times p (map (λ d. d.number) ds)
+pub done_times : (mine : ℕ → Bool) (p : ℕ) → mine p ≡ true → (ds : List Done) → times p (map (λ d. d.number) (done_of mine ds)) ≡ times p (map (λ d. d.number) ds)
 done_times mine p is ds = ap (times p) (same mine ds) ∙ those_times mine p is (map (λ d. d.number) ds)
   where
     same : (mine : ℕ → Bool) (ds : List Done) → map (λ d. d.number) (done_of mine ds) ≡ those mine (map (λ d. d.number) ds)

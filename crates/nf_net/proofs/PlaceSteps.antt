@@ -3,7 +3,7 @@ use Rattle.std.proofs.Common.{◌≡◌, ℕ, suc, ◌+◌, ◌⊎◌, inl, inr,
 use Rattle.std.specs.Prelude.{◌&&◌, ◌==◌}
 use Rattle.std.specs.List.{filter_map}
 use Rattle.std.specs.FinMap as finite
-use Rattle.std.proofs.lemmas.Bool.Decides.{nat_tests}
+use Rattle.std.proofs.lemmas.Bool.Decides.{nat_tests, Decides-eqb}
 use Rattle.nf_function.specs.Records.{Laws as FunctionLaws}
 use Rattle.nf_function.specs.Semantics.{Semantics}
 use Rattle.nf_function.specs.Units.{takes}
@@ -25,14 +25,14 @@ use Rattle.actor_net.specs.Network.{Network, waiting}
 use Rattle.actor_net.proofs.EnabledChoices.{at as at_node}
 use Rattle.unit_machine.proofs.Labels.{Each}
 use Rattle.abstract_net.proofs.Net.{Open, find_op}
-use Rattle.abstract_net.proofs.Places.{May_process, At_target, At_source, At_destination}
 use Rattle.abstract_net.proofs.Shares.{Any, Old, New, Open_share, moves_of}
+use Rattle.whole_net.proofs.MovePlaces.{May_run, At_route, At_destination}
 use Rattle.whole_net.proofs.PlacesAll.{ran_by}
 use Rattle.whole_net.proofs.Readings.{Its_share}
 use Rattle.net_world.specs.declared.config.Config.{Config}
 use Rattle.net_world.specs.declared.node.Node.{Node}
 use Rattle.net_world.specs.Input.{IsInput}
-use Rattle.net_world.specs.Places.{owner, members, unit_numbered, IsMoving, IsPlace, Owns, Is_source, Is_destination, Is_member}
+use Rattle.net_world.specs.Places.{is_at, owner, members, unit_numbered, IsMoving, IsPlace, Owns, Is_destination, Is_member}
 use Rattle.outline_net.proofs.FiltersApart.{is_whole, unit_fits, takes_whole, and_r}
 use Rattle.outline_net.proofs.Outline.{ran_in, is_sys, outline_instance}
 use Rattle.outline_net.proofs.ControlOutline.{Sees}
@@ -115,10 +115,19 @@ module _ {F R : Type 0} (f : Semantics R) (laws : FunctionLaws f) (c : Config) (
     by_target : j.world.target unit ≡ instance_node i → IsPlace c items f.kind number w.log i
     by_target at = Owns (node_same i (owner c items unit w.log) (j.world.target unit) (sym at) (owner_goes f c items is n w j unit fits (omega (arith, at))))
 
-    by_may : May_process (S f g) (moves_of (S f g) (A f g) j.world) unit (instance_node i) → IsPlace c items f.kind number w.log i
-    by_may (At_target at) = by_target at
-    by_may (At_source k e there taken at) = let m = open_at f laws c items is n w j busy unit k e there taken in Is_source m.source m.destination m.moving (m.from_is ∙ ap Some (node_same m.from i e.op.src (sym m.src) (sym at)))
-    by_may (At_destination k e there taken at) = let m = open_at f laws c items is n w j busy unit k e there taken in Is_destination m.source m.destination m.moving (m.to_is ∙ ap Some (node_same m.to i e.op.dst (sym m.dst) (sym at)))
+    -- the source of a move to which the unit's packets go owns it
+    covers : (source : List ℕ) (from : ℕ) → place_of c.names source ≡ Some from → j.world.target unit ≡ instance_node from → is_at (place_of c.names source) (owner c items unit w.log) ≡ true
+    covers source from from_is goes =
+        let owned : j.world.target unit ≡ instance_node (owner c items unit w.log) = owner_goes f c items is n w j unit fits (omega (arith, goes)) in
+        let same : owner c items unit w.log ≡ from = node_same (owner c items unit w.log) from (j.world.target unit) (sym owned) goes in
+        ap (λ o. is_at o (owner c items unit w.log)) from_is ∙ (Decides-eqb (owner c items unit w.log) from).1 same
+
+    by_may : May_run (S f g) (moves_of (S f g) (A f g) j.world) unit (instance_node i) → IsPlace c items f.kind number w.log i
+    by_may (At_route at) = by_target at
+    by_may (At_destination k e there taken goes at) =
+        let m = open_at f laws c items is n w j busy unit k e there taken in
+        let covered : is_at (place_of c.names m.source) (owner c items unit w.log) ≡ true = covers m.source m.from m.from_is (goes ∙ m.src) in
+        Is_destination m.source m.destination (record { moving = m.moving; covers = covered }) (m.to_is ∙ ap Some (node_same m.to i e.op.dst (sym m.dst) (sym at)))
 
     -- the share of the unit by the log
     by_there : (e : Open_share) → Its_share (S f g) (A f g) (is_sys f g.site g.packet) unit j.world e → (instance_node i ≡ e.home) ⊎ (instance_node i ≡ (A f g).member e.members number) → IsThere (members c items unit w.log) → IsPlace c items f.kind number w.log i

@@ -22,7 +22,7 @@ use Rattle.net_world.specs.Commands.{began, has_answered, is_busy, times_install
 use Rattle.net_world.specs.Input.{packet_of, commands, order_of, IsInput}
 use Rattle.net_world.specs.Log.{installed}
 use Rattle.net_world.specs.Nodes.{node_step, node_ready}
-use Rattle.net_world.specs.Places.{first_owner, owner_after, members_after, is_home, owner, members, member_for, unit_numbered, goes_to, IsMoving, IsPlace, Owns, Is_source, Is_destination, Is_member, ArePlaces}
+use Rattle.net_world.specs.Places.{first_owner, owner_after, members_after, is_home, owner, members, member_for, unit_numbered, goes_to, IsMoving, IsPlace, Owns, Is_destination, Is_member, ArePlaces}
 use Rattle.net_world.specs.Settles.{IsBehind, has_packet, NoneBegan, Settles}
 use Rattle.outline_net.proofs.StateOutline.{all_each}
 use Rattle.whole_joined.proofs.Given.{Given}
@@ -149,8 +149,7 @@ module _ (F : Type 0) {R : Type 0} (f : Semantics R) (laws : FunctionLaws f) (al
 
     by_place : IsPlace c items f.kind p before i → goes_to c items f.kind p before ≡ Some i
     by_place (Owns at) = owned at (members c items u before) refl
-    by_place (Is_source source destination m at) = absurd (not_moving source destination m)
-    by_place (Is_destination source destination m at) = absurd (not_moving source destination m)
+    by_place (Is_destination source destination m at) = absurd (not_moving source destination m.moving)
     by_place (Is_member at) = at
 
   pub settles : (cs : List Choice) → IsRun node_ready (node_step f) cs at_start → ArePlaces c items f.kind (run (node_step f) cs at_start).log → Settles c items f.kind (run (node_step f) cs at_start).log

@@ -26,13 +26,14 @@ use Rattle.net_world.specs.Input.{IsInput}
 use Rattle.net_world.specs.Log.{arrived, done}
 use Rattle.net_world.specs.Nodes.{node_step, node_ready, node_ended}
 use Rattle.net_world.specs.Start.{first_nodes, first_switch, started}
-use Rattle.net_world.specs.Window.{Window, AllHome, switch_in, switch_of}
+use Rattle.net_world.specs.Path.{all_of, on_links}
+use Rattle.net_world.specs.Window.{Window, AllHome, homeward, switch_in, switch_of}
 use Rattle.whole_joined.proofs.LogLemmas.{arrived-append, done-append}
 use Rattle.whole_joined.proofs.StartJoined.{given, all_fit, all_labelled, count_at_start}
 use Rattle.whole_joined.proofs.Given.{Given}
 use Rattle.whole_joined.proofs.Joined.{Label, Joined, node_of}
 use Rattle.whole_joined.proofs.BesideRuns.{its_takes, its_label, its_labels}
-use Rattle.whole_joined.proofs.RunsJoined.{Runs, runs_at_start, runs_next, start_world}
+use Rattle.whole_joined.proofs.RunsJoined.{Runs, runs_at_start, runs_next, run_beside, start_world}
 use Rattle.answer_net.proofs.CreditCounts.{credit, no_credit_from, no_credit_to, none_sent, instance_is}
 use Rattle.nf_net.proofs.WindowSteps.{controller_came, controller_went, switch_counts}
 use Rattle.nf_net.proofs.PacketCounts.{few_done}
@@ -112,6 +113,20 @@ module _ {F R : Type 0} (f : Semantics R) (g : Given) (n : ℕ) (window : ℕ) w
         balance = balance_after w k p (node_of j.nodes k) m rest takes h.switch.flying h.switch.flying h.balance (omega (arith, none, came, even));
       }
 
+-- what messages weigh as cells that go home is how many these are
+weigh_link : (ms : List Msg) → weigh credit ms ≡ length (all_of homeward ms)
+weigh_link [] = refl
+weigh_link (msg.Credit cell ∷ ms) = let rest = weigh_link ms in omega (arith, rest)
+weigh_link (m ∷ ms) = let rest = weigh_link ms in omega (arith, rest)
+
+weigh_links : (links : List (List Msg)) → weigh (weigh credit) links ≡ length (all_of (all_of homeward) links)
+weigh_links [] = refl
+weigh_links (ms ∷ links) =
+    let own = weigh_link ms in
+    let rest = weigh_links links in
+    let both = length-append (all_of homeward ms) (all_of (all_of homeward) links) in
+    omega (arith, own, rest, both)
+
 -- an input has no credits
 items_none : {R : Type 0} (f : Semantics R) (g : Given) (items : List Msg) → Each (Label f g 0 0) items → weigh credit items ≡ 0
 items_none f g [] h = refl
@@ -142,6 +157,16 @@ module _ (F : Type 0) {R : Type 0} (f : Semantics R) (laws : FunctionLaws f) (al
   in_window : (cs : List Choice) → IsRun node_ready (node_step f) cs start → InWindow c.window (run (node_step f) cs start)
   in_window cs run_is = (run_induction node_ready (node_step f) nodes (λ _ w. Runs F f laws alloc c items is w × InWindow c.window w) start (λ _ w k next h. (runs_next F f laws alloc c items is w k next.taking h.0, window_next w k next.taking h.0 h.1)) (start_world F f laws alloc c items is) (count_at_start F f alloc c items is) (runs_at_start F f laws alloc c items is, window_at_start) cs run_is).1
 
+  -- cells go home on links alone
+  credits_are : (cs : List Choice) (run_is : IsRun node_ready (node_step f) cs start) → total credit (run (node_step f) cs start) ≡ length (on_links (run (node_step f) cs start) homeward)
+  credits_are cs run_is =
+      let w = run (node_step f) cs start in
+      let j = (run_beside F f laws alloc c items is cs run_is).joined in
+      let count = (run_world node_ready (node_step f) nodes start (start_world F f laws alloc c items is) (count_at_start F f alloc c items is) cs run_is).1 in
+      let none = items_none f (given f c items is) w.input (j.labels 0 0 (omega (arith, count)) (omega (arith, count))) in
+      let links = weigh_links w.links in
+      omega (arith, none, links)
+
   switch_there : (cs : List Choice) (run_is : IsRun node_ready (node_step f) cs start) → switch_of (run (node_step f) cs start) ≡ Some (in_window cs run_is).switch
   switch_there cs run_is =
       let h = in_window cs run_is in
@@ -157,6 +182,7 @@ module _ (F : Type 0) {R : Type 0} (f : Semantics R) (laws : FunctionLaws f) (al
         switch = h.switch;
         switch_is = switch_there cs run_is;
         cells = h.home;
+        balance = h.balance ∙ ap (λ k. length (arrived (run (node_step f) cs start).log) + k) (credits_are cs run_is);
       }
 
   -- and a complete one has all cells at home

@@ -18,9 +18,10 @@ use Rattle.net_world.specs.declared.node.Node.{Node}
 use Rattle.net_world.specs.Commands.{Answers, answers_of, began, times_installed}
 use Rattle.net_world.specs.Fold.{IsFront, times, came, fold, given, outputs, path, went}
 use Rattle.net_world.specs.Input.{packets, order_of, ends_last}
-use Rattle.net_world.specs.Log.{arrived}
+use Rattle.net_world.specs.Log.{arrived, done}
 use Rattle.net_world.specs.Nodes.{node_step}
-use Rattle.net_world.specs.Places.{is_loose, ArePlaces, AreAtMembers}
+use Rattle.net_world.specs.Path.{under_way}
+use Rattle.net_world.specs.Places.{is_loose, owner, ArePlaces, AreAtMembers}
 use Rattle.net_world.specs.Records.{live_at, chunks_on_way, IsOfMove}
 use Rattle.net_world.specs.Refused.{StaysAtSource}
 use Rattle.net_world.specs.Seen.{HasRecord}
@@ -51,10 +52,12 @@ module _ {R : Type 0} (f : Semantics R) (config : Config) (items : List Msg) whe
     pub record_stands : (unit : units.Unit) → HasRecord f config items w unit
     -- and each chunk on its way is one of a unit that a move under way takes
     pub chunks_moved : All (IsOfMove config items w.log) (chunks_on_way w)
-    -- no more packets are under way than the window says
+    -- no more packets are under way than the window says, and at their places, whichever instance is read last, there are as many as came and
+    -- aren't processed
     pub window : Window config w
-    -- each packet was processed at the owner of its unit, at an instance of a move of the unit that was under way, or at its member of a share;
-    -- there it was if a share had its unit when it came
+    pub parcels : (one : ℕ) → length (under_way w (length config.names) one) + length (done w.log) ≡ length (arrived w.log)
+    -- each packet was processed at the owner of its unit, at the destination of a move under way that took the unit from there, or at its member
+    -- of a share; there it was if a share had its unit when it came
     pub places : ArePlaces config items f.kind w.log
     pub at_members : AreAtMembers config items f.kind w.log
     -- behind a settle, and before a later command begins, it was where the rules of the switch send it
@@ -75,6 +78,8 @@ module _ {R : Type 0} (f : Semantics R) (config : Config) (items : List Msg) whe
     pub each_once : (unit : units.Unit) (p : ℕ) → times p (went f config items unit w.log) ≡ times p (came f config items unit w.log)
     pub records_are : (unit : units.Unit) (i : ℕ) (r : R) → live_at w i unit ≡ Some r → fold f config items None (went f config items unit w.log) ≡ Some r
     pub has_record : (unit : units.Unit) (r : R) → fold f config items None (went f config items unit w.log) ≡ Some r → (i : ℕ) × (live_at w i unit ≡ Some r)
+    -- it is at the owner of the unit by the rules of the switch: after a move that is done not at the source, after a refused one still there
+    pub at_owner : (unit : units.Unit) (i : ℕ) (r : R) → live_at w i unit ≡ Some r → i ≡ owner config items unit w.log
     -- each command of the input was answered, if none stands behind its end
     pub answered : ends_last items ≡ true → (op : ℕ) (what : Order) → order_of items op ≡ Some what → length (answers_of op w.log) ≡ 1
     -- the switch changed its rules once for each move that is done

@@ -1,10 +1,11 @@
-ghost use Rattle.std.specs.Prelude.{◌≡◌, ◌≢◌, ℕ, List, IfOk};
+ghost use Rattle.std.specs.Prelude.{◌≡◌, ◌≢◌, ℕ, true, List, IfOk};
 ghost use Rattle.std.specs.declared.alloc.Global.{Global as AnAllocator};
 ghost use Rattle.nf_msgs.specs.declared.msg.Msg.{Msg as AMessage};
+ghost use Rattle.actor_net.specs.Network.{is_done};
 ghost use Rattle.actor_net.specs.Replays.{replayed};
 ghost use Rattle.net_world.specs.declared.config.Config.{Config as AConfig};
 ghost use Rattle.net_world.specs.Input.{IsInput};
-ghost use Rattle.net_world.specs.Nodes.{node_ready, node_step};
+ghost use Rattle.net_world.specs.Nodes.{node_ended, node_ready, node_step};
 ghost use Rattle.nf_net.specs.Promises.{Completed, Promises};
 ghost use Rattle.net_world.specs.Runs.{chosen, EndsIn, StopsAt};
 ghost use Rattle.nf_net.specs.Promises.{Standbys};
@@ -50,6 +51,8 @@ pub fn run_choices<F: Function>(
     ensures promises { (alloc : AnAllocator) (config : AConfig) (items : List AMessage) → IsInput F.semantics.kind config items → world ≡ started alloc config items → IfOk result (λ reached. Promises F.semantics config items reached) }
     ensures verdicts { (alloc : AnAllocator) (config : AConfig) (items : List AMessage) → IsInput F.semantics.kind config items → world ≡ started alloc config items → IfOk result (λ reached. Verdicts F.semantics world choices.now config items) }
     ensures standbys { (alloc : AnAllocator) (config : AConfig) (items : List AMessage) → IsInput F.semantics.kind config items → world ≡ started alloc config items → IfOk result (λ reached. Standbys F.semantics world choices.now config items) }
+    ensures completed { (alloc : AnAllocator) (config : AConfig) (items : List AMessage) → IsInput F.semantics.kind config items → world ≡ started alloc config items → IfOk result (λ reached. is_done node_ended reached ≡ true → Completed F.semantics config items reached) }
+    ensures home { (alloc : AnAllocator) (config : AConfig) (items : List AMessage) → IsInput F.semantics.kind config items → world ≡ started alloc config items → IfOk result (λ reached. is_done node_ended reached ≡ true → AllHome config reached) }
 {
     replay(world, choices)
 }

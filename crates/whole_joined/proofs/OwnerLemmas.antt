@@ -7,6 +7,7 @@ use Rattle.nf_function.specs.declared.kind.Kind.{Kind}
 use Rattle.nf_function.specs.declared.kind.Kind.TheVariants.{Conntrack, Nat, Monitor}
 use Rattle.nf_function.specs.declared.unit.Unit as units
 use Rattle.nf_function.specs.Units.{unit_of}
+use Rattle.ctrl_node.specs.Controller.{place_of}
 use Rattle.nf_msgs.specs.declared.command.Order.{Order}
 use Rattle.nf_msgs.specs.declared.msg.Msg.{Msg}
 use Rattle.nf_msgs.specs.declared.note.Note.{Note}
@@ -16,7 +17,7 @@ use Rattle.net_world.specs.declared.config.Config.{Config}
 use Rattle.net_world.specs.Input.{order_of, packet_of}
 use Rattle.net_world.specs.Log.{has_begun, installed}
 use Rattle.net_world.specs.Commands.{has_answered, is_busy}
-use Rattle.net_world.specs.Places.{first_owner, handed_on, owner_after, hands_on_plain, loose_after, members_after, member_for, unit_numbered, goes_to, IsMoving, IsPlace, Owns, Is_source, Is_destination, Is_member}
+use Rattle.net_world.specs.Places.{first_owner, handed_on, owner_after, hands_on_plain, loose_after, members_after, member_for, unit_numbered, goes_to, is_at, IsMoving, IsPlace, Owns, Is_destination, Is_member}
 use Rattle.outline_net.proofs.FiltersApart.{flow_fits, unit_fits, and_l, and_r}
 use Rattle.whole_joined.proofs.PlaceNotes.{IsQuiet, is_uninstalled}
 
@@ -139,8 +140,12 @@ module _ (config : Config) (items : List Msg) where
   place_quiet kind number k xs ys i h (Owns e) =
       let u = unit_numbered config items kind number in
       Owns (e ∙ ap (owner_after config.names (order_of items) u (first_owner u config.routes)) (sym (installed_same xs ys (installed_quiet k ys h))))
-  place_quiet kind number k xs ys i h (Is_source source destination m e) = Is_source source destination (moving_quiet (unit_numbered config items kind number) k xs ys source destination h m) e
-  place_quiet kind number k xs ys i h (Is_destination source destination m e) = Is_destination source destination (moving_quiet (unit_numbered config items kind number) k xs ys source destination h m) e
+  place_quiet kind number k xs ys i h (Is_destination source destination m e) =
+      let u = unit_numbered config items kind number in
+      Is_destination source destination (record {
+        moving = moving_quiet u k xs ys source destination h m.moving;
+        covers = ap (λ ops. is_at (place_of config.names source) (owner_after config.names (order_of items) u (first_owner u config.routes) ops)) (installed_same xs ys (installed_quiet k ys h)) ∙ m.covers;
+      }) e
   place_quiet kind number k xs ys i h (Is_member e) = Is_member (goes_same kind number xs ys (installed_quiet k ys h) ∙ e)
 
 -- where in two lists one behind the other an element stands

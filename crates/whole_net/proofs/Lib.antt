@@ -1,5 +1,6 @@
 pub mod WhereAll
 pub mod Readings
+pub mod RoutedSteps
 pub mod MovePlaces
 pub mod PlacesAll
 pub mod Fronts

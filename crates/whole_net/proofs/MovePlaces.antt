@@ -1,4 +1,4 @@
--- Of one unit in a world of moves: where an instance processes packets of it, it may do so (`May_process`), and its record is the fold of all that
+-- Of one unit in a world of moves: where an instance processes packets of it, it may do so (`May_run`), and its record is the fold of all that
 -- was done before.
 use Rattle.std.proofs.Common.{◌≡◌, ◌≢◌, ℕ, suc, Bool, true, false, Option, Some, None, List, [], ◌∷◌, refl, sym, ap, ◌∙◌, subst, arith}
 use Rattle.std.specs.Prelude.{◌==◌}
@@ -21,7 +21,7 @@ use Rattle.abstract_net.proofs.Rest.{Rest, Global, none_mine, same_mine, done_u,
 use Rattle.abstract_net.proofs.Readings.{fold, fold_runs}
 use Rattle.abstract_net.proofs.Units.{Where, Where.At_rest, Where.In_move, shown_rest, see}
 use Rattle.abstract_net.proofs.Fresh.{some_seen}
-use Rattle.abstract_net.proofs.Places.{May_process, At_target, At_source, At_destination}
+use Rattle.whole_net.proofs.RoutedSteps.{Routed, To_source, To_destination, source_routed, destination_routed}
 use Rattle.nf_function.specs.declared.unit.Unit as units
 use Rattle.nf_msgs.specs.declared.answer.Answer.{Answer}
 
@@ -85,11 +85,33 @@ module _ {R : Type 0} (S : Sys R) (laws : IsSys S) (z : Seeing) (w : World S) (s
     by_link (By_cc e _ _) = falsely (sym y1 ∙ ap (λ q. q == 1) e)
     by_link (By_cs e _ _) = falsely (sym y0 ∙ ap (λ q. q == 0) e)
 
-  -- the link that shows the message, and the record of the instance that takes it
+  -- the instance is where the unit's packets go, or the destination while they go to the source
+  pub data Is_placed : Type 0 where
+    Routed_here : place S z x.target ≡ y → Is_placed
+    Moved_here : place S z x.target ≡ z.op.src → y ≡ z.op.dst → Is_placed
+
+  by_route : y ≡ z.op.dst → Routed x → Is_placed
+  by_route yb (To_source t) = Moved_here (ap (place S z) t) yb
+  by_route yb (To_destination t) = Routed_here (ap (place S z) t ∙ sym yb)
+
+  module _ (it : Item R) (is : seen (frame S z) m ≡ Some it) where
+    placed : Shown_by z.op.src z.op.dst z.third x p y (it ∷ items (seen (frame S z)) rest) → Is_placed
+    placed (By_sa ya p0 e) = let at = is_src S laws z w s h p y m rest y0 y1 waits it is ya in let g = its_ran it is At_a x.a at in Routed_here (ap (place S z) (source_routed S.F s it (items (seen (frame S z)) rest) g.parts g.refuse e g.runs) ∙ sym ya)
+    placed (By_sb yb p0 e) = let at = is_dst S laws z w s h p y m rest y0 y1 waits it is yb in let g = its_ran it is At_b x.b at in by_route yb (destination_routed S.F s it (items (seen (frame S z)) rest) g.parts g.refuse e g.runs)
+    placed (By_sc yc p0 e) = Routed_here (ap (place S z) (third_target S.F s it (items (seen (frame S z)) rest) e) ∙ sym yc)
+    placed (By_ca ya p1 e) = let g = its_ran it is At_a x.a (is_src S laws z w s h p y m rest y0 y1 waits it is ya) in absurd (g.runs (still_ran S.F At_a g.parts g.refuse x.a it (still_ca S.F s it (items (seen (frame S z)) rest) e)))
+    placed (By_cb yb p1 e) = let g = its_ran it is At_b x.b (is_dst S laws z w s h p y m rest y0 y1 waits it is yb) in absurd (g.runs (still_ran S.F At_b g.parts g.refuse x.b it (still_cb S.F s it (items (seen (frame S z)) rest) e)))
+    placed (By_ac e _ _) = falsely (sym y1 ∙ ap (λ q. q == 1) e)
+    placed (By_bc e _ _) = falsely (sym y1 ∙ ap (λ q. q == 1) e)
+    placed (By_cc e _ _) = falsely (sym y1 ∙ ap (λ q. q == 1) e)
+    placed (By_cs e _ _) = falsely (sym y0 ∙ ap (λ q. q == 0) e)
+
+  -- the link that shows the message, and the place and the record of the instance that takes it
   pub record Met : Type 0 where
     pub item : Item R
     pub left_there : List (Item R)
     pub link : Shown_by z.op.src z.op.dst z.third x p y (item ∷ left_there)
+    pub at : Is_placed
     pub live : S.B.at z.unit (w.inst y).live ≡ fold S.F None (done_u S z.unit w.done)
 
   pub met : Met
@@ -100,22 +122,28 @@ module _ {R : Type 0} (S : Sys R) (laws : IsSys S) (z : Seeing) (w : World S) (s
         item = i.0;
         left_there = items (seen (frame S z)) rest;
         link = link;
+        at = placed i.0 i.1 link;
         live = (h.insts y).live ∙ by_link i.0 i.1 link ∙ fold_runs S.F None x.done ∙ ap (λ d. fold S.F None d) (sym (same_done S z w.done ∙ h.done));
       }
 
+-- where a packet of the unit may be processed: where its packets go, and at the destination of an open move of it as long as they go to the
+-- move's source
+module _ {R : Type 0} (S : Sys R) where
+  pub data May_run (w : World S) (u : units.Unit) (y : ℕ) : Type 0 where
+    At_route : w.target u ≡ y → May_run w u y
+    At_destination : (n : ℕ) (e : Open R) → find_op w.ops n ≡ Some e → S.takes e.filter u ≡ true → w.target u ≡ e.op.src → y ≡ e.op.dst → May_run w u y
+
 module _ {R : Type 0} (S : Sys R) (laws : IsSys S) (u : units.Unit) (w : World S) where
   pub record Processed (y : ℕ) : Type 0 where
-    pub place : May_process S w u y
+    pub place : May_run S w u y
     pub live : S.B.at u (w.inst y).live ≡ fold S.F None (done_u S u w.done)
 
   module _ (p y : ℕ) (m : Msg R) (rest : List (Msg R)) (y0 : (y == 0) ≡ false) (y1 : (y == 1) ≡ false) (waits : w.link p y ≡ m ∷ rest) (some : none_mine S u (inst_step S (w.inst y) m).ran ≢ []) where
-    -- at a side of an open move, or at the third instance, where the unit's packets go
-    in_move : (op : Op) (third : ℕ) (e : Open R) (s : Seat S.F) → find_op w.ops op.num ≡ Some e → Holds S (see S laws u op third) w (seat_shape S.F s) → (it : Item R) (v : List (Item R)) → Shown_by op.src op.dst third (seat_shape S.F s) p y (it ∷ v) → May_process S w u y
-    in_move op third e s there h it v link = by_link link
+    -- where its packets go, or at the destination of an open move
+    in_move : (op : Op) (third : ℕ) (e : Open R) (s : Seat S.F) → find_op w.ops op.num ≡ Some e → (h : Holds S (see S laws u op third) w (seat_shape S.F s)) → Is_placed S laws (see S laws u op third) w s h p y m rest y0 y1 waits some → May_run S w u y
+    in_move op third e s there h (Routed_here at) = At_route (h.target ∙ at)
+    in_move op third e s there h (Moved_here goes at) = At_destination op.num e there takes (h.target ∙ goes ∙ ap (λ o. o.src) (sym same)) (at ∙ ap (λ o. o.dst) (sym same))
       where
-        z : Seeing
-        z = see S laws u op third
-
         found : Op_label S (see S laws u op third) e × ((e.op.num == op.num) ≡ true)
         found = each_found (Op_label S (see S laws u op third)) op.num w.ops e h.ops there
 
@@ -125,25 +153,8 @@ module _ {R : Type 0} (S : Sys R) (laws : IsSys S) (u : units.Unit) (w : World S
         same : e.op ≡ op
         same = (subst (λ f. Ctrl_is S (see S laws u op third) f (seat_shape S.F s)) there h.ctrl).0
 
-        source : y ≡ op.src → May_process S w u y
-        source at = At_source op.num e there takes (at ∙ ap (λ o. o.src) (sym same))
-
-        destination : y ≡ op.dst → May_process S w u y
-        destination at = At_destination op.num e there takes (at ∙ ap (λ o. o.dst) (sym same))
-
-        by_link : Shown_by op.src op.dst third (seat_shape S.F s) p y (it ∷ v) → May_process S w u y
-        by_link (By_sa at p0 e) = source at
-        by_link (By_sb at p0 e) = destination at
-        by_link (By_sc at p0 e) = At_target (h.target ∙ ap (place S (see S laws u op third)) (third_target S.F s it v e) ∙ sym at)
-        by_link (By_ca at p1 e) = source at
-        by_link (By_cb at p1 e) = destination at
-        by_link (By_ac e _ _) = falsely (sym y1 ∙ ap (λ q. q == 1) e)
-        by_link (By_bc e _ _) = falsely (sym y1 ∙ ap (λ q. q == 1) e)
-        by_link (By_cc e _ _) = falsely (sym y1 ∙ ap (λ q. q == 1) e)
-        by_link (By_cs e _ _) = falsely (sym y0 ∙ ap (λ q. q == 0) e)
-
-    at_rest : (owner : ℕ) (d : List Ran) (l : List ℕ) → Rest S u w owner d l → (it : Item R) (v : List (Item R)) → Shown_by owner (suc owner) (suc (suc owner)) (seat_shape S.F (seat_at S.F At_a d l true)) p y (it ∷ v) → May_process S w u y
-    at_rest owner d l h it v (By_sa at p0 e) = At_target (h.target ∙ sym at)
+    at_rest : (owner : ℕ) (d : List Ran) (l : List ℕ) → Rest S u w owner d l → (it : Item R) (v : List (Item R)) → Shown_by owner (suc owner) (suc (suc owner)) (seat_shape S.F (seat_at S.F At_a d l true)) p y (it ∷ v) → May_run S w u y
+    at_rest owner d l h it v (By_sa at p0 e) = At_route (h.target ∙ sym at)
     at_rest owner d l h it v (By_sb at p0 e) = cons_nil e
     at_rest owner d l h it v (By_sc at p0 e) = cons_nil e
     at_rest owner d l h it v (By_ca at p1 e) = cons_nil e
@@ -160,4 +171,4 @@ module _ {R : Type 0} (S : Sys R) (laws : IsSys S) (u : units.Unit) (w : World S
         record { place = at_rest owner d l h k.item k.left_there k.link; live = k.live }
     processed_where ps c g (In_move op third e s b there h o f c') =
         let k = met S laws (see S laws u op third) w s h p y m rest y0 y1 waits some in
-        record { place = in_move op third e s there h k.item k.left_there k.link; live = k.live }
+        record { place = in_move op third e s there h k.at; live = k.live }

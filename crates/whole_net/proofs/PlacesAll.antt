@@ -8,7 +8,6 @@ use Rattle.share_machine.proofs.Places.{At_places, Grows}
 use Rattle.abstract_net.proofs.Net.{Sys, IsSys, inst_step, at_node}
 use Rattle.abstract_net.proofs.Rest.{none_mine, done_u}
 use Rattle.abstract_net.proofs.Readings.{fold}
-use Rattle.abstract_net.proofs.Places.{May_process}
 use Rattle.abstract_net.proofs.GlobalAll.{Global_all}
 use Rattle.abstract_net.proofs.Untaken.{No_share, head_none}
 use Rattle.abstract_net.proofs.ShareViews.{share_frame}
@@ -19,7 +18,7 @@ use Rattle.abstract_net.proofs.Shares.{Any, Any.Old, Any.New, Share_msg, Share_m
 use Rattle.whole_net.proofs.WhereAll.{Came, Where_all, Apart_from_shares, Under_share}
 use Rattle.whole_net.proofs.Readings.{fold_done, seen_by, Its_share, its_share}
 use Rattle.whole_net.proofs.Fronts.{ran_more}
-use Rattle.whole_net.proofs.MovePlaces.{processed_where}
+use Rattle.whole_net.proofs.MovePlaces.{May_run, processed_where}
 use Rattle.nf_function.specs.declared.unit.Unit as units
 use Rattle.record_table.specs.Table.{same_unit}
 
@@ -45,7 +44,7 @@ module _ {R : Type 0} (S : Sys R) (A : Sharing S) (laws : IsSys S) where
 
   -- where an instance processes packets of the unit; under a share each of them at home or at its member
   pub data Processes (w : Whole S A) (u : units.Unit) (y : ℕ) (ps : List ℕ) : Type 0 where
-    As_moves : May_process S (moves_of S A w) u y → S.B.at u (w.inst y).live ≡ fold S.F None (done_u S u w.done) → Processes w u y ps
+    As_moves : May_run S (moves_of S A w) u y → S.B.at u (w.inst y).live ≡ fold S.F None (done_u S u w.done) → Processes w u y ps
     At_member : (e : Open_share) → Its_share S A laws u w e → has e.members y ≡ true → At_places (share_frame S A (seen_by S A laws u e)) (ran_of S A u (at_node y ps)) → record_of_member w u (y == e.home) y ≡ fold S.F None (done_u S u w.done) → Processes w u y ps
 
   module _ (u : units.Unit) where

@@ -1,5 +1,5 @@
 -- The choices that are replayed to their end are a run.
-use Rattle.nf_net.proofs.EveryRun.{replay_keeps, replay_judges, replay_stands}
+use Rattle.nf_net.proofs.EveryRun.{replay_keeps, replay_judges, replay_stands, replay_completes, replay_homes}
 use Rattle.nf_net.proofs.run.run_choices.Goals as goal
 
 pub returns-clause-promises : goal.returns-clause-promises
@@ -10,3 +10,9 @@ returns-clause-verdicts g c alloc config items is start = replay_judges g.row.F.
 
 pub returns-clause-standbys : goal.returns-clause-standbys
 returns-clause-standbys g c alloc config items is start = replay_stands g.row.F.Denot g.F.Function.semantics g.met.F.Function.laws alloc config items is c.args.choices.now c.args.world c.replay.result start c.replay.ensures
+
+pub returns-clause-completed : goal.returns-clause-completed
+returns-clause-completed g c alloc config items is start = replay_completes g.row.F.Denot g.F.Function.semantics g.met.F.Function.laws alloc config items is c.args.choices.now c.args.world c.replay.result start c.replay.ensures
+
+pub returns-clause-home : goal.returns-clause-home
+returns-clause-home g c alloc config items is start = replay_homes g.row.F.Denot g.F.Function.semantics g.met.F.Function.laws alloc config items is c.args.choices.now c.args.world c.replay.result start c.replay.ensures
