@@ -153,6 +153,7 @@ impl<K: Ord + Hash + Copy> Index<K> {
     }
 
     /// The place of a key's entry, which is added without a record where the key has none. Other entries stay where they are.
+    #[inline(always)]
     pub fn place_in<R: Drop>(
         &mut self,
         entries: &mut Vec<(K, Option<R>)>,
@@ -173,6 +174,7 @@ impl<K: Ord + Hash + Copy> Index<K> {
     }
 
     /// Adds an entry without a record, for a key that has no entry, and gives its place.
+    #[inline(always)]
     pub fn add<R: Drop>(
         &mut self,
         entries: &mut Vec<(K, Option<R>)>,
@@ -255,6 +257,7 @@ impl<K: Ord + Hash + Copy> Index<K> {
     }
 
     /// Notes the number of a key's entry, in the first free slot of the key's window, or in the tree.
+    #[inline(always)]
     fn note(&mut self, key: K, number: u32) -> Result<(), NoMemory>
         requires room { WINDOW ≤ vec_len self.old.slots }
         requires counted { 0 < number }
