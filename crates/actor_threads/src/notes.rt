@@ -43,6 +43,7 @@ impl Counts {
         }
     }
 
+    #[inline(always)]
     fn push(&mut self, count: u32) -> Result<(), NoMemory>
         ensures ok { OnOk result (self.new ≡ self.old ++ count ∷ []) }
         ensures err { OnErr result (self.new ≡ self.old) }
@@ -135,6 +136,7 @@ impl<N: Drop> Notes<N> {
     }
 
     /// Moves what a step noted behind what the steps before it noted.
+    #[inline(always)]
     pub fn add<M>(&mut self, out: &mut Outbox<M, N>) -> Result<(), NoMemory>
         ensures list { OnOk result (self.new ≡ self.old ++ out.old.1 ∷ []) }
         ensures sent { out.new.0 ≡ out.old.0 }
