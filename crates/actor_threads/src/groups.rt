@@ -74,6 +74,7 @@ impl<A: Actor> Member<A> {
     }
 
     /// A turn: some steps, and then what they sent is sent. Tells whether there was a step.
+    #[inline(always)]
     pub(crate) fn turn<R: Wait, G: Gate>(&mut self, rt: &R, gate: &G) -> bool
         ensures { GoesOn A.is_ready A.stepped self.old self.new }
     {
@@ -83,6 +84,7 @@ impl<A: Actor> Member<A> {
     }
 
     // Does some steps, and tells whether it did any.
+    #[inline(always)]
     fn steps<R: Wait, G: Gate>(&mut self, rt: &R, gate: &G) -> bool
         ensures { GoesOn A.is_ready A.stepped self.old self.new }
     {
@@ -97,6 +99,7 @@ impl<A: Actor> Member<A> {
     }
 
     // Does a step where there is something to do, and tells whether it did.
+    #[inline(always)]
     fn act<R: Wait, G: Gate>(&mut self, rt: &R, gate: &G) -> bool
         ensures { GoesOn A.is_ready A.stepped self.old self.new }
     {
@@ -210,6 +213,7 @@ fn run_group<R: Wait, A: Actor, G: Gate>(
 }
 
 // A turn of each worker of a group. Tells whether one did a step.
+#[inline(always)]
 fn turn_all<R: Wait, A: Actor, G: Gate>(rt: &R, gate: &G, members: &mut [Member<A>]) -> bool
     ensures { AllGoOn A.is_ready A.stepped members.old members.new }
 {

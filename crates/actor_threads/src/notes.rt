@@ -45,6 +45,7 @@ impl Counts {
     }
 
     /// Adds the count of one more step.
+    #[inline(always)]
     fn push(&mut self, count: u32) -> Result<(), NoMemory>
         ensures ok { OnOk result (self.new ≡ self.old ++ count ∷ []) }
         ensures err { OnErr result (self.new ≡ self.old) }
@@ -139,6 +140,7 @@ impl<N: Drop> Notes<N> {
     }
 
     /// Moves what a step noted to the end of what the steps before it noted.
+    #[inline(always)]
     pub fn add<M>(&mut self, out: &mut Outbox<M, N>) -> Result<(), NoMemory>
         ensures list { OnOk result (self.new ≡ self.old ++ out.old.1 ∷ []) }
         ensures sent { out.new.0 ≡ out.old.0 }

@@ -49,6 +49,7 @@ impl<M: Drop> WayIn<M> {
     }
 
     /// The first of what is kept, if a step could take it.
+    #[inline(always)]
     pub fn first(&self) -> Option<&M>
         ensures { MatchOption result (IsBlocked self.now) (λ x. (clock : ℕ) × (rest : List (Stamped M)) × (self.now.kept ≡ record { clock = clock; message = x.now } ∷ rest)) }
     {
@@ -67,6 +68,7 @@ impl<M: Drop> WayIn<M> {
     }
 
     /// The next of what is kept, taken out.
+    #[inline(always)]
     pub fn next_kept(&mut self) -> Option<Stamped<M>>
         ensures some { MatchOption result (self.new ≡ self.old) (λ x. (x.clock < last_clock) × (self.old.kept ≡ x ∷ self.new.kept)) }
         ensures none { IfNone result (IsBlocked self.old) }
@@ -80,6 +82,7 @@ impl<M: Drop> WayIn<M> {
 
     /// The next message: of what is kept, or where nothing is, of the take end. The room of a batch that is used up goes to
     /// `rooms`.
+    #[inline(always)]
     pub fn next_taken<R: Wait>(&mut self, rt: &R, rooms: &mut Rooms<M>) -> Option<Stamped<M>>
         ensures { MatchOption result (Draws self.old self.new []) (λ x. (x.clock < last_clock) × Draws self.old self.new (x ∷ [])) }
     {
@@ -91,6 +94,7 @@ impl<M: Drop> WayIn<M> {
     }
 
     /// Whether nothing is kept.
+    #[inline(always)]
     fn is_used_up(&self) -> bool
         ensures { result ≡ true → self.now.kept ≡ [] }
     {
@@ -98,6 +102,7 @@ impl<M: Drop> WayIn<M> {
     }
 
     /// The first message of the next batch.
+    #[inline(never)]
     fn next_of_end<R: Wait>(&mut self, rt: &R, rooms: &mut Rooms<M>) -> Option<Stamped<M>>
         requires { self.old.kept ≡ [] }
         ensures { MatchOption result (Draws self.old self.new []) (λ x. (x.clock < last_clock) × Draws self.old self.new (x ∷ [])) }
@@ -136,6 +141,7 @@ pub fn append<M: Drop>(list: &mut VecDeque<M>, more: Vec<Stamped<M>>) -> Result<
 }
 
 /// The next message of a batch. One with the last clock stays there.
+#[inline(always)]
 fn next_of<M: Drop>(batch: &mut VecDeque<Stamped<M>>) -> Option<Stamped<M>>
     ensures some { MatchOption result (batch.new.items ≡ batch.old.items) (λ x. (x.clock < last_clock) × (batch.old.items ≡ x ∷ batch.new.items)) }
     ensures none { IfNone result ((x : Stamped M) (rest : List (Stamped M)) → batch.old.items ≡ x ∷ rest → last_clock ≤ x.clock) }
@@ -147,6 +153,7 @@ fn next_of<M: Drop>(batch: &mut VecDeque<Stamped<M>>) -> Option<Stamped<M>>
 }
 
 /// The first of a list, where one is there.
+#[inline(always)]
 fn front<T>(list: &VecDeque<T>) -> Option<&T>
     ensures { MatchOption result (list.now.items ≡ []) (λ x. list.now.items ≡ x.now ∷ drop 1 list.now.items) }
 {
@@ -186,6 +193,7 @@ impl<M: Drop> WayOut<M> {
 
     /// Puts a message after those that wait, and sends these as soon as there are [`BURST`] of them. Where there is no room for
     /// it, that of `rooms` is used.
+    #[inline(always)]
     pub fn push<R: Wait>(
         &mut self,
         rt: &R,
@@ -204,6 +212,7 @@ impl<M: Drop> WayOut<M> {
     }
 
     /// Finds room for a burst, where nothing waits.
+    #[inline(never)]
     fn find_room(&mut self, rooms: &mut Rooms<M>) -> Result<(), NoMemory>
         ensures { self.new ≡ self.old }
     {
@@ -225,6 +234,7 @@ impl<M: Drop> WayOut<M> {
     }
 
     /// Sends what waits, where that is a burst.
+    #[inline(always)]
     fn flush_burst<R: Wait>(&mut self, rt: &R)
         ensures { self.new ≡ self.old }
     {
@@ -234,6 +244,7 @@ impl<M: Drop> WayOut<M> {
     }
 
     /// Whether something waits.
+    #[inline(always)]
     pub fn waits(&self) -> bool {
         !self.waiting.is_empty()
     }
@@ -247,6 +258,7 @@ impl<M: Drop> WayOut<M> {
     }
 
     /// Sends what waits, if the link has room.
+    #[inline(never)]
     pub fn flush<R: Wait>(&mut self, rt: &R)
         ensures { self.new ≡ self.old }
     {

@@ -118,6 +118,7 @@ impl<A: Actor> Worker<A> {
 
     /// Looks for a message, and does a step where one is found: whether it did. `moved` says that it did one before in this
     /// round. After it ran out of memory the worker is only taken apart.
+    #[inline(always)]
     pub fn act<R: Wait, G: Gate>(&mut self, rt: &R, gate: &G, moved: bool) -> Result<bool, NoMemory>
         ensures stepped { result ≡ Ok true → DoesStep A.is_ready A.stepped self.old self.new }
         ensures idle { result ≡ Ok false → Idled self.old self.new }
@@ -140,6 +141,7 @@ impl<A: Actor> Worker<A> {
         self.steps.as_slice()
     }
 
+    #[inline(always)]
     fn pass<G: Gate>(&self, gate: &G) {
         gate.pass(self.number, self.steps.len() as u64);
     }
@@ -163,6 +165,7 @@ impl<A: Actor> Worker<A> {
 
     // A message for the next step: first the input and what is kept, and then what the take ends give. Once a step was done,
     // kept lists that were found empty aren't looked at.
+    #[inline(always)]
     fn look<R: Wait>(&mut self, rt: &R, moved: bool) -> Option<(u8, Stamped<A::Message>)>
         ensures found { MatchOption result (Idled self.old self.new) (λ f. Found A.is_ready self.old self.new f.0 f.1) }
         ensures clock { IfSome result (λ f. self.new.clock < last_clock) }
@@ -181,6 +184,7 @@ impl<A: Actor> Worker<A> {
     }
 
     // The same where nothing but the input may be kept.
+    #[inline(always)]
     fn look_moved<R: Wait>(&mut self, rt: &R) -> Option<(u8, Stamped<A::Message>)>
         ensures { MatchOption result (Idled self.old self.new) (λ f. Found A.is_ready self.old self.new f.0 f.1) }
     {
@@ -192,6 +196,8 @@ impl<A: Actor> Worker<A> {
         self.look_taken(rt)
     }
 
+    #[cold]
+    #[inline(never)]
     fn look_kept(&mut self) -> Option<(u8, Stamped<A::Message>)>
         ensures found { MatchOption result (self.new ≡ self.old) (λ f. Found A.is_ready self.old self.new f.0 f.1) }
         ensures quiet { IfNone result (IsQuiet A.is_ready self.old) }
@@ -228,6 +234,7 @@ impl<A: Actor> Worker<A> {
         }
     }
 
+    #[inline(always)]
     fn is_input(&self, port: usize) -> bool
         ensures { result ≡ is_input_of self.now.number port }
     {
@@ -235,6 +242,7 @@ impl<A: Actor> Worker<A> {
     }
 
     // The next item of the input, where the node is ready for it.
+    #[inline(always)]
     fn next_item(&mut self) -> Option<Stamped<A::Message>>
         requires { (self.old.number ≡ 0) × (0 < length self.old.ins) }
         ensures found { MatchOption result (self.new ≡ self.old) (λ x. Found A.is_ready self.old self.new 0 x) }
@@ -257,6 +265,7 @@ impl<A: Actor> Worker<A> {
         self.ins[port].next_kept()
     }
 
+    #[inline(always)]
     fn look_taken<R: Wait>(&mut self, rt: &R) -> Option<(u8, Stamped<A::Message>)>
         ensures { MatchOption result (Idled self.old self.new) (λ f. Found A.is_ready self.old self.new f.0 f.1) }
     {
@@ -271,6 +280,7 @@ impl<A: Actor> Worker<A> {
     }
 
     // The port at which the next look begins.
+    #[inline(always)]
     fn next_turn(&mut self) -> usize
         requires { 0 < length self.old.ins }
         ensures port { result < length self.old.ins }
@@ -286,6 +296,7 @@ impl<A: Actor> Worker<A> {
     }
 
     // Lets the next look begin at a port that gave a message, but for the last of so many.
+    #[inline(always)]
     fn stay(&mut self, port: usize)
         ensures { self.new ≡ self.old }
     {
@@ -298,6 +309,7 @@ impl<A: Actor> Worker<A> {
     }
 
     // The next message from the take end of a port. The input has none.
+    #[inline(always)]
     fn next_taken<R: Wait>(&mut self, rt: &R, port: usize) -> Option<Stamped<A::Message>>
         requires { port < length self.old.ins }
         ensures { MatchOption result (Idled self.old self.new) (λ x. Found A.is_ready self.old self.new port x) }
@@ -308,6 +320,7 @@ impl<A: Actor> Worker<A> {
         self.end_at(rt, port)
     }
 
+    #[inline(always)]
     fn end_at<R: Wait>(&mut self, rt: &R, port: usize) -> Option<Stamped<A::Message>>
         requires { (is_input_of self.old.number port ≡ false) × (port < length self.old.ins) }
         ensures { MatchOption result (Idled self.old self.new) (λ x. Found A.is_ready self.old self.new port x) }
@@ -316,6 +329,7 @@ impl<A: Actor> Worker<A> {
     }
 
     // Does one step: the node takes the message, and what it sends carries the step's clock.
+    #[inline(always)]
     fn step<R: Wait>(&mut self, rt: &R, port: u8, took: Stamped<A::Message>) -> Result<(), NoMemory>
         requires clock { self.old.clock < last_clock }
         requires stamp { took.clock < last_clock }
@@ -389,6 +403,7 @@ fn ways_out<M: Drop>(
     Ok(ways)
 }
 
+#[inline(always)]
 fn next_clock(clock: u64, stamp: u64) -> u64
     requires { (clock < last_clock) × (stamp < last_clock) }
     ensures { result ≡ max clock stamp + 1 }
@@ -397,6 +412,7 @@ fn next_clock(clock: u64, stamp: u64) -> u64
 }
 
 // Puts what a step sent on the ways out. What no node takes is dropped.
+#[inline(always)]
 fn put_all<R: Wait, M: Drop, N>(
     rt: &R,
     from: u8,
