@@ -167,7 +167,7 @@ impl<A: Actor> World<A> {
         }
     }
 
-    // Where the node or a link fails, what is left of what was sent is dropped.
+    /// Where the node or a link fails, what is left of what was sent is dropped.
     #[inline(always)]
     fn step(&mut self, choice: Choice, message: A::Message) -> Result<(), NoMemory>
         requires { choice.node < length self.old.nodes }
@@ -186,7 +186,7 @@ impl<A: Actor> World<A> {
         )
     }
 
-    // Whether node 0 takes the first item of the input.
+    /// Whether node 0 takes the first item of the input.
     #[inline]
     fn input_ready(&self) -> bool
         ensures { result ≡ is_enabled A.is_ready self.now (record { node = 0; port = 0 }) }

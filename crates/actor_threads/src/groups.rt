@@ -12,31 +12,31 @@ use std::thread;
 use std::thread::Threads;
 use std::time::Duration;
 
-// A worker's turn has at most so many steps.
+/// A worker's turn has at most so many steps.
 const TURN_STEPS: u32 = 256;
 
-// A group waits so many turns in a row that did no step without giving its processor away. Its workers then see at once what
-// others send, as long as these have a processor.
+/// A group waits so many turns in a row that did no step without giving its processor away. Its workers then see at once what
+/// others send, as long as these have a processor.
 const SPIN_TURNS: u32 = 16;
 
-// From then on it sleeps so long after each turn. A thread that sleeps gets its processor back before those of programs that
-// never sleep, and one that only gives it away gets it back after them.
+/// From then on it sleeps so long after each turn. A thread that sleeps gets its processor back before those of programs that
+/// never sleep, and one that only gives it away gets it back after them.
 const SLEEP_MICROSECONDS: u64 = 50;
 
-// A group in which so many turns in a row did no step isn't busy. They are a few, since a round that ends while a thread waits for
-// its processor costs another round: about a third of a millisecond.
+/// A group in which so many turns in a row did no step isn't busy. They are a few, since a round that ends while a thread waits for
+/// its processor costs another round: about a third of a millisecond.
 const REST_TURNS: u32 = 32;
 
-// A group ends its part of a round after so many turns in a row that did no step, also where others are busy: no thread may have
-// been made for one of them. That is some fifth of a second.
+/// A group ends its part of a round after so many turns in a row that did no step, also where others are busy: no thread may have
+/// been made for one of them. That is some fifth of a second.
 const IDLE_TURNS: u32 = 2000;
 
-// How often a group that found nothing to do looks whether others are busy, before it looks for messages again. So several of
-// them have come meanwhile, where the others have a processor.
+/// How often a group that found nothing to do looks whether others are busy, before it looks for messages again. So several of
+/// them have come meanwhile, where the others have a processor.
 const PAUSE_LOOKS: u32 = 4000;
 
-// There are at least so many groups, where there are workers for them. So the workers of a small world never wait for each
-// other's turns, however few processors there are.
+/// There are at least so many groups, where there are workers for them. So the workers of a small world never wait for each
+/// other's turns, however few processors there are.
 const FEWEST_GROUPS: usize = 4;
 
 /// A worker as a member of a group, and how far it is in its round: whether it looked for a message, did a step, and ran out of
@@ -83,7 +83,7 @@ impl<A: Actor> Member<A> {
         moved
     }
 
-    // Does some steps, and tells whether it did any.
+    /// Does some steps, and tells whether it did any.
     #[inline(always)]
     fn steps<R: Wait, G: Gate>(&mut self, rt: &R, gate: &G) -> bool
         ensures { GoesOn A.is_ready A.stepped self.old self.new }
@@ -98,7 +98,7 @@ impl<A: Actor> Member<A> {
         moved
     }
 
-    // Does a step where there is something to do, and tells whether it did.
+    /// Does a step where there is something to do, and tells whether it did.
     #[inline(always)]
     fn act<R: Wait, G: Gate>(&mut self, rt: &R, gate: &G) -> bool
         ensures { GoesOn A.is_ready A.stepped self.old self.new }
@@ -158,7 +158,7 @@ where
     Ok(first)
 }
 
-// All members in one group.
+/// All members in one group.
 fn run_alone<R: Wait, A: Actor, G: Gate>(
     rt: &R,
     gate: &G,
@@ -172,7 +172,7 @@ fn run_alone<R: Wait, A: Actor, G: Gate>(
     members
 }
 
-// The members in groups of this size.
+/// The members in groups of this size.
 fn run_groups<R: Threads + Wait + Sync, A: Actor + Send, G: Gate>(
     rt: &R,
     gate: &G,
@@ -212,7 +212,7 @@ fn run_group<R: Wait, A: Actor, G: Gate>(
     }
 }
 
-// A turn of each worker of a group. Tells whether one did a step.
+/// A turn of each worker of a group. Tells whether one did a step.
 #[inline(always)]
 fn turn_all<R: Wait, A: Actor, G: Gate>(rt: &R, gate: &G, members: &mut [Member<A>]) -> bool
     ensures { AllGoOn A.is_ready A.stepped members.old members.new }
@@ -226,14 +226,14 @@ fn turn_all<R: Wait, A: Actor, G: Gate>(rt: &R, gate: &G, members: &mut [Member<
     moved
 }
 
-// How many turns in a row of a group did no step.
+/// How many turns in a row of a group did no step.
 #[derive(Drop)]
 struct Idleness {
     turns: u32,
 }
 
 impl Idleness {
-    // Counts a turn, and waits a little after one that did no step. Tells whether the group's part of the round is over.
+    /// Counts a turn, and waits a little after one that did no step. Tells whether the group's part of the round is over.
     fn is_over<R: Wait>(&mut self, rt: &R, busy: &AtomicU64, moved: bool) -> bool {
         if moved {
             if self.turns >= REST_TURNS {
@@ -260,7 +260,7 @@ impl Idleness {
     }
 }
 
-// Lets some time pass.
+/// Lets some time pass.
 fn pause(busy: &AtomicU64) {
     for _ in 0..PAUSE_LOOKS {
         if busy.load(Ordering::SeqCst) == 0 {
@@ -269,15 +269,15 @@ fn pause(busy: &AtomicU64) {
     }
 }
 
-// Lets others have the processor for a while.
+/// Lets others have the processor for a while.
 fn sleep<R: Wait>(rt: &R, busy: &AtomicU64) {
     let seen = busy.load(Ordering::SeqCst) % 0x1_0000_0000;
     let time = Duration::from_micros(SLEEP_MICROSECONDS);
     busy.park_timeout(rt, seen as u32, time);
 }
 
-// How many workers are in a group, of so many beside that of node 0: but for the fewest groups, there is at most one for each
-// processor.
+/// How many workers are in a group, of so many beside that of node 0: but for the fewest groups, there is at most one for each
+/// processor.
 fn group_size<R: Threads>(rt: &R, workers: usize) -> usize
     ensures { 0 < result }
 {

@@ -23,7 +23,7 @@ use std::mem;
 use std::sync::Wait;
 use std::thread::Threads;
 
-// The workers of all nodes, none of which has done a step.
+/// The workers of all nodes, none of which has done a step.
 pub(crate) fn members_of<A: Actor>(
     alloc: Global,
     world: World<A>,
@@ -64,7 +64,7 @@ pub(crate) fn members_of<A: Actor>(
     Ok((members, log.into_vec()))
 }
 
-// The worker of one node, with what stands on the links to it.
+/// The worker of one node, with what stands on the links to it.
 fn worker_of<A: Actor>(
     alloc: Global,
     number: usize,
@@ -86,7 +86,7 @@ fn worker_of<A: Actor>(
     Worker::open(alloc, number as u8, node, input, kept, takes, sends)
 }
 
-// What stands on the links to one node, taken out of the table.
+/// What stands on the links to one node, taken out of the table.
 fn column<M: Drop>(
     alloc: Global,
     links: &mut Vec<Sequence<M>>,
@@ -109,7 +109,7 @@ fn column<M: Drop>(
     Ok(kept)
 }
 
-// The place of the link from one node to another.
+/// The place of the link from one node to another.
 fn place(count: usize, from: usize, to: usize) -> usize
     requires { (from < count) × (to < count) × (count < 256) }
     ensures value { result ≡ from * count + to }
@@ -118,7 +118,7 @@ fn place(count: usize, from: usize, to: usize) -> usize
     from * count + to
 }
 
-// What the workers left.
+/// What the workers left.
 #[derive(Drop)]
 struct RoundParts<A: Actor> {
     nodes: Vec<A>,
@@ -180,7 +180,7 @@ fn take_apart<A: Actor>(alloc: Global, members: Vec<Member<A>>) -> Result<RoundP
     Ok(round_parts)
 }
 
-// Closes all links. The list of the link from s to r stands at place s * n + r.
+/// Closes all links. The list of the link from s to r stands at place s * n + r.
 fn close_all<M: Drop, R: Wait>(
     rt: &R,
     alloc: Global,
@@ -201,7 +201,7 @@ fn close_all<M: Drop, R: Wait>(
     Ok(links)
 }
 
-// The notes of all nodes, in the order of the choices.
+/// The notes of all nodes, in the order of the choices.
 fn deal_all<N: Drop>(
     choices: &[Choice],
     notes: &mut Vec<NoteQueue<N>>,
@@ -215,7 +215,7 @@ fn deal_all<N: Drop>(
     Ok(())
 }
 
-// The notes of one step. They are the next of its node's.
+/// The notes of one step. They are the next of its node's.
 fn deal_one<N: Drop>(
     choice: Choice,
     notes: &mut Vec<NoteQueue<N>>,
@@ -231,7 +231,7 @@ fn deal_one<N: Drop>(
     Ok(())
 }
 
-// The world that the workers left, and the choices that they made.
+/// The world that the workers left, and the choices that they made.
 fn gather<R: Wait, A: Actor>(
     rt: &R,
     alloc: Global,
@@ -309,7 +309,7 @@ where
     unreachable!()
 }
 
-// Choices, and behind them more.
+/// Choices, and behind them more.
 fn join(choices: Choices, more: Choices) -> Result<Choices, NoMemory>
     ensures { IfOk result (λ all. all ≡ choices ++ more) }
 {

@@ -15,7 +15,7 @@ use std::collections::VecDeque;
 use std::marker::Model;
 use std::sync::Wait;
 
-// A worker goes on to the next take end after so many messages at most.
+/// A worker goes on to the next take end after so many messages at most.
 const MOST_IN_ROW: u32 = 32;
 
 /// One node for one round. It owns the node and its ends of the links.
@@ -163,8 +163,8 @@ impl<A: Actor> Worker<A> {
         self.unsent = unsent;
     }
 
-    // A message for the next step: first the input and what is kept, and then what the take ends give. Once a step was done,
-    // kept lists that were found empty aren't looked at.
+    /// A message for the next step: first the input and what is kept, and then what the take ends give. Once a step was done,
+    /// kept lists that were found empty aren't looked at.
     #[inline(always)]
     fn look<R: Wait>(&mut self, rt: &R, moved: bool) -> Option<(u8, Stamped<A::Message>)>
         ensures found { MatchOption result (Idled self.old self.new) (λ f. Found A.is_ready self.old self.new f.0 f.1) }
@@ -183,7 +183,7 @@ impl<A: Actor> Worker<A> {
         self.look_taken(rt)
     }
 
-    // The same where nothing but the input may be kept.
+    /// The same where nothing but the input may be kept.
     #[inline(always)]
     fn look_moved<R: Wait>(&mut self, rt: &R) -> Option<(u8, Stamped<A::Message>)>
         ensures { MatchOption result (Idled self.old self.new) (λ f. Found A.is_ready self.old self.new f.0 f.1) }
@@ -211,7 +211,7 @@ impl<A: Actor> Worker<A> {
         None
     }
 
-    // Finds out whether something but the input is kept.
+    /// Finds out whether something but the input is kept.
     fn see_kept(&mut self)
         ensures { self.new ≡ self.old }
     {
@@ -241,7 +241,7 @@ impl<A: Actor> Worker<A> {
         self.number == 0 && port == 0
     }
 
-    // The next item of the input, where the node is ready for it.
+    /// The next item of the input, where the node is ready for it.
     #[inline(always)]
     fn next_item(&mut self) -> Option<Stamped<A::Message>>
         requires { (self.old.number ≡ 0) × (0 < length self.old.ins) }
@@ -279,7 +279,7 @@ impl<A: Actor> Worker<A> {
         None
     }
 
-    // The port at which the next look begins.
+    /// The port at which the next look begins.
     #[inline(always)]
     fn next_turn(&mut self) -> usize
         requires { 0 < length self.old.ins }
@@ -295,7 +295,7 @@ impl<A: Actor> Worker<A> {
         port
     }
 
-    // Lets the next look begin at a port that gave a message, but for the last of so many.
+    /// Lets the next look begin at a port that gave a message, but for the last of so many.
     #[inline(always)]
     fn stay(&mut self, port: usize)
         ensures { self.new ≡ self.old }
@@ -308,7 +308,7 @@ impl<A: Actor> Worker<A> {
         }
     }
 
-    // The next message from the take end of a port. The input has none.
+    /// The next message from the take end of a port. The input has none.
     #[inline(always)]
     fn next_taken<R: Wait>(&mut self, rt: &R, port: usize) -> Option<Stamped<A::Message>>
         requires { port < length self.old.ins }
@@ -328,7 +328,7 @@ impl<A: Actor> Worker<A> {
         self.ins[port].next_taken(rt, &mut self.rooms)
     }
 
-    // Does one step: the node takes the message, and what it sends carries the step's clock.
+    /// Does one step: the node takes the message, and what it sends carries the step's clock.
     #[inline(always)]
     fn step<R: Wait>(&mut self, rt: &R, port: u8, took: Stamped<A::Message>) -> Result<(), NoMemory>
         requires clock { self.old.clock < last_clock }
@@ -354,7 +354,7 @@ impl<A: Actor> Worker<A> {
     }
 }
 
-// What waits at each port: at node 0 the input stands first.
+/// What waits at each port: at node 0 the input stands first.
 fn with_input<M: Drop>(
     number: u8,
     input: Vec<M>,
@@ -411,7 +411,7 @@ fn next_clock(clock: u64, stamp: u64) -> u64
     clock.max(stamp) + 1
 }
 
-// Puts what a step sent on the ways out. What no node takes is dropped.
+/// Puts what a step sent on the ways out. What no node takes is dropped.
 #[inline(always)]
 fn put_all<R: Wait, M: Drop, N>(
     rt: &R,
