@@ -30,14 +30,14 @@ pub struct Worker<A: Actor> {
     outs: Vec<WayOut<A::Message>>,
     outbox: Outbox<A::Message, A::Note>,
     rooms: Rooms<A::Message>,
-    // Whether something may wait to be sent.
+    /// Whether something may wait to be sent.
     unsent: bool,
-    // Whether something but the input may be kept.
+    /// Whether something but the input may be kept.
     keeping: bool,
-    // Where the next look at the take ends begins, and how many messages were taken since it went on by itself.
+    /// Where the next look at the take ends begins, and how many messages were taken since it went on by itself.
     turn: usize,
     in_row: u32,
-    // Keeps the workers of two threads out of one line of the processors' memory.
+    /// Keeps the workers of two threads out of one line of the processors' memory.
     apart: CachePadded<()>,
 }
 
