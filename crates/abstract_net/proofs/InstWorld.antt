@@ -2,7 +2,7 @@
 use Rattle.std.proofs.Common.{◌≡◌, ◌≢◌, ℕ, ◌≤◌, Bool, true, false, Option, Some, None, List, [], ◌∷◌, ◌++◌, map, refl, sym, ap, ◌∙◌, subst, append-nil, arith}
 use Rattle.std.specs.Prelude.{if◌then◌else◌, ◌&&◌, ◌==◌}
 use Rattle.std.proofs.lemmas.Bool.Decides.{nat_tests, Decides-eqb}
-use Rattle.unit_machine.proofs.Machine.{Where, At_a, At_b, At_c, Part, Inst, Did, sends as did_sends, inst_does, Item, Stream, Put, State, Move, Take_sa, Take_sb, Take_sc, Take_ca, Take_cb, moved, put_a, put_b, put_c}
+use Rattle.unit_machine.proofs.Machine.{Where, At_a, At_b, At_c, Part, Inst, Did, sends as did_sends, inst_does, Item, Stream, Put, State, MachineStep, Take_sa, Take_sb, Take_sc, Take_ca, Take_cb, moved, put_a, put_b, put_c}
 use Rattle.unit_machine.proofs.Lists.{firsts, firsts-append}
 use Rattle.unit_machine.proofs.Fits.{Fits}
 use Rattle.unit_machine.proofs.Stages.{shape, Order, Allowed, arrived_by}
@@ -48,7 +48,7 @@ module _ {R : Type 0} (S : Sys R) (laws : IsSys S) (z : Seeing) where
       by_msg (Fence_on k) l = tt
 
   -- a move of the machine, once the world shows the state that it leads to
-  pub moves_on : (w' : World S) (s : Seat S.F) (mv : Move R) (x' : State R) → Holds S z w' x' → moved S.F (seat_shape S.F s) mv ≡ x' → Allowed (shape S.F (base_of s)) mv → Goes_to w' s (arrived_by mv)
+  pub moves_on : (w' : World S) (s : Seat S.F) (mv : MachineStep R) (x' : State R) → Holds S z w' x' → moved S.F (seat_shape S.F s) mv ≡ x' → Allowed (shape S.F (base_of s)) mv → Goes_to w' s (arrived_by mv)
   moves_on w' s mv x' hx is al = let g = seat_goes_on S.F s mv al in record { seat = g.0; holds = subst (λ v. Holds S z w' v) (sym is ∙ g.1) hx; order = g.2; covered = covered_stays S.F s mv al }
 
   pub same_order : (b : Bool) (ys : List ℕ) → Order b ys (ys ++ [])

@@ -4,7 +4,7 @@ use Rattle.std.proofs.Common.{◌≡◌, ℕ, Bool, true, false, Some, None, Lis
 use Rattle.std.specs.Prelude.{if◌then◌else◌, ◌&&◌, ◌==◌}
 use Rattle.std.proofs.lemmas.Bool.Decides.{nat_tests}
 use Rattle.unit_machine.proofs.Real.{add, sent_for}
-use Rattle.share_machine.proofs.Share.{Item, View, Move, moved, put, joined, only}
+use Rattle.share_machine.proofs.Share.{Item, View, ShareMachineStep, moved, put, joined, only}
 use Rattle.share_machine.proofs.Stages.{brings, Alike}
 use Rattle.share_machine.proofs.Lists.{cond-same}
 use Rattle.abstract_net.proofs.Net.{Sys, behind, links_after}
@@ -92,7 +92,7 @@ module _ {R : Type 0} (S : Sys R) (A : Sharing S) (z : Seeing_share) where
   -- a step is nothing to the unit, or a move of its machine that brings none of its packets
   pub data Goes (w : Whole S A) (x : View R) : Type 0 where
     Nothing : Share_holds S A z w x → Goes w x
-    Moves : (mv : Move) → brings (share_frame S A z) mv ≡ [] → Share_holds S A z w (moved (share_frame S A z) x mv) → Goes w x
+    Moves : (mv : ShareMachineStep) → brings (share_frame S A z) mv ≡ [] → Share_holds S A z w (moved (share_frame S A z) x mv) → Goes w x
 
   expect_alike : (x y : View R) → Alike (share_frame S A z) x y → (i j : ℕ) → share_expect x i j ≡ share_expect y i j
   expect_alike x y a i j = let sc = a.sc in let cs = a.cs in let sw = a.sw j in let to = a.to j in let back = a.back i in rw (sc, cs, sw, to, back) refl

@@ -5,7 +5,7 @@ use Rattle.std.specs.Prelude.{if◌then◌else◌, ◌&&◌, ◌==◌}
 use Rattle.std.proofs.lemmas.Bool.Decides.{nat_tests, Decides-eqb}
 use Rattle.unit_machine.proofs.Real.{M_install, M_fence_to, M_forward, where_true, add, sent_for}
 use Rattle.unit_machine.proofs.Labels.{Each}
-use Rattle.share_machine.proofs.Share.{Item.Carry, Frame, Move.Arrive, has, if_mine, moved}
+use Rattle.share_machine.proofs.Share.{Item.Carry, Frame, ShareMachineStep.Arrive, has, if_mine, moved}
 use Rattle.share_machine.proofs.Stages.{Stage, Stage.Diverting, Stage.Fence_goes, Stage.Fenced_comes, Stage.Get_goes, Stage.Chunks_come, Stage.Spreads, Stage.Resting, Stage.Forwards, Stage.Carries, Stage.Chunk_comes, front, processed, early, late, shape, IsFront, IsShare, Fits}
 use Rattle.share_machine.proofs.Steps.{goes_on}
 use Rattle.share_machine.proofs.Heads.{to_members, meets_sw, meets_to}

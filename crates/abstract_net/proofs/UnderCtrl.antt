@@ -3,7 +3,7 @@ use Rattle.std.proofs.Common.{◌≡◌, ℕ, ◌≤◌, Bool, true, false, Opti
 use Rattle.std.specs.Prelude.{if◌then◌else◌, ◌&&◌, ◌==◌}
 use Rattle.std.proofs.lemmas.Bool.Decides.{Decides-eqb}
 use Rattle.unit_machine.proofs.Real.{add, sent_for}
-use Rattle.share_machine.proofs.Share.{Item, Frame, View, Move.Take_sc, Move.Take_back, has, joined, waits, share_does, from_sc, from_back}
+use Rattle.share_machine.proofs.Share.{Item, Frame, View, ShareMachineStep.Take_sc, ShareMachineStep.Take_back, has, joined, waits, share_does, from_sc, from_back}
 use Rattle.share_machine.proofs.Stages.{Stage, IsShare, Fits, shape}
 use Rattle.share_machine.proofs.Heads.{to_members}
 use Rattle.abstract_net.proofs.Net.{Sys}

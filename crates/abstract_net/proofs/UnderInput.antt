@@ -4,7 +4,7 @@ use Rattle.std.proofs.Common.{◌≡◌, ℕ, Bool, true, false, Some, List, [],
 use Rattle.std.specs.Prelude.{if◌then◌else◌, ◌&&◌, ◌==◌}
 use Rattle.std.proofs.lemmas.Bool.Decides.{nat_tests, Decides-eqb}
 use Rattle.unit_machine.proofs.Real.{where_true, add, sent_for}
-use Rattle.share_machine.proofs.Share.{Item, Item.Carry, Item.Diverted, Item.Stray, Frame, View, Move.Arrive, if_mine, joined, only, nowhere, moved}
+use Rattle.share_machine.proofs.Share.{Item, Item.Carry, Item.Diverted, Item.Stray, Frame, View, ShareMachineStep.Arrive, if_mine, joined, only, nowhere, moved}
 use Rattle.abstract_net.proofs.Net.{Msg.Carry_on, Sys}
 use Rattle.abstract_net.proofs.ShareViews.{mine, share_expect, share_frame, share_items, Share_holds}
 use Rattle.abstract_net.proofs.ShareLinks.{in_links, none_links, view_put, lone_view, lone_unseen, holds_alike}

@@ -3,7 +3,7 @@ use Rattle.std.proofs.Common.{◌≡◌, ℕ, Bool, true, false, Some, None, Lis
 use Rattle.std.specs.Prelude.{if◌then◌else◌, ◌&&◌, ◌==◌}
 use Rattle.std.proofs.lemmas.Bool.Decides.{nat_tests, Decides-eqb}
 use Rattle.unit_machine.proofs.Real.{add, sent_for}
-use Rattle.share_machine.proofs.Share.{Item, Frame, View, Move.Take_sw, Move.Take_to, has, put, joined, only, member_does, from_sw, from_to}
+use Rattle.share_machine.proofs.Share.{Item, Frame, View, ShareMachineStep.Take_sw, ShareMachineStep.Take_to, has, put, joined, only, member_does, from_sw, from_to}
 use Rattle.share_machine.proofs.Heads.{To_members}
 use Rattle.abstract_net.proofs.Net.{Sys, IsSys, inst_step, links_after, at_node}
 use Rattle.abstract_net.proofs.ShareViews.{share_expect, share_frame, share_seen, share_items, own_of, own_at, Share_holds}

@@ -2,7 +2,7 @@
 use Rattle.std.proofs.Common.{◌≡◌, ◌≢◌, ℕ, suc, ◌+◌, ◌≤◌, ◌<◌, Bool, true, false, Option, Some, None, List, [], ◌∷◌, ◌++◌, map, refl, sym, ap, ◌∙◌, subst, append-nil, arith}
 use Rattle.std.specs.Prelude.{if◌then◌else◌, ◌&&◌, ◌||◌, ◌==◌}
 use Rattle.std.proofs.lemmas.Bool.Decides.{nat_tests, Decides-eqb}
-use Rattle.unit_machine.proofs.Machine.{Where as Side, At_a, At_b, At_c, Ran, Steps, after, Drops, Item, Enable, State, Phase, Idle, Freezing, Move, Begin, moved}
+use Rattle.unit_machine.proofs.Machine.{Where as Side, At_a, At_b, At_c, Ran, Steps, after, Drops, Item, Enable, State, Phase, Idle, Freezing, MachineStep, Begin, moved}
 use Rattle.unit_machine.proofs.Lists.{firsts}
 use Rattle.unit_machine.proofs.Stages.{Stage, Turned_loose, Fenced_loose, Ending_loose, Fence_loose, shape, loose, times, Order}
 use Rattle.unit_machine.proofs.Loose.{times-append}

@@ -4,7 +4,7 @@ use Rattle.std.proofs.lemmas.List.{take-append-le, drop-append-le}
 use Rattle.std.proofs.lemmas.List.Sums.{sum_by-cons}
 use Rattle.std.proofs.Math.Seq.{take-length}
 use Rattle.actor_threads.specs.declared.notes.Run.{Run}
-use Rattle.actor_threads.specs.NoteCounts.{zeros_then, counts_of, cut}
+use Rattle.actor_threads.specs.NoteCounts.{zeros_then, counts_of, by_counts}
 
 zeros-append : (n : ℕ) (xs ys : List ℕ) → zeros_then n xs ++ ys ≡ zeros_then n (xs ++ ys)
 zeros-append zero xs ys = refl
@@ -42,10 +42,10 @@ module _ {N : Type 0} where
   none (x ∷ xs) e = absurd (omega arith)
 
   -- one more list behind the others
-  pub cut-snoc : (counts : List ℕ) (all more : List N) (count : ℕ) → sum counts ≡ length all → count ≡ length more → cut (counts ++ count ∷ []) (all ++ more) ≡ cut counts all ++ more ∷ []
-  cut-snoc [] all more count s c = rw (none all s, c, take-length more)
-  cut-snoc (k ∷ ks) all more count s c = let first = sum_by-cons (λ x. x) k ks in let within : k ≤ length all = omega (arith, first) in let rest : sum ks ≡ length (drop k all) = omega (arith, first, length-drop k all) in
-      rw (take-append-le k all more within, drop-append-le k all more within, cut-snoc ks (drop k all) more count rest c)
+  pub by_counts-snoc : (counts : List ℕ) (all more : List N) (count : ℕ) → sum counts ≡ length all → count ≡ length more → by_counts (counts ++ count ∷ []) (all ++ more) ≡ by_counts counts all ++ more ∷ []
+  by_counts-snoc [] all more count s c = rw (none all s, c, take-length more)
+  by_counts-snoc (k ∷ ks) all more count s c = let first = sum_by-cons (λ x. x) k ks in let within : k ≤ length all = omega (arith, first) in let rest : sum ks ≡ length (drop k all) = omega (arith, first, length-drop k all) in
+      rw (take-append-le k all more within, drop-append-le k all more within, by_counts-snoc ks (drop k all) more count rest c)
 
   -- one more item of a list
   pub rest_after : (k : ℕ) (xs : List N) (x : N) (rest : List N) → drop k xs ≡ x ∷ rest → drop (suc k) xs ≡ rest

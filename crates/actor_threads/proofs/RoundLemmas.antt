@@ -13,7 +13,7 @@ use Rattle.actor_threads.specs.Ways.{Incoming, Outgoing}
 use Rattle.actor_threads.specs.Work.{WorkerView, Ran}
 use Rattle.actor_threads.specs.Round.{AllStart, CanCloseAll, AllClosed, Gathered}
 use Rattle.actor_threads.proofs.GroupLemmas.{ran}
-use Rattle.actor_threads.proofs.RoundReplay.{can_close_all, events, holds, left, rise_is, matches, fits, leaves}
+use Rattle.actor_threads.proofs.RoundReplay.{can_close_all, node_steps, holds, left, rise_is, matches, fits, leaves}
 use Rattle.actor_threads.proofs.RoundWithoutChoice.{history_of, no_steps, all_quiet}
 
 -- a node of a world
@@ -71,8 +71,8 @@ module _ {A M N : Type 0} (ready : A → M → Bool) (step : A → ℕ → M →
     closed : AllClosed (length w.nodes) (length w.nodes) (map (λ (s : WorkerView A M N). s.ins) (workers after)) (map (λ (s : WorkerView A M N). s.outs) (workers after)) g.links
     closed = subst (λ n. AllClosed n n (map (λ (s : WorkerView A M N). s.ins) (workers after)) (map (λ (s : WorkerView A M N). s.outs) (workers after)) g.links) nodes g.closed
 
-    replayed : RunLeaves ready step d w (events ready step w (workers before) (workers after) d is all each count) (left ready step w (workers before) (workers after) d is all each count g.links closed.count closed.closed) cs
-    replayed = merged ready step d w (map history_of (workers after)) cs (events ready step w (workers before) (workers after) d is all each count)
+    replayed : RunLeaves ready step d w (node_steps ready step w (workers before) (workers after) d is all each count) (left ready step w (workers before) (workers after) d is all each count g.links closed.count closed.closed) cs
+    replayed = merged ready step d w (map history_of (workers after)) cs (node_steps ready step w (workers before) (workers after) d is all each count)
         (holds ready step w (workers before) (workers after) d is all each count) (left ready step w (workers before) (workers after) d is all each count g.links closed.count closed.closed)
         g.merged (matches ready step w (workers before) (workers after) d is all each count) (rise_is ready step w (workers before) (workers after) d is all each count)
         (fits ready step w (workers before) (workers after) d is all each count g.links closed.count closed.closed)
@@ -83,7 +83,7 @@ module _ {A M N : Type 0} (ready : A → M → Bool) (step : A → ℕ → M →
 
     -- and the world is its replay
     pub is_replay : v ≡ run step cs w
-    is_replay = g.is ∙ replay_is ready step d w _ (events ready step w (workers before) (workers after) d is all each count)
+    is_replay = g.is ∙ replay_is ready step d w _ (node_steps ready step w (workers before) (workers after) d is all each count)
         (left ready step w (workers before) (workers after) d is all each count g.links closed.count closed.closed) cs is.some_node is.square replayed
         (leaves ready step w (workers before) (workers after) d is all each count g.links closed.count closed.closed cs)
 

@@ -34,18 +34,18 @@ rises : {M : Type 0} (clock : ℕ) (es : List (NodeStep M)) → Ticks clock es �
 rises clock [] t = tt
 rises clock (e ∷ es) t = let is = t.0 in (omega arith, omega arith, rises e.clock es t.1)
 
--- the histories of workers that have these events
-pub matches_from : {A M N : Type 0} (events : ℕ → List (NodeStep M)) (blank : WorkerView A M N) (i : ℕ) (workers : List (WorkerView A M N))
-    → ((j : ℕ) → j < length workers → ((slice_index_or workers j blank).number ≡ j + i) × ((slice_index_or workers j blank).steps ≡ noted (events (j + i)))) → ((j : ℕ) → length workers + i ≤ j → events j ≡ [])
-    → AreHistories events i (map (λ (s : WorkerView A M N). let h : History = record { node = s.number; steps = s.steps } in h) workers)
-matches_from events blank i [] each none = λ j h. none j (omega arith)
-matches_from events blank i (x ∷ xs) each none =
+-- the histories of workers that did these steps
+pub matches_from : {A M N : Type 0} (node_steps : ℕ → List (NodeStep M)) (blank : WorkerView A M N) (i : ℕ) (workers : List (WorkerView A M N))
+    → ((j : ℕ) → j < length workers → ((slice_index_or workers j blank).number ≡ j + i) × ((slice_index_or workers j blank).steps ≡ noted (node_steps (j + i)))) → ((j : ℕ) → length workers + i ≤ j → node_steps j ≡ [])
+    → AreHistories node_steps i (map (λ (s : WorkerView A M N). let h : History = record { node = s.number; steps = s.steps } in h) workers)
+matches_from node_steps blank i [] each none = λ j h. none j (omega arith)
+matches_from node_steps blank i (x ∷ xs) each none =
     let first = each 0 (omega arith) in
     let zero_i : 0 + i ≡ i = omega arith in (
       first.0 ∙ zero_i,
-      first.1 ∙ ap (λ k. noted (events k)) zero_i,
-      matches_from events blank (i + 1) xs
-          (λ j h. let here = each (suc j) (omega arith) in let move : suc j + i ≡ j + (i + 1) = omega arith in (here.0 ∙ move, here.1 ∙ ap (λ k. noted (events k)) move))
+      first.1 ∙ ap (λ k. noted (node_steps k)) zero_i,
+      matches_from node_steps blank (i + 1) xs
+          (λ j h. let here = each (suc j) (omega arith) in let move : suc j + i ≡ j + (i + 1) = omega arith in (here.0 ∙ move, here.1 ∙ ap (λ k. noted (node_steps k)) move))
           (λ j h. none j (omega arith)),
     )
 
@@ -69,50 +69,50 @@ module _ {A M N : Type 0} (ready : A → M → Bool) (step : A → ℕ → M →
   starts : (j : ℕ) → j < n → StartsAs w all.names j (start_of j)
   starts j h = all.each j blank h
 
-  -- the events of a node, none where there is no such node
+  -- the steps of a node, none where there is no such node
   abbrev Did : ℕ → List (NodeStep M) → Type 0
-  Did j es = (j < n → (k : Worked ready step (start_of j) (end_of j)) × (k.events ≡ es)) × (n ≤ j → es ≡ [])
+  Did j es = (j < n → (k : Worked ready step (start_of j) (end_of j)) × (k.node_steps ≡ es)) × (n ≤ j → es ≡ [])
 
   pub pick : (j : ℕ) → (es : List (NodeStep M)) × Did j es
   pick j = elim (cases_lt j n) [
-    | inl h ↦ ((ran j blank h).worked.events, ((λ _. ((ran j blank h).worked, refl)), λ o. absurd (omega arith)))
+    | inl h ↦ ((ran j blank h).worked.node_steps, ((λ _. ((ran j blank h).worked, refl)), λ o. absurd (omega arith)))
     | inr o ↦ ([], ((λ h. absurd (omega arith)), λ _. refl))
   ]
 
-  abbrev pub events : ℕ → List (NodeStep M)
-  events j = (pick j).0
+  abbrev pub node_steps : ℕ → List (NodeStep M)
+  node_steps j = (pick j).0
 
-  pub no_events : (j : ℕ) → n ≤ j → events j ≡ []
-  no_events j h = (pick j).1.1 h
+  pub no_node_steps : (j : ℕ) → n ≤ j → node_steps j ≡ []
+  no_node_steps j h = (pick j).1.1 h
 
-  node_is : (j : ℕ) → j < n → (end_of j).node ≡ node_after step (node_at j) (events j)
+  node_is : (j : ℕ) → j < n → (end_of j).node ≡ node_after step (node_at j) (node_steps j)
   node_is j h = let k = (pick j).1.0 h in k.0.node ∙ (λ i. node_after step ((starts j h).node d i) (k.1 i))
 
-  steps_is : (j : ℕ) → j < n → (end_of j).steps ≡ noted (events j)
+  steps_is : (j : ℕ) → j < n → (end_of j).steps ≡ noted (node_steps j)
   steps_is j h = let k = (pick j).1.0 h in k.0.steps ∙ (λ i. (starts j h).steps i ++ noted (k.1 i))
 
-  notes_is : (j : ℕ) → j < n → (end_of j).notes ≡ notes_of step (node_at j) (events j)
+  notes_is : (j : ℕ) → j < n → (end_of j).notes ≡ notes_of step (node_at j) (node_steps j)
   notes_is j h = let k = (pick j).1.0 h in k.0.notes ∙ (λ i. (starts j h).notes i ++ notes_of step ((starts j h).node d i) (k.1 i))
 
   number_is : (j : ℕ) → j < n → (end_of j).number ≡ j
   number_is j h = let k = (pick j).1.0 h in k.0.number ∙ (starts j h).number
 
   -- a fact of each history, also of those that are empty
-  each : (P : ℕ → List (NodeStep M) → Type 0) → ((j : ℕ) → j < n → P j (events j)) → ((j : ℕ) → P j []) → (j : ℕ) → P j (events j)
-  each P some none j = elim (cases_lt j n) [ inl h ↦ some j h | inr o ↦ subst (λ es. P j es) (sym (no_events j o)) (none j) ]
+  each : (P : ℕ → List (NodeStep M) → Type 0) → ((j : ℕ) → j < n → P j (node_steps j)) → ((j : ℕ) → P j []) → (j : ℕ) → P j (node_steps j)
+  each P some none j = elim (cases_lt j n) [ inl h ↦ some j h | inr o ↦ subst (λ es. P j es) (sym (no_node_steps j o)) (none j) ]
 
-  ports_is : (j : ℕ) → PortsBelow n (events j)
+  ports_is : (j : ℕ) → PortsBelow n (node_steps j)
   ports_is = each (λ _ es. PortsBelow n es) (λ j h. let k = (pick j).1.0 h in subst (λ (v : ℕ × List (NodeStep M)). PortsBelow v.0 v.1) (λ i. ((starts j h).count_ins i, k.1 i)) k.0.ports) (λ _. tt)
 
-  ready_is : (j : ℕ) → WasReady ready step j (node_at j) (events j)
+  ready_is : (j : ℕ) → WasReady ready step j (node_at j) (node_steps j)
   ready_is = each (λ j es. WasReady ready step j (node_at j) es)
       (λ j h. let k = (pick j).1.0 h in subst (λ (v : ℕ × A × List (NodeStep M)). WasReady ready step v.0 v.1 v.2) (λ i. ((starts j h).number i, (starts j h).node d i, k.1 i)) k.0.was_ready) (λ _. tt)
 
-  pub rise_is : (j : ℕ) → ClocksRise 0 (events j)
+  pub rise_is : (j : ℕ) → ClocksRise 0 (node_steps j)
   rise_is = each (λ _ es. ClocksRise 0 es) (λ j h. let k = (pick j).1.0 h in subst (λ (v : ℕ × List (NodeStep M)). ClocksRise v.0 v.1) (λ i. ((starts j h).clock i, k.1 i)) (rises _ _ k.0.ticks)) (λ _. tt)
 
-  pub matches : AreHistories events 0 (map (λ (s : WorkerView A M N). let h : History = record { node = s.number; steps = s.steps } in h) ended)
-  matches = matches_from events blank 0 ended (λ j h. let inside : j < n = subst (λ m. j < m) count h in (number_is j inside ∙ omega arith, steps_is j inside ∙ ap (λ m. noted (events m)) (omega arith))) (λ j h. no_events j (omega (arith, count)))
+  pub matches : AreHistories node_steps 0 (map (λ (s : WorkerView A M N). let h : History = record { node = s.number; steps = s.steps } in h) ended)
+  matches = matches_from node_steps blank 0 ended (λ j h. let inside : j < n = subst (λ m. j < m) count h in (number_is j inside ∙ omega arith, steps_is j inside ∙ ap (λ m. noted (node_steps m)) (omega arith))) (λ j h. no_node_steps j (omega (arith, count)))
 
   -- the links can be closed
   ins_at : (r : ℕ) → r < n → row_at (map (λ (s : WorkerView A M N). s.ins) ended) r ≡ (end_of r).ins
@@ -143,7 +143,7 @@ module _ {A M N : Type 0} (ready : A → M → Bool) (step : A → ℕ → M →
   module _ (links : List (List M)) (square : length links ≡ n * n)
       (closed : (s r : ℕ) → s < n → r < n → Closed (in_at (row_at (map (λ (x : WorkerView A M N). x.ins) ended) r) s) (out_at (row_at (map (λ (x : WorkerView A M N). x.outs) ended) s) r) (row_at links (s * n + r))) where
     abbrev LeftAt : ℕ → ℕ → List (Stamped M) → Type 0
-    LeftAt s r l = (row_at links (s * n + r) ≡ messages l) × (taken_at s (events r) ++ l ≡ holds s r ++ put_between step n s r (node_at s) (events s))
+    LeftAt s r l = (row_at links (s * n + r) ≡ messages l) × (taken_at s (node_steps r) ++ l ≡ holds s r ++ put_between step n s r (node_at s) (node_steps s))
 
     left_at : (s r : ℕ) → s < n → r < n → (l : List (Stamped M)) × LeftAt s r l
     left_at s r hs hr =
@@ -154,12 +154,12 @@ module _ {A M N : Type 0} (ready : A → M → Bool) (step : A → ℕ → M →
         let drew = (kr.0.taken s (subst (λ m. s < m) (sym (starts r hr).count_ins) hs)).draws in
         let begin = (starts r hr).ins s hs in
         let grown : (in_at (end_of r).ins s).done ≡ drew.grown = drew.done ∙ ap (λ (v : Incoming M). v.done ++ drew.grown) begin in
-        let whole : holds s r ++ drew.grown ≡ taken_at s (events r) ++ (in_at (end_of r).ins s).kept =
+        let whole : holds s r ++ drew.grown ≡ taken_at s (node_steps r) ++ (in_at (end_of r).ins s).kept =
         sym (ap (λ (v : Incoming M). v.kept ++ drew.grown) begin) ∙ drew.whole ∙ ap (λ es. taken_at s es ++ (in_at (end_of r).ins s).kept) kr.1 in
         let went = ks.0.sent r (subst (λ m. r < m) (sym (starts s hs).count_outs) hr) in
-        let put : put_between step n s r (node_at s) (events s) ≡ drew.grown ++ c.tail =
+        let put : put_between step n s r (node_at s) (node_steps s) ≡ drew.grown ++ c.tail =
         sym (went.all ∙ (λ i. ((starts s hs).outs r hr i).all ++ put_between step ((starts s hs).count_outs i) ((starts s hs).number i) r ((starts s hs).node d i) (ks.1 i))) ∙ c.sent ∙ ap (λ l. l ++ c.tail) grown in
-        ((in_at (end_of r).ins s).kept ++ c.tail, (c.is, joined (holds s r) drew.grown (taken_at s (events r)) (in_at (end_of r).ins s).kept c.tail (put_between step n s r (node_at s) (events s)) whole put))
+        ((in_at (end_of r).ins s).kept ++ c.tail, (c.is, joined (holds s r) drew.grown (taken_at s (node_steps r)) (in_at (end_of r).ins s).kept c.tail (put_between step n s r (node_at s) (node_steps s)) whole put))
 
     pub pick_left : (s r : ℕ) → (l : List (Stamped M)) × (s < n → r < n → LeftAt s r l)
     pick_left s r = elim (cases_lt s n) [
@@ -173,13 +173,13 @@ module _ {A M N : Type 0} (ready : A → M → Bool) (step : A → ℕ → M →
     abbrev pub left : ℕ → ℕ → List (Stamped M)
     left s r = (pick_left s r).0
 
-    pub fits : FitsWorld ready step d w events holds left
+    pub fits : FitsWorld ready step d w node_steps holds left
     fits = record {
       some = is.some_node;
       square = is.square;
       shows = λ s r hs hr. sym (messages-with_stamp_0 (waiting w (at r s)));
       whole = λ s r hs hr. ((pick_left s r).1 hs hr).1;
-      within = no_events;
+      within = no_node_steps;
       ports = ports_is;
       was_ready = ready_is;
     }
@@ -209,18 +209,18 @@ module _ {A M N : Type 0} (ready : A → M → Bool) (step : A → ℕ → M →
               ap (λ m. row_at (slice_set links 0 []) (s * m + r)) nodes ∙ get_or-set_other links 0 (s * n + r) [] [] other ∙ shown
         ] refl
 
-    notes_same : (j : ℕ) → row_at (map (λ (s : WorkerView A M N). s.notes) ended) j ≡ notes_of step (node_at j) (events j)
+    notes_same : (j : ℕ) → row_at (map (λ (s : WorkerView A M N). s.notes) ended) j ≡ notes_of step (node_at j) (node_steps j)
     notes_same j = elim (cases_lt j n) [
       | inl h ↦ get_or-map (λ (s : WorkerView A M N). s.notes) ended j blank [] (subst (λ m. j < m) (sym count) h) ∙ notes_is j h
-      | inr o ↦ get_or_past (map (λ (s : WorkerView A M N). s.notes) ended) j [] (subst (λ m. m ≤ j) (sym (length-map ended _ ∙ count)) o) ∙ sym (ap (notes_of step (node_at j)) (no_events j o))
+      | inr o ↦ get_or_past (map (λ (s : WorkerView A M N). s.notes) ended) j [] (subst (λ m. m ≤ j) (sym (length-map ended _ ∙ count)) o) ∙ sym (ap (notes_of step (node_at j)) (no_node_steps j o))
     ]
 
-    pub leaves : (cs : List Choice) → HistoriesLeave ready step d w (world_left cs) events left cs
+    pub leaves : (cs : List Choice) → HistoriesLeave ready step d w (world_left cs) node_steps left cs
     leaves cs = record {
       count = length-map ended _ ∙ count;
       nodes = λ j h. get_or-map (λ (s : WorkerView A M N). s.node) ended j blank d (subst (λ m. j < m) (sym count) h) ∙ node_is j h;
       waits = waits_left cs;
-      log = ap (λ l. w.log ++ l) (dealt_same (λ j. row_at (map (λ (s : WorkerView A M N). s.notes) ended) j) (λ j. notes_of step (node_at j) (events j)) cs notes_same);
+      log = ap (λ l. w.log ++ l) (dealt_same (λ j. row_at (map (λ (s : WorkerView A M N). s.notes) ended) j) (λ j. notes_of step (node_at j) (node_steps j)) cs notes_same);
       links = length-set links 0 [] ∙ square ∙ sym is.square;
       loop = get_or-set_same links 0 [] [] (subst (λ m. 0 < m) (sym square) (omega (arith, inside n 0 0 is.some_node is.some_node))) ∙ sym is.no_loop;
     }

@@ -51,7 +51,7 @@ module _ {A M N : Type 0} (ready : A → M → Bool) (step : A → ℕ → M →
   -- no step yet
   pub start : (w : WorkerView A M N) → Worked ready step w w
   start w = record {
-    events = [];
+    node_steps = [];
     number = refl;
     node = refl;
     steps = sym (append-nil _);
@@ -69,7 +69,7 @@ module _ {A M N : Type 0} (ready : A → M → Bool) (step : A → ℕ → M →
   -- a look that found nothing
   pub idle : (old mid new : WorkerView A M N) → Worked ready step old mid → Idled mid new → Worked ready step old new
   idle old mid new w i = record {
-    events = w.events;
+    node_steps = w.node_steps;
     number = ap (λ (v : WorkerView A M N). v.number) i.rest ∙ w.number;
     node = ap (λ (v : WorkerView A M N). v.node) i.rest ∙ w.node;
     steps = ap (λ (v : WorkerView A M N). v.steps) i.rest ∙ w.steps;
@@ -80,7 +80,7 @@ module _ {A M N : Type 0} (ready : A → M → Bool) (step : A → ℕ → M →
         let d : DrawsAt (is_input_of old.number p) (in_at mid.ins p) (in_at new.ins p) [] =
         subst (λ k. DrawsAt (is_input_of k p) (in_at mid.ins p) (in_at new.ins p) []) w.number (i.taken p (subst (λ k. p < k) (sym w.count_ins) h)) in
         subst (λ l. DrawsAt (is_input_of old.number p) (in_at old.ins p) (in_at new.ins p) l) (append-nil _) (drawsAt_then (w.taken p h) d);
-    sent = λ r h. subst (λ (l : List (Outgoing M)). Sends (out_at old.outs r) (out_at l r) (put_between step (length old.outs) old.number r old.node w.events)) (sym (ap (λ (v : WorkerView A M N). v.outs) i.rest)) (w.sent r h);
+    sent = λ r h. subst (λ (l : List (Outgoing M)). Sends (out_at old.outs r) (out_at l r) (put_between step (length old.outs) old.number r old.node w.node_steps)) (sym (ap (λ (v : WorkerView A M N). v.outs) i.rest)) (w.sent r h);
     ports = w.ports;
     was_ready = w.was_ready;
     ticks = w.ticks;
@@ -92,7 +92,7 @@ module _ {A M N : Type 0} (ready : A → M → Bool) (step : A → ℕ → M →
     abbrev e : NodeStep M
     e = record { clock = tick found.clock x; port = p; took = x }
 
-    node_is : found.node ≡ node_after step old.node w.events
+    node_is : found.node ≡ node_after step old.node w.node_steps
     node_is = ap (λ (v : WorkerView A M N). v.node) f.rest ∙ w.node
 
     number_is : found.number ≡ old.number
@@ -101,42 +101,42 @@ module _ {A M N : Type 0} (ready : A → M → Bool) (step : A → ℕ → M →
     outs_is : found.outs ≡ mid.outs
     outs_is = ap (λ (v : WorkerView A M N). v.outs) f.rest
 
-    clock_is : found.clock ≡ clock_after old.clock w.events
+    clock_is : found.clock ≡ clock_after old.clock w.node_steps
     clock_is = ap (λ (v : WorkerView A M N). v.clock) f.rest ∙ w.clock
 
-    taken_is : (q : ℕ) → q < length old.ins → DrawsAt (is_input_of old.number q) (in_at old.ins q) (in_at new.ins q) (taken_at q (w.events ++ e ∷ []))
+    taken_is : (q : ℕ) → q < length old.ins → DrawsAt (is_input_of old.number q) (in_at old.ins q) (in_at new.ins q) (taken_at q (w.node_steps ++ e ∷ []))
     taken_is q h =
         let d : DrawsAt (is_input_of old.number q) (in_at mid.ins q) (in_at new.ins q) (if p == q then x ∷ [] else []) =
         subst (λ (v : ℕ × List (Incoming M)). DrawsAt (is_input_of v.0 q) (in_at mid.ins q) (in_at v.1 q) (if p == q then x ∷ [] else [])) (λ i. (w.number i, sym (ap (λ (v : WorkerView A M N). v.ins) a.rest) i))
         (f.taken q (subst (λ k. q < k) (sym w.count_ins) h)) in
-        subst (λ l. DrawsAt (is_input_of old.number q) (in_at old.ins q) (in_at new.ins q) l) (sym (taken_at-snoc q w.events e)) (drawsAt_then (w.taken q h) d)
+        subst (λ l. DrawsAt (is_input_of old.number q) (in_at old.ins q) (in_at new.ins q) l) (sym (taken_at-snoc q w.node_steps e)) (drawsAt_then (w.taken q h) d)
 
-    sent_is : (r : ℕ) → r < length old.outs → Sends (out_at old.outs r) (out_at new.outs r) (put_between step (length old.outs) old.number r old.node (w.events ++ e ∷ []))
+    sent_is : (r : ℕ) → r < length old.outs → Sends (out_at old.outs r) (out_at new.outs r) (put_between step (length old.outs) old.number r old.node (w.node_steps ++ e ∷ []))
     sent_is r h =
         let count : length found.outs ≡ length old.outs = ap (λ (l : List (Outgoing M)). length l) outs_is ∙ w.count_outs in
-        let s : Sends (out_at mid.outs r) (out_at new.outs r) (put_for (length old.outs) old.number r (tick found.clock x) (step (node_after step old.node w.events) p x.message).sends) =
+        let s : Sends (out_at mid.outs r) (out_at new.outs r) (put_for (length old.outs) old.number r (tick found.clock x) (step (node_after step old.node w.node_steps) p x.message).sends) =
         subst (λ (v : List (Outgoing M) × ℕ × ℕ × A). Sends (out_at v.0 r) (out_at new.outs r) (put_for v.1 v.2 r (tick found.clock x) (step v.3 p x.message).sends)) (λ i. (outs_is i, count i, number_is i, node_is i))
         (a.sent r (subst (λ k. r < k) (sym count) h)) in
-        subst (λ l. Sends (out_at old.outs r) (out_at new.outs r) l) (sym (put_between-snoc step (length old.outs) old.number r old.node w.events e)) (sends_then (w.sent r h) s)
+        subst (λ l. Sends (out_at old.outs r) (out_at new.outs r) l) (sym (put_between-snoc step (length old.outs) old.number r old.node w.node_steps e)) (sends_then (w.sent r h) s)
 
     pub more : Worked ready step old new
     more = record {
-      events = w.events ++ e ∷ [];
+      node_steps = w.node_steps ++ e ∷ [];
       number = ap (λ (v : WorkerView A M N). v.number) a.rest ∙ number_is;
-      node = ap (λ (v : WorkerView A M N). v.node) a.rest ∙ ap (λ b. (step b p x.message).node) node_is ∙ sym (node_after-snoc step old.node w.events e);
-      steps = ap (λ (v : WorkerView A M N). v.steps) a.rest ∙ ap (λ l. l ++ (e.clock, p) ∷ []) (ap (λ (v : WorkerView A M N). v.steps) f.rest ∙ w.steps) ∙ append_assoc old.steps (noted w.events) _
-          ∙ ap (λ l. old.steps ++ l) (sym (noted-snoc w.events e));
+      node = ap (λ (v : WorkerView A M N). v.node) a.rest ∙ ap (λ b. (step b p x.message).node) node_is ∙ sym (node_after-snoc step old.node w.node_steps e);
+      steps = ap (λ (v : WorkerView A M N). v.steps) a.rest ∙ ap (λ l. l ++ (e.clock, p) ∷ []) (ap (λ (v : WorkerView A M N). v.steps) f.rest ∙ w.steps) ∙ append_assoc old.steps (noted w.node_steps) _
+          ∙ ap (λ l. old.steps ++ l) (sym (noted-snoc w.node_steps e));
       notes = ap (λ (v : WorkerView A M N). v.notes) a.rest ∙ ap (λ b. found.notes ++ (step b p x.message).notes ∷ []) node_is
-          ∙ ap (λ l. l ++ (step (node_after step old.node w.events) p x.message).notes ∷ []) (ap (λ (v : WorkerView A M N). v.notes) f.rest ∙ w.notes)
-          ∙ append_assoc old.notes (notes_of step old.node w.events) _ ∙ ap (λ l. old.notes ++ l) (sym (notes_of-snoc step old.node w.events e));
+          ∙ ap (λ l. l ++ (step (node_after step old.node w.node_steps) p x.message).notes ∷ []) (ap (λ (v : WorkerView A M N). v.notes) f.rest ∙ w.notes)
+          ∙ append_assoc old.notes (notes_of step old.node w.node_steps) _ ∙ ap (λ l. old.notes ++ l) (sym (notes_of-snoc step old.node w.node_steps e));
       count_ins = ap (λ (v : WorkerView A M N). length v.ins) a.rest ∙ f.count ∙ w.count_ins;
       count_outs = a.count ∙ ap (λ (l : List (Outgoing M)). length l) outs_is ∙ w.count_outs;
       taken = taken_is;
       sent = sent_is;
-      ports = ports-snoc (length old.ins) w.events e w.ports (subst (λ k. p < k) w.count_ins f.within);
-      was_ready = ready-snoc step ready old.number old.node w.events e w.was_ready (λ n q. subst (λ b. ready b x.message ≡ true) w.node (f.was_ready (w.number ∙ n) q));
-      ticks = ticks-snoc old.clock w.events e w.ticks (ap (λ k. tick k x) clock_is);
-      clock = ap (λ (v : WorkerView A M N). v.clock) a.rest ∙ sym (clock_after-snoc old.clock w.events e);
+      ports = ports-snoc (length old.ins) w.node_steps e w.ports (subst (λ k. p < k) w.count_ins f.within);
+      was_ready = ready-snoc step ready old.number old.node w.node_steps e w.was_ready (λ n q. subst (λ b. ready b x.message ≡ true) w.node (f.was_ready (w.number ∙ n) q));
+      ticks = ticks-snoc old.clock w.node_steps e w.ticks (ap (λ k. tick k x) clock_is);
+      clock = ap (λ (v : WorkerView A M N). v.clock) a.rest ∙ sym (clock_after-snoc old.clock w.node_steps e);
     }
 
     -- and it is longer by one step

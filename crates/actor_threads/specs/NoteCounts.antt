@@ -14,6 +14,6 @@ counts_of [] silent = zeros_then silent []
 counts_of (run ∷ runs) silent = zeros_then run.silent (run.count ∷ counts_of runs silent)
 
 -- the list cut into one list for each count
-abbrev pub cut : {N : Type 0} → List ℕ → List N → List (List N)
-cut [] all = []
-cut (count ∷ counts) all = take count all ∷ cut counts (drop count all)
+abbrev pub by_counts : {N : Type 0} → List ℕ → List N → List (List N)
+by_counts [] all = []
+by_counts (count ∷ counts) all = take count all ∷ by_counts counts (drop count all)

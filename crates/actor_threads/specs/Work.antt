@@ -1,5 +1,5 @@
 -- Steps between code and definition, which nobody has to believe: what a worker does in a round. This project's own. A worker is one node
--- with a way in from each node and a way out to each. Its steps are the events of a history: each has a clock, a port, and the stamped
+-- with a way in from each node and a way out to each. Its steps are those of a history: each has a clock, a port, and the stamped
 -- message that it took.
 use Rattle.std.specs.Prelude.{◌≡◌, ◌==◌, ◌&&◌, ◌<◌, ◌≤◌, ◌⊎◌, ℕ, ◌+◌, Bool, true, false, if◌then◌else◌, List, [], ◌∷◌, ◌++◌, length, slice_index_or, map, max}
 use Rattle.atomic_table.specs.Seated.{TableId}
@@ -135,19 +135,19 @@ module _ {A M N : Type 0} where
 
   -- a worker did these steps: its node is their result, on each port they took a prefix of what was kept and then taken, and what they sent, with their clocks as stamps, stands behind what was sent before
   pub record Worked (ready : A → M → Bool) (step : A → ℕ → M → Stepped A M N) (old new : WorkerView A M N) : Type 0 where
-    pub events : List (NodeStep M)
+    pub node_steps : List (NodeStep M)
     pub number : new.number ≡ old.number
-    pub node : new.node ≡ node_after step old.node events
-    pub steps : new.steps ≡ old.steps ++ noted events
-    pub notes : new.notes ≡ old.notes ++ notes_of step old.node events
+    pub node : new.node ≡ node_after step old.node node_steps
+    pub steps : new.steps ≡ old.steps ++ noted node_steps
+    pub notes : new.notes ≡ old.notes ++ notes_of step old.node node_steps
     pub count_ins : length new.ins ≡ length old.ins
     pub count_outs : length new.outs ≡ length old.outs
-    pub taken : (p : ℕ) → p < length old.ins → DrawsAt (is_input_of old.number p) (in_at old.ins p) (in_at new.ins p) (taken_at p events)
-    pub sent : (r : ℕ) → r < length old.outs → Sends (out_at old.outs r) (out_at new.outs r) (put_between step (length old.outs) old.number r old.node events)
-    pub ports : PortsBelow (length old.ins) events
-    pub was_ready : WasReady ready step old.number old.node events
-    pub ticks : Ticks old.clock events
-    pub clock : new.clock ≡ clock_after old.clock events
+    pub taken : (p : ℕ) → p < length old.ins → DrawsAt (is_input_of old.number p) (in_at old.ins p) (in_at new.ins p) (taken_at p node_steps)
+    pub sent : (r : ℕ) → r < length old.outs → Sends (out_at old.outs r) (out_at new.outs r) (put_between step (length old.outs) old.number r old.node node_steps)
+    pub ports : PortsBelow (length old.ins) node_steps
+    pub was_ready : WasReady ready step old.number old.node node_steps
+    pub ticks : Ticks old.clock node_steps
+    pub clock : new.clock ≡ clock_after old.clock node_steps
 
   -- a worker's round: it did steps, and at least one where one could be done with what is kept
   pub record Ran (ready : A → M → Bool) (step : A → ℕ → M → Stepped A M N) (old new : WorkerView A M N) : Type 0 where

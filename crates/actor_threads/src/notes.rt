@@ -121,9 +121,9 @@ impl<N> Model for Notes<N> {
 
     ghost Value = { List (List N) };
 
-    ghost use Rattle.actor_threads.specs.NoteCounts.{cut};
+    ghost use Rattle.actor_threads.specs.NoteCounts.{by_counts};
 
-    ghost view = { λ s. cut s.counts s.all.items };
+    ghost view = { λ s. by_counts s.counts s.all.items };
 
     ghost invariant = { λ s. sum s.counts ≡ length s.all.items };
 }
@@ -181,9 +181,9 @@ impl<N> Model for NoteQueue<N> {
 
     ghost Value = { List (List N) };
 
-    ghost use Rattle.actor_threads.specs.NoteCounts.{cut};
+    ghost use Rattle.actor_threads.specs.NoteCounts.{by_counts};
 
-    ghost view = { λ s. cut s.counts s.all.items };
+    ghost view = { λ s. by_counts s.counts s.all.items };
 
     ghost invariant = { λ s. sum s.counts ≤ length s.all.items };
 }

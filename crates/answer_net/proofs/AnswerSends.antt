@@ -12,7 +12,7 @@ use Rattle.move_op.specs.declared.door.Door.{Door}
 use Rattle.move_op.specs.declared.door.Door.TheVariants as door
 use Rattle.move_op.specs.declared.phase.Phase.{Phase}
 use Rattle.move_op.specs.declared.phase.Phase.TheVariants as phase
-use Rattle.move_op.specs.Move.{MovePlan, Next, keeps, goes, chunks_of, have_units, put_back, source, destination, put_to, forward_to, pushed, released, returned, all_put, on_event, on_source_enabled, on_piece, on_deleted, on_restored, on_source_fenced, on_put_ok, on_put_no, on_destination_enabled, on_destination_fenced, from_source, from_destination, row}
+use Rattle.move_op.specs.Move.{MovePlan, MoveNext, keeps, goes, chunks_of, have_units, put_back, source, destination, put_to, forward_to, pushed, released, returned, all_put, on_event, on_source_enabled, on_piece, on_deleted, on_restored, on_source_fenced, on_put_ok, on_put_no, on_destination_enabled, on_destination_fenced, from_source, from_destination, row}
 use Rattle.actor_net.specs.Network.{reaches}
 use Rattle.actor_net.proofs.WeightLaws.{sent_weight}
 use Rattle.unit_machine.proofs.Labels.{Each, each-append}
@@ -34,7 +34,7 @@ none_weighs n k [] h = refl
 none_weighs n k (x ∷ xs) h = let own = h.0 in let rest = none_weighs n k xs h.1 in rw (own, rest, if_zero (reaches n k x.0)) refl
 
 module _ (plan : MovePlan) where
-  abbrev Quiet : Next → Type 0
+  abbrev Quiet : MoveNext → Type 0
   Quiet next = NoAnswer next.sends
 
   puts : (ps : List Piece) → NoAnswer (map (put_to plan false) ps)

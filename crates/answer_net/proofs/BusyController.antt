@@ -22,7 +22,7 @@ use Rattle.copy_share.specs.Copy.{CopyPlan}
 use Rattle.copy_share.specs.Copy as copy
 use Rattle.copy_share.specs.Share.{SharePlan, ShareState}
 use Rattle.copy_share.specs.Share as share
-use Rattle.move_op.specs.Move.{MovePlan, MoveState, Row, row_in, answer_of, begun}
+use Rattle.move_op.specs.Move.{MovePlan, MoveState, MoveRow, row_in, answer_of, begun}
 use Rattle.ctrl_node.specs.declared.operation.Operation.{Operation}
 use Rattle.ctrl_node.specs.declared.operation.Operation.TheVariants.{Move, Copy, Share}
 use Rattle.ctrl_node.specs.Operations.{turn_of, moved}
@@ -105,7 +105,7 @@ module _ (g : Given) (log : List Note) (waits : List ℕ) where
         by_turn did (Ends d) = subst StepIs (sym d) (record { busy = op_closed g c.operations log waits h op (Copy y) (Copy y) is (h.plan op (Copy y) is) Done refl (ap is_share (h.plan op (Copy y) is).0.order_is) refl; says = (tt, tt) })
     turn_is op port m (Some (Move mv)) is no_share label = by_answer (answer_of r.next.phase) refl
       where
-        r : Row
+        r : MoveRow
         r = row_in mv c.store port m
 
         n : MoveState

@@ -24,7 +24,7 @@ use Rattle.ctrl_node.specs.Controller.{opened as opened_controller}
 use Rattle.net_world.specs.declared.config.Config.{Config}
 use Rattle.net_world.specs.declared.node.Node.{Node}
 use Rattle.net_world.specs.Commands.{Answers, is_share, times_installed}
-use Rattle.net_world.specs.Input.{is_item, commands, order_of, IsInput}
+use Rattle.net_world.specs.Input.{is_item, commands, order_numbered, IsInput}
 use Rattle.net_world.specs.Nodes.{node_step, node_ready}
 use Rattle.net_world.specs.Start.{first_nodes, started}
 use Rattle.outline_net.proofs.StateOutline.{all_each}
@@ -119,7 +119,7 @@ module _ (F : Type 0) {R : Type 0} (f : Semantics R) (laws : FunctionLaws f) (al
       }
 
   -- and the switch changes no rules for a copy
-  pub no_rules : (cs : List Choice) → IsRun node_ready (node_step f) cs first → (op : ℕ) (source destination : List ℕ) (filter : Option Filter) → order_of items op ≡ Some (order.Copy source destination filter) → times_installed op (run (node_step f) cs first).log ≡ 0
+  pub no_rules : (cs : List Choice) → IsRun node_ready (node_step f) cs first → (op : ℕ) (source destination : List ℕ) (filter : Option Filter) → order_numbered items op ≡ Some (order.Copy source destination filter) → times_installed op (run (node_step f) cs first).log ≡ 0
   no_rules cs run_is op source destination filter known =
       let busy = run_busy cs run_is in
       still_installed f g (length c.names + 2) refl (run (node_step f) cs first) busy.0 busy.1 (run_installs F f laws alloc c items is cs run_is) op (ap is_moving known) (ap is_share known)

@@ -24,7 +24,7 @@ use Rattle.copy_share.specs.Copy.{CopyPlan, CopyState}
 use Rattle.copy_share.specs.Copy as copy
 use Rattle.copy_share.specs.Share.{SharePlan, ShareState}
 use Rattle.copy_share.specs.Share as share
-use Rattle.move_op.specs.Move.{MovePlan, MoveState, Row, row_in, begun, answer_of}
+use Rattle.move_op.specs.Move.{MovePlan, MoveState, MoveRow, row_in, begun, answer_of}
 use Rattle.ctrl_node.specs.declared.operation.Operation.{Operation}
 use Rattle.ctrl_node.specs.declared.operation.Operation.TheVariants.{Move, Copy, Share}
 use Rattle.ctrl_node.specs.Operations.{turn_of, moved}
@@ -149,7 +149,7 @@ module _ (g : Given) (n : ℕ) (reach : reaches n 1 0 ≡ true) (c : ControllerS
     turn_acts op port m (Some (Copy y)) is no_share = copy_acts op y is m _ (copy_turns g c are op y is port m)
     turn_acts op port m (Some (Move mv)) is no_share = by_answer (answer_of r.next.phase) refl
       where
-        r : Row
+        r : MoveRow
         r = row_in mv c.store port m
 
         x : MoveState

@@ -17,7 +17,7 @@ use Rattle.move_op.specs.declared.door.Door.{Door}
 use Rattle.move_op.specs.declared.door.Door.TheVariants as door
 use Rattle.move_op.specs.declared.phase.Phase.{Phase}
 use Rattle.move_op.specs.declared.phase.Phase.TheVariants as phase
-use Rattle.move_op.specs.Move.{MovePlan, Next, keeps, goes, chunks_of, have_units, put_back, source, destination, put_to, forward_to, enable_at, pushed, released, returned, all_put, on_event, on_source_enabled, on_piece, on_deleted, on_restored, on_source_fenced, on_put_ok, on_put_no, on_destination_enabled, on_destination_fenced, from_source, from_destination, row}
+use Rattle.move_op.specs.Move.{MovePlan, MoveNext, keeps, goes, chunks_of, have_units, put_back, source, destination, put_to, forward_to, enable_at, pushed, released, returned, all_put, on_event, on_source_enabled, on_piece, on_deleted, on_restored, on_source_fenced, on_put_ok, on_put_no, on_destination_enabled, on_destination_fenced, from_source, from_destination, row}
 use Rattle.actor_net.specs.Network.{reaches}
 use Rattle.actor_net.proofs.WeightLaws.{sent_weight}
 use Rattle.answer_net.proofs.CreditCounts.{sent_weight-append}
@@ -83,12 +83,12 @@ module _ (n k : ℕ) where
 
 module _ (n : ℕ) (reach : reaches n 1 0 ≡ true) (plan : MovePlan) where
   -- what a move in a phase sends, and what it goes to
-  pub record Adds (ph : Phase) (next : Next) : Type 0 where
+  pub record Adds (ph : Phase) (next : MoveNext) : Type 0 where
     pub own : sent_weight (install plan.op) n 1 next.sends + passed ph ≡ passed next.phase
     pub other : (op : ℕ) → (plan.op == op) ≡ false → sent_weight (install op) n 1 next.sends ≡ 0
     pub unfinished : sent_weight finish n 1 next.sends ≡ 0
 
-  adds_none : (ph : Phase) (next : Next) → passed next.phase ≡ passed ph → NoInstall n 1 next.sends → Adds ph next
+  adds_none : (ph : Phase) (next : MoveNext) → passed next.phase ≡ passed ph → NoInstall n 1 next.sends → Adds ph next
   adds_none ph next same none = record { own = (let own = none (Some plan.op) in omega (arith, same, own)); other = λ op off. none (Some op); unfinished = none None }
 
   stays : (ph : Phase) → Adds ph (goes ph [])

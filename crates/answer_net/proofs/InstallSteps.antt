@@ -27,7 +27,7 @@ use Rattle.copy_share.specs.Share.{SharePlan, ShareState}
 use Rattle.copy_share.specs.Share as share
 use Rattle.move_op.specs.declared.phase.Phase.{Phase}
 use Rattle.move_op.specs.declared.phase.Phase.TheVariants as phase
-use Rattle.move_op.specs.Move.{MovePlan, MoveState, Row, row_in, begun, answer_of}
+use Rattle.move_op.specs.Move.{MovePlan, MoveState, MoveRow, row_in, begun, answer_of}
 use Rattle.event_store.specs.Store.{stored}
 use Rattle.ctrl_node.specs.declared.operation.Operation.{Operation}
 use Rattle.ctrl_node.specs.declared.operation.Operation.TheVariants.{Move, Copy, Share}
@@ -187,7 +187,7 @@ module _ (n : ℕ) (reach : reaches n 1 0 ≡ true) (g : Given) (k : ℕ) (c : C
     turn_is op port m (Some (Copy y)) is no_share = copy_is op y is m _ (copy_turns g c are op y is port m)
     turn_is op port m (Some (Move mv)) is no_share = by_answer (answer_of r.next.phase) refl
       where
-        r : Row
+        r : MoveRow
         r = row_in mv c.store port m
 
         x : MoveState

@@ -14,7 +14,7 @@ use Rattle.move_op.specs.declared.door.Door.{Door}
 use Rattle.move_op.specs.declared.door.Door.TheVariants as door
 use Rattle.move_op.specs.declared.phase.Phase.{Phase}
 use Rattle.move_op.specs.declared.phase.Phase.TheVariants as phase
-use Rattle.move_op.specs.Move.{MovePlan, Next, keeps, goes, chunks_of, have_units, put_back, source, destination, put_to, forward_to, enable_at, pushed, released, returned, all_put, on_event, on_source_enabled, on_piece, on_deleted, on_restored, on_source_fenced, on_put_ok, on_put_no, on_destination_enabled, on_destination_fenced, from_source, from_destination, row}
+use Rattle.move_op.specs.Move.{MovePlan, MoveNext, keeps, goes, chunks_of, have_units, put_back, source, destination, put_to, forward_to, enable_at, pushed, released, returned, all_put, on_event, on_source_enabled, on_piece, on_deleted, on_restored, on_source_fenced, on_put_ok, on_put_no, on_destination_enabled, on_destination_fenced, from_source, from_destination, row}
 use Rattle.actor_net.specs.Network.{reaches}
 use Rattle.actor_net.proofs.WeightLaws.{sent_weight}
 use Rattle.answer_net.proofs.CreditCounts.{sent_weight-append}
@@ -81,11 +81,11 @@ few_counts m first op = omega arith
 
 module _ (n : ℕ) (first : Bool) (plan : MovePlan) where
   -- what a move in a phase sends, and what it goes to
-  pub record Spends (ph : Phase) (next : Next) : Type 0 where
+  pub record Spends (ph : Phase) (next : MoveNext) : Type 0 where
     pub own : sent_weight (once first plan.op) n 1 next.sends + spent ph first ≤ spent next.phase first
     pub other : (op : ℕ) → (plan.op == op) ≡ false → sent_weight (once first op) n 1 next.sends ≡ 0
 
-  spends_none : (ph : Phase) (next : Next) → spent ph first ≤ spent next.phase first → NoneOnce n 1 first next.sends → Spends ph next
+  spends_none : (ph : Phase) (next : MoveNext) → spent ph first ≤ spent next.phase first → NoneOnce n 1 first next.sends → Spends ph next
   spends_none ph next more none = record { own = (let own = none plan.op in omega (arith, more, own)); other = λ op off. none op }
 
   stays : (ph : Phase) → Spends ph (goes ph [])
@@ -100,7 +100,7 @@ module _ (n : ℕ) (first : Bool) (plan : MovePlan) where
   forwards i (c ∷ cells) = no_more n 1 first 0 (forward_to plan i c).1 (λ op. refl) (map (forward_to plan i) cells) (forwards i cells)
 
   -- the phase alone changes, or else what is sent doesn't count
-  into : (ph : Phase) (next : Next) → spent next.phase first ≡ 1 → NoneOnce n 1 first next.sends → Spends ph next
+  into : (ph : Phase) (next : MoveNext) → spent next.phase first ≡ 1 → NoneOnce n 1 first next.sends → Spends ph next
   into ph next one none = spends_none ph next (let few = spent_few ph first in omega (arith, one, few)) none
 
   -- one message that counts for this command alone

@@ -13,7 +13,7 @@ use Rattle.move_op.specs.declared.door.Door.{Door}
 use Rattle.move_op.specs.declared.door.Door.TheVariants as door
 use Rattle.move_op.specs.declared.phase.Phase.{Phase}
 use Rattle.move_op.specs.declared.phase.Phase.TheVariants as phase
-use Rattle.move_op.specs.Move.{MovePlan, MoveState, Next, Row, keeps, goes, chunks_of, have_units, put_back, source, destination, put_to, forward_to, pushed, released, returned, all_put, on_event, on_source_enabled, on_piece, on_deleted, on_restored, on_source_fenced, on_put_ok, on_put_no, on_destination_enabled, on_destination_fenced, from_source, from_destination, row, answer_of}
+use Rattle.move_op.specs.Move.{MovePlan, MoveState, MoveNext, MoveRow, keeps, goes, chunks_of, have_units, put_back, source, destination, put_to, forward_to, pushed, released, returned, all_put, on_event, on_source_enabled, on_piece, on_deleted, on_restored, on_source_fenced, on_put_ok, on_put_no, on_destination_enabled, on_destination_fenced, from_source, from_destination, row, answer_of}
 use Rattle.actor_net.proofs.WeightLaws.{EachSent}
 use Rattle.whole_joined.proofs.Given.{Given}
 use Rattle.answer_net.proofs.BusyLemmas.{is_outcome}
@@ -43,7 +43,7 @@ answer_is (phase.Over why) a h is = subst (λ o. is_some_outcome o) is h
 answer_is ph a h is = cc
 
 module _ (g : Given) where
-  record NextSays (next : Next) : Type 0 where
+  record NextSays (next : MoveNext) : Type 0 where
     outcome : HasOutcome next.phase
     says : EachSent (Says g) 1 next.sends
 
@@ -167,7 +167,7 @@ module _ (g : Given) where
           ]
 
   -- what a move is to be answered after a row, and what the row sends
-  pub record RowSays (r : Row) : Type 0 where
+  pub record RowSays (r : MoveRow) : Type 0 where
     pub outcome : HasOutcome r.next.phase
     pub says : EachSent (Says g) 1 r.next.sends
 

@@ -15,7 +15,7 @@ use Rattle.actor_net.specs.declared.choice.Choice.{Choice}
 use Rattle.actor_net.specs.Network.{Network, IsRun, run}
 use Rattle.net_world.specs.declared.config.Config.{Config}
 use Rattle.net_world.specs.declared.node.Node.{Node}
-use Rattle.net_world.specs.Input.{order_of, IsInput}
+use Rattle.net_world.specs.Input.{order_numbered, IsInput}
 use Rattle.net_world.specs.Commands.{is_busy, keeps_off}
 use Rattle.net_world.specs.Nodes.{node_step, node_ready}
 use Rattle.net_world.specs.Start.{started}
@@ -30,7 +30,7 @@ pub record IsMoveOf (c : Config) (items : List Msg) (op : ℕ) (filter : Filter)
   pub source : List ℕ
   pub destination : List ℕ
   pub keep : Bool
-  pub order : order_of items op ≡ Some (order.Move source destination filter keep)
+  pub order : order_numbered items op ≡ Some (order.Move source destination filter keep)
   pub from : place_of c.names source ≡ Some ends.0
   pub to : place_of c.names destination ≡ Some ends.1
 
@@ -41,7 +41,7 @@ module _ {R : Type 0} (f : Semantics R) (c : Config) (items : List Msg) (is : Is
 module _ {F R : Type 0} (f : Semantics R) (c : Config) (items : List Msg) (is : IsInput f.kind c items) where
   pub record AreUnderWay (n : ℕ) (w : Network (Node F R) Msg Note) (j : Joined f (given f c items is) n w) : Type 0 where
     -- the open operations are the commands that keep others off
-    pub keeps_is : (op : ℕ) → finite.contains_key j.nodes.controller.operations op ≡ keeps_off c.names (order_of items) op w.log
+    pub keeps_is : (op : ℕ) → finite.contains_key j.nodes.controller.operations op ≡ keeps_off c.names (order_numbered items) op w.log
     -- the command of an open move is under way, and one whose operation isn't open isn't
     pub open_busy : (op : ℕ) (m : MoveState) → finite.get j.nodes.controller.operations op ≡ Some (Move m) → is_busy op w.log ≡ true
     pub closed_busy : (op : ℕ) → finite.get j.nodes.controller.operations op ≡ None → is_busy op w.log ≡ false

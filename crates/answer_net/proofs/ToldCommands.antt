@@ -34,7 +34,7 @@ use Rattle.net_world.specs.declared.config.Config.{Config}
 use Rattle.net_world.specs.declared.node.Node.{Node}
 use Rattle.net_world.specs.declared.node.Node.TheVariants.{Controller}
 use Rattle.net_world.specs.Commands.{began, has_answered, is_share, keeps_off, answers_of}
-use Rattle.net_world.specs.Input.{IsInput, are_unlike, commands, order_of, ends_last}
+use Rattle.net_world.specs.Input.{IsInput, are_unlike, commands, order_numbered, ends_last}
 use Rattle.net_world.specs.Nodes.{node_step, node_ready, node_ended}
 use Rattle.net_world.specs.Start.{first_nodes, started}
 use Rattle.outline_net.proofs.FiltersApart.{and_l, and_r, is_whole}
@@ -215,7 +215,7 @@ module _ {F R : Type 0} (f : Semantics R) (g : Given) (n : ℕ) (count_is : n �
           left (suc (suc i)) takes (omega (arith, none))
 
 -- a command of the input
-listed : (op : ℕ) (items : List Msg) (what : Order) → order_of items op ≡ Some what → 1 ≤ weigh (told op) items
+listed : (op : ℕ) (items : List Msg) (what : Order) → order_numbered items op ≡ Some what → 1 ≤ weigh (told op) items
 listed op [] what is = cc
 listed op (msg.InCommand c ∷ items) what is = elim (c.op == op) as (λ b. option_map (λ x. x.what) (if b then Some c else find (λ x. x.op == op) (commands items)) ≡ Some what → 1 ≤ (if b then 1 else 0) + weigh (told op) items) [
   | true ↦ λ here. omega arith
@@ -262,7 +262,7 @@ module _ (F : Type 0) {R : Type 0} (f : Semantics R) (laws : FunctionLaws f) (al
           told_after f g nodes refl items w k.node k.port t.message t.rest r.joined (its_takes f laws g fitting nodes refl w k t r.joined r.beside) (its_label f laws g fitting nodes refl w k t r.joined r.beside) b h
 
   -- in a complete run each command is answered, if none stands behind the input's end
-  pub each_answered : ends_last items ≡ true → (cs : List Choice) → IsRun node_ready (node_step f) cs start → is_done node_ended (run (node_step f) cs start) ≡ true → (op : ℕ) (what : Order) → order_of items op ≡ Some what → length (answers_of op (run (node_step f) cs start).log) ≡ 1
+  pub each_answered : ends_last items ≡ true → (cs : List Choice) → IsRun node_ready (node_step f) cs start → is_done node_ended (run (node_step f) cs start) ≡ true → (op : ℕ) (what : Order) → order_numbered items op ≡ Some what → length (answers_of op (run (node_step f) cs start).log) ≡ 1
   each_answered last cs run_is done op what known =
       let w = run (node_step f) cs start in
       let busy = run_busy F f laws alloc c items is cs run_is in

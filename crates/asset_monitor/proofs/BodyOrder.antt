@@ -19,7 +19,7 @@ use Rattle.asset_monitor.specs.declared.banner.Banner.{Banner}
 use Rattle.asset_monitor.specs.declared.banner.Banner.TheVariants.{Unseen, Ssh, Http, Greeting, Pop3, Imap}
 use Rattle.asset_monitor.specs.declared.record.AssetRecord.{AssetRecord}
 use Rattle.asset_monitor.specs.declared.service.Service.{Service}
-use Rattle.asset_monitor.specs.Banners.{number_of}
+use Rattle.asset_monitor.specs.Banners.{banner_number}
 use Rattle.asset_monitor.specs.Body.{body_of, service_bytes}
 use Rattle.asset_monitor.specs.Monitor.{monitor}
 use Rattle.asset_monitor.specs.ServiceLemmas.{all_services}
@@ -27,7 +27,7 @@ use Rattle.asset_monitor.specs.Services.{are_services, is_service}
 
 -- the order of banners is that of their numbers
 abbrev IsByNumbers : Banner → Banner → Type 0
-IsByNumbers a b = banners.cmp-value.it a b ≡ nat_cmp (number_of a) (number_of b)
+IsByNumbers a b = banners.cmp-value.it a b ≡ nat_cmp (banner_number a) (banner_number b)
 
 by_numbers : (a b : Banner) → IsByNumbers a b
 by_numbers Unseen b = elim b as (IsByNumbers Unseen) [ Unseen ↦ refl | Ssh ↦ refl | Http ↦ refl | Greeting ↦ refl | Pop3 ↦ refl | Imap ↦ refl ]
@@ -49,13 +49,13 @@ services_cmp (x ∷ xs) (y ∷ ys) l p q =
     let mine : x.port < 2 ^ 16 = ltb-true x.port (2 ^ 16) (both_true (is_transport x.proto) (nat_lt x.port (2 ^ 16)) first.0).1 in
     let theirs : y.port < 2 ^ 16 = ltb-true y.port (2 ^ 16) (both_true (is_transport y.proto) (nat_lt y.port (2 ^ 16)) second.0).1 in
     rw (
-      append_assoc (number_bytes 2 x.port) (number_of x.banner ∷ []) (flat_map service_bytes xs),
-      append_assoc (number_bytes 2 y.port) (number_of y.banner ∷ []) (flat_map service_bytes ys),
-      slice_cmp-number_bytes 2 x.port y.port (number_of x.banner ∷ flat_map service_bytes xs) (number_of y.banner ∷ flat_map service_bytes ys) mine theirs,
+      append_assoc (number_bytes 2 x.port) (banner_number x.banner ∷ []) (flat_map service_bytes xs),
+      append_assoc (number_bytes 2 y.port) (banner_number y.banner ∷ []) (flat_map service_bytes ys),
+      slice_cmp-number_bytes 2 x.port y.port (banner_number x.banner ∷ flat_map service_bytes xs) (banner_number y.banner ∷ flat_map service_bytes ys) mine theirs,
       services_cmp xs ys (omega (arith, l)) first.1 second.1,
       by_numbers x.banner y.banner,
-      ordering_then-assoc (nat_cmp x.proto y.proto) (ordering_then (nat_cmp x.port y.port) (nat_cmp (number_of x.banner) (number_of y.banner))) (slice_cmp services.cmp-value.it xs ys),
-      ordering_then-assoc (nat_cmp x.port y.port) (nat_cmp (number_of x.banner) (number_of y.banner)) (slice_cmp services.cmp-value.it xs ys),
+      ordering_then-assoc (nat_cmp x.proto y.proto) (ordering_then (nat_cmp x.port y.port) (nat_cmp (banner_number x.banner) (banner_number y.banner))) (slice_cmp services.cmp-value.it xs ys),
+      ordering_then-assoc (nat_cmp x.port y.port) (nat_cmp (banner_number x.banner) (banner_number y.banner)) (slice_cmp services.cmp-value.it xs ys),
     ) refl
 
 twice : (o p : Ordering) → ordering_then o (ordering_then o p) ≡ ordering_then o p

@@ -23,13 +23,13 @@ is_unseen Unseen = true
 is_unseen banner = false
 
 -- the numbers that outputs and stored records use for the banners
-abbrev pub number_of : Banner → ℕ
-number_of Unseen = 0
-number_of Ssh = 1
-number_of Http = 2
-number_of Greeting = 3
-number_of Pop3 = 4
-number_of Imap = 5
+abbrev pub banner_number : Banner → ℕ
+banner_number Unseen = 0
+banner_number Ssh = 1
+banner_number Http = 2
+banner_number Greeting = 3
+banner_number Pop3 = 4
+banner_number Imap = 5
 
 -- all banners, in the order of their numbers
 abbrev pub all_banners : List Banner

@@ -8,7 +8,7 @@ use Rattle.nf_function.specs.declared.unit.Unit.TheVariants.{Flow as OfFlow, Hos
 use Rattle.nf_function.specs.Stored.{number_bytes, first_byte, first_number}
 use Rattle.asset_monitor.specs.declared.record.AssetRecord.{AssetRecord}
 use Rattle.asset_monitor.specs.declared.service.Service.{Service}
-use Rattle.asset_monitor.specs.Banners.{banner_of, number_of}
+use Rattle.asset_monitor.specs.Banners.{banner_of, banner_number}
 use Rattle.asset_monitor.specs.Services.{are_services, services_per_host}
 
 -- a record of the host: it has counted a packet, and its services are ones that a host can have
@@ -17,7 +17,7 @@ is_valid (OfFlow flow) r = false
 is_valid (OfHost host) r = nat_lt host (2 ^ 32) && are_services r.services && nat_le 1 r.packets && nat_lt r.packets (2 ^ 64)
 
 abbrev pub service_bytes : Service → List ℕ
-service_bytes s = s.proto ∷ (number_bytes 2 s.port ++ number_of s.banner ∷ [])
+service_bytes s = s.proto ∷ (number_bytes 2 s.port ++ banner_number s.banner ∷ [])
 
 unfoldable pub body_of : AssetRecord → List ℕ
 body_of r = number_bytes 8 r.packets ++ length r.services ∷ flat_map service_bytes r.services

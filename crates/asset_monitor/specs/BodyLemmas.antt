@@ -15,7 +15,7 @@ use Rattle.asset_monitor.specs.declared.banner.Banner.{Banner}
 use Rattle.asset_monitor.specs.declared.banner.Banner.TheVariants.{Unseen, Ssh, Http, Greeting, Pop3, Imap}
 use Rattle.asset_monitor.specs.declared.record.AssetRecord.{AssetRecord}
 use Rattle.asset_monitor.specs.declared.service.Service.{Service}
-use Rattle.asset_monitor.specs.Banners.{banner_of, number_of}
+use Rattle.asset_monitor.specs.Banners.{banner_of, banner_number}
 use Rattle.asset_monitor.specs.Services.{are_services, is_service, services_per_host}
 use Rattle.asset_monitor.specs.ServiceLemmas.{all_services, few_services}
 use Rattle.asset_monitor.specs.Body.{body_of, few, first_service, is_valid, record_in, service_bytes, services_in, spelled, valid_only}
@@ -46,22 +46,22 @@ valid_from host r v =
     (lt-ltb r.packets (2 ^ 64) v.packets)
 
 -- banners are known by their numbers
-banner_of-number_of : (banner : Banner) → banner_of (number_of banner) ≡ Some banner
-banner_of-number_of Unseen = refl
-banner_of-number_of Ssh = refl
-banner_of-number_of Http = refl
-banner_of-number_of Greeting = refl
-banner_of-number_of Pop3 = refl
-banner_of-number_of Imap = refl
+banner_of-banner_number : (banner : Banner) → banner_of (banner_number banner) ≡ Some banner
+banner_of-banner_number Unseen = refl
+banner_of-banner_number Ssh = refl
+banner_of-banner_number Http = refl
+banner_of-banner_number Greeting = refl
+banner_of-banner_number Pop3 = refl
+banner_of-banner_number Imap = refl
 
-number_of-banner : (n : ℕ) (banner : Banner) → banner_of n ≡ Some banner → number_of banner ≡ n
-number_of-banner zero banner h = rw (← same_Some Unseen banner h) refl
-number_of-banner (suc zero) banner h = rw (← same_Some Ssh banner h) refl
-number_of-banner (suc (suc zero)) banner h = rw (← same_Some Http banner h) refl
-number_of-banner (suc (suc (suc zero))) banner h = rw (← same_Some Greeting banner h) refl
-number_of-banner (suc (suc (suc (suc zero)))) banner h = rw (← same_Some Pop3 banner h) refl
-number_of-banner (suc (suc (suc (suc (suc zero))))) banner h = rw (← same_Some Imap banner h) refl
-number_of-banner (suc (suc (suc (suc (suc (suc n)))))) banner h = cc
+banner_number-banner : (n : ℕ) (banner : Banner) → banner_of n ≡ Some banner → banner_number banner ≡ n
+banner_number-banner zero banner h = rw (← same_Some Unseen banner h) refl
+banner_number-banner (suc zero) banner h = rw (← same_Some Ssh banner h) refl
+banner_number-banner (suc (suc zero)) banner h = rw (← same_Some Http banner h) refl
+banner_number-banner (suc (suc (suc zero))) banner h = rw (← same_Some Greeting banner h) refl
+banner_number-banner (suc (suc (suc (suc zero)))) banner h = rw (← same_Some Pop3 banner h) refl
+banner_number-banner (suc (suc (suc (suc (suc zero))))) banner h = rw (← same_Some Imap banner h) refl
+banner_number-banner (suc (suc (suc (suc (suc (suc n)))))) banner h = cc
 
 -- a service is read again, whatever follows
 first_service-service_bytes : (s : Service) (rest : List ℕ) → is_service s ≡ true → first_service (service_bytes s ++ rest) ≡ Some (s, rest)
@@ -69,9 +69,9 @@ unfolding first_service
 first_service-service_bytes s rest h =
     let port = ltb-true s.port (2 ^ 16) (both_true (is_transport s.proto) (nat_lt s.port (2 ^ 16)) h).1 in
     rw (
-      append_assoc (number_bytes 2 s.port) (number_of s.banner ∷ []) rest,
-      first_number-number_bytes 2 s.port (number_of s.banner ∷ rest) port,
-      banner_of-number_of s.banner,
+      append_assoc (number_bytes 2 s.port) (banner_number s.banner ∷ []) rest,
+      first_number-number_bytes 2 s.port (banner_number s.banner ∷ rest) port,
+      banner_of-banner_number s.banner,
     ) refl
 
 services_in-flat_map : (services : List Service) → list_all is_service services ≡ true → services_in (length services) (flat_map service_bytes services) ≡ Some services
@@ -121,14 +121,14 @@ first_service-some (proto ∷ bytes) read are h =
     option_and_then_some _ (first_byte port.1) read h1 (λ number q h2.
     option_and_then_some _ (banner_of number.0) read h2 (λ banner named last.
     let first = first_number-some 2 bytes port.0 port.1 (IsBytes-tail proto bytes are) p in
-    let second : port.1 ≡ number_of banner ∷ number.1 =
-    first_byte-some port.1 number q ∙ ap (λ (n : ℕ). n ∷ number.1) (sym (number_of-banner number.0 banner named)) in
+    let second : port.1 ≡ banner_number banner ∷ number.1 =
+    first_byte-some port.1 number q ∙ ap (λ (n : ℕ). n ∷ number.1) (sym (banner_number-banner number.0 banner named)) in
     let whole = same_Some (record { proto = proto; port = port.0; banner = banner }, number.1) read last in
     rw (← whole) (record {
       stored = ap (λ (more : List ℕ). proto ∷ more)
           (first.spelled ∙ ap (λ (more : List ℕ). number_bytes 2 port.0 ++ more) second
-          ∙ sym (append_assoc (number_bytes 2 port.0) (number_of banner ∷ []) number.1));
-      rest_bytes = IsBytes-tail (number_of banner) number.1 (rw second at first.rest_bytes);
+          ∙ sym (append_assoc (number_bytes 2 port.0) (banner_number banner ∷ []) number.1));
+      rest_bytes = IsBytes-tail (banner_number banner) number.1 (rw second at first.rest_bytes);
     }))))
 
 services_in-some : (n : ℕ) (bytes : List ℕ) (services : List Service) → IsBytes bytes → services_in n bytes ≡ Some services
@@ -177,8 +177,8 @@ length-services : (services : List Service) → length (flat_map service_bytes s
 length-services [] = refl
 length-services (s ∷ more) =
     rw (
-      length-append (number_bytes 2 s.port ++ number_of s.banner ∷ []) (flat_map service_bytes more),
-      length-append (number_bytes 2 s.port) (number_of s.banner ∷ []),
+      length-append (number_bytes 2 s.port ++ banner_number s.banner ∷ []) (flat_map service_bytes more),
+      length-append (number_bytes 2 s.port) (banner_number s.banner ∷ []),
       length-number_bytes 2 s.port,
       length-services more,
     ) (omega arith)

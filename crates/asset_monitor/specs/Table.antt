@@ -11,7 +11,7 @@ use Rattle.nf_function.specs.Units.{is_tcp, is_udp, is_transport}
 use Rattle.asset_monitor.specs.declared.banner.Banner.TheVariants.{Unseen}
 use Rattle.asset_monitor.specs.declared.record.AssetRecord.{AssetRecord}
 use Rattle.asset_monitor.specs.declared.service.Service.{Service}
-use Rattle.asset_monitor.specs.Banners.{banner_in, is_unseen, number_of}
+use Rattle.asset_monitor.specs.Banners.{banner_in, is_unseen, banner_number}
 use Rattle.asset_monitor.specs.Services.{listed, services_per_host, with_service}
 
 -- a packet of TCP or UDP that the local host sends. No capture has one of another protocol.
@@ -63,7 +63,7 @@ found s = record { code = 1; a = s.proto; b = s.port }
 
 -- `banner tcp PORT NAME` or `banner udp PORT NAME`
 abbrev pub greeted : Service → Output
-greeted s = record { code = 2; a = s.proto * 256 + number_of s.banner; b = s.port }
+greeted s = record { code = 2; a = s.proto * 256 + banner_number s.banner; b = s.port }
 
 -- `full`
 abbrev pub full : Output

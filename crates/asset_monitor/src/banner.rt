@@ -1,5 +1,5 @@
 ghost use Rattle.std.specs.Prelude.{◌≡◌, ◌≤◌, length};
-ghost use Rattle.asset_monitor.specs.Banners.{all_banners, banner_in, banner_of, is_unseen, name_of, number_of};
+ghost use Rattle.asset_monitor.specs.Banners.{all_banners, banner_in, banner_of, is_unseen, name_of, banner_number};
 
 /// What a service's packets were seen to begin with.
 #[derive(Clone, Copy, Debug, PartialEq, Eq, PartialOrd, Ord)]
@@ -72,7 +72,7 @@ impl Banner {
 
     /// The banner's number in outputs and stored records.
     pub fn number(self) -> u8
-        ensures { result ≡ number_of self }
+        ensures { result ≡ banner_number self }
     {
         self as u8
     }

@@ -10,15 +10,15 @@ use Rattle.basics.proofs.SplitLemmas.{Lacks}
 use Rattle.basics.proofs.DecimalLemmas.{AreDigits, own, parse_number-decimal}
 
 -- digits lack what is no digit
-lacks_digits : (mark : ℕ) (ds : List ℕ) → (IsInRange 48 57 mark → ⊥) → AreDigits ds → Lacks mark ds
-lacks_digits mark [] other digits = tt
-lacks_digits mark (d ∷ ds) other digits = (
-  ne_eqb d mark (λ e. other (let first : IsInRange 48 57 d = digits 0 (omega arith) in rw (← e) first)),
-  lacks_digits mark ds other (λ i below. digits (suc i) (omega arith)),
+lacks_digits : (separator : ℕ) (ds : List ℕ) → (IsInRange 48 57 separator → ⊥) → AreDigits ds → Lacks separator ds
+lacks_digits separator [] other digits = tt
+lacks_digits separator (d ∷ ds) other digits = (
+  ne_eqb d separator (λ e. other (let first : IsInRange 48 57 d = digits 0 (omega arith) in rw (← e) first)),
+  lacks_digits separator ds other (λ i below. digits (suc i) (omega arith)),
 )
 
-pub Lacks-decimal : (mark n : ℕ) → (IsInRange 48 57 mark → ⊥) → n < 2 ^ 64 → Lacks mark (decimal n)
-Lacks-decimal mark n other small = lacks_digits mark (decimal n) other (digits_decimal own n small)
+pub Lacks-decimal : (separator n : ℕ) → (IsInRange 48 57 separator → ⊥) → n < 2 ^ 64 → Lacks separator (decimal n)
+Lacks-decimal separator n other small = lacks_digits separator (decimal n) other (digits_decimal own n small)
 
 -- a number within its bound
 pub parse_number-printed : (most n : ℕ) → n ≤ most → n < 2 ^ 64 → parse_number most (decimal n) ≡ Some n

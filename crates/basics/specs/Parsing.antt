@@ -9,12 +9,12 @@ use Rattle.std.specs.Fmt.{decimal}
 unfoldable pub parse_number : ℕ → List ℕ → Option ℕ
 parse_number most text = let n = digits_value 10 text in if bytes_eq text (decimal n) && nat_le n most then Some n else None
 
--- what stands before the first mark, and what stands after it
+-- what stands before the first separator, and what stands after it
 abbrev pub split_once : ℕ → List ℕ → Option (List ℕ × List ℕ)
-split_once mark [] = None
-split_once mark (byte ∷ more) = if byte == mark then Some ([], more) else option_map (λ p. (byte ∷ p.0, p.1)) (split_once mark more)
+split_once separator [] = None
+split_once separator (byte ∷ more) = if byte == separator then Some ([], more) else option_map (λ p. (byte ∷ p.0, p.1)) (split_once separator more)
 
 -- the pieces of a text between the marks, or none where nothing is left
 abbrev pub remaining_pieces : ℕ → Option (List ℕ) → List (List ℕ)
-remaining_pieces mark None = []
-remaining_pieces mark (Some text) = slice_split (λ b. b == mark) text
+remaining_pieces separator None = []
+remaining_pieces separator (Some text) = slice_split (λ b. b == separator) text

@@ -40,28 +40,28 @@ fn parsed(text: &[u8]) -> Option<u64>
     }
 }
 
-/// What stands before the first `mark` and what stands after it, or `None` where there is none.
-pub fn split_once(text: &[u8], mark: u8) -> Option<(&[u8], &[u8])>
-    ensures value { option_map (λ p. (p.0.now, p.1.now)) result ≡ split_once mark text.now }
+/// What stands before the first `separator` and what stands after it, or `None` where there is none.
+pub fn split_once(text: &[u8], separator: u8) -> Option<(&[u8], &[u8])>
+    ensures value { option_map (λ p. (p.0.now, p.1.now)) result ≡ split_once separator text.now }
     ensures shorter { IfSome result (λ p. length p.1.now < length text.now) }
 {
-    let at = first_place(text, mark)?;
+    let at = first_place(text, separator)?;
     Some((&text[..at], &text[at + 1..]))
 }
 
-/// The place of the first `mark`.
-fn first_place(text: &[u8], mark: u8) -> Option<usize>
-    ensures { result ≡ position (λ byte. byte == mark) text.now }
+/// The place of the first `separator`.
+fn first_place(text: &[u8], separator: u8) -> Option<usize>
+    ensures { result ≡ position (λ byte. byte == separator) text.now }
 {
-    text.iter().position(|byte| *byte == mark)
+    text.iter().position(|byte| *byte == separator)
 }
 
-/// The piece before the first `mark`, and what stands after the mark, where there is one.
-pub fn first_piece(text: &[u8], mark: u8) -> (&[u8], Option<&[u8]>)
-    ensures pieces { remaining_pieces mark (Some text.now) ≡ result.0.now ∷ remaining_pieces mark (option_map (λ t. t.now) result.1) }
+/// The piece before the first `separator`, and what stands after the separator, where there is one.
+pub fn first_piece(text: &[u8], separator: u8) -> (&[u8], Option<&[u8]>)
+    ensures pieces { remaining_pieces separator (Some text.now) ≡ result.0.now ∷ remaining_pieces separator (option_map (λ t. t.now) result.1) }
     ensures shorter { IfSome result.1 (λ more. length more.now < length text.now) }
 {
-    match split_once(text, mark) {
+    match split_once(text, separator) {
         Some((first, more)) => (first, Some(more)),
         None => (text, None),
     }

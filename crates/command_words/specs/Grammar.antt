@@ -70,7 +70,7 @@ is_on None = false
 is_on (Some text) = bytes_eq text (codes "true")
 
 -- the text that is given for each name, and whether the flag is
-pub record Given : Type 0 where
+pub record GivenTexts : Type 0 where
   pub function : Option Text
   pub instances : Option Text
   pub inside : Option Text
@@ -86,7 +86,7 @@ pub record Given : Type 0 where
   pub hosts : Option Text
 
 -- nothing is given
-abbrev pub nothing : Given
+abbrev pub nothing : GivenTexts
 nothing = record {
   function = None;
   instances = None;
@@ -103,7 +103,7 @@ nothing = record {
   hosts = None;
 }
 
-abbrev pub given_of : List Row → Given
+abbrev pub given_of : List Row → GivenTexts
 given_of rows = record {
   function = value_of (codes "function") rows;
   instances = value_of (codes "instances") rows;
@@ -121,5 +121,5 @@ given_of rows = record {
 }
 
 -- the texts that the words of a command give, or None where the words aren't in its grammar
-unfoldable pub given_arguments : App → List Text → Option Given
+unfoldable pub given_arguments : App → List Text → Option GivenTexts
 given_arguments app words = option_map given_of (rows_taken app words)

@@ -12,7 +12,7 @@ use Rattle.nf_function.specs.declared.kind.Kind.{Kind}
 use Rattle.nf_function.specs.declared.kind.Kind.TheVariants.{Conntrack, Nat, Monitor}
 use Rattle.actor_net.specs.declared.schedule.Schedule.{Schedule}
 use Rattle.actor_net.specs.declared.schedule.Schedule.TheVariants.{First, Last, Number}
-use Rattle.command_words.specs.Grammar.{Given, given_arguments, run_app, sim_app, check_app, gen_app}
+use Rattle.command_words.specs.Grammar.{GivenTexts, given_arguments, run_app, sim_app, check_app, gen_app}
 
 -- only where the test is true
 abbrev pub only : {A : Type 0} → Bool → Option A → Option A
@@ -137,8 +137,8 @@ window_of None = Some 256
 window_of (Some text) = count_of 4096 text
 
 -- NUMBER: below 2 ^ 64
-abbrev pub number_of : Text → Option ℕ
-number_of text = parse_number 18446744073709551615 text
+abbrev pub given_number : Text → Option ℕ
+given_number text = parse_number 18446744073709551615 text
 
 -- `first`, `last` or a number; `first` where it isn't given
 unfoldable pub schedule_of : Option Text → Option Schedule
@@ -146,7 +146,7 @@ schedule_of None = Some First
 schedule_of (Some text) =
     if bytes_eq text (codes "first") then Some First
     else if bytes_eq text (codes "last") then Some Last
-    else option_map Number (number_of text)
+    else option_map Number (given_number text)
 
 -- a file's name isn't empty
 abbrev pub file_of : Text → Option Text
@@ -159,7 +159,7 @@ file_if None = Some None
 file_if (Some text) = file_of text >>= λ name. Some (Some name)
 
 -- the values of the words that `sim`, `run` and `audit` share
-unfoldable pub network_values : Given → Option NetworkAsked
+unfoldable pub network_values : GivenTexts → Option NetworkAsked
 network_values g = do
   kind ← g.function >>= function_of
   instances ← g.instances >>= instances_of
@@ -182,7 +182,7 @@ network_values g = do
   })
 
 -- the values of `check`
-unfoldable pub check_values : Given → Option CheckAsked
+unfoldable pub check_values : GivenTexts → Option CheckAsked
 check_values g = do
   kind ← g.function >>= function_of
   instances ← g.instances >>= instances_of
@@ -190,9 +190,9 @@ check_values g = do
   Some (record { kind = kind; instances = instances; script = script })
 
 -- the values of `gen`: 1 to 1,000,000 packets, and 1 to 256 hosts
-unfoldable pub gen_values : Given → Option GenAsked
+unfoldable pub gen_values : GivenTexts → Option GenAsked
 gen_values g = do
-  number ← g.number >>= number_of
+  number ← g.number >>= given_number
   packets ← g.packets >>= count_of 1000000
   hosts ← g.hosts >>= count_of 256
   trace ← g.trace >>= file_of

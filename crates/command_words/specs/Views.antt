@@ -3,7 +3,7 @@ use Rattle.std.specs.Prelude.{◌≡◌, Option, Some, None, Result, Ok, Err, op
 use Rattle.command_words.specs.declared.fault.ArgumentsFault.{ArgumentsFault}
 use Rattle.command_words.specs.declared.fault.ArgumentsFault.TheVariants.{Usage, NoMemory}
 use Rattle.command_words.specs.declared.grammar.GivenWords.{GivenWords}
-use Rattle.command_words.specs.Grammar.{Given}
+use Rattle.command_words.specs.Grammar.{GivenTexts}
 
 -- Usage exactly where nothing is read; out of memory is free
 abbrev pub Refuses : {Y : Type 0} → ArgumentsFault → Option Y → Type 0
@@ -14,7 +14,7 @@ abbrev pub Reads : {X Y : Type 0} → (X → Y) → Result X ArgumentsFault → 
 Reads view (Ok x) reading = reading ≡ Some (view x)
 Reads view (Err e) reading = Refuses e reading
 
-abbrev pub given_view : GivenWords → Given
+abbrev pub given_view : GivenWords → GivenTexts
 given_view g = record {
   function = option_map (λ t. t.now) g.function;
   instances = option_map (λ t. t.now) g.instances;

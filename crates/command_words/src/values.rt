@@ -3,7 +3,7 @@ ghost use Rattle.std.specs.List.{slice_split};
 ghost use Rattle.flow_filter.specs.Prefixes.{in_prefix};
 ghost use Rattle.basics.specs.Parsing.{split_once, parse_number};
 ghost use Rattle.flow_filter.specs.Reading.{prefix_numbers};
-ghost use Rattle.command_words.specs.Plan.{function_of, limit_of, suffix_of, with_suffix, instance_of, all_instances, instances_of, inside_of, outside_of, window_of, count_of, number_of, schedule_of, file_of, file_if};
+ghost use Rattle.command_words.specs.Plan.{function_of, limit_of, suffix_of, with_suffix, instance_of, all_instances, instances_of, inside_of, outside_of, window_of, count_of, given_number, schedule_of, file_of, file_if};
 ghost use Rattle.command_words.specs.RequestViews.{instance_view, instances_view};
 
 use crate::request::Instances;
@@ -212,8 +212,8 @@ pub fn count_of(text: Option<&str>, most: u32) -> Option<u32>
 }
 
 /// A number below 2 to the 64th, which must be given.
-pub fn number_of(text: Option<&str>) -> Option<u64>
-    ensures { result ≡ option_and_then number_of (option_map (λ t. t.now) text.entry) }
+pub fn given_number(text: Option<&str>) -> Option<u64>
+    ensures { result ≡ option_and_then given_number (option_map (λ t. t.now) text.entry) }
 {
     parse_number(text?.as_bytes(), u64::MAX)
 }
@@ -239,7 +239,7 @@ fn named_schedule(text: &str) -> Option<Schedule>
     } else if text == "last" {
         Some(Schedule::Last)
     } else {
-        number_of(Some(text)).map(Schedule::Number)
+        given_number(Some(text)).map(Schedule::Number)
     }
 }
 

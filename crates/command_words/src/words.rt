@@ -7,7 +7,7 @@ use crate::fault::ArgumentsFault;
 use crate::grammar::{GivenWords, read_check, read_gen, read_run, read_sim};
 use crate::request::{Checking, Generating, MOST_HOSTS, MOST_PACKETS, NetworkRequest, Request};
 use crate::values::{
-    count_of, file_if, file_of, function_of, inside_of, instances_of, number_of, schedule_of,
+    count_of, file_if, file_of, function_of, given_number, inside_of, instances_of, schedule_of,
     site_of, window_of,
 };
 use std::alloc::Global;
@@ -162,7 +162,7 @@ fn gen_values<'a>(given: &GivenWords<'a>) -> Option<Generating<'a>>
     ensures { option_map gen_view result ≡ gen_values (given_view given.now) }
 {
     Some(Generating {
-        number: number_of(given.number)?,
+        number: given_number(given.number)?,
         packets: count_of(given.packets, MOST_PACKETS)?,
         hosts: count_of(given.hosts, MOST_HOSTS)?,
         trace: file_of(given.trace)?,

@@ -10,7 +10,7 @@ use Rattle.nf_function.specs.Stored.{number_bytes}
 use Rattle.nf_function.specs.Records.{age_cmp}
 use Rattle.nf_function.proofs.StoredNumbers.{slice_cmp-number_bytes, length-number_bytes, ordering_then-Equal, ordering_then-again}
 use Rattle.conn_tracker.specs.declared.record.TrackRecord.{TrackRecord}
-use Rattle.conn_tracker.specs.Table.{number_of}
+use Rattle.conn_tracker.specs.Table.{state_number}
 use Rattle.conn_tracker.specs.Body.{direction_number, seen_bytes, body_of}
 use Rattle.conn_tracker.specs.Conntrack.{conntrack}
 use Rattle.conn_tracker.specs.BodyLemmas.{Within}
@@ -53,11 +53,11 @@ seen_cmp m n p q = by_zeros (eqb m 0) (eqb n 0) refl refl
 -- bodies compare field by field
 pub body_cmp : (a b : TrackRecord) → Within a → Within b
     → slice_cmp nat_cmp (body_of a) (body_of b)
-    ≡ ordering_then (nat_cmp (number_of a.state) (number_of b.state)) (ordering_then (nat_cmp (direction_number a.opener) (direction_number b.opener))
+    ≡ ordering_then (nat_cmp (state_number a.state) (state_number b.state)) (ordering_then (nat_cmp (direction_number a.opener) (direction_number b.opener))
     (ordering_then (nat_cmp a.packets b.packets) (ordering_then (nat_cmp a.bytes b.bytes) (nat_cmp a.seen b.seen))))
 unfolding body_of
 body_cmp a b v w =
-    ap (λ o. ordering_then (nat_cmp (number_of a.state) (number_of b.state)) (ordering_then (nat_cmp (direction_number a.opener) (direction_number b.opener)) o))
+    ap (λ o. ordering_then (nat_cmp (state_number a.state) (state_number b.state)) (ordering_then (nat_cmp (direction_number a.opener) (direction_number b.opener)) o))
     (ap (λ (bytes : List ℕ). slice_cmp nat_cmp bytes (number_bytes 8 b.packets ++ number_bytes 8 b.bytes ++ seen_bytes b.seen)) (append_assoc (number_bytes 8 a.packets) (number_bytes 8 a.bytes) (seen_bytes a.seen))
     ∙ ap (slice_cmp nat_cmp (number_bytes 8 a.packets ++ (number_bytes 8 a.bytes ++ seen_bytes a.seen))) (append_assoc (number_bytes 8 b.packets) (number_bytes 8 b.bytes) (seen_bytes b.seen))
     ∙ slice_cmp-number_bytes 8 a.packets b.packets (number_bytes 8 a.bytes ++ seen_bytes a.seen) (number_bytes 8 b.bytes ++ seen_bytes b.seen) v.packets w.packets
@@ -68,9 +68,9 @@ body_cmp a b v w =
 -- records compare by their packets, and then by the fields in the order of their bodies
 pub age_by_fields : (a b : TrackRecord) → Within a → Within b
     → age_cmp conntrack a b
-    ≡ ordering_then (ordering_then (nat_cmp a.packets b.packets) (ordering_then (nat_cmp (number_of a.state) (number_of b.state)) (nat_cmp (direction_number a.opener) (direction_number b.opener))))
+    ≡ ordering_then (ordering_then (nat_cmp a.packets b.packets) (ordering_then (nat_cmp (state_number a.state) (state_number b.state)) (nat_cmp (direction_number a.opener) (direction_number b.opener))))
     (ordering_then (nat_cmp a.bytes b.bytes) (nat_cmp a.seen b.seen))
 age_by_fields a b v w =
     ap (ordering_then (nat_cmp a.packets b.packets)) (body_cmp a b v w)
-    ∙ ordering_then-again (nat_cmp a.packets b.packets) (nat_cmp (number_of a.state) (number_of b.state)) (nat_cmp (direction_number a.opener) (direction_number b.opener))
+    ∙ ordering_then-again (nat_cmp a.packets b.packets) (nat_cmp (state_number a.state) (state_number b.state)) (nat_cmp (direction_number a.opener) (direction_number b.opener))
     (ordering_then (nat_cmp a.bytes b.bytes) (nat_cmp a.seen b.seen))

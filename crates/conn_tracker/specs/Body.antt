@@ -10,7 +10,7 @@ use Rattle.nf_function.specs.Stored.{number_bytes, first_byte, first_number}
 use Rattle.nf_function.specs.Units.{is_tcp, is_transport_flow}
 use Rattle.conn_tracker.specs.declared.record.TrackRecord.{TrackRecord}
 use Rattle.conn_tracker.specs.declared.state.State.{State}
-use Rattle.conn_tracker.specs.Table.{number_of, state_of, is_udp_state}
+use Rattle.conn_tracker.specs.Table.{state_number, state_of, is_udp_state}
 
 -- the directions by their numbers
 abbrev pub direction_number : Direction → ℕ
@@ -38,7 +38,7 @@ abbrev pub seen_bytes : ℕ → List ℕ
 seen_bytes seen = if seen == 0 then [] else number_bytes 8 seen
 
 unfoldable pub body_of : TrackRecord → List ℕ
-body_of r = (number_of r.state ∷ direction_number r.opener ∷ []) ++ number_bytes 8 r.packets ++ number_bytes 8 r.bytes ++ seen_bytes r.seen
+body_of r = (state_number r.state ∷ direction_number r.opener ∷ []) ++ number_bytes 8 r.packets ++ number_bytes 8 r.bytes ++ seen_bytes r.seen
 
 -- the time that bytes spell: none, or one that isn't 0 and all of them
 abbrev pub last_time : ℕ × List ℕ → Option ℕ

@@ -16,7 +16,7 @@ use Rattle.nf_function.proofs.StoredNumbers.{IsFirst, first_number-number_bytes,
 use Rattle.conn_tracker.specs.declared.record.TrackRecord.{TrackRecord}
 use Rattle.conn_tracker.specs.declared.state.State.{State}
 use Rattle.conn_tracker.specs.declared.state.State.TheVariants.{Opening, Answered, Established, FinFwd, FinRev, Closed, Reset, Loose, Single, Both}
-use Rattle.conn_tracker.specs.Table.{number_of, state_of}
+use Rattle.conn_tracker.specs.Table.{state_number, state_of}
 use Rattle.conn_tracker.specs.Body.{direction_number, direction_of, suits, is_within, is_valid, seen_bytes, seen_in, last_time, body_of, spelled, valid_only, record_in}
 
 -- what is true of a record that is valid for a flow
@@ -73,17 +73,17 @@ within (OfFlow flow) r h = let v = valid_facts flow r h in record { packets = v.
 within (OfHost host) r h = cc
 
 -- states and directions are known by their numbers
-state_of-number_of : (s : State) → state_of (number_of s) ≡ Some s
-state_of-number_of Opening = refl
-state_of-number_of Answered = refl
-state_of-number_of Established = refl
-state_of-number_of FinFwd = refl
-state_of-number_of FinRev = refl
-state_of-number_of Closed = refl
-state_of-number_of Reset = refl
-state_of-number_of Loose = refl
-state_of-number_of Single = refl
-state_of-number_of Both = refl
+state_of-state_number : (s : State) → state_of (state_number s) ≡ Some s
+state_of-state_number Opening = refl
+state_of-state_number Answered = refl
+state_of-state_number Established = refl
+state_of-state_number FinFwd = refl
+state_of-state_number FinRev = refl
+state_of-state_number Closed = refl
+state_of-state_number Reset = refl
+state_of-state_number Loose = refl
+state_of-state_number Single = refl
+state_of-state_number Both = refl
 
 direction_of-direction_number : (direction : Direction) → direction_of (direction_number direction) ≡ Some direction
 direction_of-direction_number Out = refl
@@ -112,7 +112,7 @@ spelled-body_of : (r : TrackRecord) → Within r → spelled (body_of r) ≡ Som
 unfolding spelled body_of
 spelled-body_of r w =
     rw (
-      state_of-number_of r.state,
+      state_of-state_number r.state,
       direction_of-direction_number r.opener,
       append_assoc (number_bytes 8 r.packets) (number_bytes 8 r.bytes) (seen_bytes r.seen),
       first_number-number_bytes 8 r.packets (number_bytes 8 r.bytes ++ seen_bytes r.seen) w.packets,
@@ -131,18 +131,18 @@ known_by_body u v a b p q same =
     let both : Some a ≡ Some b = sym (spelled-body_of a (within u a p)) ∙ ap spelled same ∙ spelled-body_of b (within v b q) in cc
 
 -- what state and direction bytes name
-number_of-state : (n : ℕ) (s : State) → state_of n ≡ Some s → number_of s ≡ n
-number_of-state zero s h = let is : Opening ≡ s = cc in rw (← is) refl
-number_of-state (suc zero) s h = let is : Answered ≡ s = cc in rw (← is) refl
-number_of-state (suc (suc zero)) s h = let is : Established ≡ s = cc in rw (← is) refl
-number_of-state (suc (suc (suc zero))) s h = let is : FinFwd ≡ s = cc in rw (← is) refl
-number_of-state (suc (suc (suc (suc zero)))) s h = let is : FinRev ≡ s = cc in rw (← is) refl
-number_of-state (suc (suc (suc (suc (suc zero))))) s h = let is : Closed ≡ s = cc in rw (← is) refl
-number_of-state (suc (suc (suc (suc (suc (suc zero)))))) s h = let is : Reset ≡ s = cc in rw (← is) refl
-number_of-state (suc (suc (suc (suc (suc (suc (suc zero))))))) s h = let is : Loose ≡ s = cc in rw (← is) refl
-number_of-state (suc (suc (suc (suc (suc (suc (suc (suc zero)))))))) s h = let is : Single ≡ s = cc in rw (← is) refl
-number_of-state (suc (suc (suc (suc (suc (suc (suc (suc (suc zero))))))))) s h = let is : Both ≡ s = cc in rw (← is) refl
-number_of-state (suc (suc (suc (suc (suc (suc (suc (suc (suc (suc n)))))))))) s h = cc
+state_number-state : (n : ℕ) (s : State) → state_of n ≡ Some s → state_number s ≡ n
+state_number-state zero s h = let is : Opening ≡ s = cc in rw (← is) refl
+state_number-state (suc zero) s h = let is : Answered ≡ s = cc in rw (← is) refl
+state_number-state (suc (suc zero)) s h = let is : Established ≡ s = cc in rw (← is) refl
+state_number-state (suc (suc (suc zero))) s h = let is : FinFwd ≡ s = cc in rw (← is) refl
+state_number-state (suc (suc (suc (suc zero)))) s h = let is : FinRev ≡ s = cc in rw (← is) refl
+state_number-state (suc (suc (suc (suc (suc zero))))) s h = let is : Closed ≡ s = cc in rw (← is) refl
+state_number-state (suc (suc (suc (suc (suc (suc zero)))))) s h = let is : Reset ≡ s = cc in rw (← is) refl
+state_number-state (suc (suc (suc (suc (suc (suc (suc zero))))))) s h = let is : Loose ≡ s = cc in rw (← is) refl
+state_number-state (suc (suc (suc (suc (suc (suc (suc (suc zero)))))))) s h = let is : Single ≡ s = cc in rw (← is) refl
+state_number-state (suc (suc (suc (suc (suc (suc (suc (suc (suc zero))))))))) s h = let is : Both ≡ s = cc in rw (← is) refl
+state_number-state (suc (suc (suc (suc (suc (suc (suc (suc (suc (suc n)))))))))) s h = cc
 
 direction_number-direction : (n : ℕ) (direction : Direction) → direction_of n ≡ Some direction → direction_number direction ≡ n
 direction_number-direction zero direction h = let is : Out ≡ direction = cc in rw (← is) refl
@@ -168,7 +168,7 @@ seen_bytes-time (byte ∷ more) n are h =
 
 -- the parts of a body, joined
 joined : (s w : ℕ) (named : State) (direction : Direction) (packets bytes seen : ℕ) (rest more last : List ℕ) (r : TrackRecord)
-    → number_of named ≡ s → direction_number direction ≡ w → rest ≡ number_bytes 8 packets ++ more → more ≡ number_bytes 8 bytes ++ last → seen_bytes seen ≡ last
+    → state_number named ≡ s → direction_number direction ≡ w → rest ≡ number_bytes 8 packets ++ more → more ≡ number_bytes 8 bytes ++ last → seen_bytes seen ≡ last
     → Some (record { packets = packets; bytes = bytes; seen = seen; state = named; opener = direction }) ≡ Some r
     → body_of r ≡ s ∷ w ∷ rest
 unfolding body_of
@@ -190,7 +190,7 @@ body_of-spelled (s ∷ w ∷ rest) r are h =
     let first = first_number-some 8 rest packets.0 packets.1 (IsBytes-tail w rest (IsBytes-tail s (w ∷ rest) are)) read_packets in
     let second = first_number-some 8 packets.1 bytes.0 bytes.1 first.rest_bytes read_bytes in
     let third = seen_bytes-time bytes.1 seen second.rest_bytes read_seen in
-    joined s w named direction packets.0 bytes.0 seen rest packets.1 bytes.1 r (number_of-state s named is_named) (direction_number-direction w direction is_way)
+    joined s w named direction packets.0 bytes.0 seen rest packets.1 bytes.1 r (state_number-state s named is_named) (direction_number-direction w direction is_way)
     first.spelled second.spelled third last)))))
 
 -- what is read is valid, and stored as the same bytes

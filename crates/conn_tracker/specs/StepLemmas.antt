@@ -20,13 +20,13 @@ use Rattle.conn_tracker.specs.declared.class.Class.{Class}
 use Rattle.conn_tracker.specs.declared.class.Class.TheVariants.{Rst, SynAck, Syn, Fin, Other}
 use Rattle.conn_tracker.specs.declared.state.State.{State}
 use Rattle.conn_tracker.specs.declared.state.State.TheVariants.{Opening, Answered, Established, FinFwd, FinRev, Closed, Reset, Loose, Single, Both}
-use Rattle.conn_tracker.specs.Table.{Row, row, cell, class_of, first_tcp, first_state, first_record, next_udp, next_state, next_record, is_idle, is_same_direction, is_udp_state, stepped}
+use Rattle.conn_tracker.specs.Table.{StateRow, row, cell, class_of, first_tcp, first_state, first_record, next_udp, next_state, next_record, is_idle, is_same_direction, is_udp_state, stepped}
 use Rattle.conn_tracker.specs.Body.{is_valid, suits}
 use Rattle.conn_tracker.specs.Conntrack.{conntrack}
 use Rattle.conn_tracker.specs.BodyLemmas.{valid_facts, valid_from, record_in-body_of, record_in-some, known_by_body, length-body_of}
 
 -- the eight cells of a row are states of TCP
-record IsTcpRow (w : Row) : Type 0 where
+record IsTcpRow (w : StateRow) : Type 0 where
   rst : is_udp_state w.rst ≡ false
   syn : is_udp_state w.syn ≡ false
   syn_ack_forward : is_udp_state w.syn_ack_forward ≡ false
@@ -48,7 +48,7 @@ tcp_row Loose h = record { rst = refl; syn = refl; syn_ack_forward = refl; syn_a
 tcp_row Single h = cc
 tcp_row Both h = cc
 
-tcp_cell : (c : Class) (forward : Bool) (w : Row) → IsTcpRow w → is_udp_state (cell c forward w) ≡ false
+tcp_cell : (c : Class) (forward : Bool) (w : StateRow) → IsTcpRow w → is_udp_state (cell c forward w) ≡ false
 tcp_cell Rst forward w t = t.rst
 tcp_cell Syn forward w t = t.syn
 tcp_cell SynAck true w t = t.syn_ack_forward

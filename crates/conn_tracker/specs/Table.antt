@@ -27,7 +27,7 @@ class_of flags =
     else Other
 
 -- a row of the table: the states that follow one state. Forward packets go in the opener's direction, reverse ones the other.
-pub record Row : Type 0 where
+pub record StateRow : Type 0 where
   pub rst : State
   pub syn : State
   pub syn_ack_forward : State
@@ -37,7 +37,7 @@ pub record Row : Type 0 where
   pub other_forward : State
   pub other_reverse : State
 
-abbrev pub cells : (r s sf sr ff fr of or : State) → Row
+abbrev pub cells : (r s sf sr ff fr of or : State) → StateRow
 cells r s sf sr ff fr of or = record {
   rst = r;
   syn = s;
@@ -49,8 +49,8 @@ cells r s sf sr ff fr of or = record {
   other_reverse = or;
 }
 
--- the table of TCP: columns as in `Row`. The states of UDP don't meet a TCP packet, and stay.
-abbrev pub row : State → Row
+-- the table of TCP: columns as in `StateRow`. The states of UDP don't meet a TCP packet, and stay.
+abbrev pub row : State → StateRow
 row Opening = cells Reset Opening Opening Answered FinFwd FinRev Opening Opening
 row Answered = cells Reset Answered Answered Answered FinFwd FinRev Established Answered
 row Established = cells Reset Established Established Established FinFwd FinRev Established Established
@@ -63,7 +63,7 @@ row Single = cells Single Single Single Single Single Single Single Single
 row Both = cells Both Both Both Both Both Both Both Both
 
 -- the cell of a row for a class and a direction
-abbrev pub cell : Class → Bool → Row → State
+abbrev pub cell : Class → Bool → StateRow → State
 cell Rst forward w = w.rst
 cell Syn forward w = w.syn
 cell SynAck true w = w.syn_ack_forward
@@ -158,17 +158,17 @@ stepped site None p = first_record p (flow_of site p).1
 stepped site (Some r) p = next_record r p (flow_of site p).1
 
 -- the numbers that outputs and stored records use for the states
-abbrev pub number_of : State → ℕ
-number_of Opening = 0
-number_of Answered = 1
-number_of Established = 2
-number_of FinFwd = 3
-number_of FinRev = 4
-number_of Closed = 5
-number_of Reset = 6
-number_of Loose = 7
-number_of Single = 8
-number_of Both = 9
+abbrev pub state_number : State → ℕ
+state_number Opening = 0
+state_number Answered = 1
+state_number Established = 2
+state_number FinFwd = 3
+state_number FinRev = 4
+state_number Closed = 5
+state_number Reset = 6
+state_number Loose = 7
+state_number Single = 8
+state_number Both = 9
 
 -- all states, in the order of their numbers
 abbrev pub all_states : List State

@@ -5,11 +5,11 @@ use Rattle.flow_filter.specs.declared.flow.Direction.{Direction}
 use Rattle.flow_filter.specs.declared.flow.Direction.TheVariants.{Out, In}
 use Rattle.conn_tracker.specs.declared.record.TrackRecord.{TrackRecord}
 use Rattle.nf_function.specs.declared.output.Output.{Output}
-use Rattle.conn_tracker.specs.Table.{name_of, number_of, state_of}
+use Rattle.conn_tracker.specs.Table.{name_of, state_number, state_of}
 
 -- the output of a packet: the number of the state that it left
 abbrev pub output_of : TrackRecord → Output
-output_of r = record { code = number_of r.state; a = 0; b = 0 }
+output_of r = record { code = state_number r.state; a = 0; b = 0 }
 
 -- the text of an output: its state's name
 abbrev pub output_text : Output → List ℕ

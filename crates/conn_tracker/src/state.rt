@@ -1,5 +1,5 @@
 ghost use Rattle.std.specs.Prelude.{◌≡◌, ◌≤◌, length};
-ghost use Rattle.conn_tracker.specs.Table.{cell, row, first_tcp, next_udp, restarts, all_states, name_of, number_of, state_of};
+ghost use Rattle.conn_tracker.specs.Table.{cell, row, first_tcp, next_udp, restarts, all_states, name_of, state_number, state_of};
 ghost use Rattle.conn_tracker.specs.declared.class.Class.TheVariants.{Fin};
 
 use crate::class::Class;
@@ -125,7 +125,7 @@ impl State {
 
     /// The state's number in outputs and stored records.
     pub fn number(self) -> u8
-        ensures { result ≡ number_of self }
+        ensures { result ≡ state_number self }
     {
         self as u8
     }

@@ -1,5 +1,5 @@
 pub mod Work
 pub mod NetworkWorld
 pub mod TokenWorlds
-pub mod Orders
+pub mod Choosers
 pub mod Faults

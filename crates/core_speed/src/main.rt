@@ -50,11 +50,11 @@ fn count_choices<R: Env + AllocGlobal + Threads + Wait + Sync>(rt: &R) -> Result
     let choices = match task.world {
         Setup::Tokens(tokens) => {
             let world = token_world(alloc, tokens.shape, tokens.nodes, tokens.items, tokens.hops)?;
-            play(rt, alloc, world, task.order)?
+            play(rt, alloc, world, task.chooser)?
         }
         Setup::Network(size) => {
             let world = network_world(alloc, size.instances, size.packets, size.rounds)?;
-            play(rt, alloc, world, task.order)?
+            play(rt, alloc, world, task.chooser)?
         }
     };
     Ok(choices.items().len())

@@ -1,8 +1,8 @@
-//! The run of a world in an order.
+//! The run of a world by a chooser.
 ghost use Rattle.std.specs.Prelude.{◌≡◌, ◌≢◌, ℕ, length, true, Err, IfOk};
 ghost use Rattle.actor_net.specs.Network.{IsRun, run, is_done};
 ghost use Rattle.actor_net.specs.Schedules.{scheduled, StopsShort};
-ghost use Rattle.core_speed.specs.Orders.{AreMadeBy, IsBySchedule};
+ghost use Rattle.core_speed.specs.Choosers.{AreMadeBy, IsBySchedule};
 
 use crate::fault::Fault;
 use actor_net::{Actor, Choices, MOST_CHOICES, Schedule, World, run_schedule};
@@ -13,7 +13,7 @@ use std::thread::Threads;
 
 /// Who makes the choices: a schedule, or the threads of the nodes.
 #[derive(Clone, Copy, Debug, PartialEq, Eq)]
-pub enum Order {
+pub enum Chooser {
     Scheduled(Schedule),
     Threads,
 }
@@ -23,27 +23,27 @@ pub fn play<R: Threads + Wait + Sync, A: Actor + Send>(
     rt: &R,
     alloc: Global,
     world: World<A>,
-    order: Order,
+    chooser: Chooser,
 ) -> Result<Choices, Fault>
 where
     A::Message: Send,
     A::Note: Send,
     ensures run { IfOk result (λ choices. IsRun A.is_ready A.stepped choices world) }
     ensures complete { IfOk result (λ choices. is_done A.has_ended (run A.stepped choices world) ≡ true) }
-    ensures order { IfOk result (AreMadeBy order (λ schedule. scheduled A.is_ready A.has_ended A.stepped MOST_CHOICES schedule world)) }
+    ensures chooser { IfOk result (AreMadeBy chooser (λ schedule. scheduled A.is_ready A.has_ended A.stepped MOST_CHOICES schedule world)) }
 
     // Only a schedule leaves a run unfinished, where it stops short after so many choices.
-    ensures unfinished { (step : ℕ) → result ≡ Err (Fault.Unfinished step) → IsBySchedule order (λ schedule.
+    ensures unfinished { (step : ℕ) → result ≡ Err (Fault.Unfinished step) → IsBySchedule chooser (λ schedule.
         (length (scheduled A.is_ready A.has_ended A.stepped MOST_CHOICES schedule world) ≡ step)
         × StopsShort A.is_ready A.has_ended (run A.stepped (scheduled A.is_ready A.has_ended A.stepped MOST_CHOICES schedule world) world) step) }
     ensures words { result ≢ Err Fault.Words }
 {
-    match order {
-        Order::Scheduled(schedule) => {
+    match chooser {
+        Chooser::Scheduled(schedule) => {
             let (_end, choices) = run_schedule(alloc, world, schedule)?;
             Ok(choices)
         }
-        Order::Threads => {
+        Chooser::Threads => {
             let (_end, choices) = run_threads(rt, alloc, world, &OpenGate)?;
             Ok(choices)
         }

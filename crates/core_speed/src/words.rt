@@ -1,14 +1,14 @@
 //! The words of the command line.
 ghost use Rattle.std.specs.Prelude.{◌<◌, ◌≤◌};
 
-use crate::runs::Order;
+use crate::runs::Chooser;
 use crate::tokens::Shape;
 use actor_net::Schedule;
 
 /// What the words ask for: a world, and who makes its choices.
 #[derive(Clone, Copy, Debug)]
 pub struct Task {
-    pub order: Order,
+    pub chooser: Chooser,
     pub world: Setup,
 }
 
@@ -40,10 +40,10 @@ pub struct Network {
 
 /// What the words ask for, the program's name first; none where they are bad.
 pub fn task_of(words: &[String]) -> Option<Task> {
-    let [_program, world, order, nodes, items, each] = words else {
+    let [_program, world, chooser, nodes, items, each] = words else {
         return None;
     };
-    let order = order_of(order.as_str())?;
+    let chooser = chooser_of(chooser.as_str())?;
     let nodes = nodes.as_str().parse::<u8>().ok()?;
     let items = items.as_str().parse::<usize>().ok()?;
     let each = each.as_str().parse::<u32>().ok()?;
@@ -53,18 +53,18 @@ pub fn task_of(words: &[String]) -> Option<Task> {
         "network" => Setup::Network(network_of(nodes, items as u64, each)?),
         _ => return None,
     };
-    Some(Task { order, world })
+    Some(Task { chooser, world })
 }
 
 /// Who makes the choices: `threads`, `first`, `last` or a number.
-fn order_of(word: &str) -> Option<Order> {
+fn chooser_of(word: &str) -> Option<Chooser> {
     match word {
-        "threads" => Some(Order::Threads),
-        "first" => Some(Order::Scheduled(Schedule::First)),
-        "last" => Some(Order::Scheduled(Schedule::Last)),
+        "threads" => Some(Chooser::Threads),
+        "first" => Some(Chooser::Scheduled(Schedule::First)),
+        "last" => Some(Chooser::Scheduled(Schedule::Last)),
         number => {
             let number = number.parse::<u64>().ok()?;
-            Some(Order::Scheduled(Schedule::Number(number)))
+            Some(Chooser::Scheduled(Schedule::Number(number)))
         }
     }
 }

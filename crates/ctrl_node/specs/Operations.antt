@@ -10,7 +10,7 @@ use Rattle.nf_msgs.specs.declared.answer.Answer.{Answer}
 use Rattle.nf_msgs.specs.declared.msg.Msg.{Msg}
 use Rattle.flow_filter.specs.declared.flow.Flow.{Flow}
 use Rattle.event_store.specs.Store.{stored}
-use Rattle.move_op.specs.Move.{MoveState, Row, Store, row_in, store_after, answer_of}
+use Rattle.move_op.specs.Move.{MoveState, MoveRow, Store, row_in, store_after, answer_of}
 use Rattle.copy_share.specs.Copy.{CopyState, CopyRow}
 use Rattle.copy_share.specs.Copy as copy
 use Rattle.copy_share.specs.Share.{ShareState, ShareRow, Served}
@@ -65,7 +65,7 @@ pub record Turn : Type 0 where
   pub sends : List (ℕ × Msg)
   pub answer : Option Answer
 
-abbrev pub moved : MoveState → Store → Row → Turn
+abbrev pub moved : MoveState → Store → MoveRow → Turn
 moved m store row = record {
   operation = Some (Move (record m { phase = row.next.phase }));
   store = store_after store m.plan.op row.stored;

@@ -9,7 +9,7 @@ use Rattle.fifo_link.specs.declared.rule.Transfer.{Transfer}
 use Rattle.fifo_link.specs.declared.rule.Transfer.TheVariants.{Sent, Taken}
 use Rattle.fifo_link.specs.declared.rule.Knowledge.{Knowledge}
 use Rattle.fifo_link.specs.Transfers.{sent_in, taken_in, Leaves, SentSince, TakenSince, HeldSince, WasEmpty, AllDone}
-use Rattle.fifo_link.specs.Rule.{knows, Fits, Relayed, AfterSend, AfterTake}
+use Rattle.fifo_link.specs.Rule.{knows, FitsHolder, KeepsOrder, AfterSend, AfterTake}
 use Rattle.fifo_link.proofs.TransferLemmas.{same_sent, same_taken, more_sent, one_sent, one_taken, sent_more, taken_more, none_sent, none_taken}
 
 module _ {M : Type 0} where
@@ -27,23 +27,23 @@ module _ {M : Type 0} where
       (λ (x : (j ≢ holder) × (get_elem? views j ≡ some u)). others j u x.0 x.1) (at_set views holder j w u e)
 
   -- one who may do nothing knows nothing
-  no_right : (sender taker : ℕ) (all : List (Transfer M)) (holder : ℕ) → Fits sender taker all holder (knows false false [] [])
+  no_right : (sender taker : ℕ) (all : List (Transfer M)) (holder : ℕ) → FitsHolder sender taker all holder (knows false false [] [])
   no_right sender taker all holder = ((λ p. absurd (true≢false (sym p))), λ p. absurd (true≢false (sym p)))
 
   -- a new queue holds nothing, and its first holder has both rights
-  pub begins : Relayed {M = M} [] (knows true true [] [] ∷ [])
+  pub begins : KeepsOrder {M = M} [] (knows true true [] [] ∷ [])
   unfolding sent_in taken_in
   begins = (
     0,
     0,
     [],
     refl,
-    all_set (Fits 0 0 []) (knows true true [] [] ∷ []) 0 (knows true true [] []) ((λ _. (refl, none_taken [])), λ _. (refl, none_sent [], ([], refl)))
+    all_set (FitsHolder 0 0 []) (knows true true [] [] ∷ []) 0 (knows true true [] []) ((λ _. (refl, none_taken [])), λ _. (refl, none_sent [], ([], refl)))
         (λ j u other e. absurd (other (at_end [] _ u j (λ x. some-ne-none u (sym x)) e))),
   )
 
   -- the sender may send
-  pub sends : (n holder : ℕ) (v : Knowledge M) (x : M) → v.sends ≡ true → Pushes Relayed n holder v x (AfterSend v x)
+  pub sends : (n holder : ℕ) (v : Knowledge M) (x : M) → v.sends ≡ true → Pushes KeepsOrder n holder v x (AfterSend v x)
   sends n holder v x may items views _ h at =
       let all : List (Transfer M) = h.2 in
       let new : List (Transfer M) = all ++ Sent x ∷ [] in
@@ -56,7 +56,7 @@ module _ {M : Type 0} where
           h.1,
           new,
           (one_sent all x).0 ∙ ap (λ l. l ++ x ∷ []) h.3 ∙ append_assoc (taken_in all) items (x ∷ []) ∙ ap (λ l. l ++ (items ++ x ∷ [])) (sym ((one_sent all x).1)),
-          all_set (Fits h.0 h.1 new) views holder w ((λ _. ((mine.0 may).0, none_taken new)), λ p. ((mine.1 p).0, sent_more v.taker all x (mine.1 p).1, (mine.1 p).2))
+          all_set (FitsHolder h.0 h.1 new) views holder w ((λ _. ((mine.0 may).0, none_taken new)), λ p. ((mine.1 p).0, sent_more v.taker all x (mine.1 p).1, (mine.1 p).2))
               (λ j u other e. ((λ p. absurd (other (((h.4 j u e).0 p).0 ∙ sym (mine.0 may).0))), λ p. (((h.4 j u e).1 p).0, sent_more u.taker all x ((h.4 j u e).1 p).1, ((h.4 j u e).1 p).2))),
         ),
         record {
@@ -68,7 +68,7 @@ module _ {M : Type 0} where
       )
 
   -- the taker may take
-  pub takes : (holder : ℕ) (v : Knowledge M) → v.takes ≡ true → Pops Relayed holder v (AfterTake v)
+  pub takes : (holder : ℕ) (v : Knowledge M) → v.takes ≡ true → Pops KeepsOrder holder v (AfterTake v)
   takes holder v may x items views h at =
       let all : List (Transfer M) = h.2 in
       let new : List (Transfer M) = all ++ Taken x ∷ [] in
@@ -82,7 +82,7 @@ module _ {M : Type 0} where
           h.1,
           new,
           left,
-          all_set (Fits h.0 h.1 new) views holder w ((λ p. ((mine.0 p).0, taken_more v.sender all x (mine.0 p).1)), λ _. ((mine.1 may).0, none_sent new, (items, left)))
+          all_set (FitsHolder h.0 h.1 new) views holder w ((λ p. ((mine.0 p).0, taken_more v.sender all x (mine.0 p).1)), λ _. ((mine.1 may).0, none_sent new, (items, left)))
               (λ j u other e. ((λ p. (((h.4 j u e).0 p).0, taken_more u.sender all x ((h.4 j u e).0 p).1)), λ p. absurd (other (((h.4 j u e).1 p).0 ∙ sym (mine.1 may).0)))),
         ),
         record {
@@ -99,14 +99,14 @@ module _ {M : Type 0} where
 
   -- the holder of both rights takes one more of what was sent
   pub drains : (holder : ℕ) (v : Knowledge M) → v.sends ≡ true → v.takes ≡ true
-      → Pops Relayed holder v (λ x w. AfterTake v x w × ((rest : List M) × (sent_in v.sender ≡ (taken_in v.taker ++ x ∷ []) ++ rest)))
+      → Pops KeepsOrder holder v (λ x w. AfterTake v x w × ((rest : List M) × (sent_in v.sender ≡ (taken_in v.taker ++ x ∷ []) ++ rest)))
   drains holder v a b x items views h at =
       let t = takes holder v b x items views h at in
       let mine = h.4 holder v at in
       (t.0, t.1, (t.2, (items, totals_of v.sender v.taker h.2 (x ∷ items) (mine.0 a).1 (mine.1 b).1 h.3 ∙ sym (append_assoc (taken_in v.taker) (x ∷ []) items))))
 
   -- the holder of both rights may give one of them away
-  pub forks : (holder : ℕ) (v : Knowledge M) → v.sends ≡ true → v.takes ≡ true → Forks Relayed holder v (knows true false v.sender v.taker) (knows false true v.sender v.taker)
+  pub forks : (holder : ℕ) (v : Knowledge M) → v.sends ≡ true → v.takes ≡ true → Forks KeepsOrder holder v (knows true false v.sender v.taker) (knows false true v.sender v.taker)
   forks holder v a b items views h at =
       let l : Knowledge M = knows true false v.sender v.taker in
       let r : Knowledge M = knows false true v.sender v.taker in
@@ -131,20 +131,20 @@ module _ {M : Type 0} where
       )
 
   -- the sender may take in the right to take
-  pub merges : (holder : ℕ) (v : Knowledge M) (other : ℕ) (u : Knowledge M) → v.sends ≡ true → u.takes ≡ true → Merges Relayed holder v other u (knows true true v.sender u.taker) (knows false false [] [])
+  pub merges : (holder : ℕ) (v : Knowledge M) (other : ℕ) (u : Knowledge M) → v.sends ≡ true → u.takes ≡ true → Merges KeepsOrder holder v other u (knows true true v.sender u.taker) (knows false false [] [])
   merges holder v other u a b items views h at two at' =
       let both : Knowledge M = knows true true v.sender u.taker in
       let mine = h.4 holder v at in
       let vs : List (Knowledge M) = set views holder both in
       let was : get_elem? views other ≡ some u = ⊎_elim (λ x. absurd (two x.0)) (λ x. x.1) (at_set views holder other both u at') in
       let theirs = (h.4 other u was).1 b in
-      let Now : ℕ → Knowledge M → Type 0 = λ j y. j ≢ other → Fits h.0 holder h.2 j y in
+      let Now : ℕ → Knowledge M → Type 0 = λ j y. j ≢ other → FitsHolder h.0 holder h.2 j y in
       let now : All Now vs = all_set Now views holder both (λ _. ((λ _. mine.0 a), λ _. (refl, theirs.1, theirs.2)))
       (λ j y _ e apart. ((h.4 j y e).0, λ p. absurd (apart (((h.4 j y e).1 p).0 ∙ sym theirs.0)))) in
-      (h.0, holder, h.2, h.3, all_set (Fits h.0 holder h.2) vs other (knows false false [] []) (no_right h.0 holder h.2 other) (λ j y apart e. now j y e apart))
+      (h.0, holder, h.2, h.3, all_set (FitsHolder h.0 holder h.2) vs other (knows false false [] []) (no_right h.0 holder h.2 other) (λ j y apart e. now j y e apart))
 
   -- the sender learns what the queue holds, after what was taken since its last message
-  pub held_since : (holder : ℕ) (v : Knowledge M) → v.sends ≡ true → Learns Relayed holder v (λ items. HeldSince v.sender items)
+  pub held_since : (holder : ℕ) (v : Knowledge M) → v.sends ≡ true → Learns KeepsOrder holder v (λ items. HeldSince v.sender items)
   held_since holder v a items views h at = (h.2, ((h.4 holder v at).0 a).1, h.3)
 
   none_of : (items : List M) → length items ≡ 0 → items ≡ []
@@ -156,7 +156,7 @@ module _ {M : Type 0} where
   front_none (x ∷ xs) b e = absurd (cc)
 
   -- the taker learns of an empty queue that nothing was left after its last message
-  pub was_empty : (holder : ℕ) (v : Knowledge M) → v.takes ≡ true → Learns Relayed holder v (λ items. length items ≡ 0 → WasEmpty v.taker)
+  pub was_empty : (holder : ℕ) (v : Knowledge M) → v.takes ≡ true → Learns KeepsOrder holder v (λ items. length items ≡ 0 → WasEmpty v.taker)
   was_empty holder v b items views h at none =
       let mine = (h.4 holder v at).1 b in
       let since = mine.1 in
@@ -166,7 +166,7 @@ module _ {M : Type 0} where
       kept ∙ ap (λ l. taken_in v.taker ++ l) (front_none held since.0 (append_cancel_left (taken_in v.taker) (held ++ since.0) [] (sym (append_assoc (taken_in v.taker) held since.0) ∙ all)))
 
   -- the holder of both rights learns all that was done
-  pub totals : (holder : ℕ) (v : Knowledge M) → v.sends ≡ true → v.takes ≡ true → Learns Relayed holder v (λ items. AllDone v.sender v.taker items × (sent_in v.sender ≡ taken_in v.taker ++ items))
+  pub totals : (holder : ℕ) (v : Knowledge M) → v.sends ≡ true → v.takes ≡ true → Learns KeepsOrder holder v (λ items. AllDone v.sender v.taker items × (sent_in v.sender ≡ taken_in v.taker ++ items))
   totals holder v a b items views h at =
       let mine = h.4 holder v at in
       let t = (mine.0 a).1 in

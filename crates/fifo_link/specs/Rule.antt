@@ -14,15 +14,15 @@ module _ {M : Type 0} where
   knows sends takes sender taker = record { sends = sends; takes = takes; sender = sender; taker = taker }
 
   -- what the rule says of one holder
-  abbrev pub Fits : ℕ → ℕ → List (Transfer M) → ℕ → Knowledge M → Type 0
-  Fits sender taker all holder v =
+  abbrev pub FitsHolder : ℕ → ℕ → List (Transfer M) → ℕ → Knowledge M → Type 0
+  FitsHolder sender taker all holder v =
       (v.sends ≡ true → (holder ≡ sender) × TakenSince v.sender all)
       × (v.takes ≡ true → (holder ≡ taker) × SentSince v.taker all × ((held : List M) × Leaves v.taker held))
 
   -- the rule, of what the queue holds and of what each holder knows
-  abbrev pub Relayed : List M → List (Knowledge M) → Type 0
-  Relayed items views = (sender : ℕ) × (taker : ℕ) × (all : List (Transfer M)) × Leaves all items
-      × ((holder : ℕ) (v : Knowledge M) → get_elem? views holder ≡ some v → Fits sender taker all holder v)
+  abbrev pub KeepsOrder : List M → List (Knowledge M) → Type 0
+  KeepsOrder items views = (sender : ℕ) × (taker : ℕ) × (all : List (Transfer M)) × Leaves all items
+      × ((holder : ℕ) (v : Knowledge M) → get_elem? views holder ≡ some v → FitsHolder sender taker all holder v)
 
   -- what a holder knows after it sent a message
   pub record AfterSend (v : Knowledge M) (message : M) (w : Knowledge M) : Type 0 where

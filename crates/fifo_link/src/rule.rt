@@ -22,9 +22,9 @@ pub struct InOrder;
 
 impl<M> Protocol<M, Knowledge<M>> for InOrder {
     ghost use Rattle.std.specs.Prelude.{true, []};
-    ghost use Rattle.fifo_link.specs.Rule.{knows, Relayed};
+    ghost use Rattle.fifo_link.specs.Rule.{knows, KeepsOrder};
 
-    ghost holds = { Relayed };
+    ghost holds = { KeepsOrder };
 
     ghost first = { knows true true [] [] };
 }

@@ -45,13 +45,13 @@ address-text bits small =
     address-dotted (bits / 16777216 % 256) (bits / 65536 % 256) (bits / 256 % 256) (bits / 1 % 256) (omega arith) (omega arith) (omega arith) (omega arith) ∙ ap (λ n. Some (from_be_bytes w32 (bits / 16777216 % 256 ∷ bits / 65536 % 256 ∷ bits / 256 % 256 ∷ n % 256 ∷ []))) (div-one bits)
     ∙ ap (λ n. Some n) (from_be_bytes-to_be_bytes_4 bits small)
 
-Lacks-address : (mark a b c d : ℕ) → (IsInRange 48 57 mark → ⊥) → eqb 46 mark ≡ false → a < 256 → b < 256 → c < 256 → d < 256 → Lacks mark (dotted_text a b c d)
-Lacks-address mark a b c d other dot in_a in_b in_c in_d = rw (nested a b c d)
-    (Lacks-append mark (decimal a) _ (Lacks-decimal mark a other (omega arith)) (
+Lacks-address : (separator a b c d : ℕ) → (IsInRange 48 57 separator → ⊥) → eqb 46 separator ≡ false → a < 256 → b < 256 → c < 256 → d < 256 → Lacks separator (dotted_text a b c d)
+Lacks-address separator a b c d other dot in_a in_b in_c in_d = rw (nested a b c d)
+    (Lacks-append separator (decimal a) _ (Lacks-decimal separator a other (omega arith)) (
       dot,
-      Lacks-append mark (decimal b) _ (Lacks-decimal mark b other (omega arith)) (
+      Lacks-append separator (decimal b) _ (Lacks-decimal separator b other (omega arith)) (
         dot,
-        Lacks-append mark (decimal c) _ (Lacks-decimal mark c other (omega arith)) (dot, Lacks-decimal mark d other (omega arith)),
+        Lacks-append separator (decimal c) _ (Lacks-decimal separator c other (omega arith)) (dot, Lacks-decimal separator d other (omega arith)),
       ),
     ))
 
@@ -67,8 +67,8 @@ prefix-text p small =
     rw (at, address-text p.bits small, parse_number-printed 32 p.len within (omega arith), aligned) refl
 
 -- the comma, the equals sign and a blank stand in no number, address or prefix
-pub Lacks-prefix : (mark : ℕ) (p : Prefix) → (IsInRange 48 57 mark → ⊥) → eqb 46 mark ≡ false → eqb 47 mark ≡ false → Lacks mark (prefix_text p)
+pub Lacks-prefix : (separator : ℕ) (p : Prefix) → (IsInRange 48 57 separator → ⊥) → eqb 46 separator ≡ false → eqb 47 separator ≡ false → Lacks separator (prefix_text p)
 unfolding address_text
-Lacks-prefix mark p other dot slash = Lacks-append mark (address_text p.bits) _
-    (Lacks-address mark (p.bits / 16777216 % 256) (p.bits / 65536 % 256) (p.bits / 256 % 256) (p.bits / 1 % 256) other dot (omega arith) (omega arith) (omega arith) (omega arith))
-    (slash, Lacks-decimal mark p.len other (let within : p.len ≤ 32 = p.within in omega arith))
+Lacks-prefix separator p other dot slash = Lacks-append separator (address_text p.bits) _
+    (Lacks-address separator (p.bits / 16777216 % 256) (p.bits / 65536 % 256) (p.bits / 256 % 256) (p.bits / 1 % 256) other dot (omega arith) (omega arith) (omega arith) (omega arith))
+    (slash, Lacks-decimal separator p.len other (let within : p.len ≤ 32 = p.within in omega arith))

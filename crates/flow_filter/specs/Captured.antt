@@ -2,8 +2,8 @@
 use Rattle.std.specs.Prelude.{replicate}
 use Rattle.flow_filter.specs.declared.packet.Packet.{Packet}
 use Rattle.flow_filter.specs.declared.captured.Header.{Header}
-use Rattle.flow_filter.specs.declared.captured.Form.{Form}
-use Rattle.flow_filter.specs.declared.captured.Form.TheVariants.{Bare, Whole}
+use Rattle.flow_filter.specs.declared.captured.CapturedForm.{CapturedForm}
+use Rattle.flow_filter.specs.declared.captured.CapturedForm.TheVariants.{Bare, Whole}
 
 -- what a packet has beside its payload
 abbrev pub header_of : Packet → Header
@@ -37,6 +37,6 @@ bare_packet h = record {
 }
 
 -- the packet that waits so
-abbrev pub packet_in : Form → Packet
+abbrev pub packet_in : CapturedForm → Packet
 packet_in (Bare header) = bare_packet header
 packet_in (Whole packet) = packet

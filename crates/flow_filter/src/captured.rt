@@ -16,12 +16,12 @@ const NO_PAYLOAD: [u8; 64] = [0; 64];
 /// for it: 40 bytes in all.
 #[derive(Debug, Drop)]
 pub struct CapturedPacket {
-    form: Form,
+    form: CapturedForm,
 }
 
 /// How a packet waits.
 #[derive(Debug, Drop)]
-enum Form {
+enum CapturedForm {
     /// Without payload.
     Bare(Header),
     /// As it is.
@@ -59,10 +59,10 @@ impl CapturedPacket {
         ensures { IfOk result (λ captured. captured ≡ packet.now) }
     {
         if is_zero(&packet.head) {
-            let form = Form::Bare(Header::of(packet));
+            let form = CapturedForm::Bare(Header::of(packet));
             return Ok(CapturedPacket { form });
         }
-        let form = Form::Whole(Boxed::new(alloc, *packet)?);
+        let form = CapturedForm::Whole(Boxed::new(alloc, *packet)?);
         Ok(CapturedPacket { form })
     }
 
@@ -71,8 +71,8 @@ impl CapturedPacket {
         ensures { IfOk result (λ boxed. boxed ≡ self) }
     {
         match self.form {
-            Form::Bare(header) => Boxed::new(alloc, header.packet()),
-            Form::Whole(packet) => Ok(packet),
+            CapturedForm::Bare(header) => Boxed::new(alloc, header.packet()),
+            CapturedForm::Whole(packet) => Ok(packet),
         }
     }
 
@@ -81,12 +81,12 @@ impl CapturedPacket {
         ensures { result ≡ self }
     {
         match self.form {
-            Form::Bare(header) => {
+            CapturedForm::Bare(header) => {
                 let mut room = room;
                 room.set(header.packet());
                 room
             }
-            Form::Whole(packet) => packet,
+            CapturedForm::Whole(packet) => packet,
         }
     }
 
@@ -95,8 +95,8 @@ impl CapturedPacket {
         ensures { result ≡ self.now }
     {
         match &self.form {
-            Form::Bare(header) => header.packet(),
-            Form::Whole(packet) => *packet.get(),
+            CapturedForm::Bare(header) => header.packet(),
+            CapturedForm::Whole(packet) => *packet.get(),
         }
     }
 
@@ -105,8 +105,8 @@ impl CapturedPacket {
         ensures { result ≡ self.now.number }
     {
         match &self.form {
-            Form::Bare(header) => header.number,
-            Form::Whole(packet) => packet.get().number,
+            CapturedForm::Bare(header) => header.number,
+            CapturedForm::Whole(packet) => packet.get().number,
         }
     }
 }

@@ -16,9 +16,9 @@ use Rattle.state_chunk.specs.Format.{record_chunk}
 use Rattle.record_table.specs.Table.{Records, taken_by}
 use Rattle.record_table.specs.Chunks.{chunks_of}
 use Rattle.record_table.proofs.SortedEntries.{len_parts}
-use Rattle.instance_worker.specs.declared.pieces.Whole.{Whole}
+use Rattle.instance_worker.specs.declared.pieces.WholePieces.{WholePieces}
 use Rattle.instance_worker.specs.declared.pieces.TheConstants.{MOST_CHUNKS}
-use Rattle.instance_worker.specs.Pieces.{cut, newest_version, piece_of}
+use Rattle.instance_worker.specs.Pieces.{pieces_from, newest_version, piece_of}
 use Rattle.instance_worker.specs.Instance.{told}
 
 pub at_most : (a b : ℕ) → a ≤ b → nat_le a b ≡ true
@@ -27,32 +27,32 @@ at_most a b h = grind (arith, nat_tests)
 pub more_than : (a b : ℕ) → b < a → nat_le a b ≡ false
 more_than a b h = grind (arith, nat_tests)
 
-module _ (whole : Whole) where
+module _ (whole : WholePieces) where
   -- few chunks are one piece
-  pub cut_short : (n : ℕ) (chunks : List Chunk) → length chunks ≤ MOST_CHUNKS → cut whole n chunks ≡ piece_of whole true chunks ∷ []
-  unfolding cut
+  pub cut_short : (n : ℕ) (chunks : List Chunk) → length chunks ≤ MOST_CHUNKS → pieces_from whole n chunks ≡ piece_of whole true chunks ∷ []
+  unfolding pieces_from
   cut_short zero chunks short = refl
   cut_short (suc n) chunks short = rw (at_most (length chunks) MOST_CHUNKS short) refl
 
   -- of more, the first are a piece
   pub cut_long : (n : ℕ) (chunks : List Chunk) → MOST_CHUNKS < length chunks
-      → cut whole (suc n) chunks ≡ piece_of whole false (take MOST_CHUNKS chunks) ∷ cut whole n (drop MOST_CHUNKS chunks)
-  unfolding cut
+      → pieces_from whole (suc n) chunks ≡ piece_of whole false (take MOST_CHUNKS chunks) ∷ pieces_from whole n (drop MOST_CHUNKS chunks)
+  unfolding pieces_from
   cut_long n chunks long = rw (more_than (length chunks) MOST_CHUNKS long) refl
 
 -- these chunks are left to send, behind what was sent, so that all is sent
-pub record IsLeft (whole : Whole) (op : ℕ) (left : List Chunk) (sent all : List (ℕ × Msg)) : Type 0 where
+pub record IsLeft (whole : WholePieces) (op : ℕ) (left : List Chunk) (sent all : List (ℕ × Msg)) : Type 0 where
   pub most : ℕ
   pub enough : length left ≤ most
-  pub sends : sent ++ told (map (Piece op) (cut whole most left)) ≡ all
+  pub sends : sent ++ told (map (Piece op) (pieces_from whole most left)) ≡ all
 
-module _ (whole : Whole) (op : ℕ) (left : List Chunk) (sent all : List (ℕ × Msg)) where
+module _ (whole : WholePieces) (op : ℕ) (left : List Chunk) (sent all : List (ℕ × Msg)) where
   -- one more piece is sent
   pub left_more : (next chunks : List Chunk) (piece : APiece) (more : List (ℕ × Msg)) → IsLeft whole op left sent all → MOST_CHUNKS < length left → next ≡ drop MOST_CHUNKS left
       → chunks ≡ take MOST_CHUNKS left → piece ≡ piece_of whole false chunks → more ≡ sent ++ told (Piece op piece ∷ []) → IsLeft whole op next more all
   left_more next chunks piece more is long rest first made sends = by is.most is.enough is.sends
     where
-      by : (n : ℕ) → length left ≤ n → sent ++ told (map (Piece op) (cut whole n left)) ≡ all → IsLeft whole op next more all
+      by : (n : ℕ) → length left ≤ n → sent ++ told (map (Piece op) (pieces_from whole n left)) ≡ all → IsLeft whole op next more all
       by zero enough e = absurd (omega arith)
       by (suc n) enough e = record {
         most = n;

@@ -5,7 +5,7 @@ ghost use Rattle.instance_worker.specs.Pieces.{pieces};
 ghost use Rattle.instance_worker.specs.Instance.{exported, on_get, on_get_all, on_stream, told};
 
 use crate::instance::Instance;
-use crate::pieces::{MOST_CHUNKS, Whole, next_chunks};
+use crate::pieces::{MOST_CHUNKS, WholePieces, next_chunks};
 use actor_net::Outbox;
 use basics::{Boxed, NoMemory};
 use flow_filter::Filter;
@@ -80,7 +80,7 @@ impl<F: Function> Instance<F> {
         ensures sends { OnOk result (out.new.0 ≡ out.old.0 ++ told (map (OnePiece op) (pieces chunks))) }
         ensures notes { OnOk result (out.new.1 ≡ out.old.1) }
     {
-        let whole = Whole::of(&chunks);
+        let whole = WholePieces::of(&chunks);
         let mut left = VecDeque::from_vec(chunks.into_vec());
         while left.len() > MOST_CHUNKS {
             let chunks = next_chunks(self.alloc, &mut left)?;

@@ -13,20 +13,20 @@ pub const MOST_CHUNKS: usize = 64;
 
 /// What all pieces of chunks say.
 #[derive(Clone, Copy, Debug, PartialEq, Eq)]
-pub struct Whole {
+pub struct WholePieces {
     /// How many chunks there are.
     pub total: u32,
     /// The highest version among them, and at least 1.
     pub newest: u8,
 }
 
-impl Whole {
+impl WholePieces {
     /// What all pieces of these chunks say.
     pub(crate) fn of(chunks: &Chunks) -> Self
         requires { length chunks.now < 2 ^ 32 }
         ensures { result ≡ whole_of chunks.now }
     {
-        Whole {
+        WholePieces {
             total: chunks.items().len() as u32,
             newest: newest_version(chunks.items()),
         }

@@ -15,7 +15,7 @@ use Rattle.state_chunk.specs.Format.{kind_number}
 use Rattle.journal_file.specs.declared.fault.JournalFault.{JournalFault}
 use Rattle.journal_file.specs.declared.fault.JournalFault.TheVariants as fault
 use Rattle.journal_file.specs.Format.{letters, version, header_size, most_choices, header_bytes, journal_bytes, choice_bytes}
-use Rattle.journal_file.specs.Reading.{Read, Gives, count_in, count_of, choices_in, choices_of, journal_of}
+use Rattle.journal_file.specs.Reading.{Read, AnswersWith, count_in, count_of, choices_in, choices_of, journal_of}
 use Rattle.journal_file.proofs.SpelledChoices.{written_choices_in, choices_in_length}
 
 -- a test that must hold held
@@ -96,7 +96,7 @@ journal_spelled kind instances bytes choices are h = told (count_of kind instanc
         ∙ ap (λ (l : List ℕ). header_bytes kind instances (length choices) ++ l) rest.1
 
 -- so is one that a call gave
-pub given_spelled : (kind : Kind) (instances : ℕ) (bytes : List ℕ) (result : Read (List Choice)) → IsBytes bytes → Gives (journal_of kind instances bytes) result
+pub given_spelled : (kind : Kind) (instances : ℕ) (bytes : List ℕ) (result : Read (List Choice)) → IsBytes bytes → AnswersWith (journal_of kind instances bytes) result
     → IfOk result (λ choices. bytes ≡ journal_bytes kind instances choices)
 given_spelled kind instances bytes (Ok choices) are given = journal_spelled kind instances bytes choices are given
 given_spelled kind instances bytes (Err e) are given = tt

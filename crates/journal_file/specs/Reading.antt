@@ -52,9 +52,9 @@ looked_at (Err e) = header_size
 looked_at (Ok count) = header_size + 2 * count + 1
 
 -- what a call gave is what is due; out of memory is free
-abbrev pub Gives : {X : Type 0} → Read X → Read X → Type 0
-Gives due (Err fault.NoMemory) = Unit {0}
-Gives due result = due ≡ result
+abbrev pub AnswersWith : {X : Type 0} → Read X → Read X → Type 0
+AnswersWith due (Err fault.NoMemory) = Unit {0}
+AnswersWith due result = due ≡ result
 
 -- a call over a source that has `left` bytes afterwards gave what is due. At Ok none is left, and at a fault of the bytes all but the first `looked`. A fault of reading and out of memory are free
 abbrev pub GivesFrom : {X : Type 0} → Read X → ℕ → List ℕ → Option (List ℕ) → Read X → Type 0

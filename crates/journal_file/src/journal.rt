@@ -1,6 +1,6 @@
 ghost use Rattle.std.specs.Prelude.{◌≡◌, ◌≤◌, ◌++◌, [], length, Ok, IfOk, OnOk};
 ghost use Rattle.journal_file.specs.Format.{journal_bytes, most_choices};
-ghost use Rattle.journal_file.specs.Reading.{journal_of, Gives};
+ghost use Rattle.journal_file.specs.Reading.{journal_of, AnswersWith};
 
 use crate::choices::{push_bytes_of, push_choices_in};
 use crate::fault::JournalFault;
@@ -56,7 +56,7 @@ pub fn read_journal(
     kind: Kind,
     instances: u8,
 ) -> Result<Choices, JournalFault>
-    ensures value { Gives (journal_of kind instances bytes.now) result }
+    ensures value { AnswersWith (journal_of kind instances bytes.now) result }
 
     // What is read has no other spelling.
     ensures spelled { IfOk result (λ choices. bytes.now ≡ journal_bytes kind instances choices) }
@@ -72,7 +72,7 @@ fn journal_of(
     kind: Kind,
     instances: u8,
 ) -> Result<Choices, JournalFault>
-    ensures { Gives (journal_of kind instances bytes.now) result }
+    ensures { AnswersWith (journal_of kind instances bytes.now) result }
 {
     let count = count_of(bytes, kind, instances)?;
     let rest = &bytes[SIZE..];

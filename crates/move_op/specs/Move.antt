@@ -39,24 +39,24 @@ pub record MoveState : Type 0 where
   pub phase : Phase
 
 -- the phase of a move after a message, and what it sends, each message with its receiver
-pub record Next : Type 0 where
+pub record MoveNext : Type 0 where
   pub phase : Phase
   pub sends : List (ℕ × Msg)
 
 -- the same, and the parcels that are then stored for the move, where they change
-pub record Row : Type 0 where
-  pub next : Next
+pub record MoveRow : Type 0 where
+  pub next : MoveNext
   pub stored : Option (List FullCell)
 
-abbrev pub goes : Phase → List (ℕ × Msg) → Next
+abbrev pub goes : Phase → List (ℕ × Msg) → MoveNext
 goes phase sends = record { phase = phase; sends = sends }
 
 -- the stored parcels stay
-abbrev pub keeps : Next → Row
+abbrev pub keeps : MoveNext → MoveRow
 keeps next = record { next = next; stored = None }
 
 -- these parcels are stored afterwards
-abbrev pub stores : List FullCell → Next → Row
+abbrev pub stores : List FullCell → MoveNext → MoveRow
 stores parcels next = record { next = next; stored = Some parcels }
 
 -- each chunk has a unit
@@ -98,12 +98,12 @@ abbrev pub begin_sends : MovePlan → List (ℕ × Msg)
 begin_sends plan = enable_at plan (source plan) action.Drop ∷ []
 
 -- the first piece that is free asks whether all of them are taken
-abbrev pub asked : MovePlan → List Piece → List Piece → Bool → Next
+abbrev pub asked : MovePlan → List Piece → List Piece → Bool → MoveNext
 asked plan frozen [] came = goes (Streaming frozen [] came Shut) []
 asked plan frozen (piece ∷ free) came = goes (Streaming frozen free came (Asked piece.last)) (put_to plan true piece ∷ [])
 
 -- the pieces that are free go on as the door says: one of them, all of them, or back to the source once there are no others
-abbrev pub pushed : MovePlan → List Piece → List Piece → Bool → Door → Next
+abbrev pub pushed : MovePlan → List Piece → List Piece → Bool → Door → MoveNext
 pushed plan frozen free came Shut = asked plan frozen free came
 pushed plan frozen free came (Asked last) = goes (Streaming frozen free came (Asked last)) []
 pushed plan frozen free came Open = goes (Streaming frozen [] came Open) (map (put_to plan false) free)
@@ -112,34 +112,34 @@ pushed plan frozen free came (Refused why) =
     else goes (Streaming frozen free came (Refused why)) []
 
 -- the stored parcels go to the destination, and then all that comes goes there
-abbrev pub released : MovePlan → List FullCell → Row
+abbrev pub released : MovePlan → List FullCell → MoveRow
 released plan events = stores [] (goes Passing (map (forward_to plan plan.to) events
     ++ (switch_node, msg.Install plan.op plan.filter plan.from (Instance plan.to)) ∷ []))
 
 -- the stored parcels go back to the source
-abbrev pub returned : MovePlan → Answer → List FullCell → Row
+abbrev pub returned : MovePlan → Answer → List FullCell → MoveRow
 returned plan why events = stores [] (goes (Undoing why) (map (forward_to plan plan.from) events
     ++ (switch_node, msg.FenceTo plan.op plan.from) ∷ []))
 
 -- all pieces are put
-abbrev pub all_put : MovePlan → List FullCell → Bool → Row
+abbrev pub all_put : MovePlan → List FullCell → Bool → MoveRow
 all_put plan events true = keeps (goes Holding (enable_at plan (destination plan) action.Buffer ∷ []))
 all_put plan events false = released plan events
 
 -- an event of the source
-abbrev pub on_event : MovePlan → Phase → List FullCell → FullCell → Row
+abbrev pub on_event : MovePlan → Phase → List FullCell → FullCell → MoveRow
 on_event plan Passing events parcel = keeps (goes Passing (forward_to plan plan.to parcel ∷ []))
 on_event plan phase events parcel = stores (events ++ parcel ∷ []) (goes phase [])
 
 -- the source has set its event rule
-abbrev pub on_source_enabled : MovePlan → Phase → List FullCell → Row
+abbrev pub on_source_enabled : MovePlan → Phase → List FullCell → MoveRow
 on_source_enabled plan Freezing events =
     keeps (goes (Streaming [] [] false Shut) ((source plan, msg.Stream plan.op plan.filter) ∷ []))
 on_source_enabled plan (Returning why) events = returned plan why events
 on_source_enabled plan phase events = keeps (goes phase [])
 
 -- the next piece of the source
-abbrev pub on_piece : MovePlan → Phase → Piece → Next
+abbrev pub on_piece : MovePlan → Phase → Piece → MoveNext
 on_piece plan (Streaming frozen free came door) piece =
     if have_units piece.chunks
     then goes (Streaming (frozen ++ piece ∷ []) free (came || piece.last) door) ((source plan, msg.Delete plan.op (units_in piece.chunks)) ∷ [])
@@ -147,45 +147,45 @@ on_piece plan (Streaming frozen free came door) piece =
 on_piece plan phase piece = goes phase []
 
 -- the source has removed the records of the first piece that is frozen
-abbrev pub on_deleted : MovePlan → Phase → Next
+abbrev pub on_deleted : MovePlan → Phase → MoveNext
 on_deleted plan (Streaming (piece ∷ frozen) free came door) = pushed plan frozen (free ++ piece ∷ []) came door
 on_deleted plan phase = goes phase []
 
 -- the source has its records again
-abbrev pub on_restored : MovePlan → Phase → Next
+abbrev pub on_restored : MovePlan → Phase → MoveNext
 on_restored plan (Restoring why) = goes (Returning why) (enable_at plan (source plan) action.Buffer ∷ [])
 on_restored plan phase = goes phase []
 
 -- the fence came to the source
-abbrev pub on_source_fenced : MovePlan → Phase → Next
+abbrev pub on_source_fenced : MovePlan → Phase → MoveNext
 on_source_fenced plan Passing = goes Ending ((switch_node, msg.FenceTo plan.op plan.to) ∷ [])
 on_source_fenced plan (Undoing why) = goes (Over why) []
 on_source_fenced plan phase = goes phase []
 
 -- the destination took the piece that asked, or the last one
-abbrev pub on_put_ok : MovePlan → Phase → List FullCell → Row
+abbrev pub on_put_ok : MovePlan → Phase → List FullCell → MoveRow
 on_put_ok plan (Streaming frozen free came (Asked last)) events =
     if last then all_put plan events plan.keep else keeps (pushed plan frozen free came Open)
 on_put_ok plan (Streaming frozen free came Open) events = all_put plan events plan.keep
 on_put_ok plan phase events = keeps (goes phase [])
 
 -- the destination refused the piece that asked
-abbrev pub on_put_no : MovePlan → Phase → Answer → List Chunk → Next
+abbrev pub on_put_no : MovePlan → Phase → Answer → List Chunk → MoveNext
 on_put_no plan (Streaming frozen free came (Asked last)) why chunks = pushed plan frozen (put_back chunks last ∷ free) came (Refused why)
 on_put_no plan phase why chunks = goes phase []
 
 -- the destination has set its event rule
-abbrev pub on_destination_enabled : MovePlan → Phase → List FullCell → Row
+abbrev pub on_destination_enabled : MovePlan → Phase → List FullCell → MoveRow
 on_destination_enabled plan Holding events = released plan events
 on_destination_enabled plan phase events = keeps (goes phase [])
 
 -- the fence came to the destination
-abbrev pub on_destination_fenced : MovePlan → Phase → Next
+abbrev pub on_destination_fenced : MovePlan → Phase → MoveNext
 on_destination_fenced plan Ending = goes (Over Done) []
 on_destination_fenced plan phase = goes phase []
 
 -- a message of the source
-abbrev pub from_source : MovePlan → Phase → List FullCell → Msg → Row
+abbrev pub from_source : MovePlan → Phase → List FullCell → Msg → MoveRow
 from_source plan phase events (msg.Event op parcel) = on_event plan phase events parcel
 from_source plan phase events (msg.Enabled op) = on_source_enabled plan phase events
 from_source plan phase events (msg.Piece op piece) = keeps (on_piece plan phase piece)
@@ -195,7 +195,7 @@ from_source plan phase events (msg.Fenced op) = keeps (on_source_fenced plan pha
 from_source plan phase events message = keeps (goes phase [])
 
 -- a message of the destination
-abbrev pub from_destination : MovePlan → Phase → List FullCell → Msg → Row
+abbrev pub from_destination : MovePlan → Phase → List FullCell → Msg → MoveRow
 from_destination plan phase events (msg.PutOk op) = on_put_ok plan phase events
 from_destination plan phase events (msg.PutNo op refused) = keeps (on_put_no plan phase refused.why refused.chunks)
 from_destination plan phase events (msg.Enabled op) = on_destination_enabled plan phase events
@@ -203,7 +203,7 @@ from_destination plan phase events (msg.Fenced op) = keeps (on_destination_fence
 from_destination plan phase events message = keeps (goes phase [])
 
 -- the table of a move, with the parcels that are stored for it. What it doesn't name comes in no run
-abbrev pub row : MoveState → List FullCell → ℕ → Msg → Row
+abbrev pub row : MoveState → List FullCell → ℕ → Msg → MoveRow
 row s events sender message =
     if sender == source s.plan then from_source s.plan s.phase events message
     else if sender == destination s.plan then from_destination s.plan s.phase events message
@@ -214,7 +214,7 @@ abbrev pub Store : Type 0
 Store = finite.FinMap nat_cmp (List FullCell)
 
 -- the row, with what a store has for the move
-abbrev pub row_in : MoveState → Store → ℕ → Msg → Row
+abbrev pub row_in : MoveState → Store → ℕ → Msg → MoveRow
 row_in s store sender message = row s (stored store s.plan.op) sender message
 
 -- the answer of a move that is over

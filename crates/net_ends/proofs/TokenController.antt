@@ -16,7 +16,7 @@ use Rattle.nf_msgs.specs.declared.msg.Msg.{Msg}
 use Rattle.nf_msgs.specs.declared.msg.Msg.TheVariants as msg
 use Rattle.nf_msgs.specs.Nodes.{instance_node}
 use Rattle.nf_msgs.specs.Shown.{op_of}
-use Rattle.move_op.specs.Move.{MoveState, Row, row_in, answer_of}
+use Rattle.move_op.specs.Move.{MoveState, MoveRow, row_in, answer_of}
 use Rattle.copy_share.specs.Copy.{CopyPlan, CopyState, CopyRow}
 use Rattle.copy_share.specs.Copy as copy
 use Rattle.copy_share.specs.Share.{SharePlan, ShareState, home}
@@ -101,7 +101,7 @@ module _ (n : ℕ) (switch_there : reaches n 1 0 ≡ true) (c : ControllerState)
     gone : (ops : OpenOperations) → finite.get (finite.remove ops op) op ≡ None
     gone ops = got_remove ops op op ∙ ap (λ b. cond b None (finite.get ops op)) (self op)
 
-    move_turn : (mv : MoveState) (r : Row) (a : Option Answer) → Given_at op m (ctrl.after_turn c op (moved mv c.store r) a)
+    move_turn : (mv : MoveState) (r : MoveRow) (a : Option Answer) → Given_at op m (ctrl.after_turn c op (moved mv c.store r) a)
     move_turn mv r None = nothing op m (ctrl.after_turn c op (moved mv c.store r) None) (ap wanted (written (Move (record mv { phase = r.next.phase }))))
     move_turn mv r (Some why) = nothing op m (ctrl.after_turn c op (moved mv c.store r) (Some why)) (ap wanted (gone (finite.insert c.operations op (Move (record mv { phase = r.next.phase })))))
 

@@ -28,8 +28,8 @@ use Rattle.nf_msgs.specs.declared.msg.Msg.{Msg}
 use Rattle.nf_msgs.specs.declared.msg.Msg.TheVariants as msg
 use Rattle.nf_msgs.specs.Nodes.{switch_node}
 use Rattle.instance_worker.specs.declared.instance.Instance.{Instance}
-use Rattle.instance_worker.specs.declared.pieces.Whole.{Whole}
-use Rattle.instance_worker.specs.Pieces.{piece_of, cut, whole_of}
+use Rattle.instance_worker.specs.declared.pieces.WholePieces.{WholePieces}
+use Rattle.instance_worker.specs.Pieces.{piece_of, pieces_from, whole_of}
 use Rattle.instance_worker.specs.Instance.{Step, told, chunk_told, shared, still, selected, processed, all_processed, carried, where_good, refusal, piece_put, instance_step, on_carry, on_fence, on_get, on_stream, on_put, on_restore, on_standby, on_sync, on_put_all, tally_put}
 use Rattle.actor_net.proofs.WeightLaws.{weigh-append}
 use Rattle.net_length.specs.Length.{pieces_among}
@@ -94,11 +94,11 @@ module _ (op : ℕ) where
 
 -- The pieces of a stream
 module _ (o op : ℕ) where
-  cut_costs : (whole : Whole) (n : ℕ) (chunks : List Chunk) → cost o (told (map (msg.Piece op) (cut whole n chunks))) ≤ 1 + 4 * pieces_among (told (map (msg.Piece op) (cut whole n chunks)))
-  unfolding cut
+  cut_costs : (whole : WholePieces) (n : ℕ) (chunks : List Chunk) → cost o (told (map (msg.Piece op) (pieces_from whole n chunks))) ≤ 1 + 4 * pieces_among (told (map (msg.Piece op) (pieces_from whole n chunks)))
+  unfolding pieces_from
   cut_costs whole zero chunks = omega arith
   cut_costs whole (suc n) chunks =
-      elim (nat_le (length chunks) 64) as (λ b. cost o (told (map (msg.Piece op) (if b then piece_of whole true chunks ∷ [] else piece_of whole false (take 64 chunks) ∷ cut whole n (drop 64 chunks)))) ≤ 1 + 4 * pieces_among (told (map (msg.Piece op) (if b then piece_of whole true chunks ∷ [] else piece_of whole false (take 64 chunks) ∷ cut whole n (drop 64 chunks))))) [
+      elim (nat_le (length chunks) 64) as (λ b. cost o (told (map (msg.Piece op) (if b then piece_of whole true chunks ∷ [] else piece_of whole false (take 64 chunks) ∷ pieces_from whole n (drop 64 chunks)))) ≤ 1 + 4 * pieces_among (told (map (msg.Piece op) (if b then piece_of whole true chunks ∷ [] else piece_of whole false (take 64 chunks) ∷ pieces_from whole n (drop 64 chunks))))) [
         | true ↦ omega arith
         | false ↦ let rest = cut_costs whole n (drop 64 chunks) in omega (arith, rest)
       ]

@@ -13,16 +13,16 @@ use Rattle.move_op.specs.declared.door.Door.{Door}
 use Rattle.move_op.specs.declared.door.Door.TheVariants as door
 use Rattle.move_op.specs.declared.phase.Phase.{Phase}
 use Rattle.move_op.specs.declared.phase.Phase.TheVariants as phase
-use Rattle.move_op.specs.Move.{MovePlan, Next, Row, keeps, goes, chunks_of, have_units, put_back, source, destination, put_to, forward_to, pushed, released, returned, all_put, on_event, on_source_enabled, on_piece, on_deleted, on_restored, on_source_fenced, on_put_ok, on_put_no, on_destination_enabled, on_destination_fenced, from_source, from_destination, row}
+use Rattle.move_op.specs.Move.{MovePlan, MoveNext, MoveRow, keeps, goes, chunks_of, have_units, put_back, source, destination, put_to, forward_to, pushed, released, returned, all_put, on_event, on_source_enabled, on_piece, on_deleted, on_restored, on_source_fenced, on_put_ok, on_put_no, on_destination_enabled, on_destination_fenced, from_source, from_destination, row}
 use Rattle.actor_net.proofs.WeightLaws.{weigh, weigh-append}
 use Rattle.net_length.proofs.Weights.{one_if, of_piece, streaming, of_move, kept, weight, some, cost}
 
 module _ (o : ℕ) (plan : MovePlan) where
   -- what a row weighs: what it sends, its phase, and what is then kept for the move
-  abbrev pub next_costs : Next → ℕ
+  abbrev pub next_costs : MoveNext → ℕ
   next_costs next = cost o next.sends + of_move next.phase
 
-  abbrev pub row_costs : List FullCell → Row → ℕ
+  abbrev pub row_costs : List FullCell → MoveRow → ℕ
   row_costs events r = next_costs r.next + kept o (unwrap_or r.stored events)
 
   -- a phase with less to put
@@ -59,7 +59,7 @@ module _ (o : ℕ) (plan : MovePlan) where
       ]
 
   module _ (events : List FullCell) where
-    abbrev Falls : Phase → Msg → Row → Type 0
+    abbrev Falls : Phase → Msg → MoveRow → Type 0
     Falls ph m r = row_costs events r + 1 ≤ of_move ph + kept o events + weight o m
 
     released_costs : row_costs events (released plan events) ≤ 7 + kept o events

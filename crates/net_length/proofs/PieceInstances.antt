@@ -26,8 +26,8 @@ use Rattle.nf_msgs.specs.declared.msg.Msg.{Msg}
 use Rattle.nf_msgs.specs.declared.msg.Msg.TheVariants as msg
 use Rattle.nf_msgs.specs.Nodes.{switch_node}
 use Rattle.instance_worker.specs.declared.instance.Instance.{Instance}
-use Rattle.instance_worker.specs.declared.pieces.Whole.{Whole}
-use Rattle.instance_worker.specs.Pieces.{piece_of, cut, pieces, whole_of}
+use Rattle.instance_worker.specs.declared.pieces.WholePieces.{WholePieces}
+use Rattle.instance_worker.specs.Pieces.{piece_of, pieces_from, pieces, whole_of}
 use Rattle.instance_worker.specs.Instance.{Step, told, chunk_told, shared, still, and_then, selected, processed, all_processed, carried, where_good, refusal, piece_put, instance_step, on_carry, on_fence, on_get, on_stream, on_put, on_restore, on_standby, on_sync, on_put_all, tally_put}
 use Rattle.actor_net.proofs.WeightLaws.{weigh-append}
 use Rattle.net_length.specs.Length.{pieces_among}
@@ -37,11 +37,11 @@ more_than : (x : ℕ) → nat_le x 64 ≡ false → 64 < x
 more_than x h = grind (arith, nat_tests)
 
 -- pieces of up to 64 chunks
-few_cut : (whole : Whole) (n : ℕ) (chunks : List Chunk) → length chunks ≤ n → 64 * length (cut whole n chunks) ≤ length chunks + 64
-unfolding cut
+few_cut : (whole : WholePieces) (n : ℕ) (chunks : List Chunk) → length chunks ≤ n → 64 * length (pieces_from whole n chunks) ≤ length chunks + 64
+unfolding pieces_from
 few_cut whole zero chunks enough = omega arith
 few_cut whole (suc n) chunks enough =
-    elim (nat_le (length chunks) 64) as (λ b. nat_le (length chunks) 64 ≡ b → 64 * length (if b then piece_of whole true chunks ∷ [] else piece_of whole false (take 64 chunks) ∷ cut whole n (drop 64 chunks)) ≤ length chunks + 64) [
+    elim (nat_le (length chunks) 64) as (λ b. nat_le (length chunks) 64 ≡ b → 64 * length (if b then piece_of whole true chunks ∷ [] else piece_of whole false (take 64 chunks) ∷ pieces_from whole n (drop 64 chunks)) ≤ length chunks + 64) [
       | true ↦ λ _. omega arith
       | false ↦ λ more.
           let long = more_than (length chunks) more in

@@ -15,7 +15,7 @@ use Rattle.move_op.specs.declared.door.Door.{Door}
 use Rattle.move_op.specs.declared.door.Door.TheVariants as door
 use Rattle.move_op.specs.declared.phase.Phase.{Phase}
 use Rattle.move_op.specs.declared.phase.Phase.TheVariants as phase
-use Rattle.move_op.specs.Move.{MovePlan, Next, Row, keeps, goes, chunks_of, have_units, put_back, source, destination, put_to, forward_to, pushed, released, returned, all_put, on_event, on_source_enabled, on_piece, on_deleted, on_restored, on_source_fenced, on_put_ok, on_put_no, on_destination_enabled, on_destination_fenced, from_source, from_destination, row}
+use Rattle.move_op.specs.Move.{MovePlan, MoveNext, MoveRow, keeps, goes, chunks_of, have_units, put_back, source, destination, put_to, forward_to, pushed, released, returned, all_put, on_event, on_source_enabled, on_piece, on_deleted, on_restored, on_source_fenced, on_put_ok, on_put_no, on_destination_enabled, on_destination_fenced, from_source, from_destination, row}
 use Rattle.copy_share.specs.declared.copy_phase.CopyPhase.{CopyPhase}
 use Rattle.copy_share.specs.declared.copy_phase.CopyPhase.TheVariants as copies
 use Rattle.copy_share.specs.declared.share_phase.SharePhase.{SharePhase}
@@ -28,11 +28,11 @@ use Rattle.net_length.proofs.Chances.{spent, of_phase}
 
 module _ (a k : ℕ) (plan : MovePlan) where
   -- a row sends no more than its phase had
-  abbrev pub Falls : Phase → Row → Type 0
+  abbrev pub Falls : Phase → MoveRow → Type 0
   Falls ph r = spent a k r.next.sends + of_phase a k r.next.phase ≤ of_phase a k ph
 
   -- and mostly nothing that counts, in a later phase
-  abbrev Sends_none : Next → Type 0
+  abbrev Sends_none : MoveNext → Type 0
   Sends_none next = spent a k next.sends + of_phase a k next.phase ≡ 0
 
   puts_none : (ps : List Piece) → spent a k (map (put_to plan false) ps) ≡ 0

@@ -13,7 +13,7 @@ use Rattle.nf_msgs.specs.declared.note.Note.{Note}
 use Rattle.nf_msgs.specs.declared.note.Note.TheVariants.{Begun, Installed, Answered}
 use Rattle.ctrl_node.specs.Controller.{place_of, names_of, filter_of}
 use Rattle.net_world.specs.declared.config.Config.{Config}
-use Rattle.net_world.specs.Input.{order_of}
+use Rattle.net_world.specs.Input.{order_numbered}
 use Rattle.net_world.specs.Log.{has_begun}
 
 -- whether the command was answered
@@ -108,4 +108,4 @@ module _ (names : List (List ℕ)) (orders : ℕ → Option Order) where
 
 -- what the log of every run of an input says
 abbrev pub Answers : Config → List Msg → List Note → Type 0
-Answers config items log = AreAnswered config.names (order_of items) log
+Answers config items log = AreAnswered config.names (order_numbered items) log

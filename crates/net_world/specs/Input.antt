@@ -54,8 +54,8 @@ no_packet = record { nanos = 0; number = 0; src = 0; dst = 0; length = 0; sport 
 abbrev pub packet_of : List Msg → ℕ → Packet
 packet_of items number = unwrap_or (find (λ p. p.number == number) (packets items)) no_packet
 
-abbrev pub order_of : List Msg → ℕ → Option Order
-order_of items op = option_map (λ c. c.what) (find (λ c. c.op == op) (commands items))
+abbrev pub order_numbered : List Msg → ℕ → Option Order
+order_numbered items op = option_map (λ c. c.what) (find (λ c. c.op == op) (commands items))
 
 -- the numbers rise from here on
 abbrev pub IsRising : ℕ → List ℕ → Type 0

@@ -18,7 +18,7 @@ use Rattle.nf_msgs.specs.declared.note.Note.{Note}
 use Rattle.nf_msgs.specs.declared.note.Note.TheVariants.{Arrived, Processed}
 use Rattle.ctrl_node.specs.Controller.{place_of}
 use Rattle.net_world.specs.declared.config.Config.{Config}
-use Rattle.net_world.specs.Input.{packet_of, order_of}
+use Rattle.net_world.specs.Input.{packet_of, order_numbered}
 use Rattle.net_world.specs.Commands.{is_busy}
 use Rattle.net_world.specs.Log.{installed}
 
@@ -73,15 +73,15 @@ module _ (names : List (List ℕ)) (orders : ℕ → Option Order) where
 
 module _ (config : Config) (items : List Msg) where
   abbrev pub owner : units.Unit → List Note → ℕ
-  owner unit log = owner_after config.names (order_of items) unit (first_owner unit config.routes) (installed log)
+  owner unit log = owner_after config.names (order_numbered items) unit (first_owner unit config.routes) (installed log)
 
   -- a plain move that the switch has installed handed the unit on
   abbrev pub is_loose : units.Unit → List Note → Bool
-  is_loose unit log = loose_after config.names (order_of items) unit (first_owner unit config.routes) (installed log)
+  is_loose unit log = loose_after config.names (order_numbered items) unit (first_owner unit config.routes) (installed log)
 
   -- the members of the share that has the unit by the rules of the switch
   abbrev pub members : units.Unit → List Note → Option (List (List ℕ))
-  members unit log = members_after config.names (order_of items) unit (first_owner unit config.routes) (installed log)
+  members unit log = members_after config.names (order_numbered items) unit (first_owner unit config.routes) (installed log)
 
   -- the member among some at which a packet is processed: by the two ports and the remote address of its flow, modulo the number of members
   abbrev pub member_for : List (List ℕ) → Packet → Option ℕ
@@ -94,7 +94,7 @@ module _ (config : Config) (items : List Msg) where
     pub op : ℕ
     pub filter : Filter
     pub keep : Bool
-    pub order : order_of items op ≡ Some (Move source destination filter keep)
+    pub order : order_numbered items op ≡ Some (Move source destination filter keep)
     pub takes_it : takes filter unit ≡ true
     pub busy : is_busy op log ≡ true
 

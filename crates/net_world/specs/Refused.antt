@@ -14,7 +14,7 @@ use Rattle.nf_msgs.specs.declared.note.Note.{Note}
 use Rattle.nf_msgs.specs.declared.note.Note.TheVariants.{Processed, Begun, Answered}
 use Rattle.ctrl_node.specs.Controller.{place_of}
 use Rattle.net_world.specs.declared.config.Config.{Config}
-use Rattle.net_world.specs.Input.{order_of}
+use Rattle.net_world.specs.Input.{order_numbered}
 use Rattle.net_world.specs.Places.{is_at, owner, unit_numbered}
 
 -- what a log says of a command that began and was answered otherwise than that it is done: the notes before its begin, and those from there
@@ -33,4 +33,4 @@ moves_away config order unit i = false
 module _ (config : Config) (items : List Msg) (kind : Kind) where
   -- each packet of a unit that a refused move was to take away from its owner was processed at that owner
   abbrev pub StaysAtSource : List Note → Type 0
-  StaysAtSource log = (op : ℕ) (first between before after : List Note) (number instance : ℕ) (output : Output) → IsRefused op log first between → between ≡ before ++ Processed number instance output ∷ after → moves_away config (order_of items op) (unit_numbered config items kind number) (owner config items (unit_numbered config items kind number) first) ≡ true → instance ≡ owner config items (unit_numbered config items kind number) first
+  StaysAtSource log = (op : ℕ) (first between before after : List Note) (number instance : ℕ) (output : Output) → IsRefused op log first between → between ≡ before ++ Processed number instance output ∷ after → moves_away config (order_numbered items op) (unit_numbered config items kind number) (owner config items (unit_numbered config items kind number) first) ≡ true → instance ≡ owner config items (unit_numbered config items kind number) first

@@ -24,7 +24,7 @@ use Rattle.net_world.specs.declared.config.Config.{Config}
 use Rattle.net_world.specs.declared.node.Node.{Node}
 use Rattle.net_world.specs.declared.node.Node.TheVariants.{Instance}
 use Rattle.net_world.specs.Commands.{began, answers_of}
-use Rattle.net_world.specs.Input.{packet_of, order_of}
+use Rattle.net_world.specs.Input.{packet_of, order_numbered}
 use Rattle.net_world.specs.Nodes.{node_step}
 use Rattle.net_world.specs.Fold.{went}
 
@@ -84,7 +84,7 @@ module _ {F R : Type 0} (f : Semantics R) (config : Config) (items : List Msg) w
   -- what is weighed of a move in a world
   pub record IsWeighed (op : ℕ) (w : Network (Node F R) Msg Note) (x : Weighed) : Type 0 where
     pub destination : ℕ
-    pub destination_is : receiver_of config (order_of items op) ≡ Some destination
+    pub destination_is : receiver_of config (order_numbered items op) ≡ Some destination
     pub units : List units.Unit
     pub units_are : exported op w.log ≡ Some units
     pub held : x.held ≡ number_live w destination

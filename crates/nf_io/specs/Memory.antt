@@ -4,14 +4,14 @@ use Rattle.nf_io.specs.declared.outside.Role.{Role}
 use Rattle.nf_io.specs.declared.memory.MemoryOutside.{MemoryOutside}
 use Rattle.nf_io.specs.Roles.{place_of}
 use Rattle.nf_io.specs.Meaning.{Meaning, blank}
-use Rattle.nf_io.specs.Planned.{Plan, unplanned, meaning_of, plan_of, room_of, after_call}
+use Rattle.nf_io.specs.Planned.{FailPlan, unplanned, meaning_of, plan_of, room_of, after_call}
 
 -- the four meanings of a role
 abbrev pub seen_in : MemoryOutside → Role → Meaning
 seen_in memory role = unwrap_or (option_map meaning_of (slice_get memory.tapes (place_of role))) blank
 
 -- the plan of a role
-abbrev pub plan_in : MemoryOutside → Role → Plan
+abbrev pub plan_in : MemoryOutside → Role → FailPlan
 plan_in memory role = unwrap_or (option_map plan_of (slice_get memory.tapes (place_of role))) unplanned
 
 -- how many bytes can be appended to a role without more memory

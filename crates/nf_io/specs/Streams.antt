@@ -24,14 +24,14 @@ pub record FileBytes (F : Type 0) : Type 0 where
   pub written : F → Option (List ℕ)
 
 -- what a file shows, or what it will show once it is open
-abbrev pub shown : {F : Type 0} → (F → Option (List ℕ)) → Option (List ℕ) → Option F → Option (List ℕ)
-shown view at_first None = at_first
-shown view at_first (Some file) = view file
+abbrev pub bytes_shown : {F : Type 0} → (F → Option (List ℕ)) → Option (List ℕ) → Option F → Option (List ℕ)
+bytes_shown view at_first None = at_first
+bytes_shown view at_first (Some file) = view file
 
 -- the bytes that a file has still to give: those read ahead, and then those that the file itself has left
 abbrev pub stream_left : {F : Type 0} → (F → Option (List ℕ)) → SystemBytes → Stream F → Option (List ℕ)
-stream_left remaining told stream = prepend_known (held stream.ahead) (shown remaining (told.opened (stream_name stream)) stream.file)
+stream_left remaining told stream = prepend_known (held stream.ahead) (bytes_shown remaining (told.opened (stream_name stream)) stream.file)
 
 -- the bytes that were written to a file
 abbrev pub stream_written : {F : Type 0} → (F → Option (List ℕ)) → SystemBytes → Stream F → Option (List ℕ)
-stream_written contents told stream = shown contents (told.created (stream_name stream)) stream.file
+stream_written contents told stream = bytes_shown contents (told.created (stream_name stream)) stream.file

@@ -43,7 +43,7 @@ use Rattle.whole_net.proofs.WhereAll.{Where_all, Apart_from_shares, Under_share,
 use Rattle.net_world.specs.declared.config.Config.{Config}
 use Rattle.net_world.specs.declared.node.Node.{Node}
 use Rattle.net_world.specs.declared.node.Node.TheVariants.{Instance}
-use Rattle.net_world.specs.Input.{packets, order_of, ends_last, IsInput}
+use Rattle.net_world.specs.Input.{packets, order_numbered, ends_last, IsInput}
 use Rattle.net_world.specs.Commands.{answers_of, times_installed}
 use Rattle.net_world.specs.Log.{arrived, those}
 use Rattle.net_world.specs.Places.{is_loose, owner, unit_numbered}
@@ -256,7 +256,7 @@ module _ {R : Type 0} (f : Semantics R) (c : Config) (items : List Msg) (is : Is
                 cc
           ] refl
 
-    pub completed : (ends_last items ≡ true → (op : ℕ) (what : Order) → order_of items op ≡ Some what → length (answers_of op w.log) ≡ 1) → ((op : ℕ) (source destination : List ℕ) (filter : Filter) (keep : Bool) → order_of items op ≡ Some (order.Move source destination filter keep) → answers_of op w.log ≡ Done ∷ [] → times_installed op w.log ≡ 1) → Completed f c items w
+    pub completed : (ends_last items ≡ true → (op : ℕ) (what : Order) → order_numbered items op ≡ Some what → length (answers_of op w.log) ≡ 1) → ((op : ℕ) (source destination : List ℕ) (filter : Filter) (keep : Bool) → order_numbered items op ≡ Some (order.Move source destination filter keep) → answers_of op w.log ≡ Done ∷ [] → times_installed op w.log ≡ 1) → Completed f c items w
     completed answered installed = record { all_came = all_came; all_went = all_went; each_once = each_once; records_are = live_is; has_record = λ u. (ended u).place; at_owner = at_owner; answered = answered; installed = installed }
 
 module _ {F R : Type 0} (f : Semantics R) (laws : FunctionLaws f) (alloc : Global) (c : Config) (items : List Msg) (is : IsInput f.kind c items) where

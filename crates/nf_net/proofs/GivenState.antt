@@ -21,8 +21,8 @@ use Rattle.record_table.proofs.UnitOrder.{one_unit, same_unit_equiv, same_unit-t
 use Rattle.nf_msgs.specs.declared.msg.Msg.{Msg}
 use Rattle.nf_msgs.specs.declared.msg.Piece.{Piece}
 use Rattle.nf_msgs.specs.Exports.{units_in}
-use Rattle.instance_worker.specs.declared.pieces.Whole.{Whole}
-use Rattle.instance_worker.specs.Pieces.{newest_version, piece_of, cut, whole_of, pieces}
+use Rattle.instance_worker.specs.declared.pieces.WholePieces.{WholePieces}
+use Rattle.instance_worker.specs.Pieces.{newest_version, piece_of, pieces_from, whole_of, pieces}
 use Rattle.unit_machine.proofs.Labels.{Each}
 use Rattle.unit_machine.proofs.Real.{Chunks}
 use Rattle.net_world.specs.declared.config.Config.{Config}
@@ -32,13 +32,13 @@ use Rattle.outline_net.proofs.Outline.{newest_in}
 use Rattle.outline_net.proofs.StateOutline.{newest_made}
 
 -- what each piece says of all
-abbrev pub IsOf : Whole → Piece → Type 0
+abbrev pub IsOf : WholePieces → Piece → Type 0
 IsOf whole p = (p.total ≡ whole.total) × (p.newest ≡ whole.newest)
 
-cut_of : (whole : Whole) (n : ℕ) (chunks : List Chunk) → Each (IsOf whole) (cut whole n chunks)
-unfolding cut
+cut_of : (whole : WholePieces) (n : ℕ) (chunks : List Chunk) → Each (IsOf whole) (pieces_from whole n chunks)
+unfolding pieces_from
 cut_of whole zero chunks = ((refl, refl), tt)
-cut_of whole (suc n) chunks = elim (nat_le (length chunks) 64) as (λ b. Each (IsOf whole) (if b then piece_of whole true chunks ∷ [] else piece_of whole false (take 64 chunks) ∷ cut whole n (drop 64 chunks))) [
+cut_of whole (suc n) chunks = elim (nat_le (length chunks) 64) as (λ b. Each (IsOf whole) (if b then piece_of whole true chunks ∷ [] else piece_of whole false (take 64 chunks) ∷ pieces_from whole n (drop 64 chunks))) [
   | true ↦ ((refl, refl), tt)
   | false ↦ ((refl, refl), cut_of whole n (drop 64 chunks))
 ]

@@ -33,7 +33,7 @@ use Rattle.whole_net.proofs.WhereAll.{Where_all, Apart_from_shares, Under_share}
 use Rattle.net_world.specs.declared.config.Config.{Config}
 use Rattle.net_world.specs.declared.node.Node.{Node}
 use Rattle.net_world.specs.Commands.{began, has_answered, times_installed}
-use Rattle.net_world.specs.Input.{IsInput, order_of}
+use Rattle.net_world.specs.Input.{IsInput, order_numbered}
 use Rattle.net_world.specs.Log.{installed}
 use Rattle.net_world.specs.Nodes.{node_step, node_ready}
 use Rattle.net_world.specs.Places.{first_owner, handed_on, owner_after, is_home, shared_among, members_after, owner, members}
@@ -87,35 +87,35 @@ module _ {R : Type 0} (f : Semantics R) (c : Config) (items : List Msg) where
   -- where the switch installs a share: the log up to there
   pub record IsInstalledShare (first : List Note) (op : ℕ) (ms : List (List ℕ)) (filter : Filter) : Type 0 where
     pub begun : began op first ≡ true
-    pub set_up : (u : units.Unit) → unit_fits f.kind u ≡ true → takes filter u ≡ true → is_home c.names (order_of items) ms (owner c items u first) ≡ true → has_answered op first ≡ true → 1 ≤ times_installed op first
+    pub set_up : (u : units.Unit) → unit_fits f.kind u ≡ true → takes filter u ≡ true → is_home c.names (order_numbered items) ms (owner c items u first) ≡ true → has_answered op first ≡ true → 1 ≤ times_installed op first
 
   pub record SaysOfShares (log : List Note) : Type 0 where
-    pub homes : (u : units.Unit) → unit_fits f.kind u ≡ true → (ms : List (List ℕ)) → members c items u log ≡ Some ms → is_home c.names (order_of items) ms (owner c items u log) ≡ true
-    pub installs : (first rest : List Note) (op : ℕ) (ms : List (List ℕ)) (filter : Filter) → log ≡ first ++ note.Installed op ∷ rest → order_of items op ≡ Some (order.Share ms filter) → IsInstalledShare first op ms filter
+    pub homes : (u : units.Unit) → unit_fits f.kind u ≡ true → (ms : List (List ℕ)) → members c items u log ≡ Some ms → is_home c.names (order_numbered items) ms (owner c items u log) ≡ true
+    pub installs : (first rest : List Note) (op : ℕ) (ms : List (List ℕ)) (filter : Filter) → log ≡ first ++ note.Installed op ∷ rest → order_numbered items op ≡ Some (order.Share ms filter) → IsInstalledShare first op ms filter
 
   -- notes of no change of the rules
   quiet_says : (log notes : List Note) → installed notes ≡ [] → SaysOfShares log → SaysOfShares (log ++ notes)
   quiet_says log notes none h = record {
     homes = λ u fits ms e.
         let same = installed_same log notes none in
-        ap (λ ops. is_home c.names (order_of items) ms (owner_after c.names (order_of items) u (first_owner u c.routes) ops)) same ∙ h.homes u fits ms (ap (members_after c.names (order_of items) u (first_owner u c.routes)) (sym same) ∙ e);
+        ap (λ ops. is_home c.names (order_numbered items) ms (owner_after c.names (order_numbered items) u (first_owner u c.routes) ops)) same ∙ h.homes u fits ms (ap (members_after c.names (order_numbered items) u (first_owner u c.routes)) (sym same) ∙ e);
     installs = λ first rest op ms filter e what. by_place first rest op ms filter what (stands log notes first (note.Installed op) rest e);
   }
     where
-      by_place : (first rest : List Note) (op : ℕ) (ms : List (List ℕ)) (filter : Filter) → order_of items op ≡ Some (order.Share ms filter) → Stands log notes first (note.Installed op) rest → IsInstalledShare first op ms filter
+      by_place : (first rest : List Note) (op : ℕ) (ms : List (List ℕ)) (filter : Filter) → order_numbered items op ≡ Some (order.Share ms filter) → Stands log notes first (note.Installed op) rest → IsInstalledShare first op ms filter
       by_place first rest op ms filter what (In_first cs here) = h.installs first cs op ms filter here what
       by_place first rest op ms filter what (In_second cs from there) = absurd (installed_nowhere notes cs rest op none there)
 
   -- a change of the rules
-  module _ (log : List Note) (k : ℕ) (h : SaysOfShares log) (new : (ms : List (List ℕ)) (filter : Filter) → order_of items k ≡ Some (order.Share ms filter) → IsInstalledShare log k ms filter) where
-    installs_more : (first rest : List Note) (op : ℕ) (ms : List (List ℕ)) (filter : Filter) → log ++ note.Installed k ∷ [] ≡ first ++ note.Installed op ∷ rest → order_of items op ≡ Some (order.Share ms filter) → IsInstalledShare first op ms filter
+  module _ (log : List Note) (k : ℕ) (h : SaysOfShares log) (new : (ms : List (List ℕ)) (filter : Filter) → order_numbered items k ≡ Some (order.Share ms filter) → IsInstalledShare log k ms filter) where
+    installs_more : (first rest : List Note) (op : ℕ) (ms : List (List ℕ)) (filter : Filter) → log ++ note.Installed k ∷ [] ≡ first ++ note.Installed op ∷ rest → order_numbered items op ≡ Some (order.Share ms filter) → IsInstalledShare first op ms filter
     installs_more first rest op ms filter e what = by_place (stands log (note.Installed k ∷ []) first (note.Installed op) rest e)
       where
         by_alone : (cs : List Note) → first ≡ log ++ cs → Alone (note.Installed k) (note.Installed op) cs rest → IsInstalledShare first op ms filter
         by_alone cs from (Is_it same none last) =
             let op_is : k ≡ op = ap (op_in 0) same in
             let at : log ≡ first = sym (from ∙ ap (λ xs. log ++ xs) none ∙ append-nil log) in
-            subst (λ xs. IsInstalledShare xs op ms filter) at (subst (λ q. IsInstalledShare log q ms filter) op_is (new ms filter (ap (order_of items) op_is ∙ what)))
+            subst (λ xs. IsInstalledShare xs op ms filter) at (subst (λ q. IsInstalledShare log q ms filter) op_is (new ms filter (ap (order_numbered items) op_is ∙ what)))
 
         by_place : Stands log (note.Installed k ∷ []) first (note.Installed op) rest → IsInstalledShare first op ms filter
         by_place (In_first cs here) = h.installs first cs op ms filter here what
@@ -126,11 +126,11 @@ module _ {F R : Type 0} (f : Semantics R) (c : Config) (items : List Msg) (is : 
   g = given f c items is
 
   -- the members of a unit after a change more
-  members_next : (u : units.Unit) (k : ℕ) → members c items u (w.log ++ note.Installed k ∷ []) ≡ option_or (members c items u w.log) (shared_among c.names (order_of items) u (order_of items k) (owner c items u w.log))
+  members_next : (u : units.Unit) (k : ℕ) → members c items u (w.log ++ note.Installed k ∷ []) ≡ option_or (members c items u w.log) (shared_among c.names (order_numbered items) u (order_numbered items k) (owner c items u w.log))
   members_next u k =
-      ap (members_after c.names (order_of items) u (first_owner u c.routes)) (installed-append w.log (note.Installed k ∷ []))
+      ap (members_after c.names (order_numbered items) u (first_owner u c.routes)) (installed-append w.log (note.Installed k ∷ []))
       ∙ members-append g u (first_owner u c.routes) (installed w.log) (k ∷ [])
-      ∙ ap (option_or (members c items u w.log)) (none_or (shared_among c.names (order_of items) u (order_of items k) (owner c items u w.log)))
+      ∙ ap (option_or (members c items u w.log)) (none_or (shared_among c.names (order_numbered items) u (order_numbered items k) (owner c items u w.log)))
 
   -- a move takes no unit that a share has
   not_moved : (u : units.Unit) → unit_fits f.kind u ≡ true → (ms : List (List ℕ)) → members c items u w.log ≡ Some ms → (k : ℕ) (filter : Filter) (from dst : ℕ) (rest : List (Any R)) → is_whole f.kind filter ≡ true → j.world.link 1 0 ≡ Old (net.Mv filter (real.M_install k from dst)) ∷ rest → takes filter u ≡ false
@@ -145,18 +145,18 @@ module _ {F R : Type 0} (f : Semantics R) (c : Config) (items : List Msg) (is : 
 
   -- the same owner and members, or the first ones
   module _ (k : ℕ) (u : units.Unit) (fits : unit_fits f.kind u ≡ true) (ms : List (List ℕ)) (e : members c items u (w.log ++ note.Installed k ∷ []) ≡ Some ms) where
-    home_by : (stays : (old : List (List ℕ)) → members c items u w.log ≡ Some old → handed_on c.names (order_of items) u (order_of items k) (owner c items u w.log) ≡ owner c items u w.log) (begins : Shares_it g u (order_of items k) (owner c items u w.log) ms → handed_on c.names (order_of items) u (order_of items k) (owner c items u w.log) ≡ owner c items u w.log) → is_home c.names (order_of items) ms (owner c items u (w.log ++ note.Installed k ∷ [])) ≡ true
+    home_by : (stays : (old : List (List ℕ)) → members c items u w.log ≡ Some old → handed_on c.names (order_numbered items) u (order_numbered items k) (owner c items u w.log) ≡ owner c items u w.log) (begins : Shares_it g u (order_numbered items k) (owner c items u w.log) ms → handed_on c.names (order_numbered items) u (order_numbered items k) (owner c items u w.log) ≡ owner c items u w.log) → is_home c.names (order_numbered items) ms (owner c items u (w.log ++ note.Installed k ∷ [])) ≡ true
     home_by stays begins = by_old (members c items u w.log) refl (sym (members_next u k) ∙ e)
       where
         i' : ℕ
         i' = owner c items u w.log
 
-        at_owner : handed_on c.names (order_of items) u (order_of items k) i' ≡ i' → is_home c.names (order_of items) ms i' ≡ true → is_home c.names (order_of items) ms (owner c items u (w.log ++ note.Installed k ∷ [])) ≡ true
-        at_owner same on = ap (is_home c.names (order_of items) ms) (owner_next g u w.log k ∙ same) ∙ on
+        at_owner : handed_on c.names (order_numbered items) u (order_numbered items k) i' ≡ i' → is_home c.names (order_numbered items) ms i' ≡ true → is_home c.names (order_numbered items) ms (owner c items u (w.log ++ note.Installed k ∷ [])) ≡ true
+        at_owner same on = ap (is_home c.names (order_numbered items) ms) (owner_next g u w.log k ∙ same) ∙ on
 
-        by_old : (o : Option (List (List ℕ))) → members c items u w.log ≡ o → option_or o (shared_among c.names (order_of items) u (order_of items k) i') ≡ Some ms → is_home c.names (order_of items) ms (owner c items u (w.log ++ note.Installed k ∷ [])) ≡ true
+        by_old : (o : Option (List (List ℕ))) → members c items u w.log ≡ o → option_or o (shared_among c.names (order_numbered items) u (order_numbered items k) i') ≡ Some ms → is_home c.names (order_numbered items) ms (owner c items u (w.log ++ note.Installed k ∷ [])) ≡ true
         by_old (Some old) at found = let same : old ≡ ms = cc in at_owner (stays old at) (h.homes u fits ms (at ∙ ap Some same))
-        by_old None at found = let its = shares_it g u (order_of items k) i' ms found in at_owner (begins its) its.home
+        by_old None at found = let its = shares_it g u (order_numbered items k) i' ms found in at_owner (begins its) its.home
 
   -- a step of the switch
   module _ (p : ℕ) (m : Msg) (it : IsTaken f g n (record { nodes = j.nodes; world = j.world; log = w.log; input = waiting w (at_node 0 0) }) (record { node = 0; port = p; message = m })) where
@@ -170,17 +170,17 @@ module _ {F R : Type 0} (f : Semantics R) (c : Config) (items : List Msg) (is : 
       installs = installs_more f c items w.log k h (λ ms flt what. let never = sym order_is ∙ what in cc);
     })
       where
-        order_is : order_of items k ≡ Some (order.Move its.plan_is.source its.plan_is.destination filter its.plan.keep)
+        order_is : order_numbered items k ≡ Some (order.Move its.plan_is.source its.plan_is.destination filter its.plan.keep)
         order_is = its.plan_is.order_is ∙ ap (λ y. Some (order.Move its.plan_is.source its.plan_is.destination y its.plan.keep)) its.filter_is
 
-        unmoved : (u : units.Unit) → takes filter u ≡ false → handed_on c.names (order_of items) u (order_of items k) (owner c items u w.log) ≡ owner c items u w.log
+        unmoved : (u : units.Unit) → takes filter u ≡ false → handed_on c.names (order_numbered items) u (order_numbered items k) (owner c items u w.log) ≡ owner c items u w.log
         unmoved u off = let what = order_is in rw (what, off) refl
     says_after (Diverts k filter from rest noted its whole waits) = subst (λ ns. SaysOfShares f c items (w.log ++ ns)) (sym noted) (record {
       homes = λ u fits ms e. home_by k u fits ms e (λ old at. unmoved u) (λ s. unmoved u);
       installs = installs_more f c items w.log k h (λ ms flt what. record { begun = begun; set_up = λ u fits on home answered. set_up_installed f c items is n count_is w j apart b u fits i k ms flt what on home answered begun });
     })
       where
-        unmoved : (u : units.Unit) → handed_on c.names (order_of items) u (order_of items k) (owner c items u w.log) ≡ owner c items u w.log
+        unmoved : (u : units.Unit) → handed_on c.names (order_numbered items) u (order_numbered items k) (owner c items u w.log) ≡ owner c items u w.log
         unmoved u = let what = its.order_is in rw what refl
 
         begun : began k w.log ≡ true

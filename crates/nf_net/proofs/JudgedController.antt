@@ -25,7 +25,7 @@ use Rattle.copy_share.specs.Copy.{CopyPlan, CopyState}
 use Rattle.copy_share.specs.Copy as copy
 use Rattle.copy_share.specs.Share.{SharePlan, ShareState}
 use Rattle.copy_share.specs.Share as share
-use Rattle.move_op.specs.Move.{MovePlan, MoveState, Row, row_in, begun, answer_of, destination}
+use Rattle.move_op.specs.Move.{MovePlan, MoveState, MoveRow, row_in, begun, answer_of, destination}
 use Rattle.event_store.specs.Store.{stored}
 use Rattle.ctrl_node.specs.declared.operation.Operation.{Operation}
 use Rattle.ctrl_node.specs.declared.operation.Operation.TheVariants.{Move, Copy, Share}
@@ -109,7 +109,7 @@ module _ (Part : ℕ → Piece → Type 0) (Verdict : ℕ → Answer → Type 0)
 
     module _ (moves : (op : ℕ) (m : MoveState) → finite.get c.operations op ≡ Some (Move m) → (m.plan.op ≡ op) × Goes op (destination m.plan)) (copies : (op : ℕ) (y : CopyState) → finite.get c.operations op ≡ Some (Copy y) → (copy.answer_of y.phase ≡ None) × Still op) (shares : (op : ℕ) (s : ShareState) → finite.get c.operations op ≡ Some (Share s) → (s.plan.op ≡ op) × Still op) (busy : (op : ℕ) (o : Operation) → finite.get c.operations op ≡ Some o → began op log ≡ true) where
       module _ (op port : ℕ) (m : Msg) (mv : MoveState) (there : finite.get c.operations op ≡ Some (Move mv)) (own : op_of m ≡ Some op) (label : Said Part Verdict Goes port 1 m) where
-        abbrev r : Row
+        abbrev r : MoveRow
         r = row_in mv c.store port m
 
         abbrev x : MoveState

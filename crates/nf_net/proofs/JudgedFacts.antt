@@ -22,7 +22,7 @@ use Rattle.unit_machine.proofs.Labels as labels
 use Rattle.net_world.specs.declared.config.Config.{Config}
 use Rattle.net_world.specs.declared.node.Node.{Node}
 use Rattle.net_world.specs.Commands.{began}
-use Rattle.net_world.specs.Input.{order_of}
+use Rattle.net_world.specs.Input.{order_numbered}
 use Rattle.net_world.specs.Nodes.{node_step}
 use Rattle.net_world.specs.Verdicts.{Weighed, verdict, is_refusal, exported, before_export, is_timed, receiver_of, IsWeighed, IsTakenAfter}
 use Rattle.answer_net.proofs.InstallSteps.{is_moving}
@@ -58,7 +58,7 @@ module _ {F R : Type 0} (f : Semantics R) (c : Config) (items : List Msg) (start
   -- the node of the instance to which a command moves units
   pub record IsGoing (op : ℕ) (node : ℕ) : Type 0 where
     pub destination : ℕ
-    pub destination_is : receiver_of c (order_of items op) ≡ Some destination
+    pub destination_is : receiver_of c (order_numbered items op) ≡ Some destination
     pub node_is : node ≡ instance_node destination
 
   -- the first piece was taken, and this is the answer by what was weighed then
@@ -72,7 +72,7 @@ module _ {F R : Type 0} (f : Semantics R) (c : Config) (items : List Msg) (start
 
   -- the command moves no units
   abbrev pub IsStill : ℕ → Type 0
-  IsStill op = is_moving (order_of items op) ≡ false
+  IsStill op = is_moving (order_numbered items op) ≡ false
 
   pub part_kept : (log notes : List Note) (op : ℕ) (piece : Piece) → IsPart log op piece → IsPart (log ++ notes) op piece
   part_kept log notes op piece h = record {

@@ -28,7 +28,7 @@ use Rattle.net_world.specs.declared.config.Config.{Config}
 use Rattle.net_world.specs.declared.node.Node.{Node}
 use Rattle.net_world.specs.declared.node.Node.TheVariants.{Instance}
 use Rattle.net_world.specs.Commands.{began, answers_of, before_first, IsCause, MayBegin}
-use Rattle.net_world.specs.Input.{is_item, order_of, IsInput}
+use Rattle.net_world.specs.Input.{is_item, order_numbered, IsInput}
 use Rattle.net_world.specs.Nodes.{node_step, node_ready}
 use Rattle.net_world.specs.Start.{first_instance, first_nodes, started}
 use Rattle.net_world.specs.Verdicts.{is_refusal, receiver_of, IsVerdict}
@@ -66,7 +66,7 @@ items_weigh first op (msg.InEnd ∷ items) ok = let rest = items_weigh first op 
 items_weigh first op (m ∷ items) ok = let never : false ≡ true = ok.0 in cc
 
 -- what may begin isn't refused
-not_both : (c : Config) (items : List Msg) (a : Answer) (what : Order) (log : List Note) → is_refusal a ≡ true → MayBegin c.names (order_of items) what log → IsCause c.names (order_of items) a what log → ⊥
+not_both : (c : Config) (items : List Msg) (a : Answer) (what : Order) (log : List Note) → is_refusal a ≡ true → MayBegin c.names (order_numbered items) what log → IsCause c.names (order_numbered items) a what log → ⊥
 not_both c items (answer.Unknown name) what log refusal may cause = let never = sym may.known ∙ cause in cc
 not_both c items (answer.Overlap op) what log refusal may cause = let never = sym (may.apart op) ∙ cause.overlaps_it in cc
 not_both c items answer.Done what log refusal may cause = cc
@@ -149,18 +149,18 @@ module _ (F : Type 0) {R : Type 0} (f : Semantics R) (laws : FunctionLaws f) (al
         few = let most = h.once op true in let one = used_few (finite.get h.controller.operations op) (began op w.log) true in omega (arith, most, one)
 
     -- what began isn't refused
-    not_refused : (op : ℕ) (what : Order) (a : Answer) → order_of items op ≡ Some what → began op w.log ≡ true → answers_of op w.log ≡ a ∷ [] → is_refusal a ≡ true → ⊥
+    not_refused : (op : ℕ) (what : Order) (a : Answer) → order_numbered items op ≡ Some what → began op w.log ≡ true → answers_of op w.log ≡ a ∷ [] → is_refusal a ≡ true → ⊥
     not_refused op what a known on e refusal =
         let said = run_answers F f laws alloc c items is cs run_is in
         not_both c items a what (before_first op w.log) refusal (said.begins op what known on) (said.causes op what a known e)
 
-    by_found : (op : ℕ) (source destination : List ℕ) (filter : Filter) (keep : Bool) (a : Answer) → order_of items op ≡ Some (order.Move source destination filter keep) → began op w.log ≡ true → answers_of op w.log ≡ a ∷ [] → IsFound f c items start cs w.log op a → IsVerdict f start cs c items op a
+    by_found : (op : ℕ) (source destination : List ℕ) (filter : Filter) (keep : Bool) (a : Answer) → order_numbered items op ≡ Some (order.Move source destination filter keep) → began op w.log ≡ true → answers_of op w.log ≡ a ∷ [] → IsFound f c items start cs w.log op a → IsVerdict f start cs c items op a
     by_found op source destination filter keep a known on e (Was_refused refusal) = absurd (not_refused op (order.Move source destination filter keep) a known on e refusal)
     by_found op source destination filter keep a known on e (Was_judged begun v) = verdict_of op a v
     by_found op source destination filter keep a known on e (Was_still begun still done) = let never : true ≡ false = ap is_moving (sym known) ∙ still in cc
 
     -- a command that moves no units and began is done
-    still_found : (op : ℕ) (what : Order) (a : Answer) → receiver_of c (Some what) ≡ None → order_of items op ≡ Some what → began op w.log ≡ true → answers_of op w.log ≡ a ∷ [] → IsFound f c items start cs w.log op a → a ≡ answer.Done
+    still_found : (op : ℕ) (what : Order) (a : Answer) → receiver_of c (Some what) ≡ None → order_numbered items op ≡ Some what → began op w.log ≡ true → answers_of op w.log ≡ a ∷ [] → IsFound f c items start cs w.log op a → a ≡ answer.Done
     still_found op what a none known on e (Was_refused refusal) = absurd (not_refused op what a known on e refusal)
     still_found op what a none known on e (Was_judged begun v) = let never : None ≡ Some v.are_weighed.destination = sym none ∙ ap (receiver_of c) (sym known) ∙ v.are_weighed.destination_is in cc
     still_found op what a none known on e (Was_still begun still done) = done

@@ -19,7 +19,7 @@ use Rattle.unit_machine.proofs.Labels.{Each, each-append}
 use Rattle.net_world.specs.declared.config.Config.{Config}
 use Rattle.net_world.specs.declared.node.Node.{Node}
 use Rattle.net_world.specs.Commands.{began, has_answered, is_busy, times_installed}
-use Rattle.net_world.specs.Input.{packet_of, commands, order_of, IsInput}
+use Rattle.net_world.specs.Input.{packet_of, commands, order_numbered, IsInput}
 use Rattle.net_world.specs.Log.{installed}
 use Rattle.net_world.specs.Nodes.{node_step, node_ready}
 use Rattle.net_world.specs.Places.{first_owner, owner_after, members_after, is_home, owner, members, member_for, unit_numbered, goes_to, IsMoving, IsPlace, Owns, Is_destination, Is_member, ArePlaces}
@@ -115,7 +115,7 @@ module _ (F : Type 0) {R : Type 0} (f : Semantics R) (laws : FunctionLaws f) (al
       -- it was installed before
       had_before : (xs : List Note) → arrival.first ≡ there.first ++ note.Installed by.op ∷ xs → members c items u arrival.first ≡ Some ms
       had_before xs here =
-          ap (members_after c.names (order_of items) u (first_owner u c.routes)) (ap installed here ∙ installed-append there.first (note.Installed by.op ∷ xs) ∙ ap (λ v. v ++ by.op ∷ installed xs) there.before)
+          ap (members_after c.names (order_numbered items) u (first_owner u c.routes)) (ap installed here ∙ installed-append there.first (note.Installed by.op ∷ xs) ∙ ap (λ v. v ++ by.op ∷ installed xs) there.before)
           ∙ still_shared g u (first_owner u c.routes) by.op by.front (installed xs) ms by.unshared by.its
 
       -- for behind an answer it would be installed twice
@@ -127,7 +127,7 @@ module _ (F : Type 0) {R : Type 0} (f : Semantics R) (laws : FunctionLaws f) (al
           let it = found (λ x. began x.op before ≡ true → has_answered x.op arrival.first ≡ true) by.op (order.Share ms by.its.filter) (commands items) begun_answered by.its.order_is in
           let on : has_answered by.op arrival.first ≡ true = ap (λ k. has_answered k arrival.first) (sym it.1) ∙ it.2 (ap (λ k. began k before) it.1 ∙ began_so) in
           let on_there : has_answered by.op there.first ≡ true = ap (has_answered by.op) from ∙ answered_more by.op arrival.first xs on in
-          let home : is_home c.names (order_of items) ms (owner c items u there.first) ≡ true = ap (λ ops. is_home c.names (order_of items) ms (owner_after c.names (order_of items) u (first_owner u c.routes) ops)) there.before ∙ by.its.home in
+          let home : is_home c.names (order_numbered items) ms (owner c items u there.first) ≡ true = ap (λ ops. is_home c.names (order_numbered items) ms (owner_after c.names (order_numbered items) u (first_owner u c.routes) ops)) there.before ∙ by.its.home in
           let one = its.set_up u (units_fit f c items is p) by.its.takes_it home on_there in
           let two = ap (times_installed by.op) tail_is ∙ times_there by.op there.first (there.rest ++ tail) in
           let most = (run_answers F f laws alloc c items is cs run_is).installed_once by.op in

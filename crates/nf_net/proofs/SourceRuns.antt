@@ -31,7 +31,7 @@ use Rattle.net_world.specs.declared.config.Config.{Config}
 use Rattle.net_world.specs.declared.node.Node.{Node}
 use Rattle.net_world.specs.declared.node.Node.TheVariants.{Controller}
 use Rattle.net_world.specs.Commands.{began, has_answered, is_busy, answers_of, times_begun}
-use Rattle.net_world.specs.Input.{IsInput, order_of}
+use Rattle.net_world.specs.Input.{IsInput, order_numbered}
 use Rattle.net_world.specs.Nodes.{node_step, node_ready}
 use Rattle.net_world.specs.Places.{owner, handed_on, unit_numbered}
 use Rattle.net_world.specs.Refused.{moves_away, StaysAtSource}
@@ -105,7 +105,7 @@ module _ (F : Type 0) {R : Type 0} (f : Semantics R) (laws : FunctionLaws f) (al
     at_source : At_source w.log
 
   -- an answer to a move is new, or it stood there
-  source_more : (log notes : List Note) → At_source log → ((op : ℕ) (a : Answer) (first between cs back : List Note) → a ≢ Done → first ++ note.Begun op ∷ between ≡ log ++ cs → notes ≡ cs ++ note.Answered op a ∷ back → (front behind : List Note) (number i : ℕ) (output : Output) → between ≡ front ++ note.Processed number i output ∷ behind → moves_away c (order_of items op) (unit_numbered c items f.kind number) (owner c items (unit_numbered c items f.kind number) first) ≡ true → i ≡ owner c items (unit_numbered c items f.kind number) first) → At_source (log ++ notes)
+  source_more : (log notes : List Note) → At_source log → ((op : ℕ) (a : Answer) (first between cs back : List Note) → a ≢ Done → first ++ note.Begun op ∷ between ≡ log ++ cs → notes ≡ cs ++ note.Answered op a ∷ back → (front behind : List Note) (number i : ℕ) (output : Output) → between ≡ front ++ note.Processed number i output ∷ behind → moves_away c (order_numbered items op) (unit_numbered c items f.kind number) (owner c items (unit_numbered c items f.kind number) first) ≡ true → i ≡ owner c items (unit_numbered c items f.kind number) first) → At_source (log ++ notes)
   source_more log notes old new op first between front behind number i output refused e away = by_place (stands log notes (first ++ note.Begun op ∷ between) (note.Answered op refused.answer) refused.after (refused.whole ∙ sym (append_assoc first (note.Begun op ∷ between) (note.Answered op refused.answer ∷ refused.after))))
     where
       by_place : Stands log notes (first ++ note.Begun op ∷ between) (note.Answered op refused.answer) refused.after → i ≡ owner c items (unit_numbered c items f.kind number) first
@@ -146,11 +146,11 @@ module _ (F : Type 0) {R : Type 0} (f : Semantics R) (laws : FunctionLaws f) (al
         let off = other_change f laws c items is n w j op x there early u fits owning owned k filter (instance_node from) (instance_node dst) rest whole waits in
         let plan = its.plan_is in
         let order_is = plan.order_is ∙ ap (λ y. Some (order.Move plan.source plan.destination y its.plan.keep)) its.filter_is in
-        let handed : handed_on c.names (order_of items) u (order_of items k) (owner c items u w.log) ≡ owner c items u w.log = rw (order_is, off) refl in
+        let handed : handed_on c.names (order_numbered items) u (order_numbered items k) (owner c items u w.log) ≡ owner c items u w.log = rw (order_is, off) refl in
         (ap (λ ns. owner c items u (w.log ++ ns)) noted ∙ owner_next g u w.log k ∙ handed ∙ owned, unprocessed_at f c items u x.plan.from (switch_step j.nodes.switch m).notes (switch_unprocessed j.nodes.switch m))
     switch_leaves p m it (Diverts k filter from rest noted its whole waits) op x there early u fits owning owned =
         let order_is = its.order_is in
-        let handed : handed_on c.names (order_of items) u (order_of items k) (owner c items u w.log) ≡ owner c items u w.log = rw order_is refl in
+        let handed : handed_on c.names (order_numbered items) u (order_numbered items k) (owner c items u w.log) ≡ owner c items u w.log = rw order_is refl in
         (ap (λ ns. owner c items u (w.log ++ ns)) noted ∙ owner_next g u w.log k ∙ handed ∙ owned, unprocessed_at f c items u x.plan.from (switch_step j.nodes.switch m).notes (switch_unprocessed j.nodes.switch m))
 
     -- the controller
@@ -200,7 +200,7 @@ module _ (F : Type 0) {R : Type 0} (f : Semantics R) (laws : FunctionLaws f) (al
                   (owner_stays f c items u w.log notes (installed_none notes (controller_uninstalled t p m)) ∙ ap (owner c items u) (sym at_first) ∙ owned, subst (λ xs. Are_at f c items u i xs) (sym back) tt)
 
       -- what was refused stayed
-      refused_now : (op : ℕ) (a : Answer) (first between cs back : List Note) → a ≢ Done → first ++ note.Begun op ∷ between ≡ w.log ++ cs → notes ≡ cs ++ note.Answered op a ∷ back → (front behind : List Note) (number i : ℕ) (output : Output) → between ≡ front ++ note.Processed number i output ∷ behind → moves_away c (order_of items op) (unit_numbered c items f.kind number) (owner c items (unit_numbered c items f.kind number) first) ≡ true → i ≡ owner c items (unit_numbered c items f.kind number) first
+      refused_now : (op : ℕ) (a : Answer) (first between cs back : List Note) → a ≢ Done → first ++ note.Begun op ∷ between ≡ w.log ++ cs → notes ≡ cs ++ note.Answered op a ∷ back → (front behind : List Note) (number i : ℕ) (output : Output) → between ≡ front ++ note.Processed number i output ∷ behind → moves_away c (order_numbered items op) (unit_numbered c items f.kind number) (owner c items (unit_numbered c items f.kind number) first) ≡ true → i ≡ owner c items (unit_numbered c items f.kind number) first
       refused_now op a first between cs back refused from there front behind number i output e away = by_says acts.says
         where
           -- the move was open, and early

@@ -40,7 +40,7 @@ use Rattle.abstract_net.proofs.Untaken.{head_none}
 use Rattle.net_world.specs.declared.config.Config.{Config}
 use Rattle.net_world.specs.declared.node.Node.{Node}
 use Rattle.net_world.specs.Commands.{began}
-use Rattle.net_world.specs.Input.{IsInput, order_of}
+use Rattle.net_world.specs.Input.{IsInput, order_numbered}
 use Rattle.net_world.specs.Log.{installed}
 use Rattle.net_world.specs.Places.{owner, owner_after, first_owner, unit_numbered}
 use Rattle.outline_net.proofs.ControlOutline.{Sees, SeesMove}
@@ -140,7 +140,7 @@ module _ {R : Type 0} (f : Semantics R) (c : Config) (items : List Msg) where
 
   -- notes of no change of the rules leave the owner
   pub owner_stays : (u : units.Unit) (log notes : List Note) → installed notes ≡ [] → owner c items u (log ++ notes) ≡ owner c items u log
-  owner_stays u log notes none = ap (owner_after c.names (order_of items) u (first_owner u c.routes)) (installed_same log notes none)
+  owner_stays u log notes none = ap (owner_after c.names (order_numbered items) u (first_owner u c.routes)) (installed_same log notes none)
 
   pub quiet_leaves : (filter : Filter) (i : ℕ) (log notes : List Note) → installed notes ≡ [] → AreUnprocessed notes → Leaves filter i log notes
   quiet_leaves filter i log notes same none u fits taken owned = (owner_stays u log notes same ∙ owned, unprocessed_at u i notes none)

@@ -40,7 +40,7 @@ use Rattle.net_world.specs.declared.config.Config.{Config}
 use Rattle.net_world.specs.declared.node.Node.{Node}
 use Rattle.net_world.specs.declared.node.Node.TheVariants.{Controller}
 use Rattle.net_world.specs.Commands.{began, has_answered, is_share, answers_of, times_installed}
-use Rattle.net_world.specs.Input.{IsInput, order_of, packet_of}
+use Rattle.net_world.specs.Input.{IsInput, order_numbered, packet_of}
 use Rattle.net_world.specs.Log.{installed}
 use Rattle.net_world.specs.Places.{first_owner, is_home, owner, members, member_for}
 use Rattle.outline_net.proofs.FiltersApart.{unit_fits, takes_whole, takes_same, filters_apart}
@@ -143,10 +143,10 @@ module _ {F R : Type 0} (f : Semantics R) (c : Config) (items : List Msg) (is : 
   same_filter : {a d : List (List ℕ)} {p q : Filter} → Some (order.Share a p) ≡ Some (order.Share d q) → p ≡ q
   same_filter e = cc
 
-  open_share : (op : ℕ) (ms : List (List ℕ)) (filter : Filter) → order_of items op ≡ Some (order.Share ms filter) → (s : ShareState) → finite.get j.nodes.controller.operations op ≡ Some (Share s) → IsOpenShare op ms filter
+  open_share : (op : ℕ) (ms : List (List ℕ)) (filter : Filter) → order_numbered items op ≡ Some (order.Share ms filter) → (s : ShareState) → finite.get j.nodes.controller.operations op ≡ Some (Share s) → IsOpenShare op ms filter
   open_share op ms filter what s there =
       let its : IsShare f g op s = j.shown_is.controller.shared op s there in
-      let own : order_of items op ≡ Some (order.Share its.plan.names s.plan.filter) = ap (order_of items) (sym its.op_is) ∙ its.plan.order_is in
+      let own : order_numbered items op ≡ Some (order.Share its.plan.names s.plan.filter) = ap (order_numbered items) (sym its.op_is) ∙ its.plan.order_is in
       let on = open_began f g n count_is w j b op (Share s) there in
       record {
         state = s;
@@ -157,7 +157,7 @@ module _ {F R : Type 0} (f : Semantics R) (c : Config) (items : List Msg) (is : 
       }
 
   -- a share's command that is open has a share for its operation
-  share_open : (op : ℕ) (ms : List (List ℕ)) (filter : Filter) → order_of items op ≡ Some (order.Share ms filter) → (o : Option Operation) → finite.get j.nodes.controller.operations op ≡ o → is_some o ≡ true → IsOpenShare op ms filter
+  share_open : (op : ℕ) (ms : List (List ℕ)) (filter : Filter) → order_numbered items op ≡ Some (order.Share ms filter) → (o : Option Operation) → finite.get j.nodes.controller.operations op ≡ o → is_some o ≡ true → IsOpenShare op ms filter
   share_open op ms filter what None at e = cc
   share_open op ms filter what (Some (Share s)) at e = open_share op ms filter what s at
   share_open op ms filter what (Some (Move m)) at e =
@@ -166,17 +166,17 @@ module _ {F R : Type 0} (f : Semantics R) (c : Config) (items : List Msg) (is : 
       cc
   share_open op ms filter what (Some (Copy y)) at e =
       let its = j.shown_is.controller.copies op y at in
-      let never = sym (ap (order_of items) (sym its.op_is) ∙ its.plan.order_is) ∙ what in
+      let never = sym (ap (order_numbered items) (sym its.op_is) ∙ its.plan.order_is) ∙ what in
       cc
 
   -- it is open if the switch has installed it, and if it began
-  pub open_installed : Installs g w → (op : ℕ) (ms : List (List ℕ)) (filter : Filter) → order_of items op ≡ Some (order.Share ms filter) → 1 ≤ times_installed op w.log → IsOpenShare op ms filter
+  pub open_installed : Installs g w → (op : ℕ) (ms : List (List ℕ)) (filter : Filter) → order_numbered items op ≡ Some (order.Share ms filter) → 1 ≤ times_installed op w.log → IsOpenShare op ms filter
   open_installed h op ms filter what some = by_got (finite.get h.controller.operations op) refl
     where
       same : h.controller ≡ j.nodes.controller
       same = same_controller {F = F} {R = R} h.controller j.nodes.controller (sym (h.controller_is (Controller h.controller)) ∙ j.nodes_are 1 (omega (arith, count_is)) (Controller h.controller))
 
-      none_done : dones (is_moving (order_of items op)) (answers_of op w.log) ≡ 0
+      none_done : dones (is_moving (order_numbered items op)) (answers_of op w.log) ≡ 0
       none_done = ap (λ o. dones (is_moving o) (answers_of op w.log)) what ∙ dones_still (answers_of op w.log)
 
       by_got : (o : Option Operation) → finite.get h.controller.operations op ≡ o → IsOpenShare op ms filter
@@ -187,8 +187,8 @@ module _ {F R : Type 0} (f : Semantics R) (c : Config) (items : List Msg) (is : 
           absurd (omega (arith, balance, none, zero, some))
       by_got (Some o) at = share_open op ms filter what (Some o) (ap (λ x. finite.get x.operations op) (sym same) ∙ at) refl
 
-  pub open_begun : (op : ℕ) (ms : List (List ℕ)) (filter : Filter) → order_of items op ≡ Some (order.Share ms filter) → began op w.log ≡ true → IsOpenShare op ms filter
-  open_begun op ms filter what on = share_open op ms filter what (finite.get j.nodes.controller.operations op) refl (keeps_is f g n count_is w j b op ∙ both_so (began op w.log) (is_share (order_of items op)) (not (has_answered op w.log)) on (ap is_share what))
+  pub open_begun : (op : ℕ) (ms : List (List ℕ)) (filter : Filter) → order_numbered items op ≡ Some (order.Share ms filter) → began op w.log ≡ true → IsOpenShare op ms filter
+  open_begun op ms filter what on = share_open op ms filter what (finite.get j.nodes.controller.operations op) refl (keeps_is f g n count_is w j b op ∙ both_so (began op w.log) (is_share (order_numbered items op)) (not (has_answered op w.log)) on (ap is_share what))
 
   -- Of the units that packets may have.
   module _ (u : units.Unit) (fits : unit_fits f.kind u ≡ true) where
@@ -224,10 +224,10 @@ module _ {F R : Type 0} (f : Semantics R) (c : Config) (items : List Msg) (is : 
       members_same = ap (λ x. x.members) real.sees.is ∙ ap (λ s. map instance_node s.plan.members) (sym same_state) ∙ ap (map instance_node) (sym o.members_are)
 
       -- its home is the first of its names
-      pub home_is : (i : ℕ) → is_home c.names (order_of items) ms i ≡ true → e.home ≡ instance_node i
+      pub home_is : (i : ℕ) → is_home c.names (order_numbered items) ms i ≡ true → e.home ≡ instance_node i
       home_is i at =
           let first : home real.s.plan ≡ slice_index (filter_map (place_of c.names) ms) 0 = ap (λ s. home s.plan) (sym same_state) ∙ ap (λ v. slice_index v 0) (sym o.members_are) in
-          ap (λ x. x.home) real.sees.is ∙ ap instance_node (first ∙ home_first c.names (order_of items) ms i at)
+          ap (λ x. x.home) real.sees.is ∙ ap instance_node (first ∙ home_first c.names (order_numbered items) ms i at)
 
       -- and the member of a packet is the one that its names say
       pub member_is : (p i : ℕ) → (A f g).member e.members p ≡ instance_node i → member_for c items ms (packet_of items p) ≡ Some i
@@ -262,7 +262,7 @@ module _ {F R : Type 0} (f : Semantics R) (c : Config) (items : List Msg) (is : 
         record { op = r.op; filter = r.its.filter; open_is = open_installed h r.op ms r.its.filter r.its.order_is some; takes_it = r.its.takes_it; times = some }
 
     -- A share that was answered has been installed for each unit that its home owns
-    module _ (h : Installs g w) (op : ℕ) (ms : List (List ℕ)) (filter : Filter) (what : order_of items op ≡ Some (order.Share ms filter)) (on : takes filter u ≡ true) (at_home : is_home c.names (order_of items) ms (owner c items u w.log) ≡ true) (answered : has_answered op w.log ≡ true) (begun : began op w.log ≡ true) where
+    module _ (h : Installs g w) (op : ℕ) (ms : List (List ℕ)) (filter : Filter) (what : order_numbered items op ≡ Some (order.Share ms filter)) (on : takes filter u ≡ true) (at_home : is_home c.names (order_numbered items) ms (owner c items u w.log) ≡ true) (answered : has_answered op w.log ≡ true) (begun : began op w.log ≡ true) where
       own : IsOpenShare op ms filter
       own = open_begun op ms filter what begun
 
@@ -286,7 +286,7 @@ module _ {F R : Type 0} (f : Semantics R) (c : Config) (items : List Msg) (is : 
       home_so : seen.e.home ≡ instance_node (owner c items u w.log)
       home_so =
           let first : home own.state.plan ≡ slice_index (filter_map (place_of c.names) ms) 0 = ap (λ v. slice_index v 0) (sym own.members_are) in
-          ap (λ x. x.home) seen.sees.is ∙ ap instance_node (first ∙ home_first c.names (order_of items) ms (owner c items u w.log) at_home)
+          ap (λ x. x.home) seen.sees.is ∙ ap instance_node (first ∙ home_first c.names (order_numbered items) ms (owner c items u w.log) at_home)
 
       diverted_by : Where_all (S f g) (A f g) (is_sys f g.site g.packet) u j.world (came_by f g w.log u) → j.world.target u ≡ 1
       diverted_by (Apart_from_shares k none) =

@@ -17,7 +17,7 @@ use Rattle.net_world.specs.declared.config.Config.{Config}
 use Rattle.net_world.specs.declared.node.Node.{Node}
 use Rattle.net_world.specs.Commands.{Answers, answers_of, began, times_installed}
 use Rattle.net_world.specs.Fold.{IsFront, times, came, fold, given, outputs, path, went}
-use Rattle.net_world.specs.Input.{packets, order_of, ends_last}
+use Rattle.net_world.specs.Input.{packets, order_numbered, ends_last}
 use Rattle.net_world.specs.Log.{arrived, done}
 use Rattle.net_world.specs.Nodes.{node_step}
 use Rattle.net_world.specs.Path.{under_way}
@@ -65,7 +65,7 @@ module _ {R : Type 0} (f : Semantics R) (config : Config) (items : List Msg) whe
     -- each command begins and is answered at most once, and what refuses it was true then
     pub answers : Answers config items w.log
     -- the switch changes no rules for a copy
-    pub no_rules : (op : ℕ) (source destination : List ℕ) (filter : Option Filter) → order_of items op ≡ Some (Copy source destination filter) → times_installed op w.log ≡ 0
+    pub no_rules : (op : ℕ) (source destination : List ℕ) (filter : Option Filter) → order_numbered items op ≡ Some (Copy source destination filter) → times_installed op w.log ≡ 0
     -- what a refused move was to take away was processed at its source, as long as the move was under way
     pub at_source : StaysAtSource config items f.kind w.log
 
@@ -81,9 +81,9 @@ module _ {R : Type 0} (f : Semantics R) (config : Config) (items : List Msg) whe
     -- it is at the owner of the unit by the rules of the switch: after a move that is done not at the source, after a refused one still there
     pub at_owner : (unit : units.Unit) (i : ℕ) (r : R) → live_at w i unit ≡ Some r → i ≡ owner config items unit w.log
     -- each command of the input was answered, if none stands behind its end
-    pub answered : ends_last items ≡ true → (op : ℕ) (what : Order) → order_of items op ≡ Some what → length (answers_of op w.log) ≡ 1
+    pub answered : ends_last items ≡ true → (op : ℕ) (what : Order) → order_numbered items op ≡ Some what → length (answers_of op w.log) ≡ 1
     -- the switch changed its rules once for each move that is done
-    pub installed : (op : ℕ) (source destination : List ℕ) (filter : Filter) (keep : Bool) → order_of items op ≡ Some (Move source destination filter keep) → answers_of op w.log ≡ Done ∷ [] → times_installed op w.log ≡ 1
+    pub installed : (op : ℕ) (source destination : List ℕ) (filter : Filter) (keep : Bool) → order_numbered items op ≡ Some (Move source destination filter keep) → answers_of op w.log ≡ Done ∷ [] → times_installed op w.log ≡ 1
 
 -- The world at the start, and the choices of a run.
 module _ {F R : Type 0} (f : Semantics R) (start : Network (Node F R) Msg Note) (choices : List Choice) (config : Config) (items : List Msg) where
@@ -97,10 +97,10 @@ module _ {F R : Type 0} (f : Semantics R) (start : Network (Node F R) Msg Note) 
   -- and of answers to commands
   pub record Verdicts : Type 0 where
     -- a move that began is answered by its verdict
-    pub judged : (op : ℕ) (source destination : List ℕ) (filter : Filter) (keep : Bool) (answer : Answer) → order_of items op ≡ Some (Move source destination filter keep) → began op (noted f start choices) ≡ true → answers_of op (noted f start choices) ≡ answer ∷ [] → IsVerdict f start choices config items op answer
+    pub judged : (op : ℕ) (source destination : List ℕ) (filter : Filter) (keep : Bool) (answer : Answer) → order_numbered items op ≡ Some (Move source destination filter keep) → began op (noted f start choices) ≡ true → answers_of op (noted f start choices) ≡ answer ∷ [] → IsVerdict f start choices config items op answer
     -- a copy that began is answered that it is done
-    pub copied : (op : ℕ) (source destination : List ℕ) (filter : Option Filter) (answer : Answer) → order_of items op ≡ Some (Copy source destination filter) → began op (noted f start choices) ≡ true → answers_of op (noted f start choices) ≡ answer ∷ [] → answer ≡ Done
+    pub copied : (op : ℕ) (source destination : List ℕ) (filter : Option Filter) (answer : Answer) → order_numbered items op ≡ Some (Copy source destination filter) → began op (noted f start choices) ≡ true → answers_of op (noted f start choices) ≡ answer ∷ [] → answer ≡ Done
     -- and so is a share
-    pub set_up : (op : ℕ) (members : List (List ℕ)) (filter : Filter) (answer : Answer) → order_of items op ≡ Some (Share members filter) → began op (noted f start choices) ≡ true → answers_of op (noted f start choices) ≡ answer ∷ [] → answer ≡ Done
+    pub set_up : (op : ℕ) (members : List (List ℕ)) (filter : Filter) (answer : Answer) → order_numbered items op ≡ Some (Share members filter) → began op (noted f start choices) ≡ true → answers_of op (noted f start choices) ≡ answer ∷ [] → answer ≡ Done
     -- and what didn't begin is answered by a refusal
     pub refused : (op : ℕ) (answer : Answer) → began op (noted f start choices) ≡ false → answers_of op (noted f start choices) ≡ answer ∷ [] → is_refusal answer ≡ true

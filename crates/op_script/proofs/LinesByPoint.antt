@@ -10,7 +10,7 @@ use Rattle.std.proofs.lemmas.Simd.{map-map}
 use Rattle.std.proofs.lemmas.List.{length-drop}
 use Rattle.nf_msgs.specs.declared.msg.Msg.{Msg}
 use Rattle.op_script.specs.declared.script.Line.{Line}
-use Rattle.op_script.specs.Items.{msg_of, said_where, IsFrom, IsAhead}
+use Rattle.op_script.specs.Items.{msg_of, said_where, IsFrom, AreLinesFrom}
 
 -- what is said at one point
 abbrev pub said_at : ℕ → List Line → List Msg
@@ -73,18 +73,18 @@ cut k (line ∷ more) order = elim (cases_Bool (eqb line.at k)) [
 ]
 
 -- the first lines of those ahead are what the script says at the point
-pub said_first : {X : Type 0} (line : X → Line) (k n : ℕ) (rest : List X) (lines : List Line) → IsAhead k (map line rest) lines
+pub said_first : {X : Type 0} (line : X → Line) (k n : ℕ) (rest : List X) (lines : List Line) → AreLinesFrom k (map line rest) lines
     → n ≡ prefix_len (λ (line : Line). eqb line.at k) (map line rest) → map (λ x. msg_of (line x).what) (take n rest) ≡ said_at k lines
 said_first line k n rest lines ahead count =
     let here : Cut k n (map line rest) = subst (λ n. Cut k n (map line rest)) (sym count) (cut k (map line rest) ahead.order) in
     sym (map-map (λ (l : Line). msg_of l.what) line (take n rest)) ∙ ap (map (λ (l : Line). msg_of l.what)) (sym (take-map line n rest)) ∙ here.said ∙ ahead.same k (omega arith)
 
 -- what stands after them is ahead of the next point
-pub ahead_next : {X : Type 0} (line : X → Line) (k n : ℕ) (rest left : List X) (lines : List Line) → IsAhead k (map line rest) lines
-    → n ≡ prefix_len (λ (line : Line). eqb line.at k) (map line rest) → left ≡ drop n rest → IsAhead (k + 1) (map line left) lines
+pub ahead_next : {X : Type 0} (line : X → Line) (k n : ℕ) (rest left : List X) (lines : List Line) → AreLinesFrom k (map line rest) lines
+    → n ≡ prefix_len (λ (line : Line). eqb line.at k) (map line rest) → left ≡ drop n rest → AreLinesFrom (k + 1) (map line left) lines
 ahead_next line k n rest left lines ahead count is =
     let here : Cut k n (map line rest) = subst (λ n. Cut k n (map line rest)) (sym count) (cut k (map line rest) ahead.order) in
-    subst (λ left. IsAhead (k + 1) left lines) (drop-map line n rest ∙ ap (map line) (sym is)) (record {
+    subst (λ left. AreLinesFrom (k + 1) left lines) (drop-map line n rest ∙ ap (map line) (sym is)) (record {
       order = here.order;
       same = λ point far. here.same point far ∙ ahead.same point (omega arith);
     })
@@ -121,7 +121,7 @@ said_by_ties line x (y ∷ more) = keep_both line _ _ y _ _ (tied line x y) (sai
 
 -- a stable sort by the points
 pub sorted_ahead : {X : Type 0} (line : X → Line) (xs ys : List X) (one : ℕ → X) → ((point : ℕ) → (line (one point)).at ≡ point)
-    → IsNonDecreasingBy (λ x. (line x).at) ys → IsStableByKey (λ x. (line x).at) nat_cmp xs ys → IsAhead 0 (map line ys) (map line xs)
+    → IsNonDecreasingBy (λ x. (line x).at) ys → IsStableByKey (λ x. (line x).at) nat_cmp xs ys → AreLinesFrom 0 (map line ys) (map line xs)
 sorted_ahead line xs ys one at rising stable = record {
   order = in_order_from line 0 ys rising (λ d some. omega arith);
   same = λ point far. subst (λ at. said_at at (map line ys) ≡ said_at at (map line xs)) (at point)

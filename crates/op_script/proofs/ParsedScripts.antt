@@ -12,7 +12,7 @@ use Rattle.flow_filter.proofs.ParsedFilters.{parse_printable}
 use Rattle.nf_function.specs.declared.kind.Kind.{Kind}
 use Rattle.nf_function.specs.Units.{splits}
 use Rattle.op_script.specs.Forms.{Word, words, Event, Moving, Copying, Sharing, Settling, Form, Silent, Routing, Happening}
-use Rattle.op_script.specs.Reading.{State, start, OrderView, Moves, Copies, Shares, LineView, Judged, ◌>>=◌, unless, wanted, place_of, ends_of, members_of, whole, filter_of, filter_or_all, with_route, with_line, noted, numbered, order_of, goes_back, with_event, with_form, with_text, and_lines, with_lines}
+use Rattle.op_script.specs.Reading.{State, start, OrderView, Moves, Copies, Shares, LineView, Judged, ◌>>=◌, unless, wanted, place_of, ends_of, members_of, whole, filter_of, filter_or_all, with_route, with_line, noted, numbered, order_said, goes_back, with_event, with_form, with_text, and_lines, with_lines}
 use Rattle.op_script.specs.Printing.{IsRoute, IsWhat, IsLine, IsScript, is_writable}
 use Rattle.std.specs.Prelude.{◌==◌}
 use Rattle.std.specs.Str.Lines.{strip_carriage_return}
@@ -73,8 +73,8 @@ members_right list members comma is =
     subst (λ (ms : List Word). (2 ≤ length ms) × (list_all is_name ms ≡ true) × (has_twice ms ≡ false)) same
     (two_pieces list (split_once 44 list) refl comma, not-false (list_all is_name all) first.0, second.0)
 
-order_right : (kind : Kind) (event : Event) (order : Option OrderView) → IsEvent event → order_of kind event ≡ Ok order → (lines : List LineView) → IsWhat (numbered lines order)
-unfolding order_of
+order_right : (kind : Kind) (event : Event) (order : Option OrderView) → IsEvent event → order_said kind event ≡ Ok order → (lines : List LineView) → IsWhat (numbered lines order)
+unfolding order_said
 order_right kind (Moving source target filter keep) order right is lines =
     let ends = steps (ends_of source target) (λ e. filter_of kind filter >>= λ f. Ok (Some (Moves e.0 e.1 f keep))) order is in
     let read = steps (filter_of kind filter) (λ f. Ok (Some (Moves ends.value.0 ends.value.1 f keep))) order ends.rest in
@@ -121,8 +121,8 @@ far_enough (Some last) at is = ltb-false at last is
 
 event_kept : (kind : Kind) (names : List Word) (s t : State) (at : ℕ) (event : Event) → IsEvent event → IsState names s → with_event kind s at event ≡ Ok t → IsState names t
 event_kept kind names s t at event right kept is =
-    let first = unless_Ok (goes_back s.last at) bad.Order (order_of kind event >>= with_line s at) t is in
-    let order = steps (order_of kind event) (with_line s at) t first.1 in
+    let first = unless_Ok (goes_back s.last at) bad.Order (order_said kind event >>= with_line s at) t is in
+    let order = steps (order_said kind event) (with_line s at) t first.1 in
     let few = unless_Ok (leb 1000 (length s.lines)) bad.TooMany (Ok (noted s at order.value)) t order.rest in
     let same : noted s at order.value ≡ t = let rest = few.1 in cc in
     let line : LineView = record { at = at; what = numbered s.lines order.value } in

@@ -19,7 +19,7 @@ use Rattle.nf_msgs.specs.declared.command.Order.{Order}
 use Rattle.nf_msgs.specs.declared.command.Order.TheVariants.{Move, Copy, Share}
 use Rattle.op_script.specs.declared.fault.ScriptKind.TheVariants as bad
 use Rattle.op_script.specs.Forms.{Word, Event, Moving, Copying, Sharing, Happening, form_of}
-use Rattle.op_script.specs.Reading.{unless, ends_of, members_of, filter_of, order_of, order_view}
+use Rattle.op_script.specs.Reading.{unless, ends_of, members_of, filter_of, order_said, order_view}
 use Rattle.op_script.specs.Printing.{order_words, IsOrder, order_splits, OrderFits}
 use Rattle.op_script.proofs.JudgedLemmas.{unless_Ok}
 use Rattle.op_script.proofs.PrintableWords.{IsWord, Within-literal, name_word}
@@ -89,8 +89,8 @@ order_form at (Copy source target (Some filter)) small is fits =
 order_form at (Share members filter) small is fits = at_form at (codes "share") _ _ small (share_event (join_with_byte 44 members) (print filter) (members_again members is.0 is.1 is.2).1)
 
 -- the event of an order gives the order
-pub order_again : (kind : Kind) (o : Order) → IsOrder (order_view o) → OrderFits o → order_splits kind (order_view o) ≡ false → order_of kind (event_in o) ≡ Ok (Some (order_view o))
-unfolding order_of
+pub order_again : (kind : Kind) (o : Order) → IsOrder (order_view o) → OrderFits o → order_splits kind (order_view o) ≡ false → order_said kind (event_in o) ≡ Ok (Some (order_view o))
+unfolding order_said
 order_again kind (Move source target filter keep) is fits whole = rw (is.0, filter_again kind filter fits is.1 whole) refl
 order_again kind (Copy source target None) is fits whole = let ends = is.0 in rw ends refl
 order_again kind (Copy source target (Some filter)) is fits whole = rw (is.0, filter_again kind filter fits is.1 whole) refl

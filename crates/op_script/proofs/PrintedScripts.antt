@@ -18,7 +18,7 @@ use Rattle.op_script.specs.declared.script.Line.{Line}
 use Rattle.op_script.specs.declared.script.What.{What}
 use Rattle.op_script.specs.declared.script.What.TheVariants.{Command, Settle}
 use Rattle.op_script.specs.Forms.{Word, Event, Routing, Happening, Settling, form_of}
-use Rattle.op_script.specs.Reading.{State, start, OrderView, LineView, place_of, with_route, noted, numbered, command_count, is_command, order_of, goes_back, with_form, with_lines, script_of, route_view, line_view, what_view, order_view, script_view, ScriptView}
+use Rattle.op_script.specs.Reading.{State, start, OrderView, LineView, place_of, with_route, noted, numbered, command_count, is_command, order_said, goes_back, with_form, with_lines, script_of, route_view, line_view, what_view, order_view, script_view, ScriptView}
 use Rattle.op_script.specs.Printing.{route_words, line_words, what_words, IsWhat, line_text, script_words, script_text, IsRoute, IsLine, IsScript, SplitsNone, what_splits, WhatFits, LineFits, follows, next_after, and_then}
 use Rattle.op_script.proofs.PrintableWords.{Within, IsWord, Within-literal, line_seen, line_utf8, name_word, decimal_word}
 use Rattle.op_script.proofs.FilterWordLemmas.{filter_word}
@@ -100,7 +100,7 @@ goes_on None at far = refl
 goes_on (Some last) at far = le-ltb at last far
 
 event_says : (kind : Kind) (names : List Word) (s : State) (at : ℕ) (event : Event) (order : Option OrderView) → unwrap_or s.last 0 ≤ at → length s.lines < 1000
-    → order_of kind event ≡ Ok order → with_form kind names s (Happening at event) ≡ Ok (noted s at order)
+    → order_said kind event ≡ Ok order → with_form kind names s (Happening at event) ≡ Ok (noted s at order)
 event_says kind names s at event order far few is = rw (goes_on s.last at far, is, lt-leb 1000 (length s.lines) few) refl
 
 -- the order and the event of what happens
@@ -116,8 +116,8 @@ what_form : (at : ℕ) (what : What) → at < 2 ^ 32 → IsWhat (what_view what)
 what_form at (Command command) small is fits = order_form at command.what small is fits
 what_form at Settle small is fits = at_form at (codes "settle") [] Settling small settle_event
 
-what_again : (kind : Kind) (what : What) → IsWhat (what_view what) → WhatFits what → what_splits kind (what_view what) ≡ false → order_of kind (event_of_what what) ≡ Ok (order_in what)
-unfolding order_of
+what_again : (kind : Kind) (what : What) → IsWhat (what_view what) → WhatFits what → what_splits kind (what_view what) ≡ false → order_said kind (event_of_what what) ≡ Ok (order_in what)
+unfolding order_said
 what_again kind (Command command) is fits whole = order_again kind command.what is fits whole
 what_again kind Settle is fits whole = refl
 

@@ -7,7 +7,7 @@ use Rattle.flow_filter.specs.FilterText.{Fields, parse}
 use Rattle.nf_function.specs.declared.kind.Kind.{Kind}
 use Rattle.nf_function.specs.Units.{splits}
 use Rattle.op_script.specs.Forms.{Word, Event, Moving, Copying, Sharing, Settling, Form, Silent, Routing, Happening}
-use Rattle.op_script.specs.Reading.{State, start, OrderView, Moves, Copies, Shares, LineView, Judged, ◌>>=◌, wanted, place_of, ends_of, members_of, whole, filter_of, filter_or_all, with_route, with_line, noted, numbered, order_of, goes_back, with_event, with_form, with_text, and_lines, with_lines}
+use Rattle.op_script.specs.Reading.{State, start, OrderView, Moves, Copies, Shares, LineView, Judged, ◌>>=◌, wanted, place_of, ends_of, members_of, whole, filter_of, filter_or_all, with_route, with_line, noted, numbered, order_said, goes_back, with_event, with_form, with_text, and_lines, with_lines}
 use Rattle.op_script.specs.Printing.{what_splits, order_splits, SplitsNone}
 use Rattle.op_script.specs.declared.fault.ScriptKind.TheVariants as bad
 use Rattle.op_script.proofs.JudgedLemmas.{steps, unless_Ok}
@@ -36,8 +36,8 @@ module _ (kind : Kind) where
       let some : Some s.value ≡ f = let rest = s.rest in cc in
       subst (λ (f : Option Fields). order_splits kind (Copies source target f) ≡ false) some (filter_whole text s.value s.first)
 
-  order_whole : (event : Event) (order : Option OrderView) → order_of kind event ≡ Ok order → (lines : List LineView) → IsWhole lines order
-  unfolding order_of
+  order_whole : (event : Event) (order : Option OrderView) → order_said kind event ≡ Ok order → (lines : List LineView) → IsWhole lines order
+  unfolding order_said
   order_whole (Moving source target filter keep) order is lines =
       let ends = steps (ends_of source target) (λ e. filter_of kind filter >>= λ f. Ok (Some (Moves e.0 e.1 f keep))) order is in
       let read = steps (filter_of kind filter) (λ f. Ok (Some (Moves ends.value.0 ends.value.1 f keep))) order ends.rest in
@@ -75,8 +75,8 @@ module _ (kind : Kind) where
 
     event_whole : (s t : State) (at : ℕ) (event : Event) → IsWholeState s → with_event kind s at event ≡ Ok t → IsWholeState t
     event_whole s t at event kept is =
-        let first = unless_Ok (goes_back s.last at) bad.Order (order_of kind event >>= with_line s at) t is in
-        let order = steps (order_of kind event) (with_line s at) t first.1 in
+        let first = unless_Ok (goes_back s.last at) bad.Order (order_said kind event >>= with_line s at) t is in
+        let order = steps (order_said kind event) (with_line s at) t first.1 in
         let few = unless_Ok (leb 1000 (length s.lines)) bad.TooMany (Ok (noted s at order.value)) t order.rest in
         let same : noted s at order.value ≡ t = let rest = few.1 in cc in
         subst IsWholeState same (record {

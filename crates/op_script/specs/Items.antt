@@ -32,6 +32,6 @@ IsFrom k [] = Unit {0}
 IsFrom k (line ∷ more) = (k ≤ line.at) × IsFrom line.at more
 
 -- lines in order, which say at each point from k on what the lines of a script say there
-pub record IsAhead (k : ℕ) (rest lines : List Line) : Type 0 where
+pub record AreLinesFrom (k : ℕ) (rest lines : List Line) : Type 0 where
   pub order : IsFrom k rest
   pub same : (point : ℕ) → k ≤ point → said_where (λ at. at == point) rest ≡ said_where (λ at. at == point) lines

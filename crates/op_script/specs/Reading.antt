@@ -130,14 +130,14 @@ abbrev pub with_line : State → ℕ → Option OrderView → Judged State
 with_line s at order = unless (nat_le 1000 (length s.lines)) bad.TooMany (Ok (noted s at order))
 
 -- the order of an event, or None for a settle
-unfoldable pub order_of : Kind → Event → Judged (Option OrderView)
-order_of kind (Moving source target filter keep) =
+unfoldable pub order_said : Kind → Event → Judged (Option OrderView)
+order_said kind (Moving source target filter keep) =
     ends_of source target >>= λ ends. filter_of kind filter >>= λ f. Ok (Some (Moves ends.0 ends.1 f keep))
-order_of kind (Copying source target filter) =
+order_said kind (Copying source target filter) =
     ends_of source target >>= λ ends. filter_or_all kind filter >>= λ f. Ok (Some (Copies ends.0 ends.1 f))
-order_of kind (Sharing list filter) =
+order_said kind (Sharing list filter) =
     members_of list >>= λ members. filter_of kind filter >>= λ f. Ok (Some (Shares members f))
-order_of kind Settling = Ok None
+order_said kind Settling = Ok None
 
 -- the line is less far than an earlier one
 abbrev pub goes_back : Option ℕ → ℕ → Bool
@@ -146,7 +146,7 @@ goes_back (Some last) at = nat_lt at last
 
 -- an event more
 abbrev pub with_event : Kind → State → ℕ → Event → Judged State
-with_event kind s at event = unless (goes_back s.last at) bad.Order (order_of kind event >>= with_line s at)
+with_event kind s at event = unless (goes_back s.last at) bad.Order (order_said kind event >>= with_line s at)
 
 -- what a line's words say, more
 abbrev pub with_form : Kind → List Word → State → Form → Judged State
@@ -159,16 +159,16 @@ abbrev pub with_text : Kind → List Word → State → List ℕ → Judged Stat
 with_text kind names s line =
     unless (not (is_utf8 line)) bad.NotUtf8 (wanted (form_of (words line)) bad.Word >>= with_form kind names s)
 
-abbrev pub Whole : Type 0
-Whole = Result State (ℕ × ScriptKind)
+abbrev pub ScriptAnswer : Type 0
+ScriptAnswer = Result State (ℕ × ScriptKind)
 
 -- the lines after one, which has this number
-abbrev pub and_lines : ℕ → Judged State → (State → Whole) → Whole
+abbrev pub and_lines : ℕ → Judged State → (State → ScriptAnswer) → ScriptAnswer
 and_lines n (Ok s) more = more s
 and_lines n (Err kind) more = Err (n, kind)
 
 -- lines in turn, from number n on; a carriage return at a line's end is dropped
-abbrev pub with_lines : Kind → List Word → ℕ → State → List (List ℕ) → Whole
+abbrev pub with_lines : Kind → List Word → ℕ → State → List (List ℕ) → ScriptAnswer
 with_lines kind names n s [] = Ok s
 with_lines kind names n s (line ∷ more) =
     and_lines n (with_text kind names s (strip_carriage_return line)) (λ t. with_lines kind names (n + 1) t more)
@@ -178,7 +178,7 @@ abbrev pub ScriptView : Type 0
 ScriptView = List (Fields × ℕ) × List LineView
 
 -- the routes and the lines of what was read
-abbrev pub said : Whole → Result ScriptView (ℕ × ScriptKind)
+abbrev pub said : ScriptAnswer → Result ScriptView (ℕ × ScriptKind)
 said (Ok s) = Ok (s.routes, s.lines)
 said (Err e) = Err e
 

@@ -1,6 +1,6 @@
 ghost use Rattle.std.specs.Prelude.{◌≡◌, ◌≤◌, [], ◌∷◌, ◌++◌, ◌==◌, nat_le, length, map, IfOk, OnOk};
 ghost use Rattle.std.specs.List.{list_all, prefix_len};
-ghost use Rattle.op_script.specs.Items.{msg_of, said_where, items_from, IsAhead, items};
+ghost use Rattle.op_script.specs.Items.{msg_of, said_where, items_from, AreLinesFrom, items};
 
 use crate::packet_items::PacketItems;
 use crate::script::{Line, Script, What};
@@ -62,7 +62,7 @@ fn with_room(alloc: Global, packets: usize, lines: usize) -> Result<Vec<Msg>, No
 
 /// The lines in the order of their points, those of one point in file order.
 fn in_order<'a>(alloc: Global, lines: &'a [Line]) -> Result<Vec<&'a Line>, NoMemory>
-    ensures { IfOk result (λ found. IsAhead 0 (map (λ line. line.now) found.items) lines.entry.now) }
+    ensures { IfOk result (λ found. AreLinesFrom 0 (map (λ line. line.now) found.items) lines.entry.now) }
 {
     let mut found: Vec<&Line> = lines.iter().collect(alloc)?;
     found.sort_by_key(|line| line.at)?;

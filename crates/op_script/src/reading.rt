@@ -6,7 +6,7 @@ ghost use Rattle.flow_filter.specs.Name.{is_name};
 ghost use Rattle.flow_filter.specs.FilterText.{fields_of, AgreesBy};
 ghost use Rattle.op_script.specs.FormViews.{event_view, form_view};
 ghost use Rattle.op_script.specs.Printing.{IsScript, SplitsNone};
-ghost use Rattle.op_script.specs.Reading.{ends_of, members_of, filter_of, filter_or_all, order_of, with_route, with_line, numbered, is_command, command_count, line_view, what_view, with_event, with_form, with_text, script_of, place_of, goes_back, state_of, script_view, order_view, with_lines, start, Says, SaysWhole, Numbered};
+ghost use Rattle.op_script.specs.Reading.{ends_of, members_of, filter_of, filter_or_all, order_said, with_route, with_line, numbered, is_command, command_count, line_view, what_view, with_event, with_form, with_text, script_of, place_of, goes_back, state_of, script_view, order_view, with_lines, start, Says, SaysWhole, Numbered};
 
 use crate::fault::{LineFault, ScriptFault, ScriptKind};
 use crate::form::{Event, Form, form_of, words};
@@ -211,14 +211,14 @@ fn with_event(
     if reader.last.is_some_and(|last| at < last) {
         return Err(LineFault::Bad(ScriptKind::Order));
     }
-    let order = order_of(alloc, kind, event)?;
+    let order = order_said(alloc, kind, event)?;
     with_line(reader, at, order)
 }
 
 /// The order of an event, or `None` for a settle.
-#[tactic(auto, unfolding(crate::specs::Reading::order_of))]
-fn order_of(alloc: Global, kind: Kind, event: Event<'_>) -> Result<Option<Order>, LineFault>
-    ensures { Says (λ order. option_map order_view order) result (order_of kind (event_view event.entry)) }
+#[tactic(auto, unfolding(crate::specs::Reading::order_said))]
+fn order_said(alloc: Global, kind: Kind, event: Event<'_>) -> Result<Option<Order>, LineFault>
+    ensures { Says (λ order. option_map order_view order) result (order_said kind (event_view event.entry)) }
 {
     match event {
         Event::Move {

@@ -33,7 +33,7 @@ use Rattle.run_report.specs.Lines.{report_text}
 use Rattle.command_words.specs.Plan.{NetworkAsked, asks_audit}
 use Rattle.opennf_calls.specs.declared.status.Status.{Status}
 use Rattle.opennf_calls.specs.Again.{AreAgain, AuditLaw, AuditsAgain}
-use Rattle.opennf_calls.specs.NetworkRuns.{Given, Gives, HasNoRun, HasRun, IsNoRun, IsRunOf, config_for, given_script, head_for, start_for}
+use Rattle.opennf_calls.specs.NetworkRuns.{Given, RunResults, HasNoRun, HasRun, IsNoRun, IsRunOf, config_for, given_script, head_for, start_for}
 use Rattle.opennf_calls.specs.Outcome.{FailsAt, IsAudited, IsGiven, first_refusal, journal_read, journal_refusal, refusal_of, script_refusal, trace_refusal}
 use Rattle.opennf_calls.proofs.SameInputs.{AreSame, same_given}
 
@@ -56,12 +56,12 @@ module _ {R : Type 0} (F : Type 0) (f : Semantics R) (s : NetworkAsked) (g h : G
       ∙ ap (λ x. begins a h.site h.script.routes.items x.packets g.script.lines.items) same.captured
       ∙ ap (λ x. begins a h.site h.script.routes.items h.captured.packets x) same.lines
 
-  module _ (by : Option Schedule) (made : Gives) (x : IsRunOf F f s g by made) where
+  module _ (by : Option Schedule) (made : RunResults) (x : IsRunOf F f s g by made) where
     -- the end of the first is where the same choices lead in the second
     ends : (b : Global) (cs : List Choice) → cs ≡ made.choices → run (node_step f) cs (start_for F f s h b) ≡ x.world
     ends b cs chose = ap (λ l. run (node_step f) l (start_for F f s h b)) chose ∙ ap (run (node_step f) made.choices) (sym (starts x.alloc b)) ∙ sym x.leads.reached
 
-    reports : (audited : Gives) (y : IsRunOf F f s h None audited) → audited.choices ≡ made.choices → audited.texts Report ≡ made.texts Report
+    reports : (audited : RunResults) (y : IsRunOf F f s h None audited) → audited.choices ≡ made.choices → audited.texts Report ≡ made.texts Report
     reports audited y chose =
         y.report
         ∙ ap (λ w. report_text f (head_for s h.captured) s.summary w) (y.leads.reached ∙ ends y.alloc audited.choices chose)
@@ -84,8 +84,8 @@ module _ {R : Type 0} (F : Type 0) (f : Semantics R) (s : NetworkAsked) (g h : G
         ]
 
 -- The same, for the function that the words name.
-module _ (s : NetworkAsked) (g h : Given) (same : AreSame g h) (by : Option Schedule) (made : Gives) where
-  same_report : (kind : Kind) → HasRun kind s g by made → (audited : Gives) → HasRun kind s h None audited → audited.choices ≡ made.choices → audited.texts Report ≡ made.texts Report
+module _ (s : NetworkAsked) (g h : Given) (same : AreSame g h) (by : Option Schedule) (made : RunResults) where
+  same_report : (kind : Kind) → HasRun kind s g by made → (audited : RunResults) → HasRun kind s h None audited → audited.choices ≡ made.choices → audited.texts Report ≡ made.texts Report
   same_report kinds.Conntrack x audited y chose = reports Conntrack conntrack s g h same by made x audited y chose
   same_report kinds.Nat x audited y chose = reports Nat nat s g h same by made x audited y chose
   same_report kinds.Monitor x audited y chose = reports Monitor monitor s g h same by made x audited y chose
@@ -95,7 +95,7 @@ module _ (s : NetworkAsked) (g h : Given) (same : AreSame g h) (by : Option Sche
   still_runs kinds.Nat x cs chose step told = no_cause Nat nat s g h same by made x cs chose step told
   still_runs kinds.Monitor x cs chose step told = no_cause Monitor monitor s g h same by made x cs chose step told
 
-read_again : (s : NetworkAsked) (g : Given) (by : Option Schedule) (made : Gives) (kind : Kind) → HasRun kind s g by made → journal_of s.kind (length s.instances.names) (made.texts JournalOut) ≡ Ok made.choices
+read_again : (s : NetworkAsked) (g : Given) (by : Option Schedule) (made : RunResults) (kind : Kind) → HasRun kind s g by made → journal_of s.kind (length s.instances.names) (made.texts JournalOut) ≡ Ok made.choices
 read_again s g by made kinds.Conntrack x = x.again
 read_again s g by made kinds.Nat x = x.again
 read_again s g by made kinds.Monitor x = x.again

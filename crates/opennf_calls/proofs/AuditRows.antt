@@ -13,8 +13,8 @@ use Rattle.opennf_calls.specs.declared.status.Status.{Status}
 use Rattle.opennf_calls.specs.declared.status.Status.TheVariants.{Ok as Done, Usage, BadScript, BadTrace, BadJournal, NotARun, ReadFault, WriteFault, NoMemory}
 use Rattle.opennf_calls.specs.declared.status.JournalKind.TheVariants as kinds
 use Rattle.opennf_calls.specs.declared.network.Made.{Made}
-use Rattle.opennf_calls.specs.NetworkRuns.{Given, Gives, HasRun}
-use Rattle.opennf_calls.specs.Outcome.{ForResults, HasInput, IsBound, IsRead, IsRefused, RowOf, first_refusal, journal_read, journal_refusal, refusal_of}
+use Rattle.opennf_calls.specs.NetworkRuns.{Given, RunResults, HasRun}
+use Rattle.opennf_calls.specs.Outcome.{ForResults, HasInput, IsBound, IsRead, IsRefusedCommand, RowOf, first_refusal, journal_read, journal_refusal, refusal_of}
 use Rattle.opennf_calls.specs.Phases.{HasInputs, IsRefusedRun, OnlyRead, ReadAlone, ReadToEnd, TellsInputs, gives}
 use Rattle.opennf_calls.specs.Status.{journal_status}
 use Rattle.opennf_calls.proofs.RowLemmas.{more_read, one_read, read_fault, refused, silent, still_bound}
@@ -50,7 +50,7 @@ module _ (s : NetworkAsked) (named : is_some s.journal ≡ true) (given : Given)
   module _ (e : JournalFault) (answers : AnswersJournal s (length s.instances.names) mid new (Err e)) where
     bad : (status : Status) → journal_refusal (Err e) ≡ Some status
         → ((bytes : Role → List ℕ) → HasInput (asks_audit s) old bytes → journal_read s bytes ≡ Err e)
-        → IsRefused (asks_audit s) old new status
+        → IsRefusedCommand (asks_audit s) old new status
     bad status is due = refused old new only (asks_audit s) status bound (λ bytes holds.
         refusal bytes holds ∙ ap journal_refusal (due bytes holds) ∙ is)
 
@@ -87,7 +87,7 @@ module _ (s : NetworkAsked) (named : is_some s.journal ≡ true) (given : Given)
     sound : (bytes : Role → List ℕ) → HasInput (asks_audit s) old bytes → refusal_of (asks_audit s) bytes ≡ None
     sound bytes is = refusal bytes is ∙ ap journal_refusal (told_choices bytes is)
 
-    audit_results : (made : Gives) → HasRun s.kind s given None made → made.choices ≡ choices → ForResults (asks_audit s) old new (λ g. g ≡ made)
+    audit_results : (made : RunResults) → HasRun s.kind s given None made → made.choices ≡ choices → ForResults (asks_audit s) old new (λ g. g ≡ made)
     audit_results made holds same bytes is = record {
       read = all_read bytes is;
       sound = sound bytes is;

@@ -14,7 +14,7 @@ use Rattle.std.specs.Str.Parse.{digits_value}
 use Rattle.actor_net.specs.declared.schedule.Schedule.{Schedule}
 use Rattle.opennf_calls.specs.Command.{is_command}
 use Rattle.opennf_calls.specs.Phases.{CanRun}
-use Rattle.command_words.specs.Grammar.{Given, given_arguments, run_app, sim_app, check_app, gen_app}
+use Rattle.command_words.specs.Grammar.{GivenTexts, given_arguments, run_app, sim_app, check_app, gen_app}
 use Rattle.command_words.specs.Plan.{Asked, NetworkAsked, CheckAsked, Instances, asks_sim, asks_run, asks_audit, asks_check, asks_gen, only, function_of, instance_of, all_instances, instances_of, inside_of, outside_of, window_of, count_of, schedule_of, file_of, file_if, network_values, check_values, gen_values, sim_of, run_of, audit_of, check_of, gen_of, asked_of, plan_of}
 
 -- what an answer was made of
@@ -90,7 +90,7 @@ few_of text i is =
     })
 
 -- what was asked for can run
-values_run : (g : Given) (s : NetworkAsked) → network_values g ≡ Some s → CanRun s
+values_run : (g : GivenTexts) (s : NetworkAsked) → network_values g ≡ Some s → CanRun s
 unfolding network_values
 values_run g s is =
     let kind = and_then _ (option_and_then function_of g.function) s is in
@@ -106,7 +106,7 @@ values_run g s is =
     let few = few_of text.0 list.0 text.2 in
     subst CanRun whole (record { some = few.some; few = few.few; limits = few.limits; marked = few.marked; window = window_in g.window window.0 window.1 })
 
-checked_few : (g : Given) (c : CheckAsked) → check_values g ≡ Some c → length c.instances.names ≤ 16
+checked_few : (g : GivenTexts) (c : CheckAsked) → check_values g ≡ Some c → length c.instances.names ≤ 16
 unfolding check_values
 checked_few g c is =
     let kind = and_then _ (option_and_then function_of g.function) c is in

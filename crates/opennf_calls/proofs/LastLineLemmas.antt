@@ -11,8 +11,8 @@ use Rattle.opennf_calls.specs.declared.status.Status.{Status}
 use Rattle.opennf_calls.specs.declared.status.Status.TheVariants.{Ok as Done, Usage, BadScript, BadTrace, BadJournal, NotARun, ReadFault, WriteFault, NoMemory}
 use Rattle.opennf_calls.specs.declared.outcome.Outcome.{Outcome}
 use Rattle.opennf_calls.specs.Command.{is_result, comes_before}
-use Rattle.opennf_calls.specs.NetworkRuns.{Gives}
-use Rattle.opennf_calls.specs.Outcome.{HasInput, ForResults, IsBound, IsDone, IsWriteFault, IsReadFault, IsRefused, IsNotARun, MayBind, WroteNothing, WroteResultsAlone, Gained, RowOf, CauseOf, PutsLine}
+use Rattle.opennf_calls.specs.NetworkRuns.{RunResults}
+use Rattle.opennf_calls.specs.Outcome.{HasInput, ForResults, IsBound, IsDone, IsWriteFault, IsReadFault, IsRefusedCommand, IsNotARun, MayBind, WroteNothing, WroteResultsAlone, Gained, RowOf, CauseOf, PutsLine}
 use Rattle.opennf_calls.specs.Phases.{SameContents, SameNames}
 use Rattle.opennf_calls.specs.Writing.{Written, Wrote, written}
 use Rattle.opennf_calls.proofs.RoleLemmas.{at_each}
@@ -54,7 +54,7 @@ module _ (before old mid new : Role → Meaning) (around : Around before old mid
       → Gained which texts old mid → Gained which texts before new
   gained asked which texts results was role is = appends role (texts role) (not_last asked role (results role is)) (was role is)
 
-  with_results : (asked : Asked) (P Q : Gives → Type 0) → ((made : Gives) → P made → Q made) → ForResults asked old mid P → ForResults asked before new Q
+  with_results : (asked : Asked) (P Q : RunResults → Type 0) → ((made : RunResults) → P made → Q made) → ForResults asked old mid P → ForResults asked before new Q
   with_results asked P Q weaken was bytes told =
       let found = was bytes (has_input asked bytes told) in
       record {
@@ -106,7 +106,7 @@ module _ (before old mid new : Role → Meaning) (around : Around before old mid
     silent = silent row.silent;
   }
 
-  refused : (asked : Asked) (status : Status) → IsRefused asked old mid status → IsRefused asked before new status
+  refused : (asked : Asked) (status : Status) → IsRefusedCommand asked old mid status → IsRefusedCommand asked before new status
   refused asked status row = record {
     bound = bound asked row.bound;
     silent = silent row.silent;

@@ -11,8 +11,8 @@ use Rattle.command_words.specs.Plan.{Asked, CheckAsked, GenAsked, asks_check, as
 use Rattle.opennf_calls.specs.declared.status.Status.{Status}
 use Rattle.opennf_calls.specs.declared.status.Status.TheVariants.{Ok as Done, WriteFault}
 use Rattle.opennf_calls.specs.Command.{file_for, is_input, is_result, comes_before}
-use Rattle.opennf_calls.specs.Outcome.{HasInput, ForResults, IsBound, WroteNothing, WroteResultsAlone, Gained, IsReadFault, IsRefused, RowOf, refusal_of}
-use Rattle.opennf_calls.specs.NetworkRuns.{Gives}
+use Rattle.opennf_calls.specs.Outcome.{HasInput, ForResults, IsBound, WroteNothing, WroteResultsAlone, Gained, IsReadFault, IsRefusedCommand, RowOf, refusal_of}
+use Rattle.opennf_calls.specs.NetworkRuns.{RunResults}
 use Rattle.opennf_calls.specs.Phases.{GivesReport, OnlyRead, ReadAlone, SameNames, Performs}
 use Rattle.opennf_calls.specs.Writing.{Gains, Written, all_of, front_of, Wrote}
 use Rattle.opennf_calls.proofs.RoleLemmas.{at_each, this_or_other}
@@ -107,7 +107,7 @@ module _ (old new : Role → Meaning) (only : OnlyRead old new) where
 
   -- a refusal
   pub refused : (asked : Asked) (status : Status) → IsBound asked old
-      → ((bytes : Role → List ℕ) → HasInput asked old bytes → refusal_of asked bytes ≡ Some status) → IsRefused asked old new status
+      → ((bytes : Role → List ℕ) → HasInput asked old bytes → refusal_of asked bytes ≡ Some status) → IsRefusedCommand asked old new status
   refused asked status bound refusal = record { bound = still_bound asked bound; silent = silent; refusal = refusal }
 
   -- a command that ends there
@@ -140,7 +140,7 @@ module _ (asked : Asked) (old mid new : Role → Meaning) (read : OnlyRead old m
     gained = subst (λ (m : Meaning). Gains part m (new Report)) same_report wrote.gains
 
     -- what the command gives, for what is said of the text that was written
-    with_texts : (P : Gives → Type 0) → ((g : Gives) → GivesReport choices text g → P g) → ForResults asked old new P
+    with_texts : (P : RunResults → Type 0) → ((g : RunResults) → GivesReport choices text g → P g) → ForResults asked old new P
     with_texts P says bytes told =
         let found = made bytes told in
         record {

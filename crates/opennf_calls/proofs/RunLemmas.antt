@@ -23,7 +23,7 @@ use Rattle.net_world.specs.Window.{AllHome}
 use Rattle.run_report.specs.declared.auditing.AuditFault.{AuditFault}
 use Rattle.run_report.specs.declared.auditing.AuditFault.TheVariants as audit
 use Rattle.run_report.specs.declared.head.Head.{Head}
-use Rattle.run_report.specs.Audits.{IsCause}
+use Rattle.run_report.specs.Audits.{IsAuditCause}
 use Rattle.run_report.specs.Lines.{report_text}
 use Rattle.opennf_calls.specs.declared.network.Made.{Made}
 use Rattle.opennf_calls.specs.declared.status.Status.{Status}
@@ -74,9 +74,9 @@ module _ {R : Type 0} (F : Type 0) (f : Semantics R) (s : NetworkAsked) (g : Giv
   }
 
   -- the choices are no complete run
-  pub run_refused : (choices : List Choice) (e : AuditFault) → ((step : ℕ) → e ≡ audit.NotARun step → IsCause {F = F} f at_start choices step)
+  pub run_refused : (choices : List Choice) (e : AuditFault) → ((step : ℕ) → e ≡ audit.NotARun step → IsAuditCause {F = F} f at_start choices step)
       → IsRefusedAs F f s g choices (audit_status e)
-  run_refused choices (audit.NotARun step) cause = record { alloc = alloc; cause = moved (λ c l. IsCause {F = F} f (started alloc c l) choices step) (cause step refl) }
+  run_refused choices (audit.NotARun step) cause = record { alloc = alloc; cause = moved (λ c l. IsAuditCause {F = F} f (started alloc c l) choices step) (cause step refl) }
   run_refused choices audit.NoMemory cause = tt
 
 -- The function is that of the words.

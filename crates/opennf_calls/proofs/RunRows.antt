@@ -9,8 +9,8 @@ use Rattle.command_words.specs.Plan.{Asked, NetworkAsked, asks_sim, asks_run, as
 use Rattle.opennf_calls.specs.declared.status.Status.{Status}
 use Rattle.opennf_calls.specs.declared.status.Status.TheVariants.{Ok as Done, Usage, BadScript, BadTrace, BadJournal, NotARun, ReadFault, WriteFault, NoMemory}
 use Rattle.opennf_calls.specs.Command.{is_input, run_file, with_journal}
-use Rattle.opennf_calls.specs.NetworkRuns.{Given, Gives, HasRun}
-use Rattle.opennf_calls.specs.Outcome.{ForResults, HasInput, IsBound, IsRead, IsRefused, RowOf, first_refusal, inputs_refusal, journal_read, journal_refusal, refusal_of}
+use Rattle.opennf_calls.specs.NetworkRuns.{Given, RunResults, HasRun}
+use Rattle.opennf_calls.specs.Outcome.{ForResults, HasInput, IsBound, IsRead, IsRefusedCommand, RowOf, first_refusal, inputs_refusal, journal_read, journal_refusal, refusal_of}
 use Rattle.opennf_calls.specs.Phases.{HasInputs, InputsFail, OnlyRead, ReadToEnd, RefusesInputs, TellsInputs}
 use Rattle.opennf_calls.proofs.RowLemmas.{read_fault, refused, silent}
 
@@ -75,7 +75,7 @@ tells s asked reads old bytes told = record { trace = told Trace (reads.input Tr
 
 -- the script and the capture give no run
 module _ (s : NetworkAsked) (asked : Asked) (reads : Reads s asked) (old new : Role → Meaning) (only : OnlyRead old new) (bound : IsBound asked old) where
-  refuses : (status : Status) → RefusesInputs s old status → IsRefused asked old new status
+  refuses : (status : Status) → RefusesInputs s old status → IsRefusedCommand asked old new status
   refuses status says = refused old new only asked status bound (λ bytes told. reads.first bytes status (says bytes (tells s asked reads old bytes told)))
 
   pub fails_row : (status : Status) → InputsFail s old new status → RowOf asked old new [] status
@@ -92,7 +92,7 @@ module _ (s : NetworkAsked) (asked : Asked) (reads : Reads s asked) (old new : R
 -- they give a run
 module _ (s : NetworkAsked) (old new : Role → Meaning) (given : Given) (has : HasInputs s old new given) where
   -- by threads
-  pub run_results : (made : Gives) → HasRun s.kind s given None made → ForResults (asks_run s) old new (λ g. g ≡ made)
+  pub run_results : (made : RunResults) → HasRun s.kind s given None made → ForResults (asks_run s) old new (λ g. g ≡ made)
   run_results made holds bytes is = let told = tells s (asks_run s) (run_reads s) old bytes is in record {
     read = all_read s new (has.read bytes told);
     sound = has.sound bytes told;
@@ -102,7 +102,7 @@ module _ (s : NetworkAsked) (old new : Role → Meaning) (given : Given) (has : 
   }
 
   -- by a schedule
-  pub sim_results : (schedule : Schedule) (made : Gives) → HasRun s.kind s given (Some schedule) made → ForResults (asks_sim s schedule) old new (λ g. g ≡ made)
+  pub sim_results : (schedule : Schedule) (made : RunResults) → HasRun s.kind s given (Some schedule) made → ForResults (asks_sim s schedule) old new (λ g. g ≡ made)
   sim_results schedule made holds bytes is = let told = tells s (asks_sim s schedule) (sim_reads s schedule) old bytes is in record {
     read = all_read s new (has.read bytes told);
     sound = has.sound bytes told;

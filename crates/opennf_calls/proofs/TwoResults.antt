@@ -11,7 +11,7 @@ use Rattle.command_words.specs.Plan.{Asked}
 use Rattle.opennf_calls.specs.declared.status.Status.{Status}
 use Rattle.opennf_calls.specs.declared.status.Status.TheVariants.{Ok as Done, WriteFault}
 use Rattle.opennf_calls.specs.Command.{file_for, is_input, is_result, comes_before}
-use Rattle.opennf_calls.specs.NetworkRuns.{Gives}
+use Rattle.opennf_calls.specs.NetworkRuns.{RunResults}
 use Rattle.opennf_calls.specs.Outcome.{ForResults, IsBound, WroteResultsAlone, Gained, RowOf}
 use Rattle.opennf_calls.specs.Phases.{OnlyRead, SameNames, Performs}
 use Rattle.opennf_calls.specs.Writing.{Gains, Written, all_of, front_of, Wrote}
@@ -26,7 +26,7 @@ pub record WritesFirst (asked : Asked) (role : Role) : Type 0 where
   pub only : (other : Role) → IsTrue (is_result asked other) → (other ≡ role) ⊎ (other ≡ Report)
 
 -- the choices and the two texts that a command gives
-pub record GivesBoth (role : Role) (choices : List Choice) (first second : List ℕ) (made : Gives) : Type 0 where
+pub record GivesBoth (role : Role) (choices : List Choice) (first second : List ℕ) (made : RunResults) : Type 0 where
   pub is_made : made.choices ≡ choices
   pub file : made.texts role ≡ first
   pub report : made.texts Report ≡ second
@@ -66,7 +66,7 @@ module _ (asked : Asked) (role : Role) (writes : WritesFirst asked role) where
 
     -- what was given, also after something was written to other roles than the inputs
     with_texts : (new : Role → Meaning) → ((other : Role) → IsTrue (is_input asked other) → new other ≡ mid other)
-        → (P : Gives → Type 0) → ((g : Gives) → GivesBoth role choices first second g → P g) → ForResults asked old new P
+        → (P : RunResults → Type 0) → ((g : RunResults) → GivesBoth role choices first second g → P g) → ForResults asked old new P
     with_texts new stays P says bytes told =
         let found = made bytes told in
         record {

@@ -12,7 +12,7 @@ use Rattle.opennf_calls.specs.declared.status.Status.TheVariants.{WriteFault, No
 use Rattle.opennf_calls.specs.declared.outcome.Outcome.{Outcome}
 use Rattle.opennf_calls.specs.declared.network.Made.{Made}
 use Rattle.opennf_calls.specs.Command.{file_for, is_result, with_journal}
-use Rattle.opennf_calls.specs.NetworkRuns.{Gives}
+use Rattle.opennf_calls.specs.NetworkRuns.{RunResults}
 use Rattle.opennf_calls.specs.Outcome.{ForResults, IsBound}
 use Rattle.opennf_calls.specs.Phases.{GivesReport, OnlyRead, Performs, gives}
 use Rattle.opennf_calls.specs.Writing.{Written, all_of, front_of, is_part, report_end, Wrote, WroteReport, WroteBoth, WroteFront, WroteRun, Report_alone, Both, Front_alone, Nothing}
@@ -32,7 +32,7 @@ same_end asked old new made outcome status ended chose performs =
 
 module _ (s : NetworkAsked) (asked : Asked) (old mid : Role → Meaning) (read : OnlyRead old mid) (bound : IsBound asked old)
     (made : Made) (results : ForResults asked old mid (λ g. g ≡ gives s made)) where
-  weakened : (P : Gives → Type 0) → P (gives s made) → ForResults asked old mid P
+  weakened : (P : RunResults → Type 0) → P (gives s made) → ForResults asked old mid P
   weakened P holds bytes told =
       let found = results bytes told in
       record { read = found.read; sound = found.sound; made = found.made; are = found.are; wrote = subst P (sym found.wrote) holds }

@@ -38,7 +38,7 @@ use Rattle.nf_net.specs.Promises.{Standbys}
 use Rattle.nf_net.specs.Promises.{Verdicts}
 use Rattle.net_world.specs.Window.{AllHome}
 use Rattle.run_report.specs.declared.head.Head.{Head}
-use Rattle.run_report.specs.Audits.{IsCause}
+use Rattle.run_report.specs.Audits.{IsAuditCause}
 use Rattle.run_report.specs.Lines.{report_text}
 
 -- the script that the words' file is read as, and one without routes and lines where the words name none
@@ -78,7 +78,7 @@ pub record Given : Type 0 where
   pub script : TheScript
 
 -- what a run gives: its choices, and the text of each result
-pub record Gives : Type 0 where
+pub record RunResults : Type 0 where
   pub choices : List Choice
   pub texts : Role → List ℕ
 
@@ -88,7 +88,7 @@ module _ {R : Type 0} (F : Type 0) (f : Semantics R) (s : NetworkAsked) (g : Giv
   start_for alloc = started alloc (config_for s g.site g.script.routes.items) (items_for g.captured g.script)
 
   -- a run from the start to a world in which nothing is left to do, by the schedule if there is one, with its report and its journal
-  pub record IsRunOf (by : Option Schedule) (made : Gives) : Type 0 where
+  pub record IsRunOf (by : Option Schedule) (made : RunResults) : Type 0 where
     pub alloc : Global
     pub world : Network (Node F R) Msg Note
     pub leads : LeadsTo f (start_for alloc) made.choices world
@@ -108,10 +108,10 @@ module _ {R : Type 0} (F : Type 0) (f : Semantics R) (s : NetworkAsked) (g : Giv
   -- these choices aren't a complete run, which shows at this step
   pub record IsNoRun (choices : List Choice) (step : ℕ) : Type 0 where
     pub alloc : Global
-    pub cause : IsCause f (start_for alloc) choices step
+    pub cause : IsAuditCause f (start_for alloc) choices step
 
 -- the same, for the function that the words name
-abbrev pub HasRun : Kind → NetworkAsked → Given → Option Schedule → Gives → Type 0
+abbrev pub HasRun : Kind → NetworkAsked → Given → Option Schedule → RunResults → Type 0
 HasRun kinds.Conntrack = IsRunOf Conntrack conntrack
 HasRun kinds.Nat = IsRunOf Nat nat
 HasRun kinds.Monitor = IsRunOf Monitor monitor

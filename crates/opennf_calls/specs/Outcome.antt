@@ -23,7 +23,7 @@ use Rattle.opennf_calls.specs.declared.status.Status.{Status}
 use Rattle.opennf_calls.specs.declared.status.Status.TheVariants.{Ok as Done, Usage, BadScript, BadTrace, BadJournal, NotARun, ReadFault, WriteFault, NoMemory}
 use Rattle.opennf_calls.specs.declared.outcome.Outcome.{Outcome}
 use Rattle.opennf_calls.specs.Command.{file_for, is_input, is_result, comes_before}
-use Rattle.opennf_calls.specs.NetworkRuns.{Given, Gives, given_script, HasRun, HasNoRun}
+use Rattle.opennf_calls.specs.NetworkRuns.{Given, RunResults, given_script, HasRun, HasNoRun}
 use Rattle.opennf_calls.specs.Status.{line_of, trace_status, journal_status}
 
 -- the site with this inside prefix and this outside address
@@ -45,17 +45,17 @@ pub record OfGiven (s : NetworkAsked) (bytes : Role → List ℕ) (P : Given →
   pub holds : P given
 
 -- a complete run of the network, by a schedule if there is one, with its report and its journal
-abbrev pub IsRun : NetworkAsked → (Role → List ℕ) → Option Schedule → Gives → Type 0
-IsRun s bytes by made = OfGiven s bytes (λ given. HasRun s.kind s given by made)
+abbrev pub IsCompletedRun : NetworkAsked → (Role → List ℕ) → Option Schedule → RunResults → Type 0
+IsCompletedRun s bytes by made = OfGiven s bytes (λ given. HasRun s.kind s given by made)
 
 -- what the bytes of a journal are read as
 abbrev pub journal_read : NetworkAsked → (Role → List ℕ) → Result (List Choice) JournalFault
 journal_read s bytes = journal_of s.kind (length s.instances.names) (bytes JournalIn)
 
 -- the run that a journal tells
-pub record IsAudited (s : NetworkAsked) (bytes : Role → List ℕ) (made : Gives) : Type 0 where
+pub record IsAudited (s : NetworkAsked) (bytes : Role → List ℕ) (made : RunResults) : Type 0 where
   pub told : journal_read s bytes ≡ Ok made.choices
-  pub run : IsRun s bytes None made
+  pub run : IsCompletedRun s bytes None made
 
 -- the canonical text of the script that the bytes are read as
 pub record IsCheckText (c : CheckAsked) (bytes text : List ℕ) : Type 0 where
@@ -116,9 +116,9 @@ FailsAt (asks_audit s) bytes step = TellsNoRun s bytes step
 FailsAt asked bytes step = ⊥
 
 -- what a command gives for these input bytes: the choices of a run, and a text for each result
-abbrev pub AreResults : Asked → (Role → List ℕ) → Gives → Type 0
-AreResults (asks_sim s schedule) bytes made = IsRun s bytes (Some schedule) made
-AreResults (asks_run s) bytes made = IsRun s bytes None made
+abbrev pub AreResults : Asked → (Role → List ℕ) → RunResults → Type 0
+AreResults (asks_sim s schedule) bytes made = IsCompletedRun s bytes (Some schedule) made
+AreResults (asks_run s) bytes made = IsCompletedRun s bytes None made
 AreResults (asks_audit s) bytes made = IsAudited s bytes made
 AreResults (asks_check c) bytes made = (made.choices ≡ []) × IsCheckText c (bytes Script) (made.texts Report)
 AreResults (asks_gen g) bytes made = (made.choices ≡ []) × AreGenTexts g (made.texts TraceOut) (made.texts Report)
@@ -153,15 +153,15 @@ abbrev pub Unwritten : (Role → Bool) → (old new : Role → Meaning) → Type
 Unwritten which old new = (role : Role) → IsTrue (which role) → (new role).written ≡ (old role).written
 
 -- the inputs were read to their end, nothing refuses them, and `P` holds of what the command gives for them
-pub record HasResults (asked : Asked) (bytes : Role → List ℕ) (new : Role → Meaning) (P : Gives → Type 0) : Type 0 where
+pub record HasResults (asked : Asked) (bytes : Role → List ℕ) (new : Role → Meaning) (P : RunResults → Type 0) : Type 0 where
   pub read : IsRead asked new
   pub sound : refusal_of asked bytes ≡ None
-  pub made : Gives
+  pub made : RunResults
   pub are : AreResults asked bytes made
   pub wrote : P made
 
 -- the same, wherever the outside tells the inputs
-abbrev pub ForResults : Asked → (old new : Role → Meaning) → (Gives → Type 0) → Type 0
+abbrev pub ForResults : Asked → (old new : Role → Meaning) → (RunResults → Type 0) → Type 0
 ForResults asked old new P = (bytes : Role → List ℕ) → HasInput asked old bytes → HasResults asked bytes new P
 
 -- Ok: every result has its text, and the choices are those of the run
@@ -188,7 +188,7 @@ pub record IsReadFault (asked : Asked) (old new : Role → Meaning) (role : Role
   pub silent : WroteNothing old new
 
 -- the inputs, where the outside tells them, are refused with this status: nothing was written
-pub record IsRefused (asked : Asked) (old new : Role → Meaning) (status : Status) : Type 0 where
+pub record IsRefusedCommand (asked : Asked) (old new : Role → Meaning) (status : Status) : Type 0 where
   pub bound : IsBound asked new
   pub silent : WroteNothing old new
   pub refusal : (bytes : Role → List ℕ) → HasInput asked old bytes → refusal_of asked bytes ≡ Some status
@@ -211,9 +211,9 @@ abbrev pub RowOf : Asked → (old new : Role → Meaning) → List Choice → St
 RowOf asked old new choices Done = IsDone asked old new choices
 RowOf asked old new choices (WriteFault role) = IsWriteFault asked old new role choices
 RowOf asked old new choices (ReadFault role) = IsReadFault asked old new role × (choices ≡ [])
-RowOf asked old new choices (BadScript line kind) = IsRefused asked old new (BadScript line kind) × (choices ≡ [])
-RowOf asked old new choices (BadTrace offset kind) = IsRefused asked old new (BadTrace offset kind) × (choices ≡ [])
-RowOf asked old new choices (BadJournal kind) = IsRefused asked old new (BadJournal kind) × (choices ≡ [])
+RowOf asked old new choices (BadScript line kind) = IsRefusedCommand asked old new (BadScript line kind) × (choices ≡ [])
+RowOf asked old new choices (BadTrace offset kind) = IsRefusedCommand asked old new (BadTrace offset kind) × (choices ≡ [])
+RowOf asked old new choices (BadJournal kind) = IsRefusedCommand asked old new (BadJournal kind) × (choices ≡ [])
 RowOf asked old new choices (NotARun step) = IsNotARun asked old new step × (choices ≡ [])
 RowOf asked old new choices NoMemory = WroteNothing old new × (choices ≡ [])
 RowOf asked old new choices Usage = ⊥

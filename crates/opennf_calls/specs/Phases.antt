@@ -26,7 +26,7 @@ use Rattle.opennf_calls.specs.Outcome.{CauseOf, IsGiven, MayBind, RowOf, inputs_
 use Rattle.opennf_calls.specs.declared.inputs.Inputs.{Inputs}
 use Rattle.opennf_calls.specs.declared.network.Made.{Made}
 use Rattle.opennf_calls.specs.declared.network.Opening.{Opening}
-use Rattle.opennf_calls.specs.NetworkRuns.{Given, Gives, HasNoRun, IsNoRun, config_for, given_script, head_for, items_for}
+use Rattle.opennf_calls.specs.NetworkRuns.{Given, RunResults, HasNoRun, IsNoRun, config_for, given_script, head_for, items_for}
 
 -- a role has this name now, and nothing else changed
 pub record Named (role : Role) (name : Option (List ℕ)) (old new : Role → Meaning) : Type 0 where
@@ -127,11 +127,11 @@ abbrev pub result_texts : (journal report : List ℕ) → Role → List ℕ
 result_texts journal report JournalOut = journal
 result_texts journal report role = report
 
-abbrev pub gives : NetworkAsked → Made → Gives
+abbrev pub gives : NetworkAsked → Made → RunResults
 gives s made = record { choices = made.choices; texts = result_texts (journal_bytes s.kind (length s.instances.names) made.choices) made.report }
 
 -- the choices and the report that a command gives
-pub record GivesReport (choices : List Choice) (text : List ℕ) (made : Gives) : Type 0 where
+pub record GivesReport (choices : List Choice) (text : List ℕ) (made : RunResults) : Type 0 where
   pub is_made : made.choices ≡ choices
   pub report : made.texts Report ≡ text
 

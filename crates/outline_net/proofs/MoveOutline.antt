@@ -20,7 +20,7 @@ use Rattle.move_op.specs.declared.door.Door.{Door}
 use Rattle.move_op.specs.declared.door.Door.TheVariants as door
 use Rattle.move_op.specs.declared.phase.Phase.{Phase}
 use Rattle.move_op.specs.declared.phase.Phase.TheVariants as phase
-use Rattle.move_op.specs.Move.{MovePlan, Row, keeps, goes, have_units, chunks_of, put_back, source, destination, put_to, forward_to, pushed, released, returned, all_put, on_event, on_source_enabled, on_piece, on_deleted, on_restored, on_source_fenced, on_put_ok, on_put_no, on_destination_enabled, on_destination_fenced, from_source, from_destination, row}
+use Rattle.move_op.specs.Move.{MovePlan, MoveRow, keeps, goes, have_units, chunks_of, put_back, source, destination, put_to, forward_to, pushed, released, returned, all_put, on_event, on_source_enabled, on_piece, on_deleted, on_restored, on_source_fenced, on_put_ok, on_put_no, on_destination_enabled, on_destination_fenced, from_source, from_destination, row}
 use Rattle.unit_machine.proofs.Machine as machine
 use Rattle.unit_machine.proofs.Real as real
 use Rattle.unit_machine.proofs.Real.{RPiece, RPhase, Op, Op_did}
@@ -75,7 +75,7 @@ module _ {R : Type 0} (f : Semantics R) (place : List ℕ → Option ℕ) where
     pub spells : spelled f c ≡ Some entry
     pub unit : c.unit ≡ Some entry.0
 
-  pub record RowFollows (plan : MovePlan) (events : List FullCell) (real_row : Row) (did : Op_did R) : Type 0 where
+  pub record RowFollows (plan : MovePlan) (events : List FullCell) (real_row : MoveRow) (did : Op_did R) : Type 0 where
     pub phase : outline_phase real_row.next.phase ≡ did.phase
     pub store : map number (unwrap_or real_row.stored events) ≡ did.store
     pub sends : outline_sends f place real_row.next.sends ≡ wrap plan.filter did.sends

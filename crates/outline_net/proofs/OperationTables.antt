@@ -12,7 +12,7 @@ use Rattle.nf_msgs.specs.declared.msg.Msg.{Msg}
 use Rattle.copy_share.specs.Copy.{CopyState}
 use Rattle.copy_share.specs.Copy as copy
 use Rattle.copy_share.specs.Share.{ShareState}
-use Rattle.move_op.specs.Move.{MoveState, Row, Store, row_in, answer_of}
+use Rattle.move_op.specs.Move.{MoveState, MoveRow, Store, row_in, answer_of}
 use Rattle.ctrl_node.specs.declared.operation.Operation.{Operation}
 use Rattle.ctrl_node.specs.declared.operation.Operation.TheVariants.{Move, Copy, Share}
 use Rattle.ctrl_node.specs.Operations.{OpenOperations, turn_of, serving_of, moved, copied}
@@ -82,7 +82,7 @@ module _ (c : ControllerState) (op : ℕ) where
   gone : (ops : OpenOperations) → NotShared (finite.get (finite.remove ops op) op)
   gone ops = subst NotShared (sym (got_remove ops op op ∙ ap (λ b. cond b None (finite.get ops op)) (self op))) tt
 
-  move_turns : (m : MoveState) (store : Store) (r : Row) (a : Option Answer) → NotShared (finite.get (after_turn c op (moved m store r) a).node.operations op)
+  move_turns : (m : MoveState) (store : Store) (r : MoveRow) (a : Option Answer) → NotShared (finite.get (after_turn c op (moved m store r) a).node.operations op)
   move_turns m store r None = written (Move (record m { phase = r.next.phase })) tt
   move_turns m store r (Some why) = gone (finite.insert c.operations op (Move (record m { phase = r.next.phase })))
 

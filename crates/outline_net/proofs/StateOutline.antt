@@ -23,8 +23,8 @@ use Rattle.nf_msgs.specs.declared.answer.Answer.{Answer}
 use Rattle.nf_msgs.specs.declared.msg.Piece.{Piece as APiece}
 use Rattle.nf_msgs.specs.declared.msg.Msg.TheVariants as msg
 use Rattle.instance_worker.specs.declared.instance.Instance.{Instance}
-use Rattle.instance_worker.specs.declared.pieces.Whole.{Whole}
-use Rattle.instance_worker.specs.Pieces.{newest_version, piece_of, cut, whole_of, pieces}
+use Rattle.instance_worker.specs.declared.pieces.WholePieces.{WholePieces}
+use Rattle.instance_worker.specs.Pieces.{newest_version, piece_of, pieces_from, whole_of, pieces}
 use Rattle.instance_worker.specs.Instance.{told, on_stream, on_delete, on_put, on_restore, refusal, piece_put}
 use Rattle.unit_machine.proofs.Real as real
 use Rattle.unit_machine.proofs.Real.{Chunks, RPiece}
@@ -77,16 +77,16 @@ module _ {R : Type 0} (f : Semantics R) (laws : FunctionLaws f) where
   map-drop (suc n) (e ∷ es) = map-drop n es
 
   -- the pieces of chunks that were made of entries are the pieces of the entries
-  cut_same : (whole : Whole) (n : ℕ) (es : Chunks R) → AreValid es → map (outline_piece f) (cut whole n (map chunk_of es)) ≡ marks whole.total whole.newest (chop n es)
-  unfolding cut
+  cut_same : (whole : WholePieces) (n : ℕ) (es : Chunks R) → AreValid es → map (outline_piece f) (pieces_from whole n (map chunk_of es)) ≡ marks whole.total whole.newest (chop n es)
+  unfolding pieces_from
   cut_same whole zero es h = ap (λ xs. record { chunks = xs; total = whole.total; newest = whole.newest; last = true } ∷ []) (entries_made es h)
   cut_same whole (suc n) es h =
       let few : nat_le (length (map chunk_of es)) 64 ≡ nat_le (length es) 64 = ap (λ k. nat_le k 64) (length-map es chunk_of) in
-      rw few (elim (nat_le (length es) 64) as (λ b. map (outline_piece f) (if b then piece_of whole true (map chunk_of es) ∷ [] else piece_of whole false (take 64 (map chunk_of es)) ∷ cut whole n (drop 64 (map chunk_of es))) ≡ marks whole.total whole.newest (if b then es ∷ [] else take 64 es ∷ chop n (drop 64 es))) [
+      rw few (elim (nat_le (length es) 64) as (λ b. map (outline_piece f) (if b then piece_of whole true (map chunk_of es) ∷ [] else piece_of whole false (take 64 (map chunk_of es)) ∷ pieces_from whole n (drop 64 (map chunk_of es))) ≡ marks whole.total whole.newest (if b then es ∷ [] else take 64 es ∷ chop n (drop 64 es))) [
         | true ↦ ap (λ xs. record { chunks = xs; total = whole.total; newest = whole.newest; last = true } ∷ []) (entries_made es h)
         | false ↦
             let front : entries f (take 64 (map chunk_of es)) ≡ take 64 es = ap (entries f) (map-take 64 es) ∙ entries_made (take 64 es) (valid_take 64 es h) in
-            let rest : map (outline_piece f) (cut whole n (drop 64 (map chunk_of es))) ≡ marks whole.total whole.newest (chop n (drop 64 es)) = ap (λ cs. map (outline_piece f) (cut whole n cs)) (map-drop 64 es) ∙ cut_same whole n (drop 64 es) (valid_drop 64 es h) in
+            let rest : map (outline_piece f) (pieces_from whole n (drop 64 (map chunk_of es))) ≡ marks whole.total whole.newest (chop n (drop 64 es)) = ap (λ cs. map (outline_piece f) (pieces_from whole n cs)) (map-drop 64 es) ∙ cut_same whole n (drop 64 es) (valid_drop 64 es h) in
             let last : is_nil (chop n (drop 64 es)) ≡ false = is_nil-chop n (drop 64 es) in
             rw (front, rest, last) refl
       ])

@@ -14,7 +14,7 @@ use Rattle.actor_net.proofs.ReplayLaws.{replayed_ok, replayed_fault}
 use Rattle.net_world.specs.declared.node.Node.{Node}
 use Rattle.net_world.specs.Nodes.{node_step, node_ready, node_ended}
 use Rattle.net_world.specs.Runs.{LeadsTo}
-use Rattle.run_report.specs.Audits.{world_after, IsCompleteRun, IsCause}
+use Rattle.run_report.specs.Audits.{world_after, IsCompleteRun, IsAuditCause}
 
 module _ {F R : Type 0} (f : Semantics R) (first start : Network (Node F R) Msg Note) (at_start : start ≡ first) (cs : List Choice) (result : Result (Network (Node F R) Msg Note) ReplayFault) (h : result ≢ Err NoMemory → result ≡ replayed node_ready (node_step f) cs start) where
   replay : result ≢ Err NoMemory → replayed node_ready (node_step f) cs first ≡ result
@@ -35,7 +35,7 @@ module _ {F R : Type 0} (f : Semantics R) (first start : Network (Node F R) Msg 
   complete w ok done = record { leads = led w ok; complete = ap (is_done node_ended) (sym (leads_to w ok).reached) ∙ done }
 
   -- and else are short of one
-  pub short : (w : Network (Node F R) Msg Note) → result ≡ Ok w → is_done node_ended w ≡ false → (step : ℕ) → step ≡ length cs + 1 → IsCause f first cs step
+  pub short : (w : Network (Node F R) Msg Note) → result ≡ Ok w → is_done node_ended w ≡ false → (step : ℕ) → step ≡ length cs + 1 → IsAuditCause f first cs step
   short w ok left step counted = inr (record { leads = led w ok; incomplete = ap (is_done node_ended) (sym (leads_to w ok).reached) ∙ left; counted = counted })
 
   -- a fault is the first
@@ -48,5 +48,5 @@ module _ {F R : Type 0} (f : Semantics R) (first start : Network (Node F R) Msg 
   pub index_below : (index : ℕ) → result ≡ Err (NotEnabled index) → index < length cs
   index_below index err = let fault = faulty index err in slice_get_within cs index fault.choice fault.there
 
-  pub refused : (index : ℕ) → result ≡ Err (NotEnabled index) → (step : ℕ) → step ≡ index + 1 → IsCause f first cs step
+  pub refused : (index : ℕ) → result ≡ Err (NotEnabled index) → (step : ℕ) → step ≡ index + 1 → IsAuditCause f first cs step
   refused index err step counted = inl (record { index = index; counted = counted; fault = faulty index err })

@@ -33,5 +33,5 @@ module _ {F R : Type 0} (f : Semantics R) (start : Network (Node F R) Msg Note) 
     pub counted : step ≡ length choices + 1
 
   -- why the choices aren't a complete run
-  abbrev pub IsCause : ℕ → Type 0
-  IsCause step = IsRefusedAt step ⊎ IsShortAt step
+  abbrev pub IsAuditCause : ℕ → Type 0
+  IsAuditCause step = IsRefusedAt step ⊎ IsShortAt step

@@ -5,7 +5,7 @@ ghost use Rattle.nf_net.specs.Promises.{Standbys};
 ghost use Rattle.net_world.specs.Start.{IsConfig, started};
 ghost use Rattle.nf_net.specs.Promises.{Verdicts};
 ghost use Rattle.net_world.specs.Window.{AllHome};
-ghost use Rattle.run_report.specs.Audits.{IsCause, IsCompleteRun, world_after};
+ghost use Rattle.run_report.specs.Audits.{IsAuditCause, IsCompleteRun, world_after};
 ghost use Rattle.run_report.specs.Lines.{report_text};
 
 use crate::head::Head;
@@ -36,7 +36,7 @@ pub fn audit<F: Function>(
     ensures standbys { IsInput F.semantics.kind config.now items.items → IfOk result (λ _. Standbys {F = F.row.Denot} F.semantics (started alloc config.now items.items) choices.now config.now items.items) }
     ensures completed { IsInput F.semantics.kind config.now items.items → IfOk result (λ _. Completed F.semantics config.now items.items (world_after {F = F.row.Denot} F.semantics (started alloc config.now items.items) choices.now)) }
     ensures home { IsInput F.semantics.kind config.now items.items → IfOk result (λ _. AllHome config.now (world_after {F = F.row.Denot} F.semantics (started alloc config.now items.items) choices.now)) }
-    ensures not_a_run { (step : ℕ) → result ≡ Err (AuditFault.NotARun step) → IsCause {F = F.row.Denot} F.semantics (started alloc config.now items.items) choices.now step }
+    ensures not_a_run { (step : ℕ) → result ≡ Err (AuditFault.NotARun step) → IsAuditCause {F = F.row.Denot} F.semantics (started alloc config.now items.items) choices.now step }
 {
     let start = start::<F>(alloc, config, items)?;
     let count = choices.len() as u64;

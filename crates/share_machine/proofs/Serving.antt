@@ -1,12 +1,12 @@
 -- Each move from each stage in which a share serves a packet, up to the Sync that it gives.
 use Rattle.std.proofs.Common.{◌≡◌, ℕ, Bool, true, false, cond, ◌==◌, None, List, [], ◌∷◌, ◌++◌, length, inl, inr, refl, sym, ap, append_assoc, append-nil}
-use Rattle.share_machine.proofs.Share.{Ran, Item.Shared, Item.Chunk, Frame, Phase.Syncing, put, sync_to, Move, Move.Arrive, Move.Take_cs, Move.Take_sc, Move.Take_sw, Move.Take_back, has, without, if_mine, at_node, runs, after, chunk_of, over, moved, from_sw, from_back}
+use Rattle.share_machine.proofs.Share.{Ran, Item.Shared, Item.Chunk, Frame, Phase.Syncing, put, sync_to, ShareMachineStep, ShareMachineStep.Arrive, ShareMachineStep.Take_cs, ShareMachineStep.Take_sc, ShareMachineStep.Take_sw, ShareMachineStep.Take_back, has, without, if_mine, at_node, runs, after, chunk_of, over, moved, from_sw, from_back}
 use Rattle.share_machine.proofs.Stages.{Turn, is_pending, Stage.Spreads, Stage.Resting, Stage.Forwards, Stage.Carries, Stage.Chunk_comes, front, shape, served, IsFront, IsShare, Behind, brings, Leads}
 use Rattle.share_machine.proofs.Lists.{runs-append, served-append, distinct-without, counts_turns, turns_sent, turn_of, in_without, turn_self, served_at}
 use Rattle.share_machine.proofs.Setting.{links, orders, at_only, front_same, stays, sync_goes, none_comes, turns, some_left, at_least_one}
 
 module _ {R : Type 0} (f : Frame R) where
-  pub resting : (d : List Ran) (e v : List ℕ) → (m : Move) → Leads f (Resting d e v) (moved f (shape f (Resting d e v)) m) (brings f m)
+  pub resting : (d : List Ran) (e v : List ℕ) → (m : ShareMachineStep) → Leads f (Resting d e v) (moved f (shape f (Resting d e v)) m) (brings f m)
   resting d e v (Arrive p) = record {
     next = Resting d e (v ++ p ∷ []);
     fits = tt;
@@ -26,7 +26,7 @@ module _ {R : Type 0} (f : Frame R) where
   resting d e [] Take_sc = stays f (Resting d e []) tt
   resting d e v m = stays f (Resting d e v) tt
 
-  pub forwards : (d : List Ran) (e : List ℕ) (p : ℕ) (q v : List ℕ) → (m : Move) → Leads f (Forwards d e p q v) (moved f (shape f (Forwards d e p q v)) m) (brings f m)
+  pub forwards : (d : List Ran) (e : List ℕ) (p : ℕ) (q v : List ℕ) → (m : ShareMachineStep) → Leads f (Forwards d e p q v) (moved f (shape f (Forwards d e p q v)) m) (brings f m)
   forwards d e p q v (Arrive r) = record {
     next = Forwards d e p q (v ++ r ∷ []);
     fits = tt;
@@ -73,7 +73,7 @@ module _ {R : Type 0} (f : Frame R) where
   longer_at true old new h = h
   longer_at false old new h = front_same old
 
-  pub carries : (d : List Ran) (e : List ℕ) (p : ℕ) (q v : List ℕ) → (m : Move) → Leads f (Carries d e p q v) (moved f (shape f (Carries d e p q v)) m) (brings f m)
+  pub carries : (d : List Ran) (e : List ℕ) (p : ℕ) (q v : List ℕ) → (m : ShareMachineStep) → Leads f (Carries d e p q v) (moved f (shape f (Carries d e p q v)) m) (brings f m)
   carries d e p q v (Arrive r) = record {
     next = Carries d e p q (v ++ r ∷ []);
     fits = tt;
@@ -159,7 +159,7 @@ module _ {R : Type 0} (f : Frame R) where
         longer = λ k h. rw (turns f f.members m k (d ++ served f (e ++ if_mine f p)) (d ++ served f e) h) (front_same (cond (k == m) (d ++ served f (e ++ if_mine f p)) (d ++ served f e)));
       })
 
-  pub chunk_comes : IsShare f → (d : List Ran) (e : List ℕ) (p : ℕ) (q v : List ℕ) → (m : Move) → Leads f (Chunk_comes d e p q v) (moved f (shape f (Chunk_comes d e p q v)) m) (brings f m)
+  pub chunk_comes : IsShare f → (d : List Ran) (e : List ℕ) (p : ℕ) (q v : List ℕ) → (m : ShareMachineStep) → Leads f (Chunk_comes d e p q v) (moved f (shape f (Chunk_comes d e p q v)) m) (brings f m)
   chunk_comes is d e p q v (Arrive r) = record {
     next = Chunk_comes d e p q (v ++ r ∷ []);
     fits = tt;

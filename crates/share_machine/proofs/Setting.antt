@@ -1,7 +1,7 @@
 -- Each move from each stage in which a share is set up, up to the first Sync.
 use Rattle.std.proofs.Common.{◌≡◌, ℕ, ◌<◌, ◌≤◌, ◌+◌, Bool, true, false, cond, not, ◌&&◌, ◌==◌, Option, None, Some, List, [], ◌∷◌, ◌++◌, map, length, refl, sym, ap, subst, ◌∙◌, append_assoc, append-nil, arith}
 use Rattle.std.proofs.lemmas.Bool.Decides.{nat_tests, Decides-eqb}
-use Rattle.share_machine.proofs.Share.{Ran, Item, Item.Carry, Item.Fence, Item.Get, Item.Sync, Item.Fenced, Item.Chunks, Frame, View, Phase, Phase.Setting, put, put_ctrl, waits, serve, answers, sync_to, Move, Move.Arrive, Move.Take_cs, Move.Take_sc, Move.Take_sw, Move.Take_to, Move.Take_back, has, without, if_mine, after, only, moved, from_sw, from_to, from_back}
+use Rattle.share_machine.proofs.Share.{Ran, Item, Item.Carry, Item.Fence, Item.Get, Item.Sync, Item.Fenced, Item.Chunks, Frame, View, Phase, Phase.Setting, put, put_ctrl, waits, serve, answers, sync_to, ShareMachineStep, ShareMachineStep.Arrive, ShareMachineStep.Take_cs, ShareMachineStep.Take_sc, ShareMachineStep.Take_sw, ShareMachineStep.Take_to, ShareMachineStep.Take_back, has, without, if_mine, after, only, moved, from_sw, from_to, from_back}
 use Rattle.share_machine.proofs.Stages.{Turn.Going, Turn.Quiet, is_going, goes_to, comes_from, Stage, Stage.Diverting, Stage.Fence_goes, Stage.Fenced_comes, Stage.Get_goes, Stage.Chunks_come, Stage.Spreads, front, early, late, shape, IsFront, IsShare, Fits, Alike, brings, Leads}
 use Rattle.share_machine.proofs.Lists.{cond-same, cond-append, cond-cond, self, runs-append, mine_in-append, served-append, packets-append, packets-served, map-append, over_front, has-without, distinct-without, length-without, counts_turns, turns_sent, turn_of, in_without, turn_self}
 
@@ -73,7 +73,7 @@ module _ {R : Type 0} (f : Frame R) where
     longer = λ k _. longer_at (k == f.home) d (d ++ (p, f.home) ∷ []) (b k) (front_more d d ((p, f.home) ∷ []) (front_same d));
   }
 
-  pub diverting : (d : List Ran) (b : ℕ → List Ran) (l : List ℕ) → ((k : ℕ) → IsFront (b k) d) → (m : Move) → Leads f (Diverting d b l) (moved f (shape f (Diverting d b l)) m) (brings f m)
+  pub diverting : (d : List Ran) (b : ℕ → List Ran) (l : List ℕ) → ((k : ℕ) → IsFront (b k) d) → (m : ShareMachineStep) → Leads f (Diverting d b l) (moved f (shape f (Diverting d b l)) m) (brings f m)
   diverting d b l h (Arrive p) = record {
     next = Diverting d b (l ++ if_mine f p);
     fits = h;
@@ -122,7 +122,7 @@ module _ {R : Type 0} (f : Frame R) where
     longer = λ k _. longer_at (k == f.home) d (d ++ (p, f.home) ∷ []) (b k) (front_more d d ((p, f.home) ∷ []) (front_same d));
   }
 
-  pub fence_goes : (d : List Ran) (b : ℕ → List Ran) (l q v : List ℕ) → ((k : ℕ) → IsFront (b k) d) → (m : Move) → Leads f (Fence_goes d b l q v) (moved f (shape f (Fence_goes d b l q v)) m) (brings f m)
+  pub fence_goes : (d : List Ran) (b : ℕ → List Ran) (l q v : List ℕ) → ((k : ℕ) → IsFront (b k) d) → (m : ShareMachineStep) → Leads f (Fence_goes d b l q v) (moved f (shape f (Fence_goes d b l q v)) m) (brings f m)
   fence_goes d b l q v h (Arrive p) = record {
     next = Fence_goes d b l q (v ++ p ∷ []);
     fits = h;
@@ -143,7 +143,7 @@ module _ {R : Type 0} (f : Frame R) where
   fence_goes d b l q [] h Take_sc = stays (Fence_goes d b l q []) h
   fence_goes d b l q v h m = stays (Fence_goes d b l q v) h
 
-  pub fenced_comes : (d : List Ran) (b : ℕ → List Ran) (q v : List ℕ) → ((k : ℕ) → IsFront (b k) d) → (m : Move) → Leads f (Fenced_comes d b q v) (moved f (shape f (Fenced_comes d b q v)) m) (brings f m)
+  pub fenced_comes : (d : List Ran) (b : ℕ → List Ran) (q v : List ℕ) → ((k : ℕ) → IsFront (b k) d) → (m : ShareMachineStep) → Leads f (Fenced_comes d b q v) (moved f (shape f (Fenced_comes d b q v)) m) (brings f m)
   fenced_comes d b q v h (Arrive p) = record {
     next = Fenced_comes d b q (v ++ p ∷ []);
     fits = h;
@@ -171,7 +171,7 @@ module _ {R : Type 0} (f : Frame R) where
   fenced_comes d b q [] h Take_sc = stays (Fenced_comes d b q []) h
   fenced_comes d b q v h m = stays (Fenced_comes d b q v) h
 
-  pub get_goes : (d : List Ran) (b : ℕ → List Ran) (q v : List ℕ) → ((k : ℕ) → IsFront (b k) d) → (m : Move) → Leads f (Get_goes d b q v) (moved f (shape f (Get_goes d b q v)) m) (brings f m)
+  pub get_goes : (d : List Ran) (b : ℕ → List Ran) (q v : List ℕ) → ((k : ℕ) → IsFront (b k) d) → (m : ShareMachineStep) → Leads f (Get_goes d b q v) (moved f (shape f (Get_goes d b q v)) m) (brings f m)
   get_goes d b q v h (Arrive p) = record {
     next = Get_goes d b q (v ++ p ∷ []);
     fits = h;
@@ -256,7 +256,7 @@ module _ {R : Type 0} (f : Frame R) where
         longer = λ k m. rw (append-nil d, turns f.members f.home k d (b k) m) (front_same (cond (k == f.home) d (b k)));
       })
 
-  pub chunks_come : IsShare f → (d : List Ran) (b : ℕ → List Ran) (q v : List ℕ) → ((k : ℕ) → IsFront (b k) d) → (m : Move) → Leads f (Chunks_come d b q v) (moved f (shape f (Chunks_come d b q v)) m) (brings f m)
+  pub chunks_come : IsShare f → (d : List Ran) (b : ℕ → List Ran) (q v : List ℕ) → ((k : ℕ) → IsFront (b k) d) → (m : ShareMachineStep) → Leads f (Chunks_come d b q v) (moved f (shape f (Chunks_come d b q v)) m) (brings f m)
   chunks_come is d b q v h (Arrive p) = record {
     next = Chunks_come d b q (v ++ p ∷ []);
     fits = h;

@@ -160,13 +160,13 @@ pub record View (R : Type 0) : Type 0 where
   pub diverts : Bool  -- whether the switch sends the unit's packets to the controller
   pub done : List Ran
 
-pub data Move : Type 0 where
-  Arrive : ℕ → Move
-  Take_cs : Move
-  Take_sc : Move
-  Take_sw : ℕ → Move
-  Take_to : ℕ → Move
-  Take_back : ℕ → Move
+pub data ShareMachineStep : Type 0 where
+  Arrive : ℕ → ShareMachineStep
+  Take_cs : ShareMachineStep
+  Take_sc : ShareMachineStep
+  Take_sw : ℕ → ShareMachineStep
+  Take_to : ℕ → ShareMachineStep
+  Take_back : ℕ → ShareMachineStep
 
 abbrev pub put_member : {R : Type 0} → View R → ℕ → Did R → View R
 put_member x j did = record x { own = put x.own j did.own; back = joined x.back (only j did.to_c); done = x.done ++ did.ran }
@@ -197,7 +197,7 @@ abbrev pub from_back : {R : Type 0} → Frame R → View R → ℕ → List (Ite
 from_back f x j [] = x
 from_back f x j (item ∷ rest) = put_ctrl (record x { back = put x.back j rest }) (share_does f item x.phase x.queue)
 
-abbrev pub moved : {R : Type 0} → Frame R → View R → Move → View R
+abbrev pub moved : {R : Type 0} → Frame R → View R → ShareMachineStep → View R
 moved f x (Arrive p) = if x.diverts then record x { sc = x.sc ++ Diverted p ∷ [] } else record x { sw = joined x.sw (only f.home (map Carry (if_mine f p))) }
 moved f x Take_cs = from_cs f x x.cs
 moved f x Take_sc = from_sc f x x.sc

@@ -1,7 +1,7 @@
 -- Each move while a Sync goes round among the members.
 use Rattle.std.proofs.Common.{◌≡◌, ℕ, ◌+◌, ◌-◌, Bool, true, false, cond, ◌==◌, Option, List, [], ◌∷◌, ◌++◌, map, inl, inr, refl, sym, subst, ◌∙◌, append-nil, arith}
 use Rattle.std.proofs.lemmas.Bool.Decides.{nat_tests, Decides-eqb}
-use Rattle.share_machine.proofs.Share.{Ran, Item, Item.Diverted, Item.Sync, Item.Synced, Frame, Move, Move.Arrive, Move.Take_sc, Move.Take_to, Move.Take_back, has, if_mine, after, over, put, moved, from_to, from_back, put_ctrl, waits, serve, Phase.Setting, Phase.Syncing}
+use Rattle.share_machine.proofs.Share.{Ran, Item, Item.Diverted, Item.Sync, Item.Synced, Frame, ShareMachineStep, ShareMachineStep.Arrive, ShareMachineStep.Take_sc, ShareMachineStep.Take_to, ShareMachineStep.Take_back, has, if_mine, after, over, put, moved, from_to, from_back, put_ctrl, waits, serve, Phase.Setting, Phase.Syncing}
 use Rattle.share_machine.proofs.Stages.{Turn, Turn.Going, Turn.Coming, Turn.Quiet, is_going, is_pending, goes_to, comes_from, count, Stage, Stage.Spreads, Stage.Resting, Stage.Forwards, front, shape, served, IsFront, FitsSpread, Behind, brings, Leads}
 use Rattle.share_machine.proofs.Lists.{count-put, count-zero, pending-put}
 use Rattle.share_machine.proofs.Setting.{links, orders, front_same, stays}
@@ -254,7 +254,7 @@ module _ {R : Type 0} (f : Frame R) where
     longer = λ k _. front_same (front f (Spreads first d e b c at o left q (p ∷ v)) k);
   }
 
-  pub spreads : (first : Bool) (d : List Ran) (e : List ℕ) (b : ℕ → List Ran) (c : Option R) (at : ℕ → Turn) (o : List ℕ) (left : ℕ) (q v : List ℕ) (h : FitsSpread f (d ++ served f e) b c at o left) (m : Move) → Leads f (Spreads first d e b c at o left q v) (moved f (shape f (Spreads first d e b c at o left q v)) m) (brings f m)
+  pub spreads : (first : Bool) (d : List Ran) (e : List ℕ) (b : ℕ → List Ran) (c : Option R) (at : ℕ → Turn) (o : List ℕ) (left : ℕ) (q v : List ℕ) (h : FitsSpread f (d ++ served f e) b c at o left) (m : ShareMachineStep) → Leads f (Spreads first d e b c at o left q v) (moved f (shape f (Spreads first d e b c at o left q v)) m) (brings f m)
   spreads first d e b c at o left q v h (Arrive p) = arrive first d e b c at o left q v h p
   spreads first d e b c at o left q v h (Take_to j) = taken_to d e b c at o left q v h first j
   spreads first d e b c at o left q v h (Take_back j) = taken_back d e b c at o left q v h first j

@@ -2,7 +2,7 @@
 -- what was processed and seen, what arrived, and where the packets wait (`path`).
 use Rattle.std.proofs.Common.{◌≡◌, ℕ, ◌+◌, ◌<◌, Bool, true, false, not, Option, List, [], ◌∷◌, ◌++◌, map, length, ◌⊎◌}
 use Rattle.std.specs.Prelude.{if◌then◌else◌, ◌&&◌, ◌==◌}
-use Rattle.share_machine.proofs.Share.{Ran, Item, Item.Carry, Item.Fence, Item.Shared, Item.Diverted, Item.Install, Item.Forward, Item.Get, Item.Sync, Item.Fenced, Item.Chunks, Item.Chunk, Item.Synced, Frame, Phase, Phase.Fencing, Phase.Getting, Phase.Setting, Phase.Idle, Phase.Out, Phase.Syncing, View, Move, Move.Arrive, has, if_mine, mine_in, after, chunk_of, over, only, nowhere}
+use Rattle.share_machine.proofs.Share.{Ran, Item, Item.Carry, Item.Fence, Item.Shared, Item.Diverted, Item.Install, Item.Forward, Item.Get, Item.Sync, Item.Fenced, Item.Chunks, Item.Chunk, Item.Synced, Frame, Phase, Phase.Fencing, Phase.Getting, Phase.Setting, Phase.Idle, Phase.Out, Phase.Syncing, View, ShareMachineStep, ShareMachineStep.Arrive, has, if_mine, mine_in, after, chunk_of, over, only, nowhere}
 
 -- where a member is with a Sync: it is on its way, the answer is, or neither
 pub data Turn : Type 0 where
@@ -210,7 +210,7 @@ pub record Alike {R : Type 0} (f : Frame R) (x y : View R) : Type 0 where
   pub done : x.done ≡ y.done
 
 -- the unit's packets that a move brings
-abbrev pub brings : {R : Type 0} → Frame R → Move → List ℕ
+abbrev pub brings : {R : Type 0} → Frame R → ShareMachineStep → List ℕ
 brings f (Arrive p) = if_mine f p
 brings f m = []
 

@@ -130,7 +130,7 @@ chunk_fault Body = fault.Body
 chunk_fault NoMemory = fault.NoMemory
 
 -- what a call gave is what reading gives; out of memory is free
-abbrev pub Gives : {X Y : Type 0} → (X → Y) → Result X ChunkFault → Read Y → Type 0
-Gives view (Ok x) read = read ≡ Ok (view x)
-Gives view (Err fault.NoMemory) read = Unit {0}
-Gives view (Err e) read = read ≡ Err e
+abbrev pub DecodesTo : {X Y : Type 0} → (X → Y) → Result X ChunkFault → Read Y → Type 0
+DecodesTo view (Ok x) read = read ≡ Ok (view x)
+DecodesTo view (Err fault.NoMemory) read = Unit {0}
+DecodesTo view (Err e) read = read ≡ Err e

@@ -1,7 +1,7 @@
 //! The first three bytes of a chunk, and its body.
 ghost use Rattle.std.specs.Prelude.{◌≡◌};
 ghost use Rattle.state_chunk.specs.Format.{kind_number, scope_number, version_number, record_scope};
-ghost use Rattle.state_chunk.specs.Reading.{header_of, body_in, may_have, Gives};
+ghost use Rattle.state_chunk.specs.Reading.{header_of, body_in, may_have, DecodesTo};
 
 use crate::fault::ChunkFault;
 use nf_function::stored::{first_byte, first_u16};
@@ -61,7 +61,7 @@ pub fn header_of(
     is_timed: bool,
     bytes: &[u8],
 ) -> Result<(u8, &[u8]), ChunkFault>
-    ensures { Gives (λ x. (x.0, x.1.now)) result (header_of kind scope is_timed bytes.now) }
+    ensures { DecodesTo (λ x. (x.0, x.1.now)) result (header_of kind scope is_timed bytes.now) }
 {
     let (version, rest) = first_byte(bytes).ok_or(ChunkFault::Short)?;
     if version != PLAIN && version != TIMED {
@@ -88,7 +88,7 @@ fn may_have(version: u8, is_timed: bool) -> bool
 /// The body of a chunk, where its length stands first, and the bytes after it.
 #[tactic(auto, unfolding(crate::specs::Reading::body_in))]
 pub fn body_in(bytes: &[u8]) -> Result<(&[u8], &[u8]), ChunkFault>
-    ensures { Gives (λ x. (x.0.now, x.1.now)) result (body_in bytes.now) }
+    ensures { DecodesTo (λ x. (x.0.now, x.1.now)) result (body_in bytes.now) }
 {
     let (length, rest) = first_u16(bytes).ok_or(ChunkFault::Short)?;
     let length = usize::from(length);

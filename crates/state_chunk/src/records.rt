@@ -1,6 +1,6 @@
 ghost use Rattle.std.specs.Prelude.{◌≡◌, ◌<◌, true, Some, Ok, length, slice_get, IfOk};
 ghost use Rattle.state_chunk.specs.Format.{record_chunk, record_bytes, version_number, IsRecordOf};
-ghost use Rattle.state_chunk.specs.Reading.{record_read, record_of_version, Gives};
+ghost use Rattle.state_chunk.specs.Reading.{record_read, record_of_version, DecodesTo};
 
 use crate::fault::ChunkFault;
 use crate::front::{LONGEST_FRONT, push_front};
@@ -52,7 +52,7 @@ fn record_bytes<F: Function>(
 /// The unit and the record of a chunk, or the fault of its first part from the front that is missing or wrong.
 #[inline(always)]
 pub fn decode<F: Function>(alloc: Global, bytes: &[u8]) -> Result<(Unit, F::Record), ChunkFault>
-    ensures value { Gives (λ x. x) result (record_read F.semantics bytes.now) }
+    ensures value { DecodesTo (λ x. x) result (record_read F.semantics bytes.now) }
 
     // What is read is valid, and has no other spelling.
     ensures record { IfOk result (λ x. IsRecordOf F.semantics bytes.now x.0 x.1) }
@@ -64,7 +64,7 @@ pub fn decode<F: Function>(alloc: Global, bytes: &[u8]) -> Result<(Unit, F::Reco
 #[inline(always)]
 #[tactic(auto, unfolding(crate::specs::Reading::record_read))]
 fn decoded<F: Function>(alloc: Global, bytes: &[u8]) -> Result<(Unit, F::Record), ChunkFault>
-    ensures { Gives (λ x. x) result (record_read F.semantics bytes.now) }
+    ensures { DecodesTo (λ x. x) result (record_read F.semantics bytes.now) }
 {
     let kind = F::which();
     let (version, rest) = header_of(kind, record_scope(kind), kind.has_times(), bytes)?;
@@ -88,7 +88,7 @@ fn record_of_version<F: Function>(
     unit: &Unit,
     body: &[u8],
 ) -> Result<F::Record, ChunkFault>
-    ensures { Gives (λ x. x) result (record_of_version F.semantics version (F.semantics.record_in unit.now body.now)) }
+    ensures { DecodesTo (λ x. x) result (record_of_version F.semantics version (F.semantics.record_in unit.now body.now)) }
 {
     let record = F::read_record(alloc, unit, body)?;
     if version_number(F::is_timed(&record)) != version {

@@ -2,7 +2,7 @@ ghost use Rattle.std.specs.Prelude.{◌≡◌, ◌++◌, Ok, length, OnOk, IfOk}
 ghost use Rattle.std.specs.List.{flat_map};
 ghost use Rattle.nf_function.specs.Stored.{number_bytes};
 ghost use Rattle.state_chunk.specs.Format.{tally_chunk, tally_bytes, IsTally};
-ghost use Rattle.state_chunk.specs.Reading.{tally_read, numbers_in, slots_of, Gives};
+ghost use Rattle.state_chunk.specs.Reading.{tally_read, numbers_in, slots_of, DecodesTo};
 
 use crate::fault::ChunkFault;
 use crate::header::{PLAIN, body_in, header_of, kind_number, scope_number};
@@ -55,7 +55,7 @@ fn push_slots(bytes: &mut Bytes, slots: &[u64; 16]) -> Result<(), NoMemory>
 
 /// The tally of a chunk, or the fault of its first part from the front that is missing or wrong.
 pub fn decode_tally(kind: Kind, bytes: &[u8]) -> Result<Tally, ChunkFault>
-    ensures value { Gives (λ tally. tally.slots) result (tally_read kind bytes.now) }
+    ensures value { DecodesTo (λ tally. tally.slots) result (tally_read kind bytes.now) }
 
     // What is read has no other spelling.
     ensures spelled { IfOk result (λ tally. bytes.now ≡ tally_bytes kind tally.slots) }
@@ -66,7 +66,7 @@ pub fn decode_tally(kind: Kind, bytes: &[u8]) -> Result<Tally, ChunkFault>
 /// The same, part by part.
 #[tactic(auto, unfolding(crate::specs::Reading::tally_read))]
 fn decoded_tally(kind: Kind, bytes: &[u8]) -> Result<Tally, ChunkFault>
-    ensures value { Gives (λ tally. tally.slots) result (tally_read kind bytes.now) }
+    ensures value { DecodesTo (λ tally. tally.slots) result (tally_read kind bytes.now) }
     ensures slots { IfOk result (λ tally. length tally.slots ≡ 16) }
 {
     let (_, rest) = header_of(kind, Scope::AllFlows, false, bytes)?;
@@ -80,7 +80,7 @@ fn decoded_tally(kind: Kind, bytes: &[u8]) -> Result<Tally, ChunkFault>
 
 /// The tally that a body spells.
 fn tally_in(body: &[u8]) -> Result<Tally, ChunkFault>
-    ensures value { Gives (λ tally. tally.slots) result (slots_of (numbers_in 16 body.now)) }
+    ensures value { DecodesTo (λ tally. tally.slots) result (slots_of (numbers_in 16 body.now)) }
     ensures slots { IfOk result (λ tally. length tally.slots ≡ 16) }
 {
     if body.len() != usize::from(BODY) {

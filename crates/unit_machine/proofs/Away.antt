@@ -2,7 +2,7 @@
 use Rattle.std.proofs.Common.{◌≡◌, ℕ, Bool, true, false, List, [], ◌∷◌, ◌++◌, map, refl, sym, ap, ◌∙◌, append_assoc, append-nil}
 use Rattle.std.specs.Prelude.{option_to_list}
 use Rattle.std.proofs.lemmas.List.{map-append}
-use Rattle.unit_machine.proofs.Machine.{At_a, At_b, At_c, Ran, Steps, after, Item, Carry, Forward, Fence_to, idle, Phase, Idle, State, Move, Begin, Arrive, Take_sa, Take_sb, Take_sc, Take_ac, Take_bc, Take_ca, Take_cb, Take_cs, moved, begun, switch_does}
+use Rattle.unit_machine.proofs.Machine.{At_a, At_b, At_c, Ran, Steps, after, Item, Carry, Forward, Fence_to, idle, Phase, Idle, State, MachineStep, Begin, Arrive, Take_sa, Take_sb, Take_sc, Take_ac, Take_bc, Take_ca, Take_cb, Take_cs, moved, begun, switch_does}
 use Rattle.unit_machine.proofs.Lists.{firsts, firsts-append, runs-append}
 use Rattle.unit_machine.proofs.Stages.{Stage, shape, all_of, Allowed, Placed, arrived_by}
 use Rattle.unit_machine.proofs.Kept.{lives, on_way}
@@ -14,7 +14,7 @@ abbrev pub away : {R : Type 0} → Steps R → State R → List Ran → List ℕ
 away F u d l = record u { sc = map Carry l; c = idle (after F d); target = At_c; done = d ++ u.done }
 
 -- a move of the message
-abbrev pub of_message : {R : Type 0} → Move R → Bool
+abbrev pub of_message : {R : Type 0} → MachineStep R → Bool
 of_message (Arrive p) = false
 of_message Take_sc = false
 of_message m = true
@@ -32,7 +32,7 @@ switch_away F u d l (Fence_to At_b) = refl
 switch_away F u d l (Fence_to At_c) = refl
 switch_away F u d l x = refl
 
-message_away : {R : Type 0} (F : Steps R) (u : State R) (d : List Ran) (l : List ℕ) (m : Move R) → of_message m ≡ true → moved F (away F u d l) m ≡ away F (moved F u m) d l
+message_away : {R : Type 0} (F : Steps R) (u : State R) (d : List Ran) (l : List ℕ) (m : MachineStep R) → of_message m ≡ true → moved F (away F u d l) m ≡ away F (moved F u m) d l
 message_away F u d l (Begin keep) e = begun_away F u d l keep u.phase
 message_away F u d l (Arrive p) e = cc
 message_away F u d l Take_sc e = cc
@@ -57,20 +57,20 @@ shape_away F s = away F (shape F s.base) s.d s.l
 abbrev pub all_away : {R : Type 0} {F : Steps R} → Away F → List ℕ
 all_away s = firsts s.d ++ s.l
 
-abbrev pub GoesOnAway : {R : Type 0} → (F : Steps R) → Away F → Move R → Type 0
+abbrev pub GoesOnAway : {R : Type 0} → (F : Steps R) → Away F → MachineStep R → Type 0
 GoesOnAway F s m = (t : Away F) × (moved F (shape_away F s) m ≡ shape_away F t) × (all_away t ≡ all_away s ++ arrived_by m) × Placed At_c s.d t.d
 
-message_arrives : {R : Type 0} (m : Move R) → of_message m ≡ true → arrived_by m ≡ []
+message_arrives : {R : Type 0} (m : MachineStep R) → of_message m ≡ true → arrived_by m ≡ []
 message_arrives (Arrive p) e = cc
 message_arrives m e = refl
 
-by_message : {R : Type 0} (F : Steps R) (s : Away F) (m : Move R) → Allowed (shape F s.base) m → of_message m ≡ true → GoesOnAway F s m
+by_message : {R : Type 0} (F : Steps R) (s : Away F) (m : MachineStep R) → Allowed (shape F s.base) m → of_message m ≡ true → GoesOnAway F s m
 by_message F s m a is =
     let g = goes_on F s.base m a in
     let none = message_arrives m is in
     (record { base = g.0; bare = stays_bare F s.base m a s.bare none; d = s.d; l = s.l }, message_away F (shape F s.base) s.d s.l m is ∙ ap (λ z. away F z s.d s.l) g.1, rw none (sym (append-nil (all_away s))), still At_c s.d)
 
-pub away_goes_on : {R : Type 0} (F : Steps R) (s : Away F) (m : Move R) → Allowed (shape F s.base) m → GoesOnAway F s m
+pub away_goes_on : {R : Type 0} (F : Steps R) (s : Away F) (m : MachineStep R) → Allowed (shape F s.base) m → GoesOnAway F s m
 away_goes_on F s (Arrive p) a = (record { base = s.base; bare = s.bare; d = s.d; l = s.l ++ p ∷ [] }, simp map-append, sym (append_assoc (firsts s.d) s.l (p ∷ [])), still At_c s.d)
 away_goes_on F s Take_sc a =
     let none = (bare_facts F s.base s.bare).done in

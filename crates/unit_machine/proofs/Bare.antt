@@ -2,7 +2,7 @@
 use Rattle.std.proofs.Common.{◌≡◌, ℕ, ◌+◌, Bool, true, false, Option, Some, None, List, [], ◌∷◌, ◌++◌, map, refl, ap, ◌∙◌, arith}
 use Rattle.std.specs.Prelude.{if◌then◌else◌, ◌==◌, option_to_list}
 use Rattle.std.proofs.lemmas.Bool.Decides.{Decides-eqb}
-use Rattle.unit_machine.proofs.Machine.{Ran, Steps, after, Part, Rule, Free, Drops, Buffers, Item, Carry, Pass, Fence, Enable, Put, next, State, Move}
+use Rattle.unit_machine.proofs.Machine.{Ran, Steps, after, Part, Rule, Free, Drops, Buffers, Item, Carry, Pass, Fence, Enable, Put, next, State, MachineStep}
 use Rattle.unit_machine.proofs.Lists.{firsts, marked}
 use Rattle.unit_machine.proofs.Fits.{nil_left, nil_right}
 use Rattle.unit_machine.proofs.Stages.{Stage, At_rest, Streams, Is_wide, shape, path, all_of, loose, times, Same, Order, Allowed, arrived_by}
@@ -100,7 +100,7 @@ order_nil true xs ys o e = same_nil xs (λ p. o p ∙ ap (λ z. times p z) e)
 order_nil false xs ys o e = o ∙ e
 
 -- a step with no packet leaves none
-pub stays_bare : {R : Type 0} (F : Steps R) (s : Stage F) (m : Move R) (a : Allowed (shape F s) m) → all_of s ≡ [] → arrived_by m ≡ [] → all_of (goes_on F s m a).0 ≡ []
+pub stays_bare : {R : Type 0} (F : Steps R) (s : Stage F) (m : MachineStep R) (a : Allowed (shape F s) m) → all_of s ≡ [] → arrived_by m ≡ [] → all_of (goes_on F s m a).0 ≡ []
 stays_bare F s m a bare none =
     let g = goes_on F s m a in
     order_nil (loose g.0) (all_of g.0) (all_of s ++ arrived_by m) g.2 (rw (bare, none) refl)

@@ -3,7 +3,7 @@
 use Rattle.std.proofs.Common.{◌≡◌, ℕ, Bool, true, false, Option, Some, None, List, [], ◌∷◌, ◌++◌, map, refl, sym, ap, ◌∙◌, append_assoc, append-nil}
 use Rattle.std.specs.Prelude.{option_to_list}
 use Rattle.nf_msgs.specs.declared.answer.Answer.{Answer}
-use Rattle.unit_machine.proofs.Machine.{At_a, At_b, At_c, Ran, on, Steps, after, Part, Free, Drops, Buffers, Item, Carry, Pass, Fence, Enable, Put, Forward, Fence_to, Phase, Idle, State, Move, Begin, Arrive, Take_sa, Take_sb, Take_sc, Take_ac, Take_bc, Take_ca, Take_cb, Take_cs, moved, begun, put, put_b, switch_does}
+use Rattle.unit_machine.proofs.Machine.{At_a, At_b, At_c, Ran, on, Steps, after, Part, Free, Drops, Buffers, Item, Carry, Pass, Fence, Enable, Put, Forward, Fence_to, Phase, Idle, State, MachineStep, Begin, Arrive, Take_sa, Take_sb, Take_sc, Take_ac, Take_bc, Take_ca, Take_cb, Take_cs, moved, begun, put, put_b, switch_does}
 use Rattle.unit_machine.proofs.Lists.{firsts, firsts-append, firsts-on, runs-append}
 use Rattle.unit_machine.proofs.Stages.{Stage, At_rest, shape, all_of, Allowed, Placed, arrived_by}
 use Rattle.unit_machine.proofs.Path.{carries, carries-append}
@@ -31,7 +31,7 @@ begun_beside F u z h d keep Idle = refl
 begun_beside F u z h d keep p = refl
 
 -- moves that touch neither B nor its link
-abbrev pub apart : {R : Type 0} → Move R → Bool
+abbrev pub apart : {R : Type 0} → MachineStep R → Bool
 apart (Begin keep) = true
 apart Take_sa = true
 apart Take_sc = true
@@ -40,7 +40,7 @@ apart Take_bc = true
 apart (Take_ca parts) = true
 apart m = false
 
-message_beside : {R : Type 0} (F : Steps R) (u : State R) (z : List (Item R)) (h : List ℕ) (d : List Ran) (m : Move R) → apart m ≡ true → moved F (beside F u z h d) m ≡ beside F (moved F u m) z h d
+message_beside : {R : Type 0} (F : Steps R) (u : State R) (z : List (Item R)) (h : List ℕ) (d : List Ran) (m : MachineStep R) → apart m ≡ true → moved F (beside F u z h d) m ≡ beside F (moved F u m) z h d
 message_beside F u z h d (Begin keep) e = begun_beside F u z h d keep u.phase
 message_beside F u z h d Take_sa e = elim u.sa as (λ xs. moved F (beside F (record u { sa = xs }) z h d) Take_sa ≡ beside F (moved F (record u { sa = xs }) Take_sa) z h d) [ [] ↦ refl | x ∷ xs ↦ simp append_assoc ]
 message_beside F u z h d Take_sc e = elim u.sc as (λ xs. moved F (beside F (record u { sc = xs }) z h d) Take_sc ≡ beside F (moved F (record u { sc = xs }) Take_sc) z h d) [ [] ↦ refl | x ∷ xs ↦ simp append_assoc ]
@@ -109,18 +109,18 @@ shape_beside F s = beside F (shape F s.base) s.z s.h s.d
 abbrev pub all_beside : {R : Type 0} {F : Steps R} → Beside F → List ℕ
 all_beside s = firsts s.d ++ (s.h ++ carries s.z)
 
-abbrev pub GoesOnBeside : {R : Type 0} → (F : Steps R) → Beside F → Move R → Type 0
+abbrev pub GoesOnBeside : {R : Type 0} → (F : Steps R) → Beside F → MachineStep R → Type 0
 GoesOnBeside F s m = (t : Beside F) × (moved F (shape_beside F s) m ≡ shape_beside F t) × (all_beside t ≡ all_beside s ++ arrived_by m) × Placed At_b s.d t.d
 
 begun_sb : {R : Type 0} (u : State R) (keep : Bool) (p : Phase R) → ((begun keep p u).sb ≡ u.sb) × ((begun keep p u).b ≡ u.b)
 begun_sb u keep Idle = (refl, refl)
 begun_sb u keep p = (refl, refl)
 
-apart_none : {R : Type 0} (m : Move R) → apart m ≡ true → arrived_by m ≡ []
+apart_none : {R : Type 0} (m : MachineStep R) → apart m ≡ true → arrived_by m ≡ []
 apart_none (Arrive p) e = cc
 apart_none m e = refl
 
-apart_sb : {R : Type 0} (F : Steps R) (u : State R) (m : Move R) → apart m ≡ true → ((moved F u m).sb ≡ u.sb) × ((moved F u m).b ≡ u.b)
+apart_sb : {R : Type 0} (F : Steps R) (u : State R) (m : MachineStep R) → apart m ≡ true → ((moved F u m).sb ≡ u.sb) × ((moved F u m).b ≡ u.b)
 apart_sb F u (Begin keep) e = begun_sb u keep u.phase
 apart_sb F u Take_sa e = elim u.sa as (λ xs. ((moved F (record u { sa = xs }) Take_sa).sb ≡ u.sb) × ((moved F (record u { sa = xs }) Take_sa).b ≡ u.b)) [ [] ↦ (refl, refl) | x ∷ xs ↦ (refl, refl) ]
 apart_sb F u Take_sc e = elim u.sc as (λ xs. ((moved F (record u { sc = xs }) Take_sc).sb ≡ u.sb) × ((moved F (record u { sc = xs }) Take_sc).b ≡ u.b)) [ [] ↦ (refl, refl) | x ∷ xs ↦ (refl, refl) ]
@@ -129,7 +129,7 @@ apart_sb F u Take_bc e = elim u.bc as (λ xs. ((moved F (record u { bc = xs }) T
 apart_sb F u (Take_ca parts) e = elim u.ca as (λ xs. ((moved F (record u { ca = xs }) (Take_ca parts)).sb ≡ u.sb) × ((moved F (record u { ca = xs }) (Take_ca parts)).b ≡ u.b)) [ [] ↦ (refl, refl) | x ∷ xs ↦ (refl, refl) ]
 apart_sb F u m e = cc
 
-by_message : {R : Type 0} (F : Steps R) (s : Beside F) (m : Move R) → Allowed (shape F s.base) m → apart m ≡ true → GoesOnBeside F s m
+by_message : {R : Type 0} (F : Steps R) (s : Beside F) (m : MachineStep R) → Allowed (shape F s.base) m → apart m ≡ true → GoesOnBeside F s m
 by_message F s m a is =
     let u = shape F s.base in
     let g = goes_on F s.base m a in
@@ -219,7 +219,7 @@ by_link F s (Carry p ∷ z) e = takes_packet F s p z e
 by_link F s (Fence ∷ z) e = takes_fence F s z e
 by_link F s (x ∷ z) e = absurd (false_true (strange (shape F s.base).sb (strip (x ∷ z)) (rw e at s.strips) (bare_facts F s.base s.bare).sb_is))
 
-pub beside_goes_on : {R : Type 0} (F : Steps R) (s : Beside F) (m : Move R) → Allowed (shape F s.base) m → GoesOnBeside F s m
+pub beside_goes_on : {R : Type 0} (F : Steps R) (s : Beside F) (m : MachineStep R) → Allowed (shape F s.base) m → GoesOnBeside F s m
 beside_goes_on F s (Arrive p) a =
     (record { base = s.base; bare = s.bare; z = s.z ++ Carry p ∷ []; h = s.h; d = s.d; strips = strip-append s.z (Carry p ∷ []) ∙ append-nil (strip s.z) ∙ s.strips; free = s.free }, refl, simp (carries-append, append_assoc), still At_b s.d)
 beside_goes_on F s Take_sb a = by_link F s s.z refl

@@ -3,7 +3,7 @@
 use Rattle.std.proofs.Common.{◌≡◌, ℕ, Bool, true, false, Option, Some, None, List, [], ◌∷◌, ◌++◌, refl, sym, ap, ◌∙◌, append_assoc, append-nil}
 use Rattle.std.specs.Prelude.{◌&&◌}
 use Rattle.nf_msgs.specs.declared.answer.Answer.{Answer}
-use Rattle.unit_machine.proofs.Machine.{At_a, Ran, Steps, after, joined, Part, pick, or_own, is_nil, Move, Arrive, Take_sa, Take_ac, Take_bc, Take_ca, Take_cb}
+use Rattle.unit_machine.proofs.Machine.{At_a, Ran, Steps, after, joined, Part, pick, or_own, is_nil, MachineStep, Arrive, Take_sa, Take_ac, Take_bc, Take_ca, Take_cb}
 use Rattle.unit_machine.proofs.Lists.{Mix, Ev, Pc, Dd, events, pieces, named, shown-events}
 use Rattle.unit_machine.proofs.Fits.{Fits, refit, pick_all, pick-append, pick_one, others, last_is, none_behind, nil_left, nil_right}
 use Rattle.unit_machine.proofs.Stages.{Streams, All_put, Hold_goes, Laying, Restore_goes, Doorway, Is_shut, Is_asked, Is_agreed, Is_denied, Is_wide, Is_refused, Flows, body, GoesOn}
@@ -149,7 +149,7 @@ module _ {R : Type 0} (F : Steps R) (d : List Ran) (f : List ℕ) (y : List (Mix
   answered (Is_denied h v why) w = denied h v why w
   answered s w = (Streams d f y q l k s w, first_of (simp shapes, cc), first_of (simp paths, cc), still At_a d)
 
-pub streams : {R : Type 0} (F : Steps R) (d : List Ran) (f : List ℕ) (y : List (Mix R)) (q : List (Part R)) (l : List ℕ) (k : Bool) (s : Doorway R) (w : Flows F d s (body y q)) (m : Move R) → GoesOn F (Streams d f y q l k s w) m
+pub streams : {R : Type 0} (F : Steps R) (d : List Ran) (f : List ℕ) (y : List (Mix R)) (q : List (Part R)) (l : List ℕ) (k : Bool) (s : Doorway R) (w : Flows F d s (body y q)) (m : MachineStep R) → GoesOn F (Streams d f y q l k s w) m
 streams F d f y q l k s w (Arrive p) = arrives F d f y q l k s w p
 streams F d f y q l k s w Take_sa = drops_on F d f y q l k s w
 streams F d f y q l k s w (Take_ca parts) = deletes F d f y q l k s w parts

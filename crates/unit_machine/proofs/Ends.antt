@@ -2,7 +2,7 @@
 use Rattle.std.proofs.Common.{◌≡◌, ◌≢◌, ℕ, ◌+◌, Bool, true, false, Option, None, List, [], ◌∷◌, ◌++◌, map, refl, sym, ap, ◌∙◌, subst, append_assoc, append-nil}
 use Rattle.std.proofs.lemmas.List.{map-append}
 use Rattle.nf_msgs.specs.declared.answer.Answer.{Answer}
-use Rattle.unit_machine.proofs.Machine.{Where, At_a, At_b, At_c, Ran, on, Steps, Part, Item, Pass, Fence, Enabled, Event, Piece, Deleted, Put_ok, Put_no, Restored, Fenced, Forward, Fence_to, Phase, Idle, Freezing, Streaming, Holding, Passing, Ending, Restoring, Returning, Undoing, Over, State, Move, Begin, Arrive, Take_sa, Take_sb, Take_sc, Take_ac, Take_bc, Take_ca, Take_cb, Take_cs, moved, begun, from_a, from_b, on_event, a_enabled, on_piece, on_deleted, on_restored, a_fenced, on_put_ok, on_put_no, b_enabled, b_fenced, switch_does, send_side}
+use Rattle.unit_machine.proofs.Machine.{Where, At_a, At_b, At_c, Ran, on, Steps, Part, Item, Pass, Fence, Enabled, Event, Piece, Deleted, Put_ok, Put_no, Restored, Fenced, Forward, Fence_to, Phase, Idle, Freezing, Streaming, Holding, Passing, Ending, Restoring, Returning, Undoing, Over, State, MachineStep, Begin, Arrive, Take_sa, Take_sb, Take_sc, Take_ac, Take_bc, Take_ca, Take_cb, Take_cs, moved, begun, from_a, from_b, on_event, a_enabled, on_piece, on_deleted, on_restored, a_fenced, on_put_ok, on_put_no, b_enabled, b_fenced, switch_does, send_side}
 use Rattle.unit_machine.proofs.Stages.{Stage, At_rest, shape, processed, all_of, loose, side_of, times, Same, Order, Placed, Allowed, arrived_by}
 use Rattle.unit_machine.proofs.Late.{same_lists}
 use Rattle.unit_machine.proofs.Loose.{times-append}
@@ -100,7 +100,7 @@ arrive_phase F At_a u p e = rw e refl
 arrive_phase F At_b u p e = rw e refl
 arrive_phase F At_c u p e = rw e refl
 
-pub moved_side : {R : Type 0} (F : Steps R) (u : State R) (m : Move R) → by_phase u.phase ≡ At_b → by_phase (moved F u m).phase ≡ At_b
+pub moved_side : {R : Type 0} (F : Steps R) (u : State R) (m : MachineStep R) → by_phase u.phase ≡ At_b → by_phase (moved F u m).phase ≡ At_b
 moved_side F u (Begin keep) e = begun_side keep u.phase u refl e
 moved_side F u (Arrive p) e = ap by_phase (arrive_phase F u.target u p refl) ∙ e
 moved_side F u Take_sa e = elim u.sa as (λ xs. by_phase (moved F (record u { sa = xs }) Take_sa).phase ≡ At_b) [ [] ↦ e | x ∷ xs ↦ e ]
@@ -113,15 +113,15 @@ moved_side F u Take_bc e = elim u.bc as (λ xs. by_phase (moved F (record u { bc
 moved_side F u Take_cs e = elim u.cs as (λ xs. by_phase (moved F (record u { cs = xs }) Take_cs).phase ≡ At_b) [ [] ↦ e | x ∷ xs ↦ ap by_phase (switch_phase (record u { cs = xs }) x) ∙ e ]
 
 -- a run of the machine
-abbrev pub run : {R : Type 0} → Steps R → State R → List (Move R) → State R
+abbrev pub run : {R : Type 0} → Steps R → State R → List (MachineStep R) → State R
 run F u [] = u
 run F u (m ∷ ms) = run F (moved F u m) ms
 
-abbrev pub AllAllowed : {R : Type 0} → Steps R → State R → List (Move R) → Type 0
+abbrev pub AllAllowed : {R : Type 0} → Steps R → State R → List (MachineStep R) → Type 0
 AllAllowed F u [] = Unit {0}
 AllAllowed F u (m ∷ ms) = Allowed u m × AllAllowed F (moved F u m) ms
 
-abbrev pub arrived : {R : Type 0} → List (Move R) → List ℕ
+abbrev pub arrived : {R : Type 0} → List (MachineStep R) → List ℕ
 arrived [] = []
 arrived (m ∷ ms) = arrived_by m ++ arrived ms
 
@@ -133,7 +133,7 @@ same_of false xs ys o = same_lists o
 abbrev pub AtSource : {R : Type 0} {F : Steps R} → Stage F → Stage F → Type 0
 AtSource s t = side_of t ≡ At_a → (side_of s ≡ At_a) × Placed At_a (processed s) (processed t)
 
-abbrev pub RunsOn : {R : Type 0} → (F : Steps R) → Stage F → List (Move R) → Type 0
+abbrev pub RunsOn : {R : Type 0} → (F : Steps R) → Stage F → List (MachineStep R) → Type 0
 RunsOn F s ms = (t : Stage F) × (run F (shape F s) ms ≡ shape F t) × Same (all_of t) (all_of s ++ arrived ms) × AtSource s t
 
 not_b : (w : Where) → w ≢ At_c → (w ≡ At_b → ⊥) → w ≡ At_a
@@ -148,14 +148,14 @@ side_ab s e = cc
 both_sides : At_a ≡ At_b → ⊥
 both_sides e = cc
 
-pub side_back : {R : Type 0} (F : Steps R) (s : Stage F) (m : Move R) (t : Stage F) → moved F (shape F s) m ≡ shape F t → side_of t ≡ At_a → side_of s ≡ At_a
+pub side_back : {R : Type 0} (F : Steps R) (s : Stage F) (m : MachineStep R) (t : Stage F) → moved F (shape F s) m ≡ shape F t → side_of t ≡ At_a → side_of s ≡ At_a
 side_back F s m t is e = not_b (side_of s) (side_ab s)
     (λ b. both_sides (sym e ∙ side_is F t ∙ ap (λ v. by_phase v.phase) (sym is) ∙ moved_side F (shape F s) m (sym (side_is F s) ∙ b)))
 
 placed_both : (w : Where) (a b c : List Ran) → Placed w a b → Placed w b c → Placed w a c
 placed_both w a b c p q = (p.0 ++ q.0, q.1 ∙ ap (λ z. z ++ map (on w) q.0) p.1 ∙ append_assoc a (map (on w) p.0) (map (on w) q.0) ∙ ap (λ z. a ++ z) (sym (map-append (on w) p.0 q.0)))
 
-pub runs_on : {R : Type 0} (F : Steps R) (ms : List (Move R)) (s : Stage F) → AllAllowed F (shape F s) ms → RunsOn F s ms
+pub runs_on : {R : Type 0} (F : Steps R) (ms : List (MachineStep R)) (s : Stage F) → AllAllowed F (shape F s) ms → RunsOn F s ms
 runs_on F [] s a = (s, refl, same_lists (sym (append-nil (all_of s))), λ e. (e, ([], sym (append-nil (processed s)))))
 runs_on F (m ∷ ms) s a =
     let g = goes_on F s m a.0 in

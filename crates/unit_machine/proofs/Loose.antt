@@ -1,6 +1,6 @@
 -- Each step of a move without a buffer at B, after its Install, leads to a stage, with the same packets in whatever order.
 use Rattle.std.proofs.Common.{◌≡◌, ℕ, Bool, true, false, List, [], ◌∷◌, ◌++◌, append_assoc, append-nil}
-use Rattle.unit_machine.proofs.Machine.{At_b, Ran, Steps, Move, Arrive, Take_sa, Take_sb, Take_ac, Take_cs}
+use Rattle.unit_machine.proofs.Machine.{At_b, Ran, Steps, MachineStep, Arrive, Take_sa, Take_sb, Take_ac, Take_cs}
 use Rattle.std.proofs.Common.{◌+◌, arith}
 use Rattle.unit_machine.proofs.Lists.{firsts-append, passing, plain, plains, passes-append, plains-append}
 use Rattle.unit_machine.proofs.Stages.{Turned_loose, Fenced_loose, Ending_loose, Fence_loose, Fenced_b, GoesOn, times}
@@ -13,7 +13,7 @@ times-append n (x ∷ xs) ys = let e = times-append n xs ys in omega arith
 
 ruleset counts = (times-append, firsts-append, passes-append, plains-append, append_assoc, append-nil)
 
-pub turned_loose : {R : Type 0} (F : Steps R) (d : List Ran) (x : List (Bool × ℕ)) (f e l : List ℕ) (m : Move R) → GoesOn F (Turned_loose d x f e l) m
+pub turned_loose : {R : Type 0} (F : Steps R) (d : List Ran) (x : List (Bool × ℕ)) (f e l : List ℕ) (m : MachineStep R) → GoesOn F (Turned_loose d x f e l) m
 turned_loose F d x f e l (Arrive p) = (Turned_loose d (x ++ plain p ∷ []) f e l, first_of (simp shapes, cc), same_lists (first_of (simp paths, cc)), still At_b d)
 turned_loose F d x f e [] Take_sa = (Fenced_loose d x f e, first_of (simp shapes, cc), same_lists (first_of (simp paths, cc)), still At_b d)
 turned_loose F d x f e (p ∷ l) Take_sa = (Turned_loose d x f (e ++ p ∷ []) l, first_of (simp shapes, cc), same_lists (first_of (simp paths, cc)), still At_b d)
@@ -26,7 +26,7 @@ turned_loose F d x [] e l Take_cs = (Turned_loose d x [] e l, first_of (simp sha
 turned_loose F d x (p ∷ f) e l Take_cs = (Turned_loose d (x ++ passing p ∷ []) f e l, first_of (simp shapes, cc), same_lists (first_of (simp paths, cc)), still At_b d)
 turned_loose F d x f e l m = (Turned_loose d x f e l, first_of (simp shapes, cc), same_lists (first_of (simp paths, cc)), still At_b d)
 
-pub fenced_loose : {R : Type 0} (F : Steps R) (d : List Ran) (x : List (Bool × ℕ)) (f e : List ℕ) (m : Move R) → GoesOn F (Fenced_loose d x f e) m
+pub fenced_loose : {R : Type 0} (F : Steps R) (d : List Ran) (x : List (Bool × ℕ)) (f e : List ℕ) (m : MachineStep R) → GoesOn F (Fenced_loose d x f e) m
 fenced_loose F d x f e (Arrive p) = (Fenced_loose d (x ++ plain p ∷ []) f e, first_of (simp shapes, cc), same_lists (first_of (simp paths, cc)), still At_b d)
 fenced_loose F d x f [] Take_ac = (Ending_loose d x f, first_of (simp shapes, cc), same_lists (first_of (simp paths, cc)), still At_b d)
 fenced_loose F d x f (p ∷ e) Take_ac = (Fenced_loose d x (f ++ p ∷ []) e, first_of (simp shapes, cc), same_lists (first_of (simp paths, cc)), still At_b d)
@@ -37,7 +37,7 @@ fenced_loose F d x [] e Take_cs = (Fenced_loose d x [] e, first_of (simp shapes,
 fenced_loose F d x (p ∷ f) e Take_cs = (Fenced_loose d (x ++ passing p ∷ []) f e, first_of (simp shapes, cc), same_lists (first_of (simp paths, cc)), still At_b d)
 fenced_loose F d x f e m = (Fenced_loose d x f e, first_of (simp shapes, cc), same_lists (first_of (simp paths, cc)), still At_b d)
 
-pub ending_loose : {R : Type 0} (F : Steps R) (d : List Ran) (x : List (Bool × ℕ)) (f : List ℕ) (m : Move R) → GoesOn F (Ending_loose d x f) m
+pub ending_loose : {R : Type 0} (F : Steps R) (d : List Ran) (x : List (Bool × ℕ)) (f : List ℕ) (m : MachineStep R) → GoesOn F (Ending_loose d x f) m
 ending_loose F d x f (Arrive p) = (Ending_loose d (x ++ plain p ∷ []) f, first_of (simp shapes, cc), same_lists (first_of (simp paths, cc)), still At_b d)
 ending_loose F d [] f Take_sb = (Ending_loose d [] f, first_of (simp shapes, cc), same_lists (first_of (simp paths, cc)), still At_b d)
 ending_loose F d ((true, p) ∷ x) f Take_sb = (Ending_loose (d ++ (p, At_b) ∷ []) x f, first_of (simp shapes, cc), same_lists (first_of (simp paths, cc)), one_more At_b d p)
@@ -46,7 +46,7 @@ ending_loose F d x [] Take_cs = (Fence_loose d x [], first_of (simp shapes, cc),
 ending_loose F d x (p ∷ f) Take_cs = (Ending_loose d (x ++ passing p ∷ []) f, first_of (simp shapes, cc), same_lists (first_of (simp paths, cc)), still At_b d)
 ending_loose F d x f m = (Ending_loose d x f, first_of (simp shapes, cc), same_lists (first_of (simp paths, cc)), still At_b d)
 
-pub fence_loose : {R : Type 0} (F : Steps R) (d : List Ran) (x : List (Bool × ℕ)) (n : List ℕ) (m : Move R) → GoesOn F (Fence_loose d x n) m
+pub fence_loose : {R : Type 0} (F : Steps R) (d : List Ran) (x : List (Bool × ℕ)) (n : List ℕ) (m : MachineStep R) → GoesOn F (Fence_loose d x n) m
 fence_loose F d x n (Arrive p) = (Fence_loose d x (n ++ p ∷ []), first_of (simp shapes, cc), same_lists (first_of (simp paths, cc)), still At_b d)
 fence_loose F d [] n Take_sb = (Fenced_b d n false, first_of (simp shapes, cc), first_of (simp paths, cc), still At_b d)
 fence_loose F d ((true, p) ∷ x) n Take_sb = (Fence_loose (d ++ (p, At_b) ∷ []) x n, first_of (simp shapes, cc), same_lists (first_of (simp paths, cc)), one_more At_b d p)

@@ -261,17 +261,17 @@ pub record State (R : Type 0) : Type 0 where
   pub target : Where
   pub done : List Ran
 
-pub data Move (R : Type 0) : Type 0 where
-  Begin : Bool → Move R
-  Arrive : ℕ → Move R
-  Take_sa : Move R
-  Take_sb : Move R
-  Take_sc : Move R
-  Take_ac : Move R
-  Take_bc : Move R
-  Take_ca : List (Part R) → Move R
-  Take_cb : Option Answer → Move R
-  Take_cs : Move R
+pub data MachineStep (R : Type 0) : Type 0 where
+  Begin : Bool → MachineStep R
+  Arrive : ℕ → MachineStep R
+  Take_sa : MachineStep R
+  Take_sb : MachineStep R
+  Take_sc : MachineStep R
+  Take_ac : MachineStep R
+  Take_bc : MachineStep R
+  Take_ca : List (Part R) → MachineStep R
+  Take_cb : Option Answer → MachineStep R
+  Take_cs : MachineStep R
 
 abbrev pub put_a : {R : Type 0} → State R → Did R → State R
 put_a u did = record u { a = did.inst; ac = u.ac ++ did.to_c; done = u.done ++ did.ran }
@@ -311,7 +311,7 @@ abbrev pub begun : {R : Type 0} → Bool → Phase R → State R → State R
 begun keep Idle u = record u { phase = Freezing; keep = keep; ca = u.ca ++ Enable Drops ∷ [] }
 begun keep phase u = u
 
-abbrev pub moved : {R : Type 0} → Steps R → State R → Move R → State R
+abbrev pub moved : {R : Type 0} → Steps R → State R → MachineStep R → State R
 moved F u (Begin keep) = begun keep u.phase u
 moved F u (Arrive p) = send_to u.target u (Carry p)
 moved F u Take_sa = elim u.sa [ [] ↦ u | x ∷ xs ↦ put_a (record u { sa = xs }) (inst_does F At_a [] None u.a x) ]

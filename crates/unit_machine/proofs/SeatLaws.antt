@@ -1,7 +1,7 @@
 -- What every run of the machine keeps from any seat: the record at one place, each packet once, and a bound on the steps.
 use Rattle.std.proofs.Common.{◌≡◌, ◌+◌, ◌≤◌, true, Option, Some, None, List, [], ◌∷◌, ◌++◌, refl, sym, ap, ◌∙◌, subst, append_assoc, append-nil, arith}
 use Rattle.std.specs.Prelude.{option_to_list}
-use Rattle.unit_machine.proofs.Machine.{Steps, after, State, Move, Take_ca, moved}
+use Rattle.unit_machine.proofs.Machine.{Steps, after, State, MachineStep, Take_ca, moved}
 use Rattle.unit_machine.proofs.Fits.{Fits}
 use Rattle.unit_machine.proofs.Stages.{shape, times, Same, Allowed, arrived_by}
 use Rattle.unit_machine.proofs.Loose.{times-append}
@@ -25,15 +25,15 @@ seat_kept F (Is_beside s) = let k = beside_kept F s in rw (k.0, k.1, k.2) (alone
 seat_kept F (Is_away s) = let k = away_kept F s in rw (k.0, k.1, k.2) (alone (after F s.d) (shape_away F s).a.live)
 
 -- what a move needs of the source it needs of the message's stage
-allowed_same : {R : Type 0} (u v : State R) → u.a.live ≡ v.a.live → (m : Move R) → Allowed u m → Allowed v m
+allowed_same : {R : Type 0} (u v : State R) → u.a.live ≡ v.a.live → (m : MachineStep R) → Allowed u m → Allowed v m
 allowed_same u v e (Take_ca parts) a = subst (λ o. Fits parts o) e a
 allowed_same u v e m a = tt
 
-seat_allows : {R : Type 0} (F : Steps R) (s : Seat F) (m : Move R) → Allowed (seat_shape F s) m → Allowed (shape F (base_of s)) m
+seat_allows : {R : Type 0} (F : Steps R) (s : Seat F) (m : MachineStep R) → Allowed (seat_shape F s) m → Allowed (shape F (base_of s)) m
 seat_allows F s m a = allowed_same (seat_shape F s) (shape F (base_of s)) (seat_allowed F s) m a
 
 -- each packet once
-pub seat_runs_on : {R : Type 0} (F : Steps R) (ms : List (Move R)) (s : Seat F) → AllAllowed F (seat_shape F s) ms → (t : Seat F) × (run F (seat_shape F s) ms ≡ seat_shape F t) × Same (seat_all t) (seat_all s ++ arrived ms)
+pub seat_runs_on : {R : Type 0} (F : Steps R) (ms : List (MachineStep R)) (s : Seat F) → AllAllowed F (seat_shape F s) ms → (t : Seat F) × (run F (seat_shape F s) ms ≡ seat_shape F t) × Same (seat_all t) (seat_all s ++ arrived ms)
 seat_runs_on F [] s a = (s, refl, same_lists (sym (append-nil (seat_all s))))
 seat_runs_on F (m ∷ ms) s a =
     let g = seat_goes_on F s m (seat_allows F s m a.0) in
@@ -52,7 +52,7 @@ seat_answers F (Is_beside s) = answers_are F s.base
 seat_answers F (Is_away s) = answers_are F s.base
 
 -- and no run is longer than what was added: 4 a packet, 13 a move, 4 a piece
-pub seat_length : {R : Type 0} (F : Steps R) (ms : List (Move R)) (s : Seat F) → AllAllowed F (seat_shape F s) ms → AllTake F (seat_shape F s) ms → total (run F (seat_shape F s) ms) + all_takes ms ≤ total (seat_shape F s) + all_adds F (seat_shape F s) ms
+pub seat_length : {R : Type 0} (F : Steps R) (ms : List (MachineStep R)) (s : Seat F) → AllAllowed F (seat_shape F s) ms → AllTake F (seat_shape F s) ms → total (run F (seat_shape F s) ms) + all_takes ms ≤ total (seat_shape F s) + all_adds F (seat_shape F s) ms
 seat_length F [] s a t = omega arith
 seat_length F (m ∷ ms) s a t =
     let g = seat_goes_on F s m (seat_allows F s m a.0) in

@@ -1,7 +1,7 @@
 -- Seats: a unit that the move covers, one that its destination owns already, one of a third instance. Each step leads from a seat to
 -- a seat, and without a message the move is over.
 use Rattle.std.proofs.Common.{◌≡◌, ℕ, ◌+◌, Bool, true, false, List, [], ◌∷◌, ◌++◌, refl, sym, ap, ◌∙◌, arith}
-use Rattle.unit_machine.proofs.Machine.{Where, At_b, At_c, Ran, Steps, Free, Item, Carry, State, Move, moved}
+use Rattle.unit_machine.proofs.Machine.{Where, At_b, At_c, Ran, Steps, Free, Item, Carry, State, MachineStep, moved}
 use Rattle.unit_machine.proofs.Stages.{Stage, At_rest, shape, path, processed, all_of, loose, side_of, Order, Placed, Allowed, arrived_by}
 use Rattle.unit_machine.proofs.Steps.{goes_on}
 use Rattle.unit_machine.proofs.Away.{Away, shape_away, all_away, away_goes_on}
@@ -53,7 +53,7 @@ base_of (Covered s) = s
 base_of (Is_beside s) = s.base
 base_of (Is_away s) = s.base
 
-abbrev pub SeatGoesOn : {R : Type 0} → (F : Steps R) → Seat F → Move R → Type 0
+abbrev pub SeatGoesOn : {R : Type 0} → (F : Steps R) → Seat F → MachineStep R → Type 0
 SeatGoesOn F s m = (t : Seat F) × (moved F (seat_shape F s) m ≡ seat_shape F t) × Order (seat_loose t) (seat_all t) (seat_all s ++ arrived_by m) × Placed (seat_side s) (seat_done s) (seat_done t)
 
 -- what the source is asked for is the same in all three
@@ -62,13 +62,13 @@ seat_allowed F (Covered s) = refl
 seat_allowed F (Is_beside s) = refl
 seat_allowed F (Is_away s) = refl
 
-pub seat_goes_on : {R : Type 0} (F : Steps R) (s : Seat F) (m : Move R) → Allowed (shape F (base_of s)) m → SeatGoesOn F s m
+pub seat_goes_on : {R : Type 0} (F : Steps R) (s : Seat F) (m : MachineStep R) → Allowed (shape F (base_of s)) m → SeatGoesOn F s m
 seat_goes_on F (Covered s) m a = let g = goes_on F s m a in (Covered g.0, g.1, g.2, g.3)
 seat_goes_on F (Is_beside s) m a = let g = beside_goes_on F s m a in (Is_beside g.0, g.1, g.2, g.3)
 seat_goes_on F (Is_away s) m a = let g = away_goes_on F s m a in (Is_away g.0, g.1, g.2, g.3)
 
 -- whichever step it takes
-pub covered_stays : {R : Type 0} (F : Steps R) (s : Seat F) (m : Move R) (a : Allowed (shape F (base_of s)) m) → is_covered (seat_goes_on F s m a).0 ≡ is_covered s
+pub covered_stays : {R : Type 0} (F : Steps R) (s : Seat F) (m : MachineStep R) (a : Allowed (shape F (base_of s)) m) → is_covered (seat_goes_on F s m a).0 ≡ is_covered s
 unfolding seat_goes_on
 covered_stays F (Covered s) m a = refl
 covered_stays F (Is_beside s) m a = refl

@@ -3,7 +3,7 @@
 use Rattle.std.proofs.Common.{◌≡◌, ℕ, ◌+◌, Bool, true, false, Option, Some, None, List, [], ◌∷◌, ◌++◌, map, subst}
 use Rattle.std.specs.Prelude.{if◌then◌else◌, ◌==◌}
 use Rattle.nf_msgs.specs.declared.answer.Answer.{Answer}
-use Rattle.unit_machine.proofs.Machine.{Where, At_a, At_b, Ran, on, Steps, after, Part, pick, is_nil, Item, Carry, Pass, Fence, Enable, Stream, Put, Restore, Enabled, Event, Put_ok, Put_no, Restored, Fenced, Forward, Fence_to, Install, Free, Drops, Buffers, Inst, idle, Door, Shut, Asked, Wide, Refused, Idle, Freezing, Streaming, Holding, Passing, Ending, Restoring, Returning, Undoing, Over, next, delete, State, Move, Arrive, Take_ca, moved}
+use Rattle.unit_machine.proofs.Machine.{Where, At_a, At_b, Ran, on, Steps, after, Part, pick, is_nil, Item, Carry, Pass, Fence, Enable, Stream, Put, Restore, Enabled, Event, Put_ok, Put_no, Restored, Fenced, Forward, Fence_to, Install, Free, Drops, Buffers, Inst, idle, Door, Shut, Asked, Wide, Refused, Idle, Freezing, Streaming, Holding, Passing, Ending, Restoring, Returning, Undoing, Over, next, delete, State, MachineStep, Arrive, Take_ca, moved}
 use Rattle.unit_machine.proofs.Lists.{firsts, marked, passes, plains, Mix, shown, events, pieces, named}
 use Rattle.unit_machine.proofs.Fits.{Fits}
 
@@ -252,14 +252,14 @@ Order false xs ys = xs ≡ ys
 abbrev pub Placed : Where → List Ran → List Ran → Type 0
 Placed w d e = (ps : List ℕ) × (e ≡ d ++ map (on w) ps)
 
-abbrev pub arrived_by : {R : Type 0} → Move R → List ℕ
+abbrev pub arrived_by : {R : Type 0} → MachineStep R → List ℕ
 arrived_by (Arrive p) = p ∷ []
 arrived_by m = []
 
 -- what the node decides by things outside the unit: the pieces that a Stream sends
-abbrev pub Allowed : {R : Type 0} → State R → Move R → Type 0
+abbrev pub Allowed : {R : Type 0} → State R → MachineStep R → Type 0
 Allowed u (Take_ca parts) = Fits parts u.a.live
 Allowed u m = Unit {0}
 
-abbrev pub GoesOn : {R : Type 0} → (F : Steps R) → Stage F → Move R → Type 0
+abbrev pub GoesOn : {R : Type 0} → (F : Steps R) → Stage F → MachineStep R → Type 0
 GoesOn F s m = (t : Stage F) × (moved F (shape F s) m ≡ shape F t) × Order (loose t) (all_of t) (all_of s ++ arrived_by m) × Placed (side_of s) (processed s) (processed t)

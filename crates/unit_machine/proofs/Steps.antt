@@ -1,5 +1,5 @@
 -- Each step from each stage leads to a stage: in order, and with packets processed at the stage's side alone (`goes_on`).
-use Rattle.unit_machine.proofs.Machine.{Steps, Move}
+use Rattle.unit_machine.proofs.Machine.{Steps, MachineStep}
 use Rattle.unit_machine.proofs.Stages.{Stage, At_rest, Begun, Frozen, Stream_goes, Streams, All_put, Hold_goes, Held, Laying, Turned, Fenced_a, Ending_b, Fence_b, Turned_loose, Fenced_loose, Ending_loose, Fence_loose, Fenced_b, Moved, Restore_goes, Restored_comes, Turn_goes, Turned_back, Returned, Fence_a, Fenced_back, Undone, shape, Allowed, GoesOn}
 use Rattle.unit_machine.proofs.Early.{at_rest, begun_on, frozen, stream_goes}
 use Rattle.unit_machine.proofs.Doors.{streams}
@@ -7,7 +7,7 @@ use Rattle.unit_machine.proofs.Late.{all_put, hold_goes, held_on, laying, turned
 use Rattle.unit_machine.proofs.Loose.{turned_loose, fenced_loose, ending_loose, fence_loose}
 use Rattle.unit_machine.proofs.Back.{restore_goes, restored, turn_goes, turned_back, returned, fence_a, fenced_back, undone}
 
-pub goes_on : {R : Type 0} (F : Steps R) (s : Stage F) (m : Move R) → Allowed (shape F s) m → GoesOn F s m
+pub goes_on : {R : Type 0} (F : Steps R) (s : Stage F) (m : MachineStep R) → Allowed (shape F s) m → GoesOn F s m
 goes_on F (At_rest d l k) m a = at_rest F d l k m
 goes_on F (Begun d l k) m a = begun_on F d l k m
 goes_on F (Frozen d e l k) m a = frozen F d e l k m

@@ -5,7 +5,7 @@ use Rattle.std.proofs.lemmas.List.{get_or-set_same, get_or-set_other, get_or_def
 use Rattle.std.specs.Prelude.{slice_index_or}
 use Rattle.unit_map.specs.declared.index.Index.{Index}
 use Rattle.unit_map.specs.declared.index.Slot.{Slot}
-use Rattle.unit_map.specs.Notes.{KeyRules, Note, IsNoted, slot_of, free}
+use Rattle.unit_map.specs.Notes.{KeyRules, EntryNote, IsNoted, slot_of, free}
 
 abbrev at : List Slot → ℕ → Slot
 at slots n = slice_index_or slots n free
@@ -30,7 +30,7 @@ slot_stays slots a b hash n s is_free counted noted =
 pub still_noted : {K : Type 0} (rules : KeyRules K) (old new : Index K) (a : ℕ) (s : Slot)
     → new.slots.items ≡ slice_set old.slots.items a s → new.spill ≡ old.spill
     → a < length old.slots.items → (at old.slots.items a).number ≡ 0 → 0 < s.number
-    → (note : Note K) → IsNoted rules old note → IsNoted rules new note
+    → (note : EntryNote K) → IsNoted rules old note → IsNoted rules new note
 still_noted rules old new a s slots spill within is_free taken note (step, h) = (
   step,
   record {
@@ -38,7 +38,7 @@ still_noted rules old new a s slots spill within is_free taken note (step, h) = 
     room = rw (slots, length-set old.slots.items a s) h.room;
     within = h.within;
     before = λ m below. rw (slots, length-set old.slots.items a s) (taken_stays old.slots.items a _ s within taken (h.before m below));
-    in_window = λ below. rw (slots, length-set old.slots.items a s) (slot_stays old.slots.items a _ (rules.hash note.key) note.number s is_free h.counted (h.in_window below));
+    in_probes = λ below. rw (slots, length-set old.slots.items a s) (slot_stays old.slots.items a _ (rules.hash note.key) note.number s is_free h.counted (h.in_probes below));
     in_tree = λ past. rw spill (h.in_tree past);
   },
 )

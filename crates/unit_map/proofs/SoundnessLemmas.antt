@@ -17,7 +17,7 @@ use Rattle.std.proofs.lemmas.Option.{slice_get-map, slice_get_read}
 use Rattle.std.proofs.lemmas.Map.Entries.{length-keys_of}
 use Rattle.unit_map.specs.declared.index.Index.{Index}
 use Rattle.unit_map.specs.Entries.{Entries, has_record}
-use Rattle.unit_map.specs.Notes.{KeyRules, key_rules, hash_of, Note, IsNoted, has_key}
+use Rattle.unit_map.specs.Notes.{KeyRules, key_rules, hash_of, EntryNote, IsNoted, has_key}
 use Rattle.unit_map.specs.Soundness.{AreNoted}
 use Rattle.unit_map.proofs.EntryLemmas.{entry_at, has_key_suc, no_place, apart_at, keys_added, absent_before}
 
@@ -94,7 +94,7 @@ module _ {K : Type 0} (rules : KeyRules K) (laws : KeyLaws rules) where
           room = h.room;
           within = h.within;
           before = λ m below. rw e (h.before m below);
-          in_window = λ below. rw e (h.in_window below);
+          in_probes = λ below. rw e (h.in_probes below);
           in_tree = λ past. tree_alike index.spill x y same ∙ h.in_tree past;
         },
       )
@@ -109,7 +109,7 @@ module _ {K : Type 0} (rules : KeyRules K) (laws : KeyLaws rules) where
       true≢false (sym h ∙ sym (has_key_suc rules.eq k es i) ∙ absent (suc i) (rw add-one at (noted_alike index k t.0.0 (i + 1) t.2 here)))))
 
   module _ (old new : Index K) (k : K)
-      (others : (note : Note K) → rules.eq k note.key ≡ false → IsNoted rules old note → IsNoted rules new note) where
+      (others : (note : EntryNote K) → rules.eq k note.key ≡ false → IsNoted rules old note → IsNoted rules new note) where
     -- entries stay noted where a key that has none is noted
     pub still_noted : {V : Type 0} (es : List (K × V)) → lookup (rules.eq k) es ≡ None → AreNoted rules old (keys_of es) → AreNoted rules new (keys_of es)
     unfolding AreNoted
@@ -130,7 +130,7 @@ module _ {K : Type 0} (rules : KeyRules K) (laws : KeyLaws rules) where
       subst (λ xs. AreNoted rules index (keys_of xs)) (sym (no_more es i e within read gone)) noted
 
   pub noted_more : {R : Type 0} (old new : Index K) (es : Entries K R) (i : ℕ) (e : K × Option R) → IsDistinct rules.eq (keys_of es) → i < length es → e ≡ get_or es i e → has_record e ≡ true
-      → ((note : Note K) → rules.eq e.0 note.key ≡ false → IsNoted rules old note → IsNoted rules new note)
+      → ((note : EntryNote K) → rules.eq e.0 note.key ≡ false → IsNoted rules old note → IsNoted rules new note)
       → IsNoted rules new (record { key = e.0; number = length (filter has_record (take i es)) + 1 })
       → AreNoted rules old (keys_of (filter has_record (take i es))) → AreNoted rules new (keys_of (filter has_record (take (i + 1) es)))
   noted_more old new es i e distinct within read here others noted_here noted =

@@ -2,7 +2,7 @@
 ghost use Rattle.std.specs.Prelude.{◌≡◌, ℕ, Bool, true, false, ◌+◌, ◌-◌, ◌<◌, ◌≤◌, ◌^◌, List, [], ◌∷◌, ◌++◌, length, vec_len, Option, Some, None, IfSome, IfNone, IfOk, OnOk, OnErr, filter};
 ghost use Rattle.std.specs.Map.{lookup, keys_of};
 ghost use Rattle.unit_map.specs.Entries.{IsMap, is_place_of, record_of, has_record};
-ghost use Rattle.unit_map.specs.Notes.{KeyRules, Note, key_rules, hash_of, mark_of, start_of, has_key, IsNoted};
+ghost use Rattle.unit_map.specs.Notes.{KeyRules, EntryNote, key_rules, hash_of, tag_of, start_of, has_key, IsNoted};
 ghost use Rattle.unit_map.specs.Soundness.{AreNoted, IsSound};
 
 use basics::NoMemory;
@@ -11,7 +11,7 @@ use std::collections::BTreeMap;
 use std::hash::{FoldHasher, Hash, Hasher};
 
 /// How many slots are looked at for a key.
-pub const WINDOW: usize = 8;
+pub const PROBES: usize = 8;
 
 /// The most entries that a map has: their numbers, from 1 on, are of four bytes.
 pub const MOST_ENTRIES: usize = 0xffff_fffe;
@@ -19,18 +19,18 @@ pub const MOST_ENTRIES: usize = 0xffff_fffe;
 /// Notes the number of an entry, counted from 1, and a part of its key's hash. A free slot has the number 0.
 #[derive(Clone, Copy)]
 pub struct Slot {
-    mark: u32,
+    tag: u32,
     number: u32,
 }
 
-const FREE: Slot = Slot { mark: 0, number: 0 };
+const FREE: Slot = Slot { tag: 0, number: 0 };
 
 /// Where the entries of keys are. What it gives for a key may be out of date, and is looked at before it is believed.
 #[derive(Drop)]
 pub struct Index<K: Ord> {
-    /// A key's number is noted in the first free slot of its window.
+    /// A key's number is noted in the first free slot of its probes.
     slots: Vec<Slot>,
-    /// The numbers of keys whose windows were taken.
+    /// The numbers of keys whose probes found no free slot.
     spill: BTreeMap<K, u32>,
     /// How many more entries are noted before the index is made anew.
     room: usize,
@@ -47,21 +47,21 @@ fn hash_of<K: Hash>(key: &K) -> u64
 }
 
 /// The part of a hash that its slot tells.
-#[tactic(auto, unfolding(crate::specs::Notes::mark_of))]
-fn mark_of(hash: u64) -> u32
-    ensures { result ≡ mark_of hash }
+#[tactic(auto, unfolding(crate::specs::Notes::tag_of))]
+fn tag_of(hash: u64) -> u32
+    ensures { result ≡ tag_of hash }
 {
     (hash >> 32) as u32
 }
 
-/// Where the window of a hash begins.
+/// Where the probes of a hash begin.
 #[tactic(auto, unfolding(crate::specs::Notes::start_of), using(std::proofs::lemmas::Nat::and_le_r))]
 fn start_of(hash: u64, slots: usize) -> usize
-    requires { WINDOW ≤ slots }
+    requires { PROBES ≤ slots }
     ensures value { result ≡ start_of slots hash }
-    ensures within { result + WINDOW ≤ slots }
+    ensures within { result + PROBES ≤ slots }
 {
-    hash as usize & (slots - WINDOW)
+    hash as usize & (slots - PROBES)
 }
 
 /// Whether the entry of a number has the key.
@@ -92,15 +92,15 @@ fn only_place<K: PartialEq, V>(entries: &[(K, V)], key: &K) -> Option<usize>
     }
 }
 
-/// The number of slots for some entries: a power of two that is three times as large at least, and a window less one.
+/// The number of slots for some entries: a power of two that is three times as large at least, and the probes less one.
 ///
 /// An index has room for half as many entries. So one that is made anew has twice the slots of the last, and room for half as many
 /// entries again at least.
 fn slot_count(entries: usize) -> usize
     requires { entries ≤ MOST_ENTRIES }
-    ensures { WINDOW ≤ result }
+    ensures { PROBES ≤ result }
 {
-    (3 * entries).next_power_of_two().max(16) + (WINDOW - 1)
+    (3 * entries).next_power_of_two().max(16) + (PROBES - 1)
 }
 
 impl<K: Ord + Hash + Copy> Index<K> {
@@ -131,18 +131,18 @@ impl<K: Ord + Hash + Copy> Index<K> {
         ensures found { IfSome result (λ place. is_place_of K.eq entries.now place key.now ≡ true) }
         ensures absent { IfNone result ((n : ℕ) → IsNoted (key_rules K.eq K.cmp K.hash_input) self.now (record { key = key.now; number = n }) → has_key K.eq entries.now n key.now ≡ false) }
     {
-        if self.slots.len() < WINDOW {
+        if self.slots.len() < PROBES {
             return None;
         }
         let hash = hash_of(key);
-        let mark = mark_of(hash);
+        let tag = tag_of(hash);
         let start = start_of(hash, self.slots.len());
-        for step in 0..WINDOW {
+        for step in 0..PROBES {
             let slot = self.slots[start + step];
             if slot.number == 0 {
                 return None;
             }
-            if slot.mark == mark && has_key(entries, slot.number, key) {
+            if slot.tag == tag && has_key(entries, slot.number, key) {
                 return Some(slot.number as usize - 1);
             }
         }
@@ -159,9 +159,9 @@ impl<K: Ord + Hash + Copy> Index<K> {
         entries: &mut Vec<(K, Option<R>)>,
         key: K,
     ) -> Result<usize, NoMemory>
-        requires room { WINDOW ≤ vec_len self.old.slots }
+        requires room { PROBES ≤ vec_len self.old.slots }
         requires sound { IsSound (key_rules K.eq K.cmp K.hash_input) self.old entries.old.items }
-        ensures room { WINDOW ≤ vec_len self.new.slots }
+        ensures room { PROBES ≤ vec_len self.new.slots }
         ensures sound { IsSound (key_rules K.eq K.cmp K.hash_input) self.new entries.new.items }
         ensures found { IfOk result (λ place. is_place_of K.eq entries.new.items place key ≡ true) }
         ensures stays { (place : ℕ) (k : K) → is_place_of K.eq entries.old.items place k ≡ true → is_place_of K.eq entries.new.items place k ≡ true }
@@ -180,10 +180,10 @@ impl<K: Ord + Hash + Copy> Index<K> {
         entries: &mut Vec<(K, Option<R>)>,
         key: K,
     ) -> Result<usize, NoMemory>
-        requires room { WINDOW ≤ vec_len self.old.slots }
+        requires room { PROBES ≤ vec_len self.old.slots }
         requires sound { IsSound (key_rules K.eq K.cmp K.hash_input) self.old entries.old.items }
         requires absent { lookup (K.eq key) entries.old.items ≡ None }
-        ensures room { WINDOW ≤ vec_len self.new.slots }
+        ensures room { PROBES ≤ vec_len self.new.slots }
         ensures sound { IsSound (key_rules K.eq K.cmp K.hash_input) self.new entries.new.items }
         ensures place { IfOk result (λ place. place ≡ length entries.old.items) }
         ensures ok { OnOk result (entries.new.items ≡ entries.old.items ++ (key, None) ∷ []) }
@@ -205,13 +205,13 @@ impl<K: Ord + Hash + Copy> Index<K> {
         more: usize,
     ) -> Result<(), NoMemory>
         requires { IsSound (key_rules K.eq K.cmp K.hash_input) self.old entries.old.items }
-        ensures room { OnOk result (WINDOW ≤ vec_len self.new.slots) }
+        ensures room { OnOk result (PROBES ≤ vec_len self.new.slots) }
         ensures sound { IsSound (key_rules K.eq K.cmp K.hash_input) self.new entries.new.items }
         ensures same { (k : K) → record_of K.eq entries.new.items k ≡ record_of K.eq entries.old.items k }
         ensures absent { (k : K) → lookup (K.eq k) entries.old.items ≡ None → lookup (K.eq k) entries.new.items ≡ None }
         ensures err { OnErr result (entries.new.items ≡ entries.old.items) }
     {
-        if self.slots.len() >= WINDOW && more <= self.room {
+        if self.slots.len() >= PROBES && more <= self.room {
             return Ok(());
         }
         let index = Index::of(*entries.allocator(), entries, more)?;
@@ -223,7 +223,7 @@ impl<K: Ord + Hash + Copy> Index<K> {
     /// An index with room for some more entries, which notes each entry that has a record, counted among these.
     fn of<R>(alloc: Global, entries: &[(K, Option<R>)], more: usize) -> Result<Self, NoMemory>
         requires { IsMap K.eq entries.now }
-        ensures room { IfOk result (λ index. WINDOW ≤ vec_len index.slots) }
+        ensures room { IfOk result (λ index. PROBES ≤ vec_len index.slots) }
         ensures noted { IfOk result (λ index. AreNoted (key_rules K.eq K.cmp K.hash_input) index (keys_of (filter has_record entries.now))) }
     {
         let with_records = entries.iter().filter(|entry| entry.1.is_some()).count();
@@ -241,7 +241,7 @@ impl<K: Ord + Hash + Copy> Index<K> {
 
     /// An index that notes nothing, with slots for the numbers of some entries.
     fn with_slots(alloc: Global, entries: usize) -> Result<Self, NoMemory>
-        ensures { IfOk result (λ index. WINDOW ≤ vec_len index.slots) }
+        ensures { IfOk result (λ index. PROBES ≤ vec_len index.slots) }
     {
         if entries > MOST_ENTRIES {
             return Err(AllocError);
@@ -256,22 +256,22 @@ impl<K: Ord + Hash + Copy> Index<K> {
         })
     }
 
-    /// Notes the number of a key's entry, in the first free slot of the key's window, or in the tree.
+    /// Notes the number of a key's entry, in the first free slot of the key's probes, or in the tree.
     #[inline(always)]
     fn note(&mut self, key: K, number: u32) -> Result<(), NoMemory>
-        requires room { WINDOW ≤ vec_len self.old.slots }
+        requires room { PROBES ≤ vec_len self.old.slots }
         requires counted { 0 < number }
-        ensures room { WINDOW ≤ vec_len self.new.slots }
+        ensures room { PROBES ≤ vec_len self.new.slots }
         ensures noted { OnOk result (IsNoted (key_rules K.eq K.cmp K.hash_input) self.new (record { key = key; number = number })) }
-        ensures others { (note : Note K) → K.eq key note.key ≡ false → IsNoted (key_rules K.eq K.cmp K.hash_input) self.old note → IsNoted (key_rules K.eq K.cmp K.hash_input) self.new note }
+        ensures others { (note : EntryNote K) → K.eq key note.key ≡ false → IsNoted (key_rules K.eq K.cmp K.hash_input) self.old note → IsNoted (key_rules K.eq K.cmp K.hash_input) self.new note }
     {
         self.room = self.room.saturating_sub(1);
         let hash = hash_of(&key);
         let start = start_of(hash, self.slots.len());
-        for step in 0..WINDOW {
+        for step in 0..PROBES {
             if self.slots[start + step].number == 0 {
                 self.slots[start + step] = Slot {
-                    mark: mark_of(hash),
+                    tag: tag_of(hash),
                     number,
                 };
                 return Ok(());

@@ -14,7 +14,7 @@ use Rattle.move_op.specs.declared.door.Door.{Door}
 use Rattle.move_op.specs.declared.door.Door.TheVariants as door
 use Rattle.move_op.specs.declared.phase.Phase.{Phase}
 use Rattle.move_op.specs.declared.phase.Phase.TheVariants as phase
-use Rattle.move_op.specs.Move.{MovePlan, MoveState, Row, row, answer_of, keeps, goes, chunks_of, have_units, source, destination, pushed, all_put, on_event, on_source_enabled, on_piece, on_deleted, on_restored, on_source_fenced, on_put_ok, on_put_no, on_destination_enabled, on_destination_fenced, from_source, from_destination, put_back}
+use Rattle.move_op.specs.Move.{MovePlan, MoveState, MoveRow, row, answer_of, keeps, goes, chunks_of, have_units, source, destination, pushed, all_put, on_event, on_source_enabled, on_piece, on_deleted, on_restored, on_source_fenced, on_put_ok, on_put_no, on_destination_enabled, on_destination_fenced, from_source, from_destination, put_back}
 use Rattle.abstract_net.proofs.Net.{Open, find_op}
 use Rattle.abstract_net.proofs.Shares.{Whole}
 use Rattle.abstract_net.proofs.Stores.{ends, nothing}
@@ -33,7 +33,7 @@ closing phase.Ending = true
 closing (phase.Undoing why) = true
 closing ph = false
 
-record Closes (ph : Phase) (r : Row) : Type 0 where
+record Closes (ph : Phase) (r : MoveRow) : Type 0 where
   at : closing ph ≡ true
   stays : r.stored ≡ None
 
@@ -87,7 +87,7 @@ module _ (plan : MovePlan) (events : List FullCell) where
   destination_enabled_goes ph h = h
 
   -- so a move that isn't over goes on but for a fence
-  goes_on : (ph : Phase) (r : Row) (why : Answer) → answer_of r.next.phase ≡ None → answer_of r.next.phase ≡ Some why → Closes ph r
+  goes_on : (ph : Phase) (r : MoveRow) (why : Answer) → answer_of r.next.phase ≡ None → answer_of r.next.phase ≡ Some why → Closes ph r
   goes_on ph r why none over = let never : None ≡ Some why = sym none ∙ over in cc
 
   source_fenced : (ph : Phase) (why : Answer) → answer_of ph ≡ None → answer_of (on_source_fenced plan ph).phase ≡ Some why → Closes ph (keeps (on_source_fenced plan ph))

@@ -14,7 +14,7 @@ use Rattle.move_op.specs.declared.door.Door.{Door}
 use Rattle.move_op.specs.declared.door.Door.TheVariants as door
 use Rattle.move_op.specs.declared.phase.Phase.{Phase}
 use Rattle.move_op.specs.declared.phase.Phase.TheVariants as phase
-use Rattle.move_op.specs.Move.{MoveState, Row, answer_of, chunks_of}
+use Rattle.move_op.specs.Move.{MoveState, MoveRow, answer_of, chunks_of}
 use Rattle.ctrl_node.specs.declared.operation.Operation.TheVariants.{Move}
 use Rattle.ctrl_node.specs.Operations.{Turn, moved}
 use Rattle.ctrl_node.specs.Controller.{ControllerState, Step, after_turn}
@@ -57,7 +57,7 @@ move_same e = cc
 
 module _ {R : Type 0} (f : Semantics R) (g : Given) where
   -- the controller after a row of an open move
-  module _ (c : ControllerState) (ops : List (Open R)) (shares : List Open_share) (next n : ℕ) (mv : MoveState) (real_row : Row) (is : IsController f g c ops shares next) (has : finite.get c.operations n ≡ Some (Move mv)) (below : n < next) (keeps : RowKeeps f g n mv (stored c.store n) real_row) (ends : (why : Answer) → answer_of real_row.next.phase ≡ Some why → unwrap_or real_row.stored (stored c.store n) ≡ []) where
+  module _ (c : ControllerState) (ops : List (Open R)) (shares : List Open_share) (next n : ℕ) (mv : MoveState) (real_row : MoveRow) (is : IsController f g c ops shares next) (has : finite.get c.operations n ≡ Some (Move mv)) (below : n < next) (keeps : RowKeeps f g n mv (stored c.store n) real_row) (ends : (why : Answer) → answer_of real_row.next.phase ≡ Some why → unwrap_or real_row.stored (stored c.store n) ≡ []) where
     abbrev after : MoveState
     after = record mv { phase = real_row.next.phase }
 

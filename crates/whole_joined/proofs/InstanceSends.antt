@@ -20,8 +20,8 @@ use Rattle.packet_pool.specs.Pool.{FullCell}
 use Rattle.nf_msgs.specs.declared.msg.Piece.{Piece}
 use Rattle.nf_msgs.specs.declared.msg.Msg.TheVariants as msg
 use Rattle.nf_msgs.specs.Nodes.{switch_node}
-use Rattle.instance_worker.specs.declared.pieces.Whole.{Whole}
-use Rattle.instance_worker.specs.Pieces.{piece_of, cut, whole_of, pieces}
+use Rattle.instance_worker.specs.declared.pieces.WholePieces.{WholePieces}
+use Rattle.instance_worker.specs.Pieces.{piece_of, pieces_from, whole_of, pieces}
 use Rattle.instance_worker.specs.Instance.{told, chunk_told}
 use Rattle.actor_net.proofs.WeightLaws.{EachSent}
 use Rattle.unit_machine.proofs.Labels.{Each}
@@ -74,15 +74,15 @@ module _ {R : Type 0} (f : Semantics R) (laws : FunctionLaws f) (g : Given) wher
   all_good : (es : Chunks R) → AreValid f laws es → IsDistinct same_unit (keys_of es) → AreGoodChunks f g (map (chunk_of f laws) es)
   all_good es valid distinct = record { each = each_good es valid; distinct = rw (entries_made f laws es valid) distinct }
 
-  one_good : (whole : Whole) (last : Bool) (es : Chunks R) → length es ≤ whole.total → AreValid f laws es → IsDistinct same_unit (keys_of es) → IsGoodPiece f g (piece_of whole last (map (chunk_of f laws) es))
+  one_good : (whole : WholePieces) (last : Bool) (es : Chunks R) → length es ≤ whole.total → AreValid f laws es → IsDistinct same_unit (keys_of es) → IsGoodPiece f g (piece_of whole last (map (chunk_of f laws) es))
   one_good whole last es few valid distinct = record { good = all_good es valid distinct; few = not_more whole.total _ (rw (length-map es (chunk_of f laws)) few) }
 
   -- the pieces of such chunks
-  cut_good : (whole : Whole) (n : ℕ) (es : Chunks R) → length es ≤ whole.total → AreValid f laws es → IsDistinct same_unit (keys_of es) → Each (IsGoodPiece f g) (cut whole n (map (chunk_of f laws) es))
-  unfolding cut
+  cut_good : (whole : WholePieces) (n : ℕ) (es : Chunks R) → length es ≤ whole.total → AreValid f laws es → IsDistinct same_unit (keys_of es) → Each (IsGoodPiece f g) (pieces_from whole n (map (chunk_of f laws) es))
+  unfolding pieces_from
   cut_good whole zero es few valid distinct = (one_good whole true es few valid distinct, tt)
   cut_good whole (suc n) es few valid distinct =
-      elim (nat_le (length (map (chunk_of f laws) es)) 64) as (λ b. Each (IsGoodPiece f g) (if b then piece_of whole true (map (chunk_of f laws) es) ∷ [] else piece_of whole false (take 64 (map (chunk_of f laws) es)) ∷ cut whole n (drop 64 (map (chunk_of f laws) es)))) [
+      elim (nat_le (length (map (chunk_of f laws) es)) 64) as (λ b. Each (IsGoodPiece f g) (if b then piece_of whole true (map (chunk_of f laws) es) ∷ [] else piece_of whole false (take 64 (map (chunk_of f laws) es)) ∷ pieces_from whole n (drop 64 (map (chunk_of f laws) es)))) [
         | true ↦ (one_good whole true es few valid distinct, tt)
         | false ↦ rw (map-take f laws 64 es, map-drop f laws 64 es) (
           one_good whole false (take 64 es) (let front = front_few 64 es in omega (arith, front, few)) (valid_take f laws 64 es valid) (distinct_take 64 es distinct),

@@ -16,7 +16,7 @@ use Rattle.move_op.specs.declared.door.Door.{Door}
 use Rattle.move_op.specs.declared.door.Door.TheVariants as door
 use Rattle.move_op.specs.declared.phase.Phase.{Phase}
 use Rattle.move_op.specs.declared.phase.Phase.TheVariants as phase
-use Rattle.move_op.specs.Move.{MovePlan, MoveState, Next, Row, keeps, goes, chunks_of, have_units, put_back, source, destination, put_to, forward_to, pushed, released, returned, all_put, on_event, on_source_enabled, on_piece, on_deleted, on_restored, on_source_fenced, on_put_ok, on_put_no, on_destination_enabled, on_destination_fenced, from_source, from_destination, row}
+use Rattle.move_op.specs.Move.{MovePlan, MoveState, MoveNext, MoveRow, keeps, goes, chunks_of, have_units, put_back, source, destination, put_to, forward_to, pushed, released, returned, all_put, on_event, on_source_enabled, on_piece, on_deleted, on_restored, on_source_fenced, on_put_ok, on_put_no, on_destination_enabled, on_destination_fenced, from_source, from_destination, row}
 use Rattle.actor_net.proofs.WeightLaws.{EachSent}
 use Rattle.unit_machine.proofs.Labels.{Each, each-append}
 use Rattle.outline_net.proofs.FiltersApart.{is_whole}
@@ -85,7 +85,7 @@ module _ {R : Type 0} (f : Semantics R) (g : Given) where
   same_door a b c d came since at h = tt
 
   -- what is next
-  record NextIs (next : Next) : Type 0 where
+  record NextIs (next : MoveNext) : Type 0 where
     refusing : IsRefusing next.phase
     pieces : HasPieces f g next.phase
     labels : EachSent (Label f g) 1 next.sends
@@ -114,12 +114,12 @@ module _ {R : Type 0} (f : Semantics R) (g : Given) where
         ]
 
     -- a row's phase and sends, and what it stores
-    record RowIs (events : List FullCell) (r : Row) : Type 0 where
+    record RowIs (events : List FullCell) (r : MoveRow) : Type 0 where
       next : NextIs r.next
       genuine : Each (Genuine f g) (unwrap_or r.stored events)
 
     module _ (events : List FullCell) (genuine : Each (Genuine f g) events) where
-      kept : (next : Next) → NextIs next → RowIs events (keeps next)
+      kept : (next : MoveNext) → NextIs next → RowIs events (keeps next)
       kept next h = record { next = h; genuine = genuine }
 
       rests : (ph : Phase) → IsRefusing ph → HasPieces f g ph → RowIs events (keeps (goes ph []))
@@ -244,7 +244,7 @@ module _ {R : Type 0} (f : Semantics R) (g : Given) where
           ]
 
   -- what a row leaves
-  pub record RowKeeps (op : ℕ) (m : MoveState) (events : List FullCell) (r : Row) : Type 0 where
+  pub record RowKeeps (op : ℕ) (m : MoveState) (events : List FullCell) (r : MoveRow) : Type 0 where
     pub move : IsMove f g op (record m { phase = r.next.phase })
     pub labels : EachSent (Label f g) 1 r.next.sends
     pub genuine : Each (Genuine f g) (unwrap_or r.stored events)

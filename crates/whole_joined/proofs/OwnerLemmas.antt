@@ -14,7 +14,7 @@ use Rattle.nf_msgs.specs.declared.note.Note.{Note}
 use Rattle.nf_msgs.specs.declared.note.Note.TheVariants as note
 use Rattle.unit_machine.proofs.Labels.{Each}
 use Rattle.net_world.specs.declared.config.Config.{Config}
-use Rattle.net_world.specs.Input.{order_of, packet_of}
+use Rattle.net_world.specs.Input.{order_numbered, packet_of}
 use Rattle.net_world.specs.Log.{has_begun, installed}
 use Rattle.net_world.specs.Commands.{has_answered, is_busy}
 use Rattle.net_world.specs.Places.{first_owner, handed_on, owner_after, hands_on_plain, loose_after, members_after, member_for, unit_numbered, goes_to, is_at, IsMoving, IsPlace, Owns, Is_destination, Is_member}
@@ -129,7 +129,7 @@ module _ (config : Config) (items : List Msg) where
   abbrev goes_by : Kind → ℕ → List ℕ → Option ℕ
   goes_by kind number ops =
       let u = unit_numbered config items kind number in
-      option_map_or (λ names. member_for config items names (packet_of items number)) (members_after config.names (order_of items) u (first_owner u config.routes) ops) (Some (owner_after config.names (order_of items) u (first_owner u config.routes) ops))
+      option_map_or (λ names. member_for config items names (packet_of items number)) (members_after config.names (order_numbered items) u (first_owner u config.routes) ops) (Some (owner_after config.names (order_numbered items) u (first_owner u config.routes) ops))
 
   -- a packet goes where it did, after notes of no change of the rules
   pub goes_same : (kind : Kind) (number : ℕ) (xs ys : List Note) → installed ys ≡ [] → goes_to config items kind number (xs ++ ys) ≡ goes_to config items kind number xs
@@ -139,12 +139,12 @@ module _ (config : Config) (items : List Msg) where
   pub place_quiet : (kind : Kind) (number k : ℕ) (xs ys : List Note) (i : ℕ) → Each (IsQuiet k) ys → IsPlace config items kind number xs i → IsPlace config items kind number (xs ++ ys) i
   place_quiet kind number k xs ys i h (Owns e) =
       let u = unit_numbered config items kind number in
-      Owns (e ∙ ap (owner_after config.names (order_of items) u (first_owner u config.routes)) (sym (installed_same xs ys (installed_quiet k ys h))))
+      Owns (e ∙ ap (owner_after config.names (order_numbered items) u (first_owner u config.routes)) (sym (installed_same xs ys (installed_quiet k ys h))))
   place_quiet kind number k xs ys i h (Is_destination source destination m e) =
       let u = unit_numbered config items kind number in
       Is_destination source destination (record {
         moving = moving_quiet u k xs ys source destination h m.moving;
-        covers = ap (λ ops. is_at (place_of config.names source) (owner_after config.names (order_of items) u (first_owner u config.routes) ops)) (installed_same xs ys (installed_quiet k ys h)) ∙ m.covers;
+        covers = ap (λ ops. is_at (place_of config.names source) (owner_after config.names (order_numbered items) u (first_owner u config.routes) ops)) (installed_same xs ys (installed_quiet k ys h)) ∙ m.covers;
       }) e
   place_quiet kind number k xs ys i h (Is_member e) = Is_member (goes_same kind number xs ys (installed_quiet k ys h) ∙ e)
 

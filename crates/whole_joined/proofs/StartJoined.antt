@@ -41,7 +41,7 @@ use Rattle.nf_msgs.specs.declared.msg.Msg.TheVariants as msg
 use Rattle.nf_msgs.specs.Nodes.{instance_node}
 use Rattle.unit_machine.proofs.Labels.{Each}
 use Rattle.net_world.specs.declared.config.Config.{Config}
-use Rattle.net_world.specs.Input.{is_item, packets, commands, no_packet, packet_of, order_of, IsRising, IsSteered, IsWhole, IsProper, IsInput}
+use Rattle.net_world.specs.Input.{is_item, packets, commands, no_packet, packet_of, order_numbered, IsRising, IsSteered, IsWhole, IsProper, IsInput}
 use Rattle.net_world.specs.declared.node.Node.{Node}
 use Rattle.net_world.specs.declared.node.Node.TheVariants.{Instance}
 use Rattle.nf_msgs.specs.declared.note.Note.{Note}
@@ -88,7 +88,7 @@ module _ (kind : Kind) where
 
 module _ {R : Type 0} (f : Semantics R) (c : Config) (items : List Msg) (is : IsInput f.kind c items) where
   abbrev pub given : Given
-  given = record { site = c.site; packet = packet_of items; names = c.names; orders = order_of items; first = λ u. first_owner u c.routes }
+  given = record { site = c.site; packet = packet_of items; names = c.names; orders = order_numbered items; first = λ u. first_owner u c.routes }
 
   -- The items.
   found_packet : (p : Packet) → find (λ q. q.number == p.number) (packets items) ≡ Some p → IsSteered c.site p → GenuinePacket f given p

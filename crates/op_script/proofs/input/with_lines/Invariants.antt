@@ -1,6 +1,6 @@
 -- What is written, and what the packets and lines that are left still give.
 use Rattle.std.proofs.Common.{◌<◌, ◌+◌, ◌*◌, ◌^◌, map, length}
-use Rattle.op_script.specs.Items.{IsAhead}
+use Rattle.op_script.specs.Items.{AreLinesFrom}
 use Rattle.op_script.proofs.ItemsSoFar.{SoFar}
 use Rattle.op_script.proofs.input.with_lines.Given as goal
 
@@ -9,7 +9,7 @@ abbrev pub invariant-loop-item : goal.invariant-loop-item
 invariant-loop-item l = record {
   fits : l.point + length l.waiting.items < 2 ^ 64;
   short : length l.rest * 8 < 2 ^ 64;
-  ahead : IsAhead l.point (map (λ line. line.now) l.rest) l.lines;
+  ahead : AreLinesFrom l.point (map (λ line. line.now) l.rest) l.lines;
   so_far : SoFar l.fn.packets l.lines l.point l.waiting.items l.out.items;
 }
 

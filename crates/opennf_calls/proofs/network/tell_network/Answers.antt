@@ -7,7 +7,7 @@ use Rattle.command_words.specs.RequestViews.{network_view}
 use Rattle.net_world.specs.Input.{IsInput}
 use Rattle.net_world.specs.Start.{started}
 use Rattle.net_length.proofs.ShortRuns.{short_runs}
-use Rattle.run_report.specs.Audits.{IsCause, world_after}
+use Rattle.run_report.specs.Audits.{IsAuditCause, world_after}
 use Rattle.opennf_calls.specs.Phases.{given_by}
 use Rattle.opennf_calls.proofs.RunLemmas.{Ran, run_of, run_refused}
 use Rattle.opennf_calls.proofs.network.tell_network.Goals as goal
@@ -21,7 +21,7 @@ returns-in_err-report g c =
     rw (failed.1, failed.2)
     (run_refused g.row.F.Denot g.F.Function.semantics (network_view c.args.asked.now) (given_by c.args.asked.now.site c.args.inputs) c.args.alloc opening.config opening.items.items opening.head is.config is.items
     c.args.choices c.in_err-report.field-0.0 (λ step same.
-    subst (λ (cs : List Choice). IsCause {F = g.row.F.Denot} g.F.Function.semantics (started c.args.alloc opening.config opening.items.items) cs step) told
+    subst (λ (cs : List Choice). IsAuditCause {F = g.row.F.Denot} g.F.Function.semantics (started c.args.alloc opening.config opening.items.items) cs step) told
     (c.in_err-report.ensures.not_a_run step (ap Err same))))
 
 pub returns : goal.returns

@@ -6,12 +6,12 @@ use Rattle.nf_function.specs.Records.{Laws}
 use Rattle.nf_function.specs.declared.unit.Unit as units
 use Rattle.state_chunk.specs.declared.fault.ChunkFault.{ChunkFault}
 use Rattle.state_chunk.specs.Format.{IsRecordOf}
-use Rattle.state_chunk.specs.Reading.{Gives, record_read}
+use Rattle.state_chunk.specs.Reading.{DecodesTo, record_read}
 use Rattle.state_chunk.proofs.RecordLemmas.{record_read-ok}
 use Rattle.state_chunk.proofs.records.decode.Goals as goal
 
 record_found : {R : Type 0} (f : Semantics R) → Laws f → (bytes : List ℕ) (result : Result (units.Unit × R) ChunkFault) → IsBytes bytes
-    → Gives (λ x. x) result (record_read f bytes) → IfOk result (λ x. IsRecordOf f bytes x.0 x.1)
+    → DecodesTo (λ x. x) result (record_read f bytes) → IfOk result (λ x. IsRecordOf f bytes x.0 x.1)
 record_found f laws bytes (Ok x) are given = record_read-ok f laws bytes x.0 x.1 are given
 record_found f laws bytes (Err e) are given = tt
 

@@ -8,7 +8,7 @@ pub returns-then-index-eq0-clause-others : goal.returns-then-index-eq0-clause-ot
 returns-then-index-eq0-clause-others g c note apart noted =
     let old = c.args.self.now.slots.items in
     let at = c.start_of-start.result + c.loop-step.step in
-    let slot : Slot = record { mark = c.mark_of.result; number = c.args.number } in
+    let slot : Slot = record { tag = c.tag_of.result; number = c.args.number } in
     let same = ap (λ v. v.items) c.loop-step.invariant.slots in
     let within : at < length old = omega (arith, c.start_of-start.ensures.within, c.len.ensures, c.loop-step-test.true) in
     still_noted _ c.args.self.now _ at slot (ap (λ xs. slice_set xs at slot) same) c.loop-step.invariant.spill within
