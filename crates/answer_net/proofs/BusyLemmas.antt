@@ -1,6 +1,6 @@
 -- What the log says of commands, as it goes on.
 use Rattle.std.proofs.Common.{◌≡◌, ℕ, ◌+◌, ◌≤◌, Bool, true, false, Option, Some, List, [], ◌∷◌, ◌++◌, get_or, length, refl, sym, ap, ◌∙◌, subst, append-nil, arith}
-use Rattle.std.specs.Prelude.{if◌then◌else◌, ◌&&◌, ◌||◌, ◌==◌, not, unwrap_or}
+use Rattle.std.specs.Prelude.{if◌then◌else◌, ◌&&◌, ◌||◌, ◌==◌, not, is_some, unwrap_or}
 use Rattle.std.proofs.lemmas.Bool.Decides.{nat_tests}
 use Rattle.nf_msgs.specs.declared.answer.Answer.{Answer}
 use Rattle.nf_msgs.specs.declared.answer.Answer.TheVariants as answer
@@ -229,6 +229,7 @@ module _ (names : List (List ℕ)) (orders : ℕ → Option Order) where
     pub answered_once : length (answers_of op log) ≤ 1
     pub causes : (what : Order) (a : Answer) → orders op ≡ Some what → answers_of op log ≡ a ∷ [] → IsCause names orders a what (before_first op log)
     pub begins : (what : Order) → orders op ≡ Some what → began op log ≡ true → MayBegin names orders what (before_first op log)
+    pub known : is_noted op log ≡ true → is_some (orders op) ≡ true
 
   -- it stays where the notes say nothing of it
   pub stays_answered : (op : ℕ) (log notes : List Note) → began op notes ≡ false → has_answered op notes ≡ false → IsAnswered op log → IsAnswered op (log ++ notes)
@@ -244,6 +245,7 @@ module _ (names : List (List ℕ)) (orders : ℕ → Option Order) where
         begins = λ what order is.
             let was : began op log ≡ true = sym begun ∙ is in
             subst (λ v. MayBegin names orders what v) (sym (before_kept op log notes (noted_begun op log was))) (h.begins what order was);
+        known = λ is. h.known (ap (λ v. v || has_answered op log) (sym begun) ∙ ap (λ v. began op (log ++ notes) || v) (sym (answered_same op log notes b)) ∙ is);
       }
 
   no_cause : (a : Answer) (what : Order) (log : List Note) → is_outcome a ≡ true → IsCause names orders a what log
@@ -263,6 +265,7 @@ module _ (names : List (List ℕ)) (orders : ℕ → Option Order) where
         answered_once = rw all (omega arith);
         causes = λ what x order is. subst (λ y. IsCause names orders y what (before_first op (log ++ note.Answered op a ∷ []))) (first_is a x (sym all ∙ is)) (no_cause a what (before_first op (log ++ note.Answered op a ∷ [])) outcome);
         begins = λ what order is. subst (λ v. MayBegin names orders what v) (sym (before_kept op log (note.Answered op a ∷ []) (noted_begun op log begun))) (h.begins what order begun);
+        known = λ is. h.known (noted_begun op log begun);
       }
 
   -- its refusal
@@ -277,6 +280,7 @@ module _ (names : List (List ℕ)) (orders : ℕ → Option Order) where
         answered_once = rw all (omega arith);
         causes = λ other x known is. subst (λ v. IsCause names orders x other v) (sym before) (subst (λ o. IsCause names orders x o log) (some_is what other (sym order ∙ known)) (subst (λ y. IsCause names orders y what log) (first_is a x (sym all ∙ is)) cause));
         begins = λ other known is. (let never = sym (began_same op log (note.Answered op a ∷ []) refl ∙ off.0) ∙ is in cc);
+        known = λ is. ap is_some order;
       }
 
   -- its begin
@@ -291,4 +295,5 @@ module _ (names : List (List ℕ)) (orders : ℕ → Option Order) where
         answered_once = rw none (omega arith);
         causes = λ other x known is. (let never = sym none ∙ is in cc);
         begins = λ other known is. subst (λ v. MayBegin names orders other v) (sym before) (subst (λ o. MayBegin names orders o log) (some_is what other (sym order ∙ known)) may);
+        known = λ is. ap is_some order;
       }

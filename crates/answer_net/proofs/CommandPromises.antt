@@ -23,7 +23,7 @@ use Rattle.ctrl_node.specs.declared.operation.Operation.{Operation}
 use Rattle.ctrl_node.specs.Controller.{opened as opened_controller}
 use Rattle.net_world.specs.declared.config.Config.{Config}
 use Rattle.net_world.specs.declared.node.Node.{Node}
-use Rattle.net_world.specs.Commands.{Answers, is_share, times_installed}
+use Rattle.net_world.specs.Commands.{Answers, answers_of, began, has_answered, is_share, times_installed}
 use Rattle.net_world.specs.Input.{is_item, commands, order_numbered, IsInput}
 use Rattle.net_world.specs.Nodes.{node_step, node_ready}
 use Rattle.net_world.specs.Start.{first_nodes, started}
@@ -32,6 +32,7 @@ use Rattle.whole_joined.proofs.StartJoined.{given, count_at_start, rising_of}
 use Rattle.whole_joined.proofs.RunsJoined.{Runs, runs_at_start, runs_next, start_world}
 use Rattle.whole_joined.proofs.Given.{Given}
 use Rattle.whole_joined.proofs.Joined.{Joined}
+use Rattle.answer_net.proofs.BusyLemmas.{is_noted, none_answered, or_off}
 use Rattle.answer_net.proofs.BusyOperations.{IsBusy}
 use Rattle.answer_net.proofs.BusyNodes.{numbers}
 use Rattle.answer_net.proofs.BusyRuns.{Busy, waits_of, busy_next}
@@ -67,7 +68,7 @@ busy_at_start g waits rising = record {
   next = 0;
   rising = rising;
   unnoted = λ op late. refl;
-  answered = λ op. record { begun_once = omega arith; answered_once = omega arith; causes = λ what a known is. cc; begins = λ what known is. cc };
+  answered = λ op. record { begun_once = omega arith; answered_once = omega arith; causes = λ what a known is. cc; begins = λ what known is. cc; known = λ is. cc };
 }
   where
     none : (op : ℕ) → finite.get (finite.empty {X = Operation} {R = nat_cmp}) op ≡ None
@@ -117,6 +118,20 @@ module _ (F : Type 0) {R : Type 0} (f : Semantics R) (laws : FunctionLaws f) (al
         installed_once = λ op. installed_once f g (length c.names + 2) refl w busy.0 b h op;
         refused_is_not_installed = λ op what answer known is_answered other. refused_none_installed f g (length c.names + 2) refl w busy.0 b h op answer is_answered other;
       }
+
+  -- and nothing of a number that no command has
+  pub none_noted : (cs : List Choice) → IsRun node_ready (node_step f) cs first → (op : ℕ) → order_numbered items op ≡ None → (began op (run (node_step f) cs first).log ≡ false) × (answers_of op (run (node_step f) cs first).log ≡ [])
+  none_noted cs run_is op none =
+      let w = run (node_step f) cs first in
+      let busy = run_busy cs run_is in
+      let b = busy.1 in
+      let known = (b.is.answered op).known in
+      let off : is_noted op w.log ≡ false = elim (is_noted op w.log) as (λ x. is_noted op w.log ≡ x → x ≡ false) [
+        | true ↦ λ is. (let never : false ≡ true = sym (ap is_some none) ∙ known is in cc)
+        | false ↦ λ is. refl
+      ] refl in
+      let both = or_off (began op w.log) (has_answered op w.log) off in
+      (both.0, none_answered op w.log both.1)
 
   -- and the switch changes no rules for a copy
   pub no_rules : (cs : List Choice) → IsRun node_ready (node_step f) cs first → (op : ℕ) (source destination : List ℕ) (filter : Option Filter) → order_numbered items op ≡ Some (order.Copy source destination filter) → times_installed op (run (node_step f) cs first).log ≡ 0

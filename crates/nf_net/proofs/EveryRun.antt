@@ -29,7 +29,7 @@ use Rattle.nf_net.proofs.ChunkMoves.{chunks_moved}
 use Rattle.nf_net.proofs.CompleteRuns.{complete_run}
 use Rattle.nf_net.proofs.OutputSteps.{outputs_run}
 use Rattle.path_net.proofs.RecordPromises.{one_place}
-use Rattle.answer_net.proofs.CommandPromises.{run_answers, no_rules}
+use Rattle.answer_net.proofs.CommandPromises.{run_answers, no_rules, none_noted}
 use Rattle.nf_net.proofs.JudgedRuns.{verdicts}
 use Rattle.answer_net.proofs.MovesUnderWay.{moves_under_way}
 use Rattle.path_net.proofs.PathPromises.{in_place, each_in_place, came_once}
@@ -68,6 +68,7 @@ module _ (F : Type 0) {R : Type 0} (f : Semantics R) (laws : FunctionLaws f) (al
         at_members = at_members F f laws alloc c items is cs runs;
         settles = settles F f laws alloc c items is cs runs (places F f laws alloc c items is cs runs);
         answers = run_answers F f laws alloc c items is cs runs;
+        no_others = none_noted F f laws alloc c items is cs runs;
         no_rules = no_rules F f laws alloc c items is cs runs;
         at_source = stays_at_source F f laws alloc c items is cs runs;
         window = window_kept F f laws alloc c items is cs runs;

@@ -69,6 +69,14 @@ done_times mine p is ds = ap (times p) (same mine ds) ∙ those_times mine p is 
       | false ↦ same mine ds
     ]
 
+-- where each is processed as often as it came, for its unit, it is so among all
+pub all_done : {R : Type 0} (f : Semantics R) (c : Config) (items : List Msg) (log : List Note) → ((unit : units.Unit) (p : ℕ) → times p (went f c items unit log) ≡ times p (came f c items unit log))
+    → (p : ℕ) → times p (map (λ d. d.number) (done log)) ≡ times p (arrived log)
+all_done f c items log each p =
+    let u : units.Unit = unit_at f.kind c.site (packet_of items p) in
+    let own : is_of f c items u p ≡ true = same_unit_equiv.refl u in
+    sym (done_times (is_of f c items u) p own (done log)) ∙ each u p ∙ those_times (is_of f c items u) p own (arrived log)
+
 module _ {F R : Type 0} (f : Semantics R) (c : Config) (items : List Msg) (is : IsInput f.kind c items) where
   -- of a world of a run
   pub few_done : (n : ℕ) (w : Network (Node F R) Msg Note) → Joined f (given f c items is) n w → length (done w.log) ≤ length (arrived w.log)

@@ -64,6 +64,8 @@ module _ {R : Type 0} (f : Semantics R) (config : Config) (items : List Msg) whe
     pub settles : Settles config items f.kind w.log
     -- each command begins and is answered at most once, and what refuses it was true then
     pub answers : Answers config items w.log
+    -- and none else: a number that no command of the input has neither begins nor is answered
+    pub no_others : (op : ℕ) → order_numbered items op ≡ None → (began op w.log ≡ false) × (answers_of op w.log ≡ [])
     -- the switch changes no rules for a copy
     pub no_rules : (op : ℕ) (source destination : List ℕ) (filter : Option Filter) → order_numbered items op ≡ Some (Copy source destination filter) → times_installed op w.log ≡ 0
     -- what a refused move was to take away was processed at its source, as long as the move was under way

@@ -1,8 +1,9 @@
 -- The rows of an audit, which reads a journal after the script and the capture.
-use Rattle.std.proofs.Common.{◌≡◌, ℕ, List, [], true, length, Option, None, Some, is_some, Result, Ok, Err, refl, ap, sym, ◌∙◌, subst}
-use Rattle.std.specs.Prelude.{MatchResult}
+use Rattle.std.proofs.Common.{◌≡◌, ℕ, List, [], ◌&&◌, true, length, Option, None, Some, is_some, Result, Ok, Err, refl, ap, sym, ◌∙◌, subst}
+use Rattle.std.specs.Prelude.{IsTrue, MatchResult}
+use Rattle.basics.proofs.BoolLemmas.{both_true}
 use Rattle.nf_io.specs.declared.outside.Role.{Role}
-use Rattle.nf_io.specs.declared.outside.Role.TheVariants.{Trace, Script, JournalIn}
+use Rattle.nf_io.specs.declared.outside.Role.TheVariants.{Trace, Script, JournalIn, Report, JournalOut, TraceOut, Errors}
 use Rattle.nf_io.specs.Meaning.{Meaning, Rose}
 use Rattle.actor_net.specs.declared.choice.Choice.{Choice}
 use Rattle.journal_file.specs.declared.fault.JournalFault.{JournalFault}
@@ -13,11 +14,12 @@ use Rattle.opennf_calls.specs.declared.status.Status.{Status}
 use Rattle.opennf_calls.specs.declared.status.Status.TheVariants.{Ok as Done, Usage, BadScript, BadTrace, BadJournal, NotARun, ReadFault, WriteFault, NoMemory}
 use Rattle.opennf_calls.specs.declared.status.JournalKind.TheVariants as kinds
 use Rattle.opennf_calls.specs.declared.network.Made.{Made}
+use Rattle.opennf_calls.specs.Command.{is_input, is_read_before}
 use Rattle.opennf_calls.specs.NetworkRuns.{Given, RunResults, HasRun}
-use Rattle.opennf_calls.specs.Outcome.{ForResults, HasInput, IsBound, IsRead, IsRefusedCommand, RowOf, first_refusal, journal_read, journal_refusal, refusal_of}
+use Rattle.opennf_calls.specs.Outcome.{EarlierAreSound, ForResults, HasEarlier, HasInput, IsBound, IsRead, IsRefusedCommand, RowOf, first_refusal, journal_read, journal_refusal, refusal_of}
 use Rattle.opennf_calls.specs.Phases.{HasInputs, IsRefusedRun, OnlyRead, ReadAlone, ReadToEnd, TellsInputs, gives}
 use Rattle.opennf_calls.specs.Status.{journal_status}
-use Rattle.opennf_calls.proofs.RowLemmas.{more_read, one_read, read_fault, refused, silent, still_bound}
+use Rattle.opennf_calls.proofs.RowLemmas.{more_read, not_before, one_read, read_fault, refused, silent, still_bound}
 use Rattle.opennf_calls.proofs.RunRows.{audit_reads, journal_read_too, tells}
 
 -- what reading a journal of so many instances answers
@@ -46,6 +48,28 @@ module _ (s : NetworkAsked) (named : is_some s.journal ≡ true) (given : Given)
   told_journal : (bytes : Role → List ℕ) → HasInput (asks_audit s) old bytes → (mid JournalIn).left ≡ Some (bytes JournalIn)
   told_journal bytes is = ap (λ (m : Meaning). m.left) has.journal ∙ is JournalIn named
 
+  still_read : ReadToEnd s mid → ReadToEnd s new
+  still_read read = record {
+    trace = ap (λ (m : Meaning). m.left) (second.others Trace (λ same. cc)) ∙ read.trace;
+    script = λ there. ap (λ (m : Meaning). m.left) (second.others Script (λ same. cc)) ∙ read.script there;
+  }
+
+  -- what stands before the journal was right
+  inputs_sound : (bytes : Role → List ℕ) → HasEarlier (asks_audit s) JournalIn old bytes → EarlierAreSound (asks_audit s) JournalIn bytes new
+  inputs_sound bytes told_before = record { read = before; sound = has.sound bytes tells_both }
+    where
+      tells_both : TellsInputs s old bytes
+      tells_both = record { trace = told_before Trace refl; script = λ there. told_before Script (ap (λ b. b && true) there) }
+
+      before : (other : Role) → IsTrue (is_input (asks_audit s) other && is_read_before other JournalIn) → (new other).left ≡ Some []
+      before Trace is = (still_read (has.read bytes tells_both)).trace
+      before Script is = (still_read (has.read bytes tells_both)).script (both_true (is_some s.script) true is).0
+      before JournalIn is = absurd (not_before (is_some s.journal) is)
+      before Report is = absurd (cc)
+      before JournalOut is = absurd (cc)
+      before TraceOut is = absurd (cc)
+      before Errors is = absurd (cc)
+
   -- a fault of the journal
   module _ (e : JournalFault) (answers : AnswersJournal s (length s.instances.names) mid new (Err e)) where
     bad : (status : Status) → journal_refusal (Err e) ≡ Some status
@@ -67,19 +91,13 @@ module _ (s : NetworkAsked) (named : is_some s.journal ≡ true) (given : Given)
   journal_row fault.Short answers cause = (bad fault.Short answers (BadJournal kinds.Short) refl (λ bytes is. (due fault.Short answers bytes is).0), refl)
   journal_row fault.Extra answers cause = (bad fault.Extra answers (BadJournal kinds.Extra) refl (λ bytes is. (due fault.Extra answers bytes is).0), refl)
   journal_row fault.Read answers cause =
-      (read_fault old new only (asks_audit s) JournalIn bound named (subst (λ (m : Meaning). Rose m.faults (new JournalIn).faults) has.journal (cause.read refl)), refl)
+      (read_fault old new only (asks_audit s) JournalIn bound named (subst (λ (m : Meaning). Rose m.faults (new JournalIn).faults) has.journal (cause.read refl)) inputs_sound, refl)
   journal_row fault.NoMemory answers cause = (silent old new only, refl)
 
   -- the journal was read
   module _ (choices : List Choice) (answers : AnswersJournal s (length s.instances.names) mid new (Ok choices)) where
     told_choices : (bytes : Role → List ℕ) → HasInput (asks_audit s) old bytes → journal_read s bytes ≡ Ok choices
     told_choices bytes is = (answers (bytes JournalIn) (told_journal bytes is)).0
-
-    still_read : ReadToEnd s mid → ReadToEnd s new
-    still_read read = record {
-      trace = ap (λ (m : Meaning). m.left) (second.others Trace (λ same. cc)) ∙ read.trace;
-      script = λ there. ap (λ (m : Meaning). m.left) (second.others Script (λ same. cc)) ∙ read.script there;
-    }
 
     all_read : (bytes : Role → List ℕ) → HasInput (asks_audit s) old bytes → IsRead (asks_audit s) new
     all_read bytes is = journal_read_too s new (still_read (has.read bytes (told bytes is))) (answers (bytes JournalIn) (told_journal bytes is)).1

@@ -6,6 +6,9 @@ use Rattle.flow_filter.specs.declared.site.Site.{Site}
 use Rattle.nf_io.specs.declared.outside.Role.{Role}
 use Rattle.nf_io.specs.declared.outside.Role.TheVariants.{Trace, Script, JournalIn}
 use Rattle.nf_io.specs.Meaning.{Meaning, Rose}
+use Rattle.nf_io.specs.Transfers.{HasUptoCause}
+use Rattle.nf_io.specs.declared.transfers.UptoFault.{UptoFault}
+use Rattle.nf_io.specs.declared.transfers.UptoFault.TheVariants as upto
 use Rattle.trace_reader.specs.declared.trace.Trace.{Trace as Captured}
 use Rattle.trace_reader.specs.declared.fault.TraceFault.{TraceFault}
 use Rattle.trace_reader.specs.declared.fault.TraceFault.TheVariants as fault
@@ -20,8 +23,8 @@ use Rattle.command_words.specs.Plan.{NetworkAsked}
 use Rattle.opennf_calls.specs.declared.status.Status.{Status}
 use Rattle.opennf_calls.specs.Outcome.{IsSite, first_refusal, inputs_refusal, script_refusal, trace_refusal}
 use Rattle.opennf_calls.specs.NetworkRuns.{given_script}
-use Rattle.opennf_calls.specs.Phases.{HasInputs, HasScript, InputsFail, ReadAlone, RefusesInputs, TellsInputs}
-use Rattle.opennf_calls.specs.Status.{script_status, trace_status}
+use Rattle.opennf_calls.specs.Phases.{HasInputs, HasScript, InputsFail, ReadAlone, RefusesInputs, TellsInputs, TellsScript}
+use Rattle.opennf_calls.specs.Status.{reading_status, script_status, trace_status}
 
 -- a file that is named is there
 pub is_named : (file : Option (Bor (List ℕ))) → is_none file ≡ false → is_some (option_map (λ t. t.now) file) ≡ true
@@ -39,14 +42,26 @@ script_fails s old new (unread.Bad line kind) says = λ bytes told.
     ap (λ said. first_refusal (script_refusal said) (trace_refusal (capture_of (bytes Trace)))) (says line kind refl bytes told)
 script_fails s old new unread.NoMemory says = tt
 
+-- a script that can't be read
+pub unread_script : {A : Type 0} (s : NetworkAsked) (old new : Role → Meaning) (e : UptoFault) → is_some s.script ≡ true
+    → HasUptoCause {A = A} (old Script).faults (new Script).faults (Err e) → InputsFail s old new (reading_status Script e)
+unread_script s old new upto.Failed named cause = (named, cause.failed refl, tt)
+unread_script s old new upto.NoMemory named cause = tt
+
 -- a script has been read
 module _ (s : NetworkAsked) (old mid : Role → Meaning) (script : TheScript) (first : ReadAlone Script old mid) (has : HasScript s old mid script) where
+  script_told : (bytes : Role → List ℕ) → TellsInputs s old bytes → TellsScript s old bytes
+  script_told bytes told = record { script = told.script }
+
   -- the capture is read behind it
   module _ (new : Role → Meaning) (second : ReadAlone Trace mid new) where
     -- then the capture alone refuses
     refusal : (bytes : Role → List ℕ) → TellsInputs s old bytes → inputs_refusal s bytes ≡ trace_refusal (capture_of (bytes Trace))
     refusal bytes told =
-        ap (λ said. first_refusal (script_refusal said) (trace_refusal (capture_of (bytes Trace)))) (has.said bytes told)
+        ap (λ said. first_refusal (script_refusal said) (trace_refusal (capture_of (bytes Trace)))) (has.said bytes (script_told bytes told))
+
+    still_read : (bytes : Role → List ℕ) → TellsScript s old bytes → is_some s.script ≡ true → (new Script).left ≡ Some []
+    still_read bytes told named = ap (λ (m : Meaning). m.left) (second.others Script (λ same. cc)) ∙ has.read bytes told named
 
     same_trace : mid Trace ≡ old Trace
     same_trace = first.others Trace (λ same. cc)
@@ -70,7 +85,11 @@ module _ (s : NetworkAsked) (old mid : Role → Meaning) (script : TheScript) (f
     trace_fails (fault.RecordLength offset n) answers cause = bad (fault.RecordLength offset n) answers _ refl (λ bytes due. due)
     trace_fails (fault.TooLong offset) answers cause = bad (fault.TooLong offset) answers _ refl (λ bytes due. due)
     trace_fails (fault.Header length) answers cause = bad (fault.Header length) answers _ refl (λ bytes due. due)
-    trace_fails fault.Read answers cause = (refl, subst (λ (m : Meaning). Rose m.faults (new Trace).faults) same_trace (cause.read refl))
+    trace_fails fault.Read answers cause = (
+      refl,
+      subst (λ (m : Meaning). Rose m.faults (new Trace).faults) same_trace (cause.read refl),
+      record { read = still_read; sound = λ bytes told. ap script_refusal (has.said bytes told) },
+    )
     trace_fails fault.NoMemory answers cause = tt
 
     -- the capture was read
@@ -78,11 +97,11 @@ module _ (s : NetworkAsked) (old mid : Role → Meaning) (script : TheScript) (f
         → ((bytes : List ℕ) → (mid Trace).left ≡ Some bytes → AnswersTrace (capture_of bytes) (new Trace).left (Ok captured))
         → HasInputs s old new (record { site = site; captured = captured; script = script })
     both_read site is_site captured answers = record {
-      is_given = λ bytes told. record { read = (answers (bytes Trace) (told_trace bytes told)).0; said = has.said bytes told; is_site = is_site };
+      is_given = λ bytes told. record { read = (answers (bytes Trace) (told_trace bytes told)).0; said = has.said bytes (script_told bytes told); is_site = is_site };
       sound = λ bytes told. refusal bytes told ∙ ap trace_refusal (answers (bytes Trace) (told_trace bytes told)).0;
       read = λ bytes told. record {
         trace = (answers (bytes Trace) (told_trace bytes told)).1;
-        script = λ named. ap (λ (m : Meaning). m.left) (second.others Script (λ same. cc)) ∙ has.read bytes told named;
+        script = still_read bytes (script_told bytes told);
       };
       journal = second.others JournalIn (λ same. cc) ∙ first.others JournalIn (λ same. cc);
     }

@@ -10,7 +10,7 @@ use Rattle.command_words.specs.Plan.{Asked}
 use Rattle.opennf_calls.specs.declared.status.Status.{Status}
 use Rattle.opennf_calls.specs.declared.status.Status.TheVariants.{Ok as Done, Usage, BadScript, BadTrace, BadJournal, NotARun, ReadFault, WriteFault, NoMemory}
 use Rattle.opennf_calls.specs.declared.outcome.Outcome.{Outcome}
-use Rattle.opennf_calls.specs.Command.{is_result, comes_before}
+use Rattle.opennf_calls.specs.Command.{is_input, is_read_before, is_result, comes_before}
 use Rattle.opennf_calls.specs.NetworkRuns.{RunResults}
 use Rattle.opennf_calls.specs.Outcome.{HasInput, ForResults, IsBound, IsDone, IsWriteFault, IsReadFault, IsRefusedCommand, IsNotARun, MayBind, WroteNothing, WroteResultsAlone, Gained, RowOf, CauseOf, PutsLine}
 use Rattle.opennf_calls.specs.Phases.{SameContents, SameNames}
@@ -104,6 +104,14 @@ module _ (before old mid new : Role → Meaning) (around : Around before old mid
     rose = rose role (not_errors asked role row.input) row.rose;
     bound = bound asked row.bound;
     silent = silent row.silent;
+    earlier = λ bytes told.
+        let found = row.earlier bytes (λ other is. around.contents.left other ∙ told other is) in
+        record {
+          read = λ other is.
+              let input = (both_true (is_input asked other) (is_read_before other role) is).0 in
+              ap (λ m. m.left) (around.others other (not_errors asked other input)) ∙ found.read other is;
+          sound = found.sound;
+        };
   }
 
   refused : (asked : Asked) (status : Status) → IsRefusedCommand asked old mid status → IsRefusedCommand asked before new status

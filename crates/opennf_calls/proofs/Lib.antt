@@ -5,7 +5,9 @@ pub mod CompleteLemmas
 pub mod EndedCommands
 pub mod InputRows
 pub mod LastLineLemmas
+pub mod LoggedNumbers
 pub mod MakingLemmas
+pub mod NumberedLines
 pub mod RoleLemmas
 pub mod RowLemmas
 pub mod RunLemmas

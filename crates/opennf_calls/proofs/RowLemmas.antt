@@ -1,5 +1,5 @@
 -- From what a command did to the roles that it used to the row of its status, which speaks of all roles.
-use Rattle.std.proofs.Common.{◌≡◌, ◌≢◌, ℕ, List, [], false, ◌&&◌, None, Some, is_some, refl, ap, ◌∙◌, sym, subst, IsTrue, inl, inr}
+use Rattle.std.proofs.Common.{◌≡◌, ◌≢◌, ℕ, List, [], Bool, true, false, ◌&&◌, None, Some, is_some, refl, ap, ◌∙◌, sym, subst, IsTrue, inl, inr}
 use Rattle.std.specs.Io.KnownBytes.{Appends}
 use Rattle.basics.proofs.BoolLemmas.{both_true}
 use Rattle.nf_io.specs.declared.outside.Role.{Role}
@@ -10,8 +10,8 @@ use Rattle.actor_net.specs.declared.choice.Choice.{Choice}
 use Rattle.command_words.specs.Plan.{Asked, CheckAsked, GenAsked, asks_check, asks_gen}
 use Rattle.opennf_calls.specs.declared.status.Status.{Status}
 use Rattle.opennf_calls.specs.declared.status.Status.TheVariants.{Ok as Done, WriteFault}
-use Rattle.opennf_calls.specs.Command.{file_for, is_input, is_result, comes_before}
-use Rattle.opennf_calls.specs.Outcome.{HasInput, ForResults, IsBound, WroteNothing, WroteResultsAlone, Gained, IsReadFault, IsRefusedCommand, RowOf, refusal_of}
+use Rattle.opennf_calls.specs.Command.{file_for, is_input, is_read_before, is_result, comes_before}
+use Rattle.opennf_calls.specs.Outcome.{EarlierAreSound, HasEarlier, HasInput, ForResults, IsBound, WroteNothing, WroteResultsAlone, Gained, IsReadFault, IsRefusedCommand, RowOf, earlier_refusal, refusal_of}
 use Rattle.opennf_calls.specs.NetworkRuns.{RunResults}
 use Rattle.opennf_calls.specs.Phases.{GivesReport, OnlyRead, ReadAlone, SameNames, Performs}
 use Rattle.opennf_calls.specs.Writing.{Gains, Written, all_of, front_of, Wrote}
@@ -93,6 +93,23 @@ more_read old mid new first second = record {
   others = λ role unread. second.others role unread ∙ first.others role unread;
 }
 
+pub not_before : (b : Bool) → IsTrue (b && false) → ⊥
+not_before true is = cc
+not_before false is = cc
+
+-- nothing is read before the script
+pub first_read : (asked : Asked) (bytes : Role → List ℕ) (new : Role → Meaning) → earlier_refusal asked Script bytes ≡ None → EarlierAreSound asked Script bytes new
+first_read asked bytes new sound = record { read = none; sound = sound }
+  where
+    none : (other : Role) → IsTrue (is_input asked other && is_read_before other Script) → (new other).left ≡ Some []
+    none Trace is = absurd (not_before (is_input asked Trace) is)
+    none Script is = absurd (not_before (is_input asked Script) is)
+    none JournalIn is = absurd (not_before (is_input asked JournalIn) is)
+    none Report is = absurd (not_before (is_input asked Report) is)
+    none JournalOut is = absurd (not_before (is_input asked JournalOut) is)
+    none TraceOut is = absurd (not_before (is_input asked TraceOut) is)
+    none Errors is = absurd (not_before (is_input asked Errors) is)
+
 -- while inputs are read nothing is written, and no name changes
 module _ (old new : Role → Meaning) (only : OnlyRead old new) where
   pub silent : WroteNothing old new
@@ -102,8 +119,9 @@ module _ (old new : Role → Meaning) (only : OnlyRead old new) where
   still_bound asked bound other = only.names other ∙ bound other
 
   -- a failed read
-  pub read_fault : (asked : Asked) (role : Role) → IsBound asked old → IsTrue (is_input asked role) → Rose (old role).faults (new role).faults → IsReadFault asked old new role
-  read_fault asked role bound input rose = record { input = input; rose = rose; bound = still_bound asked bound; silent = silent }
+  pub read_fault : (asked : Asked) (role : Role) → IsBound asked old → IsTrue (is_input asked role) → Rose (old role).faults (new role).faults
+      → ((bytes : Role → List ℕ) → HasEarlier asked role old bytes → EarlierAreSound asked role bytes new) → IsReadFault asked old new role
+  read_fault asked role bound input rose earlier = record { input = input; rose = rose; bound = still_bound asked bound; silent = silent; earlier = earlier }
 
   -- a refusal
   pub refused : (asked : Asked) (status : Status) → IsBound asked old

@@ -1,7 +1,8 @@
 -- What is known of a run of the network, in the words of its command.
-use Rattle.std.proofs.Common.{◌≡◌, ℕ, ◌<◌, true, List, length, Option, Some, Result, Ok, Err, refl, ap, ◌∙◌, subst, arith}
+use Rattle.std.proofs.Common.{◌≡◌, ℕ, ◌<◌, true, List, map, length, Option, Some, Result, Ok, Err, refl, ap, ◌∙◌, subst, arith}
 use Rattle.std.specs.Prelude.{MatchResult}
 use Rattle.std.specs.declared.alloc.Global.{Global}
+use Rattle.flow_filter.specs.declared.packet.Packet.{Packet}
 use Rattle.nf_function.specs.Semantics.{Semantics}
 use Rattle.nf_msgs.specs.declared.msg.Msg.{Msg}
 use Rattle.nf_msgs.specs.declared.note.Note.{Note}
@@ -13,6 +14,7 @@ use Rattle.actor_net.specs.Network.{Network, is_done}
 use Rattle.journal_file.proofs.HeaderReads.{journal_again}
 use Rattle.net_world.specs.declared.config.Config.{Config}
 use Rattle.net_world.specs.declared.node.Node.{Node}
+use Rattle.net_world.specs.Input.{IsInput}
 use Rattle.net_world.specs.Nodes.{node_ended}
 use Rattle.nf_net.specs.Promises.{Completed, Promises}
 use Rattle.net_world.specs.Runs.{LeadsTo, chosen}
@@ -31,6 +33,8 @@ use Rattle.opennf_calls.specs.declared.status.Status.TheVariants.{BadTrace, BadJ
 use Rattle.opennf_calls.specs.NetworkRuns.{Given, HasNoRun, IsNoRun, IsRunOf, config_for, head_for, items_for}
 use Rattle.opennf_calls.specs.Phases.{IsRefusedAs, IsRefusedRun, gives}
 use Rattle.opennf_calls.specs.Status.{audit_status}
+use Rattle.opennf_calls.proofs.LoggedNumbers.{answer_numbers, out_numbers}
+use Rattle.run_input.proofs.SaidCommands.{end_is_last, packets_in}
 
 module _ {R : Type 0} (F : Type 0) (f : Semantics R) (s : NetworkAsked) (g : Given) (alloc : Global) (config : Config) (items : List Msg) (head : Head)
     (is_config : config ≡ config_for s g.site g.script.routes.items) (is_items : items ≡ items_for g.captured g.script) where
@@ -51,6 +55,7 @@ module _ {R : Type 0} (F : Type 0) (f : Semantics R) (s : NetworkAsked) (g : Giv
     pub completed : Completed f config items world
     pub home : AllHome config world
     pub few : length choices < MOST_CHOICES
+    pub input : IsInput s.kind config items
 
   -- its report is made
   pub run_of : (by : Option Schedule) (made : Made) (world : Network (Node F R) Msg Note) → Ran made.choices world
@@ -68,6 +73,10 @@ module _ {R : Type 0} (F : Type 0) (f : Semantics R) (s : NetworkAsked) (g : Giv
     completed = moved (λ c l. Completed f c l world) ran.completed;
     home = moved (λ c l. AllHome c world) ran.home;
     report = report ∙ ap (λ (h : Head). report_text f h s.summary world) is_head;
+    outs = out_numbers f s.kind (config_for s g.site g.script.routes.items) (items_for g.captured g.script) (moved (IsInput s.kind) ran.input) world (moved (λ c l. Completed f c l world) ran.completed)
+        ∙ ap (map (λ (p : Packet). p.number)) (packets_in g.captured.packets g.script.lines.items);
+    answers = answer_numbers f s.kind (config_for s g.site g.script.routes.items) (items_for g.captured g.script) (moved (IsInput s.kind) ran.input) world
+        (moved (λ c l. Completed f c l world) ran.completed) (end_is_last g.captured.packets g.script.lines.items) (moved (λ c l. Promises f c l world) ran.promises);
     journal = refl;
     few = ran.few;
     again = (let few = ran.few in journal_again s.kind (length s.instances.names) made.choices (omega (arith, few)));

@@ -1,5 +1,6 @@
 -- The rows of the commands that run the network: what is wrong with their inputs, what their run gives, and why there is none.
-use Rattle.std.proofs.Common.{◌≡◌, ℕ, List, [], ◌&&◌, Option, None, Some, is_some, refl, ap, IsTrue}
+use Rattle.std.proofs.Common.{◌≡◌, ℕ, List, [], ◌&&◌, true, Option, None, Some, is_some, refl, ap, sym, ◌∙◌, IsTrue}
+use Rattle.basics.proofs.BoolLemmas.{both_true}
 use Rattle.nf_io.specs.declared.outside.Role.{Role}
 use Rattle.nf_io.specs.declared.outside.Role.TheVariants.{Trace, Script, JournalIn, Report, JournalOut, TraceOut, Errors}
 use Rattle.nf_io.specs.Meaning.{Meaning}
@@ -8,11 +9,11 @@ use Rattle.actor_net.specs.declared.schedule.Schedule.{Schedule}
 use Rattle.command_words.specs.Plan.{Asked, NetworkAsked, asks_sim, asks_run, asks_audit}
 use Rattle.opennf_calls.specs.declared.status.Status.{Status}
 use Rattle.opennf_calls.specs.declared.status.Status.TheVariants.{Ok as Done, Usage, BadScript, BadTrace, BadJournal, NotARun, ReadFault, WriteFault, NoMemory}
-use Rattle.opennf_calls.specs.Command.{is_input, run_file, with_journal}
-use Rattle.opennf_calls.specs.NetworkRuns.{Given, RunResults, HasRun}
-use Rattle.opennf_calls.specs.Outcome.{ForResults, HasInput, IsBound, IsRead, IsRefusedCommand, RowOf, first_refusal, inputs_refusal, journal_read, journal_refusal, refusal_of}
-use Rattle.opennf_calls.specs.Phases.{HasInputs, InputsFail, OnlyRead, ReadToEnd, RefusesInputs, TellsInputs}
-use Rattle.opennf_calls.proofs.RowLemmas.{read_fault, refused, silent}
+use Rattle.opennf_calls.specs.Command.{is_input, is_read_before, run_file, with_journal}
+use Rattle.opennf_calls.specs.NetworkRuns.{Given, RunResults, HasRun, given_script}
+use Rattle.opennf_calls.specs.Outcome.{EarlierAreSound, ForResults, HasEarlier, HasInput, IsBound, IsRead, IsRefusedCommand, RowOf, earlier_refusal, first_refusal, inputs_refusal, journal_read, journal_refusal, refusal_of, script_refusal}
+use Rattle.opennf_calls.specs.Phases.{HasInputs, InputsFail, IsBehindSound, OnlyRead, ReadToEnd, RefusesInputs, ScriptIsSound, TellsInputs, TellsScript}
+use Rattle.opennf_calls.proofs.RowLemmas.{first_read, not_before, read_fault, refused, silent}
 
 -- the files of a run of the network are inputs, where its journal is written and where it is read
 beside_written : (s : NetworkAsked) (role : Role) → IsTrue (is_some (run_file s role)) → IsTrue (is_read role && is_some (with_journal s JournalOut role))
@@ -57,21 +58,56 @@ journal_read_too s new read journal Errors input = absurd (cc)
 pub record Reads (s : NetworkAsked) (asked : Asked) : Type 0 where
   pub input : (role : Role) → IsTrue (is_some (run_file s role)) → IsTrue (is_input asked role)
   pub first : (bytes : Role → List ℕ) (status : Status) → inputs_refusal s bytes ≡ Some status → refusal_of asked bytes ≡ Some status
+  -- nothing stands before the script, and the script before the capture
+  pub script_named : is_input asked Script ≡ is_some s.script
+  pub none_earlier : (bytes : Role → List ℕ) → earlier_refusal asked Script bytes ≡ None
+  pub script_earlier : (bytes : Role → List ℕ) → earlier_refusal asked Trace bytes ≡ script_refusal (given_script s (bytes Script))
 
 pub sim_reads : (s : NetworkAsked) (schedule : Schedule) → Reads s (asks_sim s schedule)
-sim_reads s schedule = record { input = beside_written s; first = λ bytes status is. is }
+sim_reads s schedule = record { input = beside_written s; first = λ bytes status is. is; script_named = refl; none_earlier = λ bytes. refl; script_earlier = λ bytes. refl }
 
 pub run_reads : (s : NetworkAsked) → Reads s (asks_run s)
-run_reads s = record { input = beside_written s; first = λ bytes status is. is }
+run_reads s = record { input = beside_written s; first = λ bytes status is. is; script_named = refl; none_earlier = λ bytes. refl; script_earlier = λ bytes. refl }
 
 pub audit_reads : (s : NetworkAsked) → Reads s (asks_audit s)
 audit_reads s = record {
   input = beside_read s;
   first = λ bytes status is. ap (λ (o : Option Status). first_refusal o (journal_refusal (journal_read s bytes))) is;
+  script_named = refl;
+  none_earlier = λ bytes. refl;
+  script_earlier = λ bytes. refl;
 }
 
 pub tells : (s : NetworkAsked) (asked : Asked) → Reads s asked → (old : Role → Meaning) (bytes : Role → List ℕ) → HasInput asked old bytes → TellsInputs s old bytes
 tells s asked reads old bytes told = record { trace = told Trace (reads.input Trace refl); script = λ named. told Script (reads.input Script named) }
+
+-- the script was read before the capture
+script_first : (s : NetworkAsked) (asked : Asked) → Reads s asked → (old new : Role → Meaning) → ScriptIsSound s old new → (bytes : Role → List ℕ)
+    → HasEarlier asked Trace old bytes → EarlierAreSound asked Trace bytes new
+script_first s asked reads old new script bytes told = record { read = read; sound = reads.script_earlier bytes ∙ script.sound bytes told_script }
+  where
+    told_script : TellsScript s old bytes
+    told_script = record { script = λ named. told Script (ap (λ b. b && true) (reads.script_named ∙ named)) }
+
+    read : (other : Role) → IsTrue (is_input asked other && is_read_before other Trace) → (new other).left ≡ Some []
+    read Script is = script.read bytes told_script (sym reads.script_named ∙ (both_true (is_input asked Script) true is).0)
+    read Trace is = absurd (not_before (is_input asked Trace) is)
+    read JournalIn is = absurd (not_before (is_input asked JournalIn) is)
+    read Report is = absurd (not_before (is_input asked Report) is)
+    read JournalOut is = absurd (not_before (is_input asked JournalOut) is)
+    read TraceOut is = absurd (not_before (is_input asked TraceOut) is)
+    read Errors is = absurd (not_before (is_input asked Errors) is)
+
+-- what stands before a file of a run was right
+earlier_sound : (s : NetworkAsked) (asked : Asked) → Reads s asked → (old new : Role → Meaning) (role : Role) → IsTrue (is_some (run_file s role))
+    → IsBehindSound s role old new → (bytes : Role → List ℕ) → HasEarlier asked role old bytes → EarlierAreSound asked role bytes new
+earlier_sound s asked reads old new Trace named behind bytes told = script_first s asked reads old new behind bytes told
+earlier_sound s asked reads old new Script named behind bytes told = first_read asked bytes new (reads.none_earlier bytes)
+earlier_sound s asked reads old new JournalIn named behind bytes told = absurd (cc)
+earlier_sound s asked reads old new Report named behind bytes told = absurd (cc)
+earlier_sound s asked reads old new JournalOut named behind bytes told = absurd (cc)
+earlier_sound s asked reads old new TraceOut named behind bytes told = absurd (cc)
+earlier_sound s asked reads old new Errors named behind bytes told = absurd (cc)
 
 -- the script and the capture give no run
 module _ (s : NetworkAsked) (asked : Asked) (reads : Reads s asked) (old new : Role → Meaning) (only : OnlyRead old new) (bound : IsBound asked old) where
@@ -79,7 +115,10 @@ module _ (s : NetworkAsked) (asked : Asked) (reads : Reads s asked) (old new : R
   refuses status says = refused old new only asked status bound (λ bytes told. reads.first bytes status (says bytes (tells s asked reads old bytes told)))
 
   pub fails_row : (status : Status) → InputsFail s old new status → RowOf asked old new [] status
-  fails_row (ReadFault role) fails = (read_fault old new only asked role bound (reads.input role fails.0) fails.1, refl)
+  fails_row (ReadFault role) fails = (
+    read_fault old new only asked role bound (reads.input role fails.0) fails.1 (earlier_sound s asked reads old new role fails.0 fails.2),
+    refl,
+  )
   fails_row NoMemory fails = (silent old new only, refl)
   fails_row (BadScript line kind) fails = (refuses (BadScript line kind) fails, refl)
   fails_row (BadTrace offset kind) fails = (refuses (BadTrace offset kind) fails, refl)

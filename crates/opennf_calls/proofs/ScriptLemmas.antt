@@ -1,5 +1,5 @@
 -- A script that is too long shows it in the front that is read; and the row of a script that is refused.
-use Rattle.std.proofs.Common.{◌≡◌, ◌≤◌, ◌+◌, ℕ, Bool, true, false, ltb, List, [], length, take, drop, Some, Ok, refl, arith, length-take}
+use Rattle.std.proofs.Common.{◌≡◌, ◌≤◌, ◌+◌, ℕ, Bool, true, false, ltb, List, [], length, take, drop, Some, Ok, Err, refl, arith, length-take}
 use Rattle.std.proofs.lemmas.Bool.{ltb-true, ltb-false, lt-ltb}
 use Rattle.std.proofs.lemmas.List.{take_all, drop_all}
 use Rattle.nf_function.specs.declared.kind.Kind.{Kind}
@@ -8,14 +8,18 @@ use Rattle.op_script.specs.Reading.{ScriptView, script_of}
 use Rattle.op_script.specs.declared.fault.ScriptFault.{ScriptFault}
 use Rattle.op_script.specs.declared.fault.ScriptFault.TheVariants as script
 use Rattle.nf_io.specs.declared.outside.Role.{Role}
+use Rattle.nf_io.specs.declared.outside.Role.TheVariants.{Script}
 use Rattle.opennf_calls.specs.declared.status.Status.TheVariants.{BadScript}
 use Rattle.op_script.specs.declared.fault.ScriptKind.{ScriptKind}
 use Rattle.nf_io.specs.Meaning.{Meaning}
-use Rattle.command_words.specs.Plan.{Asked}
+use Rattle.nf_io.specs.Transfers.{HasUptoCause}
+use Rattle.nf_io.specs.declared.transfers.UptoFault.{UptoFault}
+use Rattle.nf_io.specs.declared.transfers.UptoFault.TheVariants as upto
+use Rattle.command_words.specs.Plan.{Asked, CheckAsked, asks_check}
 use Rattle.opennf_calls.specs.Outcome.{HasInput, IsBound, RowOf, refusal_of}
 use Rattle.opennf_calls.specs.Phases.{OnlyRead}
-use Rattle.opennf_calls.specs.Status.{script_status}
-use Rattle.opennf_calls.proofs.RowLemmas.{silent, refused}
+use Rattle.opennf_calls.specs.Status.{reading_status, script_status}
+use Rattle.opennf_calls.proofs.RowLemmas.{first_read, read_fault, refused, silent}
 
 -- the most bytes that a script may have
 abbrev pub most_bytes : ℕ
@@ -55,3 +59,10 @@ pub script_row : (asked : Asked) (old new : Role → Meaning) (fault : ScriptFau
     → RowOf asked old new [] (script_status fault)
 script_row asked old new (script.Bad line kind) only bound says = (refused old new only asked (BadScript line kind) bound (says line kind refl), refl)
 script_row asked old new script.NoMemory only bound says = (silent old new only, refl)
+
+-- and that of a script that can't be read
+pub unread_row : {A : Type 0} (c : CheckAsked) (old new : Role → Meaning) (fault : UptoFault) → OnlyRead old new → IsBound (asks_check c) old
+    → HasUptoCause {A = A} (old Script).faults (new Script).faults (Err fault) → RowOf (asks_check c) old new [] (reading_status Script fault)
+unread_row c old new upto.Failed only bound cause =
+    (read_fault old new only (asks_check c) Script bound refl (cause.failed refl) (λ bytes told. first_read (asks_check c) bytes new refl), refl)
+unread_row c old new upto.NoMemory only bound cause = (silent old new only, refl)

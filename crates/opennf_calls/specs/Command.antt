@@ -35,6 +35,13 @@ file_for asked role = None
 abbrev pub is_input : Asked → Role → Bool
 is_input asked role = is_read role && is_some (file_for asked role)
 
+-- whether one input is read before another: the script, then the capture, then a journal
+abbrev pub is_read_before : Role → Role → Bool
+is_read_before Script Trace = true
+is_read_before Script JournalIn = true
+is_read_before Trace JournalIn = true
+is_read_before first second = false
+
 -- a result of the command: the report, and each other role that is written and has a file
 abbrev pub is_result : Asked → Role → Bool
 is_result asked Report = true

@@ -1,5 +1,5 @@
 -- What a run of the network is given, and what comes of it: a complete run from its start, its report and its journal. This project's own.
-use Rattle.std.specs.Prelude.{◌≡◌, ◌<◌, ℕ, true, List, [], ◌∷◌, length, Option, None, Some, is_some, Result, Ok, if◌then◌else◌}
+use Rattle.std.specs.Prelude.{◌≡◌, ◌<◌, ℕ, true, List, [], ◌∷◌, map, length, Option, None, Some, is_some, Result, Ok, if◌then◌else◌}
 use Rattle.std.specs.declared.alloc.Global.{Global}
 use Rattle.flow_filter.specs.declared.filter.Filter.{Filter}
 use Rattle.flow_filter.specs.declared.site.Site.{Site}
@@ -31,6 +31,7 @@ use Rattle.journal_file.specs.Reading.{journal_of}
 use Rattle.net_world.specs.declared.config.Config.{Config}
 use Rattle.net_world.specs.declared.node.Node.{Node}
 use Rattle.nf_net.specs.Promises.{Completed, Promises}
+use Rattle.net_world.specs.Input.{commands}
 use Rattle.net_world.specs.Nodes.{node_ended}
 use Rattle.net_world.specs.Runs.{chosen, LeadsTo}
 use Rattle.net_world.specs.Start.{started}
@@ -39,7 +40,7 @@ use Rattle.nf_net.specs.Promises.{Verdicts}
 use Rattle.net_world.specs.Window.{AllHome}
 use Rattle.run_report.specs.declared.head.Head.{Head}
 use Rattle.run_report.specs.Audits.{IsAuditCause}
-use Rattle.run_report.specs.Lines.{report_text}
+use Rattle.run_report.specs.Lines.{answer_in, by_number, output_in, report_text}
 
 -- the script that the words' file is read as, and one without routes and lines where the words name none
 abbrev pub given_script : NetworkAsked → List ℕ → Result ScriptView (ℕ × ScriptKind)
@@ -100,6 +101,9 @@ module _ {R : Type 0} (F : Type 0) (f : Semantics R) (s : NetworkAsked) (g : Giv
     pub completed : Completed f (config_for s g.site g.script.routes.items) (items_for g.captured g.script) world
     pub home : AllHome (config_for s g.site g.script.routes.items) world
     pub report : made.texts Report ≡ report_text f (head_for s g.captured) s.summary world
+    -- its outputs stand by the numbers of the packets that were captured, each once and in order, and its answers by those of the commands
+    pub outs : map (λ x. x.0) (by_number output_in world.log) ≡ map (λ p. p.number) g.captured.packets
+    pub answers : map (λ x. x.0) (by_number answer_in world.log) ≡ map (λ c. c.op) (commands (items_for g.captured g.script))
     pub journal : made.texts JournalOut ≡ journal_bytes s.kind (length s.instances.names) made.choices
     -- its choices are fewer than a journal may have, so the journal is read as these choices again
     pub few : length made.choices < MOST_CHOICES

@@ -22,7 +22,7 @@ use Rattle.command_words.specs.Plan.{Asked, NetworkAsked, CheckAsked, GenAsked, 
 use Rattle.opennf_calls.specs.declared.status.Status.{Status}
 use Rattle.opennf_calls.specs.declared.status.Status.TheVariants.{Ok as Done, Usage, BadScript, BadTrace, BadJournal, NotARun, ReadFault, WriteFault, NoMemory}
 use Rattle.opennf_calls.specs.declared.outcome.Outcome.{Outcome}
-use Rattle.opennf_calls.specs.Command.{file_for, is_input, is_result, comes_before}
+use Rattle.opennf_calls.specs.Command.{file_for, is_input, is_read_before, is_result, comes_before}
 use Rattle.opennf_calls.specs.NetworkRuns.{Given, RunResults, given_script, HasRun, HasNoRun}
 use Rattle.opennf_calls.specs.Status.{line_of, trace_status, journal_status}
 
@@ -105,6 +105,14 @@ refusal_of (asks_audit s) bytes = first_refusal (inputs_refusal s bytes) (journa
 refusal_of (asks_check c) bytes = script_refusal (script_of c.kind c.instances.names (bytes Script))
 refusal_of (asks_gen g) bytes = None
 
+-- the first refusal for what a command reads before this input, if there is one
+abbrev pub earlier_refusal : Asked → Role → (Role → List ℕ) → Option Status
+earlier_refusal (asks_sim s schedule) Trace bytes = script_refusal (given_script s (bytes Script))
+earlier_refusal (asks_run s) Trace bytes = script_refusal (given_script s (bytes Script))
+earlier_refusal (asks_audit s) Trace bytes = script_refusal (given_script s (bytes Script))
+earlier_refusal (asks_audit s) JournalIn bytes = inputs_refusal s bytes
+earlier_refusal asked role bytes = None
+
 -- the choices of a journal aren't a complete run, which shows at this step
 pub record TellsNoRun (s : NetworkAsked) (bytes : Role → List ℕ) (step : ℕ) : Type 0 where
   pub choices : List Choice
@@ -180,12 +188,22 @@ pub record IsWriteFault (asked : Asked) (old new : Role → Meaning) (role : Rol
   pub results : ForResults asked old new (λ made. (made.choices ≡ choices) × AppendsFront (old role).written (new role).written (made.texts role)
       × Gained (λ other. is_result asked other && comes_before other role) made.texts old new)
 
--- a read fault at an input: nothing was written
+-- the inputs that a command reads before this one hold these bytes, as the outside tells
+abbrev pub HasEarlier : Asked → Role → (Role → Meaning) → (Role → List ℕ) → Type 0
+HasEarlier asked role old bytes = (other : Role) → IsTrue (is_input asked other && is_read_before other role) → (old other).left ≡ Some (bytes other)
+
+-- they were read to their end, and nothing refuses them
+pub record EarlierAreSound (asked : Asked) (role : Role) (bytes : Role → List ℕ) (new : Role → Meaning) : Type 0 where
+  pub read : (other : Role) → IsTrue (is_input asked other && is_read_before other role) → (new other).left ≡ Some []
+  pub sound : earlier_refusal asked role bytes ≡ None
+
+-- a read fault at an input: nothing was written, and what stands before it was right, wherever the outside tells it
 pub record IsReadFault (asked : Asked) (old new : Role → Meaning) (role : Role) : Type 0 where
   pub input : IsTrue (is_input asked role)
   pub rose : Rose (old role).faults (new role).faults
   pub bound : IsBound asked new
   pub silent : WroteNothing old new
+  pub earlier : (bytes : Role → List ℕ) → HasEarlier asked role old bytes → EarlierAreSound asked role bytes new
 
 -- the inputs, where the outside tells them, are refused with this status: nothing was written
 pub record IsRefusedCommand (asked : Asked) (old new : Role → Meaning) (status : Status) : Type 0 where

@@ -22,7 +22,7 @@ use Rattle.opennf_calls.specs.declared.status.Status.{Status}
 use Rattle.opennf_calls.specs.declared.status.Status.TheVariants.{BadScript, BadTrace, NoMemory, NotARun, ReadFault}
 use Rattle.opennf_calls.specs.declared.outcome.Outcome.{Outcome}
 use Rattle.opennf_calls.specs.Command.{run_file}
-use Rattle.opennf_calls.specs.Outcome.{CauseOf, IsGiven, MayBind, RowOf, inputs_refusal}
+use Rattle.opennf_calls.specs.Outcome.{CauseOf, IsGiven, MayBind, RowOf, inputs_refusal, script_refusal}
 use Rattle.opennf_calls.specs.declared.inputs.Inputs.{Inputs}
 use Rattle.opennf_calls.specs.declared.network.Made.{Made}
 use Rattle.opennf_calls.specs.declared.network.Opening.{Opening}
@@ -68,6 +68,10 @@ pub record TellsInputs (s : NetworkAsked) (old : Role → Meaning) (bytes : Role
   pub trace : (old TraceRole).left ≡ Some (bytes TraceRole)
   pub script : IsTrue (is_some s.script) → (old ScriptRole).left ≡ Some (bytes ScriptRole)
 
+-- the words' script holds these bytes
+pub record TellsScript (s : NetworkAsked) (old : Role → Meaning) (bytes : Role → List ℕ) : Type 0 where
+  pub script : IsTrue (is_some s.script) → (old ScriptRole).left ≡ Some (bytes ScriptRole)
+
 -- they were read to their end
 pub record ReadToEnd (s : NetworkAsked) (new : Role → Meaning) : Type 0 where
   pub trace : (new TraceRole).left ≡ Some []
@@ -80,8 +84,13 @@ pub record InputsBound (s : NetworkAsked) (old : Role → Meaning) : Type 0 wher
 
 -- the script was read where the words name one
 pub record HasScript (s : NetworkAsked) (old new : Role → Meaning) (script : Script) : Type 0 where
-  pub said : (bytes : Role → List ℕ) → TellsInputs s old bytes → given_script s (bytes ScriptRole) ≡ Ok (script_view script)
-  pub read : (bytes : Role → List ℕ) → TellsInputs s old bytes → IsTrue (is_some s.script) → (new ScriptRole).left ≡ Some []
+  pub said : (bytes : Role → List ℕ) → TellsScript s old bytes → given_script s (bytes ScriptRole) ≡ Ok (script_view script)
+  pub read : (bytes : Role → List ℕ) → TellsScript s old bytes → IsTrue (is_some s.script) → (new ScriptRole).left ≡ Some []
+
+-- the script was read to its end, and isn't refused
+pub record ScriptIsSound (s : NetworkAsked) (old new : Role → Meaning) : Type 0 where
+  pub read : (bytes : Role → List ℕ) → TellsScript s old bytes → IsTrue (is_some s.script) → (new ScriptRole).left ≡ Some []
+  pub sound : (bytes : Role → List ℕ) → TellsScript s old bytes → script_refusal (given_script s (bytes ScriptRole)) ≡ None
 
 -- the script and the capture were read; a journal wasn't touched
 pub record HasInputs (s : NetworkAsked) (old new : Role → Meaning) (given : Given) : Type 0 where
@@ -94,9 +103,14 @@ pub record HasInputs (s : NetworkAsked) (old new : Role → Meaning) (given : Gi
 abbrev pub RefusesInputs : NetworkAsked → (Role → Meaning) → Status → Type 0
 RefusesInputs s old status = (bytes : Role → List ℕ) → TellsInputs s old bytes → inputs_refusal s bytes ≡ Some status
 
+-- before the capture the script was read
+abbrev pub IsBehindSound : NetworkAsked → Role → (old new : Role → Meaning) → Type 0
+IsBehindSound s TraceRole old new = ScriptIsSound s old new
+IsBehindSound s role old new = Unit {0}
+
 -- why the script and the capture give no run
 abbrev pub InputsFail : NetworkAsked → (old new : Role → Meaning) → Status → Type 0
-InputsFail s old new (ReadFault role) = IsTrue (is_some (run_file s role)) × Rose (old role).faults (new role).faults
+InputsFail s old new (ReadFault role) = IsTrue (is_some (run_file s role)) × Rose (old role).faults (new role).faults × IsBehindSound s role old new
 InputsFail s old new NoMemory = Unit {0}
 InputsFail s old new (BadScript line kind) = RefusesInputs s old (BadScript line kind)
 InputsFail s old new (BadTrace offset kind) = RefusesInputs s old (BadTrace offset kind)

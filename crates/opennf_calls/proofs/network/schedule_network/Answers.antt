@@ -37,5 +37,6 @@ returns g c =
       completed = c.in-Ok.ensures.completed;
       home = c.in-Ok.ensures.home;
       few = short_runs g.row.F.Denot f g.met.F.Function.laws c.args.alloc opening.config opening.items.items input is.short c.in-Ok.ended.1 leads.is_run;
+      input = is.is_input;
     }) (λ schedule same. let by : c.args.schedule ≡ schedule = cc in c.in-Ok.ensures.choices ∙ ap (λ k. chosen {F = g.row.F.Denot} f start k) by)
     is.head c.in_ok-report.ensures

@@ -44,6 +44,7 @@ returns g c =
             completed = report.completed input;
             home = report.home input;
             few = short_runs g.row.F.Denot g.F.Function.semantics g.met.F.Function.laws c.args.alloc opening.config opening.items.items input is.short c.items-told.result.now report.run.leads.is_run;
+            input = is.is_input;
           })) (λ schedule same. cc) is.head report.text,
       refl,
     )

@@ -20,4 +20,5 @@ returns g c =
       completed = c.in_ok-world.ensures.completed;
       home = c.in_ok-world.ensures.home;
       few = c.in_ok-world.ensures.few is.short;
+      input = is.is_input;
     }) (λ schedule same. cc) is.head c.in_ok-report.ensures

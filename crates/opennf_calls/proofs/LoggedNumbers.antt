@@ -1,0 +1,89 @@
+-- At the end of a run each packet of the input has one output in the log, and each command one answer.
+use Rattle.std.proofs.Common.{◌≡◌, ℕ, suc, ◌+◌, true, false, Option, Some, None, List, [], ◌∷◌, map, length, refl, sym, ap, ◌∙◌, arith}
+use Rattle.std.specs.Prelude.{if◌then◌else◌, ◌==◌, find, is_some, option_map}
+use Rattle.std.specs.List.{filter_map}
+use Rattle.std.proofs.lemmas.Bool.Decides.{nat_tests}
+use Rattle.nf_function.specs.Semantics.{Semantics}
+use Rattle.nf_msgs.specs.declared.command.Command.{Command}
+use Rattle.nf_msgs.specs.declared.command.Order.{Order}
+use Rattle.nf_msgs.specs.declared.msg.Msg.{Msg}
+use Rattle.nf_msgs.specs.declared.note.Note.{Note}
+use Rattle.nf_msgs.specs.declared.note.Note.TheVariants as note
+use Rattle.nf_function.specs.declared.kind.Kind.{Kind}
+use Rattle.actor_net.specs.Network.{Network}
+use Rattle.net_world.specs.declared.config.Config.{Config}
+use Rattle.net_world.specs.declared.node.Node.{Node}
+use Rattle.net_world.specs.Commands.{answers_of}
+use Rattle.net_world.specs.Fold.{times}
+use Rattle.net_world.specs.Input.{IsInput, IsRising, commands, ends_last, order_numbered, packets}
+use Rattle.net_world.specs.Log.{done}
+use Rattle.nf_net.specs.Promises.{Completed, Promises}
+use Rattle.nf_net.proofs.PacketCounts.{all_done}
+use Rattle.run_report.specs.Lines.{answer_in, by_number, output_in}
+use Rattle.opennf_calls.proofs.NumberedLines.{rising_above, rising_sorted}
+
+-- what the log has an output for is what was processed
+processed : (log : List Note) → map (λ x. x.0) (filter_map output_in log) ≡ map (λ d. d.number) (done log)
+processed [] = refl
+processed (note.Processed number instance output ∷ log) = ap (λ ns. number ∷ ns) (processed log)
+processed (note.Arrived number ∷ log) = processed log
+processed (note.Begun op ∷ log) = processed log
+processed (note.Exported instance op us ∷ log) = processed log
+processed (note.Imported instance op us ∷ log) = processed log
+processed (note.Kept instance op us ∷ log) = processed log
+processed (note.Installed op ∷ log) = processed log
+processed (note.Answered op answer ∷ log) = processed log
+
+-- a number has as many answers in the log as a list of all answers has for it
+answers_times : (op : ℕ) (log : List Note) → times op (map (λ x. x.0) (filter_map answer_in log)) ≡ length (answers_of op log)
+answers_times op [] = refl
+answers_times op (note.Answered k answer ∷ log) = elim (k == op) as (λ b. (k == op) ≡ b → (if op == k then 1 else 0) + times op (map (λ x. x.0) (filter_map answer_in log)) ≡ length (if b then answer ∷ answers_of op log else answers_of op log)) [
+  | true ↦ λ is. (let turned : (op == k) ≡ true = grind (arith, nat_tests) in let rest = answers_times op log in rw turned (omega (arith, rest)))
+  | false ↦ λ is. (let turned : (op == k) ≡ false = grind (arith, nat_tests) in let rest = answers_times op log in rw turned (omega (arith, rest)))
+] refl
+answers_times op (note.Processed number instance output ∷ log) = answers_times op log
+answers_times op (note.Arrived number ∷ log) = answers_times op log
+answers_times op (note.Begun k ∷ log) = answers_times op log
+answers_times op (note.Exported instance k us ∷ log) = answers_times op log
+answers_times op (note.Imported instance k us ∷ log) = answers_times op log
+answers_times op (note.Kept instance k us ∷ log) = answers_times op log
+answers_times op (note.Installed k ∷ log) = answers_times op log
+
+-- a number stands once among those of commands where one has it, and else nowhere
+command_times : (op least : ℕ) (cs : List Command) → IsRising least (map (λ c. c.op) cs)
+    → times op (map (λ c. c.op) cs) ≡ (if is_some (option_map (λ c. c.what) (find (λ c. c.op == op) cs)) then 1 else 0)
+command_times op least [] rising = refl
+command_times op least (c ∷ cs) rising = elim (c.op == op) as (λ b. (c.op == op) ≡ b
+    → (if op == c.op then 1 else 0) + times op (map (λ x. x.op) cs) ≡ (if is_some (option_map (λ x. x.what) (if b then Some c else find (λ x. x.op == op) cs)) then 1 else 0)) [
+      | true ↦ λ is.
+          let turned : (op == c.op) ≡ true = grind (arith, nat_tests) in
+          let none = rising_above op (suc c.op) (map (λ x. x.op) cs) rising.1 (grind (arith, nat_tests)) in
+          rw turned (omega (arith, none))
+      | false ↦ λ is.
+          let turned : (op == c.op) ≡ false = grind (arith, nat_tests) in
+          let rest = command_times op (suc c.op) cs rising.1 in
+          rw turned (omega (arith, rest))
+    ] refl
+
+-- In the world of a complete run.
+module _ {F R : Type 0} (f : Semantics R) (kind : Kind) (c : Config) (items : List Msg) (is : IsInput kind c items) (w : Network (Node F R) Msg Note) (completed : Completed f c items w) where
+  -- each number was processed as often as it came
+  processed_times : (p : ℕ) → times p (map (λ x. x.0) (filter_map output_in w.log)) ≡ times p (map (λ q. q.number) (packets items))
+  processed_times p =
+      ap (times p) (processed w.log) ∙ all_done f c items w.log completed.each_once p ∙ ap (times p) completed.all_came
+
+  -- the lines of outputs have each packet's number once, in order
+  pub out_numbers : map (λ x. x.0) (by_number output_in w.log) ≡ map (λ q. q.number) (packets items)
+  out_numbers = rising_sorted (filter_map output_in w.log) (map (λ q. q.number) (packets items)) is.numbers processed_times
+
+  module _ (last : ends_last items ≡ true) (promises : Promises f c items w) where
+    answered_times : (op : ℕ) → times op (map (λ x. x.0) (filter_map answer_in w.log)) ≡ times op (map (λ k. k.op) (commands items))
+    answered_times op = answers_times op w.log ∙ by_order (order_numbered items op) refl ∙ sym (command_times op 0 (commands items) is.ops)
+      where
+        by_order : (what : Option Order) → order_numbered items op ≡ what → length (answers_of op w.log) ≡ (if is_some (order_numbered items op) then 1 else 0)
+        by_order None none = ap length (promises.no_others op none).1 ∙ ap (λ o. if is_some o then 1 else 0) (sym none)
+        by_order (Some what) known = completed.answered last op what known ∙ ap (λ o. if is_some o then 1 else 0) (sym known)
+
+    -- and those of answers each command's
+    pub answer_numbers : map (λ x. x.0) (by_number answer_in w.log) ≡ map (λ k. k.op) (commands items)
+    answer_numbers = rising_sorted (filter_map answer_in w.log) (map (λ k. k.op) (commands items)) is.ops answered_times
