@@ -1,8 +1,19 @@
--- What is made is what the command gives for its inputs.
+-- What is made is what the command gives for its inputs, or the status has its row.
+use Rattle.std.proofs.Common.{Ok, Err}
+use Rattle.std.proofs.lemmas.Result.{err_from_is_err_and}
+use Rattle.command_words.specs.Plan.{asks_sim}
 use Rattle.command_words.specs.RequestViews.{network_view}
 use Rattle.opennf_calls.specs.Phases.{given_by, gives}
-use Rattle.opennf_calls.proofs.RunRows.{sim_results}
+use Rattle.opennf_calls.proofs.RunRows.{fails_row, sim_reads, sim_results}
 use Rattle.opennf_calls.proofs.sim.make.Goals as goal
+
+pub returns-in_err-inputs-clause-row : goal.returns-in_err-inputs-clause-row
+returns-in_err-inputs-clause-row g c =
+    let s = network_view c.args.asked.now in
+    let failed = err_from_is_err_and c.from_residual.result c.from_residual.ensures.1 in
+    rw (failed.1, failed.2)
+    (fails_row s (asks_sim s c.args.schedule) (sim_reads s c.args.schedule) (g.O.Outside.seen c.args.outside.now)
+    (g.O.Outside.seen c.read_inputs.new.outside) c.in_err-inputs.ensures.only c.requires.bound c.in_err-inputs.field-0.0 c.in_err-inputs.ensures.given)
 
 pub returns-clause-row : goal.returns-clause-row
 returns-clause-row g c =
