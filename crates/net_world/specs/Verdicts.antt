@@ -25,6 +25,7 @@ use Rattle.net_world.specs.declared.node.Node.{Node}
 use Rattle.net_world.specs.declared.node.Node.TheVariants.{Instance}
 use Rattle.net_world.specs.Commands.{began, answers_of}
 use Rattle.net_world.specs.Input.{packet_of, order_numbered}
+use Rattle.net_world.specs.Lives.{lives}
 use Rattle.net_world.specs.Nodes.{node_step}
 use Rattle.net_world.specs.Fold.{went}
 
@@ -116,5 +117,6 @@ module _ {F R : Type 0} (f : Semantics R) (start : Network (Node F R) Msg Note) 
       pub once : (other : List Choice) → IsTakenAfter op other → other ≡ front
       pub weighed : Weighed
       pub are_weighed : IsWeighed f config items op (run (node_step f) front start) weighed
+      pub by_history : weighed.held ≡ length (lives f config items start are_weighed.destination front)
       pub at_destination : is_taken.choice.node ≡ instance_node are_weighed.destination
       pub answer_is : answer ≡ verdict weighed

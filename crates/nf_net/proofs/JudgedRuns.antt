@@ -19,6 +19,7 @@ use Rattle.actor_net.specs.declared.choice.Choice.{Choice}
 use Rattle.actor_net.specs.Network.{Network, Stepped, IsRun, run, taken}
 use Rattle.actor_net.proofs.OpeningWorlds.{opening_on_links, opening_weight}
 use Rattle.actor_net.proofs.RunInduction.{Taking, run_induction}
+use Rattle.actor_net.proofs.RunLaws.{run_splits}
 use Rattle.actor_net.proofs.WeightLaws.{total, weigh}
 use Rattle.unit_machine.proofs.Labels.{Each}
 use Rattle.ctrl_node.specs.declared.operation.Operation.{Operation}
@@ -39,6 +40,7 @@ use Rattle.nf_net.proofs.JudgedTables.{used, used_few}
 use Rattle.nf_net.proofs.JudgedFacts.{HasVerdict, IsFound, Was_refused, Was_judged, Was_still}
 use Rattle.nf_net.proofs.JudgedNodes.{judging_next}
 use Rattle.nf_net.proofs.JudgedSteps.{Part, Verdict, Goes, Judging, SaidBy, happened}
+use Rattle.nf_net.proofs.LiveRuns.{run_lived, lives_number}
 use Rattle.nf_net.proofs.MoveJudged.{Said}
 use Rattle.answer_net.proofs.MoveOnce.{once}
 use Rattle.whole_joined.proofs.BesideRuns.{its_takes, its_label, its_labels}
@@ -134,6 +136,10 @@ module _ (F : Type 0) {R : Type 0} (f : Semantics R) (laws : FunctionLaws f) (al
     h : Judging F f alloc c items is cs w w.log
     h = run_judging cs run_is
 
+    -- what begins a run is one
+    is_front : (before after : List Choice) → before ++ after ≡ cs → IsRun node_ready step before start
+    is_front before after whole = (run_splits node_ready step before after start (subst (λ xs. IsRun node_ready step xs start) (sym whole) run_is)).0
+
     verdict_of : (op : ℕ) (a : Answer) → HasVerdict f c items start cs op a → IsVerdict f start cs c items op a
     verdict_of op a v = record {
       front = v.front;
@@ -143,6 +149,7 @@ module _ (F : Type 0) {R : Type 0} (f : Semantics R) (laws : FunctionLaws f) (al
       are_weighed = v.are_weighed;
       at_destination = v.at_destination;
       answer_is = v.answer_is;
+      by_history = v.are_weighed.held ∙ sym (lives_number F f laws alloc c items is v.front (is_front v.front (v.is_taken.choice ∷ v.is_taken.back) v.is_taken.whole) v.are_weighed.destination);
     }
       where
         few : times_taken f op cs start ≤ 1
@@ -176,4 +183,6 @@ module _ (F : Type 0) {R : Type 0} (f : Semantics R) (laws : FunctionLaws f) (al
       copied = λ op source destination filter a known on e. still_found op (order.Copy source destination filter) a refl known on e (h.found op a e);
       set_up = λ op members filter a known on e. still_found op (order.Share members filter) a refl known on e (h.found op a e);
       refused = λ op a off e. refused_by op a off (h.found op a e);
+      lives_are = λ before after i unit whole. (run_lived F f laws alloc c items is before (is_front before after whole)).same i unit;
+      lives_number = λ before after i whole. lives_number F f laws alloc c items is before (is_front before after whole) i;
     }

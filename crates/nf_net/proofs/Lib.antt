@@ -16,6 +16,11 @@ pub mod JudgedRuns
 pub mod JudgedShares
 pub mod JudgedSteps
 pub mod JudgedTables
+pub mod LiveRows
+pub mod LiveRuns
+pub mod LiveShares
+pub mod LiveSteps
+pub mod LiveUnits
 pub mod MemberLemmas
 pub mod MembersServed
 pub mod MoveJudged
@@ -35,6 +40,7 @@ pub mod SettleKeeps
 pub mod SettleRuns
 pub mod SettleSteps
 pub mod ShareAsks
+pub mod ShareOwners
 pub mod SharedHomes
 pub mod SourceRuns
 pub mod SourceSteps

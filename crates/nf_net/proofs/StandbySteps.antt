@@ -62,7 +62,7 @@ use Rattle.nf_net.proofs.FrontLemmas.{longer}
 use Rattle.nf_net.proofs.StandbyFronts.{IsOfFront, SeesMore, sees_same, later, of_front, sees_more, instance_front, stands_front}
 
 -- two lists of one length that are read the same at a place
-same_place : {X : Type 0} (xs ys : List X) (i : ℕ) → length xs ≡ length ys → ((d : X) → get_or ys i d ≡ get_or xs i d) → slice_get ys i ≡ slice_get xs i
+pub same_place : {X : Type 0} (xs ys : List X) (i : ℕ) → length xs ≡ length ys → ((d : X) → get_or ys i d ≡ get_or xs i d) → slice_get ys i ≡ slice_get xs i
 same_place [] [] i long same = refl
 same_place [] (y ∷ ys) i long same = absurd (omega (arith, long))
 same_place {X} (x ∷ xs) ys i long same = elim (nat_lt i (length ys)) as (λ b. nat_lt i (length ys) ≡ b → slice_get ys i ≡ slice_get (x ∷ xs) i) [
@@ -81,7 +81,7 @@ module _ {F R : Type 0} (f : Semantics R) where
 
 module _ {R : Type 0} (f : Semantics R) where
   -- what chunks bring of a unit
-  brought_is : (chunks : List Chunk) (u : units.Unit) → finite.get (records_of f chunks) u ≡ record_at u (entries f chunks)
+  pub brought_is : (chunks : List Chunk) (u : units.Unit) → finite.get (records_of f chunks) u ≡ record_at u (entries f chunks)
   unfolding records_of
   brought_is chunks u = finite.get-from_entries units_total (entries f chunks) u
 

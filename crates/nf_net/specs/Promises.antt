@@ -1,10 +1,11 @@
 -- What every run of the network keeps, complete or not, for every script: each packet is processed at most once, in the order of its unit;
 -- outputs and records are those of one instance that nothing moved. Packets go by their numbers. The words stand in `net_world`. This
 -- project's own.
-use Rattle.std.specs.Prelude.{◌≡◌, ℕ, ◌+◌, ◌≤◌, Bool, true, false, List, [], ◌∷◌, ◌++◌, map, length, Option, None, Some, All}
+use Rattle.std.specs.Prelude.{◌≡◌, ℕ, ◌+◌, ◌≤◌, Bool, true, false, List, [], ◌∷◌, ◌++◌, map, length, is_some, Option, None, Some, All}
 use Rattle.flow_filter.specs.declared.filter.Filter.{Filter}
 use Rattle.nf_function.specs.declared.unit.Unit as units
 use Rattle.nf_function.specs.Semantics.{Semantics}
+use Rattle.record_table.specs.Table.{is_among}
 use Rattle.nf_msgs.specs.declared.answer.Answer.{Answer}
 use Rattle.nf_msgs.specs.declared.answer.Answer.TheVariants.{Done}
 use Rattle.nf_msgs.specs.declared.command.Order.{Order}
@@ -18,6 +19,7 @@ use Rattle.net_world.specs.declared.node.Node.{Node}
 use Rattle.net_world.specs.Commands.{Answers, answers_of, began, times_installed}
 use Rattle.net_world.specs.Fold.{IsFront, times, came, fold, given, outputs, path, went}
 use Rattle.net_world.specs.Input.{packets, order_numbered, ends_last}
+use Rattle.net_world.specs.Lives.{lives}
 use Rattle.net_world.specs.Log.{arrived, done}
 use Rattle.net_world.specs.Nodes.{node_step}
 use Rattle.net_world.specs.Path.{under_way}
@@ -27,7 +29,7 @@ use Rattle.net_world.specs.Refused.{StaysAtSource}
 use Rattle.net_world.specs.Seen.{HasRecord}
 use Rattle.net_world.specs.Settles.{Settles}
 use Rattle.net_world.specs.Standby.{standby_at, StandsBy, EndsWith, EndsNoShorter}
-use Rattle.net_world.specs.Verdicts.{IsVerdict, is_refusal, noted}
+use Rattle.net_world.specs.Verdicts.{IsVerdict, is_refusal, noted, number_live}
 use Rattle.net_world.specs.Window.{Window}
 
 module _ {R : Type 0} (f : Semantics R) (config : Config) (items : List Msg) where
@@ -106,3 +108,7 @@ module _ {F R : Type 0} (f : Semantics R) (start : Network (Node F R) Msg Note) 
     pub set_up : (op : ℕ) (members : List (List ℕ)) (filter : Filter) (answer : Answer) → order_numbered items op ≡ Some (Share members filter) → began op (noted f start choices) ≡ true → answers_of op (noted f start choices) ≡ answer ∷ [] → answer ≡ Done
     -- and what didn't begin is answered by a refusal
     pub refused : (op : ℕ) (answer : Answer) → began op (noted f start choices) ≡ false → answers_of op (noted f start choices) ≡ answer ∷ [] → is_refusal answer ≡ true
+    -- what a move is judged by is told by what happened: at each point of the run the units that an instance has gained and hasn't lost since are
+    -- those with a live record there, each once
+    pub lives_are : (before after : List Choice) (i : ℕ) (unit : units.Unit) → before ++ after ≡ choices → is_among (lives f config items start i before) unit ≡ is_some (live_at (run (node_step f) before start) i unit)
+    pub lives_number : (before after : List Choice) (i : ℕ) → before ++ after ≡ choices → length (lives f config items start i before) ≡ number_live (run (node_step f) before start) i

@@ -1,0 +1,266 @@
+-- At every point of a run the units that the history says are live at an instance are those with a live record there, each once.
+use Rattle.std.proofs.Common.{◌≡◌, ◌≢◌, ℕ, zero, suc, ◌+◌, ◌<◌, true, false, Option, Some, None, List, [], ◌∷◌, ◌++◌, length, refl, sym, ap, ◌∙◌, subst, arith}
+use Rattle.std.specs.Prelude.{if◌then◌else◌, ◌&&◌, ◌||◌, ◌==◌, not, drop, is_some, slice_get}
+use Rattle.std.specs.declared.alloc.Global.{Global}
+use Rattle.std.specs.FinMap as finite
+use Rattle.std.proofs.lemmas.Bool.Decides.{nat_tests, Decides-eqb}
+use Rattle.std.proofs.lemmas.Option.{slice_get-get_or}
+use Rattle.std.proofs.Math.Seq.{drop-append_seam}
+use Rattle.nf_function.specs.declared.chunk.Chunk.{Chunk}
+use Rattle.nf_function.specs.declared.unit.Unit as units
+use Rattle.nf_function.specs.Records.{Laws as FunctionLaws}
+use Rattle.nf_function.specs.Semantics.{Semantics}
+use Rattle.record_table.specs.Table.{is_among}
+use Rattle.record_table.proofs.UnitOrder.{same_unit_equiv}
+use Rattle.nf_msgs.specs.declared.command.Order.TheVariants as order
+use Rattle.nf_msgs.specs.declared.msg.Msg.{Msg}
+use Rattle.nf_msgs.specs.declared.msg.Msg.TheVariants as msg
+use Rattle.nf_msgs.specs.declared.note.Note.{Note}
+use Rattle.nf_msgs.specs.Nodes.{instance_node}
+use Rattle.instance_worker.specs.declared.instance.Instance.{Instance as InstanceState}
+use Rattle.instance_worker.specs.Instance.{Step, instance_step}
+use Rattle.actor_net.specs.declared.choice.Choice.{Choice}
+use Rattle.actor_net.specs.Network.{Network, IsRun, run, taken, waiting}
+use Rattle.actor_net.proofs.EnabledChoices.{at}
+use Rattle.actor_net.proofs.RunInduction.{Taking, run_induction, run_world}
+use Rattle.actor_net.proofs.RunLaws.{run_more}
+use Rattle.actor_net.proofs.StepOutcome.{Takes, Outcome, taken_outcome}
+use Rattle.net_world.specs.declared.config.Config.{Config}
+use Rattle.net_world.specs.declared.node.Node.{Node}
+use Rattle.net_world.specs.declared.node.Node.TheVariants.{Switch, Controller, Instance}
+use Rattle.net_world.specs.Fold.{fold, went}
+use Rattle.net_world.specs.Input.{IsInput, order_numbered}
+use Rattle.net_world.specs.Lives.{with_units, without_units, lost_by, gained, is_first_of, is_shared_away, lives, lives_next, lives_from}
+use Rattle.net_world.specs.Nodes.{node_step, node_ready}
+use Rattle.net_world.specs.Path.{all_of}
+use Rattle.net_world.specs.Places.{unit_numbered}
+use Rattle.net_world.specs.Records.{live_in, live_at, removed_by}
+use Rattle.net_world.specs.Verdicts.{number_in, number_live}
+use Rattle.whole_joined.proofs.BesideRuns.{its_takes, its_taken}
+use Rattle.whole_joined.proofs.CopyTokens.{token_open}
+use Rattle.whole_joined.proofs.Given.{Given}
+use Rattle.whole_joined.proofs.Joined.{node_of, IsTaken}
+use Rattle.whole_joined.proofs.JoinedSteps.{scene}
+use Rattle.whole_joined.proofs.NodeSteps.{Wants, node_leads}
+use Rattle.whole_joined.proofs.PlaceNotes.{instance_quiet}
+use Rattle.whole_joined.proofs.RunsJoined.{Runs, run_beside, start_world}
+use Rattle.whole_joined.proofs.StartJoined.{given, all_fit, count_at_start}
+use Rattle.answer_net.proofs.CommandPromises.{run_busy}
+use Rattle.nf_net.proofs.LiveRows.{Free, Lives}
+use Rattle.nf_net.proofs.LiveShares.{nothing_live}
+use Rattle.nf_net.proofs.LiveSteps.{away_quiet, step_lives}
+use Rattle.nf_net.proofs.LiveUnits.{AreOnce, with_in, with_once, without_in, without_once, as_many}
+use Rattle.nf_net.proofs.NumberedUnits.{units_fit}
+use Rattle.nf_net.proofs.RunKeeps.{start, count}
+use Rattle.nf_net.proofs.SharedHomes.{run_homes}
+use Rattle.nf_net.proofs.ShareOwners.{owners_stay}
+use Rattle.nf_net.proofs.StandbyFronts.{IsOfFront, lives_front}
+use Rattle.nf_net.proofs.StandbySteps.{same_place}
+
+none_before : (xs ys : List ℕ) → xs ++ ys ≡ [] → xs ≡ []
+none_before [] ys e = refl
+none_before (x ∷ xs) ys e = cc
+
+other_node : (i y : ℕ) → (i == y) ≡ false → (suc (suc y) == instance_node i) ≡ false
+other_node i y off = grind (arith, nat_tests, off)
+
+no_instance : (k i : ℕ) → k < 2 → (k == instance_node i) ≡ false
+no_instance k i low = grind (arith, nat_tests, low)
+
+module _ (F : Type 0) {R : Type 0} (f : Semantics R) (laws : FunctionLaws f) (alloc : Global) (c : Config) (items : List Msg) (is : IsInput f.kind c items) where
+  abbrev g : Given
+  g = given f c items is
+
+  abbrev n : ℕ
+  n = count F f laws alloc c items is
+
+  abbrev first : Network (Node F R) Msg Note
+  first = start F f laws alloc c items is
+
+  abbrev by : ℕ → List Choice → List units.Unit
+  by i cs = lives f c items first i cs
+
+  -- what is kept of the choices so far and the world
+  pub record Lived (cs : List Choice) (w : Network (Node F R) Msg Note) : Type 0 where
+    pub same : (i : ℕ) (u : units.Unit) → is_among (by i cs) u ≡ is_some (live_at w i u)
+    pub once : (i : ℕ) → AreOnce (by i cs)
+
+  -- one choice more at the end
+  lives_more : (i : ℕ) (cs : List Choice) (d : Choice) (w : Network (Node F R) Msg Note) (us : List units.Unit) → lives_from f c items i w (cs ++ d ∷ []) us ≡ lives_next f c items i (run (node_step f) cs w) d (lives_from f c items i w cs us)
+  lives_more i [] d w us = refl
+  lives_more i (x ∷ cs) d w us = lives_more i cs d (taken (node_step f) w x) (lives_next f c items i w x us)
+
+  count_of : (cs : List Choice) → IsRun node_ready (node_step f) cs first → length (run (node_step f) cs first).nodes ≡ n
+  count_of cs runs = (run_world node_ready (node_step f) n first (start_world F f laws alloc c items is) (count_at_start F f alloc c items is) cs runs).1
+
+  -- where a share has a packet's unit elsewhere, it isn't live
+  away_nothing : (cs : List Choice) → IsRun node_ready (node_step f) cs first → (y k : ℕ) → is_shared_away c items (unit_numbered c items f.kind k) y (run (node_step f) cs first).log ≡ true → live_at (run (node_step f) cs first) y (unit_numbered c items f.kind k) ≡ None
+  away_nothing cs runs y k away =
+      let r : Runs F f laws alloc c items is (run (node_step f) cs first) = run_beside F f laws alloc c items is cs runs in
+      nothing_live f c items is n refl (run (node_step f) cs first) r.joined r.beside.kept.apart (run_busy F f laws alloc c items is cs runs).1 (unit_numbered c items f.kind k) (units_fit f c items is k) (owners_stay F f laws alloc c items is cs runs) (count_of cs runs) y away
+
+  -- nothing is live at the start
+  none_live : (i : ℕ) (u : units.Unit) → live_at first i u ≡ None
+  none_live i u =
+      let r : Runs F f laws alloc c items is first = run_beside F f laws alloc c items is [] tt in
+      let h : IsOfFront f c items (went f c items u []) (live_at first i u) = lives_front f c items is n first (count_at_start F f alloc c items is) r.joined i u in
+      let none : h.front ≡ [] = none_before h.front h.is_front.rest h.is_front.whole in
+      sym h.folds ∙ ap (fold f c items None) none
+
+  start_lived : Lived [] first
+  start_lived = record { same = λ i u. sym (ap is_some (none_live i u)); once = λ i. tt }
+
+  -- A choice of a run
+  module _ (cs : List Choice) (runs : IsRun node_ready (node_step f) cs first) (d : Choice) (more : IsRun node_ready (node_step f) (cs ++ d ∷ []) first) (h : Lived cs (run (node_step f) cs first)) where
+    abbrev w : Network (Node F R) Msg Note
+    w = run (node_step f) cs first
+
+    abbrev v : Network (Node F R) Msg Note
+    v = taken (node_step f) w d
+
+    r : Runs F f laws alloc c items is w
+    r = run_beside F f laws alloc c items is cs runs
+
+    next_is : (i : ℕ) → by i (cs ++ d ∷ []) ≡ lives_next f c items i w d (by i cs)
+    next_is i = lives_more i cs d first []
+
+    abbrev Same : ℕ → Type 0
+    Same i = (u : units.Unit) → is_among (by i (cs ++ d ∷ [])) u ≡ is_some (live_at v i u)
+
+    -- of another node
+    other_same : (i : ℕ) → (d.node == instance_node i) ≡ false → ((u : units.Unit) → live_at v i u ≡ live_at w i u) → Same i
+    other_same i off stays u =
+        let unchanged : lives_next f c items i w d (by i cs) ≡ by i cs = rw off refl in
+        ap (λ us. is_among us u) (next_is i ∙ unchanged) ∙ h.same i u ∙ sym (ap is_some (stays u))
+
+    once_next : (i : ℕ) → AreOnce (by i (cs ++ d ∷ []))
+    once_next i = subst AreOnce (sym (next_is i)) (elim (d.node == instance_node i) as (λ t. AreOnce (if t then with_units (without_units (lost_by (waiting w d)) (by i cs)) (all_of (gained c items f.kind i w.log) (drop (length w.log) v.log)) else by i cs)) [
+      | true ↦ with_once (without_units (lost_by (waiting w d)) (by i cs)) (all_of (gained c items f.kind i w.log) (drop (length w.log) v.log)) (without_once (lost_by (waiting w d)) (by i cs) (h.once i))
+      | false ↦ h.once i
+    ])
+
+    module _ (p : ℕ) (m : Msg) (rest : List Msg) where
+      stays_at : (k : ℕ) (takes : Takes (node_step f) n w k p (node_of r.joined.nodes k) m rest) (i : ℕ) → instance_node i ≢ k → (u : units.Unit) → live_at (taken (node_step f) w (at k p)) i u ≡ live_at w i u
+      stays_at k takes i off u =
+          let left = taken_outcome (node_step f) n w k p (node_of r.joined.nodes k) m rest takes in
+          ap (live_in u) (same_place w.nodes (taken (node_step f) w (at k p)).nodes (instance_node i) (takes.count ∙ sym left.count) (λ x. left.others (instance_node i) x off))
+
+      module _ (y : ℕ) (takes : Takes (node_step f) n w (suc (suc y)) p (node_of r.joined.nodes (suc (suc y))) m rest) (t : IsTaken f g n (scene f g n refl (Wants f g) (node_leads f laws g (all_fit f c items is) n) w r.joined) (record { node = suc (suc y); port = p; message = m })) (d_is : d ≡ at (suc (suc y)) p) where
+        abbrev own : InstanceState F R
+        own = r.joined.nodes.instance (suc (suc y))
+
+        abbrev did : Step F R
+        did = instance_step f own m
+
+        abbrev u_at : Network (Node F R) Msg Note
+        u_at = taken (node_step f) w (at (suc (suc y)) p)
+
+        out : Outcome (node_step f) n w (suc (suc y)) p (node_of r.joined.nodes (suc (suc y))) m rest u_at
+        out = taken_outcome (node_step f) n w (suc (suc y)) p (node_of r.joined.nodes (suc (suc y))) m rest takes
+
+        node_is : instance_node y ≡ suc (suc y)
+        node_is = omega arith
+
+        there : slice_get w.nodes (instance_node y) ≡ Some (Instance own)
+        there = subst (λ z. slice_get w.nodes z ≡ Some (Instance own)) (sym node_is) (slice_get-get_or w.nodes (suc (suc y)) (Instance own) (let small = takes.receiver in let count = takes.count in rw count small) ∙ ap Some (r.joined.nodes_are (suc (suc y)) takes.receiver (Instance own)))
+
+        after : slice_get u_at.nodes (instance_node y) ≡ Some (Instance did.node)
+        after = subst (λ z. slice_get u_at.nodes z ≡ Some (Instance did.node)) (sym node_is) (slice_get-get_or u_at.nodes (suc (suc y)) (Instance did.node) (let small = takes.receiver in let count = out.count in rw count small) ∙ ap Some (out.own (Instance did.node)))
+
+        v_is : v ≡ u_at
+        v_is = ap (taken (node_step f) w) d_is
+
+        now_live : (u : units.Unit) → live_at v y u ≡ finite.get did.node.table.live u
+        now_live u = ap (λ x. live_at x y u) v_is ∙ ap (live_in u) after
+
+        log_is : v.log ≡ w.log ++ did.notes
+        log_is = ap (λ x. x.log) v_is ∙ out.log
+
+        -- what is live then of a packet's unit no share has elsewhere
+        free : Free f laws c items is y w.log own (r.joined.shown_is.instances (suc (suc y)) (omega arith) takes.receiver).rules.at did
+        free k on = elim (is_shared_away c items (unit_numbered c items f.kind k) y w.log) as (λ b. is_shared_away c items (unit_numbered c items f.kind k) y w.log ≡ b → b ≡ false) [
+          | true ↦ λ away.
+              let u = unit_numbered c items f.kind k in
+              let reached : v ≡ run (node_step f) (cs ++ d ∷ []) first = run_more (node_step f) cs d first w refl in
+              let still : is_shared_away c items u y (run (node_step f) (cs ++ d ∷ []) first).log ≡ true = ap (λ x. is_shared_away c items u y x.log) (sym reached) ∙ ap (is_shared_away c items u y) log_is ∙ away_quiet c items u y own.index w.log did.notes (instance_quiet f own m) ∙ away in
+              let none : live_at v y u ≡ None = ap (λ x. live_at x y u) reached ∙ away_nothing (cs ++ d ∷ []) more y k still in
+              let never : true ≡ false = sym on ∙ ap is_some (sym (now_live u) ∙ none) in
+              cc
+          | false ↦ λ _. refl
+        ] refl
+
+        -- a copy's chunks are of a copy's number
+        copied : (op : ℕ) (chunks : List Chunk) → m ≡ msg.Standby op chunks → is_first_of c items (order_numbered items op) y ≡ false
+        copied op chunks is_so =
+            let some = takes.receiver in
+            let open_so = token_open f g n w r.joined (suc (suc y)) p op chunks rest (omega (arith, some)) (subst (λ x. Takes (node_step f) n w (suc (suc y)) p (node_of r.joined.nodes (suc (suc y))) x rest) is_so takes) r.beside.tokens in
+            let its = r.joined.shown_is.controller.copies op open_so.copy open_so.there in
+            let what : order_numbered items op ≡ Some (order.Copy its.plan.source its.plan.destination open_so.copy.plan.filter) = ap (order_numbered items) (sym its.op_is) ∙ its.plan.order_is in
+            ap (λ o. is_first_of c items o y) what
+
+        goes : Lives f laws c items is y w.log own (r.joined.shown_is.instances (suc (suc y)) (omega arith) takes.receiver).rules.at m did
+        unfolding r
+        goes = step_lives f laws c items is n refl w r.joined r.beside.kept.apart (run_busy F f laws alloc c items is cs runs).1 (run_homes F f laws alloc c items is cs runs) (owners_stay F f laws alloc c items is cs runs) p y takes.receiver m t copied free
+
+        own_same : Same y
+        own_same u =
+            let on : (d.node == instance_node y) ≡ true = ap (λ x. x.node == instance_node y) d_is ∙ (Decides-eqb (suc (suc y)) (instance_node y)).1 (sym node_is) in
+            let us = by y cs in
+            let gains = all_of (gained c items f.kind y w.log) in
+            let noted : drop (length w.log) v.log ≡ did.notes = ap (drop (length w.log)) log_is ∙ drop-append_seam w.log did.notes in
+            let waits : waiting w d ≡ m ∷ rest = ap (waiting w) d_is ∙ takes.waits in
+            let changed : lives_next f c items y w d us ≡ with_units (without_units (lost_by (waiting w d)) us) (gains (drop (length w.log) v.log)) = rw on refl in
+            let now : with_units (without_units (lost_by (waiting w d)) us) (gains (drop (length w.log) v.log)) ≡ with_units (without_units (removed_by m) us) (gains did.notes) = ap (λ ms. with_units (without_units (lost_by ms) us) (gains (drop (length w.log) v.log))) waits ∙ ap (λ ns. with_units (without_units (removed_by m) us) (gains ns)) noted in
+            ap (λ xs. is_among xs u) (next_is y ∙ changed ∙ now)
+            ∙ with_in (without_units (removed_by m) us) (gains did.notes) u
+            ∙ ap (λ b. b || is_among (gains did.notes) u) (without_in (removed_by m) us u)
+            ∙ ap (λ b. (b && not (is_among (removed_by m) u)) || is_among (gains did.notes) u) (h.same y u ∙ ap is_some (ap (live_in u) there))
+            ∙ sym (goes u)
+            ∙ sym (ap is_some (now_live u))
+
+        at_instance : (i : ℕ) → Same i
+        at_instance i = elim (i == y) as (λ b. (i == y) ≡ b → Same i) [
+          | true ↦ λ on. subst Same (sym ((Decides-eqb i y).0 on)) own_same
+          | false ↦ λ off.
+              let apart : instance_node i ≢ suc (suc y) = λ e. (let bad : i ≡ y = omega (arith, e) in let never : true ≡ false = sym ((Decides-eqb i y).1 bad) ∙ off in cc) in
+              let other : (d.node == instance_node i) ≡ false = ap (λ x. x.node == instance_node i) d_is ∙ other_node i y off in
+              other_same i other (λ u. ap (λ x. live_at x i u) v_is ∙ stays_at (suc (suc y)) takes i apart u)
+        ] refl
+
+      each_same : (k : ℕ) → Takes (node_step f) n w k p (node_of r.joined.nodes k) m rest → IsTaken f g n (scene f g n refl (Wants f g) (node_leads f laws g (all_fit f c items is) n) w r.joined) (record { node = k; port = p; message = m }) → d ≡ at k p → (i : ℕ) → Same i
+      each_same zero takes t d_is i = other_same i (ap (λ x. x.node == instance_node i) d_is ∙ no_instance 0 i (omega arith)) (λ u. ap (λ x. live_at x i u) (ap (taken (node_step f) w) d_is) ∙ stays_at 0 takes i (λ e. absurd (omega (arith, e))) u)
+      each_same (suc zero) takes t d_is i = other_same i (ap (λ x. x.node == instance_node i) d_is ∙ no_instance 1 i (omega arith)) (λ u. ap (λ x. live_at x i u) (ap (taken (node_step f) w) d_is) ∙ stays_at 1 takes i (λ e. absurd (omega (arith, e))) u)
+      each_same (suc (suc y)) takes t d_is i = at_instance y takes t d_is i
+
+    lived_next : Taking node_ready (node_step f) n w d → Lived (cs ++ d ∷ []) v
+    lived_next t = record {
+      same = each_same d.port t.message t.rest d.node (its_takes f laws g (all_fit f c items is) n refl w d t r.joined r.beside) (its_taken f laws g (all_fit f c items is) n refl w d t r.joined r.beside) refl;
+      once = once_next;
+    }
+
+  -- every run keeps it
+  pub run_lived : (cs : List Choice) → IsRun node_ready (node_step f) cs first → Lived cs (run (node_step f) cs first)
+  run_lived cs run_is = run_induction node_ready (node_step f) n (λ ds w. IsRun node_ready (node_step f) ds first → Lived ds w) first
+      (λ ds w d next h more. subst (λ v. Taking node_ready (node_step f) n v d → Lived ds v → Lived (ds ++ d ∷ []) (taken (node_step f) v d)) (sym next.reached) (λ t k. lived_next ds next.is_run d more k t) next.taking (h next.is_run))
+      (start_world F f laws alloc c items is) (count_at_start F f alloc c items is) (λ _. start_lived) cs run_is run_is
+
+  -- and so they are as many as the records
+  pub lives_number : (cs : List Choice) → IsRun node_ready (node_step f) cs first → (i : ℕ) → length (by i cs) ≡ number_live (run (node_step f) cs first) i
+  lives_number cs run_is i = by_node (slice_get (run (node_step f) cs first).nodes (instance_node i)) refl
+    where
+      h : Lived cs (run (node_step f) cs first)
+      h = run_lived cs run_is
+
+      none_here : (us : List units.Unit) → ((u : units.Unit) → is_among us u ≡ false) → length us ≡ 0
+      none_here [] all = refl
+      none_here (u ∷ us) all =
+          let same_is = same_unit_equiv.refl u in
+          let self : is_among (u ∷ us) u ≡ true = rw same_is refl in
+          let never : true ≡ false = sym self ∙ all u in
+          cc
+
+      by_node : (o : Option (Node F R)) → slice_get (run (node_step f) cs first).nodes (instance_node i) ≡ o → length (by i cs) ≡ number_in o
+      by_node None e = none_here (by i cs) (λ u. h.same i u ∙ ap is_some (ap (live_in u) e))
+      by_node (Some (Switch s)) e = none_here (by i cs) (λ u. h.same i u ∙ ap is_some (ap (live_in u) e))
+      by_node (Some (Controller s)) e = none_here (by i cs) (λ u. h.same i u ∙ ap is_some (ap (live_in u) e))
+      by_node (Some (Instance s)) e = as_many (by i cs) s.table.live (h.once i) (λ u. h.same i u ∙ ap is_some (ap (live_in u) e))

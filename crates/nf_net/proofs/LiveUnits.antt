@@ -1,0 +1,112 @@
+-- Units each once: what is added and taken out, and that they are as many as the records that have them.
+use Rattle.std.proofs.Common.{◌≡◌, zero, suc, ◌-◌, ◌≤◌, Bool, true, false, cond, None, List, [], ◌∷◌, length, map, refl, sym, ap, ◌∙◌, arith}
+use Rattle.std.specs.Prelude.{if◌then◌else◌, ◌&&◌, ◌||◌, not, is_some}
+use Rattle.std.specs.FinMap as finite
+use Rattle.std.specs.FinMap.{contains_key-keys, empty_of_len, get-empty, get-remove, len-entries, len-remove}
+use Rattle.nf_function.specs.declared.unit.Unit as units
+use Rattle.nf_function.specs.UnitOrder.{units_total}
+use Rattle.nf_function.specs.Units.{unit_cmp}
+use Rattle.record_table.specs.Table.{Records, same_unit, is_among}
+use Rattle.record_table.proofs.UnitOrder.{same_unit-true, same_unit_equiv}
+use Rattle.net_world.specs.Lives.{with_units, without_units}
+
+-- no unit comes twice
+abbrev pub AreOnce : List units.Unit → Type 0
+AreOnce [] = Unit {0}
+AreOnce (u ∷ us) = (is_among us u ≡ false) × AreOnce us
+
+-- one more in front, or not
+found : (t b x : Bool) → (t ≡ true → b ≡ true) → b || x ≡ b || (t || x)
+found true true x h = refl
+found true false x h = let never : false ≡ true = h refl in cc
+found false b x h = refl
+
+turned : (t b x : Bool) → (t || b) || x ≡ b || (t || x)
+turned true true x = refl
+turned true false x = refl
+turned false b x = refl
+
+among_same : (us : List units.Unit) (u q : units.Unit) → is_among us u ≡ true → same_unit q u ≡ true → is_among us q ≡ true
+among_same us u q on same = ap (is_among us) (same_unit-true q u same) ∙ on
+
+pub with_in : (us more : List units.Unit) (q : units.Unit) → is_among (with_units us more) q ≡ is_among us q || is_among more q
+with_in us [] q = or_false (is_among us q)
+  where
+    or_false : (a : Bool) → a ≡ a || false
+    or_false true = refl
+    or_false false = refl
+with_in us (u ∷ more) q =
+    with_in (if is_among us u then us else u ∷ us) more q
+    ∙ elim (is_among us u) as (λ t. is_among us u ≡ t → is_among (if t then us else u ∷ us) q || is_among more q ≡ is_among us q || (same_unit q u || is_among more q)) [
+      | true ↦ λ on. found (same_unit q u) (is_among us q) (is_among more q) (among_same us u q on)
+      | false ↦ λ _. turned (same_unit q u) (is_among us q) (is_among more q)
+    ] refl
+
+pub with_once : (us more : List units.Unit) → AreOnce us → AreOnce (with_units us more)
+with_once us [] h = h
+with_once us (u ∷ more) h = with_once (if is_among us u then us else u ∷ us) more (elim (is_among us u) as (λ t. is_among us u ≡ t → AreOnce (if t then us else u ∷ us)) [
+  | true ↦ λ _. h
+  | false ↦ λ off. (off, h)
+] refl)
+
+pub without_in : (gone us : List units.Unit) (q : units.Unit) → is_among (without_units gone us) q ≡ is_among us q && not (is_among gone q)
+without_in gone [] q = refl
+without_in gone (u ∷ us) q = elim (is_among gone u) as (λ t. is_among gone u ≡ t → is_among (cond (not t) (u ∷ without_units gone us) (without_units gone us)) q ≡ (same_unit q u || is_among us q) && not (is_among gone q)) [
+  | true ↦ λ on. without_in gone us q ∙ elim (same_unit q u) as (λ t. same_unit q u ≡ t → is_among us q && not (is_among gone q) ≡ (t || is_among us q) && not (is_among gone q)) [
+    | true ↦ λ same. (let there : is_among gone q ≡ true = among_same gone u q on same in rw there (and_false (is_among us q)))
+    | false ↦ λ _. refl
+  ] refl
+  | false ↦ λ off. ap (λ b. same_unit q u || b) (without_in gone us q) ∙ elim (same_unit q u) as (λ t. same_unit q u ≡ t → t || (is_among us q && not (is_among gone q)) ≡ (t || is_among us q) && not (is_among gone q)) [
+    | true ↦ λ same. (let there : is_among gone q ≡ false = ap (is_among gone) (same_unit-true q u same) ∙ off in rw there refl)
+    | false ↦ λ _. refl
+  ] refl
+] refl
+  where
+    and_false : (a : Bool) → a && false ≡ false
+    and_false true = refl
+    and_false false = refl
+
+pub without_once : (gone us : List units.Unit) → AreOnce us → AreOnce (without_units gone us)
+without_once gone [] h = tt
+without_once gone (u ∷ us) h = elim (is_among gone u) as (λ t. AreOnce (cond (not t) (u ∷ without_units gone us) (without_units gone us))) [
+  | true ↦ without_once gone us h.1
+  | false ↦ (let off = h.0 in without_in gone us u ∙ rw off refl, without_once gone us h.1)
+]
+
+module _ {R : Type 0} where
+  -- a map with a record isn't empty
+  has_one : (m : Records R) (u : units.Unit) → finite.contains_key m u ≡ true → 1 ≤ finite.len m
+  has_one m u has = elim (finite.len m) as (λ n. finite.len m ≡ n → 1 ≤ n) [
+    | zero ↦ λ none. (let never : true ≡ false = sym has ∙ ap (λ n. finite.contains_key n u) (empty_of_len m none) ∙ ap is_some (get-empty unit_cmp u) in cc)
+    | suc n ↦ λ some. omega arith
+  ] refl
+
+  -- one without records is
+  none_in : (m : Records R) → ((u : units.Unit) → finite.contains_key m u ≡ false) → finite.len m ≡ 0
+  none_in m h = len-entries m ∙ by_entries (finite.entries m) refl
+    where
+      by_entries : (es : List (units.Unit × R)) → finite.entries m ≡ es → length es ≡ 0
+      by_entries [] e = refl
+      by_entries (x ∷ es) e =
+          let self : same_unit x.0 x.0 ≡ true = same_unit_equiv.refl x.0 in
+          let keys : finite.contains_key m x.0 ≡ is_among (map (λ y. y.0) (x ∷ es)) x.0 = contains_key-keys m x.0 ∙ ap (λ zs. is_among (map (λ y. y.0) zs) x.0) e in
+          let on : is_among (map (λ y. y.0) (x ∷ es)) x.0 ≡ true = rw self refl in
+          let never : false ≡ true = sym (h x.0) ∙ keys ∙ on in
+          cc
+
+  -- units each once, which are those with records, are as many
+  pub as_many : (us : List units.Unit) (m : Records R) → AreOnce us → ((u : units.Unit) → is_among us u ≡ finite.contains_key m u) → length us ≡ finite.len m
+  as_many [] m h same = sym (none_in m (λ u. sym (same u)))
+  as_many (u ∷ us) m h same =
+      let self : same_unit u u ≡ true = same_unit_equiv.refl u in
+      let on : finite.contains_key m u ≡ true = sym (same u) ∙ rw self refl in
+      let some = has_one m u on in
+      let less : finite.len (finite.remove m u) ≡ finite.len m - 1 = len-remove units_total m u ∙ ap (λ t. cond t (finite.len m - 1) (finite.len m)) on in
+      let rest = as_many us (finite.remove m u) h.1 (λ q. others q) in
+      omega (arith, some, less, rest)
+    where
+      others : (q : units.Unit) → is_among us q ≡ finite.contains_key (finite.remove m u) q
+      others q = elim (same_unit q u) as (λ t. same_unit q u ≡ t → is_among us q ≡ is_some (cond t None (finite.get m q))) [
+        | true ↦ λ same_is. ap (is_among us) (same_unit-true q u same_is) ∙ h.0
+        | false ↦ λ off. (let all : same_unit q u || is_among us q ≡ finite.contains_key m q = same q in sym (ap (λ t. t || is_among us q) off) ∙ all)
+      ] refl ∙ sym (ap is_some (get-remove units_total m u q))
