@@ -1,4 +1,4 @@
-ghost use Rattle.std.specs.Prelude.{◌≡◌, ◌≤◌, All, IfOk};
+ghost use Rattle.std.specs.Prelude.{◌≡◌, All, IfOk};
 ghost use Rattle.flow_filter.specs.declared.packet.Packet.{Packet as APacket};
 ghost use Rattle.flow_filter.specs.Filter.{IsFlow};
 ghost use Rattle.nf_function.specs.declared.kind.Kind.TheVariants.{Conntrack as OfFlows, Monitor as OfHosts};
@@ -6,7 +6,7 @@ ghost use Rattle.nf_msgs.specs.declared.command.Order.{Order as AnOrder};
 ghost use Rattle.net_world.specs.Input.{IsInput, IsProper, IsSteered, IsWhole};
 ghost use Rattle.net_world.specs.Start.{IsConfig};
 
-use actor_net::{Choice, ReplayFault, Schedule, World, run_schedule};
+use actor_net::{Choice, ReplayFault, Schedule, World};
 use asset_monitor::Monitor;
 use basics::{Boxed, NoMemory, Text};
 use conn_tracker::Conntrack;
@@ -20,7 +20,6 @@ use nf_net::{run_choices, simulate};
 use record_table::Table;
 use std::alloc::Global;
 use std::test::Fail;
-use switch_node::switch::MOST_WINDOW;
 
 /// A network of 10.0.0.0/24 in which all flows go to the instance a at first; the limit and the mark are those of its other one, b.
 pub fn config(alloc: Global, limit: u32, marked: bool) -> Result<Config, Fail>
@@ -43,31 +42,6 @@ pub fn config(alloc: Global, limit: u32, marked: bool) -> Result<Config, Fail>
             outside: None,
         },
         window: 2,
-        routes: Sequence::from_vec(Vec::from_array(alloc, [(Filter::ANY, 0)])?),
-    })
-}
-
-/// A network of three instances with this window, in which all flows go to the first at first.
-fn three(alloc: Global, window: u32) -> Result<Config, Fail>
-    requires { (1 ≤ window) × (window ≤ MOST_WINDOW) }
-    ensures { IfOk result IsConfig }
-{
-    let a = Name::read(alloc, b"a")?.ok_or("no name")?;
-    let b = Name::read(alloc, b"b")?.ok_or("no name")?;
-    let c = Name::read(alloc, b"c")?.ok_or("no name")?;
-    let inside = Prefix {
-        bits: 0x0a00_0000,
-        len: 24,
-    };
-    Ok(Config {
-        names: Names::from_vec(Vec::from_array(alloc, [a, b, c])?),
-        limits: Sequence::from_vec(Vec::from_array(alloc, [9, 9, 9])?),
-        marked: Sequence::from_vec(Vec::from_array(alloc, [false, false, false])?),
-        site: Site {
-            inside,
-            outside: None,
-        },
-        window,
         routes: Sequence::from_vec(Vec::from_array(alloc, [(Filter::ANY, 0)])?),
     })
 }
@@ -220,44 +194,6 @@ fn settled_moves(alloc: Global, config: &Config, case: Case) -> Result<Vec<Msg>,
     Ok(Vec::from_array(alloc, items)?)
 }
 
-/// Puts a command to move all flows after items, behind all that was asked before.
-fn push_move(
-    alloc: Global,
-    items: &mut Vec<Msg>,
-    op: u32,
-    src: &[u8],
-    dst: &[u8],
-) -> Result<(), Fail> {
-    let src = Name::read(alloc, src)?.ok_or("no name")?;
-    let dst = Name::read(alloc, dst)?.ok_or("no name")?;
-    let what = Order::Move {
-        src,
-        dst,
-        filter: Filter::ANY,
-        keep: true,
-    };
-    let command = Boxed::new(alloc, Command { op, what })?;
-    items.push(Msg::InSettle)?;
-    items.push(Msg::InCommand(command))?;
-    Ok(())
-}
-
-/// Ten packets, between which all flows are moved from a to b, on to c, and back to a.
-fn round(alloc: Global, site: Site) -> Result<Vec<Msg>, Fail> {
-    let mut items = Vec::new(alloc);
-    for number in 1..=10 {
-        items.push(came(alloc, site, number, 0)?)?;
-        match number {
-            3 => push_move(alloc, &mut items, 1, b"a", b"b")?,
-            6 => push_move(alloc, &mut items, 2, b"b", b"c")?,
-            9 => push_move(alloc, &mut items, 3, b"c", b"a")?,
-            _ => {}
-        }
-    }
-    items.push(Msg::InEnd)?;
-    Ok(items)
-}
-
 /// Writes words and a number after a text.
 fn push_words(text: &mut Text, words: &[u8], number: u32) -> Result<(), NoMemory> {
     text.push_bytes(words)?;
@@ -351,25 +287,6 @@ pub fn told<F: Function>(alloc: Global, world: &World<Node<F>>) -> Result<Text, 
     Ok(text)
 }
 
-/// What commands came to, how many cells are at home, and the records of the instances, in lines.
-fn left<F: Function>(alloc: Global, world: &World<Node<F>>) -> Result<Text, NoMemory> {
-    let mut text = Text::open(alloc);
-    for note in world.log() {
-        if matches!(note, Note::Answered { .. }) {
-            push_note::<F>(&mut text, alloc, note)?;
-            text.push_bytes(b"\n")?;
-        }
-    }
-    for node in world.nodes() {
-        if let Node::Switch(switch) = node {
-            push_words(&mut text, b"home ", switch.home())?;
-            text.push_bytes(b"\n")?;
-        }
-        push_records(&mut text, node)?;
-    }
-    Ok(text)
-}
-
 /// A run of three packets without a command.
 fn packets_told(alloc: Global, case: Case) -> Result<Text, Fail> {
     let config = config(alloc, case.limit, case.marked)?;
@@ -404,18 +321,6 @@ fn moves_told(alloc: Global, case: Case, settles: bool) -> Result<Text, Fail> {
     };
     let (world, _choices) = simulate::<Conntrack>(alloc, &config, items, case.schedule)?;
     Ok(told(alloc, &world)?)
-}
-
-/// What is left behind the choices of a run in which all flows go round three instances.
-fn round_left(alloc: Global, window: u32, schedule: Schedule) -> Result<Text, Fail>
-    requires { (1 ≤ window) × (window ≤ MOST_WINDOW) }
-{
-    let config = three(alloc, window)?;
-    let opening = start::<Conntrack>(alloc, &config, round(alloc, config.site)?)?;
-    let (_world, choices) = run_schedule(alloc, opening, schedule)?;
-    let opening = start::<Conntrack>(alloc, &config, round(alloc, config.site)?)?;
-    let world = run_choices(opening, choices.items())?;
-    Ok(left(alloc, &world)?)
 }
 
 #[test]
@@ -553,22 +458,5 @@ fn the_first_choice_that_is_not_enabled_is_named(rt: HostRuntime) -> Result<(), 
     let to_a = Choice { node: 2, port: 0 };
     let refused = run_choices(opening, &[input, input, to_a, to_a, input]).err();
     assert_eq!(rt; refused, Some(ReplayFault::NotEnabled { index: 3 }));
-    Ok(())
-}
-
-#[test]
-fn behind_a_round_of_three_instances_every_cell_is_home(rt: HostRuntime) -> Result<(), Fail> {
-    let alloc = rt.alloc();
-    let narrow =
-        b"answered 1 done\nanswered 2 done\nanswered 3 done\nhome 1\nlive single out packets 5 bytes 100\nlive single out packets 5 bytes 100\n--\n--\n--\n";
-    let wide =
-        b"answered 1 done\nanswered 2 done\nanswered 3 done\nhome 4096\nlive single out packets 5 bytes 100\nlive single out packets 5 bytes 100\n--\n--\n--\n";
-    for schedule in [Schedule::First, Schedule::Last, Schedule::Number(29)] {
-        assert_eq!(rt; round_left(alloc, 1, schedule)?.items(), narrow.as_slice());
-        assert_eq!(rt;
-            round_left(alloc, MOST_WINDOW, schedule)?.items(),
-            wide.as_slice()
-        );
-    }
     Ok(())
 }
