@@ -1,8 +1,7 @@
 -- What it means that a choice isn't enabled: nothing waits there, or it is the input and node 0 isn't ready for its first
 -- message; and what a world is like in which none is.
-use Rattle.std.proofs.Common.{◌≡◌, ℕ, ◌<◌, ◌⊎◌, Bool, true, false, Option, None, Some, List, [], ◌∷◌, length, get_or, refl, sym, ap, ◌∙◌, arith, inl, inr}
+use Rattle.std.proofs.Common.{◌≡◌, ℕ, ◌<◌, ◌⊎◌, Bool, true, false, Option, None, Some, List, [], ◌∷◌, length, refl, sym, ◌∙◌, arith, inl, inr}
 use Rattle.std.specs.Prelude.{◌==◌, ◌&&◌, if◌then◌else◌, nat_lt, slice_get}
-use Rattle.std.proofs.lemmas.Bool.Decides.{nat_tests}
 use Rattle.std.proofs.lemmas.Option.{slice_get-get_or}
 use Rattle.actor_net.specs.declared.choice.Choice.{Choice}
 use Rattle.actor_net.specs.Network.{Network, IsWorld, is_input, waiting, takes_first, is_enabled}

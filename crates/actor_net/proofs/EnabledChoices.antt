@@ -1,6 +1,7 @@
 -- The enabled choices in order: how many there are at most, and where one stands.
-use Rattle.std.proofs.Common.{◌≡◌, ℕ, zero, suc, ◌+◌, ◌-◌, ◌*◌, ◌^◌, ◌<◌, ◌≤◌, Bool, true, false, Some, List, [], ◌∷◌, ◌++◌, length, refl, sym, ap, subst, ◌∙◌, append_assoc, append-nil, length-append, add-one, arith, inl, inr}
+use Rattle.std.proofs.Common.{◌≡◌, ℕ, zero, suc, ◌+◌, ◌-◌, ◌<◌, ◌≤◌, Bool, true, false, Some, List, [], ◌∷◌, ◌++◌, length, refl, sym, ap, subst, ◌∙◌, append_assoc, append-nil, length-append, add-one, arith, inl, inr}
 use Rattle.std.specs.Prelude.{if◌then◌else◌, slice_get}
+use Rattle.std.specs.Bool.{then_some}
 use Rattle.std.proofs.lemmas.Grind.{common_steps}
 use Rattle.std.proofs.lemmas.Bool.{cases_lt}
 use Rattle.std.proofs.lemmas.Option.{slice_get_past}
@@ -177,3 +178,8 @@ no_choice ready w k behind none stands all =
     let more = nodes_counted ready w k in
     let one : length (nodes_below ready w (suc k)) ≡ length (nodes_below ready w k) = omega (arith, more, none) in
     all ∙ ap (λ n. length (nodes_below ready w n)) next ∙ one ∙ ap (λ n. length (nodes_below ready w n)) here
+
+-- where no link holds anything, the last choice is the input's, if it is enabled
+pub input_alone : {A M N : Type 0} (ready : A → M → Bool) (w : Network A M N) (b : Bool) → is_enabled ready w (at 0 0) ≡ b → 0 < length w.nodes → 0 + one_if b ≡ length (enabled_choices ready w) → slice_get (enabled_choices ready w) (length (enabled_choices ready w) - 1) ≡ then_some b (at 0 0)
+input_alone ready w true on some all = found_at ready w 0 0 (length (enabled_choices ready w) - 1) some some on (omega (arith, all))
+input_alone ready w false off some all = slice_get_past (enabled_choices ready w) (length (enabled_choices ready w) - 1) (omega (arith, all))

@@ -1,8 +1,7 @@
 -- What a replay gives means: a world is the end of a run, and a fault is the first choice that isn't enabled.
-use Rattle.std.proofs.Common.{◌≡◌, ◌≢◌, ℕ, Bool, Option, None, Some, Result, Ok, Err, List, refl, sym, ap, ◌∙◌}
+use Rattle.std.proofs.Common.{◌≡◌, ℕ, Bool, Option, None, Some, Ok, Err, List, refl, ap}
 use Rattle.actor_net.specs.declared.choice.Choice.{Choice}
-use Rattle.actor_net.specs.declared.replays.ReplayFault.{ReplayFault}
-use Rattle.actor_net.specs.declared.replays.ReplayFault.TheVariants.{NotEnabled, NoMemory}
+use Rattle.actor_net.specs.declared.replays.ReplayFault.TheVariants.{NotEnabled}
 use Rattle.actor_net.specs.Network.{Network, Stepped, run, IsRun, fault_from}
 use Rattle.actor_net.specs.Replays.{world_or_fault, replayed, FirstFault}
 use Rattle.actor_net.proofs.RunLaws.{run_without_fault, no_fault, first_fault}

@@ -1,9 +1,7 @@
 -- What a schedule takes: an enabled choice, and none only where none is enabled.
-use Rattle.std.proofs.Common.{◌≡◌, ℕ, zero, suc, ◌+◌, ◌-◌, ◌<◌, ◌≤◌, Bool, true, false, Option, None, Some, List, [], ◌∷◌, ◌++◌, ◌⊎◌, length, get_or, refl, sym, ap, subst, ◌∙◌, append_assoc, append-nil, arith, inl, inr}
-use Rattle.std.specs.Prelude.{if◌then◌else◌, slice_get, nat_lt, ◌*◌, ◌==◌, ◌&&◌}
-use Rattle.std.specs.List.{list_all}
-use Rattle.std.proofs.lemmas.Bool.Decides.{nat_tests, Decides-eqb}
-use Rattle.std.proofs.lemmas.List.{nil_from_length}
+use Rattle.std.proofs.Common.{◌≡◌, ℕ, zero, suc, ◌+◌, ◌-◌, ◌<◌, ◌≤◌, Bool, true, false, Option, None, Some, List, [], ◌∷◌, ◌++◌, ◌⊎◌, length, refl, sym, ap, subst, ◌∙◌, append_assoc, append-nil, arith, inl, inr}
+use Rattle.std.specs.Prelude.{if◌then◌else◌, slice_get, nat_lt}
+use Rattle.std.proofs.lemmas.Bool.Decides.{nat_tests}
 use Rattle.std.proofs.lemmas.Option.{slice_get-get_or, slice_get_past}
 use Rattle.std.proofs.lemmas.Bool.{cases_lt}
 use Rattle.actor_net.specs.declared.choice.Choice.{Choice}
@@ -12,7 +10,7 @@ use Rattle.actor_net.specs.declared.schedule.Schedule.{Schedule}
 use Rattle.actor_net.specs.declared.schedule.Schedule.TheVariants.{First, Last, Number}
 use Rattle.actor_net.proofs.CompleteWorlds.{takes_nothing, done_disabled}
 use Rattle.actor_net.proofs.EnabledChoices.{found_at}
-use Rattle.actor_net.specs.Network.{Network, Stepped, is_input, on_link, waiting, takes_first, is_enabled, taken, run, is_done, IsRun}
+use Rattle.actor_net.specs.Network.{Network, Stepped, is_input, waiting, takes_first, is_enabled, taken, run, is_done, IsRun}
 use Rattle.actor_net.specs.Schedules.{ports_below, nodes_below, enabled_choices, place_in, later, picked, taken_then, scheduled, StopsShort}
 
 place_within : (schedule : Schedule) (n : ℕ) → 0 < n → place_in schedule n < n

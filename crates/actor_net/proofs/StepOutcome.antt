@@ -1,11 +1,10 @@
 -- What a choice that can be taken leaves of a world of n nodes: the nodes, what waits between each two of them, and the log.
 use Rattle.std.proofs.Common.{◌≡◌, ◌≢◌, ℕ, ◌+◌, ◌*◌, ◌<◌, Bool, true, false, Some, List, [], ◌∷◌, ◌++◌, length, get_or, set, drop, refl, sym, ap, ◌∙◌, arith}
 use Rattle.std.specs.Prelude.{if◌then◌else◌, ◌==◌, ◌&&◌, nat_lt, slice_get}
-use Rattle.std.proofs.lemmas.Bool.Decides.{nat_tests, Decides-ltb}
+use Rattle.std.proofs.lemmas.Bool.Decides.{nat_tests}
 use Rattle.std.proofs.lemmas.List.{get_or-set_same, get_or-set_other, length-set}
 use Rattle.std.proofs.lemmas.Option.{slice_get-get_or}
 use Rattle.actor_net.specs.Network.{Network, Stepped, waiting, without_first, after, taken_from, taken, reaches}
-use Rattle.actor_net.specs.Histories.{sent_for}
 use Rattle.actor_net.proofs.EnabledChoices.{at}
 use Rattle.actor_net.proofs.LinkLemmas.{put_on_link, length-delivered, loop_after_sends}
 use Rattle.actor_net.proofs.WorldStepLemmas.{loop_stays}

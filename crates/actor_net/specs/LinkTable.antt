@@ -1,6 +1,6 @@
 -- Steps between code and definition, which nobody has to believe: the links between all pairs of so many nodes, and how many of them hold
 -- something. This project's own.
-use Rattle.std.specs.Prelude.{◌≡◌, ◌<◌, ◌+◌, ◌*◌, ℕ, zero, suc, List, [], ◌∷◌, length, sum, slice_index_or, slice_set}
+use Rattle.std.specs.Prelude.{◌≡◌, ◌<◌, ◌+◌, ◌*◌, ℕ, zero, suc, List, [], ◌∷◌, length, slice_index_or, slice_set}
 use Rattle.actor_net.specs.declared.choice.Choice.{Choice}
 
 -- the links of so many nodes: that from s to r stands at place s * nodes + r

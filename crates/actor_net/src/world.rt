@@ -226,13 +226,21 @@ impl<A: Actor> World<A> {
     pub(crate) fn last_enabled(&self) -> Option<Choice>
         ensures { result ≡ slice_get (enabled_choices A.is_ready self.now) (length (enabled_choices A.is_ready self.now) - 1) }
     {
+        if self.links.count() == 0 {
+            return self.input_ready().then_some(Choice { node: 0, port: 0 });
+        }
         let nodes = self.nodes.len() as u8;
         for behind in 0..nodes {
             let node = nodes - 1 - behind;
             if node == 0 {
                 return self.last_of(node);
             }
-            if self.count_of(node) > 0 {
+            let count = self.count_of(node);
+            if count == 1 {
+                // The only one is the first, too, and most come from a low port.
+                return self.nth_of(node, 0);
+            }
+            if count > 0 {
                 return self.last_of(node);
             }
         }

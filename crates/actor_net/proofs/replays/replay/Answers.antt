@@ -1,8 +1,7 @@
 -- The loop ends with no fault, in the world after all choices, or stops at the first fault.
-use Rattle.std.proofs.Common.{◌≡◌, None, Some, Ok, Err, ap, sym, ◌∙◌, arith}
-use Rattle.std.proofs.lemmas.List.{at_drop_all, at_drop_more}
+use Rattle.std.proofs.Common.{◌≡◌, None, Ok, ap, sym, ◌∙◌}
+use Rattle.std.proofs.lemmas.List.{at_drop_all}
 use Rattle.actor_net.specs.Network.{run, fault_from}
-use Rattle.actor_net.specs.Replays.{world_or_fault}
 use Rattle.actor_net.proofs.replays.replay.Goals as goal
 
 pub returns : goal.returns

@@ -1,6 +1,5 @@
 -- The counts of links that hold nothing are zeros.
-use Rattle.std.proofs.Common.{◌≡◌, ◌*◌, ℕ, [], length, replicate, ◌∙◌, ap, arith, rules}
-use Rattle.std.proofs.lemmas.Grind.{common_steps}
+use Rattle.std.proofs.Common.{◌≡◌, ◌*◌, ℕ, [], replicate, rules}
 use Rattle.std.proofs.lemmas.List.{length-replicate}
 use Rattle.actor_net.proofs.LinkCounts.{counts_none}
 use Rattle.actor_net.proofs.link_table.LinkTable.open.Goals as goal

@@ -1,5 +1,5 @@
 -- The counts go down by one where a link is emptied, and stay where it still holds something.
-use Rattle.std.proofs.Common.{◌≡◌, ◌==◌, ◌∷◌, length, true, false, sym, ap, ◌∙◌, arith, rules}
+use Rattle.std.proofs.Common.{◌≡◌, ◌∷◌, sym, ap, ◌∙◌, arith, rules}
 use Rattle.actor_net.specs.LinkTable.{one_if_held}
 use Rattle.actor_net.proofs.LinkCounts.{one-empty, one-held, IsRead, some_counted, some_in_all, counted_anew, counted_still}
 use Rattle.actor_net.proofs.link_table.LinkTable.pop.Goals as goal

@@ -1,5 +1,5 @@
 -- The counts go up by one where a link was empty, and stay where it held something.
-use Rattle.std.proofs.Common.{◌≡◌, ◌==◌, ◌++◌, ◌∷◌, [], ℕ, zero, suc, ◌+◌, List, length, true, false, refl, sym, ap, ◌∙◌, arith, rules}
+use Rattle.std.proofs.Common.{◌≡◌, sym, ◌∙◌, arith, rules}
 use Rattle.actor_net.specs.LinkTable.{one_if_held}
 use Rattle.actor_net.proofs.LinkCounts.{one-empty, one-held, one-push, IsRead, room_for_one, few_in_all, counted_anew, counted_still}
 use Rattle.actor_net.proofs.link_table.LinkTable.push.Goals as goal

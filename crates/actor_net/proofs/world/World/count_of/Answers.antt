@@ -1,5 +1,5 @@
 -- The enabled choices of a node are as many as the links to it that hold something, and of node 0 the input where it is ready.
-use Rattle.std.proofs.Common.{◌≡◌, ◌≢◌, length, true, false, refl, ap, subst, sym, ◌∙◌, arith, rules}
+use Rattle.std.proofs.Common.{length, true, false, ap, subst, sym, ◌∙◌, arith}
 use Rattle.actor_net.specs.Network.{IsWorld}
 use Rattle.actor_net.proofs.LinkCounts.{count_first, count_other}
 use Rattle.actor_net.proofs.world.World.count_of.Goals as goal

@@ -2,7 +2,7 @@
 use Rattle.std.proofs.Common.{◌≡◌, ◌+◌, length, ap, sym, ◌∙◌, arith, rules}
 use Rattle.std.proofs.lemmas.Grind.{common_steps}
 use Rattle.std.proofs.lemmas.Option.{slice_get_past}
-use Rattle.actor_net.specs.Schedules.{nodes_below, enabled_choices}
+use Rattle.actor_net.specs.Schedules.{enabled_choices}
 use Rattle.actor_net.proofs.EnabledChoices.{node_at}
 use Rattle.actor_net.proofs.world.World.nth_enabled.Goals as goal
 

@@ -1,5 +1,5 @@
 -- The choice at the place is the port's that it doesn't reach past, and there is none where no port is left.
-use Rattle.std.proofs.Common.{◌≡◌, ◌+◌, Bool, true, false, length, refl, ap, sym, ◌∙◌, arith, rules}
+use Rattle.std.proofs.Common.{◌≡◌, ◌+◌, Bool, true, false, length, refl, ap, sym, ◌∙◌, arith}
 use Rattle.std.proofs.lemmas.Grind.{common_steps}
 use Rattle.std.proofs.lemmas.Option.{slice_get_past}
 use mir.Val.{bool_byte}
