@@ -25,6 +25,7 @@ pub struct NatRecord {
 impl Model for NatRecord {
     ghost use Rattle.std.specs.Prelude.{◌≤◌, take};
     ghost use Rattle.std.specs.List.{All};
+    ghost use Rattle.flow_filter.specs.Flow.{ports_per_host};
     ghost use Rattle.addr_translator.specs.Mappings.{Translation, HasPort};
 
     ghost Value = { Translation };
