@@ -12,10 +12,11 @@ use Rattle.nf_function.specs.Stored.{number_bytes}
 use Rattle.nf_function.specs.Records.{age_cmp}
 use Rattle.nf_function.proofs.StoredNumbers.{slice_cmp-number_bytes, ordering_then-assoc, ordering_then-Equal, ordering_then-again}
 use Rattle.addr_translator.specs.declared.mapping.Mapping.{Mapping}
-use Rattle.addr_translator.specs.Mappings.{Translation, HasPort, ports_per_host}
+use Rattle.addr_translator.specs.Mappings.{Translation, HasPort}
 use Rattle.addr_translator.specs.Body.{mapping_bytes, body_of}
 use Rattle.addr_translator.specs.Nat.{nat}
 use Rattle.addr_translator.specs.BodyLemmas.{body_parts}
+use Rattle.flow_filter.specs.Flow.{ports_per_host}
 
 -- ends in the order of protocols, and then of ports
 abbrev pub mapping_cmp : Mapping → Mapping → Ordering

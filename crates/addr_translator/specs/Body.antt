@@ -8,7 +8,8 @@ use Rattle.nf_function.specs.declared.unit.Unit.TheVariants.{Flow as OfFlow, Hos
 use Rattle.nf_function.specs.Stored.{number_bytes, first_byte, first_number}
 use Rattle.nf_function.specs.Units.{is_transport}
 use Rattle.addr_translator.specs.declared.mapping.Mapping.{Mapping}
-use Rattle.addr_translator.specs.Mappings.{Translation, mapping_eq, ports_per_host}
+use Rattle.addr_translator.specs.Mappings.{Translation, mapping_eq}
+use Rattle.flow_filter.specs.Flow.{ports_per_host}
 
 -- an end of TCP or UDP, its port within its type
 abbrev pub is_mapping : Mapping → Bool

@@ -12,8 +12,9 @@ use Rattle.nf_function.specs.Stored.{IsBytes, number_bytes, first_byte, first_nu
 use Rattle.nf_function.specs.Units.{is_transport}
 use Rattle.nf_function.proofs.StoredNumbers.{IsFirst, first_number-number_bytes, first_number-some, length-number_bytes, IsBytes-tail}
 use Rattle.addr_translator.specs.declared.mapping.Mapping.{Mapping}
-use Rattle.addr_translator.specs.Mappings.{Translation, ports_per_host}
+use Rattle.addr_translator.specs.Mappings.{Translation}
 use Rattle.addr_translator.specs.Body.{is_mapping, is_distinct, are_mappings, is_valid, mapping_bytes, body_of, first_mapping, mappings_in, few, ended, spelled, valid_only, record_in}
+use Rattle.flow_filter.specs.Flow.{ports_per_host}
 
 -- what is true of a record that is valid for a host
 pub record IsValid (host : ℕ) (r : Translation) : Type 0 where

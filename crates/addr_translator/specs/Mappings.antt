@@ -18,11 +18,3 @@ HasPort m = m.port < 2 ^ 16
 
 abbrev pub mapping_eq : Mapping → Mapping → Bool
 mapping_eq a b = a.proto == b.proto && a.port == b.port
-
--- a host has this many outside ports
-abbrev pub ports_per_host : ℕ
-ports_per_host = 252
-
--- the first port that belongs to an inside host
-abbrev pub first_port : ℕ
-first_port = 1024

@@ -8,7 +8,7 @@ use Rattle.basics.proofs.BoolLemmas.{both_true, true_both}
 use Rattle.flow_filter.specs.declared.packet.Packet.{Packet}
 use Rattle.flow_filter.specs.declared.site.Site.{Site}
 use Rattle.flow_filter.specs.Filter.{IsFlow}
-use Rattle.flow_filter.specs.Flow.{flow_of}
+use Rattle.flow_filter.specs.Flow.{flow_of, ports_per_host}
 use Rattle.nf_function.specs.declared.kind.Kind.TheVariants.{Nat}
 use Rattle.nf_function.specs.declared.unit.Unit as units
 use Rattle.nf_function.specs.declared.unit.Unit.TheVariants.{Flow as OfFlow, Host as OfHost}
@@ -19,7 +19,7 @@ use Rattle.nf_function.proofs.FlowFits.{flow_fits}
 use Rattle.addr_translator.specs.declared.mapping.Mapping.{Mapping}
 use Rattle.addr_translator.specs.declared.passage.Passage.{Passage}
 use Rattle.addr_translator.specs.declared.passage.Passage.TheVariants.{Leaves, Returns, Direct, Other}
-use Rattle.addr_translator.specs.Mappings.{Translation, no_mappings, mapping_eq, ports_per_host}
+use Rattle.addr_translator.specs.Mappings.{Translation, no_mappings, mapping_eq}
 use Rattle.addr_translator.specs.Table.{counted, dropped, left, mapped, opened, returned, source, stepped, translated}
 use Rattle.addr_translator.specs.Body.{is_mapping, is_distinct, is_valid}
 use Rattle.addr_translator.specs.Nat.{nat}

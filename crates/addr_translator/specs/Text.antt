@@ -3,6 +3,7 @@ use Rattle.std.specs.Prelude.{ℕ, ◌==◌, ◌++◌, if◌then◌else◌, List
 use Rattle.basics.specs.Address.{address_text}
 use Rattle.nf_function.specs.declared.output.Output.{Output}
 use Rattle.addr_translator.specs.Mappings.{Translation}
+use Rattle.addr_translator.specs.Table.{pass_code, map_code, unmap_code, no_port_code, no_map_code, direct_code}
 
 -- `WORD ADDR:PORT`
 unfoldable pub endpoint_text : List ℕ → Output → List ℕ
@@ -10,12 +11,12 @@ endpoint_text word output = word ++ codes " " ++ address_text output.a ++ codes 
 
 abbrev pub output_text : Output → List ℕ
 output_text output =
-    if output.code == 0 then codes "pass"
-    else if output.code == 1 then endpoint_text (codes "map") output
-    else if output.code == 2 then endpoint_text (codes "unmap") output
-    else if output.code == 3 then codes "drop noport"
-    else if output.code == 4 then codes "drop nomap"
-    else if output.code == 5 then codes "drop direct"
+    if output.code == pass_code then codes "pass"
+    else if output.code == map_code then endpoint_text (codes "map") output
+    else if output.code == unmap_code then endpoint_text (codes "unmap") output
+    else if output.code == no_port_code then codes "drop noport"
+    else if output.code == no_map_code then codes "drop nomap"
+    else if output.code == direct_code then codes "drop direct"
     else []
 
 -- `ports USED packets P drops D`

@@ -1,8 +1,9 @@
 ghost use Rattle.std.specs.Prelude.{◌≡◌, ◌<◌, ◌≤◌, ◌++◌, ◌∷◌, [], nat_lt, length};
 ghost use Rattle.std.specs.List.{All, position};
 ghost use Rattle.nf_function.specs.Semantics.{count};
-ghost use Rattle.addr_translator.specs.Mappings.{HasPort, no_mappings, mapping_eq, ports_per_host};
+ghost use Rattle.addr_translator.specs.Mappings.{HasPort, no_mappings, mapping_eq};
 ghost use Rattle.addr_translator.specs.Table.{counted};
+ghost use Rattle.flow_filter.specs.Flow.{ports_per_host};
 
 use crate::mapping::Mapping;
 use std::marker::Model;
@@ -24,13 +25,14 @@ pub struct NatRecord {
 impl Model for NatRecord {
     ghost use Rattle.std.specs.Prelude.{◌≤◌, take};
     ghost use Rattle.std.specs.List.{All};
+    ghost use Rattle.flow_filter.specs.Flow.{ports_per_host};
     ghost use Rattle.addr_translator.specs.Mappings.{Translation, HasPort};
 
     ghost Value = { Translation };
 
     ghost view = { λ r. record { mappings = take r.used r.mappings; packets = r.packets; drops = r.drops } };
 
-    ghost invariant = { λ r. (r.used ≤ 252) × All HasPort r.mappings };
+    ghost invariant = { λ r. (r.used ≤ ports_per_host) × All HasPort r.mappings };
 }
 
 impl NatRecord {

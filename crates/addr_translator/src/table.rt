@@ -1,8 +1,8 @@
 ghost use Rattle.std.specs.Prelude.{◌≡◌, ◌<◌, ◌^◌, Some, if◌then◌else◌};
 ghost use Rattle.std.specs.List.{position};
-ghost use Rattle.flow_filter.specs.Flow.{flow_of};
+ghost use Rattle.flow_filter.specs.Flow.{flow_of, ports_per_host};
 ghost use Rattle.nf_function.specs.Units.{is_transport};
-ghost use Rattle.addr_translator.specs.Mappings.{mapping_eq, ports_per_host};
+ghost use Rattle.addr_translator.specs.Mappings.{mapping_eq};
 ghost use Rattle.addr_translator.specs.Table.{code, counted, dropped, left, opened, mapped, source as source_of, stepped, translated};
 
 use crate::mapping::Mapping;

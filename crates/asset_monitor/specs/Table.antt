@@ -13,6 +13,7 @@ use Rattle.asset_monitor.specs.declared.record.AssetRecord.{AssetRecord}
 use Rattle.asset_monitor.specs.declared.service.Service.{Service}
 use Rattle.asset_monitor.specs.Banners.{banner_in, is_unseen, banner_number}
 use Rattle.asset_monitor.specs.Services.{listed, services_per_host, with_service}
+use Rattle.flow_filter.specs.Packet.{syn, rst, ack}
 
 -- a packet of TCP or UDP that the local host sends. No capture has one of another protocol.
 abbrev pub is_sent : Direction → Packet → Bool
@@ -22,15 +23,6 @@ is_sent In p = false
 -- a flag of the header is set
 abbrev pub has : ℕ → ℕ → Bool
 has flags flag = not (bit_and flags flag == 0)
-
-abbrev pub syn : ℕ
-syn = 2
-
-abbrev pub rst : ℕ
-rst = 4
-
-abbrev pub ack : ℕ
-ack = 16
 
 -- the flags of a TCP packet that accepts a connection: SYN and ACK without RST
 abbrev pub accepts : ℕ → Bool
@@ -57,21 +49,34 @@ abbrev pub is_bare : Option Service → Bool
 is_bare None = false
 is_bare (Some s) = is_unseen s.banner
 
+-- the codes of the outputs
+abbrev pub quiet_code : ℕ
+quiet_code = 0
+
+abbrev pub new_code : ℕ
+new_code = 1
+
+abbrev pub banner_code : ℕ
+banner_code = 2
+
+abbrev pub full_code : ℕ
+full_code = 3
+
 -- `new tcp PORT` or `new udp PORT`
 abbrev pub found : Service → Output
-found s = record { code = 1; a = s.proto; b = s.port }
+found s = record { code = new_code; a = s.proto; b = s.port }
 
 -- `banner tcp PORT NAME` or `banner udp PORT NAME`
 abbrev pub greeted : Service → Output
-greeted s = record { code = 2; a = s.proto * 256 + banner_number s.banner; b = s.port }
+greeted s = record { code = banner_code; a = s.proto * 256 + banner_number s.banner; b = s.port }
 
 -- `full`
 abbrev pub full : Output
-full = record { code = 3; a = 0; b = 0 }
+full = record { code = full_code; a = 0; b = 0 }
 
 -- `quiet`
 abbrev pub quiet : Output
-quiet = record { code = 0; a = 0; b = 0 }
+quiet = record { code = quiet_code; a = 0; b = 0 }
 
 -- the host's services with this one
 abbrev pub keeping : AssetRecord → Service → AssetRecord

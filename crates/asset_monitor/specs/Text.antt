@@ -7,6 +7,7 @@ use Rattle.nf_function.specs.declared.output.Output.{Output}
 use Rattle.asset_monitor.specs.declared.record.AssetRecord.{AssetRecord}
 use Rattle.asset_monitor.specs.declared.service.Service.{Service}
 use Rattle.asset_monitor.specs.Banners.{banner_of, name_of}
+use Rattle.asset_monitor.specs.Table.{quiet_code, new_code, banner_code, full_code}
 
 -- `new tcp PORT` or `new udp PORT`
 unfoldable pub found_text : Output → List ℕ
@@ -20,10 +21,10 @@ greeted_text output =
 
 abbrev pub output_text : Output → List ℕ
 output_text output =
-    if output.code == 0 then codes "quiet"
-    else if output.code == 1 then found_text output
-    else if output.code == 2 then greeted_text output
-    else if output.code == 3 then codes "full"
+    if output.code == quiet_code then codes "quiet"
+    else if output.code == new_code then found_text output
+    else if output.code == banner_code then greeted_text output
+    else if output.code == full_code then codes "full"
     else []
 
 -- `PROTO/PORT/NAME`

@@ -13,6 +13,8 @@ use Rattle.nf_function.specs.declared.kind.Kind.TheVariants.{Conntrack, Nat, Mon
 use Rattle.actor_net.specs.declared.schedule.Schedule.{Schedule}
 use Rattle.actor_net.specs.declared.schedule.Schedule.TheVariants.{First, Last, Number}
 use Rattle.command_words.specs.Grammar.{GivenTexts, given_arguments, run_app, sim_app, check_app, gen_app}
+use Rattle.basics.specs.Bytes.{comma, slash, colon}
+use Rattle.flow_filter.specs.Limits.{most_packets, most_hosts, most_instances, most_window}
 
 -- only where the test is true
 abbrev pub only : {A : Type 0} → Bool → Option A → Option A
@@ -75,9 +77,13 @@ function_of text =
     else if bytes_eq text (codes "monitor") then Some Monitor
     else None
 
--- a limit: 0 to 1000000
+-- the greatest limit, which an instance has that names none
+abbrev pub most_records : ℕ
+most_records = 1000000
+
+-- a limit: from 0 to the greatest
 abbrev pub limit_of : Text → Option ℕ
-limit_of text = parse_number 1000000 text
+limit_of text = parse_number most_records text
 
 -- the name, with the limit and whether it is marked
 abbrev pub with_suffix : Text → Option (ℕ × Bool) → Option Instance
@@ -85,7 +91,7 @@ with_suffix name suffix = only (is_name name) (option_map (λ s. record { name =
 
 -- what stands behind a name and a colon: `LIMIT`, `v1` or `LIMIT:v1`
 unfoldable pub suffix_of : Text → Option (ℕ × Bool)
-suffix_of text = if bytes_eq text (codes "v1") then Some (1000000, true) else parts (split_once 58 text)
+suffix_of text = if bytes_eq text (codes "v1") then Some (most_records, true) else parts (split_once colon text)
   where
     parts : Option (Text × Text) → Option (ℕ × Bool)
     parts None = option_map (λ limit. (limit, false)) (limit_of text)
@@ -93,10 +99,10 @@ suffix_of text = if bytes_eq text (codes "v1") then Some (1000000, true) else pa
 
 -- `NAME`, `NAME:LIMIT`, `NAME:v1` or `NAME:LIMIT:v1`
 unfoldable pub instance_of : Text → Option Instance
-instance_of text = parts (split_once 58 text)
+instance_of text = parts (split_once colon text)
   where
     parts : Option (Text × Text) → Option Instance
-    parts None = with_suffix text (Some (1000000, false))
+    parts None = with_suffix text (Some (most_records, false))
     parts (Some p) = with_suffix p.0 (suffix_of p.1)
 
 -- an instance and those behind it
@@ -110,18 +116,22 @@ all_instances (text ∷ more) = instance_of text >>= λ i. all_instances more >>
 
 -- LIST: 1 to 16 instances with commas between them, whose names differ
 unfoldable pub instances_of : Text → Option Instances
-instances_of text = all_instances (slice_split (λ b. b == 44) text) >>= λ i.
-    only (nat_le (length i.names) 16 && not (has_twice i.names)) (Some i)
+instances_of text = all_instances (slice_split (λ b. b == comma) text) >>= λ i.
+    only (nat_le (length i.names) most_instances && not (has_twice i.names)) (Some i)
 
 -- PREFIX: `A.B.C.D/L`
 unfoldable pub inside_of : Text → Option (ℕ × ℕ)
-inside_of text = only (is_some (split_once 47 text)) (prefix_of text)
+inside_of text = only (is_some (split_once slash text)) (prefix_of text)
+
+-- how long the prefix inside is, where addresses are translated
+abbrev pub translated_bits : ℕ
+translated_bits = 24
 
 -- the outside address: the translator needs one, and a /24 that doesn't hold it; the others have none
 abbrev pub outside_of : Kind → ℕ × ℕ → Option Text → Option (Option ℕ)
 outside_of Nat inside None = None
 outside_of Nat inside (Some text) = address_of text >>= λ address.
-    only (inside.1 == 24 && not (in_prefix inside.0 inside.1 address)) (Some (Some address))
+    only (inside.1 == translated_bits && not (in_prefix inside.0 inside.1 address)) (Some (Some address))
 outside_of Conntrack inside None = Some None
 outside_of Conntrack inside (Some text) = None
 outside_of Monitor inside None = Some None
@@ -131,14 +141,22 @@ outside_of Monitor inside (Some text) = None
 unfoldable pub count_of : ℕ → Text → Option ℕ
 count_of most text = parse_number most text >>= λ count. only (nat_le 1 count) (Some count)
 
--- W: 1 to 4096, and 256 where it isn't given
-unfoldable pub window_of : Option Text → Option ℕ
-window_of None = Some 256
-window_of (Some text) = count_of 4096 text
+-- W where it isn't given
+abbrev pub default_window : ℕ
+default_window = 256
 
--- NUMBER: below 2 ^ 64
+-- W: 1 to 4096
+unfoldable pub window_of : Option Text → Option ℕ
+window_of None = Some default_window
+window_of (Some text) = count_of most_window text
+
+-- the greatest NUMBER: 2 ^ 64 - 1
+abbrev pub most_number : ℕ
+most_number = 18446744073709551615
+
+-- NUMBER
 abbrev pub given_number : Text → Option ℕ
-given_number text = parse_number 18446744073709551615 text
+given_number text = parse_number most_number text
 
 -- `first`, `last` or a number; `first` where it isn't given
 unfoldable pub schedule_of : Option Text → Option Schedule
@@ -193,8 +211,8 @@ check_values g = do
 unfoldable pub gen_values : GivenTexts → Option GenAsked
 gen_values g = do
   number ← g.number >>= given_number
-  packets ← g.packets >>= count_of 1000000
-  hosts ← g.hosts >>= count_of 256
+  packets ← g.packets >>= count_of most_packets
+  hosts ← g.hosts >>= count_of most_hosts
   trace ← g.trace >>= file_of
   Some (record { number = number; packets = packets; hosts = hosts; trace = trace })
 

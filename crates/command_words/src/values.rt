@@ -3,8 +3,9 @@ ghost use Rattle.std.specs.List.{slice_split};
 ghost use Rattle.flow_filter.specs.Prefixes.{in_prefix};
 ghost use Rattle.basics.specs.Parsing.{split_once, parse_number};
 ghost use Rattle.flow_filter.specs.Reading.{prefix_numbers};
-ghost use Rattle.command_words.specs.Plan.{function_of, limit_of, suffix_of, with_suffix, instance_of, all_instances, instances_of, inside_of, outside_of, window_of, count_of, given_number, schedule_of, file_of, file_if};
+ghost use Rattle.command_words.specs.Plan.{function_of, limit_of, suffix_of, with_suffix, instance_of, all_instances, instances_of, inside_of, outside_of, window_of, count_of, given_number, schedule_of, file_of, file_if, translated_bits};
 ghost use Rattle.command_words.specs.RequestViews.{instance_view, instances_view};
+ghost use Rattle.basics.specs.Bytes.{comma};
 
 use crate::request::Instances;
 use actor_net::Schedule;
@@ -71,7 +72,7 @@ pub fn instances_of(alloc: Global, list: Option<&str>) -> Result<Option<Instance
 
 /// The instances of a list, or `None` where one is malformed.
 fn all_instances(alloc: Global, list: &[u8]) -> Result<Option<Instances>, NoMemory>
-    ensures { IfOk result (λ found. option_map instances_view found ≡ all_instances (slice_split (λ b. b == 44) list.now)) }
+    ensures { IfOk result (λ found. option_map instances_view found ≡ all_instances (slice_split (λ b. b == comma) list.now)) }
 {
     let mut names = Vec::new(alloc);
     let mut limits = Vec::new(alloc);
@@ -177,7 +178,7 @@ pub fn site_of(kind: Kind, inside: Prefix, outside: Option<&str>) -> Option<Site
 
 /// The site that translates to an address outside its /24.
 fn translating(inside: Prefix, outside: u32) -> Option<Site>
-    ensures outside { option_map (λ s. s.outside) result ≡ (if inside.len == 24 && not (in_prefix inside.bits inside.len outside) then Some (Some outside) else None) }
+    ensures outside { option_map (λ s. s.outside) result ≡ (if inside.len == translated_bits && not (in_prefix inside.bits inside.len outside) then Some (Some outside) else None) }
     ensures inside { IfSome result (λ s. s.inside ≡ inside) }
 {
     if inside.len == 24 && !inside.holds(outside) {

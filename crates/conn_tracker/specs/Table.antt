@@ -12,6 +12,7 @@ use Rattle.conn_tracker.specs.declared.state.State.TheVariants.{Opening, Answere
 use Rattle.conn_tracker.specs.declared.class.Class.{Class}
 use Rattle.conn_tracker.specs.declared.class.Class.TheVariants.{Rst, SynAck, Syn, Fin, Other}
 use Rattle.conn_tracker.specs.declared.record.TrackRecord.{TrackRecord}
+use Rattle.flow_filter.specs.Packet.{fin, syn, rst, ack}
 
 -- a flag of the header is set
 abbrev pub has : ℕ → ℕ → Bool
@@ -20,10 +21,10 @@ has flags flag = not (bit_and flags flag == 0)
 -- the class of a TCP packet, by its flags: the first that holds
 abbrev pub class_of : ℕ → Class
 class_of flags =
-    if has flags 4 then Rst
-    else if has flags 2 && has flags 16 then SynAck
-    else if has flags 2 then Syn
-    else if has flags 1 then Fin
+    if has flags rst then Rst
+    else if has flags syn && has flags ack then SynAck
+    else if has flags syn then Syn
+    else if has flags fin then Fin
     else Other
 
 -- a row of the table: the states that follow one state. Forward packets go in the opener's direction, reverse ones the other.

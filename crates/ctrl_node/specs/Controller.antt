@@ -20,7 +20,7 @@ use Rattle.nf_msgs.specs.declared.msg.Msg.TheVariants.{Asked, Diverted, End, Eve
 use Rattle.nf_msgs.specs.declared.note.Note.{Note}
 use Rattle.nf_msgs.specs.declared.note.Note.TheVariants as note
 use Rattle.nf_msgs.specs.Shown.{op_of}
-use Rattle.nf_msgs.specs.Nodes.{switch_node}
+use Rattle.nf_msgs.specs.Nodes.{switch_node, instance_node}
 use Rattle.move_op.specs.Move.{MovePlan, Store, begun, begin_sends}
 use Rattle.copy_share.specs.Copy.{CopyPlan}
 use Rattle.copy_share.specs.Copy as copy
@@ -64,7 +64,7 @@ still s = record { node = s; sends = []; notes = [] }
 
 -- the number of the instance that a port is of
 abbrev pub instance_at : ControllerState → ℕ → Option ℕ
-instance_at s port = if nat_le 2 port && nat_lt (port - 2) (length s.names) then Some (port - 2) else None
+instance_at s port = if nat_le (instance_node 0) port && nat_lt (port - instance_node 0) (length s.names) then Some (port - instance_node 0) else None
 
 -- the number of the instance with a name
 abbrev pub place_of : List (List ℕ) → List ℕ → Option ℕ

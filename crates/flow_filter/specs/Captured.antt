@@ -4,6 +4,7 @@ use Rattle.flow_filter.specs.declared.packet.Packet.{Packet}
 use Rattle.flow_filter.specs.declared.captured.Header.{Header}
 use Rattle.flow_filter.specs.declared.captured.CapturedForm.{CapturedForm}
 use Rattle.flow_filter.specs.declared.captured.CapturedForm.TheVariants.{Bare, Whole}
+use Rattle.flow_filter.specs.Packet.{most_held}
 
 -- what a packet has beside its payload
 abbrev pub header_of : Packet → Header
@@ -33,7 +34,7 @@ bare_packet h = record {
   proto = h.proto;
   flags = h.flags;
   held = h.held;
-  head = replicate 64 0;
+  head = replicate most_held 0;
 }
 
 -- the packet that waits so

@@ -11,6 +11,8 @@ use Rattle.flow_filter.specs.declared.filter_text.FilterFault.{FilterFault}
 use Rattle.flow_filter.specs.declared.filter_text.FilterFault.TheVariants.{Field, Twice, Number, Prefix as BadPrefix}
 use Rattle.basics.specs.Parsing.{parse_number, split_once}
 use Rattle.flow_filter.specs.Reading.{prefix_of, prefix_numbers}
+use Rattle.basics.specs.Bytes.{comma, slash, equals_sign}
+use Rattle.flow_filter.specs.Packet.{tcp, udp, most_port}
 
 -- what a filter gives, with each prefix as its two numbers
 pub record Fields : Type 0 where
@@ -39,7 +41,7 @@ once false (Some x) wrong put = Ok (put x)
 
 -- the number of a protocol's name
 unfoldable pub protocol_of : List ℕ → Option ℕ
-protocol_of text = if bytes_eq text (codes "tcp") then Some 6 else if bytes_eq text (codes "udp") then Some 17 else None
+protocol_of text = if bytes_eq text (codes "tcp") then Some tcp else if bytes_eq text (codes "udp") then Some udp else None
 
 abbrev pub with_proto : Fields → List ℕ → Answer
 with_proto f value = once (is_some f.proto) (protocol_of value) Number (λ x. record f { proto = Some x })
@@ -48,13 +50,13 @@ abbrev pub with_local : Fields → List ℕ → Answer
 with_local f value = once (is_some f.local) (prefix_of value) BadPrefix (λ x. record f { local = Some x })
 
 abbrev pub with_lport : Fields → List ℕ → Answer
-with_lport f value = once (is_some f.lport) (parse_number 65535 value) Number (λ x. record f { lport = Some x })
+with_lport f value = once (is_some f.lport) (parse_number most_port value) Number (λ x. record f { lport = Some x })
 
 abbrev pub with_remote : Fields → List ℕ → Answer
 with_remote f value = once (is_some f.remote) (prefix_of value) BadPrefix (λ x. record f { remote = Some x })
 
 abbrev pub with_rport : Fields → List ℕ → Answer
-with_rport f value = once (is_some f.rport) (parse_number 65535 value) Number (λ x. record f { rport = Some x })
+with_rport f value = once (is_some f.rport) (parse_number most_port value) Number (λ x. record f { rport = Some x })
 
 -- the field with this name and value
 unfoldable pub with_named : Fields → List ℕ → List ℕ → Answer
@@ -73,7 +75,7 @@ with_sides f (Some sides) = with_named f sides.0 sides.1
 
 -- one field more
 abbrev pub with_field : Fields → List ℕ → Answer
-with_field f text = with_sides f (split_once 61 text)
+with_field f text = with_sides f (split_once equals_sign text)
 
 abbrev pub and_fields : Answer → (Fields → Answer) → Answer
 and_fields (Ok f) more = more f
@@ -86,23 +88,23 @@ with_fields f (text ∷ more) = and_fields (with_field f text) (λ g. with_field
 
 -- the filter that a text spells, or the fault of its first field that breaks a rule
 unfoldable pub parse : List ℕ → Answer
-parse text = if bytes_eq text (codes "any") then Ok nothing else with_fields nothing (slice_split (λ b. b == 44) text)
+parse text = if bytes_eq text (codes "any") then Ok nothing else with_fields nothing (slice_split (λ b. b == comma) text)
 
 -- a protocol that has a name, or none
 abbrev pub is_transport : Option ℕ → Bool
 is_transport None = true
-is_transport (Some n) = n == 6 || n == 17
+is_transport (Some n) = n == tcp || n == udp
 
 -- the filter can be printed
 abbrev pub is_printable : Filter → Bool
 is_printable f = is_transport f.proto
 
 abbrev pub protocol_text : ℕ → List ℕ
-protocol_text n = if n == 6 then codes "tcp" else codes "udp"
+protocol_text n = if n == tcp then codes "tcp" else codes "udp"
 
 -- `A.B.C.D/L`
 abbrev pub prefix_text : Prefix → List ℕ
-prefix_text p = address_text p.bits ++ 47 ∷ decimal p.len
+prefix_text p = address_text p.bits ++ slash ∷ decimal p.len
 
 -- a field that is given, as its name, an equals sign and its value
 abbrev pub piece : List ℕ → Option (List ℕ) → List (List ℕ)
@@ -117,7 +119,7 @@ pieces f = piece (codes "proto=") (option_map protocol_text f.proto) ++ piece (c
 
 abbrev pub joined : List (List ℕ) → List ℕ
 joined [] = codes "any"
-joined (first ∷ more) = join_with_byte 44 (first ∷ more)
+joined (first ∷ more) = join_with_byte comma (first ∷ more)
 
 -- the canonical text of a filter
 unfoldable pub print : Filter → List ℕ
@@ -127,7 +129,7 @@ print f = joined (pieces f)
 abbrev pub after_commas : Bool → List (List ℕ) → List ℕ
 after_commas begun [] = []
 after_commas false (first ∷ more) = first ++ after_commas true more
-after_commas true (first ∷ more) = 44 ∷ first ++ after_commas true more
+after_commas true (first ∷ more) = comma ∷ first ++ after_commas true more
 
 -- what was read is what the definition reads, through a view, and so is the fault
 abbrev pub AgreesBy : {X Y E : Type 0} → (X → Y) → Result X E → Result Y E → Type 0

@@ -37,13 +37,21 @@ abbrev pub is_outside_address : Option ℕ → ℕ → Bool
 is_outside_address None address = false
 is_outside_address (Some outside) address = address == outside
 
+-- the first port of the outside address that belongs to an inside host
+abbrev pub first_port : ℕ
+first_port = 1024
+
+-- how many of these ports an inside host has
+abbrev pub ports_per_host : ℕ
+ports_per_host = 252
+
 -- the packet goes to a port of the outside address that belongs to an inside host
 abbrev pub is_mapped : Site → Packet → Bool
-is_mapped site p = is_outside_address site.outside p.dst && nat_le 1024 p.dport
+is_mapped site p = is_outside_address site.outside p.dst && nat_le first_port p.dport
 
--- the inside host that a port of the outside address belongs to: 252 ports for each, from 1024 on
+-- the inside host that a port of the outside address belongs to
 abbrev pub owner_of_port : Site → ℕ → ℕ
-owner_of_port site port = site.inside.bits + (port - 1024) / 252
+owner_of_port site port = site.inside.bits + (port - first_port) / ports_per_host
 
 -- the source is the smaller end by address and then port, or the ends are equal
 abbrev pub is_source_first : Packet → Bool

@@ -1,4 +1,6 @@
+pub mod Limits
 pub mod Prefixes
+pub mod Packet
 pub mod Flow
 pub mod Name
 pub mod Captured

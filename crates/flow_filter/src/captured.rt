@@ -1,5 +1,6 @@
 ghost use Rattle.std.specs.Prelude.{◌≡◌, true, replicate, IfOk};
 ghost use Rattle.flow_filter.specs.Captured.{bare_packet, header_of};
+ghost use Rattle.flow_filter.specs.Packet.{most_held};
 
 use crate::packet::Packet;
 use basics::{Boxed, NoMemory, Sequence};
@@ -114,7 +115,7 @@ impl CapturedPacket {
 /// Whether all bytes are 0. It looks at all of them, which takes less time than to stop at the first that isn't.
 #[inline(always)]
 fn is_zero(bytes: &[u8; 64]) -> bool
-    ensures { result ≡ true → bytes.now ≡ replicate 64 0 }
+    ensures { result ≡ true → bytes.now ≡ replicate most_held 0 }
 {
     let mut greatest = 0;
     for byte in bytes {

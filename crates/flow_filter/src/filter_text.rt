@@ -3,6 +3,8 @@ ghost use Rattle.std.specs.Fmt.{decimal};
 ghost use Rattle.std.specs.List.{slice_split};
 ghost use Rattle.basics.specs.Parsing.{parse_number};
 ghost use Rattle.flow_filter.specs.FilterText.{parse, with_fields, with_field, with_named, with_proto, with_local, with_lport, with_remote, with_rport, protocol_of, fields_of, AgreesBy, print, is_printable, is_transport, after_commas, piece, protocol_text, prefix_text};
+ghost use Rattle.basics.specs.Bytes.{comma};
+ghost use Rattle.flow_filter.specs.Packet.{most_port};
 
 use crate::filter::Filter;
 use crate::packet::{TCP, UDP};
@@ -82,7 +84,7 @@ impl Filter {
 
 /// The fields of the text, one after another, added to those so far.
 fn with_fields(so_far: Filter, text: &[u8]) -> Result<Filter, FilterFault>
-    ensures { AgreesBy fields_of result (with_fields (fields_of so_far) (slice_split (λ b. b == 44) text.now)) }
+    ensures { AgreesBy fields_of result (with_fields (fields_of so_far) (slice_split (λ b. b == comma) text.now)) }
 {
     match split_once(text, b',') {
         Some((first, more)) => with_fields(with_field(so_far, first)?, more),
@@ -216,7 +218,7 @@ fn with_rport(so_far: Filter, value: &[u8]) -> Result<Filter, FilterFault>
 
 /// The port that the text spells.
 fn port(text: &[u8]) -> Option<u16>
-    ensures { result ≡ parse_number 65535 text.now }
+    ensures { result ≡ parse_number most_port text.now }
 {
     let value = parse_number(text, 65535)?;
     Some(value as u16)
@@ -310,7 +312,7 @@ fn print_port(out: &mut Printed, begun: bool, name: &str, port: Option<u16>) -> 
 fn print_name(out: &mut Printed, begun: bool, name: &str)
     requires name { length name.now ≤ 7 }
     requires room { length out.old.bytes ≤ 376 }
-    ensures text { out.new.bytes ≡ out.old.bytes ++ (if begun then 44 ∷ name.now else name.now) }
+    ensures text { out.new.bytes ≡ out.old.bytes ++ (if begun then comma ∷ name.now else name.now) }
     ensures short { length out.new.bytes ≤ length out.old.bytes + 8 }
 {
     if begun {

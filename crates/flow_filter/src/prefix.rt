@@ -1,13 +1,13 @@
 ghost use Rattle.std.specs.Prelude.{◌≡◌, ◌≤◌, ◌-◌, ◌/◌, ◌%◌, ◌^◌};
-ghost use Rattle.flow_filter.specs.Prefixes.{in_prefix};
+ghost use Rattle.flow_filter.specs.Prefixes.{in_prefix, address_bits};
 
 /// The addresses that begin with the first `len` bits of `bits`, as `A.B.C.D/L` names them.
 #[derive(Clone, Copy, Debug, PartialEq, Eq, Hash)]
 pub struct Prefix {
     pub bits: u32,
     pub len: u8,
-    ghost within: { len ≤ 32 },
-    ghost aligned: { bits % 2 ^ (32 - len) ≡ 0 },
+    ghost within: { len ≤ address_bits },
+    ghost aligned: { bits % 2 ^ (address_bits - len) ≡ 0 },
 }
 
 impl Prefix {
@@ -21,8 +21,8 @@ impl Prefix {
 
 /// The first `len` bits of an address, as a number.
 fn first_bits(address: u32, len: u8) -> u64
-    requires { len ≤ 32 }
-    ensures { result ≡ address / 2 ^ (32 - len) }
+    requires { len ≤ address_bits }
+    ensures { result ≡ address / 2 ^ (address_bits - len) }
 {
     u64::from(address) >> (32 - len)
 }

@@ -1,6 +1,7 @@
 ghost use Rattle.std.specs.Prelude.{◌≡◌, ◌≤◌, ◌%◌, ◌-◌, ◌^◌, ◌==◌, option_map};
 ghost use Rattle.basics.specs.Parsing.{parse_number};
-ghost use Rattle.flow_filter.specs.Reading.{address_of, aligned_prefix, with_length, prefix_of, prefix_numbers};
+ghost use Rattle.flow_filter.specs.Reading.{address_of, aligned_prefix, with_length, prefix_of, prefix_numbers, most_byte};
+ghost use Rattle.flow_filter.specs.Prefixes.{address_bits};
 
 use crate::prefix::Prefix;
 use basics::parsing::{parse_number, split_once};
@@ -21,7 +22,7 @@ pub fn address(text: &[u8]) -> Option<u32>
 
 /// One of the four numbers of an address.
 fn octet(text: &[u8]) -> Option<u8>
-    ensures { result ≡ parse_number 255 text.now }
+    ensures { result ≡ parse_number most_byte text.now }
 {
     let value = parse_number(text, 255)?;
     Some(value as u8)
@@ -49,7 +50,7 @@ fn with_length(bits: &[u8], len: &[u8]) -> Option<Prefix>
 
 /// The prefix with these two numbers, or `None` where a bit past the length is set.
 fn aligned_prefix(bits: u32, len: u8) -> Option<Prefix>
-    requires { len ≤ 32 }
+    requires { len ≤ address_bits }
     ensures { option_map prefix_numbers result ≡ aligned_prefix bits len }
 {
     if has_no_more_bits(bits, len) {
@@ -61,8 +62,8 @@ fn aligned_prefix(bits: u32, len: u8) -> Option<Prefix>
 
 /// Whether no bit of the address past the length is set.
 fn has_no_more_bits(bits: u32, len: u8) -> bool
-    requires { len ≤ 32 }
-    ensures { result ≡ (bits % 2 ^ (32 - len) == 0) }
+    requires { len ≤ address_bits }
+    ensures { result ≡ (bits % 2 ^ (address_bits - len) == 0) }
 {
     u64::from(bits) % (1u64 << (32 - len)) == 0
 }

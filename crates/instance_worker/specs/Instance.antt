@@ -34,6 +34,7 @@ use Rattle.nf_msgs.specs.Exports.{units_in}
 use Rattle.actor_net.specs.Network.{Stepped}
 use Rattle.instance_worker.specs.declared.instance.Instance.{Instance}
 use Rattle.instance_worker.specs.Pieces.{pieces}
+use Rattle.nf_function.specs.Stored.{plain_version}
 
 -- a step of an instance of the function F, whose records are R
 abbrev pub Step : Type 0 → Type 0 → Type 0
@@ -183,7 +184,7 @@ module _ {F R : Type 0} where
   abbrev pub refusal : Instance F R → APiece → Option Answer
   refusal i piece =
       if nat_lt i.limit (finite.len i.table.live + piece.total) then Some (Import (finite.len i.table.live) piece.total i.limit)
-      else if i.marked && nat_lt 1 piece.newest then Some (Old piece.newest 1)
+      else if i.marked && nat_lt plain_version piece.newest then Some (Old piece.newest plain_version)
       else None
 
   -- a piece is put: it is refused, or its records become live

@@ -5,14 +5,15 @@ use Rattle.nf_function.specs.declared.chunk.Chunk.{Chunk}
 use Rattle.nf_msgs.specs.declared.msg.Piece.{Piece}
 use Rattle.instance_worker.specs.declared.pieces.WholePieces.{WholePieces}
 use Rattle.instance_worker.specs.declared.pieces.TheConstants.{MOST_CHUNKS}
+use Rattle.nf_function.specs.Stored.{plain_version}
 
 -- the version of a chunk is its first byte
 abbrev pub version_of : Chunk → ℕ
 version_of chunk = slice_index chunk.bytes 0
 
--- the highest version of chunks, and at least 1
+-- the highest version of chunks, and that of records without a time where there is none
 abbrev pub newest_version : List Chunk → ℕ
-newest_version [] = 1
+newest_version [] = plain_version
 newest_version (chunk ∷ chunks) = max (version_of chunk) (newest_version chunks)
 
 -- a piece

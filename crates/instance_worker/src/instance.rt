@@ -1,5 +1,6 @@
 ghost use Rattle.std.specs.Prelude.{◌≡◌, ◌<◌, [], ◌++◌, false, OnOk, replicate};
 ghost use Rattle.record_table.specs.Table.{empty};
+ghost use Rattle.flow_filter.specs.Limits.{most_instances};
 
 use crate::number::InstanceNumber;
 use actor_net::{Actor, Outbox};
@@ -85,7 +86,7 @@ impl<F: Function> Instance<F> {
         ensures { result ≡ record {
           table = empty;
           rules = [];
-          tally = record { slots = replicate 16 0 };
+          tally = record { slots = replicate most_instances 0 };
           site = site;
           alloc = alloc;
           limit = limit;

@@ -16,6 +16,23 @@ version = 1
 abbrev pub header_size : ℕ
 header_size = 16
 
+-- where the version, the kind, the instances and the number of choices stand
+abbrev pub version_place : ℕ
+version_place = 4
+
+abbrev pub kind_place : ℕ
+kind_place = 6
+
+abbrev pub instances_place : ℕ
+instances_place = 7
+
+abbrev pub count_place : ℕ
+count_place = 8
+
+-- the bytes of a choice
+abbrev pub choice_size : ℕ
+choice_size = 2
+
 -- the most choices that a journal may have
 abbrev pub most_choices : ℕ
 most_choices = 200_000_000

@@ -10,7 +10,7 @@ use Rattle.nf_io.specs.Meaning.{Rose}
 use Rattle.state_chunk.specs.Format.{kind_number}
 use Rattle.journal_file.specs.declared.fault.JournalFault.{JournalFault}
 use Rattle.journal_file.specs.declared.fault.JournalFault.TheVariants as fault
-use Rattle.journal_file.specs.Format.{letters, version, header_size, most_choices}
+use Rattle.journal_file.specs.Format.{letters, version, header_size, most_choices, version_place, kind_place, instances_place, count_place, choice_size}
 
 abbrev pub Read : Type 0 → Type 0
 Read X = Result X JournalFault
@@ -19,11 +19,11 @@ Read X = Result X JournalFault
 unfoldable pub count_in : Kind → ℕ → List ℕ → Read ℕ
 count_in kind instances header =
     if not (starts_with (λ a b. a == b) header letters) then Err fault.Magic
-    else if not (big_number 2 (drop 4 header) == version) then Err fault.Version
-    else if not (slice_index header 6 == kind_number kind) then Err fault.Kind
-    else if not (slice_index header 7 == instances) then Err fault.Count
-    else if nat_lt most_choices (big_number 8 (drop 8 header)) then Err fault.Count
-    else Ok (big_number 8 (drop 8 header))
+    else if not (big_number 2 (drop version_place header) == version) then Err fault.Version
+    else if not (slice_index header kind_place == kind_number kind) then Err fault.Kind
+    else if not (slice_index header instances_place == instances) then Err fault.Count
+    else if nat_lt most_choices (big_number 8 (drop count_place header)) then Err fault.Count
+    else Ok (big_number 8 (drop count_place header))
 
 -- the number of choices that a journal begins with, or the first fault of its header
 unfoldable pub count_of : Kind → ℕ → List ℕ → Read ℕ
@@ -38,8 +38,8 @@ choices_in bytes = []
 abbrev pub choices_of : Read ℕ → List ℕ → Read (List Choice)
 choices_of (Err e) rest = Err e
 choices_of (Ok count) rest =
-    if nat_lt (length rest) (2 * count) then Err fault.Short
-    else if nat_lt (2 * count) (length rest) then Err fault.Extra
+    if nat_lt (length rest) (choice_size * count) then Err fault.Short
+    else if nat_lt (choice_size * count) (length rest) then Err fault.Extra
     else Ok (choices_in rest)
 
 -- the choices of a journal, or its first fault
@@ -49,7 +49,7 @@ journal_of kind instances bytes = choices_of (count_of kind instances bytes) (dr
 -- how many bytes are looked at: the header, and where it has no fault also its choices and one byte more
 abbrev pub looked_at : Read ℕ → ℕ
 looked_at (Err e) = header_size
-looked_at (Ok count) = header_size + 2 * count + 1
+looked_at (Ok count) = header_size + choice_size * count + 1
 
 -- what a call gave is what is due; out of memory is free
 abbrev pub AnswersWith : {X : Type 0} → Read X → Read X → Type 0

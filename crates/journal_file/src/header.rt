@@ -52,7 +52,7 @@ pub(crate) fn count_of(bytes: &[u8], kind: Kind, instances: u8) -> Result<u64, J
 /// The number of choices that a header of 16 bytes tells, or its first fault.
 #[tactic(auto, unfolding(crate::specs::Reading::count_in))]
 fn count_in(header: &[u8], kind: Kind, instances: u8) -> Result<u64, JournalFault>
-    requires { length header.now ≡ 16 }
+    requires { length header.now ≡ header_size }
     ensures value { result ≡ count_in kind instances header.now }
     ensures bytes { result ≢ Err JournalFault.Read }
     ensures bound { IfOk result (λ count. count ≤ most_choices) }

@@ -9,6 +9,8 @@ use Rattle.actor_net.specs.Network.{Network, waiting, taken}
 use Rattle.net_world.specs.declared.node.Node.{Node}
 use Rattle.net_world.specs.Input.{packets, commands}
 use Rattle.net_world.specs.Nodes.{node_step}
+use Rattle.flow_filter.specs.Limits.{most_packets, most_lines}
+use Rattle.instance_worker.specs.declared.pieces.TheConstants.{MOST_CHUNKS}
 
 -- how many lines of a script an input has: its commands and settles
 abbrev pub lines : List Msg → ℕ
@@ -54,16 +56,9 @@ abbrev pub most_choices : ℕ → List Msg → ℕ → ℕ
 most_choices n items pieces =
     (2 * n + 6) * length (packets items) + (4 * n + 24) * lines items + 4 * pieces + 3 * n + 8
 
--- the most pieces that the moves of a run with this input send: each move the chunks of as many units as there are packets, up to 64 in a piece
+-- the most pieces that the moves of a run with this input send: each move the chunks of as many units as there are packets, up to so many in a piece
 abbrev pub most_pieces : List Msg → ℕ
-most_pieces items = length (commands items) * (length (packets items) / 64 + 1)
-
--- the most packets of a capture, and the most lines of a script
-abbrev pub most_packets : ℕ
-most_packets = 1000000
-
-abbrev pub most_lines : ℕ
-most_lines = 1000
+most_pieces items = length (commands items) * (length (packets items) / MOST_CHUNKS + 1)
 
 -- an input of a capture and a script, with its end
 pub record IsShort (items : List Msg) : Type 0 where

@@ -19,6 +19,8 @@ use Rattle.nf_msgs.specs.declared.msg.Msg.{Msg}
 use Rattle.nf_msgs.specs.declared.msg.Msg.TheVariants.{InPacket, InCommand, InSettle, InEnd}
 use Rattle.net_world.specs.declared.config.Config.{Config}
 use Rattle.net_world.specs.Start.{IsConfig}
+use Rattle.flow_filter.specs.Packet.{tcp}
+use Rattle.flow_filter.specs.Limits.{fewest_members}
 
 -- an item that may stand in an input
 abbrev pub is_item : Msg → Bool
@@ -48,7 +50,7 @@ ends_last (item ∷ items) = ends_last items
 
 -- a packet of TCP and else of zeros, for numbers that no packet has
 abbrev pub no_packet : Packet
-no_packet = record { nanos = 0; number = 0; src = 0; dst = 0; length = 0; sport = 0; dport = 0; proto = 6; flags = 0; held = 0; head = [] }
+no_packet = record { nanos = 0; number = 0; src = 0; dst = 0; length = 0; sport = 0; dport = 0; proto = tcp; flags = 0; held = 0; head = [] }
 
 -- the packet with a number, and the order under one
 abbrev pub packet_of : List Msg → ℕ → Packet
@@ -83,7 +85,7 @@ are_unlike (name ∷ names) = is_unlike name names && are_unlike names
 
 -- the members of a share: two names or more, no two alike
 pub record AreMembers (names : List (List ℕ)) : Type 0 where
-  pub some : 2 ≤ length names
+  pub some : fewest_members ≤ length names
   pub unlike : are_unlike names ≡ true
 
 -- an order to move units, to copy their records or, without a filter, the all-flows state, or to share them, with different names

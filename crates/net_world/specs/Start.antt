@@ -15,6 +15,7 @@ use Rattle.actor_net.specs.Opening.{opening}
 use Rattle.net_world.specs.declared.config.Config.{Config}
 use Rattle.net_world.specs.declared.node.Node.{Node}
 use Rattle.net_world.specs.declared.node.Node.TheVariants.{Switch, Controller, Instance}
+use Rattle.flow_filter.specs.Limits.{most_instances}
 
 -- a configuration: 1 to 16 instances with a limit and a mark each, a window, and routes to instances
 pub record IsConfig (c : Config) : Type 0 where
@@ -43,7 +44,7 @@ module _ {F R : Type 0} (alloc : Global) (c : Config) where
   first_instance i = record {
     table = empty;
     rules = [];
-    tally = record { slots = replicate 16 0 };
+    tally = record { slots = replicate most_instances 0 };
     site = c.site;
     alloc = alloc;
     limit = slice_index c.limits i;

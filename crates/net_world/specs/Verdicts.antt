@@ -28,6 +28,7 @@ use Rattle.net_world.specs.Input.{packet_of, order_numbered}
 use Rattle.net_world.specs.Lives.{lives}
 use Rattle.net_world.specs.Nodes.{node_step}
 use Rattle.net_world.specs.Fold.{went}
+use Rattle.nf_function.specs.Stored.{plain_version, timed_version}
 
 -- what is weighed of a move: how many units are live at the destination, how many come, how many it takes at most, whether it is
 -- marked as one that reads only the first version of chunks, and whether one that comes is of the second
@@ -42,7 +43,7 @@ pub record Weighed : Type 0 where
 abbrev pub verdict : Weighed → Answer
 verdict x =
     if nat_lt x.limit (x.held + x.coming) then Import x.held x.coming x.limit
-    else if x.marked && x.timed then Old 2 1
+    else if x.marked && x.timed then Old timed_version plain_version
     else Done
 
 -- an answer to a command that doesn't begin

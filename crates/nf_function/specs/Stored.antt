@@ -6,6 +6,13 @@ use Rattle.byteorder.specs.Endian.{big_bytes, big_number}
 abbrev pub IsBytes : List ℕ → Type 0
 IsBytes bytes = (i : ℕ) → slice_index bytes i < 256
 
+-- the version of a record's bytes, and that of one that holds a time
+abbrev pub plain_version : ℕ
+plain_version = 1
+
+abbrev pub timed_version : ℕ
+timed_version = 2
+
 -- a number in n bytes
 unfoldable pub number_bytes : ℕ → ℕ → List ℕ
 number_bytes n x = big_bytes n x

@@ -14,6 +14,7 @@ use Rattle.nf_function.specs.declared.kind.Kind.{Kind}
 use Rattle.nf_function.specs.declared.kind.Kind.TheVariants.{Conntrack, Nat, Monitor}
 use Rattle.nf_function.specs.declared.unit.Unit as units
 use Rattle.nf_function.specs.declared.unit.Unit.TheVariants.{Flow as OfFlow, Host as OfHost}
+use Rattle.flow_filter.specs.Packet.{tcp, udp}
 
 -- the function keeps its records for local hosts
 abbrev pub has_hosts : Kind → Bool
@@ -33,12 +34,11 @@ unit_of Conntrack flow = OfFlow flow
 unit_of Nat flow = OfHost flow.local
 unit_of Monitor flow = OfHost flow.local
 
--- the protocol numbers of an IPv4 header
 abbrev pub is_tcp : ℕ → Bool
-is_tcp proto = proto == 6
+is_tcp proto = proto == tcp
 
 abbrev pub is_udp : ℕ → Bool
-is_udp proto = proto == 17
+is_udp proto = proto == udp
 
 -- the functions work on TCP and UDP alone
 abbrev pub is_transport : ℕ → Bool

@@ -3,13 +3,14 @@ use Rattle.std.specs.Prelude.{ℕ, Bool, true, false, not, ◌||◌, ◌==◌, i
 use Rattle.std.specs.List.{slice_split}
 use Rattle.std.specs.Str.{bytes_eq}
 use Rattle.basics.specs.Parsing.{parse_number, split_once}
+use Rattle.basics.specs.Bytes.{tab, space, number_sign, comma}
 
 abbrev pub Word : Type 0
 Word = List ℕ
 
 -- a space or a tab
 abbrev pub is_blank : ℕ → Bool
-is_blank byte = byte == 32 || byte == 9
+is_blank byte = byte == space || byte == tab
 
 -- the words of a line
 abbrev pub words : List ℕ → List Word
@@ -44,7 +45,7 @@ copying _ = None
 -- `INST,INST.. FILTER strict`, where the list has a comma
 unfoldable pub sharing : List Word → Option Event
 sharing (members ∷ filter ∷ how ∷ []) =
-    if bytes_eq how (codes "strict") then (if is_some (split_once 44 members) then Some (Sharing members filter) else None) else None
+    if bytes_eq how (codes "strict") then (if is_some (split_once comma members) then Some (Sharing members filter) else None) else None
 sharing _ = None
 
 -- nothing more
@@ -61,9 +62,13 @@ event_of verb more =
     else if bytes_eq verb (codes "settle") then settling more
     else None
 
+-- the greatest K
+abbrev pub most_at : ℕ
+most_at = 4294967295
+
 -- `K` and an event
 abbrev pub happening : List Word → Option Form
-happening (at ∷ verb ∷ more) = option_and_then (λ k. option_map (Happening k) (event_of verb more)) (parse_number 4294967295 at)
+happening (at ∷ verb ∷ more) = option_and_then (λ k. option_map (Happening k) (event_of verb more)) (parse_number most_at at)
 happening _ = None
 
 -- `FILTER INST`
@@ -74,7 +79,7 @@ routing _ = None
 -- the word begins a comment
 abbrev pub is_comment : Word → Bool
 is_comment [] = false
-is_comment (byte ∷ more) = byte == 35
+is_comment (byte ∷ more) = byte == number_sign
 
 -- what the words of a line say, or None where they have no form
 unfoldable pub form_of : List Word → Option Form

@@ -17,6 +17,8 @@ use Rattle.op_script.specs.declared.script.What.{What}
 use Rattle.op_script.specs.declared.script.What.TheVariants.{Command, Settle}
 use Rattle.op_script.specs.Forms.{Word}
 use Rattle.op_script.specs.Reading.{ends_of, OrderView, Moves, Copies, Shares, LineView, ScriptView}
+use Rattle.basics.specs.Bytes.{line_feed, space, comma}
+use Rattle.flow_filter.specs.Limits.{most_lines, fewest_members}
 
 -- the words of an initial rule
 abbrev pub route_words : List Word → Filter × ℕ → List Word
@@ -32,7 +34,7 @@ abbrev pub order_words : Order → List Word
 order_words (Move source target filter keep) =
     codes "move" ∷ source ∷ target ∷ print filter ∷ (if keep then codes "order" else codes "lossfree") ∷ []
 order_words (Copy source target filter) = codes "copy" ∷ source ∷ target ∷ copied filter ∷ []
-order_words (Share members filter) = codes "share" ∷ join_with_byte 44 members ∷ print filter ∷ codes "strict" ∷ []
+order_words (Share members filter) = codes "share" ∷ join_with_byte comma members ∷ print filter ∷ codes "strict" ∷ []
 
 -- the words of what happens
 abbrev pub what_words : What → List Word
@@ -45,7 +47,7 @@ line_words line = codes "at" ∷ decimal line.at ∷ what_words line.what
 
 -- a line of words, with its end
 abbrev pub line_text : List Word → List ℕ
-line_text words = join_with_byte 32 words ++ 10 ∷ []
+line_text words = join_with_byte space words ++ line_feed ∷ []
 
 -- the words of each line
 abbrev pub script_words : List Word → Script → List (List Word)
@@ -69,7 +71,7 @@ abbrev pub IsOrder : OrderView → Type 0
 IsOrder (Moves source target filter keep) = (ends_of source target ≡ Ok (source, target)) × (is_transport filter.proto ≡ true)
 IsOrder (Copies source target filter) = (ends_of source target ≡ Ok (source, target)) × (is_writable filter ≡ true)
 IsOrder (Shares members filter) =
-    (2 ≤ length members) × (list_all is_name members ≡ true) × (has_twice members ≡ false) × (is_transport filter.proto ≡ true)
+    (fewest_members ≤ length members) × (list_all is_name members ≡ true) × (has_twice members ≡ false) × (is_transport filter.proto ≡ true)
 
 -- a settle, or a command with such an order
 abbrev pub IsWhat : Option (ℕ × OrderView) → Type 0
@@ -96,8 +98,8 @@ follows last next (line ∷ more) = nat_le last line.at && and_then (next_after 
 
 -- the script breaks no rule, for instances with these names
 pub record IsScript (names : List Word) (script : ScriptView) : Type 0 where
-  pub few_routes : length script.0 ≤ 1000
-  pub few_lines : length script.1 ≤ 1000
+  pub few_routes : length script.0 ≤ most_lines
+  pub few_lines : length script.1 ≤ most_lines
   pub routes : AllByRecursion (IsRoute names) script.0
   pub lines : AllByRecursion IsLine script.1
   pub follow : follows 0 1 script.1 ≡ true

@@ -24,6 +24,8 @@ use Rattle.op_script.specs.declared.fault.LineFault.{LineFault}
 use Rattle.op_script.specs.declared.fault.LineFault.TheVariants as one
 use Rattle.op_script.specs.declared.reader.Reader.{Reader}
 use Rattle.op_script.specs.Forms.{Word, words, Event, Moving, Copying, Sharing, Settling, Form, Silent, Routing, Happening, form_of}
+use Rattle.basics.specs.Bytes.{line_feed, comma}
+use Rattle.flow_filter.specs.Limits.{most_lines}
 
 -- an order with its names as bytes and its filter as its fields
 pub data OrderView : Type 0 where
@@ -79,7 +81,7 @@ ends_of source target =
 
 -- the members of a share
 unfoldable pub members_of : Word → Judged (List Word)
-members_of list = let members = slice_split (λ b. b == 44) list in
+members_of list = let members = slice_split (λ b. b == comma) list in
     unless (not (list_all is_name members)) bad.Name
     (unless (has_twice members) bad.SameInstance
     (Ok members))
@@ -104,7 +106,7 @@ with_route kind names s filter instance =
     unless (is_some s.last) bad.Order
     (wanted (place_of instance names) bad.Name >>= λ place.
     filter_of kind filter >>= λ f.
-    unless (nat_le 1000 (length s.routes)) bad.TooMany
+    unless (nat_le most_lines (length s.routes)) bad.TooMany
     (Ok (record s { routes = s.routes ++ (f, place) ∷ [] })))
 
 -- a command stands in the line
@@ -127,7 +129,7 @@ noted s at order = record s { lines = s.lines ++ record { at = at; what = number
 
 -- an `at` line more
 abbrev pub with_line : State → ℕ → Option OrderView → Judged State
-with_line s at order = unless (nat_le 1000 (length s.lines)) bad.TooMany (Ok (noted s at order))
+with_line s at order = unless (nat_le most_lines (length s.lines)) bad.TooMany (Ok (noted s at order))
 
 -- the order of an event, or None for a settle
 unfoldable pub order_said : Kind → Event → Judged (Option OrderView)
@@ -182,11 +184,15 @@ abbrev pub said : ScriptAnswer → Result ScriptView (ℕ × ScriptKind)
 said (Ok s) = Ok (s.routes, s.lines)
 said (Err e) = Err e
 
--- what a script of at most 1,048,576 bytes says, or the number of its first line that breaks a rule, and how
+-- the most bytes of a script
+abbrev pub longest_script : ℕ
+longest_script = 1048576
+
+-- what a script that is no longer says, or the number of its first line that breaks a rule, and how
 unfoldable pub script_of : Kind → List Word → List ℕ → Result ScriptView (ℕ × ScriptKind)
 script_of kind names bytes =
-    if nat_lt 1048576 (length bytes) then Err (0, bad.TooMany)
-    else said (with_lines kind names 1 start (slice_split (λ b. b == 10) bytes))
+    if nat_lt longest_script (length bytes) then Err (0, bad.TooMany)
+    else said (with_lines kind names 1 start (slice_split (λ b. b == line_feed) bytes))
 
 -- an order of the code, seen as above
 abbrev pub order_view : Order → OrderView

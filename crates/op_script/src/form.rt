@@ -1,5 +1,5 @@
 ghost use Rattle.std.specs.Prelude.{◌≡◌, map, IfOk, option_map};
-ghost use Rattle.op_script.specs.Forms.{words, is_blank, form_of, routing, happening, event_of, moving, copying, sharing, settling, is_comment};
+ghost use Rattle.op_script.specs.Forms.{words, is_blank, form_of, routing, happening, event_of, moving, copying, sharing, settling, is_comment, most_at};
 ghost use Rattle.basics.specs.Parsing.{parse_number};
 ghost use Rattle.op_script.specs.FormViews.{event_view, form_view};
 
@@ -113,7 +113,7 @@ fn happening<'a>(words: &[&'a [u8]]) -> Option<Form<'a>>
 
 /// The point of the trace that a word spells.
 fn point(text: &[u8]) -> Option<u32>
-    ensures { result ≡ parse_number 4294967295 text.now }
+    ensures { result ≡ parse_number most_at text.now }
 {
     let at = parse_number(text, 4294967295)?;
     Some(at as u32)

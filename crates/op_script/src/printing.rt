@@ -4,8 +4,9 @@ ghost use Rattle.flow_filter.specs.FilterText.{after_commas, fields_of, is_print
 ghost use Rattle.flow_filter.specs.Filter.{IsFilter};
 ghost use Rattle.flow_filter.specs.Name.{has_twice, is_name};
 ghost use Rattle.nf_function.specs.declared.kind.Kind.{Kind};
-ghost use Rattle.op_script.specs.Reading.{script_of, script_view, route_view, line_view, order_view};
+ghost use Rattle.op_script.specs.Reading.{script_of, script_view, route_view, line_view, order_view, longest_script};
 ghost use Rattle.op_script.specs.Printing.{route_words, order_words, line_words, what_words, copied, line_text, script_text, is_writable, IsRoute, IsOrder, IsLine, IsScript, SplitsNone, CopiedFits, OrderFits, LineFits};
+ghost use Rattle.basics.specs.Bytes.{line_feed, space, comma};
 
 use crate::script::{Line, Script, What};
 use flow_filter::{Filter, Name, NoMemory, Text};
@@ -20,7 +21,7 @@ pub fn print_script(alloc: Global, script: &Script, names: &[Name]) -> Result<Te
 
     // Read again, the text gives the script, for each function of which it splits no unit.
     ensures again { IfOk result (λ text. (kind : Kind) → has_twice names.now ≡ false
-        → SplitsNone kind (script_view script.now) → length text ≤ 1048576 → script_of kind names.now text ≡ Ok (script_view script.now)) }
+        → SplitsNone kind (script_view script.now) → length text ≤ longest_script → script_of kind names.now text ≡ Ok (script_view script.now)) }
 {
     all_are_names(names);
     let mut out = Text::open(alloc);
@@ -82,7 +83,7 @@ fn print_filter(out: &mut Text, filter: Filter) -> Result<(), NoMemory>
 /// Appends the words of an order after a space, and the line's end.
 fn print_order(out: &mut Text, order: &Order) -> Result<(), NoMemory>
     requires { IsOrder (order_view order.now) }
-    ensures text { OnOk result (out.new ≡ out.old ++ 32 ∷ line_text (order_words order.now)) }
+    ensures text { OnOk result (out.new ≡ out.old ++ space ∷ line_text (order_words order.now)) }
     ensures fits { OnOk result (OrderFits order.now) }
 {
     match order {
@@ -112,7 +113,7 @@ fn print_order(out: &mut Text, order: &Order) -> Result<(), NoMemory>
 
 /// Appends a verb, a source and a target, and a space after each.
 fn print_ends(out: &mut Text, verb: &[u8], source: &Name, target: &Name) -> Result<(), NoMemory>
-    ensures { OnOk result (out.new ≡ out.old ++ (verb.now ++ 32 ∷ (source.now ++ 32 ∷ (target.now ++ 32 ∷ [])))) }
+    ensures { OnOk result (out.new ≡ out.old ++ (verb.now ++ space ∷ (source.now ++ space ∷ (target.now ++ space ∷ [])))) }
 {
     out.push_bytes(verb)?;
     out.push_bytes(b" ")?;
@@ -124,7 +125,7 @@ fn print_ends(out: &mut Text, verb: &[u8], source: &Name, target: &Name) -> Resu
 
 /// Appends names with commas between them.
 fn print_members(out: &mut Text, members: &[Name]) -> Result<(), NoMemory>
-    ensures { OnOk result (out.new ≡ out.old ++ join_with_byte 44 members.now) }
+    ensures { OnOk result (out.new ≡ out.old ++ join_with_byte comma members.now) }
 {
     match members {
         [] => Ok(()),
@@ -148,7 +149,7 @@ fn print_more(out: &mut Text, names: &[Name]) -> Result<(), NoMemory>
 
 /// Appends the word that says whether order is kept, after a space, and the line's end.
 fn print_how(out: &mut Text, keep: bool) -> Result<(), NoMemory>
-    ensures { OnOk result (out.new ≡ out.old ++ 32 ∷ ((if keep then codes "order" else codes "lossfree") ++ 10 ∷ [])) }
+    ensures { OnOk result (out.new ≡ out.old ++ space ∷ ((if keep then codes "order" else codes "lossfree") ++ line_feed ∷ [])) }
 {
     if keep {
         out.push_bytes(b" order\n")
@@ -160,7 +161,7 @@ fn print_how(out: &mut Text, keep: bool) -> Result<(), NoMemory>
 /// Appends the filter of a copy, or `all`, and the line's end.
 fn print_copied(out: &mut Text, filter: Option<Filter>) -> Result<(), NoMemory>
     requires { is_writable (option_map fields_of filter) ≡ true }
-    ensures text { OnOk result (out.new ≡ out.old ++ (copied filter ++ 10 ∷ [])) }
+    ensures text { OnOk result (out.new ≡ out.old ++ (copied filter ++ line_feed ∷ [])) }
     ensures fits { OnOk result (CopiedFits filter) }
 {
     match filter {

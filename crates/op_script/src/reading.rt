@@ -6,7 +6,9 @@ ghost use Rattle.flow_filter.specs.Name.{is_name};
 ghost use Rattle.flow_filter.specs.FilterText.{fields_of, AgreesBy};
 ghost use Rattle.op_script.specs.FormViews.{event_view, form_view};
 ghost use Rattle.op_script.specs.Printing.{IsScript, SplitsNone};
-ghost use Rattle.op_script.specs.Reading.{ends_of, members_of, filter_of, filter_or_all, order_said, with_route, with_line, numbered, is_command, command_count, line_view, what_view, with_event, with_form, with_text, script_of, place_of, goes_back, state_of, script_view, order_view, with_lines, start, Says, SaysWhole, Numbered};
+ghost use Rattle.op_script.specs.Reading.{ends_of, members_of, filter_of, filter_or_all, order_said, with_route, with_line, numbered, is_command, command_count, line_view, what_view, with_event, with_form, with_text, script_of, place_of, goes_back, state_of, script_view, order_view, with_lines, start, Says, SaysWhole, Numbered, longest_script};
+ghost use Rattle.basics.specs.Bytes.{line_feed, comma};
+ghost use Rattle.flow_filter.specs.Limits.{most_lines};
 
 use crate::fault::{LineFault, ScriptFault, ScriptKind};
 use crate::form::{Event, Form, form_of, words};
@@ -34,7 +36,7 @@ pub fn read_script(
     kind: Kind,
     names: &[Name],
 ) -> Result<Script, ScriptFault>
-    requires { length names.now ≤ 256 }
+    requires { length names.now ≤ 2 ^ 8 }
     ensures value { SaysWhole script_view result (script_of kind names.now bytes.now) }
     ensures right { IfOk result (λ script. IsScript names.now (script_view script)) }
     ensures whole { IfOk result (λ script. SplitsNone kind (script_view script)) }
@@ -57,9 +59,9 @@ fn read_lines(
     kind: Kind,
     names: &[Name],
 ) -> Result<Reader, ScriptFault>
-    requires few { length names.now ≤ 256 }
-    requires short { length bytes.now ≤ 1048576 }
-    ensures { SaysWhole state_of result (with_lines kind names.now 1 start (slice_split (λ b. b == 10) bytes.now)) }
+    requires few { length names.now ≤ 2 ^ 8 }
+    requires short { length bytes.now ≤ longest_script }
+    ensures { SaysWhole state_of result (with_lines kind names.now 1 start (slice_split (λ b. b == line_feed) bytes.now)) }
 {
     let mut reader = Reader {
         routes: Vec::new(alloc),
@@ -99,7 +101,7 @@ fn with_text(
     reader: Reader,
     line: &[u8],
 ) -> Result<Reader, LineFault>
-    requires { length names.now ≤ 256 }
+    requires { length names.now ≤ 2 ^ 8 }
     ensures { Says state_of result (with_text kind names.now (state_of reader) line.now) }
 {
     if !is_utf8(line) {
@@ -130,7 +132,7 @@ fn with_form(
     reader: Reader,
     form: Form<'_>,
 ) -> Result<Reader, LineFault>
-    requires { length names.now ≤ 256 }
+    requires { length names.now ≤ 2 ^ 8 }
     ensures { Says state_of result (with_form kind names.now (state_of reader) (form_view form.entry)) }
 {
     match form {
@@ -149,7 +151,7 @@ fn with_route(
     filter: &[u8],
     instance: &[u8],
 ) -> Result<Reader, LineFault>
-    requires { length names.now ≤ 256 }
+    requires { length names.now ≤ 2 ^ 8 }
     ensures { Says state_of result (with_route kind names.now (state_of reader) filter.now instance.now) }
 {
     if reader.last.is_some() {
@@ -169,7 +171,7 @@ fn with_route(
 /// The place of an instance among the names.
 #[tactic(auto, unfolding(crate::specs::Reading::place_of))]
 fn place_of(name: &[u8], names: &[Name]) -> Option<u8>
-    requires { length names.now ≤ 256 }
+    requires { length names.now ≤ 2 ^ 8 }
     ensures { result ≡ place_of name.now names.now }
 {
     let place = first_place(name, names)?;
@@ -297,7 +299,7 @@ fn members_of(alloc: Global, list: &[u8]) -> Result<Names, LineFault>
 
 /// The names of a list with commas between them, or `None` where one is malformed.
 fn names_of(alloc: Global, list: &[u8]) -> Result<Option<Names>, NoMemory>
-    ensures { IfOk result (λ found. let names = slice_split (λ b. b == 44) list.now in found ≡ (if list_all is_name names then Some names else None)) }
+    ensures { IfOk result (λ found. let names = slice_split (λ b. b == comma) list.now in found ≡ (if list_all is_name names then Some names else None)) }
 {
     let mut names = Names::open(alloc);
     let mut rest = Some(list);
@@ -327,7 +329,7 @@ fn with_line(mut reader: Reader, at: u32, order: Option<Order>) -> Result<Reader
 
 /// An order under the number after those of the lines so far, or a settle.
 fn numbered_order(lines: &[Line], order: Option<Order>) -> What
-    requires { length lines.now < 1000 }
+    requires { length lines.now < most_lines }
     ensures { what_view result ≡ numbered (map line_view lines.now) (option_map order_view order) }
 {
     match order {
@@ -341,7 +343,7 @@ fn numbered_order(lines: &[Line], order: Option<Order>) -> What
 
 /// How many commands stand in the lines.
 fn command_count(lines: &[Line]) -> u32
-    requires { length lines.now < 1000 }
+    requires { length lines.now < most_lines }
     ensures count { result ≡ command_count (map line_view lines.now) }
     ensures most { result ≤ length lines.now }
 {

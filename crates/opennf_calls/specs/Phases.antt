@@ -7,7 +7,7 @@ use Rattle.nf_io.specs.Roles.{is_read}
 use Rattle.nf_io.specs.Meaning.{Meaning, OthersStay, Rose}
 use Rattle.flow_filter.specs.declared.site.Site.{Site}
 use Rattle.nf_function.specs.Semantics.{Semantics}
-use Rattle.trace_reader.specs.Limits.{most_packets}
+use Rattle.flow_filter.specs.Limits.{most_packets, most_instances, most_window}
 use Rattle.trace_reader.specs.Records.{AreNumbered}
 use Rattle.trace_reader.specs.Steered.{is_steered_proto}
 use Rattle.op_script.specs.declared.script.Script.{Script}
@@ -58,10 +58,10 @@ pub record OnlyRead (old new : Role → Meaning) : Type 0 where
 -- a run has 1 to 16 instances with a limit and a mark each, and a window
 pub record CanRun (s : NetworkAsked) : Type 0 where
   pub some : 1 ≤ length s.instances.names
-  pub few : length s.instances.names ≤ 16
+  pub few : length s.instances.names ≤ most_instances
   pub limits : length s.instances.limits ≡ length s.instances.names
   pub marked : length s.instances.marked ≡ length s.instances.names
-  pub window : (1 ≤ s.window) × (s.window ≤ 4096)
+  pub window : (1 ≤ s.window) × (s.window ≤ most_window)
 
 -- the words' script and capture hold these bytes
 pub record TellsInputs (s : NetworkAsked) (old : Role → Meaning) (bytes : Role → List ℕ) : Type 0 where

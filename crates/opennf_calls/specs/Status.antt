@@ -24,6 +24,7 @@ use Rattle.opennf_calls.specs.declared.status.JournalKind.{JournalKind}
 use Rattle.opennf_calls.specs.declared.status.JournalKind.TheVariants as kinds
 use Rattle.opennf_calls.specs.declared.status.Status.{Status}
 use Rattle.opennf_calls.specs.declared.status.Status.TheVariants.{Ok as Done, Usage, BadScript, BadTrace, BadJournal, NotARun, ReadFault, WriteFault, NoMemory}
+use Rattle.trace_reader.specs.Layout.{major_place, link_type_place}
 
 -- the number that the program ends with
 abbrev pub exit_number : Status → ℕ
@@ -120,8 +121,8 @@ line_of NoMemory = codes "opennf: no memory\n"
 abbrev pub trace_status : TraceFault → Status
 trace_status fault.Magic = BadTrace 0 Magic
 trace_status fault.PcapNg = BadTrace 0 PcapNg
-trace_status fault.Version = BadTrace 4 Version
-trace_status (fault.LinkType n) = BadTrace 20 (LinkType n)
+trace_status fault.Version = BadTrace major_place Version
+trace_status (fault.LinkType n) = BadTrace link_type_place (LinkType n)
 trace_status (fault.RecordLength offset n) = BadTrace offset (RecordLength n)
 trace_status (fault.TooLong offset) = BadTrace offset TooLong
 trace_status (fault.Header length) = BadTrace length Header

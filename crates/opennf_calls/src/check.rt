@@ -7,6 +7,7 @@ ghost use Rattle.command_words.specs.Plan.{asks_check};
 ghost use Rattle.command_words.specs.RequestViews.{check_view};
 ghost use Rattle.opennf_calls.specs.Outcome.{IsBound, ForResults, RowOf};
 ghost use Rattle.opennf_calls.specs.Phases.{GivesReport, Performs, ReadAlone};
+ghost use Rattle.flow_filter.specs.Limits.{most_instances};
 
 use crate::status::Status;
 use crate::writing::put;
@@ -22,7 +23,7 @@ pub(crate) const MOST_BYTES: u64 = 1_048_576;
 /// Reads the script, whose file is bound, and writes its canonical text.
 pub fn check<O: Outside>(alloc: Global, asked: &Checking<'_>, outside: &mut O) -> Status
     requires bound { IsBound (asks_check (check_view asked.now)) (O.seen outside.old) }
-    requires few { length asked.now.instances.names.items ≤ 16 }
+    requires few { length asked.now.instances.names.items ≤ most_instances }
     ensures { Performs (asks_check (check_view asked.now)) (O.seen outside.old) (O.seen outside.new) (record { status = result; choices = [] }) }
 {
     let text = match read_canonical(alloc, asked, outside) {
@@ -42,7 +43,7 @@ fn read_canonical<O: Outside>(
     outside: &mut O,
 ) -> Result<Text, Status>
     requires bound { IsBound (asks_check (check_view asked.now)) (O.seen outside.old) }
-    requires few { length asked.now.instances.names.items ≤ 16 }
+    requires few { length asked.now.instances.names.items ≤ most_instances }
     ensures alone { ReadAlone ScriptRole (O.seen outside.old) (O.seen outside.new) }
 
     // The text is the one that the command has for the script, or the status has its row.

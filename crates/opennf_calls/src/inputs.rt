@@ -4,7 +4,7 @@ ghost use Rattle.std.specs.Option.{ForSome};
 ghost use Rattle.nf_io.specs.declared.outside.Role.TheVariants.{Trace as TraceRole, Script as ScriptRole};
 ghost use Rattle.nf_io.specs.Meaning.{CanRead};
 ghost use Rattle.trace_reader.specs.Answers.{AnswersTrace, HasReadCause};
-ghost use Rattle.trace_reader.specs.Limits.{most_packets};
+ghost use Rattle.flow_filter.specs.Limits.{most_packets};
 ghost use Rattle.trace_reader.specs.Records.{AreNumbered, capture_of};
 ghost use Rattle.trace_reader.specs.Steered.{is_steered_proto};
 ghost use Rattle.op_script.specs.Printing.{IsScript, SplitsNone};

@@ -13,9 +13,10 @@ use Rattle.op_script.specs.Forms.{Word}
 use Rattle.op_script.specs.Items.{msg_of, said_where, items_from, items, IsFrom}
 use Rattle.op_script.specs.Printing.{IsScript}
 use Rattle.op_script.specs.Reading.{line_view, script_view}
-use Rattle.net_length.specs.Length.{lines, ends, most_packets, IsShort}
+use Rattle.net_length.specs.Length.{lines, ends, IsShort}
 use Rattle.run_input.proofs.SaidCommands.{here, from, here_and_behind, from_start, packets_in}
 use Rattle.run_input.proofs.ScriptedOrders.{in_order}
+use Rattle.flow_filter.specs.Limits.{most_packets}
 
 -- each line counts once
 line_counts : (w : What) (rest : List Msg) → lines (msg_of w ∷ rest) ≡ 1 + lines rest

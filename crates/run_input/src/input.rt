@@ -7,9 +7,10 @@ ghost use Rattle.op_script.specs.Reading.{script_view};
 ghost use Rattle.op_script.specs.Printing.{CopiedFits, IsScript, SplitsNone, WhatFits};
 ghost use Rattle.op_script.specs.Items.{items};
 ghost use Rattle.net_world.specs.Input.{IsInput, IsSteered, ends_last, most_counted};
-ghost use Rattle.net_length.specs.Length.{IsShort, most_packets};
+ghost use Rattle.net_length.specs.Length.{IsShort};
 ghost use Rattle.run_input.specs.Given.{config_of, IsSetting};
 ghost use Rattle.run_input.specs.PacketFacts.{IsTransport, IsSteeredItem};
+ghost use Rattle.flow_filter.specs.Limits.{most_packets};
 
 use crate::setting::Setting;
 use basics::{NoMemory, TryCopy};

@@ -9,9 +9,10 @@ use Rattle.nf_function.specs.declared.kind.Scope.{Scope}
 use Rattle.nf_function.specs.declared.kind.Scope.TheVariants.{PerFlow, MultiFlow, AllFlows}
 use Rattle.nf_function.specs.declared.unit.Unit as units
 use Rattle.nf_function.specs.declared.unit.Unit.TheVariants.{Flow as OfFlow, Host as OfHost}
-use Rattle.nf_function.specs.Stored.{number_bytes}
+use Rattle.nf_function.specs.Stored.{number_bytes, plain_version, timed_version}
 use Rattle.nf_function.specs.Units.{has_hosts}
 use Rattle.nf_function.specs.Semantics.{Semantics}
+use Rattle.flow_filter.specs.Limits.{most_instances}
 
 abbrev pub kind_number : Kind → ℕ
 kind_number Conntrack = 1
@@ -23,9 +24,9 @@ scope_number PerFlow = 1
 scope_number MultiFlow = 2
 scope_number AllFlows = 3
 
--- the version: 2 where the record holds a time
+-- the version, by whether the record holds a time
 abbrev pub version_number : Bool → ℕ
-version_number timed = if timed then 2 else 1
+version_number timed = if timed then timed_version else plain_version
 
 -- the scope of a function's records
 abbrev pub record_scope : Kind → Scope
@@ -52,9 +53,9 @@ pub record IsRecordOf {R : Type 0} (f : Semantics R) (bytes : List ℕ) (unit : 
   pub valid : f.is_valid unit r ≡ true
   pub spelled : bytes ≡ record_bytes f unit r
 
--- a tally has 16 counts, each within its type
+-- a tally has a count for each instance that there can be, each within its type
 pub record IsTally (slots : List ℕ) : Type 0 where
-  pub size : length slots ≡ 16
+  pub size : length slots ≡ most_instances
   pub each : (i : ℕ) → slice_index slots i < 2 ^ 64
 
 -- a tally's body has 16 numbers of 8 bytes
@@ -64,7 +65,7 @@ tally_length = 128
 -- the bytes of a tally, which has no key
 unfoldable pub tally_bytes : Kind → List ℕ → List ℕ
 tally_bytes kind slots =
-    (1 ∷ kind_number kind ∷ scope_number AllFlows ∷ []) ++ number_bytes 2 tally_length ++ flat_map (number_bytes 8) slots
+    (plain_version ∷ kind_number kind ∷ scope_number AllFlows ∷ []) ++ number_bytes 2 tally_length ++ flat_map (number_bytes 8) slots
 
 -- the chunk of a tally
 abbrev pub tally_chunk : Kind → List ℕ → Chunk

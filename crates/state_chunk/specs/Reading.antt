@@ -6,7 +6,7 @@ use Rattle.nf_function.specs.declared.kind.Scope.{Scope}
 use Rattle.nf_function.specs.declared.kind.Scope.TheVariants.{AllFlows}
 use Rattle.nf_function.specs.declared.unit.Unit as units
 use Rattle.nf_function.specs.declared.unit.Unit.TheVariants.{Flow as OfFlow, Host as OfHost}
-use Rattle.nf_function.specs.Stored.{first_byte, first_number}
+use Rattle.nf_function.specs.Stored.{first_byte, first_number, plain_version, timed_version}
 use Rattle.nf_function.specs.Units.{has_hosts, has_times, is_transport}
 use Rattle.nf_function.specs.Semantics.{Semantics}
 use Rattle.nf_function.specs.declared.function.BodyFault.{BodyFault}
@@ -14,6 +14,7 @@ use Rattle.nf_function.specs.declared.function.BodyFault.TheVariants.{Body, NoMe
 use Rattle.state_chunk.specs.declared.fault.ChunkFault.{ChunkFault}
 use Rattle.state_chunk.specs.declared.fault.ChunkFault.TheVariants as fault
 use Rattle.state_chunk.specs.Format.{kind_number, scope_number, version_number, record_scope, tally_length}
+use Rattle.flow_filter.specs.Limits.{most_instances}
 
 abbrev pub Read : Type 0 → Type 0
 Read X = Result X ChunkFault
@@ -62,15 +63,15 @@ abbrev pub is_known : units.Unit → Bool
 is_known (OfFlow flow) = is_transport flow.proto
 is_known (OfHost host) = true
 
--- version 2 is for the records of functions with times
+-- the version with times is for the records of functions with times
 abbrev pub may_have : ℕ → Bool → Bool
-may_have version timed = version == 1 || timed
+may_have version timed = version == plain_version || timed
 
 -- version, kind and scope, which must be those that are asked for: the version, and the bytes after them
 unfoldable pub header_of : Kind → Scope → Bool → List ℕ → Read (ℕ × List ℕ)
 header_of kind scope timed bytes =
     then_read (part (first_byte bytes)) λ version.
-    checked (version.0 == 1 || version.0 == 2) (fault.Version version.0) (
+    checked (version.0 == plain_version || version.0 == timed_version) (fault.Version version.0) (
     then_read (part (first_byte version.1)) λ kind_byte.
     checked (kind_byte.0 == kind_number kind && may_have version.0 (has_times kind)) fault.Kind (
     then_read (part (first_byte kind_byte.1)) λ scope_byte.
@@ -121,7 +122,7 @@ unfoldable pub tally_read : Kind → List ℕ → Read (List ℕ)
 tally_read kind bytes =
     then_read (header_of kind AllFlows false bytes) λ header.
     then_read (body_in header.1) λ body.
-    then_read (slots_of (numbers_in 16 body.0)) λ slots.
+    then_read (slots_of (numbers_in most_instances body.0)) λ slots.
     ended body.1 slots
 
 -- a body's fault as one of the chunk

@@ -3,6 +3,7 @@ ghost use Rattle.std.specs.List.{flat_map};
 ghost use Rattle.nf_function.specs.Stored.{number_bytes};
 ghost use Rattle.state_chunk.specs.Format.{tally_chunk, tally_bytes, IsTally};
 ghost use Rattle.state_chunk.specs.Reading.{tally_read, numbers_in, slots_of, DecodesTo};
+ghost use Rattle.flow_filter.specs.Limits.{most_instances};
 
 use crate::fault::ChunkFault;
 use crate::header::{PLAIN, body_in, header_of, kind_number, scope_number};
@@ -67,7 +68,7 @@ pub fn decode_tally(kind: Kind, bytes: &[u8]) -> Result<Tally, ChunkFault>
 #[tactic(auto, unfolding(crate::specs::Reading::tally_read))]
 fn decoded_tally(kind: Kind, bytes: &[u8]) -> Result<Tally, ChunkFault>
     ensures value { DecodesTo (λ tally. tally.slots) result (tally_read kind bytes.now) }
-    ensures slots { IfOk result (λ tally. length tally.slots ≡ 16) }
+    ensures slots { IfOk result (λ tally. length tally.slots ≡ most_instances) }
 {
     let (_, rest) = header_of(kind, Scope::AllFlows, false, bytes)?;
     let (body, rest) = body_in(rest)?;
@@ -80,8 +81,8 @@ fn decoded_tally(kind: Kind, bytes: &[u8]) -> Result<Tally, ChunkFault>
 
 /// The tally that a body spells.
 fn tally_in(body: &[u8]) -> Result<Tally, ChunkFault>
-    ensures value { DecodesTo (λ tally. tally.slots) result (slots_of (numbers_in 16 body.now)) }
-    ensures slots { IfOk result (λ tally. length tally.slots ≡ 16) }
+    ensures value { DecodesTo (λ tally. tally.slots) result (slots_of (numbers_in most_instances body.now)) }
+    ensures slots { IfOk result (λ tally. length tally.slots ≡ most_instances) }
 {
     if body.len() != usize::from(BODY) {
         return Err(ChunkFault::Body);

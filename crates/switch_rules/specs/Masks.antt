@@ -6,6 +6,7 @@ use Rattle.std.specs.Option.{option_map_or}
 use Rattle.flow_filter.specs.declared.flow.Flow.{Flow}
 use Rattle.flow_filter.specs.declared.filter.Filter.{Filter}
 use Rattle.switch_rules.specs.declared.mask.Mask.{Mask}
+use Rattle.flow_filter.specs.Prefixes.{address_bits}
 
 -- the mask of a filter; the length of a prefix that it doesn't give is 0
 abbrev pub mask_of : Filter → Mask
@@ -33,7 +34,7 @@ where_given given n = if given then n else 0
 
 -- the first bits of an address, and zeros behind them
 abbrev pub front : ℕ → ℕ → ℕ
-front len address = address / 2 ^ (32 - len) * 2 ^ (32 - len)
+front len address = address / 2 ^ (address_bits - len) * 2 ^ (address_bits - len)
 
 -- what a flow has in the fields of a mask, and 0 in the others
 abbrev pub masked : Mask → Flow → Flow

@@ -15,9 +15,10 @@ use Rattle.trace_reader.specs.declared.reader.Stop.TheVariants as stop
 use Rattle.trace_reader.specs.declared.record.Step.{Step}
 use Rattle.trace_reader.specs.declared.trace.Trace.{Trace}
 use Rattle.trace_reader.specs.declared.trace.TraceEnd.{TraceEnd}
-use Rattle.trace_reader.specs.Limits.{head_size, most_packets, most_bytes}
+use Rattle.trace_reader.specs.Limits.{head_size, most_bytes}
 use Rattle.trace_reader.specs.Steered.{is_steered_proto}
 use Rattle.trace_reader.specs.Records.{record_size, next_of, AreNumbered}
+use Rattle.flow_filter.specs.Limits.{most_packets}
 
 -- a count never falls, and the answer is a fault of reading only where it rose
 pub record HasReadCause {A : Type 0} (before now : ℕ) (result : Result A TraceFault) : Type 0 where

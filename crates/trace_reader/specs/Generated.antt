@@ -11,16 +11,49 @@ use Rattle.trace_reader.specs.declared.drawn.Drawn.{Drawn}
 use Rattle.trace_reader.specs.declared.drawn.End.{End}
 use Rattle.trace_reader.specs.declared.drawn.Transport.{Transport}
 use Rattle.trace_reader.specs.declared.drawn.Transport.TheVariants.{Udp, Tcp}
+use Rattle.flow_filter.specs.Packet.{tcp, udp, fin, syn, ack}
+use Rattle.trace_reader.specs.Layout.{micros_magic, major_version, minor_version, raw_link, ipv4_size, udp_size, tcp_size}
 
--- the flags of a TCP header
-abbrev pub fin : ℕ
-fin = 0x01
+-- a word chooses among so many peers, and among so many lengths of a payload
+abbrev pub peers : ℕ
+peers = 64
 
-abbrev pub syn : ℕ
-syn = 0x02
+abbrev pub payload_lengths : ℕ
+payload_lengths = 512
 
-abbrev pub ack : ℕ
-ack = 0x10
+-- the ports of names by UDP and of HTTPS, and where a host's own ports begin
+abbrev pub names_port : ℕ
+names_port = 53
+
+abbrev pub https_port : ℕ
+https_port = 443
+
+abbrev pub own_udp_ports : ℕ
+own_udp_ports = 50000
+
+abbrev pub own_tcp_ports : ℕ
+own_tcp_ports = 40000
+
+-- the parts of a second
+abbrev pub millis_per_second : ℕ
+millis_per_second = 1000
+
+abbrev pub micros_per_milli : ℕ
+micros_per_milli = 1000
+
+-- version 4 and a header of five words; a time to live; a header of five words
+abbrev pub version_and_words : ℕ
+version_and_words = 0x45
+
+abbrev pub time_to_live : ℕ
+time_to_live = 64
+
+abbrev pub five_words : ℕ
+five_words = 0x50
+
+-- the most bytes of a packet that the file's header allows
+abbrev pub snap_length : ℕ
+snap_length = 65535
 
 -- the flags that two bits choose
 abbrev pub flags_by : ℕ → ℕ
@@ -30,20 +63,20 @@ flags_by bits = if bits == 0 then syn else if bits == 3 then fin + ack else ack
 unfoldable pub drawn : ℕ → ℕ → Drawn
 drawn hosts w = record {
   host = w % hosts;
-  peer = w / 2 ^ 16 % 64;
+  peer = w / 2 ^ 16 % peers;
   direction = if w / 2 ^ 32 % 4 == 0 then In else Out;
   transport = if w / 2 ^ 40 % 2 == 0 then Udp else Tcp (flags_by (w / 2 ^ 41 % 4));
-  payload = w / 2 ^ 48 % 512;
+  payload = w / 2 ^ 48 % payload_lengths;
 }
 
 -- the ports of the host and of its peer
 abbrev pub local_port : Transport → ℕ → ℕ
-local_port Udp peer = 50000 + peer
-local_port (Tcp flags) peer = 40000 + peer
+local_port Udp peer = own_udp_ports + peer
+local_port (Tcp flags) peer = own_tcp_ports + peer
 
 abbrev pub remote_port : Transport → ℕ
-remote_port Udp = 53
-remote_port (Tcp flags) = 443
+remote_port Udp = names_port
+remote_port (Tcp flags) = https_port
 
 -- the host, 10.0.0.HOST, and its peer, 192.0.2.PEER
 abbrev pub local_end : Drawn → End
@@ -65,11 +98,11 @@ target d = left_end d.direction (remote_end d) (local_end d)
 
 -- how many bytes the transport's header has, how many are captured, and how many the datagram has
 abbrev pub transport_size : Transport → ℕ
-transport_size Udp = 8
-transport_size (Tcp flags) = 20
+transport_size Udp = udp_size
+transport_size (Tcp flags) = tcp_size
 
 abbrev pub captured_size : Drawn → ℕ
-captured_size d = 20 + transport_size d.transport
+captured_size d = ipv4_size + transport_size d.transport
 
 abbrev pub total_size : Drawn → ℕ
 total_size d = captured_size d + d.payload
@@ -77,34 +110,35 @@ total_size d = captured_size d + d.payload
 -- the head of the record of packet j, which comes j milliseconds after the start of 1970
 unfoldable pub record_head : ℕ → Drawn → List ℕ
 record_head j d =
-    little_bytes 4 (j / 1000) ++ little_bytes 4 (j % 1000 * 1000) ++ little_bytes 4 (captured_size d) ++ little_bytes 4 (total_size d)
+    little_bytes 4 (j / millis_per_second) ++ little_bytes 4 (j % millis_per_second * micros_per_milli) ++ little_bytes 4 (captured_size d) ++ little_bytes 4 (total_size d)
 
--- version 4 and a header of five words, the total length, a time to live of 64, the protocol, and the two addresses
+-- version 4 and a header of five words, the total length, a time to live, the protocol, and the two addresses
 unfoldable pub ipv4_header : ℕ → Drawn → List ℕ
 ipv4_header proto d =
-    (0x45 ∷ 0 ∷ []) ++ big_bytes 2 (total_size d) ++ replicate 4 0 ++ (0x40 ∷ proto ∷ 0 ∷ 0 ∷ []) ++ (source d).address ++ (target d).address
+    (version_and_words ∷ 0 ∷ []) ++ big_bytes 2 (total_size d) ++ replicate 4 0 ++ (time_to_live ∷ proto ∷ 0 ∷ 0 ∷ []) ++ (source d).address ++ (target d).address
 
 -- the ports, the length, and no checksum
 unfoldable pub udp_header : Drawn → List ℕ
-udp_header d = big_bytes 2 (source d).port ++ big_bytes 2 (target d).port ++ big_bytes 2 (8 + d.payload) ++ replicate 2 0
+udp_header d = big_bytes 2 (source d).port ++ big_bytes 2 (target d).port ++ big_bytes 2 (udp_size + d.payload) ++ replicate 2 0
 
 -- the ports, a header of five words, and the flags
 unfoldable pub tcp_header : Drawn → ℕ → List ℕ
-tcp_header d flags = big_bytes 2 (source d).port ++ big_bytes 2 (target d).port ++ replicate 8 0 ++ (0x50 ∷ flags ∷ []) ++ replicate 6 0
+tcp_header d flags = big_bytes 2 (source d).port ++ big_bytes 2 (target d).port ++ replicate 8 0 ++ (five_words ∷ flags ∷ []) ++ replicate 6 0
 
 -- the datagram as far as it is captured: its headers
 abbrev pub datagram : Drawn → Transport → List ℕ
-datagram d Udp = ipv4_header 17 d ++ udp_header d
-datagram d (Tcp flags) = ipv4_header 6 d ++ tcp_header d flags
+datagram d Udp = ipv4_header udp d ++ udp_header d
+datagram d (Tcp flags) = ipv4_header tcp d ++ tcp_header d flags
 
 -- the record of packet j
 abbrev pub record_bytes : ℕ → Drawn → List ℕ
 record_bytes j d = record_head j d ++ datagram d d.transport
 
--- the header of the file: little-endian with microseconds, version 2.4, at most 65535 bytes of a packet, and link type 101, which is raw IP
+-- the header of the file: little-endian with microseconds, version 2.4, at most so many bytes of a packet, and the link type of raw IP
 unfoldable pub file_header : List ℕ
 file_header =
-    little_bytes 4 0xA1B2C3D4 ++ little_bytes 2 2 ++ little_bytes 2 4 ++ replicate 8 0 ++ little_bytes 4 65535 ++ little_bytes 4 101
+    little_bytes 4 micros_magic ++ little_bytes 2 major_version ++ little_bytes 2 minor_version ++ replicate 8 0 ++ little_bytes 4 snap_length
+    ++ little_bytes 4 raw_link
 
 -- the records of the packets from number j on, one for each word
 abbrev pub records : ℕ → ℕ → List ℕ → List ℕ

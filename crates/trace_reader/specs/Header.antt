@@ -12,19 +12,20 @@ use Rattle.trace_reader.specs.declared.fault.TraceFault.{TraceFault}
 use Rattle.trace_reader.specs.declared.fault.TraceFault.TheVariants as fault
 use Rattle.trace_reader.specs.Limits.{header_size}
 use Rattle.trace_reader.specs.Numbers.{number_in}
+use Rattle.trace_reader.specs.Layout.{magic_size, major_place, minor_place, link_type_place, micros_magic, micros_swapped, nanos_magic, nanos_swapped, pcapng_magic, major_version, minor_version, ethernet_link, raw_link}
 
 -- the byte order and the unit of the fraction that the magic number, read in network order, stands for
 abbrev pub magic_of : ℕ → Option Magic
 magic_of n =
-    if n == 0xA1B2_C3D4 then Some (record { endian = Big; fraction = Micros })
-    else if n == 0xD4C3_B2A1 then Some (record { endian = Little; fraction = Micros })
-    else if n == 0xA1B2_3C4D then Some (record { endian = Big; fraction = Nanos })
-    else if n == 0x4D3C_B2A1 then Some (record { endian = Little; fraction = Nanos })
+    if n == micros_magic then Some (record { endian = Big; fraction = Micros })
+    else if n == micros_swapped then Some (record { endian = Little; fraction = Micros })
+    else if n == nanos_magic then Some (record { endian = Big; fraction = Nanos })
+    else if n == nanos_swapped then Some (record { endian = Little; fraction = Nanos })
     else None
 
 -- the link layer that a number stands for
 abbrev pub link_type_of : ℕ → Option LinkType
-link_type_of n = if n == 1 then Some Ethernet else if n == 101 then Some Raw else None
+link_type_of n = if n == ethernet_link then Some Ethernet else if n == raw_link then Some Raw else None
 
 -- the form of a capture with this link type, of which the low 16 bits count
 abbrev pub form_by_link_type : Magic → ℕ → Option LinkType → Result Form TraceFault
@@ -33,7 +34,7 @@ form_by_link_type magic n (Some link_type) = Ok (record { magic = magic; link_ty
 
 -- whether the version is 2.4
 abbrev pub is_version : Magic → List ℕ → Bool
-is_version magic header = (number_in magic.endian 2 (drop 4 header) == 2) && (number_in magic.endian 2 (drop 6 header) == 4)
+is_version magic header = (number_in magic.endian 2 (drop major_place header) == major_version) && (number_in magic.endian 2 (drop minor_place header) == minor_version)
 
 -- the form of a capture with this magic number
 abbrev pub form_by_magic : List ℕ → Option Magic → Result Form TraceFault
@@ -41,11 +42,11 @@ form_by_magic header None = Err fault.Magic
 form_by_magic header (Some magic) =
     if nat_lt (length header) header_size then Err (fault.Header (length header))
     else if not (is_version magic header) then Err fault.Version
-    else (let n = number_in magic.endian 4 (drop 20 header) % 2 ^ 16 in form_by_link_type magic n (link_type_of n))
+    else (let n = number_in magic.endian 4 (drop link_type_place header) % 2 ^ 16 in form_by_link_type magic n (link_type_of n))
 
 -- the form of the capture that begins with these 24 bytes, or is no longer, or the first fault
 unfoldable pub form_of : List ℕ → Result Form TraceFault
 form_of header =
-    if nat_lt (length header) 4 then Err fault.Magic
-    else if big_number 4 header == 0x0A0D_0D0A then Err fault.PcapNg
+    if nat_lt (length header) magic_size then Err fault.Magic
+    else if big_number 4 header == pcapng_magic then Err fault.PcapNg
     else form_by_magic header (magic_of (big_number 4 header))

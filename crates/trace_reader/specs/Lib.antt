@@ -1,4 +1,5 @@
 pub mod Limits
+pub mod Layout
 pub mod Numbers
 pub mod Header
 pub mod Steered

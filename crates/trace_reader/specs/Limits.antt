@@ -17,10 +17,6 @@ front_size = 202
 abbrev pub most_captured : ℕ
 most_captured = 262144
 
--- the most packets of a capture that are steered
-abbrev pub most_packets : ℕ
-most_packets = 1000000
-
 -- the most bytes that a capture may have
 abbrev pub most_bytes : ℕ
 most_bytes = 2 ^ 32

@@ -4,6 +4,7 @@ use Rattle.byteorder.specs.Endian.{big_number, little_number}
 use Rattle.trace_reader.specs.declared.form.Form.{Form}
 use Rattle.trace_reader.specs.declared.form.Endian.{Endian}
 use Rattle.trace_reader.specs.declared.form.Endian.TheVariants.{Big, Little}
+use Rattle.trace_reader.specs.Layout.{captured_place}
 
 -- the number in the first n bytes, in this byte order
 abbrev pub number_in : Endian → ℕ → List ℕ → ℕ
@@ -24,4 +25,4 @@ u32_at bytes at = big_number 4 (drop at bytes)
 
 -- how many bytes of the packet a record has, by its head of 16 bytes
 abbrev pub captured_of : Form → List ℕ → ℕ
-captured_of form head = number_in form.magic.endian 4 (drop 8 head)
+captured_of form head = number_in form.magic.endian 4 (drop captured_place head)

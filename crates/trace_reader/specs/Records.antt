@@ -8,10 +8,11 @@ use Rattle.trace_reader.specs.declared.fault.TraceFault.TheVariants as fault
 use Rattle.trace_reader.specs.declared.record.Next.{Next}
 use Rattle.trace_reader.specs.declared.record.Next.TheVariants as next
 use Rattle.trace_reader.specs.declared.trace.Trace.{Trace}
-use Rattle.trace_reader.specs.Limits.{header_size, head_size, most_captured, most_packets, most_bytes}
+use Rattle.trace_reader.specs.Limits.{header_size, head_size, most_captured, most_bytes}
 use Rattle.trace_reader.specs.Numbers.{captured_of}
 use Rattle.trace_reader.specs.Header.{form_of}
 use Rattle.trace_reader.specs.Steered.{packet_of}
+use Rattle.flow_filter.specs.Limits.{most_packets}
 
 -- a steered packet, at this place, behind this many others
 abbrev pub steered_answer : ℕ → ℕ → Option Packet → Result Next TraceFault

@@ -10,39 +10,41 @@ use Rattle.trace_reader.specs.declared.form.LinkType.TheVariants.{Ethernet, Raw}
 use Rattle.trace_reader.specs.declared.form.Form.{Form}
 use Rattle.trace_reader.specs.declared.steer.Parts.{Parts}
 use Rattle.trace_reader.specs.Numbers.{number_in, byte_at, u16_at, u32_at}
+use Rattle.flow_filter.specs.Packet.{tcp, udp, most_held}
+use Rattle.trace_reader.specs.Layout.{fraction_place, nanos_per_second, untagged_size, tagged_size, ether_type_place, tagged_type_place, ipv4_type, tag_type, half_byte, word_size, ipv4_version, ipv4_size, total_place, fragment_place, proto_place, src_place, dst_place, udp_size, tcp_size, dport_place, words_place, flags_place, longest_header}
 
--- where the IPv4 header starts: EtherType 0x0800, at once or behind one tag 0x8100
+-- where the IPv4 header starts: by its EtherType, at once or behind one tag
 abbrev pub start_of : LinkType → ℕ → List ℕ → Option ℕ
 start_of Raw len f = Some 0
 start_of Ethernet len f =
-    if nat_le 14 len && (u16_at f 12 == 0x0800) then Some 14
-    else if nat_le 18 len && (u16_at f 12 == 0x8100) && (u16_at f 16 == 0x0800) then Some 18
+    if nat_le untagged_size len && (u16_at f ether_type_place == ipv4_type) then Some untagged_size
+    else if nat_le tagged_size len && (u16_at f ether_type_place == tag_type) && (u16_at f tagged_type_place == ipv4_type) then Some tagged_size
     else None
 
--- how long the IPv4 header at s is: version 4, at least 20 bytes, all of it captured
+-- how long the IPv4 header at s is: of version 4, no shorter than one can be, and all of it captured
 abbrev pub header_length : ℕ → List ℕ → ℕ → Option ℕ
 header_length len f s =
-    let h = 4 * (byte_at f s % 16) in
-    if nat_le (s + 20) len && (byte_at f s / 16 == 4) && nat_le 20 h && nat_le (s + h) len then Some h else None
+    let h = word_size * (byte_at f s % half_byte) in
+    if nat_le (s + ipv4_size) len && (byte_at f s / half_byte == ipv4_version) && nat_le ipv4_size h && nat_le (s + h) len then Some h else None
 
 -- whether the datagram at s is whole or a first fragment: its fragment offset is 0
 abbrev pub is_first : List ℕ → ℕ → Bool
-is_first f s = u16_at f (s + 6) % 2 ^ 13 == 0
+is_first f s = u16_at f (s + fragment_place) % 2 ^ 13 == 0
 
 -- whether packets of this protocol are steered: those of TCP and of UDP
 abbrev pub is_steered_proto : ℕ → Bool
-is_steered_proto proto = proto == 6 || proto == 17
+is_steered_proto proto = proto == tcp || proto == udp
 
--- how long the header at q of this protocol is: 8 bytes for UDP, at least 20 for TCP; its fixed part is captured
+-- how long the header at q of this protocol is: always the same for UDP, at least its fixed part for TCP; that part is captured
 abbrev pub transport_length : ℕ → List ℕ → ℕ → ℕ → Option ℕ
 transport_length len f proto q =
-    if proto == 17 then (if nat_le (q + 8) len then Some 8 else None)
-    else if proto == 6 then (let d = 4 * (byte_at f (q + 12) / 16) in if nat_le (q + 20) len && nat_le 20 d then Some d else None)
+    if proto == udp then (if nat_le (q + udp_size) len then Some udp_size else None)
+    else if proto == tcp then (let d = word_size * (byte_at f (q + words_place) / half_byte) in if nat_le (q + tcp_size) len && nat_le tcp_size d then Some d else None)
     else None
 
 -- how long the datagram at s says it is, or else is: 0 stands for all that was captured
 abbrev pub total_length : ℕ → List ℕ → ℕ → ℕ
-total_length len f s = if u16_at f (s + 2) == 0 then len - s else u16_at f (s + 2)
+total_length len f s = if u16_at f (s + total_place) == 0 then len - s else u16_at f (s + total_place)
 
 -- the lengths of a steered record, given where its datagram starts and how long that one's header is
 abbrev pub parts_at : ℕ → List ℕ → ℕ → ℕ → Option Parts
@@ -51,7 +53,7 @@ parts_at len f s h =
     (λ d. if is_first f s && nat_le (h + d) (total_length len f s)
     then Some (record { start = s; header = h; transport = d; total = total_length len f s })
     else None)
-    (transport_length len f (byte_at f (s + 9)) (s + h))
+    (transport_length len f (byte_at f (s + proto_place)) (s + h))
 
 -- the lengths of a steered record, None for one that is skipped
 unfoldable pub parts_of : LinkType → ℕ → List ℕ → Option Parts
@@ -59,19 +61,19 @@ parts_of link_type len f = option_and_then (λ s. option_and_then (λ h. parts_a
 
 -- these lengths stand in the record's own bytes, its ports and flags are captured, and its protocol is steered
 pub record HasParts (len : ℕ) (f : List ℕ) (parts : Parts) : Type 0 where
-  pub start : parts.start ≤ 18
-  pub header : parts.header ≤ 60
-  pub transport : parts.transport ≤ 60
+  pub start : parts.start ≤ tagged_size
+  pub header : parts.header ≤ longest_header
+  pub transport : parts.transport ≤ longest_header
   pub total : parts.total ≤ max len (2 ^ 16)
   pub payload : parts.header + parts.transport ≤ parts.total
-  pub ip : parts.start + 20 ≤ len
-  pub ports : parts.start + parts.header + 8 ≤ len
-  pub flags : byte_at f (parts.start + 9) ≡ 6 → parts.start + parts.header + 20 ≤ len
-  pub proto : is_steered_proto (byte_at f (parts.start + 9)) ≡ true
+  pub ip : parts.start + ipv4_size ≤ len
+  pub ports : parts.start + parts.header + udp_size ≤ len
+  pub flags : byte_at f (parts.start + proto_place) ≡ tcp → parts.start + parts.header + tcp_size ≤ len
+  pub proto : is_steered_proto (byte_at f (parts.start + proto_place)) ≡ true
 
--- how many of the payload's bytes are captured and kept, of at most 64
+-- how many of the payload's bytes are captured and kept
 abbrev pub held_of : ℕ → Parts → ℕ
-held_of len parts = min 64 (min len (parts.start + parts.total) - (parts.start + parts.header + parts.transport))
+held_of len parts = min most_held (min len (parts.start + parts.total) - (parts.start + parts.header + parts.transport))
 
 -- those bytes
 abbrev pub payload_of : ℕ → List ℕ → Parts → List ℕ
@@ -85,7 +87,7 @@ nanos_per_unit Nanos = 1
 -- the time stamp at the head of a record, in nanoseconds
 abbrev pub nanos_of : Form → List ℕ → ℕ
 nanos_of form head =
-    number_in form.magic.endian 4 head * 10 ^ 9 + number_in form.magic.endian 4 (drop 4 head) * nanos_per_unit form.magic.fraction
+    number_in form.magic.endian 4 head * nanos_per_second + number_in form.magic.endian 4 (drop fraction_place head) * nanos_per_unit form.magic.fraction
 
 -- the packet of a steered record with these lengths, with the number k
 abbrev pub packet_with : ℕ → ℕ → ℕ → List ℕ → Parts → Packet
@@ -94,15 +96,15 @@ packet_with k nanos len f parts =
     record {
       number = k;
       nanos = nanos;
-      proto = byte_at f (parts.start + 9);
-      src = u32_at f (parts.start + 12);
+      proto = byte_at f (parts.start + proto_place);
+      src = u32_at f (parts.start + src_place);
       sport = u16_at f q;
-      dst = u32_at f (parts.start + 16);
-      dport = u16_at f (q + 2);
-      flags = if byte_at f (parts.start + 9) == 6 then byte_at f (q + 13) else 0;
+      dst = u32_at f (parts.start + dst_place);
+      dport = u16_at f (q + dport_place);
+      flags = if byte_at f (parts.start + proto_place) == tcp then byte_at f (q + flags_place) else 0;
       length = parts.total - parts.header - parts.transport;
       held = held_of len parts;
-      head = payload_of len f parts ++ replicate (64 - held_of len parts) 0;
+      head = payload_of len f parts ++ replicate (most_held - held_of len parts) 0;
     }
 
 -- the packet of a record with this head and these bytes, if it is steered, with the number k

@@ -1,6 +1,7 @@
 //! The packets of generated captures: what the word of each chooses.
 ghost use Rattle.std.specs.Prelude.{◌≡◌, ◌≤◌, ◌<◌, ◌+◌};
-ghost use Rattle.trace_reader.specs.Generated.{drawn, flags_by, local_port, remote_port, local_end, remote_end, source, target, transport_size, captured_size, total_size};
+ghost use Rattle.trace_reader.specs.Generated.{drawn, flags_by, local_port, remote_port, local_end, remote_end, source, target, transport_size, captured_size, total_size, payload_lengths};
+ghost use Rattle.flow_filter.specs.Limits.{most_hosts};
 
 use flow_filter::Direction;
 
@@ -44,9 +45,9 @@ impl Drawn {
     #[tactic(auto, unfolding(crate::specs::Generated::drawn))]
     pub(crate) fn of(word: u64, hosts: u32) -> Drawn
         requires some { 1 ≤ hosts }
-        requires few { hosts ≤ 256 }
+        requires few { hosts ≤ most_hosts }
         ensures value { result ≡ drawn hosts word }
-        ensures payload { result.payload < 512 }
+        ensures payload { result.payload < payload_lengths }
     {
         Drawn {
             host: (word % u64::from(hosts)) as u8,
@@ -116,7 +117,7 @@ impl Drawn {
 
     /// How many bytes it has.
     pub(crate) fn total_size(&self) -> u16
-        requires { self.now.payload < 512 }
+        requires { self.now.payload < payload_lengths }
         ensures { result ≡ total_size self.now }
     {
         self.captured_size() + self.payload

@@ -1,6 +1,6 @@
 //! The bytes of generated captures. The numbers of the pcap format stand with the lowest byte first, those of a datagram in network order.
 ghost use Rattle.std.specs.Prelude.{◌≡◌, ◌≤◌, ◌<◌, ◌+◌, ◌++◌, length, drop};
-ghost use Rattle.trace_reader.specs.Generated.{file_header, record_head, ipv4_header, udp_header, tcp_header, record_bytes};
+ghost use Rattle.trace_reader.specs.Generated.{file_header, record_head, ipv4_header, udp_header, tcp_header, record_bytes, payload_lengths};
 
 use crate::drawn::{Drawn, Transport};
 use byteorder::{BigEndian, ByteOrder, LittleEndian};
@@ -26,7 +26,7 @@ pub(crate) fn file_header() -> [u8; 24]
 /// Writes the record of packet `number` to the front of a place, and gives its length.
 pub(crate) fn write_record(place: &mut [u8], number: u32, drawn: &Drawn) -> usize
     requires place { length place.old ≡ LONGEST_RECORD }
-    requires payload { drawn.now.payload < 512 }
+    requires payload { drawn.now.payload < payload_lengths }
     ensures bytes { place.new ≡ record_bytes number drawn.now ++ drop result place.old }
     ensures size { result ≡ length (record_bytes number drawn.now) }
     ensures fits { result ≤ LONGEST_RECORD }
@@ -49,7 +49,7 @@ pub(crate) fn write_record(place: &mut [u8], number: u32, drawn: &Drawn) -> usiz
 /// The head of a record: seconds, microseconds, the captured length and that of the datagram.
 #[tactic(auto, unfolding(crate::specs::Generated::record_head))]
 fn record_head(number: u32, drawn: &Drawn) -> [u8; 16]
-    requires { drawn.now.payload < 512 }
+    requires { drawn.now.payload < payload_lengths }
     ensures { result ≡ record_head number drawn.now }
 {
     let mut head = [0; 16];
@@ -63,7 +63,7 @@ fn record_head(number: u32, drawn: &Drawn) -> [u8; 16]
 /// The IPv4 header, without a checksum.
 #[tactic(auto, unfolding(crate::specs::Generated::ipv4_header))]
 fn ipv4_header(proto: u8, drawn: &Drawn) -> [u8; 20]
-    requires { drawn.now.payload < 512 }
+    requires { drawn.now.payload < payload_lengths }
     ensures { result ≡ ipv4_header proto drawn.now }
 {
     let mut header = [0; 20];
@@ -79,7 +79,7 @@ fn ipv4_header(proto: u8, drawn: &Drawn) -> [u8; 20]
 /// The UDP header, without a checksum.
 #[tactic(auto, unfolding(crate::specs::Generated::udp_header))]
 fn udp_header(drawn: &Drawn) -> [u8; 8]
-    requires { drawn.now.payload < 512 }
+    requires { drawn.now.payload < payload_lengths }
     ensures { result ≡ udp_header drawn.now }
 {
     let mut header = [0; 8];

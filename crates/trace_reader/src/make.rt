@@ -1,7 +1,7 @@
 //! Generated captures.
 ghost use Rattle.std.specs.Prelude.{◌≡◌, ◌≤◌, ℕ, Err};
 ghost use Rattle.nf_io.specs.Meaning.{Rose, StaysOpen};
-ghost use Rattle.trace_reader.specs.Limits.{most_packets};
+ghost use Rattle.flow_filter.specs.Limits.{most_packets, most_hosts};
 ghost use Rattle.trace_reader.specs.Records.{capture_of};
 ghost use Rattle.trace_reader.specs.Making.{Makes, IsReadWhole};
 ghost use Rattle.trace_reader.specs.Generated.{capture};
@@ -57,7 +57,7 @@ pub fn make_trace<S: Sink>(
 ) -> Result<(), MakeFault>
     requires open { S.IsOpen sink.old }
     requires packets { (1 ≤ packets) × (packets ≤ most_packets) }
-    requires hosts { (1 ≤ hosts) × (hosts ≤ 256) }
+    requires hosts { (1 ≤ hosts) × (hosts ≤ most_hosts) }
     ensures bytes { Makes (capture number packets hosts) (S.written sink.old) (S.written sink.new) result }
     ensures later { S.faults sink.old ≤ S.faults sink.new }
     ensures cause { result ≡ Err MakeFault.Write → Rose (S.faults sink.old) (S.faults sink.new) }

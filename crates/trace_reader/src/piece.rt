@@ -1,6 +1,7 @@
 //! Records that are written at once.
 ghost use Rattle.std.specs.Prelude.{◌≡◌, ◌≤◌, ◌<◌, ◌+◌, ◌++◌, ◌^◌, ℕ, [], vec_len, IfOk};
 ghost use Rattle.trace_reader.specs.declared.piece.TheConstants.{PIECE_BYTES};
+ghost use Rattle.flow_filter.specs.Limits.{most_hosts};
 
 use crate::drawn::Drawn;
 use crate::encode::{LONGEST_RECORD, write_record};
@@ -27,7 +28,7 @@ pub(crate) struct Piece {
 impl Piece {
     ghost use Rattle.rand_core.specs.Steps.{first_words};
     ghost use Rattle.rand_xoshiro.specs.SplitMix64.{mix_u64};
-    ghost use Rattle.trace_reader.specs.Generated.{records, record_bytes};
+    ghost use Rattle.trace_reader.specs.Generated.{records, record_bytes, payload_lengths};
     ghost use Rattle.trace_reader.specs.Pieces.{piece_bytes};
 
     /// A piece without records.
@@ -42,7 +43,7 @@ impl Piece {
     pub(crate) fn fill(&mut self, first: u32, count: u32, hosts: u32, words: &mut SplitMix64)
         requires few { count ≤ PIECE_RECORDS }
         requires numbers { first + count < 2 ^ 32 }
-        requires hosts { (1 ≤ hosts) × (hosts ≤ 256) }
+        requires hosts { (1 ≤ hosts) × (hosts ≤ most_hosts) }
 
         // The records of these packets, and then those of any number of packets behind them.
         ensures { (more : ℕ) → records hosts first (first_words mix_u64 (count + more) words.old)
@@ -58,7 +59,7 @@ impl Piece {
     /// Puts one more record after those that it has.
     fn push(&mut self, number: u32, drawn: &Drawn)
         requires room { self.old.used + LONGEST_RECORD ≤ PIECE_BYTES }
-        requires payload { drawn.now.payload < 512 }
+        requires payload { drawn.now.payload < payload_lengths }
         ensures bytes { piece_bytes self.new ≡ piece_bytes self.old ++ record_bytes number drawn.now }
         ensures used { self.new.used ≤ self.old.used + LONGEST_RECORD }
     {

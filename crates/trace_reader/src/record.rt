@@ -1,11 +1,12 @@
 ghost use Rattle.std.specs.Prelude.{◌≡◌, ◌≢◌, ◌<◌, ◌≤◌, ℕ, ◌^◌, ◌+◌, List, min, length, take, None, Ok, Err, IfOk, IfSome};
 ghost use Rattle.std.specs.Io.{StartsWith};
 ghost use Rattle.nf_io.specs.Meaning.{StaysOpen};
-ghost use Rattle.trace_reader.specs.Limits.{front_size, head_size, most_bytes, most_captured, most_packets};
+ghost use Rattle.trace_reader.specs.Limits.{front_size, head_size, most_bytes, most_captured};
 ghost use Rattle.trace_reader.specs.Numbers.{byte_at, captured_of};
 ghost use Rattle.trace_reader.specs.Records.{next_of, record_answer, record_size};
 ghost use Rattle.trace_reader.specs.declared.record.Next.TheVariants as next;
 ghost use Rattle.trace_reader.specs.Answers.{HasReadCause, AnswersNext, Advances, next_in, count_after, reading, reading_after};
+ghost use Rattle.flow_filter.specs.Limits.{most_packets};
 
 use crate::fault::TraceFault;
 use crate::form::Form;

@@ -2,6 +2,8 @@ ghost use Rattle.std.specs.Prelude.{◌≡◌, ◌≤◌, ◌+◌, ◌-◌, ◌^
 ghost use Rattle.trace_reader.specs.Limits.{front_size, head_size, most_captured};
 ghost use Rattle.trace_reader.specs.Numbers.{u16_at, u32_at, byte_at};
 ghost use Rattle.trace_reader.specs.Steered.{start_of, header_length, is_first, is_steered_proto, transport_length, total_length, parts_of, HasParts, held_of, payload_of, packet_with, packet_of};
+ghost use Rattle.trace_reader.specs.Layout.{tagged_size, ipv4_size, udp_size, tcp_size, longest_header};
+ghost use Rattle.flow_filter.specs.Packet.{tcp, most_held};
 
 use crate::form::{Form, LinkType};
 use byteorder::{BigEndian, ByteOrder};
@@ -93,7 +95,7 @@ fn parts_of(link_type: LinkType, len: usize, front: &[u8]) -> Option<Parts>
 fn start_of(link_type: LinkType, len: usize, front: &[u8]) -> Option<usize>
     requires { min len front_size ≤ length front.now }
     ensures value { result ≡ start_of link_type len front.now }
-    ensures bound { IfSome result (λ s. s ≤ 18) }
+    ensures bound { IfSome result (λ s. s ≤ tagged_size) }
 {
     match link_type {
         LinkType::Raw => Some(0),
@@ -112,9 +114,9 @@ fn start_of(link_type: LinkType, len: usize, front: &[u8]) -> Option<usize>
 /// How long the IPv4 header at `start` is.
 fn header_length(len: usize, front: &[u8], start: usize) -> Option<usize>
     requires front { min len front_size ≤ length front.now }
-    requires start { start ≤ 18 }
+    requires start { start ≤ tagged_size }
     ensures value { result ≡ header_length len front.now start }
-    ensures bound { IfSome result (λ h. (20 ≤ h) × (h ≤ 60) × (start + h ≤ len)) }
+    ensures bound { IfSome result (λ h. (ipv4_size ≤ h) × (h ≤ longest_header) × (start + h ≤ len)) }
 {
     if len < start + 20 {
         return None;
@@ -131,9 +133,9 @@ fn header_length(len: usize, front: &[u8], start: usize) -> Option<usize>
 /// How long the TCP or UDP header at `at` is.
 fn transport_length(len: usize, front: &[u8], proto: u8, at: usize) -> Option<usize>
     requires front { min len front_size ≤ length front.now }
-    requires at { at ≤ 78 }
+    requires at { at ≤ tagged_size + longest_header }
     ensures value { result ≡ transport_length len front.now proto at }
-    ensures bound { IfSome result (λ d. (d ≤ 60) × (at + 8 ≤ len) × (proto ≡ 6 → at + 20 ≤ len)) }
+    ensures bound { IfSome result (λ d. (d ≤ longest_header) × (at + udp_size ≤ len) × (proto ≡ tcp → at + tcp_size ≤ len)) }
     ensures steered { IfSome result (λ d. is_steered_proto proto ≡ true) }
 {
     match proto {
@@ -153,8 +155,8 @@ fn transport_length(len: usize, front: &[u8], proto: u8, at: usize) -> Option<us
 /// How long the datagram at `start` says it is, or else is.
 fn total_length(len: usize, front: &[u8], start: usize) -> usize
     requires front { min len front_size ≤ length front.now }
-    requires start { start ≤ 18 }
-    requires header { start + 20 ≤ len }
+    requires start { start ≤ tagged_size }
+    requires header { start + ipv4_size ≤ len }
     ensures { result ≡ total_length len front.now start }
 {
     match u16_at(front, start + 2) {
@@ -225,7 +227,7 @@ fn payload_of<'a>(len: usize, front: &'a [u8], parts: &Parts) -> &'a [u8]
 fn held_of(len: usize, parts: &Parts) -> usize
     requires sizes { parts.now.start + parts.now.header + parts.now.transport + parts.now.total ≤ 2 ^ 20 }
     ensures value { result ≡ held_of len parts.now }
-    ensures bound { result ≤ 64 }
+    ensures bound { result ≤ most_held }
 {
     let at = parts.start + parts.header + parts.transport;
     let end = len.min(parts.start + parts.total);
@@ -234,8 +236,8 @@ fn held_of(len: usize, parts: &Parts) -> usize
 
 /// Those bytes, and zeros behind them.
 fn padded(payload: &[u8]) -> [u8; 64]
-    requires { length payload.now ≤ 64 }
-    ensures { result ≡ payload.now ++ replicate (64 - length payload.now) 0 }
+    requires { length payload.now ≤ most_held }
+    ensures { result ≡ payload.now ++ replicate (most_held - length payload.now) 0 }
 {
     let mut head = [0; 64];
     if payload.is_empty() {

@@ -1,7 +1,7 @@
 ghost use Rattle.std.specs.Prelude.{◌≡◌, ◌≤◌, true, All, IfOk, length};
 ghost use Rattle.std.specs.Option.{ForSome};
 ghost use Rattle.nf_io.specs.Meaning.{StaysOpen};
-ghost use Rattle.trace_reader.specs.Limits.{most_packets};
+ghost use Rattle.flow_filter.specs.Limits.{most_packets};
 ghost use Rattle.trace_reader.specs.Records.{capture_of, AreNumbered};
 ghost use Rattle.trace_reader.specs.Steered.{is_steered_proto};
 ghost use Rattle.trace_reader.specs.Answers.{HasReadCause, AnswersTrace, HandsPackets, HandsSteered};

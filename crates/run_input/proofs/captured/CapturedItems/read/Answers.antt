@@ -1,7 +1,7 @@
 -- The packets that were kept as items are the trace's.
 use Rattle.std.proofs.Common.{◌≡◌, ◌≤◌, true, All, List, [], Ok, length, ap, sym, ◌∙◌, subst, arith}
 use Rattle.flow_filter.specs.declared.packet.Packet.{Packet}
-use Rattle.trace_reader.specs.Limits.{most_packets}
+use Rattle.flow_filter.specs.Limits.{most_packets}
 use Rattle.trace_reader.specs.Steered.{is_steered_proto}
 use Rattle.trace_reader.specs.Records.{AreNumbered}
 use Rattle.run_input.proofs.captured.CapturedItems.read.Goals as goal

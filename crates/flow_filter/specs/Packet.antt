@@ -1,0 +1,29 @@
+-- What the numbers in a packet stand for: protocols as IPv4's header has them (IANA's list of protocol numbers), the flags of TCP (RFC 9293), and
+-- how much of a payload is kept, which is this project's own.
+use Rattle.std.specs.Prelude.{ℕ}
+
+abbrev pub tcp : ℕ
+tcp = 6
+
+abbrev pub udp : ℕ
+udp = 17
+
+abbrev pub fin : ℕ
+fin = 0x01
+
+abbrev pub syn : ℕ
+syn = 0x02
+
+abbrev pub rst : ℕ
+rst = 0x04
+
+abbrev pub ack : ℕ
+ack = 0x10
+
+-- the greatest number of a port
+abbrev pub most_port : ℕ
+most_port = 65535
+
+-- the most bytes of a payload that a packet keeps
+abbrev pub most_held : ℕ
+most_held = 64
