@@ -1,0 +1,192 @@
+//! Tests of `op_script`: scripts that are read, printed, and laid between packets; and instances, packets and what is shown of them for other tests.
+ghost use Rattle.std.specs.Prelude.{◌≡◌, true, vec_len, All, IfOk};
+ghost use Rattle.nf_function.specs.Units.{is_transport};
+ghost use Rattle.trace_reader.specs.Records.{AreNumbered};
+
+use flow_filter::{CapturedPacket, Name, Packet};
+use nf_function::Kind;
+use nf_msgs::{Command, Msg, Order};
+use op_script::{
+    Line, PacketItems, Script, ScriptFault, ScriptKind, What, items, print_script, read_script,
+};
+use std::alloc::Global;
+use std::test::Fail;
+
+/// The instances `a` and `b`.
+pub(crate) fn instances(alloc: Global) -> Result<Vec<Name>, Fail>
+    ensures { IfOk result (λ names. vec_len names ≡ 2) }
+{
+    let mut names = Vec::new(alloc);
+    names.push(Name::read(alloc, b"a")?.ok_or("no name")?)?;
+    names.push(Name::read(alloc, b"b")?.ok_or("no name")?)?;
+    Ok(names)
+}
+
+/// The fault of a script, for the monitor and the instances `a` and `b`.
+fn fault_of(alloc: Global, text: &[u8]) -> Result<Option<ScriptFault>, Fail> {
+    let names = instances(alloc)?;
+    let read = read_script(alloc, text, Kind::Monitor, names.as_slice());
+    Ok(read.err())
+}
+
+/// Scripts, and the line and the rule at which each is refused.
+static FAULTS: [(&str, u32, ScriptKind); 24] = [
+    ("at 0 move a b rport=80 order", 1, ScriptKind::SplitsUnit),
+    ("at 9 settle\nat 5 settle", 2, ScriptKind::Order),
+    ("at 0 move a a any order", 1, ScriptKind::SameInstance),
+    ("# all\n\n at 0 settle now", 3, ScriptKind::Word),
+    ("at 07 settle", 1, ScriptKind::Word),
+    ("at 4294967296 settle", 1, ScriptKind::Word),
+    ("at 0 move a b any", 1, ScriptKind::Word),
+    ("at 0 share a any strict", 1, ScriptKind::Word),
+    ("at 0 share a, any strict", 1, ScriptKind::Name),
+    ("at 0 share a,b,a any strict", 1, ScriptKind::SameInstance),
+    ("at 0 settle\nroute any a", 2, ScriptKind::Order),
+    ("route any c", 1, ScriptKind::Name),
+    ("route local=1 a", 1, ScriptKind::Filter),
+    ("at 0 copy a B any", 1, ScriptKind::Name),
+    ("at 0 copy a a lport=x", 1, ScriptKind::SameInstance),
+    ("at 0 copy a b lport=x", 1, ScriptKind::Filter),
+    ("at 0 copy a b lport=1", 1, ScriptKind::SplitsUnit),
+    ("move a b any order", 1, ScriptKind::Word),
+    (
+        "at 0 settle\nat 0 stop\nat 0 move a a any order",
+        2,
+        ScriptKind::Word,
+    ),
+    ("at 2 settle\nat 1 copy B B lport=x", 2, ScriptKind::Order),
+    ("at 0 copy B B lport=x", 1, ScriptKind::Name),
+    ("at 0 settle\nroute lport=x c", 2, ScriptKind::Order),
+    ("route lport=x c", 1, ScriptKind::Name),
+    (
+        "at 0 share a,b,a lport=x strict",
+        1,
+        ScriptKind::SameInstance,
+    ),
+];
+
+#[test]
+fn the_first_line_that_breaks_a_rule_is_refused(rt: HostRuntime) -> Result<(), Fail> {
+    for (text, line, kind) in FAULTS.as_slice() {
+        let found = fault_of(rt.alloc(), text.as_bytes())?;
+        let expected = ScriptFault::Bad {
+            line: *line,
+            kind: *kind,
+        };
+        assert_eq!(rt; found, Some(expected), "{text}");
+    }
+    Ok(())
+}
+
+#[test]
+fn a_byte_that_is_no_text_is_refused_also_in_a_comment(rt: HostRuntime) -> Result<(), Fail> {
+    let expected = ScriptFault::Bad {
+        line: 2,
+        kind: ScriptKind::NotUtf8,
+    };
+    assert_eq!(rt;
+        fault_of(rt.alloc(), b"at 0 settle\r\n# \xff\n")?,
+        Some(expected)
+    );
+    Ok(())
+}
+
+#[test]
+fn the_canonical_text_has_one_space_between_words(rt: HostRuntime) -> Result<(), Fail> {
+    let names = instances(rt.alloc())?;
+    let text =
+        b"# x\nroute  local=10.0.0.9 b\nat 1 move a b rport=80,proto=tcp order\nat 1\tcopy b a all\nat 2 share b,a any strict\nat 2 settle";
+    let script = read_script(
+        rt.alloc(),
+        text.as_slice(),
+        Kind::Conntrack,
+        names.as_slice(),
+    )?;
+    let printed = print_script(rt.alloc(), &script, names.as_slice())?;
+    let expected =
+        b"route local=10.0.0.9/32 b\nat 1 move a b proto=tcp,rport=80 order\nat 1 copy b a all\nat 2 share b,a any strict\nat 2 settle\n";
+    assert_eq!(rt; printed.items(), expected.as_slice());
+    Ok(())
+}
+
+#[test]
+fn lines_in_any_order_stand_after_their_packets(rt: HostRuntime) -> Result<(), Fail> {
+    let mut script = Script {
+        routes: Vec::new(rt.alloc()),
+        lines: Vec::new(rt.alloc()),
+    };
+    for (at, op) in [(1, 0), (0, 1), (9, 0), (1, 2), (7, 3)] {
+        let what = what_of(rt.alloc(), op)?;
+        script.lines.push(Line { at, what })?;
+    }
+    let input = items(rt.alloc(), two_packets(rt.alloc())?, &script)?;
+    let (kinds, _numbers) = shown(rt.alloc(), input.as_slice())?;
+    assert_eq!(rt; kinds.as_slice(), b"cpscpsce".as_slice());
+    Ok(())
+}
+
+/// A settle where the number is 0, and else a copy with this number.
+fn what_of(alloc: Global, op: u32) -> Result<What, Fail> {
+    if op == 0 {
+        return Ok(What::Settle);
+    }
+    let src = Name::read(alloc, b"a")?.ok_or("no name")?;
+    let dst = Name::read(alloc, b"b")?.ok_or("no name")?;
+    let what = Order::Copy {
+        src,
+        dst,
+        filter: None,
+    };
+    Ok(What::Command(Command { op, what }))
+}
+
+/// A letter for each message, and the number of each command.
+pub(crate) fn shown(alloc: Global, input: &[Msg]) -> Result<(Vec<u8>, Vec<u32>), Fail> {
+    let mut kinds = Vec::new(alloc);
+    let mut numbers = Vec::new(alloc);
+    for msg in input {
+        let kind = match msg {
+            Msg::InPacket(_) => b'p',
+            Msg::InCommand(command) => {
+                numbers.push(command.get().op)?;
+                b'c'
+            }
+            Msg::InSettle => b's',
+            Msg::InEnd => b'e',
+            _ => b'?',
+        };
+        kinds.push(kind)?;
+    }
+    Ok((kinds, numbers))
+}
+
+/// A trace of two packets.
+pub(crate) fn two_packets(alloc: Global) -> Result<PacketItems, Fail>
+    ensures numbers { IfOk result (AreNumbered 1) }
+    ensures steered { IfOk result (All (λ packet. is_transport packet.proto ≡ true)) }
+{
+    let mut trace = PacketItems::open(alloc);
+    trace.push(CapturedPacket::of(alloc, &packet(1))?)?;
+    trace.push(CapturedPacket::of(alloc, &packet(2))?)?;
+    Ok(trace)
+}
+
+/// A UDP packet with this number.
+fn packet(number: u32) -> Packet
+    ensures number { result.number ≡ number }
+    ensures proto { result.proto ≡ 17 }
+{
+    Packet {
+        number,
+        nanos: 0,
+        proto: 17,
+        src: 0x0a00_0001,
+        sport: 5000,
+        dst: 0xc000_0209,
+        dport: 53,
+        flags: 0,
+        length: 0,
+        held: 0,
+        head: [0; 64],
+    }
+}
