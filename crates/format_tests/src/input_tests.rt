@@ -55,12 +55,3 @@ fn the_setting_the_routes_and_the_lines_are_taken_over(rt: HostRuntime) -> Resul
     assert_eq!(rt; numbers.as_slice(), [1, 2, 3].as_slice());
     Ok(())
 }
-
-#[test]
-fn no_lines_give_the_packets_alone(rt: HostRuntime) -> Result<(), Fail> {
-    let (config, items) = given(rt.alloc(), b"".as_slice())?;
-    assert_eq!(rt; config.routes.items().len(), 0);
-    let (kinds, _numbers) = shown(rt.alloc(), items.as_slice())?;
-    assert_eq!(rt; kinds.as_slice(), b"ppe".as_slice());
-    Ok(())
-}

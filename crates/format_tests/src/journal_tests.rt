@@ -89,20 +89,6 @@ fn a_move_is_read_and_written_again(rt: HostRuntime) -> Result<(), Fail> {
 }
 
 #[test]
-fn a_source_in_pieces_gives_the_same_choices(rt: HostRuntime) -> Result<(), Fail> {
-    let parts = [&MOVE[..16], &MOVE[16..], b""];
-    let mut outside = to_read(rt.alloc(), Role::JournalIn, parts, 0, 7)?;
-    let mut source = RoleSource {
-        outside: &mut outside,
-        role: Role::JournalIn,
-    };
-    let choices = read_journal_from(rt.alloc(), &mut source, Kind::Conntrack, 2)?;
-    let bytes = write_journal(rt.alloc(), Kind::Conntrack, 2, choices.items())?;
-    assert_eq!(rt; bytes.items(), &MOVE[..]);
-    Ok(())
-}
-
-#[test]
 fn the_first_fault_of_a_header_is_answered(rt: HostRuntime) -> Result<(), Fail> {
     let headers = [
         (header(0x4b, 2, 2, 3), JournalFault::Magic),

@@ -79,19 +79,6 @@ fn the_first_line_that_breaks_a_rule_is_refused(rt: HostRuntime) -> Result<(), F
 }
 
 #[test]
-fn a_byte_that_is_no_text_is_refused_also_in_a_comment(rt: HostRuntime) -> Result<(), Fail> {
-    let expected = ScriptFault::Bad {
-        line: 2,
-        kind: ScriptKind::NotUtf8,
-    };
-    assert_eq!(rt;
-        fault_of(rt.alloc(), b"at 0 settle\r\n# \xff\n")?,
-        Some(expected)
-    );
-    Ok(())
-}
-
-#[test]
 fn the_canonical_text_has_one_space_between_words(rt: HostRuntime) -> Result<(), Fail> {
     let names = instances(rt.alloc())?;
     let text =

@@ -550,35 +550,6 @@ fn what_sim_may_leave_out_has_its_own_value(rt: HostRuntime) -> Result<(), Fail>
 }
 
 #[test]
-fn run_gives_its_journal_and_its_summary(rt: HostRuntime) -> Result<(), Fail> {
-    let words = split(
-        rt.alloc(),
-        "x run monitor --summary --instances a --inside 10.0.0.0/8 --journal=j t",
-    )?;
-    let Ok(Request::Run(asked)) = parse_command(rt.alloc(), words.as_slice()) else {
-        return Err(Fail::from("no run"));
-    };
-    assert_eq!(rt; (asked.journal, asked.summary), (Some("j"), true));
-    assert_eq!(rt; (asked.window, asked.trace), (256, "t"));
-    Ok(())
-}
-
-#[test]
-fn audit_gives_its_journal(rt: HostRuntime) -> Result<(), Fail> {
-    let words = split(
-        rt.alloc(),
-        "x audit conntrack --instances a --inside 10.0.0.0/8 --window 3 --journal j t s",
-    )?;
-    let Ok(Request::Audit(asked)) = parse_command(rt.alloc(), words.as_slice()) else {
-        return Err(Fail::from("no audit"));
-    };
-    assert_eq!(rt; asked.window, 3);
-    assert_eq!(rt; (asked.journal, asked.summary), (Some("j"), false));
-    assert_eq!(rt; (asked.trace, asked.script), ("t", Some("s")));
-    Ok(())
-}
-
-#[test]
 fn check_gives_limits_marks_and_the_file(rt: HostRuntime) -> Result<(), Fail> {
     let words = split(rt.alloc(), "x check nat --instances a,b:5,c:v1,d:0:v1 s")?;
     let Ok(Request::Check(checking)) = parse_command(rt.alloc(), words.as_slice()) else {
