@@ -14,8 +14,3 @@ pub mod words;
 pub use fault::ArgumentsFault;
 pub use request::{Checking, Generating, Instances, NetworkRequest, Request};
 pub use words::parse_command;
-
-#[cfg(test)]
-mod request_tests;
-#[cfg(test)]
-mod words_tests;

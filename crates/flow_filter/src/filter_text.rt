@@ -320,38 +320,3 @@ fn print_name(out: &mut Printed, begun: bool, name: &str)
     }
     out.push_str(name);
 }
-
-#[cfg(test)]
-mod tests {
-    use super::*;
-    use std::test::Fail;
-
-    #[test]
-    fn the_first_field_that_breaks_a_rule_is_refused(rt: HostRuntime) {
-        assert_eq!(rt;
-            Filter::parse("proto=tcp,,lport=x"),
-            Err(FilterFault::Field)
-        );
-        assert_eq!(rt; Filter::parse("lport=1,lport=x"), Err(FilterFault::Twice));
-        assert_eq!(rt;
-            Filter::parse("proto=tcp,rport=080"),
-            Err(FilterFault::Number)
-        );
-        assert_eq!(rt;
-            Filter::parse("local=10.0.0.1/31"),
-            Err(FilterFault::Prefix)
-        );
-    }
-
-    #[test]
-    fn the_canonical_text_has_the_fields_in_their_order(rt: HostRuntime) -> Result<(), Fail> {
-        let filter = Filter::parse("rport=80,local=10.0.0.9,proto=tcp")?;
-        let text = filter.print(rt.alloc())?;
-        assert_eq!(rt;
-            text.items(),
-            b"proto=tcp,local=10.0.0.9/32,rport=80".as_slice()
-        );
-        assert_eq!(rt; Filter::ANY.print(rt.alloc())?.items(), b"any".as_slice());
-        Ok(())
-    }
-}

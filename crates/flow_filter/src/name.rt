@@ -81,31 +81,3 @@ pub fn has_twice(alloc: Global, names: &[Name]) -> Result<bool, NoMemory>
     let distinct: BTreeSet<&[u8]> = names.iter().map(|name| name.items()).collect(alloc)?;
     Ok(distinct.len() < names.len())
 }
-
-#[cfg(test)]
-mod tests {
-    use super::*;
-    use std::test::Fail;
-
-    #[test]
-    fn a_name_has_up_to_16_letters_and_digits(rt: HostRuntime) -> Result<(), Fail> {
-        let name = Name::read(rt.alloc(), b"b2".as_slice())?.ok_or("no name")?;
-        assert_eq!(rt; name.copy()?.items(), b"b2".as_slice());
-        assert!(rt; is_name(b"abcdefghijklmno9".as_slice()));
-        assert!(rt; !is_name(b"abcdefghijklmnop9".as_slice()));
-        assert!(rt; !is_name(b"A".as_slice()));
-        Ok(())
-    }
-
-    #[test]
-    fn a_name_that_stands_twice_is_seen(rt: HostRuntime) -> Result<(), Fail> {
-        let mut names = Vec::new(rt.alloc());
-        for text in [b"b".as_slice(), b"a1".as_slice(), b"a".as_slice()] {
-            names.push(Name::read(rt.alloc(), text)?.ok_or("no name")?)?;
-        }
-        assert!(rt; !has_twice(rt.alloc(), names.as_slice())?);
-        names.push(Name::read(rt.alloc(), b"a1")?.ok_or("no name")?)?;
-        assert!(rt; has_twice(rt.alloc(), names.as_slice())?);
-        Ok(())
-    }
-}

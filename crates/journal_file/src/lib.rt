@@ -15,6 +15,3 @@ pub mod source;
 pub use fault::JournalFault;
 pub use journal::{read_journal, write_journal};
 pub use source::read_journal_from;
-
-#[cfg(test)]
-mod tests;

@@ -21,6 +21,3 @@ pub use kind::{Kind, Scope, splits};
 pub use output::Output;
 pub use tally::Tally;
 pub use unit::{Unit, Units, filter_takes, is_transport};
-
-#[cfg(test)]
-mod tests;

@@ -32,8 +32,3 @@ pub use outside::{Failed, Outside, Role};
 pub use streams::{RoleSink, RoleSource, Sink, Source};
 pub use system::{HostSystem, System};
 pub use transfers::{UptoFault, read_upto, write_all};
-
-#[cfg(test)]
-mod file_tests;
-#[cfg(test)]
-mod tests;

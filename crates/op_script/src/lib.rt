@@ -21,6 +21,3 @@ pub use packet_items::PacketItems;
 pub use printing::print_script;
 pub use reading::read_script;
 pub use script::{Line, Script, What};
-
-#[cfg(test)]
-mod tests;

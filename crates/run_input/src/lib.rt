@@ -12,6 +12,3 @@ pub mod setting;
 pub use captured::CapturedItems;
 pub use input::input_of;
 pub use setting::Setting;
-
-#[cfg(test)]
-mod tests;

@@ -27,8 +27,3 @@ pub use make::{MakeFault, make_trace};
 pub use reader::{Stop, TraceReader};
 pub use record::Next;
 pub use trace::{Trace, TraceEnd, read_into, read_trace};
-
-#[cfg(test)]
-mod make_tests;
-#[cfg(test)]
-mod tests;

@@ -1,14 +1,19 @@
-ghost use Rattle.std.specs.Prelude.{◌≡◌, IfOk, vec_len};
+//! Tests of `op_script`: scripts that are read, printed, and laid between packets; and instances, packets and what is shown of them for other tests.
+ghost use Rattle.std.specs.Prelude.{◌≡◌, true, vec_len, All, IfOk};
+ghost use Rattle.nf_function.specs.Units.{is_transport};
+ghost use Rattle.trace_reader.specs.Records.{AreNumbered};
 
-use super::*;
 use flow_filter::{CapturedPacket, Name, Packet};
 use nf_function::Kind;
 use nf_msgs::{Command, Msg, Order};
+use op_script::{
+    Line, PacketItems, Script, ScriptFault, ScriptKind, What, items, print_script, read_script,
+};
 use std::alloc::Global;
 use std::test::Fail;
 
 /// The instances `a` and `b`.
-fn instances(alloc: Global) -> Result<Vec<Name>, Fail>
+pub(crate) fn instances(alloc: Global) -> Result<Vec<Name>, Fail>
     ensures { IfOk result (λ names. vec_len names ≡ 2) }
 {
     let mut names = Vec::new(alloc);
@@ -74,56 +79,6 @@ fn the_first_line_that_breaks_a_rule_is_refused(rt: HostRuntime) -> Result<(), F
 }
 
 #[test]
-fn a_byte_that_is_no_text_is_refused_also_in_a_comment(rt: HostRuntime) -> Result<(), Fail> {
-    let expected = ScriptFault::Bad {
-        line: 2,
-        kind: ScriptKind::NotUtf8,
-    };
-    assert_eq!(rt;
-        fault_of(rt.alloc(), b"at 0 settle\r\n# \xff\n")?,
-        Some(expected)
-    );
-    Ok(())
-}
-
-/// A line so many times.
-fn repeated(alloc: Global, line: &[u8], count: u32) -> Result<Vec<u8>, Fail> {
-    let mut text = Vec::new(alloc);
-    for _ in 0..count {
-        text.extend_from_slice(line)?;
-    }
-    Ok(text)
-}
-
-#[test]
-fn a_script_has_up_to_1000_lines_of_a_sort(rt: HostRuntime) -> Result<(), Fail> {
-    let too_many = ScriptFault::Bad {
-        line: 1001,
-        kind: ScriptKind::TooMany,
-    };
-    for line in [b"at 1 settle\n".as_slice(), b"route any a\n".as_slice()] {
-        let most = repeated(rt.alloc(), line, 1000)?;
-        assert_eq!(rt; fault_of(rt.alloc(), most.as_slice())?, None);
-        let more = repeated(rt.alloc(), line, 1001)?;
-        assert_eq!(rt; fault_of(rt.alloc(), more.as_slice())?, Some(too_many));
-    }
-    Ok(())
-}
-
-#[test]
-fn a_script_has_up_to_2_to_the_20_bytes(rt: HostRuntime) -> Result<(), Fail> {
-    let most = vec![in rt.alloc(); b'#'; 1_048_576]?;
-    assert_eq!(rt; fault_of(rt.alloc(), most.as_slice())?, None);
-    let long = vec![in rt.alloc(); b'#'; 1_048_577]?;
-    let too_long = ScriptFault::Bad {
-        line: 0,
-        kind: ScriptKind::TooMany,
-    };
-    assert_eq!(rt; fault_of(rt.alloc(), long.as_slice())?, Some(too_long));
-    Ok(())
-}
-
-#[test]
 fn the_canonical_text_has_one_space_between_words(rt: HostRuntime) -> Result<(), Fail> {
     let names = instances(rt.alloc())?;
     let text =
@@ -142,25 +97,7 @@ fn the_canonical_text_has_one_space_between_words(rt: HostRuntime) -> Result<(),
 }
 
 #[test]
-fn a_line_stands_behind_the_packet_that_it_names_or_behind_the_last(
-    rt: HostRuntime,
-) -> Result<(), Fail> {
-    let names = instances(rt.alloc())?;
-    let text = b"at 0 settle\nat 1 move a b any order\nat 9 settle\n";
-    let script = read_script(
-        rt.alloc(),
-        text.as_slice(),
-        Kind::Conntrack,
-        names.as_slice(),
-    )?;
-    let input = items(rt.alloc(), two_packets(rt.alloc())?, &script)?;
-    let kinds = kinds_of(rt.alloc(), input.as_slice())?;
-    assert_eq!(rt; kinds.as_slice(), b"spcpse".as_slice());
-    Ok(())
-}
-
-#[test]
-fn lines_in_any_order_stand_behind_their_packets(rt: HostRuntime) -> Result<(), Fail> {
+fn lines_in_any_order_stand_after_their_packets(rt: HostRuntime) -> Result<(), Fail> {
     let mut script = Script {
         routes: Vec::new(rt.alloc()),
         lines: Vec::new(rt.alloc()),
@@ -170,7 +107,7 @@ fn lines_in_any_order_stand_behind_their_packets(rt: HostRuntime) -> Result<(), 
         script.lines.push(Line { at, what })?;
     }
     let input = items(rt.alloc(), two_packets(rt.alloc())?, &script)?;
-    let kinds = kinds_of(rt.alloc(), input.as_slice())?;
+    let (kinds, _numbers) = shown(rt.alloc(), input.as_slice())?;
     assert_eq!(rt; kinds.as_slice(), b"cpscpsce".as_slice());
     Ok(())
 }
@@ -190,33 +127,42 @@ fn what_of(alloc: Global, op: u32) -> Result<What, Fail> {
     Ok(What::Command(Command { op, what }))
 }
 
-/// A letter for each message.
-fn kinds_of(alloc: Global, input: &[Msg]) -> Result<Vec<u8>, Fail> {
+/// A letter for each message, and the number of each command.
+pub(crate) fn shown(alloc: Global, input: &[Msg]) -> Result<(Vec<u8>, Vec<u32>), Fail> {
     let mut kinds = Vec::new(alloc);
+    let mut numbers = Vec::new(alloc);
     for msg in input {
         let kind = match msg {
             Msg::InPacket(_) => b'p',
-            Msg::InCommand(_) => b'c',
+            Msg::InCommand(command) => {
+                numbers.push(command.get().op)?;
+                b'c'
+            }
             Msg::InSettle => b's',
             Msg::InEnd => b'e',
             _ => b'?',
         };
         kinds.push(kind)?;
     }
-    Ok(kinds)
+    Ok((kinds, numbers))
 }
 
 /// A trace of two packets.
-fn two_packets(alloc: Global) -> Result<PacketItems, Fail> {
+pub(crate) fn two_packets(alloc: Global) -> Result<PacketItems, Fail>
+    ensures numbers { IfOk result (AreNumbered 1) }
+    ensures steered { IfOk result (All (λ packet. is_transport packet.proto ≡ true)) }
+{
     let mut trace = PacketItems::open(alloc);
-    for number in 1..=2 {
-        trace.push(CapturedPacket::of(alloc, &packet(number))?)?;
-    }
+    trace.push(CapturedPacket::of(alloc, &packet(1))?)?;
+    trace.push(CapturedPacket::of(alloc, &packet(2))?)?;
     Ok(trace)
 }
 
-/// A packet with this number.
-fn packet(number: u32) -> Packet {
+/// A UDP packet with this number.
+fn packet(number: u32) -> Packet
+    ensures number { result.number ≡ number }
+    ensures proto { result.proto ≡ 17 }
+{
     Packet {
         number,
         nanos: 0,

@@ -1,13 +1,12 @@
-ghost use Rattle.std.specs.Prelude.{[], None, IsTrue, IfOk};
-ghost use Rattle.nf_io.specs.Roles.{is_read, needs_name};
-ghost use Rattle.nf_io.specs.Meaning.{CanRead};
-ghost use Rattle.nf_io.specs.Memory.{seen_in};
+//! Tests of `journal_file`: journals that are read, from bytes and from a source, and written.
+ghost use Rattle.std.specs.Prelude.{[], None};
 
-use crate::{JournalFault, read_journal, read_journal_from, write_journal};
+use crate::outside_tests::to_read;
 use actor_net::Choice;
 use basics::NoMemory;
+use journal_file::{JournalFault, read_journal, read_journal_from, write_journal};
 use nf_function::Kind;
-use nf_io::{Failed, MemoryOutside, Outside, Role, RoleSource, Source};
+use nf_io::{Failed, Role, RoleSource, Source};
 use std::alloc::Global;
 use std::test::Fail;
 
@@ -32,27 +31,6 @@ fn header(letter: u8, version: u8, kind: u8, instances: u8) -> [u8; 16] {
 fn counted(count: [u8; 4]) -> [u8; 16] {
     let [a, b, c, d] = count;
     [0x4f, 0x4e, 0x46, 0x4a, 0, 1, 1, 2, 0, 0, 0, 0, a, b, c, d]
-}
-
-/// An outside with a journal of two parts, in pieces of 7 bytes, of which one read fails.
-fn with_journal(
-    alloc: Global,
-    role: Role,
-    header: &[u8],
-    rest: &[u8],
-    failing: u64,
-) -> Result<MemoryOutside, NoMemory>
-    requires read { IsTrue (is_read role) }
-    requires wanted { IsTrue (needs_name role) }
-    ensures { IfOk result (λ outside. CanRead role (seen_in outside role)) }
-{
-    let mut outside = MemoryOutside::open(alloc);
-    outside.bind(role, "name")?;
-    outside.put(role, header)?;
-    outside.put(role, rest)?;
-    outside.fail(role, failing)?;
-    outside.piece(7);
-    Ok(outside)
 }
 
 /// Whether both readers answer this, from bytes and from a source, for the connection tracker and two instances.
@@ -85,7 +63,7 @@ fn fault_of_source(
     header: &[u8],
     rest: &[u8],
 ) -> Result<Option<JournalFault>, NoMemory> {
-    let mut outside = with_journal(alloc, Role::JournalIn, header, rest, 0)?;
+    let mut outside = to_read(alloc, Role::JournalIn, [header, rest, b""], 0, 7)?;
     let mut source = RoleSource {
         outside: &mut outside,
         role: Role::JournalIn,
@@ -111,97 +89,34 @@ fn a_move_is_read_and_written_again(rt: HostRuntime) -> Result<(), Fail> {
 }
 
 #[test]
-fn a_source_in_pieces_gives_the_same_choices(rt: HostRuntime) -> Result<(), Fail> {
-    let mut outside = with_journal(rt.alloc(), Role::JournalIn, &MOVE[..16], &MOVE[16..], 0)?;
-    let mut source = RoleSource {
-        outside: &mut outside,
-        role: Role::JournalIn,
-    };
-    let choices = read_journal_from(rt.alloc(), &mut source, Kind::Conntrack, 2)?;
-    let bytes = write_journal(rt.alloc(), Kind::Conntrack, 2, choices.items())?;
-    assert_eq!(rt; bytes.items(), &MOVE[..]);
-    Ok(())
-}
-
-#[test]
 fn the_first_fault_of_a_header_is_answered(rt: HostRuntime) -> Result<(), Fail> {
-    let alloc = rt.alloc();
-    let choices = &MOVE[16..];
-    assert!(rt; both_answer(alloc, &[0x58; 15], b"", Some(JournalFault::Short))?);
-    assert!(rt;
-        both_answer(
-            alloc,
-            &header(0x4b, 2, 2, 3),
-            choices,
-            Some(JournalFault::Magic)
-        )?
-    );
-    assert!(rt;
-        both_answer(
-            alloc,
-            &header(0x4a, 2, 2, 3),
-            choices,
-            Some(JournalFault::Version)
-        )?
-    );
-    assert!(rt;
-        both_answer(
-            alloc,
-            &header(0x4a, 1, 2, 3),
-            choices,
-            Some(JournalFault::Kind)
-        )?
-    );
-    assert!(rt;
-        both_answer(
-            alloc,
-            &header(0x4a, 1, 1, 3),
-            choices,
-            Some(JournalFault::Count)
-        )?
-    );
-    Ok(())
-}
-
-#[test]
-fn one_choice_more_than_200_million_is_too_many(rt: HostRuntime) -> Result<(), Fail> {
-    let alloc = rt.alloc();
-    let over = counted([0x0b, 0xeb, 0xc2, 0x01]);
-    assert!(rt; both_answer(alloc, &over, b"", Some(JournalFault::Count))?);
-    let most = counted([0x0b, 0xeb, 0xc2, 0x00]);
-    assert!(rt; both_answer(alloc, &most, b"", Some(JournalFault::Short))?);
+    let headers = [
+        (header(0x4b, 2, 2, 3), JournalFault::Magic),
+        (header(0x4a, 2, 2, 3), JournalFault::Version),
+        (header(0x4a, 1, 2, 3), JournalFault::Kind),
+        (header(0x4a, 1, 1, 3), JournalFault::Count),
+        (counted([0x0b, 0xeb, 0xc2, 0x01]), JournalFault::Count),
+        (counted([0x0b, 0xeb, 0xc2, 0x00]), JournalFault::Short),
+    ];
+    for (header, fault) in headers {
+        assert!(rt;
+            both_answer(rt.alloc(), &header, &MOVE[16..], Some(fault))?,
+            "{fault}"
+        );
+    }
     Ok(())
 }
 
 #[test]
 fn choices_end_exactly(rt: HostRuntime) -> Result<(), Fail> {
     let alloc = rt.alloc();
+    assert!(rt; both_answer(alloc, &[0x58; 15], b"", Some(JournalFault::Short))?);
     assert!(rt; both_answer(alloc, &MOVE, b"", None)?);
     assert!(rt; both_answer(alloc, &MOVE[..91], b"", Some(JournalFault::Short))?);
     assert!(rt; both_answer(alloc, &MOVE, b"x", Some(JournalFault::Extra))?);
     let none = counted([0; 4]);
     assert!(rt; both_answer(alloc, &none, b"", None)?);
     assert!(rt; both_answer(alloc, &none, b"x", Some(JournalFault::Extra))?);
-    Ok(())
-}
-
-#[test]
-fn a_failed_read_is_answered_in_its_place(rt: HostRuntime) -> Result<(), Fail> {
-    for failing in [1, 2, 4, 14, 15] {
-        let mut outside = with_journal(
-            rt.alloc(),
-            Role::JournalIn,
-            &MOVE[..16],
-            &MOVE[16..],
-            failing,
-        )?;
-        let mut source = RoleSource {
-            outside: &mut outside,
-            role: Role::JournalIn,
-        };
-        let answer = read_journal_from(rt.alloc(), &mut source, Kind::Conntrack, 2).err();
-        assert_eq!(rt; answer, Some(JournalFault::Read));
-    }
     Ok(())
 }
 
@@ -243,7 +158,7 @@ impl Source for Endless {
 }
 
 #[test]
-fn no_byte_behind_the_fault_is_taken(rt: HostRuntime) -> Result<(), Fail> {
+fn no_byte_after_the_fault_is_taken(rt: HostRuntime) -> Result<(), Fail> {
     let mut endless = Endless { taken: 0 };
     let answer = read_journal_from(rt.alloc(), &mut endless, Kind::Conntrack, 2).err();
     assert_eq!(rt; (answer, endless.taken), (Some(JournalFault::Extra), 93));

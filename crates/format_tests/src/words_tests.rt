@@ -1,8 +1,8 @@
-//! Tests of which command words ask for, and of words that are refused.
+//! Tests of `command_words`: which command words ask for and with which values, and words that are refused.
 
-use crate::fault::ArgumentsFault;
-use crate::request::Request;
-use crate::words::parse_command;
+use actor_net::Schedule;
+use command_words::{ArgumentsFault, Request, parse_command};
+use nf_function::Kind;
 use std::alloc::{AllocError, Global};
 use std::test::Fail;
 
@@ -460,7 +460,7 @@ static GEN_AND_OTHERS: [(&str, &str); 21] = [
 ];
 
 /// The words of a line.
-pub(crate) fn split(alloc: Global, line: &str) -> Result<Vec<String>, AllocError> {
+fn split(alloc: Global, line: &str) -> Result<Vec<String>, AllocError> {
     line.split(' ')
         .map(|word| String::from_str(alloc, word))
         .try_collect(alloc)
@@ -494,25 +494,90 @@ fn first_wrong(
 }
 
 #[test]
-fn words_with_sim_are_a_simulation_or_usage(rt: HostRuntime) -> Result<(), Fail> {
+fn words_are_a_command_or_usage(rt: HostRuntime) -> Result<(), Fail> {
     assert_eq!(rt; first_wrong(rt.alloc(), SIM.as_slice())?, None);
-    Ok(())
-}
-
-#[test]
-fn words_with_run_or_audit_are_a_run_an_audit_or_usage(rt: HostRuntime) -> Result<(), Fail> {
     assert_eq!(rt; first_wrong(rt.alloc(), RUN_AND_AUDIT.as_slice())?, None);
-    Ok(())
-}
-
-#[test]
-fn words_with_check_are_a_check_or_usage(rt: HostRuntime) -> Result<(), Fail> {
     assert_eq!(rt; first_wrong(rt.alloc(), CHECK.as_slice())?, None);
+    assert_eq!(rt; first_wrong(rt.alloc(), GEN_AND_OTHERS.as_slice())?, None);
     Ok(())
 }
 
 #[test]
-fn words_with_gen_are_a_capture_or_usage(rt: HostRuntime) -> Result<(), Fail> {
-    assert_eq!(rt; first_wrong(rt.alloc(), GEN_AND_OTHERS.as_slice())?, None);
+fn sim_gives_all_that_its_words_say(rt: HostRuntime) -> Result<(), Fail> {
+    let line =
+        "x sim nat --instances a,b:5:v1 --inside 10.0.0.0/24 --outside 203.0.113.1 --window 7 --schedule 9 --journal j --summary t s";
+    let words = split(rt.alloc(), line)?;
+    let Ok(Request::Sim(asked, schedule)) = parse_command(rt.alloc(), words.as_slice()) else {
+        return Err(Fail::from("no sim"));
+    };
+    assert_eq!(rt; asked.kind, Kind::Nat);
+    assert_eq!(rt; asked.instances.names.len(), 2);
+    assert_eq!(rt; asked.instances.names[0].items(), "a".as_bytes());
+    assert_eq!(rt; asked.instances.names[1].items(), "b".as_bytes());
+    assert_eq!(rt;
+        asked.instances.limits.as_slice(),
+        [1_000_000, 5].as_slice()
+    );
+    assert_eq!(rt; asked.instances.marked.as_slice(), [false, true].as_slice());
+    assert_eq!(rt;
+        (asked.site.inside.bits, asked.site.inside.len),
+        (0x0a00_0000, 24)
+    );
+    assert_eq!(rt; asked.site.outside, Some(0xcb00_7101));
+    assert_eq!(rt; asked.window, 7);
+    assert_eq!(rt; schedule, Schedule::Number(9));
+    assert_eq!(rt; (asked.journal, asked.summary), (Some("j"), true));
+    assert_eq!(rt; (asked.trace, asked.script), ("t", Some("s")));
+    Ok(())
+}
+
+#[test]
+fn what_sim_may_leave_out_has_its_own_value(rt: HostRuntime) -> Result<(), Fail> {
+    let words = split(
+        rt.alloc(),
+        "x sim monitor --instances a --inside 10.0.0.0/8 t",
+    )?;
+    let Ok(Request::Sim(asked, schedule)) = parse_command(rt.alloc(), words.as_slice()) else {
+        return Err(Fail::from("no sim"));
+    };
+    assert_eq!(rt; asked.kind, Kind::Monitor);
+    assert_eq!(rt; asked.site.outside, None);
+    assert_eq!(rt; asked.window, 256);
+    assert_eq!(rt; schedule, Schedule::First);
+    assert_eq!(rt; (asked.journal, asked.summary), (None, false));
+    assert_eq!(rt; asked.script, None);
+    Ok(())
+}
+
+#[test]
+fn check_gives_limits_marks_and_the_file(rt: HostRuntime) -> Result<(), Fail> {
+    let words = split(rt.alloc(), "x check nat --instances a,b:5,c:v1,d:0:v1 s")?;
+    let Ok(Request::Check(checking)) = parse_command(rt.alloc(), words.as_slice()) else {
+        return Err(Fail::from("no check"));
+    };
+    assert_eq!(rt; checking.script, "s");
+    assert_eq!(rt; checking.instances.names.len(), 4);
+    assert_eq!(rt;
+        checking.instances.limits.as_slice(),
+        [1_000_000, 5, 1_000_000, 0].as_slice()
+    );
+    assert_eq!(rt;
+        checking.instances.marked.as_slice(),
+        [false, false, true, true].as_slice()
+    );
+    Ok(())
+}
+
+#[test]
+fn gen_gives_its_numbers_and_the_file(rt: HostRuntime) -> Result<(), Fail> {
+    let words = split(rt.alloc(), "x gen 7 --hosts 200 --packets 10000 t")?;
+    let Ok(Request::Gen(asked)) = parse_command(rt.alloc(), words.as_slice()) else {
+        return Err(Fail::from("no gen"));
+    };
+    assert_eq!(rt;
+        (asked.number, asked.packets, asked.hosts),
+        (7, 10_000, 200)
+    );
+    assert_eq!(rt; asked.trace, "t");
     Ok(())
 }

@@ -1,17 +1,95 @@
-ghost use Rattle.std.specs.Prelude.{◌≡◌, ◌≤◌, false, length, IsTrue, IfOk};
+//! Tests of `nf_io`: the outside over files and in memory; and outsides that other tests read and write.
+ghost use Rattle.std.specs.Prelude.{◌≡◌, ◌<◌, ◌≤◌, false, length, IsTrue, IfOk};
 ghost use Rattle.nf_io.specs.Roles.{is_read, needs_name};
 ghost use Rattle.nf_io.specs.Meaning.{CanRead, CanWrite};
+ghost use Rattle.nf_io.specs.Memory.{seen_in};
 ghost use Rattle.nf_io.specs.Files.{seen_of};
 
-use crate::{
-    Failed, FileOutside, HostSystem, Outside, Role, RoleSink, RoleSource, Sink, Source, System,
-    write_all,
-};
 use basics::NoMemory;
+use nf_io::{
+    CalmOutside, Failed, FileOutside, HostSystem, MemoryOutside, Outside, Role, RoleSink,
+    RoleSource, Sink, Source, System, read_upto, write_all,
+};
 use std::alloc::Global;
 use std::io::{ErrorKind, Read, Write};
 use std::test::Fail;
 use std::{env, fs, io, process};
+
+/// An outside in memory with three parts to read, in pieces of so many bytes at most, of which one read fails.
+pub(crate) fn to_read(
+    alloc: Global,
+    role: Role,
+    parts: [&[u8]; 3],
+    failing: u64,
+    most: usize,
+) -> Result<MemoryOutside, NoMemory>
+    requires read { IsTrue (is_read role) }
+    requires wanted { IsTrue (needs_name role) }
+    requires moves { 0 < most }
+    ensures { IfOk result (λ outside. CanRead role (seen_in outside role)) }
+{
+    let [first, second, third] = parts;
+    let mut outside = MemoryOutside::open(alloc);
+    outside.bind(role, "name")?;
+    outside.put(role, first)?;
+    outside.put(role, second)?;
+    outside.put(role, third)?;
+    outside.fail(role, failing)?;
+    outside.piece(most);
+    Ok(outside)
+}
+
+/// An outside in memory with a role to write.
+pub(crate) fn to_write(alloc: Global, role: Role) -> Result<MemoryOutside, NoMemory>
+    requires written { is_read role ≡ false }
+    requires wanted { IsTrue (needs_name role) }
+    ensures { IfOk result (λ outside. CanWrite role (seen_in outside role)) }
+{
+    let mut outside = MemoryOutside::open(alloc);
+    outside.bind(role, "name")?;
+    Ok(outside)
+}
+
+#[test]
+fn write_all_leaves_a_front_where_a_write_fails(rt: HostRuntime) -> Result<(), Fail> {
+    let mut outside = MemoryOutside::open(rt.alloc());
+    outside.fail(Role::Report, 3)?;
+    outside.piece(2);
+    let mut sink = RoleSink {
+        outside: &mut outside,
+        role: Role::Report,
+    };
+    assert_eq!(rt; write_all(&mut sink, b"abc"), Ok(()));
+    assert_eq!(rt; write_all(&mut sink, b"d"), Err(Failed));
+    assert_eq!(rt; sink.write(b"efg"), Ok(2));
+    assert_eq!(rt; outside.written(Role::Report), b"abcef".as_slice());
+    Ok(())
+}
+
+#[test]
+fn read_upto_takes_all_or_one_more_than_the_most(rt: HostRuntime) -> Result<(), Fail> {
+    let parts = [b"ab".as_slice(), b"cd", b"ef"];
+    let mut outside = to_read(rt.alloc(), Role::JournalIn, parts, 99, 1)?;
+    let mut source = RoleSource {
+        outside: &mut outside,
+        role: Role::JournalIn,
+    };
+    let front = read_upto(rt.alloc(), &mut source, 3)?;
+    assert_eq!(rt; front.items(), b"abcd".as_slice());
+    let rest = read_upto(rt.alloc(), &mut source, 2)?;
+    assert_eq!(rt; rest.items(), b"ef".as_slice());
+    Ok(())
+}
+
+#[test]
+fn a_calm_outside_gives_and_takes(rt: HostRuntime) -> Result<(), Fail> {
+    let mut outside = CalmOutside::open(rt.alloc());
+    outside.put(Role::Trace, b"a")?;
+    outside.piece(1);
+    assert_eq!(rt; outside.write(Role::Errors, b"xy"), Ok(1));
+    assert_eq!(rt; outside.written(Role::Errors), b"x".as_slice());
+    Ok(())
+}
 
 /// A file of the six bytes `abcdef`, and a system of such files. A signal interrupts every second
 /// call, and the third read that is served fails.

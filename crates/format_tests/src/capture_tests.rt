@@ -1,14 +1,15 @@
+//! Tests of `trace_reader`: captures that are read, and one that is made.
 ghost use Rattle.std.specs.Prelude.{◌<◌, IsTrue, IfOk};
 ghost use Rattle.nf_io.specs.Roles.{is_read, needs_name};
 ghost use Rattle.nf_io.specs.Meaning.{CanRead};
-ghost use Rattle.nf_io.specs.Memory.{seen_in};
 ghost use Rattle.nf_io.specs.Calm.{calm_in};
 
-use crate::{Next, Trace, TraceFault, TraceReader, read_trace};
+use crate::outside_tests::{to_read, to_write};
 use flow_filter::{NoMemory, Packet};
-use nf_io::{CalmOutside, MemoryOutside, Outside, Role, RoleSource};
+use nf_io::{CalmOutside, Outside, Role, RoleSink, RoleSource};
 use std::alloc::Global;
 use std::test::Fail;
+use trace_reader::{Trace, TraceFault, TraceReader, make_trace, read_trace};
 
 /// Little-endian, microseconds, link type 101.
 static RAW: [u8; 24] = [
@@ -62,29 +63,23 @@ static TOO_LONG: [u8; 16] = [
     0x00, 0x00, 0x00, 0x00, 0x00, 0x00, 0x00, 0x00, 0x01, 0x00, 0x04, 0x00, 0x01, 0x00, 0x04, 0x00,
 ];
 
-/// An outside with a capture of three parts to read, in pieces of 7 bytes, of which one read
-/// fails.
-fn with_capture(
-    alloc: Global,
-    role: Role,
-    header: &[u8],
-    records: &[u8],
-    tail: &[u8],
-    failing: u64,
-) -> Result<MemoryOutside, NoMemory>
-    requires read { IsTrue (is_read role) }
-    requires wanted { IsTrue (needs_name role) }
-    ensures { IfOk result (λ outside. CanRead role (seen_in outside role)) }
-{
-    let mut outside = MemoryOutside::open(alloc);
-    outside.bind(role, "name")?;
-    outside.put(role, header)?;
-    outside.put(role, records)?;
-    outside.put(role, tail)?;
-    outside.fail(role, failing)?;
-    outside.piece(7);
-    Ok(outside)
-}
+/// The capture of 3 packets and 200 hosts that is drawn from 12, as `bench/make_capture.py` makes it: a TCP packet with SYN that comes
+/// in, a UDP packet that goes out, and a TCP packet with FIN and ACK that goes out.
+static THREE: [u8; 180] = [
+    0xd4, 0xc3, 0xb2, 0xa1, 0x02, 0x00, 0x04, 0x00, 0x00, 0x00, 0x00, 0x00, 0x00, 0x00, 0x00, 0x00,
+    0xff, 0xff, 0x00, 0x00, 0x65, 0x00, 0x00, 0x00, //
+    0x00, 0x00, 0x00, 0x00, 0xe8, 0x03, 0x00, 0x00, 0x28, 0x00, 0x00, 0x00, 0x67, 0x00, 0x00, 0x00,
+    0x45, 0x00, 0x00, 0x67, 0x00, 0x00, 0x00, 0x00, 0x40, 0x06, 0x00, 0x00, 0xc0, 0x00, 0x02, 0x1e,
+    0x0a, 0x00, 0x00, 0x7b, 0x01, 0xbb, 0x9c, 0x5e, 0x00, 0x00, 0x00, 0x00, 0x00, 0x00, 0x00, 0x00,
+    0x50, 0x02, 0x00, 0x00, 0x00, 0x00, 0x00, 0x00, //
+    0x00, 0x00, 0x00, 0x00, 0xd0, 0x07, 0x00, 0x00, 0x1c, 0x00, 0x00, 0x00, 0x9c, 0x00, 0x00, 0x00,
+    0x45, 0x00, 0x00, 0x9c, 0x00, 0x00, 0x00, 0x00, 0x40, 0x11, 0x00, 0x00, 0x0a, 0x00, 0x00, 0x07,
+    0xc0, 0x00, 0x02, 0x28, 0xc3, 0x78, 0x00, 0x35, 0x00, 0x88, 0x00, 0x00, //
+    0x00, 0x00, 0x00, 0x00, 0xb8, 0x0b, 0x00, 0x00, 0x28, 0x00, 0x00, 0x00, 0x3f, 0x00, 0x00, 0x00,
+    0x45, 0x00, 0x00, 0x3f, 0x00, 0x00, 0x00, 0x00, 0x40, 0x06, 0x00, 0x00, 0x0a, 0x00, 0x00, 0xc6,
+    0xc0, 0x00, 0x02, 0x3f, 0x9c, 0x7f, 0x01, 0xbb, 0x00, 0x00, 0x00, 0x00, 0x00, 0x00, 0x00, 0x00,
+    0x50, 0x11, 0x00, 0x00, 0x00, 0x00, 0x00, 0x00,
+];
 
 /// A calm outside with a capture of two parts, of which so many bytes at most are at hand at once.
 fn with_calm_capture(
@@ -107,8 +102,9 @@ fn with_calm_capture(
     Ok(outside)
 }
 
-fn read(alloc: Global, header: &[u8], records: &[u8], tail: &[u8]) -> Result<Trace, TraceFault> {
-    let mut outside = with_capture(alloc, Role::Trace, header, records, tail, 0)?;
+/// Reads a capture of three parts, in pieces of 7 bytes.
+fn read(alloc: Global, parts: [&[u8]; 3]) -> Result<Trace, TraceFault> {
+    let mut outside = to_read(alloc, Role::Trace, parts, 0, 7)?;
     let mut source = RoleSource {
         outside: &mut outside,
         role: Role::Trace,
@@ -116,8 +112,9 @@ fn read(alloc: Global, header: &[u8], records: &[u8], tail: &[u8]) -> Result<Tra
     read_trace(alloc, &mut source)
 }
 
+/// The fault of a capture, if it has one.
 fn fault_of(alloc: Global, header: &[u8], records: &[u8], tail: &[u8]) -> Option<TraceFault> {
-    read(alloc, header, records, tail).err()
+    read(alloc, [header, records, tail]).err()
 }
 
 /// The packet of `UDP`.
@@ -139,34 +136,21 @@ fn udp(nanos: u64) -> Packet {
 
 #[test]
 fn one_packet_is_read_field_by_field(rt: HostRuntime) -> Result<(), Fail> {
-    let trace = read(rt.alloc(), &RAW, &UDP, b"")?;
-    assert_eq!(rt; trace.packets.items().len(), 1);
+    let trace = read(rt.alloc(), [&RAW, &UDP, &UDP[..10]])?;
     assert_eq!(rt;
         trace.packets.items().first().map(|first| first.packet()),
         Some(udp(1_000_000_000))
     );
-    assert_eq!(rt; (trace.skipped, trace.cut), (0, false));
-    Ok(())
-}
-
-#[test]
-fn a_part_of_a_record_is_cut(rt: HostRuntime) -> Result<(), Fail> {
-    let trace = read(rt.alloc(), &RAW, &UDP, &UDP[..10])?;
     assert_eq!(rt;
         (trace.packets.items().len(), trace.skipped, trace.cut),
         (1, 0, true)
-    );
-    let trace = read(rt.alloc(), &RAW, &LONGEST, &LONGEST)?;
-    assert_eq!(rt;
-        (trace.packets.items().len(), trace.skipped, trace.cut),
-        (0, 0, true)
     );
     Ok(())
 }
 
 #[test]
 fn frames_are_steered_or_skipped_by_their_bytes(rt: HostRuntime) -> Result<(), Fail> {
-    let trace = read(rt.alloc(), &ETHERNET, &FOUR, b"")?;
+    let trace = read(rt.alloc(), [&ETHERNET, &FOUR, b""])?;
     let syn = Packet {
         number: 2,
         nanos: 3_000_000_000,
@@ -197,7 +181,7 @@ fn frames_are_steered_or_skipped_by_their_bytes(rt: HostRuntime) -> Result<(), F
 
 #[test]
 fn records_at_hand_are_read_as_those_in_parts(rt: HostRuntime) -> Result<(), Fail> {
-    let parts = read(rt.alloc(), &ETHERNET, &FOUR, b"")?;
+    let parts = read(rt.alloc(), [&ETHERNET, &FOUR, b""])?;
     for most in [81, 82, 200, usize::MAX] {
         let mut outside = with_calm_capture(rt.alloc(), Role::Trace, &ETHERNET, &FOUR, most)?;
         let mut source = RoleSource {
@@ -232,6 +216,8 @@ fn each_fault_of_the_header_has_its_name(rt: HostRuntime) {
 
 #[test]
 fn a_record_too_long_is_a_fault_at_its_place(rt: HostRuntime) {
+    let fault = fault_of(rt.alloc(), &RAW, &UDP, &LONGEST);
+    assert_eq!(rt; fault, None);
     let fault = fault_of(rt.alloc(), &RAW, &UDP, &TOO_LONG);
     let expected = TraceFault::RecordLength {
         offset: 88,
@@ -241,27 +227,26 @@ fn a_record_too_long_is_a_fault_at_its_place(rt: HostRuntime) {
 }
 
 #[test]
-fn an_end_is_given_again(rt: HostRuntime) -> Result<(), Fail> {
-    let mut outside = with_capture(rt.alloc(), Role::Trace, &RAW, b"", b"", 0)?;
+fn a_fault_of_reading_is_given_again(rt: HostRuntime) -> Result<(), Fail> {
+    let mut outside = to_read(rt.alloc(), Role::Trace, [&RAW, &UDP, b""], 6, 7)?;
     let mut source = RoleSource {
         outside: &mut outside,
         role: Role::Trace,
     };
     let mut reader = TraceReader::open(&mut source)?;
-    assert_eq!(rt; reader.next(&mut source), Ok(Next::End));
-    assert_eq!(rt; reader.next(&mut source), Ok(Next::End));
+    assert_eq!(rt; reader.next(&mut source), Err(TraceFault::Read));
+    assert_eq!(rt; reader.next(&mut source), Err(TraceFault::Read));
     Ok(())
 }
 
 #[test]
-fn a_fault_of_reading_is_given_again(rt: HostRuntime) -> Result<(), Fail> {
-    let mut outside = with_capture(rt.alloc(), Role::Trace, &RAW, &UDP, b"", 6)?;
-    let mut source = RoleSource {
+fn a_capture_is_made_byte_by_byte(rt: HostRuntime) -> Result<(), Fail> {
+    let mut outside = to_write(rt.alloc(), Role::TraceOut)?;
+    let mut sink = RoleSink {
         outside: &mut outside,
-        role: Role::Trace,
+        role: Role::TraceOut,
     };
-    let mut reader = TraceReader::open(&mut source)?;
-    assert_eq!(rt; reader.next(&mut source), Err(TraceFault::Read));
-    assert_eq!(rt; reader.next(&mut source), Err(TraceFault::Read));
+    make_trace(rt.alloc(), 12, 3, 200, &mut sink)?;
+    assert_eq!(rt; outside.written(Role::TraceOut), THREE.as_slice());
     Ok(())
 }

@@ -1,7 +1,9 @@
-use crate::stored::{first_u16, first_u32, first_u64, push_u16, push_u32, push_u64};
-use crate::{Chunk, Chunks, Scope, Tally, Unit};
+//! Tests of `nf_function`: the tally, units in order, and numbers in stored bytes.
+
 use basics::Bytes;
 use flow_filter::Flow;
+use nf_function::stored::{first_u16, first_u32, first_u64, push_u16, push_u32, push_u64};
+use nf_function::{Tally, Unit};
 use std::test::Fail;
 
 #[test]
@@ -63,27 +65,5 @@ fn units_stand_by_protocol_and_ends(rt: HostRuntime) -> Result<(), Fail> {
         units.as_slice(),
         [Unit::Flow(web), Unit::Flow(lookup), Unit::Host(0)].as_slice()
     );
-    Ok(())
-}
-
-#[test]
-fn a_copied_chunk_is_the_same(rt: HostRuntime) -> Result<(), Fail> {
-    let mut bytes = Bytes::open(rt.alloc());
-    bytes.push(7)?;
-    let mut chunks = Chunks::open(rt.alloc());
-    chunks.push(Chunk {
-        scope: Scope::MultiFlow,
-        unit: Some(Unit::Host(3)),
-        bytes,
-    })?;
-    let copied = chunks.copy()?;
-    let [chunk] = copied.items() else {
-        return Err("one chunk".into());
-    };
-    assert_eq!(rt;
-        (chunk.scope, chunk.unit),
-        (Scope::MultiFlow, Some(Unit::Host(3)))
-    );
-    assert_eq!(rt; chunk.bytes.items(), [7].as_slice());
     Ok(())
 }

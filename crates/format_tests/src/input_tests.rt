@@ -1,0 +1,57 @@
+//! Tests of `run_input`: what a run is given, of a setting, a script and packets.
+
+use crate::script_tests::{instances, shown, two_packets};
+use flow_filter::{Filter, Prefix, Site};
+use net_world::Config;
+use nf_function::Kind;
+use nf_msgs::Msg;
+use op_script::read_script;
+use run_input::{Setting, input_of};
+use std::alloc::Global;
+use std::test::Fail;
+
+/// A network of 10.0.0.0/8.
+fn site() -> Site {
+    let inside = Prefix {
+        bits: 0x0a00_0000,
+        len: 8,
+    };
+    Site {
+        inside,
+        outside: None,
+    }
+}
+
+/// What the tracker's instances `a` and `b` are given, by the text of a script.
+fn given(alloc: Global, text: &[u8]) -> Result<(Config, Vec<Msg>), Fail> {
+    let names = instances(alloc)?;
+    let script = read_script(alloc, text, Kind::Conntrack, names.as_slice())?;
+    let limits = [5, 7];
+    let marked = [false, true];
+    let setting = Setting {
+        kind: Kind::Conntrack,
+        names: names.as_slice(),
+        limits: limits.as_slice(),
+        marked: marked.as_slice(),
+        site: site(),
+        window: 3,
+    };
+    Ok(input_of(alloc, &setting, &script, two_packets(alloc)?)?)
+}
+
+#[test]
+fn the_setting_the_routes_and_the_lines_are_taken_over(rt: HostRuntime) -> Result<(), Fail> {
+    let text =
+        b"route rport=53 b\nroute any a\nat 0 settle\nat 0 share b,a any strict\nat 1 move a b any order\nat 9 copy b a all\n";
+    let (config, items) = given(rt.alloc(), text.as_slice())?;
+    assert_eq!(rt; config.names.items().len(), 2);
+    assert_eq!(rt; config.limits.items(), [5, 7].as_slice());
+    assert_eq!(rt; config.marked.items(), [false, true].as_slice());
+    assert_eq!(rt; (config.window, config.site), (3, site()));
+    let routes = [(Filter::parse("rport=53")?, 1), (Filter::ANY, 0)];
+    assert_eq!(rt; config.routes.items(), routes.as_slice());
+    let (kinds, numbers) = shown(rt.alloc(), items.as_slice())?;
+    assert_eq!(rt; kinds.as_slice(), b"scpcpce".as_slice());
+    assert_eq!(rt; numbers.as_slice(), [1, 2, 3].as_slice());
+    Ok(())
+}
