@@ -1,15 +1,15 @@
--- Each step of a link keeps its rule.
+-- Each step of a link keeps its protocol.
 use Rattle.std.proofs.Common.{◌≡◌, ◌≢◌, ◌<◌, ℕ, zero, suc, true, false, true≢false, List, [], ◌∷◌, ◌++◌, length, set, sym, refl, ap, ◌∙◌, subst, ⊎_elim, append_assoc, append-nil, arith, length-append}
 use mathlib.Core.Option.{some, some-ne-none}
 use lib.ListN.{get_elem?}
 use Rattle.crossbeam_queue.specs.Fifo.{Pushes, Pops, Forks, Merges, Learns}
 use Rattle.crossbeam_queue.proofs.Lists.{at_set, at_snoc}
 use Rattle.std.proofs.lemmas.List.{append_cancel_left}
-use Rattle.fifo_link.specs.declared.rule.Transfer.{Transfer}
-use Rattle.fifo_link.specs.declared.rule.Transfer.TheVariants.{Sent, Taken}
-use Rattle.fifo_link.specs.declared.rule.Knowledge.{Knowledge}
+use Rattle.fifo_link.specs.declared.knowledge.Transfer.{Transfer}
+use Rattle.fifo_link.specs.declared.knowledge.Transfer.TheVariants.{Sent, Taken}
+use Rattle.fifo_link.specs.declared.knowledge.Knowledge.{Knowledge}
 use Rattle.fifo_link.specs.Transfers.{sent_in, taken_in, Leaves, SentSince, TakenSince, HeldSince, WasEmpty, AllDone}
-use Rattle.fifo_link.specs.Rule.{knows, FitsHolder, KeepsOrder, AfterSend, AfterTake}
+use Rattle.fifo_link.specs.Knowledge.{knows, FitsHolder, KeepsOrder, AfterSend, AfterTake}
 use Rattle.fifo_link.proofs.TransferLemmas.{same_sent, same_taken, more_sent, one_sent, one_taken, sent_more, taken_more, none_sent, none_taken}
 
 module _ {M : Type 0} where
