@@ -15,7 +15,7 @@ use Rattle.op_script.specs.declared.script.Script.{Script}
 use Rattle.op_script.specs.declared.script.Line.{Line}
 use Rattle.op_script.specs.declared.script.What.{What}
 use Rattle.op_script.specs.declared.script.What.TheVariants.{Command, Settle}
-use Rattle.op_script.specs.Forms.{Word}
+use Rattle.op_script.specs.Statements.{Word}
 use Rattle.op_script.specs.Reading.{ends_of, OrderView, Moves, Copies, Shares, LineView, ScriptView}
 
 -- the words of an initial rule
