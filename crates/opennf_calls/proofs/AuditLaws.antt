@@ -30,7 +30,7 @@ use Rattle.net_world.specs.declared.node.Node.{Node}
 use Rattle.net_world.specs.Nodes.{node_ended, node_ready, node_step}
 use Rattle.net_world.specs.Start.{started}
 use Rattle.run_report.specs.Lines.{report_text}
-use Rattle.command_words.specs.Plan.{NetworkAsked, asks_audit}
+use Rattle.command_words.specs.Requests.{NetworkAsked, asks_audit}
 use Rattle.opennf_calls.specs.declared.status.Status.{Status}
 use Rattle.opennf_calls.specs.Again.{AreAgain, AuditLaw, AuditsAgain}
 use Rattle.opennf_calls.specs.NetworkRuns.{Given, RunResults, HasNoRun, HasRun, IsNoRun, IsRunOf, config_for, given_script, head_for, start_for}

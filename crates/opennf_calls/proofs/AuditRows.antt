@@ -9,7 +9,7 @@ use Rattle.actor_net.specs.declared.choice.Choice.{Choice}
 use Rattle.journal_file.specs.declared.fault.JournalFault.{JournalFault}
 use Rattle.journal_file.specs.declared.fault.JournalFault.TheVariants as fault
 use Rattle.journal_file.specs.Reading.{GivesFrom, HasReadCause, count_of, journal_of, looked_at}
-use Rattle.command_words.specs.Plan.{NetworkAsked, asks_audit}
+use Rattle.command_words.specs.Requests.{NetworkAsked, asks_audit}
 use Rattle.opennf_calls.specs.declared.status.Status.{Status}
 use Rattle.opennf_calls.specs.declared.status.Status.TheVariants.{Ok as Done, Usage, BadScript, BadTrace, BadJournal, NotARun, ReadFault, WriteFault, NoMemory}
 use Rattle.opennf_calls.specs.declared.status.JournalKind.TheVariants as kinds

@@ -19,7 +19,7 @@ use Rattle.op_script.specs.declared.fault.ScriptFault.TheVariants as unread
 use Rattle.op_script.specs.declared.fault.ScriptKind.{ScriptKind}
 use Rattle.op_script.specs.declared.script.Script.{Script as TheScript}
 use Rattle.op_script.specs.Reading.{script_of}
-use Rattle.command_words.specs.Plan.{NetworkAsked}
+use Rattle.command_words.specs.Requests.{NetworkAsked}
 use Rattle.opennf_calls.specs.declared.status.Status.{Status}
 use Rattle.opennf_calls.specs.Outcome.{IsSite, first_refusal, inputs_refusal, script_refusal, trace_refusal}
 use Rattle.opennf_calls.specs.NetworkRuns.{given_script}

@@ -15,7 +15,7 @@ use Rattle.op_script.specs.declared.script.Line.{Line}
 use Rattle.op_script.specs.declared.script.What.{What}
 use Rattle.op_script.specs.declared.script.What.TheVariants as what
 use Rattle.op_script.specs.Reading.{OrderView, line_view, order_view, route_view, script_view, what_view}
-use Rattle.command_words.specs.Plan.{NetworkAsked}
+use Rattle.command_words.specs.Requests.{NetworkAsked}
 use Rattle.opennf_calls.specs.NetworkRuns.{Given, given_script}
 use Rattle.opennf_calls.specs.Outcome.{IsGiven}
 use Rattle.opennf_calls.proofs.SameSites.{same_prefix, same_site}

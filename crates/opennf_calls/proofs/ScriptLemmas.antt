@@ -15,7 +15,7 @@ use Rattle.nf_io.specs.Meaning.{Meaning}
 use Rattle.nf_io.specs.Transfers.{HasUptoCause}
 use Rattle.nf_io.specs.declared.transfers.UptoFault.{UptoFault}
 use Rattle.nf_io.specs.declared.transfers.UptoFault.TheVariants as upto
-use Rattle.command_words.specs.Plan.{Asked, CheckAsked, asks_check}
+use Rattle.command_words.specs.Requests.{Asked, CheckAsked, asks_check}
 use Rattle.opennf_calls.specs.Outcome.{HasInput, IsBound, RowOf, refusal_of}
 use Rattle.opennf_calls.specs.Phases.{OnlyRead}
 use Rattle.opennf_calls.specs.Status.{reading_status, script_status}

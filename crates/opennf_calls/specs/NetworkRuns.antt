@@ -19,7 +19,7 @@ use Rattle.op_script.specs.declared.script.Script.{Script as TheScript}
 use Rattle.op_script.specs.declared.fault.ScriptKind.{ScriptKind}
 use Rattle.op_script.specs.Items as script_items
 use Rattle.op_script.specs.Reading.{ScriptView, script_of}
-use Rattle.command_words.specs.Plan.{NetworkAsked}
+use Rattle.command_words.specs.Requests.{NetworkAsked}
 use Rattle.nf_io.specs.declared.outside.Role.{Role}
 use Rattle.nf_io.specs.declared.outside.Role.TheVariants.{Report, JournalOut}
 use Rattle.actor_net.specs.declared.choice.Choice.{Choice}

@@ -18,7 +18,7 @@ use Rattle.journal_file.specs.declared.fault.JournalFault.{JournalFault}
 use Rattle.journal_file.specs.Reading.{journal_of}
 use Rattle.actor_net.specs.declared.choice.Choice.{Choice}
 use Rattle.actor_net.specs.declared.schedule.Schedule.{Schedule}
-use Rattle.command_words.specs.Plan.{Asked, NetworkAsked, CheckAsked, GenAsked, asks_sim, asks_run, asks_audit, asks_check, asks_gen}
+use Rattle.command_words.specs.Requests.{Asked, NetworkAsked, CheckAsked, GenAsked, asks_sim, asks_run, asks_audit, asks_check, asks_gen}
 use Rattle.opennf_calls.specs.declared.status.Status.{Status}
 use Rattle.opennf_calls.specs.declared.status.Status.TheVariants.{Ok as Done, Usage, BadScript, BadTrace, BadJournal, NotARun, ReadFault, WriteFault, NoMemory}
 use Rattle.opennf_calls.specs.declared.outcome.Outcome.{Outcome}
@@ -247,7 +247,7 @@ CauseOf (Some asked) old new outcome = RowOf asked old new outcome.choices outco
 
 -- a role has no name, or the one that the words give it
 abbrev pub MayBind : Option Asked → (Role → Meaning) → Type 0
-MayBind plan new = (role : Role) → ((new role).name ≡ None) ⊎ ((new role).name ≡ option_and_then (λ asked. file_for asked role) plan)
+MayBind request new = (role : Role) → ((new role).name ≡ None) ⊎ ((new role).name ≡ option_and_then (λ asked. file_for asked role) request)
 
 -- a line went to the standard error, or a front of it where its count of faults rose
 abbrev pub PutsLine : List ℕ → (old new : Meaning) → Type 0
@@ -262,13 +262,13 @@ pub data IsGoodEnd (asked : Asked) (bytes : Role → List ℕ) (status : Status)
   Is_no_run : (step : ℕ) → status ≡ NotARun step → FailsAt asked bytes step → IsGoodEnd asked bytes status
 
 abbrev pub IsComplete : Option Asked → (old new : Role → Meaning) → Status → Type 0
-IsComplete plan old new status =
-    (asked : Asked) → plan ≡ Some asked → (bytes : Role → List ℕ) → HasInput asked old bytes → refusal_of asked bytes ≡ None
+IsComplete request old new status =
+    (asked : Asked) → request ≡ Some asked → (bytes : Role → List ℕ) → HasInput asked old bytes → refusal_of asked bytes ≡ None
     → ((role : Role) → Rose (old role).faults (new role).faults → ⊥) → IsGoodEnd asked bytes status
 
 -- all that a call of the program promises
-pub record HasOutcome (plan : Option Asked) (old new : Role → Meaning) (outcome : Outcome) : Type 0 where
-  pub cause : CauseOf plan old new outcome
-  pub names : MayBind plan new
+pub record HasOutcome (request : Option Asked) (old new : Role → Meaning) (outcome : Outcome) : Type 0 where
+  pub cause : CauseOf request old new outcome
+  pub names : MayBind request new
   pub errors : PutsLine (line_of outcome.status) (old Errors) (new Errors)
-  pub complete : IsComplete plan old new outcome.status
+  pub complete : IsComplete request old new outcome.status

@@ -17,7 +17,7 @@ use Rattle.journal_file.specs.Format.{journal_bytes}
 use Rattle.net_world.specs.Input.{IsInput}
 use Rattle.net_length.specs.Length.{IsShort}
 use Rattle.actor_net.specs.declared.choice.Choice.{Choice}
-use Rattle.command_words.specs.Plan.{Asked, NetworkAsked}
+use Rattle.command_words.specs.Requests.{Asked, NetworkAsked}
 use Rattle.opennf_calls.specs.declared.status.Status.{Status}
 use Rattle.opennf_calls.specs.declared.status.Status.TheVariants.{BadScript, BadTrace, NoMemory, NotARun, ReadFault}
 use Rattle.opennf_calls.specs.declared.outcome.Outcome.{Outcome}
@@ -169,7 +169,7 @@ pub record Performs (asked : Asked) (old new : Role → Meaning) (outcome : Outc
   pub errors : new Errors ≡ old Errors
 
 -- the words were read, files were bound, and the command ended: the standard error is as before
-pub record HasEnded (plan : Option Asked) (old new : Role → Meaning) (outcome : Outcome) : Type 0 where
-  pub cause : CauseOf plan old new outcome
-  pub names : MayBind plan new
+pub record HasEnded (request : Option Asked) (old new : Role → Meaning) (outcome : Outcome) : Type 0 where
+  pub cause : CauseOf request old new outcome
+  pub names : MayBind request new
   pub errors : new Errors ≡ old Errors

@@ -1,7 +1,7 @@
 -- What is made is what the command gives for its inputs, or the status has its row.
 use Rattle.std.proofs.Common.{Ok, Err}
 use Rattle.std.proofs.lemmas.Result.{err_from_is_err_and}
-use Rattle.command_words.specs.Plan.{asks_audit}
+use Rattle.command_words.specs.Requests.{asks_audit}
 use Rattle.command_words.specs.RequestViews.{network_view}
 use Rattle.opennf_calls.specs.Phases.{given_by}
 use Rattle.opennf_calls.proofs.AuditRows.{counted, journal_row, told_row}
