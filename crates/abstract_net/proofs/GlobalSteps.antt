@@ -5,7 +5,7 @@ use Rattle.std.specs.Prelude.{if◌then◌else◌, ◌&&◌, ◌==◌, option_to
 use Rattle.std.specs.Option.{option_map_or}
 use Rattle.std.proofs.lemmas.Bool.Decides.{Decides-eqb}
 use Rattle.unit_machine.proofs.Real.{Chunks, record_at, sent_for}
-use Rattle.unit_machine.proofs.Fits.{first}
+use Rattle.unit_machine.proofs.UnitPieces.{first}
 use Rattle.unit_machine.proofs.Cuts.{record_first}
 use Rattle.unit_machine.proofs.Labels.{Each}
 use Rattle.flow_filter.specs.declared.filter.Filter.{Filter}

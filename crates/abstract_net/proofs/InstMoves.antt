@@ -2,7 +2,7 @@
 use Rattle.std.proofs.Common.{◌≡◌, ℕ, Bool, true, false, Option, Some, None, List, [], ◌∷◌, map, length, refl, sym, ap, ◌∙◌, subst}
 use Rattle.std.specs.Prelude.{if◌then◌else◌, ◌&&◌, ◌==◌}
 use Rattle.unit_machine.proofs.Machine.{Where, At_a, At_b, joined, Rule, Part, Inst, Did, sends as did_sends, Item, Enable, Enabled, Stream, Delete, Deleted, Put, Restore, Restored, Event, Piece, Put_ok, Put_no, Fenced, Forward, Fence_to, Install, Stray}
-use Rattle.unit_machine.proofs.Fits.{Fits}
+use Rattle.unit_machine.proofs.UnitPieces.{ArePiecesOf}
 use Rattle.unit_machine.proofs.Real as Real
 use Rattle.unit_machine.proofs.Real.{Chunks, record_at, RPiece, M_enable, M_stream, M_delete, M_put, M_restore, M_enabled, M_event, M_piece, M_deleted, M_put_ok, M_put_no, M_restored, M_fenced, M_forward, M_install, M_fence_to, Frame, where_true, see, sends_to, add, view, only_mine, sent_for}
 use Rattle.unit_machine.proofs.Labels.{Each, Without, cut_foreign}
@@ -33,7 +33,7 @@ module _ {R : Type 0} (S : Sys R) (laws : IsSys S) (z : Seeing) (num : (z.op.num
   -- with the flags that the unit can't see
   pub data Moves_inst (did : I_did S) (o : Option (Item R)) : Type 0 where
     Any : ((parts : List (Part R)) (refuse : Option Answer) → Goes did (do_it parts refuse o)) → Moves_inst did o
-    Streams_out : (parts : List (Part R)) → Fits parts x.live → o ≡ Some Stream → ((refuse : Option Answer) → Goes did (do_it parts refuse o)) → Moves_inst did o
+    Streams_out : (parts : List (Part R)) → ArePiecesOf parts x.live → o ≡ Some Stream → ((refuse : Option Answer) → Goes did (do_it parts refuse o)) → Moves_inst did o
     Puts_in : (refuse : Option Answer) (h : Part R) (first : Bool) → o ≡ Some (Put h first) → ((parts : List (Part R)) → Goes did (do_it parts refuse o)) → Moves_inst did o
 
   Sent : List (ℕ × Msg R) → Type 0

@@ -4,7 +4,7 @@ use Rattle.std.specs.Prelude.{if◌then◌else◌, ◌&&◌, ◌==◌}
 use Rattle.std.proofs.lemmas.Bool.Decides.{nat_tests, Decides-eqb}
 use Rattle.unit_machine.proofs.Machine.{Where, At_a, At_b, At_c, Part, Inst, Did, sends as did_sends, inst_does, Item, Stream, Put, State, MachineStep, Take_sa, Take_sb, Take_sc, Take_ca, Take_cb, moved, put_a, put_b, put_c}
 use Rattle.unit_machine.proofs.Lists.{firsts, firsts-append}
-use Rattle.unit_machine.proofs.Fits.{Fits}
+use Rattle.unit_machine.proofs.UnitPieces.{ArePiecesOf}
 use Rattle.unit_machine.proofs.Stages.{shape, Order, Allowed, arrived_by}
 use Rattle.unit_machine.proofs.Real.{add, sent_for}
 use Rattle.unit_machine.proofs.Cuts.{some_parts}
@@ -222,12 +222,12 @@ module _ {R : Type 0} (S : Sys R) (laws : IsSys S) (z : Seeing) where
           let t = third_tests.0 in let u = third_tests.1 in let q = third_tests.2 in
           moves_on (inst_next S w p y m) s Take_sc x' (next_holds x' d g (views_on x' (pair 0 z.third x' p0 yc (c_from_s z.op.src z.op.dst z.third h.nodes x it v (sent S z y did.sends) d.to_c e (at_1 d g) (at_else d g)))) (rw (yc, t, u, q) refl) (λ k off. let out : (k == z.third) ≡ false = grind (arith, nat_tests) in rw out refl) refl refl refl refl refl) (taken_sc x e) tt
 
-      ca_goes : (parts : List (Part R)) → y ≡ z.op.src → p ≡ 1 → x.ca ≡ it ∷ v → Fits parts x.a.live → Inst_goes S laws z num did (inst_does S.F At_a parts None x.a it) → Goes_to (inst_next S w p y m) s []
+      ca_goes : (parts : List (Part R)) → y ≡ z.op.src → p ≡ 1 → x.ca ≡ it ∷ v → ArePiecesOf parts x.a.live → Inst_goes S laws z num did (inst_does S.F At_a parts None x.a it) → Goes_to (inst_next S w p y m) s []
       ca_goes parts ya p1 e fits g =
           let d = inst_does S.F At_a parts None x.a it in
           let x' = put_a (record x { ca = v }) d in
           let same = h.apart.src in
-          moves_on (inst_next S w p y m) s (Take_ca parts) x' (next_holds x' d g (views_on x' (pair 1 z.op.src x' p1 ya (a_from_c z.op.src z.op.dst z.third h.nodes x it v (sent S z y did.sends) d.to_c e (at_1 d g) (at_else d g)))) (rw (ya, same) refl) (λ k off. let out : (k == z.op.src) ≡ false = grind (arith, nat_tests) in rw out refl) refl refl refl refl refl) (taken_ca x parts e) (subst (λ o. Fits parts o) (seat_allowed S.F s) fits)
+          moves_on (inst_next S w p y m) s (Take_ca parts) x' (next_holds x' d g (views_on x' (pair 1 z.op.src x' p1 ya (a_from_c z.op.src z.op.dst z.third h.nodes x it v (sent S z y did.sends) d.to_c e (at_1 d g) (at_else d g)))) (rw (ya, same) refl) (λ k off. let out : (k == z.op.src) ≡ false = grind (arith, nat_tests) in rw out refl) refl refl refl refl refl) (taken_ca x parts e) (subst (λ o. ArePiecesOf parts o) (seat_allowed S.F s) fits)
 
       by_ca : y ≡ z.op.src → p ≡ 1 → x.ca ≡ it ∷ v → Goes_to (inst_next S w p y m) s []
       by_ca ya p1 e = by_kind (step_at At_a x.a n m label)

@@ -3,7 +3,7 @@
 use Rattle.std.proofs.Common.{◌≡◌, ℕ, Bool, true, false, Option, Some, None, List, [], ◌∷◌, ◌++◌, refl, sym, ap, ◌∙◌, subst, append-nil}
 use Rattle.unit_machine.proofs.Machine.{Ran, Steps, runs, after, State}
 use Rattle.unit_machine.proofs.Lists.{firsts, firsts-append}
-use Rattle.unit_machine.proofs.Fits.{nil_left}
+use Rattle.unit_machine.proofs.UnitPieces.{nil_left}
 use Rattle.unit_machine.proofs.Stages.{times, Same, Order, shape, path}
 use Rattle.unit_machine.proofs.Ends.{same_of}
 use Rattle.unit_machine.proofs.Kept.{Kept, lives, on_way}

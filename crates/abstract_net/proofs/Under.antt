@@ -6,7 +6,7 @@ use Rattle.std.proofs.lemmas.Bool.Decides.{nat_tests, Decides-eqb}
 use Rattle.unit_machine.proofs.Real.{M_install, M_fence_to, M_forward, where_true, add, sent_for}
 use Rattle.unit_machine.proofs.Labels.{Each}
 use Rattle.share_machine.proofs.Share.{Item.Carry, Frame, ShareMachineStep.Arrive, has, if_mine, moved}
-use Rattle.share_machine.proofs.Stages.{Stage, Stage.Diverting, Stage.Fence_goes, Stage.Fenced_comes, Stage.Get_goes, Stage.Chunks_come, Stage.Spreads, Stage.Resting, Stage.Forwards, Stage.Carries, Stage.Chunk_comes, front, processed, early, late, shape, IsFront, IsShare, Fits}
+use Rattle.share_machine.proofs.Stages.{Stage, Stage.Diverting, Stage.Fence_goes, Stage.Fenced_comes, Stage.Get_goes, Stage.Chunks_come, Stage.Spreads, Stage.Resting, Stage.Forwards, Stage.Carries, Stage.Chunk_comes, front, processed, early, late, shape, IsFront, IsShare, FitsFrame}
 use Rattle.share_machine.proofs.Steps.{goes_on}
 use Rattle.share_machine.proofs.Heads.{to_members, meets_sw, meets_to}
 use Rattle.share_machine.proofs.Places.{Grows, placed}
@@ -39,7 +39,7 @@ module _ {R : Type 0} (S : Sys R) (A : Sharing S) (z : Seeing_share) where
     pub insts : (k : ℕ) → has z.members k ≡ true → 2 ≤ k
     pub covered : S.takes z.filter z.unit ≡ true
     pub stage : Stage R
-    pub fits : Fits (share_frame S A z) stage
+    pub fits : FitsFrame (share_frame S A z) stage
     pub holds : Share_holds S A z w (shape (share_frame S A z) stage)
     pub labels : (i j : ℕ) → (i == 0) && (j == 0) ≡ false → Each (Nothing_of S z.unit i) (olds (w.link i j))
     pub rules : (k : ℕ) → Each (Rest_rule S z.unit) (w.inst k).rules
@@ -55,9 +55,9 @@ module _ {R : Type 0} (S : Sys R) (A : Sharing S) (z : Seeing_share) where
     pub placed : Grows (share_frame S A z) (processed (share_frame S A z) s) (processed (share_frame S A z) under.stage)
 
   -- what a step leaves of the stage
-  record Next (s : Stage R) (w : Whole S A) (before since : List ℕ) : Type 0 where
+  record NextStage (s : Stage R) (w : Whole S A) (before since : List ℕ) : Type 0 where
     stage : Stage R
-    fits : Fits f stage
+    fits : FitsFrame f stage
     holds : Share_holds S A z w (shape f stage)
     before_is : early stage ≡ early s ++ before
     since_is : late f stage ≡ late f s ++ since
@@ -68,7 +68,7 @@ module _ {R : Type 0} (S : Sys R) (A : Sharing S) (z : Seeing_share) where
   if_none true = refl
   if_none false = refl
 
-  stays : (s : Stage R) → Fits f s → (w : Whole S A) → Share_holds S A z w (shape f s) → (before since : List ℕ) → before ≡ [] → since ≡ [] → Next s w before since
+  stays : (s : Stage R) → FitsFrame f s → (w : Whole S A) → Share_holds S A z w (shape f s) → (before since : List ℕ) → before ≡ [] → since ≡ [] → NextStage s w before since
   stays s h w holds before since b e = record {
     stage = s;
     fits = h;
@@ -79,7 +79,7 @@ module _ {R : Type 0} (S : Sys R) (A : Sharing S) (z : Seeing_share) where
     placed = record { by = []; is = sym (append-nil (processed f s)); places = tt };
   }
 
-  next : IsShare f → (s : Stage R) → Fits f s → (w : Whole S A) → Goes S A z w (shape f s) → Next s w [] []
+  next : IsShare f → (s : Stage R) → FitsFrame f s → (w : Whole S A) → Goes S A z w (shape f s) → NextStage s w [] []
   next is s h w (Nothing holds) = stays s h w holds [] [] refl refl
   next is s h w (Moves mv quiet holds) =
       let on = goes_on f is s h mv in
@@ -101,7 +101,7 @@ module _ {R : Type 0} (S : Sys R) (A : Sharing S) (z : Seeing_share) where
     pub ops : Each (Rest_op S z.unit) w.ops
     pub away : (k : ℕ) → (k == z.home) ≡ false → S.B.at z.unit (w.inst k).live ≡ None
 
-  leads_to : (s : Stage R) (w' : Whole S A) (early_ps late_ps before since : List ℕ) → IsShare f → ((k : ℕ) → has z.members k ≡ true → 2 ≤ k) → S.takes z.filter z.unit ≡ true → Next s w' early_ps late_ps → Keeps w' → before ≡ early s ++ early_ps → since ≡ late f s ++ late_ps → Goes_on s w' before since
+  leads_to : (s : Stage R) (w' : Whole S A) (early_ps late_ps before since : List ℕ) → IsShare f → ((k : ℕ) → has z.members k ≡ true → 2 ≤ k) → S.takes z.filter z.unit ≡ true → NextStage s w' early_ps late_ps → Keeps w' → before ≡ early s ++ early_ps → since ≡ late f s ++ late_ps → Goes_on s w' before since
   leads_to s w' early_ps late_ps before since is insts covered n k before_is since_is = record {
     under = record {
       is = is;
@@ -301,7 +301,7 @@ module _ {R : Type 0} (S : Sys R) (A : Sharing S) (z : Seeing_share) where
     abbrev its_late : Stage R → ℕ → List ℕ
     its_late s q = if (shape f s).diverts then if_mine f q else []
 
-    input_next : IsShare f → (s : Stage R) → Fits f s → (w : Whole S A) (q : ℕ) → Comes S A z w (shape f s) q → Next s w (its_early s q) (its_late s q)
+    input_next : IsShare f → (s : Stage R) → FitsFrame f s → (w : Whole S A) (q : ℕ) → Comes S A z w (shape f s) q → NextStage s w (its_early s q) (its_late s q)
     input_next is s h w q (Not_its other holds) = let b = (shape f s).diverts in stays s h w holds (its_early s q) (its_late s q) (ap (λ ps. if b then [] else ps) other ∙ if_none b) (ap (λ ps. if b then ps else []) other ∙ if_none b)
     input_next is s h w q (Arrives holds) = let on = goes_on f is s h (Arrive q) in record {
       stage = on.next;

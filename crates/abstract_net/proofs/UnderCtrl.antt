@@ -4,7 +4,7 @@ use Rattle.std.specs.Prelude.{if◌then◌else◌, ◌&&◌, ◌==◌}
 use Rattle.std.proofs.lemmas.Bool.Decides.{Decides-eqb}
 use Rattle.unit_machine.proofs.Real.{add, sent_for}
 use Rattle.share_machine.proofs.Share.{Item, Frame, View, ShareMachineStep.Take_sc, ShareMachineStep.Take_back, has, joined, waits, share_does, from_sc, from_back}
-use Rattle.share_machine.proofs.Stages.{Stage, IsShare, Fits, shape}
+use Rattle.share_machine.proofs.Stages.{Stage, IsShare, FitsFrame, shape}
 use Rattle.share_machine.proofs.Heads.{to_members}
 use Rattle.abstract_net.proofs.Net.{Sys}
 use Rattle.abstract_net.proofs.Links.{items-append}
@@ -21,7 +21,7 @@ module _ {R : Type 0} (S : Sys R) (A : Sharing S) (z : Seeing_share) where
   abbrev f : Frame R
   f = share_frame S A z
 
-  module _ (is : IsShare f) (insts : (k : ℕ) → has z.members k ≡ true → 2 ≤ k) (w : Whole S A) (g : Global_all S A w) (covered : S.takes z.filter z.unit ≡ true) (s : Stage R) (fits : Fits f s) (h : Share_holds S A z w (shape f s)) (p : ℕ) (m : Any R) (rest : List (Any R)) (waits_at : w.link p 1 ≡ m ∷ rest) where
+  module _ (is : IsShare f) (insts : (k : ℕ) → has z.members k ≡ true → 2 ≤ k) (w : Whole S A) (g : Global_all S A w) (covered : S.takes z.filter z.unit ≡ true) (s : Stage R) (fits : FitsFrame f s) (h : Share_holds S A z w (shape f s)) (p : ℕ) (m : Any R) (rest : List (Any R)) (waits_at : w.link p 1 ≡ m ∷ rest) where
     abbrev x : View R
     x = shape f s
 

@@ -4,7 +4,7 @@ use Rattle.std.specs.Prelude.{if◌then◌else◌, ◌&&◌, ◌==◌, option_to
 use Rattle.std.specs.Option.{option_map_or}
 use Rattle.std.proofs.lemmas.Bool.Decides.{Decides-eqb}
 use Rattle.unit_machine.proofs.Labels.{Each}
-use Rattle.unit_machine.proofs.Fits.{first}
+use Rattle.unit_machine.proofs.UnitPieces.{first}
 use Rattle.unit_machine.proofs.Cuts.{record_first}
 use Rattle.share_machine.proofs.Share.{over}
 use Rattle.abstract_net.proofs.Net.{Msg, Sys, IsSys, Inst_n, process, inst_step, at_node, put}

@@ -23,6 +23,53 @@ use std::mem;
 use std::sync::Wait;
 use std::thread::Threads;
 
+/// Rounds of a world until it is complete. The choices are those of all rounds.
+pub fn run_threads<R: Threads + Wait + Sync, A: Actor + Send, G: Gate>(
+    rt: &R,
+    alloc: Global,
+    world: World<A>,
+    gate: &G,
+) -> Result<(World<A>, Choices), NoMemory>
+where
+    A::Message: Send,
+    A::Note: Send,
+    ensures run { IfOk result (λ r. IsRun A.is_ready A.stepped r.1 world × (r.0 ≡ run A.stepped r.1 world)) }
+    ensures complete { IfOk result (λ r. is_done A.has_ended r.0 ≡ true) }
+{
+    let mut world = world;
+    let mut choices = Choices::open(alloc);
+    for _ in rt.forever() {
+        if world.complete() {
+            return Ok((world, choices));
+        }
+        let (next, more) = run_round(rt, alloc, world, gate)?;
+        choices = join(choices, more)?;
+        world = next;
+    }
+    unreachable!()
+}
+
+/// One round of a world: its workers run until each of them found nothing to do for a while. The choices are those that
+/// they made, and the world is the replay of these.
+pub fn run_round<R: Threads + Wait + Sync, A: Actor + Send, G: Gate>(
+    rt: &R,
+    alloc: Global,
+    world: World<A>,
+    gate: &G,
+) -> Result<(World<A>, Choices), NoMemory>
+where
+    A::Message: Send,
+    A::Note: Send,
+    ensures run { IfOk result (λ r. IsRun A.is_ready A.stepped r.1 world × (r.0 ≡ run A.stepped r.1 world)) }
+    ensures moves { IfOk result (λ r. (r.1 ≡ []) ↔ ((c : Choice) → is_enabled A.is_ready world c ≡ false)) }
+{
+    let (members, log) = members_of(alloc, world)?;
+    let after = run_all(rt, gate, members)?;
+    let round_parts = take_apart(alloc, after)?;
+    let (left, choices) = gather(rt, alloc, round_parts, log)?;
+    Ok((left, choices))
+}
+
 /// The workers of all nodes, none of which has done a step.
 pub(crate) fn members_of<A: Actor>(
     alloc: Global,
@@ -118,6 +165,25 @@ fn place(count: usize, from: usize, to: usize) -> usize
     from * count + to
 }
 
+fn take_apart<A: Actor>(alloc: Global, members: Vec<Member<A>>) -> Result<RoundParts<A>, NoMemory>
+    ensures done { OnOk result (list_all has_run members.items ≡ true) }
+    ensures nodes { IfOk result (λ f. f.nodes.items ≡ map (λ s. s.worker.node) members.items) }
+    ensures histories { IfOk result (λ f. f.histories.items ≡ map (λ s. record { node = s.worker.number; steps = s.worker.steps }) members.items) }
+    ensures notes { IfOk result (λ f. f.notes.items ≡ map (λ s. s.worker.notes) members.items) }
+    ensures ins { IfOk result (λ f. map (λ v. v.items) f.ins.items ≡ map (λ s. s.worker.ins) members.items) }
+    ensures outs { IfOk result (λ f. map (λ v. v.items) f.outs.items ≡ map (λ s. s.worker.outs) members.items) }
+{
+    let mut round_parts = RoundParts::open(alloc, members.len())?;
+    let mut members = VecDeque::from_vec(members);
+    while let Some(member) = members.pop_front() {
+        if !member.has_run() {
+            return Err(AllocError);
+        }
+        round_parts.add(member.worker)?;
+    }
+    Ok(round_parts)
+}
+
 /// What the workers left.
 #[derive(Drop)]
 struct RoundParts<A: Actor> {
@@ -161,23 +227,35 @@ impl<A: Actor> RoundParts<A> {
     }
 }
 
-fn take_apart<A: Actor>(alloc: Global, members: Vec<Member<A>>) -> Result<RoundParts<A>, NoMemory>
-    ensures done { OnOk result (list_all has_run members.items ≡ true) }
-    ensures nodes { IfOk result (λ f. f.nodes.items ≡ map (λ s. s.worker.node) members.items) }
-    ensures histories { IfOk result (λ f. f.histories.items ≡ map (λ s. record { node = s.worker.number; steps = s.worker.steps }) members.items) }
-    ensures notes { IfOk result (λ f. f.notes.items ≡ map (λ s. s.worker.notes) members.items) }
-    ensures ins { IfOk result (λ f. map (λ v. v.items) f.ins.items ≡ map (λ s. s.worker.ins) members.items) }
-    ensures outs { IfOk result (λ f. map (λ v. v.items) f.outs.items ≡ map (λ s. s.worker.outs) members.items) }
+/// The world that the workers left, and the choices that they made.
+fn gather<R: Wait, A: Actor>(
+    rt: &R,
+    alloc: Global,
+    round_parts: RoundParts<A>,
+    mut log: Vec<A::Note>,
+) -> Result<(World<A>, Choices), NoMemory>
+    requires some { (0 < length round_parts.nodes.items) × (length round_parts.nodes.items < 256) }
+    requires close { CanCloseAll (length round_parts.nodes.items) (map (λ v. v.items) round_parts.ins.items) (map (λ v. v.items) round_parts.outs.items) }
+    ensures { IfOk result (λ r. Gathered round_parts.nodes.items round_parts.histories.items round_parts.notes.items (map (λ v. v.items) round_parts.ins.items) (map (λ v. v.items) round_parts.outs.items) log.items r.0 r.1) }
 {
-    let mut round_parts = RoundParts::open(alloc, members.len())?;
-    let mut members = VecDeque::from_vec(members);
-    while let Some(member) = members.pop_front() {
-        if !member.has_run() {
-            return Err(AllocError);
-        }
-        round_parts.add(member.worker)?;
-    }
-    Ok(round_parts)
+    let RoundParts {
+        nodes,
+        histories,
+        mut notes,
+        ins,
+        outs,
+    } = round_parts;
+    let mut links = close_all(rt, alloc, ins, outs)?;
+    let choices = merge(alloc, histories.as_slice())?;
+    deal_all(choices.items(), &mut notes, &mut log)?;
+    let input = mem::replace(&mut links[0], Sequence::open(alloc));
+    let parts = Parts {
+        nodes: Sequence::from_vec(nodes),
+        links: Sequence::from_vec(links),
+        input,
+        log: Sequence::from_vec(log),
+    };
+    Ok((World::from_parts(alloc, parts)?, choices))
 }
 
 /// Closes all links. The list of the link from s to r stands at place s * n + r.
@@ -229,84 +307,6 @@ fn deal_one<N: Drop>(
     }
     notes[node].deal(log)?;
     Ok(())
-}
-
-/// The world that the workers left, and the choices that they made.
-fn gather<R: Wait, A: Actor>(
-    rt: &R,
-    alloc: Global,
-    round_parts: RoundParts<A>,
-    mut log: Vec<A::Note>,
-) -> Result<(World<A>, Choices), NoMemory>
-    requires some { (0 < length round_parts.nodes.items) × (length round_parts.nodes.items < 256) }
-    requires close { CanCloseAll (length round_parts.nodes.items) (map (λ v. v.items) round_parts.ins.items) (map (λ v. v.items) round_parts.outs.items) }
-    ensures { IfOk result (λ r. Gathered round_parts.nodes.items round_parts.histories.items round_parts.notes.items (map (λ v. v.items) round_parts.ins.items) (map (λ v. v.items) round_parts.outs.items) log.items r.0 r.1) }
-{
-    let RoundParts {
-        nodes,
-        histories,
-        mut notes,
-        ins,
-        outs,
-    } = round_parts;
-    let mut links = close_all(rt, alloc, ins, outs)?;
-    let choices = merge(alloc, histories.as_slice())?;
-    deal_all(choices.items(), &mut notes, &mut log)?;
-    let input = mem::replace(&mut links[0], Sequence::open(alloc));
-    let parts = Parts {
-        nodes: Sequence::from_vec(nodes),
-        links: Sequence::from_vec(links),
-        input,
-        log: Sequence::from_vec(log),
-    };
-    Ok((World::from_parts(alloc, parts)?, choices))
-}
-
-/// One round of a world: its workers run until each of them found nothing to do for a while. The choices are those that
-/// they made, and the world is the replay of these.
-pub fn run_round<R: Threads + Wait + Sync, A: Actor + Send, G: Gate>(
-    rt: &R,
-    alloc: Global,
-    world: World<A>,
-    gate: &G,
-) -> Result<(World<A>, Choices), NoMemory>
-where
-    A::Message: Send,
-    A::Note: Send,
-    ensures run { IfOk result (λ r. IsRun A.is_ready A.stepped r.1 world × (r.0 ≡ run A.stepped r.1 world)) }
-    ensures moves { IfOk result (λ r. (r.1 ≡ []) ↔ ((c : Choice) → is_enabled A.is_ready world c ≡ false)) }
-{
-    let (members, log) = members_of(alloc, world)?;
-    let after = run_all(rt, gate, members)?;
-    let round_parts = take_apart(alloc, after)?;
-    let (left, choices) = gather(rt, alloc, round_parts, log)?;
-    Ok((left, choices))
-}
-
-/// Rounds of a world until it is complete. The choices are those of all rounds.
-pub fn run_threads<R: Threads + Wait + Sync, A: Actor + Send, G: Gate>(
-    rt: &R,
-    alloc: Global,
-    world: World<A>,
-    gate: &G,
-) -> Result<(World<A>, Choices), NoMemory>
-where
-    A::Message: Send,
-    A::Note: Send,
-    ensures run { IfOk result (λ r. IsRun A.is_ready A.stepped r.1 world × (r.0 ≡ run A.stepped r.1 world)) }
-    ensures complete { IfOk result (λ r. is_done A.has_ended r.0 ≡ true) }
-{
-    let mut world = world;
-    let mut choices = Choices::open(alloc);
-    for _ in rt.forever() {
-        if world.complete() {
-            return Ok((world, choices));
-        }
-        let (next, more) = run_round(rt, alloc, world, gate)?;
-        choices = join(choices, more)?;
-        world = next;
-    }
-    unreachable!()
 }
 
 /// Choices, and behind them more.

@@ -1,4 +1,4 @@
 pub mod Grammar
-pub mod Plan
+pub mod Requests
 pub mod Views
 pub mod RequestViews

@@ -8,7 +8,7 @@ use Rattle.command_words.specs.declared.request.Checking.{Checking}
 use Rattle.command_words.specs.declared.request.Generating.{Generating}
 use Rattle.command_words.specs.declared.request.Request.{Request}
 use Rattle.command_words.specs.declared.request.Request.TheVariants.{Sim, Run, Audit, Check, Gen}
-use Rattle.command_words.specs.Plan.{Instance, Instances, NetworkAsked, CheckAsked, GenAsked, Asked, asks_sim, asks_run, asks_audit, asks_check, asks_gen}
+use Rattle.command_words.specs.Requests.{Instance, Instances, NetworkAsked, CheckAsked, GenAsked, Asked, asks_sim, asks_run, asks_audit, asks_check, asks_gen}
 
 abbrev pub instance_view : one.Instance → Instance
 instance_view i = record { name = i.name; limit = i.limit; marked = i.marked }

@@ -1,7 +1,7 @@
 //! The words of the program's command line: which command they ask for, and with which values.
 //!
 //! Contracts see a [`Request`] through `request_view` of `specs/RequestViews.antt`. The main promise is that of
-//! [`parse_command`]: it gives exactly what the definition `plan_of` reads, and answers [`ArgumentsFault::Usage`] exactly where
+//! [`parse_command`]: it gives exactly what the definition `request_of` reads, and answers [`ArgumentsFault::Usage`] exactly where
 //! that reads nothing, or that memory ran out. The crate touches nothing outside of memory.
 #![tactic(auto)]
 

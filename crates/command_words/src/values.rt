@@ -3,7 +3,7 @@ ghost use Rattle.std.specs.List.{slice_split};
 ghost use Rattle.flow_filter.specs.Prefixes.{in_prefix};
 ghost use Rattle.basics.specs.Parsing.{split_once, parse_number};
 ghost use Rattle.flow_filter.specs.Reading.{prefix_numbers};
-ghost use Rattle.command_words.specs.Plan.{function_of, limit_of, suffix_of, with_suffix, instance_of, all_instances, instances_of, inside_of, outside_of, window_of, count_of, given_number, schedule_of, file_of, file_if, translated_bits};
+ghost use Rattle.command_words.specs.Requests.{function_of, limit_of, suffix_of, with_suffix, instance_of, all_instances, instances_of, inside_of, outside_of, window_of, count_of, given_number, schedule_of, file_of, file_if, translated_bits};
 ghost use Rattle.command_words.specs.RequestViews.{instance_view, instances_view};
 ghost use Rattle.basics.specs.Bytes.{comma};
 
@@ -40,7 +40,7 @@ struct Instance {
 }
 
 /// The function with this name.
-#[tactic(auto, unfolding(crate::specs::Plan::function_of))]
+#[tactic(auto, unfolding(crate::specs::Requests::function_of))]
 pub fn function_of(text: Option<&str>) -> Option<Kind>
     ensures { result ≡ option_and_then function_of (option_map (λ t. t.now) text.entry) }
 {
@@ -53,7 +53,7 @@ pub fn function_of(text: Option<&str>) -> Option<Kind>
 }
 
 /// The instances of a list, where there are at most 16 and their names differ.
-#[tactic(auto, unfolding(crate::specs::Plan::instances_of))]
+#[tactic(auto, unfolding(crate::specs::Requests::instances_of))]
 pub fn instances_of(alloc: Global, list: Option<&str>) -> Result<Option<Instances>, NoMemory>
     ensures { IfOk result (λ found. option_map instances_view found ≡ option_and_then instances_of (option_map (λ t. t.now) list.entry)) }
 {
@@ -96,7 +96,7 @@ fn all_instances(alloc: Global, list: &[u8]) -> Result<Option<Instances>, NoMemo
 }
 
 /// The instance that the text spells as `NAME`, `NAME:LIMIT`, `NAME:v1` or `NAME:LIMIT:v1`.
-#[tactic(auto, unfolding(crate::specs::Plan::instance_of))]
+#[tactic(auto, unfolding(crate::specs::Requests::instance_of))]
 fn instance_of(alloc: Global, text: &[u8]) -> Result<Option<Instance>, NoMemory>
     ensures { IfOk result (λ found. option_map instance_view found ≡ instance_of text.now) }
 {
@@ -128,7 +128,7 @@ fn named(
 }
 
 /// The limit that the text after a name and a colon spells, and whether it marks the instance.
-#[tactic(auto, unfolding(crate::specs::Plan::suffix_of))]
+#[tactic(auto, unfolding(crate::specs::Requests::suffix_of))]
 fn suffix_of(text: &[u8]) -> Option<(u32, bool)>
     ensures { result ≡ suffix_of text.now }
 {
@@ -151,7 +151,7 @@ fn limit_of(text: &[u8]) -> Option<u32>
 }
 
 /// The prefix that the text spells as `A.B.C.D/L`.
-#[tactic(auto, unfolding(crate::specs::Plan::inside_of))]
+#[tactic(auto, unfolding(crate::specs::Requests::inside_of))]
 pub fn inside_of(text: Option<&str>) -> Option<Prefix>
     ensures { option_map prefix_numbers result ≡ option_and_then inside_of (option_map (λ t. t.now) text.entry) }
 {
@@ -192,7 +192,7 @@ fn translating(inside: Prefix, outside: u32) -> Option<Site>
 }
 
 /// The window, or 256 where none is named.
-#[tactic(auto, unfolding(crate::specs::Plan::window_of))]
+#[tactic(auto, unfolding(crate::specs::Requests::window_of))]
 pub fn window_of(text: Option<&str>) -> Option<u32>
     ensures { result ≡ window_of (option_map (λ t. t.now) text.entry) }
 {
@@ -203,7 +203,7 @@ pub fn window_of(text: Option<&str>) -> Option<u32>
 }
 
 /// A number from 1 to `most`, which must be given.
-#[tactic(auto, unfolding(crate::specs::Plan::count_of))]
+#[tactic(auto, unfolding(crate::specs::Requests::count_of))]
 pub fn count_of(text: Option<&str>, most: u32) -> Option<u32>
     ensures value { result ≡ option_and_then (count_of most) (option_map (λ t. t.now) text.entry) }
     ensures range { IfSome result (λ count. (1 ≤ count) × (count ≤ most)) }
@@ -220,7 +220,7 @@ pub fn given_number(text: Option<&str>) -> Option<u64>
 }
 
 /// The schedule, or `first` where none is named.
-#[tactic(auto, unfolding(crate::specs::Plan::schedule_of))]
+#[tactic(auto, unfolding(crate::specs::Requests::schedule_of))]
 pub fn schedule_of(text: Option<&str>) -> Option<Schedule>
     ensures { result ≡ schedule_of (option_map (λ t. t.now) text.entry) }
 {
@@ -231,7 +231,7 @@ pub fn schedule_of(text: Option<&str>) -> Option<Schedule>
 }
 
 /// `first`, `last` or a number.
-#[tactic(auto, unfolding(crate::specs::Plan::schedule_of))]
+#[tactic(auto, unfolding(crate::specs::Requests::schedule_of))]
 fn named_schedule(text: &str) -> Option<Schedule>
     ensures { result ≡ schedule_of (Some text.now) }
 {

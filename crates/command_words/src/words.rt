@@ -1,5 +1,5 @@
 ghost use Rattle.std.specs.Prelude.{◌≡◌, map, option_map, string_bytes};
-ghost use Rattle.command_words.specs.Plan.{plan_of, asked_of, sim_of, run_of, audit_of, check_of, gen_of, network_values, check_values, gen_values};
+ghost use Rattle.command_words.specs.Requests.{request_of, asked_of, sim_of, run_of, audit_of, check_of, gen_of, network_values, check_values, gen_values};
 ghost use Rattle.command_words.specs.Views.{Reads, given_view};
 ghost use Rattle.command_words.specs.RequestViews.{request_view, network_view, check_view, gen_view};
 
@@ -13,9 +13,9 @@ use crate::values::{
 use std::alloc::Global;
 
 /// What the words ask for: the program's name, a command, and the words of the command.
-#[tactic(auto, unfolding(crate::specs::Plan::plan_of))]
+#[tactic(auto, unfolding(crate::specs::Requests::request_of))]
 pub fn parse_command<'a>(alloc: Global, words: &'a [String]) -> Result<Request<'a>, ArgumentsFault>
-    ensures { Reads request_view result (plan_of (map string_bytes words.entry.now)) }
+    ensures { Reads request_view result (request_of (map string_bytes words.entry.now)) }
 {
     match words {
         [_, command, words @ ..] => ask(alloc, command.as_str(), words),
@@ -24,7 +24,7 @@ pub fn parse_command<'a>(alloc: Global, words: &'a [String]) -> Result<Request<'
 }
 
 /// What a command asks for with the words after it.
-#[tactic(auto, unfolding(crate::specs::Plan::asked_of))]
+#[tactic(auto, unfolding(crate::specs::Requests::asked_of))]
 fn ask<'a>(alloc: Global, command: &str, words: &'a [String]) -> Result<Request<'a>, ArgumentsFault>
     ensures { Reads request_view result (asked_of command.now (map string_bytes words.entry.now)) }
 {
@@ -92,7 +92,7 @@ fn ask_gen<'a>(alloc: Global, words: &'a [String]) -> Result<Request<'a>, Argume
 }
 
 /// The values that `sim`, `run` and `audit` share, where each is in its grammar.
-#[tactic(auto, unfolding(crate::specs::Plan::network_values))]
+#[tactic(auto, unfolding(crate::specs::Requests::network_values))]
 fn network_values<'a>(
     alloc: Global,
     given: &GivenWords<'a>,
@@ -136,7 +136,7 @@ fn network_values<'a>(
 }
 
 /// The values of `check`, where each is in its grammar.
-#[tactic(auto, unfolding(crate::specs::Plan::check_values))]
+#[tactic(auto, unfolding(crate::specs::Requests::check_values))]
 fn check_values<'a>(alloc: Global, given: &GivenWords<'a>) -> Result<Checking<'a>, ArgumentsFault>
     ensures { Reads check_view result (check_values (given_view given.now)) }
 {
@@ -157,7 +157,7 @@ fn check_values<'a>(alloc: Global, given: &GivenWords<'a>) -> Result<Checking<'a
 }
 
 /// The values of `gen`, where each is in its grammar.
-#[tactic(auto, unfolding(crate::specs::Plan::gen_values))]
+#[tactic(auto, unfolding(crate::specs::Requests::gen_values))]
 fn gen_values<'a>(given: &GivenWords<'a>) -> Option<Generating<'a>>
     ensures { option_map gen_view result ≡ gen_values (given_view given.now) }
 {

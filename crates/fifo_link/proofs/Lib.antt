@@ -1,2 +1,2 @@
 pub mod TransferLemmas
-pub mod LinkRuleSteps
+pub mod KnowledgeSteps

@@ -1,8 +1,8 @@
 -- What is sent and taken in transfers put one after another.
 use Rattle.std.proofs.Common.{◌≡◌, List, [], ◌∷◌, ◌++◌, map, sym, ap, refl, ◌∙◌, append-nil, append_assoc}
 use Rattle.std.proofs.lemmas.List.{map-append}
-use Rattle.fifo_link.specs.declared.rule.Transfer.{Transfer}
-use Rattle.fifo_link.specs.declared.rule.Transfer.TheVariants.{Sent, Taken}
+use Rattle.fifo_link.specs.declared.knowledge.Transfer.{Transfer}
+use Rattle.fifo_link.specs.declared.knowledge.Transfer.TheVariants.{Sent, Taken}
 use Rattle.fifo_link.specs.Transfers.{sent_in, taken_in, SentSince, TakenSince}
 
 module _ {M : Type 0} where

@@ -1,7 +1,7 @@
 -- What contracts see of the two ends of a link, this project's own.
 use Rattle.std.specs.Prelude.{ℕ, List}
 use Rattle.atomic_table.specs.Seated.{TableId}
-use Rattle.fifo_link.specs.declared.rule.Transfer.{Transfer}
+use Rattle.fifo_link.specs.declared.knowledge.Transfer.{Transfer}
 
 -- an end of a link: which link it is of, how many messages that holds at most, what this end sent or took, and all that was done
 -- on the link, by both ends, up to this end's last message

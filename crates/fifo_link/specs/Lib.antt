@@ -1,4 +1,4 @@
 pub mod Transfers
 pub mod Ends
 pub mod Inside
-pub mod Rule
+pub mod Knowledge

@@ -1,7 +1,7 @@
 -- What was done on a link, this project's own: messages were sent on it and taken off it, in some order.
 use Rattle.std.specs.Prelude.{◌≡◌, ℕ, List, [], ◌∷◌, ◌++◌, length, map}
-use Rattle.fifo_link.specs.declared.rule.Transfer.{Transfer}
-use Rattle.fifo_link.specs.declared.rule.Transfer.TheVariants.{Sent, Taken}
+use Rattle.fifo_link.specs.declared.knowledge.Transfer.{Transfer}
+use Rattle.fifo_link.specs.declared.knowledge.Transfer.TheVariants.{Sent, Taken}
 
 module _ {M : Type 0} where
   -- the messages that were sent

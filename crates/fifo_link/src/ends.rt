@@ -3,14 +3,14 @@ ghost use Rattle.std.specs.Prelude.{◌≡◌, ◌<◌, ◌≤◌, true, [], ◌
 ghost use Rattle.fifo_link.specs.Transfers.{sent_in, taken_in, IsSent, IsTaken, WasFull, WasEmpty, AllDone};
 ghost use Rattle.crossbeam_queue.specs.Passes.{view, IsPassOf, ruled_capacity};
 
-use crate::rule::{Drains, InOrder, Knowledge, Roles, Sends, Takes};
+use crate::knowledge::{Drains, InOrder, Knowledge, Roles, Sends, Takes};
 use basics::NoMemory;
 use crossbeam_queue::{Pass, RuledArrayQueue};
 use std::alloc::{AllocError, Global};
 use std::marker::{Model, PhantomData};
 use std::sync::{Arc, Wait};
 
-/// The queue of a link, under the rule [`InOrder`].
+/// The queue of a link, under the protocol [`InOrder`].
 type Line<M> = RuledArrayQueue<M, Knowledge<M>, InOrder>;
 
 /// What a holder of the queue may do there.

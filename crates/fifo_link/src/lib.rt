@@ -5,12 +5,12 @@
 //! what the other end did before it. A message is refused only where the link was full at a moment since the last one that was
 //! sent, and none is given only where the link was empty right after the last one that was taken. That an end looks at the
 //! link again in each call isn't promised. [`close`] brings both ends together. There it is proved that nothing was lost,
-//! doubled or reordered on the way. The link is a bounded queue of `crossbeam_queue` under a rule of this crate. The crate
+//! doubled or reordered on the way. The link is a bounded queue of `crossbeam_queue` under a protocol of this crate. The crate
 //! touches nothing but memory, which two threads may share.
 #![tactic(auto)]
 
 mod ends;
-mod rule;
+mod knowledge;
 #[cfg(test)]
 mod tests;
 

@@ -11,6 +11,11 @@ use std::collections::VecDeque;
 /// The most chunks of a piece.
 pub const MOST_CHUNKS: usize = 64;
 
+/// The law of pieces: one after another they are all chunks, none has too many, and the last alone is marked so.
+pub fn pieces_are_whole()
+    ensures { PieceLaws }
+{}
+
 /// What all pieces of chunks say.
 #[derive(Clone, Copy, Debug, PartialEq, Eq)]
 pub struct WholePieces {
@@ -81,8 +86,3 @@ pub(crate) fn next_chunks(alloc: Global, left: &mut VecDeque<Chunk>) -> Result<C
     }
     Ok(chunks)
 }
-
-/// The law of pieces: one after another they are all chunks, none has too many, and the last alone is marked so.
-pub fn pieces_are_whole()
-    ensures { PieceLaws }
-{}

@@ -17,7 +17,7 @@ use Rattle.actor_net.proofs.EnabledChoices.{at}
 use Rattle.actor_net.proofs.WeightLaws as weights
 use Rattle.unit_machine.proofs.Labels.{Each}
 use Rattle.unit_machine.proofs.Lists.{firsts}
-use Rattle.unit_machine.proofs.Fits.{nil_right}
+use Rattle.unit_machine.proofs.UnitPieces.{nil_right}
 use Rattle.unit_machine.proofs.Stages as stages
 use Rattle.unit_machine.proofs.Ends.{same_of}
 use Rattle.abstract_net.proofs.Net.{IsSys}

@@ -24,7 +24,7 @@ use Rattle.actor_net.specs.Network.{Network, IsWorld, on_link}
 use Rattle.actor_net.proofs.WeightLaws.{Each as EachOn}
 use Rattle.unit_machine.proofs.Labels.{Each, each-append}
 use Rattle.unit_machine.proofs.Seats.{seat_shape}
-use Rattle.unit_machine.proofs.Given.{third_silent}
+use Rattle.unit_machine.proofs.ToRemove.{third_silent}
 use Rattle.abstract_net.proofs.Ctrl.{each_found}
 use Rattle.abstract_net.proofs.Holding.{Op_label}
 use Rattle.abstract_net.proofs.Net.{Open}

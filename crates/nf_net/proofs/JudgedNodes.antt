@@ -61,7 +61,7 @@ use Rattle.answer_net.proofs.BusyOperations.{IsBusy}
 use Rattle.answer_net.proofs.BusyRuns.{Busy, same_controller, open_began, plan_is}
 use Rattle.answer_net.proofs.InstallSteps.{is_moving}
 use Rattle.answer_net.proofs.CommandPromises.{run_busy}
-use Rattle.nf_net.proofs.GivenState.{IsOf, pieces_of, Gives, record_timed}
+use Rattle.nf_net.proofs.StreamedUnits.{IsOf, pieces_of, Gives, record_timed}
 use Rattle.nf_net.proofs.MovedRecords.{streamed_record, taken_give}
 use Rattle.whole_joined.proofs.Given.{Given}
 use Rattle.whole_joined.proofs.Joined.{Label, Joined, node_of}

@@ -6,7 +6,7 @@ pub mod EveryRun
 pub mod FoldLemmas
 pub mod FreshRecords
 pub mod FrontLemmas
-pub mod GivenState
+pub mod StreamedUnits
 pub mod InstalledShares
 pub mod JudgedController
 pub mod JudgedFacts

@@ -40,7 +40,7 @@ use Rattle.whole_joined.proofs.RunsJoined.{done_same}
 use Rattle.whole_joined.proofs.StartJoined.{given}
 use Rattle.path_net.proofs.RecordPromises.{record_is}
 use Rattle.nf_net.proofs.FoldLemmas.{fold_is}
-use Rattle.nf_net.proofs.GivenState.{Gives, selected_give}
+use Rattle.nf_net.proofs.StreamedUnits.{Gives, selected_give}
 
 module _ {R : Type 0} (S : Sys R) (laws : IsSys S) (u : units.Unit) where
   -- no share has a unit that is asked for

@@ -18,11 +18,11 @@ use Rattle.actor_net.specs.declared.choice.Choice.{Choice}
 use Rattle.actor_net.specs.Network.{Network, IsWorld, IsRun, on_link, run}
 use Rattle.actor_net.proofs.RunInduction.{run_world}
 use Rattle.unit_machine.proofs.Machine.{State, after, idle}
-use Rattle.unit_machine.proofs.Fits.{nil_left}
+use Rattle.unit_machine.proofs.UnitPieces.{nil_left}
 use Rattle.unit_machine.proofs.Lists.{firsts}
 use Rattle.unit_machine.proofs.Bare.{firsts_nil}
 use Rattle.unit_machine.proofs.Kept.{Kept, Nowhere, Is_live, On_way, Twice, lives, on_way}
-use Rattle.unit_machine.proofs.Given.{To_remove, Is_given, Is_named, still_to_remove, third_live, third_silent}
+use Rattle.unit_machine.proofs.ToRemove.{To_remove, Is_given, Is_named, still_to_remove, third_live, third_silent}
 use Rattle.unit_machine.proofs.Seats.{seat_shape, seat_path}
 use Rattle.unit_machine.proofs.SeatLaws.{seat_kept}
 use Rattle.abstract_net.proofs.Holding.{Seeing, node_at, place as side_place}

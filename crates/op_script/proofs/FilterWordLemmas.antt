@@ -9,7 +9,7 @@ use Rattle.flow_filter.specs.declared.filter.Filter.{Filter}
 use Rattle.basics.specs.Address.{address_text, byte_of}
 use Rattle.flow_filter.specs.Filter.{IsFilter}
 use Rattle.flow_filter.specs.FilterText.{piece, pieces, joined, print, protocol_text, prefix_text}
-use Rattle.op_script.specs.Forms.{Word}
+use Rattle.op_script.specs.Statements.{Word}
 use Rattle.op_script.proofs.ScriptLineLemmas.{All-append}
 use Rattle.op_script.proofs.PrintableWords.{Within, Within-append, Within-literal, IsWord, decimal_word}
 

@@ -1,7 +1,7 @@
 pub mod WrittenTexts
 pub mod JudgedLemmas
 pub mod ScriptLineLemmas
-pub mod FormLemmas
+pub mod StatementLemmas
 pub mod PacketLists
 pub mod ParsedScripts
 pub mod ItemsSoFar

@@ -11,15 +11,15 @@ use Rattle.flow_filter.specs.FilterText.{Fields, is_transport, parse}
 use Rattle.flow_filter.proofs.ParsedFilters.{parse_printable}
 use Rattle.nf_function.specs.declared.kind.Kind.{Kind}
 use Rattle.nf_function.specs.Units.{splits}
-use Rattle.op_script.specs.Forms.{Word, words, Event, Moving, Copying, Sharing, Settling, Form, Silent, Routing, Happening}
-use Rattle.op_script.specs.Reading.{State, start, OrderView, Moves, Copies, Shares, LineView, Judged, ◌>>=◌, unless, wanted, place_of, ends_of, members_of, whole, filter_of, filter_or_all, with_route, with_line, noted, numbered, order_said, goes_back, with_event, with_form, with_text, and_lines, with_lines}
+use Rattle.op_script.specs.Statements.{Word, words, Event, Moving, Copying, Sharing, Settling, Statement, Silent, Routing, Happening}
+use Rattle.op_script.specs.Reading.{State, start, OrderView, Moves, Copies, Shares, LineView, Judged, ◌>>=◌, unless, wanted, place_of, ends_of, members_of, whole, filter_of, filter_or_all, with_route, with_line, noted, numbered, order_said, goes_back, with_event, with_statement, with_text, and_lines, with_lines}
 use Rattle.op_script.specs.Printing.{IsRoute, IsWhat, IsLine, IsScript, is_writable}
 use Rattle.std.specs.Prelude.{◌==◌}
 use Rattle.std.specs.Str.Lines.{strip_carriage_return}
 use Rattle.std.proofs.lemmas.List.Splits.{length-slice_split}
 use Rattle.basics.proofs.SplitLemmas.{split-Some}
 use Rattle.op_script.specs.declared.fault.ScriptKind.TheVariants as bad
-use Rattle.op_script.proofs.FormLemmas.{IsEvent, IsForm, form_right}
+use Rattle.op_script.proofs.StatementLemmas.{IsEvent, IsStatement, statement_right}
 use Rattle.op_script.proofs.JudgedLemmas.{steps, unless_Ok, wanted_Ok}
 use Rattle.op_script.proofs.ScriptLineLemmas.{All-append, last_at, last_at-append, follows-append, numbered_next}
 
@@ -139,16 +139,16 @@ event_kept kind names s t at event right kept is =
       last = last_at-append 0 s.lines line;
     })
 
-form_kept : (kind : Kind) (names : List Word) (s t : State) (form : Form) → IsForm form → IsState names s → with_form kind names s form ≡ Ok t → IsState names t
-form_kept kind names s t Silent right kept is = let same : s ≡ t = cc in rw (← same) kept
-form_kept kind names s t (Routing filter instance) right kept is = route_kept kind names s t filter instance kept is
-form_kept kind names s t (Happening at event) right kept is = event_kept kind names s t at event right kept is
+statement_kept : (kind : Kind) (names : List Word) (s t : State) (statement : Statement) → IsStatement statement → IsState names s → with_statement kind names s statement ≡ Ok t → IsState names t
+statement_kept kind names s t Silent right kept is = let same : s ≡ t = cc in rw (← same) kept
+statement_kept kind names s t (Routing filter instance) right kept is = route_kept kind names s t filter instance kept is
+statement_kept kind names s t (Happening at event) right kept is = event_kept kind names s t at event right kept is
 
 text_kept : (kind : Kind) (names : List Word) (s t : State) (line : List ℕ) → IsState names s → with_text kind names s line ≡ Ok t → IsState names t
 text_kept kind names s t line kept is =
     let text = unless_Ok _ _ _ t is in
-    let form = steps _ (with_form kind names s) t text.1 in
-    form_kept kind names s t form.value (form_right (words line) form.value (wanted_Ok _ _ _ form.first)) kept form.rest
+    let statement = steps _ (with_statement kind names s) t text.1 in
+    statement_kept kind names s t statement.value (statement_right (words line) statement.value (wanted_Ok _ _ _ statement.first)) kept statement.rest
 
 lines_then : (kind : Kind) (names : List Word) (n : ℕ) (t : State) (more : List (List ℕ)) (read : Judged State) → ((u : State) → read ≡ Ok u → IsState names u)
     → ((u : State) → IsState names u → with_lines kind names (n + 1) u more ≡ Ok t → IsState names t) → and_lines n read (λ u. with_lines kind names (n + 1) u more) ≡ Ok t → IsState names t

@@ -12,7 +12,7 @@ use Rattle.std.specs.List.{list_all}
 use Rattle.std.proofs.lemmas.List.Splits.{slice_split_none, slice_split_at}
 use Rattle.flow_filter.specs.Name.{is_name, is_name_byte}
 use Rattle.basics.proofs.DecimalLemmas.{AreDigits, own}
-use Rattle.op_script.specs.Forms.{Word, is_blank, words}
+use Rattle.op_script.specs.Statements.{Word, is_blank, words}
 
 -- each byte lies between two bounds
 abbrev pub Within : ℕ → ℕ → List ℕ → Type 0

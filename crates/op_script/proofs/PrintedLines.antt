@@ -10,8 +10,8 @@ use Rattle.basics.specs.Parsing.{split_once}
 use Rattle.basics.proofs.SplitLemmas.{Lacks, split_once-append, split-Some}
 use Rattle.basics.proofs.PrintedNumbers.{parse_number-printed}
 use Rattle.nf_function.specs.declared.kind.Kind.{Kind}
-use Rattle.op_script.specs.Forms.{Word, Event, Moving, Copying, Sharing, Settling, Form, Routing, Happening, form_of, event_of, moving, copying, sharing}
-use Rattle.op_script.specs.Reading.{State, with_text, with_form}
+use Rattle.op_script.specs.Statements.{Word, Event, Moving, Copying, Sharing, Settling, Statement, Routing, Happening, statement_of, event_of, moving, copying, sharing}
+use Rattle.op_script.specs.Reading.{State, with_text, with_statement}
 use Rattle.op_script.specs.Printing.{line_text}
 use Rattle.op_script.proofs.PrintableWords.{Within, IsWord, words-joined, line_seen, strip-line, line_utf8}
 
@@ -20,10 +20,10 @@ lacks_end : (text : List ℕ) → Within 32 127 text → Lacks 10 text
 lacks_end [] seen = tt
 lacks_end (b ∷ more) seen = (let first = seen.0 in ne_eqb b 10 (omega arith), lacks_end more seen.1)
 
--- a line of words that has a form says what the form says
-pub line_says : (kind : Kind) (names : List Word) (s : State) (first : Word) (more : List Word) (form : Form) (t : State) → AllByRecursion IsWord (first ∷ more)
-    → form_of (first ∷ more) ≡ Some form → with_form kind names s form ≡ Ok t → with_text kind names s (strip_carriage_return (join_with_byte 32 (first ∷ more))) ≡ Ok t
-line_says kind names s first more form t are is says =
+-- a line of words that is a statement says what the statement says
+pub line_says : (kind : Kind) (names : List Word) (s : State) (first : Word) (more : List Word) (statement : Statement) (t : State) → AllByRecursion IsWord (first ∷ more)
+    → statement_of (first ∷ more) ≡ Some statement → with_statement kind names s statement ≡ Ok t → with_text kind names s (strip_carriage_return (join_with_byte 32 (first ∷ more))) ≡ Ok t
+line_says kind names s first more statement t are is says =
     let seen = line_seen first more are in
     rw (strip-line (join_with_byte 32 (first ∷ more)) seen, line_utf8 (join_with_byte 32 (first ∷ more)) seen, words-joined first more are, is) says
 
@@ -38,16 +38,16 @@ lines-joined (ws ∷ more) seen =
     ∙ split-Some 10 (line ++ 10 ∷ rest) line rest (sym (split_once-append 10 line rest (lacks_end line seen.0)))
     ∙ ap (λ t. line ∷ t) (lines-joined more seen.1)
 
--- the form of a route
-pub route_form : (filter name : Word) → form_of (codes "route" ∷ filter ∷ name ∷ []) ≡ Some (Routing filter name)
-unfolding form_of
-route_form filter name = refl
+-- the statement of a route
+pub route_statement : (filter name : Word) → statement_of (codes "route" ∷ filter ∷ name ∷ []) ≡ Some (Routing filter name)
+unfolding statement_of
+route_statement filter name = refl
 
--- the form of an `at` line
-pub at_form : (at : ℕ) (verb : Word) (more : List Word) (event : Event) → at < 2 ^ 32 → event_of verb more ≡ Some event
-    → form_of (codes "at" ∷ decimal at ∷ verb ∷ more) ≡ Some (Happening at event)
-unfolding form_of
-at_form at verb more event small is = rw (parse_number-printed 4294967295 at (omega arith) (omega arith), is) refl
+-- the statement of an `at` line
+pub at_statement : (at : ℕ) (verb : Word) (more : List Word) (event : Event) → at < 2 ^ 32 → event_of verb more ≡ Some event
+    → statement_of (codes "at" ∷ decimal at ∷ verb ∷ more) ≡ Some (Happening at event)
+unfolding statement_of
+at_statement at verb more event small is = rw (parse_number-printed 4294967295 at (omega arith) (omega arith), is) refl
 
 pub move_event : (source target filter : Word) (keep : Bool)
     → event_of (codes "move") (source ∷ target ∷ filter ∷ cond keep (codes "order") (codes "lossfree") ∷ []) ≡ Some (Moving source target filter keep)

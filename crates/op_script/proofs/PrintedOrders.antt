@@ -18,13 +18,13 @@ use Rattle.nf_function.specs.Units.{splits}
 use Rattle.nf_msgs.specs.declared.command.Order.{Order}
 use Rattle.nf_msgs.specs.declared.command.Order.TheVariants.{Move, Copy, Share}
 use Rattle.op_script.specs.declared.fault.ScriptKind.TheVariants as bad
-use Rattle.op_script.specs.Forms.{Word, Event, Moving, Copying, Sharing, Happening, form_of}
+use Rattle.op_script.specs.Statements.{Word, Event, Moving, Copying, Sharing, Happening, statement_of}
 use Rattle.op_script.specs.Reading.{unless, ends_of, members_of, filter_of, order_said, order_view}
 use Rattle.op_script.specs.Printing.{order_words, IsOrder, order_splits, OrderFits}
 use Rattle.op_script.proofs.JudgedLemmas.{unless_Ok}
 use Rattle.op_script.proofs.PrintableWords.{IsWord, Within-literal, name_word}
 use Rattle.op_script.proofs.FilterWordLemmas.{filter_word, join_word}
-use Rattle.op_script.proofs.PrintedLines.{at_form, move_event, copy_event, share_event}
+use Rattle.op_script.proofs.PrintedLines.{at_statement, move_event, copy_event, share_event}
 
 -- the event that an order's words spell
 abbrev pub event_in : Order → Event
@@ -79,14 +79,14 @@ members_again (first ∷ next ∷ more) two are once =
     names_words [] are = tt
     names_words (name ∷ more) are = let p = and_parts (is_name name) (list_all is_name more) are in (name_word name p.0, names_words more p.1)
 
--- the words of an order have its event's form
-pub order_form : (at : ℕ) (o : Order) → at < 2 ^ 32 → IsOrder (order_view o) → OrderFits o → form_of (codes "at" ∷ decimal at ∷ order_words o) ≡ Some (Happening at (event_in o))
-order_form at (Move source target filter keep) small is fits = at_form at (codes "move") _ _ small (move_event source target (print filter) keep)
-order_form at (Copy source target None) small is fits = at_form at (codes "copy") _ _ small (copy_event source target (codes "all"))
-order_form at (Copy source target (Some filter)) small is fits =
+-- the words of an order are its event's statement
+pub order_statement : (at : ℕ) (o : Order) → at < 2 ^ 32 → IsOrder (order_view o) → OrderFits o → statement_of (codes "at" ∷ decimal at ∷ order_words o) ≡ Some (Happening at (event_in o))
+order_statement at (Move source target filter keep) small is fits = at_statement at (codes "move") _ _ small (move_event source target (print filter) keep)
+order_statement at (Copy source target None) small is fits = at_statement at (codes "copy") _ _ small (copy_event source target (codes "all"))
+order_statement at (Copy source target (Some filter)) small is fits =
     let other = not_all (print filter) (fields_of filter) (bytes_eq (print filter) (codes "all")) refl (parse-print filter fits is.1) in
-    at_form at (codes "copy") _ _ small (copy_event source target (print filter) ∙ ap (λ (test : Bool). Some (Copying source target (cond test None (Some (print filter))))) other)
-order_form at (Share members filter) small is fits = at_form at (codes "share") _ _ small (share_event (join_with_byte 44 members) (print filter) (members_again members is.0 is.1 is.2).1)
+    at_statement at (codes "copy") _ _ small (copy_event source target (print filter) ∙ ap (λ (test : Bool). Some (Copying source target (cond test None (Some (print filter))))) other)
+order_statement at (Share members filter) small is fits = at_statement at (codes "share") _ _ small (share_event (join_with_byte 44 members) (print filter) (members_again members is.0 is.1 is.2).1)
 
 -- the event of an order gives the order
 pub order_again : (kind : Kind) (o : Order) → IsOrder (order_view o) → OrderFits o → order_splits kind (order_view o) ≡ false → order_said kind (event_in o) ≡ Ok (Some (order_view o))

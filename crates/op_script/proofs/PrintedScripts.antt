@@ -17,13 +17,13 @@ use Rattle.op_script.specs.declared.script.Script.{Script}
 use Rattle.op_script.specs.declared.script.Line.{Line}
 use Rattle.op_script.specs.declared.script.What.{What}
 use Rattle.op_script.specs.declared.script.What.TheVariants.{Command, Settle}
-use Rattle.op_script.specs.Forms.{Word, Event, Routing, Happening, Settling, form_of}
-use Rattle.op_script.specs.Reading.{State, start, OrderView, LineView, place_of, with_route, noted, numbered, command_count, is_command, order_said, goes_back, with_form, with_lines, script_of, route_view, line_view, what_view, order_view, script_view, ScriptView}
+use Rattle.op_script.specs.Statements.{Word, Event, Routing, Happening, Settling, statement_of}
+use Rattle.op_script.specs.Reading.{State, start, OrderView, LineView, place_of, with_route, noted, numbered, command_count, is_command, order_said, goes_back, with_statement, with_lines, script_of, route_view, line_view, what_view, order_view, script_view, ScriptView}
 use Rattle.op_script.specs.Printing.{route_words, line_words, what_words, IsWhat, line_text, script_words, script_text, IsRoute, IsLine, IsScript, SplitsNone, what_splits, WhatFits, LineFits, follows, next_after, and_then}
 use Rattle.op_script.proofs.PrintableWords.{Within, IsWord, Within-literal, line_seen, line_utf8, name_word, decimal_word}
 use Rattle.op_script.proofs.FilterWordLemmas.{filter_word}
-use Rattle.op_script.proofs.PrintedLines.{line_says, lines-joined, route_form, at_form, settle_event}
-use Rattle.op_script.proofs.PrintedOrders.{event_in, filter_again, order_form, order_again, order_words_are}
+use Rattle.op_script.proofs.PrintedLines.{line_says, lines-joined, route_statement, at_statement, settle_event}
+use Rattle.op_script.proofs.PrintedOrders.{event_in, filter_again, order_statement, order_again, order_words_are}
 use Rattle.op_script.proofs.ScriptLineLemmas.{All-append}
 
 neither : (p q : Bool) → (p || q) ≡ false → (p ≡ false) × (q ≡ false)
@@ -63,7 +63,7 @@ name_at (name ∷ more) (suc i) below are = name_at more i (omega arith) (and_pa
 -- a route's line
 route_says : (kind : Kind) (names : List Word) (s : State) (route : Filter × ℕ) → list_all is_name names ≡ true → has_twice names ≡ false → s.last ≡ None → length s.routes < 1000
     → IsRoute names (route_view route) → IsFilter route.0 → splits kind (fields_of route.0) ≡ false
-    → with_form kind names s (Routing (print route.0) (slice_index_or names route.1 [])) ≡ Ok (record s { routes = s.routes ++ route_view route ∷ [] })
+    → with_statement kind names s (Routing (print route.0) (slice_index_or names route.1 [])) ≡ Ok (record s { routes = s.routes ++ route_view route ∷ [] })
 unfolding with_route
 route_says kind names s route are once front few is fits whole =
     rw (front, place_at names route.1 is.0 once, filter_again kind route.0 fits is.1 whole, lt-leb 1000 (length s.routes) few) refl
@@ -89,7 +89,7 @@ routes_again kind names n s t [] rest are once front few is fits whole then =
 routes_again kind names n s t (route ∷ more) rest are once front few is fits whole then =
     let next : State = record s { routes = s.routes ++ route_view route ∷ [] } in
     let line = line_says kind names s (codes "route") (print route.0 ∷ slice_index_or names route.1 [] ∷ []) (Routing (print route.0) (slice_index_or names route.1 [])) next
-    (route_are names route are is.0 fits.0) (route_form (print route.0) (slice_index_or names route.1 [])) (route_says kind names s route are once front (omega arith) is.0 fits.0 whole.0) in
+    (route_are names route are is.0 fits.0) (route_statement (print route.0) (slice_index_or names route.1 [])) (route_says kind names s route are once front (omega arith) is.0 fits.0 whole.0) in
     rw line (routes_again kind names (n + 1) next t more rest are once front (omega (arith, length-append s.routes (route_view route ∷ []))) is.1 fits.1 whole.1
     (subst (λ (rs : List (Fields × ℕ)). with_lines kind names (n + 1 + length more) (record s { routes = rs }) rest ≡ Ok t) (sym (append_assoc s.routes (route_view route ∷ []) (map route_view more)))
     (subst (λ m. with_lines kind names m (record s { routes = s.routes ++ map route_view (route ∷ more) }) rest ≡ Ok t) (let same : n + suc (length more) ≡ n + 1 + length more = omega arith in same) then)))
@@ -100,7 +100,7 @@ goes_on None at far = refl
 goes_on (Some last) at far = le-ltb at last far
 
 event_says : (kind : Kind) (names : List Word) (s : State) (at : ℕ) (event : Event) (order : Option OrderView) → unwrap_or s.last 0 ≤ at → length s.lines < 1000
-    → order_said kind event ≡ Ok order → with_form kind names s (Happening at event) ≡ Ok (noted s at order)
+    → order_said kind event ≡ Ok order → with_statement kind names s (Happening at event) ≡ Ok (noted s at order)
 event_says kind names s at event order far few is = rw (goes_on s.last at far, is, lt-leb 1000 (length s.lines) few) refl
 
 -- the order and the event of what happens
@@ -112,9 +112,9 @@ abbrev event_of_what : What → Event
 event_of_what (Command command) = event_in command.what
 event_of_what Settle = Settling
 
-what_form : (at : ℕ) (what : What) → at < 2 ^ 32 → IsWhat (what_view what) → WhatFits what → form_of (codes "at" ∷ decimal at ∷ what_words what) ≡ Some (Happening at (event_of_what what))
-what_form at (Command command) small is fits = order_form at command.what small is fits
-what_form at Settle small is fits = at_form at (codes "settle") [] Settling small settle_event
+what_statement : (at : ℕ) (what : What) → at < 2 ^ 32 → IsWhat (what_view what) → WhatFits what → statement_of (codes "at" ∷ decimal at ∷ what_words what) ≡ Some (Happening at (event_of_what what))
+what_statement at (Command command) small is fits = order_statement at command.what small is fits
+what_statement at Settle small is fits = at_statement at (codes "settle") [] Settling small settle_event
 
 what_again : (kind : Kind) (what : What) → IsWhat (what_view what) → WhatFits what → what_splits kind (what_view what) ≡ false → order_said kind (event_of_what what) ≡ Ok (order_in what)
 unfolding order_said
@@ -163,7 +163,7 @@ record LinesRead (kind : Kind) (names : List Word) (n : ℕ) (s : State) (texts 
   lines_are : state.lines ≡ s.lines ++ lines
 
 empty_line : (kind : Kind) (names : List Word) (n : ℕ) (s : State) → with_lines kind names n s ([] ∷ []) ≡ Ok s
-unfolding form_of
+unfolding statement_of
 empty_line kind names n s = rw (line_utf8 [] tt) refl
 
 lines_again : (kind : Kind) (names : List Word) (n : ℕ) (s : State) (lines : List Line) → length s.lines + length lines ≤ 1000
@@ -181,7 +181,7 @@ lines_again kind names n s (line ∷ more) few is fits whole follow =
     let says = event_says kind names s line.at (event_of_what line.what) (order_in line.what) (leb-true _ _ parts.0) (omega arith) (what_again kind line.what is.0 fits.0.1 whole.0)
     ∙ ap (λ (t : State). Ok t) same in
     let text = line_says kind names s (codes "at") (decimal line.at ∷ what_words line.what) (Happening line.at (event_of_what line.what)) after
-    (line_are line is.0 fits.0) (what_form line.at line.what fits.0.0 is.0 fits.0.1) says in
+    (line_are line is.0 fits.0) (what_statement line.at line.what fits.0.0 is.0 fits.0.1) says in
     let rest = lines_again kind names (n + 1) after more (omega (arith, length-append s.lines (line_view line ∷ []))) is.1 fits.1 whole.1
     (subst (λ k. follows line.at k (map line_view more) ≡ true) number.1 next.2) in
     record {

@@ -6,8 +6,8 @@ use Rattle.flow_filter.specs.declared.filter_text.FilterFault.{FilterFault}
 use Rattle.flow_filter.specs.FilterText.{Fields, parse}
 use Rattle.nf_function.specs.declared.kind.Kind.{Kind}
 use Rattle.nf_function.specs.Units.{splits}
-use Rattle.op_script.specs.Forms.{Word, Event, Moving, Copying, Sharing, Settling, Form, Silent, Routing, Happening}
-use Rattle.op_script.specs.Reading.{State, start, OrderView, Moves, Copies, Shares, LineView, Judged, ◌>>=◌, wanted, place_of, ends_of, members_of, whole, filter_of, filter_or_all, with_route, with_line, noted, numbered, order_said, goes_back, with_event, with_form, with_text, and_lines, with_lines}
+use Rattle.op_script.specs.Statements.{Word, Event, Moving, Copying, Sharing, Settling, Statement, Silent, Routing, Happening}
+use Rattle.op_script.specs.Reading.{State, start, OrderView, Moves, Copies, Shares, LineView, Judged, ◌>>=◌, wanted, place_of, ends_of, members_of, whole, filter_of, filter_or_all, with_route, with_line, noted, numbered, order_said, goes_back, with_event, with_statement, with_text, and_lines, with_lines}
 use Rattle.op_script.specs.Printing.{what_splits, order_splits, SplitsNone}
 use Rattle.op_script.specs.declared.fault.ScriptKind.TheVariants as bad
 use Rattle.op_script.proofs.JudgedLemmas.{steps, unless_Ok}
@@ -84,16 +84,16 @@ module _ (kind : Kind) where
           lines = All-append (λ (line : LineView). what_splits kind line.what ≡ false) s.lines _ kept.lines (order_whole event order.value order.first s.lines, tt);
         })
 
-    form_whole : (s t : State) (form : Form) → IsWholeState s → with_form kind names s form ≡ Ok t → IsWholeState t
-    form_whole s t Silent kept is = let same : s ≡ t = cc in subst IsWholeState same kept
-    form_whole s t (Routing filter instance) kept is = route_whole s t filter instance kept is
-    form_whole s t (Happening at event) kept is = event_whole s t at event kept is
+    statement_whole : (s t : State) (statement : Statement) → IsWholeState s → with_statement kind names s statement ≡ Ok t → IsWholeState t
+    statement_whole s t Silent kept is = let same : s ≡ t = cc in subst IsWholeState same kept
+    statement_whole s t (Routing filter instance) kept is = route_whole s t filter instance kept is
+    statement_whole s t (Happening at event) kept is = event_whole s t at event kept is
 
     text_whole : (s t : State) (line : List ℕ) → IsWholeState s → with_text kind names s line ≡ Ok t → IsWholeState t
     text_whole s t line kept is =
         let text = unless_Ok (not (is_utf8 line)) bad.NotUtf8 _ t is in
-        let form = steps _ (with_form kind names s) t text.1 in
-        form_whole s t form.value kept form.rest
+        let statement = steps _ (with_statement kind names s) t text.1 in
+        statement_whole s t statement.value kept statement.rest
 
     lines_then : (n : ℕ) (t : State) (more : List (List ℕ)) (read : Judged State) → ((u : State) → read ≡ Ok u → IsWholeState u)
         → ((u : State) → IsWholeState u → with_lines kind names (n + 1) u more ≡ Ok t → IsWholeState t) → and_lines n read (λ u. with_lines kind names (n + 1) u more) ≡ Ok t → IsWholeState t

@@ -1,6 +1,6 @@
-pub mod Forms
+pub mod Statements
 pub mod Reading
-pub mod FormViews
+pub mod StatementViews
 pub mod Printing
 pub mod Items
 pub mod PacketItems

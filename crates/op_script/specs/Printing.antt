@@ -15,7 +15,7 @@ use Rattle.op_script.specs.declared.script.Script.{Script}
 use Rattle.op_script.specs.declared.script.Line.{Line}
 use Rattle.op_script.specs.declared.script.What.{What}
 use Rattle.op_script.specs.declared.script.What.TheVariants.{Command, Settle}
-use Rattle.op_script.specs.Forms.{Word}
+use Rattle.op_script.specs.Statements.{Word}
 use Rattle.op_script.specs.Reading.{ends_of, OrderView, Moves, Copies, Shares, LineView, ScriptView}
 use Rattle.basics.specs.Bytes.{line_feed, space, comma}
 use Rattle.flow_filter.specs.Limits.{most_lines, fewest_members}

@@ -23,7 +23,7 @@ use Rattle.op_script.specs.declared.fault.ScriptFault.TheVariants as fault
 use Rattle.op_script.specs.declared.fault.LineFault.{LineFault}
 use Rattle.op_script.specs.declared.fault.LineFault.TheVariants as one
 use Rattle.op_script.specs.declared.reader.Reader.{Reader}
-use Rattle.op_script.specs.Forms.{Word, words, Event, Moving, Copying, Sharing, Settling, Form, Silent, Routing, Happening, form_of}
+use Rattle.op_script.specs.Statements.{Word, words, Event, Moving, Copying, Sharing, Settling, Statement, Silent, Routing, Happening, statement_of}
 use Rattle.basics.specs.Bytes.{line_feed, comma}
 use Rattle.flow_filter.specs.Limits.{most_lines}
 
@@ -151,15 +151,15 @@ abbrev pub with_event : Kind → State → ℕ → Event → Judged State
 with_event kind s at event = unless (goes_back s.last at) bad.Order (order_said kind event >>= with_line s at)
 
 -- what a line's words say, more
-abbrev pub with_form : Kind → List Word → State → Form → Judged State
-with_form kind names s Silent = Ok s
-with_form kind names s (Routing filter instance) = with_route kind names s filter instance
-with_form kind names s (Happening at event) = with_event kind s at event
+abbrev pub with_statement : Kind → List Word → State → Statement → Judged State
+with_statement kind names s Silent = Ok s
+with_statement kind names s (Routing filter instance) = with_route kind names s filter instance
+with_statement kind names s (Happening at event) = with_event kind s at event
 
 -- a line more
 abbrev pub with_text : Kind → List Word → State → List ℕ → Judged State
 with_text kind names s line =
-    unless (not (is_utf8 line)) bad.NotUtf8 (wanted (form_of (words line)) bad.Word >>= with_form kind names s)
+    unless (not (is_utf8 line)) bad.NotUtf8 (wanted (statement_of (words line)) bad.Word >>= with_statement kind names s)
 
 abbrev pub ScriptAnswer : Type 0
 ScriptAnswer = Result State (ℕ × ScriptKind)

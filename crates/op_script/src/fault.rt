@@ -7,7 +7,7 @@ use thiserror::Error;
 /// Which rule a line of a script breaks.
 #[derive(Clone, Copy, Debug, PartialEq, Eq, Error)]
 pub enum ScriptKind {
-    /// The line has none of the forms.
+    /// The line is no statement.
     #[error("word")]
     Word,
     /// The line is less far than an earlier one, or a route after an `at` line.

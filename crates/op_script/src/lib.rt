@@ -7,13 +7,13 @@
 #![tactic(auto)]
 
 pub mod fault;
-mod form;
 mod input;
 mod packet_items;
 mod printing;
 mod reader;
 mod reading;
 pub mod script;
+mod statement;
 
 pub use fault::{ScriptFault, ScriptKind};
 pub use input::items;

@@ -4,16 +4,16 @@ ghost use Rattle.std.specs.Str.{bytes_eq, is_utf8};
 ghost use Rattle.std.specs.Str.Lines.{strip_carriage_return};
 ghost use Rattle.flow_filter.specs.Name.{is_name};
 ghost use Rattle.flow_filter.specs.FilterText.{fields_of, AgreesBy};
-ghost use Rattle.op_script.specs.FormViews.{event_view, form_view};
+ghost use Rattle.op_script.specs.StatementViews.{event_view, statement_view};
 ghost use Rattle.op_script.specs.Printing.{IsScript, SplitsNone};
-ghost use Rattle.op_script.specs.Reading.{ends_of, members_of, filter_of, filter_or_all, order_said, with_route, with_line, numbered, is_command, command_count, line_view, what_view, with_event, with_form, with_text, script_of, place_of, goes_back, state_of, script_view, order_view, with_lines, start, Says, SaysWhole, Numbered, longest_script};
+ghost use Rattle.op_script.specs.Reading.{ends_of, members_of, filter_of, filter_or_all, order_said, with_route, with_line, numbered, is_command, command_count, line_view, what_view, with_event, with_statement, with_text, script_of, place_of, goes_back, state_of, script_view, order_view, with_lines, start, Says, SaysWhole, Numbered, longest_script};
 ghost use Rattle.basics.specs.Bytes.{line_feed, comma};
 ghost use Rattle.flow_filter.specs.Limits.{most_lines};
 
 use crate::fault::{LineFault, ScriptFault, ScriptKind};
-use crate::form::{Event, Form, form_of, words};
 use crate::reader::Reader;
 use crate::script::{Line, Script, What};
+use crate::statement::{Event, Statement, statement_of, words};
 use basics::parsing::first_piece;
 use flow_filter::name::has_twice;
 use flow_filter::{Filter, Name, NoMemory};
@@ -108,10 +108,10 @@ fn with_text(
         return Err(LineFault::Bad(ScriptKind::NotUtf8));
     }
     let words = words(alloc, line)?;
-    let Some(form) = form_of(words.as_slice()) else {
+    let Some(statement) = statement_of(words.as_slice()) else {
         return Err(LineFault::Bad(ScriptKind::Word));
     };
-    with_form(alloc, kind, names, reader, form)
+    with_statement(alloc, kind, names, reader, statement)
 }
 
 /// Whether the bytes are UTF-8.
@@ -125,20 +125,20 @@ fn is_utf8(line: &[u8]) -> bool
 }
 
 /// The reader with what a line says, more.
-fn with_form(
+fn with_statement(
     alloc: Global,
     kind: Kind,
     names: &[Name],
     reader: Reader,
-    form: Form<'_>,
+    statement: Statement<'_>,
 ) -> Result<Reader, LineFault>
     requires { length names.now ≤ 2 ^ 8 }
-    ensures { Says state_of result (with_form kind names.now (state_of reader) (form_view form.entry)) }
+    ensures { Says state_of result (with_statement kind names.now (state_of reader) (statement_view statement.entry)) }
 {
-    match form {
-        Form::Silent => Ok(reader),
-        Form::Route { filter, instance } => with_route(kind, names, reader, filter, instance),
-        Form::At { at, event } => with_event(alloc, kind, reader, at, event),
+    match statement {
+        Statement::Silent => Ok(reader),
+        Statement::Route { filter, instance } => with_route(kind, names, reader, filter, instance),
+        Statement::At { at, event } => with_event(alloc, kind, reader, at, event),
     }
 }
 

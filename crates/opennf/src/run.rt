@@ -3,7 +3,7 @@ ghost use Rattle.std.specs.Process.{exit_status};
 ghost use Rattle.nf_io.specs.declared.outside.Role.{Role as TheRole};
 ghost use Rattle.nf_io.specs.declared.outside.Role.TheVariants.{Errors as ErrorsRole};
 ghost use Rattle.nf_io.specs.Meaning.{OthersStay};
-ghost use Rattle.command_words.specs.Plan.{plan_of};
+ghost use Rattle.command_words.specs.Requests.{request_of};
 ghost use Rattle.opennf_calls.specs.declared.outcome.Outcome.{Outcome};
 ghost use Rattle.opennf_calls.specs.Status.{exit_number, line_of};
 ghost use Rattle.opennf_calls.specs.Outcome.{HasOutcome, PutsLine};
@@ -24,7 +24,7 @@ pub fn run<R: AllocGlobal + Threads + Wait + Sync, O: Outside>(
     outside: &mut O,
 ) -> ExitCode
     requires { (role : TheRole) → (O.seen outside.old role).name ≡ None }
-    ensures { (outcome : Outcome) × HasOutcome (plan_of (map string_bytes words.now)) (O.seen outside.old) (O.seen outside.new) outcome
+    ensures { (outcome : Outcome) × HasOutcome (request_of (map string_bytes words.now)) (O.seen outside.old) (O.seen outside.new) outcome
         × (exit_status result ≡ exit_number outcome.status) }
 {
     let outcome = opennf_top(rt, rt.alloc(), words, outside, &OpenGate);

@@ -30,12 +30,12 @@ use Rattle.net_world.specs.declared.node.Node.{Node}
 use Rattle.net_world.specs.Nodes.{node_ended, node_ready, node_step}
 use Rattle.net_world.specs.Start.{started}
 use Rattle.run_report.specs.Lines.{report_text}
-use Rattle.command_words.specs.Plan.{NetworkAsked, asks_audit}
+use Rattle.command_words.specs.Requests.{NetworkAsked, asks_audit}
 use Rattle.opennf_calls.specs.declared.status.Status.{Status}
 use Rattle.opennf_calls.specs.Again.{AreAgain, AuditLaw, AuditsAgain}
-use Rattle.opennf_calls.specs.NetworkRuns.{Given, RunResults, HasNoRun, HasRun, IsNoRun, IsRunOf, config_for, given_script, head_for, start_for}
-use Rattle.opennf_calls.specs.Outcome.{FailsAt, IsAudited, IsGiven, first_refusal, journal_read, journal_refusal, refusal_of, script_refusal, trace_refusal}
-use Rattle.opennf_calls.proofs.SameInputs.{AreSame, same_given}
+use Rattle.opennf_calls.specs.NetworkRuns.{Scenario, RunResults, HasNoRun, HasRun, IsNoRun, IsRunOf, config_for, given_script, head_for, start_for}
+use Rattle.opennf_calls.specs.Outcome.{FailsAt, IsAudited, IsScenario, first_refusal, journal_read, journal_refusal, refusal_of, script_refusal, trace_refusal}
+use Rattle.opennf_calls.proofs.SameInputs.{AreSame, same_scenario}
 
 -- each choice of a run is enabled in its turn
 enabled_at : {A M N : Type 0} (ready : A → M → Bool) (step : A → ℕ → M → Stepped A M N) (cs : List Choice) (w : Network A M N) (i : ℕ) (c : Choice) → IsRun ready step cs w → slice_get cs i ≡ Some c → is_enabled ready (run step (take i cs) w) c ≡ true
@@ -44,7 +44,7 @@ enabled_at ready step (d ∷ ds) w zero c runs is = let same : d ≡ c = cc in s
 enabled_at ready step (d ∷ ds) w (suc i) c runs is = enabled_at ready step ds (taken step w d) i c runs.1 is
 
 -- A function of the words, and two runs that are given the same.
-module _ {R : Type 0} (F : Type 0) (f : Semantics R) (s : NetworkAsked) (g h : Given) (same : AreSame g h) where
+module _ {R : Type 0} (F : Type 0) (f : Semantics R) (s : NetworkAsked) (g h : Scenario) (same : AreSame g h) where
   abbrev begins : Global → Site → List (Filter × ℕ) → List Packet → List Line → Network (Node F R) Msg Note
   begins a site routes packets lines = started a (config_for s site routes) (items packets lines)
 
@@ -84,7 +84,7 @@ module _ {R : Type 0} (F : Type 0) (f : Semantics R) (s : NetworkAsked) (g h : G
         ]
 
 -- The same, for the function that the words name.
-module _ (s : NetworkAsked) (g h : Given) (same : AreSame g h) (by : Option Schedule) (made : RunResults) where
+module _ (s : NetworkAsked) (g h : Scenario) (same : AreSame g h) (by : Option Schedule) (made : RunResults) where
   same_report : (kind : Kind) → HasRun kind s g by made → (audited : RunResults) → HasRun kind s h None audited → audited.choices ≡ made.choices → audited.texts Report ≡ made.texts Report
   same_report kinds.Conntrack x audited y chose = reports Conntrack conntrack s g h same by made x audited y chose
   same_report kinds.Nat x audited y chose = reports Nat nat s g h same by made x audited y chose
@@ -95,24 +95,24 @@ module _ (s : NetworkAsked) (g h : Given) (same : AreSame g h) (by : Option Sche
   still_runs kinds.Nat x cs chose step told = no_cause Nat nat s g h same by made x cs chose step told
   still_runs kinds.Monitor x cs chose step told = no_cause Monitor monitor s g h same by made x cs chose step told
 
-read_again : (s : NetworkAsked) (g : Given) (by : Option Schedule) (made : RunResults) (kind : Kind) → HasRun kind s g by made → journal_of s.kind (length s.instances.names) (made.texts JournalOut) ≡ Ok made.choices
+read_again : (s : NetworkAsked) (g : Scenario) (by : Option Schedule) (made : RunResults) (kind : Kind) → HasRun kind s g by made → journal_of s.kind (length s.instances.names) (made.texts JournalOut) ≡ Ok made.choices
 read_again s g by made kinds.Conntrack x = x.again
 read_again s g by made kinds.Nat x = x.again
 read_again s g by made kinds.Monitor x = x.again
 
 pub audit_law : AuditLaw
 audit_law s bytes again by made is back =
-    let told : journal_read s again ≡ Ok made.choices = ap (journal_of s.kind (length s.instances.names)) back.journal ∙ read_again s is.given by made s.kind is.holds in
+    let told : journal_read s again ≡ Ok made.choices = ap (journal_of s.kind (length s.instances.names)) back.journal ∙ read_again s is.scenario by made s.kind is.holds in
     let chosen : (cs : List Choice) → journal_read s again ≡ Ok cs → cs ≡ made.choices = (λ cs read. let both : Ok cs ≡ Ok made.choices = sym read ∙ told in cc) in
     record {
       sound =
-          ap (λ said. first_refusal (first_refusal (script_refusal said) (trace_refusal (capture_of (again Trace)))) (journal_refusal (journal_read s again))) (ap (given_script s) back.script ∙ is.is_given.said)
-          ∙ ap (λ read. first_refusal (trace_refusal read) (journal_refusal (journal_read s again))) (ap capture_of back.trace ∙ is.is_given.read)
+          ap (λ said. first_refusal (first_refusal (script_refusal said) (trace_refusal (capture_of (again Trace)))) (journal_refusal (journal_read s again))) (ap (given_script s) back.script ∙ is.is_scenario.said)
+          ∙ ap (λ read. first_refusal (trace_refusal read) (journal_refusal (journal_read s again))) (ap capture_of back.trace ∙ is.is_scenario.read)
           ∙ ap journal_refusal told;
       complete = λ step fails.
-          still_runs s is.given fails.no_run.given (same_given s bytes again is.given fails.no_run.given is.is_given fails.no_run.is_given back.trace back.script) by made s.kind is.holds
+          still_runs s is.scenario fails.no_run.scenario (same_scenario s bytes again is.scenario fails.no_run.scenario is.is_scenario fails.no_run.is_scenario back.trace back.script) by made s.kind is.holds
           fails.choices (chosen fails.choices fails.told) step fails.no_run.holds;
       same = λ audited a.
-          same_report s is.given a.run.given (same_given s bytes again is.given a.run.given is.is_given a.run.is_given back.trace back.script) by made s.kind is.holds
+          same_report s is.scenario a.run.scenario (same_scenario s bytes again is.scenario a.run.scenario is.is_scenario a.run.is_scenario back.trace back.script) by made s.kind is.holds
           audited a.run.holds (chosen audited.choices a.told);
     }

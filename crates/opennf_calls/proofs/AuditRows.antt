@@ -9,13 +9,13 @@ use Rattle.actor_net.specs.declared.choice.Choice.{Choice}
 use Rattle.journal_file.specs.declared.fault.JournalFault.{JournalFault}
 use Rattle.journal_file.specs.declared.fault.JournalFault.TheVariants as fault
 use Rattle.journal_file.specs.Reading.{GivesFrom, HasReadCause, count_of, journal_of, looked_at}
-use Rattle.command_words.specs.Plan.{NetworkAsked, asks_audit}
+use Rattle.command_words.specs.Requests.{NetworkAsked, asks_audit}
 use Rattle.opennf_calls.specs.declared.status.Status.{Status}
 use Rattle.opennf_calls.specs.declared.status.Status.TheVariants.{Ok as Done, Usage, BadScript, BadTrace, BadJournal, NotARun, ReadFault, WriteFault, NoMemory}
 use Rattle.opennf_calls.specs.declared.status.JournalKind.TheVariants as kinds
 use Rattle.opennf_calls.specs.declared.network.Made.{Made}
 use Rattle.opennf_calls.specs.Command.{is_input, is_read_before}
-use Rattle.opennf_calls.specs.NetworkRuns.{Given, RunResults, HasRun}
+use Rattle.opennf_calls.specs.NetworkRuns.{Scenario, RunResults, HasRun}
 use Rattle.opennf_calls.specs.Outcome.{EarlierAreSound, ForResults, HasEarlier, HasInput, IsBound, IsRead, IsRefusedCommand, RowOf, first_refusal, journal_read, journal_refusal, refusal_of}
 use Rattle.opennf_calls.specs.Phases.{HasInputs, IsRefusedRun, OnlyRead, ReadAlone, ReadToEnd, TellsInputs, gives}
 use Rattle.opennf_calls.specs.Status.{journal_status}
@@ -33,8 +33,8 @@ pub counted : (s : NetworkAsked) (mid new : Role → Meaning) (r : Result (List 
 counted s mid new r count answers is = subst (λ (n : ℕ). AnswersJournal s n mid new r) is answers
 
 -- the script and the capture were read, and then the journal
-module _ (s : NetworkAsked) (named : is_some s.journal ≡ true) (given : Given) (old mid new : Role → Meaning)
-    (bound : IsBound (asks_audit s) old) (first : OnlyRead old mid) (has : HasInputs s old mid given) (second : ReadAlone JournalIn mid new) where
+module _ (s : NetworkAsked) (named : is_some s.journal ≡ true) (scenario : Scenario) (old mid new : Role → Meaning)
+    (bound : IsBound (asks_audit s) old) (first : OnlyRead old mid) (has : HasInputs s old mid scenario) (second : ReadAlone JournalIn mid new) where
   pub only : OnlyRead old new
   only = more_read old mid new first (one_read JournalIn mid new refl second)
 
@@ -105,19 +105,19 @@ module _ (s : NetworkAsked) (named : is_some s.journal ≡ true) (given : Given)
     sound : (bytes : Role → List ℕ) → HasInput (asks_audit s) old bytes → refusal_of (asks_audit s) bytes ≡ None
     sound bytes is = refusal bytes is ∙ ap journal_refusal (told_choices bytes is)
 
-    audit_results : (made : RunResults) → HasRun s.kind s given None made → made.choices ≡ choices → ForResults (asks_audit s) old new (λ g. g ≡ made)
+    audit_results : (made : RunResults) → HasRun s.kind s scenario None made → made.choices ≡ choices → ForResults (asks_audit s) old new (λ g. g ≡ made)
     audit_results made holds same bytes is = record {
       read = all_read bytes is;
       sound = sound bytes is;
       made = made;
       are = record {
         told = told_choices bytes is ∙ ap (λ (l : List Choice). Ok l) (sym same);
-        run = record { given = given; is_given = has.is_given bytes (told bytes is); holds = holds };
+        run = record { scenario = scenario; is_scenario = has.is_scenario bytes (told bytes is); holds = holds };
       };
       wrote = refl;
     }
 
-    no_run_row : (status : Status) → IsRefusedRun s given choices status → RowOf (asks_audit s) old new [] status
+    no_run_row : (status : Status) → IsRefusedRun s scenario choices status → RowOf (asks_audit s) old new [] status
     no_run_row (NotARun step) cause = (
       record {
         bound = still_bound old new only (asks_audit s) bound;
@@ -128,7 +128,7 @@ module _ (s : NetworkAsked) (named : is_some s.journal ≡ true) (given : Given)
           fails = record {
             choices = choices;
             told = told_choices bytes is;
-            no_run = record { given = given; is_given = has.is_given bytes (told bytes is); holds = cause };
+            no_run = record { scenario = scenario; is_scenario = has.is_scenario bytes (told bytes is); holds = cause };
           };
         };
       },
@@ -144,7 +144,7 @@ module _ (s : NetworkAsked) (named : is_some s.journal ≡ true) (given : Given)
     no_run_row (WriteFault role) cause = absurd cause
 
     -- what the run gives that it tells, or why there is nothing
-    pub told_row : (r : Result Made Status) → MatchResult r (λ made. HasRun s.kind s given None (gives s made) × (made.choices ≡ choices)) (IsRefusedRun s given choices)
+    pub told_row : (r : Result Made Status) → MatchResult r (λ made. HasRun s.kind s scenario None (gives s made) × (made.choices ≡ choices)) (IsRefusedRun s scenario choices)
         → MatchResult r (λ made. ForResults (asks_audit s) old new (λ g. g ≡ gives s made)) (λ status. RowOf (asks_audit s) old new [] status)
     told_row (Ok made) holds = audit_results (gives s made) holds.0 holds.1
     told_row (Err status) holds = no_run_row status holds

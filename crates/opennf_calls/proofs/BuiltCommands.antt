@@ -15,7 +15,7 @@ use Rattle.actor_net.specs.declared.schedule.Schedule.{Schedule}
 use Rattle.opennf_calls.specs.Command.{is_command}
 use Rattle.opennf_calls.specs.Phases.{CanRun}
 use Rattle.command_words.specs.Grammar.{GivenTexts, given_arguments, run_app, sim_app, check_app, gen_app}
-use Rattle.command_words.specs.Plan.{Asked, NetworkAsked, CheckAsked, Instances, asks_sim, asks_run, asks_audit, asks_check, asks_gen, only, function_of, instance_of, all_instances, instances_of, inside_of, outside_of, window_of, count_of, schedule_of, file_of, file_if, network_values, check_values, gen_values, sim_of, run_of, audit_of, check_of, gen_of, asked_of, plan_of}
+use Rattle.command_words.specs.Requests.{Asked, NetworkAsked, CheckAsked, Instances, asks_sim, asks_run, asks_audit, asks_check, asks_gen, only, function_of, instance_of, all_instances, instances_of, inside_of, outside_of, window_of, count_of, schedule_of, file_of, file_if, network_values, check_values, gen_values, sim_of, run_of, audit_of, check_of, gen_of, asked_of, request_of}
 
 -- what an answer was made of
 and_then : {A B : Type 0} (f : A → Option B) (o : Option A) (y : B) → option_and_then f o ≡ Some y → (x : A) × (o ≡ Some x) × (f x ≡ Some y)
@@ -188,29 +188,29 @@ not_both command is =
     let same = (bytes_eq-Decides command (codes "sim")).0 is in subst (λ (name : List ℕ). bytes_eq name (codes "run") ≡ false) (sym same) refl
 
 -- what the words ask for is sound, and a run exactly where the command is called so
-pub plan_asked : (words : List (List ℕ)) (asked : Asked) → plan_of words ≡ Some asked → IsAsked (is_command (codes "run") words) asked
-unfolding plan_of asked_of
-plan_asked [] asked is = absurd cc
-plan_asked (program ∷ []) asked is = absurd cc
-plan_asked (program ∷ command ∷ words) asked is =
+pub request_asked : (words : List (List ℕ)) (asked : Asked) → request_of words ≡ Some asked → IsAsked (is_command (codes "run") words) asked
+unfolding request_of asked_of
+request_asked [] asked is = absurd cc
+request_asked (program ∷ []) asked is = absurd cc
+request_asked (program ∷ command ∷ words) asked is =
     from_name words asked (bytes_eq command (codes "sim")) (bytes_eq command (codes "run")) (bytes_eq command (codes "audit"))
     (bytes_eq command (codes "check")) (bytes_eq command (codes "gen")) (not_both command) is
 
 -- a run of the network that is asked for can run
-pub sim_runs : (words : List (List ℕ)) (s : NetworkAsked) (schedule : Schedule) → plan_of words ≡ Some (asks_sim s schedule) → CanRun s
-sim_runs words s schedule is = (plan_asked words (asks_sim s schedule) is).sound
+pub sim_runs : (words : List (List ℕ)) (s : NetworkAsked) (schedule : Schedule) → request_of words ≡ Some (asks_sim s schedule) → CanRun s
+sim_runs words s schedule is = (request_asked words (asks_sim s schedule) is).sound
 
-pub run_runs : (words : List (List ℕ)) (s : NetworkAsked) → plan_of words ≡ Some (asks_run s) → CanRun s
-run_runs words s is = (plan_asked words (asks_run s) is).sound
+pub run_runs : (words : List (List ℕ)) (s : NetworkAsked) → request_of words ≡ Some (asks_run s) → CanRun s
+run_runs words s is = (request_asked words (asks_run s) is).sound
 
 -- an audit can run, and has a journal
-pub audit_runs : (words : List (List ℕ)) (s : NetworkAsked) → plan_of words ≡ Some (asks_audit s) → CanRun s × (is_some s.journal ≡ true)
-audit_runs words s is = (plan_asked words (asks_audit s) is).sound
+pub audit_runs : (words : List (List ℕ)) (s : NetworkAsked) → request_of words ≡ Some (asks_audit s) → CanRun s × (is_some s.journal ≡ true)
+audit_runs words s is = (request_asked words (asks_audit s) is).sound
 
 -- a check has few instances
-pub check_few : (words : List (List ℕ)) (c : CheckAsked) → plan_of words ≡ Some (asks_check c) → length c.instances.names ≤ 16
-check_few words c is = (plan_asked words (asks_check c) is).sound
+pub check_few : (words : List (List ℕ)) (c : CheckAsked) → request_of words ≡ Some (asks_check c) → length c.instances.names ≤ 16
+check_few words c is = (request_asked words (asks_check c) is).sound
 
 -- a run is called so, and nothing else is
-pub called_run : (words : List (List ℕ)) (asked : Asked) (run : Bool) → plan_of words ≡ Some asked → is_command (codes "run") words ≡ run → is_run asked ≡ run
-called_run words asked run is named = (plan_asked words asked is).kind ∙ named
+pub called_run : (words : List (List ℕ)) (asked : Asked) (run : Bool) → request_of words ≡ Some asked → is_command (codes "run") words ≡ run → is_run asked ≡ run
+called_run words asked run is named = (request_asked words asked is).kind ∙ named

@@ -3,7 +3,7 @@ use Rattle.std.proofs.Common.{◌≡◌, ℕ, List, Option, None, Some, refl, sy
 use Rattle.nf_io.specs.declared.outside.Role.{Role}
 use Rattle.nf_io.specs.Meaning.{Meaning, Rose}
 use Rattle.actor_net.specs.declared.choice.Choice.{Choice}
-use Rattle.command_words.specs.Plan.{Asked}
+use Rattle.command_words.specs.Requests.{Asked}
 use Rattle.opennf_calls.specs.declared.status.Status.{Status}
 use Rattle.opennf_calls.specs.declared.status.Status.TheVariants.{Ok as Done, Usage, BadScript, BadTrace, BadJournal, NotARun, ReadFault, WriteFault, NoMemory}
 use Rattle.opennf_calls.specs.declared.outcome.Outcome.{Outcome}
@@ -25,6 +25,6 @@ complete_row asked old new choices (BadScript line kind) bytes row told sound ca
 complete_row asked old new choices (BadJournal fault) bytes row told sound calm = absurd (never asked bytes _ sound (row.0.refusal bytes told))
 complete_row asked old new choices Usage bytes row told sound calm = absurd row
 
-pub complete : (plan : Option Asked) (old new : Role → Meaning) (outcome : Outcome) → CauseOf plan old new outcome → IsComplete plan old new outcome.status
-complete plan old new outcome cause asked is bytes told sound calm =
+pub complete : (request : Option Asked) (old new : Role → Meaning) (outcome : Outcome) → CauseOf request old new outcome → IsComplete request old new outcome.status
+complete request old new outcome cause asked is bytes told sound calm =
     complete_row asked old new outcome.choices outcome.status bytes (subst (λ p. CauseOf p old new outcome) is cause) told sound calm

@@ -6,7 +6,7 @@ use Rattle.nf_io.specs.declared.outside.Role.TheVariants.{Errors}
 use Rattle.nf_io.specs.Meaning.{Meaning}
 use Rattle.command_words.specs.declared.fault.ArgumentsFault.{ArgumentsFault}
 use Rattle.command_words.specs.declared.fault.ArgumentsFault.TheVariants as words
-use Rattle.command_words.specs.Plan.{Asked, asks_sim, asks_run, asks_audit, asks_check, asks_gen}
+use Rattle.command_words.specs.Requests.{Asked, asks_sim, asks_run, asks_audit, asks_check, asks_gen}
 use Rattle.command_words.specs.Views.{Refuses}
 use Rattle.opennf_calls.specs.declared.status.Status.{Status}
 use Rattle.opennf_calls.specs.declared.outcome.Outcome.{Outcome}
@@ -32,10 +32,10 @@ no_file (asks_check c) = refl
 no_file (asks_gen g) = refl
 
 -- a command ended
-pub ended : (plan : Option Asked) (asked : Asked) (before old new : Role → Meaning) (outcome : Outcome) → plan ≡ Some asked
+pub ended : (request : Option Asked) (asked : Asked) (before old new : Role → Meaning) (outcome : Outcome) → request ≡ Some asked
     → ((role : Role) → (before role).name ≡ None) → SameContents before old → IsBound asked old → Performs asked old new outcome
-    → HasEnded plan before new outcome
-ended plan asked before old new outcome is unnamed contents bound performs = record {
+    → HasEnded request before new outcome
+ended request asked before old new outcome is unnamed contents bound performs = record {
   cause = subst (λ (p : Option Asked). CauseOf p before new outcome) (sym is)
       (row_around before old new new (bound_before before old new contents) asked outcome.choices outcome.status performs.row);
   names = λ role. inr (performs.names role ∙ bound role ∙ ap (λ (p : Option Asked). option_and_then (λ a. file_for a role) p) (sym is));
@@ -44,14 +44,14 @@ ended plan asked before old new outcome is unnamed contents bound performs = rec
 }
 
 -- words were refused
-pub refused_words : (plan : Option Asked) (old : Role → Meaning) (fault : ArgumentsFault) (status : Status) (outcome : Outcome) → Refuses fault plan
-    → ((role : Role) → (old role).name ≡ None) → status ≡ words_status fault → outcome ≡ record { status = status; choices = [] } → HasEnded plan old old outcome
-refused_words plan old fault status outcome refuses unnamed is ends =
-    subst (λ (o : Outcome). HasEnded plan old old o) (sym ends)
-    (subst (λ (s : Status). HasEnded plan old old (record { status = s; choices = [] })) (sym is)
-    (record { cause = by fault plan refuses; names = λ role. inl (unnamed role); errors = refl }))
+pub refused_words : (request : Option Asked) (old : Role → Meaning) (fault : ArgumentsFault) (status : Status) (outcome : Outcome) → Refuses fault request
+    → ((role : Role) → (old role).name ≡ None) → status ≡ words_status fault → outcome ≡ record { status = status; choices = [] } → HasEnded request old old outcome
+refused_words request old fault status outcome refuses unnamed is ends =
+    subst (λ (o : Outcome). HasEnded request old old o) (sym ends)
+    (subst (λ (s : Status). HasEnded request old old (record { status = s; choices = [] })) (sym is)
+    (record { cause = by fault request refuses; names = λ role. inl (unnamed role); errors = refl }))
   where
-    by : (fault : ArgumentsFault) (plan : Option Asked) → Refuses fault plan → CauseOf plan old old (record { status = words_status fault; choices = [] })
+    by : (fault : ArgumentsFault) (request : Option Asked) → Refuses fault request → CauseOf request old old (record { status = words_status fault; choices = [] })
     by words.Usage None refuses = (inl refl, λ role differ. refl, refl)
     by words.Usage (Some asked) refuses = absurd (cc)
     by words.NoMemory None refuses = (inr refl, λ role differ. refl, refl)

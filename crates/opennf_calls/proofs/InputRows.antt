@@ -19,7 +19,7 @@ use Rattle.op_script.specs.declared.fault.ScriptFault.TheVariants as unread
 use Rattle.op_script.specs.declared.fault.ScriptKind.{ScriptKind}
 use Rattle.op_script.specs.declared.script.Script.{Script as TheScript}
 use Rattle.op_script.specs.Reading.{script_of}
-use Rattle.command_words.specs.Plan.{NetworkAsked}
+use Rattle.command_words.specs.Requests.{NetworkAsked}
 use Rattle.opennf_calls.specs.declared.status.Status.{Status}
 use Rattle.opennf_calls.specs.Outcome.{IsSite, first_refusal, inputs_refusal, script_refusal, trace_refusal}
 use Rattle.opennf_calls.specs.NetworkRuns.{given_script}
@@ -97,7 +97,7 @@ module _ (s : NetworkAsked) (old mid : Role → Meaning) (script : TheScript) (f
         → ((bytes : List ℕ) → (mid Trace).left ≡ Some bytes → AnswersTrace (capture_of bytes) (new Trace).left (Ok captured))
         → HasInputs s old new (record { site = site; captured = captured; script = script })
     both_read site is_site captured answers = record {
-      is_given = λ bytes told. record { read = (answers (bytes Trace) (told_trace bytes told)).0; said = has.said bytes (script_told bytes told); is_site = is_site };
+      is_scenario = λ bytes told. record { read = (answers (bytes Trace) (told_trace bytes told)).0; said = has.said bytes (script_told bytes told); is_site = is_site };
       sound = λ bytes told. refusal bytes told ∙ ap trace_refusal (answers (bytes Trace) (told_trace bytes told)).0;
       read = λ bytes told. record {
         trace = (answers (bytes Trace) (told_trace bytes told)).1;

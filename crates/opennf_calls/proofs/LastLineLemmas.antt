@@ -6,7 +6,7 @@ use Rattle.nf_io.specs.declared.outside.Role.{Role}
 use Rattle.nf_io.specs.declared.outside.Role.TheVariants.{Errors}
 use Rattle.nf_io.specs.Meaning.{Meaning, Rose, AppendsFront}
 use Rattle.actor_net.specs.declared.choice.Choice.{Choice}
-use Rattle.command_words.specs.Plan.{Asked}
+use Rattle.command_words.specs.Requests.{Asked}
 use Rattle.opennf_calls.specs.declared.status.Status.{Status}
 use Rattle.opennf_calls.specs.declared.status.Status.TheVariants.{Ok as Done, Usage, BadScript, BadTrace, BadJournal, NotARun, ReadFault, WriteFault, NoMemory}
 use Rattle.opennf_calls.specs.declared.outcome.Outcome.{Outcome}
@@ -145,7 +145,7 @@ module _ (before old mid new : Role → Meaning) (around : Around before old mid
   row_around asked choices NoMemory row = (silent row.0, row.1)
   row_around asked choices Usage row = row
 
-  pub cause_around : (plan : Option Asked) (outcome : Outcome) → CauseOf plan old mid outcome → CauseOf plan before new outcome
+  pub cause_around : (request : Option Asked) (outcome : Outcome) → CauseOf request old mid outcome → CauseOf request before new outcome
   cause_around None outcome cause = (cause.0, silent cause.1, cause.2)
   cause_around (Some asked) outcome cause = row_around asked outcome.choices outcome.status cause
 
@@ -170,8 +170,8 @@ line_after old mid new line wrote = record {
 }
 
 -- names that were bound are those that the words give, also after a line was written
-pub names_after : (plan : Option Asked) (mid new : Role → Meaning) → SameNames mid new → MayBind plan mid → MayBind plan new
-names_after plan mid new same was role = elim (was role) [ inl unnamed ↦ inl (same role ∙ unnamed) | inr named ↦ inr (same role ∙ named) ]
+pub names_after : (request : Option Asked) (mid new : Role → Meaning) → SameNames mid new → MayBind request mid → MayBind request new
+names_after request mid new same was role = elim (was role) [ inl unnamed ↦ inl (same role ∙ unnamed) | inr named ↦ inr (same role ∙ named) ]
 
 -- what the last write did, whether it failed or not
 pub puts_line : {E : Type 0} (line : List ℕ) (old mid new : Role → Meaning) (r : Result (Unit {0}) E) → mid Errors ≡ old Errors

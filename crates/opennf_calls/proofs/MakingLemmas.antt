@@ -7,7 +7,7 @@ use Rattle.trace_reader.specs.Generated.{capture}
 use Rattle.trace_reader.specs.Making.{Makes}
 use Rattle.trace_reader.specs.declared.make.MakeFault.{MakeFault}
 use Rattle.trace_reader.specs.declared.make.MakeFault.TheVariants.{Write, NoMemory}
-use Rattle.command_words.specs.Plan.{GenAsked, asks_gen}
+use Rattle.command_words.specs.Requests.{GenAsked, asks_gen}
 use Rattle.opennf_calls.specs.Command.{is_input, is_result}
 use Rattle.opennf_calls.specs.Outcome.{ForResults, IsBound, gen_line}
 use Rattle.opennf_calls.specs.Phases.{OnlyRead, Performs}

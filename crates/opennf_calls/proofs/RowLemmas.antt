@@ -7,7 +7,7 @@ use Rattle.nf_io.specs.declared.outside.Role.TheVariants.{Trace, Script, Journal
 use Rattle.nf_io.specs.Meaning.{Meaning, Rose, AppendsFront}
 use Rattle.nf_io.specs.Roles.{is_read}
 use Rattle.actor_net.specs.declared.choice.Choice.{Choice}
-use Rattle.command_words.specs.Plan.{Asked, CheckAsked, GenAsked, asks_check, asks_gen}
+use Rattle.command_words.specs.Requests.{Asked, CheckAsked, GenAsked, asks_check, asks_gen}
 use Rattle.opennf_calls.specs.declared.status.Status.{Status}
 use Rattle.opennf_calls.specs.declared.status.Status.TheVariants.{Ok as Done, WriteFault}
 use Rattle.opennf_calls.specs.Command.{file_for, is_input, is_read_before, is_result, comes_before}

@@ -6,7 +6,7 @@ use Rattle.flow_filter.specs.declared.packet.Packet.{Packet}
 use Rattle.nf_function.specs.Semantics.{Semantics}
 use Rattle.nf_msgs.specs.declared.msg.Msg.{Msg}
 use Rattle.nf_msgs.specs.declared.note.Note.{Note}
-use Rattle.command_words.specs.Plan.{NetworkAsked}
+use Rattle.command_words.specs.Requests.{NetworkAsked}
 use Rattle.actor_net.specs.declared.choice.Choice.{Choice}
 use Rattle.actor_net.specs.declared.schedule.Schedule.{Schedule}
 use Rattle.actor_net.specs.declared.schedule.TheConstants.{MOST_CHOICES}
@@ -30,13 +30,13 @@ use Rattle.run_report.specs.Lines.{report_text}
 use Rattle.opennf_calls.specs.declared.network.Made.{Made}
 use Rattle.opennf_calls.specs.declared.status.Status.{Status}
 use Rattle.opennf_calls.specs.declared.status.Status.TheVariants.{BadTrace, BadJournal, NotARun, NoMemory, Ok as Done, Usage, BadScript, ReadFault, WriteFault}
-use Rattle.opennf_calls.specs.NetworkRuns.{Given, HasNoRun, IsNoRun, IsRunOf, config_for, head_for, items_for}
+use Rattle.opennf_calls.specs.NetworkRuns.{Scenario, HasNoRun, IsNoRun, IsRunOf, config_for, head_for, items_for}
 use Rattle.opennf_calls.specs.Phases.{IsRefusedAs, IsRefusedRun, gives}
 use Rattle.opennf_calls.specs.Status.{audit_status}
 use Rattle.opennf_calls.proofs.LoggedNumbers.{answer_numbers, out_numbers}
 use Rattle.run_input.proofs.SaidCommands.{end_is_last, packets_in}
 
-module _ {R : Type 0} (F : Type 0) (f : Semantics R) (s : NetworkAsked) (g : Given) (alloc : Global) (config : Config) (items : List Msg) (head : Head)
+module _ {R : Type 0} (F : Type 0) (f : Semantics R) (s : NetworkAsked) (g : Scenario) (alloc : Global) (config : Config) (items : List Msg) (head : Head)
     (is_config : config ≡ config_for s g.site g.script.routes.items) (is_items : items ≡ items_for g.captured g.script) where
   -- what holds of the configuration and the input holds of those of the words
   moved : (Q : Config → List Msg → Type 0) → Q config items → Q (config_for s g.site g.script.routes.items) (items_for g.captured g.script)
@@ -89,7 +89,7 @@ module _ {R : Type 0} (F : Type 0) (f : Semantics R) (s : NetworkAsked) (g : Giv
   run_refused choices audit.NoMemory cause = tt
 
 -- The function is that of the words.
-module _ {R : Type 0} (F : Type 0) (f : Semantics R) (s : NetworkAsked) (g : Given) where
+module _ {R : Type 0} (F : Type 0) (f : Semantics R) (s : NetworkAsked) (g : Scenario) where
   no_run : (choices : List Choice) → ((step : ℕ) → IsNoRun F f s g choices step → HasNoRun s.kind s g choices step)
       → (status : Status) → IsRefusedAs F f s g choices status → IsRefusedRun s g choices status
   no_run choices same (NotARun step) cause = same step cause

@@ -6,11 +6,11 @@ use Rattle.nf_io.specs.declared.outside.Role.TheVariants.{Trace, Script, Journal
 use Rattle.nf_io.specs.Meaning.{Meaning}
 use Rattle.nf_io.specs.Roles.{is_read}
 use Rattle.actor_net.specs.declared.schedule.Schedule.{Schedule}
-use Rattle.command_words.specs.Plan.{Asked, NetworkAsked, asks_sim, asks_run, asks_audit}
+use Rattle.command_words.specs.Requests.{Asked, NetworkAsked, asks_sim, asks_run, asks_audit}
 use Rattle.opennf_calls.specs.declared.status.Status.{Status}
 use Rattle.opennf_calls.specs.declared.status.Status.TheVariants.{Ok as Done, Usage, BadScript, BadTrace, BadJournal, NotARun, ReadFault, WriteFault, NoMemory}
 use Rattle.opennf_calls.specs.Command.{is_input, is_read_before, run_file, with_journal}
-use Rattle.opennf_calls.specs.NetworkRuns.{Given, RunResults, HasRun, given_script}
+use Rattle.opennf_calls.specs.NetworkRuns.{Scenario, RunResults, HasRun, given_script}
 use Rattle.opennf_calls.specs.Outcome.{EarlierAreSound, ForResults, HasEarlier, HasInput, IsBound, IsRead, IsRefusedCommand, RowOf, earlier_refusal, first_refusal, inputs_refusal, journal_read, journal_refusal, refusal_of, script_refusal}
 use Rattle.opennf_calls.specs.Phases.{HasInputs, InputsFail, IsBehindSound, OnlyRead, ReadToEnd, RefusesInputs, ScriptIsSound, TellsInputs, TellsScript}
 use Rattle.opennf_calls.proofs.RowLemmas.{first_read, not_before, read_fault, refused, silent}
@@ -129,23 +129,23 @@ module _ (s : NetworkAsked) (asked : Asked) (reads : Reads s asked) (old new : R
   fails_row (WriteFault role) fails = absurd fails
 
 -- they give a run
-module _ (s : NetworkAsked) (old new : Role → Meaning) (given : Given) (has : HasInputs s old new given) where
+module _ (s : NetworkAsked) (old new : Role → Meaning) (scenario : Scenario) (has : HasInputs s old new scenario) where
   -- by threads
-  pub run_results : (made : RunResults) → HasRun s.kind s given None made → ForResults (asks_run s) old new (λ g. g ≡ made)
+  pub run_results : (made : RunResults) → HasRun s.kind s scenario None made → ForResults (asks_run s) old new (λ g. g ≡ made)
   run_results made holds bytes is = let told = tells s (asks_run s) (run_reads s) old bytes is in record {
     read = all_read s new (has.read bytes told);
     sound = has.sound bytes told;
     made = made;
-    are = record { given = given; is_given = has.is_given bytes told; holds = holds };
+    are = record { scenario = scenario; is_scenario = has.is_scenario bytes told; holds = holds };
     wrote = refl;
   }
 
   -- by a schedule
-  pub sim_results : (schedule : Schedule) (made : RunResults) → HasRun s.kind s given (Some schedule) made → ForResults (asks_sim s schedule) old new (λ g. g ≡ made)
+  pub sim_results : (schedule : Schedule) (made : RunResults) → HasRun s.kind s scenario (Some schedule) made → ForResults (asks_sim s schedule) old new (λ g. g ≡ made)
   sim_results schedule made holds bytes is = let told = tells s (asks_sim s schedule) (sim_reads s schedule) old bytes is in record {
     read = all_read s new (has.read bytes told);
     sound = has.sound bytes told;
     made = made;
-    are = record { given = given; is_given = has.is_given bytes told; holds = holds };
+    are = record { scenario = scenario; is_scenario = has.is_scenario bytes told; holds = holds };
     wrote = refl;
   }

@@ -15,9 +15,9 @@ use Rattle.op_script.specs.declared.script.Line.{Line}
 use Rattle.op_script.specs.declared.script.What.{What}
 use Rattle.op_script.specs.declared.script.What.TheVariants as what
 use Rattle.op_script.specs.Reading.{OrderView, line_view, order_view, route_view, script_view, what_view}
-use Rattle.command_words.specs.Plan.{NetworkAsked}
-use Rattle.opennf_calls.specs.NetworkRuns.{Given, given_script}
-use Rattle.opennf_calls.specs.Outcome.{IsGiven}
+use Rattle.command_words.specs.Requests.{NetworkAsked}
+use Rattle.opennf_calls.specs.NetworkRuns.{Scenario, given_script}
+use Rattle.opennf_calls.specs.Outcome.{IsScenario}
 use Rattle.opennf_calls.proofs.SameSites.{same_prefix, same_site}
 
 -- lists that are seen the same are the same, where their elements are
@@ -103,14 +103,14 @@ same_route a b e =
     subst (λ x. a ≡ (x, b.1)) filter (subst (λ x. a ≡ (a.0, x)) place refl)
 
 -- what two runs are given, as far as they look at it
-pub record AreSame (g h : Given) : Type 0 where
+pub record AreSame (g h : Scenario) : Type 0 where
   pub site : g.site ≡ h.site
   pub captured : g.captured ≡ h.captured
   pub routes : g.script.routes.items ≡ h.script.routes.items
   pub lines : g.script.lines.items ≡ h.script.lines.items
 
-pub same_given : (s : NetworkAsked) (bytes again : Role → List ℕ) (g h : Given) → IsGiven s bytes g → IsGiven s again h → again Trace ≡ bytes Trace → again Script ≡ bytes Script → AreSame g h
-same_given s bytes again g h x y trace script =
+pub same_scenario : (s : NetworkAsked) (bytes again : Role → List ℕ) (g h : Scenario) → IsScenario s bytes g → IsScenario s again h → again Trace ≡ bytes Trace → again Script ≡ bytes Script → AreSame g h
+same_scenario s bytes again g h x y trace script =
     let read : Ok g.captured ≡ Ok h.captured = sym x.read ∙ ap capture_of (sym trace) ∙ y.read in
     let said : Ok (script_view g.script) ≡ Ok (script_view h.script) = sym x.said ∙ ap (given_script s) (sym script) ∙ y.said in
     let seen : script_view g.script ≡ script_view h.script = cc in

@@ -3,7 +3,7 @@ use Rattle.std.proofs.Common.{◌≡◌, ◌≤◌, ◌+◌, ℕ, Bool, true, fa
 use Rattle.std.proofs.lemmas.Bool.{ltb-true, ltb-false, lt-ltb}
 use Rattle.std.proofs.lemmas.List.{take_all, drop_all}
 use Rattle.nf_function.specs.declared.kind.Kind.{Kind}
-use Rattle.op_script.specs.Forms.{Word}
+use Rattle.op_script.specs.Statements.{Word}
 use Rattle.op_script.specs.Reading.{ScriptView, script_of}
 use Rattle.op_script.specs.declared.fault.ScriptFault.{ScriptFault}
 use Rattle.op_script.specs.declared.fault.ScriptFault.TheVariants as script
@@ -15,7 +15,7 @@ use Rattle.nf_io.specs.Meaning.{Meaning}
 use Rattle.nf_io.specs.Transfers.{HasUptoCause}
 use Rattle.nf_io.specs.declared.transfers.UptoFault.{UptoFault}
 use Rattle.nf_io.specs.declared.transfers.UptoFault.TheVariants as upto
-use Rattle.command_words.specs.Plan.{Asked, CheckAsked, asks_check}
+use Rattle.command_words.specs.Requests.{Asked, CheckAsked, asks_check}
 use Rattle.opennf_calls.specs.Outcome.{HasInput, IsBound, RowOf, refusal_of}
 use Rattle.opennf_calls.specs.Phases.{OnlyRead}
 use Rattle.opennf_calls.specs.Status.{reading_status, script_status}

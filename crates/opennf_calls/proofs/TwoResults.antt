@@ -7,7 +7,7 @@ use Rattle.nf_io.specs.declared.outside.Role.TheVariants.{Report, Errors}
 use Rattle.nf_io.specs.Meaning.{Meaning, Rose, AppendsFront}
 use Rattle.nf_io.specs.Roles.{is_read, same_role}
 use Rattle.actor_net.specs.declared.choice.Choice.{Choice}
-use Rattle.command_words.specs.Plan.{Asked}
+use Rattle.command_words.specs.Requests.{Asked}
 use Rattle.opennf_calls.specs.declared.status.Status.{Status}
 use Rattle.opennf_calls.specs.declared.status.Status.TheVariants.{Ok as Done, WriteFault}
 use Rattle.opennf_calls.specs.Command.{file_for, is_input, is_result, comes_before}

@@ -3,7 +3,7 @@ use Rattle.std.specs.Prelude.{◌≡◌, ℕ, List, Option, None}
 use Rattle.nf_io.specs.declared.outside.Role.{Role}
 use Rattle.nf_io.specs.declared.outside.Role.TheVariants.{Trace, Script, JournalIn, Report, JournalOut}
 use Rattle.actor_net.specs.declared.schedule.Schedule.{Schedule}
-use Rattle.command_words.specs.Plan.{NetworkAsked, asks_audit}
+use Rattle.command_words.specs.Requests.{NetworkAsked, asks_audit}
 use Rattle.opennf_calls.specs.NetworkRuns.{RunResults}
 use Rattle.opennf_calls.specs.Outcome.{FailsAt, IsAudited, IsCompletedRun, refusal_of}
 

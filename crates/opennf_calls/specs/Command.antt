@@ -4,7 +4,7 @@ use Rattle.std.specs.Str.{bytes_eq}
 use Rattle.nf_io.specs.declared.outside.Role.{Role}
 use Rattle.nf_io.specs.declared.outside.Role.TheVariants.{Trace, Script, JournalIn, Report, JournalOut, TraceOut, Errors}
 use Rattle.nf_io.specs.Roles.{is_read, same_role}
-use Rattle.command_words.specs.Plan.{Asked, NetworkAsked, asks_sim, asks_run, asks_audit, asks_check, asks_gen}
+use Rattle.command_words.specs.Requests.{Asked, NetworkAsked, asks_sim, asks_run, asks_audit, asks_check, asks_gen}
 
 -- the capture and the script of a run of the network
 abbrev pub run_file : NetworkAsked → Role → Option (List ℕ)

@@ -19,7 +19,7 @@ use Rattle.op_script.specs.declared.script.Script.{Script as TheScript}
 use Rattle.op_script.specs.declared.fault.ScriptKind.{ScriptKind}
 use Rattle.op_script.specs.Items as script_items
 use Rattle.op_script.specs.Reading.{ScriptView, script_of}
-use Rattle.command_words.specs.Plan.{NetworkAsked}
+use Rattle.command_words.specs.Requests.{NetworkAsked}
 use Rattle.nf_io.specs.declared.outside.Role.{Role}
 use Rattle.nf_io.specs.declared.outside.Role.TheVariants.{Report, JournalOut}
 use Rattle.actor_net.specs.declared.choice.Choice.{Choice}
@@ -73,7 +73,7 @@ head_for s captured = record {
 }
 
 -- what words, capture and script give a run: the site, what was captured, and the script
-pub record Given : Type 0 where
+pub record Scenario : Type 0 where
   pub site : Site
   pub captured : Captured
   pub script : TheScript
@@ -83,7 +83,7 @@ pub record RunResults : Type 0 where
   pub choices : List Choice
   pub texts : Role → List ℕ
 
-module _ {R : Type 0} (F : Type 0) (f : Semantics R) (s : NetworkAsked) (g : Given) where
+module _ {R : Type 0} (F : Type 0) (f : Semantics R) (s : NetworkAsked) (g : Scenario) where
   -- the network at its start
   abbrev pub start_for : Global → Network (Node F R) Msg Note
   start_for alloc = started alloc (config_for s g.site g.script.routes.items) (items_for g.captured g.script)
@@ -115,12 +115,12 @@ module _ {R : Type 0} (F : Type 0) (f : Semantics R) (s : NetworkAsked) (g : Giv
     pub cause : IsAuditCause f (start_for alloc) choices step
 
 -- the same, for the function that the words name
-abbrev pub HasRun : Kind → NetworkAsked → Given → Option Schedule → RunResults → Type 0
+abbrev pub HasRun : Kind → NetworkAsked → Scenario → Option Schedule → RunResults → Type 0
 HasRun kinds.Conntrack = IsRunOf Conntrack conntrack
 HasRun kinds.Nat = IsRunOf Nat nat
 HasRun kinds.Monitor = IsRunOf Monitor monitor
 
-abbrev pub HasNoRun : Kind → NetworkAsked → Given → List Choice → ℕ → Type 0
+abbrev pub HasNoRun : Kind → NetworkAsked → Scenario → List Choice → ℕ → Type 0
 HasNoRun kinds.Conntrack = IsNoRun Conntrack conntrack
 HasNoRun kinds.Nat = IsNoRun Nat nat
 HasNoRun kinds.Monitor = IsNoRun Monitor monitor

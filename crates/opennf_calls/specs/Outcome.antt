@@ -18,12 +18,12 @@ use Rattle.journal_file.specs.declared.fault.JournalFault.{JournalFault}
 use Rattle.journal_file.specs.Reading.{journal_of}
 use Rattle.actor_net.specs.declared.choice.Choice.{Choice}
 use Rattle.actor_net.specs.declared.schedule.Schedule.{Schedule}
-use Rattle.command_words.specs.Plan.{Asked, NetworkAsked, CheckAsked, GenAsked, asks_sim, asks_run, asks_audit, asks_check, asks_gen}
+use Rattle.command_words.specs.Requests.{Asked, NetworkAsked, CheckAsked, GenAsked, asks_sim, asks_run, asks_audit, asks_check, asks_gen}
 use Rattle.opennf_calls.specs.declared.status.Status.{Status}
 use Rattle.opennf_calls.specs.declared.status.Status.TheVariants.{Ok as Done, Usage, BadScript, BadTrace, BadJournal, NotARun, ReadFault, WriteFault, NoMemory}
 use Rattle.opennf_calls.specs.declared.outcome.Outcome.{Outcome}
 use Rattle.opennf_calls.specs.Command.{file_for, is_input, is_read_before, is_result, comes_before}
-use Rattle.opennf_calls.specs.NetworkRuns.{Given, RunResults, given_script, HasRun, HasNoRun}
+use Rattle.opennf_calls.specs.NetworkRuns.{Scenario, RunResults, given_script, HasRun, HasNoRun}
 use Rattle.opennf_calls.specs.Status.{line_of, trace_status, journal_status}
 
 -- the site with this inside prefix and this outside address
@@ -33,20 +33,20 @@ pub record IsSite (site : Site) (prefix : ℕ × ℕ) (address : Option ℕ) : T
   pub outside : site.outside ≡ address
 
 -- what a run is given: the capture and the script that the bytes are read as, and the site
-pub record IsGiven (s : NetworkAsked) (bytes : Role → List ℕ) (given : Given) : Type 0 where
-  pub read : capture_of (bytes Trace) ≡ Ok given.captured
-  pub said : given_script s (bytes Script) ≡ Ok (script_view given.script)
-  pub is_site : IsSite given.site s.inside s.outside
+pub record IsScenario (s : NetworkAsked) (bytes : Role → List ℕ) (scenario : Scenario) : Type 0 where
+  pub read : capture_of (bytes Trace) ≡ Ok scenario.captured
+  pub said : given_script s (bytes Script) ≡ Ok (script_view scenario.script)
+  pub is_site : IsSite scenario.site s.inside s.outside
 
 -- what is said of a run holds of what it is given
-pub record OfGiven (s : NetworkAsked) (bytes : Role → List ℕ) (P : Given → Type 0) : Type 0 where
-  pub given : Given
-  pub is_given : IsGiven s bytes given
-  pub holds : P given
+pub record OfScenario (s : NetworkAsked) (bytes : Role → List ℕ) (P : Scenario → Type 0) : Type 0 where
+  pub scenario : Scenario
+  pub is_scenario : IsScenario s bytes scenario
+  pub holds : P scenario
 
 -- a complete run of the network, by a schedule if there is one, with its report and its journal
 abbrev pub IsCompletedRun : NetworkAsked → (Role → List ℕ) → Option Schedule → RunResults → Type 0
-IsCompletedRun s bytes by made = OfGiven s bytes (λ given. HasRun s.kind s given by made)
+IsCompletedRun s bytes by made = OfScenario s bytes (λ scenario. HasRun s.kind s scenario by made)
 
 -- what the bytes of a journal are read as
 abbrev pub journal_read : NetworkAsked → (Role → List ℕ) → Result (List Choice) JournalFault
@@ -117,7 +117,7 @@ earlier_refusal asked role bytes = None
 pub record TellsNoRun (s : NetworkAsked) (bytes : Role → List ℕ) (step : ℕ) : Type 0 where
   pub choices : List Choice
   pub told : journal_read s bytes ≡ Ok choices
-  pub no_run : OfGiven s bytes (λ given. HasNoRun s.kind s given choices step)
+  pub no_run : OfScenario s bytes (λ scenario. HasNoRun s.kind s scenario choices step)
 
 abbrev pub FailsAt : Asked → (Role → List ℕ) → ℕ → Type 0
 FailsAt (asks_audit s) bytes step = TellsNoRun s bytes step
@@ -247,7 +247,7 @@ CauseOf (Some asked) old new outcome = RowOf asked old new outcome.choices outco
 
 -- a role has no name, or the one that the words give it
 abbrev pub MayBind : Option Asked → (Role → Meaning) → Type 0
-MayBind plan new = (role : Role) → ((new role).name ≡ None) ⊎ ((new role).name ≡ option_and_then (λ asked. file_for asked role) plan)
+MayBind request new = (role : Role) → ((new role).name ≡ None) ⊎ ((new role).name ≡ option_and_then (λ asked. file_for asked role) request)
 
 -- a line went to the standard error, or a front of it where its count of faults rose
 abbrev pub PutsLine : List ℕ → (old new : Meaning) → Type 0
@@ -262,13 +262,13 @@ pub data IsGoodEnd (asked : Asked) (bytes : Role → List ℕ) (status : Status)
   Is_no_run : (step : ℕ) → status ≡ NotARun step → FailsAt asked bytes step → IsGoodEnd asked bytes status
 
 abbrev pub IsComplete : Option Asked → (old new : Role → Meaning) → Status → Type 0
-IsComplete plan old new status =
-    (asked : Asked) → plan ≡ Some asked → (bytes : Role → List ℕ) → HasInput asked old bytes → refusal_of asked bytes ≡ None
+IsComplete request old new status =
+    (asked : Asked) → request ≡ Some asked → (bytes : Role → List ℕ) → HasInput asked old bytes → refusal_of asked bytes ≡ None
     → ((role : Role) → Rose (old role).faults (new role).faults → ⊥) → IsGoodEnd asked bytes status
 
 -- all that a call of the program promises
-pub record HasOutcome (plan : Option Asked) (old new : Role → Meaning) (outcome : Outcome) : Type 0 where
-  pub cause : CauseOf plan old new outcome
-  pub names : MayBind plan new
+pub record HasOutcome (request : Option Asked) (old new : Role → Meaning) (outcome : Outcome) : Type 0 where
+  pub cause : CauseOf request old new outcome
+  pub names : MayBind request new
   pub errors : PutsLine (line_of outcome.status) (old Errors) (new Errors)
-  pub complete : IsComplete plan old new outcome.status
+  pub complete : IsComplete request old new outcome.status

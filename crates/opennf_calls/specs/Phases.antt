@@ -17,16 +17,16 @@ use Rattle.journal_file.specs.Format.{journal_bytes}
 use Rattle.net_world.specs.Input.{IsInput}
 use Rattle.net_length.specs.Length.{IsShort}
 use Rattle.actor_net.specs.declared.choice.Choice.{Choice}
-use Rattle.command_words.specs.Plan.{Asked, NetworkAsked}
+use Rattle.command_words.specs.Requests.{Asked, NetworkAsked}
 use Rattle.opennf_calls.specs.declared.status.Status.{Status}
 use Rattle.opennf_calls.specs.declared.status.Status.TheVariants.{BadScript, BadTrace, NoMemory, NotARun, ReadFault}
 use Rattle.opennf_calls.specs.declared.outcome.Outcome.{Outcome}
 use Rattle.opennf_calls.specs.Command.{run_file}
-use Rattle.opennf_calls.specs.Outcome.{CauseOf, IsGiven, MayBind, RowOf, inputs_refusal, script_refusal}
+use Rattle.opennf_calls.specs.Outcome.{CauseOf, IsScenario, MayBind, RowOf, inputs_refusal, script_refusal}
 use Rattle.opennf_calls.specs.declared.inputs.Inputs.{Inputs}
 use Rattle.opennf_calls.specs.declared.network.Made.{Made}
 use Rattle.opennf_calls.specs.declared.network.Opening.{Opening}
-use Rattle.opennf_calls.specs.NetworkRuns.{Given, RunResults, HasNoRun, IsNoRun, config_for, given_script, head_for, items_for}
+use Rattle.opennf_calls.specs.NetworkRuns.{Scenario, RunResults, HasNoRun, IsNoRun, config_for, given_script, head_for, items_for}
 
 -- a role has this name now, and nothing else changed
 pub record Named (role : Role) (name : Option (List ℕ)) (old new : Role → Meaning) : Type 0 where
@@ -93,8 +93,8 @@ pub record ScriptIsSound (s : NetworkAsked) (old new : Role → Meaning) : Type 
   pub sound : (bytes : Role → List ℕ) → TellsScript s old bytes → script_refusal (given_script s (bytes ScriptRole)) ≡ None
 
 -- the script and the capture were read; a journal wasn't touched
-pub record HasInputs (s : NetworkAsked) (old new : Role → Meaning) (given : Given) : Type 0 where
-  pub is_given : (bytes : Role → List ℕ) → TellsInputs s old bytes → IsGiven s bytes given
+pub record HasInputs (s : NetworkAsked) (old new : Role → Meaning) (scenario : Scenario) : Type 0 where
+  pub is_scenario : (bytes : Role → List ℕ) → TellsInputs s old bytes → IsScenario s bytes scenario
   pub sound : (bytes : Role → List ℕ) → TellsInputs s old bytes → inputs_refusal s bytes ≡ None
   pub read : (bytes : Role → List ℕ) → TellsInputs s old bytes → ReadToEnd s new
   pub journal : new JournalIn ≡ old JournalIn
@@ -117,22 +117,22 @@ InputsFail s old new (BadTrace offset kind) = RefusesInputs s old (BadTrace offs
 InputsFail s old new status = ⊥
 
 -- what a run's inputs are read as, at a site
-abbrev pub given_by : Site → Inputs → Given
-given_by site inputs = record { site = site; captured = inputs.trace; script = inputs.script }
+abbrev pub scenario_of : Site → Inputs → Scenario
+scenario_of site inputs = record { site = site; captured = inputs.trace; script = inputs.script }
 
 -- a script whose filters split no unit, and packets in the order of their numbers, no more than are read
-pub record CanBegin (s : NetworkAsked) (given : Given) : Type 0 where
-  pub right : IsScript s.instances.names (script_view given.script)
-  pub whole : SplitsNone s.kind (script_view given.script)
-  pub numbers : AreNumbered 1 given.captured.packets
-  pub steered : All (λ packet. is_steered_proto packet.proto ≡ true) given.captured.packets
-  pub few : length given.captured.packets ≤ most_packets
+pub record CanBegin (s : NetworkAsked) (scenario : Scenario) : Type 0 where
+  pub right : IsScript s.instances.names (script_view scenario.script)
+  pub whole : SplitsNone s.kind (script_view scenario.script)
+  pub numbers : AreNumbered 1 scenario.captured.packets
+  pub steered : All (λ packet. is_steered_proto packet.proto ≡ true) scenario.captured.packets
+  pub few : length scenario.captured.packets ≤ most_packets
 
 -- a network before its start, with what its report repeats
-pub record IsOpening (s : NetworkAsked) (given : Given) (opening : Opening) : Type 0 where
-  pub config : opening.config ≡ config_for s given.site given.script.routes.items
-  pub items : opening.items.items ≡ items_for given.captured given.script
-  pub head : opening.head ≡ head_for s given.captured
+pub record IsOpening (s : NetworkAsked) (scenario : Scenario) (opening : Opening) : Type 0 where
+  pub config : opening.config ≡ config_for s scenario.site scenario.script.routes.items
+  pub items : opening.items.items ≡ items_for scenario.captured scenario.script
+  pub head : opening.head ≡ head_for s scenario.captured
   pub is_input : IsInput s.kind opening.config opening.items.items
   pub short : IsShort opening.items.items
 
@@ -150,17 +150,17 @@ pub record GivesReport (choices : List Choice) (text : List ℕ) (made : RunResu
   pub report : made.texts Report ≡ text
 
 -- why a journal's choices give no report, for a function
-module _ {R : Type 0} (F : Type 0) (f : Semantics R) (s : NetworkAsked) (given : Given) where
+module _ {R : Type 0} (F : Type 0) (f : Semantics R) (s : NetworkAsked) (scenario : Scenario) where
   abbrev pub IsRefusedAs : List Choice → Status → Type 0
-  IsRefusedAs choices (NotARun step) = IsNoRun F f s given choices step
+  IsRefusedAs choices (NotARun step) = IsNoRun F f s scenario choices step
   IsRefusedAs choices NoMemory = Unit {0}
   IsRefusedAs choices status = ⊥
 
 -- the same, for the function that the words name
-abbrev pub IsRefusedRun : NetworkAsked → Given → List Choice → Status → Type 0
-IsRefusedRun s given choices (NotARun step) = HasNoRun s.kind s given choices step
-IsRefusedRun s given choices NoMemory = Unit {0}
-IsRefusedRun s given choices status = ⊥
+abbrev pub IsRefusedRun : NetworkAsked → Scenario → List Choice → Status → Type 0
+IsRefusedRun s scenario choices (NotARun step) = HasNoRun s.kind s scenario choices step
+IsRefusedRun s scenario choices NoMemory = Unit {0}
+IsRefusedRun s scenario choices status = ⊥
 
 -- a command whose files were bound ended: its row holds, and the names and the standard error are as before
 pub record Performs (asked : Asked) (old new : Role → Meaning) (outcome : Outcome) : Type 0 where
@@ -169,7 +169,7 @@ pub record Performs (asked : Asked) (old new : Role → Meaning) (outcome : Outc
   pub errors : new Errors ≡ old Errors
 
 -- the words were read, files were bound, and the command ended: the standard error is as before
-pub record HasEnded (plan : Option Asked) (old new : Role → Meaning) (outcome : Outcome) : Type 0 where
-  pub cause : CauseOf plan old new outcome
-  pub names : MayBind plan new
+pub record HasEnded (request : Option Asked) (old new : Role → Meaning) (outcome : Outcome) : Type 0 where
+  pub cause : CauseOf request old new outcome
+  pub names : MayBind request new
   pub errors : new Errors ≡ old Errors

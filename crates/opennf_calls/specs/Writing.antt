@@ -5,7 +5,7 @@ use Rattle.nf_io.specs.declared.outside.Role.{Role}
 use Rattle.nf_io.specs.declared.outside.Role.TheVariants.{Report, JournalOut}
 use Rattle.nf_io.specs.Meaning.{Meaning, Rose, AppendsFront, OthersStay}
 use Rattle.journal_file.specs.Format.{journal_bytes}
-use Rattle.command_words.specs.Plan.{NetworkAsked}
+use Rattle.command_words.specs.Requests.{NetworkAsked}
 use Rattle.opennf_calls.specs.declared.status.Status.{Status}
 use Rattle.opennf_calls.specs.declared.status.Status.TheVariants.{Ok as Done, WriteFault, NoMemory}
 use Rattle.opennf_calls.specs.declared.outcome.Outcome.{Outcome}

@@ -4,7 +4,7 @@ ghost use Rattle.std.specs.Option.{ForSome};
 ghost use Rattle.nf_io.specs.declared.outside.Role.TheVariants.{JournalIn as JournalRole};
 ghost use Rattle.nf_io.specs.Meaning.{CanRead};
 ghost use Rattle.journal_file.specs.Reading.{GivesFrom, HasReadCause, count_of, journal_of, looked_at};
-ghost use Rattle.command_words.specs.Plan.{asks_audit};
+ghost use Rattle.command_words.specs.Requests.{asks_audit};
 ghost use Rattle.command_words.specs.RequestViews.{network_view};
 ghost use Rattle.opennf_calls.specs.Again.{AuditLaw};
 ghost use Rattle.opennf_calls.specs.Outcome.{IsBound, ForResults, RowOf};

@@ -3,7 +3,7 @@ ghost use Rattle.std.specs.Option.{ForSome};
 ghost use Rattle.nf_io.specs.declared.outside.Role.TheVariants.{Script as ScriptRole};
 ghost use Rattle.nf_io.specs.Meaning.{CanRead};
 ghost use Rattle.nf_io.specs.Transfers.{HasUptoCause};
-ghost use Rattle.command_words.specs.Plan.{asks_check};
+ghost use Rattle.command_words.specs.Requests.{asks_check};
 ghost use Rattle.command_words.specs.RequestViews.{check_view};
 ghost use Rattle.opennf_calls.specs.Outcome.{IsBound, ForResults, RowOf};
 ghost use Rattle.opennf_calls.specs.Phases.{GivesReport, Performs, ReadAlone};

@@ -1,7 +1,7 @@
 ghost use Rattle.std.specs.Prelude.{◌≡◌, MatchResult, []};
 ghost use Rattle.nf_io.specs.declared.outside.Role.TheVariants.{TraceOut as TraceOutRole};
 ghost use Rattle.trace_reader.specs.Generated.{capture};
-ghost use Rattle.command_words.specs.Plan.{asks_gen};
+ghost use Rattle.command_words.specs.Requests.{asks_gen};
 ghost use Rattle.command_words.specs.RequestViews.{gen_view};
 ghost use Rattle.opennf_calls.specs.Outcome.{IsBound, gen_line};
 ghost use Rattle.opennf_calls.specs.Phases.{Performs};

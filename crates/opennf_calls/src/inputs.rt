@@ -10,7 +10,7 @@ ghost use Rattle.trace_reader.specs.Steered.{is_steered_proto};
 ghost use Rattle.op_script.specs.Printing.{IsScript, SplitsNone};
 ghost use Rattle.op_script.specs.Reading.{script_view};
 ghost use Rattle.command_words.specs.RequestViews.{network_view};
-ghost use Rattle.opennf_calls.specs.Phases.{CanBegin, CanRun, HasInputs, HasScript, InputsBound, InputsFail, OnlyRead, ReadAlone, given_by};
+ghost use Rattle.opennf_calls.specs.Phases.{CanBegin, CanRun, HasInputs, HasScript, InputsBound, InputsFail, OnlyRead, ReadAlone, scenario_of};
 
 use crate::check::{MOST_BYTES, read_bytes};
 use crate::status::Status;
@@ -37,11 +37,11 @@ pub fn read_inputs<O: Outside>(
     requires bound { InputsBound (network_view asked.now) (O.seen outside.old) }
     requires runs { CanRun (network_view asked.now) }
     ensures only { OnlyRead (O.seen outside.old) (O.seen outside.new) }
-    ensures sound { IfOk result (λ inputs. CanBegin (network_view asked.now) (given_by asked.now.site inputs)) }
+    ensures sound { IfOk result (λ inputs. CanBegin (network_view asked.now) (scenario_of asked.now.site inputs)) }
 
     // The inputs are those that are given, or the status has its cause.
     ensures given { MatchResult result
-        (λ inputs. HasInputs (network_view asked.now) (O.seen outside.old) (O.seen outside.new) (given_by asked.now.site inputs))
+        (λ inputs. HasInputs (network_view asked.now) (O.seen outside.old) (O.seen outside.new) (scenario_of asked.now.site inputs))
         (InputsFail (network_view asked.now) (O.seen outside.old) (O.seen outside.new)) }
 {
     let script = read_commands(alloc, asked, outside)?;

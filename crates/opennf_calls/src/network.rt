@@ -4,7 +4,7 @@ ghost use Rattle.command_words.specs.RequestViews.{network_view};
 ghost use Rattle.opennf_calls.specs.declared.status.Status.TheVariants.{NoMemory as OutOfMemory};
 ghost use Rattle.opennf_calls.specs.Ends.{EndLaw};
 ghost use Rattle.opennf_calls.specs.NetworkRuns.{HasRun, IsRunOf};
-ghost use Rattle.opennf_calls.specs.Phases.{CanBegin, CanRun, IsOpening, IsRefusedRun, IsRefusedAs, given_by, gives};
+ghost use Rattle.opennf_calls.specs.Phases.{CanBegin, CanRun, IsOpening, IsRefusedRun, IsRefusedAs, scenario_of, gives};
 
 use crate::inputs::Inputs;
 use crate::status::Status;
@@ -50,8 +50,8 @@ pub fn run_scheduled(
     schedule: Schedule,
 ) -> Result<Made, NoMemory>
     requires runs { CanRun (network_view asked.now) }
-    requires sound { CanBegin (network_view asked.now) (given_by asked.now.site inputs) }
-    ensures { IfOk result (λ made. HasRun asked.now.kind (network_view asked.now) (given_by asked.now.site inputs) (Some schedule) (gives (network_view asked.now) made)) }
+    requires sound { CanBegin (network_view asked.now) (scenario_of asked.now.site inputs) }
+    ensures { IfOk result (λ made. HasRun asked.now.kind (network_view asked.now) (scenario_of asked.now.site inputs) (Some schedule) (gives (network_view asked.now) made)) }
 {
     let kind = asked.kind;
     match kind {
@@ -70,8 +70,8 @@ pub fn run_threaded<R: Threads + Wait + Sync, G: Gate>(
     gate: &G,
 ) -> Result<Made, NoMemory>
     requires runs { CanRun (network_view asked.now) }
-    requires sound { CanBegin (network_view asked.now) (given_by asked.now.site inputs) }
-    ensures { IfOk result (λ made. HasRun asked.now.kind (network_view asked.now) (given_by asked.now.site inputs) None (gives (network_view asked.now) made)) }
+    requires sound { CanBegin (network_view asked.now) (scenario_of asked.now.site inputs) }
+    ensures { IfOk result (λ made. HasRun asked.now.kind (network_view asked.now) (scenario_of asked.now.site inputs) None (gives (network_view asked.now) made)) }
 {
     let kind = asked.kind;
     match kind {
@@ -89,10 +89,10 @@ pub fn run_told(
     choices: Choices,
 ) -> Result<Made, Status>
     requires runs { CanRun (network_view asked.now) }
-    requires sound { CanBegin (network_view asked.now) (given_by asked.now.site inputs) }
+    requires sound { CanBegin (network_view asked.now) (scenario_of asked.now.site inputs) }
     ensures { MatchResult result
-        (λ made. HasRun asked.now.kind (network_view asked.now) (given_by asked.now.site inputs) None (gives (network_view asked.now) made) × (made.choices ≡ choices))
-        (IsRefusedRun (network_view asked.now) (given_by asked.now.site inputs) choices) }
+        (λ made. HasRun asked.now.kind (network_view asked.now) (scenario_of asked.now.site inputs) None (gives (network_view asked.now) made) × (made.choices ≡ choices))
+        (IsRefusedRun (network_view asked.now) (scenario_of asked.now.site inputs) choices) }
 {
     let kind = asked.kind;
     match kind {
@@ -111,8 +111,8 @@ fn schedule_network<F: Function>(
 ) -> Result<Made, NoMemory>
     requires kind { F.semantics.kind ≡ asked.now.kind }
     requires runs { CanRun (network_view asked.now) }
-    requires sound { CanBegin (network_view asked.now) (given_by asked.now.site inputs) }
-    ensures { IfOk result (λ made. IsRunOf F.row.Denot F.semantics (network_view asked.now) (given_by asked.now.site inputs) (Some schedule) (gives (network_view asked.now) made)) }
+    requires sound { CanBegin (network_view asked.now) (scenario_of asked.now.site inputs) }
+    ensures { IfOk result (λ made. IsRunOf F.row.Denot F.semantics (network_view asked.now) (scenario_of asked.now.site inputs) (Some schedule) (gives (network_view asked.now) made)) }
 {
     let Opening {
         config,
@@ -140,8 +140,8 @@ where
     F::Record: Send,
     requires kind { F.semantics.kind ≡ asked.now.kind }
     requires runs { CanRun (network_view asked.now) }
-    requires sound { CanBegin (network_view asked.now) (given_by asked.now.site inputs) }
-    ensures { IfOk result (λ made. IsRunOf F.row.Denot F.semantics (network_view asked.now) (given_by asked.now.site inputs) None (gives (network_view asked.now) made)) }
+    requires sound { CanBegin (network_view asked.now) (scenario_of asked.now.site inputs) }
+    ensures { IfOk result (λ made. IsRunOf F.row.Denot F.semantics (network_view asked.now) (scenario_of asked.now.site inputs) None (gives (network_view asked.now) made)) }
 {
     let Opening {
         config,
@@ -162,10 +162,10 @@ fn tell_network<F: Function>(
 ) -> Result<Made, Status>
     requires kind { F.semantics.kind ≡ asked.now.kind }
     requires runs { CanRun (network_view asked.now) }
-    requires sound { CanBegin (network_view asked.now) (given_by asked.now.site inputs) }
+    requires sound { CanBegin (network_view asked.now) (scenario_of asked.now.site inputs) }
     ensures { MatchResult result
-        (λ made. IsRunOf F.row.Denot F.semantics (network_view asked.now) (given_by asked.now.site inputs) None (gives (network_view asked.now) made) × (made.choices ≡ choices))
-        (IsRefusedAs F.row.Denot F.semantics (network_view asked.now) (given_by asked.now.site inputs) choices) }
+        (λ made. IsRunOf F.row.Denot F.semantics (network_view asked.now) (scenario_of asked.now.site inputs) None (gives (network_view asked.now) made) × (made.choices ≡ choices))
+        (IsRefusedAs F.row.Denot F.semantics (network_view asked.now) (scenario_of asked.now.site inputs) choices) }
 {
     let Opening {
         config,
@@ -180,8 +180,8 @@ fn tell_network<F: Function>(
 /// The network before its start.
 fn open(alloc: Global, asked: &NetworkRequest<'_>, inputs: Inputs) -> Result<Opening, NoMemory>
     requires runs { CanRun (network_view asked.now) }
-    requires sound { CanBegin (network_view asked.now) (given_by asked.now.site inputs) }
-    ensures { IfOk result (IsOpening (network_view asked.now) (given_by asked.now.site inputs)) }
+    requires sound { CanBegin (network_view asked.now) (scenario_of asked.now.site inputs) }
+    ensures { IfOk result (IsOpening (network_view asked.now) (scenario_of asked.now.site inputs)) }
 {
     let setting = Setting {
         kind: asked.kind,

@@ -1,6 +1,6 @@
 //! The command `run`: a run of the network by threads.
 ghost use Rattle.std.specs.Prelude.{◌≡◌, MatchResult, []};
-ghost use Rattle.command_words.specs.Plan.{asks_run};
+ghost use Rattle.command_words.specs.Requests.{asks_run};
 ghost use Rattle.command_words.specs.RequestViews.{network_view};
 ghost use Rattle.opennf_calls.specs.Outcome.{IsBound, ForResults, RowOf};
 ghost use Rattle.opennf_calls.specs.Phases.{CanRun, OnlyRead, Performs, gives};

@@ -1,7 +1,7 @@
 ghost use Rattle.std.specs.Prelude.{◌≡◌, ◌⊎◌, true, false, Some, None, option_map, map, codes, string_bytes, OnOk, OnErr};
 ghost use Rattle.nf_io.specs.declared.outside.Role.{Role as TheRole};
 ghost use Rattle.nf_io.specs.Meaning.{CanBind};
-ghost use Rattle.command_words.specs.Plan.{plan_of};
+ghost use Rattle.command_words.specs.Requests.{request_of};
 ghost use Rattle.command_words.specs.RequestViews.{network_view, request_view};
 ghost use Rattle.opennf_calls.specs.Command.{is_command, is_journal, with_journal};
 ghost use Rattle.opennf_calls.specs.Outcome.{IsBound, MayBind, HasOutcome};
@@ -36,7 +36,7 @@ pub fn opennf_top<R: Threads + Wait + Sync, O: Outside, G: Gate>(
     gate: &G,
 ) -> Outcome
     requires { (role : TheRole) → (O.seen outside.old role).name ≡ None }
-    ensures { HasOutcome (plan_of (map string_bytes words.now)) (O.seen outside.old) (O.seen outside.new) result }
+    ensures { HasOutcome (request_of (map string_bytes words.now)) (O.seen outside.old) (O.seen outside.new) result }
 {
     if names_run(words) {
         opennf_run(rt, alloc, words, outside, gate)
@@ -55,7 +55,7 @@ pub fn opennf_run<R: Threads + Wait + Sync, O: Outside, G: Gate>(
 ) -> Outcome
     requires unnamed { (role : TheRole) → (O.seen outside.old role).name ≡ None }
     requires command { is_command (codes "run") (map string_bytes words.now) ≡ true }
-    ensures { HasOutcome (plan_of (map string_bytes words.now)) (O.seen outside.old) (O.seen outside.new) result }
+    ensures { HasOutcome (request_of (map string_bytes words.now)) (O.seen outside.old) (O.seen outside.new) result }
 {
     let outcome = perform_run(rt, alloc, words, outside, gate);
     // A failing standard error changes no status.
@@ -67,7 +67,7 @@ pub fn opennf_run<R: Threads + Wait + Sync, O: Outside, G: Gate>(
 pub fn opennf_calm<O: Outside>(alloc: Global, words: &[String], outside: &mut O) -> Outcome
     requires unnamed { (role : TheRole) → (O.seen outside.old role).name ≡ None }
     requires command { is_command (codes "run") (map string_bytes words.now) ≡ false }
-    ensures { HasOutcome (plan_of (map string_bytes words.now)) (O.seen outside.old) (O.seen outside.new) result }
+    ensures { HasOutcome (request_of (map string_bytes words.now)) (O.seen outside.old) (O.seen outside.new) result }
 {
     let outcome = perform(alloc, words, outside);
     // A failing standard error changes no status.
@@ -95,7 +95,7 @@ fn perform_run<R: Threads + Wait + Sync, O: Outside, G: Gate>(
 ) -> Outcome
     requires unnamed { (role : TheRole) → (O.seen outside.old role).name ≡ None }
     requires command { is_command (codes "run") (map string_bytes words.now) ≡ true }
-    ensures { HasEnded (plan_of (map string_bytes words.now)) (O.seen outside.old) (O.seen outside.new) result }
+    ensures { HasEnded (request_of (map string_bytes words.now)) (O.seen outside.old) (O.seen outside.new) result }
 {
     let request = match parse_command(alloc, words) {
         Ok(request) => request,
@@ -117,7 +117,7 @@ fn perform_run<R: Threads + Wait + Sync, O: Outside, G: Gate>(
 fn perform<O: Outside>(alloc: Global, words: &[String], outside: &mut O) -> Outcome
     requires unnamed { (role : TheRole) → (O.seen outside.old role).name ≡ None }
     requires command { is_command (codes "run") (map string_bytes words.now) ≡ false }
-    ensures { HasEnded (plan_of (map string_bytes words.now)) (O.seen outside.old) (O.seen outside.new) result }
+    ensures { HasEnded (request_of (map string_bytes words.now)) (O.seen outside.old) (O.seen outside.new) result }
 {
     let request = match parse_command(alloc, words) {
         Ok(request) => request,

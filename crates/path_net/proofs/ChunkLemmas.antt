@@ -13,7 +13,7 @@ use Rattle.record_table.specs.Table.{same_unit, is_among}
 use Rattle.record_table.specs.Chunks.{spelled}
 use Rattle.record_table.proofs.UnitOrder.{same_unit-true}
 use Rattle.move_op.specs.Move.{chunks_of}
-use Rattle.unit_machine.proofs.Fits.{records}
+use Rattle.unit_machine.proofs.UnitPieces.{records}
 use Rattle.unit_machine.proofs.Kept.{records_one}
 use Rattle.unit_machine.proofs.Labels.{Each}
 use Rattle.unit_machine.proofs.Real.{Frame, record_at, see}

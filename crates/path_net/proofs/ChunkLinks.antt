@@ -18,7 +18,7 @@ use Rattle.nf_msgs.specs.declared.msg.Msg.TheVariants as msg
 use Rattle.actor_net.proofs.WeightLaws.{Each}
 use Rattle.unit_machine.proofs.Machine.{Where, At_a, At_b, Item, Carry, Pass, Fence, Enable, Stream, Delete, Put, Restore, Enabled, Event, Piece, Deleted, Put_ok, Put_no, Restored, Fenced, Forward, Fence_to, Install, Stray}
 use Rattle.unit_machine.proofs.Kept.{record_in, records_on}
-use Rattle.unit_machine.proofs.Given.{gives, deletes}
+use Rattle.unit_machine.proofs.ToRemove.{gives, deletes}
 use Rattle.unit_machine.proofs.Labels as labels
 use Rattle.unit_machine.proofs.Real.{record_at, M_enable, M_stream, M_delete, M_put, M_restore, M_enabled, M_event, M_piece, M_deleted, M_put_ok, M_put_no, M_restored, M_fenced, M_forward, M_install, M_fence_to, Frame, see, where_true, sends_to, add}
 use Rattle.abstract_net.proofs.Net as net

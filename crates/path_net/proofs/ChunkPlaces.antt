@@ -22,7 +22,7 @@ use Rattle.ctrl_node.specs.declared.operation.Operation.TheVariants.{Move, Copy,
 use Rattle.actor_net.specs.Network.{Network, IsWorld, on_link}
 use Rattle.unit_machine.proofs.Machine.{State}
 use Rattle.unit_machine.proofs.Machine as machine
-use Rattle.unit_machine.proofs.Fits.{records}
+use Rattle.unit_machine.proofs.UnitPieces.{records}
 use Rattle.unit_machine.proofs.Kept.{records_on, records_one, on_way}
 use Rattle.unit_machine.proofs.Labels.{Each, Without, Clean}
 use Rattle.unit_machine.proofs.Pairs.{expect}

@@ -2,7 +2,7 @@
 -- controller keeps.
 use Rattle.std.proofs.Common.{◌≡◌, List, [], ◌∷◌, ◌++◌, refl, append-nil, ap, ◌∙◌}
 use Rattle.unit_machine.proofs.Machine.{State, Phase}
-use Rattle.unit_machine.proofs.Fits.{nil_left, nil_right}
+use Rattle.unit_machine.proofs.UnitPieces.{nil_left, nil_right}
 use Rattle.unit_machine.proofs.Kept.{records_on, frozen_in, free_in, on_way}
 
 -- the unit's record in the pieces that the controller keeps

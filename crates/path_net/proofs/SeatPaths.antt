@@ -17,7 +17,7 @@ use Rattle.nf_msgs.specs.declared.note.Note.{Note}
 use Rattle.nf_msgs.specs.Nodes.{instance_node}
 use Rattle.actor_net.specs.Network.{Network, IsWorld}
 use Rattle.unit_machine.proofs.Machine.{State, idle}
-use Rattle.unit_machine.proofs.Fits.{nil_right}
+use Rattle.unit_machine.proofs.UnitPieces.{nil_right}
 use Rattle.unit_machine.proofs.Labels.{Each}
 use Rattle.unit_machine.proofs.Lists.{firsts}
 use Rattle.unit_machine.proofs.Stages as stages

@@ -3,7 +3,7 @@
 use Rattle.std.proofs.Common.{◌≡◌, ◌≢◌, ℕ, Bool, true, false, cond, ◌==◌, Option, Some, None, List, [], ◌∷◌, ◌++◌, map, inl, inr, refl, sym, ap, ◌∙◌, append_assoc, append-nil, arith}
 use Rattle.std.proofs.lemmas.Bool.Decides.{nat_tests, Decides-eqb}
 use Rattle.share_machine.proofs.Share.{Ran, Item, Item.Carry, Item.Fence, Item.Shared, Item.Sync, Item.Chunk, Frame, has, after, over, only, mine_in, nowhere}
-use Rattle.share_machine.proofs.Stages.{Turn, Turn.Going, Turn.Coming, Turn.Quiet, is_going, is_pending, goes_to, served, Stage, Stage.Diverting, Stage.Fence_goes, Stage.Fenced_comes, Stage.Get_goes, Stage.Chunks_come, Stage.Spreads, Stage.Resting, Stage.Forwards, Stage.Carries, Stage.Chunk_comes, path, processed, shape, IsShare, Behind, Fits}
+use Rattle.share_machine.proofs.Stages.{Turn, Turn.Going, Turn.Coming, Turn.Quiet, is_going, is_pending, goes_to, served, Stage, Stage.Diverting, Stage.Fence_goes, Stage.Fenced_comes, Stage.Get_goes, Stage.Chunks_come, Stage.Spreads, Stage.Resting, Stage.Forwards, Stage.Carries, Stage.Chunk_comes, path, processed, shape, IsShare, Behind, FitsFrame}
 use Rattle.share_machine.proofs.Lists.{self, cond-same, runs-append, served-append}
 use Rattle.share_machine.proofs.Path as paths
 use Rattle.share_machine.proofs.Path.{gather, gather_none, gather_only, carries, shared_in, forwarded, diverted}
@@ -153,7 +153,7 @@ module _ {R : Type 0} (f : Frame R) where
       })
 
   module _ (is : IsShare f) where
-    pub sees : (s : Stage R) → Fits f s → Sees s
+    pub sees : (s : Stage R) → FitsFrame f s → Sees s
     sees (Diverting d b l) h = let home = self f.home in Sees_all (rw home refl)
     sees (Fence_goes d b l q v) h = let home = self f.home in Sees_all (rw home refl)
     sees (Fenced_comes d b q v) h = let home = self f.home in Sees_all (rw home refl)

@@ -1,4 +1,4 @@
-pub mod GivenInput
+pub mod MadeInput
 pub mod LoopFacts
 pub mod PacketFactLemmas
 pub mod SaidCommands

@@ -20,7 +20,7 @@ use Rattle.op_script.specs.declared.fault.ScriptKind.TheVariants as bad
 use Rattle.op_script.specs.declared.script.Line.{Line}
 use Rattle.op_script.specs.declared.script.What.{What}
 use Rattle.op_script.specs.declared.script.What.TheVariants as what
-use Rattle.op_script.specs.Forms.{Word}
+use Rattle.op_script.specs.Statements.{Word}
 use Rattle.op_script.specs.Items.{IsFrom}
 use Rattle.op_script.specs.Reading.{ends_of, unless, route_view, line_view, what_view, order_view}
 use Rattle.op_script.specs.Printing.{IsRoute, IsLine, IsWhat, IsOrder, OrderFits, WhatFits, next_after, and_then, follows, what_splits, order_splits}

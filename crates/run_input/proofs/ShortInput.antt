@@ -9,7 +9,7 @@ use Rattle.op_script.specs.declared.script.Line.{Line}
 use Rattle.op_script.specs.declared.script.Script.{Script}
 use Rattle.op_script.specs.declared.script.What.{What}
 use Rattle.op_script.specs.declared.script.What.TheVariants as what
-use Rattle.op_script.specs.Forms.{Word}
+use Rattle.op_script.specs.Statements.{Word}
 use Rattle.op_script.specs.Items.{msg_of, said_where, items_from, items, IsFrom}
 use Rattle.op_script.specs.Printing.{IsScript}
 use Rattle.op_script.specs.Reading.{line_view, script_view}

@@ -8,7 +8,7 @@ ghost use Rattle.op_script.specs.Printing.{CopiedFits, IsScript, SplitsNone, Wha
 ghost use Rattle.op_script.specs.Items.{items};
 ghost use Rattle.net_world.specs.Input.{IsInput, IsSteered, ends_last, most_counted};
 ghost use Rattle.net_length.specs.Length.{IsShort};
-ghost use Rattle.run_input.specs.Given.{config_of, IsSetting};
+ghost use Rattle.run_input.specs.Settings.{config_of, IsSetting};
 ghost use Rattle.run_input.specs.PacketFacts.{IsTransport, IsSteeredItem};
 ghost use Rattle.flow_filter.specs.Limits.{most_packets};
 

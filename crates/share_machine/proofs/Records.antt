@@ -2,7 +2,7 @@
 -- member has just processed (`is_live`). Each has seen a front of it (`seen_front`).
 use Rattle.std.proofs.Common.{◌≡◌, ℕ, Bool, true, false, cond, ◌==◌, List, [], ◌∷◌, ◌++◌, inl, inr, refl, sym, append_assoc, append-nil}
 use Rattle.share_machine.proofs.Share.{Ran, Frame, if_mine, after}
-use Rattle.share_machine.proofs.Stages.{Turn, Turn.Going, Turn.Coming, Turn.Quiet, is_going, is_pending, Stage, Stage.Diverting, Stage.Fence_goes, Stage.Fenced_comes, Stage.Get_goes, Stage.Chunks_come, Stage.Spreads, Stage.Resting, Stage.Forwards, Stage.Carries, Stage.Chunk_comes, front, processed, shape, served, IsFront, Fits, Behind, Lacks, Live}
+use Rattle.share_machine.proofs.Stages.{Turn, Turn.Going, Turn.Coming, Turn.Quiet, is_going, is_pending, Stage, Stage.Diverting, Stage.Fence_goes, Stage.Fenced_comes, Stage.Get_goes, Stage.Chunks_come, Stage.Spreads, Stage.Resting, Stage.Forwards, Stage.Carries, Stage.Chunk_comes, front, processed, shape, served, IsFront, FitsFrame, Behind, Lacks, Live}
 use Rattle.share_machine.proofs.Lists.{cond-same, self, served-append}
 use Rattle.share_machine.proofs.Setting.{front_same}
 use Rattle.share_machine.proofs.Serving.{took_more}
@@ -60,7 +60,7 @@ module _ {R : Type 0} (f : Frame R) where
   still_behind n b at (inl a) = inl a
   still_behind n b at (inr a) = inr (a.0, (a.1.0, rw (not_pending (at (f.member_of a.0)) a.1.1) refl))
 
-  pub is_live : (s : Stage R) → Fits f s → Live f s
+  pub is_live : (s : Stage R) → FitsFrame f s → Live f s
   is_live (Diverting d b l) h = inl (rw (self f.home) refl)
   is_live (Fence_goes d b l q v) h = inl (rw (self f.home) refl)
   is_live (Fenced_comes d b q v) h = inl (rw (self f.home) refl)
@@ -77,7 +77,7 @@ module _ {R : Type 0} (f : Frame R) where
   is_live (Chunk_comes d e p q v) h = took d e p (f.mine p)
 
   -- each member's record has seen a front of what was processed
-  pub seen_front : (s : Stage R) → Fits f s → (k : ℕ) → IsFront (front f s k) (processed f s)
+  pub seen_front : (s : Stage R) → FitsFrame f s → (k : ℕ) → IsFront (front f s k) (processed f s)
   seen_front (Diverting d b l) h k = either (k == f.home) (b k) d (h k)
   seen_front (Fence_goes d b l q v) h k = either (k == f.home) (b k) d (h k)
   seen_front (Fenced_comes d b q v) h k = either (k == f.home) (b k) d (h k)

@@ -2,7 +2,7 @@
 -- waits, and each member's record has seen all.
 use Rattle.std.proofs.Common.{◌≡◌, ℕ, true, false, ◌==◌, Option, List, [], ◌∷◌, ◌++◌, map, refl, sym, ap, ◌∙◌}
 use Rattle.share_machine.proofs.Share.{Ran, Item, Item.Carry, Item.Fence, Item.Diverted, Frame, Phase.Idle, View, has, only}
-use Rattle.share_machine.proofs.Stages.{Turn, Turn.Going, Turn.Coming, Turn.Quiet, is_pending, goes_to, comes_from, count, Stage, Stage.Diverting, Stage.Fence_goes, Stage.Fenced_comes, Stage.Get_goes, Stage.Chunks_come, Stage.Spreads, Stage.Resting, Stage.Forwards, Stage.Carries, Stage.Chunk_comes, front, processed, path, shape, IsShare, Fits}
+use Rattle.share_machine.proofs.Stages.{Turn, Turn.Going, Turn.Coming, Turn.Quiet, is_pending, goes_to, comes_from, count, Stage, Stage.Diverting, Stage.Fence_goes, Stage.Fenced_comes, Stage.Get_goes, Stage.Chunks_come, Stage.Spreads, Stage.Resting, Stage.Forwards, Stage.Carries, Stage.Chunk_comes, front, processed, path, shape, IsShare, FitsFrame}
 use Rattle.share_machine.proofs.Lists.{self, count-none}
 
 -- a stage that waits for nothing
@@ -42,7 +42,7 @@ module _ {R : Type 0} (f : Frame R) (is : IsShare f) where
   resting d e [] none = record { before = d; since = e; is = refl; phase = refl; path = refl; seen = λ k. refl }
   resting d e (p ∷ v) none = cons_nil none
 
-  pub rests : (s : Stage R) → Fits f s → Silent f (shape f s) → Rests f s
+  pub rests : (s : Stage R) → FitsFrame f s → Silent f (shape f s) → Rests f s
   rests (Diverting d b l) h x = cons_nil x.cs
   rests (Fence_goes d b l q v) h x = behind_nil (map Carry l) Fence [] (here f.home (map Carry l ++ Fence ∷ []) (x.sw f.home is.home_in))
   rests (Fenced_comes d b q v) h x = cons_nil (here f.home _ (x.back f.home is.home_in))

@@ -184,17 +184,17 @@ pub record FitsSpread {R : Type 0} (f : Frame R) (n : List Ran) (b : ℕ → Lis
   pub apart : distinct o ≡ true
 
 -- what is known of a stage beside its shape
-abbrev pub Fits : {R : Type 0} → Frame R → Stage R → Type 0
-Fits f (Diverting d b l) = (k : ℕ) → IsFront (b k) d
-Fits f (Fence_goes d b l q v) = (k : ℕ) → IsFront (b k) d
-Fits f (Fenced_comes d b q v) = (k : ℕ) → IsFront (b k) d
-Fits f (Get_goes d b q v) = (k : ℕ) → IsFront (b k) d
-Fits f (Chunks_come d b q v) = (k : ℕ) → IsFront (b k) d
-Fits f (Spreads first d e b c at o left q v) = FitsSpread f (d ++ served f e) b c at o left
-Fits f (Resting d e v) = Unit {0}
-Fits f (Forwards d e p q v) = Unit {0}
-Fits f (Carries d e p q v) = Unit {0}
-Fits f (Chunk_comes d e p q v) = Unit {0}
+abbrev pub FitsFrame : {R : Type 0} → Frame R → Stage R → Type 0
+FitsFrame f (Diverting d b l) = (k : ℕ) → IsFront (b k) d
+FitsFrame f (Fence_goes d b l q v) = (k : ℕ) → IsFront (b k) d
+FitsFrame f (Fenced_comes d b q v) = (k : ℕ) → IsFront (b k) d
+FitsFrame f (Get_goes d b q v) = (k : ℕ) → IsFront (b k) d
+FitsFrame f (Chunks_come d b q v) = (k : ℕ) → IsFront (b k) d
+FitsFrame f (Spreads first d e b c at o left q v) = FitsSpread f (d ++ served f e) b c at o left
+FitsFrame f (Resting d e v) = Unit {0}
+FitsFrame f (Forwards d e p q v) = Unit {0}
+FitsFrame f (Carries d e p q v) = Unit {0}
+FitsFrame f (Chunk_comes d e p q v) = Unit {0}
 
 -- two views agree, node by node
 pub record Alike {R : Type 0} (f : Frame R) (x y : View R) : Type 0 where
@@ -217,7 +217,7 @@ brings f m = []
 -- a view goes on to a stage: its shape is the view, what arrived is in order, and no member's record has seen less than before
 pub record Leads {R : Type 0} (f : Frame R) (s : Stage R) (x : View R) (ps : List ℕ) : Type 0 where
   pub next : Stage R
-  pub fits : Fits f next
+  pub fits : FitsFrame f next
   pub alike : Alike f x (shape f next)
   pub early_is : early next ≡ early s ++ (if (shape f s).diverts then [] else ps)
   pub late_is : late f next ≡ late f s ++ (if (shape f s).diverts then ps else [])

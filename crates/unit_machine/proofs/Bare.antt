@@ -4,7 +4,7 @@ use Rattle.std.specs.Prelude.{if◌then◌else◌, ◌==◌, option_to_list}
 use Rattle.std.proofs.lemmas.Bool.Decides.{Decides-eqb}
 use Rattle.unit_machine.proofs.Machine.{Ran, Steps, after, Part, Rule, Free, Drops, Buffers, Item, Carry, Pass, Fence, Enable, Put, next, State, MachineStep}
 use Rattle.unit_machine.proofs.Lists.{firsts, marked}
-use Rattle.unit_machine.proofs.Fits.{nil_left, nil_right}
+use Rattle.unit_machine.proofs.UnitPieces.{nil_left, nil_right}
 use Rattle.unit_machine.proofs.Stages.{Stage, At_rest, Streams, Is_wide, shape, path, all_of, loose, times, Same, Order, Allowed, arrived_by}
 use Rattle.unit_machine.proofs.Path.{passes_in, carries, path_of, path_is}
 use Rattle.unit_machine.proofs.Kept.{Kept, Nowhere, Is_live, On_way, Twice, is_kept, lives, on_way, records_on, frozen_in}

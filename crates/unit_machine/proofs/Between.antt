@@ -2,7 +2,7 @@
 use Rattle.std.proofs.Common.{◌≡◌, ℕ, Bool, true, Some, None, List, [], ◌∷◌, ◌++◌, map, refl, ap, append-nil}
 use Rattle.unit_machine.proofs.Machine.{Where, At_a, At_b, At_c, Ran, Steps, after, Item, Carry, idle, Phase, Idle, Over, State}
 use Rattle.unit_machine.proofs.Lists.{firsts}
-use Rattle.unit_machine.proofs.Fits.{nil_left, nil_right}
+use Rattle.unit_machine.proofs.UnitPieces.{nil_left, nil_right}
 use Rattle.unit_machine.proofs.Stages.{Stage, At_rest, Moved, Undone, rest, shape, all_of}
 use Rattle.unit_machine.proofs.Path.{carries}
 use Rattle.unit_machine.proofs.Beside.{strip, beside}

@@ -4,7 +4,7 @@ use Rattle.std.specs.Prelude.{if◌then◌else◌, ◌==◌, option_to_list, nat
 use Rattle.nf_function.specs.declared.unit.Unit as units
 use Rattle.record_table.specs.Table.{same_unit}
 use Rattle.unit_machine.proofs.Machine.{is_nil, Piece}
-use Rattle.unit_machine.proofs.Fits.{Fits, records, closes, first, nil_left, nil_right}
+use Rattle.unit_machine.proofs.UnitPieces.{ArePiecesOf, records, closes, first, nil_left, nil_right}
 use Rattle.unit_machine.proofs.Real.{Chunks, record_at, RPiece, Msg, M_piece, Frame, see, view}
 
 -- all records of a unit in chunks
@@ -87,11 +87,11 @@ all_closes v total newest c [] = refl
 all_closes v total newest c (k ∷ cs) = all_closes v total newest k cs
 
 -- what a Stream sends is what the machine's move allows
-pub cut_fits : {R : Type 0} (v : Frame) (total newest : ℕ) (cs : List (Chunks R)) (o : Option R) → is_nil cs ≡ false → all_at v.unit (joined_up cs) ≡ option_to_list o → Fits (map (see v) (marks total newest cs)) o
+pub cut_fits : {R : Type 0} (v : Frame) (total newest : ℕ) (cs : List (Chunks R)) (o : Option R) → is_nil cs ≡ false → all_at v.unit (joined_up cs) ≡ option_to_list o → ArePiecesOf (map (see v) (marks total newest cs)) o
 cut_fits v total newest [] o some e = let never : ⊥ = cc in absurd never
 cut_fits v total newest (c ∷ cs) o some e = record { one = all_records v total newest (c ∷ cs) o e; ends = all_closes v total newest c cs }
 
-pub chopped_fits : {R : Type 0} (v : Frame) (total newest n : ℕ) (xs : Chunks R) (o : Option R) → all_at v.unit xs ≡ option_to_list o → Fits (map (see v) (marks total newest (chop n xs))) o
+pub chopped_fits : {R : Type 0} (v : Frame) (total newest n : ℕ) (xs : Chunks R) (o : Option R) → all_at v.unit xs ≡ option_to_list o → ArePiecesOf (map (see v) (marks total newest (chop n xs))) o
 chopped_fits v total newest n xs o e =
     let same = joined-chop n xs in
     cut_fits v total newest (chop n xs) o (is_nil-chop n xs) (rw same e)
@@ -105,6 +105,6 @@ view_pieces v [] e = refl
 view_pieces v (p ∷ ps) e = rw e (ap (λ z. Piece (see v p) ∷ z) (view_pieces v ps e))
 
 -- for a take of another message any pieces serve: these are allowed
-pub some_parts : {R : Type 0} (o : Option R) → Fits (record { own = o; last = true } ∷ []) o
+pub some_parts : {R : Type 0} (o : Option R) → ArePiecesOf (record { own = o; last = true } ∷ []) o
 some_parts None = record { one = refl; ends = refl }
 some_parts (Some r) = record { one = refl; ends = refl }

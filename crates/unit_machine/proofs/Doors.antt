@@ -5,7 +5,7 @@ use Rattle.std.specs.Prelude.{◌&&◌}
 use Rattle.nf_msgs.specs.declared.answer.Answer.{Answer}
 use Rattle.unit_machine.proofs.Machine.{At_a, Ran, Steps, after, joined, Part, pick, or_own, is_nil, MachineStep, Arrive, Take_sa, Take_ac, Take_bc, Take_ca, Take_cb}
 use Rattle.unit_machine.proofs.Lists.{Mix, Ev, Pc, Dd, events, pieces, named, shown-events}
-use Rattle.unit_machine.proofs.Fits.{Fits, refit, pick_all, pick-append, pick_one, others, last_is, none_behind, nil_left, nil_right}
+use Rattle.unit_machine.proofs.UnitPieces.{ArePiecesOf, refit, pick_all, pick-append, pick_one, others, last_is, none_behind, nil_left, nil_right}
 use Rattle.unit_machine.proofs.Stages.{Streams, All_put, Hold_goes, Laying, Restore_goes, Doorway, Is_shut, Is_asked, Is_agreed, Is_denied, Is_wide, Is_refused, Flows, body, GoesOn}
 use Rattle.unit_machine.proofs.Early.{shapes, paths, still}
 use Rattle.unit_machine.proofs.Flow.{arrives, drops_on, deletes, stores, piece_comes}
@@ -22,7 +22,7 @@ joined_none : {R : Type 0} (F : Steps R) (h : Part R) → joined F h.own None �
 joined_none F h = elim h.own as (λ o. joined F o None ≡ or_own o None) [ None ↦ refl | Some r ↦ refl ]
 
 -- a record that is put joins those that were
-joined_pick : {R : Type 0} (F : Steps R) (g : List (Part R)) (h : Part R) (t : List (Part R)) (o : Option R) → Fits (g ++ h ∷ t) o → joined F h.own (pick g) ≡ pick (g ++ h ∷ [])
+joined_pick : {R : Type 0} (F : Steps R) (g : List (Part R)) (h : Part R) (t : List (Part R)) (o : Option R) → ArePiecesOf (g ++ h ∷ t) o → joined F h.own (pick g) ≡ pick (g ++ h ∷ [])
 joined_pick F g h t o f =
     elim h.own as (λ w. h.own ≡ w → joined F w (pick g) ≡ or_own (pick g) w) [
       | None ↦ λ e. elim (pick g) as (λ p. p ≡ or_own p None) [ None ↦ refl | Some r ↦ refl ]
@@ -71,7 +71,7 @@ going_body y q off =
 
 module _ {R : Type 0} (F : Steps R) (d : List Ran) (f : List ℕ) (y : List (Mix R)) (q : List (Part R)) (l : List ℕ) (k : Bool) where
   -- all pieces came back to the source: they are restored
-  restores : (v : List (Part R)) (why : Answer) (c : Calm y q) → Fits (v ++ body y q) (after F d) → pick v ≡ after F d
+  restores : (v : List (Part R)) (why : Answer) (c : Calm y q) → ArePiecesOf (v ++ body y q) (after F d) → pick v ≡ after F d
   restores v why c w = let none = calm_body y q c in pick_all v (after F d) (refit (rw none (append-nil v)) w)
 
   pub refused_deleted : (h : Part R) (v : List (Part R)) (why : Answer) (w : Flows F d (Is_refused v why) (body (Dd h ∷ y) q)) → GoesOn F (Streams d f (Dd h ∷ y) q l k (Is_refused v why) w) Take_ac
@@ -124,7 +124,7 @@ module _ {R : Type 0} (F : Steps R) (d : List Ran) (f : List ℕ) (y : List (Mix
 
   pub put_next : (g : List (Part R)) (h : Part R) (v : List (Part R)) (refuse : Option Answer) (w : Flows F d (Is_wide g (h ∷ v)) (body y q)) → GoesOn F (Streams d f y q l k (Is_wide g (h ∷ v)) w) (Take_cb refuse)
   put_next g h v refuse w =
-      let fits : Fits (g ++ h ∷ (v ++ body y q)) (after F d) = refit (append_assoc g (h ∷ v) (body y q)) w.fits in
+      let fits : ArePiecesOf (g ++ h ∷ (v ++ body y q)) (after F d) = refit (append_assoc g (h ∷ v) (body y q)) w.fits in
       let is = last_is g h (v ++ body y q) (after F d) fits in
       let joins = joined_pick F g h (v ++ body y q) (after F d) fits in
       elim h.last as (λ b. h.last ≡ b → GoesOn F (Streams d f y q l k (Is_wide g (h ∷ v)) w) (Take_cb refuse)) [

@@ -3,7 +3,7 @@ use Rattle.std.proofs.Common.{◌≡◌, ℕ, Bool, true, false, List, [], ◌�
 use Rattle.std.proofs.lemmas.List.{map-append}
 use Rattle.unit_machine.proofs.Machine.{Where, At_a, Ran, Steps, after, Part, MachineStep, Begin, Arrive, Take_sa, Take_ac, Take_ca}
 use Rattle.unit_machine.proofs.Lists.{firsts, firsts-append, firsts-on, runs-append, passes-append, plains-append, events-append, pieces-append, named-append, Mix, Ev, Pc, shown, events, pieces, named, events-sent, pieces-sent, named-sent, shown-sent}
-use Rattle.unit_machine.proofs.Fits.{Fits, pick_all, not_nil}
+use Rattle.unit_machine.proofs.UnitPieces.{ArePiecesOf, pick_all, not_nil}
 use Rattle.unit_machine.proofs.Stages.{At_rest, Begun, Frozen, Stream_goes, Streams, Flows, Is_shut, body, shape, Allowed, GoesOn, Placed}
 
 pub ruleset shapes = (map-append, append_assoc, append-nil, runs-append)
@@ -38,7 +38,7 @@ frozen F d e l k Take_ac = (Stream_goes d [] e l k, first_of (simp shapes, cc), 
 frozen F d e l k m = (Frozen d e l k, first_of (simp shapes, cc), first_of (simp paths, cc), still At_a d)
 
 -- what a Stream leaves on the link is the pieces, behind the events
-sent : {R : Type 0} (F : Steps R) (d : List Ran) (e : List ℕ) (parts : List (Part R)) → Fits parts (after F d) → Flows F d Is_shut (body (map Ev e ++ map Pc parts) [])
+sent : {R : Type 0} (F : Steps R) (d : List Ran) (e : List ℕ) (parts : List (Part R)) → ArePiecesOf parts (after F d) → Flows F d Is_shut (body (map Ev e ++ map Pc parts) [])
 sent F d e parts fits = record { fits = rw (named-sent e parts, pieces-sent e parts) fits; going = refl }
 
 pub stream_goes : {R : Type 0} (F : Steps R) (d : List Ran) (f e l : List ℕ) (k : Bool) (m : MachineStep R) → Allowed (shape F (Stream_goes d f e l k)) m → GoesOn F (Stream_goes d f e l k) m

@@ -5,7 +5,7 @@ use Rattle.std.specs.Prelude.{if◌then◌else◌, is_some}
 use Rattle.std.proofs.lemmas.List.{map-append}
 use Rattle.unit_machine.proofs.Machine.{At_a, Ran, Steps, after, Part, pick, or_own, Arrive, Take_sa, Take_ac, Take_ca}
 use Rattle.unit_machine.proofs.Lists.{firsts-append, events-append, pieces-append, named-append, Mix, Ev, Pc, Dd, pieces, named}
-use Rattle.unit_machine.proofs.Fits.{Fits, refit, others, last_is}
+use Rattle.unit_machine.proofs.UnitPieces.{ArePiecesOf, refit, others, last_is}
 use Rattle.unit_machine.proofs.Stages.{Streams, Doorway, Flows, reflow, front, body, GoesOn}
 use Rattle.unit_machine.proofs.Early.{shapes, paths, still}
 
@@ -22,7 +22,7 @@ body_deleted : {R : Type 0} (y : List (Mix R)) (q : List (Part R)) (h : Part R) 
 body_deleted y q h = simp mixed
 
 -- the record at the source goes with its Delete
-pick_deleted : {R : Type 0} (x : List (Part R)) (h : Part R) (t : List (Part R)) (o : Option R) → Fits (x ++ h ∷ t) o → (if is_some h.own then None else pick (h ∷ t)) ≡ pick t
+pick_deleted : {R : Type 0} (x : List (Part R)) (h : Part R) (t : List (Part R)) (o : Option R) → ArePiecesOf (x ++ h ∷ t) o → (if is_some h.own then None else pick (h ∷ t)) ≡ pick t
 pick_deleted x h t o f =
     elim h.own as (λ w. h.own ≡ w → (if is_some w then None else or_own w (pick t)) ≡ pick t) [
       | None ↦ λ _. refl

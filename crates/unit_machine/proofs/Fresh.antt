@@ -3,7 +3,7 @@ use Rattle.std.proofs.Common.{◌≡◌, ◌≢◌, ℕ, Bool, true, false, Opti
 use Rattle.std.specs.Prelude.{if◌then◌else◌}
 use Rattle.nf_msgs.specs.declared.answer.Answer.{Answer}
 use Rattle.unit_machine.proofs.Machine.{Where, At_a, At_b, Steps, after, Part, Inst, inst_does, put, Item, Carry, Pass, Fence, Put, delete, next, State, Take_sa, Take_sb, put_a, put_b, moved}
-use Rattle.unit_machine.proofs.Fits.{nil_right}
+use Rattle.unit_machine.proofs.UnitPieces.{nil_right}
 use Rattle.unit_machine.proofs.Stages.{drops, Stage, At_rest, Begun, Frozen, Stream_goes, Streams, All_put, Hold_goes, Held, Laying, Turned, Fenced_a, Ending_b, Fence_b, Turned_loose, Fenced_loose, Ending_loose, Fence_loose, Fenced_b, Moved, Restore_goes, Restored_comes, Turn_goes, Turned_back, Returned, Fence_a, Fenced_back, Undone, Doorway, Is_wide, puts_of, shape, all_of}
 use Rattle.unit_machine.proofs.Bare.{bare_facts, stays_bare}
 use Rattle.unit_machine.proofs.Steps.{goes_on}

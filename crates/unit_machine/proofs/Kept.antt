@@ -4,7 +4,7 @@ use Rattle.std.proofs.Common.{◌≡◌, ℕ, Bool, Option, Some, None, List, []
 use Rattle.std.specs.Prelude.{option_to_list}
 use Rattle.unit_machine.proofs.Machine.{Ran, Steps, after, Part, pick, Item, Put, Restore, Event, Piece, Put_no, Phase, Streaming, next, delete, State}
 use Rattle.unit_machine.proofs.Lists.{Mix, Ev, Pc, Dd, shown, pieces, named}
-use Rattle.unit_machine.proofs.Fits.{records, records-append, first, pick_first, nil_left, nil_right}
+use Rattle.unit_machine.proofs.UnitPieces.{records, records-append, first, pick_first, nil_left, nil_right}
 use Rattle.unit_machine.proofs.Stages.{Stage, At_rest, Begun, Frozen, Stream_goes, Streams, All_put, Hold_goes, Held, Laying, Turned, Fenced_a, Ending_b, Fence_b, Turned_loose, Fenced_loose, Ending_loose, Fence_loose, Fenced_b, Moved, Restore_goes, Restored_comes, Turn_goes, Turned_back, Returned, Fence_a, Fenced_back, Undone, Doorway, Is_shut, Is_asked, Is_agreed, Is_denied, Is_wide, Is_refused, Flows, front, free_of, puts_of, answers_of, live_of, body, shape}
 
 -- the record in a message

@@ -6,7 +6,7 @@ use Rattle.nf_function.specs.declared.unit.Unit as units
 use Rattle.record_table.specs.Table.{is_among}
 use Rattle.nf_msgs.specs.declared.answer.Answer.{Answer}
 use Rattle.unit_machine.proofs.Machine.{is_nil, Door, Shut, Asked, Wide, Refused}
-use Rattle.unit_machine.proofs.Fits.{nil_left, nil_right}
+use Rattle.unit_machine.proofs.UnitPieces.{nil_left, nil_right}
 use Rattle.unit_machine.proofs.Real.{Chunks, record_at, RPiece, chunks_of, Msg, M_delete, M_put, M_restore, M_enabled, M_event, M_piece, M_deleted, M_put_ok, M_put_no, M_restored, M_fenced, M_install, M_fence_to, RPhase, R_freezing, R_streaming, R_holding, R_passing, R_ending, R_restoring, R_returning, R_undoing, Op, Op_did, r_goes, put_to, forward_to, r_push, r_release, r_is_put, r_event, r_a_enabled, r_piece, r_deleted, r_restored, r_a_fenced, r_from_a, r_put_ok, r_put_no, r_b_enabled, r_b_fenced, r_from_b, put_back}
 use Rattle.unit_machine.proofs.Seen.{is_among-units, record_at-append}
 use Rattle.unit_machine.proofs.Cuts.{all_at, all_at-append, record_first, joined_up, marks}

@@ -1,6 +1,6 @@
 pub mod Machine
 pub mod Lists
-pub mod Fits
+pub mod UnitPieces
 pub mod Stages
 pub mod Early
 pub mod Flow
@@ -34,4 +34,4 @@ pub mod NetViews
 pub mod OneCopy
 pub mod Fresh
 pub mod Sides
-pub mod Given
+pub mod ToRemove

@@ -2,7 +2,7 @@
 use Rattle.std.proofs.Common.{◌≡◌, ◌+◌, ◌≤◌, true, Option, Some, None, List, [], ◌∷◌, ◌++◌, refl, sym, ap, ◌∙◌, subst, append_assoc, append-nil, arith}
 use Rattle.std.specs.Prelude.{option_to_list}
 use Rattle.unit_machine.proofs.Machine.{Steps, after, State, MachineStep, Take_ca, moved}
-use Rattle.unit_machine.proofs.Fits.{Fits}
+use Rattle.unit_machine.proofs.UnitPieces.{ArePiecesOf}
 use Rattle.unit_machine.proofs.Stages.{shape, times, Same, Allowed, arrived_by}
 use Rattle.unit_machine.proofs.Loose.{times-append}
 use Rattle.unit_machine.proofs.Late.{same_lists}
@@ -26,7 +26,7 @@ seat_kept F (Is_away s) = let k = away_kept F s in rw (k.0, k.1, k.2) (alone (af
 
 -- what a move needs of the source it needs of the message's stage
 allowed_same : {R : Type 0} (u v : State R) → u.a.live ≡ v.a.live → (m : MachineStep R) → Allowed u m → Allowed v m
-allowed_same u v e (Take_ca parts) a = subst (λ o. Fits parts o) e a
+allowed_same u v e (Take_ca parts) a = subst (λ o. ArePiecesOf parts o) e a
 allowed_same u v e m a = tt
 
 seat_allows : {R : Type 0} (F : Steps R) (s : Seat F) (m : MachineStep R) → Allowed (seat_shape F s) m → Allowed (shape F (base_of s)) m

@@ -5,7 +5,7 @@ use Rattle.nf_function.specs.declared.unit.Unit as units
 use Rattle.record_table.specs.Table.{is_among}
 use Rattle.nf_msgs.specs.declared.answer.Answer.{Answer}
 use Rattle.unit_machine.proofs.Machine.{Where, Steps, joined, Part, Stream, Delete, Put, Restore, Inst, Did, inst_does}
-use Rattle.unit_machine.proofs.Fits.{Fits}
+use Rattle.unit_machine.proofs.UnitPieces.{ArePiecesOf}
 use Rattle.unit_machine.proofs.Real.{Chunks, record_at, RPiece, Msg, M_piece, M_deleted, M_put_ok, M_put_no, M_restored, Frame, see, view}
 use Rattle.unit_machine.proofs.Cuts.{all_at, marks, chop, chopped_fits, view_pieces}
 
@@ -53,7 +53,7 @@ module _ {R : Type 0} (F : Steps R) (B : Tables R) where
     abbrev pub parts_of : ℕ → ℕ → (units.Unit → Bool) → List (Part R)
     parts_of total newest g = map (see v) (marks total newest (chop (length (B.select g t)) (B.select g t)))
 
-    pub stream_seen : (total newest : ℕ) (g : units.Unit → Bool) (refuse : Option Answer) → g v.unit ≡ true → Sees_i v i (r_stream v.move total newest g t) (inst_does F w (parts_of total newest g) refuse i Stream) × Fits (parts_of total newest g) i.live
+    pub stream_seen : (total newest : ℕ) (g : units.Unit → Bool) (refuse : Option Answer) → g v.unit ≡ true → Sees_i v i (r_stream v.move total newest g t) (inst_does F w (parts_of total newest g) refuse i Stream) × ArePiecesOf (parts_of total newest g) i.live
     stream_seen total newest g refuse takes_it =
         let xs = B.select g t in
         let own : all_at v.unit xs ≡ option_to_list i.live = laws.selected v.unit g t ∙ rw (takes_it, is) refl in

@@ -3,7 +3,7 @@
 use Rattle.std.proofs.Common.{◌≡◌, ℕ, Bool, true, false, List, [], ◌∷◌, ◌++◌, map, refl, sym, ap, ◌∙◌, append_assoc, append-nil}
 use Rattle.unit_machine.proofs.Machine.{Where, At_a, At_b, At_c, Steps, Item, Carry, Pass, Stray, Inst, Phase, Idle, Passing, Ending, Undoing, Over, State}
 use Rattle.unit_machine.proofs.Lists.{firsts}
-use Rattle.unit_machine.proofs.Fits.{nil_left, nil_right}
+use Rattle.unit_machine.proofs.UnitPieces.{nil_left, nil_right}
 use Rattle.unit_machine.proofs.Stages.{Stage, At_rest, Streams, Is_shut, Is_agreed, Laying, Turned, Fenced_a, Ending_b, Fence_b, Turned_loose, Fenced_loose, Ending_loose, Fence_loose, Fenced_b, Moved, shape, path, all_of, to_a, to_b}
 use Rattle.unit_machine.proofs.Path.{passes_in, carries, events_in, forwards, path_of, path_is, passes_in-append, no_passes, all_carries, no_carries}
 use Rattle.unit_machine.proofs.Beside.{strip, Beside, shape_beside}

@@ -5,7 +5,7 @@ use Rattle.std.specs.Prelude.{if◌then◌else◌, ◌==◌}
 use Rattle.nf_msgs.specs.declared.answer.Answer.{Answer}
 use Rattle.unit_machine.proofs.Machine.{Where, At_a, At_b, Ran, on, Steps, after, Part, pick, is_nil, Item, Carry, Pass, Fence, Enable, Stream, Put, Restore, Enabled, Event, Put_ok, Put_no, Restored, Fenced, Forward, Fence_to, Install, Free, Drops, Buffers, Inst, idle, Door, Shut, Asked, Wide, Refused, Idle, Freezing, Streaming, Holding, Passing, Ending, Restoring, Returning, Undoing, Over, next, delete, State, MachineStep, Arrive, Take_ca, moved}
 use Rattle.unit_machine.proofs.Lists.{firsts, marked, passes, plains, Mix, shown, events, pieces, named}
-use Rattle.unit_machine.proofs.Fits.{Fits}
+use Rattle.unit_machine.proofs.UnitPieces.{ArePiecesOf}
 
 -- the pieces that aren't free yet, in order: Deleted on the link, Delete on the link, on the link themselves
 abbrev pub body : {R : Type 0} → List (Mix R) → List (Part R) → List (Part R)
@@ -66,7 +66,7 @@ stuck (Is_refused v why) b = is_nil b
 stuck _ b = false
 
 pub record Flows {R : Type 0} (F : Steps R) (d : List Ran) (s : Doorway R) (b : List (Part R)) : Type 0 where
-  pub fits : Fits (front s ++ b) (after F d)
+  pub fits : ArePiecesOf (front s ++ b) (after F d)
   pub going : stuck s b ≡ false
 
 pub reflow : {R : Type 0} {F : Steps R} {d : List Ran} {s : Doorway R} {b c : List (Part R)} → b ≡ c → Flows F d s b → Flows F d s c
@@ -258,7 +258,7 @@ arrived_by m = []
 
 -- what the node decides by things outside the unit: the pieces that a Stream sends
 abbrev pub Allowed : {R : Type 0} → State R → MachineStep R → Type 0
-Allowed u (Take_ca parts) = Fits parts u.a.live
+Allowed u (Take_ca parts) = ArePiecesOf parts u.a.live
 Allowed u m = Unit {0}
 
 abbrev pub GoesOn : {R : Type 0} → (F : Steps R) → Stage F → MachineStep R → Type 0

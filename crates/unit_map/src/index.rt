@@ -36,73 +36,6 @@ pub struct Index<K: Ord> {
     room: usize,
 }
 
-/// What a key is found by: its hash.
-#[tactic(auto, unfolding(crate::specs::Notes::hash_of))]
-fn hash_of<K: Hash>(key: &K) -> u64
-    ensures { result ≡ hash_of K.hash_input key.now }
-{
-    let mut hasher = FoldHasher::default();
-    key.hash(&mut hasher);
-    hasher.finish()
-}
-
-/// The part of a hash that its slot tells.
-#[tactic(auto, unfolding(crate::specs::Notes::tag_of))]
-fn tag_of(hash: u64) -> u32
-    ensures { result ≡ tag_of hash }
-{
-    (hash >> 32) as u32
-}
-
-/// Where the probes of a hash begin.
-#[tactic(auto, unfolding(crate::specs::Notes::start_of), using(std::proofs::lemmas::Nat::and_le_r))]
-fn start_of(hash: u64, slots: usize) -> usize
-    requires { PROBES ≤ slots }
-    ensures value { result ≡ start_of slots hash }
-    ensures within { result + PROBES ≤ slots }
-{
-    hash as usize & (slots - PROBES)
-}
-
-/// Whether the entry of a number has the key.
-#[inline(always)]
-fn has_key<K: PartialEq, V>(entries: &[(K, V)], number: u32, key: &K) -> bool
-    ensures { result ≡ has_key K.eq entries.now number key.now }
-{
-    if number == 0 {
-        return false;
-    }
-    match entries.get(number as usize - 1) {
-        Some(entry) => *key == entry.0,
-        None => false,
-    }
-}
-
-/// The place of the one entry, if it has the key.
-#[inline(always)]
-fn only_place<K: PartialEq, V>(entries: &[(K, V)], key: &K) -> Option<usize>
-    requires { length entries.now ≡ 1 }
-    ensures found { IfSome result (λ place. is_place_of K.eq entries.now place key.now ≡ true) }
-    ensures absent { IfNone result ((n : ℕ) → has_key K.eq entries.now n key.now ≡ false) }
-{
-    if has_key(entries, 1, key) {
-        Some(0)
-    } else {
-        None
-    }
-}
-
-/// The number of slots for some entries: a power of two that is three times as large at least, and the probes less one.
-///
-/// An index has room for half as many entries. So one that is made anew has twice the slots of the last, and room for half as many
-/// entries again at least.
-fn slot_count(entries: usize) -> usize
-    requires { entries ≤ MOST_ENTRIES }
-    ensures { PROBES ≤ result }
-{
-    (3 * entries).next_power_of_two().max(16) + (PROBES - 1)
-}
-
 impl<K: Ord + Hash + Copy> Index<K> {
     /// An index that notes nothing and has no slots. This takes no memory.
     pub fn open(alloc: Global) -> Self {
@@ -280,4 +213,71 @@ impl<K: Ord + Hash + Copy> Index<K> {
         self.spill.insert(key, number)?;
         Ok(())
     }
+}
+
+/// The place of the one entry, if it has the key.
+#[inline(always)]
+fn only_place<K: PartialEq, V>(entries: &[(K, V)], key: &K) -> Option<usize>
+    requires { length entries.now ≡ 1 }
+    ensures found { IfSome result (λ place. is_place_of K.eq entries.now place key.now ≡ true) }
+    ensures absent { IfNone result ((n : ℕ) → has_key K.eq entries.now n key.now ≡ false) }
+{
+    if has_key(entries, 1, key) {
+        Some(0)
+    } else {
+        None
+    }
+}
+
+/// Whether the entry of a number has the key.
+#[inline(always)]
+fn has_key<K: PartialEq, V>(entries: &[(K, V)], number: u32, key: &K) -> bool
+    ensures { result ≡ has_key K.eq entries.now number key.now }
+{
+    if number == 0 {
+        return false;
+    }
+    match entries.get(number as usize - 1) {
+        Some(entry) => *key == entry.0,
+        None => false,
+    }
+}
+
+/// What a key is found by: its hash.
+#[tactic(auto, unfolding(crate::specs::Notes::hash_of))]
+fn hash_of<K: Hash>(key: &K) -> u64
+    ensures { result ≡ hash_of K.hash_input key.now }
+{
+    let mut hasher = FoldHasher::default();
+    key.hash(&mut hasher);
+    hasher.finish()
+}
+
+/// The part of a hash that its slot tells.
+#[tactic(auto, unfolding(crate::specs::Notes::tag_of))]
+fn tag_of(hash: u64) -> u32
+    ensures { result ≡ tag_of hash }
+{
+    (hash >> 32) as u32
+}
+
+/// Where the probes of a hash begin.
+#[tactic(auto, unfolding(crate::specs::Notes::start_of), using(std::proofs::lemmas::Nat::and_le_r))]
+fn start_of(hash: u64, slots: usize) -> usize
+    requires { PROBES ≤ slots }
+    ensures value { result ≡ start_of slots hash }
+    ensures within { result + PROBES ≤ slots }
+{
+    hash as usize & (slots - PROBES)
+}
+
+/// The number of slots for some entries: a power of two that is three times as large at least, and the probes less one.
+///
+/// An index has room for half as many entries. So one that is made anew has twice the slots of the last, and room for half as many
+/// entries again at least.
+fn slot_count(entries: usize) -> usize
+    requires { entries ≤ MOST_ENTRIES }
+    ensures { PROBES ≤ result }
+{
+    (3 * entries).next_power_of_two().max(16) + (PROBES - 1)
 }

@@ -22,7 +22,7 @@ use Rattle.instance_worker.specs.Instance.{selected, instance_step}
 use Rattle.actor_net.proofs.WeightLaws.{EachSent}
 use Rattle.unit_machine.proofs.Labels.{Each}
 use Rattle.unit_machine.proofs.Cuts.{record_first}
-use Rattle.unit_machine.proofs.Fits.{first}
+use Rattle.unit_machine.proofs.UnitPieces.{first}
 use Rattle.unit_machine.proofs.Real.{Chunks, record_at}
 use Rattle.abstract_net.proofs.Net as net
 use Rattle.abstract_net.proofs.Shares.{Any, New, S_chunks, Open_share}

@@ -6,7 +6,7 @@ use Rattle.std.specs.Option.{option_map_or}
 use Rattle.std.proofs.lemmas.Bool.Decides.{Decides-eqb}
 use Rattle.unit_machine.proofs.Machine.{State, idle}
 use Rattle.unit_machine.proofs.Real.{record_at}
-use Rattle.unit_machine.proofs.Fits.{first}
+use Rattle.unit_machine.proofs.UnitPieces.{first}
 use Rattle.unit_machine.proofs.Cuts.{record_first}
 use Rattle.unit_machine.proofs.Kept.{Kept, Nowhere, Is_live, On_way, Twice}
 use Rattle.share_machine.proofs.Share.{Ran, runs, over}

@@ -3,7 +3,7 @@
 use Rattle.std.proofs.Common.{◌≡◌, ◌≢◌, ℕ, None, Option, List, [], ◌∷◌, ◌++◌, map, refl, sym, ap, ◌∙◌, subst}
 use Rattle.nf_msgs.specs.declared.answer.Answer.{Answer}
 use Rattle.unit_machine.proofs.Machine.{Where, At_a, At_b, Steps, Part, Inst, inst_does, Item, Carry, Pass, Fence, State, Take_sa, Take_sb, put_a, put_b, moved}
-use Rattle.unit_machine.proofs.Fits.{nil_right}
+use Rattle.unit_machine.proofs.UnitPieces.{nil_right}
 use Rattle.unit_machine.proofs.Stages.{drops, Stage, Turned, Fenced_a, Ending_b, Fence_b, Turned_loose, Fenced_loose, Ending_loose, Fence_loose, Fenced_b, Moved, shape, all_of}
 use Rattle.unit_machine.proofs.Bare.{bare_facts, stays_bare}
 use Rattle.unit_machine.proofs.Steps.{goes_on}

@@ -3,7 +3,7 @@ use Rattle.std.proofs.Common.{◌≡◌, ◌==◌, ◌++◌, option_map}
 use Rattle.std.specs.List.{slice_split}
 use Rattle.basics.specs.Parsing.{remaining_pieces}
 use Rattle.basics.proofs.BytesLeft.{bytes_left}
-use Rattle.command_words.specs.Plan.{all_instances, Instances}
+use Rattle.command_words.specs.Requests.{all_instances, Instances}
 use Rattle.command_words.proofs.values.all_instances.Given as goal
 
 -- the instances so far and the pieces that are left give what the whole list gives

@@ -1,5 +1,5 @@
 -- The send end's holder may take in the right to take.
-use Rattle.fifo_link.proofs.LinkRuleSteps.{merges}
+use Rattle.fifo_link.proofs.KnowledgeSteps.{merges}
 use Rattle.fifo_link.proofs.ends.close.Goals as goal
 
 pub absorb-requires-clause-rule : goal.absorb-requires-clause-rule

@@ -1,8 +1,8 @@
--- The holder of both rights may take, and the rule tells it all.
+-- The holder of both rights may take, and the protocol tells it all.
 use Rattle.std.proofs.Common.{arith, ap, sym, subst, length}
 use Rattle.crossbeam_queue.specs.Passes.{view}
 use Rattle.fifo_link.specs.Transfers.{AllDone}
-use Rattle.fifo_link.proofs.LinkRuleSteps.{drains, totals, all_drained, room_left}
+use Rattle.fifo_link.proofs.KnowledgeSteps.{drains, totals, all_drained, room_left}
 use Rattle.fifo_link.proofs.ends.drain.Goals as goal
 
 pub len_as-count-requires-clause-rule : goal.len_as-count-requires-clause-rule

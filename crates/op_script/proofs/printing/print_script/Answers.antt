@@ -7,7 +7,7 @@ use Rattle.flow_filter.specs.Filter.{IsFilter}
 use Rattle.flow_filter.specs.Name.{is_name, has_twice}
 use Rattle.nf_function.specs.declared.kind.Kind.{Kind}
 use Rattle.op_script.specs.declared.script.Script.{Script}
-use Rattle.op_script.specs.Forms.{Word}
+use Rattle.op_script.specs.Statements.{Word}
 use Rattle.op_script.specs.Printing.{line_text, route_words, line_words, script_text, IsRoute, IsLine, IsScript, SplitsNone, LineFits}
 use Rattle.op_script.specs.Reading.{route_view, line_view, script_view, script_of}
 use Rattle.op_script.proofs.PrintedScripts.{script_again}

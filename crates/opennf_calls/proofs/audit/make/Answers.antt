@@ -1,9 +1,9 @@
 -- What is made is what the command gives for its inputs, or the status has its row.
 use Rattle.std.proofs.Common.{Ok, Err}
 use Rattle.std.proofs.lemmas.Result.{err_from_is_err_and}
-use Rattle.command_words.specs.Plan.{asks_audit}
+use Rattle.command_words.specs.Requests.{asks_audit}
 use Rattle.command_words.specs.RequestViews.{network_view}
-use Rattle.opennf_calls.specs.Phases.{given_by}
+use Rattle.opennf_calls.specs.Phases.{scenario_of}
 use Rattle.opennf_calls.proofs.AuditRows.{counted, journal_row, told_row}
 use Rattle.opennf_calls.proofs.RunRows.{audit_reads, fails_row}
 use Rattle.opennf_calls.proofs.audit.make.Goals as goal
@@ -21,7 +21,7 @@ returns-in_err-choices-clause-row g c =
     let s = network_view c.args.asked.now in
     let failed = err_from_is_err_and c.from_residual-in_err-choices.result c.from_residual-in_err-choices.ensures.1 in
     rw (failed.1, failed.2)
-    (journal_row s c.requires.journal (given_by c.args.asked.now.site c.in_ok-inputs.inputs) (g.O.Outside.seen c.args.outside.now)
+    (journal_row s c.requires.journal (scenario_of c.args.asked.now.site c.in_ok-inputs.inputs) (g.O.Outside.seen c.args.outside.now)
     (g.O.Outside.seen c.read_inputs.new.outside) (g.O.Outside.seen c.read_choices.new.outside) c.requires.bound c.in_ok-inputs.ensures.only
     c.in_ok-inputs.ensures.given c.in_err-choices.ensures.alone c.in_err-choices.field-0.0
     (counted s (g.O.Outside.seen c.read_inputs.new.outside) (g.O.Outside.seen c.read_choices.new.outside) (Err c.in_err-choices.field-0.0)
@@ -30,7 +30,7 @@ returns-in_err-choices-clause-row g c =
 pub returns-clause-row : goal.returns-clause-row
 returns-clause-row g c =
     let s = network_view c.args.asked.now in
-    told_row s c.requires.journal (given_by c.args.asked.now.site c.in_ok-inputs.inputs) (g.O.Outside.seen c.args.outside.now)
+    told_row s c.requires.journal (scenario_of c.args.asked.now.site c.in_ok-inputs.inputs) (g.O.Outside.seen c.args.outside.now)
     (g.O.Outside.seen c.read_inputs.new.outside) (g.O.Outside.seen c.read_choices.new.outside) c.requires.bound c.in_ok-inputs.ensures.only
     c.in_ok-inputs.ensures.given c.in_ok-choices.ensures.alone c.in_ok-choices.choices
     (counted s (g.O.Outside.seen c.read_inputs.new.outside) (g.O.Outside.seen c.read_choices.new.outside) (Ok c.in_ok-choices.choices)

@@ -6,7 +6,7 @@ use Rattle.nf_io.specs.declared.outside.Role.TheVariants.{Script}
 use Rattle.op_script.specs.Reading.{SaysWhole, script_of, script_view}
 use Rattle.op_script.specs.declared.fault.ScriptFault.{ScriptFault}
 use Rattle.op_script.specs.declared.fault.ScriptFault.TheVariants as script
-use Rattle.command_words.specs.Plan.{asks_check}
+use Rattle.command_words.specs.Requests.{asks_check}
 use Rattle.command_words.specs.RequestViews.{check_view}
 use Rattle.opennf_calls.specs.Outcome.{script_refusal}
 use Rattle.opennf_calls.proofs.ScriptLemmas.{most_bytes, script_of-front, nothing_left, script_row}

@@ -2,7 +2,7 @@
 use Rattle.std.proofs.Common.{rules, ◌≡◌, ℕ, List, [], subst}
 use Rattle.nf_io.specs.declared.outside.Role.TheVariants.{TraceOut, Report}
 use Rattle.trace_reader.specs.Generated.{capture}
-use Rattle.command_words.specs.Plan.{asks_gen}
+use Rattle.command_words.specs.Requests.{asks_gen}
 use Rattle.command_words.specs.RequestViews.{gen_view}
 use Rattle.opennf_calls.specs.Outcome.{gen_line}
 use Rattle.opennf_calls.specs.Writing.{Wrote, all_of, front_of}

@@ -6,7 +6,7 @@ use Rattle.net_length.proofs.ShortRuns.{short_runs}
 use Rattle.net_world.specs.Input.{IsInput}
 use Rattle.net_world.specs.Runs.{LeadsTo, chosen}
 use Rattle.net_world.specs.Start.{started}
-use Rattle.opennf_calls.specs.Phases.{given_by}
+use Rattle.opennf_calls.specs.Phases.{scenario_of}
 use Rattle.opennf_calls.proofs.RunLemmas.{run_of}
 use Rattle.opennf_calls.proofs.RunsEnd.{never_stops}
 use Rattle.opennf_calls.proofs.network.schedule_network.Goals as goal
@@ -26,7 +26,7 @@ returns g c =
     let start = started {F = g.row.F.Denot} {R = g.row.F-Record.Denot} c.args.alloc opening.config opening.items.items in
     let input = subst (λ (k : Kind). IsInput k opening.config opening.items.items) (sym c.requires.kind) is.is_input in
     let leads = subst (λ cs. LeadsTo f start cs c.in-Ok.ended.0) (sym c.in-Ok.ensures.choices) c.in-Ok.ensures.end.leads in
-    run_of g.row.F.Denot f (network_view c.args.asked.now) (given_by c.args.asked.now.site c.args.inputs) c.args.alloc opening.config opening.items.items opening.head is.config is.items
+    run_of g.row.F.Denot f (network_view c.args.asked.now) (scenario_of c.args.asked.now.site c.args.inputs) c.args.alloc opening.config opening.items.items opening.head is.config is.items
     (Some c.args.schedule) (record { choices = c.in-Ok.ended.1; report = c.in_ok-report.report }) c.in-Ok.ended.0
     (record {
       leads = leads;

@@ -8,7 +8,7 @@ use Rattle.net_world.specs.Input.{IsInput}
 use Rattle.net_world.specs.Start.{started}
 use Rattle.net_length.proofs.ShortRuns.{short_runs}
 use Rattle.run_report.specs.Audits.{IsAuditCause, world_after}
-use Rattle.opennf_calls.specs.Phases.{given_by}
+use Rattle.opennf_calls.specs.Phases.{scenario_of}
 use Rattle.opennf_calls.proofs.RunLemmas.{Ran, run_of, run_refused}
 use Rattle.opennf_calls.proofs.network.tell_network.Goals as goal
 
@@ -19,7 +19,7 @@ returns-in_err-report g c =
     let told : c.items-told.result.now ≡ c.args.choices = search rules in
     let failed = err_from_is_err_and c.from_residual-in_err-report.result c.from_residual-in_err-report.ensures.1 in
     rw (failed.1, failed.2)
-    (run_refused g.row.F.Denot g.F.Function.semantics (network_view c.args.asked.now) (given_by c.args.asked.now.site c.args.inputs) c.args.alloc opening.config opening.items.items opening.head is.config is.items
+    (run_refused g.row.F.Denot g.F.Function.semantics (network_view c.args.asked.now) (scenario_of c.args.asked.now.site c.args.inputs) c.args.alloc opening.config opening.items.items opening.head is.config is.items
     c.args.choices c.in_err-report.field-0.0 (λ step same.
     subst (λ (cs : List Choice). IsAuditCause {F = g.row.F.Denot} g.F.Function.semantics (started c.args.alloc opening.config opening.items.items) cs step) told
     (c.in_err-report.ensures.not_a_run step (ap Err same))))
@@ -32,9 +32,9 @@ returns g c =
     let told : c.items-told.result.now ≡ c.args.choices = search rules in
     let start = started {F = g.row.F.Denot} {R = g.row.F-Record.Denot} c.args.alloc opening.config opening.items.items in
     let input = subst (λ (k : Kind). IsInput k opening.config opening.items.items) (sym c.requires.kind) is.is_input in (
-      run_of g.row.F.Denot g.F.Function.semantics (network_view c.args.asked.now) (given_by c.args.asked.now.site c.args.inputs) c.args.alloc opening.config opening.items.items opening.head is.config is.items
+      run_of g.row.F.Denot g.F.Function.semantics (network_view c.args.asked.now) (scenario_of c.args.asked.now.site c.args.inputs) c.args.alloc opening.config opening.items.items opening.head is.config is.items
           None (record { choices = c.args.choices; report = c.in_ok-report.report }) (world_after g.F.Function.semantics start c.items-told.result.now)
-          (subst (λ (cs : List Choice). Ran g.row.F.Denot g.F.Function.semantics (network_view c.args.asked.now) (given_by c.args.asked.now.site c.args.inputs) c.args.alloc opening.config opening.items.items opening.head is.config is.items cs (world_after g.F.Function.semantics start c.items-told.result.now)) told
+          (subst (λ (cs : List Choice). Ran g.row.F.Denot g.F.Function.semantics (network_view c.args.asked.now) (scenario_of c.args.asked.now.site c.args.inputs) c.args.alloc opening.config opening.items.items opening.head is.config is.items cs (world_after g.F.Function.semantics start c.items-told.result.now)) told
           (record {
             leads = report.run.leads;
             complete = report.run.complete;

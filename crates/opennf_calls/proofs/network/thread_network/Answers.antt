@@ -1,7 +1,7 @@
 -- The run of threads is that of the words, the script and the capture.
 use Rattle.std.proofs.Common.{None}
 use Rattle.command_words.specs.RequestViews.{network_view}
-use Rattle.opennf_calls.specs.Phases.{given_by}
+use Rattle.opennf_calls.specs.Phases.{scenario_of}
 use Rattle.opennf_calls.proofs.RunLemmas.{run_of}
 use Rattle.opennf_calls.proofs.network.thread_network.Goals as goal
 
@@ -9,7 +9,7 @@ pub returns : goal.returns
 returns g c =
     let opening = c.in_ok-config.field-0 in
     let is = c.in_ok-config.ensures in
-    run_of g.row.F.Denot g.F.Function.semantics (network_view c.args.asked.now) (given_by c.args.asked.now.site c.args.inputs) c.args.alloc opening.config opening.items.items opening.head is.config is.items
+    run_of g.row.F.Denot g.F.Function.semantics (network_view c.args.asked.now) (scenario_of c.args.asked.now.site c.args.inputs) c.args.alloc opening.config opening.items.items opening.head is.config is.items
     None (record { choices = c.in_ok-world.choices; report = c.in_ok-report.report }) c.in_ok-world.world
     (record {
       leads = c.in_ok-world.ensures.leads;

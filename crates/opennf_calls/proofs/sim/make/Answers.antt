@@ -1,9 +1,9 @@
 -- What is made is what the command gives for its inputs, or the status has its row.
 use Rattle.std.proofs.Common.{Ok, Err}
 use Rattle.std.proofs.lemmas.Result.{err_from_is_err_and}
-use Rattle.command_words.specs.Plan.{asks_sim}
+use Rattle.command_words.specs.Requests.{asks_sim}
 use Rattle.command_words.specs.RequestViews.{network_view}
-use Rattle.opennf_calls.specs.Phases.{given_by, gives}
+use Rattle.opennf_calls.specs.Phases.{scenario_of, gives}
 use Rattle.opennf_calls.proofs.RunRows.{fails_row, sim_reads, sim_results}
 use Rattle.opennf_calls.proofs.sim.make.Goals as goal
 
@@ -19,4 +19,4 @@ pub returns-clause-row : goal.returns-clause-row
 returns-clause-row g c =
     let s = network_view c.args.asked.now in
     sim_results s (g.O.Outside.seen c.args.outside.now) (g.O.Outside.seen c.read_inputs.new.outside)
-    (given_by c.args.asked.now.site c.in_ok-inputs.inputs) c.in_ok-inputs.ensures.given c.args.schedule (gives s c.in_ok-made.made) c.in_ok-made.ensures
+    (scenario_of c.args.asked.now.site c.in_ok-inputs.inputs) c.in_ok-inputs.ensures.given c.args.schedule (gives s c.in_ok-made.made) c.in_ok-made.ensures

@@ -6,9 +6,9 @@ use Rattle.flow_filter.specs.Filter.{IsFilter}
 use Rattle.op_script.specs.declared.script.Line.{Line}
 use Rattle.net_world.specs.Input.{most_counted, ends_last}
 use Rattle.op_script.specs.Printing.{WhatFits}
-use Rattle.run_input.specs.Given.{config_of}
+use Rattle.run_input.specs.Settings.{config_of}
 use Rattle.run_input.specs.PacketFacts.{IsTransport, IsSteeredItem}
-use Rattle.run_input.proofs.GivenInput.{made_is}
+use Rattle.run_input.proofs.MadeInput.{made_is}
 use Rattle.run_input.proofs.SaidCommands.{end_is_last}
 use Rattle.run_input.proofs.PacketFactLemmas.{few_packets, steered_packets, transport_items}
 use Rattle.run_input.proofs.ShortInput.{short_is}

@@ -1,7 +1,7 @@
--- A new queue keeps the rule, its first holder may give the right to take away, and nothing was done yet.
+-- A new queue keeps the protocol, its first holder may give the right to take away, and nothing was done yet.
 use Rattle.std.proofs.Common.{rules}
 use Rattle.fifo_link.proofs.TransferLemmas.{no_sent, no_taken}
-use Rattle.fifo_link.proofs.LinkRuleSteps.{begins, forks}
+use Rattle.fifo_link.proofs.KnowledgeSteps.{begins, forks}
 use Rattle.fifo_link.proofs.ends.Link.open.Goals as goal
 
 pub ruled-requires-clause-rule : goal.ruled-requires-clause-rule

@@ -2,8 +2,8 @@
 use Rattle.std.proofs.Common.{eqb, not, length, rules}
 use Rattle.std.proofs.lemmas.Iterator.Consumers.{map_from_collect, YieldsList-from_filter, YieldsList-at}
 use Rattle.std.proofs.lemmas.Iterator.Splits.{YieldsList-from_slice_split}
-use Rattle.op_script.specs.Forms.{is_blank}
-use Rattle.op_script.proofs.form.words.Goals as goal
+use Rattle.op_script.specs.Statements.{is_blank}
+use Rattle.op_script.proofs.statement.words.Goals as goal
 
 pub returns : goal.returns
 returns c = map_from_collect _ c.collect.ensures.ran (YieldsList-from_filter _ (λ w. not (eqb (length w) 0))

@@ -5,7 +5,7 @@ use Rattle.std.specs.Prelude.{◌||◌, is_some}
 use Rattle.unit_machine.proofs.Machine.{At_c, Steps, Part, pick, or_own, Item, Piece, Delete, delete}
 use Rattle.unit_machine.proofs.Lists.{Mix, Ev, Pc, Dd, pieces}
 use Rattle.unit_machine.proofs.Lists as lists
-use Rattle.unit_machine.proofs.Fits.{pick-append}
+use Rattle.unit_machine.proofs.UnitPieces.{pick-append}
 use Rattle.unit_machine.proofs.Kept.{records_on-append, none_on_events, on_way}
 use Rattle.unit_machine.proofs.Beside.{c_live, beside_kept}
 use Rattle.unit_machine.proofs.Away.{away_kept}

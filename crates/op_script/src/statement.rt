@@ -1,7 +1,7 @@
 ghost use Rattle.std.specs.Prelude.{◌≡◌, map, IfOk, option_map};
-ghost use Rattle.op_script.specs.Forms.{words, is_blank, form_of, routing, happening, event_of, moving, copying, sharing, settling, is_comment, most_at};
+ghost use Rattle.op_script.specs.Statements.{words, is_blank, statement_of, routing, happening, event_of, moving, copying, sharing, settling, is_comment, most_at};
 ghost use Rattle.basics.specs.Parsing.{parse_number};
-ghost use Rattle.op_script.specs.FormViews.{event_view, form_view};
+ghost use Rattle.op_script.specs.StatementViews.{event_view, statement_view};
 
 use basics::parsing::{parse_number, split_once};
 use flow_filter::NoMemory;
@@ -30,7 +30,7 @@ pub enum Event<'a> {
 
 /// What a line says.
 #[derive(Clone, Copy, Debug)]
-pub enum Form<'a> {
+pub enum Statement<'a> {
     /// Nothing.
     Silent,
     Route {
@@ -59,16 +59,16 @@ fn is_blank(byte: u8) -> bool
     byte == b' ' || byte == b'\t'
 }
 
-/// What the words of a line say, or `None` where they have no form.
-#[tactic(auto, unfolding(crate::specs::Forms::form_of))]
-pub fn form_of<'a>(words: &[&'a [u8]]) -> Option<Form<'a>>
-    ensures { option_map form_view result ≡ form_of (map (λ w. w.now) words.now) }
+/// What the words of a line say, or `None` where they are no statement.
+#[tactic(auto, unfolding(crate::specs::Statements::statement_of))]
+pub fn statement_of<'a>(words: &[&'a [u8]]) -> Option<Statement<'a>>
+    ensures { option_map statement_view result ≡ statement_of (map (λ w. w.now) words.now) }
 {
     match words {
-        [] => Some(Form::Silent),
+        [] => Some(Statement::Silent),
         [first, more @ ..] => {
             if is_comment(first) {
-                Some(Form::Silent)
+                Some(Statement::Silent)
             } else if *first == b"route".as_slice() {
                 routing(more)
             } else if *first == b"at".as_slice() {
@@ -88,24 +88,24 @@ fn is_comment(word: &[u8]) -> bool
 }
 
 /// `FILTER INST`.
-fn routing<'a>(words: &[&'a [u8]]) -> Option<Form<'a>>
-    ensures { option_map form_view result ≡ routing (map (λ w. w.now) words.now) }
+fn routing<'a>(words: &[&'a [u8]]) -> Option<Statement<'a>>
+    ensures { option_map statement_view result ≡ routing (map (λ w. w.now) words.now) }
 {
     match words {
-        [filter, instance] => Some(Form::Route { filter, instance }),
+        [filter, instance] => Some(Statement::Route { filter, instance }),
         _ => None,
     }
 }
 
 /// `K` and an event.
-fn happening<'a>(words: &[&'a [u8]]) -> Option<Form<'a>>
-    ensures { option_map form_view result ≡ happening (map (λ w. w.now) words.now) }
+fn happening<'a>(words: &[&'a [u8]]) -> Option<Statement<'a>>
+    ensures { option_map statement_view result ≡ happening (map (λ w. w.now) words.now) }
 {
     match words {
         [at, verb, more @ ..] => {
             let at = point(at)?;
             let event = event_of(verb, more)?;
-            Some(Form::At { at, event })
+            Some(Statement::At { at, event })
         }
         _ => None,
     }
@@ -120,7 +120,7 @@ fn point(text: &[u8]) -> Option<u32>
 }
 
 /// An event by its first word.
-#[tactic(auto, unfolding(crate::specs::Forms::event_of))]
+#[tactic(auto, unfolding(crate::specs::Statements::event_of))]
 fn event_of<'a>(verb: &[u8], words: &[&'a [u8]]) -> Option<Event<'a>>
     ensures { option_map event_view result ≡ event_of verb.now (map (λ w. w.now) words.now) }
 {
@@ -138,7 +138,7 @@ fn event_of<'a>(verb: &[u8], words: &[&'a [u8]]) -> Option<Event<'a>>
 }
 
 /// `SRC DST FILTER order` or `SRC DST FILTER lossfree`.
-#[tactic(auto, unfolding(crate::specs::Forms::moving))]
+#[tactic(auto, unfolding(crate::specs::Statements::moving))]
 fn moving<'a>(words: &[&'a [u8]]) -> Option<Event<'a>>
     ensures { option_map event_view result ≡ moving (map (λ w. w.now) words.now) }
 {
@@ -163,7 +163,7 @@ fn moving<'a>(words: &[&'a [u8]]) -> Option<Event<'a>>
 }
 
 /// `SRC DST FILTER` or `SRC DST all`.
-#[tactic(auto, unfolding(crate::specs::Forms::copying))]
+#[tactic(auto, unfolding(crate::specs::Statements::copying))]
 fn copying<'a>(words: &[&'a [u8]]) -> Option<Event<'a>>
     ensures { option_map event_view result ≡ copying (map (λ w. w.now) words.now) }
 {
@@ -185,7 +185,7 @@ fn copying<'a>(words: &[&'a [u8]]) -> Option<Event<'a>>
 }
 
 /// `INST,INST.. FILTER strict`, where the list has a comma.
-#[tactic(auto, unfolding(crate::specs::Forms::sharing))]
+#[tactic(auto, unfolding(crate::specs::Statements::sharing))]
 fn sharing<'a>(words: &[&'a [u8]]) -> Option<Event<'a>>
     ensures { option_map event_view result ≡ sharing (map (λ w. w.now) words.now) }
 {

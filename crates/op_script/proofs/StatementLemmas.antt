@@ -1,9 +1,9 @@
--- What a form says of its words: a share's list has a comma.
+-- What a statement says of its words: a share's list has a comma.
 use Rattle.std.proofs.Common.{◌≡◌, ℕ, Bool, true, false, cond, List, [], ◌∷◌, Option, None, Some, is_some, option_map, refl, subst}
 use Rattle.std.specs.Prelude.{codes, option_and_then}
 use Rattle.std.specs.Str.{bytes_eq}
 use Rattle.basics.specs.Parsing.{parse_number, split_once}
-use Rattle.op_script.specs.Forms.{Word, Event, Moving, Copying, Sharing, Settling, Form, Silent, Routing, Happening, form_of, routing, happening, event_of, moving, copying, sharing, settling, is_comment}
+use Rattle.op_script.specs.Statements.{Word, Event, Moving, Copying, Sharing, Settling, Statement, Silent, Routing, Happening, statement_of, routing, happening, event_of, moving, copying, sharing, settling, is_comment}
 
 -- a share's list has a comma
 abbrev pub IsEvent : Event → Type 0
@@ -12,10 +12,10 @@ IsEvent (Copying source target filter) = Unit {0}
 IsEvent (Sharing list filter) = is_some (split_once 44 list) ≡ true
 IsEvent Settling = Unit {0}
 
-abbrev pub IsForm : Form → Type 0
-IsForm Silent = Unit {0}
-IsForm (Routing filter instance) = Unit {0}
-IsForm (Happening at event) = IsEvent event
+abbrev pub IsStatement : Statement → Type 0
+IsStatement Silent = Unit {0}
+IsStatement (Routing filter instance) = Unit {0}
+IsStatement (Happening at event) = IsEvent event
 
 -- what is there has a property
 abbrev pub OfSome : {A : Type 0} → (A → Type 0) → Option A → Type 0
@@ -64,27 +64,27 @@ unfolding event_of
 event_right verb ws = either IsEvent (bytes_eq verb (codes "move")) _ _ (moving_right ws) (either IsEvent (bytes_eq verb (codes "copy")) _ _ (copying_right ws)
     (either IsEvent (bytes_eq verb (codes "share")) _ _ (sharing_right ws) (either IsEvent (bytes_eq verb (codes "settle")) _ _ (settling_right ws) tt)))
 
-routing_right : (ws : List Word) → OfSome IsForm (routing ws)
+routing_right : (ws : List Word) → OfSome IsStatement (routing ws)
 routing_right [] = tt
 routing_right (a ∷ []) = tt
 routing_right (a ∷ b ∷ []) = tt
 routing_right (a ∷ b ∷ c ∷ more) = tt
 
-at_right : (at : Option ℕ) (event : Option Event) → OfSome IsEvent event → OfSome IsForm (option_and_then (λ k. option_map (Happening k) event) at)
+at_right : (at : Option ℕ) (event : Option Event) → OfSome IsEvent event → OfSome IsStatement (option_and_then (λ k. option_map (Happening k) event) at)
 at_right None event right = tt
 at_right (Some k) None right = tt
 at_right (Some k) (Some event) right = right
 
-happening_right : (ws : List Word) → OfSome IsForm (happening ws)
+happening_right : (ws : List Word) → OfSome IsStatement (happening ws)
 happening_right [] = tt
 happening_right (at ∷ []) = tt
 happening_right (at ∷ verb ∷ more) = at_right (parse_number 4294967295 at) (event_of verb more) (event_right verb more)
 
-form_of_right : (ws : List Word) → OfSome IsForm (form_of ws)
-unfolding form_of
-form_of_right [] = tt
-form_of_right (first ∷ more) = either IsForm (is_comment first) _ _ tt (either IsForm (bytes_eq first (codes "route")) _ _ (routing_right more)
-    (either IsForm (bytes_eq first (codes "at")) _ _ (happening_right more) tt))
+statement_of_right : (ws : List Word) → OfSome IsStatement (statement_of ws)
+unfolding statement_of
+statement_of_right [] = tt
+statement_of_right (first ∷ more) = either IsStatement (is_comment first) _ _ tt (either IsStatement (bytes_eq first (codes "route")) _ _ (routing_right more)
+    (either IsStatement (bytes_eq first (codes "at")) _ _ (happening_right more) tt))
 
-pub form_right : (ws : List Word) (form : Form) → form_of ws ≡ Some form → IsForm form
-form_right ws form is = subst (OfSome IsForm) is (form_of_right ws)
+pub statement_right : (ws : List Word) (statement : Statement) → statement_of ws ≡ Some statement → IsStatement statement
+statement_right ws statement is = subst (OfSome IsStatement) is (statement_of_right ws)

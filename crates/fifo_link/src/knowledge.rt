@@ -1,4 +1,4 @@
-//! The rule of a link, and what its steps tell.
+//! What those who hold a link's queue know of it, and what its steps tell them.
 use crossbeam_queue::protocol::{Join, Lesson, Outcome, Protocol, Split};
 use std::collections::LinkedList;
 
@@ -22,7 +22,7 @@ pub struct InOrder;
 
 impl<M> Protocol<M, Knowledge<M>> for InOrder {
     ghost use Rattle.std.specs.Prelude.{true, []};
-    ghost use Rattle.fifo_link.specs.Rule.{knows, KeepsOrder};
+    ghost use Rattle.fifo_link.specs.Knowledge.{knows, KeepsOrder};
 
     ghost holds = { KeepsOrder };
 
@@ -34,7 +34,7 @@ pub struct Roles;
 
 impl<M> Split<Knowledge<M>> for Roles {
     ghost use Rattle.std.specs.Prelude.{true, false};
-    ghost use Rattle.fifo_link.specs.Rule.{knows};
+    ghost use Rattle.fifo_link.specs.Knowledge.{knows};
 
     ghost left = { λ v. knows true false v.sender v.taker };
 
@@ -43,7 +43,7 @@ impl<M> Split<Knowledge<M>> for Roles {
 
 impl<M> Join<Knowledge<M>> for Roles {
     ghost use Rattle.std.specs.Prelude.{true, false, []};
-    ghost use Rattle.fifo_link.specs.Rule.{knows};
+    ghost use Rattle.fifo_link.specs.Knowledge.{knows};
 
     ghost both = { λ v w. knows true true v.sender w.taker };
 
@@ -54,7 +54,7 @@ impl<M> Join<Knowledge<M>> for Roles {
 pub struct Sends;
 
 impl<M> Outcome<M, Knowledge<M>> for Sends {
-    ghost use Rattle.fifo_link.specs.Rule.{AfterSend};
+    ghost use Rattle.fifo_link.specs.Knowledge.{AfterSend};
 
     ghost then = { AfterSend };
 }
@@ -69,7 +69,7 @@ impl<M> Lesson<M, Knowledge<M>> for Sends {
 pub struct Takes;
 
 impl<M> Outcome<M, Knowledge<M>> for Takes {
-    ghost use Rattle.fifo_link.specs.Rule.{AfterTake};
+    ghost use Rattle.fifo_link.specs.Knowledge.{AfterTake};
 
     ghost then = { AfterTake };
 }
@@ -86,7 +86,7 @@ pub struct Drains;
 
 impl<M> Outcome<M, Knowledge<M>> for Drains {
     ghost use Rattle.std.specs.Prelude.{◌≡◌, List, [], ◌∷◌, ◌++◌};
-    ghost use Rattle.fifo_link.specs.Rule.{AfterTake};
+    ghost use Rattle.fifo_link.specs.Knowledge.{AfterTake};
     ghost use Rattle.fifo_link.specs.Transfers.{sent_in, taken_in};
 
     ghost then = { λ v x w. AfterTake v x w × ((rest : List M) × (sent_in v.sender ≡ (taken_in v.taker ++ x ∷ []) ++ rest)) };

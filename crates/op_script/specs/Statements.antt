@@ -1,4 +1,4 @@
--- The lines of an operator's script: words between blanks, and the forms that they take. This project's own grammar.
+-- The lines of an operator's script: words between blanks, and what they state. This project's own grammar.
 use Rattle.std.specs.Prelude.{ℕ, Bool, true, false, not, ◌||◌, ◌==◌, if◌then◌else◌, List, [], ◌∷◌, length, filter, Option, None, Some, is_some, option_map, option_and_then, codes}
 use Rattle.std.specs.List.{slice_split}
 use Rattle.std.specs.Str.{bytes_eq}
@@ -24,10 +24,10 @@ pub data Event : Type 0 where
   Settling : Event
 
 -- what a line says
-pub data Form : Type 0 where
-  Silent : Form
-  Routing : (filter : Word) (instance : Word) → Form
-  Happening : (at : ℕ) (event : Event) → Form
+pub data Statement : Type 0 where
+  Silent : Statement
+  Routing : (filter : Word) (instance : Word) → Statement
+  Happening : (at : ℕ) (event : Event) → Statement
 
 -- `SRC DST FILTER order` or `SRC DST FILTER lossfree`
 unfoldable pub moving : List Word → Option Event
@@ -67,12 +67,12 @@ abbrev pub most_at : ℕ
 most_at = 4294967295
 
 -- `K` and an event
-abbrev pub happening : List Word → Option Form
+abbrev pub happening : List Word → Option Statement
 happening (at ∷ verb ∷ more) = option_and_then (λ k. option_map (Happening k) (event_of verb more)) (parse_number most_at at)
 happening _ = None
 
 -- `FILTER INST`
-abbrev pub routing : List Word → Option Form
+abbrev pub routing : List Word → Option Statement
 routing (filter ∷ instance ∷ []) = Some (Routing filter instance)
 routing _ = None
 
@@ -81,10 +81,10 @@ abbrev pub is_comment : Word → Bool
 is_comment [] = false
 is_comment (byte ∷ more) = byte == number_sign
 
--- what the words of a line say, or None where they have no form
-unfoldable pub form_of : List Word → Option Form
-form_of [] = Some Silent
-form_of (first ∷ more) =
+-- what the words of a line say, or None where they are no statement
+unfoldable pub statement_of : List Word → Option Statement
+statement_of [] = Some Silent
+statement_of (first ∷ more) =
     if is_comment first then Some Silent
     else if bytes_eq first (codes "route") then routing more
     else if bytes_eq first (codes "at") then happening more

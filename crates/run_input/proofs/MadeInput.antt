@@ -15,7 +15,7 @@ use Rattle.net_world.specs.declared.config.Config.{Config}
 use Rattle.net_world.specs.Input.{IsSteered, most_counted, IsInput}
 use Rattle.net_world.specs.Start.{IsConfig}
 use Rattle.run_input.specs.declared.setting.Setting.{Setting}
-use Rattle.run_input.specs.Given.{config_of, IsSetting}
+use Rattle.run_input.specs.Settings.{config_of, IsSetting}
 use Rattle.run_input.proofs.SaidCommands.{only_items, packets_in, commands_in}
 use Rattle.run_input.proofs.ScriptedOrders.{numbers_rise, in_order, ops_rise, all_proper, routes_whole, routes_there}
 

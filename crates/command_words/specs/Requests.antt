@@ -243,6 +243,6 @@ asked_of command words =
     else None
 
 -- PROGRAM COMMAND and the words of the command
-unfoldable pub plan_of : List Text → Option Asked
-plan_of (program ∷ command ∷ words) = asked_of command words
-plan_of _ = None
+unfoldable pub request_of : List Text → Option Asked
+request_of (program ∷ command ∷ words) = asked_of command words
+request_of _ = None
