@@ -22,8 +22,6 @@ mod remainders;
 pub mod replays;
 pub mod schedule;
 pub mod stamped;
-#[cfg(test)]
-mod tests;
 mod turns;
 pub mod world;
 

@@ -15,8 +15,6 @@ mod groups;
 mod links;
 mod notes;
 pub mod round;
-#[cfg(test)]
-mod tests;
 pub mod ways;
 pub mod worker;
 

@@ -18,6 +18,3 @@ pub use nat::Nat;
 pub use passage::Passage;
 pub use record::NatRecord;
 pub use table::step;
-
-#[cfg(test)]
-mod tests;

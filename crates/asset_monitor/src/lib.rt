@@ -19,6 +19,3 @@ pub use monitor::Monitor;
 pub use record::AssetRecord;
 pub use service::Service;
 pub use services::{SERVICES_PER_HOST, Services};
-
-#[cfg(test)]
-mod tests;

@@ -19,6 +19,3 @@ pub use record::TrackRecord;
 pub use state::State;
 pub use text::{print_output, print_record, push_output, push_record};
 pub use tracker::{first_record, next_record, step};
-
-#[cfg(test)]
-mod tests;

@@ -16,6 +16,3 @@ pub use copy::CopyOp;
 pub use copy_phase::CopyPhase;
 pub use share::ShareOp;
 pub use share_phase::SharePhase;
-
-#[cfg(test)]
-mod tests;

@@ -13,6 +13,3 @@ pub mod operations;
 pub use controller::Ctrl;
 pub use operation::Operation;
 pub use operations::Operations;
-
-#[cfg(test)]
-mod tests;

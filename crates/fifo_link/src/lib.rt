@@ -11,7 +11,5 @@
 
 mod ends;
 mod knowledge;
-#[cfg(test)]
-mod tests;
 
 pub use ends::{Closed, Full, Link, SendEnd, TakeEnd, close};

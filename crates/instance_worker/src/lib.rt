@@ -14,6 +14,3 @@ pub mod pieces;
 mod processing;
 
 pub use instance::Instance;
-
-#[cfg(test)]
-mod tests;

@@ -18,6 +18,3 @@ pub use door::Door;
 pub use operation::MoveOp;
 pub use phase::Phase;
 pub use pieces::Pieces;
-
-#[cfg(test)]
-mod tests;

@@ -24,6 +24,3 @@ pub use msg::{Msg, Piece, Refused};
 pub use names::Names;
 pub use nodes::{CONTROLLER, MOST_INSTANCES, SWITCH, instance_node};
 pub use note::Note;
-
-#[cfg(test)]
-mod tests;

@@ -14,6 +14,3 @@ pub mod table;
 
 pub use refusal::ImportFault;
 pub use table::{Stepped, Table};
-
-#[cfg(test)]
-mod tests;

@@ -19,6 +19,3 @@ pub mod units;
 pub use auditing::{AuditFault, audit};
 pub use head::Head;
 pub use reporting::report;
-
-#[cfg(test)]
-mod tests;

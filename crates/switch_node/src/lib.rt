@@ -7,6 +7,3 @@
 pub mod switch;
 
 pub use switch::Switch;
-
-#[cfg(test)]
-mod tests;

@@ -1,0 +1,1 @@
+-- The proofs of the tests' helpers stand in folders of their own, by module and function.

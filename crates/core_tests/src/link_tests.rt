@@ -1,0 +1,68 @@
+ghost use Rattle.std.specs.Prelude.{◌≡◌};
+
+use fifo_link::{Link, SendEnd, TakeEnd, close};
+use std::alloc::AllocError;
+use std::sync::Wait;
+use std::test::Fail;
+use std::thread;
+
+#[test]
+fn a_full_link_hands_the_message_back(rt: HostRuntime) -> Result<(), Fail> {
+    let (mut send, mut take) = Link::<u64>::open(rt.alloc(), 1)?;
+    assert!(rt; send.send(&rt, 1).is_ok());
+    let second = send.send(&rt, 2);
+    assert_eq!(rt; second.err().map(|full| full.message), Some(2));
+    assert_eq!(rt; take.take(&rt), Some(1));
+    assert!(rt; take.take(&rt).is_none());
+    Ok(())
+}
+
+fn send_all(rt: &impl Wait, mut send: SendEnd<u64>, count: u64) -> SendEnd<u64>
+    ensures { result.link ≡ send.link }
+{
+    for number in 0..count {
+        let _ = send.send(rt, number);
+    }
+    send
+}
+
+fn take_all(rt: &impl Wait, mut take: TakeEnd<u64>, count: u64) -> (TakeEnd<u64>, u64)
+    ensures { result.0.link ≡ take.link }
+{
+    let mut taken = 0u64;
+    for _ in rt.forever() {
+        if taken >= count {
+            break;
+        }
+        match take.take(rt) {
+            Some(number) if number == taken => taken += 1,
+            Some(_) => break,
+            None => thread::yield_now(),
+        }
+    }
+    (take, taken)
+}
+
+#[test]
+fn what_was_not_taken_is_left_in_order(rt: HostRuntime) -> Result<(), Fail> {
+    let (send, take) = Link::<u64>::open(rt.alloc(), 4)?;
+    let send = send_all(&rt, send, 3);
+    let (take, taken) = take_all(&rt, take, 1);
+    let left = close(&rt, send, take).left;
+    assert_eq!(rt; (taken, left.len()), (1, 2));
+    assert_eq!(rt; (left[0], left[1]), (1, 2));
+    Ok(())
+}
+
+#[test]
+fn messages_cross_threads_in_order(rt: HostRuntime) -> Result<(), AllocError> {
+    let (send, take) = Link::<u64>::open(rt.alloc(), 64)?;
+    let (send, (take, taken)) = thread::join(
+        &rt,
+        || send_all(&rt, send, 64),
+        || take_all(&rt, take, 32),
+    );
+    let left = close(&rt, send, take).left;
+    assert_eq!(rt; (taken, left.len()), (32, 32));
+    Ok(())
+}

@@ -1,0 +1,371 @@
+ghost use Rattle.std.specs.Prelude.{◌≡◌, ◌%◌};
+
+use actor_net::{Actor, Outbox};
+use basics::{Boxed, NoMemory, Text};
+use ctrl_node::Ctrl;
+use flow_filter::{Filter, Name, Packet, Prefix, Sequence, Site, UDP};
+use nf_function::{Chunk, Chunks, Scope};
+use nf_msgs::{Command, Msg, Note, Order, Piece, print_answer, show};
+use packet_pool::Pool;
+use std::alloc::Global;
+use std::test::Fail;
+
+/// The node of the switch.
+const SWITCH: u8 = 0;
+
+/// The nodes of the instances a and b.
+const A: u8 = 2;
+
+const B: u8 = 3;
+
+const SITE: Site = Site {
+    inside: Prefix {
+        bits: 0x0a00_0000,
+        len: 24,
+    },
+    outside: None,
+};
+
+const PACKET: Packet = Packet {
+    nanos: 0,
+    number: 5,
+    src: 0x0a00_0001,
+    dst: 0xc000_0209,
+    length: 20,
+    sport: 5000,
+    dport: 53,
+    proto: UDP,
+    flags: 0,
+    held: 0,
+    head: [0; 64],
+};
+
+/// The addresses that a share is of.
+#[derive(Clone, Copy)]
+enum Addresses {
+    All,
+    /// From 10.0.0.0 to 10.0.0.127.
+    Lower,
+    /// From 10.0.0.128 to 10.0.0.255.
+    Upper,
+}
+
+/// What a node says to the controller, of the operation with a number.
+#[derive(Clone, Copy)]
+enum Word {
+    /// A move of everything from a to the instance with this letter, in any order of packets.
+    Move(u32, u8),
+    /// A copy from a to b, of everything or of the all-flows state.
+    Copy(u32, bool),
+    /// A share between a and b of some of the site's addresses.
+    Share(u32, Addresses),
+    Chunks(u32),
+    AllChunk(u32),
+    Kept(u32),
+    Shared(u32),
+    Synced(u32),
+    Diverted,
+    Enabled(u32),
+    /// The one piece of a move.
+    Piece(u32),
+    Deleted(u32),
+    PutOk(u32),
+    Fenced(u32),
+    Event(u32),
+    End,
+    Final,
+}
+
+/// The filter of half of the site's addresses, from this one on.
+fn half(bits: u32) -> Filter
+    requires { bits % 128 ≡ 0 }
+{
+    Filter {
+        local: Some(Prefix { bits, len: 25 }),
+        ..Filter::ANY
+    }
+}
+
+/// The message of a command.
+fn asked(alloc: Global, op: u32, what: Order) -> Result<Msg, NoMemory> {
+    Ok(Msg::Asked(Boxed::new(alloc, Command { op, what })?))
+}
+
+/// A command to move everything.
+fn move_command(alloc: Global, op: u32, letter: u8) -> Result<Msg, NoMemory> {
+    let (Some(src), Some(dst)) = (Name::read(alloc, b"a")?, Name::read(alloc, &[letter])?) else {
+        return Ok(Msg::Finish);
+    };
+    let what = Order::Move {
+        src,
+        dst,
+        filter: Filter::ANY,
+        keep: false,
+    };
+    asked(alloc, op, what)
+}
+
+/// A command to copy everything, or the all-flows state.
+fn copy_command(alloc: Global, op: u32, filter: Option<Filter>) -> Result<Msg, NoMemory> {
+    let (Some(src), Some(dst)) = (Name::read(alloc, b"a")?, Name::read(alloc, b"b")?) else {
+        return Ok(Msg::Finish);
+    };
+    asked(alloc, op, Order::Copy { src, dst, filter })
+}
+
+/// A command to share what a filter takes.
+fn share_command(alloc: Global, op: u32, filter: Filter) -> Result<Msg, NoMemory> {
+    let members = Sequence::from_vec(names(alloc)?);
+    asked(alloc, op, Order::Share { members, filter })
+}
+
+/// A chunk without bytes.
+fn chunk(alloc: Global) -> Result<Boxed<Chunk>, NoMemory> {
+    let chunk = Chunk {
+        scope: Scope::PerFlow,
+        unit: None,
+        bytes: Text::open(alloc),
+    };
+    Boxed::new(alloc, chunk)
+}
+
+/// A piece without chunks.
+fn piece(alloc: Global, op: u32) -> Result<Msg, NoMemory> {
+    let piece = Piece {
+        chunks: Chunks::open(alloc),
+        total: 0,
+        newest: 1,
+        last: true,
+    };
+    let piece = Boxed::new(alloc, piece)?;
+    Ok(Msg::Piece { op, piece })
+}
+
+/// A packet, as an event of an operation or as one that the switch's rules send to the controller.
+fn packet(alloc: Global, op: Option<u32>) -> Result<Msg, NoMemory> {
+    let packet = Boxed::new(alloc, PACKET)?;
+    match Pool::open(0, 1).take(packet) {
+        Ok(parcel) => match op {
+            Some(op) => Ok(Msg::Event { op, parcel }),
+            None => Ok(Msg::Diverted(parcel)),
+        },
+        Err(_packet) => Ok(Msg::Finish),
+    }
+}
+
+/// The message of a word.
+fn message_of(alloc: Global, word: Word) -> Result<Msg, NoMemory> {
+    match word {
+        Word::Move(op, letter) => move_command(alloc, op, letter),
+        Word::Copy(op, true) => copy_command(alloc, op, Some(Filter::ANY)),
+        Word::Copy(op, false) => copy_command(alloc, op, None),
+        Word::Share(op, Addresses::All) => share_command(alloc, op, Filter::ANY),
+        Word::Share(op, Addresses::Lower) => share_command(alloc, op, half(0x0a00_0000)),
+        Word::Share(op, Addresses::Upper) => share_command(alloc, op, half(0x0a00_0080)),
+        Word::Chunks(op) => Ok(Msg::Chunks {
+            op,
+            chunks: Chunks::open(alloc),
+        }),
+        Word::AllChunk(op) => Ok(Msg::AllChunk {
+            op,
+            chunk: chunk(alloc)?,
+        }),
+        Word::Kept(op) => Ok(Msg::Kept { op }),
+        Word::Shared(op) => Ok(Msg::Shared {
+            op,
+            chunk: chunk(alloc)?,
+        }),
+        Word::Synced(op) => Ok(Msg::Synced { op }),
+        Word::Diverted => packet(alloc, None),
+        Word::Enabled(op) => Ok(Msg::Enabled { op }),
+        Word::Piece(op) => piece(alloc, op),
+        Word::Deleted(op) => Ok(Msg::Deleted { op }),
+        Word::PutOk(op) => Ok(Msg::PutOk { op }),
+        Word::Fenced(op) => Ok(Msg::Fenced { op }),
+        Word::Event(op) => packet(alloc, Some(op)),
+        Word::End => Ok(Msg::End),
+        Word::Final => Ok(Msg::Final),
+    }
+}
+
+/// Writes a message with its receiver, in a line.
+fn write_line(text: &mut Text, alloc: Global, sent: &(u8, Msg)) -> Result<(), NoMemory> {
+    text.push_decimal(u64::from(sent.0))?;
+    text.push_bytes(b" ")?;
+    text.push_bytes(show(alloc, &sent.1)?.items())?;
+    text.push_bytes(b"\n")
+}
+
+/// Writes an answer, in a line.
+fn write_answer(text: &mut Text, alloc: Global, note: &Note) -> Result<(), NoMemory> {
+    match note {
+        Note::Answered { answer, .. } => {
+            text.push_bytes(print_answer(alloc, answer.get())?.items())?;
+            text.push_bytes(b"\n")
+        }
+        _ => Ok(()),
+    }
+}
+
+/// Writes what was sent, and then the answers.
+fn write_done(text: &mut Text, alloc: Global, out: Outbox<Msg, Note>) -> Result<(), NoMemory> {
+    let (messages, notes) = out.parts();
+    for sent in messages.as_slice() {
+        write_line(text, alloc, sent)?;
+    }
+    for note in notes.as_slice() {
+        write_answer(text, alloc, note)?;
+    }
+    Ok(())
+}
+
+/// The instances a and b.
+fn names(alloc: Global) -> Result<Vec<Name>, NoMemory> {
+    let mut names = Vec::new(alloc);
+    if let Some(name) = Name::read(alloc, b"a")? {
+        names.push(name)?;
+    }
+    if let Some(name) = Name::read(alloc, b"b")? {
+        names.push(name)?;
+    }
+    Ok(names)
+}
+
+/// Writes what the controller does with a message.
+fn write_told(
+    text: &mut Text,
+    alloc: Global,
+    controller: &mut Ctrl,
+    said: (u8, Word),
+) -> Result<(), NoMemory> {
+    let message = message_of(alloc, said.1)?;
+    let mut out = Outbox::open(alloc);
+    controller.step(said.0, message, &mut out)?;
+    write_done(text, alloc, out)
+}
+
+/// What a controller of a and b sends and answers at these messages, and whether it has then ended.
+fn told(alloc: Global, messages: &[(u8, Word)]) -> Result<(Text, bool), NoMemory> {
+    let names = names(alloc)?;
+    if names.len() > 2 {
+        return Ok((Text::open(alloc), false));
+    }
+    let mut text = Text::open(alloc);
+    let mut controller = Ctrl::open(alloc, Sequence::from_vec(names), SITE)?;
+    for said in messages {
+        write_told(&mut text, alloc, &mut controller, *said)?;
+    }
+    Ok((text, controller.ended()))
+}
+
+#[test]
+fn a_move_is_answered_and_then_all_is_told_to_finish(rt: HostRuntime) -> Result<(), Fail> {
+    let messages = [
+        (SWITCH, Word::Move(3, b'b')),
+        (SWITCH, Word::End),
+        (A, Word::Enabled(3)),
+        (A, Word::Piece(3)),
+        (A, Word::Deleted(3)),
+        (B, Word::PutOk(3)),
+        (A, Word::Fenced(3)),
+        (B, Word::Fenced(3)),
+        (A, Word::Final),
+        (B, Word::Final),
+    ];
+    let expected =
+        b"2 enable op 3\n2 stream op 3\n2 delete op 3\n3 put op 3\n0 install op 3\n0 fence to op 3 to 1\n0 answered op 3\n0 finish\ndone\n";
+    let (text, has_ended) = told(rt.alloc(), &messages)?;
+    assert_eq!(rt; text.items(), expected.as_slice());
+    assert!(rt; has_ended);
+    Ok(())
+}
+
+#[test]
+fn a_command_is_refused_for_its_names_before_its_filter(rt: HostRuntime) -> Result<(), Fail> {
+    let messages = [
+        (SWITCH, Word::Move(4, b'b')),
+        (SWITCH, Word::Move(5, b'z')),
+        (SWITCH, Word::Move(6, b'b')),
+        (B, Word::Event(5)),
+    ];
+    let expected =
+        b"2 enable op 4\n0 answered op 5\nunknown z\n0 answered op 6\noverlap 4\n0 forward packet 5 to 1\n";
+    let (text, has_ended) = told(rt.alloc(), &messages)?;
+    assert_eq!(rt; text.items(), expected.as_slice());
+    assert!(rt; !has_ended);
+    Ok(())
+}
+
+#[test]
+fn a_share_is_answered_before_it_serves_and_finishes_when_it_is_idle(
+    rt: HostRuntime,
+) -> Result<(), Fail> {
+    let messages = [
+        (SWITCH, Word::Share(3, Addresses::All)),
+        (SWITCH, Word::Diverted),
+        (A, Word::Fenced(3)),
+        (A, Word::Chunks(3)),
+        (SWITCH, Word::End),
+        (B, Word::Synced(3)),
+        (SWITCH, Word::Diverted),
+        (A, Word::Shared(3)),
+        (B, Word::Synced(3)),
+        (A, Word::Shared(3)),
+        (B, Word::Synced(3)),
+    ];
+    let expected =
+        b"0 install op 3\n2 get op 3\n3 sync op 3\n0 answered op 3\n0 forward packet 5 to 0\ndone\n3 sync op 3\n0 forward packet 5 to 0\n3 sync op 3\n0 finish\n";
+    let (text, has_ended) = told(rt.alloc(), &messages)?;
+    assert_eq!(rt; text.items(), expected.as_slice());
+    assert!(rt; !has_ended);
+    Ok(())
+}
+
+#[test]
+fn a_share_that_is_answered_still_overlaps_but_not_with_all_flows_state(
+    rt: HostRuntime,
+) -> Result<(), Fail> {
+    let messages = [
+        (SWITCH, Word::Share(3, Addresses::All)),
+        (A, Word::Fenced(3)),
+        (A, Word::Chunks(3)),
+        (B, Word::Synced(3)),
+        (SWITCH, Word::Move(4, b'b')),
+        (SWITCH, Word::Copy(5, true)),
+        (SWITCH, Word::Copy(6, false)),
+        (SWITCH, Word::End),
+        (A, Word::AllChunk(6)),
+        (B, Word::Kept(6)),
+    ];
+    let expected =
+        b"0 install op 3\n2 get op 3\n3 sync op 3\n0 answered op 3\ndone\n0 answered op 4\noverlap 3\n0 answered op 5\noverlap 3\n2 get all op 6\n3 put all op 6\n0 answered op 6\n0 finish\ndone\n";
+    let (text, has_ended) = told(rt.alloc(), &messages)?;
+    assert_eq!(rt; text.items(), expected.as_slice());
+    assert!(rt; !has_ended);
+    Ok(())
+}
+
+#[test]
+fn a_packet_waits_for_the_share_of_its_flow(rt: HostRuntime) -> Result<(), Fail> {
+    let messages = [
+        (SWITCH, Word::Share(3, Addresses::Upper)),
+        (SWITCH, Word::Share(4, Addresses::Lower)),
+        (A, Word::Fenced(3)),
+        (A, Word::Chunks(3)),
+        (B, Word::Synced(3)),
+        (SWITCH, Word::Diverted),
+        (A, Word::Fenced(4)),
+        (SWITCH, Word::End),
+        (A, Word::Chunks(4)),
+        (B, Word::Synced(4)),
+        (A, Word::Shared(3)),
+        (A, Word::Shared(4)),
+        (B, Word::Synced(4)),
+    ];
+    let expected =
+        b"0 install op 3\n0 install op 4\n2 get op 3\n3 sync op 3\n0 answered op 3\ndone\n2 get op 4\n3 sync op 4\n0 answered op 4\n0 forward packet 5 to 0\ndone\n3 sync op 4\n0 finish\n";
+    let (text, has_ended) = told(rt.alloc(), &messages)?;
+    assert_eq!(rt; text.items(), expected.as_slice());
+    assert!(rt; !has_ended);
+    Ok(())
+}

@@ -1,0 +1,89 @@
+use basics::Boxed;
+use event_filter::Mark;
+use flow_filter::{Name, Packet, UDP};
+use nf_function::Chunks;
+use nf_msgs::{Answer, Msg, Note, Piece, print_answer, show};
+use packet_pool::Pool;
+use std::alloc::Global;
+use std::test::Fail;
+
+const PACKET: Packet = Packet {
+    nanos: 0,
+    number: 7,
+    src: 0x0a00_0001,
+    dst: 0xc000_0209,
+    length: 20,
+    sport: 5000,
+    dport: 53,
+    proto: UDP,
+    flags: 0,
+    held: 0,
+    head: [0; 64],
+};
+
+#[test]
+fn each_answer_has_its_words(rt: HostRuntime) -> Result<(), Fail> {
+    let alloc = rt.alloc();
+    let Some(name) = Name::read(alloc, b"z9")? else {
+        return Ok(());
+    };
+    let import = Answer::Import {
+        held: 2,
+        coming: 3,
+        limit: 4,
+    };
+    let old = Answer::Old {
+        newest: 2,
+        reads: 1,
+    };
+    let cases: [(Answer, &str); 5] = [
+        (Answer::Done, "done"),
+        (Answer::Unknown(name), "unknown z9"),
+        (Answer::Overlap(12), "overlap 12"),
+        (import, "import 2 3 4"),
+        (old, "old 2 1"),
+    ];
+    for (answer, words) in &cases {
+        assert_eq!(rt; print_answer(alloc, answer)?.items(), words.as_bytes());
+    }
+    Ok(())
+}
+
+#[test]
+fn a_message_is_shown_by_its_kind_and_numbers(rt: HostRuntime) -> Result<(), Fail> {
+    let alloc = rt.alloc();
+    let mut pool = Pool::open(0, 1);
+    if let Ok(parcel) = pool.take(Boxed::new(alloc, PACKET)?) {
+        let forward = Msg::Forward {
+            parcel,
+            mark: Mark::Pass(3),
+            to: 1,
+        };
+        assert_eq!(rt;
+            show(alloc, &forward)?.items(),
+            b"forward packet 7 to 1".as_slice()
+        );
+    }
+    assert_eq!(rt; pool.home(), 0);
+    let piece = Piece {
+        chunks: Chunks::open(alloc),
+        total: 0,
+        newest: 1,
+        last: true,
+    };
+    let put = Msg::Put {
+        op: 4,
+        piece: Boxed::new(alloc, piece)?,
+        first: true,
+    };
+    assert_eq!(rt; show(alloc, &put)?.items(), b"put op 4".as_slice());
+    assert_eq!(rt; show(alloc, &Msg::Finish)?.items(), b"finish".as_slice());
+    Ok(())
+}
+
+#[test]
+fn messages_and_notes_are_small(rt: HostRuntime) -> Result<(), Fail> {
+    assert_eq!(rt; size_of::<Msg>(), 48);
+    assert_eq!(rt; size_of::<Note>(), 24);
+    Ok(())
+}

@@ -1,0 +1,137 @@
+ghost use Rattle.std.specs.Prelude.{◌≤◌, length};
+
+use asset_monitor::{Banner, Monitor, SERVICES_PER_HOST, Service};
+use basics::{NoMemory, Text};
+use flow_filter::{Packet, Prefix, Site};
+use nf_function::{BodyFault, Function, Output, Unit};
+use std::alloc::Global;
+use std::test::Fail;
+
+/// The site 10.0.0.0/24.
+fn site() -> Site {
+    let inside = Prefix {
+        bits: 0x0a00_0000,
+        len: 24,
+    };
+    Site {
+        inside,
+        outside: None,
+    }
+}
+
+/// A packet that 10.0.0.5 sends from this port to 192.0.2.9:40000.
+fn sent(proto: u8, port: u16, flags: u8, payload: &[u8]) -> Packet
+    requires { length payload.now ≤ 64 }
+{
+    let mut head = [0; 64];
+    head[..payload.len()].copy_from_slice(payload);
+    Packet {
+        number: 1,
+        nanos: 0,
+        proto,
+        src: 0x0a00_0005,
+        sport: port,
+        dst: 0xc000_0209,
+        dport: 40_000,
+        flags,
+        length: payload.len() as u32,
+        held: payload.len() as u8,
+        head,
+    }
+}
+
+/// The packet in the other direction.
+fn received(there: Packet) -> Packet {
+    Packet {
+        src: there.dst,
+        sport: there.dport,
+        dst: there.src,
+        dport: there.sport,
+        ..there
+    }
+}
+
+/// What the monitor prints of these packets of one host: a line for each output, and then the record.
+fn printed(alloc: Global, packets: &[Packet]) -> Result<Text, NoMemory> {
+    let mut text = Text::open(alloc);
+    let mut kept = None;
+    for packet in packets {
+        let output = Monitor::step(alloc, &site(), &mut kept, packet)?;
+        Monitor::push_output(&mut text, &output)?;
+        text.push_bytes(b"\n")?;
+    }
+    if let Some(record) = &kept {
+        Monitor::push_record(&mut text, record)?;
+    }
+    Ok(text)
+}
+
+#[test]
+fn an_ssh_server_is_found_and_its_banner_kept(rt: HostRuntime) -> Result<(), Fail> {
+    let packets = [
+        received(sent(6, 22, 2, b"")),
+        sent(6, 22, 18, b""),
+        received(sent(6, 22, 16, b"")),
+        sent(6, 22, 16, b"SSH-2.0-x"),
+    ];
+    assert_eq!(rt;
+        printed(rt.alloc(), &packets)?.items(),
+        b"quiet\nnew tcp 22\nquiet\nbanner tcp 22 ssh\npackets 4 services tcp/22/ssh".as_slice()
+    );
+    Ok(())
+}
+
+#[test]
+fn the_first_greeting_of_a_known_service_is_kept(rt: HostRuntime) -> Result<(), Fail> {
+    let packets = [
+        sent(17, 53, 0, b"220 ready"),
+        received(sent(17, 53, 0, b"220 ready")),
+        sent(17, 53, 0, b"220"),
+        sent(17, 53, 0, b"220 ready"),
+        sent(17, 53, 0, b"+OK"),
+        sent(17, 1024, 0, b"+OK"),
+        sent(6, 80, 22, b""),
+        sent(6, 80, 16, b"HTTP/1.1 200 OK"),
+    ];
+    assert_eq!(rt;
+        printed(rt.alloc(), &packets)?.items(),
+        b"new udp 53\nquiet\nquiet\nbanner udp 53 greeting\nquiet\nquiet\nquiet\nquiet\n\
+          packets 8 services udp/53/greeting"
+            .as_slice()
+    );
+    Ok(())
+}
+
+#[test]
+fn the_65th_service_of_a_host_isnt_listed(rt: HostRuntime) -> Result<(), Fail> {
+    let mut kept = None;
+    for port in 1..=65u16 {
+        let output = Monitor::step(rt.alloc(), &site(), &mut kept, &sent(6, port, 18, b""))?;
+        let wanted = if port <= 64 {
+            Output {
+                code: 1,
+                a: 6,
+                b: u32::from(port),
+            }
+        } else {
+            Output {
+                code: 3,
+                a: 0,
+                b: 0,
+            }
+        };
+        assert_eq!(rt; output, wanted);
+    }
+    let record = kept.ok_or("no record")?;
+    assert_eq!(rt; record.packets, 65);
+    assert_eq!(rt; record.services.items().len(), SERVICES_PER_HOST);
+    assert_eq!(rt;
+        record.services.items().last().copied(),
+        Some(Service {
+            proto: 6,
+            port: 64,
+            banner: Banner::Unseen,
+        })
+    );
+    Ok(())
+}

@@ -1,0 +1,177 @@
+use basics::NoMemory;
+use conn_tracker::{Conntrack, State, TrackRecord};
+use flow_filter::{Direction, Filter, Flow, Packet, Prefix, Site};
+use nf_function::{Chunks, Unit, Units};
+use record_table::{ImportFault, Table};
+use std::alloc::Global;
+use std::test::Fail;
+
+/// The site 10.0.0.0/24.
+const SITE: Site = Site {
+    inside: Prefix {
+        bits: 0x0a00_0000,
+        len: 24,
+    },
+    outside: None,
+};
+
+/// A UDP packet of 20 payload bytes from 10.0.0.h:5000 to 192.0.2.9:53.
+fn packet(host: u8) -> Packet {
+    Packet {
+        number: 1,
+        nanos: 0,
+        proto: 17,
+        src: 0x0a00_0000 + u32::from(host),
+        sport: 5000,
+        dst: 0xc000_0209,
+        dport: 53,
+        flags: 0,
+        length: 20,
+        held: 0,
+        head: [0; 64],
+    }
+}
+
+/// The unit of that packet.
+fn unit(host: u8) -> Unit {
+    Unit::Flow(Flow {
+        local: 0x0a00_0000 + u32::from(host),
+        remote: 0xc000_0209,
+        lport: 5000,
+        rport: 53,
+        proto: 17,
+    })
+}
+
+/// The record that so many of these packets leave.
+fn record(packets: u64) -> TrackRecord {
+    TrackRecord {
+        packets,
+        bytes: packets.saturating_mul(20),
+        seen: 0,
+        state: State::Single,
+        opener: Direction::Out,
+    }
+}
+
+/// A filter that matches every flow.
+const ANY: Filter = Filter {
+    proto: None,
+    local: None,
+    lport: None,
+    remote: None,
+    rport: None,
+};
+
+/// A table whose live records are those that packets of these hosts leave.
+fn table(alloc: Global, hosts: &[u8]) -> Result<Table<Conntrack>, NoMemory> {
+    let mut table = Table::open(alloc);
+    for host in hosts {
+        table.step(&SITE, &packet(*host), true)?;
+    }
+    Ok(table)
+}
+
+/// The chunks of the records that packets of these hosts leave.
+fn chunks(alloc: Global, hosts: &[u8]) -> Result<Chunks, NoMemory> {
+    table(alloc, hosts)?.select(&ANY)
+}
+
+/// The live record of a host's unit, or else the one that stands by.
+fn found(table: &Table<Conntrack>, host: u8, live: bool) -> Option<TrackRecord> {
+    table.record(&unit(host), live).copied()
+}
+
+/// The three numbers of a refusal by the limit, and zeros for another refusal.
+fn refused(taken: Result<(), ImportFault>) -> Option<(u32, u32, u32)> {
+    match taken {
+        Ok(()) => None,
+        Err(
+            ImportFault::Limit {
+                held,
+                coming,
+                limit,
+                chunks: _chunks,
+            },
+        ) => Some((held, coming, limit)),
+        Err(
+            ImportFault::Bad {
+                index: _index,
+                chunks: _chunks,
+            },
+        ) => Some((0, 0, 0)),
+        Err(ImportFault::NoMemory(_chunks)) => Some((0, 0, 0)),
+    }
+}
+
+#[test]
+fn two_live_units_and_three_chunks_are_more_than_four(rt: HostRuntime) -> Result<(), Fail> {
+    let alloc = rt.alloc();
+    let mut kept = table(alloc, &[1, 2])?;
+    let coming = chunks(alloc, &[3, 4, 5])?;
+    assert_eq!(rt; coming.items().len(), 3);
+    assert_eq!(rt; refused(kept.import(coming, 3, 4)), Some((2, 3, 4)));
+    assert_eq!(rt; kept.live_count(), 2);
+    Ok(())
+}
+
+#[test]
+fn two_live_units_and_three_chunks_are_five(rt: HostRuntime) -> Result<(), Fail> {
+    let alloc = rt.alloc();
+    let mut kept = table(alloc, &[1, 2])?;
+    let coming = chunks(alloc, &[3, 4, 5])?;
+    assert_eq!(rt; coming.items().len(), 3);
+    assert_eq!(rt; refused(kept.import(coming, 3, 5)), None);
+    assert_eq!(rt;
+        kept.units(true)?.items(),
+        [unit(1), unit(2), unit(3), unit(4), unit(5)].as_slice()
+    );
+    Ok(())
+}
+
+#[test]
+fn the_limit_is_for_all_chunks_that_are_to_come(rt: HostRuntime) -> Result<(), Fail> {
+    let alloc = rt.alloc();
+    let mut kept = table(alloc, &[1, 2])?;
+    let coming = chunks(alloc, &[3])?;
+    assert_eq!(rt; coming.items().len(), 1);
+    assert_eq!(rt; refused(kept.import(coming, 4, 5)), Some((2, 4, 5)));
+    Ok(())
+}
+
+#[test]
+fn a_newer_live_record_stays_and_an_older_one_goes(rt: HostRuntime) -> Result<(), Fail> {
+    let alloc = rt.alloc();
+    let mut kept = table(alloc, &[1, 1, 2])?;
+    assert_eq!(rt; refused(kept.restore(chunks(alloc, &[1, 2, 2])?)), None);
+    assert_eq!(rt; found(&kept, 1, true), Some(record(2)));
+    assert_eq!(rt; found(&kept, 2, true), Some(record(2)));
+    Ok(())
+}
+
+#[test]
+fn records_that_stand_by_are_apart(rt: HostRuntime) -> Result<(), Fail> {
+    let alloc = rt.alloc();
+    let mut kept = table(alloc, &[1])?;
+    assert_eq!(rt; refused(kept.set_standby(chunks(alloc, &[1, 1, 2])?)), None);
+    assert_eq!(rt; found(&kept, 1, true), Some(record(1)));
+    assert_eq!(rt; found(&kept, 1, false), Some(record(2)));
+    assert_eq!(rt; found(&kept, 2, true), None);
+    Ok(())
+}
+
+#[test]
+fn units_are_selected_in_order_and_removed(rt: HostRuntime) -> Result<(), Fail> {
+    let alloc = rt.alloc();
+    let mut kept = table(alloc, &[9, 2, 5])?;
+    assert_eq!(rt; kept.select(&ANY)?.items().len(), 3);
+    assert_eq!(rt;
+        kept.units(true)?.items(),
+        [unit(2), unit(5), unit(9)].as_slice()
+    );
+    let mut gone = Units::open(alloc);
+    gone.push(unit(5))?;
+    assert_eq!(rt; kept.remove(&gone), 1);
+    assert_eq!(rt; kept.live_count(), 2);
+    Ok(())
+}

@@ -1,0 +1,99 @@
+use addr_translator::{Nat, NatRecord};
+use basics::NoMemory;
+use flow_filter::{Packet, Prefix, Site};
+use nf_function::{Function, Output};
+use std::alloc::Global;
+use std::test::Fail;
+
+/// The site 10.0.0.0/24 behind 203.0.113.1.
+fn site() -> Site {
+    let inside = Prefix {
+        bits: 0x0a00_0000,
+        len: 24,
+    };
+    Site {
+        inside,
+        outside: Some(0xcb00_7101),
+    }
+}
+
+/// A packet of UDP from this port of 10.0.0.7 to 198.51.100.7:53.
+fn sent(port: u16) -> Packet {
+    Packet {
+        number: 1,
+        nanos: 0,
+        proto: 17,
+        src: 0x0a00_0007,
+        sport: port,
+        dst: 0xc633_6407,
+        dport: 53,
+        flags: 0,
+        length: 20,
+        held: 0,
+        head: [0; 64],
+    }
+}
+
+/// The answer to the last of some packets of one host, the first so many of which come from ports of their own, and what is
+/// kept of the host then.
+fn answered(
+    alloc: Global,
+    ports: u16,
+    last: &Packet,
+) -> Result<(Output, Option<NatRecord>), NoMemory> {
+    let mut kept = None;
+    for port in 0..ports {
+        Nat::step(alloc, &site(), &mut kept, &sent(port))?;
+    }
+    let output = Nat::step(alloc, &site(), &mut kept, last)?;
+    Ok((output, kept))
+}
+
+#[test]
+fn the_253rd_port_of_a_host_is_refused(rt: HostRuntime) -> Result<(), Fail> {
+    let tcp = Packet {
+        proto: 6,
+        ..sent(0)
+    };
+    let table = [
+        // Host 7 has the ports from 1024 + 252 * 7 on.
+        (
+            251,
+            sent(9000),
+            "map 203.0.113.1:3039",
+            "ports 252 packets 252 drops 0",
+        ),
+        (
+            252,
+            sent(9000),
+            "drop noport",
+            "ports 252 packets 253 drops 1",
+        ),
+        (252, tcp, "drop noport", "ports 252 packets 253 drops 1"),
+        (
+            252,
+            sent(251),
+            "map 203.0.113.1:3039",
+            "ports 252 packets 253 drops 0",
+        ),
+        (
+            252,
+            sent(0),
+            "map 203.0.113.1:2788",
+            "ports 252 packets 253 drops 0",
+        ),
+    ];
+    for (ports, last, answer, record) in table {
+        let (output, kept) = answered(rt.alloc(), ports, &last)?;
+        let kept = kept.ok_or("no record")?;
+        assert_eq!(rt;
+            Nat::print_output(rt.alloc(), &output)?.items(),
+            answer.as_bytes()
+        );
+        assert_eq!(rt;
+            Nat::print_record(rt.alloc(), &kept)?.items(),
+            record.as_bytes()
+        );
+    }
+    Ok(())
+}
