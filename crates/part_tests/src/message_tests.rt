@@ -4,7 +4,6 @@ use flow_filter::{Name, Packet, UDP};
 use nf_function::Chunks;
 use nf_msgs::{Answer, Msg, Note, Piece, print_answer, show};
 use packet_pool::Pool;
-use std::alloc::Global;
 use std::test::Fail;
 
 const PACKET: Packet = Packet {
