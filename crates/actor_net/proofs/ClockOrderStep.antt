@@ -6,6 +6,7 @@ use Rattle.std.proofs.lemmas.Bool.{cases_lt}
 use Rattle.std.proofs.lemmas.Bool.Decides.{nat_tests, Decides-eqb}
 use Rattle.std.proofs.lemmas.List.{append_cancel_left, map-append, get_or_default}
 use Rattle.std.proofs.lemmas.Option.{slice_get-get_or}
+use Rattle.std.proofs.Math.Bool.{and-false}
 use Rattle.actor_net.specs.declared.stamped.Stamped.{Stamped}
 use Rattle.actor_net.specs.Network.{Network, Stepped, waiting, is_enabled, takes_first, taken, reaches}
 use Rattle.actor_net.specs.Histories.{NodeStep, messages, does, taken_at, sent_for, stamped, sent_to, put_between, PortsBelow, WasReady}
@@ -14,10 +15,6 @@ use Rattle.actor_net.proofs.LinkLemmas.{put_on_link}
 use Rattle.actor_net.proofs.WaitingMessages.{less_first}
 use Rattle.actor_net.proofs.StepOutcome.{Takes, Outcome, taken_outcome}
 use Rattle.actor_net.proofs.ClockOrder.{NoClockBelow, SentBefore, with_history, at_history, same_test, other_test, head_held, put_late, messages-stamped, messages-less_first, node_of, FitsWorld}
-
-and_false : (b : Bool) → b && false ≡ false
-and_false true = refl
-and_false false = refl
 
 test_swap : (a b : ℕ) → (a == b) ≡ (b == a) && true
 test_swap a b =
@@ -119,7 +116,7 @@ module _ {A M N : Type 0} (ready : A → M → Bool) (step : A → ℕ → M →
       let is = h.is in
       at_history hs k es (λ y xs. taken_at s (hs y) ≡ head s y ++ taken_at s xs) r
       (let same = same_test k in rw (is, same, test_swap e.port s) refl)
-      (λ other. let off = other_test r k other in rw (off, and_false (s == e.port)) refl)
+      (λ other. let off = other_test r k other in rw (off, and-false (s == e.port)) refl)
 
   held_here : NextStep → (s r : ℕ) → holds s r ≡ head s r ++ less_first ((s == e.port) && (r == k)) (holds s r)
   held_here h s r =

@@ -4,36 +4,29 @@ use Rattle.std.specs.Prelude.{if◌then◌else◌, ◌==◌, ◌&&◌, nat_lt, s
 use Rattle.std.specs.List.{list_all}
 use Rattle.std.proofs.lemmas.Bool.Decides.{Decides-eqb}
 use Rattle.std.proofs.lemmas.List.{nil_from_length}
+use Rattle.std.proofs.lemmas.Bool.{and_parts}
 use Rattle.actor_net.specs.declared.choice.Choice.{Choice}
 use Rattle.actor_net.specs.Network.{Network, is_input, on_link, waiting, takes_first, is_enabled, is_done}
 use Rattle.actor_net.proofs.WeightLaws.{weigh, total}
-
-both_left : (a b : Bool) → a && b ≡ true → a ≡ true
-both_left true b is = refl
-both_left false b is = is
-
-both_right : (a b : Bool) → a && b ≡ true → b ≡ true
-both_right true b is = is
-both_right false b is = cc
 
 empty_one : {M : Type 0} (l : List M) → (length l == 0) ≡ true → l ≡ []
 empty_one l is = nil_from_length l ((Decides-eqb (length l) 0).0 is)
 
 empty_there : {M : Type 0} (ls : List (List M)) (i : ℕ) → list_all (λ l. length l == 0) ls ≡ true → get_or ls i [] ≡ []
 empty_there [] i all = refl
-empty_there (l ∷ ls) zero all = empty_one l (both_left (length l == 0) (list_all (λ l. length l == 0) ls) all)
-empty_there (l ∷ ls) (suc i) all = empty_there ls i (both_right (length l == 0) (list_all (λ l. length l == 0) ls) all)
+empty_there (l ∷ ls) zero all = empty_one l (and_parts (length l == 0) (list_all (λ l. length l == 0) ls) all).0
+empty_there (l ∷ ls) (suc i) all = empty_there ls i (and_parts (length l == 0) (list_all (λ l. length l == 0) ls) all).1
 
 empty_weight : {M : Type 0} (f : M → ℕ) (ls : List (List M)) → list_all (λ l. length l == 0) ls ≡ true → weigh (weigh f) ls ≡ 0
 empty_weight f [] all = refl
 empty_weight f (l ∷ ls) all =
-    let first = empty_one l (both_left (length l == 0) (list_all (λ l. length l == 0) ls) all) in
-    omega (arith, ap (weigh f) first, empty_weight f ls (both_right (length l == 0) (list_all (λ l. length l == 0) ls) all))
+    let first = empty_one l (and_parts (length l == 0) (list_all (λ l. length l == 0) ls) all).0 in
+    omega (arith, ap (weigh f) first, empty_weight f ls (and_parts (length l == 0) (list_all (λ l. length l == 0) ls) all).1)
 
 all_there : {A : Type 0} (test : A → Bool) (xs : List A) (i : ℕ) (d : A) → i < length xs → list_all test xs ≡ true → test (get_or xs i d) ≡ true
 all_there test [] i d small all = absurd (omega arith)
-all_there test (x ∷ xs) zero d small all = both_left (test x) (list_all test xs) all
-all_there test (x ∷ xs) (suc i) d small all = all_there test xs i d (omega arith) (both_right (test x) (list_all test xs) all)
+all_there test (x ∷ xs) zero d small all = (and_parts (test x) (list_all test xs) all).0
+all_there test (x ∷ xs) (suc i) d small all = all_there test xs i d (omega arith) (and_parts (test x) (list_all test xs) all).1
 
 pub takes_nothing : {A M : Type 0} (ready : A → M → Bool) (c : Choice) (o : Option A) (ms : List M) → ms ≡ [] → takes_first ready c o ms ≡ false
 takes_nothing ready c None [] is = refl
@@ -48,11 +41,11 @@ record Ended {A M N : Type 0} (ended : A → Bool) (w : Network A M N) : Type 0 
 
 apart : {A M N : Type 0} (ended : A → Bool) (w : Network A M N) → is_done ended w ≡ true → Ended ended w
 apart ended w done =
-    let quiet = both_left ((length w.input == 0) && list_all (λ l. length l == 0) w.links) (list_all ended w.nodes) done in
+    let quiet = (and_parts ((length w.input == 0) && list_all (λ l. length l == 0) w.links) (list_all ended w.nodes) done).0 in
     record {
-      input = empty_one w.input (both_left (length w.input == 0) (list_all (λ l. length l == 0) w.links) quiet);
-      links = both_right (length w.input == 0) (list_all (λ l. length l == 0) w.links) quiet;
-      nodes = both_right ((length w.input == 0) && list_all (λ l. length l == 0) w.links) (list_all ended w.nodes) done;
+      input = empty_one w.input (and_parts (length w.input == 0) (list_all (λ l. length l == 0) w.links) quiet).0;
+      links = (and_parts (length w.input == 0) (list_all (λ l. length l == 0) w.links) quiet).1;
+      nodes = (and_parts ((length w.input == 0) && list_all (λ l. length l == 0) w.links) (list_all ended w.nodes) done).1;
     }
 
 module _ {A M N : Type 0} (ended : A → Bool) (w : Network A M N) (done : is_done ended w ≡ true) where

@@ -3,6 +3,7 @@ use Rattle.std.proofs.Common.{◌≡◌, ℕ, ◌+◌, ◌*◌, ◌<◌, Bool, t
 use Rattle.std.specs.Prelude.{if◌then◌else◌, ◌==◌, ◌&&◌, nat_lt}
 use Rattle.std.proofs.lemmas.Bool.Decides.{nat_tests, Decides-ltb}
 use Rattle.std.proofs.lemmas.List.{get_or-set_same, get_or-set_other, length-set}
+use Rattle.std.proofs.Math.Bool.{and_comm}
 use Rattle.actor_net.specs.Network.{Network, Stepped, waiting, without_first, after, delivered, reaches}
 use Rattle.actor_net.proofs.EnabledChoices.{at}
 use Rattle.actor_net.proofs.LinkLemmas.{put_on_link, link_after_sends, inside, other_place}
@@ -10,12 +11,6 @@ use Rattle.actor_net.proofs.LinkLemmas.{put_on_link, link_after_sends, inside, o
 -- a list, or what is left of it without its first
 abbrev pub less_first : {X : Type 0} → Bool → List X → List X
 less_first b xs = if b then drop 1 xs else xs
-
-and_swap : (a b : Bool) → a && b ≡ b && a
-and_swap true true = refl
-and_swap true false = refl
-and_swap false true = refl
-and_swap false false = refl
 
 -- two choices are one, or their tests say so
 apart : (s r p k : ℕ) → (s == p) && (r == k) ≡ false → s ≡ p → r ≡ k → ⊥
@@ -64,7 +59,7 @@ module _ {A M N : Type 0} where
         | true ↦ λ on.
             let first : Network A M N = record { nodes = w.nodes; links = w.links; input = drop 1 w.input; log = w.log } in
             let zeros = alike k p 0 0 on in
-            let test : (s == p) && (r == k) ≡ (r == 0) && (s == 0) = rw (zeros.0, zeros.1) (and_swap (s == 0) (r == 0)) in
+            let test : (s == p) && (r == k) ≡ (r == 0) && (s == 0) = rw (zeros.0, zeros.1) (and_comm (s == 0) (r == 0)) in
             rw (waiting_is first s r hs hr, test) (elim ((r == 0) && (s == 0)) as (λ b. (if b then drop 1 w.input else get_or w.links (s * n + r) []) ≡ less_first b (if b then w.input else get_or w.links (s * n + r) [])) [ true ↦ refl | false ↦ refl ])
         | false ↦ λ off.
             let here : waiting w (at k p) ≡ get_or w.links (p * n + k) [] = waiting_is w p k hp hk ∙ rw off refl in

@@ -26,7 +26,7 @@ abbrev pub EachSent : {M : Type 0} → (ℕ → ℕ → M → Type 0) → ℕ �
 EachSent P s [] = Unit {0}
 EachSent P s (x ∷ xs) = P s x.0 x.1 × EachSent P s xs
 
-each-append : {M : Type 0} (P : M → Type 0) (xs ys : List M) → Each P xs → Each P ys → Each P (xs ++ ys)
+pub each-append : {M : Type 0} (P : M → Type 0) (xs ys : List M) → Each P xs → Each P ys → Each P (xs ++ ys)
 each-append P [] ys first second = second
 each-append P (x ∷ xs) ys first second = (first.0, each-append P xs ys first.1 second)
 
@@ -185,7 +185,7 @@ pub weigh-sum : {X : Type 0} (f g : X → ℕ) (xs : List X) → weigh (λ x. f 
 weigh-sum f g [] = omega arith
 weigh-sum f g (x ∷ xs) = omega (arith, weigh-sum f g xs)
 
-weigh_same : {X : Type 0} (f g : X → ℕ) (xs : List X) → ((x : X) → f x ≡ g x) → weigh f xs ≡ weigh g xs
+pub weigh_same : {X : Type 0} (f g : X → ℕ) (xs : List X) → ((x : X) → f x ≡ g x) → weigh f xs ≡ weigh g xs
 weigh_same f g [] same = refl
 weigh_same f g (x ∷ xs) same = omega (arith, same x, weigh_same f g xs same)
 

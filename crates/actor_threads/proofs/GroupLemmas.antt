@@ -1,8 +1,8 @@
 -- A member of a group goes on with its round.
-use Rattle.std.proofs.Common.{◌≡◌, ◌<◌, ◌≤◌, ◌+◌, ◌&&◌, ℕ, zero, suc, Bool, true, false, not, true≢false, List, [], ◌∷◌, length, slice_index_or, ◌++◌, ◌-◌, take, drop, All, refl, sym, ap, subst, ◌∙◌, inl, inr, arith, length-append}
+use Rattle.std.proofs.Common.{◌≡◌, ◌<◌, ◌≤◌, ◌+◌, ℕ, zero, suc, Bool, true, false, not, true≢false, List, [], ◌∷◌, length, slice_index_or, ◌++◌, ◌-◌, take, drop, All, refl, sym, ap, subst, ◌∙◌, inl, inr, arith, length-append}
 use Rattle.std.specs.Prelude.{◌==◌, slice_set}
 use Rattle.std.proofs.lemmas.Bool.Decides.{Decides-eqb}
-use Rattle.std.proofs.lemmas.Bool.{cases_lt}
+use Rattle.std.proofs.lemmas.Bool.{cases_lt, and_parts, not-true}
 use Rattle.std.proofs.lemmas.Grind.{common_steps}
 use Rattle.std.proofs.lemmas.List.{get_or-set_same, get_or-set_other, get_or_default, get_or_append_left}
 use Rattle.std.proofs.lemmas.List.Elements.{All-get_or, All-append}
@@ -17,14 +17,6 @@ use Rattle.actor_threads.proofs.WorkerSteps.{start, idle, more, longer}
 unmoved : (moved : Bool) (m n : ℕ) → (moved ≡ true → m < n) → n ≡ m → moved ≡ false
 unmoved false m n more same = refl
 unmoved true m n more same = absurd (omega (arith, more refl, same))
-
-both_hold : (a b : Bool) → a && b ≡ true → (a ≡ true) × (b ≡ true)
-both_hold true b e = (refl, e)
-both_hold false b e = absurd (true≢false (sym e))
-
-not_true : (b : Bool) → not b ≡ true → b ≡ false
-not_true true e = absurd (true≢false (sym e))
-not_true false e = refl
 
 -- what a slice wrote back
 pub written_back : {X : Type 0} (old new : List X) (n : ℕ) → length new ≡ length old → n ≡ length old → take n (new ++ drop (length new) old) ≡ new
@@ -84,8 +76,8 @@ module _ {A M N : Type 0} (ready : A → M → Bool) (step : A → ℕ → M →
   -- a member that did its round
   pub ran : (first : WorkerView A M N) (m : Member A M N) → IsInRound ready step first m → has_run m ≡ true → Ran ready step first m.worker
   ran first m on done =
-      let d = both_hold m.looked (not m.failed) done in
-      let p = on (not_true m.failed d.1) in
+      let d = and_parts m.looked (not m.failed) done in
+      let p = on (not-true m.failed d.1) in
       record { worked = p.worked; moves = λ none. p.quiet d.0 none }
 
   -- one member of a group takes a turn

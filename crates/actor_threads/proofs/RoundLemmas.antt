@@ -1,7 +1,8 @@
 -- A whole round, from what its members did: the choices are a run, and the world left is its replay.
-use Rattle.std.proofs.Common.{◌≡◌, ◌<◌, ℕ, zero, suc, Bool, true, false, true≢false, ◌&&◌, List, [], ◌∷◌, length, slice_index_or, map, sym, ◌∙◌, ap, refl, subst, arith}
+use Rattle.std.proofs.Common.{◌≡◌, ◌<◌, ℕ, zero, suc, Bool, true, false, true≢false, List, [], ◌∷◌, length, slice_index_or, map, sym, ◌∙◌, ap, refl, subst, arith}
 use Rattle.std.specs.List.{list_all}
 use Rattle.std.proofs.lemmas.List.{length-map, get_or-map}
+use Rattle.std.proofs.lemmas.Bool.{and_parts}
 use Rattle.actor_net.specs.declared.choice.Choice.{Choice}
 use Rattle.actor_net.specs.declared.histories.History.{History}
 use Rattle.actor_net.specs.Network.{Network, Stepped, IsWorld, IsRun, run, is_enabled}
@@ -21,14 +22,10 @@ pub some_node : {A : Type 0} (nodes : List A) → 0 < length nodes → A
 some_node [] h = absurd (omega arith)
 some_node (x ∷ xs) h = x
 
-both : (a b : Bool) → a && b ≡ true → (a ≡ true) × (b ≡ true)
-both true b e = (refl, e)
-both false b e = absurd (true≢false (sym e))
-
 all_at : {X : Type 0} (p : X → Bool) (xs : List X) (i : ℕ) (d : X) → list_all p xs ≡ true → i < length xs → p (slice_index_or xs i d) ≡ true
 all_at p [] i d e h = absurd (omega arith)
-all_at p (x ∷ xs) zero d e h = (both (p x) (list_all p xs) e).0
-all_at p (x ∷ xs) (suc i) d e h = all_at p xs i d (both (p x) (list_all p xs) e).1 (omega arith)
+all_at p (x ∷ xs) zero d e h = (and_parts (p x) (list_all p xs) e).0
+all_at p (x ∷ xs) (suc i) d e h = all_at p xs i d (and_parts (p x) (list_all p xs) e).1 (omega arith)
 
 module _ {A M N : Type 0} where
   abbrev pub workers : List (Member A M N) → List (WorkerView A M N)

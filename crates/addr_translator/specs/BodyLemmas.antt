@@ -1,16 +1,15 @@
 -- Steps between code and definition, which nobody has to believe: what a translator's record is stored as is read again, and only that. It
 -- stands in specs/ since the laws of a trait may cite nothing else.
-use Rattle.std.proofs.Common.{◌≡◌, ◌∙◌, ◌<◌, ◌≤◌, ◌+◌, ◌*◌, ◌^◌, ◌&&◌, ◌==◌, eqb, ℕ, zero, suc, Bool, true, false, cond, not, List, [], ◌∷◌, ◌++◌, length, Option, None, Some, option_and_then, refl, sym, ap, arith, nat_lt, nat_le, append-nil, length-append}
-use Rattle.std.specs.List.{flat_map, list_all, list_any}
-use Rattle.std.proofs.lemmas.Bool.Decides.{nat_tests}
+use Rattle.std.proofs.Common.{◌≡◌, ◌∙◌, ◌<◌, ◌≤◌, ◌+◌, ◌*◌, ◌^◌, ◌&&◌, ℕ, zero, suc, true, List, [], ◌∷◌, ◌++◌, length, Option, Some, option_and_then, refl, sym, ap, arith, nat_lt, nat_le, append-nil, length-append}
+use Rattle.std.specs.List.{flat_map, list_all}
 use Rattle.std.proofs.lemmas.List.{append_assoc}
-use Rattle.std.proofs.lemmas.Option.{option_and_then_some, cond_some, some_pair_parts}
-use Rattle.basics.proofs.BoolLemmas.{both_true, true_both}
+use Rattle.std.proofs.lemmas.Option.{option_and_then_some, cond_some, same_Some}
+use Rattle.std.proofs.lemmas.Bool.{and_parts, and_from, ltb-true, lt-ltb, leb-true, le-leb}
 use Rattle.nf_function.specs.declared.unit.Unit as units
 use Rattle.nf_function.specs.declared.unit.Unit.TheVariants.{Flow as OfFlow, Host as OfHost}
-use Rattle.nf_function.specs.Stored.{IsBytes, number_bytes, first_byte, first_number}
+use Rattle.nf_function.specs.Stored.{IsBytes, number_bytes, first_number}
 use Rattle.nf_function.specs.Units.{is_transport}
-use Rattle.nf_function.proofs.StoredNumbers.{IsFirst, first_number-number_bytes, first_number-some, length-number_bytes, IsBytes-tail}
+use Rattle.nf_function.proofs.StoredNumbers.{first_number-number_bytes, first_number-some, length-number_bytes, IsBytes-tail}
 use Rattle.addr_translator.specs.declared.mapping.Mapping.{Mapping}
 use Rattle.addr_translator.specs.Mappings.{Translation}
 use Rattle.addr_translator.specs.Body.{is_mapping, is_distinct, are_mappings, is_valid, mapping_bytes, body_of, first_mapping, mappings_in, few, ended, spelled, valid_only, record_in}
@@ -26,52 +25,40 @@ pub record IsValid (host : ℕ) (r : Translation) : Type 0 where
   pub drops : r.drops ≤ r.packets
   pub packets : r.packets < 2 ^ 64
 
-below : (n bound : ℕ) → nat_lt n bound ≡ true → n < bound
-below n bound h = grind (arith, nat_tests)
-
-below_true : (n bound : ℕ) → n < bound → nat_lt n bound ≡ true
-below_true n bound h = grind (arith, nat_tests)
-
-at_most : (n bound : ℕ) → nat_le n bound ≡ true → n ≤ bound
-at_most n bound h = grind (arith, nat_tests)
-
-at_most_true : (n bound : ℕ) → n ≤ bound → nat_le n bound ≡ true
-at_most_true n bound h = grind (arith, nat_tests)
-
 pub valid_facts : (host : ℕ) (r : Translation) → is_valid (OfHost host) r ≡ true → IsValid host r
 valid_facts host r h =
-    let four = both_true (nat_lt host (2 ^ 32) && are_mappings r.mappings && nat_le 1 r.packets && nat_le r.drops r.packets) (nat_lt r.packets (2 ^ 64)) h in
-    let three = both_true (nat_lt host (2 ^ 32) && are_mappings r.mappings && nat_le 1 r.packets) (nat_le r.drops r.packets) four.0 in
-    let two = both_true (nat_lt host (2 ^ 32) && are_mappings r.mappings) (nat_le 1 r.packets) three.0 in
-    let one = both_true (nat_lt host (2 ^ 32)) (are_mappings r.mappings) two.0 in
-    let ends = both_true (nat_le (length r.mappings) ports_per_host && list_all is_mapping r.mappings) (is_distinct r.mappings) one.1 in
-    let size = both_true (nat_le (length r.mappings) ports_per_host) (list_all is_mapping r.mappings) ends.0 in
+    let four = and_parts (nat_lt host (2 ^ 32) && are_mappings r.mappings && nat_le 1 r.packets && nat_le r.drops r.packets) (nat_lt r.packets (2 ^ 64)) h in
+    let three = and_parts (nat_lt host (2 ^ 32) && are_mappings r.mappings && nat_le 1 r.packets) (nat_le r.drops r.packets) four.0 in
+    let two = and_parts (nat_lt host (2 ^ 32) && are_mappings r.mappings) (nat_le 1 r.packets) three.0 in
+    let one = and_parts (nat_lt host (2 ^ 32)) (are_mappings r.mappings) two.0 in
+    let ends = and_parts (nat_le (length r.mappings) ports_per_host && list_all is_mapping r.mappings) (is_distinct r.mappings) one.1 in
+    let size = and_parts (nat_le (length r.mappings) ports_per_host) (list_all is_mapping r.mappings) ends.0 in
     record {
       address = one.0;
-      short = at_most (length r.mappings) ports_per_host size.0;
+      short = leb-true (length r.mappings) ports_per_host size.0;
       each = size.1;
       distinct = ends.1;
-      counted = at_most 1 r.packets two.1;
-      drops = at_most r.drops r.packets three.1;
-      packets = below r.packets (2 ^ 64) four.1;
+      counted = leb-true 1 r.packets two.1;
+      drops = leb-true r.drops r.packets three.1;
+      packets = ltb-true r.packets (2 ^ 64) four.1;
     }
 
 pub valid_from : (host : ℕ) (r : Translation) → IsValid host r → is_valid (OfHost host) r ≡ true
 valid_from host r v =
-    true_both _ _
-    (true_both _ _
-    (true_both _ _
-    (true_both _ _ v.address
-    (true_both _ _ (true_both _ _ (at_most_true (length r.mappings) ports_per_host v.short) v.each) v.distinct))
-    (at_most_true 1 r.packets v.counted))
-    (at_most_true r.drops r.packets v.drops))
-    (below_true r.packets (2 ^ 64) v.packets)
+    and_from _ _
+    (and_from _ _
+    (and_from _ _
+    (and_from _ _ v.address
+    (and_from _ _ (and_from _ _ (le-leb (length r.mappings) ports_per_host v.short) v.each) v.distinct))
+    (le-leb 1 r.packets v.counted))
+    (le-leb r.drops r.packets v.drops))
+    (lt-ltb r.packets (2 ^ 64) v.packets)
 
 -- mappings are read again, whatever follows
 first_mapping-mapping_bytes : (m : Mapping) (rest : List ℕ) → is_mapping m ≡ true → first_mapping (mapping_bytes m ++ rest) ≡ Some (m, rest)
 unfolding first_mapping
 first_mapping-mapping_bytes m rest h =
-    let port = below m.port (2 ^ 16) (both_true (is_transport m.proto) (nat_lt m.port (2 ^ 16)) h).1 in
+    let port = ltb-true m.port (2 ^ 16) (and_parts (is_transport m.proto) (nat_lt m.port (2 ^ 16)) h).1 in
     rw (first_number-number_bytes 2 m.port rest port) refl
 
 mappings_in-flat_map : (mappings : List Mapping) (rest : List ℕ) → list_all is_mapping mappings ≡ true
@@ -79,7 +66,7 @@ mappings_in-flat_map : (mappings : List Mapping) (rest : List ℕ) → list_all 
 unfolding mappings_in
 mappings_in-flat_map [] rest h = refl
 mappings_in-flat_map (m ∷ more) rest h =
-    let parts = both_true (is_mapping m) (list_all is_mapping more) h in
+    let parts = and_parts (is_mapping m) (list_all is_mapping more) h in
     rw (
       append_assoc (mapping_bytes m) (flat_map mapping_bytes more) rest,
       first_mapping-mapping_bytes m (flat_map mapping_bytes more ++ rest) parts.0,
@@ -102,7 +89,7 @@ spelled-body_of host r v =
     rw (
       body_parts r,
       first_number-number_bytes 2 (length r.mappings) (flat_map mapping_bytes r.mappings ++ (number_bytes 8 r.packets ++ (number_bytes 8 r.drops ++ []))) (omega arith),
-      at_most_true (length r.mappings) ports_per_host short,
+      le-leb (length r.mappings) ports_per_host short,
       mappings_in-flat_map r.mappings (number_bytes 8 r.packets ++ (number_bytes 8 r.drops ++ [])) v.each,
       first_number-number_bytes 8 r.packets (number_bytes 8 r.drops ++ []) packets,
       first_number-number_bytes 8 r.drops [] drops,
@@ -120,9 +107,6 @@ record_in-body_of u r h = rw (valid_spelled u r h, h) refl
 pub known_by_body : (u v : units.Unit) (a b : Translation) → is_valid u a ≡ true → is_valid v b ≡ true → body_of a ≡ body_of b → a ≡ b
 known_by_body u v a b p q same =
     let both : Some a ≡ Some b = sym (valid_spelled u a p) ∙ ap spelled same ∙ valid_spelled v b q in cc
-
-same_some : {X : Type 0} (x y : X) → ◌≡◌ {A = Option X} (Some x) (Some y) → x ≡ y
-same_some x y h = cc
 
 -- mappings that were read: their bytes, how many they are, and the rest
 record AreFirst (n : ℕ) (bytes : List ℕ) (read : List Mapping × List ℕ) : Type 0 where
@@ -150,14 +134,14 @@ first_mapping-some (proto ∷ bytes) read are h =
 mappings_in-some : (n : ℕ) (bytes : List ℕ) (read : List Mapping × List ℕ) → IsBytes bytes → mappings_in n bytes ≡ Some read → AreFirst n bytes read
 unfolding mappings_in
 mappings_in-some zero bytes read are h =
-    let whole : ([], bytes) ≡ read = same_some ([], bytes) read h in
+    let whole : ([], bytes) ≡ read = same_Some ([], bytes) read h in
     record { stored = rw (← whole) refl; size = rw (← whole) refl; rest_bytes = rw (← whole) are }
 mappings_in-some (suc n) bytes read are h =
     option_and_then_some _ (first_mapping bytes) read h (λ first p h1.
     option_and_then_some _ (mappings_in n first.1) read h1 (λ more q last.
     let one = first_mapping-some bytes first are p in
     let rest = mappings_in-some n first.1 more one.rest_bytes q in
-    let whole = same_some (first.0 ∷ more.0, more.1) read last in
+    let whole = same_Some (first.0 ∷ more.0, more.1) read last in
     record {
       stored = rw (← whole) (rw (one.stored, rest.stored) (sym (append_assoc (mapping_bytes first.0) (flat_map mapping_bytes more.0) more.1)));
       size = rw (← whole) (omega (arith, rest.size));

@@ -1,19 +1,20 @@
 -- Steps between code and definition, which nobody has to believe: what a step of the translator keeps of a record, and all its laws
 -- together. It stands in specs/ since the laws of a trait may cite nothing else.
-use Rattle.std.proofs.Common.{◌≡◌, ◌<◌, ◌≤◌, ◌+◌, ◌-◌, ◌%◌, ◌^◌, ◌&&◌, ◌||◌, ◌==◌, eqb, ℕ, suc, Bool, true, false, cond, not, List, [], ◌∷◌, ◌++◌, length, Option, None, Some, slice_get, unwrap_or, refl, sym, ap, arith, nat_lt, length-append}
-use Rattle.std.specs.List.{list_all, list_any, position, position_or_len}
+use Rattle.std.proofs.Common.{◌≡◌, ◌<◌, ◌≤◌, ◌+◌, ◌-◌, ◌%◌, ◌^◌, ◌&&◌, ◌==◌, ℕ, Bool, true, false, cond, not, List, [], ◌∷◌, ◌++◌, length, Option, None, Some, slice_get, unwrap_or, refl, arith, nat_lt, length-append}
+use Rattle.std.specs.List.{list_all, list_any, position}
 use Rattle.std.proofs.lemmas.Bool.Decides.{nat_tests}
 use Rattle.std.proofs.lemmas.List.Folds.{list_all-append, list_any-append}
-use Rattle.basics.proofs.BoolLemmas.{both_true, true_both}
+use Rattle.std.proofs.lemmas.Bool.{and_parts, and_from, or_parts, not-true}
+use Rattle.std.proofs.lemmas.Cmp.{nat_eq_equiv}
+use Rattle.basics.proofs.ListLemmas.{none_passes}
 use Rattle.flow_filter.specs.declared.packet.Packet.{Packet}
 use Rattle.flow_filter.specs.declared.site.Site.{Site}
-use Rattle.flow_filter.specs.Filter.{IsFlow}
 use Rattle.flow_filter.specs.Flow.{flow_of, ports_per_host}
 use Rattle.nf_function.specs.declared.kind.Kind.TheVariants.{Nat}
 use Rattle.nf_function.specs.declared.unit.Unit as units
 use Rattle.nf_function.specs.declared.unit.Unit.TheVariants.{Flow as OfFlow, Host as OfHost}
 use Rattle.nf_function.specs.Units.{is_unit, is_transport}
-use Rattle.nf_function.specs.Semantics.{Step, count, kept_after, is_sound, packets_in, unit_at}
+use Rattle.nf_function.specs.Semantics.{count, kept_after, is_sound, packets_in, unit_at}
 use Rattle.nf_function.specs.Records.{Fits, Laws}
 use Rattle.nf_function.proofs.FlowFits.{flow_fits}
 use Rattle.addr_translator.specs.declared.mapping.Mapping.{Mapping}
@@ -25,54 +26,19 @@ use Rattle.addr_translator.specs.Body.{is_mapping, is_distinct, is_valid}
 use Rattle.addr_translator.specs.Nat.{nat}
 use Rattle.addr_translator.specs.BodyLemmas.{IsValid, valid_facts, valid_from, record_in-body_of, record_in-some, known_by_body, length-body_of}
 
-eq-sym : (a b : ℕ) → eqb a b ≡ eqb b a
-eq-sym a b = grind (arith, nat_tests)
-
 mapping_eq-sym : (a b : Mapping) → mapping_eq a b ≡ mapping_eq b a
-mapping_eq-sym a b = rw (eq-sym a.proto b.proto, eq-sym a.port b.port) refl
-
-zero_less : (n : ℕ) → nat_lt 0 (suc n) ≡ true
-zero_less n = grind (arith, nat_tests)
-
-not_less : (a b : ℕ) → nat_lt (1 + a) (suc b) ≡ false → nat_lt a b ≡ false
-not_less a b h = grind (arith, nat_tests)
-
--- an end without a place is none of the mappings
-no_place : (test : Mapping → Bool) (mappings : List Mapping) → nat_lt (position_or_len test mappings) (length mappings) ≡ false
-    → list_any test mappings ≡ false
-no_place test [] h = refl
-no_place test (m ∷ more) h = by_first (test m) (no_place test more) h
-  where
-    by_first : (first : Bool) → (nat_lt (position_or_len test more) (length more) ≡ false → list_any test more ≡ false)
-        → nat_lt (cond (not first) (1 + position_or_len test more) 0) (suc (length more)) ≡ false → (first || list_any test more) ≡ false
-    by_first true rest e = let less = zero_less (length more) in cc
-    by_first false rest e = rest (not_less (position_or_len test more) (length more) e)
-
-placeless : (test : Mapping → Bool) (mappings : List Mapping) → position test mappings ≡ None → list_any test mappings ≡ false
-placeless test mappings h = no_place test mappings (by_place (nat_lt (position_or_len test mappings) (length mappings)) h)
-  where
-    by_place : (found : Bool) → cond found (Some (position_or_len test mappings)) None ≡ None → found ≡ false
-    by_place true e = cc
-    by_place false e = refl
+mapping_eq-sym a b = rw (nat_eq_equiv.symm a.proto b.proto, nat_eq_equiv.symm a.port b.port) refl
 
 -- a new end stays distinct from the others
 is_distinct-append : (mappings : List Mapping) (end : Mapping) → is_distinct mappings ≡ true → list_any (λ m. mapping_eq m end) mappings ≡ false
     → is_distinct (mappings ++ end ∷ []) ≡ true
 is_distinct-append [] end h new = refl
 is_distinct-append (m ∷ more) end h new =
-    let parts = both_true (not (list_any (λ other. mapping_eq other m) more)) (is_distinct more) h in
-    let others = neither (mapping_eq m end) (list_any (λ m. mapping_eq m end) more) new in
+    let parts = and_parts (not (list_any (λ other. mapping_eq other m) more)) (is_distinct more) h in
+    let others = or_parts (mapping_eq m end) (list_any (λ m. mapping_eq m end) more) new in
     let differs : mapping_eq end m ≡ false = rw (mapping_eq-sym end m) others.0 in
-    let unseen : list_any (λ other. mapping_eq other m) more ≡ false = is_false (list_any (λ other. mapping_eq other m) more) parts.0 in
+    let unseen : list_any (λ other. mapping_eq other m) more ≡ false = not-true (list_any (λ other. mapping_eq other m) more) parts.0 in
     rw (list_any-append (λ other. mapping_eq other m) more (end ∷ []), unseen, differs) (is_distinct-append more end parts.1 others.1)
-  where
-    neither : (a b : Bool) → (a || b) ≡ false → (a ≡ false) × (b ≡ false)
-    neither true b e = cc
-    neither false b e = (refl, e)
-
-    is_false : (test : Bool) → not test ≡ true → test ≡ false
-    is_false true e = cc
-    is_false false e = refl
 
 -- one more packet leaves room for one more drop
 pub record HasRoom (host : ℕ) (r : Translation) : Type 0 where
@@ -103,7 +69,7 @@ module _ (host : ℕ) (r : Translation) (has : HasRoom host r) where
       valid_from host (record r { mappings = r.mappings ++ end ∷ [] }) (record {
         address = v.address;
         short = rw (length-append r.mappings (end ∷ [])) (omega arith);
-        each = rw (list_all-append is_mapping r.mappings (end ∷ [])) (true_both (list_all is_mapping r.mappings) (is_mapping end && true) v.each (true_both (is_mapping end) true is refl));
+        each = rw (list_all-append is_mapping r.mappings (end ∷ [])) (and_from (list_all is_mapping r.mappings) (is_mapping end && true) v.each (and_from (is_mapping end) true is refl));
         distinct = is_distinct-append r.mappings end v.distinct new;
         counted = v.counted;
         drops = v.drops;
@@ -122,7 +88,7 @@ module _ (host : ℕ) (r : Translation) (has : HasRoom host r) where
   left_valid : (outside : ℕ) (end : Mapping) (place : Option ℕ) → is_mapping end ≡ true → position (λ m. mapping_eq m end) r.mappings ≡ place
       → is_valid (OfHost host) (left outside host r end place).kept ≡ true
   left_valid outside end (Some number) is at = kept_valid
-  left_valid outside end None is at = opened_valid outside end is (placeless (λ m. mapping_eq m end) r.mappings at)
+  left_valid outside end None is at = opened_valid outside end is (none_passes (λ m. mapping_eq m end) r.mappings at)
 
   returned_valid : (p : Packet) (found : Option Mapping) → is_valid (OfHost host) (returned host r p found).kept ≡ true
   returned_valid p None = dropped_valid 4
@@ -167,7 +133,7 @@ pub kept_sound : (site : Site) (host : ℕ) (kept : Option Translation) (p : Pac
 kept_sound site host kept p of address port h = by_proto (is_transport p.proto) refl
   where
     by_proto : (transport : Bool) → is_transport p.proto ≡ transport → is_sound nat (OfHost host) (cond transport (Some (stepped site kept p).kept) kept) ≡ true
-    by_proto true e = step_valid site host kept p of address (true_both _ _ e (let low = port in grind (arith, nat_tests))) h
+    by_proto true e = step_valid site host kept p of address (and_from _ _ e (let low = port in grind (arith, nat_tests))) h
     by_proto false e = h
 
 stays_valid : (site : Site) (kept : Option Translation) (p : Packet) → Fits site p → is_sound nat (unit_at Nat site p) kept ≡ true
@@ -175,7 +141,7 @@ stays_valid : (site : Site) (kept : Option Translation) (p : Packet) → Fits si
 stays_valid site kept p fits h =
     let flow = flow_fits site p fits in
     let address : nat_lt (flow_of site p).0.local (2 ^ 32) ≡ true = let low = flow.local in grind (arith, nat_tests) in
-    step_valid site (flow_of site p).0.local kept p refl address (true_both _ _ fits.transport (let low = fits.sport in grind (arith, nat_tests))) h
+    step_valid site (flow_of site p).0.local kept p refl address (and_from _ _ fits.transport (let low = fits.sport in grind (arith, nat_tests))) h
 
 -- each step counts one packet, however the packet passes
 packets-opened : (outside host : ℕ) (r : Translation) (end : Mapping) → (opened outside host r end).kept.packets ≡ r.packets

@@ -2,7 +2,7 @@
 use Rattle.std.proofs.Common.{◌≡◌, ◌∙◌, ◌<◌, ◌+◌, ℕ, suc, Bool, true, false, List, [], ◌∷◌, length, get_or, add-one, refl, sym, ap, arith}
 use Rattle.std.specs.List.{IsAllAdjacentAnswer}
 use Rattle.std.specs.Ordering.{is_lt}
-use Rattle.basics.proofs.BoolLemmas.{true_both}
+use Rattle.std.proofs.lemmas.Bool.{and_from}
 use Rattle.asset_monitor.specs.declared.service.Service.{Service}
 use Rattle.asset_monitor.specs.Services.{end_cmp, is_rising}
 use Rattle.asset_monitor.specs.ServiceLemmas.{before_all, rising_pair}
@@ -17,7 +17,7 @@ rising_from_adjacent (x ∷ []) h = refl
 rising_from_adjacent (x ∷ y ∷ more) h =
     let rest : is_rising (y ∷ more) ≡ true = rising_from_adjacent (y ∷ more) (λ k d below. h (suc k) d (omega (arith, below))) in
     let first : is_lt (end_cmp x y) ≡ true = sym (h 0 x (omega arith)) in
-    true_both _ _ (before_all x y more first rest) rest
+    and_from _ _ (before_all x y more first rest) rest
 
 not_rising : (xs : List Service) (k : ℕ) → k + 1 < length xs → ((d : Service) → false ≡ is_lt (end_cmp (get_or xs k d) (get_or xs (k + 1) d))) → (b : Bool) → is_rising xs ≡ b
     → false ≡ b

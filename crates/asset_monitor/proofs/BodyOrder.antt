@@ -1,6 +1,6 @@
 -- Records compare by the bytes that they are stored as in the order of their fields there.
 use Rattle.std.proofs.Common.{◌≡◌, ◌∙◌, ◌<◌, ◌^◌, true, List, [], ◌∷◌, length, nat_lt, refl, sym, ap, arith}
-use Rattle.std.proofs.lemmas.Bool.{ltb-true}
+use Rattle.std.proofs.lemmas.Bool.{ltb-true, and_parts}
 use Rattle.std.proofs.lemmas.List.{append_assoc}
 use Rattle.std.proofs.lemmas.Map.Lookups.{exact_unsigned}
 use Rattle.std.specs.List.{flat_map, list_all}
@@ -8,7 +8,6 @@ use Rattle.std.specs.Ordering.{nat_cmp, ordering_then}
 use Rattle.std.specs.declared.cmp.Ordering.{Ordering}
 use Rattle.std.specs.declared.cmp.Ordering.TheVariants.{Less, Equal, Greater}
 use Rattle.std.specs.Cmp.Lexicographic.{slice_cmp}
-use Rattle.basics.proofs.BoolLemmas.{both_true}
 use Rattle.nf_function.specs.Records.{age_cmp}
 use Rattle.nf_function.specs.Stored.{number_bytes}
 use Rattle.nf_function.specs.Units.{is_transport}
@@ -44,10 +43,10 @@ services_cmp [] [] l p q = refl
 services_cmp [] (y ∷ ys) l p q = absurd (omega (arith, l))
 services_cmp (x ∷ xs) [] l p q = absurd (omega (arith, l))
 services_cmp (x ∷ xs) (y ∷ ys) l p q =
-    let first = both_true (is_service x) (list_all is_service xs) p in
-    let second = both_true (is_service y) (list_all is_service ys) q in
-    let mine : x.port < 2 ^ 16 = ltb-true x.port (2 ^ 16) (both_true (is_transport x.proto) (nat_lt x.port (2 ^ 16)) first.0).1 in
-    let theirs : y.port < 2 ^ 16 = ltb-true y.port (2 ^ 16) (both_true (is_transport y.proto) (nat_lt y.port (2 ^ 16)) second.0).1 in
+    let first = and_parts (is_service x) (list_all is_service xs) p in
+    let second = and_parts (is_service y) (list_all is_service ys) q in
+    let mine : x.port < 2 ^ 16 = ltb-true x.port (2 ^ 16) (and_parts (is_transport x.proto) (nat_lt x.port (2 ^ 16)) first.0).1 in
+    let theirs : y.port < 2 ^ 16 = ltb-true y.port (2 ^ 16) (and_parts (is_transport y.proto) (nat_lt y.port (2 ^ 16)) second.0).1 in
     rw (
       append_assoc (number_bytes 2 x.port) (banner_number x.banner ∷ []) (flat_map service_bytes xs),
       append_assoc (number_bytes 2 y.port) (banner_number y.banner ∷ []) (flat_map service_bytes ys),

@@ -2,10 +2,9 @@
 -- stands in specs/ since the laws of a trait may cite nothing else.
 use Rattle.std.proofs.Common.{◌≡◌, ◌∙◌, ◌<◌, ◌≤◌, ◌+◌, ◌*◌, ◌^◌, ◌&&◌, ℕ, zero, suc, true, List, [], ◌∷◌, ◌++◌, length, Some, option_and_then, refl, sym, ap, arith, nat_lt, nat_le, length-append}
 use Rattle.std.specs.List.{flat_map, list_all}
-use Rattle.std.proofs.lemmas.Bool.{ltb-true, lt-ltb, leb-true, le-leb}
+use Rattle.std.proofs.lemmas.Bool.{ltb-true, lt-ltb, leb-true, le-leb, and_parts, and_from}
 use Rattle.std.proofs.lemmas.List.{append_assoc}
 use Rattle.std.proofs.lemmas.Option.{option_and_then_some, cond_some, same_Some}
-use Rattle.basics.proofs.BoolLemmas.{both_true, true_both}
 use Rattle.nf_function.specs.declared.unit.Unit as units
 use Rattle.nf_function.specs.declared.unit.Unit.TheVariants.{Flow as OfFlow, Host as OfHost}
 use Rattle.nf_function.specs.Stored.{IsBytes, number_bytes, first_byte, first_number}
@@ -29,9 +28,9 @@ pub record IsValid (host : ℕ) (r : AssetRecord) : Type 0 where
 
 pub valid_facts : (host : ℕ) (r : AssetRecord) → is_valid (OfHost host) r ≡ true → IsValid host r
 valid_facts host r h =
-    let three = both_true (nat_lt host (2 ^ 32) && are_services r.services && nat_le 1 r.packets) (nat_lt r.packets (2 ^ 64)) h in
-    let two = both_true (nat_lt host (2 ^ 32) && are_services r.services) (nat_le 1 r.packets) three.0 in
-    let one = both_true (nat_lt host (2 ^ 32)) (are_services r.services) two.0 in
+    let three = and_parts (nat_lt host (2 ^ 32) && are_services r.services && nat_le 1 r.packets) (nat_lt r.packets (2 ^ 64)) h in
+    let two = and_parts (nat_lt host (2 ^ 32) && are_services r.services) (nat_le 1 r.packets) three.0 in
+    let one = and_parts (nat_lt host (2 ^ 32)) (are_services r.services) two.0 in
     record {
       address = one.0;
       services = one.1;
@@ -41,8 +40,8 @@ valid_facts host r h =
 
 pub valid_from : (host : ℕ) (r : AssetRecord) → IsValid host r → is_valid (OfHost host) r ≡ true
 valid_from host r v =
-    true_both _ _
-    (true_both _ _ (true_both _ _ v.address v.services) (le-leb 1 r.packets v.counted))
+    and_from _ _
+    (and_from _ _ (and_from _ _ v.address v.services) (le-leb 1 r.packets v.counted))
     (lt-ltb r.packets (2 ^ 64) v.packets)
 
 -- banners are known by their numbers
@@ -67,7 +66,7 @@ banner_number-banner (suc (suc (suc (suc (suc (suc n)))))) banner h = cc
 first_service-service_bytes : (s : Service) (rest : List ℕ) → is_service s ≡ true → first_service (service_bytes s ++ rest) ≡ Some (s, rest)
 unfolding first_service
 first_service-service_bytes s rest h =
-    let port = ltb-true s.port (2 ^ 16) (both_true (is_transport s.proto) (nat_lt s.port (2 ^ 16)) h).1 in
+    let port = ltb-true s.port (2 ^ 16) (and_parts (is_transport s.proto) (nat_lt s.port (2 ^ 16)) h).1 in
     rw (
       append_assoc (number_bytes 2 s.port) (banner_number s.banner ∷ []) rest,
       first_number-number_bytes 2 s.port (banner_number s.banner ∷ rest) port,
@@ -78,7 +77,7 @@ services_in-flat_map : (services : List Service) → list_all is_service service
 unfolding services_in
 services_in-flat_map [] h = refl
 services_in-flat_map (s ∷ more) h =
-    let parts = both_true (is_service s) (list_all is_service more) h in
+    let parts = and_parts (is_service s) (list_all is_service more) h in
     rw (first_service-service_bytes s (flat_map service_bytes more) parts.0, services_in-flat_map more parts.1) refl
 
 -- a record is read again

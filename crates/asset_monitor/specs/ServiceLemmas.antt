@@ -8,12 +8,11 @@ use Rattle.std.specs.declared.cmp.Ordering.{Ordering}
 use Rattle.std.specs.declared.cmp.Ordering.TheVariants.{Less, Equal, Greater}
 use Rattle.std.specs.Cmp.{IsTotalOrder}
 use Rattle.std.proofs.lemmas.Cmp.{nat_cmp_total, on_total, then_total}
-use Rattle.std.proofs.lemmas.Bool.{cases_lt}
+use Rattle.std.proofs.lemmas.Bool.{cases_lt, and_parts, and_from}
 use Rattle.std.proofs.lemmas.Bool.Decides.{nat_tests}
 use Rattle.std.proofs.lemmas.List.{set_split}
 use Rattle.std.proofs.lemmas.List.Sorted.{searchable_from_sorted}
 use Rattle.std.proofs.lemmas.List.Folds.{list_all-append}
-use Rattle.basics.proofs.BoolLemmas.{both_true, true_both}
 use Rattle.asset_monitor.specs.declared.service.Service.{Service}
 use Rattle.asset_monitor.specs.Places.{IsAt, IsGap}
 use Rattle.asset_monitor.specs.Services.{are_services, end_cmp, is_rising, is_service, listed, services_per_host, with_service}
@@ -33,49 +32,49 @@ reversed a b o h = end_total.antisymm b a ∙ ap ordering_reverse h
 pub list_all-weaker : {X : Type 0} (p q : X → Bool) → ((x : X) → p x ≡ true → q x ≡ true) → (xs : List X) → list_all p xs ≡ true → list_all q xs ≡ true
 list_all-weaker p q step [] h = refl
 list_all-weaker p q step (x ∷ xs) h =
-    let parts = both_true (p x) (list_all p xs) h in true_both (q x) (list_all q xs) (step x parts.0) (list_all-weaker p q step xs parts.1)
+    let parts = and_parts (p x) (list_all p xs) h in and_from (q x) (list_all q xs) (step x parts.0) (list_all-weaker p q step xs parts.1)
 
 -- what is true of all is true of those that pass
 list_all-filter : {X : Type 0} (p q : X → Bool) (xs : List X) → list_all p xs ≡ true → list_all p (filter q xs) ≡ true
 list_all-filter p q [] h = refl
 list_all-filter p q (x ∷ xs) h =
-    let parts = both_true (p x) (list_all p xs) h in by_test (q x) parts.0 (list_all-filter p q xs parts.1)
+    let parts = and_parts (p x) (list_all p xs) h in by_test (q x) parts.0 (list_all-filter p q xs parts.1)
   where
     by_test : (test : Bool) → p x ≡ true → list_all p (filter q xs) ≡ true → list_all p (cond test (x ∷ filter q xs) (filter q xs)) ≡ true
-    by_test true first rest = true_both (p x) (list_all p (filter q xs)) first rest
+    by_test true first rest = and_from (p x) (list_all p (filter q xs)) first rest
     by_test false first rest = rest
 
 -- all pass, or none does
 filter_all : {X : Type 0} (p : X → Bool) (xs : List X) → list_all p xs ≡ true → filter p xs ≡ xs
 filter_all p [] h = refl
-filter_all p (x ∷ xs) h = let parts = both_true (p x) (list_all p xs) h in rw (parts.0, filter_all p xs parts.1) refl
+filter_all p (x ∷ xs) h = let parts = and_parts (p x) (list_all p xs) h in rw (parts.0, filter_all p xs parts.1) refl
 
 filter_none : {X : Type 0} (p q : X → Bool) → ((x : X) → q x ≡ true → p x ≡ false) → (xs : List X) → list_all q xs ≡ true → filter p xs ≡ []
 filter_none p q step [] h = refl
 filter_none p q step (x ∷ xs) h =
-    let parts = both_true (q x) (list_all q xs) h in rw (step x parts.0, filter_none p q step xs parts.1) refl
+    let parts = and_parts (q x) (list_all q xs) h in rw (step x parts.0, filter_none p q step xs parts.1) refl
 
 -- of services that rise, an earlier one comes before a later one
 pub rising_pair : (xs : List Service) → is_rising xs ≡ true → (i j : ℕ) (d : Service) → i < j → j < length xs → end_cmp (get_or xs i d) (get_or xs j d) ≡ Less
 rising_pair [] h i j d less in_range = absurd (omega (arith, in_range))
 rising_pair (x ∷ xs) h i zero d less in_range = absurd (omega (arith, less))
 rising_pair (x ∷ xs) h zero (suc j) d less in_range =
-    let parts = both_true (list_all (λ later. is_lt (end_cmp x later)) xs) (is_rising xs) h in at_place xs j parts.0 (omega (arith, in_range))
+    let parts = and_parts (list_all (λ later. is_lt (end_cmp x later)) xs) (is_rising xs) h in at_place xs j parts.0 (omega (arith, in_range))
   where
     at_place : (ys : List Service) (k : ℕ) → list_all (λ later. is_lt (end_cmp x later)) ys ≡ true → k < length ys → end_cmp x (get_or ys k d) ≡ Less
     at_place [] k all low = absurd (omega (arith, low))
-    at_place (y ∷ ys) zero all low = is_less (end_cmp x y) (both_true (is_lt (end_cmp x y)) (list_all (λ later. is_lt (end_cmp x later)) ys) all).0
+    at_place (y ∷ ys) zero all low = is_less (end_cmp x y) (and_parts (is_lt (end_cmp x y)) (list_all (λ later. is_lt (end_cmp x later)) ys) all).0
     at_place (y ∷ ys) (suc k) all low =
-        at_place ys k (both_true (is_lt (end_cmp x y)) (list_all (λ later. is_lt (end_cmp x later)) ys) all).1 (omega (arith, low))
+        at_place ys k (and_parts (is_lt (end_cmp x y)) (list_all (λ later. is_lt (end_cmp x later)) ys) all).1 (omega (arith, low))
 rising_pair (x ∷ xs) h (suc i) (suc j) d less in_range =
-    rising_pair xs (both_true (list_all (λ later. is_lt (end_cmp x later)) xs) (is_rising xs) h).1 i j d (omega (arith, less)) (omega (arith, in_range))
+    rising_pair xs (and_parts (list_all (λ later. is_lt (end_cmp x later)) xs) (is_rising xs) h).1 i j d (omega (arith, less)) (omega (arith, in_range))
 
 -- what comes before the first of services that rise comes before all of them
 pub before_all : (x y : Service) (more : List Service) → is_lt (end_cmp x y) ≡ true → is_rising (y ∷ more) ≡ true
     → list_all (λ later. is_lt (end_cmp x later)) (y ∷ more) ≡ true
 before_all x y more first rising =
-    let after = (both_true (list_all (λ later. is_lt (end_cmp y later)) more) (is_rising more) rising).0 in
-    true_both _ _ first (list_all-weaker (λ later. is_lt (end_cmp y later)) (λ later. is_lt (end_cmp x later))
+    let after = (and_parts (list_all (λ later. is_lt (end_cmp y later)) more) (is_rising more) rising).0 in
+    and_from _ _ first (list_all-weaker (λ later. is_lt (end_cmp y later)) (λ later. is_lt (end_cmp x later))
     (λ later less. ap is_lt (end_total.trans x y later (is_less (end_cmp x y) first) (is_less (end_cmp y later) less))) more after)
 
 -- what comes before or after one of two services with the same end does so for the other
@@ -174,7 +173,7 @@ module _ (xs : List Service) (s : Service) (i : ℕ) (gap : IsGap xs s i) where
 is_rising-with : (xs : List Service) (s : Service) → is_rising xs ≡ true → is_rising (with_service xs s) ≡ true
 is_rising-with [] s h = refl
 is_rising-with (x ∷ xs) s h =
-    let parts = both_true (list_all (λ later. is_lt (end_cmp x later)) xs) (is_rising xs) h in
+    let parts = and_parts (list_all (λ later. is_lt (end_cmp x later)) xs) (is_rising xs) h in
     by_order (end_cmp x s) refl parts.0 parts.1 (is_rising-with xs s parts.1)
   where
     -- those after `x` come after `s` as well, where `x` doesn't come before it
@@ -196,7 +195,7 @@ is_rising-with (x ∷ xs) s h =
         let none : filter (λ other. is_lt (end_cmp other s)) ys ≡ [] = filter_none (λ other. is_lt (end_cmp other s)) (λ later. is_lt (end_cmp s later)) after_is_not_less ys after in
         let all : filter (λ other. is_gt (end_cmp other s)) ys ≡ ys =
         filter_all (λ other. is_gt (end_cmp other s)) ys (list_all-weaker (λ later. is_lt (end_cmp s later)) (λ other. is_gt (end_cmp other s)) after_is_greater ys after) in
-        rw (none, all) (true_both (list_all (λ later. is_lt (end_cmp s later)) ys) (is_rising ys) after rising)
+        rw (none, all) (and_from (list_all (λ later. is_lt (end_cmp s later)) ys) (is_rising ys) after rising)
 
     by_order : (o : Ordering) → end_cmp x s ≡ o → list_all (λ later. is_lt (end_cmp x later)) xs ≡ true → is_rising xs ≡ true
         → is_rising (filter (λ other. is_lt (end_cmp other s)) xs ++ s ∷ filter (λ other. is_gt (end_cmp other s)) xs) ≡ true
@@ -207,26 +206,26 @@ is_rising-with (x ∷ xs) s h =
         let front = list_all-filter p (λ other. is_lt (end_cmp other s)) xs after in
         let back = list_all-filter p (λ other. is_gt (end_cmp other s)) xs after in
         let here : is_lt (end_cmp x s) ≡ true = ap is_lt e in
-        true_both _ _ (list_all-append p (filter (λ other. is_lt (end_cmp other s)) xs) (s ∷ filter (λ other. is_gt (end_cmp other s)) xs)
-        ∙ true_both _ _ front (true_both _ _ here back)) rest
+        and_from _ _ (list_all-append p (filter (λ other. is_lt (end_cmp other s)) xs) (s ∷ filter (λ other. is_gt (end_cmp other s)) xs)
+        ∙ and_from _ _ front (and_from _ _ here back)) rest
     by_order Equal e after rising rest = front_of xs (list_all-weaker _ _ (behind Equal e refl) xs after) rising
     by_order Greater e after rising rest =
         let first : is_lt (end_cmp s x) ≡ true = ap is_lt (reversed x s Greater e) in
-        let all = true_both _ _ first (list_all-weaker _ _ (behind Greater e refl) xs after) in
+        let all = and_from _ _ first (list_all-weaker _ _ (behind Greater e refl) xs after) in
         rw e at (front_of (x ∷ xs) all h)
 
 -- one more service leaves services
 pub are_services-with : (xs : List Service) (s : Service) → are_services xs ≡ true → is_service s ≡ true → length (with_service xs s) ≤ services_per_host
     → are_services (with_service xs s) ≡ true
 are_services-with xs s all is few =
-    let parts = both_true (nat_le (length xs) services_per_host && list_all is_service xs) (is_rising xs) all in
-    let each = (both_true (nat_le (length xs) services_per_host) (list_all is_service xs) parts.0).1 in
+    let parts = and_parts (nat_le (length xs) services_per_host && list_all is_service xs) (is_rising xs) all in
+    let each = (and_parts (nat_le (length xs) services_per_host) (list_all is_service xs) parts.0).1 in
     let size : nat_le (length (with_service xs s)) services_per_host ≡ true = grind (arith, nat_tests) in
     let front = list_all-filter is_service (λ other. is_lt (end_cmp other s)) xs each in
     let back = list_all-filter is_service (λ other. is_gt (end_cmp other s)) xs each in
-    true_both _ _
-    (true_both _ _ size (list_all-append is_service (filter (λ other. is_lt (end_cmp other s)) xs) (s ∷ filter (λ other. is_gt (end_cmp other s)) xs)
-    ∙ true_both _ _ front (true_both _ _ is back)))
+    and_from _ _
+    (and_from _ _ size (list_all-append is_service (filter (λ other. is_lt (end_cmp other s)) xs) (s ∷ filter (λ other. is_gt (end_cmp other s)) xs)
+    ∙ and_from _ _ front (and_from _ _ is back)))
     (is_rising-with xs s parts.1)
 
 -- one more service takes one more place, or none where its end is listed
@@ -247,11 +246,11 @@ length-with (x ∷ xs) s = by_order (end_cmp x s) (length-with xs s)
 
 pub few_services : (xs : List Service) → are_services xs ≡ true → length xs ≤ services_per_host
 few_services xs all =
-    let parts = both_true (nat_le (length xs) services_per_host && list_all is_service xs) (is_rising xs) all in
-    let size = (both_true (nat_le (length xs) services_per_host) (list_all is_service xs) parts.0).0 in grind (arith, nat_tests)
+    let parts = and_parts (nat_le (length xs) services_per_host && list_all is_service xs) (is_rising xs) all in
+    let size = (and_parts (nat_le (length xs) services_per_host) (list_all is_service xs) parts.0).0 in grind (arith, nat_tests)
 
 rising_services : (xs : List Service) → are_services xs ≡ true → is_rising xs ≡ true
-rising_services xs all = (both_true (nat_le (length xs) services_per_host && list_all is_service xs) (is_rising xs) all).1
+rising_services xs all = (and_parts (nat_le (length xs) services_per_host && list_all is_service xs) (is_rising xs) all).1
 
 -- what a binary search by ends finds among services
 pub found_at : (xs : List Service) (s : Service) (r : Result ℕ ℕ) → are_services xs ≡ true → IsSearchInRange r (length xs)
@@ -275,5 +274,5 @@ found_gap xs s (Err i) all bound found =
 
 pub all_services : (xs : List Service) → are_services xs ≡ true → list_all is_service xs ≡ true
 all_services xs all =
-    let parts = both_true (nat_le (length xs) services_per_host && list_all is_service xs) (is_rising xs) all in
-    (both_true (nat_le (length xs) services_per_host) (list_all is_service xs) parts.0).1
+    let parts = and_parts (nat_le (length xs) services_per_host && list_all is_service xs) (is_rising xs) all in
+    (and_parts (nat_le (length xs) services_per_host) (list_all is_service xs) parts.0).1

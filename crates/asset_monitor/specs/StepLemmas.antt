@@ -1,8 +1,7 @@
 -- Steps between code and definition, which nobody has to believe: what a step of the monitor keeps of a record, and all its laws together.
 -- It stands in specs/ since the laws of a trait may cite nothing else.
 use Rattle.std.proofs.Common.{◌≡◌, ◌<◌, ◌≤◌, ◌^◌, ℕ, Bool, true, false, cond, is_some, length, Option, None, Some, unwrap_or, refl, ap, arith, nat_lt}
-use Rattle.std.proofs.lemmas.Bool.{ltb-true, lt-ltb}
-use Rattle.basics.proofs.BoolLemmas.{true_both}
+use Rattle.std.proofs.lemmas.Bool.{ltb-true, lt-ltb, and_from}
 use Rattle.flow_filter.specs.declared.packet.Packet.{Packet}
 use Rattle.flow_filter.specs.declared.site.Site.{Site}
 use Rattle.flow_filter.specs.declared.flow.Direction.{Direction}
@@ -74,7 +73,7 @@ module _ (host : ℕ) (r : AssetRecord) (valid : IsValid host r) where
   watched_valid : (direction : Direction) (p : Packet) → is_transport p.proto ≡ true → p.sport < 2 ^ 16 → IsValid host (watched direction r p).kept
   watched_valid In p transport port = rw (watched_in r p) valid
   watched_valid Out p transport port =
-      let is : is_service (source p) ≡ true = true_both _ _ transport (lt-ltb p.sport (2 ^ 16) port) in
+      let is : is_service (source p) ≡ true = and_from _ _ transport (lt-ltb p.sport (2 ^ 16) port) in
       rw (watched_sent r p transport) (sent_row_valid p (listed r.services (source p)) is refl)
 
 -- a record that was valid, or none, is valid with one packet more

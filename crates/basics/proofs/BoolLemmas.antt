@@ -1,13 +1,6 @@
 -- Plain facts on tests joined by `&&`.
 use Rattle.std.proofs.Common.{◌≡◌, Bool, true, false, ◌&&◌, refl, ap, sym, ◌∙◌}
-
--- what is true on both sides
-pub both_true : (p q : Bool) → (p && q) ≡ true → (p ≡ true) × (q ≡ true)
-both_true true q e = (refl, e)
-both_true false q e = cc
-
-pub true_both : (p q : Bool) → p ≡ true → q ≡ true → (p && q) ≡ true
-true_both p q e d = cc
+use Rattle.std.proofs.lemmas.Bool.{and_parts, and_from}
 
 -- tests that are never true together
 pub not_both : (p q : Bool) → (p ≡ true → q ≡ true → ⊥) → (p && q) ≡ false
@@ -25,14 +18,6 @@ pub absorbed_right : (p q : Bool) → (p ≡ true → q ≡ true) → p ≡ (p &
 absorbed_right true q given = sym (given refl)
 absorbed_right false q given = refl
 
-pub and_true : (p : Bool) → p ≡ (p && true)
-and_true true = refl
-and_true false = refl
-
-pub and_false : (p : Bool) → (p && false) ≡ false
-and_false true = refl
-and_false false = refl
-
 -- two pairs, joined crosswise
 pub and_cross : (a b c d : Bool) → ((a && b) && (c && d)) ≡ ((a && c) && (b && d))
 and_cross false b c d = refl
@@ -49,14 +34,6 @@ and_fields a b c d e v w x y z =
     ∙ ap (λ t. t && (e && z)) (and_cross (a && b && c) (v && w && x) d y)
     ∙ and_cross (a && b && c && d) (v && w && x && y) e z
 
--- a test is true where it isn't false
-pub true_unless : (p : Bool) → (p ≡ false → ⊥) → p ≡ true
-true_unless true never = refl
-true_unless false never = absurd (never refl)
-
-pub true-not-false : (p : Bool) → p ≡ true → p ≡ false → ⊥
-true-not-false p is isnt = cc
-
 -- five tests, each true
 pub record Five (a b c d e : Bool) : Type 0 where
   pub first : a ≡ true
@@ -67,15 +44,15 @@ pub record Five (a b c d e : Bool) : Type 0 where
 
 pub five_true : (a b c d e : Bool) → (a && b && c && d && e) ≡ true → Five a b c d e
 five_true a b c d e all =
-    let abcd_e = both_true (a && b && c && d) e all in
-    let abc_d = both_true (a && b && c) d abcd_e.0 in
-    let ab_c = both_true (a && b) c abc_d.0 in
-    let a_b = both_true a b ab_c.0 in
+    let abcd_e = and_parts (a && b && c && d) e all in
+    let abc_d = and_parts (a && b && c) d abcd_e.0 in
+    let ab_c = and_parts (a && b) c abc_d.0 in
+    let a_b = and_parts a b ab_c.0 in
     record { first = a_b.0; second = a_b.1; third = ab_c.1; fourth = abc_d.1; fifth = abcd_e.1 }
 
 pub true_five : (a b c d e : Bool) → Five a b c d e → (a && b && c && d && e) ≡ true
 true_five a b c d e all =
-    true_both _ e (true_both _ d (true_both _ c (true_both a b all.first all.second) all.third) all.fourth) all.fifth
+    and_from _ e (and_from _ d (and_from _ c (and_from a b all.first all.second) all.third) all.fourth) all.fifth
 
 -- the same, where each of five tests is that of both filters
 pub fields_both : (a b c d e v w x y z p q r s t : Bool) → p ≡ (a && v) → q ≡ (b && w) → r ≡ (c && x) → s ≡ (d && y) → t ≡ (e && z)

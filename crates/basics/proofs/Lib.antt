@@ -1,4 +1,5 @@
 pub mod BoolLemmas
+pub mod ListLemmas
 pub mod SplitLemmas
 pub mod DecimalLemmas
 pub mod PrintedNumbers

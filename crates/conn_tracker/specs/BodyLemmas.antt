@@ -4,7 +4,7 @@ use Rattle.std.proofs.Common.{◌≡◌, ◌∙◌, ◌<◌, ◌≤◌, ◌^◌,
 use Rattle.std.proofs.lemmas.Bool.Decides.{nat_tests}
 use Rattle.std.proofs.lemmas.List.{append_assoc}
 use Rattle.std.proofs.lemmas.Option.{option_and_then_some, cond_some}
-use Rattle.basics.proofs.BoolLemmas.{both_true, true_both}
+use Rattle.std.proofs.lemmas.Bool.{and_parts, and_from, ltb-true, lt-ltb, leb-true, le-leb}
 use Rattle.flow_filter.specs.declared.flow.Flow.{Flow}
 use Rattle.flow_filter.specs.declared.flow.Direction.{Direction}
 use Rattle.flow_filter.specs.declared.flow.Direction.TheVariants.{Out, In}
@@ -28,39 +28,27 @@ pub record IsValid (f : Flow) (r : TrackRecord) : Type 0 where
   pub bytes : r.bytes < 2 ^ 64
   pub seen : r.seen < 2 ^ 64
 
-below : (n bound : ℕ) → nat_lt n bound ≡ true → n < bound
-below n bound h = grind (arith, nat_tests)
-
-below_true : (n bound : ℕ) → n < bound → nat_lt n bound ≡ true
-below_true n bound h = grind (arith, nat_tests)
-
-counted : (n : ℕ) → nat_le 1 n ≡ true → 1 ≤ n
-counted n h = grind (arith, nat_tests)
-
-counted_true : (n : ℕ) → 1 ≤ n → nat_le 1 n ≡ true
-counted_true n h = grind (arith, nat_tests)
-
 pub valid_facts : (flow : Flow) (r : TrackRecord) → is_valid (OfFlow flow) r ≡ true → IsValid flow r
 valid_facts flow r h =
-    let four = both_true (is_transport_flow flow && nat_le 1 r.packets && suits flow.proto r.state) (is_within r) h in
-    let three = both_true (is_transport_flow flow && nat_le 1 r.packets) (suits flow.proto r.state) four.0 in
-    let two = both_true (is_transport_flow flow) (nat_le 1 r.packets) three.0 in
-    let numbers = both_true (nat_lt r.packets (2 ^ 64) && nat_lt r.bytes (2 ^ 64)) (nat_lt r.seen (2 ^ 64)) four.1 in
-    let counts = both_true (nat_lt r.packets (2 ^ 64)) (nat_lt r.bytes (2 ^ 64)) numbers.0 in
+    let four = and_parts (is_transport_flow flow && nat_le 1 r.packets && suits flow.proto r.state) (is_within r) h in
+    let three = and_parts (is_transport_flow flow && nat_le 1 r.packets) (suits flow.proto r.state) four.0 in
+    let two = and_parts (is_transport_flow flow) (nat_le 1 r.packets) three.0 in
+    let numbers = and_parts (nat_lt r.packets (2 ^ 64) && nat_lt r.bytes (2 ^ 64)) (nat_lt r.seen (2 ^ 64)) four.1 in
+    let counts = and_parts (nat_lt r.packets (2 ^ 64)) (nat_lt r.bytes (2 ^ 64)) numbers.0 in
     record {
       flow = two.0;
-      counted = counted r.packets two.1;
+      counted = leb-true 1 r.packets two.1;
       fits = three.1;
-      packets = below r.packets (2 ^ 64) counts.0;
-      bytes = below r.bytes (2 ^ 64) counts.1;
-      seen = below r.seen (2 ^ 64) numbers.1;
+      packets = ltb-true r.packets (2 ^ 64) counts.0;
+      bytes = ltb-true r.bytes (2 ^ 64) counts.1;
+      seen = ltb-true r.seen (2 ^ 64) numbers.1;
     }
 
 pub valid_from : (flow : Flow) (r : TrackRecord) → IsValid flow r → is_valid (OfFlow flow) r ≡ true
 valid_from flow r v =
-    true_both _ _
-    (true_both _ _ (true_both _ _ v.flow (counted_true r.packets v.counted)) v.fits)
-    (true_both _ _ (true_both _ _ (below_true r.packets (2 ^ 64) v.packets) (below_true r.bytes (2 ^ 64) v.bytes)) (below_true r.seen (2 ^ 64) v.seen))
+    and_from _ _
+    (and_from _ _ (and_from _ _ v.flow (le-leb 1 r.packets v.counted)) v.fits)
+    (and_from _ _ (and_from _ _ (lt-ltb r.packets (2 ^ 64) v.packets) (lt-ltb r.bytes (2 ^ 64) v.bytes)) (lt-ltb r.seen (2 ^ 64) v.seen))
 
 -- the numbers of a record are within their types
 pub record Within (r : TrackRecord) : Type 0 where

@@ -1,7 +1,9 @@
 -- Steps between code and definition, which nobody has to believe: what a step of the tracker keeps of a record, and all laws of the tracker
 -- together. It stands in specs/ since the laws of a trait may cite nothing else.
-use Rattle.std.proofs.Common.{◌≡◌, ◌<◌, ◌≤◌, ◌^◌, ◌||◌, ℕ, Bool, true, false, cond, not, max, Option, None, Some, refl, ap, arith, nat_le}
+use Rattle.std.proofs.Common.{◌≡◌, ◌<◌, ◌≤◌, ◌^◌, ◌||◌, ℕ, Bool, true, false, cond, not, max, Option, None, Some, refl, sym, ap, arith, nat_le}
 use Rattle.std.proofs.lemmas.Bool.Decides.{nat_tests}
+use Rattle.std.proofs.lemmas.Bool.{not-true}
+use Rattle.std.proofs.Math.Bool.{or-false}
 use Rattle.flow_filter.specs.declared.packet.Packet.{Packet}
 use Rattle.flow_filter.specs.declared.site.Site.{Site}
 use Rattle.flow_filter.specs.declared.flow.Flow.{Flow}
@@ -86,11 +88,7 @@ suits_first false c = refl
 
 suits_next : (tcp : Bool) (c : Class) (forward : Bool) (s : State) → cond tcp (not (is_udp_state s)) (is_udp_state s) ≡ true
     → cond tcp (not (is_udp_state (cond tcp (cell c forward (row s)) (next_udp forward s)))) (is_udp_state (cond tcp (cell c forward (row s)) (next_udp forward s))) ≡ true
-suits_next true c forward s h = ap not (tcp_cell c forward (row s) (tcp_row s (is_false (is_udp_state s) h)))
-  where
-    is_false : (test : Bool) → not test ≡ true → test ≡ false
-    is_false true e = cc
-    is_false false e = refl
+suits_next true c forward s h = ap not (tcp_cell c forward (row s) (tcp_row s (not-true (is_udp_state s) h)))
 suits_next false c forward s h = udp_next forward s h
 
 suits_cond : (proto : ℕ) (test : Bool) (s t : State) → suits proto s ≡ true → suits proto t ≡ true → suits proto (cond test s t) ≡ true
@@ -157,14 +155,10 @@ counts_one site (Some r) p = refl
 max_known : (a b : ℕ) → nat_le 1 (max a b) ≡ (nat_le 1 b || nat_le 1 a)
 max_known a b = grind (arith, nat_tests)
 
-or_false : (a : Bool) → a ≡ (a || false)
-or_false true = refl
-or_false false = refl
-
 times_known : (site : Site) (kept : Option TrackRecord) (p : Packet)
     → nat_le 1 (stepped site kept p).seen ≡ (nat_le 1 p.nanos || is_timed_kept conntrack kept)
 unfolding stepped
-times_known site None p = or_false (nat_le 1 p.nanos)
+times_known site None p = sym (or-false (nat_le 1 p.nanos))
 times_known site (Some r) p = max_known r.seen p.nanos
 
 valid_unit : (u : units.Unit) (r : TrackRecord) → is_valid u r ≡ true → is_unit Conntrack u ≡ true

@@ -1,6 +1,6 @@
 -- The finite map of a tree's entries: what look-ups find in it, its entries, and how it changes with the tree.
 use Rattle.std.proofs.Common.{◌≡◌, ℕ, Bool, true, false, cond, eqb, List, [], ◌∷◌, Option, None, Some, refl, sym, ap, subst, ◌∙◌, arith}
-use Rattle.std.specs.Prelude.{T, ◌&&◌}
+use Rattle.std.specs.Prelude.{T}
 use Rattle.std.specs.List.{AllByRecursion}
 use Rattle.std.specs.List.Sorted.{IsStrictlySortedBy}
 use Rattle.std.specs.Map.{lookup, keys_of}
@@ -14,20 +14,12 @@ use Rattle.std.specs.FinMap.Entries.{below_all}
 use Rattle.std.proofs.lemmas.Map.Keys.{sorted_head, sorted_tail}
 use Rattle.std.proofs.lemmas.Bool.Decides.{nat_tests}
 use Rattle.std.proofs.lemmas.Bool.{eqb-true}
+use Rattle.std.proofs.Math.Facts.{yes_and}
+use Rattle.std.proofs.lemmas.Cmp.{eq_by_cmp_equiv, nat_cmp_total}
 
 -- keys that the order calls equal are equal numbers, and no others
 order_test : (a b : ℕ) → eq_by_cmp nat_cmp a b ≡ eqb a b
 order_test a b = grind (arith, nat_tests)
-
-same_test : (a : ℕ) → eq_by_cmp nat_cmp a a ≡ true
-same_test a = grind (arith, nat_tests)
-
-turned_test : (a b : ℕ) → eq_by_cmp nat_cmp a b ≡ eq_by_cmp nat_cmp b a
-turned_test a b = grind (arith, nat_tests)
-
-both : (a b : Bool) → T a → T b → T (a && b)
-both true b p q = q
-both false b p q = p
 
 module _ {X : Type 0} where
   abbrev pub view : tree.BTreeMap ℕ X → finite.FinMap nat_cmp X
@@ -43,12 +35,12 @@ module _ {X : Type 0} where
 
   below_from : (k : ℕ) (es : List (ℕ × X)) → AllByRecursion (λ y. nat_cmp k y ≡ Less) (keys_of es) → T (below_all nat_cmp k es)
   below_from k [] all = tt
-  below_from k (e ∷ es) all = both (is_lt (nat_cmp k e.0)) (below_all nat_cmp k es) (subst (λ o. T (is_lt o)) (sym all.0) tt) (below_from k es all.1)
+  below_from k (e ∷ es) all = yes_and (is_lt (nat_cmp k e.0)) (below_all nat_cmp k es) (subst (λ o. T (is_lt o)) (sym all.0) tt) (below_from k es all.1)
 
   sorted_from : (es : List (ℕ × X)) → IsStrictlySortedBy nat_cmp (keys_of es) → T (is_sorted nat_cmp es)
   sorted_from [] s = tt
   sorted_from (e ∷ es) s =
-      both (below_all nat_cmp e.0 es) (is_sorted nat_cmp es) (below_from e.0 es (sorted_head nat_cmp e.0 (keys_of es) s)) (sorted_from es (sorted_tail nat_cmp e.0 (keys_of es) s))
+      yes_and (below_all nat_cmp e.0 es) (is_sorted nat_cmp es) (below_from e.0 es (sorted_head nat_cmp e.0 (keys_of es) s)) (sorted_from es (sorted_tail nat_cmp e.0 (keys_of es) s))
 
   -- its entries are those of the tree
   pub entries-view : (m : tree.BTreeMap ℕ X) → tree.IsOrdered nat_cmp m → finite.entries (view m) ≡ m.entries
@@ -63,7 +55,7 @@ module _ {X : Type 0} where
       → tree.Updates nat_cmp old new op (Some x) → view new ≡ finite.insert before op x
   inserted old new before op x is updates = same_map nat_cmp_total nat_cmp-IsAntisymmetric (view new) (finite.insert before op x) (λ q.
       get-view new q ∙ updates.0 q
-      ∙ ap (λ b. cond b (Some x) (tree.get nat_cmp old q)) (turned_test op q)
+      ∙ ap (λ b. cond b (Some x) (tree.get nat_cmp old q)) ((eq_by_cmp_equiv nat_cmp_total).symm op q)
       ∙ ap (cond (eq_by_cmp nat_cmp q op) (Some x)) (sym (get-view old q) ∙ ap (λ m. finite.get m q) is)
       ∙ sym (get-insert nat_cmp_total before op x q))
 
@@ -72,7 +64,7 @@ module _ {X : Type 0} where
       → tree.Updates nat_cmp old new op None → view new ≡ finite.remove before op
   removed old new before op is updates = same_map nat_cmp_total nat_cmp-IsAntisymmetric (view new) (finite.remove before op) (λ q.
       get-view new q ∙ updates.0 q
-      ∙ ap (λ b. cond b None (tree.get nat_cmp old q)) (turned_test op q)
+      ∙ ap (λ b. cond b None (tree.get nat_cmp old q)) ((eq_by_cmp_equiv nat_cmp_total).symm op q)
       ∙ ap (cond (eq_by_cmp nat_cmp q op) None) (sym (get-view old q) ∙ ap (λ m. finite.get m q) is)
       ∙ sym (get-remove nat_cmp_total before op q))
 
@@ -99,4 +91,4 @@ module _ {X : Type 0} where
 
   -- what was written under a number is found there
   pub found_again : (m : finite.FinMap nat_cmp X) (op : ℕ) (x : X) → finite.get (finite.insert m op x) op ≡ Some x
-  found_again m op x = get-insert nat_cmp_total m op x op ∙ ap (λ b. cond b (Some x) (finite.get m op)) (same_test op)
+  found_again m op x = get-insert nat_cmp_total m op x op ∙ ap (λ b. cond b (Some x) (finite.get m op)) ((eq_by_cmp_equiv nat_cmp_total).refl op)

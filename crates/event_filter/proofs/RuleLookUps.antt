@@ -4,13 +4,11 @@ use Rattle.std.specs.Prelude.{is_some, IsSome}
 use Rattle.std.specs.Option.{option_map, option_map_or}
 use Rattle.std.proofs.lemmas.Bool.{eqb-true}
 use Rattle.std.proofs.lemmas.Bool.Decides.{nat_tests}
+use Rattle.std.proofs.lemmas.Cmp.{nat_eq_equiv}
 use Rattle.flow_filter.specs.declared.filter.Filter.{Filter}
 use Rattle.event_filter.specs.declared.action.Action.{Action}
 use Rattle.event_filter.specs.declared.rule.Rule.{Rule}
 use Rattle.event_filter.specs.Rules.{rule_at, held_at, changed, ruled_by, holding, with_rule, with_held, without}
-
-same_test : (a b : ℕ) → eqb a b ≡ eqb b a
-same_test a b = grind (arith, nat_tests)
 
 module _ {P : Type 0} where
   -- a change that keeps the operation's number is seen at that operation alone
@@ -50,7 +48,7 @@ module _ {P : Type 0} where
 
   put_case : (o own : Option (Rule P)) (r s : Rule P) (op q : ℕ) → own ≡ None → (q ≡ op → o ≡ own) → r ≡ s
       → cond (is_some o) o (cond (eqb op q) (Some r) None) ≡ cond (eqb q op) (Some s) o
-  put_case None own r s op q none at is = rw (is, same_test op q) refl
+  put_case None own r s op q none at is = rw (is, nat_eq_equiv.symm op q) refl
   put_case (Some x) own r s op q none at is = elim (eqb q op) as (λ b. eqb q op ≡ b → Some x ≡ cond b (Some s) (Some x)) [
     | true ↦ λ e. let here = at (eqb-true q op e) in cc
     | false ↦ λ e. refl

@@ -1,5 +1,5 @@
 -- The place of an operation's rule in the list, and what a write or a removal there leaves.
-use Rattle.std.proofs.Common.{◌≡◌, ℕ, zero, suc, ◌<◌, ◌≤◌, Bool, true, false, cond, not, eqb, List, [], ◌∷◌, ◌++◌, length, map, get_or, set, None, Some, refl, sym, ap, ◌∙◌, arith}
+use Rattle.std.proofs.Common.{◌≡◌, ℕ, zero, suc, ◌<◌, ◌≤◌, true, false, cond, not, eqb, List, [], ◌∷◌, ◌++◌, length, map, get_or, set, None, Some, refl, sym, ap, ◌∙◌, arith}
 use Rattle.std.specs.Prelude.{nat_eq, remove, position}
 use Rattle.std.specs.List.{IsDistinct, AllByRecursion, list_any, position_or_len}
 use Rattle.std.specs.Cmp.{nat_eq_equiv}
@@ -7,19 +7,13 @@ use Rattle.std.proofs.lemmas.List.{map-append, set-get_or}
 use Rattle.std.proofs.lemmas.List.Sums.{fails_before_first}
 use Rattle.std.proofs.lemmas.List.Quantifiers.{position-Some}
 use Rattle.std.proofs.lemmas.Map.Keys.{IsDistinct-head, IsDistinct-tail, IsDistinct-cons, IsDistinct-push}
-use Rattle.std.proofs.lemmas.Bool.{eqb-true, ltb-false}
+use Rattle.std.proofs.lemmas.Bool.{eqb-true}
 use Rattle.std.proofs.lemmas.Bool.Decides.{nat_tests}
+use Rattle.basics.proofs.ListLemmas.{past_the_end}
 use Rattle.flow_filter.specs.declared.filter.Filter.{Filter}
 use Rattle.event_filter.specs.declared.action.Action.{Action}
 use Rattle.event_filter.specs.declared.rule.Rule.{Rule}
 use Rattle.event_filter.specs.Rules.{rule_at, HaveOneEach, changed, ruled_by, with_rule, without}
-
-too_far : (b : Bool) (n : ℕ) → cond b (Some n) None ≡ None → b ≡ false
-too_far true n e = cc
-too_far false n e = refl
-
-same_test : (a b : ℕ) → eqb a b ≡ eqb b a
-same_test a b = grind (arith, nat_tests)
 
 -- no rules are one for each operation
 pub one_each-none : (P : Type 0) → HaveOneEach {P = P} []
@@ -112,7 +106,7 @@ module _ {P : Type 0} where
 
   pub none-position : (rules : List (Rule P)) (op : ℕ) → position (λ x. eqb x.op op) rules ≡ None → None_of op rules
   none-position rules op e =
-      let past : length rules ≤ position_or_len (λ x. eqb x.op op) rules = ltb-false _ _ (too_far _ _ e) in
+      let past : length rules ≤ position_or_len (λ x. eqb x.op op) rules = past_the_end _ rules e in
       none_anywhere rules op (λ k d lt. fails_before_first (λ x. eqb x.op op) rules k d (omega arith))
 
   -- each operation keeps at most one rule
@@ -130,7 +124,7 @@ module _ {P : Type 0} where
 
   any-none : (rules : List (Rule P)) (op : ℕ) → None_of op rules → list_any (eqb op) (map (λ r. r.op) rules) ≡ false
   any-none [] op none = refl
-  any-none (x ∷ rules) op none = rw (same_test op x.op, none.0) (any-none rules op none.1)
+  any-none (x ∷ rules) op none = rw (nat_eq_equiv.symm op x.op, none.0) (any-none rules op none.1)
 
   pub one_each-push : (rules : List (Rule P)) (r : Rule P) → None_of r.op rules → HaveOneEach rules → HaveOneEach (rules ++ r ∷ [])
   one_each-push rules r none one = rw (map-append (λ x. x.op) rules (r ∷ [])) (IsDistinct-push nat_eq_equiv (map (λ x. x.op) rules) r.op one (any-none rules r.op none))

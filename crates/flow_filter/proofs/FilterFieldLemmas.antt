@@ -2,11 +2,12 @@
 use Rattle.std.proofs.Common.{◌≡◌, ℕ, ◌+◌, ◌-◌, ◌/◌, ◌%◌, ◌^◌, ◌<◌, ◌≤◌, ◌==◌, Bool, true, false, cond, eqb, leb, ◌&&◌, Option, None, Some, refl, ap, sym, ◌∙◌, arith, inl, inr, zero, suc, lit<}
 use Rattle.std.specs.Prelude.{nat_eq}
 use Rattle.std.specs.Option.{ForSome}
-use Rattle.std.proofs.lemmas.Bool.{eqb-true, eq-eqb, eqb-false, ne_eqb, leb-true, leb-false, and_cases, and_parts}
+use Rattle.std.proofs.lemmas.Bool.{eqb-true, eq-eqb, eqb-false, ne_eqb, leb-true, leb-false, and_cases, and_parts, both_ways}
+use Rattle.std.proofs.Math.Bool.{and-true}
 use Rattle.flow_filter.specs.declared.prefix.Prefix.{Prefix}
 use Rattle.flow_filter.specs.Prefixes.{in_prefix}
 use Rattle.flow_filter.specs.Filter.{holds, agrees, meet_value, meet_prefix, longer, covers_value, covers_prefix}
-use Rattle.basics.proofs.BoolLemmas.{not_both, absorbed_left, absorbed_right, and_true, true-not-false}
+use Rattle.basics.proofs.BoolLemmas.{not_both, absorbed_left, absorbed_right}
 use Rattle.flow_filter.proofs.PrefixLemmas.{block_inside, block_own, block_whole, far_same, far_other, far_small}
 
 -- what the meet of one field says: nothing agrees with both, or a field that agrees exactly with what both agree with, and a value
@@ -26,7 +27,7 @@ pub number_meets : (top : ℕ) (x y : Option ℕ) → 0 < top → ForSome x (λ 
     → MeetsField nat_eq top x y (meet_value nat_eq x y)
 number_meets top None None pos fx fy = ((λ a. refl), (0, pos, refl))
 number_meets top None (Some y) pos fx fy = ((λ a. refl), (y, fy y refl, eq-eqb y y refl))
-number_meets top (Some x) None pos fx fy = ((λ a. and_true (eqb x a)), (x, fx x refl, eq-eqb x x refl))
+number_meets top (Some x) None pos fx fy = ((λ a. sym (and-true (eqb x a))), (x, fx x refl, eq-eqb x x refl))
 number_meets top (Some x) (Some y) pos fx fy = numbers_meet top x y (eqb x y) refl (fx x refl)
 
 -- a shorter prefix and a longer one
@@ -37,7 +38,7 @@ prefixes_meet p q true le is small = (
   (q.bits, small, block_own q.bits q.len),
 )
 prefixes_meet p q false le is small =
-    λ a. not_both (holds p a) (holds q a) (λ at_p at_q. true-not-false (holds p a) at_p (block_inside p.bits p.len q.bits q.len a le at_q ∙ is))
+    λ a. not_both (holds p a) (holds q a) (λ at_p at_q. both_ways (holds p a) (block_inside p.bits p.len q.bits q.len a le at_q ∙ is) at_p)
 
 -- the same two, the other way round
 prefixes_meet_back : (p q : Prefix) (inside : Bool) → q.len ≤ p.len → holds q p.bits ≡ inside → p.bits < 2 ^ 32
@@ -47,7 +48,7 @@ prefixes_meet_back p q true le is small = (
   (p.bits, small, block_own p.bits p.len),
 )
 prefixes_meet_back p q false le is small =
-    λ a. not_both (holds p a) (holds q a) (λ at_p at_q. true-not-false (holds q a) at_q (block_inside q.bits q.len p.bits p.len a le at_p ∙ is))
+    λ a. not_both (holds p a) (holds q a) (λ at_p at_q. both_ways (holds q a) (block_inside q.bits q.len p.bits p.len a le at_p ∙ is) at_q)
 
 -- by which is longer
 longer_meets : (p q : Prefix) (first : Bool) → leb p.len q.len ≡ first → p.bits < 2 ^ 32 → q.bits < 2 ^ 32
@@ -62,7 +63,7 @@ pub prefix_meets : (x y : Option Prefix) → ForSome x (λ p. p.bits < 2 ^ 32) �
     → MeetsField holds (2 ^ 32) x y (meet_prefix x y)
 prefix_meets None None fx fy = ((λ a. refl), (0, lit< tt, refl))
 prefix_meets None (Some q) fx fy = ((λ a. refl), (q.bits, fy q refl, block_own q.bits q.len))
-prefix_meets (Some p) None fx fy = ((λ a. and_true (holds p a)), (p.bits, fx p refl, block_own p.bits p.len))
+prefix_meets (Some p) None fx fy = ((λ a. sym (and-true (holds p a))), (p.bits, fx p refl, block_own p.bits p.len))
 prefix_meets (Some p) (Some q) fx fy = longer_meets p q (leb p.len q.len) refl (fx p refl) (fy q refl)
 
 -- what the cover of one field says: each value that agrees with the second agrees with the first, or one doesn't

@@ -1,12 +1,13 @@
 -- The laws of filters, from those of their fields.
 use Rattle.std.proofs.Common.{◌≡◌, ℕ, ◌^◌, Bool, true, ◌&&◌, Option, None, Some, sym, ◌∙◌, lit<, ◌↔◌}
 use Rattle.std.specs.Prelude.{nat_eq, IfSome, OnSome, IfNone}
+use Rattle.std.proofs.lemmas.Bool.{true_from_ne_false, both_ways}
 use Rattle.flow_filter.specs.declared.prefix.Prefix.{Prefix}
 use Rattle.flow_filter.specs.declared.flow.Flow.{Flow}
 use Rattle.flow_filter.specs.declared.filter.Filter.{Filter}
 use Rattle.basics.specs.Options.{◌>>=◌}
 use Rattle.flow_filter.specs.Filter.{holds, agrees, matches, meet, covers, covers_value, covers_prefix, IsFlow, IsFilter, Meet, IsMeet, Covers}
-use Rattle.basics.proofs.BoolLemmas.{and_fields, fields_both, true-not-false, true_unless, Five, five_true, true_five}
+use Rattle.basics.proofs.BoolLemmas.{and_fields, fields_both, Five, five_true, true_five}
 use Rattle.flow_filter.proofs.FilterFieldLemmas.{MeetsField, number_meets, prefix_meets, CoversField, number_covers, prefix_covers}
 
 -- what the meet of two filters says
@@ -29,11 +30,11 @@ joined : (f g : Filter) (proto : Option (Option ℕ)) (local : Option (Option Pr
     → MeetsField holds (2 ^ 32) f.remote g.remote remote → MeetsField nat_eq (2 ^ 16) f.rport g.rport rport
     → IsMeetOf f g (proto >>= λ a. local >>= λ b. lport >>= λ c. remote >>= λ d. rport >>= λ e.
     Some (record { proto = a; local = b; lport = c; remote = d; rport = e }))
-joined f g None local lport remote rport p l lp r rp = λ m. true-not-false _ (fields f g m.0 m.2).first (p m.0.proto)
-joined f g (Some a) None lport remote rport p l lp r rp = λ m. true-not-false _ (fields f g m.0 m.2).second (l m.0.local)
-joined f g (Some a) (Some b) None remote rport p l lp r rp = λ m. true-not-false _ (fields f g m.0 m.2).third (lp m.0.lport)
-joined f g (Some a) (Some b) (Some c) None rport p l lp r rp = λ m. true-not-false _ (fields f g m.0 m.2).fourth (r m.0.remote)
-joined f g (Some a) (Some b) (Some c) (Some d) None p l lp r rp = λ m. true-not-false _ (fields f g m.0 m.2).fifth (rp m.0.rport)
+joined f g None local lport remote rport p l lp r rp = λ m. both_ways _ (p m.0.proto) (fields f g m.0 m.2).first
+joined f g (Some a) None lport remote rport p l lp r rp = λ m. both_ways _ (l m.0.local) (fields f g m.0 m.2).second
+joined f g (Some a) (Some b) None remote rport p l lp r rp = λ m. both_ways _ (lp m.0.lport) (fields f g m.0 m.2).third
+joined f g (Some a) (Some b) (Some c) None rport p l lp r rp = λ m. both_ways _ (r m.0.remote) (fields f g m.0 m.2).fourth
+joined f g (Some a) (Some b) (Some c) (Some d) None p l lp r rp = λ m. both_ways _ (rp m.0.rport) (fields f g m.0 m.2).fifth
 joined f g (Some a) (Some b) (Some c) (Some d) (Some e) p l lp r rp =
     let both : Filter = record { proto = a; local = b; lport = c; remote = d; rport = e } in
     let exact : IsMeet f g both = λ flow fits. fields_both
@@ -97,21 +98,21 @@ covering : (f g : Filter) (a b c d e : Bool) → CoversFields f g a b c d e → 
 covering f g a b c d e laws given =
     let p = laws.of_proto.some in let l = laws.of_local.some in let lp = laws.of_lport.some in let r = laws.of_remote.some in let rp = laws.of_rport.some in
     record {
-      first = true_unless a (λ is. let far = laws.of_proto.never is in
-          true-not-false _ (agreed f g given (record { proto = far.0; local = l.0; lport = lp.0; remote = r.0; rport = rp.0 })
-          (record { proto = far.1; local = l.1; lport = lp.1; remote = r.1; rport = rp.1 }) far.2 l.2 lp.2 r.2 rp.2).first far.3);
-      second = true_unless b (λ is. let far = laws.of_local.never is in
-          true-not-false _ (agreed f g given (record { proto = p.0; local = far.0; lport = lp.0; remote = r.0; rport = rp.0 })
-          (record { proto = p.1; local = far.1; lport = lp.1; remote = r.1; rport = rp.1 }) p.2 far.2 lp.2 r.2 rp.2).second far.3);
-      third = true_unless c (λ is. let far = laws.of_lport.never is in
-          true-not-false _ (agreed f g given (record { proto = p.0; local = l.0; lport = far.0; remote = r.0; rport = rp.0 })
-          (record { proto = p.1; local = l.1; lport = far.1; remote = r.1; rport = rp.1 }) p.2 l.2 far.2 r.2 rp.2).third far.3);
-      fourth = true_unless d (λ is. let far = laws.of_remote.never is in
-          true-not-false _ (agreed f g given (record { proto = p.0; local = l.0; lport = lp.0; remote = far.0; rport = rp.0 })
-          (record { proto = p.1; local = l.1; lport = lp.1; remote = far.1; rport = rp.1 }) p.2 l.2 lp.2 far.2 rp.2).fourth far.3);
-      fifth = true_unless e (λ is. let far = laws.of_rport.never is in
-          true-not-false _ (agreed f g given (record { proto = p.0; local = l.0; lport = lp.0; remote = r.0; rport = far.0 })
-          (record { proto = p.1; local = l.1; lport = lp.1; remote = r.1; rport = far.1 }) p.2 l.2 lp.2 r.2 far.2).fifth far.3);
+      first = true_from_ne_false a (λ is. let far = laws.of_proto.never is in
+          both_ways _ far.3 (agreed f g given (record { proto = far.0; local = l.0; lport = lp.0; remote = r.0; rport = rp.0 })
+          (record { proto = far.1; local = l.1; lport = lp.1; remote = r.1; rport = rp.1 }) far.2 l.2 lp.2 r.2 rp.2).first);
+      second = true_from_ne_false b (λ is. let far = laws.of_local.never is in
+          both_ways _ far.3 (agreed f g given (record { proto = p.0; local = far.0; lport = lp.0; remote = r.0; rport = rp.0 })
+          (record { proto = p.1; local = far.1; lport = lp.1; remote = r.1; rport = rp.1 }) p.2 far.2 lp.2 r.2 rp.2).second);
+      third = true_from_ne_false c (λ is. let far = laws.of_lport.never is in
+          both_ways _ far.3 (agreed f g given (record { proto = p.0; local = l.0; lport = far.0; remote = r.0; rport = rp.0 })
+          (record { proto = p.1; local = l.1; lport = far.1; remote = r.1; rport = rp.1 }) p.2 l.2 far.2 r.2 rp.2).third);
+      fourth = true_from_ne_false d (λ is. let far = laws.of_remote.never is in
+          both_ways _ far.3 (agreed f g given (record { proto = p.0; local = l.0; lport = lp.0; remote = far.0; rport = rp.0 })
+          (record { proto = p.1; local = l.1; lport = lp.1; remote = far.1; rport = rp.1 }) p.2 l.2 lp.2 far.2 rp.2).fourth);
+      fifth = true_from_ne_false e (λ is. let far = laws.of_rport.never is in
+          both_ways _ far.3 (agreed f g given (record { proto = p.0; local = l.0; lport = lp.0; remote = r.0; rport = far.0 })
+          (record { proto = p.1; local = l.1; lport = lp.1; remote = r.1; rport = far.1 }) p.2 l.2 lp.2 r.2 far.2).fifth);
     }
 
 -- the test of all fields is true exactly where f covers g

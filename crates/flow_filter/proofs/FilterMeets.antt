@@ -2,7 +2,8 @@
 use Rattle.std.proofs.Common.{◌≡◌, ℕ, ◌-◌, ◌/◌, ◌^◌, Bool, true, false, ◌&&◌, ◌||◌, cond, eqb, leb, Option, None, Some, is_some, refl, ap, sym, ◌∙◌, arith}
 use Rattle.std.specs.Prelude.{nat_eq}
 use Rattle.std.proofs.lemmas.Bool.{leb-true, leb-false}
-use Rattle.std.proofs.lemmas.Bool.Decides.{nat_tests}
+use Rattle.std.proofs.Math.Bool.{or-false}
+use Rattle.std.proofs.lemmas.Cmp.{nat_eq_equiv}
 use Rattle.basics.specs.Options.{◌>>=◌}
 use Rattle.flow_filter.specs.declared.prefix.Prefix.{Prefix}
 use Rattle.flow_filter.specs.declared.filter.Filter.{Filter}
@@ -23,16 +24,9 @@ some-number None (Some y) = refl
 some-number (Some x) None = refl
 some-number (Some x) (Some y) = some-cond (eqb x y) (Some x)
 
-eqb-swap : (x y : ℕ) → eqb x y ≡ eqb y x
-eqb-swap x y = grind (arith, nat_tests)
-
 same_length : (p q : Prefix) → p.len ≡ q.len → holds q p.bits ≡ holds p q.bits
 same_length p q same =
-    ap (λ n. eqb (p.bits / 2 ^ (32 - n)) (q.bits / 2 ^ (32 - n))) (sym same) ∙ eqb-swap (p.bits / 2 ^ (32 - p.len)) (q.bits / 2 ^ (32 - p.len))
-
-or_false : (a : Bool) → a ≡ (a || false)
-or_false true = refl
-or_false false = refl
+    ap (λ n. eqb (p.bits / 2 ^ (32 - n)) (q.bits / 2 ^ (32 - n))) (sym same) ∙ nat_eq_equiv.symm (p.bits / 2 ^ (32 - p.len)) (q.bits / 2 ^ (32 - p.len))
 
 or_same : (a b : Bool) → b ≡ a → a ≡ (a || b)
 or_same true b same = refl
@@ -42,7 +36,7 @@ or_same false b same = sym same
 by_length : (p q : Prefix) (first second : Bool) → leb p.len q.len ≡ first → leb q.len p.len ≡ second
     → is_some (cond first (cond (holds p q.bits) (Some (Some q)) None) (cond (holds q p.bits) (Some (Some p)) None))
     ≡ ((first && holds p q.bits) || (second && holds q p.bits))
-by_length p q true false le ge = some-cond (holds p q.bits) (Some q) ∙ or_false (holds p q.bits)
+by_length p q true false le ge = some-cond (holds p q.bits) (Some q) ∙ sym (or-false (holds p q.bits))
 by_length p q true true le ge =
     let up = leb-true p.len q.len le in let down = leb-true q.len p.len ge in
     some-cond (holds p q.bits) (Some q) ∙ or_same (holds p q.bits) (holds q p.bits) (same_length p q (omega arith))

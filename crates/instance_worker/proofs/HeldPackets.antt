@@ -1,5 +1,6 @@
 -- What is left to process after one more packet.
-use Rattle.std.proofs.Common.{◌≡◌, ℕ, List, [], ◌∷◌, ◌++◌, length, drop, refl, sym, ap, ◌∙◌, arith, append_assoc, append-nil, length-drop}
+use Rattle.std.proofs.Common.{◌≡◌, ℕ, List, [], ◌∷◌, ◌++◌, drop, sym, ◌∙◌, append_assoc, append-nil}
+use Rattle.basics.proofs.ListLemmas.{no_first}
 use Rattle.nf_function.specs.Semantics.{Semantics}
 use Rattle.event_filter.specs.declared.mark.Mark.TheVariants.{Plain}
 use Rattle.packet_pool.specs.Pool.{FullCell}
@@ -7,14 +8,6 @@ use Rattle.nf_msgs.specs.declared.msg.Msg.{Msg}
 use Rattle.nf_msgs.specs.declared.note.Note.{Note}
 use Rattle.instance_worker.specs.declared.instance.Instance.{Instance}
 use Rattle.instance_worker.specs.Instance.{processed, all_processed}
-
--- a list that is as it is without its first has none
-no_items : {X : Type 0} (xs : List X) → length xs ≡ 0 → xs ≡ []
-no_items [] none = refl
-no_items (x ∷ xs) none = absurd (omega arith)
-
-no_first : {X : Type 0} (xs ys : List X) → xs ≡ ys → ys ≡ drop 1 xs → xs ≡ []
-no_first xs ys same rest = no_items xs (omega (arith, ap length (same ∙ rest), length-drop 1 xs))
 
 -- an instance in the midst of its packets: itself, what it sent and what it noted
 pub record Midst (F R : Type 0) : Type 0 where

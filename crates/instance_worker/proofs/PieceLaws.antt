@@ -1,21 +1,15 @@
 -- Pieces, one after another, are all chunks; none has too many; the last alone is marked.
-use Rattle.std.proofs.Common.{◌≡◌, ℕ, zero, suc, ◌≤◌, ◌<◌, Bool, true, false, List, [], ◌∷◌, ◌++◌, map, length, take, drop, refl, ap, ◌∙◌, arith, length-drop, append-nil, replicate}
+use Rattle.std.proofs.Common.{◌≡◌, ℕ, zero, suc, ◌≤◌, Bool, true, false, List, [], ◌∷◌, ◌++◌, map, length, take, drop, refl, ap, ◌∙◌, arith, length-drop, append-nil, replicate}
 use Rattle.std.specs.Prelude.{nat_le, if◌then◌else◌}
 use Rattle.std.specs.List.{All, flat_map}
-use Rattle.std.proofs.lemmas.Bool.Decides.{nat_tests}
 use Rattle.std.proofs.lemmas.List.{take-append-drop, length-take}
 use Rattle.std.proofs.lemmas.List.Elements.{All-nil, All-cons}
+use Rattle.std.proofs.lemmas.Bool.{leb-true, leb-false}
 use Rattle.nf_function.specs.declared.chunk.Chunk.{Chunk}
 use Rattle.nf_msgs.specs.declared.msg.Piece.{Piece}
 use Rattle.instance_worker.specs.declared.pieces.WholePieces.{WholePieces}
 use Rattle.instance_worker.specs.declared.pieces.TheConstants.{MOST_CHUNKS}
 use Rattle.instance_worker.specs.Pieces.{pieces_from, piece_of, whole_of, PieceLaws}
-
-from_true : (a b : ℕ) → nat_le a b ≡ true → a ≤ b
-from_true a b h = grind (arith, nat_tests)
-
-from_false : (a b : ℕ) → nat_le a b ≡ false → b < a
-from_false a b h = grind (arith, nat_tests)
 
 -- what holds either way
 either_way : {X : Type 0} (P : X → Type 0) (b : Bool) (x y : X) → (b ≡ true → P x) → (b ≡ false → P y) → P (if b then x else y)
@@ -42,9 +36,9 @@ module _ (whole : WholePieces) where
   unfolding pieces_from
   all_small zero chunks enough = All-cons IsSmall (piece_of whole true chunks) [] (omega arith) (All-nil IsSmall)
   all_small (suc n) chunks enough = either_way (All IsSmall) (nat_le (length chunks) MOST_CHUNKS) _ _
-      (λ short. All-cons IsSmall (piece_of whole true chunks) [] (from_true _ _ short) (All-nil IsSmall))
+      (λ short. All-cons IsSmall (piece_of whole true chunks) [] (leb-true _ _ short) (All-nil IsSmall))
       (λ long. All-cons IsSmall (piece_of whole false (take MOST_CHUNKS chunks)) _ (omega (arith, length-take MOST_CHUNKS chunks))
-      (all_small n (drop MOST_CHUNKS chunks) (omega (arith, from_false _ _ long, length-drop MOST_CHUNKS chunks))))
+      (all_small n (drop MOST_CHUNKS chunks) (omega (arith, leb-false _ _ long, length-drop MOST_CHUNKS chunks))))
 
   last_marked : (n : ℕ) (chunks : List Chunk) → IsMarked (pieces_from whole n chunks)
   unfolding pieces_from

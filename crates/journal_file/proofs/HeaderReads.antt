@@ -1,8 +1,9 @@
 -- A header that was written is read again, and has one spelling.
-use Rattle.std.proofs.Common.{◌≡◌, ◌∙◌, ◌<◌, ◌≤◌, ◌*◌, ◌^◌, eqb, ℕ, true, false, List, [], ◌++◌, length, Ok, refl, ap, sym, arith, nat_lt, length-append, append-nil}
+use Rattle.std.proofs.Common.{◌≡◌, ◌∙◌, ◌<◌, ◌≤◌, ◌*◌, ◌^◌, ℕ, false, List, [], ◌++◌, length, Ok, refl, ap, sym, arith, nat_lt, length-append, append-nil}
 use Rattle.std.proofs.lemmas.Bool.Decides.{nat_tests}
 use Rattle.std.proofs.lemmas.List.{take_at, drop_at}
 use Rattle.std.specs.List.{flat_map}
+use Rattle.std.proofs.lemmas.Bool.{eq-eqb}
 use Rattle.byteorder.specs.Endian.{big_number}
 use Rattle.byteorder.specs.Numbers.{big_number-reads_back}
 use Rattle.actor_net.specs.declared.choice.Choice.{Choice}
@@ -13,9 +14,6 @@ use Rattle.state_chunk.specs.Format.{kind_number}
 use Rattle.journal_file.specs.Format.{header_size, most_choices, header_bytes, journal_bytes, choice_bytes}
 use Rattle.journal_file.specs.Reading.{count_in, count_of, choices_of, journal_of}
 use Rattle.journal_file.proofs.SpelledChoices.{choices_in_written, written_length}
-
-same_number : (n : ℕ) → eqb n n ≡ true
-same_number n = grind (arith, nat_tests)
 
 pub header_length : (kind : Kind) (instances count : ℕ) → length (header_bytes kind instances count) ≡ header_size
 unfolding header_bytes number_bytes
@@ -31,7 +29,7 @@ unfolding count_in header_bytes number_bytes
 count_in_header kind instances count few =
     let number = read_back count (omega (arith, few)) in
     let fits : nat_lt most_choices count ≡ false = grind (arith, nat_tests) in
-    rw (same_number (kind_number kind), same_number instances, number, fits) refl
+    rw (eq-eqb (kind_number kind) (kind_number kind) refl, eq-eqb instances instances refl, number, fits) refl
 
 -- a header that stands before other bytes is read again
 pub count_of_header : (kind : Kind) (instances count : ℕ) (rest : List ℕ) → count ≤ most_choices

@@ -1,11 +1,12 @@
 -- A journal that is read has one spelling.
-use Rattle.std.proofs.Common.{◌≡◌, ◌∙◌, ◌≤◌, ◌*◌, ◌==◌, not, eqb, ℕ, Bool, true, false, List, [], ◌∷◌, ◌++◌, length, take, drop, slice_index, Ok, Err, refl, ap, sym, arith, nat_lt, if◌then◌else◌, IfOk, length-drop, append-nil}
+use Rattle.std.proofs.Common.{◌≡◌, ◌∙◌, ◌≤◌, ◌*◌, ◌==◌, not, ℕ, Bool, true, false, List, [], ◌∷◌, ◌++◌, length, take, drop, slice_index, Ok, Err, refl, ap, sym, arith, nat_lt, if◌then◌else◌, IfOk, length-drop, append-nil}
 use Rattle.std.proofs.lemmas.Bool.Decides.{Decides-eqb, nat_tests}
 use Rattle.std.proofs.lemmas.List.{append_assoc, length-take-le, take-append-drop, drop-drop}
 use Rattle.std.proofs.lemmas.Slice.Eq.{starts_is}
 use Rattle.std.proofs.Math.ListN.{drop_of_length-le}
 use Rattle.std.proofs.Math.Seq.{drop-cons}
 use Rattle.std.specs.List.{flat_map, starts_with}
+use Rattle.std.proofs.lemmas.Bool.{eqb-true}
 use Rattle.byteorder.specs.Endian.{big_number}
 use Rattle.actor_net.specs.declared.choice.Choice.{Choice}
 use Rattle.nf_function.specs.declared.kind.Kind.{Kind}
@@ -31,9 +32,6 @@ failed false e next x h = (refl, h)
 same_ok : {X : Type 0} (x y : X) → ◌≡◌ {A = Read X} (Ok x) (Ok y) → x ≡ y
 same_ok x y h = cc
 
-one_number : (m n : ℕ) → eqb m n ≡ true → m ≡ n
-one_number m n h = grind (arith, nat_tests)
-
 -- bytes that give a number begin with its spelling
 number_first : (n x : ℕ) (bytes : List ℕ) → IsBytes bytes → n ≤ length bytes → big_number n bytes ≡ x → bytes ≡ number_bytes n x ++ drop n bytes
 unfolding first_number
@@ -54,12 +52,12 @@ header_spelled kind instances count header are size h =
     let number : big_number 8 (drop 8 header) ≡ count = same_ok (big_number 8 (drop 8 header)) count few.1 in
     let front : header ≡ letters ++ drop 4 header = (starts_is Decides-eqb header letters _ refl).0 magic.0 in
     let after_letters : drop 4 header ≡ number_bytes 2 version ++ drop 6 header =
-    number_first 2 version (drop 4 header) (IsBytes-drop 4 header are) (omega (arith, size, length-drop 4 header)) (one_number (big_number 2 (drop 4 header)) version one.0)
+    number_first 2 version (drop 4 header) (IsBytes-drop 4 header are) (omega (arith, size, length-drop 4 header)) (eqb-true (big_number 2 (drop 4 header)) version one.0)
     ∙ ap (λ (l : List ℕ). number_bytes 2 version ++ l) (drop-drop 2 4 header) in
     let after_version : drop 6 header ≡ kind_number kind ∷ drop 7 header =
-    drop-cons header 6 0 (omega (arith, size)) ∙ ap (λ (k : ℕ). k ∷ drop 7 header) (one_number (slice_index header 6) (kind_number kind) kinds.0) in
+    drop-cons header 6 0 (omega (arith, size)) ∙ ap (λ (k : ℕ). k ∷ drop 7 header) (eqb-true (slice_index header 6) (kind_number kind) kinds.0) in
     let after_kind : drop 7 header ≡ instances ∷ drop 8 header =
-    drop-cons header 7 0 (omega (arith, size)) ∙ ap (λ (n : ℕ). n ∷ drop 8 header) (one_number (slice_index header 7) instances asked.0) in
+    drop-cons header 7 0 (omega (arith, size)) ∙ ap (λ (n : ℕ). n ∷ drop 8 header) (eqb-true (slice_index header 7) instances asked.0) in
     let after_instances : drop 8 header ≡ number_bytes 8 count =
     number_first 8 count (drop 8 header) (IsBytes-drop 8 header are) (omega (arith, size, length-drop 8 header)) number
     ∙ ap (λ (l : List ℕ). number_bytes 8 count ++ l) (drop-drop 8 8 header ∙ drop_of_length-le header {i = 16} (omega (arith, size))) ∙ append-nil (number_bytes 8 count) in

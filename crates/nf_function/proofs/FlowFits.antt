@@ -1,7 +1,8 @@
 -- The flow of a packet whose numbers are within their types is one that functions may have records for.
 use Rattle.std.proofs.Common.{◌≡◌, ◌<◌, ◌-◌, ◌/◌, ◌^◌, ◌&&◌, Bool, true, false, cond, not, nat_lt, nat_le, refl, arith}
 use Rattle.std.proofs.lemmas.Bool.Decides.{nat_tests}
-use Rattle.basics.proofs.BoolLemmas.{both_true, true_five}
+use Rattle.std.proofs.lemmas.Bool.{and_parts}
+use Rattle.basics.proofs.BoolLemmas.{true_five}
 use Rattle.flow_filter.specs.declared.packet.Packet.{Packet}
 use Rattle.flow_filter.specs.declared.site.Site.{Site}
 use Rattle.flow_filter.specs.declared.flow.Flow.{Flow}
@@ -43,7 +44,7 @@ module _ (site : Site) (p : Packet) (fits : Fits site p) where
       IsFlow-cond (is_inside site p.src && not (is_inside site p.dst)) (outward p, Out) _ (λ _. outward_fits)
       (IsFlow-cond (is_inside site p.dst && not (is_inside site p.src)) (inward p, In) _ (λ _. inward_fits)
       (IsFlow-cond (not (is_inside site p.src) && not (is_inside site p.dst) && is_mapped site p) (record (inward p) { local = owner_of_port site p.dport }, In) _
-      (λ h. mapped_fits (both_true (not (is_inside site p.src) && not (is_inside site p.dst)) (is_mapped site p) h).1)
+      (λ h. mapped_fits (and_parts (not (is_inside site p.src) && not (is_inside site p.dst)) (is_mapped site p) h).1)
       (IsFlow-cond (is_source_first p) (outward p, Out) (inward p, In) (λ _. outward_fits) inward_fits)))
 
 is_transport_flow-from : (flow : Flow) → is_transport flow.proto ≡ true → IsFlow flow → is_transport_flow flow ≡ true

@@ -1,6 +1,7 @@
 -- The input so far, one packet more, and the end.
-use Rattle.std.proofs.Common.{◌≡◌, ℕ, ◌+◌, ◌<◌, ◌^◌, eqb, leb, List, ◌∷◌, [], ◌++◌, map, length, drop, refl, ap, sym, ◌∙◌, arith, length-drop}
+use Rattle.std.proofs.Common.{◌≡◌, ℕ, ◌+◌, ◌<◌, ◌^◌, eqb, leb, List, ◌∷◌, [], ◌++◌, map, length, drop, refl, ap, sym, ◌∙◌, arith}
 use Rattle.std.proofs.lemmas.List.{append_assoc}
+use Rattle.basics.proofs.ListLemmas.{no_first}
 use Rattle.flow_filter.specs.declared.packet.Packet.{Packet}
 use Rattle.nf_msgs.specs.declared.msg.Msg.{Msg}
 use Rattle.nf_msgs.specs.declared.msg.Msg.TheVariants.{InPacket, InEnd}
@@ -10,14 +11,6 @@ use Rattle.op_script.specs.Items.{said_where, items_from, items}
 no_packets : (ps : List Packet) → map InPacket ps ≡ [] → ps ≡ []
 no_packets [] none = refl
 no_packets (p ∷ ps) none = absurd (cc)
-
-no_items : {X : Type 0} (xs : List X) → length xs ≡ 0 → xs ≡ []
-no_items [] none = refl
-no_items (x ∷ xs) none = absurd (omega arith)
-
--- a list that is as it is without its first has none
-no_first : {X : Type 0} (xs ys : List X) → xs ≡ ys → ys ≡ drop 1 xs → xs ≡ []
-no_first xs ys same rest = no_items xs (omega (arith, ap length (same ∙ rest), length-drop 1 xs))
 
 -- items that are packets: the first is one, and so are the others
 pub record Split (items rest : List Msg) (item : Msg) (ps : List Packet) : Type 0 where
@@ -52,8 +45,8 @@ so_far_start whole lines waiting out are none = record {
 pub all_written : (whole : List Packet) (lines : List Line) (point : ℕ) (waiting none out : List Msg) → waiting ≡ none → none ≡ drop 1 waiting
     → SoFar whole lines point waiting out → out ++ said_where (λ at. leb (length whole) at) lines ≡ items_from 0 whole lines
 all_written whole lines point waiting none out same rest so_far =
-    let no_items : map InPacket so_far.left ≡ [] = sym so_far.waits ∙ no_first waiting none same rest in
-    let no_left : so_far.left ≡ [] = no_packets so_far.left no_items in
+    let none_wait : map InPacket so_far.left ≡ [] = sym so_far.waits ∙ no_first waiting none same rest in
+    let no_left : so_far.left ≡ [] = no_packets so_far.left none_wait in
     let all : out ++ said_where (λ at. leb point at) lines ≡ items_from 0 whole lines = rw no_left at so_far.same in
     let count : point + length {A = Packet} [] ≡ length whole = rw no_left at so_far.counted in
     let is : length whole ≡ point = omega (arith, count) in

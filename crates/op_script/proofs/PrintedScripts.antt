@@ -1,10 +1,10 @@
 -- The text of a script is read as the script: all lines.
-use Rattle.std.proofs.Common.{◌≡◌, ℕ, ◌+◌, ◌<◌, ◌≤◌, ◌^◌, Bool, true, false, not, cond, eqb, leb, ◌||◌, List, [], ◌∷◌, ◌++◌, zero, suc, length, map, get_or, Option, None, Some, unwrap_or, Ok, refl, ap, sym, ◌∙◌, subst, arith, append_assoc, length-append}
+use Rattle.std.proofs.Common.{◌≡◌, ℕ, ◌+◌, ◌<◌, ◌≤◌, ◌^◌, Bool, true, false, not, cond, eqb, leb, List, [], ◌∷◌, ◌++◌, zero, suc, length, map, get_or, Option, None, Some, unwrap_or, Ok, refl, ap, sym, ◌∙◌, subst, arith, append_assoc, length-append}
 use Rattle.std.specs.Prelude.{codes}
 use Rattle.std.specs.List.{AllByRecursion, join_with_byte, concat, list_all, list_any, prefix_len, slice_index_or}
 use Rattle.std.specs.Str.{bytes_eq}
 use Rattle.std.specs.Fmt.{decimal}
-use Rattle.std.proofs.lemmas.Bool.{and_parts, leb-true, eqb-true, lt-leb, lt-ltb, le-ltb}
+use Rattle.std.proofs.lemmas.Bool.{and_parts, leb-true, eqb-true, lt-leb, lt-ltb, le-ltb, or_parts, false_from_ne_true}
 use Rattle.std.proofs.lemmas.List.{map-append, length-map}
 use Rattle.std.proofs.lemmas.Slice.Eq.{bytes_eq-Decides}
 use Rattle.flow_filter.specs.declared.filter.Filter.{Filter}
@@ -26,28 +26,20 @@ use Rattle.op_script.proofs.PrintedLines.{line_says, lines-joined, route_stateme
 use Rattle.op_script.proofs.PrintedOrders.{event_in, filter_again, order_statement, order_again, order_words_are}
 use Rattle.op_script.proofs.ScriptLineLemmas.{All-append}
 
-neither : (p q : Bool) → (p || q) ≡ false → (p ≡ false) × (q ≡ false)
-neither true q is = absurd cc
-neither false q is = (refl, is)
-
-false_unless : (p : Bool) → (p ≡ true → ⊥) → p ≡ false
-false_unless true never = absurd (never refl)
-false_unless false never = refl
-
 differs : (name other : Word) → bytes_eq other name ≡ false → bytes_eq name other ≡ false
-differs name other is = false_unless (bytes_eq name other) (λ same.
+differs name other is = false_from_ne_true (bytes_eq name other) (λ same.
     let back : bytes_eq other name ≡ true = (bytes_eq-Decides other name).1 (sym ((bytes_eq-Decides name other).0 same)) in cc)
 
 differs_at : (name : Word) (more : List Word) (i : ℕ) → i < length more → list_any (λ other. bytes_eq other name) more ≡ false → bytes_eq name (get_or more i []) ≡ false
 differs_at name [] i below is = absurd (omega arith)
-differs_at name (other ∷ more) zero below is = differs name other (neither (bytes_eq other name) _ is).0
-differs_at name (other ∷ more) (suc i) below is = differs_at name more i (omega arith) (neither (bytes_eq other name) _ is).1
+differs_at name (other ∷ more) zero below is = differs name other (or_parts (bytes_eq other name) _ is).0
+differs_at name (other ∷ more) (suc i) below is = differs_at name more i (omega arith) (or_parts (bytes_eq other name) _ is).1
 
 first_at : (names : List Word) (i : ℕ) → i < length names → has_twice names ≡ false → prefix_len (λ x. not (bytes_eq x (get_or names i []))) names ≡ i
 first_at [] i below once = absurd (omega arith)
 first_at (name ∷ more) zero below once = rw ((bytes_eq-Decides name name).1 refl) refl
 first_at (name ∷ more) (suc i) below once =
-    let p = neither (list_any (λ other. bytes_eq other name) more) (has_twice more) once in
+    let p = or_parts (list_any (λ other. bytes_eq other name) more) (has_twice more) once in
     rw (differs_at name more i (omega arith) p.0) (ap (λ n. 1 + n) (first_at more i (omega arith) p.1) ∙ omega arith)
 
 -- a name stands at its place, where names differ

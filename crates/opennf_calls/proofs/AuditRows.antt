@@ -1,7 +1,7 @@
 -- The rows of an audit, which reads a journal after the script and the capture.
 use Rattle.std.proofs.Common.{◌≡◌, ℕ, List, [], ◌&&◌, true, length, Option, None, Some, is_some, Result, Ok, Err, refl, ap, sym, ◌∙◌, subst}
 use Rattle.std.specs.Prelude.{IsTrue, MatchResult}
-use Rattle.basics.proofs.BoolLemmas.{both_true}
+use Rattle.std.proofs.lemmas.Bool.{and_parts}
 use Rattle.nf_io.specs.declared.outside.Role.{Role}
 use Rattle.nf_io.specs.declared.outside.Role.TheVariants.{Trace, Script, JournalIn, Report, JournalOut, TraceOut, Errors}
 use Rattle.nf_io.specs.Meaning.{Meaning, Rose}
@@ -63,7 +63,7 @@ module _ (s : NetworkAsked) (named : is_some s.journal ≡ true) (scenario : Sce
 
       before : (other : Role) → IsTrue (is_input (asks_audit s) other && is_read_before other JournalIn) → (new other).left ≡ Some []
       before Trace is = (still_read (has.read bytes tells_both)).trace
-      before Script is = (still_read (has.read bytes tells_both)).script (both_true (is_some s.script) true is).0
+      before Script is = (still_read (has.read bytes tells_both)).script (and_parts (is_some s.script) true is).0
       before JournalIn is = absurd (not_before (is_some s.journal) is)
       before Report is = absurd (cc)
       before JournalOut is = absurd (cc)

@@ -11,6 +11,7 @@ use Rattle.flow_filter.specs.Name.{has_twice}
 use Rattle.std.specs.Fmt.{decimal}
 use Rattle.basics.specs.Parsing.{parse_number}
 use Rattle.std.specs.Str.Parse.{digits_value}
+use Rattle.std.proofs.lemmas.Option.{same_Some}
 use Rattle.actor_net.specs.declared.schedule.Schedule.{Schedule}
 use Rattle.opennf_calls.specs.Command.{is_command}
 use Rattle.opennf_calls.specs.Phases.{CanRun}
@@ -26,9 +27,6 @@ only_when : {A : Type 0} (b : Bool) (next : Option A) (y : A) → only b next �
 only_when true next y is = (refl, is)
 only_when false next y is = absurd cc
 
-same_some : {A : Type 0} {x y : A} → Some x ≡ Some y → x ≡ y
-same_some is = cc
-
 -- a number that is read is at most the most
 most_of : (most : ℕ) (text : List ℕ) (n : ℕ) → parse_number most text ≡ Some n → n ≤ most
 unfolding parse_number
@@ -38,17 +36,17 @@ most_of most text n is = by (bytes_eq text (decimal (digits_value 10 text)) && l
         → cond test (Some (digits_value 10 text)) None ≡ Some n → n ≤ most
     by true tested said =
         let parts = and_parts (bytes_eq text (decimal (digits_value 10 text))) (leb (digits_value 10 text) most) tested in
-        subst (λ (k : ℕ). k ≤ most) (same_some said) (leb-true (digits_value 10 text) most parts.1)
+        subst (λ (k : ℕ). k ≤ most) (same_Some _ _ said) (leb-true (digits_value 10 text) most parts.1)
     by false tested said = absurd cc
 
 -- the window that the words give
 window_in : (text : Option (List ℕ)) (w : ℕ) → window_of text ≡ Some w → (1 ≤ w) × (w ≤ 4096)
 unfolding window_of count_of
-window_in None w is = subst (λ (k : ℕ). (1 ≤ k) × (k ≤ 4096)) (same_some is) (leb-true 1 256 refl, leb-true 256 4096 refl)
+window_in None w is = subst (λ (k : ℕ). (1 ≤ k) × (k ≤ 4096)) (same_Some _ _ is) (leb-true 1 256 refl, leb-true 256 4096 refl)
 window_in (Some text) w is =
     let count = and_then _ (parse_number 4096 text) w is in
     let kept = only_when (leb 1 count.0) (Some count.0) w count.2 in
-    subst (λ (k : ℕ). (1 ≤ k) × (k ≤ 4096)) (same_some kept.1) (leb-true 1 count.0 kept.0, most_of 4096 text count.0 count.1)
+    subst (λ (k : ℕ). (1 ≤ k) × (k ≤ 4096)) (same_Some _ _ kept.1) (leb-true 1 count.0 kept.0, most_of 4096 text count.0 count.1)
 
 -- there is a limit and a mark for each name
 pub record AreMany (count : ℕ) (i : Instances) : Type 0 where
@@ -58,12 +56,12 @@ pub record AreMany (count : ℕ) (i : Instances) : Type 0 where
 
 -- each text is an instance
 as_many : (texts : List (List ℕ)) (i : Instances) → all_instances texts ≡ Some i → AreMany (length texts) i
-as_many [] i is = subst (AreMany 0) (same_some is) (record { names = refl; limits = refl; marked = refl })
+as_many [] i is = subst (AreMany 0) (same_Some _ _ is) (record { names = refl; limits = refl; marked = refl })
 as_many (text ∷ more) i is =
     let first = and_then _ (instance_of text) i is in
     let rest = and_then _ (all_instances more) i first.2 in
     let counts = as_many more rest.0 rest.1 in
-    subst (AreMany (suc (length more))) (same_some rest.2)
+    subst (AreMany (suc (length more))) (same_Some _ _ rest.2)
     (record { names = ap suc counts.names; limits = ap suc counts.limits; marked = ap suc counts.marked })
 
 -- there are 1 to 16 instances
@@ -82,7 +80,7 @@ few_of text i is =
     let counts = as_many (slice_split (λ b. eqb b 44) text) all.0 all.1 in
     let parts = length-slice_split (λ b. eqb b 44) text in
     let names = counts.names in
-    subst AreFew (same_some kept.1) (record {
+    subst AreFew (same_Some _ _ kept.1) (record {
       some = omega (arith, names, parts);
       few = leb-true (length all.0.names) 16 few.0;
       limits = counts.limits ∙ sym counts.names;
@@ -101,7 +99,7 @@ values_run g s is =
     let journal = and_then _ (file_if g.journal) s window.2 in
     let trace = and_then _ (option_and_then file_of g.trace) s journal.2 in
     let script = and_then _ (file_if g.script) s trace.2 in
-    let whole = same_some script.2 in
+    let whole = same_Some _ _ script.2 in
     let text = and_then instances_of g.instances list.0 list.1 in
     let few = few_of text.0 list.0 text.2 in
     subst CanRun whole (record { some = few.some; few = few.few; limits = few.limits; marked = few.marked; window = window_in g.window window.0 window.1 })
@@ -113,7 +111,7 @@ checked_few g c is =
     let list = and_then _ (option_and_then instances_of g.instances) c kind.2 in
     let script = and_then _ (option_and_then file_of g.script) c list.2 in
     let text = and_then instances_of g.instances list.0 list.1 in
-    subst (λ (c : CheckAsked). length c.instances.names ≤ 16) (same_some script.2) (few_of text.0 list.0 text.2).few
+    subst (λ (c : CheckAsked). length c.instances.names ≤ 16) (same_Some _ _ script.2) (few_of text.0 list.0 text.2).few
 
 -- what holds of what was asked for
 abbrev pub IsSound : Asked → Type 0
@@ -141,32 +139,32 @@ sim_sound words asked is =
     let g = and_then _ (given_arguments sim_app words) asked is in
     let n = and_then _ (network_values g.0) asked g.2 in
     let s = and_then _ (schedule_of g.0.schedule) asked n.2 in
-    subst (IsAsked false) (same_some s.2) (record { sound = values_run g.0 n.0 n.1; kind = refl })
+    subst (IsAsked false) (same_Some _ _ s.2) (record { sound = values_run g.0 n.0 n.1; kind = refl })
 
 run_sound : (words : List (List ℕ)) (asked : Asked) → run_of words ≡ Some asked → IsAsked true asked
 run_sound words asked is =
     let g = and_then _ (given_arguments run_app words) asked is in
     let n = and_then _ (network_values g.0) asked g.2 in
-    subst (IsAsked true) (same_some n.2) (record { sound = values_run g.0 n.0 n.1; kind = refl })
+    subst (IsAsked true) (same_Some _ _ n.2) (record { sound = values_run g.0 n.0 n.1; kind = refl })
 
 audit_sound : (words : List (List ℕ)) (asked : Asked) → audit_of words ≡ Some asked → IsAsked false asked
 audit_sound words asked is =
     let g = and_then _ (given_arguments run_app words) asked is in
     let n = and_then _ (network_values g.0) asked g.2 in
     let kept = only_when (is_some n.0.journal) (Some (asks_audit n.0)) asked n.2 in
-    subst (IsAsked false) (same_some kept.1) (record { sound = (values_run g.0 n.0 n.1, kept.0); kind = refl })
+    subst (IsAsked false) (same_Some _ _ kept.1) (record { sound = (values_run g.0 n.0 n.1, kept.0); kind = refl })
 
 check_sound : (words : List (List ℕ)) (asked : Asked) → check_of words ≡ Some asked → IsAsked false asked
 check_sound words asked is =
     let g = and_then _ (given_arguments check_app words) asked is in
     let c = and_then _ (check_values g.0) asked g.2 in
-    subst (IsAsked false) (same_some c.2) (record { sound = checked_few g.0 c.0 c.1; kind = refl })
+    subst (IsAsked false) (same_Some _ _ c.2) (record { sound = checked_few g.0 c.0 c.1; kind = refl })
 
 gen_sound : (words : List (List ℕ)) (asked : Asked) → gen_of words ≡ Some asked → IsAsked false asked
 gen_sound words asked is =
     let g = and_then _ (given_arguments gen_app words) asked is in
     let v = and_then _ (gen_values g.0) asked g.2 in
-    subst (IsAsked false) (same_some v.2) (record { sound = tt; kind = refl })
+    subst (IsAsked false) (same_Some _ _ v.2) (record { sound = tt; kind = refl })
 
 -- what the words ask for, by what the command is called
 abbrev by_name : List (List ℕ) → (sim run audit check made : Bool) → Option Asked

@@ -1,7 +1,7 @@
 -- A row stays what it is where files were bound before the command began, and a line went to the standard error after it ended.
 use Rattle.std.proofs.Common.{◌≡◌, ◌≢◌, ℕ, List, Bool, ◌&&◌, Option, None, Some, Result, Ok, Err, refl, ap, ◌∙◌, sym, subst, IsTrue, inl, inr}
 use Rattle.std.specs.Io.KnownBytes.{Appends}
-use Rattle.basics.proofs.BoolLemmas.{both_true}
+use Rattle.std.proofs.lemmas.Bool.{and_parts}
 use Rattle.nf_io.specs.declared.outside.Role.{Role}
 use Rattle.nf_io.specs.declared.outside.Role.TheVariants.{Errors}
 use Rattle.nf_io.specs.Meaning.{Meaning, Rose, AppendsFront}
@@ -83,7 +83,7 @@ module _ (before old mid new : Role → Meaning) (around : Around before old mid
         bound = bound asked row.bound;
         others = results_alone asked row.others;
         after = λ other later.
-            let result = (both_true (is_result asked other) (comes_before role other) later).0 in
+            let result = (and_parts (is_result asked other) (comes_before role other) later).0 in
             same_written other (not_last asked other result) ∙ row.after other later ∙ around.contents.written other;
         results = with_results asked
             (λ made. (made.choices ≡ choices) × AppendsFront (old role).written (mid role).written (made.texts role)
@@ -94,7 +94,7 @@ module _ (before old mid new : Role → Meaning) (around : Around before old mid
               wrote.0,
               (wrote.1.0, wrote.1.1, appends role _ differ wrote.1.2),
               gained asked (λ other. is_result asked other && comes_before other role) made.texts
-                  (λ other is. (both_true (is_result asked other) (comes_before other role) is).0) wrote.2,
+                  (λ other is. (and_parts (is_result asked other) (comes_before other role) is).0) wrote.2,
             )) row.results;
       }
 
@@ -108,7 +108,7 @@ module _ (before old mid new : Role → Meaning) (around : Around before old mid
         let found = row.earlier bytes (λ other is. around.contents.left other ∙ told other is) in
         record {
           read = λ other is.
-              let input = (both_true (is_input asked other) (is_read_before other role) is).0 in
+              let input = (and_parts (is_input asked other) (is_read_before other role) is).0 in
               ap (λ m. m.left) (around.others other (not_errors asked other input)) ∙ found.read other is;
           sound = found.sound;
         };

@@ -1,7 +1,7 @@
 -- From what a command did to the roles that it used to the row of its status, which speaks of all roles.
 use Rattle.std.proofs.Common.{◌≡◌, ◌≢◌, ℕ, List, [], Bool, true, false, ◌&&◌, None, Some, is_some, refl, ap, ◌∙◌, sym, subst, IsTrue, inl, inr}
 use Rattle.std.specs.Io.KnownBytes.{Appends}
-use Rattle.basics.proofs.BoolLemmas.{both_true}
+use Rattle.std.proofs.lemmas.Bool.{and_parts}
 use Rattle.nf_io.specs.declared.outside.Role.{Role}
 use Rattle.nf_io.specs.declared.outside.Role.TheVariants.{Trace, Script, JournalIn, Report, JournalOut, TraceOut, Errors}
 use Rattle.nf_io.specs.Meaning.{Meaning, Rose, AppendsFront}
@@ -59,7 +59,7 @@ module _ (asked : Asked) (role : Role) (one : OneFile asked role) where
   input_alone other input = elim (this_or_other other role) [
     | inl same ↦ same
     | inr differ ↦
-        let file = (both_true (is_read other) (is_some (file_for asked other)) input).1 in
+        let file = (and_parts (is_read other) (is_some (file_for asked other)) input).1 in
         let none : is_some (file_for asked other) ≡ false = ap is_some (one other differ) in absurd (cc)
   ]
 
@@ -194,13 +194,13 @@ module _ (asked : Asked) (old mid new : Role → Meaning) (read : OnlyRead old m
     rose = (gained (front_of text) wrote).1;
     bound = new_bound (front_of text) wrote;
     others = others (front_of text) wrote;
-    after = λ other later. let never = (both_true (is_result asked other) (comes_before Report other) later).1 in absurd (cc);
+    after = λ other later. let never = (and_parts (is_result asked other) (comes_before Report other) later).1 in absurd (cc);
     results = with_texts (front_of text) wrote (λ g. (g.choices ≡ choices) × AppendsFront (old Report).written (new Report).written (g.texts Report)
         × Gained (λ other. is_result asked other && comes_before other Report) g.texts old new) (λ g is. (
           is.is_made,
           subst (λ (t : List ℕ). AppendsFront (old Report).written (new Report).written t) (sym is.report) (gained (front_of text) wrote).0,
           λ other earlier.
-              let parts = both_true (is_result asked other) (comes_before other Report) earlier in
+              let parts = and_parts (is_result asked other) (comes_before other Report) earlier in
               let never : IsTrue (comes_before Report Report) = subst (λ (o : Role). IsTrue (comes_before o Report)) (only other parts.0) parts.1 in absurd (cc),
         ));
   })

@@ -1,6 +1,6 @@
 -- The rows of the commands that run the network: what is wrong with their inputs, what their run gives, and why there is none.
 use Rattle.std.proofs.Common.{◌≡◌, ℕ, List, [], ◌&&◌, true, Option, None, Some, is_some, refl, ap, sym, ◌∙◌, IsTrue}
-use Rattle.basics.proofs.BoolLemmas.{both_true}
+use Rattle.std.proofs.lemmas.Bool.{and_parts}
 use Rattle.nf_io.specs.declared.outside.Role.{Role}
 use Rattle.nf_io.specs.declared.outside.Role.TheVariants.{Trace, Script, JournalIn, Report, JournalOut, TraceOut, Errors}
 use Rattle.nf_io.specs.Meaning.{Meaning}
@@ -90,7 +90,7 @@ script_first s asked reads old new script bytes told = record { read = read; sou
     told_script = record { script = λ named. told Script (ap (λ b. b && true) (reads.script_named ∙ named)) }
 
     read : (other : Role) → IsTrue (is_input asked other && is_read_before other Trace) → (new other).left ≡ Some []
-    read Script is = script.read bytes told_script (sym reads.script_named ∙ (both_true (is_input asked Script) true is).0)
+    read Script is = script.read bytes told_script (sym reads.script_named ∙ (and_parts (is_input asked Script) true is).0)
     read Trace is = absurd (not_before (is_input asked Trace) is)
     read JournalIn is = absurd (not_before (is_input asked JournalIn) is)
     read Report is = absurd (not_before (is_input asked Report) is)

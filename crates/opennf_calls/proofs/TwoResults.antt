@@ -1,7 +1,7 @@
 -- The row of a command that reads its inputs, if it has any, writes one file, and then the report.
 use Rattle.std.proofs.Common.{◌≡◌, ◌≢◌, ℕ, List, false, not, ◌&&◌, is_some, refl, ap, ◌∙◌, sym, subst, IsTrue, ◌⊎◌, inl, inr}
 use Rattle.std.specs.Io.KnownBytes.{Appends}
-use Rattle.basics.proofs.BoolLemmas.{both_true}
+use Rattle.std.proofs.lemmas.Bool.{and_parts}
 use Rattle.nf_io.specs.declared.outside.Role.{Role}
 use Rattle.nf_io.specs.declared.outside.Role.TheVariants.{Report, Errors}
 use Rattle.nf_io.specs.Meaning.{Meaning, Rose, AppendsFront}
@@ -38,7 +38,7 @@ module _ (asked : Asked) (role : Role) (writes : WritesFirst asked role) where
   not_read : (other : Role) → IsTrue (is_input asked other) → other ≢ role
   not_read other input same =
       let here : IsTrue (is_input asked role) = subst (λ (r : Role). IsTrue (is_input asked r)) same input in
-      let read = (both_true (is_read role) (is_some (file_for asked role)) here).0 in
+      let read = (and_parts (is_read role) (is_some (file_for asked role)) here).0 in
       let written = writes.written in cc
 
   a_result : (other : Role) → is_result asked other ≡ false → other ≢ role
@@ -56,7 +56,7 @@ module _ (asked : Asked) (role : Role) (writes : WritesFirst asked role) where
   -- nothing comes before the file, and it doesn't come after itself
   first_of_all : (other : Role) → IsTrue (comes_before other role) → ⊥
   first_of_all other before =
-      let here = (both_true (not (same_role other Report)) (same_role role Report) before).1 in
+      let here = (and_parts (not (same_role other Report)) (same_role role Report) before).1 in
       let differs = writes.differs in cc
 
   module _ (old mid : Role → Meaning) (read : OnlyRead old mid) (bound : IsBound asked old)
@@ -88,7 +88,7 @@ module _ (asked : Asked) (role : Role) (writes : WritesFirst asked role) where
             bound = λ other. names other ∙ read.names other ∙ bound other;
             others = λ other none differ. ap (λ m. m.written) (wrote.others other (a_result other none)) ∙ read.written other;
             after = λ other later. ap (λ m. m.written) (wrote.others other (λ same.
-                let parts = both_true (is_result asked other) (comes_before role other) later in
+                let parts = and_parts (is_result asked other) (comes_before role other) later in
                 first_of_all role (subst (λ (r : Role). IsTrue (comes_before role r)) same parts.1))) ∙ read.written other;
             results = with_texts new (λ other input. wrote.others other (not_read other input))
                 (λ g. (g.choices ≡ choices) × AppendsFront (old role).written (new role).written (g.texts role)
@@ -96,7 +96,7 @@ module _ (asked : Asked) (role : Role) (writes : WritesFirst asked role) where
                   is.is_made,
                   subst (λ (t : List ℕ). AppendsFront (old role).written (new role).written t) (sym is.file)
                       (subst (λ (m : Meaning). AppendsFront m.written (new role).written first) same_file wrote.gains.0),
-                  λ other earlier. absurd (first_of_all other (both_true (is_result asked other) (comes_before other role) earlier).1),
+                  λ other earlier. absurd (first_of_all other (and_parts (is_result asked other) (comes_before other role) earlier).1),
                 ));
           };
           names = λ other. names other ∙ read.names other;
@@ -156,14 +156,14 @@ module _ (asked : Asked) (role : Role) (writes : WritesFirst asked role) where
       rose = (report_gained half new file (front_of second) report).1;
       bound = λ other. names half new file (front_of second) report other ∙ bound other;
       others = others half new file (front_of second) report;
-      after = λ other later. let never = (both_true (is_result asked other) (comes_before Report other) later).1 in absurd (cc);
+      after = λ other later. let never = (and_parts (is_result asked other) (comes_before Report other) later).1 in absurd (cc);
       results = with_texts new (inputs half new file (front_of second) report)
           (λ g. (g.choices ≡ choices) × AppendsFront (old Report).written (new Report).written (g.texts Report)
           × Gained (λ other. is_result asked other && comes_before other Report) g.texts old new) (λ g is. (
             is.is_made,
             subst (λ (t : List ℕ). AppendsFront (old Report).written (new Report).written t) (sym is.report) (report_gained half new file (front_of second) report).0,
             λ other earlier.
-                let parts = both_true (is_result asked other) (comes_before other Report) earlier in
+                let parts = and_parts (is_result asked other) (comes_before other Report) earlier in
                 elim (writes.only other parts.0) [
                   | inl same ↦ subst (λ (r : Role). Appends (old r).written (new r).written (g.texts r)) (sym same) (file_gained half new file (front_of second) report (g.texts role) is.file)
                   | inr same ↦

@@ -1,6 +1,6 @@
 -- The entries that stand in memory as a finite map: its look-ups are theirs.
 use mir.Val.{bool_byte}
-use Rattle.std.proofs.Common.{◌≡◌, ℕ, ◌+◌, ◌^◌, ◌<◌, ◌≤◌, Bool, true, false, cond, List, [], ◌∷◌, length, Option, Some, None, refl, sym, ap, ◌∙◌, arith, is_some}
+use Rattle.std.proofs.Common.{◌≡◌, ℕ, ◌+◌, ◌^◌, ◌<◌, ◌≤◌, Bool, true, false, cond, [], ◌∷◌, length, Option, Some, None, sym, ap, ◌∙◌, arith, is_some}
 use Rattle.std.specs.Prelude.{not}
 use Rattle.std.proofs.lemmas.Bool.{true≢false}
 use Rattle.std.specs.Map.{lookup, update}
@@ -8,10 +8,9 @@ use Rattle.std.specs.FinMap as finite
 use Rattle.std.specs.FinMap.{get-empty, len-empty}
 use Rattle.nf_function.specs.declared.unit.Unit as units
 use Rattle.nf_function.specs.Units.{unit_cmp}
-use Rattle.nf_function.specs.UnitOrder.{units_total}
-use Rattle.unit_map.specs.Entries.{Entries, IsMap, held, record_of, record_at, is_place_of, with_record}
-use Rattle.unit_map.proofs.EntryLemmas.{record_at_place, record_with_record, map_with_record}
-use Rattle.record_table.specs.Table.{Records, same_unit, with_kept}
+use Rattle.unit_map.specs.Entries.{Entries, IsMap, record_of, record_at, is_place_of, with_record}
+use Rattle.unit_map.proofs.EntryLemmas.{record_at_place, record_with_record, map_with_record, held-cond}
+use Rattle.record_table.specs.Table.{same_unit, with_kept}
 use Rattle.record_table.specs.Entries.{map_of}
 use Rattle.record_table.proofs.UnitOrder.{unit_eq, tied, unit_eq_equiv, same_unit_equiv}
 use Rattle.record_table.proofs.RecordLookUps.{same_records, get-with_kept, count, len-with_kept}
@@ -21,16 +20,13 @@ at_most_one_byte true = omega arith
 at_most_one_byte false = omega arith
 
 module _ {R : Type 0} where
-  held_first : (b : Bool) (w : Option R) (o : Option (Option R)) → held (cond b (Some w) o) ≡ cond b w (held o)
-  held_first true w o = refl
-  held_first false w o = refl
 
   pub get-map_of : (es : Entries units.Unit R) (u : units.Unit) → finite.get (map_of es) u ≡ record_of unit_eq es u
   unfolding map_of
   get-map_of [] u = get-empty unit_cmp u
   get-map_of (e ∷ es) u =
       get-with_kept (map_of es) e.0 e.1 u ∙ ap (λ b. cond b e.1 (finite.get (map_of es) u)) (sym (tied u e.0))
-      ∙ ap (cond (unit_eq u e.0) e.1) (get-map_of es u) ∙ sym (held_first (unit_eq u e.0) e.1 (lookup (unit_eq u) es))
+      ∙ ap (cond (unit_eq u e.0) e.1) (get-map_of es u) ∙ sym (held-cond (unit_eq u e.0) e.1 (lookup (unit_eq u) es))
 
   pub map_of-same : (old new : Entries units.Unit R) → ((u : units.Unit) → record_of unit_eq new u ≡ record_of unit_eq old u) → map_of new ≡ map_of old
   map_of-same old new same = same_records (map_of new) (map_of old) (λ u. get-map_of new u ∙ same u ∙ sym (get-map_of old u))

@@ -1,8 +1,8 @@
 -- The records that are found among entries, sorted by their units, are those of the finite map in its order.
-use Rattle.std.proofs.Common.{◌≡◌, ℕ, ◌+◌, ◌<◌, ◌≤◌, Bool, true, false, cond, ◌&&◌, List, [], ◌∷◌, ◌++◌, map, length, take, get_or, Option, Some, None, Bor, refl, sym, ap, subst, ◌∙◌, arith, is_some, append-nil}
+use Rattle.std.proofs.Common.{◌≡◌, ℕ, ◌+◌, ◌<◌, Bool, true, false, cond, List, [], ◌∷◌, ◌++◌, map, length, take, get_or, Option, Some, None, Bor, refl, sym, ap, subst, ◌∙◌, append-nil}
 use Rattle.std.proofs.lemmas.List.{take_more, map-append}
 use Rattle.std.proofs.lemmas.List.Elements.{filter_map-append}
-use Rattle.std.specs.List.{filter_map, cons_option}
+use Rattle.std.specs.List.{cons_option}
 use Rattle.flow_filter.specs.declared.filter.Filter.{Filter}
 use Rattle.nf_function.specs.declared.unit.Unit as units
 use Rattle.unit_map.specs.Entries.{Entries, held, record_of}
@@ -13,7 +13,7 @@ use Rattle.std.proofs.lemmas.Map.Keys.{IsDistinct-head, IsDistinct-tail, IsDisti
 use Rattle.std.specs.FinMap as finite
 use Rattle.std.specs.FinMap.{get-retain_keys}
 use Rattle.nf_function.specs.Units.{unit_cmp}
-use Rattle.unit_map.proofs.EntryLemmas.{lookup_alike}
+use Rattle.unit_map.proofs.EntryLemmas.{lookup_alike, held-cond}
 use Rattle.record_table.specs.Table.{Records, same_unit}
 use Rattle.record_table.specs.Entries.{map_of}
 use Rattle.record_table.proofs.EntryMaps.{get-map_of}
@@ -94,23 +94,19 @@ module _ {R : Type 0} (filter : Option Filter) where
   left_out true c r o l same rest = rest ∙ rw (same refl) refl
   left_out false c r o l same rest = rest
 
-  held_first : (b : Bool) (w : Option R) (o : Option (Option R)) → held (cond b (Some w) o) ≡ cond b w (held o)
-  held_first true w o = refl
-  held_first false w o = refl
-
   -- a list of what is found has what the map has for such units
   at_found : (es : Entries units.Unit R) (q : units.Unit) → IsDistinct unit_eq (keys_of es) → at (all_found filter es) q ≡ cond (is_taken filter q) (record_of unit_eq es q) None
   at_found [] q d = sym (nothing_left (is_taken filter q) None refl)
   at_found ((u, None) ∷ es) q d =
       passed_over (unit_eq q u) (is_taken filter q) _ (record_of unit_eq es q) (not_there u q es d) (at_found es q (IsDistinct-tail unit_eq u (keys_of es) d))
-      ∙ ap (λ o. cond (is_taken filter q) o None) (sym (held_first (unit_eq q u) None (lookup (unit_eq q) es)))
+      ∙ ap (λ o. cond (is_taken filter q) o None) (sym (held-cond (unit_eq q u) None (lookup (unit_eq q) es)))
   at_found ((u, Some r) ∷ es) q d = elim (is_taken filter u) as (λ t. is_taken filter u ≡ t
       → at (cons_option (cond t (Some (u, r)) None) (all_found filter es)) q ≡ cond (is_taken filter q) (record_of unit_eq ((u, Some r) ∷ es) q) None) [
         | true ↦ λ h. ap (λ b. cond b (Some r) (at (all_found filter es) q)) (sym (tied q u))
             ∙ taken_up (unit_eq q u) (is_taken filter q) r _ (record_of unit_eq es q) (λ s. one_test filter u q s ∙ h) (at_found es q (IsDistinct-tail unit_eq u (keys_of es) d))
-            ∙ ap (λ o. cond (is_taken filter q) o None) (sym (held_first (unit_eq q u) (Some r) (lookup (unit_eq q) es)))
+            ∙ ap (λ o. cond (is_taken filter q) o None) (sym (held-cond (unit_eq q u) (Some r) (lookup (unit_eq q) es)))
         | false ↦ λ h. left_out (unit_eq q u) (is_taken filter q) r _ (record_of unit_eq es q) (λ s. one_test filter u q s ∙ h) (at_found es q (IsDistinct-tail unit_eq u (keys_of es) d))
-            ∙ ap (λ o. cond (is_taken filter q) o None) (sym (held_first (unit_eq q u) (Some r) (lookup (unit_eq q) es)))
+            ∙ ap (λ o. cond (is_taken filter q) o None) (sym (held-cond (unit_eq q u) (Some r) (lookup (unit_eq q) es)))
       ] refl
 
   pub found_at : (es : Entries units.Unit R) (q : units.Unit) → IsDistinct unit_eq (keys_of es) → at (all_found filter es) q ≡ finite.get (taken filter (map_of es)) q

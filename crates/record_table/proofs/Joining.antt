@@ -1,7 +1,6 @@
 -- One more entry taken in from the end of what is left leaves what all entries give.
-use Rattle.std.proofs.Common.{◌≡◌, ℕ, zero, suc, Bool, true, false, cond, List, [], ◌∷◌, ◌++◌, Option, Some, None, refl, sym, ap, ◌∙◌, arith, length-append, length}
-use Rattle.std.proofs.lemmas.Bool.{true≢false}
-use Rattle.std.proofs.lemmas.Map.Keys.{IsDistinct-head, IsDistinct-tail, IsDistinct-cons}
+use Rattle.std.proofs.Common.{◌≡◌, ℕ, zero, suc, Bool, true, false, cond, List, [], ◌∷◌, ◌++◌, Option, Some, None, refl, sym, ap, ◌∙◌, arith, length}
+use Rattle.std.proofs.lemmas.Map.Keys.{IsDistinct-head, IsDistinct-tail}
 use Rattle.std.specs.List.{IsDistinct, AllByRecursion, AllZip}
 use Rattle.std.specs.Map.{lookup, keys_of}
 use Rattle.std.specs.FinMap as finite
@@ -9,7 +8,7 @@ use Rattle.std.specs.FinMap.{get-empty}
 use Rattle.nf_function.specs.declared.unit.Unit as units
 use Rattle.nf_function.specs.Units.{unit_cmp}
 use Rattle.unit_map.specs.Entries.{Entries, held, record_of, is_place_of, with_record}
-use Rattle.unit_map.proofs.EntryLemmas.{keys_added, lookup_added}
+use Rattle.unit_map.proofs.EntryLemmas.{keys_added, lookup_added, held-cond}
 use Rattle.record_table.specs.Table.{Records, same_unit, with_kept, either, joined}
 use Rattle.record_table.specs.Entries.{map_of}
 use Rattle.record_table.proofs.UnitOrder.{unit_eq, unit_eq_equiv, tied, same_unit-true, same_unit_equiv}
@@ -68,14 +67,10 @@ module _ {R : Type 0} where
   same_places (e ∷ es) (suc i) o zero u = refl
   same_places (e ∷ es) (suc i) o (suc place) u = same_places es i o place u
 
-  held_last : (b : Bool) (o : Option R) (l : Option (Option R)) → held (cond b (Some o) l) ≡ cond b o (held l)
-  held_last true o l = refl
-  held_last false o l = refl
-
   get-last : (es : Entries units.Unit R) (u : units.Unit) (o : Option R) (q : units.Unit) → lookup (unit_eq u) es ≡ None
       → finite.get (map_of (es ++ (u, o) ∷ [])) q ≡ cond (same_unit q u) o (finite.get (map_of es) q)
   get-last es u o q absent =
-      get-map_of (es ++ (u, o) ∷ []) q ∙ ap held (lookup_added unit_eq unit_eq_equiv q u o es absent) ∙ held_last (unit_eq u q) o (lookup (unit_eq q) es)
+      get-map_of (es ++ (u, o) ∷ []) q ∙ ap held (lookup_added unit_eq unit_eq_equiv q u o es absent) ∙ held-cond (unit_eq u q) o (lookup (unit_eq q) es)
       ∙ ap (λ b. cond b o (record_of unit_eq es q)) (tied u q ∙ same_unit_equiv.symm u q) ∙ ap (cond (same_unit q u) o) (sym (get-map_of es q))
 
   -- an entry of a unit that has none is put in

@@ -1,7 +1,6 @@
 -- Chunks that were made of records spell them again, and none of them is bad.
-use Rattle.std.proofs.Common.{◌≡◌, ℕ, ◌+◌, ◌<◌, Bool, Bor, true, false, cond, List, [], ◌∷◌, map, length, get_or, Option, None, Some, refl, sym, ap, subst, ◌∙◌, arith, is_some, add-one}
-use Rattle.std.specs.Prelude.{T, ◌&&◌}
-use Rattle.std.proofs.lemmas.Bool.{true≢false}
+use Rattle.std.proofs.Common.{◌≡◌, ℕ, ◌+◌, ◌<◌, Bor, true, false, cond, List, [], ◌∷◌, map, length, get_or, Option, None, Some, refl, sym, ap, subst, ◌∙◌, is_some, add-one}
+use Rattle.std.specs.Prelude.{T}
 use Rattle.std.proofs.lemmas.List.{length-map}
 use Rattle.std.proofs.Math.ListN.{get_or-map}
 use Rattle.std.proofs.lemmas.List.Elements.{All-head, All-tail}
@@ -17,6 +16,7 @@ use Rattle.std.specs.Result.{result_ok}
 use Rattle.std.specs.FinMap as finite
 use Rattle.std.specs.FinMap.{is_sorted, entries_sorted, get-from_entries, get-entries, len-empty, len-insert}
 use Rattle.std.specs.FinMap.Entries.{below_all}
+use Rattle.std.proofs.Math.Facts.{and_yes}
 use Rattle.nf_function.specs.declared.chunk.Chunk.{Chunk}
 use Rattle.nf_function.specs.declared.unit.Unit as units
 use Rattle.nf_function.specs.Units.{unit_cmp}
@@ -26,18 +26,10 @@ use Rattle.nf_function.specs.Records.{Laws}
 use Rattle.state_chunk.specs.Format.{record_chunk}
 use Rattle.state_chunk.proofs.RecordLemmas.{record_read-record_bytes}
 use Rattle.record_table.specs.Table.{Records, same_unit, AreSound}
-use Rattle.record_table.specs.Chunks.{spelled, records_of, are_good, chunks_of, AreMadeOf, AreReadAs}
+use Rattle.record_table.specs.Chunks.{spelled, records_of, chunks_of, AreMadeOf, AreReadAs}
 use Rattle.record_table.proofs.UnitOrder.{same_unit_equiv}
 use Rattle.record_table.proofs.ChunkFronts.{equal_to}
 use Rattle.record_table.proofs.RecordLookUps.{same_records, at}
-
-left_true : (a b : Bool) → T (a && b) → T a
-left_true true b h = tt
-left_true false b h = h
-
-right_true : (a b : Bool) → T (a && b) → T b
-right_true true b h = h
-right_true false b h = absurd h
 
 apart_less : (o : Ordering) → T (is_lt o) → is_eq o ≡ false
 apart_less Less h = refl
@@ -69,13 +61,13 @@ module _ {R : Type 0} where
   apart_below : (u : units.Unit) (es : List (units.Unit × R)) → T (below_all unit_cmp u es) → AllByRecursion (λ v. same_unit u v ≡ false) (keys_of es)
   apart_below u [] h = tt
   apart_below u (e ∷ es) h =
-      (apart_less (unit_cmp u e.0) (left_true (is_lt (unit_cmp u e.0)) (below_all unit_cmp u es) h), apart_below u es (right_true (is_lt (unit_cmp u e.0)) (below_all unit_cmp u es) h))
+      (apart_less (unit_cmp u e.0) (and_yes (is_lt (unit_cmp u e.0)) (below_all unit_cmp u es) h).0, apart_below u es (and_yes (is_lt (unit_cmp u e.0)) (below_all unit_cmp u es) h).1)
 
   distinct_sorted : (es : List (units.Unit × R)) → T (is_sorted unit_cmp es) → IsDistinct same_unit (keys_of es)
   unfolding IsDistinct
   distinct_sorted [] h = tt
   distinct_sorted (e ∷ es) h =
-      (apart_below e.0 es (left_true (below_all unit_cmp e.0 es) (is_sorted unit_cmp es) h), distinct_sorted es (right_true (below_all unit_cmp e.0 es) (is_sorted unit_cmp es) h))
+      (apart_below e.0 es (and_yes (below_all unit_cmp e.0 es) (is_sorted unit_cmp es) h).0, distinct_sorted es (and_yes (below_all unit_cmp e.0 es) (is_sorted unit_cmp es) h).1)
 
   -- each unit stands once in the entries of a map
   pub distinct_entries : (m : Records R) → IsDistinct same_unit (keys_of (finite.entries m))

@@ -12,6 +12,7 @@ use Rattle.flow_filter.specs.Flow.{flow_cmp}
 use Rattle.nf_function.specs.declared.unit.Unit as units
 use Rattle.nf_function.specs.declared.unit.Unit.TheVariants.{Flow as OfFlow, Host as OfHost}
 use Rattle.nf_function.specs.Units.{unit_cmp}
+use Rattle.nf_function.proofs.StoredNumbers.{ordering_then-assoc}
 use Rattle.record_table.specs.declared.ordered.Found.{Found}
 use Rattle.record_table.specs.Keeping.{AreWithin, IsWithin, flow_number, unit_number, IsNumbered, pairs_of}
 
@@ -43,11 +44,6 @@ two_64 a b c d small other Greater p first second = omega (arith, first, small, 
 rank : (x y : ℕ) → MatchOrdering (nat_cmp x y) (x < y) (x ≡ y) (y < x)
 rank x y = ranked x y (nat_cmp x y) refl
 
-then_then : (a b c : Ordering) → ordering_then (ordering_then a b) c ≡ ordering_then a (ordering_then b c)
-then_then Less b c = refl
-then_then Equal b c = refl
-then_then Greater b c = refl
-
 flows : (a b : Flow) → AreWithin a → AreWithin b → flow_cmp a b ≡ nat_cmp (flow_number a) (flow_number b)
 flows a b v w =
     let proto = nat_cmp a.proto b.proto in
@@ -60,7 +56,7 @@ flows a b v w =
     let far = two_16 a.remote a.rport b.remote b.rport v.rport w.rport remote rport (rank a.remote b.remote) (rank a.rport b.rport) in
     let whole = two_64 ((a.proto * 2 ^ 32 + a.local) * 2 ^ 16 + a.lport) (a.remote * 2 ^ 16 + a.rport) ((b.proto * 2 ^ 32 + b.local) * 2 ^ 16 + b.lport) (b.remote * 2 ^ 16 + b.rport)
     (omega (arith, v.remote, v.rport)) (omega (arith, w.remote, w.rport)) (ordering_then (ordering_then proto local) lport) (ordering_then remote rport) near far in
-    sym (then_then proto local (ordering_then lport (ordering_then remote rport))) ∙ sym (then_then (ordering_then proto local) lport (ordering_then remote rport))
+    sym (ordering_then-assoc proto local (ordering_then lport (ordering_then remote rport))) ∙ sym (ordering_then-assoc (ordering_then proto local) lport (ordering_then remote rport))
     ∙ nat_cmp_is (flow_number a) (flow_number b) (ordering_then (ordering_then (ordering_then proto local) lport) (ordering_then remote rport)) whole
 
 below_hosts : (a : Flow) → AreWithin a → (host : ℕ) → flow_number a < (2 ^ 56 + host) * 2 ^ 64

@@ -1,22 +1,22 @@
 -- A list of entries that is sorted by its keys, each of which stands once, is that of the finite map with the same look-ups.
-use Rattle.std.proofs.Common.{◌≡◌, ℕ, ◌+◌, ◌<◌, ◌≤◌, Bool, true, false, cond, ◌&&◌, List, [], ◌∷◌, map, length, get_or, Option, Some, None, refl, sym, ap, subst, ◌∙◌, arith, is_some}
+use Rattle.std.proofs.Common.{◌≡◌, ◌+◌, ◌<◌, Bool, true, false, cond, List, [], ◌∷◌, length, get_or, Option, Some, None, refl, sym, ap, subst, ◌∙◌, arith}
 use Rattle.std.specs.Prelude.{T, not, filter, suc}
 use Rattle.std.proofs.Math.ListN.{get_or-map}
 use Rattle.std.proofs.lemmas.List.{length-map}
 use Rattle.std.proofs.lemmas.Bool.{true≢false}
-use Rattle.std.proofs.lemmas.Map.Keys.{sorted_from_all_adjacent, sorted_head, sorted_tail, apart_from_distinct, IsDistinct-IsPermutation}
+use Rattle.std.proofs.lemmas.Map.Keys.{sorted_from_all_adjacent, sorted_head, sorted_tail, apart_from_distinct}
 use Rattle.std.proofs.lemmas.Map.Views.{Contains-from_lookup, lookup-from_Contains}
-use Rattle.std.proofs.lemmas.List.Sorted.{IsPermutation-map, IsPermutation-sym, Contains-permutation}
+use Rattle.std.proofs.lemmas.List.Sorted.{IsPermutation-sym, Contains-permutation}
 use Rattle.std.specs.List.{IsDistinct, AllByRecursion}
 use Rattle.std.specs.List.Sorted.{IsPermutation, IsStrictlySortedBy, IsSortedByKey}
-use Rattle.std.specs.Map.{lookup, keys_of}
-use Rattle.std.specs.Cmp.{IsTotalOrder, IsEquivalence}
-use Rattle.std.specs.Ordering.{eq_by_cmp, is_lt, is_eq, ordering_reverse}
+use Rattle.std.specs.Map.{keys_of}
+use Rattle.std.specs.Ordering.{is_lt, is_eq, ordering_reverse}
 use Rattle.std.specs.declared.cmp.Ordering.{Ordering}
 use Rattle.std.specs.declared.cmp.Ordering.TheVariants.{Less, Equal, Greater}
 use Rattle.std.specs.FinMap as finite
 use Rattle.std.specs.FinMap.{is_sorted, entries_sorted, entries-from_sorted, get-from_sorted, get-entries, get-retain_keys, len-entries}
 use Rattle.std.specs.FinMap.Entries.{below_all, where_key, is_sorted-where_key, find-where_key}
+use Rattle.std.proofs.Math.Facts.{yes_and}
 use Rattle.nf_function.specs.declared.unit.Unit as units
 use Rattle.nf_function.specs.Units.{unit_cmp}
 use Rattle.nf_function.specs.UnitOrder.{units_total}
@@ -29,10 +29,6 @@ less_from : (a b : Ordering) → a ≡ ordering_reverse b → is_lt a ≡ false 
 less_from a Less turned not_less apart = refl
 less_from a Equal turned not_less apart = absurd (true≢false apart)
 less_from a Greater turned not_less apart = absurd (true≢false (sym (ap is_lt turned) ∙ not_less))
-
-both : (a b : Bool) → T a → T b → T (a && b)
-both true b p q = q
-both false b p q = p
 
 some_same : {X : Type 0} (o p : Option X) → ((x : X) → o ≡ Some x → p ≡ Some x) → ((x : X) → p ≡ Some x → o ≡ Some x) → o ≡ p
 some_same None None there back = refl
@@ -56,12 +52,12 @@ strictly {X} (x ∷ xs) sorted distinct = sorted_from_all_adjacent units_total (
 module _ {R : Type 0} where
   below_from : (x : units.Unit) (es : List (units.Unit × R)) → AllByRecursion (λ y. unit_cmp x y ≡ Less) (keys_of es) → T (below_all unit_cmp x es)
   below_from x [] all = tt
-  below_from x (e ∷ es) all = both (is_lt (unit_cmp x e.0)) (below_all unit_cmp x es) (subst (λ o. T (is_lt o)) (sym all.0) tt) (below_from x es all.1)
+  below_from x (e ∷ es) all = yes_and (is_lt (unit_cmp x e.0)) (below_all unit_cmp x es) (subst (λ o. T (is_lt o)) (sym all.0) tt) (below_from x es all.1)
 
   sorted_from : (es : List (units.Unit × R)) → IsStrictlySortedBy unit_cmp (keys_of es) → T (is_sorted unit_cmp es)
   sorted_from [] s = tt
   sorted_from (e ∷ es) s =
-      both (below_all unit_cmp e.0 es) (is_sorted unit_cmp es) (below_from e.0 es (sorted_head unit_cmp e.0 (keys_of es) s)) (sorted_from es (sorted_tail unit_cmp e.0 (keys_of es) s))
+      yes_and (below_all unit_cmp e.0 es) (is_sorted unit_cmp es) (below_from e.0 es (sorted_head unit_cmp e.0 (keys_of es) s)) (sorted_from es (sorted_tail unit_cmp e.0 (keys_of es) s))
 
   -- lists of the same entries are looked up alike
   pub at-permuted : (es ds : List (units.Unit × R)) → IsDistinct same_unit (keys_of es) → IsDistinct same_unit (keys_of ds) → IsPermutation es ds → (q : units.Unit) → at es q ≡ at ds q

@@ -1,13 +1,12 @@
 -- The ways to tell units apart agree: by their fields, by their order, and by being one.
 use Rattle.std.proofs.Common.{◌≡◌, Bool, true, refl, ap, sym, ◌∙◌, rules}
 use Rattle.std.proofs.lemmas.Bool.{true≢false}
-use Rattle.std.specs.Cmp.{IsEquivalence, eq_by_cmp_equiv}
+use Rattle.std.specs.Cmp.{IsEquivalence, eq_by_cmp_equiv, Equal-is}
 use Rattle.std.specs.Cmp.Rules.{comparing}
 use Rattle.std.specs.FinMap.{IsAntisymmetric, nat_cmp-IsAntisymmetric}
 use Rattle.std.specs.Ordering.{nat_cmp, ordering_then, is_eq}
 use Rattle.std.specs.declared.cmp.Ordering.{Ordering}
 use Rattle.std.specs.declared.cmp.Ordering.TheVariants.{Less, Equal, Greater}
-use Rattle.flow_filter.specs.declared.flow.Flow.{Flow}
 use Rattle.flow_filter.specs.Flow.{flow_cmp}
 use Rattle.nf_function.specs.contracts.unit.UnitPartialEq.TheImpl.{eq-value}
 use Rattle.nf_function.specs.declared.unit.Unit as units
@@ -52,13 +51,8 @@ one_unit (OfFlow a) (OfHost b) h = absurd (true≢false (sym (ap is_eq h)))
 one_unit (OfHost a) (OfFlow b) h = absurd (true≢false (sym (ap is_eq h)))
 one_unit (OfHost a) (OfHost b) h = ap OfHost (nat_cmp-IsAntisymmetric a b h)
 
-is_equal : (o : Ordering) → is_eq o ≡ true → o ≡ Equal
-is_equal Less h = absurd (true≢false (sym h))
-is_equal Equal h = refl
-is_equal Greater h = absurd (true≢false (sym h))
-
 pub same_unit-true : (a b : units.Unit) → same_unit a b ≡ true → a ≡ b
-same_unit-true a b h = one_unit a b (is_equal (unit_cmp a b) h)
+same_unit-true a b h = one_unit a b ((Equal-is (unit_cmp a b)).0 h)
 
 pub unit_eq_equiv : IsEquivalence unit_eq
 unit_eq_equiv = record {

@@ -1,11 +1,12 @@
 -- The commands of a script's lines: their numbers rise, and each is of whole units and names different instances.
-use Rattle.std.proofs.Common.{◌≡◌, ℕ, suc, ◌+◌, ◌<◌, ◌≤◌, Bool, true, false, true≢false, ◌&&◌, ◌||◌, Some, None, List, [], ◌∷◌, map, length, eqb, eqb-true, leb, Ok, refl, sym, subst, ◌∙◌, arith}
+use Rattle.std.proofs.Common.{◌≡◌, ℕ, suc, ◌+◌, ◌<◌, ◌≤◌, Bool, true, false, true≢false, ◌&&◌, Some, None, List, [], ◌∷◌, map, length, eqb, eqb-true, leb, Ok, refl, sym, subst, ◌∙◌, arith}
 use Rattle.std.specs.Prelude.{All, if◌then◌else◌, not}
 use Rattle.std.specs.List.{AllByRecursion, list_any}
 use Rattle.std.specs.Str.{bytes_eq}
 use Rattle.std.proofs.lemmas.Bool.Decides.{nat_tests}
 use Rattle.std.proofs.lemmas.Slice.Eq.{bytes_eq-Decides}
 use Rattle.std.proofs.lemmas.List.Elements.{All-cons, All-nil, All-head, All-tail}
+use Rattle.std.proofs.lemmas.Bool.{and_parts, or_parts}
 use Rattle.flow_filter.specs.declared.filter.Filter.{Filter}
 use Rattle.flow_filter.specs.declared.packet.Packet.{Packet}
 use Rattle.flow_filter.specs.Filter.{IsFilter}
@@ -25,7 +26,7 @@ use Rattle.op_script.specs.Items.{IsFrom}
 use Rattle.op_script.specs.Reading.{ends_of, unless, route_view, line_view, what_view, order_view}
 use Rattle.op_script.specs.Printing.{IsRoute, IsLine, IsWhat, IsOrder, OrderFits, WhatFits, next_after, and_then, follows, what_splits, order_splits}
 use Rattle.op_script.proofs.JudgedLemmas.{unless_Ok}
-use Rattle.net_world.specs.Input.{IsRising, IsWhole, IsProper, AreMembers, is_unlike, are_unlike}
+use Rattle.net_world.specs.Input.{IsRising, IsWhole, IsProper, is_unlike, are_unlike}
 use Rattle.run_input.proofs.SaidCommands.{with_command, line_commands}
 
 -- Numbers that rise.
@@ -52,18 +53,13 @@ followed next (what.Command command) test h = elim (eqb command.op next) as (λ 
   | false ↦ λ other more. absurd cc
 ] refl h
 
-both : (a b : Bool) → (a && b) ≡ true → (a ≡ true) × (b ≡ true)
-both true true h = (refl, refl)
-both true false h = absurd cc
-both false b h = absurd cc
-
 record Goes (last number : ℕ) (line : Line) (more : List Line) : Type 0 where
   far : last ≤ line.at
   next : Followed number line.what (λ n. follows line.at n (map line_view more))
 
 goes : (last next : ℕ) (line : Line) (more : List Line) → follows last next (map line_view (line ∷ more)) ≡ true → Goes last next line more
 goes last next line more h =
-    let two = both (leb last line.at) _ h in
+    let two = and_parts (leb last line.at) _ h in
     let far = two.0 in
     record { far = grind (arith, nat_tests, far); next = followed next line.what _ two.1 }
 
@@ -92,10 +88,6 @@ names_differ source target is =
     let first = unless_Ok (not (is_name source && is_name target)) bad.Name (unless (bytes_eq source target) bad.SameInstance (Ok (source, target))) (source, target) is in
     (unless_Ok (bytes_eq source target) bad.SameInstance (Ok (source, target)) (source, target) first.1).0
 
-either : (a b : Bool) → (a || b) ≡ false → (a ≡ false) × (b ≡ false)
-either true b h = absurd cc
-either false b h = (refl, h)
-
 -- A share's members.
 turned : (a b : Word) → bytes_eq a b ≡ false → bytes_eq b a ≡ false
 turned a b differ = elim (bytes_eq b a) as (λ c. bytes_eq b a ≡ c → c ≡ false) [
@@ -106,14 +98,14 @@ turned a b differ = elim (bytes_eq b a) as (λ c. bytes_eq b a ≡ c → c ≡ f
 one_unlike : (name : Word) (more : List Word) → list_any (λ other. bytes_eq other name) more ≡ false → is_unlike name more ≡ true
 one_unlike name [] once = refl
 one_unlike name (other ∷ more) once =
-    let two = either (bytes_eq other name) (list_any (λ other. bytes_eq other name) more) once in
+    let two = or_parts (bytes_eq other name) (list_any (λ other. bytes_eq other name) more) once in
     let differ : bytes_eq name other ≡ false = turned other name two.0 in
     rw differ (one_unlike name more two.1)
 
 all_unlike : (names : List Word) → has_twice names ≡ false → are_unlike names ≡ true
 all_unlike [] once = refl
 all_unlike (name ∷ more) once =
-    let two = either (list_any (λ other. bytes_eq other name) more) (has_twice more) once in
+    let two = or_parts (list_any (λ other. bytes_eq other name) more) (has_twice more) once in
     rw (one_unlike name more two.0) (all_unlike more two.1)
 
 module _ (kind : Kind) where

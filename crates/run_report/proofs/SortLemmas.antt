@@ -6,17 +6,9 @@ use Rattle.std.specs.List.Sorted.{IsSortedBy, IsSortedByKey, IsStableByKey, ties
 use Rattle.std.specs.Cmp.{IsTotalOrder, IsStrictWeakOrder}
 use Rattle.std.specs.Ordering.{is_lt}
 use Rattle.std.specs.declared.cmp.Ordering.{Ordering}
-use Rattle.std.proofs.lemmas.Bool.{true≢false}
+use Rattle.std.proofs.lemmas.Bool.{true≢false, true_from_ne_false, false_from_ne_true}
 use Rattle.std.proofs.lemmas.List.Sorted.{ranks_by}
 use Rattle.run_report.specs.Sorting.{put_in, sorted_by}
-
-true_unless : (b : Bool) → (b ≡ false → ⊥) → b ≡ true
-true_unless true f = refl
-true_unless false f = absurd (f refl)
-
-false_unless : (b : Bool) → (b ≡ true → ⊥) → b ≡ false
-false_unless true f = absurd (f refl)
-false_unless false f = refl
 
 self_false : (b : Bool) → (b ≡ true → b ≡ false) → b ≡ false
 self_false true f = f refl
@@ -73,11 +65,11 @@ module _ {X : Type 0} (lt : X → X → Bool) where
   none_tie : IsStrictWeakOrder lt → (y z : X) (zs : List X) → lt y z ≡ true → AllByRecursion (λ w. lt w z ≡ false) zs → filter (ties lt y) zs ≡ []
   none_tie o y z [] less all = refl
   none_tie o y z (w ∷ zs) less all =
-      let below : lt y w ≡ true = true_unless (lt y w) (λ h. true≢false (sym less ∙ o.chain y w z h all.0)) in
+      let below : lt y w ≡ true = true_from_ne_false (lt y w) (λ h. true≢false (sym less ∙ o.chain y w z h all.0)) in
       rw below (none_tie o y z zs less all.1)
 
   not_below : IsStrictWeakOrder lt → (y z : X) (ys zs : List X) → IsUp (z ∷ zs) → filter (ties lt y) (y ∷ ys) ≡ filter (ties lt y) (z ∷ zs) → lt y z ≡ false
-  not_below o y z ys zs up same = false_unless (lt y z) (λ less.
+  not_below o y z ys zs up same = false_from_ne_true (lt y z) (λ less.
       let none : filter (ties lt y) (z ∷ zs) ≡ [] = none_tie o y z (z ∷ zs) less (irreflexive o z, up.0) in
       let one : y ∷ filter (ties lt y) ys ≡ [] = rw (self_ties o y) at (same ∙ none) in
       cc)

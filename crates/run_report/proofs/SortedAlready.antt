@@ -7,26 +7,15 @@ use Rattle.std.specs.declared.cmp.Ordering.TheVariants.{Less, Equal, Greater}
 use Rattle.std.specs.FinMap as finite
 use Rattle.std.specs.FinMap.{is_sorted, entries_sorted}
 use Rattle.std.specs.FinMap.Entries.{below_all}
-use Rattle.std.proofs.lemmas.Bool.{true≢false, false≢true, le-leb, le-ltb, leb-true}
+use Rattle.std.proofs.lemmas.Bool.{true≢false, le-leb, le-ltb, leb-true, and_parts}
 use Rattle.std.proofs.lemmas.List.{append-nil}
+use Rattle.std.proofs.Math.Facts.{and_yes}
 use Rattle.nf_function.specs.declared.unit.Unit as units
 use Rattle.nf_function.specs.Units.{unit_cmp}
 use Rattle.nf_function.specs.UnitOrder.{units_total}
 use Rattle.record_table.specs.Table.{part}
 use Rattle.run_report.specs.Lines.{NamedInstance, NamedRecord, named_records, by_unit}
 use Rattle.run_report.specs.Sorting.{put_in, sorted_by}
-
-left_true : (a b : Bool) → T (a && b) → T a
-left_true true b h = tt
-left_true false b h = h
-
-right_true : (a b : Bool) → T (a && b) → T b
-right_true true b h = h
-right_true false b h = absurd h
-
-both_true : (a b : Bool) → (a && b) ≡ true → (a ≡ true) × (b ≡ true)
-both_true true b h = (refl, h)
-both_true false b h = absurd (false≢true h)
 
 -- what is less isn't less when turned round
 turned_later : (a b : Ordering) → a ≡ ordering_reverse b → T (is_lt b) → is_lt a ≡ false
@@ -56,12 +45,12 @@ module _ {X : Type 0} where
   put_first : (x : ℕ × X) (xs : List (ℕ × X)) → rises x.0 xs ≡ true → put_in (λ y. y.0) nat_cmp x xs ≡ x ∷ xs
   put_first x [] up = refl
   put_first x (y ∷ xs) up =
-      ap (λ b. cond b (y ∷ put_in (λ z. z.0) nat_cmp x xs) (x ∷ y ∷ xs)) (not_less x.0 y.0 (both_true (nat_le x.0 y.0) (rises y.0 xs) up).0)
+      ap (λ b. cond b (y ∷ put_in (λ z. z.0) nat_cmp x xs) (x ∷ y ∷ xs)) (not_less x.0 y.0 (and_parts (nat_le x.0 y.0) (rises y.0 xs) up).0)
 
   pub numbers_stay : (last : ℕ) (xs : List (ℕ × X)) → rises last xs ≡ true → sorted_by (λ x. x.0) nat_cmp xs ≡ xs
   numbers_stay last [] up = refl
   numbers_stay last (x ∷ xs) up =
-      let more = (both_true (nat_le last x.0) (rises x.0 xs) up).1 in
+      let more = (and_parts (nat_le last x.0) (rises x.0 xs) up).1 in
       ap (put_in (λ y. y.0) nat_cmp x) (numbers_stay x.0 xs more) ∙ put_first x xs more
 
 module _ {R : Type 0} (name : List ℕ) where
@@ -72,15 +61,15 @@ module _ {R : Type 0} (name : List ℕ) where
   entry_first : (e : units.Unit × R) (es : List (units.Unit × R)) → T (below_all unit_cmp e.0 es) → put_in (λ r. r.unit) unit_cmp (named e) (map named es) ≡ named e ∷ map named es
   entry_first e [] below = refl
   entry_first e (x ∷ es) below =
-      let less = left_true (is_lt (unit_cmp e.0 x.0)) (below_all unit_cmp e.0 es) below in
+      let less = (and_yes (is_lt (unit_cmp e.0 x.0)) (below_all unit_cmp e.0 es) below).0 in
       ap (λ b. cond b (named x ∷ put_in (λ r. r.unit) unit_cmp (named e) (map named es)) (named e ∷ named x ∷ map named es))
       (turned_later (unit_cmp x.0 e.0) (unit_cmp e.0 x.0) (units_total.antisymm x.0 e.0) less)
 
   entries_stay : (es : List (units.Unit × R)) → T (is_sorted unit_cmp es) → sorted_by (λ r. r.unit) unit_cmp (map named es) ≡ map named es
   entries_stay [] up = refl
   entries_stay (e ∷ es) up =
-      let below = left_true (below_all unit_cmp e.0 es) (is_sorted unit_cmp es) up in
-      let more = right_true (below_all unit_cmp e.0 es) (is_sorted unit_cmp es) up in
+      let below = (and_yes (below_all unit_cmp e.0 es) (is_sorted unit_cmp es) up).0 in
+      let more = (and_yes (below_all unit_cmp e.0 es) (is_sorted unit_cmp es) up).1 in
       ap (put_in (λ r. r.unit) unit_cmp (named e)) (entries_stay es more) ∙ entry_first e es below
 
 -- the records of one instance are in order

@@ -1,22 +1,19 @@
 -- The key of a chunk is read again, and has one spelling.
-use Rattle.std.proofs.Common.{◌≡◌, ◌∙◌, ◌<◌, ◌^◌, ◌&&◌, ℕ, Bool, true, false, cond, List, [], ◌∷◌, ◌++◌, Option, None, Some, option_and_then, refl, sym, ap, arith, nat_lt}
-use Rattle.std.proofs.lemmas.Bool.Decides.{nat_tests}
+use Rattle.std.proofs.Common.{◌≡◌, ◌∙◌, ◌^◌, ℕ, true, List, [], ◌∷◌, ◌++◌, Some, refl, sym, ap, nat_lt}
 use Rattle.std.proofs.lemmas.List.{append_assoc}
 use Rattle.std.proofs.lemmas.Option.{option_and_then_some, some_pair_parts}
-use Rattle.basics.proofs.BoolLemmas.{both_true, Five, five_true}
+use Rattle.std.proofs.lemmas.Bool.{ltb-true}
+use Rattle.basics.proofs.BoolLemmas.{five_true}
 use Rattle.flow_filter.specs.declared.flow.Flow.{Flow}
 use Rattle.nf_function.specs.declared.kind.Kind.{Kind}
 use Rattle.nf_function.specs.declared.kind.Kind.TheVariants.{Conntrack, Nat, Monitor}
 use Rattle.nf_function.specs.declared.unit.Unit as units
 use Rattle.nf_function.specs.declared.unit.Unit.TheVariants.{Flow as OfFlow, Host as OfHost}
-use Rattle.nf_function.specs.Stored.{IsBytes, number_bytes, first_byte, first_number}
-use Rattle.nf_function.specs.Units.{has_hosts, is_unit, is_transport, is_transport_flow}
-use Rattle.nf_function.proofs.StoredNumbers.{IsFirst, first_number-number_bytes, first_number-some, IsBytes-tail}
+use Rattle.nf_function.specs.Stored.{IsBytes, number_bytes, first_number}
+use Rattle.nf_function.specs.Units.{is_unit, is_transport, is_transport_flow}
+use Rattle.nf_function.proofs.StoredNumbers.{first_number-number_bytes, first_number-some, IsBytes-tail}
 use Rattle.state_chunk.specs.Format.{key_bytes}
 use Rattle.state_chunk.specs.Reading.{first_key, first_flow, first_host, is_known}
-
-below : (n bound : ℕ) → nat_lt n bound ≡ true → n < bound
-below n bound h = grind (arith, nat_tests)
 
 -- a flow's key, number by number
 key_and_rest : (f : Flow) (rest : List ℕ)
@@ -35,16 +32,16 @@ first_flow-key_bytes f rest h =
     let five = five_true (is_transport f.proto) (nat_lt f.local (2 ^ 32)) (nat_lt f.lport (2 ^ 16)) (nat_lt f.remote (2 ^ 32)) (nat_lt f.rport (2 ^ 16)) h in
     ap first_flow (key_and_rest f rest)
     ∙ rw (
-      first_number-number_bytes 4 f.local (number_bytes 2 f.lport ++ (number_bytes 4 f.remote ++ (number_bytes 2 f.rport ++ rest))) (below f.local (2 ^ 32) five.second),
-      first_number-number_bytes 2 f.lport (number_bytes 4 f.remote ++ (number_bytes 2 f.rport ++ rest)) (below f.lport (2 ^ 16) five.third),
-      first_number-number_bytes 4 f.remote (number_bytes 2 f.rport ++ rest) (below f.remote (2 ^ 32) five.fourth),
-      first_number-number_bytes 2 f.rport rest (below f.rport (2 ^ 16) five.fifth),
+      first_number-number_bytes 4 f.local (number_bytes 2 f.lport ++ (number_bytes 4 f.remote ++ (number_bytes 2 f.rport ++ rest))) (ltb-true f.local (2 ^ 32) five.second),
+      first_number-number_bytes 2 f.lport (number_bytes 4 f.remote ++ (number_bytes 2 f.rport ++ rest)) (ltb-true f.lport (2 ^ 16) five.third),
+      first_number-number_bytes 4 f.remote (number_bytes 2 f.rport ++ rest) (ltb-true f.remote (2 ^ 32) five.fourth),
+      first_number-number_bytes 2 f.rport rest (ltb-true f.rport (2 ^ 16) five.fifth),
     ) refl
 
 -- a host's key is read again
 first_host-key_bytes : (host : ℕ) (rest : List ℕ) → nat_lt host (2 ^ 32) ≡ true → first_host (key_bytes (OfHost host) ++ rest) ≡ Some (OfHost host, rest)
 unfolding first_host key_bytes
-first_host-key_bytes host rest h = rw (first_number-number_bytes 4 host rest (below host (2 ^ 32) h)) refl
+first_host-key_bytes host rest h = rw (first_number-number_bytes 4 host rest (ltb-true host (2 ^ 32) h)) refl
 
 pub first_key-key_bytes : (kind : Kind) (u : units.Unit) (rest : List ℕ) → is_unit kind u ≡ true → first_key kind (key_bytes u ++ rest) ≡ Some (u, rest)
 first_key-key_bytes Conntrack (OfFlow f) rest h = first_flow-key_bytes f rest h

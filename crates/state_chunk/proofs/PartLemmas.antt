@@ -1,41 +1,33 @@
 -- The header and the body of a chunk are read again, and have one spelling.
-use Rattle.std.proofs.Common.{◌≡◌, ◌∙◌, ◌<◌, ◌≤◌, ◌^◌, ◌&&◌, ◌||◌, ◌==◌, eqb, ℕ, Bool, true, false, cond, List, [], ◌∷◌, ◌++◌, length, take, drop, Option, None, Some, Result, Ok, Err, refl, sym, ap, arith, nat_lt, length-append}
+use Rattle.std.proofs.Common.{◌≡◌, ◌<◌, ◌≤◌, ◌^◌, ◌&&◌, ◌||◌, eqb, ℕ, Bool, true, false, cond, List, [], ◌∷◌, ◌++◌, length, take, drop, Option, None, Some, Ok, Err, refl, arith, nat_lt, length-append}
 use Rattle.std.proofs.lemmas.Bool.Decides.{nat_tests}
-use Rattle.std.proofs.lemmas.List.{append_assoc, take_at, drop_at, take-append-drop, length-take-le}
-use Rattle.basics.proofs.BoolLemmas.{both_true}
+use Rattle.std.proofs.lemmas.List.{take_at, drop_at, take-append-drop, length-take-le}
+use Rattle.std.proofs.lemmas.Bool.{and_parts, eqb-true, eq-eqb}
+use Rattle.std.proofs.lemmas.Option.{same_Some}
 use Rattle.nf_function.specs.declared.kind.Kind.{Kind}
 use Rattle.nf_function.specs.declared.kind.Scope.{Scope}
-use Rattle.nf_function.specs.Stored.{IsBytes, number_bytes, first_byte, first_number}
+use Rattle.nf_function.specs.Stored.{IsBytes, number_bytes, first_number}
 use Rattle.nf_function.specs.Units.{has_times}
 use Rattle.nf_function.proofs.StoredNumbers.{IsFirst, first_number-number_bytes, first_number-some, IsBytes-tail, IsBytes-drop, IsBytes-take}
 use Rattle.state_chunk.specs.declared.fault.ChunkFault.TheVariants as fault
 use Rattle.state_chunk.specs.Format.{kind_number, scope_number}
-use Rattle.state_chunk.specs.Reading.{Read, then_read, part, checked, first_bytes, header_of, may_have, body_in}
+use Rattle.state_chunk.specs.Reading.{Read, part, checked, first_bytes, header_of, may_have, body_in}
 use Rattle.state_chunk.proofs.ReadLemmas.{then_ok, part_ok, checked_ok}
 
 same_ok : {X : Type 0} (x y : X) → ◌≡◌ {A = Read X} (Ok x) (Ok y) → x ≡ y
 same_ok x y h = cc
 
-same_some : {X : Type 0} (x y : X) → ◌≡◌ {A = Option X} (Some x) (Some y) → x ≡ y
-same_some x y h = cc
-
-same_number : (n : ℕ) → eqb n n ≡ true
-same_number n = grind (arith, nat_tests)
-
-one_number : (m n : ℕ) → eqb m n ≡ true → m ≡ n
-one_number m n h = grind (arith, nat_tests)
-
 -- version 1 is read for every kind and scope
 pub header_1 : (kind : Kind) (scope : Scope) (timed : Bool) (rest : List ℕ)
     → header_of kind scope timed (1 ∷ kind_number kind ∷ scope_number scope ∷ rest) ≡ Ok (1, rest)
 unfolding header_of
-header_1 kind scope timed rest = rw (same_number (kind_number kind), same_number (scope_number scope)) refl
+header_1 kind scope timed rest = rw (eq-eqb (kind_number kind) (kind_number kind) refl, eq-eqb (scope_number scope) (scope_number scope) refl) refl
 
 -- version 2 is read where the state may hold a time
 pub header_2 : (kind : Kind) (scope : Scope) (timed : Bool) (rest : List ℕ) → has_times kind ≡ true → timed ≡ true
     → header_of kind scope timed (2 ∷ kind_number kind ∷ scope_number scope ∷ rest) ≡ Ok (2, rest)
 unfolding header_of
-header_2 kind scope timed rest h k = rw (same_number (kind_number kind), same_number (scope_number scope), h, k) refl
+header_2 kind scope timed rest h k = rw (eq-eqb (kind_number kind) (kind_number kind) refl, eq-eqb (scope_number scope) (scope_number scope) refl, h, k) refl
 
 -- a header that was read, and the rest
 pub record IsHeader (kind : Kind) (scope : Scope) (bytes : List ℕ) (read : ℕ × List ℕ) : Type 0 where
@@ -57,8 +49,8 @@ header_of-ok kind scope timed (v ∷ k ∷ s ∷ rest) read are h =
     let first = checked_ok _ (fault.Version v) _ read h in
     let second = checked_ok (eqb k (kind_number kind) && may_have v (has_times kind)) fault.Kind _ read first.1 in
     let third = checked_ok (eqb s (scope_number scope) && may_have v timed) fault.Kind _ read second.1 in
-    let is_kind = one_number k (kind_number kind) (both_true (eqb k (kind_number kind)) (may_have v (has_times kind)) second.0).0 in
-    let is_scope = one_number s (scope_number scope) (both_true (eqb s (scope_number scope)) (may_have v timed) third.0).0 in
+    let is_kind = eqb-true k (kind_number kind) (and_parts (eqb k (kind_number kind)) (may_have v (has_times kind)) second.0).0 in
+    let is_scope = eqb-true s (scope_number scope) (and_parts (eqb s (scope_number scope)) (may_have v timed) third.0).0 in
     let whole : (v, rest) ≡ read = same_ok (v, rest) read third.1 in
     record {
       spelled = rw (is_kind, is_scope, ← whole) refl;
@@ -81,8 +73,8 @@ plain_version kind scope (v ∷ k ∷ s ∷ rest) read h =
     let second = checked_ok (eqb k (kind_number kind) && may_have v (has_times kind)) fault.Kind _ read first.1 in
     let third = checked_ok (eqb s (scope_number scope) && may_have v false) fault.Kind _ read second.1 in
     let whole : (v, rest) ≡ read = same_ok (v, rest) read third.1 in
-    let plain = both_true (eqb s (scope_number scope)) (may_have v false) third.0 in
-    rw (← whole) (one_number v 1 (or_false (eqb v 1) plain.1))
+    let plain = and_parts (eqb s (scope_number scope)) (may_have v false) third.0 in
+    rw (← whole) (eqb-true v 1 (or_false (eqb v 1) plain.1))
   where
     or_false : (test : Bool) → (test || false) ≡ true → test ≡ true
     or_false true e = refl
@@ -109,7 +101,7 @@ cut_body size bytes more read first h = chosen (nat_lt (length more) size) refl 
     chosen true is e = cc
     chosen false is e =
         let enough : size ≤ length more = grind (arith, nat_tests) in
-        let whole : (take size more, drop size more) ≡ read = same_some (take size more, drop size more) read e in
+        let whole : (take size more, drop size more) ≡ read = same_Some (take size more, drop size more) read e in
         let size_is : length (take size more) ≡ size = length-take-le size more enough in
         record {
           spelled = rw (← whole) (rw (size_is, take-append-drop size more) first.spelled);

@@ -1,16 +1,16 @@
 -- One more rule: what it adds to the groups of the rules before it.
-use Rattle.std.proofs.Common.{◌≡◌, ℕ, zero, suc, ◌+◌, ◌<◌, ◌≤◌, Bool, true, false, cond, not, ◌&&◌, List, [], ◌∷◌, ◌++◌, length, map, set, take, get_or, Option, None, Some, is_some, refl, ap, sym, subst, ◌∙◌, arith}
+use Rattle.std.proofs.Common.{◌≡◌, ℕ, zero, suc, ◌+◌, ◌<◌, Bool, true, false, cond, not, ◌&&◌, List, [], ◌∷◌, ◌++◌, length, map, set, take, get_or, Option, None, Some, is_some, refl, ap, sym, subst, ◌∙◌, arith}
 use Rattle.std.specs.Prelude.{position}
-use Rattle.std.specs.List.{list_any, IsDistinct, AllByRecursion, position_or_len}
+use Rattle.std.specs.List.{list_any, IsDistinct, AllByRecursion}
 use Rattle.std.specs.Option.{option_or}
-use Rattle.std.proofs.lemmas.Bool.{true≢false, false_from_ne_true, ltb-false, or_parts}
+use Rattle.std.proofs.lemmas.Bool.{true≢false, false_from_ne_true, or_parts}
 use Rattle.std.proofs.Math.Seq.{map-set_same}
 use Rattle.std.proofs.lemmas.List.{map-append, take_more, length-take-le}
 use Rattle.std.proofs.lemmas.List.Elements.{All-from_recursion, recursion_from_All, All-push, All-get_or}
-use Rattle.std.proofs.lemmas.List.Folds.{list_any_at, list_any_none}
-use Rattle.std.proofs.lemmas.List.Sums.{fails_before_first}
+use Rattle.std.proofs.lemmas.List.Folds.{list_any_at}
 use Rattle.std.proofs.lemmas.List.Quantifiers.{position-Some}
 use Rattle.std.proofs.lemmas.Map.Keys.{IsDistinct-head, IsDistinct-tail}
+use Rattle.basics.proofs.ListLemmas.{none_passes}
 use Rattle.flow_filter.specs.declared.flow.Flow.{Flow}
 use Rattle.flow_filter.specs.Flow.{flow_eq}
 use Rattle.switch_rules.specs.declared.mask.Mask.{Mask}
@@ -125,15 +125,6 @@ add_to_group rules gs r i g g' are at is mask own =
           (recursion_from_All (Has rules) gs are.entries) (own_group rules r g g' has mask same own));
     }
 
-too_far : (b : Bool) (n : ℕ) → cond b (Some n) None ≡ None → b ≡ false
-too_far true n e = cc
-too_far false n e = refl
-
-none_there : {X : Type 0} (p : X → Bool) (xs : List X) → position p xs ≡ None → list_any p xs ≡ false
-none_there p xs at =
-    let past : length xs ≤ position_or_len p xs = ltb-false _ _ (too_far _ _ at) in
-    list_any_none p xs (λ k d lt. fails_before_first p xs k d (omega arith))
-
 none_apart : (m : Mask) (gs : List Group) → list_any (λ g. mask_eq g.mask m) gs ≡ false → AllByRecursion (λ g. mask_eq m g.mask ≡ false) gs
 none_apart m [] none = tt
 none_apart m (g ∷ gs) none =
@@ -148,7 +139,7 @@ pub add_group : (rules : List Rule) (gs : List Group) (r : Rule) (g : Group) →
     → ((key : Flow) → entry g key ≡ cond (flow_eq (values_of r.0) key) (Some (last rules r)) None)
     → AreGroups (rules ++ r ∷ []) (gs ++ g ∷ [])
 add_group rules gs r g are at mask own =
-    let absent : list_any (λ x. mask_eq x.mask (mask_of r.0)) gs ≡ false = none_there (λ x. mask_eq x.mask (mask_of r.0)) gs at in
+    let absent : list_any (λ x. mask_eq x.mask (mask_of r.0)) gs ≡ false = none_passes (λ x. mask_eq x.mask (mask_of r.0)) gs at in
     let new : list_any (has_mask (mask_of r.0)) rules ≡ false = any_group rules gs (mask_of r.0) are ∙ absent in
     record {
       masks = map-append (λ x. x.mask) gs (g ∷ []) ∙ ap (λ ms. ms ++ g.mask ∷ []) are.masks ∙ ap (λ m. masks_of rules ++ m ∷ []) mask ∙ sym (masks_of-push_new rules r new);

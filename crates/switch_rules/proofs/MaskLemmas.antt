@@ -6,7 +6,8 @@ use Rattle.std.specs.Option.{ForSome, option_map_or}
 use Rattle.std.proofs.lemmas.Bool.{eqb-true, eqb-false, eq-eqb, ne_eqb, le-leb, lt-leb, and_parts, and_from, and_left, true≢false, false_from_ne_true}
 use Rattle.std.proofs.lemmas.Nat.{shr_split, pow_pos}
 use Rattle.std.proofs.Math.Nat.{div-eq_of_lt, mul-div_cancel, zero-mul}
-use Rattle.basics.proofs.BoolLemmas.{and_fields, and_true, and_false}
+use Rattle.std.proofs.Math.Bool.{and-false, and-true}
+use Rattle.basics.proofs.BoolLemmas.{and_fields}
 use Rattle.flow_filter.specs.declared.prefix.Prefix.{Prefix}
 use Rattle.flow_filter.specs.declared.flow.Flow.{Flow}
 use Rattle.flow_filter.specs.declared.filter.Filter.{Filter}
@@ -46,13 +47,13 @@ prefix_matches (Some p) a small = front_test (32 - p.len) p.bits a p.aligned
 
 -- the five tests in the order in which flows are compared
 five_in_order : (p l lp r rp : Bool) → (p && l && lp && r && rp) ≡ (l && (r && (lp && (rp && p))))
-five_in_order p false lp r rp = ap (λ b. b && lp && r && rp) (and_false p)
-five_in_order true true false r rp = sym (and_false r)
+five_in_order p false lp r rp = ap (λ b. b && lp && r && rp) (and-false p)
+five_in_order true true false r rp = sym (and-false r)
 five_in_order true true true false rp = refl
-five_in_order true true true true rp = and_true rp
+five_in_order true true true true rp = sym (and-true rp)
 five_in_order false true lp false rp = refl
 five_in_order false true false true rp = refl
-five_in_order false true true true rp = sym (and_false rp)
+five_in_order false true true true rp = sym (and-false rp)
 
 matches_by_field : {p l lp r rp p' l' lp' r' rp' : Bool} → p ≡ p' → l ≡ l' → lp ≡ lp' → r ≡ r' → rp ≡ rp'
     → (p && l && lp && r && rp) ≡ (l' && (r' && (lp' && (rp' && p'))))

@@ -5,6 +5,7 @@ use Rattle.std.specs.Option.{ForSome, option_map_or}
 use Rattle.std.proofs.lemmas.Bool.{true≢false, false_from_ne_true}
 use Rattle.std.proofs.lemmas.Option.{same_Some, cond_some}
 use Rattle.std.proofs.lemmas.List.Elements.{All-nil, All-cons, All-head, All-tail, All-weaker, recursion_from_All}
+use Rattle.std.proofs.Math.Bool.{and-false}
 use Rattle.flow_filter.specs.declared.prefix.Prefix.{Prefix}
 use Rattle.flow_filter.specs.declared.flow.Flow.{Flow}
 use Rattle.flow_filter.specs.declared.filter.Filter.{Filter}
@@ -50,10 +51,6 @@ and_true : (b : Bool) → (b && true) ≡ b
 and_true true = refl
 and_true false = refl
 
-and_false : (b : Bool) → (b && false) ≡ false
-and_false true = refl
-and_false false = refl
-
 mapped : (r : Redirect) (flow : Flow) (b : Bool) (target : Target) (rest : Option Target)
     → option_map (redirected_target r flow) (cond b (Some target) rest) ≡ cond b (Some (redirected_target r flow target)) (option_map (redirected_target r flow) rest)
 mapped r flow true target rest = refl
@@ -73,7 +70,7 @@ split_rule r x rest flow after fits fx fr e = elim (target_eq x.1 r.from) as (λ
     first_match (((cond b (option_to_list (option_map (λ both. (both, r.to)) (meet x.0 r.filter))) []) ++ x ∷ []) ++ rest) flow
     ≡ cond (matches x.0 flow) (Some (cond (matches r.filter flow && b) r.to x.1)) after) [
       | true ↦ rw (and_true (matches r.filter flow)) (subst (λ xs. first_match xs flow ≡ cond (matches x.0 flow) (Some (cond (matches r.filter flow) r.to x.1)) after) (sym (joined x rest r.to (meet x.0 r.filter))) (split_one r x rest flow after (meet x.0 r.filter) fits (meet_law x.0 r.filter fx fr) e))
-      | false ↦ rw (and_false (matches r.filter flow)) (first x rest flow ∙ ap (cond (matches x.0 flow) (Some x.1)) e)
+      | false ↦ rw (and-false (matches r.filter flow)) (first x rest flow ∙ ap (cond (matches x.0 flow) (Some x.1)) e)
     ]
 
 -- the rules that are split give each flow its target after the redirect

@@ -19,6 +19,11 @@ pub distinct_none : {K : Type 0} (eq : K → K → Bool) → IsDistinct eq []
 unfolding IsDistinct
 distinct_none eq = tt
 
+-- a record that is written where a test passes
+pub held-cond : {R : Type 0} (b : Bool) (w : Option R) (o : Option (Option R)) → held (cond b (Some w) o) ≡ cond b w (held o)
+held-cond true w o = refl
+held-cond false w o = refl
+
 module _ {K V : Type 0} (eq : K → K → Bool) where
   pub entry_at : (k : K) (es : List (K × V)) (i : ℕ) → is_place_of eq es i k ≡ true → (e : K × V) × (slice_get es i ≡ Some e) × (eq k e.0 ≡ true)
   entry_at k [] i h = absurd (true≢false (sym h))
@@ -196,14 +201,10 @@ module _ {K R : Type 0} (eq : K → K → Bool) (laws : IsEquivalence eq) where
     few = rw (length_with_record es i w) map.few;
   }
 
-  held_some : (b : Bool) (w : Option R) (o : Option (Option R)) → held (cond b (Some w) o) ≡ cond b w (held o)
-  held_some true w o = refl
-  held_some false w o = refl
-
   -- a record that is written at a key's place is the key's, and every other key keeps its record
   pub record_with_record : (q : K) (es : Entries K R) (i : ℕ) (k : K) (w : Option R) → IsDistinct eq (keys_of es) → is_place_of eq es i k ≡ true
       → record_of eq (with_record es i w) q ≡ cond (eq k q) w (record_of eq es q)
-  record_with_record q es i k w d h = ap held (lookup_with_record q es i k w d h) ∙ held_some (eq k q) w (lookup (eq q) es)
+  record_with_record q es i k w d h = ap held (lookup_with_record q es i k w d h) ∙ held-cond (eq k q) w (lookup (eq q) es)
 
   -- whether an entry without a record was added or not, no key's record changed
   pub record_by_add : {T E : Type 0} (r : Result T E) (old new : Entries K R) (k : K) → lookup (eq k) old ≡ None

@@ -2,7 +2,7 @@
 use Rattle.std.proofs.Common.{◌≡◌, ℕ, Bool, true, false, ◌+◌, ◌<◌, List, [], ◌∷◌, ◌++◌, length, Option, Some, None, ap, sym, ◌∙◌, refl, subst, add-one, suc, zero, ⊎_elim, inl, inr, ◌⊎◌, is_some, filter, take, get_or, length-append}
 use Rattle.std.specs.Prelude.{cond}
 use Rattle.std.proofs.lemmas.List.Elements.{filter_more}
-use Rattle.std.specs.Cmp.{IsEquivalence, IsTotalOrder}
+use Rattle.std.specs.Cmp.{IsEquivalence, IsTotalOrder, Equal-is}
 use Rattle.std.specs.Hash.{HashWrites}
 use Rattle.std.specs.List.{slice_get, IsDistinct}
 use Rattle.std.specs.Map.{lookup, keys_of}
@@ -10,7 +10,6 @@ use Rattle.std.specs.Option.{option_map, unwrap_or}
 use Rattle.std.specs.BTreeMap as tree
 use Rattle.std.specs.Ordering.{eq_by_cmp, is_eq}
 use Rattle.std.specs.declared.cmp.Ordering.{Ordering}
-use Rattle.std.specs.declared.cmp.Ordering.TheVariants.{Less, Equal, Greater}
 use Rattle.std.proofs.lemmas.Bool.{false_from_ne_true, true≢false}
 use Rattle.std.proofs.lemmas.List.{append-nil}
 use Rattle.std.proofs.lemmas.Option.{slice_get-map, slice_get_read}
@@ -37,11 +36,6 @@ key_laws eq cmp input equal ordered tied alike = record {
   tied = tied;
   alike = λ x y h. rw (alike x y h) refl;
 }
-
-equal_from_is_eq : (o : Ordering) → is_eq o ≡ true → o ≡ Equal
-equal_from_is_eq Less h = absurd (true≢false (sym h))
-equal_from_is_eq Equal h = refl
-equal_from_is_eq Greater h = absurd (true≢false (sym h))
 
 lookup_tests : {K V : Type 0} (p q : K → Bool) → ((x : K) → p x ≡ q x) → (es : List (K × V)) → lookup p es ≡ lookup q es
 lookup_tests p q same [] = refl
@@ -81,7 +75,7 @@ module _ {K R : Type 0} where
 module _ {K : Type 0} (rules : KeyRules K) (laws : KeyLaws rules) where
   tree_alike : {X : Type 0} (m : tree.BTreeMap K X) (x y : K) → rules.eq x y ≡ true → tree.get rules.cmp m x ≡ tree.get rules.cmp m y
   tree_alike m x y h =
-      let e = equal_from_is_eq (rules.cmp x y) (sym (laws.tied x y) ∙ h) in
+      let e = (Equal-is (rules.cmp x y)).0 (sym (laws.tied x y) ∙ h) in
       lookup_tests _ _ (λ z. ap is_eq (laws.ordered.congr x y z e)) m.entries
 
   -- what is noted for a key is noted for each key that is equal
