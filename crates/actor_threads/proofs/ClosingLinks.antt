@@ -3,7 +3,7 @@ use Rattle.std.proofs.Common.{◌≡◌, ◌<◌, ℕ, suc, ◌+◌, ◌*◌, Li
 use Rattle.std.proofs.lemmas.Grind.{rows}
 use Rattle.actor_threads.specs.Ways.{Incoming, Outgoing}
 use Rattle.actor_threads.specs.Work.{no_in, in_at, out_at}
-use Rattle.actor_threads.specs.LinkTable.{row_at, Closed, RowClosed, CanClose}
+use Rattle.actor_threads.specs.LinkTable.{row_at, Closed, RowClosed, CanClose, closing, ways_of}
 use Rattle.actor_threads.specs.Round.{CanCloseAll, AllClosed}
 use Rattle.actor_threads.proofs.NotesByCounts.{rest_after}
 use Rattle.actor_threads.proofs.LinkTableLemmas.{first_left, same_or}
@@ -21,12 +21,12 @@ module _ {M : Type 0} (k n : ℕ) (ins now : List (List (Incoming M))) (outs : L
         (in_at (row_at ins r) k, drop (suc k) (row_at ins r), (left r hr ∙ drop-cons (row_at ins r) k no_in (subst (λ m. k < m) (sym (can.in_rows r hr)) h), can.link k r h hr));
   }
 
-  module _ (new : List (List (Incoming M))) (links more : List (List M)) (a : AllClosed k n ins outs links) (c : RowClosed n (row_at outs k) now new links more) where
+  module _ (new : List (List (Incoming M))) (links more : List (List M)) (a : AllClosed k n (ways_of ins outs) links) (c : RowClosed n (row_at outs k) (closing now links) (closing new more)) where
     -- and what is left at each receiver
     pub left_more : (r : ℕ) → r < n → row_at new r ≡ drop (suc k) (row_at ins r)
     left_more r hr = let g = c.closed r hr in sym (rest_after k (row_at ins r) g.0 (row_at new r) (sym (left r hr) ∙ g.1.0))
 
-    pub all_closed_more : AllClosed (k + 1) n ins outs more
+    pub all_closed_more : AllClosed (k + 1) n (ways_of ins outs) more
     all_closed_more = record {
       count = c.count ∙ ap (λ m. m + n) a.count ∙ grind (arith, rows);
       closed = λ s r hs hr. same_or s k (Closed (in_at (row_at ins r) s) (out_at (row_at outs s) r) (row_at more (s * n + r)))

@@ -6,7 +6,7 @@ use Rattle.std.proofs.Math.Seq.{get_or-append_seam}
 use Rattle.fifo_link.specs.Ends.{End}
 use Rattle.actor_threads.specs.Ways.{Incoming, Outgoing}
 use Rattle.actor_threads.specs.Work.{no_out, out_at}
-use Rattle.actor_threads.specs.LinkTable.{row_at, no_end, one_at, AreFresh, RowOpened, AllOpened, Closed, RowClosed, CanClose}
+use Rattle.actor_threads.specs.LinkTable.{row_at, no_end, one_at, AreFresh, RowOpened, AllOpened, Closed, RowClosed, CanClose, closing}
 
 -- the last of a list that grew
 pub last_of : {X : Type 0} (xs : List X) (x d : X) (k : ℕ) → length xs ≡ k → slice_index_or (xs ++ x ∷ []) k d ≡ x
@@ -79,12 +79,12 @@ module _ {M : Type 0} where
       }
 
   -- no link closed yet
-  pub row_closed_none : (row : List (Outgoing M)) (old : List (List (Incoming M))) (before : List (List M)) → RowClosed 0 row old old before before
+  pub row_closed_none : (row : List (Outgoing M)) (old : List (List (Incoming M))) (before : List (List M)) → RowClosed 0 row (closing old before) (closing old before)
   row_closed_none row old before = record { rows = refl; count = omega arith; closed = λ r h. absurd (omega arith); same = λ r h. refl; kept = λ i h. refl }
 
   -- one link more
   pub row_closed_more : (k : ℕ) (row : List (Outgoing M)) (old new : List (List (Incoming M))) (before after : List (List M)) (way : Incoming M) (rest : List (Incoming M)) (list : List M)
-      → RowClosed k row old new before after → k < length old → row_at new k ≡ way ∷ rest → Closed way (out_at row k) list → RowClosed (k + 1) row old (slice_set new k rest) before (after ++ list ∷ [])
+      → RowClosed k row (closing old before) (closing new after) → k < length old → row_at new k ≡ way ∷ rest → Closed way (out_at row k) list → RowClosed (k + 1) row (closing old before) (closing (slice_set new k rest) (after ++ list ∷ []))
   row_closed_more k row old new before after way rest list o h first closed =
       let inside : k < length new = subst (λ n. k < n) (sym o.rows) h in
       let Goal : ℕ → Type 0 = λ r. (w : Incoming M) × ((row_at old r ≡ w ∷ row_at (slice_set new k rest) r) × Closed w (out_at row r) (slice_index_or (after ++ list ∷ []) (length before + r) [])) in
@@ -117,7 +117,7 @@ none_more f table v k count none empty r h =
 
 module _ {M : Type 0} where
   -- the way in that closes with the first way out that is left
-  pub head_way : (k : ℕ) (row left more : List (Outgoing M)) (ins now : List (List (Incoming M))) (x : Outgoing M) (before after : List (List M)) → CanClose row ins → RowClosed k row ins now before after → left ≡ drop k row → left ≡ x ∷ more
+  pub head_way : (k : ℕ) (row left more : List (Outgoing M)) (ins now : List (List (Incoming M))) (x : Outgoing M) (before after : List (List M)) → CanClose row ins → RowClosed k row (closing ins before) (closing now after) → left ≡ drop k row → left ≡ x ∷ more
       → (way : Incoming M) × (rest : List (Incoming M)) × ((row_at now k ≡ way ∷ rest) × (x.link ≡ way.link) × (k < length now) × (out_at row k ≡ x))
   head_way k row left more ins now x before after can o at_left first =
       let shown : drop k row ≡ x ∷ more = sym at_left ∙ first in

@@ -42,7 +42,7 @@ module _ {A M N : Type 0} (ready : A → M → Bool) (w : WorkerView A M N) (por
   -- the next of what is kept
   pub kept_found : (r : Option (Stamped M)) → ((x : Stamped M) (rest : List (Stamped M)) → old.kept ≡ x ∷ rest → w.number ≡ 0 → port ≡ 0 → ready w.node x.message ≡ true)
       → MatchOption r (way ≡ old) (λ x. (x.clock < last_clock) × (old.kept ≡ x ∷ way.kept)) → (way.link ≡ old.link) × (way.done ≡ old.done)
-      → MatchOption r (now ≡ w) (λ x. Found ready w now port x)
+      → MatchOption r (now ≡ w) (λ x. Found ready w now (port, x))
   kept_found None ok e same = unchanged e
   kept_found (Some x) ok e same = record {
     rest = refl;
@@ -55,7 +55,7 @@ module _ {A M N : Type 0} (ready : A → M → Bool) (w : WorkerView A M N) (por
 
   -- the next message from the take end
   pub end_found : (r : Option (Stamped M)) → is_input_of w.number port ≡ false → MatchOption r (Draws old way []) (λ x. (x.clock < last_clock) × Draws old way (x ∷ []))
-      → MatchOption r (Idled w now) (λ x. Found ready w now port x)
+      → MatchOption r (Idled w now) (λ x. Found ready w now (port, x))
   end_found None other d = record {
     rest = refl;
     count = length-set w.ins port way;
@@ -98,12 +98,12 @@ module _ {A M N : Type 0} (ready : A → M → Bool) {before w : WorkerView A M 
 
   pub kept_at : (r : Option (Stamped M)) → ((x : Stamped M) (rest : List (Stamped M)) → old.kept ≡ x ∷ rest → before.number ≡ 0 → port ≡ 0 → ready before.node x.message ≡ true)
       → MatchOption r (way ≡ old) (λ x. (x.clock < last_clock) × (old.kept ≡ x ∷ way.kept)) → (way.link ≡ old.link) × (way.done ≡ old.done)
-      → MatchOption r (set ≡ w) (λ x. Found ready w set port x)
-  kept_at r ok k same = subst (λ (v : WorkerView A M N). MatchOption r (set ≡ v) (λ x. Found ready v set port x)) e (kept_found ready before port old way is inside r ok k same)
+      → MatchOption r (set ≡ w) (λ x. Found ready w set (port, x))
+  kept_at r ok k same = subst (λ (v : WorkerView A M N). MatchOption r (set ≡ v) (λ x. Found ready v set (port, x))) e (kept_found ready before port old way is inside r ok k same)
 
   pub end_at : (r : Option (Stamped M)) → is_input_of w.number port ≡ false → MatchOption r (Draws old way []) (λ x. (x.clock < last_clock) × Draws old way (x ∷ []))
-      → MatchOption r (Idled w set) (λ x. Found ready w set port x)
-  end_at r other d = subst (λ (v : WorkerView A M N). MatchOption r (Idled v set) (λ x. Found ready v set port x)) e
+      → MatchOption r (Idled w set) (λ x. Found ready w set (port, x))
+  end_at r other d = subst (λ (v : WorkerView A M N). MatchOption r (Idled v set) (λ x. Found ready v set (port, x))) e
       (end_found ready before port old way is inside r (ap (λ (v : WorkerView A M N). is_input_of v.number port) e ∙ other) d)
 
   pub quiet_at : (r : Option (Stamped M)) → IfNone r (IsBlocked old) → IfNone r (IsQuietAt ready w port)

@@ -12,7 +12,8 @@ use Rattle.actor_threads.specs.declared.groups.Member.{Member}
 use Rattle.actor_threads.specs.Groups.{has_run, AllInRound}
 use Rattle.actor_threads.specs.Ways.{Incoming, Outgoing}
 use Rattle.actor_threads.specs.Work.{WorkerView, Ran}
-use Rattle.actor_threads.specs.Round.{AllStart, CanCloseAll, AllClosed, Gathered}
+use Rattle.actor_threads.specs.LinkTable.{ways_of}
+use Rattle.actor_threads.specs.Round.{AllStart, CanCloseAll, AllClosed, RoundLeft, Gathered}
 use Rattle.actor_threads.proofs.GroupLemmas.{ran}
 use Rattle.actor_threads.proofs.RoundReplay.{can_close_all, node_steps, holds, left, rise_is, matches, fits, leaves}
 use Rattle.actor_threads.proofs.RoundWithoutChoice.{history_of, no_steps, all_quiet}
@@ -60,13 +61,22 @@ module _ {A M N : Type 0} (ready : A → M → Bool) (step : A → ℕ → M →
   pub can_close_members : CanCloseAll (length w.nodes) (map (λ (s : WorkerView A M N). s.ins) (workers after)) (map (λ (s : WorkerView A M N). s.outs) (workers after))
   can_close_members = can_close_all ready step w (workers before) (workers after) d is all each count
 
-  module _ (v : Network A M N) (cs : List Choice)
-      (g : Gathered (map (λ (s : WorkerView A M N). s.node) (workers after)) (map history_of (workers after)) (map (λ (s : WorkerView A M N). s.notes) (workers after)) (map (λ (s : WorkerView A M N). s.ins) (workers after)) (map (λ (s : WorkerView A M N). s.outs) (workers after)) w.log v cs) where
+  -- what the workers leave
+  abbrev pub left_over : RoundLeft A M N
+  left_over = record {
+    nodes = map (λ (s : WorkerView A M N). s.node) (workers after);
+    histories = map history_of (workers after);
+    notes = map (λ (s : WorkerView A M N). s.notes) (workers after);
+    ways = ways_of (map (λ (s : WorkerView A M N). s.ins) (workers after)) (map (λ (s : WorkerView A M N). s.outs) (workers after));
+    log = w.log;
+  }
+
+  module _ (v : Network A M N) (cs : List Choice) (g : Gathered left_over v cs) where
     nodes : length (map (λ (s : WorkerView A M N). s.node) (workers after)) ≡ length w.nodes
     nodes = length-map (workers after) _ ∙ count
 
-    closed : AllClosed (length w.nodes) (length w.nodes) (map (λ (s : WorkerView A M N). s.ins) (workers after)) (map (λ (s : WorkerView A M N). s.outs) (workers after)) g.links
-    closed = subst (λ n. AllClosed n n (map (λ (s : WorkerView A M N). s.ins) (workers after)) (map (λ (s : WorkerView A M N). s.outs) (workers after)) g.links) nodes g.closed
+    closed : AllClosed (length w.nodes) (length w.nodes) left_over.ways g.links
+    closed = subst (λ n. AllClosed n n left_over.ways g.links) nodes g.closed
 
     replayed : RunLeaves ready step d w (node_steps ready step w (workers before) (workers after) d is all each count) (left ready step w (workers before) (workers after) d is all each count g.links closed.count closed.closed) cs
     replayed = merged ready step d w (map history_of (workers after)) cs (node_steps ready step w (workers before) (workers after) d is all each count)
@@ -96,9 +106,11 @@ no_choice ready step w (c ∷ cs) r none = absurd (true≢false (sym r.0 ∙ non
 
 -- what is gathered, by other names for its parts
 pub regather : {A M N : Type 0} {nodes nodes' : List A} {hs hs' : List History} {notes notes' : List (List (List N))} {ins ins' : List (List (Incoming M))} {outs outs' : List (List (Outgoing M))} {log log' : List N} {v : Network A M N} {cs : List Choice}
-    → nodes ≡ nodes' → hs ≡ hs' → notes ≡ notes' → ins ≡ ins' → outs ≡ outs' → log ≡ log' → Gathered nodes hs notes ins outs log v cs → Gathered nodes' hs' notes' ins' outs' log' v cs
+    → nodes ≡ nodes' → hs ≡ hs' → notes ≡ notes' → ins ≡ ins' → outs ≡ outs' → log ≡ log'
+    → Gathered (record { nodes = nodes; histories = hs; notes = notes; ways = ways_of ins outs; log = log }) v cs
+    → Gathered (record { nodes = nodes'; histories = hs'; notes = notes'; ways = ways_of ins' outs'; log = log' }) v cs
 regather {A} {M} {N} {nodes} {nodes'} {hs} {hs'} {notes} {notes'} {ins} {ins'} {outs} {outs'} {log} {log'} {v} {cs} a b c d e f g =
-    subst (λ (t : List A × List History × List (List (List N)) × List (List (Incoming M)) × List (List (Outgoing M)) × List N). Gathered t.0 t.1 t.2 t.3 t.4 t.5 v cs) (λ i. (a i, b i, c i, d i, e i, f i)) g
+    subst (λ (left : RoundLeft A M N). Gathered left v cs) (λ i. record { nodes = a i; histories = b i; notes = c i; ways = ways_of (d i) (e i); log = f i }) g
 
 pub reclose : {M : Type 0} {n n' : ℕ} {ins ins' : List (List (Incoming M))} {outs outs' : List (List (Outgoing M))} → n ≡ n' → ins ≡ ins' → outs ≡ outs' → CanCloseAll n ins outs → CanCloseAll n' ins' outs'
 reclose {M} {n} {n'} {ins} {ins'} {outs} {outs'} a b c g = subst (λ (t : ℕ × List (List (Incoming M)) × List (List (Outgoing M))). CanCloseAll t.0 t.1 t.2) (λ i. (a i, b i, c i)) g

@@ -37,7 +37,7 @@ module _ {A M N : Type 0} (ready : A → M → Bool) where
   }
 
   -- a port at which there was a message
-  pub idled_found : (a b c : WorkerView A M N) (port : ℕ) (x : Stamped M) → Idled a b → Found ready b c port x → Found ready a c port x
+  pub idled_found : (a b c : WorkerView A M N) (port : ℕ) (x : Stamped M) → Idled a b → Found ready b c (port, x) → Found ready a c (port, x)
   idled_found a b c port x i f = record {
     rest = f.rest ∙ ap (λ (v : WorkerView A M N). record v { ins = c.ins }) i.rest;
     count = f.count ∙ i.count;
@@ -88,7 +88,7 @@ module _ {A M N : Type 0} (ready : A → M → Bool) (step : A → ℕ → M →
   }
 
   -- a look that found a message, and then the step with it
-  module _ (old mid found new : WorkerView A M N) (p : ℕ) (x : Stamped M) (w : Worked ready step old mid) (f : Found ready mid found p x) (a : Acted step found new p x) where
+  module _ (old mid found new : WorkerView A M N) (p : ℕ) (x : Stamped M) (w : Worked ready step old mid) (f : Found ready mid found (p, x)) (a : Acted step found new (p, x)) where
     abbrev e : NodeStep M
     e = record { clock = tick found.clock x; port = p; took = x }
 

@@ -12,7 +12,20 @@ use Rattle.actor_threads.specs.Work.{no_link, out_at}
 abbrev pub row_at : {X : Type 0} → List (List X) → ℕ → List X
 row_at rows i = slice_index_or rows i []
 
+-- the ways in of all workers, by receiver, and their ways out, by sender
+pub record WayTable (M : Type 0) : Type 0 where
+  pub ins : List (List (Incoming M))
+  pub outs : List (List (Outgoing M))
+
+-- while links are closed: the ways in that are left at each receiver, and the lists of the links that are closed
+pub record Closing (M : Type 0) : Type 0 where
+  pub ins : List (List (Incoming M))
+  pub lists : List (List M)
+
 module _ {M : Type 0} where
+  abbrev pub ways_of : List (List (Incoming M)) → List (List (Outgoing M)) → WayTable M
+  ways_of ins outs = record { ins = ins; outs = outs }
+
   -- an end of no link
   abbrev pub no_end : End M
   no_end = record { link = no_link; capacity = 0; done = []; known = [] }
@@ -52,13 +65,16 @@ module _ {M : Type 0} where
     pub sent : way_out.all ≡ way_in.done ++ tail
     pub is : list ≡ messages (way_in.kept ++ tail)
 
+  abbrev pub closing : List (List (Incoming M)) → List (List M) → Closing M
+  closing ins lists = record { ins = ins; lists = lists }
+
   -- the links of one sender to the first k receivers are closed: each of these has one way in less, and the lists stand behind those before
-  pub record RowClosed (k : ℕ) (row : List (Outgoing M)) (old new : List (List (Incoming M))) (before after : List (List M)) : Type 0 where
-    pub rows : length new ≡ length old
-    pub count : length after ≡ length before + k
-    pub closed : (r : ℕ) → r < k → (way : Incoming M) × ((row_at old r ≡ way ∷ row_at new r) × Closed way (out_at row r) (slice_index_or after (length before + r) []))
-    pub same : (r : ℕ) → k ≤ r → row_at new r ≡ row_at old r
-    pub kept : (i : ℕ) → i < length before → slice_index_or after i [] ≡ slice_index_or before i []
+  pub record RowClosed (k : ℕ) (row : List (Outgoing M)) (old new : Closing M) : Type 0 where
+    pub rows : length new.ins ≡ length old.ins
+    pub count : length new.lists ≡ length old.lists + k
+    pub closed : (r : ℕ) → r < k → (way : Incoming M) × ((row_at old.ins r ≡ way ∷ row_at new.ins r) × Closed way (out_at row r) (slice_index_or new.lists (length old.lists + r) []))
+    pub same : (r : ℕ) → k ≤ r → row_at new.ins r ≡ row_at old.ins r
+    pub kept : (i : ℕ) → i < length old.lists → slice_index_or new.lists i [] ≡ slice_index_or old.lists i []
 
   -- each receiver has a way in, and its link is that of the sender's way out to it
   pub record CanClose (row : List (Outgoing M)) (ins : List (List (Incoming M))) : Type 0 where

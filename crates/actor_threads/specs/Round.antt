@@ -11,7 +11,7 @@ use Rattle.actor_net.specs.Merging.{IsMerge}
 use Rattle.fifo_link.specs.Ends.{End}
 use Rattle.actor_threads.specs.Ways.{Incoming, Outgoing, with_stamp_0}
 use Rattle.actor_threads.specs.Work.{WorkerView, in_at, out_at, opened, waits}
-use Rattle.actor_threads.specs.LinkTable.{row_at, Closed}
+use Rattle.actor_threads.specs.LinkTable.{row_at, Closed, WayTable}
 
 module _ {A M N : Type 0} where
   -- the worker of node j at the start of a round: no step, on each way in what waits in the world, and nothing sent; the link from s to r has the name `names s r`
@@ -32,12 +32,21 @@ module _ {A M N : Type 0} where
     pub count : length workers ≡ length w.nodes
     pub each : (j : ℕ) (d : WorkerView A M N) → j < length w.nodes → StartsAs w names j (slice_index_or workers j d)
 
--- the worker that is opened with these ends, with what stands on the links to its node, of n
-pub record OpenedWith {A M N : Type 0} (n : ℕ) (links : List (List M)) (number : ℕ) (node : A) (input : List M) (takes sends : List (End (List (Stamped M)))) (worker : WorkerView A M N) : Type 0 where
+-- what a worker is opened with: its node's number and the node, what stands on all links and in the input, and the node's ends
+pub record WorkerParts (A M : Type 0) : Type 0 where
+  pub number : ℕ
+  pub node : A
+  pub links : List (List M)
+  pub input : List M
+  pub takes : List (End (List (Stamped M)))
+  pub sends : List (End (List (Stamped M)))
+
+-- the worker that is opened with these, with what stands on the links to its node: there are as many as it has take ends
+pub record OpenedWith {A M N : Type 0} (parts : WorkerParts A M) (worker : WorkerView A M N) : Type 0 where
   pub kept : List (List M)
-  pub count : length kept ≡ n
-  pub lists : (p : ℕ) → p < n → row_at kept p ≡ row_at links (p * n + number)
-  pub is : worker ≡ opened number node (waits number input kept) takes sends
+  pub count : length kept ≡ length parts.takes
+  pub lists : (p : ℕ) → p < length parts.takes → row_at kept p ≡ row_at parts.links (p * length parts.takes + parts.number)
+  pub is : worker ≡ opened parts.number parts.node (waits parts.number parts.input kept) parts.takes parts.sends
 
 module _ {M : Type 0} where
   -- of n nodes each way in has the link of the way out at its other end
@@ -49,13 +58,21 @@ module _ {M : Type 0} where
     pub link : (s r : ℕ) → s < n → r < n → (out_at (row_at outs s) r).link ≡ (in_at (row_at ins r) s).link
 
   -- the links of the first k of n senders are closed, each to its place
-  pub record AllClosed (k n : ℕ) (ins : List (List (Incoming M))) (outs : List (List (Outgoing M))) (links : List (List M)) : Type 0 where
+  pub record AllClosed (k n : ℕ) (ways : WayTable M) (links : List (List M)) : Type 0 where
     pub count : length links ≡ k * n
-    pub closed : (s r : ℕ) → s < k → r < n → Closed (in_at (row_at ins r) s) (out_at (row_at outs s) r) (row_at links (s * n + r))
+    pub closed : (s r : ℕ) → s < k → r < n → Closed (in_at (row_at ways.ins r) s) (out_at (row_at ways.outs s) r) (row_at links (s * n + r))
+
+-- what workers leave behind a round: their nodes, their histories, the notes of their steps and their ways; and the log from before it
+pub record RoundLeft (A M N : Type 0) : Type 0 where
+  pub nodes : List A
+  pub histories : List History
+  pub notes : List (List (List N))
+  pub ways : WayTable M
+  pub log : List N
 
 -- what is gathered behind a round: the choices are the merge of the histories, each link has its list, that of the first is the input, and the notes stand behind the log
-pub record Gathered {A M N : Type 0} (nodes : List A) (histories : List History) (notes : List (List (List N))) (ins : List (List (Incoming M))) (outs : List (List (Outgoing M))) (log : List N) (world : Network A M N) (choices : List Choice) : Type 0 where
+pub record Gathered {A M N : Type 0} (left : RoundLeft A M N) (world : Network A M N) (choices : List Choice) : Type 0 where
   pub links : List (List M)
-  pub closed : AllClosed (length nodes) (length nodes) ins outs links
-  pub merged : IsMerge histories choices
-  pub is : world ≡ record { nodes = nodes; links = slice_set links 0 []; input = row_at links 0; log = log ++ dealt (λ j. row_at notes j) choices }
+  pub closed : AllClosed (length left.nodes) (length left.nodes) left.ways links
+  pub merged : IsMerge left.histories choices
+  pub is : world ≡ record { nodes = left.nodes; links = slice_set links 0 []; input = row_at links 0; log = left.log ++ dealt (λ j. row_at left.notes j) choices }

@@ -93,36 +93,36 @@ module _ {A M N : Type 0} where
     pub count : length new.ins ≡ length old.ins
     pub taken : (p : ℕ) → p < length old.ins → DrawsAt (is_input_of old.number p) (in_at old.ins p) (in_at new.ins p) []
 
-  -- a message was found at a port
-  pub record Found (ready : A → M → Bool) (old new : WorkerView A M N) (port : ℕ) (x : Stamped M) : Type 0 where
+  -- a message was found: the port, and the message with its stamp
+  pub record Found (ready : A → M → Bool) (old new : WorkerView A M N) (took : ℕ × Stamped M) : Type 0 where
     pub rest : new ≡ record old { ins = new.ins }
     pub count : length new.ins ≡ length old.ins
-    pub within : port < length old.ins
-    pub stamp : x.clock < last_clock
-    pub taken : (p : ℕ) → p < length old.ins → DrawsAt (is_input_of old.number p) (in_at old.ins p) (in_at new.ins p) (if port == p then x ∷ [] else [])
-    pub was_ready : old.number ≡ 0 → port ≡ 0 → ready old.node x.message ≡ true
+    pub within : took.0 < length old.ins
+    pub stamp : took.1.clock < last_clock
+    pub taken : (p : ℕ) → p < length old.ins → DrawsAt (is_input_of old.number p) (in_at old.ins p) (in_at new.ins p) (if took.0 == p then took.1 ∷ [] else [])
+    pub was_ready : old.number ≡ 0 → took.0 ≡ 0 → ready old.node took.1.message ≡ true
 
   -- a step was done with a message from a port
-  pub record Acted (step : A → ℕ → M → Stepped A M N) (old new : WorkerView A M N) (port : ℕ) (x : Stamped M) : Type 0 where
+  pub record Acted (step : A → ℕ → M → Stepped A M N) (old new : WorkerView A M N) (took : ℕ × Stamped M) : Type 0 where
     pub rest : new ≡ record {
       number = old.number;
-      node = (step old.node port x.message).node;
-      clock = tick old.clock x;
-      steps = old.steps ++ (tick old.clock x, port) ∷ [];
-      notes = old.notes ++ (step old.node port x.message).notes ∷ [];
+      node = (step old.node took.0 took.1.message).node;
+      clock = tick old.clock took.1;
+      steps = old.steps ++ (tick old.clock took.1, took.0) ∷ [];
+      notes = old.notes ++ (step old.node took.0 took.1.message).notes ∷ [];
       ins = old.ins;
       outs = new.outs;
     }
     pub count : length new.outs ≡ length old.outs
-    pub sent : (r : ℕ) → r < length old.outs → Sends (out_at old.outs r) (out_at new.outs r) (put_for (length old.outs) old.number r (tick old.clock x) (step old.node port x.message).sends)
+    pub sent : (r : ℕ) → r < length old.outs → Sends (out_at old.outs r) (out_at new.outs r) (put_for (length old.outs) old.number r (tick old.clock took.1) (step old.node took.0 took.1.message).sends)
 
   -- a message was found, and a step was done with it
   pub record DoesStep (ready : A → M → Bool) (step : A → ℕ → M → Stepped A M N) (old new : WorkerView A M N) : Type 0 where
     pub found : WorkerView A M N
     pub port : ℕ
     pub took : Stamped M
-    pub looks : Found ready old found port took
-    pub acts : Acted step found new port took
+    pub looks : Found ready old found (port, took)
+    pub acts : Acted step found new (port, took)
 
   -- no step can be done with what is kept at a port: no clock is left for it, or the node isn't ready for it
   abbrev pub IsQuietAt : (A → M → Bool) → WorkerView A M N → ℕ → Type 0

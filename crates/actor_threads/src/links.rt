@@ -2,7 +2,7 @@
 ghost use Rattle.std.specs.Prelude.{◌≡◌, ◌<◌, ◌++◌, ℕ, length, map, IfOk, OnOk};
 ghost use Rattle.actor_net.specs.Histories.{messages};
 ghost use Rattle.actor_threads.specs.Ways.{unpacked};
-ghost use Rattle.actor_threads.specs.LinkTable.{row_at, RowOpened, AllOpened, Closed, RowClosed, CanClose};
+ghost use Rattle.actor_threads.specs.LinkTable.{row_at, RowOpened, AllOpened, Closed, RowClosed, CanClose, closing};
 
 use crate::ways::{Batch, WayIn, WayOut, append};
 use basics::{NoMemory, Sequence};
@@ -60,7 +60,7 @@ pub fn close_row<M: Drop, R: Wait>(
     links: &mut Vec<Sequence<M>>,
 ) -> Result<(), NoMemory>
     requires { CanClose row.items (map (λ v. v.items) ins.old.items) }
-    ensures { OnOk result (RowClosed (length row.items) row.items (map (λ v. v.items) ins.old.items) (map (λ v. v.items) ins.new.items) links.old.items links.new.items) }
+    ensures { OnOk result (RowClosed (length row.items) row.items (closing (map (λ v. v.items) ins.old.items) links.old.items) (closing (map (λ v. v.items) ins.new.items) links.new.items)) }
 {
     let mut receiver = 0;
     while let Some(way_out) = row.pop_front() {

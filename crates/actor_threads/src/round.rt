@@ -5,7 +5,7 @@ ghost use Rattle.actor_net.specs.Network.{IsWorld, IsRun, run, is_enabled, is_do
 ghost use Rattle.actor_net.specs.Histories.{dealt};
 ghost use Rattle.actor_net.specs.declared.choice.Choice.{Choice};
 ghost use Rattle.actor_threads.specs.Groups.{IsInRound, has_run};
-ghost use Rattle.actor_threads.specs.LinkTable.{row_at};
+ghost use Rattle.actor_threads.specs.LinkTable.{row_at, ways_of};
 ghost use Rattle.actor_threads.specs.Round.{AllStart, CanCloseAll, AllClosed, Gathered, OpenedWith};
 
 use crate::gate::Gate;
@@ -125,7 +125,7 @@ fn worker_of<A: Actor>(
     requires square { length links.old.items ≡ length takes.items * length takes.items }
     requires ends { length sends.items ≡ length takes.items }
     requires input { (number ≡ 0 → row_at links.old.items 0 ≡ []) × (number ≢ 0 → input.items ≡ []) }
-    ensures worker { IfOk result (λ w. OpenedWith (length takes.items) links.old.items number node input.items takes.items sends.items w) }
+    ensures worker { IfOk result (λ w. OpenedWith (record { number = number; node = node; links = links.old.items; input = input.items; takes = takes.items; sends = sends.items }) w) }
     ensures others { (p j : ℕ) → j < length takes.items → j ≢ number → row_at links.new.items (p * length takes.items + j) ≡ row_at links.old.items (p * length takes.items + j) }
     ensures square { length links.new.items ≡ length links.old.items }
 {
@@ -236,7 +236,13 @@ fn gather<R: Wait, A: Actor>(
 ) -> Result<(World<A>, Choices), NoMemory>
     requires some { (0 < length round_parts.nodes.items) × (length round_parts.nodes.items < 256) }
     requires close { CanCloseAll (length round_parts.nodes.items) (map (λ v. v.items) round_parts.ins.items) (map (λ v. v.items) round_parts.outs.items) }
-    ensures { IfOk result (λ r. Gathered round_parts.nodes.items round_parts.histories.items round_parts.notes.items (map (λ v. v.items) round_parts.ins.items) (map (λ v. v.items) round_parts.outs.items) log.items r.0 r.1) }
+    ensures { IfOk result (λ r. Gathered (record {
+      nodes = round_parts.nodes.items;
+      histories = round_parts.histories.items;
+      notes = round_parts.notes.items;
+      ways = ways_of (map (λ v. v.items) round_parts.ins.items) (map (λ v. v.items) round_parts.outs.items);
+      log = log.items;
+    }) r.0 r.1) }
 {
     let RoundParts {
         nodes,
@@ -266,7 +272,7 @@ fn close_all<M: Drop, R: Wait>(
     outs: Vec<VecDeque<WayOut<M>>>,
 ) -> Result<Vec<Sequence<M>>, NoMemory>
     requires { CanCloseAll (length ins.items) (map (λ v. v.items) ins.items) (map (λ v. v.items) outs.items) }
-    ensures { IfOk result (λ links. AllClosed (length ins.items) (length ins.items) (map (λ v. v.items) ins.items) (map (λ v. v.items) outs.items) links.items) }
+    ensures { IfOk result (λ links. AllClosed (length ins.items) (length ins.items) (ways_of (map (λ v. v.items) ins.items) (map (λ v. v.items) outs.items)) links.items) }
 {
     let mut outs = VecDeque::from_vec(outs);
     let mut links = Vec::new(alloc);

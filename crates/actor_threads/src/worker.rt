@@ -167,7 +167,7 @@ impl<A: Actor> Worker<A> {
     /// kept lists that were found empty aren't looked at.
     #[inline(always)]
     fn look<R: Wait>(&mut self, rt: &R, moved: bool) -> Option<(u8, Stamped<A::Message>)>
-        ensures found { MatchOption result (Idled self.old self.new) (λ f. Found A.is_ready self.old self.new f.0 f.1) }
+        ensures found { MatchOption result (Idled self.old self.new) (λ f. Found A.is_ready self.old self.new f) }
         ensures clock { IfSome result (λ f. self.new.clock < last_clock) }
         ensures quiet { IfNone result (moved ≡ false → IsQuiet A.is_ready self.old) }
     {
@@ -186,7 +186,7 @@ impl<A: Actor> Worker<A> {
     /// The same where nothing but the input may be kept.
     #[inline(always)]
     fn look_moved<R: Wait>(&mut self, rt: &R) -> Option<(u8, Stamped<A::Message>)>
-        ensures { MatchOption result (Idled self.old self.new) (λ f. Found A.is_ready self.old self.new f.0 f.1) }
+        ensures { MatchOption result (Idled self.old self.new) (λ f. Found A.is_ready self.old self.new f) }
     {
         if self.number == 0 && !self.ins.is_empty() {
             if let Some(item) = self.next_item() {
@@ -199,7 +199,7 @@ impl<A: Actor> Worker<A> {
     #[cold]
     #[inline(never)]
     fn look_kept(&mut self) -> Option<(u8, Stamped<A::Message>)>
-        ensures found { MatchOption result (self.new ≡ self.old) (λ f. Found A.is_ready self.old self.new f.0 f.1) }
+        ensures found { MatchOption result (self.new ≡ self.old) (λ f. Found A.is_ready self.old self.new f) }
         ensures quiet { IfNone result (IsQuiet A.is_ready self.old) }
     {
         for port in 0..self.ins.len() {
@@ -224,7 +224,7 @@ impl<A: Actor> Worker<A> {
 
     fn next_kept(&mut self, port: usize) -> Option<Stamped<A::Message>>
         requires { port < length self.old.ins }
-        ensures found { MatchOption result (self.new ≡ self.old) (λ x. Found A.is_ready self.old self.new port x) }
+        ensures found { MatchOption result (self.new ≡ self.old) (λ x. Found A.is_ready self.old self.new (port, x)) }
         ensures quiet { IfNone result (IsQuietAt A.is_ready self.old port) }
     {
         if self.is_input(port) {
@@ -245,7 +245,7 @@ impl<A: Actor> Worker<A> {
     #[inline(always)]
     fn next_item(&mut self) -> Option<Stamped<A::Message>>
         requires { (self.old.number ≡ 0) × (0 < length self.old.ins) }
-        ensures found { MatchOption result (self.new ≡ self.old) (λ x. Found A.is_ready self.old self.new 0 x) }
+        ensures found { MatchOption result (self.new ≡ self.old) (λ x. Found A.is_ready self.old self.new (0, x)) }
         ensures quiet { IfNone result (IsQuietAt A.is_ready self.old 0) }
     {
         let Some(item) = self.ins[0].first() else {
@@ -259,7 +259,7 @@ impl<A: Actor> Worker<A> {
 
     fn next_message(&mut self, port: usize) -> Option<Stamped<A::Message>>
         requires { (is_input_of self.old.number port ≡ false) × (port < length self.old.ins) }
-        ensures found { MatchOption result (self.new ≡ self.old) (λ x. Found A.is_ready self.old self.new port x) }
+        ensures found { MatchOption result (self.new ≡ self.old) (λ x. Found A.is_ready self.old self.new (port, x)) }
         ensures quiet { IfNone result (IsQuietAt A.is_ready self.old port) }
     {
         self.ins[port].next_kept()
@@ -267,7 +267,7 @@ impl<A: Actor> Worker<A> {
 
     #[inline(always)]
     fn look_taken<R: Wait>(&mut self, rt: &R) -> Option<(u8, Stamped<A::Message>)>
-        ensures { MatchOption result (Idled self.old self.new) (λ f. Found A.is_ready self.old self.new f.0 f.1) }
+        ensures { MatchOption result (Idled self.old self.new) (λ f. Found A.is_ready self.old self.new f) }
     {
         for _ in 0..self.ins.len() {
             let port = self.next_turn();
@@ -312,7 +312,7 @@ impl<A: Actor> Worker<A> {
     #[inline(always)]
     fn next_taken<R: Wait>(&mut self, rt: &R, port: usize) -> Option<Stamped<A::Message>>
         requires { port < length self.old.ins }
-        ensures { MatchOption result (Idled self.old self.new) (λ x. Found A.is_ready self.old self.new port x) }
+        ensures { MatchOption result (Idled self.old self.new) (λ x. Found A.is_ready self.old self.new (port, x)) }
     {
         if self.is_input(port) {
             return None;
@@ -323,7 +323,7 @@ impl<A: Actor> Worker<A> {
     #[inline(always)]
     fn end_at<R: Wait>(&mut self, rt: &R, port: usize) -> Option<Stamped<A::Message>>
         requires { (is_input_of self.old.number port ≡ false) × (port < length self.old.ins) }
-        ensures { MatchOption result (Idled self.old self.new) (λ x. Found A.is_ready self.old self.new port x) }
+        ensures { MatchOption result (Idled self.old self.new) (λ x. Found A.is_ready self.old self.new (port, x)) }
     {
         self.ins[port].next_taken(rt, &mut self.rooms)
     }
@@ -333,7 +333,7 @@ impl<A: Actor> Worker<A> {
     fn step<R: Wait>(&mut self, rt: &R, port: u8, took: Stamped<A::Message>) -> Result<(), NoMemory>
         requires clock { self.old.clock < last_clock }
         requires stamp { took.clock < last_clock }
-        ensures { OnOk result (Acted A.stepped self.old self.new port took) }
+        ensures { OnOk result (Acted A.stepped self.old self.new (port, took)) }
     {
         let clock = next_clock(self.clock, took.clock);
         self.unsent = true;

@@ -1,7 +1,7 @@
 -- The two ends are those of one link, and one more link is closed.
 use Rattle.std.proofs.Common.{◌<◌, ◌+◌, refl, sym, ◌∙◌, ap, subst, arith, length, map, slice_index_or, add-one}
 use Rattle.std.proofs.lemmas.List.{length-map}
-use Rattle.actor_threads.specs.LinkTable.{Closed, RowClosed}
+use Rattle.actor_threads.specs.LinkTable.{Closed, RowClosed, closing}
 use Rattle.actor_threads.proofs.NotesByCounts.{rest_after}
 use Rattle.actor_threads.proofs.LinkTableLemmas.{head_way, row_read, row_set, row_closed_more}
 use Rattle.actor_threads.proofs.links.close_row.Goals as goal
@@ -30,7 +30,7 @@ loop-way_out-preserved g c =
     record {
       within = omega (arith, h.2.2, inv.closed.rows, c.requires.count, length-map c.args.ins.now.items (λ v. v.items));
       rest = rw add-one (sym (rest_after k _ _ _ shown));
-      closed = subst (λ l. RowClosed (k + 1) c.args.row.items (map (λ v. v.items) c.args.ins.now.items) l c.args.links.now.items c.push.new.self.items) (sym (row_set (λ v. v.items) c.loop-way_out.ins.items k c.pop_front-in-Some.new.self c.pop_front-in-Some.new.self.items refl))
+      closed = subst (λ l. RowClosed (k + 1) c.args.row.items (closing (map (λ v. v.items) c.args.ins.now.items) c.args.links.now.items) (closing l c.push.new.self.items)) (sym (row_set (λ v. v.items) c.loop-way_out.ins.items k c.pop_front-in-Some.new.self c.pop_front-in-Some.new.self.items refl))
           (rw c.in_ok-push.ensures.items (row_closed_more k _ _ _ _ _ c.in-Some-pop_front.way_in c.pop_front-in-Some.new.self.items _ inv.closed (subst (λ n. k < n) inv.closed.rows h.2.2) (read ∙ c.in-Some-pop_front.ensures.items)
           (subst (λ v. Closed c.in-Some-pop_front.way_in v c.in_ok-close_way.field-0) (sym h.2.3) c.in_ok-close_way.ensures)));
     }

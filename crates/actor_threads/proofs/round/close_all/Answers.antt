@@ -1,7 +1,7 @@
 -- One more sender's links can be closed, and are closed.
 use Rattle.std.proofs.Common.{◌<◌, sym, ◌∙◌, ap, subst, arith, length, map, add-one}
 use Rattle.std.proofs.lemmas.List.{length-map}
-use Rattle.actor_threads.specs.LinkTable.{RowClosed, CanClose}
+use Rattle.actor_threads.specs.LinkTable.{RowClosed, CanClose, closing}
 use Rattle.actor_threads.proofs.NotesByCounts.{rest_after}
 use Rattle.actor_threads.proofs.LinkTableLemmas.{mapped_first}
 use Rattle.actor_threads.proofs.ClosingLinks.{can_close, left_more, all_closed_more}
@@ -24,8 +24,8 @@ loop-preserved g c =
     let inside : c.loop.counter < length c.args.ins.items = omega (arith, c.loop-test.true, inv.end, c.requires.senders, length-map c.args.outs.items (λ v. v.items)) in
     let many = length-map c.loop.ins.items _ ∙ inv.count in
     let wide = sym (ap length row) ∙ c.requires.out_rows c.loop.counter inside in
-    let closed = subst (λ l. RowClosed (length c.args.ins.items) l (map (λ v. v.items) c.loop.ins.items) (map (λ v. v.items) c.close_row.new.ins.items) c.loop.links.items c.close_row.new.links.items) (sym row)
-    (subst (λ n. RowClosed n c.in-Some.row.items (map (λ v. v.items) c.loop.ins.items) (map (λ v. v.items) c.close_row.new.ins.items) c.loop.links.items c.close_row.new.links.items) wide c.in_ok-close_row.ensures) in
+    let closed = subst (λ l. RowClosed (length c.args.ins.items) l (closing (map (λ v. v.items) c.loop.ins.items) c.loop.links.items) (closing (map (λ v. v.items) c.close_row.new.ins.items) c.close_row.new.links.items)) (sym row)
+    (subst (λ n. RowClosed n c.in-Some.row.items (closing (map (λ v. v.items) c.loop.ins.items) c.loop.links.items) (closing (map (λ v. v.items) c.close_row.new.ins.items) c.close_row.new.links.items)) wide c.in_ok-close_row.ensures) in
     record {
       count = sym (length-map c.close_row.new.ins.items (λ v. v.items)) ∙ closed.rows ∙ many;
       outs = rw add-one (sym (rest_after c.loop.counter _ _ _ shown));

@@ -4,7 +4,7 @@ use Rattle.std.proofs.lemmas.List.{length-map, get_or_default}
 use Rattle.actor_net.specs.Histories.{dealt}
 use Rattle.actor_net.specs.Merging.{IsMerge}
 use Rattle.actor_net.proofs.LinkLemmas.{inside}
-use Rattle.actor_threads.specs.LinkTable.{row_at}
+use Rattle.actor_threads.specs.LinkTable.{row_at, ways_of}
 use Rattle.actor_threads.specs.Round.{AllClosed}
 use Rattle.actor_threads.proofs.round.gather.Goals as goal
 
@@ -13,7 +13,7 @@ returns g c =
     let n = length c.args.round_parts.nodes.items in
     let links = c.in_ok-links.links.items in
     let many = sym (length-map c.args.round_parts.ins.items (λ v. v.items)) ∙ c.requires.close.receivers in
-    let closed = subst (λ k. AllClosed k k (map (λ v. v.items) c.args.round_parts.ins.items) (map (λ v. v.items) c.args.round_parts.outs.items) links) many c.in_ok-links.ensures in
+    let closed = subst (λ k. AllClosed k k (ways_of (map (λ v. v.items) c.args.round_parts.ins.items) (map (λ v. v.items) c.args.round_parts.outs.items)) links) many c.in_ok-links.ensures in
     let some : 0 < length links = omega (arith, closed.count, inside n 0 0 c.requires.some.0 c.requires.some.0) in
     let empty = c.from_vec-2.ensures ∙ ap (λ l. slice_set links 0 l) (c.replace-input.ensures.after ∙ c.open.ensures) in
     let input = c.replace-input.ensures.value ∙ c.index_mut.ensures.value ∙ get_or_default links 0 _ [] some in
