@@ -20,7 +20,6 @@ at_most_one_byte true = omega arith
 at_most_one_byte false = omega arith
 
 module _ {R : Type 0} where
-
   pub get-map_of : (es : Entries units.Unit R) (u : units.Unit) → finite.get (map_of es) u ≡ record_of unit_eq es u
   unfolding map_of
   get-map_of [] u = get-empty unit_cmp u
