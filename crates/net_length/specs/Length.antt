@@ -56,7 +56,7 @@ abbrev pub most_choices : ℕ → List Msg → ℕ → ℕ
 most_choices n items pieces =
     (2 * n + 6) * length (packets items) + (4 * n + 24) * lines items + 4 * pieces + 3 * n + 8
 
--- the most pieces that the moves of a run with this input send: each move the chunks of as many units as there are packets, up to so many in a piece
+-- the most pieces that the moves of a run with this input send: each move the chunks of as many units as there are packets, up to MOST_CHUNKS in a piece
 abbrev pub most_pieces : List Msg → ℕ
 most_pieces items = length (commands items) * (length (packets items) / MOST_CHUNKS + 1)
 
