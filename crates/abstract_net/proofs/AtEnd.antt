@@ -78,7 +78,7 @@ module _ {R : Type 0} (S : Sys R) (laws : IsSys S) (u : units.Unit) (n : ℕ) (w
         | false ↦ λ off. ap (items (seen (frame S z))) (quiet i j hi hj off)
       ] refl
 
-      is_silent : Silent x
+      pub is_silent : Silent x
       is_silent =
           let zero : 0 < n = omega (arith, some) in
           let one : 1 < n = omega (arith, some) in

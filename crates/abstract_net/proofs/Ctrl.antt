@@ -2,21 +2,16 @@
 -- on any message.
 use Rattle.std.proofs.Common.{◌≡◌, ℕ, Bool, true, false, Option, Some, None, List, [], ◌∷◌, refl, ap, subst}
 use Rattle.std.specs.Prelude.{if◌then◌else◌, ◌&&◌, ◌==◌}
-use Rattle.std.proofs.lemmas.Bool.Decides.{Decides-eqb}
-use Rattle.unit_machine.proofs.Machine.{Where, At_a, At_b, At_c, Steps, Part, Item, Carry, Pass, Fence, Enable, Stream, Delete, Put, Restore, Enabled, Event, Piece, Deleted, Put_ok, Put_no, Restored, Fenced, Forward, Fence_to, Install, Stray, State, C_did, goes, from_a, from_b}
+use Rattle.std.proofs.lemmas.Bool.{eqb-true}
+use Rattle.std.proofs.lemmas.Option.{same_Some}
+use Rattle.unit_machine.proofs.Machine.{Where, At_a, At_b, Item, Enable, Stream, Delete, Put, Restore, Fence_to, Install, Stray, C_did, goes, from_a, from_b}
 use Rattle.unit_machine.proofs.Real as Real
-use Rattle.unit_machine.proofs.Real.{Chunks, record_at, RPiece, M_enable, M_stream, M_delete, M_put, M_restore, M_enabled, M_event, M_piece, M_deleted, M_put_ok, M_put_no, M_restored, M_fenced, M_forward, M_install, M_fence_to, RPhase, R_over, Op, Op_did, r_goes, r_from_a, r_from_b, Frame, where_true, see, sends_to, add, view, only_mine, see_phase, sent_for, Sees}
+use Rattle.unit_machine.proofs.Real.{record_at, M_enable, M_stream, M_delete, M_put, M_restore, M_enabled, M_event, M_piece, M_deleted, M_put_ok, M_put_no, M_restored, M_fenced, M_forward, M_install, M_fence_to, RPhase, R_over, Op, r_goes, r_from_a, r_from_b, where_true, see, sends_to, only_mine, see_phase, Sees}
 use Rattle.unit_machine.proofs.Seen.{Apart, frame_of, quiet, did_a, did_b, from_a_seen, from_b_seen}
 use Rattle.unit_machine.proofs.Labels.{Each}
 use Rattle.abstract_net.proofs.Net.{Open, find_op, set_op, close_op, write_op, num_of}
 use Rattle.nf_function.specs.declared.unit.Unit as units
 use Rattle.record_table.specs.Table.{is_among}
-
-pub true_is : (x y : ℕ) → (x == y) ≡ true → x ≡ y
-true_is x y e = (Decides-eqb x y).0 e
-
-pub same_num : {a b : ℕ} → Some a ≡ Some b → a ≡ b
-same_num e = cc
 
 pub none_some : {X : Type 0} {P : Type 0} {a : X} → None ≡ Some a → P
 none_some e = cc
@@ -36,14 +31,14 @@ find_set {R = R} n ph f (x ∷ es) e there = elim (x.op.num == n) as (λ b. (x.o
 find_close_other : {R : Type 0} (k n : ℕ) (es : List (Open R)) → (k == n) ≡ false → find_op (close_op k es) n ≡ find_op es n
 find_close_other k n [] off = refl
 find_close_other k n (e ∷ es) off = elim (e.op.num == k) as (λ b. (e.op.num == k) ≡ b → find_op (if b then close_op k es else e ∷ close_op k es) n ≡ (if e.op.num == n then Some e else find_op es n)) [
-  | true ↦ λ on. let same : e.op.num ≡ k = true_is e.op.num k on in let out : (e.op.num == n) ≡ false = rw same off in rw out (find_close_other k n es off)
+  | true ↦ λ on. let same : e.op.num ≡ k = eqb-true e.op.num k on in let out : (e.op.num == n) ≡ false = rw same off in rw out (find_close_other k n es off)
   | false ↦ λ _. ap (λ o. if e.op.num == n then Some e else o) (find_close_other k n es off)
 ] refl
 
 find_set_other : {R : Type 0} (k n : ℕ) (ph : RPhase R) (f : List ℕ) (es : List (Open R)) → (k == n) ≡ false → find_op (set_op k ph f es) n ≡ find_op es n
 find_set_other k n ph f [] off = refl
 find_set_other k n ph f (e ∷ es) off = elim (e.op.num == k) as (λ b. (e.op.num == k) ≡ b → find_op (if b then record e { phase = ph; store = f } ∷ es else e ∷ set_op k ph f es) n ≡ (if e.op.num == n then Some e else find_op es n)) [
-  | true ↦ λ on. let same : e.op.num ≡ k = true_is e.op.num k on in let out : (e.op.num == n) ≡ false = rw same off in rw out refl
+  | true ↦ λ on. let same : e.op.num ≡ k = eqb-true e.op.num k on in let out : (e.op.num == n) ≡ false = rw same off in rw out refl
   | false ↦ λ _. ap (λ o. if e.op.num == n then Some e else o) (find_set_other k n ph f es off)
 ] refl
 
@@ -99,36 +94,36 @@ module _ {R : Type 0} (o : Op) (mine : ℕ → Bool) (u : units.Unit) (t : Apart
 
   pub ext_a : (phase : RPhase R) (f : List ℕ) (m : Real.Msg R) → num_of m ≡ Some o.num → Sees (frame_of o mine u) (r_from_a o phase f m) (did_a o mine u t phase f (Real.seen (frame_of o mine u) m))
   ext_a phase f (M_event n p) h = from_a_seen o mine u t phase f (M_event n p) tt
-  ext_a phase f (M_enabled n) h = from_a_seen o mine u t phase f (M_enabled n) (same_num h)
-  ext_a phase f (M_piece n p) h = from_a_seen o mine u t phase f (M_piece n p) (same_num h)
-  ext_a phase f (M_deleted n) h = from_a_seen o mine u t phase f (M_deleted n) (same_num h)
-  ext_a phase f (M_restored n) h = from_a_seen o mine u t phase f (M_restored n) (same_num h)
-  ext_a phase f (M_fenced n) h = from_a_seen o mine u t phase f (M_fenced n) (same_num h)
-  ext_a phase f (M_put_ok n) h = from_a_seen o mine u t phase f (M_put_ok n) (same_num h)
-  ext_a phase f (M_put_no n why cs) h = from_a_seen o mine u t phase f (M_put_no n why cs) (same_num h)
-  ext_a phase f (M_enable n k) h = as_seen_a phase f (M_enable n k) (Enable k) (its_num n (Enable k) (same_num h)) refl refl
-  ext_a phase f (M_stream n) h = as_seen_a phase f (M_stream n) Stream (its_num n Stream (same_num h)) refl refl
-  ext_a phase f (M_delete n us) h = as_seen_a phase f (M_delete n us) (Delete (is_among us u)) (its_num n (Delete (is_among us u)) (same_num h)) refl refl
-  ext_a phase f (M_put n p first) h = as_seen_a phase f (M_put n p first) (Put (see (frame_of o mine u) p) first) (its_num n (Put (see (frame_of o mine u) p) first) (same_num h)) refl refl
-  ext_a phase f (M_restore n cs) h = as_seen_a phase f (M_restore n cs) (Restore (record_at u cs)) (its_num n (Restore (record_at u cs)) (same_num h)) refl refl
+  ext_a phase f (M_enabled n) h = from_a_seen o mine u t phase f (M_enabled n) (same_Some _ _ h)
+  ext_a phase f (M_piece n p) h = from_a_seen o mine u t phase f (M_piece n p) (same_Some _ _ h)
+  ext_a phase f (M_deleted n) h = from_a_seen o mine u t phase f (M_deleted n) (same_Some _ _ h)
+  ext_a phase f (M_restored n) h = from_a_seen o mine u t phase f (M_restored n) (same_Some _ _ h)
+  ext_a phase f (M_fenced n) h = from_a_seen o mine u t phase f (M_fenced n) (same_Some _ _ h)
+  ext_a phase f (M_put_ok n) h = from_a_seen o mine u t phase f (M_put_ok n) (same_Some _ _ h)
+  ext_a phase f (M_put_no n why cs) h = from_a_seen o mine u t phase f (M_put_no n why cs) (same_Some _ _ h)
+  ext_a phase f (M_enable n k) h = as_seen_a phase f (M_enable n k) (Enable k) (its_num n (Enable k) (same_Some _ _ h)) refl refl
+  ext_a phase f (M_stream n) h = as_seen_a phase f (M_stream n) Stream (its_num n Stream (same_Some _ _ h)) refl refl
+  ext_a phase f (M_delete n us) h = as_seen_a phase f (M_delete n us) (Delete (is_among us u)) (its_num n (Delete (is_among us u)) (same_Some _ _ h)) refl refl
+  ext_a phase f (M_put n p first) h = as_seen_a phase f (M_put n p first) (Put (see (frame_of o mine u) p) first) (its_num n (Put (see (frame_of o mine u) p) first) (same_Some _ _ h)) refl refl
+  ext_a phase f (M_restore n cs) h = as_seen_a phase f (M_restore n cs) (Restore (record_at u cs)) (its_num n (Restore (record_at u cs)) (same_Some _ _ h)) refl refl
   ext_a phase f (M_forward p to) h = none_some h
-  ext_a phase f (M_install n from to) h = as_seen_a phase f (M_install n from to) (if (from == o.src) && (to == o.dst) then Install else Stray) (its_num n (if (from == o.src) && (to == o.dst) then Install else Stray) (same_num h)) refl (install_a phase f ((from == o.src) && (to == o.dst)))
-  ext_a phase f (M_fence_to n to) h = as_seen_a phase f (M_fence_to n to) (sends_to (frame_of o mine u) to (λ w. Fence_to w)) (its_num n (sends_to (frame_of o mine u) to (λ w. Fence_to w)) (same_num h)) refl (idle_side (to == o.src) (to == o.dst) (λ w. Fence_to w) (from_a (ph phase) (only_mine (frame_of o mine u) f)) (goes (ph phase) (only_mine (frame_of o mine u) f)) (λ _. refl) refl)
+  ext_a phase f (M_install n from to) h = as_seen_a phase f (M_install n from to) (if (from == o.src) && (to == o.dst) then Install else Stray) (its_num n (if (from == o.src) && (to == o.dst) then Install else Stray) (same_Some _ _ h)) refl (install_a phase f ((from == o.src) && (to == o.dst)))
+  ext_a phase f (M_fence_to n to) h = as_seen_a phase f (M_fence_to n to) (sends_to (frame_of o mine u) to (λ w. Fence_to w)) (its_num n (sends_to (frame_of o mine u) to (λ w. Fence_to w)) (same_Some _ _ h)) refl (idle_side (to == o.src) (to == o.dst) (λ w. Fence_to w) (from_a (ph phase) (only_mine (frame_of o mine u) f)) (goes (ph phase) (only_mine (frame_of o mine u) f)) (λ _. refl) refl)
 
   pub ext_b : (phase : RPhase R) (f : List ℕ) (m : Real.Msg R) → num_of m ≡ Some o.num → Sees (frame_of o mine u) (r_from_b o phase f m) (did_b o mine u t phase f (Real.seen (frame_of o mine u) m))
   ext_b phase f (M_event n p) h = from_b_seen o mine u t phase f (M_event n p) tt
-  ext_b phase f (M_enabled n) h = from_b_seen o mine u t phase f (M_enabled n) (same_num h)
-  ext_b phase f (M_piece n p) h = from_b_seen o mine u t phase f (M_piece n p) (same_num h)
-  ext_b phase f (M_deleted n) h = from_b_seen o mine u t phase f (M_deleted n) (same_num h)
-  ext_b phase f (M_restored n) h = from_b_seen o mine u t phase f (M_restored n) (same_num h)
-  ext_b phase f (M_fenced n) h = from_b_seen o mine u t phase f (M_fenced n) (same_num h)
-  ext_b phase f (M_put_ok n) h = from_b_seen o mine u t phase f (M_put_ok n) (same_num h)
-  ext_b phase f (M_put_no n why cs) h = from_b_seen o mine u t phase f (M_put_no n why cs) (same_num h)
-  ext_b phase f (M_enable n k) h = as_seen_b phase f (M_enable n k) (Enable k) (its_num n (Enable k) (same_num h)) refl refl
-  ext_b phase f (M_stream n) h = as_seen_b phase f (M_stream n) Stream (its_num n Stream (same_num h)) refl refl
-  ext_b phase f (M_delete n us) h = as_seen_b phase f (M_delete n us) (Delete (is_among us u)) (its_num n (Delete (is_among us u)) (same_num h)) refl refl
-  ext_b phase f (M_put n p first) h = as_seen_b phase f (M_put n p first) (Put (see (frame_of o mine u) p) first) (its_num n (Put (see (frame_of o mine u) p) first) (same_num h)) refl refl
-  ext_b phase f (M_restore n cs) h = as_seen_b phase f (M_restore n cs) (Restore (record_at u cs)) (its_num n (Restore (record_at u cs)) (same_num h)) refl refl
+  ext_b phase f (M_enabled n) h = from_b_seen o mine u t phase f (M_enabled n) (same_Some _ _ h)
+  ext_b phase f (M_piece n p) h = from_b_seen o mine u t phase f (M_piece n p) (same_Some _ _ h)
+  ext_b phase f (M_deleted n) h = from_b_seen o mine u t phase f (M_deleted n) (same_Some _ _ h)
+  ext_b phase f (M_restored n) h = from_b_seen o mine u t phase f (M_restored n) (same_Some _ _ h)
+  ext_b phase f (M_fenced n) h = from_b_seen o mine u t phase f (M_fenced n) (same_Some _ _ h)
+  ext_b phase f (M_put_ok n) h = from_b_seen o mine u t phase f (M_put_ok n) (same_Some _ _ h)
+  ext_b phase f (M_put_no n why cs) h = from_b_seen o mine u t phase f (M_put_no n why cs) (same_Some _ _ h)
+  ext_b phase f (M_enable n k) h = as_seen_b phase f (M_enable n k) (Enable k) (its_num n (Enable k) (same_Some _ _ h)) refl refl
+  ext_b phase f (M_stream n) h = as_seen_b phase f (M_stream n) Stream (its_num n Stream (same_Some _ _ h)) refl refl
+  ext_b phase f (M_delete n us) h = as_seen_b phase f (M_delete n us) (Delete (is_among us u)) (its_num n (Delete (is_among us u)) (same_Some _ _ h)) refl refl
+  ext_b phase f (M_put n p first) h = as_seen_b phase f (M_put n p first) (Put (see (frame_of o mine u) p) first) (its_num n (Put (see (frame_of o mine u) p) first) (same_Some _ _ h)) refl refl
+  ext_b phase f (M_restore n cs) h = as_seen_b phase f (M_restore n cs) (Restore (record_at u cs)) (its_num n (Restore (record_at u cs)) (same_Some _ _ h)) refl refl
   ext_b phase f (M_forward p to) h = none_some h
-  ext_b phase f (M_install n from to) h = as_seen_b phase f (M_install n from to) (if (from == o.src) && (to == o.dst) then Install else Stray) (its_num n (if (from == o.src) && (to == o.dst) then Install else Stray) (same_num h)) refl (install_b phase f ((from == o.src) && (to == o.dst)))
-  ext_b phase f (M_fence_to n to) h = as_seen_b phase f (M_fence_to n to) (sends_to (frame_of o mine u) to (λ w. Fence_to w)) (its_num n (sends_to (frame_of o mine u) to (λ w. Fence_to w)) (same_num h)) refl (idle_side (to == o.src) (to == o.dst) (λ w. Fence_to w) (from_b o.keep (ph phase) (only_mine (frame_of o mine u) f)) (goes (ph phase) (only_mine (frame_of o mine u) f)) (λ _. refl) refl)
+  ext_b phase f (M_install n from to) h = as_seen_b phase f (M_install n from to) (if (from == o.src) && (to == o.dst) then Install else Stray) (its_num n (if (from == o.src) && (to == o.dst) then Install else Stray) (same_Some _ _ h)) refl (install_b phase f ((from == o.src) && (to == o.dst)))
+  ext_b phase f (M_fence_to n to) h = as_seen_b phase f (M_fence_to n to) (sends_to (frame_of o mine u) to (λ w. Fence_to w)) (its_num n (sends_to (frame_of o mine u) to (λ w. Fence_to w)) (same_Some _ _ h)) refl (idle_side (to == o.src) (to == o.dst) (λ w. Fence_to w) (from_b o.keep (ph phase) (only_mine (frame_of o mine u) f)) (goes (ph phase) (only_mine (frame_of o mine u) f)) (λ _. refl) refl)

@@ -2,9 +2,11 @@
 -- sent has its labels.
 use Rattle.std.proofs.Common.{◌≡◌, ℕ, Bool, true, false, Option, Some, None, List, [], ◌∷◌, refl, sym, ap, ◌∙◌, subst}
 use Rattle.std.specs.Prelude.{if◌then◌else◌, ◌==◌}
+use Rattle.std.proofs.lemmas.Bool.{eqb-true, both_ways}
+use Rattle.std.proofs.lemmas.Option.{same_Some}
 use Rattle.unit_machine.proofs.Machine.{Item, Carry, Pass, Fence, Forward, State, Phase, C_did, goes, from_a, from_b}
 use Rattle.unit_machine.proofs.Real as Real
-use Rattle.unit_machine.proofs.Real.{record_at, M_enable, M_stream, M_delete, M_put, M_restore, M_enabled, M_event, M_piece, M_deleted, M_put_ok, M_put_no, M_restored, M_fenced, M_forward, M_install, M_fence_to, RPhase, R_over, Op, Op_did, r_goes, r_from_a, r_from_b, Frame, where_true, add, view, only_mine, see_phase, sent_for, sends_to, Sees}
+use Rattle.unit_machine.proofs.Real.{M_enable, M_stream, M_delete, M_put, M_restore, M_enabled, M_event, M_piece, M_deleted, M_put_ok, M_put_no, M_restored, M_fenced, M_forward, M_install, M_fence_to, RPhase, R_over, Op, Op_did, r_goes, r_from_a, r_from_b, Frame, where_true, add, view, only_mine, see_phase, sent_for, sends_to, Sees}
 use Rattle.unit_machine.proofs.Seen.{Apart, quiet, did_a, did_b}
 use Rattle.unit_machine.proofs.Labels.{Each, Foreign, Sent_foreign, Clean, Stays_clean, from_a_clean, from_b_clean}
 use Rattle.unit_machine.proofs.Quiet.{Is_quiet, Not_mine, view_nothing, from_a_quiet, from_b_quiet}
@@ -13,7 +15,7 @@ use Rattle.flow_filter.specs.declared.filter.Filter.{Filter}
 use Rattle.abstract_net.proofs.Net.{Msg, In_packet, Asked, Carry_on, Pass_on, Fence_on, Mv, Sys, Open, find_op, write_op, num_of, row_of, row, filter_for, wrap, C_step, found, numbered, ctrl_step, seen}
 use Rattle.abstract_net.proofs.Holding.{Seeing, EachSent, frame, Mv_label, Label, Op_label, Ctrl_is}
 use Rattle.abstract_net.proofs.RowNumbers.{Of_row, Sent_of, row_numbers}
-use Rattle.abstract_net.proofs.Ctrl.{true_is, same_num, none_some, find_close, find_set, find_write_other, each_write, each_found, idle_side, ext_a, ext_b}
+use Rattle.abstract_net.proofs.Ctrl.{none_some, find_close, find_set, find_write_other, each_write, each_found, idle_side, ext_a, ext_b}
 use Rattle.record_table.specs.Table.{same_unit}
 
 module _ {R : Type 0} (S : Sys R) (z : Seeing) where
@@ -56,7 +58,7 @@ module _ {R : Type 0} (S : Sys R) (z : Seeing) where
   not_mine g k p off l = elim (same_unit (S.unit_of p) z.unit) as (λ b. (b ≡ true → (k == n) ≡ true) → b ≡ false) [ true ↦ λ f. let both : false ≡ true = sym off ∙ f refl in cc | false ↦ λ _. refl ] l
 
   k_off : (j k : ℕ) → Some j ≡ Some k → (k == n) ≡ false → (j == n) ≡ false
-  k_off j k e off = let same : j ≡ k = same_num e in rw same off
+  k_off j k e off = let same : j ≡ k = same_Some _ _ e in rw same off
 
   unseen_other : (g : Filter) (k : ℕ) (m : Real.Msg R) → num_of m ≡ Some k → (k == n) ≡ false → Mv_label S z g m → Real.seen fr m ≡ None
   unseen_other g k (M_event j p) e off l = unseen_if (same_unit (S.unit_of p) z.unit) _ (not_mine g j p (k_off j k e off) l)
@@ -127,7 +129,7 @@ module _ {R : Type 0} (S : Sys R) (z : Seeing) where
     other_found : (k : ℕ) (e : Open R) (port : ℕ) (g : Filter) (m : Real.Msg R) → find_op es k ≡ Some e → num_of m ≡ Some k → (k == n) ≡ false → Mv_label S z g m → Ctrl_does (found es k port m (Some e)) stay
     other_found k e port g m there num off l =
         let a = each_found (Op_label S z) k es e labs there in
-        let same : e.op.num ≡ k = true_is e.op.num k a.1 in
+        let same : e.op.num ≡ k = eqb-true e.op.num k a.1 in
         let out : (e.op.num == n) ≡ false = rw same off in
         let clean = a.0.1 out in
         let did = row e port m in
@@ -150,17 +152,14 @@ module _ {R : Type 0} (S : Sys R) (z : Seeing) where
 
     own_does : (e : Open R) (did : Op_did R) (d : C_did R) → find_op es n ≡ Some e → e.op ≡ z.op → e.op.keep ≡ x.keep → Sees fr did d → Each (Sent_of z.op) did.sends → Ctrl_does (record { ops = write_op n did.phase did.store es; sends = wrap e.filter did.sends }) d
     own_does e did d there q keep s nums = record {
-      ops = each_write (Op_label S z) n did.phase did.store es (λ y on h. (h.0, λ off. none_on (y.op.num == n) on off, h.2)) labs;
+      ops = each_write (Op_label S z) n did.phase did.store es (λ y on h. (h.0, λ off. absurd (both_ways (y.op.num == n) off on), h.2)) labs;
       ctrl = λ x' a b c. after_write e did.phase did.store x' there q (s.phase ∙ sym a) (s.store ∙ sym b) (keep ∙ sym c);
       to_a = wrap_view e.filter z.op.src did.sends ∙ s.to_a;
       to_b = wrap_view e.filter z.op.dst did.sends ∙ s.to_b;
       to_s = wrap_view e.filter 0 did.sends ∙ s.to_s;
       others = λ j a b c. wrap_view e.filter j did.sends ∙ s.others j a b c;
-      labels = wrap_labels z.op e.filter did.sends nums (subst (λ o. S.takes e.filter z.unit ≡ (o.num == n)) q (each_found (Op_label S z) n es e labs there).0.0) (λ off. none_on (z.op.num == n) apart.num off);
+      labels = wrap_labels z.op e.filter did.sends nums (subst (λ o. S.takes e.filter z.unit ≡ (o.num == n)) q (each_found (Op_label S z) n es e labs there).0.0) (λ off. absurd (both_ways (z.op.num == n) off apart.num));
     }
-      where
-        none_on : {P : Type 0} (b : Bool) → b ≡ true → b ≡ false → P
-        none_on b on off = let both : true ≡ false = sym on ∙ off in cc
 
     -- what the machine's controller does, by the tests of the sender
     abbrev pub mdid : Bool → Bool → Phase R → List ℕ → Option (Item R) → C_did R
@@ -218,7 +217,7 @@ module _ {R : Type 0} (S : Sys R) (z : Seeing) where
         elim (num_of m) as (λ o. num_of m ≡ o → Ctrl_does (numbered es port m o) (mdid (port == z.op.src) (port == z.op.dst) x.phase x.store (Real.seen fr m))) [
           | None ↦ λ none. as_stay (no_num (port == z.op.src) (port == z.op.dst) m none) stays
           | Some k ↦ λ num. elim (k == n) as (λ b. (k == n) ≡ b → Ctrl_does (found es k port m (find_op es k)) (mdid (port == z.op.src) (port == z.op.dst) x.phase x.store (Real.seen fr m))) [
-            | true ↦ λ on. let same : k ≡ n = true_is k n on in subst (λ j. Ctrl_does (found es j port m (find_op es j)) (mdid (port == z.op.src) (port == z.op.dst) x.phase x.store (Real.seen fr m))) (sym same) (by_op (find_op es n) refl (num ∙ ap Some same))
+            | true ↦ λ on. let same : k ≡ n = eqb-true k n on in subst (λ j. Ctrl_does (found es j port m (find_op es j)) (mdid (port == z.op.src) (port == z.op.dst) x.phase x.store (Real.seen fr m))) (sym same) (by_op (find_op es n) refl (num ∙ ap Some same))
             | false ↦ λ off. let none = unseen_other g k m num off l in subst (λ o. Ctrl_does (found es k port m (find_op es k)) (mdid (port == z.op.src) (port == z.op.dst) x.phase x.store o)) (sym none) (by_other k (find_op es k) refl num off)
           ] refl
         ] refl

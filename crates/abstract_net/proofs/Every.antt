@@ -3,9 +3,9 @@ use Rattle.std.proofs.Common.{◌≡◌, ℕ, suc, ◌<◌, ◌≤◌, Bool, tru
 use Rattle.std.specs.Prelude.{if◌then◌else◌, ◌&&◌, ◌==◌}
 use Rattle.unit_machine.proofs.Machine.{Rule, Free, Drops, Buffers}
 use Rattle.unit_machine.proofs.Real as Real
-use Rattle.unit_machine.proofs.Real.{RPiece, M_enable, M_stream, M_delete, M_put, M_restore, M_enabled, M_event, M_piece, M_deleted, M_put_ok, M_put_no, M_restored, M_fenced, M_forward, M_install, M_fence_to, RPhase, Op, sent_for}
+use Rattle.unit_machine.proofs.Real.{RPiece, M_enable, M_stream, M_delete, M_put, M_restore, M_piece, M_forward, M_install, M_fence_to, Op, sent_for}
 use Rattle.unit_machine.proofs.Cuts.{marks, chop}
-use Rattle.unit_machine.proofs.Labels.{Each, each-append}
+use Rattle.unit_machine.proofs.Labels.{Each, each-append, each_map}
 use Rattle.unit_machine.proofs.SeenInst.{r_put}
 use Rattle.flow_filter.specs.declared.filter.Filter.{Filter}
 use Rattle.abstract_net.proofs.Net.{inst_next, ctrl_next, sw_next, in_next, begin_next, Msg, In_packet, Asked, Carry_on, Pass_on, Fence_on, Mv, Want, Sys, IsSys, Ruling, first_rule, set_rule, hold, holding, drop_rule, to_ctrl, Inst_n, by_kind, by_rule, inst_step, Open, find_op, num_of, row, wrap, found, numbered, ctrl_step, sw_sends, new_op, begin_sends, World}
@@ -14,7 +14,7 @@ use Rattle.abstract_net.proofs.Holding.{EachSent}
 use Rattle.abstract_net.proofs.Links.{each_after, each_put}
 use Rattle.abstract_net.proofs.RowNumbers.{Of_row, Sent_of, row_numbers}
 use Rattle.abstract_net.proofs.Ctrl.{each_write, each_found}
-use Rattle.abstract_net.proofs.Rest.{each_map, Below, Below_num, Global}
+use Rattle.abstract_net.proofs.Rest.{Below, Below_num, Global}
 use Rattle.abstract_net.proofs.Units.{Where, May, Hands_on, inst_where, ctrl_where, switch_where, input_where, put_where, begin_where}
 use Rattle.nf_function.specs.declared.unit.Unit as units
 use Rattle.record_table.specs.Table.{same_unit}

@@ -3,15 +3,16 @@
 use Rattle.std.proofs.Common.{◌≡◌, ℕ, suc, ◌<◌, ◌≤◌, Bool, true, false, Some, None, List, [], ◌∷◌, ◌++◌, ◌⊎◌, inl, inr, length, refl, sym, ap, ◌∙◌, subst, arith}
 use Rattle.std.specs.Prelude.{if◌then◌else◌, ◌&&◌, ◌==◌}
 use Rattle.std.proofs.lemmas.Bool.Decides.{nat_tests, Decides-eqb}
-use Rattle.unit_machine.proofs.Labels.{Each, each-append}
+use Rattle.share_machine.proofs.Lists.{self}
+use Rattle.unit_machine.proofs.Labels.{Each, each-append, each_map}
 use Rattle.flow_filter.specs.declared.filter.Filter.{Filter}
 use Rattle.abstract_net.proofs.Net.{Asked, Want, Sys, IsSys, Open, find_op, new_op, meets_any, begin_sends, begin_next}
 use Rattle.abstract_net.proofs.Links.{each_put}
-use Rattle.abstract_net.proofs.Rest.{each_map, Below}
+use Rattle.abstract_net.proofs.Rest.{Below}
 use Rattle.abstract_net.proofs.Every.{begin_global, global_more}
 use Rattle.abstract_net.proofs.AsMoves.{old_sends-old, olds-put, no_olds-put}
 use Rattle.abstract_net.proofs.NewMessages.{each_new_map, each_new_both, sent_old, new_put}
-use Rattle.abstract_net.proofs.ShareLists.{found_num, find_old, find_new}
+use Rattle.abstract_net.proofs.ShareLists.{find_old, find_new}
 use Rattle.abstract_net.proofs.GlobalAll.{Numbered, Disjoint, disjoint_sym, Of_share, Global_all}
 use Rattle.abstract_net.proofs.GlobalShares.{nums_more, not_yet, ops_not_yet, ops_old, of_share_more}
 use Rattle.abstract_net.proofs.GlobalSteps.{global_as}
@@ -97,9 +98,6 @@ module _ {R : Type 0} (S : Sys R) (A : Sharing S) (laws : IsSys S) where
         queues = each-append (λ e. Each (λ p. S.takes e.filter (S.unit_of p) ≡ true) e.queue) w.shares (new_share x ∷ []) g.queues (tt, tt);
       }
     where
-      self : (k : ℕ) → (k == k) ≡ true
-      self k = grind (arith, nat_tests)
-
       by_num : (n : ℕ) (b : Bool) → (x.num == n) ≡ b → (find_op w.ops n ≡ None) ⊎ (find_share w.shares n ≡ None) → (find_op w.ops n ≡ None) ⊎ (find_share (w.shares ++ new_share x ∷ []) n ≡ None)
       by_num n true on h = let same : x.num ≡ n = (Decides-eqb x.num n).0 on in inl (ops_not_yet w.ops n w.next (subst (λ k. w.next ≤ k) same may.fresh) g.moves.ops)
       by_num n false off (inl none) = inl none

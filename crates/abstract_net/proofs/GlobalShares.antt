@@ -2,11 +2,11 @@
 use Rattle.std.proofs.Common.{◌≡◌, ℕ, ◌<◌, ◌≤◌, Bool, true, false, Option, Some, None, List, [], ◌∷◌, ◌++◌, length, refl, sym, ap, ◌∙◌, subst, arith}
 use Rattle.std.specs.Prelude.{if◌then◌else◌, ◌==◌}
 use Rattle.std.proofs.lemmas.Bool.Decides.{nat_tests}
-use Rattle.unit_machine.proofs.Real.{Chunks, record_at}
-use Rattle.unit_machine.proofs.Labels.{Each, each-append}
+use Rattle.unit_machine.proofs.Real.{Chunks}
+use Rattle.unit_machine.proofs.Labels.{Each, each-append, each_any}
 use Rattle.share_machine.proofs.Share.{Phase, has}
 use Rattle.flow_filter.specs.declared.filter.Filter.{Filter}
-use Rattle.abstract_net.proofs.Net.{Msg, Sys, Open, find_op, close_op, write_op, ctrl_step, num_of, numbered, found, row}
+use Rattle.abstract_net.proofs.Net.{Msg, Sys, Open, find_op, ctrl_step, num_of, numbered, found, row}
 use Rattle.abstract_net.proofs.Net as net
 use Rattle.abstract_net.proofs.Ctrl.{each_write}
 use Rattle.abstract_net.proofs.NewMessages.{On_new}
@@ -163,11 +163,7 @@ module _ {R : Type 0} (S : Sys R) where
     told_of es (New (S_chunks n cs)) e t h is = let eq = is.1 in rw eq (h e is.0)
     told_of es (New (S_shared n c)) e t h is = let eq = is.1 in let same : h.share ≡ e = (let both = sym h.found ∙ is.0 in cc) in rw eq (one_within e.filter c (subst (λ d. S.takes d.filter c.0 ≡ true) same h.says))
     told_of es (New (S_synced n)) e t h is = rw is tt
-    told_of es (New (Diverted_on p)) e t h is = let eq = is.1 in let k = (taking_each S A (λ _. Unit {0}) es (S.unit_of p) e (all es) is.0).1 in rw eq k
-      where
-        all : (es : List Open_share) → Each (λ _. Unit {0}) es
-        all [] = tt
-        all (x ∷ es) = (tt, all es)
+    told_of es (New (Diverted_on p)) e t h is = let eq = is.1 in let k = (taking_each S A (λ _. Unit {0}) es (S.unit_of p) e (each_any es) is.0).1 in rw eq k
     told_of es (New (Shared_on n home p)) e t h is = absurd is
     told_of es (New (S_asked x)) e t h is = absurd is
     told_of es (New (S_install n g from)) e t h is = absurd is

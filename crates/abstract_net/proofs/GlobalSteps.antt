@@ -4,15 +4,14 @@ use Rattle.std.proofs.Common.{◌≡◌, ℕ, ◌<◌, Bool, true, false, Option
 use Rattle.std.specs.Prelude.{if◌then◌else◌, ◌&&◌, ◌==◌, option_to_list}
 use Rattle.std.specs.Option.{option_map_or}
 use Rattle.std.proofs.lemmas.Bool.Decides.{Decides-eqb}
-use Rattle.unit_machine.proofs.Real.{Chunks, record_at, sent_for}
 use Rattle.unit_machine.proofs.UnitPieces.{first}
 use Rattle.unit_machine.proofs.Cuts.{record_first}
-use Rattle.unit_machine.proofs.Labels.{Each}
+use Rattle.unit_machine.proofs.Labels.{Each, each_map}
 use Rattle.flow_filter.specs.declared.filter.Filter.{Filter}
-use Rattle.abstract_net.proofs.Net.{Msg, Carry_on, Fence_on, Sys, IsSys, process, inst_step, Open, find_op, ctrl_step, sw_sends, World, inst_next, ctrl_next, sw_next, in_next}
+use Rattle.abstract_net.proofs.Net.{Msg, Carry_on, Sys, IsSys, process, inst_step, Open, find_op, sw_sends, World, inst_next, ctrl_next, sw_next, in_next}
 use Rattle.abstract_net.proofs.Holding.{EachSent}
 use Rattle.abstract_net.proofs.Links.{each_put}
-use Rattle.abstract_net.proofs.Rest.{each_map, Below, Global}
+use Rattle.abstract_net.proofs.Rest.{Below, Global}
 use Rattle.abstract_net.proofs.Every.{inst_global, ctrl_global, switch_global, input_global}
 use Rattle.abstract_net.proofs.AsMoves.{old_sends, old_sends-old, olds-put, no_olds-put, olds-after, news-after, no_olds-after, by_share_new, member_new, ctrl_links}
 use Rattle.abstract_net.proofs.NewMessages.{On_new, Each_sent_new, each_new_map, each_sent_map, sent_old, sent_old_and, new_after, new_put, new_head}

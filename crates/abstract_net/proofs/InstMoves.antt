@@ -1,18 +1,19 @@
 -- An instance takes a message of a move: to a unit of that move it is the machine's row, to another unit nothing.
 use Rattle.std.proofs.Common.{◌≡◌, ℕ, Bool, true, false, Option, Some, None, List, [], ◌∷◌, map, length, refl, sym, ap, ◌∙◌, subst}
 use Rattle.std.specs.Prelude.{if◌then◌else◌, ◌&&◌, ◌==◌}
+use Rattle.std.proofs.lemmas.Bool.{eqb-true, both_ways}
 use Rattle.unit_machine.proofs.Machine.{Where, At_a, At_b, joined, Rule, Part, Inst, Did, sends as did_sends, Item, Enable, Enabled, Stream, Delete, Deleted, Put, Restore, Restored, Event, Piece, Put_ok, Put_no, Fenced, Forward, Fence_to, Install, Stray}
 use Rattle.unit_machine.proofs.UnitPieces.{ArePiecesOf}
 use Rattle.unit_machine.proofs.Real as Real
-use Rattle.unit_machine.proofs.Real.{Chunks, record_at, RPiece, M_enable, M_stream, M_delete, M_put, M_restore, M_enabled, M_event, M_piece, M_deleted, M_put_ok, M_put_no, M_restored, M_fenced, M_forward, M_install, M_fence_to, Frame, where_true, see, sends_to, add, view, only_mine, sent_for}
+use Rattle.unit_machine.proofs.Real.{Chunks, record_at, RPiece, M_enable, M_stream, M_delete, M_put, M_restore, M_enabled, M_event, M_piece, M_deleted, M_put_ok, M_put_no, M_restored, M_fenced, M_forward, M_install, M_fence_to, Frame, where_true, see, sends_to, view, only_mine}
 use Rattle.unit_machine.proofs.Labels.{Each, Without, cut_foreign}
 use Rattle.unit_machine.proofs.Cuts.{all_at, marks, chop, joined-chop}
 use Rattle.unit_machine.proofs.SeenInst.{Sees_i, r_stream, r_delete, r_restore, r_put, parts_of, stream_seen, delete_seen, restore_seen, put_seen}
 use Rattle.flow_filter.specs.declared.filter.Filter.{Filter}
-use Rattle.abstract_net.proofs.Net.{everything, Msg, Mv, Sys, IsSys, to_ctrl, Inst_n, I_did, says, with_table, on_move, set_rule, find_rule, is_free, held_of, seen}
+use Rattle.abstract_net.proofs.Net.{everything, Msg, Sys, IsSys, to_ctrl, Inst_n, I_did, says, with_table, on_move, is_free, held_of, seen}
 use Rattle.abstract_net.proofs.Holding.{Seeing, EachSent, frame, Mv_label, Label, Sees_node}
 use Rattle.abstract_net.proofs.RuleLists.{find_set_other, set_own_rule, set_own_held}
-use Rattle.abstract_net.proofs.Insts.{true_is, Inst_goes, does, ctrl_sends, ctrl_else, one_else, label_set}
+use Rattle.abstract_net.proofs.Insts.{Inst_goes, does, ctrl_sends, ctrl_else, one_else, label_set}
 use Rattle.nf_function.specs.declared.unit.Unit as units
 use Rattle.record_table.specs.Table.{is_among}
 use Rattle.nf_msgs.specs.declared.answer.Answer.{Answer}
@@ -66,12 +67,9 @@ module _ {R : Type 0} (S : Sys R) (laws : IsSys S) (z : Seeing) (num : (z.op.num
     ran = refl;
   }
 
-  yes_no : {P : Type 0} (b : Bool) → b ≡ true → b ≡ false → P
-  yes_no b on off = let both : true ≡ false = sym on ∙ off in cc
-
   enable_goes : (g : Filter) (m : ℕ) (k : Rule) → (S.takes g z.unit ≡ (m == n)) × (is_free k ≡ false) → Moves_inst (on_move S i g (M_enable m k)) (Real.seen fr (M_enable m k))
   enable_goes g m k l = Any (λ parts refuse. elim (m == n) as (λ b. (m == n) ≡ b → Goes (on_move S i g (M_enable m k)) (do_it parts refuse (where_true b (Enable k)))) [
-    | true ↦ λ e. let same : m ≡ n = true_is m n e in subst (λ q. Goes (on_move S i g (M_enable q k)) (do_it parts refuse (Some (Enable k)))) (sym same) (record {
+    | true ↦ λ e. let same : m ≡ n = eqb-true m n e in subst (λ q. Goes (on_move S i g (M_enable q k)) (do_it parts refuse (Some (Enable k)))) (sym same) (record {
       node = record {
         live = s.live;
         rule = set_own_rule n g k i.rules num;
@@ -112,10 +110,10 @@ module _ {R : Type 0} (S : Sys R) (laws : IsSys S) (z : Seeing) (num : (z.op.num
       let xs : Chunks R = S.B.select (S.takes g) i.live in
       elim (m == n) as (λ b. (m == n) ≡ b → Moves_inst (on_move S i g (M_stream m)) (where_true b Stream)) [
         | true ↦ λ e.
-            let same : m ≡ n = true_is m n e in
+            let same : m ≡ n = eqb-true m n e in
             let takes : S.takes g z.unit ≡ true = l ∙ e in
             let parts = parts_of S.F S.B laws.laws w fr x i.live s.live num (length xs) (S.newest xs) (S.takes g) in
-            subst (λ q. Moves_inst (on_move S i g (M_stream q)) (Some Stream)) (sym same) (Streams_out parts (stream_seen S.F S.B laws.laws w fr x i.live s.live num (length xs) (S.newest xs) (S.takes g) None takes).1 refl (λ refuse. of_table (r_stream S.F S.B n (length xs) (S.newest xs) (S.takes g) i.live) (do_it parts refuse (Some Stream)) (stream_seen S.F S.B laws.laws w fr x i.live s.live num (length xs) (S.newest xs) (S.takes g) refuse takes).0 (pieces_label n (marks (length xs) (S.newest xs) (chop (length xs) xs)) (λ off. yes_no (n == n) num off))))
+            subst (λ q. Moves_inst (on_move S i g (M_stream q)) (Some Stream)) (sym same) (Streams_out parts (stream_seen S.F S.B laws.laws w fr x i.live s.live num (length xs) (S.newest xs) (S.takes g) None takes).1 refl (λ refuse. of_table (r_stream S.F S.B n (length xs) (S.newest xs) (S.takes g) i.live) (do_it parts refuse (Some Stream)) (stream_seen S.F S.B laws.laws w fr x i.live s.live num (length xs) (S.newest xs) (S.takes g) refuse takes).0 (pieces_label n (marks (length xs) (S.newest xs) (chop (length xs) xs)) (λ off. absurd (both_ways (n == n) off num)))))
         | false ↦ λ e.
             let out : S.takes g z.unit ≡ false = l ∙ e in
             let none : all_at z.unit xs ≡ [] = laws.laws.selected z.unit (S.takes g) i.live ∙ rw out refl in
@@ -124,13 +122,13 @@ module _ {R : Type 0} (S : Sys R) (laws : IsSys S) (z : Seeing) (num : (z.op.num
 
   delete_goes : (g : Filter) (m : ℕ) (us : List units.Unit) → ((m == n) ≡ false → is_among us z.unit ≡ false) → Moves_inst (on_move S i g (M_delete m us)) (Real.seen fr (M_delete m us))
   delete_goes g m us l = Any (λ parts refuse. elim (m == n) as (λ b. (m == n) ≡ b → Goes (on_move S i g (M_delete m us)) (do_it parts refuse (where_true b (Delete (is_among us z.unit))))) [
-    | true ↦ λ e. let same : m ≡ n = true_is m n e in subst (λ q. Goes (on_move S i g (M_delete q us)) (do_it parts refuse (Some (Delete (is_among us z.unit))))) (sym same) (of_table (r_delete S.F S.B n us i.live) (do_it parts refuse (Some (Delete (is_among us z.unit)))) (delete_seen S.F S.B laws.laws w fr x i.live s.live num us parts refuse) ((refl, tt), tt))
+    | true ↦ λ e. let same : m ≡ n = eqb-true m n e in subst (λ q. Goes (on_move S i g (M_delete q us)) (do_it parts refuse (Some (Delete (is_among us z.unit))))) (sym same) (of_table (r_delete S.F S.B n us i.live) (do_it parts refuse (Some (Delete (is_among us z.unit)))) (delete_seen S.F S.B laws.laws w fr x i.live s.live num us parts refuse) ((refl, tt), tt))
     | false ↦ λ e. of_other (r_delete S.F S.B m us i.live) (laws.laws.removed z.unit us i.live ∙ (let out = l e in rw out refl)) (rw e refl) ((refl, tt), tt)
   ] refl)
 
   restore_goes : (g : Filter) (m : ℕ) (cs : Chunks R) → ((m == n) ≡ false → record_at z.unit cs ≡ None) → Moves_inst (on_move S i g (M_restore m cs)) (Real.seen fr (M_restore m cs))
   restore_goes g m cs l = Any (λ parts refuse. elim (m == n) as (λ b. (m == n) ≡ b → Goes (on_move S i g (M_restore m cs)) (do_it parts refuse (where_true b (Restore (record_at z.unit cs))))) [
-    | true ↦ λ e. let same : m ≡ n = true_is m n e in subst (λ q. Goes (on_move S i g (M_restore q cs)) (do_it parts refuse (Some (Restore (record_at z.unit cs))))) (sym same) (of_table (r_restore S.F S.B n cs i.live) (do_it parts refuse (Some (Restore (record_at z.unit cs)))) (restore_seen S.F S.B laws.laws w fr x i.live s.live num cs parts refuse) ((refl, tt), tt))
+    | true ↦ λ e. let same : m ≡ n = eqb-true m n e in subst (λ q. Goes (on_move S i g (M_restore q cs)) (do_it parts refuse (Some (Restore (record_at z.unit cs))))) (sym same) (of_table (r_restore S.F S.B n cs i.live) (do_it parts refuse (Some (Restore (record_at z.unit cs)))) (restore_seen S.F S.B laws.laws w fr x i.live s.live num cs parts refuse) ((refl, tt), tt))
     | false ↦ λ e. of_other (r_restore S.F S.B m cs i.live) (laws.laws.restored z.unit cs i.live ∙ ap (λ o. joined S.F o (S.B.at z.unit i.live)) (l e)) (rw e refl) ((refl, tt), tt)
   ] refl)
 
@@ -150,8 +148,8 @@ module _ {R : Type 0} (S : Sys R) (laws : IsSys S) (z : Seeing) (num : (z.op.num
   put_goes : (g : Filter) (m : ℕ) (p : RPiece R) (first : Bool) → ((m == n) ≡ false → Without z.unit p) → Moves_inst (on_move S i g (M_put m p first)) (Real.seen fr (M_put m p first))
   put_goes g m p first l = elim (m == n) as (λ b. (m == n) ≡ b → Moves_inst (on_move S i g (M_put m p first)) (where_true b (Put (see fr p) first))) [
     | true ↦ λ e.
-        let same : m ≡ n = true_is m n e in
-        subst (λ q. Moves_inst (on_move S i g (M_put q p first)) (Some (Put (see fr p) first))) (sym same) (Puts_in (S.refuse i.room i.live p) (see fr p) first refl (λ parts. of_table (r_put S.F S.B n first (S.refuse i.room i.live p) p i.live) (do_it parts (S.refuse i.room i.live p) (Some (Put (see fr p) first))) (put_seen S.F S.B laws.laws w fr x i.live s.live num p first p.last parts (S.refuse i.room i.live p) refl) (put_label n p first (S.refuse i.room i.live p) p.last refl (λ off. yes_no (n == n) num off))))
+        let same : m ≡ n = eqb-true m n e in
+        subst (λ q. Moves_inst (on_move S i g (M_put q p first)) (Some (Put (see fr p) first))) (sym same) (Puts_in (S.refuse i.room i.live p) (see fr p) first refl (λ parts. of_table (r_put S.F S.B n first (S.refuse i.room i.live p) p i.live) (do_it parts (S.refuse i.room i.live p) (Some (Put (see fr p) first))) (put_seen S.F S.B laws.laws w fr x i.live s.live num p first p.last parts (S.refuse i.room i.live p) refl) (put_label n p first (S.refuse i.room i.live p) p.last refl (λ off. absurd (both_ways (n == n) off num)))))
     | false ↦ λ e.
         let q = put_other m p first (S.refuse i.room i.live p) p.last refl e (l e) in
         Any (λ parts refuse. of_other (r_put S.F S.B m first (S.refuse i.room i.live p) p i.live) q.0 q.1 (put_label m p first (S.refuse i.room i.live p) p.last refl l))

@@ -1,7 +1,8 @@
 -- An instance's step leads from a world that shows a seat to one that shows a seat, whatever it takes.
-use Rattle.std.proofs.Common.{◌≡◌, ◌≢◌, ℕ, ◌≤◌, Bool, true, false, Option, Some, None, List, [], ◌∷◌, ◌++◌, map, refl, sym, ap, ◌∙◌, subst, append-nil, arith}
+use Rattle.std.proofs.Common.{◌≡◌, ◌≢◌, ℕ, Bool, true, false, Option, Some, None, List, [], ◌∷◌, ◌++◌, refl, sym, ap, ◌∙◌, subst, append-nil, arith}
 use Rattle.std.specs.Prelude.{if◌then◌else◌, ◌&&◌, ◌==◌}
 use Rattle.std.proofs.lemmas.Bool.Decides.{nat_tests, Decides-eqb}
+use Rattle.std.proofs.lemmas.Option.{same_Some}
 use Rattle.unit_machine.proofs.Machine.{Where, At_a, At_b, At_c, Part, Inst, Did, sends as did_sends, inst_does, Item, Stream, Put, State, MachineStep, Take_sa, Take_sb, Take_sc, Take_ca, Take_cb, moved, put_a, put_b, put_c}
 use Rattle.unit_machine.proofs.Lists.{firsts, firsts-append}
 use Rattle.unit_machine.proofs.UnitPieces.{ArePiecesOf}
@@ -12,16 +13,13 @@ use Rattle.unit_machine.proofs.Pairs.{expect, after_take, a_from_s, a_from_c, b_
 use Rattle.unit_machine.proofs.Labels.{Each}
 use Rattle.unit_machine.proofs.Seats.{Seat, is_covered, seat_shape, seat_all, seat_loose, seat_goes_on, covered_stays, seat_allowed, base_of}
 use Rattle.unit_machine.proofs.NetViews.{items}
-use Rattle.abstract_net.proofs.Net.{inst_next, Msg, In_packet, Asked, Carry_on, Pass_on, Fence_on, Mv, Sys, IsSys, Inst_n, I_did, says, inst_step, World, links_after, at_node, put, seen, find_op}
+use Rattle.abstract_net.proofs.Net.{inst_next, Msg, In_packet, Asked, Carry_on, Pass_on, Fence_on, Mv, Sys, IsSys, Inst_n, I_did, inst_step, World, links_after, at_node, seen, find_op}
 use Rattle.abstract_net.proofs.Holding.{Seeing, EachSent, frame, Label, Sees_node, shows, node_at, done_of, Holds, Ctrl_is}
 use Rattle.abstract_net.proofs.Insts.{Inst_goes, does, carry_goes, pass_goes, fence_goes}
 use Rattle.abstract_net.proofs.InstMoves.{Moves_inst, Any, Streams_out, Puts_in, move_goes}
 use Rattle.abstract_net.proofs.Links.{sent, head, view_some, view_none, done_of-append, done_at, each_after}
 use Rattle.abstract_net.proofs.OnLinks.{no_put, no_stream, ok_head, ca_kind, cb_kind}
 use Rattle.nf_msgs.specs.declared.answer.Answer.{Answer}
-
-some_same : {X : Type 0} {a b : X} → Some a ≡ Some b → a ≡ b
-some_same e = cc
 
 falsely : false ≡ true → ⊥
 falsely e = cc
@@ -238,7 +236,7 @@ module _ {R : Type 0} (S : Sys R) (laws : IsSys S) (z : Seeing) where
           by_kind : Moves_inst S laws z num At_a i x.a n did (seen (frame S z) m) → Goes_to (inst_next S w p y m) s []
           by_kind (Any f) = let parts : List (Part R) = record { own = x.a.live; last = true } ∷ [] in ca_goes parts ya p1 e (some_parts x.a.live) (seen_it At_a parts None x.a (f parts None))
           by_kind (Streams_out parts fits _ f) = ca_goes parts ya p1 e fits (seen_it At_a parts None x.a (f None))
-          by_kind (Puts_in refuse k first o f) = let same_it : it ≡ Put k first = some_same (sym is ∙ o) in let never : false ≡ true = ap no_put (sym same_it) ∙ ok_head no_put it v x.ca (ca_kind S.F s) e in absurd (falsely never)
+          by_kind (Puts_in refuse k first o f) = let same_it : it ≡ Put k first = same_Some _ _ (sym is ∙ o) in let never : false ≡ true = ap no_put (sym same_it) ∙ ok_head no_put it v x.ca (ca_kind S.F s) e in absurd (falsely never)
 
       cb_goes : (refuse : Option Answer) → y ≡ z.op.dst → p ≡ 1 → x.cb ≡ it ∷ v → Inst_goes S laws z num did (inst_does S.F At_b [] refuse x.b it) → Goes_to (inst_next S w p y m) s []
       cb_goes refuse yb p1 e g =
@@ -257,7 +255,7 @@ module _ {R : Type 0} (S : Sys R) (laws : IsSys S) (z : Seeing) where
           by_kind : Moves_inst S laws z num At_b i x.b n did (seen (frame S z) m) → Goes_to (inst_next S w p y m) s []
           by_kind (Any f) = cb_goes None yb p1 e (seen_it At_b [] None x.b (f [] None))
           by_kind (Puts_in refuse k first _ f) = cb_goes refuse yb p1 e (seen_it At_b [] refuse x.b (f []))
-          by_kind (Streams_out parts fits o f) = let same_it : it ≡ Stream = some_same (sym is ∙ o) in let never : false ≡ true = ap no_stream (sym same_it) ∙ ok_head no_stream it v x.cb (cb_kind S.F s) e in absurd (falsely never)
+          by_kind (Streams_out parts fits o f) = let same_it : it ≡ Stream = same_Some _ _ (sym is ∙ o) in let never : false ≡ true = ap no_stream (sym same_it) ∙ ok_head no_stream it v x.cb (cb_kind S.F s) e in absurd (falsely never)
 
       not_one : y ≡ 1 → ⊥
       not_one e = let never : (1 == 1) ≡ false = subst (λ q. (q == 1) ≡ false) e y1 in cc

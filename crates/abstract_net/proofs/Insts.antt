@@ -1,11 +1,11 @@
 -- An instance takes a packet or a fence: one unit sees the machine's step of that side, or nothing.
 use Rattle.std.proofs.Common.{◌≡◌, ℕ, Bool, true, false, Option, Some, None, List, [], ◌∷◌, ◌++◌, map, refl, sym, ap, ◌∙◌, subst, append-nil}
 use Rattle.std.specs.Prelude.{if◌then◌else◌, ◌==◌, option_map}
-use Rattle.std.proofs.lemmas.Bool.Decides.{Decides-eqb}
+use Rattle.std.proofs.lemmas.Bool.{eqb-true}
 use Rattle.unit_machine.proofs.Machine.{Where, on, runs, Rule, Free, Drops, Buffers, Part, Inst, Did, sends as did_sends, inst_does, carried, ran_one, Item, Carry, Pass, Fence}
 use Rattle.unit_machine.proofs.Lists.{firsts, firsts-on}
 use Rattle.unit_machine.proofs.Real as Real
-use Rattle.unit_machine.proofs.Real.{Chunks, record_at, RPiece, M_enable, M_stream, M_delete, M_put, M_restore, M_enabled, M_event, M_piece, M_deleted, M_put_ok, M_put_no, M_restored, M_fenced, M_forward, M_install, M_fence_to, Frame, where_true, see, add, view, only_mine, sent_for}
+use Rattle.unit_machine.proofs.Real.{M_event, M_fenced, Frame, where_true, add, view, only_mine, sent_for}
 use Rattle.unit_machine.proofs.Seen.{only_mine-append}
 use Rattle.unit_machine.proofs.Labels.{Each}
 use Rattle.unit_machine.proofs.NetViews.{items}
@@ -16,10 +16,6 @@ use Rattle.abstract_net.proofs.Holding.{Seeing, EachSent, frame, Label, Rule_lab
 use Rattle.record_table.specs.Table.{same_unit}
 use Rattle.record_table.proofs.UnitOrder.{same_unit-true}
 use Rattle.nf_msgs.specs.declared.answer.Answer.{Answer}
-
--- a test and its value
-pub true_is : (x y : ℕ) → (x == y) ≡ true → x ≡ y
-true_is x y e = (Decides-eqb x y).0 e
 
 module _ {R : Type 0} (S : Sys R) (laws : IsSys S) (z : Seeing) (num : (z.op.num == z.op.num) ≡ true) where
   abbrev fr : Frame
@@ -40,7 +36,7 @@ module _ {R : Type 0} (S : Sys R) (laws : IsSys S) (z : Seeing) (num : (z.op.num
   found_label m [] l off = refl
   found_label m (r ∷ rs) l off =
       elim (r.num == m) as (λ b. (r.num == m) ≡ b → only_mine fr (held_of (if b then Some r else find_rule m rs)) ≡ []) [
-        | true ↦ λ e. l.0.1 (let same : r.num ≡ m = true_is r.num m e in rw same off)
+        | true ↦ λ e. l.0.1 (let same : r.num ≡ m = eqb-true r.num m e in rw same off)
         | false ↦ λ _. found_label m rs l.1 off
       ] refl
 
@@ -49,7 +45,7 @@ module _ {R : Type 0} (S : Sys R) (laws : IsSys S) (z : Seeing) (num : (z.op.num
   find_drop_other m [] off = refl
   find_drop_other m (r ∷ rs) off =
       elim (r.num == m) as (λ b. (r.num == m) ≡ b → find_rule n (if b then drop_rule m rs else r ∷ drop_rule m rs) ≡ (if r.num == n then Some r else find_rule n rs)) [
-        | true ↦ λ e. let same : r.num ≡ m = true_is r.num m e in let out : (r.num == n) ≡ false = rw same off in rw out (find_drop_other m rs off)
+        | true ↦ λ e. let same : r.num ≡ m = eqb-true r.num m e in let out : (r.num == n) ≡ false = rw same off in rw out (find_drop_other m rs off)
         | false ↦ λ _. ap (λ o. if r.num == n then Some r else o) (find_drop_other m rs off)
       ] refl
 
@@ -57,7 +53,7 @@ module _ {R : Type 0} (S : Sys R) (laws : IsSys S) (z : Seeing) (num : (z.op.num
   hold_else : (m p : ℕ) (rs : List Ruling) → mine p ≡ false → only_mine fr (held_of (find_rule n (hold m p rs))) ≡ only_mine fr (held_of (find_rule n rs))
   hold_else m p rs off =
       elim (m == n) as (λ b. (m == n) ≡ b → only_mine fr (held_of (find_rule n (hold m p rs))) ≡ only_mine fr (held_of (find_rule n rs))) [
-        | true ↦ λ e. let same : m ≡ n = true_is m n e in ap (λ k. only_mine fr (held_of (find_rule n (hold k p rs)))) same ∙ ap (λ o. only_mine fr (held_of o)) (find_hold_own n p rs) ∙ still (find_rule n rs)
+        | true ↦ λ e. let same : m ≡ n = eqb-true m n e in ap (λ k. only_mine fr (held_of (find_rule n (hold k p rs)))) same ∙ ap (λ o. only_mine fr (held_of o)) (find_hold_own n p rs) ∙ still (find_rule n rs)
         | false ↦ λ out. ap (λ o. only_mine fr (held_of o)) (find_hold_other n m p rs out)
       ] refl
     where
@@ -74,7 +70,7 @@ module _ {R : Type 0} (S : Sys R) (laws : IsSys S) (z : Seeing) (num : (z.op.num
 
   -- labels of rules
   pub label_set : (m : ℕ) (g : Filter) (k : Rule) (rs : List Ruling) → (S.takes g z.unit ≡ (m == n)) × (is_free k ≡ false) → Each (Rule_label S z) rs → Each (Rule_label S z) (set_rule m g k rs)
-  label_set m g k rs e l = each_set (Rule_label S z) m g k rs (λ r same h. (let at : r.num ≡ m = true_is r.num m same in rw at e.0, h.1, e.1)) (e.0, (λ _. refl), e.1) l
+  label_set m g k rs e l = each_set (Rule_label S z) m g k rs (λ r same h. (let at : r.num ≡ m = eqb-true r.num m same in rw at e.0, h.1, e.1)) (e.0, (λ _. refl), e.1) l
 
   label_drop : (m : ℕ) (rs : List Ruling) → Each (Rule_label S z) rs → Each (Rule_label S z) (drop_rule m rs)
   label_drop m [] l = tt
@@ -84,7 +80,7 @@ module _ {R : Type 0} (S : Sys R) (laws : IsSys S) (z : Seeing) (num : (z.op.num
   more_else h p e off = only_mine-append fr h (p ∷ []) ∙ rw (e, off) refl
 
   label_hold : (m p : ℕ) (rs : List Ruling) → ((m == n) ≡ false → mine p ≡ false) → Each (Rule_label S z) rs → Each (Rule_label S z) (hold m p rs)
-  label_hold m p rs off l = each-change (Rule_label S z) m (holding p) (λ r same h. (h.0, (λ t. more_else r.held p (h.1 t) (off (let at : r.num ≡ m = true_is r.num m same in rw (← at) t))), h.2)) rs l
+  label_hold m p rs off l = each-change (Rule_label S z) m (holding p) (λ r same h. (h.0, (λ t. more_else r.held p (h.1 t) (off (let at : r.num ≡ m = eqb-true r.num m same in rw (← at) t))), h.2)) rs l
 
   -- tables
   process_mine : (t : S.B.T) (p : ℕ) → mine p ≡ true → S.B.at z.unit (process S t p) ≡ Some (S.F.step (S.B.at z.unit t) p)
@@ -184,7 +180,7 @@ module _ {R : Type 0} (S : Sys R) (laws : IsSys S) (z : Seeing) (num : (z.op.num
     rule_mine p None is e = let free : x.rule ≡ Free = sym s.rule ∙ ap rule_of e in subst (λ k. Inst_goes (runs_it S i p) (carried S.F w k x p)) (sym free) (runs_mine p is)
     rule_mine p (Some r) is e =
         let kind : x.rule ≡ r.rule = sym s.rule ∙ ap rule_of e in
-        let its : r.num ≡ n = true_is r.num n (found_num i.rules r e) in
+        let its : r.num ≡ n = eqb-true r.num n (found_num i.rules r e) in
         subst (λ k. Inst_goes (by_kind S i p r.num r.rule) (carried S.F w k x p)) (sym kind) (subst (λ m. Inst_goes (by_kind S i p m r.rule) (carried S.F w r.rule x p)) (sym its) (kind_mine p r.rule r is e))
 
     rule_other : (p : ℕ) (o : Option Ruling) → mine p ≡ false → Inst_goes (by_rule S i p o) (did_sends x [])
@@ -208,7 +204,7 @@ module _ {R : Type 0} (S : Sys R) (laws : IsSys S) (z : Seeing) (num : (z.op.num
 
     pub fence_goes : (m : ℕ) (parts : List (Part R)) (refuse : Option Answer) → Inst_goes (inst_step S i (Fence_on m)) (does w parts refuse x (seen fr (Fence_on m)))
     fence_goes m parts refuse = elim (m == n) as (λ b. (m == n) ≡ b → Inst_goes (fenced S i m (held_of (find_rule m i.rules))) (does w parts refuse x (where_true b Fence))) [
-      | true ↦ λ e. let same : m ≡ n = true_is m n e in subst (λ k. Inst_goes (fenced S i k (held_of (find_rule k i.rules))) (inst_does S.F w parts refuse x Fence)) (sym same) (record {
+      | true ↦ λ e. let same : m ≡ n = eqb-true m n e in subst (λ k. Inst_goes (fenced S i k (held_of (find_rule k i.rules))) (inst_does S.F w parts refuse x Fence)) (sym same) (record {
         node = record {
           live = process_seen w i.live (held_of (find_rule n i.rules)) x.live s.live ∙ ap (λ h. runs S.F x.live (map (on w) h)) s.held;
           rule = ap rule_of (drop_own i.rules);

@@ -21,7 +21,6 @@ pub mod Every
 pub mod Waits
 pub mod Readings
 pub mod Stores
-pub mod Places
 pub mod Sources
 pub mod Elsewhere
 pub mod AsMoves

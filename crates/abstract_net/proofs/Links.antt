@@ -1,23 +1,16 @@
 -- What is seen of all links after a step, and the labels on them. Links are a function of pairs of nodes.
-use Rattle.std.proofs.Common.{◌≡◌, ℕ, Bool, true, false, Option, Some, None, List, [], ◌∷◌, ◌++◌, drop, refl, sym, ap, ◌∙◌, subst, append-nil, arith}
+use Rattle.std.proofs.Common.{◌≡◌, ℕ, Bool, true, false, Some, None, List, [], ◌∷◌, ◌++◌, drop, refl, sym, ap, ◌∙◌, subst, append-nil, arith}
 use Rattle.std.specs.Prelude.{if◌then◌else◌, ◌&&◌, ◌==◌}
 use Rattle.std.proofs.lemmas.Bool.Decides.{nat_tests, Decides-eqb}
+use Rattle.actor_net.proofs.LinkLemmas.{neither}
 use Rattle.unit_machine.proofs.Machine.{Item}
 use Rattle.unit_machine.proofs.Real.{add, sent_for, only_mine}
 use Rattle.unit_machine.proofs.Labels.{Each, each-append}
 use Rattle.unit_machine.proofs.Pairs.{after_take}
-use Rattle.unit_machine.proofs.NetViews.{items}
+use Rattle.unit_machine.proofs.NetViews.{items, items-append}
 use Rattle.abstract_net.proofs.Net.{Msg, Sys, seen, links_after, behind, at_node}
 use Rattle.abstract_net.proofs.Holding.{Seeing, EachSent, frame, shows, done_of}
 use Rattle.record_table.specs.Table.{same_unit}
-
-add-append : {X : Type 0} (o : Option X) (x y : List X) → add o (x ++ y) ≡ add o x ++ y
-add-append None x y = refl
-add-append (Some a) x y = refl
-
-pub items-append : {M X : Type 0} (g : M → Option X) (x y : List M) → items g (x ++ y) ≡ items g x ++ items g y
-items-append g [] y = refl
-items-append g (m ∷ x) y = ap (λ z. add (g m) z) (items-append g x y) ∙ add-append (g m) (items g x) (items g y)
 
 pub each_behind : {X : Type 0} (P : X → Type 0) (b : Bool) (xs : List X) → Each P xs → Each P (behind b xs)
 each_behind P true [] h = tt
@@ -92,14 +85,10 @@ module _ {R : Type 0} (S : Sys R) (z : Seeing) where
     pub view_some : (it : Item R) → seen (frame S z) m ≡ Some it → (i j : ℕ) → shows S z (links_after l p y sends) i j ≡ after_take p y (shows S z l) (sent y sends) i j
     view_some it is i j =
         elim ((i == 0) && (j == 0)) as (λ t. (i == 0) && (j == 0) ≡ t → (if t then [] else its (links_after l p y sends i j)) ≡ (if (i == p) && (j == y) then drop 1 (if t then [] else its (l i j)) else (if t then [] else its (l i j))) ++ (if i == y then sent y sends j else [])) [
-          | true ↦ λ on. sym (ap (λ v. (if (i == p) && (j == y) then [] else []) ++ v) (nothing_in y i j sends on) ∙ append-nil (if (i == p) && (j == y) then [] else []) ∙ same_nil ((i == p) && (j == y)))
+          | true ↦ λ on. sym (ap (λ v. (if (i == p) && (j == y) then [] else []) ++ v) (nothing_in y i j sends on) ∙ append-nil (if (i == p) && (j == y) then [] else []) ∙ neither ((i == p) && (j == y)))
           | false ↦ λ off. subst (λ t. (if t then [] else its (links_after l p y sends i j)) ≡ (if (i == p) && (j == y) then drop 1 (its (l i j)) else its (l i j)) ++ (if i == y then sent y sends j else [])) off (after_raw i j (if (i == p) && (j == y) then drop 1 (its (l i j)) else its (l i j)) off (left i j ((i == p) && (j == y)) refl))
         ] refl
       where
-        same_nil : (b : Bool) → ◌≡◌ {A = List (Item R)} (if b then [] else []) []
-        same_nil true = refl
-        same_nil false = refl
-
         left : (i j : ℕ) (b : Bool) → (i == p) && (j == y) ≡ b → its (behind b (l i j)) ≡ (if b then drop 1 (its (l i j)) else its (l i j))
         left i j true e = let at = both_same i j e in rw (at, is) refl
         left i j false e = refl

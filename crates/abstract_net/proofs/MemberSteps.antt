@@ -3,11 +3,12 @@ use Rattle.std.proofs.Common.{◌≡◌, ℕ, Bool, true, false, Option, Some, N
 use Rattle.std.specs.Prelude.{if◌then◌else◌, ◌==◌, option_to_list}
 use Rattle.std.specs.Option.{option_map_or}
 use Rattle.std.proofs.lemmas.Bool.Decides.{nat_tests, Decides-eqb}
+use Rattle.std.proofs.lemmas.Bool.{both_ways}
 use Rattle.unit_machine.proofs.Real as Real
-use Rattle.unit_machine.proofs.Real.{RPiece, record_at, M_enable, M_stream, M_delete, M_put, M_restore, M_enabled, M_event, M_piece, M_deleted, M_put_ok, M_put_no, M_restored, M_fenced, M_forward, M_install, M_fence_to, where_true, add, sent_for}
-use Rattle.unit_machine.proofs.UnitPieces.{first}
+use Rattle.unit_machine.proofs.Real.{record_at, where_true, add, sent_for}
+use Rattle.unit_machine.proofs.UnitPieces.{first, first_of_one}
 use Rattle.unit_machine.proofs.Cuts.{record_first}
-use Rattle.share_machine.proofs.Share.{Item, Item.Carry, Item.Fence, Item.Shared, Item.Diverted, Item.Install, Item.Forward, Item.Get, Item.Sync, Item.Fenced, Item.Chunks, Item.Chunk, Item.Synced, Item.Stray, Frame, Did, member_does, stepped, chunk_of, if_mine, over}
+use Rattle.share_machine.proofs.Share.{Item, Item.Shared, Item.Diverted, Item.Install, Item.Forward, Item.Get, Item.Sync, Item.Chunks, Item.Chunk, Item.Synced, Item.Stray, Frame, Did, member_does, stepped, chunk_of, if_mine, over}
 use Rattle.share_machine.proofs.Share as share
 use Rattle.flow_filter.specs.declared.filter.Filter.{Filter}
 use Rattle.abstract_net.proofs.Net.{Sys, IsSys, Inst_n, process, inst_step, at_node}
@@ -107,13 +108,10 @@ module _ {R : Type 0} (S : Sys R) (A : Sharing S) (laws : IsSys S) (z : Seeing_s
     shared_others : (n p : ℕ) (t : S.B.T) (r : ℕ) → (r == 1) ≡ false → share_items S A z r (sent_for r (shared_chunk S A n p (process S t p))) ≡ []
     shared_others n p t r off = ap (λ xs. share_items S A z r (sent_for r xs)) (chunk_sent n p t) ∙ not_others (New (S_shared n (S.unit_of p, S.F.step (S.B.at (S.unit_of p) t) p))) r off
 
-    none_on : {P : Type 0} (b : Bool) → b ≡ true → b ≡ false → P
-    none_on b on off = let both : true ≡ false = sym on ∙ off in cc
-
     shared_home : (n p : ℕ) → (n == z.num) ≡ true → (y == z.home) ≡ true → Sees (Shared_on n true p) (Some (Shared p))
     shared_home n p on here = record {
       own = rw here (process_seen y p live);
-      away = λ off. none_on (y == z.home) here off;
+      away = λ off. absurd (both_ways (y == z.home) off here);
       to_c = rw here (shared_to n p live on);
       others = λ r off. shared_others n p live r off;
       ran = ran_one y p;
@@ -151,7 +149,7 @@ module _ {R : Type 0} (S : Sys R) (A : Sharing S) (laws : IsSys S) (z : Seeing_s
     ] refl
 
     sync_own : (n : ℕ) (home : Bool) (cs : Real.Chunks R) → (n == z.num) ≡ true → same home (y == z.home) ≡ true → Sees (S_sync n home cs) (Some (Sync (record_at z.unit cs)))
-    sync_own n true cs on flag = let here = same_true (y == z.home) flag in record { own = rw here (ok.replaced z.unit cs live); away = λ off. none_on (y == z.home) here off; to_c = rw on refl; others = λ r off. not_others (New (S_synced n)) r off; ran = refl }
+    sync_own n true cs on flag = let here = same_true (y == z.home) flag in record { own = rw here (ok.replaced z.unit cs live); away = λ off. absurd (both_ways (y == z.home) off here); to_c = rw on refl; others = λ r off. not_others (New (S_synced n)) r off; ran = refl }
     sync_own n false cs on flag = let there = same_false (y == z.home) flag in record { own = rw there (ok.replaced z.unit cs standby); away = λ _. refl; to_c = rw on refl; others = λ r off. not_others (New (S_synced n)) r off; ran = refl }
 
     over_none : (cs : Real.Chunks R) (t : S.B.T) → record_at z.unit cs ≡ None → S.B.at z.unit (A.replace cs t) ≡ S.B.at z.unit t
@@ -169,11 +167,7 @@ module _ {R : Type 0} (S : Sys R) (A : Sharing S) (laws : IsSys S) (z : Seeing_s
 
     -- what is selected of the unit
     selected : (g : Filter) → S.takes g z.unit ≡ true → record_at z.unit (S.B.select (S.takes g) live) ≡ S.B.at z.unit live
-    selected g takes = record_first z.unit (S.B.select (S.takes g) live) ∙ ap first (laws.laws.selected z.unit (S.takes g) live ∙ ap (λ b. option_to_list (if b then S.B.at z.unit live else None)) takes) ∙ first_of (S.B.at z.unit live)
-      where
-        first_of : (o : Option R) → first (option_to_list o) ≡ o
-        first_of None = refl
-        first_of (Some r) = refl
+    selected g takes = record_first z.unit (S.B.select (S.takes g) live) ∙ ap first (laws.laws.selected z.unit (S.takes g) live ∙ ap (λ b. option_to_list (if b then S.B.at z.unit live else None)) takes) ∙ first_of_one (S.B.at z.unit live)
 
     get_sees : (n : ℕ) (g : Filter) → S.takes z.filter z.unit ≡ true → Share_label S A z y (S_get n g) → Sees (S_get n g) (new_seen S A z y (S_get n g))
     get_sees n g covered l = elim (n == z.num) as (λ b. (n == z.num) ≡ b → Sees (S_get n g) (where_true b Get)) [

@@ -2,22 +2,20 @@
 use Rattle.std.proofs.Common.{◌≡◌, ℕ, ◌-◌, ◌≤◌, Bool, true, false, Some, List, [], ◌∷◌, ◌++◌, length, refl, sym, ap, ◌∙◌, subst, append-nil, arith}
 use Rattle.std.specs.Prelude.{if◌then◌else◌, ◌==◌}
 use Rattle.std.proofs.lemmas.Bool.Decides.{nat_tests, Decides-eqb}
+use Rattle.std.proofs.lemmas.Cmp.{nat_eq_equiv}
 use Rattle.unit_machine.proofs.Real.{record_at, where_true, add, sent_for}
 use Rattle.unit_machine.proofs.Real as Real
+use Rattle.unit_machine.proofs.NetViews.{items-append}
+use Rattle.unit_machine.proofs.Seen.{sent_for-append}
 use Rattle.share_machine.proofs.Share.{Item, Item.Forward, Item.Get, Item.Sync, Item.Diverted, Item.Fenced, Item.Chunks, Item.Chunk, Item.Synced, Item.Stray, Frame, Phase, Phase.Fencing, Phase.Getting, Phase.Setting, Phase.Idle, Phase.Out, Phase.Syncing, C_did, has, without, only, nowhere, waits, serve, answers, sync_to, share_does}
 use Rattle.share_machine.proofs.Stages.{distinct, IsShare}
 use Rattle.share_machine.proofs.Lists.{self, has-without, apart_of}
 use Rattle.abstract_net.proofs.Net.{Sys}
-use Rattle.abstract_net.proofs.Links.{items-append}
 use Rattle.abstract_net.proofs.OnShareLinks.{Sender, Idle_empty}
 use Rattle.abstract_net.proofs.ShareViews.{mine, share_frame, fit, share_seen, share_items, as_share}
 use Rattle.abstract_net.proofs.ShareLinks.{lone_view}
 use Rattle.abstract_net.proofs.Shares.{Any, Any.New, Share_msg.S_forward, Share_msg.S_get, Share_msg.S_sync, same, Sharing, Open_share, Told, Told.Is_fenced, Told.Has_chunks, Told.Has_chunk, Told.Is_synced, Told.Has_packet, syncs, Share_did, s_goes, s_served, share_row, Seeing_share}
 use Rattle.nf_function.specs.declared.unit.Unit as units
-
-pub sent_for-append : {M : Type 0} (k : ℕ) (xs ys : List (ℕ × M)) → sent_for k (xs ++ ys) ≡ sent_for k xs ++ sent_for k ys
-sent_for-append k [] ys = refl
-sent_for-append k (x ∷ xs) ys = elim (x.0 == k) as (λ b. (if b then x.1 ∷ sent_for k (xs ++ ys) else sent_for k (xs ++ ys)) ≡ (if b then x.1 ∷ sent_for k xs else sent_for k xs) ++ sent_for k ys) [ true ↦ ap (λ v. x.1 ∷ v) (sent_for-append k xs ys) | false ↦ sent_for-append k xs ys ]
 
 -- the loop over the members: one message for each but one
 syncs_sent : {R : Type 0} (n home j k : ℕ) (cs : Real.Chunks R) (ms : List ℕ) → distinct ms ≡ true → sent_for k (syncs n home j cs ms) ≡ (if has (without ms j) k then New (S_sync n (k == home) cs) ∷ [] else [])
@@ -58,9 +56,6 @@ module _ {R : Type 0} (S : Sys R) (A : Sharing S) (z : Seeing_share) (is : IsSha
   agrees true it = refl
   agrees false it = refl
 
-  swap : (x y : ℕ) → (x == y) ≡ (y == x)
-  swap x y = grind (arith, nat_tests)
-
   -- a Sync to each of the others, as the unit sees it
   syncs_seen : (j : ℕ) (cs : Real.Chunks R) (k : ℕ) → share_items S A z k (sent_for k (syncs z.num z.home j cs z.members)) ≡ sync_to (without z.members j) (record_at z.unit cs) k
   syncs_seen j cs k =
@@ -80,7 +75,7 @@ module _ {R : Type 0} (S : Sys R) (A : Sharing S) (z : Seeing_share) (is : IsSha
   forward_seen p = ap (λ b. add (if b then Some (fit S A z (same (A.member z.members p == z.home) (A.member z.members p == z.home)) (Forward p (A.member z.members p))) else where_true (mine S A z p) Stray) []) (self z.num) ∙ ap (λ it. it ∷ []) (agrees (A.member z.members p == z.home) (Forward p (A.member z.members p)))
 
   forward_else : (p k : ℕ) → (k == 0) ≡ false → share_items S A z k (sent_for k (forward p ∷ [])) ≡ []
-  forward_else p k off = let other : (0 == k) ≡ false = swap 0 k ∙ off in rw other refl
+  forward_else p k off = let other : (0 == k) ≡ false = nat_eq_equiv.symm 0 k ∙ off in rw other refl
 
   behind : (k : ℕ) (xs ys : List (ℕ × Any R)) → share_items S A z k (sent_for k (xs ++ ys)) ≡ share_items S A z k (sent_for k xs) ++ share_items S A z k (sent_for k ys)
   behind k xs ys = ap (share_items S A z k) (sent_for-append k xs ys) ∙ items-append (share_seen S A z k) (sent_for k xs) (sent_for k ys)
@@ -131,10 +126,10 @@ module _ {R : Type 0} (S : Sys R) (A : Sharing S) (z : Seeing_share) (is : IsSha
   is_home k e = (Decides-eqb k z.home).1 e
 
   get_seen : (k : ℕ) → share_items S A z k (sent_for k ((z.home, New (S_get z.num z.filter)) ∷ [])) ≡ only z.home (Get ∷ []) k
-  get_seen k = lone_view S A z z.home k (New (S_get z.num z.filter)) ∙ ap (λ b. if z.home == k then add (where_true b Get) [] else []) (self z.num) ∙ ap (λ b. if b then Get ∷ [] else []) (swap z.home k)
+  get_seen k = lone_view S A z z.home k (New (S_get z.num z.filter)) ∙ ap (λ b. if z.home == k then add (where_true b Get) [] else []) (self z.num) ∙ ap (λ b. if b then Get ∷ [] else []) (nat_eq_equiv.symm z.home k)
 
   pub fenced_sees : (ph : Phase) (q : List ℕ) (sender : ℕ) → Idle_empty f ph q → Sender f ph sender Fenced → Sees_row (Row ph q sender Is_fenced) (share_does f Fenced ph q)
-  fenced_sees Fencing q sender empty from = let on = is_home sender from in rw on (record { phase = refl; queue = refl; to_s = get_seen 0 ∙ (let away : (0 == z.home) ≡ false = swap 0 z.home ∙ home_0 in rw away refl); to = λ k _. get_seen k })
+  fenced_sees Fencing q sender empty from = let on = is_home sender from in rw on (record { phase = refl; queue = refl; to_s = get_seen 0 ∙ (let away : (0 == z.home) ≡ false = nat_eq_equiv.symm 0 z.home ∙ home_0 in rw away refl); to = λ k _. get_seen k })
   fenced_sees Getting q sender empty from = still Getting q empty
   fenced_sees (Setting left) q sender empty from = still (Setting left) q empty
   fenced_sees Idle q sender empty from = still Idle q empty

@@ -4,11 +4,12 @@ use Rattle.std.proofs.Common.{◌≡◌, ℕ, Bool, true, false, Option, Some, N
 use Rattle.unit_machine.proofs.Machine.{Ran, Steps, runs, after, State}
 use Rattle.unit_machine.proofs.Lists.{firsts, firsts-append}
 use Rattle.unit_machine.proofs.UnitPieces.{nil_left}
-use Rattle.unit_machine.proofs.Stages.{times, Same, Order, shape, path}
+use Rattle.unit_machine.proofs.Stages.{times, Same, shape, path}
 use Rattle.unit_machine.proofs.Ends.{same_of}
 use Rattle.unit_machine.proofs.Kept.{Kept, lives, on_way}
 use Rattle.unit_machine.proofs.Seats.{Seat, Covered, Is_beside, Is_away, seat_shape, seat_all, seat_path}
 use Rattle.unit_machine.proofs.SeatLaws.{seat_kept}
+use Rattle.unit_machine.proofs.Rests.{exactly}
 use Rattle.abstract_net.proofs.Net.{Sys, IsSys, World}
 use Rattle.abstract_net.proofs.Holding.{Seeing, node_at, Holds}
 use Rattle.abstract_net.proofs.Rest.{Global, done_u, same_done}
@@ -23,10 +24,6 @@ fold F o (p ∷ ps) = fold F (Some (F.step o p)) ps
 pub fold_runs : {R : Type 0} (F : Steps R) (o : Option R) (d : List Ran) → runs F o d ≡ fold F o (firsts d)
 fold_runs F o [] = refl
 fold_runs F o (x ∷ d) = fold_runs F (Some (F.step o x.0)) d
-
-pub exact_of : (b : Bool) (xs ys : List ℕ) → b ≡ false → Order b xs ys → xs ≡ ys
-exact_of true xs ys e o = let never : true ≡ false = e in cc
-exact_of false xs ys e o = o
 
 pub not_both : (b c : Bool) → (b ≡ true → c ≡ true) → c ≡ false → b ≡ false
 not_both true c f e = let never : true ≡ false = sym (f refl) ∙ e in cc
@@ -50,14 +47,14 @@ module _ {R : Type 0} (S : Sys R) (laws : IsSys S) (u : units.Unit) where
   pub order_of : (w : World S) (ps : List ℕ) (c : Bool) → Where S laws u w ps c → In_order (done_u S u w.done) ps c
   order_of w ps c (At_rest owner d l b h o f) = let e = h.done in record {
     waits = l;
-    exact = λ off. ap (λ v. v ++ l) e ∙ exact_of b (firsts d ++ l) ps (not_both b c f off) o;
+    exact = λ off. ap (λ v. v ++ l) e ∙ exactly b (firsts d ++ l) ps (not_both b c f off) o;
     same = λ p. ap (λ v. times p (v ++ l)) e ∙ same_of b (firsts d ++ l) ps o p;
   }
   order_of w ps c (In_move op third x s b there h o f k) =
       let e : done_u S u w.done ++ seat_path s ≡ seat_all s = ap (λ v. v ++ seat_path s) (same_done S (see S laws u op third) w.done ∙ h.done) ∙ sym (seat_parts S.F s) in
       record {
         waits = seat_path s;
-        exact = λ off. e ∙ exact_of b (seat_all s) ps (not_both b c f off) o;
+        exact = λ off. e ∙ exactly b (seat_all s) ps (not_both b c f off) o;
         same = λ p. ap (λ v. times p v) e ∙ same_of b (seat_all s) ps o p;
       }
 

@@ -3,12 +3,12 @@
 use Rattle.std.proofs.Common.{◌≡◌, ℕ, ◌≤◌, ◌<◌, Bool, true, false, Option, Some, None, List, [], ◌∷◌, map, refl, sym, ap, ◌∙◌, subst, arith}
 use Rattle.std.specs.Prelude.{if◌then◌else◌, ◌&&◌, ◌==◌}
 use Rattle.std.proofs.lemmas.Bool.Decides.{nat_tests}
-use Rattle.unit_machine.proofs.Machine.{Where, At_a, At_b, At_c, Ran, Steps, after, Rule, Free, Inst, idle, Item, Carry, Stray, State, Phase, Idle, Over}
+use Rattle.unit_machine.proofs.Machine.{Where, At_a, At_b, At_c, Ran, after, Free, idle, Item, Carry, Stray, Phase, Idle}
 use Rattle.unit_machine.proofs.Lists.{firsts}
 use Rattle.unit_machine.proofs.Real as Real
-use Rattle.unit_machine.proofs.Real.{record_at, M_enable, M_stream, M_delete, M_put, M_restore, M_enabled, M_event, M_piece, M_deleted, M_put_ok, M_put_no, M_restored, M_fenced, M_forward, M_install, M_fence_to, Frame, where_true, sends_to, add, only_mine}
+use Rattle.unit_machine.proofs.Real.{record_at, M_enable, M_stream, M_delete, M_put, M_restore, M_enabled, M_event, M_piece, M_deleted, M_put_ok, M_put_no, M_restored, M_fenced, M_forward, M_install, M_fence_to, where_true, add, only_mine}
 use Rattle.unit_machine.proofs.Seen.{Apart}
-use Rattle.unit_machine.proofs.Labels.{Each, Without, Clean}
+use Rattle.unit_machine.proofs.Labels.{Each, Without, Clean, each_both}
 use Rattle.unit_machine.proofs.Pairs.{Nodes, expect}
 use Rattle.unit_machine.proofs.Between.{rest_at}
 use Rattle.unit_machine.proofs.NetViews.{items}
@@ -89,10 +89,6 @@ module _ {R : Type 0} (S : Sys R) (u : units.Unit) where
     pub target : w.target u ≡ owner
     pub ops : Each Rest_op w.ops
     pub done : done_u w.done ≡ firsts d
-
-pub each_map : {X : Type 0} {P Q : X → Type 0} → ((x : X) → P x → Q x) → (xs : List X) → Each P xs → Each Q xs
-each_map g [] h = tt
-each_map g (x ∷ xs) h = (g x h.0, each_map g xs h.1)
 
 below_off : (k b n : ℕ) → k < b → b ≤ n → (k == n) ≡ false
 below_off k b n a e = grind (arith, nat_tests, a, e)
@@ -184,10 +180,6 @@ module _ {R : Type 0} (S : Sys R) (z : Seeing) where
     op_labels [] e h = tt
     op_labels (x ∷ es) e h = ((h.0.0 ∙ sym (off x.op.num e.0), (λ _. (h.0.1.0, sym (same_mine x.store) ∙ h.0.1.1)), h.0.2), op_labels es e.1 h.1)
 
-    each_both : {X : Type 0} {P Q T : X → Type 0} → ((x : X) → P x → Q x → T x) → (xs : List X) → Each P xs → Each Q xs → Each T xs
-    each_both g [] p q = tt
-    each_both g (x ∷ xs) p q = (g x p.0 q.0, each_both g xs p.1 q.1)
-
     rest_links : (side : Where) (d : List Ran) (l : List ℕ) (keep : Bool) (i j : ℕ) (m : List (Item R)) → Nodes z.op.src z.op.dst z.third → map Carry l ≡ m → (if (i == 0) && (j == 0) then [] else (if (i == 0) && (j == place S z side) then m else [])) ≡ expect z.op.src z.op.dst z.third (rest_at S.F side d l Idle keep) i j
     rest_links At_a d l keep i j m nodes e = grind (arith, nat_tests, e, nodes.a_is, nodes.b_is, nodes.c_is, nodes.ab, nodes.ac, nodes.bc)
     rest_links At_b d l keep i j m nodes e = grind (arith, nat_tests, e, nodes.a_is, nodes.b_is, nodes.c_is, nodes.ab, nodes.ac, nodes.bc)
@@ -234,7 +226,7 @@ module _ {R : Type 0} (S : Sys R) (z : Seeing) where
     apart = apart;
     nodes = nodes;
     views = λ i j. by_input i j ∙ rest_links w.next new side d l keep i j (map Carry l) nodes refl;
-    labels = λ i j e. each_both w.next new (λ m a c. to_label w.next new i m a c) (w.link i j) (g.messages i j e) (h.labels i j e);
+    labels = λ i j e. each_both (λ m a c. to_label w.next new i m a c) (w.link i j) (g.messages i j e) (h.labels i j e);
     insts = λ k.
         let none = no_rule w.next new (w.inst k).rules (g.rules k) in
         subst (λ v. Sees_node S z (w.inst k) v) (sym (node_rest side d l Idle keep k nodes)) (record { live = h.live k; rule = ap rule_of none; held = ap (λ o. only_mine (frame S z) (held_of o)) none; rules = rule_labels w.next new (w.inst k).rules (g.rules k) (h.rules k) });

@@ -1,14 +1,11 @@
 -- Lists of rules: what a number finds after rules were changed, or one was put after them.
-use Rattle.std.proofs.Common.{◌≡◌, ℕ, Bool, true, false, Option, Some, None, List, [], ◌∷◌, ◌++◌, refl, sym, ap, ◌∙◌, subst}
+use Rattle.std.proofs.Common.{◌≡◌, ℕ, true, false, Option, Some, None, List, [], ◌∷◌, ◌++◌, refl, sym, ap, ◌∙◌}
 use Rattle.std.specs.Prelude.{if◌then◌else◌, ◌==◌, option_map, is_some}
-use Rattle.std.proofs.lemmas.Bool.Decides.{Decides-eqb}
+use Rattle.std.proofs.lemmas.Bool.{eqb-true}
 use Rattle.flow_filter.specs.declared.filter.Filter.{Filter}
 use Rattle.unit_machine.proofs.Machine.{Rule}
 use Rattle.unit_machine.proofs.Labels.{Each, each-append}
 use Rattle.abstract_net.proofs.Net.{Ruling, find_rule, change_rules, has_rule, ruled_by, new_rule, holding, set_rule, hold, held_of, rule_of}
-
-num_is : (x y : ℕ) → (x == y) ≡ true → x ≡ y
-num_is x y e = (Decides-eqb x y).0 e
 
 abbrev pub KeepsNumber : (Ruling → Ruling) → Type 0
 KeepsNumber change = (r : Ruling) → (change r).num ≡ r.num
@@ -19,7 +16,7 @@ module _ (n : ℕ) (change : Ruling → Ruling) (keeps : KeepsNumber change) whe
   find-change_other m (r ∷ rs) off =
       elim (r.num == m) as (λ b. (r.num == m) ≡ b → (if (if b then change r else r).num == n then Some (if b then change r else r) else find_rule n (change_rules m change rs)) ≡ (if r.num == n then Some r else find_rule n rs)) [
         | true ↦ λ e.
-            let same : r.num ≡ m = num_is r.num m e in
+            let same : r.num ≡ m = eqb-true r.num m e in
             let old : (r.num == n) ≡ false = rw same off in
             let new : ((change r).num == n) ≡ false = ap (λ k. k == n) (keeps r) ∙ old in
             rw (new, old) (find-change_other m rs off)
@@ -108,6 +105,6 @@ same_rule p (Some r) = refl
 pub hold_rule : (n m p : ℕ) (rs : List Ruling) → rule_of (find_rule n (hold m p rs)) ≡ rule_of (find_rule n rs)
 hold_rule n m p rs =
     elim (m == n) as (λ b. (m == n) ≡ b → rule_of (find_rule n (hold m p rs)) ≡ rule_of (find_rule n rs)) [
-      | true ↦ λ e. let same : m ≡ n = num_is m n e in ap (λ k. rule_of (find_rule n (hold k p rs))) same ∙ ap rule_of (find_hold_own n p rs) ∙ same_rule p (find_rule n rs)
+      | true ↦ λ e. let same : m ≡ n = eqb-true m n e in ap (λ k. rule_of (find_rule n (hold k p rs))) same ∙ ap rule_of (find_hold_own n p rs) ∙ same_rule p (find_rule n rs)
       | false ↦ λ off. ap rule_of (find_hold_other n m p rs off)
     ] refl

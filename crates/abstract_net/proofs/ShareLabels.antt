@@ -4,7 +4,7 @@ use Rattle.std.proofs.Common.{◌≡◌, ℕ, true, false, Some, None, List, [],
 use Rattle.std.specs.Prelude.{if◌then◌else◌, ◌==◌}
 use Rattle.std.proofs.lemmas.Bool.Decides.{nat_tests, Decides-eqb}
 use Rattle.unit_machine.proofs.Real.{record_at}
-use Rattle.unit_machine.proofs.Labels.{Each}
+use Rattle.unit_machine.proofs.Labels.{Each, each_any}
 use Rattle.share_machine.proofs.Share.{Phase, has}
 use Rattle.abstract_net.proofs.Net.{Sys}
 use Rattle.abstract_net.proofs.ShareLists.{found_each}
@@ -14,10 +14,6 @@ use Rattle.abstract_net.proofs.ShareViews.{mine, as_share}
 use Rattle.abstract_net.proofs.Shares.{Share_msg, Share_msg.Shared_on, Share_msg.Diverted_on, Share_msg.S_asked, Share_msg.S_install, Share_msg.S_forward, Share_msg.S_get, Share_msg.S_sync, Share_msg.S_chunks, Share_msg.S_shared, Share_msg.S_synced, same, Sharing, Open_share, find_share, share_taking, Whole, Seeing_share}
 use Rattle.nf_function.specs.declared.unit.Unit as units
 use Rattle.record_table.proofs.UnitOrder.{same_unit-true}
-
-each_any : (es : List Open_share) → Each (λ _. Unit {0}) es
-each_any [] = tt
-each_any (e ∷ es) = (tt, each_any es)
 
 module _ {R : Type 0} (S : Sys R) (A : Sharing S) (z : Seeing_share) where
   -- on a link to node r

@@ -4,11 +4,11 @@ use Rattle.std.proofs.Common.{◌≡◌, ℕ, Bool, true, false, Some, None, Lis
 use Rattle.std.specs.Prelude.{if◌then◌else◌, ◌&&◌, ◌==◌}
 use Rattle.std.proofs.lemmas.Bool.Decides.{nat_tests}
 use Rattle.unit_machine.proofs.Real.{add, sent_for}
+use Rattle.unit_machine.proofs.NetViews.{items-append}
 use Rattle.share_machine.proofs.Share.{Item, View, ShareMachineStep, moved, put, joined, only}
 use Rattle.share_machine.proofs.Stages.{brings, Alike}
 use Rattle.share_machine.proofs.Lists.{cond-same}
 use Rattle.abstract_net.proofs.Net.{Sys, behind, links_after}
-use Rattle.abstract_net.proofs.Links.{items-append}
 use Rattle.abstract_net.proofs.ShareViews.{share_expect, share_frame, share_seen, share_items, as_share, Share_holds}
 use Rattle.abstract_net.proofs.Shares.{Any, Sharing, Whole, ran_of, Seeing_share}
 use Rattle.record_table.specs.Table.{same_unit}

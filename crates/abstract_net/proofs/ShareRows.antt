@@ -1,10 +1,10 @@
 -- What an open share is told by a message, and that its row keeps and sends nothing but what it was told.
-use Rattle.std.proofs.Common.{◌≡◌, ℕ, true, false, Option, Some, None, List, [], ◌∷◌, length, refl, subst, arith}
+use Rattle.std.proofs.Common.{◌≡◌, ℕ, true, false, Option, Some, None, List, [], ◌∷◌, length, refl, subst}
 use Rattle.std.specs.Prelude.{if◌then◌else◌, ◌==◌, option_map}
-use Rattle.std.proofs.lemmas.Bool.Decides.{nat_tests}
 use Rattle.unit_machine.proofs.Real.{Chunks, M_fenced}
 use Rattle.unit_machine.proofs.Labels.{Each, each-append}
 use Rattle.share_machine.proofs.Share.{Phase, Phase.Fencing, Phase.Getting, Phase.Setting, Phase.Idle, Phase.Out, Phase.Syncing, without}
+use Rattle.share_machine.proofs.Lists.{self}
 use Rattle.abstract_net.proofs.Net.{Msg.In_packet, Msg.Asked, Msg.Carry_on, Msg.Pass_on, Msg.Fence_on, Msg.Mv, Sys}
 use Rattle.abstract_net.proofs.Holding.{EachSent}
 use Rattle.abstract_net.proofs.NewMessages.{each_sent_append}
@@ -24,12 +24,9 @@ module _ {R : Type 0} (S : Sys R) (A : Sharing S) where
   pub taking_found : (es : List Open_share) (v : units.Unit) (e : Open_share) → Nums_apart es → share_taking S es v ≡ Some e → find_share es e.num ≡ Some e
   taking_found [] v e h is = cc
   taking_found (x ∷ es) v e h is = elim (S.takes x.filter v) as (λ b. (if b then Some x else share_taking S es v) ≡ Some e → find_share (x ∷ es) e.num ≡ Some e) [
-    | true ↦ λ there. let same : x ≡ e = cc in let self : (x.num == x.num) ≡ true = same_num x.num in subst (λ y. find_share (x ∷ es) y.num ≡ Some y) same (rw self refl)
+    | true ↦ λ there. let same : x ≡ e = cc in let self : (x.num == x.num) ≡ true = self x.num in subst (λ y. find_share (x ∷ es) y.num ≡ Some y) same (rw self refl)
     | false ↦ λ there. let other = (taking_each (λ d. (x.num == d.num) ≡ false) es v e h.0 there).0 in rw other (taking_found es v e h.1 there)
   ] is
-    where
-      same_num : (k : ℕ) → (k == k) ≡ true
-      same_num k = grind (arith, nat_tests)
 
   -- what a message tells a share
   abbrev pub Tells : List Open_share → Any R → Open_share → Told R → Type 0

@@ -9,6 +9,8 @@ use Rattle.unit_machine.proofs.Stages.{Stage, Laying, Turned, Fenced_a, Ending_b
 use Rattle.unit_machine.proofs.Labels.{Each}
 use Rattle.unit_machine.proofs.Seats.{Seat, Covered, Is_beside, Is_away, seat_shape}
 use Rattle.unit_machine.proofs.NetViews.{items}
+use Rattle.unit_machine.proofs.Controls.{never_true}
+use Rattle.unit_machine.proofs.Lists.{cons_nil}
 use Rattle.flow_filter.specs.declared.filter.Filter.{Filter}
 use Rattle.abstract_net.proofs.Net.{Msg, Mv, Sys, IsSys, Open, World, find_op, inst_step, seen}
 use Rattle.abstract_net.proofs.Holding.{frame, Label, Ctrl_is, Op_label, Holds}
@@ -43,12 +45,6 @@ seen_early v (R_undoing why) = refl
 seen_early v (R_over None) = refl
 seen_early v (R_over (Some why)) = refl
 
-never : {P : Type 0} → false ≡ true → P
-never e = cc
-
-cons_nil : {X Y : Type 0} {x : X} {xs : List X} → [] ≡ x ∷ xs → Y
-cons_nil e = cc
-
 -- a change of the rules, which is a stray item where it isn't from the source to the destination
 abbrev is_install : {R : Type 0} → Item R → Bool
 is_install Install = true
@@ -70,19 +66,19 @@ back_first [] it v e = let same : Fence_to At_a ≡ it = cc in sym (ap is_instal
 back_first (p ∷ f) it v e = let same : to_a p ≡ it = cc in sym (ap is_install same)
 
 early_stage : {R : Type 0} (F : Steps R) (s : Stage F) → is_early (shape F s).phase ≡ true → Is_early (shape F s)
-early_stage F (Laying d x f g e l k) h = never h
-early_stage F (Turned d x f e l b) h = never h
-early_stage F (Fenced_a d x f e b) h = never h
-early_stage F (Ending_b d x f b) h = never h
-early_stage F (Fence_b d x n b) h = never h
-early_stage F (Turned_loose d x f e l) h = never h
-early_stage F (Fenced_loose d x f e) h = never h
-early_stage F (Ending_loose d x f) h = never h
-early_stage F (Fence_loose d x n) h = never h
-early_stage F (Fenced_b d l k) h = never h
-early_stage F (Moved d l k) h = never h
+early_stage F (Laying d x f g e l k) h = never_true h
+early_stage F (Turned d x f e l b) h = never_true h
+early_stage F (Fenced_a d x f e b) h = never_true h
+early_stage F (Ending_b d x f b) h = never_true h
+early_stage F (Fence_b d x n b) h = never_true h
+early_stage F (Turned_loose d x f e l) h = never_true h
+early_stage F (Fenced_loose d x f e) h = never_true h
+early_stage F (Ending_loose d x f) h = never_true h
+early_stage F (Fence_loose d x n) h = never_true h
+early_stage F (Fenced_b d l k) h = never_true h
+early_stage F (Moved d l k) h = never_true h
 early_stage F (Returned d x f b k why) h = record { sb = refl; sc = refl; cs = λ it v e. back_first f it v e }
-early_stage F s h = record { sb = refl; sc = refl; cs = λ it v e. cons_nil e }
+early_stage F s h = record { sb = refl; sc = refl; cs = λ it v e. cons_nil (sym e) }
 
 module _ {R : Type 0} (S : Sys R) (laws : IsSys S) (w : World S) (n : ℕ) (e : Open R) (there : find_op w.ops n ≡ Some e) (early : is_early_real e.phase ≡ true) (u : units.Unit) (takes : S.takes e.filter u ≡ true) where
   -- what shows the unit
@@ -113,7 +109,7 @@ module _ {R : Type 0} (S : Sys R) (laws : IsSys S) (w : World S) (n : ℕ) (e : 
             at_stage third s (subst (λ q. Holds S (see S laws u q third) w (seat_shape S.F s)) (sym ctrl.0) h) phase num
 
     by_where : (ps : List ℕ) (c : Bool) → Where S laws u w ps c → Seated
-    by_where ps c (At_rest owner d l b h o f) = let none = (each_found (Rest_op S u) n w.ops e h.ops there).0.0 in never (sym none ∙ takes)
+    by_where ps c (At_rest owner d l b h o f) = let none = (each_found (Rest_op S u) n w.ops e h.ops there).0.0 in never_true (sym none ∙ takes)
     by_where ps c (In_move op third o s b found h r f k) = in_move op third o s found h
 
   module _ (ps : List ℕ) (bared : Bool) (here : Where S laws u w ps bared) (source : w.target u ≡ e.op.src) where
@@ -126,8 +122,8 @@ module _ {R : Type 0} (S : Sys R) (laws : IsSys S) (w : World S) (n : ℕ) (e : 
       where
         by_link : From_switch S laws (see S laws u e.op seated.third) w (Covered seated.stage) seated.holds p y m rest y0 y1 waits some → y ≡ e.op.src
         by_link (From_sa at) = at
-        by_link (From_sb at it v is) = cons_nil (sym seated.is.sb ∙ is)
-        by_link (From_sc at it v is) = cons_nil (sym seated.is.sc ∙ is)
+        by_link (From_sb at it v is) = cons_nil (sym (sym seated.is.sb ∙ is))
+        by_link (From_sc at it v is) = cons_nil (sym (sym seated.is.sc ∙ is))
 
     -- and a change of the rules that the switch takes next doesn't take the unit
     pub untaken : (g : Filter) (k from to : ℕ) (rest : List (Msg R)) → w.link 1 0 ≡ Mv g (M_install k from to) ∷ rest → S.takes g u ≡ false
@@ -143,4 +139,4 @@ module _ {R : Type 0} (S : Sys R) (laws : IsSys S) (w : World S) (n : ℕ) (e : 
             let it : Item R = if (from == v.from) && (to == v.to) then Install else Stray in
             let view : it ∷ items (seen v) rest ≡ (shape S.F seated.stage).cs =
             sym (ap (λ b. add (where_true b it) (items (seen v) rest)) on) ∙ ap (items (seen v)) (sym waits) ∙ seated.holds.views 1 0 in
-            never (sym (seated.is.cs it (items (seen v) rest) (sym view)) ∙ change_is R ((from == v.from) && (to == v.to)))
+            never_true (sym (seated.is.cs it (items (seen v) rest) (sym view)) ∙ change_is R ((from == v.from) && (to == v.to)))

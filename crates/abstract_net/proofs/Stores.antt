@@ -5,6 +5,7 @@ use Rattle.std.proofs.lemmas.Bool.Decides.{Decides-eqb}
 use Rattle.unit_machine.proofs.Real.{RPhase, R_ending, R_undoing, Frame, see_phase}
 use Rattle.unit_machine.proofs.Seats.{seat_shape}
 use Rattle.unit_machine.proofs.Sides.{is_released, seat_stands}
+use Rattle.unit_machine.proofs.Lists.{cons_nil}
 use Rattle.abstract_net.proofs.Net.{Sys, IsSys, Open, find_op, World}
 use Rattle.abstract_net.proofs.Holding.{frame, Op_label, Ctrl_is}
 use Rattle.abstract_net.proofs.Ctrl.{each_found}
@@ -24,9 +25,6 @@ ends_released : {R : Type 0} (v : Frame) (p : RPhase R) → ends p ≡ true → 
 ends_released v R_ending e = refl
 ends_released v (R_undoing why) e = refl
 ends_released v p e = cc
-
-cons_nil : {X Y : Type 0} {x : X} {xs : List X} → x ∷ xs ≡ [] → Y
-cons_nil e = cc
 
 module _ {R : Type 0} (S : Sys R) (laws : IsSys S) where
   -- a list in which no unit has a packet

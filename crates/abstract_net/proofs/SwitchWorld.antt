@@ -2,12 +2,14 @@
 use Rattle.std.proofs.Common.{◌≡◌, ◌≢◌, ℕ, ◌≤◌, Bool, true, false, Option, Some, None, List, [], ◌∷◌, ◌++◌, drop, refl, sym, ap, ◌∙◌, subst, append-nil, arith}
 use Rattle.std.specs.Prelude.{if◌then◌else◌, ◌&&◌, ◌==◌}
 use Rattle.std.proofs.lemmas.Bool.Decides.{nat_tests, Decides-eqb}
+use Rattle.std.proofs.lemmas.Bool.{and_parts}
 use Rattle.unit_machine.proofs.Machine.{Where, At_a, At_b, At_c, Item, Carry, Pass, Fence, Forward, Fence_to, Install, Stray, State, Arrive, Take_cs, moved, switch_does, redirected, send_to}
 use Rattle.unit_machine.proofs.Real.{M_enable, M_stream, M_delete, M_put, M_restore, M_enabled, M_event, M_piece, M_deleted, M_put_ok, M_put_no, M_restored, M_fenced, M_forward, M_install, M_fence_to, where_true, add}
 use Rattle.unit_machine.proofs.Pairs.{Nodes, expect, after_take, switch_from_c, nothing_seen, arrives_at, By_sa, By_sb, By_sc, By_ca, By_cb, By_ac, By_bc, By_cc, By_cs, shown_by}
 use Rattle.unit_machine.proofs.Labels.{Each}
 use Rattle.unit_machine.proofs.Seats.{Seat, seat_shape, seat_all, seat_loose}
 use Rattle.unit_machine.proofs.NetViews.{items}
+use Rattle.unit_machine.proofs.Controls.{never_true}
 use Rattle.flow_filter.specs.declared.filter.Filter.{Filter}
 use Rattle.abstract_net.proofs.Net.{sw_next, in_next, Msg, In_packet, Asked, Carry_on, Pass_on, Fence_on, Mv, Sys, IsSys, Open, find_op, sw_target, sw_sends, World, links_after, seen}
 use Rattle.abstract_net.proofs.Holding.{Seeing, EachSent, frame, Label, shows, node_at, place, Holds, Ctrl_is}
@@ -139,9 +141,6 @@ module _ {R : Type 0} (S : Sys R) (laws : IsSys S) (z : Seeing) where
   idle_case w s h p m rest p0 waits true it is none target does = sw_idle w s h p m rest p0 waits it is (does _) none target
   idle_case w s h p m rest p0 waits false it is none target does = quiet_sw w s h p m rest p0 waits is (λ j. ap (λ xs. sent S z 0 xs j) none ∙ nil_sent j) target
 
-  bad : {P : Type 0} → false ≡ true → P
-  bad e = cc
-
   forward_case : (w : World S) (s : Seat S.F) (h : Holds S z w (seat_shape S.F s)) (p : ℕ) (g : Filter) (q to : ℕ) (rest : List (Msg R)) (p0 : (p == 0) ≡ false) (waits : w.link p 0 ≡ Mv g (M_forward q to) ∷ rest) → Goes_to S laws z (sw_next S w p (Mv g (M_forward q to))) s []
   forward_case w s h p g q to rest p0 waits =
       elim (same_unit (S.unit_of q) z.unit) as (λ b. (same_unit (S.unit_of q) z.unit) ≡ b → Goes_to S laws z (sw_next S w p (Mv g (M_forward q to))) s []) [
@@ -149,7 +148,7 @@ module _ {R : Type 0} (S : Sys R) (laws : IsSys S) (z : Seeing) where
           | true ↦ λ a. to_src w s h p (Mv g (M_forward q to)) rest p0 waits (Forward At_a q) (rw (ours, a) refl) (seat_shape S.F s).target to (Pass_on q) (Pass q) a refl (rw ours refl) refl h.target
           | false ↦ λ na. elim (to == z.op.dst) as (λ b. (to == z.op.dst) ≡ b → Goes_to S laws z (sw_next S w p (Mv g (M_forward q to))) s []) [
             | true ↦ λ b. to_dst w s h p (Mv g (M_forward q to)) rest p0 waits (Forward At_b q) (rw (ours, na, b) refl) (seat_shape S.F s).target to (Pass_on q) (Pass q) b refl (rw ours refl) refl h.target
-            | false ↦ λ nb. bad (is_for w s h p (Mv g (M_forward q to)) rest p0 waits Stray (rw (ours, na, nb) refl))
+            | false ↦ λ nb. never_true (is_for w s h p (Mv g (M_forward q to)) rest p0 waits Stray (rw (ours, na, nb) refl))
           ] refl
         ] refl
         | false ↦ λ off. quiet_sw w s h p (Mv g (M_forward q to)) rest p0 waits (rw off refl) (one_unseen S laws z 0 to (Pass_on q) (rw off refl)) refl
@@ -162,7 +161,7 @@ module _ {R : Type 0} (S : Sys R) (laws : IsSys S) (z : Seeing) where
           | true ↦ λ a. to_src w s h p (Mv g (M_fence_to k to)) rest p0 waits (Fence_to At_a) (rw (ours, a) refl) (seat_shape S.F s).target to (Fence_on k) Fence a refl (rw ours refl) refl h.target
           | false ↦ λ na. elim (to == z.op.dst) as (λ b. (to == z.op.dst) ≡ b → Goes_to S laws z (sw_next S w p (Mv g (M_fence_to k to))) s []) [
             | true ↦ λ b. to_dst w s h p (Mv g (M_fence_to k to)) rest p0 waits (Fence_to At_b) (rw (ours, na, b) refl) (seat_shape S.F s).target to (Fence_on k) Fence b refl (rw ours refl) refl h.target
-            | false ↦ λ nb. bad (is_for w s h p (Mv g (M_fence_to k to)) rest p0 waits Stray (rw (ours, na, nb) refl))
+            | false ↦ λ nb. never_true (is_for w s h p (Mv g (M_fence_to k to)) rest p0 waits Stray (rw (ours, na, nb) refl))
           ] refl
         ] refl
         | false ↦ λ off. quiet_sw w s h p (Mv g (M_fence_to k to)) rest p0 waits (rw off refl) (one_unseen S laws z 0 to (Fence_on k) (rw off refl)) refl
@@ -174,24 +173,16 @@ module _ {R : Type 0} (S : Sys R) (laws : IsSys S) (z : Seeing) where
   routed At_b r from to b n f d e is = let ab = n.ab in let g : from ≡ z.op.src = (Decides-eqb from z.op.src).0 f in let off : (r == from) ≡ false = grind (arith, nat_tests, is, g, ab) in rw (e, off) is
   routed At_c r from to b n f d e is = let ac = n.ac in let g : from ≡ z.op.src = (Decides-eqb from z.op.src).0 f in let off : (r == from) ≡ false = grind (arith, nat_tests, is, g, ac) in rw (e, off) is
 
-  and_left : (a b : Bool) → a && b ≡ true → a ≡ true
-  and_left true b e = refl
-  and_left false b e = cc
-
-  and_right : (a b : Bool) → a && b ≡ true → b ≡ true
-  and_right true b e = e
-  and_right false b e = cc
-
   install_case : (w : World S) (s : Seat S.F) (h : Holds S z w (seat_shape S.F s)) (p : ℕ) (g : Filter) (k from to : ℕ) (rest : List (Msg R)) (p0 : (p == 0) ≡ false) (waits : w.link p 0 ≡ Mv g (M_install k from to) ∷ rest) → Goes_to S laws z (sw_next S w p (Mv g (M_install k from to))) s []
   install_case w s h p g k from to rest p0 waits =
       let lab = (label w s h p (Mv g (M_install k from to)) rest p0 waits).1 in
       elim (k == z.op.num) as (λ b. (k == z.op.num) ≡ b → Goes_to S laws z (sw_next S w p (Mv g (M_install k from to))) s []) [
         | true ↦ λ ours. elim ((from == z.op.src) && (to == z.op.dst)) as (λ b. (from == z.op.src) && (to == z.op.dst) ≡ b → Goes_to S laws z (sw_next S w p (Mv g (M_install k from to))) s []) [
           | true ↦ λ both.
-              let a = and_left (from == z.op.src) (to == z.op.dst) both in
-              let b = and_right (from == z.op.src) (to == z.op.dst) both in
+              let a = (and_parts (from == z.op.src) (to == z.op.dst) both).0 in
+              let b = (and_parts (from == z.op.src) (to == z.op.dst) both).1 in
               to_src w s h p (Mv g (M_install k from to)) rest p0 waits Install (rw (ours, both) refl) (redirected (seat_shape S.F s).target) from (Fence_on k) Fence a refl (rw ours refl) refl (routed (seat_shape S.F s).target (w.target z.unit) from to (S.takes g z.unit) h.nodes a b (lab ∙ ours) h.target)
-          | false ↦ λ off. bad (is_for w s h p (Mv g (M_install k from to)) rest p0 waits Stray (rw (ours, off) refl))
+          | false ↦ λ off. never_true (is_for w s h p (Mv g (M_install k from to)) rest p0 waits Stray (rw (ours, off) refl))
         ] refl
         | false ↦ λ off. quiet_sw w s h p (Mv g (M_install k from to)) rest p0 waits (rw off refl) (one_unseen S laws z 0 from (Fence_on k) (rw off refl)) (let out : S.takes g z.unit ≡ false = lab ∙ off in rw out refl)
       ] refl

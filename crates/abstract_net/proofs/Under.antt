@@ -3,6 +3,7 @@
 use Rattle.std.proofs.Common.{◌≡◌, ℕ, ◌≤◌, Bool, true, false, None, List, [], ◌∷◌, ◌++◌, ◌⊎◌, inl, inr, refl, sym, ap, ◌∙◌, subst, append-nil, append_assoc, arith}
 use Rattle.std.specs.Prelude.{if◌then◌else◌, ◌&&◌, ◌==◌}
 use Rattle.std.proofs.lemmas.Bool.Decides.{nat_tests, Decides-eqb}
+use Rattle.actor_net.proofs.LinkLemmas.{neither}
 use Rattle.unit_machine.proofs.Real.{M_install, M_fence_to, M_forward, where_true, add, sent_for}
 use Rattle.unit_machine.proofs.Labels.{Each}
 use Rattle.share_machine.proofs.Share.{Item.Carry, Frame, ShareMachineStep.Arrive, has, if_mine, moved}
@@ -64,10 +65,6 @@ module _ {R : Type 0} (S : Sys R) (A : Sharing S) (z : Seeing_share) where
     longer : (k : ℕ) → has z.members k ≡ true → IsFront (front f s k) (front f stage k)
     placed : Grows f (processed f s) (processed f stage)
 
-  if_none : (b : Bool) → ◌≡◌ {A = List ℕ} (if b then [] else []) []
-  if_none true = refl
-  if_none false = refl
-
   stays : (s : Stage R) → FitsFrame f s → (w : Whole S A) → Share_holds S A z w (shape f s) → (before since : List ℕ) → before ≡ [] → since ≡ [] → NextStage s w before since
   stays s h w holds before since b e = record {
     stage = s;
@@ -88,8 +85,8 @@ module _ {R : Type 0} (S : Sys R) (A : Sharing S) (z : Seeing_share) where
         stage = on.next;
         fits = on.fits;
         holds = holds_alike S A z w (moved f (shape f s) mv) (shape f on.next) holds on.alike;
-        before_is = on.early_is ∙ ap (λ ps. early s ++ (if b then [] else ps)) quiet ∙ ap (λ ps. early s ++ ps) (if_none b);
-        since_is = on.late_is ∙ ap (λ ps. late f s ++ (if b then ps else [])) quiet ∙ ap (λ ps. late f s ++ ps) (if_none b);
+        before_is = on.early_is ∙ ap (λ ps. early s ++ (if b then [] else ps)) quiet ∙ ap (λ ps. early s ++ ps) (neither b);
+        since_is = on.late_is ∙ ap (λ ps. late f s ++ (if b then ps else [])) quiet ∙ ap (λ ps. late f s ++ ps) (neither b);
         longer = on.longer;
         placed = placed f is s h mv;
       }
@@ -302,7 +299,7 @@ module _ {R : Type 0} (S : Sys R) (A : Sharing S) (z : Seeing_share) where
     its_late s q = if (shape f s).diverts then if_mine f q else []
 
     input_next : IsShare f → (s : Stage R) → FitsFrame f s → (w : Whole S A) (q : ℕ) → Comes S A z w (shape f s) q → NextStage s w (its_early s q) (its_late s q)
-    input_next is s h w q (Not_its other holds) = let b = (shape f s).diverts in stays s h w holds (its_early s q) (its_late s q) (ap (λ ps. if b then [] else ps) other ∙ if_none b) (ap (λ ps. if b then ps else []) other ∙ if_none b)
+    input_next is s h w q (Not_its other holds) = let b = (shape f s).diverts in stays s h w holds (its_early s q) (its_late s q) (ap (λ ps. if b then [] else ps) other ∙ neither b) (ap (λ ps. if b then ps else []) other ∙ neither b)
     input_next is s h w q (Arrives holds) = let on = goes_on f is s h (Arrive q) in record {
       stage = on.next;
       fits = on.fits;

@@ -3,6 +3,7 @@
 use Rattle.std.proofs.Common.{◌≡◌, ℕ, Bool, true, false, Some, List, [], ◌∷◌, ◌++◌, map, refl, sym, ap, ◌∙◌, subst, append-nil, arith}
 use Rattle.std.specs.Prelude.{if◌then◌else◌, ◌&&◌, ◌==◌}
 use Rattle.std.proofs.lemmas.Bool.Decides.{nat_tests, Decides-eqb}
+use Rattle.std.proofs.lemmas.Cmp.{nat_eq_equiv}
 use Rattle.unit_machine.proofs.Real.{where_true, add, sent_for}
 use Rattle.share_machine.proofs.Share.{Item, Item.Carry, Item.Diverted, Item.Stray, Frame, View, ShareMachineStep.Arrive, if_mine, joined, only, nowhere, moved}
 use Rattle.abstract_net.proofs.Net.{Msg.Carry_on, Sys}
@@ -94,11 +95,8 @@ module _ {R : Type 0} (S : Sys R) (A : Sharing S) (z : Seeing_share) where
         cc
     carried off on false diverts =
         let there : target ≡ z.home = ap w.target (same_unit-true (S.unit_of q) z.unit on) ∙ h.target ∙ ap (λ b. if b then 1 else z.home) diverts in
-        let at : (j : ℕ) → sent j ≡ only z.home (Carry q ∷ []) j = λ j. carried_at off on j ∙ ap (λ t. if t == j then Carry q ∷ [] else []) there ∙ ap (λ b. if b then Carry q ∷ [] else []) (swap z.home j) in
+        let at : (j : ℕ) → sent j ≡ only z.home (Carry q ∷ []) j = λ j. carried_at off on j ∙ ap (λ t. if t == j then Carry q ∷ [] else []) there ∙ ap (λ b. if b then Carry q ∷ [] else []) (nat_eq_equiv.symm z.home j) in
         arrives (record x { sw = joined x.sw (only z.home (Carry q ∷ [])) }) (ap (λ b. if b then record x { sc = x.sc ++ Diverted q ∷ [] } else record x { sw = joined x.sw (only f.home (map Carry (if_mine f q))) }) diverts ∙ ap (λ b. record x { sw = joined x.sw (only f.home (map Carry (if b then q ∷ [] else []))) }) on) (holds_alike S A z w' (record x { sc = x.sc ++ []; sw = joined x.sw (only z.home (Carry q ∷ [])) }) (record x { sw = joined x.sw (only z.home (Carry q ∷ [])) }) (goes_in [] (only z.home (Carry q ∷ [])) (at 1 ∙ rw apart refl) (λ k _. at k)) (record { sw = λ k. refl; sc = append-nil x.sc; cs = refl; to = λ k. refl; back = λ k. refl; own = λ k _. refl; phase = refl; queue = refl; diverts = refl; done = refl }))
-      where
-        swap : (a b : ℕ) → (a == b) ≡ (b == a)
-        swap a b = grind (arith, nat_tests)
 
     another : (target == 1) ≡ false → mine S A z q ≡ false → Comes w' x q
     another off other = unseen (not_its other) (λ j. ap (λ xs. share_items S A z j (sent_for j xs)) (to_inst off) ∙ lone_unseen S A z target j (Old (Carry_on q)) (λ r. rw other refl))

@@ -3,6 +3,7 @@
 use Rattle.std.proofs.Common.{◌≡◌, ℕ, ◌≤◌, ◌<◌, Bool, true, false, Option, Some, None, List, [], ◌∷◌, refl, sym, ap, ◌∙◌, subst, arith}
 use Rattle.std.specs.Prelude.{if◌then◌else◌, ◌==◌}
 use Rattle.std.proofs.lemmas.Bool.Decides.{nat_tests}
+use Rattle.share_machine.proofs.Lists.{self}
 use Rattle.unit_machine.proofs.Machine as moves
 use Rattle.unit_machine.proofs.Real as Real
 use Rattle.unit_machine.proofs.Real.{Op, where_true, add, sent_for, only_mine}
@@ -48,9 +49,6 @@ module _ {R : Type 0} (S : Sys R) (laws : IsSys S) (u : units.Unit) where
 
     abbrev z : Seeing
     z = record { unit = u; op = nobody; third = 4 }
-
-    self : (k : ℕ) → (k == k) ≡ true
-    self k = grind (arith, nat_tests)
 
     apart : Apart nobody
     apart = record { num = self b; src = refl; dst = refl; src_dst = refl; dst_src = refl; src_0 = refl; dst_0 = refl; 0_src = refl; 0_dst = refl }

@@ -2,8 +2,10 @@
 use Rattle.std.proofs.Common.{◌≡◌, ℕ, ◌≤◌, Bool, true, false, Option, Some, None, List, [], ◌∷◌, ◌++◌, refl, sym, ap, ◌∙◌, subst, arith}
 use Rattle.std.specs.Prelude.{if◌then◌else◌, ◌&&◌, ◌==◌}
 use Rattle.std.proofs.lemmas.Bool.Decides.{nat_tests, Decides-eqb}
+use Rattle.std.proofs.lemmas.Cmp.{nat_eq_equiv}
+use Rattle.actor_net.proofs.LinkLemmas.{neither}
 use Rattle.unit_machine.proofs.Real as Real
-use Rattle.unit_machine.proofs.Real.{record_at, M_enable, M_stream, M_delete, M_put, M_restore, M_enabled, M_event, M_piece, M_deleted, M_put_ok, M_put_no, M_restored, M_fenced, M_forward, M_install, M_fence_to, where_true, add, sent_for}
+use Rattle.unit_machine.proofs.Real.{record_at, M_fenced, M_forward, M_install, M_fence_to, where_true, add, sent_for}
 use Rattle.share_machine.proofs.Share.{Item, Item.Carry, Item.Fence, Item.Shared, Item.Diverted, Item.Install, Item.Forward, Item.Get, Item.Sync, Item.Fenced, Item.Chunks, Item.Chunk, Item.Synced, Item.Stray, Frame, View, ShareMachineStep.Take_cs, has, joined, only, from_cs}
 use Rattle.share_machine.proofs.Stages.{Stage, IsShare, shape}
 use Rattle.share_machine.proofs.Lists.{self}
@@ -86,18 +88,15 @@ module _ {R : Type 0} (S : Sys R) (A : Sharing S) (laws : IsSys S) (z : Seeing_s
   sends_unseen k (In_packet q) l none = tt
   sends_unseen k (Asked a) l none = tt
 
-  swap : (a b : ℕ) → (a == b) ≡ (b == a)
-  swap a b = grind (arith, nat_tests)
-
   -- the fence after an Install, the packet after a Forward
   fence_at : (n from k : ℕ) → (n == z.num) ≡ true → from ≡ z.home → share_items S A z k (sent_for k ((from, Old (Fence_on n)) ∷ [])) ≡ only z.home (Fence ∷ []) k
-  fence_at n from k on home = lone_view S A z from k (Old (Fence_on n)) ∙ ap (λ b. if from == k then add (where_true b Fence) [] else []) on ∙ ap (λ h. if h == k then Fence ∷ [] else []) home ∙ ap (λ b. if b then Fence ∷ [] else []) (swap z.home k)
+  fence_at n from k on home = lone_view S A z from k (Old (Fence_on n)) ∙ ap (λ b. if from == k then add (where_true b Fence) [] else []) on ∙ ap (λ h. if h == k then Fence ∷ [] else []) home ∙ ap (λ b. if b then Fence ∷ [] else []) (nat_eq_equiv.symm z.home k)
 
   packet_at : (n q to k : ℕ) (home : Bool) → (n == z.num) ≡ true → same home (to == z.home) ≡ true → share_items S A z k (sent_for k ((to, New (Shared_on n home q)) ∷ [])) ≡ only to (Shared q ∷ []) k
   packet_at n q to k home on flag =
       lone_view S A z to k (New (Shared_on n home q)) ∙ elim (k == to) as (λ b. (k == to) ≡ b → (if to == k then share_items S A z k (New (Shared_on n home q) ∷ []) else []) ≡ (if b then Shared q ∷ [] else [])) [
         | true ↦ λ t. let eq : k ≡ to = (Decides-eqb k to).0 t in let own = self to in rw (eq, own, on, flag) refl
-        | false ↦ λ off. let other : (to == k) ≡ false = swap to k ∙ off in rw other refl
+        | false ↦ λ off. let other : (to == k) ≡ false = nat_eq_equiv.symm to k ∙ off in rw other refl
       ] refl
 
   module _ (is : IsShare f) (insts : (k : ℕ) → has z.members k ≡ true → 2 ≤ k) (covered : S.takes z.filter z.unit ≡ true) (w : Whole S A) (s : Stage R) (h : Share_holds S A z w (shape f s)) (p : ℕ) (p0 : (p == 0) ≡ false) where
@@ -197,12 +196,8 @@ module _ {R : Type 0} (S : Sys R) (A : Sharing S) (laws : IsSys S) (z : Seeing_s
           moves_on (New (S_forward n home q to)) rest waits (Forward q to) (only to (Shared q ∷ [])) x.diverts (rw (on, flag) refl) refl (packet_at n q to 1 home on flag ∙ rw apart refl) (λ k. packet_at n q to k home on flag) h.target h.diverts
       | false ↦ λ off.
           let other = l.1 off in
-          quiet (New (S_forward n home q to)) rest waits (rw (off, other) refl) (λ r. lone_view S A z to r (New (Shared_on n home q)) ∙ rw (off, other) (no_case (to == r))) refl (λ v _ c. c)
+          quiet (New (S_forward n home q to)) rest waits (rw (off, other) refl) (λ r. lone_view S A z to r (New (Shared_on n home q)) ∙ rw (off, other) (neither (to == r))) refl (λ v _ c. c)
     ] refl
-      where
-        no_case : (b : Bool) → ◌≡◌ {A = List (Item R)} (if b then [] else []) []
-        no_case true = refl
-        no_case false = refl
 
     new_goes : (m : Share_msg R) (rest : List (Any R)) → w.link p 0 ≡ New m ∷ rest → Share_label S A z 0 m → Goes S A z (Next_to w p (New m)) x
     new_goes (S_install n g from) rest waits l = install_goes n g from rest waits l

@@ -2,7 +2,8 @@
 use Rattle.std.proofs.Common.{◌≡◌, ◌≢◌, ℕ, suc, ◌+◌, ◌≤◌, ◌<◌, Bool, true, false, Option, Some, None, List, [], ◌∷◌, ◌++◌, map, refl, sym, ap, ◌∙◌, subst, append-nil, arith}
 use Rattle.std.specs.Prelude.{if◌then◌else◌, ◌&&◌, ◌||◌, ◌==◌}
 use Rattle.std.proofs.lemmas.Bool.Decides.{nat_tests, Decides-eqb}
-use Rattle.unit_machine.proofs.Machine.{Where as Side, At_a, At_b, At_c, Ran, Steps, after, Drops, Item, Enable, State, Phase, Idle, Freezing, MachineStep, Begin, moved}
+use Rattle.share_machine.proofs.Lists.{self}
+use Rattle.unit_machine.proofs.Machine.{Where as Side, At_a, At_b, At_c, Ran, after, Drops, Item, Enable, State, Idle, Freezing, Begin, moved}
 use Rattle.unit_machine.proofs.Lists.{firsts}
 use Rattle.unit_machine.proofs.Stages.{Stage, Turned_loose, Fenced_loose, Ending_loose, Fence_loose, shape, loose, times, Order}
 use Rattle.unit_machine.proofs.Loose.{times-append}
@@ -77,9 +78,6 @@ module _ {R : Type 0} (S : Sys R) (laws : IsSys S) (u : units.Unit) where
       by_op : (f : Option (Open R)) → find_op w.ops h.op.num ≡ f → Where w ps c
       by_op None none = ended none (seat_ends S.F h.seat (subst (λ f. Ctrl_is S (see h.op h.third) f (seat_shape S.F h.seat)) none h.holds.ctrl))
       by_op (Some e) there = In_move h.op h.third e h.seat h.flag there h.holds h.order h.flag_is h.handed
-
-  self : (k : ℕ) → (k == k) ≡ true
-  self k = grind (arith, nat_tests)
 
   -- two instances
   pub apart_of : (n a b : ℕ) (k : Bool) → 2 ≤ a → 2 ≤ b → a ≢ b → Apart (record { num = n; src = a; dst = b; keep = k })

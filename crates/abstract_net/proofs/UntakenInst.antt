@@ -3,12 +3,12 @@ use Rattle.std.proofs.Common.{◌≡◌, ℕ, Bool, true, false, Some, None, Lis
 use Rattle.std.specs.Prelude.{if◌then◌else◌, ◌&&◌, ◌==◌, option_to_list}
 use Rattle.std.specs.Option.{option_map_or}
 use Rattle.std.proofs.lemmas.Bool.Decides.{Decides-eqb}
-use Rattle.unit_machine.proofs.Labels.{Each}
+use Rattle.unit_machine.proofs.Labels.{Each, each_map}
 use Rattle.unit_machine.proofs.UnitPieces.{first}
 use Rattle.unit_machine.proofs.Cuts.{record_first}
 use Rattle.share_machine.proofs.Share.{over}
-use Rattle.abstract_net.proofs.Net.{Msg, Sys, IsSys, Inst_n, process, inst_step, at_node, put}
-use Rattle.abstract_net.proofs.Rest.{each_map, done_u}
+use Rattle.abstract_net.proofs.Net.{Sys, IsSys, process, inst_step, at_node, put}
+use Rattle.abstract_net.proofs.Rest.{done_u}
 use Rattle.abstract_net.proofs.Units.{Where, inst_where, ctrl_where}
 use Rattle.abstract_net.proofs.Elsewhere.{elsewhere_where, where_rests}
 use Rattle.abstract_net.proofs.AsMoves.{member_new, no_olds-after, inst_old, ctrl_old, ctrl_new}

@@ -3,9 +3,9 @@ use Rattle.std.proofs.Common.{◌≡◌, ℕ, Bool, true, false, Some, None, Lis
 use Rattle.std.specs.Prelude.{if◌then◌else◌, ◌&&◌, ◌==◌}
 use Rattle.std.proofs.lemmas.Bool.Decides.{nat_tests, Decides-eqb}
 use Rattle.unit_machine.proofs.Real.{M_install, sent_for}
-use Rattle.unit_machine.proofs.Labels.{Each}
+use Rattle.unit_machine.proofs.Labels.{Each, each_map}
 use Rattle.abstract_net.proofs.Net.{Msg, Msg.In_packet, Msg.Asked, Msg.Carry_on, Msg.Pass_on, Msg.Fence_on, Msg.Mv, Sys, IsSys, Open, find_op, sw_target, sw_sends, sw_next, in_next, World}
-use Rattle.abstract_net.proofs.Rest.{each_map, Nothing_of}
+use Rattle.abstract_net.proofs.Rest.{Nothing_of}
 use Rattle.abstract_net.proofs.Units.{Where, Where.At_rest, Where.In_move, Hands_on, switch_where, input_where}
 use Rattle.abstract_net.proofs.Elsewhere.{elsewhere_where, fence_where, where_two, where_rests}
 use Rattle.abstract_net.proofs.AsMoves.{old_sends, olds-put, no_olds-put, news-after, no_olds-after, switch_old}

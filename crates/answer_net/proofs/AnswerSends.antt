@@ -1,6 +1,7 @@
 -- A row of a move sends no message that a command is answered: the controller alone adds it.
 use Rattle.std.proofs.Common.{◌≡◌, ℕ, Bool, true, false, List, [], ◌∷◌, ◌++◌, map, refl}
 use Rattle.std.specs.Prelude.{if◌then◌else◌, ◌&&◌, ◌||◌, ◌==◌, length}
+use Rattle.share_machine.proofs.Lists.{cond-same}
 use Rattle.nf_function.specs.declared.chunk.Chunk.{Chunk}
 use Rattle.packet_pool.specs.Pool.{FullCell}
 use Rattle.nf_msgs.specs.declared.answer.Answer.{Answer}
@@ -25,13 +26,9 @@ answering m = 0
 abbrev pub NoAnswer : List (ℕ × Msg) → Type 0
 NoAnswer sends = Each (λ x. answering x.1 ≡ 0) sends
 
-if_zero : (b : Bool) → ◌≡◌ {A = ℕ} (if b then 0 else 0) 0
-if_zero true = refl
-if_zero false = refl
-
 pub none_weighs : (n k : ℕ) (sends : List (ℕ × Msg)) → NoAnswer sends → sent_weight answering n k sends ≡ 0
 none_weighs n k [] h = refl
-none_weighs n k (x ∷ xs) h = let own = h.0 in let rest = none_weighs n k xs h.1 in rw (own, rest, if_zero (reaches n k x.0)) refl
+none_weighs n k (x ∷ xs) h = let own = h.0 in let rest = none_weighs n k xs h.1 in rw (own, rest, cond-same (reaches n k x.0) 0) refl
 
 module _ (plan : MovePlan) where
   abbrev Quiet : MoveNext → Type 0

@@ -3,6 +3,8 @@ use Rattle.std.proofs.Common.{◌≡◌, ℕ, suc, ◌<◌, ◌≤◌, Bool, tru
 use Rattle.std.specs.Prelude.{if◌then◌else◌, ◌&&◌, ◌||◌, ◌==◌, not, is_some, nat_lt, unwrap_or}
 use Rattle.std.specs.FinMap as finite
 use Rattle.std.proofs.lemmas.Bool.Decides.{nat_tests, Decides-eqb, Decides-ltb}
+use Rattle.std.proofs.Math.Bool.{and-false, or-true, and-true}
+use Rattle.std.proofs.lemmas.Bool.{and_parts}
 use Rattle.nf_msgs.specs.declared.answer.Answer.{Answer}
 use Rattle.nf_msgs.specs.declared.answer.Answer.TheVariants.{Done}
 use Rattle.nf_msgs.specs.declared.command.Order.{Order}
@@ -35,52 +37,36 @@ apart_noted op k a off = let turned : (op == k) ≡ false = grind (arith, nat_te
 apart_begun : (op k : ℕ) → (k == op) ≡ false → began k (note.Begun op ∷ []) ≡ false
 apart_begun op k off = let turned : (op == k) ≡ false = grind (arith, nat_tests) in rw turned refl
 
-and_false : (b : Bool) → b && false ≡ false
-and_false true = refl
-and_false false = refl
-
-or_true : (b : Bool) → b || true ≡ true
-or_true true = refl
-or_true false = refl
-
-and_true : (b : Bool) → b && true ≡ b
-and_true true = refl
-and_true false = refl
-
 own_answer : (op : ℕ) (a : Answer) → answers_of op (note.Answered op a ∷ []) ≡ a ∷ []
 own_answer op a = let own : (op == op) ≡ true = grind (arith, nat_tests) in ap (λ b. if b then a ∷ [] else []) own
 
 now_answered : (op : ℕ) (log : List Note) (a : Answer) → has_answered op (log ++ note.Answered op a ∷ []) ≡ true
 now_answered op log a =
     let own : (op == op) ≡ true = grind (arith, nat_tests) in
-    has_answered-append op log (note.Answered op a ∷ []) ∙ ap (λ b. has_answered op log || (b || false)) own ∙ or_true (has_answered op log)
+    has_answered-append op log (note.Answered op a ∷ []) ∙ ap (λ b. has_answered op log || (b || false)) own ∙ or-true (has_answered op log)
 
 module _ (g : Given) where
   -- an answer ends what isn't a share
   ended : (op : ℕ) (log : List Note) (a : Answer) → is_share (g.orders op) ≡ false → keeps_off g.names g.orders op (log ++ note.Answered op a ∷ []) ≡ false
   ended op log a ends =
       let log2 = log ++ note.Answered op a ∷ [] in
-      ap (λ b. began op log2 && (b || not (has_answered op log2))) ends ∙ ap (λ b. began op log2 && not b) (now_answered op log a) ∙ and_false (began op log2)
+      ap (λ b. began op log2 && (b || not (has_answered op log2))) ends ∙ ap (λ b. began op log2 && not b) (now_answered op log a) ∙ and-false (began op log2)
 
   -- and a share keeps others off behind it
   lasting : (op : ℕ) (log : List Note) (a : Answer) → is_share (g.orders op) ≡ true → began op log ≡ true → keeps_off g.names g.orders op (log ++ note.Answered op a ∷ []) ≡ true
   lasting op log a lasts begun =
       let log2 = log ++ note.Answered op a ∷ [] in
-      ap (λ b. began op log2 && (b || not (has_answered op log2))) lasts ∙ and_true (began op log2) ∙ began_same op log (note.Answered op a ∷ []) refl ∙ begun
+      ap (λ b. began op log2 && (b || not (has_answered op log2))) lasts ∙ and-true (began op log2) ∙ began_same op log (note.Answered op a ∷ []) refl ∙ begun
 
   started : (op : ℕ) (log : List Note) → has_answered op log ≡ false → keeps_off g.names g.orders op (log ++ note.Begun op ∷ []) ≡ true
   started op log h =
       let own : (op == op) ≡ true = grind (arith, nat_tests) in
       let log2 = log ++ note.Begun op ∷ [] in
-      let begun : began op log2 ≡ true = has_begun-append (λ k. k == op) log (note.Begun op ∷ []) ∙ ap (λ b. began op log || (b || false)) own ∙ or_true (began op log) in
-      ap (λ b. b && (is_share (g.orders op) || not (has_answered op log2))) begun ∙ ap (λ b. is_share (g.orders op) || not b) (answered_same op log (note.Begun op ∷ []) refl ∙ h) ∙ or_true (is_share (g.orders op))
+      let begun : began op log2 ≡ true = has_begun-append (λ k. k == op) log (note.Begun op ∷ []) ∙ ap (λ b. began op log || (b || false)) own ∙ or-true (began op log) in
+      ap (λ b. b && (is_share (g.orders op) || not (has_answered op log2))) begun ∙ ap (λ b. is_share (g.orders op) || not b) (answered_same op log (note.Begun op ∷ []) refl ∙ h) ∙ or-true (is_share (g.orders op))
 
   kept_begun : (op : ℕ) (log : List Note) → keeps_off g.names g.orders op log ≡ true → began op log ≡ true
-  kept_begun op log on = first (began op log) (is_share (g.orders op) || not (has_answered op log)) on
-    where
-      first : (a b : Bool) → a && b ≡ true → a ≡ true
-      first true b e = refl
-      first false b e = cc
+  kept_begun op log on = (and_parts (began op log) (is_share (g.orders op) || not (has_answered op log)) on).0
 
 module _ (g : Given) (ops : OpenOperations) (log : List Note) (waits : List ℕ) (h : IsBusy g ops log waits) where
   -- notes of other things

@@ -30,7 +30,7 @@ use Rattle.ctrl_node.specs.Controller.{ControllerState, Step, still, place_of, r
 use Rattle.event_store.specs.Store.{stored}
 use Rattle.actor_net.proofs.WeightLaws.{EachSent}
 use Rattle.outline_net.proofs.CopyTurns.{CopyTurn, Idle, Hands, Hands_all, Ends, hands, copy_turn}
-use Rattle.outline_net.proofs.OperationTables.{got_insert, remove_insert, NotShared, handed_is as handed_turn}
+use Rattle.outline_net.proofs.OperationTables.{got_insert, remove_insert, NotShared, handed_is as handed_turn, shared_or_not}
 use Rattle.whole_joined.proofs.Given.{Given}
 use Rattle.whole_joined.proofs.Joined.{Label}
 use Rattle.answer_net.proofs.BusyOperations.{HasOutcome, IsShareOf, answers_to, IsBusy, Causes, refusal_is}
@@ -138,16 +138,9 @@ module _ (g : Given) (log : List Note) (waits : List ℕ) where
             (op_set_up g c.operations log waits h op (Share s) (Share now) there plan did.node.operations l.operations (ap is_share plan.order_is) (not_set_up s tells.1) (set_up_answers now tells.2) tt)
 
     handed_is : (op port : ℕ) (m : Msg) → Says g port 1 m → StepIs (handed c op port m)
-    handed_is op port m label = by_got (finite.get c.operations op) refl
-      where
-        other : NotShared (finite.get c.operations op) → StepIs (handed c op port m)
-        other no_share = subst StepIs (sym (handed_turn c op port m no_share)) (turn_is op port m (finite.get c.operations op) refl no_share label)
-
-        by_got : (o : Option Operation) → finite.get c.operations op ≡ o → StepIs (handed c op port m)
-        by_got (Some (Share s)) is = share_is op s is (handed c op port m) (handed_share c op s is (h.plan op (Share s) is).op_is port m)
-        by_got None is = other (subst NotShared (sym is) tt)
-        by_got (Some (Move mv)) is = other (subst NotShared (sym is) tt)
-        by_got (Some (Copy y)) is = other (subst NotShared (sym is) tt)
+    handed_is op port m label = shared_or_not (finite.get c.operations op)
+        (λ no_share. subst StepIs (sym (handed_turn c op port m no_share)) (turn_is op port m (finite.get c.operations op) refl no_share label))
+        (λ s is. share_is op s is (handed c op port m) (handed_share c op s is (h.plan op (Share s) is).op_is port m))
 
     diverted_is : (cell : FullCell) → StepIs (on_diverted c cell)
     diverted_is cell = by_queues (on_diverted c cell) (queues c cell)

@@ -2,6 +2,7 @@
 use Rattle.std.proofs.Common.{◌≡◌, ℕ, ◌+◌, ◌≤◌, Bool, true, false, Option, Some, List, [], ◌∷◌, ◌++◌, get_or, length, refl, sym, ap, ◌∙◌, subst, append-nil, arith}
 use Rattle.std.specs.Prelude.{if◌then◌else◌, ◌&&◌, ◌||◌, ◌==◌, not, is_some, unwrap_or}
 use Rattle.std.proofs.lemmas.Bool.Decides.{nat_tests}
+use Rattle.std.proofs.Math.Bool.{or-true, or-false, or_assoc}
 use Rattle.nf_msgs.specs.declared.answer.Answer.{Answer}
 use Rattle.nf_msgs.specs.declared.answer.Answer.TheVariants as answer
 use Rattle.nf_msgs.specs.declared.command.Order.{Order}
@@ -23,14 +24,6 @@ AreOther notes = Each (λ n. is_other n ≡ true) notes
 -- whether the log says anything of the command
 abbrev pub is_noted : ℕ → List Note → Bool
 is_noted op log = began op log || has_answered op log
-
-or_false : (b : Bool) → b || false ≡ b
-or_false true = refl
-or_false false = refl
-
-or_assoc : (a b c : Bool) → a || (b || c) ≡ (a || b) || c
-or_assoc true b c = refl
-or_assoc false b c = refl
 
 pub or_off : (a b : Bool) → a || b ≡ false → (a ≡ false) × (b ≡ false)
 or_off false false h = (refl, refl)
@@ -58,7 +51,7 @@ has_answered-append op (note.Exported instance k us ∷ xs) ys = has_answered-ap
 has_answered-append op (note.Imported instance k us ∷ xs) ys = has_answered-append op xs ys
 has_answered-append op (note.Kept instance k us ∷ xs) ys = has_answered-append op xs ys
 has_answered-append op (note.Installed k ∷ xs) ys = has_answered-append op xs ys
-has_answered-append op (note.Answered k answer ∷ xs) ys = ap (λ b. (k == op) || b) (has_answered-append op xs ys) ∙ or_assoc (k == op) (has_answered op xs) (has_answered op ys)
+has_answered-append op (note.Answered k answer ∷ xs) ys = ap (λ b. (k == op) || b) (has_answered-append op xs ys) ∙ sym (or_assoc (k == op) (has_answered op xs) (has_answered op ys))
 
 pub answers_of-append : (op : ℕ) (xs ys : List Note) → answers_of op (xs ++ ys) ≡ answers_of op xs ++ answers_of op ys
 answers_of-append op [] ys = refl
@@ -166,10 +159,10 @@ other_not_begun op (note.Answered k answer ∷ xs) h = let never : false ≡ tru
 
 -- A command of which the notes say nothing.
 pub began_same : (op : ℕ) (log notes : List Note) → began op notes ≡ false → began op (log ++ notes) ≡ began op log
-began_same op log notes h = has_begun-append (λ k. k == op) log notes ∙ ap (λ b. began op log || b) h ∙ or_false (began op log)
+began_same op log notes h = has_begun-append (λ k. k == op) log notes ∙ ap (λ b. began op log || b) h ∙ or-false (began op log)
 
 pub answered_same : (op : ℕ) (log notes : List Note) → has_answered op notes ≡ false → has_answered op (log ++ notes) ≡ has_answered op log
-answered_same op log notes h = has_answered-append op log notes ∙ ap (λ b. has_answered op log || b) h ∙ or_false (has_answered op log)
+answered_same op log notes h = has_answered-append op log notes ∙ ap (λ b. has_answered op log || b) h ∙ or-false (has_answered op log)
 
 pub answers_same : (op : ℕ) (log notes : List Note) → has_answered op notes ≡ false → answers_of op (log ++ notes) ≡ answers_of op log
 answers_same op log notes h = answers_of-append op log notes ∙ ap (λ v. answers_of op log ++ v) (none_answered op notes h) ∙ append-nil (answers_of op log)
@@ -201,16 +194,12 @@ some_answered op log a more is = elim (has_answered op log) as (λ b. has_answer
 ] refl
 
 noted_answered : (op : ℕ) (log : List Note) → has_answered op log ≡ true → is_noted op log ≡ true
-noted_answered op log h = rw h (or_true (began op log))
-  where
-    or_true : (b : Bool) → b || true ≡ true
-    or_true true = refl
-    or_true false = refl
+noted_answered op log h = rw h (or-true (began op log))
 
 noted_begun : (op : ℕ) (log : List Note) → began op log ≡ true → is_noted op log ≡ true
 noted_begun op log h = rw h refl
 
-first_is : (a b : Answer) → a ∷ [] ≡ b ∷ [] → a ≡ b
+pub first_is : (a b : Answer) → a ∷ [] ≡ b ∷ [] → a ≡ b
 first_is a b is = ap (λ xs. get_or xs 0 a) is
 
 some_is : (a b : Order) → Some a ≡ Some b → a ≡ b

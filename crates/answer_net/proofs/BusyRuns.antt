@@ -2,6 +2,7 @@
 use Rattle.std.proofs.Common.{◌≡◌, ◌≢◌, ℕ, zero, suc, ◌+◌, ◌<◌, Bool, true, false, Some, None, List, [], ◌++◌, get_or, refl, sym, ap, ◌∙◌, subst, arith}
 use Rattle.std.specs.Prelude.{if◌then◌else◌, ◌&&◌, ◌||◌, ◌==◌, not, is_some}
 use Rattle.std.specs.FinMap as finite
+use Rattle.std.proofs.lemmas.Bool.{and_parts}
 use Rattle.nf_function.specs.Semantics.{Semantics}
 use Rattle.nf_msgs.specs.declared.msg.Msg.{Msg}
 use Rattle.nf_msgs.specs.declared.msg.Msg.TheVariants as msg
@@ -12,6 +13,7 @@ use Rattle.actor_net.proofs.EnabledChoices.{at}
 use Rattle.actor_net.proofs.StepOutcome.{Takes, Outcome, taken_outcome}
 use Rattle.actor_net.proofs.RunInduction.{Taking}
 use Rattle.actor_net.proofs.WeightLaws.{OnLinks, EachSent, on_links_after}
+use Rattle.actor_net.proofs.LinkLemmas.{neither}
 use Rattle.unit_machine.proofs.Labels.{Each}
 use Rattle.move_op.specs.Move.{MoveState}
 use Rattle.copy_share.specs.Share.{ShareState}
@@ -32,10 +34,6 @@ use Rattle.answer_net.proofs.BusyController.{told_in, controller_busy}
 use Rattle.answer_net.proofs.BusyNodes.{switch_hands, instance_says}
 use Rattle.answer_net.proofs.LinePicks.{on_way, at_switch as way_at_switch, at_controller as way_at_controller, at_instance as way_at_instance}
 use Rattle.answer_net.proofs.MoveSays.{Says}
-
-first_true : (a b : Bool) → a && b ≡ true → a ≡ true
-first_true true b e = refl
-first_true false b e = cc
 
 both_true : (a b : Bool) → a ≡ true → b ≡ false → a && not b ≡ true
 both_true true false h k = refl
@@ -67,21 +65,17 @@ module _ {F R : Type 0} where
     pub is : IsBusy g controller.operations w.log (waits_of w)
     pub says : OnLinks (Says g) w
 
-none_both : {X : Type 0} (b : Bool) → ◌≡◌ {A = List X} [] (if b then [] else [])
-none_both true = refl
-none_both false = refl
-
 module _ {R : Type 0} (f : Semantics R) (g : Given) where
   -- commands come from the input, and to the controller from the switch
   told_at_switch : (p : ℕ) (m : Msg) → Label f g p 0 m → told_in m ≡ (if 0 == p then told_in m else [])
   told_at_switch p (msg.InCommand c) label = let from = label.0.0 in rw from refl
   told_at_switch p (msg.Asked c) label = let never = label.1 in cc
-  told_at_switch p m label = none_both (0 == p)
+  told_at_switch p m label = sym (neither (0 == p))
 
   told_at_controller : (p : ℕ) (m : Msg) → Label f g p 1 m → told_in m ≡ (if 0 == p then told_in m else [])
   told_at_controller p (msg.Asked c) label = let from = label.0 in rw from refl
   told_at_controller p (msg.InCommand c) label = let never = label.0.1 in cc
-  told_at_controller p m label = none_both (0 == p)
+  told_at_controller p m label = sym (neither (0 == p))
 
 module _ {F R : Type 0} (f : Semantics R) (g : Given) (n : ℕ) (count_is : n ≡ count f g + 2) where
   abbrev step : Node F R → ℕ → Msg → Stepped (Node F R) Msg Note
@@ -176,6 +170,7 @@ module _ {F R : Type 0} (f : Semantics R) (g : Given) (n : ℕ) (count_is : n �
       busy_after w j b c.port t.message t.rest c.node (subst (λ y. Takes step n w c.node c.port y t.message t.rest) is t.takes)
 
   -- Of a world of a run, what others need.
+
   module _ (w : Network (Node F R) Msg Note) (j : Joined f g n w) (b : Busy g w) where
     -- an operation is open where its command keeps others off
     pub keeps_is : (op : ℕ) → finite.contains_key j.nodes.controller.operations op ≡ keeps_off g.names g.orders op w.log
@@ -194,7 +189,7 @@ module _ {F R : Type 0} (f : Semantics R) (g : Given) (n : ℕ) (count_is : n �
 
     -- a command whose operation is open began
     pub open_began : (op : ℕ) (o : Operation) → finite.get j.nodes.controller.operations op ≡ Some o → began op w.log ≡ true
-    open_began op o there = first_true (began op w.log) (is_share (g.orders op) || not (has_answered op w.log)) (sym (keeps_is op) ∙ ap is_some there)
+    open_began op o there = (and_parts (began op w.log) (is_share (g.orders op) || not (has_answered op w.log)) (sym (keeps_is op) ∙ ap is_some there)).0
 
     -- it is under way, if it wasn't answered
     pub open_busy : (op : ℕ) (o : Operation) → finite.get j.nodes.controller.operations op ≡ Some o → answers_to o ≡ [] → is_busy op w.log ≡ true

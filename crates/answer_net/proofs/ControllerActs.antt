@@ -36,7 +36,7 @@ use Rattle.answer_net.proofs.AnswerSends.{answering, NoAnswer, none_weighs, row_
 use Rattle.whole_joined.proofs.ControllerChanges.{NotMove}
 use Rattle.outline_net.proofs.CopyTurns.{CopyTurn, Idle, Hands, Hands_all, Ends, hands, ends}
 use Rattle.whole_joined.proofs.KnownOperations.{AreKnown, by_turn, copy_turns}
-use Rattle.outline_net.proofs.OperationTables.{got_insert, got_remove, gone_twice, NotShared}
+use Rattle.outline_net.proofs.OperationTables.{got_insert, got_remove, gone_twice, NotShared, shared_or_not}
 use Rattle.answer_net.proofs.CreditCounts.{sent_weight-append}
 use Rattle.answer_net.proofs.InstallCounts.{passed, row_adds}
 use Rattle.answer_net.proofs.InstallRuns.{not_done}
@@ -210,16 +210,9 @@ module _ (g : Given) (n : ℕ) (reach : reaches n 1 0 ≡ true) (c : ControllerS
             Answers op Done (order.Share plan.names s.plan.filter) (notes ∙ ap (λ a. note.Answered op a ∷ []) tells.0) (weighs (l.first ++ (0, msg.Answered op) ∷ []) 1 sends (omega (arith, both, none, one))) plan.order_is (λ other. absurd (other refl))
 
     handed_acts : (op port : ℕ) (m : Msg) → Acts (handed c op port m)
-    handed_acts op port m = by_got (finite.get c.operations op) refl
-      where
-        other : NotShared (finite.get c.operations op) → Acts (handed c op port m)
-        other no_share = by_turn g c are Acts op port m no_share (turn_acts op port m (finite.get c.operations op) refl no_share)
-
-        by_got : (o : Option Operation) → finite.get c.operations op ≡ o → Acts (handed c op port m)
-        by_got (Some (Share s)) is = share_acts op s is (handed c op port m) (handed_share c op s is (are.shares op s is).0 port m)
-        by_got None is = other (subst NotShared (sym is) tt)
-        by_got (Some (Move mv)) is = other (subst NotShared (sym is) tt)
-        by_got (Some (Copy y)) is = other (subst NotShared (sym is) tt)
+    handed_acts op port m = shared_or_not (finite.get c.operations op)
+        (λ no_share. by_turn g c are Acts op port m no_share (turn_acts op port m (finite.get c.operations op) refl no_share))
+        (λ s is. share_acts op s is (handed c op port m) (handed_share c op s is (are.shares op s is).0 port m))
 
     diverted_acts : (cell : FullCell) → Acts (on_diverted c cell)
     diverted_acts cell = by_queues (on_diverted c cell) (queues c cell)

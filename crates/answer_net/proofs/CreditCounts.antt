@@ -1,6 +1,7 @@
 -- How many cells a step sends home, and how many packets it notes: an instance sends one home for each packet that it processes.
 use Rattle.std.proofs.Common.{◌≡◌, ℕ, ◌+◌, ◌<◌, ◌≤◌, Bool, true, false, Option, Some, None, Result, Ok, Err, List, [], ◌∷◌, ◌++◌, map, length, length-append, refl, sym, ap, ◌∙◌, arith}
 use Rattle.std.specs.Prelude.{if◌then◌else◌, ◌||◌, nat_lt}
+use Rattle.share_machine.proofs.Lists.{cond-same}
 use Rattle.flow_filter.specs.Flow.{flow_of}
 use Rattle.nf_function.specs.declared.chunk.Chunk.{Chunk}
 use Rattle.nf_function.specs.declared.unit.Unit as units
@@ -33,10 +34,6 @@ abbrev pub credit : Msg → ℕ
 credit (msg.Credit cell) = 1
 credit m = 0
 
-if_zero : (b : Bool) → ◌≡◌ {A = ℕ} (if b then 0 else 0) 0
-if_zero true = refl
-if_zero false = refl
-
 pub sent_weight-append : {M : Type 0} (w : M → ℕ) (n k : ℕ) (xs ys : List (ℕ × M)) → sent_weight w n k (xs ++ ys) ≡ sent_weight w n k xs + sent_weight w n k ys
 sent_weight-append w n k [] ys = omega arith
 sent_weight-append w n k (x ∷ xs) ys = let rest = sent_weight-append w n k xs ys in omega (arith, rest)
@@ -57,15 +54,15 @@ module _ {R : Type 0} (f : Semantics R) (g : Given) where
   none_sent n k (x ∷ xs) few h =
       let own = no_credit_from k x.0 x.1 few h.0 in
       let rest = none_sent n k xs few h.1 in
-      rw (own, rest, if_zero (reaches n k x.0)) refl
+      rw (own, rest, cond-same (reaches n k x.0) 0) refl
 
 module _ (n k : ℕ) where
   told_none : (m : Msg) → credit m ≡ 0 → sent_weight credit n k (told (m ∷ [])) ≡ 0
-  told_none m none = rw (none, if_zero (reaches n k 1)) refl
+  told_none m none = rw (none, cond-same (reaches n k 1) 0) refl
 
   all_told : {X : Type 0} (make : X → Msg) → ((x : X) → credit (make x) ≡ 0) → (xs : List X) → sent_weight credit n k (told (map make xs)) ≡ 0
   all_told make none [] = refl
-  all_told make none (x ∷ xs) = let own = none x in let rest = all_told make none xs in rw (own, rest, if_zero (reaches n k 1)) refl
+  all_told make none (x ∷ xs) = let own = none x in let rest = all_told make none xs in rw (own, rest, cond-same (reaches n k 1) 0) refl
 
   chunk_none : (op : ℕ) (o : Option Chunk) → sent_weight credit n k (told (chunk_told op o)) ≡ 0
   chunk_none op None = refl

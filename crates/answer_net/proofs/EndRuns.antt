@@ -4,6 +4,7 @@ use Rattle.std.specs.Prelude.{if◌then◌else◌, ◌&&◌, ◌==◌, not}
 use Rattle.std.specs.declared.alloc.Global.{Global}
 use Rattle.std.specs.FinMap as finite
 use Rattle.std.proofs.lemmas.Bool.Decides.{nat_tests, Decides-eqb}
+use Rattle.std.proofs.lemmas.Bool.{and_parts}
 use Rattle.nf_function.specs.Records.{Laws as FunctionLaws}
 use Rattle.nf_function.specs.Semantics.{Semantics}
 use Rattle.nf_msgs.specs.declared.msg.Msg.{Msg}
@@ -214,15 +215,11 @@ module _ (F : Type 0) {R : Type 0} (f : Semantics R) (laws : FunctionLaws f) (al
 pub all_settled : {F R : Type 0} (w : Network (Node F R) Msg Note) → 0 < length w.nodes → is_done node_ended w ≡ true → (h : Ends w) → (op : ℕ) → IsSettled (finite.get h.controller.operations op)
 all_settled {F = F} {R = R} w some done h op = by_sent h.controller.finish_sent refl
   where
-    closed_of : (a b : Bool) → a && b ≡ true → a ≡ true
-    closed_of true b e = refl
-    closed_of false b e = cc
-
     by_sent : (b : Bool) → h.controller.finish_sent ≡ b → IsSettled (finite.get h.controller.operations op)
     by_sent true on = (h.is.finished on).1 op
     by_sent false off =
         let ended : node_ended {F = F} {R = R} (Switch h.switch) ≡ true = ap node_ended (sym (h.switch_is (Switch h.switch))) ∙ done_node node_ended w done 0 (Switch h.switch) some in
-        let closed : flag h.switch.closed ≡ 1 = ap flag (closed_of h.switch.closed (h.switch.flying == 0) ended) in
+        let closed : flag h.switch.closed ≡ 1 = ap flag (and_parts h.switch.closed (h.switch.flying == 0) ended).0 in
         let none = done_weight node_ended w done finish in
         let never = h.is.unfinished off in
         absurd (omega (arith, closed, none, never))

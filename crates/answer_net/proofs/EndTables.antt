@@ -5,6 +5,7 @@ use Rattle.std.specs.Prelude.{if◌then◌else◌, ◌&&◌, ◌||◌, ◌==◌,
 use Rattle.std.specs.List.{filter_map, list_all}
 use Rattle.std.specs.Ordering.{nat_cmp, eq_by_cmp}
 use Rattle.std.specs.FinMap as finite
+use Rattle.std.proofs.lemmas.Bool.{and_parts}
 use Rattle.flow_filter.specs.declared.filter.Filter.{Filter}
 use Rattle.flow_filter.specs.declared.packet.Packet.{Packet}
 use Rattle.nf_function.specs.Semantics.{Semantics}
@@ -24,6 +25,7 @@ use Rattle.nf_msgs.specs.declared.note.Note.TheVariants as note
 use Rattle.nf_msgs.specs.Nodes.{instance_node}
 use Rattle.nf_msgs.specs.Shown.{op_of}
 use Rattle.actor_net.specs.Histories.{sent_for as core_sent}
+use Rattle.actor_net.proofs.LinkLemmas.{neither}
 use Rattle.unit_machine.proofs.Labels.{Each, each-append}
 use Rattle.ctrl_node.specs.declared.operation.Operation.{Operation}
 use Rattle.ctrl_node.specs.declared.operation.Operation.TheVariants.{Move, Copy, Share}
@@ -39,7 +41,7 @@ use Rattle.switch_node.specs.Switch as switch
 use Rattle.switch_node.specs.Switch.{SwitchState, switch_step, stops, sends_to_instance, goes_to, target_of, has_room, is_there}
 use Rattle.answer_net.proofs.InstallCounts.{finish}
 use Rattle.answer_net.proofs.ShareTells.{is_set_up, Tells, turn_end, ShareStep, handed_share, queued_share, Queues, Queues_none, Queues_at, queues}
-use Rattle.outline_net.proofs.OperationTables.{NotShared}
+use Rattle.outline_net.proofs.OperationTables.{NotShared, shared_or_not}
 use Rattle.whole_joined.proofs.KnownOperations.{AreKnown, by_turn}
 use Rattle.whole_joined.proofs.Given.{Given}
 use Rattle.whole_joined.proofs.Joined.{Label}
@@ -91,15 +93,10 @@ idle_set_up phase.Getting cells e = cc
 idle_set_up (phase.Setting left) cells e = cc
 idle_set_up ph cells e = refl
 
-both : (a b : Bool) → a && b ≡ true → (a ≡ true) × (b ≡ true)
-both true true e = (refl, refl)
-both true false e = cc
-both false b e = cc
-
 quiet_found : (store : Store) (op : ℕ) (es : List (ℕ × Operation)) (o : Operation) → list_all (λ e. is_quiet store e.1) es ≡ true → finite.find nat_cmp op es ≡ Some o → is_quiet store o ≡ true
 quiet_found store op [] o h there = cc
 quiet_found store op (e ∷ es) o h there =
-    let all = both (is_quiet store e.1) (list_all (λ x. is_quiet store x.1) es) h in
+    let all = and_parts (is_quiet store e.1) (list_all (λ x. is_quiet store x.1) es) h in
     elim (eq_by_cmp nat_cmp op e.0) as (λ b. cond b (Some e.1) (finite.find nat_cmp op es) ≡ Some o → is_quiet store o ≡ true) [
       | true ↦ λ here. let same : e.1 ≡ o = cc in subst (λ x. is_quiet store x ≡ true) same all.0
       | false ↦ λ rest. quiet_found store op es o all.1 rest
@@ -155,16 +152,9 @@ module _ (g : Given) (c : ControllerState) (are : AreKnown g c) where
       still_set_up was now (Some why) tells on = tells.2
 
   handed_rests : (op port : ℕ) (m : Msg) → Rests (handed c op port m)
-  handed_rests op port m = by_got (finite.get c.operations op) refl
-    where
-      other : NotShared (finite.get c.operations op) → Rests (handed c op port m)
-      other no_share = by_turn g c are Rests op port m no_share (turn_rests op port m (finite.get c.operations op) refl no_share)
-
-      by_got : (o : Option Operation) → finite.get c.operations op ≡ o → Rests (handed c op port m)
-      by_got (Some (Share s)) is = share_rests op s is (handed c op port m) (handed_share c op s is (are.shares op s is).0 port m)
-      by_got None is = other (subst NotShared (sym is) tt)
-      by_got (Some (Move mv)) is = other (subst NotShared (sym is) tt)
-      by_got (Some (Copy y)) is = other (subst NotShared (sym is) tt)
+  handed_rests op port m = shared_or_not (finite.get c.operations op)
+      (λ no_share. by_turn g c are Rests op port m no_share (turn_rests op port m (finite.get c.operations op) refl no_share))
+      (λ s is. share_rests op s is (handed c op port m) (handed_share c op s is (are.shares op s is).0 port m))
 
   diverted_rests : (cell : FullCell) → Rests (on_diverted c cell)
   diverted_rests cell = by_queues (on_diverted c cell) (queues c cell)
@@ -253,23 +243,20 @@ module _ (g : Given) (c : ControllerState) (are : AreKnown g c) where
 
 -- where commands and ends come from
 module _ {R : Type 0} (f : Semantics R) (g : Given) where
-  none_both : {X : Type 0} (b : Bool) → ◌≡◌ {A = List X} [] (if b then [] else [])
-  none_both true = refl
-  none_both false = refl
 
   pub sign_at_switch : (p : ℕ) (m : Msg) → Label f g p 0 m → sign_in m ≡ (if 0 == p then sign_in m else [])
   sign_at_switch p (msg.InCommand c) label = let from = label.0.0 in rw from refl
   sign_at_switch p msg.InEnd label = let from = label.0 in rw from refl
   sign_at_switch p (msg.Asked c) label = let never = label.1 in cc
   sign_at_switch p msg.End label = let never = label.1 in cc
-  sign_at_switch p m label = none_both (0 == p)
+  sign_at_switch p m label = sym (neither (0 == p))
 
   pub sign_at_controller : (p : ℕ) (m : Msg) → Label f g p 1 m → sign_in m ≡ (if 0 == p then sign_in m else [])
   sign_at_controller p (msg.Asked c) label = let from = label.0 in rw from refl
   sign_at_controller p msg.End label = let from = label.0 in rw from refl
   sign_at_controller p (msg.InCommand c) label = let never = label.0.1 in cc
   sign_at_controller p msg.InEnd label = let never = label.1 in cc
-  sign_at_controller p m label = none_both (0 == p)
+  sign_at_controller p m label = sym (neither (0 == p))
 
 -- The switch hands on commands and the end.
 abbrev NoSign : List (ℕ × Msg) → Type 0
@@ -284,6 +271,14 @@ no_sign r (x ∷ xs) h = elim (x.0 == r) as (λ b. picked sign_in ((if b then x.
 
 abbrev pub flag : Bool → ℕ
 flag b = if b then 1 else 0
+
+pub flag_most : (b : Bool) → flag b ≤ 1
+flag_most true = omega arith
+flag_most false = omega arith
+
+pub flag_full : (b : Bool) → 1 ≤ flag b → b ≡ true
+flag_full true h = refl
+flag_full false h = absurd (omega (arith, h))
 
 -- what is handed on, and whether the switch closes
 pub record Closes (s : SwitchState) (m : Msg) (did : switch.Step) : Type 0 where

@@ -1,11 +1,12 @@
 -- The first entry of open operations that passes a test has the lowest number of those that do.
 use Rattle.std.proofs.Common.{◌≡◌, ℕ, ◌<◌, ◌≤◌, Bool, true, false, cond, Option, Some, None, List, [], ◌∷◌, refl, ap, ◌∙◌, subst, arith}
-use Rattle.std.specs.Prelude.{T, if◌then◌else◌, ◌&&◌, find, option_map, unwrap_or}
+use Rattle.std.specs.Prelude.{T, if◌then◌else◌, find, option_map, unwrap_or}
 use Rattle.std.specs.Option.{option_map_or}
 use Rattle.std.specs.Ordering.{nat_cmp, eq_by_cmp, is_lt}
 use Rattle.std.specs.FinMap as finite
 use Rattle.std.specs.FinMap.Entries.{below_all}
 use Rattle.std.proofs.lemmas.Bool.Decides.{nat_tests}
+use Rattle.std.proofs.Math.Facts.{and_yes}
 use Rattle.ctrl_node.specs.declared.operation.Operation.{Operation}
 use Rattle.ctrl_node.specs.Operations.{OpenOperations}
 
@@ -16,23 +17,15 @@ passes test o = option_map_or test o false
 abbrev Entries : Type 0
 Entries = List (ℕ × Operation)
 
-left : (a b : Bool) → T (a && b) → T a
-left true b h = tt
-left false b h = h
-
-right : (a b : Bool) → T (a && b) → T b
-right true b h = h
-right false b h = absurd h
-
 less : (a b : ℕ) → T (is_lt (nat_cmp a b)) → a < b
 less a b h = grind (arith, nat_tests)
 
 none_below : (k j : ℕ) (es : Entries) → k ≤ j → T (below_all nat_cmp j es) → finite.find nat_cmp k es ≡ None
 none_below k j [] small below = refl
 none_below k j (e ∷ es) small below =
-    let first : j < e.0 = less j e.0 (left (is_lt (nat_cmp j e.0)) (below_all nat_cmp j es) below) in
+    let first : j < e.0 = less j e.0 (and_yes (is_lt (nat_cmp j e.0)) (below_all nat_cmp j es) below).0 in
     let off : eq_by_cmp nat_cmp k e.0 ≡ false = grind (arith, nat_tests) in
-    rw off (none_below k j es small (right (is_lt (nat_cmp j e.0)) (below_all nat_cmp j es) below))
+    rw off (none_below k j es small (and_yes (is_lt (nat_cmp j e.0)) (below_all nat_cmp j es) below).1)
 
 module _ (test : Operation → Bool) where
   none_passes : (es : Entries) → find (λ e. test e.1) es ≡ None → (k : ℕ) → passes test (finite.find nat_cmp k es) ≡ false
@@ -48,8 +41,8 @@ module _ (test : Operation → Bool) where
   found_above : (j : ℕ) (es : Entries) (x : ℕ × Operation) → T (below_all nat_cmp j es) → find (λ e. test e.1) es ≡ Some x → j < x.0
   found_above j [] x below is = cc
   found_above j (e ∷ es) x below is = elim (test e.1) as (λ b. (if b then Some e else find (λ y. test y.1) es) ≡ Some x → j < x.0) [
-    | true ↦ λ here. let same : e ≡ x = ap (λ o. unwrap_or o e) here in subst (λ y. j < y.0) same (less j e.0 (left (is_lt (nat_cmp j e.0)) (below_all nat_cmp j es) below))
-    | false ↦ λ rest. found_above j es x (right (is_lt (nat_cmp j e.0)) (below_all nat_cmp j es) below) rest
+    | true ↦ λ here. let same : e ≡ x = ap (λ o. unwrap_or o e) here in subst (λ y. j < y.0) same (less j e.0 (and_yes (is_lt (nat_cmp j e.0)) (below_all nat_cmp j es) below).0)
+    | false ↦ λ rest. found_above j es x (and_yes (is_lt (nat_cmp j e.0)) (below_all nat_cmp j es) below).1 rest
   ] is
 
   record IsFirst (es : Entries) (k : ℕ) : Type 0 where
@@ -67,7 +60,7 @@ module _ (test : Operation → Bool) where
           none = λ j small. (let off : eq_by_cmp nat_cmp j e.0 ≡ false = grind (arith, nat_tests) in let rest = none_below j e.0 es (omega (arith, small)) below in rw (off, rest) refl);
         })
     | false ↦ λ off rest.
-        let first = first_passes es x (right (below_all nat_cmp e.0 es) (finite.is_sorted nat_cmp es) sorted) rest in
+        let first = first_passes es x (and_yes (below_all nat_cmp e.0 es) (finite.is_sorted nat_cmp es) sorted).1 rest in
         let above = found_above e.0 es x below rest in
         let other : eq_by_cmp nat_cmp x.0 e.0 ≡ false = grind (arith, nat_tests) in
         let there = first.here in
@@ -81,7 +74,7 @@ module _ (test : Operation → Bool) where
   ] refl is
     where
       below : T (below_all nat_cmp e.0 es)
-      below = left (below_all nat_cmp e.0 es) (finite.is_sorted nat_cmp es) sorted
+      below = (and_yes (below_all nat_cmp e.0 es) (finite.is_sorted nat_cmp es) sorted).0
 
 -- A number, or none, of which a test is the first that holds.
 abbrev pub IsFirstOf : Option ℕ → (ℕ → Bool) → Type 0

@@ -3,6 +3,7 @@
 use Rattle.std.proofs.Common.{◌≡◌, ℕ, ◌+◌, Bool, true, false, Option, Some, None, List, [], ◌∷◌, ◌++◌, map, refl, arith}
 use Rattle.std.specs.Prelude.{if◌then◌else◌, ◌&&◌, ◌||◌, ◌==◌, length}
 use Rattle.std.proofs.lemmas.Bool.Decides.{nat_tests}
+use Rattle.share_machine.proofs.Lists.{cond-same}
 use Rattle.nf_function.specs.declared.chunk.Chunk.{Chunk}
 use Rattle.event_filter.specs.declared.action.Action.TheVariants as action
 use Rattle.packet_pool.specs.Pool.{FullCell}
@@ -63,17 +64,13 @@ done_none (answer.Overlap n) e = refl
 done_none (answer.Import a b c) e = refl
 done_none (answer.Old a b) e = refl
 
-pub if_zero : (b : Bool) → ◌≡◌ {A = ℕ} (if b then 0 else 0) 0
-if_zero true = refl
-if_zero false = refl
-
 module _ (n k : ℕ) where
   -- neither a change nor the finish is among what is sent
   abbrev pub NoInstall : List (ℕ × Msg) → Type 0
   NoInstall sends = (op : Option ℕ) → sent_weight (sent_of op) n k sends ≡ 0
 
   pub no_more : (to : ℕ) (m : Msg) → ((op : Option ℕ) → sent_of op m ≡ 0) → (sends : List (ℕ × Msg)) → NoInstall sends → NoInstall ((to, m) ∷ sends)
-  no_more to m none sends h op = let own = none op in let rest = h op in rw (own, rest, if_zero (reaches n k to)) refl
+  no_more to m none sends h op = let own = none op in let rest = h op in rw (own, rest, cond-same (reaches n k to) 0) refl
 
   pub no_one : (to : ℕ) (m : Msg) → ((op : Option ℕ) → sent_of op m ≡ 0) → NoInstall ((to, m) ∷ [])
   no_one to m none = no_more to m none [] (λ op. refl)

@@ -2,6 +2,7 @@
 -- any.
 use Rattle.std.proofs.Common.{◌≡◌, ◌≢◌, ℕ, ◌+◌, ◌-◌, ◌≤◌, true, false, Option, List, [], ◌∷◌, ◌++◌, refl, arith}
 use Rattle.std.specs.Prelude.{if◌then◌else◌, ◌||◌, ◌==◌, not, nat_lt}
+use Rattle.share_machine.proofs.Lists.{cond-same}
 use Rattle.flow_filter.specs.declared.filter.Filter.{Filter}
 use Rattle.flow_filter.specs.declared.packet.Packet.{Packet}
 use Rattle.nf_function.specs.Semantics.{Semantics}
@@ -19,7 +20,7 @@ use Rattle.actor_net.specs.Network.{reaches}
 use Rattle.actor_net.proofs.WeightLaws.{EachSent, weigh, sent_weight}
 use Rattle.net_world.specs.Commands.{times_installed}
 use Rattle.unit_machine.proofs.Labels.{Each}
-use Rattle.answer_net.proofs.InstallCounts.{sent_of, install, if_zero}
+use Rattle.answer_net.proofs.InstallCounts.{sent_of, install}
 use Rattle.whole_joined.proofs.Given.{Given}
 use Rattle.whole_joined.proofs.Joined.{Label, count, is_target}
 use Rattle.whole_joined.proofs.PlaceNotes.{IsQuiet, is_uninstalled}
@@ -41,7 +42,7 @@ module _ {R : Type 0} (f : Semantics R) (g : Given) (o : Option ℕ) where
   none_sent n k (x ∷ xs) other h =
       let own = no_install_from k x.0 x.1 other h.0 in
       let rest = none_sent n k xs other h.1 in
-      rw (own, rest, if_zero (reaches n k x.0)) refl
+      rw (own, rest, cond-same (reaches n k x.0) 0) refl
 
   -- an input has none
   pub items_none : (items : List Msg) → Each (Label f g 0 0) items → weigh (sent_of o) items ≡ 0

@@ -134,7 +134,7 @@ dones_few true (x ∷ xs) = let own = one_few x in let rest = dones_few true xs 
 dones_few false (x ∷ xs) = let rest = dones_few false xs in omega (arith, rest)
 
 -- a command that doesn't move units has sent none
-dones_still : (xs : List Answer) → dones false xs ≡ 0
+pub dones_still : (xs : List Answer) → dones false xs ≡ 0
 dones_still [] = refl
 dones_still (x ∷ xs) = let rest = dones_still xs in omega (arith, rest)
 

@@ -37,7 +37,7 @@ use Rattle.ctrl_node.specs.Controller.{ControllerState, Step, still, refusal, pl
 use Rattle.actor_net.specs.Network.{reaches}
 use Rattle.actor_net.proofs.WeightLaws.{sent_weight}
 use Rattle.net_world.specs.Commands.{answers_of}
-use Rattle.outline_net.proofs.OperationTables.{got_insert, got_remove, gone_twice, NotShared}
+use Rattle.outline_net.proofs.OperationTables.{got_insert, got_remove, gone_twice, NotShared, shared_or_not}
 use Rattle.outline_net.proofs.CopyTurns.{CopyTurn, Idle, Hands, Hands_all, Ends, hands, ends}
 use Rattle.whole_joined.proofs.KnownOperations.{AreKnown, by_turn, copy_turns}
 use Rattle.answer_net.proofs.CreditCounts.{sent_weight-append}
@@ -258,16 +258,9 @@ module _ (n : ℕ) (reach : reaches n 1 0 ≡ true) (g : Given) (k : ℕ) (c : C
         ] refl
 
     handed_is : (op port : ℕ) (m : Msg) → Counts (handed c op port m)
-    handed_is op port m = by_got (finite.get c.operations op) refl
-      where
-        other : NotShared (finite.get c.operations op) → Counts (handed c op port m)
-        other no_share = by_turn g c are Counts op port m no_share (turn_is op port m (finite.get c.operations op) refl no_share)
-
-        by_got : (o : Option Operation) → finite.get c.operations op ≡ o → Counts (handed c op port m)
-        by_got (Some (Share s)) is = share_is op s is (handed c op port m) (handed_share c op s is (are.shares op s is).0 port m)
-        by_got None is = other (subst NotShared (sym is) tt)
-        by_got (Some (Move mv)) is = other (subst NotShared (sym is) tt)
-        by_got (Some (Copy y)) is = other (subst NotShared (sym is) tt)
+    handed_is op port m = shared_or_not (finite.get c.operations op)
+        (λ no_share. by_turn g c are Counts op port m no_share (turn_is op port m (finite.get c.operations op) refl no_share))
+        (λ s is. share_is op s is (handed c op port m) (handed_share c op s is (are.shares op s is).0 port m))
 
     diverted_is : (cell : FullCell) → Counts (on_diverted c cell)
     diverted_is cell = by_queues (on_diverted c cell) (queues c cell)

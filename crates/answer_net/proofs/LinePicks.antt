@@ -3,6 +3,7 @@
 use Rattle.std.proofs.Common.{◌≡◌, ℕ, suc, ◌<◌, Bool, true, false, List, [], ◌∷◌, ◌++◌, drop, append_assoc, append-nil, refl, sym, ap, ◌∙◌, arith}
 use Rattle.std.specs.Prelude.{if◌then◌else◌, ◌&&◌, ◌==◌, not, nat_lt}
 use Rattle.std.proofs.lemmas.Bool.Decides.{nat_tests, Decides-ltb}
+use Rattle.std.proofs.Math.Bool.{and-false, and-true}
 use Rattle.nf_msgs.specs.declared.msg.Msg.{Msg}
 use Rattle.nf_msgs.specs.declared.note.Note.{Note}
 use Rattle.actor_net.specs.Network.{Network, Stepped, waiting, taken, reaches}
@@ -14,14 +15,6 @@ use Rattle.actor_net.proofs.StepOutcome.{Takes, taken_outcome}
 
 put_none : {M : Type 0} (n k s r : ℕ) (sends : List (ℕ × M)) → (s == k) ≡ false → put_on_link n k s r sends ≡ []
 put_none n k s r sends off = ap (λ b. if b && reaches n k r then core_sent r sends else []) off
-
-and_true : (b : Bool) → b && true ≡ b
-and_true true = refl
-and_true false = refl
-
-and_false : (b : Bool) → b && false ≡ false
-and_false true = refl
-and_false false = refl
 
 module _ {X : Type 0} (pick : Msg → List X) where
   abbrev pub picked : List Msg → List X
@@ -76,7 +69,7 @@ module _ {X : Type 0} (pick : Msg → List X) {A : Type 0} (step : A → ℕ →
     link_other off = link_is ∙ ap (λ xs. less_first ((0 == p) && (1 == k)) (waiting w (at 1 0)) ++ xs) (put_none n k 0 1 sends off) ∙ append-nil (less_first ((0 == p) && (1 == k)) (waiting w (at 1 0)))
 
     input_other : (0 == k) ≡ false → picked pick (waiting w (at 0 0)) ≡ picked pick (waiting v (at 0 0))
-    input_other off = input_less ∙ ap (λ b. (if b then pick m else []) ++ picked pick (waiting v (at 0 0))) (ap (λ x. (0 == p) && x) off ∙ and_false (0 == p))
+    input_other off = input_less ∙ ap (λ b. (if b then pick m else []) ++ picked pick (waiting v (at 0 0))) (ap (λ x. (0 == p) && x) off ∙ and-false (0 == p))
 
   -- the switch took the message, and handed on what it brings
   pub at_switch : (takes : Takes step n w 0 p node m rest) → picked pick (core_sent 1 (step node p m).sends) ≡ pick m → pick m ≡ (if 0 == p then pick m else []) → on_way pick w ≡ on_way pick (taken step w (at 0 p))
@@ -84,10 +77,10 @@ module _ {X : Type 0} (pick : Msg → List X) {A : Type 0} (step : A → ℕ →
       let after = taken step w (at 0 p) in
       let put : put_on_link n 0 0 1 (sends 0 takes) ≡ core_sent 1 (sends 0 takes) = (let there : (0 == 0) && (nat_lt 1 n && not ((0 == 0) && (1 == 0))) ≡ true = (let small = (Decides-ltb 1 n).1 few in rw small refl) in rw there refl) in
       let link : picked pick (waiting after (at 1 0)) ≡ picked pick (waiting w (at 1 0)) ++ pick m =
-      ap (picked pick) (link_is 0 takes ∙ ap (λ x. less_first x (waiting w (at 1 0)) ++ put_on_link n 0 0 1 (sends 0 takes)) (and_false (0 == p)))
+      ap (picked pick) (link_is 0 takes ∙ ap (λ x. less_first x (waiting w (at 1 0)) ++ put_on_link n 0 0 1 (sends 0 takes)) (and-false (0 == p)))
       ∙ picked-append pick (waiting w (at 1 0)) (put_on_link n 0 0 1 (sends 0 takes)) ∙ ap (λ xs. picked pick (waiting w (at 1 0)) ++ xs) (ap (picked pick) put ∙ hands) in
       let input : picked pick (waiting w (at 0 0)) ≡ pick m ++ picked pick (waiting after (at 0 0)) =
-      input_less 0 takes ∙ ap (λ xs. xs ++ picked pick (waiting after (at 0 0))) (ap (λ x. if x then pick m else []) (and_true (0 == p)) ∙ sym from) in
+      input_less 0 takes ∙ ap (λ xs. xs ++ picked pick (waiting after (at 0 0))) (ap (λ x. if x then pick m else []) (and-true (0 == p)) ∙ sym from) in
       ap (λ xs. picked pick (waiting w (at 1 0)) ++ xs) input ∙ sym (append_assoc (picked pick (waiting w (at 1 0))) (pick m) (picked pick (waiting after (at 0 0)))) ∙ ap (λ xs. xs ++ picked pick (waiting after (at 0 0))) (sym link)
 
   -- the controller took it
@@ -96,7 +89,7 @@ module _ {X : Type 0} (pick : Msg → List X) {A : Type 0} (step : A → ℕ →
       let after = taken step w (at 1 p) in
       let link : picked pick (waiting w (at 1 0)) ≡ pick m ++ picked pick (waiting after (at 1 0)) =
       link_less 1 takes ∙ ap (λ xs. (if (0 == p) && (1 == 1) then pick m else []) ++ picked pick xs) (sym (link_other 1 takes refl))
-      ∙ ap (λ xs. xs ++ picked pick (waiting after (at 1 0))) (ap (λ x. if x then pick m else []) (and_true (0 == p)) ∙ sym from) in
+      ∙ ap (λ xs. xs ++ picked pick (waiting after (at 1 0))) (ap (λ x. if x then pick m else []) (and-true (0 == p)) ∙ sym from) in
       ap (λ xs. xs ++ picked pick (waiting w (at 0 0))) link ∙ append_assoc (pick m) (picked pick (waiting after (at 1 0))) (picked pick (waiting w (at 0 0))) ∙ ap (λ xs. pick m ++ (picked pick (waiting after (at 1 0)) ++ xs)) (input_other 1 takes refl)
 
   -- an instance took it
@@ -106,5 +99,5 @@ module _ {X : Type 0} (pick : Msg → List X) {A : Type 0} (step : A → ℕ →
       let after = taken step w (at k p) in
       let off : (0 == k) ≡ false = grind (arith, nat_tests) in
       let off_one : (1 == k) ≡ false = grind (arith, nat_tests) in
-      let link : waiting after (at 1 0) ≡ waiting w (at 1 0) = link_other k takes off ∙ ap (λ x. less_first x (waiting w (at 1 0))) (ap (λ x. (0 == p) && x) off_one ∙ and_false (0 == p)) in
+      let link : waiting after (at 1 0) ≡ waiting w (at 1 0) = link_other k takes off ∙ ap (λ x. less_first x (waiting w (at 1 0))) (ap (λ x. (0 == p) && x) off_one ∙ and-false (0 == p)) in
       ap (λ xs. picked pick (waiting w (at 1 0)) ++ xs) (input_other k takes off) ∙ ap (λ xs. picked pick xs ++ picked pick (waiting after (at 0 0))) (sym link)

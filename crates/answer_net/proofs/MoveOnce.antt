@@ -1,6 +1,7 @@
 -- A move asks once for its state, and puts one piece first: what it sends of these is at most what its phase says that it has yet to send.
 use Rattle.std.proofs.Common.{◌≡◌, ℕ, ◌+◌, ◌≤◌, Bool, true, false, List, [], ◌∷◌, ◌++◌, map, refl, arith}
 use Rattle.std.specs.Prelude.{if◌then◌else◌, ◌&&◌, ◌||◌, ◌==◌, length}
+use Rattle.share_machine.proofs.Lists.{cond-same}
 use Rattle.nf_function.specs.declared.chunk.Chunk.{Chunk}
 use Rattle.event_filter.specs.declared.action.Action.TheVariants as action
 use Rattle.packet_pool.specs.Pool.{FullCell}
@@ -18,7 +19,6 @@ use Rattle.move_op.specs.Move.{MovePlan, MoveNext, keeps, goes, chunks_of, have_
 use Rattle.actor_net.specs.Network.{reaches}
 use Rattle.actor_net.proofs.WeightLaws.{sent_weight}
 use Rattle.answer_net.proofs.CreditCounts.{sent_weight-append}
-use Rattle.answer_net.proofs.InstallCounts.{if_zero}
 
 -- what is sent once for a command: a piece that is put first, or the message that asks for its state
 abbrev pub counts : Msg → Bool → ℕ → ℕ
@@ -57,7 +57,7 @@ module _ (n k : ℕ) (first : Bool) where
   NoneOnce sends = (op : ℕ) → sent_weight (once first op) n k sends ≡ 0
 
   pub no_more : (to : ℕ) (m : Msg) → ((op : ℕ) → once first op m ≡ 0) → (sends : List (ℕ × Msg)) → NoneOnce sends → NoneOnce ((to, m) ∷ sends)
-  no_more to m none sends h op = let own = none op in let rest = h op in rw (own, rest, if_zero (reaches n k to)) refl
+  no_more to m none sends h op = let own = none op in let rest = h op in rw (own, rest, cond-same (reaches n k to) 0) refl
 
   pub no_one : (to : ℕ) (m : Msg) → ((op : ℕ) → once first op m ≡ 0) → NoneOnce ((to, m) ∷ [])
   no_one to m none = no_more to m none [] (λ op. refl)

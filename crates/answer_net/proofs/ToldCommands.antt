@@ -6,6 +6,7 @@ use Rattle.std.specs.Option.{option_or}
 use Rattle.std.specs.declared.alloc.Global.{Global}
 use Rattle.std.specs.FinMap as finite
 use Rattle.std.proofs.lemmas.Bool.Decides.{nat_tests, Decides-eqb, Decides-ltb}
+use Rattle.std.proofs.lemmas.Bool.{and_parts}
 use Rattle.flow_filter.specs.declared.filter.Filter.{Filter}
 use Rattle.nf_function.specs.Records.{Laws as FunctionLaws}
 use Rattle.nf_function.specs.Semantics.{Semantics}
@@ -37,12 +38,12 @@ use Rattle.net_world.specs.Commands.{began, has_answered, is_share, keeps_off, a
 use Rattle.net_world.specs.Input.{IsInput, are_unlike, commands, order_numbered, ends_last}
 use Rattle.net_world.specs.Nodes.{node_step, node_ready, node_ended}
 use Rattle.net_world.specs.Start.{first_nodes, started}
-use Rattle.outline_net.proofs.FiltersApart.{and_l, and_r, is_whole}
+use Rattle.outline_net.proofs.FiltersApart.{is_whole}
 use Rattle.answer_net.proofs.BusyLemmas.{is_noted, has_answered-append}
 use Rattle.answer_net.proofs.BusyRuns.{Busy, same_controller, keeps_is, told_is, busy_next}
 use Rattle.answer_net.proofs.CommandPromises.{start_busy, run_busy}
 use Rattle.answer_net.proofs.EndRuns.{run_ends, all_settled}
-use Rattle.answer_net.proofs.EndTables.{flag, IsSettled}
+use Rattle.answer_net.proofs.EndTables.{flag, IsSettled, flag_full}
 use Rattle.whole_joined.proofs.Given.{Given}
 use Rattle.whole_joined.proofs.Joined.{Label, Joined, count, node_of, is_built}
 use Rattle.whole_joined.proofs.BesideRuns.{its_takes, its_label}
@@ -89,7 +90,7 @@ NamesSome (order.Share members filter) = 1 ≤ length members
 NamesSome what = Unit {0}
 
 names_some : {R : Type 0} (f : Semantics R) (g : Given) (what : Order) → is_built f g what ≡ true → NamesSome what
-names_some f g (order.Share members filter) built = let two = (Decides-ltb 1 (length members)).0 (and_l (nat_lt 1 (length members)) (are_unlike members) (and_r (is_whole f.kind filter) _ built)) in omega (arith, two)
+names_some f g (order.Share members filter) built = let two = (Decides-ltb 1 (length members)).0 (and_parts (nat_lt 1 (length members)) (are_unlike members) (and_parts (is_whole f.kind filter) _ built).1).0 in omega (arith, two)
 names_some f g what built = tt
 
 -- The controller begins or answers each command that it takes.
@@ -145,17 +146,13 @@ module _ (g : Given) (log : List Note) (c : ControllerState) (op : ℕ) (open_is
 
   asked_noted : (what : Order) → NamesSome what → Noted (on_asked c (record { op = op; what = what }))
   asked_noted what some = elim (finite.contains_key c.operations op) as (λ b. finite.contains_key c.operations op ≡ b → Noted (if b then still c else decided c op what (refusal c what))) [
-    | true ↦ λ on. (let more = noted_more op log [] in let was = kept_noted (began op log) (is_share (g.orders op)) (has_answered op log) (sym open_is ∙ on) in flagged (is_noted op (log ++ [])) (omega (arith, more, ap flag was)))
+    | true ↦ λ on. (let more = noted_more op log [] in let was = kept_noted (began op log) (is_share (g.orders op)) (has_answered op log) (sym open_is ∙ on) in flag_full (is_noted op (log ++ [])) (omega (arith, more, ap flag was)))
     | false ↦ λ off. decided_noted what some (refusal c what) refl
   ] refl
     where
       kept_noted : (a s b : Bool) → a && (s || not b) ≡ true → a || b ≡ true
       kept_noted true s b e = refl
       kept_noted false s b e = cc
-
-      flagged : (b : Bool) → 1 ≤ flag b → b ≡ true
-      flagged true h = refl
-      flagged false h = absurd (omega (arith, h))
 
 -- What each node's step does with a command.
 module _ {R : Type 0} (f : Semantics R) (g : Given) (op : ℕ) where
@@ -223,6 +220,13 @@ listed op (msg.InCommand c ∷ items) what is = elim (c.op == op) as (λ b. opti
 ] is
 listed op (m ∷ items) what is = let rest = listed op items what is in omega (arith, rest)
 
+-- a command that isn't kept any longer was answered
+pub closed_answered : (a s b : Bool) → a && (s || not b) ≡ false → 1 ≤ flag (a || b) → b ≡ true
+closed_answered a s true e h = refl
+closed_answered true true false e h = cc
+closed_answered true false false e h = cc
+closed_answered false s false e h = absurd (omega (arith, h))
+
 -- an answer stands among the answers
 pub some_answers : (op : ℕ) (log : List Note) → has_answered op log ≡ true → 1 ≤ length (answers_of op log)
 some_answers op [] h = cc
@@ -251,7 +255,7 @@ module _ (F : Type 0) {R : Type 0} (f : Semantics R) (laws : FunctionLaws f) (al
   told_at_start : Told items start
   told_at_start op some = let all = opening_weight Note (first_nodes {F = F} {R = R} alloc c) items (told op) in omega (arith, all, some)
 
-  run_told : (cs : List Choice) → IsRun node_ready (node_step f) cs start → Told items (run (node_step f) cs start)
+  pub run_told : (cs : List Choice) → IsRun node_ready (node_step f) cs start → Told items (run (node_step f) cs start)
   run_told cs run_is = (run_induction node_ready (node_step f) nodes (λ _ w. Runs F f laws alloc c items is w × Busy g w × Told items w) start
       (λ _ w k next h. (runs_next F f laws alloc c items is w k next.taking h.0, busy_next f g nodes refl w k next.taking h.0.joined h.1, told_next w k next.taking h.0 h.1 h.2))
       (start_world F f laws alloc c items is) (count_at_start F f alloc c items is) (runs_at_start F f laws alloc c items is, start_busy F f laws alloc c items is, told_at_start) cs run_is).2
@@ -276,18 +280,12 @@ module _ (F : Type 0) {R : Type 0} (f : Semantics R) (laws : FunctionLaws f) (al
       let settled : IsSettled (finite.get j.nodes.controller.operations op) = subst (λ x. IsSettled (finite.get x.operations op)) same (all_settled w (omega (arith, count)) done ends op) in
       by_settled w j busy.1 (omega (arith, waits, nothing)) (finite.get j.nodes.controller.operations op) refl settled
     where
-      answered : (a s b : Bool) → a && (s || not b) ≡ false → 1 ≤ flag (a || b) → b ≡ true
-      answered a s true e h = refl
-      answered true true false e h = cc
-      answered true false false e h = cc
-      answered false s false e h = absurd (omega (arith, h))
-
       -- a command whose operation isn't open was answered, and so was a share that is set up
       by_settled : (w : Network (Node F R) Msg Note) (j : Joined f g nodes w) (b : Busy g w) → 1 ≤ flag (is_noted op w.log) → (o : Option Operation) → finite.get j.nodes.controller.operations op ≡ o → IsSettled o → length (answers_of op w.log) ≡ 1
       by_settled w j b noted None is settled =
           let few = (b.is.answered op).answered_once in
           let off : keeps_off g.names g.orders op w.log ≡ false = sym (keeps_is f g nodes refl w j b op) ∙ ap is_some is in
-          let some = some_answers op w.log (answered (began op w.log) (is_share (g.orders op)) (has_answered op w.log) off noted) in
+          let some = some_answers op w.log (closed_answered (began op w.log) (is_share (g.orders op)) (has_answered op w.log) off noted) in
           omega (arith, few, some)
       by_settled w j b noted (Some (Share s)) is settled = ap length (told_is f g nodes refl w j b op (Share s) is ∙ ap (λ v. if v then Done ∷ [] else []) settled)
       by_settled w j b noted (Some (Move m)) is settled = absurd settled

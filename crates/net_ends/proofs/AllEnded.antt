@@ -1,5 +1,5 @@
 -- Where no message is on a link and nothing is in the input, all is quiet at the controller, so the finish was sent, and all nodes have ended.
-use Rattle.std.proofs.Common.{◌≡◌, ℕ, zero, suc, ◌+◌, ◌<◌, ◌≤◌, Bool, true, false, Option, Some, None, List, [], ◌∷◌, length, get_or, refl, sym, ap, ◌∙◌, subst, arith}
+use Rattle.std.proofs.Common.{◌≡◌, ℕ, zero, suc, ◌+◌, ◌<◌, Bool, true, false, Option, Some, None, List, [], ◌∷◌, length, get_or, refl, sym, ap, ◌∙◌, subst, arith}
 use Rattle.std.specs.Prelude.{if◌then◌else◌, ◌&&◌, ◌==◌, not, find}
 use Rattle.std.specs.List.{list_all}
 use Rattle.std.specs.FinMap as finite
@@ -27,9 +27,9 @@ use Rattle.whole_outline.proofs.ShareOutline.{Rests}
 use Rattle.whole_joined.proofs.Given.{Given, place}
 use Rattle.whole_joined.proofs.Joined.{Joined, count}
 use Rattle.answer_net.proofs.BusyRuns.{same_controller}
-use Rattle.answer_net.proofs.EndTables.{flag}
 use Rattle.answer_net.proofs.FirstEntries.{passes, found_passes}
 use Rattle.answer_net.proofs.InstallCounts.{finish}
+use Rattle.answer_net.proofs.EndTables.{flag_full}
 use Rattle.net_ends.proofs.SilentLinks.{all_of, silent_total}
 use Rattle.net_ends.proofs.TokenRuns.{HasEnough, IsCalm, calm}
 use Rattle.net_ends.proofs.NoMoves.{no_move}
@@ -70,10 +70,6 @@ sent_of true false true e h k = cc
 sent_of true false false e h k = cc
 sent_of false b q e h k = cc
 
-flag_on : (b : Bool) → 1 ≤ flag b → b ≡ true
-flag_on true h = refl
-flag_on false h = absurd (omega (arith, h))
-
 module _ {F R : Type 0} (f : Semantics R) (g : Given) (n : ℕ) (count_is : n ≡ count f g + 2) (w : Network (Node F R) Msg Note) (world : IsWorld w) (nodes : length w.nodes ≡ n) (j : Joined f g n w) (enough : HasEnough f n w) (silent : (s r : ℕ) → (r == 0) && (s == 0) ≡ false → waiting w (at r s) ≡ []) where
   -- what is open is quiet
   calm_at : (op : ℕ) → IsCalm (finite.get j.nodes.controller.operations op)
@@ -110,7 +106,7 @@ module _ {F R : Type 0} (f : Semantics R) (g : Given) (n : ℕ) (count_is : n �
     same_one = same_controller {F = F} {R = R} h.controller j.nodes.controller (sym (h.controller_is (Controller h.controller)) ∙ j.nodes_are 1 one (Controller h.controller))
 
     ended_came : h.controller.end_came ≡ true
-    ended_came = let some = h.came in let none = nothing ending in flag_on h.controller.end_came (omega (arith, some, none))
+    ended_came = let some = h.came in let none = nothing ending in flag_full h.controller.end_came (omega (arith, some, none))
 
     finish_sent : h.controller.finish_sent ≡ true
     finish_sent =
@@ -118,19 +114,19 @@ module _ {F R : Type 0} (f : Semantics R) (g : Given) (n : ℕ) (count_is : n �
         sent_of h.controller.end_came h.controller.finish_sent (are_quiet h.controller.operations h.controller.store) h.quiet ended_came quiet
 
     closed : h.switch.closed ≡ true
-    closed = let some = h.finished finish_sent in let none = nothing finish in flag_on h.switch.closed (omega (arith, some, none))
+    closed = let some = h.finished finish_sent in let none = nothing finish in flag_full h.switch.closed (omega (arith, some, none))
 
     instance_ended : (i : ℕ) → suc (suc i) < n → (d : Node F R) → node_ended (get_or w.nodes (suc (suc i)) d) ≡ true
     instance_ended i low d =
         let some = h.stops closed i low d in
         let none = ap (weigh stop) (silent 0 (suc (suc i)) (grind (arith, nat_tests))) in
-        flag_on (node_ended (get_or w.nodes (suc (suc i)) d)) (omega (arith, some, none))
+        flag_full (node_ended (get_or w.nodes (suc (suc i)) d)) (omega (arith, some, none))
 
     instance_stopped : (i : ℕ) → suc (suc i) < n → (d : Node F R) → get_or h.controller.stopped i false ≡ true
     instance_stopped i low d =
         let some = h.finals i low d (instance_ended i low d) in
         let none = ap (weigh final) (silent (suc (suc i)) 1 (grind (arith, nat_tests))) in
-        flag_on (get_or h.controller.stopped i false) (omega (arith, some, none))
+        flag_full (get_or h.controller.stopped i false) (omega (arith, some, none))
 
     pub nodes_ended : list_all node_ended w.nodes ≡ true
     nodes_ended = all_of node_ended w.nodes (Switch h.switch) by_place

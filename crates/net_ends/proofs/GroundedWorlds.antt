@@ -1,7 +1,6 @@
 -- Where no message is on a link no packet is under way: each unit that came rests, with all its packets processed.
 use Rattle.std.proofs.Common.{◌≡◌, ℕ, ◌+◌, ◌<◌, ◌≤◌, true, false, List, [], ◌∷◌, ◌++◌, map, length, append-nil, refl, sym, ap, ◌∙◌, subst, arith}
 use Rattle.std.specs.Prelude.{if◌then◌else◌, ◌&&◌, ◌==◌, nat_lt}
-use Rattle.std.proofs.lemmas.Bool.Decides.{nat_tests}
 use Rattle.flow_filter.specs.declared.packet.Packet.{Packet}
 use Rattle.flow_filter.specs.Flow.{flow_of}
 use Rattle.nf_function.specs.declared.unit.Unit as units
@@ -20,6 +19,7 @@ use Rattle.unit_machine.proofs.Lists.{firsts}
 use Rattle.unit_machine.proofs.UnitPieces.{nil_right}
 use Rattle.unit_machine.proofs.Stages as stages
 use Rattle.unit_machine.proofs.Ends.{same_of}
+use Rattle.unit_machine.proofs.Loose.{none_in}
 use Rattle.abstract_net.proofs.Net.{IsSys}
 use Rattle.abstract_net.proofs.AtEnd.{At_end}
 use Rattle.abstract_net.proofs.Shares.{Open_share, moves_of}
@@ -42,20 +42,10 @@ use Rattle.whole_joined.proofs.RunsJoined.{done_same, same_times}
 use Rattle.whole_joined.proofs.StartJoined.{given, genuine}
 use Rattle.path_net.proofs.PathSeats.{there, sides}
 use Rattle.path_net.proofs.SharedOwners.{members_few}
-use Rattle.nf_net.proofs.PacketCounts.{few_done}
+use Rattle.nf_net.proofs.PacketCounts.{few_done, few_came}
+use Rattle.nf_net.proofs.WindowRuns.{InWindow, items_none}
 use Rattle.net_ends.proofs.SilentLinks.{silent_total}
 use Rattle.net_ends.proofs.NoMoves.{quiet_links}
-use Rattle.net_ends.proofs.PacketLengths.{few_came}
-use Rattle.net_ends.proofs.FlyingRuns.{HasFlying, items_none}
-
--- a list in which nothing is
-none_in : (xs : List ℕ) → ((p : ℕ) → stages.times p xs ≡ 0) → xs ≡ []
-none_in [] h = refl
-none_in (x ∷ xs) h =
-    let here = h x in
-    let self : (x == x) ≡ true = grind (arith, nat_tests) in
-    let one : 1 + stages.times x xs ≡ 0 = rw self at here in
-    absurd (omega (arith, one))
 
 module _ {F R : Type 0} (f : Semantics R) (c : Config) (items : List Msg) (is : IsInput f.kind c items) (n : ℕ) (count : n ≡ length c.names + 2) (w : Network (Node F R) Msg Note) (nodes : length w.nodes ≡ n) (j : Joined f (given f c items is) n w) (in_turn : arrived w.log ++ numbers (waiting w (at 0 0)) ≡ numbers items) (silent : (s r : ℕ) → (r == 0) && (s == 0) ≡ false → waiting w (at r s) ≡ []) where
   abbrev g : Given
@@ -114,11 +104,11 @@ module _ {F R : Type 0} (f : Semantics R) (c : Config) (items : List Msg) (is : 
         by_end (At_share e s) = shares_went e s
 
   -- so the switch counts none as under way
-  pub grounded : IsWorld w → (h : HasFlying c.window w) → (j.nodes.switch.flying ≡ 0) × (j.nodes.switch.pool.cells ≡ c.window)
+  pub grounded : IsWorld w → (h : InWindow c.window w) → (j.nodes.switch.flying ≡ 0) × (j.nodes.switch.pool.cells ≡ c.window)
   grounded world h = (ap (λ s. s.flying) (sym same) ∙ none, ap (λ s. s.pool.cells) (sym same) ∙ h.cells)
     where
       same : h.switch ≡ j.nodes.switch
-      same = let is_switch : ◌≡◌ {A = Node F R} (Switch h.switch) (Switch j.nodes.switch) = sym (h.switch_is (Switch h.switch)) ∙ j.nodes_are 0 (omega (arith, count)) (Switch h.switch) in cc
+      same = let is_switch : ◌≡◌ {A = Node F R} (Switch h.switch) (Switch j.nodes.switch) = sym (h.there (Switch h.switch)) ∙ j.nodes_are 0 (omega (arith, count)) (Switch h.switch) in cc
 
       input_label : Each (Label f g 0 0) (waiting w (at 0 0))
       input_label = j.labels 0 0 (omega (arith, nodes, count)) (omega (arith, nodes, count))
@@ -129,5 +119,5 @@ module _ {F R : Type 0} (f : Semantics R) (c : Config) (items : List Msg) (is : 
           let credits = silent_total w world silent credit in
           let input : weights.weigh credit w.input ≡ 0 = items_none f g (waiting w (at 0 0)) input_label in
           let few = few_done f c items is n w j in
-          let many = few_came f c items is w.log all_went in
+          let many = few_came f c items w.log all_went in
           omega (arith, balance, credits, input, few, many)

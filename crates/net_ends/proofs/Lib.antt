@@ -1,12 +1,10 @@
 pub mod AllEnded
 pub mod EndSteps
 pub mod EndingRuns
-pub mod FlyingRuns
 pub mod GroundedWorlds
 pub mod LinkWeights
 pub mod NoMoves
 pub mod NoStuckWorld
-pub mod PacketLengths
 pub mod SilentLinks
 pub mod TallySteps
 pub mod TokenController
@@ -14,5 +12,4 @@ pub mod TokenNodes
 pub mod TokenRows
 pub mod TokenRuns
 pub mod Tokens
-pub mod ToldRuns
 pub mod WaitingWorlds

@@ -9,7 +9,7 @@ use Rattle.actor_net.proofs.EnabledChoices.{at}
 use Rattle.actor_net.proofs.LinkLemmas.{put_on_link, within}
 use Rattle.actor_net.proofs.WaitingMessages.{less_first}
 use Rattle.actor_net.proofs.StepOutcome.{Takes, taken_outcome}
-use Rattle.actor_net.proofs.WeightLaws.{weigh, weigh-append}
+use Rattle.actor_net.proofs.WeightLaws.{weigh, weigh-append, weigh_same}
 
 -- a sum over the numbers below one
 abbrev pub upto : (ℕ → ℕ) → ℕ → ℕ
@@ -72,13 +72,8 @@ pub sends_weigh-append : {M : Type 0} (f : ℕ → ℕ → M → ℕ) (n k : ℕ
 sends_weigh-append f n k [] ys = omega arith
 sends_weigh-append f n k (x ∷ xs) ys = let rest = sends_weigh-append f n k xs ys in omega (arith, rest)
 
--- equal weights of each message
-weigh_alike : {M : Type 0} (f g : M → ℕ) (ms : List M) → ((m : M) → f m ≡ g m) → weigh f ms ≡ weigh g ms
-weigh_alike f g [] e = refl
-weigh_alike f g (m ∷ ms) e = let own = e m in let rest = weigh_alike f g ms e in omega (arith, own, rest)
-
 pub at_links_same : {A M N : Type 0} (f g : ℕ → ℕ → M → ℕ) (n : ℕ) (w : Network A M N) → ((s r : ℕ) (m : M) → f s r m ≡ g s r m) → at_links f n w ≡ at_links g n w
-at_links_same f g n w e = upto_same _ _ n (λ s. upto_same _ _ n (λ r. weigh_alike (f s r) (g s r) (waiting w (at r s)) (e s r)))
+at_links_same f g n w e = upto_same _ _ n (λ s. upto_same _ _ n (λ r. weigh_same (f s r) (g s r) (waiting w (at r s)) (e s r)))
 
 pub at_links_none : {A M N : Type 0} (f : ℕ → ℕ → M → ℕ) (n : ℕ) (w : Network A M N) → ((s r : ℕ) → s < n → r < n → weigh (f s r) (waiting w (at r s)) ≡ 0) → at_links f n w ≡ 0
 at_links_none f n w h = upto_none _ n (λ s hs. upto_none _ n (λ r hr. h s r hs hr))

@@ -1,9 +1,10 @@
 -- Where no message is on a link no move is open: its filter takes a unit, and that unit's seat has no message, so the move has ended.
 use Rattle.std.proofs.Common.{◌≡◌, ◌≢◌, ℕ, ◌+◌, ◌^◌, ◌<◌, ◌≤◌, Bool, true, false, Option, Some, None, List, [], refl, sym, ap, ◌∙◌, subst, arith}
-use Rattle.std.specs.Prelude.{if◌then◌else◌, ◌&&◌, ◌==◌, nat_lt, nat_eq}
+use Rattle.std.specs.Prelude.{◌&&◌, ◌==◌, nat_lt, nat_eq}
 use Rattle.std.specs.List.{filter_map}
 use Rattle.std.specs.FinMap as finite
 use Rattle.std.proofs.lemmas.Bool.Decides.{nat_tests, Decides-ltb}
+use Rattle.std.proofs.lemmas.Bool.{and_parts}
 use Rattle.flow_filter.specs.declared.filter.Filter.{Filter}
 use Rattle.flow_filter.specs.declared.flow.Flow.{Flow}
 use Rattle.flow_filter.specs.declared.prefix.Prefix.{Prefix}
@@ -24,21 +25,19 @@ use Rattle.move_op.specs.Move.{MoveState, answer_of}
 use Rattle.ctrl_node.specs.declared.operation.Operation.TheVariants.{Move}
 use Rattle.actor_net.specs.Network.{Network, waiting}
 use Rattle.actor_net.proofs.EnabledChoices.{at}
-use Rattle.unit_machine.proofs.Machine.{State}
 use Rattle.unit_machine.proofs.Real.{Frame, see_phase}
-use Rattle.unit_machine.proofs.Pairs.{Nodes, expect}
-use Rattle.unit_machine.proofs.NetViews.{items}
-use Rattle.unit_machine.proofs.Rests.{Silent, is_over}
+use Rattle.unit_machine.proofs.Rests.{is_over}
 use Rattle.unit_machine.proofs.Seats.{Seat, seat_shape, seat_rests}
-use Rattle.abstract_net.proofs.Net.{Sys, IsSys, Open, find_op, World, seen}
+use Rattle.abstract_net.proofs.Net.{Sys, IsSys, Open, find_op, World}
 use Rattle.abstract_net.proofs.Holding.{Seeing, frame, Op_label, Ctrl_is, Holds}
 use Rattle.abstract_net.proofs.Ctrl.{each_found}
 use Rattle.abstract_net.proofs.Rest.{Rest_op}
 use Rattle.abstract_net.proofs.Shares.{olds, moves_of}
 use Rattle.abstract_net.proofs.Units.{Where, Where.At_rest, Where.In_move, see}
+use Rattle.abstract_net.proofs.AtEnd.{is_silent}
 use Rattle.whole_net.proofs.UnderMoves.{move_apart}
 use Rattle.net_world.specs.declared.node.Node.{Node}
-use Rattle.outline_net.proofs.FiltersApart.{number_fits, prefix_fits, filter_fits, is_whole, flow_fits, takes_whole, and_l, and_r}
+use Rattle.outline_net.proofs.FiltersApart.{number_fits, prefix_fits, filter_fits, is_whole, flow_fits, takes_whole}
 use Rattle.outline_net.proofs.Outline.{is_sys}
 use Rattle.outline_net.proofs.ControlOutline.{Sees}
 use Rattle.outline_net.proofs.MoveOutline.{outline_phase}
@@ -90,15 +89,15 @@ module _ (g : Filter) (fits : filter_fits g ≡ true) where
 
   fits_it : flow_fits its_flow ≡ true
   fits_it =
-      let p = and_l (number_fits (2 ^ 8) g.proto) _ fits in
-      let q = and_r (number_fits (2 ^ 8) g.proto) _ fits in
-      let r = and_r (prefix_fits g.local) _ q in
-      let s = and_r (number_fits (2 ^ 16) g.lport) _ r in
+      let p = (and_parts (number_fits (2 ^ 8) g.proto) _ fits).0 in
+      let q = (and_parts (number_fits (2 ^ 8) g.proto) _ fits).1 in
+      let r = (and_parts (prefix_fits g.local) _ q).1 in
+      let s = (and_parts (number_fits (2 ^ 16) g.lport) _ r).1 in
       let a = number_low (2 ^ 8) g.proto refl p in
-      let b = bits_low g.local (and_l (prefix_fits g.local) _ q) in
-      let c = number_low (2 ^ 16) g.lport refl (and_l (number_fits (2 ^ 16) g.lport) _ r) in
-      let d = bits_low g.remote (and_l (prefix_fits g.remote) _ s) in
-      let e = number_low (2 ^ 16) g.rport refl (and_r (prefix_fits g.remote) _ s) in
+      let b = bits_low g.local (and_parts (prefix_fits g.local) _ q).0 in
+      let c = number_low (2 ^ 16) g.lport refl (and_parts (number_fits (2 ^ 16) g.lport) _ r).0 in
+      let d = bits_low g.remote (and_parts (prefix_fits g.remote) _ s).0 in
+      let e = number_low (2 ^ 16) g.rport refl (and_parts (prefix_fits g.remote) _ s).1 in
       rw (a, b, c, d, e) refl
 
 record SomeUnit (kind : Kind) (g : Filter) : Type 0 where
@@ -107,61 +106,26 @@ record SomeUnit (kind : Kind) (g : Filter) : Type 0 where
 
 some_unit : (kind : Kind) (g : Filter) → is_whole kind g ≡ true → SomeUnit kind g
 some_unit Conntrack g whole =
-    let fits = and_l (filter_fits g) _ whole in
+    let fits = (and_parts (filter_fits g) _ whole).0 in
     let a = fits_it g fits in
     let b = matches_it g fits in
     record { unit = OfFlow (its_flow g fits); taken = rw (whole, a, b) refl }
 some_unit Nat g whole =
-    let fits = and_l (filter_fits g) _ whole in
-    let low = bits_low g.local (and_l (prefix_fits g.local) _ (and_r (number_fits (2 ^ 8) g.proto) _ fits)) in
+    let fits = (and_parts (filter_fits g) _ whole).0 in
+    let low = bits_low g.local (and_parts (prefix_fits g.local) _ (and_parts (number_fits (2 ^ 8) g.proto) _ fits).1).0 in
     let own = bits_agree g.local in
     record { unit = OfHost (bits_in g.local); taken = rw (whole, low, own) refl }
 some_unit Monitor g whole =
-    let fits = and_l (filter_fits g) _ whole in
-    let low = bits_low g.local (and_l (prefix_fits g.local) _ (and_r (number_fits (2 ^ 8) g.proto) _ fits)) in
+    let fits = (and_parts (filter_fits g) _ whole).0 in
+    let low = bits_low g.local (and_parts (prefix_fits g.local) _ (and_parts (number_fits (2 ^ 8) g.proto) _ fits).1).0 in
     let own = bits_agree g.local in
     record { unit = OfHost (bits_in g.local); taken = rw (whole, low, own) refl }
 
 -- A seat without messages
-module _ {R : Type 0} (a b c : ℕ) (nodes : Nodes a b c) (x : State R) where
-  silent : expect a b c x 0 a ≡ [] → expect a b c x 0 b ≡ [] → expect a b c x a 1 ≡ [] → expect a b c x b 1 ≡ [] → expect a b c x 1 a ≡ [] → expect a b c x 1 b ≡ [] → expect a b c x 1 0 ≡ [] → Silent x
-  silent sa sb ac bc ca cb cs =
-      let aa : (a == a) ≡ true = grind (arith, nat_tests) in
-      let bb : (b == b) ≡ true = grind (arith, nat_tests) in
-      let ba : (b == a) ≡ false = grind (arith, nat_tests, nodes.ab) in
-      let a0 : (a == 0) ≡ false = grind (arith, nat_tests, nodes.a_is) in
-      let a1 : (a == 1) ≡ false = grind (arith, nat_tests, nodes.a_is) in
-      let b0 : (b == 0) ≡ false = grind (arith, nat_tests, nodes.b_is) in
-      let b1 : (b == 1) ≡ false = grind (arith, nat_tests, nodes.b_is) in
-      record {
-        sa = rw aa at sa;
-        sb = rw (ba, bb) at sb;
-        ac = rw (a0, a1, aa) at ac;
-        bc = rw (b0, b1, ba, bb) at bc;
-        ca = rw (a0, aa) at ca;
-        cb = rw (b0, ba, bb) at cb;
-        cs = cs;
-      }
-
 module _ {R : Type 0} (T : Sys R) (laws : IsSys T) (u : units.Unit) (n : ℕ) (v : World T) (some : 2 ≤ n) (quiet : (i j : ℕ) → i < n → j < n → (i == 0) && (j == 0) ≡ false → v.link i j ≡ []) where
   -- an open move whose filter takes the unit is over
   over : (z : Seeing) (s : Seat T.F) → Holds T z v (seat_shape T.F s) → z.op.src < n → z.op.dst < n → is_over (seat_shape T.F s).phase ≡ true
-  over z s h src dst = seat_rests T.F s (silent z.op.src z.op.dst z.third h.nodes x (no_items 0 z.op.src zero src) (no_items 0 z.op.dst zero dst) (no_items z.op.src 1 src one) (no_items z.op.dst 1 dst one) (no_items 1 z.op.src one src) (no_items 1 z.op.dst one dst) (no_items 1 0 one zero))
-    where
-      x : State R
-      x = seat_shape T.F s
-
-      zero : 0 < n
-      zero = omega (arith, some)
-
-      one : 1 < n
-      one = omega (arith, some)
-
-      no_items : (i j : ℕ) → i < n → j < n → expect z.op.src z.op.dst z.third x i j ≡ []
-      no_items i j hi hj = sym (h.views i j) ∙ elim ((i == 0) && (j == 0)) as (λ b. (i == 0) && (j == 0) ≡ b → (if b then [] else items (seen (frame T z)) (v.link i j)) ≡ []) [
-        | true ↦ λ _. refl
-        | false ↦ λ off. ap (items (seen (frame T z))) (quiet i j hi hj off)
-      ] refl
+  over z s h src dst = seat_rests T.F s (is_silent T laws u n v some quiet z (seat_shape T.F s) h src dst)
 
   ended : (ps : List ℕ) (c : Bool) (k : ℕ) (e : Open R) → find_op v.ops k ≡ Some e → T.takes e.filter u ≡ true → e.op.src < n → e.op.dst < n → Where T laws u v ps c → (y : Frame) × (is_over (see_phase y e.phase) ≡ true)
   ended ps c k e there on src dst (At_rest owner d l b r o f) = let never : true ≡ false = sym on ∙ (each_found (Rest_op T u) k v.ops e r.ops there).0.0 in cc

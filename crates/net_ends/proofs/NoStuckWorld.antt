@@ -30,15 +30,15 @@ use Rattle.whole_joined.proofs.RunsJoined.{start_world}
 use Rattle.whole_joined.proofs.StartJoined.{given, count_at_start}
 use Rattle.answer_net.proofs.ArrivalLemmas.{runs_joined}
 use Rattle.answer_net.proofs.CommandPromises.{run_busy}
+use Rattle.answer_net.proofs.ToldCommands.{run_told}
 use Rattle.nf_net.proofs.SettleKeeps.{run_settles}
+use Rattle.nf_net.proofs.WindowRuns.{in_window}
 use Rattle.net_length.specs.Length.{ends, IsShort}
 use Rattle.net_length.proofs.ShortRuns.{short_runs}
 use Rattle.net_ends.proofs.SilentLinks.{all_done}
 use Rattle.net_ends.proofs.TokenRuns.{run_enough}
 use Rattle.net_ends.proofs.EndingRuns.{run_ending}
 use Rattle.net_ends.proofs.AllEnded.{nodes_ended}
-use Rattle.net_ends.proofs.ToldRuns.{run_told}
-use Rattle.net_ends.proofs.FlyingRuns.{run_flying}
 use Rattle.net_ends.proofs.GroundedWorlds.{grounded}
 use Rattle.net_ends.proofs.WaitingWorlds.{none_waits}
 
@@ -70,7 +70,7 @@ module _ (F : Type 0) {R : Type 0} (f : Semantics R) (laws : FunctionLaws f) (al
     joined = (runs_joined F f laws alloc c items is cs run_is).joined
 
     rests : (joined.nodes.switch.flying ≡ 0) × (joined.nodes.switch.pool.cells ≡ c.window)
-    rests = grounded f c items is n refl w reached.1 joined (runs_joined F f laws alloc c items is cs run_is).in_turn silent reached.0 (run_flying F f laws alloc c items is cs run_is)
+    rests = grounded f c items is n refl w reached.1 joined (runs_joined F f laws alloc c items is cs run_is).in_turn silent reached.0 (in_window F f laws alloc c items is cs run_is)
 
     nothing_waits : joined.nodes.switch.waiting ≡ 0
     nothing_waits = none_waits f c items is n refl w reached.0 reached.1 joined (run_busy F f laws alloc c items is cs run_is).1 (run_enough F f laws alloc c items is cs run_is) (run_settles F f laws alloc c items is cs run_is).counted (run_told F f laws alloc c items is cs run_is) silent

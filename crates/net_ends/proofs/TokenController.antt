@@ -4,6 +4,7 @@ use Rattle.std.specs.Prelude.{if◌then◌else◌, ◌&&◌, ◌==◌}
 use Rattle.std.specs.List.{filter_map}
 use Rattle.std.specs.FinMap as finite
 use Rattle.std.proofs.lemmas.Bool.Decides.{nat_tests, Decides-eqb, Decides-ltb}
+use Rattle.share_machine.proofs.Lists.{self}
 use Rattle.flow_filter.specs.declared.filter.Filter.{Filter}
 use Rattle.event_filter.specs.declared.mark.Mark.TheVariants as mark
 use Rattle.packet_pool.specs.Pool.{FullCell}
@@ -28,9 +29,9 @@ use Rattle.ctrl_node.specs.Controller as ctrl
 use Rattle.ctrl_node.specs.Controller.{ControllerState, Step, place_of}
 use Rattle.actor_net.specs.Network.{reaches}
 use Rattle.unit_machine.proofs.Labels.{Each}
-use Rattle.outline_net.proofs.OperationTables.{NotShared, got_insert, got_remove, handed_is}
+use Rattle.outline_net.proofs.OperationTables.{NotShared, got_insert, got_remove, handed_is, shared_or_not}
 use Rattle.whole_outline.proofs.ShareLeft.{answered, ShareLeaves, handed_leaves, queued_leaves}
-use Rattle.whole_outline.proofs.OpenShares.{self, turned_test}
+use Rattle.whole_outline.proofs.OpenShares.{turned_test}
 use Rattle.whole_joined.proofs.CopyCounts.{handed_at}
 use Rattle.whole_joined.proofs.ShareBegins.{place_below}
 use Rattle.answer_net.proofs.ShareTells.{Queues, Queues_none, Queues_at, queues}
@@ -145,15 +146,9 @@ module _ (n : ℕ) (switch_there : reaches n 1 0 ≡ true) (c : ControllerState)
 
     handed_gives : op_of m ≡ Some op → Gives m (ctrl.handed c op p m)
     handed_gives its k = elim (op == k) as (λ b. (op == k) ≡ b → Given_at k m (ctrl.handed c op p m)) [
-      | true ↦ λ on. subst (λ x. Given_at x m (ctrl.handed c op p m)) ((Decides-eqb op k).0 on) (by_got (finite.get c.operations op) refl)
+      | true ↦ λ on. subst (λ x. Given_at x m (ctrl.handed c op p m)) ((Decides-eqb op k).0 on) (shared_or_not (finite.get c.operations op) not_shared shared)
       | false ↦ λ off. stays k m (ctrl.handed c op p m) (handed_at k op (turned_test op k off) c p m) (other_number k p (finite.get c.operations k) op m its off)
     ] refl
-      where
-        by_got : (o : Option Operation) → finite.get c.operations op ≡ o → Given_at op m (ctrl.handed c op p m)
-        by_got (Some (Share s)) there = shared s there
-        by_got None there = not_shared (subst NotShared (sym there) tt)
-        by_got (Some (Move mv)) there = not_shared (subst NotShared (sym there) tt)
-        by_got (Some (Copy y)) there = not_shared (subst NotShared (sym there) tt)
 
   still_gives : (m : Msg) → ((k : ℕ) → weight k (finite.get c.operations k) p 1 m ≡ 0) → Gives m (ctrl.still c)
   still_gives m none k = stays k m (ctrl.still c) refl (none k)

@@ -1,5 +1,5 @@
 -- A copy's and a share's row send what their next phase waits for, or stay as they are on a message that they don't wait for.
-use Rattle.std.proofs.Common.{◌≡◌, ◌≢◌, ℕ, zero, suc, ◌+◌, ◌-◌, ◌≤◌, Bool, true, false, Option, Some, None, List, [], ◌∷◌, ◌++◌, map, length, refl, ap, ◌∙◌, arith}
+use Rattle.std.proofs.Common.{◌≡◌, ◌≢◌, ℕ, zero, suc, ◌+◌, ◌-◌, ◌≤◌, true, false, Option, Some, None, List, [], ◌∷◌, ◌++◌, map, length, refl, ap, ◌∙◌, arith}
 use Rattle.std.specs.Prelude.{if◌then◌else◌, ◌&&◌, ◌==◌, not}
 use Rattle.std.proofs.lemmas.Bool.Decides.{nat_tests, Decides-eqb}
 use Rattle.nf_function.specs.declared.chunk.Chunk.{Chunk}
@@ -21,7 +21,7 @@ use Rattle.ctrl_node.specs.declared.operation.Operation.{Operation}
 use Rattle.ctrl_node.specs.declared.operation.Operation.TheVariants.{Copy, Share}
 use Rattle.actor_net.specs.Network.{reaches}
 use Rattle.unit_machine.proofs.Labels.{Each}
-use Rattle.answer_net.proofs.EndTables.{flag}
+use Rattle.answer_net.proofs.EndTables.{flag, flag_most}
 use Rattle.net_ends.proofs.LinkWeights.{sends_weigh, sends_weigh-append}
 use Rattle.net_ends.proofs.Tokens.{Leg, Gets, Alls, Keeps, Syncs, Serves, Token, token, token_of, at_instance, in_copy, in_share, awaits, counts, weight, some_left, wanted}
 
@@ -87,10 +87,6 @@ module _ (n k p : ℕ) (plan : CopyPlan) (own : plan.op ≡ k) (to_there : reach
       apart on = grind (arith, nat_tests, on, other)
   copy_row copies.Over m = by_sender copies.Over m (λ on. still_copy copies.Over m (over_none (token_of p 1 m))) (λ off on. still_copy copies.Over m (over_none (token_of p 1 m))) (λ off off_to. still_copy copies.Over m (over_none (token_of p 1 m)))
   copy_row ph m = by_sender ph m (λ on. still_copy ph m refl) (λ off on. still_copy ph m refl) (λ off off_to. still_copy ph m refl)
-
-if_one_most : (b : Bool) → flag b ≤ 1
-if_one_most true = omega arith
-if_one_most false = omega arith
 
 some_is : (left : ℕ) → (left == 0) ≡ false → some_left left ≡ left
 some_is zero off = cc
@@ -189,11 +185,11 @@ module _ (n k p : ℕ) (plan : SharePlan) (own : plan.op ≡ k) (few : Each (λ 
   synced_row : (ph : SharePhase) (op : ℕ) → ShareGrants ph (msg.Synced op) (share.row (record { plan = plan; phase = ph }) p (msg.Synced op))
   synced_row (shares.Setting left) op = elim (left - 1 == 0) as (λ b. (left - 1 == 0) ≡ b → ShareGrants (shares.Setting left) (msg.Synced op) (if b then record { phase = shares.Idle; sends = []; answer = Some Done } else share.goes (shares.Setting (left - 1)) [])) [
     | true ↦ λ on. Fresh (omega arith)
-    | false ↦ λ off. (let less = one_less left off in let most = if_one_most (true && (op == k)) in Waits (λ leg node. same_setting leg (left - 1) left node) (omega (arith, less, most)))
+    | false ↦ λ off. (let less = one_less left off in let most = flag_most (true && (op == k)) in Waits (λ leg node. same_setting leg (left - 1) left node) (omega (arith, less, most)))
   ] refl
   synced_row (shares.Syncing left) op = elim (left - 1 == 0) as (λ b. (left - 1 == 0) ≡ b → ShareGrants (shares.Syncing left) (msg.Synced op) (share.goes (if b then shares.Idle else shares.Syncing (left - 1)) [])) [
     | true ↦ λ on. Fresh (omega arith)
-    | false ↦ λ off. (let less = one_less left off in let most = if_one_most (true && (op == k)) in Waits (λ leg node. same_syncing leg (left - 1) left node) (omega (arith, less, most)))
+    | false ↦ λ off. (let less = one_less left off in let most = flag_most (true && (op == k)) in Waits (λ leg node. same_syncing leg (left - 1) left node) (omega (arith, less, most)))
   ] refl
   synced_row ph op = still_share ph (msg.Synced op) refl
 

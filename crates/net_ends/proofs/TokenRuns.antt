@@ -18,7 +18,6 @@ use Rattle.copy_share.specs.declared.copy_phase.CopyPhase.{CopyPhase}
 use Rattle.copy_share.specs.declared.copy_phase.CopyPhase.TheVariants as copies
 use Rattle.copy_share.specs.declared.share_phase.SharePhase.{SharePhase}
 use Rattle.copy_share.specs.declared.share_phase.SharePhase.TheVariants as shares
-use Rattle.copy_share.specs.Copy.{CopyState}
 use Rattle.copy_share.specs.Copy as copy
 use Rattle.ctrl_node.specs.declared.operation.Operation.{Operation}
 use Rattle.ctrl_node.specs.declared.operation.Operation.TheVariants.{Move, Copy, Share}
@@ -33,7 +32,7 @@ use Rattle.actor_net.proofs.RunInduction.{Taking, run_induction}
 use Rattle.actor_net.proofs.StepOutcome.{Takes, taken_outcome}
 use Rattle.actor_net.proofs.WeightLaws.{OnLinks, EachSent, on_links_after}
 use Rattle.actor_net.proofs.WeightLaws as weights
-use Rattle.unit_machine.proofs.Labels.{Each, each-append}
+use Rattle.unit_machine.proofs.Labels.{Each, each-append, each_map}
 use Rattle.net_world.specs.declared.config.Config.{Config}
 use Rattle.net_world.specs.declared.node.Node.{Node}
 use Rattle.net_world.specs.declared.node.Node.TheVariants.{Controller, Instance}
@@ -49,7 +48,6 @@ use Rattle.whole_joined.proofs.BesideRuns.{its_takes, its_label}
 use Rattle.whole_joined.proofs.RunsJoined.{Runs, runs_at_start, runs_next, start_world}
 use Rattle.whole_joined.proofs.StartJoined.{given, all_fit, count_at_start}
 use Rattle.answer_net.proofs.EndTables.{flag}
-use Rattle.nf_net.proofs.SettleSteps.{each_map}
 use Rattle.net_ends.proofs.LinkWeights.{sends_weigh, at_links, at_links_same, at_links_none, at_links_after, taken_least}
 use Rattle.net_ends.proofs.Tokens.{Token, token_of, awaits, counts, weight, some_left, copy_wants, share_wants, wanted, passes_weigh}
 use Rattle.net_ends.proofs.TokenNodes.{CanRead, instance_passes, switch_passes}
@@ -150,7 +148,7 @@ module _ {F R : Type 0} (f : Semantics R) (laws : FunctionLaws f) (g : Given) (f
   within = record {
     copies = λ op y there. (let is = j.shown_is.controller.copies op y there in record { op_is = is.op_is; to = reach_at y.plan.to is.to; other = is.other });
     shares = λ op s there. (let is = j.shown_is.controller.shared op s there in
-        let few = each_map (λ member. nat_lt member (count f g) ≡ true) (λ member. reaches n 1 (instance_node member) ≡ true) reach_at s.plan.members is.few in
+        let few = each_map {P = (λ member. nat_lt member (count f g) ≡ true)} {Q = (λ member. reaches n 1 (instance_node member) ≡ true)} reach_at s.plan.members is.few in
         record { op_is = is.op_is; few = few; home_there = first_each (λ member. reaches n 1 (instance_node member) ≡ true) s.plan.members is.some few });
   }
 

@@ -1,6 +1,6 @@
 -- Where no message is on a link no command waits for its answer at the switch: each that was taken is answered.
-use Rattle.std.proofs.Common.{◌≡◌, ℕ, suc, ◌+◌, ◌<◌, ◌≤◌, Bool, true, false, Option, Some, None, List, [], ◌∷◌, ◌++◌, map, length, length-append, refl, sym, ap, ◌∙◌, subst, arith}
-use Rattle.std.specs.Prelude.{if◌then◌else◌, ◌&&◌, ◌||◌, ◌==◌, not, is_some}
+use Rattle.std.proofs.Common.{◌≡◌, ℕ, suc, ◌+◌, ◌<◌, ◌≤◌, true, false, Option, Some, None, List, [], ◌∷◌, ◌++◌, map, length, length-append, refl, sym, ap, ◌∙◌, subst, arith}
+use Rattle.std.specs.Prelude.{if◌then◌else◌, ◌&&◌, ◌||◌, ◌==◌, is_some}
 use Rattle.std.specs.FinMap as finite
 use Rattle.std.proofs.lemmas.Bool.Decides.{nat_tests}
 use Rattle.nf_function.specs.Semantics.{Semantics}
@@ -14,7 +14,7 @@ use Rattle.ctrl_node.specs.declared.operation.Operation.TheVariants.{Share}
 use Rattle.actor_net.specs.Network.{Network, IsWorld, waiting}
 use Rattle.actor_net.proofs.EnabledChoices.{at}
 use Rattle.actor_net.proofs.WeightLaws.{weigh, weigh-append, total}
-use Rattle.unit_machine.proofs.Labels.{Each}
+use Rattle.unit_machine.proofs.Labels.{Each, each_map}
 use Rattle.net_world.specs.declared.config.Config.{Config}
 use Rattle.net_world.specs.declared.node.Node.{Node}
 use Rattle.net_world.specs.declared.node.Node.TheVariants.{Switch}
@@ -28,9 +28,9 @@ use Rattle.answer_net.proofs.AnswerSends.{answering}
 use Rattle.answer_net.proofs.BusyLemmas.{is_noted}
 use Rattle.answer_net.proofs.BusyRuns.{Busy, keeps_is, told_is}
 use Rattle.answer_net.proofs.EndTables.{flag}
-use Rattle.answer_net.proofs.ToldCommands.{told, Told}
+use Rattle.answer_net.proofs.ToldCommands.{told, Told, closed_answered}
 use Rattle.nf_net.proofs.SettleCounts.{answered_in, AllAnswered, answered_in-append, commands-append}
-use Rattle.nf_net.proofs.SettleSteps.{Counted, each_map, items_none}
+use Rattle.nf_net.proofs.SettleSteps.{Counted, items_none}
 use Rattle.net_ends.proofs.SilentLinks.{silent_total}
 use Rattle.net_ends.proofs.TokenRuns.{HasEnough}
 use Rattle.net_ends.proofs.AllEnded.{settled_share}
@@ -83,12 +83,6 @@ has_some op (note.Imported instance k us ∷ xs) h = has_some op xs h
 has_some op (note.Kept instance k us ∷ xs) h = has_some op xs h
 has_some op (note.Installed k ∷ xs) h = has_some op xs h
 
-closed_answered : (a s b : Bool) → a && (s || not b) ≡ false → 1 ≤ flag (a || b) → b ≡ true
-closed_answered a s true e h = refl
-closed_answered true true false e h = cc
-closed_answered true false false e h = cc
-closed_answered false s false e h = absurd (omega (arith, h))
-
 all_counted : (ks : List Command) (log : List Note) → AllAnswered ks log → answered_in ks log ≡ length ks
 all_counted [] log h = refl
 all_counted (k ∷ ks) log h = let own = ap flag h.0 in let rest = all_counted ks log h.1 in omega (arith, own, rest)
@@ -129,7 +123,7 @@ module _ {F R : Type 0} (f : Semantics R) (c : Config) (items : List Msg) (is : 
           has_some k.op w.log (omega (arith, one))
 
   all_answered : AllAnswered (commands counted.took) w.log
-  all_answered = each_map (IsTaken left items) (λ k. has_answered k.op w.log ≡ true) answered (commands counted.took) taken_all
+  all_answered = each_map {P = (IsTaken left items)} {Q = (λ k. has_answered k.op w.log ≡ true)} answered (commands counted.took) taken_all
 
   -- so none waits
   pub none_waits : j.nodes.switch.waiting ≡ 0

@@ -1,21 +1,16 @@
 -- What the controller sends and keeps as it takes a message weighs less than the message and what it kept before.
 use Rattle.std.proofs.Common.{◌≡◌, ℕ, ◌+◌, ◌*◌, ◌≤◌, Bool, true, false, Option, None, Some, List, [], ◌∷◌, ◌++◌, length, refl, arith}
-use Rattle.std.specs.Prelude.{if◌then◌else◌, ◌==◌, ◌&&◌, not, is_some, unwrap_or}
-use Rattle.std.specs.List.{filter_map}
+use Rattle.std.specs.Prelude.{if◌then◌else◌, ◌&&◌, not, is_some, unwrap_or}
 use Rattle.std.specs.FinMap as finite
+use Rattle.outline_net.proofs.ControllerWays.{row_fits}
 use Rattle.flow_filter.specs.declared.filter.Filter.{Filter}
-use Rattle.flow_filter.specs.Flow.{flow_of}
-use Rattle.event_filter.specs.declared.mark.Mark.TheVariants.{Pass}
 use Rattle.event_store.specs.Store.{stored, with_parcels, store_after}
 use Rattle.packet_pool.specs.Pool.{FullCell}
 use Rattle.nf_msgs.specs.declared.answer.Answer.{Answer}
 use Rattle.nf_msgs.specs.declared.command.Command.{Command}
-use Rattle.nf_msgs.specs.declared.command.Order.{Order}
-use Rattle.nf_msgs.specs.declared.command.Order.TheVariants as order
 use Rattle.nf_msgs.specs.declared.msg.Msg.{Msg}
 use Rattle.nf_msgs.specs.declared.msg.Msg.TheVariants as msg
 use Rattle.nf_msgs.specs.Nodes.{switch_node}
-use Rattle.nf_msgs.specs.Shown.{op_of}
 use Rattle.move_op.specs.declared.phase.Phase.{Phase}
 use Rattle.move_op.specs.declared.phase.Phase.TheVariants as phase
 use Rattle.move_op.specs.Move.{MovePlan, MoveState, Store, begun, begin_sends, row_in, answer_of}
@@ -29,7 +24,7 @@ use Rattle.copy_share.specs.Share.{SharePlan, ShareState, home, others}
 use Rattle.copy_share.specs.Share as share
 use Rattle.ctrl_node.specs.declared.operation.Operation.{Operation}
 use Rattle.ctrl_node.specs.declared.operation.Operation.TheVariants.{Move, Copy, Share}
-use Rattle.ctrl_node.specs.Operations.{Turn, turn_of, serving_of, share_of, are_quiet}
+use Rattle.ctrl_node.specs.Operations.{Turn, turn_of, serving_of, are_quiet}
 use Rattle.ctrl_node.specs.Controller as ctrl
 use Rattle.ctrl_node.specs.Controller.{ControllerState, Step, controller_step}
 use Rattle.actor_net.proofs.WeightLaws.{weigh-append}
@@ -175,79 +170,43 @@ module _ (o : ℕ) where
         let both = cost-append o first.sends (ctrl.serves first.node op).sends in
         omega (arith, falls, later, both)
 
-    numbered_falls : (port : ℕ) (m : Msg) (x : Option ℕ) → Falls c m (ctrl.numbered c port m x)
-    numbered_falls port m None = still_falls m
-    numbered_falls port m (Some op) = handed_falls op port m
-
     -- A packet that came for a share
-    queued_falls : (cell : FullCell) (x : Option ℕ) → Falls c (msg.Diverted cell) (ctrl.queued c cell x)
-    queued_falls cell None = still_falls (msg.Diverted cell)
-    queued_falls cell (Some op) =
+    queued_falls : (op : ℕ) (cell : FullCell) → Falls c (msg.Diverted cell) (ctrl.queued c cell (Some op))
+    queued_falls op cell =
         let more = parcels_weigh c.store op (stored c.store op ++ cell ∷ []) in
         let both = weigh-append (λ x. 4 + 2 * o) (stored c.store op) (cell ∷ []) in
         let later = serves_costs (record c { store = with_parcels c.store op (stored c.store op ++ cell ∷ []) }) op in
         omega (arith, more, both, later)
 
-    event_falls : (port op : ℕ) (cell : FullCell) (x : Option ℕ) → Falls c (msg.Event op cell) (ctrl.on_event c port op cell x)
-    event_falls port op cell None = still_falls (msg.Event op cell)
-    event_falls port op cell (Some i) = elim (finite.contains_key c.operations op) as (λ b. Falls c (msg.Event op cell) (if b then ctrl.handed c op port (msg.Event op cell) else record { node = c; sends = (switch_node, msg.Forward i (Pass op) cell) ∷ []; notes = [] })) [
-      | true ↦ handed_falls op port (msg.Event op cell)
-      | false ↦ omega arith
-    ]
-
-    final_falls : (x : Option ℕ) → Falls c msg.Final (ctrl.on_final c x)
-    final_falls None = omega arith
-    final_falls (Some i) = omega arith
-
     -- A command
     opens_falls : (k : Command) (op : ℕ) (x : Operation) (sends : List (ℕ × Msg)) → cost o sends + of_operation o x ≤ 14 + 2 * o → Falls c (msg.Asked k) (ctrl.opens c op x sends)
     opens_falls k op x sends low = let more = insert_weighs (of_operation o) c.operations op x in omega (arith, more, low)
 
-    begins_falls : (k : Command) (op : ℕ) (what : Order) → Falls c (msg.Asked k) (ctrl.begins c op what)
-    begins_falls k op (order.Move source destination filter keep) = between (ctrl.place_of c.names source) (ctrl.place_of c.names destination)
-      where
-        between : (from to : Option ℕ) → Falls c (msg.Asked k) (ctrl.begins_between c op filter keep from to)
-        between (Some from) (Some to) =
-            let plan : MovePlan = record { op = op; from = from; to = to; filter = filter; keep = keep } in
-            opens_falls k op (Move (begun plan)) (begin_sends plan) (omega arith)
-        between (Some from) None = still_falls (msg.Asked k)
-        between None to = still_falls (msg.Asked k)
-    begins_falls k op (order.Copy source destination filter) = between filter (ctrl.place_of c.names source) (ctrl.place_of c.names destination)
-      where
-        between : (x : Option Filter) (from to : Option ℕ) → Falls c (msg.Asked k) (ctrl.copies_between c op x from to)
-        between None (Some from) (Some to) =
-            let plan : CopyPlan = record { op = op; from = from; to = to; filter = None } in
-            opens_falls k op (Copy (copy.begun plan)) (copy.begin_sends plan) (omega arith)
-        between (Some filter) (Some from) (Some to) =
-            let plan : CopyPlan = record { op = op; from = from; to = to; filter = Some filter } in
-            opens_falls k op (Copy (copy.begun plan)) (copy.begin_sends plan) (omega arith)
-        between x (Some from) None = still_falls (msg.Asked k)
-        between x None to = still_falls (msg.Asked k)
-    begins_falls k op (order.Share members filter) = among (filter_map (ctrl.place_of c.names) members)
-      where
-        among : (places : List ℕ) → Falls c (msg.Asked k) (ctrl.begins_share c op filter places)
-        among [] = still_falls (msg.Asked k)
-        among (first ∷ rest) =
-            let plan : SharePlan = record { op = op; members = first ∷ rest; filter = filter; site = c.site } in
-            opens_falls k op (Share (share.begun plan)) (share.begin_sends plan) (omega arith)
-
-    decided_falls : (k : Command) (op : ℕ) (what : Order) (x : Option Answer) → Falls c (msg.Asked k) (ctrl.decided c op what x)
-    decided_falls k op what (Some answer) = omega arith
-    decided_falls k op what None = begins_falls k op what
-
-    asked_falls : (k : Command) → Falls c (msg.Asked k) (ctrl.on_asked c k)
-    asked_falls k = elim (finite.contains_key c.operations k.op) as (λ b. Falls c (msg.Asked k) (if b then ctrl.still c else ctrl.decided c k.op k.what (ctrl.refusal c k.what))) [
-      | true ↦ still_falls (msg.Asked k)
-      | false ↦ decided_falls k k.op k.what (ctrl.refusal c k.what)
-    ]
+    copies_fall : (k : Command) (op from to : ℕ) (x : Option Filter) → Falls c (msg.Asked k) (ctrl.begins_copy c (record { op = op; from = from; to = to; filter = x }))
+    copies_fall k op from to None =
+        let plan : CopyPlan = record { op = op; from = from; to = to; filter = None } in
+        opens_falls k op (Copy (copy.begun plan)) (copy.begin_sends plan) (omega arith)
+    copies_fall k op from to (Some filter) =
+        let plan : CopyPlan = record { op = op; from = from; to = to; filter = Some filter } in
+        opens_falls k op (Copy (copy.begun plan)) (copy.begin_sends plan) (omega arith)
 
     row_falls : (port : ℕ) (m : Msg) → Falls c m (ctrl.row c port m)
-    row_falls port (msg.Asked k) = elim (port == switch_node) as (λ b. Falls c (msg.Asked k) (if b then ctrl.on_asked c k else ctrl.still c)) [ true ↦ asked_falls k | false ↦ still_falls (msg.Asked k) ]
-    row_falls port (msg.Diverted cell) = elim (port == switch_node) as (λ b. Falls c (msg.Diverted cell) (if b then ctrl.on_diverted c cell else ctrl.still c)) [ true ↦ queued_falls cell (share_of c.operations (flow_of c.site cell.packet).0) | false ↦ still_falls (msg.Diverted cell) ]
-    row_falls port msg.End = elim (port == switch_node) as (λ b. Falls c msg.End (if b then ctrl.still (record c { end_came = true }) else ctrl.still c)) [ true ↦ omega arith | false ↦ omega arith ]
-    row_falls port (msg.Event op cell) = event_falls port op cell (ctrl.instance_at c port)
-    row_falls port msg.Final = final_falls (ctrl.instance_at c port)
-    row_falls port m = numbered_falls port m (op_of m)
+    row_falls = row_fits c (Falls c) (record {
+      still = still_falls;
+      ended = omega arith;
+      stopped = λ i. omega arith;
+      returned = λ op i cell. omega arith;
+      handed = handed_falls;
+      queued = queued_falls;
+      answers = λ k op answer. omega arith;
+      moves = λ k op from to filter keep.
+          let plan : MovePlan = record { op = op; from = from; to = to; filter = filter; keep = keep } in
+          opens_falls k op (Move (begun plan)) (begin_sends plan) (omega arith);
+      copies = copies_fall;
+      shares = λ k op filter home others.
+          let plan : SharePlan = record { op = op; members = home ∷ others; filter = filter; site = c.site } in
+          opens_falls k op (Share (share.begun plan)) (share.begin_sends plan) (omega arith);
+    })
 
     -- each step of the controller
     pub controller_falls : (port : ℕ) (m : Msg) → Falls c m (controller_step c port m)

@@ -1,6 +1,6 @@
 -- What the values of a finite map weigh together, and how that changes as an entry is written or taken away.
 use Rattle.std.proofs.Common.{◌≡◌, ℕ, ◌+◌, ◌≤◌, Bool, true, false, cond, Option, Some, None, List, [], ◌∷◌, length, refl, sym, ap, subst, ◌∙◌, arith}
-use Rattle.std.specs.Prelude.{T, not, ◌&&◌}
+use Rattle.std.specs.Prelude.{T, not}
 use Rattle.std.specs.Ordering.{nat_cmp, eq_by_cmp, is_lt, is_eq}
 use Rattle.std.specs.declared.cmp.Ordering.{Ordering}
 use Rattle.std.specs.declared.cmp.Ordering.TheVariants.{Less, Equal, Greater}
@@ -8,24 +8,14 @@ use Rattle.std.specs.Cmp.{nat_cmp_total}
 use Rattle.std.specs.FinMap as finite
 use Rattle.std.specs.FinMap.{find, put, is_sorted, same_map, nat_cmp-IsAntisymmetric, entries_sorted, entries-insert, entries-from_sorted, get-entries, get-remove, get-from_sorted, len-entries, len-empty}
 use Rattle.std.specs.FinMap.Entries.{by_order, below_all, where_key, is_sorted-where_key, find-where_key}
-use Rattle.std.proofs.lemmas.Bool.Decides.{nat_tests}
+use Rattle.std.proofs.Math.Facts.{yes_and, and_yes}
+use Rattle.std.proofs.lemmas.Cmp.{eq_by_cmp_equiv, nat_cmp_total}
 use Rattle.actor_net.proofs.WeightLaws.{weigh}
-
-both_parts : (a b : Bool) → T (a && b) → T a × T b
-both_parts true b h = (tt, h)
-both_parts false b h = absurd h
-
-both : (a b : Bool) → T a → T b → T (a && b)
-both true b p q = q
-both false b p q = p
 
 less : (o : Ordering) → T (is_lt o) → o ≡ Less
 less Less p = refl
 less Equal p = absurd p
 less Greater p = absurd p
-
-turned_test : (a b : ℕ) → eq_by_cmp nat_cmp a b ≡ eq_by_cmp nat_cmp b a
-turned_test a b = grind (arith, nat_tests)
 
 module _ {X : Type 0} (w : X → ℕ) where
   abbrev all : List (ℕ × X) → ℕ
@@ -43,20 +33,20 @@ module _ {X : Type 0} (w : X → ℕ) where
   lower : (k j : ℕ) (es : List (ℕ × X)) → nat_cmp k j ≡ Less → T (below_all nat_cmp j es) → T (below_all nat_cmp k es)
   lower k j [] p h = tt
   lower k j (e ∷ es) p h =
-      let parts = both_parts (is_lt (nat_cmp j e.0)) (below_all nat_cmp j es) h in
-      both (is_lt (nat_cmp k e.0)) (below_all nat_cmp k es) (subst (λ r. T (is_lt r)) (sym (nat_cmp_total.trans k j e.0 p (less (nat_cmp j e.0) parts.0))) tt) (lower k j es p parts.1)
+      let parts = and_yes (is_lt (nat_cmp j e.0)) (below_all nat_cmp j es) h in
+      yes_and (is_lt (nat_cmp k e.0)) (below_all nat_cmp k es) (subst (λ r. T (is_lt r)) (sym (nat_cmp_total.trans k j e.0 p (less (nat_cmp j e.0) parts.0))) tt) (lower k j es p parts.1)
 
   -- a key below all others isn't found
   not_found : (k : ℕ) (es : List (ℕ × X)) → T (below_all nat_cmp k es) → find nat_cmp k es ≡ None
   not_found k [] h = refl
   not_found k (e ∷ es) h =
-      let parts = both_parts (is_lt (nat_cmp k e.0)) (below_all nat_cmp k es) h in
+      let parts = and_yes (is_lt (nat_cmp k e.0)) (below_all nat_cmp k es) h in
       ap (λ r. cond (is_eq r) (Some e.1) (find nat_cmp k es)) (less (nat_cmp k e.0) parts.0) ∙ not_found k es parts.1
 
   put_weighs : (k : ℕ) (v : X) (es : List (ℕ × X)) → T (is_sorted nat_cmp es) → all (put nat_cmp k v es) + if_found (find nat_cmp k es) ≤ all es + w v
   put_weighs k v [] h = omega arith
   put_weighs k v (e ∷ es) h =
-      let parts = both_parts (below_all nat_cmp e.0 es) (is_sorted nat_cmp es) h in
+      let parts = and_yes (below_all nat_cmp e.0 es) (is_sorted nat_cmp es) h in
       elim (nat_cmp k e.0) as (λ r. nat_cmp k e.0 ≡ r → all (by_order r ((k, v) ∷ e ∷ es) ((e.0, v) ∷ es) (e ∷ put nat_cmp k v es)) + if_found (cond (is_eq r) (Some e.1) (find nat_cmp k es)) ≤ w e.1 + all es + w v) [
         | Less ↦ λ p. let none = ap if_found (not_found k es (lower k e.0 es p parts.0)) in omega (arith, none)
         | Equal ↦ λ p. omega arith
@@ -95,7 +85,7 @@ module _ {X : Type 0} (w : X → ℕ) where
       let up = is_sorted-where_key nat_cmp p (finite.entries m) (entries_sorted m) in
       ap finite.entries (same_map nat_cmp_total nat_cmp-IsAntisymmetric (finite.remove m k) (finite.from_sorted es) (λ q.
       get-remove nat_cmp_total m k q
-      ∙ ap (λ b. cond b None (finite.get m q)) (turned_test q k)
+      ∙ ap (λ b. cond b None (finite.get m q)) ((eq_by_cmp_equiv nat_cmp_total).symm q k)
       ∙ test_turned (eq_by_cmp nat_cmp k q) (finite.get m q)
       ∙ ap (λ o. cond (p q) o None) (get-entries m q)
       ∙ sym (find-where_key nat_cmp p q (λ x same. ap p (sym (nat_cmp-IsAntisymmetric q x same))) (finite.entries m))

@@ -1,21 +1,16 @@
 -- What the controller sends and keeps as it takes a message weighs no more than the message and what it kept before: each move asks its source once.
 use Rattle.std.proofs.Common.{◌≡◌, ℕ, ◌+◌, ◌≤◌, true, false, Option, None, Some, List, [], ◌∷◌, ◌++◌, refl, arith}
-use Rattle.std.specs.Prelude.{if◌then◌else◌, ◌==◌}
-use Rattle.std.specs.List.{filter_map}
+use Rattle.std.specs.Prelude.{if◌then◌else◌}
 use Rattle.std.specs.FinMap as finite
+use Rattle.outline_net.proofs.ControllerWays.{row_fits}
 use Rattle.flow_filter.specs.declared.filter.Filter.{Filter}
-use Rattle.flow_filter.specs.Flow.{flow_of}
-use Rattle.event_filter.specs.declared.mark.Mark.TheVariants.{Pass}
 use Rattle.event_store.specs.Store.{stored, with_parcels, store_after}
 use Rattle.packet_pool.specs.Pool.{FullCell}
 use Rattle.nf_msgs.specs.declared.answer.Answer.{Answer}
 use Rattle.nf_msgs.specs.declared.command.Command.{Command}
-use Rattle.nf_msgs.specs.declared.command.Order.{Order}
-use Rattle.nf_msgs.specs.declared.command.Order.TheVariants as order
 use Rattle.nf_msgs.specs.declared.msg.Msg.{Msg}
 use Rattle.nf_msgs.specs.declared.msg.Msg.TheVariants as msg
 use Rattle.nf_msgs.specs.Nodes.{switch_node}
-use Rattle.nf_msgs.specs.Shown.{op_of}
 use Rattle.move_op.specs.Move.{MovePlan, Store, begun, begin_sends, row_in, answer_of}
 use Rattle.copy_share.specs.Copy.{CopyPlan}
 use Rattle.copy_share.specs.Copy as copy
@@ -23,7 +18,7 @@ use Rattle.copy_share.specs.Share.{SharePlan}
 use Rattle.copy_share.specs.Share as share
 use Rattle.ctrl_node.specs.declared.operation.Operation.{Operation}
 use Rattle.ctrl_node.specs.declared.operation.Operation.TheVariants.{Move, Copy, Share}
-use Rattle.ctrl_node.specs.Operations.{turn_of, serving_of, share_of}
+use Rattle.ctrl_node.specs.Operations.{turn_of, serving_of}
 use Rattle.ctrl_node.specs.Controller as ctrl
 use Rattle.ctrl_node.specs.Controller.{ControllerState, Step, controller_step}
 use Rattle.actor_net.proofs.WeightLaws.{weigh}
@@ -107,77 +102,41 @@ module _ (a k : ℕ) where
         let both = spent-append a k first.sends (ctrl.serves first.node op).sends in
         omega (arith, falls, later, both)
 
-    numbered_falls : (port : ℕ) (m : Msg) (x : Option ℕ) → Falls c m (ctrl.numbered c port m x)
-    numbered_falls port m None = still_falls m
-    numbered_falls port m (Some op) = handed_falls op port m
-
     -- A packet
-    queued_falls : (cell : FullCell) (x : Option ℕ) → Falls c (msg.Diverted cell) (ctrl.queued c cell x)
-    queued_falls cell None = still_falls (msg.Diverted cell)
-    queued_falls cell (Some op) =
+    queued_falls : (op : ℕ) (cell : FullCell) → Falls c (msg.Diverted cell) (ctrl.queued c cell (Some op))
+    queued_falls op cell =
         let later = serves_costs (record c { store = with_parcels c.store op (stored c.store op ++ cell ∷ []) }) op in
         omega (arith, later)
-
-    event_falls : (port op : ℕ) (cell : FullCell) (x : Option ℕ) → Falls c (msg.Event op cell) (ctrl.on_event c port op cell x)
-    event_falls port op cell None = still_falls (msg.Event op cell)
-    event_falls port op cell (Some i) = elim (finite.contains_key c.operations op) as (λ b. Falls c (msg.Event op cell) (if b then ctrl.handed c op port (msg.Event op cell) else record { node = c; sends = (switch_node, msg.Forward i (Pass op) cell) ∷ []; notes = [] })) [
-      | true ↦ handed_falls op port (msg.Event op cell)
-      | false ↦ omega arith
-    ]
-
-    final_falls : (x : Option ℕ) → Falls c msg.Final (ctrl.on_final c x)
-    final_falls None = omega arith
-    final_falls (Some i) = omega arith
 
     -- A command
     opens_falls : (x : Command) (op : ℕ) (new : Operation) (sends : List (ℕ × Msg)) → spent a k sends + of_operation a k new ≤ k → Falls c (msg.Asked x) (ctrl.opens c op new sends)
     opens_falls x op new sends low = let more = insert_weighs (of_operation a k) c.operations op new in omega (arith, more, low)
 
-    begins_falls : (x : Command) (op : ℕ) (what : Order) → Falls c (msg.Asked x) (ctrl.begins c op what)
-    begins_falls x op (order.Move source destination filter keep) = between (ctrl.place_of c.names source) (ctrl.place_of c.names destination)
-      where
-        between : (from to : Option ℕ) → Falls c (msg.Asked x) (ctrl.begins_between c op filter keep from to)
-        between (Some from) (Some to) =
-            let plan : MovePlan = record { op = op; from = from; to = to; filter = filter; keep = keep } in
-            opens_falls x op (Move (begun plan)) (begin_sends plan) (omega arith)
-        between (Some from) None = still_falls (msg.Asked x)
-        between None to = still_falls (msg.Asked x)
-    begins_falls x op (order.Copy source destination filter) = between filter (ctrl.place_of c.names source) (ctrl.place_of c.names destination)
-      where
-        between : (g : Option Filter) (from to : Option ℕ) → Falls c (msg.Asked x) (ctrl.copies_between c op g from to)
-        between None (Some from) (Some to) =
-            let plan : CopyPlan = record { op = op; from = from; to = to; filter = None } in
-            opens_falls x op (Copy (copy.begun plan)) (copy.begin_sends plan) (omega arith)
-        between (Some g) (Some from) (Some to) =
-            let plan : CopyPlan = record { op = op; from = from; to = to; filter = Some g } in
-            opens_falls x op (Copy (copy.begun plan)) (copy.begin_sends plan) (omega arith)
-        between g (Some from) None = still_falls (msg.Asked x)
-        between g None to = still_falls (msg.Asked x)
-    begins_falls x op (order.Share members filter) = among (filter_map (ctrl.place_of c.names) members)
-      where
-        among : (places : List ℕ) → Falls c (msg.Asked x) (ctrl.begins_share c op filter places)
-        among [] = still_falls (msg.Asked x)
-        among (first ∷ rest) =
-            let plan : SharePlan = record { op = op; members = first ∷ rest; filter = filter; site = c.site } in
-            opens_falls x op (Share (share.begun plan)) (share.begin_sends plan) (omega arith)
-
-    decided_falls : (x : Command) (op : ℕ) (what : Order) (why : Option Answer) → Falls c (msg.Asked x) (ctrl.decided c op what why)
-    decided_falls x op what (Some answer) = omega arith
-    decided_falls x op what None = begins_falls x op what
-
-    asked_falls : (x : Command) → Falls c (msg.Asked x) (ctrl.on_asked c x)
-    asked_falls x = elim (finite.contains_key c.operations x.op) as (λ b. Falls c (msg.Asked x) (if b then ctrl.still c else ctrl.decided c x.op x.what (ctrl.refusal c x.what))) [
-      | true ↦ still_falls (msg.Asked x)
-      | false ↦ decided_falls x x.op x.what (ctrl.refusal c x.what)
-    ]
+    copies_fall : (x : Command) (op from to : ℕ) (g : Option Filter) → Falls c (msg.Asked x) (ctrl.begins_copy c (record { op = op; from = from; to = to; filter = g }))
+    copies_fall x op from to None =
+        let plan : CopyPlan = record { op = op; from = from; to = to; filter = None } in
+        opens_falls x op (Copy (copy.begun plan)) (copy.begin_sends plan) (omega arith)
+    copies_fall x op from to (Some filter) =
+        let plan : CopyPlan = record { op = op; from = from; to = to; filter = Some filter } in
+        opens_falls x op (Copy (copy.begun plan)) (copy.begin_sends plan) (omega arith)
 
     row_falls : (port : ℕ) (m : Msg) → Falls c m (ctrl.row c port m)
-    row_falls port (msg.Asked x) = elim (port == switch_node) as (λ b. Falls c (msg.Asked x) (if b then ctrl.on_asked c x else ctrl.still c)) [ true ↦ asked_falls x | false ↦ still_falls (msg.Asked x) ]
-    row_falls port (msg.Diverted cell) = elim (port == switch_node) as (λ b. Falls c (msg.Diverted cell) (if b then ctrl.on_diverted c cell else ctrl.still c)) [ true ↦ queued_falls cell (share_of c.operations (flow_of c.site cell.packet).0) | false ↦ still_falls (msg.Diverted cell) ]
-    row_falls port msg.End = elim (port == switch_node) as (λ b. Falls c msg.End (if b then ctrl.still (record c { end_came = true }) else ctrl.still c)) [ true ↦ omega arith | false ↦ omega arith ]
-    row_falls port (msg.Event op cell) = event_falls port op cell (ctrl.instance_at c port)
-    row_falls port msg.Final = final_falls (ctrl.instance_at c port)
-    row_falls port m = numbered_falls port m (op_of m)
+    row_falls = row_fits c (Falls c) (record {
+      still = still_falls;
+      ended = omega arith;
+      stopped = λ i. omega arith;
+      returned = λ op i cell. omega arith;
+      handed = handed_falls;
+      queued = queued_falls;
+      answers = λ x op answer. omega arith;
+      moves = λ x op from to filter keep.
+          let plan : MovePlan = record { op = op; from = from; to = to; filter = filter; keep = keep } in
+          opens_falls x op (Move (begun plan)) (begin_sends plan) (omega arith);
+      copies = copies_fall;
+      shares = λ x op filter home others.
+          let plan : SharePlan = record { op = op; members = home ∷ others; filter = filter; site = c.site } in
+          opens_falls x op (Share (share.begun plan)) (share.begin_sends plan) (omega arith);
+    })
 
     -- each step of the controller
     pub controller_uses : (port : ℕ) (m : Msg) → Falls c m (controller_step c port m)

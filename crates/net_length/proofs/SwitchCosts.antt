@@ -1,19 +1,12 @@
 -- What the switch sends as it takes a message weighs less than the message.
-use Rattle.std.proofs.Common.{◌≡◌, ℕ, zero, suc, ◌+◌, ◌*◌, ◌≤◌, Bool, true, false, [], ◌∷◌, arith}
-use Rattle.std.specs.Prelude.{if◌then◌else◌, ◌||◌, ◌&&◌, ◌-◌, ◌==◌, not, nat_lt}
-use Rattle.flow_filter.specs.declared.filter.Filter.{Filter}
-use Rattle.flow_filter.specs.declared.packet.Packet.{Packet}
-use Rattle.event_filter.specs.declared.mark.Mark.TheVariants as mark
-use Rattle.packet_pool.specs.Pool.{FullCell, one_more}
-use Rattle.switch_rules.specs.declared.target.Target.{Target}
-use Rattle.switch_rules.specs.declared.target.Target.TheVariants as target
+use Rattle.std.proofs.Common.{◌≡◌, ℕ, zero, suc, ◌+◌, ◌*◌, ◌≤◌, [], ◌∷◌, arith}
+use Rattle.std.specs.Prelude.{◌-◌}
+use Rattle.outline_net.proofs.SwitchWays.{step_fits}
 use Rattle.nf_msgs.specs.declared.msg.Msg.{Msg}
 use Rattle.nf_msgs.specs.declared.msg.Msg.TheVariants as msg
 use Rattle.nf_msgs.specs.Nodes.{instance_node}
-use Rattle.nf_msgs.specs.declared.note.Note.TheVariants.{Installed}
-use Rattle.switch_rules.specs.Rules.{redirected}
 use Rattle.switch_node.specs.Switch as switch
-use Rattle.switch_node.specs.Switch.{SwitchState, Step, switch_step, still, target_of}
+use Rattle.switch_node.specs.Switch.{SwitchState, Step, switch_step, still}
 use Rattle.net_length.proofs.Weights.{weight, some, cost, cost-append}
 
 module _ (o : ℕ) (s : SwitchState) (few : s.instances ≤ 1 + o) where
@@ -23,23 +16,6 @@ module _ (o : ℕ) (s : SwitchState) (few : s.instances ≤ 1 + o) where
   still_falls : (m : Msg) → Falls m (still s)
   still_falls m = let one = some o m in omega (arith, one)
 
-  to_instance_falls : (m a : Msg) (i : ℕ) → weight o a + 1 ≤ weight o m → Falls m (switch.sends_to_instance s i a)
-  to_instance_falls m a i low = elim (nat_lt i s.instances) as (λ b. Falls m (if b then switch.sends_on s (instance_node i) a else still s)) [ true ↦ omega (arith, low) | false ↦ still_falls m ]
-
-  goes_falls : (packet : Packet) (t : Target) → Falls (msg.InPacket packet) (switch.goes_to s packet t)
-  goes_falls packet target.Controller = omega arith
-  goes_falls packet (target.Instance i) = elim (nat_lt i s.instances) as (λ b. Falls (msg.InPacket packet) (if b then switch.arrives s packet (instance_node i) (msg.Carry mark.Plain) else still s)) [ true ↦ omega arith | false ↦ omega arith ]
-
-  packet_falls : (packet : Packet) → Falls (msg.InPacket packet) (switch.on_packet s packet)
-  packet_falls packet = elim (switch.has_room s) as (λ b. Falls (msg.InPacket packet) (if b then switch.goes_to s packet (target_of s packet) else still s)) [ true ↦ goes_falls packet (target_of s packet) | false ↦ omega arith ]
-
-  install_falls : (op : ℕ) (filter : Filter) (from : ℕ) (to : Target) → Falls (msg.Install op filter from to) (switch.on_install s op filter from to)
-  install_falls op filter from to = by_test (nat_lt from s.instances && switch.is_there s to)
-    where
-      by_test : (b : Bool) → cost o (if b then record { node = record s { rules = redirected (record { filter = filter; from = target.Instance from; to = to }) s.rules }; sends = (instance_node from, msg.Fence op) ∷ []; notes = Installed op ∷ [] } else still s).sends + 1 ≤ 3
-      by_test true = omega arith
-      by_test false = omega arith
-
   stops_cost : (n : ℕ) → cost o (switch.stops n) ≡ 2 * n
   stops_cost zero = omega arith
   stops_cost (suc n) =
@@ -47,22 +23,18 @@ module _ (o : ℕ) (s : SwitchState) (few : s.instances ≤ 1 + o) where
       let both = cost-append o (switch.stops n) ((instance_node n, msg.Stop) ∷ []) in
       omega (arith, rest, both)
 
-  credit_falls : (cell : FullCell) → Falls (msg.Credit cell) (switch.on_credit s cell)
-  credit_falls cell = by_test ((s.flying == 0) || not (cell.pool == s.pool.name))
-    where
-      by_test : (b : Bool) → Falls (msg.Credit cell) (if b then still s else record { node = record s { pool = one_more s.pool; flying = s.flying - 1 }; sends = []; notes = [] })
-      by_test true = omega arith
-      by_test false = omega arith
-
   -- each step of the switch
   pub switch_falls : (m : Msg) → Falls m (switch_step s m)
-  switch_falls (msg.InPacket packet) = packet_falls packet
-  switch_falls (msg.InCommand command) = omega arith
-  switch_falls msg.InEnd = omega arith
-  switch_falls (msg.Forward to mk cell) = to_instance_falls (msg.Forward to mk cell) (msg.Carry mk cell) to (omega arith)
-  switch_falls (msg.Install op filter from to) = install_falls op filter from to
-  switch_falls (msg.FenceTo op to) = to_instance_falls (msg.FenceTo op to) (msg.Fence op) to (omega arith)
-  switch_falls (msg.Answered op) = omega arith
-  switch_falls msg.Finish = let all = stops_cost s.instances in omega (arith, all, few)
-  switch_falls (msg.Credit cell) = credit_falls cell
-  switch_falls m = still_falls m
+  switch_falls = step_fits s Falls (record {
+    still = still_falls;
+    to_controller = λ p. omega arith;
+    to_instance = λ p i. omega arith;
+    command = λ c. omega arith;
+    ended = omega arith;
+    forward = λ to m cell. omega arith;
+    install = λ op filter from to. omega arith;
+    fence = λ op to. omega arith;
+    answered = λ op. omega arith;
+    finish = let all = stops_cost s.instances in omega (arith, all, few);
+    credit = λ cell. omega arith;
+  })

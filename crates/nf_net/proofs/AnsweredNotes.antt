@@ -1,8 +1,8 @@
 -- What a step of an instance notes as processed is answered as by one instance with its records; other nodes note none.
 use Rattle.std.proofs.Common.{◌≡◌, ℕ, Bool, true, false, Option, Some, None, List, [], ◌∷◌, append-nil, refl, sym, subst}
-use Rattle.std.specs.Prelude.{if◌then◌else◌, ◌&&◌, ◌||◌, ◌==◌, not, nat_lt, length, Result, Ok, Err}
-use Rattle.std.specs.List.{filter_map}
+use Rattle.std.specs.Prelude.{if◌then◌else◌, ◌||◌, nat_lt, length, Result, Ok, Err}
 use Rattle.std.specs.FinMap as finite
+use Rattle.whole_joined.proofs.PlaceNotes.{AreUnprocessed, uninstalled_unprocessed, switch_unprocessed, controller_uninstalled}
 use Rattle.flow_filter.specs.Flow.{flow_of}
 use Rattle.nf_function.specs.declared.chunk.Chunk.{Chunk}
 use Rattle.nf_function.specs.declared.unit.Unit as units
@@ -20,24 +20,13 @@ use Rattle.nf_msgs.specs.declared.msg.Piece.{Piece as APiece}
 use Rattle.nf_msgs.specs.declared.msg.Msg.{Msg}
 use Rattle.nf_msgs.specs.declared.msg.Msg.TheVariants as msg
 use Rattle.nf_msgs.specs.declared.note.Note.{Note}
-use Rattle.nf_msgs.specs.Nodes.{switch_node, instance_node}
+use Rattle.nf_msgs.specs.Nodes.{instance_node}
 use Rattle.instance_worker.specs.declared.instance.Instance.{Instance}
 use Rattle.instance_worker.specs.Instance.{Step, is_live, processed, all_processed, carried, on_carry, on_fence, on_get, on_stream, on_put, on_restore, on_standby, on_sync, on_put_all, tally_put, piece_put, refusal, still, where_good, instance_step}
 use Rattle.state_chunk.specs.declared.fault.ChunkFault.{ChunkFault}
 use Rattle.state_chunk.specs.Reading.{tally_read}
-use Rattle.flow_filter.specs.declared.filter.Filter.{Filter}
-use Rattle.flow_filter.specs.declared.packet.Packet.{Packet}
-use Rattle.switch_rules.specs.declared.target.Target.{Target}
-use Rattle.switch_rules.specs.declared.target.Target.TheVariants as target
-use Rattle.switch_node.specs.Switch as switch
-use Rattle.switch_node.specs.Switch.{SwitchState}
-use Rattle.ctrl_node.specs.Controller as ctrl
-use Rattle.ctrl_node.specs.Controller.{ControllerState}
-use Rattle.ctrl_node.specs.Operations.{Turn, turn_of, share_of}
-use Rattle.nf_msgs.specs.declared.command.Command.{Command}
-use Rattle.nf_msgs.specs.declared.command.Order.{Order}
-use Rattle.nf_msgs.specs.declared.command.Order.TheVariants as order
-use Rattle.nf_msgs.specs.Shown.{op_of}
+use Rattle.switch_node.specs.Switch.{SwitchState, switch_step}
+use Rattle.ctrl_node.specs.Controller.{ControllerState, controller_step}
 use Rattle.actor_net.specs.Network.{Stepped}
 use Rattle.unit_machine.proofs.Labels.{Each}
 use Rattle.net_world.specs.declared.config.Config.{Config}
@@ -130,80 +119,20 @@ module _ {F R : Type 0} (f : Semantics R) where
   instance_none i (msg.Delete op gone) e = refl
   instance_none i m e = refl
 
--- The switch.
-packet_none : (s : SwitchState) (p : Packet) (to : Target) → done (switch.goes_to s p to).notes ≡ []
-packet_none s p target.Controller = refl
-packet_none s p (target.Instance i) = elim (nat_lt i s.instances) as (λ b. done (if b then switch.arrives s p (instance_node i) (msg.Carry mark.Plain) else switch.still s).notes ≡ []) [ true ↦ refl | false ↦ refl ]
+-- The switch and the controller note nothing processed.
+none_done : (ns : List Note) → AreUnprocessed ns → done ns ≡ []
+none_done [] h = refl
+none_done (note.Processed number i output ∷ ns) h = let never = h.0 in cc
+none_done (note.Arrived number ∷ ns) h = none_done ns h.1
+none_done (note.Begun op ∷ ns) h = none_done ns h.1
+none_done (note.Exported i op us ∷ ns) h = none_done ns h.1
+none_done (note.Imported i op us ∷ ns) h = none_done ns h.1
+none_done (note.Kept i op us ∷ ns) h = none_done ns h.1
+none_done (note.Installed op ∷ ns) h = none_done ns h.1
+none_done (note.Answered op answer ∷ ns) h = none_done ns h.1
 
-to_none : (s : SwitchState) (i : ℕ) (m : Msg) → done (switch.sends_to_instance s i m).notes ≡ []
-to_none s i m = elim (nat_lt i s.instances) as (λ b. done (if b then switch.sends_on s (instance_node i) m else switch.still s).notes ≡ []) [ true ↦ refl | false ↦ refl ]
+pub switch_none : (s : SwitchState) (m : Msg) → done (switch_step s m).notes ≡ []
+switch_none s m = none_done _ (switch_unprocessed s m)
 
-pub switch_none : (s : SwitchState) (m : Msg) → done (switch.switch_step s m).notes ≡ []
-switch_none s (msg.InPacket p) = elim (switch.has_room s) as (λ b. done (if b then switch.goes_to s p (switch.target_of s p) else switch.still s).notes ≡ []) [ true ↦ packet_none s p (switch.target_of s p) | false ↦ refl ]
-switch_none s (msg.Forward to m cell) = to_none s to (msg.Carry m cell)
-switch_none s (msg.FenceTo op to) = to_none s to (msg.Fence op)
-switch_none s (msg.Install op filter from to) = if_none (nat_lt from s.instances && switch.is_there s to) _ _ refl refl
-switch_none s (msg.Credit cell) = if_none ((s.flying == 0) || not (cell.pool == s.pool.name)) _ _ refl refl
-switch_none s (msg.InCommand k) = refl
-switch_none s msg.InEnd = refl
-switch_none s (msg.Answered op) = refl
-switch_none s msg.Finish = refl
-switch_none s m = refl
-
--- The controller.
-turn_none : (s : ControllerState) (op : ℕ) (t : Turn) (o : Option Answer) → done (ctrl.after_turn s op t o).notes ≡ []
-turn_none s op t None = refl
-turn_none s op t (Some a) = refl
-
-handed_none : (s : ControllerState) (op port : ℕ) (m : Msg) → done (ctrl.handed s op port m).notes ≡ []
-handed_none s op port m = let t = turn_of (finite.get s.operations op) s.store port m in turn_none s op t t.answer
-
-numbered_none : (s : ControllerState) (port : ℕ) (m : Msg) (o : Option ℕ) → done (ctrl.numbered s port m o).notes ≡ []
-numbered_none s port m None = refl
-numbered_none s port m (Some op) = handed_none s op port m
-
-event_none : (s : ControllerState) (port op : ℕ) (cell : FullCell) (o : Option ℕ) → done (ctrl.on_event s port op cell o).notes ≡ []
-event_none s port op cell None = refl
-event_none s port op cell (Some i) = if_none (finite.contains_key s.operations op) (ctrl.handed s op port (msg.Event op cell)) _ (handed_none s op port (msg.Event op cell)) refl
-
-final_none : (s : ControllerState) (o : Option ℕ) → done (ctrl.on_final s o).notes ≡ []
-final_none s None = refl
-final_none s (Some i) = refl
-
-between_none : (s : ControllerState) (op : ℕ) (filter : Filter) (keep : Bool) (from to : Option ℕ) → done (ctrl.begins_between s op filter keep from to).notes ≡ []
-between_none s op filter keep (Some from) (Some to) = refl
-between_none s op filter keep (Some from) None = refl
-between_none s op filter keep None to = refl
-
-copies_none : (s : ControllerState) (op : ℕ) (filter : Option Filter) (from to : Option ℕ) → done (ctrl.copies_between s op filter from to).notes ≡ []
-copies_none s op filter (Some from) (Some to) = refl
-copies_none s op filter (Some from) None = refl
-copies_none s op filter None to = refl
-
-shares_none : (s : ControllerState) (op : ℕ) (filter : Filter) (members : List ℕ) → done (ctrl.begins_share s op filter members).notes ≡ []
-shares_none s op filter [] = refl
-shares_none s op filter (home ∷ others) = refl
-
-diverted_none : (s : ControllerState) (cell : FullCell) (o : Option ℕ) → done (ctrl.queued s cell o).notes ≡ []
-diverted_none s cell None = refl
-diverted_none s cell (Some op) = refl
-
-begins_none : (s : ControllerState) (op : ℕ) (what : Order) → done (ctrl.begins s op what).notes ≡ []
-begins_none s op (order.Move source destination filter keep) = between_none s op filter keep (ctrl.place_of s.names source) (ctrl.place_of s.names destination)
-begins_none s op (order.Copy source destination filter) = copies_none s op filter (ctrl.place_of s.names source) (ctrl.place_of s.names destination)
-begins_none s op (order.Share members filter) = shares_none s op filter (filter_map (ctrl.place_of s.names) members)
-
-decided_none : (s : ControllerState) (op : ℕ) (what : Order) (o : Option Answer) → done (ctrl.decided s op what o).notes ≡ []
-decided_none s op what (Some a) = refl
-decided_none s op what None = begins_none s op what
-
-asked_none : (s : ControllerState) (k : Command) → done (ctrl.on_asked s k).notes ≡ []
-asked_none s k = if_none (finite.contains_key s.operations k.op) _ (ctrl.decided s k.op k.what (ctrl.refusal s k.what)) refl (decided_none s k.op k.what (ctrl.refusal s k.what))
-
-pub controller_none : (s : ControllerState) (port : ℕ) (m : Msg) → done (ctrl.controller_step s port m).notes ≡ []
-controller_none s port (msg.Asked k) = if_none (port == switch_node) (ctrl.on_asked s k) _ (asked_none s k) refl
-controller_none s port (msg.Diverted cell) = if_none (port == switch_node) (ctrl.on_diverted s cell) _ (diverted_none s cell (share_of s.operations (flow_of s.site cell.packet).0)) refl
-controller_none s port msg.End = if_none (port == switch_node) _ (ctrl.still s) refl refl
-controller_none s port (msg.Event op cell) = event_none s port op cell (ctrl.instance_at s port)
-controller_none s port msg.Final = final_none s (ctrl.instance_at s port)
-controller_none s port m = numbered_none s port m (op_of m)
+pub controller_none : (s : ControllerState) (port : ℕ) (m : Msg) → done (controller_step s port m).notes ≡ []
+controller_none s port m = none_done _ (uninstalled_unprocessed _ (controller_uninstalled s port m))

@@ -1,16 +1,15 @@
 -- In every run each chunk on its way is one of a unit that a move under way takes.
-use Rattle.std.proofs.Common.{◌≡◌, ◌≢◌, ℕ, zero, suc, ◌+◌, ◌<◌, Bool, true, false, cond, Option, Some, None, List, [], ◌∷◌, map, length, refl, sym, ap, ◌∙◌, subst, arith}
+use Rattle.std.proofs.Common.{◌≡◌, ◌≢◌, ℕ, zero, suc, ◌+◌, ◌<◌, Bool, true, false, cond, Some, List, [], ◌∷◌, map, length, refl, sym, ap, ◌∙◌, subst, arith}
 use Rattle.std.specs.Prelude.{◌==◌, ◌&&◌, filter, All}
 use Rattle.std.specs.FinMap as finite
 use Rattle.std.proofs.lemmas.Bool.Decides.{nat_tests}
+use Rattle.nf_net.proofs.PlaceSteps.{open_at}
 use Rattle.nf_function.specs.declared.chunk.Chunk.{Chunk}
 use Rattle.nf_function.specs.declared.unit.Unit as units
 use Rattle.nf_function.specs.Semantics.{Semantics}
-use Rattle.nf_function.specs.Units.{takes}
 use Rattle.record_table.specs.Table.{same_unit}
 use Rattle.record_table.specs.Chunks.{spelled}
 use Rattle.record_table.proofs.UnitOrder.{same_unit_equiv}
-use Rattle.event_store.specs.Store.{stored}
 use Rattle.nf_msgs.specs.declared.msg.Msg.{Msg}
 use Rattle.nf_msgs.specs.declared.msg.Msg.TheVariants as msg
 use Rattle.nf_msgs.specs.declared.msg.Piece.{Piece}
@@ -27,7 +26,6 @@ use Rattle.unit_machine.proofs.Seats.{seat_shape}
 use Rattle.unit_machine.proofs.ToRemove.{third_silent}
 use Rattle.abstract_net.proofs.Ctrl.{each_found}
 use Rattle.abstract_net.proofs.Holding.{Op_label}
-use Rattle.abstract_net.proofs.Net.{Open}
 use Rattle.abstract_net.proofs.Units.{see}
 use Rattle.abstract_net.proofs.Untaken.{Untaken}
 use Rattle.net_world.specs.declared.config.Config.{Config}
@@ -41,10 +39,7 @@ use Rattle.path_net.proofs.ChunkLemmas.{all_chunks, spelled_more}
 use Rattle.path_net.proofs.ChunkPlaces.{good_pieces, free_pieces, none_on_way}
 use Rattle.answer_net.proofs.MovesUnderWay.{AreUnderWay}
 use Rattle.outline_net.proofs.MoveOutline.{IsChunk}
-use Rattle.outline_net.proofs.ControlOutline.{Sees}
-use Rattle.outline_net.proofs.FiltersApart.{and_r, is_whole, takes_whole, unit_fits}
 use Rattle.outline_net.proofs.Outline.{is_sys}
-use Rattle.whole_outline.proofs.OpenShares.{but_shares}
 use Rattle.path_net.proofs.PathNodes.{each_entry}
 use Rattle.path_net.proofs.PathSeats.{labels, loop_is, AsMoves, Seated, seated, HasSides, Are_there, Rests}
 use Rattle.path_net.proofs.SharedChunks.{none_on_way as none_shared}
@@ -143,20 +138,6 @@ module _ {F R : Type 0} (f : Semantics R) (c : Config) (items : List Msg) (is : 
     destination : List ℕ
     moving : IsMoving c items u w.log source destination
 
-  -- an open move that takes the unit is under way
-  by_move : (u : units.Unit) (k : ℕ) (e : Open R) (o : Option Operation) → finite.get j.nodes.controller.operations k ≡ o → Sees f (place g) (Some e) (but_shares o) (stored j.nodes.controller.store k) → takes_whole f.kind e.filter u ≡ true → IsMoved u
-  by_move u k e None there sees taken = absurd sees
-  by_move u k e (Some (Copy y)) there sees taken = absurd sees
-  by_move u k e (Some (Share s)) there sees taken = absurd sees
-  by_move u k e (Some (Move m)) there sees taken =
-      let of = busy.plan_is k m there in
-      let takes_it : takes m.plan.filter u ≡ true = and_r (unit_fits f.kind u) _ (and_r (is_whole f.kind m.plan.filter) _ (ap (λ x. takes_whole f.kind x u) (sym sees.filter) ∙ taken)) in
-      record {
-        source = of.source;
-        destination = of.destination;
-        moving = record { op = k; filter = m.plan.filter; keep = of.keep; order = of.order; takes_it = takes_it; busy = busy.open_busy k m there };
-      }
-
   moved : (u : units.Unit) → spelled_of f u (chunks_on_way w) ≢ [] → IsMoved u
   moved u some = by_where (j.shown_is.every.unit u)
     where
@@ -169,7 +150,8 @@ module _ {F R : Type 0} (f : Semantics R) (c : Config) (items : List Msg) (is : 
           by_sides : HasSides f c items is n count w nodes j k.op (seat_shape (S f g).F k.seat) → IsMoved u
           by_sides (Are_there e found src dst) =
               let label = each_found (Op_label (S f g) (see (S f g) (is_sys f g.site g.packet) u k.op k.third)) k.op.num j.world.ops e k.holds.ops found in
-              by_move u k.op.num e (finite.get j.nodes.controller.operations k.op.num) refl (subst (λ q. Sees f (place g) q (but_shares (finite.get j.nodes.controller.operations k.op.num)) (stored j.nodes.controller.store k.op.num)) found (j.shown_is.controller.opens k.op.num).move) (label.0.0 ∙ label.1)
+              let it = open_at f c items is n w j busy u k.op.num e found (label.0.0 ∙ label.1) in
+              record { source = it.source; destination = it.destination; moving = it.moving }
           by_sides (Rests none none_b at_a) = absurd (some (none_on_way f c items is n count w nodes j world u apart k.op k.third (seat_shape (S f g).F k.seat) k.holds (third_silent (S f g).F k.seat) none))
 
       by_where : Where_all (S f g) (A f g) (is_sys f g.site g.packet) u j.world (came_by f g w.log u) → IsMoved u

@@ -4,7 +4,7 @@ use Rattle.std.specs.Prelude.{if◌then◌else◌, ◌&&◌, ◌==◌, nat_lt, s
 use Rattle.std.specs.declared.alloc.Global.{Global}
 use Rattle.std.specs.List.{filter_map}
 use Rattle.std.specs.FinMap as finite
-use Rattle.std.proofs.lemmas.Bool.Decides.{nat_tests, Decides-eqb}
+use Rattle.std.proofs.lemmas.Bool.Decides.{Decides-eqb}
 use Rattle.std.proofs.lemmas.Option.{slice_get_within, slice_get-get_or}
 use Rattle.flow_filter.specs.declared.filter.Filter.{Filter}
 use Rattle.flow_filter.specs.declared.packet.Packet.{Packet}
@@ -32,10 +32,12 @@ use Rattle.unit_machine.proofs.Lists.{firsts}
 use Rattle.unit_machine.proofs.UnitPieces.{nil_right}
 use Rattle.unit_machine.proofs.Stages as stages
 use Rattle.unit_machine.proofs.Ends.{same_of}
+use Rattle.unit_machine.proofs.Loose.{none_in}
+use Rattle.unit_machine.proofs.Rests.{exactly}
 use Rattle.abstract_net.proofs.Net.{IsSys}
 use Rattle.abstract_net.proofs.Rest.{done_u}
 use Rattle.abstract_net.proofs.Readings as readings
-use Rattle.abstract_net.proofs.Readings.{exact_of, fold_runs, not_both}
+use Rattle.abstract_net.proofs.Readings.{fold_runs, not_both}
 use Rattle.abstract_net.proofs.AtEnd.{At_end, at_end}
 use Rattle.abstract_net.proofs.Shares.{Open_share, find_share, moves_of, olds}
 use Rattle.whole_net.proofs.EndAll.{Share_rests, Ends_all, As_moves, At_share, end_all}
@@ -73,15 +75,6 @@ use Rattle.nf_net.proofs.SharedHomes.{run_homes}
 use Rattle.nf_net.proofs.StandbyFronts.{IsOfFront, still_some, lives_front}
 use Rattle.nf_net.proofs.UnitShares.{owner_goes}
 use Rattle.answer_net.proofs.ToldCommands.{each_answered}
-
--- a list in which nothing is
-none_in : (xs : List ℕ) → ((p : ℕ) → stages.times p xs ≡ 0) → xs ≡ []
-none_in [] h = refl
-none_in (x ∷ xs) h =
-    let here = h x in
-    let self : (x == x) ≡ true = grind (arith, nat_tests) in
-    let one : 1 + stages.times x xs ≡ 0 = rw self at here in
-    absurd (omega (arith, one))
 
 module _ {R : Type 0} (f : Semantics R) (c : Config) (items : List Msg) (is : IsInput f.kind c items) where
   abbrev g : Given
@@ -222,7 +215,7 @@ module _ {R : Type 0} (f : Semantics R) (c : Config) (items : List Msg) (is : Is
           by_end (At_share e s) = share_ended e s
 
       all_went : is_loose c items u w.log ≡ false → went f c items u w.log ≡ came f c items u w.log
-      all_went off = exact_of ended.flag (went f c items u w.log) (came f c items u w.log) (not_both ended.flag (is_loose c items u w.log) ended.flag_is off) ended.order
+      all_went off = exactly ended.flag (went f c items u w.log) (came f c items u w.log) (not_both ended.flag (is_loose c items u w.log) ended.flag_is off) ended.order
 
       each_once : (p : ℕ) → times p (went f c items u w.log) ≡ times p (came f c items u w.log)
       each_once p = sym (same_times p (went f c items u w.log)) ∙ same_of ended.flag (went f c items u w.log) (came f c items u w.log) ended.order p ∙ same_times p (came f c items u w.log)

@@ -22,6 +22,7 @@ use Rattle.actor_net.proofs.EnabledChoices.{at as at_node}
 use Rattle.actor_net.proofs.RunInduction.{Taking}
 use Rattle.actor_net.proofs.StepOutcome.{taken_outcome}
 use Rattle.unit_machine.proofs.Real as real
+use Rattle.unit_machine.proofs.Rests.{behind_nil}
 use Rattle.abstract_net.proofs.Net as net
 use Rattle.abstract_net.proofs.Elsewhere.{where_two}
 use Rattle.abstract_net.proofs.GlobalAll.{Of_share}
@@ -72,12 +73,8 @@ alone x y [] back e = let same : x ≡ y = cc in let none : [] ≡ back = cc in 
 alone x y (z ∷ []) back e = cc
 alone x y (z ∷ (v ∷ front)) back e = cc
 
-none_among : (cs back : List ℕ) (op : ℕ) → [] ≡ cs ++ op ∷ back → ⊥
-none_among [] back op e = cc
-none_among (x ∷ cs) back op e = cc
-
 installed_nowhere : (notes cs back : List Note) (op : ℕ) → installed notes ≡ [] → notes ≡ cs ++ note.Installed op ∷ back → ⊥
-installed_nowhere notes cs back op none e = none_among (installed cs) (installed back) op (sym none ∙ ap installed e ∙ installed-append cs (note.Installed op ∷ back))
+installed_nowhere notes cs back op none e = behind_nil (installed cs) op (installed back) (sym (sym none ∙ ap installed e ∙ installed-append cs (note.Installed op ∷ back)))
 
 abbrev op_in : ℕ → Note → ℕ
 op_in d (note.Installed op) = op

@@ -35,14 +35,14 @@ use Rattle.ctrl_node.specs.Controller.{ControllerState, Step, still, refusal, pl
 use Rattle.actor_net.proofs.WeightLaws.{EachSent, sent_weight}
 use Rattle.net_world.specs.Commands.{began}
 use Rattle.net_world.specs.Verdicts.{is_refusal}
-use Rattle.outline_net.proofs.OperationTables.{got_insert, got_remove, gone_twice, NotShared, handed_is as handed_turn}
+use Rattle.outline_net.proofs.OperationTables.{got_insert, got_remove, gone_twice, NotShared, handed_is as handed_turn, shared_or_not}
 use Rattle.answer_net.proofs.ControllerActs.{other_there}
 use Rattle.answer_net.proofs.ShareTells.{Queues, Queues_none, Queues_at, queues}
 use Rattle.nf_net.proofs.JudgedShares.{handed_shared, queued_shared}
 use Rattle.nf_net.proofs.JudgedTables as tables
-use Rattle.nf_net.proofs.JudgedTables.{used, is_own, By_verdict, same_answer}
+use Rattle.nf_net.proofs.JudgedTables.{used, By_verdict}
 use Rattle.outline_net.proofs.CopyTurns.{copy_turn}
-use Rattle.answer_net.proofs.BusyLemmas.{began_same}
+use Rattle.answer_net.proofs.BusyLemmas.{began_same, first_is}
 use Rattle.answer_net.proofs.CreditCounts.{sent_weight-append}
 use Rattle.nf_net.proofs.MoveJudged.{Said, Knows, answer_known, row_follows, sent-append}
 use Rattle.answer_net.proofs.MoveOnce.{once, spent, spent_few, NoneOnce, no_one, at_most, few_counts, row_spends}
@@ -161,7 +161,7 @@ module _ (Part : ℕ → Piece → Type 0) (Verdict : ℕ → Answer → Type 0)
           found = λ k b is. elim (op == k) as (λ t. (op == k) ≡ t → (if t then a ∷ [] else []) ≡ b ∷ [] → IsFound k b) [
             | true ↦ λ on given.
                 let it : op ≡ k = (Decides-eqb op k).0 on in
-                let its : a ≡ b = same_answer a b given in
+                let its : a ≡ b = first_is a b given in
                 subst (λ j. IsFound j b) it (subst (λ z. IsFound op z) its (record {
                   known = λ _. By_verdict (answer_known Part Verdict Goes op r.next.phase a knows_next e);
                   refused = λ never. (let on = sym (busy op (Move mv) there) ∙ never in cc);
@@ -193,16 +193,9 @@ module _ (Part : ℕ → Piece → Type 0) (Verdict : ℕ → Answer → Type 0)
       turn_is op port m (Some (Move mv)) is no_share own label = turn_by op port m mv is own label (answer_of (row_in mv c.store port m).next.phase) refl
 
       handed_is : (op port : ℕ) (m : Msg) → op_of m ≡ Some op → Said Part Verdict Goes port 1 m → StepIs (handed c op port m)
-      handed_is op port m own label = by_got (finite.get c.operations op) refl
-        where
-          other : NotShared (finite.get c.operations op) → StepIs (handed c op port m)
-          other no_share = subst StepIs (sym (handed_turn c op port m no_share)) (turn_is op port m (finite.get c.operations op) refl no_share own label)
-
-          by_got : (o : Option Operation) → finite.get c.operations op ≡ o → StepIs (handed c op port m)
-          by_got (Some (Share s)) is = let it = shares op s is in handed_shared Part Verdict Goes Still log n c knows op s is it.1 (busy op (Share s) is) it.0 port m
-          by_got None is = other (subst NotShared (sym is) tt)
-          by_got (Some (Move mv)) is = other (subst NotShared (sym is) tt)
-          by_got (Some (Copy y)) is = other (subst NotShared (sym is) tt)
+      handed_is op port m own label = shared_or_not (finite.get c.operations op)
+          (λ no_share. subst StepIs (sym (handed_turn c op port m no_share)) (turn_is op port m (finite.get c.operations op) refl no_share own label))
+          (λ s is. (let it = shares op s is in handed_shared Part Verdict Goes Still log n c knows op s is it.1 (busy op (Share s) is) it.0 port m))
 
       diverted_is : (cell : FullCell) → StepIs (on_diverted c cell)
       diverted_is cell = by_queues (on_diverted c cell) (queues c cell)
@@ -324,7 +317,7 @@ module _ (Part : ℕ → Piece → Type 0) (Verdict : ℕ → Answer → Type 0)
               found = λ k b given. elim (op == k) as (λ t. (op == k) ≡ t → (if t then a ∷ [] else []) ≡ b ∷ [] → IsFound k b) [
                 | true ↦ λ on e.
                     let it : op ≡ k = (Decides-eqb op k).0 on in
-                    let its : a ≡ b = same_answer a b e in
+                    let its : a ≡ b = first_is a b e in
                     subst (λ j. IsFound j b) it (subst (λ z. IsFound op z) its (record { known = λ never. (let on = sym new ∙ never in cc); refused = λ _. cause }))
                 | false ↦ λ off never. cc
               ] refl given;

@@ -1,8 +1,9 @@
 -- What is known of a move's pieces by the log, and of its verdict by the choices so far: it stays known as both go on.
 use Rattle.std.proofs.Common.{◌≡◌, ℕ, ◌+◌, Bool, true, false, Some, None, List, [], ◌∷◌, ◌++◌, length, refl, sym, ap, ◌∙◌}
-use Rattle.std.specs.Prelude.{if◌then◌else◌, ◌&&◌, ◌||◌, ◌==◌, nat_lt}
+use Rattle.std.specs.Prelude.{if◌then◌else◌, ◌&&◌, ◌==◌, nat_lt}
 use Rattle.std.specs.List.{list_any}
 use Rattle.std.specs.FinMap as finite
+use Rattle.std.proofs.lemmas.Bool.{or_left}
 use Rattle.nf_function.specs.declared.unit.Unit as units
 use Rattle.nf_function.specs.Semantics.{Semantics}
 use Rattle.state_chunk.specs.Format.{version_number}
@@ -92,12 +93,8 @@ module _ {F R : Type 0} (f : Semantics R) (c : Config) (items : List Msg) (start
     Was_judged : began op log ≡ true → HasVerdict cs op answer → IsFound cs log op answer
     Was_still : began op log ≡ true → IsStill op → answer ≡ Done → IsFound cs log op answer
 
-  or_kept : (a b : Bool) → a ≡ true → a || b ≡ true
-  or_kept true b h = refl
-  or_kept false b h = cc
-
   pub began_kept : (op : ℕ) (log notes : List Note) → began op log ≡ true → began op (log ++ notes) ≡ true
-  began_kept op log notes h = has_begun-append (λ k. k == op) log notes ∙ or_kept (began op log) (began op notes) h
+  began_kept op log notes h = has_begun-append (λ k. k == op) log notes ∙ or_left (began op log) (began op notes) h
 
   pub found_kept : (cs : List Choice) (d : Choice) (log notes : List Note) (op : ℕ) (answer : Answer) → IsFound cs log op answer → IsFound (cs ++ d ∷ []) (log ++ notes) op answer
   found_kept cs d log notes op answer (Was_refused h) = Was_refused h

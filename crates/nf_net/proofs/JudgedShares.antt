@@ -18,12 +18,12 @@ use Rattle.actor_net.proofs.WeightLaws.{EachSent, sent_weight}
 use Rattle.unit_machine.proofs.Labels.{Each}
 use Rattle.net_world.specs.Commands.{began, answers_of}
 use Rattle.whole_outline.proofs.ShareLeft.{OpenAt, answered, noted, next_share, ShareLeaves, handed_leaves, queued_leaves}
-use Rattle.answer_net.proofs.BusyLemmas.{began_same}
+use Rattle.answer_net.proofs.BusyLemmas.{began_same, first_is}
 use Rattle.answer_net.proofs.ControllerActs.{other_there}
 use Rattle.answer_net.proofs.ShareTells.{is_set_up, is_of_share, AreOfShare, Tells, ShareStep, handed_share, queued_share}
 use Rattle.answer_net.proofs.MoveOnce.{once}
 use Rattle.nf_net.proofs.JudgedTables as tables
-use Rattle.nf_net.proofs.JudgedTables.{used, is_own, By_still, same_answer}
+use Rattle.nf_net.proofs.JudgedTables.{used, is_own, By_still}
 use Rattle.nf_net.proofs.MoveJudged.{Said, sent-append}
 use Rattle.nf_net.proofs.ShareAsks.{asked, Asks, row_asks, none_asked, leaves_own, leaves_other}
 
@@ -86,7 +86,7 @@ module _ (Part : ℕ → Piece → Type 0) (Verdict : ℕ → Answer → Type 0)
     found_by now None tells k b is = cc
     found_by now (Some why) tells k b is = elim (op == k) as (λ t. (op == k) ≡ t → (if t then why ∷ [] else []) ≡ b ∷ [] → IsFound k b) [
       | true ↦ λ on given. subst (λ j. IsFound j b) ((Decides-eqb op k).0 on) (record {
-        known = λ _. By_still its (sym (same_answer why b given) ∙ tells.0);
+        known = λ _. By_still its (sym (first_is why b given) ∙ tells.0);
         refused = λ never. (let on = sym begun_is ∙ never in cc);
       })
       | false ↦ λ off never. cc

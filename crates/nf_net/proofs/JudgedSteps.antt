@@ -3,6 +3,7 @@ use Rattle.std.proofs.Common.{◌≡◌, ◌≢◌, ℕ, suc, ◌+◌, ◌<◌, 
 use Rattle.std.specs.Prelude.{if◌then◌else◌, slice_index, slice_index_or}
 use Rattle.std.specs.declared.alloc.Global.{Global}
 use Rattle.std.specs.FinMap as finite
+use Rattle.share_machine.proofs.Lists.{cond-same}
 use Rattle.nf_function.specs.Semantics.{Semantics}
 use Rattle.nf_msgs.specs.declared.answer.Answer.{Answer}
 use Rattle.nf_msgs.specs.declared.msg.Piece.{Piece}
@@ -31,7 +32,6 @@ use Rattle.nf_net.proofs.JudgedTables.{used}
 use Rattle.nf_net.proofs.JudgedFacts.{IsPart, IsGoing, HasVerdict, IsFound, part_kept, verdict_kept, found_kept, said_kept, knows_kept, links_kept}
 use Rattle.nf_net.proofs.MoveJudged.{Said, Knows}
 use Rattle.answer_net.proofs.MoveOnce.{once, counts}
-use Rattle.answer_net.proofs.InstallCounts.{if_zero}
 use Rattle.whole_joined.proofs.Given.{Given}
 use Rattle.whole_joined.proofs.Joined.{Label}
 use Rattle.whole_joined.proofs.StartJoined.{given}
@@ -67,7 +67,7 @@ module _ {R : Type 0} (f : Semantics R) (g : Given) (op : ℕ) where
   none_once first n k (x ∷ xs) other h =
       let own = no_once_from first k x.0 x.1 other h.0 in
       let rest = none_once first n k xs other h.1 in
-      rw (own, rest, if_zero (reaches n k x.0)) refl
+      rw (own, rest, cond-same (reaches n k x.0) 0) refl
 
   pub no_stream_to : (p k : ℕ) (m : Msg) → k ≤ 1 → Label f g p k m → counts m false op ≡ 0
   no_stream_to p k (msg.Stream j filter) few label = let two = label.0.1 in absurd (omega (arith, two, few))

@@ -1,5 +1,5 @@
 -- What the controller's step is to keep of what is known of open moves, of answers and of what is sent once; and that a copy's keeps it.
-use Rattle.std.proofs.Common.{◌≡◌, ℕ, ◌+◌, ◌≤◌, Bool, true, false, cond, Option, Some, None, List, [], ◌∷◌, ◌++◌, get_or, refl, sym, ap, ◌∙◌, subst, arith}
+use Rattle.std.proofs.Common.{◌≡◌, ℕ, ◌+◌, ◌≤◌, Bool, true, false, cond, Option, Some, None, List, [], ◌∷◌, ◌++◌, refl, sym, ap, ◌∙◌, subst, arith}
 use Rattle.std.specs.Prelude.{if◌then◌else◌, ◌==◌}
 use Rattle.std.specs.FinMap as finite
 use Rattle.std.proofs.lemmas.Bool.Decides.{Decides-eqb}
@@ -26,7 +26,7 @@ use Rattle.outline_net.proofs.OperationTables.{got_insert, got_remove}
 use Rattle.answer_net.proofs.ControllerActs.{other_there}
 use Rattle.whole_joined.proofs.ControllerChanges.{NotMove}
 use Rattle.outline_net.proofs.CopyTurns.{CopyTurn, Idle, Hands, Hands_all, Ends, hands, ends}
-use Rattle.answer_net.proofs.BusyLemmas.{began_same}
+use Rattle.answer_net.proofs.BusyLemmas.{began_same, first_is}
 use Rattle.nf_net.proofs.MoveJudged.{Said, Knows}
 use Rattle.answer_net.proofs.MoveOnce.{once, spent, spent_few, NoneOnce, no_one}
 use Rattle.nf_net.proofs.ShareAsks.{asked, asked_few}
@@ -50,9 +50,6 @@ used_few (Some (Copy y)) has_begun first = omega arith
 used_few (Some (Share s)) has_begun first = asked_few s.phase
 used_few None true first = omega arith
 used_few None false first = omega arith
-
-pub same_answer : (a b : Answer) → a ∷ [] ≡ b ∷ [] → a ≡ b
-same_answer a b is = ap (λ xs. get_or xs 0 a) is
 
 module _ (Part : ℕ → Piece → Type 0) (Verdict : ℕ → Answer → Type 0) (Goes : ℕ → ℕ → Type 0) (Still : ℕ → Type 0) (log : List Note) (n : ℕ) (c : ControllerState) where
   -- why a command that began is answered so: by its verdict, or that it is done, since it moves no units
@@ -120,7 +117,7 @@ module _ (Part : ℕ → Piece → Type 0) (Verdict : ℕ → Answer → Type 0)
         says = (tt, tt);
         found = λ k b is. elim (op == k) as (λ t. (op == k) ≡ t → (if t then Done ∷ [] else []) ≡ b ∷ [] → IsFound k b) [
           | true ↦ λ on given. subst (λ j. IsFound j b) ((Decides-eqb op k).0 on) (record {
-            known = λ _. By_still its (sym (same_answer Done b given));
+            known = λ _. By_still its (sym (first_is Done b given));
             refused = λ never. (let on = sym (begun_is) ∙ never in cc);
           })
           | false ↦ λ off never. cc

@@ -2,6 +2,8 @@
 use Rattle.std.proofs.Common.{◌≡◌, ℕ, Bool, true, false, cond, Option, Some, None, List, [], ◌∷◌, ◌++◌, map, append-nil, append_assoc, refl, sym, ap, ◌∙◌, subst}
 use Rattle.std.specs.Prelude.{if◌then◌else◌, ◌&&◌, ◌||◌, not, is_some, Ok, Err}
 use Rattle.std.specs.FinMap as finite
+use Rattle.std.proofs.Math.Bool.{or-false}
+use Rattle.std.proofs.lemmas.Bool.{or_right, or_left}
 use Rattle.flow_filter.specs.Flow.{flow_of}
 use Rattle.flow_filter.specs.declared.filter.Filter.{Filter}
 use Rattle.flow_filter.specs.declared.site.Site.{Site}
@@ -44,21 +46,9 @@ use Rattle.whole_joined.proofs.Joined.{Genuine, AreGoodChunks, IsGoodPiece}
 use Rattle.whole_joined.proofs.StartJoined.{given}
 use Rattle.nf_net.proofs.StandbySteps.{brought_is}
 
-or_false : (a : Bool) → a ≡ a || false
-or_false true = refl
-or_false false = refl
-
 or_true : (a : Bool) → true ≡ a || true
 or_true true = refl
 or_true false = refl
-
-or_right : (a b : Bool) → b ≡ true → a || b ≡ true
-or_right true b e = refl
-or_right false b e = e
-
-or_left : (a b : Bool) → a ≡ true → a || b ≡ true
-or_left true b e = refl
-or_left false b e = cc
 
 or_assoc : (a b d : Bool) → (a || b) || d ≡ a || (b || d)
 or_assoc true b d = refl
@@ -111,7 +101,7 @@ module _ {R : Type 0} (f : Semantics R) (laws : FunctionLaws f) (c : Config) (it
     where
       by_test : (t : Bool) (o : Option R) → is_some (cond t (kept_after f site o cell.packet) o) ≡ is_some o || (t || false)
       by_test true o = let transport = genuine.transport in rw transport (or_true (is_some o))
-      by_test false o = or_false (is_some o)
+      by_test false o = sym (or-false (is_some o))
 
   -- packets that are processed in order
   abbrev units_of : List FullCell → List units.Unit
@@ -146,14 +136,14 @@ module _ {R : Type 0} (f : Semantics R) (laws : FunctionLaws f) (c : Config) (it
 
     all_live : (i : InstanceState F R) (cells : List FullCell) → i.site ≡ c.site → Each (Genuine f g) cells → (u : units.Unit) → is_in (all_processed f i cells).node u ≡ is_in i u || is_among (units_of cells) u
     unfolding all_processed
-    all_live i [] at h u = or_false (is_in i u)
+    all_live i [] at h u = sym (or-false (is_in i u))
     all_live i (cell ∷ cells) at h u =
         let next = (processed f i mark.Plain cell).node in
         let v = unit_of (number cell) in
         all_live next cells (processed_site i mark.Plain cell ∙ at) h.1 u
         ∙ ap (λ t. t || is_among (units_of cells) u) (live_processed i mark.Plain cell refl at h.0 u)
         ∙ or_assoc (is_in i u) (same_unit u v || false) (is_among (units_of cells) u)
-        ∙ ap (λ t. is_in i u || (t || is_among (units_of cells) u)) (sym (or_false (same_unit u v)))
+        ∙ ap (λ t. is_in i u || (t || is_among (units_of cells) u)) (sym (sym (or-false (same_unit u v))))
 
     all_gains : (i : InstanceState F R) (cells : List FullCell) → ((k : ℕ) → is_among (units_of cells) (unit_of k) ≡ true → is_away (unit_of k) ≡ false) → gains (all_processed f i cells).notes ≡ units_of cells
     unfolding all_processed
@@ -184,7 +174,7 @@ module _ {R : Type 0} (f : Semantics R) (laws : FunctionLaws f) (c : Config) (it
           ∙ ap (λ us. (is_in i u && not (is_among (removed_by m) u)) || is_among us u) (sym named)
 
       stays : (m : Msg) (did : Step F R) → removed_by m ≡ [] → did.node.table.live ≡ i.table.live → gains did.notes ≡ [] → Lives m did
-      stays m did none same named = grows m did [] none (λ u. ap (λ t. is_some (finite.get t u)) same ∙ or_false (is_in i u)) named
+      stays m did none same named = grows m did [] none (λ u. ap (λ t. is_some (finite.get t u)) same ∙ sym (or-false (is_in i u))) named
 
       -- A packet comes
       module _ (m : Mark) (cell : FullCell) (genuine : Genuine f g cell) where

@@ -7,6 +7,7 @@ use Rattle.std.specs.Option.{option_map_or}
 use Rattle.std.specs.FinMap as finite
 use Rattle.std.proofs.lemmas.Bool.Decides.{nat_tests, Decides-eqb}
 use Rattle.std.proofs.lemmas.Option.{get_or_from_slice_get, slice_get_within}
+use Rattle.std.proofs.lemmas.Bool.{not-true, or_right, and_parts}
 use Rattle.flow_filter.specs.declared.filter.Filter.{Filter}
 use Rattle.nf_function.specs.declared.unit.Unit as units
 use Rattle.nf_function.specs.Semantics.{Semantics}
@@ -45,8 +46,9 @@ use Rattle.net_world.specs.Lives.{before_begun, is_first_of, is_shared_away}
 use Rattle.net_world.specs.Log.{has_begun}
 use Rattle.net_world.specs.Places.{is_at, is_home, owner, shared_among}
 use Rattle.net_world.specs.Records.{live_in, live_at}
-use Rattle.outline_net.proofs.FiltersApart.{unit_fits, is_whole, takes_whole, and_r}
+use Rattle.outline_net.proofs.FiltersApart.{unit_fits, is_whole, takes_whole}
 use Rattle.outline_net.proofs.Outline.{is_sys}
+use Rattle.outline_net.proofs.SwitchOutline.{same_node}
 use Rattle.whole_outline.proofs.OpenShares.{Both, Real_share, real_share}
 use Rattle.whole_joined.proofs.Given.{Given, place}
 use Rattle.whole_joined.proofs.Joined.{S, A, IsShare, Joined, came_by}
@@ -64,10 +66,6 @@ pub record BegunOne (these : ℕ → Bool) (log : List Note) : Type 0 where
   pub op : ℕ
   pub begun : began op log ≡ true
   pub such : these op ≡ true
-
-or_right : (a b : Bool) → b ≡ true → a || b ≡ true
-or_right true b e = refl
-or_right false b e = e
 
 pub begun_one : (these : ℕ → Bool) (log : List Note) → has_begun these log ≡ true → BegunOne these log
 begun_one these [] e = cc
@@ -96,9 +94,6 @@ has_one these (note.Imported i k us ∷ log) op e on = has_one these log op e on
 has_one these (note.Kept i k us ∷ log) op e on = has_one these log op e on
 has_one these (note.Installed k ∷ log) op e on = has_one these log op e on
 has_one these (note.Answered k answer ∷ log) op e on = has_one these log op e on
-
-same_node : (a b : ℕ) → (a == b) ≡ (instance_node a == instance_node b)
-same_node a b = grind (arith, nat_tests)
 
 -- the flag of a message that says whether its receiver is the home
 same_is : (a b : Bool) → same a b ≡ true → a ≡ b
@@ -181,10 +176,6 @@ module _ {F R : Type 0} (f : Semantics R) (c : Config) (items : List Msg) (is : 
           let number : op ≡ here.num = number_is f c items is n count_is w j apart b u fits op ms filter own takes_it here its_here in
           k.away (instance_node y) (sym (first_is_home here.num here its_here.found y) ∙ ap (λ q. is_first_of c items (order_numbered items q) y) (sym number) ∙ ap (λ o. is_first_of c items o y) what ∙ off)
 
-    off_of : (t : Bool) → not t ≡ true → t ≡ false
-    off_of true e = cc
-    off_of false e = refl
-
     abbrev sharing : ℕ → Option (List (List ℕ))
     sharing op = shared_among c.names (order_numbered items) u (order_numbered items op) (owner c items u (before_begun op w.log))
 
@@ -196,7 +187,7 @@ module _ {F R : Type 0} (f : Semantics R) (c : Config) (items : List Msg) (is : 
     by_sharing y op begun (Some ms) at e =
         let s : Shares_it g u (order_numbered items op) (owner c items u (before_begun op w.log)) ms = shares_it g u (order_numbered items op) (owner c items u (before_begun op w.log)) ms at in
         let at_home : is_home c.names (order_numbered items) ms (owner c items u w.log) ≡ true = ap (is_home c.names (order_numbered items) ms) (sym (kept op ms s.filter u s.order_is begun fits s.takes_it)) ∙ s.home in
-        live_none op ms s.filter s.order_is s.takes_it at_home begun y (off_of (is_home c.names (order_numbered items) ms y) e) (j.shown_is.every.unit u)
+        live_none op ms s.filter s.order_is s.takes_it at_home begun y (not-true (is_home c.names (order_numbered items) ms y) e) (j.shown_is.every.unit u)
 
     -- where a share has the unit, and an instance isn't its first member, nothing of the unit is live there
     away_none : (y : ℕ) → is_shared_away c items u y w.log ≡ true → finite.get (j.world.inst (instance_node y)).live u ≡ None
@@ -233,7 +224,7 @@ module _ {F R : Type 0} (f : Semantics R) (c : Config) (items : List Msg) (is : 
       taken =
           let q = at.s.plan.filter in
           let whole : takes_whole f.kind q u ≡ true = ap (λ y. takes_whole f.kind y u) (sym (ap (λ y. y.filter) at.sees.is)) ∙ k.covered in
-          and_r (unit_fits f.kind u) (takes q u) (and_r (is_whole f.kind q) (unit_fits f.kind u && takes q u) whole)
+          (and_parts (unit_fits f.kind u) (takes q u) ((and_parts (is_whole f.kind q) (unit_fits f.kind u && takes q u) whole).1)).1
 
       home_at : (y : ℕ) → is_home c.names (order_numbered items) share.plan.names y ≡ (instance_node y == x.home)
       home_at y = ap (λ o. is_first_of c items o y) (sym what_is) ∙ first_is_home x.num here k.holds.share y

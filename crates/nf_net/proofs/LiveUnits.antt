@@ -3,6 +3,7 @@ use Rattle.std.proofs.Common.{◌≡◌, zero, suc, ◌-◌, ◌≤◌, Bool, tr
 use Rattle.std.specs.Prelude.{if◌then◌else◌, ◌&&◌, ◌||◌, not, is_some}
 use Rattle.std.specs.FinMap as finite
 use Rattle.std.specs.FinMap.{contains_key-keys, empty_of_len, get-empty, get-remove, len-entries, len-remove}
+use Rattle.std.proofs.Math.Bool.{and-false, or-false}
 use Rattle.nf_function.specs.declared.unit.Unit as units
 use Rattle.nf_function.specs.UnitOrder.{units_total}
 use Rattle.nf_function.specs.Units.{unit_cmp}
@@ -30,11 +31,7 @@ among_same : (us : List units.Unit) (u q : units.Unit) → is_among us u ≡ tru
 among_same us u q on same = ap (is_among us) (same_unit-true q u same) ∙ on
 
 pub with_in : (us more : List units.Unit) (q : units.Unit) → is_among (with_units us more) q ≡ is_among us q || is_among more q
-with_in us [] q = or_false (is_among us q)
-  where
-    or_false : (a : Bool) → a ≡ a || false
-    or_false true = refl
-    or_false false = refl
+with_in us [] q = sym (or-false (is_among us q))
 with_in us (u ∷ more) q =
     with_in (if is_among us u then us else u ∷ us) more q
     ∙ elim (is_among us u) as (λ t. is_among us u ≡ t → is_among (if t then us else u ∷ us) q || is_among more q ≡ is_among us q || (same_unit q u || is_among more q)) [
@@ -53,7 +50,7 @@ pub without_in : (gone us : List units.Unit) (q : units.Unit) → is_among (with
 without_in gone [] q = refl
 without_in gone (u ∷ us) q = elim (is_among gone u) as (λ t. is_among gone u ≡ t → is_among (cond (not t) (u ∷ without_units gone us) (without_units gone us)) q ≡ (same_unit q u || is_among us q) && not (is_among gone q)) [
   | true ↦ λ on. without_in gone us q ∙ elim (same_unit q u) as (λ t. same_unit q u ≡ t → is_among us q && not (is_among gone q) ≡ (t || is_among us q) && not (is_among gone q)) [
-    | true ↦ λ same. (let there : is_among gone q ≡ true = among_same gone u q on same in rw there (and_false (is_among us q)))
+    | true ↦ λ same. (let there : is_among gone q ≡ true = among_same gone u q on same in rw there (and-false (is_among us q)))
     | false ↦ λ _. refl
   ] refl
   | false ↦ λ off. ap (λ b. same_unit q u || b) (without_in gone us q) ∙ elim (same_unit q u) as (λ t. same_unit q u ≡ t → t || (is_among us q && not (is_among gone q)) ≡ (t || is_among us q) && not (is_among gone q)) [
@@ -61,10 +58,6 @@ without_in gone (u ∷ us) q = elim (is_among gone u) as (λ t. is_among gone u 
     | false ↦ λ _. refl
   ] refl
 ] refl
-  where
-    and_false : (a : Bool) → a && false ≡ false
-    and_false true = refl
-    and_false false = refl
 
 pub without_once : (gone us : List units.Unit) → AreOnce us → AreOnce (without_units gone us)
 without_once gone [] h = tt

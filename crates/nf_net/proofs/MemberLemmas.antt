@@ -4,6 +4,7 @@ use Rattle.std.specs.Prelude.{if◌then◌else◌, ◌&&◌, ◌||◌, ◌==◌,
 use Rattle.std.specs.List.{filter_map}
 use Rattle.std.specs.Option.{option_or}
 use Rattle.std.proofs.lemmas.Bool.Decides.{nat_tests, Decides-eqb}
+use Rattle.std.proofs.lemmas.Bool.{and_parts}
 use Rattle.flow_filter.specs.declared.filter.Filter.{Filter}
 use Rattle.nf_function.specs.declared.unit.Unit as units
 use Rattle.nf_function.specs.Units.{takes}
@@ -15,7 +16,6 @@ use Rattle.ctrl_node.specs.Controller.{place_of}
 use Rattle.net_world.specs.Commands.{times_installed}
 use Rattle.net_world.specs.Log.{installed}
 use Rattle.net_world.specs.Places.{is_at, owner_after, handed_on, is_home, shared_among, members_after}
-use Rattle.outline_net.proofs.FiltersApart.{and_l, and_r}
 use Rattle.answer_net.proofs.InstallNotes.{times_installed-append}
 use Rattle.whole_joined.proofs.Given.{Given, diverts, diverted_after}
 
@@ -81,7 +81,7 @@ module _ (g : Given) (u : units.Unit) where
       by_test false t never = cc
       by_test true t found =
           let same : members ≡ ms = cc in
-          subst (Shares_it (Some (order.Share members filter)) i) same (record { filter = filter; order_is = refl; takes_it = and_l (takes filter u) (is_home g.names g.orders members i) t; home = and_r (takes filter u) (is_home g.names g.orders members i) t })
+          subst (Shares_it (Some (order.Share members filter)) i) same (record { filter = filter; order_is = refl; takes_it = (and_parts (takes filter u) (is_home g.names g.orders members i) t).0; home = (and_parts (takes filter u) (is_home g.names g.orders members i) t).1 })
   shares_it (Some (order.Move source destination filter keep)) i ms e = cc
   shares_it (Some (order.Copy source destination filter)) i ms e = cc
   shares_it None i ms e = cc

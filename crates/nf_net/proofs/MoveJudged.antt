@@ -1,6 +1,7 @@
 -- What a move knows of its pieces, and then of its verdict, from phase to phase; and that it sends what is known so.
 use Rattle.std.proofs.Common.{◌≡◌, ℕ, Bool, true, false, Some, List, [], ◌∷◌, ◌++◌, map, ap, subst}
 use Rattle.std.specs.Prelude.{if◌then◌else◌, ◌&&◌, ◌||◌, ◌==◌, length, unwrap_or}
+use Rattle.std.proofs.lemmas.Option.{same_Some}
 use Rattle.nf_function.specs.declared.chunk.Chunk.{Chunk}
 use Rattle.packet_pool.specs.Pool.{FullCell}
 use Rattle.switch_rules.specs.declared.target.Target.TheVariants as target
@@ -164,22 +165,19 @@ module _ (Part : ℕ → Piece → Type 0) (Verdict : ℕ → Answer → Type 0)
       put_no_follows (phase.Streaming frozen free came (door.Asked last)) why chunks h cause = push_follows frozen (put_back chunks last ∷ free) came (door.Refused why) cause
       put_no_follows ph why chunks h cause = stays ph h
 
-      same_number : (a b : ℕ) → Some a ≡ Some b → a ≡ b
-      same_number a b is = ap (λ o. unwrap_or o a) is
-
       -- by the message
       source_follows : (ph : Phase) (port : ℕ) (message : Msg) → Knows plan.op ph → op_of message ≡ Some plan.op → Said port 1 message → Follows (from_source plan ph events message).next
       source_follows ph port (msg.Event op cell) h own label = event_follows ph cell h
       source_follows ph port (msg.Enabled op) h own label = source_enabled_follows ph h
-      source_follows ph port (msg.Piece op p) h own label = piece_follows ph p h (subst (λ k. Part k p) (same_number op plan.op own) label)
+      source_follows ph port (msg.Piece op p) h own label = piece_follows ph p h (subst (λ k. Part k p) (same_Some op plan.op own) label)
       source_follows ph port (msg.Deleted op) h own label = deleted_follows ph h
       source_follows ph port (msg.Restored op) h own label = restored_follows ph h
       source_follows ph port (msg.Fenced op) h own label = source_fenced_follows ph h
       source_follows ph port message h own label = stays ph h
 
       destination_follows : (ph : Phase) (port : ℕ) (message : Msg) → Knows plan.op ph → op_of message ≡ Some plan.op → Said port 1 message → Follows (from_destination plan ph events message).next
-      destination_follows ph port (msg.PutOk op) h own label = put_ok_follows ph h (subst (λ k. Verdict k Done) (same_number op plan.op own) label)
-      destination_follows ph port (msg.PutNo op refused) h own label = put_no_follows ph refused.why refused.chunks h (subst (λ k. Verdict k refused.why) (same_number op plan.op own) label)
+      destination_follows ph port (msg.PutOk op) h own label = put_ok_follows ph h (subst (λ k. Verdict k Done) (same_Some op plan.op own) label)
+      destination_follows ph port (msg.PutNo op refused) h own label = put_no_follows ph refused.why refused.chunks h (subst (λ k. Verdict k refused.why) (same_Some op plan.op own) label)
       destination_follows ph port (msg.Enabled op) h own label = destination_enabled_follows ph h
       destination_follows ph port (msg.Fenced op) h own label = destination_fenced_follows ph h
       destination_follows ph port message h own label = stays ph h

@@ -3,6 +3,7 @@ use Rattle.std.proofs.Common.{◌≡◌, ◌≢◌, ℕ, Bool, true, false, Opti
 use Rattle.std.specs.Prelude.{if◌then◌else◌}
 use Rattle.std.specs.List.{filter_map}
 use Rattle.std.specs.FinMap as finite
+use Rattle.std.proofs.lemmas.List.{map-append}
 use Rattle.flow_filter.specs.declared.site.Site.{Site}
 use Rattle.nf_function.specs.declared.output.Output.{Output}
 use Rattle.nf_function.specs.declared.unit.Unit as units
@@ -37,10 +38,6 @@ done_of-append mine (x ∷ xs) ys = elim (mine x.number) as (λ b. (if b then x 
   | false ↦ done_of-append mine xs ys
 ]
 
-map-put : {X Y : Type 0} (g : X → Y) (xs ys : List X) → map g (xs ++ ys) ≡ map g xs ++ map g ys
-map-put g [] ys = refl
-map-put g (x ∷ xs) ys = ap (λ zs. g x ∷ zs) (map-put g xs ys)
-
 module _ {R : Type 0} (f : Semantics R) (c : Config) (items : List Msg) where
   -- a unit's packets among what was done, and the answers to them
   abbrev pub numbers : units.Unit → List Done → List ℕ
@@ -55,10 +52,10 @@ module _ {R : Type 0} (f : Semantics R) (c : Config) (items : List Msg) where
     pub same : (u : units.Unit) → answers u ds ≡ outputs f c items (kept u) (numbers u ds)
 
   pub numbers-append : (u : units.Unit) (xs ys : List Done) → numbers u (xs ++ ys) ≡ numbers u xs ++ numbers u ys
-  numbers-append u xs ys = ap (map (λ d. d.number)) (done_of-append (is_of f c items u) xs ys) ∙ map-put (λ d. d.number) (done_of (is_of f c items u) xs) (done_of (is_of f c items u) ys)
+  numbers-append u xs ys = ap (map (λ d. d.number)) (done_of-append (is_of f c items u) xs ys) ∙ map-append (λ d. d.number) (done_of (is_of f c items u) xs) (done_of (is_of f c items u) ys)
 
   answers-append : (u : units.Unit) (xs ys : List Done) → answers u (xs ++ ys) ≡ answers u xs ++ answers u ys
-  answers-append u xs ys = ap (map (λ d. d.output)) (done_of-append (is_of f c items u) xs ys) ∙ map-put (λ d. d.output) (done_of (is_of f c items u) xs) (done_of (is_of f c items u) ys)
+  answers-append u xs ys = ap (map (λ d. d.output)) (done_of-append (is_of f c items u) xs ys) ∙ map-append (λ d. d.output) (done_of (is_of f c items u) xs) (done_of (is_of f c items u) ys)
 
   outputs-append : (kept : Option R) (ps qs : List ℕ) → outputs f c items kept (ps ++ qs) ≡ outputs f c items kept ps ++ outputs f c items (fold f c items kept ps) qs
   outputs-append kept [] qs = refl

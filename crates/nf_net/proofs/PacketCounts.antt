@@ -1,4 +1,4 @@
--- At most as many packets are processed as came, where each is processed at most as often as it came.
+-- At most as many packets are processed as came, where each is processed at most as often as it came; and as many, where it is as often.
 use Rattle.std.proofs.Common.{◌≡◌, ℕ, suc, ◌+◌, ◌≤◌, Bool, true, false, List, [], ◌∷◌, map, length, refl, sym, ap, ◌∙◌, arith}
 use Rattle.std.specs.Prelude.{if◌then◌else◌, ◌==◌}
 use Rattle.std.proofs.lemmas.Bool.Decides.{nat_tests, Decides-eqb}
@@ -76,6 +76,13 @@ all_done f c items log each p =
     let u : units.Unit = unit_at f.kind c.site (packet_of items p) in
     let own : is_of f c items u p ≡ true = same_unit_equiv.refl u in
     sym (done_times (is_of f c items u) p own (done log)) ∙ each u p ∙ those_times (is_of f c items u) p own (arrived log)
+
+pub few_came : {R : Type 0} (f : Semantics R) (c : Config) (items : List Msg) (log : List Note) → ((unit : units.Unit) (p : ℕ) → times p (went f c items unit log) ≡ times p (came f c items unit log))
+    → length (arrived log) ≤ length (done log)
+few_came f c items log each =
+    let long = length-map (done log) (λ d. d.number) in
+    let fewer = no_longer (arrived log) (map (λ d. d.number) (done log)) (λ p. let same = all_done f c items log each p in omega (arith, same)) in
+    omega (arith, long, fewer)
 
 module _ {F R : Type 0} (f : Semantics R) (c : Config) (items : List Msg) (is : IsInput f.kind c items) where
   -- of a world of a run

@@ -13,7 +13,6 @@ use Rattle.actor_net.specs.declared.choice.Choice.{Choice}
 use Rattle.actor_net.specs.Network.{Network, Stepped, IsRun, run, taken}
 use Rattle.actor_net.proofs.RunInduction.{Taking}
 use Rattle.actor_net.proofs.StepOutcome.{taken_outcome}
-use Rattle.unit_machine.proofs.Labels.{Each}
 use Rattle.net_world.specs.declared.config.Config.{Config}
 use Rattle.net_world.specs.declared.node.Node.{Node}
 use Rattle.net_world.specs.Input.{IsInput}
@@ -25,7 +24,7 @@ use Rattle.whole_joined.proofs.Joined.{IsTaken, node_of}
 use Rattle.whole_joined.proofs.JoinedSteps.{scene}
 use Rattle.whole_joined.proofs.NodeSteps.{Wants, node_leads}
 use Rattle.whole_joined.proofs.OwnerLemmas.{Stands, In_first, In_second, stands, each_there}
-use Rattle.whole_joined.proofs.PlaceNotes.{is_unprocessed, AreUnprocessed, switch_unprocessed, is_uninstalled, controller_uninstalled}
+use Rattle.whole_joined.proofs.PlaceNotes.{is_unprocessed, AreUnprocessed, switch_unprocessed, controller_uninstalled, uninstalled_unprocessed}
 use Rattle.whole_joined.proofs.RunsJoined.{Runs, run_beside}
 use Rattle.whole_joined.proofs.StartJoined.{given, all_fit}
 use Rattle.answer_net.proofs.BusyRuns.{Busy}
@@ -38,17 +37,6 @@ use Rattle.nf_net.proofs.RunKeeps.{start, count, run_keeps}
 
 pub processed_off : (front back : List Note) (number i : ℕ) (output : Output) (notes : List Note) → AreUnprocessed notes → notes ≡ front ++ note.Processed number i output ∷ back → ⊥
 processed_off front back number i output notes h e = let never : false ≡ true = each_there (λ n. is_unprocessed n ≡ true) front (note.Processed number i output) back (subst AreUnprocessed e h) in cc
-
-pub uninstalled_unprocessed : (notes : List Note) → Each (λ n. is_uninstalled n ≡ true) notes → AreUnprocessed notes
-uninstalled_unprocessed [] h = tt
-uninstalled_unprocessed (note.Processed number i output ∷ ns) h = let never = h.0 in cc
-uninstalled_unprocessed (note.Arrived number ∷ ns) h = (refl, uninstalled_unprocessed ns h.1)
-uninstalled_unprocessed (note.Begun op ∷ ns) h = (refl, uninstalled_unprocessed ns h.1)
-uninstalled_unprocessed (note.Exported i op us ∷ ns) h = (refl, uninstalled_unprocessed ns h.1)
-uninstalled_unprocessed (note.Imported i op us ∷ ns) h = (refl, uninstalled_unprocessed ns h.1)
-uninstalled_unprocessed (note.Kept i op us ∷ ns) h = (refl, uninstalled_unprocessed ns h.1)
-uninstalled_unprocessed (note.Installed op ∷ ns) h = let never = h.0 in cc
-uninstalled_unprocessed (note.Answered op answer ∷ ns) h = (refl, uninstalled_unprocessed ns h.1)
 
 module _ (F : Type 0) {R : Type 0} (f : Semantics R) (laws : FunctionLaws f) (alloc : Global) (c : Config) (items : List Msg) (is : IsInput f.kind c items) where
   abbrev g : Given

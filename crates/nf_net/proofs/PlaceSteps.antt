@@ -4,6 +4,7 @@ use Rattle.std.specs.Prelude.{◌&&◌, ◌==◌}
 use Rattle.std.specs.List.{filter_map}
 use Rattle.std.specs.FinMap as finite
 use Rattle.std.proofs.lemmas.Bool.Decides.{nat_tests, Decides-eqb}
+use Rattle.std.proofs.lemmas.Bool.{and_parts}
 use Rattle.nf_function.specs.Records.{Laws as FunctionLaws}
 use Rattle.nf_function.specs.Semantics.{Semantics}
 use Rattle.nf_function.specs.Units.{takes}
@@ -33,7 +34,7 @@ use Rattle.net_world.specs.declared.config.Config.{Config}
 use Rattle.net_world.specs.declared.node.Node.{Node}
 use Rattle.net_world.specs.Input.{IsInput}
 use Rattle.net_world.specs.Places.{is_at, owner, members, unit_numbered, IsMoving, IsPlace, Owns, Is_destination, Is_member}
-use Rattle.outline_net.proofs.FiltersApart.{is_whole, unit_fits, takes_whole, and_r}
+use Rattle.outline_net.proofs.FiltersApart.{is_whole, unit_fits, takes_whole}
 use Rattle.outline_net.proofs.Outline.{ran_in, is_sys, outline_instance}
 use Rattle.outline_net.proofs.ControlOutline.{Sees}
 use Rattle.whole_outline.proofs.OpenShares.{but_shares}
@@ -55,7 +56,7 @@ use Rattle.nf_net.proofs.NumberedUnits.{units_fit, Ran_there, ran_there}
 use Rattle.nf_net.proofs.SharedHomes.{home_owns, member_goes}
 use Rattle.nf_net.proofs.UnitShares.{diverted_members, owner_goes}
 
-module _ {F R : Type 0} (f : Semantics R) (laws : FunctionLaws f) (c : Config) (items : List Msg) (is : IsInput f.kind c items) (n : ℕ) (w : Network (Node F R) Msg Note) (j : Joined f (given f c items is) n w) (busy : AreUnderWay f c items is n w j) where
+module _ {F R : Type 0} (f : Semantics R) (c : Config) (items : List Msg) (is : IsInput f.kind c items) (n : ℕ) (w : Network (Node F R) Msg Note) (j : Joined f (given f c items is) n w) (busy : AreUnderWay f c items is n w j) where
   abbrev gm : Given
   gm = given f c items is
 
@@ -76,7 +77,7 @@ module _ {F R : Type 0} (f : Semantics R) (laws : FunctionLaws f) (c : Config) (
     under_way k e (Some (Move m)) events there sees taken =
         let of = busy.plan_is k m there in
         let on = busy.open_busy k m there in
-        let takes_it : takes m.plan.filter u ≡ true = and_r (unit_fits f.kind u) _ (and_r (is_whole f.kind m.plan.filter) _ (ap (λ x. takes_whole f.kind x u) (sym sees.filter) ∙ taken)) in
+        let takes_it : takes m.plan.filter u ≡ true = (and_parts (unit_fits f.kind u) _ ((and_parts (is_whole f.kind m.plan.filter) _ (ap (λ x. takes_whole f.kind x u) (sym sees.filter) ∙ taken)).1)).1 in
         record {
           from = m.plan.from;
           to = m.plan.to;
@@ -125,7 +126,7 @@ module _ {F R : Type 0} (f : Semantics R) (laws : FunctionLaws f) (c : Config) (
     by_may : May_run (S f g) (moves_of (S f g) (A f g) j.world) unit (instance_node i) → IsPlace c items f.kind number w.log i
     by_may (At_route at) = by_target at
     by_may (At_destination k e there taken goes at) =
-        let m = open_at f laws c items is n w j busy unit k e there taken in
+        let m = open_at f c items is n w j busy unit k e there taken in
         let covered : is_at (place_of c.names m.source) (owner c items unit w.log) ≡ true = covers m.source m.from m.from_is (goes ∙ m.src) in
         Is_destination m.source m.destination (record { moving = m.moving; covers = covered }) (m.to_is ∙ ap Some (node_same m.to i e.op.dst (sym m.dst) (sym at)))
 

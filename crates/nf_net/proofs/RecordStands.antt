@@ -1,10 +1,10 @@
 -- In every run the record of a unit is live at one instance, or in one chunk on its way, or in both as long as its source is still to
 -- remove it. Where a share has the unit, it is live at the home, and may lack the last packet as long as the home is to take a newer one.
-use Rattle.std.proofs.Common.{◌≡◌, ◌≢◌, ℕ, ◌+◌, ◌<◌, ◌≤◌, Bool, true, false, Option, Some, None, List, [], ◌∷◌, ◌++◌, map, length, refl, sym, ap, ◌∙◌, subst, arith}
+use Rattle.std.proofs.Common.{◌≡◌, ◌≢◌, ℕ, ◌+◌, ◌<◌, ◌≤◌, true, false, Option, Some, None, List, [], ◌∷◌, ◌++◌, map, length, refl, sym, ap, ◌∙◌, subst, arith}
 use Rattle.std.specs.Prelude.{if◌then◌else◌, ◌==◌, ◌-◌, ◌||◌, nat_lt, slice_get, option_to_list}
 use Rattle.std.specs.declared.alloc.Global.{Global}
 use Rattle.std.specs.FinMap as finite
-use Rattle.std.proofs.lemmas.Bool.{ltb-false}
+use Rattle.std.proofs.lemmas.Bool.{ltb-false, or_right}
 use Rattle.std.proofs.lemmas.Bool.Decides.{nat_tests, Decides-eqb, Decides-ltb}
 use Rattle.std.proofs.lemmas.Option.{slice_get_past}
 use Rattle.nf_function.specs.declared.unit.Unit as units
@@ -90,10 +90,6 @@ one_of r None None None e = cc
 one_of r None None (Some z) e = In_c cc
 one_of r None (Some y) c e = In_b cc
 one_of r (Some x) b c e = In_a cc
-
-or-right : (b c : Bool) → c ≡ true → b || c ≡ true
-or-right true c e = refl
-or-right false c e = e
 
 never : {P R : Type 0} (o : Option R) (r : R) → o ≡ None → o ≡ Some r → P
 never o r none some = let bad = sym none ∙ some in cc
@@ -222,7 +218,7 @@ module _ {F R : Type 0} (f : Semantics R) (c : Config) (items : List Msg) (is : 
       by_link (Is_named e) =
           let read = (link_spelled f c items is n count w nodes j world u apart k.op k.third x k.holds 1 k.op.src some few refl).removed in
           let on : is_among (all_of removed_by (on_link w controller_node k.op.src)) u ≡ true = read ∙ rw (off_0, self) e in
-          or-right (is_among (all_of given_in (on_link w k.op.src controller_node)) u) (is_among (all_of removed_by (on_link w controller_node k.op.src)) u) on
+          or_right (is_among (all_of given_in (on_link w k.op.src controller_node)) u) (is_among (all_of removed_by (on_link w controller_node k.op.src)) u) on
 
   -- the machine's record is the fold of what was processed
   fold_same : after (S f g).F x.done ≡ fold f c items None (went f c items u w.log)

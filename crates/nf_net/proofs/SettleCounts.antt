@@ -1,7 +1,9 @@
 -- How many commands of an input are answered, by the log; and two ends of one list, by their lengths.
-use Rattle.std.proofs.Common.{◌≡◌, ℕ, suc, ◌+◌, ◌<◌, ◌≤◌, Bool, true, false, Some, List, [], ◌∷◌, ◌++◌, map, length, length-append, refl, sym, ap, ◌∙◌, arith}
+use Rattle.std.proofs.Common.{◌≡◌, ℕ, suc, ◌+◌, ◌<◌, ◌≤◌, true, false, Some, List, [], ◌∷◌, ◌++◌, map, length, length-append, refl, sym, ap, ◌∙◌, arith}
 use Rattle.std.specs.Prelude.{if◌then◌else◌, ◌||◌, ◌==◌, find, option_map}
 use Rattle.std.proofs.lemmas.Bool.Decides.{nat_tests, Decides-eqb}
+use Rattle.std.proofs.Math.Bool.{or-true}
+use Rattle.std.proofs.lemmas.Bool.{or_left}
 use Rattle.nf_msgs.specs.declared.answer.Answer.{Answer}
 use Rattle.nf_msgs.specs.declared.command.Command.{Command}
 use Rattle.nf_msgs.specs.declared.command.Order.{Order}
@@ -14,7 +16,7 @@ use Rattle.net_world.specs.Commands.{has_answered}
 use Rattle.net_world.specs.Input.{packets, commands, IsRising}
 use Rattle.answer_net.proofs.BusyController.{told_in}
 use Rattle.answer_net.proofs.BusyLemmas.{answered_same, has_answered-append}
-use Rattle.answer_net.proofs.EndTables.{flag}
+use Rattle.answer_net.proofs.EndTables.{flag, flag_most, flag_full}
 use Rattle.answer_net.proofs.LinePicks.{picked}
 
 -- how many are answered
@@ -28,14 +30,6 @@ AllAnswered cs log = Each (λ c. has_answered c.op log ≡ true) cs
 pub answered_in-append : (xs ys : List Command) (log : List Note) → answered_in (xs ++ ys) log ≡ answered_in xs log + answered_in ys log
 answered_in-append [] ys log = omega arith
 answered_in-append (c ∷ xs) ys log = let rest = answered_in-append xs ys log in omega (arith, rest)
-
-flag_most : (b : Bool) → flag b ≤ 1
-flag_most true = omega arith
-flag_most false = omega arith
-
-flag_full : (b : Bool) → 1 ≤ flag b → b ≡ true
-flag_full true h = refl
-flag_full false h = absurd (omega (arith, h))
 
 -- no more than there are, and where as many, all
 pub answered_most : (cs : List Command) (log : List Note) → answered_in cs log ≤ length cs
@@ -53,12 +47,8 @@ pub none_answered_in : (cs : List Command) (log : List Note) → Each (λ c. has
 none_answered_in [] log h = refl
 none_answered_in (c ∷ cs) log h = let own = h.0 in let rest = none_answered_in cs log h.1 in rw (own, rest) refl
 
--- as the log goes on
-true_first : (a b : Bool) → a ≡ true → a || b ≡ true
-true_first a b e = rw e refl
-
 pub answered_more : (op : ℕ) (log notes : List Note) → has_answered op log ≡ true → has_answered op (log ++ notes) ≡ true
-answered_more op log notes h = has_answered-append op log notes ∙ true_first (has_answered op log) (has_answered op notes) h
+answered_more op log notes h = has_answered-append op log notes ∙ or_left (has_answered op log) (has_answered op notes) h
 
 pub all_answered_more : (cs : List Command) (log notes : List Note) → AllAnswered cs log → AllAnswered cs (log ++ notes)
 all_answered_more [] log notes h = tt
@@ -71,10 +61,6 @@ answered_in_same (c ∷ cs) log notes h = let own = ap flag (answered_same c.op 
 -- an answer to another command, and to one of these
 apart_answer : (op k : ℕ) (a : Answer) → (op == k) ≡ false → has_answered k (note.Answered op a ∷ []) ≡ false
 apart_answer op k a off = rw off refl
-
-or_true : (b : Bool) → b || true ≡ true
-or_true true = refl
-or_true false = refl
 
 answered_other : (op : ℕ) (a : Answer) (log : List Note) (least : ℕ) (cs : List Command) → op < least → IsRising least (map (λ c. c.op) cs) → answered_in cs (log ++ note.Answered op a ∷ []) ≡ answered_in cs log
 answered_other op a log least [] less h = refl
@@ -91,7 +77,7 @@ answered_one op a what log none least (c ∷ cs) h is = elim (c.op == op) as (λ
   | true ↦ λ on _.
       let same : op ≡ c.op = sym ((Decides-eqb c.op op).0 on) in
       let self : (op == c.op) ≡ true = grind (arith, nat_tests, same) in
-      let new : has_answered c.op (log ++ note.Answered op a ∷ []) ≡ true = has_answered-append c.op log (note.Answered op a ∷ []) ∙ ap (λ b. has_answered c.op log || (b || false)) self ∙ or_true (has_answered c.op log) in
+      let new : has_answered c.op (log ++ note.Answered op a ∷ []) ≡ true = has_answered-append c.op log (note.Answered op a ∷ []) ∙ ap (λ b. has_answered c.op log || (b || false)) self ∙ or-true (has_answered c.op log) in
       let old : has_answered c.op log ≡ false = ap (λ k. has_answered k log) (sym same) ∙ none in
       let one = ap flag new in
       let zero = ap flag old in

@@ -4,6 +4,7 @@ use Rattle.std.specs.Prelude.{if◌then◌else◌, ◌==◌, nat_lt, find, is_so
 use Rattle.std.specs.declared.alloc.Global.{Global}
 use Rattle.std.proofs.lemmas.Bool.Decides.{nat_tests, Decides-ltb, Decides-eqb}
 use Rattle.std.proofs.lemmas.List.{map-append}
+use Rattle.unit_machine.proofs.Labels.{each_map}
 use Rattle.flow_filter.specs.declared.packet.Packet.{Packet}
 use Rattle.nf_function.specs.declared.output.Output.{Output}
 use Rattle.nf_function.specs.declared.unit.Unit as units
@@ -48,15 +49,15 @@ use Rattle.whole_joined.proofs.LogLemmas.{arrived-append}
 use Rattle.whole_joined.proofs.NodeSteps.{Wants, node_leads}
 use Rattle.whole_joined.proofs.JoinedSteps.{ready_at}
 use Rattle.whole_joined.proofs.OwnerLemmas.{Stands, In_first, In_second, stands}
-use Rattle.whole_joined.proofs.PlaceNotes.{switch_unprocessed, controller_uninstalled}
+use Rattle.whole_joined.proofs.PlaceNotes.{switch_unprocessed, controller_uninstalled, uninstalled_unprocessed}
 use Rattle.whole_joined.proofs.RunsJoined.{once, times-append}
 use Rattle.whole_joined.proofs.StartJoined.{given, all_fit, all_labelled, count_at_start}
 use Rattle.path_net.proofs.PathPromises.{rising_once}
 use Rattle.nf_net.proofs.AtMembers.{times_those}
-use Rattle.nf_net.proofs.PlaceRuns.{processed_off, uninstalled_unprocessed}
+use Rattle.nf_net.proofs.PlaceRuns.{processed_off}
 use Rattle.nf_net.proofs.RunKeeps.{start, count, run_keeps}
 use Rattle.nf_net.proofs.SettleCounts.{AllAnswered, answered_in, all_answered_more, packets-append, longer_end}
-use Rattle.nf_net.proofs.SettleSteps.{Counted, each_map, items_none, counted_after}
+use Rattle.nf_net.proofs.SettleSteps.{Counted, items_none, counted_after}
 
 -- a packet among items is one of their numbers
 has_times : (p : ℕ) (qs : List Packet) → is_some (find (λ q. q.number == p) qs) ≡ true → 1 ≤ times p (map (λ q. q.number) qs)
@@ -232,7 +233,7 @@ module _ (F : Type 0) {R : Type 0} (f : Semantics R) (laws : FunctionLaws f) (al
         let notes : List Note = (switch_step j.nodes.switch m).notes in
         let same : its_notes ≡ notes = ap (λ x. (step (node_of j.nodes x) d.port t.message).notes) dk ∙ ap (λ x. (step (node_of j.nodes 0) x t.message).notes) dp ∙ ap (λ x. (step (node_of j.nodes 0) p x).notes) tm in
         let all : AllAnswered (commands front) (w.log ++ notes) = subst (AllAnswered (commands front)) (left ∙ ap (λ ns. w.log ++ ns) same) (answered_now front behind whole before after q has (same ∙ e)) in
-        each_map (λ x. has_answered x.op (w.log ++ notes) ≡ true) (λ x. has_answered x.op w.log ≡ true) (λ x on. sym (answered_same x.op w.log notes (other_not_answered x.op notes (switch_hands f g j.nodes.switch p m label).notes_are)) ∙ on) (commands front) all
+        each_map {P = (λ x. has_answered x.op (w.log ++ notes) ≡ true)} {Q = (λ x. has_answered x.op w.log ≡ true)} (λ x on. sym (answered_same x.op w.log notes (other_not_answered x.op notes (switch_hands f g j.nodes.switch p m label).notes_are)) ∙ on) (commands front) all
     new_answered (suc zero) p m dk dp tm label front behind whole before after q has e = absurd (none_arrives before after q (controller_step j.nodes.controller p m).notes e (controller_notes_none j.nodes.controller p m))
     new_answered (suc (suc y)) p m dk dp tm label front behind whole before after q has e = absurd (none_arrives before after q (step (node_of j.nodes (suc (suc y))) p m).notes e (instance_notes_none f (j.nodes.instance (suc (suc y))) m))
 

@@ -1,8 +1,9 @@
 -- Of every run: a packet behind a settle is processed where the rules of the switch send it, if no command behind the settle has begun.
 use Rattle.std.proofs.Common.{◌≡◌, ℕ, Bool, true, false, Option, Some, None, List, ◌∷◌, ◌++◌, append_assoc, refl, sym, ap, ◌∙◌, subst, arith}
-use Rattle.std.specs.Prelude.{◌&&◌, ◌||◌, ◌==◌, not}
+use Rattle.std.specs.Prelude.{◌&&◌, ◌==◌, not}
 use Rattle.std.specs.Option.{option_map_or}
 use Rattle.std.specs.declared.alloc.Global.{Global}
+use Rattle.std.proofs.lemmas.Bool.{or_left}
 use Rattle.nf_function.specs.declared.output.Output.{Output}
 use Rattle.nf_function.specs.declared.unit.Unit as units
 use Rattle.nf_function.specs.Records.{Laws as FunctionLaws}
@@ -15,7 +16,7 @@ use Rattle.nf_msgs.specs.declared.note.Note.{Note}
 use Rattle.nf_msgs.specs.declared.note.Note.TheVariants as note
 use Rattle.actor_net.specs.declared.choice.Choice.{Choice}
 use Rattle.actor_net.specs.Network.{Network, IsRun, run}
-use Rattle.unit_machine.proofs.Labels.{Each, each-append}
+use Rattle.unit_machine.proofs.Labels.{Each, each-append, each_map}
 use Rattle.net_world.specs.declared.config.Config.{Config}
 use Rattle.net_world.specs.declared.node.Node.{Node}
 use Rattle.net_world.specs.Commands.{began, has_answered, is_busy, times_installed}
@@ -37,10 +38,6 @@ use Rattle.nf_net.proofs.NumberedUnits.{units_fit}
 use Rattle.nf_net.proofs.RunKeeps.{start}
 use Rattle.nf_net.proofs.SettleCounts.{AllAnswered, answered_more, all_answered_more, found, commands-append}
 use Rattle.nf_net.proofs.SettleKeeps.{Arrived_in, arrived_in, run_settles}
-use Rattle.nf_net.proofs.SettleSteps.{each_map}
-
-true_first : (a b : Bool) → a ≡ true → a || b ≡ true
-true_first a b e = rw e refl
 
 off_answered : (x y : Bool) → y ≡ true → x && not y ≡ false
 off_answered true y h = rw h refl
@@ -89,8 +86,8 @@ module _ (F : Type 0) {R : Type 0} (f : Semantics R) (laws : FunctionLaws f) (al
     -- no move is under way
     none_busy : Each (λ x. is_busy x.op before ≡ false) (commands items)
     none_busy = each_command (λ x. is_busy x.op before ≡ false)
-        (each_map (λ x. has_answered x.op before ≡ true) (λ x. is_busy x.op before ≡ false) (λ x h. off_answered (began x.op before) (has_answered x.op before) h) (commands settle.front) answered_there)
-        (each_map (λ x. began x.op before ≡ false) (λ x. is_busy x.op before ≡ false) (λ x h. off_began (began x.op before) (has_answered x.op before) h) (commands behind) not_begun)
+        (each_map {P = (λ x. has_answered x.op before ≡ true)} {Q = (λ x. is_busy x.op before ≡ false)} (λ x h. off_answered (began x.op before) (has_answered x.op before) h) (commands settle.front) answered_there)
+        (each_map {P = (λ x. began x.op before ≡ false)} {Q = (λ x. is_busy x.op before ≡ false)} (λ x h. off_began (began x.op before) (has_answered x.op before) h) (commands behind) not_begun)
 
     not_moving : (source destination : List ℕ) → IsMoving c items u before source destination → ⊥
     not_moving source destination m =
@@ -101,8 +98,8 @@ module _ (F : Type 0) {R : Type 0} (f : Semantics R) (laws : FunctionLaws f) (al
     -- a command that began was answered before the packet arrived
     begun_answered : Each (λ x. began x.op before ≡ true → has_answered x.op arrival.first ≡ true) (commands items)
     begun_answered = each_command (λ x. began x.op before ≡ true → has_answered x.op arrival.first ≡ true)
-        (each_map (λ x. has_answered x.op arrival.first ≡ true) (λ x. began x.op before ≡ true → has_answered x.op arrival.first ≡ true) (λ x h _. h) (commands settle.front) answered)
-        (each_map (λ x. began x.op before ≡ false) (λ x. began x.op before ≡ true → has_answered x.op arrival.first ≡ true) (λ x off on. (let never : true ≡ false = sym on ∙ off in cc)) (commands behind) not_begun)
+        (each_map {P = (λ x. has_answered x.op arrival.first ≡ true)} {Q = (λ x. began x.op before ≡ true → has_answered x.op arrival.first ≡ true)} (λ x h _. h) (commands settle.front) answered)
+        (each_map {P = (λ x. began x.op before ≡ false)} {Q = (λ x. began x.op before ≡ true → has_answered x.op arrival.first ≡ true)} (λ x off on. (let never : true ≡ false = sym on ∙ off in cc)) (commands behind) not_begun)
 
     -- So the share that has the unit had it when the packet arrived
     module _ (ms : List (List ℕ)) (shared : members c items u before ≡ Some ms) where
@@ -123,7 +120,7 @@ module _ (F : Type 0) {R : Type 0} (f : Semantics R) (laws : FunctionLaws f) (al
       not_behind xs from =
           let tail_is : log ≡ there.first ++ note.Installed by.op ∷ (there.rest ++ tail) = e ∙ ap (λ v. v ++ tail) there.whole ∙ append_assoc there.first (note.Installed by.op ∷ there.rest) tail in
           let its : IsInstalledShare f c items there.first by.op ms by.its.filter = (says_of_shares F f laws alloc c items is cs run_is).installs there.first (there.rest ++ tail) by.op ms by.its.filter tail_is by.its.order_is in
-          let began_so : began by.op before ≡ true = ap (began by.op) there.whole ∙ has_begun-append (λ k. k == by.op) there.first (note.Installed by.op ∷ there.rest) ∙ true_first (began by.op there.first) (began by.op (note.Installed by.op ∷ there.rest)) its.begun in
+          let began_so : began by.op before ≡ true = ap (began by.op) there.whole ∙ has_begun-append (λ k. k == by.op) there.first (note.Installed by.op ∷ there.rest) ∙ or_left (began by.op there.first) (began by.op (note.Installed by.op ∷ there.rest)) its.begun in
           let it = found (λ x. began x.op before ≡ true → has_answered x.op arrival.first ≡ true) by.op (order.Share ms by.its.filter) (commands items) begun_answered by.its.order_is in
           let on : has_answered by.op arrival.first ≡ true = ap (λ k. has_answered k arrival.first) (sym it.1) ∙ it.2 (ap (λ k. began k before) it.1 ∙ began_so) in
           let on_there : has_answered by.op there.first ≡ true = ap (has_answered by.op) from ∙ answered_more by.op arrival.first xs on in

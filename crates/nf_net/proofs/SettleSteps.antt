@@ -4,6 +4,7 @@ use Rattle.std.proofs.Common.{◌≡◌, ◌≢◌, ℕ, zero, suc, ◌+◌, ◌
 use Rattle.std.specs.Prelude.{if◌then◌else◌, ◌&&◌, ◌||◌, ◌==◌, not, nat_lt, min}
 use Rattle.std.specs.declared.alloc.Global.{Global}
 use Rattle.std.proofs.lemmas.Bool.Decides.{nat_tests, Decides-eqb, Decides-ltb}
+use Rattle.share_machine.proofs.Lists.{cond-same}
 use Rattle.nf_function.specs.Records.{Laws as FunctionLaws}
 use Rattle.nf_function.specs.Semantics.{Semantics}
 use Rattle.nf_msgs.specs.declared.answer.Answer.{Answer}
@@ -27,7 +28,7 @@ use Rattle.actor_net.proofs.EnabledChoices.{at}
 use Rattle.actor_net.proofs.StepOutcome.{Takes, taken_outcome}
 use Rattle.actor_net.proofs.WaitingMessages.{less_first}
 use Rattle.actor_net.proofs.WeightLaws.{EachSent, weigh, total, sent_weight, total_after}
-use Rattle.unit_machine.proofs.Labels.{Each}
+use Rattle.unit_machine.proofs.Labels.{Each, each_map}
 use Rattle.abstract_net.proofs.Waits.{Rising}
 use Rattle.net_world.specs.declared.config.Config.{Config}
 use Rattle.net_world.specs.declared.node.Node.{Node}
@@ -58,10 +59,6 @@ abbrev asking : Msg → ℕ
 asking (msg.InCommand c) = 1
 asking m = 0
 
-if_zero : (b : Bool) → ◌≡◌ {A = ℕ} (if b then 0 else 0) 0
-if_zero true = refl
-if_zero false = refl
-
 module _ {R : Type 0} (f : Semantics R) (g : Given) where
   -- answers go from the controller to the switch
   no_answer_from : (k r : ℕ) (m : Msg) → k ≢ 1 → Label f g k r m → answering m ≡ 0
@@ -77,7 +74,7 @@ module _ {R : Type 0} (f : Semantics R) (g : Given) where
   none_sent n k (x ∷ xs) other h =
       let own = no_answer_from k x.0 x.1 other h.0 in
       let rest = none_sent n k xs other h.1 in
-      rw (own, rest, if_zero (reaches n k x.0)) refl
+      rw (own, rest, cond-same (reaches n k x.0) 0) refl
 
   pub items_none : (items : List Msg) → Each (Label f g 0 0) items → weigh answering items ≡ 0
   items_none [] h = refl
@@ -133,15 +130,11 @@ each_behind : {X : Type 0} (P : X → Type 0) (xs ys : List X) → Each P (xs ++
 each_behind P [] ys h = h
 each_behind P (x ∷ xs) ys h = each_behind P xs ys h.1
 
-pub each_map : {X : Type 0} (P Q : X → Type 0) → ((x : X) → P x → Q x) → (xs : List X) → Each P xs → Each Q xs
-each_map P Q more [] h = tt
-each_map P Q more (x ∷ xs) h = (more x h.0, each_map P Q more xs h.1)
-
 module _ {F R : Type 0} (g : Given) (w : Network (Node F R) Msg Note) (b : Busy g w) where
   -- what waits in the input isn't answered
   unanswered : Each (λ c. has_answered c.op w.log ≡ false) (commands (waiting w (at 0 0)))
   unanswered = low_commands (λ k. has_answered k w.log ≡ false) (waiting w (at 0 0))
-      (each_map (λ k. b.is.next ≤ k) (λ k. has_answered k w.log ≡ false) (λ k low. (or_off _ (has_answered k w.log) (b.is.unnoted k low)).1) (picked told_in (waiting w (at 0 0)))
+      (each_map {P = (λ k. b.is.next ≤ k)} {Q = (λ k. has_answered k w.log ≡ false)} (λ k low. (or_off _ (has_answered k w.log) (b.is.unnoted k low)).1) (picked told_in (waiting w (at 0 0)))
       (each_behind (λ k. b.is.next ≤ k) (picked told_in (waiting w (at 1 0))) (picked told_in (waiting w (at 0 0))) (rising_each b.is.next b.is.next (waits_of w) (omega arith) b.is.rising)))
 
   module _ (items : List Msg) (h : Counted items w) where

@@ -3,6 +3,7 @@ use Rattle.std.proofs.Common.{◌≡◌, ℕ, ◌+◌, Bool, true, false, Some, 
 use Rattle.std.specs.Prelude.{if◌then◌else◌, ◌&&◌}
 use Rattle.std.specs.declared.alloc.Global.{Global}
 use Rattle.std.specs.Option.{option_map_or}
+use Rattle.std.proofs.lemmas.Bool.{and_parts}
 use Rattle.nf_function.specs.declared.unit.Unit as units
 use Rattle.nf_function.specs.Records.{Laws as FunctionLaws}
 use Rattle.nf_function.specs.Semantics.{Semantics}
@@ -25,7 +26,7 @@ use Rattle.net_world.specs.Fold.{is_of}
 use Rattle.net_world.specs.Input.{packet_of, IsInput}
 use Rattle.net_world.specs.Nodes.{node_step, node_ready}
 use Rattle.net_world.specs.Places.{owner, members, member_for, goes_to, unit_numbered}
-use Rattle.outline_net.proofs.FiltersApart.{and_l, and_r, is_whole, unit_fits}
+use Rattle.outline_net.proofs.FiltersApart.{is_whole, unit_fits}
 use Rattle.outline_net.proofs.Outline.{is_sys}
 use Rattle.whole_joined.proofs.Given.{Given}
 use Rattle.whole_joined.proofs.Joined.{S, A, Joined}
@@ -71,7 +72,7 @@ module _ {F R : Type 0} (f : Semantics R) (c : Config) (items : List Msg) (is : 
     its_here = record { found = k.holds.share; takes = k.covered; home_in = k.is.home_in }
 
     fits_here : unit_fits f.kind u ≡ true
-    fits_here = and_l (unit_fits f.kind u) (takes x.filter u) (and_r (is_whole f.kind x.filter) (unit_fits f.kind u && takes x.filter u) k.covered)
+    fits_here = (and_parts (unit_fits f.kind u) (takes x.filter u) (and_parts (is_whole f.kind x.filter) (unit_fits f.kind u && takes x.filter u) k.covered).1).0
 
     target : (d : Bool) → diverts ≡ d → j.world.target u ≡ (if d then 1 else x.home)
     target d is_so = k.holds.target ∙ ap (λ t. if t then 1 else x.home) is_so

@@ -5,6 +5,7 @@ use Rattle.std.specs.declared.alloc.Global.{Global}
 use Rattle.std.specs.Ordering.{nat_cmp}
 use Rattle.std.specs.FinMap as finite
 use Rattle.std.proofs.lemmas.Bool.Decides.{nat_tests, Decides-eqb, Decides-ltb}
+use Rattle.std.proofs.lemmas.Bool.{and_parts}
 use Rattle.flow_filter.specs.declared.filter.Filter.{Filter}
 use Rattle.nf_function.specs.declared.output.Output.{Output}
 use Rattle.nf_function.specs.Records.{Laws as FunctionLaws}
@@ -40,7 +41,6 @@ use Rattle.answer_net.proofs.BusyNodes.{switch_hands, instance_says}
 use Rattle.answer_net.proofs.BusyRuns.{Busy, same_controller, busy_next}
 use Rattle.answer_net.proofs.CommandPromises.{run_busy}
 use Rattle.answer_net.proofs.ControllerActs.{IsEarly, Was, Was.Was_open, Was.Begins_now, Says_so, Says_so.Neither, Says_so.Begins, Says_so.Answers, Acts, controller_acts}
-use Rattle.outline_net.proofs.FiltersApart.{and_l, and_r}
 use Rattle.whole_joined.proofs.HandedUnits.{owner_next}
 use Rattle.answer_net.proofs.InstallCounts.{passed}
 use Rattle.whole_joined.proofs.KnownOperations.{known}
@@ -51,8 +51,7 @@ use Rattle.whole_joined.proofs.JoinedSteps.{scene}
 use Rattle.whole_joined.proofs.NodeSteps.{Wants, node_leads}
 use Rattle.answer_net.proofs.MovesUnderWay.{AreUnderWay, moves_under_way}
 use Rattle.whole_joined.proofs.OwnerLemmas.{installed_none, Stands, In_first, In_second, stands, each_there}
-use Rattle.whole_joined.proofs.PlaceNotes.{switch_unprocessed, controller_uninstalled}
-use Rattle.nf_net.proofs.PlaceRuns.{uninstalled_unprocessed}
+use Rattle.whole_joined.proofs.PlaceNotes.{switch_unprocessed, controller_uninstalled, uninstalled_unprocessed}
 use Rattle.whole_joined.proofs.RunsJoined.{Runs, run_beside}
 use Rattle.nf_net.proofs.InstalledShares.{Alone, Is_it, alone}
 use Rattle.nf_net.proofs.NumberedUnits.{units_fit}
@@ -210,8 +209,8 @@ module _ (F : Type 0) {R : Type 0} (f : Semantics R) (laws : FunctionLaws f) (al
               let order_is = of.order in
               let from_is = of.from in
               let both : takes_unit x.plan.filter (unit_numbered c items f.kind number) && (owner c items (unit_numbered c items f.kind number) first == x.plan.from) ≡ true = rw (order_is, from_is) at away in
-              let owned = (Decides-eqb (owner c items (unit_numbered c items f.kind number) first) x.plan.from).0 (and_r (takes_unit x.plan.filter (unit_numbered c items f.kind number)) _ both) in
-              let stayed = kept op x got early first between (unit_numbered c items f.kind number) whole (units_fit f c items is number) (and_l (takes_unit x.plan.filter (unit_numbered c items f.kind number)) _ both) owned in
+              let owned = (Decides-eqb (owner c items (unit_numbered c items f.kind number) first) x.plan.from).0 (and_parts (takes_unit x.plan.filter (unit_numbered c items f.kind number)) _ both).1 in
+              let stayed = kept op x got early first between (unit_numbered c items f.kind number) whole (units_fit f c items is number) (and_parts (takes_unit x.plan.filter (unit_numbered c items f.kind number)) _ both).0 owned in
               each_there (Is_at f c items (unit_numbered c items f.kind number) x.plan.from) front (note.Processed number i output) behind (subst (λ ns. Are_at f c items (unit_numbered c items f.kind number) x.plan.from ns) e stayed.1) refl ∙ sym owned
 
           -- a command that isn't open would be answered twice

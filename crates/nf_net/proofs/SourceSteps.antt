@@ -1,9 +1,11 @@
 -- As long as a move hasn't changed the rules, a unit that it takes from its source stays with the source: what each node's step keeps of it.
-use Rattle.std.proofs.Common.{◌≡◌, ◌≢◌, ℕ, suc, Bool, true, false, Option, Some, None, List, [], ◌∷◌, ◌++◌, append_assoc, refl, sym, ap, ◌∙◌, subst, arith}
+use Rattle.std.proofs.Common.{◌≡◌, ◌≢◌, ℕ, suc, true, false, Option, Some, None, List, [], ◌∷◌, ◌++◌, append_assoc, refl, sym, ap, ◌∙◌, subst, arith}
 use Rattle.std.specs.Prelude.{◌&&◌, ◌||◌, ◌==◌}
 use Rattle.std.specs.List.{filter_map}
 use Rattle.std.specs.FinMap as finite
 use Rattle.std.proofs.lemmas.Bool.Decides.{nat_tests}
+use Rattle.std.proofs.lemmas.List.{append_cancel_left}
+use Rattle.std.proofs.Math.Bool.{or-true}
 use Rattle.flow_filter.specs.declared.filter.Filter.{Filter}
 use Rattle.nf_function.specs.declared.output.Output.{Output}
 use Rattle.nf_function.specs.declared.unit.Unit as units
@@ -28,6 +30,7 @@ use Rattle.actor_net.specs.Network.{Network, waiting}
 use Rattle.actor_net.proofs.EnabledChoices.{at as at_node}
 use Rattle.unit_machine.proofs.Labels.{Each, each-append}
 use Rattle.unit_machine.proofs.Real as real
+use Rattle.unit_machine.proofs.Rests.{behind_nil}
 use Rattle.abstract_net.proofs.Net as net
 use Rattle.abstract_net.proofs.Net.{Open, find_op}
 use Rattle.abstract_net.proofs.Rest.{none_mine}
@@ -62,11 +65,6 @@ use Rattle.nf_net.proofs.MembersServed.{mine_there, unseen_ran}
 use Rattle.nf_net.proofs.NumberedUnits.{Ran_there, ran_there}
 use Rattle.nf_net.proofs.UnitShares.{owner_goes}
 
--- what is left of a list behind a front
-behind_front : {X : Type 0} (xs ys zs : List X) → xs ++ ys ≡ xs ++ zs → ys ≡ zs
-behind_front [] ys zs e = e
-behind_front (x ∷ xs) ys zs e = let tail : xs ++ ys ≡ xs ++ zs = cc in behind_front xs ys zs tail
-
 -- a fact of each element, by where it stands
 each_by : {X : Type 0} (P : X → Type 0) (front xs whole : List X) → whole ≡ front ++ xs → ((before after : List X) (x : X) → whole ≡ before ++ x ∷ after → P x) → Each P xs
 each_by P front [] whole e all = tt
@@ -75,11 +73,7 @@ each_by P front (x ∷ xs) whole e all = (all front xs x e, each_by P (front ++ 
 pub began_there : (op : ℕ) (front back : List Note) → began op (front ++ note.Begun op ∷ back) ≡ true
 began_there op front back =
     let self : (op == op) ≡ true = grind (arith, nat_tests) in
-    has_begun-append (λ k. k == op) front (note.Begun op ∷ back) ∙ ap (λ b. began op front || (b || began op back)) self ∙ or_true (began op front)
-  where
-    or_true : (b : Bool) → b || true ≡ true
-    or_true true = refl
-    or_true false = refl
+    has_begun-append (λ k. k == op) front (note.Begun op ∷ back) ∙ ap (λ b. began op front || (b || began op back)) self ∙ or-true (began op front)
 
 -- a phase before the change of the rules, as the proof of moves sees it
 early_outline : {R : Type 0} (f : Semantics R) (place : List ℕ → Option ℕ) (ph : Phase) → passed ph ≡ 0 → is_early_real (outline_phase f place ph) ≡ true
@@ -133,7 +127,7 @@ module _ {R : Type 0} (f : Semantics R) (c : Config) (items : List Msg) where
           let old = h first cs u here fits taken owned in
           let new = leaves u fits taken old.0 in
           let both : first ++ (note.Begun op ∷ (cs ++ notes)) ≡ first ++ (note.Begun op ∷ rest) = sym (ap (λ l. l ++ notes) here ∙ append_assoc first (note.Begun op ∷ cs) notes) ∙ e in
-          let tail = behind_front first (note.Begun op ∷ (cs ++ notes)) (note.Begun op ∷ rest) both in
+          let tail = append_cancel_left first (note.Begun op ∷ (cs ++ notes)) (note.Begun op ∷ rest) both in
           let same : cs ++ notes ≡ rest = cc in
           (new.0, subst (λ ns. Are_at u i ns) same (each-append (Is_at u i) cs notes old.1 new.1))
       by_place (In_second cs from there) = let never : true ≡ false = sym (began_there op cs rest) ∙ ap (began op) (sym there) ∙ none in cc
@@ -210,10 +204,6 @@ module _ {F R : Type 0} (f : Semantics R) (laws : FunctionLaws f) (c : Config) (
         not_input : (p == 0) && (k == 0) ≡ false
         not_input = grind (arith, nat_tests)
 
-        none_among : (xs ys : List ℕ) (q : ℕ) → [] ≡ xs ++ q ∷ ys → ⊥
-        none_among [] ys q e = cc
-        none_among (x ∷ xs) ys q e = cc
-
         module _ (before after : List Note) (number i : ℕ) (output : Output) (e : notes ≡ before ++ note.Processed number i output ∷ after) (mine : (S f g).unit_of number ≡ u) where
           stood : Ran_there (filter_map ran_in notes) number
           stood = subst (λ ns. Ran_there (filter_map ran_in ns) number) (sym e) (ran_there before number i output after)
@@ -231,7 +221,7 @@ module _ {F R : Type 0} (f : Semantics R) (laws : FunctionLaws f) (c : Config) (
           by_seen (New m) waits ran = absurd (not_shared m waits (subst (λ v. none_mine (S f g) u v ≢ []) ran some) (j.shown_is.every.unit u))
 
           node_is : Ran_as f laws g (all_fit f c items is) own message → k ≡ is_open.e.op.src
-          node_is (Unseen none) = absurd (none_among stood.front stood.back number (sym none ∙ stood.whole))
+          node_is (Unseen none) = absurd (behind_nil stood.front number stood.back (sym (sym none ∙ stood.whole)))
           node_is (Seen a shown_as ran) = by_seen a (is_taken.head not_input a shown_as) (ran ∙ ap (λ x. ran_any f g x own.table.standby a) at.outline_is ∙ ap (λ t. ran_any f g (j.world.inst k) t a) at.standby_is)
 
         one_at : (before after : List Note) (x : Note) → notes ≡ before ++ x ∷ after → Is_at f c items u m.plan.from x

@@ -6,6 +6,7 @@ use Rattle.std.specs.List.{list_any, IsDistinct, AllByRecursion}
 use Rattle.std.specs.Map.{keys_of}
 use Rattle.std.specs.FinMap as finite
 use Rattle.std.proofs.lemmas.Map.Keys.{IsDistinct-head, IsDistinct-tail}
+use Rattle.std.proofs.Math.Bool.{or-false}
 use Rattle.flow_filter.specs.declared.filter.Filter.{Filter}
 use Rattle.nf_function.specs.declared.chunk.Chunk.{Chunk}
 use Rattle.nf_function.specs.declared.unit.Unit as units
@@ -23,7 +24,7 @@ use Rattle.nf_msgs.specs.declared.msg.Piece.{Piece}
 use Rattle.nf_msgs.specs.Exports.{units_in}
 use Rattle.instance_worker.specs.declared.pieces.WholePieces.{WholePieces}
 use Rattle.instance_worker.specs.Pieces.{newest_version, piece_of, pieces_from, whole_of, pieces}
-use Rattle.unit_machine.proofs.Labels.{Each}
+use Rattle.unit_machine.proofs.Labels.{Each, each_map}
 use Rattle.unit_machine.proofs.Real.{Chunks}
 use Rattle.net_world.specs.declared.config.Config.{Config}
 use Rattle.net_world.specs.Input.{packet_of}
@@ -78,10 +79,6 @@ module _ {R : Type 0} (f : Semantics R) (laws : FunctionLaws f) where
     version = newest_made f laws es ∙ newest_is test es h ∙ ap (λ us. version_number (list_any test us)) (sym (units_made es));
   }
 
-each_less : {X : Type 0} (P Q : X → Type 0) → ((x : X) → P x → Q x) → (xs : List X) → Each P xs → Each Q xs
-each_less P Q h [] ps = tt
-each_less P Q h (x ∷ xs) ps = (h x ps.0, each_less P Q h xs ps.1)
-
 -- Each entry of a map is found.
 module _ {R : Type 0} where
   found_more : (e : units.Unit × R) (es xs : Chunks R) → AllByRecursion (λ v. same_unit e.0 v ≡ false) (keys_of xs) → Each (λ x. at es x.0 ≡ Some x.1) xs → Each (λ x. at (e ∷ es) x.0 ≡ Some x.1) xs
@@ -102,7 +99,7 @@ module _ {R : Type 0} where
   )
 
   pub entries_found : (m : Records R) → Each (λ e. finite.get m e.0 ≡ Some e.1) (finite.entries m)
-  entries_found m = each_less (λ x. at (finite.entries m) x.0 ≡ Some x.1) (λ e. finite.get m e.0 ≡ Some e.1) (λ e h. finite.get-entries m e.0 ∙ h) (finite.entries m) (found_distinct (finite.entries m) (distinct_entries m))
+  entries_found m = each_map {P = (λ x. at (finite.entries m) x.0 ≡ Some x.1)} {Q = (λ e. finite.get m e.0 ≡ Some e.1)} (λ e h. finite.get-entries m e.0 ∙ h) (finite.entries m) (found_distinct (finite.entries m) (distinct_entries m))
 
   some_of : (b : Bool) (o : Option R) (r : R) → cond b o None ≡ Some r → o ≡ Some r
   some_of true o r h = h
@@ -110,12 +107,12 @@ module _ {R : Type 0} where
 
   -- and those that a filter takes are those of the map
   pub taken_found : (g : Filter) (live : Records R) → Each (λ e. finite.get live e.0 ≡ Some e.1) (finite.entries (taken_by g live))
-  taken_found g live = each_less (λ e. finite.get (taken_by g live) e.0 ≡ Some e.1) (λ e. finite.get live e.0 ≡ Some e.1) (λ e h. some_of (takes g e.0) (finite.get live e.0) e.1 (sym (finite.get-retain_keys live (takes g) e.0 (λ x same. ap (takes g) (sym (one_unit e.0 x same)))) ∙ h)) (finite.entries (taken_by g live)) (entries_found (taken_by g live))
+  taken_found g live = each_map {P = (λ e. finite.get (taken_by g live) e.0 ≡ Some e.1)} {Q = (λ e. finite.get live e.0 ≡ Some e.1)} (λ e h. some_of (takes g e.0) (finite.get live e.0) e.1 (sym (finite.get-retain_keys live (takes g) e.0 (λ x same. ap (takes g) (sym (one_unit e.0 x same)))) ∙ h)) (finite.entries (taken_by g live)) (entries_found (taken_by g live))
 
 module _ {R : Type 0} (f : Semantics R) (laws : FunctionLaws f) where
   -- what an instance gives, where a test tells which of its records have a time
   pub selected_give : (g : Filter) (live : Records R) (test : units.Unit → Bool) → ((u : units.Unit) (r : R) → finite.get live u ≡ Some r → f.is_timed r ≡ test u) → Gives f laws test (chunks_of f (taken_by g live))
-  selected_give g live test h = entries_give f laws test (finite.entries (taken_by g live)) (each_less (λ e. finite.get live e.0 ≡ Some e.1) (λ e. f.is_timed e.1 ≡ test e.0) (λ e there. h e.0 e.1 there) (finite.entries (taken_by g live)) (taken_found g live))
+  selected_give g live test h = entries_give f laws test (finite.entries (taken_by g live)) (each_map {P = (λ e. finite.get live e.0 ≡ Some e.1)} {Q = (λ e. f.is_timed e.1 ≡ test e.0)} (λ e there. h e.0 e.1 there) (finite.entries (taken_by g live)) (taken_found g live))
 
   module _ (c : Config) (items : List Msg) (fitting : (number : ℕ) → Fits c.site (packet_of items number)) where
     abbrev pub is_late : ℕ → Bool
@@ -159,9 +156,5 @@ module _ {R : Type 0} (f : Semantics R) (laws : FunctionLaws f) where
         ∙ ap (λ b. kind_times && (list_any is_late ps || b)) times
         ∙ later kind_times (is_late p) (list_any is_late ps) (is_timed_kept f kept)
 
-    or_false : (b : Bool) → b || false ≡ b
-    or_false true = refl
-    or_false false = refl
-
     pub record_timed : (ps : List ℕ) (r : R) → fold f c items None ps ≡ Some r → f.is_timed r ≡ kind_times && list_any is_late ps
-    record_timed ps r h = ap (is_timed_kept f) (sym h) ∙ fold_timed None ps ∙ ap (λ b. kind_times && b) (or_false (list_any is_late ps))
+    record_timed ps r h = ap (is_timed_kept f) (sym h) ∙ fold_timed None ps ∙ ap (λ b. kind_times && b) (or-false (list_any is_late ps))

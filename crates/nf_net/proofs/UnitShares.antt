@@ -1,6 +1,6 @@
 -- The share of a unit in a world of a run: a share that the switch has installed is open, and of all open ones it alone takes its units. So what
 -- the log says of the unit's members is what the controller serves.
-use Rattle.std.proofs.Common.{◌≡◌, ℕ, zero, suc, ◌+◌, ◌<◌, ◌≤◌, inl, inr, Bool, true, false, Option, Some, None, List, [], ◌∷◌, map, length, refl, sym, ap, ◌∙◌, subst, arith}
+use Rattle.std.proofs.Common.{◌≡◌, ℕ, zero, ◌+◌, ◌<◌, ◌≤◌, inl, inr, Bool, true, false, Option, Some, None, List, [], ◌∷◌, map, length, refl, sym, ap, ◌∙◌, subst, arith}
 use Rattle.std.specs.Prelude.{if◌then◌else◌, ◌&&◌, ◌||◌, ◌==◌, ◌%◌, not, find, is_some, slice_index, slice_index_or}
 use Rattle.std.specs.List.{filter_map}
 use Rattle.std.specs.FinMap as finite
@@ -13,7 +13,6 @@ use Rattle.flow_filter.specs.Flow.{flow_of}
 use Rattle.nf_function.specs.declared.unit.Unit as units
 use Rattle.nf_function.specs.Semantics.{Semantics}
 use Rattle.nf_function.specs.Units.{takes}
-use Rattle.nf_msgs.specs.declared.answer.Answer.{Answer}
 use Rattle.nf_msgs.specs.declared.answer.Answer.TheVariants.{Done}
 use Rattle.nf_msgs.specs.declared.command.Order.TheVariants as order
 use Rattle.nf_msgs.specs.declared.msg.Msg.{Msg}
@@ -46,7 +45,7 @@ use Rattle.net_world.specs.Places.{first_owner, is_home, owner, members, member_
 use Rattle.outline_net.proofs.FiltersApart.{unit_fits, takes_whole, takes_same, filters_apart}
 use Rattle.outline_net.proofs.Outline.{is_sys}
 use Rattle.whole_outline.proofs.OpenShares.{Both, both, Real_share, real_share}
-use Rattle.whole_outline.proofs.ShareOutline.{share_phase}
+use Rattle.whole_outline.proofs.ShareOutline.{share_phase, index_same}
 use Rattle.whole_joined.proofs.Given.{Given, place, is_diverted}
 use Rattle.whole_joined.proofs.Joined.{S, A, IsShare, Joined, came_by}
 use Rattle.whole_joined.proofs.OperationsApart.{AreApart, AllApart}
@@ -54,7 +53,7 @@ use Rattle.whole_joined.proofs.ShareBegins.{names_known}
 use Rattle.whole_joined.proofs.StartJoined.{given}
 use Rattle.answer_net.proofs.BusyLemmas.{unanswered}
 use Rattle.answer_net.proofs.BusyRuns.{Busy, same_controller, keeps_is, plan_is, told_is, open_began}
-use Rattle.answer_net.proofs.InstallRuns.{Installs}
+use Rattle.answer_net.proofs.InstallRuns.{Installs, dones_still}
 use Rattle.answer_net.proofs.InstallSteps.{is_moving, dones, open_in}
 use Rattle.answer_net.proofs.ShareTells.{is_set_up}
 use Rattle.nf_net.proofs.MemberLemmas.{IsThere, There, is_there, IsSharedBy, shared_by, members_diverted, Installed_in, installed_in, times_there, home_first, member_at}
@@ -86,15 +85,6 @@ serving_diverts f (Resting d a v) e = refl
 serving_diverts f (Forwards d a p q v) e = refl
 serving_diverts f (Carries d a p q v) e = refl
 serving_diverts f (Chunk_comes d a p q v) e = refl
-
-dones_still : (xs : List Answer) → dones false xs ≡ 0
-dones_still [] = refl
-dones_still (x ∷ xs) = let rest = dones_still xs in omega (arith, rest)
-
-index_same : (ms : List ℕ) (i : ℕ) → i < length ms → slice_index (map instance_node ms) i ≡ instance_node (slice_index ms i)
-index_same [] i low = absurd (omega (arith, low))
-index_same (m ∷ ms) zero low = refl
-index_same (m ∷ ms) (suc i) low = index_same ms i (omega (arith, low))
 
 both_so : (a s b : Bool) → a ≡ true → s ≡ true → a && (s || b) ≡ true
 both_so true true b h k = refl

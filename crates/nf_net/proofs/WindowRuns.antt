@@ -35,16 +35,18 @@ use Rattle.whole_joined.proofs.Joined.{Label, Joined, node_of}
 use Rattle.whole_joined.proofs.BesideRuns.{its_takes, its_label, its_labels}
 use Rattle.whole_joined.proofs.RunsJoined.{Runs, runs_at_start, runs_next, run_beside, start_world}
 use Rattle.answer_net.proofs.CreditCounts.{credit, no_credit_from, no_credit_to, none_sent, instance_is}
-use Rattle.nf_net.proofs.WindowSteps.{controller_came, controller_went, switch_counts}
+use Rattle.answer_net.proofs.ArrivalNotes.{controller_notes_none}
+use Rattle.nf_net.proofs.WindowSteps.{switch_counts}
 use Rattle.nf_net.proofs.PacketCounts.{few_done}
+use Rattle.nf_net.proofs.AnsweredNotes.{controller_none}
 
 -- what holds of the switch and the log of each world of a run
-record InWindow (window : ℕ) {F R : Type 0} (w : Network (Node F R) Msg Note) : Type 0 where
-  switch : SwitchState
-  there : (d : Node F R) → get_or w.nodes 0 d ≡ Switch switch
-  cells : switch.pool.cells ≡ window
-  home : switch.flying + switch.pool.home ≡ window
-  balance : length (done w.log) + switch.flying ≡ length (arrived w.log) + total credit w
+pub record InWindow (window : ℕ) {F R : Type 0} (w : Network (Node F R) Msg Note) : Type 0 where
+  pub switch : SwitchState
+  pub there : (d : Node F R) → get_or w.nodes 0 d ≡ Switch switch
+  pub cells : switch.pool.cells ≡ window
+  pub home : switch.flying + switch.pool.home ≡ window
+  pub balance : length (done w.log) + switch.flying ≡ length (arrived w.log) + total credit w
 
 module _ {F R : Type 0} (f : Semantics R) (g : Given) (n : ℕ) (window : ℕ) where
   abbrev step : Node F R → ℕ → Msg → Stepped (Node F R) Msg Note
@@ -86,8 +88,8 @@ module _ {F R : Type 0} (f : Semantics R) (g : Given) (n : ℕ) (window : ℕ) w
       let left = taken_outcome step n w 1 p (node_of j.nodes 1) m rest takes in
       let none = no_credit_to f g p 1 m (omega arith) labelled in
       let sent = none_sent f g n 1 (step (node_of j.nodes 1) p m).sends (omega arith) labels in
-      let came = ap length (controller_came j.nodes.controller p m) in
-      let went = ap length (controller_went j.nodes.controller p m) in
+      let came = ap length (controller_notes_none j.nodes.controller p m) in
+      let went = ap length (controller_none j.nodes.controller p m) in
       record {
         switch = h.switch;
         there = λ d. left.others 0 d (omega arith) ∙ h.there d;
@@ -128,7 +130,7 @@ weigh_links (ms ∷ links) =
     omega (arith, own, rest, both)
 
 -- an input has no credits
-items_none : {R : Type 0} (f : Semantics R) (g : Given) (items : List Msg) → Each (Label f g 0 0) items → weigh credit items ≡ 0
+pub items_none : {R : Type 0} (f : Semantics R) (g : Given) (items : List Msg) → Each (Label f g 0 0) items → weigh credit items ≡ 0
 items_none f g [] h = refl
 items_none f g (m ∷ ms) h = let own = no_credit_from f g 0 0 m (omega arith) h.0 in let rest = items_none f g ms h.1 in omega (arith, own, rest)
 
@@ -154,7 +156,7 @@ module _ (F : Type 0) {R : Type 0} (f : Semantics R) (laws : FunctionLaws f) (al
       let fitting = all_fit f c items is in
       window_after f g nodes c.window w k.node k.port t.message t.rest r.joined (its_takes f laws g fitting nodes refl w k t r.joined r.beside) (its_label f laws g fitting nodes refl w k t r.joined r.beside) (its_labels f laws g fitting nodes refl w k t r.joined r.beside) (few_done f c items is nodes w r.joined) h
 
-  in_window : (cs : List Choice) → IsRun node_ready (node_step f) cs start → InWindow c.window (run (node_step f) cs start)
+  pub in_window : (cs : List Choice) → IsRun node_ready (node_step f) cs start → InWindow c.window (run (node_step f) cs start)
   in_window cs run_is = (run_induction node_ready (node_step f) nodes (λ _ w. Runs F f laws alloc c items is w × InWindow c.window w) start (λ _ w k next h. (runs_next F f laws alloc c items is w k next.taking h.0, window_next w k next.taking h.0 h.1)) (start_world F f laws alloc c items is) (count_at_start F f alloc c items is) (runs_at_start F f laws alloc c items is, window_at_start) cs run_is).1
 
   -- cells go home on links alone

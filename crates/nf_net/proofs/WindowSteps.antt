@@ -1,106 +1,24 @@
 -- What each step keeps of the window: of the packets that came, those under way are as many as the switch counts and as cells aren't at
 -- home; a cell that goes home is still counted until the switch has it.
-use Rattle.std.proofs.Common.{◌≡◌, ℕ, ◌+◌, ◌<◌, ◌≤◌, Bool, true, false, Option, Some, None, List, [], ◌∷◌, length, refl, ap, ◌∙◌, arith}
+use Rattle.std.proofs.Common.{◌≡◌, ℕ, ◌+◌, ◌<◌, ◌≤◌, true, false, List, [], ◌∷◌, length, refl, ap, ◌∙◌, arith}
 use Rattle.std.specs.Prelude.{if◌then◌else◌, ◌==◌, ◌&&◌, nat_lt}
-use Rattle.std.specs.FinMap as finite
 use Rattle.std.proofs.lemmas.Bool.Decides.{nat_tests, Decides-eqb}
 use Rattle.flow_filter.specs.declared.filter.Filter.{Filter}
 use Rattle.flow_filter.specs.declared.packet.Packet.{Packet}
 use Rattle.event_filter.specs.declared.mark.Mark.TheVariants as mark
-use Rattle.flow_filter.specs.Flow.{flow_of}
 use Rattle.packet_pool.specs.Pool.{FullCell}
 use Rattle.switch_rules.specs.declared.target.Target.{Target}
 use Rattle.switch_rules.specs.declared.target.Target.TheVariants as target
 use Rattle.switch_rules.specs.Rules.{redirected}
-use Rattle.nf_msgs.specs.declared.answer.Answer.{Answer}
-use Rattle.nf_msgs.specs.declared.command.Command.{Command}
-use Rattle.nf_msgs.specs.declared.command.Order.{Order}
-use Rattle.nf_msgs.specs.declared.command.Order.TheVariants as order
 use Rattle.nf_msgs.specs.declared.msg.Msg.{Msg}
 use Rattle.nf_msgs.specs.declared.msg.Msg.TheVariants as msg
 use Rattle.nf_msgs.specs.declared.note.Note.{Note}
 use Rattle.nf_msgs.specs.declared.note.Note.TheVariants as note
 use Rattle.nf_msgs.specs.Nodes.{instance_node}
-use Rattle.nf_msgs.specs.Shown.{op_of}
 use Rattle.switch_node.specs.Switch as switch
 use Rattle.switch_node.specs.Switch.{SwitchState, switch_step, still, sends_to_instance, target_of, has_room, goes_to, is_there}
-use Rattle.ctrl_node.specs.Operations.{Turn, turn_of, share_of}
-use Rattle.ctrl_node.specs.Controller as controller
-use Rattle.ctrl_node.specs.Controller.{ControllerState, controller_step, row, on_asked, decided, begins, begins_between, copies_between, begins_share, queued, on_diverted, refusal, on_event, on_final, instance_at, numbered, after_turn, handed}
 use Rattle.net_world.specs.Log.{arrived, done}
 use Rattle.answer_net.proofs.CreditCounts.{credit}
-
--- The controller notes no packet.
-record IsSilent (step : controller.Step) : Type 0 where
-  came : arrived step.notes ≡ []
-  went : done step.notes ≡ []
-
-nothing_noted : (c : ControllerState) (sends : List (ℕ × Msg)) → IsSilent (record { node = c; sends = sends; notes = [] })
-nothing_noted c sends = record { came = refl; went = refl }
-
-module _ (c : ControllerState) where
-  after_is : (op : ℕ) (turn : Turn) (o : Option Answer) → IsSilent (after_turn c op turn o)
-  after_is op turn None = record { came = refl; went = refl }
-  after_is op turn (Some answer) = record { came = refl; went = refl }
-
-  handed_is : (op port : ℕ) (m : Msg) → IsSilent (handed c op port m)
-  handed_is op port m = let turn = turn_of (finite.get c.operations op) c.store port m in let after = after_is op turn turn.answer in record { came = after.came; went = after.went }
-
-  numbered_is : (port : ℕ) (m : Msg) (o : Option ℕ) → IsSilent (numbered c port m o)
-  numbered_is port m None = record { came = refl; went = refl }
-  numbered_is port m (Some op) = handed_is op port m
-
-  between_is : (op : ℕ) (filter : Filter) (keep : Bool) (a b : Option ℕ) → IsSilent (begins_between c op filter keep a b)
-  between_is op filter keep (Some a) (Some b) = record { came = refl; went = refl }
-  between_is op filter keep None b = record { came = refl; went = refl }
-  between_is op filter keep (Some a) None = record { came = refl; went = refl }
-
-  copies_is : (op : ℕ) (filter : Option Filter) (a b : Option ℕ) → IsSilent (copies_between c op filter a b)
-  copies_is op filter (Some a) (Some b) = record { came = refl; went = refl }
-  copies_is op filter None b = record { came = refl; went = refl }
-  copies_is op filter (Some a) None = record { came = refl; went = refl }
-
-  shares_is : (op : ℕ) (filter : Filter) (members : List ℕ) → IsSilent (begins_share c op filter members)
-  shares_is op filter [] = record { came = refl; went = refl }
-  shares_is op filter (home ∷ others) = record { came = refl; went = refl }
-
-  diverted_is : (cell : FullCell) (o : Option ℕ) → IsSilent (queued c cell o)
-  diverted_is cell None = record { came = refl; went = refl }
-  diverted_is cell (Some op) = record { came = refl; went = refl }
-
-  begins_is : (op : ℕ) (what : Order) → IsSilent (begins c op what)
-  begins_is op (order.Move source destination filter keep) = between_is op filter keep _ _
-  begins_is op (order.Copy source destination filter) = copies_is op filter _ _
-  begins_is op (order.Share members filter) = shares_is op filter _
-
-  decided_is : (op : ℕ) (what : Order) (o : Option Answer) → IsSilent (decided c op what o)
-  decided_is op what (Some answer) = record { came = refl; went = refl }
-  decided_is op what None = begins_is op what
-
-  asked_is : (k : Command) → IsSilent (on_asked c k)
-  asked_is k = elim (finite.contains_key c.operations k.op) as (λ b. IsSilent (if b then controller.still c else decided c k.op k.what (refusal c k.what))) [ true ↦ nothing_noted c [] | false ↦ decided_is k.op k.what (refusal c k.what) ]
-
-  event_is : (port op : ℕ) (cell : FullCell) (o : Option ℕ) → IsSilent (on_event c port op cell o)
-  event_is port op cell None = nothing_noted c []
-  event_is port op cell (Some instance) = elim (finite.contains_key c.operations op) as (λ b. IsSilent (if b then handed c op port (msg.Event op cell) else record { node = c; sends = (0, msg.Forward instance (mark.Pass op) cell) ∷ []; notes = [] })) [ true ↦ handed_is op port (msg.Event op cell) | false ↦ nothing_noted c ((0, msg.Forward instance (mark.Pass op) cell) ∷ []) ]
-
-  final_is : (o : Option ℕ) → IsSilent (on_final c o)
-  final_is None = nothing_noted c []
-  final_is (Some instance) = nothing_noted _ []
-
-  row_is : (port : ℕ) (m : Msg) → IsSilent (row c port m)
-  row_is port (msg.Asked k) = elim (port == 0) as (λ b. IsSilent (if b then on_asked c k else controller.still c)) [ true ↦ asked_is k | false ↦ nothing_noted c [] ]
-  row_is port (msg.Diverted cell) = elim (port == 0) as (λ b. IsSilent (if b then on_diverted c cell else controller.still c)) [ true ↦ diverted_is cell (share_of c.operations (flow_of c.site cell.packet).0) | false ↦ nothing_noted c [] ]
-  row_is port msg.End = elim (port == 0) as (λ b. IsSilent (if b then controller.still (record c { end_came = true }) else controller.still c)) [ true ↦ nothing_noted _ [] | false ↦ nothing_noted c [] ]
-  row_is port (msg.Event op cell) = event_is port op cell (instance_at c port)
-  row_is port msg.Final = final_is (instance_at c port)
-  row_is port m = numbered_is port m (op_of m)
-
-  pub controller_came : (port : ℕ) (m : Msg) → arrived (controller_step c port m).notes ≡ []
-  controller_came port m = (row_is port m).came
-
-  pub controller_went : (port : ℕ) (m : Msg) → done (controller_step c port m).notes ≡ []
-  controller_went port m = (row_is port m).went
 
 -- The switch counts what came and what comes home.
 pub record Counts (window : ℕ) (s : SwitchState) (m : Msg) (step : switch.Step) : Type 0 where

@@ -3,6 +3,7 @@ use Rattle.std.proofs.Common.{◌≡◌, ℕ, ◌<◌, ◌^◌, Bool, true, fals
 use Rattle.std.specs.Prelude.{◌&&◌, ◌||◌, not, nat_lt, is_some}
 use Rattle.std.specs.Option.{ForSome}
 use Rattle.std.proofs.lemmas.Bool.Decides.{Decides-ltb}
+use Rattle.std.proofs.lemmas.Bool.{not-true, and_parts}
 use Rattle.flow_filter.specs.declared.filter.Filter.{Filter}
 use Rattle.flow_filter.specs.declared.flow.Flow.{Flow}
 use Rattle.flow_filter.specs.declared.prefix.Prefix.{Prefix}
@@ -46,14 +47,6 @@ unit_fits kind (OfHost host) = has_hosts kind && nat_lt host (2 ^ 32)
 abbrev pub takes_whole : Kind → Filter → units.Unit → Bool
 takes_whole kind g u = is_whole kind g && (unit_fits kind u && takes g u)
 
-pub and_l : (a b : Bool) → a && b ≡ true → a ≡ true
-and_l true b e = refl
-and_l false b e = cc
-
-pub and_r : (a b : Bool) → a && b ≡ true → b ≡ true
-and_r true b e = e
-and_r false b e = cc
-
 number_is : (top : ℕ) (o : Option ℕ) → number_fits top o ≡ true → ForSome o (λ n. n < top)
 number_is top None e n is = cc
 number_is top (Some m) e n is = (Decides-ltb n top).0 (let same : m ≡ n = cc in subst (λ k. nat_lt k top ≡ true) same e)
@@ -64,28 +57,28 @@ prefix_is (Some q) e p is = (Decides-ltb p.bits (2 ^ 32)).0 (let same : q ≡ p 
 
 pub filter_is : (g : Filter) → filter_fits g ≡ true → IsFilter g
 filter_is g e =
-    let a = and_r (number_fits (2 ^ 8) g.proto) _ e in
-    let b = and_r (prefix_fits g.local) _ a in
-    let c = and_r (number_fits (2 ^ 16) g.lport) _ b in
+    let a = (and_parts (number_fits (2 ^ 8) g.proto) _ e).1 in
+    let b = (and_parts (prefix_fits g.local) _ a).1 in
+    let c = (and_parts (number_fits (2 ^ 16) g.lport) _ b).1 in
     record {
-      proto = number_is (2 ^ 8) g.proto (and_l (number_fits (2 ^ 8) g.proto) _ e);
-      local = prefix_is g.local (and_l (prefix_fits g.local) _ a);
-      lport = number_is (2 ^ 16) g.lport (and_l (number_fits (2 ^ 16) g.lport) _ b);
-      remote = prefix_is g.remote (and_l (prefix_fits g.remote) _ c);
-      rport = number_is (2 ^ 16) g.rport (and_r (prefix_fits g.remote) _ c);
+      proto = number_is (2 ^ 8) g.proto (and_parts (number_fits (2 ^ 8) g.proto) _ e).0;
+      local = prefix_is g.local (and_parts (prefix_fits g.local) _ a).0;
+      lport = number_is (2 ^ 16) g.lport (and_parts (number_fits (2 ^ 16) g.lport) _ b).0;
+      remote = prefix_is g.remote (and_parts (prefix_fits g.remote) _ c).0;
+      rport = number_is (2 ^ 16) g.rport (and_parts (prefix_fits g.remote) _ c).1;
     }
 
 pub flow_is : (f : Flow) → flow_fits f ≡ true → IsFlow f
 flow_is f e =
-    let a = and_r (nat_lt f.proto (2 ^ 8)) _ e in
-    let b = and_r (nat_lt f.local (2 ^ 32)) _ a in
-    let c = and_r (nat_lt f.lport (2 ^ 16)) _ b in
+    let a = (and_parts (nat_lt f.proto (2 ^ 8)) _ e).1 in
+    let b = (and_parts (nat_lt f.local (2 ^ 32)) _ a).1 in
+    let c = (and_parts (nat_lt f.lport (2 ^ 16)) _ b).1 in
     record {
-      proto = (Decides-ltb f.proto (2 ^ 8)).0 (and_l (nat_lt f.proto (2 ^ 8)) _ e);
-      local = (Decides-ltb f.local (2 ^ 32)).0 (and_l (nat_lt f.local (2 ^ 32)) _ a);
-      lport = (Decides-ltb f.lport (2 ^ 16)).0 (and_l (nat_lt f.lport (2 ^ 16)) _ b);
-      remote = (Decides-ltb f.remote (2 ^ 32)).0 (and_l (nat_lt f.remote (2 ^ 32)) _ c);
-      rport = (Decides-ltb f.rport (2 ^ 16)).0 (and_r (nat_lt f.remote (2 ^ 32)) _ c);
+      proto = (Decides-ltb f.proto (2 ^ 8)).0 (and_parts (nat_lt f.proto (2 ^ 8)) _ e).0;
+      local = (Decides-ltb f.local (2 ^ 32)).0 (and_parts (nat_lt f.local (2 ^ 32)) _ a).0;
+      lport = (Decides-ltb f.lport (2 ^ 16)).0 (and_parts (nat_lt f.lport (2 ^ 16)) _ b).0;
+      remote = (Decides-ltb f.remote (2 ^ 32)).0 (and_parts (nat_lt f.remote (2 ^ 32)) _ c).0;
+      rport = (Decides-ltb f.rport (2 ^ 16)).0 (and_parts (nat_lt f.remote (2 ^ 32)) _ c).1;
     }
 
 -- a flow of a unit
@@ -94,8 +87,8 @@ flow_in (OfFlow f) = f
 flow_in (OfHost host) = record { proto = 6; local = host; lport = 0; remote = 0; rport = 0 }
 
 flow_in_is : (kind : Kind) (u : units.Unit) → unit_fits kind u ≡ true → IsFlow (flow_in u)
-flow_in_is kind (OfFlow f) e = flow_is f (and_r (not (has_hosts kind)) _ e)
-flow_in_is kind (OfHost host) e = record { proto = lit< tt; local = (Decides-ltb host (2 ^ 32)).0 (and_r (has_hosts kind) _ e); lport = lit< tt; remote = lit< tt; rport = lit< tt }
+flow_in_is kind (OfFlow f) e = flow_is f (and_parts (not (has_hosts kind)) _ e).1
+flow_in_is kind (OfHost host) e = record { proto = lit< tt; local = (Decides-ltb host (2 ^ 32)).0 (and_parts (has_hosts kind) _ e).1; lport = lit< tt; remote = lit< tt; rport = lit< tt }
 
 none_is : {X : Type 0} (o : Option X) → is_some o ≡ false → o ≡ None
 none_is None e = refl
@@ -109,17 +102,13 @@ or_r : (a b : Bool) → a || b ≡ false → b ≡ false
 or_r true b e = cc
 or_r false b e = e
 
-not_true : (b : Bool) → not b ≡ true → b ≡ false
-not_true true e = cc
-not_true false e = refl
-
 alone : (b : Bool) → b ≡ true && b && true && true && true
 alone true = refl
 alone false = refl
 
 local_takes : (g : Filter) (flow : Flow) → local_alone g ≡ true → takes g (OfHost flow.local) ≡ matches g flow
 local_takes g flow e =
-    let a = not_true _ e in
+    let a = not-true _ e in
     let b = or_r (is_some g.proto) _ a in
     let c = or_r (is_some g.lport) _ b in
     let proto = none_is g.proto (or_l (is_some g.proto) _ a) in
@@ -133,7 +122,7 @@ whole_hosts kind g hosts e = rw hosts at e
 
 takes_matches : (kind : Kind) (g : Filter) (u : units.Unit) → is_whole kind g ≡ true → unit_fits kind u ≡ true → takes g u ≡ matches g (flow_in u)
 takes_matches kind g (OfFlow f) w e = refl
-takes_matches kind g (OfHost host) w e = local_takes g (flow_in (OfHost host)) (whole_hosts kind g (and_l (has_hosts kind) _ e) (and_r (filter_fits g) _ w))
+takes_matches kind g (OfHost host) w e = local_takes g (flow_in (OfHost host)) (whole_hosts kind g (and_parts (has_hosts kind) _ e).0 (and_parts (filter_fits g) _ w).1)
 
 meet_none : (g h : Filter) → is_some (meet g h) ≡ false → meet g h ≡ None
 meet_none g h e = none_is (meet g h) e
@@ -152,22 +141,22 @@ filters_apart kind g h u off on =
   where
     never : takes_whole kind h u ≡ true → ⊥
     never both =
-        let wg = and_l (is_whole kind g) _ on in
-        let wh = and_l (is_whole kind h) _ both in
-        let fits = and_l (unit_fits kind u) _ (and_r (is_whole kind g) _ on) in
-        let tg = and_r (unit_fits kind u) _ (and_r (is_whole kind g) _ on) in
-        let th = and_r (unit_fits kind u) _ (and_r (is_whole kind h) _ both) in
+        let wg = (and_parts (is_whole kind g) _ on).0 in
+        let wh = (and_parts (is_whole kind h) _ both).0 in
+        let fits = (and_parts (unit_fits kind u) _ (and_parts (is_whole kind g) _ on).1).0 in
+        let tg = (and_parts (unit_fits kind u) _ ((and_parts (is_whole kind g) _ on).1)).1 in
+        let th = (and_parts (unit_fits kind u) _ ((and_parts (is_whole kind h) _ both).1)).1 in
         let none = meet_none g h (some-meet g h ∙ off) in
-        let law = (meet_clauses g h None (filter_is g (and_l (filter_fits g) _ wg)) (filter_is h (and_l (filter_fits h) _ wh)) (sym none)).none in
+        let law = (meet_clauses g h None (filter_is g (and_parts (filter_fits g) _ wg).0) (filter_is h (and_parts (filter_fits h) _ wh).0) (sym none)).none in
         let mg : matches g (flow_in u) ≡ true = sym (takes_matches kind g u wg fits) ∙ tg in
         let mh : matches h (flow_in u) ≡ true = sym (takes_matches kind h u wh fits) ∙ th in
         law (flow_in u, flow_in_is kind u fits, rw (mg, mh) refl)
 
 local_fits : (flow : Flow) → flow_fits flow ≡ true → nat_lt flow.local (2 ^ 32) ≡ true
-local_fits flow e = and_l (nat_lt flow.local (2 ^ 32)) _ (and_r (nat_lt flow.proto (2 ^ 8)) _ e)
+local_fits flow e = (and_parts (nat_lt flow.local (2 ^ 32)) _ (and_parts (nat_lt flow.proto (2 ^ 8)) _ e).1).0
 
 -- a filter that splits no unit takes the unit of a flow exactly where it matches the flow
 pub whole_takes : (kind : Kind) (g : Filter) (flow : Flow) → is_whole kind g ≡ true → flow_fits flow ≡ true → takes_whole kind g (unit_of kind flow) ≡ matches g flow
 whole_takes Conntrack g flow w e = rw (w, e) refl
-whole_takes Nat g flow w e = let fits = local_fits flow e in rw (w, fits) (local_takes g flow (and_r (filter_fits g) _ w))
-whole_takes Monitor g flow w e = let fits = local_fits flow e in rw (w, fits) (local_takes g flow (and_r (filter_fits g) _ w))
+whole_takes Nat g flow w e = let fits = local_fits flow e in rw (w, fits) (local_takes g flow (and_parts (filter_fits g) _ w).1)
+whole_takes Monitor g flow w e = let fits = local_fits flow e in rw (w, fits) (local_takes g flow (and_parts (filter_fits g) _ w).1)

@@ -4,6 +4,7 @@ use Rattle.std.specs.Prelude.{if◌then◌else◌, ◌==◌, not, is_some, optio
 use Rattle.std.specs.Option.{option_map_or}
 use Rattle.std.specs.List.{filter_map}
 use Rattle.std.specs.FinMap as finite
+use Rattle.std.proofs.lemmas.List.{map-append}
 use Rattle.flow_filter.specs.declared.filter.Filter.{Filter}
 use Rattle.flow_filter.specs.declared.flow.Flow.{Flow}
 use Rattle.flow_filter.specs.declared.packet.Packet.{Packet}
@@ -26,7 +27,7 @@ use Rattle.nf_msgs.specs.Nodes.{controller_node}
 use Rattle.unit_machine.proofs.Real.{M_enable, M_fenced}
 use Rattle.unit_machine.proofs.Labels.{Each}
 use Rattle.abstract_net.proofs.Net as net
-use Rattle.abstract_net.proofs.Net.{Ruling, Inst_n, I_did, find_rule, drop_rule, change_rules, has_rule, set_rule, ruled_by, holding, held_of, process, process_all, runs_it, by_rule, inst_step, everything}
+use Rattle.abstract_net.proofs.Net.{Ruling, I_did, find_rule, drop_rule, change_rules, has_rule, set_rule, ruled_by, holding, held_of, process, process_all, runs_it, by_rule, inst_step, everything}
 use Rattle.outline_net.proofs.FiltersApart.{is_whole, flow_fits, takes_whole, whole_takes}
 use Rattle.outline_net.proofs.Outline.{number, rule_of, outline_rule, outline_sent, outline_sends, ran_in, sys, outline_instance}
 
@@ -47,7 +48,7 @@ rule_same op (r ∷ rs) =
       | false ↦ rule_same op rs
     ]
 
-some_same : {X Y : Type 0} (g : X → Y) (o : Option X) → is_some (option_map g o) ≡ is_some o
+pub some_same : {X Y : Type 0} (g : X → Y) (o : Option X) → is_some (option_map g o) ≡ is_some o
 some_same g None = refl
 some_same g (Some x) = refl
 
@@ -66,22 +67,18 @@ changed_same op change outlined same (r ∷ rs) =
       | false ↦ ap (λ xs. outline_rule r ∷ xs) (changed_same op change outlined same rs)
     ]
 
-map-put : {X Y : Type 0} (g : X → Y) (xs ys : List X) → map g (xs ++ ys) ≡ map g xs ++ map g ys
-map-put g [] ys = refl
-map-put g (x ∷ xs) ys = ap (λ zs. g x ∷ zs) (map-put g xs ys)
-
 set_same : (op : ℕ) (filter : Filter) (act : Action) (rs : List (EventRule FullCell)) → map outline_rule (rules.with_rule rs op filter act) ≡ set_rule op filter (rule_of act) (map outline_rule rs)
 set_same op filter act rs =
     elim (is_some (rules.rule_at rs op)) as (λ b. is_some (rules.rule_at rs op) ≡ b → map outline_rule (if b then rules.changed rs op (rules.ruled_by filter act) else rs ++ (record { op = op; filter = filter; action = act; held = [] }) ∷ []) ≡ set_rule op filter (rule_of act) (map outline_rule rs)) [
       | true ↦ λ e. let has : has_rule op (map outline_rule rs) ≡ true = there ∙ e in rw has (changed_same op (rules.ruled_by filter act) (ruled_by filter (rule_of act)) (λ r. refl) rs)
-      | false ↦ λ e. let has : has_rule op (map outline_rule rs) ≡ false = there ∙ e in rw has (map-put outline_rule rs ((record { op = op; filter = filter; action = act; held = [] }) ∷ []))
+      | false ↦ λ e. let has : has_rule op (map outline_rule rs) ≡ false = there ∙ e in rw has (map-append outline_rule rs ((record { op = op; filter = filter; action = act; held = [] }) ∷ []))
     ] refl
   where
     there : has_rule op (map outline_rule rs) ≡ is_some (rules.rule_at rs op)
     there = ap is_some (sym (rule_same op rs)) ∙ some_same outline_rule (rules.rule_at rs op)
 
 hold_same : (op : ℕ) (cell : FullCell) (rs : List (EventRule FullCell)) → map outline_rule (rules.with_held rs op cell) ≡ net.hold op (number cell) (map outline_rule rs)
-hold_same op cell rs = changed_same op (rules.holding cell) (holding (number cell)) (λ r. ap (λ h. record { num = r.op; filter = r.filter; rule = rule_of r.action; held = h }) (map-put number r.held (cell ∷ []))) rs
+hold_same op cell rs = changed_same op (rules.holding cell) (holding (number cell)) (λ r. ap (λ h. record { num = r.op; filter = r.filter; rule = rule_of r.action; held = h }) (map-append number r.held (cell ∷ []))) rs
 
 module _ (site : Site) (packet : ℕ → Packet) where
   -- a packet of the trace, in a cell of the switch's pool

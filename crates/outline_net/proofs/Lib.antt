@@ -1,4 +1,5 @@
 pub mod ControlOutline
+pub mod ControllerWays
 pub mod CopyTurns
 pub mod FiltersApart
 pub mod InstanceOutline
@@ -8,3 +9,4 @@ pub mod OperationTables
 pub mod Outline
 pub mod StateOutline
 pub mod SwitchOutline
+pub mod SwitchWays

@@ -7,6 +7,7 @@ use Rattle.std.specs.Cmp.{nat_cmp_total}
 use Rattle.std.specs.FinMap as finite
 use Rattle.std.specs.FinMap.{same_map, nat_cmp-IsAntisymmetric}
 use Rattle.std.proofs.lemmas.Bool.Decides.{nat_tests, Decides-eqb}
+use Rattle.std.proofs.lemmas.Cmp.{nat_eq_equiv}
 use Rattle.nf_msgs.specs.declared.answer.Answer.{Answer}
 use Rattle.nf_msgs.specs.declared.msg.Msg.{Msg}
 use Rattle.copy_share.specs.Copy.{CopyState}
@@ -32,9 +33,6 @@ pub gone_twice : (b : Bool) (o p : Option Operation) → cond b None (cond b o p
 gone_twice true o p = refl
 gone_twice false o p = refl
 
-self : (op : ℕ) → (op == op) ≡ true
-self op = grind (arith, nat_tests)
-
 -- what is written in place of the same changes nothing
 pub insert_same : (ops : OpenOperations) (op : ℕ) (o : Operation) → finite.get ops op ≡ Some o → finite.insert ops op o ≡ ops
 insert_same ops op o there = same_map nat_cmp_total nat_cmp-IsAntisymmetric (finite.insert ops op o) ops (λ k.
@@ -52,6 +50,13 @@ remove_insert ops op o = same_map nat_cmp_total nat_cmp-IsAntisymmetric _ _ (λ 
 abbrev pub NotShared : Option Operation → Type 0
 NotShared (Some (Share s)) = ⊥
 NotShared o = Unit {0}
+
+-- an operation is a share or it isn't
+pub shared_or_not : {P : Type 0} (o : Option Operation) → (NotShared o → P) → ((s : ShareState) → o ≡ Some (Share s) → P) → P
+shared_or_not None other share = other tt
+shared_or_not (Some (Move m)) other share = other tt
+shared_or_not (Some (Copy y)) other share = other tt
+shared_or_not (Some (Share s)) other share = share s refl
 
 pub not_shared : (ops : OpenOperations) (op : ℕ) → ((s : ShareState) → finite.get ops op ≢ Some (Share s)) → NotShared (finite.get ops op)
 not_shared ops op none = by_got (finite.get ops op) refl
@@ -77,10 +82,10 @@ same_step did op h =
 -- an operation that isn't a share is none after its turn
 module _ (c : ControllerState) (op : ℕ) where
   written : (o : Operation) → NotShared (Some o) → NotShared (finite.get (finite.insert c.operations op o) op)
-  written o h = subst NotShared (sym (got_insert c.operations op op o ∙ ap (λ b. cond b (Some o) (finite.get c.operations op)) (self op))) h
+  written o h = subst NotShared (sym (got_insert c.operations op op o ∙ ap (λ b. cond b (Some o) (finite.get c.operations op)) (nat_eq_equiv.refl op))) h
 
   gone : (ops : OpenOperations) → NotShared (finite.get (finite.remove ops op) op)
-  gone ops = subst NotShared (sym (got_remove ops op op ∙ ap (λ b. cond b None (finite.get ops op)) (self op))) tt
+  gone ops = subst NotShared (sym (got_remove ops op op ∙ ap (λ b. cond b None (finite.get ops op)) (nat_eq_equiv.refl op))) tt
 
   move_turns : (m : MoveState) (store : Store) (r : MoveRow) (a : Option Answer) → NotShared (finite.get (after_turn c op (moved m store r) a).node.operations op)
   move_turns m store r None = written (Move (record m { phase = r.next.phase })) tt

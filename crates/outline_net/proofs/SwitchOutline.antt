@@ -2,6 +2,7 @@
 use Rattle.std.proofs.Common.{◌≡◌, ℕ, Bool, true, false, Option, Some, List, [], ◌∷◌, refl, sym, ap, ◌∙◌, arith}
 use Rattle.std.specs.Prelude.{if◌then◌else◌, ◌&&◌, ◌==◌, nat_lt, option_map, unwrap_or}
 use Rattle.std.proofs.lemmas.Bool.Decides.{nat_tests}
+use Rattle.std.proofs.lemmas.Bool.{and_parts}
 use Rattle.flow_filter.specs.declared.filter.Filter.{Filter}
 use Rattle.flow_filter.specs.declared.flow.Flow.{Flow}
 use Rattle.flow_filter.specs.declared.packet.Packet.{Packet}
@@ -23,7 +24,7 @@ use Rattle.switch_node.specs.Switch.{SwitchState, has_room, on_packet, on_instal
 use Rattle.unit_machine.proofs.Real as real
 use Rattle.abstract_net.proofs.Net as net
 use Rattle.abstract_net.proofs.Net.{sw_target}
-use Rattle.outline_net.proofs.FiltersApart.{and_l, filter_fits, filter_is, flow_fits, flow_is, is_whole, takes_whole, whole_takes}
+use Rattle.outline_net.proofs.FiltersApart.{filter_fits, filter_is, flow_fits, flow_is, is_whole, takes_whole, whole_takes}
 use Rattle.outline_net.proofs.Outline.{number, outline_sends, sys}
 
 -- where the rules send a flow: to an instance that is there, which is that of its unit
@@ -36,7 +37,7 @@ pub record GoesTo (kind : Kind) (s : SwitchState) (to : units.Unit → ℕ) (flo
 abbrev pub Routes : Kind → SwitchState → (units.Unit → ℕ) → Type 0
 Routes kind s to = (flow : Flow) → flow_fits flow ≡ true → GoesTo kind s to flow
 
-same_node : (i j : ℕ) → (i == j) ≡ (instance_node i == instance_node j)
+pub same_node : (i j : ℕ) → (i == j) ≡ (instance_node i == instance_node j)
 same_node i j = elim (i == j) as (λ b. (i == j) ≡ b → b ≡ (instance_node i == instance_node j)) [
   | true ↦ λ e. grind (arith, nat_tests)
   | false ↦ λ e. grind (arith, nat_tests)
@@ -76,7 +77,7 @@ module _ {R : Type 0} (f : Semantics R) (site : Site) (packet : ℕ → Packet) 
       taken = whole_takes f.kind g flow whole fits
 
       next : first_match (redirected r s.rules) flow ≡ Some (redirected_target r flow (target.Instance old.instance))
-      next = redirected_law r s.rules filters (filter_is g (and_l (filter_fits g) _ whole)) flow (flow_is flow fits) ∙ ap (option_map (redirected_target r flow)) old.first
+      next = redirected_law r s.rules filters (filter_is g (and_parts (filter_fits g) _ whole).0) flow (flow_is flow fits) ∙ ap (option_map (redirected_target r flow)) old.first
 
       test : (takes_whole f.kind g (unit_of f.kind flow) && (to (unit_of f.kind flow) == instance_node from)) ≡ (matches g flow && (old.instance == from))
       test = ap (λ t. t && (to (unit_of f.kind flow) == instance_node from)) taken ∙ ap (λ k. matches g flow && (k == instance_node from)) old.node ∙ ap (λ t. matches g flow && t) (sym (same_node old.instance from))

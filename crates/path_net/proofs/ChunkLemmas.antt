@@ -15,12 +15,11 @@ use Rattle.record_table.proofs.UnitOrder.{same_unit-true}
 use Rattle.move_op.specs.Move.{chunks_of}
 use Rattle.unit_machine.proofs.UnitPieces.{records}
 use Rattle.unit_machine.proofs.Kept.{records_one}
-use Rattle.unit_machine.proofs.Labels.{Each}
+use Rattle.unit_machine.proofs.Labels.{Each, each_map}
 use Rattle.unit_machine.proofs.Real.{Frame, record_at, see}
 use Rattle.unit_machine.proofs.Seen.{is_among-units}
 use Rattle.net_world.specs.Path.{all_of}
 use Rattle.net_world.specs.Records.{is_chunk_of, spelled_of}
-use Rattle.whole_joined.proofs.ControllerRows.{each_same}
 use Rattle.outline_net.proofs.MoveOutline.{IsChunk, units_same}
 use Rattle.outline_net.proofs.Outline.{entries, outline_piece}
 use Rattle.whole_joined.proofs.UnitCounts.{times, times_from_distinct}
@@ -72,7 +71,7 @@ module _ {R : Type 0} (f : Semantics R) (u : units.Unit) where
         ∙ ap (λ es. as_spelled u (option_to_list (record_at u es))) (sym (entries_more c cs h.0))
 
 pub all_chunks : {R : Type 0} (f : Semantics R) (g : Given) (cs : List Chunk) → AreGoodChunks f g cs → Each (IsChunk f (place g)) cs
-all_chunks f g cs h = each_same (IsGoodChunk f g) (IsChunk f (place g)) (λ y k. k.chunk) cs h.each
+all_chunks f g cs h = each_map {P = (IsGoodChunk f g)} {Q = (IsChunk f (place g))} (λ y k. k.chunk) cs h.each
 
 module _ {R : Type 0} (f : Semantics R) (g : Given) (u : units.Unit) where
   -- good chunks spell the unit's record where they have it

@@ -4,6 +4,7 @@ use Rattle.std.specs.Prelude.{if◌then◌else◌, ◌==◌, ◌&&◌, ◌||◌,
 use Rattle.std.specs.List.{filter_map, cons_option}
 use Rattle.std.proofs.lemmas.List.{map-append}
 use Rattle.std.proofs.lemmas.List.Folds.{list_any-append}
+use Rattle.std.proofs.Math.Bool.{or-false}
 use Rattle.nf_function.specs.declared.unit.Unit as units
 use Rattle.nf_function.specs.Semantics.{Semantics}
 use Rattle.record_table.specs.Table.{same_unit, is_among}
@@ -41,10 +42,6 @@ pub record Reading (R : Type 0) : Type 0 where
   pub given : Bool
   pub removed : Bool
 
-or-none : (b : Bool) → b ≡ b || false
-or-none true = refl
-or-none false = refl
-
 module _ {R : Type 0} where
   abbrev reading : List R → Bool → Bool → Reading R
   reading rs given removed = record { records = rs; given = given; removed = removed }
@@ -62,12 +59,12 @@ module _ {R : Type 0} where
 
   gives-add : (o : Option (Item R)) (xs : List (Item R)) → gives (add o xs) ≡ gives (add o []) || gives xs
   gives-add None xs = refl
-  gives-add (Some (Piece h)) xs = ap (λ v. v || gives xs) (or-none (is_some h.own))
+  gives-add (Some (Piece h)) xs = ap (λ v. v || gives xs) (sym (or-false (is_some h.own)))
   gives-add (Some x) xs = refl
 
   deletes-add : (o : Option (Item R)) (xs : List (Item R)) → deletes (add o xs) ≡ deletes (add o []) || deletes xs
   deletes-add None xs = refl
-  deletes-add (Some (Delete own)) xs = ap (λ v. v || deletes xs) (or-none own)
+  deletes-add (Some (Delete own)) xs = ap (λ v. v || deletes xs) (sym (or-false own))
   deletes-add (Some x) xs = refl
 
   -- an item that is seen where a test is true
@@ -124,7 +121,7 @@ module _ {R : Type 0} (f : Semantics R) (g : Given) (z : Seeing) (es : List Open
   seen_read i (Mv x (M_put n p first)) l = own_brought (n == its.move) (Put (see its p) first) (record_at u p.chunks) refl l.1
   seen_read i (Mv x (M_restore n cs)) l = own_brought (n == its.move) (Restore (record_at u cs)) (record_at u cs) refl l.1
   seen_read i (Mv x (M_put_no n why cs)) l = own_brought (n == its.move) (Put_no why (record_at u cs)) (record_at u cs) refl l.1
-  seen_read i (Mv x (M_delete n us)) l = by_test (n == its.move) (Delete (is_among us u)) (read_msg (Mv x (M_delete n us))) (ap (reading [] false) (sym (or-none (is_among us u)))) (λ off. ap (reading [] false) (sym (l.1 off)))
+  seen_read i (Mv x (M_delete n us)) l = by_test (n == its.move) (Delete (is_among us u)) (read_msg (Mv x (M_delete n us))) (ap (reading [] false) (sym (sym (or-false (is_among us u))))) (λ off. ap (reading [] false) (sym (l.1 off)))
   seen_read i (Mv x (M_enable n k)) l = bare (n == its.move) (Enable k) refl
   seen_read i (Mv x (M_stream n)) l = bare (n == its.move) Stream refl
   seen_read i (Mv x (M_enabled n)) l = bare (n == its.move) Enabled refl

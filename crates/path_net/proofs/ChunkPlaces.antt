@@ -24,7 +24,7 @@ use Rattle.unit_machine.proofs.Machine.{State}
 use Rattle.unit_machine.proofs.Machine as machine
 use Rattle.unit_machine.proofs.UnitPieces.{records}
 use Rattle.unit_machine.proofs.Kept.{records_on, records_one, on_way}
-use Rattle.unit_machine.proofs.Labels.{Each, Without, Clean}
+use Rattle.unit_machine.proofs.Labels.{Each, Without, Clean, each_map}
 use Rattle.unit_machine.proofs.Pairs.{expect}
 use Rattle.unit_machine.proofs.Rests.{is_over}
 use Rattle.unit_machine.proofs.Real.{Op, Frame, RPiece, RPhase, R_streaming, see, see_phase}
@@ -44,7 +44,6 @@ use Rattle.net_world.specs.Records as specs
 use Rattle.path_net.proofs.ChunkLemmas.{as_spelled, spelled-append, spelled-all, pieces_spelled}
 use Rattle.path_net.proofs.ChunkLinks.{AreSpelled, are_spelled, no_chunks}
 use Rattle.path_net.proofs.ChunkSums.{kept_records, IsAt, From_a, From_b, To_a, To_b, In_store, none_of, one_of}
-use Rattle.whole_joined.proofs.ControllerRows.{each_same}
 use Rattle.outline_net.proofs.ControlOutline.{Sees}
 use Rattle.whole_outline.proofs.OpenShares.{but_shares}
 use Rattle.outline_net.proofs.MoveOutline.{outline_phase}
@@ -59,7 +58,7 @@ use Rattle.whole_joined.proofs.Joined.{S, A, AreGoodChunks, IsGoodPiece, AreFree
 -- The pieces that the controller keeps.
 module _ {R : Type 0} (f : Semantics R) (g : Given) where
   pub good_pieces : (ps : List Piece) → Each (IsGoodPiece f g) ps → Each (λ p. AreGoodChunks f g p.chunks) ps
-  good_pieces ps h = each_same (IsGoodPiece f g) (λ p. AreGoodChunks f g p.chunks) (λ p k. k.good) ps h
+  good_pieces ps h = each_map {P = (IsGoodPiece f g)} {Q = (λ p. AreGoodChunks f g p.chunks)} (λ p k. k.good) ps h
 
   pub free_pieces : (d : Door) (ps : List Piece) → AreFree f g d ps → Each (λ p. AreGoodChunks f g p.chunks) ps
   free_pieces (door.Refused why) ps h = h
@@ -288,6 +287,7 @@ module _ {F R : Type 0} (f : Semantics R) (c : Config) (items : List Msg) (is : 
       ∙ own_kept
 
   -- All of it.
+
   module _ (silent : x.cc ≡ []) where
     all_is : (links kept : List R) → spelled_of f u (on_links w chunks_in) ≡ as_spelled u links → kept_records x.phase ≡ kept → specs.on_way f w u ≡ as_spelled u links ++ as_spelled u kept
     all_is links kept on_them by_it = spelled-append f u (on_links w chunks_in) (all_of kept_by w.nodes) ∙ ap (λ v. v ++ spelled_of f u (all_of kept_by w.nodes)) on_them ∙ ap (λ v. as_spelled u links ++ v) (kept_is ∙ ap (as_spelled u) by_it)

@@ -1,6 +1,6 @@
 -- What a unit sees of an instance's rules and of the controller's open moves is its packets that are held and stored.
 use Rattle.std.proofs.Common.{◌≡◌, ◌≢◌, ℕ, Bool, true, false, cond, Option, Some, None, List, [], ◌∷◌, ◌++◌, map, refl, sym, ap, ◌∙◌, eqb, append-nil, arith}
-use Rattle.std.specs.Prelude.{T, nat_eq, if◌then◌else◌, ◌&&◌, unwrap_or}
+use Rattle.std.specs.Prelude.{T, nat_eq, if◌then◌else◌, unwrap_or}
 use Rattle.std.specs.Ordering.{nat_cmp, eq_by_cmp, is_lt, is_eq}
 use Rattle.std.specs.declared.cmp.Ordering.{Ordering}
 use Rattle.std.specs.declared.cmp.Ordering.TheVariants.{Less, Equal, Greater}
@@ -10,6 +10,7 @@ use Rattle.std.specs.FinMap.Entries.{below_all}
 use Rattle.std.proofs.lemmas.Bool.{eqb-true}
 use Rattle.std.proofs.lemmas.Bool.Decides.{nat_tests, Decides-eqb}
 use Rattle.std.proofs.lemmas.Map.Keys.{IsDistinct-head, IsDistinct-tail}
+use Rattle.std.proofs.Math.Facts.{and_yes}
 use Rattle.nf_function.specs.declared.unit.Unit as units
 use Rattle.nf_function.specs.Semantics.{Semantics}
 use Rattle.record_table.specs.Table.{same_unit}
@@ -30,15 +31,6 @@ use Rattle.outline_net.proofs.Outline.{outline_rule}
 use Rattle.whole_joined.proofs.Given.{Given}
 use Rattle.whole_joined.proofs.Joined.{S}
 
--- the entries of a finite map over numbers
-left_true : (a b : Bool) → T (a && b) → T a
-left_true true b h = tt
-left_true false b h = h
-
-right_true : (a b : Bool) → T (a && b) → T b
-right_true true b h = h
-right_true false b h = absurd h
-
 not_tied : (o : Ordering) → T (is_lt o) → is_eq o ≡ false
 not_tied Less h = refl
 not_tied Equal h = absurd h
@@ -47,8 +39,8 @@ not_tied Greater h = absurd h
 absent : {V : Type 0} (k : ℕ) (es : List (ℕ × V)) → T (below_all nat_cmp k es) → find nat_cmp k es ≡ None
 absent k [] h = refl
 absent k (e ∷ es) h =
-    let apart : eq_by_cmp nat_cmp k e.0 ≡ false = not_tied (nat_cmp k e.0) (left_true (is_lt (nat_cmp k e.0)) (below_all nat_cmp k es) h) in
-    ap (λ b. cond b (Some e.1) (find nat_cmp k es)) apart ∙ absent k es (right_true (is_lt (nat_cmp k e.0)) (below_all nat_cmp k es) h)
+    let apart : eq_by_cmp nat_cmp k e.0 ≡ false = not_tied (nat_cmp k e.0) (and_yes (is_lt (nat_cmp k e.0)) (below_all nat_cmp k es) h).0 in
+    ap (λ b. cond b (Some e.1) (find nat_cmp k es)) apart ∙ absent k es (and_yes (is_lt (nat_cmp k e.0)) (below_all nat_cmp k es) h).1
 
 own_tie : (k : ℕ) → eq_by_cmp nat_cmp k k ≡ true
 own_tie k = order_test k k ∙ (let self : eqb k k ≡ true = grind (arith, nat_tests) in self)
@@ -58,8 +50,8 @@ module _ {V Y : Type 0} (of : ℕ → Option V → List Y) (none : (k : ℕ) →
   entries_of : (es : List (ℕ × V)) → T (is_sorted nat_cmp es) → ((k : ℕ) → k ≢ op → of k (find nat_cmp k es) ≡ []) → all_of (λ e. of e.0 (Some e.1)) es ≡ of op (find nat_cmp op es)
   entries_of [] up h = sym (none op)
   entries_of (e ∷ es) up h =
-      let below = left_true (below_all nat_cmp e.0 es) (is_sorted nat_cmp es) up in
-      let more = right_true (below_all nat_cmp e.0 es) (is_sorted nat_cmp es) up in
+      let below = (and_yes (below_all nat_cmp e.0 es) (is_sorted nat_cmp es) up).0 in
+      let more = (and_yes (below_all nat_cmp e.0 es) (is_sorted nat_cmp es) up).1 in
       let gone = absent e.0 es below in
       let later : (k : ℕ) → k ≢ op → of k (find nat_cmp k es) ≡ [] = λ k off. elim (eqb k e.0) as (λ b. eqb k e.0 ≡ b → of k (find nat_cmp k es) ≡ []) [
         | true ↦ λ is. (let same : k ≡ e.0 = eqb-true k e.0 is in ap (λ q. of k (find nat_cmp q es)) same ∙ ap (of k) gone ∙ none k)
@@ -84,9 +76,9 @@ module _ {V Y : Type 0} (P : Y → Type 0) (of : V → List Y) where
   each_of : (es : List (ℕ × V)) → T (is_sorted nat_cmp es) → ((k : ℕ) (v : V) → find nat_cmp k es ≡ Some v → Each P (of v)) → Each P (all_of (λ e. of e.1) es)
   each_of [] up h = tt
   each_of (e ∷ es) up h =
-      let gone = absent e.0 es (left_true (below_all nat_cmp e.0 es) (is_sorted nat_cmp es) up) in
+      let gone = absent e.0 es (and_yes (below_all nat_cmp e.0 es) (is_sorted nat_cmp es) up).0 in
       let own = h e.0 e.1 (ap (λ b. cond b (Some e.1) (find nat_cmp e.0 es)) (own_tie e.0)) in
-      each-append P (of e.1) (all_of (λ x. of x.1) es) own (each_of es (right_true (below_all nat_cmp e.0 es) (is_sorted nat_cmp es) up) (λ k v there. h k v (elim (eqb k e.0) as (λ b. eqb k e.0 ≡ b → find nat_cmp k (e ∷ es) ≡ Some v) [
+      each-append P (of e.1) (all_of (λ x. of x.1) es) own (each_of es (and_yes (below_all nat_cmp e.0 es) (is_sorted nat_cmp es) up).1 (λ k v there. h k v (elim (eqb k e.0) as (λ b. eqb k e.0 ≡ b → find nat_cmp k (e ∷ es) ≡ Some v) [
         | true ↦ λ is. (let never : None ≡ Some v = sym gone ∙ ap (λ q. find nat_cmp q es) (sym (eqb-true k e.0 is)) ∙ there in cc)
         | false ↦ λ is. ap (λ b. cond b (Some e.1) (find nat_cmp k es)) (order_test k e.0 ∙ is) ∙ there
       ] refl)))

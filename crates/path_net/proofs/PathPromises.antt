@@ -9,7 +9,8 @@ use Rattle.nf_msgs.specs.declared.note.Note.{Note}
 use Rattle.actor_net.specs.Network.{Network, IsWorld}
 use Rattle.unit_machine.proofs.Ends.{same_of}
 use Rattle.unit_machine.proofs.Stages.{Order}
-use Rattle.abstract_net.proofs.Readings.{exact_of, not_both}
+use Rattle.unit_machine.proofs.Rests.{exactly}
+use Rattle.abstract_net.proofs.Readings.{not_both}
 use Rattle.whole_net.proofs.WhereAll.{Where_all, Apart_from_shares, Under_share}
 use Rattle.net_world.specs.declared.config.Config.{Config}
 use Rattle.net_world.specs.declared.node.Node.{Node}
@@ -78,7 +79,7 @@ module _ {F R : Type 0} (f : Semantics R) (c : Config) (items : List Msg) (is : 
       }
 
   pub in_place : is_loose c items u w.log ≡ false → went f c items u w.log ++ path f c items u w ≡ came f c items u w.log
-  in_place off = exact_of ordered.flag (went f c items u w.log ++ path f c items u w) (came f c items u w.log) (not_both ordered.flag (is_loose c items u w.log) ordered.flag_is off) ordered.order
+  in_place off = exactly ordered.flag (went f c items u w.log ++ path f c items u w) (came f c items u w.log) (not_both ordered.flag (is_loose c items u w.log) ordered.flag_is off) ordered.order
 
   pub each_in_place : (p : ℕ) → times p (went f c items u w.log) + times p (path f c items u w) ≡ times p (came f c items u w.log)
   each_in_place p =

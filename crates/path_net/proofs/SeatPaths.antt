@@ -26,6 +26,7 @@ use Rattle.unit_machine.proofs.Path.{passes_in, carries, events_in, forwards}
 use Rattle.unit_machine.proofs.Pairs.{expect}
 use Rattle.unit_machine.proofs.Seats.{seat_shape, seat_all, seat_path}
 use Rattle.unit_machine.proofs.Sides.{at_side, places, Last, At_source, At_destination, At_third, Stands, seat_stands, Empty, empty_of}
+use Rattle.unit_machine.proofs.Loose.{none_in}
 use Rattle.abstract_net.proofs.Holding.{Seeing, node_at, place as side_place}
 use Rattle.abstract_net.proofs.Rest.{same_done}
 use Rattle.abstract_net.proofs.Readings.{seat_parts}
@@ -128,14 +129,6 @@ module _ {F R : Type 0} (f : Semantics R) (c : Config) (items : List Msg) (is : 
             owned_by to.target (ap j.world.target (sym unit) ∙ to.node) to.there fits
         | false ↦ λ _ rest. known_of qs h.1 p ps rest
       ] refl e
-
-  none_in : (xs : List ℕ) → ((p : ℕ) → stages.times p xs ≡ 0) → xs ≡ []
-  none_in [] h = refl
-  none_in (y ∷ xs) h =
-      let here = h y in
-      let self : (y == y) ≡ true = grind (arith, nat_tests) in
-      let one : 1 + stages.times y xs ≡ 0 = rw self at here in
-      absurd (omega (arith, one))
 
   pub by_came : {P : Type 0} → (seat_all k.seat ≡ [] → P) → (IsOwned → P) → P
   by_came {P = P} none some = by_list (came f c items u w.log) refl

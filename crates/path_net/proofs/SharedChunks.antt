@@ -6,6 +6,7 @@ use Rattle.std.specs.List.{filter_map}
 use Rattle.std.specs.FinMap as finite
 use Rattle.std.proofs.lemmas.Bool.Decides.{nat_tests}
 use Rattle.std.proofs.lemmas.List.Folds.{list_any-append}
+use Rattle.std.proofs.lemmas.Bool.{or_right, or_left}
 use Rattle.nf_function.specs.declared.chunk.Chunk.{Chunk as RealChunk}
 use Rattle.nf_function.specs.declared.unit.Unit as units
 use Rattle.nf_function.specs.Semantics.{Semantics}
@@ -58,14 +59,6 @@ use Rattle.path_net.proofs.PathSeats.{labels, loop_is}
 use Rattle.path_net.proofs.PathSums.{one_at, no_link}
 use Rattle.path_net.proofs.SharedLinks.{item_of, IsKnown, AreKnown, first_known, view, seen_more}
 use Rattle.path_net.proofs.SharedPlaces.{v, link_known, link_view}
-
-pub or_left : (b c : Bool) → b ≡ true → b || c ≡ true
-or_left true c e = refl
-or_left false c e = cc
-
-pub or_right : (b c : Bool) → c ≡ true → b || c ≡ true
-or_right true c e = refl
-or_right false c e = e
 
 module _ {R : Type 0} (f : Semantics R) (g : Given) (z : Seeing_share) where
   abbrev u : units.Unit

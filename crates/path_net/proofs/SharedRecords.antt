@@ -3,7 +3,7 @@
 use Rattle.std.proofs.Common.{◌≡◌, ◌≢◌, ℕ, ◌+◌, ◌<◌, ◌≤◌, true, false, Option, None, List, [], ◌∷◌, ◌++◌, length, refl, sym, ap, ◌∙◌, arith}
 use Rattle.std.specs.Prelude.{if◌then◌else◌, ◌==◌, ◌-◌, nat_lt, slice_get}
 use Rattle.std.specs.FinMap as finite
-use Rattle.std.proofs.lemmas.Bool.{ltb-false}
+use Rattle.std.proofs.lemmas.Bool.{ltb-false, or_left, or_right}
 use Rattle.std.proofs.lemmas.Bool.Decides.{nat_tests, Decides-ltb}
 use Rattle.std.proofs.lemmas.Option.{slice_get_past}
 use Rattle.nf_function.specs.declared.unit.Unit as units
@@ -36,7 +36,7 @@ use Rattle.whole_joined.proofs.Joined.{S, A, Joined}
 use Rattle.whole_joined.proofs.RunsJoined.{done_same}
 use Rattle.whole_joined.proofs.StartJoined.{given}
 use Rattle.path_net.proofs.PathSeats.{found_instance}
-use Rattle.path_net.proofs.SharedChunks.{or_left, or_right, given_on, taken_on}
+use Rattle.path_net.proofs.SharedChunks.{given_on, taken_on}
 use Rattle.path_net.proofs.SharedOwners.{HomesOwn, members_few}
 use Rattle.path_net.proofs.SharedStages.{Comes, From_member, To_home, Ahead, Sees, Sees_all, Is_ahead, sees}
 

@@ -7,6 +7,7 @@ use Rattle.share_machine.proofs.Stages.{Turn, Turn.Going, Turn.Coming, Turn.Quie
 use Rattle.share_machine.proofs.Lists.{self, cond-same, runs-append, served-append}
 use Rattle.share_machine.proofs.Path as paths
 use Rattle.share_machine.proofs.Path.{gather, gather_none, gather_only, carries, shared_in, forwarded, diverted}
+use Rattle.share_machine.proofs.Records.{not_pending}
 
 module _ {R : Type 0} (f : Frame R) where
   -- Packets.
@@ -125,11 +126,6 @@ module _ {R : Type 0} (f : Frame R) where
   going_pending Coming e = cc
   going_pending Quiet e = cc
 
-  not_going : (t : Turn) → is_pending t ≡ false → is_going t ≡ false
-  not_going Going e = cc
-  not_going Coming e = refl
-  not_going Quiet e = refl
-
   sync_goes : (c : Option R) (t : Turn) → is_going t ≡ true → goes_to c t ≡ Sync c ∷ []
   sync_goes c Going e = refl
   sync_goes c Coming e = cc
@@ -140,7 +136,7 @@ module _ {R : Type 0} (f : Frame R) where
   spread first d e b None at o left q v on gives (inr a) = Sees_all (rw on gives)
   spread first d e b (Some r) at o left q v on gives (inr a) =
       let p = a.0 in
-      let off : is_going (at (f.member_of p)) ≡ false = not_going (at (f.member_of p)) a.1.1 in
+      let off : is_going (at (f.member_of p)) ≡ false = not_pending (at (f.member_of p)) a.1.1 in
       Is_ahead (record {
         last = p;
         seen = b f.home;

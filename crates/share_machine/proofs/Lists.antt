@@ -1,5 +1,5 @@
 -- Laws of the lists in a stage, of functions of nodes, and of counting those that have yet to answer a Sync.
-use Rattle.std.proofs.Common.{◌≡◌, ℕ, ◌+◌, Bool, true, false, cond, not, ◌&&◌, ◌==◌, Option, None, Some, List, [], ◌∷◌, ◌++◌, map, length, ◌≤◌, refl, sym, ap, subst, ◌∙◌, append_assoc, arith}
+use Rattle.std.proofs.Common.{◌≡◌, ℕ, ◌+◌, Bool, true, false, cond, not, ◌&&◌, ◌==◌, Option, None, Some, List, [], ◌∷◌, ◌++◌, length, ◌≤◌, refl, sym, ap, subst, ◌∙◌, append_assoc, arith}
 use Rattle.std.proofs.lemmas.Bool.Decides.{nat_tests, Decides-eqb}
 use Rattle.unit_machine.proofs.Machine.{Steps}
 use Rattle.share_machine.proofs.Share.{Ran, Frame, has, without, if_mine, mine_in, at_node, runs, over, put}
@@ -43,10 +43,6 @@ packets-served f (p ∷ e) = ap (λ xs. p ∷ xs) (packets-served f e)
 
 pub served_at : {R : Type 0} (f : Frame R) (p : ℕ) → at_node (f.member_of p) (if_mine f p) ≡ served f (if_mine f p)
 served_at f p = elim (f.mine p) as (λ b. at_node (f.member_of p) (cond b (p ∷ []) []) ≡ served f (cond b (p ∷ []) [])) [ true ↦ refl | false ↦ refl ]
-
-pub map-append : {X Y : Type 0} (g : X → Y) (xs ys : List X) → map g (xs ++ ys) ≡ map g xs ++ map g ys
-map-append g [] ys = refl
-map-append g (x ∷ xs) ys = ap (λ zs. g x ∷ zs) (map-append g xs ys)
 
 -- a fold that gave nothing saw nothing
 runs_some : {R : Type 0} (F : Steps R) (r : R) (xs : List Ran) → runs F (Some r) xs ≡ None → ⊥

@@ -7,7 +7,7 @@ use Rattle.share_machine.proofs.Lists.{cond-same, self, served-append}
 use Rattle.share_machine.proofs.Setting.{front_same}
 use Rattle.share_machine.proofs.Serving.{took_more}
 
-not_pending : (t : Turn) → is_pending t ≡ false → is_going t ≡ false
+pub not_pending : (t : Turn) → is_pending t ≡ false → is_going t ≡ false
 not_pending Going e = cc
 not_pending Coming e = refl
 not_pending Quiet e = refl

@@ -1,6 +1,8 @@
 -- The machine at rest: with no message on a link to or from the switch, the controller and the members, the share is idle, no packet
 -- waits, and each member's record has seen all.
 use Rattle.std.proofs.Common.{◌≡◌, ℕ, true, false, ◌==◌, Option, List, [], ◌∷◌, ◌++◌, map, refl, sym, ap, ◌∙◌}
+use Rattle.unit_machine.proofs.Rests.{behind_nil}
+use Rattle.unit_machine.proofs.Lists.{cons_nil}
 use Rattle.share_machine.proofs.Share.{Ran, Item, Item.Carry, Item.Fence, Item.Diverted, Frame, Phase.Idle, View, has, only}
 use Rattle.share_machine.proofs.Stages.{Turn, Turn.Going, Turn.Coming, Turn.Quiet, is_pending, goes_to, comes_from, count, Stage, Stage.Diverting, Stage.Fence_goes, Stage.Fenced_comes, Stage.Get_goes, Stage.Chunks_come, Stage.Spreads, Stage.Resting, Stage.Forwards, Stage.Carries, Stage.Chunk_comes, front, processed, path, shape, IsShare, FitsFrame}
 use Rattle.share_machine.proofs.Lists.{self, count-none}
@@ -20,13 +22,6 @@ pub record Silent {R : Type 0} (f : Frame R) (x : View R) : Type 0 where
   pub cs : x.cs ≡ []
   pub to : (k : ℕ) → has f.members k ≡ true → x.to k ≡ []
   pub back : (k : ℕ) → has f.members k ≡ true → x.back k ≡ []
-
-cons_nil : {X Y : Type 0} {x : X} {xs : List X} → x ∷ xs ≡ [] → Y
-cons_nil e = cc
-
-behind_nil : {X Y : Type 0} (xs : List X) (x : X) (ys : List X) → xs ++ x ∷ ys ≡ [] → Y
-behind_nil [] x ys e = cons_nil e
-behind_nil (a ∷ xs) x ys e = cons_nil e
 
 -- what stands at a node, looked at there
 here : {X : Type 0} (h : ℕ) (xs : List X) → only h xs h ≡ [] → xs ≡ []

@@ -1,9 +1,10 @@
 -- Each move from each stage in which a share is set up, up to the first Sync.
-use Rattle.std.proofs.Common.{◌≡◌, ℕ, ◌<◌, ◌≤◌, ◌+◌, Bool, true, false, cond, not, ◌&&◌, ◌==◌, Option, None, Some, List, [], ◌∷◌, ◌++◌, map, length, refl, sym, ap, subst, ◌∙◌, append_assoc, append-nil, arith}
+use Rattle.std.proofs.Common.{◌≡◌, ℕ, ◌+◌, Bool, true, false, cond, not, ◌&&◌, ◌==◌, Option, None, Some, List, [], ◌∷◌, ◌++◌, map, length, refl, sym, ap, subst, ◌∙◌, append_assoc, append-nil, arith}
 use Rattle.std.proofs.lemmas.Bool.Decides.{nat_tests, Decides-eqb}
+use Rattle.std.proofs.lemmas.List.{map-append}
 use Rattle.share_machine.proofs.Share.{Ran, Item, Item.Carry, Item.Fence, Item.Get, Item.Sync, Item.Fenced, Item.Chunks, Frame, View, Phase, Phase.Setting, put, put_ctrl, waits, serve, answers, sync_to, ShareMachineStep, ShareMachineStep.Arrive, ShareMachineStep.Take_cs, ShareMachineStep.Take_sc, ShareMachineStep.Take_sw, ShareMachineStep.Take_to, ShareMachineStep.Take_back, has, without, if_mine, after, only, moved, from_sw, from_to, from_back}
 use Rattle.share_machine.proofs.Stages.{Turn.Going, Turn.Quiet, is_going, goes_to, comes_from, Stage, Stage.Diverting, Stage.Fence_goes, Stage.Fenced_comes, Stage.Get_goes, Stage.Chunks_come, Stage.Spreads, front, early, late, shape, IsFront, IsShare, FitsFrame, Alike, brings, Leads}
-use Rattle.share_machine.proofs.Lists.{cond-same, cond-append, cond-cond, self, runs-append, mine_in-append, served-append, packets-append, packets-served, map-append, over_front, has-without, distinct-without, length-without, counts_turns, turns_sent, turn_of, in_without, turn_self}
+use Rattle.share_machine.proofs.Lists.{cond-same, cond-append, cond-cond, self, runs-append, mine_in-append, served-append, packets-append, packets-served, over_front, has-without, distinct-without, length-without, counts_turns, turns_sent, turn_of, in_without, turn_self}
 
 pub ruleset links = (cond-append, cond-cond, cond-same, append-nil, map-append)
 

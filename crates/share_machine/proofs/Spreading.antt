@@ -5,6 +5,7 @@ use Rattle.share_machine.proofs.Share.{Ran, Item, Item.Diverted, Item.Sync, Item
 use Rattle.share_machine.proofs.Stages.{Turn, Turn.Going, Turn.Coming, Turn.Quiet, is_going, is_pending, goes_to, comes_from, count, Stage, Stage.Spreads, Stage.Resting, Stage.Forwards, front, shape, served, IsFront, FitsSpread, Behind, brings, Leads}
 use Rattle.share_machine.proofs.Lists.{count-put, count-zero, pending-put}
 use Rattle.share_machine.proofs.Setting.{links, orders, front_same, stays}
+use Rattle.share_machine.proofs.Records.{not_pending}
 
 module _ {R : Type 0} (f : Frame R) where
   module _ (first : Bool) (d : List Ran) (e : List ℕ) (b : ℕ → List Ran) (c : Option R) (at : ℕ → Turn) (o : List ℕ) (left : ℕ) (q v : List ℕ) (h : FitsSpread f (d ++ served f e) b c at o left) where
@@ -111,11 +112,6 @@ module _ {R : Type 0} (f : Frame R) where
     quiet_back Coming e = cc
     quiet_back Quiet e = refl
 
-    quiet_going : (t : Turn) → is_pending t ≡ false → is_going t ≡ false
-    quiet_going Going e = cc
-    quiet_going Coming e = refl
-    quiet_going Quiet e = refl
-
     gone_to : (j : ℕ) → at j ≡ Coming → ((k : ℕ) → is_pending (put at j Quiet k) ≡ false) → (k : ℕ) → goes_to c (at k) ≡ []
     gone_to j is off k = elim (k == j) as (λ t. (k == j) ≡ t → is_pending (cond t Quiet (at k)) ≡ false → goes_to c (at k) ≡ []) [
       | true ↦ λ s _. let comes : at k ≡ Coming = rw ((Decides-eqb k j).0 s) is in rw comes refl
@@ -131,7 +127,7 @@ module _ {R : Type 0} (f : Frame R) where
     not_going : (j : ℕ) → at j ≡ Coming → ((k : ℕ) → is_pending (put at j Quiet k) ≡ false) → (k : ℕ) → is_going (at k) ≡ false
     not_going j is off k = elim (k == j) as (λ t. (k == j) ≡ t → is_pending (cond t Quiet (at k)) ≡ false → is_going (at k) ≡ false) [
       | true ↦ λ s _. let comes : at k ≡ Coming = rw ((Decides-eqb k j).0 s) is in rw comes refl
-      | false ↦ λ _ p. quiet_going (at k) p
+      | false ↦ λ _ p. not_pending (at k) p
     ] refl (off k)
 
     -- an answer is taken, and more are waited for

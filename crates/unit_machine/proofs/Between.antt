@@ -7,9 +7,9 @@ use Rattle.unit_machine.proofs.Stages.{Stage, At_rest, Moved, Undone, rest, shap
 use Rattle.unit_machine.proofs.Path.{carries}
 use Rattle.unit_machine.proofs.Beside.{strip, beside}
 use Rattle.unit_machine.proofs.Bare.{firsts_nil}
-use Rattle.unit_machine.proofs.Controls.{not_single}
 use Rattle.unit_machine.proofs.Rests.{is_over}
 use Rattle.unit_machine.proofs.Seats.{Seat, Covered, Is_beside, Is_away, seat_shape, seat_all, over_free}
+use Rattle.unit_machine.proofs.Controls.{never_true}
 
 -- a unit at rest at one side: its packets on that side's link, its record live there
 abbrev pub rest_at : {R : Type 0} → Steps R → Where → List Ran → List ℕ → Phase R → Bool → State R
@@ -49,7 +49,7 @@ away_over : {R : Type 0} (F : Steps R) (b : Stage F) (bare : all_of b ≡ []) (d
 away_over F (At_rest d0 l0 k) bare d l e = let n = nothing d0 l0 bare in let a = n.0 in let b = n.1 in Rests_at At_c d l Idle k (rw (a, b) (rw (append-nil d) refl)) refl
 away_over F (Moved d0 l0 k) bare d l e = let n = nothing d0 l0 bare in let a = n.0 in let b = n.1 in Rests_at At_c d l (Over None) k (rw (a, b) (rw (append-nil d) refl)) refl
 away_over F (Undone d0 l0 k why) bare d l e = let n = nothing d0 l0 bare in let a = n.0 in let b = n.1 in Rests_at At_c d l (Over (Some why)) k (rw (a, b) (rw (append-nil d) refl)) refl
-away_over F b bare d l e = not_single e
+away_over F b bare d l e = never_true e
 
 beside_over : {R : Type 0} (F : Steps R) (b : Stage F) → all_of b ≡ [] → (z : List (Item R)) (h : List ℕ) (d : List Ran) → strip z ≡ (shape F b).sb → h ≡ [] → is_over (shape F b).phase ≡ true → At_rest_now F (beside F (shape F b) z h d) (firsts d ++ (h ++ carries z))
 beside_over F (At_rest d0 l0 k) bare z h d strips held e =
@@ -64,13 +64,13 @@ beside_over F (Undone d0 l0 k why) bare z h d strips held e =
     let n = nothing d0 l0 bare in let a = n.0 in let b = n.1 in
     let link = only_carries z strips in
     Rests_at At_b d (carries z) (Over (Some why)) k (rw (a, b, held, append-nil d) (ap (λ x. record (rest_at F At_b d [] (Over (Some why)) k) { sb = x }) link)) (rw held refl)
-beside_over F b bare z h d strips held e = not_single e
+beside_over F b bare z h d strips held e = never_true e
 
 covered_over : {R : Type 0} (F : Steps R) (s : Stage F) → is_over (shape F s).phase ≡ true → At_rest_now F (shape F s) (all_of s)
 covered_over F (At_rest d l k) e = Rests_at At_a d l Idle k refl refl
 covered_over F (Moved d l k) e = Rests_at At_b d l (Over None) k refl refl
 covered_over F (Undone d l k why) e = Rests_at At_a d l (Over (Some why)) k refl refl
-covered_over F s e = not_single e
+covered_over F s e = never_true e
 
 -- a move that has ended leaves each unit at rest at one side
 pub seat_ends : {R : Type 0} (F : Steps R) (s : Seat F) → is_over (seat_shape F s).phase ≡ true → At_rest_now F (seat_shape F s) (seat_all s)

@@ -4,7 +4,7 @@ use Rattle.std.specs.Prelude.{if◌then◌else◌, ◌==◌, option_to_list, nat
 use Rattle.nf_function.specs.declared.unit.Unit as units
 use Rattle.record_table.specs.Table.{same_unit}
 use Rattle.unit_machine.proofs.Machine.{is_nil, Piece}
-use Rattle.unit_machine.proofs.UnitPieces.{ArePiecesOf, records, closes, first, nil_left, nil_right}
+use Rattle.unit_machine.proofs.UnitPieces.{ArePiecesOf, records, closes, first, nil_left, nil_right, first_of_one}
 use Rattle.unit_machine.proofs.Real.{Chunks, record_at, RPiece, Msg, M_piece, Frame, see, view}
 
 -- all records of a unit in chunks
@@ -62,10 +62,6 @@ halves (a ∷ x) y None e = let never : ⊥ = cc in absurd never
 halves (a ∷ x) y (Some r) e =
     let none : x ++ y ≡ [] = cc in
     (Some a, None, ap (λ z. a ∷ z) (nil_left x y none), nil_right x y none)
-
-first_of_one : {R : Type 0} (o : Option R) → first (option_to_list o) ≡ o
-first_of_one None = refl
-first_of_one (Some r) = refl
 
 list_of_own : {R : Type 0} (o : Option R) (xs : List R) → elim o as (λ _. List R) [ None ↦ xs | Some r ↦ r ∷ xs ] ≡ option_to_list o ++ xs
 list_of_own None xs = refl

@@ -2,9 +2,10 @@
 -- Each leads to a stage, in order.
 use Rattle.std.proofs.Common.{◌≡◌, ℕ, Bool, true, false, Option, Some, None, List, [], ◌∷◌, ◌++◌, refl, sym, ap, ◌∙◌, append_assoc, append-nil}
 use Rattle.std.specs.Prelude.{◌&&◌}
+use Rattle.std.proofs.lemmas.Bool.{and_parts}
 use Rattle.nf_msgs.specs.declared.answer.Answer.{Answer}
 use Rattle.unit_machine.proofs.Machine.{At_a, Ran, Steps, after, joined, Part, pick, or_own, is_nil, MachineStep, Arrive, Take_sa, Take_ac, Take_bc, Take_ca, Take_cb}
-use Rattle.unit_machine.proofs.Lists.{Mix, Ev, Pc, Dd, events, pieces, named, shown-events}
+use Rattle.unit_machine.proofs.Lists.{Mix, Ev, Pc, Dd, events, pieces, named, shown-events, nil_is}
 use Rattle.unit_machine.proofs.UnitPieces.{ArePiecesOf, refit, pick_all, pick-append, pick_one, others, last_is, none_behind, nil_left, nil_right}
 use Rattle.unit_machine.proofs.Stages.{Streams, All_put, Hold_goes, Laying, Restore_goes, Doorway, Is_shut, Is_asked, Is_agreed, Is_denied, Is_wide, Is_refused, Flows, body, GoesOn}
 use Rattle.unit_machine.proofs.Early.{shapes, paths, still}
@@ -29,18 +30,6 @@ joined_pick F g h t o f =
       | Some r ↦ λ e. let none = (others g h t o r e f).0 in rw none refl
     ] refl ∙ ap (λ p. or_own (pick g) p) (sym (pick_one h)) ∙ sym (pick-append g (h ∷ []))
 
-and_left : (b c : Bool) → b && c ≡ true → b ≡ true
-and_left true c e = refl
-and_left false c e = cc
-
-and_right : (b c : Bool) → b && c ≡ true → c ≡ true
-and_right true c e = e
-and_right false c e = cc
-
-nil_is : {X : Type 0} (xs : List X) → is_nil xs ≡ true → xs ≡ []
-nil_is [] e = refl
-nil_is (x ∷ xs) e = cc
-
 -- nothing of the body is left
 pub record Calm {R : Type 0} (y : List (Mix R)) (q : List (Part R)) : Type 0 where
   pub no_named : named y ≡ []
@@ -54,8 +43,8 @@ calm y q e =
 
 calm_tests : {R : Type 0} (y : List (Mix R)) (q : List (Part R)) → is_nil (pieces y) && is_nil (named y ++ q) ≡ true → Calm y q
 calm_tests y q e =
-    let more = nil_is (named y ++ q) (and_right (is_nil (pieces y)) (is_nil (named y ++ q)) e) in
-    record { no_named = nil_left (named y) q more; no_delete = nil_right (named y) q more; no_piece = nil_is (pieces y) (and_left (is_nil (pieces y)) (is_nil (named y ++ q)) e) }
+    let more = nil_is (named y ++ q) (and_parts (is_nil (pieces y)) (is_nil (named y ++ q)) e).1 in
+    record { no_named = nil_left (named y) q more; no_delete = nil_right (named y) q more; no_piece = nil_is (pieces y) (and_parts (is_nil (pieces y)) (is_nil (named y ++ q)) e).0 }
 
 calm_body : {R : Type 0} (y : List (Mix R)) (q : List (Part R)) → Calm y q → body y q ≡ []
 calm_body y q c = let n = c.no_named in let m = c.no_delete in let p = c.no_piece in rw (n, m, p) refl

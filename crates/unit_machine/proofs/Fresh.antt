@@ -8,6 +8,7 @@ use Rattle.unit_machine.proofs.Stages.{drops, Stage, At_rest, Begun, Frozen, Str
 use Rattle.unit_machine.proofs.Bare.{bare_facts, stays_bare}
 use Rattle.unit_machine.proofs.Steps.{goes_on}
 use Rattle.unit_machine.proofs.Seats.{Seat, Covered, Is_beside, Is_away, seat_shape}
+use Rattle.unit_machine.proofs.Lists.{cons_nil}
 
 -- a message at which no instance processes anything
 abbrev pub still_item : {R : Type 0} → Item R → Bool
@@ -67,17 +68,13 @@ still_ran F w parts refuse i (Put h first) e = put_still F first refuse i h
 still_ran F w parts refuse i it e = refl
 
 -- what is processed doesn't hang on the flags
-ran_same : {R : Type 0} (F : Steps R) (w : Where) (parts : List (Part R)) (refuse : Option Answer) (i : Inst R) (it : Item R) → (inst_does F w [] None i it).ran ≡ (inst_does F w parts refuse i it).ran
+pub ran_same : {R : Type 0} (F : Steps R) (w : Where) (parts : List (Part R)) (refuse : Option Answer) (i : Inst R) (it : Item R) → (inst_does F w [] None i it).ran ≡ (inst_does F w parts refuse i it).ran
 ran_same F w parts refuse i (Put h first) = put_still F first None i h ∙ sym (put_still F first refuse i h)
 ran_same F w parts refuse i it = refl
 
--- Covered units: A's record, B's, and C's nothing.
-cons_nil : {X Y : Type 0} {x : X} {xs : List X} → [] ≡ x ∷ xs → Y
-cons_nil e = cc
-
--- packets of a frozen unit aren't processed
+-- Covered units: A's record, B's, and C's nothing. Packets of a frozen unit aren't processed.
 dropped : {R : Type 0} (F : Steps R) (o : Option R) (l : List ℕ) (it : Item R) (v : List (Item R)) → map Carry l ≡ it ∷ v → (inst_does F At_a [] None (drops o) it).ran ≡ []
-dropped F o [] it v e = cons_nil e
+dropped F o [] it v e = cons_nil (sym e)
 dropped F o (p ∷ l) it v e = let same : Carry p ≡ it = cc in subst (λ x. (inst_does F At_a [] None (drops o) x).ran ≡ []) same refl
 
 dropped_fence : {R : Type 0} (F : Steps R) (o : Option R) (l : List ℕ) (it : Item R) (v : List (Item R)) → map Carry l ++ Fence ∷ [] ≡ it ∷ v → (inst_does F At_a [] None (drops o) it).ran ≡ []
@@ -96,34 +93,34 @@ sa_stage F (Laying d x f g y l k) it v e r = absurd (r (dropped F None l it v e)
 sa_stage F (Restore_goes d f y l k why) it v e r = absurd (r (dropped F None l it v e))
 sa_stage F (Turned d x f y l h) it v e r = absurd (r (dropped_fence F None l it v e))
 sa_stage F (Turned_loose d x f y l) it v e r = absurd (r (dropped_fence F None l it v e))
-sa_stage F (Fenced_a d x f y h) it v e r = cons_nil e
-sa_stage F (Ending_b d x f h) it v e r = cons_nil e
-sa_stage F (Fence_b d x n h) it v e r = cons_nil e
-sa_stage F (Fenced_loose d x f y) it v e r = cons_nil e
-sa_stage F (Ending_loose d x f) it v e r = cons_nil e
-sa_stage F (Fence_loose d x n) it v e r = cons_nil e
-sa_stage F (Fenced_b d l k) it v e r = cons_nil e
-sa_stage F (Moved d l k) it v e r = cons_nil e
+sa_stage F (Fenced_a d x f y h) it v e r = cons_nil (sym e)
+sa_stage F (Ending_b d x f h) it v e r = cons_nil (sym e)
+sa_stage F (Fence_b d x n h) it v e r = cons_nil (sym e)
+sa_stage F (Fenced_loose d x f y) it v e r = cons_nil (sym e)
+sa_stage F (Ending_loose d x f) it v e r = cons_nil (sym e)
+sa_stage F (Fence_loose d x n) it v e r = cons_nil (sym e)
+sa_stage F (Fenced_b d l k) it v e r = cons_nil (sym e)
+sa_stage F (Moved d l k) it v e r = cons_nil (sym e)
 sa_stage F (At_rest d l k) it v e r = refl
 sa_stage F s it v e r = refl
 
 sb_stage : {R : Type 0} (F : Steps R) (s : Stage F) (it : Item R) (v : List (Item R)) → (shape F s).sb ≡ it ∷ v → (shape F s).b.live ≡ after F (shape F s).done
-sb_stage F (At_rest d l k) it v e = cons_nil e
-sb_stage F (Begun d l k) it v e = cons_nil e
-sb_stage F (Frozen d y l k) it v e = cons_nil e
-sb_stage F (Stream_goes d f y l k) it v e = cons_nil e
-sb_stage F (Streams d f y q l k s w) it v e = cons_nil e
-sb_stage F (Restore_goes d f y l k why) it v e = cons_nil e
-sb_stage F (Restored_comes d f y g l k why) it v e = cons_nil e
-sb_stage F (Turn_goes d f y l k why) it v e = cons_nil e
-sb_stage F (Turned_back d f y h l k why) it v e = cons_nil e
-sb_stage F (Returned d x f h k why) it v e = cons_nil e
-sb_stage F (Fence_a d x n h k why) it v e = cons_nil e
-sb_stage F (Fenced_back d l k why) it v e = cons_nil e
-sb_stage F (Undone d l k why) it v e = cons_nil e
+sb_stage F (At_rest d l k) it v e = cons_nil (sym e)
+sb_stage F (Begun d l k) it v e = cons_nil (sym e)
+sb_stage F (Frozen d y l k) it v e = cons_nil (sym e)
+sb_stage F (Stream_goes d f y l k) it v e = cons_nil (sym e)
+sb_stage F (Streams d f y q l k s w) it v e = cons_nil (sym e)
+sb_stage F (Restore_goes d f y l k why) it v e = cons_nil (sym e)
+sb_stage F (Restored_comes d f y g l k why) it v e = cons_nil (sym e)
+sb_stage F (Turn_goes d f y l k why) it v e = cons_nil (sym e)
+sb_stage F (Turned_back d f y h l k why) it v e = cons_nil (sym e)
+sb_stage F (Returned d x f h k why) it v e = cons_nil (sym e)
+sb_stage F (Fence_a d x n h k why) it v e = cons_nil (sym e)
+sb_stage F (Fenced_back d l k why) it v e = cons_nil (sym e)
+sb_stage F (Undone d l k why) it v e = cons_nil (sym e)
 sb_stage F s it v e = refl
 
-sc_stage : {R : Type 0} (F : Steps R) (s : Stage F) → (shape F s).sc ≡ []
+pub sc_stage : {R : Type 0} (F : Steps R) (s : Stage F) → (shape F s).sc ≡ []
 sc_stage F (At_rest d l k) = refl
 sc_stage F s = refl
 
@@ -131,7 +128,7 @@ sc_stage F s = refl
 taken_sa : {R : Type 0} (F : Steps R) (u : State R) (it : Item R) (v : List (Item R)) → u.sa ≡ it ∷ v → (moved F u Take_sa).done ≡ u.done ++ (inst_does F At_a [] None u.a it).ran
 taken_sa {R = R} F u it v e = ap (λ l. (elim l as (λ _. State R) [ [] ↦ u | x ∷ xs ↦ put_a (record u { sa = xs }) (inst_does F At_a [] None u.a x) ]).done) e
 
-bare_sa : {R : Type 0} (F : Steps R) (s : Stage F) → all_of s ≡ [] → (it : Item R) (v : List (Item R)) → (shape F s).sa ≡ it ∷ v → (inst_does F At_a [] None (shape F s).a it).ran ≡ []
+pub bare_sa : {R : Type 0} (F : Steps R) (s : Stage F) → all_of s ≡ [] → (it : Item R) (v : List (Item R)) → (shape F s).sa ≡ it ∷ v → (inst_does F At_a [] None (shape F s).a it).ran ≡ []
 bare_sa F s bare it v e =
     let u = shape F s in
     let g = goes_on F s Take_sa tt in
@@ -141,7 +138,7 @@ bare_sa F s bare it v e =
 taken_sb : {R : Type 0} (F : Steps R) (u : State R) (it : Item R) (v : List (Item R)) → u.sb ≡ it ∷ v → (moved F u Take_sb).done ≡ u.done ++ (inst_does F At_b [] None u.b it).ran
 taken_sb {R = R} F u it v e = ap (λ l. (elim l as (λ _. State R) [ [] ↦ u | x ∷ xs ↦ put_b (record u { sb = xs }) (inst_does F At_b [] None u.b x) ]).done) e
 
-bare_sb : {R : Type 0} (F : Steps R) (s : Stage F) → all_of s ≡ [] → (it : Item R) (v : List (Item R)) → (shape F s).sb ≡ it ∷ v → (inst_does F At_b [] None (shape F s).b it).ran ≡ []
+pub bare_sb : {R : Type 0} (F : Steps R) (s : Stage F) → all_of s ≡ [] → (it : Item R) (v : List (Item R)) → (shape F s).sb ≡ it ∷ v → (inst_does F At_b [] None (shape F s).b it).ran ≡ []
 bare_sb F s bare it v e =
     let u = shape F s in
     let g = goes_on F s Take_sb tt in
@@ -160,6 +157,6 @@ fresh_sb F (Is_beside s) it v parts refuse e r = let none = (bare_facts F s.base
 fresh_sb F (Is_away s) it v parts refuse e r = absurd (r (sym (ran_same F At_b parts refuse (shape F s.base).b it) ∙ bare_sb F s.base s.bare it v e))
 
 pub fresh_sc : {R : Type 0} (F : Steps R) (s : Seat F) (it : Item R) (v : List (Item R)) → (seat_shape F s).sc ≡ it ∷ v → (seat_shape F s).c.live ≡ after F (seat_shape F s).done
-fresh_sc F (Covered s) it v e = cons_nil (sym (sc_stage F s) ∙ e)
-fresh_sc F (Is_beside s) it v e = cons_nil (sym (sc_stage F s.base) ∙ e)
+fresh_sc F (Covered s) it v e = cons_nil (sym e ∙ sc_stage F s)
+fresh_sc F (Is_beside s) it v e = cons_nil (sym e ∙ sc_stage F s.base)
 fresh_sc F (Is_away s) it v e = let none = (bare_facts F s.base s.bare).done in rw (none, append-nil s.d) refl

@@ -5,15 +5,24 @@ use Rattle.std.specs.Prelude.{if◌then◌else◌, ◌&&◌, is_some}
 use Rattle.nf_function.specs.declared.unit.Unit as units
 use Rattle.record_table.specs.Table.{is_among}
 use Rattle.nf_msgs.specs.declared.answer.Answer.{Answer}
+pub use Rattle.actor_net.proofs.WeightLaws.{Each, each-append}
 use Rattle.unit_machine.proofs.Machine.{is_nil, Door, Shut, Asked, Wide, Refused}
 use Rattle.unit_machine.proofs.UnitPieces.{nil_left, nil_right}
 use Rattle.unit_machine.proofs.Real.{Chunks, record_at, RPiece, chunks_of, Msg, M_delete, M_put, M_restore, M_enabled, M_event, M_piece, M_deleted, M_put_ok, M_put_no, M_restored, M_fenced, M_install, M_fence_to, RPhase, R_freezing, R_streaming, R_holding, R_passing, R_ending, R_restoring, R_returning, R_undoing, Op, Op_did, r_goes, put_to, forward_to, r_push, r_release, r_is_put, r_event, r_a_enabled, r_piece, r_deleted, r_restored, r_a_fenced, r_from_a, r_put_ok, r_put_no, r_b_enabled, r_b_fenced, r_from_b, put_back}
 use Rattle.unit_machine.proofs.Seen.{is_among-units, record_at-append}
 use Rattle.unit_machine.proofs.Cuts.{all_at, all_at-append, record_first, joined_up, marks}
 
-abbrev pub Each : {X : Type 0} → (X → Type 0) → List X → Type 0
-Each P [] = Unit {0}
-Each P (x ∷ xs) = P x × Each P xs
+pub each_map : {X : Type 0} {P Q : X → Type 0} → ((x : X) → P x → Q x) → (xs : List X) → Each P xs → Each Q xs
+each_map g [] h = tt
+each_map g (x ∷ xs) h = (g x h.0, each_map g xs h.1)
+
+pub each_both : {X : Type 0} {P Q T : X → Type 0} → ((x : X) → P x → Q x → T x) → (xs : List X) → Each P xs → Each Q xs → Each T xs
+each_both g [] p q = tt
+each_both g (x ∷ xs) p q = (g x p.0 q.0, each_both g xs p.1 q.1)
+
+pub each_any : {X : Type 0} (xs : List X) → Each (λ _. Unit {0}) xs
+each_any [] = tt
+each_any (x ∷ xs) = (tt, each_any xs)
 
 abbrev pub Without : {R : Type 0} → units.Unit → RPiece R → Type 0
 Without u p = record_at u p.chunks ≡ None
@@ -35,10 +44,6 @@ Clean u phase = Unit {0}
 
 abbrev pub Stays_clean : {R : Type 0} → units.Unit → Op_did R → Type 0
 Stays_clean u did = Clean u did.phase × Each (Sent_foreign u) did.sends
-
-pub each-append : {X : Type 0} (P : X → Type 0) (xs ys : List X) → Each P xs → Each P ys → Each P (xs ++ ys)
-each-append P [] ys a b = b
-each-append P (x ∷ xs) ys a b = (a.0, each-append P xs ys a.1 b)
 
 -- the pieces that a source cuts for another filter
 pub cut_foreign : {R : Type 0} (u : units.Unit) (total newest : ℕ) (cs : List (Chunks R)) → all_at u (joined_up cs) ≡ [] → Each (Without u) (marks total newest cs)

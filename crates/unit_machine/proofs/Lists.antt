@@ -2,7 +2,11 @@
 -- Deleteds.
 use Rattle.std.proofs.Common.{◌≡◌, ℕ, Bool, true, false, Option, Some, List, [], ◌∷◌, ◌++◌, map, refl, ap}
 use Rattle.std.specs.Prelude.{if◌then◌else◌}
-use Rattle.unit_machine.proofs.Machine.{Where, Ran, on, Steps, runs, Part, Item, Carry, Pass, Event, Piece, Deleted}
+use Rattle.unit_machine.proofs.Machine.{Where, Ran, on, Steps, runs, Part, Item, Carry, Pass, Event, Piece, Deleted, is_nil}
+
+pub nil_is : {X : Type 0} (xs : List X) → is_nil xs ≡ true → xs ≡ []
+nil_is [] e = refl
+nil_is (x ∷ xs) e = cc
 
 pub runs-append : {R : Type 0} (F : Steps R) (o : Option R) (d e : List Ran) → runs F o (d ++ e) ≡ runs F (runs F o d) e
 runs-append F o [] e = refl
@@ -148,12 +152,12 @@ shown-sent [] [] = refl
 shown-sent [] (p ∷ ps) = ap (λ z. Piece p ∷ z) (shown-sent [] ps)
 shown-sent (x ∷ e) ps = ap (λ z. Event x ∷ z) (shown-sent e ps)
 
-nil_cons : {X : Type 0} {x : X} {xs : List X} → x ∷ xs ≡ [] → ⊥
-nil_cons e = cc
+pub cons_nil : {X Y : Type 0} {x : X} {xs : List X} → x ∷ xs ≡ [] → Y
+cons_nil e = cc
 
 -- where no piece and no Deleted is left, the link has events alone
 pub shown-events : {R : Type 0} (y : List (Mix R)) → named y ≡ [] → pieces y ≡ [] → map shown y ≡ map Event (events y)
 shown-events [] n p = refl
 shown-events (Ev x ∷ y) n p = ap (λ z. Event x ∷ z) (shown-events y n p)
-shown-events (Pc h ∷ y) n p = absurd (nil_cons p)
-shown-events (Dd h ∷ y) n p = absurd (nil_cons n)
+shown-events (Pc h ∷ y) n p = cons_nil p
+shown-events (Dd h ∷ y) n p = cons_nil n

@@ -1,7 +1,8 @@
 -- Each step of a move without a buffer at B, after its Install, leads to a stage, with the same packets in whatever order.
-use Rattle.std.proofs.Common.{◌≡◌, ℕ, Bool, true, false, List, [], ◌∷◌, ◌++◌, append_assoc, append-nil}
+use Rattle.std.proofs.Common.{◌≡◌, ℕ, ◌+◌, Bool, true, false, List, [], ◌∷◌, ◌++◌, refl, append_assoc, append-nil, arith}
+use Rattle.std.proofs.lemmas.Cmp.{nat_eq_equiv}
+use Rattle.std.specs.Prelude.{if◌then◌else◌, ◌==◌}
 use Rattle.unit_machine.proofs.Machine.{At_b, Ran, Steps, MachineStep, Arrive, Take_sa, Take_sb, Take_ac, Take_cs}
-use Rattle.std.proofs.Common.{◌+◌, arith}
 use Rattle.unit_machine.proofs.Lists.{firsts-append, passing, plain, plains, passes-append, plains-append}
 use Rattle.unit_machine.proofs.Stages.{Turned_loose, Fenced_loose, Ending_loose, Fence_loose, Fenced_b, GoesOn, times}
 use Rattle.unit_machine.proofs.Early.{shapes, paths, still, one_more}
@@ -10,6 +11,15 @@ use Rattle.unit_machine.proofs.Late.{same_lists}
 pub times-append : (n : ℕ) (xs ys : List ℕ) → times n (xs ++ ys) ≡ times n xs + times n ys
 times-append n [] ys = omega arith
 times-append n (x ∷ xs) ys = let e = times-append n xs ys in omega arith
+
+-- a list in which nothing is
+pub none_in : (xs : List ℕ) → ((n : ℕ) → times n xs ≡ 0) → xs ≡ []
+none_in [] h = refl
+none_in (x ∷ xs) h =
+    let here : (if x == x then 1 else 0) + times x xs ≡ 0 = h x in
+    let self : (x == x) ≡ true = nat_eq_equiv.refl x in
+    let one : 1 + times x xs ≡ 0 = rw self at here in
+    absurd (omega (arith, one))
 
 ruleset counts = (times-append, firsts-append, passes-append, plains-append, append_assoc, append-nil)
 

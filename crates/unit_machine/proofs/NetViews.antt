@@ -10,17 +10,14 @@ use Rattle.actor_net.proofs.WaitingMessages.{less_first}
 use Rattle.actor_net.proofs.StepOutcome.{Takes, taken_outcome}
 use Rattle.unit_machine.proofs.Pairs.{after_take}
 use Rattle.unit_machine.proofs.Real.{add}
+use Rattle.unit_machine.proofs.Seen.{add-append}
 
 -- the items of a list of messages
 abbrev pub items : {M X : Type 0} → (M → Option X) → List M → List X
 items g [] = []
 items g (m ∷ ms) = add (g m) (items g ms)
 
-add-append : {X : Type 0} (o : Option X) (x y : List X) → add o (x ++ y) ≡ add o x ++ y
-add-append None x y = refl
-add-append (Some a) x y = refl
-
-items-append : {M X : Type 0} (g : M → Option X) (x y : List M) → items g (x ++ y) ≡ items g x ++ items g y
+pub items-append : {M X : Type 0} (g : M → Option X) (x y : List M) → items g (x ++ y) ≡ items g x ++ items g y
 items-append g [] y = refl
 items-append g (m ∷ x) y = ap (λ z. add (g m) z) (items-append g x y) ∙ add-append (g m) (items g x) (items g y)
 

@@ -6,6 +6,7 @@ use Rattle.unit_machine.proofs.Machine.{is_nil, Door, Shut, Asked, Wide, Refused
 use Rattle.unit_machine.proofs.Real.{Chunks, RPiece, chunks_of, Msg, M_restore, M_enabled, M_event, M_piece, M_deleted, M_put_ok, M_put_no, M_restored, M_fenced, M_install, M_fence_to, RPhase, R_freezing, R_streaming, R_holding, R_passing, R_ending, R_restoring, R_returning, R_undoing, Op, Op_did, r_goes, put_to, forward_to, r_push, r_is_put, r_event, r_a_enabled, r_piece, r_deleted, r_restored, r_a_fenced, r_from_a, r_put_ok, r_put_no, r_b_enabled, r_b_fenced, r_from_b, put_back, Frame, where_true, seen, view, only_mine, sent_for}
 use Rattle.unit_machine.proofs.Seen.{only_mine-append}
 use Rattle.unit_machine.proofs.Labels.{Each, each-append}
+use Rattle.unit_machine.proofs.Lists.{cons_nil}
 
 abbrev pub Unseen : {R : Type 0} → Frame → ℕ × Msg R → Type 0
 Unseen v x = seen v x.1 ≡ None
@@ -26,15 +27,12 @@ unseen_if : {X : Type 0} (b : Bool) (x : X) → b ≡ false → where_true b x �
 unseen_if true x e = let never : true ≡ false = e in cc
 unseen_if false x e = refl
 
-not_nil : {X Y : Type 0} {x : X} {xs : List X} → x ∷ xs ≡ [] → Y
-not_nil e = cc
-
 -- the packets of a list that keeps none of the unit
 forwards_unseen : (R : Type 0) (v : Frame) (to : ℕ) (f : List ℕ) → only_mine v f ≡ [] → Each (Unseen {R = R} v) (map (forward_to to) f)
 forwards_unseen R v to [] e = tt
 forwards_unseen R v to (p ∷ f) e =
     elim (v.mine p) as (λ b. v.mine p ≡ b → (if b then p ∷ only_mine v f else only_mine v f) ≡ [] → Each (Unseen {R = R} v) (map (forward_to to) (p ∷ f))) [
-      | true ↦ λ is some. not_nil some
+      | true ↦ λ is some. cons_nil some
       | false ↦ λ off rest. (rw off refl, forwards_unseen R v to f rest)
     ] refl e
 

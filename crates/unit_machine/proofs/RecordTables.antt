@@ -1,11 +1,12 @@
 -- The live records of an instance keep the four laws of look-ups of `SeenInst`.
-use Rattle.std.proofs.Common.{◌≡◌, Bool, true, false, [], ◌∷◌, Option, Some, None, refl, sym, ap, ◌∙◌}
+use Rattle.std.proofs.Common.{◌≡◌, true, false, [], ◌∷◌, Option, Some, None, refl, sym, ap, ◌∙◌}
 use Rattle.std.specs.Prelude.{T, if◌then◌else◌, ◌&&◌, option_to_list}
 use Rattle.std.specs.Ordering.{is_eq, is_lt}
 use Rattle.std.specs.declared.cmp.Ordering.TheVariants.{Less, Equal, Greater}
 use Rattle.std.specs.FinMap as finite
 use Rattle.std.specs.FinMap.{is_sorted, entries_sorted, get-entries, get-from_entries, get-retain_keys}
 use Rattle.std.specs.FinMap.Entries.{below_all}
+use Rattle.std.proofs.Math.Facts.{and_yes}
 use Rattle.nf_function.specs.declared.unit.Unit as units
 use Rattle.nf_function.specs.Units.{unit_cmp}
 use Rattle.nf_function.specs.UnitOrder.{units_total}
@@ -30,10 +31,6 @@ live_table {R} f = record {
   restore = λ cs t. newest_of f t (finite.from_entries cs);
 }
 
-both_parts : (a b : Bool) → T (a && b) → T a × T b
-both_parts true b h = (tt, h)
-both_parts false b h = absurd h
-
 module _ {R : Type 0} where
   none_above : (u : units.Unit) (es : Chunks R) → T (below_all unit_cmp u es) → all_at u es ≡ []
   none_above u [] h = refl
@@ -48,7 +45,7 @@ module _ {R : Type 0} where
   pub all_at-sorted : (u : units.Unit) (es : Chunks R) → T (is_sorted unit_cmp es) → all_at u es ≡ option_to_list (record_at u es)
   all_at-sorted u [] h = refl
   all_at-sorted u (e ∷ es) h =
-      let parts = both_parts (below_all unit_cmp e.0 es) (is_sorted unit_cmp es) h in
+      let parts = and_yes (below_all unit_cmp e.0 es) (is_sorted unit_cmp es) h in
       elim (same_unit u e.0) as (λ b. same_unit u e.0 ≡ b → (if b then e.1 ∷ all_at u es else all_at u es) ≡ option_to_list (if b then Some e.1 else record_at u es)) [
         | true ↦ λ t. let same = same_unit-true u e.0 t in ap (λ z. e.1 ∷ z) (none_above u es (rw same parts.0))
         | false ↦ λ _. all_at-sorted u es parts.1

@@ -8,7 +8,7 @@ use Rattle.unit_machine.proofs.Away.{Away, shape_away, all_away, away_goes_on}
 use Rattle.unit_machine.proofs.Beside.{Beside, strip, shape_beside, all_beside, beside_goes_on}
 use Rattle.unit_machine.proofs.Path.{carries}
 use Rattle.unit_machine.proofs.Falls.{weigh}
-use Rattle.unit_machine.proofs.Controls.{control, controls, single, one_message, not_single}
+use Rattle.unit_machine.proofs.Controls.{control, controls, single, one_message, never_true}
 use Rattle.unit_machine.proofs.Rests.{is_over, Silent, rests, none_carried}
 
 pub data Seat {R : Type 0} (F : Steps R) : Type 0 where
@@ -102,7 +102,7 @@ seat_rests F (Is_beside s) h = (rests F s.base (record { sa = h.sa; sb = sym s.s
 
 pub over_free : {R : Type 0} (F : Steps R) (s : Stage F) → is_over (shape F s).phase ≡ true → (shape F s).b.rule ≡ Free
 over_free F (At_rest d l k) e = refl
-over_free F s e = search (not_single)
+over_free F s e = search (never_true)
 
 -- what has arrived and isn't processed
 abbrev pub seat_path : {R : Type 0} {F : Steps R} → Seat F → List ℕ

@@ -41,7 +41,7 @@ only_mine-append v (p ∷ x) y =
       | false ↦ only_mine-append v x y
     ]
 
-add-append : {X : Type 0} (o : Option X) (x y : List X) → add o (x ++ y) ≡ add o x ++ y
+pub add-append : {X : Type 0} (o : Option X) (x y : List X) → add o (x ++ y) ≡ add o x ++ y
 add-append None x y = refl
 add-append (Some a) x y = refl
 
@@ -49,7 +49,7 @@ view-append : {R : Type 0} (v : Frame) (x y : List (Msg R)) → view v (x ++ y) 
 view-append v [] y = refl
 view-append v (m ∷ x) y = ap (λ z. add (seen v m) z) (view-append v x y) ∙ add-append (seen v m) (view v x) (view v y)
 
-sent_for-append : {M : Type 0} (r : ℕ) (x y : List (ℕ × M)) → sent_for r (x ++ y) ≡ sent_for r x ++ sent_for r y
+pub sent_for-append : {M : Type 0} (r : ℕ) (x y : List (ℕ × M)) → sent_for r (x ++ y) ≡ sent_for r x ++ sent_for r y
 sent_for-append r [] y = refl
 sent_for-append r (m ∷ x) y =
     elim (m.0 == r) as (λ b. (if b then m.1 ∷ sent_for r (x ++ y) else sent_for r (x ++ y)) ≡ (if b then m.1 ∷ sent_for r x else sent_for r x) ++ sent_for r y) [

@@ -4,6 +4,7 @@ use Rattle.std.specs.Prelude.{if◌then◌else◌, ◌&&◌, ◌==◌, nat_lt, i
 use Rattle.std.specs.List.{filter_map, IsDistinct}
 use Rattle.std.specs.FinMap as finite
 use Rattle.std.proofs.lemmas.Bool.Decides.{nat_tests, Decides-ltb}
+use Rattle.std.proofs.lemmas.Bool.{and_parts}
 use Rattle.flow_filter.specs.declared.filter.Filter.{Filter}
 use Rattle.nf_function.specs.Semantics.{Semantics}
 use Rattle.nf_msgs.specs.declared.answer.Answer.{Answer}
@@ -24,7 +25,7 @@ use Rattle.abstract_net.proofs.Net.{behind}
 use Rattle.abstract_net.proofs.Waits.{Rising}
 use Rattle.abstract_net.proofs.Shares.{Any, New, S_asked, S_install, Want_share, new_share, Whole, whole_ctrl, begin_share, May_share}
 use Rattle.whole_net.proofs.EveryAll.{ctrl_every_all, share_every_all}
-use Rattle.outline_net.proofs.FiltersApart.{and_l, and_r, is_whole}
+use Rattle.outline_net.proofs.FiltersApart.{is_whole}
 use Rattle.outline_net.proofs.Outline.{is_sys}
 use Rattle.whole_outline.proofs.WholeOutline.{outline_all, asked_of, with_member, members_of, share_between, want_share_of, is_sharing}
 use Rattle.whole_outline.proofs.AskedShare.{members_long, members_are, members_apart}
@@ -56,10 +57,10 @@ module _ {F R : Type 0} (f : Semantics R) (g : Given) (n : ℕ) (x : Scene F f g
     is_shared = ap (is_built f g) (sym what) ∙ is.label.2.built
 
     two_names : 1 < length (name ∷ others)
-    two_names = (Decides-ltb 1 (length (name ∷ others))).0 (and_l (nat_lt 1 (length (name ∷ others))) (are_unlike (name ∷ others)) (and_r (is_whole f.kind filter) _ is_shared))
+    two_names = (Decides-ltb 1 (length (name ∷ others))).0 (and_parts (nat_lt 1 (length (name ∷ others))) (are_unlike (name ∷ others)) (and_parts (is_whole f.kind filter) _ is_shared).1).0
 
     unlike : are_unlike (name ∷ others) ≡ true
-    unlike = and_r (nat_lt 1 (length (name ∷ others))) (are_unlike (name ∷ others)) (and_r (is_whole f.kind filter) _ is_shared)
+    unlike = (and_parts (nat_lt 1 (length (name ∷ others))) (are_unlike (name ∷ others)) ((and_parts (is_whole f.kind filter) _ is_shared).1)).1
 
     abbrev its : Want_share
     its = record { num = cmd.op; home = instance_node known.home; members = instance_node known.home ∷ known.nodes; filter = filter }
@@ -98,7 +99,7 @@ module _ {F R : Type 0} (f : Semantics R) (g : Given) (n : ℕ) (x : Scene F f g
           few = subst (Each (λ member. nat_lt member (count f g) ≡ true)) known.instances (few_placed g.names (name ∷ others));
           some = omega (arith, many, two);
           distinct = subst (IsDistinct ◌==◌) known.instances (all_apart g.names (name ∷ others) unlike);
-          whole = and_l (is_whole f.kind filter) _ is_shared;
+          whole = (and_parts (is_whole f.kind filter) _ is_shared).0;
           plan = record { names = name ∷ others; order_is = is.label.2.known ∙ ap Some what; members_are = known.instances; site_is = are.controller.site };
           out = tt;
         }
@@ -153,7 +154,7 @@ module _ {F R : Type 0} (f : Semantics R) (g : Given) (n : ℕ) (x : Scene F f g
   begins_row : (what : Order) → cmd.what ≡ what → Order_next f g x cmd what → finite.get c.operations cmd.op ≡ None → refusal c what ≡ None → Leads (begins c cmd.op what)
   begins_row (order.Share [] filter) e next none fine =
       let bad : is_built f g (order.Share [] filter) ≡ true = ap (is_built f g) (sym e) ∙ is.label.2.built in
-      let never : false ≡ true = and_r (is_whole f.kind filter) false bad in
+      let never : false ≡ true = (and_parts (is_whole f.kind filter) false bad).1 in
       cc
   begins_row (order.Share (name ∷ others) filter) e next none fine = share_begins name others filter e none fine
   begins_row (order.Copy src dst filter) e next none fine = by_places (place_of c.names src) (place_of c.names dst) refl refl

@@ -6,6 +6,7 @@ use Rattle.std.specs.Ordering.{nat_cmp, eq_by_cmp}
 use Rattle.std.specs.Str.{bytes_eq}
 use Rattle.std.specs.FinMap as finite
 use Rattle.std.proofs.lemmas.Bool.Decides.{nat_tests}
+use Rattle.std.proofs.lemmas.Bool.{and_parts}
 use Rattle.flow_filter.specs.declared.filter.Filter.{Filter}
 use Rattle.flow_filter.specs.Filter.{meets}
 use Rattle.nf_function.specs.Semantics.{Semantics}
@@ -35,7 +36,7 @@ use Rattle.abstract_net.proofs.Units.{May}
 use Rattle.abstract_net.proofs.ShareLists.{Nums_apart}
 use Rattle.abstract_net.proofs.Shares.{Any, Old, New, S_asked, S_get, Want_share, Open_share, find_share, Whole, moves_of, as_old, whole_ctrl, begin_move, puts_get, meets_shares}
 use Rattle.whole_net.proofs.EveryAll.{ctrl_every_all, move_every_all, get_every_all}
-use Rattle.outline_net.proofs.FiltersApart.{and_l, and_r, is_whole}
+use Rattle.outline_net.proofs.FiltersApart.{is_whole}
 use Rattle.outline_net.proofs.Outline.{want_at, want_of, is_sys}
 use Rattle.outline_net.proofs.OperationTables.{got_insert}
 use Rattle.whole_outline.proofs.WholeOutline.{outline_all, asked_of, want_share_of, is_sharing}
@@ -220,7 +221,7 @@ module _ {F R : Type 0} (f : Semantics R) (g : Given) (n : ℕ) (x : Scene F f g
     is_moved = ap (is_built f g) (sym what) ∙ is.label.2.built
 
     differ : from ≢ to
-    differ = places_apart g.names src dst from to from_at to_at (and_r (is_whole f.kind filter) _ is_moved)
+    differ = places_apart g.names src dst from to from_at to_at (and_parts (is_whole f.kind filter) _ is_moved).1
 
     seen : shown f g (msg.Asked cmd) ≡ Some its_message
     seen = ap (asked_of f (place g) cmd.op) what ∙ ap (λ o. option_map (λ w. Old (net.Asked w)) (want_at cmd.op filter keep o (place g dst))) from_at ∙ ap (λ o. option_map (λ w. Old (net.Asked w)) (want_at cmd.op filter keep (Some from) o)) to_at
@@ -231,7 +232,7 @@ module _ {F R : Type 0} (f : Semantics R) (g : Given) (n : ℕ) (x : Scene F f g
       from = place_below g.names src from from_at;
       to = place_below g.names dst to to_at;
       other = differ;
-      whole = and_l (is_whole f.kind filter) _ is_moved;
+      whole = (and_parts (is_whole f.kind filter) _ is_moved).0;
       plan = record { source = src; destination = dst; order_is = is.label.2.known ∙ ap Some what; from_is = from_at; to_is = to_at };
       refusing = tt;
       pieces = tt;
@@ -293,8 +294,8 @@ module _ {F R : Type 0} (f : Semantics R) (g : Given) (n : ℕ) (x : Scene F f g
       op_is = refl;
       from = place_below g.names src from source_at;
       to = place_below g.names dst to destination_at;
-      other = places_apart g.names src dst from to source_at destination_at (and_r (is_whole_if f g filter) _ is_copied);
-      whole = and_l (is_whole_if f g filter) _ is_copied;
+      other = places_apart g.names src dst from to source_at destination_at (and_parts (is_whole_if f g filter) _ is_copied).1;
+      whole = (and_parts (is_whole_if f g filter) _ is_copied).0;
       plan = record { source = src; destination = dst; order_is = is.label.2.known ∙ ap Some what; from_is = source_at; to_is = destination_at };
       going = refl;
     }

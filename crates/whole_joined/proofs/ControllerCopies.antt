@@ -4,6 +4,7 @@ use Rattle.std.proofs.Common.{◌≡◌, ℕ, true, cond, Option, Some, None, Li
 use Rattle.std.specs.Prelude.{◌==◌, option_map}
 use Rattle.std.specs.FinMap as finite
 use Rattle.std.proofs.lemmas.Bool.Decides.{nat_tests}
+use Rattle.std.proofs.lemmas.Option.{same_Some}
 use Rattle.nf_function.specs.declared.chunk.Chunk.{Chunk}
 use Rattle.nf_function.specs.Semantics.{Semantics}
 use Rattle.event_store.specs.Store.{stored}
@@ -28,7 +29,6 @@ use Rattle.whole_joined.proofs.Given.{Given, place}
 use Rattle.whole_joined.proofs.Joined.{Label, Scene, AreShown, IsTaken, IsCopy, AreGoodChunks, S, A, shown}
 use Rattle.whole_joined.proofs.ControllerScenes.{RowLeads, Idles}
 use Rattle.whole_joined.proofs.ControllerChanges.{NotMove, IsKind, IsOperation, operation_is}
-use Rattle.whole_joined.proofs.ControllerRows.{some_same}
 use Rattle.whole_joined.proofs.ControllerTurns.{no_share_open, none_leads, still_leads, well_idles, share_below, share_leads}
 use Rattle.whole_joined.proofs.ShareTurns.{DidWell, share_handed_well}
 
@@ -150,7 +150,7 @@ module _ {F R : Type 0} (f : Semantics R) (g : Given) (n : ℕ) (x : Scene F f g
       let m = msg.Chunks op chunks in
       let a : Any R = New (S_chunks op (entries f chunks)) in
       copied_leads f g n x p m are is op refl is.label.1
-      (λ none b e. subst (Idles f g n x p m are is) (some_same e) (ap (λ o. joins f g.site g.packet (place g) (record { ops = x.world.ops; sends = [] }) (by_share (S f g) (A f g) x.world.shares p (option_map (λ y. (y, Has_chunks (entries f chunks))) o))) none))
+      (λ none b e. subst (Idles f g n x p m are is) (same_Some _ _ e) (ap (λ o. joins f g.site g.packet (place g) (record { ops = x.world.ops; sends = [] }) (by_share (S f g) (A f g) x.world.shares p (option_map (λ y. (y, Has_chunks (entries f chunks))) o))) none))
       (λ s there. share_leads f g n x p m are is op s there a refl (chunks_follows f g.site g.packet (place g) C x.world.ops x.world.shares are.controller.opens op p chunks (are.controller.genuine op) (λ mv got. are.controller.going op mv got)) refl)
 
   pub all_chunk_leads : (chunk : Chunk) → Taken (msg.AllChunk op chunk) → RowLeads f g x p (msg.AllChunk op chunk) (handed C op p (msg.AllChunk op chunk))

@@ -20,7 +20,7 @@ use Rattle.ctrl_node.specs.Operations.{Turn, moved}
 use Rattle.ctrl_node.specs.Controller.{ControllerState, Step, after_turn}
 use Rattle.unit_machine.proofs.Real as real
 use Rattle.unit_machine.proofs.Real.{RPhase}
-use Rattle.unit_machine.proofs.Labels.{Each}
+use Rattle.unit_machine.proofs.Labels.{Each, each_map}
 use Rattle.actor_net.proofs.WeightLaws.{EachSent}
 use Rattle.abstract_net.proofs.Net.{Open, close_op, set_op, write_op}
 use Rattle.abstract_net.proofs.Shares.{Open_share}
@@ -44,13 +44,6 @@ use Rattle.whole_joined.proofs.Joined.{Genuine, Label, IsController, IsListed, H
 each_left : {R : Type 0} (P Q : Open R → Type 0) (k : ℕ) (es : List (Open R)) → ((e : Open R) → (e.op.num == k) ≡ false → P e → Q e) → Each P es → Each Q (close_op k es)
 each_left P Q k [] keep h = tt
 each_left P Q k (e ∷ es) keep h = elim (e.op.num == k) as (λ b. (e.op.num == k) ≡ b → Each Q (if b then close_op k es else e ∷ close_op k es)) [ true ↦ λ _. each_left P Q k es keep h.1 | false ↦ λ off. (keep e off h.0, each_left P Q k es keep h.1) ] refl
-
-pub each_same : {X : Type 0} (P Q : X → Type 0) → ((x : X) → P x → Q x) → (xs : List X) → Each P xs → Each Q xs
-each_same P Q keep [] h = tt
-each_same P Q keep (x ∷ xs) h = (keep x h.0, each_same P Q keep xs h.1)
-
-pub some_same : {X : Type 0} {a b : X} → Some a ≡ Some b → a ≡ b
-some_same e = cc
 
 move_same : {a b : MoveState} → Some (Move a) ≡ Some (Move b) → a ≡ b
 move_same e = cc
@@ -112,7 +105,7 @@ module _ {R : Type 0} (f : Semantics R) (g : Given) where
     ] refl
 
     listed_open : (rp : RPhase R) (fs : List ℕ) → Each (IsListed f g (did None).node) (set_op n rp fs ops)
-    listed_open rp fs = each_set (IsListed f g (did None).node) n rp fs ops (λ e _ l. record { move = l.move; there = l.there; filter = l.filter }) (each_same (IsListed f g c) (IsListed f g (did None).node) listed_at ops is.listed)
+    listed_open rp fs = each_set (IsListed f g (did None).node) n rp fs ops (λ e _ l. record { move = l.move; there = l.there; filter = l.filter }) (each_map {P = (IsListed f g c)} {Q = (IsListed f g (did None).node)} listed_at ops is.listed)
 
     listed_closed : (why : Answer) → Each (IsListed f g (did (Some why)).node) (close_op n ops)
     listed_closed why = each_left (IsListed f g c) (IsListed f g (did (Some why)).node) n ops (λ e off l. record { move = l.move; there = other_closed why e.op.num off ∙ l.there; filter = l.filter }) is.listed
@@ -141,7 +134,7 @@ module _ {R : Type 0} (f : Semantics R) (g : Given) where
     controller_after (phase.Over why) rp fs own e = rw e (closed_is why (ends why (ap answer_of (sym own))))
 
   good_chunks : (ps : List Piece) → Each (IsGoodPiece f g) ps → Each (λ p. AreGoodChunks f g p.chunks) ps
-  good_chunks ps h = each_same (IsGoodPiece f g) (λ p. AreGoodChunks f g p.chunks) (λ p k. k.good) ps h
+  good_chunks ps h = each_map {P = (IsGoodPiece f g)} {Q = (λ p. AreGoodChunks f g p.chunks)} (λ p k. k.good) ps h
 
   free_chunks : (d : Door) (ps : List Piece) → AreFree f g d ps → Each (λ p. AreGoodChunks f g p.chunks) ps
   free_chunks door.Shut ps h = good_chunks ps h

@@ -9,11 +9,11 @@ use Rattle.nf_msgs.specs.declared.msg.Msg.TheVariants as msg
 use Rattle.nf_msgs.specs.Nodes.{switch_node}
 use Rattle.ctrl_node.specs.Controller.{ControllerState, still, instance_at, on_final, row}
 use Rattle.unit_machine.proofs.Real as real
+use Rattle.unit_machine.proofs.Labels.{each_map}
 use Rattle.net_world.specs.Nodes.{node_step}
 use Rattle.outline_net.proofs.Outline.{outline_piece}
 use Rattle.outline_net.proofs.MoveOutline.{IsChunk, enabled_row, piece_row, deleted_row, put_ok_row, restored_row}
 use Rattle.whole_joined.proofs.ControllerScenes.{RowLeads, lead, stays}
-use Rattle.whole_joined.proofs.ControllerRows.{each_same}
 use Rattle.whole_joined.proofs.ControllerTurns.{numbered_leads, put_no_leads, event_leads}
 use Rattle.whole_joined.proofs.ControllerBegins.{Copies_next}
 use Rattle.whole_joined.proofs.ControllerAsked.{asked_leads}
@@ -52,7 +52,7 @@ module _ {F R : Type 0} (f : Semantics R) (g : Given) (n : ℕ) (x : Scene F f g
   row_leads (msg.Event op cell) is next = event_leads f g n x p op cell are is
   row_leads (msg.PutNo op refused) is next = put_no_leads f g n x p op refused are is
   row_leads (msg.Enabled op) is next = numbered_leads f g n x p (msg.Enabled op) are is op (real.M_enabled op) refl refl refl refl refl (λ s. refl) (λ mv h. enabled_row f (place g) mv.plan mv.phase (stored c.store op) p op)
-  row_leads (msg.Piece op piece) is next = numbered_leads f g n x p (msg.Piece op piece) are is op (real.M_piece op (outline_piece f piece)) refl refl refl refl refl (λ s. refl) (λ mv h. piece_row f (place g) mv.plan mv.phase (stored c.store op) p op piece (each_same (IsGoodChunk f g) (IsChunk f (place g)) (λ y k. k.chunk) piece.chunks is.label.1.good.each))
+  row_leads (msg.Piece op piece) is next = numbered_leads f g n x p (msg.Piece op piece) are is op (real.M_piece op (outline_piece f piece)) refl refl refl refl refl (λ s. refl) (λ mv h. piece_row f (place g) mv.plan mv.phase (stored c.store op) p op piece (each_map {P = (IsGoodChunk f g)} {Q = (IsChunk f (place g))} (λ y k. k.chunk) piece.chunks is.label.1.good.each))
   row_leads (msg.Deleted op) is next = numbered_leads f g n x p (msg.Deleted op) are is op (real.M_deleted op) refl refl refl refl refl (λ s. refl) (λ mv h. deleted_row f (place g) mv.plan mv.phase (stored c.store op) p op)
   row_leads (msg.PutOk op) is next = numbered_leads f g n x p (msg.PutOk op) are is op (real.M_put_ok op) refl refl refl refl refl (λ s. refl) (λ mv h. put_ok_row f (place g) mv.plan mv.phase (stored c.store op) p op)
   row_leads (msg.Restored op) is next = numbered_leads f g n x p (msg.Restored op) are is op (real.M_restored op) refl refl refl refl refl (λ s. refl) (λ mv h. restored_row f (place g) mv.plan mv.phase (stored c.store op) p op)

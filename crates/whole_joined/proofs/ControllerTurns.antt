@@ -3,6 +3,7 @@ use Rattle.std.proofs.Common.{◌≡◌, ℕ, ◌+◌, ◌<◌, ◌≤◌, true,
 use Rattle.std.specs.Prelude.{if◌then◌else◌, ◌==◌, ◌-◌, nat_lt, nat_le, is_some, unwrap_or}
 use Rattle.std.specs.FinMap as finite
 use Rattle.std.proofs.lemmas.Bool.Decides.{nat_tests, Decides-eqb, Decides-ltb}
+use Rattle.std.proofs.lemmas.Option.{same_Some}
 use Rattle.nf_function.specs.Semantics.{Semantics}
 use Rattle.nf_function.specs.declared.unit.Unit as units
 use Rattle.event_filter.specs.declared.mark.Mark.TheVariants as mark
@@ -24,7 +25,7 @@ use Rattle.ctrl_node.specs.Controller.{ControllerState, Step, still, after_turn,
 use Rattle.unit_machine.proofs.Real as real
 use Rattle.unit_machine.proofs.Labels.{Each}
 use Rattle.abstract_net.proofs.Net as net
-use Rattle.abstract_net.proofs.Net.{Open, find_op, num_of, found, numbered, write_op}
+use Rattle.abstract_net.proofs.Net.{Open, find_op, num_of, found, numbered}
 use Rattle.abstract_net.proofs.Ctrl.{each_found}
 use Rattle.abstract_net.proofs.Shares.{Any, Old, find_share, told_by, by_share, as_old}
 use Rattle.abstract_net.proofs.ShareLists.{found_num, found_each}
@@ -42,7 +43,7 @@ use Rattle.whole_joined.proofs.ClosingMoves.{closed_empty}
 use Rattle.whole_joined.proofs.MoveSteps.{RowKeeps, row_keeps, brought, kept_in}
 use Rattle.whole_joined.proofs.ShareTurns.{DidWell, share_handed_well}
 use Rattle.whole_joined.proofs.ControllerChanges.{NotMove, listed_alike, changed}
-use Rattle.whole_joined.proofs.ControllerRows.{some_same, controller_after, kept_count, turn_labels, turn_quiet}
+use Rattle.whole_joined.proofs.ControllerRows.{controller_after, kept_count, turn_labels, turn_quiet}
 use Rattle.whole_joined.proofs.ControllerScenes.{RowLeads, waits, step_on, taken, Idles, idles, stays}
 use Rattle.whole_joined.proofs.Given.{Given, place}
 use Rattle.whole_joined.proofs.Joined.{Label, Scene, AreShown, IsTaken, IsController, IsListed, IsMove, S, A, count, shown, came_by}
@@ -137,7 +138,7 @@ module _ {F R : Type 0} (f : Semantics R) (g : Given) (n : ℕ) (x : Scene F f g
     moves_same none = ap (λ o. (numbered x.world.ops p pm o).ops) num ∙ ap (λ o. (found x.world.ops op p pm o).ops) none
 
     idle : find_op x.world.ops op ≡ None → find_share x.world.shares op ≡ None → (b : Any R) → shown f g m ≡ Some b → Idles f g n x p m are is b
-    idle none unshared b e = subst (Idles f g n x p m are is) (some_same (sym seen ∙ e)) (stepped unshared ∙ ap (λ o. record { ops = (found x.world.ops op p pm o).ops; shares = x.world.shares; sends = as_old (found x.world.ops op p pm o).sends ++ [] }) none)
+    idle none unshared b e = subst (Idles f g n x p m are is) (same_Some _ _ (sym seen ∙ e)) (stepped unshared ∙ ap (λ o. record { ops = (found x.world.ops op p pm o).ops; shares = x.world.shares; sends = as_old (found x.world.ops op p pm o).sends ++ [] }) none)
 
     -- an open move takes the message
     pub opened : (mv : MoveState) → finite.get c.operations op ≡ Some (Move mv) → StepFollows f g.site g.packet (place g) (handed c op p m) (On a) → Its_row op pm mv → RowKeeps f g op mv (stored c.store op) (row mv (stored c.store op) p m) → RowLeads f g x p m (handed c op p m)

@@ -1,5 +1,5 @@
 -- No share takes a unit that an open copy's filter takes; so of chunks of such units none is a share's.
-use Rattle.std.proofs.Common.{◌≡◌, ℕ, true, false, inl, inr, Some, None, List, [], ◌∷◌, refl, sym, ap, ◌∙◌, subst}
+use Rattle.std.proofs.Common.{◌≡◌, ℕ, true, false, inl, inr, Some, None, List, refl, sym, ap, ◌∙◌, subst}
 use Rattle.std.specs.Prelude.{◌==◌}
 use Rattle.std.specs.FinMap as finite
 use Rattle.std.proofs.lemmas.Bool.Decides.{Decides-eqb}
@@ -11,11 +11,10 @@ use Rattle.copy_share.specs.Copy.{CopyState}
 use Rattle.copy_share.specs.Share.{ShareState}
 use Rattle.ctrl_node.specs.declared.operation.Operation.TheVariants.{Copy, Share}
 use Rattle.ctrl_node.specs.Controller.{ControllerState}
-use Rattle.unit_machine.proofs.Labels.{Each}
+use Rattle.unit_machine.proofs.Labels.{each_any}
 use Rattle.unit_machine.proofs.Real.{record_at}
 use Rattle.abstract_net.proofs.GlobalAll.{Takes_some}
 use Rattle.abstract_net.proofs.ShareRows.{taking_each, taking_found}
-use Rattle.abstract_net.proofs.Shares.{Open_share}
 use Rattle.outline_net.proofs.Outline.{entries, is_sys}
 use Rattle.whole_outline.proofs.OpenShares.{real_share}
 use Rattle.whole_joined.proofs.OperationsApart.{AreApart, AllApart}
@@ -46,16 +45,12 @@ module _ {F R : Type 0} (f : Semantics R) (g : Given) (n : ℕ) (x : Scene F f g
       let e = takes.0 in
       let found = taking_found (S f g) (A f g) x.world.shares u e are.every.global.nums_apart takes.1 in
       let real = real_share f (place g) g.site x.world.ops x.world.shares c e.num e are.controller.opens found in
-      let on : (S f g).takes e.filter u ≡ true = (taking_each (S f g) (A f g) (λ _. Unit {0}) x.world.shares u e (anything x.world.shares) takes.1).1 in
+      let on : (S f g).takes e.filter u ≡ true = (taking_each (S f g) (A f g) (λ _. Unit {0}) x.world.shares u e (each_any x.world.shares) takes.1).1 in
       let filter_is : e.filter ≡ real.s.plan.filter = ap (λ y. y.filter) real.sees.is in
       let other = numbers_differ op e.num y real.s there real.there in
       let off : AreApart (Some filter) (Some real.s.plan.filter) = subst (λ p. AreApart p (Some real.s.plan.filter)) is (apart op e.num (Copy y) (Share real.s) other there real.there) in
       other_out f g filter real.s.plan.filter u off (ap (λ q. (S f g).takes q u) (sym filter_is) ∙ on)
     where
-      anything : (es : List Open_share) → Each (λ _. Unit {0}) es
-      anything [] = tt
-      anything (d ∷ es) = (tt, anything es)
-
       numbers_differ : (k l : ℕ) (y : CopyState) (s : ShareState) → finite.get c.operations k ≡ Some (Copy y) → finite.get c.operations l ≡ Some (Share s) → (k == l) ≡ false
       numbers_differ k l y s a b = elim (k == l) as (λ t. (k == l) ≡ t → t ≡ false) [
         | true ↦ λ same. let both : Some (Copy y) ≡ Some (Share s) = sym a ∙ ap (finite.get c.operations) ((Decides-eqb k l).0 same) ∙ b in cc

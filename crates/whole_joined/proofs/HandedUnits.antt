@@ -3,6 +3,7 @@ use Rattle.std.proofs.Common.{◌≡◌, ℕ, Bool, true, false, Option, Some, N
 use Rattle.std.specs.Prelude.{if◌then◌else◌, ◌&&◌, ◌||◌, ◌==◌}
 use Rattle.std.specs.FinMap as finite
 use Rattle.std.proofs.lemmas.Bool.Decides.{nat_tests}
+use Rattle.std.proofs.Math.Bool.{or-true}
 use Rattle.flow_filter.specs.declared.filter.Filter.{Filter}
 use Rattle.nf_function.specs.Semantics.{Semantics}
 use Rattle.nf_function.specs.Units.{takes}
@@ -46,11 +47,7 @@ module _ (g : Given) (u : units.Unit) (log : List Note) (op : ℕ) where
   loose_stays e = loose_next ∙ ap (λ b. b || (hands_on_plain g.names g.orders u (g.orders op) (owner_by g u (installed log)) || false)) e
 
   pub loose_begins : hands_on_plain g.names g.orders u (g.orders op) (owner_by g u (installed log)) ≡ true → loose_by g u (installed (log ++ note.Installed op ∷ [])) ≡ true
-  loose_begins e = loose_next ∙ ap (λ b. loose_by g u (installed log) || (b || false)) e ∙ or_true (loose_by g u (installed log))
-    where
-      or_true : (b : Bool) → b || true ≡ true
-      or_true true = refl
-      or_true false = refl
+  loose_begins e = loose_next ∙ ap (λ b. loose_by g u (installed log) || (b || false)) e ∙ or-true (loose_by g u (installed log))
 
   -- where its packets go then
   pub target_next : target_by g u (installed (log ++ note.Installed op ∷ [])) ≡ (if is_diverted g u (installed log) || (diverts g u (g.orders op) (owner_by g u (installed log)) || false) then 1 else instance_node (handed_on g.names g.orders u (g.orders op) (owner_by g u (installed log))))

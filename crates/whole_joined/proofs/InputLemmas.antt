@@ -1,6 +1,6 @@
 -- Items of an input are found by their numbers, and their flows and filters are such as the proof of moves looks at.
 use Rattle.std.proofs.Common.{◌≡◌, ℕ, suc, ◌<◌, ◌≤◌, ◌^◌, Bool, true, false, Option, Some, None, List, [], ◌∷◌, map, refl, arith}
-use Rattle.std.specs.Prelude.{if◌then◌else◌, ◌&&◌, ◌||◌, ◌==◌, not, is_some, option_map, find}
+use Rattle.std.specs.Prelude.{if◌then◌else◌, ◌&&◌, ◌||◌, ◌==◌, not, is_some, find}
 use Rattle.std.specs.Option.{ForSome}
 use Rattle.std.proofs.lemmas.Bool.Decides.{nat_tests, Decides-ltb}
 use Rattle.flow_filter.specs.declared.filter.Filter.{Filter}
@@ -9,13 +9,10 @@ use Rattle.flow_filter.specs.declared.prefix.Prefix.{Prefix}
 use Rattle.flow_filter.specs.Filter.{IsFilter, IsFlow}
 use Rattle.nf_function.specs.declared.kind.Kind.{Kind}
 use Rattle.nf_function.specs.Units.{has_hosts}
-use Rattle.unit_machine.proofs.Labels.{Each}
+use Rattle.unit_machine.proofs.Labels.{Each, each_both}
 use Rattle.net_world.specs.Input.{IsRising, IsWhole}
 use Rattle.outline_net.proofs.FiltersApart.{number_fits, prefix_fits, filter_fits, flow_fits, is_whole}
-
-pub each_both : {X : Type 0} {P Q T : X → Type 0} → ((x : X) → P x → Q x → T x) → (xs : List X) → Each P xs → Each Q xs → Each T xs
-each_both g [] p q = tt
-each_both g (x ∷ xs) p q = (g x p.0 q.0, each_both g xs p.1 q.1)
+use Rattle.outline_net.proofs.InstanceOutline.{some_same}
 
 module _ {X : Type 0} (key : X → ℕ) where
   rising_above : (least : ℕ) (xs : List X) → IsRising least (map key xs) → Each (λ x. least ≤ key x) xs
@@ -63,10 +60,6 @@ fits_filter g h =
     let e = fits_number (2 ^ 16) g.rport h.rport in
     rw (a, b, c, d, e) refl
 
-mapped : {X Y : Type 0} (k : X → Y) (o : Option X) → is_some (option_map k o) ≡ is_some o
-mapped k None = refl
-mapped k (Some x) = refl
-
 alone_of : (hosts a b c d : Bool) → hosts && (a || b || c || d) ≡ false → not hosts || not (a || (b || (c || d))) ≡ true
 alone_of false a b c d h = refl
 alone_of true false false false false h = refl
@@ -78,6 +71,6 @@ alone_of true false false false true h = cc
 pub whole_is : (kind : Kind) (g : Filter) → IsWhole kind g → is_whole kind g ≡ true
 whole_is kind g h =
     let fits = fits_filter g h.numbers in
-    let remote = mapped Rattle.flow_filter.specs.Reading.prefix_numbers g.remote in
+    let remote = some_same Rattle.flow_filter.specs.Reading.prefix_numbers g.remote in
     let more : has_hosts kind && (is_some g.proto || is_some g.lport || is_some g.remote || is_some g.rport) ≡ false = rw remote at h.whole in
     rw fits (alone_of (has_hosts kind) (is_some g.proto) (is_some g.lport) (is_some g.remote) (is_some g.rport) more)

@@ -38,10 +38,7 @@ use Rattle.whole_joined.proofs.InstanceKeeps.{sound_after, sound_without, sound_
 use Rattle.whole_joined.proofs.InstanceSends.{stream_sends, shared_sends}
 use Rattle.whole_joined.proofs.Given.{Given, place}
 use Rattle.whole_joined.proofs.Joined.{Genuine, AreGoodChunks, IsGoodPiece, Label}
-
-each_sent-append : {M : Type 0} (P : ℕ → ℕ → M → Type 0) (s : ℕ) (xs ys : List (ℕ × M)) → EachSent P s xs → EachSent P s ys → EachSent P s (xs ++ ys)
-each_sent-append P s [] ys a b = b
-each_sent-append P s (x ∷ xs) ys a b = (a.0, each_sent-append P s xs ys a.1 b)
+use Rattle.whole_joined.proofs.ControllerScenes.{sent-append}
 
 -- what holds of each rule
 module _ (P : EventRule FullCell → Type 0) where
@@ -154,7 +151,7 @@ module _ {F R : Type 0} (f : Semantics R) (laws : FunctionLaws f) (g : Given) (f
       record {
         node = rest.node;
         notes = each-append (IsOwn k) (processed f i mark.Plain cell).notes _ one.notes rest.notes;
-        sends = each_sent-append (Label f g) k (processed f i mark.Plain cell).sends _ one.sends rest.sends;
+        sends = sent-append (Label f g) k (processed f i mark.Plain cell).sends _ one.sends rest.sends;
       }
 
   -- an instance with other rules
@@ -207,7 +204,7 @@ module _ {F R : Type 0} (f : Semantics R) (laws : FunctionLaws f) (g : Given) (f
       record {
         node = all.node;
         notes = each-append (IsOwn k) (all_processed f (record i { rules = rules.without i.rules op }) cells).notes [] all.notes tt;
-        sends = each_sent-append (Label f g) k (all_processed f (record i { rules = rules.without i.rules op }) cells).sends _ all.sends ((two, refl), tt);
+        sends = sent-append (Label f g) k (all_processed f (record i { rules = rules.without i.rules op }) cells).sends _ all.sends ((two, refl), tt);
       }
 
   pub stop_leaves : (i : Instance F R) → Right i → Leaves f g k (on_stop i)

@@ -3,6 +3,7 @@ use Rattle.std.proofs.Common.{◌≡◌, ◌≢◌, ℕ, zero, suc, ◌<◌, ◌
 use Rattle.std.specs.Prelude.{if◌then◌else◌, ◌&&◌, ◌==◌}
 use Rattle.std.specs.List.{filter_map}
 use Rattle.std.proofs.lemmas.Bool.Decides.{nat_tests, Decides-eqb}
+use Rattle.std.proofs.Math.Bool.{and-false}
 use Rattle.flow_filter.specs.declared.filter.Filter.{Filter}
 use Rattle.nf_function.specs.declared.chunk.Chunk.{Chunk}
 use Rattle.nf_function.specs.declared.unit.Unit as units
@@ -48,10 +49,6 @@ use Rattle.whole_joined.proofs.StandbyChunks.{MayStandBy, same_may_keep, chunks_
 use Rattle.whole_joined.proofs.Given.{Given, place, target_by}
 use Rattle.whole_joined.proofs.Joined.{Nodes, Took, Scene, S, A, shown, commands, asked_nums, came_by, by_node, links_next, Genuine, AreGoodChunks, IsGoodPiece, Label, IsSwitch, IsController, IsInstanceAt, AreShown, IsTaken, Leads, node_of, Grows}
 use Rattle.whole_joined.proofs.NextNumbers.{same_grows}
-
-and_false : (b : Bool) → b && false ≡ false
-and_false true = refl
-and_false false = refl
 
 module _ {F R : Type 0} (f : Semantics R) (laws : FunctionLaws f) (g : Given) (n : ℕ) (x : Scene F f g) (p : ℕ) (j : ℕ) where
   -- the instance's node, and the instance there
@@ -121,7 +118,7 @@ module _ {F R : Type 0} (f : Semantics R) (laws : FunctionLaws f) (g : Given) (n
   link_same : (sends : List (ℕ × Any R)) → links_after x.world.link p own_node sends 0 1 ≡ x.world.link 0 1
   link_same sends =
       ap (λ b. behind ((0 == p) && b) (x.world.link 0 1) ++ (if 0 == own_node then sent_for 1 sends else [])) no_second
-      ∙ ap (λ b. behind b (x.world.link 0 1) ++ (if 0 == own_node then sent_for 1 sends else [])) (and_false (0 == p))
+      ∙ ap (λ b. behind b (x.world.link 0 1) ++ (if 0 == own_node then sent_for 1 sends else [])) (and-false (0 == p))
       ∙ ap (λ b. x.world.link 0 1 ++ (if b then sent_for 1 sends else [])) no_first ∙ append-nil (x.world.link 0 1)
 
   put_other : {X : Type 0} (h : ℕ → X) (a : X) (k : ℕ) → (k == own_node) ≡ false → put h own_node a k ≡ h k
@@ -195,7 +192,7 @@ module _ {F R : Type 0} (f : Semantics R) (laws : FunctionLaws f) (g : Given) (n
   -- a step on a message that is shown
   pub shown_leads : (m : Msg) (seen : Any R) → AreShown f g n x → IsTaken f g n x (took m) → shown f g m ≡ Some seen → StepsTo f g.site g.packet (place g) x.world p own_node (whole_inst (S f g) (A f g) x.world p own_node seen) (instance_step f own m) → Leaves f g own_node (instance_step f own m) → AreSound f (instance_step f own m).node.table.standby → Leads f g n x (took m) (as_node Instance (instance_step f own m))
   shown_leads m seen are is shown_as steps leaves stands =
-      let heads = is.head (rw not_first (and_false (p == 0))) seen shown_as in
+      let heads = is.head (rw not_first (and-false (p == 0))) seen shown_as in
       step_leads are (instance_step f own m) (record {
         next = whole_inst (S f g) (A f g) x.world p own_node seen;
         differs_so = differs seen;

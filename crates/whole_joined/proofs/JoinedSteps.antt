@@ -1,8 +1,9 @@
 -- A choice that is taken leads from a world of a run to one, by the step of its node.
-use Rattle.std.proofs.Common.{◌≡◌, ◌≢◌, ℕ, ◌+◌, Bool, true, false, Option, Some, None, List, [], ◌∷◌, ◌++◌, get_or, refl, sym, ap, ◌∙◌, subst, append-nil, arith}
+use Rattle.std.proofs.Common.{◌≡◌, ◌≢◌, ℕ, ◌+◌, true, false, Option, Some, None, List, [], ◌∷◌, ◌++◌, get_or, refl, sym, ap, ◌∙◌, subst, append-nil, arith}
 use Rattle.std.specs.Prelude.{◌&&◌, ◌==◌, nat_lt, not}
 use Rattle.std.specs.List.{filter_map}
 use Rattle.std.proofs.lemmas.Bool.Decides.{nat_tests, Decides-eqb}
+use Rattle.std.proofs.Math.Bool.{and_comm}
 use Rattle.nf_function.specs.Semantics.{Semantics}
 use Rattle.nf_msgs.specs.declared.msg.Msg.{Msg}
 use Rattle.nf_msgs.specs.declared.note.Note.{Note}
@@ -73,16 +74,10 @@ module _ {F R : Type 0} (f : Semantics R) (g : Given) (n : ℕ) (count_is : n �
     pub input_after : waiting (taken step w (at k p)) (at 0 0) ≡ less_first ((0 == k) && (0 == p)) (waiting w (at 0 0))
     input_after =
         let left = taken_outcome step n w k p (node_of j.nodes k) m rest takes in
-        left.waits 0 0 ∙ ap (λ xs. less_first ((0 == p) && (0 == k)) (waiting w (at 0 0)) ++ xs) none ∙ append-nil (less_first ((0 == p) && (0 == k)) (waiting w (at 0 0))) ∙ ap (λ b. less_first b (waiting w (at 0 0))) (swap (0 == p) (0 == k))
+        left.waits 0 0 ∙ ap (λ xs. less_first ((0 == p) && (0 == k)) (waiting w (at 0 0)) ++ xs) none ∙ append-nil (less_first ((0 == p) && (0 == k)) (waiting w (at 0 0))) ∙ ap (λ b. less_first b (waiting w (at 0 0))) (and_comm (0 == p) (0 == k))
       where
         none : put_on_link n k 0 0 did.sends ≡ []
         none = let off : (0 == k) && (nat_lt 0 n && not ((k == 0) && (0 == 0))) ≡ false = grind (arith, nat_tests) in rw off refl
-
-        swap : (a b : Bool) → a && b ≡ b && a
-        swap true true = refl
-        swap true false = refl
-        swap false true = refl
-        swap false false = refl
 
     links_after_step : (o : Option (Any R)) → shown f g m ≡ o → Shows f g n (taken step w (at k p)) (links_next f g j.world.link took did.sends)
     links_after_step (Some a) is = rw is (shows_taken (shown f g) step n w k p (node_of j.nodes k) m rest takes j.world.link a j.links is)

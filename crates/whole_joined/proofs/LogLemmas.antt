@@ -1,6 +1,7 @@
 -- What is read off a log that goes on; and where a unit is doesn't depend on how its packets are told.
 use Rattle.std.proofs.Common.{◌≡◌, ℕ, Bool, true, false, List, [], ◌∷◌, ◌++◌, refl, sym, ap, ◌∙◌, subst, append_assoc, append-nil}
 use Rattle.std.specs.Prelude.{if◌then◌else◌, ◌&&◌, ◌||◌}
+use Rattle.std.proofs.Math.Bool.{or_assoc}
 use Rattle.nf_function.specs.declared.unit.Unit as units
 use Rattle.nf_msgs.specs.declared.note.Note.{Note}
 use Rattle.nf_msgs.specs.declared.note.Note.TheVariants as note
@@ -39,15 +40,11 @@ done-append (note.Kept instance op us ∷ xs) ys = done-append xs ys
 done-append (note.Installed op ∷ xs) ys = done-append xs ys
 done-append (note.Answered op answer ∷ xs) ys = done-append xs ys
 
-or_assoc : (a b c : Bool) → a || (b || c) ≡ (a || b) || c
-or_assoc true b c = refl
-or_assoc false b c = refl
-
 pub has_begun-append : (these : ℕ → Bool) (xs ys : List Note) → has_begun these (xs ++ ys) ≡ has_begun these xs || has_begun these ys
 has_begun-append these [] ys = refl
 has_begun-append these (note.Arrived number ∷ xs) ys = has_begun-append these xs ys
 has_begun-append these (note.Processed number instance output ∷ xs) ys = has_begun-append these xs ys
-has_begun-append these (note.Begun op ∷ xs) ys = ap (λ v. these op || v) (has_begun-append these xs ys) ∙ or_assoc (these op) (has_begun these xs) (has_begun these ys)
+has_begun-append these (note.Begun op ∷ xs) ys = ap (λ v. these op || v) (has_begun-append these xs ys) ∙ sym (or_assoc (these op) (has_begun these xs) (has_begun these ys))
 has_begun-append these (note.Exported instance op us ∷ xs) ys = has_begun-append these xs ys
 has_begun-append these (note.Imported instance op us ∷ xs) ys = has_begun-append these xs ys
 has_begun-append these (note.Kept instance op us ∷ xs) ys = has_begun-append these xs ys
@@ -77,7 +74,7 @@ every_same S A laws w came came' same h = record {
 module _ (g : Given) where
   pub diverted_after-append : (u : units.Unit) (i : ℕ) (xs ys : List ℕ) → diverted_after g u i (xs ++ ys) ≡ diverted_after g u i xs || diverted_after g u (owner_after g.names g.orders u i xs) ys
   diverted_after-append u i [] ys = refl
-  diverted_after-append u i (op ∷ xs) ys = ap (λ b. diverts g u (g.orders op) i || b) (diverted_after-append u (handed_on g.names g.orders u (g.orders op) i) xs ys) ∙ or_assoc (diverts g u (g.orders op) i) _ _
+  diverted_after-append u i (op ∷ xs) ys = ap (λ b. diverts g u (g.orders op) i || b) (diverted_after-append u (handed_on g.names g.orders u (g.orders op) i) xs ys) ∙ sym (or_assoc (diverts g u (g.orders op) i) _ _)
 
   -- and its packets that arrived meanwhile
   pub diverted_in-append : (mine : ℕ → Bool) (u : units.Unit) (ops : List ℕ) (xs ys : List Note) → diverted_in g mine u ops (xs ++ ys) ≡ diverted_in g mine u ops xs ++ diverted_in g mine u (ops ++ installed xs) ys

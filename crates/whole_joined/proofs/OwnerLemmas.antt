@@ -1,7 +1,9 @@
 -- Who owns a unit, and whether a plain move handed it on, by a log that goes on; and what stays a place of the unit.
-use Rattle.std.proofs.Common.{◌≡◌, ℕ, Bool, true, false, Option, Some, List, [], ◌∷◌, ◌++◌, refl, sym, ap, ◌∙◌, append-nil}
+use Rattle.std.proofs.Common.{◌≡◌, ℕ, Bool, true, Option, Some, List, [], ◌∷◌, ◌++◌, refl, sym, ap, ◌∙◌, append-nil}
 use Rattle.std.specs.Prelude.{◌&&◌, ◌||◌, ◌==◌, not}
 use Rattle.std.specs.Option.{option_map_or}
+use Rattle.std.proofs.Math.Bool.{or_assoc}
+use Rattle.std.proofs.lemmas.Bool.{and_parts}
 use Rattle.flow_filter.specs.declared.flow.Flow.{Flow}
 use Rattle.nf_function.specs.declared.kind.Kind.{Kind}
 use Rattle.nf_function.specs.declared.kind.Kind.TheVariants.{Conntrack, Nat, Monitor}
@@ -18,14 +20,14 @@ use Rattle.net_world.specs.Input.{order_numbered, packet_of}
 use Rattle.net_world.specs.Log.{has_begun, installed}
 use Rattle.net_world.specs.Commands.{has_answered, is_busy}
 use Rattle.net_world.specs.Places.{first_owner, handed_on, owner_after, hands_on_plain, loose_after, members_after, member_for, unit_numbered, goes_to, is_at, IsMoving, IsPlace, Owns, Is_destination, Is_member}
-use Rattle.outline_net.proofs.FiltersApart.{flow_fits, unit_fits, and_l, and_r}
+use Rattle.outline_net.proofs.FiltersApart.{flow_fits, unit_fits}
 use Rattle.whole_joined.proofs.PlaceNotes.{IsQuiet, is_uninstalled}
 
 -- the unit of a flow is one that packets may have
 pub unit_is_fit : (kind : Kind) (flow : Flow) → flow_fits flow ≡ true → unit_fits kind (unit_of kind flow) ≡ true
 unit_is_fit Conntrack flow e = e
-unit_is_fit Nat flow e = and_l _ _ (and_r _ _ e)
-unit_is_fit Monitor flow e = and_l _ _ (and_r _ _ e)
+unit_is_fit Nat flow e = (and_parts _ _ (and_parts _ _ e).1).0
+unit_is_fit Monitor flow e = (and_parts _ _ (and_parts _ _ e).1).0
 
 module _ (names : List (List ℕ)) (orders : ℕ → Option Order) where
   pub owner_after-append : (u : units.Unit) (i : ℕ) (xs ys : List ℕ) → owner_after names orders u i (xs ++ ys) ≡ owner_after names orders u (owner_after names orders u i xs) ys
@@ -34,11 +36,7 @@ module _ (names : List (List ℕ)) (orders : ℕ → Option Order) where
 
   pub loose_after-append : (u : units.Unit) (i : ℕ) (xs ys : List ℕ) → loose_after names orders u i (xs ++ ys) ≡ loose_after names orders u i xs || loose_after names orders u (owner_after names orders u i xs) ys
   loose_after-append u i [] ys = refl
-  loose_after-append u i (op ∷ xs) ys = ap (λ b. hands_on_plain names orders u (orders op) i || b) (loose_after-append u (handed_on names orders u (orders op) i) xs ys) ∙ or_assoc (hands_on_plain names orders u (orders op) i) _ _
-    where
-      or_assoc : (a b c : Bool) → a || (b || c) ≡ (a || b) || c
-      or_assoc true b c = refl
-      or_assoc false b c = refl
+  loose_after-append u i (op ∷ xs) ys = ap (λ b. hands_on_plain names orders u (orders op) i || b) (loose_after-append u (handed_on names orders u (orders op) i) xs ys) ∙ sym (or_assoc (hands_on_plain names orders u (orders op) i) _ _)
 
 -- the changes of the rules in a log that goes on
 pub installed-append : (xs ys : List Note) → installed (xs ++ ys) ≡ installed xs ++ installed ys

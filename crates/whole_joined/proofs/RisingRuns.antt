@@ -1,9 +1,10 @@
 -- The numbers of commands that wait, at the controller and in the input, rise from the next number on, along every run, copies' among them. So
 -- where a copy is asked for, its number and those after it are new.
-use Rattle.std.proofs.Common.{◌≡◌, ℕ, suc, ◌+◌, ◌<◌, Bool, true, false, None, List, [], ◌∷◌, ◌++◌, drop, refl, sym, ap, ◌∙◌, subst, append_assoc, append-nil, arith}
+use Rattle.std.proofs.Common.{◌≡◌, ℕ, suc, ◌+◌, ◌<◌, true, false, None, List, [], ◌∷◌, ◌++◌, drop, refl, sym, ap, ◌∙◌, subst, append_assoc, append-nil, arith}
 use Rattle.std.specs.Prelude.{◌&&◌, ◌==◌, nat_lt}
 use Rattle.std.specs.List.{filter_map}
 use Rattle.std.proofs.lemmas.Bool.Decides.{nat_tests, Decides-eqb}
+use Rattle.std.proofs.Math.Bool.{and-false}
 use Rattle.nf_function.specs.Semantics.{Semantics}
 use Rattle.nf_msgs.specs.declared.command.Order.{Order}
 use Rattle.nf_msgs.specs.declared.command.Order.TheVariants as order
@@ -26,10 +27,6 @@ use Rattle.whole_joined.proofs.RisingNumbers.{numbers, IsUnasked, numbers-append
 use Rattle.whole_joined.proofs.Given.{Given, place}
 use Rattle.whole_joined.proofs.Joined.{Label, count, shown, commands, asked_nums, node_of, Grows, Scene, Joined}
 use Rattle.whole_joined.proofs.JoinedSteps.{Node_leads, scene, label, input_after, step_leads, joined_after, after_world, takes_at, ready_at, joined_next, next_is}
-
-and_false : (b : Bool) → b && false ≡ false
-and_false true = refl
-and_false false = refl
 
 module _ {F R : Type 0} (f : Semantics R) (g : Given) where
   -- all numbers that wait
@@ -74,14 +71,14 @@ module _ {F R : Type 0} (f : Semantics R) (g : Given) where
             ap (λ b. commands f g (m ∷ []) ++ commands f g (less_first b (waiting w (at 0 0)))) both ∙ ap (λ v. commands f g (m ∷ []) ++ commands f g (drop 1 v)) here ∙ sym (commands_behind f g m rest) ∙ ap (commands f g) (sym here)
         | false ↦ λ off.
             let turned : (0 == p) ≡ false = grind (arith, nat_tests, off) in
-            let neither : (0 == k) && (0 == p) ≡ false = ap (λ b. (0 == k) && b) turned ∙ and_false (0 == k) in
+            let neither : (0 == k) && (0 == p) ≡ false = ap (λ b. (0 == k) && b) turned ∙ and-false (0 == k) in
             ap (λ v. v ++ commands f g (less_first ((0 == k) && (0 == p)) (waiting w (at 0 0)))) (no_command f g p k m its_label off) ∙ ap (λ b. commands f g (less_first b (waiting w (at 0 0)))) neither
       ] refl
 
       -- The switch's step.
       of_switch : k ≡ 0 → numbers (put_on_link n k 0 1 sends) ≡ commands f g (m ∷ []) → waits_of after ≡ waits_of w
       of_switch zero_is sent =
-          let off : (0 == p) && (1 == k) ≡ false = rw zero_is (and_false (0 == p)) in
+          let off : (0 == p) && (1 == k) ≡ false = rw zero_is (and-false (0 == p)) in
           by_parts (waiting w (at 1 0) ++ put_on_link n k 0 1 sends) (less_first ((0 == k) && (0 == p)) (waiting w (at 0 0))) (asked_after ∙ ap (λ b. less_first b (waiting w (at 1 0)) ++ put_on_link n k 0 1 sends) off) items_after
           ∙ ap (λ v. v ++ commands f g (less_first ((0 == k) && (0 == p)) (waiting w (at 0 0)))) (numbers-append (waiting w (at 1 0)) (put_on_link n k 0 1 sends) ∙ ap (λ v. numbers (waiting w (at 1 0)) ++ v) sent)
           ∙ append_assoc (numbers (waiting w (at 1 0))) (commands f g (m ∷ [])) (commands f g (less_first ((0 == k) && (0 == p)) (waiting w (at 0 0))))
@@ -114,7 +111,7 @@ module _ {F R : Type 0} (f : Semantics R) (g : Given) where
         where
           at_switch : k ≡ 0 → Rising next (waits_of after)
           at_switch zero_is =
-              let unasked : IsUnasked m = unasked_by f g p k m its_label (let off : (k == 1) ≡ false = rw zero_is refl in ap (λ b. (p == 0) && b) off ∙ and_false (p == 0)) in
+              let unasked : IsUnasked m = unasked_by f g p k m its_label (let off : (k == 1) ≡ false = rw zero_is refl in ap (λ b. (p == 0) && b) off ∙ and-false (p == 0)) in
               let two : nat_lt 1 n ≡ true = grind (arith, nat_tests, count_is) in
               let sent : numbers (put_on_link n k 0 1 sends) ≡ commands f g (m ∷ []) = rw zero_is (rw two (switch_numbers f g j.nodes.switch m)) in
               same_numbers next grows unasked (of_switch zero_is sent) h

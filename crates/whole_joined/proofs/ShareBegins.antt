@@ -1,15 +1,15 @@
 -- A share that may begin: its members have different places, the names of its order are known, and it is one that the abstract network begins.
-use Rattle.std.proofs.Common.{◌≡◌, ◌≢◌, ℕ, suc, Bool, true, false, Option, Some, None, List, [], ◌∷◌, length, get_or, refl, sym, ap, ◌∙◌, subst, arith}
+use Rattle.std.proofs.Common.{◌≡◌, ◌≢◌, ℕ, suc, true, false, Option, Some, None, List, [], ◌∷◌, length, get_or, refl, sym, ap, ◌∙◌, subst, arith}
 use Rattle.std.specs.Prelude.{if◌then◌else◌, ◌==◌, not, nat_lt, find, is_some}
 use Rattle.std.specs.List.{filter_map, AllByRecursion, IsDistinct}
 use Rattle.std.specs.Str.{bytes_eq}
 use Rattle.std.proofs.lemmas.Bool.Decides.{nat_tests, Decides-ltb}
 use Rattle.std.proofs.lemmas.List.Quantifiers.{position-Some}
 use Rattle.std.proofs.lemmas.Slice.Eq.{bytes_eq-Decides}
+use Rattle.std.proofs.lemmas.Bool.{not-true, and_parts}
 use Rattle.nf_msgs.specs.Nodes.{instance_node}
 use Rattle.ctrl_node.specs.Controller.{place_of}
 use Rattle.unit_machine.proofs.Labels.{Each}
-use Rattle.outline_net.proofs.FiltersApart.{and_l, and_r}
 use Rattle.whole_outline.proofs.WholeOutline.{with_member, members_of}
 use Rattle.net_world.specs.Input.{is_unlike, are_unlike}
 
@@ -30,19 +30,15 @@ places_apart names a b i j at_a at_b off same =
 pub place_tells : (names : List (List ℕ)) (a b : List ℕ) (i : ℕ) → place_of names a ≡ Some i → place_of names b ≡ Some i → bytes_eq a b ≡ true
 place_tells names a b i at_a at_b = (bytes_eq-Decides a b).1 (sym (place_is names a i at_a) ∙ place_is names b i at_b)
 
-not_true : (b : Bool) → not b ≡ true → b ≡ false
-not_true true e = cc
-not_true false e = refl
-
 -- names that are unlike
 all_unlike : (name : List ℕ) (names : List (List ℕ)) → is_unlike name names ≡ true → AllByRecursion (λ other. bytes_eq name other ≡ false) names
 all_unlike name [] e = tt
-all_unlike name (other ∷ names) e = (not_true (bytes_eq name other) (and_l (not (bytes_eq name other)) (is_unlike name names) e), all_unlike name names (and_r (not (bytes_eq name other)) (is_unlike name names) e))
+all_unlike name (other ∷ names) e = (not-true (bytes_eq name other) (and_parts (not (bytes_eq name other)) (is_unlike name names) e).0, all_unlike name names (and_parts (not (bytes_eq name other)) (is_unlike name names) e).1)
 
 pub names_distinct : (names : List (List ℕ)) → are_unlike names ≡ true → IsDistinct bytes_eq names
 unfolding IsDistinct
 names_distinct [] e = tt
-names_distinct (name ∷ names) e = (all_unlike name names (and_l (is_unlike name names) (are_unlike names) e), names_distinct names (and_r (is_unlike name names) (are_unlike names) e))
+names_distinct (name ∷ names) e = (all_unlike name names (and_parts (is_unlike name names) (are_unlike names) e).0, names_distinct names (and_parts (is_unlike name names) (are_unlike names) e).1)
 
 -- The instances with some names: each is one of a run, they are different, and where no name is unknown there are as many.
 module _ (names : List (List ℕ)) where
@@ -69,25 +65,25 @@ module _ (names : List (List ℕ)) where
   one_apart : (name : List ℕ) (i : ℕ) → place_of names name ≡ Some i → (these : List (List ℕ)) → is_unlike name these ≡ true → AllByRecursion (λ j. (i == j) ≡ false) (filter_map (place_of names) these)
   one_apart name i at [] e = tt
   one_apart name i at (other ∷ others) e =
-      let rest = one_apart name i at others (and_r (not (bytes_eq name other)) (is_unlike name others) e) in
+      let rest = one_apart name i at others (and_parts (not (bytes_eq name other)) (is_unlike name others) e).1 in
       subst (AllByRecursion (λ j. (i == j) ≡ false)) (sym (placed other others)) (by_place (place_of names other) refl rest)
     where
       by_place : (o : Option ℕ) → place_of names other ≡ o → AllByRecursion (λ j. (i == j) ≡ false) (filter_map (place_of names) others) → AllByRecursion (λ j. (i == j) ≡ false) (with_place o (filter_map (place_of names) others))
       by_place None at_other rest = rest
       by_place (Some j) at_other rest =
-          let differ : i ≢ j = places_apart names name other i j at at_other (and_l (not (bytes_eq name other)) (is_unlike name others) e) in
+          let differ : i ≢ j = places_apart names name other i j at at_other (and_parts (not (bytes_eq name other)) (is_unlike name others) e).0 in
           (grind (arith, nat_tests, differ), rest)
 
   pub all_apart : (these : List (List ℕ)) → are_unlike these ≡ true → IsDistinct ◌==◌ (filter_map (place_of names) these)
   unfolding IsDistinct
   all_apart [] e = tt
   all_apart (name ∷ others) e =
-      let rest = all_apart others (and_r (is_unlike name others) (are_unlike others) e) in
+      let rest = all_apart others (and_parts (is_unlike name others) (are_unlike others) e).1 in
       subst (IsDistinct ◌==◌) (sym (placed name others)) (by_place (place_of names name) refl rest)
     where
       by_place : (o : Option ℕ) → place_of names name ≡ o → IsDistinct ◌==◌ (filter_map (place_of names) others) → IsDistinct ◌==◌ (with_place o (filter_map (place_of names) others))
       by_place None at rest = rest
-      by_place (Some i) at rest = (one_apart name i at others (and_l (is_unlike name others) (are_unlike others) e), rest)
+      by_place (Some i) at rest = (one_apart name i at others (and_parts (is_unlike name others) (are_unlike others) e).0, rest)
 
   -- the nodes of names of which none is unknown
   pub record AreKnown (these : List (List ℕ)) : Type 0 where

@@ -4,6 +4,7 @@ use Rattle.std.proofs.Common.{◌≡◌, ℕ, true, false, Option, Some, None, L
 use Rattle.std.specs.Prelude.{if◌then◌else◌, ◌==◌, option_map}
 use Rattle.std.specs.FinMap as finite
 use Rattle.std.proofs.lemmas.Bool.Decides.{Decides-eqb}
+use Rattle.std.proofs.lemmas.Option.{same_Some}
 use Rattle.nf_function.specs.declared.chunk.Chunk.{Chunk}
 use Rattle.nf_function.specs.declared.unit.Unit as units
 use Rattle.nf_function.specs.Semantics.{Semantics}
@@ -33,7 +34,6 @@ use Rattle.whole_joined.proofs.Given.{Given, place}
 use Rattle.whole_joined.proofs.Joined.{Scene, AreShown, IsTaken, S, A, shown}
 use Rattle.whole_joined.proofs.ControllerScenes.{RowLeads, Idles, step_on}
 use Rattle.whole_joined.proofs.ControllerChanges.{NotMove}
-use Rattle.whole_joined.proofs.ControllerRows.{some_same}
 use Rattle.whole_joined.proofs.ControllerTurns.{no_share_open, none_leads, copy_leads, still_leads, well_leads, share_below, share_leads, told_leads}
 use Rattle.whole_joined.proofs.ShareTurns.{DidWell, share_queued_well}
 
@@ -78,7 +78,7 @@ module _ {F R : Type 0} (f : Semantics R) (g : Given) (n : ℕ) (x : Scene F f g
   -- a message that no move and no copy looks at
   module _ (m : Msg) (is : Taken m) (op : ℕ) (a : Any R) (seen : shown f g m ≡ Some a) (other : is_copied m ≡ false) (idle : find_share x.world.shares op ≡ None → Idles f g n x p m are is a) where
     stays_idle : find_share x.world.shares op ≡ None → (b : Any R) → shown f g m ≡ Some b → Idles f g n x p m are is b
-    stays_idle none b e = subst (Idles f g n x p m are is) (some_same (sym seen ∙ e)) (idle none)
+    stays_idle none b e = subst (Idles f g n x p m are is) (same_Some _ _ (sym seen ∙ e)) (idle none)
 
     by_share_alone : ((mv : MoveState) → finite.get c.operations op ≡ Some (Move mv) → handed c op p m ≡ still c) → ((s : ShareState) → finite.get c.operations op ≡ Some (Share s) → RowLeads f g x p m (handed c op p m)) → RowLeads f g x p m (handed c op p m)
     by_share_alone of_move of_share = by_got (finite.get c.operations op) refl
@@ -135,7 +135,7 @@ module _ {F R : Type 0} (f : Semantics R) (g : Given) (n : ℕ) (x : Scene F f g
     free_leads free =
         let none = none_is f g.site g.packet (place g) c x.world.ops x.world.shares are.controller.opens cell are.controller.site is.label.2 apart free in
         still_leads f g n x p (msg.Diverted cell) are is (on_diverted c cell) (ap (queued c cell) none)
-        (λ a e. subst (Idles f g n x p (msg.Diverted cell) are is) (some_same e) (ap (λ o. joins f g.site g.packet (place g) (record { ops = x.world.ops; sends = [] }) (by_share (S f g) (A f g) x.world.shares p (option_map (λ y. (y, Has_packet (number cell))) o))) free))
+        (λ a e. subst (Idles f g n x p (msg.Diverted cell) are is) (same_Some _ _ e) (ap (λ o. joins f g.site g.packet (place g) (record { ops = x.world.ops; sends = [] }) (by_share (S f g) (A f g) x.world.shares p (option_map (λ y. (y, Has_packet (number cell))) o))) free))
 
     pub diverted_leads : RowLeads f g x p (msg.Diverted cell) (if p == switch_node then on_diverted c cell else still c)
     diverted_leads =

@@ -2,6 +2,7 @@
 -- a run, and all else as it was.
 use Rattle.std.proofs.Common.{◌≡◌, ℕ, cond, Option, Some, None, List, [], ◌∷◌, ◌++◌, refl, sym, ap, ◌∙◌, subst}
 use Rattle.std.specs.FinMap as finite
+use Rattle.share_machine.proofs.Lists.{self}
 use Rattle.nf_function.specs.Semantics.{Semantics}
 use Rattle.packet_pool.specs.Pool.{FullCell}
 use Rattle.event_store.specs.Store.{stored}
@@ -14,7 +15,6 @@ use Rattle.ctrl_node.specs.declared.operation.Operation.TheVariants.{Share}
 use Rattle.ctrl_node.specs.Controller.{ControllerState, Step, handed, queued}
 use Rattle.actor_net.proofs.WeightLaws.{EachSent}
 use Rattle.unit_machine.proofs.Labels.{Each, each-append}
-use Rattle.whole_outline.proofs.OpenShares.{self}
 use Rattle.whole_outline.proofs.ShareLeft.{OpenAt, answered, noted, next_share, still_waits, ShareLeaves, handed_leaves, queued_leaves}
 use Rattle.whole_joined.proofs.Given.{Given}
 use Rattle.whole_joined.proofs.Joined.{Genuine, IsShare, Label}

@@ -4,6 +4,7 @@ use Rattle.std.proofs.Common.{◌≡◌, ℕ, zero, suc, ◌+◌, ◌<◌, true,
 use Rattle.std.specs.Prelude.{◌&&◌, ◌==◌}
 use Rattle.std.specs.FinMap as finite
 use Rattle.std.proofs.lemmas.Bool.Decides.{nat_tests}
+use Rattle.unit_machine.proofs.Labels.{each_map}
 use Rattle.flow_filter.specs.declared.filter.Filter.{Filter}
 use Rattle.nf_function.specs.declared.chunk.Chunk.{Chunk}
 use Rattle.nf_function.specs.declared.unit.Unit as units
@@ -44,10 +45,6 @@ kept_of message = []
 pub each_sent : (P : Msg → Type 0) (k : ℕ) (sends : List (ℕ × Msg)) → Each (λ x. P x.1) sends → EachSent (λ s r m. P m) k sends
 each_sent P k [] h = tt
 each_sent P k (x ∷ xs) h = (h.0, each_sent P k xs h.1)
-
-each_weaker : {M : Type 0} {P Q : M → Type 0} → ((m : M) → P m → Q m) → (ms : List M) → Each P ms → Each Q ms
-each_weaker g [] h = tt
-each_weaker g (m ∷ ms) h = (g m h.0, each_weaker g ms h.1)
 
 module _ {F R : Type 0} (f : Semantics R) (g : Given) (n : ℕ) (x : Scene F f g) (k p : ℕ) (m : Msg) (are : AreShown f g n x) (is : IsTaken f g n x (record { node = k; port = p; message = m })) where
   -- what was done goes on
@@ -146,7 +143,7 @@ module _ {F R : Type 0} (f : Semantics R) (g : Given) (n : ℕ) (count_is : n �
         record {
           each = subst (λ v. OnLinks (λ s r y. AreFronted f g v (kept_of y)) (taken (node_step f) w (at k p))) (sym (after_world f g n count_is May leads w k p m rest j takes was_ready may))
               (on_links_after (λ s r y. AreFronted f g l.world (kept_of y)) (node_step f) n w k p (node_of j.nodes k) m rest takes
-              (λ s r hs hr. each_weaker (λ y. still_fronted f g n x k p m j.shown_is is (node_step f (node_of j.nodes k) p m) l (kept_of y)) (waiting w (at r s)) (h.each s r hs hr))
+              (λ s r hs hr. each_map (λ y. still_fronted f g n x k p m j.shown_is is (node_step f (node_of j.nodes k) p m) l (kept_of y)) (waiting w (at r s)) (h.each s r hs hr))
               (node_keeps f g n x p j.shown_is k m is l));
         }
 

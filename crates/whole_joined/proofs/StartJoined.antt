@@ -39,7 +39,7 @@ use Rattle.nf_msgs.specs.declared.command.Order.TheVariants as order
 use Rattle.nf_msgs.specs.declared.msg.Msg.{Msg}
 use Rattle.nf_msgs.specs.declared.msg.Msg.TheVariants as msg
 use Rattle.nf_msgs.specs.Nodes.{instance_node}
-use Rattle.unit_machine.proofs.Labels.{Each}
+use Rattle.unit_machine.proofs.Labels.{Each, each_both}
 use Rattle.net_world.specs.declared.config.Config.{Config}
 use Rattle.net_world.specs.Input.{is_item, packets, commands, no_packet, packet_of, order_numbered, IsRising, IsSteered, IsWhole, IsProper, IsInput}
 use Rattle.net_world.specs.declared.node.Node.{Node}
@@ -52,7 +52,7 @@ use Rattle.net_world.proofs.StartingLemmas.{length-first_instances}
 use Rattle.net_world.specs.Places.{first_owner}
 use Rattle.net_world.specs.Start.{first_switch, first_instance, first_instances, first_nodes, started}
 use Rattle.outline_net.proofs.FiltersApart.{is_whole, flow_fits, unit_fits, takes_whole, takes_same, whole_takes}
-use Rattle.whole_joined.proofs.InputLemmas.{each_both, found_each, fits_flow, whole_is}
+use Rattle.whole_joined.proofs.InputLemmas.{found_each, fits_flow, whole_is}
 use Rattle.outline_net.proofs.StateOutline.{HasRecords, all_each}
 use Rattle.whole_outline.proofs.OpenShares.{SeesAny}
 use Rattle.whole_joined.proofs.Given.{Given, place}

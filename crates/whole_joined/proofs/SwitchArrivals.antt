@@ -21,6 +21,7 @@ use Rattle.nf_msgs.specs.Nodes.{instance_node}
 use Rattle.switch_node.specs.Switch.{SwitchState, arrives, goes_to, has_room, is_there, on_packet, on_command, on_credit, still, target_of}
 use Rattle.actor_net.proofs.WaitingMessages.{less_first}
 use Rattle.actor_net.proofs.WeightLaws.{EachSent}
+use Rattle.actor_net.proofs.LinkLemmas.{neither}
 use Rattle.unit_machine.proofs.Real.{sent_for}
 use Rattle.abstract_net.proofs.Net as net
 use Rattle.abstract_net.proofs.Net.{Want}
@@ -88,11 +89,7 @@ module _ {F R : Type 0} (f : Semantics R) (g : Given) (n : ℕ) (x : Scene F f g
 
     diverted_of : (u : units.Unit) (b : Bool) → is_of f g u q.number ≡ b → (if x.world.target u == 1 then (if b then q.number ∷ [] else []) else []) ≡ (if b && is_diverted g u (installed x.log) then q.number ∷ [] else [])
     diverted_of u true mine = ap (λ t. if t == 1 then q.number ∷ [] else []) (are.owners u (its_fits u mine)) ∙ ap (λ b. if b then q.number ∷ [] else []) (sent_to_one g u (installed x.log))
-    diverted_of u false mine = none_both (x.world.target u == 1)
-      where
-        none_both : (b : Bool) → ◌≡◌ {A = List ℕ} (if b then [] else []) []
-        none_both true = refl
-        none_both false = refl
+    diverted_of u false mine = neither (x.world.target u == 1)
 
     came_in : (u : units.Unit) → comes (S f g) (A f g) (is_sys f g.site g.packet) u x.world q.number (came_by f g x.log u) ≡ came_by f g (x.log ++ notes) u
     came_in u =

@@ -1,6 +1,7 @@
 -- The switch's step on a message of a run leads from a world of a run to one.
 use Rattle.std.proofs.Common.{◌≡◌, ℕ, ◌-◌, Bool, true, Some, List, [], ◌∷◌, ◌++◌, refl, sym, ap, ◌∙◌, subst, arith}
 use Rattle.std.specs.Prelude.{nat_lt}
+use Rattle.std.proofs.lemmas.Bool.{and_parts}
 use Rattle.flow_filter.specs.declared.filter.Filter.{Filter}
 use Rattle.flow_filter.specs.declared.packet.Packet.{Packet}
 use Rattle.nf_function.specs.declared.unit.Unit as units
@@ -29,7 +30,7 @@ use Rattle.whole_net.proofs.EveryAll.{Every_all, switch_every_all}
 use Rattle.net_world.specs.Nodes.{as_node, node_step}
 use Rattle.net_world.specs.declared.node.Node.TheVariants.{Switch}
 use Rattle.net_world.specs.Log.{arrived, done, installed}
-use Rattle.outline_net.proofs.FiltersApart.{and_l, and_r, filter_fits, filter_is, is_whole, takes_whole, unit_fits}
+use Rattle.outline_net.proofs.FiltersApart.{filter_fits, filter_is, is_whole, takes_whole, unit_fits}
 use Rattle.outline_net.proofs.Outline.{number, is_sys}
 use Rattle.whole_outline.proofs.WholeOutline.{outline_all, is_sharing}
 use Rattle.whole_outline.proofs.SwitchAll.{RoutesAll, stops_all}
@@ -116,7 +117,7 @@ module _ {F R : Type 0} (f : Semantics R) (g : Given) (n : ℕ) (x : Scene F f g
   changed_switch op filter from to next a b whole routes = record {
     site = are.switch.site;
     instances = are.switch.instances;
-    filters = AreFilters-redirected (record { filter = filter; from = target.Instance from; to = to }) s.rules are.switch.filters (filter_is filter (and_l (filter_fits filter) _ whole));
+    filters = AreFilters-redirected (record { filter = filter; from = target.Instance from; to = to }) s.rules are.switch.filters (filter_is filter (and_parts (filter_fits filter) _ whole).0);
     routes = subst (λ st. RoutesAll f.kind st.node next) (install_is op filter from to a b) routes;
     pool = are.switch.pool;
   }
@@ -129,9 +130,9 @@ module _ {F R : Type 0} (f : Semantics R) (g : Given) (n : ℕ) (x : Scene F f g
     stays = λ u e. loose_stays g u x.log op e;
     hands = λ u h k src dst e same there plain taken at. (let number : op ≡ k = cc in let is_from : instance_node from ≡ src = cc in let is_filter : filter ≡ h = cc in
         let takes_it : takes_whole f.kind filter u ≡ true = ap (λ y. takes_whole f.kind y u) is_filter ∙ taken in
-        let fits : unit_fits f.kind u ≡ true = and_l (unit_fits f.kind u) _ (and_r (is_whole f.kind filter) _ takes_it) in
+        let fits : unit_fits f.kind u ≡ true = (and_parts (unit_fits f.kind u) _ (and_parts (is_whole f.kind filter) _ takes_it).1).0 in
         let owns : owner_by g u (installed x.log) ≡ from = owner_at g u (installed x.log) from (sym (are.owners u fits) ∙ at ∙ sym is_from) in
-        loose_begins g u x.log op (plain_hands f g op filter from to its u (owner_by g u (installed x.log)) (and_r (unit_fits f.kind u) _ (and_r (is_whole f.kind filter) _ takes_it)) owns
+        loose_begins g u x.log op (plain_hands f g op filter from to its u (owner_by g u (installed x.log)) (and_parts (unit_fits f.kind u) _ ((and_parts (is_whole f.kind filter) _ takes_it).1)).1 owns
         (plain_is f g x.nodes.controller x.world.ops x.world.shares x.world.next are.controller op e (ap (find_op x.world.ops) number ∙ there) plain its.plan its.plan_is)));
   }
 

@@ -6,7 +6,7 @@ use Rattle.std.specs.Option.{option_map_or}
 use Rattle.std.proofs.lemmas.Bool.Decides.{Decides-eqb}
 use Rattle.unit_machine.proofs.Machine.{State, idle}
 use Rattle.unit_machine.proofs.Real.{record_at}
-use Rattle.unit_machine.proofs.UnitPieces.{first}
+use Rattle.unit_machine.proofs.UnitPieces.{first, first_of_one}
 use Rattle.unit_machine.proofs.Cuts.{record_first}
 use Rattle.unit_machine.proofs.Kept.{Kept, Nowhere, Is_live, On_way, Twice}
 use Rattle.share_machine.proofs.Share.{Ran, runs, over}
@@ -146,11 +146,6 @@ module _ {R : Type 0} (S : Sys R) (A : Sharing S) (laws : IsSys S) (u : units.Un
         | true ↦ λ on. subst (λ n. Front_of (ran_of S A u w.done) (S.B.at u (w.inst n).live)) (sym ((Decides-eqb j e.home).0 on)) (record { seen = s.seen e.home; fold = s.live; front = s.fronts e.home })
         | false ↦ λ off. front_none (ran_of S A u w.done) (S.B.at u (w.inst j).live) (s.away j off)
       ] refl
-
-  -- Records in chunks
-  first_of_one : (o : Option R) → first (option_to_list o) ≡ o
-  first_of_one None = refl
-  first_of_one (Some r) = refl
 
   -- what a table gives
   pub selected_front : (ds : List Ran) (g : units.Unit → Bool) (t : S.B.T) → Front_of ds (S.B.at u t) → Front_of ds (record_at u (S.B.select g t))

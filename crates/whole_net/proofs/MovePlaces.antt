@@ -3,14 +3,15 @@
 use Rattle.std.proofs.Common.{◌≡◌, ◌≢◌, ℕ, suc, Bool, true, false, Option, Some, None, List, [], ◌∷◌, refl, sym, ap, ◌∙◌, subst, arith}
 use Rattle.std.specs.Prelude.{◌==◌}
 use Rattle.unit_machine.proofs.Machine.{At_a, At_b, At_c, Where as Side, Steps, Ran, Part, Inst, Did, inst_does, Item, State, after}
-use Rattle.unit_machine.proofs.Lists.{firsts}
+use Rattle.unit_machine.proofs.Lists.{firsts, cons_nil}
 use Rattle.unit_machine.proofs.Pairs.{Shown_by, By_sa, By_sb, By_sc, By_ca, By_cb, By_ac, By_bc, By_cc, By_cs, shown_by}
-use Rattle.unit_machine.proofs.Stages.{Stage, At_rest, shape}
+use Rattle.unit_machine.proofs.Stages.{At_rest}
 use Rattle.unit_machine.proofs.Seats.{Seat, Covered, Is_beside, Is_away, seat_shape}
 use Rattle.unit_machine.proofs.Between.{seat_at}
-use Rattle.unit_machine.proofs.Fresh.{still_ca, still_cb, still_ran, fresh_sa, fresh_sb, fresh_sc}
+use Rattle.unit_machine.proofs.Fresh.{still_ca, still_cb, still_ran, fresh_sa, fresh_sb, fresh_sc, sc_stage}
 use Rattle.unit_machine.proofs.Real.{Op}
 use Rattle.unit_machine.proofs.NetViews.{items}
+use Rattle.unit_machine.proofs.Controls.{never_true}
 use Rattle.abstract_net.proofs.Net.{Msg, Sys, IsSys, I_did, Open, World, find_op, inst_step, seen}
 use Rattle.abstract_net.proofs.Holding.{Seeing, frame, Sees_node, node_at, place, Ctrl_is, Op_label, Holds}
 use Rattle.abstract_net.proofs.Ctrl.{each_found}
@@ -25,20 +26,9 @@ use Rattle.whole_net.proofs.RoutedSteps.{Routed, To_source, To_destination, sour
 use Rattle.nf_function.specs.declared.unit.Unit as units
 use Rattle.nf_msgs.specs.declared.answer.Answer.{Answer}
 
-falsely : {Y : Type 0} → false ≡ true → Y
-falsely e = cc
-
-cons_nil : {X Y : Type 0} {x : X} {xs : List X} → [] ≡ x ∷ xs → Y
-cons_nil e = cc
-
--- the third link has something for a unit of the third instance alone
-sc_stage : {R : Type 0} (F : Steps R) (s : Stage F) → (shape F s).sc ≡ []
-sc_stage F (At_rest d l k) = refl
-sc_stage F s = refl
-
 third_target : {R : Type 0} (F : Steps R) (s : Seat F) (it : Item R) (v : List (Item R)) → (seat_shape F s).sc ≡ it ∷ v → (seat_shape F s).target ≡ At_c
-third_target F (Covered s) it v e = cons_nil (sym (sc_stage F s) ∙ e)
-third_target F (Is_beside s) it v e = cons_nil (sym (sc_stage F s.base) ∙ e)
+third_target F (Covered s) it v e = cons_nil (sym e ∙ sc_stage F s)
+third_target F (Is_beside s) it v e = cons_nil (sym e ∙ sc_stage F s.base)
 third_target F (Is_away s) it v e = refl
 
 module _ {R : Type 0} (S : Sys R) (laws : IsSys S) (z : Seeing) (w : World S) (s : Seat S.F) (h : Holds S z w (seat_shape S.F s)) (p y : ℕ) (m : Msg R) (rest : List (Msg R)) (y0 : (y == 0) ≡ false) (y1 : (y == 1) ≡ false) (waits : w.link p y ≡ m ∷ rest) (some : none_mine S z.unit (inst_step S (w.inst y) m).ran ≢ []) where
@@ -80,10 +70,10 @@ module _ {R : Type 0} (S : Sys R) (laws : IsSys S) (z : Seeing) (w : World S) (s
     by_link (By_sc yc p0 e) = let at = is_third S laws z w s h p y m rest y0 y1 waits it is yc in ap (λ k. k.live) at ∙ fresh_sc S.F s it left e
     by_link (By_ca ya p1 e) = let g = its_ran At_a x.a (is_src S laws z w s h p y m rest y0 y1 waits it is ya) in absurd (g.runs (still_ran S.F At_a g.parts g.refuse x.a it (still_ca S.F s it left e)))
     by_link (By_cb yb p1 e) = let g = its_ran At_b x.b (is_dst S laws z w s h p y m rest y0 y1 waits it is yb) in absurd (g.runs (still_ran S.F At_b g.parts g.refuse x.b it (still_cb S.F s it left e)))
-    by_link (By_ac e _ _) = falsely (sym y1 ∙ ap (λ q. q == 1) e)
-    by_link (By_bc e _ _) = falsely (sym y1 ∙ ap (λ q. q == 1) e)
-    by_link (By_cc e _ _) = falsely (sym y1 ∙ ap (λ q. q == 1) e)
-    by_link (By_cs e _ _) = falsely (sym y0 ∙ ap (λ q. q == 0) e)
+    by_link (By_ac e _ _) = never_true (sym y1 ∙ ap (λ q. q == 1) e)
+    by_link (By_bc e _ _) = never_true (sym y1 ∙ ap (λ q. q == 1) e)
+    by_link (By_cc e _ _) = never_true (sym y1 ∙ ap (λ q. q == 1) e)
+    by_link (By_cs e _ _) = never_true (sym y0 ∙ ap (λ q. q == 0) e)
 
   -- the instance is where the unit's packets go, or the destination while they go to the source
   pub data Is_placed : Type 0 where
@@ -101,10 +91,10 @@ module _ {R : Type 0} (S : Sys R) (laws : IsSys S) (z : Seeing) (w : World S) (s
     placed (By_sc yc p0 e) = Routed_here (ap (place S z) (third_target S.F s it (items (seen (frame S z)) rest) e) ∙ sym yc)
     placed (By_ca ya p1 e) = let g = its_ran it is At_a x.a (is_src S laws z w s h p y m rest y0 y1 waits it is ya) in absurd (g.runs (still_ran S.F At_a g.parts g.refuse x.a it (still_ca S.F s it (items (seen (frame S z)) rest) e)))
     placed (By_cb yb p1 e) = let g = its_ran it is At_b x.b (is_dst S laws z w s h p y m rest y0 y1 waits it is yb) in absurd (g.runs (still_ran S.F At_b g.parts g.refuse x.b it (still_cb S.F s it (items (seen (frame S z)) rest) e)))
-    placed (By_ac e _ _) = falsely (sym y1 ∙ ap (λ q. q == 1) e)
-    placed (By_bc e _ _) = falsely (sym y1 ∙ ap (λ q. q == 1) e)
-    placed (By_cc e _ _) = falsely (sym y1 ∙ ap (λ q. q == 1) e)
-    placed (By_cs e _ _) = falsely (sym y0 ∙ ap (λ q. q == 0) e)
+    placed (By_ac e _ _) = never_true (sym y1 ∙ ap (λ q. q == 1) e)
+    placed (By_bc e _ _) = never_true (sym y1 ∙ ap (λ q. q == 1) e)
+    placed (By_cc e _ _) = never_true (sym y1 ∙ ap (λ q. q == 1) e)
+    placed (By_cs e _ _) = never_true (sym y0 ∙ ap (λ q. q == 0) e)
 
   -- the link that shows the message, and the place and the record of the instance that takes it
   pub record Met : Type 0 where
@@ -155,14 +145,14 @@ module _ {R : Type 0} (S : Sys R) (laws : IsSys S) (u : units.Unit) (w : World S
 
     at_rest : (owner : ℕ) (d : List Ran) (l : List ℕ) → Rest S u w owner d l → (it : Item R) (v : List (Item R)) → Shown_by owner (suc owner) (suc (suc owner)) (seat_shape S.F (seat_at S.F At_a d l true)) p y (it ∷ v) → May_run S w u y
     at_rest owner d l h it v (By_sa at p0 e) = At_route (h.target ∙ sym at)
-    at_rest owner d l h it v (By_sb at p0 e) = cons_nil e
-    at_rest owner d l h it v (By_sc at p0 e) = cons_nil e
-    at_rest owner d l h it v (By_ca at p1 e) = cons_nil e
-    at_rest owner d l h it v (By_cb at p1 e) = cons_nil e
-    at_rest owner d l h it v (By_ac e _ _) = falsely (sym y1 ∙ ap (λ q. q == 1) e)
-    at_rest owner d l h it v (By_bc e _ _) = falsely (sym y1 ∙ ap (λ q. q == 1) e)
-    at_rest owner d l h it v (By_cc e _ _) = falsely (sym y1 ∙ ap (λ q. q == 1) e)
-    at_rest owner d l h it v (By_cs e _ _) = falsely (sym y0 ∙ ap (λ q. q == 0) e)
+    at_rest owner d l h it v (By_sb at p0 e) = cons_nil (sym e)
+    at_rest owner d l h it v (By_sc at p0 e) = cons_nil (sym e)
+    at_rest owner d l h it v (By_ca at p1 e) = cons_nil (sym e)
+    at_rest owner d l h it v (By_cb at p1 e) = cons_nil (sym e)
+    at_rest owner d l h it v (By_ac e _ _) = never_true (sym y1 ∙ ap (λ q. q == 1) e)
+    at_rest owner d l h it v (By_bc e _ _) = never_true (sym y1 ∙ ap (λ q. q == 1) e)
+    at_rest owner d l h it v (By_cc e _ _) = never_true (sym y1 ∙ ap (λ q. q == 1) e)
+    at_rest owner d l h it v (By_cs e _ _) = never_true (sym y0 ∙ ap (λ q. q == 0) e)
 
     pub processed_where : (ps : List ℕ) (c : Bool) → Global S w → Where S laws u w ps c → Processed y
     processed_where ps c g (At_rest owner d l b h o f) =

@@ -2,6 +2,7 @@
 -- the record there is the fold of all that was done before.
 use Rattle.std.proofs.Common.{◌≡◌, ◌≢◌, ℕ, Bool, true, false, Option, None, List, [], ◌∷◌, ◌++◌, refl, sym, ap, ◌∙◌, subst}
 use Rattle.std.specs.Prelude.{if◌then◌else◌, ◌&&◌, ◌==◌}
+use Rattle.std.proofs.lemmas.List.{append_cancel_left}
 use Rattle.share_machine.proofs.Share.{has}
 use Rattle.share_machine.proofs.Stages.{packets, processed}
 use Rattle.share_machine.proofs.Places.{At_places, Grows}
@@ -21,10 +22,6 @@ use Rattle.whole_net.proofs.Fronts.{ran_more}
 use Rattle.whole_net.proofs.MovePlaces.{May_run, processed_where}
 use Rattle.nf_function.specs.declared.unit.Unit as units
 use Rattle.record_table.specs.Table.{same_unit}
-
-cancel : {X : Type 0} (xs ys zs : List X) → xs ++ ys ≡ xs ++ zs → ys ≡ zs
-cancel [] ys zs e = e
-cancel (x ∷ xs) ys zs e = let rest : xs ++ ys ≡ xs ++ zs = cc in cancel xs ys zs rest
 
 module _ {R : Type 0} (S : Sys R) (A : Sharing S) (laws : IsSys S) where
   -- what an instance processes
@@ -71,7 +68,7 @@ module _ {R : Type 0} (S : Sys R) (A : Sharing S) (laws : IsSys S) where
     under_placed ok w x before since g h p y m rest y0 y1 waits = placed_by m (grown (seeing S A u x) w (whole_inst S A w p y m) before since before since h (under_inst S A (seeing S A u x) laws ok w before since g h y p y0 y1 m rest waits))
       where
         by_lists : (ps : List ℕ) → Grows (share_frame S A (seeing S A u x)) (ran_of S A u w.done) (ran_of S A u (w.done ++ at_node y ps)) → At_places (share_frame S A (seeing S A u x)) (ran_of S A u (at_node y ps))
-        by_lists ps r = subst (At_places (share_frame S A (seeing S A u x))) (cancel (ran_of S A u w.done) r.by (ran_of S A u (at_node y ps)) (sym r.is ∙ ran_more S A laws u w.done (at_node y ps))) r.places
+        by_lists ps r = subst (At_places (share_frame S A (seeing S A u x))) (append_cancel_left (ran_of S A u w.done) r.by (ran_of S A u (at_node y ps)) (sym r.is ∙ ran_more S A laws u w.done (at_node y ps))) r.places
 
         placed_by : (m : Any R) → Grows (share_frame S A (seeing S A u x)) (ran_of S A u w.done) (ran_of S A u (whole_inst S A w p y m).done) → At_places (share_frame S A (seeing S A u x)) (ran_of S A u (at_node y (ran_by w y m)))
         placed_by (Old m) r = by_lists (inst_step S (w.inst y) m).ran r

@@ -5,13 +5,14 @@ use Rattle.std.specs.Prelude.{if◌then◌else◌, ◌==◌}
 use Rattle.unit_machine.proofs.Machine.{Steps}
 use Rattle.unit_machine.proofs.Stages.{times}
 use Rattle.unit_machine.proofs.Ends.{same_of}
+use Rattle.unit_machine.proofs.Rests.{exactly}
 use Rattle.share_machine.proofs.Share.{Ran, has, runs}
 use Rattle.share_machine.proofs.Stages.{packets, path, served, shape, IsFront, Lacks}
 use Rattle.share_machine.proofs.Order.{parts}
 use Rattle.share_machine.proofs.Lists.{self}
 use Rattle.abstract_net.proofs.Net.{Sys, IsSys}
 use Rattle.abstract_net.proofs.Rest.{done_u}
-use Rattle.abstract_net.proofs.Readings.{fold, exact_of, not_both, In_order, order_of, Record_of, record_of}
+use Rattle.abstract_net.proofs.Readings.{fold, not_both, In_order, order_of, Record_of, record_of}
 use Rattle.abstract_net.proofs.Elsewhere.{where_two}
 use Rattle.abstract_net.proofs.GlobalAll.{Global_all}
 use Rattle.abstract_net.proofs.ShareViews.{share_frame, as_share}
@@ -38,7 +39,7 @@ module _ {R : Type 0} (S : Sys R) (A : Sharing S) (laws : IsSys S) (u : units.Un
       let e = under_order S A (seeing S A u x) w before k.diverted h in
       record {
         waits = path (share_frame S A (seeing S A u x)) h.stage;
-        exact = λ off. e ∙ exact_of b (before ++ k.diverted) k.all (not_both b k.bared f off) o;
+        exact = λ off. e ∙ exactly b (before ++ k.diverted) k.all (not_both b k.bared f off) o;
         same = λ p. ap (λ v. times p v) e ∙ same_of b (before ++ k.diverted) k.all o p;
       }
 

@@ -1,24 +1,12 @@
 -- Where the packets of a unit go while an instance processes some of them: the source of a move processes packets as long as they go there, the
 -- destination as long as they go to either, and neither does for a unit that another instance owned.
-use Rattle.std.proofs.Common.{◌≡◌, ◌≢◌, ℕ, None, Option, List, [], ◌∷◌, ◌++◌, map, refl, sym, ap, ◌∙◌, subst}
+use Rattle.std.proofs.Common.{◌≡◌, ◌≢◌, ℕ, None, Option, List, [], ◌∷◌, ◌++◌, map, refl, sym, ◌∙◌, subst}
 use Rattle.nf_msgs.specs.declared.answer.Answer.{Answer}
-use Rattle.unit_machine.proofs.Machine.{Where, At_a, At_b, Steps, Part, Inst, inst_does, Item, Carry, Pass, Fence, State, Take_sa, Take_sb, put_a, put_b, moved}
-use Rattle.unit_machine.proofs.UnitPieces.{nil_right}
-use Rattle.unit_machine.proofs.Stages.{drops, Stage, Turned, Fenced_a, Ending_b, Fence_b, Turned_loose, Fenced_loose, Ending_loose, Fence_loose, Fenced_b, Moved, shape, all_of}
-use Rattle.unit_machine.proofs.Bare.{bare_facts, stays_bare}
-use Rattle.unit_machine.proofs.Steps.{goes_on}
+use Rattle.unit_machine.proofs.Machine.{At_a, At_b, Steps, Part, inst_does, Item, Carry, Fence, State}
+use Rattle.unit_machine.proofs.Stages.{drops, Stage, Turned, Fenced_a, Ending_b, Fence_b, Turned_loose, Fenced_loose, Ending_loose, Fence_loose, Fenced_b, Moved, shape}
 use Rattle.unit_machine.proofs.Seats.{Seat, Covered, Is_beside, Is_away, seat_shape}
-use Rattle.unit_machine.proofs.Fresh.{still_ran}
-
-cons_nil : {X Y : Type 0} {x : X} {xs : List X} → [] ≡ x ∷ xs → Y
-cons_nil e = cc
-
--- what is processed doesn't hang on the flags
-ran_same : {R : Type 0} (F : Steps R) (w : Where) (parts : List (Part R)) (refuse : Option Answer) (i : Inst R) (it : Item R) → (inst_does F w [] None i it).ran ≡ (inst_does F w parts refuse i it).ran
-ran_same F w parts refuse i (Carry p) = refl
-ran_same F w parts refuse i (Pass p) = refl
-ran_same F w parts refuse i Fence = refl
-ran_same F w parts refuse i it = still_ran F w [] None i it refl ∙ sym (still_ran F w parts refuse i it refl)
+use Rattle.unit_machine.proofs.Fresh.{ran_same, bare_sa, bare_sb}
+use Rattle.unit_machine.proofs.Lists.{cons_nil}
 
 -- a source that drops what comes processes none of it
 frozen : {R : Type 0} (F : Steps R) (l : List ℕ) (it : Item R) (v : List (Item R)) → map Carry l ++ Fence ∷ [] ≡ it ∷ v → (inst_does F At_a [] None (drops None) it).ran ≡ []
@@ -28,14 +16,14 @@ frozen F (p ∷ l) it v e = let same : Carry p ≡ it = cc in subst (λ x. (inst
 source_stage : {R : Type 0} (F : Steps R) (s : Stage F) (it : Item R) (v : List (Item R)) → (shape F s).sa ≡ it ∷ v → (inst_does F At_a [] None (shape F s).a it).ran ≢ [] → (shape F s).target ≡ At_a
 source_stage F (Turned d x f y l h) it v e r = absurd (r (frozen F l it v e))
 source_stage F (Turned_loose d x f y l) it v e r = absurd (r (frozen F l it v e))
-source_stage F (Fenced_a d x f y h) it v e r = cons_nil e
-source_stage F (Ending_b d x f h) it v e r = cons_nil e
-source_stage F (Fence_b d x n h) it v e r = cons_nil e
-source_stage F (Fenced_loose d x f y) it v e r = cons_nil e
-source_stage F (Ending_loose d x f) it v e r = cons_nil e
-source_stage F (Fence_loose d x n) it v e r = cons_nil e
-source_stage F (Fenced_b d l k) it v e r = cons_nil e
-source_stage F (Moved d l k) it v e r = cons_nil e
+source_stage F (Fenced_a d x f y h) it v e r = cons_nil (sym e)
+source_stage F (Ending_b d x f h) it v e r = cons_nil (sym e)
+source_stage F (Fence_b d x n h) it v e r = cons_nil (sym e)
+source_stage F (Fenced_loose d x f y) it v e r = cons_nil (sym e)
+source_stage F (Ending_loose d x f) it v e r = cons_nil (sym e)
+source_stage F (Fence_loose d x n) it v e r = cons_nil (sym e)
+source_stage F (Fenced_b d l k) it v e r = cons_nil (sym e)
+source_stage F (Moved d l k) it v e r = cons_nil (sym e)
 source_stage F s it v e r = refl
 
 -- the two sides of a move
@@ -55,27 +43,6 @@ stage_routed F (Fence_loose d x n) = To_destination refl
 stage_routed F (Fenced_b d l k) = To_destination refl
 stage_routed F (Moved d l k) = To_destination refl
 stage_routed F s = To_source refl
-
--- Of a unit that the source doesn't own nothing is ever done at the move's own stages.
-taken_sa : {R : Type 0} (F : Steps R) (u : State R) (it : Item R) (v : List (Item R)) → u.sa ≡ it ∷ v → (moved F u Take_sa).done ≡ u.done ++ (inst_does F At_a [] None u.a it).ran
-taken_sa {R = R} F u it v e = ap (λ l. (elim l as (λ _. State R) [ [] ↦ u | x ∷ xs ↦ put_a (record u { sa = xs }) (inst_does F At_a [] None u.a x) ]).done) e
-
-bare_sa : {R : Type 0} (F : Steps R) (s : Stage F) → all_of s ≡ [] → (it : Item R) (v : List (Item R)) → (shape F s).sa ≡ it ∷ v → (inst_does F At_a [] None (shape F s).a it).ran ≡ []
-bare_sa F s bare it v e =
-    let u = shape F s in
-    let g = goes_on F s Take_sa tt in
-    let none : (moved F u Take_sa).done ≡ [] = ap (λ x. x.done) g.1 ∙ (bare_facts F g.0 (stays_bare F s Take_sa tt bare refl)).done in
-    nil_right u.done (inst_does F At_a [] None u.a it).ran (sym (taken_sa F u it v e) ∙ none)
-
-taken_sb : {R : Type 0} (F : Steps R) (u : State R) (it : Item R) (v : List (Item R)) → u.sb ≡ it ∷ v → (moved F u Take_sb).done ≡ u.done ++ (inst_does F At_b [] None u.b it).ran
-taken_sb {R = R} F u it v e = ap (λ l. (elim l as (λ _. State R) [ [] ↦ u | x ∷ xs ↦ put_b (record u { sb = xs }) (inst_does F At_b [] None u.b x) ]).done) e
-
-bare_sb : {R : Type 0} (F : Steps R) (s : Stage F) → all_of s ≡ [] → (it : Item R) (v : List (Item R)) → (shape F s).sb ≡ it ∷ v → (inst_does F At_b [] None (shape F s).b it).ran ≡ []
-bare_sb F s bare it v e =
-    let u = shape F s in
-    let g = goes_on F s Take_sb tt in
-    let none : (moved F u Take_sb).done ≡ [] = ap (λ x. x.done) g.1 ∙ (bare_facts F g.0 (stays_bare F s Take_sb tt bare refl)).done in
-    nil_right u.done (inst_does F At_b [] None u.b it).ran (sym (taken_sb F u it v e) ∙ none)
 
 -- the source processes packets that go there
 pub source_routed : {R : Type 0} (F : Steps R) (s : Seat F) (it : Item R) (v : List (Item R)) (parts : List (Part R)) (refuse : Option Answer) → (seat_shape F s).sa ≡ it ∷ v → (inst_does F At_a parts refuse (seat_shape F s).a it).ran ≢ [] → (seat_shape F s).target ≡ At_a

@@ -3,6 +3,7 @@ use Rattle.std.proofs.Common.{◌≡◌, ℕ, true, false, cond, Option, Some, N
 use Rattle.std.specs.Prelude.{if◌then◌else◌, ◌==◌}
 use Rattle.std.specs.List.{filter_map}
 use Rattle.std.specs.FinMap as finite
+use Rattle.share_machine.proofs.Lists.{self}
 use Rattle.flow_filter.specs.declared.filter.Filter.{Filter}
 use Rattle.flow_filter.specs.declared.packet.Packet.{Packet}
 use Rattle.flow_filter.specs.declared.site.Site.{Site}
@@ -26,7 +27,7 @@ use Rattle.outline_net.proofs.OperationTables.{got_insert}
 use Rattle.whole_outline.proofs.WholeOutline.{members_of, share_between, want_share_of, outline_all}
 use Rattle.whole_outline.proofs.AskedShare.{is_more}
 use Rattle.whole_outline.proofs.ShareOutline.{SeesShare}
-use Rattle.whole_outline.proofs.OpenShares.{self, turned_test, Table, SeesAny, OpensAll, opens_at, unseen_at, no_op, no_open_share, StepFollows}
+use Rattle.whole_outline.proofs.OpenShares.{turned_test, Table, SeesAny, OpensAll, opens_at, unseen_at, no_op, no_open_share, StepFollows}
 
 -- a move more
 ops_new : {R : Type 0} (es : List (Open R)) (y : Open R) (n : ℕ) → (y.op.num == n) ≡ true → find_op es n ≡ None → find_op (es ++ y ∷ []) n ≡ Some y

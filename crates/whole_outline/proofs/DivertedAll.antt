@@ -1,10 +1,11 @@
 -- The controller's step on a packet whose target it is: the share whose filter matches the packet's flow is the one that takes its unit.
 use Rattle.std.proofs.Common.{◌≡◌, ℕ, ◌<◌, Bool, true, false, cond, Option, Some, None, List, [], ◌∷◌, ◌++◌, refl, sym, ap, ◌∙◌, subst, arith}
-use Rattle.std.specs.Prelude.{T, if◌then◌else◌, ◌&&◌, ◌==◌, find, option_map, unwrap_or}
+use Rattle.std.specs.Prelude.{T, if◌then◌else◌, ◌==◌, find, option_map, unwrap_or}
 use Rattle.std.specs.Ordering.{nat_cmp, eq_by_cmp, is_lt}
 use Rattle.std.specs.FinMap as finite
 use Rattle.std.specs.FinMap.Entries.{below_all}
 use Rattle.std.proofs.lemmas.Bool.Decides.{nat_tests}
+use Rattle.std.proofs.Math.Facts.{and_yes}
 use Rattle.flow_filter.specs.declared.filter.Filter.{Filter}
 use Rattle.flow_filter.specs.declared.flow.Flow.{Flow}
 use Rattle.flow_filter.specs.declared.packet.Packet.{Packet}
@@ -21,7 +22,7 @@ use Rattle.ctrl_node.specs.declared.operation.Operation.{Operation}
 use Rattle.ctrl_node.specs.declared.operation.Operation.TheVariants.{Move, Copy, Share}
 use Rattle.ctrl_node.specs.Operations.{is_shared_by, share_of}
 use Rattle.ctrl_node.specs.Controller.{ControllerState, queued, on_diverted}
-use Rattle.unit_machine.proofs.Labels.{Each}
+use Rattle.unit_machine.proofs.Labels.{Each, each_any}
 use Rattle.abstract_net.proofs.Net.{Sys, Open}
 use Rattle.abstract_net.proofs.ShareLists.{Nums_apart}
 use Rattle.abstract_net.proofs.ShareRows.{taking_each, taking_found}
@@ -34,15 +35,6 @@ use Rattle.whole_outline.proofs.ShareOutline.{ShareFollows, outline_share, packe
 use Rattle.whole_outline.proofs.OpenShares.{OpensAll, both, real_share, all_step, StepFollows}
 use Rattle.whole_outline.proofs.ShareTurns.{share_queued}
 
--- The first entry that passes a test is found by its own number.
-left_true : (a b : Bool) → T (a && b) → T a
-left_true true b h = tt
-left_true false b h = h
-
-right_true : (a b : Bool) → T (a && b) → T b
-right_true true b h = h
-right_true false b h = absurd h
-
 less : (a b : ℕ) → T (is_lt (nat_cmp a b)) → a < b
 less a b h = grind (arith, nat_tests)
 
@@ -53,8 +45,8 @@ module _ (test : Operation → Bool) where
   above : (j : ℕ) (es : List (ℕ × Operation)) (x : ℕ × Operation) → T (below_all nat_cmp j es) → first es ≡ Some x → j < x.0
   above j [] x below is = cc
   above j (e ∷ es) x below is = elim (test e.1) as (λ b. (if b then Some e else first es) ≡ Some x → j < x.0) [
-    | true ↦ λ here. let same : e ≡ x = ap (λ o. unwrap_or o e) here in subst (λ y. j < y.0) same (less j e.0 (left_true (is_lt (nat_cmp j e.0)) (below_all nat_cmp j es) below))
-    | false ↦ λ rest. above j es x (right_true (is_lt (nat_cmp j e.0)) (below_all nat_cmp j es) below) rest
+    | true ↦ λ here. let same : e ≡ x = ap (λ o. unwrap_or o e) here in subst (λ y. j < y.0) same (less j e.0 (and_yes (is_lt (nat_cmp j e.0)) (below_all nat_cmp j es) below).0)
+    | false ↦ λ rest. above j es x (and_yes (is_lt (nat_cmp j e.0)) (below_all nat_cmp j es) below).1 rest
   ] is
 
   first_found : (es : List (ℕ × Operation)) (x : ℕ × Operation) → T (finite.is_sorted nat_cmp es) → first es ≡ Some x → (test x.1 ≡ true) × (finite.find nat_cmp x.0 es ≡ Some x.1)
@@ -66,8 +58,8 @@ module _ (test : Operation → Bool) where
         let found : finite.find nat_cmp e.0 (e ∷ es) ≡ Some e.1 = ap (λ b. cond b (Some e.1) (finite.find nat_cmp e.0 es)) self in
         subst (λ y. (test y.1 ≡ true) × (finite.find nat_cmp y.0 (e ∷ es) ≡ Some y.1)) same (on, found)
     | false ↦ λ off rest.
-        let more = first_found es x (right_true (below_all nat_cmp e.0 es) (finite.is_sorted nat_cmp es) sorted) rest in
-        let higher : e.0 < x.0 = above e.0 es x (left_true (below_all nat_cmp e.0 es) (finite.is_sorted nat_cmp es) sorted) rest in
+        let more = first_found es x (and_yes (below_all nat_cmp e.0 es) (finite.is_sorted nat_cmp es) sorted).1 rest in
+        let higher : e.0 < x.0 = above e.0 es x (and_yes (below_all nat_cmp e.0 es) (finite.is_sorted nat_cmp es) sorted).0 rest in
         let other : eq_by_cmp nat_cmp x.0 e.0 ≡ false = grind (arith, nat_tests, higher) in
         (more.0, ap (λ b. cond b (Some e.1) (finite.find nat_cmp x.0 es)) other ∙ more.1)
   ] refl is
@@ -81,10 +73,6 @@ module _ (test : Operation → Bool) where
       | false ↦ λ is. none_passes es k v more is
     ] there
   ] refl none
-
-all_units : (es : List Open_share) → Each (λ d. Unit {0}) es
-all_units [] = tt
-all_units (x ∷ es) = (tt, all_units es)
 
 -- a share whose filter takes a unit is among those that do
 takes_some : {R : Type 0} (S : Sys R) (es : List Open_share) (n : ℕ) (e : Open_share) (v : units.Unit) → find_share es n ≡ Some e → S.takes e.filter v ≡ true → share_taking S es v ≡ None → ⊥
@@ -152,7 +140,7 @@ module _ {R : Type 0} (f : Semantics R) (at : Site) (packet : ℕ → Packet) (p
     taken_is e taking = by_first real_first refl
       where
         on : S.takes e.filter u ≡ true
-        on = (taking_each S A (λ d. Unit {0}) shares u e (all_units shares) taking).1
+        on = (taking_each S A (λ d. Unit {0}) shares u e (each_any shares) taking).1
 
         found : find_share shares e.num ≡ Some e
         found = taking_found S A shares u e apart.nums taking

@@ -1,8 +1,9 @@
 -- An instance's step in a world of the network with shares that shows the instance: the world after the abstract step shows what it leaves.
-use Rattle.std.proofs.Common.{◌≡◌, ℕ, Bool, true, false, Option, List, [], ◌++◌, refl, sym, ap, ◌∙◌, subst, arith, append-nil}
+use Rattle.std.proofs.Common.{◌≡◌, ℕ, true, Option, List, [], ◌++◌, refl, sym, ap, ◌∙◌, subst, arith, append-nil}
 use Rattle.std.specs.Prelude.{if◌then◌else◌, ◌==◌}
 use Rattle.std.specs.List.{filter_map}
 use Rattle.std.proofs.lemmas.Bool.Decides.{nat_tests}
+use Rattle.actor_net.proofs.LinkLemmas.{neither}
 use Rattle.flow_filter.specs.declared.packet.Packet.{Packet}
 use Rattle.flow_filter.specs.declared.site.Site.{Site}
 use Rattle.nf_function.specs.Semantics.{Semantics}
@@ -11,7 +12,7 @@ use Rattle.instance_worker.specs.declared.instance.Instance.{Instance}
 use Rattle.instance_worker.specs.Instance.{Step}
 use Rattle.unit_machine.proofs.Real.{sent_for}
 use Rattle.abstract_net.proofs.Net as net
-use Rattle.abstract_net.proofs.Net.{Sys, Inst_n, inst_step, links_after, at_node, put}
+use Rattle.abstract_net.proofs.Net.{Inst_n, inst_step, links_after, at_node, put}
 use Rattle.abstract_net.proofs.Shares.{Old, New, Share_msg, Whole, member_step, whole_inst, keeps}
 use Rattle.outline_net.proofs.Outline.{ran_in, outline_instance}
 use Rattle.whole_outline.proofs.WholeOutline.{outline_all, S, A}
@@ -20,10 +21,6 @@ use Rattle.whole_outline.proofs.StandbyKept.{WholeFollows, Keeps}
 
 put_own : {X : Type 0} (g : ℕ → X) (y : ℕ) (x : X) → put g y x y ≡ x
 put_own g y x = let own : (y == y) ≡ true = grind (arith, nat_tests) in rw own refl
-
-if_none : {X : Type 0} (b : Bool) → ◌≡◌ {A = List X} (if b then [] else []) []
-if_none true = refl
-if_none false = refl
 
 module _ {F R : Type 0} (f : Semantics R) (site : Site) (packet : ℕ → Packet) (y : ℕ) where
   -- a world shows an instance at node y
@@ -68,6 +65,6 @@ module _ {F R : Type 0} (f : Semantics R) (site : Site) (packet : ℕ → Packet
   pub keeps_steps : (i : Instance F R) (step : Step F R) (records : Records R) → ShowsAt f site packet y w i → Keeps f site packet place i step records → KeepsTo (keeps (S f site packet) (A f site packet) w y records) step
   keeps_steps i step records h kept = record {
     shows = record { inst = kept.node ∙ h.inst; standby = kept.standby ∙ sym (put_own w.standby y records) };
-    links = λ a b. sym (ap (λ sends. w.link a b ++ (if a == y then sent_for b sends else [])) kept.sends ∙ ap (λ ms. w.link a b ++ ms) (if_none (a == y)) ∙ append-nil (w.link a b));
+    links = λ a b. sym (ap (λ sends. w.link a b ++ (if a == y then sent_for b sends else [])) kept.sends ∙ ap (λ ms. w.link a b ++ ms) (neither (a == y)) ∙ append-nil (w.link a b));
     done = sym (ap (λ ran. w.done ++ at_node y ran) kept.ran ∙ append-nil w.done);
   }

@@ -21,10 +21,6 @@ use Rattle.outline_net.proofs.ControlOutline.{Sees, Opens}
 use Rattle.whole_outline.proofs.WholeOutline.{outline_all, sharing}
 use Rattle.whole_outline.proofs.ShareOutline.{SeesShare}
 
--- tests of numbers
-pub self : (n : ℕ) → (n == n) ≡ true
-self n = grind (arith, nat_tests)
-
 pub turned_test : (k n : ℕ) → (k == n) ≡ false → (n == k) ≡ false
 turned_test k n off = grind (arith, nat_tests, off)
 

@@ -4,6 +4,7 @@ use Rattle.std.proofs.Common.{◌≡◌, ℕ, true, false, cond, Option, Some, N
 use Rattle.std.specs.Prelude.{if◌then◌else◌, ◌==◌, unwrap_or}
 use Rattle.std.specs.FinMap as finite
 use Rattle.std.proofs.lemmas.Bool.Decides.{Decides-eqb}
+use Rattle.share_machine.proofs.Lists.{self}
 use Rattle.flow_filter.specs.declared.packet.Packet.{Packet}
 use Rattle.flow_filter.specs.declared.site.Site.{Site}
 use Rattle.nf_function.specs.Semantics.{Semantics}
@@ -34,7 +35,7 @@ use Rattle.outline_net.proofs.ControlOutline.{Sees, SeesMove, Opens, TurnFollows
 use Rattle.outline_net.proofs.OperationTables.{got_insert, got_remove, gone_twice, insert_same, NotShared, handed_is}
 use Rattle.whole_outline.proofs.WholeOutline.{outline_all}
 use Rattle.whole_outline.proofs.MoveSends.{AreOld, old-put, row_old}
-use Rattle.whole_outline.proofs.OpenShares.{self, turned_test, but_shares, share_in, Is_unseen, Table, SeesOne, SeesAny, OpensAll, opens_at, unseen_at, no_open_share, without_shares, got_moves, opens_moves, StepFollows}
+use Rattle.whole_outline.proofs.OpenShares.{turned_test, but_shares, share_in, Is_unseen, Table, SeesOne, SeesAny, OpensAll, opens_at, unseen_at, no_open_share, without_shares, got_moves, opens_moves, StepFollows}
 use Rattle.whole_outline.proofs.ShareTurns.{answer_unseen}
 
 -- found by its own number

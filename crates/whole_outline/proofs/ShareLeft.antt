@@ -1,9 +1,10 @@
 -- What a message of an open share, or a packet at the end of its queue, leaves at the controller: the share in its next phase with what still waits,
 -- and all else as it was.
-use Rattle.std.proofs.Common.{◌≡◌, ℕ, Bool, true, false, cond, Option, Some, None, List, [], ◌∷◌, ◌++◌, refl, sym, ap, ◌∙◌, subst}
+use Rattle.std.proofs.Common.{◌≡◌, ℕ, true, false, cond, Option, Some, None, List, [], ◌∷◌, ◌++◌, refl, sym, ap, ◌∙◌, subst}
 use Rattle.std.specs.Prelude.{◌==◌, unwrap_or}
 use Rattle.std.specs.FinMap as finite
 use Rattle.std.proofs.lemmas.Bool.Decides.{Decides-eqb}
+use Rattle.share_machine.proofs.Lists.{self, cond-cond}
 use Rattle.packet_pool.specs.Pool.{FullCell}
 use Rattle.event_store.specs.Store.{stored, with_parcels, store_after}
 use Rattle.event_store.proofs.StoreLookUps.{stored-with_parcels}
@@ -22,7 +23,6 @@ use Rattle.ctrl_node.specs.Operations.{turn_of, shared, serving_of}
 use Rattle.ctrl_node.specs.Controller.{ControllerState, Step, turned, after_turn, takes_turn, serves, and_serves, handed, queued}
 use Rattle.unit_machine.proofs.Labels.{Each}
 use Rattle.outline_net.proofs.OperationTables.{got_insert}
-use Rattle.whole_outline.proofs.OpenShares.{self}
 
 -- an open share of a controller, with what waits for it
 pub record OpenAt : Type 0 where
@@ -89,11 +89,6 @@ stored_after c n k cells None has = elim (k == n) as (λ b. (k == n) ≡ b → s
   | false ↦ λ off. refl
 ] refl
 
--- two tests at one number
-twice : {X : Type 0} (b : Bool) (x y z : X) → cond b x (cond b y z) ≡ cond b x z
-twice true x y z = refl
-twice false x y z = refl
-
 -- a controller that has changed at the share's number alone, to the share in this phase with what now waits for it
 record Readies (x : OpenAt) (r : ShareRow) (d : ControllerState) : Type 0 where
   names : d.names ≡ x.node.names
@@ -117,7 +112,7 @@ module _ (x : OpenAt) (r : ShareRow) (op : x.share.plan.op ≡ x.num) where
       subst (λ step. ShareLeaves x r (record { node = step.node; sends = answered x.num r.answer r.sends ++ step.sends; notes = noted x.num r.answer })) (sym is) (record {
         names = ready.names;
         site = ready.site;
-        operations = λ k. got_insert d.operations x.num k (next_share x r) ∙ ap (cond (k == x.num) (Some (next_share x r))) (ready.operations k) ∙ twice (k == x.num) (Some (next_share x r)) (Some ready_share) (finite.get x.node.operations k);
+        operations = λ k. got_insert d.operations x.num k (next_share x r) ∙ ap (cond (k == x.num) (Some (next_share x r))) (ready.operations k) ∙ cond-cond (k == x.num) (Some (next_share x r)) (Some ready_share) (finite.get x.node.operations k);
         store = λ k. stored_after d x.num k x.cells (served x.share.plan r.phase x.cells).stored ready.here ∙ stores_same d ready k;
         sends = refl;
         notes = refl;

@@ -20,7 +20,7 @@ use Rattle.nf_msgs.specs.declared.msg.Msg.TheVariants as msg
 use Rattle.nf_msgs.specs.Nodes.{instance_node}
 use Rattle.copy_share.specs.declared.share_phase.SharePhase.{SharePhase}
 use Rattle.copy_share.specs.declared.share_phase.SharePhase.TheVariants as phase
-use Rattle.copy_share.specs.Share.{SharePlan, ShareState, ShareRow, goes, home, others, setting, syncing, on_fenced, on_chunks, on_shared, on_synced, row, member_of, served}
+use Rattle.copy_share.specs.Share.{SharePlan, ShareState, ShareRow, goes, home, others, setting, syncing, on_fenced, on_chunks, row, member_of, served}
 use Rattle.copy_share.specs.Share as shares
 use Rattle.unit_machine.proofs.Labels.{Each, each-append}
 use Rattle.share_machine.proofs.Share as machine
@@ -70,7 +70,7 @@ others_same one (m ∷ ms) = ap (λ b. if b then without (map instance_node ms) 
 count_same : (plan : SharePlan) (one : ℕ) → length (without (map instance_node plan.members) (instance_node one)) ≡ length (others plan one)
 count_same plan one = ap length (others_same one plan.members) ∙ length-map (others plan one) instance_node
 
-index_same : (ms : List ℕ) (i : ℕ) → i < length ms → slice_index (map instance_node ms) i ≡ instance_node (slice_index ms i)
+pub index_same : (ms : List ℕ) (i : ℕ) → i < length ms → slice_index (map instance_node ms) i ≡ instance_node (slice_index ms i)
 index_same [] i low = absurd (omega (arith, low))
 index_same (m ∷ ms) zero low = refl
 index_same (m ∷ ms) (suc i) low = index_same ms i (omega (arith, low))

@@ -4,6 +4,7 @@ use Rattle.std.proofs.Common.{◌≡◌, ℕ, false, cond, Option, Some, None, L
 use Rattle.std.specs.Prelude.{◌==◌, unwrap_or}
 use Rattle.std.specs.FinMap as finite
 use Rattle.std.proofs.lemmas.Bool.Decides.{Decides-eqb}
+use Rattle.share_machine.proofs.Lists.{self}
 use Rattle.flow_filter.specs.declared.packet.Packet.{Packet}
 use Rattle.flow_filter.specs.declared.site.Site.{Site}
 use Rattle.nf_function.specs.Semantics.{Semantics}
@@ -27,7 +28,7 @@ use Rattle.outline_net.proofs.ControlOutline.{Sees}
 use Rattle.whole_outline.proofs.WholeOutline.{outline_each, outline_all, sharing}
 use Rattle.whole_outline.proofs.ShareOutline.{share_phase, SeesShare, ShareFollows, sees_after, rests_served}
 use Rattle.whole_outline.proofs.ShareLeft.{OpenAt, answered, next_share, still_waits, ShareLeaves, handed_leaves, queued_leaves}
-use Rattle.whole_outline.proofs.OpenShares.{self, turned_test, but_shares, Table, Elsewhere, SeesAny, OpensAll, opens_at, sees_none, StepFollows}
+use Rattle.whole_outline.proofs.OpenShares.{turned_test, but_shares, Table, Elsewhere, SeesAny, OpensAll, opens_at, sees_none, StepFollows}
 
 module _ {R : Type 0} (f : Semantics R) (at : Site) (packet : ℕ → Packet) (place : List ℕ → Option ℕ) where
   abbrev S : Sys R

@@ -3,6 +3,7 @@
 use Rattle.std.proofs.Common.{◌≡◌, ℕ, zero, suc, Bool, true, false, Option, Some, List, [], ◌∷◌, ◌++◌, refl, sym, ap, ◌∙◌, arith}
 use Rattle.std.specs.Prelude.{if◌then◌else◌, ◌&&◌, ◌==◌, nat_lt, option_map, unwrap_or}
 use Rattle.std.proofs.lemmas.Bool.Decides.{nat_tests}
+use Rattle.std.proofs.lemmas.Bool.{and_parts}
 use Rattle.flow_filter.specs.declared.filter.Filter.{Filter}
 use Rattle.flow_filter.specs.declared.flow.Flow.{Flow}
 use Rattle.flow_filter.specs.declared.packet.Packet.{Packet}
@@ -26,7 +27,7 @@ use Rattle.unit_machine.proofs.Real as real
 use Rattle.abstract_net.proofs.Net as net
 use Rattle.abstract_net.proofs.Net.{sw_target, sw_sends, everything}
 use Rattle.abstract_net.proofs.Shares.{as_old, arrive_sends, share_target, share_sends, S_install, S_forward}
-use Rattle.outline_net.proofs.FiltersApart.{and_l, filter_fits, filter_is, flow_fits, flow_is, is_whole, takes_whole, whole_takes}
+use Rattle.outline_net.proofs.FiltersApart.{filter_fits, filter_is, flow_fits, flow_is, is_whole, takes_whole, whole_takes}
 use Rattle.outline_net.proofs.InstanceOutline.{filter_map-put}
 use Rattle.outline_net.proofs.Outline.{number, sys}
 use Rattle.outline_net.proofs.SwitchOutline.{Routes}
@@ -115,7 +116,7 @@ module _ {R : Type 0} (f : Semantics R) (site : Site) (packet : ℕ → Packet) 
       taken = whole_takes f.kind g flow whole fits
 
       next : first_match (redirected r s.rules) flow ≡ Some (redirected_target r flow old.target)
-      next = redirected_law r s.rules filters (filter_is g (and_l (filter_fits g) _ whole)) flow (flow_is flow fits) ∙ ap (option_map (redirected_target r flow)) old.first
+      next = redirected_law r s.rules filters (filter_is g (and_parts (filter_fits g) _ whole).0) flow (flow_is flow fits) ∙ ap (option_map (redirected_target r flow)) old.first
 
       test : (takes_whole f.kind g (unit_of f.kind flow) && (to (unit_of f.kind flow) == instance_node from)) ≡ (matches g flow && target_eq old.target (target.Instance from))
       test = ap (λ t. t && (to (unit_of f.kind flow) == instance_node from)) taken ∙ ap (λ k. matches g flow && (k == instance_node from)) old.node ∙ ap (λ t. matches g flow && t) (sym (same_target old.target from))
