@@ -69,12 +69,12 @@ count_read kind instances bytes header items result same front is =
 -- a fault of the header is the journal's, and nothing behind the header is taken
 pub header_fault : (kind : Kind) (instances : ℕ) (bytes : List ℕ) (left : Option (List ℕ)) (e : JournalFault)
     → count_of kind instances bytes ≡ Err e → left ≡ Some (drop header_size bytes)
-    → GivesFrom (journal_of kind instances bytes) (looked_at (count_of kind instances bytes)) bytes left (Err e)
+    → GivesFrom (journal_of kind instances bytes) (drop (looked_at (count_of kind instances bytes)) bytes) left (Err e)
 unfolding journal_of
 header_fault kind instances bytes left e is rest =
-    subst (λ (r : Read ℕ). GivesFrom (choices_of r (drop header_size bytes)) (looked_at r) bytes left (Err e)) (sym is) (due e)
+    subst (λ (r : Read ℕ). GivesFrom (choices_of r (drop header_size bytes)) (drop (looked_at r) bytes) left (Err e)) (sym is) (due e)
   where
-    due : (e : JournalFault) → GivesFrom {X = List Choice} (Err e) header_size bytes left (Err e)
+    due : (e : JournalFault) → GivesFrom {X = List Choice} (Err e) (drop header_size bytes) left (Err e)
     due fault.Magic = (refl, rest)
     due fault.Version = (refl, rest)
     due fault.Kind = (refl, rest)
@@ -86,15 +86,15 @@ header_fault kind instances bytes left e is rest =
 
 -- what may be read of a journal after its header: the bytes, the number of choices, and what is left at the end
 abbrev pub GivesBody : ℕ → List ℕ → Option (List ℕ) → Read (List Choice) → Type 0
-GivesBody count bytes left result = GivesFrom (choices_of (Ok count) (drop header_size bytes)) (header_size + 2 * count + 1) bytes left result
+GivesBody count bytes left result = GivesFrom (choices_of (Ok count) (drop header_size bytes)) (drop (header_size + 2 * count + 1) bytes) left result
 
 -- where the number of choices is told, the journal's answer is that of the bytes behind its header
 pub body_gives : (kind : Kind) (instances count : ℕ) (bytes : List ℕ) (left : Option (List ℕ)) (result : Read (List Choice))
     → count_of kind instances bytes ≡ Ok count → GivesBody count bytes left result
-    → GivesFrom (journal_of kind instances bytes) (looked_at (count_of kind instances bytes)) bytes left result
+    → GivesFrom (journal_of kind instances bytes) (drop (looked_at (count_of kind instances bytes)) bytes) left result
 unfolding journal_of
 body_gives kind instances count bytes left result is given =
-    subst (λ (r : Read ℕ). GivesFrom (choices_of r (drop header_size bytes)) (looked_at r) bytes left result) (sym is) given
+    subst (λ (r : Read ℕ). GivesFrom (choices_of r (drop header_size bytes)) (drop (looked_at r) bytes) left result) (sym is) given
 
 -- a fault of the choices is the journal's
 pub choices_fault : (count : ℕ) (bytes : List ℕ) (left : Option (List ℕ)) (e : JournalFault)
@@ -141,7 +141,7 @@ ended count bytes found before after choices taken last none =
 
 -- a call that gave up over the source gave a free answer
 pub front_fault : (due : Read (List Choice)) (looked wanted : ℕ) (bytes rest : List ℕ) (left : Option (List ℕ)) (e : JournalFault)
-    → TakesBytes wanted rest left (Err e) → GivesFrom due looked bytes left (Err e)
+    → TakesBytes wanted rest left (Err e) → GivesFrom due (drop looked bytes) left (Err e)
 front_fault due looked wanted bytes rest left fault.Read taken = tt
 front_fault due looked wanted bytes rest left fault.NoMemory taken = tt
 front_fault due looked wanted bytes rest left fault.Magic taken = absurd taken

@@ -56,12 +56,12 @@ abbrev pub AnswersWith : {X : Type 0} → Read X → Read X → Type 0
 AnswersWith due (Err fault.NoMemory) = Unit {0}
 AnswersWith due result = due ≡ result
 
--- a call over a source that has `left` bytes afterwards gave what is due. At Ok none is left, and at a fault of the bytes all but the first `looked`. A fault of reading and out of memory are free
-abbrev pub GivesFrom : {X : Type 0} → Read X → ℕ → List ℕ → Option (List ℕ) → Read X → Type 0
-GivesFrom due looked bytes left (Ok x) = (due ≡ Ok x) × (left ≡ Some [])
-GivesFrom due looked bytes left (Err fault.Read) = Unit {0}
-GivesFrom due looked bytes left (Err fault.NoMemory) = Unit {0}
-GivesFrom due looked bytes left (Err e) = (due ≡ Err e) × (left ≡ Some (drop looked bytes))
+-- a call over a source that has `left` bytes afterwards gave what is due. At Ok none is left, and at a fault of the bytes those that weren't looked at. A fault of reading and out of memory are free
+abbrev pub GivesFrom : {X : Type 0} → Read X → List ℕ → Option (List ℕ) → Read X → Type 0
+GivesFrom due unseen left (Ok x) = (due ≡ Ok x) × (left ≡ Some [])
+GivesFrom due unseen left (Err fault.Read) = Unit {0}
+GivesFrom due unseen left (Err fault.NoMemory) = Unit {0}
+GivesFrom due unseen left (Err e) = (due ≡ Err e) × (left ≡ Some unseen)
 
 -- a fault of a bounded read as one of the journal
 abbrev pub fault_of : UptoFault → JournalFault

@@ -33,7 +33,7 @@ use Rattle.run_report.specs.Lines.{report_text}
 use Rattle.command_words.specs.Requests.{NetworkAsked, asks_audit}
 use Rattle.opennf_calls.specs.declared.status.Status.{Status}
 use Rattle.opennf_calls.specs.Again.{AreAgain, AuditLaw, AuditsAgain}
-use Rattle.opennf_calls.specs.NetworkRuns.{Scenario, RunResults, HasNoRun, HasRun, IsNoRun, IsRunOf, config_for, given_script, head_for, start_for}
+use Rattle.opennf_calls.specs.NetworkRuns.{Scenario, RunResults, IsNoRun, IsRunOf, OfKind, config_for, given_script, head_for, start_for}
 use Rattle.opennf_calls.specs.Outcome.{FailsAt, IsAudited, IsScenario, first_refusal, journal_read, journal_refusal, refusal_of, script_refusal, trace_refusal}
 use Rattle.opennf_calls.proofs.SameInputs.{AreSame, same_scenario}
 
@@ -85,17 +85,17 @@ module _ {R : Type 0} (F : Type 0) (f : Semantics R) (s : NetworkAsked) (g h : S
 
 -- The same, for the function that the words name.
 module _ (s : NetworkAsked) (g h : Scenario) (same : AreSame g h) (by : Option Schedule) (made : RunResults) where
-  same_report : (kind : Kind) → HasRun kind s g by made → (audited : RunResults) → HasRun kind s h None audited → audited.choices ≡ made.choices → audited.texts Report ≡ made.texts Report
+  same_report : (kind : Kind) → OfKind kind (λ R F f. IsRunOf F f s g by made) → (audited : RunResults) → OfKind kind (λ R F f. IsRunOf F f s h None audited) → audited.choices ≡ made.choices → audited.texts Report ≡ made.texts Report
   same_report kinds.Conntrack x audited y chose = reports Conntrack conntrack s g h same by made x audited y chose
   same_report kinds.Nat x audited y chose = reports Nat nat s g h same by made x audited y chose
   same_report kinds.Monitor x audited y chose = reports Monitor monitor s g h same by made x audited y chose
 
-  still_runs : (kind : Kind) → HasRun kind s g by made → (cs : List Choice) → cs ≡ made.choices → (step : ℕ) → HasNoRun kind s h cs step → ⊥
+  still_runs : (kind : Kind) → OfKind kind (λ R F f. IsRunOf F f s g by made) → (cs : List Choice) → cs ≡ made.choices → (step : ℕ) → OfKind kind (λ R F f. IsNoRun F f s h cs step) → ⊥
   still_runs kinds.Conntrack x cs chose step told = no_cause Conntrack conntrack s g h same by made x cs chose step told
   still_runs kinds.Nat x cs chose step told = no_cause Nat nat s g h same by made x cs chose step told
   still_runs kinds.Monitor x cs chose step told = no_cause Monitor monitor s g h same by made x cs chose step told
 
-read_again : (s : NetworkAsked) (g : Scenario) (by : Option Schedule) (made : RunResults) (kind : Kind) → HasRun kind s g by made → journal_of s.kind (length s.instances.names) (made.texts JournalOut) ≡ Ok made.choices
+read_again : (s : NetworkAsked) (g : Scenario) (by : Option Schedule) (made : RunResults) (kind : Kind) → OfKind kind (λ R F f. IsRunOf F f s g by made) → journal_of s.kind (length s.instances.names) (made.texts JournalOut) ≡ Ok made.choices
 read_again s g by made kinds.Conntrack x = x.again
 read_again s g by made kinds.Nat x = x.again
 read_again s g by made kinds.Monitor x = x.again

@@ -1,5 +1,5 @@
 -- The rows of an audit, which reads a journal after the script and the capture.
-use Rattle.std.proofs.Common.{◌≡◌, ℕ, List, [], ◌&&◌, true, length, Option, None, Some, is_some, Result, Ok, Err, refl, ap, sym, ◌∙◌, subst}
+use Rattle.std.proofs.Common.{◌≡◌, ℕ, List, [], ◌&&◌, true, length, drop, Option, None, Some, is_some, Result, Ok, Err, refl, ap, sym, ◌∙◌, subst}
 use Rattle.std.specs.Prelude.{IsTrue, MatchResult}
 use Rattle.std.proofs.lemmas.Bool.{and_parts}
 use Rattle.nf_io.specs.declared.outside.Role.{Role}
@@ -25,7 +25,7 @@ use Rattle.opennf_calls.proofs.RunRows.{audit_reads, journal_read_too, tells}
 -- what reading a journal of so many instances answers
 abbrev pub AnswersJournal : (s : NetworkAsked) (count : ℕ) (mid new : Role → Meaning) → Result (List Choice) JournalFault → Type 0
 AnswersJournal s count mid new r = (bytes : List ℕ) → (mid JournalIn).left ≡ Some bytes
-    → GivesFrom (journal_of s.kind count bytes) (looked_at (count_of s.kind count bytes)) bytes (new JournalIn).left r
+    → GivesFrom (journal_of s.kind count bytes) (drop (looked_at (count_of s.kind count bytes)) bytes) (new JournalIn).left r
 
 -- the count that is read for is that of the words
 pub counted : (s : NetworkAsked) (mid new : Role → Meaning) (r : Result (List Choice) JournalFault) (count : ℕ) → AnswersJournal s count mid new r
@@ -79,11 +79,11 @@ module _ (s : NetworkAsked) (named : is_some s.journal ≡ true) (scenario : Sce
         refusal bytes holds ∙ ap journal_refusal (due bytes holds) ∙ is)
 
   due : (e : JournalFault) → AnswersJournal s (length s.instances.names) mid new (Err e) → (bytes : Role → List ℕ) → HasInput (asks_audit s) old bytes
-      → GivesFrom {X = List Choice} (journal_read s bytes) (looked_at (count_of s.kind (length s.instances.names) (bytes JournalIn))) (bytes JournalIn) (new JournalIn).left (Err e)
+      → GivesFrom {X = List Choice} (journal_read s bytes) (drop (looked_at (count_of s.kind (length s.instances.names) (bytes JournalIn))) (bytes JournalIn)) (new JournalIn).left (Err e)
   due e answers bytes is = answers (bytes JournalIn) (told_journal bytes is)
 
   pub journal_row : (e : JournalFault) → AnswersJournal s (length s.instances.names) mid new (Err e)
-      → HasReadCause {A = List Choice} (mid JournalIn).faults (new JournalIn).faults (Err e) → RowOf (asks_audit s) old new [] (journal_status e)
+      → HasReadCause {A = List Choice} (mid JournalIn).faults (new JournalIn).faults (Err e) → RowOf (asks_audit s) old new (record { status = journal_status e; choices = [] })
   journal_row fault.Magic answers cause = (bad fault.Magic answers (BadJournal kinds.Magic) refl (λ bytes is. (due fault.Magic answers bytes is).0), refl)
   journal_row fault.Version answers cause = (bad fault.Version answers (BadJournal kinds.Version) refl (λ bytes is. (due fault.Version answers bytes is).0), refl)
   journal_row fault.Kind answers cause = (bad fault.Kind answers (BadJournal kinds.Kind) refl (λ bytes is. (due fault.Kind answers bytes is).0), refl)
@@ -105,7 +105,7 @@ module _ (s : NetworkAsked) (named : is_some s.journal ≡ true) (scenario : Sce
     sound : (bytes : Role → List ℕ) → HasInput (asks_audit s) old bytes → refusal_of (asks_audit s) bytes ≡ None
     sound bytes is = refusal bytes is ∙ ap journal_refusal (told_choices bytes is)
 
-    audit_results : (made : RunResults) → HasRun s.kind s scenario None made → made.choices ≡ choices → ForResults (asks_audit s) old new (λ g. g ≡ made)
+    audit_results : (made : RunResults) → HasRun s scenario None made → made.choices ≡ choices → ForResults (asks_audit s) old new (λ g. g ≡ made)
     audit_results made holds same bytes is = record {
       read = all_read bytes is;
       sound = sound bytes is;
@@ -117,7 +117,7 @@ module _ (s : NetworkAsked) (named : is_some s.journal ≡ true) (scenario : Sce
       wrote = refl;
     }
 
-    no_run_row : (status : Status) → IsRefusedRun s scenario choices status → RowOf (asks_audit s) old new [] status
+    no_run_row : (status : Status) → IsRefusedRun s scenario choices status → RowOf (asks_audit s) old new (record { status = status; choices = [] })
     no_run_row (NotARun step) cause = (
       record {
         bound = still_bound old new only (asks_audit s) bound;
@@ -144,7 +144,7 @@ module _ (s : NetworkAsked) (named : is_some s.journal ≡ true) (scenario : Sce
     no_run_row (WriteFault role) cause = absurd cause
 
     -- what the run gives that it tells, or why there is nothing
-    pub told_row : (r : Result Made Status) → MatchResult r (λ made. HasRun s.kind s scenario None (gives s made) × (made.choices ≡ choices)) (IsRefusedRun s scenario choices)
-        → MatchResult r (λ made. ForResults (asks_audit s) old new (λ g. g ≡ gives s made)) (λ status. RowOf (asks_audit s) old new [] status)
+    pub told_row : (r : Result Made Status) → MatchResult r (λ made. HasRun s scenario None (gives s made) × (made.choices ≡ choices)) (IsRefusedRun s scenario choices)
+        → MatchResult r (λ made. ForResults (asks_audit s) old new (λ g. g ≡ gives s made)) (λ status. RowOf (asks_audit s) old new (record { status = status; choices = [] }))
     told_row (Ok made) holds = audit_results (gives s made) holds.0 holds.1
     told_row (Err status) holds = no_run_row status holds

@@ -13,7 +13,7 @@ use Rattle.opennf_calls.specs.Outcome.{HasInput, RowOf, CauseOf, IsComplete, IsG
 never : (asked : Asked) (bytes : Role → List ℕ) (status : Status) → refusal_of asked bytes ≡ None → refusal_of asked bytes ≡ Some status → ⊥
 never asked bytes status sound refused = let both : None ≡ Some status = sym sound ∙ refused in cc
 
-complete_row : (asked : Asked) (old new : Role → Meaning) (choices : List Choice) (status : Status) (bytes : Role → List ℕ) → RowOf asked old new choices status
+complete_row : (asked : Asked) (old new : Role → Meaning) (choices : List Choice) (status : Status) (bytes : Role → List ℕ) → RowOf asked old new (record { status = status; choices = choices })
     → HasInput asked old bytes → refusal_of asked bytes ≡ None → ((role : Role) → Rose (old role).faults (new role).faults → ⊥) → IsGoodEnd asked bytes status
 complete_row asked old new choices Done bytes row told sound calm = Is_done refl
 complete_row asked old new choices NoMemory bytes row told sound calm = Is_memory refl

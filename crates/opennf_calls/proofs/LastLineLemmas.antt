@@ -74,7 +74,7 @@ module _ (before old mid new : Role → Meaning) (around : Around before old mid
         (λ made wrote. (wrote.0, gained asked (is_result asked) made.texts (λ role is. is) wrote.1)) row.results;
   }
 
-  write_fault : (asked : Asked) (role : Role) (choices : List Choice) → IsWriteFault asked old mid role choices → IsWriteFault asked before new role choices
+  write_fault : (asked : Asked) (role : Role) (choices : List Choice) → IsWriteFault asked old mid (record { role = role; choices = choices }) → IsWriteFault asked before new (record { role = role; choices = choices })
   write_fault asked role choices row =
       let differ = not_last asked role row.result in
       record {
@@ -134,7 +134,7 @@ module _ (before old mid new : Role → Meaning) (around : Around before old mid
         };
   }
 
-  pub row_around : (asked : Asked) (choices : List Choice) (status : Status) → RowOf asked old mid choices status → RowOf asked before new choices status
+  pub row_around : (asked : Asked) (choices : List Choice) (status : Status) → RowOf asked old mid (record { status = status; choices = choices }) → RowOf asked before new (record { status = status; choices = choices })
   row_around asked choices Done row = done asked choices row
   row_around asked choices (WriteFault role) row = write_fault asked role choices row
   row_around asked choices (ReadFault role) row = (read_fault asked role row.0, row.1)

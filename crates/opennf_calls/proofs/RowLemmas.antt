@@ -129,7 +129,7 @@ module _ (old new : Role → Meaning) (only : OnlyRead old new) where
   refused asked status bound refusal = record { bound = still_bound asked bound; silent = silent; refusal = refusal }
 
   -- a command that ends there
-  pub ends : (asked : Asked) (status : Status) → RowOf asked old new [] status → Performs asked old new (record { status = status; choices = [] })
+  pub ends : (asked : Asked) (status : Status) → RowOf asked old new (record { status = status; choices = [] }) → Performs asked old new (record { status = status; choices = [] })
   ends asked status row = record { row = row; names = only.names; errors = only.others Errors refl }
 
 -- a command that read its inputs and then wrote the report, whole or in part
@@ -169,7 +169,7 @@ module _ (asked : Asked) (old mid new : Role → Meaning) (read : OnlyRead old m
           wrote = says found.made found.wrote;
         }
 
-    performs : (status : Status) → RowOf asked old new choices status → Performs asked old new (record { status = status; choices = choices })
+    performs : (status : Status) → RowOf asked old new (record { status = status; choices = choices }) → Performs asked old new (record { status = status; choices = choices })
     performs status row = record {
       row = row;
       names = λ other. new_names other ∙ read.names other;

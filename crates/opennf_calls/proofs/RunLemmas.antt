@@ -90,7 +90,7 @@ module _ {R : Type 0} (F : Type 0) (f : Semantics R) (s : NetworkAsked) (g : Sce
 
 -- The function is that of the words.
 module _ {R : Type 0} (F : Type 0) (f : Semantics R) (s : NetworkAsked) (g : Scenario) where
-  no_run : (choices : List Choice) → ((step : ℕ) → IsNoRun F f s g choices step → HasNoRun s.kind s g choices step)
+  no_run : (choices : List Choice) → ((step : ℕ) → IsNoRun F f s g choices step → HasNoRun s g choices step)
       → (status : Status) → IsRefusedAs F f s g choices status → IsRefusedRun s g choices status
   no_run choices same (NotARun step) cause = same step cause
   no_run choices same NoMemory cause = cause
@@ -103,7 +103,7 @@ module _ {R : Type 0} (F : Type 0) (f : Semantics R) (s : NetworkAsked) (g : Sce
   no_run choices same (WriteFault role) cause = absurd cause
 
   pub told_kind : (choices : List Choice) (r : Result Made Status) (P Q : Made → Type 0)
-      → ((made : Made) → P made → Q made) → ((step : ℕ) → IsNoRun F f s g choices step → HasNoRun s.kind s g choices step)
+      → ((made : Made) → P made → Q made) → ((step : ℕ) → IsNoRun F f s g choices step → HasNoRun s g choices step)
       → MatchResult r P (IsRefusedAs F f s g choices) → MatchResult r Q (IsRefusedRun s g choices)
   told_kind choices (Ok made) P Q of_kind same holds = of_kind made holds
   told_kind choices (Err status) P Q of_kind same holds = no_run choices same status holds

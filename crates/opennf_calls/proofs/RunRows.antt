@@ -114,7 +114,7 @@ module _ (s : NetworkAsked) (asked : Asked) (reads : Reads s asked) (old new : R
   refuses : (status : Status) → RefusesInputs s old status → IsRefusedCommand asked old new status
   refuses status says = refused old new only asked status bound (λ bytes told. reads.first bytes status (says bytes (tells s asked reads old bytes told)))
 
-  pub fails_row : (status : Status) → InputsFail s old new status → RowOf asked old new [] status
+  pub fails_row : (status : Status) → InputsFail s old new status → RowOf asked old new (record { status = status; choices = [] })
   fails_row (ReadFault role) fails = (
     read_fault old new only asked role bound (reads.input role fails.0) fails.1 (earlier_sound s asked reads old new role fails.0 fails.2),
     refl,
@@ -131,7 +131,7 @@ module _ (s : NetworkAsked) (asked : Asked) (reads : Reads s asked) (old new : R
 -- they give a run
 module _ (s : NetworkAsked) (old new : Role → Meaning) (scenario : Scenario) (has : HasInputs s old new scenario) where
   -- by threads
-  pub run_results : (made : RunResults) → HasRun s.kind s scenario None made → ForResults (asks_run s) old new (λ g. g ≡ made)
+  pub run_results : (made : RunResults) → HasRun s scenario None made → ForResults (asks_run s) old new (λ g. g ≡ made)
   run_results made holds bytes is = let told = tells s (asks_run s) (run_reads s) old bytes is in record {
     read = all_read s new (has.read bytes told);
     sound = has.sound bytes told;
@@ -141,7 +141,7 @@ module _ (s : NetworkAsked) (old new : Role → Meaning) (scenario : Scenario) (
   }
 
   -- by a schedule
-  pub sim_results : (schedule : Schedule) (made : RunResults) → HasRun s.kind s scenario (Some schedule) made → ForResults (asks_sim s schedule) old new (λ g. g ≡ made)
+  pub sim_results : (schedule : Schedule) (made : RunResults) → HasRun s scenario (Some schedule) made → ForResults (asks_sim s schedule) old new (λ g. g ≡ made)
   sim_results schedule made holds bytes is = let told = tells s (asks_sim s schedule) (sim_reads s schedule) old bytes is in record {
     read = all_read s new (has.read bytes told);
     sound = has.sound bytes told;

@@ -56,13 +56,13 @@ nothing_left kind names bytes view said =
 -- the row of the status of a script that is refused
 pub script_row : (asked : Asked) (old new : Role → Meaning) (fault : ScriptFault) → OnlyRead old new → IsBound asked old
     → ((line : ℕ) (kind : ScriptKind) → fault ≡ script.Bad line kind → (bytes : Role → List ℕ) → HasInput asked old bytes → refusal_of asked bytes ≡ Some (BadScript line kind))
-    → RowOf asked old new [] (script_status fault)
+    → RowOf asked old new (record { status = script_status fault; choices = [] })
 script_row asked old new (script.Bad line kind) only bound says = (refused old new only asked (BadScript line kind) bound (says line kind refl), refl)
 script_row asked old new script.NoMemory only bound says = (silent old new only, refl)
 
 -- and that of a script that can't be read
 pub unread_row : {A : Type 0} (c : CheckAsked) (old new : Role → Meaning) (fault : UptoFault) → OnlyRead old new → IsBound (asks_check c) old
-    → HasUptoCause {A = A} (old Script).faults (new Script).faults (Err fault) → RowOf (asks_check c) old new [] (reading_status Script fault)
+    → HasUptoCause {A = A} (old Script).faults (new Script).faults (Err fault) → RowOf (asks_check c) old new (record { status = reading_status Script fault; choices = [] })
 unread_row c old new upto.Failed only bound cause =
     (read_fault old new only (asks_check c) Script bound refl (cause.failed refl) (λ bytes told. first_read (asks_check c) bytes new refl), refl)
 unread_row c old new upto.NoMemory only bound cause = (silent old new only, refl)

@@ -125,7 +125,7 @@ module _ (asked : Asked) (role : Role) (writes : WritesFirst asked role) where
       report_gained : Gains part (old Report) (new Report)
       report_gained = subst (λ (m : Meaning). Gains part m (new Report)) (file.others Report (λ same. apart (sym same)) ∙ read.others Report refl) report.gains
 
-      performs : (status : Status) → RowOf asked old new choices status → Performs asked old new (record { status = status; choices = choices })
+      performs : (status : Status) → RowOf asked old new (record { status = status; choices = choices }) → Performs asked old new (record { status = status; choices = choices })
       performs status row = record {
         row = row;
         names = names;

@@ -58,7 +58,7 @@ module _ (s : NetworkAsked) (asked : Asked) (old mid : Role → Meaning) (read :
   two_texts = weakened (GivesBoth JournalOut made.choices journal made.report) (record { is_made = refl; file = refl; report = refl })
 
   -- the journal was written, and then the report
-  both_performs : WritesFirst asked JournalOut → (new : Role → Meaning) (outcome : Outcome) → WroteBoth s made mid new outcome → Performs asked old new outcome
+  both_performs : WritesFirst asked JournalOut → (new : Role → Meaning) (outcome : Outcome) → WroteBoth (record { asked = s; made = made }) mid new outcome → Performs asked old new outcome
   both_performs writes new outcome both =
       same_end asked old new made outcome (report_end both.report.part) both.report.status both.report.choices (by both.report.part both.report.is both.report.wrote)
     where
@@ -71,7 +71,7 @@ module _ (s : NetworkAsked) (asked : Asked) (old mid : Role → Meaning) (read :
           (subst (λ (t : List ℕ). Wrote Report both.mid new (front_of t)) is wrote)
 
   -- the journal was written in part
-  front_performs : WritesFirst asked JournalOut → (new : Role → Meaning) (outcome : Outcome) → WroteFront s made mid new outcome → Performs asked old new outcome
+  front_performs : WritesFirst asked JournalOut → (new : Role → Meaning) (outcome : Outcome) → WroteFront (record { asked = s; made = made }) mid new outcome → Performs asked old new outcome
   front_performs writes new outcome front =
       same_end asked old new made outcome (WriteFault JournalOut) front.status front.choices
       (file_failed asked JournalOut writes old mid read bound made.choices journal made.report two_texts new front.journal)
@@ -89,7 +89,7 @@ pub record WritesRun (s : NetworkAsked) (asked : Asked) : Type 0 where
 
 -- what was made was written, or nothing was
 pub run_performs : (s : NetworkAsked) (asked : Asked) (writes : WritesRun s asked) (old mid new : Role → Meaning) → OnlyRead old mid → IsBound asked old
-    → (made : Made) → ForResults asked old mid (λ g. g ≡ gives s made) → (outcome : Outcome) → WroteRun s made mid new outcome → Performs asked old new outcome
+    → (made : Made) → ForResults asked old mid (λ g. g ≡ gives s made) → (outcome : Outcome) → WroteRun (record { asked = s; made = made }) mid new outcome → Performs asked old new outcome
 run_performs s asked writes old mid new read bound made results outcome (Report_alone none wrote) =
     report_performs s asked old mid read bound made results (writes.alone none) new outcome wrote
 run_performs s asked writes old mid new read bound made results outcome (Both named wrote) =

@@ -114,13 +114,15 @@ module _ {R : Type 0} (F : Type 0) (f : Semantics R) (s : NetworkAsked) (g : Sce
     pub alloc : Global
     pub cause : IsAuditCause f (start_for alloc) choices step
 
--- the same, for the function that the words name
-abbrev pub HasRun : Kind → NetworkAsked → Scenario → Option Schedule → RunResults → Type 0
-HasRun kinds.Conntrack = IsRunOf Conntrack conntrack
-HasRun kinds.Nat = IsRunOf Nat nat
-HasRun kinds.Monitor = IsRunOf Monitor monitor
+-- what is said of a function holds of the one of this kind
+abbrev pub OfKind : Kind → ((R F : Type 0) → Semantics R → Type 0) → Type 0
+OfKind kinds.Conntrack P = P _ Conntrack conntrack
+OfKind kinds.Nat P = P _ Nat nat
+OfKind kinds.Monitor P = P _ Monitor monitor
 
-abbrev pub HasNoRun : Kind → NetworkAsked → Scenario → List Choice → ℕ → Type 0
-HasNoRun kinds.Conntrack = IsNoRun Conntrack conntrack
-HasNoRun kinds.Nat = IsNoRun Nat nat
-HasNoRun kinds.Monitor = IsNoRun Monitor monitor
+-- the same, for the function that the words name
+abbrev pub HasRun : NetworkAsked → Scenario → Option Schedule → RunResults → Type 0
+HasRun s scenario by made = OfKind s.kind (λ R F f. IsRunOf F f s scenario by made)
+
+abbrev pub HasNoRun : NetworkAsked → Scenario → List Choice → ℕ → Type 0
+HasNoRun s scenario choices step = OfKind s.kind (λ R F f. IsNoRun F f s scenario choices step)

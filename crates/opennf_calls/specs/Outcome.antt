@@ -46,7 +46,7 @@ pub record OfScenario (s : NetworkAsked) (bytes : Role → List ℕ) (P : Scenar
 
 -- a complete run of the network, by a schedule if there is one, with its report and its journal
 abbrev pub IsCompletedRun : NetworkAsked → (Role → List ℕ) → Option Schedule → RunResults → Type 0
-IsCompletedRun s bytes by made = OfScenario s bytes (λ scenario. HasRun s.kind s scenario by made)
+IsCompletedRun s bytes by made = OfScenario s bytes (λ scenario. HasRun s scenario by made)
 
 -- what the bytes of a journal are read as
 abbrev pub journal_read : NetworkAsked → (Role → List ℕ) → Result (List Choice) JournalFault
@@ -117,7 +117,7 @@ earlier_refusal asked role bytes = None
 pub record TellsNoRun (s : NetworkAsked) (bytes : Role → List ℕ) (step : ℕ) : Type 0 where
   pub choices : List Choice
   pub told : journal_read s bytes ≡ Ok choices
-  pub no_run : OfScenario s bytes (λ scenario. HasNoRun s.kind s scenario choices step)
+  pub no_run : OfScenario s bytes (λ scenario. HasNoRun s scenario choices step)
 
 abbrev pub FailsAt : Asked → (Role → List ℕ) → ℕ → Type 0
 FailsAt (asks_audit s) bytes step = TellsNoRun s bytes step
@@ -178,15 +178,20 @@ pub record IsDone (asked : Asked) (old new : Role → Meaning) (choices : List C
   pub others : WroteResultsAlone asked old new
   pub results : ForResults asked old new (λ made. (made.choices ≡ choices) × Gained (is_result asked) made.texts old new)
 
+-- where a write fails: the result, and the choices that were made
+pub record BrokenResult : Type 0 where
+  pub role : Role
+  pub choices : List Choice
+
 -- a write fault at a result: it has a front of its text, the results before it have theirs, and those after it have nothing
-pub record IsWriteFault (asked : Asked) (old new : Role → Meaning) (role : Role) (choices : List Choice) : Type 0 where
-  pub result : IsTrue (is_result asked role)
-  pub rose : Rose (old role).faults (new role).faults
+pub record IsWriteFault (asked : Asked) (old new : Role → Meaning) (at : BrokenResult) : Type 0 where
+  pub result : IsTrue (is_result asked at.role)
+  pub rose : Rose (old at.role).faults (new at.role).faults
   pub bound : IsBound asked new
   pub others : WroteResultsAlone asked old new
-  pub after : Unwritten (λ other. is_result asked other && comes_before role other) old new
-  pub results : ForResults asked old new (λ made. (made.choices ≡ choices) × AppendsFront (old role).written (new role).written (made.texts role)
-      × Gained (λ other. is_result asked other && comes_before other role) made.texts old new)
+  pub after : Unwritten (λ other. is_result asked other && comes_before at.role other) old new
+  pub results : ForResults asked old new (λ made. (made.choices ≡ at.choices) × AppendsFront (old at.role).written (new at.role).written (made.texts at.role)
+      × Gained (λ other. is_result asked other && comes_before other at.role) made.texts old new)
 
 -- the inputs that a command reads before this one hold these bytes, as the outside tells
 abbrev pub HasEarlier : Asked → Role → (Role → Meaning) → (Role → List ℕ) → Type 0
@@ -223,18 +228,21 @@ pub record IsNotARun (asked : Asked) (old new : Role → Meaning) (step : ℕ) :
   pub silent : WroteNothing old new
   pub failed : (bytes : Role → List ℕ) → HasInput asked old bytes → Failed asked bytes new step
 
--- the table: what was bound, read and written where a command ends with a status and these choices, and why the status comes. There
+-- the table: what was bound, read and written where a command ends with a status and choices, and why the status comes. There
 -- are choices where something was made alone
-abbrev pub RowOf : Asked → (old new : Role → Meaning) → List Choice → Status → Type 0
-RowOf asked old new choices Done = IsDone asked old new choices
-RowOf asked old new choices (WriteFault role) = IsWriteFault asked old new role choices
-RowOf asked old new choices (ReadFault role) = IsReadFault asked old new role × (choices ≡ [])
-RowOf asked old new choices (BadScript line kind) = IsRefusedCommand asked old new (BadScript line kind) × (choices ≡ [])
-RowOf asked old new choices (BadTrace offset kind) = IsRefusedCommand asked old new (BadTrace offset kind) × (choices ≡ [])
-RowOf asked old new choices (BadJournal kind) = IsRefusedCommand asked old new (BadJournal kind) × (choices ≡ [])
-RowOf asked old new choices (NotARun step) = IsNotARun asked old new step × (choices ≡ [])
-RowOf asked old new choices NoMemory = WroteNothing old new × (choices ≡ [])
-RowOf asked old new choices Usage = ⊥
+abbrev pub RowOf : Asked → (old new : Role → Meaning) → Outcome → Type 0
+RowOf asked old new outcome = row outcome.status
+  where
+    row : Status → Type 0
+    row Done = IsDone asked old new outcome.choices
+    row (WriteFault role) = IsWriteFault asked old new (record { role = role; choices = outcome.choices })
+    row (ReadFault role) = IsReadFault asked old new role × (outcome.choices ≡ [])
+    row (BadScript line kind) = IsRefusedCommand asked old new (BadScript line kind) × (outcome.choices ≡ [])
+    row (BadTrace offset kind) = IsRefusedCommand asked old new (BadTrace offset kind) × (outcome.choices ≡ [])
+    row (BadJournal kind) = IsRefusedCommand asked old new (BadJournal kind) × (outcome.choices ≡ [])
+    row (NotARun step) = IsNotARun asked old new step × (outcome.choices ≡ [])
+    row NoMemory = WroteNothing old new × (outcome.choices ≡ [])
+    row Usage = ⊥
 
 -- the statuses of words that aren't a command
 abbrev pub RefusesWords : Status → Type 0
@@ -243,7 +251,7 @@ RefusesWords status = (status ≡ Usage) ⊎ (status ≡ NoMemory)
 -- why a status comes: the words aren't a command, or its row
 abbrev pub CauseOf : Option Asked → (old new : Role → Meaning) → Outcome → Type 0
 CauseOf None old new outcome = RefusesWords outcome.status × WroteNothing old new × (outcome.choices ≡ [])
-CauseOf (Some asked) old new outcome = RowOf asked old new outcome.choices outcome.status
+CauseOf (Some asked) old new outcome = RowOf asked old new outcome
 
 -- a role has no name, or the one that the words give it
 abbrev pub MayBind : Option Asked → (Role → Meaning) → Type 0

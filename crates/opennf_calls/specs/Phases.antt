@@ -158,13 +158,13 @@ module _ {R : Type 0} (F : Type 0) (f : Semantics R) (s : NetworkAsked) (scenari
 
 -- the same, for the function that the words name
 abbrev pub IsRefusedRun : NetworkAsked → Scenario → List Choice → Status → Type 0
-IsRefusedRun s scenario choices (NotARun step) = HasNoRun s.kind s scenario choices step
+IsRefusedRun s scenario choices (NotARun step) = HasNoRun s scenario choices step
 IsRefusedRun s scenario choices NoMemory = Unit {0}
 IsRefusedRun s scenario choices status = ⊥
 
 -- a command whose files were bound ended: its row holds, and the names and the standard error are as before
 pub record Performs (asked : Asked) (old new : Role → Meaning) (outcome : Outcome) : Type 0 where
-  pub row : RowOf asked old new outcome.choices outcome.status
+  pub row : RowOf asked old new outcome
   pub names : SameNames old new
   pub errors : new Errors ≡ old Errors
 

@@ -52,21 +52,30 @@ pub record WroteReport (made : Made) (old new : Role → Meaning) (outcome : Out
   pub status : outcome.status ≡ report_end part
   pub choices : outcome.choices ≡ made.choices
 
+-- what the words ask for, and what was made of it
+pub record MadeRun : Type 0 where
+  pub asked : NetworkAsked
+  pub made : Made
+
+-- the bytes of its journal
+abbrev pub journal_of_run : MadeRun → List ℕ
+journal_of_run run = journal_bytes run.asked.kind (length run.asked.instances.names) run.made.choices
+
 -- the journal was written, and then the report
-pub record WroteBoth (s : NetworkAsked) (made : Made) (old new : Role → Meaning) (outcome : Outcome) : Type 0 where
+pub record WroteBoth (run : MadeRun) (old new : Role → Meaning) (outcome : Outcome) : Type 0 where
   pub mid : Role → Meaning
-  pub journal : Wrote JournalOut old mid (all_of (journal_bytes s.kind (length s.instances.names) made.choices))
-  pub report : WroteReport made mid new outcome
+  pub journal : Wrote JournalOut old mid (all_of (journal_of_run run))
+  pub report : WroteReport run.made mid new outcome
 
 -- a front of the journal was written
-pub record WroteFront (s : NetworkAsked) (made : Made) (old new : Role → Meaning) (outcome : Outcome) : Type 0 where
-  pub journal : Wrote JournalOut old new (front_of (journal_bytes s.kind (length s.instances.names) made.choices))
+pub record WroteFront (run : MadeRun) (old new : Role → Meaning) (outcome : Outcome) : Type 0 where
+  pub journal : Wrote JournalOut old new (front_of (journal_of_run run))
   pub status : outcome.status ≡ WriteFault JournalOut
-  pub choices : outcome.choices ≡ made.choices
+  pub choices : outcome.choices ≡ run.made.choices
 
 -- what comes of a run was written
-pub data WroteRun (s : NetworkAsked) (made : Made) (old new : Role → Meaning) (outcome : Outcome) : Type 0 where
-  Report_alone : s.journal ≡ None → WroteReport made old new outcome → WroteRun s made old new outcome
-  Both : IsTrue (is_some s.journal) → WroteBoth s made old new outcome → WroteRun s made old new outcome
-  Front_alone : IsTrue (is_some s.journal) → WroteFront s made old new outcome → WroteRun s made old new outcome
-  Nothing : old ≡ new → outcome ≡ record { status = NoMemory; choices = [] } → WroteRun s made old new outcome
+pub data WroteRun (run : MadeRun) (old new : Role → Meaning) (outcome : Outcome) : Type 0 where
+  Report_alone : run.asked.journal ≡ None → WroteReport run.made old new outcome → WroteRun run old new outcome
+  Both : IsTrue (is_some run.asked.journal) → WroteBoth run old new outcome → WroteRun run old new outcome
+  Front_alone : IsTrue (is_some run.asked.journal) → WroteFront run old new outcome → WroteRun run old new outcome
+  Nothing : old ≡ new → outcome ≡ record { status = NoMemory; choices = [] } → WroteRun run old new outcome

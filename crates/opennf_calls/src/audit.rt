@@ -1,5 +1,5 @@
 //! The command `audit`: the run that a journal tells, again.
-ghost use Rattle.std.specs.Prelude.{◌≡◌, MatchResult, [], IsSome, length};
+ghost use Rattle.std.specs.Prelude.{◌≡◌, MatchResult, [], IsSome, drop, length};
 ghost use Rattle.std.specs.Option.{ForSome};
 ghost use Rattle.nf_io.specs.declared.outside.Role.TheVariants.{JournalIn as JournalRole};
 ghost use Rattle.nf_io.specs.Meaning.{CanRead};
@@ -47,7 +47,7 @@ fn make<O: Outside>(
     ensures only { OnlyRead (O.seen outside.old) (O.seen outside.new) }
     ensures row { MatchResult result
         (λ made. ForResults (asks_audit (network_view asked.now)) (O.seen outside.old) (O.seen outside.new) (λ g. g ≡ gives (network_view asked.now) made))
-        (λ status. RowOf (asks_audit (network_view asked.now)) (O.seen outside.old) (O.seen outside.new) [] status) }
+        (λ status. RowOf (asks_audit (network_view asked.now)) (O.seen outside.old) (O.seen outside.new) (record { status = status; choices = [] })) }
 {
     let inputs = read_inputs(alloc, asked, outside)?;
     let choices = read_choices(alloc, asked.kind, count_instances(asked), outside)?;
@@ -71,7 +71,7 @@ fn read_choices<O: Outside>(
 ) -> Result<Choices, JournalFault>
     requires { CanRead JournalRole (O.seen outside.old JournalRole) }
     ensures journal { ForSome (O.seen outside.old JournalRole).left (λ bytes.
-        GivesFrom (journal_of kind instances bytes) (looked_at (count_of kind instances bytes)) bytes (O.seen outside.new JournalRole).left result) }
+        GivesFrom (journal_of kind instances bytes) (drop (looked_at (count_of kind instances bytes)) bytes) (O.seen outside.new JournalRole).left result) }
     ensures cause { HasReadCause (O.seen outside.old JournalRole).faults (O.seen outside.new JournalRole).faults result }
     ensures alone { ReadAlone JournalRole (O.seen outside.old) (O.seen outside.new) }
 {

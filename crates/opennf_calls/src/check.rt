@@ -49,7 +49,7 @@ fn read_canonical<O: Outside>(
     // The text is the one that the command has for the script, or the status has its row.
     ensures row { MatchResult result
         (λ text. ForResults (asks_check (check_view asked.now)) (O.seen outside.old) (O.seen outside.new) (GivesReport [] text))
-        (λ status. RowOf (asks_check (check_view asked.now)) (O.seen outside.old) (O.seen outside.new) [] status) }
+        (λ status. RowOf (asks_check (check_view asked.now)) (O.seen outside.old) (O.seen outside.new) (record { status = status; choices = [] })) }
 {
     let bytes = match read_bytes(alloc, outside, MOST_BYTES) {
         Ok(bytes) => bytes,

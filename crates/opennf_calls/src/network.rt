@@ -51,7 +51,7 @@ pub fn run_scheduled(
 ) -> Result<Made, NoMemory>
     requires runs { CanRun (network_view asked.now) }
     requires sound { CanBegin (network_view asked.now) (scenario_of asked.now.site inputs) }
-    ensures { IfOk result (λ made. HasRun asked.now.kind (network_view asked.now) (scenario_of asked.now.site inputs) (Some schedule) (gives (network_view asked.now) made)) }
+    ensures { IfOk result (λ made. HasRun (network_view asked.now) (scenario_of asked.now.site inputs) (Some schedule) (gives (network_view asked.now) made)) }
 {
     let kind = asked.kind;
     match kind {
@@ -71,7 +71,7 @@ pub fn run_threaded<R: Threads + Wait + Sync, G: Gate>(
 ) -> Result<Made, NoMemory>
     requires runs { CanRun (network_view asked.now) }
     requires sound { CanBegin (network_view asked.now) (scenario_of asked.now.site inputs) }
-    ensures { IfOk result (λ made. HasRun asked.now.kind (network_view asked.now) (scenario_of asked.now.site inputs) None (gives (network_view asked.now) made)) }
+    ensures { IfOk result (λ made. HasRun (network_view asked.now) (scenario_of asked.now.site inputs) None (gives (network_view asked.now) made)) }
 {
     let kind = asked.kind;
     match kind {
@@ -91,7 +91,7 @@ pub fn run_told(
     requires runs { CanRun (network_view asked.now) }
     requires sound { CanBegin (network_view asked.now) (scenario_of asked.now.site inputs) }
     ensures { MatchResult result
-        (λ made. HasRun asked.now.kind (network_view asked.now) (scenario_of asked.now.site inputs) None (gives (network_view asked.now) made) × (made.choices ≡ choices))
+        (λ made. HasRun (network_view asked.now) (scenario_of asked.now.site inputs) None (gives (network_view asked.now) made) × (made.choices ≡ choices))
         (IsRefusedRun (network_view asked.now) (scenario_of asked.now.site inputs) choices) }
 {
     let kind = asked.kind;

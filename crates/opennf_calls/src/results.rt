@@ -25,7 +25,7 @@ pub fn write_results<O: Outside>(
     requires runs { CanRun (network_view asked.now) }
     requires report { CanWrite ReportRole (O.seen outside.old ReportRole) }
     requires journal { asked.now.journal ≢ None → CanWrite JournalRole (O.seen outside.old JournalRole) }
-    ensures { WroteRun (network_view asked.now) made (O.seen outside.old) (O.seen outside.new) result }
+    ensures { WroteRun (record { asked = network_view asked.now; made = made }) (O.seen outside.old) (O.seen outside.new) result }
 {
     if asked.journal.is_none() {
         return write_report(made, outside);

@@ -49,7 +49,7 @@ fn make<R: Threads + Wait + Sync, O: Outside, G: Gate>(
     ensures only { OnlyRead (O.seen outside.old) (O.seen outside.new) }
     ensures row { MatchResult result
         (λ made. ForResults (asks_run (network_view asked.now)) (O.seen outside.old) (O.seen outside.new) (λ g. g ≡ gives (network_view asked.now) made))
-        (λ status. RowOf (asks_run (network_view asked.now)) (O.seen outside.old) (O.seen outside.new) [] status) }
+        (λ status. RowOf (asks_run (network_view asked.now)) (O.seen outside.old) (O.seen outside.new) (record { status = status; choices = [] })) }
 {
     let inputs = read_inputs(alloc, asked, outside)?;
     let made = run_threaded(rt, alloc, asked, inputs, gate)?;

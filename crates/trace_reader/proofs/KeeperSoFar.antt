@@ -9,7 +9,7 @@ use Rattle.trace_reader.specs.declared.record.Next.TheVariants as next
 use Rattle.trace_reader.specs.declared.trace.Trace.{Trace}
 use Rattle.trace_reader.specs.Steered.{is_steered_proto}
 use Rattle.trace_reader.specs.Records.{opened, capture_of, AreNumbered}
-use Rattle.trace_reader.specs.Answers.{Reading, AnswersNext, AnswersTrace, HandsPackets, HandsSteered}
+use Rattle.trace_reader.specs.Answers.{Reading, AnswersNext, AnswersTrace, HandsOn, HandsPackets, HandsSteered}
 use Rattle.trace_reader.proofs.CaptureSoFar.{Progress, progress_start, progress_packet, progress_skipped, progress_end, progress_cut, progress_fault}
 
 -- one more packet behind has the next number
@@ -23,7 +23,7 @@ module _ {K S : Type 0} (HasKept : K → S → List Packet → Type 0) where
     pub packets : List Packet
     pub so_far : Progress whole now packets skipped
     pub counted : length packets ≡ now.count
-    pub kept : (setup : S) (before : List Packet) → HasKept old setup before → HasKept new setup (before ++ packets)
+    pub kept : HandsOn HasKept old new packets
 
   -- behind the header the keeper has none
   pub handed_start : (bytes : List ℕ) (now : Reading) (keeper : K) → opened bytes ≡ Ok now.form
@@ -92,21 +92,21 @@ module _ {K S : Type 0} (HasKept : K → S → List Packet → Type 0) where
   -- at its end the keeper has them all
   pub handed_end : (whole : Result Trace TraceFault) (before after : Reading) (skipped : ℕ) (old new : K)
       → Handed whole before skipped old new → AnswersNext before after (Ok next.End)
-      → HandsPackets HasKept whole old new after.left (Ok (record { packets = before.count; skipped = skipped; cut = false }))
+      → HandsPackets (HandsOn HasKept old new) whole after.left (Ok (record { packets = before.count; skipped = skipped; cut = false }))
   handed_end whole before after skipped old new h answers =
       let ends = progress_end whole before after h.packets skipped h.so_far answers in
       (h.packets, ends.0, h.counted, ends.1, h.kept)
 
   pub handed_cut : (whole : Result Trace TraceFault) (before after : Reading) (skipped : ℕ) (old new : K)
       → Handed whole before skipped old new → AnswersNext before after (Ok next.Cut)
-      → HandsPackets HasKept whole old new after.left (Ok (record { packets = before.count; skipped = skipped; cut = true }))
+      → HandsPackets (HandsOn HasKept old new) whole after.left (Ok (record { packets = before.count; skipped = skipped; cut = true }))
   handed_cut whole before after skipped old new h answers =
       let ends = progress_cut whole before after h.packets skipped h.so_far answers in
       (h.packets, ends.0, h.counted, ends.1, h.kept)
 
   -- a fault is answered in the same way
   pub into_fault : (whole : Result Trace TraceFault) (old new : K) (left : Option (List ℕ)) (e : TraceFault)
-      → AnswersTrace whole left (Err e) → HandsPackets HasKept whole old new left (Err e)
+      → AnswersTrace whole left (Err e) → HandsPackets (HandsOn HasKept old new) whole left (Err e)
   into_fault whole old new left fault.Magic due = due
   into_fault whole old new left fault.PcapNg due = due
   into_fault whole old new left fault.Version due = due
@@ -118,6 +118,6 @@ module _ {K S : Type 0} (HasKept : K → S → List Packet → Type 0) where
   into_fault whole old new left fault.NoMemory due = tt
 
   pub handed_fault : (whole : Result Trace TraceFault) (before after : Reading) (skipped : ℕ) (old new : K) (left : Option (List ℕ)) (e : TraceFault)
-      → Handed whole before skipped old new → AnswersNext before after (Err e) → HandsPackets HasKept whole old new left (Err e)
+      → Handed whole before skipped old new → AnswersNext before after (Err e) → HandsPackets (HandsOn HasKept old new) whole left (Err e)
   handed_fault whole before after skipped old new left e h answers =
       into_fault whole old new left e (progress_fault whole before after h.packets skipped left e h.so_far answers)

@@ -120,15 +120,18 @@ AnswersTrace due left (Err fault.Read) = Unit {0}
 AnswersTrace due left (Err fault.NoMemory) = Unit {0}
 AnswersTrace due left (Err e) = due ≡ Err e
 
--- the packets of a capture went to a keeper, one after another, and nothing is left; or a fault is the one that is due. The two free faults are as above
-abbrev pub HandsPackets : {K S : Type 0} → (K → S → List Packet → Type 0) → Result Trace TraceFault → (old new : K) → Option (List ℕ) → Result TraceEnd TraceFault → Type 0
-HandsPackets {K = K} {S = S} HasKept due old new left (Ok end) =
+-- packets went to a keeper, one after another, after those before
+abbrev pub HandsOn : {K S : Type 0} → (K → S → List Packet → Type 0) → (old new : K) → List Packet → Type 0
+HandsOn {S = S} HasKept old new packets = (setup : S) (before : List Packet) → HasKept old setup before → HasKept new setup (before ++ packets)
+
+-- the packets of a capture were handed on, and nothing is left; or a fault is the one that is due. The two free faults are as above
+abbrev pub HandsPackets : (List Packet → Type 0) → Result Trace TraceFault → Option (List ℕ) → Result TraceEnd TraceFault → Type 0
+HandsPackets Handed due left (Ok end) =
     (packets : List Packet) × (due ≡ Ok (record { packets = packets; skipped = end.skipped; cut = end.cut }))
-    × (length packets ≡ end.packets) × (left ≡ Some [])
-    × ((setup : S) (before : List Packet) → HasKept old setup before → HasKept new setup (before ++ packets))
-HandsPackets HasKept due old new left (Err fault.Read) = Unit {0}
-HandsPackets HasKept due old new left (Err fault.NoMemory) = Unit {0}
-HandsPackets HasKept due old new left (Err e) = due ≡ Err e
+    × (length packets ≡ end.packets) × (left ≡ Some []) × Handed packets
+HandsPackets Handed due left (Err fault.Read) = Unit {0}
+HandsPackets Handed due left (Err fault.NoMemory) = Unit {0}
+HandsPackets Handed due left (Err e) = due ≡ Err e
 
 -- so many packets went to a keeper, one after another, also where no bytes are told: they are numbered from 1, and each is of TCP or UDP
 pub record HandsSteered {K S : Type 0} (HasKept : K → S → List Packet → Type 0) (old new : K) (count : ℕ) : Type 0 where
@@ -136,4 +139,4 @@ pub record HandsSteered {K S : Type 0} (HasKept : K → S → List Packet → Ty
   pub counted : length packets ≡ count
   pub numbers : AreNumbered 1 packets
   pub steered : All (λ packet. is_steered_proto packet.proto ≡ true) packets
-  pub kept : (setup : S) (before : List Packet) → HasKept old setup before → HasKept new setup (before ++ packets)
+  pub kept : HandsOn HasKept old new packets

@@ -35,5 +35,5 @@ loop-done-preserved g c = record {
       (omega (arith, c.if-items-wanted.false, ap length c.items.ensures))
       (c.in_ok-push_choices_in.ensures ∙ ap (λ (l : List ℕ). c.loop-done.choices ++ choices_in l) c.items-in-loop-done.ensures);
   later = omega (arith, c.loop-done.invariant.later, c.in_ok-piece.ensures.cause.later);
-  stays = StaysOpen-trans _ _ _ _ _ _ c.loop-done.invariant.stays c.in_ok-piece.ensures.stays;
+  stays = StaysOpen-trans _ _ _ _ _ c.loop-done.invariant.stays c.in_ok-piece.ensures.stays;
 }

@@ -8,5 +8,5 @@ loop-at-preserved g c = record {
   within = search rules;
   appended = appended_more _ _ _ _ _ _ c.loop-at.invariant.appended c.in_ok-at.ensures.bytes;
   later = omega (arith, c.in_ok-at.ensures.cause.later);
-  stays = StaysOpen-trans _ _ _ _ _ _ c.loop-at.invariant.stays c.in_ok-at.ensures.stays;
+  stays = StaysOpen-trans _ _ _ _ _ c.loop-at.invariant.stays c.in_ok-at.ensures.stays;
 }

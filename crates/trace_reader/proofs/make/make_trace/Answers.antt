@@ -39,7 +39,7 @@ loop-made-preserved g c =
       so_far = made_piece _ _ _ _ _ _ _ c.loop-made.invariant.so_far next
           (subst (λ (bytes : List ℕ). Appends (g.S.Sink.written c.loop-made.sink) (g.S.Sink.written c.write_all-in-loop-made.new.sink) bytes) c.bytes.ensures c.in_ok-write_all-2.ensures.bytes);
       later = omega (arith, c.loop-made.invariant.later, c.write_all-in-loop-made.ensures.cause.later);
-      stays = StaysOpen-trans _ _ _ _ _ _ c.loop-made.invariant.stays c.write_all-in-loop-made.ensures.stays;
+      stays = StaysOpen-trans _ _ _ _ _ c.loop-made.invariant.stays c.write_all-in-loop-made.ensures.stays;
     }
 
 pub returns-clause-bytes : goal.returns-clause-bytes

@@ -9,5 +9,5 @@ loop-at-preserved g c = record {
   within = search rules;
   taken = filled_more _ _ _ _ _ _ _ _ c.loop-at.invariant.within c.in_ok-n.ensures.bound.0 c.loop-at.invariant.taken c.in_ok-n.ensures.bytes.0;
   later = omega (arith, c.in_ok-n.ensures.cause.later);
-  stays = StaysOpen-trans _ _ _ _ _ _ c.loop-at.invariant.stays c.in_ok-n.ensures.stays;
+  stays = StaysOpen-trans _ _ _ _ _ c.loop-at.invariant.stays c.in_ok-n.ensures.stays;
 }

@@ -11,5 +11,5 @@ loop-done-preserved g c = record {
       let before = c.loop-done.invariant.skipped bytes told in
       skipped_more _ _ bytes _ _ _ before.0 before.1 c.in_ok-n.ensures.bound.0 c.in_ok-n.ensures.bytes.0;
   later = omega (arith, c.in_ok-n.ensures.cause.later);
-  stays = StaysOpen-trans _ _ _ _ _ _ c.loop-done.invariant.stays c.in_ok-n.ensures.stays;
+  stays = StaysOpen-trans _ _ _ _ _ c.loop-done.invariant.stays c.in_ok-n.ensures.stays;
 }

@@ -34,7 +34,7 @@ records-preserved-in-Continue-branch-2 g c =
           c.in-Some.ensures.answers c.next_bare.ensures.form moves.3 c.in_ok-keep-in-Some.ensures);
       steered = steered_packet _ _ _ _ _ _ c.in-Some.bare c.records.invariant.steered moves.3 moves.4 moves.5 c.in_ok-keep-in-Some.ensures;
       later = omega (arith, c.records.invariant.later, c.next_bare.ensures.later);
-      stays = StaysOpen-trans _ _ _ _ _ _ c.records.invariant.stays c.next_bare.ensures.stays;
+      stays = StaysOpen-trans _ _ _ _ _ c.records.invariant.stays c.next_bare.ensures.stays;
     }
 
 pub returns-in_err-packet-in-None-clause-trace : goal.returns-in_err-packet-in-None-clause-trace
@@ -64,7 +64,7 @@ records-preserved-in-Continue-branch-5 g c =
           answers c.in_ok-packet-in-None.ensures.form moves.3 c.in_ok-keep-in-Packet.ensures);
       steered = steered_packet _ _ _ _ _ _ c.in-Packet.packet (rw count_is c.records.invariant.steered) moves.3 moves.4 moves.5 c.in_ok-keep-in-Packet.ensures;
       later = omega (arith, c.records.invariant.later, c.next_bare.ensures.later, c.in_ok-packet-in-None.ensures.later);
-      stays = StaysOpen-trans _ _ _ _ _ _ (StaysOpen-trans _ _ _ _ _ _ c.records.invariant.stays c.next_bare.ensures.stays) c.in_ok-packet-in-None.ensures.stays;
+      stays = StaysOpen-trans _ _ _ _ _ (StaysOpen-trans _ _ _ _ _ c.records.invariant.stays c.next_bare.ensures.stays) c.in_ok-packet-in-None.ensures.stays;
     }
 
 pub records-preserved : goal.records-preserved
@@ -84,7 +84,7 @@ records-preserved g c =
           answers c.in_ok-packet-in-None.ensures.form moves.2);
       steered = rw (moves.2, count_is) c.records.invariant.steered;
       later = omega (arith, c.records.invariant.later, c.next_bare.ensures.later, c.in_ok-packet-in-None.ensures.later);
-      stays = StaysOpen-trans _ _ _ _ _ _ (StaysOpen-trans _ _ _ _ _ _ c.records.invariant.stays c.next_bare.ensures.stays) c.in_ok-packet-in-None.ensures.stays;
+      stays = StaysOpen-trans _ _ _ _ _ (StaysOpen-trans _ _ _ _ _ c.records.invariant.stays c.next_bare.ensures.stays) c.in_ok-packet-in-None.ensures.stays;
     }
 
 pub returns-in-End-clause-trace : goal.returns-in-End-clause-trace
