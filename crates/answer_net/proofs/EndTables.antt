@@ -243,7 +243,6 @@ module _ (g : Given) (c : ControllerState) (are : AreKnown g c) where
 
 -- where commands and ends come from
 module _ {R : Type 0} (f : Semantics R) (g : Given) where
-
   pub sign_at_switch : (p : ℕ) (m : Msg) → Label f g p 0 m → sign_in m ≡ (if 0 == p then sign_in m else [])
   sign_at_switch p (msg.InCommand c) label = let from = label.0.0 in rw from refl
   sign_at_switch p msg.InEnd label = let from = label.0 in rw from refl
