@@ -823,7 +823,44 @@ def faulty_scripts(cases):
                 sys.exit(f"cases.py: the model's line on {text[:50]} isn't the one that was worked out by hand")
 
 
-NETWORKS = networks_by_hand, sixteen_instances, office_moves, many_units, network_refusals, faulty_scripts
+def networks_at_times(cases):
+    """Packets at 1, 2, 3 and 4 s: runs of the connection tracker whose reports were worked out by hand."""
+    back = ipv4(udp(53, 5000, bytes(20)), 17, "192.0.2.9", "10.0.0.1")
+    four, hosts = [question(1), back, question(1), question(2)], [question(host) for host in (1, 2, 5, 9)]
+    outs = ["out 1 single", "out 2 both", "out 3 both", "out 4 single"]
+    at_a = dones("1a 2a 3a 4a")
+
+    def pair(instance, packets=3, part="state"):
+        return f"{part} udp 10.0.0.1:5000 192.0.2.9:53 {instance} both out packets {packets} bytes {20 * packets} seen {packets}000000000"
+
+    def single(host, instance, second):
+        return f"{host_state(host, instance, 1)} seen {second}000000000"
+
+    rows = [
+        ("plain", "a,b", "89", four, ["at 1 move a b any lossfree"],
+            [*outs, *dones("1a 4b 2b 3b"), "answer 1 done", pair("b"), single(2, "b", 4), "tally a 1 0", "tally b 0 3"]),
+        ("order", "a,b", "6", four, ["at 1 move a b local=10.0.0.1 order"],
+            [*outs, *dones("1a 2a 4a 3b"), "answer 1 done", pair("b"), single(2, "a", 4), "tally a 3 0", "tally b 0 1"]),
+        ("copied", "a,b", "last", four, ["at 2 copy a b any", "at 2 settle", "at 3 copy a b all", "at 3 move a b local=10.0.0.1 order"],
+            [*outs, *at_a, "answer 1 done", "answer 2 done", "answer 3 done", pair("b"), single(2, "a", 4), pair("b", 2, "standby"),
+                "tally a 4 0", "tally b 3 0"]),
+        ("refused", "a,b:0", "first", four, ["at 1 move a b local=10.0.0.1 order", "at 1 settle"],
+            [*outs, *at_a, "answer 1 import 0 1 0", pair("a"), single(2, "a", 4), "tally a 4 0", "tally b 0 0"]),
+        ("routes", "a,b,c", "last", hosts, ["route local=10.0.0.1 b", "route local=10.0.0.0/30 c", "route local=10.0.0.4/30 b"],
+            [*(f"out {number} single" for number in range(1, 5)), *dones("1b 2c 3b 4a"), single(1, "b", 1), single(2, "c", 2),
+                single(5, "b", 3), single(9, "a", 4), "tally a 1 0 0", "tally b 0 2 0", "tally c 0 0 1"]),
+        *((f"alone-{schedule}", "a", schedule, four, ["# nothing"], [*outs, *at_a, pair("a"), single(2, "a", 4), "tally a 4"])
+            for schedule in ("first", "last", "0", "18446744073709551615")),
+    ]
+    for name, instances, schedule, frames, lines, report in rows:
+        packets = b"".join(record(frame, seconds=second) for second, frame in enumerate(frames, 1))
+        trace = cases.file(f"net-timed-{name}.pcap", file_header() + packets)
+        script = cases.file(f"net-timed-{name}.script", "".join(line + "\n" for line in lines).encode())
+        cases.words(f"net-timed-{name}", network_words("conntrack", instances, trace, script, ["--schedule", schedule]))
+        hold_to(f"net-timed-{name}", report)
+
+
+NETWORKS = networks_by_hand, networks_at_times, sixteen_instances, office_moves, many_units, network_refusals, faulty_scripts
 
 
 def by_chance(cases, seed, count):

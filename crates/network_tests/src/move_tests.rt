@@ -1,13 +1,12 @@
 ghost use Rattle.std.specs.Prelude.{◌≡◌, All, IfOk};
 ghost use Rattle.flow_filter.specs.declared.packet.Packet.{Packet as APacket};
 ghost use Rattle.flow_filter.specs.Filter.{IsFlow};
-ghost use Rattle.nf_function.specs.declared.kind.Kind.TheVariants.{Conntrack as OfFlows, Monitor as OfHosts};
+ghost use Rattle.nf_function.specs.declared.kind.Kind.TheVariants.{Conntrack as OfFlows};
 ghost use Rattle.nf_msgs.specs.declared.command.Order.{Order as AnOrder};
 ghost use Rattle.net_world.specs.Input.{IsInput, IsProper, IsSteered, IsWhole};
 ghost use Rattle.net_world.specs.Start.{IsConfig};
 
-use actor_net::{Choice, ReplayFault, Schedule, World};
-use asset_monitor::Monitor;
+use actor_net::{Schedule, World};
 use basics::{Boxed, NoMemory, Text};
 use conn_tracker::Conntrack;
 use flow_filter::{
@@ -25,7 +24,6 @@ use std::test::Fail;
 pub fn config(alloc: Global, limit: u32, marked: bool) -> Result<Config, Fail>
     ensures config { IfOk result IsConfig }
     ensures routes { IfOk result (λ config. All (λ route. IsWhole OfFlows route.0) config.routes) }
-    ensures host_routes { IfOk result (λ config. All (λ route. IsWhole OfHosts route.0) config.routes) }
 {
     let a = Name::read(alloc, b"a")?.ok_or("no name")?;
     let b = Name::read(alloc, b"b")?.ok_or("no name")?;
@@ -82,38 +80,32 @@ pub fn came(alloc: Global, site: Site, number: u32, nanos: u64) -> Result<Msg, N
     Ok(Msg::InPacket(CapturedPacket::of(alloc, &packet)?))
 }
 
-/// Which run there is: the schedule, what b takes, and what the move is.
+/// Which run there is: the schedule, what b takes, and when the packets come.
 #[derive(Clone, Copy)]
-pub struct Case {
-    pub schedule: Schedule,
+struct Case {
+    schedule: Schedule,
     /// How many records b takes.
-    pub limit: u32,
+    limit: u32,
     /// Whether b reads chunks of version 1 alone, which have no times.
-    pub marked: bool,
+    marked: bool,
     /// The time of each packet.
     nanos: u64,
-    /// The name of the destination.
-    to: u8,
-    /// Whether the move keeps the order of packets.
-    keep: bool,
 }
 
-/// A move to b that keeps the order of packets, where the first choice is always taken.
-pub const CASE: Case = Case {
+/// A run where the first choice is always taken.
+const CASE: Case = Case {
     schedule: Schedule::First,
     limit: 9,
     marked: false,
     nanos: 0,
-    to: b'b',
-    keep: true,
 };
 
-/// The item of a command to move the flow of the local port 5001 from a to the case's destination.
-pub fn asked(alloc: Global, op: u32, case: Case) -> Result<Msg, Fail>
+/// The item of a command to move the flow of the local port 5001 from a to b, in the order of packets.
+pub fn asked(alloc: Global, op: u32) -> Result<Msg, Fail>
     ensures { IfOk result (λ item. (what : AnOrder) × (item ≡ Msg.InCommand (record { op = op; what = what })) × IsProper OfFlows what) }
 {
     let src = Name::read(alloc, b"a")?.ok_or("no name")?;
-    let dst = Name::read(alloc, [case.to].as_slice())?.ok_or("no name")?;
+    let dst = Name::read(alloc, b"b")?.ok_or("no name")?;
     if src.items() == dst.items() {
         return Err("one instance alone".into());
     }
@@ -125,26 +117,9 @@ pub fn asked(alloc: Global, op: u32, case: Case) -> Result<Msg, Fail>
         src,
         dst,
         filter,
-        keep: case.keep,
+        keep: true,
     };
     Ok(Msg::InCommand(Boxed::new(alloc, Command { op, what })?))
-}
-
-/// Three packets, the second of the other flow.
-fn packets(alloc: Global, config: &Config, case: Case) -> Result<Vec<Msg>, Fail>
-    requires config { IsConfig config.now }
-    requires routes { All (λ route. IsWhole OfFlows route.0) config.now.routes }
-    requires host_routes { All (λ route. IsWhole OfHosts route.0) config.now.routes }
-    ensures flows { IfOk result (λ items. IsInput OfFlows config.now items.items) }
-    ensures hosts { IfOk result (λ items. IsInput OfHosts config.now items.items) }
-{
-    let items = [
-        came(alloc, config.site, 1, case.nanos)?,
-        came(alloc, config.site, 2, case.nanos)?,
-        came(alloc, config.site, 3, case.nanos)?,
-        Msg::InEnd,
-    ];
-    Ok(Vec::from_array(alloc, items)?)
 }
 
 /// A packet, the move of its flow, a packet of the other flow, and two more of the first.
@@ -155,43 +130,12 @@ fn one_move(alloc: Global, config: &Config, case: Case) -> Result<Vec<Msg>, Fail
 {
     let mut items = Vec::new(alloc);
     items.push(came(alloc, config.site, 1, case.nanos)?)?;
-    items.push(asked(alloc, 1, case)?)?;
+    items.push(asked(alloc, 1)?)?;
     items.push(came(alloc, config.site, 2, case.nanos)?)?;
     items.push(came(alloc, config.site, 3, case.nanos)?)?;
     items.push(came(alloc, config.site, 5, case.nanos)?)?;
     items.push(Msg::InEnd)?;
     Ok(items)
-}
-
-/// A packet, and its flow's move twice.
-fn two_moves(alloc: Global, config: &Config, case: Case) -> Result<Vec<Msg>, Fail>
-    requires config { IsConfig config.now }
-    requires routes { All (λ route. IsWhole OfFlows route.0) config.now.routes }
-    ensures { IfOk result (λ items. IsInput OfFlows config.now items.items) }
-{
-    let items = [
-        came(alloc, config.site, 1, case.nanos)?,
-        asked(alloc, 1, case)?,
-        asked(alloc, 2, case)?,
-        Msg::InEnd,
-    ];
-    Ok(Vec::from_array(alloc, items)?)
-}
-
-/// The same, where the second move waits until the first is answered.
-fn settled_moves(alloc: Global, config: &Config, case: Case) -> Result<Vec<Msg>, Fail>
-    requires config { IsConfig config.now }
-    requires routes { All (λ route. IsWhole OfFlows route.0) config.now.routes }
-    ensures { IfOk result (λ items. IsInput OfFlows config.now items.items) }
-{
-    let items = [
-        came(alloc, config.site, 1, case.nanos)?,
-        asked(alloc, 1, case)?,
-        Msg::InSettle,
-        asked(alloc, 2, case)?,
-        Msg::InEnd,
-    ];
-    Ok(Vec::from_array(alloc, items)?)
 }
 
 /// Writes words and a number after a text.
@@ -287,65 +231,12 @@ pub fn told<F: Function>(alloc: Global, world: &World<Node<F>>) -> Result<Text, 
     Ok(text)
 }
 
-/// A run of three packets without a command.
-fn packets_told(alloc: Global, case: Case) -> Result<Text, Fail> {
-    let config = config(alloc, case.limit, case.marked)?;
-    let items = packets(alloc, &config, case)?;
-    let (world, _choices) = simulate::<Conntrack>(alloc, &config, items, case.schedule)?;
-    Ok(told(alloc, &world)?)
-}
-
-/// The same of the asset monitor.
-fn hosts_told(alloc: Global, case: Case) -> Result<Text, Fail> {
-    let config = config(alloc, case.limit, case.marked)?;
-    let items = packets(alloc, &config, case)?;
-    let (world, _choices) = simulate::<Monitor>(alloc, &config, items, case.schedule)?;
-    Ok(told(alloc, &world)?)
-}
-
 /// A run of packets and one move.
 fn move_told(alloc: Global, case: Case) -> Result<Text, Fail> {
     let config = config(alloc, case.limit, case.marked)?;
     let items = one_move(alloc, &config, case)?;
     let (world, _choices) = simulate::<Conntrack>(alloc, &config, items, case.schedule)?;
     Ok(told(alloc, &world)?)
-}
-
-/// A run of a packet and two moves of its flow, the second of which may wait until the first is answered.
-fn moves_told(alloc: Global, case: Case, settles: bool) -> Result<Text, Fail> {
-    let config = config(alloc, case.limit, case.marked)?;
-    let items = if settles {
-        settled_moves(alloc, &config, case)?
-    } else {
-        two_moves(alloc, &config, case)?
-    };
-    let (world, _choices) = simulate::<Conntrack>(alloc, &config, items, case.schedule)?;
-    Ok(told(alloc, &world)?)
-}
-
-#[test]
-fn packets_are_processed_where_their_route_goes(rt: HostRuntime) -> Result<(), Fail> {
-    let alloc = rt.alloc();
-    let expected =
-        b"came 1\ncame 2\ndid 1 at 0 single\ncame 3\ndid 2 at 0 single\ndid 3 at 0 single\nlive single out packets 1 bytes 20\nlive single out packets 2 bytes 40\n--\n--\n";
-    assert_eq!(rt; packets_told(alloc, CASE)?.items(), expected.as_slice());
-    let case = Case {
-        schedule: Schedule::Last,
-        ..CASE
-    };
-    let expected =
-        b"came 1\ndid 1 at 0 single\ncame 2\ndid 2 at 0 single\ncame 3\ndid 3 at 0 single\nlive single out packets 1 bytes 20\nlive single out packets 2 bytes 40\n--\n--\n";
-    assert_eq!(rt; packets_told(alloc, case)?.items(), expected.as_slice());
-    Ok(())
-}
-
-#[test]
-fn the_monitor_keeps_both_flows_for_their_host(rt: HostRuntime) -> Result<(), Fail> {
-    let alloc = rt.alloc();
-    let expected =
-        b"came 1\ncame 2\ndid 1 at 0 quiet\ncame 3\ndid 2 at 0 quiet\ndid 3 at 0 quiet\nlive packets 3 services none\n--\n--\n";
-    assert_eq!(rt; hosts_told(alloc, CASE)?.items(), expected.as_slice());
-    Ok(())
 }
 
 #[test]
@@ -372,20 +263,6 @@ fn a_move_keeps_the_order_of_its_flow(rt: HostRuntime) -> Result<(), Fail> {
 }
 
 #[test]
-fn a_plain_move_may_change_it_and_loses_nothing(rt: HostRuntime) -> Result<(), Fail> {
-    let alloc = rt.alloc();
-    let case = Case {
-        schedule: Schedule::Number(29),
-        keep: false,
-        ..CASE
-    };
-    let expected =
-        b"came 1\nbegun 1\ngave at 0 units 0\ncame 2\ndid 2 at 0 single\ntook at 1 units 0\ncame 3\ninstalled 1\ndid 1 at 1 single\ncame 5\ndid 5 at 1 single\ndid 3 at 1 single\nanswered 1 done\nlive single out packets 1 bytes 20\n--\nlive single out packets 3 bytes 60\n--\n";
-    assert_eq!(rt; move_told(alloc, case)?.items(), expected.as_slice());
-    Ok(())
-}
-
-#[test]
 fn what_the_destination_refuses_goes_back(rt: HostRuntime) -> Result<(), Fail> {
     let alloc = rt.alloc();
     let case = Case { limit: 0, ..CASE };
@@ -405,37 +282,6 @@ fn what_the_destination_refuses_goes_back(rt: HostRuntime) -> Result<(), Fail> {
 }
 
 #[test]
-fn a_move_to_a_name_that_no_instance_has_is_refused(rt: HostRuntime) -> Result<(), Fail> {
-    let alloc = rt.alloc();
-    let case = Case { to: b'z', ..CASE };
-    let expected =
-        b"came 1\ncame 2\nanswered 1 unknown z\ndid 1 at 0 single\ncame 3\ndid 2 at 0 single\ncame 5\ndid 3 at 0 single\ndid 5 at 0 single\nlive single out packets 1 bytes 20\nlive single out packets 3 bytes 60\n--\n--\n";
-    assert_eq!(rt; move_told(alloc, case)?.items(), expected.as_slice());
-    Ok(())
-}
-
-#[test]
-fn a_move_whose_filter_meets_an_open_one_is_refused(rt: HostRuntime) -> Result<(), Fail> {
-    let alloc = rt.alloc();
-    let expected =
-        b"came 1\nbegun 1\nanswered 2 overlap 1\ndid 1 at 0 single\ngave at 0 units 1\ntook at 1 units 1\ninstalled 1\nanswered 1 done\n--\nlive single out packets 1 bytes 20\n--\n";
-    assert_eq!(rt;
-        moves_told(alloc, CASE, false)?.items(),
-        expected.as_slice()
-    );
-    Ok(())
-}
-
-#[test]
-fn after_a_settle_the_second_move_finds_the_first_answered(rt: HostRuntime) -> Result<(), Fail> {
-    let alloc = rt.alloc();
-    let expected =
-        b"came 1\nbegun 1\ndid 1 at 0 single\ngave at 0 units 1\ntook at 1 units 1\ninstalled 1\nanswered 1 done\nbegun 2\ngave at 0 units 0\ntook at 1 units 0\ninstalled 2\nanswered 2 done\n--\nlive single out packets 1 bytes 20\n--\n";
-    assert_eq!(rt; moves_told(alloc, CASE, true)?.items(), expected.as_slice());
-    Ok(())
-}
-
-#[test]
 fn the_choices_of_a_run_replay_to_its_log(rt: HostRuntime) -> Result<(), Fail> {
     let alloc = rt.alloc();
     let config = config(alloc, 9, false)?;
@@ -446,17 +292,5 @@ fn the_choices_of_a_run_replay_to_its_log(rt: HostRuntime) -> Result<(), Fail> {
         let again = run_choices(opening, choices.items())?;
         assert_eq!(rt; told(alloc, &again)?.items(), told(alloc, &world)?.items());
     }
-    Ok(())
-}
-
-#[test]
-fn the_first_choice_that_is_not_enabled_is_named(rt: HostRuntime) -> Result<(), Fail> {
-    let alloc = rt.alloc();
-    let config = config(alloc, 9, false)?;
-    let opening = start::<Conntrack>(alloc, &config, one_move(alloc, &config, CASE)?)?;
-    let input = Choice { node: 0, port: 0 };
-    let to_a = Choice { node: 2, port: 0 };
-    let refused = run_choices(opening, &[input, input, to_a, to_a, input]).err();
-    assert_eq!(rt; refused, Some(ReplayFault::NotEnabled { index: 3 }));
     Ok(())
 }

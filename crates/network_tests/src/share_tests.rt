@@ -4,7 +4,7 @@ ghost use Rattle.nf_msgs.specs.declared.command.Order.{Order as AnOrder};
 ghost use Rattle.net_world.specs.Input.{IsInput, IsProper, IsWhole};
 ghost use Rattle.net_world.specs.Start.{IsConfig};
 
-use crate::move_tests::{CASE, asked, came, config, told};
+use crate::move_tests::{asked, came, config, told};
 use actor_net::Schedule;
 use basics::{Boxed, Text};
 use conn_tracker::Conntrack;
@@ -45,7 +45,7 @@ fn one_share(alloc: Global, config: &Config) -> Result<Vec<Msg>, Fail>
     items.push(came(alloc, config.site, 2, 0)?)?;
     items.push(came(alloc, config.site, 3, 0)?)?;
     items.push(came(alloc, config.site, 5, 0)?)?;
-    items.push(asked(alloc, 2, CASE)?)?;
+    items.push(asked(alloc, 2)?)?;
     items.push(Msg::InEnd)?;
     Ok(items)
 }

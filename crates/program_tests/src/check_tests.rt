@@ -5,7 +5,6 @@ ghost use Rattle.nf_io.specs.Memory.{seen_in};
 use crate::sim_tests::{calm, owned};
 use flow_filter::NoMemory;
 use nf_io::{MemoryOutside, Role};
-use op_script::ScriptKind;
 use opennf_calls::Status;
 use std::alloc::Global;
 use std::test::Fail;
@@ -77,89 +76,5 @@ fn each_fault_of_a_script_is_named_with_its_line(rt: HostRuntime) -> Result<(), 
         assert_eq!(rt; outside.written(Role::Errors), line.as_bytes());
         assert_eq!(rt; outside.written(Role::Report), b"".as_slice());
     }
-    Ok(())
-}
-
-#[test]
-fn a_comment_that_is_no_text_is_refused(rt: HostRuntime) -> Result<(), Fail> {
-    let alloc = rt.alloc();
-    let words = owned(alloc, &WORDS)?;
-    let mut outside = outside_of(alloc, b"at 0 settle\n# \xff\n")?;
-    let outcome = calm(alloc, words.as_slice(), &mut outside);
-    assert_eq!(rt; outcome.status.number(), 2);
-    assert_eq!(rt;
-        outside.written(Role::Errors),
-        b"opennf: script line 2: not utf8\n".as_slice()
-    );
-    Ok(())
-}
-
-#[test]
-fn the_1001st_line_of_a_sort_is_refused(rt: HostRuntime) -> Result<(), Fail> {
-    let alloc = rt.alloc();
-    let words = owned(alloc, &WORDS)?;
-    for line in [b"at 0 settle\n".as_slice(), b"route any a\n".as_slice()] {
-        let mut script = Vec::new(alloc);
-        for _ in 0..1001 {
-            script.extend_from_slice(line)?;
-        }
-        let mut outside = outside_of(alloc, script.as_slice())?;
-        let outcome = calm(alloc, words.as_slice(), &mut outside);
-        assert_eq!(rt; outcome.status.number(), 2);
-        assert_eq!(rt;
-            outside.written(Role::Errors),
-            b"opennf: script line 1001: too many\n".as_slice()
-        );
-    }
-    Ok(())
-}
-
-#[test]
-fn a_script_that_is_too_long_is_refused_as_a_whole(rt: HostRuntime) -> Result<(), Fail> {
-    let alloc = rt.alloc();
-    let words = owned(alloc, &WORDS)?;
-    let script = vec![in alloc; b'#'; 1_048_577]?;
-    let mut outside = outside_of(alloc, script.as_slice())?;
-    let outcome = calm(alloc, words.as_slice(), &mut outside);
-    assert_eq!(rt;
-        outcome.status,
-        Status::BadScript {
-            line: 0,
-            kind: ScriptKind::TooMany
-        }
-    );
-    assert_eq!(rt;
-        outside.written(Role::Errors),
-        b"opennf: script line 0: too many\n".as_slice()
-    );
-    Ok(())
-}
-
-#[test]
-fn a_script_that_cannot_be_read_is_a_read_fault(rt: HostRuntime) -> Result<(), Fail> {
-    let alloc = rt.alloc();
-    let words = owned(alloc, &WORDS)?;
-    let mut outside = outside_of(alloc, b"at 0 settle\n")?;
-    outside.fail(Role::Script, 1)?;
-    let outcome = calm(alloc, words.as_slice(), &mut outside);
-    assert_eq!(rt; outcome.status, Status::ReadFault { role: Role::Script });
-    assert_eq!(rt;
-        outside.written(Role::Errors),
-        b"opennf: read fault script\n".as_slice()
-    );
-    assert_eq!(rt; outside.written(Role::Report), b"".as_slice());
-    Ok(())
-}
-
-#[test]
-fn a_check_that_cannot_be_written_leaves_a_front(rt: HostRuntime) -> Result<(), Fail> {
-    let alloc = rt.alloc();
-    let words = owned(alloc, &WORDS)?;
-    let mut outside = outside_of(alloc, b"at 0 settle\nat 1 settle\n")?;
-    outside.fail(Role::Report, 2)?;
-    outside.piece(12);
-    let outcome = calm(alloc, words.as_slice(), &mut outside);
-    assert_eq!(rt; outcome.status, Status::WriteFault { role: Role::Report });
-    assert_eq!(rt; outside.written(Role::Report), b"at 0 settle\n".as_slice());
     Ok(())
 }

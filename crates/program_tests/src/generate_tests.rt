@@ -2,7 +2,7 @@ ghost use Rattle.std.specs.Prelude.{◌≡◌, ◌≤◌, None, IfOk};
 ghost use Rattle.nf_io.specs.declared.outside.Role.{Role as TheRole};
 ghost use Rattle.nf_io.specs.Memory.{seen_in};
 
-use crate::sim_tests::{calm, owned, simulated};
+use crate::sim_tests::{calm, owned};
 use flow_filter::NoMemory;
 use nf_io::{MemoryOutside, Role};
 use opennf_calls::Status;
@@ -60,16 +60,6 @@ fn the_capture_and_its_line_are_written(rt: HostRuntime) -> Result<(), Fail> {
 }
 
 #[test]
-fn a_simulation_reads_the_capture_whole(rt: HostRuntime) -> Result<(), Fail> {
-    let (number, outside) = simulated(rt.alloc(), &[&CAPTURE])?;
-    assert_eq!(rt; number, 0);
-    let report =
-        "opennf report 1\nfunction conntrack instances 1 window 256\ntrace packets 3 skipped 0 whole\nout 1 opening\nout 2 single\nout 3 single\ndone 1 a\ndone 2 a\ndone 3 a\nstate tcp 10.0.0.0:40050 192.0.2.50:443 a opening in packets 1 bytes 459 seen 1000000\nstate udp 10.0.0.0:50049 192.0.2.49:53 a single in packets 1 bytes 152 seen 3000000\nstate udp 10.0.0.0:50060 192.0.2.60:53 a single out packets 1 bytes 76 seen 2000000\ntally a 3\nend\n";
-    assert_eq!(rt; outside.written(Role::Report), report.as_bytes());
-    Ok(())
-}
-
-#[test]
 fn a_capture_that_cannot_be_written_leaves_a_front(rt: HostRuntime) -> Result<(), Fail> {
     let alloc = rt.alloc();
     let words = owned(alloc, &WORDS)?;
@@ -87,44 +77,5 @@ fn a_capture_that_cannot_be_written_leaves_a_front(rt: HostRuntime) -> Result<()
         outside.written(Role::Errors),
         b"opennf: write fault capture\n".as_slice()
     );
-    Ok(())
-}
-
-#[test]
-fn a_line_that_cannot_be_written_leaves_the_capture_whole(rt: HostRuntime) -> Result<(), Fail> {
-    let alloc = rt.alloc();
-    let words = owned(alloc, &WORDS)?;
-    let mut outside = outside_of(alloc, Role::Report, 2, 10)?;
-    let outcome = calm(alloc, words.as_slice(), &mut outside);
-    assert_eq!(rt; outcome.status, Status::WriteFault { role: Role::Report });
-    assert_eq!(rt; outside.written(Role::TraceOut), CAPTURE.as_slice());
-    assert_eq!(rt; outside.written(Role::Report), b"gen number".as_slice());
-    assert_eq!(rt;
-        outside.written(Role::Errors),
-        b"opennf: write fault report\n".as_slice()
-    );
-    Ok(())
-}
-
-#[test]
-fn numbers_out_of_range_are_bad_words(rt: HostRuntime) -> Result<(), Fail> {
-    let alloc = rt.alloc();
-    for (packets, hosts) in [("0", "1"), ("1", "257")] {
-        let words = [
-            "opennf",
-            "gen",
-            "0",
-            "--packets",
-            packets,
-            "--hosts",
-            hosts,
-            "T",
-        ];
-        let words = owned(alloc, &words)?;
-        let mut outside = outside_of(alloc, Role::Report, 0, usize::MAX)?;
-        let outcome = calm(alloc, words.as_slice(), &mut outside);
-        assert_eq!(rt; outcome.status, Status::Usage);
-        assert_eq!(rt; outside.written(Role::TraceOut), b"".as_slice());
-    }
     Ok(())
 }

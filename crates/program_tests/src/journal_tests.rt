@@ -129,20 +129,6 @@ fn each_fault_of_a_journal_has_its_line(rt: HostRuntime) -> Result<(), Fail> {
 }
 
 #[test]
-fn a_run_that_stops_early_is_none_at_its_next_step(rt: HostRuntime) -> Result<(), Fail> {
-    let words = words(rt.alloc(), "audit", false)?;
-    let mut journal = JOURNAL;
-    journal[15] = 7;
-    let (number, outside) = ended(rt.alloc(), words.as_slice(), &journal[..30], None)?;
-    assert_eq!(rt; number, 3);
-    assert_eq!(rt;
-        outside.written(Role::Errors),
-        b"opennf: not a run at step 8\n".as_slice()
-    );
-    Ok(())
-}
-
-#[test]
 fn a_journal_that_cannot_be_written_leaves_no_report(rt: HostRuntime) -> Result<(), Fail> {
     let words = words(rt.alloc(), "sim", false)?;
     let failing = Some(Role::JournalOut);
@@ -152,20 +138,6 @@ fn a_journal_that_cannot_be_written_leaves_no_report(rt: HostRuntime) -> Result<
     assert_eq!(rt;
         outside.written(Role::Errors),
         b"opennf: write fault journal\n".as_slice()
-    );
-    Ok(())
-}
-
-#[test]
-fn a_report_that_cannot_be_written_leaves_the_journal_whole(rt: HostRuntime) -> Result<(), Fail> {
-    let words = words(rt.alloc(), "sim", false)?;
-    let failing = Some(Role::Report);
-    let (number, outside) = ended(rt.alloc(), words.as_slice(), b"", failing)?;
-    assert_eq!(rt; number, 5);
-    assert_eq!(rt; outside.written(Role::JournalOut), JOURNAL.as_slice());
-    assert_eq!(rt;
-        outside.written(Role::Errors),
-        b"opennf: write fault report\n".as_slice()
     );
     Ok(())
 }

@@ -11,8 +11,6 @@ mod generate_tests;
 #[cfg(test)]
 mod journal_tests;
 #[cfg(test)]
-mod share_tests;
-#[cfg(test)]
 mod sim_tests;
 #[cfg(test)]
 mod threads_tests;
