@@ -1,6 +1,6 @@
 ghost use Rattle.std.specs.Prelude.{◌≤◌, ◌<◌, drop, length, IfOk};
 ghost use Rattle.std.specs.Option.{ForSome};
-ghost use Rattle.nf_io.specs.Meaning.{StaysOpen, frame};
+ghost use Rattle.nf_io.specs.Meaning.{StaysOpen, untouched};
 ghost use Rattle.journal_file.specs.Format.{most_choices};
 ghost use Rattle.journal_file.specs.Reading.{journal_of, count_of, looked_at, GivesFrom, HasReadCause};
 ghost use Rattle.journal_file.specs.Pieces.{piece_size, TakesBytes, TakesChoices};
@@ -30,7 +30,7 @@ pub fn read_journal_from<S: Source>(
     ensures value { ForSome (S.left source.old) (λ bytes.
         GivesFrom (journal_of kind instances bytes) (drop (looked_at (count_of kind instances bytes)) bytes) (S.left source.new) result) }
     ensures cause { HasReadCause (S.faults source.old) (S.faults source.new) result }
-    ensures stays { StaysOpen S.IsOpen (frame S.loan S.rest) source.old source.new }
+    ensures stays { StaysOpen S.IsOpen (untouched S.loan S.rest) source.old source.new }
 {
     let header = first_bytes(alloc, source, SIZE as u64)?;
     let count = count_of(header.items(), kind, instances)?;
@@ -51,7 +51,7 @@ fn take_choices<S: Source>(
     requires bound { count ≤ most_choices }
     ensures value { ForSome (S.left source.old) (λ bytes. TakesChoices count bytes (S.left source.new) result) }
     ensures cause { HasReadCause (S.faults source.old) (S.faults source.new) result }
-    ensures stays { StaysOpen S.IsOpen (frame S.loan S.rest) source.old source.new }
+    ensures stays { StaysOpen S.IsOpen (untouched S.loan S.rest) source.old source.new }
 {
     let mut choices = Choices::open(alloc);
     let mut done = 0;
@@ -75,7 +75,7 @@ fn first_bytes<S: Source>(alloc: Global, source: &mut S, wanted: u64) -> Result<
     ensures value { ForSome (S.left source.old) (λ bytes. TakesBytes wanted bytes (S.left source.new) result) }
     ensures bound { IfOk result (λ found. length found ≤ wanted) }
     ensures cause { HasReadCause (S.faults source.old) (S.faults source.new) result }
-    ensures stays { StaysOpen S.IsOpen (frame S.loan S.rest) source.old source.new }
+    ensures stays { StaysOpen S.IsOpen (untouched S.loan S.rest) source.old source.new }
 {
     Ok(read_upto(alloc, source, wanted - 1)?)
 }

@@ -4,10 +4,10 @@ use Rattle.std.proofs.Common.{◌≡◌, ℕ, ◌+◌, ◌-◌, ◌≤◌, List,
 use Rattle.std.proofs.Math.Seq.{take-length, take-add, take-append_seam}
 use Rattle.std.specs.Io.KnownBytes.{Appends, Consumes, Keeps, prepend_known}
 use Rattle.std.proofs.KnownBytes.{Appends-trans, Appends-kept}
-use Rattle.nf_io.specs.Meaning.{Frame, StaysOpen, AppendsFront}
+use Rattle.nf_io.specs.Meaning.{Untouched, StaysOpen, AppendsFront}
 
 -- two calls after each other leave open what each leaves open
-pub StaysOpen-trans : {S Rest : Type 0} (is_open : S → Type 0) (kept : Frame S Rest) (a b c : S)
+pub StaysOpen-trans : {S Rest : Type 0} (is_open : S → Type 0) (kept : Untouched S Rest) (a b c : S)
     → StaysOpen is_open kept a b → StaysOpen is_open kept b c → StaysOpen is_open kept a c
 StaysOpen-trans is_open kept a b c p q = record {
   still_open = q.still_open;

@@ -52,15 +52,15 @@ unfoldable pub without_written : Role → (Role → Meaning) → Role → Meanin
 without_written role seen other = if same_role role other then record (seen role) { written = None; faults = 0 } else seen other
 
 -- what the calls of a source or sink don't change: the loan that it holds, and all but what they read or write
-pub record Frame (S Rest : Type 0) : Type 0 where
+pub record Untouched (S Rest : Type 0) : Type 0 where
   pub loan : S → ℕ
   pub rest : S → Rest
 
-abbrev pub frame : {S Rest : Type 0} → (S → ℕ) → (S → Rest) → Frame S Rest
-frame loan rest = record { loan = loan; rest = rest }
+abbrev pub untouched : {S Rest : Type 0} → (S → ℕ) → (S → Rest) → Untouched S Rest
+untouched loan rest = record { loan = loan; rest = rest }
 
 -- a source or sink is open as before, holds the same loan, and all that its calls don't change is as before
-pub record StaysOpen {S Rest : Type 0} (is_open : S → Type 0) (kept : Frame S Rest) (old new : S) : Type 0 where
+pub record StaysOpen {S Rest : Type 0} (is_open : S → Type 0) (kept : Untouched S Rest) (old new : S) : Type 0 where
   pub still_open : is_open new
   pub same_loan : kept.loan new ≡ kept.loan old
   pub same_rest : kept.rest new ≡ kept.rest old

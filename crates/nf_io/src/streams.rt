@@ -7,7 +7,7 @@ use crate::outside::{Failed, Outside, Role};
 
 /// One role's bytes to read.
 pub trait Source {
-    ghost use Rattle.nf_io.specs.Meaning.{HasCause, StaysOpen, frame};
+    ghost use Rattle.nf_io.specs.Meaning.{HasCause, StaysOpen, untouched};
 
     /// What `rest` tells.
     ghost Rest: { Type 0 };
@@ -37,7 +37,7 @@ pub trait Source {
         ensures bound { ReadsAtMost result buf.new }
         ensures bytes { ReadConsumes (left self.old) (left self.new) result buf.new }
         ensures cause { HasCause (faults self.old) (faults self.new) result }
-        ensures stays { StaysOpen IsOpen (frame loan rest) self.old self.new };
+        ensures stays { StaysOpen IsOpen (untouched loan rest) self.old self.new };
 
     /// The bytes at hand, which are the next ones. There may be none.
     fn at_hand(&self) -> &[u8]
@@ -51,12 +51,12 @@ pub trait Source {
         requires at_hand { count ≤ length (ahead self.old) }
         ensures bytes { Consumes (left self.old) (left self.new) (take count (ahead self.old)) }
         ensures faults { faults self.new ≡ faults self.old }
-        ensures stays { StaysOpen IsOpen (frame loan rest) self.old self.new };
+        ensures stays { StaysOpen IsOpen (untouched loan rest) self.old self.new };
 }
 
 /// One role's bytes to write.
 pub trait Sink {
-    ghost use Rattle.nf_io.specs.Meaning.{HasCause, StaysOpen, frame};
+    ghost use Rattle.nf_io.specs.Meaning.{HasCause, StaysOpen, untouched};
 
     /// What `rest` tells.
     ghost Rest: { Type 0 };
@@ -83,7 +83,7 @@ pub trait Sink {
         ensures moves { 0 < length bytes.now → IfOk result (λ n. 0 < n) }
         ensures bytes { WriteAppends (written self.old) (written self.new) result bytes.now }
         ensures cause { HasCause (faults self.old) (faults self.new) result }
-        ensures stays { StaysOpen IsOpen (frame loan rest) self.old self.new };
+        ensures stays { StaysOpen IsOpen (untouched loan rest) self.old self.new };
 }
 
 /// A role of an outside, to read.

@@ -1,7 +1,7 @@
 ghost use Rattle.std.specs.Prelude.{◌≡◌, ◌+◌, ◌≤◌, Some, IfOk, MatchResult, length, take, drop};
 ghost use Rattle.std.specs.Option.{ForSome};
 ghost use Rattle.std.specs.Io.KnownBytes.{Appends};
-ghost use Rattle.nf_io.specs.Meaning.{AppendsFront, HasCause, StaysOpen, frame};
+ghost use Rattle.nf_io.specs.Meaning.{AppendsFront, HasCause, StaysOpen, untouched};
 ghost use Rattle.nf_io.specs.Transfers.{HasUptoCause};
 
 use crate::outside::Failed;
@@ -50,7 +50,7 @@ pub fn write_all<S: Sink>(sink: &mut S, bytes: &[u8]) -> Result<(), Failed>
     ensures bytes { MatchResult result (λ _. Appends (S.written sink.old) (S.written sink.new) bytes.now)
         (λ _. AppendsFront (S.written sink.old) (S.written sink.new) bytes.now) }
     ensures cause { HasCause (S.faults sink.old) (S.faults sink.new) result }
-    ensures stays { StaysOpen S.IsOpen (frame S.loan S.rest) sink.old sink.new }
+    ensures stays { StaysOpen S.IsOpen (untouched S.loan S.rest) sink.old sink.new }
 {
     let mut at = 0;
     while at < bytes.len() {
@@ -66,7 +66,7 @@ pub fn read_upto<S: Source>(alloc: Global, source: &mut S, most: u64) -> Result<
         (found ≡ take (most + 1) bytes) × (S.left source.new ≡ Some (drop (most + 1) bytes)))) }
     ensures bound { IfOk result (λ found. length found ≤ most + 1) }
     ensures cause { HasUptoCause (S.faults source.old) (S.faults source.new) result }
-    ensures stays { StaysOpen S.IsOpen (frame S.loan S.rest) source.old source.new }
+    ensures stays { StaysOpen S.IsOpen (untouched S.loan S.rest) source.old source.new }
 {
     let mut found = Vec::new(alloc);
     let mut piece = [0; PIECE];

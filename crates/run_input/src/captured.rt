@@ -1,7 +1,7 @@
 //! A capture whose packets are kept, while it is read, as items of a run's input.
 ghost use Rattle.std.specs.Prelude.{◌≡◌, ◌≤◌, true, length, All, IfOk};
 ghost use Rattle.std.specs.Option.{ForSome};
-ghost use Rattle.nf_io.specs.Meaning.{StaysOpen, frame};
+ghost use Rattle.nf_io.specs.Meaning.{StaysOpen, untouched};
 ghost use Rattle.flow_filter.specs.Limits.{most_packets};
 ghost use Rattle.trace_reader.specs.Records.{capture_of, AreNumbered};
 ghost use Rattle.trace_reader.specs.Steered.{is_steered_proto};
@@ -42,7 +42,7 @@ impl CapturedItems {
         ensures steered { IfOk result (λ trace. All (λ packet. is_steered_proto packet.proto ≡ true) trace.packets) }
         ensures few { IfOk result (λ trace. length trace.packets ≤ most_packets) }
         ensures cause { HasReadCause (S.faults source.old) (S.faults source.new) result }
-        ensures stays { StaysOpen S.IsOpen (frame S.loan S.rest) source.old source.new }
+        ensures stays { StaysOpen S.IsOpen (untouched S.loan S.rest) source.old source.new }
     {
         let mut keeper = ItemKeeper {
             packets: PacketItems::open(alloc),

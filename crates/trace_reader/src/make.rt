@@ -1,6 +1,6 @@
 //! Generated captures.
 ghost use Rattle.std.specs.Prelude.{◌≡◌, ◌≤◌, ℕ, Err};
-ghost use Rattle.nf_io.specs.Meaning.{Rose, StaysOpen, frame};
+ghost use Rattle.nf_io.specs.Meaning.{Rose, StaysOpen, untouched};
 ghost use Rattle.flow_filter.specs.Limits.{most_packets, most_hosts};
 ghost use Rattle.trace_reader.specs.Records.{capture_of};
 ghost use Rattle.trace_reader.specs.Making.{Makes, IsReadWhole};
@@ -61,7 +61,7 @@ pub fn make_trace<S: Sink>(
     ensures bytes { Makes (capture number packets hosts) (S.written sink.old) (S.written sink.new) result }
     ensures later { S.faults sink.old ≤ S.faults sink.new }
     ensures cause { result ≡ Err MakeFault.Write → Rose (S.faults sink.old) (S.faults sink.new) }
-    ensures stays { StaysOpen S.IsOpen (frame S.loan S.rest) sink.old sink.new }
+    ensures stays { StaysOpen S.IsOpen (untouched S.loan S.rest) sink.old sink.new }
 {
     let mut piece = Piece::open(alloc)?;
     write_all(sink, &file_header())?;

@@ -31,7 +31,7 @@ pub struct TraceReader {
 }
 
 impl TraceReader {
-    ghost use Rattle.nf_io.specs.Meaning.{StaysOpen, frame, Rose};
+    ghost use Rattle.nf_io.specs.Meaning.{StaysOpen, untouched, Rose};
     ghost use Rattle.trace_reader.specs.declared.record.Next.TheVariants as next;
     ghost use Rattle.trace_reader.specs.Records.{opened};
     ghost use Rattle.trace_reader.specs.Answers.{HasReadCause, AnswersOpen, AnswersNext, Advances, reading_of, stop_of, answer_of};
@@ -42,7 +42,7 @@ impl TraceReader {
         ensures form { ForSome (S.left source.old) (λ bytes. AnswersOpen (opened bytes) (drop header_size bytes) (S.left source.new) result) }
         ensures start { IfOk result (λ reader. (reader.place ≡ header_size) × (reader.count ≡ 0) × (reader.stop ≡ None)) }
         ensures cause { HasReadCause (S.faults source.old) (S.faults source.new) result }
-        ensures stays { StaysOpen S.IsOpen (frame S.loan S.rest) source.old source.new }
+        ensures stays { StaysOpen S.IsOpen (untouched S.loan S.rest) source.old source.new }
     {
         let mut header = [0; 24];
         let got = fill(source, &mut header)?;
@@ -75,7 +75,7 @@ impl TraceReader {
         ensures again { ForSome self.old.stop (λ stop. (result ≡ answer_of stop) × (self.new ≡ self.old) × (source.new ≡ source.old)) }
         ensures later { S.faults source.old ≤ S.faults source.new }
         ensures read { self.old.stop ≡ None → result ≡ Err TraceFault.Read → Rose (S.faults source.old) (S.faults source.new) }
-        ensures stays { StaysOpen S.IsOpen (frame S.loan S.rest) source.old source.new }
+        ensures stays { StaysOpen S.IsOpen (untouched S.loan S.rest) source.old source.new }
     {
         if let Some(stop) = self.stop {
             return stop.answer();
@@ -108,7 +108,7 @@ impl TraceReader {
         ensures unread { IfNone result (self.new ≡ self.old) }
         ensures untouched { IfNone result (source.new ≡ source.old) }
         ensures later { S.faults source.old ≤ S.faults source.new }
-        ensures stays { StaysOpen S.IsOpen (frame S.loan S.rest) source.old source.new }
+        ensures stays { StaysOpen S.IsOpen (untouched S.loan S.rest) source.old source.new }
     {
         let ahead = source.at_hand();
         let (packet, size) = bare_at_hand(self.form, self.place, self.count, ahead)?;

@@ -1,6 +1,6 @@
 ghost use Rattle.std.specs.Prelude.{◌≡◌, ◌≢◌, ◌<◌, ◌≤◌, ℕ, ◌^◌, ◌+◌, List, min, length, take, None, Ok, Err, IfOk, IfSome};
 ghost use Rattle.std.specs.Io.{StartsWith};
-ghost use Rattle.nf_io.specs.Meaning.{StaysOpen, frame};
+ghost use Rattle.nf_io.specs.Meaning.{StaysOpen, untouched};
 ghost use Rattle.trace_reader.specs.Limits.{front_size, head_size, most_bytes, most_captured};
 ghost use Rattle.trace_reader.specs.Numbers.{byte_at, captured_of};
 ghost use Rattle.trace_reader.specs.Records.{next_of, record_answer, record_size};
@@ -60,7 +60,7 @@ pub(crate) fn read_record<S: Source>(
     ensures advances { Advances (reading form place count (S.left source.old))
         (reading_after (reading form place count (S.left source.old)) result (S.left source.new)) (next_in result) }
     ensures cause { HasReadCause (S.faults source.old) (S.faults source.new) result }
-    ensures stays { StaysOpen S.IsOpen (frame S.loan S.rest) source.old source.new }
+    ensures stays { StaysOpen S.IsOpen (untouched S.loan S.rest) source.old source.new }
 {
     let ahead = source.at_hand();
     let Some(len) = whole_at_hand(form, ahead) else {
@@ -192,7 +192,7 @@ fn read_apart<S: Source>(
     ensures advances { Advances (reading form place count (S.left source.old))
         (reading_after (reading form place count (S.left source.old)) result (S.left source.new)) (next_in result) }
     ensures cause { HasReadCause (S.faults source.old) (S.faults source.new) result }
-    ensures stays { StaysOpen S.IsOpen (frame S.loan S.rest) source.old source.new }
+    ensures stays { StaysOpen S.IsOpen (untouched S.loan S.rest) source.old source.new }
 {
     let mut head = [0; 16];
     let got = fill(source, &mut head)?;

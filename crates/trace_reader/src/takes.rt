@@ -1,7 +1,7 @@
 ghost use Rattle.std.specs.Prelude.{◌≡◌, ◌≤◌, ◌<◌, min, Some, length, take, drop, IfOk};
 ghost use Rattle.std.specs.Option.{ForSome};
 ghost use Rattle.std.specs.Io.KnownBytes.{IsAtEnd};
-ghost use Rattle.nf_io.specs.Meaning.{HasCause, StaysOpen, frame};
+ghost use Rattle.nf_io.specs.Meaning.{HasCause, StaysOpen, untouched};
 ghost use Rattle.trace_reader.specs.Takes.{Fills, Skips, TakesBody, body};
 
 use nf_io::{Failed, Source};
@@ -19,7 +19,7 @@ pub(crate) fn take_body<S: Source>(
     requires front { length front.old ≤ len }
     ensures bytes { IfOk result (TakesBody (S.left source.old) (S.left source.new) (body front.new len)) }
     ensures cause { HasCause (S.faults source.old) (S.faults source.new) result }
-    ensures stays { StaysOpen S.IsOpen (frame S.loan S.rest) source.old source.new }
+    ensures stays { StaysOpen S.IsOpen (untouched S.loan S.rest) source.old source.new }
 {
     if fill(source, front)? < front.len() {
         return Ok(false);
@@ -37,7 +37,7 @@ pub(crate) fn fill<S: Source>(source: &mut S, buf: &mut [u8]) -> Result<usize, F
     ensures bytes { IfOk result (Fills (S.left source.old) (S.left source.new) buf.new) }
     ensures bound { IfOk result (λ n. n ≤ length buf.new) }
     ensures cause { HasCause (S.faults source.old) (S.faults source.new) result }
-    ensures stays { StaysOpen S.IsOpen (frame S.loan S.rest) source.old source.new }
+    ensures stays { StaysOpen S.IsOpen (untouched S.loan S.rest) source.old source.new }
 {
     let mut at = 0;
     while at < buf.len() {
@@ -56,7 +56,7 @@ fn skip<S: Source>(source: &mut S, count: usize) -> Result<usize, Failed>
     ensures bytes { IfOk result (Skips (S.left source.old) (S.left source.new) count) }
     ensures bound { IfOk result (λ n. n ≤ count) }
     ensures cause { HasCause (S.faults source.old) (S.faults source.new) result }
-    ensures stays { StaysOpen S.IsOpen (frame S.loan S.rest) source.old source.new }
+    ensures stays { StaysOpen S.IsOpen (untouched S.loan S.rest) source.old source.new }
 {
     let mut piece = [0; PIECE];
     let mut done = 0;

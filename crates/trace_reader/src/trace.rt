@@ -1,6 +1,6 @@
 ghost use Rattle.std.specs.Prelude.{◌≡◌, ◌≤◌, true, All, IfOk, length};
 ghost use Rattle.std.specs.Option.{ForSome};
-ghost use Rattle.nf_io.specs.Meaning.{StaysOpen, frame};
+ghost use Rattle.nf_io.specs.Meaning.{StaysOpen, untouched};
 ghost use Rattle.flow_filter.specs.Limits.{most_packets};
 ghost use Rattle.trace_reader.specs.Records.{capture_of, AreNumbered};
 ghost use Rattle.trace_reader.specs.Steered.{is_steered_proto};
@@ -44,7 +44,7 @@ pub fn read_trace<S: Source>(alloc: Global, source: &mut S) -> Result<Trace, Tra
     ensures steered { IfOk result (λ trace. All (λ packet. is_steered_proto packet.proto ≡ true) trace.packets) }
     ensures few { IfOk result (λ trace. length trace.packets ≤ most_packets) }
     ensures cause { HasReadCause (S.faults source.old) (S.faults source.new) result }
-    ensures stays { StaysOpen S.IsOpen (frame S.loan S.rest) source.old source.new }
+    ensures stays { StaysOpen S.IsOpen (untouched S.loan S.rest) source.old source.new }
 {
     let mut keeper = PacketKeeper {
         packets: Packets::open(alloc),
@@ -69,7 +69,7 @@ pub fn read_into<S: Source, K: Keeper>(
     ensures steered { IfOk result (λ end. HandsSteered K.HasKept keeper.old keeper.new end.packets) }
     ensures few { IfOk result (λ end. end.packets ≤ most_packets) }
     ensures cause { HasReadCause (S.faults source.old) (S.faults source.new) result }
-    ensures stays { StaysOpen S.IsOpen (frame S.loan S.rest) source.old source.new }
+    ensures stays { StaysOpen S.IsOpen (untouched S.loan S.rest) source.old source.new }
 {
     let mut reader = TraceReader::open(source)?;
     let mut skipped = 0;

@@ -1,6 +1,6 @@
 -- What was read so far, and that the keeper has it. Each record makes the place grow.
 use Rattle.std.proofs.Common.{◌≡◌, ℕ, ◌-◌, ◌*◌, ◌^◌, ◌≤◌, List, None, Some}
-use Rattle.nf_io.specs.Meaning.{StaysOpen, frame}
+use Rattle.nf_io.specs.Meaning.{StaysOpen, untouched}
 use Rattle.trace_reader.specs.Records.{capture_of}
 use Rattle.trace_reader.specs.Answers.{reading_of, HandsSteered}
 use Rattle.trace_reader.proofs.KeeperSoFar.{Handed}
@@ -14,7 +14,7 @@ invariant-records g l = record {
       → Handed g.K.Keeper.HasKept (capture_of bytes) (reading_of l.reader (g.S.Source.left l.source)) l.skipped l.fn.keeper l.keeper;
   steered : HandsSteered g.K.Keeper.HasKept l.fn.keeper l.keeper l.reader.count;
   later : g.S.Source.faults l.fn.source ≤ g.S.Source.faults l.source;
-  stays : StaysOpen g.S.Source.IsOpen (frame g.S.Source.loan g.S.Source.rest) l.fn.source l.source;
+  stays : StaysOpen g.S.Source.IsOpen (untouched g.S.Source.loan g.S.Source.rest) l.fn.source l.source;
 }
 
 abbrev pub decreases-records : goal.decreases-records
