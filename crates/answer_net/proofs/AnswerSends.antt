@@ -28,7 +28,7 @@ NoAnswer sends = Each (λ x. answering x.1 ≡ 0) sends
 
 pub none_weighs : (n k : ℕ) (sends : List (ℕ × Msg)) → NoAnswer sends → sent_weight answering n k sends ≡ 0
 none_weighs n k [] h = refl
-none_weighs n k (x ∷ xs) h = let own = h.0 in let rest = none_weighs n k xs h.1 in rw (own, rest, cond-same (reaches n k x.0) 0) refl
+none_weighs n k (x ∷ xs) h = let own = h.0 in let rest = none_weighs n k xs h.1 in rw (own, rest, cond-same {X = ℕ} (reaches n k x.0) 0) refl
 
 module _ (plan : MovePlan) where
   abbrev Quiet : MoveNext → Type 0

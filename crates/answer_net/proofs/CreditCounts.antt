@@ -54,15 +54,15 @@ module _ {R : Type 0} (f : Semantics R) (g : Given) where
   none_sent n k (x ∷ xs) few h =
       let own = no_credit_from k x.0 x.1 few h.0 in
       let rest = none_sent n k xs few h.1 in
-      rw (own, rest, cond-same (reaches n k x.0) 0) refl
+      rw (own, rest, cond-same {X = ℕ} (reaches n k x.0) 0) refl
 
 module _ (n k : ℕ) where
   told_none : (m : Msg) → credit m ≡ 0 → sent_weight credit n k (told (m ∷ [])) ≡ 0
-  told_none m none = rw (none, cond-same (reaches n k 1) 0) refl
+  told_none m none = rw (none, cond-same {X = ℕ} (reaches n k 1) 0) refl
 
   all_told : {X : Type 0} (make : X → Msg) → ((x : X) → credit (make x) ≡ 0) → (xs : List X) → sent_weight credit n k (told (map make xs)) ≡ 0
   all_told make none [] = refl
-  all_told make none (x ∷ xs) = let own = none x in let rest = all_told make none xs in rw (own, rest, cond-same (reaches n k 1) 0) refl
+  all_told make none (x ∷ xs) = let own = none x in let rest = all_told make none xs in rw (own, rest, cond-same {X = ℕ} (reaches n k 1) 0) refl
 
   chunk_none : (op : ℕ) (o : Option Chunk) → sent_weight credit n k (told (chunk_told op o)) ≡ 0
   chunk_none op None = refl

@@ -70,7 +70,7 @@ module _ (n k : ℕ) where
   NoInstall sends = (op : Option ℕ) → sent_weight (sent_of op) n k sends ≡ 0
 
   pub no_more : (to : ℕ) (m : Msg) → ((op : Option ℕ) → sent_of op m ≡ 0) → (sends : List (ℕ × Msg)) → NoInstall sends → NoInstall ((to, m) ∷ sends)
-  no_more to m none sends h op = let own = none op in let rest = h op in rw (own, rest, cond-same (reaches n k to) 0) refl
+  no_more to m none sends h op = let own = none op in let rest = h op in rw (own, rest, cond-same {X = ℕ} (reaches n k to) 0) refl
 
   pub no_one : (to : ℕ) (m : Msg) → ((op : Option ℕ) → sent_of op m ≡ 0) → NoInstall ((to, m) ∷ [])
   no_one to m none = no_more to m none [] (λ op. refl)

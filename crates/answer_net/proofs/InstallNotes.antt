@@ -42,7 +42,7 @@ module _ {R : Type 0} (f : Semantics R) (g : Given) (o : Option ℕ) where
   none_sent n k (x ∷ xs) other h =
       let own = no_install_from k x.0 x.1 other h.0 in
       let rest = none_sent n k xs other h.1 in
-      rw (own, rest, cond-same (reaches n k x.0) 0) refl
+      rw (own, rest, cond-same {X = ℕ} (reaches n k x.0) 0) refl
 
   -- an input has none
   pub items_none : (items : List Msg) → Each (Label f g 0 0) items → weigh (sent_of o) items ≡ 0

@@ -57,7 +57,7 @@ module _ (n k : ℕ) (first : Bool) where
   NoneOnce sends = (op : ℕ) → sent_weight (once first op) n k sends ≡ 0
 
   pub no_more : (to : ℕ) (m : Msg) → ((op : ℕ) → once first op m ≡ 0) → (sends : List (ℕ × Msg)) → NoneOnce sends → NoneOnce ((to, m) ∷ sends)
-  no_more to m none sends h op = let own = none op in let rest = h op in rw (own, rest, cond-same (reaches n k to) 0) refl
+  no_more to m none sends h op = let own = none op in let rest = h op in rw (own, rest, cond-same {X = ℕ} (reaches n k to) 0) refl
 
   pub no_one : (to : ℕ) (m : Msg) → ((op : ℕ) → once first op m ≡ 0) → NoneOnce ((to, m) ∷ [])
   no_one to m none = no_more to m none [] (λ op. refl)

@@ -67,7 +67,7 @@ module _ {R : Type 0} (f : Semantics R) (g : Given) (op : ℕ) where
   none_once first n k (x ∷ xs) other h =
       let own = no_once_from first k x.0 x.1 other h.0 in
       let rest = none_once first n k xs other h.1 in
-      rw (own, rest, cond-same (reaches n k x.0) 0) refl
+      rw (own, rest, cond-same {X = ℕ} (reaches n k x.0) 0) refl
 
   pub no_stream_to : (p k : ℕ) (m : Msg) → k ≤ 1 → Label f g p k m → counts m false op ≡ 0
   no_stream_to p k (msg.Stream j filter) few label = let two = label.0.1 in absurd (omega (arith, two, few))

@@ -18,7 +18,6 @@ use Rattle.nf_msgs.specs.declared.note.Note.TheVariants as note
 use Rattle.nf_msgs.specs.Nodes.{instance_node}
 use Rattle.unit_machine.proofs.Labels.{Each, each-append}
 use Rattle.abstract_net.proofs.Net.{Sys}
-use Rattle.abstract_net.proofs.Readings as readings
 use Rattle.abstract_net.proofs.Rest.{none_mine}
 use Rattle.net_world.specs.declared.config.Config.{Config}
 use Rattle.net_world.specs.Input.{packet_of}
@@ -136,16 +135,6 @@ module _ {R : Type 0} (f : Semantics R) (c : Config) (items : List Msg) where
     -- one packet that an instance with these records processes, and what is done after it
     pub answered_packet : (node : ℕ) (ds : List Done) → Answered (live_in after) ds → Answered (live_in live) (record { number = n; node = node; output = output } ∷ ds)
     answered_packet node ds rest = answered_next (live_in live) (live_in after) (record { number = n; node = node; output = output }) ds carried output_is left rest
-
-  -- the fold over packets is that of the abstract network
-  pub fold_is : (kept : Option R) (ds : List Done) (u : units.Unit) → Each (λ d. IsCarried items d.number) ds → fold f c items kept (numbers u ds) ≡ readings.fold net.F kept (numbers u ds)
-  fold_is kept [] u h = refl
-  fold_is kept (d ∷ ds) u h =
-      let stepped : Option R = Some (f.stepped c.site kept (packet_of items d.number)).kept in
-      elim (is_of f c items u d.number) as (λ b. fold f c items kept (map (λ e. e.number) (if b then d ∷ done_of (is_of f c items u) ds else done_of (is_of f c items u) ds)) ≡ readings.fold net.F kept (map (λ e. e.number) (if b then d ∷ done_of (is_of f c items u) ds else done_of (is_of f c items u) ds))) [
-        | true ↦ ap (λ b. fold f c items (if b then stepped else kept) (numbers u ds)) h.0 ∙ fold_is stepped ds u h.1
-        | false ↦ fold_is kept ds u h.1
-      ]
 
   -- the unit's packets among those that an instance ran
   pub numbers_ran : (u : units.Unit) (ns : List Note) → numbers u (done ns) ≡ none_mine net u (filter_map ran_in ns)

@@ -20,7 +20,6 @@ use Rattle.actor_net.specs.declared.choice.Choice.{Choice}
 use Rattle.actor_net.specs.Network.{Network, taken, run, IsRun}
 use Rattle.actor_net.proofs.StepOutcome.{taken_outcome}
 use Rattle.actor_net.proofs.RunInduction.{Taking, run_induction}
-use Rattle.unit_machine.proofs.Labels.{Each}
 use Rattle.abstract_net.proofs.Net as net
 use Rattle.abstract_net.proofs.Net.{inst_step}
 use Rattle.abstract_net.proofs.Readings as readings
@@ -42,9 +41,10 @@ use Rattle.whole_joined.proofs.BesideRuns.{its_takes, its_taken}
 use Rattle.whole_joined.proofs.LogLemmas.{done-append}
 use Rattle.whole_joined.proofs.RunsJoined.{Runs, runs_at_start, runs_next, start_world, went_same}
 use Rattle.whole_joined.proofs.StartJoined.{all_fit, given, count_at_start}
-use Rattle.nf_net.proofs.OutputLemmas.{IsCarried, numbers, Answered, answered_nothing, answered_more, answered_by, fold_is, numbers_ran}
+use Rattle.nf_net.proofs.OutputLemmas.{numbers, Answered, answered_nothing, answered_more, answered_by, numbers_ran}
 use Rattle.nf_net.proofs.AnsweredNotes.{live_of, kept_of, carry_answered, fence_answered, instance_none, switch_none, controller_none}
 use Rattle.nf_net.proofs.FreshRecords.{fresh_live, fresh_shared}
+use Rattle.nf_net.proofs.FoldLemmas.{fold_is}
 
 module _ {R : Type 0} (f : Semantics R) (c : Config) (items : List Msg) (is : IsInput f.kind c items) where
   abbrev g : Given
@@ -59,9 +59,9 @@ module _ {R : Type 0} (f : Semantics R) (c : Config) (items : List Msg) (is : Is
   so_far log u = fold f c items None (went f c items u log)
 
   -- what is kept of a unit is what the abstract network folds
-  pub fold_same : (u : units.Unit) (log : List Note) (ds : List (ℕ × ℕ)) → ds ≡ by_node f g (done log) → Each (λ d. IsCarried items d.number) (done log) → fold f c items None (went f c items u log) ≡ readings.fold (S f g).F None (done_u (S f g) u ds)
-  fold_same u log ds at carried =
-      fold_is f c items None (done log) u carried
+  pub fold_same : (u : units.Unit) (log : List Note) (ds : List (ℕ × ℕ)) → ds ≡ by_node f g (done log) → fold f c items None (went f c items u log) ≡ readings.fold (S f g).F None (done_u (S f g) u ds)
+  fold_same u log ds at =
+      fold_is f c items is None (went f c items u log)
       ∙ ap (readings.fold (S f g).F None) (sym (went_same f c items is u (done log)))
       ∙ ap (λ d. readings.fold (S f g).F None (done_u (S f g) u d)) (sym at)
 
@@ -100,7 +100,7 @@ module _ {F R : Type 0} (f : Semantics R) (c : Config) (items : List Msg) (is : 
         let its : numbers f c items u (done notes) ≡ none_mine (S f (g f c items is)) u (inst_step (S f (g f c items is)) (x.world.inst k) a).ran = numbers_ran f c items u notes ∙ ap (none_mine (S f (g f c items is)) u) (ran ∙ ap (λ y. (inst_step (S f (g f c items is)) y a).ran) at.outline_is) in
         ap (λ y. finite.get y.live u) at.outline_is
         ∙ fresh_live (S f (g f c items is)) (A f (g f c items is)) (is_sys f c.site (packet_of items)) u (is_sharing f c.site (packet_of items)) x.world (came_by f (g f c items is) x.log u) are.every.global p k t.rest k0 k1 a (t.head off (Old a) seen) (λ none. some (its ∙ none)) (are.every.unit u)
-        ∙ sym (fold_same f c items is u x.log x.world.done are.done_is so.carried)
+        ∙ sym (fold_same f c items is u x.log x.world.done are.done_is)
 
     fresh_at : (m : Msg) → Takes_it k p m → (a : net.Msg R) (notes : List Note) → shown f (g f c items is) m ≡ Some (Old a) → filter_map ran_in notes ≡ (inst_step (S f (g f c items is)) (outline_instance f c.site (packet_of items) i) a).ran → Answered f c items (live_of i) (done notes) → Now notes
     fresh_at m t a notes seen ran ok = answered_by f c items (live_of i) (so_far f c items is x.log) (done notes) ok (kept_is m t a notes seen ran)
@@ -121,7 +121,7 @@ module _ {F R : Type 0} (f : Semantics R) (c : Config) (items : List Msg) (is : 
       shared_is u some =
           table_is u
           ∙ fresh_shared (S f (g f c items is)) (A f (g f c items is)) (is_sys f c.site (packet_of items)) u (is_sharing f c.site (packet_of items)) x.world (came_by f (g f c items is) x.log u) are.every.global p k t.rest k0 k1 op home (number cell) (t.head off (New (Shared_on op home (number cell))) refl) (mine_of (is_of f c items u (number cell)) refl) (are.every.unit u)
-          ∙ sym (fold_same f c items is u x.log x.world.done are.done_is so.carried)
+          ∙ sym (fold_same f c items is u x.log x.world.done are.done_is)
         where
           -- its packet alone is noted
           one : numbers f c items u (done (on_carry f i (mark.Shared op home) cell).notes) ≡ (if is_of f c items u (number cell) then number cell ∷ [] else [])

@@ -74,7 +74,7 @@ module _ {R : Type 0} (f : Semantics R) (g : Given) where
   none_sent n k (x ∷ xs) other h =
       let own = no_answer_from k x.0 x.1 other h.0 in
       let rest = none_sent n k xs other h.1 in
-      rw (own, rest, cond-same (reaches n k x.0) 0) refl
+      rw (own, rest, cond-same {X = ℕ} (reaches n k x.0) 0) refl
 
   pub items_none : (items : List Msg) → Each (Label f g 0 0) items → weigh answering items ≡ 0
   items_none [] h = refl
