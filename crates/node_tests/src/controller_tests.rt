@@ -1,5 +1,3 @@
-ghost use Rattle.std.specs.Prelude.{◌≡◌, ◌%◌};
-
 use actor_net::{Actor, Outbox};
 use basics::{Boxed, NoMemory, Text};
 use ctrl_node::Ctrl;
@@ -40,28 +38,14 @@ const PACKET: Packet = Packet {
     head: [0; 64],
 };
 
-/// The addresses that a share is of.
-#[derive(Clone, Copy)]
-enum Addresses {
-    All,
-    /// From 10.0.0.0 to 10.0.0.127.
-    Lower,
-    /// From 10.0.0.128 to 10.0.0.255.
-    Upper,
-}
-
 /// What a node says to the controller, of the operation with a number.
 #[derive(Clone, Copy)]
 enum Word {
-    /// A move of everything from a to the instance with this letter, in any order of packets.
-    Move(u32, u8),
-    /// A copy from a to b, of everything or of the all-flows state.
-    Copy(u32, bool),
-    /// A share between a and b of some of the site's addresses.
-    Share(u32, Addresses),
+    /// A move of everything from a to b, in any order of packets.
+    Move(u32),
+    /// A share of everything between a and b.
+    Share(u32),
     Chunks(u32),
-    AllChunk(u32),
-    Kept(u32),
     Shared(u32),
     Synced(u32),
     Diverted,
@@ -71,19 +55,8 @@ enum Word {
     Deleted(u32),
     PutOk(u32),
     Fenced(u32),
-    Event(u32),
     End,
     Final,
-}
-
-/// The filter of half of the site's addresses, from this one on.
-fn half(bits: u32) -> Filter
-    requires { bits % 128 ≡ 0 }
-{
-    Filter {
-        local: Some(Prefix { bits, len: 25 }),
-        ..Filter::ANY
-    }
 }
 
 /// The message of a command.
@@ -92,8 +65,8 @@ fn asked(alloc: Global, op: u32, what: Order) -> Result<Msg, NoMemory> {
 }
 
 /// A command to move everything.
-fn move_command(alloc: Global, op: u32, letter: u8) -> Result<Msg, NoMemory> {
-    let (Some(src), Some(dst)) = (Name::read(alloc, b"a")?, Name::read(alloc, &[letter])?) else {
+fn move_command(alloc: Global, op: u32) -> Result<Msg, NoMemory> {
+    let (Some(src), Some(dst)) = (Name::read(alloc, b"a")?, Name::read(alloc, b"b")?) else {
         return Ok(Msg::Finish);
     };
     let what = Order::Move {
@@ -105,18 +78,17 @@ fn move_command(alloc: Global, op: u32, letter: u8) -> Result<Msg, NoMemory> {
     asked(alloc, op, what)
 }
 
-/// A command to copy everything, or the all-flows state.
-fn copy_command(alloc: Global, op: u32, filter: Option<Filter>) -> Result<Msg, NoMemory> {
-    let (Some(src), Some(dst)) = (Name::read(alloc, b"a")?, Name::read(alloc, b"b")?) else {
-        return Ok(Msg::Finish);
-    };
-    asked(alloc, op, Order::Copy { src, dst, filter })
-}
-
-/// A command to share what a filter takes.
-fn share_command(alloc: Global, op: u32, filter: Filter) -> Result<Msg, NoMemory> {
+/// A command to share everything.
+fn share_command(alloc: Global, op: u32) -> Result<Msg, NoMemory> {
     let members = Sequence::from_vec(names(alloc)?);
-    asked(alloc, op, Order::Share { members, filter })
+    asked(
+        alloc,
+        op,
+        Order::Share {
+            members,
+            filter: Filter::ANY,
+        },
+    )
 }
 
 /// A chunk without bytes.
@@ -141,14 +113,11 @@ fn piece(alloc: Global, op: u32) -> Result<Msg, NoMemory> {
     Ok(Msg::Piece { op, piece })
 }
 
-/// A packet, as an event of an operation or as one that the switch's rules send to the controller.
-fn packet(alloc: Global, op: Option<u32>) -> Result<Msg, NoMemory> {
+/// A packet that the switch's rules send to the controller.
+fn diverted(alloc: Global) -> Result<Msg, NoMemory> {
     let packet = Boxed::new(alloc, PACKET)?;
     match Pool::open(0, 1).take(packet) {
-        Ok(parcel) => match op {
-            Some(op) => Ok(Msg::Event { op, parcel }),
-            None => Ok(Msg::Diverted(parcel)),
-        },
+        Ok(parcel) => Ok(Msg::Diverted(parcel)),
         Err(_packet) => Ok(Msg::Finish),
     }
 }
@@ -156,33 +125,23 @@ fn packet(alloc: Global, op: Option<u32>) -> Result<Msg, NoMemory> {
 /// The message of a word.
 fn message_of(alloc: Global, word: Word) -> Result<Msg, NoMemory> {
     match word {
-        Word::Move(op, letter) => move_command(alloc, op, letter),
-        Word::Copy(op, true) => copy_command(alloc, op, Some(Filter::ANY)),
-        Word::Copy(op, false) => copy_command(alloc, op, None),
-        Word::Share(op, Addresses::All) => share_command(alloc, op, Filter::ANY),
-        Word::Share(op, Addresses::Lower) => share_command(alloc, op, half(0x0a00_0000)),
-        Word::Share(op, Addresses::Upper) => share_command(alloc, op, half(0x0a00_0080)),
+        Word::Move(op) => move_command(alloc, op),
+        Word::Share(op) => share_command(alloc, op),
         Word::Chunks(op) => Ok(Msg::Chunks {
             op,
             chunks: Chunks::open(alloc),
         }),
-        Word::AllChunk(op) => Ok(Msg::AllChunk {
-            op,
-            chunk: chunk(alloc)?,
-        }),
-        Word::Kept(op) => Ok(Msg::Kept { op }),
         Word::Shared(op) => Ok(Msg::Shared {
             op,
             chunk: chunk(alloc)?,
         }),
         Word::Synced(op) => Ok(Msg::Synced { op }),
-        Word::Diverted => packet(alloc, None),
+        Word::Diverted => diverted(alloc),
         Word::Enabled(op) => Ok(Msg::Enabled { op }),
         Word::Piece(op) => piece(alloc, op),
         Word::Deleted(op) => Ok(Msg::Deleted { op }),
         Word::PutOk(op) => Ok(Msg::PutOk { op }),
         Word::Fenced(op) => Ok(Msg::Fenced { op }),
-        Word::Event(op) => packet(alloc, Some(op)),
         Word::End => Ok(Msg::End),
         Word::Final => Ok(Msg::Final),
     }
@@ -261,7 +220,7 @@ fn told(alloc: Global, messages: &[(u8, Word)]) -> Result<(Text, bool), NoMemory
 #[test]
 fn a_move_is_answered_and_then_all_is_told_to_finish(rt: HostRuntime) -> Result<(), Fail> {
     let messages = [
-        (SWITCH, Word::Move(3, b'b')),
+        (SWITCH, Word::Move(3)),
         (SWITCH, Word::End),
         (A, Word::Enabled(3)),
         (A, Word::Piece(3)),
@@ -281,27 +240,11 @@ fn a_move_is_answered_and_then_all_is_told_to_finish(rt: HostRuntime) -> Result<
 }
 
 #[test]
-fn a_command_is_refused_for_its_names_before_its_filter(rt: HostRuntime) -> Result<(), Fail> {
-    let messages = [
-        (SWITCH, Word::Move(4, b'b')),
-        (SWITCH, Word::Move(5, b'z')),
-        (SWITCH, Word::Move(6, b'b')),
-        (B, Word::Event(5)),
-    ];
-    let expected =
-        b"2 enable op 4\n0 answered op 5\nunknown z\n0 answered op 6\noverlap 4\n0 forward packet 5 to 1\n";
-    let (text, has_ended) = told(rt.alloc(), &messages)?;
-    assert_eq!(rt; text.items(), expected.as_slice());
-    assert!(rt; !has_ended);
-    Ok(())
-}
-
-#[test]
 fn a_share_is_answered_before_it_serves_and_finishes_when_it_is_idle(
     rt: HostRuntime,
 ) -> Result<(), Fail> {
     let messages = [
-        (SWITCH, Word::Share(3, Addresses::All)),
+        (SWITCH, Word::Share(3)),
         (SWITCH, Word::Diverted),
         (A, Word::Fenced(3)),
         (A, Word::Chunks(3)),
@@ -315,55 +258,6 @@ fn a_share_is_answered_before_it_serves_and_finishes_when_it_is_idle(
     ];
     let expected =
         b"0 install op 3\n2 get op 3\n3 sync op 3\n0 answered op 3\n0 forward packet 5 to 0\ndone\n3 sync op 3\n0 forward packet 5 to 0\n3 sync op 3\n0 finish\n";
-    let (text, has_ended) = told(rt.alloc(), &messages)?;
-    assert_eq!(rt; text.items(), expected.as_slice());
-    assert!(rt; !has_ended);
-    Ok(())
-}
-
-#[test]
-fn a_share_that_is_answered_still_overlaps_but_not_with_all_flows_state(
-    rt: HostRuntime,
-) -> Result<(), Fail> {
-    let messages = [
-        (SWITCH, Word::Share(3, Addresses::All)),
-        (A, Word::Fenced(3)),
-        (A, Word::Chunks(3)),
-        (B, Word::Synced(3)),
-        (SWITCH, Word::Move(4, b'b')),
-        (SWITCH, Word::Copy(5, true)),
-        (SWITCH, Word::Copy(6, false)),
-        (SWITCH, Word::End),
-        (A, Word::AllChunk(6)),
-        (B, Word::Kept(6)),
-    ];
-    let expected =
-        b"0 install op 3\n2 get op 3\n3 sync op 3\n0 answered op 3\ndone\n0 answered op 4\noverlap 3\n0 answered op 5\noverlap 3\n2 get all op 6\n3 put all op 6\n0 answered op 6\n0 finish\ndone\n";
-    let (text, has_ended) = told(rt.alloc(), &messages)?;
-    assert_eq!(rt; text.items(), expected.as_slice());
-    assert!(rt; !has_ended);
-    Ok(())
-}
-
-#[test]
-fn a_packet_waits_for_the_share_of_its_flow(rt: HostRuntime) -> Result<(), Fail> {
-    let messages = [
-        (SWITCH, Word::Share(3, Addresses::Upper)),
-        (SWITCH, Word::Share(4, Addresses::Lower)),
-        (A, Word::Fenced(3)),
-        (A, Word::Chunks(3)),
-        (B, Word::Synced(3)),
-        (SWITCH, Word::Diverted),
-        (A, Word::Fenced(4)),
-        (SWITCH, Word::End),
-        (A, Word::Chunks(4)),
-        (B, Word::Synced(4)),
-        (A, Word::Shared(3)),
-        (A, Word::Shared(4)),
-        (B, Word::Synced(4)),
-    ];
-    let expected =
-        b"0 install op 3\n0 install op 4\n2 get op 3\n3 sync op 3\n0 answered op 3\ndone\n2 get op 4\n3 sync op 4\n0 answered op 4\n0 forward packet 5 to 0\ndone\n3 sync op 4\n0 finish\n";
     let (text, has_ended) = told(rt.alloc(), &messages)?;
     assert_eq!(rt; text.items(), expected.as_slice());
     assert!(rt; !has_ended);

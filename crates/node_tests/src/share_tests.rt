@@ -28,7 +28,7 @@ const SITE: Site = Site {
 };
 
 /// A packet of the flow from 10.0.0.1:5000 to 192.0.2.9:53. The ports and the remote address have the sum 3221231046, which is 0
-/// modulo 2 and modulo 3, and 6 modulo 16.
+/// modulo 3.
 const PACKET: Packet = Packet {
     nanos: 0,
     number: 1,
@@ -47,15 +47,12 @@ const PACKET: Packet = Packet {
 #[derive(Clone, Copy)]
 enum Word {
     Chunks,
-    AllChunk,
     Kept,
     Fenced,
     Shared,
-    /// So many members, one after another.
-    Synced(u8),
-    Final,
-    /// A packet with this number, and with so much added to its source port, its destination port and its destination.
-    Came(u32, u16, u16, u32),
+    Synced,
+    /// A packet with this number, and with so much added to its source port and its destination.
+    Came(u32, u16, u32),
 }
 
 /// A chunk without bytes.
@@ -76,18 +73,14 @@ fn message_of(alloc: Global, word: Word) -> Result<Msg, NoMemory> {
             chunks.push(chunk(alloc))?;
             Ok(Msg::Chunks { op, chunks })
         }
-        Word::AllChunk => {
-            let chunk = Boxed::new(alloc, chunk(alloc))?;
-            Ok(Msg::AllChunk { op, chunk })
-        }
         Word::Kept => Ok(Msg::Kept { op }),
         Word::Fenced => Ok(Msg::Fenced { op }),
         Word::Shared => {
             let chunk = Boxed::new(alloc, chunk(alloc))?;
             Ok(Msg::Shared { op, chunk })
         }
-        Word::Synced(_) => Ok(Msg::Synced { op }),
-        Word::Final | Word::Came(..) => Ok(Msg::Final),
+        Word::Synced => Ok(Msg::Synced { op }),
+        Word::Came(..) => Ok(Msg::Final),
     }
 }
 
@@ -188,22 +181,15 @@ fn write_told(
     said: (u8, Word),
 ) -> Result<(), NoMemory> {
     match said.1 {
-        Word::Came(number, sport, dport, dst) => {
+        Word::Came(number, sport, dst) => {
             let packet = Packet {
                 number,
                 sport: PACKET.sport.saturating_add(sport),
-                dport: PACKET.dport.saturating_add(dport),
                 dst: PACKET.dst.saturating_add(dst),
                 ..PACKET
             };
             wait(alloc, store, packet)?;
             write_step(text, alloc, share, store, said)
-        }
-        Word::Synced(times) => {
-            for _time in 0..times {
-                write_step(text, alloc, share, store, said)?;
-            }
-            Ok(())
         }
         _ => write_step(text, alloc, share, store, said),
     }
@@ -242,53 +228,19 @@ fn a_copy_is_over_once_it_is_kept(rt: HostRuntime) -> Result<(), Fail> {
 }
 
 #[test]
-fn a_copy_of_all_flows_state_is_merged(rt: HostRuntime) -> Result<(), Fail> {
-    let messages = [(A, Word::AllChunk), (B, Word::Kept)];
-    let text = copied(rt.alloc(), None, &messages)?;
-    assert_eq!(rt;
-        text.items(),
-        b"2 get all op 7\n3 put all op 7\ndone\n".as_slice()
-    );
-    Ok(())
-}
-
-#[test]
-fn two_members_are_served_one_packet_at_a_time(rt: HostRuntime) -> Result<(), Fail> {
-    let messages = [
-        (A, Word::Fenced),
-        (A, Word::Came(1, 0, 0, 0)),
-        (A, Word::Chunks),
-        (B, Word::Synced(1)),
-        (A, Word::Came(2, 0, 1, 0)),
-        (A, Word::Shared),
-        (B, Word::Synced(1)),
-        (B, Word::Shared),
-        (A, Word::Synced(1)),
-        (A, Word::Came(3, 0, 0, 0)),
-    ];
-    let expected =
-        b"0 install op 7\n2 get op 7\n3 sync op 7 standby\n0 forward packet 1 to 0 live\ndone\n3 sync op 7 standby\n0 forward packet 2 to 1 standby\n2 sync op 7 live\n0 forward packet 3 to 0 live\n";
-    let members = Vec::from_array(rt.alloc(), [0, 1])?;
-    let (text, is_idle) = shared(rt.alloc(), members, &messages)?;
-    assert_eq!(rt; text.items(), expected.as_slice());
-    assert!(rt; !is_idle);
-    Ok(())
-}
-
-#[test]
 fn all_others_of_three_members_are_synced_before_the_next_packet(
     rt: HostRuntime,
 ) -> Result<(), Fail> {
     let messages = [
         (C, Word::Fenced),
         (C, Word::Chunks),
-        (A, Word::Synced(1)),
-        (A, Word::Came(1, 1, 0, 0)),
-        (B, Word::Synced(1)),
-        (A, Word::Came(2, 0, 0, 2)),
+        (A, Word::Synced),
+        (A, Word::Came(1, 1, 0)),
+        (B, Word::Synced),
+        (A, Word::Came(2, 0, 2)),
         (A, Word::Shared),
-        (C, Word::Synced(1)),
-        (B, Word::Synced(1)),
+        (C, Word::Synced),
+        (B, Word::Synced),
     ];
     let expected =
         b"0 install op 7\n4 get op 7\n2 sync op 7 standby\n3 sync op 7 standby\n0 forward packet 1 to 0 standby\ndone\n4 sync op 7 live\n3 sync op 7 standby\n0 forward packet 2 to 1 standby\n";
@@ -296,27 +248,5 @@ fn all_others_of_three_members_are_synced_before_the_next_packet(
     let (text, is_idle) = shared(rt.alloc(), members, &messages)?;
     assert_eq!(rt; text.items(), expected.as_slice());
     assert!(rt; !is_idle);
-    Ok(())
-}
-
-#[test]
-fn sixteen_members_share(rt: HostRuntime) -> Result<(), Fail> {
-    let messages = [
-        (A, Word::Fenced),
-        (A, Word::Chunks),
-        (B, Word::Synced(15)),
-        (A, Word::Came(1, 2, 3, 4)),
-        (17, Word::Shared),
-        (A, Word::Synced(15)),
-    ];
-    let expected =
-        b"0 install op 7\n2 get op 7\n3 sync op 7 standby\n4 sync op 7 standby\n5 sync op 7 standby\n6 sync op 7 standby\n7 sync op 7 standby\n8 sync op 7 standby\n9 sync op 7 standby\n10 sync op 7 standby\n11 sync op 7 standby\n12 sync op 7 standby\n13 sync op 7 standby\n14 sync op 7 standby\n15 sync op 7 standby\n16 sync op 7 standby\n17 sync op 7 standby\ndone\n0 forward packet 1 to 15 standby\n2 sync op 7 live\n3 sync op 7 standby\n4 sync op 7 standby\n5 sync op 7 standby\n6 sync op 7 standby\n7 sync op 7 standby\n8 sync op 7 standby\n9 sync op 7 standby\n10 sync op 7 standby\n11 sync op 7 standby\n12 sync op 7 standby\n13 sync op 7 standby\n14 sync op 7 standby\n15 sync op 7 standby\n16 sync op 7 standby\n";
-    let members = Vec::from_array(
-        rt.alloc(),
-        [0, 1, 2, 3, 4, 5, 6, 7, 8, 9, 10, 11, 12, 13, 14, 15],
-    )?;
-    let (text, is_idle) = shared(rt.alloc(), members, &messages)?;
-    assert_eq!(rt; text.items(), expected.as_slice());
-    assert!(rt; is_idle);
     Ok(())
 }

@@ -289,25 +289,3 @@ fn an_audit_of_a_run_is_its_report(rt: HostRuntime) -> Result<(), Fail> {
     }
     Ok(())
 }
-
-#[test]
-fn a_run_without_its_last_step_is_none_at_that_step(rt: HostRuntime) -> Result<(), Fail> {
-    let alloc = rt.alloc();
-    let choices = scheduled(alloc)?;
-    let step = choices.items().len() as u64;
-    let Some((_last, front)) = choices.items().split_last() else {
-        return Err("no choices".into());
-    };
-    let fault = audited(alloc, front, false)?.err();
-    assert_eq!(rt; fault, Some(AuditFault::NotARun { step }));
-    Ok(())
-}
-
-#[test]
-fn a_choice_that_is_not_enabled_is_no_step(rt: HostRuntime) -> Result<(), Fail> {
-    let first = Choice { node: 0, port: 0 };
-    let absent = Choice { node: 9, port: 0 };
-    let fault = audited(rt.alloc(), &[first, absent, first], false)?.err();
-    assert_eq!(rt; fault, Some(AuditFault::NotARun { step: 2 }));
-    Ok(())
-}
