@@ -62,7 +62,7 @@ module _ {A M N : Type 0} (ready : A → M → Bool) (step : A → ℕ → M →
     pub whole : (s r : ℕ) → s < length w.nodes → r < length w.nodes → taken_at s (hs r) ++ left s r ≡ holds s r ++ put_between step (length w.nodes) s r (node_of w s) (hs s)
     pub within : (j : ℕ) → length w.nodes ≤ j → hs j ≡ []
     pub ports : (j : ℕ) → PortsBelow (length w.nodes) (hs j)
-    pub was_ready : (j : ℕ) → WasReady ready step j (node_of w j) (hs j)
+    pub was_ready : (j : ℕ) → j ≡ 0 → WasReady ready step (node_of w j) (hs j)
 
   -- what a run of these choices does
   pub record RunLeaves (w : Network A M N) (hs : ℕ → List (NodeStep M)) (left : ℕ → ℕ → List (Stamped M)) (cs : List Choice) : Type 0 where

@@ -83,7 +83,7 @@ module _ {A M N : Type 0} (ready : A → M → Bool) (step : A → ℕ → M →
   enabled h =
       let is = h.is in
       let there : slice_get w.nodes k ≡ Some (node_of ready step d w k) = slice_get-get_or w.nodes k d (receiver h) in
-      let was = (rw is at (h.fits.was_ready k)).0 in
+      let was : k ≡ 0 → e.port ≡ 0 → ready (node_of ready step d w k) e.took.message ≡ true = λ first. (rw is at (h.fits.was_ready k first)).0 in
       ap (λ o. takes_first ready (at k e.port) o (waiting w (at k e.port))) there
       ∙ ap (λ ms. takes_first ready (at k e.port) (Some (node_of ready step d w k)) ms) (takes h).waits
       ∙ elim ((k == 0) && (e.port == 0)) as (λ b. (k == 0) && (e.port == 0) ≡ b → (if b then ready (node_of ready step d w k) e.took.message else true) ≡ true) [
@@ -165,8 +165,8 @@ module _ {A M N : Type 0} (ready : A → M → Bool) (step : A → ℕ → M →
         whole = λ s r hs' hr. rw count (whole' h s r (rw count at hs') (rw count at hr));
         within = rw count (λ j past. at_history hs k es (λ y xs. n ≤ y → xs ≡ []) j (λ over. let small = receiver h in absurd (omega arith)) (λ _. h.fits.within j) past);
         ports = rw count (λ j. at_history hs k es (λ y xs. PortsBelow n xs) j (rw is at (h.fits.ports k)).1 (λ _. h.fits.ports j));
-        was_ready = λ j. at_history hs k es (λ y xs. WasReady ready step y (node_of ready step d next y) xs) j
-            (rw own (rw is at (h.fits.was_ready k)).1)
+        was_ready = λ j. at_history hs k es (λ y xs. y ≡ 0 → WasReady ready step (node_of ready step d next y) xs) j
+            (rw own (λ first. (rw is at (h.fits.was_ready k first)).1))
             (λ other. let node = node_other h j other in rw node (h.fits.was_ready j));
       }
 

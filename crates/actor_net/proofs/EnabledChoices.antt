@@ -100,9 +100,9 @@ found_here ready w k p place left count small is less here =
       | false ↦ λ off none. absurd (omega arith)
     ] refl is
 
-slice_get_behind : {X : Type 0} (xs ys : List X) (i : ℕ) → slice_get (xs ++ ys) (length xs + i) ≡ slice_get ys i
-slice_get_behind [] ys i = let e : 0 + i ≡ i = omega arith in rw e refl
-slice_get_behind (x ∷ xs) ys i = let e : suc (length xs) + i ≡ suc (length xs + i) = omega arith in rw e (slice_get_behind xs ys i)
+slice_get_later : {X : Type 0} (xs ys : List X) (i : ℕ) → slice_get (xs ++ ys) (length xs + i) ≡ slice_get ys i
+slice_get_later [] ys i = let e : 0 + i ≡ i = omega arith in rw e refl
+slice_get_later (x ∷ xs) ys i = let e : suc (length xs) + i ≡ suc (length xs + i) = omega arith in rw e (slice_get_later xs ys i)
 
 slice_get_before : {X : Type 0} (xs ys : List X) (i : ℕ) → i < length xs → slice_get (xs ++ ys) i ≡ slice_get xs i
 slice_get_before [] ys i small = absurd (omega arith)
@@ -126,21 +126,21 @@ nodes_prefix ready w k (suc m) below =
 pub node_at : {A M N : Type 0} (ready : A → M → Bool) (w : Network A M N) (k place left : ℕ) → k < length w.nodes → left < length (ports_below ready w k (length w.nodes)) → place ≡ length (nodes_below ready w k) + left → slice_get (enabled_choices ready w) place ≡ slice_get (ports_below ready w k (length w.nodes)) left
 node_at ready w k place left small there is =
     let prefix = nodes_prefix ready w k (length w.nodes) small in
-    rw (prefix.1, is) (slice_get_behind (nodes_below ready w k) _ left ∙ slice_get_before (ports_below ready w k (length w.nodes)) prefix.0 left there)
+    rw (prefix.1, is) (slice_get_later (nodes_below ready w k) _ left ∙ slice_get_before (ports_below ready w k (length w.nodes)) prefix.0 left there)
 
--- where those behind a port aren't enabled, and it is, it is the last of its node
-pub last_here : {A M N : Type 0} (ready : A → M → Bool) (w : Network A M N) (k p behind : ℕ) → is_enabled ready w (at k p) ≡ true → p + 1 + behind ≡ length w.nodes → length (ports_below ready w k (length w.nodes)) ≡ length (ports_below ready w k (length w.nodes - behind)) → slice_get (ports_below ready w k (length w.nodes)) (length (ports_below ready w k (length w.nodes)) - 1) ≡ Some (at k p)
-last_here ready w k p behind is stands all =
-    let next : length w.nodes - behind ≡ suc p = omega arith in
+-- where those after a port aren't enabled, and it is, it is the last of its node
+pub last_here : {A M N : Type 0} (ready : A → M → Bool) (w : Network A M N) (k p passed : ℕ) → is_enabled ready w (at k p) ≡ true → p + 1 + passed ≡ length w.nodes → length (ports_below ready w k (length w.nodes)) ≡ length (ports_below ready w k (length w.nodes - passed)) → slice_get (ports_below ready w k (length w.nodes)) (length (ports_below ready w k (length w.nodes)) - 1) ≡ Some (at k p)
+last_here ready w k p passed is stands all =
+    let next : length w.nodes - passed ≡ suc p = omega arith in
     let more : length (ports_below ready w k (suc p)) ≡ length (ports_below ready w k p) + 1 = ports_counted ready w k p ∙ ap (λ b. length (ports_below ready w k p) + one_if b) is in
     let whole : length (ports_below ready w k (length w.nodes)) ≡ length (ports_below ready w k p) + 1 = all ∙ ap (λ n. length (ports_below ready w k n)) next ∙ more in
     port_at ready w k p (length w.nodes) (length (ports_below ready w k (length w.nodes)) - 1) (omega arith) is (omega arith)
 
 -- where it isn't, none of those from it on is
-pub none_there : {A M N : Type 0} (ready : A → M → Bool) (w : Network A M N) (k p behind : ℕ) → is_enabled ready w (at k p) ≡ false → p + 1 + behind ≡ length w.nodes → length (ports_below ready w k (length w.nodes)) ≡ length (ports_below ready w k (length w.nodes - behind)) → length (ports_below ready w k (length w.nodes)) ≡ length (ports_below ready w k (length w.nodes - (behind + 1)))
-none_there ready w k p behind off stands all =
-    let next : length w.nodes - behind ≡ suc p = omega arith in
-    let here : p ≡ length w.nodes - (behind + 1) = omega arith in
+pub none_there : {A M N : Type 0} (ready : A → M → Bool) (w : Network A M N) (k p passed : ℕ) → is_enabled ready w (at k p) ≡ false → p + 1 + passed ≡ length w.nodes → length (ports_below ready w k (length w.nodes)) ≡ length (ports_below ready w k (length w.nodes - passed)) → length (ports_below ready w k (length w.nodes)) ≡ length (ports_below ready w k (length w.nodes - (passed + 1)))
+none_there ready w k p passed off stands all =
+    let next : length w.nodes - passed ≡ suc p = omega arith in
+    let here : p ≡ length w.nodes - (passed + 1) = omega arith in
     let more : length (ports_below ready w k (suc p)) ≡ length (ports_below ready w k p) + 0 = ports_counted ready w k p ∙ ap (λ b. length (ports_below ready w k p) + one_if b) off in
     let one : length (ports_below ready w k (suc p)) ≡ length (ports_below ready w k p) = omega (arith, more) in
     all ∙ ap (λ n. length (ports_below ready w k n)) next ∙ one ∙ ap (λ n. length (ports_below ready w k n)) here
@@ -149,20 +149,20 @@ none_there ready w k p behind off stands all =
 nodes_counted : {A M N : Type 0} (ready : A → M → Bool) (w : Network A M N) (k : ℕ) → length (nodes_below ready w (suc k)) ≡ length (nodes_below ready w k) + length (ports_below ready w k (length w.nodes))
 nodes_counted ready w k = length-append (nodes_below ready w k) (ports_below ready w k (length w.nodes))
 
--- where no node behind one has a choice, and it has, the last choice is its last
-pub last_node : {A M N : Type 0} (ready : A → M → Bool) (w : Network A M N) (k behind : ℕ) → 0 < length (ports_below ready w k (length w.nodes)) → k + 1 + behind ≡ length w.nodes → length (enabled_choices ready w) ≡ length (nodes_below ready w (length w.nodes - behind)) → slice_get (enabled_choices ready w) (length (enabled_choices ready w) - 1) ≡ slice_get (ports_below ready w k (length w.nodes)) (length (ports_below ready w k (length w.nodes)) - 1)
-last_node ready w k behind some stands all =
-    let next : length w.nodes - behind ≡ suc k = omega arith in
+-- where no node after one has a choice, and it has, the last choice is its last
+pub last_node : {A M N : Type 0} (ready : A → M → Bool) (w : Network A M N) (k passed : ℕ) → 0 < length (ports_below ready w k (length w.nodes)) → k + 1 + passed ≡ length w.nodes → length (enabled_choices ready w) ≡ length (nodes_below ready w (length w.nodes - passed)) → slice_get (enabled_choices ready w) (length (enabled_choices ready w) - 1) ≡ slice_get (ports_below ready w k (length w.nodes)) (length (ports_below ready w k (length w.nodes)) - 1)
+last_node ready w k passed some stands all =
+    let next : length w.nodes - passed ≡ suc k = omega arith in
     let whole : length (enabled_choices ready w) ≡ length (nodes_below ready w k) + length (ports_below ready w k (length w.nodes)) = all ∙ ap (λ n. length (nodes_below ready w n)) next ∙ nodes_counted ready w k in
     node_at ready w k (length (enabled_choices ready w) - 1) (length (ports_below ready w k (length w.nodes)) - 1) (omega arith) (omega arith) (omega arith)
 
 -- the same of the first node, also where it has none
-pub last_first : {A M N : Type 0} (ready : A → M → Bool) (w : Network A M N) (k behind : ℕ) → k ≡ 0 → k + 1 + behind ≡ length w.nodes → length (enabled_choices ready w) ≡ length (nodes_below ready w (length w.nodes - behind)) → slice_get (enabled_choices ready w) (length (enabled_choices ready w) - 1) ≡ slice_get (ports_below ready w k (length w.nodes)) (length (ports_below ready w k (length w.nodes)) - 1)
-last_first ready w k behind zeroth stands all =
+pub last_first : {A M N : Type 0} (ready : A → M → Bool) (w : Network A M N) (k passed : ℕ) → k ≡ 0 → k + 1 + passed ≡ length w.nodes → length (enabled_choices ready w) ≡ length (nodes_below ready w (length w.nodes - passed)) → slice_get (enabled_choices ready w) (length (enabled_choices ready w) - 1) ≡ slice_get (ports_below ready w k (length w.nodes)) (length (ports_below ready w k (length w.nodes)) - 1)
+last_first ready w k passed zeroth stands all =
     elim (cases_lt 0 (length (ports_below ready w k (length w.nodes)))) [
-      | inl some ↦ last_node ready w k behind some stands all
+      | inl some ↦ last_node ready w k passed some stands all
       | inr none ↦
-          let next : length w.nodes - behind ≡ suc k = omega arith in
+          let next : length w.nodes - passed ≡ suc k = omega arith in
           let below : length (nodes_below ready w k) ≡ 0 = rw zeroth refl in
           let counted = nodes_counted ready w k in
           let whole : length (enabled_choices ready w) ≡ length (nodes_below ready w (suc k)) = all ∙ ap (λ n. length (nodes_below ready w n)) next in
@@ -171,10 +171,10 @@ last_first ready w k behind zeroth stands all =
     ]
 
 -- where it hasn't, no node from it on has
-pub no_choice : {A M N : Type 0} (ready : A → M → Bool) (w : Network A M N) (k behind : ℕ) → length (ports_below ready w k (length w.nodes)) ≡ 0 → k + 1 + behind ≡ length w.nodes → length (enabled_choices ready w) ≡ length (nodes_below ready w (length w.nodes - behind)) → length (enabled_choices ready w) ≡ length (nodes_below ready w (length w.nodes - (behind + 1)))
-no_choice ready w k behind none stands all =
-    let next : length w.nodes - behind ≡ suc k = omega arith in
-    let here : k ≡ length w.nodes - (behind + 1) = omega arith in
+pub no_choice : {A M N : Type 0} (ready : A → M → Bool) (w : Network A M N) (k passed : ℕ) → length (ports_below ready w k (length w.nodes)) ≡ 0 → k + 1 + passed ≡ length w.nodes → length (enabled_choices ready w) ≡ length (nodes_below ready w (length w.nodes - passed)) → length (enabled_choices ready w) ≡ length (nodes_below ready w (length w.nodes - (passed + 1)))
+no_choice ready w k passed none stands all =
+    let next : length w.nodes - passed ≡ suc k = omega arith in
+    let here : k ≡ length w.nodes - (passed + 1) = omega arith in
     let more = nodes_counted ready w k in
     let one : length (nodes_below ready w (suc k)) ≡ length (nodes_below ready w k) = omega (arith, more, none) in
     all ∙ ap (λ n. length (nodes_below ready w n)) next ∙ one ∙ ap (λ n. length (nodes_below ready w n)) here

@@ -26,5 +26,5 @@ module _ {A M N : Type 0} (ready : A → M → Bool) (step : A → ℕ → M →
       (run_without_fault ready step 0 cs w both.0, both.1)
 
   -- a fault is the first choice that isn't enabled
-  pub replayed_fault : (index : ℕ) → replayed ready step cs w ≡ Err (NotEnabled index) → FirstFault ready step cs w index
+  pub replayed_fault : (index : ℕ) → replayed ready step cs w ≡ Err (NotEnabled index) → FirstFault ready step (record { choices = cs; index = index }) w
   replayed_fault index is = first_fault ready step cs w index (fault_of_err (fault_from ready step 0 cs w) (run step cs w) index is)

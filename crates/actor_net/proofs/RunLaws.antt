@@ -45,14 +45,14 @@ module _ {A M N : Type 0} (ready : A → M → Bool) (step : A → ℕ → M →
   no_fault at [] w is = refl
   no_fault at (c ∷ cs) w is = let on = is.0 in rw on (no_fault (at + 1) cs (taken step w c) is.1)
 
-  fault_later : (i at : ℕ) (c : Choice) (cs : List Choice) (w : Network A M N) → is_enabled ready w c ≡ true → FirstFault ready step cs (taken step w c) i → FirstFault ready step (c ∷ cs) w (suc i)
+  fault_later : (i at : ℕ) (c : Choice) (cs : List Choice) (w : Network A M N) → is_enabled ready w c ≡ true → FirstFault ready step (record { choices = cs; index = i }) (taken step w c) → FirstFault ready step (record { choices = c ∷ cs; index = suc i }) w
   fault_later i at c cs w on f = record { choice = f.choice; there = f.there; is_run = (on, f.is_run); refused = f.refused }
 
   -- what the first fault means, where the first of the choices stands at a place
-  fault_means : (at place : ℕ) (cs : List Choice) (w : Network A M N) → fault_from ready step at cs w ≡ Some place → (i : ℕ) × (place ≡ at + i) × FirstFault ready step cs w i
+  fault_means : (at place : ℕ) (cs : List Choice) (w : Network A M N) → fault_from ready step at cs w ≡ Some place → (i : ℕ) × (place ≡ at + i) × FirstFault ready step (record { choices = cs; index = i }) w
   fault_means at place [] w never = cc
   fault_means at place (c ∷ cs) w is =
-      elim (is_enabled ready w c) as (λ b. is_enabled ready w c ≡ b → (if b then fault_from ready step (at + 1) cs (taken step w c) else Some at) ≡ Some place → (i : ℕ) × (place ≡ at + i) × FirstFault ready step (c ∷ cs) w i) [
+      elim (is_enabled ready w c) as (λ b. is_enabled ready w c ≡ b → (if b then fault_from ready step (at + 1) cs (taken step w c) else Some at) ≡ Some place → (i : ℕ) × (place ≡ at + i) × FirstFault ready step (record { choices = c ∷ cs; index = i }) w) [
         | true ↦ λ on rest.
             let later = fault_means (at + 1) place cs (taken step w c) rest in
             let where_is = later.1 in
@@ -62,12 +62,12 @@ module _ {A M N : Type 0} (ready : A → M → Bool) (step : A → ℕ → M →
             (0, omega arith, record { choice = c; there = refl; is_run = tt; refused = off })
       ] refl is
 
-  pub first_fault : (cs : List Choice) (w : Network A M N) (index : ℕ) → fault_from ready step 0 cs w ≡ Some index → FirstFault ready step cs w index
+  pub first_fault : (cs : List Choice) (w : Network A M N) (index : ℕ) → fault_from ready step 0 cs w ≡ Some index → FirstFault ready step (record { choices = cs; index = index }) w
   first_fault cs w index is =
       let means = fault_means 0 index cs w is in
       let where_is = means.1 in
       let same : means.0 ≡ index = omega arith in
-      subst (λ i. FirstFault ready step cs w i) same means.2
+      subst (λ i. FirstFault ready step (record { choices = cs; index = i }) w) same means.2
 
 -- the world after one more choice
 pub run_more : {A M N : Type 0} (step : A → ℕ → M → Stepped A M N) (cs : List Choice) (c : Choice) (start w : Network A M N) → w ≡ run step cs start → taken step w c ≡ run step (cs ++ c ∷ []) start

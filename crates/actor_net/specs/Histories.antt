@@ -68,11 +68,11 @@ abbrev pub PortsBelow : {M : Type 0} → ℕ → List (NodeStep M) → Type 0
 PortsBelow n [] = Unit {0}
 PortsBelow n (e ∷ es) = (e.port < n) × PortsBelow n es
 
--- whenever these steps of node k took from the input, the node was ready for what it took
-abbrev pub WasReady : {A M N : Type 0} → (A → M → Bool) → (A → ℕ → M → Stepped A M N) → ℕ → A → List (NodeStep M) → Type 0
-WasReady ready step k node [] = Unit {0}
-WasReady ready step k node (e ∷ es) =
-    (k ≡ 0 → e.port ≡ 0 → ready node e.took.message ≡ true) × WasReady ready step k (does step node e).node es
+-- whenever these steps of node 0 took from the input, the node was ready for what it took
+abbrev pub WasReady : {A M N : Type 0} → (A → M → Bool) → (A → ℕ → M → Stepped A M N) → A → List (NodeStep M) → Type 0
+WasReady ready step node [] = Unit {0}
+WasReady ready step node (e ∷ es) =
+    (e.port ≡ 0 → ready node e.took.message ≡ true) × WasReady ready step (does step node e).node es
 
 -- a list without its first, where there is one
 abbrev pub without_first_list : {X : Type 0} → List X → List X

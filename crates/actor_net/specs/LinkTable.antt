@@ -2,6 +2,7 @@
 -- something. This project's own.
 use Rattle.std.specs.Prelude.{◌≡◌, ◌<◌, ◌+◌, ◌*◌, ℕ, zero, suc, List, [], ◌∷◌, length, slice_index_or, slice_set}
 use Rattle.actor_net.specs.declared.choice.Choice.{Choice}
+use Rattle.actor_net.specs.Network.{node_numbers}
 
 -- the links of so many nodes: that from s to r stands at place s * nodes + r
 pub record LinkLists (M : Type 0) : Type 0 where
@@ -42,7 +43,7 @@ all_held links (suc to) = all_held links to + held_below links to links.nodes
 
 -- what is kept beside the links: for each node how many of the links to it hold something, and how many links do
 pub record AreCounts {M : Type 0} (links : LinkLists M) (counts : List ℕ) (all : ℕ) : Type 0 where
-  pub few : links.nodes < 256
+  pub few : links.nodes < node_numbers
   pub square : length links.lists ≡ links.nodes * links.nodes
   pub each : (k : ℕ) → k < links.nodes → slice_index_or counts k 0 ≡ held_below links k links.nodes
   pub whole : all ≡ all_held links links.nodes

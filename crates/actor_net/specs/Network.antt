@@ -109,9 +109,13 @@ fault_from ready step at (c ∷ cs) w =
 abbrev pub is_done : {A M N : Type 0} → (A → Bool) → Network A M N → Bool
 is_done ended w = (length w.input == 0) && list_all (λ l. length l == 0) w.links && list_all ended w.nodes
 
--- what holds of every world: 1 to 255 nodes, a link for each ordered pair of them, and nothing on the link of node 0 to itself
+-- so many numbers a node can have: those of a byte
+abbrev pub node_numbers : ℕ
+node_numbers = 256
+
+-- what holds of every world: some nodes, fewer than the numbers that they can have, a link for each ordered pair of them, and nothing on the link of node 0 to itself
 pub record IsWorld {A M N : Type 0} (w : Network A M N) : Type 0 where
   pub some_node : 0 < length w.nodes
-  pub few_nodes : length w.nodes < 256
+  pub few_nodes : length w.nodes < node_numbers
   pub square : length w.links ≡ length w.nodes * length w.nodes
   pub no_loop : slice_index_or w.links 0 [] ≡ []

@@ -14,9 +14,14 @@ world_or_fault (Some index) w = Err (NotEnabled index)
 abbrev pub replayed : {A M N : Type 0} → (A → M → Bool) → (A → ℕ → M → Stepped A M N) → List Choice → Network A M N → Result (Network A M N) ReplayFault
 replayed ready step cs w = world_or_fault (fault_from ready step 0 cs w) (run step cs w)
 
+-- a place among choices, from 0
+pub record ChoicePlace : Type 0 where
+  pub choices : List Choice
+  pub index : ℕ
+
 -- the choice at a place is the first that isn't enabled in its turn: those before it are a run, and it isn't enabled after them
-pub record FirstFault {A M N : Type 0} (ready : A → M → Bool) (step : A → ℕ → M → Stepped A M N) (cs : List Choice) (w : Network A M N) (index : ℕ) : Type 0 where
+pub record FirstFault {A M N : Type 0} (ready : A → M → Bool) (step : A → ℕ → M → Stepped A M N) (at : ChoicePlace) (w : Network A M N) : Type 0 where
   pub choice : Choice
-  pub there : slice_get cs index ≡ Some choice
-  pub is_run : IsRun ready step (take index cs) w
-  pub refused : is_enabled ready (run step (take index cs) w) choice ≡ false
+  pub there : slice_get at.choices at.index ≡ Some choice
+  pub is_run : IsRun ready step (take at.index at.choices) w
+  pub refused : is_enabled ready (run step (take at.index at.choices) w) choice ≡ false

@@ -14,7 +14,7 @@ pub struct Choice {
 pub type Choices = Sequence<Choice>;
 
 impl Choice {
-    ghost use Rattle.actor_net.specs.Network.{is_input};
+    ghost use Rattle.actor_net.specs.Network.{is_input, node_numbers};
 
     /// Whether it takes from the input.
     #[inline(always)]
@@ -27,7 +27,7 @@ impl Choice {
     /// The place of its link among those of so many nodes: one row of receivers for each sender. The input is place 0.
     #[inline(always)]
     pub(crate) fn place(self, nodes: usize) -> usize
-        requires { (self.node < nodes) × (self.port < nodes) × (nodes < 256) }
+        requires { (self.node < nodes) × (self.port < nodes) × (nodes < node_numbers) }
         ensures value { result ≡ self.port * nodes + self.node }
         ensures small { result < nodes * nodes }
     {

@@ -1,6 +1,7 @@
 //! The links between all pairs of nodes, with counts of those that hold something.
 ghost use Rattle.std.specs.Prelude.{◌≡◌, ◌==◌, ◌<◌, ◌+◌, ◌*◌, ◌^◌, ℕ, [], ◌∷◌, ◌++◌, length, drop, replicate, OnOk, OnErr, IfOk, MatchOption};
 ghost use Rattle.std.specs.List.{list_all};
+ghost use Rattle.actor_net.specs.Network.{node_numbers};
 ghost use Rattle.actor_net.specs.LinkTable.{LinkLists, IsWithin, link_of, with_link, held_below, all_held};
 
 use super::choice::Choice;
@@ -36,7 +37,7 @@ impl<M> LinkTable<M> {
     pub fn open(alloc: Global, nodes: usize) -> Result<Self, NoMemory>
     where
         M: Drop,
-        requires { nodes < 256 }
+        requires { nodes < node_numbers }
         ensures { IfOk result (λ t. t ≡ record { nodes = nodes; lists = replicate (nodes * nodes) [] }) }
     {
         let mut links = Vec::with_capacity(alloc, nodes * nodes)?;
@@ -58,7 +59,7 @@ impl<M> LinkTable<M> {
     ) -> Result<Self, NoMemory>
     where
         M: Drop,
-        requires nodes { nodes < 256 }
+        requires nodes { nodes < node_numbers }
         requires square { length lists ≡ nodes * nodes }
         ensures { IfOk result (λ t. t ≡ record { nodes = nodes; lists = lists }) }
     {
@@ -160,6 +161,7 @@ impl<M> LinkTable<M> {
     }
 }
 
+/// Links that hold these lists, in their order.
 fn links_of<M: Drop>(alloc: Global, lists: Sequence<Sequence<M>>) -> Result<Vec<Link<M>>, NoMemory>
     ensures { IfOk result (λ links. links.items ≡ lists) }
 {
@@ -171,8 +173,9 @@ fn links_of<M: Drop>(alloc: Global, lists: Sequence<Sequence<M>>) -> Result<Vec<
     Ok(links)
 }
 
+/// How many of the links to a node hold something, counted anew.
 fn count_to<M>(nodes: usize, node: u8, links: &[Link<M>]) -> u8
-    requires { (node < nodes) × (nodes < 256) × (length links.now ≡ nodes * nodes) }
+    requires { (node < nodes) × (nodes < node_numbers) × (length links.now ≡ nodes * nodes) }
     ensures { result ≡ held_below (record { nodes = nodes; lists = links.now }) node nodes }
 {
     let mut count = 0;
@@ -184,6 +187,7 @@ fn count_to<M>(nodes: usize, node: u8, links: &[Link<M>]) -> u8
     count
 }
 
+/// Whether none of these links holds anything.
 fn all_empty<M>(links: &[Link<M>]) -> bool
     ensures { result ≡ list_all (λ l. length l == 0) links.now }
 {

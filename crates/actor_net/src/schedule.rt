@@ -87,6 +87,7 @@ enum Picker {
 }
 
 impl Picker {
+    /// The schedule before its first choice.
     fn open(schedule: Schedule) -> Self
         ensures { schedule_of result ≡ schedule }
     {

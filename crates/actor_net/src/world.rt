@@ -1,6 +1,6 @@
 ghost use Rattle.std.specs.Prelude.{◌≡◌, ◌==◌, ◌<◌, ◌-◌, ◌*◌, ℕ, Bool, true, false, List, [], ◌∷◌, length, drop, map, replicate, slice_get, slice_index_or, Some, OnOk, OnErr, IfOk, IsErrOf};
 ghost use Rattle.std.specs.List.{list_all};
-ghost use Rattle.actor_net.specs.Network.{Network, Stepped, IsWorld, is_enabled, taken, is_done, waiting, without_first, after, delivered, put_on, reaches};
+ghost use Rattle.actor_net.specs.Network.{Network, Stepped, node_numbers, IsWorld, is_enabled, taken, is_done, waiting, without_first, after, delivered, put_on, reaches};
 ghost use Rattle.actor_net.specs.Schedules.{ports_below, enabled_choices};
 
 use super::actor::Actor;
@@ -39,7 +39,7 @@ impl<A: Actor> World<A> {
 
     /// The world at its start: nothing on a link and nothing noted.
     pub fn start(alloc: Global, nodes: Vec<A>, items: Vec<A::Message>) -> Result<World<A>, NoMemory>
-        requires { (0 < length nodes.items) × (length nodes.items < 256) }
+        requires { (0 < length nodes.items) × (length nodes.items < node_numbers) }
         ensures { IfOk result (λ w. w ≡ opening nodes.items items.items) }
     {
         let links = LinkTable::open(alloc, nodes.len())?;
@@ -150,6 +150,7 @@ impl<A: Actor> World<A> {
         self.input.is_empty() && self.links.all_empty() && all_ended(self.nodes.as_slice())
     }
 
+    /// The message that an enabled choice takes, taken out.
     #[inline(always)]
     fn take_first(&mut self, choice: Choice) -> A::Message
         requires { is_enabled A.is_ready self.old choice ≡ true }
@@ -230,8 +231,8 @@ impl<A: Actor> World<A> {
             return self.input_ready().then_some(Choice { node: 0, port: 0 });
         }
         let nodes = self.nodes.len() as u8;
-        for behind in 0..nodes {
-            let node = nodes - 1 - behind;
+        for passed in 0..nodes {
+            let node = nodes - 1 - passed;
             if node == 0 {
                 return self.last_of(node);
             }
@@ -254,8 +255,8 @@ impl<A: Actor> World<A> {
         ensures { result ≡ slice_get (ports_below A.is_ready self.now node (length self.now.nodes)) (length (ports_below A.is_ready self.now node (length self.now.nodes)) - 1) }
     {
         let nodes = self.nodes.len() as u8;
-        for behind in 0..nodes {
-            let port = nodes - 1 - behind;
+        for passed in 0..nodes {
+            let port = nodes - 1 - passed;
             let choice = Choice { node, port };
             if self.enabled_within(choice) {
                 return Some(choice);
@@ -326,6 +327,7 @@ impl From<AllocError> for TakeFault {
     }
 }
 
+/// Whether each node has ended.
 fn all_ended<A: Actor>(nodes: &[A]) -> bool
     ensures { result ≡ list_all A.has_ended nodes.now }
 {
@@ -341,7 +343,7 @@ fn deliver<M: Drop, N>(
     outbox: &mut Outbox<M, N>,
     links: &mut LinkTable<M>,
 ) -> Result<(), NoMemory>
-    requires nodes { (from < nodes) × (nodes < 256) }
+    requires nodes { (from < nodes) × (nodes < node_numbers) }
     requires square { (links.old.nodes ≡ nodes) × (length links.old.lists ≡ nodes * nodes) }
     ensures links { OnOk result (links.new.lists ≡ delivered nodes from outbox.old.0 links.old.lists) }
     ensures outbox { outbox.new ≡ ([], outbox.old.1) }
@@ -361,6 +363,7 @@ fn deliver<M: Drop, N>(
     Ok(())
 }
 
+/// The same, for what is left after the first message.
 #[cold]
 #[inline(never)]
 fn deliver_rest<M: Drop, N>(
@@ -369,7 +372,7 @@ fn deliver_rest<M: Drop, N>(
     outbox: &mut Outbox<M, N>,
     links: &mut LinkTable<M>,
 ) -> Result<(), NoMemory>
-    requires nodes { (from < nodes) × (nodes < 256) }
+    requires nodes { (from < nodes) × (nodes < node_numbers) }
     requires square { (links.old.nodes ≡ nodes) × (length links.old.lists ≡ nodes * nodes) }
     ensures links { OnOk result (links.new.lists ≡ delivered nodes from outbox.old.0 links.old.lists) }
     ensures outbox { outbox.new ≡ ([], outbox.old.1) }
@@ -394,7 +397,7 @@ fn put<M: Drop>(
     message: M,
     links: &mut LinkTable<M>,
 ) -> Result<(), NoMemory>
-    requires nodes { (from < nodes) × (nodes < 256) }
+    requires nodes { (from < nodes) × (nodes < node_numbers) }
     requires square { (links.old.nodes ≡ nodes) × (length links.old.lists ≡ nodes * nodes) }
     ensures links { OnOk result (links.new.lists ≡ put_on nodes from (to, message) links.old.lists) }
     ensures count { (links.new.nodes ≡ nodes) × (length links.new.lists ≡ nodes * nodes) }

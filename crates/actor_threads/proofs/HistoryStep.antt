@@ -51,7 +51,7 @@ module _ {A M N : Type 0} (step : A → ℕ → M → Stepped A M N) where
         | false ↦ refl
       ]
 
-  pub ready-snoc : (ready : A → M → Bool) (k : ℕ) (a : A) (es : List (NodeStep M)) (e : NodeStep M) → WasReady ready step k a es
-      → (k ≡ 0 → e.port ≡ 0 → ready (node_after step a es) e.took.message ≡ true) → WasReady ready step k a (es ++ e ∷ [])
-  ready-snoc ready k a [] e w h = (h, tt)
-  ready-snoc ready k a (x ∷ xs) e w h = (w.0, ready-snoc ready k (does step a x).node xs e w.1 h)
+  pub ready-snoc : (ready : A → M → Bool) (a : A) (es : List (NodeStep M)) (e : NodeStep M) → WasReady ready step a es
+      → (e.port ≡ 0 → ready (node_after step a es) e.took.message ≡ true) → WasReady ready step a (es ++ e ∷ [])
+  ready-snoc ready a [] e w h = (h, tt)
+  ready-snoc ready a (x ∷ xs) e w h = (w.0, ready-snoc ready (does step a x).node xs e w.1 h)

@@ -41,7 +41,7 @@ module _ {N : Type 0} where
   none [] e = refl
   none (x ∷ xs) e = absurd (omega arith)
 
-  -- one more list behind the others
+  -- one more list after the others
   pub by_counts-snoc : (counts : List ℕ) (all more : List N) (count : ℕ) → sum counts ≡ length all → count ≡ length more → by_counts (counts ++ count ∷ []) (all ++ more) ≡ by_counts counts all ++ more ∷ []
   by_counts-snoc [] all more count s c = rw (none all s, c, take-length more)
   by_counts-snoc (k ∷ ks) all more count s c = let first = sum_by-cons (λ x. x) k ks in let within : k ≤ length all = omega (arith, first) in let rest : sum ks ≡ length (drop k all) = omega (arith, first, length-drop k all) in

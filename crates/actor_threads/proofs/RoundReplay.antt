@@ -104,9 +104,9 @@ module _ {A M N : Type 0} (ready : A → M → Bool) (step : A → ℕ → M →
   ports_is : (j : ℕ) → PortsBelow n (node_steps j)
   ports_is = each (λ _ es. PortsBelow n es) (λ j h. let k = (pick j).1.0 h in subst (λ (v : ℕ × List (NodeStep M)). PortsBelow v.0 v.1) (λ i. ((starts j h).count_ins i, k.1 i)) k.0.ports) (λ _. tt)
 
-  ready_is : (j : ℕ) → WasReady ready step j (node_at j) (node_steps j)
-  ready_is = each (λ j es. WasReady ready step j (node_at j) es)
-      (λ j h. let k = (pick j).1.0 h in subst (λ (v : ℕ × A × List (NodeStep M)). WasReady ready step v.0 v.1 v.2) (λ i. ((starts j h).number i, (starts j h).node d i, k.1 i)) k.0.was_ready) (λ _. tt)
+  ready_is : (j : ℕ) → j ≡ 0 → WasReady ready step (node_at j) (node_steps j)
+  ready_is = each (λ j es. j ≡ 0 → WasReady ready step (node_at j) es)
+      (λ j h. let k = (pick j).1.0 h in subst (λ (v : ℕ × A × List (NodeStep M)). v.0 ≡ 0 → WasReady ready step v.1 v.2) (λ i. ((starts j h).number i, (starts j h).node d i, k.1 i)) k.0.was_ready) (λ _ _. tt)
 
   pub rise_is : (j : ℕ) → ClocksRise 0 (node_steps j)
   rise_is = each (λ _ es. ClocksRise 0 es) (λ j h. let k = (pick j).1.0 h in subst (λ (v : ℕ × List (NodeStep M)). ClocksRise v.0 v.1) (λ i. ((starts j h).clock i, k.1 i)) (rises _ _ k.0.ticks)) (λ _. tt)

@@ -61,7 +61,7 @@ module _ {A M N : Type 0} (ready : A → M → Bool) (step : A → ℕ → M →
     taken = λ p h. record { draws = drew_nothing refl refl refl; closed = λ _. refl };
     sent = λ r h. record { all = sym (ap (λ l. (out_at w.outs r).all ++ l) (put_nothing step (length w.outs) w.number r w.node) ∙ append-nil _); link = refl };
     ports = tt;
-    was_ready = tt;
+    was_ready = λ _. tt;
     ticks = tt;
     clock = refl;
   }
@@ -134,7 +134,7 @@ module _ {A M N : Type 0} (ready : A → M → Bool) (step : A → ℕ → M →
       taken = taken_is;
       sent = sent_is;
       ports = ports-snoc (length old.ins) w.node_steps e w.ports (subst (λ k. p < k) w.count_ins f.within);
-      was_ready = ready-snoc step ready old.number old.node w.node_steps e w.was_ready (λ n q. subst (λ b. ready b x.message ≡ true) w.node (f.was_ready (w.number ∙ n) q));
+      was_ready = λ first. ready-snoc step ready old.node w.node_steps e (w.was_ready first) (λ q. subst (λ b. ready b x.message ≡ true) w.node (f.was_ready (w.number ∙ first) q));
       ticks = ticks-snoc old.clock w.node_steps e w.ticks (ap (λ k. tick k x) clock_is);
       clock = ap (λ (v : WorkerView A M N). v.clock) a.rest ∙ sym (clock_after-snoc old.clock w.node_steps e);
     }

@@ -68,7 +68,7 @@ module _ {M : Type 0} where
   abbrev pub closing : List (List (Incoming M)) → List (List M) → Closing M
   closing ins lists = record { ins = ins; lists = lists }
 
-  -- the links of one sender to the first k receivers are closed: each of these has one way in less, and the lists stand behind those before
+  -- the links of one sender to the first k receivers are closed: each of these has one way in less, and the lists stand after those before
   pub record RowClosed (k : ℕ) (row : List (Outgoing M)) (old new : Closing M) : Type 0 where
     pub rows : length new.ins ≡ length old.ins
     pub count : length new.lists ≡ length old.lists + k

@@ -8,7 +8,7 @@ abbrev pub zeros_then : ℕ → List ℕ → List ℕ
 zeros_then zero counts = counts
 zeros_then (suc k) counts = 0 ∷ zeros_then k counts
 
--- the counts of all steps; so many behind the last run noted nothing
+-- the counts of all steps; so many steps after the last run noted nothing
 abbrev pub counts_of : List Run → ℕ → List ℕ
 counts_of [] silent = zeros_then silent []
 counts_of (run ∷ runs) silent = zeros_then run.silent (run.count ∷ counts_of runs silent)

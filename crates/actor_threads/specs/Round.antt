@@ -62,7 +62,7 @@ module _ {M : Type 0} where
     pub count : length links ≡ k * n
     pub closed : (s r : ℕ) → s < k → r < n → Closed (in_at (row_at ways.ins r) s) (out_at (row_at ways.outs s) r) (row_at links (s * n + r))
 
--- what workers leave behind a round: their nodes, their histories, the notes of their steps and their ways; and the log from before it
+-- what workers leave after a round: their nodes, their histories, the notes of their steps and their ways; and the log from before it
 pub record RoundLeft (A M N : Type 0) : Type 0 where
   pub nodes : List A
   pub histories : List History
@@ -70,7 +70,7 @@ pub record RoundLeft (A M N : Type 0) : Type 0 where
   pub ways : WayTable M
   pub log : List N
 
--- what is gathered behind a round: the choices are the merge of the histories, each link has its list, that of the first is the input, and the notes stand behind the log
+-- what is gathered after a round: the choices are the merge of the histories, each link has its list, that of the first is the input, and the notes stand after the log
 pub record Gathered {A M N : Type 0} (left : RoundLeft A M N) (world : Network A M N) (choices : List Choice) : Type 0 where
   pub links : List (List M)
   pub closed : AllClosed (length left.nodes) (length left.nodes) left.ways links

@@ -38,7 +38,7 @@ pub record Draws {M : Type 0} (old new : Incoming M) (used : List (Stamped M)) :
   pub whole : old.kept ++ grown ≡ used ++ new.kept
   pub link : new.link ≡ old.link
 
--- these messages were sent behind those before, or wait
+-- these messages were sent after those before, or wait
 pub record Sends {M : Type 0} (old new : Outgoing M) (sent : List (Stamped M)) : Type 0 where
   pub all : new.all ≡ old.all ++ sent
   pub link : new.link ≡ old.link

@@ -133,7 +133,7 @@ module _ {A M N : Type 0} where
   abbrev pub IsQuiet : (A → M → Bool) → WorkerView A M N → Type 0
   IsQuiet ready w = (p : ℕ) → p < length w.ins → IsQuietAt ready w p
 
-  -- a worker did these steps: its node is their result, on each port they took a prefix of what was kept and then taken, and what they sent, with their clocks as stamps, stands behind what was sent before
+  -- a worker did these steps: its node is their result, on each port they took a prefix of what was kept and then taken, and what they sent, with their clocks as stamps, stands after what was sent before
   pub record Worked (ready : A → M → Bool) (step : A → ℕ → M → Stepped A M N) (old new : WorkerView A M N) : Type 0 where
     pub node_steps : List (NodeStep M)
     pub number : new.number ≡ old.number
@@ -145,7 +145,7 @@ module _ {A M N : Type 0} where
     pub taken : (p : ℕ) → p < length old.ins → DrawsAt (is_input_of old.number p) (in_at old.ins p) (in_at new.ins p) (taken_at p node_steps)
     pub sent : (r : ℕ) → r < length old.outs → Sends (out_at old.outs r) (out_at new.outs r) (put_between step (length old.outs) old.number r old.node node_steps)
     pub ports : PortsBelow (length old.ins) node_steps
-    pub was_ready : WasReady ready step old.number old.node node_steps
+    pub was_ready : old.number ≡ 0 → WasReady ready step old.node node_steps
     pub ticks : Ticks old.clock node_steps
     pub clock : new.clock ≡ clock_after old.clock node_steps
 

@@ -1,7 +1,7 @@
 //! A round: all workers run beside each other, and then the world is made anew.
 ghost use Rattle.std.specs.Prelude.{◌≡◌, ◌≢◌, ◌↔◌, false, ◌<◌, ◌+◌, ◌*◌, ◌++◌, ℕ, List, true, [], ◌∷◌, length, map, IfOk, OnOk, All};
 ghost use Rattle.std.specs.List.{list_all};
-ghost use Rattle.actor_net.specs.Network.{IsWorld, IsRun, run, is_enabled, is_done};
+ghost use Rattle.actor_net.specs.Network.{node_numbers, IsWorld, IsRun, run, is_enabled, is_done};
 ghost use Rattle.actor_net.specs.Histories.{dealt};
 ghost use Rattle.actor_net.specs.declared.choice.Choice.{Choice};
 ghost use Rattle.actor_threads.specs.Groups.{IsInRound, has_run};
@@ -121,7 +121,7 @@ fn worker_of<A: Actor>(
     takes: Vec<TakeEnd<Batch<A::Message>>>,
     sends: Vec<SendEnd<Batch<A::Message>>>,
 ) -> Result<Worker<A>, NoMemory>
-    requires count { (number < length takes.items) × (length takes.items < 256) }
+    requires count { (number < length takes.items) × (length takes.items < node_numbers) }
     requires square { length links.old.items ≡ length takes.items * length takes.items }
     requires ends { length sends.items ≡ length takes.items }
     requires input { (number ≡ 0 → row_at links.old.items 0 ≡ []) × (number ≢ 0 → input.items ≡ []) }
@@ -140,7 +140,7 @@ fn column<M: Drop>(
     count: usize,
     node: usize,
 ) -> Result<Vec<Vec<M>>, NoMemory>
-    requires count { (node < count) × (count < 256) }
+    requires count { (node < count) × (count < node_numbers) }
     requires square { length links.old.items ≡ count * count }
     ensures kept { IfOk result (λ kept. length kept.items ≡ count) }
     ensures lists { IfOk result (λ kept. (p : ℕ) → p < count → row_at (map (λ v. v.items) kept.items) p ≡ row_at links.old.items (p * count + node)) }
@@ -158,13 +158,14 @@ fn column<M: Drop>(
 
 /// The place of the link from one node to another.
 fn place(count: usize, from: usize, to: usize) -> usize
-    requires { (from < count) × (to < count) × (count < 256) }
+    requires { (from < count) × (to < count) × (count < node_numbers) }
     ensures value { result ≡ from * count + to }
     ensures small { result < count * count }
 {
     from * count + to
 }
 
+/// What all workers left. Out of memory where one of them was.
 fn take_apart<A: Actor>(alloc: Global, members: Vec<Member<A>>) -> Result<RoundParts<A>, NoMemory>
     ensures done { OnOk result (list_all has_run members.items ≡ true) }
     ensures nodes { IfOk result (λ f. f.nodes.items ≡ map (λ s. s.worker.node) members.items) }
@@ -195,6 +196,7 @@ struct RoundParts<A: Actor> {
 }
 
 impl<A: Actor> RoundParts<A> {
+    /// Nothing yet, with room for so many workers.
     fn open(alloc: Global, count: usize) -> Result<Self, NoMemory>
         ensures { IfOk result (λ f. (f.nodes.items ≡ []) × (f.histories.items ≡ []) × (f.notes.items ≡ []) × (f.ins.items ≡ []) × (f.outs.items ≡ [])) }
     {
@@ -207,6 +209,7 @@ impl<A: Actor> RoundParts<A> {
         })
     }
 
+    /// Adds what the next worker left.
     fn add(&mut self, worker: Worker<A>) -> Result<(), NoMemory>
         ensures nodes { OnOk result (self.new.nodes.items ≡ self.old.nodes.items ++ worker.node ∷ []) }
         ensures histories { OnOk result (self.new.histories.items ≡ self.old.histories.items ++ record { node = worker.number; steps = worker.steps } ∷ []) }
@@ -234,7 +237,7 @@ fn gather<R: Wait, A: Actor>(
     round_parts: RoundParts<A>,
     mut log: Vec<A::Note>,
 ) -> Result<(World<A>, Choices), NoMemory>
-    requires some { (0 < length round_parts.nodes.items) × (length round_parts.nodes.items < 256) }
+    requires some { (0 < length round_parts.nodes.items) × (length round_parts.nodes.items < node_numbers) }
     requires close { CanCloseAll (length round_parts.nodes.items) (map (λ v. v.items) round_parts.ins.items) (map (λ v. v.items) round_parts.outs.items) }
     ensures { IfOk result (λ r. Gathered (record {
       nodes = round_parts.nodes.items;
@@ -315,7 +318,7 @@ fn deal_one<N: Drop>(
     Ok(())
 }
 
-/// Choices, and behind them more.
+/// Choices, and after them more.
 fn join(choices: Choices, more: Choices) -> Result<Choices, NoMemory>
     ensures { IfOk result (λ all. all ≡ choices ++ more) }
 {

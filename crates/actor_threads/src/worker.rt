@@ -1,5 +1,6 @@
 //! One node in a round, with a way in from each node and a way out to each.
 ghost use Rattle.std.specs.Prelude.{◌≡◌, ◌<◌, ◌+◌, ◌≢◌, ℕ, true, false, Ok, [], length, max, map, slice_index_or, IfOk, OnOk, IfNone, IfSome, MatchOption};
+ghost use Rattle.actor_net.specs.Network.{node_numbers};
 ghost use Rattle.actor_threads.specs.Ways.{Sends, last_clock};
 ghost use Rattle.actor_threads.specs.Work.{is_input_of, opened, waits, all_in, all_out, out_at, put_for, Idled, Found, Acted, IsQuiet, IsQuietAt, DoesStep};
 
@@ -43,13 +44,14 @@ pub struct Worker<A: Actor> {
 
 impl<A: Actor> Model for Worker<A> {
     ghost use Rattle.std.specs.Prelude.{◌≡◌, ◌<◌, length};
+    ghost use Rattle.actor_net.specs.Network.{node_numbers};
     ghost use Rattle.actor_threads.specs.Work.{WorkerView};
 
     ghost Value = { WorkerView A A.Message A.Note };
 
     ghost view = { λ w. record { number = w.number; node = w.node; clock = w.clock; steps = w.steps.items; notes = w.notes; ins = w.ins.items; outs = w.outs.items } };
 
-    ghost invariant = { λ w. (length w.ins.items < 256) × (length w.outs.items ≡ length w.ins.items) };
+    ghost invariant = { λ w. (length w.ins.items < node_numbers) × (length w.outs.items ≡ length w.ins.items) };
 }
 
 /// A worker taken apart.
@@ -76,7 +78,7 @@ impl<A: Actor> Worker<A> {
         sends: Vec<SendEnd<Batch<A::Message>>>,
     ) -> Result<Worker<A>, NoMemory>
         requires lengths { (length kept.items ≡ length takes.items) × (length sends.items ≡ length takes.items) }
-        requires few { length takes.items < 256 }
+        requires few { length takes.items < node_numbers }
         requires node { number < length takes.items }
         requires input { (number ≡ 0 → slice_index_or (map (λ v. v.items) kept.items) 0 [] ≡ []) × (number ≢ 0 → input.items ≡ []) }
         ensures { IfOk result (λ w. w ≡ opened number node (waits number input.items (map (λ v. v.items) kept.items)) takes.items sends.items) }
@@ -141,6 +143,7 @@ impl<A: Actor> Worker<A> {
         self.steps.as_slice()
     }
 
+    /// Passes the gate before the next step.
     #[inline(always)]
     fn pass<G: Gate>(&self, gate: &G) {
         gate.pass(self.number, self.steps.len() as u64);
@@ -196,6 +199,7 @@ impl<A: Actor> Worker<A> {
         self.look_taken(rt)
     }
 
+    /// The first that can be taken of the input and of what is kept. Where nothing can, it finds out whether something is kept.
     #[cold]
     #[inline(never)]
     fn look_kept(&mut self) -> Option<(u8, Stamped<A::Message>)>
@@ -222,6 +226,7 @@ impl<A: Actor> Worker<A> {
             .any(|way| way.keeps());
     }
 
+    /// The next of what is kept at a port.
     fn next_kept(&mut self, port: usize) -> Option<Stamped<A::Message>>
         requires { port < length self.old.ins }
         ensures found { MatchOption result (self.new ≡ self.old) (λ x. Found A.is_ready self.old self.new (port, x)) }
@@ -234,6 +239,7 @@ impl<A: Actor> Worker<A> {
         }
     }
 
+    /// Whether a port is the input: port 0 of node 0.
     #[inline(always)]
     fn is_input(&self, port: usize) -> bool
         ensures { result ≡ is_input_of self.now.number port }
@@ -257,6 +263,7 @@ impl<A: Actor> Worker<A> {
         self.ins[0].next_kept()
     }
 
+    /// The next of what is kept from another node.
     fn next_message(&mut self, port: usize) -> Option<Stamped<A::Message>>
         requires { (is_input_of self.old.number port ≡ false) × (port < length self.old.ins) }
         ensures found { MatchOption result (self.new ≡ self.old) (λ x. Found A.is_ready self.old self.new (port, x)) }
@@ -265,6 +272,7 @@ impl<A: Actor> Worker<A> {
         self.ins[port].next_kept()
     }
 
+    /// The next message that a take end gives, with its port.
     #[inline(always)]
     fn look_taken<R: Wait>(&mut self, rt: &R) -> Option<(u8, Stamped<A::Message>)>
         ensures { MatchOption result (Idled self.old self.new) (λ f. Found A.is_ready self.old self.new f) }
@@ -320,6 +328,7 @@ impl<A: Actor> Worker<A> {
         self.end_at(rt, port)
     }
 
+    /// The next message from the take end of a port that isn't the input.
     #[inline(always)]
     fn end_at<R: Wait>(&mut self, rt: &R, port: usize) -> Option<Stamped<A::Message>>
         requires { (is_input_of self.old.number port ≡ false) × (port < length self.old.ins) }
@@ -372,6 +381,7 @@ fn with_input<M: Drop>(
     Ok(kept)
 }
 
+/// A way in from each node, with what is kept from it.
 fn ways_in<M: Drop>(
     alloc: Global,
     mut takes: VecDeque<TakeEnd<Batch<M>>>,
@@ -390,6 +400,7 @@ fn ways_in<M: Drop>(
     Ok(ways)
 }
 
+/// A way out to each node.
 fn ways_out<M: Drop>(
     alloc: Global,
     sends: Vec<SendEnd<Batch<M>>>,
@@ -403,6 +414,7 @@ fn ways_out<M: Drop>(
     Ok(ways)
 }
 
+/// The clock of a step: one more than the node's clock and the stamp of the message that it takes.
 #[inline(always)]
 fn next_clock(clock: u64, stamp: u64) -> u64
     requires { (clock < last_clock) × (stamp < last_clock) }

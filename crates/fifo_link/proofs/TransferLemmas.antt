@@ -41,7 +41,7 @@ module _ {M : Type 0} where
   pub same_taken : (known all : List (Transfer M)) → SentSince known all → taken_in all ≡ taken_in known
   same_taken known all t = ap taken_in t.1 ∙ taken_in-append known (map Sent t.0) ∙ ap (λ l. taken_in known ++ l) (taken_in-sent t.0) ∙ append-nil (taken_in known)
 
-  -- where messages were only sent, they were sent behind the others
+  -- where messages were only sent, they were sent after the others
   pub more_sent : (known all : List (Transfer M)) (t : SentSince known all) → sent_in all ≡ sent_in known ++ t.0
   more_sent known all t = ap sent_in t.1 ∙ sent_in-append known (map Sent t.0) ∙ ap (λ l. sent_in known ++ l) (sent_in-sent t.0)
 

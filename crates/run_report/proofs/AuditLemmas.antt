@@ -39,7 +39,7 @@ module _ {F R : Type 0} (f : Semantics R) (first start : Network (Node F R) Msg 
   short w ok left step counted = inr (record { leads = led w ok; incomplete = ap (is_done node_ended) (sym (leads_to w ok).reached) ∙ left; counted = counted })
 
   -- a fault is the first
-  pub faulty : (index : ℕ) → result ≡ Err (NotEnabled index) → FirstFault node_ready (node_step f) cs first index
+  pub faulty : (index : ℕ) → result ≡ Err (NotEnabled index) → FirstFault node_ready (node_step f) (record { choices = cs; index = index }) first
   faulty index err =
       let enough : result ≢ Err NoMemory = λ bad. (let never : Err (NotEnabled index) ≡ Err NoMemory = sym err ∙ bad in cc) in
       replayed_fault node_ready (node_step f) cs first index (replay enough ∙ err)

@@ -24,7 +24,7 @@ module _ {F R : Type 0} (f : Semantics R) (start : Network (Node F R) Msg Note) 
   pub record IsRefusedAt (step : ℕ) : Type 0 where
     pub index : ℕ
     pub counted : step ≡ index + 1
-    pub fault : FirstFault node_ready (node_step f) choices start index
+    pub fault : FirstFault node_ready (node_step f) (record { choices = choices; index = index }) start
 
   -- the choices are a run, and something is left to do where this step would come, the next one
   pub record IsShortAt (step : ℕ) : Type 0 where
