@@ -10,7 +10,7 @@ use Rattle.nf_function.specs.declared.kind.Kind.TheVariants.{Conntrack, Nat, Mon
 use Rattle.nf_function.specs.declared.unit.Unit as units
 use Rattle.nf_function.specs.declared.unit.Unit.TheVariants.{Flow as OfFlow, Host as OfHost}
 use Rattle.nf_function.specs.Stored.{IsBytes, number_bytes, first_number}
-use Rattle.nf_function.specs.Units.{is_unit, is_transport, is_transport_flow}
+use Rattle.nf_function.specs.Units.{is_unit, is_transport_flow}
 use Rattle.nf_function.proofs.FlowFits.{transport_tests}
 use Rattle.nf_function.proofs.StoredNumbers.{first_number-number_bytes, first_number-some, IsBytes-tail}
 use Rattle.state_chunk.specs.Format.{key_bytes}
