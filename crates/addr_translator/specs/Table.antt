@@ -1,6 +1,6 @@
 -- The address translator's table. A mapping serves every remote end, as RFC 4787 REQ-1 asks for UDP; the rest is this
 -- project's own.
-use Rattle.std.specs.Prelude.{◌≡◌, ℕ, ◌+◌, ◌-◌, ◌*◌, ◌%◌, ◌==◌, ◌&&◌, nat_lt, Bool, true, false, not, if◌then◌else◌, List, [], ◌∷◌, ◌++◌, length, slice_get, Option, None, Some, unwrap_or}
+use Rattle.std.specs.Prelude.{ℕ, ◌+◌, ◌-◌, ◌*◌, ◌%◌, ◌==◌, ◌&&◌, nat_lt, not, if◌then◌else◌, [], ◌∷◌, ◌++◌, length, slice_get, Option, None, Some, unwrap_or}
 use Rattle.std.specs.List.{position}
 use Rattle.flow_filter.specs.declared.packet.Packet.{Packet}
 use Rattle.flow_filter.specs.declared.site.Site.{Site}

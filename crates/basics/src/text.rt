@@ -1,4 +1,4 @@
-ghost use Rattle.std.specs.Prelude.{◌≡◌, ◌++◌, ◌<◌, ◌^◌, OnOk, OnErr, decimal};
+ghost use Rattle.std.specs.Prelude.{◌≡◌, ◌++◌, ◌<◌, OnOk, OnErr, decimal};
 ghost use Rattle.basics.specs.Address.{address_text, byte_of};
 
 use crate::sequence::{NoMemory, Text};

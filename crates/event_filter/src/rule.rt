@@ -1,8 +1,4 @@
-ghost use Rattle.std.specs.Prelude.{◌≡◌};
-ghost use Rattle.event_filter.specs.Rules.{decided};
-
 use crate::action::Action;
-use crate::decide::Decide;
 use crate::held::Held;
 use flow_filter::Filter;
 

@@ -1,10 +1,10 @@
-ghost use Rattle.std.specs.Prelude.{◌≡◌, ◌==◌, ◌↔◌, ℕ, true, false, if◌then◌else◌, [], ◌∷◌, ◌++◌, option_map, IsSome, IfSome, IsTrue, OnOk, OnErr, IfErr, None, Some, position, find, slice_index_or};
+ghost use Rattle.std.specs.Prelude.{◌≡◌, ◌==◌, ◌↔◌, ℕ, true, false, if◌then◌else◌, [], ◌∷◌, ◌++◌, option_map, IsSome, IfSome, IsTrue, OnOk, OnErr, IfErr, None, Some, position};
 ghost use Rattle.std.specs.Option.{option_copied};
 ghost use Rattle.flow_filter.specs.Filter.{matches};
 ghost use Rattle.flow_filter.specs.declared.flow.Flow.{Flow as EachFlow};
 ghost use Rattle.event_filter.specs.declared.mark.Mark.{Mark as EachMark};
 ghost use Rattle.event_filter.specs.declared.mark.Mark.TheVariants.{Plain};
-ghost use Rattle.event_filter.specs.Rules.{decide, decided, decided_by, named_by, first_rule, rule_at, held_at, with_rule, holding, with_held, without};
+ghost use Rattle.event_filter.specs.Rules.{decide, decided, named_by, first_rule, rule_at, held_at, with_rule, holding, with_held, without};
 
 use crate::action::Action;
 use crate::decide::Decide;
@@ -13,7 +13,7 @@ use crate::mark::Mark;
 use crate::rule::Rule;
 use basics::NoMemory;
 use flow_filter::{Filter, Flow};
-use std::alloc::{AllocError, Global};
+use std::alloc::Global;
 use std::marker::Model;
 
 /// The rules of an instance, at most one for each operation, with the parcels that are held under them.

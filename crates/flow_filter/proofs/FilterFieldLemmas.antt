@@ -10,21 +10,33 @@ use Rattle.flow_filter.specs.Filter.{holds, agrees, meet_value, meet_prefix, lon
 use Rattle.basics.proofs.BoolLemmas.{not_both, absorbed_left, absorbed_right}
 use Rattle.flow_filter.proofs.PrefixLemmas.{block_inside, block_own, block_whole, far_same, far_other, far_small}
 
+-- a field of flows: how a filter's value for it is tested, and below which number a flow's own is
+pub record Field (X : Type 0) : Type 0 where
+  pub test : X → ℕ → Bool
+  pub top : ℕ
+
+-- a protocol or a port, below some number
+abbrev pub number_below : ℕ → Field ℕ
+number_below top = record { test = nat_eq; top = top }
+
+abbrev pub address : Field Prefix
+address = record { test = holds; top = 2 ^ 32 }
+
 -- what the meet of one field says: nothing agrees with both, or a field that agrees exactly with what both agree with, and a value
-abbrev pub MeetsField : {X : Type 0} → (X → ℕ → Bool) → ℕ → Option X → Option X → Option (Option X) → Type 0
-MeetsField test top x y None = (a : ℕ) → (agrees test x a && agrees test y a) ≡ false
-MeetsField test top x y (Some z) =
-    ((a : ℕ) → agrees test z a ≡ (agrees test x a && agrees test y a)) × ((a : ℕ) × (a < top) × (agrees test z a ≡ true))
+abbrev pub MeetsField : {X : Type 0} → Field X → Option X → Option X → Option (Option X) → Type 0
+MeetsField field x y None = (a : ℕ) → (agrees field.test x a && agrees field.test y a) ≡ false
+MeetsField field x y (Some z) =
+    ((a : ℕ) → agrees field.test z a ≡ (agrees field.test x a && agrees field.test y a)) × ((a : ℕ) × (a < field.top) × (agrees field.test z a ≡ true))
 
 -- two given numbers
 numbers_meet : (top x y : ℕ) (same : Bool) → eqb x y ≡ same → x < top
-    → MeetsField nat_eq top (Some x) (Some y) (cond same (Some (Some x)) None)
+    → MeetsField (number_below top) (Some x) (Some y) (cond same (Some (Some x)) None)
 numbers_meet top x y true is small =
     ((λ a. absorbed_left (eqb x a) (eqb x a) (λ e. e) ∙ ap (λ n. eqb x a && eqb n a) (eqb-true x y is)), (x, small, eq-eqb x x refl))
 numbers_meet top x y false is small = λ a. not_both (eqb x a) (eqb y a) (λ p q. eqb-false x y is (eqb-true x a p ∙ sym (eqb-true y a q)))
 
 pub number_meets : (top : ℕ) (x y : Option ℕ) → 0 < top → ForSome x (λ n. n < top) → ForSome y (λ n. n < top)
-    → MeetsField nat_eq top x y (meet_value nat_eq x y)
+    → MeetsField (number_below top) x y (meet_value nat_eq x y)
 number_meets top None None pos fx fy = ((λ a. refl), (0, pos, refl))
 number_meets top None (Some y) pos fx fy = ((λ a. refl), (y, fy y refl, eq-eqb y y refl))
 number_meets top (Some x) None pos fx fy = ((λ a. sym (and-true (eqb x a))), (x, fx x refl, eq-eqb x x refl))
@@ -32,7 +44,7 @@ number_meets top (Some x) (Some y) pos fx fy = numbers_meet top x y (eqb x y) re
 
 -- a shorter prefix and a longer one
 prefixes_meet : (p q : Prefix) (inside : Bool) → p.len ≤ q.len → holds p q.bits ≡ inside → q.bits < 2 ^ 32
-    → MeetsField holds (2 ^ 32) (Some p) (Some q) (cond inside (Some (Some q)) None)
+    → MeetsField address (Some p) (Some q) (cond inside (Some (Some q)) None)
 prefixes_meet p q true le is small = (
   (λ a. absorbed_left (holds p a) (holds q a) (λ e. block_inside p.bits p.len q.bits q.len a le e ∙ is)),
   (q.bits, small, block_own q.bits q.len),
@@ -42,7 +54,7 @@ prefixes_meet p q false le is small =
 
 -- the same two, the other way round
 prefixes_meet_back : (p q : Prefix) (inside : Bool) → q.len ≤ p.len → holds q p.bits ≡ inside → p.bits < 2 ^ 32
-    → MeetsField holds (2 ^ 32) (Some p) (Some q) (cond inside (Some (Some p)) None)
+    → MeetsField address (Some p) (Some q) (cond inside (Some (Some p)) None)
 prefixes_meet_back p q true le is small = (
   (λ a. absorbed_right (holds p a) (holds q a) (λ e. block_inside q.bits q.len p.bits p.len a le e ∙ is)),
   (p.bits, small, block_own p.bits p.len),
@@ -52,7 +64,7 @@ prefixes_meet_back p q false le is small =
 
 -- by which is longer
 longer_meets : (p q : Prefix) (first : Bool) → leb p.len q.len ≡ first → p.bits < 2 ^ 32 → q.bits < 2 ^ 32
-    → MeetsField holds (2 ^ 32) (Some p) (Some q)
+    → MeetsField address (Some p) (Some q)
     (cond first (cond (holds p q.bits) (Some (Some q)) None) (cond (holds q p.bits) (Some (Some p)) None))
 longer_meets p q true is fp fq = prefixes_meet p q (holds p q.bits) (leb-true p.len q.len is) refl fq
 longer_meets p q false is fp fq =
@@ -60,17 +72,17 @@ longer_meets p q false is fp fq =
     prefixes_meet_back p q (holds q p.bits) (omega arith) refl fp
 
 pub prefix_meets : (x y : Option Prefix) → ForSome x (λ p. p.bits < 2 ^ 32) → ForSome y (λ p. p.bits < 2 ^ 32)
-    → MeetsField holds (2 ^ 32) x y (meet_prefix x y)
+    → MeetsField address x y (meet_prefix x y)
 prefix_meets None None fx fy = ((λ a. refl), (0, lit< tt, refl))
 prefix_meets None (Some q) fx fy = ((λ a. refl), (q.bits, fy q refl, block_own q.bits q.len))
 prefix_meets (Some p) None fx fy = ((λ a. sym (and-true (holds p a))), (p.bits, fx p refl, block_own p.bits p.len))
 prefix_meets (Some p) (Some q) fx fy = longer_meets p q (leb p.len q.len) refl (fx p refl) (fy q refl)
 
 -- what the cover of one field says: each value that agrees with the second agrees with the first, or one doesn't
-pub record CoversField {X : Type 0} (test : X → ℕ → Bool) (top : ℕ) (x y : Option X) (covered : Bool) : Type 0 where
-  pub some : (a : ℕ) × (a < top) × (agrees test y a ≡ true)
-  pub yes : covered ≡ true → (a : ℕ) → a < top → agrees test y a ≡ true → agrees test x a ≡ true
-  pub never : covered ≡ false → (a : ℕ) × (a < top) × (agrees test y a ≡ true) × (agrees test x a ≡ false)
+pub record CoversField {X : Type 0} (field : Field X) (x y : Option X) (covered : Bool) : Type 0 where
+  pub some : (a : ℕ) × (a < field.top) × (agrees field.test y a ≡ true)
+  pub yes : covered ≡ true → (a : ℕ) → a < field.top → agrees field.test y a ≡ true → agrees field.test x a ≡ true
+  pub never : covered ≡ false → (a : ℕ) × (a < field.top) × (agrees field.test y a ≡ true) × (agrees field.test x a ≡ false)
 
 -- a number below `top` that isn't x
 other_number : (top x : ℕ) → 1 < top → (a : ℕ) × (a < top) × (true ≡ true) × (eqb x a ≡ false)
@@ -78,7 +90,7 @@ other_number top zero big = (1, big, refl, refl)
 other_number top (suc x) big = (0, omega arith, refl, ne_eqb (suc x) 0 (omega arith))
 
 pub number_covers : (top : ℕ) (x y : Option ℕ) → 1 < top → ForSome y (λ n. n < top)
-    → CoversField nat_eq top x y (covers_value nat_eq x y)
+    → CoversField (number_below top) x y (covers_value nat_eq x y)
 number_covers top None None big fy = record {
   some = (0, omega arith, refl);
   yes = λ is a small at_y. refl;
@@ -117,7 +129,7 @@ longer_misses pb plen qb qlen true lt top small aligned is = (
 )
 
 -- two given prefixes
-prefixes_cover : (p q : Prefix) → q.bits < 2 ^ 32 → CoversField holds (2 ^ 32) (Some p) (Some q) (leb p.len q.len && holds p q.bits)
+prefixes_cover : (p q : Prefix) → q.bits < 2 ^ 32 → CoversField address (Some p) (Some q) (leb p.len q.len && holds p q.bits)
 prefixes_cover p q small = record {
   some = (q.bits, small, block_own q.bits q.len);
   yes = λ is a below at_q. let parts = and_parts (leb p.len q.len) (holds p q.bits) is in
@@ -129,7 +141,7 @@ prefixes_cover p q small = record {
 }
 
 -- a given prefix against a field that isn't given
-prefix_covers_all : (p : Prefix) → p.bits < 2 ^ 32 → CoversField holds (2 ^ 32) (Some p) None (p.len == 0)
+prefix_covers_all : (p : Prefix) → p.bits < 2 ^ 32 → CoversField address (Some p) None (p.len == 0)
 prefix_covers_all p small = record {
   some = (0, lit< tt, refl);
   yes = λ is a below at_q. ap (λ n. in_prefix p.bits n a) (eqb-true p.len 0 is) ∙ block_whole p.bits a small below;
@@ -139,7 +151,7 @@ prefix_covers_all p small = record {
 }
 
 pub prefix_covers : (x y : Option Prefix) → ForSome x (λ p. p.bits < 2 ^ 32) → ForSome y (λ p. p.bits < 2 ^ 32)
-    → CoversField holds (2 ^ 32) x y (covers_prefix x y)
+    → CoversField address x y (covers_prefix x y)
 prefix_covers None None fx fy = record {
   some = (0, lit< tt, refl);
   yes = λ is a small at_y. refl;

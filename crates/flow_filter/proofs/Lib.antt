@@ -1,6 +1,7 @@
 pub mod FlowLemmas
 pub mod SiteLemmas
 pub mod PrefixLemmas
+pub mod FieldTests
 pub mod FilterFieldLemmas
 pub mod FilterLemmas
 pub mod ParsedFields

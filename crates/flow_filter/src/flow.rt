@@ -15,10 +15,15 @@ const PORTS_PER_HOST: u16 = 252;
 /// The two ends of a conversation, seen from the site. The widest fields stand first, so that a flow takes 16 bytes.
 #[derive(Clone, Copy, Debug)]
 pub struct Flow {
+    /// The address of the end in the site.
     pub local: u32,
+    /// The address of the other end.
     pub remote: u32,
+    /// The port of the end in the site.
     pub lport: u16,
+    /// The port of the other end.
     pub rport: u16,
+    /// The number of the protocol.
     pub proto: u8,
 }
 

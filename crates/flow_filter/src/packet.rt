@@ -14,11 +14,15 @@ pub struct Packet {
     pub nanos: u64,
     /// The place among the steered packets of the capture, from 1.
     pub number: u32,
+    /// The address that sent it.
     pub src: u32,
+    /// The address that it goes to.
     pub dst: u32,
     /// How many bytes of payload the packet carried, captured or not.
     pub length: u32,
+    /// The port that sent it.
     pub sport: u16,
+    /// The port that it goes to.
     pub dport: u16,
     /// [`TCP`] or [`UDP`].
     pub proto: u8,

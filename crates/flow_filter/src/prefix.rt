@@ -4,7 +4,9 @@ ghost use Rattle.flow_filter.specs.Prefixes.{in_prefix, address_bits};
 /// The addresses that begin with the first `len` bits of `bits`, as `A.B.C.D/L` names them.
 #[derive(Clone, Copy, Debug, PartialEq, Eq, Hash)]
 pub struct Prefix {
+    /// The lowest of the addresses.
     pub bits: u32,
+    /// How many bits they have in common.
     pub len: u8,
     ghost within: { len ≤ address_bits },
     ghost aligned: { bits % 2 ^ (address_bits - len) ≡ 0 },

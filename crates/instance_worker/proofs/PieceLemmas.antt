@@ -40,31 +40,37 @@ module _ (whole : WholePieces) where
   unfolding pieces_from
   cut_long n chunks long = rw (more_than (length chunks) MOST_CHUNKS long) refl
 
--- these chunks are left to send, behind what was sent, so that all is sent
-pub record IsLeft (whole : WholePieces) (op : ℕ) (left : List Chunk) (sent all : List (ℕ × Msg)) : Type 0 where
+-- how chunks are sent: the number of their move, what each piece says of all of them, and all that is sent in the end
+pub record Sending : Type 0 where
+  pub op : ℕ
+  pub whole : WholePieces
+  pub all : List (ℕ × Msg)
+
+-- these chunks are left to send after what was sent, so that all is sent
+pub record IsLeft (sending : Sending) (left : List Chunk) (sent : List (ℕ × Msg)) : Type 0 where
   pub most : ℕ
   pub enough : length left ≤ most
-  pub sends : sent ++ told (map (Piece op) (pieces_from whole most left)) ≡ all
+  pub sends : sent ++ told (map (Piece sending.op) (pieces_from sending.whole most left)) ≡ sending.all
 
-module _ (whole : WholePieces) (op : ℕ) (left : List Chunk) (sent all : List (ℕ × Msg)) where
+module _ (sending : Sending) (left : List Chunk) (sent : List (ℕ × Msg)) where
   -- one more piece is sent
-  pub left_more : (next chunks : List Chunk) (piece : APiece) (more : List (ℕ × Msg)) → IsLeft whole op left sent all → MOST_CHUNKS < length left → next ≡ drop MOST_CHUNKS left
-      → chunks ≡ take MOST_CHUNKS left → piece ≡ piece_of whole false chunks → more ≡ sent ++ told (Piece op piece ∷ []) → IsLeft whole op next more all
+  pub left_more : (next chunks : List Chunk) (piece : APiece) (more : List (ℕ × Msg)) → IsLeft sending left sent → MOST_CHUNKS < length left → next ≡ drop MOST_CHUNKS left
+      → chunks ≡ take MOST_CHUNKS left → piece ≡ piece_of sending.whole false chunks → more ≡ sent ++ told (Piece sending.op piece ∷ []) → IsLeft sending next more
   left_more next chunks piece more is long rest first made sends = by is.most is.enough is.sends
     where
-      by : (n : ℕ) → length left ≤ n → sent ++ told (map (Piece op) (pieces_from whole n left)) ≡ all → IsLeft whole op next more all
+      by : (n : ℕ) → length left ≤ n → sent ++ told (map (Piece sending.op) (pieces_from sending.whole n left)) ≡ sending.all → IsLeft sending next more
       by zero enough e = absurd (omega arith)
       by (suc n) enough e = record {
         most = n;
         enough = rw rest (omega (arith, length-drop MOST_CHUNKS left));
-        sends = rw (sends, made, first, rest) (append_assoc sent _ _ ∙ ap (λ ps. sent ++ told (map (Piece op) ps)) (sym (cut_long whole n left long)) ∙ e);
+        sends = rw (sends, made, first, rest) (append_assoc sent _ _ ∙ ap (λ ps. sent ++ told (map (Piece sending.op) ps)) (sym (cut_long sending.whole n left long)) ∙ e);
       }
 
   -- the last piece is sent
-  pub left_last : (chunks : List Chunk) (piece : APiece) (more : List (ℕ × Msg)) → IsLeft whole op left sent all → length left ≤ MOST_CHUNKS → chunks ≡ left
-      → piece ≡ piece_of whole true chunks → more ≡ sent ++ told (Piece op piece ∷ []) → more ≡ all
+  pub left_last : (chunks : List Chunk) (piece : APiece) (more : List (ℕ × Msg)) → IsLeft sending left sent → length left ≤ MOST_CHUNKS → chunks ≡ left
+      → piece ≡ piece_of sending.whole true chunks → more ≡ sent ++ told (Piece sending.op piece ∷ []) → more ≡ sending.all
   left_last chunks piece more is short same made sends =
-      rw (sends, made, same) (ap (λ ps. sent ++ told (map (Piece op) ps)) (sym (cut_short whole is.most left short)) ∙ is.sends)
+      rw (sends, made, same) (ap (λ ps. sent ++ told (map (Piece sending.op) ps)) (sym (cut_short sending.whole is.most left short)) ∙ is.sends)
 
 -- no more chunks are selected than records are live
 pub few_selected : {R : Type 0} (f : Semantics R) (filter : Filter) (m : Records R) → length (chunks_of f (taken_by filter m)) ≤ finite.len m

@@ -2,7 +2,6 @@
 use Rattle.std.proofs.Common.{◌≡◌, ◌<◌, ◌-◌, ◌/◌, ◌^◌, ◌&&◌, Bool, true, false, cond, not, nat_lt, nat_le, refl, arith}
 use Rattle.std.proofs.lemmas.Bool.Decides.{nat_tests}
 use Rattle.std.proofs.lemmas.Bool.{and_parts}
-use Rattle.basics.proofs.BoolLemmas.{true_five}
 use Rattle.flow_filter.specs.declared.packet.Packet.{Packet}
 use Rattle.flow_filter.specs.declared.site.Site.{Site}
 use Rattle.flow_filter.specs.declared.flow.Flow.{Flow}
@@ -10,6 +9,7 @@ use Rattle.flow_filter.specs.declared.flow.Direction.{Direction}
 use Rattle.flow_filter.specs.declared.flow.Direction.TheVariants.{Out, In}
 use Rattle.flow_filter.specs.Filter.{IsFlow}
 use Rattle.flow_filter.specs.Flow.{flow_of, is_inside, is_mapped, is_source_first, inward, outward, owner_of_port}
+use Rattle.flow_filter.proofs.FieldTests.{FieldTests, all_from}
 use Rattle.flow_filter.proofs.FlowLemmas.{proto-flow_of}
 use Rattle.flow_filter.proofs.SiteLemmas.{is_24, last_byte_fits}
 use Rattle.nf_function.specs.Units.{is_transport, is_transport_flow}
@@ -47,16 +47,24 @@ module _ (site : Site) (p : Packet) (fits : Fits site p) where
       (λ h. mapped_fits (and_parts (not (is_inside site p.src) && not (is_inside site p.dst)) (is_mapped site p) h).1)
       (IsFlow-cond (is_source_first p) (outward p, Out) (inward p, In) (λ _. outward_fits) inward_fits)))
 
+-- the tests of a flow of TCP or UDP, field by field
+abbrev pub transport_tests : Flow → FieldTests
+transport_tests flow = record {
+  proto = is_transport flow.proto;
+  local = nat_lt flow.local (2 ^ 32);
+  lport = nat_lt flow.lport (2 ^ 16);
+  remote = nat_lt flow.remote (2 ^ 32);
+  rport = nat_lt flow.rport (2 ^ 16);
+}
+
 is_transport_flow-from : (flow : Flow) → is_transport flow.proto ≡ true → IsFlow flow → is_transport_flow flow ≡ true
-is_transport_flow-from flow transport fits =
-    true_five (is_transport flow.proto) (nat_lt flow.local (2 ^ 32)) (nat_lt flow.lport (2 ^ 16)) (nat_lt flow.remote (2 ^ 32)) (nat_lt flow.rport (2 ^ 16))
-    (record {
-      first = transport;
-      second = let h = fits.local in grind (arith, nat_tests);
-      third = let h = fits.lport in grind (arith, nat_tests);
-      fourth = let h = fits.remote in grind (arith, nat_tests);
-      fifth = let h = fits.rport in grind (arith, nat_tests);
-    })
+is_transport_flow-from flow transport fits = all_from (transport_tests flow) (record {
+  proto = transport;
+  local = let h = fits.local in grind (arith, nat_tests);
+  lport = let h = fits.lport in grind (arith, nat_tests);
+  remote = let h = fits.remote in grind (arith, nat_tests);
+  rport = let h = fits.rport in grind (arith, nat_tests);
+})
 
 -- the flow of a packet of TCP or UDP is of that protocol, and each of its numbers is within its type
 pub transport_flow : (site : Site) (p : Packet) → Fits site p → is_transport_flow (flow_of site p).0 ≡ true

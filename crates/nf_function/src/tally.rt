@@ -1,4 +1,4 @@
-ghost use Rattle.std.specs.Prelude.{◌≡◌, ℕ, ◌<◌, ◌≤◌, slice_index, max, replicate};
+ghost use Rattle.std.specs.Prelude.{◌≡◌, ℕ, ◌<◌, slice_index, max, replicate};
 ghost use Rattle.nf_function.specs.Tally.{counted, merged, MergeLaws};
 
 /// How many instances a network may have.

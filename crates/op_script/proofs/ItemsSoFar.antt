@@ -26,30 +26,35 @@ split items rest item (p ∷ ps) first are =
     let same : item ∷ rest ≡ InPacket p ∷ map InPacket ps = cc in
     record { packet = p; left = ps; first = cc; rest_are = cc; packets = refl }
 
+-- what an input is put together from
+pub record InputParts : Type 0 where
+  pub packets : List Packet
+  pub lines : List Line
+
 -- what is written, and what the packets that wait and the lines still give
-pub record SoFar (whole : List Packet) (lines : List Line) (point : ℕ) (waiting out : List Msg) : Type 0 where
+pub record SoFar (input : InputParts) (point : ℕ) (waiting out : List Msg) : Type 0 where
   pub left : List Packet
   pub waits : waiting ≡ map InPacket left
-  pub counted : point + length left ≡ length whole
-  pub same : out ++ items_from point left lines ≡ items_from 0 whole lines
+  pub counted : point + length left ≡ length input.packets
+  pub same : out ++ items_from point left input.lines ≡ items_from 0 input.packets input.lines
 
-pub so_far_start : (whole : List Packet) (lines : List Line) (waiting out : List Msg) → waiting ≡ map InPacket whole → out ≡ [] → SoFar whole lines 0 waiting out
-so_far_start whole lines waiting out are none = record {
-  left = whole;
+pub so_far_start : (input : InputParts) (waiting out : List Msg) → waiting ≡ map InPacket input.packets → out ≡ [] → SoFar input 0 waiting out
+so_far_start input waiting out are none = record {
+  left = input.packets;
   waits = are;
   counted = omega arith;
-  same = ap (λ l. l ++ items_from 0 whole lines) none;
+  same = ap (λ l. l ++ items_from 0 input.packets input.lines) none;
 }
 
 -- all packets are written
-pub all_written : (whole : List Packet) (lines : List Line) (point : ℕ) (waiting none out : List Msg) → waiting ≡ none → none ≡ drop 1 waiting
-    → SoFar whole lines point waiting out → out ++ said_where (λ at. leb (length whole) at) lines ≡ items_from 0 whole lines
-all_written whole lines point waiting none out same rest so_far =
+pub all_written : (input : InputParts) (point : ℕ) (waiting none out : List Msg) → waiting ≡ none → none ≡ drop 1 waiting → SoFar input point waiting out
+    → out ++ said_where (λ at. leb (length input.packets) at) input.lines ≡ items_from 0 input.packets input.lines
+all_written input point waiting none out same rest so_far =
     let none_wait : map InPacket so_far.left ≡ [] = sym so_far.waits ∙ no_first waiting none same rest in
     let no_left : so_far.left ≡ [] = no_packets so_far.left none_wait in
-    let all : out ++ said_where (λ at. leb point at) lines ≡ items_from 0 whole lines = rw no_left at so_far.same in
-    let count : point + length {A = Packet} [] ≡ length whole = rw no_left at so_far.counted in
-    let is : length whole ≡ point = omega (arith, count) in
+    let all : out ++ said_where (λ at. leb point at) input.lines ≡ items_from 0 input.packets input.lines = rw no_left at so_far.same in
+    let count : point + length {A = Packet} [] ≡ length input.packets = rw no_left at so_far.counted in
+    let is : length input.packets ≡ point = omega (arith, count) in
     rw is all
 
 -- the whole input
@@ -75,16 +80,16 @@ one_more lines point packet packets left before said last after whole is more en
     let all : after ≡ (before ++ said) ++ InPacket packet ∷ [] = end ∙ ap (λ ms. ms ++ InPacket packet ∷ []) more in
     rw all (simp append_assoc (rw is rest))
 
-pub so_far_more : (whole : List Packet) (lines : List Line) (point : ℕ) (waiting rest before said last after : List Msg) (item : Msg)
-    → said ≡ said_where (λ at. eqb at point) lines → last ≡ before ++ said → after ≡ last ++ item ∷ [] → waiting ≡ item ∷ rest
-    → SoFar whole lines point waiting before → SoFar whole lines (point + 1) rest after
-so_far_more whole lines point waiting rest before said last after item is more end first so_far =
+pub so_far_more : (input : InputParts) (point : ℕ) (waiting rest before said last after : List Msg) (item : Msg)
+    → said ≡ said_where (λ at. eqb at point) input.lines → last ≡ before ++ said → after ≡ last ++ item ∷ [] → waiting ≡ item ∷ rest
+    → SoFar input point waiting before → SoFar input (point + 1) rest after
+so_far_more input point waiting rest before said last after item is more end first so_far =
     let parts = split waiting rest item so_far.left first so_far.waits in
-    let count : point + length (parts.packet ∷ parts.left) ≡ length whole = rw parts.packets at so_far.counted in
+    let count : point + length (parts.packet ∷ parts.left) ≡ length input.packets = rw parts.packets at so_far.counted in
     record {
       left = parts.left;
       waits = parts.rest_are;
       counted = omega (arith, count);
-      same = one_more lines point parts.packet so_far.left parts.left before said last after _ is more
+      same = one_more input.lines point parts.packet so_far.left parts.left before said last after _ is more
           (end ∙ ap (λ m. last ++ m ∷ []) parts.first) parts.packets so_far.same;
     }

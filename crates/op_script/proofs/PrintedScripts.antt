@@ -18,7 +18,7 @@ use Rattle.op_script.specs.declared.script.Line.{Line}
 use Rattle.op_script.specs.declared.script.What.{What}
 use Rattle.op_script.specs.declared.script.What.TheVariants.{Command, Settle}
 use Rattle.op_script.specs.Statements.{Word, Event, Routing, Happening, Settling, statement_of}
-use Rattle.op_script.specs.Reading.{State, start, OrderView, LineView, place_of, with_route, noted, numbered, command_count, is_command, order_said, goes_back, with_statement, with_lines, script_of, route_view, line_view, what_view, order_view, script_view, ScriptView}
+use Rattle.op_script.specs.Reading.{State, ScriptAnswer, start, OrderView, LineView, place_of, with_route, noted, numbered, command_count, is_command, order_said, goes_back, with_statement, with_lines, script_of, route_view, line_view, what_view, order_view, script_view, ScriptView}
 use Rattle.op_script.specs.Printing.{route_words, line_words, what_words, IsWhat, line_text, script_words, script_text, IsRoute, IsLine, IsScript, SplitsNone, what_splits, WhatFits, LineFits, follows, next_after, and_then}
 use Rattle.op_script.proofs.PrintableWords.{Within, IsWord, Within-literal, line_seen, line_utf8, name_word, decimal_word}
 use Rattle.op_script.proofs.FilterWordLemmas.{filter_word}
@@ -148,11 +148,11 @@ then_true None test is = absurd cc
 then_true (Some n) test is = (n, refl, is)
 
 -- what reading lines gives
-record LinesRead (kind : Kind) (names : List Word) (n : ℕ) (s : State) (texts : List (List ℕ)) (lines : List LineView) : Type 0 where
+record LinesRead (result : ScriptAnswer) (before : State) (lines : List LineView) : Type 0 where
   state : State
-  is_read : with_lines kind names n s texts ≡ Ok state
-  routes : state.routes ≡ s.routes
-  lines_are : state.lines ≡ s.lines ++ lines
+  is_read : result ≡ Ok state
+  routes : state.routes ≡ before.routes
+  lines_are : state.lines ≡ before.lines ++ lines
 
 empty_line : (kind : Kind) (names : List Word) (n : ℕ) (s : State) → with_lines kind names n s ([] ∷ []) ≡ Ok s
 unfolding statement_of
@@ -161,7 +161,7 @@ empty_line kind names n s = rw (line_utf8 [] tt) refl
 lines_again : (kind : Kind) (names : List Word) (n : ℕ) (s : State) (lines : List Line) → length s.lines + length lines ≤ 1000
     → AllByRecursion IsLine (map line_view lines) → AllByRecursion LineFits lines → AllByRecursion (λ (line : LineView). what_splits kind line.what ≡ false) (map line_view lines)
     → follows (unwrap_or s.last 0) (1 + command_count s.lines) (map line_view lines) ≡ true
-    → LinesRead kind names n s (map (join_with_byte 32) (map line_words lines) ++ [] ∷ []) (map line_view lines)
+    → LinesRead (with_lines kind names n s (map (join_with_byte 32) (map line_words lines) ++ [] ∷ [])) s (map line_view lines)
 lines_again kind names n s [] few is fits whole follow = record { state = s; is_read = empty_line kind names n s; routes = refl; lines_are = sym (no_more s.lines) }
 lines_again kind names n s (line ∷ more) few is fits whole follow =
     let parts = and_parts (leb (unwrap_or s.last 0) line.at) (and_then (next_after (1 + command_count s.lines) (what_view line.what)) (λ k. follows line.at k (map line_view more))) follow in

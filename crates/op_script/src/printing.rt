@@ -1,16 +1,16 @@
-ghost use Rattle.std.specs.Prelude.{false, ◌≡◌, ◌++◌, ◌∷◌, ◌<◌, ◌≤◌, [], Ok, IfOk, OnOk, length, map, option_map, true, codes, if◌then◌else◌};
+ghost use Rattle.std.specs.Prelude.{false, ◌≡◌, ◌++◌, ◌∷◌, ◌<◌, ◌≤◌, [], Ok, IfOk, OnOk, length, option_map, true, codes, if◌then◌else◌};
 ghost use Rattle.std.specs.List.{join_with_byte, list_all};
 ghost use Rattle.flow_filter.specs.FilterText.{after_commas, fields_of, is_printable, print};
 ghost use Rattle.flow_filter.specs.Filter.{IsFilter};
 ghost use Rattle.flow_filter.specs.Name.{has_twice, is_name};
 ghost use Rattle.nf_function.specs.declared.kind.Kind.{Kind};
 ghost use Rattle.op_script.specs.Reading.{script_of, script_view, route_view, line_view, order_view, longest_script};
-ghost use Rattle.op_script.specs.Printing.{route_words, order_words, line_words, what_words, copied, line_text, script_text, is_writable, IsRoute, IsOrder, IsLine, IsScript, SplitsNone, CopiedFits, OrderFits, LineFits};
+ghost use Rattle.op_script.specs.Printing.{route_words, order_words, line_words, copied, line_text, script_text, is_writable, IsRoute, IsOrder, IsLine, IsScript, SplitsNone, CopiedFits, OrderFits, LineFits};
 ghost use Rattle.basics.specs.Bytes.{line_feed, space, comma};
 
 use crate::script::{Line, Script, What};
 use flow_filter::{Filter, Name, NoMemory, Text};
-use nf_msgs::{Names, Order};
+use nf_msgs::Order;
 use std::alloc::Global;
 
 /// The canonical text of a script, for instances with these names.

@@ -1,12 +1,12 @@
-ghost use Rattle.std.specs.Prelude.{vec_len, ◌≡◌, ◌≤◌, ◌==◌, ◌<◌, ◌^◌, ◌+◌, map, length, IfOk, IfSome, Ok, Some, None, option_map, if◌then◌else◌};
-ghost use Rattle.std.specs.List.{slice_split, list_all, list_any, position};
+ghost use Rattle.std.specs.Prelude.{◌≡◌, ◌≤◌, ◌==◌, ◌<◌, ◌^◌, ◌+◌, map, length, IfOk, IfSome, Ok, Some, None, option_map, if◌then◌else◌};
+ghost use Rattle.std.specs.List.{slice_split, list_all, position};
 ghost use Rattle.std.specs.Str.{bytes_eq, is_utf8};
 ghost use Rattle.std.specs.Str.Lines.{strip_carriage_return};
 ghost use Rattle.flow_filter.specs.Name.{is_name};
-ghost use Rattle.flow_filter.specs.FilterText.{fields_of, AgreesBy};
+ghost use Rattle.flow_filter.specs.FilterText.{fields_of};
 ghost use Rattle.op_script.specs.StatementViews.{event_view, statement_view};
 ghost use Rattle.op_script.specs.Printing.{IsScript, SplitsNone};
-ghost use Rattle.op_script.specs.Reading.{ends_of, members_of, filter_of, filter_or_all, order_said, with_route, with_line, numbered, is_command, command_count, line_view, what_view, with_event, with_statement, with_text, script_of, place_of, goes_back, state_of, script_view, order_view, with_lines, start, Says, SaysWhole, Numbered, longest_script};
+ghost use Rattle.op_script.specs.Reading.{ends_of, members_of, filter_of, filter_or_all, order_said, with_route, with_line, numbered, is_command, command_count, line_view, what_view, with_event, with_statement, with_text, script_of, place_of, state_of, script_view, order_view, with_lines, start, Says, SaysWhole, Numbered, longest_script};
 ghost use Rattle.basics.specs.Bytes.{line_feed, comma};
 ghost use Rattle.flow_filter.specs.Limits.{most_lines};
 

@@ -12,7 +12,7 @@ use Rattle.nf_function.specs.declared.unit.Unit as units
 use Rattle.nf_function.specs.Units.{unit_cmp}
 use Rattle.nf_function.specs.UnitOrder.{units_total}
 use Rattle.nf_function.specs.Semantics.{Semantics}
-use Rattle.record_table.specs.Table.{Records, same_unit}
+use Rattle.record_table.specs.Table.{same_unit}
 use Rattle.record_table.specs.Chunks.{spelled, records_of, are_good, IsFirstBad}
 use Rattle.record_table.proofs.UnitOrder.{same_unit-true}
 use Rattle.record_table.proofs.RecordLookUps.{same_records, at}

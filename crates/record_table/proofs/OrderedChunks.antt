@@ -1,7 +1,7 @@
 -- Entries in the order of their units: one more is that of a unit that none of them has.
-use Rattle.std.proofs.Common.{◌≡◌, Bool, true, false, cond, List, [], ◌∷◌, ◌++◌, Option, Some, None, refl, sym, ap, ◌∙◌, is_some}
+use Rattle.std.proofs.Common.{◌≡◌, true, false, cond, List, [], ◌∷◌, ◌++◌, Option, Some, None, refl, sym, ap, ◌∙◌, is_some}
 use Rattle.std.proofs.lemmas.Bool.{true≢false}
-use Rattle.std.specs.Map.{lookup, keys_of}
+use Rattle.std.specs.Map.{lookup}
 use Rattle.std.specs.Ordering.{is_lt, is_eq}
 use Rattle.std.specs.declared.cmp.Ordering.{Ordering}
 use Rattle.std.specs.declared.cmp.Ordering.TheVariants.{Less, Equal, Greater}
@@ -11,10 +11,10 @@ use Rattle.nf_function.specs.declared.chunk.Chunk.{Chunk}
 use Rattle.nf_function.specs.declared.unit.Unit as units
 use Rattle.nf_function.specs.Units.{unit_cmp}
 use Rattle.nf_function.specs.UnitOrder.{units_total}
-use Rattle.nf_function.specs.Semantics.{Semantics, is_sound}
+use Rattle.nf_function.specs.Semantics.{Semantics}
 use Rattle.unit_map.specs.Entries.{Entries, held}
 use Rattle.unit_map.proofs.EntryLemmas.{lookup_added, distinct_added, distinct_none}
-use Rattle.record_table.specs.Table.{Records, AreSound}
+use Rattle.record_table.specs.Table.{AreSound}
 use Rattle.record_table.specs.Chunks.{spelled, records_of, are_good}
 use Rattle.record_table.specs.Entries.{map_of, AreEntriesOf}
 use Rattle.record_table.specs.Keeping.{is_behind}

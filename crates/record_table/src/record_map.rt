@@ -1,12 +1,12 @@
 //! The records of units, as a finite map.
-ghost use Rattle.std.specs.Prelude.{◌≡◌, true, not, Some, map, IfOk, OnOk, OnErr};
+ghost use Rattle.std.specs.Prelude.{◌≡◌, not, map, IfOk, OnOk, OnErr};
 ghost use Rattle.std.specs.List.{IsDistinct};
 ghost use Rattle.std.specs.Map.{keys_of};
 ghost use Rattle.std.specs.Option.{option_copied};
 ghost use Rattle.std.specs.FinMap as finite;
 ghost use Rattle.flow_filter.specs.Flow.{flow_of};
 ghost use Rattle.nf_function.specs.Semantics.{output_for, unit_at};
-ghost use Rattle.record_table.specs.Table.{after_packet, with_kept, without, either, joined, AreSound};
+ghost use Rattle.record_table.specs.Table.{after_packet, without, either, joined, AreSound};
 ghost use Rattle.record_table.specs.Entries.{map_of, AreEntriesOf};
 ghost use Rattle.record_table.specs.Keeping.{choice, taken};
 

@@ -3,14 +3,15 @@ use Rattle.std.proofs.Common.{◌≡◌, ◌∙◌, ◌^◌, ℕ, true, List, []
 use Rattle.std.proofs.lemmas.List.{append_assoc}
 use Rattle.std.proofs.lemmas.Option.{option_and_then_some, some_pair_parts}
 use Rattle.std.proofs.lemmas.Bool.{ltb-true}
-use Rattle.basics.proofs.BoolLemmas.{five_true}
+use Rattle.flow_filter.proofs.FieldTests.{each_passes}
 use Rattle.flow_filter.specs.declared.flow.Flow.{Flow}
 use Rattle.nf_function.specs.declared.kind.Kind.{Kind}
 use Rattle.nf_function.specs.declared.kind.Kind.TheVariants.{Conntrack, Nat, Monitor}
 use Rattle.nf_function.specs.declared.unit.Unit as units
 use Rattle.nf_function.specs.declared.unit.Unit.TheVariants.{Flow as OfFlow, Host as OfHost}
 use Rattle.nf_function.specs.Stored.{IsBytes, number_bytes, first_number}
-use Rattle.nf_function.specs.Units.{is_unit, is_transport, is_transport_flow}
+use Rattle.nf_function.specs.Units.{is_unit, is_transport_flow}
+use Rattle.nf_function.proofs.FlowFits.{transport_tests}
 use Rattle.nf_function.proofs.StoredNumbers.{first_number-number_bytes, first_number-some, IsBytes-tail}
 use Rattle.state_chunk.specs.Format.{key_bytes}
 use Rattle.state_chunk.specs.Reading.{first_key, first_flow, first_host, is_known}
@@ -29,13 +30,13 @@ key_and_rest f rest =
 first_flow-key_bytes : (f : Flow) (rest : List ℕ) → is_transport_flow f ≡ true → first_flow (key_bytes (OfFlow f) ++ rest) ≡ Some (OfFlow f, rest)
 unfolding first_flow
 first_flow-key_bytes f rest h =
-    let five = five_true (is_transport f.proto) (nat_lt f.local (2 ^ 32)) (nat_lt f.lport (2 ^ 16)) (nat_lt f.remote (2 ^ 32)) (nat_lt f.rport (2 ^ 16)) h in
+    let fits = each_passes (transport_tests f) h in
     ap first_flow (key_and_rest f rest)
     ∙ rw (
-      first_number-number_bytes 4 f.local (number_bytes 2 f.lport ++ (number_bytes 4 f.remote ++ (number_bytes 2 f.rport ++ rest))) (ltb-true f.local (2 ^ 32) five.second),
-      first_number-number_bytes 2 f.lport (number_bytes 4 f.remote ++ (number_bytes 2 f.rport ++ rest)) (ltb-true f.lport (2 ^ 16) five.third),
-      first_number-number_bytes 4 f.remote (number_bytes 2 f.rport ++ rest) (ltb-true f.remote (2 ^ 32) five.fourth),
-      first_number-number_bytes 2 f.rport rest (ltb-true f.rport (2 ^ 16) five.fifth),
+      first_number-number_bytes 4 f.local (number_bytes 2 f.lport ++ (number_bytes 4 f.remote ++ (number_bytes 2 f.rport ++ rest))) (ltb-true f.local (2 ^ 32) fits.local),
+      first_number-number_bytes 2 f.lport (number_bytes 4 f.remote ++ (number_bytes 2 f.rport ++ rest)) (ltb-true f.lport (2 ^ 16) fits.lport),
+      first_number-number_bytes 4 f.remote (number_bytes 2 f.rport ++ rest) (ltb-true f.remote (2 ^ 32) fits.remote),
+      first_number-number_bytes 2 f.rport rest (ltb-true f.rport (2 ^ 16) fits.rport),
     ) refl
 
 -- a host's key is read again
@@ -53,8 +54,7 @@ first_key-key_bytes Monitor (OfHost host) rest h = first_host-key_bytes host res
 
 -- a unit of the function has a key of TCP or UDP, or of a host
 pub known_unit : (kind : Kind) (u : units.Unit) → is_unit kind u ≡ true → is_known u ≡ true
-known_unit Conntrack (OfFlow f) h =
-    (five_true (is_transport f.proto) (nat_lt f.local (2 ^ 32)) (nat_lt f.lport (2 ^ 16)) (nat_lt f.remote (2 ^ 32)) (nat_lt f.rport (2 ^ 16)) h).first
+known_unit Conntrack (OfFlow f) h = (each_passes (transport_tests f) h).proto
 known_unit Nat (OfFlow f) h = cc
 known_unit Monitor (OfFlow f) h = cc
 known_unit kind (OfHost host) h = refl

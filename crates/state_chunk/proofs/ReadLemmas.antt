@@ -1,5 +1,5 @@
 -- What follows where reading gave something: each part gave something, and each test held.
-use Rattle.std.proofs.Common.{◌≡◌, ℕ, Bool, true, false, List, [], ◌∷◌, Option, None, Some, Result, Ok, Err, refl}
+use Rattle.std.proofs.Common.{◌≡◌, ℕ, Bool, true, false, List, [], ◌∷◌, Option, None, Some, Ok, Err, refl}
 use Rattle.state_chunk.specs.declared.fault.ChunkFault.{ChunkFault}
 use Rattle.state_chunk.specs.Reading.{Read, then_read, part, checked, ended}
 

@@ -1,9 +1,7 @@
 -- A record's chunk is read again, and has one spelling.
-use Rattle.std.proofs.Common.{◌≡◌, ◌∙◌, ◌&&◌, ◌==◌, eqb, ℕ, Bool, true, false, List, [], ◌∷◌, ◌++◌, length, Option, None, Some, Result, Ok, Err, refl, sym, ap, arith, append-nil}
+use Rattle.std.proofs.Common.{◌≡◌, ◌∙◌, eqb, ℕ, Bool, true, false, List, [], ◌∷◌, ◌++◌, length, Option, None, Some, Ok, refl, sym, ap, arith, append-nil}
 use Rattle.std.proofs.lemmas.Bool.Decides.{nat_tests}
 use Rattle.std.proofs.lemmas.List.{append_assoc}
-use Rattle.nf_function.specs.declared.kind.Kind.{Kind}
-use Rattle.nf_function.specs.declared.kind.Scope.{Scope}
 use Rattle.nf_function.specs.declared.unit.Unit as units
 use Rattle.nf_function.specs.Stored.{IsBytes, number_bytes}
 use Rattle.nf_function.specs.Units.{has_times}
@@ -11,10 +9,10 @@ use Rattle.nf_function.specs.Semantics.{Semantics}
 use Rattle.nf_function.specs.Records.{Laws}
 use Rattle.state_chunk.specs.declared.fault.ChunkFault.TheVariants as fault
 use Rattle.state_chunk.specs.Format.{kind_number, scope_number, version_number, record_scope, key_bytes, record_bytes, IsRecordOf}
-use Rattle.state_chunk.specs.Reading.{Read, then_read, part, checked, header_of, first_key, is_known, body_in, record_of_version, ended, record_read}
+use Rattle.state_chunk.specs.Reading.{part, header_of, first_key, is_known, body_in, record_of_version, record_read}
 use Rattle.state_chunk.proofs.ReadLemmas.{then_ok, part_ok, checked_ok, ended_ok}
-use Rattle.state_chunk.proofs.KeyLemmas.{first_key-key_bytes, known_unit, IsKey, first_key-some}
-use Rattle.state_chunk.proofs.PartLemmas.{header_1, header_2, IsHeader, header_of-ok, body_in-bytes, IsBody, body_in-ok}
+use Rattle.state_chunk.proofs.KeyLemmas.{first_key-key_bytes, known_unit, first_key-some}
+use Rattle.state_chunk.proofs.PartLemmas.{header_1, header_2, header_of-ok, body_in-bytes, body_in-ok}
 
 module _ {R : Type 0} (f : Semantics R) (laws : Laws f) where
   -- the version that a record needs is read

@@ -1,6 +1,6 @@
 -- The bytes of a chunk. This project's own format, from the front: version (1 byte), kind (1), scope (1), key, length of
 -- the body (2), body. Numbers are big-endian.
-use Rattle.std.specs.Prelude.{◌≡◌, ℕ, ◌<◌, ◌^◌, ◌++◌, Bool, true, if◌then◌else◌, List, [], ◌∷◌, length, slice_index, Option, None, Some}
+use Rattle.std.specs.Prelude.{◌≡◌, ℕ, ◌<◌, ◌^◌, ◌++◌, Bool, true, if◌then◌else◌, List, [], ◌∷◌, length, slice_index, None, Some}
 use Rattle.std.specs.List.{flat_map}
 use Rattle.nf_function.specs.declared.chunk.Chunk.{Chunk}
 use Rattle.nf_function.specs.declared.kind.Kind.{Kind}

@@ -13,7 +13,7 @@ use Rattle.nf_function.specs.declared.function.BodyFault.{BodyFault}
 use Rattle.nf_function.specs.declared.function.BodyFault.TheVariants.{Body, NoMemory}
 use Rattle.state_chunk.specs.declared.fault.ChunkFault.{ChunkFault}
 use Rattle.state_chunk.specs.declared.fault.ChunkFault.TheVariants as fault
-use Rattle.state_chunk.specs.Format.{kind_number, scope_number, version_number, record_scope, tally_length}
+use Rattle.state_chunk.specs.Format.{kind_number, scope_number, version_number, record_scope}
 use Rattle.flow_filter.specs.Limits.{most_instances}
 
 abbrev pub Read : Type 0 → Type 0

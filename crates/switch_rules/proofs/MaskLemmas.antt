@@ -7,12 +7,12 @@ use Rattle.std.proofs.lemmas.Bool.{eqb-true, eqb-false, eq-eqb, ne_eqb, le-leb, 
 use Rattle.std.proofs.lemmas.Nat.{shr_split, pow_pos}
 use Rattle.std.proofs.Math.Nat.{div-eq_of_lt, mul-div_cancel, zero-mul}
 use Rattle.std.proofs.Math.Bool.{and-false, and-true}
-use Rattle.basics.proofs.BoolLemmas.{and_fields}
 use Rattle.flow_filter.specs.declared.prefix.Prefix.{Prefix}
 use Rattle.flow_filter.specs.declared.flow.Flow.{Flow}
 use Rattle.flow_filter.specs.declared.filter.Filter.{Filter}
 use Rattle.flow_filter.specs.Flow.{flow_eq}
 use Rattle.flow_filter.specs.Filter.{holds, agrees, matches, covers, covers_value, covers_prefix, IsFlow, IsFilter}
+use Rattle.flow_filter.proofs.FieldTests.{FieldTests, all_pass, all_both}
 use Rattle.switch_rules.specs.declared.mask.Mask.{Mask}
 use Rattle.switch_rules.specs.Masks.{mask_of, values_of, where_given, front, masked, mask_eq, is_within}
 
@@ -98,7 +98,9 @@ prefix_covers (Some p) (Some q) fx fy = record { is = ap (λ b. leb p.len q.len 
 covers_by_field : {p l lp r rp a b c d e v w x y z : Bool} → FieldCovers p a v → FieldCovers l b w → FieldCovers lp c x → FieldCovers r d y → FieldCovers rp e z
     → (p && l && lp && r && rp) ≡ ((a && b && c && d && e) && (w && (y && (x && (z && v)))))
 covers_by_field {a = a} {b = b} {c = c} {d = d} {e = e} {v = v} {w = w} {x = x} {y = y} {z = z} proto local lport remote rport =
-    rw (proto.is, local.is, lport.is, remote.is, rport.is) (and_fields a b c d e v w x y z ∙ ap (λ t. (a && b && c && d && e) && t) (five_in_order v w x y z))
+    let within : FieldTests = record { proto = a; local = b; lport = c; remote = d; rport = e } in
+    let equal : FieldTests = record { proto = v; local = w; lport = x; remote = y; rport = z } in
+    rw (proto.is, local.is, lport.is, remote.is, rport.is) (all_both within equal ∙ ap (λ t. all_pass within && t) (five_in_order v w x y z))
 
 -- a filter covers another exactly where its mask is within the other's, whose values under it are its own
 pub covers-masked : (f g : Filter) → IsFilter f → IsFilter g

@@ -12,22 +12,67 @@ use Rattle.trace_reader.specs.Records.{opened, capture_of, AreNumbered}
 use Rattle.trace_reader.specs.Answers.{Reading, AnswersNext, AnswersTrace, HandsOn, HandsPackets, HandsSteered}
 use Rattle.trace_reader.proofs.CaptureSoFar.{Progress, progress_start, progress_packet, progress_skipped, progress_end, progress_cut, progress_fault}
 
--- one more packet behind has the next number
+-- one more packet after these has the next number
 numbered_push : (n : ℕ) (ps : List Packet) (p : Packet) → AreNumbered n ps → p.number ≡ n + length ps → AreNumbered n (ps ++ p ∷ [])
 numbered_push n [] p first last = (omega (arith, last), tt)
 numbered_push n (q ∷ ps) p first last = (first.0, numbered_push (n + 1) ps p first.1 (omega (arith, last)))
 
-module _ {K S : Type 0} (HasKept : K → S → List Packet → Type 0) where
-  -- some packets were read, and the keeper has them behind those before
-  pub record Handed (whole : Result Trace TraceFault) (now : Reading) (skipped : ℕ) (old new : K) : Type 0 where
-    pub packets : List Packet
-    pub so_far : Progress whole now packets skipped
-    pub counted : length packets ≡ now.count
-    pub kept : HandsOn HasKept old new packets
+-- some packets were read, and they were kept
+pub record Handed (whole : Result Trace TraceFault) (now : Reading) (skipped : ℕ) (Kept : List Packet → Type 0) : Type 0 where
+  pub packets : List Packet
+  pub so_far : Progress whole now packets skipped
+  pub counted : length packets ≡ now.count
+  pub kept : Kept packets
 
-  -- behind the header the keeper has none
+module _ (Kept : List Packet → Type 0) (whole : Result Trace TraceFault) where
+  -- a reader that read nothing is as far as before
+  pub handed_same : (before after : Reading) (skipped : ℕ) → after ≡ before → Handed whole before skipped Kept → Handed whole after skipped Kept
+  handed_same before after skipped same h = subst (λ (now : Reading). Handed whole now skipped Kept) (sym same) h
+
+  -- a record of another kind is counted
+  pub handed_skipped : (before after : Reading) (skipped : ℕ) → Handed whole before skipped Kept → AnswersNext before after (Ok next.Skipped)
+      → after.form ≡ before.form → after.count ≡ before.count → Handed whole after (skipped + 1) Kept
+  handed_skipped before after skipped h answers same_form as_many = record {
+    packets = h.packets;
+    so_far = progress_skipped whole before after h.packets skipped h.so_far answers same_form as_many;
+    counted = h.counted ∙ sym as_many;
+    kept = h.kept;
+  }
+
+  -- at its end they are all packets
+  pub handed_end : (before after : Reading) (skipped : ℕ) → Handed whole before skipped Kept → AnswersNext before after (Ok next.End)
+      → HandsPackets Kept whole after.left (Ok (record { packets = before.count; skipped = skipped; cut = false }))
+  handed_end before after skipped h answers =
+      let ends = progress_end whole before after h.packets skipped h.so_far answers in
+      (h.packets, ends.0, h.counted, ends.1, h.kept)
+
+  pub handed_cut : (before after : Reading) (skipped : ℕ) → Handed whole before skipped Kept → AnswersNext before after (Ok next.Cut)
+      → HandsPackets Kept whole after.left (Ok (record { packets = before.count; skipped = skipped; cut = true }))
+  handed_cut before after skipped h answers =
+      let ends = progress_cut whole before after h.packets skipped h.so_far answers in
+      (h.packets, ends.0, h.counted, ends.1, h.kept)
+
+  -- a fault is answered in the same way
+  pub into_fault : (left : Option (List ℕ)) (e : TraceFault) → AnswersTrace whole left (Err e) → HandsPackets Kept whole left (Err e)
+  into_fault left fault.Magic due = due
+  into_fault left fault.PcapNg due = due
+  into_fault left fault.Version due = due
+  into_fault left (fault.LinkType n) due = due
+  into_fault left (fault.RecordLength offset n) due = due
+  into_fault left (fault.TooLong offset) due = due
+  into_fault left (fault.Header n) due = due
+  into_fault left fault.Read due = tt
+  into_fault left fault.NoMemory due = tt
+
+  pub handed_fault : (before after : Reading) (skipped : ℕ) (left : Option (List ℕ)) (e : TraceFault)
+      → Handed whole before skipped Kept → AnswersNext before after (Err e) → HandsPackets Kept whole left (Err e)
+  handed_fault before after skipped left e h answers =
+      into_fault left e (progress_fault whole before after h.packets skipped left e h.so_far answers)
+
+module _ {K S : Type 0} (HasKept : K → S → List Packet → Type 0) where
+  -- after the header the keeper has none
   pub handed_start : (bytes : List ℕ) (now : Reading) (keeper : K) → opened bytes ≡ Ok now.form
-      → now.left ≡ Some (drop 24 bytes) → now.place ≡ 24 → now.count ≡ 0 → Handed (capture_of bytes) now 0 keeper keeper
+      → now.left ≡ Some (drop 24 bytes) → now.place ≡ 24 → now.count ≡ 0 → Handed (capture_of bytes) now 0 (HandsOn HasKept keeper keeper)
   handed_start bytes now keeper due is at none = record {
     packets = [];
     so_far = progress_start bytes now [] due is at none refl;
@@ -35,17 +80,12 @@ module _ {K S : Type 0} (HasKept : K → S → List Packet → Type 0) where
     kept = λ setup before has. subst (λ (ps : List Packet). HasKept keeper setup ps) (sym (append-nil before)) has;
   }
 
-  -- a reader that read nothing is as far as before
-  pub handed_same : (whole : Result Trace TraceFault) (before after : Reading) (skipped : ℕ) (old new : K)
-      → after ≡ before → Handed whole before skipped old new → Handed whole after skipped old new
-  handed_same whole before after skipped old new same h = subst (λ (now : Reading). Handed whole now skipped old new) (sym same) h
-
   -- the keeper takes one more
   pub handed_packet : (whole : Result Trace TraceFault) (before after : Reading) (skipped : ℕ) (old mid new : K) (packet : Packet)
-      → Handed whole before skipped old mid → AnswersNext before after (Ok (next.Packet packet))
+      → Handed whole before skipped (HandsOn HasKept old mid) → AnswersNext before after (Ok (next.Packet packet))
       → after.form ≡ before.form → after.count ≡ before.count + 1
       → ((setup : S) (first : List Packet) → HasKept mid setup first → HasKept new setup (first ++ packet ∷ []))
-      → Handed whole after skipped old new
+      → Handed whole after skipped (HandsOn HasKept old new)
   handed_packet whole before after skipped old mid new packet h answers same_form one_more keeps = record {
     packets = h.packets ++ packet ∷ [];
     so_far = progress_packet whole before after h.packets (h.packets ++ packet ∷ []) skipped packet h.so_far answers same_form one_more refl;
@@ -77,47 +117,3 @@ module _ {K S : Type 0} (HasKept : K → S → List Packet → Type 0) where
     kept = λ setup first has. subst (λ (ps : List Packet). HasKept new setup ps) (append_assoc first h.packets (packet ∷ []))
         (keeps setup (first ++ h.packets) (h.kept setup first has));
   }
-
-  -- a record of another kind is counted
-  pub handed_skipped : (whole : Result Trace TraceFault) (before after : Reading) (skipped : ℕ) (old new : K)
-      → Handed whole before skipped old new → AnswersNext before after (Ok next.Skipped)
-      → after.form ≡ before.form → after.count ≡ before.count → Handed whole after (skipped + 1) old new
-  handed_skipped whole before after skipped old new h answers same_form as_many = record {
-    packets = h.packets;
-    so_far = progress_skipped whole before after h.packets skipped h.so_far answers same_form as_many;
-    counted = h.counted ∙ sym as_many;
-    kept = h.kept;
-  }
-
-  -- at its end the keeper has them all
-  pub handed_end : (whole : Result Trace TraceFault) (before after : Reading) (skipped : ℕ) (old new : K)
-      → Handed whole before skipped old new → AnswersNext before after (Ok next.End)
-      → HandsPackets (HandsOn HasKept old new) whole after.left (Ok (record { packets = before.count; skipped = skipped; cut = false }))
-  handed_end whole before after skipped old new h answers =
-      let ends = progress_end whole before after h.packets skipped h.so_far answers in
-      (h.packets, ends.0, h.counted, ends.1, h.kept)
-
-  pub handed_cut : (whole : Result Trace TraceFault) (before after : Reading) (skipped : ℕ) (old new : K)
-      → Handed whole before skipped old new → AnswersNext before after (Ok next.Cut)
-      → HandsPackets (HandsOn HasKept old new) whole after.left (Ok (record { packets = before.count; skipped = skipped; cut = true }))
-  handed_cut whole before after skipped old new h answers =
-      let ends = progress_cut whole before after h.packets skipped h.so_far answers in
-      (h.packets, ends.0, h.counted, ends.1, h.kept)
-
-  -- a fault is answered in the same way
-  pub into_fault : (whole : Result Trace TraceFault) (old new : K) (left : Option (List ℕ)) (e : TraceFault)
-      → AnswersTrace whole left (Err e) → HandsPackets (HandsOn HasKept old new) whole left (Err e)
-  into_fault whole old new left fault.Magic due = due
-  into_fault whole old new left fault.PcapNg due = due
-  into_fault whole old new left fault.Version due = due
-  into_fault whole old new left (fault.LinkType n) due = due
-  into_fault whole old new left (fault.RecordLength offset n) due = due
-  into_fault whole old new left (fault.TooLong offset) due = due
-  into_fault whole old new left (fault.Header n) due = due
-  into_fault whole old new left fault.Read due = tt
-  into_fault whole old new left fault.NoMemory due = tt
-
-  pub handed_fault : (whole : Result Trace TraceFault) (before after : Reading) (skipped : ℕ) (old new : K) (left : Option (List ℕ)) (e : TraceFault)
-      → Handed whole before skipped old new → AnswersNext before after (Err e) → HandsPackets (HandsOn HasKept old new) whole left (Err e)
-  handed_fault whole before after skipped old new left e h answers =
-      into_fault whole old new left e (progress_fault whole before after h.packets skipped left e h.so_far answers)

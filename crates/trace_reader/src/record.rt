@@ -1,4 +1,4 @@
-ghost use Rattle.std.specs.Prelude.{◌≡◌, ◌≢◌, ◌<◌, ◌≤◌, ℕ, ◌^◌, ◌+◌, List, min, length, take, None, Ok, Err, IfOk, IfSome};
+ghost use Rattle.std.specs.Prelude.{◌≡◌, ◌≢◌, ◌<◌, ◌≤◌, ℕ, ◌+◌, List, min, length, take, None, Ok, Err, IfOk, IfSome};
 ghost use Rattle.std.specs.Io.{StartsWith};
 ghost use Rattle.nf_io.specs.Meaning.{StaysOpen, untouched};
 ghost use Rattle.trace_reader.specs.Limits.{front_size, head_size, most_bytes, most_captured};

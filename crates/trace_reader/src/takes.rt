@@ -1,6 +1,4 @@
-ghost use Rattle.std.specs.Prelude.{◌≡◌, ◌≤◌, ◌<◌, min, Some, length, take, drop, IfOk};
-ghost use Rattle.std.specs.Option.{ForSome};
-ghost use Rattle.std.specs.Io.KnownBytes.{IsAtEnd};
+ghost use Rattle.std.specs.Prelude.{◌≤◌, ◌<◌, min, length, IfOk};
 ghost use Rattle.nf_io.specs.Meaning.{HasCause, StaysOpen, untouched};
 ghost use Rattle.trace_reader.specs.Takes.{Fills, Skips, TakesBody, body};
 

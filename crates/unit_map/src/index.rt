@@ -1,5 +1,5 @@
 //! The index of a map: where the entries of keys stand, by their hashes.
-ghost use Rattle.std.specs.Prelude.{◌≡◌, ℕ, Bool, true, false, ◌+◌, ◌-◌, ◌<◌, ◌≤◌, ◌^◌, List, [], ◌∷◌, ◌++◌, length, vec_len, Option, Some, None, IfSome, IfNone, IfOk, OnOk, OnErr, filter};
+ghost use Rattle.std.specs.Prelude.{◌≡◌, ℕ, true, false, ◌+◌, ◌<◌, ◌≤◌, [], ◌∷◌, ◌++◌, length, vec_len, None, IfSome, IfNone, IfOk, OnOk, OnErr, filter};
 ghost use Rattle.std.specs.Map.{lookup, keys_of};
 ghost use Rattle.unit_map.specs.Entries.{IsMap, is_place_of, record_of, has_record};
 ghost use Rattle.unit_map.specs.Notes.{KeyRules, EntryNote, key_rules, hash_of, tag_of, start_of, has_key, IsNoted};

@@ -1,5 +1,5 @@
 //! The map itself.
-ghost use Rattle.std.specs.Prelude.{◌≡◌, ℕ, true, ◌<◌, List, [], length, Option, Some, None, IfSome, IfNone, IfOk, OnOk, OnErr};
+ghost use Rattle.std.specs.Prelude.{◌≡◌, true, ◌<◌, [], length, Option, Some, None, IfSome, IfNone, IfOk, OnOk, OnErr};
 ghost use Rattle.std.specs.Borrow.{sem};
 ghost use Rattle.std.specs.List.{AllZip};
 ghost use Rattle.std.specs.Map.{lookup, update, keys_of};

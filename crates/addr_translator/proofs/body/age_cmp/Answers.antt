@@ -1,5 +1,5 @@
 -- The fields are compared in the order of the body.
-use Rattle.std.proofs.Common.{rules, arith}
+use Rattle.std.proofs.Common.{rules}
 use Rattle.addr_translator.proofs.BodyOrder.{Within, age_by_parts}
 use Rattle.addr_translator.proofs.body.age_cmp.Goals as goal
 

@@ -1,6 +1,6 @@
 -- Each turn reads one mapping more.
-use Rattle.std.proofs.Common.{◌≡◌, None, Some, rules, refl, option_map}
-use Rattle.addr_translator.specs.Body.{first_mapping, mappings_in, with_mappings}
+use Rattle.std.proofs.Common.{◌≡◌, None, Some, rules, refl}
+use Rattle.addr_translator.specs.Body.{first_mapping}
 use Rattle.addr_translator.proofs.MappingsRead.{none_at, read_one, read_all}
 use Rattle.addr_translator.proofs.body.mappings_in.Goals as goal
 

@@ -11,7 +11,7 @@ returns-then-are_behind c =
     all_behind c.args.packets c.args.lines.now c.items.result.now c.into_items.result.items c.are_behind.result c.items.ensures c.into_items.ensures c.are_behind.ensures c.if-are_behind.true
 
 pub returns : goal.returns
-returns c = all_written c.args.packets c.args.lines.now c.loop-item.point c.loop-item.waiting.items _ c.loop-item.out.items
+returns c = all_written (record { packets = c.args.packets; lines = c.args.lines.now }) c.loop-item.point c.loop-item.waiting.items _ c.loop-item.out.items
     c.in_default.ensures.items c.in_default.ensures.rest c.loop-item.invariant.so_far
 
 pub loop-item-init : goal.loop-item-init
@@ -19,7 +19,7 @@ loop-item-init c = record {
   fits = search rules;
   short = search rules;
   ahead = search rules;
-  so_far = so_far_start c.args.packets c.args.lines.now c.from_vec-waiting.result.items c.in_ok-out.out.items
+  so_far = so_far_start (record { packets = c.args.packets; lines = c.args.lines.now }) c.from_vec-waiting.result.items c.in_ok-out.out.items
       (c.from_vec-waiting.ensures.items ∙ c.into_items-2.ensures) c.in_ok-out.ensures;
 }
 
@@ -28,7 +28,7 @@ loop-item-preserved c = let rest = c.loop-item.rest.now in let count = c.count_a
   fits = fits_on c.loop-item.waiting.items c.in-Some.item _ c.loop-item.point c.in-Some.ensures.items c.loop-item.invariant.fits;
   short = still_short count rest _ c.loop-item.invariant.short (take_rest rest count);
   ahead = ahead_next (λ line. line.now) c.loop-item.point count rest _ lines c.loop-item.invariant.ahead c.count_at-count.ensures.count (take_rest rest count);
-  so_far = so_far_more c.args.packets lines c.loop-item.point c.loop-item.waiting.items _ c.loop-item.out.items _ c.push_lines.new.out.items _ c.in-Some.item
+  so_far = so_far_more (record { packets = c.args.packets; lines = lines }) c.loop-item.point c.loop-item.waiting.items _ c.loop-item.out.items _ c.push_lines.new.out.items _ c.in-Some.item
       (said_first (λ line. line.now) c.loop-item.point count rest lines c.loop-item.invariant.ahead c.count_at-count.ensures.count)
       c.in_ok-push_lines.ensures c.in_ok-push.ensures.items c.in-Some.ensures.items c.loop-item.invariant.so_far;
 }

@@ -10,7 +10,7 @@ invariant-loop-item l = record {
   fits : l.point + length l.waiting.items < 2 ^ 64;
   short : length l.rest * 8 < 2 ^ 64;
   ahead : AreLinesFrom l.point (map (λ line. line.now) l.rest) l.lines;
-  so_far : SoFar l.fn.packets l.lines l.point l.waiting.items l.out.items;
+  so_far : SoFar (record { packets = l.fn.packets; lines = l.lines }) l.point l.waiting.items l.out.items;
 }
 
 abbrev pub decreases-loop-item : goal.decreases-loop-item

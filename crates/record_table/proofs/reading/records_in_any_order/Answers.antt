@@ -1,13 +1,12 @@
 -- A chunk brings its record, or is the first that is bad.
-use Rattle.std.proofs.Common.{◌≡◌, ◌+◌, Bool, true, false, [], ◌∷◌, ◌++◌, Option, Some, None, sym, ap, ◌∙◌, refl, take, subst}
+use Rattle.std.proofs.Common.{◌≡◌, Bool, true, false, [], ◌∷◌, ◌++◌, Some, sym, ap, ◌∙◌, refl, take}
 use Rattle.std.proofs.lemmas.List.{take_more}
 use Rattle.std.specs.Prelude.{not}
 use Rattle.std.specs.FinMap as finite
 use Rattle.std.specs.FinMap.{get-empty}
 use Rattle.nf_function.specs.Units.{unit_cmp}
 use Rattle.nf_function.specs.Semantics.{is_sound}
-use Rattle.record_table.specs.Table.{AreSound}
-use Rattle.record_table.specs.Chunks.{spelled, records_of, are_good}
+use Rattle.record_table.specs.Chunks.{spelled, records_of}
 use Rattle.record_table.proofs.RecordLookUps.{sound_with_kept}
 use Rattle.record_table.proofs.ChunkFronts.{brought_by_none, good_none, brings, good_more, bad_none, bad_again, first_bad}
 use Rattle.record_table.proofs.reading.records_in_any_order.Given.{Over}

@@ -1,11 +1,9 @@
 -- A chunk of a unit behind the last one brings its record.
-use Rattle.std.proofs.Common.{◌≡◌, ◌∙◌, ◌+◌, ◌∷◌, ◌++◌, [], true, Some, sym, ap, take, arith, subst}
-use Rattle.std.proofs.lemmas.List.{take_all, take_more}
-use Rattle.nf_function.specs.Semantics.{is_sound}
+use Rattle.std.proofs.Common.{◌≡◌, ◌∙◌, ◌+◌, ◌∷◌, ◌++◌, [], true, Some, sym, ap, take}
+use Rattle.std.proofs.lemmas.List.{take_more}
 use Rattle.record_table.specs.Chunks.{spelled}
 use Rattle.record_table.specs.Keeping.{is_behind}
-use Rattle.record_table.proofs.OrderedChunks.{InOrder, none_in_order, one_more}
-use Rattle.record_table.proofs.reading.records_in_order.Given.{Over}
+use Rattle.record_table.proofs.OrderedChunks.{none_in_order, one_more}
 use Rattle.record_table.proofs.reading.records_in_order.Goals as goal
 
 pub loop-chunk-init : goal.loop-chunk-init

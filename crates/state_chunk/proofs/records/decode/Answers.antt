@@ -1,5 +1,5 @@
 -- What is read is valid, and has one spelling.
-use Rattle.std.proofs.Common.{◌≡◌, Result, Ok, Err, IfOk, List, ℕ, arith}
+use Rattle.std.proofs.Common.{Result, Ok, Err, IfOk, List, ℕ, arith}
 use Rattle.nf_function.specs.Stored.{IsBytes}
 use Rattle.nf_function.specs.Semantics.{Semantics}
 use Rattle.nf_function.specs.Records.{Laws}

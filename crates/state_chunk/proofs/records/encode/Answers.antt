@@ -1,7 +1,6 @@
 -- What is written is read again, and begins with the version that the record needs.
-use Rattle.std.proofs.Common.{◌≡◌, refl, ap, ◌∙◌}
+use Rattle.std.proofs.Common.{refl}
 use Rattle.state_chunk.specs.Format.{record_bytes}
-use Rattle.state_chunk.specs.Reading.{record_read}
 use Rattle.state_chunk.proofs.RecordLemmas.{record_read-record_bytes}
 use Rattle.state_chunk.proofs.records.encode.Goals as goal
 

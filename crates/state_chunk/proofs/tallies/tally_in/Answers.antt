@@ -1,5 +1,5 @@
 -- The counts are the numbers that the body spells.
-use Rattle.std.proofs.Common.{◌≡◌, ◌∙◌, ℕ, length, ap, arith}
+use Rattle.std.proofs.Common.{◌∙◌, length, ap, arith}
 use Rattle.state_chunk.specs.Reading.{slots_of}
 use Rattle.state_chunk.proofs.TallyLemmas.{numbers_in-IsRead, numbers_in-None}
 use Rattle.state_chunk.proofs.tallies.tally_in.Goals as goal

@@ -2,7 +2,7 @@
 use Rattle.std.proofs.Common.{◌≡◌, ℕ, ◌-◌, ◌*◌, ◌^◌, ◌≤◌, List, None, Some}
 use Rattle.nf_io.specs.Meaning.{StaysOpen, untouched}
 use Rattle.trace_reader.specs.Records.{capture_of}
-use Rattle.trace_reader.specs.Answers.{reading_of, HandsSteered}
+use Rattle.trace_reader.specs.Answers.{reading_of, HandsOn, HandsSteered}
 use Rattle.trace_reader.proofs.KeeperSoFar.{Handed}
 use Rattle.trace_reader.proofs.trace.read_into.Given as goal
 
@@ -11,7 +11,7 @@ invariant-records g l = record {
   running : l.reader.stop ≡ None;
   few : 16 * l.skipped ≤ l.reader.place;
   told : (bytes : List ℕ) → g.S.Source.left l.fn.source ≡ Some bytes
-      → Handed g.K.Keeper.HasKept (capture_of bytes) (reading_of l.reader (g.S.Source.left l.source)) l.skipped l.fn.keeper l.keeper;
+      → Handed (capture_of bytes) (reading_of l.reader (g.S.Source.left l.source)) l.skipped (HandsOn g.K.Keeper.HasKept l.fn.keeper l.keeper);
   steered : HandsSteered g.K.Keeper.HasKept l.fn.keeper l.keeper l.reader.count;
   later : g.S.Source.faults l.fn.source ≤ g.S.Source.faults l.source;
   stays : StaysOpen g.S.Source.IsOpen (untouched g.S.Source.loan g.S.Source.rest) l.fn.source l.source;

@@ -8,7 +8,7 @@ use Rattle.instance_worker.proofs.instance.Instance.send_pieces.Given as goal
 
 abbrev pub invariant-loop-left : goal.invariant-loop-left
 invariant-loop-left g l = record {
-  sends : IsLeft l.whole l.op l.left.items l.out.0 (l.initial.out.0 ++ told (map (Piece l.op) (pieces l.fn.chunks)));
+  sends : IsLeft (record { op = l.op; whole = l.whole; all = l.initial.out.0 ++ told (map (Piece l.op) (pieces l.fn.chunks)) }) l.left.items l.out.0;
   notes : l.out.1 ≡ l.initial.out.1;
 }
 

@@ -1,5 +1,5 @@
 -- The unit's record is the new one, and a unit that had none is counted.
-use Rattle.std.proofs.Common.{Some, ◌∙◌, sym, ap, arith, ◌+◌, is_some, ◌≡◌, Bool, true, false, refl}
+use Rattle.std.proofs.Common.{Some, ◌∙◌, sym, ap, arith, ◌+◌, is_some, ◌≡◌, Bool, true, false}
 use Rattle.std.specs.Prelude.{not}
 use Rattle.std.specs.FinMap as finite
 use Rattle.record_table.specs.Entries.{map_of}

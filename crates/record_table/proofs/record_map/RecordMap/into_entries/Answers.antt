@@ -1,6 +1,6 @@
 -- The entries are those that the finite map is read from.
 use Rattle.std.proofs.Common.{ap, ◌∙◌}
-use Rattle.record_table.specs.Entries.{map_of, AreEntriesOf}
+use Rattle.record_table.specs.Entries.{map_of}
 use Rattle.record_table.proofs.record_map.RecordMap.into_entries.Goals as goal
 
 pub returns : goal.returns

@@ -1,17 +1,16 @@
 -- Each record that comes is put at the place of its unit, and counted where there was none.
-use Rattle.std.proofs.Common.{◌≡◌, ℕ, ◌+◌, ◌≤◌, Bool, true, false, List, [], ◌∷◌, ◌++◌, length, map, Option, is_some, refl, sym, ap, ◌∙◌, arith, rules}
+use Rattle.std.proofs.Common.{◌≡◌, true, [], ◌∷◌, ◌++◌, length, refl, sym, ap, ◌∙◌, arith}
 use mir.Val.{bool_byte}
 use Rattle.std.specs.List.{AllZip, IsDistinct}
 use Rattle.std.specs.Map.{keys_of}
 use Rattle.std.specs.FinMap as finite
-use Rattle.nf_function.specs.declared.unit.Unit as units
-use Rattle.unit_map.specs.Entries.{Entries, IsMap, is_place_of, with_record, record_of}
+use Rattle.unit_map.specs.Entries.{is_place_of, with_record}
 use Rattle.unit_map.proofs.EntryLemmas.{place_within, keys_added, map_with_record}
 use Rattle.record_table.specs.Table.{joined, either}
 use Rattle.record_table.specs.Entries.{map_of}
 use Rattle.record_table.specs.Keeping.{choice}
 use Rattle.record_table.proofs.UnitOrder.{unit_eq, unit_eq_equiv}
-use Rattle.record_table.proofs.EntryMaps.{IsPut, put_at, kept_at, map_of-same, get-map_of, counted_at, within_at}
+use Rattle.record_table.proofs.EntryMaps.{put_at, kept_at, map_of-same, counted_at, within_at}
 use Rattle.record_table.proofs.Joining.{zip_front, zip_none, zip_weaker, keys_front, no_keys, same_places, whole_more, whole_none}
 use Rattle.record_table.proofs.Results.{on_err_given}
 use Rattle.record_table.proofs.record_map.RecordMap.join.Given.{Over}

@@ -1,16 +1,14 @@
 -- The record is stepped where it stands, at the place of the packet's unit, and counted where there was none.
-use Rattle.std.proofs.Common.{◌≡◌, ℕ, ◌+◌, ◌≤◌, Bool, true, false, Option, is_some, ◌∙◌, sym, ap, subst, arith}
+use Rattle.std.proofs.Common.{◌≡◌, true, Option, ◌∙◌, sym, ap, subst, arith}
 use mir.Val.{bool_byte}
 use Rattle.std.specs.FinMap as finite
 use Rattle.nf_function.specs.Units.{unit_of}
 use Rattle.nf_function.specs.Semantics.{unit_at, kept_after, output_for, is_sound}
-use Rattle.unit_map.specs.Entries.{record_of, with_record}
-use Rattle.unit_map.proofs.EntryLemmas.{map_with_record}
+use Rattle.unit_map.specs.Entries.{with_record}
 use Rattle.record_table.specs.Table.{AreSound, with_kept}
 use Rattle.record_table.specs.Entries.{map_of}
-use Rattle.record_table.proofs.UnitOrder.{unit_eq, unit_eq_equiv}
 use Rattle.record_table.proofs.RecordLookUps.{with_kept_same, sound_with_kept}
-use Rattle.record_table.proofs.EntryMaps.{IsPut, put_at, kept_at, map_of-same, get-map_of, counted_at, within_at}
+use Rattle.record_table.proofs.EntryMaps.{IsPut, put_at, kept_at, map_of-same, counted_at, within_at}
 use Rattle.record_table.proofs.Results.{on_err_given}
 use Rattle.record_table.proofs.record_map.RecordMap.step.Given.{Over}
 use Rattle.record_table.proofs.record_map.RecordMap.step.Goals as goal

@@ -1,8 +1,8 @@
 -- The unit has no record, and one that was there is counted off.
-use Rattle.std.proofs.Common.{None, ◌∙◌, sym, ap, arith, ◌+◌, is_some, ◌≡◌}
+use Rattle.std.proofs.Common.{None, ◌∙◌, ap, arith, ◌+◌, ◌≡◌}
 use Rattle.std.specs.FinMap as finite
 use Rattle.record_table.specs.Entries.{map_of}
-use Rattle.record_table.proofs.EntryMaps.{get-map_of, IsPut, put, counted_off}
+use Rattle.record_table.proofs.EntryMaps.{IsPut, put, counted_off}
 use Rattle.record_table.proofs.record_map.RecordMap.take.Given.{Over}
 use Rattle.record_table.proofs.record_map.RecordMap.take.Goals as goal
 use Rattle.record_table.proofs.record_map.RecordMap.take.Goals.{After-from}

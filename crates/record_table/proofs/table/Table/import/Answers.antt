@@ -1,5 +1,5 @@
 -- There is room for each record that comes.
-use Rattle.std.proofs.Common.{◌≡◌, ◌≤◌, ap, ◌∙◌, arith}
+use Rattle.std.proofs.Common.{ap, arith}
 use Rattle.std.proofs.lemmas.Result.{on_ok_weaker}
 use Rattle.std.specs.FinMap as finite
 use Rattle.nf_function.specs.Records.{newest}

@@ -1,7 +1,7 @@
 -- The units' records are taken out, and those that stay are counted.
 use Rattle.std.proofs.Common.{◌≡◌, ◌+◌, None, cond, ap, ◌∙◌, arith}
 use Rattle.std.specs.FinMap as finite
-use Rattle.record_table.specs.Table.{is_among, without}
+use Rattle.record_table.specs.Table.{is_among}
 use Rattle.record_table.proofs.RecordLookUps.{get-without, sound_retain_keys}
 use Rattle.record_table.proofs.SortedEntries.{len_parts}
 use Rattle.record_table.proofs.table.Table.remove.Given.{Over}

@@ -1,9 +1,8 @@
 -- Each record that is taken is valid for its unit, so that it has a chunk, which is read again.
-use Rattle.std.proofs.Common.{◌≡◌, true, map, sym, ap, subst, ◌∙◌, arith}
+use Rattle.std.proofs.Common.{◌≡◌, map, sym, ap, subst, ◌∙◌, arith}
 use Rattle.std.proofs.lemmas.List.{take_all}
-use Rattle.std.specs.FinMap as finite
 use Rattle.state_chunk.specs.Format.{record_chunk}
-use Rattle.record_table.specs.Table.{Records, taken_by, AreSound}
+use Rattle.record_table.specs.Table.{taken_by, AreSound}
 use Rattle.record_table.specs.Chunks.{chunks_of, AreReadAs}
 use Rattle.record_table.proofs.RecordLookUps.{sound_retain_keys}
 use Rattle.record_table.proofs.MadeChunks.{seen, seen_valid, chunks_seen, table_read}

@@ -1,5 +1,5 @@
 -- Each unit has the newer of its two records that stand by.
-use Rattle.std.proofs.Common.{ap, ◌∙◌}
+use Rattle.std.proofs.Common.{ap}
 use Rattle.std.proofs.lemmas.Result.{on_ok_weaker}
 use Rattle.record_table.specs.Chunks.{records_of}
 use Rattle.record_table.proofs.RecordLookUps.{each_newest}
