@@ -12,20 +12,20 @@ use Rattle.trace_reader.specs.Records.{opened, capture_of, AreNumbered}
 use Rattle.trace_reader.specs.Answers.{Reading, AnswersNext, AnswersTrace, HandsOn, HandsPackets, HandsSteered}
 use Rattle.trace_reader.proofs.CaptureSoFar.{Progress, progress_start, progress_packet, progress_skipped, progress_end, progress_cut, progress_fault}
 
--- one more packet behind has the next number
+-- one more packet after these has the next number
 numbered_push : (n : ℕ) (ps : List Packet) (p : Packet) → AreNumbered n ps → p.number ≡ n + length ps → AreNumbered n (ps ++ p ∷ [])
 numbered_push n [] p first last = (omega (arith, last), tt)
 numbered_push n (q ∷ ps) p first last = (first.0, numbered_push (n + 1) ps p first.1 (omega (arith, last)))
 
 module _ {K S : Type 0} (HasKept : K → S → List Packet → Type 0) where
-  -- some packets were read, and the keeper has them behind those before
+  -- some packets were read, and the keeper has them after those before
   pub record Handed (whole : Result Trace TraceFault) (now : Reading) (skipped : ℕ) (old new : K) : Type 0 where
     pub packets : List Packet
     pub so_far : Progress whole now packets skipped
     pub counted : length packets ≡ now.count
     pub kept : HandsOn HasKept old new packets
 
-  -- behind the header the keeper has none
+  -- after the header the keeper has none
   pub handed_start : (bytes : List ℕ) (now : Reading) (keeper : K) → opened bytes ≡ Ok now.form
       → now.left ≡ Some (drop 24 bytes) → now.place ≡ 24 → now.count ≡ 0 → Handed (capture_of bytes) now 0 keeper keeper
   handed_start bytes now keeper due is at none = record {
