@@ -5,3 +5,4 @@ pub mod Body
 pub mod Nat
 pub mod BodyLemmas
 pub mod StepLemmas
+pub mod WordRoom

@@ -9,7 +9,7 @@ use Rattle.std.proofs.lemmas.Cmp.{nat_eq_equiv}
 use Rattle.basics.proofs.ListLemmas.{none_passes}
 use Rattle.flow_filter.specs.declared.packet.Packet.{Packet}
 use Rattle.flow_filter.specs.declared.site.Site.{Site}
-use Rattle.flow_filter.specs.Flow.{flow_of, ports_per_host}
+use Rattle.flow_filter.specs.Flow.{flow_of, first_port, ports_per_host}
 use Rattle.nf_function.specs.declared.kind.Kind.TheVariants.{Nat}
 use Rattle.nf_function.specs.declared.unit.Unit as units
 use Rattle.nf_function.specs.declared.unit.Unit.TheVariants.{Flow as OfFlow, Host as OfHost}
@@ -101,7 +101,7 @@ module _ (host : ℕ) (r : Translation) (has : HasRoom host r) where
   -- however a packet passes, what it leaves is valid
   pub translated_valid : (passage : Passage) (p : Packet) → is_mapping (source p) ≡ true → is_valid (OfHost host) (translated passage host r p).kept ≡ true
   translated_valid (Leaves outside) p is = left_valid outside (source p) (position (λ m. mapping_eq m (source p)) r.mappings) is refl
-  translated_valid Returns p is = returned_valid p (slice_get r.mappings ((p.dport - 1024) % ports_per_host))
+  translated_valid Returns p is = returned_valid p (slice_get r.mappings ((p.dport - first_port) % ports_per_host))
   translated_valid Direct p is = dropped_valid 5
   translated_valid Other p is = kept_valid
 

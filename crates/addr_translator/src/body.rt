@@ -7,8 +7,9 @@ ghost use Rattle.addr_translator.specs.Nat.{nat};
 ghost use Rattle.flow_filter.specs.Flow.{ports_per_host};
 
 use crate::mapping::Mapping;
-use crate::record::{NatRecord, PORTS_PER_HOST};
+use crate::record::NatRecord;
 use basics::{Bytes, NoMemory};
+use flow_filter::PORTS_PER_HOST;
 use nf_function::stored::{first_byte, first_u16, first_u64, push_u16, push_u64};
 use nf_function::{Unit, is_transport};
 use std::cmp::Ordering;

@@ -2,11 +2,8 @@ ghost use Rattle.std.specs.Prelude.{◌≡◌, false};
 ghost use Rattle.nf_function.specs.Units.{is_transport};
 ghost use Rattle.addr_translator.specs.Table.{passage_of, leaving};
 
-use flow_filter::{Packet, Site};
+use flow_filter::{FIRST_PORT, Packet, Site};
 use nf_function::is_transport;
-
-/// The first outside port that belongs to an inside host.
-pub const FIRST_PORT: u16 = 1024;
 
 /// How a packet passes the border of a site.
 #[derive(Clone, Copy, Debug, PartialEq, Eq)]

@@ -6,10 +6,8 @@ ghost use Rattle.addr_translator.specs.Table.{counted};
 ghost use Rattle.flow_filter.specs.Flow.{ports_per_host};
 
 use crate::mapping::Mapping;
+use flow_filter::PORTS_PER_HOST;
 use std::marker::Model;
-
-/// How many outside ports each inside host has.
-pub const PORTS_PER_HOST: usize = 252;
 
 /// What the translator keeps of an inside host, which contracts see as its mappings and counts.
 ///

@@ -6,9 +6,9 @@ ghost use Rattle.addr_translator.specs.Mappings.{mapping_eq};
 ghost use Rattle.addr_translator.specs.Table.{code, counted, dropped, left, opened, mapped, source as source_of, stepped, translated};
 
 use crate::mapping::Mapping;
-use crate::passage::{FIRST_PORT, Passage};
-use crate::record::{NatRecord, PORTS_PER_HOST, place_of};
-use flow_filter::{Packet, Site, flow_of};
+use crate::passage::Passage;
+use crate::record::{NatRecord, place_of};
+use flow_filter::{FIRST_PORT, PORTS_PER_HOST, Packet, Site, flow_of};
 use nf_function::{Output, is_transport};
 
 /// The codes of outputs.

@@ -1,6 +1,7 @@
 //! The texts of outputs and records.
 ghost use Rattle.std.specs.Prelude.{◌≡◌, ◌≤◌, ◌++◌, length, OnOk, OnErr};
 ghost use Rattle.addr_translator.specs.Text.{endpoint_text, output_text, record_text};
+ghost use Rattle.addr_translator.specs.WordRoom.{word_room};
 
 use crate::record::NatRecord;
 use arrayvec::ArrayString;
@@ -31,7 +32,7 @@ pub fn push_output(text: &mut Text, output: &Output) -> Result<(), NoMemory>
 /// A word, an address and a port, which takes no memory.
 #[tactic(auto, unfolding(crate::specs::Text::endpoint_text))]
 fn endpoint_text(word: &str, output: &Output) -> Line
-    requires { length word.now ≤ 8 }
+    requires { length word.now ≤ word_room }
     ensures { result.bytes ≡ endpoint_text word.now output.now }
 {
     let mut buffer = Buffer::new();

@@ -10,3 +10,4 @@ pub mod ServiceLemmas
 pub mod RowLemmas
 pub mod BodyLemmas
 pub mod StepLemmas
+pub mod WordRoom

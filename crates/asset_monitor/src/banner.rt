@@ -1,5 +1,6 @@
 ghost use Rattle.std.specs.Prelude.{◌≡◌, ◌≤◌, length};
 ghost use Rattle.asset_monitor.specs.Banners.{all_banners, banner_in, banner_of, is_unseen, name_of, banner_number};
+ghost use Rattle.asset_monitor.specs.WordRoom.{banner_room};
 
 /// What a service's packets were seen to begin with.
 #[derive(Clone, Copy, Debug, PartialEq, Eq, PartialOrd, Ord)]
@@ -80,7 +81,7 @@ impl Banner {
     /// The banner's name.
     pub fn name(self) -> &'static str
         ensures name { result.now ≡ name_of self }
-        ensures short { length result.now ≤ 8 }
+        ensures short { length result.now ≤ banner_room }
     {
         match self {
             Banner::Unseen => "-",

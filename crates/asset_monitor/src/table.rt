@@ -9,7 +9,7 @@ use crate::record::AssetRecord;
 use crate::service::Service;
 use crate::services::SERVICES_PER_HOST;
 use basics::NoMemory;
-use flow_filter::{Direction, Packet, TCP, UDP};
+use flow_filter::{ACK, Direction, Packet, RST, SYN, TCP, UDP};
 use nf_function::{Output, is_transport};
 use std::alloc::Global;
 
@@ -24,15 +24,6 @@ const BANNER: u8 = 2;
 
 /// A service was found, and its host has no room for one more.
 const FULL: u8 = 3;
-
-/// Flags of the TCP header.
-const SYN: u8 = 2;
-
-/// The flag RST.
-const RST: u8 = 4;
-
-/// The flag ACK.
-const ACK: u8 = 16;
 
 /// The first port that doesn't belong to servers.
 const FIRST_CLIENT_PORT: u16 = 1024;

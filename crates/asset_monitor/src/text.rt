@@ -4,6 +4,7 @@ ghost use Rattle.std.specs.List.{flat_map};
 ghost use Rattle.std.specs.Option.{option_map_or};
 ghost use Rattle.flow_filter.specs.FilterText.{protocol_text};
 ghost use Rattle.asset_monitor.specs.Banners.{banner_of, name_of};
+ghost use Rattle.asset_monitor.specs.WordRoom.{banner_room, protocol_room};
 ghost use Rattle.asset_monitor.specs.Text.{found_text, greeted_text, next_text, output_text, record_text, service_text, services_text};
 
 use crate::banner::Banner;
@@ -65,7 +66,7 @@ fn greeted_text(output: &Output) -> OutputText
 /// The name of the banner with this number, if there is one.
 fn name_of(number: u8) -> &'static str
     ensures name { result.now ≡ option_map_or name_of (banner_of number) [] }
-    ensures short { length result.now ≤ 8 }
+    ensures short { length result.now ≤ banner_room }
 {
     match Banner::numbered(number) {
         Some(banner) => banner.name(),
@@ -76,7 +77,7 @@ fn name_of(number: u8) -> &'static str
 /// The word of a protocol: `tcp`, or `udp` for any other.
 fn protocol_name(proto: u32) -> &'static str
     ensures name { result.now ≡ protocol_text proto }
-    ensures short { length result.now ≤ 3 }
+    ensures short { length result.now ≤ protocol_room }
 {
     if proto == u32::from(TCP) {
         "tcp"

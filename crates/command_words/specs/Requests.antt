@@ -3,7 +3,7 @@ use Rattle.std.specs.Prelude.{ℕ, Bool, true, false, not, ◌&&◌, ◌==◌, n
 use Rattle.std.specs.List.{slice_split}
 use Rattle.std.specs.Str.{bytes_eq}
 use Rattle.clap.specs.Words.{Text}
-use Rattle.flow_filter.specs.Prefixes.{in_prefix}
+use Rattle.flow_filter.specs.Prefixes.{in_prefix, translated_bits}
 use Rattle.flow_filter.specs.Name.{has_twice, is_name}
 use Rattle.basics.specs.Options.{◌>>=◌}
 use Rattle.basics.specs.Parsing.{split_once, parse_number}
@@ -89,7 +89,7 @@ limit_of text = parse_number most_records text
 abbrev pub with_suffix : Text → Option (ℕ × Bool) → Option Instance
 with_suffix name suffix = only (is_name name) (option_map (λ s. record { name = name; limit = s.0; marked = s.1 }) suffix)
 
--- what stands behind a name and a colon: `LIMIT`, `v1` or `LIMIT:v1`
+-- what stands after a name and a colon: `LIMIT`, `v1` or `LIMIT:v1`
 unfoldable pub suffix_of : Text → Option (ℕ × Bool)
 suffix_of text = if bytes_eq text (codes "v1") then Some (most_records, true) else parts (split_once colon text)
   where
@@ -105,7 +105,7 @@ instance_of text = parts (split_once colon text)
     parts None = with_suffix text (Some (most_records, false))
     parts (Some p) = with_suffix p.0 (suffix_of p.1)
 
--- an instance and those behind it
+-- an instance and those after it
 abbrev pub with_instance : Instance → Instances → Instances
 with_instance i rest = record { names = i.name ∷ rest.names; limits = i.limit ∷ rest.limits; marked = i.marked ∷ rest.marked }
 
@@ -122,10 +122,6 @@ instances_of text = all_instances (slice_split (λ b. b == comma) text) >>= λ i
 -- PREFIX: `A.B.C.D/L`
 unfoldable pub inside_of : Text → Option (ℕ × ℕ)
 inside_of text = only (is_some (split_once slash text)) (prefix_of text)
-
--- how long the prefix inside is, where addresses are translated
-abbrev pub translated_bits : ℕ
-translated_bits = 24
 
 -- the outside address: the translator needs one, and a /24 that doesn't hold it; the others have none
 abbrev pub outside_of : Kind → ℕ × ℕ → Option Text → Option (Option ℕ)

@@ -1,9 +1,9 @@
 ghost use Rattle.std.specs.Prelude.{◌≡◌, true, false, if◌then◌else◌, Some, None, ◌≤◌, ◌==◌, ◌&&◌, ◌-◌, not, IfOk, IfSome, option_map, option_and_then, is_some, is_none, map, length};
 ghost use Rattle.std.specs.List.{slice_split};
-ghost use Rattle.flow_filter.specs.Prefixes.{in_prefix};
+ghost use Rattle.flow_filter.specs.Prefixes.{in_prefix, translated_bits};
 ghost use Rattle.basics.specs.Parsing.{split_once, parse_number};
 ghost use Rattle.flow_filter.specs.Reading.{prefix_numbers};
-ghost use Rattle.command_words.specs.Requests.{function_of, limit_of, suffix_of, with_suffix, instance_of, all_instances, instances_of, inside_of, outside_of, window_of, count_of, given_number, schedule_of, file_of, file_if, translated_bits};
+ghost use Rattle.command_words.specs.Requests.{function_of, limit_of, suffix_of, with_suffix, instance_of, all_instances, instances_of, inside_of, outside_of, window_of, count_of, given_number, schedule_of, file_of, file_if};
 ghost use Rattle.command_words.specs.RequestViews.{instance_view, instances_view};
 ghost use Rattle.basics.specs.Bytes.{comma};
 
@@ -15,6 +15,9 @@ use flow_filter::reading::{address, prefix};
 use flow_filter::{Name, NoMemory, Prefix, Site};
 use nf_function::Kind;
 use std::alloc::Global;
+
+/// The length of the prefix inside, where a site translates.
+const TRANSLATED_BITS: u8 = 24;
 
 /// The limit of an instance that names none, and the greatest.
 const MOST_RECORDS: u32 = 1_000_000;
@@ -181,7 +184,7 @@ fn translating(inside: Prefix, outside: u32) -> Option<Site>
     ensures outside { option_map (λ s. s.outside) result ≡ (if inside.len == translated_bits && not (in_prefix inside.bits inside.len outside) then Some (Some outside) else None) }
     ensures inside { IfSome result (λ s. s.inside ≡ inside) }
 {
-    if inside.len == 24 && !inside.holds(outside) {
+    if inside.len == TRANSLATED_BITS && !inside.holds(outside) {
         Some(Site {
             inside,
             outside: Some(outside),

@@ -4,3 +4,4 @@ pub mod Body
 pub mod Conntrack
 pub mod BodyLemmas
 pub mod StepLemmas
+pub mod RecordRoom

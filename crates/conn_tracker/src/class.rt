@@ -1,17 +1,7 @@
 ghost use Rattle.std.specs.Prelude.{◌≡◌};
 ghost use Rattle.conn_tracker.specs.Table.{class_of};
 
-/// The flags of a TCP header, one bit each (RFC 9293): the sender has no more data.
-const FIN: u8 = 1;
-
-/// The sender's first number is told.
-const SYN: u8 = 2;
-
-/// The connection is reset.
-const RST: u8 = 4;
-
-/// Something is acknowledged.
-const ACK: u8 = 16;
+use flow_filter::{ACK, FIN, RST, SYN};
 
 /// What the flags of a TCP packet say of its connection.
 #[derive(Clone, Copy, Debug, PartialEq, Eq)]

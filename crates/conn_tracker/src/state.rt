@@ -1,5 +1,6 @@
 ghost use Rattle.std.specs.Prelude.{◌≡◌, ◌≤◌, length};
 ghost use Rattle.conn_tracker.specs.Table.{cell, row, first_tcp, next_udp, restarts, all_states, name_of, state_number, state_of};
+ghost use Rattle.conn_tracker.specs.RecordRoom.{state_room};
 ghost use Rattle.conn_tracker.specs.declared.class.Class.TheVariants.{Fin};
 
 use crate::class::Class;
@@ -133,7 +134,7 @@ impl State {
     /// The state's name.
     pub fn name(self) -> &'static str
         ensures name { result.now ≡ name_of self }
-        ensures short { length result.now ≤ 11 }
+        ensures short { length result.now ≤ state_room }
     {
         match self {
             State::Opening => "opening",

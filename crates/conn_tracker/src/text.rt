@@ -1,5 +1,6 @@
-ghost use Rattle.std.specs.Prelude.{◌≡◌, ◌≤◌, ◌++◌, length, OnOk, OnErr, IfOk};
+ghost use Rattle.std.specs.Prelude.{◌≡◌, ◌≤◌, ◌+◌, ◌++◌, length, OnOk, OnErr, IfOk};
 ghost use Rattle.conn_tracker.specs.Text.{direction_text, output_text, record_text, seen_text};
+ghost use Rattle.conn_tracker.specs.RecordRoom.{record_room, seen_room, direction_room};
 
 use crate::record::TrackRecord;
 use crate::state::State;
@@ -51,7 +52,7 @@ fn record_text(kept: &TrackRecord) -> RecordText
 
 /// Puts the time of the last packet after a text, where one is known.
 fn push_seen(text: &mut RecordText, seen: u64)
-    requires { length text.old.bytes ≤ 128 }
+    requires { length text.old.bytes + seen_room ≤ record_room }
     ensures { text.new.bytes ≡ text.old.bytes ++ seen_text seen }
 {
     if seen == 0 {
@@ -65,7 +66,7 @@ fn push_seen(text: &mut RecordText, seen: u64)
 /// The word of a direction: `out` of the site, or `in`.
 fn direction_name(direction: Direction) -> &'static str
     ensures name { result.now ≡ direction_text direction }
-    ensures short { length result.now ≤ 3 }
+    ensures short { length result.now ≤ direction_room }
 {
     match direction {
         Direction::Out => "out",

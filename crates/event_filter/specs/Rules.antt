@@ -62,7 +62,7 @@ module _ {P : Type 0} where
   abbrev pub ruled_by : Filter → Action → Rule P → Rule P
   ruled_by f act r = record r { filter = f; action = act }
 
-  -- a rule with one more parcel behind those that it holds
+  -- a rule with one more parcel after those that it holds
   abbrev pub holding : P → Rule P → Rule P
   holding parcel r = record r { held = r.held ++ parcel ∷ [] }
 
@@ -72,7 +72,7 @@ module _ {P : Type 0} where
       if is_some (rule_at rules op) then changed rules op (ruled_by f act)
       else rules ++ (record { op = op; filter = f; action = act; held = [] }) ∷ []
 
-  -- one more parcel held for an operation, behind the others
+  -- one more parcel held for an operation, after the others
   abbrev pub with_held : List (Rule P) → ℕ → P → List (Rule P)
   with_held rules op parcel = changed rules op (holding parcel)
 

@@ -7,3 +7,4 @@ pub mod Captured
 pub mod Filter
 pub mod Reading
 pub mod FilterText
+pub mod FilterRoom

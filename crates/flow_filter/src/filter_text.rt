@@ -1,8 +1,9 @@
-ghost use Rattle.std.specs.Prelude.{◌≡◌, ◌≤◌, ◌+◌, true, false, ◌++◌, ◌∷◌, ◌==◌, ◌||◌, if◌then◌else◌, IfOk, OnOk, OnErr, codes, length, option_map, is_some};
+ghost use Rattle.std.specs.Prelude.{◌≡◌, ◌≤◌, ◌<◌, ◌+◌, true, false, ◌++◌, ◌∷◌, ◌==◌, ◌||◌, if◌then◌else◌, IfOk, OnOk, OnErr, codes, length, option_map, is_some};
 ghost use Rattle.std.specs.Fmt.{decimal};
 ghost use Rattle.std.specs.List.{slice_split};
 ghost use Rattle.basics.specs.Parsing.{parse_number};
 ghost use Rattle.flow_filter.specs.FilterText.{parse, with_fields, with_field, with_named, with_proto, with_local, with_lport, with_remote, with_rport, protocol_of, fields_of, AgreesBy, print, is_printable, is_transport, after_commas, piece, protocol_text, prefix_text};
+ghost use Rattle.flow_filter.specs.FilterRoom.{text_room, protocol_room, name_room, prefix_room, port_room};
 ghost use Rattle.basics.specs.Bytes.{comma};
 ghost use Rattle.flow_filter.specs.Packet.{most_port};
 
@@ -245,10 +246,10 @@ fn printed(filter: Filter) -> Printed
 /// Puts the protocol after the text, where it is given, and answers whether a field was written.
 fn print_proto(out: &mut Printed, proto: Option<u8>) -> bool
     requires known { is_transport proto ≡ true }
-    requires room { length out.old.bytes ≤ 16 }
+    requires room { length out.old.bytes + protocol_room ≤ text_room }
     ensures begun { result ≡ is_some proto }
     ensures text { out.new.bytes ≡ out.old.bytes ++ after_commas false (piece (codes "proto=") (option_map protocol_text proto)) }
-    ensures short { length out.new.bytes ≤ length out.old.bytes + 16 }
+    ensures short { length out.new.bytes ≤ length out.old.bytes + protocol_room }
 {
     match proto {
         None => false,
@@ -265,11 +266,11 @@ fn print_proto(out: &mut Printed, proto: Option<u8>) -> bool
 
 /// Puts a prefix under its name after the text, where it is given, and answers whether a field was written so far.
 fn print_prefix(out: &mut Printed, begun: bool, name: &str, prefix: Option<Prefix>) -> bool
-    requires name { length name.now ≤ 7 }
-    requires room { length out.old.bytes ≤ 256 }
+    requires name { length name.now < name_room }
+    requires room { length out.old.bytes + name_room + prefix_room ≤ text_room }
     ensures begun { result ≡ (begun || is_some prefix) }
     ensures text { out.new.bytes ≡ out.old.bytes ++ after_commas begun (piece name.now (option_map prefix_text prefix)) }
-    ensures short { length out.new.bytes ≤ length out.old.bytes + 128 }
+    ensures short { length out.new.bytes ≤ length out.old.bytes + name_room + prefix_room }
 {
     let Some(prefix) = prefix else {
         return begun;
@@ -281,9 +282,9 @@ fn print_prefix(out: &mut Printed, begun: bool, name: &str, prefix: Option<Prefi
 
 /// Puts a prefix after the text, as `A.B.C.D/L`.
 fn push_prefix(out: &mut Printed, prefix: Prefix)
-    requires room { length out.old.bytes ≤ 264 }
+    requires room { length out.old.bytes + prefix_room ≤ text_room }
     ensures text { out.new.bytes ≡ out.old.bytes ++ prefix_text prefix }
-    ensures short { length out.new.bytes ≤ length out.old.bytes + 120 }
+    ensures short { length out.new.bytes ≤ length out.old.bytes + prefix_room }
 {
     let mut buffer = Buffer::new();
     out.push_str(dotted(prefix.bits).as_str());
@@ -293,11 +294,11 @@ fn push_prefix(out: &mut Printed, prefix: Prefix)
 
 /// Puts a port under its name after the text, where it is given, and answers whether a field was written so far.
 fn print_port(out: &mut Printed, begun: bool, name: &str, port: Option<u16>) -> bool
-    requires name { length name.now ≤ 7 }
-    requires room { length out.old.bytes ≤ 344 }
+    requires name { length name.now < name_room }
+    requires room { length out.old.bytes + port_room ≤ text_room }
     ensures begun { result ≡ (begun || is_some port) }
     ensures text { out.new.bytes ≡ out.old.bytes ++ after_commas begun (piece name.now (option_map decimal port)) }
-    ensures short { length out.new.bytes ≤ length out.old.bytes + 40 }
+    ensures short { length out.new.bytes ≤ length out.old.bytes + port_room }
 {
     let Some(port) = port else {
         return begun;
@@ -310,10 +311,10 @@ fn print_port(out: &mut Printed, begun: bool, name: &str, port: Option<u16>) -> 
 
 /// Puts a field's name after the text, and a comma before it where a field stands there.
 fn print_name(out: &mut Printed, begun: bool, name: &str)
-    requires name { length name.now ≤ 7 }
-    requires room { length out.old.bytes ≤ 376 }
+    requires name { length name.now < name_room }
+    requires room { length out.old.bytes + name_room ≤ text_room }
     ensures text { out.new.bytes ≡ out.old.bytes ++ (if begun then comma ∷ name.now else name.now) }
-    ensures short { length out.new.bytes ≤ length out.old.bytes + 8 }
+    ensures short { length out.new.bytes ≤ length out.old.bytes + name_room }
 {
     if begun {
         out.push_str(",");

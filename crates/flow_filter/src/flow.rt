@@ -6,11 +6,11 @@ use crate::site::Site;
 use std::cmp::Ordering;
 use std::hash::{Hash, Hasher};
 
-/// The first outside port that belongs to an inside host.
-const FIRST_PORT: u16 = 1024;
+/// The first port of the outside address that belongs to an inside host.
+pub const FIRST_PORT: u16 = 1024;
 
-/// How many outside ports each inside host has.
-const PORTS_PER_HOST: u16 = 252;
+/// How many of these ports each inside host has.
+pub const PORTS_PER_HOST: usize = 252;
 
 /// The two ends of a conversation, seen from the site. The widest fields stand first, so that a flow takes 16 bytes.
 #[derive(Clone, Copy, Debug)]
@@ -220,9 +220,9 @@ fn mapped(site: &Site, packet: &Packet) -> Flow
     ensures { result ≡ record (inward packet.now) { local = owner_of_port site.now packet.now.dport } }
 {
     let network = site.inside.bits;
-    let host = (packet.dport - FIRST_PORT) / PORTS_PER_HOST;
+    let host = usize::from(packet.dport - FIRST_PORT) / PORTS_PER_HOST;
     Flow {
-        local: network + u32::from(host),
+        local: network + host as u32,
         ..inward(packet)
     }
 }

@@ -4,6 +4,18 @@ pub const TCP: u8 = 6;
 /// The protocol number of UDP in an IPv4 header.
 pub const UDP: u8 = 17;
 
+/// The flag of a TCP header (RFC 9293) by which the sender has no more data.
+pub const FIN: u8 = 1;
+
+/// The flag by which the sender tells its first number.
+pub const SYN: u8 = 2;
+
+/// The flag that resets the connection.
+pub const RST: u8 = 4;
+
+/// The flag by which something is acknowledged.
+pub const ACK: u8 = 16;
+
 /// One TCP or UDP packet of a capture.
 ///
 /// Addresses are the numbers of their four bytes, the first byte highest. The widest fields stand first, so that no room is

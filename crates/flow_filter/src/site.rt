@@ -1,6 +1,6 @@
 ghost use Rattle.std.specs.Prelude.{◌≡◌, false};
 ghost use Rattle.std.specs.Option.{ForSome};
-ghost use Rattle.flow_filter.specs.Prefixes.{in_prefix};
+ghost use Rattle.flow_filter.specs.Prefixes.{in_prefix, translated_bits};
 
 use crate::prefix::Prefix;
 
@@ -11,5 +11,5 @@ use crate::prefix::Prefix;
 pub struct Site {
     pub inside: Prefix,
     pub outside: Option<u32>,
-    ghost translates: { ForSome outside (λ address. (inside.len ≡ 24) × (in_prefix inside.bits inside.len address ≡ false)) },
+    ghost translates: { ForSome outside (λ address. (inside.len ≡ translated_bits) × (in_prefix inside.bits inside.len address ≡ false)) },
 }

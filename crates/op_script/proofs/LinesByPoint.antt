@@ -19,8 +19,8 @@ said_at point lines = said_where (λ at. eqb at point) lines
 said_here : (point : ℕ) (line : Line) (more : List Line) → eqb line.at point ≡ true → said_at point (line ∷ more) ≡ msg_of line.what ∷ said_at point more
 said_here point line more here = rw here refl
 
-said_behind : (point : ℕ) (line : Line) (more : List Line) → eqb line.at point ≡ false → said_at point (line ∷ more) ≡ said_at point more
-said_behind point line more other = rw other refl
+said_later : (point : ℕ) (line : Line) (more : List Line) → eqb line.at point ≡ false → said_at point (line ∷ more) ≡ said_at point more
+said_later point line more other = rw other refl
 
 apart : (a b : ℕ) → a < b → eqb b a ≡ false
 apart a b below = grind (arith, nat_tests)
@@ -30,7 +30,7 @@ nothing_before : (k point : ℕ) (lines : List Line) → IsFrom k lines → poin
 nothing_before k point [] order before = refl
 nothing_before k point (line ∷ more) order before =
     let far : point < line.at = (let first : k ≤ line.at = order.0 in omega arith) in
-    said_behind point line more (apart point line.at far) ∙ nothing_before line.at point more order.1 far
+    said_later point line more (apart point line.at far) ∙ nothing_before line.at point more order.1 far
 
 pub prefix_len-map : {X Y : Type 0} (f : X → Y) (test : Y → Bool) (xs : List X) → prefix_len (λ x. test (f x)) xs ≡ prefix_len test (map f xs)
 prefix_len-map f test [] = refl
@@ -46,7 +46,7 @@ cut_first : (k n : ℕ) (line : Line) (more : List Line) → eqb line.at k ≡ t
 cut_first k n line more here rest = record {
   said = ap (λ ms. msg_of line.what ∷ ms) rest.said ∙ sym (said_here k line more here);
   order = rest.order;
-  same = λ point far. rest.same point far ∙ sym (said_behind point line more (let at : line.at ≡ k = eqb-true line.at k here in grind (arith, nat_tests)));
+  same = λ point far. rest.same point far ∙ sym (said_later point line more (let at : line.at ≡ k = eqb-true line.at k here in grind (arith, nat_tests)));
 }
 
 cut_none : (k : ℕ) (line : Line) (more : List Line) → eqb line.at k ≡ false → IsFrom k (line ∷ more) → Cut k 0 (line ∷ more)

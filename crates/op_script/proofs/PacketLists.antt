@@ -29,28 +29,28 @@ still_items items after p are is = more_items items after (packets_of items) p a
 
 -- no line stands at a point before all of them
 none_at : (k n : ℕ) (lines : List Line) → k < n → list_all (λ (line : Line). leb n line.at) lines ≡ true → said_where (λ at. eqb at k) lines ≡ []
-none_at k n [] below behind = refl
-none_at k n (line ∷ more) below behind = elim (leb n line.at) as (λ b. leb n line.at ≡ b → (b && list_all (λ (line : Line). leb n line.at) more) ≡ true → said_where (λ at. eqb at k) (line ∷ more) ≡ []) [
+none_at k n [] below later = refl
+none_at k n (line ∷ more) below later = elim (leb n line.at) as (λ b. leb n line.at ≡ b → (b && list_all (λ (line : Line). leb n line.at) more) ≡ true → said_where (λ at. eqb at k) (line ∷ more) ≡ []) [
   | true ↦ λ far others.
       let off : eqb line.at k ≡ false = grind (arith, nat_tests, far, below) in
       rw off (none_at k n more below others)
   | false ↦ λ near others. absurd cc
-] refl behind
+] refl later
 
--- so where all lines stand behind the last packet, the packets stand first
+-- so where all lines stand after the last packet, the packets stand first
 packets_first : (k n : ℕ) (ps : List Packet) (lines : List Line) → k + length ps ≡ n → list_all (λ (line : Line). leb n line.at) lines ≡ true
     → map InPacket ps ++ said_where (λ at. leb n at) lines ≡ items_from k ps lines
-packets_first k n [] lines is behind = ap (λ n. said_where (λ at. leb n at) lines) (let same : n ≡ k = omega (arith, is) in same)
-packets_first k n (p ∷ ps) lines is behind =
-    let none = none_at k n lines (omega (arith, is)) behind in
-    let rest = packets_first (k + 1) n ps lines (omega (arith, is)) behind in
+packets_first k n [] lines is later = ap (λ n. said_where (λ at. leb n at) lines) (let same : n ≡ k = omega (arith, is) in same)
+packets_first k n (p ∷ ps) lines is later =
+    let none = none_at k n lines (omega (arith, is)) later in
+    let rest = packets_first (k + 1) n ps lines (omega (arith, is)) later in
     ap (λ l. InPacket p ∷ l) rest ∙ ap (λ l. l ++ InPacket p ∷ items_from (k + 1) ps lines) (sym none)
 
 -- the items are the whole input before these lines
-pub all_behind : (ps : List Packet) (lines : List Line) (seen out : List Msg) (behind : Bool) → seen ≡ map InPacket ps → out ≡ map InPacket ps
-    → behind ≡ list_all (λ (line : Line). leb (length seen) line.at) lines → behind ≡ true
+pub all_after : (ps : List Packet) (lines : List Line) (seen out : List Msg) (later : Bool) → seen ≡ map InPacket ps → out ≡ map InPacket ps
+    → later ≡ list_all (λ (line : Line). leb (length seen) line.at) lines → later ≡ true
     → out ++ said_where (λ at. leb (length ps) at) lines ≡ items_from 0 ps lines
-all_behind ps lines seen out behind are out_are tested is =
+all_after ps lines seen out later are out_are tested is =
     let count : length seen ≡ length ps = ap (λ (l : List Msg). length l) are ∙ length-map ps InPacket in
     let holds : list_all (λ (line : Line). leb (length ps) line.at) lines ≡ true =
     subst (λ n. list_all (λ (line : Line). leb n line.at) lines ≡ true) count (sym tested ∙ is) in

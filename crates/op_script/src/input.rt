@@ -27,7 +27,7 @@ pub fn items(alloc: Global, packets: PacketItems, script: &Script) -> Result<Vec
 fn with_lines(alloc: Global, packets: PacketItems, lines: &[Line]) -> Result<Vec<Msg>, NoMemory>
     ensures { IfOk result (λ out. out.items ++ said_where (λ at. nat_le (length packets) at) lines.now ≡ items_from 0 packets lines.now) }
 {
-    if are_behind(lines, packets.items().len() as u64) {
+    if stand_after(lines, packets.items().len() as u64) {
         return Ok(packets.into_items());
     }
     let mut waiting = VecDeque::from_vec(packets.into_items());
@@ -46,7 +46,7 @@ fn with_lines(alloc: Global, packets: PacketItems, lines: &[Line]) -> Result<Vec
 }
 
 /// Whether all lines stand at this point or after it.
-fn are_behind(lines: &[Line], point: u64) -> bool
+fn stand_after(lines: &[Line], point: u64) -> bool
     ensures { result ≡ list_all (λ line. nat_le point line.at) lines.now }
 {
     lines.iter().all(|line| point <= u64::from(line.at))

@@ -19,5 +19,5 @@ pub use fault::{ScriptFault, ScriptKind};
 pub use input::items;
 pub use packet_items::PacketItems;
 pub use printing::print_script;
-pub use reading::read_script;
+pub use reading::{LONGEST_SCRIPT, read_script};
 pub use script::{Line, Script, What};

@@ -23,7 +23,7 @@ use std::alloc::Global;
 use std::str;
 
 /// The most bytes of a script.
-const MOST_BYTES: usize = 1_048_576;
+pub const LONGEST_SCRIPT: usize = 1_048_576;
 
 /// The most lines of a sort.
 const MOST_LINES: usize = 1000;
@@ -41,7 +41,7 @@ pub fn read_script(
     ensures right { IfOk result (λ script. IsScript names.now (script_view script)) }
     ensures whole { IfOk result (λ script. SplitsNone kind (script_view script)) }
 {
-    if bytes.len() > MOST_BYTES {
+    if bytes.len() > LONGEST_SCRIPT {
         return Err(ScriptFault::Bad {
             line: 0,
             kind: ScriptKind::TooMany,

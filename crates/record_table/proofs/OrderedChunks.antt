@@ -17,7 +17,7 @@ use Rattle.unit_map.proofs.EntryLemmas.{lookup_added, distinct_added, distinct_n
 use Rattle.record_table.specs.Table.{AreSound}
 use Rattle.record_table.specs.Chunks.{spelled, records_of, are_good}
 use Rattle.record_table.specs.Entries.{map_of, AreEntriesOf}
-use Rattle.record_table.specs.Keeping.{is_behind}
+use Rattle.record_table.specs.Keeping.{comes_after}
 use Rattle.record_table.proofs.UnitOrder.{unit_eq, unit_eq_equiv, tied}
 use Rattle.record_table.proofs.ChunkFronts.{brought_by_none, good_none, brings, good_more}
 use Rattle.record_table.proofs.EntryMaps.{get-map_of}
@@ -29,12 +29,12 @@ less_from Less h = refl
 less_from Equal h = absurd (true≢false (sym h))
 less_from Greater h = absurd (true≢false (sym h))
 
--- a unit behind one that is behind the last is behind the last, and not that one
-further : (last : Option units.Unit) (u v : units.Unit) → is_behind last u ≡ true → is_behind (Some u) v ≡ true → is_behind last v ≡ true
+-- a unit after one that comes after the last comes after the last, and is not that one
+further : (last : Option units.Unit) (u v : units.Unit) → comes_after last u ≡ true → comes_after (Some u) v ≡ true → comes_after last v ≡ true
 further None u v first next = refl
 further (Some last) u v first next = ap is_lt (units_total.trans last u v (less_from _ first) (less_from _ next))
 
-another : (u v : units.Unit) → is_behind (Some u) v ≡ true → unit_eq u v ≡ false
+another : (u v : units.Unit) → comes_after (Some u) v ≡ true → unit_eq u v ≡ false
 another u v next = tied u v ∙ ap is_eq (less_from _ next)
 
 -- what was read of the chunks so far, in order
@@ -42,7 +42,7 @@ pub record InOrder {R : Type 0} (f : Semantics R) (chunks : List Chunk) (entries
   pub records : AreEntriesOf entries (records_of f chunks)
   pub good : are_good f chunks ≡ true
   pub sound : AreSound f (map_of entries)
-  pub behind : (u : units.Unit) → is_behind last u ≡ true → lookup (unit_eq u) entries ≡ None
+  pub beyond : (u : units.Unit) → comes_after last u ≡ true → lookup (unit_eq u) entries ≡ None
 
 module _ {R : Type 0} (f : Semantics R) where
   pub none_in_order : InOrder f [] [] None
@@ -51,15 +51,15 @@ module _ {R : Type 0} (f : Semantics R) where
     records = record { distinct = distinct_none unit_eq; map = sym (brought_by_none f) };
     good = good_none f;
     sound = λ u. rw (get-empty unit_cmp u) refl;
-    behind = λ u h. refl;
+    beyond = λ u h. refl;
   }
 
-  -- a chunk of a unit behind the last one
+  -- a chunk of a unit after the last one
   pub one_more : (chunks : List Chunk) (entries : Entries units.Unit R) (last : Option units.Unit) (c : Chunk) (u : units.Unit) (r : R)
-      → InOrder f chunks entries last → spelled f c ≡ Some (u, r) → f.is_valid u r ≡ true → is_behind last u ≡ true
+      → InOrder f chunks entries last → spelled f c ≡ Some (u, r) → f.is_valid u r ≡ true → comes_after last u ≡ true
       → InOrder f (chunks ++ c ∷ []) (entries ++ (u, Some r) ∷ []) (Some u)
   one_more chunks entries last c u r so_far spells valid next =
-      let absent : lookup (unit_eq u) entries ≡ None = so_far.behind u next in
+      let absent : lookup (unit_eq u) entries ≡ None = so_far.beyond u next in
       let lacks : finite.contains_key (records_of f chunks) u ≡ false = rw (← so_far.records.map) (ap is_some (get-map_of entries u ∙ ap held absent)) in
       let added = map_of-added entries u (Some r) absent in
       record {
@@ -69,6 +69,6 @@ module _ {R : Type 0} (f : Semantics R) where
         };
         good = good_more f chunks c u r so_far.good spells lacks;
         sound = rw added (sound_with_kept f (map_of entries) u (Some r) so_far.sound valid);
-        behind = λ v h. lookup_added unit_eq unit_eq_equiv v u (Some r) entries absent
-            ∙ ap (λ b. cond b (Some (Some r)) (lookup (unit_eq v) entries)) (another u v h) ∙ so_far.behind v (further last u v next h);
+        beyond = λ v h. lookup_added unit_eq unit_eq_equiv v u (Some r) entries absent
+            ∙ ap (λ b. cond b (Some (Some r)) (lookup (unit_eq v) entries)) (another u v h) ∙ so_far.beyond v (further last u v next h);
       }

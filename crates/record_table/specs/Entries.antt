@@ -1,4 +1,4 @@
--- The finite map of the entries that stand in memory. A step between code and definition: there is nothing here to believe.
+-- Steps between code and definition, which nobody has to believe: the finite map of the entries that stand in memory.
 use Rattle.std.specs.Prelude.{◌≡◌, [], ◌∷◌}
 use Rattle.std.specs.List.{IsDistinct}
 use Rattle.std.specs.Map.{keys_of}

@@ -1,5 +1,5 @@
--- Which record is kept where one is held and one comes, which records are listed, and why chunks give no records. Steps between
--- code and definition: there is nothing here to believe.
+-- Steps between code and definition, which nobody has to believe: which record is kept where one is held and one comes, which
+-- records are listed, and why chunks give no records.
 use Rattle.std.specs.Prelude.{◌≡◌, ℕ, ◌+◌, ◌*◌, ◌^◌, ◌<◌, Bool, true, if◌then◌else◌, List, map, Option, None, Some}
 use Rattle.std.specs.List.{filter_map}
 use Rattle.std.specs.Ordering.{is_lt}
@@ -75,10 +75,10 @@ pub record IsNumbered {R : Type 0} (found : Found R) : Type 0 where
 abbrev pub pairs_of : {R : Type 0} → List (Found R) → List (units.Unit × Bor R)
 pairs_of found = map (λ e. (e.unit.now, e.record)) found
 
--- the unit stands behind the last one, if there is one
-abbrev pub is_behind : Option units.Unit → units.Unit → Bool
-is_behind None unit = true
-is_behind (Some last) unit = is_lt (unit_cmp last unit)
+-- the unit comes after the last one, if there is one
+abbrev pub comes_after : Option units.Unit → units.Unit → Bool
+comes_after None unit = true
+comes_after (Some last) unit = is_lt (unit_cmp last unit)
 
 abbrev pub IsReadFault : {R : Type 0} → Semantics R → List Chunk → ReadFault → Type 0
 IsReadFault f chunks (Bad place) = IsFirstBad f chunks place

@@ -3,7 +3,7 @@ ghost use Rattle.std.specs.Prelude.{◌≡◌, true, IfOk, IfSome, OnOk, IfErr};
 ghost use Rattle.record_table.specs.Table.{AreSound};
 ghost use Rattle.record_table.specs.Chunks.{spelled, records_of, are_good};
 ghost use Rattle.record_table.specs.Entries.{map_of, AreEntriesOf};
-ghost use Rattle.record_table.specs.Keeping.{IsReadFault, fault_with, is_behind};
+ghost use Rattle.record_table.specs.Keeping.{IsReadFault, fault_with, comes_after};
 
 use crate::record_map::RecordMap;
 use crate::refusal::ImportFault;
@@ -76,7 +76,7 @@ fn records_in_order<F: Function>(
         let Some((unit, record)) = spelled::<F>(alloc, chunk)? else {
             return Ok(None);
         };
-        if !is_behind(last, &unit) {
+        if !comes_after(last, &unit) {
             return Ok(None);
         }
         entries.push((unit, Some(record)))?;
@@ -85,9 +85,9 @@ fn records_in_order<F: Function>(
     Ok(Some(entries))
 }
 
-/// Whether a unit stands behind the last one, if there is one.
-fn is_behind(last: Option<Unit>, unit: &Unit) -> bool
-    ensures { result ≡ is_behind last unit.now }
+/// Whether a unit comes after the last one, if there is one.
+fn comes_after(last: Option<Unit>, unit: &Unit) -> bool
+    ensures { result ≡ comes_after last unit.now }
 {
     match last {
         Some(last) => last.cmp(unit).is_lt(),

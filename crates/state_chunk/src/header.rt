@@ -20,7 +20,7 @@ pub fn version_number(is_timed: bool) -> u8
     if is_timed { TIMED } else { PLAIN }
 }
 
-/// The number of a function in a chunk.
+/// The number of a function, from 1, as the second byte of a chunk has it.
 pub fn kind_number(kind: Kind) -> u8
     ensures { result ≡ kind_number kind }
 {
@@ -31,7 +31,7 @@ pub fn kind_number(kind: Kind) -> u8
     }
 }
 
-/// The number of a scope in a chunk.
+/// The number of a scope, from 1, as the third byte of a chunk has it.
 pub fn scope_number(scope: Scope) -> u8
     ensures { result ≡ scope_number scope }
 {

@@ -32,7 +32,7 @@ values_of f = record {
 abbrev pub where_given : Bool → ℕ → ℕ
 where_given given n = if given then n else 0
 
--- the first bits of an address, and zeros behind them
+-- the first bits of an address, and zeros after them
 abbrev pub front : ℕ → ℕ → ℕ
 front len address = address / 2 ^ (address_bits - len) * 2 ^ (address_bits - len)
 

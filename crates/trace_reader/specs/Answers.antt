@@ -45,14 +45,14 @@ reading form place count left = record { form = form; place = place; count = cou
 abbrev pub reading_of : TraceReader → Option (List ℕ) → Reading
 reading_of reader left = reading reader.form reader.place reader.count left
 
--- the place that a reader is at once it has answered: that behind the record, or the same at an end
+-- the place that a reader is at once it has answered: that after the record, or the same at an end
 abbrev pub place_after : Reading → List ℕ → Next → ℕ
 place_after before bytes (next.Packet packet) = before.place + record_size before.form bytes
 place_after before bytes next.Skipped = before.place + record_size before.form bytes
 place_after before bytes next.End = before.place
 place_after before bytes next.Cut = before.place
 
--- the bytes that are left then: those behind the record, or none at an end
+-- the bytes that are left then: those after the record, or none at an end
 abbrev pub left_after : Reading → List ℕ → Next → List ℕ
 left_after before bytes (next.Packet packet) = drop (record_size before.form bytes) bytes
 left_after before bytes next.Skipped = drop (record_size before.form bytes) bytes
@@ -108,7 +108,7 @@ abbrev pub count_after : ℕ → Result Next TraceFault → ℕ
 count_after count (Ok (next.Packet packet)) = count + 1
 count_after count answer = count
 
--- how far a reader is behind a step
+-- how far a reader is after a step
 abbrev pub reading_after : Reading → Result Step TraceFault → Option (List ℕ) → Reading
 reading_after before result left =
     reading before.form (before.place + size_in result) (count_after before.count (next_in result)) left

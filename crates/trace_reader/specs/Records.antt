@@ -14,7 +14,7 @@ use Rattle.trace_reader.specs.Header.{form_of}
 use Rattle.trace_reader.specs.Steered.{packet_of}
 use Rattle.flow_filter.specs.Limits.{most_packets}
 
--- a steered packet, at this place, behind this many others
+-- a steered packet, at this place, after this many others
 abbrev pub steered_answer : ℕ → ℕ → Option Packet → Result Next TraceFault
 steered_answer place count None = Ok next.Skipped
 steered_answer place count (Some packet) = if nat_lt count most_packets then Ok (next.Packet packet) else Err (fault.TooLong place)
@@ -29,7 +29,7 @@ record_answer form place count head len f =
 abbrev pub record_size : Form → List ℕ → ℕ
 record_size form bytes = head_size + captured_of form (take head_size bytes)
 
--- what comes next where these bytes are left, at this place, behind this many packets
+-- what comes next where these bytes are left, at this place, after this many packets
 unfoldable pub next_of : Form → ℕ → ℕ → List ℕ → Result Next TraceFault
 next_of form place count bytes =
     let n = captured_of form (take head_size bytes) in
@@ -50,7 +50,7 @@ abbrev pub with_skipped : Result Trace TraceFault → Result Trace TraceFault
 with_skipped (Ok trace) = Ok (record { packets = trace.packets; skipped = trace.skipped + 1; cut = trace.cut })
 with_skipped (Err e) = Err e
 
--- what the records give from the next one on, given what comes behind it
+-- what the records give from the next one on, given what comes after it
 abbrev pub from_next : (ℕ → Result Trace TraceFault) → ℕ → Result Next TraceFault → Result Trace TraceFault
 from_next rest count (Ok (next.Packet packet)) = with_packet packet (rest (count + 1))
 from_next rest count (Ok next.Skipped) = with_skipped (rest count)
@@ -58,7 +58,7 @@ from_next rest count (Ok next.End) = Ok (record { packets = []; skipped = 0; cut
 from_next rest count (Ok next.Cut) = Ok (record { packets = []; skipped = 0; cut = true })
 from_next rest count (Err e) = Err e
 
--- what these bytes give, at this place, behind this many packets; the first number is at least that of the records
+-- what these bytes give, at this place, after this many packets; the first number is at least that of the records
 unfoldable pub records_of : ℕ → Form → ℕ → ℕ → List ℕ → Result Trace TraceFault
 records_of zero form place count bytes = Ok (record { packets = []; skipped = 0; cut = false })
 records_of (suc most) form place count bytes =

@@ -13,7 +13,7 @@ use Rattle.trace_reader.specs.Numbers.{number_in, byte_at, u16_at, u32_at}
 use Rattle.flow_filter.specs.Packet.{tcp, udp, most_held}
 use Rattle.trace_reader.specs.Layout.{fraction_place, nanos_per_second, untagged_size, tagged_size, ether_type_place, tagged_type_place, ipv4_type, tag_type, half_byte, word_size, ipv4_version, ipv4_size, total_place, fragment_place, proto_place, src_place, dst_place, udp_size, tcp_size, dport_place, words_place, flags_place, longest_header}
 
--- where the IPv4 header starts: by its EtherType, at once or behind one tag
+-- where the IPv4 header starts: by its EtherType, at once or after one tag
 abbrev pub start_of : LinkType → ℕ → List ℕ → Option ℕ
 start_of Raw len f = Some 0
 start_of Ethernet len f =

@@ -3,14 +3,7 @@ ghost use Rattle.std.specs.Prelude.{◌≡◌, ◌≤◌, ◌<◌, ◌+◌};
 ghost use Rattle.trace_reader.specs.Generated.{drawn, flags_by, local_port, remote_port, local_end, remote_end, source, target, transport_size, captured_size, total_size, payload_lengths};
 ghost use Rattle.flow_filter.specs.Limits.{most_hosts};
 
-use flow_filter::Direction;
-
-/// TCP's flags.
-const FIN: u8 = 0x01;
-
-const SYN: u8 = 0x02;
-
-const ACK: u8 = 0x10;
+use flow_filter::{ACK, Direction, FIN, SYN};
 
 /// What a word chooses of a packet.
 #[derive(Drop)]

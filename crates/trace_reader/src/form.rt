@@ -72,6 +72,7 @@ pub(crate) fn form_of(header: &[u8]) -> Result<Form, TraceFault>
     }
 }
 
+/// The byte order and the unit of time that a magic number stands for, read with the highest byte first.
 fn magic_of(number: u32) -> Option<Magic>
     ensures { result ≡ magic_of number }
 {
@@ -85,6 +86,7 @@ fn magic_of(number: u32) -> Option<Magic>
     Some(Magic { endian, fraction })
 }
 
+/// Whether the header gives version 2.4, the only one that is read.
 fn is_version(magic: Magic, header: &[u8]) -> bool
     requires { header_size ≤ length header.now }
     ensures { result ≡ is_version magic header.now }
@@ -92,6 +94,7 @@ fn is_version(magic: Magic, header: &[u8]) -> bool
     magic.endian.short(&header[4..]) == 2 && magic.endian.short(&header[6..]) == 4
 }
 
+/// The link type that a number of the header stands for, where records of it are read.
 fn link_type_of(number: u16) -> Option<LinkType>
     ensures { result ≡ link_type_of number }
 {
@@ -127,6 +130,7 @@ impl Form {
 }
 
 impl Endian {
+    /// The number of the first two bytes.
     fn short(self, bytes: &[u8]) -> u16
         requires { 2 ≤ length bytes.now }
         ensures { result ≡ number_in self 2 bytes.now }
@@ -137,6 +141,7 @@ impl Endian {
         }
     }
 
+    /// The number of the first four bytes.
     pub(crate) fn long(self, bytes: &[u8]) -> u32
         requires { 4 ≤ length bytes.now }
         ensures { result ≡ number_in self 4 bytes.now }

@@ -16,7 +16,7 @@ pub(crate) const PIECE_RECORDS: u32 = 1000;
 /// How many bytes it has room for.
 const PIECE_BYTES: usize = PIECE_RECORDS as usize * LONGEST_RECORD;
 
-/// Records one behind the other. The bytes before `used` are theirs.
+/// Records one after the other. The bytes before `used` are theirs.
 #[derive(Drop)]
 pub(crate) struct Piece {
     bytes: Vec<u8>,
@@ -45,7 +45,7 @@ impl Piece {
         requires numbers { first + count < 2 ^ 32 }
         requires hosts { (1 ≤ hosts) × (hosts ≤ most_hosts) }
 
-        // The records of these packets, and then those of any number of packets behind them.
+        // The records of these packets, and then those of any number of packets after them.
         ensures { (more : ℕ) → records hosts first (first_words mix_u64 (count + more) words.old)
             ≡ piece_bytes self.new ++ records hosts (first + count) (first_words mix_u64 more words.new) }
     {

@@ -122,6 +122,7 @@ impl TraceReader {
 impl Stop {
     ghost use Rattle.trace_reader.specs.Answers.{answer_of};
 
+    /// What a reader answers where it stops: the end, a cut record, or the fault.
     fn answer(self) -> Result<Next, TraceFault>
         ensures { result ≡ answer_of self }
     {

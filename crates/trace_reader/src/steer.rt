@@ -234,7 +234,7 @@ fn held_of(len: usize, parts: &Parts) -> usize
     end.saturating_sub(at).min(64)
 }
 
-/// Those bytes, and zeros behind them.
+/// Those bytes, and zeros after them.
 fn padded(payload: &[u8]) -> [u8; 64]
     requires { length payload.now ≤ most_held }
     ensures { result ≡ payload.now ++ replicate (most_held - length payload.now) 0 }
@@ -247,6 +247,7 @@ fn padded(payload: &[u8]) -> [u8; 64]
     head
 }
 
+/// The number of two bytes at a place, the higher byte first.
 fn u16_at(bytes: &[u8], at: usize) -> u16
     requires { at + 2 ≤ length bytes.now }
     ensures { result ≡ u16_at bytes.now at }
@@ -254,6 +255,7 @@ fn u16_at(bytes: &[u8], at: usize) -> u16
     BigEndian::read_u16(&bytes[at..])
 }
 
+/// The number of four bytes at a place, the highest byte first.
 fn u32_at(bytes: &[u8], at: usize) -> u32
     requires { at + 4 ≤ length bytes.now }
     ensures { result ≡ u32_at bytes.now at }

@@ -1,4 +1,4 @@
--- What a map ends as, once the loan of a record has ended. It is a step between code and definition: there is nothing here to believe.
+-- Steps between code and definition, which nobody has to believe: what a map ends as, once the loan of a record has ended.
 use Rattle.std.specs.Prelude.{ℕ, Option}
 use Rattle.std.specs.Borrow.{Fml, RattleType, MutBor, Lends}
 use Rattle.std.specs.BTreeMap.Lent.{OrdMembers}

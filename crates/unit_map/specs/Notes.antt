@@ -1,4 +1,4 @@
--- Where the number of a key's entry is noted. These are steps between code and definition: there is nothing here to believe.
+-- Steps between code and definition, which nobody has to believe: where the number of a key's entry is noted.
 use Rattle.std.specs.Prelude.{◌≡◌, ℕ, Bool, false, ◌+◌, ◌-◌, ◌/◌, ◌^◌, ◌<◌, ◌≤◌, ◌==◌, List, length, slice_index_or, bit_and, if◌then◌else◌, Some}
 use Rattle.std.specs.List.{fold}
 use Rattle.std.specs.Hash.{HashWrites}

@@ -1,4 +1,4 @@
--- That each entry of a map is found. This is a step between code and definition: there is nothing here to believe.
+-- Steps between code and definition, which nobody has to believe: that each entry of a map is found.
 use Rattle.std.specs.Prelude.{◌≡◌, ℕ, ◌+◌, List, Some}
 use Rattle.std.specs.List.{slice_get}
 use Rattle.std.specs.Map.{keys_of}

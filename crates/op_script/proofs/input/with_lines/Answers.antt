@@ -3,12 +3,12 @@ use Rattle.std.proofs.Common.{rules, ◌∙◌}
 use Rattle.std.proofs.lemmas.List.{take_rest}
 use Rattle.op_script.proofs.LinesByPoint.{still_short, ahead_next, said_first}
 use Rattle.op_script.proofs.ItemsSoFar.{all_written, fits_on, so_far_more, so_far_start}
-use Rattle.op_script.proofs.PacketLists.{all_behind}
+use Rattle.op_script.proofs.PacketLists.{all_after}
 use Rattle.op_script.proofs.input.with_lines.Goals as goal
 
-pub returns-then-are_behind : goal.returns-then-are_behind
-returns-then-are_behind c =
-    all_behind c.args.packets c.args.lines.now c.items.result.now c.into_items.result.items c.are_behind.result c.items.ensures c.into_items.ensures c.are_behind.ensures c.if-are_behind.true
+pub returns-then-stand_after : goal.returns-then-stand_after
+returns-then-stand_after c =
+    all_after c.args.packets c.args.lines.now c.items.result.now c.into_items.result.items c.stand_after.result c.items.ensures c.into_items.ensures c.stand_after.ensures c.if-stand_after.true
 
 pub returns : goal.returns
 returns c = all_written (record { packets = c.args.packets; lines = c.args.lines.now }) c.loop-item.point c.loop-item.waiting.items _ c.loop-item.out.items

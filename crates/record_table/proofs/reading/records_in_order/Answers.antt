@@ -1,8 +1,8 @@
--- A chunk of a unit behind the last one brings its record.
+-- A chunk of a unit after the last one brings its record.
 use Rattle.std.proofs.Common.{◌≡◌, ◌∙◌, ◌+◌, ◌∷◌, ◌++◌, [], true, Some, sym, ap, take}
 use Rattle.std.proofs.lemmas.List.{take_more}
 use Rattle.record_table.specs.Chunks.{spelled}
-use Rattle.record_table.specs.Keeping.{is_behind}
+use Rattle.record_table.specs.Keeping.{comes_after}
 use Rattle.record_table.proofs.OrderedChunks.{none_in_order, one_more}
 use Rattle.record_table.proofs.reading.records_in_order.Goals as goal
 
@@ -18,5 +18,5 @@ loop-chunk-preserved g c =
     let more : take (i + 1) c.args.chunks.now ≡ front ++ chunk ∷ [] = take_more c.args.chunks.now i chunk c.loop-chunk-test.true ∙ ap (λ x. front ++ x ∷ []) (sym c.chunk-item.is) in
     let spells : spelled f chunk ≡ Some (c.in-Some.unit, c.in-Some.record) = sym c.in_ok-unit.ensures.found ∙ c.in-Some.is in
     let valid : f.is_valid c.in-Some.unit c.in-Some.record ≡ true = rw c.in-Some.is at c.in_ok-unit.ensures.valid in
-    let next : is_behind c.loop-chunk.last c.in-Some.unit ≡ true = sym c.is_behind.ensures ∙ c.if-not-is_behind.false in
+    let next : comes_after c.loop-chunk.last c.in-Some.unit ≡ true = sym c.comes_after.ensures ∙ c.if-not-comes_after.false in
     rw (more, c.in_ok-push.ensures.items) (one_more f front c.loop-chunk.entries.items c.loop-chunk.last chunk c.in-Some.unit c.in-Some.record c.loop-chunk.invariant spells valid next)
