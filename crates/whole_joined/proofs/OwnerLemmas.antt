@@ -136,6 +136,7 @@ module _ (config : Config) (items : List Msg) where
 
 -- a place of a log is one after notes of an instance
 pub place_quiet : {R : Type 0} (job : Job R) (number k : ℕ) (xs ys : List Note) (i : ℕ) → Each (IsQuiet k) ys → IsPlace job number xs i → IsPlace job number (xs ++ ys) i
+unfolding moving_quiet
 place_quiet job number k xs ys i h (Owns e) =
     let u = unit_in job number in
     Owns (e ∙ ap (owner_after job.config.names (order_numbered job.items) u (first_owner u job.config.routes)) (sym (installed_same xs ys (installed_quiet k ys h))))
