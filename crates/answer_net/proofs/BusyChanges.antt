@@ -12,8 +12,8 @@ use Rattle.nf_msgs.specs.declared.note.Note.{Note}
 use Rattle.nf_msgs.specs.declared.note.Note.TheVariants as note
 use Rattle.ctrl_node.specs.declared.operation.Operation.{Operation}
 use Rattle.ctrl_node.specs.Operations.{OpenOperations}
-use Rattle.net_world.specs.Commands.{has_answered, began, is_share, keeps_off, answers_of, MayBegin, IsCause}
-use Rattle.answer_net.proofs.BusyLemmas.{AreOther, is_noted, is_outcome, IsAnswered, or_off, began_same, answered_same, keeps_same, answers_same, none_answered, unanswered, answers_of-append, other_not_begun, other_not_answered, stays_answered, has_answered-append, answered_begun, answered_refused, begun_now}
+use Rattle.net_world.specs.Commands.{has_answered, began, is_share, keeps_off, answers_of, MayBegin}
+use Rattle.answer_net.proofs.BusyLemmas.{AreOther, is_noted, is_outcome, IsAnswered, IsCauseIn, or_off, began_same, answered_same, keeps_same, answers_same, none_answered, unanswered, answers_of-append, other_not_begun, other_not_answered, stays_answered, has_answered-append, answered_begun, answered_refused, begun_now}
 use Rattle.whole_joined.proofs.LogLemmas.{has_begun-append}
 use Rattle.answer_net.proofs.BusyOperations.{IsPlanned, HasAnswer, answers_to, IsBusy}
 use Rattle.outline_net.proofs.OperationTables.{got_insert, got_remove}
@@ -217,7 +217,7 @@ module _ (g : Given) (ops : OpenOperations) (log : List Note) (op : ℕ) (waits 
   dropped = record { busy = h.busy; plan = h.plan; outcome = h.outcome; told = h.told; next = suc op; rising = h.rising.1; unnoted = later_new; answered = h.answered }
 
   -- it is refused
-  pub refused : (what : Order) (a : Answer) → g.orders op ≡ Some what → IsCause g.names g.orders a what log → IsBusy g ops (log ++ note.Answered op a ∷ []) waits
+  pub refused : (what : Order) (a : Answer) → g.orders op ≡ Some what → IsCauseIn g.names g.orders a what log → IsBusy g ops (log ++ note.Answered op a ∷ []) waits
   refused what a known cause = record {
     busy = λ k. h.busy k ∙ elim (k == op) as (λ b. (k == op) ≡ b → keeps_off g.names g.orders k log ≡ keeps_off g.names g.orders k (log ++ note.Answered op a ∷ [])) [
       | true ↦ λ on. on_own (λ j. keeps_off g.names g.orders j log ≡ keeps_off g.names g.orders j (log ++ note.Answered op a ∷ [])) k on (not_kept ∙ sym (ap (λ b. b && (is_share (g.orders op) || not (has_answered op (log ++ note.Answered op a ∷ [])))) (began_same op log (note.Answered op a ∷ []) refl ∙ still_new.0)))

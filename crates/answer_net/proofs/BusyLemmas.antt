@@ -9,7 +9,7 @@ use Rattle.nf_msgs.specs.declared.command.Order.{Order}
 use Rattle.nf_msgs.specs.declared.note.Note.{Note}
 use Rattle.nf_msgs.specs.declared.note.Note.TheVariants as note
 use Rattle.unit_machine.proofs.Labels.{Each}
-use Rattle.net_world.specs.Commands.{has_answered, began, is_share, keeps_off, answers_of, before_first, times_begun, MayBegin, IsCause}
+use Rattle.net_world.specs.Commands.{has_answered, began, is_share, keeps_off, answers_of, before_first, times_begun, unknown_in, overlaps, MayBegin, IsCause}
 use Rattle.whole_joined.proofs.LogLemmas.{has_begun-append}
 
 -- a note of no command's begin or answer
@@ -212,11 +212,15 @@ is_outcome (answer.Overlap k) = false
 is_outcome a = true
 
 module _ (names : List (List ℕ)) (orders : ℕ → Option Order) where
+  -- the cause of a refusal, by the order and the log
+  abbrev pub IsCauseIn : Answer → Order → List Note → Type 0
+  IsCauseIn a what log = IsCause a (unknown_in names what) (overlaps names orders what log)
+
   -- what is promised of one command
   pub record IsAnswered (op : ℕ) (log : List Note) : Type 0 where
     pub begun_once : times_begun op log ≤ 1
     pub answered_once : length (answers_of op log) ≤ 1
-    pub causes : (what : Order) (a : Answer) → orders op ≡ Some what → answers_of op log ≡ a ∷ [] → IsCause names orders a what (before_first op log)
+    pub causes : (what : Order) (a : Answer) → orders op ≡ Some what → answers_of op log ≡ a ∷ [] → IsCauseIn a what (before_first op log)
     pub begins : (what : Order) → orders op ≡ Some what → began op log ≡ true → MayBegin names orders what (before_first op log)
     pub known : is_noted op log ≡ true → is_some (orders op) ≡ true
 
@@ -230,14 +234,14 @@ module _ (names : List (List ℕ)) (orders : ℕ → Option Order) where
         answered_once = subst (λ v. length v ≤ 1) (sym same) h.answered_once;
         causes = λ what x order is.
             let was : answers_of op log ≡ x ∷ [] = sym same ∙ is in
-            subst (λ v. IsCause names orders x what v) (sym (before_kept op log notes (noted_answered op log (some_answered op log x [] was)))) (h.causes what x order was);
+            subst (λ v. IsCauseIn x what v) (sym (before_kept op log notes (noted_answered op log (some_answered op log x [] was)))) (h.causes what x order was);
         begins = λ what order is.
             let was : began op log ≡ true = sym begun ∙ is in
             subst (λ v. MayBegin names orders what v) (sym (before_kept op log notes (noted_begun op log was))) (h.begins what order was);
         known = λ is. h.known (ap (λ v. v || has_answered op log) (sym begun) ∙ ap (λ v. began op (log ++ notes) || v) (sym (answered_same op log notes b)) ∙ is);
       }
 
-  no_cause : (a : Answer) (what : Order) (log : List Note) → is_outcome a ≡ true → IsCause names orders a what log
+  no_cause : (a : Answer) (what : Order) (log : List Note) → is_outcome a ≡ true → IsCauseIn a what log
   no_cause (answer.Unknown name) what log e = cc
   no_cause (answer.Overlap k) what log e = cc
   no_cause answer.Done what log e = tt
@@ -252,13 +256,13 @@ module _ (names : List (List ℕ)) (orders : ℕ → Option Order) where
       record {
         begun_once = (let times = times_begun-append op log (note.Answered op a ∷ []) in let few = h.begun_once in omega (arith, times, few));
         answered_once = rw all (omega arith);
-        causes = λ what x order is. subst (λ y. IsCause names orders y what (before_first op (log ++ note.Answered op a ∷ []))) (first_is a x (sym all ∙ is)) (no_cause a what (before_first op (log ++ note.Answered op a ∷ [])) outcome);
+        causes = λ what x order is. subst (λ y. IsCauseIn y what (before_first op (log ++ note.Answered op a ∷ []))) (first_is a x (sym all ∙ is)) (no_cause a what (before_first op (log ++ note.Answered op a ∷ [])) outcome);
         begins = λ what order is. subst (λ v. MayBegin names orders what v) (sym (before_kept op log (note.Answered op a ∷ []) (noted_begun op log begun))) (h.begins what order begun);
         known = λ is. h.known (noted_begun op log begun);
       }
 
   -- its refusal
-  pub answered_refused : (op : ℕ) (log : List Note) (a : Answer) (what : Order) → is_noted op log ≡ false → orders op ≡ Some what → IsCause names orders a what log → IsAnswered op (log ++ note.Answered op a ∷ [])
+  pub answered_refused : (op : ℕ) (log : List Note) (a : Answer) (what : Order) → is_noted op log ≡ false → orders op ≡ Some what → IsCauseIn a what log → IsAnswered op (log ++ note.Answered op a ∷ [])
   answered_refused op log a what new order cause =
       let own : (op == op) ≡ true = grind (arith, nat_tests) in
       let off = or_off (began op log) (has_answered op log) new in
@@ -267,7 +271,7 @@ module _ (names : List (List ℕ)) (orders : ℕ → Option Order) where
       record {
         begun_once = (let times = times_begun-append op log (note.Answered op a ∷ []) in let none = never_begun op log off.0 in omega (arith, times, none));
         answered_once = rw all (omega arith);
-        causes = λ other x known is. subst (λ v. IsCause names orders x other v) (sym before) (subst (λ o. IsCause names orders x o log) (some_is what other (sym order ∙ known)) (subst (λ y. IsCause names orders y what log) (first_is a x (sym all ∙ is)) cause));
+        causes = λ other x known is. subst (λ v. IsCauseIn x other v) (sym before) (subst (λ o. IsCauseIn x o log) (some_is what other (sym order ∙ known)) (subst (λ y. IsCauseIn y what log) (first_is a x (sym all ∙ is)) cause));
         begins = λ other known is. (let never = sym (began_same op log (note.Answered op a ∷ []) refl ∙ off.0) ∙ is in cc);
         known = λ is. ap is_some order;
       }

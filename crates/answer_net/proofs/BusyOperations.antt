@@ -20,8 +20,8 @@ use Rattle.ctrl_node.specs.declared.operation.Operation.TheVariants.{Move, Copy,
 use Rattle.ctrl_node.specs.Operations.{OpenOperations, meets_operation, lowest_meeting}
 use Rattle.ctrl_node.specs.Controller.{ControllerState, filter_of, unknown_name, overlap, refusal}
 use Rattle.abstract_net.proofs.Waits.{Rising}
-use Rattle.net_world.specs.Commands.{keeps_off, busy_filter, answers_of, unknown_in, MayBegin, IsCause}
-use Rattle.answer_net.proofs.BusyLemmas.{is_noted, is_outcome, IsAnswered}
+use Rattle.net_world.specs.Commands.{keeps_off, busy_filter, answers_of, unknown_in, MayBegin}
+use Rattle.answer_net.proofs.BusyLemmas.{is_noted, is_outcome, IsAnswered, IsCauseIn}
 use Rattle.answer_net.proofs.FirstEntries.{passes, IsFirstOf, found_is}
 use Rattle.answer_net.proofs.ShareTells.{is_set_up}
 use Rattle.whole_joined.proofs.Given.{Given, IsPlan, IsCopyPlan}
@@ -92,12 +92,12 @@ module _ (g : Given) (ops : OpenOperations) (log : List Note) (waits : List ℕ)
   -- what a refusal says, or that there is none
   abbrev pub Causes : Order → Option Answer → Type 0
   Causes what None = MayBegin g.names g.orders what log
-  Causes what (Some a) = IsCause g.names g.orders a what log
+  Causes what (Some a) = IsCauseIn g.names g.orders a what log
 
   by_finds : (what : Order) (u : Option (List ℕ)) (q : Option ℕ) → unknown_in g.names what ≡ u → IsFirstOf q (λ op. option_map_or (λ filter. passes (meets_operation filter) (finite.get ops op)) (filter_of what) false) → Causes what (option_or (option_map Unknown u) (option_map Overlap q))
   by_finds what (Some name) q known first = known
   by_finds what None None known first = record { known = known; apart = λ op. sym (test_same (filter_of what) op) ∙ first op }
-  by_finds what None (Some d) known first = record { known = known; overlaps_it = sym (test_same (filter_of what) d) ∙ first.0; lowest = λ k small. sym (test_same (filter_of what) k) ∙ first.1 k small }
+  by_finds what None (Some d) known first = (known, record { picked = sym (test_same (filter_of what) d) ∙ first.0; lowest = λ k small. sym (test_same (filter_of what) k) ∙ first.1 k small })
 
 pub refusal_is : (g : Given) (c : ControllerState) (log : List Note) (waits : List ℕ) → c.names ≡ g.names → (h : IsBusy g c.operations log waits) → (what : Order) → Causes g c.operations log waits h what (refusal c what)
 refusal_is g c log waits names h what = by_finds g c.operations log waits h what (unknown_name c what) (overlap c what) (ap (λ ns. unknown_in ns what) (sym names)) (first_by g c.operations log waits h (filter_of what))

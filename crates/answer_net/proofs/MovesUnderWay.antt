@@ -2,15 +2,12 @@
 use Rattle.std.proofs.Common.{◌≡◌, ℕ, ◌+◌, Bool, true, false, Some, None, List, length, refl}
 use Rattle.std.specs.declared.alloc.Global.{Global}
 use Rattle.std.specs.FinMap as finite
-use Rattle.flow_filter.specs.declared.filter.Filter.{Filter}
 use Rattle.nf_function.specs.Records.{Laws as FunctionLaws}
 use Rattle.nf_function.specs.Semantics.{Semantics}
-use Rattle.nf_msgs.specs.declared.command.Order.TheVariants as order
 use Rattle.nf_msgs.specs.declared.msg.Msg.{Msg}
 use Rattle.nf_msgs.specs.declared.note.Note.{Note}
-use Rattle.move_op.specs.Move.{MovePlan, MoveState}
+use Rattle.move_op.specs.Move.{MoveState}
 use Rattle.ctrl_node.specs.declared.operation.Operation.TheVariants.{Move}
-use Rattle.ctrl_node.specs.Controller.{place_of}
 use Rattle.actor_net.specs.declared.choice.Choice.{Choice}
 use Rattle.actor_net.specs.Network.{Network, IsRun, run}
 use Rattle.net_world.specs.declared.config.Config.{Config}
@@ -25,19 +22,6 @@ use Rattle.answer_net.proofs.CommandPromises.{run_busy}
 use Rattle.whole_joined.proofs.Given.{IsPlan}
 use Rattle.whole_joined.proofs.Joined.{Joined}
 
--- the order under a number moves what this filter takes between these two instances
-pub record IsMoveOf (c : Config) (items : List Msg) (op : ℕ) (filter : Filter) (ends : ℕ × ℕ) : Type 0 where
-  pub source : List ℕ
-  pub destination : List ℕ
-  pub keep : Bool
-  pub order : order_numbered items op ≡ Some (order.Move source destination filter keep)
-  pub from : place_of c.names source ≡ Some ends.0
-  pub to : place_of c.names destination ≡ Some ends.1
-
-module _ {R : Type 0} (f : Semantics R) (c : Config) (items : List Msg) (is : IsInput f.kind c items) where
-  plan_of : (op : ℕ) (plan : MovePlan) → IsPlan (given f c items is) op plan → IsMoveOf c items op plan.filter (plan.from, plan.to)
-  plan_of op plan p = record { source = p.source; destination = p.destination; keep = plan.keep; order = p.order_is; from = p.from_is; to = p.to_is }
-
 module _ {F R : Type 0} (f : Semantics R) (c : Config) (items : List Msg) (is : IsInput f.kind c items) where
   pub record AreUnderWay (n : ℕ) (w : Network (Node F R) Msg Note) (j : Joined f (given f c items is) n w) : Type 0 where
     -- the open operations are the commands that keep others off
@@ -46,7 +30,7 @@ module _ {F R : Type 0} (f : Semantics R) (c : Config) (items : List Msg) (is : 
     pub open_busy : (op : ℕ) (m : MoveState) → finite.get j.nodes.controller.operations op ≡ Some (Move m) → is_busy op w.log ≡ true
     pub closed_busy : (op : ℕ) → finite.get j.nodes.controller.operations op ≡ None → is_busy op w.log ≡ false
     -- an open move's plan is that of its number's order
-    pub plan_is : (op : ℕ) (m : MoveState) → finite.get j.nodes.controller.operations op ≡ Some (Move m) → IsMoveOf c items op m.plan.filter (m.plan.from, m.plan.to)
+    pub plan_is : (op : ℕ) (m : MoveState) → finite.get j.nodes.controller.operations op ≡ Some (Move m) → IsPlan (given f c items is) op m.plan
 
 module _ (F : Type 0) {R : Type 0} (f : Semantics R) (laws : FunctionLaws f) (alloc : Global) (c : Config) (items : List Msg) (is : IsInput f.kind c items) where
   abbrev first : Network (Node F R) Msg Note
@@ -63,5 +47,5 @@ module _ (F : Type 0) {R : Type 0} (f : Semantics R) (laws : FunctionLaws f) (al
         keeps_is = keeps_is f (given f c items is) n refl w j b;
         open_busy = λ op m there. open_busy f (given f c items is) n refl w j b op (Move m) there refl;
         closed_busy = closed_busy f (given f c items is) n refl w j b;
-        plan_is = λ op m there. plan_of f c items is op m.plan (plan_is f (given f c items is) n refl w j b op m there);
+        plan_is = plan_is f (given f c items is) n refl w j b;
       }

@@ -64,6 +64,18 @@ before_first op (n ∷ notes) = n ∷ before_first op notes
 abbrev pub unknown_in : List (List ℕ) → Order → Option (List ℕ)
 unknown_in names what = find (λ name. not (is_some (place_of names name))) (names_of what)
 
+-- the lowest number of those that some test picks
+pub record IsLowest (picks : ℕ → Bool) (op : ℕ) : Type 0 where
+  pub picked : picks op ≡ true
+  pub lowest : (k : ℕ) → k < op → picks k ≡ false
+
+-- the cause of a refusal, by the first name in the order that no instance has, and by which commands keep others off and meet the order: that name;
+-- or each name is known, and it is the lowest number of such a command. Answers to commands that began have other causes
+abbrev pub IsCause : Answer → (unknown : Option (List ℕ)) → (overlapping : ℕ → Bool) → Type 0
+IsCause (Unknown name) unknown overlapping = unknown ≡ Some name
+IsCause (Overlap op) unknown overlapping = (unknown ≡ None) × IsLowest overlapping op
+IsCause answer unknown overlapping = Unit {0}
+
 -- The instances' names are given, and the order under each number.
 module _ (names : List (List ℕ)) (orders : ℕ → Option Order) where
   -- whether a command keeps others off: as long as it is under way, and a share for good
@@ -75,32 +87,20 @@ module _ (names : List (List ℕ)) (orders : ℕ → Option Order) where
   busy_filter op log = if keeps_off op log then option_and_then filter_of (orders op) else None
 
   -- whether the filter of an order meets that of such a command
-  abbrev pub overlaps : Order → ℕ → List Note → Bool
-  overlaps what op log = option_map_or (λ filter. option_map_or (meets filter) (busy_filter op log) false) (filter_of what) false
+  abbrev pub overlaps : Order → List Note → ℕ → Bool
+  overlaps what log op = option_map_or (λ filter. option_map_or (meets filter) (busy_filter op log) false) (filter_of what) false
 
   -- an instance has each name, and no command that keeps others off meets the order
   pub record MayBegin (what : Order) (log : List Note) : Type 0 where
     pub known : unknown_in names what ≡ None
-    pub apart : (op : ℕ) → overlaps what op log ≡ false
-
-  -- an instance has each name, and this is the lowest number of such a command that meets the order
-  pub record IsLowest (op : ℕ) (what : Order) (log : List Note) : Type 0 where
-    pub known : unknown_in names what ≡ None
-    pub overlaps_it : overlaps what op log ≡ true
-    pub lowest : (k : ℕ) → k < op → overlaps what k log ≡ false
-
-  -- what was true of the order and the log when it was refused. Answers to commands that began have other causes
-  abbrev pub IsCause : Answer → Order → List Note → Type 0
-  IsCause (Unknown name) what log = unknown_in names what ≡ Some name
-  IsCause (Overlap op) what log = IsLowest op what log
-  IsCause answer what log = Unit {0}
+    pub apart : (op : ℕ) → overlaps what log op ≡ false
 
   pub record AreAnswered (log : List Note) : Type 0 where
     -- no command begins twice, and none is answered twice
     pub begun_once : (op : ℕ) → times_begun op log ≤ 1
     pub answered_once : (op : ℕ) → length (answers_of op log) ≤ 1
-    -- a refused command has a cause, and one that began had none
-    pub causes : (op : ℕ) (what : Order) (answer : Answer) → orders op ≡ Some what → answers_of op log ≡ answer ∷ [] → IsCause answer what (before_first op log)
+    -- a refused command has a cause, which was true of the log before its first note, and one that began had none
+    pub causes : (op : ℕ) (what : Order) (answer : Answer) → orders op ≡ Some what → answers_of op log ≡ answer ∷ [] → IsCause answer (unknown_in names what) (overlaps what (before_first op log))
     pub begins : (op : ℕ) (what : Order) → orders op ≡ Some what → began op log ≡ true → MayBegin what (before_first op log)
     -- the switch changes its rules once at most for each command, and not for one that is answered otherwise than that it is done
     pub installed_once : (op : ℕ) → times_installed op log ≤ 1

@@ -1,6 +1,7 @@
 pub mod Commands
 pub mod Fold
 pub mod Input
+pub mod Jobs
 pub mod Lives
 pub mod Log
 pub mod Nodes

@@ -19,6 +19,7 @@ use Rattle.nf_msgs.specs.declared.note.Note.TheVariants.{Arrived, Processed}
 use Rattle.ctrl_node.specs.Controller.{place_of}
 use Rattle.net_world.specs.declared.config.Config.{Config}
 use Rattle.net_world.specs.Input.{packet_of, order_numbered}
+use Rattle.net_world.specs.Jobs.{Job}
 use Rattle.net_world.specs.Commands.{is_busy}
 use Rattle.net_world.specs.Log.{installed}
 
@@ -71,6 +72,17 @@ module _ (names : List (List ℕ)) (orders : ℕ → Option Order) where
   members_after unit i [] = None
   members_after unit i (op ∷ ops) = option_or (shared_among unit (orders op) i) (members_after unit (handed_on unit (orders op) i) ops)
 
+-- a move of the unit, between these names, is under way
+pub record IsMoving (items : List Msg) (unit : units.Unit) (log : List Note) : Type 0 where
+  pub op : ℕ
+  pub source : List ℕ
+  pub destination : List ℕ
+  pub filter : Filter
+  pub keep : Bool
+  pub order : order_numbered items op ≡ Some (Move source destination filter keep)
+  pub takes_it : takes filter unit ≡ true
+  pub busy : is_busy op log ≡ true
+
 module _ (config : Config) (items : List Msg) where
   abbrev pub owner : units.Unit → List Note → ℕ
   owner unit log = owner_after config.names (order_numbered items) unit (first_owner unit config.routes) (installed log)
@@ -89,19 +101,11 @@ module _ (config : Config) (items : List Msg) where
       let flow = (flow_of config.site packet).0 in
       place_of config.names (slice_index_or names ((flow.lport + flow.rport + flow.remote) % length names) [])
 
-  -- a move of the unit between two names is under way
-  pub record IsMoving (unit : units.Unit) (log : List Note) (source destination : List ℕ) : Type 0 where
-    pub op : ℕ
-    pub filter : Filter
-    pub keep : Bool
-    pub order : order_numbered items op ≡ Some (Move source destination filter keep)
-    pub takes_it : takes filter unit ≡ true
-    pub busy : is_busy op log ≡ true
-
-  -- and it is to take the unit from its owner: one whose owner is another instance, or the destination already, isn't touched
-  pub record IsMovingOn (unit : units.Unit) (log : List Note) (source destination : List ℕ) : Type 0 where
-    pub moving : IsMoving unit log source destination
-    pub covers : is_at (place_of config.names source) (owner unit log) ≡ true
+  -- a move of the unit is under way, and it is to take the unit from its owner: one whose owner is another instance, or the destination already,
+  -- isn't touched
+  pub record IsMovingOn (unit : units.Unit) (log : List Note) : Type 0 where
+    pub moving : IsMoving items unit log
+    pub covers : is_at (place_of config.names moving.source) (owner unit log) ≡ true
 
 module _ (config : Config) (items : List Msg) (kind : Kind) where
   -- the unit of the packet with a number
@@ -113,16 +117,21 @@ module _ (config : Config) (items : List Msg) (kind : Kind) where
   goes_to number log =
       option_map_or (λ names. member_for config items names (packet_of items number)) (members config items (unit_numbered number) log) (Some (owner config items (unit_numbered number) log))
 
+  -- each packet that came when a share had its unit was processed at its member
+  abbrev pub AreAtMembers : List Note → Type 0
+  AreAtMembers log = (before between after : List Note) (number instance : ℕ) (output : Output) (names : List (List ℕ)) → log ≡ before ++ Arrived number ∷ (between ++ Processed number instance output ∷ after) → members config items (unit_numbered number) before ≡ Some names → member_for config items names (packet_of items number) ≡ Some instance
+
+module _ {R : Type 0} (job : Job R) where
+  -- the unit of a packet of the job
+  abbrev pub unit_in : ℕ → units.Unit
+  unit_in number = unit_numbered job.config job.items job.function.kind number
+
   -- a packet may be processed at the instance
   pub data IsPlace (number : ℕ) (log : List Note) (i : ℕ) : Type 0 where
-    Owns : i ≡ owner config items (unit_numbered number) log → IsPlace number log i
-    Is_destination : (source destination : List ℕ) → IsMovingOn config items (unit_numbered number) log source destination → place_of config.names destination ≡ Some i → IsPlace number log i
-    Is_member : goes_to number log ≡ Some i → IsPlace number log i
+    Owns : i ≡ owner job.config job.items (unit_in number) log → IsPlace number log i
+    Is_destination : (on : IsMovingOn job.config job.items (unit_in number) log) → place_of job.config.names on.moving.destination ≡ Some i → IsPlace number log i
+    Is_member : goes_to job.config job.items job.function.kind number log ≡ Some i → IsPlace number log i
 
   -- each packet was processed at such an instance, by what was noted before
   abbrev pub ArePlaces : List Note → Type 0
   ArePlaces log = (before after : List Note) (number instance : ℕ) (output : Output) → log ≡ before ++ Processed number instance output ∷ after → IsPlace number before instance
-
-  -- each packet that came when a share had its unit was processed at its member
-  abbrev pub AreAtMembers : List Note → Type 0
-  AreAtMembers log = (before between after : List Note) (number instance : ℕ) (output : Output) (names : List (List ℕ)) → log ≡ before ++ Arrived number ∷ (between ++ Processed number instance output ∷ after) → members config items (unit_numbered number) before ≡ Some names → member_for config items names (packet_of items number) ≡ Some instance

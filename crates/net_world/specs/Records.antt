@@ -20,7 +20,6 @@ use Rattle.move_op.specs.Move.{chunks_of}
 use Rattle.ctrl_node.specs.declared.operation.Operation.{Operation}
 use Rattle.ctrl_node.specs.declared.operation.Operation.TheVariants.{Move}
 use Rattle.actor_net.specs.Network.{Network, on_link}
-use Rattle.net_world.specs.declared.config.Config.{Config}
 use Rattle.net_world.specs.declared.node.Node.{Node}
 use Rattle.net_world.specs.declared.node.Node.TheVariants.{Controller, Instance}
 use Rattle.net_world.specs.Path.{all_of, on_links}
@@ -122,9 +121,7 @@ module _ {F R : Type 0} (f : Semantics R) (w : Network (Node F R) Msg Note) wher
     Is_given : (i : ℕ) (r : R) → kept ≡ Some r → IsLiveAt w unit i r → on_way unit ≡ Some (unit, r) ∷ [] → is_to_remove w unit i ≡ true → HasOneRecord unit kept
 
 -- a chunk is one of a unit that a move under way takes
-pub record IsOfMove (config : Config) (items : List Msg) (log : List Note) (chunk : Chunk) : Type 0 where
+pub record IsOfMove (items : List Msg) (log : List Note) (chunk : Chunk) : Type 0 where
   pub unit : units.Unit
   pub unit_is : chunk.unit ≡ Some unit
-  pub source : List ℕ
-  pub destination : List ℕ
-  pub moving : IsMoving config items unit log source destination
+  pub moving : IsMoving items unit log

@@ -3,17 +3,14 @@
 use Rattle.std.specs.Prelude.{◌≡◌, ℕ, List, ◌++◌, Option, None, Some, slice_get}
 use Rattle.std.specs.FinMap as finite
 use Rattle.nf_function.specs.declared.unit.Unit as units
-use Rattle.nf_function.specs.Semantics.{Semantics}
 use Rattle.nf_msgs.specs.declared.msg.Msg.{Msg}
 use Rattle.nf_msgs.specs.declared.note.Note.{Note}
 use Rattle.nf_msgs.specs.Nodes.{instance_node}
-use Rattle.actor_net.specs.declared.choice.Choice.{Choice}
-use Rattle.actor_net.specs.Network.{Network, run}
-use Rattle.net_world.specs.declared.config.Config.{Config}
+use Rattle.actor_net.specs.Network.{Network}
 use Rattle.net_world.specs.declared.node.Node.{Node}
 use Rattle.net_world.specs.declared.node.Node.TheVariants.{Instance}
-use Rattle.net_world.specs.Nodes.{node_step}
 use Rattle.net_world.specs.Fold.{IsFront, fold, went}
+use Rattle.net_world.specs.Jobs.{Job}
 
 -- the record of a unit that stands by at an instance of a world
 abbrev pub standby_in : {F R : Type 0} → units.Unit → Option (Node F R) → Option R
@@ -23,22 +20,10 @@ standby_in unit other = None
 abbrev pub standby_at : {F R : Type 0} → Network (Node F R) Msg Note → ℕ → units.Unit → Option R
 standby_at w i unit = standby_in unit (slice_get w.nodes (instance_node i))
 
-module _ {F R : Type 0} (f : Semantics R) (config : Config) (items : List Msg) where
-  -- a record of the unit stands by at the instance: what is kept after these packets, which are a front of what was processed of the unit
-  pub record StandsBy (w : Network (Node F R) Msg Note) (i : ℕ) (unit : units.Unit) (front : List ℕ) : Type 0 where
-    pub kept : R
-    pub there : standby_at w i unit ≡ Some kept
-    pub is_front : IsFront front (went f config items unit w.log)
-    pub folds : fold f config items None front ≡ Some kept
-
--- The world at the start, and the choices of a run.
-module _ {F R : Type 0} (f : Semantics R) (start : Network (Node F R) Msg Note) (choices : List Choice) (config : Config) (items : List Msg) where
-  -- a record of the unit stands by at the instance at the end of the run
-  pub record EndsWith (i : ℕ) (unit : units.Unit) : Type 0 where
-    pub front : List ℕ
-    pub stands_by : StandsBy f config items (run (node_step f) choices start) i unit front
-
-  -- and so it does after a front that is this one or goes on from it
-  pub record EndsNoShorter (i : ℕ) (unit : units.Unit) (earlier : List ℕ) : Type 0 where
-    pub ends : EndsWith i unit
-    pub behind : IsFront earlier ends.front
+-- a record of the unit stands by at the instance of a world: what is kept after some packets, which are a front of what was processed of the unit
+pub record StandsBy {F R : Type 0} (job : Job R) (w : Network (Node F R) Msg Note) (i : ℕ) (unit : units.Unit) : Type 0 where
+  pub front : List ℕ
+  pub kept : R
+  pub there : standby_at w i unit ≡ Some kept
+  pub is_front : IsFront front (went job.function job.config job.items unit w.log)
+  pub folds : fold job.function job.config job.items None front ≡ Some kept

@@ -25,6 +25,7 @@ use Rattle.net_world.specs.declared.node.Node.{Node}
 use Rattle.net_world.specs.declared.node.Node.TheVariants.{Instance}
 use Rattle.net_world.specs.Commands.{began, answers_of}
 use Rattle.net_world.specs.Input.{packet_of, order_numbered}
+use Rattle.net_world.specs.Jobs.{Course, Job}
 use Rattle.net_world.specs.Lives.{lives}
 use Rattle.net_world.specs.Nodes.{node_step}
 use Rattle.net_world.specs.Fold.{went}
@@ -82,42 +83,35 @@ module _ {R : Type 0} (f : Semantics R) (config : Config) (items : List Msg) whe
   abbrev pub is_timed : units.Unit → List Note → Bool
   is_timed unit log = has_times f.kind && list_any (λ p. nat_le 1 (packet_of items p).nanos) (went f config items unit log)
 
-module _ {F R : Type 0} (f : Semantics R) (config : Config) (items : List Msg) where
-  -- what is weighed of a move in a world
-  pub record IsWeighed (op : ℕ) (w : Network (Node F R) Msg Note) (x : Weighed) : Type 0 where
-    pub destination : ℕ
-    pub destination_is : receiver_of config (order_numbered items op) ≡ Some destination
-    pub units : List units.Unit
-    pub units_are : exported op w.log ≡ Some units
-    pub held : x.held ≡ number_live w destination
-    pub coming : x.coming ≡ length units
-    pub limit : x.limit ≡ slice_index config.limits destination
-    pub marked : x.marked ≡ slice_index_or config.marked destination false
-    pub timed : x.timed ≡ list_any (λ unit. is_timed f config items unit (before_export op w.log)) units
+-- what is weighed of a move in a world
+pub record IsWeighed {F R : Type 0} (job : Job R) (op : ℕ) (w : Network (Node F R) Msg Note) (x : Weighed) : Type 0 where
+  pub destination : ℕ
+  pub destination_is : receiver_of job.config (order_numbered job.items op) ≡ Some destination
+  pub units : List units.Unit
+  pub units_are : exported op w.log ≡ Some units
+  pub held : x.held ≡ number_live w destination
+  pub coming : x.coming ≡ length units
+  pub limit : x.limit ≡ slice_index job.config.limits destination
+  pub marked : x.marked ≡ slice_index_or job.config.marked destination false
+  pub timed : x.timed ≡ list_any (λ unit. is_timed job.function job.config job.items unit (before_export op w.log)) units
 
--- The world at the start, and the choices of a run.
-module _ {F R : Type 0} (f : Semantics R) (start : Network (Node F R) Msg Note) (choices : List Choice) where
+module _ {F R : Type 0} (f : Semantics R) (course : Course F R) where
   -- after some of the choices, the first piece of the move is taken next
   pub record IsTakenAfter (op : ℕ) (front : List Choice) : Type 0 where
     pub choice : Choice
     pub back : List Choice
-    pub whole : front ++ choice ∷ back ≡ choices
+    pub whole : front ++ choice ∷ back ≡ course.choices
     pub piece : Piece
     pub rest : List Msg
-    pub waits : waiting (run (node_step f) front start) choice ≡ Put op piece true ∷ rest
+    pub waits : waiting (run (node_step f) front course.start) choice ≡ Put op piece true ∷ rest
 
-  -- what was noted by the end
-  abbrev pub noted : List Note
-  noted = (run (node_step f) choices start).log
-
-  module _ (config : Config) (items : List Msg) where
-    -- the move was judged once, so
-    pub record IsVerdict (op : ℕ) (answer : Answer) : Type 0 where
-      pub front : List Choice
-      pub is_taken : IsTakenAfter op front
-      pub once : (other : List Choice) → IsTakenAfter op other → other ≡ front
-      pub weighed : Weighed
-      pub are_weighed : IsWeighed f config items op (run (node_step f) front start) weighed
-      pub by_history : weighed.held ≡ length (lives f config items start are_weighed.destination front)
-      pub at_destination : is_taken.choice.node ≡ instance_node are_weighed.destination
-      pub answer_is : answer ≡ verdict weighed
+-- a move was judged once, so
+pub record IsVerdict {F R : Type 0} (job : Job R) (course : Course F R) (op : ℕ) (answer : Answer) : Type 0 where
+  pub front : List Choice
+  pub is_taken : IsTakenAfter job.function course op front
+  pub once : (other : List Choice) → IsTakenAfter job.function course op other → other ≡ front
+  pub weighed : Weighed
+  pub are_weighed : IsWeighed job op (run (node_step job.function) front course.start) weighed
+  pub by_history : weighed.held ≡ length (lives job.function job.config job.items course.start are_weighed.destination front)
+  pub at_destination : is_taken.choice.node ≡ instance_node are_weighed.destination
+  pub answer_is : answer ≡ verdict weighed

@@ -133,10 +133,8 @@ module _ {F R : Type 0} (f : Semantics R) (c : Config) (items : List Msg) (is : 
       (each_place (Named f g) kept_by w.nodes d (λ i small. subst (λ y. Each (Named f g) (kept_by y)) (sym (j.nodes_are i (rw (← nodes) small) d)) (kept_named i)))
 
   -- a unit with a chunk on its way has a move
-  record IsMoved (u : units.Unit) : Type 0 where
-    source : List ℕ
-    destination : List ℕ
-    moving : IsMoving c items u w.log source destination
+  abbrev IsMoved : units.Unit → Type 0
+  IsMoved u = IsMoving items u w.log
 
   moved : (u : units.Unit) → spelled_of f u (chunks_on_way w) ≢ [] → IsMoved u
   moved u some = by_where (j.shown_is.every.unit u)
@@ -150,13 +148,12 @@ module _ {F R : Type 0} (f : Semantics R) (c : Config) (items : List Msg) (is : 
           by_sides : HasSides f c items is n count w nodes j k.op (seat_shape (S f g).F k.seat) → IsMoved u
           by_sides (Are_there e found src dst) =
               let label = each_found (Op_label (S f g) (see (S f g) (is_sys f g.site g.packet) u k.op k.third)) k.op.num j.world.ops e k.holds.ops found in
-              let it = open_at f c items is n w j busy u k.op.num e found (label.0.0 ∙ label.1) in
-              record { source = it.source; destination = it.destination; moving = it.moving }
+              (open_at f c items is n w j busy u k.op.num e found (label.0.0 ∙ label.1)).moving
           by_sides (Rests none none_b at_a) = absurd (some (none_on_way f c items is n count w nodes j world u apart k.op k.third (seat_shape (S f g).F k.seat) k.holds (third_silent (S f g).F k.seat) none))
 
       by_where : Where_all (S f g) (A f g) (is_sys f g.site g.packet) u j.world (came_by f g w.log u) → IsMoved u
       by_where (Apart_from_shares h none) = by_seat h.is h.untaken
       by_where (Under_share x before b h o i) = absurd (some (none_shared f c items is n count w nodes j world u x before (came_by f g w.log u).diverted h))
 
-  pub chunks_moved : All (IsOfMove c items w.log) (chunks_on_way w)
-  chunks_moved = all_from (IsOfMove c items w.log) (chunks_on_way w) (each_has f g IsMoved (IsOfMove c items w.log) (λ y u is_unit h. record { unit = u; unit_is = is_unit; source = h.source; destination = h.destination; moving = h.moving }) (chunks_on_way w) all_named moved)
+  pub chunks_moved : All (IsOfMove items w.log) (chunks_on_way w)
+  chunks_moved = all_from (IsOfMove items w.log) (chunks_on_way w) (each_has f g IsMoved (IsOfMove items w.log) (λ y u is_unit h. record { unit = u; unit_is = is_unit; moving = h }) (chunks_on_way w) all_named moved)

@@ -17,11 +17,10 @@ use Rattle.actor_net.specs.Network.{Network, IsRun, is_done, run}
 use Rattle.net_world.specs.declared.config.Config.{Config}
 use Rattle.net_world.specs.declared.node.Node.{Node}
 use Rattle.net_world.specs.Input.{IsInput}
+use Rattle.net_world.specs.Jobs.{course_of, job_of}
 use Rattle.net_world.specs.Nodes.{node_step, node_ready, node_ended}
-use Rattle.nf_net.specs.Promises.{Promises, Completed}
-use Rattle.nf_net.specs.Promises.{Standbys}
+use Rattle.nf_net.specs.Promises.{Completed, Promises, Standbys, Verdicts}
 use Rattle.net_world.specs.Start.{started}
-use Rattle.nf_net.specs.Promises.{Verdicts}
 use Rattle.net_world.specs.Window.{AllHome}
 use Rattle.answer_net.proofs.ArrivalLemmas.{arrivals_run}
 use Rattle.nf_net.proofs.AtMembers.{at_members}
@@ -109,8 +108,8 @@ module _ (F : Type 0) {R : Type 0} (f : Semantics R) (laws : FunctionLaws f) (al
     pub choices : r.1 ≡ chosen f first schedule
     pub end : EndsIn f first schedule r.0
     pub promises : Promises f c items r.0
-    pub verdicts : Verdicts f first r.1 c items
-    pub standbys : Standbys f first r.1 c items
+    pub verdicts : Verdicts (job_of f c items) (course_of first r.1)
+    pub standbys : Standbys (job_of f c items) (course_of first r.1)
     pub completed : Completed f c items r.0
     pub home : AllHome c r.0
 
@@ -146,8 +145,8 @@ module _ (F : Type 0) {R : Type 0} (f : Semantics R) (laws : FunctionLaws f) (al
     pub choices : IfOk result (λ r. r.1 ≡ chosen f (started {F = F} {R = R} alloc c items) schedule)
     pub end : IfOk result (λ r. EndsIn f (started alloc c items) schedule r.0)
     pub promises : IfOk result (λ r. Promises f c items r.0)
-    pub verdicts : IfOk result (λ r. Verdicts f (started {F = F} {R = R} alloc c items) r.1 c items)
-    pub standbys : IfOk result (λ r. Standbys f (started {F = F} {R = R} alloc c items) r.1 c items)
+    pub verdicts : IfOk result (λ r. Verdicts (job_of f c items) (course_of (started {F = F} {R = R} alloc c items) r.1))
+    pub standbys : IfOk result (λ r. Standbys (job_of f c items) (course_of (started {F = F} {R = R} alloc c items) r.1))
     pub completed : IfOk result (λ r. Completed f c items r.0)
     pub home : IfOk result (λ r. AllHome c r.0)
 
@@ -168,19 +167,19 @@ replay_keeps F {R = R} f laws alloc c items is cs w (Ok reached) start h =
     let runs : IsRun node_ready (node_step f) cs (started {F = F} {R = R} alloc c items) = subst (λ v. IsRun node_ready (node_step f) cs v) start ok.0 in
     subst (λ v. Promises f c items v) (sym (ok.1 ∙ ap (run (node_step f) cs) start)) (every_run F f laws alloc c items is cs runs)
 
-pub replay_judges : (F : Type 0) {R : Type 0} (f : Semantics R) (laws : FunctionLaws f) (alloc : Global) (c : Config) (items : List Msg) (is : IsInput f.kind c items) (cs : List Choice) (w : Network (Node F R) Msg Note) (result : Result (Network (Node F R) Msg Note) ReplayFault) → w ≡ started alloc c items → (result ≢ Err NoMemory → result ≡ replayed node_ready (node_step f) cs w) → IfOk result (λ reached. Verdicts f w cs c items)
+pub replay_judges : (F : Type 0) {R : Type 0} (f : Semantics R) (laws : FunctionLaws f) (alloc : Global) (c : Config) (items : List Msg) (is : IsInput f.kind c items) (cs : List Choice) (w : Network (Node F R) Msg Note) (result : Result (Network (Node F R) Msg Note) ReplayFault) → w ≡ started alloc c items → (result ≢ Err NoMemory → result ≡ replayed node_ready (node_step f) cs w) → IfOk result (λ reached. Verdicts (job_of f c items) (course_of w cs))
 replay_judges F f laws alloc c items is cs w (Err e) start h = tt
 replay_judges F {R = R} f laws alloc c items is cs w (Ok reached) start h =
     let ok = replayed_ok node_ready (node_step f) cs w reached (sym (h (λ bad. cc))) in
     let runs : IsRun node_ready (node_step f) cs (started {F = F} {R = R} alloc c items) = subst (λ v. IsRun node_ready (node_step f) cs v) start ok.0 in
-    subst (λ v. Verdicts f v cs c items) (sym start) (verdicts F f laws alloc c items is cs runs)
+    subst (λ v. Verdicts (job_of f c items) (course_of v cs)) (sym start) (verdicts F f laws alloc c items is cs runs)
 
-pub replay_stands : (F : Type 0) {R : Type 0} (f : Semantics R) (laws : FunctionLaws f) (alloc : Global) (c : Config) (items : List Msg) (is : IsInput f.kind c items) (cs : List Choice) (w : Network (Node F R) Msg Note) (result : Result (Network (Node F R) Msg Note) ReplayFault) → w ≡ started alloc c items → (result ≢ Err NoMemory → result ≡ replayed node_ready (node_step f) cs w) → IfOk result (λ reached. Standbys f w cs c items)
+pub replay_stands : (F : Type 0) {R : Type 0} (f : Semantics R) (laws : FunctionLaws f) (alloc : Global) (c : Config) (items : List Msg) (is : IsInput f.kind c items) (cs : List Choice) (w : Network (Node F R) Msg Note) (result : Result (Network (Node F R) Msg Note) ReplayFault) → w ≡ started alloc c items → (result ≢ Err NoMemory → result ≡ replayed node_ready (node_step f) cs w) → IfOk result (λ reached. Standbys (job_of f c items) (course_of w cs))
 replay_stands F f laws alloc c items is cs w (Err e) start h = tt
 replay_stands F {R = R} f laws alloc c items is cs w (Ok reached) start h =
     let ok = replayed_ok node_ready (node_step f) cs w reached (sym (h (λ bad. cc))) in
     let runs : IsRun node_ready (node_step f) cs (started {F = F} {R = R} alloc c items) = subst (λ v. IsRun node_ready (node_step f) cs v) start ok.0 in
-    subst (λ v. Standbys f v cs c items) (sym start) (standbys F f laws alloc c items is cs runs)
+    subst (λ v. Standbys (job_of f c items) (course_of v cs)) (sym start) (standbys F f laws alloc c items is cs runs)
 
 -- and what its end keeps, where nothing is left to do in the world
 replay_ends : (F : Type 0) {R : Type 0} (f : Semantics R) (laws : FunctionLaws f) (alloc : Global) (c : Config) (items : List Msg) (is : IsInput f.kind c items) (cs : List Choice) (w reached : Network (Node F R) Msg Note) → w ≡ started alloc c items → replayed node_ready (node_step f) cs w ≡ Ok reached → is_done node_ended reached ≡ true → KeepsAll F f laws alloc c items is reached

@@ -24,6 +24,7 @@ use Rattle.net_world.specs.declared.config.Config.{Config}
 use Rattle.net_world.specs.declared.node.Node.{Node}
 use Rattle.net_world.specs.Commands.{began}
 use Rattle.net_world.specs.Input.{order_numbered}
+use Rattle.net_world.specs.Jobs.{course_of, job_of}
 use Rattle.net_world.specs.Nodes.{node_step}
 use Rattle.net_world.specs.Verdicts.{Weighed, verdict, is_refusal, exported, before_export, is_timed, receiver_of, IsWeighed, IsTakenAfter}
 use Rattle.answer_net.proofs.InstallSteps.{is_moving}
@@ -65,9 +66,9 @@ module _ {F R : Type 0} (f : Semantics R) (c : Config) (items : List Msg) (start
   -- the first piece was taken, and this is the answer by what was weighed then
   pub record HasVerdict (cs : List Choice) (op : ℕ) (answer : Answer) : Type 0 where
     pub front : List Choice
-    pub is_taken : IsTakenAfter f start cs op front
+    pub is_taken : IsTakenAfter f (course_of start cs) op front
     pub weighed : Weighed
-    pub are_weighed : IsWeighed f c items op (run (node_step f) front start) weighed
+    pub are_weighed : IsWeighed (job_of f c items) op (run (node_step f) front start) weighed
     pub at_destination : is_taken.choice.node ≡ instance_node are_weighed.destination
     pub answer_is : answer ≡ verdict weighed
 

@@ -28,8 +28,9 @@ use Rattle.instance_worker.specs.declared.instance.Instance.{Instance as Instanc
 use Rattle.net_world.specs.declared.config.Config.{Config}
 use Rattle.net_world.specs.declared.node.Node.{Node}
 use Rattle.net_world.specs.declared.node.Node.TheVariants.{Instance}
-use Rattle.net_world.specs.Commands.{began, answers_of, before_first, IsCause, MayBegin}
+use Rattle.net_world.specs.Commands.{began, answers_of, before_first, overlaps, unknown_in, IsCause, MayBegin}
 use Rattle.net_world.specs.Input.{is_item, order_numbered, IsInput}
+use Rattle.net_world.specs.Jobs.{course_of, job_of}
 use Rattle.net_world.specs.Nodes.{node_step, node_ready}
 use Rattle.net_world.specs.Start.{first_instance, first_nodes, started}
 use Rattle.net_world.specs.Verdicts.{is_refusal, receiver_of, IsVerdict}
@@ -68,9 +69,9 @@ items_weigh first op (msg.InEnd ∷ items) ok = let rest = items_weigh first op 
 items_weigh first op (m ∷ items) ok = let never : false ≡ true = ok.0 in cc
 
 -- what may begin isn't refused
-not_both : (c : Config) (items : List Msg) (a : Answer) (what : Order) (log : List Note) → is_refusal a ≡ true → MayBegin c.names (order_numbered items) what log → IsCause c.names (order_numbered items) a what log → ⊥
+not_both : (c : Config) (items : List Msg) (a : Answer) (what : Order) (log : List Note) → is_refusal a ≡ true → MayBegin c.names (order_numbered items) what log → IsCause a (unknown_in c.names what) (overlaps c.names (order_numbered items) what log) → ⊥
 not_both c items (answer.Unknown name) what log refusal may cause = let never = sym may.known ∙ cause in cc
-not_both c items (answer.Overlap op) what log refusal may cause = let never = sym (may.apart op) ∙ cause.overlaps_it in cc
+not_both c items (answer.Overlap op) what log refusal may cause = let never = sym (may.apart op) ∙ cause.1.picked in cc
 not_both c items answer.Done what log refusal may cause = cc
 not_both c items (answer.Import a b d) what log refusal may cause = cc
 not_both c items (answer.Old a b) what log refusal may cause = cc
@@ -140,7 +141,7 @@ module _ (F : Type 0) {R : Type 0} (f : Semantics R) (laws : FunctionLaws f) (al
     is_front : (before after : List Choice) → before ++ after ≡ cs → IsRun node_ready step before start
     is_front before after whole = (run_splits node_ready step before after start (subst (λ xs. IsRun node_ready step xs start) (sym whole) run_is)).0
 
-    verdict_of : (op : ℕ) (a : Answer) → HasVerdict f c items start cs op a → IsVerdict f start cs c items op a
+    verdict_of : (op : ℕ) (a : Answer) → HasVerdict f c items start cs op a → IsVerdict (job_of f c items) (course_of start cs) op a
     verdict_of op a v = record {
       front = v.front;
       is_taken = v.is_taken;
@@ -161,7 +162,7 @@ module _ (F : Type 0) {R : Type 0} (f : Semantics R) (laws : FunctionLaws f) (al
         let said = run_answers F f laws alloc c items is cs run_is in
         not_both c items a what (before_first op w.log) refusal (said.begins op what known on) (said.causes op what a known e)
 
-    by_found : (op : ℕ) (source destination : List ℕ) (filter : Filter) (keep : Bool) (a : Answer) → order_numbered items op ≡ Some (order.Move source destination filter keep) → began op w.log ≡ true → answers_of op w.log ≡ a ∷ [] → IsFound f c items start cs w.log op a → IsVerdict f start cs c items op a
+    by_found : (op : ℕ) (source destination : List ℕ) (filter : Filter) (keep : Bool) (a : Answer) → order_numbered items op ≡ Some (order.Move source destination filter keep) → began op w.log ≡ true → answers_of op w.log ≡ a ∷ [] → IsFound f c items start cs w.log op a → IsVerdict (job_of f c items) (course_of start cs) op a
     by_found op source destination filter keep a known on e (Was_refused refusal) = absurd (not_refused op (order.Move source destination filter keep) a known on e refusal)
     by_found op source destination filter keep a known on e (Was_judged begun v) = verdict_of op a v
     by_found op source destination filter keep a known on e (Was_still begun still done) = let never : true ≡ false = ap is_moving (sym known) ∙ still in cc
@@ -177,7 +178,7 @@ module _ (F : Type 0) {R : Type 0} (f : Semantics R) (laws : FunctionLaws f) (al
     refused_by op a off (Was_judged begun v) = let never = sym begun ∙ off in cc
     refused_by op a off (Was_still begun still done) = let never = sym begun ∙ off in cc
 
-    pub verdicts : Verdicts f start cs c items
+    pub verdicts : Verdicts (job_of f c items) (course_of start cs)
     verdicts = record {
       judged = λ op source destination filter keep a known on e. by_found op source destination filter keep a known on e (h.found op a e);
       copied = λ op source destination filter a known on e. still_found op (order.Copy source destination filter) a refl known on e (h.found op a e);

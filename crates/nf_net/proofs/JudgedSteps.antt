@@ -95,8 +95,10 @@ module _ (F : Type 0) {R : Type 0} (f : Semantics R) (alloc : Global) (c : Confi
   abbrev pub Goes : ℕ → ℕ → Type 0
   Goes = IsGoing f c items start
 
-  abbrev pub SaidBy : List Choice → List Note → ℕ → ℕ → Msg → Type 0
-  SaidBy cs log = Said (Part log) (Verdict cs) Goes
+  -- what is known of a message after these choices, by this log
+  module _ (cs : List Choice) (log : List Note) where
+    abbrev pub SaidBy : (sender receiver : ℕ) → Msg → Type 0
+    SaidBy = Said (Part log) (Verdict cs) Goes
 
   -- how often a command's state was given, or its first piece was taken
   abbrev pub happened : Bool → List Choice → List Note → ℕ → ℕ

@@ -33,6 +33,7 @@ use Rattle.whole_net.proofs.Readings.{Its_share}
 use Rattle.net_world.specs.declared.config.Config.{Config}
 use Rattle.net_world.specs.declared.node.Node.{Node}
 use Rattle.net_world.specs.Input.{IsInput}
+use Rattle.net_world.specs.Jobs.{job_of}
 use Rattle.net_world.specs.Places.{is_at, owner, members, unit_numbered, IsMoving, IsPlace, Owns, Is_destination, Is_member}
 use Rattle.outline_net.proofs.FiltersApart.{is_whole, unit_fits, takes_whole}
 use Rattle.outline_net.proofs.Outline.{ran_in, is_sys, outline_instance}
@@ -65,11 +66,9 @@ module _ {F R : Type 0} (f : Semantics R) (c : Config) (items : List Msg) (is : 
     pub record IsUnderWay (e : Open R) : Type 0 where
       from : ℕ
       to : ℕ
-      pub source : List ℕ
-      pub destination : List ℕ
-      pub moving : IsMoving c items u w.log source destination
-      from_is : place_of c.names source ≡ Some from
-      to_is : place_of c.names destination ≡ Some to
+      pub moving : IsMoving items u w.log
+      from_is : place_of c.names moving.source ≡ Some from
+      to_is : place_of c.names moving.destination ≡ Some to
       src : e.op.src ≡ instance_node from
       dst : e.op.dst ≡ instance_node to
 
@@ -81,11 +80,9 @@ module _ {F R : Type 0} (f : Semantics R) (c : Config) (items : List Msg) (is : 
         record {
           from = m.plan.from;
           to = m.plan.to;
-          source = of.source;
-          destination = of.destination;
-          moving = record { op = k; filter = m.plan.filter; keep = of.keep; order = of.order; takes_it = takes_it; busy = on };
-          from_is = of.from;
-          to_is = of.to;
+          moving = record { op = k; source = of.source; destination = of.destination; filter = m.plan.filter; keep = m.plan.keep; order = of.order_is; takes_it = takes_it; busy = on };
+          from_is = of.from_is;
+          to_is = of.to_is;
           src = ap (λ o. o.src) sees.op;
           dst = ap (λ o. o.dst) sees.op;
         }
@@ -113,7 +110,7 @@ module _ {F R : Type 0} (f : Semantics R) (laws : FunctionLaws f) (c : Config) (
     fits : unit_fits f.kind unit ≡ true
     fits = units_fit f c items is number
 
-    by_target : j.world.target unit ≡ instance_node i → IsPlace c items f.kind number w.log i
+    by_target : j.world.target unit ≡ instance_node i → IsPlace (job_of f c items) number w.log i
     by_target at = Owns (node_same i (owner c items unit w.log) (j.world.target unit) (sym at) (owner_goes f c items is n w j unit fits (omega (arith, at))))
 
     -- the source of a move to which the unit's packets go owns it
@@ -123,19 +120,19 @@ module _ {F R : Type 0} (f : Semantics R) (laws : FunctionLaws f) (c : Config) (
         let same : owner c items unit w.log ≡ from = node_same (owner c items unit w.log) from (j.world.target unit) (sym owned) goes in
         ap (λ o. is_at o (owner c items unit w.log)) from_is ∙ (Decides-eqb (owner c items unit w.log) from).1 same
 
-    by_may : May_run (S f g) (moves_of (S f g) (A f g) j.world) unit (instance_node i) → IsPlace c items f.kind number w.log i
+    by_may : May_run (S f g) (moves_of (S f g) (A f g) j.world) unit (instance_node i) → IsPlace (job_of f c items) number w.log i
     by_may (At_route at) = by_target at
     by_may (At_destination k e there taken goes at) =
         let m = open_at f c items is n w j busy unit k e there taken in
-        let covered : is_at (place_of c.names m.source) (owner c items unit w.log) ≡ true = covers m.source m.from m.from_is (goes ∙ m.src) in
-        Is_destination m.source m.destination (record { moving = m.moving; covers = covered }) (m.to_is ∙ ap Some (node_same m.to i e.op.dst (sym m.dst) (sym at)))
+        let covered : is_at (place_of c.names m.moving.source) (owner c items unit w.log) ≡ true = covers m.moving.source m.from m.from_is (goes ∙ m.src) in
+        Is_destination (record { moving = m.moving; covers = covered }) (m.to_is ∙ ap Some (node_same m.to i e.op.dst (sym m.dst) (sym at)))
 
     -- the share of the unit by the log
-    by_there : (e : Open_share) → Its_share (S f g) (A f g) (is_sys f g.site g.packet) unit j.world e → (instance_node i ≡ e.home) ⊎ (instance_node i ≡ (A f g).member e.members number) → IsThere (members c items unit w.log) → IsPlace c items f.kind number w.log i
+    by_there : (e : Open_share) → Its_share (S f g) (A f g) (is_sys f g.site g.packet) unit j.world e → (instance_node i ≡ e.home) ⊎ (instance_node i ≡ (A f g).member e.members number) → IsThere (members c items unit w.log) → IsPlace (job_of f c items) number w.log i
     by_there e its (inl at) there = Owns (node_same i (owner c items unit w.log) e.home at (home_owns f c items is n count_is w j apart b h says unit fits e its there))
     by_there e its (inr at) there = Is_member (member_goes f c items is n count_is w j apart b h says unit fits e its number i refl (sym at) there)
 
-    by_one : Processes_one (S f g) (A f g) (is_sys f g.site g.packet) unit j.world (instance_node i) number → IsPlace c items f.kind number w.log i
+    by_one : Processes_one (S f g) (A f g) (is_sys f g.site g.packet) unit j.world (instance_node i) number → IsPlace (job_of f c items) number w.log i
     by_one (By_move may) = by_may may
     by_one (By_home e its (inl one) at) = by_there e its (inl at) (diverted_members f c items is n w j unit fits one)
     by_one (By_home e its (inr home) at) = by_target (home ∙ sym at)
@@ -187,7 +184,7 @@ module _ {F R : Type 0} (f : Semantics R) (laws : FunctionLaws f) (c : Config) (
       one (Unseen none) = absurd (none_there there.front there.back (sym none ∙ there.whole))
       one (Seen a shown_as ran) = processes_one (S f g) (A f g) (is_sys f g.site g.packet) (unit_numbered c items f.kind number) (is_sharing f g.site g.packet) j.world (came_by f g w.log (unit_numbered c items f.kind number)) j.shown_is.every.global p k a taken.rest not_first not_second (taken.head not_input a shown_as) number (same_unit_equiv.refl (unit_numbered c items f.kind number)) there.front there.back (sym (follows a) ∙ sym ran ∙ there.whole) (j.shown_is.every.unit (unit_numbered c items f.kind number))
 
-      pub processed_place : IsPlace c items f.kind number (w.log ++ front) i
+      pub processed_place : IsPlace (job_of f c items) number (w.log ++ front) i
       processed_place =
-          place_quiet c items f.kind number own.index w.log front i (each_front (IsQuiet own.index) front (note.Processed number i output ∷ back) (subst (λ ns. Each (IsQuiet own.index) ns) e quiet))
+          place_quiet (job_of f c items) number own.index w.log front i (each_front (IsQuiet own.index) front (note.Processed number i output ∷ back) (subst (λ ns. Each (IsQuiet own.index) ns) e quiet))
           (by_one number i (subst (λ q. Processes_one (S f g) (A f g) (is_sys f g.site g.packet) (unit_numbered c items f.kind number) j.world q number) node (one (ran_as f laws g (all_fit f c items is) k own j.world (omega arith) at p y m taken.label))))

@@ -38,6 +38,7 @@ use Rattle.whole_net.proofs.WhereAll.{Where_all, Apart_from_shares, Under_share}
 use Rattle.net_world.specs.declared.config.Config.{Config}
 use Rattle.net_world.specs.declared.node.Node.{Node}
 use Rattle.net_world.specs.Input.{packets, IsInput}
+use Rattle.net_world.specs.Jobs.{job_of}
 use Rattle.net_world.specs.Log.{arrived}
 use Rattle.net_world.specs.Path.{all_of}
 use Rattle.net_world.specs.Fold.{IsFront, fold, went}
@@ -279,7 +280,7 @@ module _ {F R : Type 0} (f : Semantics R) (c : Config) (items : List Msg) (is : 
           | false ↦ λ off. never (live_at w i u) s (only_home i (λ same. (let bad : true ≡ false = sym ((Decides-eqb i home).1 same) ∙ off in cc))) live
         ] refl
 
-    shared_stands : HasShared f c items is n count w nodes j world told u x before since k → HasRecord f c items w u
+    shared_stands : HasShared f c items is n count w nodes j world told u x before since k → HasRecord (job_of f c items) w u
     shared_stands (Saw_all live) = record { seen = all; has_seen = Sees_all refl; one = one_there (fold f c items None all) (live ∙ sym (folded all)) }
     shared_stands (Is_behind y) = record {
       seen = y.seen;
@@ -295,10 +296,10 @@ module _ {F R : Type 0} (f : Semantics R) (c : Config) (items : List Msg) (is : 
       one = one_there (fold f c items None y.seen) (y.live ∙ sym (folded y.seen));
     }
 
-  pub record_stands : HasRecord f c items w u
+  pub record_stands : HasRecord (job_of f c items) w u
   record_stands = by_where (j.shown_is.every.unit u)
     where
-      by_where : Where_all (S f gr) (A f gr) (is_sys f gr.site gr.packet) u j.world (came_by f gr w.log u) → HasRecord f c items w u
+      by_where : Where_all (S f gr) (A f gr) (is_sys f gr.site gr.packet) u j.world (came_by f gr w.log u) → HasRecord (job_of f c items) w u
       by_where (Apart_from_shares h none) = record { seen = all; has_seen = Sees_all refl; one = apart_stands f c items is n count w nodes j world in_turn u h.is h.untaken }
       by_where (Under_share x before b h o i) = shared_stands x before (came_by f gr w.log u).diverted h (has_shared f c items is n count w nodes j world told u x before (came_by f gr w.log u).diverted h)
 
@@ -310,7 +311,7 @@ module _ (F : Type 0) {R : Type 0} (f : Semantics R) (laws : FunctionLaws f) (al
   abbrev w : Network (Node F R) Msg Note
   w = run (node_step f) cs (started {F = F} {R = R} alloc c items)
 
-  pub records_stand : (u : units.Unit) → HasRecord f c items w u
+  pub records_stand : (u : units.Unit) → HasRecord (job_of f c items) w u
   records_stand u =
       let r = run_beside F f laws alloc c items is cs runs in
       let reached = run_world node_ready (node_step f) n (started {F = F} {R = R} alloc c items) (start_world F f laws alloc c items is) (count_at_start F f alloc c items is) cs runs in

@@ -21,6 +21,7 @@ use Rattle.net_world.specs.declared.config.Config.{Config}
 use Rattle.net_world.specs.declared.node.Node.{Node}
 use Rattle.net_world.specs.Commands.{began, has_answered, is_busy, times_installed}
 use Rattle.net_world.specs.Input.{packet_of, commands, order_numbered, IsInput}
+use Rattle.net_world.specs.Jobs.{job_of}
 use Rattle.net_world.specs.Log.{installed}
 use Rattle.net_world.specs.Nodes.{node_step, node_ready}
 use Rattle.net_world.specs.Places.{first_owner, owner_after, members_after, is_home, owner, members, member_for, unit_numbered, goes_to, IsMoving, IsPlace, Owns, Is_destination, Is_member, ArePlaces}
@@ -89,9 +90,9 @@ module _ (F : Type 0) {R : Type 0} (f : Semantics R) (laws : FunctionLaws f) (al
         (each_map {P = (λ x. has_answered x.op before ≡ true)} {Q = (λ x. is_busy x.op before ≡ false)} (λ x h. off_answered (began x.op before) (has_answered x.op before) h) (commands settle.front) answered_there)
         (each_map {P = (λ x. began x.op before ≡ false)} {Q = (λ x. is_busy x.op before ≡ false)} (λ x h. off_began (began x.op before) (has_answered x.op before) h) (commands behind) not_begun)
 
-    not_moving : (source destination : List ℕ) → IsMoving c items u before source destination → ⊥
-    not_moving source destination m =
-        let it = found (λ x. is_busy x.op before ≡ false) m.op (order.Move source destination m.filter m.keep) (commands items) none_busy m.order in
+    not_moving : IsMoving items u before → ⊥
+    not_moving m =
+        let it = found (λ x. is_busy x.op before ≡ false) m.op (order.Move m.source m.destination m.filter m.keep) (commands items) none_busy m.order in
         let never : false ≡ true = sym it.2 ∙ ap (λ k. is_busy k before) it.1 ∙ m.busy in
         cc
 
@@ -144,10 +145,10 @@ module _ (F : Type 0) {R : Type 0} (f : Semantics R) (laws : FunctionLaws f) (al
     owned at None shared = goes_by None shared ∙ ap Some (sym at)
     owned at (Some ms) shared = goes_by (Some ms) shared ∙ at_members F f laws alloc c items is cs run_is arrival.first arrival.rest after p i output ms log_is (shared_then ms shared)
 
-    by_place : IsPlace c items f.kind p before i → goes_to c items f.kind p before ≡ Some i
+    by_place : IsPlace (job_of f c items) p before i → goes_to c items f.kind p before ≡ Some i
     by_place (Owns at) = owned at (members c items u before) refl
-    by_place (Is_destination source destination m at) = absurd (not_moving source destination m.moving)
+    by_place (Is_destination m at) = absurd (not_moving m.moving)
     by_place (Is_member at) = at
 
-  pub settles : (cs : List Choice) → IsRun node_ready (node_step f) cs at_start → ArePlaces c items f.kind (run (node_step f) cs at_start).log → Settles c items f.kind (run (node_step f) cs at_start).log
+  pub settles : (cs : List Choice) → IsRun node_ready (node_step f) cs at_start → ArePlaces (job_of f c items) (run (node_step f) cs at_start).log → Settles c items f.kind (run (node_step f) cs at_start).log
   settles cs run_is places behind before after p i output settle has e none = by_place cs run_is behind settle before after p i output has e none (places before after p i output e)

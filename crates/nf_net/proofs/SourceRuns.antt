@@ -22,7 +22,7 @@ use Rattle.switch_node.specs.Switch.{switch_step}
 use Rattle.move_op.specs.Move.{MoveState}
 use Rattle.ctrl_node.specs.declared.operation.Operation.{Operation}
 use Rattle.ctrl_node.specs.declared.operation.Operation.TheVariants.{Move, Copy, Share}
-use Rattle.ctrl_node.specs.Controller.{ControllerState, controller_step, opened as opened_controller}
+use Rattle.ctrl_node.specs.Controller.{ControllerState, controller_step, opened as opened_controller, place_of}
 use Rattle.actor_net.specs.declared.choice.Choice.{Choice}
 use Rattle.actor_net.specs.Network.{Network, Stepped, IsRun, reaches, run, taken}
 use Rattle.actor_net.proofs.EnabledChoices.{at}
@@ -206,8 +206,8 @@ module _ (F : Type 0) {R : Type 0} (f : Semantics R) (laws : FunctionLaws f) (al
           was_open : (x : MoveState) → finite.get t.operations op ≡ Some (Move x) → passed x.phase ≡ 0 → w.log ≡ first ++ note.Begun op ∷ between → i ≡ owner c items (unit_numbered c items f.kind number) first
           was_open x got early whole =
               let of = under.plan_is op x got in
-              let order_is = of.order in
-              let from_is = of.from in
+              let order_is : order_numbered items op ≡ Some (order.Move of.source of.destination x.plan.filter x.plan.keep) = of.order_is in
+              let from_is : place_of c.names of.source ≡ Some x.plan.from = of.from_is in
               let both : takes_unit x.plan.filter (unit_numbered c items f.kind number) && (owner c items (unit_numbered c items f.kind number) first == x.plan.from) ≡ true = rw (order_is, from_is) at away in
               let owned = (Decides-eqb (owner c items (unit_numbered c items f.kind number) first) x.plan.from).0 (and_parts (takes_unit x.plan.filter (unit_numbered c items f.kind number)) _ both).1 in
               let stayed = kept op x got early first between (unit_numbered c items f.kind number) whole (units_fit f c items is number) (and_parts (takes_unit x.plan.filter (unit_numbered c items f.kind number)) _ both).0 owned in

@@ -16,6 +16,7 @@ use Rattle.actor_net.proofs.StepOutcome.{Takes, taken_outcome}
 use Rattle.net_world.specs.declared.config.Config.{Config}
 use Rattle.net_world.specs.declared.node.Node.{Node}
 use Rattle.net_world.specs.Input.{packets, most_counted, IsInput}
+use Rattle.net_world.specs.Jobs.{course_of, job_of}
 use Rattle.net_world.specs.Log.{Done, arrived, done, done_of}
 use Rattle.net_world.specs.Nodes.{node_step, node_ready}
 use Rattle.net_world.specs.Fold.{IsFront, is_of, went}
@@ -73,44 +74,45 @@ module _ (F : Type 0) {R : Type 0} (f : Semantics R) (laws : FunctionLaws f) (al
       let few = is.few in
       omega (arith, own, some, came, turn, all, few)
 
-  -- what stood by after some of the choices stands by in this world, after a front that is no shorter
-  pub record NoShorter (w : Network (Node F R) Msg Note) (i : ℕ) (u : units.Unit) (earlier : List ℕ) : Type 0 where
-    pub front : List ℕ
-    pub stands_by : StandsBy f c items w i u front
-    pub behind : IsFront earlier front
+  abbrev Stood : Network (Node F R) Msg Note → ℕ → units.Unit → Type 0
+  Stood = StandsBy (job_of f c items)
+
+  -- a record stands by in this world, and its front goes on from an earlier one
+  abbrev NoShorter : Network (Node F R) Msg Note → ℕ → units.Unit → (earlier : List ℕ) → Type 0
+  NoShorter w i u earlier = (now : Stood w i u) × IsFront earlier now.front
 
   abbrev NeverBack : List Choice → Network (Node F R) Msg Note → Type 0
-  NeverBack cs w = (before after : List Choice) (i : ℕ) (u : units.Unit) (earlier : List ℕ) → before ++ after ≡ cs → StandsBy f c items (run step before start) i u earlier → NoShorter w i u earlier
+  NeverBack cs w = (before later : List Choice) (i : ℕ) (u : units.Unit) (earlier : Stood (run step before start) i u) → before ++ later ≡ cs → NoShorter w i u earlier.front
 
   -- one choice further
   behind_next : (w v : Network (Node F R) Msg Note) (notes : List Note) → v.log ≡ w.log ++ notes → ((u : units.Unit) → length (went f c items u v.log) ≤ most_counted) → GoesOn F f laws c items is w v → (i : ℕ) (u : units.Unit) (earlier : List ℕ) → NoShorter w i u earlier → NoShorter v i u earlier
   behind_next w v notes log few goes i u earlier h =
       let it = goes i u in
       let all = went f c items u v.log in
-      let was : IsFront h.front all = subst (λ l. IsFront h.front (went f c items u l)) (sym log) (subst (λ l. IsFront h.front l) (sym (went_more f c items u w.log notes)) (front_more h.front (went f c items u w.log) (went f c items u notes) h.stands_by.is_front)) in
-      let same : h.front ≡ it.before = one_front f laws c items is all (few u) h.front it.before was (front_trans it.before it.since all it.behind it.within) (h.stands_by.folds ∙ sym h.stands_by.there ∙ sym it.old_is) in
-      let further : IsFront h.front it.since = subst (λ xs. IsFront xs it.since) (sym same) it.behind in
-      let now = still_some f c items h.front it.since h.stands_by.kept further h.stands_by.folds in
-      record {
-        front = it.since;
-        stands_by = record { kept = now.0; there = sym it.new_is ∙ now.1; is_front = it.within; folds = now.1 };
-        behind = front_trans earlier h.front it.since h.behind further;
-      }
+      let was : IsFront h.0.front all = subst (λ l. IsFront h.0.front (went f c items u l)) (sym log) (subst (λ l. IsFront h.0.front l) (sym (went_more f c items u w.log notes)) (front_more h.0.front (went f c items u w.log) (went f c items u notes) h.0.is_front)) in
+      let same : h.0.front ≡ it.before = one_front f laws c items is all (few u) h.0.front it.before was (front_trans it.before it.since all it.behind it.within) (h.0.folds ∙ sym h.0.there ∙ sym it.old_is) in
+      let further : IsFront h.0.front it.since = subst (λ xs. IsFront xs it.since) (sym same) it.behind in
+      let now = still_some f c items h.0.front it.since h.0.kept further h.0.folds in
+      (record { front = it.since; kept = now.0; there = sym it.new_is ∙ now.1; is_front = it.within; folds = now.1 }, front_trans earlier h.0.front it.since h.1 further)
 
   -- what holds of the choices so far and the world
   pub record Standing (cs : List Choice) (w : Network (Node F R) Msg Note) : Type 0 where
     pub in_run : InRun F f laws alloc c items is w
     pub never_back : NeverBack cs w
 
-  itself : (w : Network (Node F R) Msg Note) (i : ℕ) (u : units.Unit) (earlier : List ℕ) → StandsBy f c items w i u earlier → NoShorter w i u earlier
-  itself w i u earlier h = record { front = earlier; stands_by = h; behind = front_same earlier }
+  itself : (w : Network (Node F R) Msg Note) (i : ℕ) (u : units.Unit) (earlier : Stood w i u) → NoShorter w i u earlier.front
+  itself w i u earlier = (earlier, front_same earlier.front)
+
+  -- also where the world is an equal one
+  still : (w : Network (Node F R) Msg Note) (i : ℕ) (u : units.Unit) (v : Network (Node F R) Msg Note) → v ≡ w → (earlier : Stood v i u) → NoShorter w i u earlier.front
+  still w i u v same earlier = subst (λ x. NoShorter x i u earlier.front) same (itself v i u earlier)
 
   start_standing : Standing [] start
   start_standing = record { in_run = start_in_run F f laws alloc c items is; never_back = never }
     where
       never : NeverBack [] start
-      never [] after i u earlier e h = itself start i u earlier h
-      never (b ∷ before) after i u earlier e h = cc
+      never [] later i u earlier e = itself start i u earlier
+      never (b ∷ before) later i u earlier e = cc
 
   -- a choice that is taken
   standing_next : (cs : List Choice) (w : Network (Node F R) Msg Note) (d : Choice) → NextChoice node_ready step n start cs w d → Standing cs w → Standing (cs ++ d ∷ []) (taken step w d)
@@ -129,20 +131,20 @@ module _ (F : Type 0) {R : Type 0} (f : Semantics R) (laws : FunctionLaws f) (al
       goes = goes_on F f laws c items is w d t h.in_run.joined h.in_run.beside (room (taken step w d) since)
 
       never : NeverBack (cs ++ d ∷ []) (taken step w d)
-      never before after i u earlier whole stood = elim (fronts_of_more before after cs d whole) as (λ _. NoShorter (taken step w d) i u earlier) [
-        | inl all ↦ itself (taken step w d) i u earlier (subst (λ x. StandsBy f c items x i u earlier) (ap (λ xs. run step xs start) all ∙ sym (run_more step cs d start w next.reached)) stood)
-        | inr part ↦ behind_next w (taken step w d) (step (node_of h.in_run.joined.nodes d.node) d.port t.message).notes (taken_outcome step n w d.node d.port (node_of h.in_run.joined.nodes d.node) t.message t.rest takes).log (room (taken step w d) since) goes i u earlier (h.never_back before part.0 i u earlier part.1 stood)
+      never before later i u earlier whole = elim (fronts_of_more before later cs d whole) as (λ _. NoShorter (taken step w d) i u earlier.front) [
+        | inl all ↦ still (taken step w d) i u (run step before start) (ap (λ xs. run step xs start) all ∙ sym (run_more step cs d start w next.reached)) earlier
+        | inr part ↦ behind_next w (taken step w d) (step (node_of h.in_run.joined.nodes d.node) d.port t.message).notes (taken_outcome step n w d.node d.port (node_of h.in_run.joined.nodes d.node) t.message t.rest takes).log (room (taken step w d) since) goes i u earlier.front (h.never_back before part.0 i u earlier part.1)
       ]
 
   run_standing : (cs : List Choice) → IsRun node_ready step cs start → Standing cs (run step cs start)
   run_standing cs run_is = run_induction node_ready step n (λ ds w. Standing ds w) start (λ ds w d next h. standing_next ds w d next h) (start_world F f laws alloc c items is) (count_at_start F f alloc c items is) start_standing cs run_is
 
   -- so every run keeps what is promised of the records that stand by
-  pub standbys : (cs : List Choice) → IsRun node_ready step cs start → Standbys f start cs c items
+  pub standbys : (cs : List Choice) → IsRun node_ready step cs start → Standbys (job_of f c items) (course_of start cs)
   standbys cs run_is =
       let h = run_standing cs run_is in
       let reached = run_world node_ready step n start (start_world F f laws alloc c items is) (count_at_start F f alloc c items is) cs run_is in
       record {
-        fronts = λ i u kept there. (let it = stands_front f c items is n (run step cs start) reached.1 h.in_run.joined i u in record { front = it.front; stands_by = record { kept = kept; there = there; is_front = it.is_front; folds = it.folds ∙ there } });
-        never_back = λ before after i u earlier whole stood. (let it = h.never_back before after i u earlier whole stood in record { ends = record { front = it.front; stands_by = it.stands_by }; behind = it.behind });
+        fronts = λ i u kept there. (let it = stands_front f c items is n (run step cs start) reached.1 h.in_run.joined i u in record { front = it.front; kept = kept; there = there; is_front = it.is_front; folds = it.folds ∙ there });
+        never_back = h.never_back;
       }

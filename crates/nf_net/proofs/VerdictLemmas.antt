@@ -13,6 +13,7 @@ use Rattle.actor_net.specs.declared.choice.Choice.{Choice}
 use Rattle.actor_net.specs.Network.{Network, Stepped, run, taken, waiting}
 use Rattle.net_world.specs.declared.node.Node.{Node}
 use Rattle.net_world.specs.Nodes.{node_step}
+use Rattle.net_world.specs.Jobs.{course_of}
 use Rattle.net_world.specs.Verdicts.{exported, before_export, IsTakenAfter}
 
 -- how often state was given for a command
@@ -128,15 +129,15 @@ module _ {F R : Type 0} (f : Semantics R) (op : ℕ) where
       let rest = same_front (taken step w x) xs ys back after c d first second' more (omega (arith, few)) in
       ap (λ v. y ∷ v) rest ∙ ap (λ v. v ∷ xs) (sym same)
 
-  there : (w : Network (Node F R) Msg Note) (cs front : List Choice) (t : IsTakenAfter f w cs op front) → IsThere w front t.choice
+  there : (w : Network (Node F R) Msg Note) (cs front : List Choice) (t : IsTakenAfter f (course_of w cs) op front) → IsThere w front t.choice
   there w cs front t = let waits = t.waits in let own : (op == op) ≡ true = grind (arith, nat_tests) in rw waits own
 
   -- where it is taken once, those that stand before are these choices alone
-  pub once_taken : (w : Network (Node F R) Msg Note) (cs front other : List Choice) → times_taken cs w ≤ 1 → IsTakenAfter f w cs op front → IsTakenAfter f w cs op other → other ≡ front
+  pub once_taken : (w : Network (Node F R) Msg Note) (cs front other : List Choice) → times_taken cs w ≤ 1 → IsTakenAfter f (course_of w cs) op front → IsTakenAfter f (course_of w cs) op other → other ≡ front
   once_taken w cs front other few t u = same_front w front other t.back u.back t.choice u.choice (there w cs front t) (there w cs other u) (t.whole ∙ sym u.whole) (subst (λ xs. times_taken xs w ≤ 1) (sym t.whole) few)
 
   -- it was taken also where choices follow
-  unfoldable pub taken_more : (w : Network (Node F R) Msg Note) (cs front : List Choice) (c : Choice) → IsTakenAfter f w cs op front → IsTakenAfter f w (cs ++ c ∷ []) op front
+  unfoldable pub taken_more : (w : Network (Node F R) Msg Note) (cs front : List Choice) (c : Choice) → IsTakenAfter f (course_of w cs) op front → IsTakenAfter f (course_of w (cs ++ c ∷ [])) op front
   taken_more w cs front c t = record {
     choice = t.choice;
     back = t.back ++ c ∷ [];

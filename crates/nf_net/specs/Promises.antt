@@ -19,6 +19,7 @@ use Rattle.net_world.specs.declared.node.Node.{Node}
 use Rattle.net_world.specs.Commands.{Answers, answers_of, began, times_installed}
 use Rattle.net_world.specs.Fold.{IsFront, times, came, fold, given, outputs, path, went}
 use Rattle.net_world.specs.Input.{packets, order_numbered, ends_last}
+use Rattle.net_world.specs.Jobs.{Course, Job, job_of, last_world}
 use Rattle.net_world.specs.Lives.{lives}
 use Rattle.net_world.specs.Log.{arrived, done}
 use Rattle.net_world.specs.Nodes.{node_step}
@@ -28,8 +29,8 @@ use Rattle.net_world.specs.Records.{live_at, chunks_on_way, IsOfMove}
 use Rattle.net_world.specs.Refused.{StaysAtSource}
 use Rattle.net_world.specs.Seen.{HasRecord}
 use Rattle.net_world.specs.Settles.{Settles}
-use Rattle.net_world.specs.Standby.{standby_at, StandsBy, EndsWith, EndsNoShorter}
-use Rattle.net_world.specs.Verdicts.{IsVerdict, is_refusal, noted, number_live}
+use Rattle.net_world.specs.Standby.{standby_at, StandsBy}
+use Rattle.net_world.specs.Verdicts.{IsVerdict, is_refusal, number_live}
 use Rattle.net_world.specs.Window.{Window}
 
 module _ {R : Type 0} (f : Semantics R) (config : Config) (items : List Msg) where
@@ -51,16 +52,16 @@ module _ {R : Type 0} (f : Semantics R) (config : Config) (items : List Msg) whe
     -- the record of a unit with a processed packet is that of one instance that nothing moved. It is live at one instance, or in one chunk on
     -- its way, or in both as long as its source is still to remove it; no other unit has any. For a shared unit the last packet may be lacking,
     -- as long as the home is to take the record of another member
-    pub record_stands : (unit : units.Unit) → HasRecord f config items w unit
+    pub record_stands : (unit : units.Unit) → HasRecord (job_of f config items) w unit
     -- and each chunk on its way is one of a unit that a move under way takes
-    pub chunks_moved : All (IsOfMove config items w.log) (chunks_on_way w)
+    pub chunks_moved : All (IsOfMove items w.log) (chunks_on_way w)
     -- no more packets are under way than the window says, and at their places, whichever instance is read last, there are as many as came and
     -- aren't processed
     pub window : Window config w
     pub parcels : (one : ℕ) → length (under_way w (length config.names) one) + length (done w.log) ≡ length (arrived w.log)
     -- each packet was processed at the owner of its unit, at the destination of a move under way that took the unit from there, or at its member
     -- of a share; there it was if a share had its unit when it came
-    pub places : ArePlaces config items f.kind w.log
+    pub places : ArePlaces (job_of f config items) w.log
     pub at_members : AreAtMembers config items f.kind w.log
     -- behind a settle, and before a later command begins, it was where the rules of the switch send it
     pub settles : Settles config items f.kind w.log
@@ -89,26 +90,32 @@ module _ {R : Type 0} (f : Semantics R) (config : Config) (items : List Msg) whe
     -- the switch changed its rules once for each move that is done
     pub installed : (op : ℕ) (source destination : List ℕ) (filter : Filter) (keep : Bool) → order_numbered items op ≡ Some (Move source destination filter keep) → answers_of op w.log ≡ Done ∷ [] → times_installed op w.log ≡ 1
 
--- The world at the start, and the choices of a run.
-module _ {F R : Type 0} (f : Semantics R) (start : Network (Node F R) Msg Note) (choices : List Choice) (config : Config) (items : List Msg) where
+module _ {F R : Type 0} (job : Job R) (course : Course F R) where
+  -- the world at the end of the run, and after some of its choices
+  abbrev at_end : Network (Node F R) Msg Note
+  at_end = last_world job.function course
+
+  abbrev after : List Choice → Network (Node F R) Msg Note
+  after choices = run (node_step job.function) choices course.start
+
   -- what every run keeps of the records that stand by
   pub record Standbys : Type 0 where
     -- each record that stands by is that of a front
-    pub fronts : (i : ℕ) (unit : units.Unit) (kept : R) → standby_at (run (node_step f) choices start) i unit ≡ Some kept → EndsWith f start choices config items i unit
-    -- where one stood by after some of the choices, one stands by at the end, whose front is no shorter
-    pub never_back : (before after : List Choice) (i : ℕ) (unit : units.Unit) (earlier : List ℕ) → before ++ after ≡ choices → StandsBy f config items (run (node_step f) before start) i unit earlier → EndsNoShorter f start choices config items i unit earlier
+    pub fronts : (i : ℕ) (unit : units.Unit) (kept : R) → standby_at at_end i unit ≡ Some kept → StandsBy job at_end i unit
+    -- where one stood by after some of the choices, one stands by at the end, whose front is the earlier one or goes on from it
+    pub never_back : (before later : List Choice) (i : ℕ) (unit : units.Unit) (earlier : StandsBy job (after before) i unit) → before ++ later ≡ course.choices → (now : StandsBy job at_end i unit) × IsFront earlier.front now.front
 
   -- and of answers to commands
   pub record Verdicts : Type 0 where
     -- a move that began is answered by its verdict
-    pub judged : (op : ℕ) (source destination : List ℕ) (filter : Filter) (keep : Bool) (answer : Answer) → order_numbered items op ≡ Some (Move source destination filter keep) → began op (noted f start choices) ≡ true → answers_of op (noted f start choices) ≡ answer ∷ [] → IsVerdict f start choices config items op answer
+    pub judged : (op : ℕ) (source destination : List ℕ) (filter : Filter) (keep : Bool) (answer : Answer) → order_numbered job.items op ≡ Some (Move source destination filter keep) → began op at_end.log ≡ true → answers_of op at_end.log ≡ answer ∷ [] → IsVerdict job course op answer
     -- a copy that began is answered that it is done
-    pub copied : (op : ℕ) (source destination : List ℕ) (filter : Option Filter) (answer : Answer) → order_numbered items op ≡ Some (Copy source destination filter) → began op (noted f start choices) ≡ true → answers_of op (noted f start choices) ≡ answer ∷ [] → answer ≡ Done
+    pub copied : (op : ℕ) (source destination : List ℕ) (filter : Option Filter) (answer : Answer) → order_numbered job.items op ≡ Some (Copy source destination filter) → began op at_end.log ≡ true → answers_of op at_end.log ≡ answer ∷ [] → answer ≡ Done
     -- and so is a share
-    pub set_up : (op : ℕ) (members : List (List ℕ)) (filter : Filter) (answer : Answer) → order_numbered items op ≡ Some (Share members filter) → began op (noted f start choices) ≡ true → answers_of op (noted f start choices) ≡ answer ∷ [] → answer ≡ Done
+    pub set_up : (op : ℕ) (members : List (List ℕ)) (filter : Filter) (answer : Answer) → order_numbered job.items op ≡ Some (Share members filter) → began op at_end.log ≡ true → answers_of op at_end.log ≡ answer ∷ [] → answer ≡ Done
     -- and what didn't begin is answered by a refusal
-    pub refused : (op : ℕ) (answer : Answer) → began op (noted f start choices) ≡ false → answers_of op (noted f start choices) ≡ answer ∷ [] → is_refusal answer ≡ true
+    pub refused : (op : ℕ) (answer : Answer) → began op at_end.log ≡ false → answers_of op at_end.log ≡ answer ∷ [] → is_refusal answer ≡ true
     -- what a move is judged by is told by what happened: at each point of the run the units that an instance has gained and hasn't lost since are
     -- those with a live record there, each once
-    pub lives_are : (before after : List Choice) (i : ℕ) (unit : units.Unit) → before ++ after ≡ choices → is_among (lives f config items start i before) unit ≡ is_some (live_at (run (node_step f) before start) i unit)
-    pub lives_number : (before after : List Choice) (i : ℕ) → before ++ after ≡ choices → length (lives f config items start i before) ≡ number_live (run (node_step f) before start) i
+    pub lives_are : (before later : List Choice) (i : ℕ) (unit : units.Unit) → before ++ later ≡ course.choices → is_among (lives job.function job.config job.items course.start i before) unit ≡ is_some (live_at (after before) i unit)
+    pub lives_number : (before later : List Choice) (i : ℕ) → before ++ later ≡ course.choices → length (lives job.function job.config job.items course.start i before) ≡ number_live (after before) i

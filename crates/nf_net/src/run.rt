@@ -5,12 +5,11 @@ ghost use Rattle.actor_net.specs.Network.{is_done};
 ghost use Rattle.actor_net.specs.Replays.{replayed};
 ghost use Rattle.net_world.specs.declared.config.Config.{Config as AConfig};
 ghost use Rattle.net_world.specs.Input.{IsInput};
+ghost use Rattle.net_world.specs.Jobs.{course_of, job_of};
 ghost use Rattle.net_world.specs.Nodes.{node_ended, node_ready, node_step};
-ghost use Rattle.nf_net.specs.Promises.{Completed, Promises};
+ghost use Rattle.nf_net.specs.Promises.{Completed, Promises, Standbys, Verdicts};
 ghost use Rattle.net_world.specs.Runs.{chosen, EndsIn, StopsAt};
-ghost use Rattle.nf_net.specs.Promises.{Standbys};
 ghost use Rattle.net_world.specs.Start.{started};
-ghost use Rattle.nf_net.specs.Promises.{Verdicts};
 ghost use Rattle.net_world.specs.Window.{AllHome};
 
 use actor_net::{
@@ -32,8 +31,8 @@ pub fn simulate<F: Function>(
     ensures choices { IfOk result (λ r. r.1 ≡ chosen {F = F.row.Denot} F.semantics (started alloc config.now items.items) schedule) }
     ensures end { IfOk result (λ r. EndsIn F.semantics (started alloc config.now items.items) schedule r.0) }
     ensures promises { IfOk result (λ r. Promises F.semantics config.now items.items r.0) }
-    ensures verdicts { IfOk result (λ r. Verdicts {F = F.row.Denot} F.semantics (started alloc config.now items.items) r.1 config.now items.items) }
-    ensures standbys { IfOk result (λ r. Standbys {F = F.row.Denot} F.semantics (started alloc config.now items.items) r.1 config.now items.items) }
+    ensures verdicts { IfOk result (λ r. Verdicts {F = F.row.Denot} (job_of F.semantics config.now items.items) (course_of (started alloc config.now items.items) r.1)) }
+    ensures standbys { IfOk result (λ r. Standbys {F = F.row.Denot} (job_of F.semantics config.now items.items) (course_of (started alloc config.now items.items) r.1)) }
     ensures completed { IfOk result (λ r. Completed F.semantics config.now items.items r.0) }
     ensures home { IfOk result (λ r. AllHome config.now r.0) }
     ensures unfinished { (step : ℕ) → result ≡ Err (ScheduleFault.Unfinished step) → StopsAt {F = F.row.Denot} F.semantics (started alloc config.now items.items) schedule step }
@@ -49,8 +48,8 @@ pub fn run_choices<F: Function>(
 ) -> Result<World<Node<F>>, ReplayFault>
     ensures replay { result ≢ Err ReplayFault.NoMemory → result ≡ replayed node_ready (node_step F.semantics) choices.now world }
     ensures promises { (alloc : AnAllocator) (config : AConfig) (items : List AMessage) → IsInput F.semantics.kind config items → world ≡ started alloc config items → IfOk result (λ reached. Promises F.semantics config items reached) }
-    ensures verdicts { (alloc : AnAllocator) (config : AConfig) (items : List AMessage) → IsInput F.semantics.kind config items → world ≡ started alloc config items → IfOk result (λ reached. Verdicts F.semantics world choices.now config items) }
-    ensures standbys { (alloc : AnAllocator) (config : AConfig) (items : List AMessage) → IsInput F.semantics.kind config items → world ≡ started alloc config items → IfOk result (λ reached. Standbys F.semantics world choices.now config items) }
+    ensures verdicts { (alloc : AnAllocator) (config : AConfig) (items : List AMessage) → IsInput F.semantics.kind config items → world ≡ started alloc config items → IfOk result (λ reached. Verdicts (job_of F.semantics config items) (course_of world choices.now)) }
+    ensures standbys { (alloc : AnAllocator) (config : AConfig) (items : List AMessage) → IsInput F.semantics.kind config items → world ≡ started alloc config items → IfOk result (λ reached. Standbys (job_of F.semantics config items) (course_of world choices.now)) }
     ensures completed { (alloc : AnAllocator) (config : AConfig) (items : List AMessage) → IsInput F.semantics.kind config items → world ≡ started alloc config items → IfOk result (λ reached. is_done node_ended reached ≡ true → Completed F.semantics config items reached) }
     ensures home { (alloc : AnAllocator) (config : AConfig) (items : List AMessage) → IsInput F.semantics.kind config items → world ≡ started alloc config items → IfOk result (λ reached. is_done node_ended reached ≡ true → AllHome config reached) }
 {

@@ -9,6 +9,7 @@ use Rattle.trace_reader.specs.declared.make.MakeFault.{MakeFault}
 use Rattle.trace_reader.specs.declared.make.MakeFault.TheVariants.{Write, NoMemory}
 use Rattle.command_words.specs.Requests.{GenAsked, asks_gen}
 use Rattle.opennf_calls.specs.Command.{is_input, is_result}
+use Rattle.opennf_calls.specs.NetworkRuns.{RunResults}
 use Rattle.opennf_calls.specs.Outcome.{ForResults, IsBound, gen_line}
 use Rattle.opennf_calls.specs.Phases.{OnlyRead, Performs}
 use Rattle.opennf_calls.specs.Status.{making_status}
@@ -41,13 +42,15 @@ abbrev gen_text : GenAsked → Role → List ℕ
 gen_text g TraceOut = capture g.number g.packets g.hosts
 gen_text g role = gen_line g
 
--- the two texts
-pub gen_texts : (g : GenAsked) (old : Role → Meaning)
-    → ForResults (asks_gen g) old old (GivesBoth TraceOut [] (capture g.number g.packets g.hosts) (gen_line g))
+-- no choices, and the two texts
+abbrev pub gen_made : GenAsked → RunResults
+gen_made g = record { choices = []; texts = gen_text g }
+
+pub gen_texts : (g : GenAsked) (old : Role → Meaning) → ForResults (asks_gen g) old old (GivesBoth TraceOut (gen_made g))
 gen_texts g old bytes told = record {
   read = λ role input. absurd (no_input g role input);
   sound = refl;
-  made = record { choices = []; texts = gen_text g };
+  made = gen_made g;
   are = (refl, record { made = refl; line = refl });
   wrote = record { is_made = refl; file = refl; report = refl };
 }
@@ -69,7 +72,7 @@ pub making_performs : (g : GenAsked) (old new : Role → Meaning) (fault : MakeF
     → (fault ≡ Write → Rose (old TraceOut).faults (new TraceOut).faults)
     → Performs (asks_gen g) old new (record { status = making_status fault; choices = [] })
 making_performs g old new Write bound alone made rose =
-    file_failed (asks_gen g) TraceOut (gen_writes g) old old (none_read old) bound [] (capture g.number g.packets g.hosts) (gen_line g) (gen_texts g old) new
+    file_failed (asks_gen g) TraceOut (gen_writes g) old old (none_read old) bound (gen_made g) (gen_texts g old) new
     (record { gains = (made, rose refl); later = alone.later; left = alone.left; name = alone.name; others = alone.others })
 making_performs g old new NoMemory bound alone made rose = record {
   row = (λ other differ. at_each TraceOut old new (λ a b. b.written ≡ a.written) alone.others (λ m. refl) made other, refl);

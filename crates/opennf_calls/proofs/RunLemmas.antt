@@ -15,12 +15,11 @@ use Rattle.journal_file.proofs.HeaderReads.{journal_again}
 use Rattle.net_world.specs.declared.config.Config.{Config}
 use Rattle.net_world.specs.declared.node.Node.{Node}
 use Rattle.net_world.specs.Input.{IsInput}
+use Rattle.net_world.specs.Jobs.{course_of, job_of}
 use Rattle.net_world.specs.Nodes.{node_ended}
-use Rattle.nf_net.specs.Promises.{Completed, Promises}
+use Rattle.nf_net.specs.Promises.{Completed, Promises, Standbys, Verdicts}
 use Rattle.net_world.specs.Runs.{LeadsTo, chosen}
 use Rattle.net_world.specs.Start.{started}
-use Rattle.nf_net.specs.Promises.{Standbys}
-use Rattle.nf_net.specs.Promises.{Verdicts}
 use Rattle.net_world.specs.Window.{AllHome}
 use Rattle.run_report.specs.declared.auditing.AuditFault.{AuditFault}
 use Rattle.run_report.specs.declared.auditing.AuditFault.TheVariants as audit
@@ -30,7 +29,7 @@ use Rattle.run_report.specs.Lines.{report_text}
 use Rattle.opennf_calls.specs.declared.network.Made.{Made}
 use Rattle.opennf_calls.specs.declared.status.Status.{Status}
 use Rattle.opennf_calls.specs.declared.status.Status.TheVariants.{BadTrace, BadJournal, NotARun, NoMemory, Ok as Done, Usage, BadScript, ReadFault, WriteFault}
-use Rattle.opennf_calls.specs.NetworkRuns.{Scenario, HasNoRun, IsNoRun, IsRunOf, config_for, head_for, items_for}
+use Rattle.opennf_calls.specs.NetworkRuns.{Scenario, HasNoRun, IsNoRun, IsRunOf, config_for, head_for, items_for, run_given}
 use Rattle.opennf_calls.specs.Phases.{IsRefusedAs, IsRefusedRun, gives}
 use Rattle.opennf_calls.specs.Status.{audit_status}
 use Rattle.opennf_calls.proofs.LoggedNumbers.{answer_numbers, out_numbers}
@@ -50,8 +49,8 @@ module _ {R : Type 0} (F : Type 0) (f : Semantics R) (s : NetworkAsked) (g : Sce
     pub leads : LeadsTo f at_start choices world
     pub complete : is_done node_ended world ≡ true
     pub promises : Promises f config items world
-    pub verdicts : Verdicts {F = F} f at_start choices config items
-    pub standbys : Standbys {F = F} f at_start choices config items
+    pub verdicts : Verdicts {F = F} (job_of f config items) (course_of at_start choices)
+    pub standbys : Standbys {F = F} (job_of f config items) (course_of at_start choices)
     pub completed : Completed f config items world
     pub home : AllHome config world
     pub few : length choices < MOST_CHOICES
@@ -60,7 +59,7 @@ module _ {R : Type 0} (F : Type 0) (f : Semantics R) (s : NetworkAsked) (g : Sce
   -- its report is made
   pub run_of : (by : Option Schedule) (made : Made) (world : Network (Node F R) Msg Note) → Ran made.choices world
       → ((schedule : Schedule) → by ≡ Some schedule → made.choices ≡ chosen {F = F} f at_start schedule)
-      → head ≡ head_for s g.captured → made.report ≡ report_text f head s.summary world → IsRunOf F f s g by (gives s made)
+      → head ≡ head_for s g.captured → made.report ≡ report_text f head s.summary world → IsRunOf {F = F} f (run_given s g) by (gives s made)
   run_of by made world ran scheduled is_head report = record {
     alloc = alloc;
     world = world;
@@ -68,8 +67,8 @@ module _ {R : Type 0} (F : Type 0) (f : Semantics R) (s : NetworkAsked) (g : Sce
     complete = ran.complete;
     scheduled = λ schedule same. moved (λ c l. made.choices ≡ chosen {F = F} f (started alloc c l) schedule) (scheduled schedule same);
     promises = moved (λ c l. Promises f c l world) ran.promises;
-    verdicts = moved (λ c l. Verdicts {F = F} f (started alloc c l) made.choices c l) ran.verdicts;
-    standbys = moved (λ c l. Standbys {F = F} f (started alloc c l) made.choices c l) ran.standbys;
+    verdicts = moved (λ c l. Verdicts {F = F} (job_of f c l) (course_of (started alloc c l) made.choices)) ran.verdicts;
+    standbys = moved (λ c l. Standbys {F = F} (job_of f c l) (course_of (started alloc c l) made.choices)) ran.standbys;
     completed = moved (λ c l. Completed f c l world) ran.completed;
     home = moved (λ c l. AllHome c world) ran.home;
     report = report ∙ ap (λ (h : Head). report_text f h s.summary world) is_head;
@@ -84,14 +83,14 @@ module _ {R : Type 0} (F : Type 0) (f : Semantics R) (s : NetworkAsked) (g : Sce
 
   -- the choices are no complete run
   pub run_refused : (choices : List Choice) (e : AuditFault) → ((step : ℕ) → e ≡ audit.NotARun step → IsAuditCause {F = F} f at_start choices step)
-      → IsRefusedAs F f s g choices (audit_status e)
+      → IsRefusedAs {F = F} f (run_given s g) choices (audit_status e)
   run_refused choices (audit.NotARun step) cause = record { alloc = alloc; cause = moved (λ c l. IsAuditCause {F = F} f (started alloc c l) choices step) (cause step refl) }
   run_refused choices audit.NoMemory cause = tt
 
 -- The function is that of the words.
 module _ {R : Type 0} (F : Type 0) (f : Semantics R) (s : NetworkAsked) (g : Scenario) where
-  no_run : (choices : List Choice) → ((step : ℕ) → IsNoRun F f s g choices step → HasNoRun s g choices step)
-      → (status : Status) → IsRefusedAs F f s g choices status → IsRefusedRun s g choices status
+  no_run : (choices : List Choice) → ((step : ℕ) → IsNoRun {F = F} f (run_given s g) choices step → HasNoRun s g choices step)
+      → (status : Status) → IsRefusedAs {F = F} f (run_given s g) choices status → IsRefusedRun s g choices status
   no_run choices same (NotARun step) cause = same step cause
   no_run choices same NoMemory cause = cause
   no_run choices same Done cause = absurd cause
@@ -103,7 +102,7 @@ module _ {R : Type 0} (F : Type 0) (f : Semantics R) (s : NetworkAsked) (g : Sce
   no_run choices same (WriteFault role) cause = absurd cause
 
   pub told_kind : (choices : List Choice) (r : Result Made Status) (P Q : Made → Type 0)
-      → ((made : Made) → P made → Q made) → ((step : ℕ) → IsNoRun F f s g choices step → HasNoRun s g choices step)
-      → MatchResult r P (IsRefusedAs F f s g choices) → MatchResult r Q (IsRefusedRun s g choices)
+      → ((made : Made) → P made → Q made) → ((step : ℕ) → IsNoRun {F = F} f (run_given s g) choices step → HasNoRun s g choices step)
+      → MatchResult r P (IsRefusedAs {F = F} f (run_given s g) choices) → MatchResult r Q (IsRefusedRun s g choices)
   told_kind choices (Ok made) P Q of_kind same holds = of_kind made holds
   told_kind choices (Err status) P Q of_kind same holds = no_run choices same status holds

@@ -25,11 +25,11 @@ pub record WritesFirst (asked : Asked) (role : Role) : Type 0 where
   pub result : IsTrue (is_result asked role)
   pub only : (other : Role) → IsTrue (is_result asked other) → (other ≡ role) ⊎ (other ≡ Report)
 
--- the choices and the two texts that a command gives
-pub record GivesBoth (role : Role) (choices : List Choice) (first second : List ℕ) (made : RunResults) : Type 0 where
-  pub is_made : made.choices ≡ choices
-  pub file : made.texts role ≡ first
-  pub report : made.texts Report ≡ second
+-- what is made has these choices, and these texts at a role and in the report
+pub record GivesBoth (role : Role) (want made : RunResults) : Type 0 where
+  pub is_made : made.choices ≡ want.choices
+  pub file : made.texts role ≡ want.texts role
+  pub report : made.texts Report ≡ want.texts Report
 
 module _ (asked : Asked) (role : Role) (writes : WritesFirst asked role) where
   apart : role ≢ Report
@@ -60,13 +60,22 @@ module _ (asked : Asked) (role : Role) (writes : WritesFirst asked role) where
       let differs = writes.differs in cc
 
   module _ (old mid : Role → Meaning) (read : OnlyRead old mid) (bound : IsBound asked old)
-      (choices : List Choice) (first second : List ℕ) (made : ForResults asked old mid (GivesBoth role choices first second)) where
+      (want : RunResults) (made : ForResults asked old mid (GivesBoth role want)) where
+    abbrev choices : List Choice
+    choices = want.choices
+
+    abbrev first : List ℕ
+    first = want.texts role
+
+    abbrev second : List ℕ
+    second = want.texts Report
+
     same_file : mid role ≡ old role
     same_file = read.others role writes.written
 
     -- what was given, also after something was written to other roles than the inputs
     with_texts : (new : Role → Meaning) → ((other : Role) → IsTrue (is_input asked other) → new other ≡ mid other)
-        → (P : RunResults → Type 0) → ((g : RunResults) → GivesBoth role choices first second g → P g) → ForResults asked old new P
+        → (P : RunResults → Type 0) → ((g : RunResults) → GivesBoth role want g → P g) → ForResults asked old new P
     with_texts new stays P says bytes told =
         let found = made bytes told in
         record {

@@ -5,7 +5,6 @@ use Rattle.nf_io.specs.declared.outside.Role.TheVariants.{Trace, Script, Journal
 use Rattle.nf_io.specs.Meaning.{Meaning}
 use Rattle.actor_net.specs.declared.choice.Choice.{Choice}
 use Rattle.actor_net.specs.declared.schedule.Schedule.{Schedule}
-use Rattle.journal_file.specs.Format.{journal_bytes}
 use Rattle.command_words.specs.Requests.{Asked, NetworkAsked, asks_sim, asks_run, asks_audit}
 use Rattle.opennf_calls.specs.declared.status.Status.{Status}
 use Rattle.opennf_calls.specs.declared.status.Status.TheVariants.{WriteFault, NoMemory}
@@ -51,11 +50,8 @@ module _ (s : NetworkAsked) (asked : Asked) (old mid : Role → Meaning) (read :
           report_failed asked old mid new read bound only made.choices made.report (weakened (GivesReport made.choices made.report) (record { is_made = refl; report = refl }))
           (subst (λ (t : List ℕ). Wrote Report mid new (front_of t)) is wrote)
 
-  abbrev journal : List ℕ
-  journal = journal_bytes s.kind (length s.instances.names) made.choices
-
-  two_texts : ForResults asked old mid (GivesBoth JournalOut made.choices journal made.report)
-  two_texts = weakened (GivesBoth JournalOut made.choices journal made.report) (record { is_made = refl; file = refl; report = refl })
+  two_texts : ForResults asked old mid (GivesBoth JournalOut (gives s made))
+  two_texts = weakened (GivesBoth JournalOut (gives s made)) (record { is_made = refl; file = refl; report = refl })
 
   -- the journal was written, and then the report
   both_performs : WritesFirst asked JournalOut → (new : Role → Meaning) (outcome : Outcome) → WroteBoth (record { asked = s; made = made }) mid new outcome → Performs asked old new outcome
@@ -64,17 +60,17 @@ module _ (s : NetworkAsked) (asked : Asked) (old mid : Role → Meaning) (read :
     where
       by : (part : Written) → is_part part made.report → Wrote Report both.mid new part → Performs asked old new (record { status = report_end part; choices = made.choices })
       by (all_of text) is wrote =
-          both_written asked JournalOut writes old mid read bound made.choices journal made.report two_texts both.mid new both.journal
+          both_written asked JournalOut writes old mid read bound (gives s made) two_texts both.mid new both.journal
           (subst (λ (t : List ℕ). Wrote Report both.mid new (all_of t)) is wrote)
       by (front_of text) is wrote =
-          second_failed asked JournalOut writes old mid read bound made.choices journal made.report two_texts both.mid new both.journal
+          second_failed asked JournalOut writes old mid read bound (gives s made) two_texts both.mid new both.journal
           (subst (λ (t : List ℕ). Wrote Report both.mid new (front_of t)) is wrote)
 
   -- the journal was written in part
   front_performs : WritesFirst asked JournalOut → (new : Role → Meaning) (outcome : Outcome) → WroteFront (record { asked = s; made = made }) mid new outcome → Performs asked old new outcome
   front_performs writes new outcome front =
       same_end asked old new made outcome (WriteFault JournalOut) front.status front.choices
-      (file_failed asked JournalOut writes old mid read bound made.choices journal made.report two_texts new front.journal)
+      (file_failed asked JournalOut writes old mid read bound (gives s made) two_texts new front.journal)
 
   -- nothing was written
   nothing_performs : (new : Role → Meaning) (outcome : Outcome) → mid ≡ new → outcome ≡ record { status = NoMemory; choices = [] } → Performs asked old new outcome

@@ -26,7 +26,7 @@ use Rattle.opennf_calls.specs.Outcome.{CauseOf, IsScenario, MayBind, RowOf, inpu
 use Rattle.opennf_calls.specs.declared.inputs.Inputs.{Inputs}
 use Rattle.opennf_calls.specs.declared.network.Made.{Made}
 use Rattle.opennf_calls.specs.declared.network.Opening.{Opening}
-use Rattle.opennf_calls.specs.NetworkRuns.{Scenario, RunResults, HasNoRun, IsNoRun, config_for, given_script, head_for, items_for}
+use Rattle.opennf_calls.specs.NetworkRuns.{Scenario, RunGiven, RunResults, HasNoRun, IsNoRun, config_for, given_script, head_for, items_for}
 
 -- a role has this name now, and nothing else changed
 pub record Named (role : Role) (name : Option (List ℕ)) (old new : Role → Meaning) : Type 0 where
@@ -150,9 +150,9 @@ pub record GivesReport (choices : List Choice) (text : List ℕ) (made : RunResu
   pub report : made.texts Report ≡ text
 
 -- why a journal's choices give no report, for a function
-module _ {R : Type 0} (F : Type 0) (f : Semantics R) (s : NetworkAsked) (scenario : Scenario) where
+module _ {F R : Type 0} (f : Semantics R) (given : RunGiven) where
   abbrev pub IsRefusedAs : List Choice → Status → Type 0
-  IsRefusedAs choices (NotARun step) = IsNoRun F f s scenario choices step
+  IsRefusedAs choices (NotARun step) = IsNoRun {F = F} f given choices step
   IsRefusedAs choices NoMemory = Unit {0}
   IsRefusedAs choices status = ⊥
 

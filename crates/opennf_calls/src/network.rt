@@ -3,7 +3,7 @@ ghost use Rattle.std.specs.Prelude.{◌≡◌, IfOk, MatchResult, OnErr};
 ghost use Rattle.command_words.specs.RequestViews.{network_view};
 ghost use Rattle.opennf_calls.specs.declared.status.Status.TheVariants.{NoMemory as OutOfMemory};
 ghost use Rattle.opennf_calls.specs.Ends.{EndLaw};
-ghost use Rattle.opennf_calls.specs.NetworkRuns.{HasRun, IsRunOf};
+ghost use Rattle.opennf_calls.specs.NetworkRuns.{HasRun, IsRunOf, run_given};
 ghost use Rattle.opennf_calls.specs.Phases.{CanBegin, CanRun, IsOpening, IsRefusedRun, IsRefusedAs, scenario_of, gives};
 
 use crate::inputs::Inputs;
@@ -112,7 +112,7 @@ fn schedule_network<F: Function>(
     requires kind { F.semantics.kind ≡ asked.now.kind }
     requires runs { CanRun (network_view asked.now) }
     requires sound { CanBegin (network_view asked.now) (scenario_of asked.now.site inputs) }
-    ensures { IfOk result (λ made. IsRunOf F.row.Denot F.semantics (network_view asked.now) (scenario_of asked.now.site inputs) (Some schedule) (gives (network_view asked.now) made)) }
+    ensures { IfOk result (λ made. IsRunOf {F = F.row.Denot} F.semantics (run_given (network_view asked.now) (scenario_of asked.now.site inputs)) (Some schedule) (gives (network_view asked.now) made)) }
 {
     let Opening {
         config,
@@ -141,7 +141,7 @@ where
     requires kind { F.semantics.kind ≡ asked.now.kind }
     requires runs { CanRun (network_view asked.now) }
     requires sound { CanBegin (network_view asked.now) (scenario_of asked.now.site inputs) }
-    ensures { IfOk result (λ made. IsRunOf F.row.Denot F.semantics (network_view asked.now) (scenario_of asked.now.site inputs) None (gives (network_view asked.now) made)) }
+    ensures { IfOk result (λ made. IsRunOf {F = F.row.Denot} F.semantics (run_given (network_view asked.now) (scenario_of asked.now.site inputs)) None (gives (network_view asked.now) made)) }
 {
     let Opening {
         config,
@@ -164,8 +164,8 @@ fn tell_network<F: Function>(
     requires runs { CanRun (network_view asked.now) }
     requires sound { CanBegin (network_view asked.now) (scenario_of asked.now.site inputs) }
     ensures { MatchResult result
-        (λ made. IsRunOf F.row.Denot F.semantics (network_view asked.now) (scenario_of asked.now.site inputs) None (gives (network_view asked.now) made) × (made.choices ≡ choices))
-        (IsRefusedAs F.row.Denot F.semantics (network_view asked.now) (scenario_of asked.now.site inputs) choices) }
+        (λ made. IsRunOf {F = F.row.Denot} F.semantics (run_given (network_view asked.now) (scenario_of asked.now.site inputs)) None (gives (network_view asked.now) made) × (made.choices ≡ choices))
+        (IsRefusedAs {F = F.row.Denot} F.semantics (run_given (network_view asked.now) (scenario_of asked.now.site inputs)) choices) }
 {
     let Opening {
         config,

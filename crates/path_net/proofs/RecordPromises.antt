@@ -32,18 +32,18 @@ use Rattle.whole_net.proofs.WhereAll.{Where_all, Apart_from_shares, Under_share}
 use Rattle.whole_joined.proofs.Joined.{S, A, came_by, Nodes, node_of, Joined}
 
 -- where the machine has a record of the unit
-data Lives_at {R : Type 0} (S : Sys R) (z : Seeing) (x : State R) (k : ℕ) (r : R) : Type 0 where
-  In_a : k ≡ z.op.src → x.a.live ≡ Some r → Lives_at S z x k r
-  In_b : k ≡ z.op.dst → x.b.live ≡ Some r → Lives_at S z x k r
-  In_c : k ≡ z.third → x.c.live ≡ Some r → Lives_at S z x k r
+data Lives_at {R : Type 0} (z : Seeing) (x : State R) (k : ℕ) (r : R) : Type 0 where
+  In_a : k ≡ z.op.src → x.a.live ≡ Some r → Lives_at z x k r
+  In_b : k ≡ z.op.dst → x.b.live ≡ Some r → Lives_at z x k r
+  In_c : k ≡ z.third → x.c.live ≡ Some r → Lives_at z x k r
 
-lives_at : {R : Type 0} (S : Sys R) (z : Seeing) (x : State R) (k : ℕ) (r : R) → (node_at S z x k).live ≡ Some r → Lives_at S z x k r
+lives_at : {R : Type 0} (S : Sys R) (z : Seeing) (x : State R) (k : ℕ) (r : R) → (node_at S z x k).live ≡ Some r → Lives_at z x k r
 lives_at S z x k r =
-    elim (k == z.op.src) as (λ b. (k == z.op.src) ≡ b → (if b then x.a else if k == z.op.dst then x.b else if k == z.third then x.c else idle None).live ≡ Some r → Lives_at S z x k r) [
+    elim (k == z.op.src) as (λ b. (k == z.op.src) ≡ b → (if b then x.a else if k == z.op.dst then x.b else if k == z.third then x.c else idle None).live ≡ Some r → Lives_at z x k r) [
       | true ↦ λ e h. In_a ((Decides-eqb k z.op.src).0 e) h
-      | false ↦ λ _. elim (k == z.op.dst) as (λ b. (k == z.op.dst) ≡ b → (if b then x.b else if k == z.third then x.c else idle None).live ≡ Some r → Lives_at S z x k r) [
+      | false ↦ λ _. elim (k == z.op.dst) as (λ b. (k == z.op.dst) ≡ b → (if b then x.b else if k == z.third then x.c else idle None).live ≡ Some r → Lives_at z x k r) [
         | true ↦ λ e h. In_b ((Decides-eqb k z.op.dst).0 e) h
-        | false ↦ λ _. elim (k == z.third) as (λ b. (k == z.third) ≡ b → (if b then x.c else idle None).live ≡ Some r → Lives_at S z x k r) [
+        | false ↦ λ _. elim (k == z.third) as (λ b. (k == z.third) ≡ b → (if b then x.c else idle None).live ≡ Some r → Lives_at z x k r) [
           | true ↦ λ e h. In_c ((Decides-eqb k z.third).0 e) h
           | false ↦ λ _ h. cc
         ] refl
@@ -119,13 +119,13 @@ module _ {F R : Type 0} (f : Semantics R) (c : Config) (items : List Msg) (is : 
   one = is_one (fold its.F None (done_u its u j.world.done)) shown_record.state.a.live shown_record.state.b.live shown_record.state.c.live (at_most (fold its.F None (done_u its u j.world.done)) shown_record.state.a.live (lives shown_record.state) (on_way shown_record.state) shown_record.kept)
 
   -- what a world has at an instance, its state of the machine has
-  live_shown : (i : ℕ) (r : R) → live_at w i u ≡ Some r → Lives_at its shown_record.seeing shown_record.state (instance_node i) r
+  live_shown : (i : ℕ) (r : R) → live_at w i u ≡ Some r → Lives_at shown_record.seeing shown_record.state (instance_node i) r
   live_shown i r h = lives_at its shown_record.seeing shown_record.state (instance_node i) r (sym (shown_record.tables (instance_node i)) ∙ live_in_world f c items is n w count j u i r h)
 
   pub record_is : (i : ℕ) (r : R) → live_at w i u ≡ Some r → fold its.F None (done_u its u j.world.done) ≡ Some r
   record_is i r h = by_place (live_shown i r h)
     where
-      by_place : Lives_at its shown_record.seeing shown_record.state (instance_node i) r → fold its.F None (done_u its u j.world.done) ≡ Some r
+      by_place : Lives_at shown_record.seeing shown_record.state (instance_node i) r → fold its.F None (done_u its u j.world.done) ≡ Some r
       by_place (In_a k e) = (one.is_a r e).0
       by_place (In_b k e) = (one.is_b r e).0
       by_place (In_c k e) = (one.is_c r e).0
@@ -139,7 +139,7 @@ module _ {F R : Type 0} (f : Semantics R) (c : Config) (items : List Msg) (is : 
       never : (o : Option R) (x : R) → o ≡ Some x → o ≡ None → i ≡ k
       never o x a b = let bad = sym a ∙ b in cc
 
-      by_places : Lives_at its shown_record.seeing shown_record.state (instance_node i) r → Lives_at its shown_record.seeing shown_record.state (instance_node k) s → i ≡ k
+      by_places : Lives_at shown_record.seeing shown_record.state (instance_node i) r → Lives_at shown_record.seeing shown_record.state (instance_node k) s → i ≡ k
       by_places (In_a a e) (In_a b d) = same shown_record.seeing.op.src a b
       by_places (In_b a e) (In_b b d) = same shown_record.seeing.op.dst a b
       by_places (In_c a e) (In_c b d) = same shown_record.seeing.third a b

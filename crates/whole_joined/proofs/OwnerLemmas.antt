@@ -17,9 +17,10 @@ use Rattle.nf_msgs.specs.declared.note.Note.TheVariants as note
 use Rattle.unit_machine.proofs.Labels.{Each}
 use Rattle.net_world.specs.declared.config.Config.{Config}
 use Rattle.net_world.specs.Input.{order_numbered, packet_of}
+use Rattle.net_world.specs.Jobs.{Job}
 use Rattle.net_world.specs.Log.{has_begun, installed}
 use Rattle.net_world.specs.Commands.{has_answered, is_busy}
-use Rattle.net_world.specs.Places.{first_owner, handed_on, owner_after, hands_on_plain, loose_after, members_after, member_for, unit_numbered, goes_to, is_at, IsMoving, IsPlace, Owns, Is_destination, Is_member}
+use Rattle.net_world.specs.Places.{first_owner, handed_on, owner_after, hands_on_plain, loose_after, members_after, member_for, unit_numbered, unit_in, goes_to, is_at, IsMoving, IsPlace, Owns, Is_destination, Is_member}
 use Rattle.outline_net.proofs.FiltersApart.{flow_fits, unit_fits}
 use Rattle.whole_joined.proofs.PlaceNotes.{IsQuiet, is_uninstalled}
 
@@ -119,10 +120,10 @@ answered_quiet k op (note.Begun o ∷ xs) ys h = answered_quiet k op xs ys h
 pub busy_quiet : (k : ℕ) (op : ℕ) (xs ys : List Note) → Each (IsQuiet k) ys → is_busy op (xs ++ ys) ≡ is_busy op xs
 busy_quiet k op xs ys h = ap (λ b. b && not (has_answered op (xs ++ ys))) (begun_quiet (λ other. other == op) k xs ys h) ∙ ap (λ b. has_begun (λ other. other == op) xs && not b) (answered_quiet k op xs ys h)
 
-module _ (config : Config) (items : List Msg) where
-  moving_quiet : (u : units.Unit) (k : ℕ) (xs ys : List Note) (source destination : List ℕ) → Each (IsQuiet k) ys → IsMoving config items u xs source destination → IsMoving config items u (xs ++ ys) source destination
-  moving_quiet u k xs ys source destination h m = record { op = m.op; filter = m.filter; keep = m.keep; order = m.order; takes_it = m.takes_it; busy = busy_quiet k m.op xs ys h ∙ m.busy }
+moving_quiet : (items : List Msg) (u : units.Unit) (k : ℕ) (xs ys : List Note) → Each (IsQuiet k) ys → IsMoving items u xs → IsMoving items u (xs ++ ys)
+moving_quiet items u k xs ys h m = record { op = m.op; source = m.source; destination = m.destination; filter = m.filter; keep = m.keep; order = m.order; takes_it = m.takes_it; busy = busy_quiet k m.op xs ys h ∙ m.busy }
 
+module _ (config : Config) (items : List Msg) where
   -- where a packet goes behind these commands
   abbrev goes_by : Kind → ℕ → List ℕ → Option ℕ
   goes_by kind number ops =
@@ -133,18 +134,19 @@ module _ (config : Config) (items : List Msg) where
   pub goes_same : (kind : Kind) (number : ℕ) (xs ys : List Note) → installed ys ≡ [] → goes_to config items kind number (xs ++ ys) ≡ goes_to config items kind number xs
   goes_same kind number xs ys none = ap (goes_by kind number) (installed_same xs ys none)
 
-  -- a place of a log is one after notes of an instance
-  pub place_quiet : (kind : Kind) (number k : ℕ) (xs ys : List Note) (i : ℕ) → Each (IsQuiet k) ys → IsPlace config items kind number xs i → IsPlace config items kind number (xs ++ ys) i
-  place_quiet kind number k xs ys i h (Owns e) =
-      let u = unit_numbered config items kind number in
-      Owns (e ∙ ap (owner_after config.names (order_numbered items) u (first_owner u config.routes)) (sym (installed_same xs ys (installed_quiet k ys h))))
-  place_quiet kind number k xs ys i h (Is_destination source destination m e) =
-      let u = unit_numbered config items kind number in
-      Is_destination source destination (record {
-        moving = moving_quiet u k xs ys source destination h m.moving;
-        covers = ap (λ ops. is_at (place_of config.names source) (owner_after config.names (order_numbered items) u (first_owner u config.routes) ops)) (installed_same xs ys (installed_quiet k ys h)) ∙ m.covers;
-      }) e
-  place_quiet kind number k xs ys i h (Is_member e) = Is_member (goes_same kind number xs ys (installed_quiet k ys h) ∙ e)
+-- a place of a log is one after notes of an instance
+pub place_quiet : {R : Type 0} (job : Job R) (number k : ℕ) (xs ys : List Note) (i : ℕ) → Each (IsQuiet k) ys → IsPlace job number xs i → IsPlace job number (xs ++ ys) i
+unfolding moving_quiet
+place_quiet job number k xs ys i h (Owns e) =
+    let u = unit_in job number in
+    Owns (e ∙ ap (owner_after job.config.names (order_numbered job.items) u (first_owner u job.config.routes)) (sym (installed_same xs ys (installed_quiet k ys h))))
+place_quiet job number k xs ys i h (Is_destination on e) =
+    let u = unit_in job number in
+    Is_destination (record {
+      moving = moving_quiet job.items u k xs ys h on.moving;
+      covers = ap (λ ops. is_at (place_of job.config.names on.moving.source) (owner_after job.config.names (order_numbered job.items) u (first_owner u job.config.routes) ops)) (installed_same xs ys (installed_quiet k ys h)) ∙ on.covers;
+    }) e
+place_quiet job number k xs ys i h (Is_member e) = Is_member (goes_same job.config job.items job.function.kind number xs ys (installed_quiet k ys h) ∙ e)
 
 -- where in two lists one behind the other an element stands
 pub data Stands {X : Type 0} (xs ys zs : List X) (z : X) (bs : List X) : Type 0 where
