@@ -16,7 +16,7 @@ use Rattle.nf_msgs.specs.declared.msg.Msg.TheVariants as msg
 use Rattle.nf_msgs.specs.declared.note.Note.{Note}
 use Rattle.nf_msgs.specs.declared.note.Note.TheVariants as note
 use Rattle.nf_msgs.specs.Nodes.{switch_node, instance_node}
-use Rattle.nf_msgs.specs.Shown.{op_of}
+use Rattle.nf_msgs.specs.MessageParts.{op_of}
 use Rattle.copy_share.specs.declared.copy_phase.CopyPhase.TheVariants.{Keeping}
 use Rattle.copy_share.specs.Copy.{CopyPlan}
 use Rattle.copy_share.specs.Copy as copy

@@ -39,7 +39,7 @@ use Rattle.switch_node.specs.Switch as switch
 use Rattle.switch_node.specs.Switch.{SwitchState, switch_step, stops, has_room, goes_to, target_of}
 use Rattle.instance_worker.specs.declared.instance.Instance.{Instance as InstanceState}
 use Rattle.instance_worker.specs.Pieces.{pieces}
-use Rattle.instance_worker.specs.Instance.{told, shared, and_then, tells, still, processed, all_processed, carried, on_carry, on_fence, on_get, on_stream, on_put, on_restore, on_standby, on_sync, on_put_all, tally_put, refusal, piece_put, where_good, instance_step, selected, chunk_told, with_count, table_after}
+use Rattle.instance_worker.specs.Instance.{told, shared, and_then, tells, still, processed, all_processed, carried, on_carry, on_fence, on_get, on_stream, on_put, on_restore, on_standby, on_sync, on_put_all, tally_put, piece_refusal, piece_put, where_good, instance_step, selected, chunk_told, with_count, table_after}
 use Rattle.whole_joined.proofs.Given.{Given}
 use Rattle.whole_joined.proofs.Joined.{Label}
 use Rattle.answer_net.proofs.BusyLemmas.{AreOther, is_other, is_outcome}
@@ -197,7 +197,7 @@ module _ {F R : Type 0} (f : Semantics R) (g : Given) (k : ℕ) where
   good_says i chunks did h = elim (are_good f chunks) as (λ b. InstanceSays (if b then did else still i)) [ true ↦ h | false ↦ still_says i ]
 
   -- a refusal is an outcome
-  refusal_says : (i : InstanceState F R) (piece : APiece) → IsOutcome (refusal i piece)
+  refusal_says : (i : InstanceState F R) (piece : APiece) → IsOutcome (piece_refusal i piece)
   refusal_says i piece = elim (nat_lt i.limit (finite.len i.table.live + piece.total)) as (λ b. IsOutcome (if b then Some (Import (finite.len i.table.live) piece.total i.limit) else if i.marked && nat_lt 1 piece.newest then Some (Old piece.newest 1) else None)) [
     | true ↦ refl
     | false ↦ elim (i.marked && nat_lt 1 piece.newest) as (λ b. IsOutcome (if b then Some (Old piece.newest 1) else None)) [ true ↦ refl | false ↦ tt ]
@@ -212,9 +212,9 @@ module _ {F R : Type 0} (f : Semantics R) (g : Given) (k : ℕ) where
 
   put_says : (i : InstanceState F R) (op : ℕ) (piece : APiece) (first : Bool) → InstanceSays (on_put f i op piece first)
   unfolding on_put
-  put_says i op piece first = elim (nat_lt piece.total (length piece.chunks)) as (λ b. InstanceSays (if b then still i else piece_put f i op piece (first || piece.last) (if first then refusal i piece else None))) [
+  put_says i op piece first = elim (nat_lt piece.total (length piece.chunks)) as (λ b. InstanceSays (if b then still i else piece_put f i op piece (first || piece.last) (if first then piece_refusal i piece else None))) [
     | true ↦ still_says i
-    | false ↦ piece_says i op piece (first || piece.last) (if first then refusal i piece else None) (elim first as (λ b. IsOutcome (if b then refusal i piece else None)) [ true ↦ refusal_says i piece | false ↦ tt ])
+    | false ↦ piece_says i op piece (first || piece.last) (if first then piece_refusal i piece else None) (elim first as (λ b. IsOutcome (if b then piece_refusal i piece else None)) [ true ↦ refusal_says i piece | false ↦ tt ])
   ]
 
   restore_says : (i : InstanceState F R) (op : ℕ) (chunks : List Chunk) → InstanceSays (on_restore f i op chunks)

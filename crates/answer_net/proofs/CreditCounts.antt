@@ -21,7 +21,7 @@ use Rattle.nf_msgs.specs.declared.msg.Msg.TheVariants as msg
 use Rattle.nf_msgs.specs.declared.note.Note.{Note}
 use Rattle.instance_worker.specs.declared.instance.Instance.{Instance}
 use Rattle.instance_worker.specs.Pieces.{pieces}
-use Rattle.instance_worker.specs.Instance.{Step, told, chunk_told, shared, still, tells, tells_and_notes, and_then, selected, processed, all_processed, carried, where_good, refusal, piece_put, instance_step, on_carry, on_fence, on_get, on_stream, on_put, on_restore, on_standby, on_sync, on_put_all, tally_put}
+use Rattle.instance_worker.specs.Instance.{Step, told, chunk_told, shared, still, tells, tells_and_notes, and_then, selected, processed, all_processed, carried, where_good, piece_refusal, piece_put, instance_step, on_carry, on_fence, on_get, on_stream, on_put, on_restore, on_standby, on_sync, on_put_all, tally_put}
 use Rattle.actor_net.specs.Network.{reaches}
 use Rattle.actor_net.proofs.WeightLaws.{EachSent, sent_weight}
 use Rattle.net_world.specs.Log.{arrived, done}
@@ -145,7 +145,7 @@ module _ {F R : Type 0} (f : Semantics R) (n k : ℕ) (reach : reaches n k 0 ≡
 
   put_is : (i : Instance F R) (op : ℕ) (piece : Piece) (first : Bool) → IsEven (on_put f i op piece first)
   unfolding on_put
-  put_is i op piece first = elim (nat_lt piece.total (length piece.chunks)) as (λ b. IsEven (if b then still i else piece_put f i op piece (first || piece.last) (if first then refusal i piece else None))) [ true ↦ still_is i | false ↦ put_it_is i op piece (first || piece.last) (if first then refusal i piece else None) ]
+  put_is i op piece first = elim (nat_lt piece.total (length piece.chunks)) as (λ b. IsEven (if b then still i else piece_put f i op piece (first || piece.last) (if first then piece_refusal i piece else None))) [ true ↦ still_is i | false ↦ put_it_is i op piece (first || piece.last) (if first then piece_refusal i piece else None) ]
 
   restore_is : (i : Instance F R) (op : ℕ) (chunks : List Chunk) → IsEven (on_restore f i op chunks)
   unfolding on_restore

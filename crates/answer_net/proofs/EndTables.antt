@@ -23,7 +23,7 @@ use Rattle.nf_msgs.specs.declared.msg.Msg.TheVariants as msg
 use Rattle.nf_msgs.specs.declared.note.Note.{Note}
 use Rattle.nf_msgs.specs.declared.note.Note.TheVariants as note
 use Rattle.nf_msgs.specs.Nodes.{instance_node}
-use Rattle.nf_msgs.specs.Shown.{op_of}
+use Rattle.nf_msgs.specs.MessageParts.{op_of}
 use Rattle.actor_net.specs.Histories.{sent_for as core_sent}
 use Rattle.actor_net.proofs.LinkLemmas.{neither}
 use Rattle.unit_machine.proofs.Labels.{Each, each-append}

@@ -6,7 +6,7 @@ use Rattle.flow_filter.specs.declared.flow.Flow.{Flow}
 use Rattle.nf_function.specs.declared.unit.Unit.TheVariants.{Flow as OfFlow}
 use Rattle.nf_function.specs.Units.{is_tcp, is_transport, is_transport_flow}
 use Rattle.conn_tracker.specs.declared.record.TrackRecord.{TrackRecord}
-use Rattle.conn_tracker.specs.Table.{is_udp_state, IsRecordOf}
+use Rattle.conn_tracker.specs.Table.{is_udp_state, IsTrackRecord}
 use Rattle.conn_tracker.specs.Body.{is_valid, is_within, suits}
 use Rattle.conn_tracker.specs.BodyLemmas.{valid_facts}
 
@@ -25,7 +25,7 @@ pub known_flow : (f : Flow) → is_transport f.proto ≡ true → nat_lt f.local
 known_flow f proto local lport remote rport =
     and_from _ _ (and_from _ _ (and_from _ _ (and_from _ _ proto local) lport) remote) rport
 
-pub valid_record : (f : Flow) (proto : ℕ) (r : TrackRecord) → is_transport_flow f ≡ true → f.proto ≡ proto → IsRecordOf proto r → is_within r ≡ true
+pub valid_record : (f : Flow) (proto : ℕ) (r : TrackRecord) → is_transport_flow f ≡ true → f.proto ≡ proto → IsTrackRecord proto r → is_within r ≡ true
     → is_valid (OfFlow f) r ≡ true
 valid_record f proto r flow same fits within =
     let counted : 1 ≤ r.packets = fits.counted in
@@ -33,7 +33,7 @@ valid_record f proto r flow same fits within =
     let suited : suits f.proto r.state ≡ true = rw same (suits_from (is_tcp proto) (is_udp_state r.state) fits.fits) in
     and_from _ _ (and_from _ _ (and_from _ _ flow one) suited) within
 
-pub record_fits : (f : Flow) (proto : ℕ) (r : TrackRecord) → is_valid (OfFlow f) r ≡ true → f.proto ≡ proto → IsRecordOf proto r
+pub record_fits : (f : Flow) (proto : ℕ) (r : TrackRecord) → is_valid (OfFlow f) r ≡ true → f.proto ≡ proto → IsTrackRecord proto r
 record_fits f proto r valid same =
     let facts = valid_facts f r valid in
     let suited : suits proto r.state ≡ true = rw (← same) facts.fits in

@@ -198,6 +198,6 @@ is_udp_state Both = true
 is_udp_state state = false
 
 -- a record that packets of this protocol can have left
-pub record IsRecordOf (proto : ℕ) (r : TrackRecord) : Type 0 where
+pub record IsTrackRecord (proto : ℕ) (r : TrackRecord) : Type 0 where
   pub counted : 1 ≤ r.packets
   pub fits : is_udp_state r.state ≡ not (is_tcp proto)

@@ -1,5 +1,5 @@
 ghost use Rattle.std.specs.Prelude.{◌≡◌, true, Some};
-ghost use Rattle.conn_tracker.specs.Table.{first_record, next_record, stepped, first_state, opener_of_first, is_idle, next_state, next_opener, is_same_direction, first_opener, IsRecordOf};
+ghost use Rattle.conn_tracker.specs.Table.{first_record, next_record, stepped, first_state, opener_of_first, is_idle, next_state, next_opener, is_same_direction, first_opener, IsTrackRecord};
 ghost use Rattle.conn_tracker.specs.Body.{is_within};
 ghost use Rattle.conn_tracker.specs.Text.{output_of};
 
@@ -32,7 +32,7 @@ pub fn step(site: &Site, kept: &mut Option<TrackRecord>, packet: &Packet) -> Out
 /// The record of a flow's first packet, which goes in this direction.
 pub fn first_record(packet: &Packet, direction: Direction) -> TrackRecord
     ensures value { result ≡ first_record packet.now direction }
-    ensures fits { IsRecordOf packet.now.proto result }
+    ensures fits { IsTrackRecord packet.now.proto result }
     ensures within { is_within result ≡ true }
 {
     let opener = opener_of_first(packet, direction);
@@ -55,9 +55,9 @@ fn record_of_one(state: State, opener: Direction, length: u32, nanos: u64) -> Tr
 
 /// The record after a further packet, which goes in this direction.
 pub fn next_record(before: &TrackRecord, packet: &Packet, direction: Direction) -> TrackRecord
-    requires { IsRecordOf packet.now.proto before.now }
+    requires { IsTrackRecord packet.now.proto before.now }
     ensures value { result ≡ next_record before.now packet.now direction }
-    ensures fits { IsRecordOf packet.now.proto result }
+    ensures fits { IsTrackRecord packet.now.proto result }
 {
     record_after(before, packet, direction)
 }
@@ -65,7 +65,7 @@ pub fn next_record(before: &TrackRecord, packet: &Packet, direction: Direction) 
 /// The record after a further packet, which goes in this direction, of whatever protocol the record is.
 pub fn record_after(before: &TrackRecord, packet: &Packet, direction: Direction) -> TrackRecord
     ensures value { result ≡ next_record before.now packet.now direction }
-    ensures fits { IsRecordOf packet.now.proto before.now → IsRecordOf packet.now.proto result }
+    ensures fits { IsTrackRecord packet.now.proto before.now → IsTrackRecord packet.now.proto result }
     ensures within { is_within result ≡ true }
 {
     let is_new = is_idle(before, packet);

@@ -4,7 +4,7 @@ use Rattle.packet_pool.specs.Pool.{FullCell}
 use Rattle.nf_msgs.specs.declared.command.Command.{Command}
 use Rattle.nf_msgs.specs.declared.msg.Msg.{Msg}
 use Rattle.nf_msgs.specs.declared.msg.Msg.TheVariants.{Asked, Diverted, End, Event, Final}
-use Rattle.nf_msgs.specs.Shown.{op_of}
+use Rattle.nf_msgs.specs.MessageParts.{op_of}
 use Rattle.ctrl_node.specs.Controller.{ControllerState, row, numbered}
 
 pub other_row : (s : ControllerState) (port : ℕ) (message : Msg)

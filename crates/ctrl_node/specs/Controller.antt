@@ -19,7 +19,7 @@ use Rattle.nf_msgs.specs.declared.msg.Msg.{Msg}
 use Rattle.nf_msgs.specs.declared.msg.Msg.TheVariants.{Asked, Diverted, End, Event, Final, Forward, Answered, Finish}
 use Rattle.nf_msgs.specs.declared.note.Note.{Note}
 use Rattle.nf_msgs.specs.declared.note.Note.TheVariants as note
-use Rattle.nf_msgs.specs.Shown.{op_of}
+use Rattle.nf_msgs.specs.MessageParts.{op_of}
 use Rattle.nf_msgs.specs.Nodes.{switch_node, instance_node}
 use Rattle.move_op.specs.Move.{MovePlan, Store, begun, begin_sends}
 use Rattle.copy_share.specs.Copy.{CopyPlan}

@@ -13,7 +13,7 @@ use Rattle.event_filter.specs.declared.decide.Decide.{Decide}
 use Rattle.event_filter.specs.declared.mark.Mark.{Mark}
 use Rattle.event_filter.specs.declared.mark.Mark.TheVariants.{Plain, Pass, Shared}
 use Rattle.event_filter.specs.declared.rule.Rule.{Rule}
-use Rattle.event_filter.specs.Rules.{first_rule, decided, decided_by, named_by, decide, rule_at, HaveOneEach, changed, ruled_by, with_rule, without}
+use Rattle.event_filter.specs.Rules.{first_rule, decided, decided_by, named_by, decide, rule_at, HaveOneEach, changed, ruled_by, with_rule, without_rule}
 use Rattle.event_filter.proofs.RulePlaces.{None_of, without-none, none_behind}
 
 module _ {P : Type 0} where
@@ -40,9 +40,9 @@ module _ {P : Type 0} where
 
   -- a rule that doesn't match the flow leaves it to the others
   fate_passed : (rules : List (Rule P)) (op : ℕ) (f : Filter) (act : Action) (flow : Flow) → matches f flow ≡ false
-      → first_rule (changed rules op (ruled_by f act)) flow ≡ first_rule (without rules op) flow
+      → first_rule (changed rules op (ruled_by f act)) flow ≡ first_rule (without_rule rules op) flow
   fate_passed [] op f act flow off = refl
-  fate_passed (x ∷ rules) op f act flow off = elim (eqb x.op op) as (λ b. first_rule (cond b (ruled_by f act x) x ∷ changed rules op (ruled_by f act)) flow ≡ first_rule (cond (not b) (x ∷ without rules op) (without rules op)) flow) [
+  fate_passed (x ∷ rules) op f act flow off = elim (eqb x.op op) as (λ b. first_rule (cond b (ruled_by f act x) x ∷ changed rules op (ruled_by f act)) flow ≡ first_rule (cond (not b) (x ∷ without_rule rules op) (without_rule rules op)) flow) [
     | true ↦ rw off (fate_passed rules op f act flow off)
     | false ↦ ap (λ o. cond (matches x.filter flow) (Some x) o) (fate_passed rules op f act flow off)
   ]
@@ -68,9 +68,9 @@ module _ {P : Type 0} where
 
   -- a flow that the filter doesn't match is decided by the rules of the other operations
   pub decide-with_rule_passed : (rules : List (Rule P)) (op : ℕ) (f : Filter) (act : Action) (flow : Flow) (mark : Mark) → matches f flow ≡ false
-      → decide (with_rule rules op f act) flow mark ≡ decide (without rules op) flow mark
+      → decide (with_rule rules op f act) flow mark ≡ decide (without_rule rules op) flow mark
   decide-with_rule_passed rules op f act flow Plain off = elim (rule_at rules op) as (λ o. rule_at rules op ≡ o
-      → decided_by (first_rule (cond (is_some o) (changed rules op (ruled_by f act)) (rules ++ (record { op = op; filter = f; action = act; held = [] }) ∷ [])) flow) ≡ decided_by (first_rule (without rules op) flow)) [
+      → decided_by (first_rule (cond (is_some o) (changed rules op (ruled_by f act)) (rules ++ (record { op = op; filter = f; action = act; held = [] }) ∷ [])) flow) ≡ decided_by (first_rule (without_rule rules op) flow)) [
         | None ↦ λ none. ap decided_by (push_off rules (record { op = op; filter = f; action = act; held = [] }) flow off ∙ ap (λ rs. first_rule rs flow) (sym (without-none rules op (none_of-rule_at rules op none))))
         | Some r ↦ λ is. ap decided_by (fate_passed rules op f act flow off)
       ] refl
@@ -83,17 +83,17 @@ module _ {P : Type 0} where
     | false ↦ λ is. then is
   ] none
 
-  fate_taken : (rules : List (Rule P)) (op : ℕ) (f : Filter) (act : Action) (flow : Flow) → matches f flow ≡ true → first_rule (without rules op) flow ≡ None
+  fate_taken : (rules : List (Rule P)) (op : ℕ) (f : Filter) (act : Action) (flow : Flow) → matches f flow ≡ true → first_rule (without_rule rules op) flow ≡ None
       → IsSome (rule_at rules op) → decided_by (first_rule (changed rules op (ruled_by f act)) flow) ≡ decided op act
   fate_taken [] op f act flow on none some = cc
-  fate_taken (x ∷ rules) op f act flow on none some = elim (eqb x.op op) as (λ b. eqb x.op op ≡ b → first_rule (cond (not b) (x ∷ without rules op) (without rules op)) flow ≡ None → IsSome (cond b (Some x) (rule_at rules op))
+  fate_taken (x ∷ rules) op f act flow on none some = elim (eqb x.op op) as (λ b. eqb x.op op ≡ b → first_rule (cond (not b) (x ∷ without_rule rules op) (without_rule rules op)) flow ≡ None → IsSome (cond b (Some x) (rule_at rules op))
       → decided_by (first_rule (cond b (ruled_by f act x) x ∷ changed rules op (ruled_by f act)) flow) ≡ decided op act) [
         | true ↦ λ here out has. rw (on, eqb-true x.op op here) refl
-        | false ↦ λ off out has. fate_behind x (changed rules op (ruled_by f act)) (without rules op) flow (decided op act) out (λ rest. fate_taken rules op f act flow on rest has)
+        | false ↦ λ off out has. fate_behind x (changed rules op (ruled_by f act)) (without_rule rules op) flow (decided op act) out (λ rest. fate_taken rules op f act flow on rest has)
       ] refl none some
 
   -- a flow that no other operation's rule matches is decided by the rule that was set
-  pub decide-with_rule_taken : (rules : List (Rule P)) (op : ℕ) (f : Filter) (act : Action) (flow : Flow) → matches f flow ≡ true → first_rule (without rules op) flow ≡ None
+  pub decide-with_rule_taken : (rules : List (Rule P)) (op : ℕ) (f : Filter) (act : Action) (flow : Flow) → matches f flow ≡ true → first_rule (without_rule rules op) flow ≡ None
       → decide (with_rule rules op f act) flow Plain ≡ decided op act
   decide-with_rule_taken rules op f act flow on none = elim (rule_at rules op) as (λ o. rule_at rules op ≡ o
       → decided_by (first_rule (cond (is_some o) (changed rules op (ruled_by f act)) (rules ++ (record { op = op; filter = f; action = act; held = [] }) ∷ [])) flow) ≡ decided op act) [
@@ -103,16 +103,16 @@ module _ {P : Type 0} where
 
   -- without a rule that doesn't match the flow, it is decided as before
   fate_without : (rules : List (Rule P)) (op : ℕ) (flow : Flow) → HaveOneEach rules → IfSome (rule_at rules op) (λ r. matches r.filter flow ≡ false)
-      → first_rule (without rules op) flow ≡ first_rule rules flow
+      → first_rule (without_rule rules op) flow ≡ first_rule rules flow
   fate_without [] op flow one off = refl
   fate_without (x ∷ rules) op flow one off = elim (eqb x.op op) as (λ b. eqb x.op op ≡ b → IfSome (cond b (Some x) (rule_at rules op)) (λ r. matches r.filter flow ≡ false)
-      → first_rule (cond (not b) (x ∷ without rules op) (without rules op)) flow ≡ cond (matches x.filter flow) (Some x) (first_rule rules flow)) [
+      → first_rule (cond (not b) (x ∷ without_rule rules op) (without_rule rules op)) flow ≡ cond (matches x.filter flow) (Some x) (first_rule rules flow)) [
         | true ↦ λ here is. rw (is, without-none rules op (none_behind rules op x.op here (IsDistinct-head nat_eq x.op (map (λ y. y.op) rules) one))) refl
         | false ↦ λ other is. ap (λ o. cond (matches x.filter flow) (Some x) o) (fate_without rules op flow (IsDistinct-tail nat_eq x.op (map (λ y. y.op) rules) one) is)
       ] refl off
 
   pub decide-without : (rules : List (Rule P)) (op : ℕ) (flow : Flow) (mark : Mark) → HaveOneEach rules → IfSome (rule_at rules op) (λ r. matches r.filter flow ≡ false)
-      → decide (without rules op) flow mark ≡ decide rules flow mark
+      → decide (without_rule rules op) flow mark ≡ decide rules flow mark
   decide-without rules op flow Plain one off = ap decided_by (fate_without rules op flow one off)
   decide-without rules op flow mark one off = refl
 

@@ -8,7 +8,7 @@ use Rattle.std.proofs.lemmas.Cmp.{nat_eq_equiv}
 use Rattle.flow_filter.specs.declared.filter.Filter.{Filter}
 use Rattle.event_filter.specs.declared.action.Action.{Action}
 use Rattle.event_filter.specs.declared.rule.Rule.{Rule}
-use Rattle.event_filter.specs.Rules.{rule_at, held_at, changed, ruled_by, holding, with_rule, with_held, without}
+use Rattle.event_filter.specs.Rules.{rule_at, held_at, changed, ruled_by, holding, with_rule, with_held, without_rule}
 
 module _ {P : Type 0} where
   -- a change that keeps the operation's number is seen at that operation alone
@@ -106,10 +106,10 @@ module _ {P : Type 0} where
   ] refl
 
   -- the rules of other operations are found as before
-  pub rule_at-without : (rules : List (Rule P)) (op q : ℕ) → rule_at (without rules op) q ≡ cond (eqb q op) None (rule_at rules q)
+  pub rule_at-without : (rules : List (Rule P)) (op q : ℕ) → rule_at (without_rule rules op) q ≡ cond (eqb q op) None (rule_at rules q)
   rule_at-without [] op q = elim (eqb q op) as (λ b. ◌≡◌ {A = Option (Rule P)} None (cond b None None)) [ true ↦ refl | false ↦ refl ]
-  rule_at-without (x ∷ rules) op q = left_out x op q (rule_at rules q) (without rules op) (rule_at-without rules op q)
+  rule_at-without (x ∷ rules) op q = left_out x op q (rule_at rules q) (without_rule rules op) (rule_at-without rules op q)
 
-  pub held_at-without : (rules : List (Rule P)) (op q : ℕ) → held_at (without rules op) q ≡ cond (eqb q op) [] (held_at rules q)
+  pub held_at-without : (rules : List (Rule P)) (op q : ℕ) → held_at (without_rule rules op) q ≡ cond (eqb q op) [] (held_at rules q)
   held_at-without rules op q = ap (λ o. option_map_or (λ r. r.held) o []) (rule_at-without rules op q)
       ∙ elim (eqb q op) as (λ b. option_map_or (λ r. r.held) (cond b None (rule_at rules q)) [] ≡ cond b [] (held_at rules q)) [ true ↦ refl | false ↦ refl ]

@@ -13,7 +13,7 @@ use Rattle.basics.proofs.ListLemmas.{past_the_end}
 use Rattle.flow_filter.specs.declared.filter.Filter.{Filter}
 use Rattle.event_filter.specs.declared.action.Action.{Action}
 use Rattle.event_filter.specs.declared.rule.Rule.{Rule}
-use Rattle.event_filter.specs.Rules.{rule_at, HaveOneEach, changed, ruled_by, with_rule, without}
+use Rattle.event_filter.specs.Rules.{rule_at, HaveOneEach, changed, ruled_by, with_rule, without_rule}
 
 -- no rules are one for each operation
 pub one_each-none : (P : Type 0) → HaveOneEach {P = P} []
@@ -30,7 +30,7 @@ module _ {P : Type 0} where
   changed-none [] op change none = refl
   changed-none (r ∷ rules) op change none = rw none.0 (ap (λ rs. r ∷ rs) (changed-none rules op change none.1))
 
-  pub without-none : (rules : List (Rule P)) (op : ℕ) → None_of op rules → without rules op ≡ rules
+  pub without-none : (rules : List (Rule P)) (op : ℕ) → None_of op rules → without_rule rules op ≡ rules
   without-none [] op none = refl
   without-none (r ∷ rules) op none = rw none.0 (ap (λ rs. r ∷ rs) (without-none rules op none.1))
 
@@ -69,7 +69,7 @@ module _ {P : Type 0} where
   set_place (x ∷ rules) op (suc i) r change p one = rw (p.before 0 (omega arith)) (ap (λ rs. x ∷ rs) (set_place rules op i r change (behind x rules op i r p) (one_less x rules one)))
 
   -- what is left without the place
-  remove_place : (rules : List (Rule P)) (op i : ℕ) (r : Rule P) → IsPlace rules op i r → HaveOneEach rules → remove rules i ≡ without rules op
+  remove_place : (rules : List (Rule P)) (op i : ℕ) (r : Rule P) → IsPlace rules op i r → HaveOneEach rules → remove rules i ≡ without_rule rules op
   remove_place [] op i r p one = absurd (omega (arith, p.within))
   remove_place (x ∷ rules) op zero r p one = rw (p.here, without-none rules op (first_here x rules op r p one)) refl
   remove_place (x ∷ rules) op (suc i) r p one = rw (p.before 0 (omega arith)) (ap (λ rs. x ∷ rs) (remove_place rules op i r (behind x rules op i r p) (one_less x rules one)))
@@ -92,7 +92,7 @@ module _ {P : Type 0} where
   set-same rules i r is = ap (set rules i) is ∙ set-get_or rules i r
 
   pub remove-without : (rules : List (Rule P)) (op i : ℕ) (r : Rule P) → position (λ x. eqb x.op op) rules ≡ Some i → HaveOneEach rules
-      → remove rules i ≡ without rules op
+      → remove rules i ≡ without_rule rules op
   remove-without rules op i r e one = remove_place rules op i r (at_place rules op i r e) one
 
   pub rule_at-position : (rules : List (Rule P)) (op i : ℕ) (r : Rule P) → position (λ x. eqb x.op op) rules ≡ Some i → r ≡ get_or rules i r
@@ -130,18 +130,18 @@ module _ {P : Type 0} where
   one_each-push rules r none one = rw (map-append (λ x. x.op) rules (r ∷ [])) (IsDistinct-push nat_eq_equiv (map (λ x. x.op) rules) r.op one (any-none rules r.op none))
 
   apart-without : (rules : List (Rule P)) (op here : ℕ) → AllByRecursion (λ y. eqb here y ≡ false) (map (λ r. r.op) rules)
-      → AllByRecursion (λ y. eqb here y ≡ false) (map (λ r. r.op) (without rules op))
+      → AllByRecursion (λ y. eqb here y ≡ false) (map (λ r. r.op) (without_rule rules op))
   apart-without [] op here apart = tt
-  apart-without (x ∷ rules) op here apart = elim (eqb x.op op) as (λ b. AllByRecursion (λ y. eqb here y ≡ false) (map (λ r. r.op) (cond (not b) (x ∷ without rules op) (without rules op)))) [
+  apart-without (x ∷ rules) op here apart = elim (eqb x.op op) as (λ b. AllByRecursion (λ y. eqb here y ≡ false) (map (λ r. r.op) (cond (not b) (x ∷ without_rule rules op) (without_rule rules op)))) [
     | true ↦ apart-without rules op here apart.1
     | false ↦ (apart.0, apart-without rules op here apart.1)
   ]
 
-  pub one_each-without : (rules : List (Rule P)) (op : ℕ) → HaveOneEach rules → HaveOneEach (without rules op)
+  pub one_each-without : (rules : List (Rule P)) (op : ℕ) → HaveOneEach rules → HaveOneEach (without_rule rules op)
   one_each-without [] op one = one
-  one_each-without (x ∷ rules) op one = elim (eqb x.op op) as (λ b. HaveOneEach (cond (not b) (x ∷ without rules op) (without rules op))) [
+  one_each-without (x ∷ rules) op one = elim (eqb x.op op) as (λ b. HaveOneEach (cond (not b) (x ∷ without_rule rules op) (without_rule rules op))) [
     | true ↦ one_each-without rules op (one_less x rules one)
-    | false ↦ IsDistinct-cons nat_eq x.op (map (λ r. r.op) (without rules op)) (apart-without rules op x.op (IsDistinct-head nat_eq x.op (map (λ r. r.op) rules) one)) (one_each-without rules op (one_less x rules one))
+    | false ↦ IsDistinct-cons nat_eq x.op (map (λ r. r.op) (without_rule rules op)) (apart-without rules op x.op (IsDistinct-head nat_eq x.op (map (λ r. r.op) rules) one)) (one_each-without rules op (one_less x rules one))
   ]
 
   -- a rule set where the operation has one, and where it has none

@@ -77,5 +77,5 @@ module _ {P : Type 0} where
   with_held rules op parcel = changed rules op (holding parcel)
 
   -- the rules of the other operations
-  abbrev pub without : List (Rule P) → ℕ → List (Rule P)
-  without rules op = filter (λ r. not (r.op == op)) rules
+  abbrev pub without_rule : List (Rule P) → ℕ → List (Rule P)
+  without_rule rules op = filter (λ r. not (r.op == op)) rules

@@ -4,7 +4,7 @@ ghost use Rattle.flow_filter.specs.Filter.{matches};
 ghost use Rattle.flow_filter.specs.declared.flow.Flow.{Flow as EachFlow};
 ghost use Rattle.event_filter.specs.declared.mark.Mark.{Mark as EachMark};
 ghost use Rattle.event_filter.specs.declared.mark.Mark.TheVariants.{Plain};
-ghost use Rattle.event_filter.specs.Rules.{decide, decided, named_by, first_rule, rule_at, held_at, with_rule, holding, with_held, without};
+ghost use Rattle.event_filter.specs.Rules.{decide, decided, named_by, first_rule, rule_at, held_at, with_rule, holding, with_held, without_rule};
 
 use crate::action::Action;
 use crate::decide::Decide;
@@ -56,9 +56,9 @@ impl<P> EventRules<P> {
 
         // A flow that no other operation's rule matches goes by this rule, and one that it doesn't match by the others.
         ensures taken { OnOk result ((flow : EachFlow) → matches filter flow ≡ true →
-            first_rule (without self.old op) flow ≡ None → decide self.new flow Plain ≡ decided op action) }
+            first_rule (without_rule self.old op) flow ≡ None → decide self.new flow Plain ≡ decided op action) }
         ensures passed { OnOk result ((flow : EachFlow) (mark : EachMark) → matches filter flow ≡ false →
-            decide self.new flow mark ≡ decide (without self.old op) flow mark) }
+            decide self.new flow mark ≡ decide (without_rule self.old op) flow mark) }
         ensures err { OnErr result (self.new ≡ self.old) }
     {
         match place_of(self.rules.as_slice(), op) {
@@ -134,7 +134,7 @@ impl<P> EventRules<P> {
     /// Takes an operation's rule away, and gives the parcels that were held for it, in order. This takes no memory.
     pub fn release(&mut self, op: u32) -> Vec<P>
         ensures parcels { result.items ≡ held_at self.old op }
-        ensures list { self.new ≡ without self.old op }
+        ensures list { self.new ≡ without_rule self.old op }
         ensures rule { (q : ℕ) → rule_at self.new q ≡ (if q == op then None else rule_at self.old q) }
         ensures held { (q : ℕ) → held_at self.new q ≡ (if q == op then [] else held_at self.old q) }
         ensures passed { (flow : EachFlow) (mark : EachMark) →
@@ -152,7 +152,7 @@ impl<P> EventRules<P> {
     where
         P: Drop,
         requires { held_at self.old op ≡ [] }
-        ensures list { self.new ≡ without self.old op }
+        ensures list { self.new ≡ without_rule self.old op }
         ensures rule { (q : ℕ) → rule_at self.new q ≡ (if q == op then None else rule_at self.old q) }
         ensures held { (q : ℕ) → held_at self.new q ≡ held_at self.old q }
         ensures passed { (flow : EachFlow) (mark : EachMark) →

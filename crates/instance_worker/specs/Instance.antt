@@ -181,8 +181,8 @@ module _ {F R : Type 0} where
   where_good f i chunks step = if are_good f chunks then step else still i
 
   -- why a piece that is put first is refused, if it is
-  abbrev pub refusal : Instance F R → APiece → Option Answer
-  refusal i piece =
+  abbrev pub piece_refusal : Instance F R → APiece → Option Answer
+  piece_refusal i piece =
       if nat_lt i.limit (finite.len i.table.live + piece.total) then Some (Import (finite.len i.table.live) piece.total i.limit)
       else if i.marked && nat_lt plain_version piece.newest then Some (Old piece.newest plain_version)
       else None
@@ -200,7 +200,7 @@ module _ {F R : Type 0} where
   unfoldable pub on_put : Semantics R → Instance F R → ℕ → APiece → Bool → Step F R
   on_put f i op piece first =
       if nat_lt piece.total (length piece.chunks) then still i
-      else piece_put f i op piece (first || piece.last) (if first then refusal i piece else None)
+      else piece_put f i op piece (first || piece.last) (if first then piece_refusal i piece else None)
 
   unfoldable pub on_restore : Semantics R → Instance F R → ℕ → List Chunk → Step F R
   on_restore f i op chunks =

@@ -5,7 +5,7 @@ ghost use Rattle.nf_msgs.specs.declared.msg.Msg.TheVariants.{PutNo as Refusing};
 ghost use Rattle.nf_msgs.specs.declared.note.Note.TheVariants.{Imported as ImportedNote, Kept as KeptNote};
 ghost use Rattle.record_table.specs.Chunks.{are_good};
 ghost use Rattle.instance_worker.specs.Taking.{AreTaken};
-ghost use Rattle.instance_worker.specs.Instance.{on_put, on_put_all, on_restore, on_standby, on_sync, piece_put, refusal, told, with_live, with_records, with_standby};
+ghost use Rattle.instance_worker.specs.Instance.{on_put, on_put_all, on_restore, on_standby, on_sync, piece_put, piece_refusal, told, with_live, with_records, with_standby};
 
 use crate::instance::Instance;
 use actor_net::Outbox;
@@ -45,7 +45,7 @@ impl<F: Function> Instance<F> {
 
     /// Why a piece that is put first is refused, if it is.
     fn refusal(&self, piece: &Piece) -> Option<Answer>
-        ensures value { result ≡ refusal self.now piece.now }
+        ensures value { result ≡ piece_refusal self.now piece.now }
         ensures room { IfNone result (finite.len self.now.table.live + piece.now.total ≤ self.now.limit) }
     {
         let held = self.table.live_count();

@@ -11,7 +11,7 @@ use Rattle.nf_function.specs.declared.kind.Kind.{Kind}
 use Rattle.nf_function.specs.Stored.{number_bytes}
 use Rattle.nf_function.proofs.StoredNumbers.{length-number_bytes}
 use Rattle.state_chunk.specs.Format.{kind_number}
-use Rattle.journal_file.specs.Format.{header_size, most_choices, header_bytes, journal_bytes, choice_bytes}
+use Rattle.journal_file.specs.Format.{header_size, journal_choices, header_bytes, journal_bytes, choice_bytes}
 use Rattle.journal_file.specs.Reading.{count_in, count_of, choices_of, journal_of}
 use Rattle.journal_file.proofs.SpelledChoices.{choices_in_written, written_length}
 
@@ -24,15 +24,15 @@ unfolding number_bytes
 read_back count below = ap (big_number 8) (sym (append-nil (number_bytes 8 count))) ∙ big_number-reads_back 8 count [] below
 
 -- the number of choices is read again
-pub count_in_header : (kind : Kind) (instances count : ℕ) → count ≤ most_choices → count_in kind instances (header_bytes kind instances count) ≡ Ok count
+pub count_in_header : (kind : Kind) (instances count : ℕ) → count ≤ journal_choices → count_in kind instances (header_bytes kind instances count) ≡ Ok count
 unfolding count_in header_bytes number_bytes
 count_in_header kind instances count few =
     let number = read_back count (omega (arith, few)) in
-    let fits : nat_lt most_choices count ≡ false = grind (arith, nat_tests) in
+    let fits : nat_lt journal_choices count ≡ false = grind (arith, nat_tests) in
     rw (eq-eqb (kind_number kind) (kind_number kind) refl, eq-eqb instances instances refl, number, fits) refl
 
 -- a header that stands before other bytes is read again
-pub count_of_header : (kind : Kind) (instances count : ℕ) (rest : List ℕ) → count ≤ most_choices
+pub count_of_header : (kind : Kind) (instances count : ℕ) (rest : List ℕ) → count ≤ journal_choices
     → count_of kind instances (header_bytes kind instances count ++ rest) ≡ Ok count
 unfolding count_of
 count_of_header kind instances count rest few =
@@ -50,7 +50,7 @@ choices_again choices =
     rw (enough, ended, choices_in_written choices) refl
 
 -- a journal is read again
-pub journal_again : (kind : Kind) (instances : ℕ) (choices : List Choice) → length choices ≤ most_choices
+pub journal_again : (kind : Kind) (instances : ℕ) (choices : List Choice) → length choices ≤ journal_choices
     → journal_of kind instances (journal_bytes kind instances choices) ≡ Ok choices
 unfolding journal_of journal_bytes
 journal_again kind instances choices few =

@@ -15,7 +15,7 @@ use Rattle.nf_function.proofs.StoredNumbers.{first_number-some, IsBytes-drop, Is
 use Rattle.state_chunk.specs.Format.{kind_number}
 use Rattle.journal_file.specs.declared.fault.JournalFault.{JournalFault}
 use Rattle.journal_file.specs.declared.fault.JournalFault.TheVariants as fault
-use Rattle.journal_file.specs.Format.{letters, version, header_size, most_choices, header_bytes, journal_bytes, choice_bytes}
+use Rattle.journal_file.specs.Format.{letters, version, header_size, journal_choices, header_bytes, journal_bytes, choice_bytes}
 use Rattle.journal_file.specs.Reading.{Read, AnswersWith, count_in, count_of, choices_in, choices_of, journal_of}
 use Rattle.journal_file.proofs.SpelledChoices.{written_choices_in, choices_in_length}
 
@@ -48,7 +48,7 @@ header_spelled kind instances count header are size h =
     let one = held (big_number 2 (drop 4 header) == version) fault.Version _ count magic.1 in
     let kinds = held (slice_index header 6 == kind_number kind) fault.Kind _ count one.1 in
     let asked = held (slice_index header 7 == instances) fault.Count _ count kinds.1 in
-    let few = failed (nat_lt most_choices (big_number 8 (drop 8 header))) fault.Count _ count asked.1 in
+    let few = failed (nat_lt journal_choices (big_number 8 (drop 8 header))) fault.Count _ count asked.1 in
     let number : big_number 8 (drop 8 header) ≡ count = same_ok (big_number 8 (drop 8 header)) count few.1 in
     let front : header ≡ letters ++ drop 4 header = (starts_is Decides-eqb header letters _ refl).0 magic.0 in
     let after_letters : drop 4 header ≡ number_bytes 2 version ++ drop 6 header =

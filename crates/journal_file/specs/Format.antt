@@ -34,8 +34,8 @@ abbrev pub choice_size : ℕ
 choice_size = 2
 
 -- the most choices that a journal may have
-abbrev pub most_choices : ℕ
-most_choices = 200_000_000
+abbrev pub journal_choices : ℕ
+journal_choices = 200_000_000
 
 -- what comes before the choices
 unfoldable pub header_bytes : Kind → ℕ → ℕ → List ℕ

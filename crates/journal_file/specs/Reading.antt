@@ -10,7 +10,7 @@ use Rattle.nf_io.specs.Meaning.{Rose}
 use Rattle.state_chunk.specs.Format.{kind_number}
 use Rattle.journal_file.specs.declared.fault.JournalFault.{JournalFault}
 use Rattle.journal_file.specs.declared.fault.JournalFault.TheVariants as fault
-use Rattle.journal_file.specs.Format.{letters, version, header_size, most_choices, version_place, kind_place, instances_place, count_place, choice_size}
+use Rattle.journal_file.specs.Format.{letters, version, header_size, journal_choices, version_place, kind_place, instances_place, count_place, choice_size}
 
 abbrev pub Read : Type 0 → Type 0
 Read X = Result X JournalFault
@@ -22,7 +22,7 @@ count_in kind instances header =
     else if not (big_number 2 (drop version_place header) == version) then Err fault.Version
     else if not (slice_index header kind_place == kind_number kind) then Err fault.Kind
     else if not (slice_index header instances_place == instances) then Err fault.Count
-    else if nat_lt most_choices (big_number 8 (drop count_place header)) then Err fault.Count
+    else if nat_lt journal_choices (big_number 8 (drop count_place header)) then Err fault.Count
     else Ok (big_number 8 (drop count_place header))
 
 -- the number of choices that a journal begins with, or the first fault of its header

@@ -1,6 +1,6 @@
 //! What comes before the choices of a journal.
 ghost use Rattle.std.specs.Prelude.{◌≡◌, ◌≢◌, ◌≤◌, ◌++◌, length, Err, OnOk, IfOk};
-ghost use Rattle.journal_file.specs.Format.{header_size, header_bytes, most_choices};
+ghost use Rattle.journal_file.specs.Format.{header_size, header_bytes, journal_choices};
 ghost use Rattle.journal_file.specs.Reading.{count_of, count_in};
 
 use crate::fault::JournalFault;
@@ -39,7 +39,7 @@ pub(crate) fn push_header(
 #[tactic(auto, unfolding(crate::specs::Reading::count_of))]
 pub(crate) fn count_of(bytes: &[u8], kind: Kind, instances: u8) -> Result<u64, JournalFault>
     ensures value { result ≡ count_of kind instances bytes.now }
-    ensures bound { IfOk result (λ count. count ≤ most_choices) }
+    ensures bound { IfOk result (λ count. count ≤ journal_choices) }
     ensures bytes { result ≢ Err JournalFault.Read }
     ensures whole { IfOk result (λ _. header_size ≤ length bytes.now) }
 {
@@ -55,7 +55,7 @@ fn count_in(header: &[u8], kind: Kind, instances: u8) -> Result<u64, JournalFaul
     requires { length header.now ≡ header_size }
     ensures value { result ≡ count_in kind instances header.now }
     ensures bytes { result ≢ Err JournalFault.Read }
-    ensures bound { IfOk result (λ count. count ≤ most_choices) }
+    ensures bound { IfOk result (λ count. count ≤ journal_choices) }
 {
     if !header.starts_with(b"ONFJ") {
         return Err(JournalFault::Magic);

@@ -1,5 +1,5 @@
 ghost use Rattle.std.specs.Prelude.{◌≡◌, ◌≤◌, ◌++◌, [], length, Ok, IfOk, OnOk};
-ghost use Rattle.journal_file.specs.Format.{journal_bytes, most_choices};
+ghost use Rattle.journal_file.specs.Format.{journal_bytes, journal_choices};
 ghost use Rattle.journal_file.specs.Reading.{journal_of, AnswersWith};
 
 use crate::choices::{push_bytes_of, push_choices_in};
@@ -20,7 +20,7 @@ pub fn write_journal(
     ensures bytes { IfOk result (λ bytes. bytes ≡ journal_bytes kind instances choices.now) }
 
     // What was written is read again.
-    ensures again { length choices.now ≤ most_choices → IfOk result (λ bytes. journal_of kind instances bytes ≡ Ok choices.now) }
+    ensures again { length choices.now ≤ journal_choices → IfOk result (λ bytes. journal_of kind instances bytes ≡ Ok choices.now) }
 {
     let mut bytes = with_room(alloc, choices.len())?;
     push_journal(&mut bytes, kind, instances, choices)?;

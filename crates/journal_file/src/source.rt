@@ -1,7 +1,7 @@
 ghost use Rattle.std.specs.Prelude.{◌≤◌, ◌<◌, drop, length, IfOk};
 ghost use Rattle.std.specs.Option.{ForSome};
 ghost use Rattle.nf_io.specs.Meaning.{StaysOpen, untouched};
-ghost use Rattle.journal_file.specs.Format.{most_choices};
+ghost use Rattle.journal_file.specs.Format.{journal_choices};
 ghost use Rattle.journal_file.specs.Reading.{journal_of, count_of, looked_at, GivesFrom, HasReadCause};
 ghost use Rattle.journal_file.specs.Pieces.{piece_size, TakesBytes, TakesChoices};
 
@@ -48,7 +48,7 @@ fn take_choices<S: Source>(
     count: u64,
 ) -> Result<Choices, JournalFault>
     requires open { S.IsOpen source.old }
-    requires bound { count ≤ most_choices }
+    requires bound { count ≤ journal_choices }
     ensures value { ForSome (S.left source.old) (λ bytes. TakesChoices count bytes (S.left source.new) result) }
     ensures cause { HasReadCause (S.faults source.old) (S.faults source.new) result }
     ensures stays { StaysOpen S.IsOpen (untouched S.loan S.rest) source.old source.new }

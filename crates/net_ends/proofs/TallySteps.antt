@@ -26,7 +26,7 @@ use Rattle.nf_msgs.specs.declared.msg.Msg.TheVariants as msg
 use Rattle.nf_msgs.specs.declared.note.Note.{Note}
 use Rattle.instance_worker.specs.declared.instance.Instance.{Instance}
 use Rattle.instance_worker.specs.Pieces.{pieces}
-use Rattle.instance_worker.specs.Instance.{Step, told, chunk_told, shared, still, tells, tells_and_notes, and_then, selected, processed, all_processed, carried, where_good, refusal, piece_put, instance_step, on_carry, on_fence, on_get, on_stream, on_put, on_restore, on_standby, on_sync, on_put_all, tally_put}
+use Rattle.instance_worker.specs.Instance.{Step, told, chunk_told, shared, still, tells, tells_and_notes, and_then, selected, processed, all_processed, carried, where_good, piece_refusal, piece_put, instance_step, on_carry, on_fence, on_get, on_stream, on_put, on_restore, on_standby, on_sync, on_put_all, tally_put}
 use Rattle.unit_machine.proofs.Labels.{Each, each-append}
 
 -- one count changed
@@ -157,7 +157,7 @@ module _ {F R : Type 0} (f : Semantics R) where
 
   put_leaves : (i : Instance F R) (op : ℕ) (piece : Piece) (first : Bool) → Has i → StepLeaves i.ended (on_put f i op piece first)
   unfolding on_put
-  put_leaves i op piece first h = elim (nat_lt piece.total (length piece.chunks)) as (λ b. StepLeaves i.ended (if b then still i else piece_put f i op piece (first || piece.last) (if first then refusal i piece else None))) [ true ↦ still_leaves i h | false ↦ piece_leaves i op piece (first || piece.last) (if first then refusal i piece else None) h ]
+  put_leaves i op piece first h = elim (nat_lt piece.total (length piece.chunks)) as (λ b. StepLeaves i.ended (if b then still i else piece_put f i op piece (first || piece.last) (if first then piece_refusal i piece else None))) [ true ↦ still_leaves i h | false ↦ piece_leaves i op piece (first || piece.last) (if first then piece_refusal i piece else None) h ]
 
   restore_leaves : (i : Instance F R) (op : ℕ) (chunks : List Chunk) → Has i → StepLeaves i.ended (on_restore f i op chunks)
   unfolding on_restore

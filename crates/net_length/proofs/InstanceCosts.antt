@@ -30,7 +30,7 @@ use Rattle.nf_msgs.specs.Nodes.{switch_node}
 use Rattle.instance_worker.specs.declared.instance.Instance.{Instance}
 use Rattle.instance_worker.specs.declared.pieces.WholePieces.{WholePieces}
 use Rattle.instance_worker.specs.Pieces.{piece_of, pieces_from, whole_of}
-use Rattle.instance_worker.specs.Instance.{Step, told, chunk_told, shared, still, selected, processed, all_processed, carried, where_good, refusal, piece_put, instance_step, on_carry, on_fence, on_get, on_stream, on_put, on_restore, on_standby, on_sync, on_put_all, tally_put}
+use Rattle.instance_worker.specs.Instance.{Step, told, chunk_told, shared, still, selected, processed, all_processed, carried, where_good, piece_refusal, piece_put, instance_step, on_carry, on_fence, on_get, on_stream, on_put, on_restore, on_standby, on_sync, on_put_all, tally_put}
 use Rattle.actor_net.proofs.WeightLaws.{weigh-append}
 use Rattle.net_length.specs.Length.{pieces_among}
 use Rattle.net_length.proofs.Weights.{one_if, of_rules, of_instance, weight, some, processing, cost, cost-append}
@@ -204,7 +204,7 @@ module _ {F R : Type 0} (f : Semantics R) (o : ℕ) where
   put_falls : (i : Instance F R) (op : ℕ) (piece : Piece) (first : Bool) → Falls i (msg.Put op piece first) (on_put f i op piece first)
   unfolding on_put
   put_falls i op piece first =
-      elim (nat_lt piece.total (length piece.chunks)) as (λ b. Falls i (msg.Put op piece first) (if b then still i else piece_put f i op piece (first || piece.last) (if first then refusal i piece else None))) [
+      elim (nat_lt piece.total (length piece.chunks)) as (λ b. Falls i (msg.Put op piece first) (if b then still i else piece_put f i op piece (first || piece.last) (if first then piece_refusal i piece else None))) [
         | true ↦ still_falls i (msg.Put op piece first)
         | false ↦ by_first first
       ]
@@ -216,8 +216,8 @@ module _ {F R : Type 0} (f : Semantics R) (o : ℕ) where
       by_refusal None = taken_falls true
       by_refusal (Some why) = omega arith
 
-      by_first : (b : Bool) → Falls i (msg.Put op piece b) (piece_put f i op piece (b || piece.last) (if b then refusal i piece else None))
-      by_first true = by_refusal (refusal i piece)
+      by_first : (b : Bool) → Falls i (msg.Put op piece b) (piece_put f i op piece (b || piece.last) (if b then piece_refusal i piece else None))
+      by_first true = by_refusal (piece_refusal i piece)
       by_first false = taken_falls false
 
   restore_falls : (i : Instance F R) (op : ℕ) (chunks : List Chunk) → Falls i (msg.Restore op chunks) (on_restore f i op chunks)

@@ -28,7 +28,7 @@ use Rattle.nf_msgs.specs.Nodes.{switch_node}
 use Rattle.instance_worker.specs.declared.instance.Instance.{Instance}
 use Rattle.instance_worker.specs.declared.pieces.WholePieces.{WholePieces}
 use Rattle.instance_worker.specs.Pieces.{piece_of, pieces_from, pieces, whole_of}
-use Rattle.instance_worker.specs.Instance.{Step, told, chunk_told, shared, still, and_then, selected, processed, all_processed, carried, where_good, refusal, piece_put, instance_step, on_carry, on_fence, on_get, on_stream, on_put, on_restore, on_standby, on_sync, on_put_all, tally_put}
+use Rattle.instance_worker.specs.Instance.{Step, told, chunk_told, shared, still, and_then, selected, processed, all_processed, carried, where_good, piece_refusal, piece_put, instance_step, on_carry, on_fence, on_get, on_stream, on_put, on_restore, on_standby, on_sync, on_put_all, tally_put}
 use Rattle.actor_net.proofs.WeightLaws.{weigh-append}
 use Rattle.net_length.specs.Length.{pieces_among}
 use Rattle.net_length.proofs.Chances.{chance, spent, spent-append, spent_parts, arrival, uses}
@@ -143,9 +143,9 @@ module _ (a k : ℕ) {F R : Type 0} (f : Semantics R) where
   put_none : (i : Instance F R) (op : ℕ) (piece : Piece) (first : Bool) → Uses_none (on_put f i op piece first)
   unfolding on_put
   put_none i op piece first =
-      elim (nat_lt piece.total (length piece.chunks)) as (λ b. Uses_none (if b then still i else piece_put f i op piece (first || piece.last) (if first then refusal i piece else None))) [
+      elim (nat_lt piece.total (length piece.chunks)) as (λ b. Uses_none (if b then still i else piece_put f i op piece (first || piece.last) (if first then piece_refusal i piece else None))) [
         | true ↦ omega arith
-        | false ↦ by_refusal (first || piece.last) (if first then refusal i piece else None)
+        | false ↦ by_refusal (first || piece.last) (if first then piece_refusal i piece else None)
       ]
     where
       by_refusal : (answered : Bool) (x : Option Answer) → Uses_none (piece_put f i op piece answered x)

@@ -9,7 +9,7 @@ use Rattle.std.proofs.lemmas.Cmp.{nat_cmp_total, nat_list_cmp_total, on_total, t
 use Rattle.std.proofs.lemmas.Map.Lookups.{exact_bytes}
 use Rattle.nf_function.specs.declared.unit.Unit as units
 use Rattle.nf_function.specs.Semantics.{Semantics}
-use Rattle.nf_function.specs.Records.{age_cmp, is_newer, IsOrder, Laws}
+use Rattle.nf_function.specs.Records.{age_cmp, is_newer, IsRecordOrder, Laws}
 
 -- records are compared by a total order, up to equal packets and bodies
 pub age_total : {R : Type 0} (f : Semantics R) → IsTotalOrder (age_cmp f)
@@ -38,7 +38,7 @@ same_body : {R : Type 0} (f : Semantics R) (a b : R) → age_cmp f a b ≡ Equal
 same_body f a b h =
     exact_bytes (f.body_of a) (f.body_of b) (tied_behind (nat_cmp (f.packets_of a) (f.packets_of b)) (slice_cmp nat_cmp (f.body_of a) (f.body_of b)) h)
 
-pub newer_is_order : {R : Type 0} (f : Semantics R) → Laws f → IsOrder f
+pub newer_is_order : {R : Type 0} (f : Semantics R) → Laws f → IsRecordOrder f
 newer_is_order {R} f laws = record {
   irreflexive = λ a. ap is_gt (tied_itself (age_total f) a);
   transitive = λ a b c p q. newer_from_less f a c ((age_total f).trans c b a (less_from_newer f b c q) (less_from_newer f a b p));

@@ -43,7 +43,7 @@ pub record Fits (site : Site) (p : Packet) : Type 0 where
   pub inside : site.inside.bits < 2 ^ 32
 
 -- `is_newer` together with equality is a total order on the records that are valid for some unit
-pub record IsOrder {R : Type 0} (f : Semantics R) : Type 0 where
+pub record IsRecordOrder {R : Type 0} (f : Semantics R) : Type 0 where
   pub irreflexive : (a : R) → is_newer f a a ≡ false
   pub transitive : (a b c : R) → is_newer f a b ≡ true → is_newer f b c ≡ true → is_newer f a c ≡ true
   pub total : (u v : units.Unit) (a b : R) → f.is_valid u a ≡ true → f.is_valid v b ≡ true

@@ -4,7 +4,7 @@ ghost use Rattle.nf_function.specs.declared.kind.Kind.{Kind as TheKind};
 ghost use Rattle.nf_function.specs.declared.function.BodyFault.TheVariants.{NoMemory as OutOfMemory};
 ghost use Rattle.nf_function.specs.Units.{unit_of};
 ghost use Rattle.nf_function.specs.Semantics.{Semantics, kept_after, output_for, is_sound};
-ghost use Rattle.nf_function.specs.Records.{Reads, is_newer, IsOrder, StepsMakeNewer, Laws};
+ghost use Rattle.nf_function.specs.Records.{Reads, is_newer, IsRecordOrder, StepsMakeNewer, Laws};
 
 use crate::kind::Kind;
 use crate::output::Output;
@@ -177,7 +177,7 @@ impl<T: Drop> From<AllocFailed<T>> for BodyFault {
 
 /// The law of [`Function::newer`]: together with equality it is a total order.
 pub fn newer_is_an_order<F: Function>()
-    ensures { IsOrder F.semantics }
+    ensures { IsRecordOrder F.semantics }
 {}
 
 /// The law of [`Function::step`]: it makes a record newer while its packets are below their greatest number.

@@ -4,11 +4,11 @@ use Rattle.std.proofs.Common.{◌≡◌, ◌≢◌, false, None, refl, ap, sym, 
 use Rattle.std.proofs.lemmas.Bool.{ne_eqb}
 use Rattle.nf_io.specs.declared.outside.Role.{Role}
 use Rattle.nf_io.specs.declared.outside.Role.TheVariants.{Trace, Script, JournalIn, Report, JournalOut, TraceOut, Errors}
-use Rattle.nf_io.specs.Roles.{place_of, same_role}
+use Rattle.nf_io.specs.Roles.{role_place, same_role}
 use Rattle.nf_io.specs.Meaning.{Meaning, OthersStay, without_left, without_written}
 
 -- places tell roles apart
-pub same_place : (a b : Role) → place_of a ≡ place_of b → a ≡ b
+pub same_place : (a b : Role) → role_place a ≡ role_place b → a ≡ b
 same_place Trace Trace e = refl
 same_place Script Script e = refl
 same_place JournalIn JournalIn e = refl
@@ -19,7 +19,7 @@ same_place Errors Errors e = refl
 same_place a b e = absurd (cc)
 
 other_place : (role other : Role) → other ≢ role → same_role role other ≡ false
-other_place role other ne = ne_eqb (place_of role) (place_of other) (λ e. ne (sym (same_place role other e)))
+other_place role other ne = ne_eqb (role_place role) (role_place other) (λ e. ne (sym (same_place role other e)))
 
 -- a meaning without what a read changes, and without what a write changes
 abbrev clear_left : Meaning → Meaning

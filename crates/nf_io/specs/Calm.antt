@@ -2,7 +2,7 @@
 use Rattle.std.specs.Prelude.{ℕ, List, [], take, option_map, unwrap_or, slice_get, if◌then◌else◌}
 use Rattle.nf_io.specs.declared.outside.Role.{Role}
 use Rattle.nf_io.specs.declared.calm.CalmOutside.{CalmOutside}
-use Rattle.nf_io.specs.Roles.{place_of, is_read}
+use Rattle.nf_io.specs.Roles.{role_place, is_read}
 use Rattle.nf_io.specs.Meaning.{Meaning, blank}
 use Rattle.nf_io.specs.Tapes.{left_on, meaning_on, room_on}
 
@@ -12,12 +12,12 @@ calm role meaning = record meaning { faults = if is_read role then 0 else meanin
 
 -- the four meanings of a role
 abbrev pub calm_in : CalmOutside → Role → Meaning
-calm_in outside role = calm role (unwrap_or (option_map meaning_on (slice_get outside.tapes (place_of role))) blank)
+calm_in outside role = calm role (unwrap_or (option_map meaning_on (slice_get outside.tapes (role_place role))) blank)
 
 -- the bytes of a role that one call may take
 abbrev pub calm_ahead : CalmOutside → Role → List ℕ
-calm_ahead outside role = unwrap_or (option_map (λ tape. take outside.most (left_on tape)) (slice_get outside.tapes (place_of role))) []
+calm_ahead outside role = unwrap_or (option_map (λ tape. take outside.most (left_on tape)) (slice_get outside.tapes (role_place role))) []
 
 -- how many bytes can be appended to a role without more memory
 abbrev pub calm_room : CalmOutside → Role → ℕ
-calm_room outside role = unwrap_or (option_map room_on (slice_get outside.tapes (place_of role))) 0
+calm_room outside role = unwrap_or (option_map room_on (slice_get outside.tapes (role_place role))) 0

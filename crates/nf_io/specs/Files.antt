@@ -4,7 +4,7 @@ use Rattle.nf_io.specs.declared.outside.Role.{Role}
 use Rattle.nf_io.specs.declared.outside.Role.TheVariants.{Trace, Script, JournalIn, Report, JournalOut, TraceOut, Errors}
 use Rattle.nf_io.specs.declared.stream.Stream.{Stream}
 use Rattle.nf_io.specs.declared.named.NamedFiles.{NamedFiles}
-use Rattle.nf_io.specs.Roles.{place_of}
+use Rattle.nf_io.specs.Roles.{role_place}
 use Rattle.nf_io.specs.Meaning.{Meaning}
 use Rattle.nf_io.specs.System.{SystemBytes}
 use Rattle.nf_io.specs.Streams.{FileBytes, file_ahead, stream_name, stream_left, stream_written}
@@ -57,4 +57,4 @@ untold = record { left = None; written = None; faults = 0; name = None }
 
 -- what the trait's callers are told of a role: its count of faults and its name
 abbrev pub seen_of : {F : Type 0} → List ℕ → NamedFiles F → Role → Meaning
-seen_of faults files role = record { left = None; written = None; faults = slice_index faults (place_of role); name = name_in files role }
+seen_of faults files role = record { left = None; written = None; faults = slice_index faults (role_place role); name = name_in files role }

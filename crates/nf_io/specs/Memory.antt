@@ -2,21 +2,21 @@
 use Rattle.std.specs.Prelude.{◌≡◌, ◌≢◌, ℕ, option_map, unwrap_or, slice_get}
 use Rattle.nf_io.specs.declared.outside.Role.{Role}
 use Rattle.nf_io.specs.declared.memory.MemoryOutside.{MemoryOutside}
-use Rattle.nf_io.specs.Roles.{place_of}
+use Rattle.nf_io.specs.Roles.{role_place}
 use Rattle.nf_io.specs.Meaning.{Meaning, blank}
 use Rattle.nf_io.specs.Planned.{FailPlan, unplanned, meaning_of, plan_of, room_of, after_call}
 
 -- the four meanings of a role
 abbrev pub seen_in : MemoryOutside → Role → Meaning
-seen_in memory role = unwrap_or (option_map meaning_of (slice_get memory.tapes (place_of role))) blank
+seen_in memory role = unwrap_or (option_map meaning_of (slice_get memory.tapes (role_place role))) blank
 
 -- the plan of a role
 abbrev pub plan_in : MemoryOutside → Role → FailPlan
-plan_in memory role = unwrap_or (option_map plan_of (slice_get memory.tapes (place_of role))) unplanned
+plan_in memory role = unwrap_or (option_map plan_of (slice_get memory.tapes (role_place role))) unplanned
 
 -- how many bytes can be appended to a role without more memory
 abbrev pub room_in : MemoryOutside → Role → ℕ
-room_in memory role = unwrap_or (option_map room_of (slice_get memory.tapes (place_of role))) 0
+room_in memory role = unwrap_or (option_map room_of (slice_get memory.tapes (role_place role))) 0
 
 -- the plans, and how much one call may take, are as before
 pub record SamePlans (old new : MemoryOutside) : Type 0 where

@@ -24,15 +24,15 @@ needs_name TraceOut = true
 needs_name Errors = false
 
 -- `role as usize`
-abbrev pub place_of : Role → ℕ
-place_of Trace = 0
-place_of Script = 1
-place_of JournalIn = 2
-place_of Report = 3
-place_of JournalOut = 4
-place_of TraceOut = 5
-place_of Errors = 6
+abbrev pub role_place : Role → ℕ
+role_place Trace = 0
+role_place Script = 1
+role_place JournalIn = 2
+role_place Report = 3
+role_place JournalOut = 4
+role_place TraceOut = 5
+role_place Errors = 6
 
 -- whether two roles are one
 abbrev pub same_role : Role → Role → Bool
-same_role a b = nat_eq (place_of a) (place_of b)
+same_role a b = nat_eq (role_place a) (role_place b)

@@ -6,13 +6,13 @@ use Rattle.nf_io.specs.declared.read_ahead.ReadAhead.{ReadAhead}
 use Rattle.nf_io.specs.declared.stream.Stream.{Stream}
 
 -- the bytes that were read ahead and not yet taken
-abbrev pub held : ReadAhead → List ℕ
-held ahead = slice_range ahead.bytes.items ahead.start ahead.end
+abbrev pub bytes_ahead : ReadAhead → List ℕ
+bytes_ahead ahead = slice_range ahead.bytes.items ahead.start ahead.end
 
 -- the bytes of a file at hand, if there is one
 abbrev pub file_ahead : {F : Type 0} → Option (Stream F) → List ℕ
 file_ahead None = []
-file_ahead (Some stream) = held stream.ahead
+file_ahead (Some stream) = bytes_ahead stream.ahead
 
 -- the name of a file
 abbrev pub stream_name : {F : Type 0} → Stream F → List ℕ
@@ -30,7 +30,7 @@ bytes_shown view at_first (Some file) = view file
 
 -- the bytes that a file has still to give: those read ahead, and then those that the file itself has left
 abbrev pub stream_left : {F : Type 0} → (F → Option (List ℕ)) → SystemBytes → Stream F → Option (List ℕ)
-stream_left remaining told stream = prepend_known (held stream.ahead) (bytes_shown remaining (told.opened (stream_name stream)) stream.file)
+stream_left remaining told stream = prepend_known (bytes_ahead stream.ahead) (bytes_shown remaining (told.opened (stream_name stream)) stream.file)
 
 -- the bytes that were written to a file
 abbrev pub stream_written : {F : Type 0} → (F → Option (List ℕ)) → SystemBytes → Stream F → Option (List ℕ)

@@ -23,11 +23,11 @@ pub(crate) struct ReadAhead {
 }
 
 impl ReadAhead {
-    ghost use Rattle.nf_io.specs.Streams.{held};
+    ghost use Rattle.nf_io.specs.Streams.{bytes_ahead};
 
     /// Nothing was read.
     pub(crate) fn open(alloc: Global) -> Result<Self, NoMemory>
-        ensures { IfOk result (λ ahead. held ahead ≡ []) }
+        ensures { IfOk result (λ ahead. bytes_ahead ahead ≡ []) }
     {
         let mut bytes = Vec::new(alloc);
         bytes.resize(ROOM, 0)?;
@@ -41,8 +41,8 @@ impl ReadAhead {
     /// Moves as many bytes as both have into the front of a buffer.
     #[inline(always)]
     pub(crate) fn take(&mut self, buf: &mut [u8]) -> usize
-        ensures count { result ≡ min (length buf.new) (length (held self.old)) }
-        ensures bytes { held self.old ≡ take result buf.new ++ held self.new }
+        ensures count { result ≡ min (length buf.new) (length (bytes_ahead self.old)) }
+        ensures bytes { bytes_ahead self.old ≡ take result buf.new ++ bytes_ahead self.new }
     {
         let held = self.held();
         let n = buf.len().min(held.len());
@@ -54,7 +54,7 @@ impl ReadAhead {
     /// What was read and not yet taken.
     #[inline(always)]
     pub(crate) fn held(&self) -> &[u8]
-        ensures { result.now ≡ held self.now }
+        ensures { result.now ≡ bytes_ahead self.now }
     {
         &self.bytes[self.start..self.end]
     }
@@ -62,24 +62,24 @@ impl ReadAhead {
     /// Takes the next bytes.
     #[inline(always)]
     pub(crate) fn skip(&mut self, count: usize)
-        requires { count ≤ length (held self.old) }
-        ensures { held self.new ≡ drop count (held self.old) }
+        requires { count ≤ length (bytes_ahead self.old) }
+        ensures { bytes_ahead self.new ≡ drop count (bytes_ahead self.old) }
     {
         self.start += count;
     }
 
     /// Whether all that was read is taken.
     pub(crate) fn is_empty(&self) -> bool
-        ensures { IsTrue result ↔ (held self.now ≡ []) }
+        ensures { IsTrue result ↔ (bytes_ahead self.now ≡ []) }
     {
         self.start == self.end
     }
 
     /// Reads more of the file, where all that was read is taken.
     pub(crate) fn refill<R: Read>(&mut self, file: &mut R) -> io::Result<()>
-        requires { held self.old ≡ [] }
-        ensures bytes { Keeps (prepend_known (held self.old) (R.remaining file.old)) (prepend_known (held self.new) (R.remaining file.new)) }
-        ensures end { OnOk result (held self.new ≡ [] → IsAtEnd (R.remaining file.new)) }
+        requires { bytes_ahead self.old ≡ [] }
+        ensures bytes { Keeps (prepend_known (bytes_ahead self.old) (R.remaining file.old)) (prepend_known (bytes_ahead self.new) (R.remaining file.new)) }
+        ensures end { OnOk result (bytes_ahead self.new ≡ [] → IsAtEnd (R.remaining file.new)) }
     {
         self.start = 0;
         self.end = 0;

@@ -3,7 +3,7 @@ ghost use Rattle.std.specs.Prelude.{◌≡◌, ◌≤◌, ℕ, List, [], length,
 ghost use Rattle.std.specs.Io.{ReadsAtMost, WritesAtMost};
 ghost use Rattle.std.specs.Io.KnownBytes.{Keeps, Consumes, IsAtEnd, ReadConsumes, WriteAppends};
 ghost use Rattle.nf_io.specs.System.{SystemBytes};
-ghost use Rattle.nf_io.specs.Streams.{held, stream_left, stream_written};
+ghost use Rattle.nf_io.specs.Streams.{bytes_ahead, stream_left, stream_written};
 
 use crate::outside::Failed;
 use crate::read_ahead::ReadAhead;
@@ -25,7 +25,7 @@ impl<F> Stream<F> {
     pub(crate) fn bind(alloc: Global, name: &str) -> Result<Self, NoMemory>
         ensures name { IfOk result (λ stream. string_bytes stream.name ≡ name.now) }
         ensures closed { IfOk result (λ stream. stream.file ≡ None) }
-        ensures held { IfOk result (λ stream. held stream.ahead ≡ []) }
+        ensures bytes_ahead { IfOk result (λ stream. bytes_ahead stream.ahead ≡ []) }
     {
         let name = String::from_str(alloc, name)?;
         let ahead = ReadAhead::open(alloc)?;
@@ -39,7 +39,7 @@ impl<F> Stream<F> {
     /// The bytes at hand.
     #[inline(always)]
     pub(crate) fn at_hand(&self) -> &[u8]
-        ensures { result.now ≡ held self.now.ahead }
+        ensures { result.now ≡ bytes_ahead self.now.ahead }
     {
         self.ahead.held()
     }
@@ -47,8 +47,8 @@ impl<F> Stream<F> {
     /// Takes bytes that are at hand.
     #[inline(always)]
     pub(crate) fn skip(&mut self, count: usize)
-        requires { count ≤ length (held self.old.ahead) }
-        ensures ahead { held self.new.ahead ≡ drop count (held self.old.ahead) }
+        requires { count ≤ length (bytes_ahead self.old.ahead) }
+        ensures ahead { bytes_ahead self.new.ahead ≡ drop count (bytes_ahead self.old.ahead) }
         ensures left { (remaining : F → Option (List ℕ)) (told : SystemBytes) →
             Consumes (stream_left remaining told self.old) (stream_left remaining told self.new) (take count (held self.old.ahead)) }
         ensures file { self.new.file ≡ self.old.file }
@@ -80,10 +80,10 @@ pub(crate) fn read_stream<S: System>(
 #[cold]
 #[inline(never)]
 fn refill<S: System>(system: &S, stream: &mut Stream<S::File>) -> Result<(), Failed>
-    requires { held stream.old.ahead ≡ [] }
+    requires { bytes_ahead stream.old.ahead ≡ [] }
     ensures bytes { Keeps (stream_left S.File.Read.remaining (S.told system.now) stream.old)
         (stream_left S.File.Read.remaining (S.told system.now) stream.new) }
-    ensures end { OnOk result (held stream.new.ahead ≡ [] →
+    ensures end { OnOk result (bytes_ahead stream.new.ahead ≡ [] →
         IsAtEnd (stream_left S.File.Read.remaining (S.told system.now) stream.new)) }
     ensures name { stream.new.name ≡ stream.old.name }
 {

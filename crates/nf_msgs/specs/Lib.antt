@@ -1,4 +1,4 @@
 pub mod Answers
-pub mod Shown
+pub mod MessageParts
 pub mod Nodes
 pub mod Exports

@@ -1,5 +1,5 @@
 ghost use Rattle.std.specs.Prelude.{◌≡◌, ◌++◌, option_map, IfOk, OnOk};
-ghost use Rattle.nf_msgs.specs.Shown.{kind_name, noted, op_of, packet_of, receiver_of, shown};
+ghost use Rattle.nf_msgs.specs.MessageParts.{kind_name, noted, op_of, packet_carried, receiver_of, shown};
 
 use crate::answer_text::push_numbered;
 use crate::msg::Msg;
@@ -120,7 +120,7 @@ impl Msg {
 
     /// The number of the packet that the message carries.
     pub fn packet_number(&self) -> Option<u32>
-        ensures { result ≡ option_map (λ packet. packet.number) (packet_of self.now) }
+        ensures { result ≡ option_map (λ packet. packet.number) (packet_carried self.now) }
     {
         match self {
             Msg::InPacket(packet) => Some(packet.number()),

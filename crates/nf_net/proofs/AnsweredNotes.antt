@@ -23,7 +23,7 @@ use Rattle.nf_msgs.specs.declared.note.Note.{Note}
 use Rattle.nf_msgs.specs.declared.note.Note.TheVariants as note
 use Rattle.nf_msgs.specs.Nodes.{instance_node}
 use Rattle.instance_worker.specs.declared.instance.Instance.{Instance}
-use Rattle.instance_worker.specs.Instance.{Step, is_live, processed, all_processed, carried, on_carry, on_fence, on_get, on_stream, on_put, on_restore, on_standby, on_sync, on_put_all, tally_put, piece_put, refusal, still, where_good, instance_step}
+use Rattle.instance_worker.specs.Instance.{Step, is_live, processed, all_processed, carried, on_carry, on_fence, on_get, on_stream, on_put, on_restore, on_standby, on_sync, on_put_all, tally_put, piece_put, piece_refusal, still, where_good, instance_step}
 use Rattle.state_chunk.specs.declared.fault.ChunkFault.{ChunkFault}
 use Rattle.state_chunk.specs.Reading.{tally_read}
 use Rattle.switch_node.specs.Switch.{SwitchState, switch_step}
@@ -104,9 +104,9 @@ module _ {F R : Type 0} (f : Semantics R) where
   instance_none i (msg.Carry m cell) e = cc
   instance_none i (msg.Fence op) e = cc
   instance_none i (msg.Put op piece first) e =
-      elim (nat_lt piece.total (length piece.chunks)) as (λ b. done (if b then still i else piece_put f i op piece (first || piece.last) (if first then refusal i piece else None)).notes ≡ []) [
+      elim (nat_lt piece.total (length piece.chunks)) as (λ b. done (if b then still i else piece_put f i op piece (first || piece.last) (if first then piece_refusal i piece else None)).notes ≡ []) [
         | true ↦ refl
-        | false ↦ put_none i op piece (first || piece.last) (if first then refusal i piece else None)
+        | false ↦ put_none i op piece (first || piece.last) (if first then piece_refusal i piece else None)
       ]
   instance_none i (msg.Restore op chunks) e = good_none i chunks _ refl
   instance_none i (msg.Standby op chunks) e = good_none i chunks _ refl

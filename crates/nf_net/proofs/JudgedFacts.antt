@@ -15,7 +15,7 @@ use Rattle.nf_msgs.specs.declared.msg.Msg.TheVariants as msg
 use Rattle.nf_msgs.specs.declared.note.Note.{Note}
 use Rattle.nf_msgs.specs.Nodes.{instance_node}
 use Rattle.instance_worker.specs.declared.instance.Instance.{Instance}
-use Rattle.instance_worker.specs.Instance.{refusal}
+use Rattle.instance_worker.specs.Instance.{piece_refusal}
 use Rattle.actor_net.specs.declared.choice.Choice.{Choice}
 use Rattle.actor_net.specs.Network.{Network, run}
 use Rattle.actor_net.proofs.WeightLaws.{Each, OnLinks}
@@ -37,7 +37,7 @@ use Rattle.move_op.specs.declared.phase.Phase.{Phase}
 use Rattle.move_op.specs.declared.phase.Phase.TheVariants as phase
 
 -- an instance's answer is the verdict by what it holds, and by what the piece says
-pub answer_is : {F R : Type 0} (i : Instance F R) (piece : Piece) (timed : Bool) → piece.newest ≡ version_number timed → answer_by (refusal i piece) ≡ verdict (record { held = finite.len i.table.live; coming = piece.total; limit = i.limit; marked = i.marked; timed = timed })
+pub answer_is : {F R : Type 0} (i : Instance F R) (piece : Piece) (timed : Bool) → piece.newest ≡ version_number timed → answer_by (piece_refusal i piece) ≡ verdict (record { held = finite.len i.table.live; coming = piece.total; limit = i.limit; marked = i.marked; timed = timed })
 answer_is i piece timed newest =
     elim (nat_lt i.limit (finite.len i.table.live + piece.total)) as (λ b. answer_by (if b then Some (Import (finite.len i.table.live) piece.total i.limit) else if i.marked && nat_lt 1 piece.newest then Some (Old piece.newest 1) else None) ≡ (if b then Import (finite.len i.table.live) piece.total i.limit else if i.marked && timed then Old 2 1 else Done)) [
       | true ↦ refl

@@ -28,7 +28,7 @@ use Rattle.actor_net.proofs.WeightLaws.{EachSent}
 use Rattle.unit_machine.proofs.Labels.{Each}
 use Rattle.instance_worker.specs.declared.instance.Instance.{Instance}
 use Rattle.instance_worker.specs.Pieces.{pieces}
-use Rattle.instance_worker.specs.Instance.{Step, told, shared, and_then, tells, still, processed, all_processed, carried, on_carry, on_fence, on_get, on_stream, on_put, on_restore, on_standby, on_sync, on_put_all, tally_put, refusal, piece_put, where_good, instance_step, selected, chunk_told, with_count, table_after}
+use Rattle.instance_worker.specs.Instance.{Step, told, shared, and_then, tells, still, processed, all_processed, carried, on_carry, on_fence, on_get, on_stream, on_put, on_restore, on_standby, on_sync, on_put_all, tally_put, piece_refusal, piece_put, where_good, instance_step, selected, chunk_told, with_count, table_after}
 use Rattle.nf_net.proofs.MoveJudged.{Said, sent-append}
 use Rattle.answer_net.proofs.MoveOnce.{counts}
 use Rattle.nf_net.proofs.VerdictLemmas.{times_given, times_given-append}
@@ -123,11 +123,11 @@ module _ (Part : ℕ → Piece → Type 0) (Verdict : ℕ → Answer → Type 0)
       given = λ q. refl;
     })
 
-    put_does : (i : Instance F R) (op : ℕ) (piece : Piece) (first : Bool) → Verdict op (answer_by (if first then refusal i piece else None)) → Quiet i (on_put f i op piece first)
+    put_does : (i : Instance F R) (op : ℕ) (piece : Piece) (first : Bool) → Verdict op (answer_by (if first then piece_refusal i piece else None)) → Quiet i (on_put f i op piece first)
     unfolding on_put
-    put_does i op piece first h = elim (nat_lt piece.total (length piece.chunks)) as (λ b. Quiet i (if b then still i else piece_put f i op piece (first || piece.last) (if first then refusal i piece else None))) [
+    put_does i op piece first h = elim (nat_lt piece.total (length piece.chunks)) as (λ b. Quiet i (if b then still i else piece_put f i op piece (first || piece.last) (if first then piece_refusal i piece else None))) [
       | true ↦ still_does i
-      | false ↦ piece_does i op piece (first || piece.last) (if first then refusal i piece else None) h
+      | false ↦ piece_does i op piece (first || piece.last) (if first then piece_refusal i piece else None) h
     ]
 
     restore_does : (i : Instance F R) (op : ℕ) (chunks : List Chunk) → Quiet i (on_restore f i op chunks)
@@ -156,7 +156,7 @@ module _ (Part : ℕ → Piece → Type 0) (Verdict : ℕ → Answer → Type 0)
     -- what is known where an instance takes a message: of the pieces that it gives, and of its answer to one that is put
     abbrev pub IsReady : Instance F R → Msg → Type 0
     IsReady i (msg.Stream op filter) = Each (Part op) (pieces (selected f i filter))
-    IsReady i (msg.Put op piece first) = Verdict op (answer_by (if first then refusal i piece else None))
+    IsReady i (msg.Put op piece first) = Verdict op (answer_by (if first then piece_refusal i piece else None))
     IsReady i m = Unit {0}
 
     pub instance_does : (i : Instance F R) (m : Msg) → IsReady i m → Does (counts m false) i (instance_step f i m)

@@ -36,7 +36,7 @@ use Rattle.ctrl_node.specs.Controller.{controller_step}
 use Rattle.switch_node.specs.Switch as switches
 use Rattle.switch_node.specs.Switch.{SwitchState, switch_step, sends_to_instance, on_packet, on_credit, on_install}
 use Rattle.instance_worker.specs.declared.instance.Instance.{Instance as InstanceState}
-use Rattle.instance_worker.specs.Instance.{refusal, selected, on_stream, instance_step}
+use Rattle.instance_worker.specs.Instance.{piece_refusal, selected, on_stream, instance_step}
 use Rattle.instance_worker.specs.Pieces.{pieces, whole_of}
 use Rattle.actor_net.specs.declared.choice.Choice.{Choice}
 use Rattle.actor_net.specs.Network.{Network, Stepped, IsRun, run, taken}
@@ -301,7 +301,7 @@ module _ (F : Type 0) {R : Type 0} (f : Semantics R) (laws : FunctionLaws f) (al
           none_exported op w.log (omega (arith, weight, none, one, most, few))
 
       -- the verdict on a piece that is put first
-      judged_first : (op : ℕ) (piece : Piece) (takes : Takes step n w k p (Instance i) (msg.Put op piece true) rest) → Part w.log op piece → Goes op k → Verdict (cs ++ at k p ∷ []) op (answer_by (refusal i piece))
+      judged_first : (op : ℕ) (piece : Piece) (takes : Takes step n w k p (Instance i) (msg.Put op piece true) rest) → Part w.log op piece → Goes op k → Verdict (cs ++ at k p ∷ []) op (answer_by (piece_refusal i piece))
       judged_first op piece takes part going =
           let same : going.destination ≡ y = (let at_node = going.node_is in omega (arith, at_node)) in
           let fixed = fixed_here takes.receiver in

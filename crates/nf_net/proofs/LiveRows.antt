@@ -30,7 +30,7 @@ use Rattle.nf_msgs.specs.declared.msg.Msg.TheVariants as msg
 use Rattle.nf_msgs.specs.declared.note.Note.{Note}
 use Rattle.nf_msgs.specs.Exports.{units_in}
 use Rattle.instance_worker.specs.declared.instance.Instance.{Instance as InstanceState}
-use Rattle.instance_worker.specs.Instance.{Step, still, told, and_then, tells, tells_and_notes, with_live, with_standby, with_records, imported, kept, where_good, is_live, processed, all_processed, carried, on_carry, on_fence, on_stream, on_get, on_put, on_restore, on_standby, on_sync, on_put_all, tally_put, piece_put, refusal, instance_step}
+use Rattle.instance_worker.specs.Instance.{Step, still, told, and_then, tells, tells_and_notes, with_live, with_standby, with_records, imported, kept, where_good, is_live, processed, all_processed, carried, on_carry, on_fence, on_stream, on_get, on_put, on_restore, on_standby, on_sync, on_put_all, tally_put, piece_put, piece_refusal, instance_step}
 use Rattle.unit_machine.proofs.Labels.{Each}
 use Rattle.net_world.specs.declared.config.Config.{Config}
 use Rattle.net_world.specs.Input.{IsInput, order_numbered}
@@ -244,7 +244,7 @@ module _ {R : Type 0} (f : Semantics R) (laws : FunctionLaws f) (c : Config) (it
 
       pub put_lives : (op : ℕ) (piece : Piece) (first : Bool) → IsGoodPiece f g piece → Lives (msg.Put op piece first) (on_put f i op piece first)
       unfolding on_put
-      put_lives op piece first good = let few = good.few in rw few (put_piece op piece first (first || piece.last) (if first then refusal i piece else None) good)
+      put_lives op piece first good = let few = good.few in rw few (put_piece op piece first (first || piece.last) (if first then piece_refusal i piece else None) good)
 
       pub restore_lives : (op : ℕ) (chunks : List Chunk) → AreGoodChunks f g chunks → Lives (msg.Restore op chunks) (on_restore f i op chunks)
       unfolding on_restore

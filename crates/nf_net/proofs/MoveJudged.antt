@@ -11,7 +11,7 @@ use Rattle.nf_msgs.specs.declared.msg.Piece.{Piece}
 use Rattle.nf_msgs.specs.declared.msg.Msg.{Msg}
 use Rattle.nf_msgs.specs.declared.msg.Msg.TheVariants as msg
 use Rattle.nf_msgs.specs.Exports.{units_in}
-use Rattle.nf_msgs.specs.Shown.{op_of}
+use Rattle.nf_msgs.specs.MessageParts.{op_of}
 use Rattle.move_op.specs.declared.door.Door.{Door}
 use Rattle.move_op.specs.declared.door.Door.TheVariants as door
 use Rattle.move_op.specs.declared.phase.Phase.{Phase}

@@ -3,16 +3,16 @@ use Rattle.std.proofs.Common.{◌≡◌, ◌≢◌, Bool, true, false, eqb, refl
 use Rattle.std.proofs.lemmas.Bool.{eqb-true}
 use Rattle.nf_io.specs.declared.outside.Role.{Role}
 use Rattle.nf_io.specs.declared.outside.Role.TheVariants.{Trace, Script, JournalIn, Report, JournalOut, TraceOut, Errors}
-use Rattle.nf_io.specs.Roles.{place_of}
+use Rattle.nf_io.specs.Roles.{role_place}
 use Rattle.nf_io.specs.Meaning.{Meaning, OthersStay}
 use Rattle.nf_io.proofs.RolesAfterLoan.{same_place}
 
-pub other_place : (a b : Role) → eqb (place_of a) (place_of b) ≡ false → a ≢ b
+pub other_place : (a b : Role) → eqb (role_place a) (role_place b) ≡ false → a ≢ b
 other_place a b differ same =
-    let here : eqb (place_of b) (place_of b) ≡ false = subst (λ (r : Role). eqb (place_of r) (place_of b) ≡ false) same differ in
+    let here : eqb (role_place b) (role_place b) ≡ false = subst (λ (r : Role). eqb (role_place r) (role_place b) ≡ false) same differ in
     absurd (no_loop b here)
   where
-    no_loop : (r : Role) → eqb (place_of r) (place_of r) ≡ false → ⊥
+    no_loop : (r : Role) → eqb (role_place r) (role_place r) ≡ false → ⊥
     no_loop Trace e = cc
     no_loop Script e = cc
     no_loop JournalIn e = cc
@@ -23,10 +23,10 @@ other_place a b differ same =
 
 -- a role is this one, or another
 pub this_or_other : (a b : Role) → (a ≡ b) ⊎ (a ≢ b)
-this_or_other a b = by (eqb (place_of a) (place_of b)) refl
+this_or_other a b = by (eqb (role_place a) (role_place b)) refl
   where
-    by : (test : Bool) → eqb (place_of a) (place_of b) ≡ test → (a ≡ b) ⊎ (a ≢ b)
-    by true is = inl (same_place a b (eqb-true (place_of a) (place_of b) is))
+    by : (test : Bool) → eqb (role_place a) (role_place b) ≡ test → (a ≡ b) ⊎ (a ≢ b)
+    by true is = inl (same_place a b (eqb-true (role_place a) (role_place b) is))
     by false is = inr (other_place a b is)
 
 -- what holds of the role that changed, and held of each role that stayed, holds of every role

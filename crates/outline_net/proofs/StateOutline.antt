@@ -25,7 +25,7 @@ use Rattle.nf_msgs.specs.declared.msg.Msg.TheVariants as msg
 use Rattle.instance_worker.specs.declared.instance.Instance.{Instance}
 use Rattle.instance_worker.specs.declared.pieces.WholePieces.{WholePieces}
 use Rattle.instance_worker.specs.Pieces.{newest_version, piece_of, pieces_from, whole_of, pieces}
-use Rattle.instance_worker.specs.Instance.{told, on_stream, on_delete, on_put, on_restore, refusal, piece_put}
+use Rattle.instance_worker.specs.Instance.{told, on_stream, on_delete, on_put, on_restore, piece_refusal, piece_put}
 use Rattle.unit_machine.proofs.Real as real
 use Rattle.unit_machine.proofs.Real.{Chunks, RPiece}
 use Rattle.unit_machine.proofs.Cuts.{marks, chop, is_nil-chop}
@@ -154,7 +154,7 @@ module _ {F R : Type 0} (f : Semantics R) (laws : FunctionLaws f) (site : Site) 
 
   pub put_follows : (i : Instance F R) (op : ℕ) (piece : APiece) (first : Bool) → are_good f piece.chunks ≡ true → nat_lt piece.total (length piece.chunks) ≡ false → Follows f site packet place (on_put f i op piece first) (inst_step (sys f site packet) (outline_instance f site packet i) (net.Mv everything (real.M_put op (outline_piece f piece) first)))
   unfolding on_put records_of
-  put_follows i op piece true good all = rw all (by_refusal (refusal i piece))
+  put_follows i op piece true good all = rw all (by_refusal (piece_refusal i piece))
     where
       by_refusal : (o : Option Answer) → Follows f site packet place (piece_put f i op piece true o) (net.with_table (sys f site packet) (outline_instance f site packet i) (r_put (sys f site packet).F (live_table f) op true o (outline_piece f piece) i.table.live))
       by_refusal (Some why) = record { node = refl; sends = refl; ran = refl }

@@ -5,7 +5,7 @@ use Rattle.std.proofs.lemmas.List.Elements.{filter_map-append}
 use Rattle.std.specs.List.{cons_option}
 use Rattle.flow_filter.specs.declared.filter.Filter.{Filter}
 use Rattle.nf_function.specs.declared.unit.Unit as units
-use Rattle.unit_map.specs.Entries.{Entries, held, record_of}
+use Rattle.unit_map.specs.Entries.{Entries, kept_record, record_of}
 use Rattle.std.specs.List.{IsDistinct, AllByRecursion}
 use Rattle.std.specs.List.Sorted.{IsPermutation, IsStrictlySortedBy, IsSortedByKey}
 use Rattle.std.proofs.lemmas.List.Sorted.{IsPermutation-map}
@@ -73,7 +73,7 @@ module _ {R : Type 0} (filter : Option Filter) where
   absent u (e ∷ es) apart = rw apart.0 (absent u es apart.1)
 
   not_there : (u q : units.Unit) (es : Entries units.Unit R) → IsDistinct unit_eq (u ∷ keys_of es) → unit_eq q u ≡ true → record_of unit_eq es q ≡ None
-  not_there u q es d same = ap held (lookup_alike unit_eq unit_eq_equiv q u es same ∙ absent u es (IsDistinct-head unit_eq u (keys_of es) d))
+  not_there u q es d same = ap kept_record (lookup_alike unit_eq unit_eq_equiv q u es same ∙ absent u es (IsDistinct-head unit_eq u (keys_of es) d))
 
   nothing_left : (c : Bool) (o : Option R) → o ≡ None → cond c o None ≡ None
   nothing_left true o none = none

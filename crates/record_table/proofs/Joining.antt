@@ -7,7 +7,7 @@ use Rattle.std.specs.FinMap as finite
 use Rattle.std.specs.FinMap.{get-empty}
 use Rattle.nf_function.specs.declared.unit.Unit as units
 use Rattle.nf_function.specs.Units.{unit_cmp}
-use Rattle.unit_map.specs.Entries.{Entries, held, record_of, is_place_of, with_record}
+use Rattle.unit_map.specs.Entries.{Entries, kept_record, record_of, is_place_of, with_record}
 use Rattle.unit_map.proofs.EntryLemmas.{keys_added, lookup_added, held-cond}
 use Rattle.record_table.specs.Table.{Records, same_unit, with_kept, either, joined}
 use Rattle.record_table.specs.Entries.{map_of}
@@ -70,7 +70,7 @@ module _ {R : Type 0} where
   get-last : (es : Entries units.Unit R) (u : units.Unit) (o : Option R) (q : units.Unit) → lookup (unit_eq u) es ≡ None
       → finite.get (map_of (es ++ (u, o) ∷ [])) q ≡ cond (same_unit q u) o (finite.get (map_of es) q)
   get-last es u o q absent =
-      get-map_of (es ++ (u, o) ∷ []) q ∙ ap held (lookup_added unit_eq unit_eq_equiv q u o es absent) ∙ held-cond (unit_eq u q) o (lookup (unit_eq q) es)
+      get-map_of (es ++ (u, o) ∷ []) q ∙ ap kept_record (lookup_added unit_eq unit_eq_equiv q u o es absent) ∙ held-cond (unit_eq u q) o (lookup (unit_eq q) es)
       ∙ ap (λ b. cond b o (record_of unit_eq es q)) (tied u q ∙ same_unit_equiv.symm u q) ∙ ap (cond (same_unit q u) o) (sym (get-map_of es q))
 
   -- an entry of a unit that has none is put in
@@ -97,7 +97,7 @@ module _ {R : Type 0} where
         ∙ ap (λ p. either choose p (finite.get (map_of left) q)) (ap (λ m. finite.get m q) is.map ∙ get-with_kept (map_of now) u (either choose (finite.get (map_of now) u) o) q)
         ∙ taken_in (same_unit q u) (finite.get (map_of now) u) (finite.get (map_of now) q) (finite.get (map_of left) q) o
         (λ h. ap (finite.get (map_of now)) (same_unit-true q u h))
-        (λ h. ap (finite.get (map_of left)) (same_unit-true q u h) ∙ get-map_of left u ∙ ap held absent)
+        (λ h. ap (finite.get (map_of left)) (same_unit-true q u h) ∙ get-map_of left u ∙ ap kept_record absent)
         ∙ ap (either choose (finite.get (map_of now) q)) (sym (get-last left u o q absent))
         ∙ sym (get-joined choose (map_of now) (map_of (left ++ (u, o) ∷ [])) q))
 

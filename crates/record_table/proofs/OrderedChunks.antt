@@ -12,7 +12,7 @@ use Rattle.nf_function.specs.declared.unit.Unit as units
 use Rattle.nf_function.specs.Units.{unit_cmp}
 use Rattle.nf_function.specs.UnitOrder.{units_total}
 use Rattle.nf_function.specs.Semantics.{Semantics}
-use Rattle.unit_map.specs.Entries.{Entries, held}
+use Rattle.unit_map.specs.Entries.{Entries, kept_record}
 use Rattle.unit_map.proofs.EntryLemmas.{lookup_added, distinct_added, distinct_none}
 use Rattle.record_table.specs.Table.{AreSound}
 use Rattle.record_table.specs.Chunks.{spelled, records_of, are_good}
@@ -60,7 +60,7 @@ module _ {R : Type 0} (f : Semantics R) where
       → InOrder f (chunks ++ c ∷ []) (entries ++ (u, Some r) ∷ []) (Some u)
   one_more chunks entries last c u r so_far spells valid next =
       let absent : lookup (unit_eq u) entries ≡ None = so_far.beyond u next in
-      let lacks : finite.contains_key (records_of f chunks) u ≡ false = rw (← so_far.records.map) (ap is_some (get-map_of entries u ∙ ap held absent)) in
+      let lacks : finite.contains_key (records_of f chunks) u ≡ false = rw (← so_far.records.map) (ap is_some (get-map_of entries u ∙ ap kept_record absent)) in
       let added = map_of-added entries u (Some r) absent in
       record {
         records = record {

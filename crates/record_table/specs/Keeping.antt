@@ -80,9 +80,9 @@ abbrev pub comes_after : Option units.Unit → units.Unit → Bool
 comes_after None unit = true
 comes_after (Some last) unit = is_lt (unit_cmp last unit)
 
-abbrev pub IsReadFault : {R : Type 0} → Semantics R → List Chunk → ReadFault → Type 0
-IsReadFault f chunks (Bad place) = IsFirstBad f chunks place
-IsReadFault f chunks NoMemory = Unit {0}
+abbrev pub IsChunkFault : {R : Type 0} → Semantics R → List Chunk → ReadFault → Type 0
+IsChunkFault f chunks (Bad place) = IsFirstBad f chunks place
+IsChunkFault f chunks NoMemory = Unit {0}
 
 abbrev pub fault_with : ReadFault → List Chunk → ImportFault
 fault_with (Bad place) chunks = fault.Bad place chunks

@@ -3,7 +3,7 @@ ghost use Rattle.std.specs.Prelude.{◌≡◌, true, IfOk, IfSome, OnOk, IfErr};
 ghost use Rattle.record_table.specs.Table.{AreSound};
 ghost use Rattle.record_table.specs.Chunks.{spelled, records_of, are_good};
 ghost use Rattle.record_table.specs.Entries.{map_of, AreEntriesOf};
-ghost use Rattle.record_table.specs.Keeping.{IsReadFault, fault_with, comes_after};
+ghost use Rattle.record_table.specs.Keeping.{IsChunkFault, fault_with, comes_after};
 
 use crate::record_map::RecordMap;
 use crate::refusal::ImportFault;
@@ -52,7 +52,7 @@ pub(crate) fn records_of<F: Function>(
     ensures records { IfOk result (λ entries. AreEntriesOf entries.items (records_of F.semantics chunks.now)) }
     ensures sound { IfOk result (λ entries. AreSound F.semantics (map_of entries.items)) }
     ensures good { OnOk result (are_good F.semantics chunks.now ≡ true) }
-    ensures bad { IfErr result (IsReadFault F.semantics chunks.now) }
+    ensures bad { IfErr result (IsChunkFault F.semantics chunks.now) }
 {
     if let Some(entries) = records_in_order::<F>(alloc, chunks)? {
         return Ok(entries);
@@ -105,7 +105,7 @@ fn records_in_any_order<F: Function>(
     ensures records { IfOk result (λ records. records ≡ records_of F.semantics chunks.now) }
     ensures sound { IfOk result (λ records. AreSound F.semantics records) }
     ensures good { OnOk result (are_good F.semantics chunks.now ≡ true) }
-    ensures bad { IfErr result (IsReadFault F.semantics chunks.now) }
+    ensures bad { IfErr result (IsChunkFault F.semantics chunks.now) }
 {
     let mut records = RecordMap::open(alloc);
     records.reserve(chunks.len())?;

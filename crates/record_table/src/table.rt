@@ -9,7 +9,7 @@ ghost use Rattle.state_chunk.specs.Format.{record_chunk};
 ghost use Rattle.record_table.specs.Table.{empty, part, with_part, after_packet, same_unit, taken_by, is_among, without, either, joined, newest_of, replaced_by};
 ghost use Rattle.record_table.specs.Chunks.{spelled, chunks_of, records_of, are_good, AreMadeOf, AreReadAs};
 ghost use Rattle.record_table.specs.Refusals.{IsRefusal, IsImportRefusal, is_bad};
-ghost use Rattle.record_table.specs.Keeping.{choice, IsReadFault};
+ghost use Rattle.record_table.specs.Keeping.{choice, IsChunkFault};
 
 use crate::reading::{ReadFault, records_of};
 use crate::record_map::{Keep, RecordMap};
@@ -276,7 +276,7 @@ impl<F: Function> Table<F> {
         ensures table { OnOk result (self.new ≡ with_part self.old live (joined (choice F.semantics keep) (part self.old live) (records_of F.semantics chunks.now))) }
         ensures good { OnOk result (are_good F.semantics chunks.now ≡ true) }
         ensures err { OnErr result (self.new ≡ self.old) }
-        ensures fault { IfErr result (IsReadFault F.semantics chunks.now) }
+        ensures fault { IfErr result (IsChunkFault F.semantics chunks.now) }
     {
         let coming = records_of::<F>(self.alloc, chunks)?;
         if live {

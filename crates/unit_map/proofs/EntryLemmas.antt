@@ -12,7 +12,7 @@ use Rattle.std.proofs.lemmas.Map.Entries.{lookup_from_place, lookup-filter-value
 use Rattle.std.proofs.lemmas.Map.Keys.{IsDistinct-push, IsDistinct-head, IsDistinct-tail, any_passes_from_place}
 use Rattle.std.proofs.lemmas.Map.{NonePasses, none_passes_from_lookup}
 use Rattle.std.proofs.lemmas.Map.Made.{is_some-lookup}
-use Rattle.unit_map.specs.Entries.{Entries, IsMap, held, record_of, record_at, is_place_of, with_record, has_record}
+use Rattle.unit_map.specs.Entries.{Entries, IsMap, kept_record, record_of, record_at, is_place_of, with_record, has_record}
 use Rattle.unit_map.specs.Notes.{has_key}
 
 pub distinct_none : {K : Type 0} (eq : K → K → Bool) → IsDistinct eq []
@@ -20,7 +20,7 @@ unfolding IsDistinct
 distinct_none eq = tt
 
 -- a record that is written where a test passes
-pub held-cond : {R : Type 0} (b : Bool) (w : Option R) (o : Option (Option R)) → held (cond b (Some w) o) ≡ cond b w (held o)
+pub held-cond : {R : Type 0} (b : Bool) (w : Option R) (o : Option (Option R)) → kept_record (cond b (Some w) o) ≡ cond b w (kept_record o)
 held-cond true w o = refl
 held-cond false w o = refl
 
@@ -126,9 +126,9 @@ module _ {K V : Type 0} (eq : K → K → Bool) where
 
 module _ {K R : Type 0} (eq : K → K → Bool) (laws : IsEquivalence eq) where
   pub record_at_place : (k : K) (es : Entries K R) (i : ℕ) → IsDistinct eq (keys_of es) → is_place_of eq es i k ≡ true → record_of eq es k ≡ record_at es i
-  record_at_place k es i d h = ap held (lookup_at_place eq laws k es i d h)
+  record_at_place k es i d h = ap kept_record (lookup_at_place eq laws k es i d h)
 
-  held_cond : (b : Bool) (o : Option (Option R)) → held (cond b (Some None) o) ≡ cond b None (held o)
+  held_cond : (b : Bool) (o : Option (Option R)) → kept_record (cond b (Some None) o) ≡ cond b None (kept_record o)
   held_cond true o = refl
   held_cond false o = refl
 
@@ -139,17 +139,17 @@ module _ {K R : Type 0} (eq : K → K → Bool) (laws : IsEquivalence eq) where
   -- an entry without a record changes no key's record
   pub record_added : (q k : K) (es : Entries K R) → lookup (eq k) es ≡ None → record_of eq (es ++ (k, None) ∷ []) q ≡ record_of eq es q
   record_added q k es h =
-      ap held (lookup_added eq laws q k None es h) ∙ held_cond (eq k q) (lookup (eq q) es)
-      ∙ nothing_there (eq k q) (record_of eq es q) (λ t. ap held (sym (lookup_alike eq laws k q es t) ∙ h))
+      ap kept_record (lookup_added eq laws q k None es h) ∙ held_cond (eq k q) (lookup (eq q) es)
+      ∙ nothing_there (eq k q) (record_of eq es q) (λ t. ap kept_record (sym (lookup_alike eq laws k q es t) ∙ h))
 
-  held_filter : (o : Option (Option R)) → held (option_filter is_some o) ≡ held o
+  held_filter : (o : Option (Option R)) → kept_record (option_filter is_some o) ≡ kept_record o
   held_filter None = refl
   held_filter (Some None) = refl
   held_filter (Some (Some r)) = refl
 
   -- entries without a record change no key's record
   pub record_filter : (q : K) (es : Entries K R) → IsDistinct eq (keys_of es) → record_of eq (filter has_record es) q ≡ record_of eq es q
-  record_filter q es d = ap held (lookup-filter-values laws is_some q es d) ∙ held_filter (lookup (eq q) es)
+  record_filter q es d = ap kept_record (lookup-filter-values laws is_some q es d) ∙ held_filter (lookup (eq q) es)
 
   pub keys_with_record : (es : Entries K R) (i : ℕ) (w : Option R) → keys_of (with_record es i w) ≡ keys_of es
   keys_with_record [] i w = refl
@@ -189,7 +189,7 @@ module _ {K R : Type 0} (eq : K → K → Bool) (laws : IsEquivalence eq) where
       (lookup_with_record q es i k w (IsDistinct-tail eq x.0 (keys_of es) d) h)
 
   pub record_read : (es : Entries K R) (i : ℕ) (e : K × Option R) → i < length es → e ≡ get_or es i e → record_at es i ≡ e.1
-  record_read es i e within read = ap (λ (o : Option (K × Option R)). held (option_map (λ (x : K × Option R). x.1) o)) (slice_get_read es (length es) i e refl within read)
+  record_read es i e within read = ap (λ (o : Option (K × Option R)). kept_record (option_map (λ (x : K × Option R). x.1) o)) (slice_get_read es (length es) i e refl within read)
 
   -- a record that is written through an entry that was read
   pub written : (es : Entries K R) (i : ℕ) (e : K × Option R) (w : Option R) → i < length es → e ≡ get_or es i e → slice_set es i (e.0, w) ≡ with_record es i w
@@ -204,7 +204,7 @@ module _ {K R : Type 0} (eq : K → K → Bool) (laws : IsEquivalence eq) where
   -- a record that is written at a key's place is the key's, and every other key keeps its record
   pub record_with_record : (q : K) (es : Entries K R) (i : ℕ) (k : K) (w : Option R) → IsDistinct eq (keys_of es) → is_place_of eq es i k ≡ true
       → record_of eq (with_record es i w) q ≡ cond (eq k q) w (record_of eq es q)
-  record_with_record q es i k w d h = ap held (lookup_with_record q es i k w d h) ∙ held-cond (eq k q) w (lookup (eq q) es)
+  record_with_record q es i k w d h = ap kept_record (lookup_with_record q es i k w d h) ∙ held-cond (eq k q) w (lookup (eq q) es)
 
   -- whether an entry without a record was added or not, no key's record changed
   pub record_by_add : {T E : Type 0} (r : Result T E) (old new : Entries K R) (k : K) → lookup (eq k) old ≡ None

@@ -10,17 +10,17 @@ abbrev pub Entries : Type 0 → Type 0 → Type 0
 Entries K R = List (K × Option R)
 
 -- the record, where there is an entry and it has one
-abbrev pub held : {R : Type 0} → Option (Option R) → Option R
-held None = None
-held (Some record_or_none) = record_or_none
+abbrev pub kept_record : {R : Type 0} → Option (Option R) → Option R
+kept_record None = None
+kept_record (Some record_or_none) = record_or_none
 
 -- the record of a key
 abbrev pub record_of : {K R : Type 0} → (K → K → Bool) → Entries K R → K → Option R
-record_of eq entries key = held (lookup (eq key) entries)
+record_of eq entries key = kept_record (lookup (eq key) entries)
 
 -- the record in the entry at a place
 abbrev pub record_at : {K R : Type 0} → Entries K R → ℕ → Option R
-record_at entries place = held (option_map (λ e. e.1) (slice_get entries place))
+record_at entries place = kept_record (option_map (λ e. e.1) (slice_get entries place))
 
 -- the entry at a place is the key's
 abbrev pub is_place_of : {K V : Type 0} → (K → K → Bool) → List (K × V) → ℕ → K → Bool

@@ -23,7 +23,7 @@ use Rattle.nf_msgs.specs.declared.msg.Msg.{Msg}
 use Rattle.nf_msgs.specs.declared.msg.Msg.TheVariants as msg
 use Rattle.instance_worker.specs.declared.instance.Instance.{Instance}
 use Rattle.instance_worker.specs.Pieces.{pieces}
-use Rattle.instance_worker.specs.Instance.{Step, told, still, chunk_told, table_after, with_count, processed, all_processed, carried, on_carry, on_fence, on_get, on_stream, on_put, on_restore, on_standby, on_put_all, on_sync, tally_put, refusal, piece_put, where_good, with_standby, kept, tells_and_notes, instance_step, selected}
+use Rattle.instance_worker.specs.Instance.{Step, told, still, chunk_told, table_after, with_count, processed, all_processed, carried, on_carry, on_fence, on_get, on_stream, on_put, on_restore, on_standby, on_put_all, on_sync, tally_put, piece_refusal, piece_put, where_good, with_standby, kept, tells_and_notes, instance_step, selected}
 use Rattle.unit_machine.proofs.Labels.{Each, each-append}
 
 -- not a message by which a copy goes on, but for those of the all-flows state that ask and give
@@ -96,9 +96,9 @@ module _ {F R : Type 0} (f : Semantics R) where
 
   put_sent : (i : Instance F R) (op : ℕ) (piece : APiece) (first : Bool) → AreUncopied (on_put f i op piece first).sends
   unfolding on_put
-  put_sent i op piece first = elim (nat_lt piece.total (length piece.chunks)) as (λ b. AreUncopied (if b then still i else piece_put f i op piece (first || piece.last) (if first then refusal i piece else None)).sends) [
+  put_sent i op piece first = elim (nat_lt piece.total (length piece.chunks)) as (λ b. AreUncopied (if b then still i else piece_put f i op piece (first || piece.last) (if first then piece_refusal i piece else None)).sends) [
     | true ↦ tt
-    | false ↦ piece_sent i op piece (first || piece.last) (if first then refusal i piece else None)
+    | false ↦ piece_sent i op piece (first || piece.last) (if first then piece_refusal i piece else None)
   ]
 
   restore_sent : (i : Instance F R) (op : ℕ) (chunks : List Chunk) → AreUncopied (on_restore f i op chunks).sends

@@ -11,7 +11,7 @@ use Rattle.nf_msgs.specs.declared.command.Command.{Command}
 use Rattle.nf_msgs.specs.declared.command.Order.TheVariants as order
 use Rattle.nf_msgs.specs.declared.msg.Msg.{Msg}
 use Rattle.nf_msgs.specs.declared.msg.Msg.TheVariants as msg
-use Rattle.nf_msgs.specs.Shown.{op_of}
+use Rattle.nf_msgs.specs.MessageParts.{op_of}
 use Rattle.copy_share.specs.Copy.{CopyState}
 use Rattle.copy_share.specs.Copy as copy
 use Rattle.ctrl_node.specs.declared.operation.Operation.{Operation}

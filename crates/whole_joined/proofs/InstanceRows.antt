@@ -25,7 +25,7 @@ use Rattle.nf_msgs.specs.declared.msg.Msg.TheVariants as msg
 use Rattle.nf_msgs.specs.Nodes.{instance_node}
 use Rattle.instance_worker.specs.declared.instance.Instance.{Instance}
 use Rattle.instance_worker.specs.Instance as instances
-use Rattle.instance_worker.specs.Instance.{Step, told, with_count, table_after, processed, all_processed, carried, on_carry, on_fence, on_stop, on_enable, on_stream, on_delete, on_put, on_restore, piece_put, refusal}
+use Rattle.instance_worker.specs.Instance.{Step, told, with_count, table_after, processed, all_processed, carried, on_carry, on_fence, on_stop, on_enable, on_stream, on_delete, on_put, on_restore, piece_put, piece_refusal}
 use Rattle.actor_net.proofs.WeightLaws.{EachSent}
 use Rattle.unit_machine.proofs.Labels.{Each, each-append}
 use Rattle.abstract_net.proofs.Net.{is_free}
@@ -240,7 +240,7 @@ module _ {F R : Type 0} (f : Semantics R) (laws : FunctionLaws f) (g : Given) (f
   restore_leaves i op chunks h good = rw (chunks_good f laws g chunks good) (record { node = with_chunks i chunks h good; notes = (tt, tt); sends = ((two, refl), tt) })
 
   -- a refusal isn't Done
-  refused_is : (i : Instance F R) (piece : Piece) (why : Answer) → refusal i piece ≡ Some why → is_done why ≡ false
+  refused_is : (i : Instance F R) (piece : Piece) (why : Answer) → piece_refusal i piece ≡ Some why → is_done why ≡ false
   refused_is i piece why e =
       by_tests (nat_lt i.limit (finite.len i.table.live + piece.total)) (i.marked && nat_lt 1 piece.newest) e
     where
@@ -257,6 +257,6 @@ module _ {F R : Type 0} (f : Semantics R) (laws : FunctionLaws f) (g : Given) (f
   unfolding on_put
   put_leaves i op piece first h good = let few = good.few in rw few (by_first first)
     where
-      by_first : (b : Bool) → Leaves f g k (piece_put f i op piece (b || piece.last) (if b then refusal i piece else None))
-      by_first true = put_piece i op piece true (refusal i piece) (refused_is i piece) h good
+      by_first : (b : Bool) → Leaves f g k (piece_put f i op piece (b || piece.last) (if b then piece_refusal i piece else None))
+      by_first true = put_piece i op piece true (piece_refusal i piece) (refused_is i piece) h good
       by_first false = put_piece i op piece piece.last None (λ why e. cc) h good

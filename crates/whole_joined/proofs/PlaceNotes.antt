@@ -28,7 +28,7 @@ use Rattle.ctrl_node.specs.Controller as controllers
 use Rattle.ctrl_node.specs.Controller.{ControllerState, controller_step}
 use Rattle.ctrl_node.specs.Operations.{Turn, turn_of}
 use Rattle.instance_worker.specs.declared.instance.Instance.{Instance}
-use Rattle.instance_worker.specs.Instance.{Step, still, processed, all_processed, carried, on_carry, on_fence, on_get, on_stream, on_put, piece_put, refusal, where_good, on_restore, on_standby, on_put_all, tally_put, on_sync, instance_step}
+use Rattle.instance_worker.specs.Instance.{Step, still, processed, all_processed, carried, on_carry, on_fence, on_get, on_stream, on_put, piece_put, piece_refusal, where_good, on_restore, on_standby, on_put_all, tally_put, on_sync, instance_step}
 use Rattle.unit_machine.proofs.Labels.{Each, each-append}
 
 -- a note of instance k, of nothing but packets and records
@@ -121,9 +121,9 @@ module _ {F R : Type 0} (f : Semantics R) where
 
   put_quiet : (i : Instance F R) (op : ℕ) (piece : Piece) (first : Bool) → Quiet i (on_put f i op piece first)
   unfolding on_put
-  put_quiet i op piece first = elim (nat_lt piece.total (length piece.chunks)) as (λ b. Quiet i (if b then still i else piece_put f i op piece (first || piece.last) (if first then refusal i piece else None))) [
+  put_quiet i op piece first = elim (nat_lt piece.total (length piece.chunks)) as (λ b. Quiet i (if b then still i else piece_put f i op piece (first || piece.last) (if first then piece_refusal i piece else None))) [
     | true ↦ tt
-    | false ↦ put_by i op piece (first || piece.last) (if first then refusal i piece else None)
+    | false ↦ put_by i op piece (first || piece.last) (if first then piece_refusal i piece else None)
   ]
 
   restore_quiet : (i : Instance F R) (op : ℕ) (chunks : List Chunk) → Quiet i (on_restore f i op chunks)

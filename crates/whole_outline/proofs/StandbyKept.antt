@@ -24,7 +24,7 @@ use Rattle.nf_msgs.specs.declared.msg.Msg.{Msg}
 use Rattle.nf_msgs.specs.declared.msg.Msg.TheVariants as msg
 use Rattle.instance_worker.specs.declared.instance.Instance.{Instance}
 use Rattle.instance_worker.specs.Pieces.{pieces}
-use Rattle.instance_worker.specs.Instance.{Step, still, tells, and_then, told, processed, all_processed, carried, on_carry, on_fence, on_stop, on_stream, on_get_all, on_put, piece_put, refusal, where_good, on_restore, on_standby, tally_put, on_put_all, selected, instance_step}
+use Rattle.instance_worker.specs.Instance.{Step, still, tells, and_then, told, processed, all_processed, carried, on_carry, on_fence, on_stop, on_stream, on_get_all, on_put, piece_put, piece_refusal, where_good, on_restore, on_standby, tally_put, on_put_all, selected, instance_step}
 use Rattle.unit_machine.proofs.Labels.{each-append}
 use Rattle.abstract_net.proofs.Net.{I_did}
 use Rattle.abstract_net.proofs.Shares.{as_old}
@@ -113,9 +113,9 @@ module _ {F R : Type 0} (f : Semantics R) (place : List ℕ → Option ℕ) wher
 
   put_unshared : (i : Instance F R) (op : ℕ) (piece : APiece) (first : Bool) → SharesNothing i (on_put f i op piece first)
   unfolding on_put
-  put_unshared i op piece first = elim (nat_lt piece.total (length piece.chunks)) as (λ b. SharesNothing i (if b then still i else piece_put f i op piece (first || piece.last) (if first then refusal i piece else None))) [
+  put_unshared i op piece first = elim (nat_lt piece.total (length piece.chunks)) as (λ b. SharesNothing i (if b then still i else piece_put f i op piece (first || piece.last) (if first then piece_refusal i piece else None))) [
     | true ↦ still_unshared i
-    | false ↦ piece_unshared i op piece (first || piece.last) (if first then refusal i piece else None)
+    | false ↦ piece_unshared i op piece (first || piece.last) (if first then piece_refusal i piece else None)
   ]
 
   stream_unshared : (i : Instance F R) (op : ℕ) (g : Filter) → SharesNothing i (on_stream f i op g)

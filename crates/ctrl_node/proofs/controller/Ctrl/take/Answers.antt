@@ -1,6 +1,6 @@
 -- A message without a number of an operation leaves the controller as it is.
 use Rattle.std.proofs.Common.{◌≡◌, rules, None, ap, ◌∙◌}
-use Rattle.nf_msgs.specs.Shown.{op_of}
+use Rattle.nf_msgs.specs.MessageParts.{op_of}
 use Rattle.ctrl_node.specs.Controller.{numbered}
 use Rattle.ctrl_node.proofs.OtherMessages.{other_row}
 use Rattle.ctrl_node.proofs.controller.Ctrl.take.Goals as goal

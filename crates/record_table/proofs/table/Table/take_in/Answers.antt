@@ -6,12 +6,12 @@ use Rattle.record_table.specs.declared.reading.ReadFault.{ReadFault}
 use Rattle.record_table.specs.declared.reading.ReadFault.TheVariants.{Bad, NoMemory}
 use Rattle.record_table.specs.Chunks.{are_good}
 use Rattle.record_table.specs.Refusals.{is_bad}
-use Rattle.record_table.specs.Keeping.{IsReadFault, fault_with}
+use Rattle.record_table.specs.Keeping.{IsChunkFault, fault_with}
 use Rattle.record_table.proofs.ChunkFronts.{not_all_good}
 use Rattle.record_table.proofs.MadeChunks.{made_read}
 use Rattle.record_table.proofs.table.Table.take_in.Goals as goal
 
-not_bad : {R : Type 0} (f : Semantics R) (chunks : List Chunk) (fault : ReadFault) → IsReadFault f chunks fault → are_good f chunks ≡ true → is_bad (fault_with fault chunks) ≡ false
+not_bad : {R : Type 0} (f : Semantics R) (chunks : List Chunk) (fault : ReadFault) → IsChunkFault f chunks fault → are_good f chunks ≡ true → is_bad (fault_with fault chunks) ≡ false
 not_bad f chunks (Bad place) bad good = absurd (not_all_good f chunks place bad good)
 not_bad f chunks NoMemory bad good = refl
 

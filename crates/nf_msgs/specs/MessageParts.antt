@@ -84,15 +84,15 @@ op_of (Synced op) = Some op
 op_of message = None
 
 -- the packet that a message carries
-abbrev pub packet_of : Msg → Option Packet
-packet_of (InPacket packet) = Some packet
-packet_of (Diverted parcel) = Some parcel.packet
-packet_of (Forward to mark parcel) = Some parcel.packet
-packet_of (Carry mark parcel) = Some parcel.packet
-packet_of (Event op parcel) = Some parcel.packet
-packet_of (Seen op packet) = Some packet
-packet_of (Credit parcel) = Some parcel.packet
-packet_of message = None
+abbrev pub packet_carried : Msg → Option Packet
+packet_carried (InPacket packet) = Some packet
+packet_carried (Diverted parcel) = Some parcel.packet
+packet_carried (Forward to mark parcel) = Some parcel.packet
+packet_carried (Carry mark parcel) = Some parcel.packet
+packet_carried (Event op parcel) = Some parcel.packet
+packet_carried (Seen op packet) = Some packet
+packet_carried (Credit parcel) = Some parcel.packet
+packet_carried message = None
 
 -- the instance that the switch is to send to
 abbrev pub receiver_of : Msg → Option ℕ
@@ -109,4 +109,4 @@ noted word (Some number) = numbered word number
 abbrev pub shown : Msg → List ℕ
 shown message =
     kind_name message ++ noted (codes " op ") (op_of message)
-    ++ noted (codes " packet ") (option_map (λ p. p.number) (packet_of message)) ++ noted (codes " to ") (receiver_of message)
+    ++ noted (codes " packet ") (option_map (λ p. p.number) (packet_carried message)) ++ noted (codes " to ") (receiver_of message)
