@@ -86,7 +86,7 @@ pub after_same : (x y z : Service) → end_cmp x y ≡ Less → end_cmp x z ≡ 
 after_same x y z less same =
     end_total.antisymm y z ∙ ap ordering_reverse (sym (end_total.congr x z y same) ∙ less)
 
--- what passes stands in front, or behind
+-- what passes stands in front, or after
 tail_within : {X : Type 0} (P : X → Type 0) (x : X) (xs : List X) (low high : ℕ) → AllWithin P (x ∷ xs) (suc low) (suc high) → AllWithin P xs low high
 tail_within P x xs low high h k d l m = h (suc k) d (omega arith) (omega arith)
 

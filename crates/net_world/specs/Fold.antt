@@ -20,7 +20,7 @@ abbrev pub times : ℕ → List ℕ → ℕ
 times p [] = 0
 times p (q ∷ qs) = (if p == q then 1 else 0) + times p qs
 
--- a list and more behind it
+-- a list and more after it
 pub record IsFront (front all : List ℕ) : Type 0 where
   pub rest : List ℕ
   pub whole : front ++ rest ≡ all

@@ -42,7 +42,7 @@ commands [] = []
 commands (InCommand command ∷ items) = command ∷ commands items
 commands (item ∷ items) = commands items
 
--- whether no command stands behind the end
+-- whether no command stands after the end
 abbrev pub ends_last : List Msg → Bool
 ends_last [] = true
 ends_last (InEnd ∷ items) = length (commands items) == 0

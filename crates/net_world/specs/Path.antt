@@ -78,11 +78,11 @@ module _ {F R : Type 0} (w : Network (Node F R) Msg Note) where
   abbrev pub on_links : {Y : Type 0} → (Msg → List Y) → List Y
   on_links of = all_of (all_of of) w.links
 
-  -- what an instance holds, and behind it what comes to it by the rules of the switch
+  -- what an instance holds, and after it what comes to it by the rules of the switch
   abbrev pub at_instance : ℕ → List ℕ
   at_instance i = held_by (slice_get w.nodes (instance_node i)) ++ all_of carried (on_link w switch_node (instance_node i))
 
-  -- all packets under way, of so many instances; those at one of them, the owner, come behind those at others, and what waits for shares last
+  -- all packets under way, of so many instances; those at one of them, the owner, come after those at others, and what waits for shares last
   abbrev pub under_way : (instances owner : ℕ) → List ℕ
   under_way instances owner =
       on_links passed ++ (on_links forwarded ++ (all_of stored_by w.nodes ++ (on_links handed_over ++ (all_but owner at_instance instances ++ (at_instance owner ++ (all_of queued_by w.nodes ++ on_links diverted))))))

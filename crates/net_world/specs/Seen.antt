@@ -17,7 +17,7 @@ module _ {F R : Type 0} (job : Job R) (w : Network (Node F R) Msg Note) where
   abbrev processed : units.Unit → List ℕ
   processed unit = went job.function job.config job.items unit w.log
 
-  -- a member of a share other than its home has processed the last packet of the unit behind these; the record after it stands by there,
+  -- a member of a share other than its home has processed the last packet of the unit after these; the record after it stands by there,
   -- and is on its way to the home
   pub record IsAhead (unit : units.Unit) (seen : List ℕ) : Type 0 where
     pub last : ℕ

@@ -1,4 +1,4 @@
--- Of every run: a packet behind a settle is processed where the rules of the switch send it, if no command behind the settle has begun.
+-- Of every run: a packet after a settle is processed where the rules of the switch send it, if no command after the settle has begun.
 use Rattle.std.proofs.Common.{◌≡◌, ℕ, Bool, true, false, Option, Some, None, List, ◌∷◌, ◌++◌, append_assoc, refl, sym, ap, ◌∙◌, subst, arith}
 use Rattle.std.specs.Prelude.{◌&&◌, ◌==◌, not}
 use Rattle.std.specs.Option.{option_map_or}
@@ -25,7 +25,7 @@ use Rattle.net_world.specs.Jobs.{job_of}
 use Rattle.net_world.specs.Log.{installed}
 use Rattle.net_world.specs.Nodes.{node_step, node_ready}
 use Rattle.net_world.specs.Places.{first_owner, owner_after, members_after, is_home, owner, members, member_for, unit_numbered, goes_to, IsMoving, IsPlace, Owns, Is_destination, Is_member, ArePlaces}
-use Rattle.net_world.specs.Settles.{IsBehind, has_packet, NoneBegan, Settles}
+use Rattle.net_world.specs.Settles.{IsAfterSettle, has_packet, NoneBegan, Settles}
 use Rattle.outline_net.proofs.StateOutline.{all_each}
 use Rattle.whole_joined.proofs.Given.{Given}
 use Rattle.whole_joined.proofs.LogLemmas.{has_begun-append}
@@ -54,7 +54,7 @@ module _ (F : Type 0) {R : Type 0} (f : Semantics R) (laws : FunctionLaws f) (al
   abbrev at_start : Network (Node F R) Msg Note
   at_start = start F f laws alloc c items is
 
-  module _ (cs : List Choice) (run_is : IsRun node_ready (node_step f) cs at_start) (behind : List Msg) (settle : IsBehind items behind) (before after : List Note) (p i : ℕ) (output : Output) (has : has_packet p behind ≡ true) (e : (run (node_step f) cs at_start).log ≡ before ++ note.Processed p i output ∷ after) (none : NoneBegan behind before) where
+  module _ (cs : List Choice) (run_is : IsRun node_ready (node_step f) cs at_start) (later : List Msg) (settle : IsAfterSettle items later) (before after : List Note) (p i : ℕ) (output : Output) (has : has_packet p later ≡ true) (e : (run (node_step f) cs at_start).log ≡ before ++ note.Processed p i output ∷ after) (none : NoneBegan later before) where
     abbrev u : units.Unit
     u = unit_numbered c items f.kind p
 
@@ -64,7 +64,7 @@ module _ (F : Type 0) {R : Type 0} (f : Semantics R) (laws : FunctionLaws f) (al
     abbrev log : List Note
     log = (run (node_step f) cs at_start).log
 
-    -- it arrived behind the answers to what stands before the settle
+    -- it arrived after the answers to what stands before the settle
     arrival : Arrived_in before p
     arrival = arrived_in before p ((run_settles F f laws alloc c items is cs run_is).came before after p i output e)
 
@@ -72,23 +72,23 @@ module _ (F : Type 0) {R : Type 0} (f : Semantics R) (laws : FunctionLaws f) (al
     log_is = e ∙ ap (λ v. v ++ tail) arrival.whole ∙ append_assoc arrival.first (note.Arrived p ∷ arrival.rest) tail
 
     answered : AllAnswered (commands settle.front) arrival.first
-    answered = (run_settles F f laws alloc c items is cs run_is).answered settle.front behind settle.whole arrival.first (arrival.rest ++ tail) p has log_is
+    answered = (run_settles F f laws alloc c items is cs run_is).answered settle.front later settle.whole arrival.first (arrival.rest ++ tail) p has log_is
 
     answered_there : AllAnswered (commands settle.front) before
     answered_there = subst (AllAnswered (commands settle.front)) (sym arrival.whole) (all_answered_more (commands settle.front) arrival.first (note.Arrived p ∷ arrival.rest) answered)
 
-    not_begun : Each (λ x. began x.op before ≡ false) (commands behind)
-    not_begun = all_each (λ x. began x.op before ≡ false) (commands behind) none
+    not_begun : Each (λ x. began x.op before ≡ false) (commands later)
+    not_begun = all_each (λ x. began x.op before ≡ false) (commands later) none
 
-    -- a fact of each command, by whether it stands before the settle or behind it
-    each_command : (P : Command → Type 0) → Each P (commands settle.front) → Each P (commands behind) → Each P (commands items)
-    each_command P a b = subst (λ xs. Each P xs) (sym (ap commands settle.whole ∙ commands-append settle.front (msg.InSettle ∷ behind))) (each-append P (commands settle.front) (commands behind) a b)
+    -- a fact of each command, by whether it stands before the settle or after it
+    each_command : (P : Command → Type 0) → Each P (commands settle.front) → Each P (commands later) → Each P (commands items)
+    each_command P a b = subst (λ xs. Each P xs) (sym (ap commands settle.whole ∙ commands-append settle.front (msg.InSettle ∷ later))) (each-append P (commands settle.front) (commands later) a b)
 
     -- no move is under way
     none_busy : Each (λ x. is_busy x.op before ≡ false) (commands items)
     none_busy = each_command (λ x. is_busy x.op before ≡ false)
         (each_map {P = (λ x. has_answered x.op before ≡ true)} {Q = (λ x. is_busy x.op before ≡ false)} (λ x h. off_answered (began x.op before) (has_answered x.op before) h) (commands settle.front) answered_there)
-        (each_map {P = (λ x. began x.op before ≡ false)} {Q = (λ x. is_busy x.op before ≡ false)} (λ x h. off_began (began x.op before) (has_answered x.op before) h) (commands behind) not_begun)
+        (each_map {P = (λ x. began x.op before ≡ false)} {Q = (λ x. is_busy x.op before ≡ false)} (λ x h. off_began (began x.op before) (has_answered x.op before) h) (commands later) not_begun)
 
     not_moving : IsMoving items u before → ⊥
     not_moving m =
@@ -100,7 +100,7 @@ module _ (F : Type 0) {R : Type 0} (f : Semantics R) (laws : FunctionLaws f) (al
     begun_answered : Each (λ x. began x.op before ≡ true → has_answered x.op arrival.first ≡ true) (commands items)
     begun_answered = each_command (λ x. began x.op before ≡ true → has_answered x.op arrival.first ≡ true)
         (each_map {P = (λ x. has_answered x.op arrival.first ≡ true)} {Q = (λ x. began x.op before ≡ true → has_answered x.op arrival.first ≡ true)} (λ x h _. h) (commands settle.front) answered)
-        (each_map {P = (λ x. began x.op before ≡ false)} {Q = (λ x. began x.op before ≡ true → has_answered x.op arrival.first ≡ true)} (λ x off on. (let never : true ≡ false = sym on ∙ off in cc)) (commands behind) not_begun)
+        (each_map {P = (λ x. began x.op before ≡ false)} {Q = (λ x. began x.op before ≡ true → has_answered x.op arrival.first ≡ true)} (λ x off on. (let never : true ≡ false = sym on ∙ off in cc)) (commands later) not_begun)
 
     -- So the share that has the unit had it when the packet arrived
     module _ (ms : List (List ℕ)) (shared : members c items u before ≡ Some ms) where
@@ -116,7 +116,7 @@ module _ (F : Type 0) {R : Type 0} (f : Semantics R) (laws : FunctionLaws f) (al
           ap (members_after c.names (order_numbered items) u (first_owner u c.routes)) (ap installed here ∙ installed-append there.first (note.Installed by.op ∷ xs) ∙ ap (λ v. v ++ by.op ∷ installed xs) there.before)
           ∙ still_shared g u (first_owner u c.routes) by.op by.front (installed xs) ms by.unshared by.its
 
-      -- for behind an answer it would be installed twice
+      -- for after an answer it would be installed twice
       not_behind : (xs : List Note) → there.first ≡ arrival.first ++ xs → ⊥
       not_behind xs from =
           let tail_is : log ≡ there.first ++ note.Installed by.op ∷ (there.rest ++ tail) = e ∙ ap (λ v. v ++ tail) there.whole ∙ append_assoc there.first (note.Installed by.op ∷ there.rest) tail in
@@ -151,4 +151,4 @@ module _ (F : Type 0) {R : Type 0} (f : Semantics R) (laws : FunctionLaws f) (al
     by_place (Is_member at) = at
 
   pub settles : (cs : List Choice) → IsRun node_ready (node_step f) cs at_start → ArePlaces (job_of f c items) (run (node_step f) cs at_start).log → Settles c items f.kind (run (node_step f) cs at_start).log
-  settles cs run_is places behind before after p i output settle has e none = by_place cs run_is behind settle before after p i output has e none (places before after p i output e)
+  settles cs run_is places later before after p i output settle has e none = by_place cs run_is later settle before after p i output has e none (places before after p i output e)

@@ -41,7 +41,7 @@ module _ {R : Type 0} (f : Semantics R) (config : Config) (items : List Msg) whe
     -- what is processed of a unit is a front of what came, as long as no plain move handed it on; each packet once in any case
     pub in_order : (unit : units.Unit) → is_loose config items unit w.log ≡ false → IsFront (went f config items unit w.log) (came f config items unit w.log)
     pub once : (unit : units.Unit) (p : ℕ) → times p (went f config items unit w.log) ≤ times p (came f config items unit w.log)
-    -- what came and isn't processed is under way, and nothing else: behind what is processed in order, and each packet once in any case
+    -- what came and isn't processed is under way, and nothing else: after what is processed in order, and each packet once in any case
     pub in_place : (unit : units.Unit) → is_loose config items unit w.log ≡ false → went f config items unit w.log ++ path f config items unit w ≡ came f config items unit w.log
     pub each_in_place : (unit : units.Unit) (p : ℕ) → times p (went f config items unit w.log) + times p (path f config items unit w) ≡ times p (came f config items unit w.log)
     -- no packet comes twice: each that came is processed, or under way at one place
@@ -63,7 +63,7 @@ module _ {R : Type 0} (f : Semantics R) (config : Config) (items : List Msg) whe
     -- of a share; there it was if a share had its unit when it came
     pub places : ArePlaces (job_of f config items) w.log
     pub at_members : AreAtMembers config items f.kind w.log
-    -- behind a settle, and before a later command begins, it was where the rules of the switch send it
+    -- after a settle, and before a later command begins, it was where the rules of the switch send it
     pub settles : Settles config items f.kind w.log
     -- each command begins and is answered at most once, and what refuses it was true then
     pub answers : Answers config items w.log
@@ -85,7 +85,7 @@ module _ {R : Type 0} (f : Semantics R) (config : Config) (items : List Msg) whe
     pub has_record : (unit : units.Unit) (r : R) → fold f config items None (went f config items unit w.log) ≡ Some r → (i : ℕ) × (live_at w i unit ≡ Some r)
     -- it is at the owner of the unit by the rules of the switch: after a move that is done not at the source, after a refused one still there
     pub at_owner : (unit : units.Unit) (i : ℕ) (r : R) → live_at w i unit ≡ Some r → i ≡ owner config items unit w.log
-    -- each command of the input was answered, if none stands behind its end
+    -- each command of the input was answered, if none stands after its end
     pub answered : ends_last items ≡ true → (op : ℕ) (what : Order) → order_numbered items op ≡ Some what → length (answers_of op w.log) ≡ 1
     -- the switch changed its rules once for each move that is done
     pub installed : (op : ℕ) (source destination : List ℕ) (filter : Filter) (keep : Bool) → order_numbered items op ≡ Some (Move source destination filter keep) → answers_of op w.log ≡ Done ∷ [] → times_installed op w.log ≡ 1

@@ -16,7 +16,7 @@ use Rattle.net_world.specs.Jobs.{Course, Job, course_of, job_of, last_world}
 use Rattle.net_world.specs.Nodes.{node_ended, node_ready, node_step}
 use Rattle.net_world.specs.Start.{started}
 
--- a run's choices are few, and behind them some choice is enabled unless nothing is left to do
+-- a run's choices are few, and after them some choice is enabled unless nothing is left to do
 pub record RunEnds {F R : Type 0} (job : Job R) (course : Course F R) : Type 0 where
   pub few : length course.choices ≤ most_choices (length job.config.names) job.items (pieces_sent job.function course.start course.choices)
   pub goes_on : enabled_choices node_ready (last_world job.function course) ≡ [] → is_done node_ended (last_world job.function course) ≡ true

@@ -108,7 +108,7 @@ module _ {F R : Type 0} (f : Semantics R) (c : Config) (items : List Msg) (is : 
       ] refl
 
   -- a member has processed the last packet, and the home is to take its record
-  pub record IsBehind : Type 0 where
+  pub record HomeLacksLast : Type 0 where
     pub last : ℕ
     pub seen : List ℕ
     pub last_is : went f c items u w.log ≡ seen ++ last ∷ []
@@ -123,7 +123,7 @@ module _ {F R : Type 0} (f : Semantics R) (c : Config) (items : List Msg) (is : 
 
   pub data HasShared : Type 0 where
     Saw_all : live_at w i0 u ≡ kept (went f c items u w.log) → HasShared
-    Is_behind : IsBehind → HasShared
+    Home_lacks_last : HomeLacksLast → HasShared
 
   module _ (a : Ahead fr k.stage) where
     abbrev node : ℕ
@@ -161,7 +161,7 @@ module _ {F R : Type 0} (f : Semantics R) (c : Config) (items : List Msg) (is : 
     all_ran : ran_of (S f g) (A f g) u j.world.done ≡ a.seen ++ (a.last, node) ∷ []
     all_ran = all_done (S f g) (A f g) z j.world before since k ∙ a.all
 
-    behind : IsBehind
+    behind : HomeLacksLast
     behind = record {
       last = a.last;
       seen = packets a.seen;
@@ -184,4 +184,4 @@ module _ {F R : Type 0} (f : Semantics R) (c : Config) (items : List Msg) (is : 
     where
       by_stage : Sees fr k.stage → HasShared
       by_stage (Sees_all e) = Saw_all (home_live ∙ e ∙ kept_runs (processed fr k.stage) ∙ ap kept (sym went_is))
-      by_stage (Is_ahead a) = Is_behind (behind a)
+      by_stage (Is_ahead a) = Home_lacks_last (behind a)

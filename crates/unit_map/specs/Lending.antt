@@ -12,6 +12,6 @@ module _ (K R : RattleType) (o : OrdMembers K.Denot) (h : HashMembers K.Denot) w
   abbrev pub map_row : RattleType
   map_row = the_row K R (record { cmp = o.cmp }) (record { eq = o.eq }) (record { partial_cmp = o.partial_cmp }) (record { hash_input = h.hash_input })
 
-  -- the entry at the place has the record, or none, that was left behind the loan
+  -- the entry at the place has the record, or none, that was left after the loan
   abbrev pub LendsRecord : MutBor (Entries K.Denot R.Denot) → ℕ → MutBor (Option R.Denot) → Fml
   LendsRecord map place lent = Lends map_row (option_row R) map lent (with_record map.now place)
