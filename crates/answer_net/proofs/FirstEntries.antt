@@ -9,6 +9,7 @@ use Rattle.std.proofs.lemmas.Bool.Decides.{nat_tests}
 use Rattle.std.proofs.Math.Facts.{and_yes}
 use Rattle.ctrl_node.specs.declared.operation.Operation.{Operation}
 use Rattle.ctrl_node.specs.Operations.{OpenOperations}
+use Rattle.whole_outline.proofs.DivertedAll.{is_less}
 
 -- what a number's operation is, by a test; none fails it
 abbrev pub passes : (Operation → Bool) → Option Operation → Bool
@@ -17,13 +18,10 @@ passes test o = option_map_or test o false
 abbrev Entries : Type 0
 Entries = List (ℕ × Operation)
 
-less : (a b : ℕ) → T (is_lt (nat_cmp a b)) → a < b
-less a b h = grind (arith, nat_tests)
-
 none_below : (k j : ℕ) (es : Entries) → k ≤ j → T (below_all nat_cmp j es) → finite.find nat_cmp k es ≡ None
 none_below k j [] small below = refl
 none_below k j (e ∷ es) small below =
-    let first : j < e.0 = less j e.0 (and_yes (is_lt (nat_cmp j e.0)) (below_all nat_cmp j es) below).0 in
+    let first : j < e.0 = is_less j e.0 (and_yes (is_lt (nat_cmp j e.0)) (below_all nat_cmp j es) below).0 in
     let off : eq_by_cmp nat_cmp k e.0 ≡ false = grind (arith, nat_tests) in
     rw off (none_below k j es small (and_yes (is_lt (nat_cmp j e.0)) (below_all nat_cmp j es) below).1)
 
