@@ -28,6 +28,7 @@ pub data IsBegun (x : Operation) (sends : List (ℕ × Msg)) : Type 0 where
   Is_share : (plan : SharePlan) → x ≡ Share (share.begun plan) → sends ≡ share.begin_sends plan → IsBegun x sends
 
 module _ (c : ControllerState) (Allows : Msg → Step → Type 0) where
+  -- those of `ControllerWays`, with one for every operation that begins
   pub record Openings : Type 0 where
     pub still : (m : Msg) → Allows m (ctrl.still c)
     pub ended : Allows msg.End (ctrl.still (record c { end_came = true }))
