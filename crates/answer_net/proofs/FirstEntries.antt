@@ -39,7 +39,7 @@ module _ (test : Operation → Bool) where
   found_above : (j : ℕ) (es : Entries) (x : ℕ × Operation) → T (below_all nat_cmp j es) → find (λ e. test e.1) es ≡ Some x → j < x.0
   found_above j [] x below is = cc
   found_above j (e ∷ es) x below is = elim (test e.1) as (λ b. (if b then Some e else find (λ y. test y.1) es) ≡ Some x → j < x.0) [
-    | true ↦ λ here. let same : e ≡ x = ap (λ o. unwrap_or o e) here in subst (λ y. j < y.0) same (less j e.0 (and_yes (is_lt (nat_cmp j e.0)) (below_all nat_cmp j es) below).0)
+    | true ↦ λ here. let same : e ≡ x = ap (λ o. unwrap_or o e) here in subst (λ y. j < y.0) same (is_less j e.0 (and_yes (is_lt (nat_cmp j e.0)) (below_all nat_cmp j es) below).0)
     | false ↦ λ rest. found_above j es x (and_yes (is_lt (nat_cmp j e.0)) (below_all nat_cmp j es) below).1 rest
   ] is
 
