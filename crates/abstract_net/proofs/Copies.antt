@@ -3,7 +3,7 @@ use Rattle.std.proofs.Common.{◌≡◌, ℕ, ◌+◌, ◌≤◌, Bool, true, fa
 use Rattle.std.specs.Prelude.{if◌then◌else◌, ◌&&◌, ◌==◌, is_some, option_to_list}
 use Rattle.std.proofs.lemmas.Bool.Decides.{nat_tests, Decides-eqb}
 use Rattle.unit_machine.proofs.Machine.{Item, Put_no, State}
-use Rattle.unit_machine.proofs.Real.{Chunks, record_at, RPiece, RPhase, R_freezing, R_streaming, R_holding, R_passing, R_ending, R_restoring, R_returning, R_undoing, R_over, M_event, M_put_no, Frame, see, see_phase, Op}
+use Rattle.unit_machine.proofs.Real.{Chunks, record_at, RPiece, RPhase, R_freezing, R_streaming, R_holding, R_passing, R_ending, R_restoring, R_returning, R_undoing, R_over, M_event, M_put_no, Frame, see, see_phase}
 use Rattle.unit_machine.proofs.UnitPieces.{records}
 use Rattle.unit_machine.proofs.Labels.{Each, Without, Clean}
 use Rattle.unit_machine.proofs.Kept.{frozen_in, free_in}

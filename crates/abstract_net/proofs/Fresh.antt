@@ -8,7 +8,7 @@ use Rattle.unit_machine.proofs.Seats.{Seat, seat_shape}
 use Rattle.unit_machine.proofs.Fresh.{still_ca, still_cb, still_ran, fresh_sa, fresh_sb, fresh_sc}
 use Rattle.unit_machine.proofs.NetViews.{items}
 use Rattle.abstract_net.proofs.Net.{Msg, Sys, IsSys, I_did, World, inst_step, seen}
-use Rattle.abstract_net.proofs.Holding.{Seeing, frame, Sees_node, node_at, Holds}
+use Rattle.abstract_net.proofs.Holding.{Seeing, sides_of, frame, Sees_node, node_at, Holds}
 use Rattle.abstract_net.proofs.Insts.{Inst_goes, does}
 use Rattle.abstract_net.proofs.InstMoves.{Moves_inst, Any, Streams_out, Puts_in}
 use Rattle.abstract_net.proofs.InstWorld.{num, label, step_at, here, is_src, is_dst, is_third, shown}
@@ -67,7 +67,7 @@ module _ {R : Type 0} (S : Sys R) (laws : IsSys S) (z : Seeing) where
             let g = ran wh k at in
             (g.parts, g.refuse, some_ran (inst_does S.F wh g.parts g.refuse k it) (subst (λ o. Inst_goes S laws z own did (does S laws z own wh g.parts g.refuse k o)) is g.goes))
 
-        by_link : Shown_by z.op.src z.op.dst z.third x p y (it ∷ v) → (node_at S z x y).live ≡ after S.F x.done
+        by_link : Shown_by (sides_of z) x (record { from = p; to = y; items = it ∷ v }) → (node_at S z x y).live ≡ after S.F x.done
         by_link (By_sa ya p0 e) = let at = is_src S laws z w s h p y m rest y0 y1 waits it is ya in let g = its_ran At_a x.a at in ap (λ k. k.live) at ∙ fresh_sa S.F s it v g.0 g.1 e g.2
         by_link (By_sb yb p0 e) = let at = is_dst S laws z w s h p y m rest y0 y1 waits it is yb in let g = its_ran At_b x.b at in ap (λ k. k.live) at ∙ fresh_sb S.F s it v g.0 g.1 e g.2
         by_link (By_sc yc p0 e) = let at = is_third S laws z w s h p y m rest y0 y1 waits it is yc in ap (λ k. k.live) at ∙ fresh_sc S.F s it v e
@@ -84,7 +84,7 @@ module _ {R : Type 0} (S : Sys R) (laws : IsSys S) (z : Seeing) where
         From_sb : y ≡ z.op.dst → (it : Item R) (v : List (Item R)) → x.sb ≡ it ∷ v → From_switch
         From_sc : y ≡ z.third → (it : Item R) (v : List (Item R)) → x.sc ≡ it ∷ v → From_switch
 
-      from_switch : (it : Item R) (is : seen (frame S z) m ≡ Some it) → Shown_by z.op.src z.op.dst z.third x p y (it ∷ items (seen (frame S z)) rest) → From_switch
+      from_switch : (it : Item R) (is : seen (frame S z) m ≡ Some it) → Shown_by (sides_of z) x (record { from = p; to = y; items = it ∷ items (seen (frame S z)) rest }) → From_switch
       from_switch it is (By_sa ya p0 e) = From_sa ya
       from_switch it is (By_sb yb p0 e) = From_sb yb it (items (seen (frame S z)) rest) e
       from_switch it is (By_sc yc p0 e) = From_sc yc it (items (seen (frame S z)) rest) e

@@ -7,7 +7,7 @@ use Rattle.unit_machine.proofs.Real as Real
 use Rattle.unit_machine.proofs.Real.{record_at, M_enable, M_stream, M_delete, M_put, M_restore, M_event, M_piece, M_put_no, M_install, Op, Frame, see_phase, only_mine}
 use Rattle.unit_machine.proofs.Seen.{Apart, frame_of}
 use Rattle.unit_machine.proofs.Labels.{Each, Without, Clean}
-use Rattle.unit_machine.proofs.Pairs.{Nodes, expect}
+use Rattle.unit_machine.proofs.Pairs.{Nodes, Sides, expect}
 use Rattle.unit_machine.proofs.Rests.{is_over}
 use Rattle.unit_machine.proofs.NetViews.{items}
 use Rattle.flow_filter.specs.declared.filter.Filter.{Filter}
@@ -20,6 +20,9 @@ pub record Seeing : Type 0 where
   pub unit : units.Unit
   pub op : Op
   pub third : ℕ
+
+abbrev pub sides_of : Seeing → Sides
+sides_of z = record { source = z.op.src; destination = z.op.dst; third = z.third }
 
 abbrev pub EachSent : {M : Type 0} → (ℕ → M → Type 0) → List (ℕ × M) → Type 0
 EachSent P [] = Unit {0}

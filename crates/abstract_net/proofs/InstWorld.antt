@@ -14,7 +14,7 @@ use Rattle.unit_machine.proofs.Labels.{Each}
 use Rattle.unit_machine.proofs.Seats.{Seat, is_covered, seat_shape, seat_all, seat_loose, seat_goes_on, covered_stays, seat_allowed, base_of}
 use Rattle.unit_machine.proofs.NetViews.{items}
 use Rattle.abstract_net.proofs.Net.{inst_next, Msg, In_packet, Asked, Carry_on, Pass_on, Fence_on, Mv, Sys, IsSys, Inst_n, I_did, inst_step, World, links_after, at_node, seen, find_op}
-use Rattle.abstract_net.proofs.Holding.{Seeing, EachSent, frame, Label, Sees_node, shows, node_at, done_of, Holds, Ctrl_is}
+use Rattle.abstract_net.proofs.Holding.{Seeing, sides_of, EachSent, frame, Label, Sees_node, shows, node_at, done_of, Holds, Ctrl_is}
 use Rattle.abstract_net.proofs.Insts.{Inst_goes, does, carry_goes, pass_goes, fence_goes}
 use Rattle.abstract_net.proofs.InstMoves.{Moves_inst, Any, Streams_out, Puts_in, move_goes}
 use Rattle.abstract_net.proofs.Links.{sent, head, view_some, view_none, done_of-append, done_at, each_after}
@@ -263,7 +263,7 @@ module _ {R : Type 0} (S : Sys R) (laws : IsSys S) (z : Seeing) where
       not_zero : y ≡ 0 → ⊥
       not_zero e = let never : (0 == 0) ≡ false = subst (λ q. (q == 0) ≡ false) e y0 in cc
 
-      moves_inst : Shown_by z.op.src z.op.dst z.third x p y (it ∷ v) → Goes_to (inst_next S w p y m) s []
+      moves_inst : Shown_by (sides_of z) x (record { from = p; to = y; items = it ∷ v }) → Goes_to (inst_next S w p y m) s []
       moves_inst (By_sa ya p0 e) = by_sa ya p0 e
       moves_inst (By_sb yb p0 e) = by_sb yb p0 e
       moves_inst (By_sc yc p0 e) = by_sc yc p0 e

@@ -4,7 +4,7 @@ use Rattle.std.specs.Prelude.{if◌then◌else◌, ◌==◌}
 use Rattle.std.proofs.lemmas.Bool.Decides.{nat_tests}
 use Rattle.unit_machine.proofs.Machine.{Free, Drops, Buffers}
 use Rattle.unit_machine.proofs.Real as Real
-use Rattle.unit_machine.proofs.Real.{Chunks, RPiece, M_enable, M_stream, M_delete, M_put, M_restore, M_enabled, M_event, M_piece, M_deleted, M_put_ok, M_put_no, M_restored, M_fenced, M_forward, M_install, M_fence_to, where_true, add, sent_for}
+use Rattle.unit_machine.proofs.Real.{RPiece, M_enable, M_stream, M_delete, M_put, M_restore, M_enabled, M_event, M_piece, M_deleted, M_put_ok, M_put_no, M_restored, M_fenced, M_forward, M_install, M_fence_to, where_true, add, sent_for}
 use Rattle.unit_machine.proofs.Cuts.{marks, chop}
 use Rattle.unit_machine.proofs.SeenInst.{r_put}
 use Rattle.share_machine.proofs.Share as share
@@ -14,7 +14,7 @@ use Rattle.abstract_net.proofs.Net.{Msg, Msg.In_packet, Msg.Asked, Msg.Carry_on,
 use Rattle.abstract_net.proofs.Holding.{EachSent}
 use Rattle.abstract_net.proofs.Rest.{Nothing_of}
 use Rattle.abstract_net.proofs.UnderOld.{Leaves_inst, packet_in}
-use Rattle.abstract_net.proofs.ShareViews.{mine, share_frame, move_seen, old_seen, share_items, own_of}
+use Rattle.abstract_net.proofs.ShareViews.{mine, unit_share, move_seen, old_seen, share_items, own_of}
 use Rattle.abstract_net.proofs.MemberSteps.{any_step, as_was, does, Sees_member, ran_at}
 use Rattle.abstract_net.proofs.Shares.{Any.Old, as_old, Sharing, Seeing_share}
 use Rattle.nf_msgs.specs.declared.answer.Answer.{Answer}
@@ -113,7 +113,7 @@ module _ {R : Type 0} (S : Sys R) (A : Sharing S) (z : Seeing_share) where
     }
 
     -- a move's messages do nothing at a member
-    quiet_if : (b : Bool) (it : Item R) → member_does (share_frame S A z) y own it ≡ as_was S A laws z own → does S A laws z y own (where_true b it) ≡ as_was S A laws z own
+    quiet_if : (b : Bool) (it : Item R) → member_does (unit_share S A z) y own it ≡ as_was S A laws z own → does S A laws z y own (where_true b it) ≡ as_was S A laws z own
     quiet_if true it e = e
     quiet_if false it e = refl
 

@@ -8,12 +8,12 @@ use Rattle.unit_machine.proofs.Real as Real
 use Rattle.unit_machine.proofs.Real.{record_at, where_true, add, sent_for}
 use Rattle.unit_machine.proofs.UnitPieces.{first, first_of_one}
 use Rattle.unit_machine.proofs.Cuts.{record_first}
-use Rattle.share_machine.proofs.Share.{Item, Item.Shared, Item.Diverted, Item.Install, Item.Forward, Item.Get, Item.Sync, Item.Chunks, Item.Chunk, Item.Synced, Item.Stray, Frame, Did, member_does, stepped, chunk_of, if_mine, over}
+use Rattle.share_machine.proofs.Share.{Item, Item.Shared, Item.Diverted, Item.Install, Item.Forward, Item.Get, Item.Sync, Item.Chunks, Item.Chunk, Item.Synced, Item.Stray, UnitShare, Did, member_does, stepped, chunk_of, if_mine, over}
 use Rattle.share_machine.proofs.Share as share
 use Rattle.flow_filter.specs.declared.filter.Filter.{Filter}
 use Rattle.abstract_net.proofs.Net.{Sys, IsSys, Inst_n, process, inst_step, at_node}
 use Rattle.abstract_net.proofs.Rest.{none_mine}
-use Rattle.abstract_net.proofs.ShareViews.{mine, share_frame, fit, new_seen, share_items, own_of}
+use Rattle.abstract_net.proofs.ShareViews.{mine, unit_share, fit, new_seen, share_items, own_of}
 use Rattle.abstract_net.proofs.ShareLabels.{Share_label}
 use Rattle.abstract_net.proofs.Shares.{Any, Any.Old, Any.New, Share_msg, Share_msg.Shared_on, Share_msg.Diverted_on, Share_msg.S_asked, Share_msg.S_install, Share_msg.S_forward, Share_msg.S_get, Share_msg.S_sync, Share_msg.S_chunks, Share_msg.S_shared, Share_msg.S_synced, same, as_old, Sharing, IsSharing, shared_chunk, Member_did, member_step, ran_of, Seeing_share}
 use Rattle.record_table.proofs.UnitOrder.{same_unit_equiv, same_unit-true}
@@ -27,8 +27,8 @@ same_false true e = cc
 same_false false e = refl
 
 module _ {R : Type 0} (S : Sys R) (A : Sharing S) (laws : IsSys S) (z : Seeing_share) where
-  abbrev f : Frame R
-  f = share_frame S A z
+  abbrev f : UnitShare R
+  f = unit_share S A z
 
   -- what an instance does on any message
   abbrev pub any_step : Inst_n S → S.B.T → Any R → Member_did S A

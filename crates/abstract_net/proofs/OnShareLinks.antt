@@ -3,11 +3,11 @@
 use Rattle.std.proofs.Common.{◌≡◌, ℕ, Bool, true, false, List, [], ◌∷◌, ◌++◌, map, sym, ap, subst, ◌∙◌, refl}
 use Rattle.std.specs.Prelude.{if◌then◌else◌, ◌==◌}
 use Rattle.std.proofs.lemmas.Bool.Decides.{Decides-eqb}
-use Rattle.share_machine.proofs.Share.{Item, Item.Diverted, Item.Install, Item.Forward, Item.Fenced, Item.Chunks, Item.Chunk, Item.Synced, Frame, Phase, Phase.Fencing, Phase.Getting, Phase.Setting, Phase.Idle, Phase.Out, Phase.Syncing, only, chunk_of, if_mine, after}
+use Rattle.share_machine.proofs.Share.{Item, Item.Diverted, Item.Install, Item.Forward, Item.Fenced, Item.Chunks, Item.Chunk, Item.Synced, UnitShare, Phase, Phase.Fencing, Phase.Getting, Phase.Setting, Phase.Idle, Phase.Out, Phase.Syncing, only, chunk_of, if_mine, after}
 use Rattle.share_machine.proofs.Stages.{Turn, Turn.Going, Turn.Coming, Turn.Quiet, comes_from, served, Stage, Stage.Diverting, Stage.Fence_goes, Stage.Fenced_comes, Stage.Get_goes, Stage.Chunks_come, Stage.Spreads, Stage.Resting, Stage.Forwards, Stage.Carries, Stage.Chunk_comes, shape}
 
 -- the sender of an item to the controller, in a phase
-abbrev pub Sender : {R : Type 0} → Frame R → Phase → ℕ → Item R → Type 0
+abbrev pub Sender : {R : Type 0} → UnitShare R → Phase → ℕ → Item R → Type 0
 Sender f ph p Fenced = p ≡ f.home
 Sender f ph p (Chunks c) = p ≡ f.home
 Sender f ph p (Chunk c) = ph ≡ Out p
@@ -22,7 +22,7 @@ To_switch item = ⊥
 head_at : {X : Type 0} (h j : ℕ) (y x : X) (rest : List X) → only h (y ∷ []) j ≡ x ∷ rest → (j ≡ h) × (y ≡ x)
 head_at h j y x rest e = elim (j == h) as (λ b. (j == h) ≡ b → (if b then y ∷ [] else []) ≡ x ∷ rest → (j ≡ h) × (y ≡ x)) [ true ↦ λ t g. ((Decides-eqb j h).0 t, cc) | false ↦ λ _ g. cc ] refl e
 
-module _ {R : Type 0} (f : Frame R) where
+module _ {R : Type 0} (f : UnitShare R) where
   no_item : {P : Type 0} (it : Item R) (rest : List (Item R)) → ◌≡◌ {A = List (Item R)} [] (it ∷ rest) → P
   no_item it rest e = cc
 

@@ -9,10 +9,11 @@ use Rattle.unit_machine.proofs.Pairs.{expect, after_take, ctrl_from_a, ctrl_from
 use Rattle.unit_machine.proofs.Labels.{Each}
 use Rattle.unit_machine.proofs.Seats.{Seat, seat_shape, seat_all, seat_loose}
 use Rattle.unit_machine.proofs.NetViews.{items}
+use Rattle.unit_machine.proofs.ToRemove.{third_silent}
 use Rattle.abstract_net.proofs.Net.{ctrl_next, Msg, Sys, IsSys, Open, find_op, C_step, ctrl_step, World, links_after, seen}
-use Rattle.abstract_net.proofs.Holding.{Seeing, EachSent, frame, Label, shows, node_at, Holds, Ctrl_is}
+use Rattle.abstract_net.proofs.Holding.{Seeing, sides_of, EachSent, frame, Label, shows, node_at, Holds, Ctrl_is}
 use Rattle.abstract_net.proofs.Links.{sent, head, view_some, view_none, view_put, each_after, each_put}
-use Rattle.abstract_net.proofs.OnLinks.{cc_none, over_quiet}
+use Rattle.abstract_net.proofs.OnLinks.{over_quiet}
 use Rattle.abstract_net.proofs.InstWorld.{Goes_to, moves_on, same_order}
 use Rattle.abstract_net.proofs.CtrlUnit.{Ctrl_does, ctrl_unit, mdid}
 
@@ -62,7 +63,7 @@ module _ {R : Type 0} (S : Sys R) (laws : IsSys S) (z : Seeing) where
     shown : (it : Item R) → seen (frame S z) m ≡ Some it → it ∷ its rest ≡ expect z.op.src z.op.dst z.third x p 1
     shown it is = ap (λ o. add o (its rest)) (sym is) ∙ head S z w.link p 1 m rest waits no_input c.sends ∙ h.views p 1
 
-    by : (it : Item R) → seen (frame S z) m ≡ Some it → Shown_by z.op.src z.op.dst z.third x p 1 (it ∷ its rest)
+    by : (it : Item R) → seen (frame S z) m ≡ Some it → Shown_by (sides_of z) x (record { from = p; to = 1; items = it ∷ its rest })
     by it is = shown_by z.op.src z.op.dst z.third h.nodes x p 1 it (its rest) (shown it is)
 
     closed : (it : Item R) → find_op w.ops z.op.num ≡ None → seen (frame S z) m ≡ Some it → ⊥
@@ -76,7 +77,7 @@ module _ {R : Type 0} (S : Sys R) (laws : IsSys S) (z : Seeing) where
           | By_cb e _ _ ↦ two_not_1 1 z.op.dst h.nodes.b_is e refl
           | By_ac _ _ e ↦ cons_nil e over.0
           | By_bc _ _ e ↦ cons_nil e over.1
-          | By_cc _ _ e ↦ cons_nil e (cc_none S.F s)
+          | By_cc _ _ e ↦ cons_nil e (third_silent S.F s)
           | By_cs e _ _ ↦ (let never : 1 ≡ 0 = e in cc)
         ]
 
@@ -166,10 +167,10 @@ module _ {R : Type 0} (S : Sys R) (laws : IsSys S) (z : Seeing) where
           let x' = put_ctrl (record x { bc = v }) d in
           moves_on S laws z (ctrl_next S w p m) s Take_bc x' (next_holds x' d g (views_on z.op.dst x' pb (ctrl_from_b z.op.src z.op.dst z.third h.nodes x it v (sent S z 1 c.sends) d.to_a d.to_b d.to_s e g.to_a g.to_b g.to_s (λ j na nb n0. g.others j (no_test z.op.src j na) (no_test z.op.dst j nb) (no_test 0 j n0)))) (λ k. refl) refl refl refl refl refl) (taken_bc x e) tt
 
-      moves_ctrl : Shown_by z.op.src z.op.dst z.third x p 1 (it ∷ v) → Goes_to S laws z (ctrl_next S w p m) s []
+      moves_ctrl : Shown_by (sides_of z) x (record { from = p; to = 1; items = it ∷ v }) → Goes_to S laws z (ctrl_next S w p m) s []
       moves_ctrl (By_ac _ pa e) = by_ac pa e
       moves_ctrl (By_bc _ pb e) = by_bc pb e
-      moves_ctrl (By_cc _ _ e) = cons_nil e (cc_none S.F s)
+      moves_ctrl (By_cc _ _ e) = cons_nil e (third_silent S.F s)
       moves_ctrl (By_sa e _ _) = two_not_1 1 z.op.src h.nodes.a_is e refl
       moves_ctrl (By_sb e _ _) = two_not_1 1 z.op.dst h.nodes.b_is e refl
       moves_ctrl (By_sc e _ _) = two_not_1 1 z.third h.nodes.c_is e refl

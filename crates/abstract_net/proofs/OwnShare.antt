@@ -7,12 +7,12 @@ use Rattle.unit_machine.proofs.Real.{record_at, where_true, add, sent_for}
 use Rattle.unit_machine.proofs.Real as Real
 use Rattle.unit_machine.proofs.NetViews.{items-append}
 use Rattle.unit_machine.proofs.Seen.{sent_for-append}
-use Rattle.share_machine.proofs.Share.{Item, Item.Forward, Item.Get, Item.Sync, Item.Diverted, Item.Fenced, Item.Chunks, Item.Chunk, Item.Synced, Item.Stray, Frame, Phase, Phase.Fencing, Phase.Getting, Phase.Setting, Phase.Idle, Phase.Out, Phase.Syncing, C_did, has, without, only, nowhere, waits, serve, answers, sync_to, share_does}
+use Rattle.share_machine.proofs.Share.{Item, Item.Forward, Item.Get, Item.Sync, Item.Diverted, Item.Fenced, Item.Chunks, Item.Chunk, Item.Synced, Item.Stray, UnitShare, Phase, Phase.Fencing, Phase.Getting, Phase.Setting, Phase.Idle, Phase.Out, Phase.Syncing, C_did, has, without, only, nowhere, waits, serve, answers, sync_to, share_does}
 use Rattle.share_machine.proofs.Stages.{distinct, IsShare}
 use Rattle.share_machine.proofs.Lists.{self, has-without, apart_of}
 use Rattle.abstract_net.proofs.Net.{Sys}
 use Rattle.abstract_net.proofs.OnShareLinks.{Sender, Idle_empty}
-use Rattle.abstract_net.proofs.ShareViews.{mine, share_frame, fit, share_seen, share_items, as_share}
+use Rattle.abstract_net.proofs.ShareViews.{mine, unit_share, fit, share_seen, share_items, as_share}
 use Rattle.abstract_net.proofs.ShareLinks.{lone_view}
 use Rattle.abstract_net.proofs.Shares.{Any, Any.New, Share_msg.S_forward, Share_msg.S_get, Share_msg.S_sync, same, Sharing, Open_share, Told, Told.Is_fenced, Told.Has_chunks, Told.Has_chunk, Told.Is_synced, Told.Has_packet, syncs, Share_did, s_goes, s_served, share_row, Seeing_share}
 use Rattle.nf_function.specs.declared.unit.Unit as units
@@ -35,9 +35,9 @@ syncs_sent n home j k cs (m ∷ ms) d =
       ] refl
     ]
 
-module _ {R : Type 0} (S : Sys R) (A : Sharing S) (z : Seeing_share) (is : IsShare (share_frame S A z)) (insts : (k : ℕ) → has z.members k ≡ true → 2 ≤ k) where
-  abbrev f : Frame R
-  f = share_frame S A z
+module _ {R : Type 0} (S : Sys R) (A : Sharing S) (z : Seeing_share) (is : IsShare (unit_share S A z)) (insts : (k : ℕ) → has z.members k ≡ true → 2 ≤ k) where
+  abbrev f : UnitShare R
+  f = unit_share S A z
 
   -- what the unit sees of a row, against what the share does with an item
   pub record Sees_row (r : Share_did R) (d : C_did R) : Type 0 where

@@ -6,7 +6,7 @@ use Rattle.std.proofs.lemmas.Bool.Decides.{nat_tests}
 use Rattle.unit_machine.proofs.Machine.{Where, At_a, At_b, At_c, Ran, after, Free, idle, Item, Carry, Stray, Phase, Idle}
 use Rattle.unit_machine.proofs.Lists.{firsts}
 use Rattle.unit_machine.proofs.Real as Real
-use Rattle.unit_machine.proofs.Real.{record_at, M_enable, M_stream, M_delete, M_put, M_restore, M_enabled, M_event, M_piece, M_deleted, M_put_ok, M_put_no, M_restored, M_fenced, M_forward, M_install, M_fence_to, where_true, add, only_mine}
+use Rattle.unit_machine.proofs.Real.{record_at, M_enable, M_stream, M_delete, M_put, M_restore, M_enabled, M_event, M_piece, M_deleted, M_put_ok, M_put_no, M_restored, M_fenced, M_forward, M_install, M_fence_to, where_true, add, only_mine, off_if}
 use Rattle.unit_machine.proofs.Seen.{Apart}
 use Rattle.unit_machine.proofs.Labels.{Each, Without, Clean, each_both}
 use Rattle.unit_machine.proofs.Pairs.{Nodes, expect}
@@ -283,10 +283,6 @@ module _ {R : Type 0} (S : Sys R) (z : Seeing) where
   mv_no_carry (M_put_no k why cs) = no_if (k == n) _ refl
   mv_no_carry (M_restored k) = no_if (k == n) _ refl
   mv_no_carry (M_fenced k) = no_if (k == n) _ refl
-
-  pub off_if : (t : Bool) (it : Item R) → where_true t it ≡ None → t ≡ false
-  off_if true it e = let never : Some it ≡ None = e in cc
-  off_if false it e = refl
 
   pub mv_nothing : (g : Filter) (m : Real.Msg R) → Real.seen (frame S z) m ≡ None → Mv_label S z g m → Mv_nothing S u g m
   mv_nothing g (M_enable k r) e l = (l.0 ∙ off_if (k == n) _ e, l.1)

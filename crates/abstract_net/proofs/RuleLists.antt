@@ -6,6 +6,7 @@ use Rattle.flow_filter.specs.declared.filter.Filter.{Filter}
 use Rattle.unit_machine.proofs.Machine.{Rule}
 use Rattle.unit_machine.proofs.Labels.{Each, each-append}
 use Rattle.abstract_net.proofs.Net.{Ruling, find_rule, change_rules, has_rule, ruled_by, new_rule, holding, set_rule, hold, held_of, rule_of}
+use Rattle.unit_machine.proofs.Lists.{none_is}
 
 abbrev pub KeepsNumber : (Ruling → Ruling) → Type 0
 KeepsNumber change = (r : Ruling) → (change r).num ≡ r.num
@@ -50,10 +51,6 @@ find-append_own n x (r ∷ rs) on none =
       | false ↦ λ left. find-append_own n x rs on left
     ] none
 
-nothing : {X : Type 0} (o : Option X) → is_some o ≡ false → o ≡ None
-nothing None e = refl
-nothing (Some x) e = cc
-
 -- a rule is set
 pub find_set_other : (n m : ℕ) (g : Filter) (k : Rule) (rs : List Ruling) → (m == n) ≡ false → find_rule n (set_rule m g k rs) ≡ find_rule n rs
 find_set_other n m g k rs off =
@@ -66,7 +63,7 @@ pub set_own_rule : (n : ℕ) (g : Filter) (k : Rule) (rs : List Ruling) → (n =
 set_own_rule n g k rs self =
     elim (has_rule n rs) as (λ b. has_rule n rs ≡ b → rule_of (find_rule n (if b then change_rules n (ruled_by g k) rs else rs ++ new_rule n g k ∷ [])) ≡ k) [
       | true ↦ λ e. ap rule_of (find-change_own n (ruled_by g k) (λ r. refl) rs) ∙ by_found (find_rule n rs) e
-      | false ↦ λ e. ap rule_of (find-append_own n (new_rule n g k) rs self (nothing (find_rule n rs) e))
+      | false ↦ λ e. ap rule_of (find-append_own n (new_rule n g k) rs self (none_is (find_rule n rs) e))
     ] refl
   where
     by_found : (o : Option Ruling) → is_some o ≡ true → rule_of (option_map (ruled_by g k) o) ≡ k
@@ -77,7 +74,7 @@ pub set_own_held : (n : ℕ) (g : Filter) (k : Rule) (rs : List Ruling) → (n =
 set_own_held n g k rs self =
     elim (has_rule n rs) as (λ b. has_rule n rs ≡ b → held_of (find_rule n (if b then change_rules n (ruled_by g k) rs else rs ++ new_rule n g k ∷ [])) ≡ held_of (find_rule n rs)) [
       | true ↦ λ e. ap held_of (find-change_own n (ruled_by g k) (λ r. refl) rs) ∙ same_held (find_rule n rs)
-      | false ↦ λ e. ap held_of (find-append_own n (new_rule n g k) rs self (nothing (find_rule n rs) e)) ∙ sym (ap held_of (nothing (find_rule n rs) e))
+      | false ↦ λ e. ap held_of (find-append_own n (new_rule n g k) rs self (none_is (find_rule n rs) e)) ∙ sym (ap held_of (none_is (find_rule n rs) e))
     ] refl
   where
     same_held : (o : Option Ruling) → held_of (option_map (ruled_by g k) o) ≡ held_of o

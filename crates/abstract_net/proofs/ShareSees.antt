@@ -4,9 +4,9 @@ use Rattle.std.proofs.Common.{◌≡◌, ℕ, ◌≤◌, Bool, true, false, Opti
 use Rattle.std.specs.Prelude.{if◌then◌else◌, ◌==◌, option_map}
 use Rattle.std.proofs.lemmas.Bool.Decides.{nat_tests, Decides-eqb}
 use Rattle.unit_machine.proofs.Real as Real
-use Rattle.unit_machine.proofs.Real.{RPiece, record_at, M_enable, M_stream, M_delete, M_put, M_restore, M_enabled, M_event, M_piece, M_deleted, M_put_ok, M_put_no, M_restored, M_fenced, M_forward, M_install, M_fence_to, Op, where_true, add, sent_for}
+use Rattle.unit_machine.proofs.Real.{record_at, M_fenced, M_install, M_fence_to, Op, where_true, add, sent_for}
 use Rattle.unit_machine.proofs.Labels.{Each}
-use Rattle.share_machine.proofs.Share.{Item, Item.Carry, Item.Fence, Item.Shared, Item.Diverted, Item.Install, Item.Forward, Item.Get, Item.Sync, Item.Fenced, Item.Chunks, Item.Chunk, Item.Synced, Item.Stray, Frame, Phase, C_did, has, waits, share_does}
+use Rattle.share_machine.proofs.Share.{Item, Item.Carry, Item.Fence, Item.Shared, Item.Diverted, Item.Install, Item.Forward, Item.Get, Item.Sync, Item.Fenced, Item.Chunks, Item.Chunk, Item.Synced, Item.Stray, UnitShare, Phase, C_did, has, waits, share_does}
 use Rattle.share_machine.proofs.Stages.{IsShare}
 use Rattle.flow_filter.specs.declared.filter.Filter.{Filter}
 use Rattle.abstract_net.proofs.Net.{Msg.In_packet, Msg.Asked, Msg.Carry_on, Msg.Pass_on, Msg.Fence_on, Msg.Mv, Sys, Open, find_op, row, filter_for, wrap, found, numbered, num_of}
@@ -17,7 +17,7 @@ use Rattle.abstract_net.proofs.ShareLists.{found_num}
 use Rattle.abstract_net.proofs.ShareRows.{Told_of, Sent_by, share_row_by, taking_found}
 use Rattle.abstract_net.proofs.GlobalAll.{Global_all}
 use Rattle.abstract_net.proofs.OnShareLinks.{Sender, Idle_empty}
-use Rattle.abstract_net.proofs.ShareViews.{mine, share_frame, fit, move_seen, old_seen, new_seen, share_seen, share_items, as_share}
+use Rattle.abstract_net.proofs.ShareViews.{mine, unit_share, fit, move_seen, old_seen, new_seen, share_seen, share_items, as_share}
 use Rattle.abstract_net.proofs.ShareLabels.{taking_own, taking_other, queue_other}
 use Rattle.abstract_net.proofs.MemberMoves.{Unseen}
 use Rattle.abstract_net.proofs.OwnShare.{Sees_row, fenced_sees, chunks_sees, chunk_sees, synced_sees, packet_sees}
@@ -39,8 +39,8 @@ found_set_other n ph q (x ∷ es) k off = elim (x.num == n) as (λ b. (x.num == 
 ] refl
 
 module _ {R : Type 0} (S : Sys R) (A : Sharing S) (z : Seeing_share) where
-  abbrev f : Frame R
-  f = share_frame S A z
+  abbrev f : UnitShare R
+  f = unit_share S A z
 
   -- what the unit sees of a step of the shares
   pub record Sees_share (s : Shares_step S A) (d : C_did R) : Type 0 where

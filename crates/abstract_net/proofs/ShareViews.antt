@@ -5,7 +5,7 @@ use Rattle.std.specs.Prelude.{if◌then◌else◌, ◌&&◌, ◌==◌}
 use Rattle.unit_machine.proofs.Real as Real
 use Rattle.unit_machine.proofs.Real.{record_at, M_fenced, M_install, M_fence_to, where_true}
 use Rattle.unit_machine.proofs.NetViews.{items}
-use Rattle.share_machine.proofs.Share.{Item, Item.Carry, Item.Fence, Item.Shared, Item.Diverted, Item.Install, Item.Forward, Item.Get, Item.Sync, Item.Fenced, Item.Chunks, Item.Chunk, Item.Synced, Item.Stray, Frame, Phase, View, has}
+use Rattle.share_machine.proofs.Share.{Item, Item.Carry, Item.Fence, Item.Shared, Item.Diverted, Item.Install, Item.Forward, Item.Get, Item.Sync, Item.Fenced, Item.Chunks, Item.Chunk, Item.Synced, Item.Stray, UnitShare, Phase, View, has}
 use Rattle.abstract_net.proofs.Net.{Msg, Msg.In_packet, Msg.Asked, Msg.Carry_on, Msg.Pass_on, Msg.Fence_on, Msg.Mv, Sys}
 use Rattle.abstract_net.proofs.Shares.{Any, Any.Old, Any.New, Share_msg, Share_msg.Shared_on, Share_msg.Diverted_on, Share_msg.S_asked, Share_msg.S_install, Share_msg.S_forward, Share_msg.S_get, Share_msg.S_sync, Share_msg.S_chunks, Share_msg.S_shared, Share_msg.S_synced, same, Sharing, Open_share, find_share, Whole, ran_of, Seeing_share}
 use Rattle.nf_function.specs.declared.unit.Unit as units
@@ -19,8 +19,8 @@ module _ {R : Type 0} (S : Sys R) (A : Sharing S) (z : Seeing_share) where
   abbrev pub mine : ℕ → Bool
   mine p = same_unit (S.unit_of p) z.unit
 
-  abbrev pub share_frame : Frame R
-  share_frame = record { mine = mine; F = S.F; home = z.home; members = z.members; member_of = λ p. A.member z.members p }
+  abbrev pub unit_share : UnitShare R
+  unit_share = record { mine = mine; F = S.F; home = z.home; members = z.members; member_of = λ p. A.member z.members p }
 
   abbrev pub fit : Bool → Item R → Item R
   fit b item = if b then item else Stray

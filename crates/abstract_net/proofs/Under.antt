@@ -6,8 +6,8 @@ use Rattle.std.proofs.lemmas.Bool.Decides.{nat_tests, Decides-eqb}
 use Rattle.actor_net.proofs.LinkLemmas.{neither}
 use Rattle.unit_machine.proofs.Real.{M_install, M_fence_to, M_forward, where_true, add, sent_for}
 use Rattle.unit_machine.proofs.Labels.{Each}
-use Rattle.share_machine.proofs.Share.{Item.Carry, Frame, ShareMachineStep.Arrive, has, if_mine, moved}
-use Rattle.share_machine.proofs.Stages.{Stage, Stage.Diverting, Stage.Fence_goes, Stage.Fenced_comes, Stage.Get_goes, Stage.Chunks_come, Stage.Spreads, Stage.Resting, Stage.Forwards, Stage.Carries, Stage.Chunk_comes, front, processed, early, late, shape, IsFront, IsShare, FitsFrame}
+use Rattle.share_machine.proofs.Share.{Item.Carry, UnitShare, ShareMachineStep.Arrive, has, if_mine, moved}
+use Rattle.share_machine.proofs.Stages.{Stage, Stage.Diverting, Stage.Fence_goes, Stage.Fenced_comes, Stage.Get_goes, Stage.Chunks_come, Stage.Spreads, Stage.Resting, Stage.Forwards, Stage.Carries, Stage.Chunk_comes, front, processed, early, late, shape, IsFront, IsShare, FitsStage}
 use Rattle.share_machine.proofs.Steps.{goes_on}
 use Rattle.share_machine.proofs.Heads.{to_members, meets_sw, meets_to}
 use Rattle.share_machine.proofs.Places.{Grows, placed}
@@ -19,7 +19,7 @@ use Rattle.abstract_net.proofs.AsMoves.{old_sends, old_sends-append, old_sends-o
 use Rattle.abstract_net.proofs.NewMessages.{each_sent_map, new_head}
 use Rattle.abstract_net.proofs.GlobalAll.{Of_share, Global_all}
 use Rattle.abstract_net.proofs.UnderOld.{inst_leaves, ctrl_leaves}
-use Rattle.abstract_net.proofs.ShareViews.{mine, share_frame, share_seen, share_items, own_at, Share_holds}
+use Rattle.abstract_net.proofs.ShareViews.{mine, unit_share, share_seen, share_items, own_at, Share_holds}
 use Rattle.abstract_net.proofs.ShareLinks.{Goes, Goes.Nothing, Goes.Moves, holds_alike}
 use Rattle.abstract_net.proofs.ShareLabels.{label_of}
 use Rattle.abstract_net.proofs.MemberSteps.{does, Sees_member, member_sees}
@@ -31,41 +31,41 @@ use Rattle.abstract_net.proofs.UnderInput.{Comes, Comes.Not_its, Comes.Arrives, 
 use Rattle.abstract_net.proofs.Shares.{Any, Any.Old, Any.New, Share_msg, Share_msg.Shared_on, Share_msg.Diverted_on, Share_msg.S_asked, Share_msg.S_install, Share_msg.S_forward, Share_msg.S_get, Share_msg.S_sync, Share_msg.S_chunks, Share_msg.S_shared, Share_msg.S_synced, olds, as_old, Sharing, IsSharing, told_by, by_share, share_sends, arrive_sends, Whole, whole_inst, whole_ctrl, whole_switch, whole_input, Seeing_share}
 
 module _ {R : Type 0} (S : Sys R) (A : Sharing S) (z : Seeing_share) where
-  abbrev pub f : Frame R
-  f = share_frame S A z
+  abbrev pub f : UnitShare R
+  f = unit_share S A z
 
   -- with the unit's packets that arrived before and since they are diverted
   pub record Under (w : Whole S A) (before since : List ℕ) : Type 0 where
-    pub is : IsShare (share_frame S A z)
+    pub is : IsShare (unit_share S A z)
     pub insts : (k : ℕ) → has z.members k ≡ true → 2 ≤ k
     pub covered : S.takes z.filter z.unit ≡ true
     pub stage : Stage R
-    pub fits : FitsFrame (share_frame S A z) stage
-    pub holds : Share_holds S A z w (shape (share_frame S A z) stage)
+    pub fits : FitsStage (unit_share S A z) stage
+    pub holds : Share_holds S A z w (shape (unit_share S A z) stage)
     pub labels : (i j : ℕ) → (i == 0) && (j == 0) ≡ false → Each (Nothing_of S z.unit i) (olds (w.link i j))
     pub rules : (k : ℕ) → Each (Rest_rule S z.unit) (w.inst k).rules
     pub ops : Each (Rest_op S z.unit) w.ops
     pub away : (k : ℕ) → (k == z.home) ≡ false → S.B.at z.unit (w.inst k).live ≡ None
     pub before_is : before ≡ early stage
-    pub since_is : since ≡ late (share_frame S A z) stage
+    pub since_is : since ≡ late (unit_share S A z) stage
 
   -- a unit that was at a stage is under its share still
   pub record Goes_on (s : Stage R) (w : Whole S A) (before since : List ℕ) : Type 0 where
     pub under : Under w before since
-    pub longer : (k : ℕ) → has z.members k ≡ true → IsFront (front (share_frame S A z) s k) (front (share_frame S A z) under.stage k)
-    pub placed : Grows (share_frame S A z) (processed (share_frame S A z) s) (processed (share_frame S A z) under.stage)
+    pub longer : (k : ℕ) → has z.members k ≡ true → IsFront (front (unit_share S A z) s k) (front (unit_share S A z) under.stage k)
+    pub placed : Grows (unit_share S A z) (processed (unit_share S A z) s) (processed (unit_share S A z) under.stage)
 
   -- what a step leaves of the stage
   record NextStage (s : Stage R) (w : Whole S A) (before since : List ℕ) : Type 0 where
     stage : Stage R
-    fits : FitsFrame f stage
+    fits : FitsStage f stage
     holds : Share_holds S A z w (shape f stage)
     before_is : early stage ≡ early s ++ before
     since_is : late f stage ≡ late f s ++ since
     longer : (k : ℕ) → has z.members k ≡ true → IsFront (front f s k) (front f stage k)
     placed : Grows f (processed f s) (processed f stage)
 
-  stays : (s : Stage R) → FitsFrame f s → (w : Whole S A) → Share_holds S A z w (shape f s) → (before since : List ℕ) → before ≡ [] → since ≡ [] → NextStage s w before since
+  stays : (s : Stage R) → FitsStage f s → (w : Whole S A) → Share_holds S A z w (shape f s) → (before since : List ℕ) → before ≡ [] → since ≡ [] → NextStage s w before since
   stays s h w holds before since b e = record {
     stage = s;
     fits = h;
@@ -76,7 +76,7 @@ module _ {R : Type 0} (S : Sys R) (A : Sharing S) (z : Seeing_share) where
     placed = record { by = []; is = sym (append-nil (processed f s)); places = tt };
   }
 
-  next : IsShare f → (s : Stage R) → FitsFrame f s → (w : Whole S A) → Goes S A z w (shape f s) → NextStage s w [] []
+  next : IsShare f → (s : Stage R) → FitsStage f s → (w : Whole S A) → Goes S A z w (shape f s) → NextStage s w [] []
   next is s h w (Nothing holds) = stays s h w holds [] [] refl refl
   next is s h w (Moves mv quiet holds) =
       let on = goes_on f is s h mv in
@@ -92,13 +92,13 @@ module _ {R : Type 0} (S : Sys R) (A : Sharing S) (z : Seeing_share) where
       }
 
   -- what else a step keeps
-  pub record Keeps (w : Whole S A) : Type 0 where
+  pub record KeepsRest (w : Whole S A) : Type 0 where
     pub labels : (i j : ℕ) → (i == 0) && (j == 0) ≡ false → Each (Nothing_of S z.unit i) (olds (w.link i j))
     pub rules : (k : ℕ) → Each (Rest_rule S z.unit) (w.inst k).rules
     pub ops : Each (Rest_op S z.unit) w.ops
     pub away : (k : ℕ) → (k == z.home) ≡ false → S.B.at z.unit (w.inst k).live ≡ None
 
-  leads_to : (s : Stage R) (w' : Whole S A) (early_ps late_ps before since : List ℕ) → IsShare f → ((k : ℕ) → has z.members k ≡ true → 2 ≤ k) → S.takes z.filter z.unit ≡ true → NextStage s w' early_ps late_ps → Keeps w' → before ≡ early s ++ early_ps → since ≡ late f s ++ late_ps → Goes_on s w' before since
+  leads_to : (s : Stage R) (w' : Whole S A) (early_ps late_ps before since : List ℕ) → IsShare f → ((k : ℕ) → has z.members k ≡ true → 2 ≤ k) → S.takes z.filter z.unit ≡ true → NextStage s w' early_ps late_ps → KeepsRest w' → before ≡ early s ++ early_ps → since ≡ late f s ++ late_ps → Goes_on s w' before since
   leads_to s w' early_ps late_ps before since is insts covered n k before_is since_is = record {
     under = record {
       is = is;
@@ -118,7 +118,7 @@ module _ {R : Type 0} (S : Sys R) (A : Sharing S) (z : Seeing_share) where
     placed = n.placed;
   }
 
-  pub goes_to : (w w' : Whole S A) (before since : List ℕ) (u : Under w before since) → Goes S A z w' (shape f u.stage) → Keeps w' → Goes_on u.stage w' before since
+  pub goes_to : (w w' : Whole S A) (before since : List ℕ) (u : Under w before since) → Goes S A z w' (shape f u.stage) → KeepsRest w' → Goes_on u.stage w' before since
   goes_to w w' before since u goes k =
       leads_to u.stage w' [] [] before since u.is u.insts u.covered (next u.is u.stage u.fits w' goes) k (u.before_is ∙ sym (append-nil (early u.stage))) (u.since_is ∙ sym (append-nil (late f u.stage)))
 
@@ -155,7 +155,7 @@ module _ {R : Type 0} (S : Sys R) (A : Sharing S) (z : Seeing_share) where
 
       pub record Keeps_inst (m : Any R) : Type 0 where
         pub sees : Sees_member S A laws z y (w.inst y).live (did_at S A laws z w y m) (does S A laws z y (own_at S A z w y) (share_seen S A z y m))
-        pub keeps : Keeps (whole_inst S A w p y m)
+        pub keeps : KeepsRest (whole_inst S A w p y m)
 
       -- a plain packet of the unit comes to home alone
       carried_home : (q : ℕ) (rest : List (Any R)) → w.link p y ≡ Old (Carry_on q) ∷ rest → mine S A z q ≡ true → (y == z.home) ≡ true
@@ -244,7 +244,7 @@ module _ {R : Type 0} (S : Sys R) (A : Sharing S) (z : Seeing_share) where
         all_olds : (xs : List (ℕ × Msg R)) (m : Any R) → old_sends (as_old xs ++ (by_share S A w.shares p (told_by S A w.shares m)).sends) ≡ xs
         all_olds xs m = old_sends-append (as_old xs) (by_share S A w.shares p (told_by S A w.shares m)).sends ∙ ap (λ v. v ++ old_sends (by_share S A w.shares p (told_by S A w.shares m)).sends) (old_sends-old xs) ∙ ap (λ v. xs ++ v) (by_share_new S A w.shares p (told_by S A w.shares m)) ∙ append-nil xs
 
-        by_kind : (m : Any R) → w.link p 1 ≡ m ∷ rest → Keeps (whole_ctrl S A w p m)
+        by_kind : (m : Any R) → w.link p 1 ≡ m ∷ rest → KeepsRest (whole_ctrl S A w p m)
         by_kind (New m) at = record { labels = after_new w.link p 1 m rest (by_share S A w.shares p (told_by S A w.shares (New m))).sends [] at (by_share_new S A w.shares p (told_by S A w.shares (New m))) u.labels tt; rules = u.rules; ops = u.ops; away = u.away }
         by_kind (Old m) at =
             let few = head_old (Below w.next) m rest (w.link p 1) at (g.moves.messages p 1 no_input) in
@@ -287,7 +287,7 @@ module _ {R : Type 0} (S : Sys R) (A : Sharing S) (z : Seeing_share) where
         label (Old m) at = head_old (Nothing_of S z.unit p) m rest (w.link p 0) at (u.labels p 0 no_input)
         label (New m) at = label_of S A z w g u.covered (shape f u.stage).phase (shape f u.stage).queue u.holds.share 0 m (new_head (Of_share S w.shares) w.link g.messages p 0 m rest no_input at)
 
-        by_kind : (m : Any R) → w.link p 0 ≡ m ∷ rest → Keeps (whole_switch S A w p m)
+        by_kind : (m : Any R) → w.link p 0 ≡ m ∷ rest → KeepsRest (whole_switch S A w p m)
         by_kind (Old m) at = record { labels = after_old w.link p 0 m rest (as_old (sw_sends m)) (sw_sends m) at (old_sends-old (sw_sends m)) u.labels (switch_labels p m (head_old (Nothing_of S z.unit p) m rest (w.link p 0) at (u.labels p 0 no_input))); rules = u.rules; ops = u.ops; away = u.away }
         by_kind (New m) at = record { labels = after_new w.link p 0 m rest (share_sends S A m) (old_sends (share_sends S A m)) at refl u.labels (fence_labels m); rules = u.rules; ops = u.ops; away = u.away }
 
@@ -298,7 +298,7 @@ module _ {R : Type 0} (S : Sys R) (A : Sharing S) (z : Seeing_share) where
     abbrev its_late : Stage R → ℕ → List ℕ
     its_late s q = if (shape f s).diverts then if_mine f q else []
 
-    input_next : IsShare f → (s : Stage R) → FitsFrame f s → (w : Whole S A) (q : ℕ) → Comes S A z w (shape f s) q → NextStage s w (its_early s q) (its_late s q)
+    input_next : IsShare f → (s : Stage R) → FitsStage f s → (w : Whole S A) (q : ℕ) → Comes S A z w (shape f s) q → NextStage s w (its_early s q) (its_late s q)
     input_next is s h w q (Not_its other holds) = let b = (shape f s).diverts in stays s h w holds (its_early s q) (its_late s q) (ap (λ ps. if b then [] else ps) other ∙ neither b) (ap (λ ps. if b then ps else []) other ∙ neither b)
     input_next is s h w q (Arrives holds) = let on = goes_on f is s h (Arrive q) in record {
       stage = on.next;

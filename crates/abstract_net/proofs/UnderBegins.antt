@@ -15,7 +15,7 @@ use Rattle.abstract_net.proofs.AsMoves.{old_sends, old_sends-old}
 use Rattle.abstract_net.proofs.ShareLists.{found_each, find_more}
 use Rattle.abstract_net.proofs.GlobalAll.{Disjoint, disjoint_sym, Global_all}
 use Rattle.abstract_net.proofs.GlobalBegins.{meets_none}
-use Rattle.abstract_net.proofs.ShareViews.{share_frame, share_items, own_of, own_at, as_share}
+use Rattle.abstract_net.proofs.ShareViews.{unit_share, share_items, own_of, own_at, as_share}
 use Rattle.abstract_net.proofs.ShareLinks.{none_links, view_put, lone_unseen, Goes.Nothing}
 use Rattle.abstract_net.proofs.MemberMoves.{unseen_view}
 use Rattle.abstract_net.proofs.Under.{Under, Goes_on, goes_to, put_labels}
@@ -26,7 +26,7 @@ module _ {R : Type 0} (S : Sys R) (A : Sharing S) (z : Seeing_share) (w : Whole 
   put_unseen : (ops : List (Open R)) (es : List Open_share) (next k : ℕ) (sends : List (ℕ × Any R)) (ys : List (ℕ × Msg R)) → old_sends sends ≡ ys → ((j : ℕ) → share_items S A z j (sent_for j sends) ≡ []) → find_share es z.num ≡ find_share w.shares z.num → Each (Rest_op S z.unit) ops → EachSent (λ _ m. Nothing_of S z.unit k m) ys → Goes_on S A z u.stage (record w { ops = ops; shares = es; next = next; link = λ i j. w.link i j ++ (if i == k then sent_for j sends else []) }) before since
   put_unseen ops es next k sends ys is none same opens new =
       let w' : Whole S A = record w { ops = ops; shares = es; next = next; link = λ i j. w.link i j ++ (if i == k then sent_for j sends else []) } in
-      let x = shape (share_frame S A z) u.stage in
+      let x = shape (unit_share S A z) u.stage in
       goes_to S A z w w' before since u (Nothing (record {
         links = λ i j e. view_put S A z w.link k sends i j ∙ ap (λ v. v ++ (if i == k then share_items S A z j (sent_for j sends) else [])) (u.holds.links i j e) ∙ none_links x k i j (λ j. share_items S A z j (sent_for j sends)) none;
         own = u.holds.own;
@@ -38,11 +38,11 @@ module _ {R : Type 0} (S : Sys R) (A : Sharing S) (z : Seeing_share) (w : Whole 
 
   -- a new number isn't the share's
   new_num : Global_all S A w → (n : ℕ) → w.next ≤ n → (n == z.num) ≡ false
-  new_num g n fresh = let below : z.num < w.next = found_each (λ e. e.num < w.next) w.shares z.num (as_share S A z (shape (share_frame S A z) u.stage).phase (shape (share_frame S A z) u.stage).queue) g.shares_below u.holds.share in grind (arith, nat_tests, below, fresh)
+  new_num g n fresh = let below : z.num < w.next = found_each (λ e. e.num < w.next) w.shares z.num (as_share S A z (shape (unit_share S A z) u.stage).phase (shape (unit_share S A z) u.stage).queue) g.shares_below u.holds.share in grind (arith, nat_tests, below, fresh)
 
   pub under_begin_move : IsSys S → (x : Want) → May S (moves_of S A w) x → meets_shares S A x.filter w.shares ≡ false → Goes_on S A z u.stage (begin_move S A w x) before since
   under_begin_move laws x may meets =
-      let apart = found_each (λ e. Disjoint S x.filter e.filter) w.shares z.num (as_share S A z (shape (share_frame S A z) u.stage).phase (shape (share_frame S A z) u.stage).queue) (meets_none S A laws x.filter w.shares meets) u.holds.share in
+      let apart = found_each (λ e. Disjoint S x.filter e.filter) w.shares z.num (as_share S A z (shape (unit_share S A z) u.stage).phase (shape (unit_share S A z) u.stage).queue) (meets_none S A laws x.filter w.shares meets) u.holds.share in
       let off : S.takes x.filter z.unit ≡ false = disjoint_sym S x.filter z.filter apart z.unit u.covered in
       put_unseen (w.ops ++ new_op x.num x ∷ []) w.shares (suc x.num) 1 (as_old (begin_sends x.num x)) (begin_sends x.num x) (old_sends-old (begin_sends x.num x)) (unseen_view S A z (begin_sends x.num x) (refl, tt)) refl (each-append (Rest_op S z.unit) w.ops (new_op x.num x ∷ []) u.ops ((off, (tt, refl), apart_of S laws z.unit x.num x.src x.dst x.keep may.src may.dst may.other), tt)) ((refl, (off, refl)), tt)
 
@@ -50,7 +50,7 @@ module _ {R : Type 0} (S : Sys R) (A : Sharing S) (z : Seeing_share) (w : Whole 
   pub under_begin_share : Global_all S A w → (x : Want_share) → w.next ≤ x.num → Goes_on S A z u.stage (begin_share S A w x) before since
   under_begin_share g x fresh =
       let off = new_num g x.num fresh in
-      put_unseen w.ops (w.shares ++ new_share x ∷ []) (suc x.num) 1 ((0, New (S_install x.num x.filter x.home)) ∷ []) [] refl (λ j. lone_unseen S A z 0 j (New (S_install x.num x.filter x.home)) (λ r. rw off refl)) (find_more w.shares (new_share x) z.num (as_share S A z (shape (share_frame S A z) u.stage).phase (shape (share_frame S A z) u.stage).queue) u.holds.share ∙ sym u.holds.share) u.ops tt
+      put_unseen w.ops (w.shares ++ new_share x ∷ []) (suc x.num) 1 ((0, New (S_install x.num x.filter x.home)) ∷ []) [] refl (λ j. lone_unseen S A z 0 j (New (S_install x.num x.filter x.home)) (λ r. rw off refl)) (find_more w.shares (new_share x) z.num (as_share S A z (shape (unit_share S A z) u.stage).phase (shape (unit_share S A z) u.stage).queue) u.holds.share ∙ sym u.holds.share) u.ops tt
 
   -- a copy's Get
   pub under_get : Global_all S A w → (n : ℕ) (h : Filter) (src : ℕ) → w.next ≤ n → Goes_on S A z u.stage (puts_get S A w n h src) before since

@@ -5,23 +5,23 @@ use Rattle.std.proofs.lemmas.Bool.Decides.{Decides-eqb}
 use Rattle.unit_machine.proofs.Real.{add, sent_for}
 use Rattle.unit_machine.proofs.NetViews.{items-append}
 use Rattle.unit_machine.proofs.Seen.{sent_for-append}
-use Rattle.share_machine.proofs.Share.{Item, Frame, View, ShareMachineStep.Take_sc, ShareMachineStep.Take_back, has, joined, waits, share_does, from_sc, from_back}
-use Rattle.share_machine.proofs.Stages.{Stage, IsShare, FitsFrame, shape}
+use Rattle.share_machine.proofs.Share.{Item, UnitShare, View, ShareMachineStep.Take_sc, ShareMachineStep.Take_back, has, joined, waits, share_does, from_sc, from_back}
+use Rattle.share_machine.proofs.Stages.{Stage, IsShare, FitsStage, shape}
 use Rattle.share_machine.proofs.Heads.{to_members}
 use Rattle.abstract_net.proofs.Net.{Sys}
 use Rattle.abstract_net.proofs.GlobalAll.{Global_all}
 use Rattle.abstract_net.proofs.OnShareLinks.{Sender, back_sender, sc_sender, idle_empty}
-use Rattle.abstract_net.proofs.ShareViews.{share_expect, share_frame, share_seen, share_items, Share_holds}
+use Rattle.abstract_net.proofs.ShareViews.{share_expect, unit_share, share_seen, share_items, Share_holds}
 use Rattle.abstract_net.proofs.ShareLinks.{sc_links, back_links, quiet_links, view_after, Goes, Goes.Nothing, Goes.Moves}
 use Rattle.abstract_net.proofs.MemberMoves.{unseen_view}
 use Rattle.abstract_net.proofs.ShareSees.{Sees_share, share_item, Sender_if, share_sees, moves_unseen}
 use Rattle.abstract_net.proofs.Shares.{Any, as_old, Sharing, told_by, Shares_step, by_share, Whole, old_step, whole_ctrl, Seeing_share}
 
 module _ {R : Type 0} (S : Sys R) (A : Sharing S) (z : Seeing_share) where
-  abbrev f : Frame R
-  f = share_frame S A z
+  abbrev f : UnitShare R
+  f = unit_share S A z
 
-  module _ (is : IsShare f) (insts : (k : ℕ) → has z.members k ≡ true → 2 ≤ k) (w : Whole S A) (g : Global_all S A w) (covered : S.takes z.filter z.unit ≡ true) (s : Stage R) (fits : FitsFrame f s) (h : Share_holds S A z w (shape f s)) (p : ℕ) (m : Any R) (rest : List (Any R)) (waits_at : w.link p 1 ≡ m ∷ rest) where
+  module _ (is : IsShare f) (insts : (k : ℕ) → has z.members k ≡ true → 2 ≤ k) (w : Whole S A) (g : Global_all S A w) (covered : S.takes z.filter z.unit ≡ true) (s : Stage R) (fits : FitsStage f s) (h : Share_holds S A z w (shape f s)) (p : ℕ) (m : Any R) (rest : List (Any R)) (waits_at : w.link p 1 ≡ m ∷ rest) where
     abbrev x : View R
     x = shape f s
 

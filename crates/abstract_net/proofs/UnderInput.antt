@@ -5,16 +5,16 @@ use Rattle.std.specs.Prelude.{if◌then◌else◌, ◌&&◌, ◌==◌}
 use Rattle.std.proofs.lemmas.Bool.Decides.{nat_tests, Decides-eqb}
 use Rattle.std.proofs.lemmas.Cmp.{nat_eq_equiv}
 use Rattle.unit_machine.proofs.Real.{where_true, add, sent_for}
-use Rattle.share_machine.proofs.Share.{Item, Item.Carry, Item.Diverted, Item.Stray, Frame, View, ShareMachineStep.Arrive, if_mine, joined, only, nowhere, moved}
+use Rattle.share_machine.proofs.Share.{Item, Item.Carry, Item.Diverted, Item.Stray, UnitShare, View, ShareMachineStep.Arrive, if_mine, joined, only, nowhere, moved}
 use Rattle.abstract_net.proofs.Net.{Msg.Carry_on, Sys}
-use Rattle.abstract_net.proofs.ShareViews.{mine, share_expect, share_frame, share_items, Share_holds}
+use Rattle.abstract_net.proofs.ShareViews.{mine, share_expect, unit_share, share_items, Share_holds}
 use Rattle.abstract_net.proofs.ShareLinks.{in_links, none_links, view_put, lone_view, lone_unseen, holds_alike}
 use Rattle.abstract_net.proofs.Shares.{Any.Old, Any.New, Share_msg.Diverted_on, Sharing, arrive_sends, Whole, whole_input, Seeing_share}
 use Rattle.record_table.proofs.UnitOrder.{same_unit-true}
 
 module _ {R : Type 0} (S : Sys R) (A : Sharing S) (z : Seeing_share) where
-  abbrev f : Frame R
-  f = share_frame S A z
+  abbrev f : UnitShare R
+  f = unit_share S A z
 
   -- after a packet of the input
   pub data Comes (w : Whole S A) (x : View R) (q : ℕ) : Type 0 where

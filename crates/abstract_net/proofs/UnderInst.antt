@@ -3,18 +3,18 @@ use Rattle.std.proofs.Common.{◌≡◌, ℕ, Bool, true, false, Some, None, Lis
 use Rattle.std.specs.Prelude.{if◌then◌else◌, ◌&&◌, ◌==◌}
 use Rattle.std.proofs.lemmas.Bool.Decides.{nat_tests, Decides-eqb}
 use Rattle.unit_machine.proofs.Real.{add, sent_for}
-use Rattle.share_machine.proofs.Share.{Item, Frame, View, ShareMachineStep.Take_sw, ShareMachineStep.Take_to, has, put, joined, only, member_does, from_sw, from_to}
+use Rattle.share_machine.proofs.Share.{Item, UnitShare, View, ShareMachineStep.Take_sw, ShareMachineStep.Take_to, has, put, joined, only, member_does, from_sw, from_to}
 use Rattle.share_machine.proofs.Heads.{To_members}
 use Rattle.abstract_net.proofs.Net.{Sys, IsSys, inst_step, links_after, at_node}
-use Rattle.abstract_net.proofs.ShareViews.{share_expect, share_frame, share_seen, share_items, own_of, own_at, Share_holds}
+use Rattle.abstract_net.proofs.ShareViews.{share_expect, unit_share, share_seen, share_items, own_of, own_at, Share_holds}
 use Rattle.abstract_net.proofs.ShareLinks.{sw_links, to_links, quiet_links, view_after, ran_of-append, Goes, Goes.Nothing, Goes.Moves}
 use Rattle.abstract_net.proofs.MemberSteps.{any_step, as_was, does, Sees_member}
 use Rattle.abstract_net.proofs.Shares.{Any, Any.Old, Any.New, Sharing, find_share, Member_did, Whole, whole_inst, ran_of, Seeing_share}
 use Rattle.nf_function.specs.declared.unit.Unit as units
 
 module _ {R : Type 0} (S : Sys R) (A : Sharing S) (laws : IsSys S) (z : Seeing_share) where
-  abbrev f : Frame R
-  f = share_frame S A z
+  abbrev f : UnitShare R
+  f = unit_share S A z
 
   abbrev pub did_at : Whole S A → ℕ → Any R → Member_did S A
   did_at w y m = any_step S A laws z (w.inst y) (w.standby y) m

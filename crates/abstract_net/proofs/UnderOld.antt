@@ -6,7 +6,7 @@ use Rattle.std.proofs.lemmas.Bool.Decides.{nat_tests}
 use Rattle.share_machine.proofs.Lists.{self}
 use Rattle.unit_machine.proofs.Machine as moves
 use Rattle.unit_machine.proofs.Real as Real
-use Rattle.unit_machine.proofs.Real.{Op, where_true, add, sent_for, only_mine}
+use Rattle.unit_machine.proofs.Real.{Op, where_true, add, sent_for, only_mine, off_if}
 use Rattle.unit_machine.proofs.Seen.{Apart}
 use Rattle.unit_machine.proofs.Labels.{Each}
 use Rattle.unit_machine.proofs.NetViews.{items}
@@ -17,7 +17,7 @@ use Rattle.abstract_net.proofs.Holding.{Seeing, EachSent, frame, Label, Op_label
 use Rattle.abstract_net.proofs.Insts.{Inst_goes, does, carry_goes, pass_goes, fence_goes}
 use Rattle.abstract_net.proofs.InstMoves.{Moves_inst, Moves_inst.Any, Moves_inst.Streams_out, Moves_inst.Puts_in, move_goes}
 use Rattle.abstract_net.proofs.CtrlUnit.{Ctrl_does, mdid, ctrl_unit}
-use Rattle.abstract_net.proofs.Rest.{Below, Rest_rule, Rest_op, Nothing_of, none_mine, same_mine, mv_label, mv_unseen, no_rule, no_op, rule_labels, op_labels, rules_rest, ops_rest, mv_nothing, off_if}
+use Rattle.abstract_net.proofs.Rest.{Below, Rest_rule, Rest_op, Nothing_of, none_mine, same_mine, mv_label, mv_unseen, no_rule, no_op, rule_labels, op_labels, rules_rest, ops_rest, mv_nothing}
 use Rattle.abstract_net.proofs.GlobalShares.{ctrl_none}
 use Rattle.nf_function.specs.declared.unit.Unit as units
 use Rattle.record_table.specs.Table.{same_unit}
@@ -61,7 +61,7 @@ module _ {R : Type 0} (S : Sys R) (laws : IsSys S) (u : units.Unit) where
 
     nothing_one : (i : ℕ) (m : Msg R) → seen (frame S z) m ≡ None → Label S z i m → Nothing_of S u i m
     nothing_one i (Mv g m) none l = (l.0, mv_nothing S z g m none l.1)
-    nothing_one i (Pass_on p) none l = off_if S z (mine p) _ none
+    nothing_one i (Pass_on p) none l = off_if (mine p) _ none
     nothing_one i (Carry_on p) none l = tt
     nothing_one i (Fence_on k) none l = tt
     nothing_one i (In_packet p) none l = tt

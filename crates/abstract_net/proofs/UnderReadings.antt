@@ -5,7 +5,7 @@ use Rattle.std.specs.Prelude.{◌&&◌, ◌==◌}
 use Rattle.std.proofs.lemmas.Bool.Decides.{nat_tests}
 use Rattle.unit_machine.proofs.Real.{add}
 use Rattle.unit_machine.proofs.Labels.{Each}
-use Rattle.share_machine.proofs.Share.{Ran, Item, Item.Carry, Item.Fence, Item.Shared, Item.Diverted, Item.Install, Item.Forward, Item.Get, Item.Sync, Item.Fenced, Item.Chunks, Item.Chunk, Item.Synced, Item.Stray, Frame, View, has, runs, after}
+use Rattle.share_machine.proofs.Share.{Ran, Item, Item.Carry, Item.Fence, Item.Shared, Item.Diverted, Item.Install, Item.Forward, Item.Get, Item.Sync, Item.Fenced, Item.Chunks, Item.Chunk, Item.Synced, Item.Stray, UnitShare, View, has, runs, after}
 use Rattle.share_machine.proofs.Stages.{front, processed, packets, late, path, shape, IsFront, Lacks}
 use Rattle.share_machine.proofs.Records.{own_is, done_is, is_live, seen_front}
 use Rattle.share_machine.proofs.Order.{in_order}
@@ -15,7 +15,7 @@ use Rattle.abstract_net.proofs.Net.{Msg, Sys, IsSys, sw_target, at_node}
 use Rattle.abstract_net.proofs.Rest.{Nothing_of, done_u}
 use Rattle.abstract_net.proofs.UntakenSwitch.{sw_same}
 use Rattle.abstract_net.proofs.GlobalAll.{Takes_some, Global_all}
-use Rattle.abstract_net.proofs.ShareViews.{share_expect, share_frame, share_seen, share_items, own_at, as_share}
+use Rattle.abstract_net.proofs.ShareViews.{share_expect, unit_share, share_seen, share_items, own_at, as_share}
 use Rattle.abstract_net.proofs.ShareLabels.{taking_own}
 use Rattle.abstract_net.proofs.MemberSteps.{does}
 use Rattle.abstract_net.proofs.UnderInst.{did_at, heads, inst_from}
@@ -24,8 +24,8 @@ use Rattle.abstract_net.proofs.UnderStarts.{packets_done}
 use Rattle.abstract_net.proofs.Shares.{Any, Any.Old, olds, Sharing, IsSharing, Whole, ran_of, Seeing_share}
 
 module _ {R : Type 0} (S : Sys R) (A : Sharing S) (z : Seeing_share) (w : Whole S A) (before since : List ℕ) (u : Under S A z w before since) where
-  abbrev f : Frame R
-  f = share_frame S A z
+  abbrev f : UnitShare R
+  f = unit_share S A z
 
   abbrev done : List Ran
   done = ran_of S A z.unit w.done

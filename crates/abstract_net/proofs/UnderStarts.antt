@@ -17,7 +17,7 @@ use Rattle.abstract_net.proofs.ShareLists.{found_each, find_new}
 use Rattle.abstract_net.proofs.ShareRows.{taking_each}
 use Rattle.abstract_net.proofs.GlobalAll.{Numbered, Disjoint, Takes_some, Of_share, Global_all}
 use Rattle.abstract_net.proofs.GlobalShares.{not_yet}
-use Rattle.abstract_net.proofs.ShareViews.{mine, share_expect, share_frame, move_seen, new_seen, share_items, own_of}
+use Rattle.abstract_net.proofs.ShareViews.{mine, share_expect, unit_share, move_seen, new_seen, share_items, own_of}
 use Rattle.abstract_net.proofs.ShareLinks.{view_put}
 use Rattle.abstract_net.proofs.Under.{Under, put_labels}
 use Rattle.abstract_net.proofs.Shares.{Any, Any.Old, Any.New, Share_msg, Share_msg.Shared_on, Share_msg.Diverted_on, Share_msg.S_asked, Share_msg.S_install, Share_msg.S_forward, Share_msg.S_get, Share_msg.S_sync, Share_msg.S_chunks, Share_msg.S_shared, Share_msg.S_synced, Want_share, Each_new, olds, Sharing, IsSharing, Open_share, new_share, find_share, Whole, moves_of, begin_share, May_share, ran_of, Seeing_share}
@@ -142,7 +142,7 @@ module _ {R : Type 0} (S : Sys R) (A : Sharing S) (u : units.Unit) where
     under_starts ok may d l h by diverts =
         let ds = ran_of S A u w.done in
         let b : ℕ → List Ran = λ k. (by k).seen in
-        let f = share_frame S A z in
+        let f = unit_share S A z in
         let num = self x.num in
         record {
           is = record { home_in = may.home_in; member_in = λ p. ok.member_in x.members p (some_members may.two); apart = may.apart; two = may.two };
@@ -166,6 +166,6 @@ module _ {R : Type 0} (S : Sys R) (A : Sharing S) (u : units.Unit) where
           since_is = refl;
         }
       where
-        own_first : (b : Bool) (k : ℕ) → (k == x.home) ≡ b → own_of S A z b (w.inst k).live (w.standby k) ≡ after (share_frame S A z) (if b then ran_of S A u w.done else (by k).seen)
+        own_first : (b : Bool) (k : ℕ) → (k == x.home) ≡ b → own_of S A z b (w.inst k).live (w.standby k) ≡ after (unit_share S A z) (if b then ran_of S A u w.done else (by k).seen)
         own_first true k on = h.live k ∙ ap (λ t. if t then moves.after S.F d else None) on ∙ fold_packets S.F None d (ran_of S A u w.done) (sym h.done ∙ sym (packets_done w.done))
         own_first false k out = (by k).fold

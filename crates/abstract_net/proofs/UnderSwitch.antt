@@ -5,8 +5,8 @@ use Rattle.std.proofs.lemmas.Bool.Decides.{nat_tests, Decides-eqb}
 use Rattle.std.proofs.lemmas.Cmp.{nat_eq_equiv}
 use Rattle.actor_net.proofs.LinkLemmas.{neither}
 use Rattle.unit_machine.proofs.Real as Real
-use Rattle.unit_machine.proofs.Real.{record_at, M_fenced, M_forward, M_install, M_fence_to, where_true, add, sent_for}
-use Rattle.share_machine.proofs.Share.{Item, Item.Carry, Item.Fence, Item.Shared, Item.Diverted, Item.Install, Item.Forward, Item.Get, Item.Sync, Item.Fenced, Item.Chunks, Item.Chunk, Item.Synced, Item.Stray, Frame, View, ShareMachineStep.Take_cs, has, joined, only, from_cs}
+use Rattle.unit_machine.proofs.Real.{record_at, M_fenced, M_forward, M_install, M_fence_to, where_true, add, sent_for, off_if}
+use Rattle.share_machine.proofs.Share.{Item, Item.Carry, Item.Fence, Item.Shared, Item.Diverted, Item.Install, Item.Forward, Item.Get, Item.Sync, Item.Fenced, Item.Chunks, Item.Chunk, Item.Synced, Item.Stray, UnitShare, View, ShareMachineStep.Take_cs, has, joined, only, from_cs}
 use Rattle.share_machine.proofs.Stages.{Stage, IsShare, shape}
 use Rattle.share_machine.proofs.Lists.{self}
 use Rattle.flow_filter.specs.declared.filter.Filter.{Filter}
@@ -14,7 +14,7 @@ use Rattle.abstract_net.proofs.Net.{Msg, Msg.In_packet, Msg.Asked, Msg.Carry_on,
 use Rattle.abstract_net.proofs.Rest.{Nothing_of}
 use Rattle.abstract_net.proofs.UntakenSwitch.{sw_same}
 use Rattle.abstract_net.proofs.OnShareLinks.{To_switch, cs_items}
-use Rattle.abstract_net.proofs.ShareViews.{mine, share_expect, share_frame, fit, move_seen, old_seen, new_seen, share_seen, share_items, Share_holds}
+use Rattle.abstract_net.proofs.ShareViews.{mine, share_expect, unit_share, fit, move_seen, old_seen, new_seen, share_seen, share_items, Share_holds}
 use Rattle.abstract_net.proofs.ShareLinks.{cs_links, quiet_links, view_after, lone_view, Goes, Goes.Nothing, Goes.Moves}
 use Rattle.abstract_net.proofs.ShareLabels.{Share_label}
 use Rattle.abstract_net.proofs.MemberMoves.{Unseen, unseen_view}
@@ -22,8 +22,8 @@ use Rattle.abstract_net.proofs.Shares.{Any, Any.Old, Any.New, Share_msg, Share_m
 use Rattle.nf_function.specs.declared.unit.Unit as units
 
 module _ {R : Type 0} (S : Sys R) (A : Sharing S) (laws : IsSys S) (z : Seeing_share) where
-  abbrev f : Frame R
-  f = share_frame S A z
+  abbrev f : UnitShare R
+  f = unit_share S A z
 
   -- no message of a move turns a target into the controller
   abbrev pub No_diverts : Whole S A → Any R → Type 0
@@ -72,15 +72,11 @@ module _ {R : Type 0} (S : Sys R) (A : Sharing S) (laws : IsSys S) (z : Seeing_s
   not_old (In_packet q) = tt
   not_old (Asked a) = tt
 
-  off_of : (b : Bool) (it : Item R) → where_true b it ≡ None → b ≡ false
-  off_of true it e = cc
-  off_of false it e = refl
-
   -- what the switch sends on a move's message that isn't seen
   sends_unseen : (k : ℕ) (m : Msg R) → Nothing_of S z.unit k m → old_seen S A z m ≡ None → Unseen S A z (sw_sends m)
   sends_unseen k (Mv g (M_forward q to)) l none = (let off = l.1 in rw off refl, tt)
-  sends_unseen k (Mv g (M_install n a b)) l none = (let off = off_of (n == z.num) Stray none in rw off refl, tt)
-  sends_unseen k (Mv g (M_fence_to n to)) l none = (let off = off_of (n == z.num) Stray none in rw off refl, tt)
+  sends_unseen k (Mv g (M_install n a b)) l none = (let off = off_if (n == z.num) Stray none in rw off refl, tt)
+  sends_unseen k (Mv g (M_fence_to n to)) l none = (let off = off_if (n == z.num) Stray none in rw off refl, tt)
   sends_unseen k (Mv g m) l none = tt
   sends_unseen k (Carry_on q) l none = tt
   sends_unseen k (Pass_on q) l none = tt

@@ -98,7 +98,7 @@ module _ (g : Given) (log : List Note) (waits : List ℕ) where
           says = (says, tt);
         }
 
-        by_turn : (did : Step) → CopyTurn c op y m did → StepIs did
+        by_turn : (did : Step) → CopyTurn (record { controller = c; op = op; copy = y }) m did → StepIs did
         by_turn did (Idle e) = subst StepIs (sym e) still_is
         by_turn did (Hands k chunks e d) = subst StepIs (sym d) (hands_is (msg.Standby y.plan.op chunks) tt)
         by_turn did (Hands_all k chunk e d) = subst StepIs (sym d) (hands_is (msg.PutAll y.plan.op chunk) tt)

@@ -137,7 +137,7 @@ module _ (g : Given) (n : ℕ) (reach : reaches n 1 0 ≡ true) (c : ControllerS
       early = λ k x there zero. Was_open x (other_there (k == op) None (finite.get c.operations k) x tt (sym (got_remove c.operations op k) ∙ there)) zero refl;
     }
 
-    copy_acts : (op : ℕ) (y : CopyState) → finite.get c.operations op ≡ Some (Copy y) → (m : Msg) (did : Step) → CopyTurn c op y m did → Acts did
+    copy_acts : (op : ℕ) (y : CopyState) → finite.get c.operations op ≡ Some (Copy y) → (m : Msg) (did : Step) → CopyTurn (record { controller = c; op = op; copy = y }) m did → Acts did
     copy_acts op y is m did (Idle e) = subst Acts (sym e) still_acts
     copy_acts op y is m did (Hands k chunks e d) = subst Acts (sym d) (hands_acts op y (msg.Standby y.plan.op chunks) refl)
     copy_acts op y is m did (Hands_all k chunk e d) = subst Acts (sym d) (hands_acts op y (msg.PutAll y.plan.op chunk) refl)

@@ -9,6 +9,7 @@ use Rattle.std.proofs.lemmas.Bool.Decides.{nat_tests}
 use Rattle.std.proofs.Math.Facts.{and_yes}
 use Rattle.ctrl_node.specs.declared.operation.Operation.{Operation}
 use Rattle.ctrl_node.specs.Operations.{OpenOperations}
+use Rattle.whole_outline.proofs.DivertedAll.{is_less}
 
 -- what a number's operation is, by a test; none fails it
 abbrev pub passes : (Operation → Bool) → Option Operation → Bool
@@ -17,13 +18,10 @@ passes test o = option_map_or test o false
 abbrev Entries : Type 0
 Entries = List (ℕ × Operation)
 
-less : (a b : ℕ) → T (is_lt (nat_cmp a b)) → a < b
-less a b h = grind (arith, nat_tests)
-
 none_below : (k j : ℕ) (es : Entries) → k ≤ j → T (below_all nat_cmp j es) → finite.find nat_cmp k es ≡ None
 none_below k j [] small below = refl
 none_below k j (e ∷ es) small below =
-    let first : j < e.0 = less j e.0 (and_yes (is_lt (nat_cmp j e.0)) (below_all nat_cmp j es) below).0 in
+    let first : j < e.0 = is_less j e.0 (and_yes (is_lt (nat_cmp j e.0)) (below_all nat_cmp j es) below).0 in
     let off : eq_by_cmp nat_cmp k e.0 ≡ false = grind (arith, nat_tests) in
     rw off (none_below k j es small (and_yes (is_lt (nat_cmp j e.0)) (below_all nat_cmp j es) below).1)
 
@@ -41,7 +39,7 @@ module _ (test : Operation → Bool) where
   found_above : (j : ℕ) (es : Entries) (x : ℕ × Operation) → T (below_all nat_cmp j es) → find (λ e. test e.1) es ≡ Some x → j < x.0
   found_above j [] x below is = cc
   found_above j (e ∷ es) x below is = elim (test e.1) as (λ b. (if b then Some e else find (λ y. test y.1) es) ≡ Some x → j < x.0) [
-    | true ↦ λ here. let same : e ≡ x = ap (λ o. unwrap_or o e) here in subst (λ y. j < y.0) same (less j e.0 (and_yes (is_lt (nat_cmp j e.0)) (below_all nat_cmp j es) below).0)
+    | true ↦ λ here. let same : e ≡ x = ap (λ o. unwrap_or o e) here in subst (λ y. j < y.0) same (is_less j e.0 (and_yes (is_lt (nat_cmp j e.0)) (below_all nat_cmp j es) below).0)
     | false ↦ λ rest. found_above j es x (and_yes (is_lt (nat_cmp j e.0)) (below_all nat_cmp j es) below).1 rest
   ] is
 

@@ -175,7 +175,7 @@ module _ (n : ℕ) (reach : reaches n 1 0 ≡ true) (g : Given) (k : ℕ) (c : C
         ] refl) in
         record { sent = omega (arith, here, weighs); unfinished = own None; finish_same = refl }
 
-    copy_is : (op : ℕ) (y : CopyState) → finite.get c.operations op ≡ Some (Copy y) → (m : Msg) (did : Step) → CopyTurn c op y m did → Counts did
+    copy_is : (op : ℕ) (y : CopyState) → finite.get c.operations op ≡ Some (Copy y) → (m : Msg) (did : Step) → CopyTurn (record { controller = c; op = op; copy = y }) m did → Counts did
     copy_is op y is m did (Idle e) = subst Counts (sym e) still_is
     copy_is op y is m did (Hands j chunks e d) = subst Counts (sym d) (hands_is op y is (msg.Standby y.plan.op chunks) (λ o. refl))
     copy_is op y is m did (Hands_all j chunk e d) = subst Counts (sym d) (hands_is op y is (msg.PutAll y.plan.op chunk) (λ o. refl))

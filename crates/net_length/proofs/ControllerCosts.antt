@@ -2,7 +2,6 @@
 use Rattle.std.proofs.Common.{◌≡◌, ℕ, ◌+◌, ◌*◌, ◌≤◌, Bool, true, false, Option, None, Some, List, [], ◌∷◌, ◌++◌, length, refl, arith}
 use Rattle.std.specs.Prelude.{if◌then◌else◌, ◌&&◌, not, is_some, unwrap_or}
 use Rattle.std.specs.FinMap as finite
-use Rattle.outline_net.proofs.ControllerWays.{row_fits}
 use Rattle.flow_filter.specs.declared.filter.Filter.{Filter}
 use Rattle.event_store.specs.Store.{stored, with_parcels, store_after}
 use Rattle.packet_pool.specs.Pool.{FullCell}
@@ -30,6 +29,7 @@ use Rattle.ctrl_node.specs.Controller.{ControllerState, Step, controller_step}
 use Rattle.actor_net.proofs.WeightLaws.{weigh-append}
 use Rattle.net_length.proofs.MapWeights.{in_all, if_found, insert_weighs, remove_weighs}
 use Rattle.net_length.proofs.Weights.{one_if, of_move, of_copy, of_share, of_operation, kept, weight, some, cost, cost-append, of_controller, unfinished, finish}
+use Rattle.net_length.proofs.BegunOperations.{IsBegun, Is_move, Is_copy, Is_share, row_opens}
 use Rattle.net_length.proofs.OperationWeights.{ops_weigh, closed_weigh}
 use Rattle.net_length.proofs.MoveCosts.{move_falls}
 use Rattle.net_length.proofs.ShareCosts.{copy_falls, share_falls, served_costs}
@@ -182,16 +182,14 @@ module _ (o : ℕ) where
     opens_falls : (k : Command) (op : ℕ) (x : Operation) (sends : List (ℕ × Msg)) → cost o sends + of_operation o x ≤ 14 + 2 * o → Falls c (msg.Asked k) (ctrl.opens c op x sends)
     opens_falls k op x sends low = let more = insert_weighs (of_operation o) c.operations op x in omega (arith, more, low)
 
-    copies_fall : (k : Command) (op from to : ℕ) (x : Option Filter) → Falls c (msg.Asked k) (ctrl.begins_copy c (record { op = op; from = from; to = to; filter = x }))
-    copies_fall k op from to None =
-        let plan : CopyPlan = record { op = op; from = from; to = to; filter = None } in
-        opens_falls k op (Copy (copy.begun plan)) (copy.begin_sends plan) (omega arith)
-    copies_fall k op from to (Some filter) =
-        let plan : CopyPlan = record { op = op; from = from; to = to; filter = Some filter } in
-        opens_falls k op (Copy (copy.begun plan)) (copy.begin_sends plan) (omega arith)
+    begun_weighs : (x : Operation) (sends : List (ℕ × Msg)) → IsBegun x sends → cost o sends + of_operation o x ≤ 14 + 2 * o
+    begun_weighs x sends (Is_move plan is does) = rw (is, does) (omega arith)
+    begun_weighs x sends (Is_copy op from to None is does) = rw (is, does) (omega arith)
+    begun_weighs x sends (Is_copy op from to (Some filter) is does) = rw (is, does) (omega arith)
+    begun_weighs x sends (Is_share plan is does) = rw (is, does) (omega arith)
 
     row_falls : (port : ℕ) (m : Msg) → Falls c m (ctrl.row c port m)
-    row_falls = row_fits c (Falls c) (record {
+    row_falls = row_opens c (Falls c) (record {
       still = still_falls;
       ended = omega arith;
       stopped = λ i. omega arith;
@@ -199,13 +197,7 @@ module _ (o : ℕ) where
       handed = handed_falls;
       queued = queued_falls;
       answers = λ k op answer. omega arith;
-      moves = λ k op from to filter keep.
-          let plan : MovePlan = record { op = op; from = from; to = to; filter = filter; keep = keep } in
-          opens_falls k op (Move (begun plan)) (begin_sends plan) (omega arith);
-      copies = copies_fall;
-      shares = λ k op filter home others.
-          let plan : SharePlan = record { op = op; members = home ∷ others; filter = filter; site = c.site } in
-          opens_falls k op (Share (share.begun plan)) (share.begin_sends plan) (omega arith);
+      opens = λ k op x sends is. opens_falls k op x sends (begun_weighs x sends is);
     })
 
     -- each step of the controller

@@ -1,3 +1,4 @@
+pub mod BegunOperations
 pub mod Chances
 pub mod ControllerCosts
 pub mod FewMembers

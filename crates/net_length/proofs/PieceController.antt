@@ -2,7 +2,6 @@
 use Rattle.std.proofs.Common.{◌≡◌, ℕ, ◌+◌, ◌≤◌, true, false, Option, None, Some, List, [], ◌∷◌, ◌++◌, refl, arith}
 use Rattle.std.specs.Prelude.{if◌then◌else◌}
 use Rattle.std.specs.FinMap as finite
-use Rattle.outline_net.proofs.ControllerWays.{row_fits}
 use Rattle.flow_filter.specs.declared.filter.Filter.{Filter}
 use Rattle.event_store.specs.Store.{stored, with_parcels, store_after}
 use Rattle.packet_pool.specs.Pool.{FullCell}
@@ -24,12 +23,13 @@ use Rattle.ctrl_node.specs.Controller.{ControllerState, Step, controller_step}
 use Rattle.actor_net.proofs.WeightLaws.{weigh}
 use Rattle.net_length.proofs.MapWeights.{insert_weighs}
 use Rattle.net_length.proofs.Chances.{chance, spent, spent-append, arrival, uses, of_operation, of_controller}
+use Rattle.net_length.proofs.BegunOperations.{IsBegun, Is_move, Is_copy, Is_share, row_opens}
 use Rattle.net_length.proofs.OperationWeights.{ops_weigh, closed_weigh}
 use Rattle.net_length.proofs.PieceMoves.{move_falls, copy_none, share_none, served_none}
 
 module _ (a k : ℕ) where
-  abbrev pub Falls : ControllerState → Msg → Step → Type 0
-  Falls c m step = uses a k step + of_controller a k step.node ≤ of_controller a k c + chance a k m
+  abbrev pub UsesNoMore : ControllerState → Msg → Step → Type 0
+  UsesNoMore c m step = uses a k step + of_controller a k step.node ≤ of_controller a k c + chance a k m
 
   -- An operation that has taken a message: it stays, or is closed
   module _ (c : ControllerState) (op : ℕ) (old : Operation) (there : finite.get c.operations op ≡ Some old) (store : Store) (sends : List (ℕ × Msg)) where
@@ -49,7 +49,7 @@ module _ (a k : ℕ) where
         by_kind (Copy y) = let less = closed_weigh (of_operation a k) c.operations op old (Copy y) there in omega (arith, less, both)
 
   -- A message to an open operation
-  turn_falls : (c : ControllerState) (op port : ℕ) (m : Msg) (x : Option Operation) → finite.get c.operations op ≡ x → Falls c m (ctrl.takes_turn c op (turn_of x c.store port m))
+  turn_falls : (c : ControllerState) (op port : ℕ) (m : Msg) (x : Option Operation) → finite.get c.operations op ≡ x → UsesNoMore c m (ctrl.takes_turn c op (turn_of x c.store port m))
   turn_falls c op port m None there = omega arith
   turn_falls c op port m (Some (Move mv)) there =
       let r = row_in mv c.store port m in
@@ -91,10 +91,7 @@ module _ (a k : ℕ) where
       ]
 
   module _ (c : ControllerState) where
-    still_falls : (m : Msg) → Falls c m (ctrl.still c)
-    still_falls m = omega arith
-
-    handed_falls : (op port : ℕ) (m : Msg) → Falls c m (ctrl.handed c op port m)
+    handed_falls : (op port : ℕ) (m : Msg) → UsesNoMore c m (ctrl.handed c op port m)
     handed_falls op port m =
         let first = ctrl.takes_turn c op (turn_of (finite.get c.operations op) c.store port m) in
         let falls = turn_falls c op port m (finite.get c.operations op) refl in
@@ -103,44 +100,36 @@ module _ (a k : ℕ) where
         omega (arith, falls, later, both)
 
     -- A packet
-    queued_falls : (op : ℕ) (cell : FullCell) → Falls c (msg.Diverted cell) (ctrl.queued c cell (Some op))
+    queued_falls : (op : ℕ) (cell : FullCell) → UsesNoMore c (msg.Diverted cell) (ctrl.queued c cell (Some op))
     queued_falls op cell =
         let later = serves_costs (record c { store = with_parcels c.store op (stored c.store op ++ cell ∷ []) }) op in
         omega (arith, later)
 
     -- A command
-    opens_falls : (x : Command) (op : ℕ) (new : Operation) (sends : List (ℕ × Msg)) → spent a k sends + of_operation a k new ≤ k → Falls c (msg.Asked x) (ctrl.opens c op new sends)
+    opens_falls : (x : Command) (op : ℕ) (new : Operation) (sends : List (ℕ × Msg)) → spent a k sends + of_operation a k new ≤ k → UsesNoMore c (msg.Asked x) (ctrl.opens c op new sends)
     opens_falls x op new sends low = let more = insert_weighs (of_operation a k) c.operations op new in omega (arith, more, low)
 
-    copies_fall : (x : Command) (op from to : ℕ) (g : Option Filter) → Falls c (msg.Asked x) (ctrl.begins_copy c (record { op = op; from = from; to = to; filter = g }))
-    copies_fall x op from to None =
-        let plan : CopyPlan = record { op = op; from = from; to = to; filter = None } in
-        opens_falls x op (Copy (copy.begun plan)) (copy.begin_sends plan) (omega arith)
-    copies_fall x op from to (Some filter) =
-        let plan : CopyPlan = record { op = op; from = from; to = to; filter = Some filter } in
-        opens_falls x op (Copy (copy.begun plan)) (copy.begin_sends plan) (omega arith)
+    begun_uses : (x : Operation) (sends : List (ℕ × Msg)) → IsBegun x sends → spent a k sends + of_operation a k x ≤ k
+    begun_uses x sends (Is_move plan is does) = rw (is, does) (omega arith)
+    begun_uses x sends (Is_copy op from to None is does) = rw (is, does) (omega arith)
+    begun_uses x sends (Is_copy op from to (Some filter) is does) = rw (is, does) (omega arith)
+    begun_uses x sends (Is_share plan is does) = rw (is, does) (omega arith)
 
-    row_falls : (port : ℕ) (m : Msg) → Falls c m (ctrl.row c port m)
-    row_falls = row_fits c (Falls c) (record {
-      still = still_falls;
+    row_uses : (port : ℕ) (m : Msg) → UsesNoMore c m (ctrl.row c port m)
+    row_uses = row_opens c (UsesNoMore c) (record {
+      still = λ m. omega arith;
       ended = omega arith;
       stopped = λ i. omega arith;
       returned = λ op i cell. omega arith;
       handed = handed_falls;
       queued = queued_falls;
       answers = λ x op answer. omega arith;
-      moves = λ x op from to filter keep.
-          let plan : MovePlan = record { op = op; from = from; to = to; filter = filter; keep = keep } in
-          opens_falls x op (Move (begun plan)) (begin_sends plan) (omega arith);
-      copies = copies_fall;
-      shares = λ x op filter home others.
-          let plan : SharePlan = record { op = op; members = home ∷ others; filter = filter; site = c.site } in
-          opens_falls x op (Share (share.begun plan)) (share.begin_sends plan) (omega arith);
+      opens = λ x op new sends is. opens_falls x op new sends (begun_uses new sends is);
     })
 
     -- each step of the controller
-    pub controller_uses : (port : ℕ) (m : Msg) → Falls c m (controller_step c port m)
+    pub controller_uses : (port : ℕ) (m : Msg) → UsesNoMore c m (controller_step c port m)
     controller_uses port m =
-        let falls = row_falls port m in
+        let falls = row_uses port m in
         let told = finish_costs (ctrl.row c port m) in
         omega (arith, falls, told)

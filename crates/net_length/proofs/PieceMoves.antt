@@ -28,8 +28,8 @@ use Rattle.net_length.proofs.Chances.{spent, of_phase}
 
 module _ (a k : ℕ) (plan : MovePlan) where
   -- a row sends no more than its phase had
-  abbrev pub Falls : Phase → MoveRow → Type 0
-  Falls ph r = spent a k r.next.sends + of_phase a k r.next.phase ≤ of_phase a k ph
+  abbrev pub UsesNoMore : Phase → MoveRow → Type 0
+  UsesNoMore ph r = spent a k r.next.sends + of_phase a k r.next.phase ≤ of_phase a k ph
 
   -- and mostly nothing that counts, in a later phase
   abbrev Sends_none : MoveNext → Type 0
@@ -65,62 +65,62 @@ module _ (a k : ℕ) (plan : MovePlan) where
     all_put_none true = omega arith
     all_put_none false = released_none
 
-    stays : (ph : Phase) → Falls ph (keeps (goes ph []))
+    stays : (ph : Phase) → UsesNoMore ph (keeps (goes ph []))
     stays ph = omega arith
 
-    event_falls : (ph : Phase) (cell : FullCell) → Falls ph (on_event plan ph events cell)
+    event_falls : (ph : Phase) (cell : FullCell) → UsesNoMore ph (on_event plan ph events cell)
     event_falls phase.Passing cell = omega arith
     event_falls ph cell = omega arith
 
-    source_enabled_falls : (ph : Phase) → Falls ph (on_source_enabled plan ph events)
+    source_enabled_falls : (ph : Phase) → UsesNoMore ph (on_source_enabled plan ph events)
     source_enabled_falls phase.Freezing = omega arith
     source_enabled_falls (phase.Returning why) = let none = returned_none why in omega (arith, none)
     source_enabled_falls ph = omega arith
 
-    piece_falls : (ph : Phase) (p : Piece) → Falls ph (keeps (on_piece plan ph p))
+    piece_falls : (ph : Phase) (p : Piece) → UsesNoMore ph (keeps (on_piece plan ph p))
     piece_falls (phase.Streaming frozen free came d) p =
-        elim (have_units p.chunks) as (λ b. Falls (phase.Streaming frozen free came d) (keeps (if b then goes (phase.Streaming (frozen ++ p ∷ []) free (came || p.last) d) ((source plan, msg.Delete plan.op (units_in p.chunks)) ∷ []) else goes (phase.Streaming frozen free came d) []))) [
+        elim (have_units p.chunks) as (λ b. UsesNoMore (phase.Streaming frozen free came d) (keeps (if b then goes (phase.Streaming (frozen ++ p ∷ []) free (came || p.last) d) ((source plan, msg.Delete plan.op (units_in p.chunks)) ∷ []) else goes (phase.Streaming frozen free came d) []))) [
           | true ↦ omega arith
           | false ↦ omega arith
         ]
     piece_falls ph p = omega arith
 
-    deleted_falls : (ph : Phase) → Falls ph (keeps (on_deleted plan ph))
+    deleted_falls : (ph : Phase) → UsesNoMore ph (keeps (on_deleted plan ph))
     deleted_falls (phase.Streaming (p ∷ frozen) free came d) = let none = pushed_none frozen (free ++ p ∷ []) came d in omega (arith, none)
     deleted_falls (phase.Streaming [] free came d) = omega arith
     deleted_falls ph = omega arith
 
-    restored_falls : (ph : Phase) → Falls ph (keeps (on_restored plan ph))
+    restored_falls : (ph : Phase) → UsesNoMore ph (keeps (on_restored plan ph))
     restored_falls (phase.Restoring why) = omega arith
     restored_falls ph = omega arith
 
-    source_fenced_falls : (ph : Phase) → Falls ph (keeps (on_source_fenced plan ph))
+    source_fenced_falls : (ph : Phase) → UsesNoMore ph (keeps (on_source_fenced plan ph))
     source_fenced_falls phase.Passing = omega arith
     source_fenced_falls (phase.Undoing why) = omega arith
     source_fenced_falls ph = omega arith
 
-    put_ok_falls : (ph : Phase) → Falls ph (on_put_ok plan ph events)
+    put_ok_falls : (ph : Phase) → UsesNoMore ph (on_put_ok plan ph events)
     put_ok_falls (phase.Streaming frozen free came (door.Asked last)) =
-        elim last as (λ b. Falls (phase.Streaming frozen free came (door.Asked last)) (if b then all_put plan events plan.keep else keeps (pushed plan frozen free came door.Open))) [
+        elim last as (λ b. UsesNoMore (phase.Streaming frozen free came (door.Asked last)) (if b then all_put plan events plan.keep else keeps (pushed plan frozen free came door.Open))) [
           | true ↦ let none = all_put_none plan.keep in omega (arith, none)
           | false ↦ let none = pushed_none frozen free came door.Open in omega (arith, none)
         ]
     put_ok_falls (phase.Streaming frozen free came door.Open) = let none = all_put_none plan.keep in omega (arith, none)
     put_ok_falls ph = omega arith
 
-    put_no_falls : (ph : Phase) (why : Answer) (chunks : List Chunk) → Falls ph (keeps (on_put_no plan ph why chunks))
+    put_no_falls : (ph : Phase) (why : Answer) (chunks : List Chunk) → UsesNoMore ph (keeps (on_put_no plan ph why chunks))
     put_no_falls (phase.Streaming frozen free came (door.Asked last)) why chunks = let none = pushed_none frozen (put_back chunks last ∷ free) came (door.Refused why) in omega (arith, none)
     put_no_falls ph why chunks = omega arith
 
-    destination_enabled_falls : (ph : Phase) → Falls ph (on_destination_enabled plan ph events)
+    destination_enabled_falls : (ph : Phase) → UsesNoMore ph (on_destination_enabled plan ph events)
     destination_enabled_falls phase.Holding = let none = released_none in omega (arith, none)
     destination_enabled_falls ph = omega arith
 
-    destination_fenced_falls : (ph : Phase) → Falls ph (keeps (on_destination_fenced plan ph))
+    destination_fenced_falls : (ph : Phase) → UsesNoMore ph (keeps (on_destination_fenced plan ph))
     destination_fenced_falls phase.Ending = omega arith
     destination_fenced_falls ph = omega arith
 
-    source_falls : (ph : Phase) (m : Msg) → Falls ph (from_source plan ph events m)
+    source_falls : (ph : Phase) (m : Msg) → UsesNoMore ph (from_source plan ph events m)
     source_falls ph (msg.Event op cell) = event_falls ph cell
     source_falls ph (msg.Enabled op) = source_enabled_falls ph
     source_falls ph (msg.Piece op p) = piece_falls ph p
@@ -129,7 +129,7 @@ module _ (a k : ℕ) (plan : MovePlan) where
     source_falls ph (msg.Fenced op) = source_fenced_falls ph
     source_falls ph m = stays ph
 
-    destination_falls : (ph : Phase) (m : Msg) → Falls ph (from_destination plan ph events m)
+    destination_falls : (ph : Phase) (m : Msg) → UsesNoMore ph (from_destination plan ph events m)
     destination_falls ph (msg.PutOk op) = put_ok_falls ph
     destination_falls ph (msg.PutNo op refused) = put_no_falls ph refused.why refused.chunks
     destination_falls ph (msg.Enabled op) = destination_enabled_falls ph
@@ -137,11 +137,11 @@ module _ (a k : ℕ) (plan : MovePlan) where
     destination_falls ph m = stays ph
 
     -- each row of a move
-    pub move_falls : (ph : Phase) (port : ℕ) (m : Msg) → Falls ph (row (record { plan = plan; phase = ph }) events port m)
+    pub move_falls : (ph : Phase) (port : ℕ) (m : Msg) → UsesNoMore ph (row (record { plan = plan; phase = ph }) events port m)
     move_falls ph port m =
-        elim (port == source plan) as (λ x. Falls ph (if x then from_source plan ph events m else if port == destination plan then from_destination plan ph events m else keeps (goes ph []))) [
+        elim (port == source plan) as (λ x. UsesNoMore ph (if x then from_source plan ph events m else if port == destination plan then from_destination plan ph events m else keeps (goes ph []))) [
           | true ↦ source_falls ph m
-          | false ↦ elim (port == destination plan) as (λ b. Falls ph (if b then from_destination plan ph events m else keeps (goes ph []))) [ true ↦ destination_falls ph m | false ↦ stays ph ]
+          | false ↦ elim (port == destination plan) as (λ b. UsesNoMore ph (if b then from_destination plan ph events m else keeps (goes ph []))) [ true ↦ destination_falls ph m | false ↦ stays ph ]
         ]
 
 -- The rows of a copy.

@@ -10,8 +10,8 @@ use Rattle.switch_node.specs.Switch.{SwitchState, Step, switch_step, still}
 use Rattle.net_length.proofs.Chances.{chance, spent, spent-append, uses}
 
 module _ (a k : ℕ) (s : SwitchState) where
-  abbrev pub Falls : Msg → Step → Type 0
-  Falls m step = uses a k step ≤ chance a k m
+  abbrev pub UsesNoMore : Msg → Step → Type 0
+  UsesNoMore m step = uses a k step ≤ chance a k m
 
   stops_none : (n : ℕ) → spent a k (switch.stops n) ≡ 0
   stops_none zero = omega arith
@@ -21,8 +21,8 @@ module _ (a k : ℕ) (s : SwitchState) where
       omega (arith, rest, both)
 
   -- each step of the switch
-  pub switch_uses : (m : Msg) → Falls m (switch_step s m)
-  switch_uses = step_fits s Falls (record {
+  pub switch_uses : (m : Msg) → UsesNoMore m (switch_step s m)
+  switch_uses = step_fits s UsesNoMore (record {
     still = λ m. omega arith;
     to_controller = λ p. omega arith;
     to_instance = λ p i. omega arith;

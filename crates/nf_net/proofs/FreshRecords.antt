@@ -5,14 +5,14 @@ use Rattle.std.specs.Prelude.{if◌then◌else◌, ◌==◌}
 use Rattle.std.proofs.lemmas.Bool.Decides.{Decides-eqb}
 use Rattle.unit_machine.proofs.Real as Real
 use Rattle.unit_machine.proofs.Real.{M_fenced, M_install, M_fence_to, where_true, add}
-use Rattle.share_machine.proofs.Share.{Item, Item.Carry, Item.Fence, Item.Shared, Item.Diverted, Item.Install, Item.Forward, Item.Get, Item.Sync, Item.Fenced, Item.Chunks, Item.Chunk, Item.Synced, Item.Stray, Frame, runs}
+use Rattle.share_machine.proofs.Share.{Item, Item.Carry, Item.Fence, Item.Shared, Item.Diverted, Item.Install, Item.Forward, Item.Get, Item.Sync, Item.Fenced, Item.Chunks, Item.Chunk, Item.Synced, Item.Stray, UnitShare, runs}
 use Rattle.share_machine.proofs.Stages.{shape}
 use Rattle.share_machine.proofs.Heads.{Meets, to_members, meets_sw, meets_to}
 use Rattle.abstract_net.proofs.Net.{Msg, Msg.In_packet, Msg.Asked, Msg.Carry_on, Msg.Pass_on, Msg.Fence_on, Msg.Mv, Sys, IsSys, inst_step, at_node}
 use Rattle.abstract_net.proofs.Rest.{none_mine, done_u}
 use Rattle.abstract_net.proofs.Readings.{fold}
 use Rattle.abstract_net.proofs.GlobalAll.{Global_all}
-use Rattle.abstract_net.proofs.ShareViews.{mine, share_expect, share_frame, move_seen, old_seen, share_seen, share_items, own_at}
+use Rattle.abstract_net.proofs.ShareViews.{mine, share_expect, unit_share, move_seen, old_seen, share_seen, share_items, own_at}
 use Rattle.abstract_net.proofs.MemberSteps.{does}
 use Rattle.abstract_net.proofs.UnderInst.{heads, inst_from}
 use Rattle.abstract_net.proofs.Under.{Under, inst_keeps}
@@ -65,8 +65,8 @@ module _ {R : Type 0} (S : Sys R) (A : Sharing S) (laws : IsSys S) (u : units.Un
         abbrev z : Seeing_share
         z = seeing S A u x
 
-        abbrev f : Frame R
-        f = share_frame S A z
+        abbrev f : UnitShare R
+        f = unit_share S A z
 
         abbrev left : List (Item R)
         left = share_items S A z y rest

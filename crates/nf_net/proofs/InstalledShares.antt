@@ -99,7 +99,7 @@ module _ {R : Type 0} (f : Semantics R) (c : Config) (items : List Msg) where
     installs = λ first rest op ms filter e what. by_place first rest op ms filter what (stands log notes first (note.Installed op) rest e);
   }
     where
-      by_place : (first rest : List Note) (op : ℕ) (ms : List (List ℕ)) (filter : Filter) → order_numbered items op ≡ Some (order.Share ms filter) → Stands log notes first (note.Installed op) rest → IsInstalledShare first op ms filter
+      by_place : (first rest : List Note) (op : ℕ) (ms : List (List ℕ)) (filter : Filter) → order_numbered items op ≡ Some (order.Share ms filter) → Stands log notes (record { before = first; item = note.Installed op; after = rest }) → IsInstalledShare first op ms filter
       by_place first rest op ms filter what (In_first cs here) = h.installs first cs op ms filter here what
       by_place first rest op ms filter what (In_second cs from there) = absurd (installed_nowhere notes cs rest op none there)
 
@@ -114,7 +114,7 @@ module _ {R : Type 0} (f : Semantics R) (c : Config) (items : List Msg) where
             let at : log ≡ first = sym (from ∙ ap (λ xs. log ++ xs) none ∙ append-nil log) in
             subst (λ xs. IsInstalledShare xs op ms filter) at (subst (λ q. IsInstalledShare log q ms filter) op_is (new ms filter (ap (order_numbered items) op_is ∙ what)))
 
-        by_place : Stands log (note.Installed k ∷ []) first (note.Installed op) rest → IsInstalledShare first op ms filter
+        by_place : Stands log (note.Installed k ∷ []) (record { before = first; item = note.Installed op; after = rest }) → IsInstalledShare first op ms filter
         by_place (In_first cs here) = h.installs first cs op ms filter here what
         by_place (In_second cs from there) = by_alone cs from (alone (note.Installed k) (note.Installed op) cs rest there)
 

@@ -139,7 +139,7 @@ module _ (Part : ℕ → Piece → Type 0) (Verdict : ℕ → Answer → Type 0)
             omega (arith, sent, here);
       }
 
-      pub copy_is : (m : Msg) (did : Step) → CopyTurn c op y m did → StepIs did
+      pub copy_is : (m : Msg) (did : Step) → CopyTurn (record { controller = c; op = op; copy = y }) m did → StepIs did
       copy_is m did (Idle e) = subst StepIs (sym e) still_is
       copy_is m did (Hands k chunks e d) = subst StepIs (sym d) (hands_is (msg.Standby y.plan.op chunks) tt (λ first j. refl))
       copy_is m did (Hands_all k chunk e d) = subst StepIs (sym d) (hands_is (msg.PutAll y.plan.op chunk) tt (λ first j. refl))

@@ -29,7 +29,7 @@ use Rattle.abstract_net.proofs.GlobalAll.{Of_share}
 use Rattle.abstract_net.proofs.NewMessages.{new_head}
 use Rattle.abstract_net.proofs.ShareLabels.{label_of}
 use Rattle.abstract_net.proofs.ShareLists.{found_each}
-use Rattle.abstract_net.proofs.ShareViews.{share_frame}
+use Rattle.abstract_net.proofs.ShareViews.{unit_share}
 use Rattle.abstract_net.proofs.Shares.{Any, New, Shared_on, S_sync, same, Open_share, Want_share, find_share, moves_of}
 use Rattle.abstract_net.proofs.Under.{Under}
 use Rattle.abstract_net.proofs.UnderStarts.{seeing}
@@ -246,7 +246,7 @@ module _ {F R : Type 0} (f : Semantics R) (c : Config) (items : List Msg) (is : 
         by_where (Apart_from_shares h none) = let never : same_unit ((S f g).unit_of q) u ≡ false = head_none (S f g) u (A f g) j.world p (instance_node y) (New (Shared_on op false q)) rest off waits h.untaken in let bad : true ≡ false = sym mine ∙ never in cc
         by_where (Under_share x before d h o t) =
             let z = seeing (S f g) (A f g) u x in
-            let v = shape (share_frame (S f g) (A f g) z) h.stage in
+            let v = shape (unit_share (S f g) (A f g) z) h.stage in
             let of = new_head (λ r m. Of_share (S f g) j.world.shares r m) j.world.link j.shown_is.every.global.messages p (instance_node y) (Shared_on op false q) rest off waits in
             let label = label_of (S f g) (A f g) z j.world j.shown_is.every.global h.covered v.phase v.queue h.holds.share (instance_node y) (Shared_on op false q) of in
             elim (op == x.num) as (λ t. (op == x.num) ≡ t → is_shared_away c items u y w.log ≡ true) [

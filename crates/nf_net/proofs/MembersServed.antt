@@ -6,7 +6,7 @@ use Rattle.unit_machine.proofs.Real.{add}
 use Rattle.unit_machine.proofs.Stages.{times, Order}
 use Rattle.unit_machine.proofs.Loose.{times-append}
 use Rattle.unit_machine.proofs.Ends.{same_of}
-use Rattle.share_machine.proofs.Share.{Ran, Item, Item.Carry, Frame}
+use Rattle.share_machine.proofs.Share.{Ran, Item, Item.Carry, UnitShare}
 use Rattle.share_machine.proofs.Stages.{Stage, Stage.Diverting, Stage.Fence_goes, Stage.Fenced_comes, Stage.Get_goes, Stage.Chunks_come, Stage.Spreads, Stage.Resting, Stage.Forwards, Stage.Carries, Stage.Chunk_comes, packets, served, shape}
 use Rattle.share_machine.proofs.Order.{Parts, parts}
 use Rattle.share_machine.proofs.Heads.{to_members}
@@ -15,7 +15,7 @@ use Rattle.abstract_net.proofs.Net.{Sys, IsSys, at_node}
 use Rattle.abstract_net.proofs.Rest.{none_mine}
 use Rattle.abstract_net.proofs.GlobalAll.{Global_all}
 use Rattle.abstract_net.proofs.Untaken.{No_share, head_none}
-use Rattle.abstract_net.proofs.ShareViews.{share_expect, share_frame, share_seen, share_items, own_at}
+use Rattle.abstract_net.proofs.ShareViews.{share_expect, unit_share, share_seen, share_items, own_at}
 use Rattle.abstract_net.proofs.MemberSteps.{does}
 use Rattle.abstract_net.proofs.UnderInst.{did_at, heads, inst_from}
 use Rattle.abstract_net.proofs.Under.{Under, inst_keeps}
@@ -35,7 +35,7 @@ pub some_times : (front back : List Ran) (p y : ℕ) → 1 ≤ times p (packets 
 some_times [] back p y = let self : (p == p) ≡ true = grind (arith, nat_tests) in rw self (omega arith)
 some_times (x ∷ front) back p y = let rest = some_times front back p y in omega (arith, rest)
 
-module _ {R : Type 0} (f : Frame R) where
+module _ {R : Type 0} (f : UnitShare R) where
   -- of those that are served each is at its member
   served_at : (ps : List ℕ) (front back : List Ran) (p y : ℕ) → served f ps ≡ front ++ (p, y) ∷ back → y ≡ f.member_of p
   served_at [] [] back p y e = cc
@@ -107,8 +107,8 @@ module _ {R : Type 0} (S : Sys R) (A : Sharing S) (laws : IsSys S) (u : units.Un
     done_under : (x : Want_share) (before : List ℕ) (b : Bool) → Under S A (seeing S A u x) w before k.diverted → Order b (before ++ k.diverted) k.all → Done_at
     done_under x before b h o = record { share = its_share S A laws u w x before k.diverted h; its = record { found = h.holds.share; takes = h.covered; home_in = h.is.home_in }; at = by_place (stands parted.before (served fr parted.since) front (p, y) back (sym parted.done ∙ sym (all_done S A (seeing S A u x) w before k.diverted h) ∙ there)) }
       where
-        fr : Frame R
-        fr = share_frame S A (seeing S A u x)
+        fr : UnitShare R
+        fr = unit_share S A (seeing S A u x)
 
         parted : Parts fr h.stage
         parted = parts fr h.stage
@@ -121,7 +121,7 @@ module _ {R : Type 0} (S : Sys R) (A : Sharing S) (laws : IsSys S) (u : units.Un
             let first : times p before ≡ times p (packets parted.before) + times p parted.early_waits = ap (times p) (h.before_is ∙ parted.early_is) ∙ times-append p (packets parted.before) parted.early_waits in
             omega (arith, all, two, first, once, came)
 
-        by_place : Stands parted.before (served fr parted.since) front (p, y) back → y ≡ A.member x.members p
+        by_place : Stands parted.before (served fr parted.since) (record { before = front; item = (p, y); after = back }) → y ≡ A.member x.members p
         by_place (In_first cs here) = let some = some_times front cs p y in let none = not_before in let same = ap (λ ds. times p (packets ds)) here in absurd (omega (arith, some, none, same))
         by_place (In_second cs from at) = served_at fr parted.since cs back p y at
 
@@ -138,12 +138,12 @@ module _ {R : Type 0} (S : Sys R) (A : Sharing S) (laws : IsSys S) (u : units.Un
   unseen_ran es live standby m off = refl
 
   -- under a share that doesn't divert yet it is home that processes
-  module _ (ok : IsSharing S A) (w : Whole S A) (x : Want_share) (before since : List ℕ) (h : Under S A (seeing S A u x) w before since) (g : Global_all S A w) (y p : ℕ) (m : Any R) (rest : List (Any R)) (y0 : (y == 0) ≡ false) (y1 : (y == 1) ≡ false) (waits : w.link p y ≡ m ∷ rest) (some : ran_of S A u (at_node y (did_at S A laws (seeing S A u x) w y m).ran) ≢ []) (off : (shape (share_frame S A (seeing S A u x)) h.stage).diverts ≡ false) where
+  module _ (ok : IsSharing S A) (w : Whole S A) (x : Want_share) (before since : List ℕ) (h : Under S A (seeing S A u x) w before since) (g : Global_all S A w) (y p : ℕ) (m : Any R) (rest : List (Any R)) (y0 : (y == 0) ≡ false) (y1 : (y == 1) ≡ false) (waits : w.link p y ≡ m ∷ rest) (some : ran_of S A u (at_node y (did_at S A laws (seeing S A u x) w y m).ran) ≢ []) (off : (shape (unit_share S A (seeing S A u x)) h.stage).diverts ≡ false) where
     abbrev z : Seeing_share
     z = seeing S A u x
 
-    abbrev fr : Frame R
-    fr = share_frame S A z
+    abbrev fr : UnitShare R
+    fr = unit_share S A z
 
     abbrev left : List (Item R)
     left = share_items S A z y rest
@@ -188,7 +188,7 @@ module _ {R : Type 0} (S : Sys R) (A : Sharing S) (laws : IsSys S) (u : units.Un
 
     under_one : (x : Want_share) (before since : List ℕ) → Under S A (seeing S A u x) w before since → Processes S A laws w u y (ran_by S A laws w y m) → Processes_one w y q
     under_one x before since h (As_moves may live) = By_move may
-    under_one x before since h (At_member e its inside places own) = by_diverts (shape (share_frame S A (seeing S A u x)) h.stage).diverts refl
+    under_one x before since h (At_member e its inside places own) = by_diverts (shape (unit_share S A (seeing S A u x)) h.stage).diverts refl
       where
         here : Open_share
         here = its_share S A laws u w x before since h
@@ -196,9 +196,9 @@ module _ {R : Type 0} (S : Sys R) (A : Sharing S) (laws : IsSys S) (u : units.Un
         its_here : Its_share S A laws u w here
         its_here = record { found = h.holds.share; takes = h.covered; home_in = h.is.home_in }
 
-        by_diverts : (d : Bool) → (shape (share_frame S A (seeing S A u x)) h.stage).diverts ≡ d → Processes_one w y q
+        by_diverts : (d : Bool) → (shape (unit_share S A (seeing S A u x)) h.stage).diverts ≡ d → Processes_one w y q
         by_diverts false off = By_home here its_here (inr (h.holds.target ∙ ap (λ b. if b then 1 else x.home) off)) (undiverted_home ok w x before since h g y p m rest y0 y1 waits (some_ran (seeing S A u x) m refl) off)
-        by_diverts true on = by_place (placed_at (share_frame S A (record { unit = u; num = e.num; home = e.home; members = e.members; filter = e.filter })) its_ran.0 its_ran.1 q y (subst (At_places (share_frame S A (record { unit = u; num = e.num; home = e.home; members = e.members; filter = e.filter }))) its_ran.2 places))
+        by_diverts true on = by_place (placed_at (unit_share S A (record { unit = u; num = e.num; home = e.home; members = e.members; filter = e.filter })) its_ran.0 its_ran.1 q y (subst (At_places (unit_share S A (record { unit = u; num = e.num; home = e.home; members = e.members; filter = e.filter }))) its_ran.2 places))
           where
             one : w.target u ≡ 1
             one = h.holds.target ∙ ap (λ b. if b then 1 else x.home) on

@@ -59,7 +59,7 @@ module _ (F : Type 0) {R : Type 0} (f : Semantics R) (laws : FunctionLaws f) (al
   places_more : (log notes : List Note) → ArePlaces (job_of f c items) log → AtPlaces log notes → ArePlaces (job_of f c items) (log ++ notes)
   places_more log notes old new before after number i output e = by_place (stands log notes before (note.Processed number i output) after e)
     where
-      by_place : Stands log notes before (note.Processed number i output) after → IsPlace (job_of f c items) number before i
+      by_place : Stands log notes (record { before = before; item = note.Processed number i output; after = after }) → IsPlace (job_of f c items) number before i
       by_place (In_first cs here) = old before cs number i output here
       by_place (In_second cs from there) = subst (λ b. IsPlace (job_of f c items) number b i) (sym from) (new cs after number i output there)
 

@@ -30,7 +30,7 @@ module _ {F R : Type 0} (f : Semantics R) (g : Given) (n : ℕ) (x : Scene F f g
 
   pub data Changed : Type 0 where
     No_rule : installed notes ≡ [] → Changed
-    Moves_on : (k : ℕ) (filter : Filter) (from dst : ℕ) (rest : List (Any R)) → notes ≡ note.Installed k ∷ [] → IsInstall g k filter from (target.Instance dst) → is_whole f.kind filter ≡ true → x.world.link 1 0 ≡ Old (net.Mv filter (real.M_install k (instance_node from) (instance_node dst))) ∷ rest → Changed
+    Moves_on : (k : ℕ) (filter : Filter) (from dst : ℕ) (rest : List (Any R)) → notes ≡ note.Installed k ∷ [] → IsInstall g k (record { filter = filter; from = from; to = target.Instance dst }) → is_whole f.kind filter ≡ true → x.world.link 1 0 ≡ Old (net.Mv filter (real.M_install k (instance_node from) (instance_node dst))) ∷ rest → Changed
     Diverts : (k : ℕ) (filter : Filter) (from : ℕ) (rest : List (Any R)) → notes ≡ note.Installed k ∷ [] → IsDivert g k filter from → is_whole f.kind filter ≡ true → x.world.link 1 0 ≡ New (S_install k filter (instance_node from)) ∷ rest → Changed
 
   module _ (k : ℕ) (filter : Filter) (from : ℕ) (to : Target) (e : m ≡ msg.Install k filter from to) where

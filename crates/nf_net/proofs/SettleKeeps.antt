@@ -136,7 +136,7 @@ module _ (F : Type 0) {R : Type 0} (f : Semantics R) (laws : FunctionLaws f) (al
   came_more : (log notes : List Note) → Came_first log → ((before after : List Note) (p i : ℕ) (output : Output) → notes ≡ before ++ note.Processed p i output ∷ after → 1 ≤ times p (arrived log)) → Came_first (log ++ notes)
   came_more log notes old new before after p i output e = by_place (stands log notes before (note.Processed p i output) after e)
     where
-      by_place : Stands log notes before (note.Processed p i output) after → 1 ≤ times p (arrived before)
+      by_place : Stands log notes (record { before = before; item = note.Processed p i output; after = after }) → 1 ≤ times p (arrived before)
       by_place (In_first cs here) = old before cs p i output here
       by_place (In_second cs from there) =
           let some = new cs after p i output there in
@@ -146,7 +146,7 @@ module _ (F : Type 0) {R : Type 0} (f : Semantics R) (laws : FunctionLaws f) (al
   answered_later : (log notes : List Note) → Answered_before log → ((front behind : List Msg) → items ≡ front ++ msg.InSettle ∷ behind → (before after : List Note) (p : ℕ) → has_packet p behind ≡ true → notes ≡ before ++ note.Arrived p ∷ after → AllAnswered (commands front) log) → Answered_before (log ++ notes)
   answered_later log notes old new front behind whole before after p has e = by_place (stands log notes before (note.Arrived p) after e)
     where
-      by_place : Stands log notes before (note.Arrived p) after → AllAnswered (commands front) before
+      by_place : Stands log notes (record { before = before; item = note.Arrived p; after = after }) → AllAnswered (commands front) before
       by_place (In_first cs here) = old front behind whole before cs p has here
       by_place (In_second cs from there) = subst (AllAnswered (commands front)) (sym from) (all_answered_more (commands front) log cs (new front behind whole cs after p has there))
 

@@ -134,7 +134,7 @@ module _ (F : Type 0) {R : Type 0} (f : Semantics R) (laws : FunctionLaws f) (al
       shared_then : members c items u arrival.first ≡ Some ms
       shared_then = by_place (stands arrival.first (note.Arrived p ∷ arrival.rest) there.first (note.Installed by.op) there.rest (sym arrival.whole ∙ there.whole))
         where
-          by_place : Stands arrival.first (note.Arrived p ∷ arrival.rest) there.first (note.Installed by.op) there.rest → members c items u arrival.first ≡ Some ms
+          by_place : Stands arrival.first (note.Arrived p ∷ arrival.rest) (record { before = there.first; item = note.Installed by.op; after = there.rest }) → members c items u arrival.first ≡ Some ms
           by_place (In_first xs here) = had_before xs here
           by_place (In_second xs from at) = absurd (not_behind xs from)
 

@@ -15,7 +15,7 @@ use Rattle.nf_msgs.specs.Nodes.{instance_node}
 use Rattle.actor_net.specs.declared.choice.Choice.{Choice}
 use Rattle.actor_net.specs.Network.{Network, IsRun, run}
 use Rattle.share_machine.proofs.Stages.{shape}
-use Rattle.abstract_net.proofs.ShareViews.{share_frame}
+use Rattle.abstract_net.proofs.ShareViews.{unit_share}
 use Rattle.abstract_net.proofs.Shares.{Open_share, Want_share}
 use Rattle.abstract_net.proofs.Under.{Under}
 use Rattle.abstract_net.proofs.UnderStarts.{seeing}
@@ -63,7 +63,7 @@ module _ {F R : Type 0} (f : Semantics R) (c : Config) (items : List Msg) (is : 
   -- A unit under a share.
   module _ (u : units.Unit) (x : Want_share) (before since : List ℕ) (k : Under (S f g) (A f g) (seeing (S f g) (A f g) u x) j.world before since) where
     abbrev diverts : Bool
-    diverts = (shape (share_frame (S f g) (A f g) (seeing (S f g) (A f g) u x)) k.stage).diverts
+    diverts = (shape (unit_share (S f g) (A f g) (seeing (S f g) (A f g) u x)) k.stage).diverts
 
     abbrev e_here : Open_share
     e_here = its_share (S f g) (A f g) (is_sys f g.site g.packet) u j.world x before since k

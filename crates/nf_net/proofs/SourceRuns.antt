@@ -107,7 +107,7 @@ module _ (F : Type 0) {R : Type 0} (f : Semantics R) (laws : FunctionLaws f) (al
   source_more : (log notes : List Note) → At_source log → ((op : ℕ) (a : Answer) (first between cs back : List Note) → a ≢ Done → first ++ note.Begun op ∷ between ≡ log ++ cs → notes ≡ cs ++ note.Answered op a ∷ back → (front behind : List Note) (number i : ℕ) (output : Output) → between ≡ front ++ note.Processed number i output ∷ behind → moves_away c (order_numbered items op) (unit_numbered c items f.kind number) (owner c items (unit_numbered c items f.kind number) first) ≡ true → i ≡ owner c items (unit_numbered c items f.kind number) first) → At_source (log ++ notes)
   source_more log notes old new op first between front behind number i output refused e away = by_place (stands log notes (first ++ note.Begun op ∷ between) (note.Answered op refused.answer) refused.after (refused.whole ∙ sym (append_assoc first (note.Begun op ∷ between) (note.Answered op refused.answer ∷ refused.after))))
     where
-      by_place : Stands log notes (first ++ note.Begun op ∷ between) (note.Answered op refused.answer) refused.after → i ≡ owner c items (unit_numbered c items f.kind number) first
+      by_place : Stands log notes (record { before = first ++ note.Begun op ∷ between; item = note.Answered op refused.answer; after = refused.after }) → i ≡ owner c items (unit_numbered c items f.kind number) first
       by_place (In_first cs here) = old op first between front behind number i output (record { answer = refused.answer; refused = refused.refused; after = cs; whole = here ∙ append_assoc first (note.Begun op ∷ between) (note.Answered op refused.answer ∷ cs) }) e away
       by_place (In_second cs from there) = new op refused.answer first between cs refused.after refused.refused from there front behind number i output e away
 
@@ -182,7 +182,7 @@ module _ (F : Type 0) {R : Type 0} (f : Semantics R) (laws : FunctionLaws f) (al
       begins_now : (op : ℕ) (filter : Filter) (i : ℕ) → notes ≡ note.Begun op ∷ [] → Stays f c items op filter i (w.log ++ notes)
       begins_now op filter i e first rest u whole fits taken owned = by_place (stands w.log notes first (note.Begun op) rest whole)
         where
-          by_place : Stands w.log notes first (note.Begun op) rest → (owner c items u (w.log ++ notes) ≡ i) × Are_at f c items u i rest
+          by_place : Stands w.log notes (record { before = first; item = note.Begun op; after = rest }) → (owner c items u (w.log ++ notes) ≡ i) × Are_at f c items u i rest
           by_place (In_first cs here) =
               let once = (after.is.answered op).begun_once in
               let self : (op == op) ≡ true = grind (arith, nat_tests) in

@@ -122,7 +122,7 @@ module _ {R : Type 0} (f : Semantics R) (c : Config) (items : List Msg) where
   pub stays_more : (op : ℕ) (filter : Filter) (i : ℕ) (log notes : List Note) → Stays op filter i log → began op notes ≡ false → Leaves filter i log notes → Stays op filter i (log ++ notes)
   stays_more op filter i log notes h none leaves first rest u e fits taken owned = by_place (stands log notes first (note.Begun op) rest e)
     where
-      by_place : Stands log notes first (note.Begun op) rest → (owner c items u (log ++ notes) ≡ i) × Are_at u i rest
+      by_place : Stands log notes (record { before = first; item = note.Begun op; after = rest }) → (owner c items u (log ++ notes) ≡ i) × Are_at u i rest
       by_place (In_first cs here) =
           let old = h first cs u here fits taken owned in
           let new = leaves u fits taken old.0 in

@@ -29,7 +29,7 @@ use Rattle.share_machine.proofs.Share as machine
 use Rattle.share_machine.proofs.Stages.{Stage, Stage.Diverting, Stage.Fence_goes, Stage.Fenced_comes, Stage.Get_goes, Stage.Chunks_come, Stage.Spreads, Stage.Resting, Stage.Forwards, Stage.Carries, Stage.Chunk_comes, shape}
 use Rattle.abstract_net.proofs.Elsewhere.{where_two}
 use Rattle.abstract_net.proofs.ShareLists.{found_each}
-use Rattle.abstract_net.proofs.ShareViews.{share_frame}
+use Rattle.abstract_net.proofs.ShareViews.{unit_share}
 use Rattle.abstract_net.proofs.Shares.{Open_share, moves_of}
 use Rattle.abstract_net.proofs.Untaken.{Elsewhere_home}
 use Rattle.abstract_net.proofs.UnderStarts.{seeing}
@@ -74,7 +74,7 @@ serves_same (phase.Out member) = refl
 serves_same (phase.Syncing left) = refl
 
 -- diverts the packets of its units
-serving_diverts : {R : Type 0} (f : machine.Frame R) (s : Stage R) → serves (shape f s).phase ≡ true → (shape f s).diverts ≡ true
+serving_diverts : {R : Type 0} (f : machine.UnitShare R) (s : Stage R) → serves (shape f s).phase ≡ true → (shape f s).diverts ≡ true
 serving_diverts f (Diverting d b l) e = cc
 serving_diverts f (Fence_goes d b l q v) e = refl
 serving_diverts f (Fenced_comes d b q v) e = refl
@@ -288,8 +288,8 @@ module _ {F R : Type 0} (f : Semantics R) (c : Config) (items : List Msg) (is : 
       diverted_by (Under_share x before d k o m) =
           let here : Open_share = its_share (S f g) (A f g) (is_sys f g.site g.packet) u j.world x before _ k in
           let its : Its_share (S f g) (A f g) (is_sys f g.site g.packet) u j.world here = record { found = k.holds.share; takes = k.covered; home_in = k.is.home_in } in
-          let serving : serves (shape (share_frame (S f g) (A f g) (seeing (S f g) (A f g) u x)) k.stage).phase ≡ true = ap serves (phase_is op ms filter own on here its) ∙ serves_same own.state.phase ∙ set_up in
-          k.holds.target ∙ ap (λ d. if d then 1 else x.home) (serving_diverts (share_frame (S f g) (A f g) (seeing (S f g) (A f g) u x)) k.stage serving)
+          let serving : serves (shape (unit_share (S f g) (A f g) (seeing (S f g) (A f g) u x)) k.stage).phase ≡ true = ap serves (phase_is op ms filter own on here its) ∙ serves_same own.state.phase ∙ set_up in
+          k.holds.target ∙ ap (λ d. if d then 1 else x.home) (serving_diverts (unit_share (S f g) (A f g) (seeing (S f g) (A f g) u x)) k.stage serving)
 
       pub set_up_installed : 1 ≤ times_installed op w.log
       set_up_installed = by_members (diverted_members f c items is n w j u fits (diverted_by (j.shown_is.every.unit u)))

@@ -40,12 +40,18 @@ hands c op y m = record {
 abbrev pub ends : ControllerState → ℕ → Step
 ends c op = record { node = closed c op; sends = (switch_node, msg.Answered op) ∷ []; notes = note.Answered op Done ∷ [] }
 
+-- an open copy of a controller
+pub record OpenCopy : Type 0 where
+  pub controller : ControllerState
+  pub op : ℕ
+  pub copy : CopyState
+
 -- what a message does to an open copy
-pub data CopyTurn (c : ControllerState) (op : ℕ) (y : CopyState) (m : Msg) (did : Step) : Type 0 where
-  Idle : did ≡ still c → CopyTurn c op y m did
-  Hands : (k : ℕ) (chunks : List Chunk) → m ≡ msg.Chunks k chunks → did ≡ hands c op y (msg.Standby y.plan.op chunks) → CopyTurn c op y m did
-  Hands_all : (k : ℕ) (chunk : Chunk) → m ≡ msg.AllChunk k chunk → did ≡ hands c op y (msg.PutAll y.plan.op chunk) → CopyTurn c op y m did
-  Ends : did ≡ ends c op → CopyTurn c op y m did
+pub data CopyTurn (x : OpenCopy) (m : Msg) (did : Step) : Type 0 where
+  Idle : did ≡ still x.controller → CopyTurn x m did
+  Hands : (k : ℕ) (chunks : List Chunk) → m ≡ msg.Chunks k chunks → did ≡ hands x.controller x.op x.copy (msg.Standby x.copy.plan.op chunks) → CopyTurn x m did
+  Hands_all : (k : ℕ) (chunk : Chunk) → m ≡ msg.AllChunk k chunk → did ≡ hands x.controller x.op x.copy (msg.PutAll x.copy.plan.op chunk) → CopyTurn x m did
+  Ends : did ≡ ends x.controller x.op → CopyTurn x m did
 
 source_quiet : (plan : CopyPlan) (ph : CopyPhase) (m : Msg) → is_copied m ≡ false → from_source plan ph m ≡ goes ph []
 source_quiet plan Getting (msg.Chunks op chunks) e = cc
@@ -70,6 +76,9 @@ row_quiet y p m e = elim (p == instance_node y.plan.from) as (λ b. (if b then f
 ]
 
 module _ (c : ControllerState) (op : ℕ) (y : CopyState) (going : answer_of y.phase ≡ None) (there : finite.get c.operations op ≡ Some (Copy y)) where
+  abbrev here : OpenCopy
+  here = record { controller = c; op = op; copy = y }
+
   abbrev taken : CopyRow → Step
   taken r = takes_turn c op (copied y c.store r)
 
@@ -85,25 +94,25 @@ module _ (c : ControllerState) (op : ℕ) (y : CopyState) (going : answer_of y.p
   pub quiet_turn : (p : ℕ) (m : Msg) → is_copied m ≡ false → takes_turn c op (turn_of (Some (Copy y)) c.store p m) ≡ still c
   quiet_turn p m e = ap taken (row_quiet y p m e) ∙ same
 
-  at_source : (ph : CopyPhase) (m : Msg) → y.phase ≡ ph → CopyTurn c op y m (taken (from_source y.plan ph m))
+  at_source : (ph : CopyPhase) (m : Msg) → y.phase ≡ ph → CopyTurn here m (taken (from_source y.plan ph m))
   at_source Getting (msg.Chunks k chunks) is = Hands k chunks refl refl
   at_source Getting (msg.AllChunk k chunk) is = Hands_all k chunk refl refl
   at_source Getting m is = Idle (ap (λ q. taken (goes q [])) (sym is) ∙ same)
   at_source Keeping m is = Idle (ap (λ q. taken (goes q [])) (sym is) ∙ same)
   at_source Over m is = Idle (ap (λ q. taken (goes q [])) (sym is) ∙ same)
 
-  at_destination : (ph : CopyPhase) (m : Msg) → y.phase ≡ ph → CopyTurn c op y m (taken (from_destination y.plan ph m))
+  at_destination : (ph : CopyPhase) (m : Msg) → y.phase ≡ ph → CopyTurn here m (taken (from_destination y.plan ph m))
   at_destination Keeping (msg.Kept k) is = Ends over
   at_destination Keeping m is = Idle (ap (λ q. taken (goes q [])) (sym is) ∙ same)
   at_destination Getting m is = Idle (ap (λ q. taken (goes q [])) (sym is) ∙ same)
   at_destination Over m is = Idle (ap (λ q. taken (goes q [])) (sym is) ∙ same)
 
-  by_sender : (p : ℕ) (m : Msg) (a b : Bool) → CopyTurn c op y m (taken (if a then from_source y.plan y.phase m else if b then from_destination y.plan y.phase m else goes y.phase []))
+  by_sender : (p : ℕ) (m : Msg) (a b : Bool) → CopyTurn here m (taken (if a then from_source y.plan y.phase m else if b then from_destination y.plan y.phase m else goes y.phase []))
   by_sender p m true b = at_source y.phase m refl
   by_sender p m false true = at_destination y.phase m refl
   by_sender p m false false = Idle same
 
-  pub copy_turn : (p : ℕ) (m : Msg) → CopyTurn c op y m (takes_turn c op (turn_of (Some (Copy y)) c.store p m))
+  pub copy_turn : (p : ℕ) (m : Msg) → CopyTurn here m (takes_turn c op (turn_of (Some (Copy y)) c.store p m))
   copy_turn p m = by_sender p m (p == instance_node y.plan.from) (p == instance_node y.plan.to)
 
 move_quiet : (mv : MoveState) (events : List FullCell) (p : ℕ) (m : Msg) → is_copied m ≡ true → move.row mv events p m ≡ move.keeps (move.goes mv.phase [])

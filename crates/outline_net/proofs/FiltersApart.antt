@@ -15,6 +15,7 @@ use Rattle.nf_function.specs.declared.unit.Unit as units
 use Rattle.nf_function.specs.declared.unit.Unit.TheVariants.{Flow as OfFlow, Host as OfHost}
 use Rattle.nf_function.specs.declared.kind.Kind.TheVariants.{Conntrack, Nat, Monitor}
 use Rattle.nf_function.specs.Units.{has_hosts, takes, unit_of}
+use Rattle.unit_machine.proofs.Lists.{none_is}
 
 abbrev pub number_fits : ℕ → Option ℕ → Bool
 number_fits top None = true
@@ -89,10 +90,6 @@ flow_in (OfHost host) = record { proto = 6; local = host; lport = 0; remote = 0;
 flow_in_is : (kind : Kind) (u : units.Unit) → unit_fits kind u ≡ true → IsFlow (flow_in u)
 flow_in_is kind (OfFlow f) e = flow_is f (and_parts (not (has_hosts kind)) _ e).1
 flow_in_is kind (OfHost host) e = record { proto = lit< tt; local = (Decides-ltb host (2 ^ 32)).0 (and_parts (has_hosts kind) _ e).1; lport = lit< tt; remote = lit< tt; rport = lit< tt }
-
-none_is : {X : Type 0} (o : Option X) → is_some o ≡ false → o ≡ None
-none_is None e = refl
-none_is (Some x) e = cc
 
 or_l : (a b : Bool) → a || b ≡ false → a ≡ false
 or_l true b e = cc

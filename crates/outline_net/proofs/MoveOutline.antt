@@ -23,7 +23,7 @@ use Rattle.move_op.specs.declared.phase.Phase.TheVariants as phase
 use Rattle.move_op.specs.Move.{MovePlan, MoveRow, keeps, goes, have_units, chunks_of, put_back, source, destination, put_to, forward_to, pushed, released, returned, all_put, on_event, on_source_enabled, on_piece, on_deleted, on_restored, on_source_fenced, on_put_ok, on_put_no, on_destination_enabled, on_destination_fenced, from_source, from_destination, row}
 use Rattle.unit_machine.proofs.Machine as machine
 use Rattle.unit_machine.proofs.Real as real
-use Rattle.unit_machine.proofs.Real.{RPiece, RPhase, Op, Op_did}
+use Rattle.unit_machine.proofs.Real.{RPhase, Op, Op_did}
 use Rattle.unit_machine.proofs.Labels.{Each}
 use Rattle.abstract_net.proofs.Net as net
 use Rattle.abstract_net.proofs.Net.{wrap, row_of}

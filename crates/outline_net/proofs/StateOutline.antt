@@ -27,7 +27,7 @@ use Rattle.instance_worker.specs.declared.pieces.WholePieces.{WholePieces}
 use Rattle.instance_worker.specs.Pieces.{newest_version, piece_of, pieces_from, whole_of, pieces}
 use Rattle.instance_worker.specs.Instance.{told, on_stream, on_delete, on_put, on_restore, piece_refusal, piece_put}
 use Rattle.unit_machine.proofs.Real as real
-use Rattle.unit_machine.proofs.Real.{Chunks, RPiece}
+use Rattle.unit_machine.proofs.Real.{Chunks}
 use Rattle.unit_machine.proofs.Cuts.{marks, chop, is_nil-chop}
 use Rattle.unit_machine.proofs.Machine.{is_nil}
 use Rattle.unit_machine.proofs.Labels.{Each}

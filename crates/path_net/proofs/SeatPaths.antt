@@ -25,7 +25,7 @@ use Rattle.unit_machine.proofs.Ends.{same_of}
 use Rattle.unit_machine.proofs.Path.{passes_in, carries, events_in, forwards}
 use Rattle.unit_machine.proofs.Pairs.{expect}
 use Rattle.unit_machine.proofs.Seats.{seat_shape, seat_all, seat_path}
-use Rattle.unit_machine.proofs.Sides.{at_side, places, Last, At_source, At_destination, At_third, Stands, seat_stands, Empty, empty_of}
+use Rattle.unit_machine.proofs.Sides.{at_side, places, Last, At_source, At_destination, At_third, SidesStand, seat_stands, Empty, empty_of}
 use Rattle.unit_machine.proofs.Loose.{none_in}
 use Rattle.abstract_net.proofs.Holding.{Seeing, node_at, place as side_place}
 use Rattle.abstract_net.proofs.Rest.{same_done}
@@ -96,7 +96,7 @@ module _ {F R : Type 0} (f : Semantics R) (c : Config) (items : List Msg) (is : 
   abbrev z : Seeing
   z = see (S f g) (is_sys f g.site g.packet) u k.op k.third
 
-  stands : Stands x way
+  stands : SidesStand x way
   stands = seat_stands (S f g).F k.seat
 
   -- a unit of which something came: its packets go to its owner, which is there

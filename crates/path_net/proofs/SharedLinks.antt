@@ -22,13 +22,13 @@ use Rattle.nf_msgs.specs.Nodes.{instance_node}
 use Rattle.actor_net.proofs.WeightLaws.{Each}
 use Rattle.unit_machine.proofs.Labels as labels
 use Rattle.unit_machine.proofs.Real.{record_at, where_true, add}
-use Rattle.share_machine.proofs.Share.{Item, Item.Carry, Item.Fence, Item.Shared, Item.Diverted, Item.Install, Item.Forward, Item.Get, Item.Sync, Item.Fenced, Item.Chunks, Item.Chunk, Item.Synced, Item.Stray, Frame, if_mine}
+use Rattle.share_machine.proofs.Share.{Item, Item.Carry, Item.Fence, Item.Shared, Item.Diverted, Item.Install, Item.Forward, Item.Get, Item.Sync, Item.Fenced, Item.Chunks, Item.Chunk, Item.Synced, Item.Stray, UnitShare, if_mine}
 use Rattle.share_machine.proofs.Path.{carries, shared_in, forwarded, diverted}
 use Rattle.abstract_net.proofs.Net as net
 use Rattle.abstract_net.proofs.Net.{Want}
 use Rattle.abstract_net.proofs.Rest.{Nothing_of}
 use Rattle.abstract_net.proofs.ShareLabels.{Share_label}
-use Rattle.abstract_net.proofs.ShareViews.{share_frame, share_seen, share_items}
+use Rattle.abstract_net.proofs.ShareViews.{unit_share, share_seen, share_items}
 use Rattle.abstract_net.proofs.Shares.{Any, Old, New, Want_share, S_asked, S_shared, Each_new, olds, same, Seeing_share}
 use Rattle.net_world.specs.Log.{those}
 use Rattle.net_world.specs.Path.{all_of, passed, carried, handed_over}
@@ -40,7 +40,7 @@ use Rattle.whole_joined.proofs.Given.{Given, place}
 use Rattle.whole_joined.proofs.Joined.{S, A, shown, Label}
 
 -- an item that is seen, or not, before others
-module _ {R : Type 0} (h : Frame R) where
+module _ {R : Type 0} (h : UnitShare R) where
   shared-add : (o : Option (Item R)) (xs : List (Item R)) → shared_in h (add o xs) ≡ shared_in h (add o []) ++ shared_in h xs
   shared-add None xs = refl
   shared-add (Some (Shared p)) xs = ap (λ v. v ++ shared_in h xs) (sym (append-nil (if_mine h p)))
@@ -72,8 +72,8 @@ abbrev nothing : Reading
 nothing = record { shared = []; carry = []; forward = []; divert = [] }
 
 module _ {R : Type 0} (f : Semantics R) (g : Given) (z : Seeing_share) where
-  abbrev pub its : Frame R
-  its = share_frame (S f g) (A f g) z
+  abbrev pub its : UnitShare R
+  its = unit_share (S f g) (A f g) z
 
   abbrev mine : ℕ → Bool
   mine = its.mine

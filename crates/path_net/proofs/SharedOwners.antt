@@ -12,7 +12,7 @@ use Rattle.actor_net.specs.Network.{Network}
 use Rattle.unit_machine.proofs.Labels.{Each}
 use Rattle.share_machine.proofs.Share.{View, has}
 use Rattle.share_machine.proofs.Stages.{shape}
-use Rattle.abstract_net.proofs.ShareViews.{share_frame, as_share}
+use Rattle.abstract_net.proofs.ShareViews.{unit_share, as_share}
 use Rattle.abstract_net.proofs.Shares.{Want_share, Open_share, find_share, Seeing_share}
 use Rattle.abstract_net.proofs.Under.{Under}
 use Rattle.abstract_net.proofs.UnderStarts.{seeing}
@@ -50,7 +50,7 @@ module _ {F R : Type 0} (f : Semantics R) (c : Config) (items : List Msg) (is : 
     z = seeing (S f g) (A f g) u x
 
     abbrev v : View R
-    v = shape (share_frame (S f g) (A f g) z) k.stage
+    v = shape (unit_share (S f g) (A f g) z) k.stage
 
     abbrev e : Open_share
     e = as_share (S f g) (A f g) z v.phase v.queue

@@ -12,7 +12,7 @@ use Rattle.ctrl_node.specs.declared.operation.Operation.{Operation}
 use Rattle.ctrl_node.specs.declared.operation.Operation.TheVariants.{Move, Copy, Share}
 use Rattle.actor_net.specs.Network.{Network, IsWorld, on_link}
 use Rattle.unit_machine.proofs.Labels.{Each}
-use Rattle.share_machine.proofs.Share.{Frame, View, mine_in}
+use Rattle.share_machine.proofs.Share.{UnitShare, View, mine_in}
 use Rattle.share_machine.proofs.Stages.{shape}
 use Rattle.share_machine.proofs.Path.{carries, shared_in, forwarded as forwards, diverted as diverts}
 use Rattle.abstract_net.proofs.GlobalAll.{Of_share}
@@ -20,7 +20,7 @@ use Rattle.abstract_net.proofs.Net.{Open, find_op}
 use Rattle.abstract_net.proofs.NewMessages.{each_new_map}
 use Rattle.abstract_net.proofs.Rest.{Rest_rule, Nothing_of, none_mine}
 use Rattle.abstract_net.proofs.ShareLabels.{Share_label, label_of, queue_other}
-use Rattle.abstract_net.proofs.ShareViews.{share_frame, share_expect, share_items, as_share}
+use Rattle.abstract_net.proofs.ShareViews.{unit_share, share_expect, share_items, as_share}
 use Rattle.abstract_net.proofs.Shares.{Want_share, Open_share, Each_new, olds, Seeing_share}
 use Rattle.abstract_net.proofs.Under.{Under}
 use Rattle.abstract_net.proofs.UnderStarts.{seeing}
@@ -52,8 +52,8 @@ module _ {F R : Type 0} (f : Semantics R) (c : Config) (items : List Msg) (is : 
   abbrev pub z : Seeing_share
   z = seeing (S f g) (A f g) u x
 
-  abbrev pub fr : Frame R
-  fr = share_frame (S f g) (A f g) z
+  abbrev pub fr : UnitShare R
+  fr = unit_share (S f g) (A f g) z
 
   abbrev pub v : View R
   v = shape fr k.stage

@@ -13,11 +13,11 @@ use Rattle.nf_msgs.specs.declared.msg.Msg.{Msg}
 use Rattle.nf_msgs.specs.declared.note.Note.{Note}
 use Rattle.nf_msgs.specs.Nodes.{controller_node, instance_node}
 use Rattle.actor_net.specs.Network.{Network, IsWorld, on_link}
-use Rattle.share_machine.proofs.Share.{Ran, Frame, View, has, runs}
+use Rattle.share_machine.proofs.Share.{Ran, UnitShare, View, has, runs}
 use Rattle.share_machine.proofs.Stages.{packets, processed, shape}
 use Rattle.share_machine.proofs.Lists.{self, packets-append}
 use Rattle.abstract_net.proofs.Readings.{fold}
-use Rattle.abstract_net.proofs.ShareViews.{share_frame, as_share}
+use Rattle.abstract_net.proofs.ShareViews.{unit_share, as_share}
 use Rattle.abstract_net.proofs.Shares.{Want_share, Seeing_share, ran_of}
 use Rattle.abstract_net.proofs.Under.{Under}
 use Rattle.abstract_net.proofs.UnderStarts.{seeing, packets_done}
@@ -60,8 +60,8 @@ module _ {F R : Type 0} (f : Semantics R) (c : Config) (items : List Msg) (is : 
   abbrev z : Seeing_share
   z = seeing (S f g) (A f g) u x
 
-  abbrev fr : Frame R
-  fr = share_frame (S f g) (A f g) z
+  abbrev fr : UnitShare R
+  fr = unit_share (S f g) (A f g) z
 
   abbrev v : View R
   v = shape fr k.stage

@@ -2,14 +2,14 @@
 -- processed, or the record of the member that processed the last packet is on its way to the home.
 use Rattle.std.proofs.Common.{◌≡◌, ◌≢◌, ℕ, Bool, true, false, cond, ◌==◌, Option, Some, None, List, [], ◌∷◌, ◌++◌, map, inl, inr, refl, sym, ap, ◌∙◌, append_assoc, append-nil, arith}
 use Rattle.std.proofs.lemmas.Bool.Decides.{nat_tests, Decides-eqb}
-use Rattle.share_machine.proofs.Share.{Ran, Item, Item.Carry, Item.Fence, Item.Shared, Item.Sync, Item.Chunk, Frame, has, after, over, only, mine_in, nowhere}
-use Rattle.share_machine.proofs.Stages.{Turn, Turn.Going, Turn.Coming, Turn.Quiet, is_going, is_pending, goes_to, served, Stage, Stage.Diverting, Stage.Fence_goes, Stage.Fenced_comes, Stage.Get_goes, Stage.Chunks_come, Stage.Spreads, Stage.Resting, Stage.Forwards, Stage.Carries, Stage.Chunk_comes, path, processed, shape, IsShare, Behind, FitsFrame}
+use Rattle.share_machine.proofs.Share.{Ran, Item, Item.Carry, Item.Fence, Item.Shared, Item.Sync, Item.Chunk, UnitShare, has, after, over, only, mine_in, nowhere}
+use Rattle.share_machine.proofs.Stages.{Turn, Turn.Going, Turn.Coming, Turn.Quiet, is_going, is_pending, goes_to, served, Stage, Stage.Diverting, Stage.Fence_goes, Stage.Fenced_comes, Stage.Get_goes, Stage.Chunks_come, Stage.Spreads, Stage.Resting, Stage.Forwards, Stage.Carries, Stage.Chunk_comes, path, processed, shape, IsShare, Behind, FitsStage}
 use Rattle.share_machine.proofs.Lists.{self, cond-same, runs-append, served-append}
 use Rattle.share_machine.proofs.Path as paths
 use Rattle.share_machine.proofs.Path.{gather, gather_none, gather_only, carries, shared_in, forwarded, diverted}
 use Rattle.share_machine.proofs.Records.{not_pending}
 
-module _ {R : Type 0} (f : Frame R) where
+module _ {R : Type 0} (f : UnitShare R) where
   -- Packets.
   pub record Places (s : Stage R) : Type 0 where
     pub at : ℕ
@@ -149,7 +149,7 @@ module _ {R : Type 0} (f : Frame R) where
       })
 
   module _ (is : IsShare f) where
-    pub sees : (s : Stage R) → FitsFrame f s → Sees s
+    pub sees : (s : Stage R) → FitsStage f s → Sees s
     sees (Diverting d b l) h = let home = self f.home in Sees_all (rw home refl)
     sees (Fence_goes d b l q v) h = let home = self f.home in Sees_all (rw home refl)
     sees (Fenced_comes d b q v) h = let home = self f.home in Sees_all (rw home refl)

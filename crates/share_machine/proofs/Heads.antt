@@ -2,8 +2,8 @@
 -- fold of all that was done, and a Sync brings at least what is there.
 use Rattle.std.proofs.Common.{◌≡◌, ℕ, true, false, cond, ◌==◌, Option, List, [], ◌∷◌, ◌++◌, map, refl, sym, subst, ◌∙◌}
 use Rattle.std.proofs.lemmas.Bool.Decides.{Decides-eqb}
-use Rattle.share_machine.proofs.Share.{Ran, Item, Item.Carry, Item.Fence, Item.Shared, Item.Get, Item.Sync, Frame, View, has, only, over, after}
-use Rattle.share_machine.proofs.Stages.{Turn, Turn.Going, Turn.Coming, Turn.Quiet, is_going, is_pending, goes_to, Stage, Stage.Diverting, Stage.Fence_goes, Stage.Fenced_comes, Stage.Get_goes, Stage.Chunks_come, Stage.Spreads, Stage.Resting, Stage.Forwards, Stage.Carries, Stage.Chunk_comes, front, processed, shape, IsFront, IsShare, FitsFrame}
+use Rattle.share_machine.proofs.Share.{Ran, Item, Item.Carry, Item.Fence, Item.Shared, Item.Get, Item.Sync, UnitShare, View, has, only, over, after}
+use Rattle.share_machine.proofs.Stages.{Turn, Turn.Going, Turn.Coming, Turn.Quiet, is_going, is_pending, goes_to, Stage, Stage.Diverting, Stage.Fence_goes, Stage.Fenced_comes, Stage.Get_goes, Stage.Chunks_come, Stage.Spreads, Stage.Resting, Stage.Forwards, Stage.Carries, Stage.Chunk_comes, front, processed, shape, IsFront, IsShare, FitsStage}
 use Rattle.share_machine.proofs.Lists.{self}
 
 -- a link that only one node has leads to that node
@@ -23,13 +23,13 @@ quiet_to c Going e = cc
 quiet_to c Coming e = refl
 quiet_to c Quiet e = refl
 
-module _ {R : Type 0} (f : Frame R) where
+module _ {R : Type 0} (f : UnitShare R) where
   -- members alone are sent anything
   pub record To_members (x : View R) : Type 0 where
     pub sw : (k : ℕ) → has f.members k ≡ false → x.sw k ≡ []
     pub to : (k : ℕ) → has f.members k ≡ false → x.to k ≡ []
 
-  pub to_members : IsShare f → (s : Stage R) → FitsFrame f s → To_members (shape f s)
+  pub to_members : IsShare f → (s : Stage R) → FitsStage f s → To_members (shape f s)
   to_members is (Diverting d b l) h = record { sw = λ k out. none_outside f.home k (map Carry l) f.members is.home_in out; to = λ k _. refl }
   to_members is (Fence_goes d b l q v) h = record { sw = λ k out. none_outside f.home k (map Carry l ++ Fence ∷ []) f.members is.home_in out; to = λ k _. refl }
   to_members is (Fenced_comes d b q v) h = record { sw = λ k _. refl; to = λ k _. refl }
@@ -90,7 +90,7 @@ module _ {R : Type 0} (f : Frame R) where
   sync_meets s j c Coming it rest e g = no_head s j it rest e
   sync_meets s j c Quiet it rest e g = no_head s j it rest e
 
-  pub meets_to : (s : Stage R) → FitsFrame f s → (j : ℕ) → has f.members j ≡ true → (it : Item R) (rest : List (Item R)) → (shape f s).to j ≡ it ∷ rest → Meets s j it
+  pub meets_to : (s : Stage R) → FitsStage f s → (j : ℕ) → has f.members j ≡ true → (it : Item R) (rest : List (Item R)) → (shape f s).to j ≡ it ∷ rest → Meets s j it
   meets_to (Diverting d b l) h j m it rest e = no_head (Diverting d b l) j it rest e
   meets_to (Fence_goes d b l q v) h j m it rest e = no_head (Fence_goes d b l q v) j it rest e
   meets_to (Fenced_comes d b q v) h j m it rest e = no_head (Fenced_comes d b q v) j it rest e

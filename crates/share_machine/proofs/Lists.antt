@@ -2,7 +2,7 @@
 use Rattle.std.proofs.Common.{◌≡◌, ℕ, ◌+◌, Bool, true, false, cond, not, ◌&&◌, ◌==◌, Option, None, Some, List, [], ◌∷◌, ◌++◌, length, ◌≤◌, refl, sym, ap, subst, ◌∙◌, append_assoc, arith}
 use Rattle.std.proofs.lemmas.Bool.Decides.{nat_tests, Decides-eqb}
 use Rattle.unit_machine.proofs.Machine.{Steps}
-use Rattle.share_machine.proofs.Share.{Ran, Frame, has, without, if_mine, mine_in, at_node, runs, over, put}
+use Rattle.share_machine.proofs.Share.{Ran, UnitShare, has, without, if_mine, mine_in, at_node, runs, over, put}
 use Rattle.share_machine.proofs.Stages.{Turn, Turn.Going, Turn.Quiet, is_pending, count, served, packets, IsFront, distinct}
 
 pub cond-same : {X : Type 0} (b : Bool) (x : X) → cond b x x ≡ x
@@ -25,11 +25,11 @@ pub runs-append : {R : Type 0} (F : Steps R) (r : Option R) (xs ys : List Ran) �
 runs-append F r [] ys = refl
 runs-append F r (x ∷ xs) ys = runs-append F (Some (F.step r x.0)) xs ys
 
-pub mine_in-append : {R : Type 0} (f : Frame R) (xs ys : List ℕ) → mine_in f (xs ++ ys) ≡ mine_in f xs ++ mine_in f ys
+pub mine_in-append : {R : Type 0} (f : UnitShare R) (xs ys : List ℕ) → mine_in f (xs ++ ys) ≡ mine_in f xs ++ mine_in f ys
 mine_in-append f [] ys = refl
 mine_in-append f (x ∷ xs) ys = ap (λ zs. if_mine f x ++ zs) (mine_in-append f xs ys) ∙ sym (append_assoc (if_mine f x) (mine_in f xs) (mine_in f ys))
 
-pub served-append : {R : Type 0} (f : Frame R) (xs ys : List ℕ) → served f (xs ++ ys) ≡ served f xs ++ served f ys
+pub served-append : {R : Type 0} (f : UnitShare R) (xs ys : List ℕ) → served f (xs ++ ys) ≡ served f xs ++ served f ys
 served-append f [] ys = refl
 served-append f (x ∷ xs) ys = ap (λ zs. (x, f.member_of x) ∷ zs) (served-append f xs ys)
 
@@ -37,11 +37,11 @@ pub packets-append : (xs ys : List Ran) → packets (xs ++ ys) ≡ packets xs ++
 packets-append [] ys = refl
 packets-append (x ∷ xs) ys = ap (λ zs. x.0 ∷ zs) (packets-append xs ys)
 
-pub packets-served : {R : Type 0} (f : Frame R) (e : List ℕ) → packets (served f e) ≡ e
+pub packets-served : {R : Type 0} (f : UnitShare R) (e : List ℕ) → packets (served f e) ≡ e
 packets-served f [] = refl
 packets-served f (p ∷ e) = ap (λ xs. p ∷ xs) (packets-served f e)
 
-pub served_at : {R : Type 0} (f : Frame R) (p : ℕ) → at_node (f.member_of p) (if_mine f p) ≡ served f (if_mine f p)
+pub served_at : {R : Type 0} (f : UnitShare R) (p : ℕ) → at_node (f.member_of p) (if_mine f p) ≡ served f (if_mine f p)
 served_at f p = elim (f.mine p) as (λ b. at_node (f.member_of p) (cond b (p ∷ []) []) ≡ served f (cond b (p ∷ []) [])) [ true ↦ refl | false ↦ refl ]
 
 -- a fold that gave nothing saw nothing

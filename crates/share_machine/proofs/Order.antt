@@ -1,11 +1,11 @@
 -- The order of a stage: what was processed and then the path are all that arrived, before the switch diverted and since (`in_order`);
 -- and each packet that arrived since and was processed was so at its member (`parts`).
 use Rattle.std.proofs.Common.{◌≡◌, ℕ, List, [], ◌++◌, refl}
-use Rattle.share_machine.proofs.Share.{Ran, Frame, if_mine, mine_in}
+use Rattle.share_machine.proofs.Share.{Ran, UnitShare, if_mine, mine_in}
 use Rattle.share_machine.proofs.Stages.{Stage, Stage.Diverting, Stage.Fence_goes, Stage.Fenced_comes, Stage.Get_goes, Stage.Chunks_come, Stage.Spreads, Stage.Resting, Stage.Forwards, Stage.Carries, Stage.Chunk_comes, processed, packets, early, late, path, served}
 use Rattle.share_machine.proofs.Setting.{orders}
 
-module _ {R : Type 0} (f : Frame R) where
+module _ {R : Type 0} (f : UnitShare R) where
   pub in_order : (s : Stage R) → packets (processed f s) ++ path f s ≡ early s ++ late f s
   in_order (Diverting d b l) = simp orders
   in_order (Fence_goes d b l q v) = simp orders

@@ -2,7 +2,7 @@
 -- the queue, and diverted.
 use Rattle.std.proofs.Common.{◌≡◌, ℕ, Bool, true, false, cond, ◌==◌, List, [], ◌∷◌, ◌++◌, map, refl, sym, ap, subst, append_assoc, append-nil, arith}
 use Rattle.std.proofs.lemmas.Bool.Decides.{nat_tests, Decides-eqb}
-use Rattle.share_machine.proofs.Share.{Item, Item.Carry, Item.Fence, Item.Shared, Item.Diverted, Item.Forward, Frame, View, has, if_mine, mine_in, only, nowhere}
+use Rattle.share_machine.proofs.Share.{Item, Item.Carry, Item.Fence, Item.Shared, Item.Diverted, Item.Forward, UnitShare, View, has, if_mine, mine_in, only, nowhere}
 use Rattle.share_machine.proofs.Stages.{Stage, Stage.Diverting, Stage.Fence_goes, Stage.Fenced_comes, Stage.Get_goes, Stage.Chunks_come, Stage.Spreads, Stage.Resting, Stage.Forwards, Stage.Carries, Stage.Chunk_comes, shape, path, distinct, IsShare}
 use Rattle.share_machine.proofs.Lists.{self, apart_of}
 
@@ -16,22 +16,22 @@ carries [] = []
 carries (Carry p ∷ xs) = p ∷ carries xs
 carries (_ ∷ xs) = carries xs
 
-abbrev pub shared_in : {R : Type 0} → Frame R → List (Item R) → List ℕ
+abbrev pub shared_in : {R : Type 0} → UnitShare R → List (Item R) → List ℕ
 shared_in f [] = []
 shared_in f (Shared p ∷ xs) = if_mine f p ++ shared_in f xs
 shared_in f (_ ∷ xs) = shared_in f xs
 
-abbrev pub forwarded : {R : Type 0} → Frame R → List (Item R) → List ℕ
+abbrev pub forwarded : {R : Type 0} → UnitShare R → List (Item R) → List ℕ
 forwarded f [] = []
 forwarded f (Forward p m ∷ xs) = if_mine f p ++ forwarded f xs
 forwarded f (_ ∷ xs) = forwarded f xs
 
-abbrev pub diverted : {R : Type 0} → Frame R → List (Item R) → List ℕ
+abbrev pub diverted : {R : Type 0} → UnitShare R → List (Item R) → List ℕ
 diverted f [] = []
 diverted f (Diverted p ∷ xs) = if_mine f p ++ diverted f xs
 diverted f (_ ∷ xs) = diverted f xs
 
-abbrev pub path_of : {R : Type 0} → Frame R → View R → List ℕ
+abbrev pub path_of : {R : Type 0} → UnitShare R → View R → List ℕ
 path_of f x = shared_in f (gather f.members x.sw) ++ (forwarded f x.cs ++ (carries (x.sw f.home) ++ (mine_in f x.queue ++ diverted f x.sc)))
 
 pub gather_none : {X : Type 0} (ms : List ℕ) → gather ms (nowhere {X = X}) ≡ []
@@ -78,15 +78,15 @@ all_carries : (R : Type 0) (l : List ℕ) → carries (map (carry {R = R}) l) �
 all_carries R [] = refl
 all_carries R (p ∷ l) = ap (λ z. p ∷ z) (all_carries R l)
 
-no_shared : {R : Type 0} (f : Frame R) (l : List ℕ) → shared_in f (map carry l) ≡ []
+no_shared : {R : Type 0} (f : UnitShare R) (l : List ℕ) → shared_in f (map carry l) ≡ []
 no_shared f [] = refl
 no_shared f (p ∷ l) = no_shared f l
 
-no_shared_fence : {R : Type 0} (f : Frame R) (l : List ℕ) → shared_in f (map carry l ++ Fence ∷ []) ≡ []
+no_shared_fence : {R : Type 0} (f : UnitShare R) (l : List ℕ) → shared_in f (map carry l ++ Fence ∷ []) ≡ []
 no_shared_fence f [] = refl
 no_shared_fence f (p ∷ l) = no_shared_fence f l
 
-all_diverted : {R : Type 0} (f : Frame R) (v : List ℕ) → diverted f (map divert v) ≡ mine_in f v
+all_diverted : {R : Type 0} (f : UnitShare R) (v : List ℕ) → diverted f (map divert v) ≡ mine_in f v
 all_diverted f [] = refl
 all_diverted f (p ∷ v) = ap (λ z. if_mine f p ++ z) (all_diverted f v)
 
@@ -97,7 +97,7 @@ not_plain R false p = refl
 
 ruleset reads = (carries-append, all_carries, no_shared, no_shared_fence, all_diverted, not_plain, gather_none, append_assoc, append-nil)
 
-pub path_is : {R : Type 0} (f : Frame R) → IsShare f → (s : Stage R) → path_of f (shape f s) ≡ path f s
+pub path_is : {R : Type 0} (f : UnitShare R) → IsShare f → (s : Stage R) → path_of f (shape f s) ≡ path f s
 path_is f is (Diverting d b l) = rw (gather_only f.members f.home (map carry l) is.apart is.home_in, self f.home) (simp reads)
 path_is f is (Fence_goes d b l q v) = rw (gather_only f.members f.home (map carry l ++ Fence ∷ []) is.apart is.home_in, self f.home) (simp reads)
 path_is f is (Fenced_comes d b q v) = simp reads

@@ -1,12 +1,12 @@
 -- Where the unit's packets are processed: in each step at home, by the old rules, or each at its member (`placed`).
 use Rattle.std.proofs.Common.{◌≡◌, ℕ, Bool, true, false, cond, Option, List, [], ◌∷◌, ◌++◌, ◌⊎◌, inl, inr, refl, sym, subst, ◌∙◌, append-nil}
-use Rattle.share_machine.proofs.Share.{Ran, at_node, Item, Item.Carry, Item.Shared, Item.Install, Item.Forward, Frame, View, ShareMachineStep, ShareMachineStep.Arrive, ShareMachineStep.Take_cs, ShareMachineStep.Take_sc, ShareMachineStep.Take_sw, ShareMachineStep.Take_to, ShareMachineStep.Take_back, has, member_does, from_cs, from_sc, from_sw, from_to, from_back, moved}
-use Rattle.share_machine.proofs.Stages.{Stage, processed, shape, IsShare, FitsFrame}
+use Rattle.share_machine.proofs.Share.{Ran, at_node, Item, Item.Carry, Item.Shared, Item.Install, Item.Forward, UnitShare, View, ShareMachineStep, ShareMachineStep.Arrive, ShareMachineStep.Take_cs, ShareMachineStep.Take_sc, ShareMachineStep.Take_sw, ShareMachineStep.Take_to, ShareMachineStep.Take_back, has, member_does, from_cs, from_sc, from_sw, from_to, from_back, moved}
+use Rattle.share_machine.proofs.Stages.{Stage, processed, shape, IsShare, FitsStage}
 use Rattle.share_machine.proofs.Steps.{goes_on}
 use Rattle.share_machine.proofs.Records.{done_is}
 use Rattle.share_machine.proofs.Heads.{Meets, meets_sw, meets_to, to_members}
 
-module _ {R : Type 0} (f : Frame R) where
+module _ {R : Type 0} (f : UnitShare R) where
   abbrev pub At_places : List Ran → Type 0
   At_places [] = Unit {0}
   At_places (x ∷ xs) = ((x.1 ≡ f.home) ⊎ (x.1 ≡ f.member_of x.0)) × At_places xs
@@ -53,20 +53,20 @@ module _ {R : Type 0} (f : Frame R) where
       let did = member_does f j ((shape f s).own j) it in
       record { by = did.ran; is = refl; places = ran_at s j ((shape f s).own j) it (meets_sw f s j it rest e) }
 
-  to_meets : IsShare f → (s : Stage R) → FitsFrame f s → (j : ℕ) (it : Item R) (rest : List (Item R)) → (shape f s).to j ≡ it ∷ rest → Meets f s j it
+  to_meets : IsShare f → (s : Stage R) → FitsStage f s → (j : ℕ) (it : Item R) (rest : List (Item R)) → (shape f s).to j ≡ it ∷ rest → Meets f s j it
   to_meets is s h j it rest e =
       elim (has f.members j) as (λ b. has f.members j ≡ b → Meets f s j it) [
         | true ↦ λ m. meets_to f s h j m it rest e
         | false ↦ λ out. let never : it ∷ rest ≡ [] = sym e ∙ (to_members f is s h).to j out in cc
       ] refl
 
-  to_grows : IsShare f → (s : Stage R) → FitsFrame f s → (j : ℕ) (its : List (Item R)) → (shape f s).to j ≡ its → Grows (shape f s).done (from_to f (shape f s) j its).done
+  to_grows : IsShare f → (s : Stage R) → FitsStage f s → (j : ℕ) (its : List (Item R)) → (shape f s).to j ≡ its → Grows (shape f s).done (from_to f (shape f s) j its).done
   to_grows is s h j [] e = as_it_was (shape f s).done (shape f s).done refl
   to_grows is s h j (it ∷ rest) e =
       let did = member_does f j ((shape f s).own j) it in
       record { by = did.ran; is = refl; places = ran_at s j ((shape f s).own j) it (to_meets is s h j it rest e) }
 
-  pub grows : IsShare f → (s : Stage R) → FitsFrame f s → (m : ShareMachineStep) → Grows (shape f s).done (moved f (shape f s) m).done
+  pub grows : IsShare f → (s : Stage R) → FitsStage f s → (m : ShareMachineStep) → Grows (shape f s).done (moved f (shape f s) m).done
   grows is s h (Arrive p) = as_it_was (shape f s).done (moved f (shape f s) (Arrive p)).done (arrive_done (shape f s) _ _ (shape f s).diverts refl refl)
   grows is s h Take_cs = as_it_was (shape f s).done (moved f (shape f s) Take_cs).done (cs_done (shape f s) (shape f s).cs)
   grows is s h Take_sc = as_it_was (shape f s).done (moved f (shape f s) Take_sc).done (sc_done (shape f s) (shape f s).sc)
@@ -75,7 +75,7 @@ module _ {R : Type 0} (f : Frame R) where
   grows is s h (Take_back j) = as_it_was (shape f s).done (moved f (shape f s) (Take_back j)).done (back_done (shape f s) j ((shape f s).back j))
 
   -- the same from stage to stage
-  pub placed : (is : IsShare f) (s : Stage R) (h : FitsFrame f s) (m : ShareMachineStep) → Grows (processed f s) (processed f (goes_on f is s h m).next)
+  pub placed : (is : IsShare f) (s : Stage R) (h : FitsStage f s) (m : ShareMachineStep) → Grows (processed f s) (processed f (goes_on f is s h m).next)
   placed is s h m =
       let on = goes_on f is s h m in
       subst (λ ds. Grows ds (processed f on.next)) (done_is f s) (subst (λ ds. Grows (shape f s).done ds) (on.alike.done ∙ done_is f on.next) (grows is s h m))

@@ -1,8 +1,8 @@
 -- Each member's record is the fold of what it has seen (`own_is`), and the live one has seen all, or all but the packet that another
 -- member has just processed (`is_live`). Each has seen a front of it (`seen_front`).
 use Rattle.std.proofs.Common.{◌≡◌, ℕ, Bool, true, false, cond, ◌==◌, List, [], ◌∷◌, ◌++◌, inl, inr, refl, sym, append_assoc, append-nil}
-use Rattle.share_machine.proofs.Share.{Ran, Frame, if_mine, after}
-use Rattle.share_machine.proofs.Stages.{Turn, Turn.Going, Turn.Coming, Turn.Quiet, is_going, is_pending, Stage, Stage.Diverting, Stage.Fence_goes, Stage.Fenced_comes, Stage.Get_goes, Stage.Chunks_come, Stage.Spreads, Stage.Resting, Stage.Forwards, Stage.Carries, Stage.Chunk_comes, front, processed, shape, served, IsFront, FitsFrame, Behind, Lacks, Live}
+use Rattle.share_machine.proofs.Share.{Ran, UnitShare, if_mine, after}
+use Rattle.share_machine.proofs.Stages.{Turn, Turn.Going, Turn.Coming, Turn.Quiet, is_going, is_pending, Stage, Stage.Diverting, Stage.Fence_goes, Stage.Fenced_comes, Stage.Get_goes, Stage.Chunks_come, Stage.Spreads, Stage.Resting, Stage.Forwards, Stage.Carries, Stage.Chunk_comes, front, processed, shape, served, IsFront, FitsStage, Behind, Lacks, Live}
 use Rattle.share_machine.proofs.Lists.{cond-same, self, served-append}
 use Rattle.share_machine.proofs.Setting.{front_same}
 use Rattle.share_machine.proofs.Serving.{took_more}
@@ -16,7 +16,7 @@ either : (t : Bool) (old new : List Ran) → IsFront old new → IsFront (cond t
 either true old new h = front_same new
 either false old new h = h
 
-module _ {R : Type 0} (f : Frame R) where
+module _ {R : Type 0} (f : UnitShare R) where
   pub own_is : (s : Stage R) (k : ℕ) → (shape f s).own k ≡ after f (front f s k)
   own_is (Diverting d b l) k = refl
   own_is (Fence_goes d b l q v) k = refl
@@ -60,7 +60,7 @@ module _ {R : Type 0} (f : Frame R) where
   still_behind n b at (inl a) = inl a
   still_behind n b at (inr a) = inr (a.0, (a.1.0, rw (not_pending (at (f.member_of a.0)) a.1.1) refl))
 
-  pub is_live : (s : Stage R) → FitsFrame f s → Live f s
+  pub is_live : (s : Stage R) → FitsStage f s → Live f s
   is_live (Diverting d b l) h = inl (rw (self f.home) refl)
   is_live (Fence_goes d b l q v) h = inl (rw (self f.home) refl)
   is_live (Fenced_comes d b q v) h = inl (rw (self f.home) refl)
@@ -77,7 +77,7 @@ module _ {R : Type 0} (f : Frame R) where
   is_live (Chunk_comes d e p q v) h = took d e p (f.mine p)
 
   -- each member's record has seen a front of what was processed
-  pub seen_front : (s : Stage R) → FitsFrame f s → (k : ℕ) → IsFront (front f s k) (processed f s)
+  pub seen_front : (s : Stage R) → FitsStage f s → (k : ℕ) → IsFront (front f s k) (processed f s)
   seen_front (Diverting d b l) h k = either (k == f.home) (b k) d (h k)
   seen_front (Fence_goes d b l q v) h k = either (k == f.home) (b k) d (h k)
   seen_front (Fenced_comes d b q v) h k = either (k == f.home) (b k) d (h k)

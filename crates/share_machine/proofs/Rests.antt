@@ -3,12 +3,12 @@
 use Rattle.std.proofs.Common.{◌≡◌, ℕ, true, false, ◌==◌, Option, List, [], ◌∷◌, ◌++◌, map, refl, sym, ap, ◌∙◌}
 use Rattle.unit_machine.proofs.Rests.{behind_nil}
 use Rattle.unit_machine.proofs.Lists.{cons_nil}
-use Rattle.share_machine.proofs.Share.{Ran, Item, Item.Carry, Item.Fence, Item.Diverted, Frame, Phase.Idle, View, has, only}
-use Rattle.share_machine.proofs.Stages.{Turn, Turn.Going, Turn.Coming, Turn.Quiet, is_pending, goes_to, comes_from, count, Stage, Stage.Diverting, Stage.Fence_goes, Stage.Fenced_comes, Stage.Get_goes, Stage.Chunks_come, Stage.Spreads, Stage.Resting, Stage.Forwards, Stage.Carries, Stage.Chunk_comes, front, processed, path, shape, IsShare, FitsFrame}
+use Rattle.share_machine.proofs.Share.{Ran, Item, Item.Carry, Item.Fence, Item.Diverted, UnitShare, Phase.Idle, View, has, only}
+use Rattle.share_machine.proofs.Stages.{Turn, Turn.Going, Turn.Coming, Turn.Quiet, is_pending, goes_to, comes_from, count, Stage, Stage.Diverting, Stage.Fence_goes, Stage.Fenced_comes, Stage.Get_goes, Stage.Chunks_come, Stage.Spreads, Stage.Resting, Stage.Forwards, Stage.Carries, Stage.Chunk_comes, front, processed, path, shape, IsShare, FitsStage}
 use Rattle.share_machine.proofs.Lists.{self, count-none}
 
 -- a stage that waits for nothing
-pub record Rests {R : Type 0} (f : Frame R) (s : Stage R) : Type 0 where
+pub record Rests {R : Type 0} (f : UnitShare R) (s : Stage R) : Type 0 where
   pub before : List Ran
   pub since : List ℕ
   pub is : s ≡ Resting before since []
@@ -16,7 +16,7 @@ pub record Rests {R : Type 0} (f : Frame R) (s : Stage R) : Type 0 where
   pub path : path f s ≡ []
   pub seen : (k : ℕ) → front f s k ≡ processed f s
 
-pub record Silent {R : Type 0} (f : Frame R) (x : View R) : Type 0 where
+pub record Silent {R : Type 0} (f : UnitShare R) (x : View R) : Type 0 where
   pub sw : (k : ℕ) → has f.members k ≡ true → x.sw k ≡ []
   pub sc : x.sc ≡ []
   pub cs : x.cs ≡ []
@@ -32,12 +32,12 @@ quiet c Going e g = cons_nil e
 quiet c Coming e g = cons_nil g
 quiet c Quiet e g = refl
 
-module _ {R : Type 0} (f : Frame R) (is : IsShare f) where
+module _ {R : Type 0} (f : UnitShare R) (is : IsShare f) where
   resting : (d : List Ran) (e v : List ℕ) → ◌≡◌ {A = List (Item R)} (map Diverted v) [] → Rests f (Resting d e v)
   resting d e [] none = record { before = d; since = e; is = refl; phase = refl; path = refl; seen = λ k. refl }
   resting d e (p ∷ v) none = cons_nil none
 
-  pub rests : (s : Stage R) → FitsFrame f s → Silent f (shape f s) → Rests f s
+  pub rests : (s : Stage R) → FitsStage f s → Silent f (shape f s) → Rests f s
   rests (Diverting d b l) h x = cons_nil x.cs
   rests (Fence_goes d b l q v) h x = behind_nil (map Carry l) Fence [] (here f.home (map Carry l ++ Fence ∷ []) (x.sw f.home is.home_in))
   rests (Fenced_comes d b q v) h x = cons_nil (here f.home _ (x.back f.home is.home_in))

@@ -1,11 +1,11 @@
 -- Each move from each stage in which a share serves a packet, up to the Sync that it gives.
 use Rattle.std.proofs.Common.{◌≡◌, ℕ, Bool, true, false, cond, ◌==◌, None, List, [], ◌∷◌, ◌++◌, length, inl, inr, refl, sym, ap, append_assoc, append-nil}
-use Rattle.share_machine.proofs.Share.{Ran, Item.Shared, Item.Chunk, Frame, Phase.Syncing, put, sync_to, ShareMachineStep, ShareMachineStep.Arrive, ShareMachineStep.Take_cs, ShareMachineStep.Take_sc, ShareMachineStep.Take_sw, ShareMachineStep.Take_back, has, without, if_mine, at_node, runs, after, chunk_of, over, moved, from_sw, from_back}
+use Rattle.share_machine.proofs.Share.{Ran, Item.Shared, Item.Chunk, UnitShare, Phase.Syncing, put, sync_to, ShareMachineStep, ShareMachineStep.Arrive, ShareMachineStep.Take_cs, ShareMachineStep.Take_sc, ShareMachineStep.Take_sw, ShareMachineStep.Take_back, has, without, if_mine, at_node, runs, after, chunk_of, over, moved, from_sw, from_back}
 use Rattle.share_machine.proofs.Stages.{Turn, is_pending, Stage.Spreads, Stage.Resting, Stage.Forwards, Stage.Carries, Stage.Chunk_comes, front, shape, served, IsFront, IsShare, Behind, brings, Leads}
 use Rattle.share_machine.proofs.Lists.{runs-append, served-append, distinct-without, counts_turns, turns_sent, turn_of, in_without, turn_self, served_at}
 use Rattle.share_machine.proofs.Setting.{links, orders, at_only, front_same, stays, sync_goes, none_comes, turns, some_left, at_least_one}
 
-module _ {R : Type 0} (f : Frame R) where
+module _ {R : Type 0} (f : UnitShare R) where
   pub resting : (d : List Ran) (e v : List ℕ) → (m : ShareMachineStep) → Leads f (Resting d e v) (moved f (shape f (Resting d e v)) m) (brings f m)
   resting d e v (Arrive p) = record {
     next = Resting d e (v ++ p ∷ []);

@@ -2,8 +2,8 @@
 use Rattle.std.proofs.Common.{◌≡◌, ℕ, ◌+◌, Bool, true, false, cond, not, ◌&&◌, ◌==◌, Option, None, Some, List, [], ◌∷◌, ◌++◌, map, length, refl, sym, ap, subst, ◌∙◌, append_assoc, append-nil, arith}
 use Rattle.std.proofs.lemmas.Bool.Decides.{nat_tests, Decides-eqb}
 use Rattle.std.proofs.lemmas.List.{map-append}
-use Rattle.share_machine.proofs.Share.{Ran, Item, Item.Carry, Item.Fence, Item.Get, Item.Sync, Item.Fenced, Item.Chunks, Frame, View, Phase, Phase.Setting, put, put_ctrl, waits, serve, answers, sync_to, ShareMachineStep, ShareMachineStep.Arrive, ShareMachineStep.Take_cs, ShareMachineStep.Take_sc, ShareMachineStep.Take_sw, ShareMachineStep.Take_to, ShareMachineStep.Take_back, has, without, if_mine, after, only, moved, from_sw, from_to, from_back}
-use Rattle.share_machine.proofs.Stages.{Turn.Going, Turn.Quiet, is_going, goes_to, comes_from, Stage, Stage.Diverting, Stage.Fence_goes, Stage.Fenced_comes, Stage.Get_goes, Stage.Chunks_come, Stage.Spreads, front, early, late, shape, IsFront, IsShare, FitsFrame, Alike, brings, Leads}
+use Rattle.share_machine.proofs.Share.{Ran, Item, Item.Carry, Item.Fence, Item.Get, Item.Sync, Item.Fenced, Item.Chunks, UnitShare, View, Phase, Phase.Setting, put, put_ctrl, waits, serve, answers, sync_to, ShareMachineStep, ShareMachineStep.Arrive, ShareMachineStep.Take_cs, ShareMachineStep.Take_sc, ShareMachineStep.Take_sw, ShareMachineStep.Take_to, ShareMachineStep.Take_back, has, without, if_mine, after, only, moved, from_sw, from_to, from_back}
+use Rattle.share_machine.proofs.Stages.{Turn.Going, Turn.Quiet, is_going, goes_to, comes_from, Stage, Stage.Diverting, Stage.Fence_goes, Stage.Fenced_comes, Stage.Get_goes, Stage.Chunks_come, Stage.Spreads, front, early, late, shape, IsFront, IsShare, FitsStage, Alike, brings, Leads}
 use Rattle.share_machine.proofs.Lists.{cond-same, cond-append, cond-cond, self, runs-append, mine_in-append, served-append, packets-append, packets-served, over_front, has-without, distinct-without, length-without, counts_turns, turns_sent, turn_of, in_without, turn_self}
 
 pub ruleset links = (cond-append, cond-cond, cond-same, append-nil, map-append)
@@ -28,12 +28,12 @@ pub nothing_comes : {X : Type 0} (b : Bool) (xs : List X) → xs ≡ xs ++ cond 
 nothing_comes true xs = sym (append-nil xs)
 nothing_comes false xs = sym (append-nil xs)
 
-module _ {R : Type 0} (f : Frame R) where
+module _ {R : Type 0} (f : UnitShare R) where
   pub same_view : (x : View R) → Alike f x x
   same_view x = record { sw = λ k. refl; sc = refl; cs = refl; to = λ k. refl; back = λ k. refl; own = λ k _. refl; phase = refl; queue = refl; diverts = refl; done = refl }
 
   -- a link with nothing on it
-  pub stays : (s : Stage R) → FitsFrame f s → Leads f s (shape f s) []
+  pub stays : (s : Stage R) → FitsStage f s → Leads f s (shape f s) []
   stays s h = record {
     next = s;
     fits = h;

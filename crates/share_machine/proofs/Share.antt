@@ -39,7 +39,7 @@ pub data Item (R : Type 0) : Type 0 where
   Stray : Item R
 
 -- one unit and its share
-pub record Frame (R : Type 0) : Type 0 where
+pub record UnitShare (R : Type 0) : Type 0 where
   pub mine : ℕ → Bool  -- which packets are the unit's
   pub F : Steps R
   pub home : ℕ
@@ -55,19 +55,19 @@ without [] k = []
 without (x ∷ xs) k = if x == k then without xs k else x ∷ without xs k
 
 -- the fold of what was processed
-abbrev pub after : {R : Type 0} → Frame R → List Ran → Option R
+abbrev pub after : {R : Type 0} → UnitShare R → List Ran → Option R
 after f ds = runs f.F None ds
 
 -- a packet as a list, and those of a list, where they are the unit's
-abbrev pub if_mine : {R : Type 0} → Frame R → ℕ → List ℕ
+abbrev pub if_mine : {R : Type 0} → UnitShare R → ℕ → List ℕ
 if_mine f p = if f.mine p then p ∷ [] else []
 
-abbrev pub mine_in : {R : Type 0} → Frame R → List ℕ → List ℕ
+abbrev pub mine_in : {R : Type 0} → UnitShare R → List ℕ → List ℕ
 mine_in f [] = []
 mine_in f (p ∷ ps) = if_mine f p ++ mine_in f ps
 
 -- what the chunk of a packet shows of the unit
-abbrev pub chunk_of : {R : Type 0} → Frame R → ℕ → Option R → Option R
+abbrev pub chunk_of : {R : Type 0} → UnitShare R → ℕ → Option R → Option R
 chunk_of f p r = if f.mine p then r else None
 
 -- a chunk over a record
@@ -94,11 +94,11 @@ pub record Did (R : Type 0) : Type 0 where
   pub to_c : List (Item R)
   pub ran : List Ran
 
-abbrev pub stepped : {R : Type 0} → Frame R → ℕ → Option R → ℕ → Option R
+abbrev pub stepped : {R : Type 0} → UnitShare R → ℕ → Option R → ℕ → Option R
 stepped f j r p = runs f.F r (at_node j (if_mine f p))
 
 -- a member's step; its record is the live one at home and the one that stands by at the others
-abbrev pub member_does : {R : Type 0} → Frame R → ℕ → Option R → Item R → Did R
+abbrev pub member_does : {R : Type 0} → UnitShare R → ℕ → Option R → Item R → Did R
 member_does f j r (Carry p) = record { own = Some (f.F.step r p); to_c = []; ran = (p, j) ∷ [] }
 member_does f j r Fence = record { own = r; to_c = Fenced ∷ []; ran = [] }
 member_does f j r (Shared p) = record { own = stepped f j r p; to_c = Chunk (chunk_of f p (stepped f j r p)) ∷ []; ran = at_node j (if_mine f p) }
@@ -125,19 +125,19 @@ abbrev pub waits : {R : Type 0} → Phase → List ℕ → C_did R
 waits phase q = record { phase = phase; queue = q; to_s = []; to = nowhere }
 
 -- the front of the queue, if there is one, goes to its member
-abbrev pub serve : {R : Type 0} → Frame R → List ℕ → C_did R
+abbrev pub serve : {R : Type 0} → UnitShare R → List ℕ → C_did R
 serve f [] = waits Idle []
 serve f (p ∷ q) = record (waits (Out (f.member_of p)) q) { to_s = Forward p (f.member_of p) ∷ [] }
 
 -- so many have yet to answer; with none the next packet is served
-abbrev pub answers : {R : Type 0} → Frame R → (ℕ → Phase) → ℕ → List ℕ → C_did R
+abbrev pub answers : {R : Type 0} → UnitShare R → (ℕ → Phase) → ℕ → List ℕ → C_did R
 answers f phase left q = if left == 0 then serve f q else waits (phase left) q
 
 -- a Sync to each of these
 abbrev pub sync_to : {R : Type 0} → List ℕ → Option R → ℕ → List (Item R)
 sync_to o c k = if has o k then Sync c ∷ [] else []
 
-abbrev pub share_does : {R : Type 0} → Frame R → Item R → Phase → List ℕ → C_did R
+abbrev pub share_does : {R : Type 0} → UnitShare R → Item R → Phase → List ℕ → C_did R
 share_does f Fenced Fencing q = record (waits Getting q) { to = only f.home (Get ∷ []) }
 share_does f (Chunks c) Getting q = record (answers f Setting (length (without f.members f.home)) q) { to = sync_to (without f.members f.home) c }
 share_does f Synced (Setting left) q = answers f Setting (left - 1) q
@@ -175,29 +175,29 @@ abbrev pub put_ctrl : {R : Type 0} → View R → C_did R → View R
 put_ctrl x did = record x { phase = did.phase; queue = did.queue; cs = x.cs ++ did.to_s; to = joined x.to did.to }
 
 -- the step of the node at the end of a link, with what stands on it
-abbrev pub from_cs : {R : Type 0} → Frame R → View R → List (Item R) → View R
+abbrev pub from_cs : {R : Type 0} → UnitShare R → View R → List (Item R) → View R
 from_cs f x [] = x
 from_cs f x (Install ∷ rest) = record x { cs = rest; diverts = true; sw = joined x.sw (only f.home (Fence ∷ [])) }
 from_cs f x (Forward p m ∷ rest) = record x { cs = rest; sw = joined x.sw (only m (Shared p ∷ [])) }
 from_cs f x (item ∷ rest) = record x { cs = rest }
 
-abbrev pub from_sw : {R : Type 0} → Frame R → View R → ℕ → List (Item R) → View R
+abbrev pub from_sw : {R : Type 0} → UnitShare R → View R → ℕ → List (Item R) → View R
 from_sw f x j [] = x
 from_sw f x j (item ∷ rest) = put_member (record x { sw = put x.sw j rest }) j (member_does f j (x.own j) item)
 
-abbrev pub from_to : {R : Type 0} → Frame R → View R → ℕ → List (Item R) → View R
+abbrev pub from_to : {R : Type 0} → UnitShare R → View R → ℕ → List (Item R) → View R
 from_to f x j [] = x
 from_to f x j (item ∷ rest) = put_member (record x { to = put x.to j rest }) j (member_does f j (x.own j) item)
 
-abbrev pub from_sc : {R : Type 0} → Frame R → View R → List (Item R) → View R
+abbrev pub from_sc : {R : Type 0} → UnitShare R → View R → List (Item R) → View R
 from_sc f x [] = x
 from_sc f x (item ∷ rest) = put_ctrl (record x { sc = rest }) (share_does f item x.phase x.queue)
 
-abbrev pub from_back : {R : Type 0} → Frame R → View R → ℕ → List (Item R) → View R
+abbrev pub from_back : {R : Type 0} → UnitShare R → View R → ℕ → List (Item R) → View R
 from_back f x j [] = x
 from_back f x j (item ∷ rest) = put_ctrl (record x { back = put x.back j rest }) (share_does f item x.phase x.queue)
 
-abbrev pub moved : {R : Type 0} → Frame R → View R → ShareMachineStep → View R
+abbrev pub moved : {R : Type 0} → UnitShare R → View R → ShareMachineStep → View R
 moved f x (Arrive p) = if x.diverts then record x { sc = x.sc ++ Diverted p ∷ [] } else record x { sw = joined x.sw (only f.home (map Carry (if_mine f p))) }
 moved f x Take_cs = from_cs f x x.cs
 moved f x Take_sc = from_sc f x x.sc

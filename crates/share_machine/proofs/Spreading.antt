@@ -1,14 +1,14 @@
 -- Each move while a Sync goes round among the members.
 use Rattle.std.proofs.Common.{◌≡◌, ℕ, ◌+◌, ◌-◌, Bool, true, false, cond, ◌==◌, Option, List, [], ◌∷◌, ◌++◌, map, inl, inr, refl, sym, subst, ◌∙◌, append-nil, arith}
 use Rattle.std.proofs.lemmas.Bool.Decides.{nat_tests, Decides-eqb}
-use Rattle.share_machine.proofs.Share.{Ran, Item, Item.Diverted, Item.Sync, Item.Synced, Frame, ShareMachineStep, ShareMachineStep.Arrive, ShareMachineStep.Take_sc, ShareMachineStep.Take_to, ShareMachineStep.Take_back, has, if_mine, after, over, put, moved, from_to, from_back, put_ctrl, waits, serve, Phase.Setting, Phase.Syncing}
+use Rattle.share_machine.proofs.Share.{Ran, Item, Item.Diverted, Item.Sync, Item.Synced, UnitShare, ShareMachineStep, ShareMachineStep.Arrive, ShareMachineStep.Take_sc, ShareMachineStep.Take_to, ShareMachineStep.Take_back, has, if_mine, after, over, put, moved, from_to, from_back, put_ctrl, waits, serve, Phase.Setting, Phase.Syncing}
 use Rattle.share_machine.proofs.Stages.{Turn, Turn.Going, Turn.Coming, Turn.Quiet, is_going, is_pending, goes_to, comes_from, count, Stage, Stage.Spreads, Stage.Resting, Stage.Forwards, front, shape, served, IsFront, FitsSpread, Behind, brings, Leads}
 use Rattle.share_machine.proofs.Lists.{count-put, count-zero, pending-put}
 use Rattle.share_machine.proofs.Setting.{links, orders, front_same, stays}
 use Rattle.share_machine.proofs.Records.{not_pending}
 
-module _ {R : Type 0} (f : Frame R) where
-  module _ (first : Bool) (d : List Ran) (e : List ℕ) (b : ℕ → List Ran) (c : Option R) (at : ℕ → Turn) (o : List ℕ) (left : ℕ) (q v : List ℕ) (h : FitsSpread f (d ++ served f e) b c at o left) where
+module _ {R : Type 0} (f : UnitShare R) where
+  module _ (first : Bool) (d : List Ran) (e : List ℕ) (b : ℕ → List Ran) (c : Option R) (at : ℕ → Turn) (o : List ℕ) (left : ℕ) (q v : List ℕ) (h : FitsSpread f (d ++ served f e) (record { seen = b; chunk = c; turn = at; asked = o; left = left })) where
     abbrev n : List Ran
     n = d ++ served f e
 
@@ -81,7 +81,7 @@ module _ {R : Type 0} (f : Frame R) where
     still_sent : (j k : ℕ) → is_pending (put at j Quiet k) ≡ true → has o k ≡ true
     still_sent j k = elim (k == j) as (λ t. is_pending (cond t Quiet (at k)) ≡ true → has o k ≡ true) [ true ↦ λ w. cc | false ↦ λ p. h.sent k p ]
 
-    one_less : (j : ℕ) → at j ≡ Coming → has o j ≡ true → (left - 1 == 0) ≡ false → FitsSpread f n b c (put at j Quiet) o (left - 1)
+    one_less : (j : ℕ) → at j ≡ Coming → has o j ≡ true → (left - 1 == 0) ≡ false → FitsSpread f n (record { seen = b; chunk = c; turn = put at j Quiet; asked = o; left = left - 1 })
     one_less j is there more = record {
       gives = h.gives;
       fronts = h.fronts;
@@ -162,7 +162,7 @@ module _ {R : Type 0} (f : Frame R) where
     }
 
   -- the last answer is taken: the next packet of the queue is served
-  last_answer : (first : Bool) (d : List Ran) (e : List ℕ) (b : ℕ → List Ran) (c : Option R) (at : ℕ → Turn) (o : List ℕ) (left : ℕ) (q v : List ℕ) (h : FitsSpread f (d ++ served f e) b c at o left) → (j : ℕ) → at j ≡ Coming → has o j ≡ true → left ≡ 1 → Leads f (Spreads first d e b c at o left q v) (put_ctrl (record (shape f (Spreads first d e b c at o left q v)) { back = put (λ k. comes_from (at k)) j [] }) (serve f q)) []
+  last_answer : (first : Bool) (d : List Ran) (e : List ℕ) (b : ℕ → List Ran) (c : Option R) (at : ℕ → Turn) (o : List ℕ) (left : ℕ) (q v : List ℕ) (h : FitsSpread f (d ++ served f e) (record { seen = b; chunk = c; turn = at; asked = o; left = left })) → (j : ℕ) → at j ≡ Coming → has o j ≡ true → left ≡ 1 → Leads f (Spreads first d e b c at o left q v) (put_ctrl (record (shape f (Spreads first d e b c at o left q v)) { back = put (λ k. comes_from (at k)) j [] }) (serve f q)) []
   last_answer first d e b c at o left [] v h j is there last =
       let off = all_quiet first d e b c at o left [] v h j is there last in
       record {
@@ -206,7 +206,7 @@ module _ {R : Type 0} (f : Frame R) where
         longer = λ k _. rw (not_going first d e b c at o left (p ∷ q) v h j is off k) (front_same (d ++ served f e));
       }
 
-  module _ (d : List Ran) (e : List ℕ) (b : ℕ → List Ran) (c : Option R) (at : ℕ → Turn) (o : List ℕ) (left : ℕ) (q v : List ℕ) (h : FitsSpread f (d ++ served f e) b c at o left) where
+  module _ (d : List Ran) (e : List ℕ) (b : ℕ → List Ran) (c : Option R) (at : ℕ → Turn) (o : List ℕ) (left : ℕ) (q v : List ℕ) (h : FitsSpread f (d ++ served f e) (record { seen = b; chunk = c; turn = at; asked = o; left = left })) where
     taken_to : (first : Bool) (j : ℕ) → Leads f (Spreads first d e b c at o left q v) (moved f (shape f (Spreads first d e b c at o left q v)) (Take_to j)) []
     taken_to first j =
         elim (at j) as (λ t. at j ≡ t → Leads f (Spreads first d e b c at o left q v) (from_to f (shape f (Spreads first d e b c at o left q v)) j (goes_to c t)) []) [
@@ -240,7 +240,7 @@ module _ {R : Type 0} (f : Frame R) where
           | Quiet ↦ λ _. stays f (Spreads first d e b c at o left q v) h
         ] refl
 
-  queued : (first : Bool) (d : List Ran) (e : List ℕ) (b : ℕ → List Ran) (c : Option R) (at : ℕ → Turn) (o : List ℕ) (left : ℕ) (q : List ℕ) (p : ℕ) (v : List ℕ) (h : FitsSpread f (d ++ served f e) b c at o left) → Leads f (Spreads first d e b c at o left q (p ∷ v)) (put_ctrl (record (shape f (Spreads first d e b c at o left q (p ∷ v))) { sc = map Diverted v }) (waits (cond first (Setting left) (Syncing left)) (q ++ p ∷ []))) []
+  queued : (first : Bool) (d : List Ran) (e : List ℕ) (b : ℕ → List Ran) (c : Option R) (at : ℕ → Turn) (o : List ℕ) (left : ℕ) (q : List ℕ) (p : ℕ) (v : List ℕ) (h : FitsSpread f (d ++ served f e) (record { seen = b; chunk = c; turn = at; asked = o; left = left })) → Leads f (Spreads first d e b c at o left q (p ∷ v)) (put_ctrl (record (shape f (Spreads first d e b c at o left q (p ∷ v))) { sc = map Diverted v }) (waits (cond first (Setting left) (Syncing left)) (q ++ p ∷ []))) []
   queued first d e b c at o left q p v h = record {
     next = Spreads first d e b c at o left (q ++ p ∷ []) v;
     fits = h;
@@ -250,7 +250,7 @@ module _ {R : Type 0} (f : Frame R) where
     longer = λ k _. front_same (front f (Spreads first d e b c at o left q (p ∷ v)) k);
   }
 
-  pub spreads : (first : Bool) (d : List Ran) (e : List ℕ) (b : ℕ → List Ran) (c : Option R) (at : ℕ → Turn) (o : List ℕ) (left : ℕ) (q v : List ℕ) (h : FitsSpread f (d ++ served f e) b c at o left) (m : ShareMachineStep) → Leads f (Spreads first d e b c at o left q v) (moved f (shape f (Spreads first d e b c at o left q v)) m) (brings f m)
+  pub spreads : (first : Bool) (d : List Ran) (e : List ℕ) (b : ℕ → List Ran) (c : Option R) (at : ℕ → Turn) (o : List ℕ) (left : ℕ) (q v : List ℕ) (h : FitsSpread f (d ++ served f e) (record { seen = b; chunk = c; turn = at; asked = o; left = left })) (m : ShareMachineStep) → Leads f (Spreads first d e b c at o left q v) (moved f (shape f (Spreads first d e b c at o left q v)) m) (brings f m)
   spreads first d e b c at o left q v h (Arrive p) = arrive first d e b c at o left q v h p
   spreads first d e b c at o left q v h (Take_to j) = taken_to d e b c at o left q v h first j
   spreads first d e b c at o left q v h (Take_back j) = taken_back d e b c at o left q v h first j

@@ -2,7 +2,7 @@
 -- what was processed and seen, what arrived, and where the packets wait (`path`).
 use Rattle.std.proofs.Common.{◌≡◌, ℕ, ◌+◌, ◌<◌, Bool, true, false, not, Option, List, [], ◌∷◌, ◌++◌, map, length, ◌⊎◌}
 use Rattle.std.specs.Prelude.{if◌then◌else◌, ◌&&◌, ◌==◌}
-use Rattle.share_machine.proofs.Share.{Ran, Item, Item.Carry, Item.Fence, Item.Shared, Item.Diverted, Item.Install, Item.Forward, Item.Get, Item.Sync, Item.Fenced, Item.Chunks, Item.Chunk, Item.Synced, Frame, Phase, Phase.Fencing, Phase.Getting, Phase.Setting, Phase.Idle, Phase.Out, Phase.Syncing, View, ShareMachineStep, ShareMachineStep.Arrive, has, if_mine, mine_in, after, chunk_of, over, only, nowhere}
+use Rattle.share_machine.proofs.Share.{Ran, Item, Item.Carry, Item.Fence, Item.Shared, Item.Diverted, Item.Install, Item.Forward, Item.Get, Item.Sync, Item.Fenced, Item.Chunks, Item.Chunk, Item.Synced, UnitShare, Phase, Phase.Fencing, Phase.Getting, Phase.Setting, Phase.Idle, Phase.Out, Phase.Syncing, View, ShareMachineStep, ShareMachineStep.Arrive, has, if_mine, mine_in, after, chunk_of, over, only, nowhere}
 
 -- where a member is with a Sync: it is on its way, the answer is, or neither
 pub data Turn : Type 0 where
@@ -52,12 +52,12 @@ pub data Stage (R : Type 0) : Type 0 where
   Chunk_comes : (d : List Ran) (e : List ℕ) (p : ℕ) (q v : List ℕ) → Stage R
 
 -- packets, each at its member
-abbrev pub served : {R : Type 0} → Frame R → List ℕ → List Ran
+abbrev pub served : {R : Type 0} → UnitShare R → List ℕ → List Ran
 served f [] = []
 served f (p ∷ ps) = (p, f.member_of p) ∷ served f ps
 
 -- what a member's record has seen
-abbrev pub front : {R : Type 0} → Frame R → Stage R → ℕ → List Ran
+abbrev pub front : {R : Type 0} → UnitShare R → Stage R → ℕ → List Ran
 front f (Diverting d b l) k = if k == f.home then d else b k
 front f (Fence_goes d b l q v) k = if k == f.home then d else b k
 front f (Fenced_comes d b q v) k = if k == f.home then d else b k
@@ -70,7 +70,7 @@ front f (Carries d e p q v) k = d ++ served f e
 front f (Chunk_comes d e p q v) k = if k == f.member_of p then d ++ served f (e ++ if_mine f p) else d ++ served f e
 
 -- what was processed, each packet with its node
-abbrev pub processed : {R : Type 0} → Frame R → Stage R → List Ran
+abbrev pub processed : {R : Type 0} → UnitShare R → Stage R → List Ran
 processed f (Diverting d b l) = d
 processed f (Fence_goes d b l q v) = d
 processed f (Fenced_comes d b q v) = d
@@ -100,7 +100,7 @@ early (Carries d e p q v) = packets d
 early (Chunk_comes d e p q v) = packets d
 
 -- those that arrived since
-abbrev pub late : {R : Type 0} → Frame R → Stage R → List ℕ
+abbrev pub late : {R : Type 0} → UnitShare R → Stage R → List ℕ
 late f (Diverting d b l) = []
 late f (Fence_goes d b l q v) = mine_in f (q ++ v)
 late f (Fenced_comes d b q v) = mine_in f (q ++ v)
@@ -113,7 +113,7 @@ late f (Carries d e p q v) = e ++ (if_mine f p ++ mine_in f (q ++ v))
 late f (Chunk_comes d e p q v) = (e ++ if_mine f p) ++ mine_in f (q ++ v)
 
 -- the unit's packets that have arrived and aren't processed, in order
-abbrev pub path : {R : Type 0} → Frame R → Stage R → List ℕ
+abbrev pub path : {R : Type 0} → UnitShare R → Stage R → List ℕ
 path f (Diverting d b l) = l
 path f (Fence_goes d b l q v) = l ++ (mine_in f q ++ mine_in f v)
 path f (Fenced_comes d b q v) = mine_in f q ++ mine_in f v
@@ -130,13 +130,13 @@ abbrev pub still : {R : Type 0} → Phase → List ℕ → List ℕ → List Ran
 still phase q v d own = record { sw = nowhere; sc = map Diverted v; cs = []; to = nowhere; back = nowhere; own = own; phase = phase; queue = q; diverts = true; done = d }
 
 -- the record of the unit while the share is being set up, and while it serves
-abbrev pub set_up : {R : Type 0} → Frame R → List Ran → (ℕ → List Ran) → ℕ → Option R
+abbrev pub set_up : {R : Type 0} → UnitShare R → List Ran → (ℕ → List Ran) → ℕ → Option R
 set_up f d b k = after f (if k == f.home then d else b k)
 
-abbrev pub all_at : {R : Type 0} → Frame R → List Ran → ℕ → Option R
+abbrev pub all_at : {R : Type 0} → UnitShare R → List Ran → ℕ → Option R
 all_at f n k = after f n
 
-abbrev pub shape : {R : Type 0} → Frame R → Stage R → View R
+abbrev pub shape : {R : Type 0} → UnitShare R → Stage R → View R
 shape f (Diverting d b l) = record (still Fencing [] [] d (set_up f d b)) { sw = only f.home (map Carry l); cs = Install ∷ []; diverts = false }
 shape f (Fence_goes d b l q v) = record (still Fencing q v d (set_up f d b)) { sw = only f.home (map Carry l ++ Fence ∷ []) }
 shape f (Fenced_comes d b q v) = record (still Fencing q v d (set_up f d b)) { back = only f.home (Fenced ∷ []) }
@@ -162,42 +162,51 @@ distinct [] = true
 distinct (x ∷ xs) = not (has xs x) && distinct xs
 
 -- what a share is: two or more members, each once, with home among them, and each packet's member
-pub record IsShare {R : Type 0} (f : Frame R) : Type 0 where
+pub record IsShare {R : Type 0} (f : UnitShare R) : Type 0 where
   pub home_in : has f.members f.home ≡ true
   pub member_in : (p : ℕ) → has f.members (f.member_of p) ≡ true
   pub apart : distinct f.members ≡ true
   pub two : 1 < length f.members
 
 -- the record at home has seen all, or lacks the last packet, which was processed at another member that has seen it
-abbrev pub Behind : {R : Type 0} → Frame R → List Ran → List Ran → (ℕ → Turn) → Type 0
+abbrev pub Behind : {R : Type 0} → UnitShare R → List Ran → List Ran → (ℕ → Turn) → Type 0
 Behind f b n at = (b ≡ n) ⊎ ((p : ℕ) × ((n ≡ b ++ (p, f.member_of p) ∷ []) × (is_pending (at (f.member_of p)) ≡ false)))
 
--- what is known of a Sync that goes round
-pub record FitsSpread {R : Type 0} (f : Frame R) (n : List Ran) (b : ℕ → List Ran) (c : Option R) (at : ℕ → Turn) (o : List ℕ) (left : ℕ) : Type 0 where
-  pub gives : (k : ℕ) → has f.members k ≡ true → over c (after f (b k)) ≡ after f n
-  pub fronts : (k : ℕ) → IsFront (b k) n
-  pub counts : count at o ≡ left
-  pub some : (left == 0) ≡ false
-  pub sent : (k : ℕ) → is_pending (at k) ≡ true → has o k ≡ true
-  pub lately : is_going (at f.home) ≡ true → Behind f (b f.home) n at
-  pub inside : (k : ℕ) → has o k ≡ true → has f.members k ≡ true
-  pub apart : distinct o ≡ true
+-- a Sync that goes round: what each member's record had seen before it, its chunk, each member's turn, those that were sent it, and how
+-- many of them have yet to answer
+pub record Spread (R : Type 0) : Type 0 where
+  pub seen : ℕ → List Ran
+  pub chunk : Option R
+  pub turn : ℕ → Turn
+  pub asked : List ℕ
+  pub left : ℕ
+
+-- what is known of it, where all that was processed is `n`
+pub record FitsSpread {R : Type 0} (f : UnitShare R) (n : List Ran) (x : Spread R) : Type 0 where
+  pub gives : (k : ℕ) → has f.members k ≡ true → over x.chunk (after f (x.seen k)) ≡ after f n
+  pub fronts : (k : ℕ) → IsFront (x.seen k) n
+  pub counts : count x.turn x.asked ≡ x.left
+  pub some : (x.left == 0) ≡ false
+  pub sent : (k : ℕ) → is_pending (x.turn k) ≡ true → has x.asked k ≡ true
+  pub lately : is_going (x.turn f.home) ≡ true → Behind f (x.seen f.home) n x.turn
+  pub inside : (k : ℕ) → has x.asked k ≡ true → has f.members k ≡ true
+  pub apart : distinct x.asked ≡ true
 
 -- what is known of a stage beside its shape
-abbrev pub FitsFrame : {R : Type 0} → Frame R → Stage R → Type 0
-FitsFrame f (Diverting d b l) = (k : ℕ) → IsFront (b k) d
-FitsFrame f (Fence_goes d b l q v) = (k : ℕ) → IsFront (b k) d
-FitsFrame f (Fenced_comes d b q v) = (k : ℕ) → IsFront (b k) d
-FitsFrame f (Get_goes d b q v) = (k : ℕ) → IsFront (b k) d
-FitsFrame f (Chunks_come d b q v) = (k : ℕ) → IsFront (b k) d
-FitsFrame f (Spreads first d e b c at o left q v) = FitsSpread f (d ++ served f e) b c at o left
-FitsFrame f (Resting d e v) = Unit {0}
-FitsFrame f (Forwards d e p q v) = Unit {0}
-FitsFrame f (Carries d e p q v) = Unit {0}
-FitsFrame f (Chunk_comes d e p q v) = Unit {0}
+abbrev pub FitsStage : {R : Type 0} → UnitShare R → Stage R → Type 0
+FitsStage f (Diverting d b l) = (k : ℕ) → IsFront (b k) d
+FitsStage f (Fence_goes d b l q v) = (k : ℕ) → IsFront (b k) d
+FitsStage f (Fenced_comes d b q v) = (k : ℕ) → IsFront (b k) d
+FitsStage f (Get_goes d b q v) = (k : ℕ) → IsFront (b k) d
+FitsStage f (Chunks_come d b q v) = (k : ℕ) → IsFront (b k) d
+FitsStage f (Spreads first d e b c at o left q v) = FitsSpread f (d ++ served f e) (record { seen = b; chunk = c; turn = at; asked = o; left = left })
+FitsStage f (Resting d e v) = Unit {0}
+FitsStage f (Forwards d e p q v) = Unit {0}
+FitsStage f (Carries d e p q v) = Unit {0}
+FitsStage f (Chunk_comes d e p q v) = Unit {0}
 
 -- two views agree, node by node
-pub record Alike {R : Type 0} (f : Frame R) (x y : View R) : Type 0 where
+pub record Alike {R : Type 0} (f : UnitShare R) (x y : View R) : Type 0 where
   pub sw : (k : ℕ) → x.sw k ≡ y.sw k
   pub sc : x.sc ≡ y.sc
   pub cs : x.cs ≡ y.cs
@@ -210,23 +219,23 @@ pub record Alike {R : Type 0} (f : Frame R) (x y : View R) : Type 0 where
   pub done : x.done ≡ y.done
 
 -- the unit's packets that a move brings
-abbrev pub brings : {R : Type 0} → Frame R → ShareMachineStep → List ℕ
+abbrev pub brings : {R : Type 0} → UnitShare R → ShareMachineStep → List ℕ
 brings f (Arrive p) = if_mine f p
 brings f m = []
 
 -- a view goes on to a stage: its shape is the view, what arrived is in order, and no member's record has seen less than before
-pub record Leads {R : Type 0} (f : Frame R) (s : Stage R) (x : View R) (ps : List ℕ) : Type 0 where
+pub record Leads {R : Type 0} (f : UnitShare R) (s : Stage R) (x : View R) (ps : List ℕ) : Type 0 where
   pub next : Stage R
-  pub fits : FitsFrame f next
+  pub fits : FitsStage f next
   pub alike : Alike f x (shape f next)
   pub early_is : early next ≡ early s ++ (if (shape f s).diverts then [] else ps)
   pub late_is : late f next ≡ late f s ++ (if (shape f s).diverts then ps else [])
   pub longer : (k : ℕ) → has f.members k ≡ true → IsFront (front f s k) (front f next k)
 
 -- a record has seen all, or lacks one packet, which another member has processed and seen
-abbrev pub Lacks : {R : Type 0} → Frame R → List Ran → List Ran → (ℕ → List Ran) → Type 0
+abbrev pub Lacks : {R : Type 0} → UnitShare R → List Ran → List Ran → (ℕ → List Ran) → Type 0
 Lacks f seen all others = (seen ≡ all) ⊎ ((p : ℕ) × ((all ≡ seen ++ (p, f.member_of p) ∷ []) × (others (f.member_of p) ≡ all)))
 
 -- so it is with the live record
-abbrev pub Live : {R : Type 0} → Frame R → Stage R → Type 0
+abbrev pub Live : {R : Type 0} → UnitShare R → Stage R → Type 0
 Live f s = Lacks f (front f s f.home) (processed f s) (front f s)

@@ -1,12 +1,12 @@
 -- Each move from each stage leads to a stage, in order and with no record that has seen less (`goes_on`).
-use Rattle.share_machine.proofs.Share.{Frame, ShareMachineStep, moved}
-use Rattle.share_machine.proofs.Stages.{Stage, Stage.Diverting, Stage.Fence_goes, Stage.Fenced_comes, Stage.Get_goes, Stage.Chunks_come, Stage.Spreads, Stage.Resting, Stage.Forwards, Stage.Carries, Stage.Chunk_comes, shape, IsShare, FitsFrame, brings, Leads}
+use Rattle.share_machine.proofs.Share.{UnitShare, ShareMachineStep, moved}
+use Rattle.share_machine.proofs.Stages.{Stage, Stage.Diverting, Stage.Fence_goes, Stage.Fenced_comes, Stage.Get_goes, Stage.Chunks_come, Stage.Spreads, Stage.Resting, Stage.Forwards, Stage.Carries, Stage.Chunk_comes, shape, IsShare, FitsStage, brings, Leads}
 use Rattle.share_machine.proofs.Setting.{diverting, fence_goes, fenced_comes, get_goes, chunks_come}
 use Rattle.share_machine.proofs.Spreading.{spreads}
 use Rattle.share_machine.proofs.Serving.{resting, forwards, carries, chunk_comes}
 
-module _ {R : Type 0} (f : Frame R) where
-  pub goes_on : IsShare f → (s : Stage R) → FitsFrame f s → (m : ShareMachineStep) → Leads f s (moved f (shape f s) m) (brings f m)
+module _ {R : Type 0} (f : UnitShare R) where
+  pub goes_on : IsShare f → (s : Stage R) → FitsStage f s → (m : ShareMachineStep) → Leads f s (moved f (shape f s) m) (brings f m)
   goes_on is (Diverting d b l) h m = diverting f d b l h m
   goes_on is (Fence_goes d b l q v) h m = fence_goes f d b l q v h m
   goes_on is (Fenced_comes d b q v) h m = fenced_comes f d b q v h m

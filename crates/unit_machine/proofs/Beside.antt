@@ -49,15 +49,24 @@ message_beside F u z h d Take_ac e = elim u.ac as (λ xs. moved F (beside F (rec
 message_beside F u z h d Take_bc e = elim u.bc as (λ xs. moved F (beside F (record u { bc = xs }) z h d) Take_bc ≡ beside F (moved F (record u { bc = xs }) Take_bc) z h d) [ [] ↦ refl | x ∷ xs ↦ refl ]
 message_beside F u z h d m e = cc
 
--- what the switch sends goes behind what is there
-pub record Sent {R : Type 0} (F : Steps R) (u w v : State R) (z : List (Item R)) (h : List ℕ) (d : List Ran) : Type 0 where
-  pub z' : List (Item R)
-  pub strips : strip z ≡ u.sb → strip z' ≡ v.sb
-  pub stays : carries z' ≡ carries z
-  pub is : w ≡ beside F v z' h d
-  pub rule : v.b.rule ≡ u.b.rule
+-- the unit's own packets beside a stage: the link to B with them, those that are held there, and what was processed
+pub record OwnPackets (R : Type 0) : Type 0 where
+  pub link : List (Item R)
+  pub held : List ℕ
+  pub done : List Ran
 
-switch_beside : {R : Type 0} (F : Steps R) (u : State R) (z : List (Item R)) (h : List ℕ) (d : List Ran) (x : Item R) → Sent F u (switch_does (beside F u z h d) x) (switch_does u x) z h d
+abbrev pub with_own : {R : Type 0} → Steps R → State R → OwnPackets R → State R
+with_own F u own = beside F u own.link own.held own.done
+
+-- a step of the switch: what it sends goes behind what is there
+pub record SendsBeside {R : Type 0} (F : Steps R) (u : State R) (step : State R → State R) (own : OwnPackets R) : Type 0 where
+  pub z' : List (Item R)
+  pub strips : strip own.link ≡ u.sb → strip z' ≡ (step u).sb
+  pub stays : carries z' ≡ carries own.link
+  pub is : step (with_own F u own) ≡ beside F (step u) z' own.held own.done
+  pub rule : (step u).b.rule ≡ u.b.rule
+
+switch_beside : {R : Type 0} (F : Steps R) (u : State R) (z : List (Item R)) (h : List ℕ) (d : List Ran) (x : Item R) → SendsBeside F u (λ v. switch_does v x) (record { link = z; held = h; done = d })
 switch_beside F u z h d (Forward At_b p) = record { z' = z ++ Pass p ∷ []; strips = λ e. strip-append z (Pass p ∷ []) ∙ ap (λ s. s ++ Pass p ∷ []) e; stays = carries-append z (Pass p ∷ []) ∙ append-nil (carries z); is = refl; rule = refl }
 switch_beside F u z h d (Fence_to At_b) = record { z' = z ++ Fence ∷ []; strips = λ e. strip-append z (Fence ∷ []) ∙ ap (λ s. s ++ Fence ∷ []) e; stays = carries-append z (Fence ∷ []) ∙ append-nil (carries z); is = refl; rule = refl }
 switch_beside F u z h d (Forward At_a p) = record { z' = z; strips = λ e. e; stays = refl; is = refl; rule = refl }
@@ -66,8 +75,8 @@ switch_beside F u z h d (Fence_to At_a) = record { z' = z; strips = λ e. e; sta
 switch_beside F u z h d (Fence_to At_c) = record { z' = z; strips = λ e. e; stays = refl; is = refl; rule = refl }
 switch_beside F u z h d x = record { z' = z; strips = λ e. e; stays = refl; is = refl; rule = refl }
 
-cs_beside : {R : Type 0} (F : Steps R) (u : State R) (z : List (Item R)) (h : List ℕ) (d : List Ran) → Sent F u (moved F (beside F u z h d) Take_cs) (moved F u Take_cs) z h d
-cs_beside F u z h d = elim u.cs as (λ xs. Sent F (record u { cs = xs }) (moved F (beside F (record u { cs = xs }) z h d) Take_cs) (moved F (record u { cs = xs }) Take_cs) z h d) [
+cs_beside : {R : Type 0} (F : Steps R) (u : State R) (z : List (Item R)) (h : List ℕ) (d : List Ran) → SendsBeside F u (λ v. moved F v Take_cs) (record { link = z; held = h; done = d })
+cs_beside F u z h d = elim u.cs as (λ xs. SendsBeside F (record u { cs = xs }) (λ v. moved F v Take_cs) (record { link = z; held = h; done = d })) [
   | [] ↦ record { z' = z; strips = λ e. e; stays = refl; is = refl; rule = refl }
   | x ∷ xs ↦ (let s = switch_beside F (record u { cs = xs }) z h d x in record { z' = s.z'; strips = s.strips; stays = s.stays; is = s.is; rule = s.rule })
 ]
@@ -77,17 +86,18 @@ nil_own : {R : Type 0} (o : Option R) (xs : List R) → option_to_list o ++ xs �
 nil_own None xs e = refl
 nil_own (Some r) xs e = cc
 
-pub record Took {R : Type 0} (F : Steps R) (u w v : State R) (z : List (Item R)) (h : List ℕ) (d : List Ran) : Type 0 where
-  pub is : w ≡ beside F v z h d
-  pub link : v.sb ≡ u.sb
-  pub rule : v.b.rule ≡ Free → u.b.rule ≡ Free
+-- a step of B that takes from the controller: the link to B stays
+pub record TakesBeside {R : Type 0} (F : Steps R) (u : State R) (step : State R → State R) (own : OwnPackets R) : Type 0 where
+  pub is : step (with_own F u own) ≡ with_own F (step u) own
+  pub link : (step u).sb ≡ u.sb
+  pub rule : (step u).b.rule ≡ Free → u.b.rule ≡ Free
 
-put_beside : {R : Type 0} (F : Steps R) (u : State R) (z : List (Item R)) (h : List ℕ) (d : List Ran) (p : Part R) (first : Bool) (refuse : Option Answer) → p.own ≡ None → Took F u (put_b (beside F u z h d) (put F first refuse (beside F u z h d).b p)) (put_b u (put F first refuse u.b p)) z h d
+put_beside : {R : Type 0} (F : Steps R) (u : State R) (z : List (Item R)) (h : List ℕ) (d : List Ran) (p : Part R) (first : Bool) (refuse : Option Answer) → p.own ≡ None → TakesBeside F u (λ v. put_b v (put F first refuse v.b p)) (record { link = z; held = h; done = d })
 put_beside F u z h d p false refuse o = record { is = rw o (simp append_assoc); link = refl; rule = λ e. e }
 put_beside F u z h d p true None o = record { is = rw o (simp append_assoc); link = refl; rule = λ e. e }
 put_beside F u z h d p true (Some why) o = record { is = simp append_assoc; link = refl; rule = λ e. e }
 
-cb_beside : {R : Type 0} (F : Steps R) (u : State R) (z : List (Item R)) (h : List ℕ) (d : List Ran) (refuse : Option Answer) (xs : List (Item R)) → to_dest xs ≡ true → records_on xs ≡ [] → Took F u (moved F (beside F (record u { cb = xs }) z h d) (Take_cb refuse)) (moved F (record u { cb = xs }) (Take_cb refuse)) z h d
+cb_beside : {R : Type 0} (F : Steps R) (u : State R) (z : List (Item R)) (h : List ℕ) (d : List Ran) (refuse : Option Answer) (xs : List (Item R)) → to_dest xs ≡ true → records_on xs ≡ [] → TakesBeside F (record u { cb = xs }) (λ v. moved F v (Take_cb refuse)) (record { link = z; held = h; done = d })
 cb_beside F u z h d refuse [] k r = record { is = refl; link = refl; rule = λ e. e }
 cb_beside F u z h d refuse (Enable Buffers ∷ xs) k r = record { is = simp append_assoc; link = refl; rule = λ e. cc }
 cb_beside F u z h d refuse (Put p first ∷ xs) k r = let t = put_beside F (record u { cb = xs }) z h d p first refuse (nil_own p.own (records_on xs) r) in record { is = t.is; link = t.link; rule = t.rule }

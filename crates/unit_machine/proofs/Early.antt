@@ -1,8 +1,8 @@
 -- Each step from a stage before the move streams leads to a stage, with the unit's packets in order.
-use Rattle.std.proofs.Common.{◌≡◌, ℕ, Bool, true, false, List, [], ◌∷◌, ◌++◌, map, refl, sym, ap, ◌∙◌, append_assoc, append-nil}
+use Rattle.std.proofs.Common.{ℕ, Bool, List, [], ◌∷◌, ◌++◌, map, refl, sym, append_assoc, append-nil}
 use Rattle.std.proofs.lemmas.List.{map-append}
 use Rattle.unit_machine.proofs.Machine.{Where, At_a, Ran, Steps, after, Part, MachineStep, Begin, Arrive, Take_sa, Take_ac, Take_ca}
-use Rattle.unit_machine.proofs.Lists.{firsts, firsts-append, firsts-on, runs-append, passes-append, plains-append, events-append, pieces-append, named-append, Mix, Ev, Pc, shown, events, pieces, named, events-sent, pieces-sent, named-sent, shown-sent}
+use Rattle.unit_machine.proofs.Lists.{firsts-append, firsts-on, runs-append, passes-append, plains-append, events-append, Ev, Pc, events-sent, pieces-sent, named-sent, shown-sent}
 use Rattle.unit_machine.proofs.UnitPieces.{ArePiecesOf, pick_all, not_nil}
 use Rattle.unit_machine.proofs.Stages.{At_rest, Begun, Frozen, Stream_goes, Streams, Flows, Is_shut, body, shape, Allowed, GoesOn, Placed}
 

@@ -1,12 +1,16 @@
 -- Laws over `++` of the lists in a stage: processed packets, plain packets mixed with passed ones, and events mixed with pieces and
 -- Deleteds.
-use Rattle.std.proofs.Common.{◌≡◌, ℕ, Bool, true, false, Option, Some, List, [], ◌∷◌, ◌++◌, map, refl, ap}
-use Rattle.std.specs.Prelude.{if◌then◌else◌}
+use Rattle.std.proofs.Common.{◌≡◌, ℕ, Bool, true, false, Option, None, Some, List, [], ◌∷◌, ◌++◌, map, refl, ap}
+use Rattle.std.specs.Prelude.{if◌then◌else◌, is_some}
 use Rattle.unit_machine.proofs.Machine.{Where, Ran, on, Steps, runs, Part, Item, Carry, Pass, Event, Piece, Deleted, is_nil}
 
 pub nil_is : {X : Type 0} (xs : List X) → is_nil xs ≡ true → xs ≡ []
 nil_is [] e = refl
 nil_is (x ∷ xs) e = cc
+
+pub none_is : {X : Type 0} (o : Option X) → is_some o ≡ false → o ≡ None
+none_is None e = refl
+none_is (Some x) e = cc
 
 pub runs-append : {R : Type 0} (F : Steps R) (o : Option R) (d e : List Ran) → runs F o (d ++ e) ≡ runs F (runs F o d) e
 runs-append F o [] e = refl
@@ -154,6 +158,10 @@ shown-sent (x ∷ e) ps = ap (λ z. Event x ∷ z) (shown-sent e ps)
 
 pub cons_nil : {X Y : Type 0} {x : X} {xs : List X} → x ∷ xs ≡ [] → Y
 cons_nil e = cc
+
+pub map_nil : {X Y : Type 0} (g : X → Y) (xs : List X) → map g xs ≡ [] → xs ≡ []
+map_nil g [] e = refl
+map_nil g (x ∷ xs) e = cons_nil e
 
 -- where no piece and no Deleted is left, the link has events alone
 pub shown-events : {R : Type 0} (y : List (Mix R)) → named y ≡ [] → pieces y ≡ [] → map shown y ≡ map Event (events y)

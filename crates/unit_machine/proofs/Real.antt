@@ -1,6 +1,6 @@
 -- A move as the controller keeps it, with chunks of many units and sends with receivers, and what one unit sees of it (`seen`,
 -- `see_phase`, `Sees`).
-use Rattle.std.proofs.Common.{◌≡◌, ℕ, Bool, true, false, Option, Some, None, List, [], ◌∷◌, ◌++◌, map}
+use Rattle.std.proofs.Common.{◌≡◌, ℕ, Bool, true, false, Option, Some, None, List, [], ◌∷◌, ◌++◌, map, refl}
 use Rattle.std.specs.Prelude.{if◌then◌else◌, ◌&&◌, ◌||◌, ◌==◌}
 use Rattle.std.specs.FinMap.{find}
 use Rattle.nf_function.specs.declared.unit.Unit as units
@@ -175,6 +175,10 @@ pub record Frame : Type 0 where
 abbrev pub where_true : {X : Type 0} → Bool → X → Option X
 where_true true x = Some x
 where_true false x = None
+
+pub off_if : {X : Type 0} (t : Bool) (x : X) → where_true t x ≡ None → t ≡ false
+off_if true x e = cc
+off_if false x e = refl
 
 abbrev pub see : {R : Type 0} → Frame → RPiece R → Part R
 see v p = record { own = record_at v.unit p.chunks; last = p.last }

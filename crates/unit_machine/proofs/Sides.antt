@@ -45,7 +45,7 @@ pub data Last {R : Type 0} (x : State R) (way : List ℕ) : Type 0 where
   At_destination : x.target ≡ At_b → at_side x.c x.sc ≡ [] → way ≡ places x (at_side x.a x.sa ++ at_side x.b x.sb) → Last x way
   At_third : x.target ≡ At_c → at_side x.a x.sa ≡ [] → at_side x.b x.sb ≡ [] → way ≡ places x (at_side x.c x.sc) → Last x way
 
-pub record Stands {R : Type 0} (x : State R) (way : List ℕ) : Type 0 where
+pub record SidesStand {R : Type 0} (x : State R) (way : List ℕ) : Type 0 where
   pub handed : OneOf (passes_in x.sa) (passes_in x.sb)
   pub third : passes_in x.sc ≡ []
   pub events_b : events_in x.bc ≡ []
@@ -138,7 +138,7 @@ last_at F s = by_target (shape F s).target refl
     by_target At_b e = At_destination e away way
     by_target At_c e = absurd (not_third F s e)
 
-stage_stands : {R : Type 0} (F : Steps R) (s : Stage F) → Stands (shape F s) (path s)
+stage_stands : {R : Type 0} (F : Steps R) (s : Stage F) → SidesStand (shape F s) (path s)
 stage_stands F s = record {
   handed = handed_at F s;
   third = ap passes_in (plain F s).sc;
@@ -191,7 +191,7 @@ passes-strip (Carry p ∷ z) = passes-strip z
 passes-strip (Pass p ∷ z) = ap (λ v. p ∷ v) (passes-strip z)
 passes-strip (x ∷ z) = passes-strip z
 
-beside_stands : {R : Type 0} (F : Steps R) (s : Beside F) → Stands (shape_beside F s) (s.h ++ carries s.z)
+beside_stands : {R : Type 0} (F : Steps R) (s : Beside F) → SidesStand (shape_beside F s) (s.h ++ carries s.z)
 beside_stands F s =
     let base = stage_stands F s.base in
     let none = bare_none F s.base s.bare in
@@ -207,7 +207,7 @@ beside_stands F s =
       last = At_destination refl (nothing_on (shape F s.base).c (shape F s.base).sc third.held third.sc) (rw (none.passes_a, own, none.forwards_s, none.store, none.events_a, none.held_a, none.carries_a) refl);
     }
 
-away_stands : {R : Type 0} (F : Steps R) (s : Away F) → Stands (shape_away F s) s.l
+away_stands : {R : Type 0} (F : Steps R) (s : Away F) → SidesStand (shape_away F s) s.l
 away_stands {R = R} F s =
     let base = stage_stands F s.base in
     let none = bare_none F s.base s.bare in
@@ -221,7 +221,7 @@ away_stands {R = R} F s =
       last = At_third refl (rw (none.held_a, none.carries_a) refl) (rw (none.held_b, none.carries_b) refl) (rw (none.passes_a, none.passes_b, none.forwards_s, none.store, none.events_a) (sym (all_carries R s.l)));
     }
 
-pub seat_stands : {R : Type 0} (F : Steps R) (s : Seat F) → Stands (seat_shape F s) (seat_path s)
+pub seat_stands : {R : Type 0} (F : Steps R) (s : Seat F) → SidesStand (seat_shape F s) (seat_path s)
 seat_stands F (Covered s) = stage_stands F s
 seat_stands F (Is_beside s) = beside_stands F s
 seat_stands F (Is_away s) = away_stands F s

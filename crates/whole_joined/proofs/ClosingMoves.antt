@@ -1,5 +1,5 @@
 -- A move is over by its last fence alone, and then nothing is stored for it.
-use Rattle.std.proofs.Common.{◌≡◌, ℕ, Bool, true, false, Some, None, List, [], ◌∷◌, ◌++◌, map, length, refl, sym, ap, ◌∙◌}
+use Rattle.std.proofs.Common.{◌≡◌, ℕ, Bool, true, false, Some, None, List, [], ◌∷◌, ◌++◌, length, refl, sym, ap, ◌∙◌}
 use Rattle.std.specs.Prelude.{if◌then◌else◌, ◌&&◌, ◌||◌, ◌==◌, unwrap_or}
 use Rattle.nf_function.specs.declared.unit.Unit as units
 use Rattle.nf_function.specs.declared.chunk.Chunk.{Chunk}
@@ -26,6 +26,7 @@ use Rattle.outline_net.proofs.ControlOutline.{SeesMove}
 use Rattle.whole_joined.proofs.Given.{Given, place}
 use Rattle.whole_joined.proofs.Joined.{S, A}
 use Rattle.whole_joined.proofs.MoveReadings.{none_left_all}
+use Rattle.unit_machine.proofs.Lists.{map_nil}
 
 -- the last fence is awaited
 abbrev closing : Phase → Bool
@@ -124,10 +125,6 @@ module _ (plan : MovePlan) (events : List FullCell) where
         ]
       ]
 
-map_nil : (events : List FullCell) → map number events ≡ [] → events ≡ []
-map_nil [] e = refl
-map_nil (x ∷ events) e = cc
-
 module _ {R : Type 0} (f : Semantics R) (g : Given) where
   ends_at : (ph : Phase) → closing ph ≡ true → ends (outline_phase f (place g) ph) ≡ true
   ends_at phase.Ending e = refl
@@ -138,4 +135,4 @@ module _ {R : Type 0} (f : Semantics R) (g : Given) where
   closed_empty w came every n e mv events there sees going port m why over =
       let c = closes mv.plan events mv.phase port m why going over in
       let none : e.store ≡ [] = nothing (S f g) (is_sys f g.site g.packet) e.store (λ u. none_left_all (S f g) (A f g) (is_sys f g.site g.packet) w came every n e there u (ap ends sees.phase ∙ ends_at mv.phase c.at)) in
-      ap (λ o. unwrap_or o events) c.stays ∙ map_nil events (sym sees.store ∙ none)
+      ap (λ o. unwrap_or o events) c.stays ∙ map_nil number events (sym sees.store ∙ none)

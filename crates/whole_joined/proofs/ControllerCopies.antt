@@ -105,7 +105,7 @@ module _ {F R : Type 0} (f : Semantics R) (g : Given) (n : ℕ) (x : Scene F f g
       store = refl;
     }
 
-    by_turn : (did : Step) → CopyTurn c op y m did → CopyDid op did
+    by_turn : (did : Step) → CopyTurn (record { controller = c; op = op; copy = y }) m did → CopyDid op did
     by_turn did (Idle e) = subst (CopyDid op) (sym e) it_stays
     by_turn did (Hands k chunks e d) = subst (CopyDid op) (sym d) (hands_on (msg.Standby y.plan.op chunks) ((refl, omega arith), subst (Good f g) e good))
     by_turn did (Hands_all k chunk e d) = subst (CopyDid op) (sym d) (hands_on (msg.PutAll y.plan.op chunk) (refl, omega arith))

@@ -48,13 +48,19 @@ pub record IsCopyPlan (g : Given) (op : ℕ) (plan : CopyPlan) : Type 0 where
   pub from_is : place_of g.names source ≡ Some plan.from
   pub to_is : place_of g.names destination ≡ Some plan.to
 
--- a change of the switch's rules is that of the order under its number
-pub record IsInstall (g : Given) (op : ℕ) (filter : Filter) (from : ℕ) (to : Target) : Type 0 where
+-- a change of the switch's rules: the packets that a filter takes from one instance get a target
+pub record RuleChange : Type 0 where
+  pub filter : Filter
+  pub from : ℕ
+  pub to : Target
+
+-- it is that of the order under its number
+pub record IsInstall (g : Given) (op : ℕ) (change : RuleChange) : Type 0 where
   pub plan : MovePlan
   pub plan_is : IsPlan g op plan
-  pub filter_is : plan.filter ≡ filter
-  pub from_is : plan.from ≡ from
-  pub to_is : to ≡ target.Instance plan.to
+  pub filter_is : plan.filter ≡ change.filter
+  pub from_is : plan.from ≡ change.from
+  pub to_is : change.to ≡ target.Instance plan.to
 
 -- the plan of a share is that of the order under its number
 pub record IsSharePlan (g : Given) (op : ℕ) (plan : SharePlan) : Type 0 where
@@ -70,9 +76,12 @@ pub record IsDivert (g : Given) (op : ℕ) (filter : Filter) (from : ℕ) : Type
   pub order_is : g.orders op ≡ Some (order.Share (name ∷ others) filter)
   pub home_is : place_of g.names name ≡ Some from
 
-abbrev pub IsChange : Given → ℕ → Filter → ℕ → Target → Type 0
-IsChange g op filter from (target.Instance to) = IsInstall g op filter from (target.Instance to)
-IsChange g op filter from target.Controller = IsDivert g op filter from
+abbrev pub IsChangeTo : Given → ℕ → RuleChange → Target → Type 0
+IsChangeTo g op change (target.Instance to) = IsInstall g op change
+IsChangeTo g op change target.Controller = IsDivert g op change.filter change.from
+
+abbrev pub IsChange : Given → ℕ → RuleChange → Type 0
+IsChange g op change = IsChangeTo g op change change.to
 
 -- who owns a unit after these commands were installed, and whether one of them was a plain move that handed it on
 abbrev pub owner_by : Given → units.Unit → List ℕ → ℕ

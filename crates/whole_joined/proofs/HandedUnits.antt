@@ -95,7 +95,7 @@ module _ (from i : ℕ) where
 
 module _ {R : Type 0} (f : Semantics R) (g : Given) where
   -- the order of a change of the rules is a move between its two instances
-  module _ (op : ℕ) (filter : Filter) (from dst : ℕ) (h : IsInstall g op filter from (target.Instance dst)) where
+  module _ (op : ℕ) (filter : Filter) (from dst : ℕ) (h : IsInstall g op (record { filter = filter; from = from; to = target.Instance dst })) where
     order_is : g.orders op ≡ Some (order.Move h.plan_is.source h.plan_is.destination filter h.plan.keep)
     order_is = h.plan_is.order_is ∙ ap (λ k. Some (order.Move h.plan_is.source h.plan_is.destination k h.plan.keep)) h.filter_is
 

@@ -32,7 +32,7 @@ use Rattle.move_op.specs.declared.door.Door.TheVariants as door
 use Rattle.move_op.specs.declared.phase.Phase.{Phase}
 use Rattle.move_op.specs.declared.phase.Phase.TheVariants as phase
 use Rattle.move_op.specs.Move.{MoveState, answer_of}
-use Rattle.copy_share.specs.Copy.{CopyPlan, CopyState}
+use Rattle.copy_share.specs.Copy.{CopyState}
 use Rattle.copy_share.specs.Copy as copy
 use Rattle.copy_share.specs.Share.{ShareState, home}
 use Rattle.copy_share.specs.declared.share_phase.SharePhase.{SharePhase}
@@ -190,7 +190,7 @@ module _ {R : Type 0} (f : Semantics R) (g : Given) where
   Label s r msg.End = (s ≡ 0) × (r ≡ 1)
   Label s r (msg.Diverted cell) = (s ≡ 0) × (r ≡ 1) × Genuine cell
   Label s r (msg.Forward to mark cell) = ToSwitch s r × (nat_lt to count ≡ true) × (is_handed mark ≡ true) × Genuine cell
-  Label s r (msg.Install op filter from to) = ToSwitch s r × (nat_lt from count ≡ true) × (is_target count to ≡ true) × (is_whole f.kind filter ≡ true) × IsChange g op filter from to
+  Label s r (msg.Install op filter from to) = ToSwitch s r × (nat_lt from count ≡ true) × (is_target count to ≡ true) × (is_whole f.kind filter ≡ true) × IsChange g op (record { filter = filter; from = from; to = to })
   Label s r (msg.FenceTo op to) = ToSwitch s r × (nat_lt to count ≡ true)
   Label s r (msg.Answered op) = ToSwitch s r
   Label s r msg.Finish = ToSwitch s r

@@ -25,10 +25,10 @@ use Rattle.whole_joined.proofs.Given.{Given}
 use Rattle.whole_joined.proofs.Joined.{count, Label, shown, Took, node_of, links_next, Scene, Shows, AreShown, Joined, Leads, IsTaken}
 
 -- what the nodes' steps give: each leads from a world of a run to one, where what the step wants beside is so
-abbrev pub Node_leads : (F : Type 0) {R : Type 0} (f : Semantics R) (g : Given) → ℕ → (Scene F f g → Msg → Type 0) → Type 0
-Node_leads F f g n May = (x : Scene F f g) (k p : ℕ) (m : Msg) → AreShown f g n x → IsTaken f g n x (record { node = k; port = p; message = m }) → May x m → Leads f g n x (record { node = k; port = p; message = m }) (node_step f (node_of x.nodes k) p m)
+abbrev pub Node_leads : {F R : Type 0} (f : Semantics R) (g : Given) → ℕ → (Scene F f g → Msg → Type 0) → Type 0
+Node_leads {F = F} f g n May = (x : Scene F f g) (k p : ℕ) (m : Msg) → AreShown f g n x → IsTaken f g n x (record { node = k; port = p; message = m }) → May x m → Leads f g n x (record { node = k; port = p; message = m }) (node_step f (node_of x.nodes k) p m)
 
-module _ {F R : Type 0} (f : Semantics R) (g : Given) (n : ℕ) (count_is : n ≡ count f g + 2) (May : Scene F f g → Msg → Type 0) (leads : Node_leads F f g n May) where
+module _ {F R : Type 0} (f : Semantics R) (g : Given) (n : ℕ) (count_is : n ≡ count f g + 2) (May : Scene F f g → Msg → Type 0) (leads : Node_leads f g n May) where
   abbrev pub step : Node F R → ℕ → Msg → Stepped (Node F R) Msg Note
   step = node_step f
 

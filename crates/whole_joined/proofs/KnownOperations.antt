@@ -36,5 +36,5 @@ module _ (g : Given) (c : ControllerState) (are : AreKnown g c) where
   by_turn P op port m none h = subst P (sym (handed_is c op port m none)) h
 
   -- what a message does to an open copy
-  pub copy_turns : (op : ℕ) (y : CopyState) → finite.get c.operations op ≡ Some (Copy y) → (port : ℕ) (m : Msg) → CopyTurn c op y m (takes_turn c op (turn_of (Some (Copy y)) c.store port m))
+  pub copy_turns : (op : ℕ) (y : CopyState) → finite.get c.operations op ≡ Some (Copy y) → (port : ℕ) (m : Msg) → CopyTurn (record { controller = c; op = op; copy = y }) m (takes_turn c op (turn_of (Some (Copy y)) c.store port m))
   copy_turns op y there port m = copy_turn c op y (are.copies op y there).0 there port m

@@ -20,7 +20,7 @@ pub record Wants {F R : Type 0} (f : Semantics R) (g : Given) (x : Scene F f g) 
   pub next : Copies_next f g x m
 
 module _ {F R : Type 0} (f : Semantics R) (laws : FunctionLaws f) (g : Given) (fitting : (number : ℕ) → Fits g.site (g.packet number)) (n : ℕ) where
-  pub node_leads : Node_leads F f g n (Wants f g)
+  pub node_leads : Node_leads {F = F} f g n (Wants f g)
   node_leads x zero p m are is wants = switch_leads f laws g n x p m are is
   node_leads x (suc zero) p m are is wants = controller_leads f laws g n x p m are is wants.next
   node_leads x (suc (suc i)) p m are is wants = instance_leads f laws g fitting n x p m (suc (suc i)) (omega arith) are is wants.stand

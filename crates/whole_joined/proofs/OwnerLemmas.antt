@@ -148,12 +148,18 @@ place_quiet job number k xs ys i h (Is_destination on e) =
     }) e
 place_quiet job number k xs ys i h (Is_member e) = Is_member (goes_same job.config job.items job.function.kind number xs ys (installed_quiet k ys h) ∙ e)
 
--- where in two lists one behind the other an element stands
-pub data Stands {X : Type 0} (xs ys zs : List X) (z : X) (bs : List X) : Type 0 where
-  In_first : (cs : List X) → xs ≡ zs ++ z ∷ cs → Stands xs ys zs z bs
-  In_second : (cs : List X) → zs ≡ xs ++ cs → ys ≡ cs ++ z ∷ bs → Stands xs ys zs z bs
+-- a list, split at one of its items
+pub record SplitAt (X : Type 0) : Type 0 where
+  pub before : List X
+  pub item : X
+  pub after : List X
 
-pub stands : {X : Type 0} (xs ys zs : List X) (z : X) (bs : List X) → xs ++ ys ≡ zs ++ z ∷ bs → Stands xs ys zs z bs
+-- in which of two lists one after the other an item stands
+pub data Stands {X : Type 0} (xs ys : List X) (s : SplitAt X) : Type 0 where
+  In_first : (cs : List X) → xs ≡ s.before ++ s.item ∷ cs → Stands xs ys s
+  In_second : (cs : List X) → s.before ≡ xs ++ cs → ys ≡ cs ++ s.item ∷ s.after → Stands xs ys s
+
+pub stands : {X : Type 0} (xs ys zs : List X) (z : X) (bs : List X) → xs ++ ys ≡ zs ++ z ∷ bs → Stands xs ys (record { before = zs; item = z; after = bs })
 stands [] ys zs z bs e = In_second zs refl e
 stands (x ∷ xs) ys [] z bs e = let same : x ≡ z = cc in In_first xs (ap (λ v. v ∷ xs) same)
 stands (x ∷ xs) ys (a ∷ zs) z bs e =
@@ -161,7 +167,7 @@ stands (x ∷ xs) ys (a ∷ zs) z bs e =
     let rest : xs ++ ys ≡ zs ++ z ∷ bs = cc in
     by_rest same (stands xs ys zs z bs rest)
   where
-    by_rest : x ≡ a → Stands xs ys zs z bs → Stands (x ∷ xs) ys (a ∷ zs) z bs
+    by_rest : x ≡ a → Stands xs ys (record { before = zs; item = z; after = bs }) → Stands (x ∷ xs) ys (record { before = a ∷ zs; item = z; after = bs })
     by_rest same (In_first cs is) = In_first cs (ap (λ v. v ∷ xs) same ∙ ap (λ v. a ∷ v) is)
     by_rest same (In_second cs is at) = In_second cs (ap (λ v. v ∷ zs) (sym same) ∙ ap (λ v. x ∷ v) is) at
 

@@ -36,7 +36,7 @@ module _ {F R : Type 0} (f : Semantics R) (g : Given) where
   pub record NumbersRise (n : ℕ) (w : Network (Node F R) Msg Note) (j : Joined f g n w) : Type 0 where
     pub rising : Rising j.world.next (waits_of w)
 
-  module _ (n : ℕ) (count_is : n ≡ count f g + 2) (May : Scene F f g → Msg → Type 0) (leads : Node_leads F f g n May) where
+  module _ (n : ℕ) (count_is : n ≡ count f g + 2) (May : Scene F f g → Msg → Type 0) (leads : Node_leads f g n May) where
     module _ (w : Network (Node F R) Msg Note) (k p : ℕ) (m : Msg) (rest : List Msg) (j : Joined f g n w) (takes : Takes (node_step f) n w k p (node_of j.nodes k) m rest) (was_ready : is_input (at k p) ≡ true → node_ready (node_of j.nodes k) m ≡ true) where
       abbrev after : Network (Node F R) Msg Note
       after = taken (node_step f) w (at k p)

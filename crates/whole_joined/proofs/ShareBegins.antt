@@ -86,7 +86,7 @@ module _ (names : List (List ℕ)) where
       by_place (Some i) at rest = (one_apart name i at others (and_parts (is_unlike name others) (are_unlike others) e).0, rest)
 
   -- the nodes of names of which none is unknown
-  pub record AreKnown (these : List (List ℕ)) : Type 0 where
+  pub record HaveNodes (these : List (List ℕ)) : Type 0 where
     pub nodes : List ℕ
     pub members : members_of (place_of names) these ≡ Some nodes
     pub many : length (filter_map (place_of names) these) ≡ length these
@@ -94,11 +94,11 @@ module _ (names : List (List ℕ)) where
   abbrev pub unknown : List (List ℕ) → Option (List ℕ)
   unknown these = find (λ name. not (is_some (place_of names name))) these
 
-  pub names_known : (these : List (List ℕ)) → unknown these ≡ None → AreKnown these
+  pub names_known : (these : List (List ℕ)) → unknown these ≡ None → HaveNodes these
   names_known [] e = record { nodes = []; members = refl; many = refl }
   names_known (name ∷ others) e = by_place (place_of names name) refl e (λ rest. names_known others rest)
     where
-      by_place : (o : Option ℕ) → place_of names name ≡ o → (if not (is_some o) then Some name else unknown others) ≡ None → (unknown others ≡ None → AreKnown others) → AreKnown (name ∷ others)
+      by_place : (o : Option ℕ) → place_of names name ≡ o → (if not (is_some o) then Some name else unknown others) ≡ None → (unknown others ≡ None → HaveNodes others) → HaveNodes (name ∷ others)
       by_place None at bad known = cc
       by_place (Some i) at rest known =
           let k = known rest in

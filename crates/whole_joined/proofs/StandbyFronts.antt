@@ -129,7 +129,7 @@ module _ {F R : Type 0} (f : Semantics R) (g : Given) (n : ℕ) where
       all_none s r off [] h = tt
       all_none s r off (m ∷ ms) h = (none_kept f g (AreFronted f g j.world) (none_fronted f g j.world) s r off m h.0, all_none s r off ms h.1)
 
-module _ {F R : Type 0} (f : Semantics R) (g : Given) (n : ℕ) (count_is : n ≡ count f g + 2) (May : Scene F f g → Msg → Type 0) (leads : Node_leads F f g n May) where
+module _ {F R : Type 0} (f : Semantics R) (g : Given) (n : ℕ) (count_is : n ≡ count f g + 2) (May : Scene F f g → Msg → Type 0) (leads : Node_leads f g n May) where
   module _ (w : Network (Node F R) Msg Note) (k p : ℕ) (m : Msg) (rest : List Msg) (j : Joined f g n w) (takes : Takes (node_step f) n w k p (node_of j.nodes k) m rest) (was_ready : is_input (at k p) ≡ true → node_ready (node_of j.nodes k) m ≡ true) where
     -- the message that is taken
     pub taken_front : AreKeptFronts f g n w j → AreFronted f g j.world (kept_of m)

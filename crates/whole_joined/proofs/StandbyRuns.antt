@@ -70,7 +70,7 @@ module _ {F R : Type 0} (f : Semantics R) (g : Given) (n : ℕ) where
   apart_after x (suc zero) p m l apart = subst (λ c. AllApart c.operations) (same_controller {F = F} {R = R} (controller_step x.nodes.controller p m).node l.nodes.controller l.own) (controller_apart x.nodes.controller p m apart)
   apart_after x (suc (suc i)) p m l apart = subst (λ c. AllApart c.operations) (sym (same_controller {F = F} {R = R} l.nodes.controller x.nodes.controller (l.others 1 (λ e. cc)))) apart
 
-module _ {F R : Type 0} (f : Semantics R) (laws : FunctionLaws f) (g : Given) (n : ℕ) (count_is : n ≡ count f g + 2) (May : Scene F f g → Msg → Type 0) (leads : Node_leads F f g n May) where
+module _ {F R : Type 0} (f : Semantics R) (laws : FunctionLaws f) (g : Given) (n : ℕ) (count_is : n ≡ count f g + 2) (May : Scene F f g → Msg → Type 0) (leads : Node_leads f g n May) where
   module _ (w : Network (Node F R) Msg Note) (k p : ℕ) (m : Msg) (rest : List Msg) (j : Joined f g n w) (takes : Takes (node_step f) n w k p (node_of j.nodes k) m rest) (was_ready : is_input (at k p) ≡ true → node_ready (node_of j.nodes k) m ≡ true) (h : AreKept f g n w j) where
     -- what is known of the message that is taken
     taken_filtered : IsFiltered f g m

@@ -122,7 +122,7 @@ module _ {F R : Type 0} (f : Semantics R) (g : Given) (n : ℕ) (x : Scene F f g
     pool = are.switch.pool;
   }
 
-  told_install : (op : ℕ) (filter : Filter) (from to : ℕ) → is_whole f.kind filter ≡ true → IsInstall g op filter from (target.Instance to) → Told (Old (net.Mv filter (real.M_install op (instance_node from) (instance_node to)))) (λ v. sw_target (S f g) x.world.target (net.Mv filter (real.M_install op (instance_node from) (instance_node to))) v) (note.Installed op ∷ [])
+  told_install : (op : ℕ) (filter : Filter) (from to : ℕ) → is_whole f.kind filter ≡ true → IsInstall g op (record { filter = filter; from = from; to = target.Instance to }) → Told (Old (net.Mv filter (real.M_install op (instance_node from) (instance_node to)))) (λ v. sw_target (S f g) x.world.target (net.Mv filter (real.M_install op (instance_node from) (instance_node to))) v) (note.Installed op ∷ [])
   told_install op filter from to whole its = record {
     still = refl;
     none = refl;
@@ -136,7 +136,7 @@ module _ {F R : Type 0} (f : Semantics R) (g : Given) (n : ℕ) (x : Scene F f g
         (plain_is f g x.nodes.controller x.world.ops x.world.shares x.world.next are.controller op e (ap (find_op x.world.ops) number ∙ there) plain its.plan its.plan_is)));
   }
 
-  install_leads : (op : ℕ) (filter : Filter) (from to : ℕ) (rest : List (Any R)) → nat_lt from (count f g) ≡ true → nat_lt to (count f g) ≡ true → is_whole f.kind filter ≡ true → IsInstall g op filter from (target.Instance to) → x.world.link 1 0 ≡ Old (net.Mv filter (real.M_install op (instance_node from) (instance_node to))) ∷ rest → Leads f g n x (record { node = 0; port = 1; message = msg.Install op filter from (target.Instance to) }) (as_node Switch (on_install s op filter from (target.Instance to)))
+  install_leads : (op : ℕ) (filter : Filter) (from to : ℕ) (rest : List (Any R)) → nat_lt from (count f g) ≡ true → nat_lt to (count f g) ≡ true → is_whole f.kind filter ≡ true → IsInstall g op (record { filter = filter; from = from; to = target.Instance to }) → x.world.link 1 0 ≡ Old (net.Mv filter (real.M_install op (instance_node from) (instance_node to))) ∷ rest → Leads f g n x (record { node = 0; port = 1; message = msg.Install op filter from (target.Instance to) }) (as_node Switch (on_install s op filter from (target.Instance to)))
   install_leads op filter from to rest a b whole its waits =
       let goes = move_installs f g.site g.packet (place g) x.world s are.switch.routes 1 op filter from to are.switch.filters whole (there from a) (there to b) in
       subst (λ st. Leads f g n x (record { node = 0; port = 1; message = msg.Install op filter from (target.Instance to) }) (as_node Switch st)) (sym (install_is op filter from (target.Instance to) (there from a) (there to b)))

@@ -11,7 +11,7 @@ use Rattle.abstract_net.proofs.Net.{Sys, IsSys, Open, find_op}
 use Rattle.abstract_net.proofs.Rest.{done_u}
 use Rattle.abstract_net.proofs.AtEnd.{At_end, at_end}
 use Rattle.abstract_net.proofs.Readings.{fold}
-use Rattle.abstract_net.proofs.ShareViews.{share_frame}
+use Rattle.abstract_net.proofs.ShareViews.{unit_share}
 use Rattle.abstract_net.proofs.Under.{Under}
 use Rattle.abstract_net.proofs.UnderStarts.{seeing}
 use Rattle.abstract_net.proofs.UnderReadings.{all_done, under_order, under_rests}
@@ -40,7 +40,7 @@ module _ {R : Type 0} (S : Sys R) (A : Sharing S) (laws : IsSys S) (u : units.Un
     share_ends : (k : Came) (x : Want_share) (before : List ℕ) (b : Bool) (h : Under S A (seeing S A u x) w before k.diverted) → ((j : ℕ) → has x.members j ≡ true → j < n) → Order b (before ++ k.diverted) k.all → (b ≡ true → k.bared ≡ true) → Share_rests k (its_share S A laws u w x before k.diverted h)
     share_ends k x before b h few o i =
         let z = seeing S A u x in
-        let f = share_frame S A z in
+        let f = unit_share S A z in
         let r = under_rests S A z w before k.diverted h n some few quiet in
         let home = self x.home in
         let all = (λ (j : ℕ). ap (runs S.F None) (r.seen j ∙ sym (all_done S A z w before k.diverted h)) ∙ fold_done S A laws u None w.done) in

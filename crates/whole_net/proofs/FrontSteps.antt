@@ -12,7 +12,7 @@ use Rattle.abstract_net.proofs.NewMessages.{On_new, Each_sent_new, each_new_map,
 use Rattle.abstract_net.proofs.GlobalAll.{Of_share, Global_all}
 use Rattle.abstract_net.proofs.ShareRows.{Tells, told_cases, Told_of, Sent_by, share_row_by}
 use Rattle.abstract_net.proofs.ShareLabels.{Share_label, label_of}
-use Rattle.abstract_net.proofs.ShareViews.{share_frame, own_of}
+use Rattle.abstract_net.proofs.ShareViews.{unit_share, own_of}
 use Rattle.abstract_net.proofs.Untaken.{head_none}
 use Rattle.abstract_net.proofs.UnderStarts.{seeing}
 use Rattle.abstract_net.proofs.UnderReadings.{under_fresh}
@@ -49,7 +49,7 @@ module _ {R : Type 0} (S : Sys R) (A : Sharing S) (laws : IsSys S) (u : units.Un
             cc
 
         label : Share_label S A (seeing S A u x) y (Shared_on n home q)
-        label = let v = shape (share_frame S A (seeing S A u x)) h.stage in label_of S A (seeing S A u x) w g h.covered v.phase v.queue h.holds.share y (Shared_on n home q) (new_head (Of_share S w.shares) w.link g.messages p y (Shared_on n home q) rest (no_input p y y0) waits)
+        label = let v = shape (unit_share S A (seeing S A u x)) h.stage in label_of S A (seeing S A u x) w g h.covered v.phase v.queue h.holds.share y (Shared_on n home q) (new_head (Of_share S w.shares) w.link g.messages p y (Shared_on n home q) rest (no_input p y y0) waits)
 
         by_num : (t : Bool) → (n == x.num) ≡ t → S.B.at u (if home then (w.inst y).live else w.standby y) ≡ runs S.F None (ran_of S A u w.done)
         by_num true its = own_table x home (y == x.home) (w.inst y).live (w.standby y) (runs S.F None (ran_of S A u w.done)) (label.0 its) (under_fresh S A (seeing S A u x) w before k.diverted h laws ok g y p (New (Shared_on n home q)) rest y0 y1 waits some).own

@@ -13,7 +13,7 @@ use Rattle.unit_machine.proofs.Real.{Op}
 use Rattle.unit_machine.proofs.NetViews.{items}
 use Rattle.unit_machine.proofs.Controls.{never_true}
 use Rattle.abstract_net.proofs.Net.{Msg, Sys, IsSys, I_did, Open, World, find_op, inst_step, seen}
-use Rattle.abstract_net.proofs.Holding.{Seeing, frame, Sees_node, node_at, place, Ctrl_is, Op_label, Holds}
+use Rattle.abstract_net.proofs.Holding.{Seeing, sides_of, frame, Sees_node, node_at, place, Ctrl_is, Op_label, Holds}
 use Rattle.abstract_net.proofs.Ctrl.{each_found}
 use Rattle.abstract_net.proofs.Insts.{Inst_goes, does}
 use Rattle.abstract_net.proofs.InstMoves.{Moves_inst, Any, Streams_out, Puts_in}
@@ -64,7 +64,7 @@ module _ {R : Type 0} (S : Sys R) (laws : IsSys S) (z : Seeing) (w : World S) (s
         let n = subst (λ q. Sees_node S z (w.inst y) q) at (here S laws z w s h p y m rest y0 y1 waits) in
         by_flags side k it (seen (frame S z) m) n (step_at S laws z w s h p y m rest y0 y1 waits side k n m (label S laws z w s h p y m rest y0 y1 waits)) is
 
-    by_link : Shown_by z.op.src z.op.dst z.third x p y (it ∷ left) → (node_at S z x y).live ≡ after S.F x.done
+    by_link : Shown_by (sides_of z) x (record { from = p; to = y; items = it ∷ left }) → (node_at S z x y).live ≡ after S.F x.done
     by_link (By_sa ya p0 e) = let at = is_src S laws z w s h p y m rest y0 y1 waits it is ya in let g = its_ran At_a x.a at in ap (λ k. k.live) at ∙ fresh_sa S.F s it left g.parts g.refuse e g.runs
     by_link (By_sb yb p0 e) = let at = is_dst S laws z w s h p y m rest y0 y1 waits it is yb in let g = its_ran At_b x.b at in ap (λ k. k.live) at ∙ fresh_sb S.F s it left g.parts g.refuse e g.runs
     by_link (By_sc yc p0 e) = let at = is_third S laws z w s h p y m rest y0 y1 waits it is yc in ap (λ k. k.live) at ∙ fresh_sc S.F s it left e
@@ -85,7 +85,7 @@ module _ {R : Type 0} (S : Sys R) (laws : IsSys S) (z : Seeing) (w : World S) (s
   by_route yb (To_destination t) = Routed_here (ap (place S z) t ∙ sym yb)
 
   module _ (it : Item R) (is : seen (frame S z) m ≡ Some it) where
-    placed : Shown_by z.op.src z.op.dst z.third x p y (it ∷ items (seen (frame S z)) rest) → Is_placed
+    placed : Shown_by (sides_of z) x (record { from = p; to = y; items = it ∷ items (seen (frame S z)) rest }) → Is_placed
     placed (By_sa ya p0 e) = let at = is_src S laws z w s h p y m rest y0 y1 waits it is ya in let g = its_ran it is At_a x.a at in Routed_here (ap (place S z) (source_routed S.F s it (items (seen (frame S z)) rest) g.parts g.refuse e g.runs) ∙ sym ya)
     placed (By_sb yb p0 e) = let at = is_dst S laws z w s h p y m rest y0 y1 waits it is yb in let g = its_ran it is At_b x.b at in by_route yb (destination_routed S.F s it (items (seen (frame S z)) rest) g.parts g.refuse e g.runs)
     placed (By_sc yc p0 e) = Routed_here (ap (place S z) (third_target S.F s it (items (seen (frame S z)) rest) e) ∙ sym yc)
@@ -100,7 +100,7 @@ module _ {R : Type 0} (S : Sys R) (laws : IsSys S) (z : Seeing) (w : World S) (s
   pub record Met : Type 0 where
     pub item : Item R
     pub left_there : List (Item R)
-    pub link : Shown_by z.op.src z.op.dst z.third x p y (item ∷ left_there)
+    pub link : Shown_by (sides_of z) x (record { from = p; to = y; items = item ∷ left_there })
     pub at : Is_placed
     pub live : S.B.at z.unit (w.inst y).live ≡ fold S.F None (done_u S z.unit w.done)
 
@@ -143,7 +143,7 @@ module _ {R : Type 0} (S : Sys R) (laws : IsSys S) (u : units.Unit) (w : World S
         same : e.op ≡ op
         same = (subst (λ f. Ctrl_is S (see S laws u op third) f (seat_shape S.F s)) there h.ctrl).0
 
-    at_rest : (owner : ℕ) (d : List Ran) (l : List ℕ) → Rest S u w owner d l → (it : Item R) (v : List (Item R)) → Shown_by owner (suc owner) (suc (suc owner)) (seat_shape S.F (seat_at S.F At_a d l true)) p y (it ∷ v) → May_run S w u y
+    at_rest : (owner : ℕ) (d : List Ran) (l : List ℕ) → Rest S u w owner d l → (it : Item R) (v : List (Item R)) → Shown_by (record { source = owner; destination = suc owner; third = suc (suc owner) }) (seat_shape S.F (seat_at S.F At_a d l true)) (record { from = p; to = y; items = it ∷ v }) → May_run S w u y
     at_rest owner d l h it v (By_sa at p0 e) = At_route (h.target ∙ sym at)
     at_rest owner d l h it v (By_sb at p0 e) = cons_nil (sym e)
     at_rest owner d l h it v (By_sc at p0 e) = cons_nil (sym e)

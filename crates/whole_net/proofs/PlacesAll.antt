@@ -11,7 +11,7 @@ use Rattle.abstract_net.proofs.Rest.{none_mine, done_u}
 use Rattle.abstract_net.proofs.Readings.{fold}
 use Rattle.abstract_net.proofs.GlobalAll.{Global_all}
 use Rattle.abstract_net.proofs.Untaken.{No_share, head_none}
-use Rattle.abstract_net.proofs.ShareViews.{share_frame}
+use Rattle.abstract_net.proofs.ShareViews.{unit_share}
 use Rattle.abstract_net.proofs.Under.{Under, Goes_on, under_inst}
 use Rattle.abstract_net.proofs.UnderStarts.{seeing}
 use Rattle.abstract_net.proofs.UnderReadings.{all_done, under_fresh}
@@ -34,15 +34,15 @@ module _ {R : Type 0} (S : Sys R) (A : Sharing S) (laws : IsSys S) where
   record_of_member w u home k = if home then S.B.at u (w.inst k).live else S.B.at u (w.standby k)
 
   -- what a step adds to what was done of a unit under a share is at home or at its member
-  pub grown : (z : Seeing_share) (w v : Whole S A) (before since early late : List ℕ) (h : Under S A z w before since) → Goes_on S A z h.stage v early late → Grows (share_frame S A z) (ran_of S A z.unit w.done) (ran_of S A z.unit v.done)
+  pub grown : (z : Seeing_share) (w v : Whole S A) (before since early late : List ℕ) (h : Under S A z w before since) → Goes_on S A z h.stage v early late → Grows (unit_share S A z) (ran_of S A z.unit w.done) (ran_of S A z.unit v.done)
   grown z w v before since early late h n =
-      let f = share_frame S A z in
+      let f = unit_share S A z in
       subst (λ ds. Grows f ds (ran_of S A z.unit v.done)) (sym (all_done S A z w before since h)) (subst (λ ds. Grows f (processed f h.stage) ds) (sym (all_done S A z v early late n.under)) n.placed)
 
   -- where an instance processes packets of the unit; under a share each of them at home or at its member
   pub data Processes (w : Whole S A) (u : units.Unit) (y : ℕ) (ps : List ℕ) : Type 0 where
     As_moves : May_run S (moves_of S A w) u y → S.B.at u (w.inst y).live ≡ fold S.F None (done_u S u w.done) → Processes w u y ps
-    At_member : (e : Open_share) → Its_share S A laws u w e → has e.members y ≡ true → At_places (share_frame S A (seen_by S A laws u e)) (ran_of S A u (at_node y ps)) → record_of_member w u (y == e.home) y ≡ fold S.F None (done_u S u w.done) → Processes w u y ps
+    At_member : (e : Open_share) → Its_share S A laws u w e → has e.members y ≡ true → At_places (unit_share S A (seen_by S A laws u e)) (ran_of S A u (at_node y ps)) → record_of_member w u (y == e.home) y ≡ fold S.F None (done_u S u w.done) → Processes w u y ps
 
   module _ (u : units.Unit) where
     its_ran : (y : ℕ) (ps : List ℕ) → packets (ran_of S A u (at_node y ps)) ≡ none_mine S u ps
@@ -64,13 +64,13 @@ module _ {R : Type 0} (S : Sys R) (A : Sharing S) (laws : IsSys S) where
     none_ran es live standby (S_shared n c) off = refl
     none_ran es live standby (S_synced n) off = refl
 
-    under_placed : (ok : IsSharing S A) (w : Whole S A) (x : Want_share) (before since : List ℕ) → Global_all S A w → Under S A (seeing S A u x) w before since → (p y : ℕ) (m : Any R) (rest : List (Any R)) → (y == 0) ≡ false → (y == 1) ≡ false → w.link p y ≡ m ∷ rest → At_places (share_frame S A (seeing S A u x)) (ran_of S A u (at_node y (ran_by w y m)))
+    under_placed : (ok : IsSharing S A) (w : Whole S A) (x : Want_share) (before since : List ℕ) → Global_all S A w → Under S A (seeing S A u x) w before since → (p y : ℕ) (m : Any R) (rest : List (Any R)) → (y == 0) ≡ false → (y == 1) ≡ false → w.link p y ≡ m ∷ rest → At_places (unit_share S A (seeing S A u x)) (ran_of S A u (at_node y (ran_by w y m)))
     under_placed ok w x before since g h p y m rest y0 y1 waits = placed_by m (grown (seeing S A u x) w (whole_inst S A w p y m) before since before since h (under_inst S A (seeing S A u x) laws ok w before since g h y p y0 y1 m rest waits))
       where
-        by_lists : (ps : List ℕ) → Grows (share_frame S A (seeing S A u x)) (ran_of S A u w.done) (ran_of S A u (w.done ++ at_node y ps)) → At_places (share_frame S A (seeing S A u x)) (ran_of S A u (at_node y ps))
-        by_lists ps r = subst (At_places (share_frame S A (seeing S A u x))) (append_cancel_left (ran_of S A u w.done) r.by (ran_of S A u (at_node y ps)) (sym r.is ∙ ran_more S A laws u w.done (at_node y ps))) r.places
+        by_lists : (ps : List ℕ) → Grows (unit_share S A (seeing S A u x)) (ran_of S A u w.done) (ran_of S A u (w.done ++ at_node y ps)) → At_places (unit_share S A (seeing S A u x)) (ran_of S A u (at_node y ps))
+        by_lists ps r = subst (At_places (unit_share S A (seeing S A u x))) (append_cancel_left (ran_of S A u w.done) r.by (ran_of S A u (at_node y ps)) (sym r.is ∙ ran_more S A laws u w.done (at_node y ps))) r.places
 
-        placed_by : (m : Any R) → Grows (share_frame S A (seeing S A u x)) (ran_of S A u w.done) (ran_of S A u (whole_inst S A w p y m).done) → At_places (share_frame S A (seeing S A u x)) (ran_of S A u (at_node y (ran_by w y m)))
+        placed_by : (m : Any R) → Grows (unit_share S A (seeing S A u x)) (ran_of S A u w.done) (ran_of S A u (whole_inst S A w p y m).done) → At_places (unit_share S A (seeing S A u x)) (ran_of S A u (at_node y (ran_by w y m)))
         placed_by (Old m) r = by_lists (inst_step S (w.inst y) m).ran r
         placed_by (New m) r = by_lists (member_step S A (w.inst y).live (w.standby y) m).ran r
 

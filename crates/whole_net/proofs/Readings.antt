@@ -15,7 +15,7 @@ use Rattle.abstract_net.proofs.Rest.{done_u}
 use Rattle.abstract_net.proofs.Readings.{fold, not_both, In_order, order_of, Record_of, record_of}
 use Rattle.abstract_net.proofs.Elsewhere.{where_two}
 use Rattle.abstract_net.proofs.GlobalAll.{Global_all}
-use Rattle.abstract_net.proofs.ShareViews.{share_frame, as_share}
+use Rattle.abstract_net.proofs.ShareViews.{unit_share, as_share}
 use Rattle.abstract_net.proofs.Under.{Under}
 use Rattle.abstract_net.proofs.UnderStarts.{seeing, packets_done}
 use Rattle.abstract_net.proofs.UnderReadings.{all_done, under_order, under_records}
@@ -38,7 +38,7 @@ module _ {R : Type 0} (S : Sys R) (A : Sharing S) (laws : IsSys S) (u : units.Un
   order_all w k (Under_share x before b h o f) =
       let e = under_order S A (seeing S A u x) w before k.diverted h in
       record {
-        waits = path (share_frame S A (seeing S A u x)) h.stage;
+        waits = path (unit_share S A (seeing S A u x)) h.stage;
         exact = λ off. e ∙ exactly b (before ++ k.diverted) k.all (not_both b k.bared f off) o;
         same = λ p. ap (λ v. times p v) e ∙ same_of b (before ++ k.diverted) k.all o p;
       }
@@ -61,7 +61,7 @@ module _ {R : Type 0} (S : Sys R) (A : Sharing S) (laws : IsSys S) (u : units.Un
     pub live : S.B.at u (w.inst e.home).live ≡ runs S.F None (seen e.home)
     pub standby : (k : ℕ) → has e.members k ≡ true → (k == e.home) ≡ false → S.B.at u (w.standby k) ≡ runs S.F None (seen k)
     pub fronts : (k : ℕ) → IsFront (seen k) (ran_of S A u w.done)
-    pub lacks : Lacks (share_frame S A (seen_by e)) (seen e.home) (ran_of S A u w.done) seen
+    pub lacks : Lacks (unit_share S A (seen_by e)) (seen e.home) (ran_of S A u w.done) seen
     pub away : (k : ℕ) → (k == e.home) ≡ false → S.B.at u (w.inst k).live ≡ None
 
   pub data Records_all (w : Whole S A) : Type 0 where
@@ -70,7 +70,7 @@ module _ {R : Type 0} (S : Sys R) (A : Sharing S) (laws : IsSys S) (u : units.Un
 
   -- as the controller has its share
   abbrev pub its_share : (w : Whole S A) (x : Want_share) (before since : List ℕ) → Under S A (seeing S A u x) w before since → Open_share
-  its_share w x before since h = let v = shape (share_frame S A (seeing S A u x)) h.stage in as_share S A (seeing S A u x) v.phase v.queue
+  its_share w x before since h = let v = shape (unit_share S A (seeing S A u x)) h.stage in as_share S A (seeing S A u x) v.phase v.queue
 
   pub records_all : (w : Whole S A) (k : Came) → Global_all S A w → Where_all S A laws u w k → Records_all w
   records_all w k g (Apart_from_shares h none) = By_moves (record_of S laws u (moves_of S A w) k.all k.bared g.moves h.is)
@@ -93,13 +93,13 @@ module _ {R : Type 0} (S : Sys R) (A : Sharing S) (laws : IsSys S) (u : units.Un
     pub before : List Ran
     pub since : List ℕ
     pub waits : List ℕ
-    pub done : ran_of S A u w.done ≡ before ++ served (share_frame S A (seen_by e)) since
+    pub done : ran_of S A u w.done ≡ before ++ served (unit_share S A (seen_by e)) since
     pub came : k.diverted ≡ since ++ waits
 
   pub served_all : (w : Whole S A) (k : Came) → Where_all S A laws u w k → k.diverted ≢ [] → (e : Open_share) × Served w k e
   served_all w k (Apart_from_shares h none) some = absurd (some none)
   served_all w k (Under_share x before b h o f) some =
-      let p = parts (share_frame S A (seeing S A u x)) h.stage in
+      let p = parts (unit_share S A (seeing S A u x)) h.stage in
       let served_so : Served w k (its_share w x before k.diverted h) = record {
         its = record { found = h.holds.share; takes = h.covered; home_in = h.is.home_in };
         before = p.before;
@@ -117,7 +117,7 @@ module _ {R : Type 0} (S : Sys R) (A : Sharing S) (laws : IsSys S) (u : units.Un
 
   pub target_all : (w : Whole S A) (k : Came) → Where_all S A laws u w k → Target_is w
   target_all w k (Apart_from_shares h none) = An_instance (where_two S laws u (moves_of S A w) k.all k.bared h.is)
-  target_all w k (Under_share x before b h o f) = by_view (shape (share_frame S A (seeing S A u x)) h.stage).diverts h.holds.target
+  target_all w k (Under_share x before b h o f) = by_view (shape (unit_share S A (seeing S A u x)) h.stage).diverts h.holds.target
     where
       by_view : (d : Bool) → w.target u ≡ (if d then 1 else x.home) → Target_is w
       by_view true at = The_controller at (its_share w x before k.diverted h) (record { found = h.holds.share; takes = h.covered; home_in = h.is.home_in })

@@ -4,7 +4,7 @@ use Rattle.std.proofs.Common.{◌≡◌, ℕ, Bool, true, false, Option, Some, N
 use Rattle.std.specs.Prelude.{if◌then◌else◌, ◌==◌}
 use Rattle.std.proofs.lemmas.Bool.Decides.{Decides-eqb}
 use Rattle.unit_machine.proofs.Real.{Chunks, record_at, add}
-use Rattle.share_machine.proofs.Share.{Ran, Item, Item.Sync, Frame, has, over, runs}
+use Rattle.share_machine.proofs.Share.{Ran, Item, Item.Sync, UnitShare, has, over, runs}
 use Rattle.share_machine.proofs.Stages.{front, shape, IsFront}
 use Rattle.share_machine.proofs.Lists.{self}
 use Rattle.share_machine.proofs.Setting.{front_same}
@@ -14,7 +14,7 @@ use Rattle.abstract_net.proofs.Net.{Sys, IsSys}
 use Rattle.abstract_net.proofs.NewMessages.{new_head}
 use Rattle.abstract_net.proofs.GlobalAll.{Of_share, Global_all}
 use Rattle.abstract_net.proofs.ShareLabels.{Share_label, label_of}
-use Rattle.abstract_net.proofs.ShareViews.{share_frame, share_seen, share_items}
+use Rattle.abstract_net.proofs.ShareViews.{unit_share, share_seen, share_items}
 use Rattle.abstract_net.proofs.Untaken.{head_none}
 use Rattle.abstract_net.proofs.UnderInst.{heads, inst_from}
 use Rattle.abstract_net.proofs.Under.{Under, under_inst}
@@ -82,8 +82,8 @@ module _ {R : Type 0} (S : Sys R) (A : Sharing S) (laws : IsSys S) (u : units.Un
         abbrev z : Seeing_share
         z = seeing S A u x
 
-        abbrev f : Frame R
-        f = share_frame S A (seeing S A u x)
+        abbrev f : UnitShare R
+        f = unit_share S A (seeing S A u x)
 
         abbrev left : List (Item R)
         left = share_items S A (seeing S A u x) y rest

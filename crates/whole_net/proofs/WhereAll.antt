@@ -17,7 +17,7 @@ use Rattle.abstract_net.proofs.Units.{Where, Where.At_rest, Where.In_move, May, 
 use Rattle.abstract_net.proofs.Elsewhere.{where_two}
 use Rattle.abstract_net.proofs.GlobalAll.{Disjoint, Takes_some, Global_all}
 use Rattle.abstract_net.proofs.GlobalBegins.{meets_none, meets_no_move}
-use Rattle.abstract_net.proofs.ShareViews.{share_frame, as_share}
+use Rattle.abstract_net.proofs.ShareViews.{unit_share, as_share}
 use Rattle.abstract_net.proofs.UntakenInst.{Unshared, inst_unshared, ctrl_unshared}
 use Rattle.abstract_net.proofs.UntakenSwitch.{sw_same, Hands_any, switch_unshared, input_unshared}
 use Rattle.abstract_net.proofs.UntakenBegins.{begin_unshared, share_unshared, get_unshared, keeps_unshared, asks_move_unshared, asks_share_unshared}
@@ -72,7 +72,7 @@ module _ {R : Type 0} (S : Sys R) (A : Sharing S) (laws : IsSys S) (u : units.Un
       absurd never
   diverted_all w k (Under_share x before b h o f) one =
       let z = seeing S A u x in
-      let v = shape (share_frame S A z) h.stage in
+      let v = shape (unit_share S A z) h.stage in
       found_takes S w.shares x.num (as_share S A z v.phase v.queue) u h.holds.share h.covered
 
   -- An instance and the controller
@@ -119,7 +119,7 @@ module _ {R : Type 0} (S : Sys R) (A : Sharing S) (laws : IsSys S) (u : units.Un
   input_all ok w k g q (Apart_from_shares h none) = Apart_from_shares (input_unshared S A laws u w k.all k.bared g q h) (none_diverted (w.target u) k.diverted (its q) (where_two S laws u (moves_of S A w) k.all k.bared h.is) none)
   input_all ok w k g q (Under_share x before b h o f) =
       let z = seeing S A u x in
-      let d = (shape (share_frame S A z) h.stage).diverts in
+      let d = (shape (unit_share S A z) h.stage).diverts in
       let goes = under_input S A z laws ok w before k.diverted h q in
       let same : d ≡ (w.target u == 1) = diverts_is d (w.target u) x.home h.holds.target (h.insts x.home h.is.home_in) in
       let order : Order b ((before ++ (if d then [] else its q)) ++ (k.diverted ++ (if d then its q else []))) (k.all ++ its q) = order_same b ((before ++ k.diverted) ++ its q) ((before ++ (if d then [] else its q)) ++ (k.diverted ++ (if d then its q else []))) (k.all ++ its q) (sym (comes_last S A z w before k.diverted h (its q))) (order_more b (before ++ k.diverted) k.all (its q) o) in
@@ -147,7 +147,7 @@ module _ {R : Type 0} (S : Sys R) (A : Sharing S) (laws : IsSys S) (u : units.Un
   keeps_all w k y t same (Apart_from_shares h none) = Apart_from_shares (keeps_unshared S A laws u w k.all k.bared y t h) none
   keeps_all w k y t same (Under_share x before b h o f) =
       let z = seeing S A u x in
-      let v = shape (share_frame S A z) h.stage in
+      let v = shape (unit_share S A z) h.stage in
       Under_share x before b (under_keeps S A z w before k.diverted h y t (same (found_takes S w.shares x.num (as_share S A z v.phase v.queue) u h.holds.share h.covered))).under o f
 
   -- A share begins. Records that stand by of a unit that it takes are folds of fronts of what was done

@@ -15,7 +15,7 @@ use Rattle.nf_msgs.specs.declared.msg.Msg.{Msg}
 use Rattle.nf_msgs.specs.declared.msg.Msg.TheVariants as msg
 use Rattle.nf_msgs.specs.Nodes.{switch_node}
 use Rattle.move_op.specs.Move as move
-use Rattle.move_op.specs.Move.{MoveState, row_in}
+use Rattle.move_op.specs.Move.{MoveState}
 use Rattle.copy_share.specs.Share.{ShareState}
 use Rattle.copy_share.specs.Share as share
 use Rattle.ctrl_node.specs.declared.operation.Operation.{Operation}

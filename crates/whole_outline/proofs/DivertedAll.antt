@@ -35,8 +35,8 @@ use Rattle.whole_outline.proofs.ShareOutline.{ShareFollows, outline_share, packe
 use Rattle.whole_outline.proofs.OpenShares.{OpensAll, both, real_share, all_step, StepFollows}
 use Rattle.whole_outline.proofs.ShareTurns.{share_queued}
 
-less : (a b : ℕ) → T (is_lt (nat_cmp a b)) → a < b
-less a b h = grind (arith, nat_tests)
+pub is_less : (a b : ℕ) → T (is_lt (nat_cmp a b)) → a < b
+is_less a b h = grind (arith, nat_tests)
 
 module _ (test : Operation → Bool) where
   abbrev first : List (ℕ × Operation) → Option (ℕ × Operation)
@@ -45,7 +45,7 @@ module _ (test : Operation → Bool) where
   above : (j : ℕ) (es : List (ℕ × Operation)) (x : ℕ × Operation) → T (below_all nat_cmp j es) → first es ≡ Some x → j < x.0
   above j [] x below is = cc
   above j (e ∷ es) x below is = elim (test e.1) as (λ b. (if b then Some e else first es) ≡ Some x → j < x.0) [
-    | true ↦ λ here. let same : e ≡ x = ap (λ o. unwrap_or o e) here in subst (λ y. j < y.0) same (less j e.0 (and_yes (is_lt (nat_cmp j e.0)) (below_all nat_cmp j es) below).0)
+    | true ↦ λ here. let same : e ≡ x = ap (λ o. unwrap_or o e) here in subst (λ y. j < y.0) same (is_less j e.0 (and_yes (is_lt (nat_cmp j e.0)) (below_all nat_cmp j es) below).0)
     | false ↦ λ rest. above j es x (and_yes (is_lt (nat_cmp j e.0)) (below_all nat_cmp j es) below).1 rest
   ] is
 

@@ -125,12 +125,13 @@ module _ {R : Type 0} (f : Semantics R) (at : Site) (packet : ℕ → Packet) (p
   same_row : (cells : List FullCell) (ph : SharePhase) → RowIs cells (goes ph []) (record { phase = share_phase ph; queue = map number cells; sends = [] })
   same_row cells ph = record { phase = refl; queue = refl; sends = refl }
 
-  abbrev Its_row : ShareState → List FullCell → ShareRow → ℕ → Told R → Type 0
-  Its_row s cells r sender told = RowIs cells r (s_row S A (outline_share s cells) sender told (share_phase s.phase) (map number cells))
-
   module _ (plan : SharePlan) (cells : List FullCell) (sender : ℕ) where
     abbrev of : SharePhase → ShareState
     of ph = record { plan = plan; phase = ph }
+
+    -- a share's row is that of `abstract_net` on what it was told
+    abbrev RowAgrees : SharePhase → ShareRow → Told R → Type 0
+    RowAgrees ph r told = RowIs cells r (s_row S A (outline_share (of ph) cells) sender told (share_phase ph) (map number cells))
 
     abbrev still : SharePhase → Share_did R
     still ph = record { phase = share_phase ph; queue = map number cells; sends = [] }
@@ -139,7 +140,7 @@ module _ {R : Type 0} (f : Semantics R) (at : Site) (packet : ℕ → Packet) (p
     either_same true ph = same_row cells ph
     either_same false ph = same_row cells ph
 
-    fenced_same : (op : ℕ) (ph : SharePhase) → Its_row (of ph) cells (row (of ph) sender (msg.Fenced op)) sender Is_fenced
+    fenced_same : (op : ℕ) (ph : SharePhase) → RowAgrees ph (row (of ph) sender (msg.Fenced op)) Is_fenced
     fenced_same op phase.Fencing = elim (sender == instance_node (home plan)) as (λ b. RowIs cells (if b then on_fenced plan phase.Fencing else goes phase.Fencing []) (if b then record { phase = machine.Getting; queue = map number cells; sends = (instance_node (home plan), New (S_get plan.op plan.filter)) ∷ [] } else still phase.Fencing)) [
       | true ↦ record { phase = refl; queue = refl; sends = refl }
       | false ↦ same_row cells phase.Fencing
@@ -150,7 +151,7 @@ module _ {R : Type 0} (f : Semantics R) (at : Site) (packet : ℕ → Packet) (p
     fenced_same op (phase.Out member) = either_same (sender == instance_node (home plan)) (phase.Out member)
     fenced_same op (phase.Syncing left) = either_same (sender == instance_node (home plan)) (phase.Syncing left)
 
-    chunks_same : (op : ℕ) (chunks : List Chunk) (ph : SharePhase) → Its_row (of ph) cells (row (of ph) sender (msg.Chunks op chunks)) sender (Has_chunks (entries f chunks))
+    chunks_same : (op : ℕ) (chunks : List Chunk) (ph : SharePhase) → RowAgrees ph (row (of ph) sender (msg.Chunks op chunks)) (Has_chunks (entries f chunks))
     chunks_same op chunks phase.Getting =
         let xs = syncs plan.op (instance_node (home plan)) (instance_node (home plan)) (entries f chunks) (map instance_node plan.members) in
         elim (sender == instance_node (home plan)) as (λ b. RowIs cells (if b then on_chunks plan phase.Getting chunks else goes phase.Getting []) (if b then s_left S A machine.Setting (length (without (map instance_node plan.members) (instance_node (home plan)))) (map number cells) xs else still phase.Getting)) [
@@ -163,7 +164,7 @@ module _ {R : Type 0} (f : Semantics R) (at : Site) (packet : ℕ → Packet) (p
     chunks_same op chunks (phase.Out member) = either_same (sender == instance_node (home plan)) (phase.Out member)
     chunks_same op chunks (phase.Syncing left) = either_same (sender == instance_node (home plan)) (phase.Syncing left)
 
-    chunk_same : (op : ℕ) (chunk : Chunk) (entry : units.Unit × R) (ph : SharePhase) → spelled f chunk ≡ Some entry → Its_row (of ph) cells (row (of ph) sender (msg.Shared op chunk)) sender (Has_chunk entry)
+    chunk_same : (op : ℕ) (chunk : Chunk) (entry : units.Unit × R) (ph : SharePhase) → spelled f chunk ≡ Some entry → RowAgrees ph (row (of ph) sender (msg.Shared op chunk)) (Has_chunk entry)
     chunk_same op chunk entry (phase.Out member) spells =
         let xs = syncs plan.op (instance_node (home plan)) (instance_node member) (entry ∷ []) (map instance_node plan.members) in
         let told : entries f (chunk ∷ []) ≡ entry ∷ [] = rw spells refl in
@@ -178,7 +179,7 @@ module _ {R : Type 0} (f : Semantics R) (at : Site) (packet : ℕ → Packet) (p
     chunk_same op chunk entry phase.Idle spells = same_row cells phase.Idle
     chunk_same op chunk entry (phase.Syncing left) spells = same_row cells (phase.Syncing left)
 
-    synced_same : (op : ℕ) (ph : SharePhase) → Its_row (of ph) cells (row (of ph) sender (msg.Synced op)) sender Is_synced
+    synced_same : (op : ℕ) (ph : SharePhase) → RowAgrees ph (row (of ph) sender (msg.Synced op)) Is_synced
     synced_same op (phase.Setting left) = setting_same (left - 1) cells [] [] refl
     synced_same op (phase.Syncing left) = syncing_same (left - 1) cells [] [] refl
     synced_same op phase.Fencing = same_row cells phase.Fencing

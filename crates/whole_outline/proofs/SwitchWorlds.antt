@@ -18,7 +18,7 @@ use Rattle.switch_node.specs.Switch.{SwitchState, Step, arrives, still, goes_to,
 use Rattle.unit_machine.proofs.Real as real
 use Rattle.unit_machine.proofs.Real.{sent_for}
 use Rattle.abstract_net.proofs.Net as net
-use Rattle.abstract_net.proofs.Net.{Sys, links_after, everything}
+use Rattle.abstract_net.proofs.Net.{links_after, everything}
 use Rattle.abstract_net.proofs.Shares.{Any, Old, New, Whole, S_install, S_forward, whole_switch, whole_input, asks}
 use Rattle.outline_net.proofs.FiltersApart.{flow_fits, is_whole}
 use Rattle.outline_net.proofs.Outline.{number}
