@@ -49,28 +49,28 @@ module _ {R : Type 0} (F : Type 0) (f : Semantics R) (s : NetworkAsked) (g h : S
   begins a site routes packets lines = started a (config_for s site routes) (items packets lines)
 
   -- allocators are alike
-  starts : (a b : Global) → start_for {F = F} (job_for f (run_given s g)) a ≡ start_for (job_for f (run_given s h)) b
+  starts : (a b : Global) → start_for {F = F} (job_for (run_given F f s g)) a ≡ start_for (job_for (run_given F f s h)) b
   starts a b =
       ap (λ x. begins a x g.script.routes.items g.captured.packets g.script.lines.items) same.site
       ∙ ap (λ x. begins a h.site x g.captured.packets g.script.lines.items) same.routes
       ∙ ap (λ x. begins a h.site h.script.routes.items x.packets g.script.lines.items) same.captured
       ∙ ap (λ x. begins a h.site h.script.routes.items h.captured.packets x) same.lines
 
-  module _ (by : Option Schedule) (made : RunResults) (x : IsRunOf {F = F} f (run_given s g) by made) where
+  module _ (by : Option Schedule) (made : RunResults) (x : IsRunOf (run_given F f s g) by made) where
     -- the end of the first is where the same choices lead in the second
-    ends : (b : Global) (cs : List Choice) → cs ≡ made.choices → run (node_step f) cs (start_for {F = F} (job_for f (run_given s h)) b) ≡ x.world
-    ends b cs chose = ap (λ l. run (node_step f) l (start_for {F = F} (job_for f (run_given s h)) b)) chose ∙ ap (run (node_step f) made.choices) (sym (starts x.alloc b)) ∙ sym x.leads.reached
+    ends : (b : Global) (cs : List Choice) → cs ≡ made.choices → run (node_step f) cs (start_for {F = F} (job_for (run_given F f s h)) b) ≡ x.world
+    ends b cs chose = ap (λ l. run (node_step f) l (start_for {F = F} (job_for (run_given F f s h)) b)) chose ∙ ap (run (node_step f) made.choices) (sym (starts x.alloc b)) ∙ sym x.leads.reached
 
-    reports : (audited : RunResults) (y : IsRunOf {F = F} f (run_given s h) None audited) → audited.choices ≡ made.choices → audited.texts Report ≡ made.texts Report
+    reports : (audited : RunResults) (y : IsRunOf (run_given F f s h) None audited) → audited.choices ≡ made.choices → audited.texts Report ≡ made.texts Report
     reports audited y chose =
         y.report
         ∙ ap (λ w. report_text f (head_for s h.captured) s.summary w) (y.leads.reached ∙ ends y.alloc audited.choices chose)
         ∙ ap (λ c. report_text f (head_for s c) s.summary x.world) (sym same.captured)
         ∙ sym x.report
 
-    no_cause : (cs : List Choice) → cs ≡ made.choices → (step : ℕ) → IsNoRun {F = F} f (run_given s h) cs step → ⊥
+    no_cause : (cs : List Choice) → cs ≡ made.choices → (step : ℕ) → IsNoRun (run_given F f s h) cs step → ⊥
     no_cause cs chose step told =
-        let start = start_for {F = F} (job_for f (run_given s h)) told.alloc in
+        let start = start_for {F = F} (job_for (run_given F f s h)) told.alloc in
         let runs : IsRun node_ready (node_step f) cs start =
         subst (λ l. IsRun node_ready (node_step f) l start) (sym chose) (subst (λ w. IsRun node_ready (node_step f) made.choices w) (starts x.alloc told.alloc) x.leads.is_run) in
         elim told.cause [
@@ -85,17 +85,17 @@ module _ {R : Type 0} (F : Type 0) (f : Semantics R) (s : NetworkAsked) (g h : S
 
 -- The same, for the function that the words name.
 module _ (s : NetworkAsked) (g h : Scenario) (same : AreSame g h) (by : Option Schedule) (made : RunResults) where
-  same_report : (kind : Kind) → OfKind kind (λ R F f. IsRunOf {F = F} f (run_given s g) by made) → (audited : RunResults) → OfKind kind (λ R F f. IsRunOf {F = F} f (run_given s h) None audited) → audited.choices ≡ made.choices → audited.texts Report ≡ made.texts Report
+  same_report : (kind : Kind) → OfKind kind (λ R F f. IsRunOf (run_given F f s g) by made) → (audited : RunResults) → OfKind kind (λ R F f. IsRunOf (run_given F f s h) None audited) → audited.choices ≡ made.choices → audited.texts Report ≡ made.texts Report
   same_report kinds.Conntrack x audited y chose = reports Conntrack conntrack s g h same by made x audited y chose
   same_report kinds.Nat x audited y chose = reports Nat nat s g h same by made x audited y chose
   same_report kinds.Monitor x audited y chose = reports Monitor monitor s g h same by made x audited y chose
 
-  still_runs : (kind : Kind) → OfKind kind (λ R F f. IsRunOf {F = F} f (run_given s g) by made) → (cs : List Choice) → cs ≡ made.choices → (step : ℕ) → OfKind kind (λ R F f. IsNoRun {F = F} f (run_given s h) cs step) → ⊥
+  still_runs : (kind : Kind) → OfKind kind (λ R F f. IsRunOf (run_given F f s g) by made) → (cs : List Choice) → cs ≡ made.choices → (step : ℕ) → OfKind kind (λ R F f. IsNoRun (run_given F f s h) cs step) → ⊥
   still_runs kinds.Conntrack x cs chose step told = no_cause Conntrack conntrack s g h same by made x cs chose step told
   still_runs kinds.Nat x cs chose step told = no_cause Nat nat s g h same by made x cs chose step told
   still_runs kinds.Monitor x cs chose step told = no_cause Monitor monitor s g h same by made x cs chose step told
 
-read_again : (s : NetworkAsked) (g : Scenario) (by : Option Schedule) (made : RunResults) (kind : Kind) → OfKind kind (λ R F f. IsRunOf {F = F} f (run_given s g) by made) → journal_of s.kind (length s.instances.names) (made.texts JournalOut) ≡ Ok made.choices
+read_again : (s : NetworkAsked) (g : Scenario) (by : Option Schedule) (made : RunResults) (kind : Kind) → OfKind kind (λ R F f. IsRunOf (run_given F f s g) by made) → journal_of s.kind (length s.instances.names) (made.texts JournalOut) ≡ Ok made.choices
 read_again s g by made kinds.Conntrack x = x.again
 read_again s g by made kinds.Nat x = x.again
 read_again s g by made kinds.Monitor x = x.again

@@ -59,7 +59,7 @@ module _ {R : Type 0} (F : Type 0) (f : Semantics R) (s : NetworkAsked) (g : Sce
   -- its report is made
   pub run_of : (by : Option Schedule) (made : Made) (world : Network (Node F R) Msg Note) → Ran made.choices world
       → ((schedule : Schedule) → by ≡ Some schedule → made.choices ≡ chosen {F = F} f at_start schedule)
-      → head ≡ head_for s g.captured → made.report ≡ report_text f head s.summary world → IsRunOf {F = F} f (run_given s g) by (gives s made)
+      → head ≡ head_for s g.captured → made.report ≡ report_text f head s.summary world → IsRunOf (run_given F f s g) by (gives s made)
   run_of by made world ran scheduled is_head report = record {
     alloc = alloc;
     world = world;
@@ -83,14 +83,14 @@ module _ {R : Type 0} (F : Type 0) (f : Semantics R) (s : NetworkAsked) (g : Sce
 
   -- the choices are no complete run
   pub run_refused : (choices : List Choice) (e : AuditFault) → ((step : ℕ) → e ≡ audit.NotARun step → IsAuditCause {F = F} f at_start choices step)
-      → IsRefusedAs {F = F} f (run_given s g) choices (audit_status e)
+      → IsRefusedAs (run_given F f s g) choices (audit_status e)
   run_refused choices (audit.NotARun step) cause = record { alloc = alloc; cause = moved (λ c l. IsAuditCause {F = F} f (started alloc c l) choices step) (cause step refl) }
   run_refused choices audit.NoMemory cause = tt
 
 -- The function is that of the words.
 module _ {R : Type 0} (F : Type 0) (f : Semantics R) (s : NetworkAsked) (g : Scenario) where
-  no_run : (choices : List Choice) → ((step : ℕ) → IsNoRun {F = F} f (run_given s g) choices step → HasNoRun s g choices step)
-      → (status : Status) → IsRefusedAs {F = F} f (run_given s g) choices status → IsRefusedRun s g choices status
+  no_run : (choices : List Choice) → ((step : ℕ) → IsNoRun (run_given F f s g) choices step → HasNoRun s g choices step)
+      → (status : Status) → IsRefusedAs (run_given F f s g) choices status → IsRefusedRun s g choices status
   no_run choices same (NotARun step) cause = same step cause
   no_run choices same NoMemory cause = cause
   no_run choices same Done cause = absurd cause
@@ -102,7 +102,7 @@ module _ {R : Type 0} (F : Type 0) (f : Semantics R) (s : NetworkAsked) (g : Sce
   no_run choices same (WriteFault role) cause = absurd cause
 
   pub told_kind : (choices : List Choice) (r : Result Made Status) (P Q : Made → Type 0)
-      → ((made : Made) → P made → Q made) → ((step : ℕ) → IsNoRun {F = F} f (run_given s g) choices step → HasNoRun s g choices step)
-      → MatchResult r P (IsRefusedAs {F = F} f (run_given s g) choices) → MatchResult r Q (IsRefusedRun s g choices)
+      → ((made : Made) → P made → Q made) → ((step : ℕ) → IsNoRun (run_given F f s g) choices step → HasNoRun s g choices step)
+      → MatchResult r P (IsRefusedAs (run_given F f s g) choices) → MatchResult r Q (IsRefusedRun s g choices)
   told_kind choices (Ok made) P Q of_kind same holds = of_kind made holds
   told_kind choices (Err status) P Q of_kind same holds = no_run choices same status holds

@@ -82,44 +82,44 @@ pub record RunResults : Type 0 where
   pub choices : List Choice
   pub texts : Role → List ℕ
 
--- what a run is given: the words, and the scenario
-pub record RunGiven : Type 0 where
+-- what a run is given: a function, the words, and the scenario
+pub record RunGiven (F R : Type 0) : Type 0 where
+  pub function : Semantics R
   pub words : NetworkAsked
   pub scenario : Scenario
 
-abbrev pub run_given : NetworkAsked → Scenario → RunGiven
-run_given words scenario = record { words = words; scenario = scenario }
+abbrev pub run_given : {R : Type 0} (F : Type 0) → Semantics R → NetworkAsked → Scenario → RunGiven F R
+run_given F f words scenario = record { function = f; words = words; scenario = scenario }
 
 -- the function, with the network and the input that are asked for
-abbrev pub job_for : {R : Type 0} → Semantics R → RunGiven → Job R
-job_for f given =
-    job_of f (config_for given.words given.scenario.site given.scenario.script.routes.items) (items_for given.scenario.captured given.scenario.script)
+abbrev pub job_for : {F R : Type 0} → RunGiven F R → Job R
+job_for given = job_of given.function (config_for given.words given.scenario.site given.scenario.script.routes.items) (items_for given.scenario.captured given.scenario.script)
 
 -- the network at its start
 abbrev pub start_for : {F R : Type 0} → Job R → Global → Network (Node F R) Msg Note
 start_for job alloc = started alloc job.config job.items
 
-module _ {F R : Type 0} (f : Semantics R) (given : RunGiven) where
+module _ {F R : Type 0} (given : RunGiven F R) where
   -- the course of a run of it
   abbrev course_for : Global → List Choice → Course F R
-  course_for alloc choices = course_of (start_for (job_for f given) alloc) choices
+  course_for alloc choices = course_of (start_for (job_for given) alloc) choices
 
   -- a run from the start to a world in which nothing is left to do, by the schedule if there is one, with its report and its journal
   pub record IsRunOf (by : Option Schedule) (made : RunResults) : Type 0 where
     pub alloc : Global
     pub world : Network (Node F R) Msg Note
-    pub leads : LeadsTo f (start_for (job_for f given) alloc) made.choices world
+    pub leads : LeadsTo given.function (start_for (job_for given) alloc) made.choices world
     pub complete : is_done node_ended world ≡ true
-    pub scheduled : (schedule : Schedule) → by ≡ Some schedule → made.choices ≡ chosen {F = F} f (start_for (job_for f given) alloc) schedule
-    pub promises : Promises f (job_for f given).config (job_for f given).items world
-    pub verdicts : Verdicts (job_for f given) (course_for alloc made.choices)
-    pub standbys : Standbys (job_for f given) (course_for alloc made.choices)
-    pub completed : Completed f (job_for f given).config (job_for f given).items world
-    pub home : AllHome (job_for f given).config world
-    pub report : made.texts Report ≡ report_text f (head_for given.words given.scenario.captured) given.words.summary world
+    pub scheduled : (schedule : Schedule) → by ≡ Some schedule → made.choices ≡ chosen {F = F} given.function (start_for (job_for given) alloc) schedule
+    pub promises : Promises given.function (job_for given).config (job_for given).items world
+    pub verdicts : Verdicts (job_for given) (course_for alloc made.choices)
+    pub standbys : Standbys (job_for given) (course_for alloc made.choices)
+    pub completed : Completed given.function (job_for given).config (job_for given).items world
+    pub home : AllHome (job_for given).config world
+    pub report : made.texts Report ≡ report_text given.function (head_for given.words given.scenario.captured) given.words.summary world
     -- its outputs stand by the numbers of the packets that were captured, each once and in order, and its answers by those of the commands
     pub outs : map (λ x. x.0) (by_number output_in world.log) ≡ map (λ p. p.number) given.scenario.captured.packets
-    pub answers : map (λ x. x.0) (by_number answer_in world.log) ≡ map (λ c. c.op) (commands (job_for f given).items)
+    pub answers : map (λ x. x.0) (by_number answer_in world.log) ≡ map (λ c. c.op) (commands (job_for given).items)
     pub journal : made.texts JournalOut ≡ journal_bytes given.words.kind (length given.words.instances.names) made.choices
     -- its choices are fewer than a journal may have, so the journal is read as these choices again
     pub few : length made.choices < MOST_CHOICES
@@ -128,7 +128,7 @@ module _ {F R : Type 0} (f : Semantics R) (given : RunGiven) where
   -- these choices aren't a complete run, which shows at this step
   pub record IsNoRun (choices : List Choice) (step : ℕ) : Type 0 where
     pub alloc : Global
-    pub cause : IsAuditCause {F = F} f (start_for (job_for f given) alloc) choices step
+    pub cause : IsAuditCause {F = F} given.function (start_for (job_for given) alloc) choices step
 
 -- what is said of a function holds of the one of this kind
 abbrev pub OfKind : Kind → ((R F : Type 0) → Semantics R → Type 0) → Type 0
@@ -138,7 +138,7 @@ OfKind kinds.Monitor P = P _ Monitor monitor
 
 -- the same, for the function that the words name
 abbrev pub HasRun : NetworkAsked → Scenario → Option Schedule → RunResults → Type 0
-HasRun s scenario by made = OfKind s.kind (λ R F f. IsRunOf {F = F} f (run_given s scenario) by made)
+HasRun s scenario by made = OfKind s.kind (λ R F f. IsRunOf (run_given F f s scenario) by made)
 
 abbrev pub HasNoRun : NetworkAsked → Scenario → List Choice → ℕ → Type 0
-HasNoRun s scenario choices step = OfKind s.kind (λ R F f. IsNoRun {F = F} f (run_given s scenario) choices step)
+HasNoRun s scenario choices step = OfKind s.kind (λ R F f. IsNoRun (run_given F f s scenario) choices step)

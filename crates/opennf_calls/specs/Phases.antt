@@ -6,7 +6,6 @@ use Rattle.nf_io.specs.declared.outside.Role.TheVariants.{Errors, JournalIn, Jou
 use Rattle.nf_io.specs.Roles.{is_read}
 use Rattle.nf_io.specs.Meaning.{Meaning, OthersStay, Rose}
 use Rattle.flow_filter.specs.declared.site.Site.{Site}
-use Rattle.nf_function.specs.Semantics.{Semantics}
 use Rattle.flow_filter.specs.Limits.{most_packets, most_instances, most_window}
 use Rattle.trace_reader.specs.Records.{AreNumbered}
 use Rattle.trace_reader.specs.Steered.{is_steered_proto}
@@ -150,9 +149,9 @@ pub record GivesReport (choices : List Choice) (text : List ℕ) (made : RunResu
   pub report : made.texts Report ≡ text
 
 -- why a journal's choices give no report, for a function
-module _ {F R : Type 0} (f : Semantics R) (given : RunGiven) where
+module _ {F R : Type 0} (given : RunGiven F R) where
   abbrev pub IsRefusedAs : List Choice → Status → Type 0
-  IsRefusedAs choices (NotARun step) = IsNoRun {F = F} f given choices step
+  IsRefusedAs choices (NotARun step) = IsNoRun given choices step
   IsRefusedAs choices NoMemory = Unit {0}
   IsRefusedAs choices status = ⊥
 

@@ -112,7 +112,7 @@ fn schedule_network<F: Function>(
     requires kind { F.semantics.kind ≡ asked.now.kind }
     requires runs { CanRun (network_view asked.now) }
     requires sound { CanBegin (network_view asked.now) (scenario_of asked.now.site inputs) }
-    ensures { IfOk result (λ made. IsRunOf {F = F.row.Denot} F.semantics (run_given (network_view asked.now) (scenario_of asked.now.site inputs)) (Some schedule) (gives (network_view asked.now) made)) }
+    ensures { IfOk result (λ made. IsRunOf (run_given F.row.Denot F.semantics (network_view asked.now) (scenario_of asked.now.site inputs)) (Some schedule) (gives (network_view asked.now) made)) }
 {
     let Opening {
         config,
@@ -141,7 +141,7 @@ where
     requires kind { F.semantics.kind ≡ asked.now.kind }
     requires runs { CanRun (network_view asked.now) }
     requires sound { CanBegin (network_view asked.now) (scenario_of asked.now.site inputs) }
-    ensures { IfOk result (λ made. IsRunOf {F = F.row.Denot} F.semantics (run_given (network_view asked.now) (scenario_of asked.now.site inputs)) None (gives (network_view asked.now) made)) }
+    ensures { IfOk result (λ made. IsRunOf (run_given F.row.Denot F.semantics (network_view asked.now) (scenario_of asked.now.site inputs)) None (gives (network_view asked.now) made)) }
 {
     let Opening {
         config,
@@ -164,8 +164,8 @@ fn tell_network<F: Function>(
     requires runs { CanRun (network_view asked.now) }
     requires sound { CanBegin (network_view asked.now) (scenario_of asked.now.site inputs) }
     ensures { MatchResult result
-        (λ made. IsRunOf {F = F.row.Denot} F.semantics (run_given (network_view asked.now) (scenario_of asked.now.site inputs)) None (gives (network_view asked.now) made) × (made.choices ≡ choices))
-        (IsRefusedAs {F = F.row.Denot} F.semantics (run_given (network_view asked.now) (scenario_of asked.now.site inputs)) choices) }
+        (λ made. IsRunOf (run_given F.row.Denot F.semantics (network_view asked.now) (scenario_of asked.now.site inputs)) None (gives (network_view asked.now) made) × (made.choices ≡ choices))
+        (IsRefusedAs (run_given F.row.Denot F.semantics (network_view asked.now) (scenario_of asked.now.site inputs)) choices) }
 {
     let Opening {
         config,

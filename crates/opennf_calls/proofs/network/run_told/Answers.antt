@@ -18,21 +18,21 @@ returns-in-Conntrack c =
     let s = network_view c.args.asked.now in
     let scenario = scenario_of c.args.asked.now.site c.args.inputs in
     told_kind Conntrack conntrack s scenario c.args.choices c.tell_network.result _ _
-    (λ made holds. (subst (λ (kind : Kind). OfKind kind (λ R F f. IsRunOf {F = F} f (run_given s scenario) None (gives s made))) (sym c.in-Conntrack.is) holds.0, holds.1))
-    (λ step cause. subst (λ (kind : Kind). OfKind kind (λ R F f. IsNoRun {F = F} f (run_given s scenario) c.args.choices step)) (sym c.in-Conntrack.is) cause) c.tell_network.ensures
+    (λ made holds. (subst (λ (kind : Kind). OfKind kind (λ R F f. IsRunOf (run_given F f s scenario) None (gives s made))) (sym c.in-Conntrack.is) holds.0, holds.1))
+    (λ step cause. subst (λ (kind : Kind). OfKind kind (λ R F f. IsNoRun (run_given F f s scenario) c.args.choices step)) (sym c.in-Conntrack.is) cause) c.tell_network.ensures
 
 pub returns-in-Nat : goal.returns-in-Nat
 returns-in-Nat c =
     let s = network_view c.args.asked.now in
     let scenario = scenario_of c.args.asked.now.site c.args.inputs in
     told_kind Nat nat s scenario c.args.choices c.tell_network-in-Nat.result _ _
-    (λ made holds. (subst (λ (kind : Kind). OfKind kind (λ R F f. IsRunOf {F = F} f (run_given s scenario) None (gives s made))) (sym c.in-Nat.is) holds.0, holds.1))
-    (λ step cause. subst (λ (kind : Kind). OfKind kind (λ R F f. IsNoRun {F = F} f (run_given s scenario) c.args.choices step)) (sym c.in-Nat.is) cause) c.tell_network-in-Nat.ensures
+    (λ made holds. (subst (λ (kind : Kind). OfKind kind (λ R F f. IsRunOf (run_given F f s scenario) None (gives s made))) (sym c.in-Nat.is) holds.0, holds.1))
+    (λ step cause. subst (λ (kind : Kind). OfKind kind (λ R F f. IsNoRun (run_given F f s scenario) c.args.choices step)) (sym c.in-Nat.is) cause) c.tell_network-in-Nat.ensures
 
 pub returns-in-Monitor : goal.returns-in-Monitor
 returns-in-Monitor c =
     let s = network_view c.args.asked.now in
     let scenario = scenario_of c.args.asked.now.site c.args.inputs in
     told_kind Monitor monitor s scenario c.args.choices c.tell_network-in-Monitor.result _ _
-    (λ made holds. (subst (λ (kind : Kind). OfKind kind (λ R F f. IsRunOf {F = F} f (run_given s scenario) None (gives s made))) (sym c.in-Monitor.is) holds.0, holds.1))
-    (λ step cause. subst (λ (kind : Kind). OfKind kind (λ R F f. IsNoRun {F = F} f (run_given s scenario) c.args.choices step)) (sym c.in-Monitor.is) cause) c.tell_network-in-Monitor.ensures
+    (λ made holds. (subst (λ (kind : Kind). OfKind kind (λ R F f. IsRunOf (run_given F f s scenario) None (gives s made))) (sym c.in-Monitor.is) holds.0, holds.1))
+    (λ step cause. subst (λ (kind : Kind). OfKind kind (λ R F f. IsNoRun (run_given F f s scenario) c.args.choices step)) (sym c.in-Monitor.is) cause) c.tell_network-in-Monitor.ensures
