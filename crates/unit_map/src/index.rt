@@ -23,6 +23,7 @@ pub struct Slot {
     number: u32,
 }
 
+/// A slot that leads to no entry.
 const FREE: Slot = Slot { tag: 0, number: 0 };
 
 /// Where the entries of keys are. What it gives for a key may be out of date, and is looked at before it is believed.
