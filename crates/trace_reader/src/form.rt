@@ -8,6 +8,14 @@ ghost use Rattle.trace_reader.specs.Header.{magic_of, link_type_of, is_version, 
 use crate::fault::TraceFault;
 use byteorder::{BigEndian, ByteOrder, LittleEndian};
 
+/// The first number of a file in the pcapng format, which isn't read.
+const PCAPNG: u32 = 0x0a0d_0d0a;
+
+/// The version of the pcap format: the number before the point, and the one after it.
+pub(crate) const MAJOR: u16 = 2;
+
+pub(crate) const MINOR: u16 = 4;
+
 /// Which byte of a capture's own numbers comes first: the highest or the lowest.
 #[derive(Clone, Copy, Debug, PartialEq, Eq)]
 pub enum Endian {
@@ -53,7 +61,7 @@ pub(crate) fn form_of(header: &[u8]) -> Result<Form, TraceFault>
         return Err(TraceFault::Magic);
     }
     let number = BigEndian::read_u32(header);
-    if number == 0x0a0d_0d0a {
+    if number == PCAPNG {
         return Err(TraceFault::PcapNg);
     }
     let Some(magic) = magic_of(number) else {
@@ -72,6 +80,7 @@ pub(crate) fn form_of(header: &[u8]) -> Result<Form, TraceFault>
     }
 }
 
+/// What the first number says, read with its highest byte first.
 fn magic_of(number: u32) -> Option<Magic>
     ensures { result ≡ magic_of number }
 {
@@ -85,13 +94,15 @@ fn magic_of(number: u32) -> Option<Magic>
     Some(Magic { endian, fraction })
 }
 
+/// Whether the version is the one that is read.
 fn is_version(magic: Magic, header: &[u8]) -> bool
     requires { header_size ≤ length header.now }
     ensures { result ≡ is_version magic header.now }
 {
-    magic.endian.short(&header[4..]) == 2 && magic.endian.short(&header[6..]) == 4
+    magic.endian.short(&header[4..]) == MAJOR && magic.endian.short(&header[6..]) == MINOR
 }
 
+/// The link type with a number, if it is one that is read.
 fn link_type_of(number: u16) -> Option<LinkType>
     ensures { result ≡ link_type_of number }
 {
@@ -127,6 +138,7 @@ impl Form {
 }
 
 impl Endian {
+    /// The number that the first two bytes are.
     fn short(self, bytes: &[u8]) -> u16
         requires { 2 ≤ length bytes.now }
         ensures { result ≡ number_in self 2 bytes.now }
@@ -137,6 +149,7 @@ impl Endian {
         }
     }
 
+    /// The number that the first four bytes are.
     pub(crate) fn long(self, bytes: &[u8]) -> u32
         requires { 4 ≤ length bytes.now }
         ensures { result ≡ number_in self 4 bytes.now }

@@ -1,4 +1,4 @@
-ghost use Rattle.std.specs.Prelude.{◌≡◌, ◌≤◌, ◌+◌, None, Some, Ok, Err, drop, IfOk, IfSome, IfNone};
+ghost use Rattle.std.specs.Prelude.{◌≡◌, ◌≤◌, None, Ok, Err, drop, IfOk, IfSome, IfNone};
 ghost use Rattle.std.specs.Option.{ForSome, ForNone};
 ghost use Rattle.trace_reader.specs.Limits.{header_size, most_bytes};
 ghost use Rattle.flow_filter.specs.Limits.{most_packets};
@@ -122,6 +122,7 @@ impl TraceReader {
 impl Stop {
     ghost use Rattle.trace_reader.specs.Answers.{answer_of};
 
+    /// The answer at this end, which is given again.
     fn answer(self) -> Result<Next, TraceFault>
         ensures { result ≡ answer_of self }
     {

@@ -247,6 +247,7 @@ fn padded(payload: &[u8]) -> [u8; 64]
     head
 }
 
+/// The number of two bytes at a place, in network order.
 fn u16_at(bytes: &[u8], at: usize) -> u16
     requires { at + 2 ≤ length bytes.now }
     ensures { result ≡ u16_at bytes.now at }
@@ -254,6 +255,7 @@ fn u16_at(bytes: &[u8], at: usize) -> u16
     BigEndian::read_u16(&bytes[at..])
 }
 
+/// The number of four bytes at a place, in network order.
 fn u32_at(bytes: &[u8], at: usize) -> u32
     requires { at + 4 ≤ length bytes.now }
     ensures { result ≡ u32_at bytes.now at }
