@@ -1,5 +1,5 @@
 //! The bytes that a record is stored as.
-ghost use Rattle.std.specs.Prelude.{◌≡◌, ◌≤◌, ◌++◌, length, option_map, OnOk};
+ghost use Rattle.std.specs.Prelude.{◌≡◌, ◌++◌, length, option_map, OnOk};
 ghost use Rattle.std.specs.List.{flat_map, list_all};
 ghost use Rattle.nf_function.specs.Records.{Reads, age_cmp};
 ghost use Rattle.asset_monitor.specs.Services.{are_services, is_rising, is_service};

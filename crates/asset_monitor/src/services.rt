@@ -1,4 +1,4 @@
-ghost use Rattle.std.specs.Prelude.{◌≡◌, ◌≤◌, ◌<◌, List, [], length, true, IfOk, IfErr, OnOk, OnErr};
+ghost use Rattle.std.specs.Prelude.{◌≡◌, ◌<◌, List, [], length, true, IfOk, IfErr, OnOk, OnErr};
 ghost use Rattle.asset_monitor.specs.declared.service.Service.{Service as TheService};
 ghost use Rattle.asset_monitor.specs.Services.{are_services, is_service, services_per_host, with_service};
 ghost use Rattle.asset_monitor.specs.Places.{IsAt, IsGap};

@@ -1,7 +1,6 @@
-ghost use Rattle.std.specs.Prelude.{◌≡◌, true, false, if◌then◌else◌, Some, None, ◌≤◌, ◌==◌, ◌&&◌, ◌-◌, not, IfOk, IfSome, option_map, option_and_then, is_some, is_none, map, length};
+ghost use Rattle.std.specs.Prelude.{◌≡◌, if◌then◌else◌, Some, None, ◌≤◌, ◌==◌, ◌&&◌, not, IfOk, IfSome, option_map, option_and_then};
 ghost use Rattle.std.specs.List.{slice_split};
 ghost use Rattle.flow_filter.specs.Prefixes.{in_prefix, translated_bits};
-ghost use Rattle.basics.specs.Parsing.{split_once, parse_number};
 ghost use Rattle.flow_filter.specs.Reading.{prefix_numbers};
 ghost use Rattle.command_words.specs.Requests.{function_of, limit_of, suffix_of, with_suffix, instance_of, all_instances, instances_of, inside_of, outside_of, window_of, count_of, given_number, schedule_of, file_of, file_if};
 ghost use Rattle.command_words.specs.RequestViews.{instance_view, instances_view};

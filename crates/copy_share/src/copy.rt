@@ -1,4 +1,4 @@
-ghost use Rattle.std.specs.Prelude.{◌≡◌, ◌<◌, ◌∷◌, [], ◌++◌, option_map, OnOk, IfOk};
+ghost use Rattle.std.specs.Prelude.{◌≡◌, ◌<◌, [], ◌++◌, option_map, OnOk, IfOk};
 ghost use Rattle.copy_share.specs.Copy.{answer_of, asks, begin_sends, begun, from_destination, from_source, row};
 
 use crate::copy_phase::CopyPhase;

@@ -1,5 +1,4 @@
 ghost use Rattle.std.specs.Prelude.{◌≡◌, ◌∷◌, [], ◌++◌, false, map, OnOk, IfOk};
-ghost use Rattle.nf_msgs.specs.Nodes.{switch_node};
 ghost use Rattle.event_store.specs.Store.{stored};
 ghost use Rattle.move_op.specs.Move.{asked, chunks_of, destination, enable_at, forward_to, pushed, put_to, released, row_in, source, store_after};
 

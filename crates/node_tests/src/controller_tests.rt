@@ -1,9 +1,10 @@
+use crate::common::{PACKET, SITE, chunk, piece, write_messages};
 use actor_net::{Actor, Outbox};
 use basics::{Boxed, NoMemory, Text};
 use ctrl_node::Ctrl;
-use flow_filter::{Filter, Name, Packet, Prefix, Sequence, Site, UDP};
-use nf_function::{Chunk, Chunks, Scope};
-use nf_msgs::{Command, Msg, Note, Order, Piece, print_answer, show};
+use flow_filter::{Filter, Name, Sequence};
+use nf_function::Chunks;
+use nf_msgs::{Command, Msg, Note, Order, print_answer};
 use packet_pool::Pool;
 use std::alloc::Global;
 use std::test::Fail;
@@ -15,28 +16,6 @@ const SWITCH: u8 = 0;
 const A: u8 = 2;
 
 const B: u8 = 3;
-
-const SITE: Site = Site {
-    inside: Prefix {
-        bits: 0x0a00_0000,
-        len: 24,
-    },
-    outside: None,
-};
-
-const PACKET: Packet = Packet {
-    nanos: 0,
-    number: 5,
-    src: 0x0a00_0001,
-    dst: 0xc000_0209,
-    length: 20,
-    sport: 5000,
-    dport: 53,
-    proto: UDP,
-    flags: 0,
-    held: 0,
-    head: [0; 64],
-};
 
 /// What a node says to the controller, of the operation with a number.
 #[derive(Clone, Copy)]
@@ -91,28 +70,6 @@ fn share_command(alloc: Global, op: u32) -> Result<Msg, NoMemory> {
     )
 }
 
-/// A chunk without bytes.
-fn chunk(alloc: Global) -> Result<Boxed<Chunk>, NoMemory> {
-    let chunk = Chunk {
-        scope: Scope::PerFlow,
-        unit: None,
-        bytes: Text::open(alloc),
-    };
-    Boxed::new(alloc, chunk)
-}
-
-/// A piece without chunks.
-fn piece(alloc: Global, op: u32) -> Result<Msg, NoMemory> {
-    let piece = Piece {
-        chunks: Chunks::open(alloc),
-        total: 0,
-        newest: 1,
-        last: true,
-    };
-    let piece = Boxed::new(alloc, piece)?;
-    Ok(Msg::Piece { op, piece })
-}
-
 /// A packet that the switch's rules send to the controller.
 fn diverted(alloc: Global) -> Result<Msg, NoMemory> {
     let packet = Boxed::new(alloc, PACKET)?;
@@ -133,26 +90,18 @@ fn message_of(alloc: Global, word: Word) -> Result<Msg, NoMemory> {
         }),
         Word::Shared(op) => Ok(Msg::Shared {
             op,
-            chunk: chunk(alloc)?,
+            chunk: Boxed::new(alloc, chunk(alloc))?,
         }),
         Word::Synced(op) => Ok(Msg::Synced { op }),
         Word::Diverted => diverted(alloc),
         Word::Enabled(op) => Ok(Msg::Enabled { op }),
-        Word::Piece(op) => piece(alloc, op),
+        Word::Piece(op) => piece(alloc, op, true),
         Word::Deleted(op) => Ok(Msg::Deleted { op }),
         Word::PutOk(op) => Ok(Msg::PutOk { op }),
         Word::Fenced(op) => Ok(Msg::Fenced { op }),
         Word::End => Ok(Msg::End),
         Word::Final => Ok(Msg::Final),
     }
-}
-
-/// Writes a message with its receiver, in a line.
-fn write_line(text: &mut Text, alloc: Global, sent: &(u8, Msg)) -> Result<(), NoMemory> {
-    text.push_decimal(u64::from(sent.0))?;
-    text.push_bytes(b" ")?;
-    text.push_bytes(show(alloc, &sent.1)?.items())?;
-    text.push_bytes(b"\n")
 }
 
 /// Writes an answer, in a line.
@@ -169,9 +118,7 @@ fn write_answer(text: &mut Text, alloc: Global, note: &Note) -> Result<(), NoMem
 /// Writes what was sent, and then the answers.
 fn write_done(text: &mut Text, alloc: Global, out: Outbox<Msg, Note>) -> Result<(), NoMemory> {
     let (messages, notes) = out.parts();
-    for sent in messages.as_slice() {
-        write_line(text, alloc, sent)?;
-    }
+    write_messages(text, alloc, messages.as_slice())?;
     for note in notes.as_slice() {
         write_answer(text, alloc, note)?;
     }

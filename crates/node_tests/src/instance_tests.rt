@@ -1,22 +1,15 @@
+use crate::common::{SITE, packet};
 use actor_net::{Actor, Outbox};
 use basics::Boxed;
 use conn_tracker::Conntrack;
 use event_filter::{Action, Mark};
-use flow_filter::{Filter, Packet, Prefix, Site, UDP};
+use flow_filter::{Filter, Packet};
 use instance_worker::Instance;
 use nf_function::Chunks;
 use nf_msgs::{Answer, Msg, Note, Piece};
 use packet_pool::Pool;
 use std::alloc::Global;
 use std::test::Fail;
-
-const SITE: Site = Site {
-    inside: Prefix {
-        bits: 0x0a00_0000,
-        len: 24,
-    },
-    outside: None,
-};
 
 type Out = Outbox<Msg, Note>;
 
@@ -25,20 +18,11 @@ fn instance(alloc: Global, limit: u32, marked: bool) -> Instance<Conntrack> {
     Instance::open(alloc, 3, limit, marked, SITE)
 }
 
-/// The UDP packet with this number, of the host 10.0.0.H, with a time where one is given.
-fn packet(number: u32, host: u32, nanos: u64) -> Packet {
+/// The packet with this number of the host 10.0.0.H, with a time where one is given.
+fn packet_at(number: u32, host: u32, nanos: u64) -> Packet {
     Packet {
         nanos,
-        number,
-        src: 0x0a00_0000 + host % 256,
-        dst: 0xc000_0209,
-        length: 20,
-        sport: 5000,
-        dport: 53,
-        proto: UDP,
-        flags: 0,
-        held: 0,
-        head: [0; 64],
+        ..packet(number, host)
     }
 }
 
@@ -62,7 +46,7 @@ fn feed(
     for host in 1..=hosts {
         it.step(
             0,
-            carry(alloc, packet(host, host, nanos), Mark::Plain)?,
+            carry(alloc, packet_at(host, host, nanos), Mark::Plain)?,
             out,
         )?;
     }

@@ -5,6 +5,8 @@
 #![tactic(auto)]
 
 #[cfg(test)]
+mod common;
+#[cfg(test)]
 mod controller_tests;
 #[cfg(test)]
 mod instance_tests;

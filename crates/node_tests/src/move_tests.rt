@@ -1,10 +1,11 @@
+use crate::common::{PACKET, piece, write_sent};
 use actor_net::Outbox;
 use basics::{Boxed, NoMemory, Text};
 use event_store::EventStore;
-use flow_filter::{Filter, Packet, UDP};
+use flow_filter::Filter;
 use move_op::MoveOp;
 use nf_function::Chunks;
-use nf_msgs::{Answer, Msg, Note, Piece, Refused, print_answer, show};
+use nf_msgs::{Answer, Msg, Refused, print_answer};
 use packet_pool::{Cell, Pool};
 use std::alloc::Global;
 use std::test::Fail;
@@ -14,20 +15,6 @@ const SOURCE: u8 = 2;
 
 /// The node of the destination, which is instance 1.
 const DESTINATION: u8 = 3;
-
-const PACKET: Packet = Packet {
-    nanos: 0,
-    number: 5,
-    src: 0x0a00_0001,
-    dst: 0xc000_0209,
-    length: 20,
-    sport: 5000,
-    dport: 53,
-    proto: UDP,
-    flags: 0,
-    held: 0,
-    head: [0; 64],
-};
 
 /// What a node says to the move.
 #[derive(Clone, Copy)]
@@ -41,20 +28,6 @@ enum Word {
     Restored,
     Event,
     Fenced,
-}
-
-/// A piece without chunks.
-fn piece(alloc: Global, last: bool) -> Result<Msg, NoMemory> {
-    let piece = Piece {
-        chunks: Chunks::open(alloc),
-        total: 0,
-        newest: 1,
-        last,
-    };
-    Ok(Msg::Piece {
-        op: 7,
-        piece: Boxed::new(alloc, piece)?,
-    })
 }
 
 /// The event of a packet.
@@ -82,28 +55,11 @@ fn refusal(alloc: Global) -> Result<Msg, NoMemory> {
     })
 }
 
-/// Writes a message with its receiver, in a line.
-fn write_line(text: &mut Text, alloc: Global, sent: &(u8, Msg)) -> Result<(), NoMemory> {
-    text.push_decimal(u64::from(sent.0))?;
-    text.push_bytes(b" ")?;
-    text.push_bytes(show(alloc, &sent.1)?.items())?;
-    text.push_bytes(b"\n")
-}
-
-/// Writes what was sent.
-fn write_sent(text: &mut Text, alloc: Global, out: Outbox<Msg, Note>) -> Result<(), NoMemory> {
-    let (messages, _notes) = out.parts();
-    for sent in messages.as_slice() {
-        write_line(text, alloc, sent)?;
-    }
-    Ok(())
-}
-
 /// The message that a node sends.
 fn message_of(alloc: Global, word: Word) -> Result<Msg, NoMemory> {
     match word {
         Word::Enabled => Ok(Msg::Enabled { op: 7 }),
-        Word::Piece(last) => piece(alloc, last),
+        Word::Piece(last) => piece(alloc, 7, last),
         Word::Deleted => Ok(Msg::Deleted { op: 7 }),
         Word::PutOk => Ok(Msg::PutOk { op: 7 }),
         Word::PutNo => refusal(alloc),

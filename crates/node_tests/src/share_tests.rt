@@ -1,13 +1,14 @@
 ghost use Rattle.std.specs.Prelude.{◌<◌, All, length};
 
+use crate::common::{PACKET, SITE, chunk, write_message};
 use actor_net::Outbox;
 use basics::{Boxed, NoMemory, Text};
 use copy_share::{CopyOp, ShareOp};
 use event_filter::Mark;
 use event_store::EventStore;
-use flow_filter::{Filter, Packet, Prefix, Site, UDP};
-use nf_function::{Chunk, Chunks, Scope};
-use nf_msgs::{Answer, MOST_INSTANCES, Msg, Note, print_answer, show};
+use flow_filter::{Filter, Packet};
+use nf_function::Chunks;
+use nf_msgs::{Answer, MOST_INSTANCES, Msg, Note, print_answer};
 use packet_pool::{Cell, Pool};
 use std::alloc::Global;
 use std::test::Fail;
@@ -19,30 +20,6 @@ const B: u8 = 3;
 
 const C: u8 = 4;
 
-const SITE: Site = Site {
-    inside: Prefix {
-        bits: 0x0a00_0000,
-        len: 24,
-    },
-    outside: None,
-};
-
-/// A packet of the flow from 10.0.0.1:5000 to 192.0.2.9:53. The ports and the remote address have the sum 3221231046, which is 0
-/// modulo 3.
-const PACKET: Packet = Packet {
-    nanos: 0,
-    number: 1,
-    src: 0x0a00_0001,
-    dst: 0xc000_0209,
-    length: 20,
-    sport: 5000,
-    dport: 53,
-    proto: UDP,
-    flags: 0,
-    held: 0,
-    head: [0; 64],
-};
-
 /// What a node says, or for a share also that a packet came.
 #[derive(Clone, Copy)]
 enum Word {
@@ -53,15 +30,6 @@ enum Word {
     Synced,
     /// A packet with this number, and with so much added to its source port and its destination.
     Came(u32, u16, u32),
-}
-
-/// A chunk without bytes.
-fn chunk(alloc: Global) -> Chunk {
-    Chunk {
-        scope: Scope::PerFlow,
-        unit: None,
-        bytes: Text::open(alloc),
-    }
 }
 
 /// The message of a word.
@@ -86,9 +54,7 @@ fn message_of(alloc: Global, word: Word) -> Result<Msg, NoMemory> {
 
 /// Writes a message with its receiver and whether it says that this is the home, in a line.
 fn write_line(text: &mut Text, alloc: Global, sent: &(u8, Msg)) -> Result<(), NoMemory> {
-    text.push_decimal(u64::from(sent.0))?;
-    text.push_bytes(b" ")?;
-    text.push_bytes(show(alloc, &sent.1)?.items())?;
+    write_message(text, alloc, sent)?;
     text.push_bytes(said_of_home(&sent.1))?;
     text.push_bytes(b"\n")
 }

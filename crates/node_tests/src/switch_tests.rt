@@ -1,36 +1,12 @@
+use crate::common::{SITE, packet};
 use actor_net::{Actor, Outbox};
 use basics::{Boxed, NoMemory};
-use flow_filter::{CapturedPacket, Filter, Packet, Prefix, Site, UDP};
+use flow_filter::{CapturedPacket, Filter};
 use nf_msgs::{Msg, Note};
 use std::alloc::Global;
 use std::test::Fail;
 use switch_node::Switch;
 use switch_rules::Target;
-
-const SITE: Site = Site {
-    inside: Prefix {
-        bits: 0x0a00_0000,
-        len: 24,
-    },
-    outside: None,
-};
-
-/// The UDP packet with this number of the host 10.0.0.H.
-fn packet(number: u32, host: u32) -> Packet {
-    Packet {
-        nanos: 0,
-        number,
-        src: 0x0a00_0000 + host % 256,
-        dst: 0xc000_0209,
-        length: 20,
-        sport: 5000,
-        dport: 53,
-        proto: UDP,
-        flags: 0,
-        held: 0,
-        head: [0; 64],
-    }
-}
 
 /// The message of the packet with this number of the host 10.0.0.9.
 fn came(alloc: Global, number: u32) -> Result<Msg, NoMemory> {

@@ -1,4 +1,4 @@
-ghost use Rattle.std.specs.Prelude.{false, ◌≡◌, ◌++◌, ◌∷◌, ◌<◌, ◌≤◌, [], Ok, IfOk, OnOk, length, option_map, true, codes, if◌then◌else◌};
+ghost use Rattle.std.specs.Prelude.{false, ◌≡◌, ◌++◌, ◌∷◌, ◌≤◌, [], Ok, IfOk, OnOk, length, option_map, true, codes, if◌then◌else◌};
 ghost use Rattle.std.specs.List.{join_with_byte, list_all};
 ghost use Rattle.flow_filter.specs.FilterText.{after_commas, fields_of, is_printable, print};
 ghost use Rattle.flow_filter.specs.Filter.{IsFilter};

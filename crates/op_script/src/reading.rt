@@ -1,4 +1,4 @@
-ghost use Rattle.std.specs.Prelude.{◌≡◌, ◌≤◌, ◌==◌, ◌<◌, ◌^◌, ◌+◌, map, length, IfOk, IfSome, Ok, Some, None, option_map, if◌then◌else◌};
+ghost use Rattle.std.specs.Prelude.{◌≡◌, ◌≤◌, ◌==◌, ◌<◌, ◌^◌, map, length, IfOk, IfSome, Some, None, option_map, if◌then◌else◌};
 ghost use Rattle.std.specs.List.{slice_split, list_all, position};
 ghost use Rattle.std.specs.Str.{bytes_eq, is_utf8};
 ghost use Rattle.std.specs.Str.Lines.{strip_carriage_return};

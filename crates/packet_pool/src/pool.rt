@@ -1,5 +1,5 @@
 ghost use Rattle.std.specs.Prelude.{◌≡◌, ◌<◌, IfOk, OnOk, IfErr, OnErr};
-ghost use Rattle.packet_pool.specs.Pool.{FullCell, one_less, one_more};
+ghost use Rattle.packet_pool.specs.Pool.{one_less, one_more};
 
 use crate::cell::Cell;
 use basics::Boxed;

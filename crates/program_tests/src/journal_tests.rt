@@ -1,5 +1,4 @@
 //! Tests of runs that write or read a journal, and of summaries.
-ghost use Rattle.std.specs.Prelude.{◌≡◌, None};
 
 use crate::sim_tests::{HEADER, RECORD, calm, outside_of, owned};
 use flow_filter::NoMemory;

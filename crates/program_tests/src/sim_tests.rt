@@ -1,4 +1,4 @@
-ghost use Rattle.std.specs.Prelude.{◌≡◌, ◌<◌, None, IfOk};
+ghost use Rattle.std.specs.Prelude.{◌≡◌, None, IfOk};
 ghost use Rattle.nf_io.specs.declared.outside.Role.{Role as TheRole};
 ghost use Rattle.nf_io.specs.Memory.{seen_in};
 

@@ -1,6 +1,6 @@
 ghost use Rattle.std.specs.Prelude.{◌≡◌, ◌≤◌, ◌<◌, ◌+◌, ◌++◌, false, All, IfOk, OnOk};
 ghost use Rattle.switch_rules.specs.Rules.{opened};
-ghost use Rattle.switch_node.specs.Switch.{Step, arrives, goes_to, has_closed, has_room, on_command, on_credit, on_install, on_packet, sends_on, sends_to_instance, stops, switch_step, takes_in, target_of, is_there};
+ghost use Rattle.switch_node.specs.Switch.{has_closed, has_room, on_command, on_credit, on_install, on_packet, sends_to_instance, stops, switch_step, takes_in, target_of, is_there};
 
 use actor_net::{Actor, Outbox};
 use basics::{Boxed, NoMemory};

@@ -1,5 +1,5 @@
 ghost use Rattle.std.specs.Prelude.{◌≡◌};
-ghost use Rattle.switch_rules.specs.Masks.{mask_of, values_of, masked, where_given, front, is_within};
+ghost use Rattle.switch_rules.specs.Masks.{mask_of, values_of, masked, front, is_within};
 
 use flow_filter::{Filter, Flow};
 

@@ -1,5 +1,5 @@
 //! The packets of generated captures: what the word of each chooses.
-ghost use Rattle.std.specs.Prelude.{◌≡◌, ◌≤◌, ◌<◌, ◌+◌};
+ghost use Rattle.std.specs.Prelude.{◌≡◌, ◌≤◌, ◌<◌};
 ghost use Rattle.trace_reader.specs.Generated.{drawn, flags_by, local_port, remote_port, local_end, remote_end, source, target, transport_size, captured_size, total_size, payload_lengths};
 ghost use Rattle.flow_filter.specs.Limits.{most_hosts};
 

@@ -3,11 +3,21 @@ ghost use Rattle.std.specs.Prelude.{◌≡◌, ◌≤◌, ◌<◌, ◌+◌, ◌+
 ghost use Rattle.trace_reader.specs.Generated.{file_header, record_head, ipv4_header, udp_header, tcp_header, record_bytes, payload_lengths};
 
 use crate::drawn::{Drawn, Transport};
+use crate::form::{MAJOR, MINOR};
 use byteorder::{BigEndian, ByteOrder, LittleEndian};
 use flow_filter::{TCP, UDP};
 
 /// No record is longer: 16 bytes at its head, an IPv4 header of 20 and a TCP header of 20.
 pub(crate) const LONGEST_RECORD: usize = 56;
+
+/// The magic number of a capture with microseconds.
+const MAGIC: u32 = 0xa1b2_c3d4;
+
+/// The most bytes of a packet that a record may have, as the header says.
+const SNAP_LENGTH: u32 = 65_535;
+
+/// The link type of packets without a link's header.
+const RAW: u32 = 101;
 
 /// The 24 bytes at the head of a capture.
 #[tactic(auto, unfolding(crate::specs::Generated::file_header))]
@@ -15,11 +25,11 @@ pub(crate) fn file_header() -> [u8; 24]
     ensures { result ≡ file_header }
 {
     let mut header = [0; 24];
-    LittleEndian::write_u32(&mut header, 0xa1b2_c3d4);
-    LittleEndian::write_u16(&mut header[4..], 2);
-    LittleEndian::write_u16(&mut header[6..], 4);
-    LittleEndian::write_u32(&mut header[16..], 65_535);
-    LittleEndian::write_u32(&mut header[20..], 101);
+    LittleEndian::write_u32(&mut header, MAGIC);
+    LittleEndian::write_u16(&mut header[4..], MAJOR);
+    LittleEndian::write_u16(&mut header[6..], MINOR);
+    LittleEndian::write_u32(&mut header[16..], SNAP_LENGTH);
+    LittleEndian::write_u32(&mut header[20..], RAW);
     header
 }
 

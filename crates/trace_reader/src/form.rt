@@ -8,6 +8,14 @@ ghost use Rattle.trace_reader.specs.Header.{magic_of, link_type_of, is_version, 
 use crate::fault::TraceFault;
 use byteorder::{BigEndian, ByteOrder, LittleEndian};
 
+/// The first number of a file in the pcapng format, which isn't read.
+const PCAPNG: u32 = 0x0a0d_0d0a;
+
+/// The version of the pcap format: the number before the point, and the one after it.
+pub(crate) const MAJOR: u16 = 2;
+
+pub(crate) const MINOR: u16 = 4;
+
 /// Which byte of a capture's own numbers comes first: the highest or the lowest.
 #[derive(Clone, Copy, Debug, PartialEq, Eq)]
 pub enum Endian {
@@ -53,7 +61,7 @@ pub(crate) fn form_of(header: &[u8]) -> Result<Form, TraceFault>
         return Err(TraceFault::Magic);
     }
     let number = BigEndian::read_u32(header);
-    if number == 0x0a0d_0d0a {
+    if number == PCAPNG {
         return Err(TraceFault::PcapNg);
     }
     let Some(magic) = magic_of(number) else {
@@ -91,7 +99,7 @@ fn is_version(magic: Magic, header: &[u8]) -> bool
     requires { header_size ≤ length header.now }
     ensures { result ≡ is_version magic header.now }
 {
-    magic.endian.short(&header[4..]) == 2 && magic.endian.short(&header[6..]) == 4
+    magic.endian.short(&header[4..]) == MAJOR && magic.endian.short(&header[6..]) == MINOR
 }
 
 /// The link type that a number of the header stands for, where records of it are read.

@@ -1,4 +1,4 @@
-ghost use Rattle.std.specs.Prelude.{◌≡◌, ◌≤◌, ◌+◌, None, Some, Ok, Err, drop, IfOk, IfSome, IfNone};
+ghost use Rattle.std.specs.Prelude.{◌≡◌, ◌≤◌, None, Ok, Err, drop, IfOk, IfSome, IfNone};
 ghost use Rattle.std.specs.Option.{ForSome, ForNone};
 ghost use Rattle.trace_reader.specs.Limits.{header_size, most_bytes};
 ghost use Rattle.flow_filter.specs.Limits.{most_packets};

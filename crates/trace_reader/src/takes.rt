@@ -1,4 +1,4 @@
-ghost use Rattle.std.specs.Prelude.{◌≤◌, ◌<◌, min, length, IfOk};
+ghost use Rattle.std.specs.Prelude.{◌≤◌, length, IfOk};
 ghost use Rattle.nf_io.specs.Meaning.{HasCause, StaysOpen, untouched};
 ghost use Rattle.trace_reader.specs.Takes.{Fills, Skips, TakesBody, body};
 
