@@ -12,6 +12,10 @@ use Rattle.core_speed.specs.declared.nodes.Node.{Node}
 use Rattle.core_speed.specs.Work.{scrambled}
 use Rattle.core_speed.specs.declared.nodes.Node.TheVariants.{Switch as A_switch, Controller, Instance as An_instance}
 
+-- at most so many instances, as the program's network has them
+abbrev pub most_instances : ℕ
+most_instances = 16
+
 -- a switch counts what is under way, and sends a packet to the instance that its flow chooses
 abbrev pub switch_step : Switch → Message → Switch × List (ℕ × Message)
 switch_step switch (Carried packet) = (

@@ -3,6 +3,10 @@ use Rattle.std.specs.Prelude.{◌==◌, ◌+◌, ◌-◌, ◌%◌, ℕ, zero, su
 use Rattle.core_speed.specs.declared.tokens.Shape.{Shape}
 use Rattle.core_speed.specs.declared.tokens.Shape.TheVariants.{Ring, Hub}
 
+-- at most so many nodes of a world: as many as the program's network has instances, and one more
+abbrev pub most_nodes : ℕ
+most_nodes = 17
+
 -- the first node that the node of this number sends to, and how many there are from it on
 abbrev pub reach_of : Shape → ℕ → ℕ → ℕ × ℕ
 reach_of Ring nodes number = ((number + 1) % nodes, 1)

@@ -27,6 +27,7 @@ use std::process::ExitCode;
 use std::sync::Wait;
 use std::thread::Threads;
 
+/// Prints the number of choices, or the fault; its status is the exit code.
 fn main(rt: HostRuntime) -> ExitCode {
     match count_choices(&rt) {
         Ok(number) => match println!(rt; "choices {number}") {

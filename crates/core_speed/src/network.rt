@@ -1,7 +1,7 @@
 //! A world like the program's network at its start.
 ghost use Rattle.std.specs.Prelude.{◌≡◌, ◌<◌, ◌≤◌, ◌+◌, IfOk, vec_len};
 ghost use Rattle.actor_net.specs.Opening.{opening};
-ghost use Rattle.core_speed.specs.NetworkWorld.{network_nodes, packets_below};
+ghost use Rattle.core_speed.specs.NetworkWorld.{most_instances, network_nodes, packets_below};
 
 use crate::nodes::{Instance, Message, Node, Packet, Switch};
 use crate::work::scramble;
@@ -16,7 +16,7 @@ pub fn network_world(
     packets: u64,
     rounds: u32,
 ) -> Result<World<Node>, NoMemory>
-    requires { (0 < instances) × (instances ≤ 16) }
+    requires { (0 < instances) × (instances ≤ most_instances) }
     ensures { IfOk result (λ w. w ≡ opening (network_nodes instances rounds instances) (packets_below packets)) }
 {
     let nodes = nodes_of(alloc, instances, rounds)?;
@@ -26,7 +26,7 @@ pub fn network_world(
 
 /// The switch, the controller, and then so many instances.
 fn nodes_of(alloc: Global, instances: u8, rounds: u32) -> Result<Vec<Node>, NoMemory>
-    requires { (0 < instances) × (instances ≤ 16) }
+    requires { (0 < instances) × (instances ≤ most_instances) }
     ensures nodes { IfOk result (λ all. all.items ≡ network_nodes instances rounds instances) }
     ensures count { IfOk result (λ all. vec_len all ≡ instances + 2) }
 {

@@ -1,6 +1,6 @@
 //! The nodes that pass tokens on, and the worlds that are made of them.
 ghost use Rattle.std.specs.Prelude.{◌≡◌, ◌==◌, ◌<◌, ◌≤◌, ◌+◌, ◌-◌, ◌/◌, ◌%◌, true, if◌then◌else◌, [], ◌∷◌, length, map, replicate, IfOk};
-ghost use Rattle.core_speed.specs.TokenWorlds.{reach_of, reaches_below};
+ghost use Rattle.core_speed.specs.TokenWorlds.{most_nodes, reach_of, reaches_below};
 
 use actor_net::{Actor, Outbox, World};
 use basics::NoMemory;
@@ -27,7 +27,7 @@ pub struct Passer {
 impl Passer {
     /// The node of this number.
     fn of(shape: Shape, number: u8, nodes: u8) -> Self
-        requires { (number < nodes) × (1 < nodes) × (nodes ≤ 17) }
+        requires { (number < nodes) × (1 < nodes) × (nodes ≤ most_nodes) }
         ensures { (result.first, result.count) ≡ reach_of shape nodes number }
     {
         match shape {
@@ -87,7 +87,7 @@ pub fn token_world(
     items: usize,
     hops: u32,
 ) -> Result<World<Passer>, NoMemory>
-    requires { (1 < nodes) × (nodes ≤ 17) }
+    requires { (1 < nodes) × (nodes ≤ most_nodes) }
     ensures nodes { IfOk result (λ w. map (λ p. (p.first, p.count)) w.nodes ≡ reaches_below shape nodes nodes) }
     ensures input { IfOk result (λ w. w.input ≡ replicate items hops) }
 {
@@ -97,7 +97,7 @@ pub fn token_world(
 
 /// The nodes of a world.
 fn nodes_of(alloc: Global, shape: Shape, nodes: u8) -> Result<Vec<Passer>, NoMemory>
-    requires { (1 < nodes) × (nodes ≤ 17) }
+    requires { (1 < nodes) × (nodes ≤ most_nodes) }
     ensures count { IfOk result (λ all. length all.items ≡ nodes) }
     ensures reaches { IfOk result (λ all. map (λ p. (p.first, p.count)) all.items ≡ reaches_below shape nodes nodes) }
 {

@@ -1,9 +1,17 @@
 //! The words of the command line.
 ghost use Rattle.std.specs.Prelude.{◌<◌, ◌≤◌};
+ghost use Rattle.core_speed.specs.TokenWorlds.{most_nodes};
+ghost use Rattle.core_speed.specs.NetworkWorld.{most_instances};
 
 use crate::runs::Chooser;
 use crate::tokens::Shape;
 use actor_net::Schedule;
+
+/// The most nodes of a world of tokens.
+const MOST_NODES: u8 = 17;
+
+/// The most instances of a network.
+const MOST_INSTANCES: u8 = 16;
 
 /// What the words ask for: a world, and who makes its choices.
 #[derive(Clone, Copy, Debug)]
@@ -26,7 +34,7 @@ pub struct Tokens {
     pub nodes: u8,
     pub items: usize,
     pub hops: u32,
-    ghost sized: { (1 < nodes) × (nodes ≤ 17) },
+    ghost sized: { (1 < nodes) × (nodes ≤ most_nodes) },
 }
 
 /// A switch, a controller and so many instances, with so many packets and rounds of work on each.
@@ -35,7 +43,7 @@ pub struct Network {
     pub instances: u8,
     pub packets: u64,
     pub rounds: u32,
-    ghost sized: { (0 < instances) × (instances ≤ 16) },
+    ghost sized: { (0 < instances) × (instances ≤ most_instances) },
 }
 
 /// What the words ask for, the program's name first; none where they are bad.
@@ -71,7 +79,7 @@ fn chooser_of(word: &str) -> Option<Chooser> {
 
 /// A world of tokens, where it has from 2 to 17 nodes.
 fn tokens_of(shape: Shape, nodes: u8, items: usize, hops: u32) -> Option<Tokens> {
-    if nodes < 2 || nodes > 17 {
+    if nodes < 2 || nodes > MOST_NODES {
         return None;
     }
     Some(Tokens {
@@ -84,7 +92,7 @@ fn tokens_of(shape: Shape, nodes: u8, items: usize, hops: u32) -> Option<Tokens>
 
 /// A world like the program's network, where it has from 3 to 18 nodes, of which all but two are instances.
 fn network_of(nodes: u8, packets: u64, rounds: u32) -> Option<Network> {
-    if nodes < 3 || nodes > 18 {
+    if nodes < 3 || nodes > MOST_INSTANCES + 2 {
         return None;
     }
     Some(Network {

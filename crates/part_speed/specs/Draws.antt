@@ -3,6 +3,10 @@ use Rattle.std.specs.Prelude.{ℕ, ◌+◌, ◌/◌, ◌%◌}
 use Rattle.flow_filter.specs.declared.flow.Flow.{Flow}
 use Rattle.flow_filter.specs.Packet.{tcp}
 
+-- the greatest size of a part
+abbrev pub most_size : ℕ
+most_size = 16777216
+
 -- the first local address is 10.0.0.0, and there are so many; the first remote one is 192.0.2.0
 abbrev pub first_local : ℕ
 first_local = 167772160

@@ -1,8 +1,8 @@
 //! The flows that are worked on, and their packets.
-ghost use Rattle.std.specs.Prelude.{◌≡◌, ◌<◌, ◌^◌};
-ghost use Rattle.part_speed.specs.Draws.{numbered_flow};
+ghost use Rattle.std.specs.Prelude.{◌≡◌, ◌<◌};
+ghost use Rattle.part_speed.specs.Draws.{most_size, numbered_flow};
 
-use flow_filter::{Flow, Packet, Prefix, Site, TCP};
+use flow_filter::{ACK, FIN, Flow, Packet, Prefix, SYN, Site, TCP};
 
 /// The site 10.0.0.0/8.
 pub const SITE: Site = Site {
@@ -15,7 +15,7 @@ pub const SITE: Site = Site {
 
 /// The flow with a number: one of 65,536 hosts with one of 256 peers. A tenth of the flows have the local port 1024.
 pub fn numbered_flow(number: u32) -> Flow
-    requires { number < 2 ^ 24 }
+    requires { number < most_size }
     ensures { result ≡ numbered_flow number }
 {
     Flow {
@@ -30,9 +30,9 @@ pub fn numbered_flow(number: u32) -> Flow
 /// A packet of a flow. The word chooses whether it comes in, and its flags.
 pub fn drawn_packet(flow: Flow, word: u64) -> Packet {
     let flags = match word / 4 % 4 {
-        0 => 2,
-        3 => 17,
-        _ => 16,
+        0 => SYN,
+        3 => FIN | ACK,
+        _ => ACK,
     };
     let out = Packet {
         nanos: 0,

@@ -1,5 +1,6 @@
 //! The switch's rules.
-ghost use Rattle.std.specs.Prelude.{◌≡◌, ◌<◌, ◌≤◌, ◌^◌, IfOk, vec_len};
+ghost use Rattle.std.specs.Prelude.{◌≡◌, ◌<◌, ◌≤◌, IfOk, vec_len};
+ghost use Rattle.part_speed.specs.Draws.{most_size};
 
 use crate::draws::numbered_flow;
 use crate::fault::Fault;
@@ -14,7 +15,7 @@ use switch_rules::{Rules, Target};
 /// The sum of the instances that so many flows go to by so many routes, whose filters have so many masks. Half of the flows have a
 /// route's local port.
 pub fn find_targets(alloc: Global, routes: u32, masks: u32, lookups: u64) -> Result<u64, Fault>
-    requires { (0 < routes) × (routes ≤ 2 ^ 24) × (0 < masks) }
+    requires { (0 < routes) × (routes ≤ most_size) × (0 < masks) }
 {
     let rules = Rules::open(alloc, &routes_of(alloc, routes, masks)?)?;
     let mut words = SplitMix64::seed_from_u64(7);

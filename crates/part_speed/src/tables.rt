@@ -1,8 +1,10 @@
 //! The tracker's table: its steps, and its chunks.
-ghost use Rattle.std.specs.Prelude.{◌<◌, ◌≤◌, ◌^◌};
+ghost use Rattle.std.specs.Prelude.{◌<◌, ◌≤◌};
+ghost use Rattle.part_speed.specs.Draws.{most_size};
 
 use crate::draws::{SITE, drawn_packet, numbered_flow};
 use crate::fault::Fault;
+use crate::words::MOST_SIZE;
 use basics::NoMemory;
 use conn_tracker::Conntrack;
 use flow_filter::Filter;
@@ -21,12 +23,9 @@ const TENTH: Filter = Filter {
     rport: None,
 };
 
-/// The most records that a table takes in.
-const LIMIT: u32 = 16_777_216;
-
 /// The sum of the outputs' codes where a table with so many flows steps so many packets of them.
 pub fn step_packets(alloc: Global, flows: u32, packets: u64) -> Result<u64, Fault>
-    requires { (0 < flows) × (flows ≤ 2 ^ 24) }
+    requires { (0 < flows) × (flows ≤ most_size) }
 {
     let mut table = filled(alloc, flows)?;
     let mut words = SplitMix64::seed_from_u64(7);
@@ -43,7 +42,7 @@ pub fn step_packets(alloc: Global, flows: u32, packets: u64) -> Result<u64, Faul
 
 /// How many chunks come where those of a tenth of so many flows are selected so many times.
 pub fn select_chunks(alloc: Global, flows: u32, times: u64) -> Result<u64, Fault>
-    requires { flows ≤ 2 ^ 24 }
+    requires { flows ≤ most_size }
 {
     let table = filled(alloc, flows)?;
     let mut sum: u64 = 0;
@@ -56,7 +55,7 @@ pub fn select_chunks(alloc: Global, flows: u32, times: u64) -> Result<u64, Fault
 
 /// How many records new tables have, where each takes such chunks in.
 pub fn import_chunks(alloc: Global, flows: u32, times: u64) -> Result<u64, Fault>
-    requires { flows ≤ 2 ^ 24 }
+    requires { flows ≤ most_size }
 {
     let table = filled(alloc, flows)?;
     let mut sum: u64 = 0;
@@ -73,7 +72,7 @@ fn taken_in(alloc: Global, table: &Table<Conntrack>) -> Result<u32, Fault> {
         return Err(Fault::Refused);
     };
     let mut new: Table<Conntrack> = Table::open(alloc);
-    match new.import(chunks, total, LIMIT) {
+    match new.import(chunks, total, MOST_SIZE) {
         Ok(()) => Ok(new.live_count()),
         Err(_) => Err(Fault::Refused),
     }
@@ -81,7 +80,7 @@ fn taken_in(alloc: Global, table: &Table<Conntrack>) -> Result<u32, Fault> {
 
 /// A table with the records of so many flows, each after one packet.
 fn filled(alloc: Global, flows: u32) -> Result<Table<Conntrack>, NoMemory>
-    requires { flows ≤ 2 ^ 24 }
+    requires { flows ≤ most_size }
 {
     let mut table: Table<Conntrack> = Table::open(alloc);
     for number in 0..flows {

@@ -1,5 +1,6 @@
 //! The words of the command line.
-ghost use Rattle.std.specs.Prelude.{◌<◌, ◌≤◌, ◌^◌};
+ghost use Rattle.std.specs.Prelude.{◌<◌, ◌≤◌};
+ghost use Rattle.part_speed.specs.Draws.{most_size};
 
 /// What is worked.
 #[derive(Clone, Copy, Debug)]
@@ -17,11 +18,11 @@ pub struct Task {
     pub part: Part,
     pub size: u32,
     pub count: u64,
-    ghost sized: { (0 < size) × (size ≤ 2 ^ 24) },
+    ghost sized: { (0 < size) × (size ≤ most_size) },
 }
 
-/// The greatest size.
-const MOST: u32 = 16_777_216;
+/// The greatest size of a part, and the most records that a table takes in.
+pub(crate) const MOST_SIZE: u32 = 16_777_216;
 
 /// What the words ask for, the program's name first; none where they are bad.
 pub fn task_of(words: &[String]) -> Option<Task> {
@@ -31,7 +32,7 @@ pub fn task_of(words: &[String]) -> Option<Task> {
     let part = part_of(part.as_str())?;
     let size = size.as_str().parse::<u32>().ok()?;
     let count = count.as_str().parse::<u64>().ok()?;
-    if size == 0 || size > MOST {
+    if size == 0 || size > MOST_SIZE {
         return None;
     }
     Some(Task { part, size, count })
