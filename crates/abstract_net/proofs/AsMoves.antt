@@ -5,10 +5,10 @@ use Rattle.std.specs.Prelude.{if◌then◌else◌, ◌&&◌, ◌==◌}
 use Rattle.std.specs.Option.{option_map_or}
 use Rattle.std.proofs.lemmas.Bool.Decides.{nat_tests}
 use Rattle.unit_machine.proofs.Real.{Chunks, sent_for}
-use Rattle.share_machine.proofs.Share.{Phase, Phase.Fencing, Phase.Getting, Phase.Setting, Phase.Idle, Phase.Out, Phase.Syncing, without}
-use Rattle.abstract_net.proofs.Net.{Msg, Want, Sys, process, inst_step, ctrl_step, sw_sends, begin_sends, behind, links_after, inst_next, ctrl_next, sw_next, begin_next}
+use Rattle.share_machine.proofs.Share.{Phase, Phase.Fencing, Phase.Getting, Phase.Setting, Phase.Idle, Phase.Out, Phase.Syncing, without_number}
+use Rattle.abstract_net.proofs.Net.{Msg, MoveAsked, Sys, process, inst_step, ctrl_step, sw_sends, begin_sends, behind, links_after, inst_next, ctrl_next, sw_next, begin_next}
 use Rattle.abstract_net.proofs.Elsewhere.{Elsewhere}
-use Rattle.abstract_net.proofs.Shares.{Any, Any.Old, Any.New, Share_msg, Share_msg.Shared_on, Share_msg.Diverted_on, Share_msg.S_asked, Share_msg.S_install, Share_msg.S_forward, Share_msg.S_get, Share_msg.S_sync, Share_msg.S_chunks, Share_msg.S_shared, Share_msg.S_synced, olds, as_old, Sharing, Open_share, Told, Told.Is_fenced, Told.Has_chunks, Told.Has_chunk, Told.Is_synced, Told.Has_packet, syncs, s_row, s_served, told_by, by_share, s_goes, s_left, shared_chunk, member_step, Whole, moves_of, whole_inst, whole_ctrl, whole_switch, begin_move}
+use Rattle.abstract_net.proofs.Shares.{Any, Any.Old, Any.New, Share_msg, Share_msg.Shared_on, Share_msg.Diverted_on, Share_msg.S_asked, Share_msg.S_install, Share_msg.S_forward, Share_msg.S_get, Share_msg.S_sync, Share_msg.S_chunks, Share_msg.S_shared, Share_msg.S_synced, olds, as_old, Sharing, Open_share, Told, Told.Is_fenced, Told.Has_chunks, Told.Has_chunk, Told.Is_synced, Told.Has_packet, syncs, s_row, s_served, told_by, by_share, s_goes, s_left, shared_chunk, member_step, WholeWorld, moves_of, whole_inst, whole_ctrl, whole_switch, begin_move}
 use Rattle.nf_function.specs.declared.unit.Unit as units
 
 abbrev pub put_old : {R : Type 0} → ℕ → Any R → List (ℕ × Msg R) → List (ℕ × Msg R)
@@ -92,8 +92,8 @@ module _ {R : Type 0} (S : Sys R) (A : Sharing S) where
 
   row_new : (e : Open_share) (sender : ℕ) (told : Told R) (ph : Phase) (q : List ℕ) → old_sends (s_row S A e sender told ph q).sends ≡ []
   row_new e sender Is_fenced Fencing q = elim (sender == e.home) as (λ b. old_sends (if b then s_goes S A Getting q ((e.home, New (S_get e.num e.filter)) ∷ []) else s_goes S A Fencing q []).sends ≡ []) [ true ↦ refl | false ↦ refl ]
-  row_new e sender (Has_chunks cs) Getting q = elim (sender == e.home) as (λ b. old_sends (if b then s_left S A Setting (length (without e.members e.home)) q (syncs e.num e.home e.home cs e.members) else s_goes S A Getting q []).sends ≡ []) [ true ↦ syncs_new e.num e.home e.home cs e.members | false ↦ refl ]
-  row_new e sender (Has_chunk c) (Out m) q = elim (sender == m) as (λ b. old_sends (if b then s_left S A Syncing (length (without e.members m)) q (syncs e.num e.home m (c ∷ []) e.members) else s_goes S A (Out m) q []).sends ≡ []) [ true ↦ syncs_new e.num e.home m (c ∷ []) e.members | false ↦ refl ]
+  row_new e sender (Has_chunks cs) Getting q = elim (sender == e.home) as (λ b. old_sends (if b then s_left S A Setting (length (without_number e.members e.home)) q (syncs e.num e.home e.home cs e.members) else s_goes S A Getting q []).sends ≡ []) [ true ↦ syncs_new e.num e.home e.home cs e.members | false ↦ refl ]
+  row_new e sender (Has_chunk c) (Out m) q = elim (sender == m) as (λ b. old_sends (if b then s_left S A Syncing (length (without_number e.members m)) q (syncs e.num e.home m (c ∷ []) e.members) else s_goes S A (Out m) q []).sends ≡ []) [ true ↦ syncs_new e.num e.home m (c ∷ []) e.members | false ↦ refl ]
   row_new e sender Is_synced (Setting left) q = refl
   row_new e sender Is_synced (Syncing left) q = refl
   row_new e sender (Has_packet p) ph q = refl
@@ -110,7 +110,7 @@ module _ {R : Type 0} (S : Sys R) (A : Sharing S) where
       served_new x.0 r.phase r.queue r.sends (row_new x.0 sender x.1 x.0.phase x.0.queue)
 
   chunk_new : (n p : ℕ) (t : S.B.T) → old_sends (shared_chunk S A n p t) ≡ []
-  chunk_new n p t = elim (S.B.at (S.unit_of p) t) as (λ o. old_sends (option_map_or (λ r. (1, New (S_shared n (S.unit_of p, r))) ∷ []) o []) ≡ []) [ None ↦ refl | Some r ↦ refl ]
+  chunk_new n p t = elim (S.B.at (S.packet_unit p) t) as (λ o. old_sends (option_map_or (λ r. (1, New (S_shared n (S.packet_unit p, r))) ∷ []) o []) ≡ []) [ None ↦ refl | Some r ↦ refl ]
 
   -- and so does a member
   pub member_new : (live standby : S.B.T) (m : Share_msg R) → old_sends (member_step S A live standby m).sends ≡ []
@@ -128,7 +128,7 @@ module _ {R : Type 0} (S : Sys R) (A : Sharing S) where
   member_new live standby (S_synced n) = refl
 
   -- The steps, as moves see them
-  module _ (w : Whole S A) (p : ℕ) (m : Msg R) (rest : List (Any R)) where
+  module _ (w : WholeWorld S A) (p : ℕ) (m : Msg R) (rest : List (Any R)) where
     pub inst_old : (u : units.Unit) (y : ℕ) → w.link p y ≡ Old m ∷ rest → Elsewhere S u (inst_next S (moves_of S A w) p y m) (moves_of S A (whole_inst S A w p y (Old m)))
     inst_old u y waits = record { target = refl; ops = refl; live = λ k. refl; rules = λ k. refl; link = λ i j _. olds-after w.link p y rest (as_old sent) sent (old_sends-old sent) m waits i j; done = refl }
       where
@@ -153,8 +153,8 @@ module _ {R : Type 0} (S : Sys R) (A : Sharing S) where
     pub switch_old : (u : units.Unit) → w.link p 0 ≡ Old m ∷ rest → Elsewhere S u (sw_next S (moves_of S A w) p m) (moves_of S A (whole_switch S A w p (Old m)))
     switch_old u waits = record { target = refl; ops = refl; live = λ k. refl; rules = λ k. refl; link = λ i j _. olds-after w.link p 0 rest (as_old (sw_sends m)) (sw_sends m) (old_sends-old (sw_sends m)) m waits i j; done = refl }
 
-  pub ctrl_new : (u : units.Unit) (w : Whole S A) (p : ℕ) (m : Share_msg R) (rest : List (Any R)) → w.link p 1 ≡ New m ∷ rest → Elsewhere S u (moves_of S A w) (moves_of S A (whole_ctrl S A w p (New m)))
+  pub ctrl_new : (u : units.Unit) (w : WholeWorld S A) (p : ℕ) (m : Share_msg R) (rest : List (Any R)) → w.link p 1 ≡ New m ∷ rest → Elsewhere S u (moves_of S A w) (moves_of S A (whole_ctrl S A w p (New m)))
   ctrl_new u w p m rest waits = record { target = refl; ops = refl; live = λ k. refl; rules = λ k. refl; link = λ i j _. no_olds-after w.link p 1 m rest (by_share S A w.shares p (told_by S A w.shares (New m))).sends waits (by_share_new w.shares p (told_by S A w.shares (New m))) i j; done = refl }
 
-  pub begin_old : (u : units.Unit) (w : Whole S A) (x : Want) → Elsewhere S u (begin_next S (moves_of S A w) x) (moves_of S A (begin_move S A w x))
+  pub begin_old : (u : units.Unit) (w : WholeWorld S A) (x : MoveAsked) → Elsewhere S u (begin_next S (moves_of S A w) x) (moves_of S A (begin_move S A w x))
   begin_old u w x = record { target = refl; ops = refl; live = λ k. refl; rules = λ k. refl; link = λ i j _. olds-put (w.link i j) (i == 1) j (as_old (begin_sends x.num x)) (begin_sends x.num x) (old_sends-old (begin_sends x.num x)); done = refl }

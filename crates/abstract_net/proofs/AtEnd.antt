@@ -5,12 +5,12 @@ use Rattle.std.specs.Prelude.{if◌then◌else◌, ◌&&◌, ◌==◌}
 use Rattle.std.proofs.lemmas.Bool.Decides.{nat_tests}
 use Rattle.unit_machine.proofs.Machine.{Where as Side, At_a, At_b, At_c, Ran, after, Carry, Phase, State}
 use Rattle.unit_machine.proofs.Lists.{firsts}
-use Rattle.unit_machine.proofs.Stages.{Order}
+use Rattle.unit_machine.proofs.Stages.{IsOrderedAs}
 use Rattle.unit_machine.proofs.Pairs.{Nodes, expect}
 use Rattle.unit_machine.proofs.NetViews.{items}
 use Rattle.unit_machine.proofs.Rests.{Silent, none_carried}
 use Rattle.unit_machine.proofs.Between.{At_rest_now, Rests_at, rest_at, seat_ends}
-use Rattle.unit_machine.proofs.Seats.{Seat, seat_shape, seat_all, seat_rests}
+use Rattle.unit_machine.proofs.Seats.{UnitSeat, seat_shape, seat_all, seat_rests}
 use Rattle.unit_machine.proofs.Real.{Op}
 use Rattle.abstract_net.proofs.Net.{Sys, IsSys, Open, find_op, World, seen}
 use Rattle.abstract_net.proofs.Holding.{Seeing, frame, node_at, place, Ctrl_is, Holds}
@@ -49,11 +49,11 @@ module _ {R : Type 0} (S : Sys R) (laws : IsSys S) (u : units.Unit) (n : ℕ) (w
     pub none : w.target u < n → left ≡ []
     pub live : S.B.at u (w.inst (w.target u)).live ≡ after S.F ran
     pub done : done_u S u w.done ≡ firsts ran
-    pub order : Order flag (firsts ran ++ left) ps
+    pub order : IsOrderedAs flag (firsts ran ++ left) ps
     pub flag_is : flag ≡ true → c ≡ true
 
   module _ (some : 2 ≤ n) (quiet : (i j : ℕ) → i < n → j < n → (i == 0) && (j == 0) ≡ false → w.link i j ≡ []) where
-    rest_end : (ps : List ℕ) (c : Bool) (owner : ℕ) (d : List Ran) (l : List ℕ) (b : Bool) → Rest S u w owner d l → Order b (firsts d ++ l) ps → (b ≡ true → c ≡ true) → At_end ps c
+    rest_end : (ps : List ℕ) (c : Bool) (owner : ℕ) (d : List Ran) (l : List ℕ) (b : Bool) → Rest S u w owner d l → IsOrderedAs b (firsts d ++ l) ps → (b ≡ true → c ≡ true) → At_end ps c
     rest_end ps c owner d l b h o e =
         let two = h.two in
         let self : (owner == owner) ≡ true = grind (arith, nat_tests) in
@@ -125,7 +125,7 @@ module _ {R : Type 0} (S : Sys R) (laws : IsSys S) (u : units.Unit) (n : ℕ) (w
       place_two At_b = nodes.b_is
       place_two At_c = nodes.c_is
 
-    side_end : (ps : List ℕ) (c : Bool) (o : Op) (third : ℕ) (side : Side) (d : List Ran) (l : List ℕ) (phase : Phase R) (k b : Bool) → Holds S (see S laws u o third) w (rest_at S.F side d l phase k) → o.src < n → o.dst < n → Order b (firsts d ++ l) ps → (b ≡ true → c ≡ true) → At_end ps c
+    side_end : (ps : List ℕ) (c : Bool) (o : Op) (third : ℕ) (side : Side) (d : List Ran) (l : List ℕ) (phase : Phase R) (k b : Bool) → Holds S (see S laws u o third) w (rest_at S.F side d l phase k) → o.src < n → o.dst < n → IsOrderedAs b (firsts d ++ l) ps → (b ≡ true → c ≡ true) → At_end ps c
     side_end ps c o third side d l phase k b h src dst ordered e =
         let z = see S laws u o third in
         let at : w.target u ≡ place S z side = h.target ∙ ap (place S z) (target_at z d l phase k h.nodes side) in
@@ -141,11 +141,11 @@ module _ {R : Type 0} (S : Sys R) (laws : IsSys S) (u : units.Unit) (n : ℕ) (w
           flag_is = e;
         }
 
-    move_end : (ps : List ℕ) (c : Bool) (o : Op) (third : ℕ) (s : Seat S.F) (b : Bool) → Holds S (see S laws u o third) w (seat_shape S.F s) → o.src < n → o.dst < n → Order b (seat_all s) ps → (b ≡ true → c ≡ true) → At_end ps c
+    move_end : (ps : List ℕ) (c : Bool) (o : Op) (third : ℕ) (s : UnitSeat S.F) (b : Bool) → Holds S (see S laws u o third) w (seat_shape S.F s) → o.src < n → o.dst < n → IsOrderedAs b (seat_all s) ps → (b ≡ true → c ≡ true) → At_end ps c
     move_end ps c o third s b h src dst ordered e = by_rest (seat_ends S.F s (seat_rests S.F s (is_silent (see S laws u o third) (seat_shape S.F s) h src dst)))
       where
         by_rest : At_rest_now S.F (seat_shape S.F s) (seat_all s) → At_end ps c
-        by_rest (Rests_at side d l phase k is all) = side_end ps c o third side d l phase k b (subst (λ x. Holds S (see S laws u o third) w x) is h) src dst (subst (λ v. Order b v ps) all ordered) e
+        by_rest (Rests_at side d l phase k is all) = side_end ps c o third side d l phase k b (subst (λ x. Holds S (see S laws u o third) w x) is h) src dst (subst (λ v. IsOrderedAs b v ps) all ordered) e
 
     -- wherever the unit is
     pub at_end : ((k : ℕ) (e : Open R) → find_op w.ops k ≡ Some e → (e.op.src < n) × (e.op.dst < n)) → (ps : List ℕ) (c : Bool) → Where S laws u w ps c → At_end ps c

@@ -138,11 +138,11 @@ module _ {R : Type 0} (S : Sys R) (laws : IsSys S) where
       ] refl
 
   -- an event that comes is one of an open move
-  pub event_open : (w : World S) (i n p : ℕ) (ps : List ℕ) (b : Bool) → Where S laws (S.unit_of p) w ps b → (g : Filter) (rest : List (Msg R)) → w.link i 1 ≡ Mv g (M_event n p) ∷ rest → find_op w.ops n ≡ None → ⊥
+  pub event_open : (w : World S) (i n p : ℕ) (ps : List ℕ) (b : Bool) → Where S laws (S.packet_unit p) w ps b → (g : Filter) (rest : List (Msg R)) → w.link i 1 ≡ Mv g (M_event n p) ∷ rest → find_op w.ops n ≡ None → ⊥
   event_open w i n p ps bared here g rest waits none = by_where here
     where
       u : units.Unit
-      u = S.unit_of p
+      u = S.packet_unit p
 
       self : same_unit u u ≡ true
       self = same_unit_equiv.refl u

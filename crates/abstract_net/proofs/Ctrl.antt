@@ -7,7 +7,7 @@ use Rattle.std.proofs.lemmas.Option.{same_Some}
 use Rattle.unit_machine.proofs.Machine.{Where, At_a, At_b, Item, Enable, Stream, Delete, Put, Restore, Fence_to, Install, Stray, C_did, goes, from_a, from_b}
 use Rattle.unit_machine.proofs.Real as Real
 use Rattle.unit_machine.proofs.Real.{record_at, M_enable, M_stream, M_delete, M_put, M_restore, M_enabled, M_event, M_piece, M_deleted, M_put_ok, M_put_no, M_restored, M_fenced, M_forward, M_install, M_fence_to, RPhase, R_over, Op, r_goes, r_from_a, r_from_b, where_true, see, sends_to, only_mine, see_phase, Sees}
-use Rattle.unit_machine.proofs.Seen.{Apart, frame_of, quiet, did_a, did_b, from_a_seen, from_b_seen}
+use Rattle.unit_machine.proofs.Seen.{NodesDiffer, frame_of, quiet, did_a, did_b, from_a_seen, from_b_seen}
 use Rattle.unit_machine.proofs.Labels.{Each}
 use Rattle.abstract_net.proofs.Net.{Open, find_op, set_op, close_op, write_op, num_of}
 use Rattle.nf_function.specs.declared.unit.Unit as units
@@ -66,7 +66,7 @@ each_found P k (x ∷ es) e h there = elim (x.op.num == k) as (λ b. (x.op.num =
 ] refl there
 
 -- a row of a move on each message that bears its number, also on those that it doesn't know
-module _ {R : Type 0} (o : Op) (mine : ℕ → Bool) (u : units.Unit) (t : Apart o) where
+module _ {R : Type 0} (o : Op) (mine : ℕ → Bool) (u : units.Unit) (t : NodesDiffer o) where
   its_num : (k : ℕ) (it : Item R) → k ≡ o.num → where_true (k == o.num) it ≡ Some it
   its_num k it e = let n = t.num in rw (e, n) refl
 

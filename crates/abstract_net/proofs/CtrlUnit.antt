@@ -7,7 +7,7 @@ use Rattle.std.proofs.lemmas.Option.{same_Some}
 use Rattle.unit_machine.proofs.Machine.{Item, Carry, Pass, Fence, Forward, State, Phase, C_did, goes, from_a, from_b}
 use Rattle.unit_machine.proofs.Real as Real
 use Rattle.unit_machine.proofs.Real.{M_enable, M_stream, M_delete, M_put, M_restore, M_enabled, M_event, M_piece, M_deleted, M_put_ok, M_put_no, M_restored, M_fenced, M_forward, M_install, M_fence_to, RPhase, R_over, Op, Op_did, r_goes, r_from_a, r_from_b, Frame, where_true, add, view, only_mine, see_phase, sent_for, sends_to, Sees}
-use Rattle.unit_machine.proofs.Seen.{Apart, quiet, did_a, did_b}
+use Rattle.unit_machine.proofs.Seen.{NodesDiffer, quiet, did_a, did_b}
 use Rattle.unit_machine.proofs.Labels.{Each, Foreign, Sent_foreign, Clean, Stays_clean, from_a_clean, from_b_clean}
 use Rattle.unit_machine.proofs.Quiet.{Is_quiet, Not_mine, view_nothing, from_a_quiet, from_b_quiet}
 use Rattle.unit_machine.proofs.NetViews.{items}
@@ -54,14 +54,14 @@ module _ {R : Type 0} (S : Sys R) (z : Seeing) where
   unseen_if : (b : Bool) (it : Item R) → b ≡ false → where_true b it ≡ None
   unseen_if b it e = rw e refl
 
-  not_mine : (g : Filter) (k p : ℕ) → (k == n) ≡ false → Mv_label S z g (M_event k p) → (same_unit (S.unit_of p) z.unit) ≡ false
-  not_mine g k p off l = elim (same_unit (S.unit_of p) z.unit) as (λ b. (b ≡ true → (k == n) ≡ true) → b ≡ false) [ true ↦ λ f. let both : false ≡ true = sym off ∙ f refl in cc | false ↦ λ _. refl ] l
+  not_mine : (g : Filter) (k p : ℕ) → (k == n) ≡ false → Mv_label S z g (M_event k p) → (same_unit (S.packet_unit p) z.unit) ≡ false
+  not_mine g k p off l = elim (same_unit (S.packet_unit p) z.unit) as (λ b. (b ≡ true → (k == n) ≡ true) → b ≡ false) [ true ↦ λ f. let both : false ≡ true = sym off ∙ f refl in cc | false ↦ λ _. refl ] l
 
   k_off : (j k : ℕ) → Some j ≡ Some k → (k == n) ≡ false → (j == n) ≡ false
   k_off j k e off = let same : j ≡ k = same_Some _ _ e in rw same off
 
   unseen_other : (g : Filter) (k : ℕ) (m : Real.Msg R) → num_of m ≡ Some k → (k == n) ≡ false → Mv_label S z g m → Real.seen fr m ≡ None
-  unseen_other g k (M_event j p) e off l = unseen_if (same_unit (S.unit_of p) z.unit) _ (not_mine g j p (k_off j k e off) l)
+  unseen_other g k (M_event j p) e off l = unseen_if (same_unit (S.packet_unit p) z.unit) _ (not_mine g j p (k_off j k e off) l)
   unseen_other g k (M_forward p to) e off l = none_some e
   unseen_other g k (M_enable j r) e off l = unseen_if (j == n) _ (k_off j k e off)
   unseen_other g k (M_stream j) e off l = unseen_if (j == n) _ (k_off j k e off)
@@ -105,7 +105,7 @@ module _ {R : Type 0} (S : Sys R) (z : Seeing) where
         | false ↦ elim (port == o.dst) as (λ b. Stays_clean z.unit (if b then r_from_b o ph f m else r_goes ph f [])) [ true ↦ from_b_clean z.unit o ph f m c w | false ↦ (c, tt) ]
       ]
 
-  module _ (es : List (Open R)) (x : State R) (apart : Apart z.op) (labs : Each (Op_label S z) es) (is : Ctrl_is S z (find_op es n) x) where
+  module _ (es : List (Open R)) (x : State R) (apart : NodesDiffer z.op) (labs : Each (Op_label S z) es) (is : Ctrl_is S z (find_op es n) x) where
     pub record Ctrl_does (c : C_step R) (d : C_did R) : Type 0 where
       pub ops : Each (Op_label S z) c.ops
       pub ctrl : (x' : State R) → x'.phase ≡ d.phase → x'.store ≡ d.store → x'.keep ≡ x.keep → Ctrl_is S z (find_op c.ops n) x'
@@ -166,24 +166,24 @@ module _ {R : Type 0} (S : Sys R) (z : Seeing) where
     mdid a b ph f None = goes ph f
     mdid a b ph f (Some it) = if a then from_a ph f it else if b then from_b z.op.keep ph f it else goes ph f
 
-    conv_a : (b : Bool) (did : Op_did R) (ph : RPhase R) (f : List ℕ) (o : Option (Item R)) → Sees fr did (did_a z.op (λ p. same_unit (S.unit_of p) z.unit) z.unit apart ph f o) → Sees fr did (mdid true b (see_phase fr ph) (only_mine fr f) o)
+    conv_a : (b : Bool) (did : Op_did R) (ph : RPhase R) (f : List ℕ) (o : Option (Item R)) → Sees fr did (did_a z.op (λ p. same_unit (S.packet_unit p) z.unit) z.unit apart ph f o) → Sees fr did (mdid true b (see_phase fr ph) (only_mine fr f) o)
     conv_a b did ph f None s = s
     conv_a b did ph f (Some it) s = s
 
-    conv_b : (did : Op_did R) (ph : RPhase R) (f : List ℕ) (o : Option (Item R)) → Sees fr did (did_b z.op (λ p. same_unit (S.unit_of p) z.unit) z.unit apart ph f o) → Sees fr did (mdid false true (see_phase fr ph) (only_mine fr f) o)
+    conv_b : (did : Op_did R) (ph : RPhase R) (f : List ℕ) (o : Option (Item R)) → Sees fr did (did_b z.op (λ p. same_unit (S.packet_unit p) z.unit) z.unit apart ph f o) → Sees fr did (mdid false true (see_phase fr ph) (only_mine fr f) o)
     conv_b did ph f None s = s
     conv_b did ph f (Some it) s = s
 
     conv_0 : (ph : RPhase R) (f : List ℕ) (o : Option (Item R)) → Sees fr (r_goes ph f []) (mdid false false (see_phase fr ph) (only_mine fr f) o)
-    conv_0 ph f None = quiet z.op (λ p. same_unit (S.unit_of p) z.unit) z.unit apart ph f
-    conv_0 ph f (Some it) = quiet z.op (λ p. same_unit (S.unit_of p) z.unit) z.unit apart ph f
+    conv_0 ph f None = quiet z.op (λ p. same_unit (S.packet_unit p) z.unit) z.unit apart ph f
+    conv_0 ph f (Some it) = quiet z.op (λ p. same_unit (S.packet_unit p) z.unit) z.unit apart ph f
 
     own_sees : (ph : RPhase R) (f : List ℕ) (port : ℕ) (m : Real.Msg R) → num_of m ≡ Some n → Sees fr (row_of z.op ph f port m) (mdid (port == z.op.src) (port == z.op.dst) (see_phase fr ph) (only_mine fr f) (Real.seen fr m))
     own_sees ph f port m num =
         elim (port == z.op.src) as (λ a. Sees fr (if a then r_from_a z.op ph f m else if port == z.op.dst then r_from_b z.op ph f m else r_goes ph f []) (mdid a (port == z.op.dst) (see_phase fr ph) (only_mine fr f) (Real.seen fr m))) [
-          | true ↦ conv_a (port == z.op.dst) (r_from_a z.op ph f m) ph f (Real.seen fr m) (ext_a z.op (λ p. same_unit (S.unit_of p) z.unit) z.unit apart ph f m num)
+          | true ↦ conv_a (port == z.op.dst) (r_from_a z.op ph f m) ph f (Real.seen fr m) (ext_a z.op (λ p. same_unit (S.packet_unit p) z.unit) z.unit apart ph f m num)
           | false ↦ elim (port == z.op.dst) as (λ b. Sees fr (if b then r_from_b z.op ph f m else r_goes ph f []) (mdid false b (see_phase fr ph) (only_mine fr f) (Real.seen fr m))) [
-            | true ↦ conv_b (r_from_b z.op ph f m) ph f (Real.seen fr m) (ext_b z.op (λ p. same_unit (S.unit_of p) z.unit) z.unit apart ph f m num)
+            | true ↦ conv_b (r_from_b z.op ph f m) ph f (Real.seen fr m) (ext_b z.op (λ p. same_unit (S.packet_unit p) z.unit) z.unit apart ph f m num)
             | false ↦ conv_0 ph f (Real.seen fr m)
           ]
         ]
@@ -208,7 +208,7 @@ module _ {R : Type 0} (S : Sys R) (z : Seeing) where
     as_stay {c = c} e h = subst (λ d. Ctrl_does c d) (sym e) h
 
     no_num : (a b : Bool) (m : Real.Msg R) → num_of m ≡ None → mdid a b x.phase x.store (Real.seen fr m) ≡ stay
-    no_num a b (M_forward p to) e = idle_if a b (fr.mine p) (sends_to fr to (λ w. Forward w p)) (idle_side z.op (λ p. same_unit (S.unit_of p) z.unit) z.unit apart (to == fr.from) (to == fr.to) (λ w. Forward w p) (from_a x.phase x.store) stay (λ _. refl) refl) (idle_side z.op (λ p. same_unit (S.unit_of p) z.unit) z.unit apart (to == fr.from) (to == fr.to) (λ w. Forward w p) (from_b z.op.keep x.phase x.store) stay (λ _. refl) refl)
+    no_num a b (M_forward p to) e = idle_if a b (fr.mine p) (sends_to fr to (λ w. Forward w p)) (idle_side z.op (λ p. same_unit (S.packet_unit p) z.unit) z.unit apart (to == fr.from) (to == fr.to) (λ w. Forward w p) (from_a x.phase x.store) stay (λ _. refl) refl) (idle_side z.op (λ p. same_unit (S.packet_unit p) z.unit) z.unit apart (to == fr.from) (to == fr.to) (λ w. Forward w p) (from_b z.op.keep x.phase x.store) stay (λ _. refl) refl)
     no_num a b (M_enable j r) e = none_some (sym e)
     no_num a b m e = none_some (sym e)
 

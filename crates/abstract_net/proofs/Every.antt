@@ -8,7 +8,7 @@ use Rattle.unit_machine.proofs.Cuts.{marks, chop}
 use Rattle.unit_machine.proofs.Labels.{Each, each-append, each_map}
 use Rattle.unit_machine.proofs.SeenInst.{r_put}
 use Rattle.flow_filter.specs.declared.filter.Filter.{Filter}
-use Rattle.abstract_net.proofs.Net.{inst_next, ctrl_next, sw_next, in_next, begin_next, Msg, In_packet, Asked, Carry_on, Pass_on, Fence_on, Mv, Want, Sys, IsSys, Ruling, first_rule, set_rule, hold, holding, drop_rule, to_ctrl, Inst_n, by_kind, by_rule, inst_step, Open, find_op, num_of, row, wrap, found, numbered, ctrl_step, sw_sends, new_op, begin_sends, World}
+use Rattle.abstract_net.proofs.Net.{inst_next, ctrl_next, sw_next, in_next, begin_next, Msg, In_packet, Asked, Carry_on, Pass_on, Fence_on, Mv, MoveAsked, Sys, IsSys, Ruling, first_rule, set_rule, hold, holding, drop_rule, to_ctrl, Inst_n, by_kind, by_rule, inst_step, Open, find_op, num_of, row, wrap, found, numbered, ctrl_step, sw_sends, new_op, begin_sends, World}
 use Rattle.abstract_net.proofs.RuleLists.{each-change, each_set}
 use Rattle.abstract_net.proofs.Holding.{EachSent}
 use Rattle.abstract_net.proofs.Links.{each_after, each_put}
@@ -48,9 +48,9 @@ module _ {R : Type 0} (S : Sys R) (laws : IsSys S) where
     kind_below i p n Drops e h = ((e, tt), h)
     kind_below i p n Buffers e h = (tt, rules_hold n p i.rules h)
 
-    carry_below : (i : Inst_n S) (p : ℕ) (o : Option Ruling) → first_rule S (S.unit_of p) i.rules ≡ o → Rules_below i.rules → Sends_below (by_rule S i p o).sends × Rules_below (by_rule S i p o).node.rules
+    carry_below : (i : Inst_n S) (p : ℕ) (o : Option Ruling) → first_rule S (S.packet_unit p) i.rules ≡ o → Rules_below i.rules → Sends_below (by_rule S i p o).sends × Rules_below (by_rule S i p o).node.rules
     carry_below i p None e h = (tt, h)
-    carry_below i p (Some r) e h = kind_below i p r.num r.rule (first_below (S.unit_of p) i.rules r h e) h
+    carry_below i p (Some r) e h = kind_below i p r.num r.rule (first_below (S.packet_unit p) i.rules r h e) h
 
     pieces_below : (n : ℕ) (ps : List (RPiece R)) → n < b → Sends_below (map to_ctrl (map (λ p. M_piece n p) ps))
     pieces_below n [] e = tt
@@ -63,7 +63,7 @@ module _ {R : Type 0} (S : Sys R) (laws : IsSys S) where
     put_below i n p true (Some why) last e h = (h, tt)
 
     inst_below : (i : Inst_n S) (m : Msg R) → Below b m → Rules_below i.rules → Sends_below (inst_step S i m).sends × Rules_below (inst_step S i m).node.rules
-    inst_below i (Carry_on p) e h = carry_below i p (first_rule S (S.unit_of p) i.rules) refl h
+    inst_below i (Carry_on p) e h = carry_below i p (first_rule S (S.packet_unit p) i.rules) refl h
     inst_below i (Pass_on p) e h = (tt, h)
     inst_below i (Fence_on n) e h = ((e, tt), rules_drop n i.rules h)
     inst_below i (Mv g (M_enable n k)) e h = ((e, tt), rules_set n g k i.rules e h)
@@ -143,7 +143,7 @@ module _ {R : Type 0} (S : Sys R) (laws : IsSys S) where
       record { messages = each_after (λ _ _ x. Below w.next x) w.link p 0 (sw_sends m) g.messages (sw_below w.next m (head_below w p 0 m rest g off waits)); rules = g.rules; ops = g.ops }
 
   pub input_global : (w : World S) → Global S w → (q : ℕ) → Global S (in_next S w q)
-  input_global w g q = record { messages = each_put (λ _ _ x. Below w.next x) w.link 0 ((w.target (S.unit_of q), Carry_on q) ∷ []) g.messages (tt, tt); rules = g.rules; ops = g.ops }
+  input_global w g q = record { messages = each_put (λ _ _ x. Below w.next x) w.link 0 ((w.target (S.packet_unit q), Carry_on q) ∷ []) g.messages (tt, tt); rules = g.rules; ops = g.ops }
 
   -- the next number grows
   below_num_more : (a b : ℕ) → a ≤ b → (o : Option ℕ) → Below_num a o → Below_num b o
@@ -165,7 +165,7 @@ module _ {R : Type 0} (S : Sys R) (laws : IsSys S) where
     ops = each_map (λ x k. omega (arith, k, few)) w.ops g.ops;
   }
 
-  pub begin_global : (w : World S) → Global S w → (x : Want) → w.next ≤ x.num → Global S (begin_next S w x)
+  pub begin_global : (w : World S) → Global S w → (x : MoveAsked) → w.next ≤ x.num → Global S (begin_next S w x)
   begin_global w g x fresh =
       let more = global_more w g (suc x.num) (omega (arith, fresh)) in
       record {
@@ -209,27 +209,27 @@ module _ {R : Type 0} (S : Sys R) (laws : IsSys S) where
     unit = λ u. switch_where S laws u w (arrived u) (bared u) (after u) h.global p m rest p0 waits (grows u) (hands u) (h.unit u);
   }
 
-  pub input_every : (w : World S) (arrived : units.Unit → List ℕ) (bared : units.Unit → Bool) → Every w arrived bared → (q : ℕ) → Every (in_to w q) (λ u. arrived u ++ (if same_unit (S.unit_of q) u then q ∷ [] else [])) bared
+  pub input_every : (w : World S) (arrived : units.Unit → List ℕ) (bared : units.Unit → Bool) → Every w arrived bared → (q : ℕ) → Every (in_to w q) (λ u. arrived u ++ (if same_unit (S.packet_unit q) u then q ∷ [] else [])) bared
   input_every w arrived bared h q = record {
     global = input_global w h.global q;
     unit = λ u. input_where S laws u w (arrived u) (bared u) h.global q (h.unit u);
   }
 
   -- a command goes from the input to the controller
-  abbrev pub said : World S → Want → World S
+  abbrev pub said : World S → MoveAsked → World S
   said w x = record w { link = λ i j. w.link i j ++ (if i == 0 then sent_for j ((1, Asked x) ∷ []) else []) }
 
-  pub said_every : (w : World S) (arrived : units.Unit → List ℕ) (bared : units.Unit → Bool) → Every w arrived bared → (x : Want) → Every (said w x) arrived bared
+  pub said_every : (w : World S) (arrived : units.Unit → List ℕ) (bared : units.Unit → Bool) → Every w arrived bared → (x : MoveAsked) → Every (said w x) arrived bared
   said_every w arrived bared h x = record {
     global = record { messages = each_put (λ _ _ m. Below w.next m) w.link 0 ((1, Asked x) ∷ []) h.global.messages (tt, tt); rules = h.global.rules; ops = h.global.ops };
     unit = λ u. put_where S laws u w (arrived u) (bared u) h.global 0 1 (Asked x) (λ z. refl) (λ z. tt) (h.unit u);
   }
 
   -- a move begins
-  abbrev pub begins : World S → Want → World S
+  abbrev pub begins : World S → MoveAsked → World S
   begins w x = begin_next S w x
 
-  pub begin_every : (w : World S) (arrived : units.Unit → List ℕ) (bared : units.Unit → Bool) → Every w arrived bared → (x : Want) → May S w x → Every (begins w x) arrived bared
+  pub begin_every : (w : World S) (arrived : units.Unit → List ℕ) (bared : units.Unit → Bool) → Every w arrived bared → (x : MoveAsked) → May S w x → Every (begins w x) arrived bared
   begin_every w arrived bared h x may = record {
     global = begin_global w h.global x may.fresh;
     unit = λ u. begin_where S laws u w (arrived u) (bared u) x h.global (record { fresh = may.fresh; src = may.src; dst = may.dst; other = may.other; apart = may.apart }) (h.unit u);

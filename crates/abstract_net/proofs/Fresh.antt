@@ -4,7 +4,7 @@ use Rattle.std.specs.Prelude.{◌==◌}
 use Rattle.unit_machine.proofs.Machine.{At_a, At_b, Where as Side, Part, Inst, Did, sends as did_sends, inst_does, Item, State, after}
 use Rattle.unit_machine.proofs.Lists.{firsts}
 use Rattle.unit_machine.proofs.Pairs.{Shown_by, By_sa, By_sb, By_sc, By_ca, By_cb, By_ac, By_bc, By_cc, By_cs, shown_by}
-use Rattle.unit_machine.proofs.Seats.{Seat, seat_shape}
+use Rattle.unit_machine.proofs.Seats.{UnitSeat, seat_shape}
 use Rattle.unit_machine.proofs.Fresh.{still_ca, still_cb, still_ran, fresh_sa, fresh_sb, fresh_sc}
 use Rattle.unit_machine.proofs.NetViews.{items}
 use Rattle.abstract_net.proofs.Net.{Msg, Sys, IsSys, I_did, World, inst_step, seen}
@@ -23,7 +23,7 @@ falsely : false ≡ true → ⊥
 falsely e = cc
 
 module _ {R : Type 0} (S : Sys R) (laws : IsSys S) (z : Seeing) where
-  module _ (w : World S) (s : Seat S.F) (h : Holds S z w (seat_shape S.F s)) (p y : ℕ) (m : Msg R) (rest : List (Msg R)) (y0 : (y == 0) ≡ false) (y1 : (y == 1) ≡ false) (waits : w.link p y ≡ m ∷ rest) where
+  module _ (w : World S) (s : UnitSeat S.F) (h : Holds S z w (seat_shape S.F s)) (p y : ℕ) (m : Msg R) (rest : List (Msg R)) (y0 : (y == 0) ≡ false) (y1 : (y == 1) ≡ false) (waits : w.link p y ≡ m ∷ rest) where
     abbrev x : State R
     x = seat_shape S.F s
 

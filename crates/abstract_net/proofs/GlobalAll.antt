@@ -9,7 +9,7 @@ use Rattle.flow_filter.specs.declared.filter.Filter.{Filter}
 use Rattle.abstract_net.proofs.Net.{Sys, find_op}
 use Rattle.abstract_net.proofs.Rest.{Global}
 use Rattle.abstract_net.proofs.ShareLists.{Nums_apart}
-use Rattle.abstract_net.proofs.Shares.{Share_msg, Share_msg.Shared_on, Share_msg.Diverted_on, Share_msg.S_asked, Share_msg.S_install, Share_msg.S_forward, Share_msg.S_get, Share_msg.S_sync, Share_msg.S_chunks, Share_msg.S_shared, Share_msg.S_synced, Each_new, same, Sharing, Open_share, find_share, share_taking, Whole, moves_of}
+use Rattle.abstract_net.proofs.Shares.{Share_msg, Share_msg.Shared_on, Share_msg.Diverted_on, Share_msg.S_asked, Share_msg.S_install, Share_msg.S_forward, Share_msg.S_get, Share_msg.S_sync, Share_msg.S_chunks, Share_msg.S_shared, Share_msg.S_synced, Each_new, same, Sharing, Open_share, find_share, share_taking, WholeWorld, moves_of}
 use Rattle.nf_function.specs.declared.unit.Unit as units
 
 -- an open share with the number, of which something holds
@@ -41,11 +41,11 @@ module _ {R : Type 0} (S : Sys R) where
 
   -- on a link to node j
   abbrev pub Of_share : List Open_share → ℕ → Share_msg R → Type 0
-  Of_share es j (Shared_on n home p) = Opened es n (λ e. (S.takes e.filter (S.unit_of p) ≡ true) × (same home (j == e.home) ≡ true))
-  Of_share es j (Diverted_on p) = (j ≡ 1) × Takes_some es (S.unit_of p)
+  Of_share es j (Shared_on n home p) = Opened es n (λ e. (S.takes e.filter (S.packet_unit p) ≡ true) × (same home (j == e.home) ≡ true))
+  Of_share es j (Diverted_on p) = (j ≡ 1) × Takes_some es (S.packet_unit p)
   Of_share es j (S_asked x) = Unit {0}
   Of_share es j (S_install n g from) = Opened es n (λ e. (g ≡ e.filter) × (from ≡ e.home))
-  Of_share es j (S_forward n home p to) = Opened es n (λ e. (S.takes e.filter (S.unit_of p) ≡ true) × (has e.members to ≡ true) × (same home (to == e.home) ≡ true))
+  Of_share es j (S_forward n home p to) = Opened es n (λ e. (S.takes e.filter (S.packet_unit p) ≡ true) × (has e.members to ≡ true) × (same home (to == e.home) ≡ true))
   Of_share es j (S_get n g) = (e : Open_share) → find_share es n ≡ Some e → (g ≡ e.filter) × (j ≡ e.home)
   Of_share es j (S_sync n home cs) = Opened es n (λ e. Within e.filter cs × (same home (j == e.home) ≡ true))
   Of_share es j (S_chunks n cs) = (e : Open_share) → find_share es n ≡ Some e → Within e.filter cs
@@ -53,7 +53,7 @@ module _ {R : Type 0} (S : Sys R) where
   Of_share es j (S_synced n) = Opened es n (λ e. Unit {0})
 
   module _ (A : Sharing S) where
-    pub record Global_all (w : Whole S A) : Type 0 where
+    pub record Global_all (w : WholeWorld S A) : Type 0 where
       pub moves : Global S (moves_of S A w)
       pub messages : (i j : ℕ) → (i == 0) && (j == 0) ≡ false → Each_new (Of_share w.shares j) (w.link i j)
       pub numbers : (i j : ℕ) → (i == 0) && (j == 0) ≡ false → Each_new (Numbered w.next) (w.link i j)
@@ -63,4 +63,4 @@ module _ {R : Type 0} (S : Sys R) where
       pub one_kind : (n : ℕ) → (find_op w.ops n ≡ None) ⊎ (find_share w.shares n ≡ None)
       pub apart_moves : Each (λ e. Each (λ o. Disjoint e.filter o.filter) w.ops) w.shares
       pub apart : (n k : ℕ) (d e : Open_share) → find_share w.shares n ≡ Some d → find_share w.shares k ≡ Some e → (n == k) ≡ false → Disjoint d.filter e.filter
-      pub queues : Each (λ e. Each (λ p. S.takes e.filter (S.unit_of p) ≡ true) e.queue) w.shares
+      pub queues : Each (λ e. Each (λ p. S.takes e.filter (S.packet_unit p) ≡ true) e.queue) w.shares

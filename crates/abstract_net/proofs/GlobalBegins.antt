@@ -6,7 +6,7 @@ use Rattle.std.proofs.lemmas.Bool.Decides.{nat_tests, Decides-eqb}
 use Rattle.share_machine.proofs.Lists.{self}
 use Rattle.unit_machine.proofs.Labels.{Each, each-append, each_map}
 use Rattle.flow_filter.specs.declared.filter.Filter.{Filter}
-use Rattle.abstract_net.proofs.Net.{Asked, Want, Sys, IsSys, Open, find_op, new_op, meets_any, begin_sends, begin_next}
+use Rattle.abstract_net.proofs.Net.{Asked, MoveAsked, Sys, IsSys, Open, find_op, new_op, meets_any, begin_sends, begin_next}
 use Rattle.abstract_net.proofs.Links.{each_put}
 use Rattle.abstract_net.proofs.Rest.{Below}
 use Rattle.abstract_net.proofs.Every.{begin_global, global_more}
@@ -16,7 +16,7 @@ use Rattle.abstract_net.proofs.ShareLists.{find_old, find_new}
 use Rattle.abstract_net.proofs.GlobalAll.{Numbered, Disjoint, disjoint_sym, Of_share, Global_all}
 use Rattle.abstract_net.proofs.GlobalShares.{nums_more, not_yet, ops_not_yet, ops_old, of_share_more}
 use Rattle.abstract_net.proofs.GlobalSteps.{global_as}
-use Rattle.abstract_net.proofs.Shares.{Any, Any.Old, Any.New, Share_msg, Share_msg.Shared_on, Share_msg.Diverted_on, Share_msg.S_asked, Share_msg.S_install, Share_msg.S_forward, Share_msg.S_get, Share_msg.S_sync, Share_msg.S_chunks, Share_msg.S_shared, Share_msg.S_synced, Want_share, olds, as_old, Sharing, Open_share, new_share, find_share, Whole, moves_of, asks, begin_move, begin_share, puts_get, keeps, meets_shares, May_share}
+use Rattle.abstract_net.proofs.Shares.{Any, Any.Old, Any.New, Share_msg, Share_msg.Shared_on, Share_msg.Diverted_on, Share_msg.S_asked, Share_msg.S_install, Share_msg.S_forward, Share_msg.S_get, Share_msg.S_sync, Share_msg.S_chunks, Share_msg.S_shared, Share_msg.S_synced, Want_share, olds, as_old, Sharing, Open_share, new_share, find_share, WholeWorld, moves_of, asks, begin_move, begin_share, puts_get, keeps, meets_shares, May_share}
 
 module _ {R : Type 0} (S : Sys R) (A : Sharing S) (laws : IsSys S) where
   -- filters that don't meet take no unit together
@@ -41,14 +41,14 @@ module _ {R : Type 0} (S : Sys R) (A : Sharing S) (laws : IsSys S) where
   numbered_more a b few (S_shared n c) h = tt
   numbered_more a b few (S_synced n) h = tt
 
-  numbers_more : (w : Whole S A) → Global_all S A w → (b : ℕ) → w.next ≤ b → (i j : ℕ) → (i == 0) && (j == 0) ≡ false → Rattle.abstract_net.proofs.Shares.Each_new (Numbered b) (w.link i j)
+  numbers_more : (w : WholeWorld S A) → Global_all S A w → (b : ℕ) → w.next ≤ b → (i j : ℕ) → (i == 0) && (j == 0) ≡ false → Rattle.abstract_net.proofs.Shares.Each_new (Numbered b) (w.link i j)
   numbers_more w g b few i j off = each_new_map (Numbered w.next) (Numbered b) (numbered_more w.next b few) (w.link i j) (g.numbers i j off)
 
-  shares_more : (w : Whole S A) → Global_all S A w → (b : ℕ) → w.next ≤ b → Each (λ e. e.num < b) w.shares
+  shares_more : (w : WholeWorld S A) → Global_all S A w → (b : ℕ) → w.next ≤ b → Each (λ e. e.num < b) w.shares
   shares_more w g b few = each_map (λ e h. omega (arith, h, few)) w.shares g.shares_below
 
   -- a move begins, whose filter meets no open share's
-  pub begin_keeps : (w : Whole S A) → Global_all S A w → (x : Want) → w.next ≤ x.num → meets_shares S A x.filter w.shares ≡ false → Global_all S A (begin_move S A w x)
+  pub begin_keeps : (w : WholeWorld S A) → Global_all S A w → (x : MoveAsked) → w.next ≤ x.num → meets_shares S A x.filter w.shares ≡ false → Global_all S A (begin_move S A w x)
   begin_keeps w g x fresh meets =
       let few : w.next ≤ suc x.num = omega (arith, fresh) in
       record {
@@ -74,7 +74,7 @@ module _ {R : Type 0} (S : Sys R) (A : Sharing S) (laws : IsSys S) where
       both (e ∷ es) a b = (each-append (λ o. Disjoint S e.filter o.filter) w.ops (new_op x.num x ∷ []) a.0 (disjoint_sym S x.filter e.filter b.0, tt), both es a.1 b.1)
 
   -- a share begins
-  pub share_keeps : (w : Whole S A) → Global_all S A w → (x : Want_share) → May_share S A w x → Global_all S A (begin_share S A w x)
+  pub share_keeps : (w : WholeWorld S A) → Global_all S A w → (x : Want_share) → May_share S A w x → Global_all S A (begin_share S A w x)
   share_keeps w g x may =
       let fresh = may.fresh in
       let two = may.two in
@@ -95,7 +95,7 @@ module _ {R : Type 0} (S : Sys R) (A : Sharing S) (laws : IsSys S) where
         one_kind = λ n. by_num n (x.num == n) refl (g.one_kind n);
         apart_moves = each-append (λ e. Each (λ o. Disjoint S e.filter o.filter) w.ops) w.shares (new_share x ∷ []) g.apart_moves (meets_no_move x.filter w.ops may.moves_apart, tt);
         apart = λ n k d e a b off. by_both n k d e off (x.num == n) refl (x.num == k) refl a b;
-        queues = each-append (λ e. Each (λ p. S.takes e.filter (S.unit_of p) ≡ true) e.queue) w.shares (new_share x ∷ []) g.queues (tt, tt);
+        queues = each-append (λ e. Each (λ p. S.takes e.filter (S.packet_unit p) ≡ true) e.queue) w.shares (new_share x ∷ []) g.queues (tt, tt);
       }
     where
       by_num : (n : ℕ) (b : Bool) → (x.num == n) ≡ b → (find_op w.ops n ≡ None) ⊎ (find_share w.shares n ≡ None) → (find_op w.ops n ≡ None) ⊎ (find_share (w.shares ++ new_share x ∷ []) n ≡ None)
@@ -125,7 +125,7 @@ module _ {R : Type 0} (S : Sys R) (A : Sharing S) (laws : IsSys S) where
       by_both n k d e off false other false also u v = g.apart n k d e (old n d other u) (old k e also v) off
 
   -- a copy's Get goes out
-  pub get_keeps : (w : Whole S A) → Global_all S A w → (n : ℕ) (f : Filter) (src : ℕ) → w.next ≤ n → Global_all S A (puts_get S A w n f src)
+  pub get_keeps : (w : WholeWorld S A) → Global_all S A w → (n : ℕ) (f : Filter) (src : ℕ) → w.next ≤ n → Global_all S A (puts_get S A w n f src)
   get_keeps w g n f src fresh =
       let few : w.next ≤ suc n = omega (arith, fresh) in
       let more = global_more S laws (moves_of S A w) g.moves (suc n) few in
@@ -147,11 +147,11 @@ module _ {R : Type 0} (S : Sys R) (A : Sharing S) (laws : IsSys S) where
         queues = g.queues;
       }
 
-  pub keeps_keeps : (w : Whole S A) → Global_all S A w → (y : ℕ) (t : S.B.T) → Global_all S A (keeps S A w y t)
+  pub keeps_keeps : (w : WholeWorld S A) → Global_all S A w → (y : ℕ) (t : S.B.T) → Global_all S A (keeps S A w y t)
   keeps_keeps w g y t = record { moves = g.moves; messages = g.messages; numbers = g.numbers; shares_below = g.shares_below; nums_apart = g.nums_apart; some = g.some; one_kind = g.one_kind; apart_moves = g.apart_moves; apart = g.apart; queues = g.queues }
 
   -- a command goes to the controller
-  pub asks_move_keeps : (w : Whole S A) → Global_all S A w → (x : Want) → Global_all S A (asks S A w (Old (Asked x)))
+  pub asks_move_keeps : (w : WholeWorld S A) → Global_all S A w → (x : MoveAsked) → Global_all S A (asks S A w (Old (Asked x)))
   asks_move_keeps w g x = record {
     moves = record {
       messages = λ i j e. subst (λ ms. Each (Below w.next) ms) (sym (olds-put (w.link i j) (i == 0) j ((1, Old (Asked x)) ∷ []) ((1, Asked x) ∷ []) refl)) (each_put (λ _ _ m. Below w.next m) (λ i j. olds (w.link i j)) 0 ((1, Asked x) ∷ []) g.moves.messages (tt, tt) i j e);
@@ -169,7 +169,7 @@ module _ {R : Type 0} (S : Sys R) (A : Sharing S) (laws : IsSys S) where
     queues = g.queues;
   }
 
-  pub asks_share_keeps : (w : Whole S A) → Global_all S A w → (x : Want_share) → Global_all S A (asks S A w (New (S_asked x)))
+  pub asks_share_keeps : (w : WholeWorld S A) → Global_all S A w → (x : Want_share) → Global_all S A (asks S A w (New (S_asked x)))
   asks_share_keeps w g x = record {
     moves = global_as S A laws (moves_of S A w) (moves_of S A (asks S A w (New (S_asked x)))).link (λ i j. no_olds-put (w.link i j) (i == 0) j ((1, New (S_asked x)) ∷ []) refl) g.moves;
     messages = new_put (Of_share S w.shares) w.link g.messages 0 ((1, New (S_asked x)) ∷ []) (tt, tt);

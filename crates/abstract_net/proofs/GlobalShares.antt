@@ -115,11 +115,11 @@ module _ {R : Type 0} (S : Sys R) where
       later false on is more = let k = more is in (k.0, rw on k.1)
 
   pub of_share_set : (n : ℕ) (ph : Phase) (q : List ℕ) (es : List Open_share) (j : ℕ) (m : Share_msg R) → Of_share S es j m → Of_share S (set_share n ph q es) j m
-  of_share_set n ph q es j (Shared_on k home p) o = opened_set n ph q es k (λ e. (S.takes e.filter (S.unit_of p) ≡ true) × (same home (j == e.home) ≡ true)) (λ d e s h. (same_filter d e (S.unit_of p) true s h.0, same_home d e home j s h.1)) o
-  of_share_set n ph q es j (Diverted_on p) o = (o.0, taking_set n ph q es (S.unit_of p) o.1)
+  of_share_set n ph q es j (Shared_on k home p) o = opened_set n ph q es k (λ e. (S.takes e.filter (S.packet_unit p) ≡ true) × (same home (j == e.home) ≡ true)) (λ d e s h. (same_filter d e (S.packet_unit p) true s h.0, same_home d e home j s h.1)) o
+  of_share_set n ph q es j (Diverted_on p) o = (o.0, taking_set n ph q es (S.packet_unit p) o.1)
   of_share_set n ph q es j (S_asked x) o = tt
   of_share_set n ph q es j (S_install k g from) o = opened_set n ph q es k (λ e. (g ≡ e.filter) × (from ≡ e.home)) (λ d e s h. (h.0 ∙ sym s.filter, h.1 ∙ sym s.home)) o
-  of_share_set n ph q es j (S_forward k home p to) o = opened_set n ph q es k (λ e. (S.takes e.filter (S.unit_of p) ≡ true) × (has e.members to ≡ true) × (same home (to == e.home) ≡ true)) (λ d e s h. (same_filter d e (S.unit_of p) true s h.0, ap (λ ms. has ms to) s.members ∙ h.1, same_home d e home to s h.2)) o
+  of_share_set n ph q es j (S_forward k home p to) o = opened_set n ph q es k (λ e. (S.takes e.filter (S.packet_unit p) ≡ true) × (has e.members to ≡ true) × (same home (to == e.home) ≡ true)) (λ d e s h. (same_filter d e (S.packet_unit p) true s h.0, ap (λ ms. has ms to) s.members ∙ h.1, same_home d e home to s h.2)) o
   of_share_set n ph q es j (S_get k g) o = λ e is. let f = set_find n ph q es k e is in let h = o f.share f.found in (h.0 ∙ f.same.filter, h.1 ∙ f.same.home)
   of_share_set n ph q es j (S_sync k home cs) o = opened_set n ph q es k (λ e. Within S e.filter cs × (same home (j == e.home) ≡ true)) (λ d e s h. (same_within d e cs s h.0, same_home d e home j s h.1)) o
   of_share_set n ph q es j (S_chunks k cs) o = λ e is v out. let f = set_find n ph q es k e is in o f.share f.found v (ap (λ g. S.takes g v) f.same.filter ∙ out)
@@ -135,11 +135,11 @@ module _ {R : Type 0} (S : Sys R) where
   taking_more (y ∷ es) x v e is = elim (S.takes y.filter v) as (λ b. (if b then Some y else share_taking S es v) ≡ Some e → (if b then Some y else share_taking S (es ++ x ∷ []) v) ≡ Some e) [ true ↦ λ there. there | false ↦ λ there. taking_more es x v e there ] is
 
   pub of_share_more : (es : List Open_share) (x : Open_share) (b : ℕ) → b ≤ x.num → (j : ℕ) (m : Share_msg R) → Numbered b m → Of_share S es j m → Of_share S (es ++ x ∷ []) j m
-  of_share_more es x b fresh j (Shared_on k home p) few o = opened_more es x k (λ e. (S.takes e.filter (S.unit_of p) ≡ true) × (same home (j == e.home) ≡ true)) o
-  of_share_more es x b fresh j (Diverted_on p) few o = (o.0, (o.1.0, taking_more es x (S.unit_of p) o.1.0 o.1.1))
+  of_share_more es x b fresh j (Shared_on k home p) few o = opened_more es x k (λ e. (S.takes e.filter (S.packet_unit p) ≡ true) × (same home (j == e.home) ≡ true)) o
+  of_share_more es x b fresh j (Diverted_on p) few o = (o.0, (o.1.0, taking_more es x (S.packet_unit p) o.1.0 o.1.1))
   of_share_more es x b fresh j (S_asked y) few o = tt
   of_share_more es x b fresh j (S_install k g from) few o = opened_more es x k (λ e. (g ≡ e.filter) × (from ≡ e.home)) o
-  of_share_more es x b fresh j (S_forward k home p to) few o = opened_more es x k (λ e. (S.takes e.filter (S.unit_of p) ≡ true) × (has e.members to ≡ true) × (same home (to == e.home) ≡ true)) o
+  of_share_more es x b fresh j (S_forward k home p to) few o = opened_more es x k (λ e. (S.takes e.filter (S.packet_unit p) ≡ true) × (has e.members to ≡ true) × (same home (to == e.home) ≡ true)) o
   of_share_more es x b fresh j (S_get k g) few o = λ e is. let off : (x.num == k) ≡ false = grind (arith, nat_tests, few, fresh) in o e (sym (find_old es x k off) ∙ is)
   of_share_more es x b fresh j (S_sync k home cs) few o = opened_more es x k (λ e. Within S e.filter cs × (same home (j == e.home) ≡ true)) o
   of_share_more es x b fresh j (S_chunks k cs) few o = λ e is. let off : (x.num == k) ≡ false = grind (arith, nat_tests, few, fresh) in o e (sym (find_old es x k off) ∙ is)
@@ -155,7 +155,7 @@ module _ {R : Type 0} (S : Sys R) where
     ] refl
 
     abbrev pub Taken_by : Open_share → ℕ → Type 0
-    Taken_by e p = S.takes e.filter (S.unit_of p) ≡ true
+    Taken_by e p = S.takes e.filter (S.packet_unit p) ≡ true
 
     -- on a link to the controller
     pub told_of : (es : List Open_share) (m : Any R) (e : Open_share) (t : Told R) → On_new (Of_share S es 1) m → Tells S A es m e t → Told_of S A e (Taken_by e) (Within S e.filter) t
@@ -163,7 +163,7 @@ module _ {R : Type 0} (S : Sys R) where
     told_of es (New (S_chunks n cs)) e t h is = let eq = is.1 in rw eq (h e is.0)
     told_of es (New (S_shared n c)) e t h is = let eq = is.1 in let same : h.share ≡ e = (let both = sym h.found ∙ is.0 in cc) in rw eq (one_within e.filter c (subst (λ d. S.takes d.filter c.0 ≡ true) same h.says))
     told_of es (New (S_synced n)) e t h is = rw is tt
-    told_of es (New (Diverted_on p)) e t h is = let eq = is.1 in let k = (taking_each S A (λ _. Unit {0}) es (S.unit_of p) e (each_any es) is.0).1 in rw eq k
+    told_of es (New (Diverted_on p)) e t h is = let eq = is.1 in let k = (taking_each S A (λ _. Unit {0}) es (S.packet_unit p) e (each_any es) is.0).1 in rw eq k
     told_of es (New (Shared_on n home p)) e t h is = absurd is
     told_of es (New (S_asked x)) e t h is = absurd is
     told_of es (New (S_install n g from)) e t h is = absurd is
@@ -177,7 +177,7 @@ module _ {R : Type 0} (S : Sys R) where
         let same : x ≡ d = (let both : Some x ≡ Some d = sym is ∙ ap (find_share es) h.0 ∙ there in cc) in
         (h.1 ∙ sym s.filter ∙ ap (λ y. y.filter) (sym same), h.2 ∙ sym s.home ∙ ap (λ y. y.home) (sym same))
     sent_of ok es e d there s some j (New (S_sync n home cs)) h = record { share = d; found = ap (find_share es) h.0 ∙ there; says = (same_within d e cs s h.1, (let eq : home ≡ (j == d.home) = h.2 ∙ ap (λ k. j == k) (sym s.home) in rw eq (self (j == d.home)))) }
-    sent_of ok es e d there s some j (New (S_forward n home p to)) h = record { share = d; found = ap (find_share es) h.0 ∙ there; says = (same_filter d e (S.unit_of p) true s h.1, (let eq = h.2 in ap (λ ms. has ms to) s.members ∙ rw eq (ok.member_in e.members p some)), (let eq : home ≡ (to == d.home) = h.3 ∙ ap (λ k. to == k) (sym s.home) in rw eq (self (to == d.home)))) }
+    sent_of ok es e d there s some j (New (S_forward n home p to)) h = record { share = d; found = ap (find_share es) h.0 ∙ there; says = (same_filter d e (S.packet_unit p) true s h.1, (let eq = h.2 in ap (λ ms. has ms to) s.members ∙ rw eq (ok.member_in e.members p some)), (let eq : home ≡ (to == d.home) = h.3 ∙ ap (λ k. to == k) (sym s.home) in rw eq (self (to == d.home)))) }
     sent_of ok es e d there s some j (Old m) h = tt
     sent_of ok es e d there s some j (New (Shared_on n home p)) h = absurd h
     sent_of ok es e d there s some j (New (Diverted_on p)) h = absurd h

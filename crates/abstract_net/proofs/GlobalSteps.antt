@@ -19,7 +19,7 @@ use Rattle.abstract_net.proofs.ShareLists.{Nums_apart, found_each, found_num, ea
 use Rattle.abstract_net.proofs.ShareRows.{Tells, told_cases, Sent_by, share_row_by}
 use Rattle.abstract_net.proofs.GlobalAll.{Opened, Numbered, Disjoint, Within, Takes_some, Of_share, Global_all}
 use Rattle.abstract_net.proofs.GlobalShares.{each_set_any, nums_set, none_set, ctrl_each, ctrl_none, of_share_set, Taken_by, told_of, sent_of}
-use Rattle.abstract_net.proofs.Shares.{Any, Any.Old, Any.New, Share_msg, Share_msg.Shared_on, Share_msg.Diverted_on, Share_msg.S_asked, Share_msg.S_install, Share_msg.S_forward, Share_msg.S_get, Share_msg.S_sync, Share_msg.S_chunks, Share_msg.S_shared, Share_msg.S_synced, olds, as_old, Sharing, IsSharing, Open_share, find_share, set_share, Told, share_row, told_by, Shares_step, by_share, member_step, share_sends, arrive_sends, old_step, Whole, moves_of, whole_inst, whole_ctrl, whole_switch, whole_input}
+use Rattle.abstract_net.proofs.Shares.{Any, Any.Old, Any.New, Share_msg, Share_msg.Shared_on, Share_msg.Diverted_on, Share_msg.S_asked, Share_msg.S_install, Share_msg.S_forward, Share_msg.S_get, Share_msg.S_sync, Share_msg.S_chunks, Share_msg.S_shared, Share_msg.S_synced, olds, as_old, Sharing, IsSharing, Open_share, find_share, set_share, Told, share_row, told_by, Shares_step, by_share, member_step, share_sends, arrive_sends, old_step, WholeWorld, moves_of, whole_inst, whole_ctrl, whole_switch, whole_input}
 
 module _ {R : Type 0} (S : Sys R) (A : Sharing S) (laws : IsSys S) where
   -- over links that are the same
@@ -27,23 +27,23 @@ module _ {R : Type 0} (S : Sys R) (A : Sharing S) (laws : IsSys S) where
   global_as w l e g = record { messages = λ i j off. subst (λ ms. Each (Below w.next) ms) (sym (e i j)) (g.messages i j off); rules = g.rules; ops = g.ops }
 
   -- An instance
-  chunk_of_share : (es : List Open_share) (n p : ℕ) (o : Option R) → Opened es n (λ e. S.takes e.filter (S.unit_of p) ≡ true) → Each_sent_new (Of_share S es) (option_map_or (λ r. (1, New (S_shared n (S.unit_of p, r))) ∷ []) o [])
+  chunk_of_share : (es : List Open_share) (n p : ℕ) (o : Option R) → Opened es n (λ e. S.takes e.filter (S.packet_unit p) ≡ true) → Each_sent_new (Of_share S es) (option_map_or (λ r. (1, New (S_shared n (S.packet_unit p, r))) ∷ []) o [])
   chunk_of_share es n p None h = tt
   chunk_of_share es n p (Some r) h = (record { share = h.share; found = h.found; says = h.says }, tt)
 
-  chunk_numbered : (b n p : ℕ) (o : Option R) → Each_sent_new (λ _ m. Numbered b m) (option_map_or (λ r. (1, New (S_shared n (S.unit_of p, r))) ∷ []) o [])
+  chunk_numbered : (b n p : ℕ) (o : Option R) → Each_sent_new (λ _ m. Numbered b m) (option_map_or (λ r. (1, New (S_shared n (S.packet_unit p, r))) ∷ []) o [])
   chunk_numbered b n p None = tt
   chunk_numbered b n p (Some r) = (tt, tt)
 
-  taken : (es : List Open_share) (j n : ℕ) (home : Bool) (p : ℕ) → Of_share S es j (Shared_on n home p) → Opened es n (λ e. S.takes e.filter (S.unit_of p) ≡ true)
+  taken : (es : List Open_share) (j n : ℕ) (home : Bool) (p : ℕ) → Of_share S es j (Shared_on n home p) → Opened es n (λ e. S.takes e.filter (S.packet_unit p) ≡ true)
   taken es j n home p h = record { share = h.share; found = h.found; says = h.says.0 }
 
   selected_within : (g : Filter) (t : S.B.T) → Within S g (S.B.select (S.takes g) t)
   selected_within g t v out = record_first v (S.B.select (S.takes g) t) ∙ ap first (laws.laws.selected v (S.takes g) t ∙ ap (λ b. option_to_list (if b then S.B.at v t else None)) out)
 
   member_of_share : (es : List Open_share) (live standby : S.B.T) (y : ℕ) (m : Share_msg R) → Of_share S es y m → Each_sent_new (Of_share S es) (member_step S A live standby m).sends
-  member_of_share es live standby y (Shared_on n true p) h = chunk_of_share es n p (S.B.at (S.unit_of p) (process S live p)) (taken es y n true p h)
-  member_of_share es live standby y (Shared_on n false p) h = chunk_of_share es n p (S.B.at (S.unit_of p) (process S standby p)) (taken es y n false p h)
+  member_of_share es live standby y (Shared_on n true p) h = chunk_of_share es n p (S.B.at (S.packet_unit p) (process S live p)) (taken es y n true p h)
+  member_of_share es live standby y (Shared_on n false p) h = chunk_of_share es n p (S.B.at (S.packet_unit p) (process S standby p)) (taken es y n false p h)
   member_of_share es live standby y (S_get n g) h = ((λ e there. let is : g ≡ e.filter = (h e there).0 in subst (λ f. Within S f (S.B.select (S.takes g) live)) is (selected_within g live)), tt)
   member_of_share es live standby y (S_sync n true cs) h = (record { share = h.share; found = h.found; says = tt }, tt)
   member_of_share es live standby y (S_sync n false cs) h = (record { share = h.share; found = h.found; says = tt }, tt)
@@ -56,8 +56,8 @@ module _ {R : Type 0} (S : Sys R) (A : Sharing S) (laws : IsSys S) where
   member_of_share es live standby y (S_synced n) h = tt
 
   member_numbered : (b : ℕ) (live standby : S.B.T) (m : Share_msg R) → Numbered b m → Each_sent_new (λ _ m. Numbered b m) (member_step S A live standby m).sends
-  member_numbered b live standby (Shared_on n true p) h = chunk_numbered b n p (S.B.at (S.unit_of p) (process S live p))
-  member_numbered b live standby (Shared_on n false p) h = chunk_numbered b n p (S.B.at (S.unit_of p) (process S standby p))
+  member_numbered b live standby (Shared_on n true p) h = chunk_numbered b n p (S.B.at (S.packet_unit p) (process S live p))
+  member_numbered b live standby (Shared_on n false p) h = chunk_numbered b n p (S.B.at (S.packet_unit p) (process S standby p))
   member_numbered b live standby (S_get n g) h = (h, tt)
   member_numbered b live standby (S_sync n true cs) h = (tt, tt)
   member_numbered b live standby (S_sync n false cs) h = (tt, tt)
@@ -69,7 +69,7 @@ module _ {R : Type 0} (S : Sys R) (A : Sharing S) (laws : IsSys S) where
   member_numbered b live standby (S_shared n c) h = tt
   member_numbered b live standby (S_synced n) h = tt
 
-  pub inst_keeps : (w : Whole S A) → Global_all S A w → (p y : ℕ) (m : Any R) (rest : List (Any R)) → (y == 0) ≡ false → w.link p y ≡ m ∷ rest → Global_all S A (whole_inst S A w p y m)
+  pub inst_keeps : (w : WholeWorld S A) → Global_all S A w → (p y : ℕ) (m : Any R) (rest : List (Any R)) → (y == 0) ≡ false → w.link p y ≡ m ∷ rest → Global_all S A (whole_inst S A w p y m)
   inst_keeps w g p y (Old m) rest y0 waits =
       let sent = (inst_step S (w.inst y) m).sends in
       record {
@@ -107,7 +107,7 @@ module _ {R : Type 0} (S : Sys R) (A : Sharing S) (laws : IsSys S) where
       }
 
   -- The controller: its shares
-  record Shares_ok (w : Whole S A) (s : Shares_step S A) : Type 0 where
+  record Shares_ok (w : WholeWorld S A) (s : Shares_step S A) : Type 0 where
     below : Each (λ e. e.num < w.next) s.shares
     nums : Nums_apart s.shares
     some : Each (λ e. 0 < length e.members) s.shares
@@ -132,7 +132,7 @@ module _ {R : Type 0} (S : Sys R) (A : Sharing S) (laws : IsSys S) where
   sent_numbered e b j (New (S_shared n c)) few h = tt
   sent_numbered e b j (New (S_synced n)) few h = tt
 
-  shares_ok : IsSharing S A → (w : Whole S A) → Global_all S A w → (p : ℕ) (m : Any R) → On_new (Of_share S w.shares 1) m → Shares_ok w (by_share S A w.shares p (told_by S A w.shares m))
+  shares_ok : IsSharing S A → (w : WholeWorld S A) → Global_all S A w → (p : ℕ) (m : Any R) → On_new (Of_share S w.shares 1) m → Shares_ok w (by_share S A w.shares p (told_by S A w.shares m))
   shares_ok ok w g p m head =
       told_cases S A (Shares_ok w) w.shares p m g.nums_apart (record { below = g.shares_below; nums = g.nums_apart; some = g.some; none = λ n e. e; apart_moves = g.apart_moves; apart = g.apart; queues = g.queues; links = λ j m h. h; sends = tt; numbers = tt }) goes
     where
@@ -158,7 +158,7 @@ module _ {R : Type 0} (S : Sys R) (A : Sharing S) (laws : IsSys S) where
             numbers = each_sent_map (Sent_by S A e (Taken_by S A e) (Within S e.filter)) (λ _ m. On_new (Numbered w.next) m) (λ j m h. sent_numbered e w.next j m (found_each (λ e. e.num < w.next) w.shares e.num e g.shares_below there) h) r.sends k.1;
           }
 
-  head_of_share : (w : Whole S A) → Global_all S A w → (p k : ℕ) (m : Any R) (rest : List (Any R)) → (p == 0) && (k == 0) ≡ false → w.link p k ≡ m ∷ rest → On_new (Of_share S w.shares k) m
+  head_of_share : (w : WholeWorld S A) → Global_all S A w → (p k : ℕ) (m : Any R) (rest : List (Any R)) → (p == 0) && (k == 0) ≡ false → w.link p k ≡ m ∷ rest → On_new (Of_share S w.shares k) m
   head_of_share w g p k (Old m) rest off waits = tt
   head_of_share w g p k (New m) rest off waits = new_head (Of_share S w.shares) w.link g.messages p k m rest off waits
 
@@ -170,11 +170,11 @@ module _ {R : Type 0} (S : Sys R) (A : Sharing S) (laws : IsSys S) where
   ops_none es p (Old m) n none = ctrl_none es p m n none
   ops_none es p (New m) n none = none
 
-  ctrl_moves : (w : Whole S A) → Global_all S A w → (p : ℕ) (m : Any R) (rest : List (Any R)) → w.link p 1 ≡ m ∷ rest → Global S (moves_of S A (whole_ctrl S A w p m))
+  ctrl_moves : (w : WholeWorld S A) → Global_all S A w → (p : ℕ) (m : Any R) (rest : List (Any R)) → w.link p 1 ≡ m ∷ rest → Global S (moves_of S A (whole_ctrl S A w p m))
   ctrl_moves w g p (Old m) rest waits = global_as (ctrl_next S (moves_of S A w) p m) (moves_of S A (whole_ctrl S A w p (Old m))).link (λ i j. ctrl_links S A w p m rest waits i j) (ctrl_global S laws (moves_of S A w) g.moves p m)
   ctrl_moves w g p (New m) rest waits = global_as (moves_of S A w) (moves_of S A (whole_ctrl S A w p (New m))).link (λ i j. no_olds-after w.link p 1 m rest (by_share S A w.shares p (told_by S A w.shares (New m))).sends waits (by_share_new S A w.shares p (told_by S A w.shares (New m))) i j) g.moves
 
-  pub ctrl_keeps : IsSharing S A → (w : Whole S A) → Global_all S A w → (p : ℕ) (m : Any R) (rest : List (Any R)) → w.link p 1 ≡ m ∷ rest → Global_all S A (whole_ctrl S A w p m)
+  pub ctrl_keeps : IsSharing S A → (w : WholeWorld S A) → Global_all S A w → (p : ℕ) (m : Any R) (rest : List (Any R)) → w.link p 1 ≡ m ∷ rest → Global_all S A (whole_ctrl S A w p m)
   ctrl_keeps ok w g p m rest waits =
       let off : (p == 0) && (1 == 0) ≡ false = elim (p == 0) as (λ b. b && false ≡ false) [ true ↦ refl | false ↦ refl ] in
       let k = shares_ok ok w g p m (head_of_share w g p 1 m rest off waits) in
@@ -198,7 +198,7 @@ module _ {R : Type 0} (S : Sys R) (A : Sharing S) (laws : IsSys S) where
       by_kind f n (inr none) = inr (f n none)
 
   -- The switch
-  fence_below : (w : Whole S A) → Global_all S A w → (m : Share_msg R) → Of_share S w.shares 0 m → EachSent (λ _ x. Below w.next x) (old_sends (share_sends S A m))
+  fence_below : (w : WholeWorld S A) → Global_all S A w → (m : Share_msg R) → Of_share S w.shares 0 m → EachSent (λ _ x. Below w.next x) (old_sends (share_sends S A m))
   fence_below w g (S_install n f from) o =
       let same : o.share.num ≡ n = (Decides-eqb o.share.num n).0 (found_num w.shares n o.share o.found) in
       (subst (λ k. k < w.next) same (found_each (λ e. e.num < w.next) w.shares n o.share g.shares_below o.found), tt)
@@ -236,7 +236,7 @@ module _ {R : Type 0} (S : Sys R) (A : Sharing S) (laws : IsSys S) where
   forward_numbered b (S_shared n c) = tt
   forward_numbered b (S_synced n) = tt
 
-  pub switch_keeps : (w : Whole S A) → Global_all S A w → (p : ℕ) (m : Any R) (rest : List (Any R)) → (p == 0) ≡ false → w.link p 0 ≡ m ∷ rest → Global_all S A (whole_switch S A w p m)
+  pub switch_keeps : (w : WholeWorld S A) → Global_all S A w → (p : ℕ) (m : Any R) (rest : List (Any R)) → (p == 0) ≡ false → w.link p 0 ≡ m ∷ rest → Global_all S A (whole_switch S A w p m)
   switch_keeps w g p (Old m) rest p0 waits = record {
     moves = global_as (sw_next S (moves_of S A w) p m) (moves_of S A (whole_switch S A w p (Old m))).link (λ i j. olds-after w.link p 0 rest (as_old (sw_sends m)) (sw_sends m) (old_sends-old (sw_sends m)) m waits i j) (switch_global S laws (moves_of S A w) g.moves p m (olds rest) p0 (ap olds waits));
     messages = new_after (Of_share S w.shares) w.link g.messages p 0 (as_old (sw_sends m)) (sent_old (Of_share S w.shares) (sw_sends m));
@@ -271,11 +271,11 @@ module _ {R : Type 0} (S : Sys R) (A : Sharing S) (laws : IsSys S) where
       }
 
   -- a packet of the input; what goes to the controller is taken by a share
-  pub input_keeps : (w : Whole S A) → Global_all S A w → (q : ℕ) → (w.target (S.unit_of q) ≡ 1 → Takes_some S w.shares (S.unit_of q)) → Global_all S A (whole_input S A w q)
+  pub input_keeps : (w : WholeWorld S A) → Global_all S A w → (q : ℕ) → (w.target (S.packet_unit q) ≡ 1 → Takes_some S w.shares (S.packet_unit q)) → Global_all S A (whole_input S A w q)
   input_keeps w g q diverted = record {
-    moves = moved (w.target (S.unit_of q) == 1) refl;
-    messages = new_put (Of_share S w.shares) w.link g.messages 0 sends (by_target (w.target (S.unit_of q) == 1) refl);
-    numbers = new_put (λ _ m. Numbered w.next m) w.link g.numbers 0 sends (unnumbered (w.target (S.unit_of q) == 1) refl);
+    moves = moved (w.target (S.packet_unit q) == 1) refl;
+    messages = new_put (Of_share S w.shares) w.link g.messages 0 sends (by_target (w.target (S.packet_unit q) == 1) refl);
+    numbers = new_put (λ _ m. Numbered w.next m) w.link g.numbers 0 sends (unnumbered (w.target (S.packet_unit q) == 1) refl);
     shares_below = g.shares_below;
     nums_apart = g.nums_apart;
     some = g.some;
@@ -286,16 +286,16 @@ module _ {R : Type 0} (S : Sys R) (A : Sharing S) (laws : IsSys S) where
   }
     where
       sends : List (ℕ × Any R)
-      sends = arrive_sends S A (w.target (S.unit_of q)) q
+      sends = arrive_sends S A (w.target (S.packet_unit q)) q
 
-      by_target : (b : Bool) → (w.target (S.unit_of q) == 1) ≡ b → Each_sent_new (Of_share S w.shares) sends
-      by_target true on = rw on ((refl, diverted ((Decides-eqb (w.target (S.unit_of q)) 1).0 on)), tt)
+      by_target : (b : Bool) → (w.target (S.packet_unit q) == 1) ≡ b → Each_sent_new (Of_share S w.shares) sends
+      by_target true on = rw on ((refl, diverted ((Decides-eqb (w.target (S.packet_unit q)) 1).0 on)), tt)
       by_target false off = rw off (tt, tt)
 
-      unnumbered : (b : Bool) → (w.target (S.unit_of q) == 1) ≡ b → Each_sent_new (λ _ m. Numbered w.next m) sends
+      unnumbered : (b : Bool) → (w.target (S.packet_unit q) == 1) ≡ b → Each_sent_new (λ _ m. Numbered w.next m) sends
       unnumbered true on = rw on (tt, tt)
       unnumbered false off = rw off (tt, tt)
 
-      moved : (b : Bool) → (w.target (S.unit_of q) == 1) ≡ b → Global S (moves_of S A (whole_input S A w q))
+      moved : (b : Bool) → (w.target (S.packet_unit q) == 1) ≡ b → Global S (moves_of S A (whole_input S A w q))
       moved true on = let none : old_sends sends ≡ [] = rw on refl in global_as (moves_of S A w) (moves_of S A (whole_input S A w q)).link (λ i j. no_olds-put (w.link i j) (i == 0) j sends none) g.moves
-      moved false off = let one : old_sends sends ≡ (w.target (S.unit_of q), Carry_on q) ∷ [] = rw off refl in global_as (in_next S (moves_of S A w) q) (moves_of S A (whole_input S A w q)).link (λ i j. olds-put (w.link i j) (i == 0) j sends ((w.target (S.unit_of q), Carry_on q) ∷ []) one) (input_global S laws (moves_of S A w) g.moves q)
+      moved false off = let one : old_sends sends ≡ (w.target (S.packet_unit q), Carry_on q) ∷ [] = rw off refl in global_as (in_next S (moves_of S A w) q) (moves_of S A (whole_input S A w q)).link (λ i j. olds-put (w.link i j) (i == 0) j sends ((w.target (S.packet_unit q), Carry_on q) ∷ []) one) (input_global S laws (moves_of S A w) g.moves q)

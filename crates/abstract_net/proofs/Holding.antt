@@ -5,7 +5,7 @@ use Rattle.unit_machine.proofs.Machine.{Where, At_a, At_b, At_c, Inst, Item, Sta
 use Rattle.unit_machine.proofs.Lists.{firsts}
 use Rattle.unit_machine.proofs.Real as Real
 use Rattle.unit_machine.proofs.Real.{record_at, M_enable, M_stream, M_delete, M_put, M_restore, M_event, M_piece, M_put_no, M_install, Op, Frame, see_phase, only_mine}
-use Rattle.unit_machine.proofs.Seen.{Apart, frame_of}
+use Rattle.unit_machine.proofs.Seen.{NodesDiffer, frame_of}
 use Rattle.unit_machine.proofs.Labels.{Each, Without, Clean}
 use Rattle.unit_machine.proofs.Pairs.{Nodes, Sides, expect}
 use Rattle.unit_machine.proofs.Rests.{is_over}
@@ -30,14 +30,14 @@ EachSent P (x ∷ xs) = P x.0 x.1 × EachSent P xs
 
 module _ {R : Type 0} (S : Sys R) (z : Seeing) where
   abbrev pub frame : Frame
-  frame = frame_of z.op (λ p. same_unit (S.unit_of p) z.unit) z.unit
+  frame = frame_of z.op (λ p. same_unit (S.packet_unit p) z.unit) z.unit
 
   -- a message of another move has nothing of the unit, and a filter takes it where the number is its move's
   abbrev pub Mv_label : Filter → Real.Msg R → Type 0
   Mv_label g (M_enable n k) = (S.takes g z.unit ≡ (n == z.op.num)) × (is_free k ≡ false)
   Mv_label g (M_stream n) = S.takes g z.unit ≡ (n == z.op.num)
   Mv_label g (M_install n from to) = S.takes g z.unit ≡ (n == z.op.num)
-  Mv_label g (M_event n p) = (same_unit (S.unit_of p) z.unit) ≡ true → (n == z.op.num) ≡ true
+  Mv_label g (M_event n p) = (same_unit (S.packet_unit p) z.unit) ≡ true → (n == z.op.num) ≡ true
   Mv_label g (M_delete n us) = (n == z.op.num) ≡ false → is_among us z.unit ≡ false
   Mv_label g (M_put n p first) = (n == z.op.num) ≡ false → Without z.unit p
   Mv_label g (M_restore n cs) = (n == z.op.num) ≡ false → record_at z.unit cs ≡ None
@@ -54,7 +54,7 @@ module _ {R : Type 0} (S : Sys R) (z : Seeing) where
   Rule_label r = (S.takes r.filter z.unit ≡ (r.num == z.op.num)) × ((r.num == z.op.num) ≡ false → only_mine frame r.held ≡ []) × (is_free r.rule ≡ false)
 
   abbrev pub Op_label : Open R → Type 0
-  Op_label e = (S.takes e.filter z.unit ≡ (e.op.num == z.op.num)) × ((e.op.num == z.op.num) ≡ false → Clean z.unit e.phase × (only_mine frame e.store ≡ [])) × Apart e.op
+  Op_label e = (S.takes e.filter z.unit ≡ (e.op.num == z.op.num)) × ((e.op.num == z.op.num) ≡ false → Clean z.unit e.phase × (only_mine frame e.store ≡ [])) × NodesDiffer e.op
 
   -- an instance as the unit sees it
   pub record Sees_node (i : Inst_n S) (x : Inst R) : Type 0 where
@@ -83,11 +83,11 @@ module _ {R : Type 0} (S : Sys R) (z : Seeing) where
   -- packets of the unit among those done
   abbrev pub done_of : List (ℕ × ℕ) → List ℕ
   done_of [] = []
-  done_of (d ∷ ds) = if same_unit (S.unit_of d.0) z.unit then d.0 ∷ done_of ds else done_of ds
+  done_of (d ∷ ds) = if same_unit (S.packet_unit d.0) z.unit then d.0 ∷ done_of ds else done_of ds
 
   -- at the state of the machine that a seat has
   pub record Holds (w : World S) (x : State R) : Type 0 where
-    pub apart : Apart z.op
+    pub apart : NodesDiffer z.op
     pub nodes : Nodes z.op.src z.op.dst z.third
     pub views : (i j : ℕ) → shows w.link i j ≡ expect z.op.src z.op.dst z.third x i j
     pub labels : (i j : ℕ) → (i == 0) && (j == 0) ≡ false → Each (Label i) (w.link i j)

@@ -6,12 +6,12 @@ use Rattle.std.proofs.lemmas.Option.{same_Some}
 use Rattle.unit_machine.proofs.Machine.{Where, At_a, At_b, At_c, Part, Inst, Did, sends as did_sends, inst_does, Item, Stream, Put, State, MachineStep, Take_sa, Take_sb, Take_sc, Take_ca, Take_cb, moved, put_a, put_b, put_c}
 use Rattle.unit_machine.proofs.Lists.{firsts, firsts-append}
 use Rattle.unit_machine.proofs.UnitPieces.{ArePiecesOf}
-use Rattle.unit_machine.proofs.Stages.{shape, Order, Allowed, arrived_by}
+use Rattle.unit_machine.proofs.Stages.{shape, IsOrderedAs, Allowed, arrived_by}
 use Rattle.unit_machine.proofs.Real.{add, sent_for}
 use Rattle.unit_machine.proofs.Cuts.{some_parts}
 use Rattle.unit_machine.proofs.Pairs.{expect, after_take, a_from_s, a_from_c, b_from_s, b_from_c, c_from_s, nothing_seen, Shown_by, By_sa, By_sb, By_sc, By_ca, By_cb, By_ac, By_bc, By_cc, By_cs, shown_by}
 use Rattle.unit_machine.proofs.Labels.{Each}
-use Rattle.unit_machine.proofs.Seats.{Seat, is_covered, seat_shape, seat_all, seat_loose, seat_goes_on, covered_stays, seat_allowed, base_of}
+use Rattle.unit_machine.proofs.Seats.{UnitSeat, is_covered, seat_shape, seat_all, seat_loose, seat_goes_on, covered_stays, seat_allowed, base_of}
 use Rattle.unit_machine.proofs.NetViews.{items}
 use Rattle.abstract_net.proofs.Net.{inst_next, Msg, In_packet, Asked, Carry_on, Pass_on, Fence_on, Mv, Sys, IsSys, Inst_n, I_did, inst_step, World, links_after, at_node, seen, find_op}
 use Rattle.abstract_net.proofs.Holding.{Seeing, sides_of, EachSent, frame, Label, Sees_node, shows, node_at, done_of, Holds, Ctrl_is}
@@ -26,10 +26,10 @@ falsely e = cc
 
 module _ {R : Type 0} (S : Sys R) (laws : IsSys S) (z : Seeing) where
   -- where a world's step leads
-  pub record Goes_to (w : World S) (s : Seat S.F) (came : List ℕ) : Type 0 where
-    pub seat : Seat S.F
+  pub record Goes_to (w : World S) (s : UnitSeat S.F) (came : List ℕ) : Type 0 where
+    pub seat : UnitSeat S.F
     pub holds : Holds S z w (seat_shape S.F seat)
-    pub order : Order (seat_loose seat) (seat_all seat) (seat_all s ++ came)
+    pub order : IsOrderedAs (seat_loose seat) (seat_all seat) (seat_all s ++ came)
     pub covered : is_covered seat ≡ is_covered s
 
   -- labels of what an instance sends
@@ -46,14 +46,14 @@ module _ {R : Type 0} (S : Sys R) (laws : IsSys S) (z : Seeing) where
       by_msg (Fence_on k) l = tt
 
   -- a move of the machine, once the world shows the state that it leads to
-  pub moves_on : (w' : World S) (s : Seat S.F) (mv : MachineStep R) (x' : State R) → Holds S z w' x' → moved S.F (seat_shape S.F s) mv ≡ x' → Allowed (shape S.F (base_of s)) mv → Goes_to w' s (arrived_by mv)
+  pub moves_on : (w' : World S) (s : UnitSeat S.F) (mv : MachineStep R) (x' : State R) → Holds S z w' x' → moved S.F (seat_shape S.F s) mv ≡ x' → Allowed (shape S.F (base_of s)) mv → Goes_to w' s (arrived_by mv)
   moves_on w' s mv x' hx is al = let g = seat_goes_on S.F s mv al in record { seat = g.0; holds = subst (λ v. Holds S z w' v) (sym is ∙ g.1) hx; order = g.2; covered = covered_stays S.F s mv al }
 
-  pub same_order : (b : Bool) (ys : List ℕ) → Order b ys (ys ++ [])
+  pub same_order : (b : Bool) (ys : List ℕ) → IsOrderedAs b ys (ys ++ [])
   same_order true ys = λ q. ap (λ v. Rattle.unit_machine.proofs.Stages.times q v) (sym (append-nil ys))
   same_order false ys = sym (append-nil ys)
 
-  module _ (w : World S) (s : Seat S.F) (h : Holds S z w (seat_shape S.F s)) (p y : ℕ) (m : Msg R) (rest : List (Msg R)) (y0 : (y == 0) ≡ false) (y1 : (y == 1) ≡ false) (waits : w.link p y ≡ m ∷ rest) where
+  module _ (w : World S) (s : UnitSeat S.F) (h : Holds S z w (seat_shape S.F s)) (p y : ℕ) (m : Msg R) (rest : List (Msg R)) (y0 : (y == 0) ≡ false) (y1 : (y == 1) ≡ false) (waits : w.link p y ≡ m ∷ rest) where
     abbrev x : State R
     x = seat_shape S.F s
 

@@ -25,7 +25,7 @@ module _ {R : Type 0} (S : Sys R) (laws : IsSys S) (z : Seeing) (num : (z.op.num
   n = z.op.num
 
   abbrev mine : ℕ → Bool
-  mine p = same_unit (S.unit_of p) z.unit
+  mine p = same_unit (S.packet_unit p) z.unit
 
   -- rules
   first_is_found : (rs : List Ruling) → Each (Rule_label S z) rs → first_rule S z.unit rs ≡ find_rule n rs
@@ -84,10 +84,10 @@ module _ {R : Type 0} (S : Sys R) (laws : IsSys S) (z : Seeing) (num : (z.op.num
 
   -- tables
   process_mine : (t : S.B.T) (p : ℕ) → mine p ≡ true → S.B.at z.unit (process S t p) ≡ Some (S.F.step (S.B.at z.unit t) p)
-  process_mine t p e = let same : S.unit_of p ≡ z.unit = same_unit-true (S.unit_of p) z.unit e in laws.written z.unit (S.unit_of p) (S.F.step (S.B.at (S.unit_of p) t) p) t ∙ rw e (ap (λ u. Some (S.F.step (S.B.at u t) p)) same)
+  process_mine t p e = let same : S.packet_unit p ≡ z.unit = same_unit-true (S.packet_unit p) z.unit e in laws.written z.unit (S.packet_unit p) (S.F.step (S.B.at (S.packet_unit p) t) p) t ∙ rw e (ap (λ u. Some (S.F.step (S.B.at u t) p)) same)
 
   process_other : (t : S.B.T) (p : ℕ) → mine p ≡ false → S.B.at z.unit (process S t p) ≡ S.B.at z.unit t
-  process_other t p e = laws.written z.unit (S.unit_of p) (S.F.step (S.B.at (S.unit_of p) t) p) t ∙ rw e refl
+  process_other t p e = laws.written z.unit (S.packet_unit p) (S.F.step (S.B.at (S.packet_unit p) t) p) t ∙ rw e refl
 
   process_seen : (w : Where) (t : S.B.T) (ps : List ℕ) (o : Option R) → S.B.at z.unit t ≡ o → S.B.at z.unit (process_all S t ps) ≡ runs S.F o (map (on w) (only_mine fr ps))
   process_seen w t [] o e = e
@@ -188,12 +188,12 @@ module _ {R : Type 0} (S : Sys R) (laws : IsSys S) (z : Seeing) (num : (z.op.num
     rule_other p (Some r) off = kind_other p r.num r.rule off
 
     pub carry_goes : (p : ℕ) (parts : List (Part R)) (refuse : Option Answer) → Inst_goes (inst_step S i (Carry_on p)) (does w parts refuse x (seen fr (Carry_on p)))
-    carry_goes p parts refuse = elim (mine p) as (λ b. mine p ≡ b → Inst_goes (by_rule S i p (first_rule S (S.unit_of p) i.rules)) (does w parts refuse x (where_true b (Carry p)))) [
+    carry_goes p parts refuse = elim (mine p) as (λ b. mine p ≡ b → Inst_goes (by_rule S i p (first_rule S (S.packet_unit p) i.rules)) (does w parts refuse x (where_true b (Carry p)))) [
       | true ↦ λ is.
-          let same : S.unit_of p ≡ z.unit = same_unit-true (S.unit_of p) z.unit is in
-          let found : first_rule S (S.unit_of p) i.rules ≡ find_rule n i.rules = ap (λ u. first_rule S u i.rules) same ∙ first_is_found i.rules s.rules in
+          let same : S.packet_unit p ≡ z.unit = same_unit-true (S.packet_unit p) z.unit is in
+          let found : first_rule S (S.packet_unit p) i.rules ≡ find_rule n i.rules = ap (λ u. first_rule S u i.rules) same ∙ first_is_found i.rules s.rules in
           subst (λ o. Inst_goes (by_rule S i p o) (carried S.F w x.rule x p)) (sym found) (rule_mine p (find_rule n i.rules) is refl)
-      | false ↦ λ off. rule_other p (first_rule S (S.unit_of p) i.rules) off
+      | false ↦ λ off. rule_other p (first_rule S (S.packet_unit p) i.rules) off
     ] refl
 
     pub pass_goes : (p : ℕ) (parts : List (Part R)) (refuse : Option Answer) → Inst_goes (inst_step S i (Pass_on p)) (does w parts refuse x (seen fr (Pass_on p)))

@@ -70,7 +70,7 @@ module _ {R : Type 0} (S : Sys R) (A : Sharing S) (z : Seeing_share) where
     others : (r : ℕ) → (r == 1) ≡ false → share_items S A z r (sent_for r (as_old (inst_step S i m).sends)) ≡ []
 
   answers : (i : Inst_n S) (m : Msg R) → Answers i m
-  answers i (Carry_on p) = let h = carry_unseen i p (first_rule S (S.unit_of p) i.rules) in record { to_c = unseen_view (inst_step S i (Carry_on p)).sends h 1; others = λ r _. unseen_view (inst_step S i (Carry_on p)).sends h r }
+  answers i (Carry_on p) = let h = carry_unseen i p (first_rule S (S.packet_unit p) i.rules) in record { to_c = unseen_view (inst_step S i (Carry_on p)).sends h 1; others = λ r _. unseen_view (inst_step S i (Carry_on p)).sends h r }
   answers i (Pass_on p) = record { to_c = refl; others = λ r _. refl }
   answers i (Fence_on n) = record { to_c = refl; others = λ r off. let other : (1 == r) ≡ false = grind (arith, nat_tests) in rw other refl }
   answers i (Mv g m) = record { to_c = unseen_view (on_move S i g m).sends (move_unseen i g m) 1; others = λ r _. unseen_view (on_move S i g m).sends (move_unseen i g m) r }

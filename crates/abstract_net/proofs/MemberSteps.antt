@@ -56,8 +56,8 @@ module _ {R : Type 0} (S : Sys R) (A : Sharing S) (laws : IsSys S) (z : Seeing_s
 
   -- A packet in a table
   process_at : (t : S.B.T) (p : ℕ) → S.B.at z.unit (process S t p) ≡ (if mine S A z p then Some (S.F.step (S.B.at z.unit t) p) else S.B.at z.unit t)
-  process_at t p = laws.written z.unit (S.unit_of p) (S.F.step (S.B.at (S.unit_of p) t) p) t ∙ elim (mine S A z p) as (λ b. mine S A z p ≡ b → (if b then Some (S.F.step (S.B.at (S.unit_of p) t) p) else S.B.at z.unit t) ≡ (if b then Some (S.F.step (S.B.at z.unit t) p) else S.B.at z.unit t)) [
-    | true ↦ λ on. ap (λ u. Some (S.F.step (S.B.at u t) p)) (same_unit-true (S.unit_of p) z.unit on)
+  process_at t p = laws.written z.unit (S.packet_unit p) (S.F.step (S.B.at (S.packet_unit p) t) p) t ∙ elim (mine S A z p) as (λ b. mine S A z p ≡ b → (if b then Some (S.F.step (S.B.at (S.packet_unit p) t) p) else S.B.at z.unit t) ≡ (if b then Some (S.F.step (S.B.at z.unit t) p) else S.B.at z.unit t)) [
+    | true ↦ λ on. ap (λ u. Some (S.F.step (S.B.at u t) p)) (same_unit-true (S.packet_unit p) z.unit on)
     | false ↦ λ _. refl
   ] refl
 
@@ -75,18 +75,18 @@ module _ {R : Type 0} (S : Sys R) (A : Sharing S) (laws : IsSys S) (z : Seeing_s
   ran_at y (p ∷ ps) = elim (mine S A z p) as (λ b. (if b then (p, y) ∷ ran_of S A z.unit (at_node y ps) else ran_of S A z.unit (at_node y ps)) ≡ share.at_node y (if b then p ∷ none_mine S z.unit ps else none_mine S z.unit ps)) [ true ↦ ap (λ v. (p, y) ∷ v) (ran_at y ps) | false ↦ ran_at y ps ]
 
   -- the chunk of a packet
-  chunk_sent : (n p : ℕ) (t : S.B.T) → shared_chunk S A n p (process S t p) ≡ (1, New (S_shared n (S.unit_of p, S.F.step (S.B.at (S.unit_of p) t) p))) ∷ []
+  chunk_sent : (n p : ℕ) (t : S.B.T) → shared_chunk S A n p (process S t p) ≡ (1, New (S_shared n (S.packet_unit p, S.F.step (S.B.at (S.packet_unit p) t) p))) ∷ []
   chunk_sent n p t =
-      let self = same_unit_equiv.refl (S.unit_of p) in
-      let is : S.B.at (S.unit_of p) (process S t p) ≡ Some (S.F.step (S.B.at (S.unit_of p) t) p) = laws.written (S.unit_of p) (S.unit_of p) (S.F.step (S.B.at (S.unit_of p) t) p) t ∙ rw self refl in
-      ap (λ o. option_map_or (λ r. (1, New (S_shared n (S.unit_of p, r))) ∷ []) o []) is
+      let self = same_unit_equiv.refl (S.packet_unit p) in
+      let is : S.B.at (S.packet_unit p) (process S t p) ≡ Some (S.F.step (S.B.at (S.packet_unit p) t) p) = laws.written (S.packet_unit p) (S.packet_unit p) (S.F.step (S.B.at (S.packet_unit p) t) p) t ∙ rw self refl in
+      ap (λ o. option_map_or (λ r. (1, New (S_shared n (S.packet_unit p, r))) ∷ []) o []) is
 
-  chunk_seen : (y p : ℕ) (t : S.B.T) → record_at z.unit ((S.unit_of p, S.F.step (S.B.at (S.unit_of p) t) p) ∷ []) ≡ chunk_of f p (stepped f y (S.B.at z.unit t) p)
+  chunk_seen : (y p : ℕ) (t : S.B.T) → record_at z.unit ((S.packet_unit p, S.F.step (S.B.at (S.packet_unit p) t) p) ∷ []) ≡ chunk_of f p (stepped f y (S.B.at z.unit t) p)
   chunk_seen y p t =
-      record_first z.unit ((S.unit_of p, S.F.step (S.B.at (S.unit_of p) t) p) ∷ [])
-      ∙ ap (λ b. first (if b then S.F.step (S.B.at (S.unit_of p) t) p ∷ [] else [])) (same_unit_equiv.symm z.unit (S.unit_of p))
-      ∙ elim (mine S A z p) as (λ b. mine S A z p ≡ b → first (if b then S.F.step (S.B.at (S.unit_of p) t) p ∷ [] else []) ≡ (if b then share.runs S.F (S.B.at z.unit t) (share.at_node y (if b then p ∷ [] else [])) else None)) [
-        | true ↦ λ on. ap (λ u. Some (S.F.step (S.B.at u t) p)) (same_unit-true (S.unit_of p) z.unit on)
+      record_first z.unit ((S.packet_unit p, S.F.step (S.B.at (S.packet_unit p) t) p) ∷ [])
+      ∙ ap (λ b. first (if b then S.F.step (S.B.at (S.packet_unit p) t) p ∷ [] else [])) (same_unit_equiv.symm z.unit (S.packet_unit p))
+      ∙ elim (mine S A z p) as (λ b. mine S A z p ≡ b → first (if b then S.F.step (S.B.at (S.packet_unit p) t) p ∷ [] else []) ≡ (if b then share.runs S.F (S.B.at z.unit t) (share.at_node y (if b then p ∷ [] else [])) else None)) [
+        | true ↦ λ on. ap (λ u. Some (S.F.step (S.B.at u t) p)) (same_unit-true (S.packet_unit p) z.unit on)
         | false ↦ λ _. refl
       ] refl
 
@@ -100,13 +100,13 @@ module _ {R : Type 0} (S : Sys R) (A : Sharing S) (laws : IsSys S) (z : Seeing_s
 
     -- the chunk as the unit sees it
     shared_to : (n p : ℕ) (t : S.B.T) → (n == z.num) ≡ true → share_items S A z 1 (sent_for 1 (shared_chunk S A n p (process S t p))) ≡ Chunk (chunk_of f p (stepped f y (S.B.at z.unit t) p)) ∷ []
-    shared_to n p t on = ap (λ xs. share_items S A z 1 (sent_for 1 xs)) (chunk_sent n p t) ∙ ap (λ b. add (where_true b (Chunk (record_at z.unit ((S.unit_of p, S.F.step (S.B.at (S.unit_of p) t) p) ∷ [])))) []) on ∙ ap (λ o. Chunk o ∷ []) (chunk_seen y p t)
+    shared_to n p t on = ap (λ xs. share_items S A z 1 (sent_for 1 xs)) (chunk_sent n p t) ∙ ap (λ b. add (where_true b (Chunk (record_at z.unit ((S.packet_unit p, S.F.step (S.B.at (S.packet_unit p) t) p) ∷ [])))) []) on ∙ ap (λ o. Chunk o ∷ []) (chunk_seen y p t)
 
     shared_none : (n p : ℕ) (t : S.B.T) → (n == z.num) ≡ false → share_items S A z 1 (sent_for 1 (shared_chunk S A n p (process S t p))) ≡ []
-    shared_none n p t off = ap (λ xs. share_items S A z 1 (sent_for 1 xs)) (chunk_sent n p t) ∙ ap (λ b. add (where_true b (Chunk (record_at z.unit ((S.unit_of p, S.F.step (S.B.at (S.unit_of p) t) p) ∷ [])))) []) off
+    shared_none n p t off = ap (λ xs. share_items S A z 1 (sent_for 1 xs)) (chunk_sent n p t) ∙ ap (λ b. add (where_true b (Chunk (record_at z.unit ((S.packet_unit p, S.F.step (S.B.at (S.packet_unit p) t) p) ∷ [])))) []) off
 
     shared_others : (n p : ℕ) (t : S.B.T) (r : ℕ) → (r == 1) ≡ false → share_items S A z r (sent_for r (shared_chunk S A n p (process S t p))) ≡ []
-    shared_others n p t r off = ap (λ xs. share_items S A z r (sent_for r xs)) (chunk_sent n p t) ∙ not_others (New (S_shared n (S.unit_of p, S.F.step (S.B.at (S.unit_of p) t) p))) r off
+    shared_others n p t r off = ap (λ xs. share_items S A z r (sent_for r xs)) (chunk_sent n p t) ∙ not_others (New (S_shared n (S.packet_unit p, S.F.step (S.B.at (S.packet_unit p) t) p))) r off
 
     shared_home : (n p : ℕ) → (n == z.num) ≡ true → (y == z.home) ≡ true → Sees (Shared_on n true p) (Some (Shared p))
     shared_home n p on here = record {
@@ -205,7 +205,7 @@ module _ {R : Type 0} (S : Sys R) (A : Sharing S) (laws : IsSys S) (z : Seeing_s
     member_sees covered (Shared_on n home p) l = shared_sees n p home l
     member_sees covered (S_sync n home cs) l = sync_sees n home cs l
     member_sees covered (S_get n g) l = get_sees n g covered l
-    member_sees covered (Diverted_on p) l = idles (new_seen S A z y (Diverted_on p)) (idle_else (S.takes z.filter (S.unit_of p)) p (Diverted p) refl)
+    member_sees covered (Diverted_on p) l = idles (new_seen S A z y (Diverted_on p)) (idle_else (S.takes z.filter (S.packet_unit p)) p (Diverted p) refl)
     member_sees covered (S_asked x) l = idles None refl
     member_sees covered (S_install n g from) l = idles (new_seen S A z y (S_install n g from)) (idle_if (n == z.num) (fit S A z (from == z.home) Install) (idle_fit (from == z.home) Install refl))
     member_sees covered (S_forward n home p to) l = idles (new_seen S A z y (S_forward n home p to)) (idle_else (n == z.num) p (fit S A z (same home (to == z.home)) (Forward p to)) (idle_fit (same home (to == z.home)) (Forward p to) refl))

@@ -13,7 +13,7 @@ use Rattle.flow_filter.specs.declared.filter.Filter.{Filter}
 use Rattle.unit_machine.proofs.SeenInst.{Tables, Laws, r_stream, r_delete, r_restore, r_put}
 
 -- what is asked for
-pub record Want : Type 0 where
+pub record MoveAsked : Type 0 where
   pub num : ℕ
   pub src : ℕ
   pub dst : ℕ
@@ -22,7 +22,7 @@ pub record Want : Type 0 where
 
 pub data Msg (R : Type 0) : Type 0 where
   In_packet : ℕ → Msg R
-  Asked : Want → Msg R
+  Asked : MoveAsked → Msg R
   Carry_on : ℕ → Msg R
   Pass_on : ℕ → Msg R
   Fence_on : ℕ → Msg R
@@ -37,7 +37,7 @@ pub record Room : Type 0 where
 pub record Sys (R : Type 0) : Type 1 where
   pub F : Steps R
   pub B : Tables R
-  pub unit_of : ℕ → units.Unit
+  pub packet_unit : ℕ → units.Unit
   pub takes : Filter → units.Unit → Bool
   pub meets : Filter → Filter → Bool
   pub newest : Chunks R → ℕ
@@ -125,7 +125,7 @@ module _ {R : Type 0} (S : Sys R) where
     pub ran : List ℕ
 
   abbrev pub process : S.B.T → ℕ → S.B.T
-  process t p = S.write (S.unit_of p) (S.F.step (S.B.at (S.unit_of p) t) p) t
+  process t p = S.write (S.packet_unit p) (S.F.step (S.B.at (S.packet_unit p) t) p) t
 
   abbrev pub process_all : S.B.T → List ℕ → S.B.T
   process_all t [] = t
@@ -161,7 +161,7 @@ module _ {R : Type 0} (S : Sys R) where
   fenced i n h = record { node = record i { live = process_all i.live h; rules = drop_rule n i.rules }; sends = to_ctrl (M_fenced n) ∷ []; ran = h }
 
   abbrev pub inst_step : Inst_n → Msg R → I_did
-  inst_step i (Carry_on p) = by_rule i p (first_rule S (S.unit_of p) i.rules)
+  inst_step i (Carry_on p) = by_rule i p (first_rule S (S.packet_unit p) i.rules)
   inst_step i (Pass_on p) = runs_it i p
   inst_step i (Fence_on n) = fenced i n (held_of (find_rule n i.rules))
   inst_step i (Mv g m) = on_move i g m
@@ -247,13 +247,13 @@ abbrev pub meets_any : {R : Type 0} → Sys R → Filter → List (Open R) → B
 meets_any S g [] = false
 meets_any S g (e ∷ es) = if S.meets g e.filter then true else meets_any S g es
 
-abbrev pub may_begin : {R : Type 0} → Sys R → List (Open R) → Want → Bool
+abbrev pub may_begin : {R : Type 0} → Sys R → List (Open R) → MoveAsked → Bool
 may_begin S es x = (nat_lt 1 x.src && nat_lt 1 x.dst) && (not (x.src == x.dst) && not (meets_any S x.filter es))
 
-abbrev pub new_op : {R : Type 0} → ℕ → Want → Open R
+abbrev pub new_op : {R : Type 0} → ℕ → MoveAsked → Open R
 new_op n x = record { op = record { num = n; src = x.src; dst = x.dst; keep = x.keep }; filter = x.filter; phase = R_freezing; store = [] }
 
-abbrev pub begin_sends : {R : Type 0} → ℕ → Want → List (ℕ × Msg R)
+abbrev pub begin_sends : {R : Type 0} → ℕ → MoveAsked → List (ℕ × Msg R)
 begin_sends n x = (x.src, Mv x.filter (M_enable n Drops)) ∷ []
 
 -- the switch: a route for each unit
@@ -301,9 +301,9 @@ module _ {R : Type 0} (S : Sys R) where
   sw_next w p m = record w { target = λ v. sw_target S w.target m v; link = links_after w.link p 0 (sw_sends m) }
 
   abbrev pub in_next : World S → ℕ → World S
-  in_next w q = record w { link = λ i j. w.link i j ++ (if i == 0 then sent_for j ((w.target (S.unit_of q), Carry_on q) ∷ []) else []) }
+  in_next w q = record w { link = λ i j. w.link i j ++ (if i == 0 then sent_for j ((w.target (S.packet_unit q), Carry_on q) ∷ []) else []) }
 
-  abbrev pub begin_next : World S → Want → World S
+  abbrev pub begin_next : World S → MoveAsked → World S
   begin_next w x = record w { ops = w.ops ++ new_op x.num x ∷ []; next = suc x.num; link = λ i j. w.link i j ++ (if i == 1 then sent_for j (begin_sends x.num x) else []) }
 
 -- what one unit sees

@@ -7,7 +7,7 @@ use Rattle.unit_machine.proofs.Machine.{Item, State, C_did, goes, from_a, from_b
 use Rattle.unit_machine.proofs.Real.{add, sent_for}
 use Rattle.unit_machine.proofs.Pairs.{expect, after_take, ctrl_from_a, ctrl_from_b, nothing_seen, Shown_by, By_sa, By_sb, By_sc, By_ca, By_cb, By_ac, By_bc, By_cc, By_cs, shown_by}
 use Rattle.unit_machine.proofs.Labels.{Each}
-use Rattle.unit_machine.proofs.Seats.{Seat, seat_shape, seat_all, seat_loose}
+use Rattle.unit_machine.proofs.Seats.{UnitSeat, seat_shape, seat_all, seat_loose}
 use Rattle.unit_machine.proofs.NetViews.{items}
 use Rattle.unit_machine.proofs.ToRemove.{third_silent}
 use Rattle.abstract_net.proofs.Net.{ctrl_next, Msg, Sys, IsSys, Open, find_op, C_step, ctrl_step, World, links_after, seen}
@@ -47,7 +47,7 @@ module _ {R : Type 0} (S : Sys R) (laws : IsSys S) (z : Seeing) where
   pub one_unseen : (y r : ℕ) (m : Msg R) → seen (frame S z) m ≡ None → (j : ℕ) → sent S z y ((r, m) ∷ []) j ≡ []
   one_unseen y r m none j = elim ((y == 0) && (j == 0)) as (λ b. (if b then [] else its (if r == j then m ∷ [] else [])) ≡ []) [ true ↦ refl | false ↦ elim (r == j) as (λ b. its (if b then m ∷ [] else []) ≡ []) [ true ↦ rw none refl | false ↦ refl ] ]
 
-  module _ (w : World S) (s : Seat S.F) (h : Holds S z w (seat_shape S.F s)) (p : ℕ) (m : Msg R) (rest : List (Msg R)) (waits : w.link p 1 ≡ m ∷ rest) where
+  module _ (w : World S) (s : UnitSeat S.F) (h : Holds S z w (seat_shape S.F s)) (p : ℕ) (m : Msg R) (rest : List (Msg R)) (waits : w.link p 1 ≡ m ∷ rest) where
     abbrev x : State R
     x = seat_shape S.F s
 

@@ -7,7 +7,7 @@ use Rattle.unit_machine.proofs.Real.{record_at, where_true, add, sent_for}
 use Rattle.unit_machine.proofs.Real as Real
 use Rattle.unit_machine.proofs.NetViews.{items-append}
 use Rattle.unit_machine.proofs.Seen.{sent_for-append}
-use Rattle.share_machine.proofs.Share.{Item, Item.Forward, Item.Get, Item.Sync, Item.Diverted, Item.Fenced, Item.Chunks, Item.Chunk, Item.Synced, Item.Stray, UnitShare, Phase, Phase.Fencing, Phase.Getting, Phase.Setting, Phase.Idle, Phase.Out, Phase.Syncing, C_did, has, without, only, nowhere, waits, serve, answers, sync_to, share_does}
+use Rattle.share_machine.proofs.Share.{Item, Item.Forward, Item.Get, Item.Sync, Item.Diverted, Item.Fenced, Item.Chunks, Item.Chunk, Item.Synced, Item.Stray, UnitShare, Phase, Phase.Fencing, Phase.Getting, Phase.Setting, Phase.Idle, Phase.Out, Phase.Syncing, C_did, has, without_number, only, nowhere, waits, serve, answers, sync_to, share_does}
 use Rattle.share_machine.proofs.Stages.{distinct, IsShare}
 use Rattle.share_machine.proofs.Lists.{self, has-without, apart_of}
 use Rattle.abstract_net.proofs.Net.{Sys}
@@ -18,16 +18,16 @@ use Rattle.abstract_net.proofs.Shares.{Any, Any.New, Share_msg.S_forward, Share_
 use Rattle.nf_function.specs.declared.unit.Unit as units
 
 -- the loop over the members: one message for each but one
-syncs_sent : {R : Type 0} (n home j k : ℕ) (cs : Real.Chunks R) (ms : List ℕ) → distinct ms ≡ true → sent_for k (syncs n home j cs ms) ≡ (if has (without ms j) k then New (S_sync n (k == home) cs) ∷ [] else [])
+syncs_sent : {R : Type 0} (n home j k : ℕ) (cs : Real.Chunks R) (ms : List ℕ) → distinct ms ≡ true → sent_for k (syncs n home j cs ms) ≡ (if has (without_number ms j) k then New (S_sync n (k == home) cs) ∷ [] else [])
 syncs_sent n home j k cs [] d = refl
 syncs_sent n home j k cs (m ∷ ms) d =
     let a = apart_of (has ms m) (distinct ms) d in
-    elim (m == j) as (λ b. sent_for k (if b then syncs n home j cs ms else (m, New (S_sync n (m == home) cs)) ∷ syncs n home j cs ms) ≡ (if has (if b then without ms j else m ∷ without ms j) k then New (S_sync n (k == home) cs) ∷ [] else [])) [
+    elim (m == j) as (λ b. sent_for k (if b then syncs n home j cs ms else (m, New (S_sync n (m == home) cs)) ∷ syncs n home j cs ms) ≡ (if has (if b then without_number ms j else m ∷ without_number ms j) k then New (S_sync n (k == home) cs) ∷ [] else [])) [
       | true ↦ syncs_sent n home j k cs ms a.1
-      | false ↦ elim (m == k) as (λ b. (m == k) ≡ b → (if b then New (S_sync n (m == home) cs) ∷ sent_for k (syncs n home j cs ms) else sent_for k (syncs n home j cs ms)) ≡ (if (if k == m then true else has (without ms j) k) then New (S_sync n (k == home) cs) ∷ [] else [])) [
+      | false ↦ elim (m == k) as (λ b. (m == k) ≡ b → (if b then New (S_sync n (m == home) cs) ∷ sent_for k (syncs n home j cs ms) else sent_for k (syncs n home j cs ms)) ≡ (if (if k == m then true else has (without_number ms j) k) then New (S_sync n (k == home) cs) ∷ [] else [])) [
         | true ↦ λ e.
             let eq : m ≡ k = (Decides-eqb m k).0 e in
-            let out : has (without ms j) k ≡ false = has-without ms j k ∙ rw (subst (λ y. has ms y ≡ false) eq a.0) refl in
+            let out : has (without_number ms j) k ≡ false = has-without ms j k ∙ rw (subst (λ y. has ms y ≡ false) eq a.0) refl in
             let on : (k == m) ≡ true = grind (arith, nat_tests) in
             let rest = syncs_sent n home j k cs ms a.1 in
             rw (rest, out, on) (ap (λ y. New (S_sync n (y == home) cs) ∷ []) eq)
@@ -57,15 +57,15 @@ module _ {R : Type 0} (S : Sys R) (A : Sharing S) (z : Seeing_share) (is : IsSha
   agrees false it = refl
 
   -- a Sync to each of the others, as the unit sees it
-  syncs_seen : (j : ℕ) (cs : Real.Chunks R) (k : ℕ) → share_items S A z k (sent_for k (syncs z.num z.home j cs z.members)) ≡ sync_to (without z.members j) (record_at z.unit cs) k
+  syncs_seen : (j : ℕ) (cs : Real.Chunks R) (k : ℕ) → share_items S A z k (sent_for k (syncs z.num z.home j cs z.members)) ≡ sync_to (without_number z.members j) (record_at z.unit cs) k
   syncs_seen j cs k =
-      ap (share_items S A z k) (syncs_sent z.num z.home j k cs z.members is.apart) ∙ elim (has (without z.members j) k) as (λ b. share_items S A z k (if b then New (S_sync z.num (k == z.home) cs) ∷ [] else []) ≡ (if b then Sync (record_at z.unit cs) ∷ [] else [])) [
+      ap (share_items S A z k) (syncs_sent z.num z.home j k cs z.members is.apart) ∙ elim (has (without_number z.members j) k) as (λ b. share_items S A z k (if b then New (S_sync z.num (k == z.home) cs) ∷ [] else []) ≡ (if b then Sync (record_at z.unit cs) ∷ [] else [])) [
         | true ↦ ap (λ b. add (where_true b (fit S A z (same (k == z.home) (k == z.home)) (Sync (record_at z.unit cs)))) []) (self z.num) ∙ ap (λ it. it ∷ []) (agrees (k == z.home) (Sync (record_at z.unit cs)))
         | false ↦ refl
       ]
 
   none_to_s : (j : ℕ) (cs : Real.Chunks R) → share_items S A z 0 (sent_for 0 (syncs z.num z.home j cs z.members)) ≡ []
-  none_to_s j cs = let out : has (without z.members j) 0 ≡ false = has-without z.members j 0 ∙ rw none_at_0 refl in syncs_seen j cs 0 ∙ rw out refl
+  none_to_s j cs = let out : has (without_number z.members j) 0 ≡ false = has-without z.members j 0 ∙ rw none_at_0 refl in syncs_seen j cs 0 ∙ rw out refl
 
   -- the packet that is served, as the unit sees it
   abbrev forward : ℕ → ℕ × Any R
@@ -137,7 +137,7 @@ module _ {R : Type 0} (S : Sys R) (A : Sharing S) (z : Seeing_share) (is : IsSha
   fenced_sees (Syncing left) q sender empty from = still (Syncing left) q empty
 
   pub chunks_sees : (ph : Phase) (q : List ℕ) (sender : ℕ) (cs : Real.Chunks R) → Idle_empty f ph q → Sender f ph sender (Chunks (record_at z.unit cs)) → Sees_row (Row ph q sender (Has_chunks cs)) (share_does f (Chunks (record_at z.unit cs)) ph q)
-  chunks_sees Getting q sender cs empty from = let on = is_home sender from in rw on (setting_sees Getting q (syncs z.num z.home z.home cs z.members) (sync_to (without z.members z.home) (record_at z.unit cs)) (none_to_s z.home cs) (λ k _. syncs_seen z.home cs k) (length (without z.members z.home)) q)
+  chunks_sees Getting q sender cs empty from = let on = is_home sender from in rw on (setting_sees Getting q (syncs z.num z.home z.home cs z.members) (sync_to (without_number z.members z.home) (record_at z.unit cs)) (none_to_s z.home cs) (λ k _. syncs_seen z.home cs k) (length (without_number z.members z.home)) q)
   chunks_sees Fencing q sender cs empty from = still Fencing q empty
   chunks_sees (Setting left) q sender cs empty from = still (Setting left) q empty
   chunks_sees Idle q sender cs empty from = still Idle q empty
@@ -148,7 +148,7 @@ module _ {R : Type 0} (S : Sys R) (A : Sharing S) (z : Seeing_share) (is : IsSha
   chunk_sees (Out m) q sender c empty from =
       let same_is : m ≡ sender = cc in
       let on : (sender == m) ≡ true = (Decides-eqb sender m).1 (sym same_is) in
-      rw on (syncing_sees (Out m) q (syncs z.num z.home m (c ∷ []) z.members) (sync_to (without z.members m) (record_at z.unit (c ∷ []))) (none_to_s m (c ∷ [])) (λ k _. syncs_seen m (c ∷ []) k) (length (without z.members m)) q)
+      rw on (syncing_sees (Out m) q (syncs z.num z.home m (c ∷ []) z.members) (sync_to (without_number z.members m) (record_at z.unit (c ∷ []))) (none_to_s m (c ∷ [])) (λ k _. syncs_seen m (c ∷ []) k) (length (without_number z.members m)) q)
   chunk_sees Fencing q sender c empty from = still Fencing q empty
   chunk_sees Getting q sender c empty from = still Getting q empty
   chunk_sees (Setting left) q sender c empty from = still (Setting left) q empty

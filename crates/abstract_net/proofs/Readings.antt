@@ -7,7 +7,7 @@ use Rattle.unit_machine.proofs.UnitPieces.{nil_left}
 use Rattle.unit_machine.proofs.Stages.{times, Same, shape, path}
 use Rattle.unit_machine.proofs.Ends.{same_of}
 use Rattle.unit_machine.proofs.Kept.{Kept, lives, on_way}
-use Rattle.unit_machine.proofs.Seats.{Seat, Covered, Is_beside, Is_away, seat_shape, seat_all, seat_path}
+use Rattle.unit_machine.proofs.Seats.{UnitSeat, Covered, Is_beside, Is_away, seat_shape, seat_all, seat_path}
 use Rattle.unit_machine.proofs.SeatLaws.{seat_kept}
 use Rattle.unit_machine.proofs.Rests.{exactly}
 use Rattle.abstract_net.proofs.Net.{Sys, IsSys, World}
@@ -32,7 +32,7 @@ not_both false c f e = refl
 firsts_bare : (d e : List Ran) (p : List ℕ) → firsts e ++ p ≡ [] → firsts (d ++ e) ≡ firsts d
 firsts_bare d e p none = firsts-append d e ∙ ap (λ v. firsts d ++ v) (nil_left (firsts e) p none) ∙ append-nil (firsts d)
 
-pub seat_parts : {R : Type 0} (F : Steps R) (s : Seat F) → seat_all s ≡ firsts (seat_shape F s).done ++ seat_path s
+pub seat_parts : {R : Type 0} (F : Steps R) (s : UnitSeat F) → seat_all s ≡ firsts (seat_shape F s).done ++ seat_path s
 seat_parts F (Covered s) = refl
 seat_parts F (Is_beside s) = ap (λ v. v ++ seat_path (Is_beside s)) (sym (firsts_bare s.d (shape F s.base).done (path s.base) s.bare))
 seat_parts F (Is_away s) = ap (λ v. v ++ s.l) (sym (firsts_bare s.d (shape F s.base).done (path s.base) s.bare))

@@ -7,7 +7,7 @@ use Rattle.unit_machine.proofs.Machine.{Where, At_a, At_b, At_c, Ran, after, Fre
 use Rattle.unit_machine.proofs.Lists.{firsts}
 use Rattle.unit_machine.proofs.Real as Real
 use Rattle.unit_machine.proofs.Real.{record_at, M_enable, M_stream, M_delete, M_put, M_restore, M_enabled, M_event, M_piece, M_deleted, M_put_ok, M_put_no, M_restored, M_fenced, M_forward, M_install, M_fence_to, where_true, add, only_mine, off_if}
-use Rattle.unit_machine.proofs.Seen.{Apart}
+use Rattle.unit_machine.proofs.Seen.{NodesDiffer}
 use Rattle.unit_machine.proofs.Labels.{Each, Without, Clean, each_both}
 use Rattle.unit_machine.proofs.Pairs.{Nodes, expect}
 use Rattle.unit_machine.proofs.Between.{rest_at}
@@ -40,7 +40,7 @@ module _ {R : Type 0} (S : Sys R) where
 
 module _ {R : Type 0} (S : Sys R) (u : units.Unit) where
   abbrev pub mine : ℕ → Bool
-  mine p = same_unit (S.unit_of p) u
+  mine p = same_unit (S.packet_unit p) u
 
   abbrev pub Mv_nothing : Filter → Real.Msg R → Type 0
   Mv_nothing g (M_enable n k) = (S.takes g u ≡ false) × (is_free k ≡ false)
@@ -69,7 +69,7 @@ module _ {R : Type 0} (S : Sys R) (u : units.Unit) where
   Rest_rule r = (S.takes r.filter u ≡ false) × (none_mine r.held ≡ []) × (is_free r.rule ≡ false)
 
   abbrev pub Rest_op : Open R → Type 0
-  Rest_op e = (S.takes e.filter u ≡ false) × (Clean u e.phase × (none_mine e.store ≡ [])) × Apart e.op
+  Rest_op e = (S.takes e.filter u ≡ false) × (Clean u e.phase × (none_mine e.store ≡ [])) × NodesDiffer e.op
 
   abbrev pub carries_of : List (Msg R) → List ℕ
   carries_of [] = []
@@ -78,7 +78,7 @@ module _ {R : Type 0} (S : Sys R) (u : units.Unit) where
 
   abbrev pub done_u : List (ℕ × ℕ) → List ℕ
   done_u [] = []
-  done_u (d ∷ ds) = if same_unit (S.unit_of d.0) u then d.0 ∷ done_u ds else done_u ds
+  done_u (d ∷ ds) = if same_unit (S.packet_unit d.0) u then d.0 ∷ done_u ds else done_u ds
 
   pub record Rest (w : World S) (owner : ℕ) (d : List Ran) (l : List ℕ) : Type 0 where
     pub two : 2 ≤ owner
@@ -105,11 +105,11 @@ module _ {R : Type 0} (S : Sys R) (z : Seeing) where
 
   pub same_mine : (ps : List ℕ) → none_mine S u ps ≡ only_mine (frame S z) ps
   same_mine [] = refl
-  same_mine (p ∷ ps) = ap (λ v. if same_unit (S.unit_of p) u then p ∷ v else v) (same_mine ps)
+  same_mine (p ∷ ps) = ap (λ v. if same_unit (S.packet_unit p) u then p ∷ v else v) (same_mine ps)
 
   pub same_done : (ds : List (ℕ × ℕ)) → done_u S u ds ≡ done_of S z ds
   same_done [] = refl
-  same_done (d ∷ ds) = ap (λ v. if same_unit (S.unit_of d.0) u then d.0 ∷ v else v) (same_done ds)
+  same_done (d ∷ ds) = ap (λ v. if same_unit (S.packet_unit d.0) u then d.0 ∷ v else v) (same_done ds)
 
   -- From rest to a seat: the number n is on nothing.
   module _ (b : ℕ) (new : b ≤ n) where
@@ -157,7 +157,7 @@ module _ {R : Type 0} (S : Sys R) (z : Seeing) where
 
     view_rest : (i : ℕ) (ms : List (Msg R)) → Each (Below b) ms → Each (Nothing_of S u i) ms → its ms ≡ map Carry (carries_of S u ms)
     view_rest i [] e h = refl
-    view_rest i (Carry_on p ∷ ms) e h = elim (same_unit (S.unit_of p) u) as (λ t. add (where_true t (Carry p)) (its ms) ≡ map Carry (if t then p ∷ carries_of S u ms else carries_of S u ms)) [ true ↦ ap (λ v. Carry p ∷ v) (view_rest i ms e.1 h.1) | false ↦ view_rest i ms e.1 h.1 ]
+    view_rest i (Carry_on p ∷ ms) e h = elim (same_unit (S.packet_unit p) u) as (λ t. add (where_true t (Carry p)) (its ms) ≡ map Carry (if t then p ∷ carries_of S u ms else carries_of S u ms)) [ true ↦ ap (λ v. Carry p ∷ v) (view_rest i ms e.1 h.1) | false ↦ view_rest i ms e.1 h.1 ]
     view_rest i (Pass_on p ∷ ms) e h = let o = h.0 in rw o (view_rest i ms e.1 h.1)
     view_rest i (Fence_on k ∷ ms) e h = let o = off k e.0 in rw o (view_rest i ms e.1 h.1)
     view_rest i (Mv g m ∷ ms) e h = let o = mv_unseen g m e.0 h.0.1 in rw o (view_rest i ms e.1 h.1)
@@ -221,7 +221,7 @@ module _ {R : Type 0} (S : Sys R) (z : Seeing) where
   idle_phase At_b d l keep = refl
   idle_phase At_c d l keep = refl
 
-  pub rest_holds : (w : World S) → Global S w → w.next ≤ n → Apart z.op → Nodes z.op.src z.op.dst z.third → (side : Where) (d : List Ran) (l : List ℕ) (keep : Bool) → Rest S u w (place S z side) d l → Holds S z w (rest_at S.F side d l Idle keep)
+  pub rest_holds : (w : World S) → Global S w → w.next ≤ n → NodesDiffer z.op → Nodes z.op.src z.op.dst z.third → (side : Where) (d : List Ran) (l : List ℕ) (keep : Bool) → Rest S u w (place S z side) d l → Holds S z w (rest_at S.F side d l Idle keep)
   rest_holds w g new apart nodes side d l keep h = record {
     apart = apart;
     nodes = nodes;
@@ -267,10 +267,10 @@ module _ {R : Type 0} (S : Sys R) (z : Seeing) where
   no_side false false f e = refl
 
   mv_no_carry : (m : Real.Msg R) → no_carry (Real.seen (frame S z) m) ≡ true
-  mv_no_carry (M_forward p to) = no_if (same_unit (S.unit_of p) u) _ (no_side (to == z.op.src) (to == z.op.dst) (λ v. Rattle.unit_machine.proofs.Machine.Forward v p) (λ v. refl))
+  mv_no_carry (M_forward p to) = no_if (same_unit (S.packet_unit p) u) _ (no_side (to == z.op.src) (to == z.op.dst) (λ v. Rattle.unit_machine.proofs.Machine.Forward v p) (λ v. refl))
   mv_no_carry (M_fence_to k to) = no_if (k == n) _ (no_side (to == z.op.src) (to == z.op.dst) (λ v. Rattle.unit_machine.proofs.Machine.Fence_to v) (λ v. refl))
   mv_no_carry (M_install k from to) = no_if (k == n) _ (elim ((from == z.op.src) && (to == z.op.dst)) as (λ t. no_carry (Some (if t then Rattle.unit_machine.proofs.Machine.Install else Stray)) ≡ true) [ true ↦ refl | false ↦ refl ])
-  mv_no_carry (M_event k p) = no_if (same_unit (S.unit_of p) u) _ refl
+  mv_no_carry (M_event k p) = no_if (same_unit (S.packet_unit p) u) _ refl
   mv_no_carry (M_enable k r) = no_if (k == n) _ refl
   mv_no_carry (M_stream k) = no_if (k == n) _ refl
   mv_no_carry (M_delete k us) = no_if (k == n) _ refl
@@ -288,8 +288,8 @@ module _ {R : Type 0} (S : Sys R) (z : Seeing) where
   mv_nothing g (M_enable k r) e l = (l.0 ∙ off_if (k == n) _ e, l.1)
   mv_nothing g (M_stream k) e l = l ∙ off_if (k == n) _ e
   mv_nothing g (M_install k from to) e l = l ∙ off_if (k == n) _ e
-  mv_nothing g (M_event k p) e l = off_if (same_unit (S.unit_of p) u) _ e
-  mv_nothing g (M_forward p to) e l = off_if (same_unit (S.unit_of p) u) _ e
+  mv_nothing g (M_event k p) e l = off_if (same_unit (S.packet_unit p) u) _ e
+  mv_nothing g (M_forward p to) e l = off_if (same_unit (S.packet_unit p) u) _ e
   mv_nothing g (M_delete k us) e l = l (off_if (k == n) _ e)
   mv_nothing g (M_put k p first) e l = l (off_if (k == n) _ e)
   mv_nothing g (M_restore k cs) e l = l (off_if (k == n) _ e)
@@ -301,7 +301,7 @@ module _ {R : Type 0} (S : Sys R) (z : Seeing) where
   link_rest i [] [] e h = (refl, tt)
   link_rest i [] (p ∷ l) e h = cc
   link_rest i (Carry_on p ∷ ms) l e h =
-      elim (same_unit (S.unit_of p) u) as (λ t. add (where_true t (Carry p)) (its ms) ≡ map Carry l → ((if t then p ∷ carries_of S u ms else carries_of S u ms) ≡ l) × Each (Nothing_of S u i) (Carry_on p ∷ ms)) [
+      elim (same_unit (S.packet_unit p) u) as (λ t. add (where_true t (Carry p)) (its ms) ≡ map Carry l → ((if t then p ∷ carries_of S u ms else carries_of S u ms) ≡ l) × Each (Nothing_of S u i) (Carry_on p ∷ ms)) [
         | true ↦ λ g. by_list l g (λ k t. link_rest i ms k t h.1)
         | false ↦ λ g. let r = link_rest i ms l g h.1 in (r.0, (tt, r.1))
       ] e
@@ -313,7 +313,7 @@ module _ {R : Type 0} (S : Sys R) (z : Seeing) where
           let same : p ≡ q = cc in
           let r = more l tail in
           (rw (same, r.0) refl, (tt, r.1))
-  link_rest i (Pass_on p ∷ ms) l e h = let a = carry_head (seen (frame S z) (Pass_on p)) (its ms) l (no_if (same_unit (S.unit_of p) u) _ refl) e in let r = link_rest i ms l a.1 h.1 in (r.0, (off_if (same_unit (S.unit_of p) u) _ a.0, r.1))
+  link_rest i (Pass_on p ∷ ms) l e h = let a = carry_head (seen (frame S z) (Pass_on p)) (its ms) l (no_if (same_unit (S.packet_unit p) u) _ refl) e in let r = link_rest i ms l a.1 h.1 in (r.0, (off_if (same_unit (S.packet_unit p) u) _ a.0, r.1))
   link_rest i (Fence_on k ∷ ms) l e h = let a = carry_head (seen (frame S z) (Fence_on k)) (its ms) l (no_if (k == n) _ refl) e in let r = link_rest i ms l a.1 h.1 in (r.0, (tt, r.1))
   link_rest i (Mv g m ∷ ms) l e h = let a = carry_head (seen (frame S z) (Mv g m)) (its ms) l (mv_no_carry m) e in let r = link_rest i ms l a.1 h.1 in (r.0, ((h.0.0, mv_nothing g m a.0 h.0.1), r.1))
   link_rest i (In_packet p ∷ ms) l e h = let r = link_rest i ms l e h.1 in (r.0, (tt, r.1))

@@ -11,7 +11,7 @@ use Rattle.abstract_net.proofs.ShareLists.{found_each}
 use Rattle.abstract_net.proofs.ShareRows.{taking_each, taking_found}
 use Rattle.abstract_net.proofs.GlobalAll.{Disjoint, Of_share, Global_all}
 use Rattle.abstract_net.proofs.ShareViews.{mine, as_share}
-use Rattle.abstract_net.proofs.Shares.{Share_msg, Share_msg.Shared_on, Share_msg.Diverted_on, Share_msg.S_asked, Share_msg.S_install, Share_msg.S_forward, Share_msg.S_get, Share_msg.S_sync, Share_msg.S_chunks, Share_msg.S_shared, Share_msg.S_synced, same, Sharing, Open_share, find_share, share_taking, Whole, Seeing_share}
+use Rattle.abstract_net.proofs.Shares.{Share_msg, Share_msg.Shared_on, Share_msg.Diverted_on, Share_msg.S_asked, Share_msg.S_install, Share_msg.S_forward, Share_msg.S_get, Share_msg.S_sync, Share_msg.S_chunks, Share_msg.S_shared, Share_msg.S_synced, same, Sharing, Open_share, find_share, share_taking, WholeWorld, Seeing_share}
 use Rattle.nf_function.specs.declared.unit.Unit as units
 use Rattle.record_table.proofs.UnitOrder.{same_unit-true}
 
@@ -39,7 +39,7 @@ module _ {R : Type 0} (S : Sys R) (A : Sharing S) (z : Seeing_share) where
     ] is
   ] refl
 
-  module _ (w : Whole S A) (g : Global_all S A w) (covered : S.takes z.filter z.unit ≡ true) (ph : Phase) (q : List ℕ) (there : find_share w.shares z.num ≡ Some (as_share S A z ph q)) where
+  module _ (w : WholeWorld S A) (g : Global_all S A w) (covered : S.takes z.filter z.unit ≡ true) (ph : Phase) (q : List ℕ) (there : find_share w.shares z.num ≡ Some (as_share S A z ph q)) where
     pub own_is : (n : ℕ) (e : Open_share) → find_share w.shares n ≡ Some e → (n == z.num) ≡ true → e ≡ as_share S A z ph q
     own_is n e is on = let num : n ≡ z.num = (Decides-eqb n z.num).0 on in let both : Some e ≡ Some (as_share S A z ph q) = sym is ∙ ap (find_share w.shares) num ∙ there in cc
 
@@ -47,10 +47,10 @@ module _ {R : Type 0} (S : Sys R) (A : Sharing S) (z : Seeing_share) where
     other_is n e is off = g.apart z.num n (as_share S A z ph q) e there is (let other : (z.num == n) ≡ false = grind (arith, nat_tests) in other)
 
     -- what another share takes isn't the unit's
-    pub not_mine : (n p : ℕ) (e : Open_share) → find_share w.shares n ≡ Some e → (n == z.num) ≡ false → S.takes e.filter (S.unit_of p) ≡ true → mine S A z p ≡ false
+    pub not_mine : (n p : ℕ) (e : Open_share) → find_share w.shares n ≡ Some e → (n == z.num) ≡ false → S.takes e.filter (S.packet_unit p) ≡ true → mine S A z p ≡ false
     not_mine n p e is off takes = elim (mine S A z p) as (λ b. mine S A z p ≡ b → b ≡ false) [
       | true ↦ λ on.
-          let same_is : S.unit_of p ≡ z.unit = same_unit-true (S.unit_of p) z.unit on in
+          let same_is : S.packet_unit p ≡ z.unit = same_unit-true (S.packet_unit p) z.unit on in
           let its : S.takes e.filter z.unit ≡ true = ap (S.takes e.filter) (sym same_is) ∙ takes in
           let never : true ≡ false = sym its ∙ other_is n e is off z.unit covered in
           cc
@@ -92,8 +92,8 @@ module _ {R : Type 0} (S : Sys R) (A : Sharing S) (z : Seeing_share) where
 
     -- no packet of the unit waits at another share
     pub queue_other : (n : ℕ) (e : Open_share) → find_share w.shares n ≡ Some e → (n == z.num) ≡ false → Each (λ p. mine S A z p ≡ false) e.queue
-    queue_other n e is off = none_in e.queue (found_each (λ e. Each (λ p. S.takes e.filter (S.unit_of p) ≡ true) e.queue) w.shares n e g.queues is)
+    queue_other n e is off = none_in e.queue (found_each (λ e. Each (λ p. S.takes e.filter (S.packet_unit p) ≡ true) e.queue) w.shares n e g.queues is)
       where
-        none_in : (ps : List ℕ) → Each (λ p. S.takes e.filter (S.unit_of p) ≡ true) ps → Each (λ p. mine S A z p ≡ false) ps
+        none_in : (ps : List ℕ) → Each (λ p. S.takes e.filter (S.packet_unit p) ≡ true) ps → Each (λ p. mine S A z p ≡ false) ps
         none_in [] h = tt
         none_in (p ∷ ps) h = (not_mine n p e is off h.0, none_in ps h.1)

@@ -10,7 +10,7 @@ use Rattle.share_machine.proofs.Stages.{brings, Alike}
 use Rattle.share_machine.proofs.Lists.{cond-same}
 use Rattle.abstract_net.proofs.Net.{Sys, behind, links_after}
 use Rattle.abstract_net.proofs.ShareViews.{share_expect, unit_share, share_seen, share_items, as_share, Share_holds}
-use Rattle.abstract_net.proofs.Shares.{Any, Sharing, Whole, ran_of, Seeing_share}
+use Rattle.abstract_net.proofs.Shares.{Any, Sharing, WholeWorld, ran_of, Seeing_share}
 use Rattle.record_table.specs.Table.{same_unit}
 
 module _ {R : Type 0} (x : View R) where
@@ -84,20 +84,20 @@ module _ {R : Type 0} (S : Sys R) (A : Sharing S) (z : Seeing_share) where
 
   pub ran_of-append : (xs ys : List (ℕ × ℕ)) → ran_of S A z.unit (xs ++ ys) ≡ ran_of S A z.unit xs ++ ran_of S A z.unit ys
   ran_of-append [] ys = refl
-  ran_of-append (d ∷ xs) ys = elim (same_unit (S.unit_of d.0) z.unit) as (λ b. (if b then d ∷ ran_of S A z.unit (xs ++ ys) else ran_of S A z.unit (xs ++ ys)) ≡ (if b then d ∷ ran_of S A z.unit xs else ran_of S A z.unit xs) ++ ran_of S A z.unit ys) [
+  ran_of-append (d ∷ xs) ys = elim (same_unit (S.packet_unit d.0) z.unit) as (λ b. (if b then d ∷ ran_of S A z.unit (xs ++ ys) else ran_of S A z.unit (xs ++ ys)) ≡ (if b then d ∷ ran_of S A z.unit xs else ran_of S A z.unit xs) ++ ran_of S A z.unit ys) [
     | true ↦ ap (λ ds. d ∷ ds) (ran_of-append xs ys)
     | false ↦ ran_of-append xs ys
   ]
 
   -- a step is nothing to the unit, or a move of its machine that brings none of its packets
-  pub data Goes (w : Whole S A) (x : View R) : Type 0 where
+  pub data Goes (w : WholeWorld S A) (x : View R) : Type 0 where
     Nothing : Share_holds S A z w x → Goes w x
-    Moves : (mv : ShareMachineStep) → brings (unit_share S A z) mv ≡ [] → Share_holds S A z w (moved (unit_share S A z) x mv) → Goes w x
+    Moves_so : (mv : ShareMachineStep) → brings (unit_share S A z) mv ≡ [] → Share_holds S A z w (moved (unit_share S A z) x mv) → Goes w x
 
   expect_alike : (x y : View R) → Alike (unit_share S A z) x y → (i j : ℕ) → share_expect x i j ≡ share_expect y i j
   expect_alike x y a i j = let sc = a.sc in let cs = a.cs in let sw = a.sw j in let to = a.to j in let back = a.back i in rw (sc, cs, sw, to, back) refl
 
-  pub holds_alike : (w : Whole S A) (x y : View R) → Share_holds S A z w x → Alike (unit_share S A z) x y → Share_holds S A z w y
+  pub holds_alike : (w : WholeWorld S A) (x y : View R) → Share_holds S A z w x → Alike (unit_share S A z) x y → Share_holds S A z w y
   holds_alike w x y h a = record {
     links = λ i j e. h.links i j e ∙ expect_alike x y a i j;
     own = λ k m. h.own k m ∙ a.own k m;

@@ -3,7 +3,7 @@ use Rattle.std.proofs.Common.{◌≡◌, ℕ, true, false, Option, Some, None, L
 use Rattle.std.specs.Prelude.{if◌then◌else◌, ◌==◌, option_map}
 use Rattle.unit_machine.proofs.Real.{Chunks, M_fenced}
 use Rattle.unit_machine.proofs.Labels.{Each, each-append}
-use Rattle.share_machine.proofs.Share.{Phase, Phase.Fencing, Phase.Getting, Phase.Setting, Phase.Idle, Phase.Out, Phase.Syncing, without}
+use Rattle.share_machine.proofs.Share.{Phase, Phase.Fencing, Phase.Getting, Phase.Setting, Phase.Idle, Phase.Out, Phase.Syncing, without_number}
 use Rattle.share_machine.proofs.Lists.{self}
 use Rattle.abstract_net.proofs.Net.{Msg.In_packet, Msg.Asked, Msg.Carry_on, Msg.Pass_on, Msg.Fence_on, Msg.Mv, Sys}
 use Rattle.abstract_net.proofs.Holding.{EachSent}
@@ -34,7 +34,7 @@ module _ {R : Type 0} (S : Sys R) (A : Sharing S) where
   Tells es (New (S_chunks n cs)) e t = (find_share es n ≡ Some e) × (t ≡ Has_chunks cs)
   Tells es (New (S_shared n c)) e t = (find_share es n ≡ Some e) × (t ≡ Has_chunk c)
   Tells es (New (S_synced n)) e t = t ≡ Is_synced
-  Tells es (New (Diverted_on p)) e t = (share_taking S es (S.unit_of p) ≡ Some e) × (t ≡ Has_packet p)
+  Tells es (New (Diverted_on p)) e t = (share_taking S es (S.packet_unit p) ≡ Some e) × (t ≡ Has_packet p)
   Tells es (New m) e t = ⊥
 
   abbrev pub no_step : List Open_share → Shares_step S A
@@ -56,7 +56,7 @@ module _ {R : Type 0} (S : Sys R) (A : Sharing S) where
   told_cases G es p (New (S_chunks n cs)) nums none some = by_option G es p (Has_chunks cs) (find_share es n) none (λ e is. some e (Has_chunks cs) (found_own es n e is) (is, refl))
   told_cases G es p (New (S_shared n c)) nums none some = by_option G es p (Has_chunk c) (find_share es n) none (λ e is. some e (Has_chunk c) (found_own es n e is) (is, refl))
   told_cases G es p (New (S_synced n)) nums none some = by_option G es p Is_synced (find_share es n) none (λ e is. some e Is_synced (found_own es n e is) refl)
-  told_cases G es p (New (Diverted_on q)) nums none some = by_option G es p (Has_packet q) (share_taking S es (S.unit_of q)) none (λ e is. some e (Has_packet q) (taking_found es (S.unit_of q) e nums is) (is, refl))
+  told_cases G es p (New (Diverted_on q)) nums none some = by_option G es p (Has_packet q) (share_taking S es (S.packet_unit q)) none (λ e is. some e (Has_packet q) (taking_found es (S.packet_unit q) e nums is) (is, refl))
   told_cases G es p (New (Shared_on n home q)) nums none some = none
   told_cases G es p (New (S_asked x)) nums none some = none
   told_cases G es p (New (S_install n g from)) nums none some = none
@@ -88,8 +88,8 @@ module _ {R : Type 0} (S : Sys R) (A : Sharing S) where
 
     row_by : (sender : ℕ) (told : Told R) (ph : Phase) (q : List ℕ) → Told_of told → Each Q q → Keeps (s_row S A e sender told ph q)
     row_by sender Is_fenced Fencing q t h = elim (sender == e.home) as (λ b. Keeps (if b then s_goes S A Getting q ((e.home, New (S_get e.num e.filter)) ∷ []) else s_goes S A Fencing q [])) [ true ↦ (h, ((refl, refl, refl), tt)) | false ↦ (h, tt) ]
-    row_by sender (Has_chunks cs) Getting q t h = elim (sender == e.home) as (λ b. Keeps (if b then s_left S A Setting (length (without e.members e.home)) q (syncs e.num e.home e.home cs e.members) else s_goes S A Getting q [])) [ true ↦ (h, syncs_by e.home cs e.members t) | false ↦ (h, tt) ]
-    row_by sender (Has_chunk c) (Out m) q t h = elim (sender == m) as (λ b. Keeps (if b then s_left S A Syncing (length (without e.members m)) q (syncs e.num e.home m (c ∷ []) e.members) else s_goes S A (Out m) q [])) [ true ↦ (h, syncs_by m (c ∷ []) e.members t) | false ↦ (h, tt) ]
+    row_by sender (Has_chunks cs) Getting q t h = elim (sender == e.home) as (λ b. Keeps (if b then s_left S A Setting (length (without_number e.members e.home)) q (syncs e.num e.home e.home cs e.members) else s_goes S A Getting q [])) [ true ↦ (h, syncs_by e.home cs e.members t) | false ↦ (h, tt) ]
+    row_by sender (Has_chunk c) (Out m) q t h = elim (sender == m) as (λ b. Keeps (if b then s_left S A Syncing (length (without_number e.members m)) q (syncs e.num e.home m (c ∷ []) e.members) else s_goes S A (Out m) q [])) [ true ↦ (h, syncs_by m (c ∷ []) e.members t) | false ↦ (h, tt) ]
     row_by sender Is_synced (Setting left) q t h = (h, tt)
     row_by sender Is_synced (Syncing left) q t h = (h, tt)
     row_by sender (Has_packet p) ph q t h = (each-append Q q (p ∷ []) h (t, tt), tt)

@@ -21,7 +21,7 @@ use Rattle.abstract_net.proofs.ShareViews.{mine, unit_share, fit, move_seen, old
 use Rattle.abstract_net.proofs.ShareLabels.{taking_own, taking_other, queue_other}
 use Rattle.abstract_net.proofs.MemberMoves.{Unseen}
 use Rattle.abstract_net.proofs.OwnShare.{Sees_row, fenced_sees, chunks_sees, chunk_sees, synced_sees, packet_sees}
-use Rattle.abstract_net.proofs.Shares.{Any, Any.Old, Any.New, Share_msg.Shared_on, Share_msg.Diverted_on, Share_msg.S_asked, Share_msg.S_install, Share_msg.S_forward, Share_msg.S_get, Share_msg.S_sync, Share_msg.S_chunks, Share_msg.S_shared, Share_msg.S_synced, same, Sharing, Open_share, find_share, set_share, share_taking, Told, Told.Is_fenced, Told.Has_chunks, Told.Has_chunk, Told.Is_synced, Told.Has_packet, share_row, told_by, Shares_step, by_share, Whole, old_step, Seeing_share}
+use Rattle.abstract_net.proofs.Shares.{Any, Any.Old, Any.New, Share_msg.Shared_on, Share_msg.Diverted_on, Share_msg.S_asked, Share_msg.S_install, Share_msg.S_forward, Share_msg.S_get, Share_msg.S_sync, Share_msg.S_chunks, Share_msg.S_shared, Share_msg.S_synced, same, Sharing, Open_share, find_share, set_share, share_taking, Told, Told.Is_fenced, Told.Has_chunks, Told.Has_chunk, Told.Is_synced, Told.Has_packet, share_row, told_by, Shares_step, by_share, WholeWorld, old_step, Seeing_share}
 use Rattle.record_table.proofs.UnitOrder.{same_unit-true}
 
 pub found_set : (n : ℕ) (ph : Phase) (q : List ℕ) (es : List Open_share) (e : Open_share) → find_share es n ≡ Some e → find_share (set_share n ph q es) n ≡ Some (record e { phase = ph; queue = q })
@@ -75,7 +75,7 @@ module _ {R : Type 0} (S : Sys R) (A : Sharing S) (z : Seeing_share) where
   another_view e off k [] h = refl
   another_view e off k (x ∷ xs) h = elim (x.0 == k) as (λ b. share_items S A z k (if b then x.1 ∷ sent_for k xs else sent_for k xs) ≡ []) [ true ↦ ap (λ o. add o (share_items S A z k (sent_for k xs))) (another e off x.0 k x.1 h.0) ∙ another_view e off k xs h.1 | false ↦ another_view e off k xs h.1 ]
 
-  module _ (is : IsShare f) (insts : (k : ℕ) → has z.members k ≡ true → 2 ≤ k) (w : Whole S A) (g : Global_all S A w) (covered : S.takes z.filter z.unit ≡ true) (ph : Phase) (q : List ℕ) (there : find_share w.shares z.num ≡ Some (as_share S A z ph q)) (empty : Idle_empty f ph q) (p : ℕ) where
+  module _ (is : IsShare f) (insts : (k : ℕ) → has z.members k ≡ true → 2 ≤ k) (w : WholeWorld S A) (g : Global_all S A w) (covered : S.takes z.filter z.unit ≡ true) (ph : Phase) (q : List ℕ) (there : find_share w.shares z.num ≡ Some (as_share S A z ph q)) (empty : Idle_empty f ph q) (p : ℕ) where
     abbrev es : List Open_share
     es = w.shares
 
@@ -116,21 +116,21 @@ module _ {R : Type 0} (S : Sys R) (A : Sharing S) (z : Seeing_share) where
             of_other e t (ap (find_share es) num ∙ found_e) (ap (λ k. k == z.num) num ∙ off) (told e)
 
     -- a packet that is diverted
-    diverted : (k : ℕ) → Sees_share (by_share S A es p (option_map (λ e. (e, Has_packet k)) (share_taking S es (S.unit_of k)))) (share_item ph q (new_seen S A z 1 (Diverted_on k)))
-    diverted k = elim (S.takes z.filter (S.unit_of k)) as (λ b. S.takes z.filter (S.unit_of k) ≡ b → Sees_share (by_share S A es p (option_map (λ e. (e, Has_packet k)) (share_taking S es (S.unit_of k)))) (share_item ph q (if b then Some (Diverted k) else where_true (mine S A z k) Stray))) [
-      | true ↦ λ on. subst (λ o. Sees_share (by_share S A es p (option_map (λ e. (e, Has_packet k)) o)) (share_does f (Diverted k) ph q)) (sym (taking_own S A z w g covered ph q there (S.unit_of k) on)) (of_own (Has_packet k) (share_does f (Diverted k) ph q) (packet_sees S A z is insts ph q p k))
-      | false ↦ λ off. let other = not_its off in rw other (if_taken (share_taking S es (S.unit_of k)) refl off other)
+    diverted : (k : ℕ) → Sees_share (by_share S A es p (option_map (λ e. (e, Has_packet k)) (share_taking S es (S.packet_unit k)))) (share_item ph q (new_seen S A z 1 (Diverted_on k)))
+    diverted k = elim (S.takes z.filter (S.packet_unit k)) as (λ b. S.takes z.filter (S.packet_unit k) ≡ b → Sees_share (by_share S A es p (option_map (λ e. (e, Has_packet k)) (share_taking S es (S.packet_unit k)))) (share_item ph q (if b then Some (Diverted k) else where_true (mine S A z k) Stray))) [
+      | true ↦ λ on. subst (λ o. Sees_share (by_share S A es p (option_map (λ e. (e, Has_packet k)) o)) (share_does f (Diverted k) ph q)) (sym (taking_own S A z w g covered ph q there (S.packet_unit k) on)) (of_own (Has_packet k) (share_does f (Diverted k) ph q) (packet_sees S A z is insts ph q p k))
+      | false ↦ λ off. let other = not_its off in rw other (if_taken (share_taking S es (S.packet_unit k)) refl off other)
     ] refl
       where
-        not_its : S.takes z.filter (S.unit_of k) ≡ false → mine S A z k ≡ false
+        not_its : S.takes z.filter (S.packet_unit k) ≡ false → mine S A z k ≡ false
         not_its off = elim (mine S A z k) as (λ b. mine S A z k ≡ b → b ≡ false) [
-          | true ↦ λ on. let never : true ≡ false = sym covered ∙ ap (S.takes z.filter) (sym (same_unit-true (S.unit_of k) z.unit on)) ∙ off in cc
+          | true ↦ λ on. let never : true ≡ false = sym covered ∙ ap (S.takes z.filter) (sym (same_unit-true (S.packet_unit k) z.unit on)) ∙ off in cc
           | false ↦ λ _. refl
         ] refl
 
-        if_taken : (o : Option Open_share) → share_taking S es (S.unit_of k) ≡ o → S.takes z.filter (S.unit_of k) ≡ false → mine S A z k ≡ false → Sees_share (by_share S A es p (option_map (λ e. (e, Has_packet k)) o)) (waits ph q)
+        if_taken : (o : Option Open_share) → share_taking S es (S.packet_unit k) ≡ o → S.takes z.filter (S.packet_unit k) ≡ false → mine S A z k ≡ false → Sees_share (by_share S A es p (option_map (λ e. (e, Has_packet k)) o)) (waits ph q)
         if_taken None none off other = as_before
-        if_taken (Some e) taken off other = of_other e (Has_packet k) (taking_found S A es (S.unit_of k) e g.nums_apart taken) (taking_other S A z w g covered ph q there (S.unit_of k) e off taken) other
+        if_taken (Some e) taken off other = of_other e (Has_packet k) (taking_found S A es (S.packet_unit k) e g.nums_apart taken) (taking_other S A z w g covered ph q there (S.packet_unit k) e off taken) other
 
     -- an item that isn't for the controller
     quiet_if : (b : Bool) (it : Item R) → share_does f it ph q ≡ waits ph q → Sees_share (record { shares = es; sends = [] }) (share_item ph q (where_true b it))

@@ -7,7 +7,7 @@ use Rattle.unit_machine.proofs.Real.{record_at, M_fenced, M_install, M_fence_to,
 use Rattle.unit_machine.proofs.NetViews.{items}
 use Rattle.share_machine.proofs.Share.{Item, Item.Carry, Item.Fence, Item.Shared, Item.Diverted, Item.Install, Item.Forward, Item.Get, Item.Sync, Item.Fenced, Item.Chunks, Item.Chunk, Item.Synced, Item.Stray, UnitShare, Phase, View, has}
 use Rattle.abstract_net.proofs.Net.{Msg, Msg.In_packet, Msg.Asked, Msg.Carry_on, Msg.Pass_on, Msg.Fence_on, Msg.Mv, Sys}
-use Rattle.abstract_net.proofs.Shares.{Any, Any.Old, Any.New, Share_msg, Share_msg.Shared_on, Share_msg.Diverted_on, Share_msg.S_asked, Share_msg.S_install, Share_msg.S_forward, Share_msg.S_get, Share_msg.S_sync, Share_msg.S_chunks, Share_msg.S_shared, Share_msg.S_synced, same, Sharing, Open_share, find_share, Whole, ran_of, Seeing_share}
+use Rattle.abstract_net.proofs.Shares.{Any, Any.Old, Any.New, Share_msg, Share_msg.Shared_on, Share_msg.Diverted_on, Share_msg.S_asked, Share_msg.S_install, Share_msg.S_forward, Share_msg.S_get, Share_msg.S_sync, Share_msg.S_chunks, Share_msg.S_shared, Share_msg.S_synced, same, Sharing, Open_share, find_share, WholeWorld, ran_of, Seeing_share}
 use Rattle.nf_function.specs.declared.unit.Unit as units
 use Rattle.record_table.specs.Table.{same_unit}
 
@@ -17,7 +17,7 @@ share_expect x i j = if i == 0 then (if j == 1 then x.sc else x.sw j) else if i 
 
 module _ {R : Type 0} (S : Sys R) (A : Sharing S) (z : Seeing_share) where
   abbrev pub mine : ℕ → Bool
-  mine p = same_unit (S.unit_of p) z.unit
+  mine p = same_unit (S.packet_unit p) z.unit
 
   abbrev pub unit_share : UnitShare R
   unit_share = record { mine = mine; F = S.F; home = z.home; members = z.members; member_of = λ p. A.member z.members p }
@@ -47,7 +47,7 @@ module _ {R : Type 0} (S : Sys R) (A : Sharing S) (z : Seeing_share) where
   -- at the receiver r
   abbrev pub new_seen : ℕ → Share_msg R → Option (Item R)
   new_seen r (Shared_on n home p) = of_number n p (fit (same home (r == z.home)) (Shared p))
-  new_seen r (Diverted_on p) = if S.takes z.filter (S.unit_of p) then Some (Diverted p) else where_true (mine p) Stray
+  new_seen r (Diverted_on p) = if S.takes z.filter (S.packet_unit p) then Some (Diverted p) else where_true (mine p) Stray
   new_seen r (S_asked x) = None
   new_seen r (S_install n g from) = where_true (n == z.num) (fit (from == z.home) Install)
   new_seen r (S_forward n home p to) = of_number n p (fit (same home (to == z.home)) (Forward p to))
@@ -68,14 +68,14 @@ module _ {R : Type 0} (S : Sys R) (A : Sharing S) (z : Seeing_share) where
   abbrev pub own_of : Bool → S.B.T → S.B.T → Option R
   own_of home live standby = if home then S.B.at z.unit live else S.B.at z.unit standby
 
-  abbrev pub own_at : Whole S A → ℕ → Option R
+  abbrev pub own_at : WholeWorld S A → ℕ → Option R
   own_at w k = own_of (k == z.home) (w.inst k).live (w.standby k)
 
   -- the unit's share at the controller
   abbrev pub as_share : Phase → List ℕ → Open_share
   as_share ph q = record { num = z.num; home = z.home; members = z.members; filter = z.filter; phase = ph; queue = q }
 
-  pub record Share_holds (w : Whole S A) (x : View R) : Type 0 where
+  pub record Share_holds (w : WholeWorld S A) (x : View R) : Type 0 where
     pub links : (i j : ℕ) → (i == 0) && (j == 0) ≡ false → share_items j (w.link i j) ≡ share_expect x i j
     pub own : (k : ℕ) → has z.members k ≡ true → own_at w k ≡ x.own k
     pub share : find_share w.shares z.num ≡ Some (as_share x.phase x.queue)

@@ -7,7 +7,7 @@ use Rattle.unit_machine.proofs.Real.{Chunks, record_at, M_fenced, sent_for}
 use Rattle.share_machine.proofs.Share as share
 use Rattle.share_machine.proofs.Stages.{distinct}
 use Rattle.flow_filter.specs.declared.filter.Filter.{Filter}
-use Rattle.abstract_net.proofs.Net.{Msg, Carry_on, Fence_on, Mv, Want, Sys, Inst_n, inst_step, process, Open, C_step, ctrl_step, sw_target, sw_sends, meets_any, new_op, begin_sends, World, links_after, at_node, put}
+use Rattle.abstract_net.proofs.Net.{Msg, Carry_on, Fence_on, Mv, MoveAsked, Sys, Inst_n, inst_step, process, Open, C_step, ctrl_step, sw_target, sw_sends, meets_any, new_op, begin_sends, World, links_after, at_node, put}
 use Rattle.nf_function.specs.declared.unit.Unit as units
 use Rattle.record_table.specs.Table.{same_unit}
 
@@ -140,7 +140,7 @@ module _ {R : Type 0} (S : Sys R) (A : Sharing S) where
   told_by es (New (S_chunks n cs)) = option_map (λ e. (e, Has_chunks cs)) (find_share es n)
   told_by es (New (S_shared n c)) = option_map (λ e. (e, Has_chunk c)) (find_share es n)
   told_by es (New (S_synced n)) = option_map (λ e. (e, Is_synced)) (find_share es n)
-  told_by es (New (Diverted_on p)) = option_map (λ e. (e, Has_packet p)) (share_taking S es (S.unit_of p))
+  told_by es (New (Diverted_on p)) = option_map (λ e. (e, Has_packet p)) (share_taking S es (S.packet_unit p))
   told_by es m = None
 
   pub record Shares_step : Type 0 where
@@ -160,7 +160,7 @@ module _ {R : Type 0} (S : Sys R) (A : Sharing S) where
 
   -- the chunk of a packet's unit, where it has a record (after the step it has)
   abbrev pub shared_chunk : ℕ → ℕ → S.B.T → List (ℕ × Any R)
-  shared_chunk n p t = option_map_or (λ r. (1, New (S_shared n (S.unit_of p, r))) ∷ []) (S.B.at (S.unit_of p) t) []
+  shared_chunk n p t = option_map_or (λ r. (1, New (S_shared n (S.packet_unit p, r))) ∷ []) (S.B.at (S.packet_unit p) t) []
 
   abbrev pub member_step : S.B.T → S.B.T → Share_msg R → Member_did
   member_step live standby (Shared_on n true p) = record { live = process S live p; standby = standby; sends = shared_chunk n p (process S live p); ran = p ∷ [] }
@@ -181,7 +181,7 @@ module _ {R : Type 0} (S : Sys R) (A : Sharing S) where
   share_sends m = []
 
   -- the whole world
-  pub record Whole : Type 0 where
+  pub record WholeWorld : Type 0 where
     pub target : units.Unit → ℕ  -- 1 is the controller
     pub ops : List (Open R)
     pub shares : List Open_share
@@ -192,7 +192,7 @@ module _ {R : Type 0} (S : Sys R) (A : Sharing S) where
     pub done : List (ℕ × ℕ)
 
   -- as moves see it
-  abbrev pub moves_of : Whole → World S
+  abbrev pub moves_of : WholeWorld → World S
   moves_of w = record { target = w.target; ops = w.ops; next = w.next; inst = w.inst; link = λ i j. olds (w.link i j); done = w.done }
 
   -- a packet of the input: to its unit's instance, or to the controller
@@ -200,7 +200,7 @@ module _ {R : Type 0} (S : Sys R) (A : Sharing S) where
   arrive_sends t q = if t == 1 then (1, New (Diverted_on q)) ∷ [] else (t, Old (Carry_on q)) ∷ []
 
   -- steps, one for each kind of node: Old by Net's step, New by those above
-  abbrev pub whole_inst : Whole → ℕ → ℕ → Any R → Whole
+  abbrev pub whole_inst : WholeWorld → ℕ → ℕ → Any R → WholeWorld
   whole_inst w p y (Old m) = record w { inst = put w.inst y (inst_step S (w.inst y) m).node; link = links_after w.link p y (as_old (inst_step S (w.inst y) m).sends); done = w.done ++ at_node y (inst_step S (w.inst y) m).ran }
   whole_inst w p y (New m) =
       let d = member_step (w.inst y).live (w.standby y) m in
@@ -211,35 +211,35 @@ module _ {R : Type 0} (S : Sys R) (A : Sharing S) where
   old_step es p (Old m) = ctrl_step es p m
   old_step es p (New m) = record { ops = es; sends = [] }
 
-  abbrev pub whole_ctrl : Whole → ℕ → Any R → Whole
+  abbrev pub whole_ctrl : WholeWorld → ℕ → Any R → WholeWorld
   whole_ctrl w p m =
       let s = by_share w.shares p (told_by w.shares m) in
       record w { ops = (old_step w.ops p m).ops; shares = s.shares; link = links_after w.link p 1 (as_old (old_step w.ops p m).sends ++ s.sends) }
 
-  abbrev pub whole_switch : Whole → ℕ → Any R → Whole
+  abbrev pub whole_switch : WholeWorld → ℕ → Any R → WholeWorld
   whole_switch w p (Old m) = record w { target = λ v. sw_target S w.target m v; link = links_after w.link p 0 (as_old (sw_sends m)) }
   whole_switch w p (New m) = record w { target = λ v. share_target w.target m v; link = links_after w.link p 0 (share_sends m) }
 
-  abbrev pub whole_input : Whole → ℕ → Whole
-  whole_input w q = record w { link = λ i j. w.link i j ++ (if i == 0 then sent_for j (arrive_sends (w.target (S.unit_of q)) q) else []) }
+  abbrev pub whole_input : WholeWorld → ℕ → WholeWorld
+  whole_input w q = record w { link = λ i j. w.link i j ++ (if i == 0 then sent_for j (arrive_sends (w.target (S.packet_unit q)) q) else []) }
 
   -- a command goes from the input to the controller
-  abbrev pub asks : Whole → Any R → Whole
+  abbrev pub asks : WholeWorld → Any R → WholeWorld
   asks w m = record w { link = λ i j. w.link i j ++ (if i == 0 then sent_for j ((1, m) ∷ []) else []) }
 
   -- begins: of a move, as `Net` has it, and of a share
-  abbrev pub begin_move : Whole → Want → Whole
+  abbrev pub begin_move : WholeWorld → MoveAsked → WholeWorld
   begin_move w x = record w { ops = w.ops ++ new_op x.num x ∷ []; next = suc x.num; link = λ i j. w.link i j ++ (if i == 1 then sent_for j (as_old (begin_sends x.num x)) else []) }
 
-  abbrev pub begin_share : Whole → Want_share → Whole
+  abbrev pub begin_share : WholeWorld → Want_share → WholeWorld
   begin_share w x = record w { shares = w.shares ++ new_share x ∷ []; next = suc x.num; link = λ i j. w.link i j ++ (if i == 1 then sent_for j ((0, New (S_install x.num x.filter x.home)) ∷ []) else []) }
 
   -- what a copy does, which nothing here sees but for these two: its Get goes out (a number that no share has), and a Standby that is taken
   -- changes records that stand by; of no unit that a share takes, since the controller refuses a copy whose filter meets a share's
-  abbrev pub puts_get : Whole → ℕ → Filter → ℕ → Whole
+  abbrev pub puts_get : WholeWorld → ℕ → Filter → ℕ → WholeWorld
   puts_get w n g src = record w { next = suc n; link = λ i j. w.link i j ++ (if i == 1 then sent_for j ((src, New (S_get n g)) ∷ []) else []) }
 
-  abbrev pub keeps : Whole → ℕ → S.B.T → Whole
+  abbrev pub keeps : WholeWorld → ℕ → S.B.T → WholeWorld
   keeps w y t = record w { standby = put w.standby y t }
 
   abbrev pub meets_shares : Filter → List Open_share → Bool
@@ -247,7 +247,7 @@ module _ {R : Type 0} (S : Sys R) (A : Sharing S) where
   meets_shares g (e ∷ es) = if S.meets g e.filter then true else meets_shares g es
 
   -- a share may begin; a move may as `May` says, and where its filter meets no share's
-  pub record May_share (w : Whole) (x : Want_share) : Type 0 where
+  pub record May_share (w : WholeWorld) (x : Want_share) : Type 0 where
     pub fresh : w.next ≤ x.num
     pub home_in : share.has x.members x.home ≡ true
     pub apart : distinct x.members ≡ true
@@ -259,7 +259,7 @@ module _ {R : Type 0} (S : Sys R) (A : Sharing S) where
   -- what was done of a unit, with places
   abbrev pub ran_of : units.Unit → List (ℕ × ℕ) → List (ℕ × ℕ)
   ran_of u [] = []
-  ran_of u (d ∷ ds) = if same_unit (S.unit_of d.0) u then d ∷ ran_of u ds else ran_of u ds
+  ran_of u (d ∷ ds) = if same_unit (S.packet_unit d.0) u then d ∷ ran_of u ds else ran_of u ds
 
 -- a unit, and its share
 pub record Seeing_share : Type 0 where

@@ -7,7 +7,7 @@ use Rattle.unit_machine.proofs.Machine.{At_a, Steps, Item, Fence_to, Install, St
 use Rattle.unit_machine.proofs.Real.{M_install, RPhase, R_freezing, R_streaming, R_holding, R_passing, R_ending, R_restoring, R_returning, R_undoing, R_over, Op, Frame, see_phase, where_true, add}
 use Rattle.unit_machine.proofs.Stages.{Stage, Laying, Turned, Fenced_a, Ending_b, Fence_b, Turned_loose, Fenced_loose, Ending_loose, Fence_loose, Fenced_b, Moved, Returned, shape, to_a}
 use Rattle.unit_machine.proofs.Labels.{Each}
-use Rattle.unit_machine.proofs.Seats.{Seat, Covered, Is_beside, Is_away, seat_shape}
+use Rattle.unit_machine.proofs.Seats.{UnitSeat, Covered, Is_beside, Is_away, seat_shape}
 use Rattle.unit_machine.proofs.NetViews.{items}
 use Rattle.unit_machine.proofs.Controls.{never_true}
 use Rattle.unit_machine.proofs.Lists.{cons_nil}
@@ -90,12 +90,12 @@ module _ {R : Type 0} (S : Sys R) (laws : IsSys S) (w : World S) (n : ℕ) (e : 
     num : e.op.num ≡ n
 
   module _ (source : w.target u ≡ e.op.src) where
-    at_stage : (third : ℕ) (s : Seat S.F) → Holds S (see S laws u e.op third) w (seat_shape S.F s) → is_early (seat_shape S.F s).phase ≡ true → e.op.num ≡ n → Seated
+    at_stage : (third : ℕ) (s : UnitSeat S.F) → Holds S (see S laws u e.op third) w (seat_shape S.F s) → is_early (seat_shape S.F s).phase ≡ true → e.op.num ≡ n → Seated
     at_stage third (Covered s) h is num = record { third = third; stage = s; holds = h; is = early_stage S.F s is; num = num }
     at_stage third (Is_beside s) h is num = absurd (h.nodes.ab (sym source ∙ h.target))
     at_stage third (Is_away s) h is num = absurd (h.nodes.ac (sym source ∙ h.target))
 
-    in_move : (op : Op) (third : ℕ) (o : Open R) (s : Seat S.F) → find_op w.ops op.num ≡ Some o → Holds S (see S laws u op third) w (seat_shape S.F s) → Seated
+    in_move : (op : Op) (third : ℕ) (o : Open R) (s : UnitSeat S.F) → find_op w.ops op.num ≡ Some o → Holds S (see S laws u op third) w (seat_shape S.F s) → Seated
     in_move op third o s found h = by_number ((Decides-eqb e.op.num op.num).0 (sym own.0.0 ∙ takes)) ((Decides-eqb e.op.num n).0 own.1)
       where
         own : Op_label S (see S laws u op third) e × ((e.op.num == n) ≡ true)

@@ -31,8 +31,8 @@ module _ {R : Type 0} (S : Sys R) (laws : IsSys S) where
   pub nothing : (ps : List ℕ) → ((u : units.Unit) → none_mine S u ps ≡ []) → ps ≡ []
   nothing [] h = refl
   nothing (p ∷ ps) h =
-      let own : same_unit (S.unit_of p) (S.unit_of p) ≡ true = same_unit_equiv.refl (S.unit_of p) in
-      let none : p ∷ none_mine S (S.unit_of p) ps ≡ [] = ap (λ b. if b then p ∷ none_mine S (S.unit_of p) ps else none_mine S (S.unit_of p) ps) (sym own) ∙ h (S.unit_of p) in
+      let own : same_unit (S.packet_unit p) (S.packet_unit p) ≡ true = same_unit_equiv.refl (S.packet_unit p) in
+      let none : p ∷ none_mine S (S.packet_unit p) ps ≡ [] = ap (λ b. if b then p ∷ none_mine S (S.packet_unit p) ps else none_mine S (S.packet_unit p) ps) (sym own) ∙ h (S.packet_unit p) in
       cons_nil none
 
   -- of a unit, by where it is

@@ -7,7 +7,7 @@ use Rattle.unit_machine.proofs.Machine.{Where, At_a, At_b, At_c, Item, Carry, Pa
 use Rattle.unit_machine.proofs.Real.{M_enable, M_stream, M_delete, M_put, M_restore, M_enabled, M_event, M_piece, M_deleted, M_put_ok, M_put_no, M_restored, M_fenced, M_forward, M_install, M_fence_to, where_true, add}
 use Rattle.unit_machine.proofs.Pairs.{Nodes, expect, after_take, switch_from_c, nothing_seen, arrives_at, By_sa, By_sb, By_sc, By_ca, By_cb, By_ac, By_bc, By_cc, By_cs, shown_by}
 use Rattle.unit_machine.proofs.Labels.{Each}
-use Rattle.unit_machine.proofs.Seats.{Seat, seat_shape, seat_all, seat_loose}
+use Rattle.unit_machine.proofs.Seats.{UnitSeat, seat_shape, seat_all, seat_loose}
 use Rattle.unit_machine.proofs.NetViews.{items}
 use Rattle.unit_machine.proofs.Controls.{never_true}
 use Rattle.flow_filter.specs.declared.filter.Filter.{Filter}
@@ -33,7 +33,7 @@ module _ {R : Type 0} (S : Sys R) (laws : IsSys S) (z : Seeing) where
   sends_label (Carry_on p) = tt
   sends_label m = tt
 
-  module _ (w : World S) (s : Seat S.F) (h : Holds S z w (seat_shape S.F s)) (p : ℕ) (m : Msg R) (rest : List (Msg R)) (p0 : (p == 0) ≡ false) (waits : w.link p 0 ≡ m ∷ rest) where
+  module _ (w : World S) (s : UnitSeat S.F) (h : Holds S z w (seat_shape S.F s)) (p : ℕ) (m : Msg R) (rest : List (Msg R)) (p0 : (p == 0) ≡ false) (waits : w.link p 0 ≡ m ∷ rest) where
     abbrev x : State R
     x = seat_shape S.F s
 
@@ -137,13 +137,13 @@ module _ {R : Type 0} (S : Sys R) (laws : IsSys S) (z : Seeing) where
   nil_sent : (j : ℕ) → sent S z 0 [] j ≡ []
   nil_sent j = elim (j == 0) as (λ b. ◌≡◌ {A = List (Item R)} (if b then [] else []) []) [ true ↦ refl | false ↦ refl ]
 
-  idle_case : (w : World S) (s : Seat S.F) (h : Holds S z w (seat_shape S.F s)) (p : ℕ) (m : Msg R) (rest : List (Msg R)) (p0 : (p == 0) ≡ false) (waits : w.link p 0 ≡ m ∷ rest) (b : Bool) (it : Item R) → seen (frame S z) m ≡ where_true b it → sw_sends m ≡ [] → sw_target S w.target m z.unit ≡ w.target z.unit → ((u : State R) → switch_does u it ≡ u) → Goes_to S laws z (sw_next S w p m) s []
+  idle_case : (w : World S) (s : UnitSeat S.F) (h : Holds S z w (seat_shape S.F s)) (p : ℕ) (m : Msg R) (rest : List (Msg R)) (p0 : (p == 0) ≡ false) (waits : w.link p 0 ≡ m ∷ rest) (b : Bool) (it : Item R) → seen (frame S z) m ≡ where_true b it → sw_sends m ≡ [] → sw_target S w.target m z.unit ≡ w.target z.unit → ((u : State R) → switch_does u it ≡ u) → Goes_to S laws z (sw_next S w p m) s []
   idle_case w s h p m rest p0 waits true it is none target does = sw_idle w s h p m rest p0 waits it is (does _) none target
   idle_case w s h p m rest p0 waits false it is none target does = quiet_sw w s h p m rest p0 waits is (λ j. ap (λ xs. sent S z 0 xs j) none ∙ nil_sent j) target
 
-  forward_case : (w : World S) (s : Seat S.F) (h : Holds S z w (seat_shape S.F s)) (p : ℕ) (g : Filter) (q to : ℕ) (rest : List (Msg R)) (p0 : (p == 0) ≡ false) (waits : w.link p 0 ≡ Mv g (M_forward q to) ∷ rest) → Goes_to S laws z (sw_next S w p (Mv g (M_forward q to))) s []
+  forward_case : (w : World S) (s : UnitSeat S.F) (h : Holds S z w (seat_shape S.F s)) (p : ℕ) (g : Filter) (q to : ℕ) (rest : List (Msg R)) (p0 : (p == 0) ≡ false) (waits : w.link p 0 ≡ Mv g (M_forward q to) ∷ rest) → Goes_to S laws z (sw_next S w p (Mv g (M_forward q to))) s []
   forward_case w s h p g q to rest p0 waits =
-      elim (same_unit (S.unit_of q) z.unit) as (λ b. (same_unit (S.unit_of q) z.unit) ≡ b → Goes_to S laws z (sw_next S w p (Mv g (M_forward q to))) s []) [
+      elim (same_unit (S.packet_unit q) z.unit) as (λ b. (same_unit (S.packet_unit q) z.unit) ≡ b → Goes_to S laws z (sw_next S w p (Mv g (M_forward q to))) s []) [
         | true ↦ λ ours. elim (to == z.op.src) as (λ b. (to == z.op.src) ≡ b → Goes_to S laws z (sw_next S w p (Mv g (M_forward q to))) s []) [
           | true ↦ λ a. to_src w s h p (Mv g (M_forward q to)) rest p0 waits (Forward At_a q) (rw (ours, a) refl) (seat_shape S.F s).target to (Pass_on q) (Pass q) a refl (rw ours refl) refl h.target
           | false ↦ λ na. elim (to == z.op.dst) as (λ b. (to == z.op.dst) ≡ b → Goes_to S laws z (sw_next S w p (Mv g (M_forward q to))) s []) [
@@ -154,7 +154,7 @@ module _ {R : Type 0} (S : Sys R) (laws : IsSys S) (z : Seeing) where
         | false ↦ λ off. quiet_sw w s h p (Mv g (M_forward q to)) rest p0 waits (rw off refl) (one_unseen S laws z 0 to (Pass_on q) (rw off refl)) refl
       ] refl
 
-  fence_case : (w : World S) (s : Seat S.F) (h : Holds S z w (seat_shape S.F s)) (p : ℕ) (g : Filter) (k to : ℕ) (rest : List (Msg R)) (p0 : (p == 0) ≡ false) (waits : w.link p 0 ≡ Mv g (M_fence_to k to) ∷ rest) → Goes_to S laws z (sw_next S w p (Mv g (M_fence_to k to))) s []
+  fence_case : (w : World S) (s : UnitSeat S.F) (h : Holds S z w (seat_shape S.F s)) (p : ℕ) (g : Filter) (k to : ℕ) (rest : List (Msg R)) (p0 : (p == 0) ≡ false) (waits : w.link p 0 ≡ Mv g (M_fence_to k to) ∷ rest) → Goes_to S laws z (sw_next S w p (Mv g (M_fence_to k to))) s []
   fence_case w s h p g k to rest p0 waits =
       elim (k == z.op.num) as (λ b. (k == z.op.num) ≡ b → Goes_to S laws z (sw_next S w p (Mv g (M_fence_to k to))) s []) [
         | true ↦ λ ours. elim (to == z.op.src) as (λ b. (to == z.op.src) ≡ b → Goes_to S laws z (sw_next S w p (Mv g (M_fence_to k to))) s []) [
@@ -173,7 +173,7 @@ module _ {R : Type 0} (S : Sys R) (laws : IsSys S) (z : Seeing) where
   routed At_b r from to b n f d e is = let ab = n.ab in let g : from ≡ z.op.src = (Decides-eqb from z.op.src).0 f in let off : (r == from) ≡ false = grind (arith, nat_tests, is, g, ab) in rw (e, off) is
   routed At_c r from to b n f d e is = let ac = n.ac in let g : from ≡ z.op.src = (Decides-eqb from z.op.src).0 f in let off : (r == from) ≡ false = grind (arith, nat_tests, is, g, ac) in rw (e, off) is
 
-  install_case : (w : World S) (s : Seat S.F) (h : Holds S z w (seat_shape S.F s)) (p : ℕ) (g : Filter) (k from to : ℕ) (rest : List (Msg R)) (p0 : (p == 0) ≡ false) (waits : w.link p 0 ≡ Mv g (M_install k from to) ∷ rest) → Goes_to S laws z (sw_next S w p (Mv g (M_install k from to))) s []
+  install_case : (w : World S) (s : UnitSeat S.F) (h : Holds S z w (seat_shape S.F s)) (p : ℕ) (g : Filter) (k from to : ℕ) (rest : List (Msg R)) (p0 : (p == 0) ≡ false) (waits : w.link p 0 ≡ Mv g (M_install k from to) ∷ rest) → Goes_to S laws z (sw_next S w p (Mv g (M_install k from to))) s []
   install_case w s h p g k from to rest p0 waits =
       let lab = (label w s h p (Mv g (M_install k from to)) rest p0 waits).1 in
       elim (k == z.op.num) as (λ b. (k == z.op.num) ≡ b → Goes_to S laws z (sw_next S w p (Mv g (M_install k from to))) s []) [
@@ -187,7 +187,7 @@ module _ {R : Type 0} (S : Sys R) (laws : IsSys S) (z : Seeing) where
         | false ↦ λ off. quiet_sw w s h p (Mv g (M_install k from to)) rest p0 waits (rw off refl) (one_unseen S laws z 0 from (Fence_on k) (rw off refl)) (let out : S.takes g z.unit ≡ false = lab ∙ off in rw out refl)
       ] refl
 
-  pub switch_holds : (w : World S) (s : Seat S.F) (h : Holds S z w (seat_shape S.F s)) (p : ℕ) (m : Msg R) (rest : List (Msg R)) (p0 : (p == 0) ≡ false) (waits : w.link p 0 ≡ m ∷ rest) → Goes_to S laws z (sw_next S w p m) s []
+  pub switch_holds : (w : World S) (s : UnitSeat S.F) (h : Holds S z w (seat_shape S.F s)) (p : ℕ) (m : Msg R) (rest : List (Msg R)) (p0 : (p == 0) ≡ false) (waits : w.link p 0 ≡ m ∷ rest) → Goes_to S laws z (sw_next S w p m) s []
   switch_holds w s h p (Mv g (M_forward q to)) rest p0 waits = forward_case w s h p g q to rest p0 waits
   switch_holds w s h p (Mv g (M_install k from to)) rest p0 waits = install_case w s h p g k from to rest p0 waits
   switch_holds w s h p (Mv g (M_fence_to k to)) rest p0 waits = fence_case w s h p g k to rest p0 waits
@@ -197,34 +197,34 @@ module _ {R : Type 0} (S : Sys R) (laws : IsSys S) (z : Seeing) where
   switch_holds w s h p (Mv g (M_put k c first)) rest p0 waits = idle_case w s h p (Mv g (M_put k c first)) rest p0 waits (k == z.op.num) _ refl refl refl (λ u. refl)
   switch_holds w s h p (Mv g (M_restore k cs)) rest p0 waits = idle_case w s h p (Mv g (M_restore k cs)) rest p0 waits (k == z.op.num) _ refl refl refl (λ u. refl)
   switch_holds w s h p (Mv g (M_enabled k)) rest p0 waits = idle_case w s h p (Mv g (M_enabled k)) rest p0 waits (k == z.op.num) _ refl refl refl (λ u. refl)
-  switch_holds w s h p (Mv g (M_event k q)) rest p0 waits = idle_case w s h p (Mv g (M_event k q)) rest p0 waits (same_unit (S.unit_of q) z.unit) _ refl refl refl (λ u. refl)
+  switch_holds w s h p (Mv g (M_event k q)) rest p0 waits = idle_case w s h p (Mv g (M_event k q)) rest p0 waits (same_unit (S.packet_unit q) z.unit) _ refl refl refl (λ u. refl)
   switch_holds w s h p (Mv g (M_piece k c)) rest p0 waits = idle_case w s h p (Mv g (M_piece k c)) rest p0 waits (k == z.op.num) _ refl refl refl (λ u. refl)
   switch_holds w s h p (Mv g (M_deleted k)) rest p0 waits = idle_case w s h p (Mv g (M_deleted k)) rest p0 waits (k == z.op.num) _ refl refl refl (λ u. refl)
   switch_holds w s h p (Mv g (M_put_ok k)) rest p0 waits = idle_case w s h p (Mv g (M_put_ok k)) rest p0 waits (k == z.op.num) _ refl refl refl (λ u. refl)
   switch_holds w s h p (Mv g (M_put_no k why cs)) rest p0 waits = idle_case w s h p (Mv g (M_put_no k why cs)) rest p0 waits (k == z.op.num) _ refl refl refl (λ u. refl)
   switch_holds w s h p (Mv g (M_restored k)) rest p0 waits = idle_case w s h p (Mv g (M_restored k)) rest p0 waits (k == z.op.num) _ refl refl refl (λ u. refl)
   switch_holds w s h p (Mv g (M_fenced k)) rest p0 waits = idle_case w s h p (Mv g (M_fenced k)) rest p0 waits (k == z.op.num) _ refl refl refl (λ u. refl)
-  switch_holds w s h p (Carry_on q) rest p0 waits = idle_case w s h p (Carry_on q) rest p0 waits (same_unit (S.unit_of q) z.unit) (Carry q) refl refl refl (λ u. refl)
-  switch_holds w s h p (Pass_on q) rest p0 waits = idle_case w s h p (Pass_on q) rest p0 waits (same_unit (S.unit_of q) z.unit) (Pass q) refl refl refl (λ u. refl)
+  switch_holds w s h p (Carry_on q) rest p0 waits = idle_case w s h p (Carry_on q) rest p0 waits (same_unit (S.packet_unit q) z.unit) (Carry q) refl refl refl (λ u. refl)
+  switch_holds w s h p (Pass_on q) rest p0 waits = idle_case w s h p (Pass_on q) rest p0 waits (same_unit (S.packet_unit q) z.unit) (Pass q) refl refl refl (λ u. refl)
   switch_holds w s h p (Fence_on k) rest p0 waits = idle_case w s h p (Fence_on k) rest p0 waits (k == z.op.num) Fence refl refl refl (λ u. refl)
   switch_holds w s h p (In_packet q) rest p0 waits = quiet_sw w s h p (In_packet q) rest p0 waits refl nil_sent refl
   switch_holds w s h p (Asked a) rest p0 waits = quiet_sw w s h p (Asked a) rest p0 waits refl nil_sent refl
 
   -- A packet comes from the input.
   abbrev pub came : ℕ → List ℕ
-  came q = if same_unit (S.unit_of q) z.unit then q ∷ [] else []
+  came q = if same_unit (S.packet_unit q) z.unit then q ∷ [] else []
 
   -- its own packet, at one side
-  arrive_at : (w : World S) (s : Seat S.F) → Holds S z w (seat_shape S.F s) → (q : ℕ) → (same_unit (S.unit_of q) z.unit) ≡ true → Goes_to S laws z (in_next S w q) s (q ∷ [])
+  arrive_at : (w : World S) (s : UnitSeat S.F) → Holds S z w (seat_shape S.F s) → (q : ℕ) → (same_unit (S.packet_unit q) z.unit) ≡ true → Goes_to S laws z (in_next S w q) s (q ∷ [])
   arrive_at w s h q ours =
       let x = seat_shape S.F s in
-      let same : S.unit_of q ≡ z.unit = same_unit-true (S.unit_of q) z.unit ours in
-      let to : w.target (S.unit_of q) ≡ place S z x.target = ap w.target same ∙ h.target in
+      let same : S.packet_unit q ≡ z.unit = same_unit-true (S.packet_unit q) z.unit ours in
+      let to : w.target (S.packet_unit q) ≡ place S z x.target = ap w.target same ∙ h.target in
       moves_on S laws z (in_next S w q) s (Arrive q) (send_to x.target x (Carry q)) (by_side x.target refl to) refl tt
     where
-      puts : (x' : State R) (r : ℕ) → w.target (S.unit_of q) ≡ r → (2 ≤ r) → ((send : ℕ → List (Item R)) → send r ≡ Carry q ∷ [] → ((j : ℕ) → j ≢ r → send j ≡ []) → (i j : ℕ) → expect z.op.src z.op.dst z.third (seat_shape S.F s) i j ++ (if i == 0 then send j else []) ≡ expect z.op.src z.op.dst z.third x' i j) → ((k : ℕ) → node_at S z x' k ≡ node_at S z (seat_shape S.F s) k) → x'.target ≡ (seat_shape S.F s).target → x'.phase ≡ (seat_shape S.F s).phase → x'.store ≡ (seat_shape S.F s).store → x'.keep ≡ (seat_shape S.F s).keep → x'.done ≡ (seat_shape S.F s).done → Holds S z (in_next S w q) x'
+      puts : (x' : State R) (r : ℕ) → w.target (S.packet_unit q) ≡ r → (2 ≤ r) → ((send : ℕ → List (Item R)) → send r ≡ Carry q ∷ [] → ((j : ℕ) → j ≢ r → send j ≡ []) → (i j : ℕ) → expect z.op.src z.op.dst z.third (seat_shape S.F s) i j ++ (if i == 0 then send j else []) ≡ expect z.op.src z.op.dst z.third x' i j) → ((k : ℕ) → node_at S z x' k ≡ node_at S z (seat_shape S.F s) k) → x'.target ≡ (seat_shape S.F s).target → x'.phase ≡ (seat_shape S.F s).phase → x'.store ≡ (seat_shape S.F s).store → x'.keep ≡ (seat_shape S.F s).keep → x'.done ≡ (seat_shape S.F s).done → Holds S z (in_next S w q) x'
       puts x' r is two links nodes target phase store keep done =
-          let sends : List (ℕ × Msg R) = (w.target (S.unit_of q), Carry_on q) ∷ [] in
+          let sends : List (ℕ × Msg R) = (w.target (S.packet_unit q), Carry_on q) ∷ [] in
           let at_r : sent S z 0 sends r ≡ Carry q ∷ [] = (let r0 : (r == 0) ≡ false = grind (arith, nat_tests, two) in let rr : (r == r) ≡ true = grind (arith, nat_tests) in rw (is, r0, rr, ours) refl) in
           let at_j = (λ (j : ℕ) (off : j ≢ r). (let rj : (r == j) ≡ false = grind (arith, nat_tests) in let e : sent S z 0 sends j ≡ [] = rw (is, rj) (nil_sent j) in e)) in
           record {
@@ -243,7 +243,7 @@ module _ {R : Type 0} (S : Sys R) (laws : IsSys S) (z : Seeing) where
           by_op None e = rw phase e
           by_op (Some e) (a, b, c, f) = (a, b ∙ sym phase, c ∙ sym store, f ∙ sym keep)
 
-      by_side : (t : Where) → (seat_shape S.F s).target ≡ t → w.target (S.unit_of q) ≡ place S z t → Holds S z (in_next S w q) (send_to t (seat_shape S.F s) (Carry q))
+      by_side : (t : Where) → (seat_shape S.F s).target ≡ t → w.target (S.packet_unit q) ≡ place S z t → Holds S z (in_next S w q) (send_to t (seat_shape S.F s) (Carry q))
       by_side At_a e to =
           let n = h.nodes in let ab = n.ab in let ac = n.ac in
           let grow : record (seat_shape S.F s) { sa = (seat_shape S.F s).sa ++ Carry q ∷ []; sb = (seat_shape S.F s).sb ++ []; sc = (seat_shape S.F s).sc ++ [] } ≡ send_to At_a (seat_shape S.F s) (Carry q) = rw (append-nil (seat_shape S.F s).sb, append-nil (seat_shape S.F s).sc) refl in
@@ -257,8 +257,8 @@ module _ {R : Type 0} (S : Sys R) (laws : IsSys S) (z : Seeing) where
           let grow : record (seat_shape S.F s) { sa = (seat_shape S.F s).sa ++ []; sb = (seat_shape S.F s).sb ++ []; sc = (seat_shape S.F s).sc ++ Carry q ∷ [] } ≡ send_to At_c (seat_shape S.F s) (Carry q) = rw (append-nil (seat_shape S.F s).sa, append-nil (seat_shape S.F s).sb) refl in
           puts (send_to At_c (seat_shape S.F s) (Carry q)) z.third to n.c_is (λ send at el i j. arrives_at z.op.src z.op.dst z.third n (seat_shape S.F s) send [] [] (Carry q ∷ []) (el z.op.src ac) (el z.op.dst bc) at (λ j _ _ nc. el j nc) i j ∙ ap (λ u. expect z.op.src z.op.dst z.third u i j) grow) (λ k. refl) refl refl refl refl refl
 
-  pub input_holds : (w : World S) (s : Seat S.F) → Holds S z w (seat_shape S.F s) → (q : ℕ) → Goes_to S laws z (in_next S w q) s (came q)
-  input_holds w s h q = elim (same_unit (S.unit_of q) z.unit) as (λ b. (same_unit (S.unit_of q) z.unit) ≡ b → Goes_to S laws z (in_next S w q) s (if b then q ∷ [] else [])) [
+  pub input_holds : (w : World S) (s : UnitSeat S.F) → Holds S z w (seat_shape S.F s) → (q : ℕ) → Goes_to S laws z (in_next S w q) s (came q)
+  input_holds w s h q = elim (same_unit (S.packet_unit q) z.unit) as (λ b. (same_unit (S.packet_unit q) z.unit) ≡ b → Goes_to S laws z (in_next S w q) s (if b then q ∷ [] else [])) [
     | true ↦ λ ours. arrive_at w s h q ours
-    | false ↦ λ off. record { seat = s; holds = put_unseen S laws z w (seat_shape S.F s) h 0 ((w.target (S.unit_of q), Carry_on q) ∷ []) (one_unseen S laws z 0 (w.target (S.unit_of q)) (Carry_on q) (rw off refl)) (tt, tt); order = same_order S laws z (seat_loose s) (seat_all s); covered = refl }
+    | false ↦ λ off. record { seat = s; holds = put_unseen S laws z w (seat_shape S.F s) h 0 ((w.target (S.packet_unit q), Carry_on q) ∷ []) (one_unseen S laws z 0 (w.target (S.packet_unit q)) (Carry_on q) (rw off refl)) (tt, tt); order = same_order S laws z (seat_loose s) (seat_all s); covered = refl }
   ] refl

@@ -20,7 +20,7 @@ use Rattle.abstract_net.proofs.NewMessages.{each_sent_map, new_head}
 use Rattle.abstract_net.proofs.GlobalAll.{Of_share, Global_all}
 use Rattle.abstract_net.proofs.UnderOld.{inst_leaves, ctrl_leaves}
 use Rattle.abstract_net.proofs.ShareViews.{mine, unit_share, share_seen, share_items, own_at, Share_holds}
-use Rattle.abstract_net.proofs.ShareLinks.{Goes, Goes.Nothing, Goes.Moves, holds_alike}
+use Rattle.abstract_net.proofs.ShareLinks.{Goes, Goes.Nothing, Goes.Moves_so, holds_alike}
 use Rattle.abstract_net.proofs.ShareLabels.{label_of}
 use Rattle.abstract_net.proofs.MemberSteps.{does, Sees_member, member_sees}
 use Rattle.abstract_net.proofs.MemberMoves.{At_home, moves_sees}
@@ -28,14 +28,14 @@ use Rattle.abstract_net.proofs.UnderInst.{did_at, heads, inst_from, inst_goes}
 use Rattle.abstract_net.proofs.UnderCtrl.{ctrl_goes}
 use Rattle.abstract_net.proofs.UnderSwitch.{No_diverts, Label_at, switch_goes}
 use Rattle.abstract_net.proofs.UnderInput.{Comes, Comes.Not_its, Comes.Arrives, comes}
-use Rattle.abstract_net.proofs.Shares.{Any, Any.Old, Any.New, Share_msg, Share_msg.Shared_on, Share_msg.Diverted_on, Share_msg.S_asked, Share_msg.S_install, Share_msg.S_forward, Share_msg.S_get, Share_msg.S_sync, Share_msg.S_chunks, Share_msg.S_shared, Share_msg.S_synced, olds, as_old, Sharing, IsSharing, told_by, by_share, share_sends, arrive_sends, Whole, whole_inst, whole_ctrl, whole_switch, whole_input, Seeing_share}
+use Rattle.abstract_net.proofs.Shares.{Any, Any.Old, Any.New, Share_msg, Share_msg.Shared_on, Share_msg.Diverted_on, Share_msg.S_asked, Share_msg.S_install, Share_msg.S_forward, Share_msg.S_get, Share_msg.S_sync, Share_msg.S_chunks, Share_msg.S_shared, Share_msg.S_synced, olds, as_old, Sharing, IsSharing, told_by, by_share, share_sends, arrive_sends, WholeWorld, whole_inst, whole_ctrl, whole_switch, whole_input, Seeing_share}
 
 module _ {R : Type 0} (S : Sys R) (A : Sharing S) (z : Seeing_share) where
   abbrev pub f : UnitShare R
   f = unit_share S A z
 
   -- with the unit's packets that arrived before and since they are diverted
-  pub record Under (w : Whole S A) (before since : List ℕ) : Type 0 where
+  pub record Under (w : WholeWorld S A) (before since : List ℕ) : Type 0 where
     pub is : IsShare (unit_share S A z)
     pub insts : (k : ℕ) → has z.members k ≡ true → 2 ≤ k
     pub covered : S.takes z.filter z.unit ≡ true
@@ -50,13 +50,13 @@ module _ {R : Type 0} (S : Sys R) (A : Sharing S) (z : Seeing_share) where
     pub since_is : since ≡ late (unit_share S A z) stage
 
   -- a unit that was at a stage is under its share still
-  pub record Goes_on (s : Stage R) (w : Whole S A) (before since : List ℕ) : Type 0 where
+  pub record Goes_on (s : Stage R) (w : WholeWorld S A) (before since : List ℕ) : Type 0 where
     pub under : Under w before since
     pub longer : (k : ℕ) → has z.members k ≡ true → IsFront (front (unit_share S A z) s k) (front (unit_share S A z) under.stage k)
     pub placed : Grows (unit_share S A z) (processed (unit_share S A z) s) (processed (unit_share S A z) under.stage)
 
   -- what a step leaves of the stage
-  record NextStage (s : Stage R) (w : Whole S A) (before since : List ℕ) : Type 0 where
+  record NextStage (s : Stage R) (w : WholeWorld S A) (before since : List ℕ) : Type 0 where
     stage : Stage R
     fits : FitsStage f stage
     holds : Share_holds S A z w (shape f stage)
@@ -65,7 +65,7 @@ module _ {R : Type 0} (S : Sys R) (A : Sharing S) (z : Seeing_share) where
     longer : (k : ℕ) → has z.members k ≡ true → IsFront (front f s k) (front f stage k)
     placed : Grows f (processed f s) (processed f stage)
 
-  stays : (s : Stage R) → FitsStage f s → (w : Whole S A) → Share_holds S A z w (shape f s) → (before since : List ℕ) → before ≡ [] → since ≡ [] → NextStage s w before since
+  stays : (s : Stage R) → FitsStage f s → (w : WholeWorld S A) → Share_holds S A z w (shape f s) → (before since : List ℕ) → before ≡ [] → since ≡ [] → NextStage s w before since
   stays s h w holds before since b e = record {
     stage = s;
     fits = h;
@@ -76,9 +76,9 @@ module _ {R : Type 0} (S : Sys R) (A : Sharing S) (z : Seeing_share) where
     placed = record { by = []; is = sym (append-nil (processed f s)); places = tt };
   }
 
-  next : IsShare f → (s : Stage R) → FitsStage f s → (w : Whole S A) → Goes S A z w (shape f s) → NextStage s w [] []
+  next : IsShare f → (s : Stage R) → FitsStage f s → (w : WholeWorld S A) → Goes S A z w (shape f s) → NextStage s w [] []
   next is s h w (Nothing holds) = stays s h w holds [] [] refl refl
-  next is s h w (Moves mv quiet holds) =
+  next is s h w (Moves_so mv quiet holds) =
       let on = goes_on f is s h mv in
       let b = (shape f s).diverts in
       record {
@@ -92,13 +92,13 @@ module _ {R : Type 0} (S : Sys R) (A : Sharing S) (z : Seeing_share) where
       }
 
   -- what else a step keeps
-  pub record KeepsRest (w : Whole S A) : Type 0 where
+  pub record KeepsRest (w : WholeWorld S A) : Type 0 where
     pub labels : (i j : ℕ) → (i == 0) && (j == 0) ≡ false → Each (Nothing_of S z.unit i) (olds (w.link i j))
     pub rules : (k : ℕ) → Each (Rest_rule S z.unit) (w.inst k).rules
     pub ops : Each (Rest_op S z.unit) w.ops
     pub away : (k : ℕ) → (k == z.home) ≡ false → S.B.at z.unit (w.inst k).live ≡ None
 
-  leads_to : (s : Stage R) (w' : Whole S A) (early_ps late_ps before since : List ℕ) → IsShare f → ((k : ℕ) → has z.members k ≡ true → 2 ≤ k) → S.takes z.filter z.unit ≡ true → NextStage s w' early_ps late_ps → KeepsRest w' → before ≡ early s ++ early_ps → since ≡ late f s ++ late_ps → Goes_on s w' before since
+  leads_to : (s : Stage R) (w' : WholeWorld S A) (early_ps late_ps before since : List ℕ) → IsShare f → ((k : ℕ) → has z.members k ≡ true → 2 ≤ k) → S.takes z.filter z.unit ≡ true → NextStage s w' early_ps late_ps → KeepsRest w' → before ≡ early s ++ early_ps → since ≡ late f s ++ late_ps → Goes_on s w' before since
   leads_to s w' early_ps late_ps before since is insts covered n k before_is since_is = record {
     under = record {
       is = is;
@@ -118,7 +118,7 @@ module _ {R : Type 0} (S : Sys R) (A : Sharing S) (z : Seeing_share) where
     placed = n.placed;
   }
 
-  pub goes_to : (w w' : Whole S A) (before since : List ℕ) (u : Under w before since) → Goes S A z w' (shape f u.stage) → KeepsRest w' → Goes_on u.stage w' before since
+  pub goes_to : (w w' : WholeWorld S A) (before since : List ℕ) (u : Under w before since) → Goes S A z w' (shape f u.stage) → KeepsRest w' → Goes_on u.stage w' before since
   goes_to w w' before since u goes k =
       leads_to u.stage w' [] [] before since u.is u.insts u.covered (next u.is u.stage u.fits w' goes) k (u.before_is ∙ sym (append-nil (early u.stage))) (u.since_is ∙ sym (append-nil (late f u.stage)))
 
@@ -149,7 +149,7 @@ module _ {R : Type 0} (S : Sys R) (A : Sharing S) (z : Seeing_share) where
 
   module _ (laws : IsSys S) (ok : IsSharing S A) where
     -- An instance: of a move's message and of a share's
-    module _ (w : Whole S A) (before since : List ℕ) (g : Global_all S A w) (u : Under w before since) (y p : ℕ) (y0 : (y == 0) ≡ false) (y1 : (y == 1) ≡ false) where
+    module _ (w : WholeWorld S A) (before since : List ℕ) (g : Global_all S A w) (u : Under w before since) (y p : ℕ) (y0 : (y == 0) ≡ false) (y1 : (y == 1) ≡ false) where
       no_input : (p == 0) && (y == 0) ≡ false
       no_input = rw y0 (elim (p == 0) as (λ b. b && false ≡ false) [ true ↦ refl | false ↦ refl ])
 
@@ -235,7 +235,7 @@ module _ {R : Type 0} (S : Sys R) (A : Sharing S) (z : Seeing_share) where
           goes_to w (whole_inst S A w p y m) before since u (inst_goes S A laws z w (shape f u.stage) u.holds (to_members f u.is u.stage u.fits) y p m rest y0 y1 waits k.sees) k.keeps
 
     -- The controller
-    pub under_ctrl : (w : Whole S A) (before since : List ℕ) → Global_all S A w → (u : Under w before since) (p : ℕ) (m : Any R) (rest : List (Any R)) → w.link p 1 ≡ m ∷ rest → Goes_on u.stage (whole_ctrl S A w p m) before since
+    pub under_ctrl : (w : WholeWorld S A) (before since : List ℕ) → Global_all S A w → (u : Under w before since) (p : ℕ) (m : Any R) (rest : List (Any R)) → w.link p 1 ≡ m ∷ rest → Goes_on u.stage (whole_ctrl S A w p m) before since
     under_ctrl w before since g u p m rest waits = goes_to w (whole_ctrl S A w p m) before since u (ctrl_goes S A z u.is u.insts w g u.covered u.stage u.fits u.holds p m rest waits) (by_kind m waits)
       where
         no_input : (p == 0) && (1 == 0) ≡ false
@@ -277,7 +277,7 @@ module _ {R : Type 0} (S : Sys R) (A : Sharing S) (z : Seeing_share) where
     fence_labels (S_shared n c) = tt
     fence_labels (S_synced n) = tt
 
-    pub under_switch : (w : Whole S A) (before since : List ℕ) → Global_all S A w → (u : Under w before since) (p : ℕ) (m : Any R) (rest : List (Any R)) → (p == 0) ≡ false → w.link p 0 ≡ m ∷ rest → No_diverts S A laws z w m → Goes_on u.stage (whole_switch S A w p m) before since
+    pub under_switch : (w : WholeWorld S A) (before since : List ℕ) → Global_all S A w → (u : Under w before since) (p : ℕ) (m : Any R) (rest : List (Any R)) → (p == 0) ≡ false → w.link p 0 ≡ m ∷ rest → No_diverts S A laws z w m → Goes_on u.stage (whole_switch S A w p m) before since
     under_switch w before since g u p m rest p0 waits few = goes_to w (whole_switch S A w p m) before since u (switch_goes S A laws z u.is u.insts u.covered w u.stage u.holds p p0 p m rest waits (label m waits) few) (by_kind m waits)
       where
         no_input : (p == 0) && (0 == 0) ≡ false
@@ -298,7 +298,7 @@ module _ {R : Type 0} (S : Sys R) (A : Sharing S) (z : Seeing_share) where
     abbrev its_late : Stage R → ℕ → List ℕ
     its_late s q = if (shape f s).diverts then if_mine f q else []
 
-    input_next : IsShare f → (s : Stage R) → FitsStage f s → (w : Whole S A) (q : ℕ) → Comes S A z w (shape f s) q → NextStage s w (its_early s q) (its_late s q)
+    input_next : IsShare f → (s : Stage R) → FitsStage f s → (w : WholeWorld S A) (q : ℕ) → Comes S A z w (shape f s) q → NextStage s w (its_early s q) (its_late s q)
     input_next is s h w q (Not_its other holds) = let b = (shape f s).diverts in stays s h w holds (its_early s q) (its_late s q) (ap (λ ps. if b then [] else ps) other ∙ neither b) (ap (λ ps. if b then ps else []) other ∙ neither b)
     input_next is s h w q (Arrives holds) = let on = goes_on f is s h (Arrive q) in record {
       stage = on.next;
@@ -314,12 +314,12 @@ module _ {R : Type 0} (S : Sys R) (A : Sharing S) (z : Seeing_share) where
     arrive_olds true t q = tt
     arrive_olds false t q = (tt, tt)
 
-    pub under_input : (w : Whole S A) (before since : List ℕ) (u : Under w before since) (q : ℕ) → Goes_on u.stage (whole_input S A w q) (before ++ (if (shape f u.stage).diverts then [] else if_mine f q)) (since ++ (if (shape f u.stage).diverts then if_mine f q else []))
+    pub under_input : (w : WholeWorld S A) (before since : List ℕ) (u : Under w before since) (q : ℕ) → Goes_on u.stage (whole_input S A w q) (before ++ (if (shape f u.stage).diverts then [] else if_mine f q)) (since ++ (if (shape f u.stage).diverts then if_mine f q else []))
     under_input w before since u q =
         let two = u.insts z.home u.is.home_in in
         let apart : (1 == z.home) ≡ false = grind (arith, nat_tests, two) in
-        let sends = arrive_sends S A (w.target (S.unit_of q)) q in
-        leads_to u.stage (whole_input S A w q) (its_early u.stage q) (its_late u.stage q) (before ++ its_early u.stage q) (since ++ its_late u.stage q) u.is u.insts u.covered (input_next u.is u.stage u.fits (whole_input S A w q) q (comes S A z u.covered apart w (shape f u.stage) u.holds q)) (record { labels = put_labels w.link 0 sends (old_sends sends) refl u.labels (arrive_olds (w.target (S.unit_of q) == 1) (w.target (S.unit_of q)) q); rules = u.rules; ops = u.ops; away = u.away }) (ap (λ ps. ps ++ its_early u.stage q) u.before_is) (ap (λ ps. ps ++ its_late u.stage q) u.since_is)
+        let sends = arrive_sends S A (w.target (S.packet_unit q)) q in
+        leads_to u.stage (whole_input S A w q) (its_early u.stage q) (its_late u.stage q) (before ++ its_early u.stage q) (since ++ its_late u.stage q) u.is u.insts u.covered (input_next u.is u.stage u.fits (whole_input S A w q) q (comes S A z u.covered apart w (shape f u.stage) u.holds q)) (record { labels = put_labels w.link 0 sends (old_sends sends) refl u.labels (arrive_olds (w.target (S.packet_unit q) == 1) (w.target (S.packet_unit q)) q); rules = u.rules; ops = u.ops; away = u.away }) (ap (λ ps. ps ++ its_early u.stage q) u.before_is) (ap (λ ps. ps ++ its_late u.stage q) u.since_is)
 
   -- nothing has arrived since where nothing is diverted, so what arrives is last
   none_since : (s : Stage R) → (shape f s).diverts ≡ false → late f s ≡ []
@@ -334,7 +334,7 @@ module _ {R : Type 0} (S : Sys R) (A : Sharing S) (z : Seeing_share) where
   none_since (Carries d e₁ p q v) e = cc
   none_since (Chunk_comes d e₁ p q v) e = cc
 
-  pub comes_last : (w : Whole S A) (before since : List ℕ) (u : Under w before since) (ps : List ℕ) → (before ++ (if (shape f u.stage).diverts then [] else ps)) ++ (since ++ (if (shape f u.stage).diverts then ps else [])) ≡ (before ++ since) ++ ps
+  pub comes_last : (w : WholeWorld S A) (before since : List ℕ) (u : Under w before since) (ps : List ℕ) → (before ++ (if (shape f u.stage).diverts then [] else ps)) ++ (since ++ (if (shape f u.stage).diverts then ps else [])) ≡ (before ++ since) ++ ps
   comes_last w before since u ps = elim (shape f u.stage).diverts as (λ b. (shape f u.stage).diverts ≡ b → (before ++ (if b then [] else ps)) ++ (since ++ (if b then ps else [])) ≡ (before ++ since) ++ ps) [
     | true ↦ λ _. ap (λ v. v ++ (since ++ ps)) (append-nil before) ∙ sym (append_assoc before since ps)
     | false ↦ λ off. let none : since ≡ [] = u.since_is ∙ none_since u.stage off in rw none (append-nil (before ++ ps) ∙ ap (λ v. v ++ ps) (sym (append-nil before)))

@@ -7,7 +7,7 @@ use Rattle.unit_machine.proofs.Real.{sent_for}
 use Rattle.unit_machine.proofs.Labels.{Each, each-append}
 use Rattle.share_machine.proofs.Stages.{shape}
 use Rattle.flow_filter.specs.declared.filter.Filter.{Filter}
-use Rattle.abstract_net.proofs.Net.{Msg, Msg.Asked, Want, Sys, IsSys, Open, new_op, begin_sends}
+use Rattle.abstract_net.proofs.Net.{Msg, Msg.Asked, MoveAsked, Sys, IsSys, Open, new_op, begin_sends}
 use Rattle.abstract_net.proofs.Holding.{EachSent}
 use Rattle.abstract_net.proofs.Rest.{Rest_op, Nothing_of}
 use Rattle.abstract_net.proofs.Units.{May, apart_of}
@@ -19,13 +19,13 @@ use Rattle.abstract_net.proofs.ShareViews.{unit_share, share_items, own_of, own_
 use Rattle.abstract_net.proofs.ShareLinks.{none_links, view_put, lone_unseen, Goes.Nothing}
 use Rattle.abstract_net.proofs.MemberMoves.{unseen_view}
 use Rattle.abstract_net.proofs.Under.{Under, Goes_on, goes_to, put_labels}
-use Rattle.abstract_net.proofs.Shares.{Any, Any.Old, Any.New, Share_msg.S_asked, Share_msg.S_install, Share_msg.S_get, Want_share, as_old, Sharing, Open_share, new_share, find_share, Whole, moves_of, asks, begin_move, begin_share, puts_get, keeps, meets_shares, Seeing_share}
+use Rattle.abstract_net.proofs.Shares.{Any, Any.Old, Any.New, Share_msg.S_asked, Share_msg.S_install, Share_msg.S_get, Want_share, as_old, Sharing, Open_share, new_share, find_share, WholeWorld, moves_of, asks, begin_move, begin_share, puts_get, keeps, meets_shares, Seeing_share}
 
-module _ {R : Type 0} (S : Sys R) (A : Sharing S) (z : Seeing_share) (w : Whole S A) (before since : List ℕ) (u : Under S A z w before since) where
+module _ {R : Type 0} (S : Sys R) (A : Sharing S) (z : Seeing_share) (w : WholeWorld S A) (before since : List ℕ) (u : Under S A z w before since) where
   -- something is put on node k's links that the unit doesn't see
   put_unseen : (ops : List (Open R)) (es : List Open_share) (next k : ℕ) (sends : List (ℕ × Any R)) (ys : List (ℕ × Msg R)) → old_sends sends ≡ ys → ((j : ℕ) → share_items S A z j (sent_for j sends) ≡ []) → find_share es z.num ≡ find_share w.shares z.num → Each (Rest_op S z.unit) ops → EachSent (λ _ m. Nothing_of S z.unit k m) ys → Goes_on S A z u.stage (record w { ops = ops; shares = es; next = next; link = λ i j. w.link i j ++ (if i == k then sent_for j sends else []) }) before since
   put_unseen ops es next k sends ys is none same opens new =
-      let w' : Whole S A = record w { ops = ops; shares = es; next = next; link = λ i j. w.link i j ++ (if i == k then sent_for j sends else []) } in
+      let w' : WholeWorld S A = record w { ops = ops; shares = es; next = next; link = λ i j. w.link i j ++ (if i == k then sent_for j sends else []) } in
       let x = shape (unit_share S A z) u.stage in
       goes_to S A z w w' before since u (Nothing (record {
         links = λ i j e. view_put S A z w.link k sends i j ∙ ap (λ v. v ++ (if i == k then share_items S A z j (sent_for j sends) else [])) (u.holds.links i j e) ∙ none_links x k i j (λ j. share_items S A z j (sent_for j sends)) none;
@@ -40,7 +40,7 @@ module _ {R : Type 0} (S : Sys R) (A : Sharing S) (z : Seeing_share) (w : Whole 
   new_num : Global_all S A w → (n : ℕ) → w.next ≤ n → (n == z.num) ≡ false
   new_num g n fresh = let below : z.num < w.next = found_each (λ e. e.num < w.next) w.shares z.num (as_share S A z (shape (unit_share S A z) u.stage).phase (shape (unit_share S A z) u.stage).queue) g.shares_below u.holds.share in grind (arith, nat_tests, below, fresh)
 
-  pub under_begin_move : IsSys S → (x : Want) → May S (moves_of S A w) x → meets_shares S A x.filter w.shares ≡ false → Goes_on S A z u.stage (begin_move S A w x) before since
+  pub under_begin_move : IsSys S → (x : MoveAsked) → May S (moves_of S A w) x → meets_shares S A x.filter w.shares ≡ false → Goes_on S A z u.stage (begin_move S A w x) before since
   under_begin_move laws x may meets =
       let apart = found_each (λ e. Disjoint S x.filter e.filter) w.shares z.num (as_share S A z (shape (unit_share S A z) u.stage).phase (shape (unit_share S A z) u.stage).queue) (meets_none S A laws x.filter w.shares meets) u.holds.share in
       let off : S.takes x.filter z.unit ≡ false = disjoint_sym S x.filter z.filter apart z.unit u.covered in
@@ -59,7 +59,7 @@ module _ {R : Type 0} (S : Sys R) (A : Sharing S) (z : Seeing_share) (w : Whole 
       put_unseen w.ops w.shares (suc n) 1 ((src, New (S_get n h)) ∷ []) [] refl (λ j. lone_unseen S A z src j (New (S_get n h)) (λ r. rw off refl)) refl u.ops tt
 
   -- a command for a move, and one for a share
-  pub under_asks_move : (x : Want) → Goes_on S A z u.stage (asks S A w (Old (Asked x))) before since
+  pub under_asks_move : (x : MoveAsked) → Goes_on S A z u.stage (asks S A w (Old (Asked x))) before since
   under_asks_move x = put_unseen w.ops w.shares w.next 0 ((1, Old (Asked x)) ∷ []) ((1, Asked x) ∷ []) refl (λ j. lone_unseen S A z 1 j (Old (Asked x)) (λ r. refl)) refl u.ops (tt, tt)
 
   pub under_asks_share : (x : Want_share) → Goes_on S A z u.stage (asks S A w (New (S_asked x))) before since

@@ -12,20 +12,20 @@ use Rattle.abstract_net.proofs.Net.{Sys}
 use Rattle.abstract_net.proofs.GlobalAll.{Global_all}
 use Rattle.abstract_net.proofs.OnShareLinks.{Sender, back_sender, sc_sender, idle_empty}
 use Rattle.abstract_net.proofs.ShareViews.{share_expect, unit_share, share_seen, share_items, Share_holds}
-use Rattle.abstract_net.proofs.ShareLinks.{sc_links, back_links, quiet_links, view_after, Goes, Goes.Nothing, Goes.Moves}
+use Rattle.abstract_net.proofs.ShareLinks.{sc_links, back_links, quiet_links, view_after, Goes, Goes.Nothing, Goes.Moves_so}
 use Rattle.abstract_net.proofs.MemberMoves.{unseen_view}
 use Rattle.abstract_net.proofs.ShareSees.{Sees_share, share_item, Sender_if, share_sees, moves_unseen}
-use Rattle.abstract_net.proofs.Shares.{Any, as_old, Sharing, told_by, Shares_step, by_share, Whole, old_step, whole_ctrl, Seeing_share}
+use Rattle.abstract_net.proofs.Shares.{Any, as_old, Sharing, told_by, Shares_step, by_share, WholeWorld, old_step, whole_ctrl, Seeing_share}
 
 module _ {R : Type 0} (S : Sys R) (A : Sharing S) (z : Seeing_share) where
   abbrev f : UnitShare R
   f = unit_share S A z
 
-  module _ (is : IsShare f) (insts : (k : ℕ) → has z.members k ≡ true → 2 ≤ k) (w : Whole S A) (g : Global_all S A w) (covered : S.takes z.filter z.unit ≡ true) (s : Stage R) (fits : FitsStage f s) (h : Share_holds S A z w (shape f s)) (p : ℕ) (m : Any R) (rest : List (Any R)) (waits_at : w.link p 1 ≡ m ∷ rest) where
+  module _ (is : IsShare f) (insts : (k : ℕ) → has z.members k ≡ true → 2 ≤ k) (w : WholeWorld S A) (g : Global_all S A w) (covered : S.takes z.filter z.unit ≡ true) (s : Stage R) (fits : FitsStage f s) (h : Share_holds S A z w (shape f s)) (p : ℕ) (m : Any R) (rest : List (Any R)) (waits_at : w.link p 1 ≡ m ∷ rest) where
     abbrev x : View R
     x = shape f s
 
-    abbrev w' : Whole S A
+    abbrev w' : WholeWorld S A
     w' = whole_ctrl S A w p m
 
     abbrev step : Shares_step S A
@@ -73,7 +73,7 @@ module _ {R : Type 0} (S : Sys R) (A : Sharing S) (z : Seeing_share) where
     by_sc : (it : Item R) → x.sc ≡ it ∷ left → p ≡ 0 → Sees_share S A z step (share_does f it x.phase x.queue) → Goes S A z w' x
     by_sc it head from t =
         let did = share_does f it x.phase x.queue in
-        Moves Take_sc refl (subst (λ ys. Share_holds S A z w' (from_sc f x ys)) (sym head) (record {
+        Moves_so Take_sc refl (subst (λ ys. Share_holds S A z w' (from_sc f x ys)) (sym head) (record {
           links = λ i j e. after_is i j e ∙ subst (λ n. (if (i == n) && (j == 1) then left else share_expect x i j) ++ (if i == 1 then sent j else []) ≡ share_expect (record x { sc = left; cs = x.cs ++ did.to_s; to = joined x.to did.to }) i j) (sym from) (sc_links x i j left did.to_s did.to sent (sent_is 0 ∙ t.to_s) (λ k off. sent_is k ∙ t.to k off));
           own = h.own;
           share = t.share;
@@ -85,7 +85,7 @@ module _ {R : Type 0} (S : Sys R) (A : Sharing S) (z : Seeing_share) where
     by_back : (it : Item R) → x.back p ≡ it ∷ left → (p == 0) ≡ false → (p == 1) ≡ false → Sees_share S A z step (share_does f it x.phase x.queue) → Goes S A z w' x
     by_back it head p0 p1 t =
         let did = share_does f it x.phase x.queue in
-        Moves (Take_back p) refl (subst (λ ys. Share_holds S A z w' (from_back f x p ys)) (sym head) (record {
+        Moves_so (Take_back p) refl (subst (λ ys. Share_holds S A z w' (from_back f x p ys)) (sym head) (record {
           links = λ i j e. after_is i j e ∙ back_links x p i j left did.to_s did.to sent p0 p1 (sent_is 0 ∙ t.to_s) (λ k off. sent_is k ∙ t.to k off);
           own = h.own;
           share = t.share;

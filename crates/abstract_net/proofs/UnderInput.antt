@@ -9,7 +9,7 @@ use Rattle.share_machine.proofs.Share.{Item, Item.Carry, Item.Diverted, Item.Str
 use Rattle.abstract_net.proofs.Net.{Msg.Carry_on, Sys}
 use Rattle.abstract_net.proofs.ShareViews.{mine, share_expect, unit_share, share_items, Share_holds}
 use Rattle.abstract_net.proofs.ShareLinks.{in_links, none_links, view_put, lone_view, lone_unseen, holds_alike}
-use Rattle.abstract_net.proofs.Shares.{Any.Old, Any.New, Share_msg.Diverted_on, Sharing, arrive_sends, Whole, whole_input, Seeing_share}
+use Rattle.abstract_net.proofs.Shares.{Any.Old, Any.New, Share_msg.Diverted_on, Sharing, arrive_sends, WholeWorld, whole_input, Seeing_share}
 use Rattle.record_table.proofs.UnitOrder.{same_unit-true}
 
 module _ {R : Type 0} (S : Sys R) (A : Sharing S) (z : Seeing_share) where
@@ -17,15 +17,15 @@ module _ {R : Type 0} (S : Sys R) (A : Sharing S) (z : Seeing_share) where
   f = unit_share S A z
 
   -- after a packet of the input
-  pub data Comes (w : Whole S A) (x : View R) (q : ℕ) : Type 0 where
+  pub data Comes (w : WholeWorld S A) (x : View R) (q : ℕ) : Type 0 where
     Not_its : if_mine f q ≡ [] → Share_holds S A z w x → Comes w x q
     Arrives : Share_holds S A z w (moved f x (Arrive q)) → Comes w x q
 
-  module _ (covered : S.takes z.filter z.unit ≡ true) (apart : (1 == z.home) ≡ false) (w : Whole S A) (x : View R) (h : Share_holds S A z w x) (q : ℕ) where
+  module _ (covered : S.takes z.filter z.unit ≡ true) (apart : (1 == z.home) ≡ false) (w : WholeWorld S A) (x : View R) (h : Share_holds S A z w x) (q : ℕ) where
     abbrev target : ℕ
-    target = w.target (S.unit_of q)
+    target = w.target (S.packet_unit q)
 
-    abbrev w' : Whole S A
+    abbrev w' : WholeWorld S A
     w' = whole_input S A w q
 
     abbrev sent : ℕ → List (Item R)
@@ -64,21 +64,21 @@ module _ {R : Type 0} (S : Sys R) (A : Sharing S) (z : Seeing_share) where
     to_ctrl : (target == 1) ≡ true → arrive_sends S A target q ≡ (1, New (Diverted_on q)) ∷ []
     to_ctrl on = rw on refl
 
-    diverted_at : (target == 1) ≡ true → S.takes z.filter (S.unit_of q) ≡ true → (j : ℕ) → sent j ≡ (if 1 == j then Diverted q ∷ [] else [])
+    diverted_at : (target == 1) ≡ true → S.takes z.filter (S.packet_unit q) ≡ true → (j : ℕ) → sent j ≡ (if 1 == j then Diverted q ∷ [] else [])
     diverted_at on takes j = ap (λ xs. share_items S A z j (sent_for j xs)) (to_ctrl on) ∙ lone_view S A z 1 j (New (Diverted_on q)) ∙ ap (λ b. if 1 == j then add (if b then Some (Diverted q) else where_true (mine S A z q) Stray) [] else []) takes
 
-    diverted : (target == 1) ≡ true → S.takes z.filter (S.unit_of q) ≡ true → Comes w' x q
+    diverted : (target == 1) ≡ true → S.takes z.filter (S.packet_unit q) ≡ true → Comes w' x q
     diverted on takes =
-        let diverts : x.diverts ≡ true = h.diverts (S.unit_of q) takes ((Decides-eqb target 1).0 on) in
+        let diverts : x.diverts ≡ true = h.diverts (S.packet_unit q) takes ((Decides-eqb target 1).0 on) in
         arrives (record x { sc = x.sc ++ Diverted q ∷ [] }) (ap (λ b. if b then record x { sc = x.sc ++ Diverted q ∷ [] } else record x { sw = joined x.sw (only f.home (map Carry (if_mine f q))) }) diverts) (holds_alike S A z w' (record x { sc = x.sc ++ Diverted q ∷ []; sw = joined x.sw nowhere }) (record x { sc = x.sc ++ Diverted q ∷ [] }) (goes_in (Diverted q ∷ []) nowhere (diverted_at on takes 1) (λ k off. let other : (1 == k) ≡ false = grind (arith, nat_tests) in diverted_at on takes k ∙ rw other refl)) (record { sw = λ k. append-nil (x.sw k); sc = refl; cs = refl; to = λ k. refl; back = λ k. refl; own = λ k _. refl; phase = refl; queue = refl; diverts = refl; done = refl }))
 
-    outside : S.takes z.filter (S.unit_of q) ≡ false → mine S A z q ≡ false
+    outside : S.takes z.filter (S.packet_unit q) ≡ false → mine S A z q ≡ false
     outside off = elim (mine S A z q) as (λ b. mine S A z q ≡ b → b ≡ false) [
-      | true ↦ λ on. let never : true ≡ false = sym covered ∙ ap (S.takes z.filter) (sym (same_unit-true (S.unit_of q) z.unit on)) ∙ off in cc
+      | true ↦ λ on. let never : true ≡ false = sym covered ∙ ap (S.takes z.filter) (sym (same_unit-true (S.packet_unit q) z.unit on)) ∙ off in cc
       | false ↦ λ _. refl
     ] refl
 
-    passed : (target == 1) ≡ true → S.takes z.filter (S.unit_of q) ≡ false → Comes w' x q
+    passed : (target == 1) ≡ true → S.takes z.filter (S.packet_unit q) ≡ false → Comes w' x q
     passed on off = let other = outside off in unseen (not_its other) (λ j. ap (λ xs. share_items S A z j (sent_for j xs)) (to_ctrl on) ∙ lone_unseen S A z 1 j (New (Diverted_on q)) (λ r. rw (off, other) refl))
 
     -- at an instance
@@ -90,11 +90,11 @@ module _ {R : Type 0} (S : Sys R) (A : Sharing S) (z : Seeing_share) where
 
     carried : (target == 1) ≡ false → mine S A z q ≡ true → (b : Bool) → x.diverts ≡ b → Comes w' x q
     carried off on true diverts =
-        let there : target ≡ 1 = ap w.target (same_unit-true (S.unit_of q) z.unit on) ∙ h.target ∙ ap (λ b. if b then 1 else z.home) diverts in
+        let there : target ≡ 1 = ap w.target (same_unit-true (S.packet_unit q) z.unit on) ∙ h.target ∙ ap (λ b. if b then 1 else z.home) diverts in
         let never : true ≡ false = sym ((Decides-eqb target 1).1 there) ∙ off in
         cc
     carried off on false diverts =
-        let there : target ≡ z.home = ap w.target (same_unit-true (S.unit_of q) z.unit on) ∙ h.target ∙ ap (λ b. if b then 1 else z.home) diverts in
+        let there : target ≡ z.home = ap w.target (same_unit-true (S.packet_unit q) z.unit on) ∙ h.target ∙ ap (λ b. if b then 1 else z.home) diverts in
         let at : (j : ℕ) → sent j ≡ only z.home (Carry q ∷ []) j = λ j. carried_at off on j ∙ ap (λ t. if t == j then Carry q ∷ [] else []) there ∙ ap (λ b. if b then Carry q ∷ [] else []) (nat_eq_equiv.symm z.home j) in
         arrives (record x { sw = joined x.sw (only z.home (Carry q ∷ [])) }) (ap (λ b. if b then record x { sc = x.sc ++ Diverted q ∷ [] } else record x { sw = joined x.sw (only f.home (map Carry (if_mine f q))) }) diverts ∙ ap (λ b. record x { sw = joined x.sw (only f.home (map Carry (if b then q ∷ [] else []))) }) on) (holds_alike S A z w' (record x { sc = x.sc ++ []; sw = joined x.sw (only z.home (Carry q ∷ [])) }) (record x { sw = joined x.sw (only z.home (Carry q ∷ [])) }) (goes_in [] (only z.home (Carry q ∷ [])) (at 1 ∙ rw apart refl) (λ k _. at k)) (record { sw = λ k. refl; sc = append-nil x.sc; cs = refl; to = λ k. refl; back = λ k. refl; own = λ k _. refl; phase = refl; queue = refl; diverts = refl; done = refl }))
 
@@ -103,6 +103,6 @@ module _ {R : Type 0} (S : Sys R) (A : Sharing S) (z : Seeing_share) where
 
     pub comes : Comes w' x q
     comes = elim (target == 1) as (λ b. (target == 1) ≡ b → Comes w' x q) [
-      | true ↦ λ on. elim (S.takes z.filter (S.unit_of q)) as (λ b. S.takes z.filter (S.unit_of q) ≡ b → Comes w' x q) [ true ↦ λ takes. diverted on takes | false ↦ λ off. passed on off ] refl
+      | true ↦ λ on. elim (S.takes z.filter (S.packet_unit q)) as (λ b. S.takes z.filter (S.packet_unit q) ≡ b → Comes w' x q) [ true ↦ λ takes. diverted on takes | false ↦ λ off. passed on off ] refl
       | false ↦ λ off. elim (mine S A z q) as (λ b. mine S A z q ≡ b → Comes w' x q) [ true ↦ λ on. carried off on x.diverts refl | false ↦ λ other. another off other ] refl
     ] refl

@@ -7,36 +7,36 @@ use Rattle.share_machine.proofs.Share.{Item, UnitShare, View, ShareMachineStep.T
 use Rattle.share_machine.proofs.Heads.{To_members}
 use Rattle.abstract_net.proofs.Net.{Sys, IsSys, inst_step, links_after, at_node}
 use Rattle.abstract_net.proofs.ShareViews.{share_expect, unit_share, share_seen, share_items, own_of, own_at, Share_holds}
-use Rattle.abstract_net.proofs.ShareLinks.{sw_links, to_links, quiet_links, view_after, ran_of-append, Goes, Goes.Nothing, Goes.Moves}
+use Rattle.abstract_net.proofs.ShareLinks.{sw_links, to_links, quiet_links, view_after, ran_of-append, Goes, Goes.Nothing, Goes.Moves_so}
 use Rattle.abstract_net.proofs.MemberSteps.{any_step, as_was, does, Sees_member}
-use Rattle.abstract_net.proofs.Shares.{Any, Any.Old, Any.New, Sharing, find_share, Member_did, Whole, whole_inst, ran_of, Seeing_share}
+use Rattle.abstract_net.proofs.Shares.{Any, Any.Old, Any.New, Sharing, find_share, Member_did, WholeWorld, whole_inst, ran_of, Seeing_share}
 use Rattle.nf_function.specs.declared.unit.Unit as units
 
 module _ {R : Type 0} (S : Sys R) (A : Sharing S) (laws : IsSys S) (z : Seeing_share) where
   abbrev f : UnitShare R
   f = unit_share S A z
 
-  abbrev pub did_at : Whole S A → ℕ → Any R → Member_did S A
+  abbrev pub did_at : WholeWorld S A → ℕ → Any R → Member_did S A
   did_at w y m = any_step S A laws z (w.inst y) (w.standby y) m
 
   -- what the world is after the step
-  inst_links : (w : Whole S A) (p y : ℕ) (m : Any R) (i j : ℕ) → (whole_inst S A w p y m).link i j ≡ links_after w.link p y (did_at w y m).sends i j
+  inst_links : (w : WholeWorld S A) (p y : ℕ) (m : Any R) (i j : ℕ) → (whole_inst S A w p y m).link i j ≡ links_after w.link p y (did_at w y m).sends i j
   inst_links w p y (Old m) i j = refl
   inst_links w p y (New m) i j = refl
 
-  inst_done : (w : Whole S A) (p y : ℕ) (m : Any R) → (whole_inst S A w p y m).done ≡ w.done ++ at_node y (did_at w y m).ran
+  inst_done : (w : WholeWorld S A) (p y : ℕ) (m : Any R) → (whole_inst S A w p y m).done ≡ w.done ++ at_node y (did_at w y m).ran
   inst_done w p y (Old m) = refl
   inst_done w p y (New m) = refl
 
-  inst_shares : (w : Whole S A) (p y : ℕ) (m : Any R) → (whole_inst S A w p y m).shares ≡ w.shares
+  inst_shares : (w : WholeWorld S A) (p y : ℕ) (m : Any R) → (whole_inst S A w p y m).shares ≡ w.shares
   inst_shares w p y (Old m) = refl
   inst_shares w p y (New m) = refl
 
-  inst_target : (w : Whole S A) (p y : ℕ) (m : Any R) (v : units.Unit) → (whole_inst S A w p y m).target v ≡ w.target v
+  inst_target : (w : WholeWorld S A) (p y : ℕ) (m : Any R) (v : units.Unit) → (whole_inst S A w p y m).target v ≡ w.target v
   inst_target w p y (Old m) v = refl
   inst_target w p y (New m) v = refl
 
-  inst_own : (w : Whole S A) (p y : ℕ) (m : Any R) (k : ℕ) → own_at S A z (whole_inst S A w p y m) k ≡ (if k == y then own_of S A z (y == z.home) (did_at w y m).live (did_at w y m).standby else own_at S A z w k)
+  inst_own : (w : WholeWorld S A) (p y : ℕ) (m : Any R) (k : ℕ) → own_at S A z (whole_inst S A w p y m) k ≡ (if k == y then own_of S A z (y == z.home) (did_at w y m).live (did_at w y m).standby else own_at S A z w k)
   inst_own w p y (Old m) k = elim (k == y) as (λ b. (k == y) ≡ b → own_of S A z (k == z.home) (if b then (inst_step S (w.inst y) m).node else w.inst k).live (w.standby k) ≡ (if b then own_of S A z (y == z.home) (did_at w y (Old m)).live (did_at w y (Old m)).standby else own_at S A z w k)) [
     | true ↦ λ on. ap (λ n. own_of S A z (n == z.home) (inst_step S (w.inst y) m).node.live (w.standby n)) ((Decides-eqb k y).0 on)
     | false ↦ λ _. refl
@@ -46,8 +46,8 @@ module _ {R : Type 0} (S : Sys R) (A : Sharing S) (laws : IsSys S) (z : Seeing_s
     | false ↦ λ _. refl
   ] refl
 
-  module _ (w : Whole S A) (x : View R) (h : Share_holds S A z w x) (only_members : To_members f x) (y p : ℕ) (m : Any R) (rest : List (Any R)) (y0 : (y == 0) ≡ false) (y1 : (y == 1) ≡ false) (waits : w.link p y ≡ m ∷ rest) where
-    abbrev w' : Whole S A
+  module _ (w : WholeWorld S A) (x : View R) (h : Share_holds S A z w x) (only_members : To_members f x) (y p : ℕ) (m : Any R) (rest : List (Any R)) (y0 : (y == 0) ≡ false) (y1 : (y == 1) ≡ false) (waits : w.link p y ≡ m ∷ rest) where
+    abbrev w' : WholeWorld S A
     w' = whole_inst S A w p y m
 
     abbrev d : Member_did S A
@@ -106,13 +106,13 @@ module _ {R : Type 0} (S : Sys R) (A : Sharing S) (laws : IsSys S) (z : Seeing_s
     by_sw it head from s0 =
         let s = at_own it (member it (x.sw y) head (only_members.sw y)) s0 in
         let did = member_does f y (x.own y) it in
-        Moves (Take_sw y) refl (subst (λ ys. Share_holds S A z w' (from_sw f x y ys)) (sym head) (holds_at (record x { sw = put x.sw y left; own = put x.own y did.own; back = joined x.back (only y did.to_c); done = x.done ++ did.ran }) (λ i j e. subst (λ n. (if (i == n) && (j == y) then left else share_expect x i j) ++ (if i == y then sent j else []) ≡ share_expect (record x { sw = put x.sw y left; back = joined x.back (only y did.to_c) }) i j) (sym from) (sw_links x y i j left did.to_c sent y0 y1 e s.to_c s.others)) (own_after it s) refl refl refl (done_after it s)))
+        Moves_so (Take_sw y) refl (subst (λ ys. Share_holds S A z w' (from_sw f x y ys)) (sym head) (holds_at (record x { sw = put x.sw y left; own = put x.own y did.own; back = joined x.back (only y did.to_c); done = x.done ++ did.ran }) (λ i j e. subst (λ n. (if (i == n) && (j == y) then left else share_expect x i j) ++ (if i == y then sent j else []) ≡ share_expect (record x { sw = put x.sw y left; back = joined x.back (only y did.to_c) }) i j) (sym from) (sw_links x y i j left did.to_c sent y0 y1 e s.to_c s.others)) (own_after it s) refl refl refl (done_after it s)))
 
     by_to : (it : Item R) → x.to y ≡ it ∷ left → p ≡ 1 → Sees_member S A laws z y (w.inst y).live d (member_does f y (own_at S A z w y) it) → Goes S A z w' x
     by_to it head from s0 =
         let s = at_own it (member it (x.to y) head (only_members.to y)) s0 in
         let did = member_does f y (x.own y) it in
-        Moves (Take_to y) refl (subst (λ ys. Share_holds S A z w' (from_to f x y ys)) (sym head) (holds_at (record x { to = put x.to y left; own = put x.own y did.own; back = joined x.back (only y did.to_c); done = x.done ++ did.ran }) (λ i j e. subst (λ n. (if (i == n) && (j == y) then left else share_expect x i j) ++ (if i == y then sent j else []) ≡ share_expect (record x { to = put x.to y left; back = joined x.back (only y did.to_c) }) i j) (sym from) (to_links x y i j left did.to_c sent y0 y1 s.to_c s.others)) (own_after it s) refl refl refl (done_after it s)))
+        Moves_so (Take_to y) refl (subst (λ ys. Share_holds S A z w' (from_to f x y ys)) (sym head) (holds_at (record x { to = put x.to y left; own = put x.own y did.own; back = joined x.back (only y did.to_c); done = x.done ++ did.ran }) (λ i j e. subst (λ n. (if (i == n) && (j == y) then left else share_expect x i j) ++ (if i == y then sent j else []) ≡ share_expect (record x { to = put x.to y left; back = joined x.back (only y did.to_c) }) i j) (sym from) (to_links x y i j left did.to_c sent y0 y1 s.to_c s.others)) (own_after it s) refl refl refl (done_after it s)))
 
     -- which link it was
     pub inst_from : (it : Item R) → it ∷ left ≡ share_expect x p y → (x.sw y ≡ it ∷ left) × (p ≡ 0) ⊎ (x.to y ≡ it ∷ left) × (p ≡ 1)

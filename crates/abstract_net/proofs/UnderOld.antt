@@ -7,7 +7,7 @@ use Rattle.share_machine.proofs.Lists.{self}
 use Rattle.unit_machine.proofs.Machine as moves
 use Rattle.unit_machine.proofs.Real as Real
 use Rattle.unit_machine.proofs.Real.{Op, where_true, add, sent_for, only_mine, off_if}
-use Rattle.unit_machine.proofs.Seen.{Apart}
+use Rattle.unit_machine.proofs.Seen.{NodesDiffer}
 use Rattle.unit_machine.proofs.Labels.{Each}
 use Rattle.unit_machine.proofs.NetViews.{items}
 use Rattle.unit_machine.proofs.Between.{rest_at}
@@ -24,7 +24,7 @@ use Rattle.record_table.specs.Table.{same_unit}
 
 module _ {R : Type 0} (S : Sys R) (laws : IsSys S) (u : units.Unit) where
   abbrev mine : ℕ → Bool
-  mine p = same_unit (S.unit_of p) u
+  mine p = same_unit (S.packet_unit p) u
 
   abbrev pub after_packets : Option R → List ℕ → Option R
   after_packets o [] = o
@@ -50,7 +50,7 @@ module _ {R : Type 0} (S : Sys R) (laws : IsSys S) (u : units.Unit) where
     abbrev z : Seeing
     z = record { unit = u; op = nobody; third = 4 }
 
-    apart : Apart nobody
+    apart : NodesDiffer nobody
     apart = record { num = self b; src = refl; dst = refl; src_dst = refl; dst_src = refl; src_0 = refl; dst_0 = refl; 0_src = refl; 0_dst = refl }
 
     le_self : b ≤ b

@@ -21,9 +21,9 @@ use Rattle.abstract_net.proofs.MemberSteps.{does}
 use Rattle.abstract_net.proofs.UnderInst.{did_at, heads, inst_from}
 use Rattle.abstract_net.proofs.Under.{Under, inst_keeps}
 use Rattle.abstract_net.proofs.UnderStarts.{packets_done}
-use Rattle.abstract_net.proofs.Shares.{Any, Any.Old, olds, Sharing, IsSharing, Whole, ran_of, Seeing_share}
+use Rattle.abstract_net.proofs.Shares.{Any, Any.Old, olds, Sharing, IsSharing, WholeWorld, ran_of, Seeing_share}
 
-module _ {R : Type 0} (S : Sys R) (A : Sharing S) (z : Seeing_share) (w : Whole S A) (before since : List ℕ) (u : Under S A z w before since) where
+module _ {R : Type 0} (S : Sys R) (A : Sharing S) (z : Seeing_share) (w : WholeWorld S A) (before since : List ℕ) (u : Under S A z w before since) where
   abbrev f : UnitShare R
   f = unit_share S A z
 

@@ -20,7 +20,7 @@ use Rattle.abstract_net.proofs.GlobalShares.{not_yet}
 use Rattle.abstract_net.proofs.ShareViews.{mine, share_expect, unit_share, move_seen, new_seen, share_items, own_of}
 use Rattle.abstract_net.proofs.ShareLinks.{view_put}
 use Rattle.abstract_net.proofs.Under.{Under, put_labels}
-use Rattle.abstract_net.proofs.Shares.{Any, Any.Old, Any.New, Share_msg, Share_msg.Shared_on, Share_msg.Diverted_on, Share_msg.S_asked, Share_msg.S_install, Share_msg.S_forward, Share_msg.S_get, Share_msg.S_sync, Share_msg.S_chunks, Share_msg.S_shared, Share_msg.S_synced, Want_share, Each_new, olds, Sharing, IsSharing, Open_share, new_share, find_share, Whole, moves_of, begin_share, May_share, ran_of, Seeing_share}
+use Rattle.abstract_net.proofs.Shares.{Any, Any.Old, Any.New, Share_msg, Share_msg.Shared_on, Share_msg.Diverted_on, Share_msg.S_asked, Share_msg.S_install, Share_msg.S_forward, Share_msg.S_get, Share_msg.S_sync, Share_msg.S_chunks, Share_msg.S_shared, Share_msg.S_synced, Want_share, Each_new, olds, Sharing, IsSharing, Open_share, new_share, find_share, WholeWorld, moves_of, begin_share, May_share, ran_of, Seeing_share}
 use Rattle.nf_function.specs.declared.unit.Unit as units
 use Rattle.record_table.specs.Table.{same_unit}
 use Rattle.record_table.proofs.UnitOrder.{same_unit-true}
@@ -41,16 +41,16 @@ module _ {R : Type 0} (S : Sys R) (A : Sharing S) (u : units.Unit) where
   seeing x = record { unit = u; num = x.num; home = x.home; members = x.members; filter = x.filter }
 
   -- a record that stands by is the fold of a front of what was done
-  pub record Front_by (w : Whole S A) (k : ℕ) : Type 0 where
+  pub record Front_by (w : WholeWorld S A) (k : ℕ) : Type 0 where
     pub seen : List Ran
     pub fold : S.B.at u (w.standby k) ≡ runs S.F None seen
     pub front : IsFront seen (ran_of S A u w.done)
 
   pub packets_done : (ds : List Ran) → packets (ran_of S A u ds) ≡ done_u S u ds
   packets_done [] = refl
-  packets_done (d ∷ ds) = elim (same_unit (S.unit_of d.0) u) as (λ b. packets (if b then d ∷ ran_of S A u ds else ran_of S A u ds) ≡ (if b then d.0 ∷ done_u S u ds else done_u S u ds)) [ true ↦ ap (λ v. d.0 ∷ v) (packets_done ds) | false ↦ packets_done ds ]
+  packets_done (d ∷ ds) = elim (same_unit (S.packet_unit d.0) u) as (λ b. packets (if b then d ∷ ran_of S A u ds else ran_of S A u ds) ≡ (if b then d.0 ∷ done_u S u ds else done_u S u ds)) [ true ↦ ap (λ v. d.0 ∷ v) (packets_done ds) | false ↦ packets_done ds ]
 
-  module _ (w : Whole S A) (g : Global_all S A w) (x : Want_share) (fresh : w.next ≤ x.num) (covered : S.takes x.filter u ≡ true) (apart : Each (λ e. Disjoint S x.filter e.filter) w.shares) where
+  module _ (w : WholeWorld S A) (g : Global_all S A w) (x : Want_share) (fresh : w.next ≤ x.num) (covered : S.takes x.filter u ≡ true) (apart : Each (λ e. Disjoint S x.filter e.filter) w.shares) where
     abbrev z : Seeing_share
     z = seeing x
 
@@ -67,24 +67,24 @@ module _ {R : Type 0} (S : Sys R) (A : Sharing S) (u : units.Unit) where
       | false ↦ λ _. refl
     ] refl
 
-    not_mine : (p : ℕ) → S.takes x.filter (S.unit_of p) ≡ false → mine S A z p ≡ false
+    not_mine : (p : ℕ) → S.takes x.filter (S.packet_unit p) ≡ false → mine S A z p ≡ false
     not_mine p out = elim (mine S A z p) as (λ b. mine S A z p ≡ b → b ≡ false) [
-      | true ↦ λ on. let never : true ≡ false = sym covered ∙ ap (S.takes x.filter) (sym (same_unit-true (S.unit_of p) u on)) ∙ out in cc
+      | true ↦ λ on. let never : true ≡ false = sym covered ∙ ap (S.takes x.filter) (sym (same_unit-true (S.packet_unit p) u on)) ∙ out in cc
       | false ↦ λ _. refl
     ] refl
 
     not_taken : (e : Open_share) (v : units.Unit) → Disjoint S x.filter e.filter → S.takes e.filter v ≡ true → S.takes x.filter v ≡ false
     not_taken e v d on = elim (S.takes x.filter v) as (λ b. S.takes x.filter v ≡ b → b ≡ false) [ true ↦ λ t. let never : true ≡ false = sym on ∙ d v t in cc | false ↦ λ _. refl ] refl
 
-    others_packet : (n p : ℕ) (e : Open_share) → find_share w.shares n ≡ Some e → S.takes e.filter (S.unit_of p) ≡ true → mine S A z p ≡ false
-    others_packet n p e there on = not_mine p (not_taken e (S.unit_of p) (found_each (λ e. Disjoint S x.filter e.filter) w.shares n e apart there) on)
+    others_packet : (n p : ℕ) (e : Open_share) → find_share w.shares n ≡ Some e → S.takes e.filter (S.packet_unit p) ≡ true → mine S A z p ≡ false
+    others_packet n p e there on = not_mine p (not_taken e (S.packet_unit p) (found_each (λ e. Disjoint S x.filter e.filter) w.shares n e apart there) on)
 
     diverted_off : (v : units.Unit) → Takes_some S w.shares v → S.takes x.filter v ≡ false
     diverted_off v t = let k = taking_each S A (λ e. Disjoint S x.filter e.filter) w.shares v t.0 apart t.1 in not_taken t.0 v k.0 k.1
 
     new_none : (j : ℕ) (m : Share_msg R) → Of_share S w.shares j m → Numbered w.next m → new_seen S A z j m ≡ None
     new_none j (Shared_on n home p) of few = let other = share_off n of.share of.found in let its = others_packet n p of.share of.found of.says.0 in rw (other, its) refl
-    new_none j (Diverted_on p) of few = let out = diverted_off (S.unit_of p) of.1 in let its = not_mine p out in rw (out, its) refl
+    new_none j (Diverted_on p) of few = let out = diverted_off (S.packet_unit p) of.1 in let its = not_mine p out in rw (out, its) refl
     new_none j (S_asked a) of few = refl
     new_none j (S_install n h from) of few = let other = share_off n of.share of.found in rw other refl
     new_none j (S_forward n home p to) of few = let other = share_off n of.share of.found in let its = others_packet n p of.share of.found of.says.0 in rw (other, its) refl
@@ -104,7 +104,7 @@ module _ {R : Type 0} (S : Sys R) (A : Sharing S) (u : units.Unit) where
     plain : (i j : ℕ) (ms : List (Any R)) → Each_new (Of_share S w.shares j) ms → Each_new (Numbered w.next) ms → Each (Below w.next) (olds ms) → Each (Nothing_of S u i) (olds ms) → share_items S A z j ms ≡ map Carry (carries_of S u (olds ms))
     plain i j [] of few below h = refl
     plain i j (New m ∷ ms) of few below h = ap (λ o. add o (share_items S A z j ms)) (new_none j m of.0 few.0) ∙ plain i j ms of.1 few.1 below h
-    plain i j (Old (Carry_on p) ∷ ms) of few below h = elim (same_unit (S.unit_of p) u) as (λ b. add (where_true b (Carry p)) (share_items S A z j ms) ≡ map Carry (if b then p ∷ carries_of S u (olds ms) else carries_of S u (olds ms))) [ true ↦ ap (λ v. Carry p ∷ v) (plain i j ms of few below.1 h.1) | false ↦ plain i j ms of few below.1 h.1 ]
+    plain i j (Old (Carry_on p) ∷ ms) of few below h = elim (same_unit (S.packet_unit p) u) as (λ b. add (where_true b (Carry p)) (share_items S A z j ms) ≡ map Carry (if b then p ∷ carries_of S u (olds ms) else carries_of S u (olds ms))) [ true ↦ ap (λ v. Carry p ∷ v) (plain i j ms of few below.1 h.1) | false ↦ plain i j ms of few below.1 h.1 ]
     plain i j (Old (Pass_on p) ∷ ms) of few below h = ap (λ b. add (where_true b Stray) (share_items S A z j ms)) h.0 ∙ plain i j ms of few below.1 h.1
     plain i j (Old (Fence_on n) ∷ ms) of few below h = ap (λ b. add (where_true b Fence) (share_items S A z j ms)) (off n below.0) ∙ plain i j ms of few below.1 h.1
     plain i j (Old (Mv k m) ∷ ms) of few below h = ap (λ o. add o (share_items S A z j ms)) (move_none m below.0) ∙ plain i j ms of few below.1 h.1

@@ -15,10 +15,10 @@ use Rattle.abstract_net.proofs.Rest.{Nothing_of}
 use Rattle.abstract_net.proofs.UntakenSwitch.{sw_same}
 use Rattle.abstract_net.proofs.OnShareLinks.{To_switch, cs_items}
 use Rattle.abstract_net.proofs.ShareViews.{mine, share_expect, unit_share, fit, move_seen, old_seen, new_seen, share_seen, share_items, Share_holds}
-use Rattle.abstract_net.proofs.ShareLinks.{cs_links, quiet_links, view_after, lone_view, Goes, Goes.Nothing, Goes.Moves}
+use Rattle.abstract_net.proofs.ShareLinks.{cs_links, quiet_links, view_after, lone_view, Goes, Goes.Nothing, Goes.Moves_so}
 use Rattle.abstract_net.proofs.ShareLabels.{Share_label}
 use Rattle.abstract_net.proofs.MemberMoves.{Unseen, unseen_view}
-use Rattle.abstract_net.proofs.Shares.{Any, Any.Old, Any.New, Share_msg, Share_msg.Shared_on, Share_msg.Diverted_on, Share_msg.S_asked, Share_msg.S_install, Share_msg.S_forward, Share_msg.S_get, Share_msg.S_sync, Share_msg.S_chunks, Share_msg.S_shared, Share_msg.S_synced, same, as_old, Sharing, share_target, share_sends, Whole, whole_switch, Seeing_share}
+use Rattle.abstract_net.proofs.Shares.{Any, Any.Old, Any.New, Share_msg, Share_msg.Shared_on, Share_msg.Diverted_on, Share_msg.S_asked, Share_msg.S_install, Share_msg.S_forward, Share_msg.S_get, Share_msg.S_sync, Share_msg.S_chunks, Share_msg.S_shared, Share_msg.S_synced, same, as_old, Sharing, share_target, share_sends, WholeWorld, whole_switch, Seeing_share}
 use Rattle.nf_function.specs.declared.unit.Unit as units
 
 module _ {R : Type 0} (S : Sys R) (A : Sharing S) (laws : IsSys S) (z : Seeing_share) where
@@ -26,11 +26,11 @@ module _ {R : Type 0} (S : Sys R) (A : Sharing S) (laws : IsSys S) (z : Seeing_s
   f = unit_share S A z
 
   -- no message of a move turns a target into the controller
-  abbrev pub No_diverts : Whole S A → Any R → Type 0
+  abbrev pub No_diverts : WholeWorld S A → Any R → Type 0
   No_diverts w (Old m) = (v : units.Unit) → sw_target S w.target m v ≡ 1 → w.target v ≡ 1
   No_diverts w (New m) = Unit {0}
 
-  abbrev targets : Whole S A → Any R → units.Unit → ℕ
+  abbrev targets : WholeWorld S A → Any R → units.Unit → ℕ
   targets w (Old m) v = sw_target S w.target m v
   targets w (New m) v = share_target S A w.target m v
 
@@ -38,7 +38,7 @@ module _ {R : Type 0} (S : Sys R) (A : Sharing S) (laws : IsSys S) (z : Seeing_s
   sends_of (Old m) = as_old (sw_sends m)
   sends_of (New m) = share_sends S A m
 
-  abbrev Next_to : Whole S A → ℕ → Any R → Whole S A
+  abbrev Next_to : WholeWorld S A → ℕ → Any R → WholeWorld S A
   Next_to w p m = record w { target = λ v. targets w m v; link = links_after w.link p 0 (sends_of m) }
 
   -- what the switch isn't sent
@@ -95,7 +95,7 @@ module _ {R : Type 0} (S : Sys R) (A : Sharing S) (laws : IsSys S) (z : Seeing_s
         | false ↦ λ off. let other : (to == k) ≡ false = nat_eq_equiv.symm to k ∙ off in rw other refl
       ] refl
 
-  module _ (is : IsShare f) (insts : (k : ℕ) → has z.members k ≡ true → 2 ≤ k) (covered : S.takes z.filter z.unit ≡ true) (w : Whole S A) (s : Stage R) (h : Share_holds S A z w (shape f s)) (p : ℕ) (p0 : (p == 0) ≡ false) where
+  module _ (is : IsShare f) (insts : (k : ℕ) → has z.members k ≡ true → 2 ≤ k) (covered : S.takes z.filter z.unit ≡ true) (w : WholeWorld S A) (s : Stage R) (h : Share_holds S A z w (shape f s)) (p : ℕ) (p0 : (p == 0) ≡ false) where
     abbrev x : View R
     x = shape f s
 
@@ -103,7 +103,7 @@ module _ {R : Type 0} (S : Sys R) (A : Sharing S) (laws : IsSys S) (z : Seeing_s
     one_not k inside = let two = insts k inside in grind (arith, nat_tests, two)
 
     module _ (m : Any R) (rest : List (Any R)) (waits : w.link p 0 ≡ m ∷ rest) where
-      abbrev w' : Whole S A
+      abbrev w' : WholeWorld S A
       w' = Next_to w p m
 
       abbrev left : List (Item R)
@@ -144,7 +144,7 @@ module _ {R : Type 0} (S : Sys R) (A : Sharing S) (laws : IsSys S) (z : Seeing_s
       moves_on : (it : Item R) (to : ℕ → List (Item R)) (b : Bool) → share_seen S A z 0 m ≡ Some it → from_cs f x (it ∷ left) ≡ record x { cs = left; sw = joined x.sw to; diverts = b } → sent 1 ≡ [] → ((k : ℕ) → sent k ≡ to k) → targets w m z.unit ≡ (if b then 1 else z.home) → ((v : units.Unit) → S.takes z.filter v ≡ true → targets w m v ≡ 1 → b ≡ true) → Goes S A z w' x
       moves_on it to b sees does at_1 at_k target diverts =
           let from = from_ctrl it (ap (λ o. add o left) (sym sees) ∙ heads) in
-          Moves Take_cs refl (subst (λ ys. Share_holds S A z w' (from_cs f x ys)) (sym from.0) (subst (λ y. Share_holds S A z w' y) (sym does) (record {
+          Moves_so Take_cs refl (subst (λ ys. Share_holds S A z w' (from_cs f x ys)) (sym from.0) (subst (λ y. Share_holds S A z w' y) (sym does) (record {
             links = λ i j e. after_is i j e ∙ subst (λ n. (if (i == n) && (j == 0) then left else share_expect x i j) ++ (if i == 0 then sent j else []) ≡ share_expect (record x { cs = left; sw = joined x.sw to; diverts = b }) i j) (sym from.1) (cs_links x i j left to sent e at_1 (λ k _ _. at_k k));
             own = h.own;
             share = h.share;
@@ -199,7 +199,7 @@ module _ {R : Type 0} (S : Sys R) (A : Sharing S) (laws : IsSys S) (z : Seeing_s
     new_goes (S_install n g from) rest waits l = install_goes n g from rest waits l
     new_goes (S_forward n home q to) rest waits l = forward_goes n q to home rest waits l
     new_goes (Shared_on n home q) rest waits l = idle (Shared_on n home q) rest waits refl (λ v. refl) (not_else (n == z.num) q (fit S A z (same home (0 == z.home)) (Shared q)) (not_fit (same home (0 == z.home)) (Shared q) (λ e. e)))
-    new_goes (Diverted_on q) rest waits l = idle (Diverted_on q) rest waits refl (λ v. refl) (not_else (S.takes z.filter (S.unit_of q)) q (Diverted q) (λ e. e))
+    new_goes (Diverted_on q) rest waits l = idle (Diverted_on q) rest waits refl (λ v. refl) (not_else (S.takes z.filter (S.packet_unit q)) q (Diverted q) (λ e. e))
     new_goes (S_asked a) rest waits l = idle (S_asked a) rest waits refl (λ v. refl) tt
     new_goes (S_get n g) rest waits l = idle (S_get n g) rest waits refl (λ v. refl) (not_if (n == z.num) Get (λ e. e))
     new_goes (S_sync n home cs) rest waits l = idle (S_sync n home cs) rest waits refl (λ v. refl) (not_if (n == z.num) (fit S A z (same home (0 == z.home)) (Sync (record_at z.unit cs))) (not_fit (same home (0 == z.home)) (Sync (record_at z.unit cs)) (λ e. e)))

@@ -5,18 +5,18 @@ use Rattle.std.proofs.lemmas.Bool.Decides.{nat_tests, Decides-eqb}
 use Rattle.share_machine.proofs.Lists.{self}
 use Rattle.unit_machine.proofs.Machine.{Where as Side, At_a, At_b, At_c, Ran, after, Drops, Item, Enable, State, Idle, Freezing, Begin, moved}
 use Rattle.unit_machine.proofs.Lists.{firsts}
-use Rattle.unit_machine.proofs.Stages.{Stage, Turned_loose, Fenced_loose, Ending_loose, Fence_loose, shape, loose, times, Order}
+use Rattle.unit_machine.proofs.Stages.{Stage, Turned_loose, Fenced_loose, Ending_loose, Fence_loose, shape, loose, times, IsOrderedAs}
 use Rattle.unit_machine.proofs.Loose.{times-append}
 use Rattle.unit_machine.proofs.Ends.{same_of}
 use Rattle.unit_machine.proofs.Real.{M_enable, M_install, Op, sent_for}
-use Rattle.unit_machine.proofs.Seen.{Apart}
+use Rattle.unit_machine.proofs.Seen.{NodesDiffer}
 use Rattle.unit_machine.proofs.Labels.{Each, each-append}
 use Rattle.unit_machine.proofs.Pairs.{Nodes, expect}
 use Rattle.unit_machine.proofs.Rests.{is_over}
 use Rattle.unit_machine.proofs.Between.{At_rest_now, Rests_at, seat_ends, rest_at, seat_at, seat_begins}
-use Rattle.unit_machine.proofs.Seats.{Seat, Covered, Is_beside, Is_away, is_covered, seat_shape, seat_all, seat_loose}
+use Rattle.unit_machine.proofs.Seats.{UnitSeat, Covered, Is_beside, Is_away, is_covered, seat_shape, seat_all, seat_loose}
 use Rattle.flow_filter.specs.declared.filter.Filter.{Filter}
-use Rattle.abstract_net.proofs.Net.{inst_next, ctrl_next, sw_next, in_next, begin_next, sw_target, Msg, In_packet, Asked, Carry_on, Pass_on, Fence_on, Mv, Want, Sys, IsSys, Open, find_op, meets_any, new_op, begin_sends, World, seen}
+use Rattle.abstract_net.proofs.Net.{inst_next, ctrl_next, sw_next, in_next, begin_next, sw_target, Msg, In_packet, Asked, Carry_on, Pass_on, Fence_on, Mv, MoveAsked, Sys, IsSys, Open, find_op, meets_any, new_op, begin_sends, World, seen}
 use Rattle.abstract_net.proofs.Holding.{Seeing, frame, Label, Op_label, place, Ctrl_is, Holds}
 use Rattle.abstract_net.proofs.Links.{sent, view_put, each_put}
 use Rattle.abstract_net.proofs.Ctrl.{each_found}
@@ -28,16 +28,16 @@ use Rattle.nf_function.specs.declared.unit.Unit as units
 use Rattle.record_table.specs.Table.{same_unit}
 
 -- one order behind another
-pub order_join : (b c : Bool) (xs ys zs came : List ℕ) → Order b xs ys → Order c zs (xs ++ came) → Order (b || c) zs (ys ++ came)
+pub order_join : (b c : Bool) (xs ys zs came : List ℕ) → IsOrderedAs b xs ys → IsOrderedAs c zs (xs ++ came) → IsOrderedAs (b || c) zs (ys ++ came)
 order_join true c xs ys zs came a o = λ p. same_of c zs (xs ++ came) o p ∙ times-append p xs came ∙ ap (λ k. k + times p came) (a p) ∙ sym (times-append p ys came)
 order_join false true xs ys zs came a o = λ p. o p ∙ ap (λ v. times p (v ++ came)) a
 order_join false false xs ys zs came a o = o ∙ ap (λ v. v ++ came) a
 
-order_same : (b : Bool) (xs ys zs : List ℕ) → xs ≡ zs → Order b xs ys → Order b zs ys
-order_same b xs ys zs e o = subst (λ v. Order b v ys) e o
+order_same : (b : Bool) (xs ys zs : List ℕ) → xs ≡ zs → IsOrderedAs b xs ys → IsOrderedAs b zs ys
+order_same b xs ys zs e o = subst (λ v. IsOrderedAs b v ys) e o
 
 -- what the controller asked for
-pub record May {R : Type 0} (S : Sys R) (w : World S) (x : Want) : Type 0 where
+pub record May {R : Type 0} (S : Sys R) (w : World S) (x : MoveAsked) : Type 0 where
   pub fresh : w.next ≤ x.num
   pub src : 2 ≤ x.src
   pub dst : 2 ≤ x.dst
@@ -49,27 +49,27 @@ module _ {R : Type 0} (S : Sys R) (laws : IsSys S) (u : units.Unit) where
   see o c = record { unit = u; op = o; third = c }
 
   -- a move without a buffer that covers the unit has handed it on only where the flag says so
-  abbrev pub Flagged : World S → Op → Seat S.F → Bool → Type 0
+  abbrev pub Flagged : World S → Op → UnitSeat S.F → Bool → Type 0
   Flagged w o s c = is_covered s ≡ true → o.keep ≡ false → w.target u ≡ o.dst → c ≡ true
 
   -- with all its packets that have arrived; the flag b says whether it was ever loose, c whether a move without a buffer ever handed it on
   pub data Where (w : World S) (ps : List ℕ) (c : Bool) : Type 0 where
-    At_rest : (owner : ℕ) (d : List Ran) (l : List ℕ) (b : Bool) → Rest S u w owner d l → Order b (firsts d ++ l) ps → (b ≡ true → c ≡ true) → Where w ps c
-    In_move : (o : Op) (third : ℕ) (e : Open R) (s : Seat S.F) (b : Bool) → find_op w.ops o.num ≡ Some e → Holds S (see o third) w (seat_shape S.F s) → Order b (seat_all s) ps → (b ≡ true → c ≡ true) → Flagged w o s c → Where w ps c
+    At_rest : (owner : ℕ) (d : List Ran) (l : List ℕ) (b : Bool) → Rest S u w owner d l → IsOrderedAs b (firsts d ++ l) ps → (b ≡ true → c ≡ true) → Where w ps c
+    In_move : (o : Op) (third : ℕ) (e : Open R) (s : UnitSeat S.F) (b : Bool) → find_op w.ops o.num ≡ Some e → Holds S (see o third) w (seat_shape S.F s) → IsOrderedAs b (seat_all s) ps → (b ≡ true → c ≡ true) → Flagged w o s c → Where w ps c
 
   -- in either case a seat shows it, open or not
-  pub record Shown (w : World S) (ps : List ℕ) (c : Bool) : Type 0 where
+  pub record ShowsUnit (w : World S) (ps : List ℕ) (c : Bool) : Type 0 where
     pub op : Op
     pub third : ℕ
-    pub seat : Seat S.F
+    pub seat : UnitSeat S.F
     pub flag : Bool
     pub holds : Holds S (see op third) w (seat_shape S.F seat)
-    pub order : Order flag (seat_all seat) ps
+    pub order : IsOrderedAs flag (seat_all seat) ps
     pub flag_is : flag ≡ true → c ≡ true
     pub handed : Flagged w op seat c
 
   -- back: the move is open, or has ended
-  pub settle : (w : World S) (ps : List ℕ) (c : Bool) → Shown w ps c → Where w ps c
+  pub settle : (w : World S) (ps : List ℕ) (c : Bool) → ShowsUnit w ps c → Where w ps c
   settle w ps c h = by_op (find_op w.ops h.op.num) refl
     where
       ended : find_op w.ops h.op.num ≡ None → At_rest_now S.F (seat_shape S.F h.seat) (seat_all h.seat) → Where w ps c
@@ -80,7 +80,7 @@ module _ {R : Type 0} (S : Sys R) (laws : IsSys S) (u : units.Unit) where
       by_op (Some e) there = In_move h.op h.third e h.seat h.flag there h.holds h.order h.flag_is h.handed
 
   -- two instances
-  pub apart_of : (n a b : ℕ) (k : Bool) → 2 ≤ a → 2 ≤ b → a ≢ b → Apart (record { num = n; src = a; dst = b; keep = k })
+  pub apart_of : (n a b : ℕ) (k : Bool) → 2 ≤ a → 2 ≤ b → a ≢ b → NodesDiffer (record { num = n; src = a; dst = b; keep = k })
   apart_of n a b k two_a two_b ab = record {
     num = self n;
     src = self a;
@@ -99,7 +99,7 @@ module _ {R : Type 0} (S : Sys R) (laws : IsSys S) (u : units.Unit) where
       let two = h.two in
       rest_holds S (see (record { num = n; src = owner; dst = suc owner; keep = true }) (suc (suc owner))) w g new (apart_of n owner (suc owner) true two (omega (arith, two)) (grind (arith, nat_tests))) (record { a_is = two; b_is = omega (arith, two); c_is = omega (arith, two); ab = grind (arith, nat_tests); ac = grind (arith, nat_tests); bc = grind (arith, nat_tests) }) At_a d l true h
 
-  pub shown : (w : World S) (ps : List ℕ) (c : Bool) → Global S w → Where w ps c → Shown w ps c
+  pub shown : (w : World S) (ps : List ℕ) (c : Bool) → Global S w → Where w ps c → ShowsUnit w ps c
   shown w ps c g (At_rest owner d l b h o f) = record { op = record { num = w.next; src = owner; dst = suc owner; keep = true }; third = suc (suc owner); seat = seat_at S.F At_a d l true; flag = b; holds = shown_rest w w.next owner d l g (omega arith) h; order = o; flag_is = f; handed = λ _ e. let never : true ≡ false = e in cc }
   shown w ps c g (In_move op third e s b there h o f k) = record { op = op; third = third; seat = s; flag = b; holds = h; order = o; flag_is = f; handed = k }
 
@@ -111,7 +111,7 @@ module _ {R : Type 0} (S : Sys R) (laws : IsSys S) (u : units.Unit) where
   loose_stage (Fence_loose d x n) h = (refl, refl, refl)
   loose_stage s h = let never : false ≡ true = h in cc
 
-  loose_seat : (s : Seat S.F) → seat_loose s ≡ true → (is_covered s ≡ true) × ((seat_shape S.F s).keep ≡ false) × (is_over (seat_shape S.F s).phase ≡ false) × ((seat_shape S.F s).target ≡ At_b)
+  loose_seat : (s : UnitSeat S.F) → seat_loose s ≡ true → (is_covered s ≡ true) × ((seat_shape S.F s).keep ≡ false) × (is_over (seat_shape S.F s).phase ≡ false) × ((seat_shape S.F s).target ≡ At_b)
   loose_seat (Covered s) h = let k = loose_stage s h in (refl, k.0, k.1, k.2)
   loose_seat (Is_beside s) h = let never : false ≡ true = h in cc
   loose_seat (Is_away s) h = let never : false ≡ true = h in cc
@@ -125,11 +125,11 @@ module _ {R : Type 0} (S : Sys R) (laws : IsSys S) (u : units.Unit) where
   either false b c e f g = g e
 
   -- where a loose seat is found, its flag says so
-  loose_flag : (w : World S) (o : Op) (third : ℕ) (s : Seat S.F) (c : Bool) → Holds S (see o third) w (seat_shape S.F s) → Flagged w o s c → seat_loose s ≡ true → c ≡ true
+  loose_flag : (w : World S) (o : Op) (third : ℕ) (s : UnitSeat S.F) (c : Bool) → Holds S (see o third) w (seat_shape S.F s) → Flagged w o s c → seat_loose s ≡ true → c ≡ true
   loose_flag w o third s c h handed l = let k = loose_seat s l in handed k.0 (loose_keep o third (seat_shape S.F s) (find_op w.ops o.num) h.ctrl k.1 k.2) (h.target ∙ ap (place S (see o third)) k.3)
 
   -- the flag may turn true on the way
-  pub goes_on : (w w' : World S) (ps came : List ℕ) (c d : Bool) (h : Shown w ps c) → (c ≡ true → d ≡ true) → Flagged w' h.op h.seat d → Goes_to S laws (see h.op h.third) w' h.seat came → Where w' (ps ++ came) d
+  pub goes_on : (w w' : World S) (ps came : List ℕ) (c d : Bool) (h : ShowsUnit w ps c) → (c ≡ true → d ≡ true) → Flagged w' h.op h.seat d → Goes_to S laws (see h.op h.third) w' h.seat came → Where w' (ps ++ came) d
   goes_on w w' ps came c d h grows handed g = settle w' (ps ++ came) d (record {
     op = h.op;
     third = h.third;
@@ -158,7 +158,7 @@ module _ {R : Type 0} (S : Sys R) (laws : IsSys S) (u : units.Unit) where
   Hands_on w m d = (f : Filter) (n from to : ℕ) (e : Open R) → m ≡ Mv f (M_install n from to) → find_op w.ops n ≡ Some e → e.op.keep ≡ false → S.takes f u ≡ true → w.target u ≡ from → d ≡ true
 
   -- a target that isn't changed is what it was
-  install_flag : (w : World S) (d : Bool) (o : Op) (e : Open R) (s : Seat S.F) (f : Filter) (n from to : ℕ) → find_op w.ops o.num ≡ Some e → e.op.keep ≡ o.keep → S.takes f u ≡ (n == o.num) → Hands_on w (Mv f (M_install n from to)) d → Flagged w o s d → is_covered s ≡ true → o.keep ≡ false → (b k : Bool) → S.takes f u ≡ b → (w.target u == from) ≡ k → (if b && k then to else w.target u) ≡ o.dst → d ≡ true
+  install_flag : (w : World S) (d : Bool) (o : Op) (e : Open R) (s : UnitSeat S.F) (f : Filter) (n from to : ℕ) → find_op w.ops o.num ≡ Some e → e.op.keep ≡ o.keep → S.takes f u ≡ (n == o.num) → Hands_on w (Mv f (M_install n from to)) d → Flagged w o s d → is_covered s ≡ true → o.keep ≡ false → (b k : Bool) → S.takes f u ≡ b → (w.target u == from) ≡ k → (if b && k then to else w.target u) ≡ o.dst → d ≡ true
   install_flag w d o e s f n from to there keep lab hands old on plain true true t at is =
       let same : n ≡ o.num = (Decides-eqb n o.num).0 (sym lab ∙ t) in
       hands f n from to e refl (subst (λ k. find_op w.ops k ≡ Some e) (sym same) there) (keep ∙ plain) t ((Decides-eqb (w.target u) from).0 at)
@@ -189,8 +189,8 @@ module _ {R : Type 0} (S : Sys R) (laws : IsSys S) (u : units.Unit) where
   pub switch_where : (w : World S) (ps : List ℕ) (c d : Bool) → Global S w → (p : ℕ) (m : Msg R) (rest : List (Msg R)) → (p == 0) ≡ false → w.link p 0 ≡ m ∷ rest → (c ≡ true → d ≡ true) → Hands_on w m d → Where w ps c → Where (sw_next S w p m) ps d
   switch_where w ps c d g p m rest p0 waits grows hands h = let k = shown w ps c g h in stays (sw_next S w p m) ps d (goes_on w (sw_next S w p m) ps [] c d k grows (switch_flag w ps c d g p m rest p0 waits grows hands h) (switch_holds S laws (see k.op k.third) w k.seat k.holds p m rest p0 waits))
 
-  pub input_where : (w : World S) (ps : List ℕ) (c : Bool) → Global S w → (q : ℕ) → Where w ps c → Where (in_next S w q) (ps ++ (if same_unit (S.unit_of q) u then q ∷ [] else [])) c
-  input_where w ps c g q h = let k = shown w ps c g h in goes_on w (in_next S w q) ps (if same_unit (S.unit_of q) u then q ∷ [] else []) c c k (λ e. e) k.handed (input_holds S laws (see k.op k.third) w k.seat k.holds q)
+  pub input_where : (w : World S) (ps : List ℕ) (c : Bool) → Global S w → (q : ℕ) → Where w ps c → Where (in_next S w q) (ps ++ (if same_unit (S.packet_unit q) u then q ∷ [] else [])) c
+  input_where w ps c g q h = let k = shown w ps c g h in goes_on w (in_next S w q) ps (if same_unit (S.packet_unit q) u then q ∷ [] else []) c c k (λ e. e) k.handed (input_holds S laws (see k.op k.third) w k.seat k.holds q)
 
   -- a message that nobody sees is put on a node's link
   pub put_where : (w : World S) (ps : List ℕ) (c : Bool) → Global S w → (y r : ℕ) (m : Msg R) → ((z : Seeing) → seen (frame S z) m ≡ None) → ((z : Seeing) → Label S z y m) → Where w ps c → Where (record w { link = λ i j. w.link i j ++ (if i == y then sent_for j ((r, m) ∷ []) else []) }) ps c
@@ -209,7 +209,7 @@ module _ {R : Type 0} (S : Sys R) (laws : IsSys S) (u : units.Unit) where
   find_new (e ∷ es) x n on h = let few = h.0 in let off : (e.op.num == n) ≡ false = grind (arith, nat_tests, few) in rw off (find_new es x n on h.1)
 
   -- for a unit that the filter doesn't take
-  other_begins : (o : Op) (third : ℕ) (w : World S) (x : Want) (v : State R) → (x.num == o.num) ≡ false → S.takes x.filter u ≡ false → Apart (new_op {R = R} x.num x).op → Holds S (see o third) w v → Holds S (see o third) (begin_next S w x) v
+  other_begins : (o : Op) (third : ℕ) (w : World S) (x : MoveAsked) (v : State R) → (x.num == o.num) ≡ false → S.takes x.filter u ≡ false → NodesDiffer (new_op {R = R} x.num x).op → Holds S (see o third) w v → Holds S (see o third) (begin_next S w x) v
   other_begins o third w x v off out apart h =
       let z = see o third in
       let p = put_unseen S laws z w v h 1 (begin_sends x.num x) (one_unseen S laws z 1 x.src (Mv x.filter (M_enable x.num Drops)) (rw off refl)) ((refl, (out ∙ sym off, refl)), tt) in
@@ -233,7 +233,7 @@ module _ {R : Type 0} (S : Sys R) (laws : IsSys S) (u : units.Unit) where
   enable_links : (z : Seeing) (v : State R) (send : ℕ → List (Item R)) → Nodes z.op.src z.op.dst z.third → send z.op.src ≡ Enable Drops ∷ [] → ((j : ℕ) → j ≢ z.op.src → send j ≡ []) → (i j : ℕ) → expect z.op.src z.op.dst z.third v i j ++ (if i == 1 then send j else []) ≡ expect z.op.src z.op.dst z.third (record v { ca = v.ca ++ Enable Drops ∷ [] }) i j
   enable_links z v send n at none i j = grind (arith, nat_tests, append-nil, at, none j, n.a_is, n.b_is, n.c_is, n.ab, n.ac, n.bc)
 
-  covered_begins : (third : ℕ) (w : World S) (x : Want) (v : State R) → Global S w → w.next ≤ x.num → S.takes x.filter u ≡ true → v.store ≡ [] → v.keep ≡ x.keep → Apart (new_op {R = R} x.num x).op → Holds S (see (new_op {R = R} x.num x).op third) w v → Holds S (see (new_op {R = R} x.num x).op third) (begin_next S w x) (record v { phase = Freezing; keep = x.keep; ca = v.ca ++ Enable Drops ∷ [] })
+  covered_begins : (third : ℕ) (w : World S) (x : MoveAsked) (v : State R) → Global S w → w.next ≤ x.num → S.takes x.filter u ≡ true → v.store ≡ [] → v.keep ≡ x.keep → NodesDiffer (new_op {R = R} x.num x).op → Holds S (see (new_op {R = R} x.num x).op third) w v → Holds S (see (new_op {R = R} x.num x).op third) (begin_next S w x) (record v { phase = Freezing; keep = x.keep; ca = v.ca ++ Enable Drops ∷ [] })
   covered_begins third w x v g fresh takes store keep apart h =
       let z = see (new_op {R = R} x.num x).op third in
       let on = apart.num in
@@ -282,7 +282,7 @@ module _ {R : Type 0} (S : Sys R) (laws : IsSys S) (u : units.Unit) where
   begun_rest At_c d l k = refl
 
   -- a unit at rest that the filter takes: covered, beside or away
-  takes_seat : (w : World S) (ps : List ℕ) (c : Bool) (x : Want) (side : Side) (third : ℕ) (d : List Ran) (l : List ℕ) (b : Bool) → Global S w → May S w x → S.takes x.filter u ≡ true → Nodes x.src x.dst third → Rest S u w (place S (see (new_op {R = R} x.num x).op third) side) d l → Order b (firsts d ++ l) ps → (b ≡ true → c ≡ true) → Where (begin_next S w x) ps c
+  takes_seat : (w : World S) (ps : List ℕ) (c : Bool) (x : MoveAsked) (side : Side) (third : ℕ) (d : List Ran) (l : List ℕ) (b : Bool) → Global S w → May S w x → S.takes x.filter u ≡ true → Nodes x.src x.dst third → Rest S u w (place S (see (new_op {R = R} x.num x).op third) side) d l → IsOrderedAs b (firsts d ++ l) ps → (b ≡ true → c ≡ true) → Where (begin_next S w x) ps c
   takes_seat w ps c x side third d l b g may takes nodes h o f =
       let z = see (new_op {R = R} x.num x).op third in
       let apart = apart_of x.num x.src x.dst x.keep may.src may.dst may.other in
@@ -291,7 +291,7 @@ module _ {R : Type 0} (S : Sys R) (laws : IsSys S) (u : units.Unit) where
       let facts = rest_store side d l x.keep in
       let at = covered_begins third w x v g may.fresh takes facts.0 facts.1 apart (rest_holds S z w g may.fresh apart nodes side d l x.keep h) in
       let goes = moves_on S laws z (begin_next S w x) s (Begin x.keep) (record v { phase = Freezing; keep = x.keep; ca = v.ca ++ Enable Drops ∷ [] }) at (ap (λ q. moved S.F q (Begin x.keep)) (seat_begins S.F side d l x.keep) ∙ begun_rest side d l x.keep) tt in
-      let all : Order b (seat_all s) ps = order_same b (firsts d ++ l) ps (seat_all s) (sym (all_at_rest side d l x.keep)) o in
+      let all : IsOrderedAs b (seat_all s) ps = order_same b (firsts d ++ l) ps (seat_all s) (sym (all_at_rest side d l x.keep)) o in
       stays (begin_next S w x) ps c (settle (begin_next S w x) (ps ++ []) c (record { op = z.op; third = third; seat = goes.seat; flag = b || seat_loose goes.seat; holds = goes.holds; order = order_join b (seat_loose goes.seat) (seat_all s) ps (seat_all goes.seat) [] all goes.order; flag_is = λ e. either b (seat_loose goes.seat) c e f (loose_flag (begin_next S w x) z.op third goes.seat c goes.holds (flagged goes.seat goes.covered)); handed = flagged goes.seat goes.covered }))
     where
       -- a unit that the new move covers is still at the source
@@ -300,13 +300,13 @@ module _ {R : Type 0} (S : Sys R) (laws : IsSys S) (u : units.Unit) where
       at_source At_b e = let never : false ≡ true = e in cc
       at_source At_c e = let never : false ≡ true = e in cc
 
-      flagged : (t : Seat S.F) → is_covered t ≡ is_covered (seat_at S.F side d l x.keep) → Flagged (begin_next S w x) (new_op {R = R} x.num x).op t c
+      flagged : (t : UnitSeat S.F) → is_covered t ≡ is_covered (seat_at S.F side d l x.keep) → Flagged (begin_next S w x) (new_op {R = R} x.num x).op t c
       flagged t same on plain at = absurd (may.other (sym (at_source side (sym same ∙ on)) ∙ sym h.target ∙ at))
 
   third_of : (a b : ℕ) → 2 ≤ a → 2 ≤ b → a ≢ b → Nodes a b (a + b)
   third_of a b two_a two_b ab = record { a_is = two_a; b_is = two_b; c_is = omega (arith, two_a); ab = ab; ac = (λ e. let never : ⊥ = omega (arith, two_b, e) in absurd never); bc = (λ e. let never : ⊥ = omega (arith, two_a, e) in absurd never) }
 
-  pub begin_where : (w : World S) (ps : List ℕ) (c : Bool) (x : Want) → Global S w → May S w x → Where w ps c → Where (begin_next S w x) ps c
+  pub begin_where : (w : World S) (ps : List ℕ) (c : Bool) (x : MoveAsked) → Global S w → May S w x → Where w ps c → Where (begin_next S w x) ps c
   begin_where w ps c x g may (At_rest owner d l b h o f) =
       elim (S.takes x.filter u) as (λ t. S.takes x.filter u ≡ t → Where (begin_next S w x) ps c) [
         | true ↦ λ takes. elim (owner == x.src) as (λ t. (owner == x.src) ≡ t → Where (begin_next S w x) ps c) [

@@ -9,7 +9,7 @@ use Rattle.abstract_net.proofs.Rest.{none_mine}
 use Rattle.abstract_net.proofs.NewMessages.{On_new, Each_sent_new, each_new_map, each_sent_map, sent_old_and, new_after, new_head}
 use Rattle.abstract_net.proofs.ShareLists.{Nums_apart, found_each, each_set_share, set_find}
 use Rattle.abstract_net.proofs.ShareRows.{Tells, told_cases, Told_of, Sent_by, share_row_by}
-use Rattle.abstract_net.proofs.Shares.{Any, Any.Old, Any.New, Share_msg, Share_msg.Shared_on, Share_msg.Diverted_on, Share_msg.S_asked, Share_msg.S_install, Share_msg.S_forward, Share_msg.S_get, Share_msg.S_sync, Share_msg.S_chunks, Share_msg.S_shared, Share_msg.S_synced, Each_new, as_old, Sharing, Open_share, find_share, set_share, Told, share_row, told_by, Shares_step, by_share, Whole, old_step, whole_ctrl}
+use Rattle.abstract_net.proofs.Shares.{Any, Any.Old, Any.New, Share_msg, Share_msg.Shared_on, Share_msg.Diverted_on, Share_msg.S_asked, Share_msg.S_install, Share_msg.S_forward, Share_msg.S_get, Share_msg.S_sync, Share_msg.S_chunks, Share_msg.S_shared, Share_msg.S_synced, Each_new, as_old, Sharing, Open_share, find_share, set_share, Told, share_row, told_by, Shares_step, by_share, WholeWorld, old_step, whole_ctrl}
 use Rattle.nf_function.specs.declared.unit.Unit as units
 use Rattle.record_table.specs.Table.{same_unit}
 use Rattle.record_table.proofs.UnitOrder.{same_unit_equiv}
@@ -17,11 +17,11 @@ use Rattle.record_table.proofs.UnitOrder.{same_unit_equiv}
 module _ {R : Type 0} (S : Sys R) (u : units.Unit) where
   -- a message of a share has nothing of the unit; a copy's chunks may
   abbrev pub No_share : List Open_share → Share_msg R → Type 0
-  No_share es (Shared_on n home p) = same_unit (S.unit_of p) u ≡ false
-  No_share es (Diverted_on p) = same_unit (S.unit_of p) u ≡ false
+  No_share es (Shared_on n home p) = same_unit (S.packet_unit p) u ≡ false
+  No_share es (Diverted_on p) = same_unit (S.packet_unit p) u ≡ false
   No_share es (S_asked x) = Unit {0}
   No_share es (S_install n g from) = Unit {0}
-  No_share es (S_forward n home p to) = same_unit (S.unit_of p) u ≡ false
+  No_share es (S_forward n home p to) = same_unit (S.packet_unit p) u ≡ false
   No_share es (S_get n g) = Unit {0}
   No_share es (S_sync n home cs) = record_at u cs ≡ None
   No_share es (S_chunks n cs) = (e : Open_share) → find_share es n ≡ Some e → record_at u cs ≡ None
@@ -33,11 +33,11 @@ module _ {R : Type 0} (S : Sys R) (u : units.Unit) where
 
   -- packets of other units
   abbrev pub Others : List ℕ → Type 0
-  Others ps = Each (λ p. same_unit (S.unit_of p) u ≡ false) ps
+  Others ps = Each (λ p. same_unit (S.packet_unit p) u ≡ false) ps
 
   pub others_of : (ps : List ℕ) → none_mine S u ps ≡ [] → Others ps
   others_of [] e = tt
-  others_of (p ∷ ps) e = elim (same_unit (S.unit_of p) u) as (λ b. same_unit (S.unit_of p) u ≡ b → (if b then p ∷ none_mine S u ps else none_mine S u ps) ≡ [] → Others (p ∷ ps)) [
+  others_of (p ∷ ps) e = elim (same_unit (S.packet_unit p) u) as (λ b. same_unit (S.packet_unit p) u ≡ b → (if b then p ∷ none_mine S u ps else none_mine S u ps) ≡ [] → Others (p ∷ ps)) [
     | true ↦ λ _ bad. cc
     | false ↦ λ off rest. (off, others_of ps rest)
   ] refl e
@@ -47,7 +47,7 @@ module _ {R : Type 0} (S : Sys R) (u : units.Unit) where
   none_of (p ∷ ps) h = let off = h.0 in rw off (none_of ps h.1)
 
   module _ (A : Sharing S) where
-    pub record Untaken (w : Whole S A) : Type 0 where
+    pub record Untaken (w : WholeWorld S A) : Type 0 where
       pub homes : Each (Elsewhere_home w.target) w.shares
       pub queues : Each (λ e. none_mine S u e.queue ≡ []) w.shares
       pub links : (i j : ℕ) → (i == 0) && (j == 0) ≡ false → Each_new (No_share w.shares) (w.link i j)
@@ -72,7 +72,7 @@ module _ {R : Type 0} (S : Sys R) (u : units.Unit) where
     abbrev Not_in : Chunks R → Type 0
     Not_in cs = record_at u cs ≡ None
 
-    not_told : (es : List Open_share) (m : Any R) (e : Open_share) (t : Told R) → On_new (No_share es) m → Tells S A es m e t → Told_of S A e (λ p. same_unit (S.unit_of p) u ≡ false) Not_in t
+    not_told : (es : List Open_share) (m : Any R) (e : Open_share) (t : Told R) → On_new (No_share es) m → Tells S A es m e t → Told_of S A e (λ p. same_unit (S.packet_unit p) u ≡ false) Not_in t
     not_told es (Old m) e t h is = rw is tt
     not_told es (New (S_chunks n cs)) e t h is = let eq = is.1 in rw eq (h e is.0)
     not_told es (New (S_shared n c)) e t h is = let eq = is.1 in rw eq (one_chunk c h)
@@ -85,7 +85,7 @@ module _ {R : Type 0} (S : Sys R) (u : units.Unit) where
     not_told es (New (S_get n g)) e t h is = absurd is
     not_told es (New (S_sync n home cs)) e t h is = absurd is
 
-    sent_none : (es : List Open_share) (e : Open_share) (j : ℕ) (m : Any R) → Sent_by S A e (λ p. same_unit (S.unit_of p) u ≡ false) Not_in j m → On_new (No_share es) m
+    sent_none : (es : List Open_share) (e : Open_share) (j : ℕ) (m : Any R) → Sent_by S A e (λ p. same_unit (S.packet_unit p) u ≡ false) Not_in j m → On_new (No_share es) m
     sent_none es e j (New (S_get n g)) h = tt
     sent_none es e j (New (S_sync n home cs)) h = h.1
     sent_none es e j (New (S_forward n home p to)) h = h.1
@@ -99,31 +99,31 @@ module _ {R : Type 0} (S : Sys R) (u : units.Unit) where
     sent_none es e j (New (S_synced n)) h = absurd h
 
     -- what the shares' step leaves
-    pub record Untaken_step (w : Whole S A) (s : Shares_step S A) : Type 0 where
+    pub record Untaken_step (w : WholeWorld S A) (s : Shares_step S A) : Type 0 where
       pub homes : Each (Elsewhere_home w.target) s.shares
       pub queues : Each (λ e. none_mine S u e.queue ≡ []) s.shares
       pub links : (m : Share_msg R) → No_share w.shares m → No_share s.shares m
       pub sends : Each_sent_new (λ _ m. No_share s.shares m) s.sends
 
-    shares_untaken : (w : Whole S A) (p : ℕ) (m : Any R) → Nums_apart w.shares → Untaken w → On_new (No_share w.shares) m → Untaken_step w (by_share S A w.shares p (told_by S A w.shares m))
+    shares_untaken : (w : WholeWorld S A) (p : ℕ) (m : Any R) → Nums_apart w.shares → Untaken w → On_new (No_share w.shares) m → Untaken_step w (by_share S A w.shares p (told_by S A w.shares m))
     shares_untaken w p m nums h head = told_cases S A (Untaken_step w) w.shares p m nums (record { homes = h.homes; queues = h.queues; links = λ _ k. k; sends = tt }) goes
       where
         goes : (e : Open_share) (t : Told R) → find_share w.shares e.num ≡ Some e → Tells S A w.shares m e t → Untaken_step w (by_share S A w.shares p (Some (e, t)))
         goes e t there is =
             let r = share_row S A e p t in
-            let k = share_row_by S A e (λ p. same_unit (S.unit_of p) u ≡ false) Not_in p t (not_told w.shares m e t head is) (others_of e.queue (found_each (λ e. none_mine S u e.queue ≡ []) w.shares e.num e h.queues there)) in
+            let k = share_row_by S A e (λ p. same_unit (S.packet_unit p) u ≡ false) Not_in p t (not_told w.shares m e t head is) (others_of e.queue (found_each (λ e. none_mine S u e.queue ≡ []) w.shares e.num e h.queues there)) in
             record {
               homes = each_set_share (Elsewhere_home w.target) e.num r.phase r.queue w.shares e there (found_each (Elsewhere_home w.target) w.shares e.num e h.homes there) h.homes;
               queues = each_set_share (λ e. none_mine S u e.queue ≡ []) e.num r.phase r.queue w.shares e there (none_of r.queue k.0) h.queues;
               links = λ m x. no_share_set e.num r.phase r.queue w.shares m x;
-              sends = each_sent_map (Sent_by S A e (λ p. same_unit (S.unit_of p) u ≡ false) Not_in) (λ j m. On_new (No_share (set_share e.num r.phase r.queue w.shares)) m) (λ j m x. sent_none (set_share e.num r.phase r.queue w.shares) e j m x) r.sends k.1;
+              sends = each_sent_map (Sent_by S A e (λ p. same_unit (S.packet_unit p) u ≡ false) Not_in) (λ j m. On_new (No_share (set_share e.num r.phase r.queue w.shares)) m) (λ j m x. sent_none (set_share e.num r.phase r.queue w.shares) e j m x) r.sends k.1;
             }
 
-    pub head_none : (w : Whole S A) (p k : ℕ) (m : Any R) (rest : List (Any R)) → (p == 0) && (k == 0) ≡ false → w.link p k ≡ m ∷ rest → Untaken w → On_new (No_share w.shares) m
+    pub head_none : (w : WholeWorld S A) (p k : ℕ) (m : Any R) (rest : List (Any R)) → (p == 0) && (k == 0) ≡ false → w.link p k ≡ m ∷ rest → Untaken w → On_new (No_share w.shares) m
     head_none w p k (Old m) rest off waits h = tt
     head_none w p k (New m) rest off waits h = new_head (λ _ m. No_share w.shares m) w.link h.links p k m rest off waits
 
-    pub ctrl_untaken : (w : Whole S A) (p : ℕ) (m : Any R) (rest : List (Any R)) → w.link p 1 ≡ m ∷ rest → Nums_apart w.shares → Untaken w → Untaken (whole_ctrl S A w p m)
+    pub ctrl_untaken : (w : WholeWorld S A) (p : ℕ) (m : Any R) (rest : List (Any R)) → w.link p 1 ≡ m ∷ rest → Nums_apart w.shares → Untaken w → Untaken (whole_ctrl S A w p m)
     ctrl_untaken w p m rest waits nums h =
         let off : (p == 0) && (1 == 0) ≡ false = elim (p == 0) as (λ b. b && false ≡ false) [ true ↦ refl | false ↦ refl ] in
         let k = shares_untaken w p m nums h (head_none w p 1 m rest off waits h) in

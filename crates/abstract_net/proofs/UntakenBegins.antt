@@ -5,7 +5,7 @@ use Rattle.std.specs.Prelude.{if◌then◌else◌, ◌==◌}
 use Rattle.std.proofs.lemmas.Bool.Decides.{nat_tests}
 use Rattle.unit_machine.proofs.Labels.{each-append}
 use Rattle.flow_filter.specs.declared.filter.Filter.{Filter}
-use Rattle.abstract_net.proofs.Net.{Asked, Want, Sys, IsSys, begin_sends, begin_next, World}
+use Rattle.abstract_net.proofs.Net.{Asked, MoveAsked, Sys, IsSys, begin_sends, begin_next, World}
 use Rattle.unit_machine.proofs.Real.{sent_for}
 use Rattle.abstract_net.proofs.Rest.{none_mine}
 use Rattle.abstract_net.proofs.Units.{Where, May, begin_where, put_where}
@@ -16,18 +16,18 @@ use Rattle.abstract_net.proofs.ShareLists.{find_old}
 use Rattle.abstract_net.proofs.GlobalAll.{Numbered, Global_all}
 use Rattle.abstract_net.proofs.Untaken.{No_share, Elsewhere_home}
 use Rattle.abstract_net.proofs.UntakenInst.{Unshared}
-use Rattle.abstract_net.proofs.Shares.{Any, Any.Old, Any.New, Share_msg, Share_msg.Shared_on, Share_msg.Diverted_on, Share_msg.S_asked, Share_msg.S_install, Share_msg.S_forward, Share_msg.S_get, Share_msg.S_sync, Share_msg.S_chunks, Share_msg.S_shared, Share_msg.S_synced, Want_share, olds, as_old, Sharing, Open_share, new_share, Whole, moves_of, asks, begin_move, begin_share, puts_get, keeps}
+use Rattle.abstract_net.proofs.Shares.{Any, Any.Old, Any.New, Share_msg, Share_msg.Shared_on, Share_msg.Diverted_on, Share_msg.S_asked, Share_msg.S_install, Share_msg.S_forward, Share_msg.S_get, Share_msg.S_sync, Share_msg.S_chunks, Share_msg.S_shared, Share_msg.S_synced, Want_share, olds, as_old, Sharing, Open_share, new_share, WholeWorld, moves_of, asks, begin_move, begin_share, puts_get, keeps}
 use Rattle.nf_function.specs.declared.unit.Unit as units
 
 module _ {R : Type 0} (S : Sys R) (A : Sharing S) (laws : IsSys S) (u : units.Unit) where
-  pub begin_unshared : (w : Whole S A) (ps : List ℕ) (c : Bool) → Global_all S A w → (x : Want) → May S (moves_of S A w) x → Unshared S A laws u w ps c → Unshared S A laws u (begin_move S A w x) ps c
+  pub begin_unshared : (w : WholeWorld S A) (ps : List ℕ) (c : Bool) → Global_all S A w → (x : MoveAsked) → May S (moves_of S A w) x → Unshared S A laws u w ps c → Unshared S A laws u (begin_move S A w x) ps c
   begin_unshared w ps c g x may h = record {
     is = elsewhere_where S laws u (begin_next S (moves_of S A w) x) (moves_of S A (begin_move S A w x)) ps c (begin_old S A u w x) (begin_where S laws u (moves_of S A w) ps c x g.moves may h.is);
     untaken = record { homes = h.untaken.homes; queues = h.untaken.queues; links = new_put (λ _ m. No_share S u w.shares m) w.link h.untaken.links 1 (as_old (begin_sends x.num x)) (sent_old (λ _ m. No_share S u w.shares m) (begin_sends x.num x)) };
   }
 
   -- messages of shares alone are put on a node's links
-  put_new : (w : Whole S A) (ps : List ℕ) (c : Bool) (y next : ℕ) (shares : List Open_share) (sends : List (ℕ × Any R)) → old_sends sends ≡ [] → Where S laws u (moves_of S A w) ps c → Where S laws u (moves_of S A (record w { shares = shares; next = next; link = λ i j. w.link i j ++ (if i == y then sent_for j sends else []) })) ps c
+  put_new : (w : WholeWorld S A) (ps : List ℕ) (c : Bool) (y next : ℕ) (shares : List Open_share) (sends : List (ℕ × Any R)) → old_sends sends ≡ [] → Where S laws u (moves_of S A w) ps c → Where S laws u (moves_of S A (record w { shares = shares; next = next; link = λ i j. w.link i j ++ (if i == y then sent_for j sends else []) })) ps c
   put_new w ps c y next shares sends none is = elsewhere_where S laws u (moves_of S A w) (moves_of S A (record w { shares = shares; next = next; link = λ i j. w.link i j ++ (if i == y then sent_for j sends else []) })) ps c (record { target = refl; ops = refl; live = λ k. refl; rules = λ k. refl; link = λ i j _. no_olds-put (w.link i j) (i == y) j sends none; done = refl }) is
 
   -- no message has the new number
@@ -44,7 +44,7 @@ module _ {R : Type 0} (S : Sys R) (A : Sharing S) (laws : IsSys S) (u : units.Un
   no_share_more es x b fresh (S_synced k) few h = tt
 
   -- a share that doesn't take the unit, or whose home isn't where its packets go
-  pub share_unshared : (w : Whole S A) (ps : List ℕ) (c : Bool) → Global_all S A w → (x : Want_share) → w.next ≤ x.num → (S.takes x.filter u ≡ true → (x.home == w.target u) ≡ false) → Unshared S A laws u w ps c → Unshared S A laws u (begin_share S A w x) ps c
+  pub share_unshared : (w : WholeWorld S A) (ps : List ℕ) (c : Bool) → Global_all S A w → (x : Want_share) → w.next ≤ x.num → (S.takes x.filter u ≡ true → (x.home == w.target u) ≡ false) → Unshared S A laws u w ps c → Unshared S A laws u (begin_share S A w x) ps c
   share_unshared w ps c g x fresh away h = record {
     is = put_new w ps c 1 (suc x.num) (w.shares ++ new_share x ∷ []) ((0, New (S_install x.num x.filter x.home)) ∷ []) refl h.is;
     untaken = record {
@@ -55,17 +55,17 @@ module _ {R : Type 0} (S : Sys R) (A : Sharing S) (laws : IsSys S) (u : units.Un
   }
 
   -- a copy's Get, and what an instance keeps of a copy
-  pub get_unshared : (w : Whole S A) (ps : List ℕ) (c : Bool) (n : ℕ) (g : Filter) (src : ℕ) → Unshared S A laws u w ps c → Unshared S A laws u (puts_get S A w n g src) ps c
+  pub get_unshared : (w : WholeWorld S A) (ps : List ℕ) (c : Bool) (n : ℕ) (g : Filter) (src : ℕ) → Unshared S A laws u w ps c → Unshared S A laws u (puts_get S A w n g src) ps c
   get_unshared w ps c n g src h = record {
     is = put_new w ps c 1 (suc n) w.shares ((src, New (S_get n g)) ∷ []) refl h.is;
     untaken = record { homes = h.untaken.homes; queues = h.untaken.queues; links = new_put (λ _ m. No_share S u w.shares m) w.link h.untaken.links 1 ((src, New (S_get n g)) ∷ []) (tt, tt) };
   }
 
-  pub keeps_unshared : (w : Whole S A) (ps : List ℕ) (c : Bool) (y : ℕ) (t : S.B.T) → Unshared S A laws u w ps c → Unshared S A laws u (keeps S A w y t) ps c
+  pub keeps_unshared : (w : WholeWorld S A) (ps : List ℕ) (c : Bool) (y : ℕ) (t : S.B.T) → Unshared S A laws u w ps c → Unshared S A laws u (keeps S A w y t) ps c
   keeps_unshared w ps c y t h = record { is = h.is; untaken = record { homes = h.untaken.homes; queues = h.untaken.queues; links = h.untaken.links } }
 
   -- a command for a move, and one for a share
-  pub asks_move_unshared : (w : Whole S A) (ps : List ℕ) (c : Bool) → Global_all S A w → (x : Want) → Unshared S A laws u w ps c → Unshared S A laws u (asks S A w (Old (Asked x))) ps c
+  pub asks_move_unshared : (w : WholeWorld S A) (ps : List ℕ) (c : Bool) → Global_all S A w → (x : MoveAsked) → Unshared S A laws u w ps c → Unshared S A laws u (asks S A w (Old (Asked x))) ps c
   asks_move_unshared w ps c g x h = record {
     is = elsewhere_where S laws u asked (moves_of S A (asks S A w (Old (Asked x)))) ps c (record { target = refl; ops = refl; live = λ k. refl; rules = λ k. refl; link = λ i j _. olds-put (w.link i j) (i == 0) j ((1, Old (Asked x)) ∷ []) ((1, Asked x) ∷ []) refl; done = refl }) (put_where S laws u (moves_of S A w) ps c g.moves 0 1 (Asked x) (λ z. refl) (λ z. tt) h.is);
     untaken = record { homes = h.untaken.homes; queues = h.untaken.queues; links = new_put (λ _ m. No_share S u w.shares m) w.link h.untaken.links 0 ((1, Old (Asked x)) ∷ []) (tt, tt) };
@@ -74,7 +74,7 @@ module _ {R : Type 0} (S : Sys R) (A : Sharing S) (laws : IsSys S) (u : units.Un
       asked : World S
       asked = record (moves_of S A w) { link = λ i j. olds (w.link i j) ++ (if i == 0 then sent_for j ((1, Asked x) ∷ []) else []) }
 
-  pub asks_share_unshared : (w : Whole S A) (ps : List ℕ) (c : Bool) (x : Want_share) → Unshared S A laws u w ps c → Unshared S A laws u (asks S A w (New (S_asked x))) ps c
+  pub asks_share_unshared : (w : WholeWorld S A) (ps : List ℕ) (c : Bool) (x : Want_share) → Unshared S A laws u w ps c → Unshared S A laws u (asks S A w (New (S_asked x))) ps c
   asks_share_unshared w ps c x h = record {
     is = put_new w ps c 0 w.next w.shares ((1, New (S_asked x)) ∷ []) refl h.is;
     untaken = record { homes = h.untaken.homes; queues = h.untaken.queues; links = new_put (λ _ m. No_share S u w.shares m) w.link h.untaken.links 0 ((1, New (S_asked x)) ∷ []) (tt, tt) };

@@ -16,15 +16,15 @@ use Rattle.abstract_net.proofs.NewMessages.{Each_sent_new, sent_old, new_after, 
 use Rattle.abstract_net.proofs.ShareLists.{found_each}
 use Rattle.abstract_net.proofs.GlobalAll.{Disjoint, Of_share, Global_all}
 use Rattle.abstract_net.proofs.Untaken.{No_share, Elsewhere_home, Untaken, head_none, ctrl_untaken}
-use Rattle.abstract_net.proofs.Shares.{Any, Any.Old, Any.New, Share_msg, Share_msg.Shared_on, Share_msg.Diverted_on, Share_msg.S_asked, Share_msg.S_install, Share_msg.S_forward, Share_msg.S_get, Share_msg.S_sync, Share_msg.S_chunks, Share_msg.S_shared, Share_msg.S_synced, olds, as_old, Sharing, IsSharing, Open_share, find_share, shared_chunk, member_step, Whole, moves_of, whole_inst, whole_ctrl}
+use Rattle.abstract_net.proofs.Shares.{Any, Any.Old, Any.New, Share_msg, Share_msg.Shared_on, Share_msg.Diverted_on, Share_msg.S_asked, Share_msg.S_install, Share_msg.S_forward, Share_msg.S_get, Share_msg.S_sync, Share_msg.S_chunks, Share_msg.S_shared, Share_msg.S_synced, olds, as_old, Sharing, IsSharing, Open_share, find_share, shared_chunk, member_step, WholeWorld, moves_of, whole_inst, whole_ctrl}
 use Rattle.nf_function.specs.declared.unit.Unit as units
 use Rattle.record_table.specs.Table.{same_unit}
 
 module _ {R : Type 0} (S : Sys R) (u : units.Unit) where
   -- what was done of other units
-  pub done_other : (ds : List (ℕ × ℕ)) (p y : ℕ) → same_unit (S.unit_of p) u ≡ false → done_u S u (ds ++ (p, y) ∷ []) ≡ done_u S u ds
+  pub done_other : (ds : List (ℕ × ℕ)) (p y : ℕ) → same_unit (S.packet_unit p) u ≡ false → done_u S u (ds ++ (p, y) ∷ []) ≡ done_u S u ds
   done_other [] p y off = rw off refl
-  done_other (d ∷ ds) p y off = ap (λ v. if same_unit (S.unit_of d.0) u then d.0 ∷ v else v) (done_other ds p y off)
+  done_other (d ∷ ds) p y off = ap (λ v. if same_unit (S.packet_unit d.0) u then d.0 ∷ v else v) (done_other ds p y off)
 
   field_put : {X Y : Type 0} (f : X → Y) (g : ℕ → X) (y : ℕ) (x : X) → f x ≡ f (g y) → (k : ℕ) → f (put g y x k) ≡ f (g k)
   field_put f g y x e k = elim (k == y) as (λ b. (k == y) ≡ b → f (if b then x else g k) ≡ f (g k)) [
@@ -34,20 +34,20 @@ module _ {R : Type 0} (S : Sys R) (u : units.Unit) where
 
 module _ {R : Type 0} (S : Sys R) (A : Sharing S) (laws : IsSys S) (u : units.Unit) where
   -- where a unit is that no share has
-  pub record Unshared (w : Whole S A) (ps : List ℕ) (c : Bool) : Type 0 where
+  pub record Unshared (w : WholeWorld S A) (ps : List ℕ) (c : Bool) : Type 0 where
     pub is : Where S laws u (moves_of S A w) ps c
     pub untaken : Untaken S u A w
 
   -- no open move takes what a share takes
-  pub free_moves : (w : Whole S A) → Global_all S A w → (n : ℕ) (e : Open_share) → find_share w.shares n ≡ Some e → S.takes e.filter u ≡ true → Each (λ o. S.takes o.filter u ≡ false) w.ops
+  pub free_moves : (w : WholeWorld S A) → Global_all S A w → (n : ℕ) (e : Open_share) → find_share w.shares n ≡ Some e → S.takes e.filter u ≡ true → Each (λ o. S.takes o.filter u ≡ false) w.ops
   free_moves w g n e there on = each_map (λ o d. d u on) w.ops (found_each (λ e. Each (λ o. Disjoint S e.filter o.filter) w.ops) w.shares n e g.apart_moves there)
 
   -- the home gives nothing of the unit
-  abbrev Gets_none : Whole S A → ℕ → Share_msg R → Type 0
+  abbrev Gets_none : WholeWorld S A → ℕ → Share_msg R → Type 0
   Gets_none w y (S_get n g) = (e : Open_share) → find_share w.shares n ≡ Some e → (if S.takes g u then S.B.at u (w.inst y).live else None) ≡ None
   Gets_none w y m = Unit {0}
 
-  gets_none : (w : Whole S A) (ps : List ℕ) (c : Bool) (y : ℕ) → Global_all S A w → Unshared w ps c → (m : Share_msg R) → Of_share S w.shares y m → Gets_none w y m
+  gets_none : (w : WholeWorld S A) (ps : List ℕ) (c : Bool) (y : ℕ) → Global_all S A w → Unshared w ps c → (m : Share_msg R) → Of_share S w.shares y m → Gets_none w y m
   gets_none w ps c y g h (S_get n f) of = λ e there. elim (S.takes f u) as (λ b. S.takes f u ≡ b → (if b then S.B.at u (w.inst y).live else None) ≡ None) [
     | true ↦ λ on.
         let k = of e there in
@@ -71,21 +71,21 @@ module _ {R : Type 0} (S : Sys R) (A : Sharing S) (laws : IsSys S) (u : units.Un
   gets_none w ps c y g h (S_synced n) of = tt
 
   -- what an instance leaves, on a message of a share
-  record Leaves (w : Whole S A) (y : ℕ) (m : Share_msg R) : Type 0 where
+  record Leaves (w : WholeWorld S A) (y : ℕ) (m : Share_msg R) : Type 0 where
     live : S.B.at u (member_step S A (w.inst y).live (w.standby y) m).live ≡ S.B.at u (w.inst y).live
     ran : (ds : List (ℕ × ℕ)) → done_u S u (ds ++ at_node y (member_step S A (w.inst y).live (w.standby y) m).ran) ≡ done_u S u ds
     sends : Each_sent_new (λ _ m. No_share S u w.shares m) (member_step S A (w.inst y).live (w.standby y) m).sends
 
-  process_other : (t : S.B.T) (p : ℕ) → same_unit (S.unit_of p) u ≡ false → S.B.at u (process S t p) ≡ S.B.at u t
-  process_other t p off = laws.written u (S.unit_of p) (S.F.step (S.B.at (S.unit_of p) t) p) t ∙ rw off refl
+  process_other : (t : S.B.T) (p : ℕ) → same_unit (S.packet_unit p) u ≡ false → S.B.at u (process S t p) ≡ S.B.at u t
+  process_other t p off = laws.written u (S.packet_unit p) (S.F.step (S.B.at (S.packet_unit p) t) p) t ∙ rw off refl
 
-  chunk_none : (es : List Open_share) (n p : ℕ) (t : S.B.T) → same_unit (S.unit_of p) u ≡ false → Each_sent_new (λ _ m. No_share S u es m) (shared_chunk S A n p t)
-  chunk_none es n p t off = elim (S.B.at (S.unit_of p) t) as (λ o. Each_sent_new (λ _ m. No_share S u es m) (option_map_or (λ r. (1, New (S_shared n (S.unit_of p, r))) ∷ []) o [])) [ None ↦ tt | Some r ↦ (off, tt) ]
+  chunk_none : (es : List Open_share) (n p : ℕ) (t : S.B.T) → same_unit (S.packet_unit p) u ≡ false → Each_sent_new (λ _ m. No_share S u es m) (shared_chunk S A n p t)
+  chunk_none es n p t off = elim (S.B.at (S.packet_unit p) t) as (λ o. Each_sent_new (λ _ m. No_share S u es m) (option_map_or (λ r. (1, New (S_shared n (S.packet_unit p, r))) ∷ []) o [])) [ None ↦ tt | Some r ↦ (off, tt) ]
 
   nothing_ran : (ds : List (ℕ × ℕ)) → done_u S u (ds ++ []) ≡ done_u S u ds
   nothing_ran ds = ap (done_u S u) (append-nil ds)
 
-  member_leaves : IsSharing S A → (w : Whole S A) (y : ℕ) (m : Share_msg R) → No_share S u w.shares m → Gets_none w y m → Leaves w y m
+  member_leaves : IsSharing S A → (w : WholeWorld S A) (y : ℕ) (m : Share_msg R) → No_share S u w.shares m → Gets_none w y m → Leaves w y m
   member_leaves ok w y (Shared_on n true p) off gets = record { live = process_other (w.inst y).live p off; ran = λ ds. done_other S u ds p y off; sends = chunk_none w.shares n p (process S (w.inst y).live p) off }
   member_leaves ok w y (Shared_on n false p) off gets = record { live = refl; ran = λ ds. done_other S u ds p y off; sends = chunk_none w.shares n p (process S (w.standby y) p) off }
   member_leaves ok w y (S_get n f) off gets = record { live = refl; ran = nothing_ran; sends = ((λ e there. record_first u (S.B.select (S.takes f) (w.inst y).live) ∙ ap first (laws.laws.selected u (S.takes f) (w.inst y).live ∙ ap option_to_list (gets e there))), tt) }
@@ -100,7 +100,7 @@ module _ {R : Type 0} (S : Sys R) (A : Sharing S) (laws : IsSys S) (u : units.Un
   member_leaves ok w y (S_synced n) off gets = record { live = refl; ran = nothing_ran; sends = tt }
 
   -- The steps
-  pub inst_unshared : IsSharing S A → (w : Whole S A) (ps : List ℕ) (c : Bool) → Global_all S A w → (p y : ℕ) (m : Any R) (rest : List (Any R)) → (y == 0) ≡ false → (y == 1) ≡ false → w.link p y ≡ m ∷ rest → Unshared w ps c → Unshared (whole_inst S A w p y m) ps c
+  pub inst_unshared : IsSharing S A → (w : WholeWorld S A) (ps : List ℕ) (c : Bool) → Global_all S A w → (p y : ℕ) (m : Any R) (rest : List (Any R)) → (y == 0) ≡ false → (y == 1) ≡ false → w.link p y ≡ m ∷ rest → Unshared w ps c → Unshared (whole_inst S A w p y m) ps c
   inst_unshared ok w ps c g p y (Old m) rest y0 y1 waits h = record {
     is = elsewhere_where S laws u (Rattle.abstract_net.proofs.Net.inst_next S (moves_of S A w) p y m) (moves_of S A (whole_inst S A w p y (Old m))) ps c (inst_old S A w p m rest u y waits) (inst_where S laws u (moves_of S A w) ps c g.moves p y m (olds rest) y0 y1 (ap olds waits) h.is);
     untaken = record { homes = h.untaken.homes; queues = h.untaken.queues; links = new_after (λ _ m. No_share S u w.shares m) w.link h.untaken.links p y (as_old (inst_step S (w.inst y) m).sends) (sent_old (λ _ m. No_share S u w.shares m) (inst_step S (w.inst y) m).sends) };
@@ -123,7 +123,7 @@ module _ {R : Type 0} (S : Sys R) (A : Sharing S) (laws : IsSys S) (u : units.Un
         untaken = record { homes = h.untaken.homes; queues = h.untaken.queues; links = new_after (λ _ m. No_share S u w.shares m) w.link h.untaken.links p y d.sends k.sends };
       }
 
-  pub ctrl_unshared : (w : Whole S A) (ps : List ℕ) (c : Bool) → Global_all S A w → (p : ℕ) (m : Any R) (rest : List (Any R)) → w.link p 1 ≡ m ∷ rest → Unshared w ps c → Unshared (whole_ctrl S A w p m) ps c
+  pub ctrl_unshared : (w : WholeWorld S A) (ps : List ℕ) (c : Bool) → Global_all S A w → (p : ℕ) (m : Any R) (rest : List (Any R)) → w.link p 1 ≡ m ∷ rest → Unshared w ps c → Unshared (whole_ctrl S A w p m) ps c
   ctrl_unshared w ps c g p (Old m) rest waits h = record {
     is = elsewhere_where S laws u (Rattle.abstract_net.proofs.Net.ctrl_next S (moves_of S A w) p m) (moves_of S A (whole_ctrl S A w p (Old m))) ps c (ctrl_old S A w p m rest u waits) (ctrl_where S laws u (moves_of S A w) ps c g.moves p m (olds rest) (ap olds waits) h.is);
     untaken = ctrl_untaken S u A w p (Old m) rest waits g.nums_apart h.untaken;

@@ -14,7 +14,7 @@ use Rattle.abstract_net.proofs.ShareLists.{found_each}
 use Rattle.abstract_net.proofs.GlobalAll.{Disjoint, Of_share, Global_all}
 use Rattle.abstract_net.proofs.Untaken.{No_share, Elsewhere_home, Untaken, head_none}
 use Rattle.abstract_net.proofs.UntakenInst.{Unshared}
-use Rattle.abstract_net.proofs.Shares.{Any, Any.Old, Any.New, Share_msg, Share_msg.Shared_on, Share_msg.Diverted_on, Share_msg.S_asked, Share_msg.S_install, Share_msg.S_forward, Share_msg.S_get, Share_msg.S_sync, Share_msg.S_chunks, Share_msg.S_shared, Share_msg.S_synced, olds, as_old, Sharing, Open_share, find_share, share_target, share_sends, arrive_sends, Whole, moves_of, whole_switch, whole_input}
+use Rattle.abstract_net.proofs.Shares.{Any, Any.Old, Any.New, Share_msg, Share_msg.Shared_on, Share_msg.Diverted_on, Share_msg.S_asked, Share_msg.S_install, Share_msg.S_forward, Share_msg.S_get, Share_msg.S_sync, Share_msg.S_chunks, Share_msg.S_shared, Share_msg.S_synced, olds, as_old, Sharing, Open_share, find_share, share_target, share_sends, arrive_sends, WholeWorld, moves_of, whole_switch, whole_input}
 use Rattle.nf_function.specs.declared.unit.Unit as units
 use Rattle.record_table.specs.Table.{same_unit}
 use Rattle.record_table.proofs.UnitOrder.{same_unit-true}
@@ -40,14 +40,14 @@ module _ {R : Type 0} (S : Sys R) (A : Sharing S) (laws : IsSys S) (u : units.Un
   homes_after ops t v [] same a h = tt
   homes_after ops t v (e ∷ es) same a h = ((λ on. let is = same (each_map (λ o d. d u on) ops a.0) in rw is (h.0 on)), homes_after ops t v es same a.1 h.1)
 
-  old_same : (w : Whole S A) (ps : List ℕ) (c : Bool) (p : ℕ) (m : Msg R) (rest : List (Any R)) → (p == 0) ≡ false → w.link p 0 ≡ Old m ∷ rest → Where S laws u (moves_of S A w) ps c → Each (λ o. S.takes o.filter u ≡ false) w.ops → sw_target S w.target m u ≡ w.target u
+  old_same : (w : WholeWorld S A) (ps : List ℕ) (c : Bool) (p : ℕ) (m : Msg R) (rest : List (Any R)) → (p == 0) ≡ false → w.link p 0 ≡ Old m ∷ rest → Where S laws u (moves_of S A w) ps c → Each (λ o. S.takes o.filter u ≡ false) w.ops → sw_target S w.target m u ≡ w.target u
   old_same w ps c p m rest p0 waits h free =
       let r = where_rests S laws u (moves_of S A w) ps c free h in
       let off : (p == 0) && (0 == 0) ≡ false = rw p0 refl in
       sw_same w.target p m (subst (λ ms. Each (Nothing_of S u p) ms) (ap olds waits) (r.rest.labels p 0 off)).0
 
   -- A message of a share
-  share_same : (w : Whole S A) → Untaken S u A w → (m : Share_msg R) → Of_share S w.shares 0 m → share_target S A w.target m u ≡ w.target u
+  share_same : (w : WholeWorld S A) → Untaken S u A w → (m : Share_msg R) → Of_share S w.shares 0 m → share_target S A w.target m u ≡ w.target u
   share_same w h (S_install n g from) of = elim (S.takes g u) as (λ b. S.takes g u ≡ b → (if b && (w.target u == from) then 1 else w.target u) ≡ w.target u) [
     | true ↦ λ on.
         let takes : S.takes of.share.filter u ≡ true = ap (λ x. S.takes x u) (sym of.says.0) ∙ on in
@@ -79,7 +79,7 @@ module _ {R : Type 0} (S : Sys R) (A : Sharing S) (laws : IsSys S) (u : units.Un
   sends_none es (S_shared n x) h = tt
   sends_none es (S_synced n) h = tt
 
-  not_move : (w : Whole S A) → Global_all S A w → (n : ℕ) (e : Open_share) → find_share w.shares n ≡ Some e → find_op w.ops n ≡ None
+  not_move : (w : WholeWorld S A) → Global_all S A w → (n : ℕ) (e : Open_share) → find_share w.shares n ≡ Some e → find_op w.ops n ≡ None
   not_move w g n e there = by_kind (g.one_kind n)
     where
       by_kind : (find_op w.ops n ≡ None) ⊎ (find_share w.shares n ≡ None) → find_op w.ops n ≡ None
@@ -87,10 +87,10 @@ module _ {R : Type 0} (S : Sys R) (A : Sharing S) (laws : IsSys S) (u : units.Un
       by_kind (inr none) = let never : None ≡ Some e = sym none ∙ there in cc
 
   -- nothing that moves see is sent
-  quiet : (w : Whole S A) (ps : List ℕ) (c : Bool) → Untaken S u A w → (p : ℕ) (m : Share_msg R) (rest : List (Any R)) → w.link p 0 ≡ New m ∷ rest → Of_share S w.shares 0 m → old_sends (share_sends S A m) ≡ [] → Where S laws u (moves_of S A w) ps c → Where S laws u (moves_of S A (whole_switch S A w p (New m))) ps c
+  quiet : (w : WholeWorld S A) (ps : List ℕ) (c : Bool) → Untaken S u A w → (p : ℕ) (m : Share_msg R) (rest : List (Any R)) → w.link p 0 ≡ New m ∷ rest → Of_share S w.shares 0 m → old_sends (share_sends S A m) ≡ [] → Where S laws u (moves_of S A w) ps c → Where S laws u (moves_of S A (whole_switch S A w p (New m))) ps c
   quiet w ps c h p m rest waits of none is = elsewhere_where S laws u (moves_of S A w) (moves_of S A (whole_switch S A w p (New m))) ps c (record { target = share_same w h m of; ops = refl; live = λ k. refl; rules = λ k. refl; link = λ i j _. no_olds-after w.link p 0 m rest (share_sends S A m) waits none i j; done = refl }) is
 
-  switch_new : (w : Whole S A) (ps : List ℕ) (c : Bool) → Global_all S A w → Untaken S u A w → (p : ℕ) (m : Share_msg R) (rest : List (Any R)) → w.link p 0 ≡ New m ∷ rest → Of_share S w.shares 0 m → Where S laws u (moves_of S A w) ps c → Where S laws u (moves_of S A (whole_switch S A w p (New m))) ps c
+  switch_new : (w : WholeWorld S A) (ps : List ℕ) (c : Bool) → Global_all S A w → Untaken S u A w → (p : ℕ) (m : Share_msg R) (rest : List (Any R)) → w.link p 0 ≡ New m ∷ rest → Of_share S w.shares 0 m → Where S laws u (moves_of S A w) ps c → Where S laws u (moves_of S A (whole_switch S A w p (New m))) ps c
   switch_new w ps c g h p (S_install n f from) rest waits of is = elsewhere_where S laws u fences (moves_of S A (whole_switch S A w p (New (S_install n f from)))) ps c (record {
     target = share_same w h (S_install n f from) of;
     ops = refl;
@@ -113,11 +113,11 @@ module _ {R : Type 0} (S : Sys R) (A : Sharing S) (laws : IsSys S) (u : units.Un
   switch_new w ps c g h p (S_synced n) rest waits of is = quiet w ps c h p (S_synced n) rest waits of refl is
 
   -- The steps. No message of a share hands a unit on
-  abbrev pub Hands_any : Whole S A → Any R → Bool → Type 0
+  abbrev pub Hands_any : WholeWorld S A → Any R → Bool → Type 0
   Hands_any w (Old m) d = Hands_on S laws u (moves_of S A w) m d
   Hands_any w (New m) d = Unit {0}
 
-  pub switch_unshared : (w : Whole S A) (ps : List ℕ) (c d : Bool) → Global_all S A w → (p : ℕ) (m : Any R) (rest : List (Any R)) → (p == 0) ≡ false → w.link p 0 ≡ m ∷ rest → (c ≡ true → d ≡ true) → Hands_any w m d → Unshared S A laws u w ps c → Unshared S A laws u (whole_switch S A w p m) ps d
+  pub switch_unshared : (w : WholeWorld S A) (ps : List ℕ) (c d : Bool) → Global_all S A w → (p : ℕ) (m : Any R) (rest : List (Any R)) → (p == 0) ≡ false → w.link p 0 ≡ m ∷ rest → (c ≡ true → d ≡ true) → Hands_any w m d → Unshared S A laws u w ps c → Unshared S A laws u (whole_switch S A w p m) ps d
   switch_unshared w ps c d g p (Old m) rest p0 waits grows hands h = record {
     is = elsewhere_where S laws u (sw_next S (moves_of S A w) p m) (moves_of S A (whole_switch S A w p (Old m))) ps d (switch_old S A w p m rest u waits) (switch_where S laws u (moves_of S A w) ps c d g.moves p m (olds rest) p0 (ap olds waits) grows hands h.is);
     untaken = record {
@@ -140,26 +140,26 @@ module _ {R : Type 0} (S : Sys R) (A : Sharing S) (laws : IsSys S) (u : units.Un
       }
 
   -- a packet of the input
-  pub input_unshared : (w : Whole S A) (ps : List ℕ) (c : Bool) → Global_all S A w → (q : ℕ) → Unshared S A laws u w ps c → Unshared S A laws u (whole_input S A w q) (ps ++ (if same_unit (S.unit_of q) u then q ∷ [] else [])) c
-  input_unshared w ps c g q h = by_target (w.target (S.unit_of q) == 1) refl
+  pub input_unshared : (w : WholeWorld S A) (ps : List ℕ) (c : Bool) → Global_all S A w → (q : ℕ) → Unshared S A laws u w ps c → Unshared S A laws u (whole_input S A w q) (ps ++ (if same_unit (S.packet_unit q) u then q ∷ [] else [])) c
+  input_unshared w ps c g q h = by_target (w.target (S.packet_unit q) == 1) refl
     where
       sends : List (ℕ × Any R)
-      sends = arrive_sends S A (w.target (S.unit_of q)) q
+      sends = arrive_sends S A (w.target (S.packet_unit q)) q
 
-      by_target : (b : Bool) → (w.target (S.unit_of q) == 1) ≡ b → Unshared S A laws u (whole_input S A w q) (ps ++ (if same_unit (S.unit_of q) u then q ∷ [] else [])) c
+      by_target : (b : Bool) → (w.target (S.packet_unit q) == 1) ≡ b → Unshared S A laws u (whole_input S A w q) (ps ++ (if same_unit (S.packet_unit q) u then q ∷ [] else [])) c
       by_target true on =
           let two = where_two S laws u (moves_of S A w) ps c h.is in
-          let one : w.target (S.unit_of q) ≡ 1 = (Decides-eqb (w.target (S.unit_of q)) 1).0 on in
-          let other : same_unit (S.unit_of q) u ≡ false = elim (same_unit (S.unit_of q) u) as (λ b. same_unit (S.unit_of q) u ≡ b → b ≡ false) [ true ↦ λ its. let there : w.target u ≡ 1 = ap w.target (sym (same_unit-true (S.unit_of q) u its)) ∙ one in let never : ⊥ = omega (arith, two, there) in absurd never | false ↦ λ _. refl ] refl in
-          let all : ps ++ (if same_unit (S.unit_of q) u then q ∷ [] else []) ≡ ps = rw other (append-nil ps) in
+          let one : w.target (S.packet_unit q) ≡ 1 = (Decides-eqb (w.target (S.packet_unit q)) 1).0 on in
+          let other : same_unit (S.packet_unit q) u ≡ false = elim (same_unit (S.packet_unit q) u) as (λ b. same_unit (S.packet_unit q) u ≡ b → b ≡ false) [ true ↦ λ its. let there : w.target u ≡ 1 = ap w.target (sym (same_unit-true (S.packet_unit q) u its)) ∙ one in let never : ⊥ = omega (arith, two, there) in absurd never | false ↦ λ _. refl ] refl in
+          let all : ps ++ (if same_unit (S.packet_unit q) u then q ∷ [] else []) ≡ ps = rw other (append-nil ps) in
           let none : old_sends sends ≡ [] = rw on refl in
           record {
             is = subst (λ v. Where S laws u (moves_of S A (whole_input S A w q)) v c) (sym all) (elsewhere_where S laws u (moves_of S A w) (moves_of S A (whole_input S A w q)) ps c (record { target = refl; ops = refl; live = λ k. refl; rules = λ k. refl; link = λ i j _. no_olds-put (w.link i j) (i == 0) j sends none; done = refl }) h.is);
             untaken = record { homes = h.untaken.homes; queues = h.untaken.queues; links = new_put (λ _ m. No_share S u w.shares m) w.link h.untaken.links 0 sends (rw on (other, tt)) };
           }
       by_target false off =
-          let carried : old_sends sends ≡ (w.target (S.unit_of q), Carry_on q) ∷ [] = rw off refl in
+          let carried : old_sends sends ≡ (w.target (S.packet_unit q), Carry_on q) ∷ [] = rw off refl in
           record {
-            is = elsewhere_where S laws u (in_next S (moves_of S A w) q) (moves_of S A (whole_input S A w q)) (ps ++ (if same_unit (S.unit_of q) u then q ∷ [] else [])) c (record { target = refl; ops = refl; live = λ k. refl; rules = λ k. refl; link = λ i j _. olds-put (w.link i j) (i == 0) j sends ((w.target (S.unit_of q), Carry_on q) ∷ []) carried; done = refl }) (input_where S laws u (moves_of S A w) ps c g.moves q h.is);
+            is = elsewhere_where S laws u (in_next S (moves_of S A w) q) (moves_of S A (whole_input S A w q)) (ps ++ (if same_unit (S.packet_unit q) u then q ∷ [] else [])) c (record { target = refl; ops = refl; live = λ k. refl; rules = λ k. refl; link = λ i j _. olds-put (w.link i j) (i == 0) j sends ((w.target (S.packet_unit q), Carry_on q) ∷ []) carried; done = refl }) (input_where S laws u (moves_of S A w) ps c g.moves q h.is);
             untaken = record { homes = h.untaken.homes; queues = h.untaken.queues; links = new_put (λ _ m. No_share S u w.shares m) w.link h.untaken.links 0 sends (rw off (tt, tt)) };
           }

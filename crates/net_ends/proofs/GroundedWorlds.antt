@@ -27,7 +27,7 @@ use Rattle.whole_net.proofs.EndAll.{Ends_all, As_moves, At_share, Share_rests, e
 use Rattle.net_world.specs.declared.config.Config.{Config}
 use Rattle.net_world.specs.declared.node.Node.{Node}
 use Rattle.net_world.specs.declared.node.Node.TheVariants.{Switch}
-use Rattle.net_world.specs.Input.{packets, packet_of, IsInput}
+use Rattle.net_world.specs.Input.{packets, packet_numbered, IsInput}
 use Rattle.net_world.specs.Log.{arrived, those}
 use Rattle.net_world.specs.Places.{is_loose}
 use Rattle.net_world.specs.Fold.{times, is_of, came, went}
@@ -62,7 +62,7 @@ module _ {F R : Type 0} (f : Semantics R) (c : Config) (items : List Msg) (is : 
         elim (is_of f c items u q.number) as (λ b. is_of f c items u q.number ≡ b → (if b then q.number ∷ those (is_of f c items u) (map (λ x. x.number) qs) else those (is_of f c items u) (map (λ x. x.number) qs)) ≡ p ∷ ps → j.world.target u < n) [
           | true ↦ λ mine _.
               let way = j.shown_is.switch.routes (flow_of c.site q).0 h.0.fits in
-              let unit : unit_at f.kind c.site q ≡ u = ap (unit_at f.kind c.site) h.0.same ∙ same_unit-true (unit_at f.kind c.site (packet_of items q.number)) u mine in
+              let unit : unit_at f.kind c.site q ≡ u = ap (unit_at f.kind c.site) h.0.same ∙ same_unit-true (unit_at f.kind c.site (packet_numbered items q.number)) u mine in
               by_target way.target (ap j.world.target (sym unit) ∙ way.node) way.there
           | false ↦ λ _ rest. target_there two qs h.1 p ps rest
         ] refl e

@@ -27,7 +27,7 @@ use Rattle.actor_net.specs.Network.{Network, waiting}
 use Rattle.actor_net.proofs.EnabledChoices.{at}
 use Rattle.unit_machine.proofs.Real.{Frame, see_phase}
 use Rattle.unit_machine.proofs.Rests.{is_over}
-use Rattle.unit_machine.proofs.Seats.{Seat, seat_shape, seat_rests}
+use Rattle.unit_machine.proofs.Seats.{UnitSeat, seat_shape, seat_rests}
 use Rattle.abstract_net.proofs.Net.{Sys, IsSys, Open, find_op, World}
 use Rattle.abstract_net.proofs.Holding.{Seeing, frame, Op_label, Ctrl_is, Holds}
 use Rattle.abstract_net.proofs.Ctrl.{each_found}
@@ -46,16 +46,16 @@ use Rattle.whole_joined.proofs.Given.{Given, place}
 use Rattle.whole_joined.proofs.Joined.{S, A, Joined, count, shown, came_by}
 
 -- A filter takes some unit: that of the numbers that it gives, and zeros for the others.
-number_in : Option ℕ → ℕ
-number_in (Some n) = n
-number_in None = 0
+number_or_0 : Option ℕ → ℕ
+number_or_0 (Some n) = n
+number_or_0 None = 0
 
 bits_in : Option Prefix → ℕ
 bits_in (Some p) = p.bits
 bits_in None = 0
 
-number_agrees : (o : Option ℕ) → agrees nat_eq o (number_in o) ≡ true
-unfolding number_in
+number_agrees : (o : Option ℕ) → agrees nat_eq o (number_or_0 o) ≡ true
+unfolding number_or_0
 number_agrees (Some n) = grind (arith, nat_tests)
 number_agrees None = refl
 
@@ -64,8 +64,8 @@ unfolding bits_in
 bits_agree (Some p) = block_own p.bits p.len
 bits_agree None = refl
 
-number_low : (top : ℕ) (o : Option ℕ) → nat_lt 0 top ≡ true → number_fits top o ≡ true → nat_lt (number_in o) top ≡ true
-unfolding number_in
+number_low : (top : ℕ) (o : Option ℕ) → nat_lt 0 top ≡ true → number_fits top o ≡ true → nat_lt (number_or_0 o) top ≡ true
+unfolding number_or_0
 number_low top (Some n) some h = h
 number_low top None some h = some
 
@@ -76,7 +76,7 @@ bits_low None h = refl
 
 module _ (g : Filter) (fits : filter_fits g ≡ true) where
   abbrev its_flow : Flow
-  its_flow = record { proto = number_in g.proto; local = bits_in g.local; lport = number_in g.lport; remote = bits_in g.remote; rport = number_in g.rport }
+  its_flow = record { proto = number_or_0 g.proto; local = bits_in g.local; lport = number_or_0 g.lport; remote = bits_in g.remote; rport = number_or_0 g.rport }
 
   matches_it : matches g its_flow ≡ true
   matches_it =
@@ -124,7 +124,7 @@ some_unit Monitor g whole =
 -- A seat without messages
 module _ {R : Type 0} (T : Sys R) (laws : IsSys T) (u : units.Unit) (n : ℕ) (v : World T) (some : 2 ≤ n) (quiet : (i j : ℕ) → i < n → j < n → (i == 0) && (j == 0) ≡ false → v.link i j ≡ []) where
   -- an open move whose filter takes the unit is over
-  over : (z : Seeing) (s : Seat T.F) → Holds T z v (seat_shape T.F s) → z.op.src < n → z.op.dst < n → is_over (seat_shape T.F s).phase ≡ true
+  over : (z : Seeing) (s : UnitSeat T.F) → Holds T z v (seat_shape T.F s) → z.op.src < n → z.op.dst < n → is_over (seat_shape T.F s).phase ≡ true
   over z s h src dst = seat_rests T.F s (is_silent T laws u n v some quiet z (seat_shape T.F s) h src dst)
 
   ended : (ps : List ℕ) (c : Bool) (k : ℕ) (e : Open R) → find_op v.ops k ≡ Some e → T.takes e.filter u ≡ true → e.op.src < n → e.op.dst < n → Where T laws u v ps c → (y : Frame) × (is_over (see_phase y e.phase) ≡ true)

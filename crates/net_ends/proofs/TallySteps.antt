@@ -75,14 +75,14 @@ module _ {R : Type 0} (f : Semantics R) where
   MergesTally (msg.PutAll op chunk) = IsTallyChunk chunk
   MergesTally m = Unit {0}
 
-  abbrev Gives : List (ℕ × Msg) → Type 0
-  Gives sends = Each (λ x. GivesTally x.1) sends
+  abbrev AllGiveTally : List (ℕ × Msg) → Type 0
+  AllGiveTally sends = Each (λ x. GivesTally x.1) sends
 
-  chunk_gives : (op : ℕ) (o : Option Chunk) (behind : List (ℕ × Msg)) → Gives behind → Gives (told (chunk_told op o) ++ behind)
+  chunk_gives : (op : ℕ) (o : Option Chunk) (behind : List (ℕ × Msg)) → AllGiveTally behind → AllGiveTally (told (chunk_told op o) ++ behind)
   chunk_gives op None behind h = h
   chunk_gives op (Some chunk) behind h = (tt, h)
 
-  pieces_give : (op : ℕ) (ps : List Piece) → Gives (told (map (msg.Piece op) ps))
+  pieces_give : (op : ℕ) (ps : List Piece) → AllGiveTally (told (map (msg.Piece op) ps))
   pieces_give op [] = tt
   pieces_give op (p ∷ ps) = (tt, pieces_give op ps)
 
@@ -108,7 +108,7 @@ module _ {F R : Type 0} (f : Semantics R) where
   then_leaves : (over : Bool) (step : Step F R) (next : Instance F R → Step F R) → StepLeaves over step → StepLeaves step.node.ended (next step.node) → StepLeaves over (and_then step next)
   then_leaves over step next a b = record { ended = b.ended ∙ a.ended; tally = b.tally; sends = each-append (λ x. GivesTally f x.1) step.sends (next step.node).sends a.sends b.sends }
 
-  shared_gives : (i : Instance F R) (m : Mark) (u : units.Unit) (behind : List (ℕ × Msg)) → Gives f behind → Gives f (told (shared f i m u) ++ behind)
+  shared_gives : (i : Instance F R) (m : Mark) (u : units.Unit) (behind : List (ℕ × Msg)) → AllGiveTally f behind → AllGiveTally f (told (shared f i m u) ++ behind)
   shared_gives i mark.Plain u behind h = h
   shared_gives i (mark.Pass op) u behind h = h
   shared_gives i (mark.Shared op home) u behind h = chunk_gives f op _ behind h
@@ -153,7 +153,7 @@ module _ {F R : Type 0} (f : Semantics R) where
 
   piece_leaves : (i : Instance F R) (op : ℕ) (piece : Piece) (is_answered : Bool) (o : Option Answer) → Has i → StepLeaves i.ended (piece_put f i op piece is_answered o)
   piece_leaves i op piece is_answered (Some why) h = tells_leaves i (msg.PutNo op (record { why = why; chunks = piece.chunks })) h tt
-  piece_leaves i op piece is_answered None h = good_leaves i piece.chunks _ h (record { ended = refl; tally = h; sends = elim is_answered as (λ b. Gives f (told (if b then msg.PutOk op ∷ [] else []))) [ true ↦ (tt, tt) | false ↦ tt ] })
+  piece_leaves i op piece is_answered None h = good_leaves i piece.chunks _ h (record { ended = refl; tally = h; sends = elim is_answered as (λ b. AllGiveTally f (told (if b then msg.PutOk op ∷ [] else []))) [ true ↦ (tt, tt) | false ↦ tt ] })
 
   put_leaves : (i : Instance F R) (op : ℕ) (piece : Piece) (first : Bool) → Has i → StepLeaves i.ended (on_put f i op piece first)
   unfolding on_put

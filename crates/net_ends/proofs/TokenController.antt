@@ -83,8 +83,8 @@ module _ (n : ℕ) (switch_there : reaches n 1 0 ≡ true) (c : ControllerState)
   abbrev Given_at : ℕ → Msg → Step → Type 0
   Given_at k m did = Grants n k p m (finite.get c.operations k) (finite.get did.node.operations k) did.sends
 
-  abbrev pub Gives : Msg → Step → Type 0
-  Gives m did = (k : ℕ) → Given_at k m did
+  abbrev pub GivesTokens : Msg → Step → Type 0
+  GivesTokens m did = (k : ℕ) → Given_at k m did
 
   -- where nothing of the number changes
   stays : (k : ℕ) (m : Msg) (did : Step) → finite.get did.node.operations k ≡ finite.get c.operations k → weight k (finite.get c.operations k) p 1 m ≡ 0 → Given_at k m did
@@ -144,21 +144,21 @@ module _ (n : ℕ) (switch_there : reaches n 1 0 ≡ true) (c : ControllerState)
         let l = handed_leaves (record { node = c; num = op; share = s; cells = stored c.store op }) (share.row s p m) w.op_is p m there refl refl in
         share_leaves s (stored c.store op) (share.row s p m) (ctrl.handed c op p m) there l (share_row n op p s.plan w.op_is w.few w.home_there switch_there s.phase m)
 
-    handed_gives : op_of m ≡ Some op → Gives m (ctrl.handed c op p m)
+    handed_gives : op_of m ≡ Some op → GivesTokens m (ctrl.handed c op p m)
     handed_gives its k = elim (op == k) as (λ b. (op == k) ≡ b → Given_at k m (ctrl.handed c op p m)) [
       | true ↦ λ on. subst (λ x. Given_at x m (ctrl.handed c op p m)) ((Decides-eqb op k).0 on) (shared_or_not (finite.get c.operations op) not_shared shared)
       | false ↦ λ off. stays k m (ctrl.handed c op p m) (handed_at k op (turned_test op k off) c p m) (other_number k p (finite.get c.operations k) op m its off)
     ] refl
 
-  still_gives : (m : Msg) → ((k : ℕ) → weight k (finite.get c.operations k) p 1 m ≡ 0) → Gives m (ctrl.still c)
+  still_gives : (m : Msg) → ((k : ℕ) → weight k (finite.get c.operations k) p 1 m ≡ 0) → GivesTokens m (ctrl.still c)
   still_gives m none k = stays k m (ctrl.still c) refl (none k)
 
-  numbered_gives : (m : Msg) (o : Option ℕ) → op_of m ≡ o → Gives m (ctrl.numbered c p m o)
+  numbered_gives : (m : Msg) (o : Option ℕ) → op_of m ≡ o → GivesTokens m (ctrl.numbered c p m o)
   numbered_gives m None e = still_gives m (λ k. no_number k p (finite.get c.operations k) m e)
   numbered_gives m (Some op) e = handed_gives op m e
 
   -- A packet that waits for its share
-  queued_gives : (cell : FullCell) (op : ℕ) (s : ShareState) → finite.get c.operations op ≡ Some (Share s) → Gives (msg.Diverted cell) (ctrl.queued c cell (Some op))
+  queued_gives : (cell : FullCell) (op : ℕ) (s : ShareState) → finite.get c.operations op ≡ Some (Share s) → GivesTokens (msg.Diverted cell) (ctrl.queued c cell (Some op))
   queued_gives cell op s there k =
       let m = msg.Diverted cell in
       let did = ctrl.queued c cell (Some op) in
@@ -169,19 +169,19 @@ module _ (n : ℕ) (switch_there : reaches n 1 0 ≡ true) (c : ControllerState)
         | false ↦ λ off. stays k m did (l.operations k ∙ ap (λ b. cond b (Some (Share (record s { phase = (share.served s.plan s.phase cells).phase }))) (finite.get c.operations k)) (turned_test op k off)) refl
       ] refl
 
-  diverted_gives : (cell : FullCell) → Gives (msg.Diverted cell) (ctrl.on_diverted c cell)
+  diverted_gives : (cell : FullCell) → GivesTokens (msg.Diverted cell) (ctrl.on_diverted c cell)
   diverted_gives cell = by_queues (ctrl.on_diverted c cell) (queues c cell)
     where
-      by_queues : (did : Step) → Queues c cell did → Gives (msg.Diverted cell) did
-      by_queues did (Queues_none e) = subst (Gives (msg.Diverted cell)) (sym e) (still_gives (msg.Diverted cell) (λ k. refl))
-      by_queues did (Queues_at op s is e) = subst (Gives (msg.Diverted cell)) (sym e) (queued_gives cell op s is)
+      by_queues : (did : Step) → Queues c cell did → GivesTokens (msg.Diverted cell) did
+      by_queues did (Queues_none e) = subst (GivesTokens (msg.Diverted cell)) (sym e) (still_gives (msg.Diverted cell) (λ k. refl))
+      by_queues did (Queues_at op s is e) = subst (GivesTokens (msg.Diverted cell)) (sym e) (queued_gives cell op s is)
 
   -- A command
   module _ (op : ℕ) (what : Order) where
     abbrev asked : Msg
     asked = msg.Asked (record { op = op; what = what })
 
-    opens_gives : (o : Operation) (sends : List (ℕ × Msg)) → wanted (Some o) ≤ sends_weigh (weight op (Some o)) n 1 sends → Gives asked (ctrl.opens c op o sends)
+    opens_gives : (o : Operation) (sends : List (ℕ × Msg)) → wanted (Some o) ≤ sends_weigh (weight op (Some o)) n 1 sends → GivesTokens asked (ctrl.opens c op o sends)
     opens_gives o sends h k = elim (op == k) as (λ b. (op == k) ≡ b → Given_at k asked (ctrl.opens c op o sends)) [
       | true ↦ λ on. subst (λ x. Given_at x asked (ctrl.opens c op o sends)) ((Decides-eqb op k).0 on) (subst (λ x. Grants n op p asked (finite.get c.operations op) x sends) (sym (written op asked o)) (Fresh h))
       | false ↦ λ off. stays k asked (ctrl.opens c op o sends) (got_insert c.operations op k o ∙ ap (λ b. cond b (Some o) (finite.get c.operations k)) (turned_test op k off)) refl
@@ -190,7 +190,7 @@ module _ (n : ℕ) (switch_there : reaches n 1 0 ≡ true) (c : ControllerState)
     reach_at : (name : List ℕ) (i : ℕ) → place_of c.names name ≡ Some i → reaches n 1 (instance_node i) ≡ true
     reach_at name i at = let low = (Decides-ltb i (length c.names)).0 (place_below c.names name i at) in grind (arith, nat_tests, low, names)
 
-    moves_between : (filter : Filter) (keep : Bool) (a b : Option ℕ) → Gives asked (ctrl.begins_between c op filter keep a b)
+    moves_between : (filter : Filter) (keep : Bool) (a b : Option ℕ) → GivesTokens asked (ctrl.begins_between c op filter keep a b)
     moves_between filter keep (Some a) (Some b) = opens_gives _ _ (omega arith)
     moves_between filter keep None b = still_gives asked (λ k. refl)
     moves_between filter keep (Some a) None = still_gives asked (λ k. refl)
@@ -215,12 +215,12 @@ module _ (n : ℕ) (switch_there : reaches n 1 0 ≡ true) (c : ControllerState)
         by_filter None = one Alls (msg.GetAll plan.op) (at_instance Alls plan.op plan.from) here
         by_filter (Some filter) = one Gets (msg.Get plan.op filter) (at_instance Gets plan.op plan.from) here
 
-    copies_between : (source destination : List ℕ) (filter : Option Filter) (a b : Option ℕ) → place_of c.names source ≡ a → Gives asked (ctrl.copies_between c op filter a b)
+    copies_between : (source destination : List ℕ) (filter : Option Filter) (a b : Option ℕ) → place_of c.names source ≡ a → GivesTokens asked (ctrl.copies_between c op filter a b)
     copies_between source destination filter (Some a) (Some b) at = opens_gives _ _ (asks_weigh (record { op = op; from = a; to = b; filter = filter }) refl (reach_at source a at))
     copies_between source destination filter None b at = still_gives asked (λ k. refl)
     copies_between source destination filter (Some a) None at = still_gives asked (λ k. refl)
 
-    shares_among : (filter : Filter) (members : List ℕ) → Gives asked (ctrl.begins_share c op filter members)
+    shares_among : (filter : Filter) (members : List ℕ) → GivesTokens asked (ctrl.begins_share c op filter members)
     shares_among filter [] = still_gives asked (λ k. refl)
     shares_among filter (member ∷ others) =
         let plan : SharePlan = record { op = op; members = member ∷ others; filter = filter; site = c.site } in
@@ -230,42 +230,42 @@ module _ (n : ℕ) (switch_there : reaches n 1 0 ≡ true) (c : ControllerState)
         let all : (if reaches n 1 0 then weight op (Some (Share (share.begun plan))) 1 0 (msg.Install op filter member target.Controller) else 0) ≡ 1 = ap (λ b. if b then weight op (Some (Share (share.begun plan))) 1 0 (msg.Install op filter member target.Controller) else 0) switch_there ∙ one in
         opens_gives (Share (share.begun plan)) (share.begin_sends plan) (omega (arith, all))
 
-    begins_gives : (o : Order) → Gives asked (ctrl.begins c op o)
+    begins_gives : (o : Order) → GivesTokens asked (ctrl.begins c op o)
     begins_gives (order.Move source destination filter keep) = moves_between filter keep (place_of c.names source) (place_of c.names destination)
     begins_gives (order.Copy source destination filter) = copies_between source destination filter (place_of c.names source) (place_of c.names destination) refl
     begins_gives (order.Share members filter) = shares_among filter (filter_map (place_of c.names) members)
 
-    decided_gives : (o : Option Answer) → Gives asked (ctrl.decided c op what o)
+    decided_gives : (o : Option Answer) → GivesTokens asked (ctrl.decided c op what o)
     decided_gives (Some a) = λ k. stays k asked (ctrl.answers c op a) refl refl
     decided_gives None = begins_gives what
 
-    asked_gives : Gives asked (ctrl.on_asked c (record { op = op; what = what }))
-    asked_gives = elim (finite.contains_key c.operations op) as (λ b. Gives asked (if b then ctrl.still c else ctrl.decided c op what (ctrl.refusal c what))) [
+    asked_gives : GivesTokens asked (ctrl.on_asked c (record { op = op; what = what }))
+    asked_gives = elim (finite.contains_key c.operations op) as (λ b. GivesTokens asked (if b then ctrl.still c else ctrl.decided c op what (ctrl.refusal c what))) [
       | true ↦ still_gives asked (λ k. refl)
       | false ↦ decided_gives (ctrl.refusal c what)
     ]
 
-  event_gives : (op : ℕ) (cell : FullCell) (o : Option ℕ) → Gives (msg.Event op cell) (ctrl.on_event c p op cell o)
+  event_gives : (op : ℕ) (cell : FullCell) (o : Option ℕ) → GivesTokens (msg.Event op cell) (ctrl.on_event c p op cell o)
   event_gives op cell None = still_gives (msg.Event op cell) (λ k. refl)
-  event_gives op cell (Some i) = elim (finite.contains_key c.operations op) as (λ b. Gives (msg.Event op cell) (if b then ctrl.handed c op p (msg.Event op cell) else record { node = c; sends = (0, msg.Forward i (mark.Pass op) cell) ∷ []; notes = [] })) [
+  event_gives op cell (Some i) = elim (finite.contains_key c.operations op) as (λ b. GivesTokens (msg.Event op cell) (if b then ctrl.handed c op p (msg.Event op cell) else record { node = c; sends = (0, msg.Forward i (mark.Pass op) cell) ∷ []; notes = [] })) [
     | true ↦ handed_gives op (msg.Event op cell) refl
     | false ↦ λ k. stays k (msg.Event op cell) (record { node = c; sends = (0, msg.Forward i (mark.Pass op) cell) ∷ []; notes = [] }) refl refl
   ]
 
-  row_gives : (m : Msg) → Gives m (ctrl.row c p m)
-  row_gives (msg.Asked x) = elim (p == 0) as (λ b. Gives (msg.Asked x) (if b then ctrl.on_asked c x else ctrl.still c)) [ true ↦ asked_gives x.op x.what | false ↦ still_gives (msg.Asked x) (λ k. refl) ]
-  row_gives (msg.Diverted cell) = elim (p == 0) as (λ b. Gives (msg.Diverted cell) (if b then ctrl.on_diverted c cell else ctrl.still c)) [ true ↦ diverted_gives cell | false ↦ still_gives (msg.Diverted cell) (λ k. refl) ]
-  row_gives msg.End = elim (p == 0) as (λ b. Gives msg.End (if b then ctrl.still (record c { end_came = true }) else ctrl.still c)) [ true ↦ (λ k. stays k msg.End (ctrl.still (record c { end_came = true })) refl refl) | false ↦ still_gives msg.End (λ k. refl) ]
+  row_gives : (m : Msg) → GivesTokens m (ctrl.row c p m)
+  row_gives (msg.Asked x) = elim (p == 0) as (λ b. GivesTokens (msg.Asked x) (if b then ctrl.on_asked c x else ctrl.still c)) [ true ↦ asked_gives x.op x.what | false ↦ still_gives (msg.Asked x) (λ k. refl) ]
+  row_gives (msg.Diverted cell) = elim (p == 0) as (λ b. GivesTokens (msg.Diverted cell) (if b then ctrl.on_diverted c cell else ctrl.still c)) [ true ↦ diverted_gives cell | false ↦ still_gives (msg.Diverted cell) (λ k. refl) ]
+  row_gives msg.End = elim (p == 0) as (λ b. GivesTokens msg.End (if b then ctrl.still (record c { end_came = true }) else ctrl.still c)) [ true ↦ (λ k. stays k msg.End (ctrl.still (record c { end_came = true })) refl refl) | false ↦ still_gives msg.End (λ k. refl) ]
   row_gives (msg.Event op cell) = event_gives op cell (ctrl.instance_at c p)
   row_gives msg.Final = by_place (ctrl.instance_at c p)
     where
-      by_place : (o : Option ℕ) → Gives msg.Final (ctrl.on_final c o)
+      by_place : (o : Option ℕ) → GivesTokens msg.Final (ctrl.on_final c o)
       by_place None = still_gives msg.Final (λ k. refl)
       by_place (Some i) = λ k. stays k msg.Final (ctrl.on_final c (Some i)) refl refl
   row_gives m = numbered_gives m (op_of m) refl
 
   -- the finish changes nothing of it
-  pub controller_gives : (m : Msg) → Gives m (ctrl.controller_step c p m)
+  pub controller_gives : (m : Msg) → GivesTokens m (ctrl.controller_step c p m)
   controller_gives m k =
       let did = ctrl.row c p m in
       let own = row_gives m k in

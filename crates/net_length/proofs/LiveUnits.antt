@@ -27,7 +27,7 @@ use Rattle.whole_net.proofs.Fronts.{live_front}
 use Rattle.net_world.specs.declared.config.Config.{Config}
 use Rattle.net_world.specs.declared.node.Node.{Node}
 use Rattle.net_world.specs.Fold.{times, came, went}
-use Rattle.net_world.specs.Input.{IsInput, packet_of}
+use Rattle.net_world.specs.Input.{IsInput, packet_numbered}
 use Rattle.net_world.specs.Log.{arrived, those}
 use Rattle.outline_net.proofs.Outline.{is_sys}
 use Rattle.whole_joined.proofs.Given.{Given}
@@ -89,7 +89,7 @@ module _ {F R : Type 0} (f : Semantics R) (c : Config) (items : List Msg) (is : 
         ap (λ x. finite.get x.live u) (j.shown_is.instances k two few).outline_is ∙ front.fold ∙ ap (runs (S f g).F None) nothing
 
   abbrev unit : ℕ → units.Unit
-  unit p = unit_at f.kind c.site (packet_of items p)
+  unit p = unit_at f.kind c.site (packet_numbered items p)
 
   module _ (k : ℕ) (two : 2 ≤ k) (few : k < n) where
     abbrev live : Records R

@@ -10,7 +10,7 @@ use Rattle.nf_msgs.specs.declared.note.Note.{Note}
 use Rattle.actor_net.specs.Network.{Network}
 use Rattle.net_world.specs.declared.config.Config.{Config}
 use Rattle.net_world.specs.declared.node.Node.{Node}
-use Rattle.net_world.specs.Input.{packet_of}
+use Rattle.net_world.specs.Input.{packet_numbered}
 use Rattle.net_world.specs.Log.{arrived, done, those, done_of}
 use Rattle.net_world.specs.Path.{under_way}
 use Rattle.net_world.specs.Places.{owner}
@@ -28,16 +28,16 @@ pub record IsFront (front all : List ℕ) : Type 0 where
 module _ {R : Type 0} (f : Semantics R) (config : Config) (items : List Msg) where
   -- the packets of a unit among some
   abbrev pub is_of : units.Unit → ℕ → Bool
-  is_of unit p = same_unit (unit_at f.kind config.site (packet_of items p)) unit
+  is_of unit p = same_unit (unit_at f.kind config.site (packet_numbered items p)) unit
 
   -- one instance that nothing moves: what is kept of a unit after these packets, and the outputs to them
   abbrev pub fold : Option R → List ℕ → Option R
   fold kept [] = kept
-  fold kept (p ∷ ps) = fold (kept_after f config.site kept (packet_of items p)) ps
+  fold kept (p ∷ ps) = fold (kept_after f config.site kept (packet_numbered items p)) ps
 
   abbrev pub outputs : Option R → List ℕ → List Output
   outputs kept [] = []
-  outputs kept (p ∷ ps) = output_for f config.site kept (packet_of items p) ∷ outputs (kept_after f config.site kept (packet_of items p)) ps
+  outputs kept (p ∷ ps) = output_for f config.site kept (packet_numbered items p) ∷ outputs (kept_after f config.site kept (packet_numbered items p)) ps
 
   -- the unit's packets that the switch took in, and that were processed, with their outputs
   abbrev pub came : units.Unit → List Note → List ℕ

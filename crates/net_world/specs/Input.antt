@@ -53,8 +53,8 @@ abbrev pub no_packet : Packet
 no_packet = record { nanos = 0; number = 0; src = 0; dst = 0; length = 0; sport = 0; dport = 0; proto = tcp; flags = 0; held = 0; head = [] }
 
 -- the packet with a number, and the order under one
-abbrev pub packet_of : List Msg → ℕ → Packet
-packet_of items number = unwrap_or (find (λ p. p.number == number) (packets items)) no_packet
+abbrev pub packet_numbered : List Msg → ℕ → Packet
+packet_numbered items number = unwrap_or (find (λ p. p.number == number) (packets items)) no_packet
 
 abbrev pub order_numbered : List Msg → ℕ → Option Order
 order_numbered items op = option_map (λ c. c.what) (find (λ c. c.op == op) (commands items))

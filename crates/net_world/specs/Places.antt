@@ -18,7 +18,7 @@ use Rattle.nf_msgs.specs.declared.note.Note.{Note}
 use Rattle.nf_msgs.specs.declared.note.Note.TheVariants.{Arrived, Processed}
 use Rattle.ctrl_node.specs.Controller.{place_of}
 use Rattle.net_world.specs.declared.config.Config.{Config}
-use Rattle.net_world.specs.Input.{packet_of, order_numbered}
+use Rattle.net_world.specs.Input.{packet_numbered, order_numbered}
 use Rattle.net_world.specs.Jobs.{Job}
 use Rattle.net_world.specs.Commands.{is_busy}
 use Rattle.net_world.specs.Log.{installed}
@@ -110,16 +110,16 @@ module _ (config : Config) (items : List Msg) where
 module _ (config : Config) (items : List Msg) (kind : Kind) where
   -- the unit of the packet with a number
   abbrev pub unit_numbered : ℕ → units.Unit
-  unit_numbered number = unit_at kind config.site (packet_of items number)
+  unit_numbered number = unit_at kind config.site (packet_numbered items number)
 
   -- where a packet goes by the rules of the switch: to its member of the share that has its unit, and else to the owner
   abbrev pub goes_to : ℕ → List Note → Option ℕ
   goes_to number log =
-      option_map_or (λ names. member_for config items names (packet_of items number)) (members config items (unit_numbered number) log) (Some (owner config items (unit_numbered number) log))
+      option_map_or (λ names. member_for config items names (packet_numbered items number)) (members config items (unit_numbered number) log) (Some (owner config items (unit_numbered number) log))
 
   -- each packet that came when a share had its unit was processed at its member
   abbrev pub AreAtMembers : List Note → Type 0
-  AreAtMembers log = (before between after : List Note) (number instance : ℕ) (output : Output) (names : List (List ℕ)) → log ≡ before ++ Arrived number ∷ (between ++ Processed number instance output ∷ after) → members config items (unit_numbered number) before ≡ Some names → member_for config items names (packet_of items number) ≡ Some instance
+  AreAtMembers log = (before between after : List Note) (number instance : ℕ) (output : Output) (names : List (List ℕ)) → log ≡ before ++ Arrived number ∷ (between ++ Processed number instance output ∷ after) → members config items (unit_numbered number) before ≡ Some names → member_for config items names (packet_numbered items number) ≡ Some instance
 
 module _ {R : Type 0} (job : Job R) where
   -- the unit of a packet of the job

@@ -24,7 +24,7 @@ use Rattle.net_world.specs.declared.config.Config.{Config}
 use Rattle.net_world.specs.declared.node.Node.{Node}
 use Rattle.net_world.specs.declared.node.Node.TheVariants.{Instance}
 use Rattle.net_world.specs.Commands.{began, answers_of}
-use Rattle.net_world.specs.Input.{packet_of, order_numbered}
+use Rattle.net_world.specs.Input.{packet_numbered, order_numbered}
 use Rattle.net_world.specs.Jobs.{Course, Job}
 use Rattle.net_world.specs.Lives.{lives}
 use Rattle.net_world.specs.Nodes.{node_step}
@@ -66,12 +66,12 @@ before_export op (Exported instance k us ∷ notes) = if k == op then [] else Ex
 before_export op (n ∷ notes) = n ∷ before_export op notes
 
 -- how many units are live at an instance of a world
-abbrev pub number_in : {F R : Type 0} → Option (Node F R) → ℕ
-number_in (Some (Instance i)) = finite.len i.table.live
-number_in other = 0
+abbrev pub live_number : {F R : Type 0} → Option (Node F R) → ℕ
+live_number (Some (Instance i)) = finite.len i.table.live
+live_number other = 0
 
 abbrev pub number_live : {F R : Type 0} → Network (Node F R) Msg Note → ℕ → ℕ
-number_live w i = number_in (slice_get w.nodes (instance_node i))
+number_live w i = live_number (slice_get w.nodes (instance_node i))
 
 -- the instance to which an order moves units
 abbrev pub receiver_of : Config → Option Order → Option ℕ
@@ -81,7 +81,7 @@ receiver_of config other = None
 module _ {R : Type 0} (f : Semantics R) (config : Config) (items : List Msg) where
   -- the function keeps times, and some packet of the unit that was processed came later than at time 0
   abbrev pub is_timed : units.Unit → List Note → Bool
-  is_timed unit log = has_times f.kind && list_any (λ p. nat_le 1 (packet_of items p).nanos) (went f config items unit log)
+  is_timed unit log = has_times f.kind && list_any (λ p. nat_le 1 (packet_numbered items p).nanos) (went f config items unit log)
 
 -- what is weighed of a move in a world
 pub record IsWeighed {F R : Type 0} (job : Job R) (op : ℕ) (w : Network (Node F R) Msg Note) (x : Weighed) : Type 0 where

@@ -31,7 +31,7 @@ use Rattle.ctrl_node.specs.Controller.{ControllerState, controller_step}
 use Rattle.actor_net.specs.Network.{Stepped}
 use Rattle.unit_machine.proofs.Labels.{Each}
 use Rattle.net_world.specs.declared.config.Config.{Config}
-use Rattle.net_world.specs.Input.{packet_of}
+use Rattle.net_world.specs.Input.{packet_numbered}
 use Rattle.net_world.specs.Log.{done}
 use Rattle.outline_net.proofs.InstanceOutline.{IsGenuine}
 use Rattle.nf_net.proofs.OutputLemmas.{Answered, answered_nothing, answered_packet}
@@ -45,7 +45,7 @@ abbrev pub kept_of : {F R : Type 0} → Instance F R → Mark → units.Unit →
 kept_of i m u = finite.get (part i.table (is_live m)) u
 
 abbrev GenuineCell : Config → List Msg → FullCell → Type 0
-GenuineCell c items = IsGenuine c.site (packet_of items)
+GenuineCell c items = IsGenuine c.site (packet_numbered items)
 
 module _ {F R : Type 0} (f : Semantics R) (c : Config) (items : List Msg) where
   pub all_answered : (i : Instance F R) (cells : List FullCell) → i.site ≡ c.site → Each (GenuineCell c items) cells → Answered f c items (live_of i) (done (all_processed f i cells).notes)

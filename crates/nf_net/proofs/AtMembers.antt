@@ -21,7 +21,7 @@ use Rattle.net_world.specs.declared.config.Config.{Config}
 use Rattle.net_world.specs.declared.node.Node.{Node}
 use Rattle.net_world.specs.Commands.{times_installed}
 use Rattle.net_world.specs.Fold.{times, is_of}
-use Rattle.net_world.specs.Input.{IsInput, packet_of}
+use Rattle.net_world.specs.Input.{IsInput, packet_numbered}
 use Rattle.net_world.specs.Log.{arrived, done, installed, those}
 use Rattle.net_world.specs.Nodes.{node_step, node_ready}
 use Rattle.net_world.specs.Places.{first_owner, members, member_for, unit_numbered, AreAtMembers}
@@ -110,7 +110,7 @@ module _ {F R : Type 0} (f : Semantics R) (c : Config) (items : List Msg) (is : 
     at = done_at (S f g) (A f g) (is_sys f g.site g.packet) u j.world (came_by f g w.log u) number (instance_node i) once came (ran front) (ran after) done_there (j.shown_is.every.unit u)
 
     -- the share of the log is that of the network
-    pub its_member : member_for c items names (packet_of items number) ≡ Some i
+    pub its_member : member_for c items names (packet_numbered items number) ≡ Some i
     its_member =
         let r : IsSharedBy g u (first_owner u c.routes) (installed before) names = shared_by g u (first_owner u c.routes) (installed before) names shared in
         let there : Installed_in before r.front r.op = installed_in before r.front r.op r.back r.whole in

@@ -18,7 +18,7 @@ use Rattle.abstract_net.proofs.UnderInst.{heads, inst_from}
 use Rattle.abstract_net.proofs.Under.{Under, inst_keeps}
 use Rattle.abstract_net.proofs.UnderStarts.{seeing}
 use Rattle.abstract_net.proofs.UnderReadings.{Fresh_at, under_fresh}
-use Rattle.abstract_net.proofs.Shares.{Any, Any.Old, Any.New, Share_msg.Shared_on, olds, Sharing, IsSharing, Want_share, Whole, moves_of, ran_of, Seeing_share}
+use Rattle.abstract_net.proofs.Shares.{Any, Any.Old, Any.New, Share_msg.Shared_on, olds, Sharing, IsSharing, Want_share, WholeWorld, moves_of, ran_of, Seeing_share}
 use Rattle.whole_net.proofs.WhereAll.{Came, Where_all, Apart_from_shares, Under_share}
 use Rattle.whole_net.proofs.Readings.{fold_done}
 use Rattle.whole_net.proofs.FrontSteps.{table_seen}
@@ -30,7 +30,7 @@ module _ {R : Type 0} (S : Sys R) (A : Sharing S) (laws : IsSys S) (u : units.Un
   -- where none of a unit ran, none of its packets did
   none_of : (y : ℕ) (ps : List ℕ) → ran_of S A u (at_node y ps) ≡ [] → none_mine S u ps ≡ []
   none_of y [] e = refl
-  none_of y (p ∷ ps) e = elim (same_unit (S.unit_of p) u) as (λ b. (if b then (p, y) ∷ ran_of S A u (at_node y ps) else ran_of S A u (at_node y ps)) ≡ [] → (if b then p ∷ none_mine S u ps else none_mine S u ps) ≡ []) [
+  none_of y (p ∷ ps) e = elim (same_unit (S.packet_unit p) u) as (λ b. (if b then (p, y) ∷ ran_of S A u (at_node y ps) else ran_of S A u (at_node y ps)) ≡ [] → (if b then p ∷ none_mine S u ps else none_mine S u ps) ≡ []) [
     | true ↦ λ k. cc
     | false ↦ λ k. none_of y ps k
   ] e
@@ -54,7 +54,7 @@ module _ {R : Type 0} (S : Sys R) (A : Sharing S) (laws : IsSys S) (u : units.Un
   old_unshared z (In_packet p) q e = cc
   old_unshared z (Asked x) q e = cc
 
-  module _ (ok : IsSharing S A) (w : Whole S A) (k : Came) (g : Global_all S A w) (p y : ℕ) (rest : List (Any R)) (y0 : (y == 0) ≡ false) (y1 : (y == 1) ≡ false) where
+  module _ (ok : IsSharing S A) (w : WholeWorld S A) (k : Came) (g : Global_all S A w) (p y : ℕ) (rest : List (Any R)) (y0 : (y == 0) ≡ false) (y1 : (y == 1) ≡ false) where
     -- a message of a move
     module _ (m : Msg R) (waits : w.link p y ≡ Old m ∷ rest) (some : none_mine S u (inst_step S (w.inst y) m).ran ≢ []) where
       some_ran : ran_of S A u (at_node y (inst_step S (w.inst y) m).ran) ≢ []
@@ -117,5 +117,5 @@ module _ {R : Type 0} (S : Sys R) (A : Sharing S) (laws : IsSys S) (u : units.Un
       fresh_live (Under_share x before b h o i) = fresh_home x before k.diverted h ∙ fold_done S A laws u None w.done
 
     -- a packet of a share
-    pub fresh_shared : (n : ℕ) (home : Bool) (q : ℕ) → w.link p y ≡ New (Shared_on n home q) ∷ rest → same_unit (S.unit_of q) u ≡ true → Where_all S A laws u w k → S.B.at u (if home then (w.inst y).live else w.standby y) ≡ fold S.F None (done_u S u w.done)
+    pub fresh_shared : (n : ℕ) (home : Bool) (q : ℕ) → w.link p y ≡ New (Shared_on n home q) ∷ rest → same_unit (S.packet_unit q) u ≡ true → Where_all S A laws u w k → S.B.at u (if home then (w.inst y).live else w.standby y) ≡ fold S.F None (done_u S u w.done)
     fresh_shared n home q waits on h = table_seen S A laws u ok w k g p y rest y0 y1 h n home q waits on ∙ fold_done S A laws u None w.done

@@ -13,7 +13,7 @@ use Rattle.nf_function.specs.Semantics.{Semantics, packets_in}
 use Rattle.record_table.specs.Table.{either}
 use Rattle.nf_msgs.specs.declared.msg.Msg.{Msg}
 use Rattle.net_world.specs.declared.config.Config.{Config}
-use Rattle.net_world.specs.Input.{packet_of, most_counted, IsInput}
+use Rattle.net_world.specs.Input.{packet_numbered, most_counted, IsInput}
 use Rattle.net_world.specs.Fold.{IsFront, fold}
 use Rattle.whole_joined.proofs.StartJoined.{all_fit}
 
@@ -92,8 +92,8 @@ module _ {R : Type 0} (f : Semantics R) where
     fold_counts kept [] room = omega arith
     fold_counts kept (p ∷ ps) room =
         let transport = (all_fit f c items is p).transport in
-        let next : Option R = Some (f.stepped c.site kept (packet_of items p)).kept in
-        let one : packets_in f next ≡ packets_in f kept + 1 = laws.counts c.site kept (packet_of items p) ∙ min-eq_left (omega (arith, room)) in
+        let next : Option R = Some (f.stepped c.site kept (packet_numbered items p)).kept in
+        let one : packets_in f next ≡ packets_in f kept + 1 = laws.counts c.site kept (packet_numbered items p) ∙ min-eq_left (omega (arith, room)) in
         let rest = fold_counts next ps (omega (arith, room, one)) in
         rw transport (omega (arith, rest, one))
 

@@ -53,7 +53,7 @@ use Rattle.net_world.specs.Input.{IsInput}
 use Rattle.net_world.specs.Nodes.{node_step, node_ready}
 use Rattle.net_world.specs.Fold.{went}
 use Rattle.net_world.specs.Records.{live_in}
-use Rattle.net_world.specs.Verdicts.{before_export, is_timed, exported, number_in, receiver_of}
+use Rattle.net_world.specs.Verdicts.{before_export, is_timed, exported, live_number, receiver_of}
 use Rattle.answer_net.proofs.BusyLemmas.{or_off}
 use Rattle.answer_net.proofs.BusyNodes.{switch_hands, instance_says}
 use Rattle.answer_net.proofs.BusyController.{told_in}
@@ -61,7 +61,7 @@ use Rattle.answer_net.proofs.BusyOperations.{IsBusy}
 use Rattle.answer_net.proofs.BusyRuns.{Busy, same_controller, open_began, plan_is}
 use Rattle.answer_net.proofs.InstallSteps.{is_moving}
 use Rattle.answer_net.proofs.CommandPromises.{run_busy}
-use Rattle.nf_net.proofs.StreamedUnits.{IsOf, pieces_of, Gives, record_timed}
+use Rattle.nf_net.proofs.StreamedUnits.{IsOf, pieces_of, GivesState, record_timed}
 use Rattle.nf_net.proofs.MovedRecords.{streamed_record, taken_give}
 use Rattle.whole_joined.proofs.Given.{Given}
 use Rattle.whole_joined.proofs.Joined.{Label, Joined, node_of}
@@ -266,7 +266,7 @@ module _ (F : Type 0) {R : Type 0} (f : Semantics R) (laws : FunctionLaws f) (al
         timed_is : (op : ℕ) (filter : Filter) → Takes step n w k p (Instance i) (msg.Stream op filter) rest → is_whole f.kind filter ≡ true → (u : units.Unit) (r : R) → filters.takes filter u ≡ true → finite.get i.table.live u ≡ Some r → f.is_timed r ≡ is_timed f c items u w.log
         timed_is op filter takes whole u r on got = record_timed f laws c items (all_fit f c items is) (went f c items u w.log) r (streamed_record f c items is n w j counted k p (omega arith) small takes.sender op filter rest takes.waits whole u y r on got (ap (live_in u) there ∙ got))
 
-        part_of : (op : ℕ) (chunks : List Chunk) (log : List Note) → exported op log ≡ Some (units_in chunks) → before_export op log ≡ w.log → Gives f laws (λ u. is_timed f c items u w.log) chunks → (ps : List Piece) → Each (IsOf (whole_of chunks)) ps → Each (Part log op) ps
+        part_of : (op : ℕ) (chunks : List Chunk) (log : List Note) → exported op log ≡ Some (units_in chunks) → before_export op log ≡ w.log → GivesState f laws (λ u. is_timed f c items u w.log) chunks → (ps : List Piece) → Each (IsOf (whole_of chunks)) ps → Each (Part log op) ps
         part_of op chunks log units_are before gives [] each = tt
         part_of op chunks log units_are before gives (q ∷ qs) each = (
           record {
@@ -315,7 +315,7 @@ module _ (F : Type 0) {R : Type 0} (f : Semantics R) (laws : FunctionLaws f) (al
               destination_is = going.destination_is;
               units = part.units;
               units_are = part.units_are;
-              held = ap number_in (sym (there takes.receiver)) ∙ ap (λ z. number_in (slice_get w.nodes (instance_node z))) (sym same);
+              held = ap live_number (sym (there takes.receiver)) ∙ ap (λ z. live_number (slice_get w.nodes (instance_node z))) (sym same);
               coming = part.total;
               limit = fixed.limit ∙ ap (λ z. slice_index c.limits z) (sym same);
               marked = fixed.marked ∙ ap (λ z. slice_index_or c.marked z false) (sym same);

@@ -74,8 +74,8 @@ module _ {R : Type 0} (f : Semantics R) (laws : FunctionLaws f) (c : Config) (it
   abbrev g : Given
   g = given f c items is
 
-  abbrev unit_of : ℕ → units.Unit
-  unit_of k = unit_numbered c items f.kind k
+  abbrev numbered_unit : ℕ → units.Unit
+  numbered_unit k = unit_numbered c items f.kind k
 
   abbrev is_away : units.Unit → Bool
   is_away u = is_shared_away c items u y log
@@ -84,17 +84,17 @@ module _ {R : Type 0} (f : Semantics R) (laws : FunctionLaws f) (c : Config) (it
   gains notes = all_of (gained c items f.kind y log) notes
 
   -- the unit of a packet is gained, where no share has it elsewhere
-  own_gain : (k : ℕ) → is_away (unit_of k) ≡ false → (if is_away (unit_of k) then [] else unit_of k ∷ []) ≡ unit_of k ∷ []
+  own_gain : (k : ℕ) → is_away (numbered_unit k) ≡ false → (if is_away (numbered_unit k) then [] else numbered_unit k ∷ []) ≡ numbered_unit k ∷ []
   own_gain k off = rw off refl
 
-  no_gain : (k : ℕ) → is_away (unit_of k) ≡ true → (if is_away (unit_of k) then [] else unit_of k ∷ []) ≡ []
+  no_gain : (k : ℕ) → is_away (numbered_unit k) ≡ true → (if is_away (numbered_unit k) then [] else numbered_unit k ∷ []) ≡ []
   no_gain k on = rw on refl
 
   -- A packet that steps a live record
-  after_live : (live : Records R) (site : Site) (cell : FullCell) → site ≡ c.site → Genuine f g cell → (u : units.Unit) → is_some (finite.get (after_packet f site live cell.packet) u) ≡ is_some (finite.get live u) || is_among (unit_of (number cell) ∷ []) u
+  after_live : (live : Records R) (site : Site) (cell : FullCell) → site ≡ c.site → Genuine f g cell → (u : units.Unit) → is_some (finite.get (after_packet f site live cell.packet) u) ≡ is_some (finite.get live u) || is_among (numbered_unit (number cell) ∷ []) u
   after_live live site cell at genuine u =
       let v = unit_at f.kind site cell.packet in
-      let same : v ≡ unit_of (number cell) = ap (λ s. unit_at f.kind s cell.packet) at ∙ ap (unit_at f.kind c.site) genuine.same in
+      let same : v ≡ numbered_unit (number cell) = ap (λ s. unit_at f.kind s cell.packet) at ∙ ap (unit_at f.kind c.site) genuine.same in
       ap is_some (get-after_packet f site live cell.packet u)
       ∙ by_test (same_unit u v) (finite.get live u)
       ∙ ap (λ q. is_some (finite.get live u) || (same_unit u q || false)) same
@@ -105,7 +105,7 @@ module _ {R : Type 0} (f : Semantics R) (laws : FunctionLaws f) (c : Config) (it
 
   -- packets that are processed in order
   abbrev units_of : List FullCell → List units.Unit
-  units_of cells = map (λ cell. unit_of (number cell)) cells
+  units_of cells = map (λ cell. numbered_unit (number cell)) cells
 
   gains_more : (xs ys : List Note) → gains (xs ++ ys) ≡ gains xs ++ gains ys
   gains_more [] ys = refl
@@ -115,7 +115,7 @@ module _ {R : Type 0} (f : Semantics R) (laws : FunctionLaws f) (c : Config) (it
     abbrev is_in : InstanceState F R → units.Unit → Bool
     is_in i u = is_some (finite.get i.table.live u)
 
-    live_processed : (i : InstanceState F R) (m : Mark) (cell : FullCell) → is_live m ≡ true → i.site ≡ c.site → Genuine f g cell → (u : units.Unit) → is_in (processed f i m cell).node u ≡ is_in i u || is_among (unit_of (number cell) ∷ []) u
+    live_processed : (i : InstanceState F R) (m : Mark) (cell : FullCell) → is_live m ≡ true → i.site ≡ c.site → Genuine f g cell → (u : units.Unit) → is_in (processed f i m cell).node u ≡ is_in i u || is_among (numbered_unit (number cell) ∷ []) u
     unfolding processed
     live_processed i mark.Plain cell on at genuine u = after_live i.table.live i.site cell at genuine u
     live_processed i (mark.Pass op) cell on at genuine u = after_live i.table.live i.site cell at genuine u
@@ -126,7 +126,7 @@ module _ {R : Type 0} (f : Semantics R) (laws : FunctionLaws f) (c : Config) (it
     unfolding processed
     standby_processed i op cell = refl
 
-    processed_gains : (i : InstanceState F R) (m : Mark) (cell : FullCell) → gains (processed f i m cell).notes ≡ (if is_away (unit_of (number cell)) then [] else unit_of (number cell) ∷ []) ++ []
+    processed_gains : (i : InstanceState F R) (m : Mark) (cell : FullCell) → gains (processed f i m cell).notes ≡ (if is_away (numbered_unit (number cell)) then [] else numbered_unit (number cell) ∷ []) ++ []
     unfolding processed
     processed_gains i m cell = refl
 
@@ -139,21 +139,21 @@ module _ {R : Type 0} (f : Semantics R) (laws : FunctionLaws f) (c : Config) (it
     all_live i [] at h u = sym (or-false (is_in i u))
     all_live i (cell ∷ cells) at h u =
         let next = (processed f i mark.Plain cell).node in
-        let v = unit_of (number cell) in
+        let v = numbered_unit (number cell) in
         all_live next cells (processed_site i mark.Plain cell ∙ at) h.1 u
         ∙ ap (λ t. t || is_among (units_of cells) u) (live_processed i mark.Plain cell refl at h.0 u)
         ∙ or_assoc (is_in i u) (same_unit u v || false) (is_among (units_of cells) u)
         ∙ ap (λ t. is_in i u || (t || is_among (units_of cells) u)) (sym (sym (or-false (same_unit u v))))
 
-    all_gains : (i : InstanceState F R) (cells : List FullCell) → ((k : ℕ) → is_among (units_of cells) (unit_of k) ≡ true → is_away (unit_of k) ≡ false) → gains (all_processed f i cells).notes ≡ units_of cells
+    all_gains : (i : InstanceState F R) (cells : List FullCell) → ((k : ℕ) → is_among (units_of cells) (numbered_unit k) ≡ true → is_away (numbered_unit k) ≡ false) → gains (all_processed f i cells).notes ≡ units_of cells
     unfolding all_processed
     all_gains i [] free = refl
     all_gains i (cell ∷ cells) free =
         let next = (processed f i mark.Plain cell).node in
-        let v = unit_of (number cell) in
+        let v = numbered_unit (number cell) in
         gains_more (processed f i mark.Plain cell).notes (all_processed f next cells).notes
         ∙ ap (λ us. us ++ gains (all_processed f next cells).notes) (processed_gains i mark.Plain cell ∙ append-nil _ ∙ own_gain (number cell) (free (number cell) (or_left (same_unit v v) (is_among (units_of cells) v) (same_unit_equiv.refl v))))
-        ∙ ap (λ us. v ∷ us) (all_gains next cells (λ k e. free k (or_right (same_unit (unit_of k) v) (is_among (units_of cells) (unit_of k)) e)))
+        ∙ ap (λ us. v ∷ us) (all_gains next cells (λ k e. free k (or_right (same_unit (numbered_unit k) v) (is_among (units_of cells) (numbered_unit k)) e)))
 
     -- An instance
     module _ (i : InstanceState F R) (at : i.site ≡ c.site) where
@@ -163,7 +163,7 @@ module _ {R : Type 0} (f : Semantics R) (laws : FunctionLaws f) (c : Config) (it
 
       -- where it processes packets, no share has a unit elsewhere that is live then
       abbrev pub Free : Step F R → Type 0
-      Free did = (k : ℕ) → is_in did.node (unit_of k) ≡ true → is_away (unit_of k) ≡ false
+      Free did = (k : ℕ) → is_in did.node (numbered_unit k) ≡ true → is_away (numbered_unit k) ≡ false
 
       -- a step that removes nothing
       grows : (m : Msg) (did : Step F R) (vs : List units.Unit) → removed_by m ≡ [] → ((u : units.Unit) → is_in did.node u ≡ is_in i u || is_among vs u) → gains did.notes ≡ vs → Lives m did
@@ -184,12 +184,12 @@ module _ {R : Type 0} (f : Semantics R) (laws : FunctionLaws f) (c : Config) (it
         live_carried : is_live m ≡ true → (d : Decide) → Free (carried f i m cell d) → Lives message (carried f i m cell d)
         live_carried on decide.Process free =
             let own = live_processed i m cell on at genuine in
-            let v = unit_of (number cell) in
+            let v = numbered_unit (number cell) in
             let off = free (number cell) (own v ∙ or_right (is_in i v) (same_unit v v || false) (or_left (same_unit v v) false (same_unit_equiv.refl v))) in
             grows message (processed f i m cell) (v ∷ []) refl own (processed_gains i m cell ∙ append-nil _ ∙ own_gain (number cell) off)
         live_carried on (decide.ProcessAndEvent op) free =
             let own = live_processed i m cell on at genuine in
-            let v = unit_of (number cell) in
+            let v = numbered_unit (number cell) in
             let off = free (number cell) (own v ∙ or_right (is_in i v) (same_unit v v || false) (or_left (same_unit v v) false (same_unit_equiv.refl v))) in
             grows message (and_then (processed f i m cell) (λ j. tells j (msg.Seen op cell.packet))) (v ∷ []) refl own (ap gains (append-nil (processed f i m cell).notes) ∙ processed_gains i m cell ∙ append-nil _ ∙ own_gain (number cell) off)
         live_carried on (decide.Event op) free = stays message (carried f i m cell (decide.Event op)) refl refl refl
@@ -200,13 +200,13 @@ module _ {R : Type 0} (f : Semantics R) (laws : FunctionLaws f) (c : Config) (it
         carry_lives on free = live_carried on (rules.decide i.rules (flow_of i.site cell.packet).0 m) free
 
       -- one of a share, away from its home
-      away_carried : (op : ℕ) (cell : FullCell) → is_away (unit_of (number cell)) ≡ true → (d : Decide) → Lives (msg.Carry (mark.Shared op false) cell) (carried f i (mark.Shared op false) cell d)
+      away_carried : (op : ℕ) (cell : FullCell) → is_away (numbered_unit (number cell)) ≡ true → (d : Decide) → Lives (msg.Carry (mark.Shared op false) cell) (carried f i (mark.Shared op false) cell d)
       away_carried op cell on decide.Process = stays (msg.Carry (mark.Shared op false) cell) (processed f i (mark.Shared op false) cell) refl (standby_processed i op cell) (processed_gains i (mark.Shared op false) cell ∙ append-nil _ ∙ no_gain (number cell) on)
       away_carried op cell on (decide.ProcessAndEvent k) = stays (msg.Carry (mark.Shared op false) cell) (and_then (processed f i (mark.Shared op false) cell) (λ j. tells j (msg.Seen k cell.packet))) refl (standby_processed i op cell) (ap gains (append-nil (processed f i (mark.Shared op false) cell).notes) ∙ processed_gains i (mark.Shared op false) cell ∙ append-nil _ ∙ no_gain (number cell) on)
       away_carried op cell on (decide.Event k) = stays (msg.Carry (mark.Shared op false) cell) (carried f i (mark.Shared op false) cell (decide.Event k)) refl refl refl
       away_carried op cell on (decide.Buffer k) = stays (msg.Carry (mark.Shared op false) cell) (carried f i (mark.Shared op false) cell (decide.Buffer k)) refl refl refl
 
-      pub away_lives : (op : ℕ) (cell : FullCell) → is_away (unit_of (number cell)) ≡ true → Lives (msg.Carry (mark.Shared op false) cell) (on_carry f i (mark.Shared op false) cell)
+      pub away_lives : (op : ℕ) (cell : FullCell) → is_away (numbered_unit (number cell)) ≡ true → Lives (msg.Carry (mark.Shared op false) cell) (on_carry f i (mark.Shared op false) cell)
       unfolding on_carry
       away_lives op cell on = away_carried op cell on (rules.decide i.rules (flow_of i.site cell.packet).0 (mark.Shared op false))
 
@@ -219,7 +219,7 @@ module _ {R : Type 0} (f : Semantics R) (laws : FunctionLaws f) (c : Config) (it
           let all = all_processed f before cells in
           let new = all_live before cells at genuine in
           grows (msg.Fence op) (and_then all (λ j. tells j (msg.Fenced op))) (units_of cells) refl new
-          (ap gains (append-nil all.notes) ∙ all_gains before cells (λ k e. free k (new (unit_of k) ∙ or_right (is_in i (unit_of k)) (is_among (units_of cells) (unit_of k)) e)))
+          (ap gains (append-nil all.notes) ∙ all_gains before cells (λ k e. free k (new (numbered_unit k) ∙ or_right (is_in i (numbered_unit k)) (is_among (units_of cells) (numbered_unit k)) e)))
 
       pub delete_lives : (op : ℕ) (gone : List units.Unit) → Lives (msg.Delete op gone) (instance_step f i (msg.Delete op gone))
       delete_lives op gone u = ap is_some (get-without gone i.table.live u) ∙ taken_out (is_among gone u) (finite.get i.table.live u)

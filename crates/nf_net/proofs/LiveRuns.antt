@@ -35,7 +35,7 @@ use Rattle.net_world.specs.Nodes.{node_step, node_ready}
 use Rattle.net_world.specs.Path.{all_of}
 use Rattle.net_world.specs.Places.{unit_numbered}
 use Rattle.net_world.specs.Records.{live_in, live_at, removed_by}
-use Rattle.net_world.specs.Verdicts.{number_in, number_live}
+use Rattle.net_world.specs.Verdicts.{live_number, number_live}
 use Rattle.whole_joined.proofs.BesideRuns.{its_takes, its_taken}
 use Rattle.whole_joined.proofs.CopyTokens.{token_open}
 use Rattle.whole_joined.proofs.Given.{Given}
@@ -259,7 +259,7 @@ module _ (F : Type 0) {R : Type 0} (f : Semantics R) (laws : FunctionLaws f) (al
           let never : true ≡ false = sym self ∙ all u in
           cc
 
-      by_node : (o : Option (Node F R)) → slice_get (run (node_step f) cs first).nodes (instance_node i) ≡ o → length (by i cs) ≡ number_in o
+      by_node : (o : Option (Node F R)) → slice_get (run (node_step f) cs first).nodes (instance_node i) ≡ o → length (by i cs) ≡ live_number o
       by_node None e = none_here (by i cs) (λ u. h.same i u ∙ ap is_some (ap (live_in u) e))
       by_node (Some (Switch s)) e = none_here (by i cs) (λ u. h.same i u ∙ ap is_some (ap (live_in u) e))
       by_node (Some (Controller s)) e = none_here (by i cs) (λ u. h.same i u ∙ ap is_some (ap (live_in u) e))

@@ -239,11 +239,11 @@ module _ {F R : Type 0} (f : Semantics R) (c : Config) (items : List Msg) (is : 
           has_one (these y) w.log x.num (on x.num here k.holds.share) such
 
     -- a packet of the unit that comes marked as one of a share away from its home
-    pub away_marked : HomesOwn f c items is n count_is w j → (p y : ℕ) (op q : ℕ) (rest : List (Any R)) → (p == 0) && (instance_node y == 0) ≡ false → j.world.link p (instance_node y) ≡ New (Shared_on op false q) ∷ rest → same_unit ((S f g).unit_of q) u ≡ true → is_shared_away c items u y w.log ≡ true
+    pub away_marked : HomesOwn f c items is n count_is w j → (p y : ℕ) (op q : ℕ) (rest : List (Any R)) → (p == 0) && (instance_node y == 0) ≡ false → j.world.link p (instance_node y) ≡ New (Shared_on op false q) ∷ rest → same_unit ((S f g).packet_unit q) u ≡ true → is_shared_away c items u y w.log ≡ true
     away_marked told p y op q rest off waits mine = by_where (j.shown_is.every.unit u)
       where
         by_where : Where → is_shared_away c items u y w.log ≡ true
-        by_where (Apart_from_shares h none) = let never : same_unit ((S f g).unit_of q) u ≡ false = head_none (S f g) u (A f g) j.world p (instance_node y) (New (Shared_on op false q)) rest off waits h.untaken in let bad : true ≡ false = sym mine ∙ never in cc
+        by_where (Apart_from_shares h none) = let never : same_unit ((S f g).packet_unit q) u ≡ false = head_none (S f g) u (A f g) j.world p (instance_node y) (New (Shared_on op false q)) rest off waits h.untaken in let bad : true ≡ false = sym mine ∙ never in cc
         by_where (Under_share x before d h o t) =
             let z = seeing (S f g) (A f g) u x in
             let v = shape (unit_share (S f g) (A f g) z) h.stage in

@@ -96,15 +96,15 @@ module _ {F R : Type 0} (f : Semantics R) (laws : FunctionLaws f) (c : Config) (
   node_is : instance_node y ≡ k
   node_is = omega arith
 
-  abbrev Taken : Msg → Type 0
-  Taken m = IsTaken f g n scene (record { node = k; port = p; message = m })
+  abbrev IsTakenHere : Msg → Type 0
+  IsTakenHere m = IsTaken f g n scene (record { node = k; port = p; message = m })
 
   -- a copy's chunks are of no share
   abbrev pub OfCopy : Msg → Type 0
   OfCopy m = (op : ℕ) (chunks : List Chunk) → m ≡ msg.Standby op chunks → is_first_of c items (order_numbered items op) y ≡ false
 
   abbrev Now : Msg → Type 0
-  Now m = Taken m → OfCopy m → Free f laws c items is y w.log i site (instance_step f i m) → Lives f laws c items is y w.log i site m (instance_step f i m)
+  Now m = IsTakenHere m → OfCopy m → Free f laws c items is y w.log i site (instance_step f i m) → Lives f laws c items is y w.log i site m (instance_step f i m)
 
   shared_lives : (op : ℕ) (home : Bool) (cell : FullCell) → Genuine f g cell → Now (msg.Carry (mark.Shared op home) cell)
   shared_lives op true cell e t copied free = carry_lives f laws c items is y w.log i site (mark.Shared op true) cell e refl free
@@ -131,5 +131,5 @@ module _ {F R : Type 0} (f : Semantics R) (laws : FunctionLaws f) (c : Config) (
     sync = λ home op chunks good t copied free. sync_lives f laws c items is y w.log i site home op chunks good (first_synced f c items is n count_is w j apart b p y op home (entries f chunks) t.rest no_input (ap (j.world.link p) node_is ∙ t.head not_input (New (S_sync op home (entries f chunks))) refl));
   }
 
-  pub step_lives : (m : Msg) → Taken m → OfCopy m → Free f laws c items is y w.log i site (instance_step f i m) → Lives f laws c items is y w.log i site m (instance_step f i m)
+  pub step_lives : (m : Msg) → IsTakenHere m → OfCopy m → Free f laws c items is y w.log i site (instance_step f i m) → Lives f laws c items is y w.log i site m (instance_step f i m)
   step_lives m t = by_message f g Now p y rows m t.label t

@@ -3,7 +3,7 @@ use Rattle.std.proofs.Common.{◌≡◌, ◌≢◌, ℕ, ◌+◌, ◌≤◌, Boo
 use Rattle.std.specs.Prelude.{if◌then◌else◌, ◌&&◌, ◌==◌}
 use Rattle.std.proofs.lemmas.Bool.Decides.{nat_tests, Decides-eqb}
 use Rattle.unit_machine.proofs.Real.{add}
-use Rattle.unit_machine.proofs.Stages.{times, Order}
+use Rattle.unit_machine.proofs.Stages.{times, IsOrderedAs}
 use Rattle.unit_machine.proofs.Loose.{times-append}
 use Rattle.unit_machine.proofs.Ends.{same_of}
 use Rattle.share_machine.proofs.Share.{Ran, Item, Item.Carry, UnitShare}
@@ -21,7 +21,7 @@ use Rattle.abstract_net.proofs.UnderInst.{did_at, heads, inst_from}
 use Rattle.abstract_net.proofs.Under.{Under, inst_keeps}
 use Rattle.abstract_net.proofs.UnderStarts.{seeing}
 use Rattle.abstract_net.proofs.UnderReadings.{all_done}
-use Rattle.abstract_net.proofs.Shares.{Any, Any.Old, Any.New, Share_msg, Share_msg.Shared_on, Share_msg.S_sync, olds, Sharing, IsSharing, Open_share, Want_share, member_step, Whole, moves_of, ran_of, Seeing_share}
+use Rattle.abstract_net.proofs.Shares.{Any, Any.Old, Any.New, Share_msg, Share_msg.Shared_on, Share_msg.S_sync, olds, Sharing, IsSharing, Open_share, Want_share, member_step, WholeWorld, moves_of, ran_of, Seeing_share}
 use Rattle.whole_net.proofs.WhereAll.{Came, Where_all, Apart_from_shares, Under_share}
 use Rattle.whole_net.proofs.Readings.{Its_share, its_share}
 use Rattle.whole_net.proofs.PlacesAll.{ran_by, Processes, As_moves, At_member, processes_all}
@@ -81,30 +81,30 @@ module _ {R : Type 0} (f : UnitShare R) where
 
 module _ {R : Type 0} (S : Sys R) (A : Sharing S) (laws : IsSys S) (u : units.Unit) where
   -- a packet of the unit where an instance processes some
-  ran_there : (y q : ℕ) → same_unit (S.unit_of q) u ≡ true → (front back : List ℕ) → (before : List Ran) × (after : List Ran) × (ran_of S A u (at_node y (front ++ q ∷ back)) ≡ before ++ (q, y) ∷ after)
+  ran_there : (y q : ℕ) → same_unit (S.packet_unit q) u ≡ true → (front back : List ℕ) → (before : List Ran) × (after : List Ran) × (ran_of S A u (at_node y (front ++ q ∷ back)) ≡ before ++ (q, y) ∷ after)
   ran_there y q mine [] back = ([], ran_of S A u (at_node y back), rw mine refl)
   ran_there y q mine (p ∷ front) back =
       let r = ran_there y q mine front back in
-      elim (same_unit (S.unit_of p) u) as (λ b. (before : List Ran) × (after : List Ran) × ((if b then (p, y) ∷ ran_of S A u (at_node y (front ++ q ∷ back)) else ran_of S A u (at_node y (front ++ q ∷ back))) ≡ before ++ (q, y) ∷ after)) [
+      elim (same_unit (S.packet_unit p) u) as (λ b. (before : List Ran) × (after : List Ran) × ((if b then (p, y) ∷ ran_of S A u (at_node y (front ++ q ∷ back)) else ran_of S A u (at_node y (front ++ q ∷ back))) ≡ before ++ (q, y) ∷ after)) [
         | true ↦ ((p, y) ∷ r.0, r.1, ap (λ v. (p, y) ∷ v) r.2)
         | false ↦ r
       ]
 
-  pub mine_there : (q : ℕ) → same_unit (S.unit_of q) u ≡ true → (front back : List ℕ) → none_mine S u (front ++ q ∷ back) ≢ []
+  pub mine_there : (q : ℕ) → same_unit (S.packet_unit q) u ≡ true → (front back : List ℕ) → none_mine S u (front ++ q ∷ back) ≢ []
   mine_there q mine [] back none = let some : q ∷ none_mine S u back ≡ [] = rw mine at none in cc
-  mine_there q mine (p ∷ front) back none = elim (same_unit (S.unit_of p) u) as (λ b. (if b then p ∷ none_mine S u (front ++ q ∷ back) else none_mine S u (front ++ q ∷ back)) ≡ [] → ⊥) [
+  mine_there q mine (p ∷ front) back none = elim (same_unit (S.packet_unit p) u) as (λ b. (if b then p ∷ none_mine S u (front ++ q ∷ back) else none_mine S u (front ++ q ∷ back)) ≡ [] → ⊥) [
     | true ↦ λ never. cc
     | false ↦ λ rest. mine_there q mine front back rest
   ] none
 
   -- A packet of the unit that came while its packets were diverted, once, and was done
-  module _ (w : Whole S A) (k : Came) (p y : ℕ) (once : times p k.all ≤ 1) (came : 1 ≤ times p k.diverted) (front back : List Ran) (there : ran_of S A u w.done ≡ front ++ (p, y) ∷ back) where
+  module _ (w : WholeWorld S A) (k : Came) (p y : ℕ) (once : times p k.all ≤ 1) (came : 1 ≤ times p k.diverted) (front back : List Ran) (there : ran_of S A u w.done ≡ front ++ (p, y) ∷ back) where
     pub record Done_at : Type 0 where
       pub share : Open_share
       pub its : Its_share S A laws u w share
       pub at : y ≡ A.member share.members p
 
-    done_under : (x : Want_share) (before : List ℕ) (b : Bool) → Under S A (seeing S A u x) w before k.diverted → Order b (before ++ k.diverted) k.all → Done_at
+    done_under : (x : Want_share) (before : List ℕ) (b : Bool) → Under S A (seeing S A u x) w before k.diverted → IsOrderedAs b (before ++ k.diverted) k.all → Done_at
     done_under x before b h o = record { share = its_share S A laws u w x before k.diverted h; its = record { found = h.holds.share; takes = h.covered; home_in = h.is.home_in }; at = by_place (stands parted.before (served fr parted.since) front (p, y) back (sym parted.done ∙ sym (all_done S A (seeing S A u x) w before k.diverted h) ∙ there)) }
       where
         fr : UnitShare R
@@ -138,7 +138,7 @@ module _ {R : Type 0} (S : Sys R) (A : Sharing S) (laws : IsSys S) (u : units.Un
   unseen_ran es live standby m off = refl
 
   -- under a share that doesn't divert yet it is home that processes
-  module _ (ok : IsSharing S A) (w : Whole S A) (x : Want_share) (before since : List ℕ) (h : Under S A (seeing S A u x) w before since) (g : Global_all S A w) (y p : ℕ) (m : Any R) (rest : List (Any R)) (y0 : (y == 0) ≡ false) (y1 : (y == 1) ≡ false) (waits : w.link p y ≡ m ∷ rest) (some : ran_of S A u (at_node y (did_at S A laws (seeing S A u x) w y m).ran) ≢ []) (off : (shape (unit_share S A (seeing S A u x)) h.stage).diverts ≡ false) where
+  module _ (ok : IsSharing S A) (w : WholeWorld S A) (x : Want_share) (before since : List ℕ) (h : Under S A (seeing S A u x) w before since) (g : Global_all S A w) (y p : ℕ) (m : Any R) (rest : List (Any R)) (y0 : (y == 0) ≡ false) (y1 : (y == 1) ≡ false) (waits : w.link p y ≡ m ∷ rest) (some : ran_of S A u (at_node y (did_at S A laws (seeing S A u x) w y m).ran) ≢ []) (off : (shape (unit_share S A (seeing S A u x)) h.stage).diverts ≡ false) where
     abbrev z : Seeing_share
     z = seeing S A u x
 
@@ -166,12 +166,12 @@ module _ {R : Type 0} (S : Sys R) (A : Sharing S) (laws : IsSys S) (u : units.Un
     undiverted_home = by_item (share_seen S A z y m) ran (heads S A laws z w (shape fr h.stage) h.holds (to_members fr h.is h.stage h.fits) y p m rest y0 y1 waits)
 
   -- Where an instance processes a packet of the unit: as moves know it, at the home of its share, or at its member while its packets are diverted
-  pub data Processes_one (w : Whole S A) (y q : ℕ) : Type 0 where
+  pub data Processes_one (w : WholeWorld S A) (y q : ℕ) : Type 0 where
     By_move : May_run S (moves_of S A w) u y → Processes_one w y q
     By_home : (e : Open_share) → Its_share S A laws u w e → (w.target u ≡ 1) ⊎ (w.target u ≡ e.home) → y ≡ e.home → Processes_one w y q
     By_member : (e : Open_share) → Its_share S A laws u w e → w.target u ≡ 1 → y ≡ A.member e.members q → Processes_one w y q
 
-  module _ (ok : IsSharing S A) (w : Whole S A) (k : Came) (g : Global_all S A w) (p y : ℕ) (m : Any R) (rest : List (Any R)) (y0 : (y == 0) ≡ false) (y1 : (y == 1) ≡ false) (waits : w.link p y ≡ m ∷ rest) (q : ℕ) (mine : same_unit (S.unit_of q) u ≡ true) (front back : List ℕ) (ran : ran_by S A laws w y m ≡ front ++ q ∷ back) where
+  module _ (ok : IsSharing S A) (w : WholeWorld S A) (k : Came) (g : Global_all S A w) (p y : ℕ) (m : Any R) (rest : List (Any R)) (y0 : (y == 0) ≡ false) (y1 : (y == 1) ≡ false) (waits : w.link p y ≡ m ∷ rest) (q : ℕ) (mine : same_unit (S.packet_unit q) u ≡ true) (front back : List ℕ) (ran : ran_by S A laws w y m ≡ front ++ q ∷ back) where
     some_mine : none_mine S u (ran_by S A laws w y m) ≢ []
     some_mine = subst (λ v. none_mine S u v ≢ []) (sym ran) (mine_there q mine front back)
 

@@ -25,7 +25,7 @@ use Rattle.abstract_net.proofs.Net.{Mv, Sys, IsSys}
 use Rattle.abstract_net.proofs.Rest.{Nothing_of}
 use Rattle.abstract_net.proofs.Readings as readings
 use Rattle.abstract_net.proofs.Units.{Where}
-use Rattle.abstract_net.proofs.Shares.{Any, Any.Old, olds, Sharing, Whole, moves_of}
+use Rattle.abstract_net.proofs.Shares.{Any, Any.Old, olds, Sharing, WholeWorld, moves_of}
 use Rattle.whole_net.proofs.WhereAll.{Came, Where_all, Apart_from_shares, Under_share}
 use Rattle.net_world.specs.declared.config.Config.{Config}
 use Rattle.net_world.specs.declared.node.Node.{Node}
@@ -40,11 +40,11 @@ use Rattle.whole_joined.proofs.RunsJoined.{done_same}
 use Rattle.whole_joined.proofs.StartJoined.{given}
 use Rattle.path_net.proofs.RecordPromises.{record_is}
 use Rattle.nf_net.proofs.FoldLemmas.{fold_is}
-use Rattle.nf_net.proofs.StreamedUnits.{Gives, selected_give}
+use Rattle.nf_net.proofs.StreamedUnits.{GivesState, selected_give}
 
 module _ {R : Type 0} (S : Sys R) (laws : IsSys S) (u : units.Unit) where
   -- no share has a unit that is asked for
-  stream_apart : (A : Sharing S) (w : Whole S A) (k : Came) → Where_all S A laws u w k → (i y n : ℕ) (g : Filter) (rest : List (Any R)) → (i == 0) && (y == 0) ≡ false → w.link i y ≡ Old (Mv g (M_stream n)) ∷ rest → S.takes g u ≡ true → Where S laws u (moves_of S A w) k.all k.bared
+  stream_apart : (A : Sharing S) (w : WholeWorld S A) (k : Came) → Where_all S A laws u w k → (i y n : ℕ) (g : Filter) (rest : List (Any R)) → (i == 0) && (y == 0) ≡ false → w.link i y ≡ Old (Mv g (M_stream n)) ∷ rest → S.takes g u ≡ true → Where S laws u (moves_of S A w) k.all k.bared
   stream_apart A w k (Apart_from_shares h none) i y n g rest off waits on = h.is
   stream_apart A w k (Under_share x before b h o f) i y n g rest off waits on =
       let nothing = (subst (λ ms. Each (Nothing_of S u i) (olds ms)) waits (h.labels i y off)).0 in
@@ -90,6 +90,6 @@ module _ {R : Type 0} (filter : Filter) where
   both false o r e = cc
 
   -- what an instance gives of them, where a test tells which of them have a time
-  pub taken_give : (f : Semantics R) (laws : FunctionLaws f) (live : Records R) (test : units.Unit → Bool) → ((u : units.Unit) (r : R) → takes filter u ≡ true → finite.get live u ≡ Some r → f.is_timed r ≡ test u) → Gives f laws test (chunks_of f (taken_by filter live))
-  taken_give f laws live test h = subst (λ m. Gives f laws test (chunks_of f m)) (taken_twice live) (selected_give f laws filter (taken_by filter live) test (λ u r there.
+  pub taken_give : (f : Semantics R) (laws : FunctionLaws f) (live : Records R) (test : units.Unit → Bool) → ((u : units.Unit) (r : R) → takes filter u ≡ true → finite.get live u ≡ Some r → f.is_timed r ≡ test u) → GivesState f laws test (chunks_of f (taken_by filter live))
+  taken_give f laws live test h = subst (λ m. GivesState f laws test (chunks_of f m)) (taken_twice live) (selected_give f laws filter (taken_by filter live) test (λ u r there.
       let it = both (takes filter u) (finite.get live u) r (sym (got_taken live u) ∙ there) in h u r it.0 it.1))

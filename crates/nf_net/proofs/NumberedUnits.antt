@@ -15,7 +15,7 @@ use Rattle.nf_msgs.specs.declared.note.Note.{Note}
 use Rattle.nf_msgs.specs.declared.note.Note.TheVariants as note
 use Rattle.unit_machine.proofs.Labels.{Each}
 use Rattle.net_world.specs.declared.config.Config.{Config}
-use Rattle.net_world.specs.Input.{packets, packet_of, no_packet, IsSteered, IsInput}
+use Rattle.net_world.specs.Input.{packets, packet_numbered, no_packet, IsSteered, IsInput}
 use Rattle.net_world.specs.Places.{unit_numbered}
 use Rattle.outline_net.proofs.FiltersApart.{flow_fits, unit_fits}
 use Rattle.outline_net.proofs.StateOutline.{all_each}
@@ -42,7 +42,7 @@ module _ {R : Type 0} (f : Semantics R) (c : Config) (items : List Msg) (is : Is
   ]
 
   pub units_fit : (k : ℕ) → unit_fits f.kind (unit_numbered c items f.kind k) ≡ true
-  units_fit k = unit_is_fit f.kind (flow_of c.site (packet_of items k)).0 (flow_found k (packets items) (all_each (IsSteered c.site) (packets items) is.steered))
+  units_fit k = unit_is_fit f.kind (flow_of c.site (packet_numbered items k)).0 (flow_found k (packets items) (all_each (IsSteered c.site) (packets items) is.steered))
 
 -- where a packet that was noted stands among those that ran
 pub record Ran_there (ran : List ℕ) (k : ℕ) : Type 0 where

@@ -20,7 +20,7 @@ use Rattle.unit_machine.proofs.Labels.{Each, each-append}
 use Rattle.abstract_net.proofs.Net.{Sys}
 use Rattle.abstract_net.proofs.Rest.{none_mine}
 use Rattle.net_world.specs.declared.config.Config.{Config}
-use Rattle.net_world.specs.Input.{packet_of}
+use Rattle.net_world.specs.Input.{packet_numbered}
 use Rattle.net_world.specs.Log.{Done, done, done_of}
 use Rattle.net_world.specs.Fold.{is_of, fold, outputs}
 use Rattle.outline_net.proofs.Outline.{number, ran_in, sys, is_sys}
@@ -28,7 +28,7 @@ use Rattle.outline_net.proofs.InstanceOutline.{IsGenuine, after_same}
 
 -- a packet of TCP or UDP has the number
 abbrev pub IsCarried : List Msg → ℕ → Type 0
-IsCarried items p = is_transport (packet_of items p).proto ≡ true
+IsCarried items p = is_transport (packet_numbered items p).proto ≡ true
 
 done_of-append : (mine : ℕ → Bool) (xs ys : List Done) → done_of mine (xs ++ ys) ≡ done_of mine xs ++ done_of mine ys
 done_of-append mine [] ys = refl
@@ -58,7 +58,7 @@ module _ {R : Type 0} (f : Semantics R) (c : Config) (items : List Msg) where
 
   outputs-append : (kept : Option R) (ps qs : List ℕ) → outputs f c items kept (ps ++ qs) ≡ outputs f c items kept ps ++ outputs f c items (fold f c items kept ps) qs
   outputs-append kept [] qs = refl
-  outputs-append kept (p ∷ ps) qs = ap (λ v. output_for f c.site kept (packet_of items p) ∷ v) (outputs-append (kept_after f c.site kept (packet_of items p)) ps qs)
+  outputs-append kept (p ∷ ps) qs = ap (λ v. output_for f c.site kept (packet_numbered items p) ∷ v) (outputs-append (kept_after f c.site kept (packet_numbered items p)) ps qs)
 
   -- nothing is done
   pub answered_nothing : (kept : units.Unit → Option R) → Answered kept []
@@ -85,28 +85,28 @@ module _ {R : Type 0} (f : Semantics R) (c : Config) (items : List Msg) where
       by_done u (e ∷ es) some is = subst (λ o. map (λ d. d.output) (e ∷ es) ≡ outputs f c items o (map (λ d. d.number) (e ∷ es))) (some (λ none. cc)) is
 
   -- one packet, and what is done after it
-  pub answered_next : (kept after : units.Unit → Option R) (d : Done) (ds : List Done) → IsCarried items d.number → ((u : units.Unit) → is_of f c items u d.number ≡ true → d.output ≡ output_for f c.site (kept u) (packet_of items d.number)) → ((u : units.Unit) → after u ≡ (if is_of f c items u d.number then kept_after f c.site (kept u) (packet_of items d.number) else kept u)) → Answered after ds → Answered kept (d ∷ ds)
+  pub answered_next : (kept after : units.Unit → Option R) (d : Done) (ds : List Done) → IsCarried items d.number → ((u : units.Unit) → is_of f c items u d.number ≡ true → d.output ≡ output_for f c.site (kept u) (packet_numbered items d.number)) → ((u : units.Unit) → after u ≡ (if is_of f c items u d.number then kept_after f c.site (kept u) (packet_numbered items d.number) else kept u)) → Answered after ds → Answered kept (d ∷ ds)
   answered_next kept after d ds carried output left rest = record {
     carried = (carried, rest.carried);
     same = λ u.
-        elim (is_of f c items u d.number) as (λ b. is_of f c items u d.number ≡ b → after u ≡ (if b then kept_after f c.site (kept u) (packet_of items d.number) else kept u) → map (λ e. e.output) (if b then d ∷ done_of (is_of f c items u) ds else done_of (is_of f c items u) ds) ≡ outputs f c items (kept u) (map (λ e. e.number) (if b then d ∷ done_of (is_of f c items u) ds else done_of (is_of f c items u) ds))) [
-          | true ↦ λ e k. ap (λ o. o ∷ answers u ds) (output u e) ∙ ap (λ v. output_for f c.site (kept u) (packet_of items d.number) ∷ v) (rest.same u ∙ ap (λ o. outputs f c items o (numbers u ds)) k)
+        elim (is_of f c items u d.number) as (λ b. is_of f c items u d.number ≡ b → after u ≡ (if b then kept_after f c.site (kept u) (packet_numbered items d.number) else kept u) → map (λ e. e.output) (if b then d ∷ done_of (is_of f c items u) ds else done_of (is_of f c items u) ds) ≡ outputs f c items (kept u) (map (λ e. e.number) (if b then d ∷ done_of (is_of f c items u) ds else done_of (is_of f c items u) ds))) [
+          | true ↦ λ e k. ap (λ o. o ∷ answers u ds) (output u e) ∙ ap (λ v. output_for f c.site (kept u) (packet_numbered items d.number) ∷ v) (rest.same u ∙ ap (λ o. outputs f c items o (numbers u ds)) k)
           | false ↦ λ e k. rest.same u ∙ ap (λ o. outputs f c items o (numbers u ds)) k
         ] refl (left u);
   }
 
   abbrev net : Sys R
-  net = sys f c.site (packet_of items)
+  net = sys f c.site (packet_numbered items)
 
   abbrev live_in : Records R → units.Unit → Option R
   live_in live u = finite.get live u
 
-  module _ (live : Records R) (at : Site) (cell : FullCell) (at_is : at ≡ c.site) (g : IsGenuine c.site (packet_of items) cell) where
+  module _ (live : Records R) (at : Site) (cell : FullCell) (at_is : at ≡ c.site) (g : IsGenuine c.site (packet_numbered items) cell) where
     abbrev n : ℕ
     n = number cell
 
     abbrev unit : units.Unit
-    unit = unit_at f.kind c.site (packet_of items n)
+    unit = unit_at f.kind c.site (packet_numbered items n)
 
     abbrev output : Output
     output = output_for f at (finite.get live (unit_at f.kind at cell.packet)) cell.packet
@@ -117,18 +117,18 @@ module _ {R : Type 0} (f : Semantics R) (c : Config) (items : List Msg) where
     carried : IsCarried items n
     carried = subst (λ p. is_transport p.proto ≡ true) g.same g.transport
 
-    output_is : (u : units.Unit) → same_unit unit u ≡ true → output ≡ output_for f c.site (finite.get live u) (packet_of items n)
+    output_is : (u : units.Unit) → same_unit unit u ≡ true → output ≡ output_for f c.site (finite.get live u) (packet_numbered items n)
     output_is u e =
         ap (λ s. output_for f s (finite.get live (unit_at f.kind s cell.packet)) cell.packet) at_is
         ∙ ap (λ p. output_for f c.site (finite.get live (unit_at f.kind c.site p)) p) g.same
-        ∙ ap (λ v. output_for f c.site (finite.get live v) (packet_of items n)) (same_unit-true unit u e)
+        ∙ ap (λ v. output_for f c.site (finite.get live v) (packet_numbered items n)) (same_unit-true unit u e)
 
-    left : (u : units.Unit) → finite.get after u ≡ (if same_unit unit u then kept_after f c.site (finite.get live u) (packet_of items n) else finite.get live u)
+    left : (u : units.Unit) → finite.get after u ≡ (if same_unit unit u then kept_after f c.site (finite.get live u) (packet_numbered items n) else finite.get live u)
     left u =
-        ap (λ t. finite.get t u) (after_same f c.site (packet_of items) live at cell at_is g)
-        ∙ (is_sys f c.site (packet_of items)).written u unit (f.stepped c.site (finite.get live unit) (packet_of items n)).kept live
-        ∙ elim (same_unit unit u) as (λ b. same_unit unit u ≡ b → (if b then Some (f.stepped c.site (finite.get live unit) (packet_of items n)).kept else finite.get live u) ≡ (if b then kept_after f c.site (finite.get live u) (packet_of items n) else finite.get live u)) [
-          | true ↦ λ e. let transport = carried in rw transport (ap (λ v. Some (f.stepped c.site (finite.get live v) (packet_of items n)).kept) (same_unit-true unit u e))
+        ap (λ t. finite.get t u) (after_same f c.site (packet_numbered items) live at cell at_is g)
+        ∙ (is_sys f c.site (packet_numbered items)).written u unit (f.stepped c.site (finite.get live unit) (packet_numbered items n)).kept live
+        ∙ elim (same_unit unit u) as (λ b. same_unit unit u ≡ b → (if b then Some (f.stepped c.site (finite.get live unit) (packet_numbered items n)).kept else finite.get live u) ≡ (if b then kept_after f c.site (finite.get live u) (packet_numbered items n) else finite.get live u)) [
+          | true ↦ λ e. let transport = carried in rw transport (ap (λ v. Some (f.stepped c.site (finite.get live v) (packet_numbered items n)).kept) (same_unit-true unit u e))
           | false ↦ λ e. refl
         ] refl
 

@@ -27,7 +27,7 @@ use Rattle.abstract_net.proofs.Rest.{none_mine, done_u}
 use Rattle.abstract_net.proofs.Shares.{Old, New, Shared_on}
 use Rattle.net_world.specs.declared.config.Config.{Config}
 use Rattle.net_world.specs.declared.node.Node.{Node}
-use Rattle.net_world.specs.Input.{packet_of, IsInput}
+use Rattle.net_world.specs.Input.{packet_numbered, IsInput}
 use Rattle.net_world.specs.Log.{done}
 use Rattle.net_world.specs.Nodes.{node_step, node_ready}
 use Rattle.net_world.specs.Fold.{is_of, fold, outputs, went, given as given_of}
@@ -94,15 +94,15 @@ module _ {F R : Type 0} (f : Semantics R) (c : Config) (items : List Msg) (is : 
     off = grind (arith, nat_tests, two)
 
     -- where an instance processes packets of a unit, its record is what is kept
-    kept_is : (m : Msg) → Takes_it k p m → (a : net.Msg R) (notes : List Note) → shown f (g f c items is) m ≡ Some (Old a) → filter_map ran_in notes ≡ (inst_step (S f (g f c items is)) (outline_instance f c.site (packet_of items) i) a).ran → (u : units.Unit) → numbers f c items u (done notes) ≢ [] → live_of i u ≡ so_far f c items is x.log u
+    kept_is : (m : Msg) → Takes_it k p m → (a : net.Msg R) (notes : List Note) → shown f (g f c items is) m ≡ Some (Old a) → filter_map ran_in notes ≡ (inst_step (S f (g f c items is)) (outline_instance f c.site (packet_numbered items) i) a).ran → (u : units.Unit) → numbers f c items u (done notes) ≢ [] → live_of i u ≡ so_far f c items is x.log u
     kept_is m t a notes seen ran u some =
         let at = are.instances k two t.receiver in
         let its : numbers f c items u (done notes) ≡ none_mine (S f (g f c items is)) u (inst_step (S f (g f c items is)) (x.world.inst k) a).ran = numbers_ran f c items u notes ∙ ap (none_mine (S f (g f c items is)) u) (ran ∙ ap (λ y. (inst_step (S f (g f c items is)) y a).ran) at.outline_is) in
         ap (λ y. finite.get y.live u) at.outline_is
-        ∙ fresh_live (S f (g f c items is)) (A f (g f c items is)) (is_sys f c.site (packet_of items)) u (is_sharing f c.site (packet_of items)) x.world (came_by f (g f c items is) x.log u) are.every.global p k t.rest k0 k1 a (t.head off (Old a) seen) (λ none. some (its ∙ none)) (are.every.unit u)
+        ∙ fresh_live (S f (g f c items is)) (A f (g f c items is)) (is_sys f c.site (packet_numbered items)) u (is_sharing f c.site (packet_numbered items)) x.world (came_by f (g f c items is) x.log u) are.every.global p k t.rest k0 k1 a (t.head off (Old a) seen) (λ none. some (its ∙ none)) (are.every.unit u)
         ∙ sym (fold_same f c items is u x.log x.world.done are.done_is)
 
-    fresh_at : (m : Msg) → Takes_it k p m → (a : net.Msg R) (notes : List Note) → shown f (g f c items is) m ≡ Some (Old a) → filter_map ran_in notes ≡ (inst_step (S f (g f c items is)) (outline_instance f c.site (packet_of items) i) a).ran → Answered f c items (live_of i) (done notes) → Now notes
+    fresh_at : (m : Msg) → Takes_it k p m → (a : net.Msg R) (notes : List Note) → shown f (g f c items is) m ≡ Some (Old a) → filter_map ran_in notes ≡ (inst_step (S f (g f c items is)) (outline_instance f c.site (packet_numbered items) i) a).ran → Answered f c items (live_of i) (done notes) → Now notes
     fresh_at m t a notes seen ran ok = answered_by f c items (live_of i) (so_far f c items is x.log) (done notes) ok (kept_is m t a notes seen ran)
 
     -- a packet of a share, by the record in the table that its mark names
@@ -120,7 +120,7 @@ module _ {F R : Type 0} (f : Semantics R) (c : Config) (items : List Msg) (is : 
       shared_is : (u : units.Unit) → numbers f c items u (done (on_carry f i (mark.Shared op home) cell).notes) ≢ [] → kept_of i (mark.Shared op home) u ≡ so_far f c items is x.log u
       shared_is u some =
           table_is u
-          ∙ fresh_shared (S f (g f c items is)) (A f (g f c items is)) (is_sys f c.site (packet_of items)) u (is_sharing f c.site (packet_of items)) x.world (came_by f (g f c items is) x.log u) are.every.global p k t.rest k0 k1 op home (number cell) (t.head off (New (Shared_on op home (number cell))) refl) (mine_of (is_of f c items u (number cell)) refl) (are.every.unit u)
+          ∙ fresh_shared (S f (g f c items is)) (A f (g f c items is)) (is_sys f c.site (packet_numbered items)) u (is_sharing f c.site (packet_numbered items)) x.world (came_by f (g f c items is) x.log u) are.every.global p k t.rest k0 k1 op home (number cell) (t.head off (New (Shared_on op home (number cell))) refl) (mine_of (is_of f c items u (number cell)) refl) (are.every.unit u)
           ∙ sym (fold_same f c items is u x.log x.world.done are.done_is)
         where
           -- its packet alone is noted
@@ -137,14 +137,14 @@ module _ {F R : Type 0} (f : Semantics R) (c : Config) (items : List Msg) (is : 
     instance_answers : (m : Msg) → Takes_it k p m → Now (instance_step f i m).notes
     instance_answers (msg.Carry mark.Plain cell) t =
         let at = are.instances k two t.receiver in
-        fresh_at (msg.Carry mark.Plain cell) t (net.Carry_on (number cell)) (on_carry f i mark.Plain cell).notes refl (carry_follows f c.site (packet_of items) (place (g f c items is)) i cell at.rules t.label.1).ran (carry_answered f c items i mark.Plain cell at.rules.at t.label.1)
+        fresh_at (msg.Carry mark.Plain cell) t (net.Carry_on (number cell)) (on_carry f i mark.Plain cell).notes refl (carry_follows f c.site (packet_numbered items) (place (g f c items is)) i cell at.rules t.label.1).ran (carry_answered f c items i mark.Plain cell at.rules.at t.label.1)
     instance_answers (msg.Carry (mark.Pass op) cell) t =
         let at = are.instances k two t.receiver in
-        fresh_at (msg.Carry (mark.Pass op) cell) t (net.Pass_on (number cell)) (on_carry f i (mark.Pass op) cell).notes refl (pass_follows f c.site (packet_of items) (place (g f c items is)) i op cell at.rules t.label.1).ran (carry_answered f c items i (mark.Pass op) cell at.rules.at t.label.1)
+        fresh_at (msg.Carry (mark.Pass op) cell) t (net.Pass_on (number cell)) (on_carry f i (mark.Pass op) cell).notes refl (pass_follows f c.site (packet_numbered items) (place (g f c items is)) i op cell at.rules t.label.1).ran (carry_answered f c items i (mark.Pass op) cell at.rules.at t.label.1)
     instance_answers (msg.Carry (mark.Shared op home) cell) t = shared_answers op home cell t
     instance_answers (msg.Fence op) t =
         let at = are.instances k two t.receiver in
-        fresh_at (msg.Fence op) t (net.Fence_on op) (on_fence f i op).notes refl (fence_follows f c.site (packet_of items) (place (g f c items is)) i op at.rules).ran (fence_answered f c items i op at.rules.at (held_genuine c.site (packet_of items) op i.rules at.rules.held))
+        fresh_at (msg.Fence op) t (net.Fence_on op) (on_fence f i op).notes refl (fence_follows f c.site (packet_numbered items) (place (g f c items is)) i op at.rules).ran (fence_answered f c items i op at.rules.at (held_genuine c.site (packet_numbered items) op i.rules at.rules.held))
     instance_answers m t = nothing_done (instance_step f i m).notes (instance_none f i m refl)
 
   -- a node's step, by which node it is
@@ -160,7 +160,7 @@ module _ (F : Type 0) {R : Type 0} (f : Semantics R) (laws : FunctionLaws f) (al
   abbrev nodes_count : ℕ
   nodes_count = length c.names + 2
 
-  abbrev fitting : (number : ℕ) → Fits c.site (packet_of items number)
+  abbrev fitting : (number : ℕ) → Fits c.site (packet_numbered items number)
   fitting = all_fit f c items is
 
   -- what is known of a world of a run

@@ -11,7 +11,7 @@ use Rattle.nf_msgs.specs.declared.note.Note.{Note}
 use Rattle.actor_net.specs.Network.{Network}
 use Rattle.net_world.specs.declared.config.Config.{Config}
 use Rattle.net_world.specs.declared.node.Node.{Node}
-use Rattle.net_world.specs.Input.{packet_of, IsInput}
+use Rattle.net_world.specs.Input.{packet_numbered, IsInput}
 use Rattle.net_world.specs.Log.{Done, arrived, done, those, done_of}
 use Rattle.net_world.specs.Fold.{times, is_of, came, went}
 use Rattle.whole_joined.proofs.StartJoined.{given}
@@ -73,7 +73,7 @@ done_times mine p is ds = ap (times p) (same mine ds) ∙ those_times mine p is 
 pub all_done : {R : Type 0} (f : Semantics R) (c : Config) (items : List Msg) (log : List Note) → ((unit : units.Unit) (p : ℕ) → times p (went f c items unit log) ≡ times p (came f c items unit log))
     → (p : ℕ) → times p (map (λ d. d.number) (done log)) ≡ times p (arrived log)
 all_done f c items log each p =
-    let u : units.Unit = unit_at f.kind c.site (packet_of items p) in
+    let u : units.Unit = unit_at f.kind c.site (packet_numbered items p) in
     let own : is_of f c items u p ≡ true = same_unit_equiv.refl u in
     sym (done_times (is_of f c items u) p own (done log)) ∙ each u p ∙ those_times (is_of f c items u) p own (arrived log)
 
@@ -91,7 +91,7 @@ module _ {F R : Type 0} (f : Semantics R) (c : Config) (items : List Msg) (is : 
       let numbers : List ℕ = map (λ d. d.number) (done w.log) in
       let long : length numbers ≡ length (done w.log) = length-map (done w.log) (λ d. d.number) in
       let fewer = no_longer numbers (arrived w.log) (λ p.
-      let u : units.Unit = unit_at f.kind c.site (packet_of items p) in
+      let u : units.Unit = unit_at f.kind c.site (packet_numbered items p) in
       let own : is_of f c items u p ≡ true = same_unit_equiv.refl u in
       let one : times p (went f c items u w.log) ≤ times p (came f c items u w.log) = once f c items is n w j u p in
       let all : times p (came f c items u w.log) ≡ times p (arrived w.log) = those_times (is_of f c items u) p own (arrived w.log) in

@@ -13,7 +13,7 @@ use Rattle.nf_msgs.specs.Nodes.{switch_node, instance_node}
 use Rattle.actor_net.specs.Network.{Network, on_link}
 use Rattle.net_world.specs.declared.config.Config.{Config}
 use Rattle.net_world.specs.declared.node.Node.{Node}
-use Rattle.net_world.specs.Input.{packet_of}
+use Rattle.net_world.specs.Input.{packet_numbered}
 use Rattle.net_world.specs.Log.{arrived, done}
 use Rattle.net_world.specs.Fold.{times, is_of, came, went, path}
 use Rattle.net_world.specs.Path.{all_but, carried, held_by, at_instance, under_way, all_of, on_links, passed, forwarded, stored_by, handed_over, queued_by, diverted}
@@ -116,7 +116,7 @@ module _ {F R : Type 0} (f : Semantics R) (c : Config) (items : List Msg) (w : N
     where
       same_times : (p : ℕ) → times p (under_way w instances one ++ map (λ d. d.number) (done w.log)) ≡ times p (arrived w.log)
       same_times p =
-          let u : units.Unit = unit_at f.kind c.site (packet_of items p) in
+          let u : units.Unit = unit_at f.kind c.site (packet_numbered items p) in
           let own : is_of f c items u p ≡ true = same_unit_equiv.refl u in
           let all : times p (came f c items u w.log) ≡ times p (arrived w.log) = those_times (is_of f c items u) p own (arrived w.log) in
           let ran : times p (went f c items u w.log) ≡ times p (map (λ d. d.number) (done w.log)) = done_times (is_of f c items u) p own (done w.log) in

@@ -20,7 +20,7 @@ use Rattle.unit_machine.proofs.Labels.{Each, each-append, each_map}
 use Rattle.net_world.specs.declared.config.Config.{Config}
 use Rattle.net_world.specs.declared.node.Node.{Node}
 use Rattle.net_world.specs.Commands.{began, has_answered, is_busy, times_installed}
-use Rattle.net_world.specs.Input.{packet_of, commands, order_numbered, IsInput}
+use Rattle.net_world.specs.Input.{packet_numbered, commands, order_numbered, IsInput}
 use Rattle.net_world.specs.Jobs.{job_of}
 use Rattle.net_world.specs.Log.{installed}
 use Rattle.net_world.specs.Nodes.{node_step, node_ready}
@@ -138,8 +138,8 @@ module _ (F : Type 0) {R : Type 0} (f : Semantics R) (laws : FunctionLaws f) (al
           by_place (In_first xs here) = had_before xs here
           by_place (In_second xs from at) = absurd (not_behind xs from)
 
-    goes_by : (o : Option (List (List ℕ))) → members c items u before ≡ o → goes_to c items f.kind p before ≡ option_map_or (λ names. member_for c items names (packet_of items p)) o (Some (owner c items u before))
-    goes_by o at = ap (λ q. option_map_or (λ names. member_for c items names (packet_of items p)) q (Some (owner c items u before))) at
+    goes_by : (o : Option (List (List ℕ))) → members c items u before ≡ o → goes_to c items f.kind p before ≡ option_map_or (λ names. member_for c items names (packet_numbered items p)) o (Some (owner c items u before))
+    goes_by o at = ap (λ q. option_map_or (λ names. member_for c items names (packet_numbered items p)) q (Some (owner c items u before))) at
 
     owned : i ≡ owner c items u before → (o : Option (List (List ℕ))) → members c items u before ≡ o → goes_to c items f.kind p before ≡ Some i
     owned at None shared = goes_by None shared ∙ ap Some (sym at)

@@ -23,7 +23,7 @@ use Rattle.whole_net.proofs.Readings.{Its_share, its_share}
 use Rattle.net_world.specs.declared.config.Config.{Config}
 use Rattle.net_world.specs.declared.node.Node.{Node}
 use Rattle.net_world.specs.Fold.{is_of}
-use Rattle.net_world.specs.Input.{packet_of, IsInput}
+use Rattle.net_world.specs.Input.{packet_numbered, IsInput}
 use Rattle.net_world.specs.Nodes.{node_step, node_ready}
 use Rattle.net_world.specs.Places.{owner, members, member_for, goes_to, unit_numbered}
 use Rattle.outline_net.proofs.FiltersApart.{is_whole, unit_fits}
@@ -55,9 +55,9 @@ module _ {F R : Type 0} (f : Semantics R) (c : Config) (items : List Msg) (is : 
     pub member_goes : (p i : ℕ) → unit_numbered c items f.kind p ≡ u → (A f g).member e.members p ≡ instance_node i → IsThere (members c items u w.log) → goes_to c items f.kind p w.log ≡ Some i
     member_goes p i unit at (There names shared) =
         let r = share_of_unit f c items is n count_is w j apart b u fits h names shared in
-        let member : member_for c items names (packet_of items p) ≡ Some i = member_is f c items is n count_is w j apart b u fits r.op names r.filter r.open_is r.takes_it e its p i at in
-        ap (λ q. option_map_or (λ ns. member_for c items ns (packet_of items p)) (members c items q w.log) (Some (owner c items q w.log))) unit
-        ∙ ap (λ o. option_map_or (λ ns. member_for c items ns (packet_of items p)) o (Some (owner c items u w.log))) shared
+        let member : member_for c items names (packet_numbered items p) ≡ Some i = member_is f c items is n count_is w j apart b u fits r.op names r.filter r.open_is r.takes_it e its p i at in
+        ap (λ q. option_map_or (λ ns. member_for c items ns (packet_numbered items p)) (members c items q w.log) (Some (owner c items q w.log))) unit
+        ∙ ap (λ o. option_map_or (λ ns. member_for c items ns (packet_numbered items p)) o (Some (owner c items u w.log))) shared
         ∙ member
 
   -- A unit under a share.

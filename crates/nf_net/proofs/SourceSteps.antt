@@ -204,12 +204,12 @@ module _ {F R : Type 0} (f : Semantics R) (laws : FunctionLaws f) (c : Config) (
         not_input : (p == 0) && (k == 0) ≡ false
         not_input = grind (arith, nat_tests)
 
-        module _ (before after : List Note) (number i : ℕ) (output : Output) (e : notes ≡ before ++ note.Processed number i output ∷ after) (mine : (S f g).unit_of number ≡ u) where
+        module _ (before after : List Note) (number i : ℕ) (output : Output) (e : notes ≡ before ++ note.Processed number i output ∷ after) (mine : (S f g).packet_unit number ≡ u) where
           stood : Ran_there (filter_map ran_in notes) number
           stood = subst (λ ns. Ran_there (filter_map ran_in ns) number) (sym e) (ran_there before number i output after)
 
           some : none_mine (S f g) u (filter_map ran_in notes) ≢ []
-          some = subst (λ v. none_mine (S f g) u v ≢ []) (sym stood.whole) (mine_there (S f g) (A f g) (is_sys f g.site g.packet) u number (subst (λ v. same_unit ((S f g).unit_of number) v ≡ true) mine (same_unit_equiv.refl ((S f g).unit_of number))) stood.front stood.back)
+          some = subst (λ v. none_mine (S f g) u v ≢ []) (sym stood.whole) (mine_there (S f g) (A f g) (is_sys f g.site g.packet) u number (subst (λ v. same_unit ((S f g).packet_unit number) v ≡ true) mine (same_unit_equiv.refl ((S f g).packet_unit number))) stood.front stood.back)
 
           -- a message of a share has nothing of the unit
           not_shared : (m : Share_msg R) → j.world.link p k ≡ New m ∷ is_taken.rest → none_mine (S f g) u (member_step (S f g) (A f g) (j.world.inst k).live (j.world.standby k) m).ran ≢ [] → Where_all (S f g) (A f g) (is_sys f g.site g.packet) u j.world (came_by f g w.log u) → ⊥

@@ -26,7 +26,7 @@ use Rattle.whole_net.proofs.SeesMore.{Sees_more}
 use Rattle.net_world.specs.declared.config.Config.{Config}
 use Rattle.net_world.specs.declared.node.Node.{Node}
 use Rattle.net_world.specs.declared.node.Node.TheVariants.{Instance}
-use Rattle.net_world.specs.Input.{packet_of, IsInput}
+use Rattle.net_world.specs.Input.{packet_numbered, IsInput}
 use Rattle.net_world.specs.Log.{done}
 use Rattle.net_world.specs.Fold.{IsFront, fold, went}
 use Rattle.net_world.specs.Records.{live_in, live_at}
@@ -80,13 +80,13 @@ module _ {R : Type 0} (f : Semantics R) (c : Config) (items : List Msg) where
   -- what a record was folded to stays one as more is folded
   fold-append : (kept : Option R) (xs ys : List ℕ) → fold f c items kept (xs ++ ys) ≡ fold f c items (fold f c items kept xs) ys
   fold-append kept [] ys = refl
-  fold-append kept (x ∷ xs) ys = fold-append (kept_after f c.site kept (packet_of items x)) xs ys
+  fold-append kept (x ∷ xs) ys = fold-append (kept_after f c.site kept (packet_numbered items x)) xs ys
 
   fold_some : (r : R) (ps : List ℕ) → (s : R) × (fold f c items (Some r) ps ≡ Some s)
   fold_some r [] = (r, refl)
   fold_some r (p ∷ ps) =
-      let stepped : R = (f.stepped c.site (Some r) (packet_of items p)).kept in
-      elim (is_transport (packet_of items p).proto) as (λ b. (s : R) × (fold f c items (if b then Some stepped else Some r) ps ≡ Some s)) [ true ↦ fold_some stepped ps | false ↦ fold_some r ps ]
+      let stepped : R = (f.stepped c.site (Some r) (packet_numbered items p)).kept in
+      elim (is_transport (packet_numbered items p).proto) as (λ b. (s : R) × (fold f c items (if b then Some stepped else Some r) ps ≡ Some s)) [ true ↦ fold_some stepped ps | false ↦ fold_some r ps ]
 
   -- so a record that was there is there later
   pub still_some : (before since : List ℕ) (r : R) → IsFront before since → kept_of before ≡ Some r → (s : R) × (kept_of since ≡ Some s)

@@ -108,8 +108,8 @@ module _ {F R : Type 0} (f : Semantics R) (laws : FunctionLaws f) (c : Config) (
   abbrev i : InstanceState F R
   i = x.nodes.instance k
 
-  abbrev Taken : Msg → Type 0
-  Taken m = IsTaken f g n x (record { node = k; port = p; message = m })
+  abbrev IsTakenHere : Msg → Type 0
+  IsTakenHere m = IsTaken f g n x (record { node = k; port = p; message = m })
 
   abbrev all_of : units.Unit → List Note → List ℕ
   all_of u notes = went f c items u (x.log ++ notes)
@@ -123,7 +123,7 @@ module _ {F R : Type 0} (f : Semantics R) (laws : FunctionLaws f) (c : Config) (
   Room u did = length (all_of u did.notes) ≤ most_counted
 
   abbrev Now : units.Unit → Msg → Type 0
-  Now u m = Taken m → AreFronted f g x.world (kept_of m) → Room u (instance_step f i m) → Sees u (instance_step f i m)
+  Now u m = IsTakenHere m → AreFronted f g x.world (kept_of m) → Room u (instance_step f i m) → Sees u (instance_step f i m)
 
   right : IsRight f g k i
   right = record { rules = at.rules; held = at.held; sound = at.records.sound; number = at.number }
@@ -141,7 +141,7 @@ module _ {F R : Type 0} (f : Semantics R) (laws : FunctionLaws f) (c : Config) (
   leaves u m e t fronts room = same_sees u (instance_step f i m) (step_unshared f (place g) i m e).standby
 
   -- a message of a share, as the whole world takes it
-  new_sees : (u : units.Unit) (m : Msg) (seen : Share_msg R) → shown f g m ≡ Some (New seen) → Taken m → MemberFollows f g.site g.packet (place g) i (instance_step f i m) (member_step (S f g) (A f g) i.table.live i.table.standby seen) → AreOwn k (instance_step f i m).notes → Sees u (instance_step f i m)
+  new_sees : (u : units.Unit) (m : Msg) (seen : Share_msg R) → shown f g m ≡ Some (New seen) → IsTakenHere m → MemberFollows f g.site g.packet (place g) i (instance_step f i m) (member_step (S f g) (A f g) i.table.live i.table.standby seen) → AreOwn k (instance_step f i m).notes → Sees u (instance_step f i m)
   new_sees u m seen shown_as t follows own =
       let did = instance_step f i m in
       let off : (p == 0) && (k == 0) ≡ false = grind (arith, nat_tests) in

@@ -27,7 +27,7 @@ use Rattle.instance_worker.specs.Pieces.{newest_version, piece_of, pieces_from, 
 use Rattle.unit_machine.proofs.Labels.{Each, each_map}
 use Rattle.unit_machine.proofs.Real.{Chunks}
 use Rattle.net_world.specs.declared.config.Config.{Config}
-use Rattle.net_world.specs.Input.{packet_of}
+use Rattle.net_world.specs.Input.{packet_numbered}
 use Rattle.net_world.specs.Fold.{fold}
 use Rattle.outline_net.proofs.Outline.{newest_in}
 use Rattle.outline_net.proofs.StateOutline.{newest_made}
@@ -69,11 +69,11 @@ module _ {R : Type 0} (f : Semantics R) (laws : FunctionLaws f) where
   newest_is test (e ∷ es) h = let here = h.0 in let rest = newest_is test es h.1 in rw (rest, here) (newest_by (test e.0) (list_any test (map (λ x. x.0) es)))
 
   -- the state that an instance gives: how many units, and of which version
-  pub record Gives (test : units.Unit → Bool) (chunks : List Chunk) : Type 0 where
+  pub record GivesState (test : units.Unit → Bool) (chunks : List Chunk) : Type 0 where
     pub number : length (units_in chunks) ≡ length chunks
     pub version : newest_version chunks ≡ version_number (list_any test (units_in chunks))
 
-  entries_give : (test : units.Unit → Bool) (es : Chunks R) → Each (λ e. f.is_timed e.1 ≡ test e.0) es → Gives test (map (λ e. record_chunk f e.0 e.1) es)
+  entries_give : (test : units.Unit → Bool) (es : Chunks R) → Each (λ e. f.is_timed e.1 ≡ test e.0) es → GivesState test (map (λ e. record_chunk f e.0 e.1) es)
   entries_give test es h = record {
     number = units_length es;
     version = newest_made f laws es ∙ newest_is test es h ∙ ap (λ us. version_number (list_any test us)) (sym (units_made es));
@@ -111,12 +111,12 @@ module _ {R : Type 0} where
 
 module _ {R : Type 0} (f : Semantics R) (laws : FunctionLaws f) where
   -- what an instance gives, where a test tells which of its records have a time
-  pub selected_give : (g : Filter) (live : Records R) (test : units.Unit → Bool) → ((u : units.Unit) (r : R) → finite.get live u ≡ Some r → f.is_timed r ≡ test u) → Gives f laws test (chunks_of f (taken_by g live))
+  pub selected_give : (g : Filter) (live : Records R) (test : units.Unit → Bool) → ((u : units.Unit) (r : R) → finite.get live u ≡ Some r → f.is_timed r ≡ test u) → GivesState f laws test (chunks_of f (taken_by g live))
   selected_give g live test h = entries_give f laws test (finite.entries (taken_by g live)) (each_map {P = (λ e. finite.get live e.0 ≡ Some e.1)} {Q = (λ e. f.is_timed e.1 ≡ test e.0)} (λ e there. h e.0 e.1 there) (finite.entries (taken_by g live)) (taken_found g live))
 
-  module _ (c : Config) (items : List Msg) (fitting : (number : ℕ) → Fits c.site (packet_of items number)) where
+  module _ (c : Config) (items : List Msg) (fitting : (number : ℕ) → Fits c.site (packet_numbered items number)) where
     abbrev pub is_late : ℕ → Bool
-    is_late p = nat_le 1 (packet_of items p).nanos
+    is_late p = nat_le 1 (packet_numbered items p).nanos
 
     abbrev kind_times : Bool
     kind_times = has_times f.kind
@@ -149,10 +149,10 @@ module _ {R : Type 0} (f : Semantics R) (laws : FunctionLaws f) where
     fold_timed kept [] = tells kept
     fold_timed kept (p ∷ ps) =
         let transport = (fitting p).transport in
-        let next : kept_after f c.site kept (packet_of items p) ≡ Some (f.stepped c.site kept (packet_of items p)).kept = rw transport refl in
-        let times = laws.times c.site kept (packet_of items p) in
+        let next : kept_after f c.site kept (packet_numbered items p) ≡ Some (f.stepped c.site kept (packet_numbered items p)).kept = rw transport refl in
+        let times = laws.times c.site kept (packet_numbered items p) in
         ap (λ k. is_timed_kept f (fold f c items k ps)) next
-        ∙ fold_timed (Some (f.stepped c.site kept (packet_of items p)).kept) ps
+        ∙ fold_timed (Some (f.stepped c.site kept (packet_numbered items p)).kept) ps
         ∙ ap (λ b. kind_times && (list_any is_late ps || b)) times
         ∙ later kind_times (is_late p) (list_any is_late ps) (is_timed_kept f kept)
 

@@ -39,7 +39,7 @@ use Rattle.net_world.specs.declared.config.Config.{Config}
 use Rattle.net_world.specs.declared.node.Node.{Node}
 use Rattle.net_world.specs.declared.node.Node.TheVariants.{Controller}
 use Rattle.net_world.specs.Commands.{began, has_answered, is_share, answers_of, times_installed}
-use Rattle.net_world.specs.Input.{IsInput, order_numbered, packet_of}
+use Rattle.net_world.specs.Input.{IsInput, order_numbered, packet_numbered}
 use Rattle.net_world.specs.Log.{installed}
 use Rattle.net_world.specs.Places.{first_owner, is_home, owner, members, member_for}
 use Rattle.outline_net.proofs.FiltersApart.{unit_fits, takes_whole, takes_same, filters_apart}
@@ -220,9 +220,9 @@ module _ {F R : Type 0} (f : Semantics R) (c : Config) (items : List Msg) (is : 
           ap (λ x. x.home) real.sees.is ∙ ap instance_node (first ∙ home_first c.names (order_numbered items) ms i at)
 
       -- and the member of a packet is the one that its names say
-      pub member_is : (p i : ℕ) → (A f g).member e.members p ≡ instance_node i → member_for c items ms (packet_of items p) ≡ Some i
+      pub member_is : (p i : ℕ) → (A f g).member e.members p ≡ instance_node i → member_for c items ms (packet_numbered items p) ≡ Some i
       member_is p i at =
-          let flow : Flow = (flow_of c.site (packet_of items p)).0 in
+          let flow : Flow = (flow_of c.site (packet_numbered items p)).0 in
           let nodes : List ℕ = filter_map (place_of c.names) ms in
           let k : ℕ = flow.lport + flow.rport + flow.remote in
           let many : length nodes ≡ length ms = all_placed ms o.known in

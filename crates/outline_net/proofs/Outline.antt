@@ -41,7 +41,7 @@ use Rattle.unit_machine.proofs.Real as real
 use Rattle.unit_machine.proofs.Real.{Chunks, RPiece}
 use Rattle.unit_machine.proofs.RecordTables.{live_table, live_laws}
 use Rattle.abstract_net.proofs.Net as net
-use Rattle.abstract_net.proofs.Net.{Sys, IsSys, Ruling, Room, Want, Inst_n, everything}
+use Rattle.abstract_net.proofs.Net.{Sys, IsSys, Ruling, Room, MoveAsked, Inst_n, everything}
 use Rattle.outline_net.proofs.FiltersApart.{takes_whole, filters_apart}
 
 -- a cell by its packet's number
@@ -57,12 +57,12 @@ abbrev pub outline_rule : EventRule FullCell → Ruling
 outline_rule r = record { num = r.op; filter = r.filter; rule = rule_of r.action; held = map number r.held }
 
 -- two places that are both there
-abbrev pub want_at : ℕ → Filter → Bool → Option ℕ → Option ℕ → Option Want
+abbrev pub want_at : ℕ → Filter → Bool → Option ℕ → Option ℕ → Option MoveAsked
 want_at op filter keep (Some from) (Some to) = Some (record { num = op; src = instance_node from; dst = instance_node to; keep = keep; filter = filter })
 want_at op filter keep from to = None
 
 -- what a command asks for, by the places of instances' names
-abbrev pub want_of : (List ℕ → Option ℕ) → ℕ → Order → Option Want
+abbrev pub want_of : (List ℕ → Option ℕ) → ℕ → Order → Option MoveAsked
 want_of place op (order.Move src dst filter keep) = want_at op filter keep (place src) (place dst)
 want_of place op what = None
 
@@ -133,7 +133,7 @@ module _ {R : Type 0} (f : Semantics R) (site : Site) (packet : ℕ → Packet) 
   sys = record {
     F = record { step = λ o p. (f.stepped site o (packet p)).kept; newer = λ coming held. newest f held coming };
     B = live_table f;
-    unit_of = λ p. unit_at f.kind site (packet p);
+    packet_unit = λ p. unit_at f.kind site (packet p);
     takes = takes_whole f.kind;
     meets = meets;
     newest = newest_in f;

@@ -23,7 +23,7 @@ use Rattle.unit_machine.proofs.ToRemove.{gives, deletes}
 use Rattle.unit_machine.proofs.Labels as labels
 use Rattle.unit_machine.proofs.Real.{record_at, M_enable, M_stream, M_delete, M_put, M_restore, M_enabled, M_event, M_piece, M_deleted, M_put_ok, M_put_no, M_restored, M_fenced, M_forward, M_install, M_fence_to, Frame, see, where_true, sends_to, add}
 use Rattle.abstract_net.proofs.Net as net
-use Rattle.abstract_net.proofs.Net.{In_packet, Asked, Carry_on, Pass_on, Fence_on, Mv, seen, Want}
+use Rattle.abstract_net.proofs.Net.{In_packet, Asked, Carry_on, Pass_on, Fence_on, Mv, seen, MoveAsked}
 use Rattle.abstract_net.proofs.Holding.{Seeing, frame}
 use Rattle.abstract_net.proofs.Holding as holding
 use Rattle.abstract_net.proofs.Shares.{Any, Old, New, Want_share, S_asked, S_shared, olds, Open_share}
@@ -143,7 +143,7 @@ module _ {R : Type 0} (f : Semantics R) (g : Given) (z : Seeing) (es : List Open
   asked_spells : (k : Command) (what : Order) → Spells (msg.Asked k) (read_shown (asked_of f (place g) k.op what))
   asked_spells k (order.Move src dst filter keep) = by_want (want_of (place g) k.op (order.Move src dst filter keep))
     where
-      by_want : (o : Option Want) → Spells (msg.Asked k) (read_shown (option_map (λ want. Old (net.Asked want)) o))
+      by_want : (o : Option MoveAsked) → Spells (msg.Asked k) (read_shown (option_map (λ want. Old (net.Asked want)) o))
       by_want None = record { chunks = refl; given = refl; removed = refl }
       by_want (Some x) = record { chunks = refl; given = refl; removed = refl }
   asked_spells k (order.Copy src dst filter) = record { chunks = refl; given = refl; removed = refl }

@@ -26,7 +26,7 @@ use Rattle.unit_machine.proofs.NetViews.{items}
 use Rattle.unit_machine.proofs.Path.{passes_in, carries, events_in, forwards}
 use Rattle.unit_machine.proofs.Sides.{is_known}
 use Rattle.abstract_net.proofs.Net as net
-use Rattle.abstract_net.proofs.Net.{seen, Want}
+use Rattle.abstract_net.proofs.Net.{seen, MoveAsked}
 use Rattle.abstract_net.proofs.Holding.{Seeing, frame}
 use Rattle.abstract_net.proofs.NewMessages.{On_new}
 use Rattle.abstract_net.proofs.Shares.{Any, Old, New, Want_share, S_asked, S_shared, Each_new, olds, Open_share}
@@ -147,7 +147,7 @@ module _ {R : Type 0} (f : Semantics R) (g : Given) (z : Seeing) (es : List Open
   asked_read : (k : Command) (what : Order) → IsRead (msg.Asked k) (see_of (asked_of f (place g) k.op what))
   asked_read k (order.Move src dst filter keep) = by_want (want_of (place g) k.op (order.Move src dst filter keep))
     where
-      by_want : (o : Option Want) → IsRead (msg.Asked k) (see_of (option_map (λ want. Old (net.Asked want)) o))
+      by_want : (o : Option MoveAsked) → IsRead (msg.Asked k) (see_of (option_map (λ want. Old (net.Asked want)) o))
       by_want None = record { pass = refl; carry = refl; event = refl; forward = λ _. refl }
       by_want (Some x) = record { pass = refl; carry = refl; event = refl; forward = λ _. refl }
   asked_read k (order.Copy src dst filter) = record { pass = refl; carry = refl; event = refl; forward = λ _. refl }

@@ -121,7 +121,7 @@ module _ {R : Type 0} (f : Semantics R) (g : Given) (z : Seeing) where
 -- Of a unit that no move has, rules hold nothing.
 module _ {R : Type 0} (f : Semantics R) (g : Given) (u : units.Unit) where
   abbrev its : ℕ → Bool
-  its p = same_unit ((S f g).unit_of p) u
+  its p = same_unit ((S f g).packet_unit p) u
 
   pub those_mine : (ps : List ℕ) → those its ps ≡ none_mine (S f g) u ps
   those_mine [] = refl

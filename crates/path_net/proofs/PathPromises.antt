@@ -8,7 +8,7 @@ use Rattle.nf_msgs.specs.declared.msg.Msg.{Msg}
 use Rattle.nf_msgs.specs.declared.note.Note.{Note}
 use Rattle.actor_net.specs.Network.{Network, IsWorld}
 use Rattle.unit_machine.proofs.Ends.{same_of}
-use Rattle.unit_machine.proofs.Stages.{Order}
+use Rattle.unit_machine.proofs.Stages.{IsOrderedAs}
 use Rattle.unit_machine.proofs.Rests.{exactly}
 use Rattle.abstract_net.proofs.Readings.{not_both}
 use Rattle.whole_net.proofs.WhereAll.{Where_all, Apart_from_shares, Under_share}
@@ -58,7 +58,7 @@ module _ {F R : Type 0} (f : Semantics R) (c : Config) (items : List Msg) (is : 
   -- what was processed, and then what is under way, is what came: in order, if no plain move handed the unit on
   record Ordered : Type 0 where
     flag : Bool
-    order : Order flag (went f c items u w.log ++ path f c items u w) (came f c items u w.log)
+    order : IsOrderedAs flag (went f c items u w.log ++ path f c items u w) (came f c items u w.log)
     flag_is : flag ≡ true → is_loose c items u w.log ≡ true
 
   ordered : Ordered
@@ -69,12 +69,12 @@ module _ {F R : Type 0} (f : Semantics R) (c : Config) (items : List Msg) (is : 
           let k = seated f c items is n count w nodes j u h.is in
           record {
             flag = k.flag;
-            order = subst (λ ps. Order k.flag ps (came f c items u w.log)) (sym (seats.all_is f c items is n count w nodes j world in_turn u h.is h.untaken)) k.order;
+            order = subst (λ ps. IsOrderedAs k.flag ps (came f c items u w.log)) (sym (seats.all_is f c items is n count w nodes j world in_turn u h.is h.untaken)) k.order;
             flag_is = k.flag_is;
           }
       by_where (Under_share x before b h o i) = record {
         flag = b;
-        order = subst (λ ps. Order b ps (came f c items u w.log)) (sym (shares.all_is f c items is n count w nodes j world told u x before (came_by f g w.log u).diverted h)) o;
+        order = subst (λ ps. IsOrderedAs b ps (came f c items u w.log)) (sym (shares.all_is f c items is n count w nodes j world told u x before (came_by f g w.log u).diverted h)) o;
         flag_is = i;
       }
 

@@ -18,13 +18,13 @@ use Rattle.actor_net.specs.Network.{Network, IsWorld, on_link, waiting}
 use Rattle.actor_net.proofs.EnabledChoices.{at}
 use Rattle.actor_net.proofs.WeightLaws.{Each as EachOn}
 use Rattle.unit_machine.proofs.Machine.{At_a, At_b, State}
-use Rattle.unit_machine.proofs.Stages.{Order}
+use Rattle.unit_machine.proofs.Stages.{IsOrderedAs}
 use Rattle.unit_machine.proofs.Kept.{on_way}
 use Rattle.unit_machine.proofs.Labels.{Each}
 use Rattle.unit_machine.proofs.Real.{Op, only_mine}
 use Rattle.unit_machine.proofs.Pairs.{expect}
 use Rattle.unit_machine.proofs.Path.{passes_in, carries, events_in, forwards, no_passes}
-use Rattle.unit_machine.proofs.Seats.{Seat, seat_shape, seat_all}
+use Rattle.unit_machine.proofs.Seats.{UnitSeat, seat_shape, seat_all}
 use Rattle.unit_machine.proofs.Between.{seat_at}
 use Rattle.unit_machine.proofs.NetViews.{items as items_of}
 use Rattle.unit_machine.proofs.Sides.{is_known}
@@ -92,10 +92,10 @@ module _ {F R : Type 0} (f : Semantics R) (c : Config) (items : List Msg) (is : 
   pub record Seated (u : units.Unit) : Type 0 where
     pub op : Op
     pub third : ℕ
-    pub seat : Seat (S f g).F
+    pub seat : UnitSeat (S f g).F
     pub flag : Bool
     pub holds : Holds (S f g) (see (S f g) (is_sys f g.site g.packet) u op third) (moves_of (S f g) (A f g) j.world) (seat_shape (S f g).F seat)
-    pub order : Order flag (seat_all seat) (came f c items u w.log)
+    pub order : IsOrderedAs flag (seat_all seat) (came f c items u w.log)
     pub flag_is : flag ≡ true → is_loose c items u w.log ≡ true
     pub passes_a : There n op.src (passes_in (seat_shape (S f g).F seat).sa)
     pub passes_b : There n op.dst (passes_in (seat_shape (S f g).F seat).sb)

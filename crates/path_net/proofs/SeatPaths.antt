@@ -36,7 +36,7 @@ use Rattle.abstract_net.proofs.Untaken.{Untaken}
 use Rattle.abstract_net.proofs.Units.{see}
 use Rattle.net_world.specs.declared.config.Config.{Config}
 use Rattle.net_world.specs.declared.node.Node.{Node}
-use Rattle.net_world.specs.Input.{packets, packet_of, IsInput}
+use Rattle.net_world.specs.Input.{packets, packet_numbered, IsInput}
 use Rattle.net_world.specs.Log.{arrived, installed, those}
 use Rattle.net_world.specs.Path.{all_of, all_but, passed, forwarded, handed_over, diverted, stored_by, queued_by, on_links, at_instance}
 use Rattle.net_world.specs.Places.{owner, is_loose}
@@ -124,7 +124,7 @@ module _ {F R : Type 0} (f : Semantics R) (c : Config) (items : List Msg) (is : 
       elim (mine q.number) as (λ b. mine q.number ≡ b → (if b then q.number ∷ those mine (map (λ y. y.number) qs) else those mine (map (λ y. y.number) qs)) ≡ p ∷ ps → IsOwned) [
         | true ↦ λ its _.
             let to = j.shown_is.switch.routes (flow_of c.site q).0 h.0.fits in
-            let unit : unit_at f.kind c.site q ≡ u = ap (unit_at f.kind c.site) h.0.same ∙ same_unit-true (unit_at f.kind c.site (packet_of items q.number)) u its in
+            let unit : unit_at f.kind c.site q ≡ u = ap (unit_at f.kind c.site) h.0.same ∙ same_unit-true (unit_at f.kind c.site (packet_numbered items q.number)) u its in
             let fits : unit_fits f.kind u ≡ true = subst (λ v. unit_fits f.kind v ≡ true) unit (unit_is_fit f.kind (flow_of c.site q).0 h.0.fits) in
             owned_by to.target (ap j.world.target (sym unit) ∙ to.node) to.there fits
         | false ↦ λ _ rest. known_of qs h.1 p ps rest

@@ -24,11 +24,11 @@ use Rattle.ctrl_node.specs.declared.operation.Operation.{Operation}
 use Rattle.ctrl_node.specs.declared.operation.Operation.TheVariants.{Move, Copy, Share}
 use Rattle.actor_net.specs.Network.{Network, IsWorld, on_link}
 use Rattle.actor_net.proofs.WeightLaws.{Each as EachOn}
-use Rattle.unit_machine.proofs.Real.{Frame, record_at, unit_of, where_true, add, M_fenced, M_install, M_fence_to, see_phase}
+use Rattle.unit_machine.proofs.Real.{Frame, record_at, chunk_unit, where_true, add, M_fenced, M_install, M_fence_to, see_phase}
 use Rattle.share_machine.proofs.Share.{Item, Item.Carry, Item.Fence, Item.Shared, Item.Diverted, Item.Install, Item.Forward, Item.Get, Item.Sync, Item.Fenced, Item.Chunks, Item.Chunk, Item.Synced, Item.Stray}
 use Rattle.share_machine.proofs.Share.{View}
 use Rattle.abstract_net.proofs.Net as net
-use Rattle.abstract_net.proofs.Net.{Open, Want, find_op}
+use Rattle.abstract_net.proofs.Net.{Open, MoveAsked, find_op}
 use Rattle.abstract_net.proofs.Ctrl.{each_found}
 use Rattle.abstract_net.proofs.Holding.{frame}
 use Rattle.abstract_net.proofs.Rest.{Rest_op}
@@ -76,7 +76,7 @@ module _ {R : Type 0} (f : Semantics R) (g : Given) (z : Seeing_share) where
   msg_nothing s r m l k = refl
 
   -- What is seen as a record that a member gives, and as one to take.
-  record Gives (a : Any R) (kept : R) : Type 0 where
+  record GivesRecord (a : Any R) (kept : R) : Type 0 where
     n : ℕ
     entry : units.Unit × R
     is : a ≡ New (S_shared n entry)
@@ -102,7 +102,7 @@ module _ {R : Type 0} (f : Semantics R) (g : Given) (z : Seeing_share) where
   numbered true mine it it' off stray e = off (let same_item : it ≡ it' = cc in same_item)
   numbered false mine it it' off stray e = unlike mine Stray it' stray e
 
-  old_gives : (r : ℕ) (m : net.Msg R) (kept : R) → share_seen (S f g) (A f g) z r (Old m) ≡ Some (Chunk (Some kept)) → Gives (Old m) kept
+  old_gives : (r : ℕ) (m : net.Msg R) (kept : R) → share_seen (S f g) (A f g) z r (Old m) ≡ Some (Chunk (Some kept)) → GivesRecord (Old m) kept
   old_gives r (net.Carry_on p) kept e = unlike _ (Carry p) (Chunk (Some kept)) (λ q. cc) e
   old_gives r (net.Pass_on p) kept e = unlike _ Stray (Chunk (Some kept)) (λ q. cc) e
   old_gives r (net.Fence_on n) kept e = unlike _ Fence (Chunk (Some kept)) (λ q. cc) e
@@ -113,7 +113,7 @@ module _ {R : Type 0} (f : Semantics R) (g : Given) (z : Seeing_share) where
   old_gives r (net.In_packet p) kept e = cc
   old_gives r (net.Asked x) kept e = cc
 
-  gives : (r : ℕ) (a : Any R) (kept : R) → share_seen (S f g) (A f g) z r a ≡ Some (Chunk (Some kept)) → Gives a kept
+  gives : (r : ℕ) (a : Any R) (kept : R) → share_seen (S f g) (A f g) z r a ≡ Some (Chunk (Some kept)) → GivesRecord a kept
   gives r (Old m) kept e = old_gives r m kept e
   gives r (New (Shared_on n home p)) kept e = numbered _ _ _ (Chunk (Some kept)) (λ q. unfit _ (Shared p) (Chunk (Some kept)) (λ t. cc) (λ t. cc) q) (λ q. cc) e
   gives r (New (Diverted_on p)) kept e = numbered _ _ (Diverted p) (Chunk (Some kept)) (λ q. cc) (λ q. cc) e
@@ -154,7 +154,7 @@ module _ {R : Type 0} (f : Semantics R) (g : Given) (z : Seeing_share) where
   asked_none : (op : ℕ) (what : Order) (a : Share_msg R) (kept : (want : Want_share) → New a ≡ New (S_asked want) → ⊥) → asked_of f (place g) op what ≡ Some (New a) → ⊥
   asked_none op (order.Move src dst filter keep) a kept e = by_want (want_of (place g) op (order.Move src dst filter keep)) e
     where
-      by_want : (o : Option Want) → option_map (λ want. Old (net.Asked want)) o ≡ Some (New a) → ⊥
+      by_want : (o : Option MoveAsked) → option_map (λ want. Old (net.Asked want)) o ≡ Some (New a) → ⊥
       by_want None q = cc
       by_want (Some x) q = cc
   asked_none op (order.Copy src dst filter) a kept e = cc
@@ -172,7 +172,7 @@ module _ {R : Type 0} (f : Semantics R) (g : Given) (z : Seeing_share) where
       let same_entry : good.entry ≡ entry = cc in
       let spells = good.spells in
       let all : entries f (chunk ∷ []) ≡ good.entry ∷ [] = rw spells refl in
-      let named : units_in (chunk ∷ []) ≡ entry.0 ∷ [] = units_same f (place g) (chunk ∷ []) (good, tt) ∙ ap (λ es. map unit_of es) (all ∙ ap (λ y. y ∷ []) same_entry) in
+      let named : units_in (chunk ∷ []) ≡ entry.0 ∷ [] = units_same f (place g) (chunk ∷ []) (good, tt) ∙ ap (λ es. map chunk_unit es) (all ∙ ap (λ y. y ∷ []) same_entry) in
       ap (λ us. is_among us u) named ∙ by_test (same_unit u entry.0) own
     where
       by_test : (b : Bool) → (if b then Some entry.1 else None) ≡ Some kept → b || false ≡ true

@@ -25,7 +25,7 @@ use Rattle.unit_machine.proofs.Real.{record_at, where_true, add}
 use Rattle.share_machine.proofs.Share.{Item, Item.Carry, Item.Fence, Item.Shared, Item.Diverted, Item.Install, Item.Forward, Item.Get, Item.Sync, Item.Fenced, Item.Chunks, Item.Chunk, Item.Synced, Item.Stray, UnitShare, if_mine}
 use Rattle.share_machine.proofs.Path.{carries, shared_in, forwarded, diverted}
 use Rattle.abstract_net.proofs.Net as net
-use Rattle.abstract_net.proofs.Net.{Want}
+use Rattle.abstract_net.proofs.Net.{MoveAsked}
 use Rattle.abstract_net.proofs.Rest.{Nothing_of}
 use Rattle.abstract_net.proofs.ShareLabels.{Share_label}
 use Rattle.abstract_net.proofs.ShareViews.{unit_share, share_seen, share_items}
@@ -129,14 +129,14 @@ module _ {R : Type 0} (f : Semantics R) (g : Given) (z : Seeing_share) where
 
   module _ (covered : (S f g).takes z.filter z.unit ≡ true) where
     -- what the share doesn't take isn't the unit's
-    not_taken : (p : ℕ) → (S f g).takes z.filter ((S f g).unit_of p) ≡ false → mine p ≡ false
+    not_taken : (p : ℕ) → (S f g).takes z.filter ((S f g).packet_unit p) ≡ false → mine p ≡ false
     not_taken p out = elim (mine p) as (λ b. mine p ≡ b → b ≡ false) [
-      | true ↦ λ on. (let its_unit : (S f g).unit_of p ≡ z.unit = same_unit-true ((S f g).unit_of p) z.unit on in let never : true ≡ false = sym covered ∙ ap ((S f g).takes z.filter) (sym its_unit) ∙ out in cc)
+      | true ↦ λ on. (let its_unit : (S f g).packet_unit p ≡ z.unit = same_unit-true ((S f g).packet_unit p) z.unit on in let never : true ≡ false = sym covered ∙ ap ((S f g).takes z.filter) (sym its_unit) ∙ out in cc)
       | false ↦ λ _. refl
     ] refl
 
-    diverted_read : (cell : FullCell) → IsRead (msg.Diverted cell) (if (S f g).takes z.filter ((S f g).unit_of (number cell)) then Some (Diverted (number cell)) else where_true (mine (number cell)) Stray)
-    diverted_read cell = elim ((S f g).takes z.filter ((S f g).unit_of (number cell))) as (λ b. (S f g).takes z.filter ((S f g).unit_of (number cell)) ≡ b → IsRead (msg.Diverted cell) (if b then Some (Diverted (number cell)) else where_true (mine (number cell)) Stray)) [
+    diverted_read : (cell : FullCell) → IsRead (msg.Diverted cell) (if (S f g).takes z.filter ((S f g).packet_unit (number cell)) then Some (Diverted (number cell)) else where_true (mine (number cell)) Stray)
+    diverted_read cell = elim ((S f g).takes z.filter ((S f g).packet_unit (number cell))) as (λ b. (S f g).takes z.filter ((S f g).packet_unit (number cell)) ≡ b → IsRead (msg.Diverted cell) (if b then Some (Diverted (number cell)) else where_true (mine (number cell)) Stray)) [
       | true ↦ λ _. elim (mine (number cell)) as (λ b. ◌≡◌ {A = Reading} (record { shared = []; carry = []; forward = []; divert = if b then number cell ∷ [] else [] }) (record { shared = []; carry = []; forward = []; divert = (if b then number cell ∷ [] else []) ++ [] })) [ true ↦ refl | false ↦ refl ]
       | false ↦ λ out. let no = not_taken (number cell) out in rw no refl
     ] refl
@@ -144,7 +144,7 @@ module _ {R : Type 0} (f : Semantics R) (g : Given) (z : Seeing_share) where
     asked_read : (k : Command) (r : ℕ) (what : Order) → IsRead (msg.Asked k) (item_of r (asked_of f (place g) k.op what))
     asked_read k r (order.Move src dst filter keep) = by_want (want_of (place g) k.op (order.Move src dst filter keep))
       where
-        by_want : (o : Option Want) → IsRead (msg.Asked k) (item_of r (option_map (λ want. Old (net.Asked want)) o))
+        by_want : (o : Option MoveAsked) → IsRead (msg.Asked k) (item_of r (option_map (λ want. Old (net.Asked want)) o))
         by_want None = refl
         by_want (Some x) = refl
     asked_read k r (order.Copy src dst filter) = refl

@@ -41,16 +41,16 @@ use Rattle.path_net.proofs.SharedOwners.{HomesOwn, members_few}
 use Rattle.path_net.proofs.SharedStages.{Comes, From_member, To_home, Ahead, Sees, Sees_all, Is_ahead, sees}
 
 -- the last of those that were done of a unit is the unit's
-last_mine : {R : Type 0} (f : Semantics R) (g : Given) (u : units.Unit) (ds xs : List Ran) (d : Ran) → ran_of (S f g) (A f g) u ds ≡ xs ++ d ∷ [] → same_unit ((S f g).unit_of d.0) u ≡ true
+last_mine : {R : Type 0} (f : Semantics R) (g : Given) (u : units.Unit) (ds xs : List Ran) (d : Ran) → ran_of (S f g) (A f g) u ds ≡ xs ++ d ∷ [] → same_unit ((S f g).packet_unit d.0) u ≡ true
 last_mine f g u [] [] d e = cc
 last_mine f g u [] (y ∷ ys) d e = cc
-last_mine f g u (x ∷ ds) xs d e = elim (same_unit ((S f g).unit_of x.0) u) as (λ b. same_unit ((S f g).unit_of x.0) u ≡ b → (if b then x ∷ ran_of (S f g) (A f g) u ds else ran_of (S f g) (A f g) u ds) ≡ xs ++ d ∷ [] → same_unit ((S f g).unit_of d.0) u ≡ true) [
+last_mine f g u (x ∷ ds) xs d e = elim (same_unit ((S f g).packet_unit x.0) u) as (λ b. same_unit ((S f g).packet_unit x.0) u ≡ b → (if b then x ∷ ran_of (S f g) (A f g) u ds else ran_of (S f g) (A f g) u ds) ≡ xs ++ d ∷ [] → same_unit ((S f g).packet_unit d.0) u ≡ true) [
   | true ↦ λ on q. by_front on (λ ys more. last_mine f g u ds ys d more) xs q
   | false ↦ λ _ q. last_mine f g u ds xs d q
 ] refl e
   where
-    by_front : same_unit ((S f g).unit_of x.0) u ≡ true → ((ys : List Ran) → ran_of (S f g) (A f g) u ds ≡ ys ++ d ∷ [] → same_unit ((S f g).unit_of d.0) u ≡ true) → (ys : List Ran) → x ∷ ran_of (S f g) (A f g) u ds ≡ ys ++ d ∷ [] → same_unit ((S f g).unit_of d.0) u ≡ true
-    by_front on later [] q = let same_one : x ≡ d = cc in ap (λ y. same_unit ((S f g).unit_of y.0) u) (sym same_one) ∙ on
+    by_front : same_unit ((S f g).packet_unit x.0) u ≡ true → ((ys : List Ran) → ran_of (S f g) (A f g) u ds ≡ ys ++ d ∷ [] → same_unit ((S f g).packet_unit d.0) u ≡ true) → (ys : List Ran) → x ∷ ran_of (S f g) (A f g) u ds ≡ ys ++ d ∷ [] → same_unit ((S f g).packet_unit d.0) u ≡ true
+    by_front on later [] q = let same_one : x ≡ d = cc in ap (λ y. same_unit ((S f g).packet_unit y.0) u) (sym same_one) ∙ on
     by_front on later (y ∷ ys) q = let rest : ran_of (S f g) (A f g) u ds ≡ ys ++ d ∷ [] = cc in later ys rest
 
 module _ {F R : Type 0} (f : Semantics R) (c : Config) (items : List Msg) (is : IsInput f.kind c items) (n : ℕ) (count : n ≡ length c.names + 2) (w : Network (Node F R) Msg Note) (nodes : length w.nodes ≡ n) (j : Joined f (given f c items is) n w) (world : IsWorld w) (told : HomesOwn f c items is n count w j) (u : units.Unit) (x : Want_share) (before since : List ℕ) (k : Under (S f (given f c items is)) (A f (given f c items is)) (seeing (S f (given f c items is)) (A f (given f c items is)) u x) j.world before since) where

@@ -2,7 +2,7 @@
 use Rattle.std.proofs.Common.{◌≡◌, ℕ, ◌+◌, Bool, true, false, cond, not, ◌&&◌, ◌==◌, Option, None, Some, List, [], ◌∷◌, ◌++◌, length, ◌≤◌, refl, sym, ap, subst, ◌∙◌, append_assoc, arith}
 use Rattle.std.proofs.lemmas.Bool.Decides.{nat_tests, Decides-eqb}
 use Rattle.unit_machine.proofs.Machine.{Steps}
-use Rattle.share_machine.proofs.Share.{Ran, UnitShare, has, without, if_mine, mine_in, at_node, runs, over, put}
+use Rattle.share_machine.proofs.Share.{Ran, UnitShare, has, without_number, if_mine, mine_in, at_node, runs, over, put}
 use Rattle.share_machine.proofs.Stages.{Turn, Turn.Going, Turn.Quiet, is_pending, count, served, packets, IsFront, distinct}
 
 pub cond-same : {X : Type 0} (b : Bool) (x : X) → cond b x x ≡ x
@@ -68,24 +68,24 @@ over_front {R} F xs ds h =
           rw xs_none refl
     ] refl
 
-pub has-without : (xs : List ℕ) (j k : ℕ) → has (without xs j) k ≡ (has xs k && not (k == j))
+pub has-without : (xs : List ℕ) (j k : ℕ) → has (without_number xs j) k ≡ (has xs k && not (k == j))
 has-without [] j k = refl
 has-without (x ∷ xs) j k =
-    elim (x == j) as (λ b. (x == j) ≡ b → has (cond b (without xs j) (x ∷ without xs j)) k ≡ (cond (k == x) true (has xs k) && not (k == j))) [
+    elim (x == j) as (λ b. (x == j) ≡ b → has (cond b (without_number xs j) (x ∷ without_number xs j)) k ≡ (cond (k == x) true (has xs k) && not (k == j))) [
       | true ↦ λ e. has-without xs j k ∙ (elim (k == x) as (λ b. (k == x) ≡ b → (has xs k && not (k == j)) ≡ (cond b true (has xs k) && not (k == j))) [
         | true ↦ λ t. let same : (k == j) ≡ true = grind (arith, nat_tests) in rw same (elim (has xs k) as (λ b. (b && false) ≡ false) [ true ↦ refl | false ↦ refl ])
         | false ↦ λ _. refl
       ] refl)
-      | false ↦ λ e. elim (k == x) as (λ b. (k == x) ≡ b → cond b true (has (without xs j) k) ≡ (cond b true (has xs k) && not (k == j))) [
+      | false ↦ λ e. elim (k == x) as (λ b. (k == x) ≡ b → cond b true (has (without_number xs j) k) ≡ (cond b true (has xs k) && not (k == j))) [
         | true ↦ λ t. let other : (k == j) ≡ false = grind (arith, nat_tests) in rw other refl
         | false ↦ λ _. has-without xs j k
       ] refl
     ] refl
 
-without_other : (xs : List ℕ) (j : ℕ) → has xs j ≡ false → without xs j ≡ xs
+without_other : (xs : List ℕ) (j : ℕ) → has xs j ≡ false → without_number xs j ≡ xs
 without_other [] j h = refl
 without_other (x ∷ xs) j h =
-    elim (j == x) as (λ b. (j == x) ≡ b → cond b true (has xs j) ≡ false → cond (x == j) (without xs j) (x ∷ without xs j) ≡ x ∷ xs) [
+    elim (j == x) as (λ b. (j == x) ≡ b → cond b true (has xs j) ≡ false → cond (x == j) (without_number xs j) (x ∷ without_number xs j) ≡ x ∷ xs) [
       | true ↦ λ _ n. cc
       | false ↦ λ off n. let other : (x == j) ≡ false = grind (arith, nat_tests) in rw other (ap (λ zs. x ∷ zs) (without_other xs j n))
     ] refl h
@@ -94,21 +94,21 @@ pub apart_of : (b c : Bool) → not b && c ≡ true → (b ≡ false) × (c ≡ 
 apart_of true c e = cc
 apart_of false c e = (refl, e)
 
-pub distinct-without : (xs : List ℕ) (j : ℕ) → distinct xs ≡ true → distinct (without xs j) ≡ true
+pub distinct-without : (xs : List ℕ) (j : ℕ) → distinct xs ≡ true → distinct (without_number xs j) ≡ true
 distinct-without [] j h = refl
 distinct-without (x ∷ xs) j h =
     let a = apart_of (has xs x) (distinct xs) h in
-    elim (x == j) as (λ b. (x == j) ≡ b → distinct (cond b (without xs j) (x ∷ without xs j)) ≡ true) [
+    elim (x == j) as (λ b. (x == j) ≡ b → distinct (cond b (without_number xs j) (x ∷ without_number xs j)) ≡ true) [
       | true ↦ λ e. distinct-without xs j a.1
       | false ↦ λ e. rw (has-without xs j x, distinct-without xs j a.1) (rw a.0 refl)
     ] refl
 
 -- all but one are at most one fewer
-pub length-without : (xs : List ℕ) (j : ℕ) → distinct xs ≡ true → length xs ≤ length (without xs j) + 1
+pub length-without : (xs : List ℕ) (j : ℕ) → distinct xs ≡ true → length xs ≤ length (without_number xs j) + 1
 length-without [] j h = omega arith
 length-without (x ∷ xs) j h =
     let a = apart_of (has xs x) (distinct xs) h in
-    elim (x == j) as (λ b. (x == j) ≡ b → length (x ∷ xs) ≤ length (cond b (without xs j) (x ∷ without xs j)) + 1) [
+    elim (x == j) as (λ b. (x == j) ≡ b → length (x ∷ xs) ≤ length (cond b (without_number xs j) (x ∷ without_number xs j)) + 1) [
       | true ↦ λ e. let same : x ≡ j = (Decides-eqb x j).0 e in rw (without_other xs j (subst (λ y. has xs y ≡ false) same a.0)) (omega arith)
       | false ↦ λ _. let shorter = length-without xs j a.1 in omega (arith, shorter)
     ] refl
@@ -173,14 +173,14 @@ counts_turns o = count-all (turn_of o) o (λ k h. rw h refl)
 pub turns_sent : (o : List ℕ) (k : ℕ) → is_pending (turn_of o k) ≡ true → has o k ≡ true
 turns_sent o k = elim (has o k) as (λ t. is_pending (cond t Going Quiet) ≡ true → t ≡ true) [ true ↦ λ _. refl | false ↦ λ e. cc ]
 
-pub in_without : (xs : List ℕ) (j k : ℕ) → has (without xs j) k ≡ true → has xs k ≡ true
+pub in_without : (xs : List ℕ) (j k : ℕ) → has (without_number xs j) k ≡ true → has xs k ≡ true
 in_without xs j k e =
     elim (has xs k) as (λ b. (b && not (k == j)) ≡ true → b ≡ true) [ true ↦ λ _. refl | false ↦ λ n. cc ] (sym (has-without xs j k) ∙ e)
 
 -- the one that isn't sent a Sync
-pub turn_self : (xs : List ℕ) (j : ℕ) → turn_of (without xs j) j ≡ Quiet
+pub turn_self : (xs : List ℕ) (j : ℕ) → turn_of (without_number xs j) j ≡ Quiet
 turn_self xs j =
-    let out : has (without xs j) j ≡ false = has-without xs j j ∙ rw (self j) (elim (has xs j) as (λ b. (b && false) ≡ false) [ true ↦ refl | false ↦ refl ]) in
+    let out : has (without_number xs j) j ≡ false = has-without xs j j ∙ rw (self j) (elim (has xs j) as (λ b. (b && false) ≡ false) [ true ↦ refl | false ↦ refl ]) in
     rw out refl
 
 -- a turn that was put at a place that was pending isn't at one that wasn't

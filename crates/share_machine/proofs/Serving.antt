@@ -1,6 +1,6 @@
 -- Each move from each stage in which a share serves a packet, up to the Sync that it gives.
 use Rattle.std.proofs.Common.{◌≡◌, ℕ, Bool, true, false, cond, ◌==◌, None, List, [], ◌∷◌, ◌++◌, length, inl, inr, refl, sym, ap, append_assoc, append-nil}
-use Rattle.share_machine.proofs.Share.{Ran, Item.Shared, Item.Chunk, UnitShare, Phase.Syncing, put, sync_to, ShareMachineStep, ShareMachineStep.Arrive, ShareMachineStep.Take_cs, ShareMachineStep.Take_sc, ShareMachineStep.Take_sw, ShareMachineStep.Take_back, has, without, if_mine, at_node, runs, after, chunk_of, over, moved, from_sw, from_back}
+use Rattle.share_machine.proofs.Share.{Ran, Item.Shared, Item.Chunk, UnitShare, Phase.Syncing, put, sync_to, ShareMachineStep, ShareMachineStep.Arrive, ShareMachineStep.Take_cs, ShareMachineStep.Take_sc, ShareMachineStep.Take_sw, ShareMachineStep.Take_back, has, without_number, if_mine, at_node, runs, after, chunk_of, over, moved, from_sw, from_back}
 use Rattle.share_machine.proofs.Stages.{Turn, is_pending, Stage.Spreads, Stage.Resting, Stage.Forwards, Stage.Carries, Stage.Chunk_comes, front, shape, served, IsFront, IsShare, Behind, brings, Leads}
 use Rattle.share_machine.proofs.Lists.{runs-append, served-append, distinct-without, counts_turns, turns_sent, turn_of, in_without, turn_self, served_at}
 use Rattle.share_machine.proofs.Setting.{links, orders, at_only, front_same, stays, sync_goes, none_comes, turns, some_left, at_least_one}
@@ -128,7 +128,7 @@ module _ {R : Type 0} (f : UnitShare R) where
   chunk_arrives : IsShare f → (d : List Ran) (e : List ℕ) (p : ℕ) (q v : List ℕ) → Leads f (Chunk_comes d e p q v) (from_back f (shape f (Chunk_comes d e p q v)) (f.member_of p) (Chunk (chunk_of f p (after f (d ++ served f (e ++ if_mine f p)))) ∷ [])) []
   chunk_arrives is d e p q v =
       let m = f.member_of p in
-      let o = without f.members m in
+      let o = without_number f.members m in
       let c = chunk_of f p (after f (d ++ served f (e ++ if_mine f p))) in
       at_least_one f (Chunk_comes d e p q v) (record (shape f (Chunk_comes d e p q v)) { back = put (shape f (Chunk_comes d e p q v)).back m [] }) Syncing (length o) q (sync_to o c) (some_left f is m) (record {
         next = Spreads false d (e ++ if_mine f p) (λ k. d ++ served f e) c (turn_of o) o (length o) q v;

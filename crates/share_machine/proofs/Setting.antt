@@ -2,7 +2,7 @@
 use Rattle.std.proofs.Common.{◌≡◌, ℕ, ◌+◌, Bool, true, false, cond, not, ◌&&◌, ◌==◌, Option, None, Some, List, [], ◌∷◌, ◌++◌, map, length, refl, sym, ap, subst, ◌∙◌, append_assoc, append-nil, arith}
 use Rattle.std.proofs.lemmas.Bool.Decides.{nat_tests, Decides-eqb}
 use Rattle.std.proofs.lemmas.List.{map-append}
-use Rattle.share_machine.proofs.Share.{Ran, Item, Item.Carry, Item.Fence, Item.Get, Item.Sync, Item.Fenced, Item.Chunks, UnitShare, View, Phase, Phase.Setting, put, put_ctrl, waits, serve, answers, sync_to, ShareMachineStep, ShareMachineStep.Arrive, ShareMachineStep.Take_cs, ShareMachineStep.Take_sc, ShareMachineStep.Take_sw, ShareMachineStep.Take_to, ShareMachineStep.Take_back, has, without, if_mine, after, only, moved, from_sw, from_to, from_back}
+use Rattle.share_machine.proofs.Share.{Ran, Item, Item.Carry, Item.Fence, Item.Get, Item.Sync, Item.Fenced, Item.Chunks, UnitShare, View, Phase, Phase.Setting, put, put_ctrl, waits, serve, answers, sync_to, ShareMachineStep, ShareMachineStep.Arrive, ShareMachineStep.Take_cs, ShareMachineStep.Take_sc, ShareMachineStep.Take_sw, ShareMachineStep.Take_to, ShareMachineStep.Take_back, has, without_number, if_mine, after, only, moved, from_sw, from_to, from_back}
 use Rattle.share_machine.proofs.Stages.{Turn.Going, Turn.Quiet, is_going, goes_to, comes_from, Stage, Stage.Diverting, Stage.Fence_goes, Stage.Fenced_comes, Stage.Get_goes, Stage.Chunks_come, Stage.Spreads, front, early, late, shape, IsFront, IsShare, FitsStage, Alike, brings, Leads}
 use Rattle.share_machine.proofs.Lists.{cond-same, cond-append, cond-cond, self, runs-append, mine_in-append, served-append, packets-append, packets-served, over_front, has-without, distinct-without, length-without, counts_turns, turns_sent, turn_of, in_without, turn_self}
 
@@ -210,12 +210,12 @@ module _ {R : Type 0} (f : UnitShare R) where
   none_comes false = refl
 
   -- a member other than this one has a Sync on its way
-  pub turns : {X : Type 0} (ms : List ℕ) (j k : ℕ) (new old : X) → has ms k ≡ true → cond (is_going (turn_of (without ms j) k)) old new ≡ cond (k == j) new old
+  pub turns : {X : Type 0} (ms : List ℕ) (j k : ℕ) (new old : X) → has ms k ≡ true → cond (is_going (turn_of (without_number ms j) k)) old new ≡ cond (k == j) new old
   turns ms j k new old h =
       rw (has-without ms j k, h) (elim (k == j) as (λ t. cond (is_going (cond (true && not t) Going Quiet)) old new ≡ cond t new old) [ true ↦ refl | false ↦ refl ])
 
   -- a Sync goes to one member at least
-  pub some_left : IsShare f → (j : ℕ) → (length (without f.members j) == 0) ≡ false
+  pub some_left : IsShare f → (j : ℕ) → (length (without_number f.members j) == 0) ≡ false
   some_left is j =
       let two = is.two in
       let others = length-without f.members j is.apart in
@@ -227,7 +227,7 @@ module _ {R : Type 0} (f : UnitShare R) where
 
   chunks_arrive : IsShare f → (d : List Ran) (b : ℕ → List Ran) (q v : List ℕ) → ((k : ℕ) → IsFront (b k) d) → Leads f (Chunks_come d b q v) (from_back f (shape f (Chunks_come d b q v)) f.home (Chunks (after f d) ∷ [])) []
   chunks_arrive is d b q v h =
-      let o = without f.members f.home in
+      let o = without_number f.members f.home in
       at_least_one (Chunks_come d b q v) (record (shape f (Chunks_come d b q v)) { back = put (shape f (Chunks_come d b q v)).back f.home [] }) Setting (length o) q (sync_to o (after f d)) (some_left is f.home) (record {
         next = Spreads true d [] b (after f d) (turn_of o) o (length o) q v;
         fits = record {

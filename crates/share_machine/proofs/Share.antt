@@ -50,9 +50,9 @@ abbrev pub has : List ℕ → ℕ → Bool
 has [] k = false
 has (x ∷ xs) k = if k == x then true else has xs k
 
-abbrev pub without : List ℕ → ℕ → List ℕ
-without [] k = []
-without (x ∷ xs) k = if x == k then without xs k else x ∷ without xs k
+abbrev pub without_number : List ℕ → ℕ → List ℕ
+without_number [] k = []
+without_number (x ∷ xs) k = if x == k then without_number xs k else x ∷ without_number xs k
 
 -- the fold of what was processed
 abbrev pub after : {R : Type 0} → UnitShare R → List Ran → Option R
@@ -139,10 +139,10 @@ sync_to o c k = if has o k then Sync c ∷ [] else []
 
 abbrev pub share_does : {R : Type 0} → UnitShare R → Item R → Phase → List ℕ → C_did R
 share_does f Fenced Fencing q = record (waits Getting q) { to = only f.home (Get ∷ []) }
-share_does f (Chunks c) Getting q = record (answers f Setting (length (without f.members f.home)) q) { to = sync_to (without f.members f.home) c }
+share_does f (Chunks c) Getting q = record (answers f Setting (length (without_number f.members f.home)) q) { to = sync_to (without_number f.members f.home) c }
 share_does f Synced (Setting left) q = answers f Setting (left - 1) q
 share_does f Synced (Syncing left) q = answers f Syncing (left - 1) q
-share_does f (Chunk c) (Out m) q = record (answers f Syncing (length (without f.members m)) q) { to = sync_to (without f.members m) c }
+share_does f (Chunk c) (Out m) q = record (answers f Syncing (length (without_number f.members m)) q) { to = sync_to (without_number f.members m) c }
 share_does f (Diverted p) Idle q = serve f (q ++ p ∷ [])
 share_does f (Diverted p) phase q = waits phase (q ++ p ∷ [])
 share_does f item phase q = waits phase q

@@ -5,7 +5,7 @@ use Rattle.std.proofs.lemmas.Bool.Decides.{Decides-eqb}
 use Rattle.unit_machine.proofs.Machine.{Ran, Steps, after, Part, Rule, Free, Drops, Buffers, Item, Carry, Pass, Fence, Enable, Put, next, State, MachineStep}
 use Rattle.unit_machine.proofs.Lists.{firsts, marked}
 use Rattle.unit_machine.proofs.UnitPieces.{nil_left, nil_right}
-use Rattle.unit_machine.proofs.Stages.{Stage, At_rest, Streams, Is_wide, shape, path, all_of, loose, times, Same, Order, Allowed, arrived_by}
+use Rattle.unit_machine.proofs.Stages.{Stage, At_rest, Streams, Is_wide, shape, path, all_of, loose, times, Same, IsOrderedAs, Allowed, arrived_by}
 use Rattle.unit_machine.proofs.Path.{passes_in, carries, path_of, path_is}
 use Rattle.unit_machine.proofs.Kept.{Kept, Nowhere, Is_live, On_way, Twice, is_kept, lives, on_way, records_on, frozen_in}
 use Rattle.unit_machine.proofs.Steps.{goes_on}
@@ -95,7 +95,7 @@ same_nil (x ∷ xs) same =
     let f : 1 + times x xs ≡ 0 = rw one at e in
     let never : ⊥ = omega arith in absurd never
 
-order_nil : (b : Bool) (xs ys : List ℕ) → Order b xs ys → ys ≡ [] → xs ≡ []
+order_nil : (b : Bool) (xs ys : List ℕ) → IsOrderedAs b xs ys → ys ≡ [] → xs ≡ []
 order_nil true xs ys o e = same_nil xs (λ p. o p ∙ ap (λ z. times p z) e)
 order_nil false xs ys o e = o ∙ e
 

@@ -5,10 +5,10 @@ use Rattle.unit_machine.proofs.Lists.{firsts}
 use Rattle.unit_machine.proofs.UnitPieces.{nil_left, nil_right}
 use Rattle.unit_machine.proofs.Stages.{Stage, At_rest, Moved, Undone, rest, shape, all_of}
 use Rattle.unit_machine.proofs.Path.{carries}
-use Rattle.unit_machine.proofs.Beside.{strip, beside}
+use Rattle.unit_machine.proofs.DestinationUnits.{strip, beside}
 use Rattle.unit_machine.proofs.Bare.{firsts_nil}
 use Rattle.unit_machine.proofs.Rests.{is_over}
-use Rattle.unit_machine.proofs.Seats.{Seat, Covered, Is_beside, Is_away, seat_shape, seat_all, over_free}
+use Rattle.unit_machine.proofs.Seats.{UnitSeat, Covered, Is_beside, Is_away, seat_shape, seat_all, over_free}
 use Rattle.unit_machine.proofs.Controls.{never_true}
 
 -- a unit at rest at one side: its packets on that side's link, its record live there
@@ -28,7 +28,7 @@ only_carries (Carry p ∷ z) e = ap (λ x. Carry p ∷ x) (only_carries z e)
 only_carries (x ∷ z) e = cc
 
 -- the seat of a unit that is at rest at one of a move's sides
-abbrev pub seat_at : {R : Type 0} → (F : Steps R) → Where → List Ran → List ℕ → Bool → Seat F
+abbrev pub seat_at : {R : Type 0} → (F : Steps R) → Where → List Ran → List ℕ → Bool → UnitSeat F
 seat_at F At_a d l k = Covered (At_rest d l k)
 seat_at {R = R} F At_b d l k = Is_beside (record { base = At_rest [] [] k; bare = refl; z = map Carry l; h = []; d = d; strips = strip_carries R l; free = λ _. refl })
 seat_at F At_c d l k = Is_away (record { base = At_rest [] [] k; bare = refl; d = d; l = l })
@@ -73,7 +73,7 @@ covered_over F (Undone d l k why) e = Rests_at At_a d l (Over (Some why)) k refl
 covered_over F s e = never_true e
 
 -- a move that has ended leaves each unit at rest at one side
-pub seat_ends : {R : Type 0} (F : Steps R) (s : Seat F) → is_over (seat_shape F s).phase ≡ true → At_rest_now F (seat_shape F s) (seat_all s)
+pub seat_ends : {R : Type 0} (F : Steps R) (s : UnitSeat F) → is_over (seat_shape F s).phase ≡ true → At_rest_now F (seat_shape F s) (seat_all s)
 seat_ends F (Covered s) e = covered_over F s e
 seat_ends F (Is_away s) e = away_over F s.base s.bare s.d s.l e
 seat_ends F (Is_beside s) e = beside_over F s.base s.bare s.z s.h s.d s.strips (s.free (over_free F s.base e)) e

@@ -5,7 +5,7 @@ use Rattle.std.specs.Prelude.{◌&&◌}
 use Rattle.std.proofs.lemmas.Bool.{and_parts}
 use Rattle.nf_msgs.specs.declared.answer.Answer.{Answer}
 use Rattle.unit_machine.proofs.Machine.{At_a, Ran, Steps, after, joined, Part, pick, or_own, is_nil, MachineStep, Arrive, Take_sa, Take_ac, Take_bc, Take_ca, Take_cb}
-use Rattle.unit_machine.proofs.Lists.{Mix, Ev, Pc, Dd, events, pieces, named, shown-events, nil_is}
+use Rattle.unit_machine.proofs.Lists.{Mix, Ev, Pc, Dd, events, parts_in, named, shown-events, nil_is}
 use Rattle.unit_machine.proofs.UnitPieces.{ArePiecesOf, refit, pick_all, pick-append, pick_one, others, last_is, none_behind, nil_left, nil_right}
 use Rattle.unit_machine.proofs.Stages.{Streams, All_put, Hold_goes, Laying, Restore_goes, Doorway, Is_shut, Is_asked, Is_agreed, Is_denied, Is_wide, Is_refused, Flows, body, GoesOn}
 use Rattle.unit_machine.proofs.Early.{shapes, paths, still}
@@ -34,22 +34,22 @@ joined_pick F g h t o f =
 pub record Calm {R : Type 0} (y : List (Mix R)) (q : List (Part R)) : Type 0 where
   pub no_named : named y ≡ []
   pub no_delete : q ≡ []
-  pub no_piece : pieces y ≡ []
+  pub no_piece : parts_in y ≡ []
 
 calm : {R : Type 0} (y : List (Mix R)) (q : List (Part R)) → body y q ≡ [] → Calm y q
 calm y q e =
-    let more = nil_right (named y) (q ++ pieces y) e in
-    record { no_named = nil_left (named y) (q ++ pieces y) e; no_delete = nil_left q (pieces y) more; no_piece = nil_right q (pieces y) more }
+    let more = nil_right (named y) (q ++ parts_in y) e in
+    record { no_named = nil_left (named y) (q ++ parts_in y) e; no_delete = nil_left q (parts_in y) more; no_piece = nil_right q (parts_in y) more }
 
-calm_tests : {R : Type 0} (y : List (Mix R)) (q : List (Part R)) → is_nil (pieces y) && is_nil (named y ++ q) ≡ true → Calm y q
+calm_tests : {R : Type 0} (y : List (Mix R)) (q : List (Part R)) → is_nil (parts_in y) && is_nil (named y ++ q) ≡ true → Calm y q
 calm_tests y q e =
-    let more = nil_is (named y ++ q) (and_parts (is_nil (pieces y)) (is_nil (named y ++ q)) e).1 in
-    record { no_named = nil_left (named y) q more; no_delete = nil_right (named y) q more; no_piece = nil_is (pieces y) (and_parts (is_nil (pieces y)) (is_nil (named y ++ q)) e).0 }
+    let more = nil_is (named y ++ q) (and_parts (is_nil (parts_in y)) (is_nil (named y ++ q)) e).1 in
+    record { no_named = nil_left (named y) q more; no_delete = nil_right (named y) q more; no_piece = nil_is (parts_in y) (and_parts (is_nil (parts_in y)) (is_nil (named y ++ q)) e).0 }
 
 calm_body : {R : Type 0} (y : List (Mix R)) (q : List (Part R)) → Calm y q → body y q ≡ []
 calm_body y q c = let n = c.no_named in let m = c.no_delete in let p = c.no_piece in rw (n, m, p) refl
 
-going_body : {R : Type 0} (y : List (Mix R)) (q : List (Part R)) → is_nil (pieces y) && is_nil (named y ++ q) ≡ false → is_nil (body y q) ≡ false
+going_body : {R : Type 0} (y : List (Mix R)) (q : List (Part R)) → is_nil (parts_in y) && is_nil (named y ++ q) ≡ false → is_nil (body y q) ≡ false
 going_body y q off =
     elim (is_nil (body y q)) as (λ b. is_nil (body y q) ≡ b → b ≡ false) [
       | true ↦ λ on. let c = calm y q (nil_is (body y q) on) in
@@ -66,7 +66,7 @@ module _ {R : Type 0} (F : Steps R) (d : List Ran) (f : List ℕ) (y : List (Mix
   pub refused_deleted : (h : Part R) (v : List (Part R)) (why : Answer) (w : Flows F d (Is_refused v why) (body (Dd h ∷ y) q)) → GoesOn F (Streams d f (Dd h ∷ y) q l k (Is_refused v why) w) Take_ac
   refused_deleted h v why w =
       let fits = refit (shifted v h (body y q)) w.fits in
-      elim (is_nil (pieces y) && is_nil (named y ++ q)) as (λ b. is_nil (pieces y) && is_nil (named y ++ q) ≡ b → GoesOn F (Streams d f (Dd h ∷ y) q l k (Is_refused v why) w) Take_ac) [
+      elim (is_nil (parts_in y) && is_nil (named y ++ q)) as (λ b. is_nil (parts_in y) && is_nil (named y ++ q) ≡ b → GoesOn F (Streams d f (Dd h ∷ y) q l k (Is_refused v why) w) Take_ac) [
         | true ↦ λ on.
             let c = calm_tests y q on in
             let n = c.no_named in let m = c.no_delete in let p = c.no_piece in
@@ -85,7 +85,7 @@ module _ {R : Type 0} (F : Steps R) (d : List Ran) (f : List ℕ) (y : List (Mix
 
   pub denied : (h : Part R) (v : List (Part R)) (why : Answer) (w : Flows F d (Is_denied h v why) (body y q)) → GoesOn F (Streams d f y q l k (Is_denied h v why) w) Take_bc
   denied h v why w =
-      elim (is_nil (pieces y) && is_nil (named y ++ q)) as (λ b. is_nil (pieces y) && is_nil (named y ++ q) ≡ b → GoesOn F (Streams d f y q l k (Is_denied h v why) w) Take_bc) [
+      elim (is_nil (parts_in y) && is_nil (named y ++ q)) as (λ b. is_nil (parts_in y) && is_nil (named y ++ q) ≡ b → GoesOn F (Streams d f y q l k (Is_denied h v why) w) Take_bc) [
         | true ↦ λ on.
             let c = calm_tests y q on in
             let n = c.no_named in let m = c.no_delete in let p = c.no_piece in

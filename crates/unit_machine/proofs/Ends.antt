@@ -3,7 +3,7 @@ use Rattle.std.proofs.Common.{◌≡◌, ◌≢◌, ℕ, ◌+◌, Bool, true, fa
 use Rattle.std.proofs.lemmas.List.{map-append}
 use Rattle.nf_msgs.specs.declared.answer.Answer.{Answer}
 use Rattle.unit_machine.proofs.Machine.{Where, At_a, At_b, At_c, Ran, on, Steps, Part, Item, Pass, Fence, Enabled, Event, Piece, Deleted, Put_ok, Put_no, Restored, Fenced, Forward, Fence_to, Phase, Idle, Freezing, Streaming, Holding, Passing, Ending, Restoring, Returning, Undoing, Over, State, MachineStep, Begin, Arrive, Take_sa, Take_sb, Take_sc, Take_ac, Take_bc, Take_ca, Take_cb, Take_cs, moved, begun, from_a, from_b, on_event, a_enabled, on_piece, on_deleted, on_restored, a_fenced, on_put_ok, on_put_no, b_enabled, b_fenced, switch_does, send_side}
-use Rattle.unit_machine.proofs.Stages.{Stage, At_rest, shape, processed, all_of, loose, side_of, times, Same, Order, Placed, Allowed, arrived_by}
+use Rattle.unit_machine.proofs.Stages.{Stage, At_rest, shape, processed, all_of, loose, side_of, times, Same, IsOrderedAs, Placed, Allowed, arrived_by}
 use Rattle.unit_machine.proofs.Late.{same_lists}
 use Rattle.unit_machine.proofs.Loose.{times-append}
 use Rattle.unit_machine.proofs.Steps.{goes_on}
@@ -125,7 +125,7 @@ abbrev pub arrived : {R : Type 0} → List (MachineStep R) → List ℕ
 arrived [] = []
 arrived (m ∷ ms) = arrived_by m ++ arrived ms
 
-pub same_of : (b : Bool) (xs ys : List ℕ) → Order b xs ys → Same xs ys
+pub same_of : (b : Bool) (xs ys : List ℕ) → IsOrderedAs b xs ys → Same xs ys
 same_of true xs ys o = o
 same_of false xs ys o = same_lists o
 

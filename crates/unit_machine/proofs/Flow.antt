@@ -4,7 +4,7 @@ use Rattle.std.proofs.Common.{◌≡◌, ℕ, Bool, Option, Some, None, List, []
 use Rattle.std.specs.Prelude.{if◌then◌else◌, is_some}
 use Rattle.std.proofs.lemmas.List.{map-append}
 use Rattle.unit_machine.proofs.Machine.{At_a, Ran, Steps, after, Part, pick, or_own, Arrive, Take_sa, Take_ac, Take_ca}
-use Rattle.unit_machine.proofs.Lists.{firsts-append, events-append, pieces-append, named-append, Mix, Ev, Pc, Dd, pieces, named}
+use Rattle.unit_machine.proofs.Lists.{firsts-append, events-append, pieces-append, named-append, Mix, Ev, Pc, Dd, parts_in, named}
 use Rattle.unit_machine.proofs.UnitPieces.{ArePiecesOf, refit, others, last_is}
 use Rattle.unit_machine.proofs.Stages.{Streams, Doorway, Flows, reflow, front, body, GoesOn}
 use Rattle.unit_machine.proofs.Early.{shapes, paths, still}
@@ -30,10 +30,10 @@ pick_deleted x h t o f =
     ] refl
 
 -- the source's own piece is behind those that came before
-source : {R : Type 0} (x : List (Part R)) (y : List (Mix R)) (h : Part R) (q : List (Part R)) → x ++ body y (h ∷ q) ≡ (x ++ named y) ++ h ∷ (q ++ pieces y)
+source : {R : Type 0} (x : List (Part R)) (y : List (Mix R)) (h : Part R) (q : List (Part R)) → x ++ body y (h ∷ q) ≡ (x ++ named y) ++ h ∷ (q ++ parts_in y)
 source x y h q = simp append_assoc
 
-came : {R : Type 0} (x : List (Part R)) (y : List (Mix R)) (h : Part R) (q : List (Part R)) → x ++ body (Pc h ∷ y) q ≡ (x ++ (named y ++ q)) ++ h ∷ pieces y
+came : {R : Type 0} (x : List (Part R)) (y : List (Mix R)) (h : Part R) (q : List (Part R)) → x ++ body (Pc h ∷ y) q ≡ (x ++ (named y ++ q)) ++ h ∷ parts_in y
 came x y h q = simp append_assoc
 
 module _ {R : Type 0} (F : Steps R) (d : List Ran) (f : List ℕ) where
@@ -47,7 +47,7 @@ module _ {R : Type 0} (F : Steps R) (d : List Ran) (f : List ℕ) where
   pub deletes : (y : List (Mix R)) (q : List (Part R)) (l : List ℕ) (k : Bool) (s : Doorway R) (w : Flows F d s (body y q)) (parts : List (Part R)) → GoesOn F (Streams d f y q l k s w) (Take_ca parts)
   deletes y [] l k s w parts = (Streams d f y [] l k s w, first_of (simp shapes, cc), first_of (simp paths, cc), still At_a d)
   deletes y (h ∷ q) l k s w parts =
-      let gone = pick_deleted (front s ++ named y) h (q ++ pieces y) (after F d) (refit (source (front s) y h q) w.fits) in
+      let gone = pick_deleted (front s ++ named y) h (q ++ parts_in y) (after F d) (refit (source (front s) y h q) w.fits) in
       (Streams d f (y ++ Dd h ∷ []) q l k s (reflow (body_deleted y q h) w), rw gone (simp mixed), simp (firsts-append, append_assoc, append-nil, events-append), still At_a d)
 
   pub stores : (y : List (Mix R)) (q : List (Part R)) (l : List ℕ) (k : Bool) (s : Doorway R) (p : ℕ) (w : Flows F d s (body (Ev p ∷ y) q)) → GoesOn F (Streams d f (Ev p ∷ y) q l k s w) Take_ac
@@ -55,5 +55,5 @@ module _ {R : Type 0} (F : Steps R) (d : List Ran) (f : List ℕ) where
 
   pub piece_comes : (y : List (Mix R)) (q : List (Part R)) (l : List ℕ) (k : Bool) (s : Doorway R) (h : Part R) (w : Flows F d s (body (Pc h ∷ y) q)) → GoesOn F (Streams d f (Pc h ∷ y) q l k s w) Take_ac
   piece_comes y q l k s h w =
-      let is = last_is (front s ++ (named y ++ q)) h (pieces y) (after F d) (refit (came (front s) y h q) w.fits) in
+      let is = last_is (front s ++ (named y ++ q)) h (parts_in y) (after F d) (refit (came (front s) y h q) w.fits) in
       (Streams d f y (q ++ h ∷ []) l k s (reflow (body_piece y q h) w), rw is (simp mixed), first_of (simp paths, cc), still At_a d)

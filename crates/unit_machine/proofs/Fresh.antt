@@ -7,7 +7,7 @@ use Rattle.unit_machine.proofs.UnitPieces.{nil_right}
 use Rattle.unit_machine.proofs.Stages.{drops, Stage, At_rest, Begun, Frozen, Stream_goes, Streams, All_put, Hold_goes, Held, Laying, Turned, Fenced_a, Ending_b, Fence_b, Turned_loose, Fenced_loose, Ending_loose, Fence_loose, Fenced_b, Moved, Restore_goes, Restored_comes, Turn_goes, Turned_back, Returned, Fence_a, Fenced_back, Undone, Doorway, Is_wide, puts_of, shape, all_of}
 use Rattle.unit_machine.proofs.Bare.{bare_facts, stays_bare}
 use Rattle.unit_machine.proofs.Steps.{goes_on}
-use Rattle.unit_machine.proofs.Seats.{Seat, Covered, Is_beside, Is_away, seat_shape}
+use Rattle.unit_machine.proofs.Seats.{UnitSeat, Covered, Is_beside, Is_away, seat_shape}
 use Rattle.unit_machine.proofs.Lists.{cons_nil}
 
 -- a message at which no instance processes anything
@@ -45,12 +45,12 @@ cb_stage : {R : Type 0} (F : Steps R) (s : Stage F) → all_still (shape F s).cb
 cb_stage F (Streams d f y q l k s w) = puts_still s
 cb_stage F s = refl
 
-pub still_ca : {R : Type 0} (F : Steps R) (s : Seat F) (it : Item R) (v : List (Item R)) → (seat_shape F s).ca ≡ it ∷ v → still_item it ≡ true
+pub still_ca : {R : Type 0} (F : Steps R) (s : UnitSeat F) (it : Item R) (v : List (Item R)) → (seat_shape F s).ca ≡ it ∷ v → still_item it ≡ true
 still_ca F (Covered s) it v e = still_head it v (shape F s).ca e (ca_stage F s)
 still_ca F (Is_beside s) it v e = still_head it v (shape F s.base).ca e (ca_stage F s.base)
 still_ca F (Is_away s) it v e = still_head it v (shape F s.base).ca e (ca_stage F s.base)
 
-pub still_cb : {R : Type 0} (F : Steps R) (s : Seat F) (it : Item R) (v : List (Item R)) → (seat_shape F s).cb ≡ it ∷ v → still_item it ≡ true
+pub still_cb : {R : Type 0} (F : Steps R) (s : UnitSeat F) (it : Item R) (v : List (Item R)) → (seat_shape F s).cb ≡ it ∷ v → still_item it ≡ true
 still_cb F (Covered s) it v e = still_head it v (shape F s).cb e (cb_stage F s)
 still_cb F (Is_beside s) it v e = still_head it v (shape F s.base).cb e (cb_stage F s.base)
 still_cb F (Is_away s) it v e = still_head it v (shape F s.base).cb e (cb_stage F s.base)
@@ -146,17 +146,17 @@ bare_sb F s bare it v e =
     nil_right u.done (inst_does F At_b [] None u.b it).ran (sym (taken_sb F u it v e) ∙ none)
 
 -- The links from the switch, at any seat.
-pub fresh_sa : {R : Type 0} (F : Steps R) (s : Seat F) (it : Item R) (v : List (Item R)) (parts : List (Part R)) (refuse : Option Answer) → (seat_shape F s).sa ≡ it ∷ v → (inst_does F At_a parts refuse (seat_shape F s).a it).ran ≢ [] → (seat_shape F s).a.live ≡ after F (seat_shape F s).done
+pub fresh_sa : {R : Type 0} (F : Steps R) (s : UnitSeat F) (it : Item R) (v : List (Item R)) (parts : List (Part R)) (refuse : Option Answer) → (seat_shape F s).sa ≡ it ∷ v → (inst_does F At_a parts refuse (seat_shape F s).a it).ran ≢ [] → (seat_shape F s).a.live ≡ after F (seat_shape F s).done
 fresh_sa F (Covered s) it v parts refuse e r = sa_stage F s it v e (λ n. r (sym (ran_same F At_a parts refuse (shape F s).a it) ∙ n))
 fresh_sa F (Is_beside s) it v parts refuse e r = absurd (r (sym (ran_same F At_a parts refuse (shape F s.base).a it) ∙ bare_sa F s.base s.bare it v e))
 fresh_sa F (Is_away s) it v parts refuse e r = absurd (r (sym (ran_same F At_a parts refuse (shape F s.base).a it) ∙ bare_sa F s.base s.bare it v e))
 
-pub fresh_sb : {R : Type 0} (F : Steps R) (s : Seat F) (it : Item R) (v : List (Item R)) (parts : List (Part R)) (refuse : Option Answer) → (seat_shape F s).sb ≡ it ∷ v → (inst_does F At_b parts refuse (seat_shape F s).b it).ran ≢ [] → (seat_shape F s).b.live ≡ after F (seat_shape F s).done
+pub fresh_sb : {R : Type 0} (F : Steps R) (s : UnitSeat F) (it : Item R) (v : List (Item R)) (parts : List (Part R)) (refuse : Option Answer) → (seat_shape F s).sb ≡ it ∷ v → (inst_does F At_b parts refuse (seat_shape F s).b it).ran ≢ [] → (seat_shape F s).b.live ≡ after F (seat_shape F s).done
 fresh_sb F (Covered s) it v parts refuse e r = sb_stage F s it v e
 fresh_sb F (Is_beside s) it v parts refuse e r = let none = (bare_facts F s.base s.bare).done in rw (none, append-nil s.d) refl
 fresh_sb F (Is_away s) it v parts refuse e r = absurd (r (sym (ran_same F At_b parts refuse (shape F s.base).b it) ∙ bare_sb F s.base s.bare it v e))
 
-pub fresh_sc : {R : Type 0} (F : Steps R) (s : Seat F) (it : Item R) (v : List (Item R)) → (seat_shape F s).sc ≡ it ∷ v → (seat_shape F s).c.live ≡ after F (seat_shape F s).done
+pub fresh_sc : {R : Type 0} (F : Steps R) (s : UnitSeat F) (it : Item R) (v : List (Item R)) → (seat_shape F s).sc ≡ it ∷ v → (seat_shape F s).c.live ≡ after F (seat_shape F s).done
 fresh_sc F (Covered s) it v e = cons_nil (sym e ∙ sc_stage F s)
 fresh_sc F (Is_beside s) it v e = cons_nil (sym e ∙ sc_stage F s.base)
 fresh_sc F (Is_away s) it v e = let none = (bare_facts F s.base s.bare).done in rw (none, append-nil s.d) refl

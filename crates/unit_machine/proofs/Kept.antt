@@ -3,7 +3,7 @@
 use Rattle.std.proofs.Common.{◌≡◌, ℕ, Bool, Option, Some, None, List, [], ◌∷◌, ◌++◌, map, refl, sym, ap, ◌∙◌, append_assoc, append-nil}
 use Rattle.std.specs.Prelude.{option_to_list}
 use Rattle.unit_machine.proofs.Machine.{Ran, Steps, after, Part, pick, Item, Put, Restore, Event, Piece, Put_no, Phase, Streaming, next, delete, State}
-use Rattle.unit_machine.proofs.Lists.{Mix, Ev, Pc, Dd, shown, pieces, named}
+use Rattle.unit_machine.proofs.Lists.{Mix, Ev, Pc, Dd, shown, parts_in, named}
 use Rattle.unit_machine.proofs.UnitPieces.{records, records-append, first, pick_first, nil_left, nil_right}
 use Rattle.unit_machine.proofs.Stages.{Stage, At_rest, Begun, Frozen, Stream_goes, Streams, All_put, Hold_goes, Held, Laying, Turned, Fenced_a, Ending_b, Fence_b, Turned_loose, Fenced_loose, Ending_loose, Fence_loose, Fenced_b, Moved, Restore_goes, Restored_comes, Turn_goes, Turned_back, Returned, Fence_a, Fenced_back, Undone, Doorway, Is_shut, Is_asked, Is_agreed, Is_denied, Is_wide, Is_refused, Flows, front, free_of, puts_of, answers_of, live_of, body, shape}
 
@@ -54,10 +54,10 @@ none_on_events R (p ∷ l) = none_on_events R l
 pub records_one : {R : Type 0} (h : Part R) (t : List (Part R)) → records (h ∷ t) ≡ option_to_list h.own ++ records t
 records_one {R = R} h t = elim h.own as (λ o. elim o as (λ _. List R) [ None ↦ records t | Some r ↦ r ∷ records t ] ≡ option_to_list o ++ records t) [ None ↦ refl | Some r ↦ refl ]
 
-on_pieces : {R : Type 0} (y : List (Mix R)) → records_on (map shown y) ≡ records (pieces y)
+on_pieces : {R : Type 0} (y : List (Mix R)) → records_on (map shown y) ≡ records (parts_in y)
 on_pieces [] = refl
 on_pieces (Ev p ∷ y) = on_pieces y
-on_pieces (Pc h ∷ y) = ap (λ z. option_to_list h.own ++ z) (on_pieces y) ∙ sym (records_one h (pieces y))
+on_pieces (Pc h ∷ y) = ap (λ z. option_to_list h.own ++ z) (on_pieces y) ∙ sym (records_one h (parts_in y))
 on_pieces (Dd h ∷ y) = on_pieces y
 
 on_puts : {R : Type 0} (w : List (Part R)) → records_on (map next w) ≡ records w
@@ -139,14 +139,14 @@ way_is (Is_refused v why) q = rw (none_on_deletes q) (append-nil (records v))
 
 streams_kept : {R : Type 0} (F : Steps R) (d : List Ran) (f : List ℕ) (y : List (Mix R)) (q : List (Part R)) (l : List ℕ) (k : Bool) (s : Doorway R) (w : Flows F d s (body y q)) → IsKept F (shape F (Streams d f y q l k s w))
 streams_kept F d f y q l k s w =
-    let whole : put_records s ++ (way_records s ++ (records (named y) ++ (records q ++ records (pieces y)))) ≡ option_to_list (after F d) =
-    sym (append_assoc (put_records s) (way_records s) (records (named y) ++ (records q ++ records (pieces y))))
-    ∙ ap (λ z. z ++ (records (named y) ++ (records q ++ records (pieces y)))) (sym (front_records s))
-    ∙ ap (λ z. records (front s) ++ (records (named y) ++ z)) (sym (records-append q (pieces y)))
-    ∙ ap (λ z. records (front s) ++ z) (sym (records-append (named y) (q ++ pieces y)))
+    let whole : put_records s ++ (way_records s ++ (records (named y) ++ (records q ++ records (parts_in y)))) ≡ option_to_list (after F d) =
+    sym (append_assoc (put_records s) (way_records s) (records (named y) ++ (records q ++ records (parts_in y))))
+    ∙ ap (λ z. z ++ (records (named y) ++ (records q ++ records (parts_in y)))) (sym (front_records s))
+    ∙ ap (λ z. records (front s) ++ (records (named y) ++ z)) (sym (records-append q (parts_in y)))
+    ∙ ap (λ z. records (front s) ++ z) (sym (records-append (named y) (q ++ parts_in y)))
     ∙ sym (records-append (front s) (body y q)) ∙ w.fits.one in
-    let placed = spread (after F d) (put_records s) (way_records s) (records (named y)) (records q) (records (pieces y)) whole in
-    let source : pick (q ++ pieces y) ≡ first (records q ++ records (pieces y)) = pick_first (q ++ pieces y) ∙ ap first (records-append q (pieces y)) in
+    let placed = spread (after F d) (put_records s) (way_records s) (records (named y)) (records q) (records (parts_in y)) whole in
+    let source : pick (q ++ parts_in y) ≡ first (records q ++ records (parts_in y)) = pick_first (q ++ parts_in y) ∙ ap first (records-append q (parts_in y)) in
     let live = live_first s in
     let way = way_is s q in
     let on_ac = on_pieces y in

@@ -18,7 +18,7 @@ pub mod Path
 pub mod Kept
 pub mod Bare
 pub mod Away
-pub mod Beside
+pub mod DestinationUnits
 pub mod Ends
 pub mod Rests
 pub mod Falls

@@ -104,11 +104,11 @@ events (Ev p ∷ y) = p ∷ events y
 events (Pc h ∷ y) = events y
 events (Dd h ∷ y) = events y
 
-abbrev pub pieces : {R : Type 0} → List (Mix R) → List (Part R)
-pieces [] = []
-pieces (Ev p ∷ y) = pieces y
-pieces (Pc h ∷ y) = h ∷ pieces y
-pieces (Dd h ∷ y) = pieces y
+abbrev pub parts_in : {R : Type 0} → List (Mix R) → List (Part R)
+parts_in [] = []
+parts_in (Ev p ∷ y) = parts_in y
+parts_in (Pc h ∷ y) = h ∷ parts_in y
+parts_in (Dd h ∷ y) = parts_in y
 
 -- the pieces whose Deleted is on the link
 abbrev pub named : {R : Type 0} → List (Mix R) → List (Part R)
@@ -123,7 +123,7 @@ events-append (Ev p ∷ x) y = ap (λ z. p ∷ z) (events-append x y)
 events-append (Pc h ∷ x) y = events-append x y
 events-append (Dd h ∷ x) y = events-append x y
 
-pub pieces-append : {R : Type 0} (x y : List (Mix R)) → pieces (x ++ y) ≡ pieces x ++ pieces y
+pub pieces-append : {R : Type 0} (x y : List (Mix R)) → parts_in (x ++ y) ≡ parts_in x ++ parts_in y
 pieces-append [] y = refl
 pieces-append (Ev p ∷ x) y = pieces-append x y
 pieces-append (Pc h ∷ x) y = ap (λ z. h ∷ z) (pieces-append x y)
@@ -141,7 +141,7 @@ events-sent [] [] = refl
 events-sent [] (p ∷ ps) = events-sent [] ps
 events-sent (x ∷ e) ps = ap (λ z. x ∷ z) (events-sent e ps)
 
-pub pieces-sent : {R : Type 0} (e : List ℕ) (ps : List (Part R)) → pieces (map Ev e ++ map Pc ps) ≡ ps
+pub pieces-sent : {R : Type 0} (e : List ℕ) (ps : List (Part R)) → parts_in (map Ev e ++ map Pc ps) ≡ ps
 pieces-sent [] [] = refl
 pieces-sent [] (p ∷ ps) = ap (λ z. p ∷ z) (pieces-sent [] ps)
 pieces-sent (x ∷ e) ps = pieces-sent e ps
@@ -164,7 +164,7 @@ map_nil g [] e = refl
 map_nil g (x ∷ xs) e = cons_nil e
 
 -- where no piece and no Deleted is left, the link has events alone
-pub shown-events : {R : Type 0} (y : List (Mix R)) → named y ≡ [] → pieces y ≡ [] → map shown y ≡ map Event (events y)
+pub shown-events : {R : Type 0} (y : List (Mix R)) → named y ≡ [] → parts_in y ≡ [] → map shown y ≡ map Event (events y)
 shown-events [] n p = refl
 shown-events (Ev x ∷ y) n p = ap (λ z. Event x ∷ z) (shown-events y n p)
 shown-events (Pc h ∷ y) n p = cons_nil p

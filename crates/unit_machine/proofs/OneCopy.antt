@@ -3,7 +3,7 @@ use Rattle.std.proofs.Common.{◌≡◌, ◌+◌, ◌≤◌, Option, List, ◌�
 use Rattle.std.specs.Prelude.{option_to_list}
 use Rattle.unit_machine.proofs.Machine.{Steps, Item}
 use Rattle.unit_machine.proofs.Kept.{records_on, record_in, frozen_in, free_in, Kept, Nowhere, Is_live, On_way, Twice}
-use Rattle.unit_machine.proofs.Seats.{Seat, seat_shape}
+use Rattle.unit_machine.proofs.Seats.{UnitSeat, seat_shape}
 use Rattle.unit_machine.proofs.SeatLaws.{seat_kept}
 
 one_way : {R : Type 0} (o a : Option R) (live way : List R) → Kept o a live way → length way ≤ 1
@@ -22,7 +22,7 @@ six a b c d e f =
     let t = length-append e f in
     omega (arith, p, q, r, s, t)
 
-pub few_records : {R : Type 0} (F : Steps R) (s : Seat F) → length (records_on (seat_shape F s).bc) + (length (frozen_in (seat_shape F s).phase) + length (free_in (seat_shape F s).phase)) ≤ 1
+pub few_records : {R : Type 0} (F : Steps R) (s : UnitSeat F) → length (records_on (seat_shape F s).bc) + (length (frozen_in (seat_shape F s).phase) + length (free_in (seat_shape F s).phase)) ≤ 1
 few_records F s =
     let x = seat_shape F s in
     let most = one_way _ _ _ _ (seat_kept F s) in

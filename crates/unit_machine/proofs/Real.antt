@@ -17,8 +17,8 @@ Chunks R = List (units.Unit × R)
 abbrev pub record_at : {R : Type 0} → units.Unit → Chunks R → Option R
 record_at = find unit_cmp
 
-abbrev pub unit_of : {R : Type 0} → units.Unit × R → units.Unit
-unit_of c = c.0
+abbrev pub chunk_unit : {R : Type 0} → units.Unit × R → units.Unit
+chunk_unit c = c.0
 
 pub record RPiece (R : Type 0) : Type 0 where
   pub chunks : Chunks R
@@ -106,7 +106,7 @@ r_a_enabled o (R_returning why) f = r_goes (R_undoing why) [] (map (forward_to o
 r_a_enabled o phase f = r_goes phase f []
 
 abbrev pub r_piece : {R : Type 0} → Op → RPhase R → List ℕ → RPiece R → Op_did R
-r_piece o (R_streaming fz fr came door) f p = r_goes (R_streaming (fz ++ p ∷ []) fr (came || p.last) door) f ((o.src, M_delete o.num (map unit_of p.chunks)) ∷ [])
+r_piece o (R_streaming fz fr came door) f p = r_goes (R_streaming (fz ++ p ∷ []) fr (came || p.last) door) f ((o.src, M_delete o.num (map chunk_unit p.chunks)) ∷ [])
 r_piece o phase f p = r_goes phase f []
 
 abbrev pub r_deleted : {R : Type 0} → Op → RPhase R → List ℕ → Op_did R

@@ -8,18 +8,18 @@ use Rattle.unit_machine.proofs.Loose.{times-append}
 use Rattle.unit_machine.proofs.Late.{same_lists}
 use Rattle.unit_machine.proofs.Kept.{Kept, Nowhere, Is_live, IsKept, is_kept}
 use Rattle.unit_machine.proofs.Away.{shape_away, away_kept}
-use Rattle.unit_machine.proofs.Beside.{shape_beside, beside_kept}
+use Rattle.unit_machine.proofs.DestinationUnits.{shape_beside, beside_kept}
 use Rattle.unit_machine.proofs.Ends.{run, AllAllowed, arrived, same_of}
 use Rattle.unit_machine.proofs.Falls.{total}
 use Rattle.unit_machine.proofs.Length.{answers_awaited, answers_are, falls, AllTake, all_takes, all_adds}
-use Rattle.unit_machine.proofs.Seats.{Seat, Covered, Is_beside, Is_away, seat_shape, seat_all, seat_loose, base_of, seat_allowed, seat_goes_on}
+use Rattle.unit_machine.proofs.Seats.{UnitSeat, Covered, Is_beside, Is_away, seat_shape, seat_all, seat_loose, base_of, seat_allowed, seat_goes_on}
 
 -- the record of the fold stands at one place
 alone : {R : Type 0} (o a : Option R) → Kept o a (option_to_list o) []
 alone None a = Nowhere refl refl refl
 alone (Some r) a = Is_live r refl refl refl
 
-pub seat_kept : {R : Type 0} (F : Steps R) (s : Seat F) → IsKept F (seat_shape F s)
+pub seat_kept : {R : Type 0} (F : Steps R) (s : UnitSeat F) → IsKept F (seat_shape F s)
 seat_kept F (Covered s) = is_kept F s
 seat_kept F (Is_beside s) = let k = beside_kept F s in rw (k.0, k.1, k.2) (alone (after F s.d) (shape_beside F s).a.live)
 seat_kept F (Is_away s) = let k = away_kept F s in rw (k.0, k.1, k.2) (alone (after F s.d) (shape_away F s).a.live)
@@ -29,11 +29,11 @@ allowed_same : {R : Type 0} (u v : State R) → u.a.live ≡ v.a.live → (m : M
 allowed_same u v e (Take_ca parts) a = subst (λ o. ArePiecesOf parts o) e a
 allowed_same u v e m a = tt
 
-seat_allows : {R : Type 0} (F : Steps R) (s : Seat F) (m : MachineStep R) → Allowed (seat_shape F s) m → Allowed (shape F (base_of s)) m
+seat_allows : {R : Type 0} (F : Steps R) (s : UnitSeat F) (m : MachineStep R) → Allowed (seat_shape F s) m → Allowed (shape F (base_of s)) m
 seat_allows F s m a = allowed_same (seat_shape F s) (shape F (base_of s)) (seat_allowed F s) m a
 
 -- each packet once
-pub seat_runs_on : {R : Type 0} (F : Steps R) (ms : List (MachineStep R)) (s : Seat F) → AllAllowed F (seat_shape F s) ms → (t : Seat F) × (run F (seat_shape F s) ms ≡ seat_shape F t) × Same (seat_all t) (seat_all s ++ arrived ms)
+pub seat_runs_on : {R : Type 0} (F : Steps R) (ms : List (MachineStep R)) (s : UnitSeat F) → AllAllowed F (seat_shape F s) ms → (t : UnitSeat F) × (run F (seat_shape F s) ms ≡ seat_shape F t) × Same (seat_all t) (seat_all s ++ arrived ms)
 seat_runs_on F [] s a = (s, refl, same_lists (sym (append-nil (seat_all s))))
 seat_runs_on F (m ∷ ms) s a =
     let g = seat_goes_on F s m (seat_allows F s m a.0) in
@@ -46,13 +46,13 @@ seat_runs_on F (m ∷ ms) s a =
           r.2 p ∙ times-append p (seat_all g.0) (arrived ms) ∙ ap (λ n. n + times p (arrived ms)) one ∙ sym (times-append p (seat_all s ++ arrived_by m) (arrived ms)) ∙ ap (λ z. times p z) (append_assoc (seat_all s) (arrived_by m) (arrived ms)),
     )
 
-seat_answers : {R : Type 0} (F : Steps R) (s : Seat F) → answers_awaited (seat_shape F s).phase (seat_shape F s).bc ≡ true
+seat_answers : {R : Type 0} (F : Steps R) (s : UnitSeat F) → answers_awaited (seat_shape F s).phase (seat_shape F s).bc ≡ true
 seat_answers F (Covered s) = answers_are F s
 seat_answers F (Is_beside s) = answers_are F s.base
 seat_answers F (Is_away s) = answers_are F s.base
 
 -- and no run is longer than what was added: 4 a packet, 13 a move, 4 a piece
-pub seat_length : {R : Type 0} (F : Steps R) (ms : List (MachineStep R)) (s : Seat F) → AllAllowed F (seat_shape F s) ms → AllTake F (seat_shape F s) ms → total (run F (seat_shape F s) ms) + all_takes ms ≤ total (seat_shape F s) + all_adds F (seat_shape F s) ms
+pub seat_length : {R : Type 0} (F : Steps R) (ms : List (MachineStep R)) (s : UnitSeat F) → AllAllowed F (seat_shape F s) ms → AllTake F (seat_shape F s) ms → total (run F (seat_shape F s) ms) + all_takes ms ≤ total (seat_shape F s) + all_adds F (seat_shape F s) ms
 seat_length F [] s a t = omega arith
 seat_length F (m ∷ ms) s a t =
     let g = seat_goes_on F s m (seat_allows F s m a.0) in

@@ -6,7 +6,7 @@ use Rattle.nf_function.specs.declared.unit.Unit as units
 use Rattle.record_table.specs.Table.{same_unit, is_among}
 use Rattle.nf_msgs.specs.declared.answer.Answer.{Answer}
 use Rattle.unit_machine.proofs.Machine.{Where, At_a, At_b, Buffers, pick, or_own, is_nil, next, Item, Enable, Stream, Delete, Restore, Enabled, Event, Piece, Deleted, Put_ok, Put_no, Restored, Fenced, Forward, Fence_to, Door, Shut, Asked, Wide, Refused, Streaming, Restoring, Returning, C_did, goes, release, is_put, from_a, from_b, on_event, a_enabled, on_piece, on_deleted, on_restored, a_fenced, on_put_ok, on_put_no, b_enabled, b_fenced, push}
-use Rattle.unit_machine.proofs.Real.{Chunks, record_at, unit_of, RPiece, chunks_of, Msg, M_enable, M_stream, M_delete, M_put, M_restore, M_enabled, M_event, M_piece, M_deleted, M_put_ok, M_put_no, M_restored, M_fenced, M_forward, M_install, M_fence_to, RPhase, R_freezing, R_streaming, R_holding, R_passing, R_ending, R_restoring, R_returning, R_undoing, R_over, Op, r_goes, forward_to, r_push, r_release, r_is_put, r_event, r_a_enabled, r_piece, r_deleted, r_restored, r_a_fenced, r_from_a, r_put_ok, r_put_no, r_b_enabled, r_b_fenced, r_from_b, Frame, where_true, see, sends_to, seen, add, view, only_mine, see_phase, sent_for, Sees, put_back}
+use Rattle.unit_machine.proofs.Real.{Chunks, record_at, chunk_unit, RPiece, chunks_of, Msg, M_enable, M_stream, M_delete, M_put, M_restore, M_enabled, M_event, M_piece, M_deleted, M_put_ok, M_put_no, M_restored, M_fenced, M_forward, M_install, M_fence_to, RPhase, R_freezing, R_streaming, R_holding, R_passing, R_ending, R_restoring, R_returning, R_undoing, R_over, Op, r_goes, forward_to, r_push, r_release, r_is_put, r_event, r_a_enabled, r_piece, r_deleted, r_restored, r_a_fenced, r_from_a, r_put_ok, r_put_no, r_b_enabled, r_b_fenced, r_from_b, Frame, where_true, see, sends_to, seen, add, view, only_mine, see_phase, sent_for, Sees, put_back}
 
 -- chunks at a unit
 pub record_at-append : {R : Type 0} (u : units.Unit) (x y : Chunks R) → record_at u (x ++ y) ≡ or_own (record_at u x) (record_at u y)
@@ -17,10 +17,10 @@ record_at-append u (c ∷ x) y =
       | false ↦ record_at-append u x y
     ]
 
-pub is_among-units : {R : Type 0} (u : units.Unit) (x : Chunks R) → is_among (map unit_of x) u ≡ is_some (record_at u x)
+pub is_among-units : {R : Type 0} (u : units.Unit) (x : Chunks R) → is_among (map chunk_unit x) u ≡ is_some (record_at u x)
 is_among-units u [] = refl
 is_among-units u (c ∷ x) =
-    elim (same_unit u c.0) as (λ b. (b || is_among (map unit_of x) u) ≡ is_some (if b then Some c.1 else record_at u x)) [
+    elim (same_unit u c.0) as (λ b. (b || is_among (map chunk_unit x) u) ≡ is_some (if b then Some c.1 else record_at u x)) [
       | true ↦ refl
       | false ↦ is_among-units u x
     ]
@@ -67,7 +67,7 @@ none_to r s g [] e = refl
 none_to r s g (x ∷ xs) e = rw e (none_to r s g xs e)
 
 -- the nodes of a move are apart
-pub record Apart (o : Op) : Type 0 where
+pub record NodesDiffer (o : Op) : Type 0 where
   pub num : (o.num == o.num) ≡ true
   pub src : (o.src == o.src) ≡ true
   pub dst : (o.dst == o.dst) ≡ true
@@ -91,7 +91,7 @@ r_fwd to p = M_forward p to
 abbrev r_put : {R : Type 0} → ℕ → RPiece R → Msg R
 r_put n p = M_put n p false
 
-module _ {R : Type 0} (o : Op) (mine : ℕ → Bool) (u : units.Unit) (t : Apart o) where
+module _ {R : Type 0} (o : Op) (mine : ℕ → Bool) (u : units.Unit) (t : NodesDiffer o) where
   view_puts : (fr : List (RPiece R)) → view (frame_of o mine u) (map (r_put o.num) fr) ≡ map next (map (see (frame_of o mine u)) fr)
   view_puts [] = refl
   view_puts (p ∷ fr) = let n = t.num in rw n (ap (λ z. next (see (frame_of o mine u) p) ∷ z) (view_puts fr))
@@ -191,7 +191,7 @@ module _ {R : Type 0} (o : Op) (mine : ℕ → Bool) (u : units.Unit) (t : Apart
       let e = map-append (see (frame_of o mine u)) fz (p ∷ []) in
       let n = t.num in
       let h = is_among-units u p.chunks in
-      rw (← e) (to_source (R_streaming (fz ++ p ∷ []) fr (came || p.last) door) f (M_delete o.num (map unit_of p.chunks)) (Delete (is_some (record_at u p.chunks))) (rw (n, h) refl))
+      rw (← e) (to_source (R_streaming (fz ++ p ∷ []) fr (came || p.last) door) f (M_delete o.num (map chunk_unit p.chunks)) (Delete (is_some (record_at u p.chunks))) (rw (n, h) refl))
   piece_seen phase f p = quiet phase f
 
   deleted_seen : (phase : RPhase R) (f : List ℕ) → Sees (frame_of o mine u) (r_deleted o phase f) (on_deleted (see_phase (frame_of o mine u) phase) (only_mine (frame_of o mine u) f))

@@ -6,10 +6,10 @@ use Rattle.unit_machine.proofs.Lists.{firsts}
 use Rattle.unit_machine.proofs.UnitPieces.{nil_left, nil_right}
 use Rattle.unit_machine.proofs.Stages.{Stage, At_rest, Streams, Is_shut, Is_agreed, Laying, Turned, Fenced_a, Ending_b, Fence_b, Turned_loose, Fenced_loose, Ending_loose, Fence_loose, Fenced_b, Moved, shape, path, all_of, to_a, to_b}
 use Rattle.unit_machine.proofs.Path.{passes_in, carries, events_in, forwards, path_of, path_is, passes_in-append, no_passes, all_carries, no_carries}
-use Rattle.unit_machine.proofs.Beside.{strip, Beside, shape_beside}
+use Rattle.unit_machine.proofs.DestinationUnits.{strip, DestinationUnit, shape_beside}
 use Rattle.unit_machine.proofs.Away.{Away, shape_away}
 use Rattle.unit_machine.proofs.Rests.{is_over}
-use Rattle.unit_machine.proofs.Seats.{Seat, Covered, Is_beside, Is_away, seat_shape, seat_path}
+use Rattle.unit_machine.proofs.Seats.{UnitSeat, Covered, Is_beside, Is_away, seat_shape, seat_path}
 
 -- what an instance holds, and behind it what comes to it by the rules
 abbrev pub at_side : {R : Type 0} → Inst R → List (Item R) → List ℕ
@@ -191,7 +191,7 @@ passes-strip (Carry p ∷ z) = passes-strip z
 passes-strip (Pass p ∷ z) = ap (λ v. p ∷ v) (passes-strip z)
 passes-strip (x ∷ z) = passes-strip z
 
-beside_stands : {R : Type 0} (F : Steps R) (s : Beside F) → SidesStand (shape_beside F s) (s.h ++ carries s.z)
+beside_stands : {R : Type 0} (F : Steps R) (s : DestinationUnit F) → SidesStand (shape_beside F s) (s.h ++ carries s.z)
 beside_stands F s =
     let base = stage_stands F s.base in
     let none = bare_none F s.base s.bare in
@@ -221,7 +221,7 @@ away_stands {R = R} F s =
       last = At_third refl (rw (none.held_a, none.carries_a) refl) (rw (none.held_b, none.carries_b) refl) (rw (none.passes_a, none.passes_b, none.forwards_s, none.store, none.events_a) (sym (all_carries R s.l)));
     }
 
-pub seat_stands : {R : Type 0} (F : Steps R) (s : Seat F) → SidesStand (seat_shape F s) (seat_path s)
+pub seat_stands : {R : Type 0} (F : Steps R) (s : UnitSeat F) → SidesStand (seat_shape F s) (seat_path s)
 seat_stands F (Covered s) = stage_stands F s
 seat_stands F (Is_beside s) = beside_stands F s
 seat_stands F (Is_away s) = away_stands F s

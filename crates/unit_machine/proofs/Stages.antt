@@ -4,12 +4,12 @@ use Rattle.std.proofs.Common.{◌≡◌, ℕ, ◌+◌, Bool, true, false, Option
 use Rattle.std.specs.Prelude.{if◌then◌else◌, ◌==◌}
 use Rattle.nf_msgs.specs.declared.answer.Answer.{Answer}
 use Rattle.unit_machine.proofs.Machine.{Where, At_a, At_b, Ran, on, Steps, after, Part, pick, is_nil, Item, Carry, Pass, Fence, Enable, Stream, Put, Restore, Enabled, Event, Put_ok, Put_no, Restored, Fenced, Forward, Fence_to, Install, Free, Drops, Buffers, Inst, idle, Door, Shut, Asked, Wide, Refused, Idle, Freezing, Streaming, Holding, Passing, Ending, Restoring, Returning, Undoing, Over, next, delete, State, MachineStep, Arrive, Take_ca, moved}
-use Rattle.unit_machine.proofs.Lists.{firsts, marked, passes, plains, Mix, shown, events, pieces, named}
+use Rattle.unit_machine.proofs.Lists.{firsts, marked, passes, plains, Mix, shown, events, parts_in, named}
 use Rattle.unit_machine.proofs.UnitPieces.{ArePiecesOf}
 
 -- the pieces that aren't free yet, in order: Deleted on the link, Delete on the link, on the link themselves
 abbrev pub body : {R : Type 0} → List (Mix R) → List (Part R) → List (Part R)
-body y q = named y ++ (q ++ pieces y)
+body y q = named y ++ (q ++ parts_in y)
 
 -- the door with the pieces behind it: those that are put (g), on their way to B (w), free (v)
 pub data Doorway (R : Type 0) : Type 0 where
@@ -148,9 +148,9 @@ shape F (Streams d f y q l k s w) = record (rest k) {
   ca = map delete q;
   cb = puts_of s;
   bc = answers_of s;
-  a = drops (pick (q ++ pieces y));
+  a = drops (pick (q ++ parts_in y));
   b = idle (live_of s);
-  phase = Streaming (named y ++ q) (free_of s) (is_nil (pieces y)) (door_of s);
+  phase = Streaming (named y ++ q) (free_of s) (is_nil (parts_in y)) (door_of s);
   store = f;
   done = d;
 }
@@ -244,9 +244,9 @@ times p (x ∷ xs) = (if p == x then 1 else 0) + times p xs
 abbrev pub Same : List ℕ → List ℕ → Type 0
 Same xs ys = (p : ℕ) → times p xs ≡ times p ys
 
-abbrev pub Order : Bool → List ℕ → List ℕ → Type 0
-Order true xs ys = Same xs ys
-Order false xs ys = xs ≡ ys
+abbrev pub IsOrderedAs : Bool → List ℕ → List ℕ → Type 0
+IsOrderedAs true xs ys = Same xs ys
+IsOrderedAs false xs ys = xs ≡ ys
 
 -- what was processed grew at one side alone
 abbrev pub Placed : Where → List Ran → List Ran → Type 0
@@ -262,4 +262,4 @@ Allowed u (Take_ca parts) = ArePiecesOf parts u.a.live
 Allowed u m = Unit {0}
 
 abbrev pub GoesOn : {R : Type 0} → (F : Steps R) → Stage F → MachineStep R → Type 0
-GoesOn F s m = (t : Stage F) × (moved F (shape F s) m ≡ shape F t) × Order (loose t) (all_of t) (all_of s ++ arrived_by m) × Placed (side_of s) (processed s) (processed t)
+GoesOn F s m = (t : Stage F) × (moved F (shape F s) m ≡ shape F t) × IsOrderedAs (loose t) (all_of t) (all_of s ++ arrived_by m) × Placed (side_of s) (processed s) (processed t)

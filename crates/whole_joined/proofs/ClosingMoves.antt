@@ -16,7 +16,7 @@ use Rattle.move_op.specs.declared.phase.Phase.{Phase}
 use Rattle.move_op.specs.declared.phase.Phase.TheVariants as phase
 use Rattle.move_op.specs.Move.{MovePlan, MoveState, MoveRow, row, answer_of, keeps, goes, chunks_of, have_units, source, destination, pushed, all_put, on_event, on_source_enabled, on_piece, on_deleted, on_restored, on_source_fenced, on_put_ok, on_put_no, on_destination_enabled, on_destination_fenced, from_source, from_destination, put_back}
 use Rattle.abstract_net.proofs.Net.{Open, find_op}
-use Rattle.abstract_net.proofs.Shares.{Whole}
+use Rattle.abstract_net.proofs.Shares.{WholeWorld}
 use Rattle.abstract_net.proofs.Stores.{ends, nothing}
 use Rattle.whole_net.proofs.WhereAll.{Came}
 use Rattle.whole_net.proofs.EveryAll.{Every_all}
@@ -131,7 +131,7 @@ module _ {R : Type 0} (f : Semantics R) (g : Given) where
   ends_at (phase.Undoing why) e = refl
   ends_at ph e = cc
 
-  pub closed_empty : (w : Whole (S f g) (A f g)) (came : units.Unit → Came) → Every_all (S f g) (A f g) (is_sys f g.site g.packet) w came → (n : ℕ) (e : Open R) (mv : MoveState) (events : List FullCell) → find_op w.ops n ≡ Some e → SeesMove f (place g) e mv events → answer_of mv.phase ≡ None → (port : ℕ) (m : Msg) (why : Answer) → answer_of (row mv events port m).next.phase ≡ Some why → unwrap_or (row mv events port m).stored events ≡ []
+  pub closed_empty : (w : WholeWorld (S f g) (A f g)) (came : units.Unit → Came) → Every_all (S f g) (A f g) (is_sys f g.site g.packet) w came → (n : ℕ) (e : Open R) (mv : MoveState) (events : List FullCell) → find_op w.ops n ≡ Some e → SeesMove f (place g) e mv events → answer_of mv.phase ≡ None → (port : ℕ) (m : Msg) (why : Answer) → answer_of (row mv events port m).next.phase ≡ Some why → unwrap_or (row mv events port m).stored events ≡ []
   closed_empty w came every n e mv events there sees going port m why over =
       let c = closes mv.plan events mv.phase port m why going over in
       let none : e.store ≡ [] = nothing (S f g) (is_sys f g.site g.packet) e.store (λ u. none_left_all (S f g) (A f g) (is_sys f g.site g.packet) w came every n e there u (ap ends sees.phase ∙ ends_at mv.phase c.at)) in

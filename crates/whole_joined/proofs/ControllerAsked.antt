@@ -23,7 +23,7 @@ use Rattle.unit_machine.proofs.Real.{sent_for}
 use Rattle.unit_machine.proofs.Labels.{Each}
 use Rattle.abstract_net.proofs.Net.{behind}
 use Rattle.abstract_net.proofs.Waits.{Rising}
-use Rattle.abstract_net.proofs.Shares.{Any, New, S_asked, S_install, Want_share, new_share, Whole, whole_ctrl, begin_share, May_share}
+use Rattle.abstract_net.proofs.Shares.{Any, New, S_asked, S_install, Want_share, new_share, WholeWorld, whole_ctrl, begin_share, May_share}
 use Rattle.whole_net.proofs.EveryAll.{ctrl_every_all, share_every_all}
 use Rattle.outline_net.proofs.FiltersApart.{is_whole}
 use Rattle.outline_net.proofs.Outline.{is_sys}
@@ -105,10 +105,10 @@ module _ {F R : Type 0} (f : Semantics R) (g : Given) (n : ℕ) (x : Scene F f g
         }
 
     -- first the command is taken, and then the share begins
-    abbrev asked : Whole (S f g) (A f g)
+    abbrev asked : WholeWorld (S f g) (A f g)
     asked = whole_ctrl (S f g) (A f g) x.world p its_message
 
-    abbrev after : Whole (S f g) (A f g)
+    abbrev after : WholeWorld (S f g) (A f g)
     after = begin_share (S f g) (A f g) asked its
 
     fresh : x.world.next ≤ cmd.op

@@ -30,11 +30,11 @@ use Rattle.actor_net.proofs.WeightLaws.{EachSent}
 use Rattle.unit_machine.proofs.Real.{sent_for}
 use Rattle.unit_machine.proofs.Labels.{Each, each-append}
 use Rattle.abstract_net.proofs.Net as net
-use Rattle.abstract_net.proofs.Net.{Want, Open, new_op, begin_sends, meets_any, behind, links_after}
+use Rattle.abstract_net.proofs.Net.{MoveAsked, Open, new_op, begin_sends, meets_any, behind, links_after}
 use Rattle.abstract_net.proofs.Waits.{Rising}
 use Rattle.abstract_net.proofs.Units.{May}
 use Rattle.abstract_net.proofs.ShareLists.{Nums_apart}
-use Rattle.abstract_net.proofs.Shares.{Any, Old, New, S_asked, S_get, Want_share, Open_share, find_share, Whole, moves_of, as_old, whole_ctrl, begin_move, puts_get, meets_shares}
+use Rattle.abstract_net.proofs.Shares.{Any, Old, New, S_asked, S_get, Want_share, Open_share, find_share, WholeWorld, moves_of, as_old, whole_ctrl, begin_move, puts_get, meets_shares}
 use Rattle.whole_net.proofs.EveryAll.{ctrl_every_all, move_every_all, get_every_all}
 use Rattle.outline_net.proofs.FiltersApart.{is_whole}
 use Rattle.outline_net.proofs.Outline.{want_at, want_of, is_sys}
@@ -152,7 +152,7 @@ module _ {F R : Type 0} (f : Semantics R) (g : Given) (n : ℕ) (x : Scene F f g
   Stays a = Idles f g n x p (msg.Asked cmd) are is a
 
   -- what the abstract controller does with it: nothing yet
-  old_idle : (o : Option Want) (a : Any R) → option_map (λ w. Old (net.Asked w)) o ≡ Some a → Stays a
+  old_idle : (o : Option MoveAsked) (a : Any R) → option_map (λ w. Old (net.Asked w)) o ≡ Some a → Stays a
   old_idle None a e = cc
   old_idle (Some w) a e = let same : Old (net.Asked w) ≡ a = cc in subst Stays same refl
 
@@ -205,7 +205,7 @@ module _ {F R : Type 0} (f : Semantics R) (g : Given) (n : ℕ) (x : Scene F f g
     abbrev plan : MovePlan
     plan = record { op = cmd.op; from = from; to = to; filter = filter; keep = keep }
 
-    abbrev its : Want
+    abbrev its : MoveAsked
     its = record { num = cmd.op; src = instance_node from; dst = instance_node to; keep = keep; filter = filter }
 
     abbrev its_message : Any R
@@ -239,10 +239,10 @@ module _ {F R : Type 0} (f : Semantics R) (g : Given) (n : ℕ) (x : Scene F f g
     }
 
     -- first the command is taken, and then the move begins
-    abbrev asked : Whole (S f g) (A f g)
+    abbrev asked : WholeWorld (S f g) (A f g)
     asked = whole_ctrl (S f g) (A f g) x.world p its_message
 
-    abbrev after : Whole (S f g) (A f g)
+    abbrev after : WholeWorld (S f g) (A f g)
     after = begin_move (S f g) (A f g) asked its
 
     fresh : x.world.next ≤ cmd.op

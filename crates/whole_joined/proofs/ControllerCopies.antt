@@ -142,10 +142,10 @@ module _ {F R : Type 0} (f : Semantics R) (g : Given) (n : ℕ) (x : Scene F f g
   abbrev C : ControllerState
   C = x.nodes.controller
 
-  abbrev Taken : Msg → Type 0
-  Taken m = IsTaken f g n x (record { node = 1; port = p; message = m })
+  abbrev IsTakenHere : Msg → Type 0
+  IsTakenHere m = IsTaken f g n x (record { node = 1; port = p; message = m })
 
-  pub chunks_leads : (chunks : List Chunk) → Taken (msg.Chunks op chunks) → RowLeads f g x p (msg.Chunks op chunks) (handed C op p (msg.Chunks op chunks))
+  pub chunks_leads : (chunks : List Chunk) → IsTakenHere (msg.Chunks op chunks) → RowLeads f g x p (msg.Chunks op chunks) (handed C op p (msg.Chunks op chunks))
   chunks_leads chunks is =
       let m = msg.Chunks op chunks in
       let a : Any R = New (S_chunks op (entries f chunks)) in
@@ -153,8 +153,8 @@ module _ {F R : Type 0} (f : Semantics R) (g : Given) (n : ℕ) (x : Scene F f g
       (λ none b e. subst (Idles f g n x p m are is) (same_Some _ _ e) (ap (λ o. joins f g.site g.packet (place g) (record { ops = x.world.ops; sends = [] }) (by_share (S f g) (A f g) x.world.shares p (option_map (λ y. (y, Has_chunks (entries f chunks))) o))) none))
       (λ s there. share_leads f g n x p m are is op s there a refl (chunks_follows f g.site g.packet (place g) C x.world.ops x.world.shares are.controller.opens op p chunks (are.controller.genuine op) (λ mv got. are.controller.going op mv got)) refl)
 
-  pub all_chunk_leads : (chunk : Chunk) → Taken (msg.AllChunk op chunk) → RowLeads f g x p (msg.AllChunk op chunk) (handed C op p (msg.AllChunk op chunk))
+  pub all_chunk_leads : (chunk : Chunk) → IsTakenHere (msg.AllChunk op chunk) → RowLeads f g x p (msg.AllChunk op chunk) (handed C op p (msg.AllChunk op chunk))
   all_chunk_leads chunk is = hidden_leads f g n x p (msg.AllChunk op chunk) are is op refl tt refl (all_chunk_follows f g.site g.packet (place g) C x.world.ops x.world.shares are.controller.opens op p chunk (λ mv got. are.controller.going op mv got))
 
-  pub kept_leads : Taken (msg.Kept op) → RowLeads f g x p (msg.Kept op) (handed C op p (msg.Kept op))
+  pub kept_leads : IsTakenHere (msg.Kept op) → RowLeads f g x p (msg.Kept op) (handed C op p (msg.Kept op))
   kept_leads is = hidden_leads f g n x p (msg.Kept op) are is op refl tt refl (kept_follows f g.site g.packet (place g) C x.world.ops x.world.shares are.controller.opens op p (λ mv got. are.controller.going op mv got))

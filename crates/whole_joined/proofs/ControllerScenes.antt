@@ -15,7 +15,7 @@ use Rattle.actor_net.proofs.WeightLaws.{EachSent}
 use Rattle.unit_machine.proofs.Real.{sent_for}
 use Rattle.abstract_net.proofs.Net as net
 use Rattle.abstract_net.proofs.Net.{Open, find_op, behind, links_after}
-use Rattle.abstract_net.proofs.Shares.{Any, Old, New, S_asked, Shared_on, Diverted_on, S_install, S_forward, S_get, S_sync, S_chunks, S_shared, S_synced, Open_share, find_share, Whole}
+use Rattle.abstract_net.proofs.Shares.{Any, Old, New, S_asked, Shared_on, Diverted_on, S_install, S_forward, S_get, S_sync, S_chunks, S_shared, S_synced, Open_share, find_share, WholeWorld}
 use Rattle.abstract_net.proofs.Waits.{Rising, rising_less}
 use Rattle.whole_net.proofs.EveryAll.{Every_all, ctrl_every_all}
 use Rattle.net_world.specs.Nodes.{as_node}
@@ -119,7 +119,7 @@ module _ {F R : Type 0} (f : Semantics R) (g : Given) where
     others_stay c (suc zero) off = absurd (off refl)
     others_stay c (suc (suc j)) off = refl
 
-    abbrev world_after : Whole (S f g) (A f g)
+    abbrev world_after : WholeWorld (S f g) (A f g)
     world_after = record x.world { ops = l.ops; shares = l.shares; next = l.next; link = l.link }
 
     done_same : done x.log ≡ done (x.log ++ did.notes)

@@ -32,20 +32,20 @@ module _ {F R : Type 0} (f : Semantics R) (g : Given) (n : ℕ) (x : Scene F f g
   abbrev c : ControllerState
   c = x.nodes.controller
 
-  abbrev Taken : Msg → Type 0
-  Taken m = IsTaken f g n x (record { node = 1; port = p; message = m })
+  abbrev IsTakenHere : Msg → Type 0
+  IsTakenHere m = IsTaken f g n x (record { node = 1; port = p; message = m })
 
-  end_leads : Taken msg.End → RowLeads f g x p msg.End (row c p msg.End)
+  end_leads : IsTakenHere msg.End → RowLeads f g x p msg.End (row c p msg.End)
   end_leads is = elim (p == switch_node) as (λ b. RowLeads f g x p msg.End (if b then still (record c { end_came = true }) else still c)) [
     | true ↦ stays f g n x p msg.End are is (still (record c { end_came = true })) refl refl refl refl refl tt (record { arrived_is = refl; done_is = refl; installed_is = refl }) (λ a e. cc)
     | false ↦ stays f g n x p msg.End are is (still c) refl refl refl refl refl tt (record { arrived_is = refl; done_is = refl; installed_is = refl }) (λ a e. cc)
   ]
 
-  final_leads : Taken msg.Final → (o : Option ℕ) → RowLeads f g x p msg.Final (on_final c o)
+  final_leads : IsTakenHere msg.Final → (o : Option ℕ) → RowLeads f g x p msg.Final (on_final c o)
   final_leads is None = stays f g n x p msg.Final are is (on_final c None) refl refl refl refl refl tt (record { arrived_is = refl; done_is = refl; installed_is = refl }) (λ a e. cc)
   final_leads is (Some i) = stays f g n x p msg.Final are is (on_final c (Some i)) refl refl refl refl refl tt (record { arrived_is = refl; done_is = refl; installed_is = refl }) (λ a e. cc)
 
-  row_leads : (m : Msg) → Taken m → Copies_next f g x m → RowLeads f g x p m (row c p m)
+  row_leads : (m : Msg) → IsTakenHere m → Copies_next f g x m → RowLeads f g x p m (row c p m)
   row_leads (msg.Asked command) is next = asked_leads f g n x p command are is next
   row_leads msg.End is next = end_leads is
   row_leads msg.Final is next = final_leads is (instance_at c p)

@@ -26,7 +26,7 @@ use Rattle.unit_machine.proofs.Real.{sent_for}
 use Rattle.abstract_net.proofs.Net as net
 use Rattle.abstract_net.proofs.Net.{inst_step, links_after, at_node, put, behind, everything, is_free}
 use Rattle.abstract_net.proofs.Waits.{Rising}
-use Rattle.abstract_net.proofs.Shares.{Any, Old, New, Share_msg, Shared_on, S_get, S_sync, as_old, Whole, member_step, whole_inst, keeps}
+use Rattle.abstract_net.proofs.Shares.{Any, Old, New, Share_msg, Shared_on, S_get, S_sync, as_old, WholeWorld, member_step, whole_inst, keeps}
 use Rattle.whole_net.proofs.EveryAll.{Every_all, inst_every_all, May_keep, keeps_every_all}
 use Rattle.net_world.specs.declared.node.Node.TheVariants.{Instance}
 use Rattle.net_world.specs.Nodes.{as_node, node_step}
@@ -95,17 +95,17 @@ module _ {F R : Type 0} (f : Semantics R) (laws : FunctionLaws f) (g : Given) (n
     owners_after : (u : units.Unit) → unit_fits f.kind u ≡ true → x.world.target u ≡ target_by g u (installed (x.log ++ notes))
     owners_after u fits = owners_on f g n x are notes (none_installed own_node notes its_own) u fits
 
-    every_after : (w : Whole (S f g) (A f g)) → Every_all (S f g) (A f g) (is_sys f g.site g.packet) w (came_by f g x.log) → Every_all (S f g) (A f g) (is_sys f g.site g.packet) w (came_by f g (x.log ++ notes))
+    every_after : (w : WholeWorld (S f g) (A f g)) → Every_all (S f g) (A f g) (is_sys f g.site g.packet) w (came_by f g x.log) → Every_all (S f g) (A f g) (is_sys f g.site g.packet) w (came_by f g (x.log ++ notes))
     every_after w h = every_same (S f g) (A f g) (is_sys f g.site g.packet) w _ _ (came_on f g n x are notes (none_installed own_node notes its_own) (none_arrived own_node notes its_own)) h
 
-    done_after : (next : Whole (S f g) (A f g)) → next.done ≡ x.world.done ++ at_node own_node (filter_map ran_in notes) → next.done ≡ by_node f g (done (x.log ++ notes))
+    done_after : (next : WholeWorld (S f g) (A f g)) → next.done ≡ x.world.done ++ at_node own_node (filter_map ran_in notes) → next.done ≡ by_node f g (done (x.log ++ notes))
     done_after next is =
         is ∙ ap (λ ds. ds ++ at_node own_node (filter_map ran_in notes)) are.done_is
         ∙ ap (λ ds. by_node f g (done x.log) ++ ds) (sym (done_own f g own_node notes its_own))
         ∙ sym (ap (by_node f g) (done-append x.log notes) ∙ by_node-append f g (done x.log) (done notes))
 
   -- a world that differs in this instance, the links and what was done alone
-  record Differs (next : Whole (S f g) (A f g)) : Type 0 where
+  record Differs (next : WholeWorld (S f g) (A f g)) : Type 0 where
     target : next.target ≡ x.world.target
     ops : next.ops ≡ x.world.ops
     shares : next.shares ≡ x.world.shares
@@ -135,7 +135,7 @@ module _ {F R : Type 0} (f : Semantics R) (laws : FunctionLaws f) (g : Given) (n
 
   -- what a step leaves and the world that shows it
   record Goes (step : Step F R) : Type 0 where
-    next : Whole (S f g) (A f g)
+    next : WholeWorld (S f g) (A f g)
     differs_so : Differs next
     leaves : Leaves f g own_node step
     stands : AreSound f step.node.table.standby
@@ -285,8 +285,8 @@ module _ {F R : Type 0} (f : Semantics R) (laws : FunctionLaws f) (g : Given) (f
   abbrev Now : Msg → Type 0
   Now m = Leads f g n x (record { node = suc (suc j); port = p; message = m }) (node_step f (node_of x.nodes (suc (suc j))) p m)
 
-  abbrev Taken : Msg → Type 0
-  Taken m = IsTaken f g n x (record { node = suc (suc j); port = p; message = m })
+  abbrev IsTakenHere : Msg → Type 0
+  IsTakenHere m = IsTaken f g n x (record { node = suc (suc j); port = p; message = m })
 
   -- where a copy's chunks come, they may stand by
   abbrev MayStand : Msg → Type 0
@@ -306,7 +306,7 @@ module _ {F R : Type 0} (f : Semantics R) (laws : FunctionLaws f) (g : Given) (f
     shows = record { inst = at.outline_is; standby = at.standby_is }
 
     -- a message of a move
-    old_leads : (m : Msg) (seen : net.Msg R) → shown f g m ≡ Some (Old seen) → leaves_standby m ≡ true → Follows f g.site g.packet (place g) (instance_step f own_at m) (inst_step (S f g) (outline_instance f g.site g.packet own_at) seen) → Leaves f g (suc (suc j)) (instance_step f own_at m) → Taken m → Now m
+    old_leads : (m : Msg) (seen : net.Msg R) → shown f g m ≡ Some (Old seen) → leaves_standby m ≡ true → Follows f g.site g.packet (place g) (instance_step f own_at m) (inst_step (S f g) (outline_instance f g.site g.packet own_at) seen) → Leaves f g (suc (suc j)) (instance_step f own_at m) → IsTakenHere m → Now m
     old_leads m seen shown_as e follows leaves is =
         let did = inst_step (S f g) (outline_instance f g.site g.packet own_at) seen in
         shown_leads f laws g n x p j m (Old seen) are is shown_as
@@ -314,7 +314,7 @@ module _ {F R : Type 0} (f : Semantics R) (laws : FunctionLaws f) (g : Given) (f
         leaves (step_sound f laws (place g) own_at m e both leaves.node.sound).standby
 
     -- one of a share
-    new_leads : (m : Msg) (seen : Share_msg R) → shown f g m ≡ Some (New seen) → MemberFollows f g.site g.packet (place g) own_at (instance_step f own_at m) (member_step (S f g) (A f g) own_at.table.live own_at.table.standby seen) → Leaves f g (suc (suc j)) (instance_step f own_at m) → AreBothSound f (instance_step f own_at m).node.table → Taken m → Now m
+    new_leads : (m : Msg) (seen : Share_msg R) → shown f g m ≡ Some (New seen) → MemberFollows f g.site g.packet (place g) own_at (instance_step f own_at m) (member_step (S f g) (A f g) own_at.table.live own_at.table.standby seen) → Leaves f g (suc (suc j)) (instance_step f own_at m) → AreBothSound f (instance_step f own_at m).node.table → IsTakenHere m → Now m
     new_leads m seen shown_as follows leaves sound is =
         shown_leads f laws g n x p j m (New seen) are is shown_as
         (new_steps f g.site g.packet (place g) x.world p (suc (suc j)) own_at (instance_step f own_at m) seen shows follows)
@@ -328,7 +328,7 @@ module _ {F R : Type 0} (f : Semantics R) (laws : FunctionLaws f) (g : Given) (f
         (same_may_keep f g x.world (came_by f g x.log) are.every (suc (suc j)) own_at.table.standby at.standby_is)
         leaves (step_sound f laws (place g) own_at m e both leaves.node.sound).standby
 
-    shared_leads : (op : ℕ) (home : Bool) (cell : FullCell) → Genuine f g cell → Taken (msg.Carry (mark.Shared op home) cell) → Now (msg.Carry (mark.Shared op home) cell)
+    shared_leads : (op : ℕ) (home : Bool) (cell : FullCell) → Genuine f g cell → IsTakenHere (msg.Carry (mark.Shared op home) cell) → Now (msg.Carry (mark.Shared op home) cell)
     shared_leads op home cell e =
         let sound = sound_part f laws g fitting (suc (suc j)) two own_at home cell right at.stands.sound e in
         new_leads (msg.Carry (mark.Shared op home) cell) (Shared_on op home (number cell)) refl
@@ -336,12 +336,12 @@ module _ {F R : Type 0} (f : Semantics R) (laws : FunctionLaws f) (g : Given) (f
         (shared_leaves f laws g fitting (suc (suc j)) two own_at op home cell right at.stands.sound e)
         (shared_sound f laws own_at op home cell both sound)
 
-    get_leads : (op : ℕ) (filter : Filter) → is_whole f.kind filter ≡ true → Taken (msg.Get op filter) → Now (msg.Get op filter)
+    get_leads : (op : ℕ) (filter : Filter) → is_whole f.kind filter ≡ true → IsTakenHere (msg.Get op filter) → Now (msg.Get op filter)
     get_leads op filter whole =
         new_leads (msg.Get op filter) (S_get op filter) refl (get_follows f laws g.site g.packet (place g) own_at op filter whole at.records)
         (get_leaves f laws g (suc (suc j)) two own_at op filter right) (get_sound f laws own_at op filter both)
 
-    sync_leads : (home : Bool) (op : ℕ) (chunks : List Chunk) → AreGoodChunks f g chunks → Taken (msg.Sync home op chunks) → Now (msg.Sync home op chunks)
+    sync_leads : (home : Bool) (op : ℕ) (chunks : List Chunk) → AreGoodChunks f g chunks → IsTakenHere (msg.Sync home op chunks) → Now (msg.Sync home op chunks)
     sync_leads home op chunks good =
         let all = chunks_good f laws g chunks good in
         let sound = sync_sound f laws own_at home op chunks all (valid_chunks f laws g chunks good.each) both in
@@ -358,7 +358,7 @@ module _ {F R : Type 0} (f : Semantics R) (laws : FunctionLaws f) (g : Given) (f
         (standby_leaves f laws g (suc (suc j)) two own_at op chunks right good)
         (standby_sound f laws own_at op chunks all (valid_chunks f laws g chunks good.each) both).standby
 
-    all_rows : Rows f g (λ m. Taken m → MayStand m → Now m)
+    all_rows : Rows f g (λ m. IsTakenHere m → MayStand m → Now m)
     all_rows = record {
       carry = λ cell e is may. old_leads (msg.Carry mark.Plain cell) (net.Carry_on (number cell)) refl refl (carry_follows f g.site g.packet (place g) own_at cell right.rules e) (carry_leaves f laws g fitting (suc (suc j)) two own_at cell right e) is;
       pass = λ op cell e is may. old_leads (msg.Carry (mark.Pass op) cell) (net.Pass_on (number cell)) refl refl (pass_follows f g.site g.packet (place g) own_at op cell right.rules e) (pass_leaves f laws g fitting (suc (suc j)) two own_at op cell right e) is;
@@ -377,8 +377,8 @@ module _ {F R : Type 0} (f : Semantics R) (laws : FunctionLaws f) (g : Given) (f
       sync = λ home op chunks e is may. sync_leads home op chunks e is;
     }
 
-    pub each_leads : (m : Msg) → Taken m → MayStand m → Now m
-    each_leads m is = by_message f g (λ y. Taken y → MayStand y → Now y) p j all_rows m is.label is
+    pub each_leads : (m : Msg) → IsTakenHere m → MayStand m → Now m
+    each_leads m is = by_message f g (λ y. IsTakenHere y → MayStand y → Now y) p j all_rows m is.label is
 
 module _ {F R : Type 0} (f : Semantics R) (laws : FunctionLaws f) (g : Given) (fitting : (number : ℕ) → Fits g.site (g.packet number)) where
   -- of a copy's chunks it is wanted that they may stand by

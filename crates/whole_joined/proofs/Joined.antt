@@ -49,7 +49,7 @@ use Rattle.unit_machine.proofs.Labels.{Each}
 use Rattle.abstract_net.proofs.Net as net
 use Rattle.abstract_net.proofs.Net.{Open, is_free, links_after}
 use Rattle.abstract_net.proofs.Waits.{Rising}
-use Rattle.abstract_net.proofs.Shares.{Any, Old, New, S_asked, Sharing, Open_share, Whole}
+use Rattle.abstract_net.proofs.Shares.{Any, Old, New, S_asked, Sharing, Open_share, WholeWorld}
 use Rattle.share_machine.proofs.Share.{has}
 use Rattle.whole_net.proofs.EveryAll.{Every_all}
 use Rattle.whole_net.proofs.WhereAll.{Came}
@@ -322,13 +322,13 @@ asked_nums (m ∷ ms) = asked_nums ms
 -- what a step finds: the nodes, the world of the abstract network that shows them, the log, and the input
 pub record Scene (F : Type 0) {R : Type 0} (f : Semantics R) (g : Given) : Type 0 where
   pub nodes : Nodes F R
-  pub world : Whole (S f g) (A f g)
+  pub world : WholeWorld (S f g) (A f g)
   pub log : List Note
   pub input : List Msg
 
 module _ {F R : Type 0} (f : Semantics R) (g : Given) where
   -- instance k of a world
-  pub record IsInstanceAt (k : ℕ) (i : InstanceState F R) (w : Whole (S f g) (A f g)) : Type 0 where
+  pub record IsInstanceAt (k : ℕ) (i : InstanceState F R) (w : WholeWorld (S f g) (A f g)) : Type 0 where
     pub outline_is : outline_instance f g.site g.packet i ≡ w.inst k
     pub standby_is : i.table.standby ≡ w.standby k
     pub stands : HasRecords f i.table.standby
@@ -355,13 +355,13 @@ module _ {F R : Type 0} (f : Semantics R) (g : Given) where
   pub record Joined (n : ℕ) (w : Network (Node F R) Msg Note) : Type 0 where
     pub nodes : Nodes F R
     pub nodes_are : (k : ℕ) → k < n → (d : Node F R) → get_or w.nodes k d ≡ node_of nodes k
-    pub world : Whole (S f g) (A f g)
+    pub world : WholeWorld (S f g) (A f g)
     pub links : Shows n w world.link
     pub labels : OnLinks (Label f g) w
     pub shown_is : AreShown n (record { nodes = nodes; world = world; log = w.log; input = waiting w (at 0 0) })
 
   -- what is found after a step
-  abbrev pub scene_after : Scene F f g → Took → Stepped (Node F R) Msg Note → Nodes F R → Whole (S f g) (A f g) → Scene F f g
+  abbrev pub scene_after : Scene F f g → Took → Stepped (Node F R) Msg Note → Nodes F R → WholeWorld (S f g) (A f g) → Scene F f g
   scene_after x t did nodes world = record { nodes = nodes; world = world; log = x.log ++ did.notes; input = less_first ((0 == t.node) && (0 == t.port)) x.input }
 
   -- a step leads from a world of a run to one
@@ -369,7 +369,7 @@ module _ {F R : Type 0} (f : Semantics R) (g : Given) where
     pub nodes : Nodes F R
     pub own : did.node ≡ node_of nodes t.node
     pub others : (j : ℕ) → j ≢ t.node → node_of nodes j ≡ node_of x.nodes j
-    pub world : Whole (S f g) (A f g)
+    pub world : WholeWorld (S f g) (A f g)
     pub links : (i j : ℕ) → world.link i j ≡ links_next f g x.world.link t did.sends i j
     pub labels : EachSent (Label f g) t.node did.sends
     pub grows : Grows t.message x.world.next world.next

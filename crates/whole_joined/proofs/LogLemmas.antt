@@ -8,7 +8,7 @@ use Rattle.nf_msgs.specs.declared.note.Note.TheVariants as note
 use Rattle.nf_msgs.specs.Nodes.{instance_node}
 use Rattle.nf_function.specs.Semantics.{Semantics}
 use Rattle.abstract_net.proofs.Net.{Sys, IsSys}
-use Rattle.abstract_net.proofs.Shares.{Sharing, Whole}
+use Rattle.abstract_net.proofs.Shares.{Sharing, WholeWorld}
 use Rattle.whole_net.proofs.WhereAll.{Came, Where_all}
 use Rattle.whole_net.proofs.EveryAll.{Every_all}
 use Rattle.net_world.specs.Log.{Done, arrived, done, has_begun, installed, those}
@@ -63,7 +63,7 @@ by_node-append f g [] ys = refl
 by_node-append f g (d ∷ xs) ys = ap (λ v. (d.number, d.node) ∷ v) (by_node-append f g xs ys)
 
 -- where each unit is, by another function that gives the same
-pub every_same : {R : Type 0} (S : Sys R) (A : Sharing S) (laws : IsSys S) (w : Whole S A) (came came' : units.Unit → Came) → ((u : units.Unit) → came u ≡ came' u) → Every_all S A laws w came → Every_all S A laws w came'
+pub every_same : {R : Type 0} (S : Sys R) (A : Sharing S) (laws : IsSys S) (w : WholeWorld S A) (came came' : units.Unit → Came) → ((u : units.Unit) → came u ≡ came' u) → Every_all S A laws w came → Every_all S A laws w came'
 every_same S A laws w came came' same h = record {
   global = h.global;
   unit = λ u. subst (λ k. Where_all S A laws u w k) (same u) (h.unit u);

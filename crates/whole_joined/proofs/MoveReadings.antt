@@ -8,7 +8,7 @@ use Rattle.record_table.specs.Table.{same_unit}
 use Rattle.record_table.proofs.UnitOrder.{same_unit_equiv}
 use Rattle.unit_machine.proofs.Real.{Chunks, M_event, M_put_no}
 use Rattle.abstract_net.proofs.Net.{Mv, Sys, IsSys, Open, find_op}
-use Rattle.abstract_net.proofs.Shares.{Any, Old, olds, Sharing, Whole, moves_of}
+use Rattle.abstract_net.proofs.Shares.{Any, Old, olds, Sharing, WholeWorld, moves_of}
 use Rattle.abstract_net.proofs.UnderStarts.{seeing}
 use Rattle.abstract_net.proofs.Copies.{has, copies, one_copy, one_copy_back, event_open}
 use Rattle.abstract_net.proofs.Rest.{none_mine}
@@ -17,7 +17,7 @@ use Rattle.whole_net.proofs.WhereAll.{Came, Where_all, Apart_from_shares, Under_
 use Rattle.whole_net.proofs.EveryAll.{Every_all}
 use Rattle.whole_net.proofs.UnderMoves.{no_copies, none_stored, none_back, no_event}
 
-module _ {R : Type 0} (S : Sys R) (A : Sharing S) (laws : IsSys S) (w : Whole S A) (came : units.Unit → Came) (every : Every_all S A laws w came) where
+module _ {R : Type 0} (S : Sys R) (A : Sharing S) (laws : IsSys S) (w : WholeWorld S A) (came : units.Unit → Came) (every : Every_all S A laws w came) where
   -- of an open move
   module _ (n : ℕ) (e : Open R) (there : find_op w.ops n ≡ Some e) (u : units.Unit) where
     pub none_left_all : ends e.phase ≡ true → none_mine S u e.store ≡ []
@@ -46,11 +46,11 @@ module _ {R : Type 0} (S : Sys R) (A : Sharing S) (laws : IsSys S) (w : Whole S 
 
   -- an event is one of an open move
   pub event_open_all : (i n p : ℕ) (g : Filter) (rest : List (Any R)) → w.link i 1 ≡ Old (Mv g (M_event n p)) ∷ rest → find_op w.ops n ≡ None → ⊥
-  event_open_all i n p g rest waits none = by_where (came (S.unit_of p)) (every.unit (S.unit_of p))
+  event_open_all i n p g rest waits none = by_where (came (S.packet_unit p)) (every.unit (S.packet_unit p))
     where
-      by_where : (k : Came) → Where_all S A laws (S.unit_of p) w k → ⊥
+      by_where : (k : Came) → Where_all S A laws (S.packet_unit p) w k → ⊥
       by_where k (Apart_from_shares h free) = event_open S laws (moves_of S A w) i n p k.all k.bared h.is g (olds rest) (ap olds waits) none
       by_where k (Under_share x before b h o f) =
-          let own : same_unit (S.unit_of p) (S.unit_of p) ≡ true = same_unit_equiv.refl (S.unit_of p) in
-          let never : true ≡ false = sym own ∙ no_event S A (seeing S A (S.unit_of p) x) w before k.diverted h i n p g rest waits in
+          let own : same_unit (S.packet_unit p) (S.packet_unit p) ≡ true = same_unit_equiv.refl (S.packet_unit p) in
+          let never : true ≡ false = sym own ∙ no_event S A (seeing S A (S.packet_unit p) x) w before k.diverted h i n p g rest waits in
           cc

@@ -16,7 +16,7 @@ use Rattle.nf_msgs.specs.declared.note.Note.{Note}
 use Rattle.nf_msgs.specs.declared.note.Note.TheVariants as note
 use Rattle.unit_machine.proofs.Labels.{Each}
 use Rattle.net_world.specs.declared.config.Config.{Config}
-use Rattle.net_world.specs.Input.{order_numbered, packet_of}
+use Rattle.net_world.specs.Input.{order_numbered, packet_numbered}
 use Rattle.net_world.specs.Jobs.{Job}
 use Rattle.net_world.specs.Log.{has_begun, installed}
 use Rattle.net_world.specs.Commands.{has_answered, is_busy}
@@ -128,7 +128,7 @@ module _ (config : Config) (items : List Msg) where
   abbrev goes_by : Kind → ℕ → List ℕ → Option ℕ
   goes_by kind number ops =
       let u = unit_numbered config items kind number in
-      option_map_or (λ names. member_for config items names (packet_of items number)) (members_after config.names (order_numbered items) u (first_owner u config.routes) ops) (Some (owner_after config.names (order_numbered items) u (first_owner u config.routes) ops))
+      option_map_or (λ names. member_for config items names (packet_numbered items number)) (members_after config.names (order_numbered items) u (first_owner u config.routes) ops) (Some (owner_after config.names (order_numbered items) u (first_owner u config.routes) ops))
 
   -- a packet goes where it did, after notes of no change of the rules
   pub goes_same : (kind : Kind) (number : ℕ) (xs ys : List Note) → installed ys ≡ [] → goes_to config items kind number (xs ++ ys) ≡ goes_to config items kind number xs

@@ -21,7 +21,7 @@ use Rattle.switch_node.specs.Switch.{SwitchState, Step, still, sends_to_instance
 use Rattle.actor_net.specs.Histories.{sent_for}
 use Rattle.actor_net.proofs.EnabledChoices.{at}
 use Rattle.abstract_net.proofs.Net as net
-use Rattle.abstract_net.proofs.Net.{Want}
+use Rattle.abstract_net.proofs.Net.{MoveAsked}
 use Rattle.abstract_net.proofs.Waits.{Rising, rising_less}
 use Rattle.abstract_net.proofs.Shares.{Any, Old, New, Want_share, S_asked, Shared_on, Diverted_on, S_install, S_forward, S_get, S_sync, S_chunks, S_shared, S_synced}
 use Rattle.outline_net.proofs.Outline.{want_of}
@@ -155,7 +155,7 @@ module _ {R : Type 0} (f : Semantics R) (g : Given) where
   asked_number : (op : ℕ) (what : Order) (a : Any R) → asked_of f (place g) op what ≡ Some a → (rest : List (Any R)) → asked_nums (a ∷ rest) ≡ op ∷ asked_nums rest
   asked_number op (order.Move src dst filter keep) a e rest = by_want (want_of (place g) op (order.Move src dst filter keep)) refl e
     where
-      by_want : (o : Option Want) → want_of (place g) op (order.Move src dst filter keep) ≡ o → option_map (λ w. Old (net.Asked w)) o ≡ Some a → asked_nums (a ∷ rest) ≡ op ∷ asked_nums rest
+      by_want : (o : Option MoveAsked) → want_of (place g) op (order.Move src dst filter keep) ≡ o → option_map (λ w. Old (net.Asked w)) o ≡ Some a → asked_nums (a ∷ rest) ≡ op ∷ asked_nums rest
       by_want None at is = cc
       by_want (Some w) at is = let same : Old (net.Asked w) ≡ a = cc in subst (λ b. asked_nums (b ∷ rest) ≡ op ∷ asked_nums rest) same (ap (λ k. k ∷ asked_nums rest) (want_num op (order.Move src dst filter keep) (place g) w at))
   asked_number op (order.Copy src dst filter) a e rest = cc

@@ -10,7 +10,7 @@ use Rattle.record_table.specs.Table.{Records}
 use Rattle.unit_machine.proofs.Real as real
 use Rattle.abstract_net.proofs.Net as net
 use Rattle.abstract_net.proofs.Net.{Inst_n, inst_step, everything}
-use Rattle.abstract_net.proofs.Shares.{Any, Old, New, Shared_on, S_get, S_sync, Whole, member_step}
+use Rattle.abstract_net.proofs.Shares.{Any, Old, New, Shared_on, S_get, S_sync, WholeWorld, member_step}
 use Rattle.outline_net.proofs.Outline.{number, rule_of, entries, outline_piece, ran_in, outline_instance}
 use Rattle.outline_net.proofs.InstanceOutline.{carry_follows, pass_follows, fence_follows, enable_follows}
 use Rattle.outline_net.proofs.StateOutline.{stream_follows, delete_follows, put_follows, restore_follows}
@@ -34,7 +34,7 @@ module _ {F R : Type 0} (f : Semantics R) (laws : FunctionLaws f) (g : Given) (f
     Seen : (a : Any R) → shown f g m ≡ Some a → filter_map ran_in (instance_step f i m).notes ≡ ran_any f g (outline_instance f g.site g.packet i) i.table.standby a → Ran_as i m
     Unseen : filter_map ran_in (instance_step f i m).notes ≡ [] → Ran_as i m
 
-  pub ran_as : (k : ℕ) (i : InstanceState F R) (w : Whole (S f g) (A f g)) → 2 ≤ k → IsInstanceAt f g k i w → (p j : ℕ) (m : Msg) → Label f g p (suc (suc j)) m → Ran_as i m
+  pub ran_as : (k : ℕ) (i : InstanceState F R) (w : WholeWorld (S f g) (A f g)) → 2 ≤ k → IsInstanceAt f g k i w → (p j : ℕ) (m : Msg) → Label f g p (suc (suc j)) m → Ran_as i m
   ran_as k i w two at p j m label = by_message f g (λ y. Ran_as i y) p j rows m label
     where
       rows : Rows f g (λ y. Ran_as i y)

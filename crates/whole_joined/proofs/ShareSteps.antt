@@ -62,21 +62,21 @@ module _ {F R : Type 0} (f : Semantics R) (g : Given) (n : ℕ) (x : Scene F f g
   abbrev c : ControllerState
   c = x.nodes.controller
 
-  abbrev Taken : Msg → Type 0
-  Taken m = IsTaken f g n x (record { node = 1; port = p; message = m })
+  abbrev IsTakenHere : Msg → Type 0
+  IsTakenHere m = IsTaken f g n x (record { node = 1; port = p; message = m })
 
   -- a share that isn't there is told nothing
   untold : (op : ℕ) (t : Told R) → find_share x.world.shares op ≡ None → joins f g.site g.packet (place g) (record { ops = x.world.ops; sends = [] }) (by_share (S f g) (A f g) x.world.shares p (option_map (λ e. (e, t)) (find_share x.world.shares op))) ≡ record { ops = x.world.ops; shares = x.world.shares; sends = [] }
   untold op t none = ap (λ o. joins f g.site g.packet (place g) (record { ops = x.world.ops; sends = [] }) (by_share (S f g) (A f g) x.world.shares p (option_map (λ e. (e, t)) o))) none
 
-  pub fenced_leads : (op : ℕ) → Taken (msg.Fenced op) → RowLeads f g x p (msg.Fenced op) (handed c op p (msg.Fenced op))
+  pub fenced_leads : (op : ℕ) → IsTakenHere (msg.Fenced op) → RowLeads f g x p (msg.Fenced op) (handed c op p (msg.Fenced op))
   fenced_leads op is = told_leads f g n x p (msg.Fenced op) are is op (real.M_fenced op) refl refl refl refl
       (λ none. ap (option_map (λ e. (e, Is_fenced))) none)
       (λ mv h. fenced_row f (place g) mv.plan mv.phase (stored c.store op) p op h.refusing)
       (fenced_follows f g.site g.packet (place g) c x.world.ops x.world.shares are.controller.opens op p (are.controller.genuine op) (λ mv has. fenced_row f (place g) mv.plan mv.phase (stored c.store op) p op (are.controller.moves op mv has).refusing))
 
   -- a message that no move and no copy looks at
-  module _ (m : Msg) (is : Taken m) (op : ℕ) (a : Any R) (seen : shown f g m ≡ Some a) (other : is_copied m ≡ false) (idle : find_share x.world.shares op ≡ None → Idles f g n x p m are is a) where
+  module _ (m : Msg) (is : IsTakenHere m) (op : ℕ) (a : Any R) (seen : shown f g m ≡ Some a) (other : is_copied m ≡ false) (idle : find_share x.world.shares op ≡ None → Idles f g n x p m are is a) where
     stays_idle : find_share x.world.shares op ≡ None → (b : Any R) → shown f g m ≡ Some b → Idles f g n x p m are is b
     stays_idle none b e = subst (Idles f g n x p m are is) (same_Some _ _ (sym seen ∙ e)) (idle none)
 
@@ -89,7 +89,7 @@ module _ {F R : Type 0} (f : Semantics R) (g : Given) (n : ℕ) (x : Scene F f g
         by_got (Some (Copy y)) e = copy_leads f g n x p m are is op y e other (stays_idle (no_share_open f g n x p m are is op (Some (Copy y)) e refl))
         by_got (Some (Share s)) e = of_share s e
 
-  pub shared_leads : (op : ℕ) (chunk : Chunk) → Taken (msg.Shared op chunk) → RowLeads f g x p (msg.Shared op chunk) (handed c op p (msg.Shared op chunk))
+  pub shared_leads : (op : ℕ) (chunk : Chunk) → IsTakenHere (msg.Shared op chunk) → RowLeads f g x p (msg.Shared op chunk) (handed c op p (msg.Shared op chunk))
   shared_leads op chunk is =
       let m = msg.Shared op chunk in
       let good = is.label.1.chunk in
@@ -99,7 +99,7 @@ module _ {F R : Type 0} (f : Semantics R) (g : Given) (n : ℕ) (x : Scene F f g
       (λ mv there. move_stays c op mv p m (are.controller.going op mv there) there (shared_unlooked mv (stored c.store mv.plan.op) p op chunk))
       (λ s there. share_leads f g n x p m are is op s there a seen (shared_follows f g.site g.packet (place g) c x.world.ops x.world.shares are.controller.opens op p chunk good.entry good.spells (are.controller.genuine op) (λ mv has. are.controller.going op mv has)) refl)
 
-  pub synced_leads : (op : ℕ) → Taken (msg.Synced op) → RowLeads f g x p (msg.Synced op) (handed c op p (msg.Synced op))
+  pub synced_leads : (op : ℕ) → IsTakenHere (msg.Synced op) → RowLeads f g x p (msg.Synced op) (handed c op p (msg.Synced op))
   synced_leads op is =
       let m = msg.Synced op in
       by_share_alone m is op (New (S_synced op)) refl refl (untold op Is_synced)
@@ -107,9 +107,9 @@ module _ {F R : Type 0} (f : Semantics R) (g : Given) (n : ℕ) (x : Scene F f g
       (λ s there. share_leads f g n x p m are is op s there (New (S_synced op)) refl (synced_follows f g.site g.packet (place g) c x.world.ops x.world.shares are.controller.opens op p (are.controller.genuine op) (λ mv has. are.controller.going op mv has)) refl)
 
   -- A packet whose target is the controller.
-  module _ (cell : FullCell) (is : Taken (msg.Diverted cell)) where
+  module _ (cell : FullCell) (is : IsTakenHere (msg.Diverted cell)) where
     abbrev its_unit : units.Unit
-    its_unit = (S f g).unit_of (number cell)
+    its_unit = (S f g).packet_unit (number cell)
 
     one_share : (j k : ℕ) (d e : Open_share) → find_share x.world.shares j ≡ Some d → find_share x.world.shares k ≡ Some e → (S f g).takes d.filter its_unit ≡ true → (S f g).takes e.filter its_unit ≡ true → j ≡ k
     one_share j k d e at_j at_k takes_d takes_e = elim (j == k) as (λ b. (j == k) ≡ b → j ≡ k) [

@@ -9,7 +9,7 @@ use Rattle.record_table.specs.Table.{Records, newest_of}
 use Rattle.record_table.specs.Chunks.{records_of}
 use Rattle.unit_machine.proofs.Real.{record_at}
 use Rattle.abstract_net.proofs.GlobalAll.{Takes_some}
-use Rattle.abstract_net.proofs.Shares.{Whole, ran_of}
+use Rattle.abstract_net.proofs.Shares.{WholeWorld, ran_of}
 use Rattle.whole_net.proofs.WhereAll.{Came}
 use Rattle.whole_net.proofs.Fronts.{Front_of, front_none, front_more, ran_more}
 use Rattle.whole_net.proofs.EveryAll.{Every_all, May_keep}
@@ -20,26 +20,26 @@ use Rattle.whole_joined.proofs.Joined.{S, A}
 
 module _ {R : Type 0} (f : Semantics R) (g : Given) where
   -- their records are such folds
-  abbrev pub AreFronted : Whole (S f g) (A f g) → List Chunk → Type 0
+  abbrev pub AreFronted : WholeWorld (S f g) (A f g) → List Chunk → Type 0
   AreFronted w chunks = (u : units.Unit) → Front_of (S f g) (A f g) (is_sys f g.site g.packet) u (ran_of (S f g) (A f g) u w.done) (record_at u (entries f chunks))
 
   -- none is of a unit that a share takes
-  abbrev pub AreUnshared : Whole (S f g) (A f g) → List Chunk → Type 0
+  abbrev pub AreUnshared : WholeWorld (S f g) (A f g) → List Chunk → Type 0
   AreUnshared w chunks = (u : units.Unit) → Takes_some (S f g) w.shares u → record_at u (entries f chunks) ≡ None
 
-  pub record MayStandBy (w : Whole (S f g) (A f g)) (chunks : List Chunk) : Type 0 where
+  pub record MayStandBy (w : WholeWorld (S f g) (A f g)) (chunks : List Chunk) : Type 0 where
     pub fronts : AreFronted w chunks
     pub unshared : AreUnshared w chunks
 
   -- no chunks are
-  pub none_fronted : (w : Whole (S f g) (A f g)) → AreFronted w []
+  pub none_fronted : (w : WholeWorld (S f g) (A f g)) → AreFronted w []
   none_fronted w u = front_none (S f g) (A f g) (is_sys f g.site g.packet) u (ran_of (S f g) (A f g) u w.done) None refl
 
   -- they are such folds later, too
-  pub fronted_later : (w next : Whole (S f g) (A f g)) (chunks : List Chunk) (more : List (ℕ × ℕ)) → next.done ≡ w.done ++ more → AreFronted w chunks → AreFronted next chunks
+  pub fronted_later : (w next : WholeWorld (S f g) (A f g)) (chunks : List Chunk) (more : List (ℕ × ℕ)) → next.done ≡ w.done ++ more → AreFronted w chunks → AreFronted next chunks
   fronted_later w next chunks more done fronts u = subst (λ ds. Front_of (S f g) (A f g) (is_sys f g.site g.packet) u ds (record_at u (entries f chunks))) (sym (ap (ran_of (S f g) (A f g) u) done ∙ ran_more (S f g) (A f g) (is_sys f g.site g.packet) u w.done more)) (front_more (S f g) (A f g) (is_sys f g.site g.packet) u (ran_of (S f g) (A f g) u w.done) (ran_of (S f g) (A f g) u more) (record_at u (entries f chunks)) (fronts u))
 
-  module _ (w : Whole (S f g) (A f g)) (came : units.Unit → Came) (every : Every_all (S f g) (A f g) (is_sys f g.site g.packet) w came) (k : ℕ) (t : Records R) (shows : t ≡ w.standby k) where
+  module _ (w : WholeWorld (S f g) (A f g)) (came : units.Unit → Came) (every : Every_all (S f g) (A f g) (is_sys f g.site g.packet) w came) (k : ℕ) (t : Records R) (shows : t ≡ w.standby k) where
     at_same : (u : units.Unit) → finite.get t u ≡ finite.get (w.standby k) u
     at_same u = ap (λ v. finite.get v u) shows
 

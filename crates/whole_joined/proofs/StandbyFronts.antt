@@ -69,18 +69,18 @@ module _ {R : Type 0} (f : Semantics R) (g : Given) where
   others_keep P nothing k off (x ∷ xs) h = (none_kept P nothing k x.0 off x.1 h.0, others_keep P nothing k off xs h.1)
 
 module _ {F R : Type 0} (f : Semantics R) (g : Given) (n : ℕ) (x : Scene F f g) (p : ℕ) (are : AreShown f g n x) where
-  abbrev Taken : Msg → Type 0
-  Taken m = IsTaken f g n x (record { node = 1; port = p; message = m })
+  abbrev IsTakenHere : Msg → Type 0
+  IsTakenHere m = IsTaken f g n x (record { node = 1; port = p; message = m })
 
   -- what comes to the controller is such
   no_input : (p == 0) && (1 == 0) ≡ false
   no_input = elim (p == 0) as (λ b. b && false ≡ false) [ true ↦ refl | false ↦ refl ]
 
-  comes_fronted : (op : ℕ) (chunks : List Chunk) → Taken (msg.Chunks op chunks) → AreFronted f g x.world chunks
+  comes_fronted : (op : ℕ) (chunks : List Chunk) → IsTakenHere (msg.Chunks op chunks) → AreFronted f g x.world chunks
   comes_fronted op chunks is u = head_front f g n x 1 p (msg.Chunks op chunks) are is no_input (S_chunks op (entries f chunks)) refl u
 
   -- and so is what it sends on
-  module _ (m : Msg) (is : Taken m) (l : Leads f g n x (record { node = 1; port = p; message = m }) (node_step f (node_of x.nodes 1) p m)) where
+  module _ (m : Msg) (is : IsTakenHere m) (l : Leads f g n x (record { node = 1; port = p; message = m }) (node_step f (node_of x.nodes 1) p m)) where
     abbrev P : Msg → Type 0
     P y = AreFronted f g l.world (kept_of y)
 
@@ -89,7 +89,7 @@ module _ {F R : Type 0} (f : Semantics R) (g : Given) (n : ℕ) (x : Scene F f g
     others y e = none_fronted f g l.world
 
     handed_on : (op k : ℕ) (chunks : List Chunk) → m ≡ msg.Chunks k chunks → P (msg.Standby op chunks)
-    handed_on op k chunks e = still_fronted f g n x 1 p m are is (node_step f (node_of x.nodes 1) p m) l chunks (comes_fronted k chunks (subst Taken e is))
+    handed_on op k chunks e = still_fronted f g n x 1 p m are is (node_step f (node_of x.nodes 1) p m) l chunks (comes_fronted k chunks (subst IsTakenHere e is))
 
     turns : (o : Option Operation) → Turn_so P others o m
     turns None = tt

@@ -15,7 +15,7 @@ use Rattle.event_store.proofs.StoreLookUps.{stored-empty}
 use Rattle.ctrl_node.specs.Controller.{opened as opened_controller}
 use Rattle.instance_worker.specs.declared.instance.Instance.{Instance as InstanceState}
 use Rattle.abstract_net.proofs.Net.{Ruling}
-use Rattle.abstract_net.proofs.Shares.{Whole, moves_of}
+use Rattle.abstract_net.proofs.Shares.{WholeWorld, moves_of}
 use Rattle.whole_net.proofs.Starts.{starts}
 use Rattle.abstract_net.proofs.Units.{Where, Where.At_rest}
 use Rattle.abstract_net.proofs.Waits.{Rising}
@@ -41,7 +41,7 @@ use Rattle.nf_msgs.specs.declared.msg.Msg.TheVariants as msg
 use Rattle.nf_msgs.specs.Nodes.{instance_node}
 use Rattle.unit_machine.proofs.Labels.{Each, each_both}
 use Rattle.net_world.specs.declared.config.Config.{Config}
-use Rattle.net_world.specs.Input.{is_item, packets, commands, no_packet, packet_of, order_numbered, IsRising, IsSteered, IsWhole, IsProper, IsInput}
+use Rattle.net_world.specs.Input.{is_item, packets, commands, no_packet, packet_numbered, order_numbered, IsRising, IsSteered, IsWhole, IsProper, IsInput}
 use Rattle.net_world.specs.declared.node.Node.{Node}
 use Rattle.net_world.specs.declared.node.Node.TheVariants.{Instance}
 use Rattle.nf_msgs.specs.declared.note.Note.{Note}
@@ -88,7 +88,7 @@ module _ (kind : Kind) where
 
 module _ {R : Type 0} (f : Semantics R) (c : Config) (items : List Msg) (is : IsInput f.kind c items) where
   abbrev pub given : Given
-  given = record { site = c.site; packet = packet_of items; names = c.names; orders = order_numbered items; first = λ u. first_owner u c.routes }
+  given = record { site = c.site; packet = packet_numbered items; names = c.names; orders = order_numbered items; first = λ u. first_owner u c.routes }
 
   -- The items.
   found_packet : (p : Packet) → find (λ q. q.number == p.number) (packets items) ≡ Some p → IsSteered c.site p → GenuinePacket f given p
@@ -102,7 +102,7 @@ module _ {R : Type 0} (f : Semantics R) (c : Config) (items : List Msg) (is : Is
   ]
 
   -- the packet of any number fits its types
-  pub all_fit : (number : ℕ) → Fits c.site (packet_of items number)
+  pub all_fit : (number : ℕ) → Fits c.site (packet_numbered items number)
   all_fit number = fits_found number (packets items) (all_each (IsSteered c.site) (packets items) is.steered)
 
   pub genuine : Each (GenuinePacket f given) (packets items)
@@ -210,8 +210,8 @@ module _ (F : Type 0) {R : Type 0} (f : Semantics R) (alloc : Global) (c : Confi
   abbrev nodes : Nodes F R
   nodes = record { switch = first_switch c; controller = opened_controller c.names c.site; instance = instances }
 
-  abbrev world : Whole (S f g) (A f g)
-  world = record { target = routed f c items is; ops = []; shares = []; next = 0; inst = λ k. outline_instance f c.site (packet_of items) (instances k); standby = λ k. (instances k).table.standby; link = λ i j. []; done = [] }
+  abbrev world : WholeWorld (S f g) (A f g)
+  world = record { target = routed f c items is; ops = []; shares = []; next = 0; inst = λ k. outline_instance f c.site (packet_numbered items) (instances k); standby = λ k. (instances k).table.standby; link = λ i j. []; done = [] }
 
   abbrev scene : Scene F f g
   scene = record { nodes = nodes; world = world; log = []; input = items }
@@ -247,7 +247,7 @@ module _ (F : Type 0) {R : Type 0} (f : Semantics R) (alloc : Global) (c : Confi
   no_standby u (suc zero) = finite.get-empty unit_cmp u
   no_standby u (suc (suc i)) = finite.get-empty unit_cmp u
 
-  at_rest : (u : units.Unit) → Where (S f g) (is_sys f c.site (packet_of items)) u (moves_of (S f g) (A f g) world) [] false
+  at_rest : (u : units.Unit) → Where (S f g) (is_sys f c.site (packet_numbered items)) u (moves_of (S f g) (A f g) world) [] false
   at_rest u = At_rest (world.target u) [] [] false (record {
     two = omega arith;
     links = λ i j off. nothing_carried ((i == 0) && (j == world.target u));
@@ -265,7 +265,7 @@ module _ (F : Type 0) {R : Type 0} (f : Semantics R) (alloc : Global) (c : Confi
     controller = controller_is f c items is;
     owners = owners_are f c items is;
     instances = λ k two few. instance_is k two;
-    every = starts (S f g) (A f g) (is_sys f c.site (packet_of items)) world (record { shares = refl; links = λ i j off. refl; standby = no_standby }) (λ u. []) (λ u. false) (record { global = record { messages = λ i j off. tt; rules = λ k. no_rules k (λ r. r.num < 0); ops = tt }; unit = at_rest });
+    every = starts (S f g) (A f g) (is_sys f c.site (packet_numbered items)) world (record { shares = refl; links = λ i j off. refl; standby = no_standby }) (λ u. []) (λ u. false) (record { global = record { messages = λ i j off. tt; rules = λ k. no_rules k (λ r. r.num < 0); ops = tt }; unit = at_rest });
     done_is = refl;
     rising = subst (λ ns. Rising 0 ns) (same_numbers f g items) (rising_of 0 (map (λ k. k.op) (commands items)) is.ops);
   }

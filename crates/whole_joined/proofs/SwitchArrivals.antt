@@ -24,9 +24,9 @@ use Rattle.actor_net.proofs.WeightLaws.{EachSent}
 use Rattle.actor_net.proofs.LinkLemmas.{neither}
 use Rattle.unit_machine.proofs.Real.{sent_for}
 use Rattle.abstract_net.proofs.Net as net
-use Rattle.abstract_net.proofs.Net.{Want}
+use Rattle.abstract_net.proofs.Net.{MoveAsked}
 use Rattle.abstract_net.proofs.Waits.{Rising}
-use Rattle.abstract_net.proofs.Shares.{Any, Old, New, Diverted_on, S_asked, Want_share, Whole, arrive_sends, asks, whole_input}
+use Rattle.abstract_net.proofs.Shares.{Any, Old, New, Diverted_on, S_asked, Want_share, WholeWorld, arrive_sends, asks, whole_input}
 use Rattle.whole_net.proofs.WhereAll.{comes}
 use Rattle.whole_net.proofs.EveryAll.{Every_all, input_every_all, asks_move_every_all, asks_share_every_all}
 use Rattle.net_world.specs.Nodes.{as_node}
@@ -106,7 +106,7 @@ module _ {F R : Type 0} (f : Semantics R) (g : Given) (n : ℕ) (x : Scene F f g
       let did : on_packet s q ≡ arrives s q (target_node o.target) (message_for o.target) = ap (λ b. if b then goes_to s q (target_of s q) else still s) room ∙ ap (goes_to s q) found ∙ goes_is s q o.target o.there in
       let t : SwitchState = record s { pool = one_less s.pool; flying = s.flying + 1 } in
       let left : commands f g (drop 1 x.input) ≡ commands f g x.input = ap (λ v. commands f g (drop 1 v)) waits ∙ sym (ap (commands f g) waits) in
-      let next : Whole (S f g) (A f g) = whole_input (S f g) (A f g) x.world q.number in
+      let next : WholeWorld (S f g) (A f g) = whole_input (S f g) (A f g) x.world q.number in
       let takes = packet_takes f g.site g.packet (place g) x.world s are.switch.routes q are.switch.site genuine.same genuine.fits room in
       let outs : List (ℕ × Any R) = arrive_sends (S f g) (A f g) (x.world.target (unit_at f.kind g.site (g.packet q.number))) q.number in
       let kept : asked_nums (next.link 0 1) ≡ asked_nums (x.world.link 0 1) = asked_nums-append (x.world.link 0 1) (sent_for 1 outs) ∙ ap (λ v. asked_nums (x.world.link 0 1) ++ v) (none_arrives f g (x.world.target (unit_at f.kind g.site (g.packet q.number))) q.number) ∙ append-nil (asked_nums (x.world.link 0 1)) in
@@ -139,7 +139,7 @@ module _ {F R : Type 0} (f : Semantics R) (g : Given) (n : ℕ) (x : Scene F f g
 
     asked_leads : (m : Any R) → asked_of f (place g) c.op c.what ≡ Some m → asked_nums (m ∷ []) ≡ c.op ∷ [] → Every_all (S f g) (A f g) (is_sys f g.site g.packet) (asks (S f g) (A f g) x.world m) (came_by f g x.log) → Leads f g n x (record { node = 0; port = 0; message = msg.InCommand c }) (as_node Switch (on_command s c))
     asked_leads m e num every =
-        let next : Whole (S f g) (A f g) = asks (S f g) (A f g) x.world m in
+        let next : WholeWorld (S f g) (A f g) = asks (S f g) (A f g) x.world m in
         let rising : asked_nums (next.link 0 1) ++ commands f g (drop 1 x.input) ≡ asked_nums (x.world.link 0 1) ++ c.op ∷ commands f g items = ap (λ v. v ++ commands f g (drop 1 x.input)) (asked_nums-append (x.world.link 0 1) (m ∷ []) ∙ ap (λ v. asked_nums (x.world.link 0 1) ++ v) num) ∙ append_assoc (asked_nums (x.world.link 0 1)) (c.op ∷ []) (commands f g (drop 1 x.input)) ∙ ap (λ v. asked_nums (x.world.link 0 1) ++ c.op ∷ v) left in
         record {
           nodes = record x.nodes { switch = (on_command s c).node };
@@ -155,7 +155,7 @@ module _ {F R : Type 0} (f : Semantics R) (g : Given) (n : ℕ) (x : Scene F f g
     pub command_leads : Leads f g n x (record { node = 0; port = 0; message = msg.InCommand c }) (as_node Switch (on_command s c))
     command_leads = by_want (want_of (place g) c.op c.what) (want_share_of (place g) c.op c.what) refl refl
       where
-        by_want : (o : Option Want) (k : Option Want_share) → want_of (place g) c.op c.what ≡ o → want_share_of (place g) c.op c.what ≡ k → Leads f g n x (record { node = 0; port = 0; message = msg.InCommand c }) (as_node Switch (on_command s c))
+        by_want : (o : Option MoveAsked) (k : Option Want_share) → want_of (place g) c.op c.what ≡ o → want_share_of (place g) c.op c.what ≡ k → Leads f g n x (record { node = 0; port = 0; message = msg.InCommand c }) (as_node Switch (on_command s c))
         by_want (Some w) k a b = asked_leads (Old (net.Asked w)) (asked_move f (place g) c.op c.what w a) (ap (λ k. k ∷ []) (want_num c.op c.what (place g) w a)) (asks_move_every_all (S f g) (A f g) (is_sys f g.site g.packet) x.world (came_by f g x.log) are.every w)
         by_want None (Some w) a b = asked_leads (New (S_asked w)) (asked_share f (place g) c.op c.what w b) (ap (λ k. k ∷ []) (is_wanted (place g) c.op c.what w b).num) (asks_share_every_all (S f g) (A f g) (is_sys f g.site g.packet) x.world (came_by f g x.log) are.every w)
         by_want None None a b = unseen_leads (asked_none f (place g) c.op c.what a b)

@@ -15,10 +15,10 @@ use Rattle.actor_net.proofs.WaitingMessages.{less_first}
 use Rattle.actor_net.proofs.WeightLaws.{EachSent}
 use Rattle.unit_machine.proofs.Real.{sent_for}
 use Rattle.abstract_net.proofs.Net as net
-use Rattle.abstract_net.proofs.Net.{Want}
+use Rattle.abstract_net.proofs.Net.{MoveAsked}
 use Rattle.abstract_net.proofs.Waits.{Rising, rising_less}
 use Rattle.abstract_net.proofs.Shares as shares
-use Rattle.abstract_net.proofs.Shares.{Any, Old, New, Whole}
+use Rattle.abstract_net.proofs.Shares.{Any, Old, New, WholeWorld}
 use Rattle.whole_net.proofs.EveryAll.{Every_all}
 use Rattle.net_world.specs.declared.node.Node.TheVariants.{Switch}
 use Rattle.net_world.specs.Log.{done, installed}
@@ -73,7 +73,7 @@ rising_without b k [] ys h = let e = h.0 in rising_less b (suc k) ys (omega (ari
 rising_without b k (x ∷ xs) ys h = (h.0, rising_without (suc x) k xs ys h.1)
 
 -- what is asked for has the command's number
-pub want_num : (op : ℕ) (what : Order) (place : List ℕ → Option ℕ) (w : Want) → want_of place op what ≡ Some w → w.num ≡ op
+pub want_num : (op : ℕ) (what : Order) (place : List ℕ → Option ℕ) (w : MoveAsked) → want_of place op what ≡ Some w → w.num ≡ op
 want_num op (order.Move src dst filter keep) place w e = at_places (place src) (place dst) e
   where
     at_places : (from to : Option ℕ) → want_at op filter keep from to ≡ Some w → w.num ≡ op
@@ -109,7 +109,7 @@ module _ {R : Type 0} (f : Semantics R) (g : Given) where
 
 module _ {F R : Type 0} (f : Semantics R) (g : Given) (n : ℕ) (x : Scene F f g) (are : AreShown f g n x) where
   -- where each unit is, by a log to which nothing is added
-  pub every_on : (w : Whole (S f g) (A f g)) → Every_all (S f g) (A f g) (is_sys f g.site g.packet) w (came_by f g x.log) → Every_all (S f g) (A f g) (is_sys f g.site g.packet) w (came_by f g (x.log ++ []))
+  pub every_on : (w : WholeWorld (S f g) (A f g)) → Every_all (S f g) (A f g) (is_sys f g.site g.packet) w (came_by f g x.log) → Every_all (S f g) (A f g) (is_sys f g.site g.packet) w (came_by f g (x.log ++ []))
   every_on w h = every_same (S f g) (A f g) (is_sys f g.site g.packet) w _ _ (came_on f g n x are [] refl refl) h
 
   -- what holds after a step of the switch, by what it changes

@@ -25,7 +25,7 @@ use Rattle.unit_machine.proofs.Real as real
 use Rattle.abstract_net.proofs.Net as net
 use Rattle.abstract_net.proofs.Net.{everything, find_op, links_after, sw_target}
 use Rattle.abstract_net.proofs.UntakenSwitch.{Hands_any}
-use Rattle.abstract_net.proofs.Shares.{Any, Old, New, S_forward, S_install, Whole, whole_switch, share_target}
+use Rattle.abstract_net.proofs.Shares.{Any, Old, New, S_forward, S_install, WholeWorld, whole_switch, share_target}
 use Rattle.whole_net.proofs.EveryAll.{Every_all, switch_every_all}
 use Rattle.net_world.specs.Nodes.{as_node, node_step}
 use Rattle.net_world.specs.declared.node.Node.TheVariants.{Switch}
@@ -56,14 +56,14 @@ module _ {F R : Type 0} (f : Semantics R) (g : Given) (n : ℕ) (x : Scene F f g
     hands : (u : units.Unit) → Hands_any (S f g) (A f g) (is_sys f g.site g.packet) u x.world a (loose_by g u (installed (x.log ++ notes)))
 
   -- the world after it
-  abbrev sent_world : (units.Unit → ℕ) → List (ℕ × Any R) → Whole (S f g) (A f g)
+  abbrev sent_world : (units.Unit → ℕ) → List (ℕ × Any R) → WholeWorld (S f g) (A f g)
   sent_world to outs = record x.world { target = to; link = λ i j. links_after x.world.link 1 0 outs i j }
 
   -- such a message
   seen_step : (m : Msg) (a : Any R) (rest : List (Any R)) (t : SwitchState) (sends : List (ℕ × Msg)) (notes : List Note) (to : units.Unit → ℕ) → shown f g m ≡ Some a → x.world.link 1 0 ≡ a ∷ rest → whole_switch (S f g) (A f g) x.world 1 a ≡ sent_world to (outline_all f (place g) sends) → None_asked (outline_all f (place g) sends) → EachSent (Label f g) 0 sends → IsSwitch f g t to → Told a to notes → Leads f g n x (record { node = 0; port = 1; message = m }) (record { node = Switch t; sends = sends; notes = notes })
   seen_step m a rest t sends notes to seen waits next_is silent labels switch told =
       let outs : List (ℕ × Any R) = outline_all f (place g) sends in
-      let next : Whole (S f g) (A f g) = sent_world to outs in
+      let next : WholeWorld (S f g) (A f g) = sent_world to outs in
       let moved = switch_every_all (S f g) (A f g) (is_sys f g.site g.packet) (is_sharing f g.site g.packet) x.world (came_by f g x.log) (λ u. loose_by g u (installed (x.log ++ notes))) are.every 1 a rest refl waits told.stays told.hands in
       let every = every_same (S f g) (A f g) (is_sys f g.site g.packet) next _ (came_by f g (x.log ++ notes)) (λ u. sym (came_more f g x.log notes told.still u)) (subst (λ w. Every_all (S f g) (A f g) (is_sys f g.site g.packet) w (λ u. record (came_by f g x.log u) { bared = loose_by g u (installed (x.log ++ notes)) })) next_is moved) in
       let same : asked_nums (next.link 0 1) ≡ asked_nums (x.world.link 0 1) = nums_put (x.world.link 0 1) 1 outs silent in

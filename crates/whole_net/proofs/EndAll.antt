@@ -2,7 +2,7 @@
 -- no packet left, its share is idle, and each member's record is the fold of all that was done. Any other unit is as moves leave it.
 use Rattle.std.proofs.Common.{◌≡◌, ℕ, ◌≤◌, ◌<◌, Bool, true, false, None, Some, List, [], ◌++◌, sym, ap, ◌∙◌, append-nil}
 use Rattle.std.specs.Prelude.{◌&&◌, ◌==◌}
-use Rattle.unit_machine.proofs.Stages.{Order}
+use Rattle.unit_machine.proofs.Stages.{IsOrderedAs}
 use Rattle.share_machine.proofs.Share.{Phase.Idle, has, runs}
 use Rattle.share_machine.proofs.Stages.{shape}
 use Rattle.share_machine.proofs.Lists.{self}
@@ -15,19 +15,19 @@ use Rattle.abstract_net.proofs.ShareViews.{unit_share}
 use Rattle.abstract_net.proofs.Under.{Under}
 use Rattle.abstract_net.proofs.UnderStarts.{seeing}
 use Rattle.abstract_net.proofs.UnderReadings.{all_done, under_order, under_rests}
-use Rattle.abstract_net.proofs.Shares.{Want_share, olds, Sharing, Open_share, find_share, Whole, moves_of}
+use Rattle.abstract_net.proofs.Shares.{Want_share, olds, Sharing, Open_share, find_share, WholeWorld, moves_of}
 use Rattle.whole_net.proofs.WhereAll.{Came, Where_all, Apart_from_shares, Under_share, order_same}
 use Rattle.whole_net.proofs.Readings.{fold_done, Its_share, its_share}
 use Rattle.nf_function.specs.declared.unit.Unit as units
 
-module _ {R : Type 0} (S : Sys R) (A : Sharing S) (laws : IsSys S) (u : units.Unit) (n : ℕ) (w : Whole S A) where
+module _ {R : Type 0} (S : Sys R) (A : Sharing S) (laws : IsSys S) (u : units.Unit) (n : ℕ) (w : WholeWorld S A) where
   -- a unit under a share that rests: all its packets are done
   pub record Share_rests (k : Came) (e : Open_share) : Type 0 where
     pub its : Its_share S A laws u w e
     pub idle : e.phase ≡ Idle
     pub none_queued : e.queue ≡ []
     pub flag : Bool
-    pub order : Order flag (done_u S u w.done) k.all
+    pub order : IsOrderedAs flag (done_u S u w.done) k.all
     pub flag_is : flag ≡ true → k.bared ≡ true
     pub live : S.B.at u (w.inst e.home).live ≡ fold S.F None (done_u S u w.done)
     pub standby : (j : ℕ) → has e.members j ≡ true → (j == e.home) ≡ false → S.B.at u (w.standby j) ≡ fold S.F None (done_u S u w.done)
@@ -37,7 +37,7 @@ module _ {R : Type 0} (S : Sys R) (A : Sharing S) (laws : IsSys S) (u : units.Un
     At_share : (e : Open_share) → Share_rests k e → Ends_all k
 
   module _ (some : 2 ≤ n) (quiet : (i j : ℕ) → i < n → j < n → (i == 0) && (j == 0) ≡ false → w.link i j ≡ []) where
-    share_ends : (k : Came) (x : Want_share) (before : List ℕ) (b : Bool) (h : Under S A (seeing S A u x) w before k.diverted) → ((j : ℕ) → has x.members j ≡ true → j < n) → Order b (before ++ k.diverted) k.all → (b ≡ true → k.bared ≡ true) → Share_rests k (its_share S A laws u w x before k.diverted h)
+    share_ends : (k : Came) (x : Want_share) (before : List ℕ) (b : Bool) (h : Under S A (seeing S A u x) w before k.diverted) → ((j : ℕ) → has x.members j ≡ true → j < n) → IsOrderedAs b (before ++ k.diverted) k.all → (b ≡ true → k.bared ≡ true) → Share_rests k (its_share S A laws u w x before k.diverted h)
     share_ends k x before b h few o i =
         let z = seeing S A u x in
         let f = unit_share S A z in

@@ -7,7 +7,7 @@ use Rattle.unit_machine.proofs.Labels.{Each}
 use Rattle.share_machine.proofs.Share.{Ran, runs}
 use Rattle.share_machine.proofs.Stages.{shape}
 use Rattle.flow_filter.specs.declared.filter.Filter.{Filter}
-use Rattle.abstract_net.proofs.Net.{Asked, Carry_on, Want, Sys, IsSys, inst_step, sw_sends, begin_sends, at_node}
+use Rattle.abstract_net.proofs.Net.{Asked, Carry_on, MoveAsked, Sys, IsSys, inst_step, sw_sends, begin_sends, at_node}
 use Rattle.abstract_net.proofs.NewMessages.{On_new, Each_sent_new, each_new_map, each_sent_map, sent_old, sent_old_and, new_after, new_put, new_head}
 use Rattle.abstract_net.proofs.GlobalAll.{Of_share, Global_all}
 use Rattle.abstract_net.proofs.ShareRows.{Tells, told_cases, Told_of, Sent_by, share_row_by}
@@ -16,7 +16,7 @@ use Rattle.abstract_net.proofs.ShareViews.{unit_share, own_of}
 use Rattle.abstract_net.proofs.Untaken.{head_none}
 use Rattle.abstract_net.proofs.UnderStarts.{seeing}
 use Rattle.abstract_net.proofs.UnderReadings.{under_fresh}
-use Rattle.abstract_net.proofs.Shares.{Any, Any.Old, Any.New, Share_msg, Share_msg.Shared_on, Share_msg.Diverted_on, Share_msg.S_asked, Share_msg.S_install, Share_msg.S_forward, Share_msg.S_get, Share_msg.S_sync, Share_msg.S_chunks, Share_msg.S_shared, Share_msg.S_synced, Want_share, Each_new, same, as_old, Sharing, IsSharing, Open_share, find_share, Told, share_row, told_by, by_share, member_step, share_sends, arrive_sends, Whole, old_step, whole_inst, whole_ctrl, whole_switch, whole_input, asks, begin_move, begin_share, puts_get, keeps, ran_of}
+use Rattle.abstract_net.proofs.Shares.{Any, Any.Old, Any.New, Share_msg, Share_msg.Shared_on, Share_msg.Diverted_on, Share_msg.S_asked, Share_msg.S_install, Share_msg.S_forward, Share_msg.S_get, Share_msg.S_sync, Share_msg.S_chunks, Share_msg.S_shared, Share_msg.S_synced, Want_share, Each_new, same, as_old, Sharing, IsSharing, Open_share, find_share, Told, share_row, told_by, by_share, member_step, share_sends, arrive_sends, WholeWorld, old_step, whole_inst, whole_ctrl, whole_switch, whole_input, asks, begin_move, begin_share, puts_get, keeps, ran_of}
 use Rattle.whole_net.proofs.WhereAll.{Came, Where_all, Apart_from_shares, Under_share}
 use Rattle.whole_net.proofs.Fronts.{Front_of, Msg_front, Fronts, front_more, front_over, msg_more, ran_more, live_front, selected_front, processed_front, chunk_front}
 use Rattle.nf_function.specs.declared.unit.Unit as units
@@ -37,9 +37,9 @@ module _ {R : Type 0} (S : Sys R) (A : Sharing S) (laws : IsSys S) (u : units.Un
   one_ran n q y true live standby = refl
   one_ran n q y false live standby = refl
 
-  module _ (ok : IsSharing S A) (w : Whole S A) (k : Came) (g : Global_all S A w) (p y : ℕ) (rest : List (Any R)) (y0 : (y == 0) ≡ false) (y1 : (y == 1) ≡ false) where
-    pub table_seen : Where_all S A laws u w k → (n : ℕ) (home : Bool) (q : ℕ) → w.link p y ≡ New (Shared_on n home q) ∷ rest → same_unit (S.unit_of q) u ≡ true → S.B.at u (if home then (w.inst y).live else w.standby y) ≡ runs S.F None (ran_of S A u w.done)
-    table_seen (Apart_from_shares h none) n home q waits on = let other : same_unit (S.unit_of q) u ≡ false = head_none S u A w p y (New (Shared_on n home q)) rest (no_input p y y0) waits h.untaken in let never : true ≡ false = sym on ∙ other in cc
+  module _ (ok : IsSharing S A) (w : WholeWorld S A) (k : Came) (g : Global_all S A w) (p y : ℕ) (rest : List (Any R)) (y0 : (y == 0) ≡ false) (y1 : (y == 1) ≡ false) where
+    pub table_seen : Where_all S A laws u w k → (n : ℕ) (home : Bool) (q : ℕ) → w.link p y ≡ New (Shared_on n home q) ∷ rest → same_unit (S.packet_unit q) u ≡ true → S.B.at u (if home then (w.inst y).live else w.standby y) ≡ runs S.F None (ran_of S A u w.done)
+    table_seen (Apart_from_shares h none) n home q waits on = let other : same_unit (S.packet_unit q) u ≡ false = head_none S u A w p y (New (Shared_on n home q)) rest (no_input p y y0) waits h.untaken in let never : true ≡ false = sym on ∙ other in cc
     table_seen (Under_share x before b h o f) n home q waits on = by_num (n == x.num) refl
       where
         some : ran_of S A u (at_node y (member_step S A (w.inst y).live (w.standby y) (Shared_on n home q)).ran) ≢ []
@@ -95,7 +95,7 @@ module _ {R : Type 0} (S : Sys R) (A : Sharing S) (laws : IsSys S) (u : units.Un
     links_more : Fronts S A laws u w → (more : List Ran) → (i j : ℕ) → (i == 0) && (j == 0) ≡ false → Each_new (Msg_front S A laws u (ran_of S A u w.done ++ more)) (w.link i j)
     links_more fr more i j e = each_new_map (Msg_front S A laws u (ran_of S A u w.done)) (Msg_front S A laws u (ran_of S A u w.done ++ more)) (msg_more S A laws u (ran_of S A u w.done) more) (w.link i j) (fr.links i j e)
 
-    fronts_at : (v : Whole S A) (ds : List Ran) → ran_of S A u v.done ≡ ds → ((j : ℕ) → Front_of S A laws u ds (S.B.at u (v.standby j))) → ((i j : ℕ) → (i == 0) && (j == 0) ≡ false → Each_new (Msg_front S A laws u ds) (v.link i j)) → Fronts S A laws u v
+    fronts_at : (v : WholeWorld S A) (ds : List Ran) → ran_of S A u v.done ≡ ds → ((j : ℕ) → Front_of S A laws u ds (S.B.at u (v.standby j))) → ((i j : ℕ) → (i == 0) && (j == 0) ≡ false → Each_new (Msg_front S A laws u ds) (v.link i j)) → Fronts S A laws u v
     fronts_at v ds is standby links = record {
       standby = λ j. subst (λ es. Front_of S A laws u es (S.B.at u (v.standby j))) (sym is) (standby j);
       links = λ i j e. subst (λ es. Each_new (Msg_front S A laws u es) (v.link i j)) (sym is) (links i j e);
@@ -147,11 +147,11 @@ module _ {R : Type 0} (S : Sys R) (A : Sharing S) (laws : IsSys S) (u : units.Un
   sent_front ds e j (New (S_shared n c)) h = absurd h
   sent_front ds e j (New (S_synced n)) h = tt
 
-  head_front : (w : Whole S A) → Fronts S A laws u w → (p j : ℕ) (m : Any R) (rest : List (Any R)) → (p == 0) && (j == 0) ≡ false → w.link p j ≡ m ∷ rest → On_new (Msg_front S A laws u (ran_of S A u w.done)) m
+  head_front : (w : WholeWorld S A) → Fronts S A laws u w → (p j : ℕ) (m : Any R) (rest : List (Any R)) → (p == 0) && (j == 0) ≡ false → w.link p j ≡ m ∷ rest → On_new (Msg_front S A laws u (ran_of S A u w.done)) m
   head_front w fr p j (Old m) rest off waits = tt
   head_front w fr p j (New m) rest off waits = new_head (λ _ x. Msg_front S A laws u (ran_of S A u w.done) x) w.link fr.links p j m rest off waits
 
-  pub ctrl_fronts : (w : Whole S A) → Global_all S A w → Fronts S A laws u w → (p : ℕ) (m : Any R) (rest : List (Any R)) → w.link p 1 ≡ m ∷ rest → Fronts S A laws u (whole_ctrl S A w p m)
+  pub ctrl_fronts : (w : WholeWorld S A) → Global_all S A w → Fronts S A laws u w → (p : ℕ) (m : Any R) (rest : List (Any R)) → w.link p 1 ≡ m ∷ rest → Fronts S A laws u (whole_ctrl S A w p m)
   ctrl_fronts w g fr p m rest waits = record {
     standby = fr.standby;
     links = new_after (λ _ x. Msg_front S A laws u ds x) w.link fr.links p 1 (as_old (old_step S A w.ops p m).sends ++ (by_share S A w.shares p (told_by S A w.shares m)).sends) (sent_old_and (λ _ x. Msg_front S A laws u ds x) (old_step S A w.ops p m).sends (by_share S A w.shares p (told_by S A w.shares m)).sends (told_cases S A (λ s. Each_sent_new (λ _ x. Msg_front S A laws u ds x) s.sends) w.shares p m g.nums_apart tt goes));
@@ -176,36 +176,36 @@ module _ {R : Type 0} (S : Sys R) (A : Sharing S) (laws : IsSys S) (u : units.Un
   no_chunk ds (S_shared n c) = tt
   no_chunk ds (S_synced n) = tt
 
-  pub switch_fronts : (w : Whole S A) → Fronts S A laws u w → (p : ℕ) (m : Any R) → Fronts S A laws u (whole_switch S A w p m)
+  pub switch_fronts : (w : WholeWorld S A) → Fronts S A laws u w → (p : ℕ) (m : Any R) → Fronts S A laws u (whole_switch S A w p m)
   switch_fronts w fr p (Old m) = record { standby = fr.standby; links = new_after (λ _ x. Msg_front S A laws u (ran_of S A u w.done) x) w.link fr.links p 0 (as_old (sw_sends m)) (sent_old (λ _ x. Msg_front S A laws u (ran_of S A u w.done) x) (sw_sends m)) }
   switch_fronts w fr p (New m) = record { standby = fr.standby; links = new_after (λ _ x. Msg_front S A laws u (ran_of S A u w.done) x) w.link fr.links p 0 (share_sends S A m) (no_chunk (ran_of S A u w.done) m) }
 
   -- messages without chunks are put on a node's links
-  put_links : (w : Whole S A) → Fronts S A laws u w → (y : ℕ) (sends : List (ℕ × Any R)) → Each_sent_new (λ _ x. Msg_front S A laws u (ran_of S A u w.done) x) sends → (i j : ℕ) → (i == 0) && (j == 0) ≡ false → Each_new (Msg_front S A laws u (ran_of S A u w.done)) (w.link i j ++ (if i == y then sent_for j sends else []))
+  put_links : (w : WholeWorld S A) → Fronts S A laws u w → (y : ℕ) (sends : List (ℕ × Any R)) → Each_sent_new (λ _ x. Msg_front S A laws u (ran_of S A u w.done) x) sends → (i j : ℕ) → (i == 0) && (j == 0) ≡ false → Each_new (Msg_front S A laws u (ran_of S A u w.done)) (w.link i j ++ (if i == y then sent_for j sends else []))
   put_links w fr y sends s = new_put (λ _ x. Msg_front S A laws u (ran_of S A u w.done) x) w.link fr.links y sends s
 
   arrives : (ds : List Ran) (b : Bool) (t q : ℕ) → Each_sent_new (λ _ x. Msg_front S A laws u ds x) (if b then (1, New (Diverted_on q)) ∷ [] else (t, Old (Carry_on q)) ∷ [])
   arrives ds true t q = (tt, tt)
   arrives ds false t q = (tt, tt)
 
-  pub input_fronts : (w : Whole S A) → Fronts S A laws u w → (q : ℕ) → Fronts S A laws u (whole_input S A w q)
-  input_fronts w fr q = record { standby = fr.standby; links = put_links w fr 0 (arrive_sends S A (w.target (S.unit_of q)) q) (arrives (ran_of S A u w.done) (w.target (S.unit_of q) == 1) (w.target (S.unit_of q)) q) }
+  pub input_fronts : (w : WholeWorld S A) → Fronts S A laws u w → (q : ℕ) → Fronts S A laws u (whole_input S A w q)
+  input_fronts w fr q = record { standby = fr.standby; links = put_links w fr 0 (arrive_sends S A (w.target (S.packet_unit q)) q) (arrives (ran_of S A u w.done) (w.target (S.packet_unit q) == 1) (w.target (S.packet_unit q)) q) }
 
-  pub move_fronts : (w : Whole S A) → Fronts S A laws u w → (x : Want) → Fronts S A laws u (begin_move S A w x)
+  pub move_fronts : (w : WholeWorld S A) → Fronts S A laws u w → (x : MoveAsked) → Fronts S A laws u (begin_move S A w x)
   move_fronts w fr x = record { standby = fr.standby; links = put_links w fr 1 (as_old (begin_sends x.num x)) (sent_old (λ _ m. Msg_front S A laws u (ran_of S A u w.done) m) (begin_sends x.num x)) }
 
-  pub share_fronts : (w : Whole S A) → Fronts S A laws u w → (x : Want_share) → Fronts S A laws u (begin_share S A w x)
+  pub share_fronts : (w : WholeWorld S A) → Fronts S A laws u w → (x : Want_share) → Fronts S A laws u (begin_share S A w x)
   share_fronts w fr x = record { standby = fr.standby; links = put_links w fr 1 ((0, New (S_install x.num x.filter x.home)) ∷ []) (tt, tt) }
 
-  pub get_fronts : (w : Whole S A) → Fronts S A laws u w → (n : ℕ) (g : Filter) (src : ℕ) → Fronts S A laws u (puts_get S A w n g src)
+  pub get_fronts : (w : WholeWorld S A) → Fronts S A laws u w → (n : ℕ) (g : Filter) (src : ℕ) → Fronts S A laws u (puts_get S A w n g src)
   get_fronts w fr n g src = record { standby = fr.standby; links = put_links w fr 1 ((src, New (S_get n g)) ∷ []) (tt, tt) }
 
-  pub asks_move_fronts : (w : Whole S A) → Fronts S A laws u w → (x : Want) → Fronts S A laws u (asks S A w (Old (Asked x)))
+  pub asks_move_fronts : (w : WholeWorld S A) → Fronts S A laws u w → (x : MoveAsked) → Fronts S A laws u (asks S A w (Old (Asked x)))
   asks_move_fronts w fr x = record { standby = fr.standby; links = put_links w fr 0 ((1, Old (Asked x)) ∷ []) (tt, tt) }
 
-  pub asks_share_fronts : (w : Whole S A) → Fronts S A laws u w → (x : Want_share) → Fronts S A laws u (asks S A w (New (S_asked x)))
+  pub asks_share_fronts : (w : WholeWorld S A) → Fronts S A laws u w → (x : Want_share) → Fronts S A laws u (asks S A w (New (S_asked x)))
   asks_share_fronts w fr x = record { standby = fr.standby; links = put_links w fr 0 ((1, New (S_asked x)) ∷ []) (tt, tt) }
 
   -- what an instance keeps of a copy
-  pub keeps_fronts : (w : Whole S A) → Fronts S A laws u w → (y : ℕ) (t : S.B.T) → Front_of S A laws u (ran_of S A u w.done) (S.B.at u t) → Fronts S A laws u (keeps S A w y t)
+  pub keeps_fronts : (w : WholeWorld S A) → Fronts S A laws u w → (y : ℕ) (t : S.B.T) → Front_of S A laws u (ran_of S A u w.done) (S.B.at u t) → Fronts S A laws u (keeps S A w y t)
   keeps_fronts w fr y t new = record { standby = λ j. elim (j == y) as (λ b. Front_of S A laws u (ran_of S A u w.done) (S.B.at u (if b then t else w.standby j))) [ true ↦ new | false ↦ fr.standby j ]; links = fr.links }

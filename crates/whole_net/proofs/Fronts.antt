@@ -20,7 +20,7 @@ use Rattle.abstract_net.proofs.NewMessages.{Each_sent_new}
 use Rattle.abstract_net.proofs.GlobalAll.{Global_all}
 use Rattle.abstract_net.proofs.ShareLinks.{ran_of-append}
 use Rattle.abstract_net.proofs.UnderStarts.{Front_by}
-use Rattle.abstract_net.proofs.Shares.{Any.New, Share_msg, Share_msg.Shared_on, Share_msg.Diverted_on, Share_msg.S_asked, Share_msg.S_install, Share_msg.S_forward, Share_msg.S_get, Share_msg.S_sync, Share_msg.S_chunks, Share_msg.S_shared, Share_msg.S_synced, Each_new, Sharing, shared_chunk, Whole, moves_of, ran_of}
+use Rattle.abstract_net.proofs.Shares.{Any.New, Share_msg, Share_msg.Shared_on, Share_msg.Diverted_on, Share_msg.S_asked, Share_msg.S_install, Share_msg.S_forward, Share_msg.S_get, Share_msg.S_sync, Share_msg.S_chunks, Share_msg.S_shared, Share_msg.S_synced, Each_new, Sharing, shared_chunk, WholeWorld, moves_of, ran_of}
 use Rattle.whole_net.proofs.WhereAll.{Came, Where_all}
 use Rattle.whole_net.proofs.Readings.{fold_done, Records_all, By_moves, By_share, records_all}
 use Rattle.nf_function.specs.declared.unit.Unit as units
@@ -81,12 +81,12 @@ module _ {R : Type 0} (S : Sys R) (A : Sharing S) (laws : IsSys S) (u : units.Un
   Msg_front ds (S_shared n c) = Front_of ds (record_at u (c ∷ []))
   Msg_front ds (S_synced n) = Unit {0}
 
-  pub record Fronts (w : Whole S A) : Type 0 where
+  pub record Fronts (w : WholeWorld S A) : Type 0 where
     pub standby : (k : ℕ) → Front_of (ran_of S A u w.done) (S.B.at u (w.standby k))
     pub links : (i j : ℕ) → (i == 0) && (j == 0) ≡ false → Each_new (Msg_front (ran_of S A u w.done)) (w.link i j)
 
   -- as the begin of a share wants them
-  pub front_by : (w : Whole S A) → Fronts w → (k : ℕ) → Front_by S A u w k
+  pub front_by : (w : WholeWorld S A) → Fronts w → (k : ℕ) → Front_by S A u w k
   front_by w h k = let f = h.standby k in record { seen = f.seen; fold = f.fold; front = f.front }
 
   -- Fronts
@@ -127,7 +127,7 @@ module _ {R : Type 0} (S : Sys R) (A : Sharing S) (laws : IsSys S) (u : units.Un
       by_test false false true = h.at_c
       by_test false false false = inl refl
 
-  by_record : (w : Whole S A) → Record_of S laws u (moves_of S A w) → (k : ℕ) → Front_of (ran_of S A u w.done) (S.B.at u (w.inst k).live)
+  by_record : (w : WholeWorld S A) → Record_of S laws u (moves_of S A w) → (k : ℕ) → Front_of (ran_of S A u w.done) (S.B.at u (w.inst k).live)
   by_record w r k = by_live (at_node_so all r.seeing r.state (lives_so all r.state.a.live r.state.a.live r.state.b.live r.state.c.live _ r.kept) k)
     where
       all : Option R
@@ -137,7 +137,7 @@ module _ {R : Type 0} (S : Sys R) (A : Sharing S) (laws : IsSys S) (u : units.Un
       by_live (inl none) = front_none (ran_of S A u w.done) (S.B.at u (w.inst k).live) (r.tables k ∙ none)
       by_live (inr is) = front_all (ran_of S A u w.done) (S.B.at u (w.inst k).live) (r.tables k ∙ is ∙ sym (fold_done S A laws u None w.done))
 
-  pub live_front : (w : Whole S A) (k : Came) → Global_all S A w → Where_all S A laws u w k → (j : ℕ) → Front_of (ran_of S A u w.done) (S.B.at u (w.inst j).live)
+  pub live_front : (w : WholeWorld S A) (k : Came) → Global_all S A w → Where_all S A laws u w k → (j : ℕ) → Front_of (ran_of S A u w.done) (S.B.at u (w.inst j).live)
   live_front w k g h j = by_records (records_all S A laws u w k g h)
     where
       by_records : Records_all S A laws u w → Front_of (ran_of S A u w.done) (S.B.at u (w.inst j).live)
@@ -152,41 +152,41 @@ module _ {R : Type 0} (S : Sys R) (A : Sharing S) (laws : IsSys S) (u : units.Un
   selected_front ds g t h = subst (λ o. Front_of ds o) (sym (record_first u (S.B.select g t) ∙ ap first (laws.laws.selected u g t) ∙ first_of_one (if g u then S.B.at u t else None))) (elim (g u) as (λ b. Front_of ds (if b then S.B.at u t else None)) [ true ↦ h | false ↦ front_none ds None refl ])
 
   -- a packet of another unit
-  pub same_after : (p : ℕ) (t : S.B.T) → same_unit (S.unit_of p) u ≡ false → S.B.at u (process S t p) ≡ S.B.at u t
-  same_after p t off = laws.written u (S.unit_of p) (S.F.step (S.B.at (S.unit_of p) t) p) t ∙ ap (λ b. if b then Some (S.F.step (S.B.at (S.unit_of p) t) p) else S.B.at u t) off
+  pub same_after : (p : ℕ) (t : S.B.T) → same_unit (S.packet_unit p) u ≡ false → S.B.at u (process S t p) ≡ S.B.at u t
+  same_after p t off = laws.written u (S.packet_unit p) (S.F.step (S.B.at (S.packet_unit p) t) p) t ∙ ap (λ b. if b then Some (S.F.step (S.B.at (S.packet_unit p) t) p) else S.B.at u t) off
 
   -- after a packet: the unit's, over the record that has seen all, or another's
-  module _ (ds : List Ran) (p y : ℕ) (t : S.B.T) (all : same_unit (S.unit_of p) u ≡ true → S.B.at u t ≡ runs S.F None ds) where
-    pub its_then : same_unit (S.unit_of p) u ≡ true → S.B.at u (process S t p) ≡ runs S.F None (ds ++ ran_of S A u ((p, y) ∷ []))
+  module _ (ds : List Ran) (p y : ℕ) (t : S.B.T) (all : same_unit (S.packet_unit p) u ≡ true → S.B.at u t ≡ runs S.F None ds) where
+    pub its_then : same_unit (S.packet_unit p) u ≡ true → S.B.at u (process S t p) ≡ runs S.F None (ds ++ ran_of S A u ((p, y) ∷ []))
     its_then on =
-        let same : S.unit_of p ≡ u = same_unit-true (S.unit_of p) u on in
-        laws.written u (S.unit_of p) (S.F.step (S.B.at (S.unit_of p) t) p) t
-        ∙ ap (λ b. if b then Some (S.F.step (S.B.at (S.unit_of p) t) p) else S.B.at u t) on
+        let same : S.packet_unit p ≡ u = same_unit-true (S.packet_unit p) u on in
+        laws.written u (S.packet_unit p) (S.F.step (S.B.at (S.packet_unit p) t) p) t
+        ∙ ap (λ b. if b then Some (S.F.step (S.B.at (S.packet_unit p) t) p) else S.B.at u t) on
         ∙ ap (λ v. Some (S.F.step (S.B.at v t) p)) same
         ∙ ap (λ o. Some (S.F.step o p)) (all on)
         ∙ sym (runs-append S.F None ds ((p, y) ∷ []))
         ∙ ap (λ b. runs S.F None (ds ++ (if b then (p, y) ∷ [] else []))) (sym on)
 
     pub processed_front : Front_of ds (S.B.at u t) → Front_of (ds ++ ran_of S A u ((p, y) ∷ [])) (S.B.at u (process S t p))
-    processed_front h = elim (same_unit (S.unit_of p) u) as (λ b. same_unit (S.unit_of p) u ≡ b → Front_of (ds ++ ran_of S A u ((p, y) ∷ [])) (S.B.at u (process S t p))) [
+    processed_front h = elim (same_unit (S.packet_unit p) u) as (λ b. same_unit (S.packet_unit p) u ≡ b → Front_of (ds ++ ran_of S A u ((p, y) ∷ [])) (S.B.at u (process S t p))) [
       | true ↦ λ on. front_all (ds ++ ran_of S A u ((p, y) ∷ [])) (S.B.at u (process S t p)) (its_then on)
       | false ↦ λ off. front_more ds (ran_of S A u ((p, y) ∷ [])) (S.B.at u (process S t p)) (subst (λ o. Front_of ds o) (sym (same_after p t off)) h)
     ] refl
 
-    chunk_of : (r : R) → S.B.at (S.unit_of p) (process S t p) ≡ Some r → Front_of (ds ++ ran_of S A u ((p, y) ∷ [])) (record_at u ((S.unit_of p, r) ∷ []))
-    chunk_of r is = elim (same_unit (S.unit_of p) u) as (λ b. same_unit (S.unit_of p) u ≡ b → Front_of (ds ++ ran_of S A u ((p, y) ∷ [])) (record_at u ((S.unit_of p, r) ∷ []))) [
+    chunk_of : (r : R) → S.B.at (S.packet_unit p) (process S t p) ≡ Some r → Front_of (ds ++ ran_of S A u ((p, y) ∷ [])) (record_at u ((S.packet_unit p, r) ∷ []))
+    chunk_of r is = elim (same_unit (S.packet_unit p) u) as (λ b. same_unit (S.packet_unit p) u ≡ b → Front_of (ds ++ ran_of S A u ((p, y) ∷ [])) (record_at u ((S.packet_unit p, r) ∷ []))) [
       | true ↦ λ on.
-          let same : S.unit_of p ≡ u = same_unit-true (S.unit_of p) u on in
-          let mine : same_unit u (S.unit_of p) ≡ true = same_unit_equiv.symm u (S.unit_of p) ∙ on in
-          let there : record_at u ((S.unit_of p, r) ∷ []) ≡ Some r = rw mine refl in
-          front_all (ds ++ ran_of S A u ((p, y) ∷ [])) (record_at u ((S.unit_of p, r) ∷ [])) (there ∙ sym is ∙ ap (λ v. S.B.at v (process S t p)) same ∙ its_then on)
+          let same : S.packet_unit p ≡ u = same_unit-true (S.packet_unit p) u on in
+          let mine : same_unit u (S.packet_unit p) ≡ true = same_unit_equiv.symm u (S.packet_unit p) ∙ on in
+          let there : record_at u ((S.packet_unit p, r) ∷ []) ≡ Some r = rw mine refl in
+          front_all (ds ++ ran_of S A u ((p, y) ∷ [])) (record_at u ((S.packet_unit p, r) ∷ [])) (there ∙ sym is ∙ ap (λ v. S.B.at v (process S t p)) same ∙ its_then on)
       | false ↦ λ off.
-          let other : same_unit u (S.unit_of p) ≡ false = same_unit_equiv.symm u (S.unit_of p) ∙ off in
-          front_none (ds ++ ran_of S A u ((p, y) ∷ [])) (record_at u ((S.unit_of p, r) ∷ [])) (rw other refl)
+          let other : same_unit u (S.packet_unit p) ≡ false = same_unit_equiv.symm u (S.packet_unit p) ∙ off in
+          front_none (ds ++ ran_of S A u ((p, y) ∷ [])) (record_at u ((S.packet_unit p, r) ∷ [])) (rw other refl)
     ] refl
 
     pub chunk_front : (n : ℕ) → Each_sent_new (λ _ m. Msg_front (ds ++ ran_of S A u ((p, y) ∷ [])) m) (shared_chunk S A n p (process S t p))
-    chunk_front n = elim (S.B.at (S.unit_of p) (process S t p)) as (λ o. S.B.at (S.unit_of p) (process S t p) ≡ o → Each_sent_new (λ _ m. Msg_front (ds ++ ran_of S A u ((p, y) ∷ [])) m) (option_map_or (λ r. (1, New (S_shared n (S.unit_of p, r))) ∷ []) o [])) [
+    chunk_front n = elim (S.B.at (S.packet_unit p) (process S t p)) as (λ o. S.B.at (S.packet_unit p) (process S t p) ≡ o → Each_sent_new (λ _ m. Msg_front (ds ++ ran_of S A u ((p, y) ∷ [])) m) (option_map_or (λ r. (1, New (S_shared n (S.packet_unit p, r))) ∷ []) o [])) [
       | None ↦ λ _. tt
       | Some r ↦ λ is. (chunk_of r is, tt)
     ] refl

@@ -6,7 +6,7 @@ use Rattle.unit_machine.proofs.Machine.{At_a, At_b, At_c, Where as Side, Steps, 
 use Rattle.unit_machine.proofs.Lists.{firsts, cons_nil}
 use Rattle.unit_machine.proofs.Pairs.{Shown_by, By_sa, By_sb, By_sc, By_ca, By_cb, By_ac, By_bc, By_cc, By_cs, shown_by}
 use Rattle.unit_machine.proofs.Stages.{At_rest}
-use Rattle.unit_machine.proofs.Seats.{Seat, Covered, Is_beside, Is_away, seat_shape}
+use Rattle.unit_machine.proofs.Seats.{UnitSeat, Covered, Is_beside, Is_away, seat_shape}
 use Rattle.unit_machine.proofs.Between.{seat_at}
 use Rattle.unit_machine.proofs.Fresh.{still_ca, still_cb, still_ran, fresh_sa, fresh_sb, fresh_sc, sc_stage}
 use Rattle.unit_machine.proofs.Real.{Op}
@@ -26,12 +26,12 @@ use Rattle.whole_net.proofs.RoutedSteps.{Routed, To_source, To_destination, sour
 use Rattle.nf_function.specs.declared.unit.Unit as units
 use Rattle.nf_msgs.specs.declared.answer.Answer.{Answer}
 
-third_target : {R : Type 0} (F : Steps R) (s : Seat F) (it : Item R) (v : List (Item R)) → (seat_shape F s).sc ≡ it ∷ v → (seat_shape F s).target ≡ At_c
+third_target : {R : Type 0} (F : Steps R) (s : UnitSeat F) (it : Item R) (v : List (Item R)) → (seat_shape F s).sc ≡ it ∷ v → (seat_shape F s).target ≡ At_c
 third_target F (Covered s) it v e = cons_nil (sym e ∙ sc_stage F s)
 third_target F (Is_beside s) it v e = cons_nil (sym e ∙ sc_stage F s.base)
 third_target F (Is_away s) it v e = refl
 
-module _ {R : Type 0} (S : Sys R) (laws : IsSys S) (z : Seeing) (w : World S) (s : Seat S.F) (h : Holds S z w (seat_shape S.F s)) (p y : ℕ) (m : Msg R) (rest : List (Msg R)) (y0 : (y == 0) ≡ false) (y1 : (y == 1) ≡ false) (waits : w.link p y ≡ m ∷ rest) (some : none_mine S z.unit (inst_step S (w.inst y) m).ran ≢ []) where
+module _ {R : Type 0} (S : Sys R) (laws : IsSys S) (z : Seeing) (w : World S) (s : UnitSeat S.F) (h : Holds S z w (seat_shape S.F s)) (p y : ℕ) (m : Msg R) (rest : List (Msg R)) (y0 : (y == 0) ≡ false) (y1 : (y == 1) ≡ false) (waits : w.link p y ≡ m ∷ rest) (some : none_mine S z.unit (inst_step S (w.inst y) m).ran ≢ []) where
   abbrev x : State R
   x = seat_shape S.F s
 
@@ -130,7 +130,7 @@ module _ {R : Type 0} (S : Sys R) (laws : IsSys S) (u : units.Unit) (w : World S
 
   module _ (p y : ℕ) (m : Msg R) (rest : List (Msg R)) (y0 : (y == 0) ≡ false) (y1 : (y == 1) ≡ false) (waits : w.link p y ≡ m ∷ rest) (some : none_mine S u (inst_step S (w.inst y) m).ran ≢ []) where
     -- where its packets go, or at the destination of an open move
-    in_move : (op : Op) (third : ℕ) (e : Open R) (s : Seat S.F) → find_op w.ops op.num ≡ Some e → (h : Holds S (see S laws u op third) w (seat_shape S.F s)) → Is_placed S laws (see S laws u op third) w s h p y m rest y0 y1 waits some → May_run S w u y
+    in_move : (op : Op) (third : ℕ) (e : Open R) (s : UnitSeat S.F) → find_op w.ops op.num ≡ Some e → (h : Holds S (see S laws u op third) w (seat_shape S.F s)) → Is_placed S laws (see S laws u op third) w s h p y m rest y0 y1 waits some → May_run S w u y
     in_move op third e s there h (Routed_here at) = At_route (h.target ∙ at)
     in_move op third e s there h (Moved_here goes at) = At_destination op.num e there takes (h.target ∙ goes ∙ ap (λ o. o.src) (sym same)) (at ∙ ap (λ o. o.dst) (sym same))
       where

@@ -15,7 +15,7 @@ use Rattle.abstract_net.proofs.ShareViews.{unit_share}
 use Rattle.abstract_net.proofs.Under.{Under, Goes_on, under_inst}
 use Rattle.abstract_net.proofs.UnderStarts.{seeing}
 use Rattle.abstract_net.proofs.UnderReadings.{all_done, under_fresh}
-use Rattle.abstract_net.proofs.Shares.{Any, Any.Old, Any.New, Share_msg, Share_msg.Shared_on, Share_msg.Diverted_on, Share_msg.S_asked, Share_msg.S_install, Share_msg.S_forward, Share_msg.S_get, Share_msg.S_sync, Share_msg.S_chunks, Share_msg.S_shared, Share_msg.S_synced, olds, Sharing, IsSharing, Open_share, Want_share, member_step, Whole, whole_inst, moves_of, ran_of, Seeing_share}
+use Rattle.abstract_net.proofs.Shares.{Any, Any.Old, Any.New, Share_msg, Share_msg.Shared_on, Share_msg.Diverted_on, Share_msg.S_asked, Share_msg.S_install, Share_msg.S_forward, Share_msg.S_get, Share_msg.S_sync, Share_msg.S_chunks, Share_msg.S_shared, Share_msg.S_synced, olds, Sharing, IsSharing, Open_share, Want_share, member_step, WholeWorld, whole_inst, moves_of, ran_of, Seeing_share}
 use Rattle.whole_net.proofs.WhereAll.{Came, Where_all, Apart_from_shares, Under_share}
 use Rattle.whole_net.proofs.Readings.{fold_done, seen_by, Its_share, its_share}
 use Rattle.whole_net.proofs.Fronts.{ran_more}
@@ -25,29 +25,29 @@ use Rattle.record_table.specs.Table.{same_unit}
 
 module _ {R : Type 0} (S : Sys R) (A : Sharing S) (laws : IsSys S) where
   -- what an instance processes
-  abbrev pub ran_by : Whole S A → ℕ → Any R → List ℕ
+  abbrev pub ran_by : WholeWorld S A → ℕ → Any R → List ℕ
   ran_by w y (Old m) = (inst_step S (w.inst y) m).ran
   ran_by w y (New m) = (member_step S A (w.inst y).live (w.standby y) m).ran
 
   -- the table in which a member of a share keeps its record: the live one at home
-  abbrev pub record_of_member : Whole S A → units.Unit → Bool → ℕ → Option R
+  abbrev pub record_of_member : WholeWorld S A → units.Unit → Bool → ℕ → Option R
   record_of_member w u home k = if home then S.B.at u (w.inst k).live else S.B.at u (w.standby k)
 
   -- what a step adds to what was done of a unit under a share is at home or at its member
-  pub grown : (z : Seeing_share) (w v : Whole S A) (before since early late : List ℕ) (h : Under S A z w before since) → Goes_on S A z h.stage v early late → Grows (unit_share S A z) (ran_of S A z.unit w.done) (ran_of S A z.unit v.done)
+  pub grown : (z : Seeing_share) (w v : WholeWorld S A) (before since early late : List ℕ) (h : Under S A z w before since) → Goes_on S A z h.stage v early late → Grows (unit_share S A z) (ran_of S A z.unit w.done) (ran_of S A z.unit v.done)
   grown z w v before since early late h n =
       let f = unit_share S A z in
       subst (λ ds. Grows f ds (ran_of S A z.unit v.done)) (sym (all_done S A z w before since h)) (subst (λ ds. Grows f (processed f h.stage) ds) (sym (all_done S A z v early late n.under)) n.placed)
 
   -- where an instance processes packets of the unit; under a share each of them at home or at its member
-  pub data Processes (w : Whole S A) (u : units.Unit) (y : ℕ) (ps : List ℕ) : Type 0 where
+  pub data Processes (w : WholeWorld S A) (u : units.Unit) (y : ℕ) (ps : List ℕ) : Type 0 where
     As_moves : May_run S (moves_of S A w) u y → S.B.at u (w.inst y).live ≡ fold S.F None (done_u S u w.done) → Processes w u y ps
     At_member : (e : Open_share) → Its_share S A laws u w e → has e.members y ≡ true → At_places (unit_share S A (seen_by S A laws u e)) (ran_of S A u (at_node y ps)) → record_of_member w u (y == e.home) y ≡ fold S.F None (done_u S u w.done) → Processes w u y ps
 
   module _ (u : units.Unit) where
     its_ran : (y : ℕ) (ps : List ℕ) → packets (ran_of S A u (at_node y ps)) ≡ none_mine S u ps
     its_ran y [] = refl
-    its_ran y (p ∷ ps) = elim (same_unit (S.unit_of p) u) as (λ b. packets (if b then (p, y) ∷ ran_of S A u (at_node y ps) else ran_of S A u (at_node y ps)) ≡ (if b then p ∷ none_mine S u ps else none_mine S u ps)) [ true ↦ ap (λ v. p ∷ v) (its_ran y ps) | false ↦ its_ran y ps ]
+    its_ran y (p ∷ ps) = elim (same_unit (S.packet_unit p) u) as (λ b. packets (if b then (p, y) ∷ ran_of S A u (at_node y ps) else ran_of S A u (at_node y ps)) ≡ (if b then p ∷ none_mine S u ps else none_mine S u ps)) [ true ↦ ap (λ v. p ∷ v) (its_ran y ps) | false ↦ its_ran y ps ]
 
     -- a message of a share has nothing of a unit that no share has
     none_ran : (es : List Open_share) (live standby : S.B.T) (m : Share_msg R) → No_share S u es m → none_mine S u (member_step S A live standby m).ran ≡ []
@@ -64,7 +64,7 @@ module _ {R : Type 0} (S : Sys R) (A : Sharing S) (laws : IsSys S) where
     none_ran es live standby (S_shared n c) off = refl
     none_ran es live standby (S_synced n) off = refl
 
-    under_placed : (ok : IsSharing S A) (w : Whole S A) (x : Want_share) (before since : List ℕ) → Global_all S A w → Under S A (seeing S A u x) w before since → (p y : ℕ) (m : Any R) (rest : List (Any R)) → (y == 0) ≡ false → (y == 1) ≡ false → w.link p y ≡ m ∷ rest → At_places (unit_share S A (seeing S A u x)) (ran_of S A u (at_node y (ran_by w y m)))
+    under_placed : (ok : IsSharing S A) (w : WholeWorld S A) (x : Want_share) (before since : List ℕ) → Global_all S A w → Under S A (seeing S A u x) w before since → (p y : ℕ) (m : Any R) (rest : List (Any R)) → (y == 0) ≡ false → (y == 1) ≡ false → w.link p y ≡ m ∷ rest → At_places (unit_share S A (seeing S A u x)) (ran_of S A u (at_node y (ran_by w y m)))
     under_placed ok w x before since g h p y m rest y0 y1 waits = placed_by m (grown (seeing S A u x) w (whole_inst S A w p y m) before since before since h (under_inst S A (seeing S A u x) laws ok w before since g h y p y0 y1 m rest waits))
       where
         by_lists : (ps : List ℕ) → Grows (unit_share S A (seeing S A u x)) (ran_of S A u w.done) (ran_of S A u (w.done ++ at_node y ps)) → At_places (unit_share S A (seeing S A u x)) (ran_of S A u (at_node y ps))
@@ -74,7 +74,7 @@ module _ {R : Type 0} (S : Sys R) (A : Sharing S) (laws : IsSys S) where
         placed_by (Old m) r = by_lists (inst_step S (w.inst y) m).ran r
         placed_by (New m) r = by_lists (member_step S A (w.inst y).live (w.standby y) m).ran r
 
-    under_processes : (ok : IsSharing S A) (w : Whole S A) (x : Want_share) (before since : List ℕ) → Global_all S A w → Under S A (seeing S A u x) w before since → (p y : ℕ) (m : Any R) (rest : List (Any R)) → (y == 0) ≡ false → (y == 1) ≡ false → w.link p y ≡ m ∷ rest → none_mine S u (ran_by w y m) ≢ [] → Processes w u y (ran_by w y m)
+    under_processes : (ok : IsSharing S A) (w : WholeWorld S A) (x : Want_share) (before since : List ℕ) → Global_all S A w → Under S A (seeing S A u x) w before since → (p y : ℕ) (m : Any R) (rest : List (Any R)) → (y == 0) ≡ false → (y == 1) ≡ false → w.link p y ≡ m ∷ rest → none_mine S u (ran_by w y m) ≢ [] → Processes w u y (ran_by w y m)
     under_processes ok w x before since g h p y (Old m) rest y0 y1 waits some =
         let k = under_fresh S A (seeing S A u x) w before since h laws ok g y p (Old m) rest y0 y1 waits (λ none. some (sym (its_ran y (inst_step S (w.inst y) m).ran) ∙ ap packets none)) in
         At_member (its_share S A laws u w x before since h) (record { found = h.holds.share; takes = h.covered; home_in = h.is.home_in }) k.inside (under_placed ok w x before since g h p y (Old m) rest y0 y1 waits) (k.own ∙ fold_done S A laws u None w.done)
@@ -82,7 +82,7 @@ module _ {R : Type 0} (S : Sys R) (A : Sharing S) (laws : IsSys S) where
         let k = under_fresh S A (seeing S A u x) w before since h laws ok g y p (New m) rest y0 y1 waits (λ none. some (sym (its_ran y (member_step S A (w.inst y).live (w.standby y) m).ran) ∙ ap packets none)) in
         At_member (its_share S A laws u w x before since h) (record { found = h.holds.share; takes = h.covered; home_in = h.is.home_in }) k.inside (under_placed ok w x before since g h p y (New m) rest y0 y1 waits) (k.own ∙ fold_done S A laws u None w.done)
 
-    pub processes_all : (ok : IsSharing S A) (w : Whole S A) (k : Came) → Global_all S A w → Where_all S A laws u w k → (p y : ℕ) (m : Any R) (rest : List (Any R)) → (y == 0) ≡ false → (y == 1) ≡ false → w.link p y ≡ m ∷ rest → none_mine S u (ran_by w y m) ≢ [] → Processes w u y (ran_by w y m)
+    pub processes_all : (ok : IsSharing S A) (w : WholeWorld S A) (k : Came) → Global_all S A w → Where_all S A laws u w k → (p y : ℕ) (m : Any R) (rest : List (Any R)) → (y == 0) ≡ false → (y == 1) ≡ false → w.link p y ≡ m ∷ rest → none_mine S u (ran_by w y m) ≢ [] → Processes w u y (ran_by w y m)
     processes_all ok w k g (Under_share x before b h o f) p y m rest y0 y1 waits some = under_processes ok w x before k.diverted g h p y m rest y0 y1 waits some
     processes_all ok w k g (Apart_from_shares h none) p y (Old m) rest y0 y1 waits some =
         let q = processed_where S laws u (moves_of S A w) p y m (olds rest) y0 y1 (ap olds waits) some k.all k.bared g.moves h.is in

@@ -19,7 +19,7 @@ use Rattle.abstract_net.proofs.ShareViews.{unit_share, as_share}
 use Rattle.abstract_net.proofs.Under.{Under}
 use Rattle.abstract_net.proofs.UnderStarts.{seeing, packets_done}
 use Rattle.abstract_net.proofs.UnderReadings.{all_done, under_order, under_records}
-use Rattle.abstract_net.proofs.Shares.{Want_share, Sharing, Open_share, find_share, Whole, moves_of, ran_of, Seeing_share}
+use Rattle.abstract_net.proofs.Shares.{Want_share, Sharing, Open_share, find_share, WholeWorld, moves_of, ran_of, Seeing_share}
 use Rattle.whole_net.proofs.WhereAll.{Came, Where_all, Apart_from_shares, Under_share}
 use Rattle.nf_function.specs.declared.unit.Unit as units
 
@@ -33,7 +33,7 @@ module _ {R : Type 0} (S : Sys R) (A : Sharing S) (laws : IsSys S) (u : units.Un
   fold_done o ds = fold_packets S.F o (ran_of S A u ds) ∙ ap (fold S.F o) (packets_done S A u ds)
 
   -- done and waiting are what came
-  pub order_all : (w : Whole S A) (k : Came) → Where_all S A laws u w k → In_order S laws u (done_u S u w.done) k.all k.bared
+  pub order_all : (w : WholeWorld S A) (k : Came) → Where_all S A laws u w k → In_order S laws u (done_u S u w.done) k.all k.bared
   order_all w k (Apart_from_shares h none) = order_of S laws u (moves_of S A w) k.all k.bared h.is
   order_all w k (Under_share x before b h o f) =
       let e = under_order S A (seeing S A u x) w before k.diverted h in
@@ -48,14 +48,14 @@ module _ {R : Type 0} (S : Sys R) (A : Sharing S) (laws : IsSys S) (u : units.Un
   seen_by e = record { unit = u; num = e.num; home = e.home; members = e.members; filter = e.filter }
 
   -- a share that has the unit
-  pub record Its_share (w : Whole S A) (e : Open_share) : Type 0 where
+  pub record Its_share (w : WholeWorld S A) (e : Open_share) : Type 0 where
     pub found : find_share w.shares e.num ≡ Some e
     pub takes : S.takes e.filter u ≡ true
     pub home_in : has e.members e.home ≡ true
 
   -- Under a share each member's record is the fold of a front of what was done. The live one has seen all, or all but the last packet, which
   -- another member has processed and seen; it is the one that is live.
-  pub record Shared_records (w : Whole S A) (e : Open_share) : Type 0 where
+  pub record Shared_records (w : WholeWorld S A) (e : Open_share) : Type 0 where
     pub its : Its_share w e
     pub seen : ℕ → List Ran
     pub live : S.B.at u (w.inst e.home).live ≡ runs S.F None (seen e.home)
@@ -64,15 +64,15 @@ module _ {R : Type 0} (S : Sys R) (A : Sharing S) (laws : IsSys S) (u : units.Un
     pub lacks : Lacks (unit_share S A (seen_by e)) (seen e.home) (ran_of S A u w.done) seen
     pub away : (k : ℕ) → (k == e.home) ≡ false → S.B.at u (w.inst k).live ≡ None
 
-  pub data Records_all (w : Whole S A) : Type 0 where
+  pub data Records_all (w : WholeWorld S A) : Type 0 where
     By_moves : Record_of S laws u (moves_of S A w) → Records_all w
     By_share : (e : Open_share) → Shared_records w e → Records_all w
 
   -- as the controller has its share
-  abbrev pub its_share : (w : Whole S A) (x : Want_share) (before since : List ℕ) → Under S A (seeing S A u x) w before since → Open_share
+  abbrev pub its_share : (w : WholeWorld S A) (x : Want_share) (before since : List ℕ) → Under S A (seeing S A u x) w before since → Open_share
   its_share w x before since h = let v = shape (unit_share S A (seeing S A u x)) h.stage in as_share S A (seeing S A u x) v.phase v.queue
 
-  pub records_all : (w : Whole S A) (k : Came) → Global_all S A w → Where_all S A laws u w k → Records_all w
+  pub records_all : (w : WholeWorld S A) (k : Came) → Global_all S A w → Where_all S A laws u w k → Records_all w
   records_all w k g (Apart_from_shares h none) = By_moves (record_of S laws u (moves_of S A w) k.all k.bared g.moves h.is)
   records_all w k g (Under_share x before b h o f) =
       let r = under_records S A (seeing S A u x) w before k.diverted h in
@@ -88,7 +88,7 @@ module _ {R : Type 0} (S : Sys R) (A : Sharing S) (laws : IsSys S) (u : units.Un
       })
 
   -- what came while the unit's packets were diverted is processed behind all else, in order, each packet at its member
-  pub record Served (w : Whole S A) (k : Came) (e : Open_share) : Type 0 where
+  pub record Served (w : WholeWorld S A) (k : Came) (e : Open_share) : Type 0 where
     pub its : Its_share w e
     pub before : List Ran
     pub since : List ℕ
@@ -96,7 +96,7 @@ module _ {R : Type 0} (S : Sys R) (A : Sharing S) (laws : IsSys S) (u : units.Un
     pub done : ran_of S A u w.done ≡ before ++ served (unit_share S A (seen_by e)) since
     pub came : k.diverted ≡ since ++ waits
 
-  pub served_all : (w : Whole S A) (k : Came) → Where_all S A laws u w k → k.diverted ≢ [] → (e : Open_share) × Served w k e
+  pub served_all : (w : WholeWorld S A) (k : Came) → Where_all S A laws u w k → k.diverted ≢ [] → (e : Open_share) × Served w k e
   served_all w k (Apart_from_shares h none) some = absurd (some none)
   served_all w k (Under_share x before b h o f) some =
       let p = parts (unit_share S A (seeing S A u x)) h.stage in
@@ -111,11 +111,11 @@ module _ {R : Type 0} (S : Sys R) (A : Sharing S) (laws : IsSys S) (u : units.Un
       (its_share w x before k.diverted h, served_so)
 
   -- its packets go to an instance, or to the controller where a share has it
-  pub data Target_is (w : Whole S A) : Type 0 where
+  pub data Target_is (w : WholeWorld S A) : Type 0 where
     An_instance : 2 ≤ w.target u → Target_is w
     The_controller : w.target u ≡ 1 → (e : Open_share) → Its_share w e → Target_is w
 
-  pub target_all : (w : Whole S A) (k : Came) → Where_all S A laws u w k → Target_is w
+  pub target_all : (w : WholeWorld S A) (k : Came) → Where_all S A laws u w k → Target_is w
   target_all w k (Apart_from_shares h none) = An_instance (where_two S laws u (moves_of S A w) k.all k.bared h.is)
   target_all w k (Under_share x before b h o f) = by_view (shape (unit_share S A (seeing S A u x)) h.stage).diverts h.holds.target
     where

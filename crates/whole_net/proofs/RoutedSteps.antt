@@ -4,7 +4,7 @@ use Rattle.std.proofs.Common.{◌≡◌, ◌≢◌, ℕ, None, Option, List, [],
 use Rattle.nf_msgs.specs.declared.answer.Answer.{Answer}
 use Rattle.unit_machine.proofs.Machine.{At_a, At_b, Steps, Part, inst_does, Item, Carry, Fence, State}
 use Rattle.unit_machine.proofs.Stages.{drops, Stage, Turned, Fenced_a, Ending_b, Fence_b, Turned_loose, Fenced_loose, Ending_loose, Fence_loose, Fenced_b, Moved, shape}
-use Rattle.unit_machine.proofs.Seats.{Seat, Covered, Is_beside, Is_away, seat_shape}
+use Rattle.unit_machine.proofs.Seats.{UnitSeat, Covered, Is_beside, Is_away, seat_shape}
 use Rattle.unit_machine.proofs.Fresh.{ran_same, bare_sa, bare_sb}
 use Rattle.unit_machine.proofs.Lists.{cons_nil}
 
@@ -45,13 +45,13 @@ stage_routed F (Moved d l k) = To_destination refl
 stage_routed F s = To_source refl
 
 -- the source processes packets that go there
-pub source_routed : {R : Type 0} (F : Steps R) (s : Seat F) (it : Item R) (v : List (Item R)) (parts : List (Part R)) (refuse : Option Answer) → (seat_shape F s).sa ≡ it ∷ v → (inst_does F At_a parts refuse (seat_shape F s).a it).ran ≢ [] → (seat_shape F s).target ≡ At_a
+pub source_routed : {R : Type 0} (F : Steps R) (s : UnitSeat F) (it : Item R) (v : List (Item R)) (parts : List (Part R)) (refuse : Option Answer) → (seat_shape F s).sa ≡ it ∷ v → (inst_does F At_a parts refuse (seat_shape F s).a it).ran ≢ [] → (seat_shape F s).target ≡ At_a
 source_routed F (Covered s) it v parts refuse e r = source_stage F s it v e (λ n. r (sym (ran_same F At_a parts refuse (shape F s).a it) ∙ n))
 source_routed F (Is_beside s) it v parts refuse e r = absurd (r (sym (ran_same F At_a parts refuse (shape F s.base).a it) ∙ bare_sa F s.base s.bare it v e))
 source_routed F (Is_away s) it v parts refuse e r = absurd (r (sym (ran_same F At_a parts refuse (shape F s.base).a it) ∙ bare_sa F s.base s.bare it v e))
 
 -- and the destination those that go to one of the two
-pub destination_routed : {R : Type 0} (F : Steps R) (s : Seat F) (it : Item R) (v : List (Item R)) (parts : List (Part R)) (refuse : Option Answer) → (seat_shape F s).sb ≡ it ∷ v → (inst_does F At_b parts refuse (seat_shape F s).b it).ran ≢ [] → Routed (seat_shape F s)
+pub destination_routed : {R : Type 0} (F : Steps R) (s : UnitSeat F) (it : Item R) (v : List (Item R)) (parts : List (Part R)) (refuse : Option Answer) → (seat_shape F s).sb ≡ it ∷ v → (inst_does F At_b parts refuse (seat_shape F s).b it).ran ≢ [] → Routed (seat_shape F s)
 destination_routed F (Covered s) it v parts refuse e r = stage_routed F s
 destination_routed F (Is_beside s) it v parts refuse e r = To_destination refl
 destination_routed F (Is_away s) it v parts refuse e r = absurd (r (sym (ran_same F At_b parts refuse (shape F s.base).b it) ∙ bare_sb F s.base s.bare it v e))

@@ -20,7 +20,7 @@ use Rattle.abstract_net.proofs.UnderInst.{heads, inst_from}
 use Rattle.abstract_net.proofs.Under.{Under, under_inst}
 use Rattle.abstract_net.proofs.UnderStarts.{seeing}
 use Rattle.abstract_net.proofs.UnderReadings.{all_done}
-use Rattle.abstract_net.proofs.Shares.{Any, Any.Old, Any.New, Share_msg, Share_msg.Shared_on, Share_msg.Diverted_on, Share_msg.S_asked, Share_msg.S_install, Share_msg.S_forward, Share_msg.S_get, Share_msg.S_sync, Share_msg.S_chunks, Share_msg.S_shared, Share_msg.S_synced, Want_share, Sharing, IsSharing, member_step, Whole, whole_inst, ran_of, Seeing_share}
+use Rattle.abstract_net.proofs.Shares.{Any, Any.Old, Any.New, Share_msg, Share_msg.Shared_on, Share_msg.Diverted_on, Share_msg.S_asked, Share_msg.S_install, Share_msg.S_forward, Share_msg.S_get, Share_msg.S_sync, Share_msg.S_chunks, Share_msg.S_shared, Share_msg.S_synced, Want_share, Sharing, IsSharing, member_step, WholeWorld, whole_inst, ran_of, Seeing_share}
 use Rattle.whole_net.proofs.WhereAll.{Came, Where_all, Apart_from_shares, Under_share}
 use Rattle.whole_net.proofs.Fronts.{Fronts, ran_more, same_after, its_then}
 use Rattle.whole_net.proofs.FrontSteps.{no_input, table_seen, inst_fronts}
@@ -42,7 +42,7 @@ module _ {R : Type 0} (S : Sys R) (A : Sharing S) (laws : IsSys S) (u : units.Un
     pub behind : IsFront before since
     pub within : IsFront since all
 
-  module _ (ok : IsSharing S A) (w : Whole S A) (k : Came) (g : Global_all S A w) (p y : ℕ) (rest : List (Any R)) (y0 : (y == 0) ≡ false) (y1 : (y == 1) ≡ false) (wh : Where_all S A laws u w k) (fr : Fronts S A laws u w) where
+  module _ (ok : IsSharing S A) (w : WholeWorld S A) (k : Came) (g : Global_all S A w) (p y : ℕ) (rest : List (Any R)) (y0 : (y == 0) ≡ false) (y1 : (y == 1) ≡ false) (wh : Where_all S A laws u w k) (fr : Fronts S A laws u w) where
     abbrev Sees : Any R → ℕ → Type 0
     Sees m j = Sees_more (ran_of S A u (whole_inst S A w p y m).done) (S.B.at u (w.standby j)) (S.B.at u ((whole_inst S A w p y m).standby j))
 
@@ -57,7 +57,7 @@ module _ {R : Type 0} (S : Sys R) (A : Sharing S) (laws : IsSys S) (u : units.Un
 
     -- a packet of the share
     packet_sees : (n q : ℕ) → w.link p y ≡ New (Shared_on n false q) ∷ rest → Sees (New (Shared_on n false q)) y
-    packet_sees n q waits = elim (same_unit (S.unit_of q) u) as (λ b. same_unit (S.unit_of q) u ≡ b → Sees (New (Shared_on n false q)) y) [
+    packet_sees n q waits = elim (same_unit (S.packet_unit q) u) as (λ b. same_unit (S.packet_unit q) u ≡ b → Sees (New (Shared_on n false q)) y) [
       | true ↦ λ on.
           let ds = ran_of S A u w.done in
           let all = table_seen S A laws u ok w k g p y rest y0 y1 wh n false q waits in

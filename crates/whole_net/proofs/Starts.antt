@@ -9,7 +9,7 @@ use Rattle.abstract_net.proofs.Every.{Every}
 use Rattle.abstract_net.proofs.ShareLists.{Nums_apart}
 use Rattle.abstract_net.proofs.GlobalAll.{Numbered, Disjoint, Of_share}
 use Rattle.abstract_net.proofs.Untaken.{No_share, Elsewhere_home}
-use Rattle.abstract_net.proofs.Shares.{Share_msg, Each_new, Sharing, Open_share, find_share, Whole, moves_of, ran_of}
+use Rattle.abstract_net.proofs.Shares.{Share_msg, Each_new, Sharing, Open_share, find_share, WholeWorld, moves_of, ran_of}
 use Rattle.whole_net.proofs.WhereAll.{Apart_from_shares}
 use Rattle.whole_net.proofs.Fronts.{Msg_front, front_none}
 use Rattle.whole_net.proofs.EveryAll.{Every_all}
@@ -17,12 +17,12 @@ use Rattle.nf_function.specs.declared.unit.Unit as units
 
 module _ {R : Type 0} (S : Sys R) (A : Sharing S) (laws : IsSys S) where
   -- nothing but what moves see
-  pub record Is_start (w : Whole S A) : Type 0 where
+  pub record Is_start (w : WholeWorld S A) : Type 0 where
     pub shares : w.shares ≡ []
     pub links : (i j : ℕ) → (i == 0) && (j == 0) ≡ false → w.link i j ≡ []
     pub standby : (u : units.Unit) (k : ℕ) → S.B.at u (w.standby k) ≡ None
 
-  module _ (w : Whole S A) (start : Is_start w) where
+  module _ (w : WholeWorld S A) (start : Is_start w) where
     no_new : (P : Share_msg R → Type 0) (i j : ℕ) → (i == 0) && (j == 0) ≡ false → Each_new P (w.link i j)
     no_new P i j e = subst (λ ms. Each_new P ms) (sym (start.links i j e)) tt
 
@@ -44,7 +44,7 @@ module _ {R : Type 0} (S : Sys R) (A : Sharing S) (laws : IsSys S) where
         one_kind = λ n. inr (none_found n);
         apart_moves = each_share (λ e. Each (λ o. Disjoint S e.filter o.filter) w.ops);
         apart = λ n k d e a b off. let never : None ≡ Some d = sym (none_found n) ∙ a in cc;
-        queues = each_share (λ e. Each (λ p. S.takes e.filter (S.unit_of p) ≡ true) e.queue);
+        queues = each_share (λ e. Each (λ p. S.takes e.filter (S.packet_unit p) ≡ true) e.queue);
       };
       unit = λ u. Apart_from_shares (record {
         is = h.unit u;

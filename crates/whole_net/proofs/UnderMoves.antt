@@ -10,7 +10,7 @@ use Rattle.abstract_net.proofs.Ctrl.{each_found}
 use Rattle.abstract_net.proofs.Copies.{has, have, copies}
 use Rattle.abstract_net.proofs.Rest.{Rest_op, Nothing_of, none_mine}
 use Rattle.abstract_net.proofs.Under.{Under}
-use Rattle.abstract_net.proofs.Shares.{Any, Any.Old, olds, Sharing, Whole, moves_of, Seeing_share}
+use Rattle.abstract_net.proofs.Shares.{Any, Any.Old, olds, Sharing, WholeWorld, moves_of, Seeing_share}
 use Rattle.abstract_net.proofs.Units.{Where}
 use Rattle.abstract_net.proofs.UnderStarts.{seeing}
 use Rattle.whole_net.proofs.WhereAll.{Came, Where_all, Apart_from_shares, Under_share}
@@ -29,7 +29,7 @@ copies_none : {R : Type 0} (u : units.Unit) (ph : RPhase R) → Clean u ph → c
 copies_none u (R_streaming frozen free came door) h = let a = have_none u frozen h.0 in let b = have_none u free h.1 in rw (a, b) refl
 copies_none u ph h = refl
 
-module _ {R : Type 0} (S : Sys R) (A : Sharing S) (z : Seeing_share) (w : Whole S A) (before since : List ℕ) (h : Under S A z w before since) where
+module _ {R : Type 0} (S : Sys R) (A : Sharing S) (z : Seeing_share) (w : WholeWorld S A) (before since : List ℕ) (h : Under S A z w before since) where
   -- Of an open move
   module _ (n : ℕ) (e : Open R) (there : find_op w.ops n ≡ Some e) where
     its : Rest_op S z.unit e
@@ -54,18 +54,18 @@ module _ {R : Type 0} (S : Sys R) (A : Sharing S) (z : Seeing_share) (w : Whole 
   pub none_back : (i n : ℕ) (g : Filter) (why : Answer) (cs : Chunks R) (rest : List (Any R)) → w.link i 1 ≡ Old (Mv g (M_put_no n why cs)) ∷ rest → has z.unit cs ≡ 0
   none_back i n g why cs rest waits = has_none z.unit cs (head_label i 1 (to_controller i) (Mv g (M_put_no n why cs)) rest waits).1
 
-  pub no_event : (i n p : ℕ) (g : Filter) (rest : List (Any R)) → w.link i 1 ≡ Old (Mv g (M_event n p)) ∷ rest → same_unit (S.unit_of p) z.unit ≡ false
+  pub no_event : (i n p : ℕ) (g : Filter) (rest : List (Any R)) → w.link i 1 ≡ Old (Mv g (M_event n p)) ∷ rest → same_unit (S.packet_unit p) z.unit ≡ false
   no_event i n p g rest waits = (head_label i 1 (to_controller i) (Mv g (M_event n p)) rest waits).1
 
   pub no_change : (n from to : ℕ) (g : Filter) (rest : List (Any R)) → w.link 1 0 ≡ Old (Mv g (M_install n from to)) ∷ rest → S.takes g z.unit ≡ false
   no_change n from to g rest waits = (head_label 1 0 refl (Mv g (M_install n from to)) rest waits).1
 
-module _ {R : Type 0} (S : Sys R) (A : Sharing S) (laws : IsSys S) (u : units.Unit) (w : Whole S A) (k : Came) where
+module _ {R : Type 0} (S : Sys R) (A : Sharing S) (laws : IsSys S) (u : units.Unit) (w : WholeWorld S A) (k : Came) where
   -- as moves know it
   pub move_apart : Where_all S A laws u w k → (n : ℕ) (e : Open R) → find_op w.ops n ≡ Some e → S.takes e.filter u ≡ true → Where S laws u (moves_of S A w) k.all k.bared
   move_apart (Apart_from_shares h none) n e there takes = h.is
   move_apart (Under_share x before b h o f) n e there takes = let never : true ≡ false = sym takes ∙ not_taken S A (seeing S A u x) w before k.diverted h n e there in cc
 
-  pub event_apart : Where_all S A laws u w k → (i n p : ℕ) (g : Filter) (rest : List (Any R)) → w.link i 1 ≡ Old (Mv g (M_event n p)) ∷ rest → same_unit (S.unit_of p) u ≡ true → Where S laws u (moves_of S A w) k.all k.bared
+  pub event_apart : Where_all S A laws u w k → (i n p : ℕ) (g : Filter) (rest : List (Any R)) → w.link i 1 ≡ Old (Mv g (M_event n p)) ∷ rest → same_unit (S.packet_unit p) u ≡ true → Where S laws u (moves_of S A w) k.all k.bared
   event_apart (Apart_from_shares h none) i n p g rest waits on = h.is
   event_apart (Under_share x before b h o f) i n p g rest waits on = let never : true ≡ false = sym on ∙ no_event S A (seeing S A u x) w before k.diverted h i n p g rest waits in cc

@@ -4,12 +4,12 @@ use Rattle.std.proofs.Common.{◌≡◌, ℕ, ◌+◌, ◌≤◌, Bool, true, fa
 use Rattle.std.specs.Prelude.{if◌then◌else◌, ◌&&◌, ◌==◌}
 use Rattle.std.proofs.lemmas.Bool.Decides.{nat_tests, Decides-eqb}
 use Rattle.unit_machine.proofs.Lists.{firsts}
-use Rattle.unit_machine.proofs.Stages.{times, Order}
+use Rattle.unit_machine.proofs.Stages.{times, IsOrderedAs}
 use Rattle.unit_machine.proofs.Loose.{times-append}
 use Rattle.unit_machine.proofs.Labels.{Each}
 use Rattle.share_machine.proofs.Stages.{shape}
 use Rattle.flow_filter.specs.declared.filter.Filter.{Filter}
-use Rattle.abstract_net.proofs.Net.{Msg, Asked, Want, Sys, IsSys, sw_target, sw_next}
+use Rattle.abstract_net.proofs.Net.{Msg, Asked, MoveAsked, Sys, IsSys, sw_target, sw_next}
 use Rattle.abstract_net.proofs.Holding.{Op_label}
 use Rattle.abstract_net.proofs.Ctrl.{each_found}
 use Rattle.abstract_net.proofs.Rest.{Rest, Nothing_of}
@@ -25,7 +25,7 @@ use Rattle.abstract_net.proofs.UnderSwitch.{No_diverts}
 use Rattle.abstract_net.proofs.Under.{Under, under_inst, under_ctrl, under_switch, under_input, comes_last}
 use Rattle.abstract_net.proofs.UnderBegins.{under_begin_move, under_begin_share, under_get, under_asks_move, under_asks_share, under_keeps}
 use Rattle.abstract_net.proofs.UnderStarts.{seeing, Front_by, under_starts}
-use Rattle.abstract_net.proofs.Shares.{Any, Any.Old, Any.New, Share_msg.S_asked, Want_share, olds, Sharing, IsSharing, Open_share, find_share, Whole, moves_of, whole_inst, whole_ctrl, whole_switch, whole_input, asks, begin_move, begin_share, puts_get, keeps, meets_shares, May_share, Seeing_share}
+use Rattle.abstract_net.proofs.Shares.{Any, Any.Old, Any.New, Share_msg.S_asked, Want_share, olds, Sharing, IsSharing, Open_share, find_share, WholeWorld, moves_of, whole_inst, whole_ctrl, whole_switch, whole_input, asks, begin_move, begin_share, puts_get, keeps, meets_shares, May_share, Seeing_share}
 use Rattle.nf_function.specs.declared.unit.Unit as units
 use Rattle.record_table.specs.Table.{same_unit}
 
@@ -37,12 +37,12 @@ pub record Came : Type 0 where
   pub bared : Bool
 
 -- packets that come last in both
-order_more : (b : Bool) (xs ys came : List ℕ) → Order b xs ys → Order b (xs ++ came) (ys ++ came)
+order_more : (b : Bool) (xs ys came : List ℕ) → IsOrderedAs b xs ys → IsOrderedAs b (xs ++ came) (ys ++ came)
 order_more true xs ys came o = λ p. times-append p xs came ∙ ap (λ n. n + times p came) (o p) ∙ sym (times-append p ys came)
 order_more false xs ys came o = ap (λ v. v ++ came) o
 
-pub order_same : (b : Bool) (xs zs ys : List ℕ) → xs ≡ zs → Order b xs ys → Order b zs ys
-order_same b xs zs ys e o = subst (λ v. Order b v ys) e o
+pub order_same : (b : Bool) (xs zs ys : List ℕ) → xs ≡ zs → IsOrderedAs b xs ys → IsOrderedAs b zs ys
+order_same b xs zs ys e o = subst (λ v. IsOrderedAs b v ys) e o
 
 -- a share that is found takes what its filter takes
 pub found_takes : {R : Type 0} (S : Sys R) (es : List Open_share) (n : ℕ) (e : Open_share) (v : units.Unit) → find_share es n ≡ Some e → S.takes e.filter v ≡ true → Takes_some S es v
@@ -60,12 +60,12 @@ found_takes S (x ∷ es) n e v is on = elim (S.takes x.filter v) as (λ b. S.tak
 
 module _ {R : Type 0} (S : Sys R) (A : Sharing S) (laws : IsSys S) (u : units.Unit) where
   -- under a share `b` says whether a loose move once handed the unit on: a share never does
-  pub data Where_all (w : Whole S A) (k : Came) : Type 0 where
+  pub data Where_all (w : WholeWorld S A) (k : Came) : Type 0 where
     Apart_from_shares : Unshared S A laws u w k.all k.bared → k.diverted ≡ [] → Where_all w k
-    Under_share : (x : Want_share) (before : List ℕ) (b : Bool) → Under S A (seeing S A u x) w before k.diverted → Order b (before ++ k.diverted) k.all → (b ≡ true → k.bared ≡ true) → Where_all w k
+    Under_share : (x : Want_share) (before : List ℕ) (b : Bool) → Under S A (seeing S A u x) w before k.diverted → IsOrderedAs b (before ++ k.diverted) k.all → (b ≡ true → k.bared ≡ true) → Where_all w k
 
   -- a unit whose packets go to the controller is taken by a share
-  pub diverted_all : (w : Whole S A) (k : Came) → Where_all w k → w.target u ≡ 1 → Takes_some S w.shares u
+  pub diverted_all : (w : WholeWorld S A) (k : Came) → Where_all w k → w.target u ≡ 1 → Takes_some S w.shares u
   diverted_all w k (Apart_from_shares h none) one =
       let two = where_two S laws u (moves_of S A w) k.all k.bared h.is in
       let never : ⊥ = omega (arith, two, one) in
@@ -76,16 +76,16 @@ module _ {R : Type 0} (S : Sys R) (A : Sharing S) (laws : IsSys S) (u : units.Un
       found_takes S w.shares x.num (as_share S A z v.phase v.queue) u h.holds.share h.covered
 
   -- An instance and the controller
-  pub inst_all : IsSharing S A → (w : Whole S A) (k : Came) → Global_all S A w → (p y : ℕ) (m : Any R) (rest : List (Any R)) → (y == 0) ≡ false → (y == 1) ≡ false → w.link p y ≡ m ∷ rest → Where_all w k → Where_all (whole_inst S A w p y m) k
+  pub inst_all : IsSharing S A → (w : WholeWorld S A) (k : Came) → Global_all S A w → (p y : ℕ) (m : Any R) (rest : List (Any R)) → (y == 0) ≡ false → (y == 1) ≡ false → w.link p y ≡ m ∷ rest → Where_all w k → Where_all (whole_inst S A w p y m) k
   inst_all ok w k g p y m rest y0 y1 waits (Apart_from_shares h none) = Apart_from_shares (inst_unshared S A laws u ok w k.all k.bared g p y m rest y0 y1 waits h) none
   inst_all ok w k g p y m rest y0 y1 waits (Under_share x before b h o f) = Under_share x before b (under_inst S A (seeing S A u x) laws ok w before k.diverted g h y p y0 y1 m rest waits).under o f
 
-  pub ctrl_all : IsSharing S A → (w : Whole S A) (k : Came) → Global_all S A w → (p : ℕ) (m : Any R) (rest : List (Any R)) → w.link p 1 ≡ m ∷ rest → Where_all w k → Where_all (whole_ctrl S A w p m) k
+  pub ctrl_all : IsSharing S A → (w : WholeWorld S A) (k : Came) → Global_all S A w → (p : ℕ) (m : Any R) (rest : List (Any R)) → w.link p 1 ≡ m ∷ rest → Where_all w k → Where_all (whole_ctrl S A w p m) k
   ctrl_all ok w k g p m rest waits (Apart_from_shares h none) = Apart_from_shares (ctrl_unshared S A laws u w k.all k.bared g p m rest waits h) none
   ctrl_all ok w k g p m rest waits (Under_share x before b h o f) = Under_share x before b (under_ctrl S A (seeing S A u x) laws ok w before k.diverted g h p m rest waits).under o f
 
   -- The switch: a message of a move doesn't make it divert
-  pub still_all : (w : Whole S A) (k : Came) → Global_all S A w → (p : ℕ) (m : Msg R) (rest : List (Any R)) → (p == 0) ≡ false → w.link p 0 ≡ Old m ∷ rest → Where_all w k → sw_target S w.target m u ≡ 1 → w.target u ≡ 1
+  pub still_all : (w : WholeWorld S A) (k : Came) → Global_all S A w → (p : ℕ) (m : Msg R) (rest : List (Any R)) → (p == 0) ≡ false → w.link p 0 ≡ Old m ∷ rest → Where_all w k → sw_target S w.target m u ≡ 1 → w.target u ≡ 1
   still_all w k g p m rest p0 waits (Apart_from_shares h none) one =
       let after = switch_where S laws u (moves_of S A w) k.all k.bared true g.moves p m (olds rest) p0 (ap olds waits) (λ _. refl) (λ _ _ _ _ _ _ _ _ _ _. refl) h.is in
       let two : 2 ≤ sw_target S w.target m u = where_two S laws u (sw_next S (moves_of S A w) p m) k.all true after in
@@ -96,15 +96,15 @@ module _ {R : Type 0} (S : Sys R) (A : Sharing S) (laws : IsSys S) (u : units.Un
       let label = (subst (λ ms. Each (Nothing_of S u p) (olds ms)) waits (h.labels p 0 off)).0 in
       sym (sw_same S A laws u w.target p m label) ∙ one
 
-  pub switch_all : IsSharing S A → (w : Whole S A) (k : Came) (d : Bool) → Global_all S A w → (p : ℕ) (m : Any R) (rest : List (Any R)) → (p == 0) ≡ false → w.link p 0 ≡ m ∷ rest → (k.bared ≡ true → d ≡ true) → Hands_any S A laws u w m d → ((z : Seeing_share) → No_diverts S A laws z w m) → Where_all w k → Where_all (whole_switch S A w p m) (record k { bared = d })
+  pub switch_all : IsSharing S A → (w : WholeWorld S A) (k : Came) (d : Bool) → Global_all S A w → (p : ℕ) (m : Any R) (rest : List (Any R)) → (p == 0) ≡ false → w.link p 0 ≡ m ∷ rest → (k.bared ≡ true → d ≡ true) → Hands_any S A laws u w m d → ((z : Seeing_share) → No_diverts S A laws z w m) → Where_all w k → Where_all (whole_switch S A w p m) (record k { bared = d })
   switch_all ok w k d g p m rest p0 waits grows hands few (Apart_from_shares h none) = Apart_from_shares (switch_unshared S A laws u w k.all k.bared d g p m rest p0 waits grows hands h) none
   switch_all ok w k d g p m rest p0 waits grows hands few (Under_share x before b h o f) = Under_share x before b (under_switch S A (seeing S A u x) laws ok w before k.diverted g h p m rest p0 waits (few (seeing S A u x))).under o (λ e. grows (f e))
 
   -- A packet of the input
   abbrev pub its : ℕ → List ℕ
-  its q = if same_unit (S.unit_of q) u then q ∷ [] else []
+  its q = if same_unit (S.packet_unit q) u then q ∷ [] else []
 
-  abbrev pub comes : Whole S A → ℕ → Came → Came
+  abbrev pub comes : WholeWorld S A → ℕ → Came → Came
   comes w q k = record { all = k.all ++ its q; diverted = k.diverted ++ (if w.target u == 1 then its q else []); bared = k.bared }
 
   none_diverted : (t : ℕ) (ps qs : List ℕ) → 2 ≤ t → ps ≡ [] → ps ++ (if t == 1 then qs else []) ≡ []
@@ -115,35 +115,35 @@ module _ {R : Type 0} (S : Sys R) (A : Sharing S) (laws : IsSys S) (u : units.Un
   diverts_is true t home e two = rw e refl
   diverts_is false t home e two = let off : (home == 1) ≡ false = grind (arith, nat_tests, two) in rw (e, off) refl
 
-  pub input_all : IsSharing S A → (w : Whole S A) (k : Came) → Global_all S A w → (q : ℕ) → Where_all w k → Where_all (whole_input S A w q) (comes w q k)
+  pub input_all : IsSharing S A → (w : WholeWorld S A) (k : Came) → Global_all S A w → (q : ℕ) → Where_all w k → Where_all (whole_input S A w q) (comes w q k)
   input_all ok w k g q (Apart_from_shares h none) = Apart_from_shares (input_unshared S A laws u w k.all k.bared g q h) (none_diverted (w.target u) k.diverted (its q) (where_two S laws u (moves_of S A w) k.all k.bared h.is) none)
   input_all ok w k g q (Under_share x before b h o f) =
       let z = seeing S A u x in
       let d = (shape (unit_share S A z) h.stage).diverts in
       let goes = under_input S A z laws ok w before k.diverted h q in
       let same : d ≡ (w.target u == 1) = diverts_is d (w.target u) x.home h.holds.target (h.insts x.home h.is.home_in) in
-      let order : Order b ((before ++ (if d then [] else its q)) ++ (k.diverted ++ (if d then its q else []))) (k.all ++ its q) = order_same b ((before ++ k.diverted) ++ its q) ((before ++ (if d then [] else its q)) ++ (k.diverted ++ (if d then its q else []))) (k.all ++ its q) (sym (comes_last S A z w before k.diverted h (its q))) (order_more b (before ++ k.diverted) k.all (its q) o) in
-      Under_share x (before ++ (if d then [] else its q)) b (subst (λ t. Under S A z (whole_input S A w q) (before ++ (if d then [] else its q)) (k.diverted ++ (if t then its q else []))) same goes.under) (subst (λ t. Order b ((before ++ (if d then [] else its q)) ++ (k.diverted ++ (if t then its q else []))) (k.all ++ its q)) same order) f
+      let order : IsOrderedAs b ((before ++ (if d then [] else its q)) ++ (k.diverted ++ (if d then its q else []))) (k.all ++ its q) = order_same b ((before ++ k.diverted) ++ its q) ((before ++ (if d then [] else its q)) ++ (k.diverted ++ (if d then its q else []))) (k.all ++ its q) (sym (comes_last S A z w before k.diverted h (its q))) (order_more b (before ++ k.diverted) k.all (its q) o) in
+      Under_share x (before ++ (if d then [] else its q)) b (subst (λ t. Under S A z (whole_input S A w q) (before ++ (if d then [] else its q)) (k.diverted ++ (if t then its q else []))) same goes.under) (subst (λ t. IsOrderedAs b ((before ++ (if d then [] else its q)) ++ (k.diverted ++ (if t then its q else []))) (k.all ++ its q)) same order) f
 
   -- A move begins, or a command or a copy's Get goes out
-  pub begin_all : (w : Whole S A) (k : Came) → Global_all S A w → (x : Want) → May S (moves_of S A w) x → meets_shares S A x.filter w.shares ≡ false → Where_all w k → Where_all (begin_move S A w x) k
+  pub begin_all : (w : WholeWorld S A) (k : Came) → Global_all S A w → (x : MoveAsked) → May S (moves_of S A w) x → meets_shares S A x.filter w.shares ≡ false → Where_all w k → Where_all (begin_move S A w x) k
   begin_all w k g x may meets (Apart_from_shares h none) = Apart_from_shares (begin_unshared S A laws u w k.all k.bared g x may h) none
   begin_all w k g x may meets (Under_share y before b h o f) = Under_share y before b (under_begin_move S A (seeing S A u y) w before k.diverted h laws x may meets).under o f
 
-  pub get_all : (w : Whole S A) (k : Came) → Global_all S A w → (n : ℕ) (g : Filter) (src : ℕ) → w.next ≤ n → Where_all w k → Where_all (puts_get S A w n g src) k
+  pub get_all : (w : WholeWorld S A) (k : Came) → Global_all S A w → (n : ℕ) (g : Filter) (src : ℕ) → w.next ≤ n → Where_all w k → Where_all (puts_get S A w n g src) k
   get_all w k g n h src fresh (Apart_from_shares i none) = Apart_from_shares (get_unshared S A laws u w k.all k.bared n h src i) none
   get_all w k g n h src fresh (Under_share x before b i o f) = Under_share x before b (under_get S A (seeing S A u x) w before k.diverted i g n h src fresh).under o f
 
-  pub asks_move_all : (w : Whole S A) (k : Came) → Global_all S A w → (x : Want) → Where_all w k → Where_all (asks S A w (Old (Asked x))) k
+  pub asks_move_all : (w : WholeWorld S A) (k : Came) → Global_all S A w → (x : MoveAsked) → Where_all w k → Where_all (asks S A w (Old (Asked x))) k
   asks_move_all w k g x (Apart_from_shares h none) = Apart_from_shares (asks_move_unshared S A laws u w k.all k.bared g x h) none
   asks_move_all w k g x (Under_share y before b h o f) = Under_share y before b (under_asks_move S A (seeing S A u y) w before k.diverted h x).under o f
 
-  pub asks_share_all : (w : Whole S A) (k : Came) (x : Want_share) → Where_all w k → Where_all (asks S A w (New (S_asked x))) k
+  pub asks_share_all : (w : WholeWorld S A) (k : Came) (x : Want_share) → Where_all w k → Where_all (asks S A w (New (S_asked x))) k
   asks_share_all w k x (Apart_from_shares h none) = Apart_from_shares (asks_share_unshared S A laws u w k.all k.bared x h) none
   asks_share_all w k x (Under_share y before b h o f) = Under_share y before b (under_asks_share S A (seeing S A u y) w before k.diverted h x).under o f
 
   -- an instance keeps records of a copy: none of a unit that a share takes
-  pub keeps_all : (w : Whole S A) (k : Came) (y : ℕ) (t : S.B.T) → (Takes_some S w.shares u → S.B.at u t ≡ S.B.at u (w.standby y)) → Where_all w k → Where_all (keeps S A w y t) k
+  pub keeps_all : (w : WholeWorld S A) (k : Came) (y : ℕ) (t : S.B.T) → (Takes_some S w.shares u → S.B.at u t ≡ S.B.at u (w.standby y)) → Where_all w k → Where_all (keeps S A w y t) k
   keeps_all w k y t same (Apart_from_shares h none) = Apart_from_shares (keeps_unshared S A laws u w k.all k.bared y t h) none
   keeps_all w k y t same (Under_share x before b h o f) =
       let z = seeing S A u x in
@@ -151,10 +151,10 @@ module _ {R : Type 0} (S : Sys R) (A : Sharing S) (laws : IsSys S) (u : units.Un
       Under_share x before b (under_keeps S A z w before k.diverted h y t (same (found_takes S w.shares x.num (as_share S A z v.phase v.queue) u h.holds.share h.covered))).under o f
 
   -- A share begins. Records that stand by of a unit that it takes are folds of fronts of what was done
-  abbrev pub Has_fronts : Whole S A → Want_share → Type 0
+  abbrev pub Has_fronts : WholeWorld S A → Want_share → Type 0
   Has_fronts w x = S.takes x.filter u ≡ true → (k : ℕ) → Front_by S A u w k
 
-  module _ (ok : IsSharing S A) (w : Whole S A) (k : Came) (g : Global_all S A w) (x : Want_share) (may : May_share S A w x) where
+  module _ (ok : IsSharing S A) (w : WholeWorld S A) (k : Came) (g : Global_all S A w) (x : Want_share) (may : May_share S A w x) where
     elsewhere : (S.takes x.filter u ≡ true → (x.home == w.target u) ≡ false) → Unshared S A laws u w k.all k.bared → k.diverted ≡ [] → Where_all (begin_share S A w x) k
     elsewhere away h none = Apart_from_shares (share_unshared S A laws u w k.all k.bared g x may.fresh away h) none
 
@@ -163,8 +163,8 @@ module _ {R : Type 0} (S : Sys R) (A : Sharing S) (laws : IsSys S) (u : units.Un
       | true ↦ λ on.
           let rest : Rest S u (moves_of S A w) x.home d l = subst (λ n. Rest S u (moves_of S A w) n d l) ((Decides-eqb owner x.home).0 on) r in
           let starts = under_starts S A u w g x may.fresh takes (meets_none S A laws x.filter w.shares may.shares_apart) ok may d l rest (fronts takes) diverts in
-          let order : Order b ((firsts d ++ l) ++ []) k.all = order_same b (firsts d ++ l) ((firsts d ++ l) ++ []) k.all (sym (append-nil (firsts d ++ l))) o in
-          Under_share x (firsts d ++ l) b (subst (λ v. Under S A (seeing S A u x) (begin_share S A w x) (firsts d ++ l) v) (sym none) starts) (subst (λ v. Order b ((firsts d ++ l) ++ v) k.all) (sym none) order) f
+          let order : IsOrderedAs b ((firsts d ++ l) ++ []) k.all = order_same b (firsts d ++ l) ((firsts d ++ l) ++ []) k.all (sym (append-nil (firsts d ++ l))) o in
+          Under_share x (firsts d ++ l) b (subst (λ v. Under S A (seeing S A u x) (begin_share S A w x) (firsts d ++ l) v) (sym none) starts) (subst (λ v. IsOrderedAs b ((firsts d ++ l) ++ v) k.all) (sym none) order) f
       | false ↦ λ off. let at : w.target u ≡ owner = r.target in elsewhere (λ _. grind (arith, nat_tests, off, at)) h none
     ] refl
     taken diverts fronts takes none h (In_move op third e s b there i o f c) =

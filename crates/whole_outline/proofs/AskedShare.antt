@@ -14,14 +14,14 @@ use Rattle.switch_node.specs.Switch.{SwitchState, on_command}
 use Rattle.share_machine.proofs.Share.{has}
 use Rattle.share_machine.proofs.Stages.{distinct}
 use Rattle.abstract_net.proofs.Net as net
-use Rattle.abstract_net.proofs.Net.{Want}
+use Rattle.abstract_net.proofs.Net.{MoveAsked}
 use Rattle.abstract_net.proofs.Shares.{Any, Old, New, Want_share, S_asked}
 use Rattle.outline_net.proofs.Outline.{want_of}
 use Rattle.whole_outline.proofs.WholeOutline.{with_member, members_of, share_between, want_share_of, asked_of, outline_all}
 
 module _ {R : Type 0} (f : Semantics R) (place : List ℕ → Option ℕ) where
   -- what a command asks for is a move, or a share, or else it isn't seen
-  pub asked_move : (op : ℕ) (what : Order) (want : Want) → want_of place op what ≡ Some want → asked_of f place op what ≡ Some (Old (net.Asked want))
+  pub asked_move : (op : ℕ) (what : Order) (want : MoveAsked) → want_of place op what ≡ Some want → asked_of f place op what ≡ Some (Old (net.Asked want))
   asked_move op (order.Move src dst filter keep) want e = ap (option_map (λ w. Old (net.Asked w))) e
   asked_move op (order.Copy src dst filter) want e = cc
   asked_move op (order.Share members filter) want e = cc

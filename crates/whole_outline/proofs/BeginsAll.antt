@@ -19,7 +19,7 @@ use Rattle.copy_share.specs.Share as share
 use Rattle.ctrl_node.specs.declared.operation.Operation.{Operation}
 use Rattle.ctrl_node.specs.declared.operation.Operation.TheVariants.{Move, Copy, Share}
 use Rattle.ctrl_node.specs.Controller.{ControllerState, place_of, begins_move, begins_copy, begins_share, begins}
-use Rattle.abstract_net.proofs.Net.{Open, Want, find_op, new_op, begin_sends}
+use Rattle.abstract_net.proofs.Net.{Open, MoveAsked, find_op, new_op, begin_sends}
 use Rattle.abstract_net.proofs.GlobalShares.{ops_old}
 use Rattle.abstract_net.proofs.ShareLists.{find_old, find_new}
 use Rattle.abstract_net.proofs.Shares.{Any, New, Want_share, S_install, S_get, Open_share, find_share, new_share, as_old}
@@ -75,7 +75,7 @@ module _ {R : Type 0} (f : Semantics R) (at : Site) (packet : ℕ → Packet) (p
       h
 
   -- what is wanted of a move with this plan
-  abbrev pub want_plan : MovePlan → Want
+  abbrev pub want_plan : MovePlan → MoveAsked
   want_plan plan = record { num = plan.op; src = instance_node plan.from; dst = instance_node plan.to; keep = plan.keep; filter = plan.filter }
 
   abbrev moved_on : MovePlan → List (Open R)

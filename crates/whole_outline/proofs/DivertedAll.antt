@@ -98,9 +98,9 @@ module _ {R : Type 0} (f : Semantics R) (at : Site) (packet : ℕ → Packet) (p
     pub whole : (k : ℕ) (s : ShareState) → finite.get c.operations k ≡ Some (Share s) → is_whole f.kind s.plan.filter ≡ true
     pub one : (j k : ℕ) (d e : Open_share) → find_share shares j ≡ Some d → find_share shares k ≡ Some e → S.takes d.filter u ≡ true → S.takes e.filter u ≡ true → j ≡ k
 
-  module _ (cell : FullCell) (site : c.site ≡ at) (genuine : IsGenuine at packet cell) (apart : AreApart (S.unit_of (number cell))) where
+  module _ (cell : FullCell) (site : c.site ≡ at) (genuine : IsGenuine at packet cell) (apart : AreApart (S.packet_unit (number cell))) where
     abbrev u : units.Unit
-    u = S.unit_of (number cell)
+    u = S.packet_unit (number cell)
 
     abbrev flow : Flow
     flow = (flow_of c.site cell.packet).0

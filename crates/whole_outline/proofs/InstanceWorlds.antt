@@ -13,7 +13,7 @@ use Rattle.instance_worker.specs.Instance.{Step}
 use Rattle.unit_machine.proofs.Real.{sent_for}
 use Rattle.abstract_net.proofs.Net as net
 use Rattle.abstract_net.proofs.Net.{Inst_n, inst_step, links_after, at_node, put}
-use Rattle.abstract_net.proofs.Shares.{Old, New, Share_msg, Whole, member_step, whole_inst, keeps}
+use Rattle.abstract_net.proofs.Shares.{Old, New, Share_msg, WholeWorld, member_step, whole_inst, keeps}
 use Rattle.outline_net.proofs.Outline.{ran_in, outline_instance}
 use Rattle.whole_outline.proofs.WholeOutline.{outline_all, S, A}
 use Rattle.whole_outline.proofs.MemberOutline.{MemberFollows}
@@ -24,19 +24,19 @@ put_own g y x = let own : (y == y) ≡ true = grind (arith, nat_tests) in rw own
 
 module _ {F R : Type 0} (f : Semantics R) (site : Site) (packet : ℕ → Packet) (y : ℕ) where
   -- a world shows an instance at node y
-  pub record ShowsAt (w : Whole (S f site packet) (A f site packet)) (i : Instance F R) : Type 0 where
+  pub record ShowsAt (w : WholeWorld (S f site packet) (A f site packet)) (i : Instance F R) : Type 0 where
     pub inst : outline_instance f site packet i ≡ w.inst y
     pub standby : i.table.standby ≡ w.standby y
 
-module _ {F R : Type 0} (f : Semantics R) (site : Site) (packet : ℕ → Packet) (place : List ℕ → Option ℕ) (w : Whole (S f site packet) (A f site packet)) (p y : ℕ) where
+module _ {F R : Type 0} (f : Semantics R) (site : Site) (packet : ℕ → Packet) (place : List ℕ → Option ℕ) (w : WholeWorld (S f site packet) (A f site packet)) (p y : ℕ) where
   -- a world shows what a step leaves that takes a message from p
-  pub record StepsTo (next : Whole (S f site packet) (A f site packet)) (step : Step F R) : Type 0 where
+  pub record StepsTo (next : WholeWorld (S f site packet) (A f site packet)) (step : Step F R) : Type 0 where
     pub shows : ShowsAt f site packet y next step.node
     pub links : (a b : ℕ) → next.link a b ≡ links_after w.link p y (outline_all f place step.sends) a b
     pub done : next.done ≡ w.done ++ at_node y (filter_map ran_in step.notes)
 
   -- the same of a message that no link shows
-  pub record KeepsTo (next : Whole (S f site packet) (A f site packet)) (step : Step F R) : Type 0 where
+  pub record KeepsTo (next : WholeWorld (S f site packet) (A f site packet)) (step : Step F R) : Type 0 where
     pub shows : ShowsAt f site packet y next step.node
     pub links : (a b : ℕ) → next.link a b ≡ w.link a b ++ (if a == y then sent_for b (outline_all f place step.sends) else [])
     pub done : next.done ≡ w.done ++ at_node y (filter_map ran_in step.notes)

@@ -15,7 +15,7 @@ use Rattle.ctrl_node.specs.declared.operation.Operation.{Operation}
 use Rattle.ctrl_node.specs.declared.operation.Operation.TheVariants.{Move, Copy, Share}
 use Rattle.ctrl_node.specs.Controller.{ControllerState, Step}
 use Rattle.abstract_net.proofs.Net.{Sys, Open, C_step, find_op, links_after}
-use Rattle.abstract_net.proofs.Shares.{Any, Sharing, Open_share, find_share, as_old, old_step, Shares_step, told_by, by_share, Whole, whole_ctrl}
+use Rattle.abstract_net.proofs.Shares.{Any, Sharing, Open_share, find_share, as_old, old_step, Shares_step, told_by, by_share, WholeWorld, whole_ctrl}
 use Rattle.outline_net.proofs.Outline.{sys}
 use Rattle.outline_net.proofs.ControlOutline.{Sees, Opens}
 use Rattle.whole_outline.proofs.WholeOutline.{outline_all, sharing}
@@ -213,5 +213,5 @@ module _ {R : Type 0} (f : Semantics R) (at : Site) (packet : ℕ → Packet) (p
     pub sends : outline_all f place step.sends ≡ did.sends
 
   -- `whole_ctrl` is this step
-  pub step_is : (w : Whole S A) (p : ℕ) (a : Any R) → whole_ctrl S A w p a ≡ record w { ops = (all_step w.ops w.shares p a).ops; shares = (all_step w.ops w.shares p a).shares; link = links_after w.link p 1 (all_step w.ops w.shares p a).sends }
+  pub step_is : (w : WholeWorld S A) (p : ℕ) (a : Any R) → whole_ctrl S A w p a ≡ record w { ops = (all_step w.ops w.shares p a).ops; shares = (all_step w.ops w.shares p a).shares; link = links_after w.link p 1 (all_step w.ops w.shares p a).sends }
   step_is w p a = refl

@@ -24,7 +24,7 @@ use Rattle.copy_share.specs.Share.{SharePlan, ShareState, ShareRow, goes, home, 
 use Rattle.copy_share.specs.Share as shares
 use Rattle.unit_machine.proofs.Labels.{Each, each-append}
 use Rattle.share_machine.proofs.Share as machine
-use Rattle.share_machine.proofs.Share.{without}
+use Rattle.share_machine.proofs.Share.{without_number}
 use Rattle.abstract_net.proofs.Net.{Sys}
 use Rattle.abstract_net.proofs.Shares.{Any, New, S_forward, S_get, S_sync, Sharing, Open_share, Told, Is_fenced, Has_chunks, Has_chunk, Is_synced, Has_packet, Share_did, syncs, s_left, s_row, s_served, share_row}
 use Rattle.outline_net.proofs.Outline.{number, entries, sys}
@@ -59,15 +59,15 @@ pub same_node : (a b : ℕ) → (instance_node a == instance_node b) ≡ (a == b
 same_node a b = grind (arith, nat_tests)
 
 -- the members but for one
-others_same : (one : ℕ) (ms : List ℕ) → without (map instance_node ms) (instance_node one) ≡ map instance_node (filter (λ member. not (member == one)) ms)
+others_same : (one : ℕ) (ms : List ℕ) → without_number (map instance_node ms) (instance_node one) ≡ map instance_node (filter (λ member. not (member == one)) ms)
 others_same one [] = refl
-others_same one (m ∷ ms) = ap (λ b. if b then without (map instance_node ms) (instance_node one) else instance_node m ∷ without (map instance_node ms) (instance_node one)) (same_node m one)
-    ∙ elim (m == one) as (λ b. (if b then without (map instance_node ms) (instance_node one) else instance_node m ∷ without (map instance_node ms) (instance_node one)) ≡ map instance_node (if not b then m ∷ filter (λ member. not (member == one)) ms else filter (λ member. not (member == one)) ms)) [
+others_same one (m ∷ ms) = ap (λ b. if b then without_number (map instance_node ms) (instance_node one) else instance_node m ∷ without_number (map instance_node ms) (instance_node one)) (same_node m one)
+    ∙ elim (m == one) as (λ b. (if b then without_number (map instance_node ms) (instance_node one) else instance_node m ∷ without_number (map instance_node ms) (instance_node one)) ≡ map instance_node (if not b then m ∷ filter (λ member. not (member == one)) ms else filter (λ member. not (member == one)) ms)) [
       | true ↦ others_same one ms
       | false ↦ ap (λ xs. instance_node m ∷ xs) (others_same one ms)
     ]
 
-count_same : (plan : SharePlan) (one : ℕ) → length (without (map instance_node plan.members) (instance_node one)) ≡ length (others plan one)
+count_same : (plan : SharePlan) (one : ℕ) → length (without_number (map instance_node plan.members) (instance_node one)) ≡ length (others plan one)
 count_same plan one = ap length (others_same one plan.members) ∙ length-map (others plan one) instance_node
 
 pub index_same : (ms : List ℕ) (i : ℕ) → i < length ms → slice_index (map instance_node ms) i ≡ instance_node (slice_index ms i)
@@ -154,7 +154,7 @@ module _ {R : Type 0} (f : Semantics R) (at : Site) (packet : ℕ → Packet) (p
     chunks_same : (op : ℕ) (chunks : List Chunk) (ph : SharePhase) → RowAgrees ph (row (of ph) sender (msg.Chunks op chunks)) (Has_chunks (entries f chunks))
     chunks_same op chunks phase.Getting =
         let xs = syncs plan.op (instance_node (home plan)) (instance_node (home plan)) (entries f chunks) (map instance_node plan.members) in
-        elim (sender == instance_node (home plan)) as (λ b. RowIs cells (if b then on_chunks plan phase.Getting chunks else goes phase.Getting []) (if b then s_left S A machine.Setting (length (without (map instance_node plan.members) (instance_node (home plan)))) (map number cells) xs else still phase.Getting)) [
+        elim (sender == instance_node (home plan)) as (λ b. RowIs cells (if b then on_chunks plan phase.Getting chunks else goes phase.Getting []) (if b then s_left S A machine.Setting (length (without_number (map instance_node plan.members) (instance_node (home plan)))) (map number cells) xs else still phase.Getting)) [
           | true ↦ subst (λ n. RowIs cells (on_chunks plan phase.Getting chunks) (s_left S A machine.Setting n (map number cells) xs)) (sym (count_same plan (home plan))) (setting_same (length (others plan (home plan))) cells (shares.syncs plan (home plan) chunks) xs (syncs_same plan (home plan) chunks plan.members))
           | false ↦ same_row cells phase.Getting
         ]
@@ -169,7 +169,7 @@ module _ {R : Type 0} (f : Semantics R) (at : Site) (packet : ℕ → Packet) (p
         let xs = syncs plan.op (instance_node (home plan)) (instance_node member) (entry ∷ []) (map instance_node plan.members) in
         let told : entries f (chunk ∷ []) ≡ entry ∷ [] = rw spells refl in
         let sent : outline_all f place (shares.syncs plan member (chunk ∷ [])) ≡ xs = syncs_same plan member (chunk ∷ []) plan.members ∙ ap (λ cs. syncs plan.op (instance_node (home plan)) (instance_node member) cs (map instance_node plan.members)) told in
-        elim (sender == instance_node member) as (λ b. RowIs cells (if b then syncing (length (others plan member)) (shares.syncs plan member (chunk ∷ [])) else goes (phase.Out member) []) (if b then s_left S A machine.Syncing (length (without (map instance_node plan.members) (instance_node member))) (map number cells) xs else still (phase.Out member))) [
+        elim (sender == instance_node member) as (λ b. RowIs cells (if b then syncing (length (others plan member)) (shares.syncs plan member (chunk ∷ [])) else goes (phase.Out member) []) (if b then s_left S A machine.Syncing (length (without_number (map instance_node plan.members) (instance_node member))) (map number cells) xs else still (phase.Out member))) [
           | true ↦ subst (λ n. RowIs cells (syncing (length (others plan member)) (shares.syncs plan member (chunk ∷ []))) (s_left S A machine.Syncing n (map number cells) xs)) (sym (count_same plan member)) (syncing_same (length (others plan member)) cells (shares.syncs plan member (chunk ∷ [])) xs sent)
           | false ↦ same_row cells (phase.Out member)
         ]

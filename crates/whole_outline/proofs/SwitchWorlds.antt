@@ -19,7 +19,7 @@ use Rattle.unit_machine.proofs.Real as real
 use Rattle.unit_machine.proofs.Real.{sent_for}
 use Rattle.abstract_net.proofs.Net as net
 use Rattle.abstract_net.proofs.Net.{links_after, everything}
-use Rattle.abstract_net.proofs.Shares.{Any, Old, New, Whole, S_install, S_forward, whole_switch, whole_input, asks}
+use Rattle.abstract_net.proofs.Shares.{Any, Old, New, WholeWorld, S_install, S_forward, whole_switch, whole_input, asks}
 use Rattle.outline_net.proofs.FiltersApart.{flow_fits, is_whole}
 use Rattle.outline_net.proofs.Outline.{number}
 use Rattle.whole_outline.proofs.AskedShare.{command_all}
@@ -38,14 +38,14 @@ goes_same s p (target.Instance i) = elim (nat_lt i s.instances) as (λ b. SameRu
 packet_same : (s : SwitchState) (p : Packet) → SameRules s (on_packet s p).node
 packet_same s p = elim (has_room s) as (λ b. SameRules s (if b then goes_to s p (target_of s p) else still s).node) [ true ↦ goes_same s p (target_of s p) | false ↦ record { rules = refl; instances = refl } ]
 
-module _ {R : Type 0} (f : Semantics R) (site : Site) (packet : ℕ → Packet) (place : List ℕ → Option ℕ) (w : Whole (S f site packet) (A f site packet)) where
+module _ {R : Type 0} (f : Semantics R) (site : Site) (packet : ℕ → Packet) (place : List ℕ → Option ℕ) (w : WholeWorld (S f site packet) (A f site packet)) where
   -- what a step of the switch leaves on a message from p
-  pub record SwitchesTo (p : ℕ) (next : Whole (S f site packet) (A f site packet)) (step : Step) : Type 0 where
+  pub record SwitchesTo (p : ℕ) (next : WholeWorld (S f site packet) (A f site packet)) (step : Step) : Type 0 where
     pub routes : RoutesAll f.kind step.node next.target
     pub links : (a b : ℕ) → next.link a b ≡ links_after w.link p 0 (outline_all f place step.sends) a b
 
   -- and on an item of the input
-  pub record TakesIn (next : Whole (S f site packet) (A f site packet)) (step : Step) : Type 0 where
+  pub record TakesIn (next : WholeWorld (S f site packet) (A f site packet)) (step : Step) : Type 0 where
     pub routes : RoutesAll f.kind step.node next.target
     pub links : (a b : ℕ) → next.link a b ≡ w.link a b ++ (if a == 0 then sent_for b (outline_all f place step.sends) else [])
 

@@ -104,7 +104,7 @@ cb_beside F u z h d refuse (Put p first ∷ xs) k r = let t = put_beside F (reco
 cb_beside F u z h d refuse (x ∷ xs) k r = cc
 
 -- a stage of the message, and the unit's own packets: `z` is the link to B with them
-pub record Beside {R : Type 0} (F : Steps R) : Type 0 where
+pub record DestinationUnit {R : Type 0} (F : Steps R) : Type 0 where
   pub base : Stage F
   pub bare : all_of base ≡ []
   pub z : List (Item R)
@@ -113,14 +113,14 @@ pub record Beside {R : Type 0} (F : Steps R) : Type 0 where
   pub strips : strip z ≡ (shape F base).sb
   pub free : (shape F base).b.rule ≡ Free → h ≡ []
 
-abbrev pub shape_beside : {R : Type 0} → (F : Steps R) → Beside F → State R
+abbrev pub shape_beside : {R : Type 0} → (F : Steps R) → DestinationUnit F → State R
 shape_beside F s = beside F (shape F s.base) s.z s.h s.d
 
-abbrev pub all_beside : {R : Type 0} {F : Steps R} → Beside F → List ℕ
+abbrev pub all_beside : {R : Type 0} {F : Steps R} → DestinationUnit F → List ℕ
 all_beside s = firsts s.d ++ (s.h ++ carries s.z)
 
-abbrev pub GoesOnBeside : {R : Type 0} → (F : Steps R) → Beside F → MachineStep R → Type 0
-GoesOnBeside F s m = (t : Beside F) × (moved F (shape_beside F s) m ≡ shape_beside F t) × (all_beside t ≡ all_beside s ++ arrived_by m) × Placed At_b s.d t.d
+abbrev pub GoesOnBeside : {R : Type 0} → (F : Steps R) → DestinationUnit F → MachineStep R → Type 0
+GoesOnBeside F s m = (t : DestinationUnit F) × (moved F (shape_beside F s) m ≡ shape_beside F t) × (all_beside t ≡ all_beside s ++ arrived_by m) × Placed At_b s.d t.d
 
 begun_sb : {R : Type 0} (u : State R) (keep : Bool) (p : Phase R) → ((begun keep p u).sb ≡ u.sb) × ((begun keep p u).b ≡ u.b)
 begun_sb u keep Idle = (refl, refl)
@@ -139,7 +139,7 @@ apart_sb F u Take_bc e = elim u.bc as (λ xs. ((moved F (record u { bc = xs }) T
 apart_sb F u (Take_ca parts) e = elim u.ca as (λ xs. ((moved F (record u { ca = xs }) (Take_ca parts)).sb ≡ u.sb) × ((moved F (record u { ca = xs }) (Take_ca parts)).b ≡ u.b)) [ [] ↦ (refl, refl) | x ∷ xs ↦ (refl, refl) ]
 apart_sb F u m e = cc
 
-by_message : {R : Type 0} (F : Steps R) (s : Beside F) (m : MachineStep R) → Allowed (shape F s.base) m → apart m ≡ true → GoesOnBeside F s m
+by_message : {R : Type 0} (F : Steps R) (s : DestinationUnit F) (m : MachineStep R) → Allowed (shape F s.base) m → apart m ≡ true → GoesOnBeside F s m
 by_message F s m a is =
     let u = shape F s.base in
     let g = goes_on F s.base m a in
@@ -149,7 +149,7 @@ by_message F s m a is =
     let none = apart_none m is in
     (record { base = g.0; bare = stays_bare F s.base m a s.bare none; z = s.z; h = s.h; d = s.d; strips = s.strips ∙ sym link; free = λ e. s.free (ap (λ b. b.rule) (sym rule) ∙ e) }, message_beside F u s.z s.h s.d m is ∙ ap (λ v. beside F v s.z s.h s.d) g.1, rw none (sym (append-nil (all_beside s))), still At_b s.d)
 
-by_switch : {R : Type 0} (F : Steps R) (s : Beside F) → GoesOnBeside F s Take_cs
+by_switch : {R : Type 0} (F : Steps R) (s : DestinationUnit F) → GoesOnBeside F s Take_cs
 by_switch F s =
     let u = shape F s.base in
     let g = goes_on F s.base Take_cs tt in
@@ -159,7 +159,7 @@ by_switch F s =
     let stays = t.stays in
     (record { base = g.0; bare = stays_bare F s.base Take_cs tt s.bare refl; z = t.z'; h = s.h; d = s.d; strips = t.strips s.strips ∙ at; free = λ e. s.free (sym rule ∙ e) }, t.is ∙ ap (λ v. beside F v t.z' s.h s.d) g.1, rw stays (sym (append-nil (all_beside s))), still At_b s.d)
 
-by_controller : {R : Type 0} (F : Steps R) (s : Beside F) (refuse : Option Answer) → GoesOnBeside F s (Take_cb refuse)
+by_controller : {R : Type 0} (F : Steps R) (s : DestinationUnit F) (refuse : Option Answer) → GoesOnBeside F s (Take_cb refuse)
 by_controller F s refuse =
     let u = shape F s.base in
     let f = bare_facts F s.base s.bare in
@@ -187,7 +187,7 @@ no_buffers : not_drops Drops ≡ true → ⊥
 no_buffers e = cc
 
 -- a plain packet is processed where no rule stands, held where one does
-takes_packet : {R : Type 0} (F : Steps R) (s : Beside F) (p : ℕ) (z : List (Item R)) → s.z ≡ Carry p ∷ z → GoesOnBeside F s Take_sb
+takes_packet : {R : Type 0} (F : Steps R) (s : DestinationUnit F) (p : ℕ) (z : List (Item R)) → s.z ≡ Carry p ∷ z → GoesOnBeside F s Take_sb
 takes_packet F s p z e =
     let u = shape F s.base in
     let f = bare_facts F s.base s.bare in
@@ -200,7 +200,7 @@ takes_packet F s p z e =
       | Drops ↦ λ r. absurd (no_buffers (ap not_drops (sym r) ∙ f.rule))
     ] refl
 
-takes_fence : {R : Type 0} (F : Steps R) (s : Beside F) (z : List (Item R)) → s.z ≡ Fence ∷ z → GoesOnBeside F s Take_sb
+takes_fence : {R : Type 0} (F : Steps R) (s : DestinationUnit F) (z : List (Item R)) → s.z ≡ Fence ∷ z → GoesOnBeside F s Take_sb
 takes_fence F s z e =
     let u = shape F s.base in
     let f = bare_facts F s.base s.bare in
@@ -213,7 +213,7 @@ quiet_link : {R : Type 0} (F : Steps R) (u : State R) (z : List (Item R)) (h : L
 quiet_link F u [] h d e = refl
 quiet_link F u (x ∷ z) h d e = cc
 
-nothing_there : {R : Type 0} (F : Steps R) (s : Beside F) → s.z ≡ [] → GoesOnBeside F s Take_sb
+nothing_there : {R : Type 0} (F : Steps R) (s : DestinationUnit F) → s.z ≡ [] → GoesOnBeside F s Take_sb
 nothing_there F s e = (s, quiet_link F (shape F s.base) s.z s.h s.d e, sym (append-nil (all_beside s)), still At_b s.d)
 
 -- no other item stands there
@@ -223,13 +223,13 @@ false_true e = cc
 strange : {R : Type 0} (xs ys : List (Item R)) → ys ≡ xs → fences xs ≡ true → fences ys ≡ true
 strange xs ys e f = ap fences e ∙ f
 
-by_link : {R : Type 0} (F : Steps R) (s : Beside F) (z : List (Item R)) → s.z ≡ z → GoesOnBeside F s Take_sb
+by_link : {R : Type 0} (F : Steps R) (s : DestinationUnit F) (z : List (Item R)) → s.z ≡ z → GoesOnBeside F s Take_sb
 by_link F s [] e = nothing_there F s e
 by_link F s (Carry p ∷ z) e = takes_packet F s p z e
 by_link F s (Fence ∷ z) e = takes_fence F s z e
 by_link F s (x ∷ z) e = absurd (false_true (strange (shape F s.base).sb (strip (x ∷ z)) (rw e at s.strips) (bare_facts F s.base s.bare).sb_is))
 
-pub beside_goes_on : {R : Type 0} (F : Steps R) (s : Beside F) (m : MachineStep R) → Allowed (shape F s.base) m → GoesOnBeside F s m
+pub beside_goes_on : {R : Type 0} (F : Steps R) (s : DestinationUnit F) (m : MachineStep R) → Allowed (shape F s.base) m → GoesOnBeside F s m
 beside_goes_on F s (Arrive p) a =
     (record { base = s.base; bare = s.bare; z = s.z ++ Carry p ∷ []; h = s.h; d = s.d; strips = strip-append s.z (Carry p ∷ []) ∙ append-nil (strip s.z) ∙ s.strips; free = s.free }, refl, simp (carries-append, append_assoc), still At_b s.d)
 beside_goes_on F s Take_sb a = by_link F s s.z refl
@@ -247,7 +247,7 @@ c_live F (At_rest d l k) = refl
 c_live F s = refl
 
 -- the record is that of the fold, at one side alone
-pub beside_kept : {R : Type 0} (F : Steps R) (s : Beside F) → (lives (shape_beside F s) ≡ option_to_list (after F s.d)) × (on_way (shape_beside F s) ≡ []) × ((shape_beside F s).done ≡ s.d)
+pub beside_kept : {R : Type 0} (F : Steps R) (s : DestinationUnit F) → (lives (shape_beside F s) ≡ option_to_list (after F s.d)) × (on_way (shape_beside F s) ≡ []) × ((shape_beside F s).done ≡ s.d)
 beside_kept F s =
     let f = bare_facts F s.base s.bare in
     let a = f.a_live in let c = c_live F s.base in let n = f.done in
