@@ -11,7 +11,7 @@ use std::io::Read;
 /// How many bytes are read ahead of a file.
 const ROOM: usize = 65_536;
 
-/// `bytes[start..end]` is read and not yet taken. Contracts see it as `held`.
+/// `bytes[start..end]` is read and not yet taken. Contracts see it as `bytes_ahead`.
 #[derive(Drop)]
 pub(crate) struct ReadAhead {
     bytes: Vec<u8>,

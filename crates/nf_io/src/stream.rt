@@ -50,7 +50,7 @@ impl<F> Stream<F> {
         requires { count ≤ length (bytes_ahead self.old.ahead) }
         ensures ahead { bytes_ahead self.new.ahead ≡ drop count (bytes_ahead self.old.ahead) }
         ensures left { (remaining : F → Option (List ℕ)) (told : SystemBytes) →
-            Consumes (stream_left remaining told self.old) (stream_left remaining told self.new) (take count (held self.old.ahead)) }
+            Consumes (stream_left remaining told self.old) (stream_left remaining told self.new) (take count (bytes_ahead self.old.ahead)) }
         ensures file { self.new.file ≡ self.old.file }
         ensures name { self.new.name ≡ self.old.name }
     {
