@@ -4,7 +4,7 @@ use Rattle.std.specs.Ordering.{is_lt}
 use Rattle.std.specs.declared.cmp.Ordering.{Ordering}
 
 module _ {X K : Type 0} (key : X → K) (cmp : K → K → Ordering) where
-  -- an element put behind those whose keys are less
+  -- an element put after those whose keys are less
   abbrev pub put_in : X → List X → List X
   put_in x [] = x ∷ []
   put_in x (y ∷ ys) = if is_lt (cmp (key y) (key x)) then y ∷ put_in x ys else x ∷ y ∷ ys
