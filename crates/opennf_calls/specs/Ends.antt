@@ -20,7 +20,7 @@ module _ {R : Type 0} (F : Type 0) (f : Semantics R) where
   abbrev pub begun : Global → Config → List Msg → Network (Node F R) Msg Note
   begun alloc config items = started alloc config items
 
-  -- a run's choices are few, and behind them some choice is enabled unless nothing is left to do
+  -- a run's choices are few, and after them some choice is enabled unless nothing is left to do
   pub record RunEnds (alloc : Global) (config : Config) (items : List Msg) (choices : List Choice) : Type 0 where
     pub few : length choices ≤ most_choices (length config.names) items (pieces_sent f (begun alloc config items) choices)
     pub goes_on : enabled_choices node_ready (run (node_step f) choices (begun alloc config items)) ≡ [] → is_done node_ended (run (node_step f) choices (begun alloc config items)) ≡ true
