@@ -176,7 +176,7 @@ abbrev pub serves : ControllerState → ℕ → Step
 serves s op = let turn = serving_of (finite.get s.operations op) s.store in
     record { node = turned s op turn; sends = turn.sends; notes = [] }
 
--- the same behind a step
+-- the same after a step
 abbrev pub and_serves : Step → ℕ → Step
 and_serves step op = record {
   node = (serves step.node op).node;
@@ -232,7 +232,7 @@ finish_of s = if may_finish s then (switch_node, Finish) ∷ [] else []
 abbrev pub with_finish : ControllerState → ControllerState
 with_finish s = if may_finish s then record s { finish_sent = true } else s
 
--- a step, and the finish behind all else
+-- a step, and the finish after all else
 abbrev pub finished : Step → Step
 finished step = record { node = with_finish step.node; sends = step.sends ++ finish_of step.node; notes = step.notes }
 

@@ -1,4 +1,4 @@
--- Whether chunks were taken in, by what the table answered. A step between code and definition: there is nothing here to believe.
+-- Steps between code and definition, which nobody has to believe: whether chunks were taken in, by what the table answered.
 use Rattle.std.specs.Prelude.{◌≡◌, Bool, true, false, Result, Ok, Err}
 use Rattle.record_table.specs.declared.refusal.ImportFault.{ImportFault}
 use Rattle.record_table.specs.declared.refusal.ImportFault.TheVariants.{Limit, Bad, NoMemory}

@@ -1,4 +1,4 @@
--- What is taken from a source piece by piece: steps between code and definition, which nobody has to believe.
+-- Steps between code and definition, which nobody has to believe: what is taken from a source piece by piece.
 use Rattle.std.specs.Prelude.{◌≡◌, ◌≤◌, ◌<◌, ℕ, ◌*◌, List, [], length, take, drop, Option, Some, Ok, Err}
 use Rattle.actor_net.specs.declared.choice.Choice.{Choice}
 use Rattle.journal_file.specs.declared.fault.JournalFault.TheVariants as fault

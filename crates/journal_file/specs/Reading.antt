@@ -34,7 +34,7 @@ unfoldable pub choices_in : List ℕ → List Choice
 choices_in (node ∷ port ∷ more) = record { node = node; port = port } ∷ choices_in more
 choices_in bytes = []
 
--- so many choices and nothing behind them
+-- so many choices and nothing after them
 abbrev pub choices_of : Read ℕ → List ℕ → Read (List Choice)
 choices_of (Err e) rest = Err e
 choices_of (Ok count) rest =

@@ -53,7 +53,7 @@ module _ (s : NetworkAsked) (old mid : Role → Meaning) (script : TheScript) (f
   script_told : (bytes : Role → List ℕ) → TellsInputs s old bytes → TellsScript s old bytes
   script_told bytes told = record { script = told.script }
 
-  -- the capture is read behind it
+  -- the capture is read after it
   module _ (new : Role → Meaning) (second : ReadAlone Trace mid new) where
     -- then the capture alone refuses
     refusal : (bytes : Role → List ℕ) → TellsInputs s old bytes → inputs_refusal s bytes ≡ trace_refusal (capture_of (bytes Trace))

@@ -12,7 +12,7 @@ use Rattle.opennf_calls.specs.declared.status.Status.TheVariants.{Ok as Done, Us
 use Rattle.opennf_calls.specs.Command.{is_input, is_read_before, run_file, with_journal}
 use Rattle.opennf_calls.specs.NetworkRuns.{Scenario, RunResults, HasRun, given_script}
 use Rattle.opennf_calls.specs.Outcome.{EarlierAreSound, ForResults, HasEarlier, HasInput, IsBound, IsRead, IsRefusedCommand, RowOf, earlier_refusal, first_refusal, inputs_refusal, journal_read, journal_refusal, refusal_of, script_refusal}
-use Rattle.opennf_calls.specs.Phases.{HasInputs, InputsFail, FollowsSoundScript, OnlyRead, ReadToEnd, RefusesInputs, ScriptIsSound, TellsInputs, TellsScript}
+use Rattle.opennf_calls.specs.Phases.{HasInputs, InputsFail, IsSoundBefore, OnlyRead, ReadToEnd, RefusesInputs, ScriptIsSound, TellsInputs, TellsScript}
 use Rattle.opennf_calls.proofs.RowLemmas.{first_read, not_before, read_fault, refused, silent}
 
 -- the files of a run of the network are inputs, where its journal is written and where it is read
@@ -100,14 +100,14 @@ script_first s asked reads old new script bytes told = record { read = read; sou
 
 -- what stands before a file of a run was right
 earlier_sound : (s : NetworkAsked) (asked : Asked) → Reads s asked → (old new : Role → Meaning) (role : Role) → IsTrue (is_some (run_file s role))
-    → FollowsSoundScript s role old new → (bytes : Role → List ℕ) → HasEarlier asked role old bytes → EarlierAreSound asked role bytes new
-earlier_sound s asked reads old new Trace named behind bytes told = script_first s asked reads old new behind bytes told
-earlier_sound s asked reads old new Script named behind bytes told = first_read asked bytes new (reads.none_earlier bytes)
-earlier_sound s asked reads old new JournalIn named behind bytes told = absurd (cc)
-earlier_sound s asked reads old new Report named behind bytes told = absurd (cc)
-earlier_sound s asked reads old new JournalOut named behind bytes told = absurd (cc)
-earlier_sound s asked reads old new TraceOut named behind bytes told = absurd (cc)
-earlier_sound s asked reads old new Errors named behind bytes told = absurd (cc)
+    → IsSoundBefore s role old new → (bytes : Role → List ℕ) → HasEarlier asked role old bytes → EarlierAreSound asked role bytes new
+earlier_sound s asked reads old new Trace named before bytes told = script_first s asked reads old new before bytes told
+earlier_sound s asked reads old new Script named before bytes told = first_read asked bytes new (reads.none_earlier bytes)
+earlier_sound s asked reads old new JournalIn named before bytes told = absurd (cc)
+earlier_sound s asked reads old new Report named before bytes told = absurd (cc)
+earlier_sound s asked reads old new JournalOut named before bytes told = absurd (cc)
+earlier_sound s asked reads old new TraceOut named before bytes told = absurd (cc)
+earlier_sound s asked reads old new Errors named before bytes told = absurd (cc)
 
 -- the script and the capture give no run
 module _ (s : NetworkAsked) (asked : Asked) (reads : Reads s asked) (old new : Role → Meaning) (only : OnlyRead old new) (bound : IsBound asked old) where

@@ -4,7 +4,7 @@ use Rattle.std.proofs.lemmas.Bool.{ltb-true, ltb-false, lt-ltb}
 use Rattle.std.proofs.lemmas.List.{take_all, drop_all}
 use Rattle.nf_function.specs.declared.kind.Kind.{Kind}
 use Rattle.op_script.specs.Statements.{Word}
-use Rattle.op_script.specs.Reading.{ScriptView, script_of}
+use Rattle.op_script.specs.Reading.{ScriptView, longest_script, script_of}
 use Rattle.op_script.specs.declared.fault.ScriptFault.{ScriptFault}
 use Rattle.op_script.specs.declared.fault.ScriptFault.TheVariants as script
 use Rattle.nf_io.specs.declared.outside.Role.{Role}
@@ -21,37 +21,33 @@ use Rattle.opennf_calls.specs.Phases.{OnlyRead}
 use Rattle.opennf_calls.specs.Status.{reading_status, script_status}
 use Rattle.opennf_calls.proofs.RowLemmas.{first_read, read_fault, refused, silent}
 
--- the most bytes that a script may have
-abbrev pub most_bytes : ℕ
-most_bytes = 1048576
-
-front_says : (kind : Kind) (names : List Word) (bytes : List ℕ) (long : Bool) → ltb (most_bytes + 1) (length bytes) ≡ long
-    → script_of kind names (take (most_bytes + 1) bytes) ≡ script_of kind names bytes
+front_says : (kind : Kind) (names : List Word) (bytes : List ℕ) (long : Bool) → ltb (longest_script + 1) (length bytes) ≡ long
+    → script_of kind names (take (longest_script + 1) bytes) ≡ script_of kind names bytes
 unfolding script_of
 front_says kind names bytes false is =
-    rw (take_all (most_bytes + 1) bytes (ltb-false (most_bytes + 1) (length bytes) is)) refl
+    rw (take_all (longest_script + 1) bytes (ltb-false (longest_script + 1) (length bytes) is)) refl
 front_says kind names bytes true is =
-    let over = ltb-true (most_bytes + 1) (length bytes) is in
-    let long : ltb most_bytes (length bytes) ≡ true = lt-ltb most_bytes (length bytes) (omega arith) in
-    let front : ltb most_bytes (length (take (most_bytes + 1) bytes)) ≡ true = lt-ltb most_bytes (length (take (most_bytes + 1) bytes)) (omega (arith, length-take (most_bytes + 1) bytes)) in
+    let over = ltb-true (longest_script + 1) (length bytes) is in
+    let long : ltb longest_script (length bytes) ≡ true = lt-ltb longest_script (length bytes) (omega arith) in
+    let front : ltb longest_script (length (take (longest_script + 1) bytes)) ≡ true = lt-ltb longest_script (length (take (longest_script + 1) bytes)) (omega (arith, length-take (longest_script + 1) bytes)) in
     rw long (rw front refl)
 
 -- the front says what the whole says
-pub script_of-front : (kind : Kind) (names : List Word) (bytes : List ℕ) → script_of kind names (take (most_bytes + 1) bytes) ≡ script_of kind names bytes
-script_of-front kind names bytes = front_says kind names bytes (ltb (most_bytes + 1) (length bytes)) refl
+pub script_of-front : (kind : Kind) (names : List Word) (bytes : List ℕ) → script_of kind names (take (longest_script + 1) bytes) ≡ script_of kind names bytes
+script_of-front kind names bytes = front_says kind names bytes (ltb (longest_script + 1) (length bytes)) refl
 
-short : (kind : Kind) (names : List Word) (bytes : List ℕ) (view : ScriptView) (long : Bool) → ltb most_bytes (length bytes) ≡ long
-    → script_of kind names bytes ≡ Ok view → length bytes ≤ most_bytes
+short : (kind : Kind) (names : List Word) (bytes : List ℕ) (view : ScriptView) (long : Bool) → ltb longest_script (length bytes) ≡ long
+    → script_of kind names bytes ≡ Ok view → length bytes ≤ longest_script
 unfolding script_of
-short kind names bytes view false is said = ltb-false most_bytes (length bytes) is
+short kind names bytes view false is said = ltb-false longest_script (length bytes) is
 short kind names bytes view true is said =
     let refused : script_of kind names bytes ≡ Ok view = said in absurd cc
 
 -- of a script that is taken nothing is left
-pub nothing_left : (kind : Kind) (names : List Word) (bytes : List ℕ) (view : ScriptView) → script_of kind names bytes ≡ Ok view → drop (most_bytes + 1) bytes ≡ []
+pub nothing_left : (kind : Kind) (names : List Word) (bytes : List ℕ) (view : ScriptView) → script_of kind names bytes ≡ Ok view → drop (longest_script + 1) bytes ≡ []
 nothing_left kind names bytes view said =
-    let few = short kind names bytes view (ltb most_bytes (length bytes)) refl said in
-    drop_all (most_bytes + 1) bytes (omega arith)
+    let few = short kind names bytes view (ltb longest_script (length bytes)) refl said in
+    drop_all (longest_script + 1) bytes (omega arith)
 
 -- the row of the status of a script that is refused
 pub script_row : (asked : Asked) (old new : Role → Meaning) (fault : ScriptFault) → OnlyRead old new → IsBound asked old

@@ -52,7 +52,7 @@ is_result asked role = not (is_read role) && is_some (file_for asked role)
 abbrev pub comes_before : Role → Role → Bool
 comes_before first second = not (same_role first Report) && same_role second Report
 
--- whether the second word, behind the program's name, is this command
+-- whether the second word, after the program's name, is this command
 abbrev pub is_command : List ℕ → List (List ℕ) → Bool
 is_command name (program ∷ command ∷ words) = bytes_eq command name
 is_command name words = false

@@ -6,3 +6,4 @@ pub mod Outcome
 pub mod Phases
 pub mod Status
 pub mod Writing
+pub mod LineRoom

@@ -103,13 +103,13 @@ abbrev pub RefusesInputs : NetworkAsked → (Role → Meaning) → Status → Ty
 RefusesInputs s old status = (bytes : Role → List ℕ) → TellsInputs s old bytes → inputs_refusal s bytes ≡ Some status
 
 -- before the capture the script was read
-abbrev pub FollowsSoundScript : NetworkAsked → Role → (old new : Role → Meaning) → Type 0
-FollowsSoundScript s TraceRole old new = ScriptIsSound s old new
-FollowsSoundScript s role old new = Unit {0}
+abbrev pub IsSoundBefore : NetworkAsked → Role → (old new : Role → Meaning) → Type 0
+IsSoundBefore s TraceRole old new = ScriptIsSound s old new
+IsSoundBefore s role old new = Unit {0}
 
 -- why the script and the capture give no run
 abbrev pub InputsFail : NetworkAsked → (old new : Role → Meaning) → Status → Type 0
-InputsFail s old new (ReadFault role) = IsTrue (is_some (run_file s role)) × Rose (old role).faults (new role).faults × FollowsSoundScript s role old new
+InputsFail s old new (ReadFault role) = IsTrue (is_some (run_file s role)) × Rose (old role).faults (new role).faults × IsSoundBefore s role old new
 InputsFail s old new NoMemory = Unit {0}
 InputsFail s old new (BadScript line kind) = RefusesInputs s old (BadScript line kind)
 InputsFail s old new (BadTrace offset kind) = RefusesInputs s old (BadTrace offset kind)

@@ -14,11 +14,11 @@ use crate::writing::put;
 use command_words::Checking;
 use flow_filter::{Bytes, Text};
 use nf_io::{Outside, Role, RoleSource, UptoFault, read_upto};
-use op_script::{print_script, read_script};
+use op_script::{LONGEST_SCRIPT, print_script, read_script};
 use std::alloc::Global;
 
-/// The most bytes that a script may have.
-pub(crate) const MOST_BYTES: u64 = 1_048_576;
+/// The most bytes of a script that are read, but for the one that shows that it is longer.
+pub(crate) const MOST_BYTES: u64 = LONGEST_SCRIPT as u64;
 
 /// Reads the script, whose file is bound, and writes its canonical text.
 pub fn check<O: Outside>(alloc: Global, asked: &Checking<'_>, outside: &mut O) -> Status

@@ -1,6 +1,7 @@
 //! The line that goes to the standard error where a command did not end well.
 ghost use Rattle.std.specs.Prelude.{◌≡◌, ◌≤◌, length};
 ghost use Rattle.opennf_calls.specs.Status.{line_of, script_line_of, trace_line_of, journal_line_of, no_run_line_of, fault_line_of, trace_kind_number};
+ghost use Rattle.opennf_calls.specs.LineRoom.{line_room, front_room, digits_room};
 
 use crate::status::{
     JournalKind, Status, TraceKind, journal_kind_name, role_name, script_kind_name,
@@ -33,7 +34,7 @@ pub fn line(status: &Status) -> Line
 
 /// A line with this text.
 fn whole_line(text: &str) -> Line
-    requires { length text.now ≤ 128 }
+    requires { length text.now ≤ line_room }
     ensures { result.bytes ≡ text.now }
 {
     let mut line = Line::new();
@@ -43,7 +44,7 @@ fn whole_line(text: &str) -> Line
 
 /// The line of a file that could not be read or written: what failed, and its role.
 fn fault_line(front: &str, role: Role) -> Line
-    requires { length front.now ≤ 32 }
+    requires { length front.now ≤ front_room }
     ensures { result.bytes ≡ fault_line_of front.now role }
 {
     let mut line = whole_line(front);
@@ -103,7 +104,7 @@ fn no_run_line(step: u64) -> Line
 /// The number of a kind, in decimal digits, or no bytes where it has none.
 fn kind_digits(buffer: &mut Buffer, kind: TraceKind) -> &str
     ensures value { result.now ≡ trace_kind_number kind }
-    ensures short { length result.now ≤ 40 }
+    ensures short { length result.now ≤ digits_room }
 {
     match kind {
         TraceKind::LinkType(number) => buffer.format(number),

@@ -209,7 +209,7 @@ fn open(alloc: Global, asked: &NetworkRequest<'_>, inputs: Inputs) -> Result<Ope
     })
 }
 
-/// The law of ends: each run of an input that ends once has few choices, and where none is enabled behind them nothing is left to do.
+/// The law of ends: each run of an input that ends once has few choices, and where none is enabled after them nothing is left to do.
 pub fn runs_end<F: Function>()
     ensures { EndLaw F.row.Denot F.semantics }
 {}

@@ -1,5 +1,6 @@
 ghost use Rattle.std.specs.Prelude.{◌≡◌, ◌≤◌, length};
 ghost use Rattle.opennf_calls.specs.Status.{trace_kind_name, exit_number, journal_kind_name, role_name, script_kind_name, reading_status};
+ghost use Rattle.opennf_calls.specs.LineRoom.{trace_kind_room, role_room, script_kind_room, journal_kind_room};
 
 use flow_filter::NoMemory;
 use journal_file::JournalFault;
@@ -199,25 +200,11 @@ impl From<NoMemory> for Status {
     }
 }
 
-/// The status of a capture that breaks a rule at a byte.
-fn bad_trace(offset: u64, kind: TraceKind) -> Status
-    ensures { result ≡ Status.BadTrace offset kind }
-{
-    Status::BadTrace { offset, kind }
-}
-
-/// The status of a journal that breaks a rule.
-fn bad_journal(kind: JournalKind) -> Status
-    ensures { result ≡ Status.BadJournal kind }
-{
-    Status::BadJournal { kind }
-}
-
 impl TraceKind {
     /// What the error line says of the kind, before its number where it has one.
     pub fn name(self) -> &'static str
         ensures value { result.now ≡ trace_kind_name self }
-        ensures short { length result.now ≤ 14 }
+        ensures short { length result.now ≤ trace_kind_room }
     {
         match self {
             TraceKind::Magic => "magic",
@@ -234,7 +221,7 @@ impl TraceKind {
 /// What the error line calls a role.
 pub fn role_name(role: Role) -> &'static str
     ensures value { result.now ≡ role_name role }
-    ensures short { length result.now ≤ 7 }
+    ensures short { length result.now ≤ role_room }
 {
     match role {
         Role::Trace => "trace",
@@ -249,7 +236,7 @@ pub fn role_name(role: Role) -> &'static str
 /// What the error line calls a rule that a script breaks.
 pub fn script_kind_name(kind: ScriptKind) -> &'static str
     ensures value { result.now ≡ script_kind_name kind }
-    ensures short { length result.now ≤ 13 }
+    ensures short { length result.now ≤ script_kind_room }
 {
     match kind {
         ScriptKind::Word => "word",
@@ -266,7 +253,7 @@ pub fn script_kind_name(kind: ScriptKind) -> &'static str
 /// What the error line calls what is wrong with a journal.
 pub fn journal_kind_name(kind: JournalKind) -> &'static str
     ensures value { result.now ≡ journal_kind_name kind }
-    ensures short { length result.now ≤ 7 }
+    ensures short { length result.now ≤ journal_kind_room }
 {
     match kind {
         JournalKind::Magic => "magic",
@@ -276,4 +263,18 @@ pub fn journal_kind_name(kind: JournalKind) -> &'static str
         JournalKind::Short => "short",
         JournalKind::Extra => "extra",
     }
+}
+
+/// The status of a capture that breaks a rule at a byte.
+fn bad_trace(offset: u64, kind: TraceKind) -> Status
+    ensures { result ≡ Status.BadTrace offset kind }
+{
+    Status::BadTrace { offset, kind }
+}
+
+/// The status of a journal that breaks a rule.
+fn bad_journal(kind: JournalKind) -> Status
+    ensures { result ≡ Status.BadJournal kind }
+{
+    Status::BadJournal { kind }
 }

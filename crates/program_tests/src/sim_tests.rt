@@ -36,6 +36,44 @@ pub(crate) static RECORD: [u8; 64] = [
     0, 0, 0, 0, 0, 0, 0, 0, 0, 0, 0, 0, 0, 0, 0, 0, 0, 0, 0, 0,
 ];
 
+/// The header of a big-endian capture of Ethernet with nanoseconds.
+static ETHERNET: [u8; 24] = [
+    0xa1, 0xb2, 0x3c, 0x4d, 0, 2, 0, 4, 0, 0, 0, 0, 0, 0, 0, 0, 0, 0, 0xff, 0xff, 0, 0, 0, 1,
+];
+
+/// A record with the packet of [`RECORD`] after one VLAN tag.
+static TAGGED: [u8; 82] = [
+    0, 0, 0, 0, 0, 0, 0, 0, 0, 0, 0, 66, 0, 0, 0, 66, //
+    2, 0, 0, 0, 0, 1, 2, 0, 0, 0, 0, 2, 0x81, 0, 0, 1, 8, 0, //
+    0x45, 0, 0, 48, 0, 0, 0, 0, 0x40, 17, 0, 0, 10, 0, 0, 1, 192, 0, 2, 9, //
+    0x13, 0x88, 0, 53, 0, 28, 0, 0, //
+    0, 0, 0, 0, 0, 0, 0, 0, 0, 0, 0, 0, 0, 0, 0, 0, 0, 0, 0, 0,
+];
+
+/// A record of an ICMP packet.
+static ICMP: [u8; 58] = [
+    0, 0, 0, 0, 0, 0, 0, 0, 0, 0, 0, 42, 0, 0, 0, 42, //
+    2, 0, 0, 0, 0, 1, 2, 0, 0, 0, 0, 2, 8, 0, //
+    0x45, 0, 0, 28, 0, 0, 0, 0, 0x40, 1, 0, 0, 10, 0, 0, 1, 192, 0, 2, 9, //
+    8, 0, 0, 0, 0, 0, 0, 0,
+];
+
+/// A record of a later fragment, with offset 185.
+static FRAGMENT: [u8; 58] = [
+    0, 0, 0, 0, 0, 0, 0, 0, 0, 0, 0, 42, 0, 0, 0, 42, //
+    2, 0, 0, 0, 0, 1, 2, 0, 0, 0, 0, 2, 8, 0, //
+    0x45, 0, 0, 28, 0, 0, 0, 185, 0x40, 17, 0, 0, 10, 0, 0, 1, 192, 0, 2, 9, //
+    0x13, 0x88, 0, 53, 0, 8, 0, 0,
+];
+
+/// A record of a TCP SYN from 10.0.0.1:40000 to 192.0.2.9:80 whose datagram states the length 0.
+static SYN: [u8; 70] = [
+    0, 0, 0, 0, 0, 0, 0, 0, 0, 0, 0, 54, 0, 0, 0, 54, //
+    2, 0, 0, 0, 0, 1, 2, 0, 0, 0, 0, 2, 8, 0, //
+    0x45, 0, 0, 0, 0, 0, 0, 0, 0x40, 6, 0, 0, 10, 0, 0, 1, 192, 0, 2, 9, //
+    0x9c, 0x40, 0, 80, 0, 0, 0, 0, 0, 0, 0, 0, 0x50, 2, 0, 0, 0, 0, 0, 0,
+];
+
 /// The words as the program gets them.
 pub(crate) fn owned(alloc: Global, words: &[&str]) -> Result<Vec<String>, NoMemory> {
     let mut owned = Vec::new(alloc);
@@ -80,6 +118,28 @@ fn the_report_of_one_packet_is_exact(rt: HostRuntime) -> Result<(), Fail> {
     assert_eq!(rt; number, 0);
     let report =
         "opennf report 1\nfunction conntrack instances 1 window 256\ntrace packets 1 skipped 0 whole\nout 1 single\ndone 1 a\nstate udp 10.0.0.1:5000 192.0.2.9:53 a single out packets 1 bytes 20 seen 1000000000\ntally a 1\nend\n";
+    assert_eq!(rt; outside.written(Role::Report), report.as_bytes());
+    assert_eq!(rt; outside.written(Role::Errors), b"".as_slice());
+    Ok(())
+}
+
+#[test]
+fn ten_bytes_of_a_next_record_are_reported_as_cut(rt: HostRuntime) -> Result<(), Fail> {
+    let (number, outside) = simulated(rt.alloc(), &[&HEADER, &RECORD, &RECORD[..10]])?;
+    assert_eq!(rt; number, 0);
+    let report =
+        "opennf report 1\nfunction conntrack instances 1 window 256\ntrace packets 1 skipped 0 cut\nout 1 single\ndone 1 a\nstate udp 10.0.0.1:5000 192.0.2.9:53 a single out packets 1 bytes 20 seen 1000000000\ntally a 1\nend\n";
+    assert_eq!(rt; outside.written(Role::Report), report.as_bytes());
+    assert_eq!(rt; outside.written(Role::Errors), b"".as_slice());
+    Ok(())
+}
+
+#[test]
+fn the_report_of_a_big_endian_ethernet_capture_is_exact(rt: HostRuntime) -> Result<(), Fail> {
+    let (number, outside) = simulated(rt.alloc(), &[&ETHERNET, &TAGGED, &ICMP, &FRAGMENT, &SYN])?;
+    assert_eq!(rt; number, 0);
+    let report =
+        "opennf report 1\nfunction conntrack instances 1 window 256\ntrace packets 2 skipped 2 whole\nout 1 single\nout 2 opening\ndone 1 a\ndone 2 a\nstate tcp 10.0.0.1:40000 192.0.2.9:80 a opening out packets 1 bytes 0\nstate udp 10.0.0.1:5000 192.0.2.9:53 a single out packets 1 bytes 20\ntally a 2\nend\n";
     assert_eq!(rt; outside.written(Role::Report), report.as_bytes());
     assert_eq!(rt; outside.written(Role::Errors), b"".as_slice());
     Ok(())

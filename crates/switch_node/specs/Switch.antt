@@ -82,7 +82,7 @@ abbrev pub is_there : SwitchState → Target → Bool
 is_there s Controller = true
 is_there s (Instance i) = nat_lt i s.instances
 
--- a change of the rules, with a fence behind the packets of the old ones
+-- a change of the rules, with a fence after the packets of the old ones
 abbrev pub on_install : SwitchState → ℕ → Filter → ℕ → Target → Step
 on_install s op filter from to =
     if nat_lt from s.instances && is_there s to

@@ -4,9 +4,9 @@ use Rattle.std.proofs.lemmas.Result.{err_from_is_err_and}
 use Rattle.nf_io.specs.declared.outside.Role.TheVariants.{Script}
 use Rattle.op_script.specs.declared.fault.ScriptFault.{ScriptFault}
 use Rattle.op_script.specs.declared.fault.ScriptFault.TheVariants as script
-use Rattle.op_script.specs.Reading.{SaysWhole, script_of, script_view}
+use Rattle.op_script.specs.Reading.{SaysWhole, script_of, script_view, longest_script}
 use Rattle.command_words.specs.RequestViews.{network_view}
-use Rattle.opennf_calls.proofs.ScriptLemmas.{most_bytes, script_of-front, nothing_left}
+use Rattle.opennf_calls.proofs.ScriptLemmas.{script_of-front, nothing_left}
 use Rattle.opennf_calls.proofs.InputRows.{is_named, named_script, script_fails}
 use Rattle.opennf_calls.proofs.inputs.read_commands.Goals as goal
 
@@ -20,10 +20,10 @@ returns-in_err-script-clause-said g c =
     (script_fails s (g.O.Outside.seen c.args.outside.now) (g.O.Outside.seen c.read_bytes.new.outside) c.in_err-script.field-0.0
     (λ line kind is bytes told.
     let found = c.in-Ok.ensures.bytes (bytes Script) (told.script named) in
-    let read : c.items.result.now ≡ take (most_bytes + 1) (bytes Script) = search rules in
-    let heard : SaysWhole script_view (Err c.in_err-script.field-0.0) (script_of c.args.asked.now.kind c.args.asked.now.instances.names.items (take (most_bytes + 1) (bytes Script))) = search rules in
-    let bad : SaysWhole script_view (Err (script.Bad line kind)) (script_of c.args.asked.now.kind c.args.asked.now.instances.names.items (take (most_bytes + 1) (bytes Script))) =
-    subst (λ (fault : ScriptFault). SaysWhole script_view (Err fault) (script_of c.args.asked.now.kind c.args.asked.now.instances.names.items (take (most_bytes + 1) (bytes Script)))) is heard in
+    let read : c.items.result.now ≡ take (longest_script + 1) (bytes Script) = search rules in
+    let heard : SaysWhole script_view (Err c.in_err-script.field-0.0) (script_of c.args.asked.now.kind c.args.asked.now.instances.names.items (take (longest_script + 1) (bytes Script))) = search rules in
+    let bad : SaysWhole script_view (Err (script.Bad line kind)) (script_of c.args.asked.now.kind c.args.asked.now.instances.names.items (take (longest_script + 1) (bytes Script))) =
+    subst (λ (fault : ScriptFault). SaysWhole script_view (Err fault) (script_of c.args.asked.now.kind c.args.asked.now.instances.names.items (take (longest_script + 1) (bytes Script)))) is heard in
     named_script s (bytes Script) named ∙ sym (script_of-front c.args.asked.now.kind c.args.asked.now.instances.names.items (bytes Script)) ∙ bad))
 
 pub returns-clause-said : goal.returns-clause-said
@@ -34,13 +34,13 @@ returns-clause-said g c =
     record {
       said = λ bytes told.
           let found = c.in-Ok.ensures.bytes (bytes Script) (told.script named) in
-          let read : c.items.result.now ≡ take (most_bytes + 1) (bytes Script) = search rules in
-          let heard : script_of c.args.asked.now.kind c.args.asked.now.instances.names.items (take (most_bytes + 1) (bytes Script)) ≡ Ok (script_view c.in_ok-script.script) = search rules in
+          let read : c.items.result.now ≡ take (longest_script + 1) (bytes Script) = search rules in
+          let heard : script_of c.args.asked.now.kind c.args.asked.now.instances.names.items (take (longest_script + 1) (bytes Script)) ≡ Ok (script_view c.in_ok-script.script) = search rules in
           named_script s (bytes Script) named ∙ sym (script_of-front c.args.asked.now.kind c.args.asked.now.instances.names.items (bytes Script)) ∙ heard;
       read = λ bytes told input.
           let found = c.in-Ok.ensures.bytes (bytes Script) (told.script named) in
-          let read : c.items.result.now ≡ take (most_bytes + 1) (bytes Script) = search rules in
-          let heard : script_of c.args.asked.now.kind c.args.asked.now.instances.names.items (take (most_bytes + 1) (bytes Script)) ≡ Ok (script_view c.in_ok-script.script) = search rules in
+          let read : c.items.result.now ≡ take (longest_script + 1) (bytes Script) = search rules in
+          let heard : script_of c.args.asked.now.kind c.args.asked.now.instances.names.items (take (longest_script + 1) (bytes Script)) ≡ Ok (script_view c.in_ok-script.script) = search rules in
           let said : script_of c.args.asked.now.kind c.args.asked.now.instances.names.items (bytes Script) ≡ Ok (script_view c.in_ok-script.script) =
           sym (script_of-front c.args.asked.now.kind c.args.asked.now.instances.names.items (bytes Script)) ∙ heard in
           found.1 ∙ ap (λ rest. Some rest) (nothing_left c.args.asked.now.kind c.args.asked.now.instances.names.items (bytes Script) (script_view c.in_ok-script.script) said);
