@@ -4,7 +4,7 @@ ghost use Rattle.nf_msgs.specs.declared.command.Order.{Order as AnOrder};
 ghost use Rattle.net_world.specs.Input.{IsInput, IsProper, IsWhole};
 ghost use Rattle.net_world.specs.Start.{IsConfig};
 
-use crate::move_tests::{came, config, told};
+use crate::common::{came, config, told};
 use actor_net::Schedule;
 use basics::{Boxed, Text};
 use conn_tracker::Conntrack;

@@ -5,6 +5,8 @@
 #![tactic(auto)]
 
 #[cfg(test)]
+mod common;
+#[cfg(test)]
 mod copy_tests;
 #[cfg(test)]
 mod move_tests;

@@ -5,6 +5,8 @@
 #![tactic(auto)]
 
 #[cfg(test)]
+mod common;
+#[cfg(test)]
 mod message_tests;
 #[cfg(test)]
 mod monitor_tests;

@@ -1,24 +1,11 @@
+use crate::common::PACKET;
 use basics::Boxed;
 use event_filter::Mark;
-use flow_filter::{Name, Packet, UDP};
+use flow_filter::Name;
 use nf_function::Chunks;
 use nf_msgs::{Answer, Msg, Note, Piece, print_answer, show};
 use packet_pool::Pool;
 use std::test::Fail;
-
-const PACKET: Packet = Packet {
-    nanos: 0,
-    number: 7,
-    src: 0x0a00_0001,
-    dst: 0xc000_0209,
-    length: 20,
-    sport: 5000,
-    dport: 53,
-    proto: UDP,
-    flags: 0,
-    held: 0,
-    head: [0; 64],
-};
 
 #[test]
 fn each_answer_has_its_words(rt: HostRuntime) -> Result<(), Fail> {
@@ -60,7 +47,7 @@ fn a_message_is_shown_by_its_kind_and_numbers(rt: HostRuntime) -> Result<(), Fai
         };
         assert_eq!(rt;
             show(alloc, &forward)?.items(),
-            b"forward packet 7 to 1".as_slice()
+            b"forward packet 1 to 1".as_slice()
         );
     }
     assert_eq!(rt; pool.home(), 0);

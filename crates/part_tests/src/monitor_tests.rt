@@ -1,23 +1,12 @@
 ghost use Rattle.std.specs.Prelude.{◌≤◌, length};
 
+use crate::common::{PACKET, SITE, reverse};
 use asset_monitor::{Banner, Monitor, SERVICES_PER_HOST, Service};
 use basics::{NoMemory, Text};
-use flow_filter::{Packet, Prefix, Site};
-use nf_function::{BodyFault, Function, Output, Unit};
+use flow_filter::Packet;
+use nf_function::{Function, Output};
 use std::alloc::Global;
 use std::test::Fail;
-
-/// The site 10.0.0.0/24.
-fn site() -> Site {
-    let inside = Prefix {
-        bits: 0x0a00_0000,
-        len: 24,
-    };
-    Site {
-        inside,
-        outside: None,
-    }
-}
 
 /// A packet that 10.0.0.5 sends from this port to 192.0.2.9:40000.
 fn sent(proto: u8, port: u16, flags: u8, payload: &[u8]) -> Packet
@@ -26,28 +15,15 @@ fn sent(proto: u8, port: u16, flags: u8, payload: &[u8]) -> Packet
     let mut head = [0; 64];
     head[..payload.len()].copy_from_slice(payload);
     Packet {
-        number: 1,
-        nanos: 0,
         proto,
         src: 0x0a00_0005,
         sport: port,
-        dst: 0xc000_0209,
         dport: 40_000,
         flags,
         length: payload.len() as u32,
         held: payload.len() as u8,
         head,
-    }
-}
-
-/// The packet in the other direction.
-fn received(there: Packet) -> Packet {
-    Packet {
-        src: there.dst,
-        sport: there.dport,
-        dst: there.src,
-        dport: there.sport,
-        ..there
+        ..PACKET
     }
 }
 
@@ -56,7 +32,7 @@ fn printed(alloc: Global, packets: &[Packet]) -> Result<Text, NoMemory> {
     let mut text = Text::open(alloc);
     let mut kept = None;
     for packet in packets {
-        let output = Monitor::step(alloc, &site(), &mut kept, packet)?;
+        let output = Monitor::step(alloc, &SITE, &mut kept, packet)?;
         Monitor::push_output(&mut text, &output)?;
         text.push_bytes(b"\n")?;
     }
@@ -69,9 +45,9 @@ fn printed(alloc: Global, packets: &[Packet]) -> Result<Text, NoMemory> {
 #[test]
 fn an_ssh_server_is_found_and_its_banner_kept(rt: HostRuntime) -> Result<(), Fail> {
     let packets = [
-        received(sent(6, 22, 2, b"")),
+        reverse(sent(6, 22, 2, b"")),
         sent(6, 22, 18, b""),
-        received(sent(6, 22, 16, b"")),
+        reverse(sent(6, 22, 16, b"")),
         sent(6, 22, 16, b"SSH-2.0-x"),
     ];
     assert_eq!(rt;
@@ -85,7 +61,7 @@ fn an_ssh_server_is_found_and_its_banner_kept(rt: HostRuntime) -> Result<(), Fai
 fn the_first_greeting_of_a_known_service_is_kept(rt: HostRuntime) -> Result<(), Fail> {
     let packets = [
         sent(17, 53, 0, b"220 ready"),
-        received(sent(17, 53, 0, b"220 ready")),
+        reverse(sent(17, 53, 0, b"220 ready")),
         sent(17, 53, 0, b"220"),
         sent(17, 53, 0, b"220 ready"),
         sent(17, 53, 0, b"+OK"),
@@ -106,7 +82,7 @@ fn the_first_greeting_of_a_known_service_is_kept(rt: HostRuntime) -> Result<(), 
 fn the_65th_service_of_a_host_isnt_listed(rt: HostRuntime) -> Result<(), Fail> {
     let mut kept = None;
     for port in 1..=65u16 {
-        let output = Monitor::step(rt.alloc(), &site(), &mut kept, &sent(6, port, 18, b""))?;
+        let output = Monitor::step(rt.alloc(), &SITE, &mut kept, &sent(6, port, 18, b""))?;
         let wanted = if port <= 64 {
             Output {
                 code: 1,

@@ -1,20 +1,12 @@
+use crate::common::PACKET;
 use basics::Boxed;
-use flow_filter::{Packet, TCP, UDP};
+use flow_filter::{Packet, TCP};
 use packet_pool::Pool;
 use std::test::Fail;
 
 const FIRST: Packet = Packet {
     nanos: 1_000_000_000,
-    number: 1,
-    src: 0x0a00_0001,
-    dst: 0xc000_0209,
-    length: 20,
-    sport: 5000,
-    dport: 53,
-    proto: UDP,
-    flags: 0,
-    held: 0,
-    head: [0; 64],
+    ..PACKET
 };
 
 const SECOND: Packet = Packet {

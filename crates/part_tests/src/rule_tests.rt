@@ -1,18 +1,11 @@
+use crate::common::FLOW;
 use event_filter::{Action, Decide, EventRules, Mark};
-use flow_filter::{Filter, Flow};
+use flow_filter::Filter;
 use std::test::Fail;
 
 /// A parcel that can't be copied.
 #[derive(Debug, PartialEq, Eq, Drop)]
 struct Parcel(u32);
-
-const FLOW: Flow = Flow {
-    proto: 17,
-    local: 0x0a00_0001,
-    lport: 5000,
-    remote: 0xc000_0209,
-    rport: 53,
-};
 
 #[test]
 fn the_first_rule_that_matches_a_plain_packet_decides(rt: HostRuntime) -> Result<(), Fail> {

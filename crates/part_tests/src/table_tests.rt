@@ -1,45 +1,25 @@
+use crate::common::{FLOW, PACKET, SITE};
 use basics::NoMemory;
 use conn_tracker::{Conntrack, State, TrackRecord};
-use flow_filter::{Direction, Filter, Flow, Packet, Prefix, Site};
+use flow_filter::{Direction, Filter, Flow, Packet};
 use nf_function::{Chunks, Unit, Units};
 use record_table::{ImportFault, Table};
 use std::alloc::Global;
 use std::test::Fail;
 
-/// The site 10.0.0.0/24.
-const SITE: Site = Site {
-    inside: Prefix {
-        bits: 0x0a00_0000,
-        len: 24,
-    },
-    outside: None,
-};
-
-/// A UDP packet of 20 payload bytes from 10.0.0.h:5000 to 192.0.2.9:53.
+/// The UDP packet of the host 10.0.0.H.
 fn packet(host: u8) -> Packet {
     Packet {
-        number: 1,
-        nanos: 0,
-        proto: 17,
-        src: 0x0a00_0000 + u32::from(host),
-        sport: 5000,
-        dst: 0xc000_0209,
-        dport: 53,
-        flags: 0,
-        length: 20,
-        held: 0,
-        head: [0; 64],
+        src: SITE.inside.bits + u32::from(host),
+        ..PACKET
     }
 }
 
 /// The unit of that packet.
 fn unit(host: u8) -> Unit {
     Unit::Flow(Flow {
-        local: 0x0a00_0000 + u32::from(host),
-        remote: 0xc000_0209,
-        lport: 5000,
-        rport: 53,
-        proto: 17,
+        local: SITE.inside.bits + u32::from(host),
+        ..FLOW
     })
 }
 
@@ -54,15 +34,6 @@ fn record(packets: u64) -> TrackRecord {
     }
 }
 
-/// A filter that matches every flow.
-const ANY: Filter = Filter {
-    proto: None,
-    local: None,
-    lport: None,
-    remote: None,
-    rport: None,
-};
-
 /// A table whose live records are those that packets of these hosts leave.
 fn table(alloc: Global, hosts: &[u8]) -> Result<Table<Conntrack>, NoMemory> {
     let mut table = Table::open(alloc);
@@ -74,7 +45,7 @@ fn table(alloc: Global, hosts: &[u8]) -> Result<Table<Conntrack>, NoMemory> {
 
 /// The chunks of the records that packets of these hosts leave.
 fn chunks(alloc: Global, hosts: &[u8]) -> Result<Chunks, NoMemory> {
-    table(alloc, hosts)?.select(&ANY)
+    table(alloc, hosts)?.select(&Filter::ANY)
 }
 
 /// The live record of a host's unit, or else the one that stands by.
@@ -164,7 +135,7 @@ fn records_that_stand_by_are_apart(rt: HostRuntime) -> Result<(), Fail> {
 fn units_are_selected_in_order_and_removed(rt: HostRuntime) -> Result<(), Fail> {
     let alloc = rt.alloc();
     let mut kept = table(alloc, &[9, 2, 5])?;
-    assert_eq!(rt; kept.select(&ANY)?.items().len(), 3);
+    assert_eq!(rt; kept.select(&Filter::ANY)?.items().len(), 3);
     assert_eq!(rt;
         kept.units(true)?.items(),
         [unit(2), unit(5), unit(9)].as_slice()

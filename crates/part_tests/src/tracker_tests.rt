@@ -1,66 +1,33 @@
-ghost use Rattle.std.specs.Prelude.{◌≡◌, IfSome, Some};
-
+use crate::common::{PACKET, SITE, reverse};
 use conn_tracker::{Conntrack, State, TrackRecord, print_output, print_record, step};
-use flow_filter::{Direction, Packet, Prefix, Site, flow_of};
+use flow_filter::{Direction, Packet, TCP, flow_of};
 use nf_function::{Function, Output};
 use std::test::Fail;
-
-/// The site 10.0.0.0/24.
-fn site() -> Site {
-    let inside = Prefix {
-        bits: 0x0a00_0000,
-        len: 24,
-    };
-    Site {
-        inside,
-        outside: None,
-    }
-}
 
 /// A TCP packet from 10.0.0.1:40000 to 198.51.100.7:80.
 fn outward(flags: u8) -> Packet {
     Packet {
-        number: 1,
-        nanos: 0,
-        proto: 6,
-        src: 0x0a00_0001,
+        proto: TCP,
         sport: 40_000,
         dst: 0xc633_6407,
         dport: 80,
         flags,
-        length: 20,
-        held: 0,
-        head: [0; 64],
+        ..PACKET
     }
 }
 
-/// The packet in the other direction.
-fn inward(there: Packet) -> Packet {
-    Packet {
-        src: there.dst,
-        sport: there.dport,
-        dst: there.src,
-        dport: there.sport,
-        ..there
-    }
-}
-
-/// A UDP packet of 20 bytes from 10.0.0.1:5000 to 192.0.2.9:53, so many seconds after the start.
+/// The UDP packet, so many seconds after the start.
 fn asked(seconds: u32) -> Packet {
     Packet {
         nanos: u64::from(seconds) * 1_000_000_000,
-        proto: 17,
-        sport: 5000,
-        dst: 0xc000_0209,
-        dport: 53,
-        ..outward(0)
+        ..PACKET
     }
 }
 
 #[test]
 fn a_handshake_is_established(rt: HostRuntime) -> Result<(), Fail> {
     let mut kept = None;
-    let asked = step(&site(), &mut kept, &outward(2));
+    let asked = step(&SITE, &mut kept, &outward(2));
     assert_eq!(rt;
         print_output(rt.alloc(), &asked)?.items(),
         b"opening".as_slice()
@@ -72,7 +39,7 @@ fn a_handshake_is_established(rt: HostRuntime) -> Result<(), Fail> {
         state: State::Answered,
         opener: Direction::Out,
     });
-    let confirmed = step(&site(), &mut kept, &outward(16));
+    let confirmed = step(&SITE, &mut kept, &outward(16));
     assert_eq!(rt;
         confirmed,
         Output {
@@ -92,7 +59,7 @@ fn a_handshake_is_established(rt: HostRuntime) -> Result<(), Fail> {
 #[test]
 fn an_answer_shows_the_opener(rt: HostRuntime) -> Result<(), Fail> {
     let mut kept = None;
-    let answered = step(&site(), &mut kept, &inward(outward(18)));
+    let answered = step(&SITE, &mut kept, &reverse(outward(18)));
     assert_eq!(rt;
         print_output(rt.alloc(), &answered)?.items(),
         b"answered".as_slice()
@@ -112,8 +79,8 @@ fn a_flow_begins_anew_after_300_seconds(rt: HostRuntime) -> Result<(), Fail> {
     ];
     for (last, text) in table {
         let mut kept = None;
-        for packet in [asked(1), inward(asked(2)), inward(asked(last))] {
-            Conntrack::step(rt.alloc(), &site(), &mut kept, &packet)?;
+        for packet in [asked(1), reverse(asked(2)), reverse(asked(last))] {
+            Conntrack::step(rt.alloc(), &SITE, &mut kept, &packet)?;
         }
         let record = kept.ok_or("no record")?;
         assert_eq!(rt;
@@ -131,12 +98,12 @@ fn a_record_is_stored_with_its_time(rt: HostRuntime) -> Result<(), Fail> {
     for (seconds, length) in [(0, 18), (1, 26)] {
         let packet = asked(seconds);
         let mut kept = None;
-        Conntrack::step(rt.alloc(), &site(), &mut kept, &packet)?;
+        Conntrack::step(rt.alloc(), &SITE, &mut kept, &packet)?;
         let record = kept.ok_or("no record")?;
         let body = Conntrack::write_record(rt.alloc(), &record)?;
         assert_eq!(rt; body.items(), &timed[..length]);
         assert_eq!(rt; Conntrack::is_timed(&record), seconds == 1);
-        let unit = Conntrack::unit(&flow_of(&site(), &packet).0);
+        let unit = Conntrack::unit(&flow_of(&SITE, &packet).0);
         let again = Conntrack::read_record(rt.alloc(), &unit, body.items())?;
         assert_eq!(rt; again, record);
         assert!(rt; !Conntrack::newer(&record, &again));

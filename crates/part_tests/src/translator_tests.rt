@@ -1,36 +1,27 @@
+use crate::common::PACKET;
 use addr_translator::{Nat, NatRecord};
 use basics::NoMemory;
-use flow_filter::{Packet, Prefix, Site};
+use flow_filter::{Packet, Prefix, Site, TCP};
 use nf_function::{Function, Output};
 use std::alloc::Global;
 use std::test::Fail;
 
-/// The site 10.0.0.0/24 behind 203.0.113.1.
-fn site() -> Site {
-    let inside = Prefix {
+/// The network 10.0.0.0/24 behind 203.0.113.1.
+const TRANSLATED: Site = Site {
+    inside: Prefix {
         bits: 0x0a00_0000,
         len: 24,
-    };
-    Site {
-        inside,
-        outside: Some(0xcb00_7101),
-    }
-}
+    },
+    outside: Some(0xcb00_7101),
+};
 
 /// A packet of UDP from this port of 10.0.0.7 to 198.51.100.7:53.
 fn sent(port: u16) -> Packet {
     Packet {
-        number: 1,
-        nanos: 0,
-        proto: 17,
         src: 0x0a00_0007,
         sport: port,
         dst: 0xc633_6407,
-        dport: 53,
-        flags: 0,
-        length: 20,
-        held: 0,
-        head: [0; 64],
+        ..PACKET
     }
 }
 
@@ -43,16 +34,16 @@ fn answered(
 ) -> Result<(Output, Option<NatRecord>), NoMemory> {
     let mut kept = None;
     for port in 0..ports {
-        Nat::step(alloc, &site(), &mut kept, &sent(port))?;
+        Nat::step(alloc, &TRANSLATED, &mut kept, &sent(port))?;
     }
-    let output = Nat::step(alloc, &site(), &mut kept, last)?;
+    let output = Nat::step(alloc, &TRANSLATED, &mut kept, last)?;
     Ok((output, kept))
 }
 
 #[test]
 fn the_253rd_port_of_a_host_is_refused(rt: HostRuntime) -> Result<(), Fail> {
     let tcp = Packet {
-        proto: 6,
+        proto: TCP,
         ..sent(0)
     };
     let table = [
