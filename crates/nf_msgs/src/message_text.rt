@@ -7,7 +7,7 @@ use basics::{NoMemory, Text};
 use std::alloc::Global;
 
 /// A message's kind, the numbers of its operation and of its packet, and the instance that the switch is to send to. For tests.
-#[tactic(auto, unfolding(crate::specs::Shown::shown))]
+#[tactic(auto, unfolding(crate::specs::MessageParts::shown))]
 pub fn show(alloc: Global, message: &Msg) -> Result<Text, NoMemory>
     ensures { IfOk result (λ text. text ≡ shown message.now) }
 {
