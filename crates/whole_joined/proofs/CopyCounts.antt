@@ -15,13 +15,13 @@ use Rattle.nf_msgs.specs.Nodes.{instance_node}
 use Rattle.nf_msgs.specs.Shown.{op_of}
 use Rattle.copy_share.specs.declared.copy_phase.CopyPhase.{CopyPhase}
 use Rattle.copy_share.specs.declared.copy_phase.CopyPhase.TheVariants as copies
-use Rattle.copy_share.specs.Copy.{CopyPlan, CopyState, CopyRow, asks}
+use Rattle.copy_share.specs.Copy.{CopyPlan, CopyRow}
 use Rattle.copy_share.specs.Copy as copy
 use Rattle.ctrl_node.specs.declared.operation.Operation.{Operation}
 use Rattle.ctrl_node.specs.declared.operation.Operation.TheVariants.{Copy}
 use Rattle.ctrl_node.specs.Operations.{OpenOperations, Turn, turn_of, serving_of, lasts, with_operation}
 use Rattle.ctrl_node.specs.Controller as ctrl
-use Rattle.ctrl_node.specs.Controller.{ControllerState, Step}
+use Rattle.ctrl_node.specs.Controller.{ControllerState}
 use Rattle.unit_machine.proofs.Labels.{Each}
 use Rattle.outline_net.proofs.OperationTables.{got_insert, got_remove}
 use Rattle.whole_joined.proofs.CopyAnswers.{is_uncopied}

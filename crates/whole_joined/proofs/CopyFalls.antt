@@ -14,7 +14,7 @@ use Rattle.nf_msgs.specs.Nodes.{switch_node}
 use Rattle.nf_msgs.specs.Shown.{op_of}
 use Rattle.copy_share.specs.declared.copy_phase.CopyPhase.{CopyPhase}
 use Rattle.copy_share.specs.declared.copy_phase.CopyPhase.TheVariants as copies
-use Rattle.copy_share.specs.Copy.{CopyState, CopyRow, asks}
+use Rattle.copy_share.specs.Copy.{CopyState, CopyRow}
 use Rattle.copy_share.specs.Copy as copy
 use Rattle.ctrl_node.specs.declared.operation.Operation.{Operation}
 use Rattle.ctrl_node.specs.declared.operation.Operation.TheVariants.{Move, Copy, Share}

@@ -38,7 +38,7 @@ use Rattle.copy_share.specs.Share as share
 use Rattle.ctrl_node.specs.declared.operation.Operation.TheVariants.{Move, Copy, Share}
 use Rattle.ctrl_node.specs.Operations.{Turn, turn_of, serving_of, share_of}
 use Rattle.ctrl_node.specs.Controller as ctrl
-use Rattle.ctrl_node.specs.Controller.{ControllerState, Step}
+use Rattle.ctrl_node.specs.Controller.{ControllerState}
 use Rattle.unit_machine.proofs.Labels.{Each, each-append}
 use Rattle.whole_joined.proofs.CopyAnswers.{is_uncopied, AreUncopied}
 
