@@ -6,7 +6,6 @@ use Rattle.std.specs.FinMap as finite
 use Rattle.flow_filter.specs.declared.filter.Filter.{Filter}
 use Rattle.nf_function.specs.Semantics.{Semantics}
 use Rattle.packet_pool.specs.Pool.{FullCell}
-use Rattle.event_filter.specs.declared.mark.Mark.TheVariants.{Pass}
 use Rattle.nf_msgs.specs.declared.answer.Answer.{Answer}
 use Rattle.nf_msgs.specs.declared.answer.Answer.TheVariants.{Done}
 use Rattle.nf_msgs.specs.declared.command.Order.{Order}
@@ -30,13 +29,14 @@ use Rattle.ctrl_node.specs.Controller.{ControllerState, Step, still, place_of, r
 use Rattle.event_store.specs.Store.{stored}
 use Rattle.actor_net.proofs.WeightLaws.{EachSent}
 use Rattle.outline_net.proofs.CopyTurns.{CopyTurn, Idle, Hands, Hands_all, Ends, hands, copy_turn}
-use Rattle.outline_net.proofs.OperationTables.{got_insert, remove_insert, NotShared, handed_is as handed_turn, shared_or_not}
+use Rattle.outline_net.proofs.OperationTables.{got_insert, remove_insert, NotShared}
 use Rattle.whole_joined.proofs.Given.{Given}
 use Rattle.whole_joined.proofs.Joined.{Label}
+use Rattle.answer_net.proofs.ControllerCases.{by_operation, by_queue, by_sender, by_stop}
 use Rattle.answer_net.proofs.BusyOperations.{HasOutcome, IsShareOf, answers_to, IsBusy, Causes, refusal_is}
 use Rattle.answer_net.proofs.BusyChanges.{other_notes, turned as op_turned, set_up as op_set_up, closed as op_closed, dropped, refused, begun as op_begun}
 use Rattle.answer_net.proofs.MoveSays.{Says, says-append, answer_is, move_says}
-use Rattle.answer_net.proofs.ShareTells.{is_set_up, is_of_share, AreOfShare, Tells, ShareStep, handed_share, queued_share, Queues, Queues_none, Queues_at, queues}
+use Rattle.answer_net.proofs.ShareTells.{is_set_up, is_of_share, AreOfShare, Tells, ShareStep, handed_share, queued_share}
 use Rattle.whole_outline.proofs.ShareLeft.{answered, noted}
 use Rattle.net_world.specs.Commands.{is_share}
 
@@ -138,31 +138,22 @@ module _ (g : Given) (log : List Note) (waits : List ℕ) where
             (op_set_up g c.operations log waits h op (Share s) (Share now) there plan did.node.operations l.operations (ap is_share plan.order_is) (not_set_up s tells.1) (set_up_answers now tells.2) tt)
 
     handed_is : (op port : ℕ) (m : Msg) → Says g port 1 m → StepIs (handed c op port m)
-    handed_is op port m label = shared_or_not (finite.get c.operations op)
-        (λ no_share. subst StepIs (sym (handed_turn c op port m no_share)) (turn_is op port m (finite.get c.operations op) refl no_share label))
+    handed_is op port m label = by_operation StepIs c op port m
+        (λ no_share. turn_is op port m (finite.get c.operations op) refl no_share label)
         (λ s is. share_is op s is (handed c op port m) (handed_share c op s is (h.plan op (Share s) is).op_is port m))
 
     diverted_is : (cell : FullCell) → StepIs (on_diverted c cell)
-    diverted_is cell = by_queues (on_diverted c cell) (queues c cell)
-      where
-        by_queues : (did : Step) → Queues c cell did → StepIs did
-        by_queues did (Queues_none e) = subst StepIs (sym e) still_is
-        by_queues did (Queues_at op s is e) = subst StepIs (sym e) (share_is op s is (queued c cell (Some op)) (queued_share c op s is (h.plan op (Share s) is).op_is cell))
+    diverted_is cell = by_queue StepIs c cell still_is (λ op s is. share_is op s is (queued c cell (Some op)) (queued_share c op s is (h.plan op (Share s) is).op_is cell))
 
     numbered_is : (port : ℕ) (m : Msg) (o : Option ℕ) → Says g port 1 m → StepIs (numbered c port m o)
     numbered_is port m None label = still_is
     numbered_is port m (Some op) label = handed_is op port m label
 
     event_is : (port op : ℕ) (cell : FullCell) (i : Option ℕ) → StepIs (on_event c port op cell i)
-    event_is port op cell None = still_is
-    event_is port op cell (Some i) = elim (finite.contains_key c.operations op) as (λ b. StepIs (if b then handed c op port (msg.Event op cell) else record { node = c; sends = (switch_node, msg.Forward i (Pass op) cell) ∷ []; notes = [] })) [
-      | true ↦ handed_is op port (msg.Event op cell) tt
-      | false ↦ record { busy = other_notes g c.operations log waits h [] tt; says = (tt, tt) }
-    ]
+    event_is port op cell i = by_sender StepIs c port op cell i still_is (handed_is op port (msg.Event op cell) tt) (λ k. record { busy = other_notes g c.operations log waits h [] tt; says = (tt, tt) })
 
     final_is : (i : Option ℕ) → StepIs (on_final c i)
-    final_is None = still_is
-    final_is (Some i) = record { busy = other_notes g c.operations log waits h [] tt; says = tt }
+    final_is i = by_stop StepIs c i still_is (λ k. record { busy = other_notes g c.operations log waits h [] tt; says = tt })
 
   -- a command that waits
   module _ (c : ControllerState) (op : ℕ) (what : Order) (names : c.names ≡ g.names) (h : IsBusy g c.operations log (op ∷ waits)) (known : g.orders op ≡ Some what) where

@@ -32,16 +32,17 @@ use Rattle.ctrl_node.specs.Controller as controller
 use Rattle.ctrl_node.specs.Controller.{ControllerState, Step, still, refusal, place_of, begins_between, copies_between, begins_share, begins, decided, on_asked, on_diverted, queued, after_turn, takes_turn, handed, numbered, on_event, on_final, instance_at, may_finish, finish_of, finished, controller_step}
 use Rattle.actor_net.specs.Network.{reaches}
 use Rattle.actor_net.proofs.WeightLaws.{sent_weight}
+use Rattle.answer_net.proofs.ControllerCases.{by_operation, by_queue, by_sender, by_stop}
 use Rattle.answer_net.proofs.AnswerSends.{answering, NoAnswer, none_weighs, row_quiet}
 use Rattle.whole_joined.proofs.ControllerChanges.{NotMove}
 use Rattle.outline_net.proofs.CopyTurns.{CopyTurn, Idle, Hands, Hands_all, Ends, hands, ends}
-use Rattle.whole_joined.proofs.KnownOperations.{AreKnown, by_turn, copy_turns}
-use Rattle.outline_net.proofs.OperationTables.{got_insert, got_remove, gone_twice, NotShared, shared_or_not}
+use Rattle.whole_joined.proofs.KnownOperations.{AreKnown, copy_turns}
+use Rattle.outline_net.proofs.OperationTables.{got_insert, got_remove, gone_twice, NotShared}
 use Rattle.answer_net.proofs.CreditCounts.{sent_weight-append}
 use Rattle.answer_net.proofs.InstallCounts.{passed, row_adds}
 use Rattle.answer_net.proofs.InstallRuns.{not_done}
 use Rattle.answer_net.proofs.InstallSteps.{over_is}
-use Rattle.answer_net.proofs.ShareTells.{is_set_up, is_of_share, AreOfShare, Tells, ShareStep, handed_share, queued_share, Queues, Queues_none, Queues_at, queues}
+use Rattle.answer_net.proofs.ShareTells.{is_set_up, is_of_share, AreOfShare, Tells, ShareStep, handed_share, queued_share}
 use Rattle.whole_outline.proofs.ShareLeft.{answered, noted}
 use Rattle.whole_joined.proofs.Given.{Given, IsPlan, IsCopyPlan}
 use Rattle.whole_joined.proofs.Joined.{Label}
@@ -210,31 +211,22 @@ module _ (g : Given) (n : ℕ) (reach : reaches n 1 0 ≡ true) (c : ControllerS
             Answers op Done (order.Share plan.names s.plan.filter) (notes ∙ ap (λ a. note.Answered op a ∷ []) tells.0) (weighs (l.first ++ (0, msg.Answered op) ∷ []) 1 sends (omega (arith, both, none, one))) plan.order_is (λ other. absurd (other refl))
 
     handed_acts : (op port : ℕ) (m : Msg) → Acts (handed c op port m)
-    handed_acts op port m = shared_or_not (finite.get c.operations op)
-        (λ no_share. by_turn g c are Acts op port m no_share (turn_acts op port m (finite.get c.operations op) refl no_share))
+    handed_acts op port m = by_operation Acts c op port m
+        (λ no_share. turn_acts op port m (finite.get c.operations op) refl no_share)
         (λ s is. share_acts op s is (handed c op port m) (handed_share c op s is (are.shares op s is).0 port m))
 
     diverted_acts : (cell : FullCell) → Acts (on_diverted c cell)
-    diverted_acts cell = by_queues (on_diverted c cell) (queues c cell)
-      where
-        by_queues : (did : Step) → Queues c cell did → Acts did
-        by_queues did (Queues_none e) = subst Acts (sym e) still_acts
-        by_queues did (Queues_at op s is e) = subst Acts (sym e) (share_acts op s is (queued c cell (Some op)) (queued_share c op s is (are.shares op s is).0 cell))
+    diverted_acts cell = by_queue Acts c cell still_acts (λ op s is. share_acts op s is (queued c cell (Some op)) (queued_share c op s is (are.shares op s is).0 cell))
 
     numbered_acts : (port : ℕ) (m : Msg) (o : Option ℕ) → Acts (numbered c port m o)
     numbered_acts port m None = still_acts
     numbered_acts port m (Some op) = handed_acts op port m
 
     event_acts : (port op : ℕ) (cell : FullCell) (i : Option ℕ) → Acts (on_event c port op cell i)
-    event_acts port op cell None = still_acts
-    event_acts port op cell (Some i) = elim (finite.contains_key c.operations op) as (λ b. Acts (if b then handed c op port (msg.Event op cell) else record { node = c; sends = (0, msg.Forward i (mark.Pass op) cell) ∷ []; notes = [] })) [
-      | true ↦ handed_acts op port (msg.Event op cell)
-      | false ↦ quiet_acts c ((0, msg.Forward i (mark.Pass op) cell) ∷ []) refl (refl, tt)
-    ]
+    event_acts port op cell i = by_sender Acts c port op cell i still_acts (handed_acts op port (msg.Event op cell)) (λ k. quiet_acts c ((0, msg.Forward k (mark.Pass op) cell) ∷ []) refl (refl, tt))
 
     final_acts : (i : Option ℕ) → Acts (on_final c i)
-    final_acts None = still_acts
-    final_acts (Some i) = quiet_acts _ [] refl tt
+    final_acts i = by_stop Acts c i still_acts (λ k. quiet_acts _ [] refl tt)
 
     -- a command that waits
     module _ (op : ℕ) (none : finite.get c.operations op ≡ None) where

@@ -39,10 +39,11 @@ use Rattle.ctrl_node.specs.Controller as controller
 use Rattle.ctrl_node.specs.Controller.{ControllerState, Step, still, refusal, place_of, begins_between, copies_between, begins_share, begins, decided, on_asked, on_diverted, queued, takes_turn, handed, numbered, on_event, on_final, instance_at}
 use Rattle.switch_node.specs.Switch as switch
 use Rattle.switch_node.specs.Switch.{SwitchState, switch_step, stops, sends_to_instance, goes_to, target_of, has_room, is_there}
+use Rattle.answer_net.proofs.ControllerCases.{by_operation, by_queue, by_sender, by_stop}
 use Rattle.answer_net.proofs.InstallCounts.{finish}
-use Rattle.answer_net.proofs.ShareTells.{is_set_up, Tells, turn_end, ShareStep, handed_share, queued_share, Queues, Queues_none, Queues_at, queues}
-use Rattle.outline_net.proofs.OperationTables.{NotShared, shared_or_not}
-use Rattle.whole_joined.proofs.KnownOperations.{AreKnown, by_turn}
+use Rattle.answer_net.proofs.ShareTells.{is_set_up, Tells, turn_end, ShareStep, handed_share, queued_share}
+use Rattle.outline_net.proofs.OperationTables.{NotShared}
+use Rattle.whole_joined.proofs.KnownOperations.{AreKnown}
 use Rattle.whole_joined.proofs.Given.{Given}
 use Rattle.whole_joined.proofs.Joined.{Label}
 use Rattle.answer_net.proofs.LinePicks.{picked}
@@ -152,31 +153,22 @@ module _ (g : Given) (c : ControllerState) (are : AreKnown g c) where
       still_set_up was now (Some why) tells on = tells.2
 
   handed_rests : (op port : ℕ) (m : Msg) → Rests (handed c op port m)
-  handed_rests op port m = shared_or_not (finite.get c.operations op)
-      (λ no_share. by_turn g c are Rests op port m no_share (turn_rests op port m (finite.get c.operations op) refl no_share))
+  handed_rests op port m = by_operation Rests c op port m
+      (λ no_share. turn_rests op port m (finite.get c.operations op) refl no_share)
       (λ s is. share_rests op s is (handed c op port m) (handed_share c op s is (are.shares op s is).0 port m))
 
   diverted_rests : (cell : FullCell) → Rests (on_diverted c cell)
-  diverted_rests cell = by_queues (on_diverted c cell) (queues c cell)
-    where
-      by_queues : (did : Step) → Queues c cell did → Rests did
-      by_queues did (Queues_none e) = subst Rests (sym e) rests
-      by_queues did (Queues_at op s is e) = subst Rests (sym e) (share_rests op s is (queued c cell (Some op)) (queued_share c op s is (are.shares op s is).0 cell))
+  diverted_rests cell = by_queue Rests c cell rests (λ op s is. share_rests op s is (queued c cell (Some op)) (queued_share c op s is (are.shares op s is).0 cell))
 
   numbered_rests : (port : ℕ) (m : Msg) (o : Option ℕ) → Rests (numbered c port m o)
   numbered_rests port m None = rests
   numbered_rests port m (Some op) = handed_rests op port m
 
   event_rests : (port op : ℕ) (cell : FullCell) (i : Option ℕ) → Rests (on_event c port op cell i)
-  event_rests port op cell None = rests
-  event_rests port op cell (Some i) = elim (finite.contains_key c.operations op) as (λ b. Rests (if b then handed c op port (msg.Event op cell) else record { node = c; sends = (0, msg.Forward i (mark.Pass op) cell) ∷ []; notes = [] })) [
-    | true ↦ handed_rests op port (msg.Event op cell)
-    | false ↦ record { end_same = refl; settled = λ h. h }
-  ]
+  event_rests port op cell i = by_sender Rests c port op cell i rests (handed_rests op port (msg.Event op cell)) (λ k. record { end_same = refl; settled = λ h. h })
 
   final_rests : (i : Option ℕ) → Rests (on_final c i)
-  final_rests None = rests
-  final_rests (Some i) = record { end_same = refl; settled = λ h. h }
+  final_rests i = by_stop Rests c i rests (λ k. record { end_same = refl; settled = λ h. h })
 
   either_rests : (b : Bool) (did : Step) → Rests did → Rests (if b then did else still c)
   either_rests true did h = h

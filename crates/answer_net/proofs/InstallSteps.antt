@@ -37,12 +37,13 @@ use Rattle.ctrl_node.specs.Controller.{ControllerState, Step, still, refusal, pl
 use Rattle.actor_net.specs.Network.{reaches}
 use Rattle.actor_net.proofs.WeightLaws.{sent_weight}
 use Rattle.net_world.specs.Commands.{answers_of}
-use Rattle.outline_net.proofs.OperationTables.{got_insert, got_remove, gone_twice, NotShared, shared_or_not}
+use Rattle.outline_net.proofs.OperationTables.{got_insert, got_remove, gone_twice, NotShared}
 use Rattle.outline_net.proofs.CopyTurns.{CopyTurn, Idle, Hands, Hands_all, Ends, hands, ends}
-use Rattle.whole_joined.proofs.KnownOperations.{AreKnown, by_turn, copy_turns}
+use Rattle.whole_joined.proofs.KnownOperations.{AreKnown, copy_turns}
+use Rattle.answer_net.proofs.ControllerCases.{by_operation, by_queue, by_sender, by_stop}
 use Rattle.answer_net.proofs.CreditCounts.{sent_weight-append}
 use Rattle.answer_net.proofs.InstallCounts.{sent_of, install, finish, done_in, passed, Adds, NoInstall, no_more, no_one, no_both, row_adds}
-use Rattle.answer_net.proofs.ShareTells.{is_of_share, AreOfShare, ShareStep, handed_share, queued_share, Queues, Queues_none, Queues_at, queues}
+use Rattle.answer_net.proofs.ShareTells.{is_of_share, AreOfShare, ShareStep, handed_share, queued_share}
 use Rattle.whole_outline.proofs.ShareLeft.{answered, noted}
 use Rattle.whole_joined.proofs.Given.{Given, IsPlan, IsCopyPlan}
 use Rattle.whole_joined.proofs.Joined.{Label}
@@ -258,31 +259,22 @@ module _ (n : ℕ) (reach : reaches n 1 0 ≡ true) (g : Given) (k : ℕ) (c : C
         ] refl
 
     handed_is : (op port : ℕ) (m : Msg) → Counts (handed c op port m)
-    handed_is op port m = shared_or_not (finite.get c.operations op)
-        (λ no_share. by_turn g c are Counts op port m no_share (turn_is op port m (finite.get c.operations op) refl no_share))
+    handed_is op port m = by_operation Counts c op port m
+        (λ no_share. turn_is op port m (finite.get c.operations op) refl no_share)
         (λ s is. share_is op s is (handed c op port m) (handed_share c op s is (are.shares op s is).0 port m))
 
     diverted_is : (cell : FullCell) → Counts (on_diverted c cell)
-    diverted_is cell = by_queues (on_diverted c cell) (queues c cell)
-      where
-        by_queues : (did : Step) → Queues c cell did → Counts did
-        by_queues did (Queues_none e) = subst Counts (sym e) still_is
-        by_queues did (Queues_at op s is e) = subst Counts (sym e) (share_is op s is (queued c cell (Some op)) (queued_share c op s is (are.shares op s is).0 cell))
+    diverted_is cell = by_queue Counts c cell still_is (λ op s is. share_is op s is (queued c cell (Some op)) (queued_share c op s is (are.shares op s is).0 cell))
 
     numbered_is : (port : ℕ) (m : Msg) (o : Option ℕ) → Counts (numbered c port m o)
     numbered_is port m None = still_is
     numbered_is port m (Some op) = handed_is op port m
 
     event_is : (port op : ℕ) (cell : FullCell) (i : Option ℕ) → Counts (on_event c port op cell i)
-    event_is port op cell None = still_is
-    event_is port op cell (Some i) = elim (finite.contains_key c.operations op) as (λ b. Counts (if b then handed c op port (msg.Event op cell) else record { node = c; sends = (0, msg.Forward i (mark.Pass op) cell) ∷ []; notes = [] })) [
-      | true ↦ handed_is op port (msg.Event op cell)
-      | false ↦ none_is c ((0, msg.Forward i (mark.Pass op) cell) ∷ []) refl refl (no_one n 1 0 (msg.Forward i (mark.Pass op) cell) (λ y. refl))
-    ]
+    event_is port op cell i = by_sender Counts c port op cell i still_is (handed_is op port (msg.Event op cell)) (λ k. none_is c ((0, msg.Forward k (mark.Pass op) cell) ∷ []) refl refl (no_one n 1 0 (msg.Forward k (mark.Pass op) cell) (λ y. refl)))
 
     final_is : (i : Option ℕ) → Counts (on_final c i)
-    final_is None = still_is
-    final_is (Some i) = none_is _ [] refl refl (λ op. refl)
+    final_is i = by_stop Counts c i still_is (λ k. none_is _ [] refl refl (λ op. refl))
 
     -- a command that waits
     module _ (op : ℕ) (none : finite.get c.operations op ≡ None) where

@@ -9,6 +9,7 @@ pub mod BusyOperations
 pub mod BusyRuns
 pub mod CommandPromises
 pub mod ControllerActs
+pub mod ControllerCases
 pub mod CreditCounts
 pub mod EndRuns
 pub mod EndTables

@@ -1,5 +1,5 @@
 -- In every run the open operations of the controller are the commands that keep others off, and what it knows of a move is what its order says.
-use Rattle.std.proofs.Common.{◌≡◌, ℕ, ◌+◌, Bool, true, false, Some, None, List, length, refl}
+use Rattle.std.proofs.Common.{◌≡◌, ℕ, ◌+◌, true, false, Some, None, List, length, refl}
 use Rattle.std.specs.declared.alloc.Global.{Global}
 use Rattle.std.specs.FinMap as finite
 use Rattle.nf_function.specs.Records.{Laws as FunctionLaws}

@@ -35,9 +35,9 @@ use Rattle.ctrl_node.specs.Controller.{ControllerState, Step, still, refusal, pl
 use Rattle.actor_net.proofs.WeightLaws.{EachSent, sent_weight}
 use Rattle.net_world.specs.Commands.{began}
 use Rattle.net_world.specs.Verdicts.{is_refusal}
-use Rattle.outline_net.proofs.OperationTables.{got_insert, got_remove, gone_twice, NotShared, handed_is as handed_turn, shared_or_not}
+use Rattle.outline_net.proofs.OperationTables.{got_insert, got_remove, gone_twice, NotShared}
+use Rattle.answer_net.proofs.ControllerCases.{by_operation, by_queue, by_sender, by_stop}
 use Rattle.answer_net.proofs.ControllerActs.{other_there}
-use Rattle.answer_net.proofs.ShareTells.{Queues, Queues_none, Queues_at, queues}
 use Rattle.nf_net.proofs.JudgedShares.{handed_shared, queued_shared}
 use Rattle.nf_net.proofs.JudgedTables as tables
 use Rattle.nf_net.proofs.JudgedTables.{used, By_verdict}
@@ -193,31 +193,22 @@ module _ (Part : ℕ → Piece → Type 0) (Verdict : ℕ → Answer → Type 0)
       turn_is op port m (Some (Move mv)) is no_share own label = turn_by op port m mv is own label (answer_of (row_in mv c.store port m).next.phase) refl
 
       handed_is : (op port : ℕ) (m : Msg) → op_of m ≡ Some op → Said Part Verdict Goes port 1 m → StepIs (handed c op port m)
-      handed_is op port m own label = shared_or_not (finite.get c.operations op)
-          (λ no_share. subst StepIs (sym (handed_turn c op port m no_share)) (turn_is op port m (finite.get c.operations op) refl no_share own label))
+      handed_is op port m own label = by_operation StepIs c op port m
+          (λ no_share. turn_is op port m (finite.get c.operations op) refl no_share own label)
           (λ s is. (let it = shares op s is in handed_shared Part Verdict Goes Still log n c knows op s is it.1 (busy op (Share s) is) it.0 port m))
 
       diverted_is : (cell : FullCell) → StepIs (on_diverted c cell)
-      diverted_is cell = by_queues (on_diverted c cell) (queues c cell)
-        where
-          by_queues : (did : Step) → Queues c cell did → StepIs did
-          by_queues did (Queues_none e) = subst StepIs (sym e) still_is
-          by_queues did (Queues_at op s is e) = let it = shares op s is in subst StepIs (sym e) (queued_shared Part Verdict Goes Still log n c knows op s is it.1 (busy op (Share s) is) it.0 cell)
+      diverted_is cell = by_queue StepIs c cell still_is (λ op s is. let it = shares op s is in queued_shared Part Verdict Goes Still log n c knows op s is it.1 (busy op (Share s) is) it.0 cell)
 
       numbered_is : (port : ℕ) (m : Msg) (o : Option ℕ) → op_of m ≡ o → Said Part Verdict Goes port 1 m → StepIs (numbered c port m o)
       numbered_is port m None own label = still_is
       numbered_is port m (Some op) own label = handed_is op port m own label
 
       event_is : (port op : ℕ) (cell : FullCell) (i : Option ℕ) → StepIs (on_event c port op cell i)
-      event_is port op cell None = still_is
-      event_is port op cell (Some i) = elim (finite.contains_key c.operations op) as (λ b. StepIs (if b then handed c op port (msg.Event op cell) else record { node = c; sends = (0, msg.Forward i (Pass op) cell) ∷ []; notes = [] })) [
-        | true ↦ handed_is op port (msg.Event op cell) refl tt
-        | false ↦ quiet_is c ((0, msg.Forward i (Pass op) cell) ∷ []) refl (tt, tt) (λ first. no_one n 1 first 0 (msg.Forward i (Pass op) cell) (λ y. refl))
-      ]
+      event_is port op cell i = by_sender StepIs c port op cell i still_is (handed_is op port (msg.Event op cell) refl tt) (λ k. quiet_is c ((0, msg.Forward k (Pass op) cell) ∷ []) refl (tt, tt) (λ first. no_one n 1 first 0 (msg.Forward k (Pass op) cell) (λ y. refl)))
 
       final_is : (i : Option ℕ) → StepIs (on_final c i)
-      final_is None = still_is
-      final_is (Some i) = quiet_is _ [] refl tt (λ first op. refl)
+      final_is i = by_stop StepIs c i still_is (λ k. quiet_is _ [] refl tt (λ first op. refl))
 
       -- a command that waits, of which nothing is noted
       module _ (op : ℕ) (new : began op log ≡ false) (none : finite.get c.operations op ≡ None) where

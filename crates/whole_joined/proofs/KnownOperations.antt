@@ -1,5 +1,5 @@
 -- What is known of the open operations of a controller of a run: moves, copies and shares are those of their orders.
-use Rattle.std.proofs.Common.{◌≡◌, ℕ, Some, None, List, sym, subst}
+use Rattle.std.proofs.Common.{◌≡◌, ℕ, Some, None, List, subst}
 use Rattle.std.specs.FinMap as finite
 use Rattle.nf_function.specs.Semantics.{Semantics}
 use Rattle.nf_msgs.specs.declared.msg.Msg.{Msg}
@@ -9,12 +9,11 @@ use Rattle.copy_share.specs.Copy as copy
 use Rattle.copy_share.specs.Share.{ShareState}
 use Rattle.ctrl_node.specs.declared.operation.Operation.TheVariants.{Move, Copy, Share}
 use Rattle.ctrl_node.specs.Operations.{turn_of}
-use Rattle.ctrl_node.specs.Controller.{ControllerState, Step, takes_turn, handed}
+use Rattle.ctrl_node.specs.Controller.{ControllerState, takes_turn}
 use Rattle.abstract_net.proofs.Net.{Open}
 use Rattle.abstract_net.proofs.Shares.{Open_share}
 use Rattle.outline_net.proofs.MoveOutline.{IsRefusing}
 use Rattle.outline_net.proofs.CopyTurns.{CopyTurn, copy_turn}
-use Rattle.outline_net.proofs.OperationTables.{NotShared, handed_is}
 use Rattle.whole_joined.proofs.Given.{Given, IsPlan, IsCopyPlan, IsSharePlan}
 use Rattle.whole_joined.proofs.Joined.{IsController}
 
@@ -31,10 +30,6 @@ known f g c ops shares next is = record {
 }
 
 module _ (g : Given) (c : ControllerState) (are : AreKnown g c) where
-  -- behind a turn of anything but a share nothing is served
-  pub by_turn : (P : Step → Type 0) (op port : ℕ) (m : Msg) → NotShared (finite.get c.operations op) → P (takes_turn c op (turn_of (finite.get c.operations op) c.store port m)) → P (handed c op port m)
-  by_turn P op port m none h = subst P (sym (handed_is c op port m none)) h
-
   -- what a message does to an open copy
   pub copy_turns : (op : ℕ) (y : CopyState) → finite.get c.operations op ≡ Some (Copy y) → (port : ℕ) (m : Msg) → CopyTurn (record { controller = c; op = op; copy = y }) m (takes_turn c op (turn_of (Some (Copy y)) c.store port m))
   copy_turns op y there port m = copy_turn c op y (are.copies op y there).0 there port m
