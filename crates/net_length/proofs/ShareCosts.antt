@@ -13,7 +13,7 @@ use Rattle.copy_share.specs.declared.share_phase.SharePhase.{SharePhase}
 use Rattle.copy_share.specs.declared.share_phase.SharePhase.TheVariants as shares
 use Rattle.copy_share.specs.Copy.{CopyPlan, CopyRow}
 use Rattle.copy_share.specs.Copy as copy
-use Rattle.copy_share.specs.Share.{SharePlan, ShareRow, Served, home, others, syncs, setting, syncing, on_fenced, on_chunks, on_shared, on_synced, served, serves}
+use Rattle.copy_share.specs.Share.{SharePlan, ShareRow, home, others, syncs, syncing, on_fenced, on_chunks, on_shared, on_synced, served}
 use Rattle.copy_share.specs.Share as share
 use Rattle.net_length.proofs.Weights.{one_if, of_copy, of_share, kept, weight, some, cost}
 
