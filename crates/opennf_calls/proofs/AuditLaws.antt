@@ -1,5 +1,5 @@
 -- An audit of the journal that a run wrote, with the same words and inputs, tells a complete run and reports the same.
-use Rattle.std.proofs.Common.{◌≡◌, ℕ, zero, suc, Bool, true, false, List, [], ◌∷◌, Option, None, Some, Result, Ok, length, take, inl, inr, refl, ap, sym, ◌∙◌, subst}
+use Rattle.std.proofs.Common.{◌≡◌, ℕ, zero, suc, Bool, true, false, List, [], ◌∷◌, Option, None, Some, Ok, length, take, inl, inr, ap, sym, ◌∙◌, subst}
 use Rattle.std.specs.Prelude.{slice_get}
 use Rattle.std.specs.declared.alloc.Global.{Global}
 use Rattle.flow_filter.specs.declared.filter.Filter.{Filter}
@@ -14,8 +14,7 @@ use Rattle.addr_translator.specs.declared.nat.Nat.{Nat}
 use Rattle.addr_translator.specs.Nat.{nat}
 use Rattle.asset_monitor.specs.declared.monitor.Monitor.{Monitor}
 use Rattle.asset_monitor.specs.Monitor.{monitor}
-use Rattle.nf_io.specs.declared.outside.Role.{Role}
-use Rattle.nf_io.specs.declared.outside.Role.TheVariants.{Trace, Script, JournalIn, Report, JournalOut}
+use Rattle.nf_io.specs.declared.outside.Role.TheVariants.{Trace, Report, JournalOut}
 use Rattle.nf_msgs.specs.declared.msg.Msg.{Msg}
 use Rattle.nf_msgs.specs.declared.note.Note.{Note}
 use Rattle.trace_reader.specs.Records.{capture_of}
@@ -24,17 +23,15 @@ use Rattle.op_script.specs.Items.{items}
 use Rattle.actor_net.specs.declared.choice.Choice.{Choice}
 use Rattle.actor_net.specs.declared.schedule.Schedule.{Schedule}
 use Rattle.actor_net.specs.Network.{Network, Stepped, IsRun, is_done, is_enabled, run, taken}
-use Rattle.journal_file.specs.declared.fault.JournalFault.{JournalFault}
 use Rattle.journal_file.specs.Reading.{journal_of}
 use Rattle.net_world.specs.declared.node.Node.{Node}
 use Rattle.net_world.specs.Nodes.{node_ended, node_ready, node_step}
 use Rattle.net_world.specs.Start.{started}
 use Rattle.run_report.specs.Lines.{report_text}
-use Rattle.command_words.specs.Requests.{NetworkAsked, asks_audit}
-use Rattle.opennf_calls.specs.declared.status.Status.{Status}
-use Rattle.opennf_calls.specs.Again.{AreAgain, AuditLaw, AuditsAgain}
+use Rattle.command_words.specs.Requests.{NetworkAsked}
+use Rattle.opennf_calls.specs.Again.{AuditLaw}
 use Rattle.opennf_calls.specs.NetworkRuns.{Scenario, RunResults, IsNoRun, IsRunOf, OfKind, config_for, given_script, head_for, job_for, run_given, start_for}
-use Rattle.opennf_calls.specs.Outcome.{FailsAt, IsAudited, IsScenario, first_refusal, journal_read, journal_refusal, refusal_of, script_refusal, trace_refusal}
+use Rattle.opennf_calls.specs.Outcome.{first_refusal, journal_read, journal_refusal, script_refusal, trace_refusal}
 use Rattle.opennf_calls.proofs.SameInputs.{AreSame, same_scenario}
 
 -- each choice of a run is enabled in its turn

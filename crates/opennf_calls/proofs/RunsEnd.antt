@@ -1,5 +1,5 @@
 -- A run of an input that ends once has few choices, and as long as something is left to do some choice is enabled. So a schedule comes to the end.
-use Rattle.std.proofs.Common.{◌≡◌, ℕ, ◌≤◌, true, List, length, sym, subst, arith}
+use Rattle.std.proofs.Common.{◌≡◌, ℕ, ◌≤◌, true, List, sym, subst, arith}
 use Rattle.std.specs.declared.alloc.Global.{Global}
 use Rattle.std.proofs.lemmas.Bool.Decides.{Decides-eqb}
 use Rattle.nf_function.specs.Records.{Laws as FunctionLaws}

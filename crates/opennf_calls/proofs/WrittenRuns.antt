@@ -1,5 +1,5 @@
 -- The row of a command that runs the network, from what it gives and what was written.
-use Rattle.std.proofs.Common.{◌≡◌, ℕ, List, [], None, is_some, false, length, refl, ap, sym, ◌∙◌, subst, IsTrue, ◌⊎◌, inl, inr}
+use Rattle.std.proofs.Common.{◌≡◌, ℕ, List, [], None, is_some, false, refl, ap, sym, ◌∙◌, subst, IsTrue, ◌⊎◌, inl, inr}
 use Rattle.nf_io.specs.declared.outside.Role.{Role}
 use Rattle.nf_io.specs.declared.outside.Role.TheVariants.{Trace, Script, JournalIn, Report, JournalOut, TraceOut, Errors}
 use Rattle.nf_io.specs.Meaning.{Meaning}

@@ -1,5 +1,5 @@
 -- What the command did is known from the capture that it wrote and the line after it.
-use Rattle.std.proofs.Common.{rules, ◌≡◌, ℕ, List, [], subst}
+use Rattle.std.proofs.Common.{rules, ◌≡◌, ℕ, List, subst}
 use Rattle.nf_io.specs.declared.outside.Role.TheVariants.{TraceOut, Report}
 use Rattle.trace_reader.specs.Generated.{capture}
 use Rattle.command_words.specs.Requests.{asks_gen}

@@ -1,5 +1,4 @@
 -- What is made is what the command gives for its inputs, or the status has its row.
-use Rattle.std.proofs.Common.{Ok, Err}
 use Rattle.std.proofs.lemmas.Result.{err_from_is_err_and}
 use Rattle.command_words.specs.Requests.{asks_sim}
 use Rattle.command_words.specs.RequestViews.{network_view}
