@@ -120,8 +120,8 @@ module _ {R : Type 0} (S : Sys R) (A : Sharing S) where
   -- told first, so that what isn't named computes in every phase
   abbrev pub s_row : Open_share → ℕ → Told R → share.Phase → List ℕ → Share_did R
   s_row e sender Is_fenced share.Fencing q = if sender == e.home then s_goes share.Getting q ((e.home, New (S_get e.num e.filter)) ∷ []) else s_goes share.Fencing q []
-  s_row e sender (Has_chunks cs) share.Getting q = if sender == e.home then s_left share.Setting (length (share.without e.members e.home)) q (syncs e.num e.home e.home cs e.members) else s_goes share.Getting q []
-  s_row e sender (Has_chunk c) (share.Out m) q = if sender == m then s_left share.Syncing (length (share.without e.members m)) q (syncs e.num e.home m (c ∷ []) e.members) else s_goes (share.Out m) q []
+  s_row e sender (Has_chunks cs) share.Getting q = if sender == e.home then s_left share.Setting (length (share.without_number e.members e.home)) q (syncs e.num e.home e.home cs e.members) else s_goes share.Getting q []
+  s_row e sender (Has_chunk c) (share.Out m) q = if sender == m then s_left share.Syncing (length (share.without_number e.members m)) q (syncs e.num e.home m (c ∷ []) e.members) else s_goes (share.Out m) q []
   s_row e sender Is_synced (share.Setting left) q = s_left share.Setting (left - 1) q []
   s_row e sender Is_synced (share.Syncing left) q = s_left share.Syncing (left - 1) q []
   s_row e sender (Has_packet p) ph q = s_goes ph (q ++ p ∷ []) []

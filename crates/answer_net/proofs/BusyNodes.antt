@@ -183,7 +183,7 @@ module _ {F R : Type 0} (f : Semantics R) (g : Given) (k : ℕ) where
 
   fence_says : (i : InstanceState F R) (op : ℕ) → InstanceSays (on_fence f i op)
   unfolding on_fence
-  fence_says i op = then_says (all_processed f (record i { rules = rules.without i.rules op }) (rules.held_at i.rules op)) (λ j. tells j (msg.Fenced op)) (all_says (record i { rules = rules.without i.rules op }) (rules.held_at i.rules op)) (record { notes_are = tt; says = (tt, tt) })
+  fence_says i op = then_says (all_processed f (record i { rules = rules.without_rule i.rules op }) (rules.held_at i.rules op)) (λ j. tells j (msg.Fenced op)) (all_says (record i { rules = rules.without_rule i.rules op }) (rules.held_at i.rules op)) (record { notes_are = tt; says = (tt, tt) })
 
   get_says : (i : InstanceState F R) (op : ℕ) (filter : Filter) → InstanceSays (on_get f i op filter)
   unfolding on_get

@@ -125,8 +125,8 @@ module _ {F R : Type 0} (f : Semantics R) (n k : ℕ) (reach : reaches n k 0 ≡
   fence_is : (i : Instance F R) (op : ℕ) → IsEven (on_fence f i op)
   unfolding on_fence
   fence_is i op =
-      let all = all_processed f (record i { rules = rules.without i.rules op }) (rules.held_at i.rules op) in
-      both_are all (λ j. tells j (msg.Fenced op)) (all_processed_are (record i { rules = rules.without i.rules op }) (rules.held_at i.rules op)) (tells_is all.node (msg.Fenced op) refl)
+      let all = all_processed f (record i { rules = rules.without_rule i.rules op }) (rules.held_at i.rules op) in
+      both_are all (λ j. tells j (msg.Fenced op)) (all_processed_are (record i { rules = rules.without_rule i.rules op }) (rules.held_at i.rules op)) (tells_is all.node (msg.Fenced op) refl)
 
   good_is : (i : Instance F R) (chunks : List Chunk) (step : Step F R) → IsEven step → IsEven (where_good f i chunks step)
   good_is i chunks step h = elim (are_good f chunks) as (λ b. IsEven (if b then step else still i)) [ true ↦ h | false ↦ still_is i ]

@@ -123,7 +123,7 @@ module _ {F R : Type 0} where
   -- the old path is empty: what is held for the operation is processed
   unfoldable pub on_fence : Semantics R → Instance F R → ℕ → Step F R
   on_fence f i op =
-      and_then (all_processed f (record i { rules = rules.without i.rules op }) (held_at i.rules op)) (λ j. tells j (Fenced op))
+      and_then (all_processed f (record i { rules = rules.without_rule i.rules op }) (held_at i.rules op)) (λ j. tells j (Fenced op))
 
   abbrev pub on_stop : Instance F R → Step F R
   on_stop i = tells (record i { ended = true }) Final

@@ -135,7 +135,7 @@ module _ {F R : Type 0} (f : Semantics R) where
   fence_leaves : (i : Instance F R) (op : ℕ) → Has i → StepLeaves i.ended (on_fence f i op)
   unfolding on_fence
   fence_leaves i op h =
-      let before : Instance F R = record i { rules = rules.without i.rules op } in
+      let before : Instance F R = record i { rules = rules.without_rule i.rules op } in
       let all = all_processed f before (rules.held_at i.rules op) in
       let first = all_leave before (rules.held_at i.rules op) h in
       then_leaves i.ended all (λ j. tells j (msg.Fenced op)) first (tells_leaves all.node (msg.Fenced op) first.tally tt)

@@ -71,7 +71,7 @@ module _ {F R : Type 0} (f : Semantics R) (laws : FunctionLaws f) (g : Given) (f
   fence_goes : (x : Instance F R) (op : ℕ) → Goes (token Fences op (node i)) n (node i) (on_fence f x op).sends
   unfolding on_fence
   fence_goes x op = record {
-    before = (all_processed f (record x { rules = rules.without x.rules op }) (rules.held_at x.rules op)).sends;
+    before = (all_processed f (record x { rules = rules.without_rule x.rules op }) (rules.held_at x.rules op)).sends;
     to = 1;
     message = msg.Fenced op;
     after = [];

@@ -78,16 +78,16 @@ module _ (op : ℕ) where
       ] refl
 
   -- what is taken away was held
-  without_less : (rs : List (Rule FullCell)) → of_rules (rules.without rs op) ≤ of_rules rs
+  without_less : (rs : List (Rule FullCell)) → of_rules (rules.without_rule rs op) ≤ of_rules rs
   without_less [] = omega arith
   without_less (r ∷ rs) =
       let rest = without_less rs in
-      elim (r.op == op) as (λ b. of_rules (if not b then r ∷ rules.without rs op else rules.without rs op) ≤ length r.held + of_rules rs) [ true ↦ omega (arith, rest) | false ↦ omega (arith, rest) ]
+      elim (r.op == op) as (λ b. of_rules (if not b then r ∷ rules.without_rule rs op else rules.without_rule rs op) ≤ length r.held + of_rules rs) [ true ↦ omega (arith, rest) | false ↦ omega (arith, rest) ]
 
-  without_weighs : (rs : List (Rule FullCell)) → of_rules (rules.without rs op) + length (rules.held_at rs op) ≤ of_rules rs
+  without_weighs : (rs : List (Rule FullCell)) → of_rules (rules.without_rule rs op) + length (rules.held_at rs op) ≤ of_rules rs
   without_weighs [] = omega arith
   without_weighs (r ∷ rs) =
-      elim (r.op == op) as (λ b. of_rules (if not b then r ∷ rules.without rs op else rules.without rs op) + length (option_map_or (λ (x : Rule FullCell). x.held) (if b then Some r else rules.rule_at rs op) []) ≤ length r.held + of_rules rs) [
+      elim (r.op == op) as (λ b. of_rules (if not b then r ∷ rules.without_rule rs op else rules.without_rule rs op) + length (option_map_or (λ (x : Rule FullCell). x.held) (if b then Some r else rules.rule_at rs op) []) ≤ length r.held + of_rules rs) [
         | true ↦ let rest = without_less rs in omega (arith, rest)
         | false ↦ let rest = without_weighs rs in omega (arith, rest)
       ]
@@ -178,7 +178,7 @@ module _ {F R : Type 0} (f : Semantics R) (o : ℕ) where
   fence_falls : (i : Instance F R) (op : ℕ) → Falls i (msg.Fence op) (on_fence f i op)
   unfolding on_fence
   fence_falls i op =
-      let from : Instance F R = record i { rules = rules.without i.rules op } in
+      let from : Instance F R = record i { rules = rules.without_rule i.rules op } in
       let all = all_processed f from (rules.held_at i.rules op) in
       let costs = all_costs from (rules.held_at i.rules op) in
       let holds = all_hold from (rules.held_at i.rules op) in

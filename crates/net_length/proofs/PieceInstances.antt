@@ -125,7 +125,7 @@ module _ (a k : ℕ) {F R : Type 0} (f : Semantics R) where
   fence_none : (i : Instance F R) (op : ℕ) → Uses_none (on_fence f i op)
   unfolding on_fence
   fence_none i op =
-      let from : Instance F R = record i { rules = rules.without i.rules op } in
+      let from : Instance F R = record i { rules = rules.without_rule i.rules op } in
       let all = all_processed f from (rules.held_at i.rules op) in
       let first = all_none from (rules.held_at i.rules op) in
       let sends = spent-append a k all.sends (told (msg.Fenced op ∷ [])) in

@@ -72,7 +72,7 @@ module _ {F R : Type 0} (f : Semantics R) (c : Config) (items : List Msg) where
   pub fence_answered : (i : Instance F R) (op : ℕ) → i.site ≡ c.site → Each (GenuineCell c items) (rules.held_at i.rules op) → Answered f c items (live_of i) (done (on_fence f i op).notes)
   unfolding on_fence
   fence_answered i op at h =
-      let without = record i { rules = rules.without i.rules op } in
+      let without = record i { rules = rules.without_rule i.rules op } in
       let all = all_processed f without (rules.held_at i.rules op) in
       subst (λ ns. Answered f c items (live_of i) (done ns)) (sym (append-nil all.notes)) (all_answered without (rules.held_at i.rules op) at h)
 

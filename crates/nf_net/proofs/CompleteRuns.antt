@@ -101,7 +101,7 @@ module _ {R : Type 0} (f : Semantics R) (c : Config) (items : List Msg) (is : Is
       -- what was processed of the unit is all that came, and its record is at an instance
       record Ended : Type 0 where
         flag : Bool
-        order : stages.Order flag (went f c items u w.log) (came f c items u w.log)
+        order : stages.IsOrderedAs flag (went f c items u w.log) (came f c items u w.log)
         flag_is : flag ≡ true → is_loose c items u w.log ≡ true
         place : (r : R) → fold f c items None (went f c items u w.log) ≡ Some r → (i : ℕ) × (live_at w i u ≡ Some r)
 

@@ -99,7 +99,7 @@ module _ (Part : ℕ → Piece → Type 0) (Verdict : ℕ → Answer → Type 0)
     fence_does : (i : Instance F R) (op : ℕ) → Quiet i (on_fence f i op)
     unfolding on_fence
     fence_does i op =
-        let j : Instance F R = record i { rules = rules.without i.rules op } in
+        let j : Instance F R = record i { rules = rules.without_rule i.rules op } in
         let all = all_does j (rules.held_at i.rules op) in
         then_does i (all_processed f j (rules.held_at i.rules op)) (λ x. tells x (msg.Fenced op)) (record { limit = all.limit; marked = all.marked; says = all.says; given = all.given }) (record { limit = refl; marked = refl; says = (tt, tt); given = λ q. refl })
 

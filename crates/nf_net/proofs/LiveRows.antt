@@ -214,7 +214,7 @@ module _ {R : Type 0} (f : Semantics R) (laws : FunctionLaws f) (c : Config) (it
       pub fence_lives : (op : ℕ) → Each (Genuine f g) (rules.held_at i.rules op) → Free (on_fence f i op) → Lives (msg.Fence op) (on_fence f i op)
       unfolding on_fence
       fence_lives op genuine free =
-          let before = record i { rules = rules.without i.rules op } in
+          let before = record i { rules = rules.without_rule i.rules op } in
           let cells = rules.held_at i.rules op in
           let all = all_processed f before cells in
           let new = all_live before cells at genuine in

@@ -32,10 +32,10 @@ use Rattle.outline_net.proofs.FiltersApart.{is_whole, flow_fits, takes_whole, wh
 use Rattle.outline_net.proofs.Outline.{number, rule_of, outline_rule, outline_sent, outline_sends, ran_in, sys, outline_instance}
 
 -- lists of rules
-without_same : (op : ℕ) (rs : List (EventRule FullCell)) → map outline_rule (rules.without rs op) ≡ drop_rule op (map outline_rule rs)
+without_same : (op : ℕ) (rs : List (EventRule FullCell)) → map outline_rule (rules.without_rule rs op) ≡ drop_rule op (map outline_rule rs)
 without_same op [] = refl
 without_same op (r ∷ rs) =
-    elim (r.op == op) as (λ b. map outline_rule (if not b then r ∷ rules.without rs op else rules.without rs op) ≡ (if b then drop_rule op (map outline_rule rs) else outline_rule r ∷ drop_rule op (map outline_rule rs))) [
+    elim (r.op == op) as (λ b. map outline_rule (if not b then r ∷ rules.without_rule rs op else rules.without_rule rs op) ≡ (if b then drop_rule op (map outline_rule rs) else outline_rule r ∷ drop_rule op (map outline_rule rs))) [
       | true ↦ without_same op rs
       | false ↦ ap (λ xs. outline_rule r ∷ xs) (without_same op rs)
     ]
@@ -192,7 +192,7 @@ module _ {F R : Type 0} (f : Semantics R) (site : Site) (packet : ℕ → Packet
   pub fence_follows : (i : Instance F R) (op : ℕ) → IsInstance i → Follows f site packet place (on_fence f i op) (inst_step (sys f site packet) (outline_instance f site packet i) (net.Fence_on op))
   unfolding on_fence
   fence_follows i op ok =
-      let without = record i { rules = rules.without i.rules op } in
+      let without = record i { rules = rules.without_rule i.rules op } in
       let cells = rules.held_at i.rules op in
       let all = all_run f site packet place without cells ok.at (held_genuine site packet op i.rules ok.held) in
       record {

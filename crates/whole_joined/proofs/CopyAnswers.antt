@@ -81,7 +81,7 @@ module _ {F R : Type 0} (f : Semantics R) where
 
   fence_sent : (i : Instance F R) (op : ℕ) → AreUncopied (on_fence f i op).sends
   unfolding on_fence
-  fence_sent i op = uncopied-append (all_processed f (record i { rules = rules.without i.rules op }) (rules.held_at i.rules op)).sends _ (all_sent (record i { rules = rules.without i.rules op }) (rules.held_at i.rules op)) (refl, tt)
+  fence_sent i op = uncopied-append (all_processed f (record i { rules = rules.without_rule i.rules op }) (rules.held_at i.rules op)).sends _ (all_sent (record i { rules = rules.without_rule i.rules op }) (rules.held_at i.rules op)) (refl, tt)
 
   stream_sent : (i : Instance F R) (op : ℕ) (filter : Filter) → AreUncopied (on_stream f i op filter).sends
   unfolding on_stream

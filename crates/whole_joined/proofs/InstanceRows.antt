@@ -46,9 +46,9 @@ module _ (P : EventRule FullCell → Type 0) where
   rules_changed op change keeps [] h = tt
   rules_changed op change keeps (r ∷ rs) h = (elim (r.op == op) as (λ b. P (if b then change r else r)) [ true ↦ keeps r h.0 | false ↦ h.0 ], rules_changed op change keeps rs h.1)
 
-  rules_without : (op : ℕ) (rs : List (EventRule FullCell)) → Each P rs → Each P (rules.without rs op)
+  rules_without : (op : ℕ) (rs : List (EventRule FullCell)) → Each P rs → Each P (rules.without_rule rs op)
   rules_without op [] h = tt
-  rules_without op (r ∷ rs) h = elim (r.op == op) as (λ b. Each P (if not b then r ∷ rules.without rs op else rules.without rs op)) [ true ↦ rules_without op rs h.1 | false ↦ (h.0, rules_without op rs h.1) ]
+  rules_without op (r ∷ rs) h = elim (r.op == op) as (λ b. Each P (if not b then r ∷ rules.without_rule rs op else rules.without_rule rs op)) [ true ↦ rules_without op rs h.1 | false ↦ (h.0, rules_without op rs h.1) ]
 
   rules_set : (op : ℕ) (filter : Filter) (act : Action) (rs : List (EventRule FullCell)) → ((r : EventRule FullCell) → P r → P (rules.ruled_by filter act r)) → P (record { op = op; filter = filter; action = act; held = [] }) → Each P rs → Each P (rules.with_rule rs op filter act)
   rules_set op filter act rs keeps new h =
@@ -194,17 +194,17 @@ module _ {F R : Type 0} (f : Semantics R) (laws : FunctionLaws f) (g : Given) (f
   pub fence_leaves : (i : Instance F R) (op : ℕ) → Right i → Leaves f g k (on_fence f i op)
   unfolding on_fence
   fence_leaves i op h =
-      let without = with_rules i (rules.without i.rules op) h
+      let without = with_rules i (rules.without_rule i.rules op) h
       (rules_without (λ x. is_whole f.kind x.filter ≡ true) op i.rules h.rules.whole)
       (rules_without (λ x. Each (Genuine f g) x.held) op i.rules h.rules.held)
       (rules_without (λ x. is_free (rule_of x.action) ≡ false) op i.rules h.held)
       (one_each-without i.rules op h.rules.one_each) in
       let cells = rules.held_at i.rules op in
-      let all = all_right (record i { rules = rules.without i.rules op }) cells without (held_genuine g.site g.packet op i.rules h.rules.held) in
+      let all = all_right (record i { rules = rules.without_rule i.rules op }) cells without (held_genuine g.site g.packet op i.rules h.rules.held) in
       record {
         node = all.node;
-        notes = each-append (IsOwn k) (all_processed f (record i { rules = rules.without i.rules op }) cells).notes [] all.notes tt;
-        sends = sent-append (Label f g) k (all_processed f (record i { rules = rules.without i.rules op }) cells).sends _ all.sends ((two, refl), tt);
+        notes = each-append (IsOwn k) (all_processed f (record i { rules = rules.without_rule i.rules op }) cells).notes [] all.notes tt;
+        sends = sent-append (Label f g) k (all_processed f (record i { rules = rules.without_rule i.rules op }) cells).sends _ all.sends ((two, refl), tt);
       }
 
   pub stop_leaves : (i : Instance F R) → Right i → Leaves f g k (on_stop i)

@@ -101,7 +101,7 @@ module _ {F R : Type 0} (f : Semantics R) where
   fence_quiet : (i : Instance F R) (op : ℕ) → Quiet i (on_fence f i op)
   unfolding on_fence
   fence_quiet i op =
-      let j : Instance F R = record i { rules = rules.without i.rules op } in
+      let j : Instance F R = record i { rules = rules.without_rule i.rules op } in
       each-append (IsQuiet i.index) (all_processed f j (rules.held_at i.rules op)).notes [] (all_quiet i.index j (rules.held_at i.rules op) refl) tt
 
   get_quiet : (i : Instance F R) (op : ℕ) (filter : Filter) → Quiet i (on_get f i op filter)

@@ -99,7 +99,7 @@ module _ {F R : Type 0} (f : Semantics R) (place : List ℕ → Option ℕ) wher
   fence_unshared : (i : Instance F R) (op : ℕ) → SharesNothing i (on_fence f i op)
   unfolding on_fence
   fence_unshared i op =
-      let without = record i { rules = rules.without i.rules op } in
+      let without = record i { rules = rules.without_rule i.rules op } in
       let all = all_unshared without (rules.held_at i.rules op) in
       record { standby = all.standby; sends = each-append (λ sent. IsUnshared f place sent.1) (all_processed f without (rules.held_at i.rules op)).sends _ all.sends (refl, tt) }
 

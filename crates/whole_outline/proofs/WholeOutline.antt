@@ -98,7 +98,7 @@ module _ {R : Type 0} (f : Semantics R) where
   asked_same : (place : List ℕ → Option ℕ) (op : ℕ) (what : Order) → old_of (asked_of place op what) ≡ option_map net.Asked (want_of place op what)
   asked_same place op (order.Move src dst filter keep) = mapped (want_of place op (order.Move src dst filter keep))
     where
-      mapped : (o : Option net.Want) → old_of (option_map (λ want. Old (net.Asked want)) o) ≡ option_map net.Asked o
+      mapped : (o : Option net.MoveAsked) → old_of (option_map (λ want. Old (net.Asked want)) o) ≡ option_map net.Asked o
       mapped None = refl
       mapped (Some want) = refl
   asked_same place op (order.Copy src dst filter) = refl
