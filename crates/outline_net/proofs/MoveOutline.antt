@@ -81,7 +81,7 @@ module _ {R : Type 0} (f : Semantics R) (place : List ℕ → Option ℕ) where
     pub sends : outline_sends f place real_row.next.sends ≡ wrap plan.filter did.sends
 
   -- the units of chunks
-  pub units_same : (cs : List Chunk) → Each IsChunk cs → units_in cs ≡ map real.packet_unit (entries f cs)
+  pub units_same : (cs : List Chunk) → Each IsChunk cs → units_in cs ≡ map real.chunk_unit (entries f cs)
   units_same [] h = refl
   units_same (c ∷ cs) h = let a = h.0.unit in let b = h.0.spells in rw (a, b) (ap (λ us. h.0.entry.0 ∷ us) (units_same cs h.1))
 
