@@ -63,7 +63,7 @@ use Rattle.path_net.proofs.RecordPromises.{one_place}
 use Rattle.path_net.proofs.SharedChunks.{none_on_way as none_shared}
 use Rattle.nf_net.proofs.InstalledShares.{SaysOfShares, says_of_shares}
 use Rattle.nf_net.proofs.SharedHomes.{goes_so, homes_own}
-use Rattle.path_net.proofs.SharedRecords.{HasShared, Saw_all, Is_behind, alone, has_shared}
+use Rattle.path_net.proofs.SharedRecords.{HasShared, Saw_all, Home_lacks_last, alone, has_shared}
 use Rattle.whole_joined.proofs.RunsJoined.{run_beside, start_world, done_same}
 use Rattle.whole_joined.proofs.StartJoined.{given, count_at_start}
 use Rattle.whole_joined.proofs.Given.{Given}
@@ -282,7 +282,7 @@ module _ {F R : Type 0} (f : Semantics R) (c : Config) (items : List Msg) (is : 
 
     shared_stands : HasShared f c items is n count w nodes j world told u x before since k → HasRecord (job_of f c items) w u
     shared_stands (Saw_all live) = record { seen = all; has_seen = Sees_all refl; one = one_there (fold f c items None all) (live ∙ sym (folded all)) }
-    shared_stands (Is_behind y) = record {
+    shared_stands (Home_lacks_last y) = record {
       seen = y.seen;
       has_seen = Lacks_last (record {
         last = y.last;
