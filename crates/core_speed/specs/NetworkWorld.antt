@@ -3,7 +3,6 @@
 use Rattle.std.specs.Prelude.{◌==◌, ◌+◌, ◌-◌, ◌*◌, ◌/◌, ◌%◌, ◌^◌, ℕ, zero, suc, Bool, true, min, nat_lt, List, [], ◌∷◌, ◌++◌}
 use Rattle.actor_net.specs.Network.{Stepped}
 use Rattle.core_speed.specs.declared.nodes.TheConstants.{WINDOW, FIRST}
-use Rattle.core_speed.specs.declared.nodes.Packet.{Packet}
 use Rattle.core_speed.specs.declared.nodes.Message.{Message}
 use Rattle.core_speed.specs.declared.nodes.Message.TheVariants.{Packet as Carried, Credit}
 use Rattle.core_speed.specs.declared.nodes.Switch.{Switch}

@@ -12,7 +12,7 @@ struct Relay {
 }
 
 impl Actor for Relay {
-    ghost use Rattle.std.specs.Prelude.{ℕ, ◌-◌, [], ◌∷◌, nat_lt, if◌then◌else◌, true};
+    ghost use Rattle.std.specs.Prelude.{◌-◌, [], ◌∷◌, nat_lt, if◌then◌else◌, true};
 
     type Message = u8;
 

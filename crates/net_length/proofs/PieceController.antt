@@ -2,7 +2,6 @@
 use Rattle.std.proofs.Common.{◌≡◌, ℕ, ◌+◌, ◌≤◌, true, false, Option, None, Some, List, [], ◌∷◌, ◌++◌, refl, arith}
 use Rattle.std.specs.Prelude.{if◌then◌else◌}
 use Rattle.std.specs.FinMap as finite
-use Rattle.flow_filter.specs.declared.filter.Filter.{Filter}
 use Rattle.event_store.specs.Store.{stored, with_parcels, store_after}
 use Rattle.packet_pool.specs.Pool.{FullCell}
 use Rattle.nf_msgs.specs.declared.answer.Answer.{Answer}
@@ -10,10 +9,8 @@ use Rattle.nf_msgs.specs.declared.command.Command.{Command}
 use Rattle.nf_msgs.specs.declared.msg.Msg.{Msg}
 use Rattle.nf_msgs.specs.declared.msg.Msg.TheVariants as msg
 use Rattle.nf_msgs.specs.Nodes.{switch_node}
-use Rattle.move_op.specs.Move.{MovePlan, Store, begun, begin_sends, row_in, answer_of}
-use Rattle.copy_share.specs.Copy.{CopyPlan}
+use Rattle.move_op.specs.Move.{Store, row_in, answer_of}
 use Rattle.copy_share.specs.Copy as copy
-use Rattle.copy_share.specs.Share.{SharePlan}
 use Rattle.copy_share.specs.Share as share
 use Rattle.ctrl_node.specs.declared.operation.Operation.{Operation}
 use Rattle.ctrl_node.specs.declared.operation.Operation.TheVariants.{Move, Copy, Share}

@@ -11,7 +11,7 @@ use Rattle.nf_function.specs.declared.chunk.Chunk.{Chunk}
 use Rattle.nf_function.specs.declared.unit.Unit as units
 use Rattle.nf_function.specs.Records.{newest, Laws as FunctionLaws}
 use Rattle.nf_function.specs.Semantics.{Semantics, kept_after, unit_at}
-use Rattle.record_table.specs.Table.{Records, same_unit, is_among, either, joined, after_packet, without}
+use Rattle.record_table.specs.Table.{Records, same_unit, is_among, either, joined, after_packet}
 use Rattle.record_table.specs.Chunks.{records_of}
 use Rattle.record_table.proofs.RecordLookUps.{get-after_packet, get-joined, get-without}
 use Rattle.record_table.proofs.UnitOrder.{same_unit_equiv}

@@ -1,5 +1,5 @@
 //! Reading what a run of the network is given: the script, and then the capture.
-ghost use Rattle.std.specs.Prelude.{◌≡◌, ◌≤◌, None, true, All, IfOk, MatchResult, length};
+ghost use Rattle.std.specs.Prelude.{◌≡◌, ◌≤◌, true, All, IfOk, MatchResult, length};
 ghost use Rattle.std.specs.Option.{ForSome};
 ghost use Rattle.nf_io.specs.declared.outside.Role.TheVariants.{Trace as TraceRole, Script as ScriptRole};
 ghost use Rattle.nf_io.specs.Meaning.{CanRead};

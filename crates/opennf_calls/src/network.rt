@@ -1,7 +1,6 @@
 //! The run of a network, and what comes of it: by a schedule, by threads, or by choices that are told.
-ghost use Rattle.std.specs.Prelude.{◌≡◌, IfOk, MatchResult, OnErr};
+ghost use Rattle.std.specs.Prelude.{◌≡◌, IfOk, MatchResult};
 ghost use Rattle.command_words.specs.RequestViews.{network_view};
-ghost use Rattle.opennf_calls.specs.declared.status.Status.TheVariants.{NoMemory as OutOfMemory};
 ghost use Rattle.opennf_calls.specs.Ends.{EndLaw};
 ghost use Rattle.opennf_calls.specs.NetworkRuns.{HasRun, IsRunOf, run_given};
 ghost use Rattle.opennf_calls.specs.Phases.{CanBegin, CanRun, IsOpening, IsRefusedRun, IsRefusedAs, scenario_of, gives};

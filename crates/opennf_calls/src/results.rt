@@ -1,5 +1,5 @@
 //! Writing what comes of a run: its journal, and then its report.
-ghost use Rattle.std.specs.Prelude.{◌≡◌, ◌≢◌, None, length};
+ghost use Rattle.std.specs.Prelude.{◌≡◌, ◌≢◌, None};
 ghost use Rattle.nf_io.specs.declared.outside.Role.TheVariants.{Report as ReportRole, JournalOut as JournalRole};
 ghost use Rattle.nf_io.specs.Meaning.{CanWrite};
 ghost use Rattle.command_words.specs.RequestViews.{network_view};

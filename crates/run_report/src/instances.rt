@@ -1,6 +1,6 @@
-ghost use Rattle.std.specs.Prelude.{◌≡◌, ◌++◌, map, IfOk, OnOk, filter_map, length, take};
+ghost use Rattle.std.specs.Prelude.{◌≡◌, ◌++◌, map, IfOk, OnOk, take};
 ghost use Rattle.std.specs.List.{flat_map};
-ghost use Rattle.run_report.specs.Lines.{count_text, instance_in, live_line, named_instances, tally_line};
+ghost use Rattle.run_report.specs.Lines.{count_text, live_line, named_instances, tally_line};
 ghost use Rattle.run_report.specs.Seen.{instance_seen};
 
 use basics::{NoMemory, Text};

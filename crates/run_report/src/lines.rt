@@ -1,6 +1,5 @@
 //! The lines that are read off the log.
 ghost use Rattle.std.specs.Prelude.{◌≡◌, ◌++◌, true, codes, map, filter_map, IfOk, OnOk};
-ghost use Rattle.std.specs.List.{flat_map};
 ghost use Rattle.counted_lines.specs.Pages.{pending, word_of};
 ghost use Rattle.run_report.specs.Lines.{answer_in, answer_line, answer_lines, by_number, done_line, done_lines, done_text, name_of, out_line, out_lines, output_in, packet_lines};
 ghost use Rattle.run_report.specs.Seen.{answer_seen, name_seen};

@@ -1,5 +1,5 @@
 -- One more round, and none.
-use Rattle.std.proofs.Common.{refl, rules, add-one, arith}
+use Rattle.std.proofs.Common.{refl, add-one, arith}
 use Rattle.std.proofs.lemmas.Grind.{common_steps}
 use Rattle.core_speed.specs.Work.{scrambled}
 use Rattle.core_speed.proofs.work.scramble.Goals as goal
