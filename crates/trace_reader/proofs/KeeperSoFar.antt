@@ -18,7 +18,7 @@ numbered_push n [] p first last = (omega (arith, last), tt)
 numbered_push n (q ∷ ps) p first last = (first.0, numbered_push (n + 1) ps p first.1 (omega (arith, last)))
 
 -- some packets were read, and they were kept
-pub record ReadSoFar (whole : Result Trace TraceFault) (now : Reading) (skipped : ℕ) (Kept : List Packet → Type 0) : Type 0 where
+pub record PacketsSoFar (whole : Result Trace TraceFault) (now : Reading) (skipped : ℕ) (Kept : List Packet → Type 0) : Type 0 where
   pub packets : List Packet
   pub so_far : Progress whole now packets skipped
   pub counted : length packets ≡ now.count
@@ -26,12 +26,12 @@ pub record ReadSoFar (whole : Result Trace TraceFault) (now : Reading) (skipped 
 
 module _ (Kept : List Packet → Type 0) (whole : Result Trace TraceFault) where
   -- a reader that read nothing is as far as before
-  pub handed_same : (before after : Reading) (skipped : ℕ) → after ≡ before → ReadSoFar whole before skipped Kept → ReadSoFar whole after skipped Kept
-  handed_same before after skipped same h = subst (λ (now : Reading). ReadSoFar whole now skipped Kept) (sym same) h
+  pub handed_same : (before after : Reading) (skipped : ℕ) → after ≡ before → PacketsSoFar whole before skipped Kept → PacketsSoFar whole after skipped Kept
+  handed_same before after skipped same h = subst (λ (now : Reading). PacketsSoFar whole now skipped Kept) (sym same) h
 
   -- a record of another kind is counted
-  pub handed_skipped : (before after : Reading) (skipped : ℕ) → ReadSoFar whole before skipped Kept → AnswersNext before after (Ok next.Skipped)
-      → after.form ≡ before.form → after.count ≡ before.count → ReadSoFar whole after (skipped + 1) Kept
+  pub handed_skipped : (before after : Reading) (skipped : ℕ) → PacketsSoFar whole before skipped Kept → AnswersNext before after (Ok next.Skipped)
+      → after.form ≡ before.form → after.count ≡ before.count → PacketsSoFar whole after (skipped + 1) Kept
   handed_skipped before after skipped h answers same_form as_many = record {
     packets = h.packets;
     so_far = progress_skipped whole before after h.packets skipped h.so_far answers same_form as_many;
@@ -40,13 +40,13 @@ module _ (Kept : List Packet → Type 0) (whole : Result Trace TraceFault) where
   }
 
   -- at its end they are all packets
-  pub handed_end : (before after : Reading) (skipped : ℕ) → ReadSoFar whole before skipped Kept → AnswersNext before after (Ok next.End)
+  pub handed_end : (before after : Reading) (skipped : ℕ) → PacketsSoFar whole before skipped Kept → AnswersNext before after (Ok next.End)
       → HandsPackets Kept whole after.left (Ok (record { packets = before.count; skipped = skipped; cut = false }))
   handed_end before after skipped h answers =
       let ends = progress_end whole before after h.packets skipped h.so_far answers in
       (h.packets, ends.0, h.counted, ends.1, h.kept)
 
-  pub handed_cut : (before after : Reading) (skipped : ℕ) → ReadSoFar whole before skipped Kept → AnswersNext before after (Ok next.Cut)
+  pub handed_cut : (before after : Reading) (skipped : ℕ) → PacketsSoFar whole before skipped Kept → AnswersNext before after (Ok next.Cut)
       → HandsPackets Kept whole after.left (Ok (record { packets = before.count; skipped = skipped; cut = true }))
   handed_cut before after skipped h answers =
       let ends = progress_cut whole before after h.packets skipped h.so_far answers in
@@ -65,14 +65,14 @@ module _ (Kept : List Packet → Type 0) (whole : Result Trace TraceFault) where
   into_fault left fault.NoMemory due = tt
 
   pub handed_fault : (before after : Reading) (skipped : ℕ) (left : Option (List ℕ)) (e : TraceFault)
-      → ReadSoFar whole before skipped Kept → AnswersNext before after (Err e) → HandsPackets Kept whole left (Err e)
+      → PacketsSoFar whole before skipped Kept → AnswersNext before after (Err e) → HandsPackets Kept whole left (Err e)
   handed_fault before after skipped left e h answers =
       into_fault left e (progress_fault whole before after h.packets skipped left e h.so_far answers)
 
 module _ {K S : Type 0} (HasKept : K → S → List Packet → Type 0) where
   -- after the header the keeper has none
   pub handed_start : (bytes : List ℕ) (now : Reading) (keeper : K) → opened bytes ≡ Ok now.form
-      → now.left ≡ Some (drop 24 bytes) → now.place ≡ 24 → now.count ≡ 0 → ReadSoFar (capture_of bytes) now 0 (HandsOn HasKept keeper keeper)
+      → now.left ≡ Some (drop 24 bytes) → now.place ≡ 24 → now.count ≡ 0 → PacketsSoFar (capture_of bytes) now 0 (HandsOn HasKept keeper keeper)
   handed_start bytes now keeper due is at none = record {
     packets = [];
     so_far = progress_start bytes now [] due is at none refl;
@@ -82,10 +82,10 @@ module _ {K S : Type 0} (HasKept : K → S → List Packet → Type 0) where
 
   -- the keeper takes one more
   pub handed_packet : (whole : Result Trace TraceFault) (before after : Reading) (skipped : ℕ) (old mid new : K) (packet : Packet)
-      → ReadSoFar whole before skipped (HandsOn HasKept old mid) → AnswersNext before after (Ok (next.Packet packet))
+      → PacketsSoFar whole before skipped (HandsOn HasKept old mid) → AnswersNext before after (Ok (next.Packet packet))
       → after.form ≡ before.form → after.count ≡ before.count + 1
       → ((setup : S) (first : List Packet) → HasKept mid setup first → HasKept new setup (first ++ packet ∷ []))
-      → ReadSoFar whole after skipped (HandsOn HasKept old new)
+      → PacketsSoFar whole after skipped (HandsOn HasKept old new)
   handed_packet whole before after skipped old mid new packet h answers same_form one_more keeps = record {
     packets = h.packets ++ packet ∷ [];
     so_far = progress_packet whole before after h.packets (h.packets ++ packet ∷ []) skipped packet h.so_far answers same_form one_more refl;

@@ -126,12 +126,12 @@ HandsOn {S = S} HasKept old new packets = (setup : S) (before : List Packet) →
 
 -- the packets of a capture were handed on, and nothing is left; or a fault is the one that is due. The two free faults are as above
 abbrev pub HandsPackets : (List Packet → Type 0) → Result Trace TraceFault → Option (List ℕ) → Result TraceEnd TraceFault → Type 0
-HandsPackets ReadSoFar due left (Ok end) =
+HandsPackets Handed due left (Ok end) =
     (packets : List Packet) × (due ≡ Ok (record { packets = packets; skipped = end.skipped; cut = end.cut }))
-    × (length packets ≡ end.packets) × (left ≡ Some []) × ReadSoFar packets
-HandsPackets ReadSoFar due left (Err fault.Read) = Unit {0}
-HandsPackets ReadSoFar due left (Err fault.NoMemory) = Unit {0}
-HandsPackets ReadSoFar due left (Err e) = due ≡ Err e
+    × (length packets ≡ end.packets) × (left ≡ Some []) × Handed packets
+HandsPackets Handed due left (Err fault.Read) = Unit {0}
+HandsPackets Handed due left (Err fault.NoMemory) = Unit {0}
+HandsPackets Handed due left (Err e) = due ≡ Err e
 
 -- so many packets went to a keeper, one after another, also where no bytes are told: they are numbered from 1, and each is of TCP or UDP
 pub record HandsSteered {K S : Type 0} (HasKept : K → S → List Packet → Type 0) (old new : K) (count : ℕ) : Type 0 where
