@@ -1,5 +1,5 @@
 //! The links between all pairs of nodes, with counts of those that hold something.
-ghost use Rattle.std.specs.Prelude.{◌≡◌, ◌==◌, ◌<◌, ◌+◌, ◌*◌, ◌^◌, ℕ, [], ◌∷◌, ◌++◌, length, drop, replicate, OnOk, OnErr, IfOk, MatchOption};
+ghost use Rattle.std.specs.Prelude.{◌≡◌, ◌==◌, ◌<◌, ◌+◌, ◌*◌, ◌^◌, [], ◌∷◌, ◌++◌, length, drop, replicate, OnOk, OnErr, IfOk, MatchOption};
 ghost use Rattle.std.specs.List.{list_all};
 ghost use Rattle.actor_net.specs.Network.{node_numbers};
 ghost use Rattle.actor_net.specs.LinkTable.{LinkLists, IsWithin, link_of, with_link, held_below, all_held};

@@ -105,12 +105,16 @@ impl<M, N> Outbox<M, N> {
         self.sent.pop_front()
     }
 
-    /// Moves the notes to the end of a log. Their places are used again.
+    /// Moves the notes to the end of a log. Their places are used again. Most steps have none.
+    #[inline(always)]
     pub fn move_notes(&mut self, log: &mut Vec<N>) -> Result<(), NoMemory>
         ensures log { OnOk result (log.new.items ≡ log.old.items ++ self.old.1) }
         ensures notes { OnOk result (self.new ≡ (self.old.0, [])) }
         ensures err { OnErr result ((log.new.items ≡ log.old.items) × (self.new ≡ self.old)) }
     {
+        if self.notes.is_empty() {
+            return Ok(());
+        }
         log.append(&mut self.notes)
     }
 

@@ -1,6 +1,6 @@
 ghost use Rattle.std.specs.Prelude.{◌≡◌, ℕ, length, true, Err, IfOk, OnSome};
 ghost use Rattle.actor_net.specs.Network.{run, IsRun, is_done};
-ghost use Rattle.actor_net.specs.Schedules.{enabled_choices, ports_below, place_in, later, picked, scheduled, schedule_of, StopsShort};
+ghost use Rattle.actor_net.specs.Schedules.{later, picked, scheduled, schedule_of, StopsShort};
 
 use super::actor::Actor;
 use super::choice::{Choice, Choices};

@@ -1,6 +1,6 @@
-ghost use Rattle.std.specs.Prelude.{◌≡◌, ◌==◌, ◌<◌, ◌-◌, ◌*◌, ℕ, Bool, true, false, List, [], ◌∷◌, length, drop, map, replicate, slice_get, slice_index_or, Some, OnOk, OnErr, IfOk, IsErrOf};
+ghost use Rattle.std.specs.Prelude.{◌≡◌, ◌==◌, ◌<◌, ◌-◌, ◌*◌, true, false, [], ◌∷◌, length, drop, slice_get, slice_index_or, Some, OnOk, IfOk, IsErrOf};
 ghost use Rattle.std.specs.List.{list_all};
-ghost use Rattle.actor_net.specs.Network.{Network, Stepped, node_numbers, IsWorld, is_enabled, taken, is_done, waiting, without_first, after, delivered, put_on, reaches};
+ghost use Rattle.actor_net.specs.Network.{Network, node_numbers, IsWorld, is_enabled, taken, is_done, waiting, without_first, after, delivered, put_on};
 ghost use Rattle.actor_net.specs.Schedules.{ports_below, enabled_choices};
 
 use super::actor::Actor;

@@ -1,5 +1,5 @@
 //! Groups of workers. A group has a thread, in which its workers take turns.
-ghost use Rattle.std.specs.Prelude.{◌≡◌, ℕ, ◌<◌, length, slice_index_or, IfOk, All};
+ghost use Rattle.std.specs.Prelude.{◌≡◌, ◌<◌, length, IfOk, All};
 ghost use Rattle.actor_threads.specs.Groups.{IsInRound, AllInRound, AllGoOn};
 
 use crate::gate::Gate;

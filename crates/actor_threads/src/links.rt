@@ -1,8 +1,8 @@
 //! A link for each ordered pair of nodes, opened before a round and closed after it.
-ghost use Rattle.std.specs.Prelude.{◌≡◌, ◌<◌, ◌++◌, ℕ, length, map, IfOk, OnOk};
+ghost use Rattle.std.specs.Prelude.{◌≡◌, ◌<◌, ◌++◌, length, map, IfOk, OnOk};
 ghost use Rattle.actor_net.specs.Histories.{messages};
 ghost use Rattle.actor_threads.specs.Ways.{unpacked};
-ghost use Rattle.actor_threads.specs.LinkTable.{row_at, RowOpened, AllOpened, Closed, RowClosed, CanClose, closing};
+ghost use Rattle.actor_threads.specs.LinkTable.{RowOpened, AllOpened, Closed, RowClosed, CanClose, closing};
 
 use crate::ways::{Batch, WayIn, WayOut, append};
 use basics::{NoMemory, Sequence};

@@ -1,5 +1,5 @@
 ghost use Rattle.std.specs.Prelude.{◌≡◌, ◌<◌, length, IfOk};
-ghost use Rattle.net_world.specs.Start.{IsConfig, first_instance, first_instances, first_nodes, started};
+ghost use Rattle.net_world.specs.Start.{IsConfig, first_instance, first_nodes, started};
 
 use crate::config::Config;
 use crate::node::Node;
