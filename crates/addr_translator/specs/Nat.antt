@@ -15,6 +15,7 @@ nat = record {
   is_valid = is_valid;
   body_of = body_of;
   record_in = record_in;
+  takes_memory = false;
   is_timed = λ r. false;
   output_text = output_text;
   record_text = record_text;

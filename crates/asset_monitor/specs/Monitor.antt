@@ -1,5 +1,5 @@
 -- The asset monitor as a network function. This project's own.
-use Rattle.std.specs.Prelude.{false}
+use Rattle.std.specs.Prelude.{true, false}
 use Rattle.nf_function.specs.declared.kind.Kind.TheVariants as kinds
 use Rattle.nf_function.specs.Semantics.{Semantics}
 use Rattle.asset_monitor.specs.declared.record.AssetRecord.{AssetRecord}
@@ -15,6 +15,7 @@ monitor = record {
   is_valid = is_valid;
   body_of = body_of;
   record_in = record_in;
+  takes_memory = true;
   is_timed = λ r. false;
   output_text = output_text;
   record_text = record_text;

@@ -1,5 +1,5 @@
 -- The connection tracker as a network function. This project's own.
-use Rattle.std.specs.Prelude.{nat_le}
+use Rattle.std.specs.Prelude.{nat_le, false}
 use Rattle.nf_function.specs.declared.kind.Kind.TheVariants.{Conntrack}
 use Rattle.nf_function.specs.Semantics.{Semantics}
 use Rattle.conn_tracker.specs.declared.record.TrackRecord.{TrackRecord}
@@ -15,6 +15,7 @@ conntrack = record {
   is_valid = is_valid;
   body_of = body_of;
   record_in = record_in;
+  takes_memory = false;
   is_timed = λ r. nat_le 1 r.seen;
   output_text = output_text;
   record_text = record_text;

@@ -1,4 +1,5 @@
-ghost use Rattle.std.specs.Prelude.{◌≡◌, ◌<◌, [], ◌++◌, false, OnOk, replicate};
+ghost use Rattle.std.specs.Prelude.{◌≡◌, ◌<◌, [], ◌++◌, false, OnErr, OnOk, replicate};
+ghost use Rattle.event_filter.specs.Rules.{with_rule};
 ghost use Rattle.record_table.specs.Table.{empty};
 ghost use Rattle.flow_filter.specs.Limits.{most_instances};
 
@@ -58,7 +59,7 @@ impl<F: Function> Actor for Instance<F> {
             Msg::Carry { mark, parcel } => self.carry(mark, parcel, out),
             Msg::Fence { op } => self.fence(op, out),
             Msg::Stop => self.stop(out),
-            Msg::Enable { op, filter, action } => self.enable(op, filter.get(), action, out),
+            Msg::Enable { op, filter, action } => self.enable_and_tell(op, filter.get(), action, out),
             Msg::Get { op, filter } => self.get(op, filter.get(), out),
             Msg::Stream { op, filter } => self.stream(op, filter.get(), out),
             Msg::GetAll { op } => self.get_all(op, out),
@@ -132,8 +133,30 @@ impl<F: Function> Instance<F> {
         out.send(CONTROLLER, Msg::Final)
     }
 
-    /// Sets the rule of an operation.
-    fn enable(
+    /// Sets the rule of an operation, before the instance has taken any message. It tells nobody.
+    pub fn enable(&mut self, op: u32, filter: Filter, action: Action) -> Result<(), NoMemory>
+        ensures ok { OnOk result (self.new ≡ record self.old { rules = with_rule self.old.rules op filter action }) }
+        ensures err { OnErr result (self.new ≡ self.old) }
+    {
+        self.rules.enable(op, filter, action)
+    }
+
+    /// The allocator on which the instance takes memory.
+    pub fn alloc(&self) -> Global
+        ensures { result ≡ self.now.alloc }
+    {
+        self.alloc
+    }
+
+    /// The records of an instance that is done with.
+    pub fn into_table(self) -> Table<F>
+        ensures { result ≡ self.table }
+    {
+        self.table
+    }
+
+    /// Sets the rule of an operation, and says so.
+    fn enable_and_tell(
         &mut self,
         op: u32,
         filter: &Filter,

@@ -26,6 +26,8 @@ pub record Semantics (R : Type 0) : Type 0 where
   pub body_of : R → List ℕ
   -- the record of the unit that such bytes spell, if any
   pub record_in : units.Unit → List ℕ → Option R
+  -- a step may take memory: where it takes none, it never answers that there is none
+  pub takes_memory : Bool
   -- the record holds a time
   pub is_timed : R → Bool
   -- the texts of an output and of a record

@@ -1,4 +1,4 @@
-ghost use Rattle.std.specs.Prelude.{◌≡◌, ◌++◌, true, length, IfOk, OnOk, OnErr};
+ghost use Rattle.std.specs.Prelude.{◌≡◌, ◌++◌, true, false, length, IsOk, IfOk, OnOk, OnErr};
 ghost use Rattle.flow_filter.specs.Flow.{flow_of};
 ghost use Rattle.nf_function.specs.declared.kind.Kind.{Kind as TheKind};
 ghost use Rattle.nf_function.specs.declared.function.BodyFault.TheVariants.{NoMemory as OutOfMemory};
@@ -52,6 +52,7 @@ pub trait Function {
         ensures output { IfOk result (λ output. output ≡ output_for semantics site.now kept.old packet.now) }
         ensures sound { let unit = unit_of semantics.kind (flow_of site.now packet.now).0 in is_sound semantics unit kept.old ≡ true → is_sound semantics unit kept.new ≡ true }
         ensures err { OnErr result (kept.new ≡ kept.old) }
+        ensures never { semantics.takes_memory ≡ false → IsOk result }
     {
         let (flow, direction) = flow_of(site, packet);
         Self::step_along(alloc, site, flow, direction, kept, packet)
@@ -73,7 +74,8 @@ pub trait Function {
 
         // What is valid for its unit stays so.
         ensures sound { is_sound semantics (unit_of semantics.kind flow) kept.old ≡ true → is_sound semantics (unit_of semantics.kind flow) kept.new ≡ true }
-        ensures err { OnErr result (kept.new ≡ kept.old) };
+        ensures err { OnErr result (kept.new ≡ kept.old) }
+        ensures never { semantics.takes_memory ≡ false → IsOk result };
 
     /// The bytes that a record is stored as.
     final fn write_record(alloc: Global, kept: &Self::Record) -> Result<Bytes, NoMemory>
