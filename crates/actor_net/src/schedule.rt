@@ -6,10 +6,11 @@ use super::actor::Actor;
 use super::choice::{Choice, Choices};
 use super::remainders::Remainders;
 use super::world::World;
+use basics::NoMemory;
 use rand_core::SeedableRng;
 use rand_core::utils::NextWord;
 use rand_xoshiro::SplitMix64;
-use std::alloc::{AllocError, Global};
+use std::alloc::Global;
 use thiserror::Error;
 
 /// The most choices of a scheduled run.
@@ -67,13 +68,13 @@ pub enum ScheduleFault {
     NoMemory,
 }
 
-impl From<AllocError> for ScheduleFault {
+impl From<NoMemory> for ScheduleFault {
     ghost use Rattle.std.specs.Prelude.{◌≡◌};
     ghost use Rattle.actor_net.specs.declared.schedule.ScheduleFault.TheVariants.{NoMemory};
 
     ghost from_gives = { λ _ e. e ≡ NoMemory };
 
-    fn from(_fault: AllocError) -> Self {
+    fn from(_fault: NoMemory) -> Self {
         ScheduleFault::NoMemory
     }
 }

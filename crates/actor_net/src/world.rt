@@ -9,7 +9,7 @@ use super::link::Link;
 use super::link_table::LinkTable;
 use super::outbox::Outbox;
 use basics::{NoMemory, Sequence};
-use std::alloc::{AllocError, AllocFailed, Global};
+use std::alloc::{AllocFailed, Global};
 use std::marker::Model;
 use thiserror::Error;
 
@@ -177,7 +177,7 @@ impl<A: Actor> World<A> {
         let node = &mut self.nodes[choice.node as usize];
         let Ok(()) = node.step(choice.port, message, &mut self.outbox) else {
             self.outbox.drop_sent();
-            return Err(AllocError);
+            return Err(NoMemory);
         };
         deliver(
             self.nodes.len(),
@@ -316,13 +316,13 @@ pub enum TakeFault {
     NoMemory,
 }
 
-impl From<AllocError> for TakeFault {
+impl From<NoMemory> for TakeFault {
     ghost use Rattle.std.specs.Prelude.{◌≡◌};
     ghost use Rattle.actor_net.specs.declared.world.TakeFault.TheVariants.{NoMemory};
 
     ghost from_gives = { λ _ e. e ≡ NoMemory };
 
-    fn from(_fault: AllocError) -> Self {
+    fn from(_fault: NoMemory) -> Self {
         TakeFault::NoMemory
     }
 }
@@ -355,7 +355,7 @@ fn deliver<M: Drop, N>(
     };
     let Ok(()) = put(nodes, from, to, message, links) else {
         outbox.drop_sent();
-        return Err(AllocError);
+        return Err(NoMemory);
     };
     if outbox.has_sent() {
         return deliver_rest(nodes, from, outbox, links);
@@ -382,7 +382,7 @@ fn deliver_rest<M: Drop, N>(
     while let Some((to, message)) = outbox.next_sent() {
         let Ok(()) = put(nodes, from, to, message, links) else {
             outbox.drop_sent();
-            return Err(AllocError);
+            return Err(NoMemory);
         };
     }
     Ok(())

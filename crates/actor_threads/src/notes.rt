@@ -4,7 +4,7 @@ ghost use Rattle.actor_net.specs.Histories.{without_first_list, first_list};
 
 use actor_net::Outbox;
 use basics::NoMemory;
-use std::alloc::{AllocError, Global};
+use std::alloc::Global;
 use std::collections::VecDeque;
 use std::marker::Model;
 
@@ -149,7 +149,7 @@ impl<N: Drop> Notes<N> {
         out.move_notes(&mut self.all)?;
         let Ok(count) = u32::try_from(self.all.len() - before) else {
             self.all.truncate(before);
-            return Err(AllocError);
+            return Err(NoMemory);
         };
         if let Err(fault) = self.counts.push(count) {
             self.all.truncate(before);

@@ -17,7 +17,7 @@ use crate::worker::Worker;
 use actor_net::{Actor, Choice, Choices, History, Parts, World, merge};
 use basics::{NoMemory, Sequence};
 use fifo_link::{SendEnd, TakeEnd};
-use std::alloc::{AllocError, Global};
+use std::alloc::Global;
 use std::collections::VecDeque;
 use std::mem;
 use std::sync::Wait;
@@ -178,7 +178,7 @@ fn take_apart<A: Actor>(alloc: Global, members: Vec<Member<A>>) -> Result<RoundP
     let mut members = VecDeque::from_vec(members);
     while let Some(member) = members.pop_front() {
         if !member.has_run() {
-            return Err(AllocError);
+            return Err(NoMemory);
         }
         round_parts.add(member.worker)?;
     }

@@ -1,11 +1,11 @@
 ghost use Rattle.std.specs.Prelude.{◌≡◌, List, [], ◌∷◌, ◌++◌, OnOk, OnErr, IfOk};
 
 use crate::try_copy::TryCopy;
-use std::alloc::{AllocError, Global};
+use std::alloc::Global;
 use std::marker::Model;
 
 /// Out of memory: the one answer that no clause ties to a cause.
-pub type NoMemory = AllocError;
+pub use std::alloc::AllocError as NoMemory;
 
 /// The bytes of a file or of a message.
 pub type Bytes = Sequence<u8>;

@@ -1,7 +1,8 @@
 ghost use Rattle.std.specs.Prelude.{◌≡◌};
 ghost use Rattle.command_words.specs.declared.fault.ArgumentsFault.TheVariants.{NoMemory};
 
-use std::alloc::{AllocError, AllocFailed};
+use basics::NoMemory;
+use std::alloc::AllocFailed;
 
 /// Why words were refused.
 #[derive(Clone, Copy, Debug, PartialEq, Eq)]
@@ -11,10 +12,10 @@ pub enum ArgumentsFault {
     NoMemory,
 }
 
-impl From<AllocError> for ArgumentsFault {
+impl From<NoMemory> for ArgumentsFault {
     ghost from_gives = { λ _ fault. fault ≡ NoMemory };
 
-    fn from(_error: AllocError) -> Self {
+    fn from(_error: NoMemory) -> Self {
         ArgumentsFault::NoMemory
     }
 }

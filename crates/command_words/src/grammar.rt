@@ -4,9 +4,10 @@ ghost use Rattle.command_words.specs.Grammar.{rule_by, app_with, run_app, sim_ap
 ghost use Rattle.command_words.specs.Views.{Reads, given_view};
 
 use crate::fault::ArgumentsFault;
+use basics::NoMemory;
 use clap::error::ErrorKind;
 use clap::{Arg, ArgAction, ArgMatches, Command};
-use std::alloc::{AllocError, Global};
+use std::alloc::Global;
 
 /// What an argument is, and whether it must be there.
 #[derive(Clone, Copy, Debug)]
@@ -135,7 +136,7 @@ pub fn written_words()
 {}
 
 /// The command `sim`.
-fn sim_command<'a>(alloc: Global) -> Result<Command<'a>, AllocError>
+fn sim_command<'a>(alloc: Global) -> Result<Command<'a>, NoMemory>
     ensures app { IfOk result (λ c. app_of c ≡ sim_app) }
     ensures simple { IfOk result (λ c. is_simple_and_free (app_of c) ≡ true) }
 {
@@ -148,7 +149,7 @@ fn command_of<'a>(
     alloc: Global,
     title: &'a str,
     table: &'a [(ArgumentKind, &'a str)],
-) -> Result<Command<'a>, AllocError>
+) -> Result<Command<'a>, NoMemory>
     ensures { IfOk result (λ c. app_of c ≡ app_with title.entry.now (map (λ e. rule_by e.0 e.1.now) table.entry.now)) }
 {
     let mut command = bare(alloc, title);
@@ -174,7 +175,7 @@ fn with<'a>(
     command: Command<'a>,
     want: ArgumentKind,
     name: &'a str,
-) -> Result<Command<'a>, AllocError>
+) -> Result<Command<'a>, NoMemory>
     ensures { IfOk result (λ c. (title : Text) (rules : List Rule) → app_of command.entry ≡ app_with title rules
         → app_of c ≡ app_with title (rules ++ rule_by want name.entry.now ∷ [])) }
 {
@@ -288,7 +289,7 @@ fn is_given(matches: &ArgMatches<'_>, name: &str) -> bool
 }
 
 /// The command `run`, whose words `audit` has as well.
-fn run_command<'a>(alloc: Global) -> Result<Command<'a>, AllocError>
+fn run_command<'a>(alloc: Global) -> Result<Command<'a>, NoMemory>
     ensures app { IfOk result (λ c. app_of c ≡ run_app) }
     ensures simple { IfOk result (λ c. is_simple_and_free (app_of c) ≡ true) }
 {
@@ -296,7 +297,7 @@ fn run_command<'a>(alloc: Global) -> Result<Command<'a>, AllocError>
 }
 
 /// The command `check`.
-fn check_command<'a>(alloc: Global) -> Result<Command<'a>, AllocError>
+fn check_command<'a>(alloc: Global) -> Result<Command<'a>, NoMemory>
     ensures app { IfOk result (λ c. app_of c ≡ check_app) }
     ensures simple { IfOk result (λ c. is_simple_and_free (app_of c) ≡ true) }
 {
@@ -304,7 +305,7 @@ fn check_command<'a>(alloc: Global) -> Result<Command<'a>, AllocError>
 }
 
 /// The command `gen`.
-fn gen_command<'a>(alloc: Global) -> Result<Command<'a>, AllocError>
+fn gen_command<'a>(alloc: Global) -> Result<Command<'a>, NoMemory>
     ensures app { IfOk result (λ c. app_of c ≡ gen_app) }
     ensures simple { IfOk result (λ c. is_simple_and_free (app_of c) ≡ true) }
 {

@@ -8,10 +8,11 @@ ghost use Rattle.basics.specs.Bytes.{comma};
 
 use crate::request::Instances;
 use actor_net::Schedule;
+use basics::NoMemory;
 use basics::parsing::{first_piece, parse_number, split_once};
 use flow_filter::name::has_twice;
 use flow_filter::reading::{address, prefix};
-use flow_filter::{Name, NoMemory, Prefix, Site};
+use flow_filter::{Name, Prefix, Site};
 use nf_function::Kind;
 use std::alloc::Global;
 

@@ -5,7 +5,8 @@ ghost use Rattle.conn_tracker.specs.RecordRoom.{record_room, seen_room, directio
 use crate::record::TrackRecord;
 use crate::state::State;
 use arrayvec::ArrayString;
-use flow_filter::{Direction, NoMemory, Text};
+use basics::NoMemory;
+use flow_filter::{Direction, Text};
 use itoa::Buffer;
 use nf_function::Output;
 use std::alloc::Global;

@@ -1,7 +1,7 @@
 ghost use Rattle.std.specs.Prelude.{◌≡◌};
 
+use basics::NoMemory;
 use fifo_link::{Link, SendEnd, TakeEnd, close};
-use std::alloc::AllocError;
 use std::sync::Wait;
 use std::test::Fail;
 use std::thread;
@@ -55,7 +55,7 @@ fn what_was_not_taken_is_left_in_order(rt: HostRuntime) -> Result<(), Fail> {
 }
 
 #[test]
-fn messages_cross_threads_in_order(rt: HostRuntime) -> Result<(), AllocError> {
+fn messages_cross_threads_in_order(rt: HostRuntime) -> Result<(), NoMemory> {
     let (send, take) = Link::<u64>::open(rt.alloc(), 64)?;
     let (send, (take, taken)) = thread::join(
         &rt,

@@ -1,7 +1,7 @@
 ghost use Rattle.std.specs.Prelude.{◌≡◌, [], ◌∷◌, ◌++◌, OnOk, OnErr, IfErr};
 
 use basics::NoMemory;
-use std::alloc::{AllocError, Global};
+use std::alloc::Global;
 use std::marker::Model;
 
 /// Parcels in the order in which they came, which contracts see as their list.
@@ -36,7 +36,7 @@ impl<P> Held<P> {
     {
         self.parcels
             .push(parcel)
-            .map_err(|failed| (AllocError, failed.value))
+            .map_err(|failed| (NoMemory, failed.value))
     }
 
     /// The parcels, as a slice.

@@ -1,7 +1,7 @@
 ghost use Rattle.std.specs.Prelude.{◌≡◌, [], ◌∷◌, ◌++◌, length, drop, slice_get, OnOk, OnErr, IfOk, IfErr};
 
 use basics::NoMemory;
-use std::alloc::{AllocError, Global};
+use std::alloc::Global;
 use std::collections::VecDeque;
 use std::marker::Model;
 
@@ -42,7 +42,7 @@ impl<P> Queue<P> {
     {
         self.parcels
             .push_back(parcel)
-            .map_err(|failed| (AllocError, failed.value))
+            .map_err(|failed| (NoMemory, failed.value))
     }
 
     /// Takes the first parcel.

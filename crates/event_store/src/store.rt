@@ -5,7 +5,7 @@ ghost use Rattle.event_store.specs.Queues.{queued};
 
 use crate::queue::Queue;
 use basics::NoMemory;
-use std::alloc::{AllocError, Global};
+use std::alloc::Global;
 use std::collections::BTreeMap;
 use std::collections::btree_map::Entry;
 use std::marker::Model;
@@ -102,7 +102,7 @@ where
             place.insert(Queue::of(alloc, parcel)?);
             Ok(())
         }
-        Err(_full) => Err((AllocError, parcel)),
+        Err(_full) => Err((NoMemory, parcel)),
     }
 }
 

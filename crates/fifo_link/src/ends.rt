@@ -6,7 +6,7 @@ ghost use Rattle.crossbeam_queue.specs.Passes.{view, IsPassOf, ruled_capacity};
 use crate::knowledge::{Drains, InOrder, Knowledge, Roles, Sends, Takes};
 use basics::NoMemory;
 use crossbeam_queue::{Pass, RuledArrayQueue};
-use std::alloc::{AllocError, Global};
+use std::alloc::Global;
 use std::marker::{Model, PhantomData};
 use std::sync::{Arc, Wait};
 
@@ -88,7 +88,7 @@ impl<M> Link<M> {
         let (line, mut hand) = Line::ruled(alloc, capacity)?;
         let taker = line.another::<Roles>(&mut hand);
         let Ok(line) = Arc::new(alloc, line) else {
-            return Err(AllocError);
+            return Err(NoMemory);
         };
         let other = Arc::try_clone(&line)?;
         let send = SendEnd { line, hand };

@@ -15,7 +15,7 @@ pub mod prefix;
 pub mod reading;
 pub mod site;
 
-pub use basics::{Bytes, NoMemory, Sequence, Text};
+pub use basics::{Bytes, Sequence, Text};
 pub use captured::{CapturedPacket, Packets};
 pub use filter::Filter;
 pub use filter_text::FilterFault;

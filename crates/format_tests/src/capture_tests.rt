@@ -5,7 +5,8 @@ ghost use Rattle.nf_io.specs.Meaning.{CanRead};
 ghost use Rattle.nf_io.specs.Calm.{calm_in};
 
 use crate::outside_tests::{to_read, to_write};
-use flow_filter::{NoMemory, Packet};
+use basics::NoMemory;
+use flow_filter::Packet;
 use nf_io::{CalmOutside, Outside, Role, RoleSink, RoleSource};
 use std::alloc::Global;
 use std::test::Fail;

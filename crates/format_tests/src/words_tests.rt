@@ -1,9 +1,10 @@
 //! Tests of `command_words`: which command words ask for and with which values, and words that are refused.
 
 use actor_net::Schedule;
+use basics::NoMemory;
 use command_words::{ArgumentsFault, Request, parse_command};
 use nf_function::Kind;
-use std::alloc::{AllocError, Global};
+use std::alloc::Global;
 use std::test::Fail;
 
 /// Words with `sim`, and the command that they ask for, or `usage`.
@@ -460,7 +461,7 @@ static GEN_AND_OTHERS: [(&str, &str); 21] = [
 ];
 
 /// The words of a line.
-fn split(alloc: Global, line: &str) -> Result<Vec<String>, AllocError> {
+fn split(alloc: Global, line: &str) -> Result<Vec<String>, NoMemory> {
     line.split(' ')
         .map(|word| String::from_str(alloc, word))
         .try_collect(alloc)
@@ -483,7 +484,7 @@ fn asked(reading: Result<Request<'_>, ArgumentsFault>) -> &'static str {
 fn first_wrong(
     alloc: Global,
     rows: &[(&'static str, &'static str)],
-) -> Result<Option<&'static str>, AllocError> {
+) -> Result<Option<&'static str>, NoMemory> {
     for (line, expected) in rows {
         let words = split(alloc, line)?;
         if asked(parse_command(alloc, words.as_slice())) != *expected {

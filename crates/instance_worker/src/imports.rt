@@ -15,7 +15,6 @@ use nf_msgs::{Answer, CONTROLLER, Msg, Note, Piece, Refused, units_in};
 use record_table::ImportFault;
 use state_chunk::header::PLAIN;
 use state_chunk::{ChunkFault, decode_tally};
-use std::alloc::AllocError;
 
 impl<F: Function> Instance<F> {
     /// Takes a piece of a move's records as live, or refuses it where it is the first.
@@ -203,7 +202,7 @@ impl<F: Function> Instance<F> {
                 self.tally.merge(&tally);
                 out.send(CONTROLLER, Msg::Kept { op })
             }
-            Err(ChunkFault::NoMemory) => Err(AllocError),
+            Err(ChunkFault::NoMemory) => Err(NoMemory),
             Err(_) => Ok(()),
         }
     }
@@ -278,7 +277,7 @@ fn are_taken(taken: Result<(), ImportFault>) -> Result<bool, NoMemory>
 {
     match taken {
         Ok(()) => Ok(true),
-        Err(ImportFault::NoMemory(_chunks)) => Err(AllocError),
+        Err(ImportFault::NoMemory(_chunks)) => Err(NoMemory),
         Err(_fault) => Ok(false),
     }
 }

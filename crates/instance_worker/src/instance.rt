@@ -59,7 +59,12 @@ impl<F: Function> Actor for Instance<F> {
             Msg::Carry { mark, parcel } => self.carry(mark, parcel, out),
             Msg::Fence { op } => self.fence(op, out),
             Msg::Stop => self.stop(out),
-            Msg::Enable { op, filter, action } => self.enable_and_tell(op, filter.get(), action, out),
+            Msg::Enable { op, filter, action } => self.enable_and_tell(
+                op,
+                filter.get(),
+                action,
+                out,
+            ),
             Msg::Get { op, filter } => self.get(op, filter.get(), out),
             Msg::Stream { op, filter } => self.stream(op, filter.get(), out),
             Msg::GetAll { op } => self.get_all(op, out),

@@ -1,5 +1,6 @@
+use basics::NoMemory;
 use nf_io::UptoFault;
-use std::alloc::{AllocError, AllocFailed};
+use std::alloc::AllocFailed;
 use thiserror::Error;
 
 /// Why bytes aren't the journal that is asked for: the first check that fails.
@@ -45,13 +46,13 @@ impl From<UptoFault> for JournalFault {
     }
 }
 
-impl From<AllocError> for JournalFault {
+impl From<NoMemory> for JournalFault {
     ghost use Rattle.std.specs.Prelude.{◌≡◌};
     ghost use Rattle.journal_file.specs.declared.fault.JournalFault.TheVariants.{NoMemory as OutOfMemory};
 
     ghost from_gives = { λ _ e. e ≡ OutOfMemory };
 
-    fn from(_e: AllocError) -> JournalFault {
+    fn from(_e: NoMemory) -> JournalFault {
         JournalFault::NoMemory
     }
 }

@@ -1,4 +1,5 @@
 pub mod Units
+pub mod Names
 pub mod UnitOrder
 pub mod Stored
 pub mod Semantics

@@ -1,6 +1,7 @@
-ghost use Rattle.std.specs.Prelude.{◌≡◌};
+ghost use Rattle.std.specs.Prelude.{◌≡◌, Some};
 ghost use Rattle.std.specs.Bool.{OnFalse};
 ghost use Rattle.flow_filter.specs.FilterText.{fields_of};
+ghost use Rattle.nf_function.specs.Names.{function_name, function_named};
 ghost use Rattle.nf_function.specs.Units.{has_hosts, has_times, unit_of, gives_more_than_local, splits, TakesWhole};
 
 use crate::unit::Unit;
@@ -29,6 +30,33 @@ pub enum Scope {
 }
 
 impl Kind {
+    /// The name of the function in the words of the command line and in reports.
+    pub fn name(self) -> &'static str
+        ensures name { result.now ≡ function_name self }
+
+        // By that name the function is found again.
+        ensures again { function_named result.now ≡ Some self }
+    {
+        match self {
+            Kind::Conntrack => "conntrack",
+            Kind::Nat => "nat",
+            Kind::Monitor => "monitor",
+        }
+    }
+
+    /// The function with this name, if there is one.
+    #[tactic(auto, unfolding(crate::specs::Names::function_named))]
+    pub fn named(name: &str) -> Option<Kind>
+        ensures { result ≡ function_named name.now }
+    {
+        match name {
+            "conntrack" => Some(Kind::Conntrack),
+            "nat" => Some(Kind::Nat),
+            "monitor" => Some(Kind::Monitor),
+            _ => None,
+        }
+    }
+
     /// Whether the function keeps its records for hosts.
     pub fn has_hosts(self) -> bool
         ensures { result ≡ has_hosts self }

@@ -1,8 +1,8 @@
 ghost use Rattle.std.specs.Prelude.{◌≡◌, IfOk};
 
 use crate::names::Names;
-use basics::TryCopy;
-use flow_filter::{Filter, Name, NoMemory};
+use basics::{NoMemory, TryCopy};
+use flow_filter::{Filter, Name};
 
 /// An order of the operator, under the number of its command.
 #[derive(Debug, Drop)]

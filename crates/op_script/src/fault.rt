@@ -1,7 +1,8 @@
 ghost use Rattle.std.specs.Prelude.{◌≡◌};
 ghost use Rattle.op_script.specs.declared.fault.LineFault.TheVariants.{NoMemory};
 
-use std::alloc::{AllocError, AllocFailed};
+use basics::NoMemory;
+use std::alloc::AllocFailed;
 use thiserror::Error;
 
 /// Which rule a line of a script breaks.
@@ -49,10 +50,10 @@ pub enum LineFault {
     NoMemory,
 }
 
-impl From<AllocError> for LineFault {
+impl From<NoMemory> for LineFault {
     ghost from_gives = { λ _ fault. fault ≡ NoMemory };
 
-    fn from(_error: AllocError) -> Self {
+    fn from(_error: NoMemory) -> Self {
         LineFault::NoMemory
     }
 }

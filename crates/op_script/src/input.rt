@@ -4,8 +4,7 @@ ghost use Rattle.op_script.specs.Items.{msg_of, said_where, items_from, AreLines
 
 use crate::packet_items::PacketItems;
 use crate::script::{Line, Script, What};
-use basics::Boxed;
-use flow_filter::NoMemory;
+use basics::{Boxed, NoMemory};
 use nf_msgs::Msg;
 use std::alloc::Global;
 use std::collections::VecDeque;

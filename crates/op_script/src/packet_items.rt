@@ -1,7 +1,8 @@
 ghost use Rattle.std.specs.Prelude.{◌≡◌, [], ◌∷◌, ◌++◌, OnOk, OnErr, map};
 ghost use Rattle.nf_msgs.specs.declared.msg.Msg.TheVariants.{InPacket};
 
-use flow_filter::{CapturedPacket, NoMemory};
+use basics::NoMemory;
+use flow_filter::CapturedPacket;
 use nf_msgs::Msg;
 use std::alloc::Global;
 use std::marker::Model;

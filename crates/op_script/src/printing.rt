@@ -9,7 +9,8 @@ ghost use Rattle.op_script.specs.Printing.{route_words, order_words, line_words,
 ghost use Rattle.basics.specs.Bytes.{line_feed, space, comma};
 
 use crate::script::{Line, Script, What};
-use flow_filter::{Filter, Name, NoMemory, Text};
+use basics::NoMemory;
+use flow_filter::{Filter, Name, Text};
 use nf_msgs::Order;
 use std::alloc::Global;
 

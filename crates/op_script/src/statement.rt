@@ -3,8 +3,8 @@ ghost use Rattle.op_script.specs.Statements.{words, is_blank, statement_of, rout
 ghost use Rattle.basics.specs.Parsing.{parse_number};
 ghost use Rattle.op_script.specs.StatementViews.{event_view, statement_view};
 
+use basics::NoMemory;
 use basics::parsing::{parse_number, split_once};
-use flow_filter::NoMemory;
 use std::alloc::Global;
 
 /// What happens at a point of the trace, by its words.

@@ -22,7 +22,7 @@ use nf_msgs::Msg;
 use nf_net::simulate;
 use run_input::{Setting, input_of};
 use run_report::{Head, audit, report};
-use std::alloc::{AllocError, Global};
+use std::alloc::Global;
 use std::sync::Wait;
 use std::thread::Threads;
 
@@ -121,7 +121,7 @@ fn schedule_network<F: Function>(
     let (world, choices) = match simulate::<F>(alloc, &config, items, schedule) {
         Ok(ended) => ended,
         Err(ScheduleFault::Unfinished { step: _step }) => unreachable!(),
-        Err(ScheduleFault::NoMemory) => return Err(AllocError),
+        Err(ScheduleFault::NoMemory) => return Err(NoMemory),
     };
     let report = report::<F>(alloc, &head, &world, asked.summary)?;
     Ok(Made { choices, report })

@@ -2,7 +2,7 @@ ghost use Rattle.std.specs.Prelude.{◌≡◌, ◌≤◌, length};
 ghost use Rattle.opennf_calls.specs.Status.{trace_kind_name, exit_number, journal_kind_name, role_name, script_kind_name, reading_status};
 ghost use Rattle.opennf_calls.specs.LineRoom.{trace_kind_room, role_room, script_kind_room, journal_kind_room};
 
-use flow_filter::NoMemory;
+use basics::NoMemory;
 use journal_file::JournalFault;
 use nf_io::{Role, UptoFault};
 use op_script::{ScriptFault, ScriptKind};

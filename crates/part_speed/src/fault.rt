@@ -1,7 +1,7 @@
 ghost use Rattle.std.specs.Prelude.{◌≡◌};
 ghost use Rattle.part_speed.specs.Faults.{exit_number};
 
-use std::alloc::AllocError;
+use basics::NoMemory;
 use thiserror::Error;
 
 /// Why no sum is printed.
@@ -28,13 +28,13 @@ impl Fault {
     }
 }
 
-impl From<AllocError> for Fault {
+impl From<NoMemory> for Fault {
     ghost use Rattle.std.specs.Prelude.{◌≡◌};
     ghost use Rattle.part_speed.specs.declared.fault.Fault.TheVariants.{NoMemory};
 
     ghost from_gives = { λ _ fault. fault ≡ NoMemory };
 
-    fn from(_fault: AllocError) -> Self {
+    fn from(_fault: NoMemory) -> Self {
         Fault::NoMemory
     }
 }

@@ -3,7 +3,7 @@ ghost use Rattle.nf_io.specs.declared.outside.Role.{Role as TheRole};
 ghost use Rattle.nf_io.specs.Memory.{seen_in};
 
 use crate::sim_tests::{calm, owned};
-use flow_filter::NoMemory;
+use basics::NoMemory;
 use nf_io::{MemoryOutside, Role};
 use opennf_calls::Status;
 use std::alloc::Global;

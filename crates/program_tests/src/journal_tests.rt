@@ -1,7 +1,7 @@
 //! Tests of runs that write or read a journal, and of summaries.
 
 use crate::sim_tests::{HEADER, RECORD, calm, outside_of, owned};
-use flow_filter::NoMemory;
+use basics::NoMemory;
 use nf_io::{MemoryOutside, Role};
 use std::alloc::Global;
 use std::test::Fail;

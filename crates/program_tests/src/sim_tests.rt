@@ -2,7 +2,7 @@ ghost use Rattle.std.specs.Prelude.{◌≡◌, None, IfOk};
 ghost use Rattle.nf_io.specs.declared.outside.Role.{Role as TheRole};
 ghost use Rattle.nf_io.specs.Memory.{seen_in};
 
-use flow_filter::NoMemory;
+use basics::NoMemory;
 use nf_io::{MemoryOutside, Role};
 use opennf_calls::top::names_run;
 use opennf_calls::{Outcome, Status, opennf_calm};

@@ -10,7 +10,7 @@ use crate::refusal::ImportFault;
 use basics::NoMemory;
 use nf_function::{Chunk, Chunks, Function, Unit};
 use state_chunk::{ChunkFault, decode};
-use std::alloc::{AllocError, Global};
+use std::alloc::Global;
 
 /// Why chunks give no records.
 #[derive(Clone, Copy, Debug)]
@@ -21,13 +21,13 @@ pub(crate) enum ReadFault {
     NoMemory,
 }
 
-impl From<AllocError> for ReadFault {
+impl From<NoMemory> for ReadFault {
     ghost use Rattle.std.specs.Prelude.{◌≡◌};
     ghost use Rattle.record_table.specs.declared.reading.ReadFault.TheVariants.{NoMemory as OutOfMemory};
 
     ghost from_gives = { λ _ e. e ≡ OutOfMemory };
 
-    fn from(_e: AllocError) -> ReadFault {
+    fn from(_e: NoMemory) -> ReadFault {
         ReadFault::NoMemory
     }
 }
@@ -128,7 +128,7 @@ fn spelled<F: Function>(alloc: Global, chunk: &Chunk) -> Result<Option<(Unit, F:
 {
     match decode::<F>(alloc, chunk.bytes.items()) {
         Ok(found) => Ok(Some(found)),
-        Err(ChunkFault::NoMemory) => Err(AllocError),
+        Err(ChunkFault::NoMemory) => Err(NoMemory),
         Err(_) => Ok(None),
     }
 }

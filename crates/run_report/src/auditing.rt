@@ -10,12 +10,12 @@ ghost use Rattle.run_report.specs.Lines.{report_text};
 use crate::head::Head;
 use crate::reporting::report;
 use actor_net::{Choice, ReplayFault};
-use basics::Text;
+use basics::{NoMemory, Text};
 use net_world::{Config, start};
 use nf_function::Function;
 use nf_msgs::Msg;
 use nf_net::run_choices;
-use std::alloc::{AllocError, Global};
+use std::alloc::Global;
 use thiserror::Error;
 
 /// The report of a network that takes these choices from its start. They must be a complete run.
@@ -60,13 +60,13 @@ pub enum AuditFault {
     NoMemory,
 }
 
-impl From<AllocError> for AuditFault {
+impl From<NoMemory> for AuditFault {
     ghost use Rattle.std.specs.Prelude.{◌≡◌};
     ghost use Rattle.run_report.specs.declared.auditing.AuditFault.TheVariants.{NoMemory};
 
     ghost from_gives = { λ _ e. e ≡ NoMemory };
 
-    fn from(_fault: AllocError) -> Self {
+    fn from(_fault: NoMemory) -> Self {
         AuditFault::NoMemory
     }
 }

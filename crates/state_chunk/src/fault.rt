@@ -1,5 +1,6 @@
+use basics::NoMemory;
 use nf_function::BodyFault;
-use std::alloc::{AllocError, AllocFailed};
+use std::alloc::AllocFailed;
 use thiserror::Error;
 
 /// Why bytes aren't the chunk that is asked for: the first part from the front that is missing or wrong.
@@ -42,13 +43,13 @@ impl From<BodyFault> for ChunkFault {
     }
 }
 
-impl From<AllocError> for ChunkFault {
+impl From<NoMemory> for ChunkFault {
     ghost use Rattle.std.specs.Prelude.{◌≡◌};
     ghost use Rattle.state_chunk.specs.declared.fault.ChunkFault.TheVariants.{NoMemory as OutOfMemory};
 
     ghost from_gives = { λ _ e. e ≡ OutOfMemory };
 
-    fn from(_e: AllocError) -> ChunkFault {
+    fn from(_e: NoMemory) -> ChunkFault {
         ChunkFault::NoMemory
     }
 }

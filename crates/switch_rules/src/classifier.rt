@@ -11,7 +11,7 @@ use crate::mask::{Mask, values_of};
 use crate::target::Target;
 use basics::NoMemory;
 use flow_filter::{Filter, Flow};
-use std::alloc::{AllocError, Global};
+use std::alloc::Global;
 use std::marker::Model;
 
 /// Rules by their masks, which contracts see as groups.
@@ -81,7 +81,7 @@ impl Classifier {
         ensures filter { IsFilter filter }
     {
         let Ok(place) = u32::try_from(place) else {
-            return Err(AllocError);
+            return Err(NoMemory);
         };
         let mask = Mask::of(&filter);
         let key = values_of(&filter);

@@ -1,4 +1,4 @@
-use flow_filter::NoMemory;
+use basics::NoMemory;
 use nf_io::Failed;
 use thiserror::Error;
 

@@ -2,7 +2,8 @@
 ghost use Rattle.std.specs.Prelude.{◌≡◌, List, [], ◌∷◌, ◌++◌, OnOk};
 ghost use Rattle.flow_filter.specs.declared.packet.Packet.{Packet as ThePacket};
 
-use flow_filter::{CapturedPacket, NoMemory, Packet, Packets};
+use basics::NoMemory;
+use flow_filter::{CapturedPacket, Packet, Packets};
 use std::alloc::Global;
 
 /// What takes the packets of a capture, one after another.

@@ -8,7 +8,7 @@ ghost use Rattle.trace_reader.specs.Generated.{capture};
 
 use crate::encode::file_header;
 use crate::piece::{PIECE_RECORDS, Piece};
-use flow_filter::NoMemory;
+use basics::NoMemory;
 use nf_io::{Failed, Sink, write_all};
 use rand_core::SeedableRng;
 use rand_xoshiro::SplitMix64;

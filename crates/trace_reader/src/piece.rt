@@ -5,7 +5,7 @@ ghost use Rattle.flow_filter.specs.Limits.{most_hosts};
 
 use crate::drawn::Drawn;
 use crate::encode::{LONGEST_RECORD, write_record};
-use flow_filter::NoMemory;
+use basics::NoMemory;
 use rand_core::utils::NextWord;
 use rand_xoshiro::SplitMix64;
 use std::alloc::Global;

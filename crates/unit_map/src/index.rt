@@ -6,7 +6,7 @@ ghost use Rattle.unit_map.specs.Notes.{KeyRules, EntryNote, key_rules, hash_of, 
 ghost use Rattle.unit_map.specs.Soundness.{AreNoted, IsSound};
 
 use basics::NoMemory;
-use std::alloc::{AllocError, Global};
+use std::alloc::Global;
 use std::collections::BTreeMap;
 use std::hash::{FoldHasher, Hash, Hasher};
 
@@ -125,7 +125,7 @@ impl<K: Ord + Hash + Copy> Index<K> {
     {
         let place = entries.len();
         if place >= MOST_ENTRIES {
-            return Err(AllocError);
+            return Err(NoMemory);
         }
         self.note(key, place as u32 + 1)?;
         entries.push((key, None))?;
@@ -178,7 +178,7 @@ impl<K: Ord + Hash + Copy> Index<K> {
         ensures { IfOk result (λ index. PROBES ≤ vec_len index.slots) }
     {
         if entries > MOST_ENTRIES {
-            return Err(AllocError);
+            return Err(NoMemory);
         }
         let count = slot_count(entries);
         let mut slots = Vec::new(alloc);
