@@ -31,6 +31,7 @@ pub enum Scope {
 
 impl Kind {
     /// The name of the function in the words of the command line and in reports.
+    #[tactic(auto, unfolding(crate::specs::Names::function_named))]
     pub fn name(self) -> &'static str
         ensures name { result.now ≡ function_name self }
 
