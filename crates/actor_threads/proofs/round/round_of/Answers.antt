@@ -4,7 +4,7 @@ use Rattle.std.proofs.lemmas.List.{length-map}
 use Rattle.actor_threads.specs.Work.{WorkerView}
 use Rattle.actor_threads.proofs.RoundWithoutChoice.{history_of}
 use Rattle.actor_threads.proofs.RoundLemmas.{seen, members_count, can_close_members, is_run, is_replay, none_enabled, no_choice, regather, reclose}
-use Rattle.actor_threads.proofs.round.run_round.Goals as goal
+use Rattle.actor_threads.proofs.round.round_of.Goals as goal
 
 pub gather-requires : goal.gather-requires
 gather-requires g c =
