@@ -92,14 +92,14 @@ module _ (s : NetworkAsked) (g h : Scenario) (same : AreSame g h) (by : Option S
   still_runs kinds.Nat x cs chose step told = no_cause Nat nat s g h same by made x cs chose step told
   still_runs kinds.Monitor x cs chose step told = no_cause Monitor monitor s g h same by made x cs chose step told
 
-read_again : (s : NetworkAsked) (g : Scenario) (by : Option Schedule) (made : RunResults) (kind : Kind) → OfKind kind (λ R F f. IsRunOf (run_given F f s g) by made) → journal_of s.kind (length s.instances.names) (made.texts JournalOut) ≡ Ok made.choices
+read_again : (s : NetworkAsked) (g : Scenario) (by : Option Schedule) (made : RunResults) (kind : Kind) → OfKind kind (λ R F f. IsRunOf (run_given F f s g) by made) → journal_of s.kind (length s.instances) (made.texts JournalOut) ≡ Ok made.choices
 read_again s g by made kinds.Conntrack x = x.again
 read_again s g by made kinds.Nat x = x.again
 read_again s g by made kinds.Monitor x = x.again
 
 pub audit_law : AuditLaw
 audit_law s bytes again by made is back =
-    let told : journal_read s again ≡ Ok made.choices = ap (journal_of s.kind (length s.instances.names)) back.journal ∙ read_again s is.scenario by made s.kind is.holds in
+    let told : journal_read s again ≡ Ok made.choices = ap (journal_of s.kind (length s.instances)) back.journal ∙ read_again s is.scenario by made s.kind is.holds in
     let chosen : (cs : List Choice) → journal_read s again ≡ Ok cs → cs ≡ made.choices = (λ cs read. let both : Ok cs ≡ Ok made.choices = sym read ∙ told in cc) in
     record {
       sound =

@@ -29,7 +29,7 @@ AnswersJournal s count mid new r = (bytes : List ℕ) → (mid JournalIn).left �
 
 -- the count that is read for is that of the words
 pub counted : (s : NetworkAsked) (mid new : Role → Meaning) (r : Result (List Choice) JournalFault) (count : ℕ) → AnswersJournal s count mid new r
-    → count ≡ length s.instances.names → AnswersJournal s (length s.instances.names) mid new r
+    → count ≡ length s.instances → AnswersJournal s (length s.instances) mid new r
 counted s mid new r count answers is = subst (λ (n : ℕ). AnswersJournal s n mid new r) is answers
 
 -- the script and the capture were read, and then the journal
@@ -71,18 +71,18 @@ module _ (s : NetworkAsked) (named : is_some s.journal ≡ true) (scenario : Sce
       before Errors is = absurd (cc)
 
   -- a fault of the journal
-  module _ (e : JournalFault) (answers : AnswersJournal s (length s.instances.names) mid new (Err e)) where
+  module _ (e : JournalFault) (answers : AnswersJournal s (length s.instances) mid new (Err e)) where
     bad : (status : Status) → journal_refusal (Err e) ≡ Some status
         → ((bytes : Role → List ℕ) → HasInput (asks_audit s) old bytes → journal_read s bytes ≡ Err e)
         → IsRefusedCommand (asks_audit s) old new status
     bad status is due = refused old new only (asks_audit s) status bound (λ bytes holds.
         refusal bytes holds ∙ ap journal_refusal (due bytes holds) ∙ is)
 
-  due : (e : JournalFault) → AnswersJournal s (length s.instances.names) mid new (Err e) → (bytes : Role → List ℕ) → HasInput (asks_audit s) old bytes
-      → GivesFrom {X = List Choice} (journal_read s bytes) (drop (looked_at (count_of s.kind (length s.instances.names) (bytes JournalIn))) (bytes JournalIn)) (new JournalIn).left (Err e)
+  due : (e : JournalFault) → AnswersJournal s (length s.instances) mid new (Err e) → (bytes : Role → List ℕ) → HasInput (asks_audit s) old bytes
+      → GivesFrom {X = List Choice} (journal_read s bytes) (drop (looked_at (count_of s.kind (length s.instances) (bytes JournalIn))) (bytes JournalIn)) (new JournalIn).left (Err e)
   due e answers bytes is = answers (bytes JournalIn) (told_journal bytes is)
 
-  pub journal_row : (e : JournalFault) → AnswersJournal s (length s.instances.names) mid new (Err e)
+  pub journal_row : (e : JournalFault) → AnswersJournal s (length s.instances) mid new (Err e)
       → HasReadCause {A = List Choice} (mid JournalIn).faults (new JournalIn).faults (Err e) → RowOf (asks_audit s) old new (record { status = journal_status e; choices = [] })
   journal_row fault.Magic answers cause = (bad fault.Magic answers (BadJournal kinds.Magic) refl (λ bytes is. (due fault.Magic answers bytes is).0), refl)
   journal_row fault.Version answers cause = (bad fault.Version answers (BadJournal kinds.Version) refl (λ bytes is. (due fault.Version answers bytes is).0), refl)
@@ -95,7 +95,7 @@ module _ (s : NetworkAsked) (named : is_some s.journal ≡ true) (scenario : Sce
   journal_row fault.NoMemory answers cause = (silent old new only, refl)
 
   -- the journal was read
-  module _ (choices : List Choice) (answers : AnswersJournal s (length s.instances.names) mid new (Ok choices)) where
+  module _ (choices : List Choice) (answers : AnswersJournal s (length s.instances) mid new (Ok choices)) where
     told_choices : (bytes : Role → List ℕ) → HasInput (asks_audit s) old bytes → journal_read s bytes ≡ Ok choices
     told_choices bytes is = (answers (bytes JournalIn) (told_journal bytes is)).0
 

@@ -104,21 +104,21 @@ values_run g s is =
     let few = few_of text.0 list.0 text.2 in
     subst CanRun whole (record { some = few.some; few = few.few; limits = few.limits; marked = few.marked; window = window_in g.window window.0 window.1 })
 
-checked_few : (g : GivenTexts) (c : CheckAsked) → check_values g ≡ Some c → length c.instances.names ≤ 16
+checked_few : (g : GivenTexts) (c : CheckAsked) → check_values g ≡ Some c → length c.instances ≤ 16
 unfolding check_values
 checked_few g c is =
     let kind = and_then _ (option_and_then function_of g.function) c is in
     let list = and_then _ (option_and_then instances_of g.instances) c kind.2 in
     let script = and_then _ (option_and_then file_of g.script) c list.2 in
     let text = and_then instances_of g.instances list.0 list.1 in
-    subst (λ (c : CheckAsked). length c.instances.names ≤ 16) (same_Some _ _ script.2) (few_of text.0 list.0 text.2).few
+    subst (λ (c : CheckAsked). length c.instances ≤ 16) (same_Some _ _ script.2) (few_of text.0 list.0 text.2).few
 
 -- what holds of what was asked for
 abbrev pub IsSound : Asked → Type 0
 IsSound (asks_sim s schedule) = CanRun s
 IsSound (asks_run s) = CanRun s
 IsSound (asks_audit s) = CanRun s × (is_some s.journal ≡ true)
-IsSound (asks_check c) = length c.instances.names ≤ 16
+IsSound (asks_check c) = length c.instances ≤ 16
 IsSound (asks_gen g) = Unit {0}
 
 -- whether it is a run by threads
@@ -206,7 +206,7 @@ pub audit_runs : (words : List (List ℕ)) (s : NetworkAsked) → request_of wor
 audit_runs words s is = (request_asked words (asks_audit s) is).sound
 
 -- a check has few instances
-pub check_few : (words : List (List ℕ)) (c : CheckAsked) → request_of words ≡ Some (asks_check c) → length c.instances.names ≤ 16
+pub check_few : (words : List (List ℕ)) (c : CheckAsked) → request_of words ≡ Some (asks_check c) → length c.instances ≤ 16
 check_few words c is = (request_asked words (asks_check c) is).sound
 
 -- a run is called so, and nothing else is

@@ -31,7 +31,7 @@ pub is_named : (file : Option (Bor (List ℕ))) → is_none file ≡ false → i
 is_named None none = absurd (cc)
 is_named (Some name) none = refl
 
-pub named_script : (s : NetworkAsked) (bytes : List ℕ) → is_some s.script ≡ true → given_script s bytes ≡ script_of s.kind s.instances.names bytes
+pub named_script : (s : NetworkAsked) (bytes : List ℕ) → is_some s.script ≡ true → given_script s bytes ≡ script_of s.kind (names_of s.instances) bytes
 named_script s bytes named = rw named refl
 
 -- a script that is refused

@@ -78,7 +78,7 @@ module _ {R : Type 0} (F : Type 0) (f : Semantics R) (s : NetworkAsked) (g : Sce
         (moved (λ c l. Completed f c l world) ran.completed) (end_is_last g.captured.packets g.script.lines.items) (moved (λ c l. Promises f c l world) ran.promises);
     journal = refl;
     few = ran.few;
-    again = (let few = ran.few in journal_again s.kind (length s.instances.names) made.choices (omega (arith, few)));
+    again = (let few = ran.few in journal_again s.kind (length s.instances) made.choices (omega (arith, few)));
   }
 
   -- the choices are no complete run

@@ -3,7 +3,7 @@ ghost use Rattle.std.specs.Prelude.{◌≡◌, MatchResult, [], ◌∷◌};
 ghost use Rattle.command_words.specs.Requests.{asks_sim};
 ghost use Rattle.command_words.specs.RequestViews.{network_view};
 ghost use Rattle.opennf_calls.specs.Outcome.{IsBound, ForResults, RowOf};
-ghost use Rattle.opennf_calls.specs.Phases.{CanRun, OnlyRead, Performs, gives};
+ghost use Rattle.opennf_calls.specs.Phases.{OnlyRead, Performs, gives};
 
 use crate::inputs::read_inputs;
 use crate::network::{Made, run_scheduled};
@@ -24,7 +24,6 @@ pub fn simulate<O: Outside>(
     outside: &mut O,
 ) -> Outcome
     requires bound { IsBound (asks_sim (network_view asked.now) schedule) (O.seen outside.old) }
-    requires runs { CanRun (network_view asked.now) }
     ensures { Performs (asks_sim (network_view asked.now) schedule) (O.seen outside.old) (O.seen outside.new) result }
 {
     match make(alloc, asked, schedule, outside) {
@@ -41,7 +40,6 @@ fn make<O: Outside>(
     outside: &mut O,
 ) -> Result<Made, Status>
     requires bound { IsBound (asks_sim (network_view asked.now) schedule) (O.seen outside.old) }
-    requires runs { CanRun (network_view asked.now) }
     ensures only { OnlyRead (O.seen outside.old) (O.seen outside.new) }
 
     // What is made is what the command gives for its inputs, or the status has its row.

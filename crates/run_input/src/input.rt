@@ -8,15 +8,16 @@ ghost use Rattle.op_script.specs.Printing.{CopiedFits, IsScript, SplitsNone, Wha
 ghost use Rattle.op_script.specs.Items.{items};
 ghost use Rattle.net_world.specs.Input.{IsInput, IsSteered, ends_last, most_counted};
 ghost use Rattle.net_length.specs.Length.{IsShort};
-ghost use Rattle.run_input.specs.Settings.{config_of, IsSetting};
+ghost use Rattle.command_words.specs.Requests.{names_of};
+ghost use Rattle.run_input.specs.Settings.{config_of};
 ghost use Rattle.run_input.specs.PacketFacts.{IsTransport, IsSteeredItem};
 ghost use Rattle.flow_filter.specs.Limits.{most_packets};
 
 use crate::setting::Setting;
-use basics::{NoMemory, TryCopy};
-use flow_filter::{CapturedPacket, Filter, Flow, Name, Packet, Sequence, Site, flow_of};
+use basics::NoMemory;
+use flow_filter::{CapturedPacket, Filter, Flow, Packet, Sequence, Site, flow_of};
 use net_world::Config;
-use nf_msgs::{Msg, Names, Order};
+use nf_msgs::{Msg, Order};
 use op_script::{Line, PacketItems, Script, What, items};
 use std::alloc::Global;
 
@@ -27,8 +28,7 @@ pub fn input_of(
     script: &Script,
     packets: PacketItems,
 ) -> Result<(Config, Vec<Msg>), NoMemory>
-    requires setting { IsSetting setting.now }
-    requires script { IsScript setting.now.names.now (script_view script.now) }
+    requires script { IsScript (names_of setting.now.instances.now.rows.items) (script_view script.now) }
     requires whole { SplitsNone setting.now.kind (script_view script.now) }
     requires numbers { AreNumbered 1 packets }
     requires steered { All (λ packet. is_transport packet.proto ≡ true) packets }
@@ -158,23 +158,13 @@ fn config_of(
 ) -> Result<Config, NoMemory>
     ensures { IfOk result (λ config. config ≡ config_of setting.now routes.now) }
 {
+    let rows = setting.instances.rows.as_slice();
     Ok(Config {
-        names: names_of(alloc, setting.names)?,
-        limits: Sequence::from_vec(Vec::from_slice(alloc, setting.limits)?),
-        marked: Sequence::from_vec(Vec::from_slice(alloc, setting.marked)?),
+        names: setting.instances.names(alloc)?,
+        limits: Sequence::from_vec(rows.iter().map(|row| row.limit).collect(alloc)?),
+        marked: Sequence::from_vec(rows.iter().map(|row| row.reads_old).collect(alloc)?),
         site: setting.site,
         window: setting.window,
         routes: Sequence::from_vec(Vec::from_slice(alloc, routes)?),
     })
-}
-
-/// The same names again.
-fn names_of(alloc: Global, names: &[Name]) -> Result<Names, NoMemory>
-    ensures { IfOk result (λ copies. copies ≡ names.now) }
-{
-    let mut copies = Names::open(alloc);
-    for name in names {
-        copies.push(name.copy()?)?;
-    }
-    Ok(copies)
 }

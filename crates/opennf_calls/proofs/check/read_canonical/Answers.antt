@@ -21,19 +21,19 @@ returns-in_err-script-clause-row g c =
     (one_read Script _ _ refl c.read_bytes.ensures.alone) c.requires.bound (λ line kind is bytes told.
     let found = c.in-Ok.ensures.bytes (bytes Script) (told Script refl) in
     let read : c.items.result.now ≡ take (longest_script + 1) (bytes Script) = search rules in
-    let heard : SaysWhole script_view (Err c.in_err-script.field-0.0) (script_of c.args.asked.now.kind c.args.asked.now.instances.names.items (take (longest_script + 1) (bytes Script))) = search rules in
-    let bad : SaysWhole script_view (Err (script.Bad line kind)) (script_of c.args.asked.now.kind c.args.asked.now.instances.names.items (take (longest_script + 1) (bytes Script))) =
-    subst (λ (fault : ScriptFault). SaysWhole script_view (Err fault) (script_of c.args.asked.now.kind c.args.asked.now.instances.names.items (take (longest_script + 1) (bytes Script)))) is heard in
-    ap script_refusal (sym (script_of-front c.args.asked.now.kind c.args.asked.now.instances.names.items (bytes Script)) ∙ bad)))
+    let heard : SaysWhole script_view (Err c.in_err-script.field-0.0) (script_of c.args.asked.now.kind (names_of c.args.asked.now.instances.rows.items) (take (longest_script + 1) (bytes Script))) = search rules in
+    let bad : SaysWhole script_view (Err (script.Bad line kind)) (script_of c.args.asked.now.kind (names_of c.args.asked.now.instances.rows.items) (take (longest_script + 1) (bytes Script))) =
+    subst (λ (fault : ScriptFault). SaysWhole script_view (Err fault) (script_of c.args.asked.now.kind (names_of c.args.asked.now.instances.rows.items) (take (longest_script + 1) (bytes Script)))) is heard in
+    ap script_refusal (sym (script_of-front c.args.asked.now.kind (names_of c.args.asked.now.instances.rows.items) (bytes Script)) ∙ bad)))
 
 pub returns-clause-row : goal.returns-clause-row
 returns-clause-row g c = λ bytes told.
     let found = c.in-Ok.ensures.bytes (bytes Script) (told Script refl) in
     let read : c.items.result.now ≡ take (longest_script + 1) (bytes Script) = search rules in
-    let heard : script_of c.args.asked.now.kind c.args.asked.now.instances.names.items (take (longest_script + 1) (bytes Script)) ≡ Ok (script_view c.in_ok-script.script) = search rules in
-    let said : script_of c.args.asked.now.kind c.args.asked.now.instances.names.items (bytes Script) ≡ Ok (script_view c.in_ok-script.script) =
-    sym (script_of-front c.args.asked.now.kind c.args.asked.now.instances.names.items (bytes Script)) ∙ heard in
-    let none = nothing_left c.args.asked.now.kind c.args.asked.now.instances.names.items (bytes Script) (script_view c.in_ok-script.script) said in
+    let heard : script_of c.args.asked.now.kind (names_of c.args.asked.now.instances.rows.items) (take (longest_script + 1) (bytes Script)) ≡ Ok (script_view c.in_ok-script.script) = search rules in
+    let said : script_of c.args.asked.now.kind (names_of c.args.asked.now.instances.rows.items) (bytes Script) ≡ Ok (script_view c.in_ok-script.script) =
+    sym (script_of-front c.args.asked.now.kind (names_of c.args.asked.now.instances.rows.items) (bytes Script)) ∙ heard in
+    let none = nothing_left c.args.asked.now.kind (names_of c.args.asked.now.instances.rows.items) (bytes Script) (script_view c.in_ok-script.script) said in
     record {
       read = λ role input.
           subst (λ (r : Role). (g.O.Outside.seen c.read_bytes.new.outside r).left ≡ Some []) (sym (input_alone (asks_check (check_view c.args.asked.now)) Script (one_file-check (check_view c.args.asked.now)) role input))
