@@ -2,7 +2,7 @@
 ghost use Rattle.std.specs.Prelude.{◌≡◌, ◌==◌, IfOk, option_map, option_and_then};
 ghost use Rattle.std.specs.List.{slice_split};
 ghost use Rattle.basics.specs.Bytes.{comma};
-ghost use Rattle.command_words.specs.Requests.{limit_of, suffix_of, with_suffix, instance_of, all_instances, instances_of};
+ghost use Rattle.command_words.specs.Values.{limit_of, suffix_of, with_suffix, instance_of, all_instances, instances_of};
 
 use crate::request::{InstanceWords, Instances};
 use basics::parsing::{first_piece, parse_number, split_once};
@@ -21,7 +21,7 @@ const VERSION_1: &[u8] = b"v1";
 const MOST_INSTANCES: usize = 16;
 
 /// The instances of a list, where there are at most 16 and their names differ.
-#[tactic(auto, unfolding(crate::specs::Requests::instances_of))]
+#[tactic(auto, unfolding(crate::specs::Values::instances_of))]
 pub fn instances_of(alloc: Global, list: Option<&str>) -> Result<Option<Instances>, NoMemory>
     ensures { IfOk result (λ found. option_map (λ i. i.rows.items) found ≡ option_and_then instances_of (option_map (λ t. t.now) list.entry)) }
 {
@@ -46,7 +46,7 @@ pub fn instances_of(alloc: Global, list: Option<&str>) -> Result<Option<Instance
 impl Instances {
     ghost use Rattle.std.specs.Prelude.{◌≡◌, ◌≤◌, length, IfOk};
     ghost use Rattle.flow_filter.specs.Limits.{most_instances};
-    ghost use Rattle.command_words.specs.Requests.{names_of};
+    ghost use Rattle.command_words.specs.Values.{names_of};
 
     /// Their names.
     pub fn names(&self, alloc: Global) -> Result<Sequence<Name>, NoMemory>
@@ -79,7 +79,7 @@ fn all_instances(alloc: Global, list: &[u8]) -> Result<Option<Vec<InstanceWords>
 }
 
 /// The instance that the text spells as `NAME`, `NAME:LIMIT`, `NAME:v1` or `NAME:LIMIT:v1`.
-#[tactic(auto, unfolding(crate::specs::Requests::instance_of))]
+#[tactic(auto, unfolding(crate::specs::Values::instance_of))]
 fn instance_of(alloc: Global, text: &[u8]) -> Result<Option<InstanceWords>, NoMemory>
     ensures { IfOk result (λ found. found ≡ instance_of text.now) }
 {
@@ -111,7 +111,7 @@ fn named(
 }
 
 /// The limit that the text after a name and a colon spells, and whether the instance reads chunks of version 1 alone.
-#[tactic(auto, unfolding(crate::specs::Requests::suffix_of))]
+#[tactic(auto, unfolding(crate::specs::Values::suffix_of))]
 fn suffix_of(text: &[u8]) -> Option<(u32, bool)>
     ensures { result ≡ suffix_of text.now }
 {

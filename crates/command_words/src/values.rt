@@ -4,7 +4,7 @@ ghost use Rattle.flow_filter.specs.Limits.{most_window};
 ghost use Rattle.flow_filter.specs.Prefixes.{in_prefix, translated_bits};
 ghost use Rattle.flow_filter.specs.Reading.{prefix_numbers};
 ghost use Rattle.nf_function.specs.Names.{function_named};
-ghost use Rattle.command_words.specs.Requests.{inside_of, outside_of, window_of, count_of, given_number, schedule_of, file_of, file_if};
+ghost use Rattle.command_words.specs.Values.{inside_of, outside_of, window_of, count_of, given_number, schedule_of, file_of, file_if};
 
 use actor_net::Schedule;
 use basics::parsing::{parse_number, split_once};
@@ -29,7 +29,7 @@ pub fn function_of(text: Option<&str>) -> Option<Kind>
 }
 
 /// The prefix that the text spells as `A.B.C.D/L`.
-#[tactic(auto, unfolding(crate::specs::Requests::inside_of))]
+#[tactic(auto, unfolding(crate::specs::Values::inside_of))]
 pub fn inside_of(text: Option<&str>) -> Option<Prefix>
     ensures { option_map prefix_numbers result ≡ option_and_then inside_of (option_map (λ t. t.now) text.entry) }
 {
@@ -70,7 +70,7 @@ fn translating(inside: Prefix, outside: u32) -> Option<Site>
 }
 
 /// The window, or 256 where none is named.
-#[tactic(auto, unfolding(crate::specs::Requests::window_of))]
+#[tactic(auto, unfolding(crate::specs::Values::window_of))]
 pub fn window_of(text: Option<&str>) -> Option<u32>
     ensures value { result ≡ window_of (option_map (λ t. t.now) text.entry) }
     ensures range { IfSome result (λ window. (1 ≤ window) × (window ≤ most_window)) }
@@ -82,7 +82,7 @@ pub fn window_of(text: Option<&str>) -> Option<u32>
 }
 
 /// A number from 1 to `most`, which must be given.
-#[tactic(auto, unfolding(crate::specs::Requests::count_of))]
+#[tactic(auto, unfolding(crate::specs::Values::count_of))]
 pub fn count_of(text: Option<&str>, most: u32) -> Option<u32>
     ensures value { result ≡ option_and_then (count_of most) (option_map (λ t. t.now) text.entry) }
     ensures range { IfSome result (λ count. (1 ≤ count) × (count ≤ most)) }
@@ -99,7 +99,7 @@ pub fn given_number(text: Option<&str>) -> Option<u64>
 }
 
 /// The schedule, or `first` where none is named.
-#[tactic(auto, unfolding(crate::specs::Requests::schedule_of))]
+#[tactic(auto, unfolding(crate::specs::Values::schedule_of))]
 pub fn schedule_of(text: Option<&str>) -> Option<Schedule>
     ensures { result ≡ schedule_of (option_map (λ t. t.now) text.entry) }
 {
@@ -110,7 +110,7 @@ pub fn schedule_of(text: Option<&str>) -> Option<Schedule>
 }
 
 /// `first`, `last` or a number.
-#[tactic(auto, unfolding(crate::specs::Requests::schedule_of))]
+#[tactic(auto, unfolding(crate::specs::Values::schedule_of))]
 fn named_schedule(text: &str) -> Option<Schedule>
     ensures { result ≡ schedule_of (Some text.now) }
 {

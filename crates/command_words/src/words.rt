@@ -136,8 +136,8 @@ fn ask_gen<'a>(alloc: Global, words: &'a [String]) -> Result<CalmRequest<'a>, Ar
 }
 
 /// The values that `run`, `sim` and `audit` share, where each is in its grammar.
-#[tactic(auto, unfolding(crate::specs::Requests::network_values))]
-fn network_values<'a>(
+#[tactic(auto, unfolding(crate::specs::NetworkWords::network_values))]
+pub(crate) fn network_values<'a>(
     alloc: Global,
     given: &Given<'a>,
 ) -> Result<NetworkRequest<'a>, ArgumentsFault>

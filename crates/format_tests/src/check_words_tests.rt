@@ -71,7 +71,9 @@ static CHECK: [(&str, &str); 53] = [
 
 /// The limit of each instance, and whether it reads chunks of version 1 alone.
 fn rows_of(alloc: Global, rows: &[InstanceWords]) -> Result<Vec<(u32, bool)>, NoMemory> {
-    rows.iter().map(|row| (row.limit, row.reads_old)).collect(alloc)
+    rows.iter()
+        .map(|row| (row.limit, row.reads_old))
+        .collect(alloc)
 }
 
 #[test]

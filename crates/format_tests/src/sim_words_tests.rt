@@ -233,8 +233,14 @@ fn sim_gives_all_that_its_words_say(rt: HostRuntime) -> Result<(), Fail> {
     let [a, b] = asked.instances.rows.as_slice() else {
         return Err(Fail::from("not two instances"));
     };
-    assert_eq!(rt; (a.name.items(), a.limit, a.reads_old), ("a".as_bytes(), 1_000_000, false));
-    assert_eq!(rt; (b.name.items(), b.limit, b.reads_old), ("b".as_bytes(), 5, true));
+    assert_eq!(rt;
+        (a.name.items(), a.limit, a.reads_old),
+        ("a".as_bytes(), 1_000_000, false)
+    );
+    assert_eq!(rt;
+        (b.name.items(), b.limit, b.reads_old),
+        ("b".as_bytes(), 5, true)
+    );
     assert_eq!(rt;
         (asked.site.inside.bits, asked.site.inside.len),
         (0x0a00_0000, 24)

@@ -83,8 +83,8 @@ fn words_of_gen_are_a_command_or_usage(rt: HostRuntime) -> Result<(), Fail> {
 #[test]
 fn gen_gives_its_numbers_and_the_file(rt: HostRuntime) -> Result<(), Fail> {
     let words = split(rt.alloc(), "x gen 7 --hosts 200 --packets 10000 t")?;
-    let Ok(Request::Calm(CalmRequest::Gen(asked))) =
-        parse_command(rt.alloc(), words.as_slice()) else {
+    let Ok(Request::Calm(CalmRequest::Gen(asked))) = parse_command(rt.alloc(), words.as_slice())
+    else {
         return Err(Fail::from("no gen"));
     };
     assert_eq!(rt;

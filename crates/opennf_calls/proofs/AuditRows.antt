@@ -15,10 +15,12 @@ use Rattle.opennf_calls.specs.declared.status.Status.TheVariants.{Ok as Done, Us
 use Rattle.opennf_calls.specs.declared.status.JournalKind.TheVariants as kinds
 use Rattle.opennf_calls.specs.declared.network.Made.{Made}
 use Rattle.opennf_calls.specs.Command.{is_input, is_read_before}
+use Rattle.opennf_calls.specs.Functions.{OfKind}
 use Rattle.opennf_calls.specs.NetworkRuns.{Scenario, RunResults, HasRun}
 use Rattle.opennf_calls.specs.Outcome.{EarlierAreSound, ForResults, HasEarlier, HasInput, IsBound, IsRead, IsRefusedCommand, RowOf, first_refusal, journal_read, journal_refusal, refusal_of}
 use Rattle.opennf_calls.specs.Phases.{HasInputs, IsRefusedRun, OnlyRead, ReadAlone, ReadToEnd, TellsInputs, gives}
 use Rattle.opennf_calls.specs.Status.{journal_status}
+use Rattle.opennf_calls.proofs.FunctionLemmas.{from_kind}
 use Rattle.opennf_calls.proofs.RowLemmas.{more_read, not_before, one_read, read_fault, refused, silent, still_bound}
 use Rattle.opennf_calls.proofs.RunRows.{audit_reads, journal_read_too, tells}
 
@@ -117,6 +119,9 @@ module _ (s : NetworkAsked) (named : is_some s.journal ≡ true) (scenario : Sce
       wrote = refl;
     }
 
+    never : OfKind s.kind (λ R F f. ⊥) → ⊥
+    never cause = from_kind s.kind (λ R F f. ⊥) ⊥ (λ R F f no. no) cause
+
     no_run_row : (status : Status) → IsRefusedRun s scenario choices status → RowOf (asks_audit s) old new (record { status = status; choices = [] })
     no_run_row (NotARun step) cause = (
       record {
@@ -135,13 +140,13 @@ module _ (s : NetworkAsked) (named : is_some s.journal ≡ true) (scenario : Sce
       refl,
     )
     no_run_row NoMemory cause = (silent old new only, refl)
-    no_run_row Done cause = absurd cause
-    no_run_row Usage cause = absurd cause
-    no_run_row (BadScript line kind) cause = absurd cause
-    no_run_row (BadTrace offset kind) cause = absurd cause
-    no_run_row (BadJournal _) cause = absurd cause
-    no_run_row (ReadFault role) cause = absurd cause
-    no_run_row (WriteFault role) cause = absurd cause
+    no_run_row Done cause = absurd (never cause)
+    no_run_row Usage cause = absurd (never cause)
+    no_run_row (BadScript line kind) cause = absurd (never cause)
+    no_run_row (BadTrace offset kind) cause = absurd (never cause)
+    no_run_row (BadJournal _) cause = absurd (never cause)
+    no_run_row (ReadFault role) cause = absurd (never cause)
+    no_run_row (WriteFault role) cause = absurd (never cause)
 
     -- what the run gives that it tells, or why there is nothing
     pub told_row : (r : Result Made Status) → MatchResult r (λ made. HasRun s scenario None (gives s made) × (made.choices ≡ choices)) (IsRefusedRun s scenario choices)

@@ -1,5 +1,5 @@
 -- What a run of the network is given, and what comes of it: a complete run from its start, its report and its journal. This project's own.
-use Rattle.std.specs.Prelude.{◌≡◌, ◌<◌, ℕ, true, List, [], ◌∷◌, map, length, Option, Some, is_some, Result, Ok, if◌then◌else◌}
+use Rattle.std.specs.Prelude.{◌≡◌, ◌<◌, ℕ, true, List, [], map, length, Option, Some, is_some, Result, Ok, if◌then◌else◌}
 use Rattle.std.specs.declared.alloc.Global.{Global}
 use Rattle.flow_filter.specs.declared.filter.Filter.{Filter}
 use Rattle.flow_filter.specs.declared.site.Site.{Site}
@@ -12,7 +12,8 @@ use Rattle.op_script.specs.declared.fault.ScriptKind.{ScriptKind}
 use Rattle.op_script.specs.Items as script_items
 use Rattle.op_script.specs.Reading.{ScriptView, script_of}
 use Rattle.command_words.specs.declared.request.InstanceWords.{InstanceWords}
-use Rattle.command_words.specs.Requests.{NetworkAsked, names_of}
+use Rattle.command_words.specs.Requests.{NetworkAsked}
+use Rattle.command_words.specs.Values.{names_of}
 use Rattle.nf_io.specs.declared.outside.Role.{Role}
 use Rattle.nf_io.specs.declared.outside.Role.TheVariants.{Report, JournalOut}
 use Rattle.actor_net.specs.declared.choice.Choice.{Choice}

@@ -16,7 +16,8 @@ use Rattle.journal_file.specs.Format.{journal_bytes}
 use Rattle.net_world.specs.Input.{IsInput}
 use Rattle.net_length.specs.Length.{IsShort}
 use Rattle.actor_net.specs.declared.choice.Choice.{Choice}
-use Rattle.command_words.specs.Requests.{Asked, NetworkAsked, names_of}
+use Rattle.command_words.specs.Requests.{Asked, NetworkAsked}
+use Rattle.command_words.specs.Values.{names_of}
 use Rattle.opennf_calls.specs.declared.status.Status.{Status}
 use Rattle.opennf_calls.specs.declared.status.Status.TheVariants.{BadScript, BadTrace, NoMemory, NotARun, ReadFault}
 use Rattle.opennf_calls.specs.declared.outcome.Outcome.{Outcome}

@@ -34,11 +34,7 @@ pub fn audit<O: Outside>(alloc: Global, asked: &Auditing<'_>, outside: &mut O) -
 }
 
 /// Reads the inputs and the journal, and takes its choices.
-fn make<O: Outside>(
-    alloc: Global,
-    asked: &Auditing<'_>,
-    outside: &mut O,
-) -> Result<Made, Status>
+fn make<O: Outside>(alloc: Global, asked: &Auditing<'_>, outside: &mut O) -> Result<Made, Status>
     requires { IsBound (asks_audit (network_view asked.now.network)) (O.seen outside.old) }
     ensures only { OnlyRead (O.seen outside.old) (O.seen outside.new) }
     ensures row { MatchResult result

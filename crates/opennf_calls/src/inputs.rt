@@ -10,7 +10,7 @@ ghost use Rattle.trace_reader.specs.Records.{AreNumbered, capture_of};
 ghost use Rattle.trace_reader.specs.Steered.{is_steered_proto};
 ghost use Rattle.op_script.specs.Printing.{IsScript, SplitsNone};
 ghost use Rattle.op_script.specs.Reading.{script_view};
-ghost use Rattle.command_words.specs.Requests.{names_of};
+ghost use Rattle.command_words.specs.Values.{names_of};
 ghost use Rattle.command_words.specs.RequestViews.{network_view};
 ghost use Rattle.opennf_calls.specs.Phases.{CanBegin, HasInputs, HasScript, InputsBound, InputsFail, OnlyRead, ReadAlone, scenario_of};
 

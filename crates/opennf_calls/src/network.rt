@@ -11,11 +11,14 @@ use crate::status::Status;
 use crate::threads::run_network;
 use actor_net::{Choices, Schedule, ScheduleFault, World};
 use actor_threads::Gate;
+use addr_translator::Nat;
+use asset_monitor::Monitor;
 use basics::{NoMemory, TryCopy};
 use command_words::NetworkRequest;
+use conn_tracker::Conntrack;
 use flow_filter::Text;
 use net_world::{Config, Node};
-use nf_function::Function;
+use nf_function::{Function, Kind};
 use nf_msgs::Msg;
 use nf_net::simulate;
 use run_input::{Setting, input_of};
@@ -59,7 +62,8 @@ pub fn run_scheduled(
     for_kind(kind, scheduled)
 }
 
-/// Runs the network by threads.
+/// Runs the network by threads. What goes to other threads has to be known where the function is chosen, so this doesn't go through
+/// [`for_kind`].
 pub fn run_threaded<R: Threads + Wait + Sync, G: Gate>(
     rt: &R,
     alloc: Global,
@@ -71,14 +75,11 @@ pub fn run_threaded<R: Threads + Wait + Sync, G: Gate>(
     ensures { IfOk result (λ made. HasRun (network_view asked.now) (scenario_of asked.now.site inputs) None (gives (network_view asked.now) made)) }
 {
     let kind = asked.kind;
-    let threaded = Threaded {
-        rt,
-        alloc,
-        asked,
-        inputs,
-        gate,
-    };
-    for_kind(kind, threaded)
+    match kind {
+        Kind::Conntrack => thread_network::<R, Conntrack, G>(rt, alloc, asked, inputs, gate),
+        Kind::Nat => thread_network::<R, Nat, G>(rt, alloc, asked, inputs, gate),
+        Kind::Monitor => thread_network::<R, Monitor, G>(rt, alloc, asked, inputs, gate),
+    }
 }
 
 /// Runs the network by choices, which are to be a complete run.
@@ -125,32 +126,6 @@ impl ForFunction for Scheduled<'_, '_> {
         F::Record: Send,
     {
         schedule_network::<F>(self.alloc, self.asked, self.inputs, self.schedule)
-    }
-}
-
-/// A run by threads, for any function.
-#[derive(Drop)]
-struct Threaded<'a, 'w, R, G> {
-    rt: &'a R,
-    alloc: Global,
-    asked: &'a NetworkRequest<'w>,
-    inputs: Inputs,
-    gate: &'a G,
-}
-
-impl<R: Threads + Wait + Sync, G: Gate> ForFunction for Threaded<'_, '_, R, G> {
-    type Output = Result<Made, NoMemory>;
-
-    ghost may = { λ w kind. (kind ≡ w.asked.now.kind) × CanBegin (network_view w.asked.now) (scenario_of w.asked.now.site w.inputs) };
-
-    ghost gives = { λ w R F f r. IfOk r (λ made.
-        IsRunOf (run_given F f (network_view w.asked.now) (scenario_of w.asked.now.site w.inputs)) None (gives (network_view w.asked.now) made)) };
-
-    fn call<F: Function + Send>(self) -> Result<Made, NoMemory>
-    where
-        F::Record: Send,
-    {
-        thread_network::<R, F, G>(self.rt, self.alloc, self.asked, self.inputs, self.gate)
     }
 }
 

@@ -26,7 +26,7 @@ pub fn run<R: Threads + Wait + Sync, O: Outside, G: Gate>(
     outside: &mut O,
     gate: &G,
 ) -> Outcome
-    requires bound { IsBound (asks_run (network_view asked.now)) (O.seen outside.old) }
+    requires { IsBound (asks_run (network_view asked.now)) (O.seen outside.old) }
     ensures { Performs (asks_run (network_view asked.now)) (O.seen outside.old) (O.seen outside.new) result }
 {
     match make(rt, alloc, asked, outside, gate) {
@@ -43,7 +43,7 @@ fn make<R: Threads + Wait + Sync, O: Outside, G: Gate>(
     outside: &mut O,
     gate: &G,
 ) -> Result<Made, Status>
-    requires bound { IsBound (asks_run (network_view asked.now)) (O.seen outside.old) }
+    requires { IsBound (asks_run (network_view asked.now)) (O.seen outside.old) }
     ensures only { OnlyRead (O.seen outside.old) (O.seen outside.new) }
     ensures row { MatchResult result
         (λ made. ForResults (asks_run (network_view asked.now)) (O.seen outside.old) (O.seen outside.new) (λ g. g ≡ gives (network_view asked.now) made))

@@ -23,7 +23,7 @@ pub fn simulate<O: Outside>(
     schedule: Schedule,
     outside: &mut O,
 ) -> Outcome
-    requires bound { IsBound (asks_sim (network_view asked.now) schedule) (O.seen outside.old) }
+    requires { IsBound (asks_sim (network_view asked.now) schedule) (O.seen outside.old) }
     ensures { Performs (asks_sim (network_view asked.now) schedule) (O.seen outside.old) (O.seen outside.new) result }
 {
     match make(alloc, asked, schedule, outside) {
@@ -39,7 +39,7 @@ fn make<O: Outside>(
     schedule: Schedule,
     outside: &mut O,
 ) -> Result<Made, Status>
-    requires bound { IsBound (asks_sim (network_view asked.now) schedule) (O.seen outside.old) }
+    requires { IsBound (asks_sim (network_view asked.now) schedule) (O.seen outside.old) }
     ensures only { OnlyRead (O.seen outside.old) (O.seen outside.new) }
 
     // What is made is what the command gives for its inputs, or the status has its row.

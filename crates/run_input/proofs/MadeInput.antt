@@ -17,7 +17,7 @@ use Rattle.net_world.specs.Input.{IsSteered, most_counted, IsInput}
 use Rattle.net_world.specs.Start.{IsConfig}
 use Rattle.run_input.specs.declared.setting.Setting.{Setting}
 use Rattle.command_words.specs.declared.request.InstanceWords.{InstanceWords}
-use Rattle.command_words.specs.Requests.{names_of}
+use Rattle.command_words.specs.Values.{names_of}
 use Rattle.run_input.specs.Settings.{config_of}
 use Rattle.run_input.proofs.SaidCommands.{only_items, packets_in, commands_in}
 use Rattle.run_input.proofs.ScriptedOrders.{numbers_rise, in_order, ops_rise, all_proper, routes_whole, routes_there}

@@ -2,7 +2,7 @@
 use Rattle.std.specs.Prelude.{ℕ, List, map}
 use Rattle.flow_filter.specs.declared.filter.Filter.{Filter}
 use Rattle.command_words.specs.declared.request.InstanceWords.{InstanceWords}
-use Rattle.command_words.specs.Requests.{names_of}
+use Rattle.command_words.specs.Values.{names_of}
 use Rattle.net_world.specs.declared.config.Config.{Config}
 use Rattle.run_input.specs.declared.setting.Setting.{Setting}
 

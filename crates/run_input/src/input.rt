@@ -1,4 +1,4 @@
-ghost use Rattle.std.specs.Prelude.{◌≡◌, ◌<◌, ◌≤◌, ◌^◌, true, All, length, IfOk};
+ghost use Rattle.std.specs.Prelude.{◌≡◌, ◌<◌, ◌≤◌, ◌^◌, true, All, length, map, IfOk};
 ghost use Rattle.flow_filter.specs.Filter.{IsFilter, IsFlow};
 ghost use Rattle.nf_function.specs.Records.{Fits};
 ghost use Rattle.nf_function.specs.Units.{is_transport};
@@ -8,13 +8,14 @@ ghost use Rattle.op_script.specs.Printing.{CopiedFits, IsScript, SplitsNone, Wha
 ghost use Rattle.op_script.specs.Items.{items};
 ghost use Rattle.net_world.specs.Input.{IsInput, IsSteered, ends_last, most_counted};
 ghost use Rattle.net_length.specs.Length.{IsShort};
-ghost use Rattle.command_words.specs.Requests.{names_of};
+ghost use Rattle.command_words.specs.Values.{names_of};
 ghost use Rattle.run_input.specs.Settings.{config_of};
 ghost use Rattle.run_input.specs.PacketFacts.{IsTransport, IsSteeredItem};
 ghost use Rattle.flow_filter.specs.Limits.{most_packets};
 
 use crate::setting::Setting;
 use basics::NoMemory;
+use command_words::InstanceWords;
 use flow_filter::{CapturedPacket, Filter, Flow, Packet, Sequence, Site, flow_of};
 use net_world::Config;
 use nf_msgs::{Msg, Order};
@@ -161,10 +162,24 @@ fn config_of(
     let rows = setting.instances.rows.as_slice();
     Ok(Config {
         names: setting.instances.names(alloc)?,
-        limits: Sequence::from_vec(rows.iter().map(|row| row.limit).collect(alloc)?),
-        marked: Sequence::from_vec(rows.iter().map(|row| row.reads_old).collect(alloc)?),
+        limits: Sequence::from_vec(limits_of(alloc, rows)?),
+        marked: Sequence::from_vec(old_readers(alloc, rows)?),
         site: setting.site,
         window: setting.window,
         routes: Sequence::from_vec(Vec::from_slice(alloc, routes)?),
     })
+}
+
+/// How many records each instance takes.
+fn limits_of(alloc: Global, rows: &[InstanceWords]) -> Result<Vec<u32>, NoMemory>
+    ensures { IfOk result (λ limits. limits.items ≡ map (λ row. row.limit) rows.now) }
+{
+    rows.iter().map(|row| row.limit).collect(alloc)
+}
+
+/// Which instances read chunks of version 1 alone.
+fn old_readers(alloc: Global, rows: &[InstanceWords]) -> Result<Vec<bool>, NoMemory>
+    ensures { IfOk result (λ old. old.items ≡ map (λ row. row.reads_old) rows.now) }
+{
+    rows.iter().map(|row| row.reads_old).collect(alloc)
 }

@@ -3,7 +3,7 @@ use Rattle.std.proofs.Common.{◌≡◌, ◌==◌, ◌++◌, option_map}
 use Rattle.std.specs.List.{slice_split}
 use Rattle.basics.specs.Parsing.{remaining_pieces}
 use Rattle.basics.proofs.BytesLeft.{bytes_left}
-use Rattle.command_words.specs.Requests.{all_instances}
+use Rattle.command_words.specs.Values.{all_instances}
 use Rattle.command_words.proofs.instances.all_instances.Given as goal
 
 -- the instances so far and the pieces that are left give what the whole list gives

@@ -5,6 +5,7 @@ use Rattle.nf_io.specs.declared.outside.Role.TheVariants.{Script}
 use Rattle.op_script.specs.declared.fault.ScriptFault.{ScriptFault}
 use Rattle.op_script.specs.declared.fault.ScriptFault.TheVariants as script
 use Rattle.op_script.specs.Reading.{SaysWhole, script_of, script_view, longest_script}
+use Rattle.command_words.specs.Values.{names_of}
 use Rattle.command_words.specs.RequestViews.{network_view}
 use Rattle.opennf_calls.proofs.ScriptLemmas.{script_of-front, nothing_left}
 use Rattle.opennf_calls.proofs.InputRows.{is_named, named_script, script_fails}
@@ -15,9 +16,9 @@ returns-in_err-script-clause-said g c =
     let s = network_view c.args.asked.now in
     let given : is_none c.args.asked.now.script ≡ false = search rules in
     let named = is_named c.args.asked.now.script given in
-    let failed = err_from_is_err_and c.from_residual.result c.from_residual.ensures.1 in
+    let failed = err_from_is_err_and c.from_residual-in_err-script.result c.from_residual-in_err-script.ensures.1 in
     rw (failed.1, failed.2)
-    (script_fails s (g.O.Outside.seen c.args.outside.now) (g.O.Outside.seen c.read_bytes.new.outside) c.in_err-script.field-0.0
+    (script_fails s (g.O.Outside.seen c.args.outside.now) (g.O.Outside.seen c.read_script_bytes.new.outside) c.in_err-script.field-0.0
     (λ line kind is bytes told.
     let found = c.in-Ok.ensures.bytes (bytes Script) (told.script named) in
     let read : c.items.result.now ≡ take (longest_script + 1) (bytes Script) = search rules in

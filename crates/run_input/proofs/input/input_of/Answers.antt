@@ -6,7 +6,7 @@ use Rattle.flow_filter.specs.Filter.{IsFilter}
 use Rattle.op_script.specs.declared.script.Line.{Line}
 use Rattle.net_world.specs.Input.{most_counted, ends_last}
 use Rattle.op_script.specs.Printing.{WhatFits}
-use Rattle.command_words.specs.Requests.{names_of}
+use Rattle.command_words.specs.Values.{names_of}
 use Rattle.run_input.specs.Settings.{config_of}
 use Rattle.run_input.specs.PacketFacts.{IsTransport, IsSteeredItem}
 use Rattle.run_input.proofs.MadeInput.{made_is}

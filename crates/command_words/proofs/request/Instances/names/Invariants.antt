@@ -1,6 +1,6 @@
 -- The names so far.
 use Rattle.std.proofs.Common.{◌≡◌, take}
-use Rattle.command_words.specs.Requests.{names_of}
+use Rattle.command_words.specs.Values.{names_of}
 use Rattle.command_words.proofs.request.Instances.names.Given as goal
 
 abbrev pub invariant-loop-row : goal.invariant-loop-row
