@@ -15,10 +15,12 @@ use Rattle.opennf_calls.specs.declared.status.Status.TheVariants.{Ok as Done, Us
 use Rattle.opennf_calls.specs.declared.status.JournalKind.TheVariants as kinds
 use Rattle.opennf_calls.specs.declared.network.Made.{Made}
 use Rattle.opennf_calls.specs.Command.{is_input, is_read_before}
+use Rattle.opennf_calls.specs.Functions.{OfKind}
 use Rattle.opennf_calls.specs.NetworkRuns.{Scenario, RunResults, HasRun}
 use Rattle.opennf_calls.specs.Outcome.{EarlierAreSound, ForResults, HasEarlier, HasInput, IsBound, IsRead, IsRefusedCommand, RowOf, first_refusal, journal_read, journal_refusal, refusal_of}
 use Rattle.opennf_calls.specs.Phases.{HasInputs, IsRefusedRun, OnlyRead, ReadAlone, ReadToEnd, TellsInputs, gives}
 use Rattle.opennf_calls.specs.Status.{journal_status}
+use Rattle.opennf_calls.proofs.FunctionLemmas.{from_kind}
 use Rattle.opennf_calls.proofs.RowLemmas.{more_read, not_before, one_read, read_fault, refused, silent, still_bound}
 use Rattle.opennf_calls.proofs.RunRows.{audit_reads, journal_read_too, tells}
 
@@ -29,7 +31,7 @@ AnswersJournal s count mid new r = (bytes : List ℕ) → (mid JournalIn).left �
 
 -- the count that is read for is that of the words
 pub counted : (s : NetworkAsked) (mid new : Role → Meaning) (r : Result (List Choice) JournalFault) (count : ℕ) → AnswersJournal s count mid new r
-    → count ≡ length s.instances.names → AnswersJournal s (length s.instances.names) mid new r
+    → count ≡ length s.instances → AnswersJournal s (length s.instances) mid new r
 counted s mid new r count answers is = subst (λ (n : ℕ). AnswersJournal s n mid new r) is answers
 
 -- the script and the capture were read, and then the journal
@@ -71,18 +73,18 @@ module _ (s : NetworkAsked) (named : is_some s.journal ≡ true) (scenario : Sce
       before Errors is = absurd (cc)
 
   -- a fault of the journal
-  module _ (e : JournalFault) (answers : AnswersJournal s (length s.instances.names) mid new (Err e)) where
+  module _ (e : JournalFault) (answers : AnswersJournal s (length s.instances) mid new (Err e)) where
     bad : (status : Status) → journal_refusal (Err e) ≡ Some status
         → ((bytes : Role → List ℕ) → HasInput (asks_audit s) old bytes → journal_read s bytes ≡ Err e)
         → IsRefusedCommand (asks_audit s) old new status
     bad status is due = refused old new only (asks_audit s) status bound (λ bytes holds.
         refusal bytes holds ∙ ap journal_refusal (due bytes holds) ∙ is)
 
-  due : (e : JournalFault) → AnswersJournal s (length s.instances.names) mid new (Err e) → (bytes : Role → List ℕ) → HasInput (asks_audit s) old bytes
-      → GivesFrom {X = List Choice} (journal_read s bytes) (drop (looked_at (count_of s.kind (length s.instances.names) (bytes JournalIn))) (bytes JournalIn)) (new JournalIn).left (Err e)
+  due : (e : JournalFault) → AnswersJournal s (length s.instances) mid new (Err e) → (bytes : Role → List ℕ) → HasInput (asks_audit s) old bytes
+      → GivesFrom {X = List Choice} (journal_read s bytes) (drop (looked_at (count_of s.kind (length s.instances) (bytes JournalIn))) (bytes JournalIn)) (new JournalIn).left (Err e)
   due e answers bytes is = answers (bytes JournalIn) (told_journal bytes is)
 
-  pub journal_row : (e : JournalFault) → AnswersJournal s (length s.instances.names) mid new (Err e)
+  pub journal_row : (e : JournalFault) → AnswersJournal s (length s.instances) mid new (Err e)
       → HasReadCause {A = List Choice} (mid JournalIn).faults (new JournalIn).faults (Err e) → RowOf (asks_audit s) old new (record { status = journal_status e; choices = [] })
   journal_row fault.Magic answers cause = (bad fault.Magic answers (BadJournal kinds.Magic) refl (λ bytes is. (due fault.Magic answers bytes is).0), refl)
   journal_row fault.Version answers cause = (bad fault.Version answers (BadJournal kinds.Version) refl (λ bytes is. (due fault.Version answers bytes is).0), refl)
@@ -95,7 +97,7 @@ module _ (s : NetworkAsked) (named : is_some s.journal ≡ true) (scenario : Sce
   journal_row fault.NoMemory answers cause = (silent old new only, refl)
 
   -- the journal was read
-  module _ (choices : List Choice) (answers : AnswersJournal s (length s.instances.names) mid new (Ok choices)) where
+  module _ (choices : List Choice) (answers : AnswersJournal s (length s.instances) mid new (Ok choices)) where
     told_choices : (bytes : Role → List ℕ) → HasInput (asks_audit s) old bytes → journal_read s bytes ≡ Ok choices
     told_choices bytes is = (answers (bytes JournalIn) (told_journal bytes is)).0
 
@@ -117,6 +119,9 @@ module _ (s : NetworkAsked) (named : is_some s.journal ≡ true) (scenario : Sce
       wrote = refl;
     }
 
+    never : OfKind s.kind (λ R F f. ⊥) → ⊥
+    never cause = from_kind s.kind (λ R F f. ⊥) ⊥ (λ R F f no. no) cause
+
     no_run_row : (status : Status) → IsRefusedRun s scenario choices status → RowOf (asks_audit s) old new (record { status = status; choices = [] })
     no_run_row (NotARun step) cause = (
       record {
@@ -135,13 +140,13 @@ module _ (s : NetworkAsked) (named : is_some s.journal ≡ true) (scenario : Sce
       refl,
     )
     no_run_row NoMemory cause = (silent old new only, refl)
-    no_run_row Done cause = absurd cause
-    no_run_row Usage cause = absurd cause
-    no_run_row (BadScript line kind) cause = absurd cause
-    no_run_row (BadTrace offset kind) cause = absurd cause
-    no_run_row (BadJournal _) cause = absurd cause
-    no_run_row (ReadFault role) cause = absurd cause
-    no_run_row (WriteFault role) cause = absurd cause
+    no_run_row Done cause = absurd (never cause)
+    no_run_row Usage cause = absurd (never cause)
+    no_run_row (BadScript line kind) cause = absurd (never cause)
+    no_run_row (BadTrace offset kind) cause = absurd (never cause)
+    no_run_row (BadJournal _) cause = absurd (never cause)
+    no_run_row (ReadFault role) cause = absurd (never cause)
+    no_run_row (WriteFault role) cause = absurd (never cause)
 
     -- what the run gives that it tells, or why there is nothing
     pub told_row : (r : Result Made Status) → MatchResult r (λ made. HasRun s scenario None (gives s made) × (made.choices ≡ choices)) (IsRefusedRun s scenario choices)

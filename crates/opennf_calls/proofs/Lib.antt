@@ -1,8 +1,8 @@
 pub mod AuditLaws
 pub mod AuditRows
-pub mod BuiltCommands
 pub mod CompleteLemmas
 pub mod EndedCommands
+pub mod FunctionLemmas
 pub mod InputRows
 pub mod LastLineLemmas
 pub mod LoggedNumbers
