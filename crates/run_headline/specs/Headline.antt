@@ -16,7 +16,8 @@ use Rattle.nf_msgs.specs.declared.command.Command.{Command}
 use Rattle.nf_msgs.specs.declared.command.Order.{Order}
 use Rattle.nf_msgs.specs.declared.command.Order.TheVariants.{Move}
 use Rattle.report_lines.specs.Lines.{NamedRecord, named_line, out_line, record_line}
-use Rattle.run_report.specs.Lines.{answer_line}
+use Rattle.run_report.specs.declared.head.Head.{Head}
+use Rattle.run_report.specs.Lines.{answer_line, head_lines}
 
 -- what a report is of: the function, the site, the packets of the capture and the commands of the script
 pub record Subject (R : Type 0) : Type 0 where
@@ -88,3 +89,10 @@ module _ {R : Type 0} (subject : Subject R) where
     pub outputs : (unit : units.Unit) → is_covered lines.answers unit ≡ false → outs_of unit lines.outs ≡ outputs_to (packets_of unit)
     pub record_is : (unit : units.Unit) → is_covered lines.answers unit ≡ false
         → records_of unit lines.states ≡ option_to_list (record_after (packets_of unit))
+
+-- a text has lines of which this holds, between the head of a report and what it says of records that stand by and of tallies
+pub record HasHeadline {R : Type 0} (subject : Subject R) (head : Head) (text : List ℕ) : Type 0 where
+  pub lines : ReportLines R
+  pub bottom : List ℕ
+  pub text_is : text ≡ head_lines head ++ lines_text subject.function head.names lines ++ bottom
+  pub headline : Headline subject lines

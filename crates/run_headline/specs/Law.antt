@@ -16,8 +16,9 @@ use Rattle.net_world.specs.Nodes.{node_ready, node_step}
 use Rattle.net_world.specs.Start.{started}
 use Rattle.nf_net.specs.Promises.{Promises, Completed}
 use Rattle.report_lines.specs.Lines.{by_number, by_unit, output_in}
-use Rattle.run_report.specs.Lines.{answer_in, named_instances}
-use Rattle.run_headline.specs.Headline.{Subject, ReportLines, Headline, is_covered, outs_of, records_of}
+use Rattle.run_report.specs.Lines.{answer_in, named_instances, report_text}
+use Rattle.run_report.specs.declared.head.Head.{Head}
+use Rattle.run_headline.specs.Headline.{Subject, ReportLines, HasHeadline, Headline, is_covered, outs_of, records_of}
 
 -- the number of a packet that was processed, and of the instance at which it was
 abbrev pub done_in : Note → Option (ℕ × ℕ)
@@ -54,7 +55,8 @@ module _ {R : Type 0} (F : Type 0) (f : Semantics R) (alloc : Global) (config : 
 module _ {R : Type 0} (F : Type 0) (f : Semantics R) where
   abbrev pub HeadlineLaw : Type 0
   HeadlineLaw = (alloc : Global) (config : Config) (items : List Msg) (choices : List Choice) → IsCompleted F f alloc config items choices
-      → Headline (subject f config items) (lines f config items (run (node_step f) choices (started {F = F} {R = R} alloc config items)))
+      → (head : Head) → head.names ≡ config.names
+      → HasHeadline (subject f config items) head (report_text f head false (run (node_step f) choices (started {F = F} {R = R} alloc config items)))
 
 -- Two runs of a function over one capture at one site, whatever their scripts, schedules and instances.
 module _ {R : Type 0} (f : Semantics R) (one other : Subject R) where
