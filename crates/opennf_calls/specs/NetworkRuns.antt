@@ -1,5 +1,5 @@
 -- What a run of the network is given, and what comes of it: a complete run from its start, its report and its journal. This project's own.
-use Rattle.std.specs.Prelude.{◌≡◌, ◌<◌, ℕ, true, List, [], map, length, Option, Some, is_some, Result, Ok, if◌then◌else◌}
+use Rattle.std.specs.Prelude.{◌≡◌, ◌<◌, ℕ, true, false, List, [], map, length, Option, Some, is_some, Result, Ok, if◌then◌else◌}
 use Rattle.std.specs.declared.alloc.Global.{Global}
 use Rattle.flow_filter.specs.declared.filter.Filter.{Filter}
 use Rattle.flow_filter.specs.declared.site.Site.{Site}
@@ -33,6 +33,7 @@ use Rattle.net_world.specs.Start.{started}
 use Rattle.net_world.specs.Window.{AllHome}
 use Rattle.opennf_calls.specs.Functions.{OfKind}
 use Rattle.report_lines.specs.Lines.{by_number, output_in}
+use Rattle.run_headline.specs.Headline.{HasHeadline, Subject}
 use Rattle.run_report.specs.declared.head.Head.{Head}
 use Rattle.run_report.specs.Audits.{IsAuditCause}
 use Rattle.run_report.specs.Lines.{answer_in, report_text}
@@ -95,6 +96,15 @@ job_for given = job_of given.function (config_for given.words given.scenario.sit
 abbrev pub start_for : {F R : Type 0} → Job R → Global → Network (Node F R) Msg Note
 start_for job alloc = started alloc job.config job.items
 
+-- what a report is of
+abbrev pub subject_for : {R : Type 0} → Semantics R → Scenario → Subject R
+subject_for f scenario = record {
+  function = f;
+  site = scenario.site;
+  packets = scenario.captured.packets;
+  commands = commands (items_for scenario.captured scenario.script);
+}
+
 module _ {F R : Type 0} (given : RunGiven F R) where
   -- the course of a run of it
   abbrev course_for : Global → List Choice → Course F R
@@ -116,6 +126,8 @@ module _ {F R : Type 0} (given : RunGiven F R) where
     -- its outputs stand by the numbers of the packets that were captured, each once and in order, and its answers by those of the commands
     pub outs : map (λ x. x.0) (by_number output_in world.log) ≡ map (λ p. p.number) given.scenario.captured.packets
     pub answers : map (λ x. x.0) (by_number answer_in world.log) ≡ map (λ c. c.op) (commands (job_for given).items)
+    -- what the report says of each packet, each unit and each command
+    pub headline : given.words.summary ≡ false → HasHeadline (subject_for given.function given.scenario) (head_for given.words given.scenario.captured) (made.texts Report)
     pub journal : made.texts JournalOut ≡ journal_bytes given.words.kind (length given.words.instances) made.choices
     -- its choices are fewer than a journal may have, so the journal is read as these choices again
     pub few : length made.choices < MOST_CHOICES
