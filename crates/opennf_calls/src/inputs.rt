@@ -85,7 +85,10 @@ fn read_commands<O: Outside>(
 }
 
 /// Reads the capture.
-fn read_capture<O: Outside>(alloc: Global, outside: &mut O) -> Result<CapturedItems, TraceFault>
+pub(crate) fn read_capture<O: Outside>(
+    alloc: Global,
+    outside: &mut O,
+) -> Result<CapturedItems, TraceFault>
     requires { CanRead TraceRole (O.seen outside.old TraceRole) }
     ensures trace { ForSome (O.seen outside.old TraceRole).left (λ bytes.
         AnswersTrace (capture_of bytes) (O.seen outside.new TraceRole).left result) }
