@@ -37,9 +37,10 @@ use Rattle.net_world.specs.Nodes.{node_ended}
 use Rattle.net_world.specs.Runs.{chosen, LeadsTo}
 use Rattle.net_world.specs.Start.{started}
 use Rattle.net_world.specs.Window.{AllHome}
+use Rattle.report_lines.specs.Lines.{by_number, output_in}
 use Rattle.run_report.specs.declared.head.Head.{Head}
 use Rattle.run_report.specs.Audits.{IsAuditCause}
-use Rattle.run_report.specs.Lines.{answer_in, by_number, output_in, report_text}
+use Rattle.run_report.specs.Lines.{answer_in, report_text}
 
 -- the script that the words' file is read as, and one without routes and lines where the words name none
 abbrev pub given_script : NetworkAsked → List ℕ → Result ScriptView (ℕ × ScriptKind)
