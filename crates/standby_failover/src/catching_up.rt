@@ -26,12 +26,14 @@ pub fn catch_up<F: Function>(
 ) -> Result<Table<F>, NoMemory>
     requires numbered { AreNumbered 1 trace.now }
     requires known { All (λ n. IsSome (find (λ p. p.number == n) trace.now)) (promoted.order ++ promoted.pending) }
-    ensures live { IfOk result (λ table. table.live ≡ after_packets F.semantics config.now.site promoted.table.live (map (packet_among trace.now) (promoted.order ++ promoted.pending))) }
+    ensures live { IfOk result (λ table. table.live
+        ≡ after_packets F.semantics config.now.site promoted.table.live (map (packet_among trace.now) (promoted.order ++ promoted.pending))) }
     ensures standby { IfOk result (λ table. table.standby ≡ promoted.table.standby) }
 
     // With what was promoted in a world of a run, and the packets of its input.
-    ensures caught { (items : List AMessage) (world : Network (ANode F.row.Denot F.Record) AMessage ANote) (failed to : ℕ) → IsLeft (failover_of (job_of F.semantics config.now items) world failed to)
-        → IsPromoted (failover_of (job_of F.semantics config.now items) world failed to) promoted → packets items ≡ trace.now → IfOk result (HasCaughtUp (failover_of (job_of F.semantics config.now items) world failed to)) }
+    ensures caught { (items : List AMessage) (world : Network (ANode F.row.Denot F.Record) AMessage ANote) (failed to : ℕ)
+        → let x = failover_of (job_of F.semantics config.now items) world failed to in
+        IsLeft x → IsPromoted x promoted → packets items ≡ trace.now → IfOk result (HasCaughtUp x) }
 {
     let Promoted {
         mut table,

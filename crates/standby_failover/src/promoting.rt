@@ -1,4 +1,4 @@
-ghost use Rattle.std.specs.Prelude.{◌≡◌, ◌≢◌, ◌<◌, ℕ, length, IfOk};
+ghost use Rattle.std.specs.Prelude.{◌≡◌, ◌≢◌, ◌<◌, ◌++◌, ◌==◌, ℕ, All, IsSome, find, length, IfOk};
 ghost use Rattle.trace_reader.specs.Records.{AreNumbered};
 ghost use Rattle.net_world.specs.Input.{packets, IsInput};
 ghost use Rattle.net_world.specs.Jobs.{job_of};
@@ -37,9 +37,15 @@ pub fn promote<F: Function>(
     ensures reached { IfOk result (λ _. IsReached {F = F.row.Denot} F.semantics (started alloc config.now items.items) (first_of choices.now after)) }
 
     // What the words of the next clause speak of: the records that stand by are those of so many packets, and of no other number of them.
-    ensures left { IfOk result (λ _. IsLeft {F = F.row.Denot} (failover_of (job_of F.semantics config.now items.items) (world_after F.semantics (started alloc config.now items.items) (first_of choices.now after)) failed to)) }
-    ensures promoted { IfOk result (IsPromoted {F = F.row.Denot} (failover_of (job_of F.semantics config.now items.items) (world_after F.semantics (started alloc config.now items.items) (first_of choices.now after)) failed to)) }
-    ensures not_a_run { (step : ℕ) → result ≡ Err (FailFault.NotARun step) → IsFailCause {F = F.row.Denot} F.semantics (started alloc config.now items.items) (first_of choices.now after) step }
+    ensures left { let world = world_after F.semantics (started alloc config.now items.items) (first_of choices.now after) in
+        IfOk result (λ _. IsLeft {F = F.row.Denot} (failover_of (job_of F.semantics config.now items.items) world failed to)) }
+    ensures promoted { let world = world_after F.semantics (started alloc config.now items.items) (first_of choices.now after) in
+        IfOk result (IsPromoted {F = F.row.Denot} (failover_of (job_of F.semantics config.now items.items) world failed to)) }
+
+    // What [`crate::catch_up`] asks: the numbers are those of packets of the input.
+    ensures known { IfOk result (λ promoted. All (λ n. IsSome (find (λ p. p.number == n) (packets items.items))) (promoted.order ++ promoted.pending)) }
+    ensures not_a_run { (step : ℕ) → result ≡ Err (FailFault.NotARun step)
+        → IsFailCause {F = F.row.Denot} F.semantics (started alloc config.now items.items) (first_of choices.now after) step }
 {
     let packets = packets_of(alloc, items.as_slice())?;
     let world = world_after::<F>(alloc, config, items, choices, after)?;

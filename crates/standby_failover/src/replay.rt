@@ -29,7 +29,8 @@ pub(crate) fn world_after<F: Function>(
     ensures reached { IfOk result (λ _. IsReached {F = F.row.Denot} F.semantics (started alloc config.now items.items) (first_of choices.now after)) }
     ensures world { IfOk result (λ world. world ≡ world_after F.semantics (started alloc config.now items.items) (first_of choices.now after)) }
     ensures instances { IfOk result (λ world. (i : ℕ) → i < length config.now.names → is_instance (slice_get world.nodes (instance_node i)) ≡ true) }
-    ensures not_a_run { (step : ℕ) → result ≡ Err (FailFault.NotARun step) → IsFailCause {F = F.row.Denot} F.semantics (started alloc config.now items.items) (first_of choices.now after) step }
+    ensures not_a_run { (step : ℕ) → result ≡ Err (FailFault.NotARun step)
+        → IsFailCause {F = F.row.Denot} F.semantics (started alloc config.now items.items) (first_of choices.now after) step }
 {
     let start = start::<F>(alloc, config, items)?;
     let count = choices.len() as u64;

@@ -1,3 +1,4 @@
+//! The report of a failover.
 ghost use Rattle.std.specs.Prelude.{◌≡◌, ◌++◌, ◌==◌, ℕ, All, IsSome, List, find, map, IfOk, OnOk};
 ghost use Rattle.std.specs.List.{flat_map};
 ghost use Rattle.std.specs.Option.{option_copied};
@@ -46,10 +47,12 @@ pub fn report_failover<F: Function>(
     requires numbered { AreNumbered 1 trace.now }
     requires known { All (λ n. IsSome (find (λ p. p.number == n) trace.now)) (promoted.order ++ promoted.pending) }
     ensures text { IfOk result (λ made. made.0 ≡ failover_text F.semantics head.now failing.now promoted made.1) }
-    ensures live { IfOk result (λ made. made.1.live ≡ after_packets F.semantics config.now.site promoted.table.live (map (packet_among trace.now) (promoted.order ++ promoted.pending))) }
+    ensures live { IfOk result (λ made. made.1.live
+        ≡ after_packets F.semantics config.now.site promoted.table.live (map (packet_among trace.now) (promoted.order ++ promoted.pending))) }
     ensures standby { IfOk result (λ made. made.1.standby ≡ promoted.table.standby) }
-    ensures caught { (items : List AMessage) (world : Network (ANode F.row.Denot F.Record) AMessage ANote) (failed to : ℕ) → IsLeft (failover_of (job_of F.semantics config.now items) world failed to)
-        → IsPromoted (failover_of (job_of F.semantics config.now items) world failed to) promoted → packets items ≡ trace.now → IfOk result (λ made. HasCaughtUp (failover_of (job_of F.semantics config.now items) world failed to) made.1) }
+    ensures caught { (items : List AMessage) (world : Network (ANode F.row.Denot F.Record) AMessage ANote) (failed to : ℕ)
+        → let x = failover_of (job_of F.semantics config.now items) world failed to in
+        IsLeft x → IsPromoted x promoted → packets items ≡ trace.now → IfOk result (λ made. HasCaughtUp x made.1) }
 {
     let names = head.names.items();
     let to = name_at(names, failing.to);

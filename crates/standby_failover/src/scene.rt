@@ -41,7 +41,8 @@ impl<F: Function> Scene<'_, F> {
     /// The affected units and their packets.
     pub(crate) fn affected(&self, alloc: Global) -> Result<Affected, NoMemory>
         requires { AreNumbered 1 self.now.packets.now }
-        ensures { (v : Stopped F.row.Denot F.Record) → IsSceneOf F.semantics v self.now → IfOk result (AreAffected (failover_in F.semantics v)) }
+        ensures { (v : Stopped F.row.Denot F.Record) → IsSceneOf F.semantics v self.now
+            → IfOk result (AreAffected (failover_in F.semantics v)) }
     {
         let units = self.failed.units(true)?;
         let order = self.lost_in_order(alloc)?;
@@ -60,7 +61,8 @@ impl<F: Function> Scene<'_, F> {
     /// The packets of an affected unit make its record again, one after another, up to the one that stands by. Those after them are lost.
     fn lost_in_order(&self, alloc: Global) -> Result<Numbers, NoMemory>
         requires { AreNumbered 1 self.now.packets.now }
-        ensures { (v : Stopped F.row.Denot F.Record) → IsSceneOf F.semantics v self.now → IfOk result (λ order. order ≡ lost_in_order (failover_in F.semantics v)) }
+        ensures { (v : Stopped F.row.Denot F.Record) → IsSceneOf F.semantics v self.now
+            → IfOk result (λ order. order ≡ lost_in_order (failover_in F.semantics v)) }
     {
         let mut again = Table::<F>::open(alloc);
         let mut order = Numbers::open(alloc);
@@ -88,7 +90,8 @@ impl<F: Function> Scene<'_, F> {
     /// The packets of affected units that came and weren't processed, by number.
     fn pending(&self, alloc: Global) -> Result<Numbers, NoMemory>
         requires { AreNumbered 1 self.now.packets.now }
-        ensures { (v : Stopped F.row.Denot F.Record) → IsSceneOf F.semantics v self.now → IfOk result (λ found. found ≡ open_packets (failover_in F.semantics v)) }
+        ensures { (v : Stopped F.row.Denot F.Record) → IsSceneOf F.semantics v self.now
+            → IfOk result (λ found. found ≡ open_packets (failover_in F.semantics v)) }
     {
         let processed = processed(alloc, self.log)?;
         let set = set_of(alloc, processed.items())?;

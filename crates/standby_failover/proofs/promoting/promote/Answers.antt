@@ -4,16 +4,17 @@ use Rattle.std.proofs.Common.{◌≡◌, refl, ap, ◌∙◌}
 use Rattle.net_world.specs.Input.{packets}
 use Rattle.net_world.specs.Start.{started}
 use Rattle.standby_failover.specs.Causes.{first_of, world_after}
-use Rattle.standby_failover.specs.Failover.{table_at, IsLeft}
+use Rattle.standby_failover.specs.Failover.{table_at, IsLeft, IsPromoted}
 use Rattle.standby_failover.specs.Scenes.{AreAffected, Stopped, failover_in}
+use Rattle.standby_failover.proofs.Known.{known}
 use Rattle.standby_failover.proofs.LeftWorlds.{is_left}
 use Rattle.standby_failover.proofs.PromotedTables.{promoted_is}
 use Rattle.standby_failover.proofs.promoting.promote.Given.{Over}
 use Rattle.standby_failover.proofs.promoting.promote.Goals as goal
-use Rattle.standby_failover.proofs.promoting.promote.Goals.{After-log}
+use Rattle.standby_failover.proofs.promoting.promote.Goals.{After-drop-packets-inside-2}
 
 -- the world in which the instance fails
-abbrev stopped : (g : Over) (c : After-log g) → Stopped g.row.F.Denot g.row.F-Record.Denot
+abbrev stopped : (g : Over) (c : After-drop-packets-inside-2 g) → Stopped g.row.F.Denot g.row.F-Record.Denot
 stopped g c = record {
   config = c.args.config.now;
   items = c.args.items.items;
@@ -22,20 +23,25 @@ stopped g c = record {
   to = c.args.to;
 }
 
-left : (g : Over) (c : After-log g) → IsLeft (failover_in g.F.Function.semantics (stopped g c))
+left : (g : Over) (c : After-drop-packets-inside-2 g) → IsLeft (failover_in g.F.Function.semantics (stopped g c))
 left g c =
     is_left g.row.F.Denot g.F.Function.semantics g.met.F.Function.laws c.args.alloc c.args.config.now c.args.items.items c.requires.input _ c.args.failed
     c.args.to
     c.in_ok-world.ensures.reached.is_run
 
 pub returns-clause-left : goal.returns-clause-left
-returns-clause-left g c = left g (goal.at.returns-clause-left g c).After-log
+returns-clause-left g c = left g c
 
-pub returns-clause-promoted : goal.returns-clause-promoted
-returns-clause-promoted g c =
+promoted : (g : Over) (c : After-drop-packets-inside-2 g) → IsPromoted (failover_in g.F.Function.semantics (stopped g c)) (record {
+  table = c.promote.new.self;
+  units = c.in_ok-affected.affected.units;
+  lost = c.in_ok-affected.affected.lost;
+  pending = c.in_ok-affected.affected.pending;
+  order = c.in_ok-affected.affected.order;
+})
+promoted g c =
     let f = g.F.Function.semantics in
-    let b = (goal.at.returns-clause-promoted g c).After-log in
-    let v = stopped g b in
+    let v = stopped g c in
     let world = c.in_ok-world.ensures.world in
     let found : AreAffected (failover_in f v) c.in_ok-affected.affected = c.in_ok-affected.ensures v (record {
       site = refl;
@@ -43,12 +49,12 @@ returns-clause-promoted g c =
       log = c.log.ensures ∙ ap (λ w. w.log) world;
       failed = c.table_of.ensures ∙ ap (λ w. table_at w c.args.failed) world;
       to = c.table_of-2.ensures ∙ ap (λ w. table_at w c.args.to) world;
-      left = left g b;
+      left = left g c;
       two = c.requires.two;
     }) in
     let table : c.in_ok-table.table ≡ table_at v.world c.args.to = c.in_ok-table.ensures ∙ ap (λ w. table_at w c.args.to) world in
     record {
-      live = λ u. c.in_ok-promote.ensures.each u ∙ promoted_is (failover_in f v) (left g b) c.requires.two c.in_ok-affected.affected.units found.units u
+      live = λ u. c.in_ok-promote.ensures.each u ∙ promoted_is (failover_in f v) (left g c) c.requires.two c.in_ok-affected.affected.units found.units u
           c.in_ok-table.table table;
       standby = c.promote.ensures.standby ∙ ap (λ t. t.standby) table;
       lost = found.lost;
@@ -56,3 +62,9 @@ returns-clause-promoted g c =
       order = found.order;
       units = found.units;
     }
+
+pub returns-clause-promoted : goal.returns-clause-promoted
+returns-clause-promoted g c = promoted g c
+
+pub returns-clause-known : goal.returns-clause-known
+returns-clause-known g c = known (failover_in g.F.Function.semantics (stopped g c)) (left g c) _ (promoted g c)
