@@ -1,5 +1,5 @@
 -- What is known of a run of the network, in the words of its command.
-use Rattle.std.proofs.Common.{◌≡◌, ℕ, ◌<◌, true, List, map, length, Option, Some, Result, Ok, Err, refl, ap, ◌∙◌, subst, arith}
+use Rattle.std.proofs.Common.{◌≡◌, ℕ, ◌<◌, true, List, map, length, Option, None, Some, Result, Ok, Err, refl, ap, ◌∙◌, subst, arith}
 use Rattle.std.specs.Prelude.{MatchResult}
 use Rattle.std.specs.declared.alloc.Global.{Global}
 use Rattle.flow_filter.specs.declared.packet.Packet.{Packet}
@@ -28,10 +28,11 @@ use Rattle.run_report.specs.Audits.{IsAuditCause}
 use Rattle.run_report.specs.Lines.{report_text}
 use Rattle.opennf_calls.specs.declared.network.Made.{Made}
 use Rattle.opennf_calls.specs.declared.status.Status.{Status}
-use Rattle.opennf_calls.specs.declared.status.Status.TheVariants.{BadTrace, BadJournal, NotARun, NoMemory, Ok as Done, Usage, BadScript, ReadFault, WriteFault}
-use Rattle.opennf_calls.specs.NetworkRuns.{Scenario, HasNoRun, IsNoRun, IsRunOf, config_for, head_for, items_for, run_given}
+use Rattle.opennf_calls.specs.Functions.{OfKind}
+use Rattle.opennf_calls.specs.NetworkRuns.{Scenario, HasRun, IsRunOf, config_for, head_for, items_for, run_given}
 use Rattle.opennf_calls.specs.Phases.{IsRefusedAs, IsRefusedRun, gives}
 use Rattle.opennf_calls.specs.Status.{audit_status}
+use Rattle.opennf_calls.proofs.FunctionLemmas.{from_kind, of_kind}
 use Rattle.opennf_calls.proofs.LoggedNumbers.{answer_numbers, out_numbers}
 use Rattle.run_input.proofs.SaidCommands.{end_is_last, packets_in}
 
@@ -78,7 +79,7 @@ module _ {R : Type 0} (F : Type 0) (f : Semantics R) (s : NetworkAsked) (g : Sce
         (moved (λ c l. Completed f c l world) ran.completed) (end_is_last g.captured.packets g.script.lines.items) (moved (λ c l. Promises f c l world) ran.promises);
     journal = refl;
     few = ran.few;
-    again = (let few = ran.few in journal_again s.kind (length s.instances.names) made.choices (omega (arith, few)));
+    again = (let few = ran.few in journal_again s.kind (length s.instances) made.choices (omega (arith, few)));
   }
 
   -- the choices are no complete run
@@ -88,21 +89,11 @@ module _ {R : Type 0} (F : Type 0) (f : Semantics R) (s : NetworkAsked) (g : Sce
   run_refused choices audit.NoMemory cause = tt
 
 -- The function is that of the words.
-module _ {R : Type 0} (F : Type 0) (f : Semantics R) (s : NetworkAsked) (g : Scenario) where
-  no_run : (choices : List Choice) → ((step : ℕ) → IsNoRun (run_given F f s g) choices step → HasNoRun s g choices step)
-      → (status : Status) → IsRefusedAs (run_given F f s g) choices status → IsRefusedRun s g choices status
-  no_run choices same (NotARun step) cause = same step cause
-  no_run choices same NoMemory cause = cause
-  no_run choices same Done cause = absurd cause
-  no_run choices same Usage cause = absurd cause
-  no_run choices same (BadScript line kind) cause = absurd cause
-  no_run choices same (BadTrace offset kind) cause = absurd cause
-  no_run choices same (BadJournal fault) cause = absurd cause
-  no_run choices same (ReadFault role) cause = absurd cause
-  no_run choices same (WriteFault role) cause = absurd cause
-
-  pub told_kind : (choices : List Choice) (r : Result Made Status) (P Q : Made → Type 0)
-      → ((made : Made) → P made → Q made) → ((step : ℕ) → IsNoRun (run_given F f s g) choices step → HasNoRun s g choices step)
-      → MatchResult r P (IsRefusedAs (run_given F f s g) choices) → MatchResult r Q (IsRefusedRun s g choices)
-  told_kind choices (Ok made) P Q of_kind same holds = of_kind made holds
-  told_kind choices (Err status) P Q of_kind same holds = no_run choices same status holds
+pub told_kind : (s : NetworkAsked) (g : Scenario) (choices : List Choice) (r : Result Made Status)
+    → OfKind s.kind (λ R F f. MatchResult r (λ made. IsRunOf (run_given F f s g) None (gives s made) × (made.choices ≡ choices)) (IsRefusedAs (run_given F f s g) choices))
+    → MatchResult r (λ made. HasRun s g None (gives s made) × (made.choices ≡ choices)) (IsRefusedRun s g choices)
+told_kind s g choices (Err status) holds = holds
+told_kind s g choices (Ok made) holds = (
+  of_kind s.kind (λ R F f. IsRunOf (run_given F f s g) None (gives s made) × (made.choices ≡ choices)) (λ R F f. IsRunOf (run_given F f s g) None (gives s made)) (λ R F f both. both.0) holds,
+  from_kind s.kind (λ R F f. IsRunOf (run_given F f s g) None (gives s made) × (made.choices ≡ choices)) (made.choices ≡ choices) (λ R F f both. both.1) holds,
+)

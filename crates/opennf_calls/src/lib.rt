@@ -14,6 +14,7 @@
 pub mod audit;
 pub mod check;
 pub mod error_line;
+pub mod functions;
 pub mod generate;
 pub mod inputs;
 pub mod network;

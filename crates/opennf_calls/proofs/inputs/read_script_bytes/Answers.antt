@@ -2,7 +2,7 @@
 use Rattle.std.proofs.Common.{rules, ◌≡◌, ◌+◌, Some, IfOk, take, drop, subst}
 use Rattle.nf_io.specs.declared.outside.Role.TheVariants.{Script as ScriptRole}
 use Rattle.nf_io.proofs.RolesAfterLoan.{left_written, left_name, left_others}
-use Rattle.opennf_calls.proofs.check.read_bytes.Goals as goal
+use Rattle.opennf_calls.proofs.inputs.read_script_bytes.Goals as goal
 
 pub returns-clause-bytes : goal.returns-clause-bytes
 returns-clause-bytes g c = λ x told.

@@ -3,8 +3,8 @@ use Rattle.std.proofs.Common.{◌∙◌}
 use Rattle.clap.specs.Words.{found_of}
 use Rattle.clap.proofs.WalkLemmas.{first_value-rows}
 use Rattle.command_words.specs.Grammar.{value_of}
-use Rattle.command_words.proofs.grammar.text_of.Goals as goal
+use Rattle.command_words.proofs.grammar.Given.text.Goals as goal
 
 pub returns : goal.returns
 unfolding value_of
-returns c = c.get_str.ensures ∙ first_value-rows (found_of c.args.matches.now) c.args.name.now
+returns c = c.get_str.ensures ∙ first_value-rows (found_of c.args.self.now.matches) c.args.name.now
