@@ -151,20 +151,20 @@ module _ {U T C R O : Type 0} (S : System U T C R O) (laws : Laws S) (window : �
 
   -- what is known of a unit at the end
   pub record Unit_end (u : U) (w : Network (Node T C) (Msg C) (Note O)) : Type 0 where
-    pub all : of_unit S window early late u (processed w.log) ≡ of_unit S window early late u (early ++ late)
-    pub live : live_in S window early late u w.nodes ≡ listed (fold S window early late None (of_unit S window early late u (early ++ late))) []
+    pub all : of_unit S u (processed w.log) ≡ of_unit S u (early ++ late)
+    pub live : live_in S u w.nodes ≡ listed (fold S None (of_unit S u (early ++ late))) []
 
   from_own : (u : U) (log : List (Note O)) → those (mine S laws u) (read ran log) ≡ those (mine S laws u) (early ++ late)
-      → of_unit S window early late u (processed log) ≡ of_unit S window early late u (early ++ late)
+      → of_unit S u (processed log) ≡ of_unit S u (early ++ late)
   from_own u log e =
       own_is S laws window early late rises u (processed log) ∙ ap (those (mine S laws u)) (ran_is log) ∙ e
       ∙ sym (own_is S laws window early late rises u (early ++ late))
 
   record_all : (u : U) (log : List (Note O)) → those (mine S laws u) (read ran log) ≡ those (mine S laws u) (early ++ late)
-      → record_by S laws u log ≡ fold S window early late None (of_unit S window early late u (early ++ late))
+      → record_by S laws u log ≡ fold S None (of_unit S u (early ++ late))
   record_all u log e =
       fold_is S laws window early late rises u None (read ran log)
-      ∙ ap (λ xs. fold S window early late None xs) (ap (of_unit S window early late u) (sym (ran_is log)) ∙ from_own u log e)
+      ∙ ap (λ xs. fold S None xs) (ap (of_unit S u) (sym (ran_is log)) ∙ from_own u log e)
 
   end_taken : (u : U) (its : S.takes u ≡ true) (w : Network (Node T C) (Msg C) (Note O)) → WithRight S laws window early late rises u its w
       → is_done (node_ended S) w ≡ true → Unit_end u w
@@ -183,7 +183,7 @@ module _ {U T C R O : Type 0} (S : System U T C R O) (laws : Laws S) (window : �
       in
       let records = over_records (frame S (Of_unit u)) h.stage two.0 in
       let a : S.at v.a.table u ≡ None = ap (λ x. x.a.live) h.alike ∙ records.0 in
-      let b : S.at v.b.table u ≡ fold S window early late None (of_unit S window early late u (early ++ late)) =
+      let b : S.at v.b.table u ≡ fold S None (of_unit S u (early ++ late)) =
       ap (λ x. x.b.live) h.alike ∙ records.1 ∙ by_log S laws u its (early ++ late) rises v h ∙ record_all u v.log own_all in
       rw here (record { all = from_own u v.log own_all; live = ap (λ o. listed o (listed (S.at v.b.table u) [])) a ∙ ap (λ o. listed o []) b })
 
@@ -202,7 +202,7 @@ module _ {U T C R O : Type 0} (S : System U T C R O) (laws : Laws S) (window : �
       ∙ sym (ap (λ l. those (mine S laws u) (read ran v.log) ++ those (mine S laws u) (read carries l)) sa) ∙ q.order
       ∙ ap (those (mine S laws u)) came
       in
-      let a : S.at v.a.table u ≡ fold S window early late None (of_unit S window early late u (early ++ late)) = q.a_is ∙ record_all u v.log own_all in
+      let a : S.at v.a.table u ≡ fold S None (of_unit S u (early ++ late)) = q.a_is ∙ record_all u v.log own_all in
       rw here (record { all = from_own u v.log own_all; live = ap (λ o. listed (S.at v.a.table u) (listed o [])) q.b_is ∙ ap (λ o. listed o []) a })
 
   unit_end : (u : U) (cs : List Choice) → IsRun (node_ready S) (node_step S) cs (start S window early late)

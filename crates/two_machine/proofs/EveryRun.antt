@@ -112,13 +112,13 @@ ran_is (No_packet ∷ ns) = ran_is ns
 
 module _ {U T C R O : Type 0} (S : System U T C R O) (laws : Laws S) (window : ℕ) (early late : List ℕ) (rises : Rises 0 (early ++ late)) (u : U) where
   abbrev its_own : List ℕ → List ℕ
-  its_own ps = of_unit S window early late u ps
+  its_own ps = of_unit S u ps
 
-  pub own_is : (ps : List ℕ) → of_unit S window early late u ps ≡ those (mine S laws u) ps
+  pub own_is : (ps : List ℕ) → of_unit S u ps ≡ those (mine S laws u) ps
   own_is [] = refl
   own_is (p ∷ ps) = ap (λ xs. if S.equal (S.unit_of p) u then p ∷ xs else xs) (own_is ps)
 
-  given_is : (ns : List (Note O)) → given S window early late u ns ≡ told S laws u ns
+  given_is : (ns : List (Note O)) → given S u ns ≡ told S laws u ns
   given_is [] = refl
   given_is (Processed p i o ∷ ns) = ap (λ xs. if S.equal (S.unit_of p) u then o ∷ xs else xs) (given_is ns)
   given_is (Arrived p ∷ ns) = given_is ns
@@ -127,25 +127,25 @@ module _ {U T C R O : Type 0} (S : System U T C R O) (laws : Laws S) (window : �
   given_is (Done ∷ ns) = given_is ns
   given_is (No_packet ∷ ns) = given_is ns
 
-  due_is : (r : Option R) (ps : List ℕ) → due S laws u r ps ≡ outputs S window early late r (of_unit S window early late u ps)
+  due_is : (r : Option R) (ps : List ℕ) → due S laws u r ps ≡ outputs S r (of_unit S u ps)
   due_is r [] = refl
   due_is r (p ∷ ps) = by (S.equal (S.unit_of p) u) (due_is (Some (S.step r p)) ps) (due_is r ps)
     where
-      by : (b : Bool) → due S laws u (Some (S.step r p)) ps ≡ outputs S window early late (Some (S.step r p)) (of_unit S window early late u ps)
-          → due S laws u r ps ≡ outputs S window early late r (of_unit S window early late u ps)
+      by : (b : Bool) → due S laws u (Some (S.step r p)) ps ≡ outputs S (Some (S.step r p)) (of_unit S u ps)
+          → due S laws u r ps ≡ outputs S r (of_unit S u ps)
           → (if b then S.output r p ∷ due S laws u (Some (S.step r p)) ps else due S laws u r ps)
-          ≡ outputs S window early late r (if b then p ∷ of_unit S window early late u ps else of_unit S window early late u ps)
+          ≡ outputs S r (if b then p ∷ of_unit S u ps else of_unit S u ps)
       by true h k = ap (λ xs. S.output r p ∷ xs) h
       by false h k = k
 
-  pub fold_is : (r : Option R) (ps : List ℕ) → folded (its_frame S laws u) r ps ≡ fold S window early late r (of_unit S window early late u ps)
+  pub fold_is : (r : Option R) (ps : List ℕ) → folded (its_frame S laws u) r ps ≡ fold S r (of_unit S u ps)
   fold_is r [] = refl
   fold_is r (p ∷ ps) = by (S.equal (S.unit_of p) u) (fold_is (Some (S.step r p)) ps) (fold_is r ps)
     where
-      by : (b : Bool) → folded (its_frame S laws u) (Some (S.step r p)) ps ≡ fold S window early late (Some (S.step r p)) (of_unit S window early late u ps)
-          → folded (its_frame S laws u) r ps ≡ fold S window early late r (of_unit S window early late u ps)
+      by : (b : Bool) → folded (its_frame S laws u) (Some (S.step r p)) ps ≡ fold S (Some (S.step r p)) (of_unit S u ps)
+          → folded (its_frame S laws u) r ps ≡ fold S r (of_unit S u ps)
           → folded (its_frame S laws u) (if b then Some (S.step r p) else r) ps
-          ≡ fold S window early late r (if b then p ∷ of_unit S window early late u ps else of_unit S window early late u ps)
+          ≡ fold S r (if b then p ∷ of_unit S u ps else of_unit S u ps)
       by true h k = h
       by false h k = k
 
@@ -167,12 +167,12 @@ module _ {U T C R O : Type 0} (S : System U T C R O) (laws : Laws S) (window : �
 
   -- what is known of a unit in any world of a run
   pub record Unit_facts (w : Network (Node T C) (Msg C) (Note O)) : Type 0 where
-    pub front : IsFront (of_unit S window early late u (processed w.log)) (of_unit S window early late u (early ++ late))
-    pub answers : given S window early late u w.log ≡ outputs S window early late None (of_unit S window early late u (processed w.log))
+    pub front : IsFront (of_unit S u (processed w.log)) (of_unit S u (early ++ late))
+    pub answers : given S u w.log ≡ outputs S None (of_unit S u (processed w.log))
 
   -- from an order in the words of the invariant
   front_from : (log : List (Note O)) (input waiting : List ℕ) → those (mine S laws u) (read ran log) ++ waiting ≡ those (mine S laws u) (read arrived log)
-      → read arrived log ++ input ≡ early ++ late → IsFront (of_unit S window early late u (processed log)) (of_unit S window early late u (early ++ late))
+      → read arrived log ++ input ≡ early ++ late → IsFront (of_unit S u (processed log)) (of_unit S u (early ++ late))
   front_from log input waiting order are = record {
     rest = waiting ++ those (mine S laws u) input;
     whole =
@@ -185,9 +185,9 @@ module _ {U T C R O : Type 0} (S : System U T C R O) (laws : Laws S) (window : �
   }
 
   answers_from : (log : List (Note O)) → IsRight S laws u log
-      → given S window early late u log ≡ outputs S window early late None (of_unit S window early late u (processed log))
+      → given S u log ≡ outputs S None (of_unit S u (processed log))
   answers_from log right =
-      given_is log ∙ right ∙ due_is None (read ran log) ∙ ap (λ xs. outputs S window early late None (of_unit S window early late u xs)) (sym (ran_is log))
+      given_is log ∙ right ∙ due_is None (read ran log) ∙ ap (λ xs. outputs S None (of_unit S u xs)) (sym (ran_is log))
 
   pub done_is : (o : Observer U) (s : Stage) → done s ≡ (shape (frame S o) s).done
   done_is o (Before n d l b) = refl
@@ -285,7 +285,7 @@ module _ {U T C R O : Type 0} (S : System U T C R O) (laws : Laws S) (window : �
       by false e = facts_untaken e (run (node_step S) cs (start S window early late)) (untaken_run e cs is)
 
   -- a packet of the unit stands as often among the unit's packets
-  times_own : (p : ℕ) → S.equal (S.unit_of p) u ≡ true → (ps : List ℕ) → times p (of_unit S window early late u ps) ≡ times p ps
+  times_own : (p : ℕ) → S.equal (S.unit_of p) u ≡ true → (ps : List ℕ) → times p (of_unit S u ps) ≡ times p ps
   times_own p own [] = refl
   times_own p own (q ∷ ps) = by (S.equal (S.unit_of q) u) refl (times_own p own ps)
     where
@@ -293,8 +293,8 @@ module _ {U T C R O : Type 0} (S : System U T C R O) (laws : Laws S) (window : �
       apart off true e = let same : p ≡ q = (Decides-eqb p q).0 e in absurd (false≢true (sym off ∙ subst (λ x. S.equal (S.unit_of x) u ≡ true) same own))
       apart off false e = refl
 
-      by : (b : Bool) → S.equal (S.unit_of q) u ≡ b → times p (of_unit S window early late u ps) ≡ times p ps
-          → times p (if b then q ∷ of_unit S window early late u ps else of_unit S window early late u ps) ≡ (if p == q then 1 else 0) + times p ps
+      by : (b : Bool) → S.equal (S.unit_of q) u ≡ b → times p (of_unit S u ps) ≡ times p ps
+          → times p (if b then q ∷ of_unit S u ps else of_unit S u ps) ≡ (if p == q then 1 else 0) + times p ps
       by true e h = ap (λ k. (if p == q then 1 else 0) + k) h
       by false e h = let other = apart e (p == q) refl in rw other (h ∙ omega arith)
 
@@ -306,7 +306,7 @@ module _ {U T C R O : Type 0} (S : System U T C R O) (laws : Laws S) (window : �
       let front = facts.front in
       let left = times_own S laws window early late rises u p own (processed w.log) in
       let right = times_own S laws window early late rises u p own (early ++ late) in
-      let part = times_front p (of_unit S window early late u (processed w.log)) front.rest in
+      let part = times_front p (of_unit S u (processed w.log)) front.rest in
       let whole = ap (times p) front.whole in
       let one = times_once p 0 (early ++ late) rises in
       omega (arith, left, right, part, whole, one)
@@ -322,6 +322,10 @@ module _ {U T C R O : Type 0} (S : System U T C R O) (laws : Laws S) (window : �
       let right =
       subst (λ x. is_wrong x.scan ≡ false) (sym nobody.holds.alike) (scan_right (frame S Nobody) nobody.holds.stage) in
       record {
+        in_turn = record {
+          rest = read coming nobody.world.input;
+          whole = ap (λ x. read arrived x.log ++ read coming nobody.world.input) world ∙ nobody.holds.arrivals_are;
+        };
         front = λ u. (facts u).front;
         once = λ p. once_of p w (facts (S.unit_of p));
         answers = λ u. (facts u).answers;

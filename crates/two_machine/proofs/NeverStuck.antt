@@ -19,7 +19,7 @@ use Rattle.two_machine.proofs.Runs.{Holds, known}
 use Rattle.two_machine.proofs.Closing.{Close, Unsent, Finish_a, Stop_a, Final_a, Finish_b, Stop_b, Final_b, Closed, Closing, ends, is_sent, is_at_end, on_cs, on_sa, on_sb, on_ac, on_bc, a_has_stopped, b_has_stopped, is_closed, switch_has_closed}
 use Rattle.two_machine.proofs.EveryRun.{ReachedWith, reach_with, first_closing}
 use Rattle.two_machine.proofs.Cells.{Counts, counts_keeps}
-use Rattle.two_machine.proofs.Promises.{start, LeadsTo}
+use Rattle.two_machine.proofs.Promises.{start, LeadsTo, switch_window}
 use Rattle.two_machine.proofs.Shapes.{copies, shape}
 use Rattle.actor_net.proofs.WeightLaws.{Each}
 use Rattle.two_machine.proofs.TakenMessages.{labels_less, rule_there}
@@ -362,3 +362,10 @@ module _ {U T C R O : Type 0} (S : System U T C R O) (laws : Laws S) where
         let world = leads.reached ∙ there.is in
         subst (λ y. (is_done (node_ended S) y ≡ true) ⊎ ((c : Choice) × (is_enabled (node_ready S) y c ≡ true))) (sym world)
         (goes_or_done there.world (early ++ late) rises window some there.holds there.more.0 there.more.1)
+
+    -- and the window stays
+    pub window_stays : (cs : List Choice) (w : Network (Node T C) (Msg C) (Note O)) → LeadsTo S window early late cs w → switch_window w.nodes ≡ Some window
+    window_stays cs w leads =
+        let there = runs cs leads.is_run in
+        let world = leads.reached ∙ there.is in
+        ap (λ y. switch_window y.nodes) world ∙ ap Some there.more.1.window_is

@@ -4,7 +4,8 @@ use Rattle.std.specs.Prelude.{if◌then◌else◌, ◌==◌, ◌||◌}
 use Rattle.actor_net.specs.declared.choice.Choice.{Choice}
 use Rattle.actor_net.specs.Network.{Network, IsRun, is_enabled, is_done, run}
 use Rattle.actor_net.specs.Opening.{opening}
-use Rattle.two_machine.proofs.Tables.{System, Msg, Note, Node, Arrived, Processed, Low, High, Done, No_packet, Is_inst, node_step, node_ready, node_ended, first_nodes, items}
+use Rattle.two_machine.proofs.Tables.{System, Msg, Note, Node, Arrived, Processed, Low, High, Done, No_packet, Is_switch, Is_inst, node_step, node_ready, node_ended, first_nodes, items}
+use Rattle.two_machine.proofs.View.{read, arrived}
 
 -- how often a number stands in a list
 abbrev pub times : ℕ → List ℕ → ℕ
@@ -47,15 +48,12 @@ module _ {O : Type 0} where
   verdicts (No_packet ∷ ns) = No_packet ∷ verdicts ns
   verdicts (n ∷ ns) = verdicts ns
 
-module _ {U T C R O : Type 0} (S : System U T C R O) (window : ℕ) (early late : List ℕ) where
-  abbrev pub start : Network (Node T C) (Msg C) (Note O)
-  start = opening (first_nodes S window) (items S early late)
+-- the window of the switch, which is the first node
+abbrev pub switch_window : {T C : Type 0} → List (Node T C) → Option ℕ
+switch_window (Is_switch s ∷ nodes) = Some s.window
+switch_window nodes = None
 
-  -- these choices are a run, and lead to this world
-  pub record LeadsTo (cs : List Choice) (w : Network (Node T C) (Msg C) (Note O)) : Type 0 where
-    pub is_run : IsRun (node_ready S) (node_step S) cs start
-    pub reached : w ≡ run (node_step S) cs start
-
+module _ {U T C R O : Type 0} (S : System U T C R O) where
   -- the packets of a unit among these
   abbrev pub of_unit : U → List ℕ → List ℕ
   of_unit u [] = []
@@ -86,25 +84,37 @@ module _ {U T C R O : Type 0} (S : System U T C R O) (window : ℕ) (early late 
   pub record LowBeforeHigh (log : List (Note O)) : Type 0 where
     pub between : (before after : List (Note O)) → log ≡ before ++ High ∷ after → has_come S.covers (after_low before) ≡ true
 
+module _ {U T C R O : Type 0} (S : System U T C R O) (window : ℕ) (early late : List ℕ) where
+  abbrev pub start : Network (Node T C) (Msg C) (Note O)
+  start = opening (first_nodes S window) (items S early late)
+
+  -- these choices are a run, and lead to this world
+  pub record LeadsTo (cs : List Choice) (w : Network (Node T C) (Msg C) (Note O)) : Type 0 where
+    pub is_run : IsRun (node_ready S) (node_step S) cs start
+    pub reached : w ≡ run (node_step S) cs start
+
   -- what holds of every run
   pub record Every (w : Network (Node T C) (Msg C) (Note O)) : Type 0 where
+    -- the switch takes the packets in their order
+    pub in_turn : IsFront (read arrived w.log) (early ++ late)
     -- (1)
-    pub front : (u : U) → IsFront (of_unit u (processed w.log)) (of_unit u (early ++ late))
+    pub front : (u : U) → IsFront (of_unit S u (processed w.log)) (of_unit S u (early ++ late))
     pub once : (p : ℕ) → times p (processed w.log) ≤ 1
-    pub answers : (u : U) → given u w.log ≡ outputs None (of_unit u (processed w.log))
+    pub answers : (u : U) → given S u w.log ≡ outputs S None (of_unit S u (processed w.log))
     -- (3)
-    pub laid : LowBeforeHigh w.log
+    pub laid : LowBeforeHigh S w.log
 
-  -- (5): the run is short, and goes on unless nothing is left to do
+  -- (5): the run is short, and goes on unless nothing is left to do; and the window stays
   pub record Ends (cs : List Choice) (w : Network (Node T C) (Msg C) (Note O)) : Type 0 where
     pub short : length cs ≤ 8 * length (early ++ late) + 32
     pub goes_on : (is_done (node_ended S) w ≡ true) ⊎ ((c : Choice) × (is_enabled (node_ready S) w c ≡ true))
+    pub window_is : switch_window w.nodes ≡ Some window
 
   -- what holds besides where nothing is left to do
   pub record Complete (w : Network (Node T C) (Msg C) (Note O)) : Type 0 where
     -- (2)
-    pub all : (u : U) → of_unit u (processed w.log) ≡ of_unit u (early ++ late)
-    pub live : (u : U) → live_in u w.nodes ≡ listed (fold None (of_unit u (early ++ late))) []
+    pub all : (u : U) → of_unit S u (processed w.log) ≡ of_unit S u (early ++ late)
+    pub live : (u : U) → live_in S u w.nodes ≡ listed (fold S None (of_unit S u (early ++ late))) []
     -- (4)
     pub verdict : verdicts w.log ≡ (if has_come S.covers (after_low w.log) then Done ∷ [] else No_packet ∷ [])
 

@@ -7,7 +7,7 @@ use Rattle.two_machine.proofs.Tables.{System, Laws, Msg, Note, Node}
 use Rattle.two_machine.proofs.Promises.{LeadsTo, Published}
 use Rattle.two_machine.proofs.EveryRun.{every}
 use Rattle.two_machine.proofs.CompleteRun.{complete}
-use Rattle.two_machine.proofs.NeverStuck.{never_stuck}
+use Rattle.two_machine.proofs.NeverStuck.{never_stuck, window_stays}
 use Rattle.two_machine.proofs.RunLengths.{bound}
 
 module _ {U T C R O : Type 0} (S : System U T C R O) (laws : Laws S) (window : ℕ) (early late : List ℕ) (some : 0 < window)
@@ -19,6 +19,7 @@ module _ {U T C R O : Type 0} (S : System U T C R O) (laws : Laws S) (window : �
         record {
           short = let less = bound S laws window early late rises cs w leads in omega (arith, less);
           goes_on = never_stuck S laws window early late some rises cs w leads;
+          window_is = window_stays S laws window early late some rises cs w leads;
         };
     complete = complete S laws window early late rises cs w leads;
   }
